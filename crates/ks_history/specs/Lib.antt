@@ -1,0 +1,5 @@
+pub mod Write
+pub mod Map
+pub mod Trace
+pub mod Lawful
+pub mod Served

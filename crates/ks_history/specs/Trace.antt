@@ -1,0 +1,159 @@
+-- Traces of events, and the graph, the turns, the frames and the calls after a trace.
+-- A trace is a list of events, the newest first: e ∷ h is the trace h and then the event e.
+use Rattle.std.specs.Prelude.{ℕ, ◌≡◌, ◌==◌, ◌+◌, ◌%◌, ◌^◌, List, [], ◌∷◌, ◌++◌, length, if◌then◌else◌}
+use Rattle.ks_keysets.specs.declared.Frame.{Frame}
+use Rattle.ks_keysets.specs.declared.NodeState.{NodeState}
+use Rattle.ks_keysets.specs.declared.NodeState.TheVariants.{Free, Claimed, Live}
+use Rattle.ks_keysets.specs.Keyset.{opening}
+use Rattle.ks_history.specs.declared.Answered.{Answered}
+use Rattle.ks_history.specs.declared.NewState.{NewState}
+use Rattle.ks_history.specs.declared.NewState.TheVariants.{BecomesLive, BecomesFree}
+use Rattle.ks_history.specs.declared.Change.{Change}
+use Rattle.ks_history.specs.declared.Event.{Event}
+use Rattle.ks_history.specs.declared.Event.TheVariants.{Take, Give, Claim, Shape, Call}
+use Rattle.ks_history.specs.Write.{Write, written, pairs_with}
+
+infix 20 ◌⊑◌
+-- the first trace is a beginning of the second: what came after it is `rest`
+pub record ◌⊑◌ (seen h : List Event) : Type 0 where
+  pub rest : List Event
+  pub is : h ≡ rest ++ seen
+
+-- whose event it is
+abbrev pub caller_of : Event → ℕ
+caller_of (Take c i) = c
+caller_of (Give c i) = c
+caller_of (Claim c i) = c
+caller_of (Shape c changes) = c
+caller_of (Call c i op reply) = c
+
+-- the state of a node that a Give names: a claimed node becomes free
+abbrev pub given : NodeState → NodeState
+given Free = Free
+given (Claimed c) = Free
+given (Live r) = Live r
+
+-- the state that a Shape gives to a node that it lists
+abbrev pub new_state : NewState → NodeState
+new_state (BecomesLive r frame) = Live r
+new_state BecomesFree = Free
+
+-- the state of node i after the changes, if it was s
+abbrev pub shaped : List Change → ℕ → NodeState → NodeState
+shaped [] i s = s
+shaped (x ∷ xs) i s = if i == x.node then new_state x.state else shaped xs i s
+
+-- a live node after a write to its pairs
+abbrev pub state_with : Write → NodeState → NodeState
+state_with w Free = Free
+state_with w (Claimed c) = Claimed c
+state_with w (Live r) = Live (record { edges = r.edges; pairs = pairs_with r.pairs w })
+
+-- the graph after one event more
+abbrev pub graph_then : Event → (ℕ → NodeState) → ℕ → NodeState
+graph_then (Take c j) g i = g i
+graph_then (Give c j) g i = if i == j then given (g j) else g i
+graph_then (Claim c j) g i = if i == j then Claimed c else g i
+graph_then (Shape c changes) g i = shaped changes i (g i)
+graph_then (Call c j op reply) g i = if i == j then state_with (written op reply) (g j) else g i
+
+-- the graph after the trace: the opening graph, changed by each event in order
+abbrev pub graph_after : List Event → ℕ → NodeState
+graph_after [] = opening
+graph_after (e ∷ h) = graph_then e (graph_after h)
+
+-- who may use a node: nobody yet, anybody, or the caller that holds it
+pub data Turn : Type 0 where
+  free : Turn
+  idle : Turn
+  held : (caller : ℕ) → Turn
+
+-- the turn of a node that a Give names: a live node becomes idle, any other free
+abbrev pub turn_given : NodeState → Turn
+turn_given Free = free
+turn_given (Claimed c) = free
+turn_given (Live r) = idle
+
+-- whose turn it is at node i after the trace
+abbrev pub turn_after : List Event → ℕ → Turn
+turn_after [] i = if i == 0 then idle else free
+turn_after (Take c j ∷ h) i = if i == j then held c else turn_after h i
+turn_after (Give c j ∷ h) i = if i == j then turn_given (graph_after h j) else turn_after h i
+turn_after (Claim c j ∷ h) i = if i == j then held c else turn_after h i
+turn_after (Shape c changes ∷ h) i = turn_after h i
+turn_after (Call c j op reply ∷ h) i = turn_after h i
+
+-- the frame that a Shape gives to a node that it lists; a node made free keeps its own
+abbrev pub new_frame : NewState → Frame → Frame
+new_frame (BecomesLive r frame) f = frame
+new_frame BecomesFree f = f
+
+-- the frame of node i after the changes, if it was f
+abbrev pub reframed : List Change → ℕ → Frame → Frame
+reframed [] i f = f
+reframed (x ∷ xs) i f = if i == x.node then new_frame x.state f else reframed xs i f
+
+-- the frame of node i after the trace: that of the last Shape that made it live, and at first that of a blank body
+abbrev pub frame_after : Frame → List Event → ℕ → Frame
+frame_after blank [] i = blank
+frame_after blank (Take c j ∷ h) i = frame_after blank h i
+frame_after blank (Give c j ∷ h) i = frame_after blank h i
+frame_after blank (Claim c j ∷ h) i = frame_after blank h i
+frame_after blank (Shape c changes ∷ h) i = reframed changes i (frame_after blank h i)
+frame_after blank (Call c j op reply ∷ h) i = frame_after blank h i
+
+-- the calls of the trace, oldest first
+abbrev pub calls_of : List Event → List Answered
+calls_of [] = []
+calls_of (Take c j ∷ h) = calls_of h
+calls_of (Give c j ∷ h) = calls_of h
+calls_of (Claim c j ∷ h) = calls_of h
+calls_of (Shape c changes ∷ h) = calls_of h
+calls_of (Call c j op reply ∷ h) = calls_of h ++ record { op = op; reply = reply } ∷ []
+
+-- the number of a call whose event follows h: how many calls stand before it
+abbrev pub number_after : List Event → ℕ
+number_after h = length (calls_of h) % 2 ^ 64
+
+-- a call with its number
+pub record NumberedCall : Type 0 where
+  pub number : ℕ
+  pub call : Answered
+
+-- the calls of caller c with their numbers, oldest first
+abbrev pub calls_by : ℕ → List Event → List NumberedCall
+calls_by c [] = []
+calls_by c (Take d j ∷ h) = calls_by c h
+calls_by c (Give d j ∷ h) = calls_by c h
+calls_by c (Claim d j ∷ h) = calls_by c h
+calls_by c (Shape d changes ∷ h) = calls_by c h
+calls_by c (Call d j op reply ∷ h) =
+    if c == d then calls_by c h ++ record { number = number_after h; call = record { op = op; reply = reply } } ∷ [] else calls_by c h
+
+-- how many Shapes stand in the trace
+abbrev pub shapes_in : List Event → ℕ
+shapes_in [] = 0
+shapes_in (Take c j ∷ h) = shapes_in h
+shapes_in (Give c j ∷ h) = shapes_in h
+shapes_in (Claim c j ∷ h) = shapes_in h
+shapes_in (Shape c changes ∷ h) = shapes_in h + 1
+shapes_in (Call c j op reply ∷ h) = shapes_in h
+
+-- the events of c, the newest first
+abbrev pub mine : ℕ → List Event → List Event
+mine c [] = []
+mine c (e ∷ h) = if caller_of e == c then e ∷ mine c h else mine c h
+
+-- the numbers without the first i
+abbrev pub drop_one : ℕ → List ℕ → List ℕ
+drop_one i [] = []
+drop_one i (x ∷ xs) = if x == i then xs else x ∷ drop_one i xs
+
+-- the nodes that c holds after the trace, the last taken first
+abbrev pub hand : ℕ → List Event → List ℕ
+hand c [] = []
+hand c (Take d j ∷ h) = if c == d then j ∷ hand c h else hand c h
+hand c (Give d j ∷ h) = if c == d then drop_one j (hand c h) else hand c h
+hand c (Claim d j ∷ h) = if c == d then j ∷ hand c h else hand c h
+hand c (Shape d changes ∷ h) = hand c h
+hand c (Call d j op reply ∷ h) = hand c h

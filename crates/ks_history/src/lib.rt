@@ -1,0 +1,56 @@
+//! Operations and replies, traces of events, and what a history of calls must be.
+//!
+//! A trace is the list of all events of a run, the newest first. From it follow the graph, the turns, the frames and
+//! the calls after it. The definitions stand in `specs/`, to be read in the order Write, Map, Trace, Lawful, Served.
+#![tactic(auto)]
+
+use ks_keysets::{Frame, Record};
+
+/// What a caller asks of the map. In a trace the first number is a place, in scripts and printed runs it is a key.
+#[derive(Clone, Copy, Debug, PartialEq, Eq)]
+pub enum Op {
+    Get(u64),
+    Put(u64, u128),
+    Del(u64),
+    /// Sets the value only where nothing stands.
+    Add(u64, u128),
+    /// Sets the second value only where the first one stands.
+    Swap(u64, u128, u128),
+}
+
+/// What a call is answered: the value that was there before, if any, or that no node was free.
+#[derive(Debug, PartialEq, Eq, Drop)]
+pub enum Reply {
+    Nothing,
+    Value(u128),
+    Full,
+}
+
+/// A call and its reply.
+#[derive(Debug, PartialEq, Eq, Drop)]
+pub struct Answered {
+    pub op: Op,
+    pub reply: Reply,
+}
+
+/// What a node becomes that a Shape lists. No value of it is made.
+pub enum NewState {
+    BecomesLive(Record, Frame),
+    BecomesFree,
+}
+
+/// A node that a Shape lists, and what it becomes. No value of it is made.
+pub struct Change {
+    pub node: u32,
+    pub state: NewState,
+}
+
+/// One event of a trace: what a caller did, by its number, and to which node. No value of it is made; a clause reads
+/// an array as a list, of any length.
+pub enum Event {
+    Take(u32, u32),
+    Give(u32, u32),
+    Claim(u32, u32),
+    Shape(u32, [Change; 0]),
+    Call(u32, u32, Op, Reply),
+}

@@ -1,0 +1,93 @@
+//! Records, graphs of nodes, and where a search for a place ends.
+//!
+//! A dictionary is a graph of nodes. What a live node has is a record: edges, each leading on for the places of a
+//! span, and pairs of a place and a value. The definitions over graphs stand in `specs/`, to be read in the order
+//! Record, Keyset.
+#![tactic(auto)]
+
+use std::marker::Model;
+
+/// The places from `low` to `last`, both included.
+#[derive(Clone, Copy, Debug, PartialEq, Eq)]
+pub struct Span {
+    pub low: u64,
+    pub last: u64,
+}
+
+/// An edge leads to `node` for the places of its span.
+#[derive(Clone, Copy, Debug, PartialEq, Eq)]
+pub struct Edge {
+    pub span: Span,
+    pub node: u32,
+}
+
+/// A value at a place.
+#[derive(Clone, Copy, Debug, PartialEq, Eq)]
+pub struct Pair {
+    pub place: u64,
+    pub value: u128,
+}
+
+/// What a record is to clauses: a list of edges and a list of pairs. No value of it is made; a clause reads an array
+/// as a list, of any length.
+pub struct Record {
+    pub edges: [Edge; 0],
+    pub pairs: [Pair; 0],
+}
+
+/// What a live node has: its edges and its pairs.
+#[derive(Drop)]
+pub struct NodeRecord {
+    pub edges: Vec<Edge>,
+    pub pairs: Vec<Pair>,
+}
+
+impl Model for NodeRecord {
+    ghost use Rattle.ks_keysets.specs.declared.Record.{Record};
+
+    ghost Value = { Record };
+
+    ghost view = { λ r. record { edges = r.edges.items; pairs = r.pairs.items } };
+}
+
+/// What a node is at a moment. A claimed node tells by whom it was claimed.
+#[derive(Drop)]
+pub enum NodeState {
+    Free,
+    Claimed(u32),
+    Live(NodeRecord),
+}
+
+/// The states of the nodes, by number.
+#[derive(Drop)]
+pub struct Graph {
+    pub nodes: Vec<NodeState>,
+}
+
+impl Model for Graph {
+    ghost use Rattle.std.specs.Prelude.{List};
+    ghost use Rattle.ks_keysets.specs.declared.NodeState.{NodeState};
+
+    ghost Value = { List NodeState };
+
+    ghost view = { λ g. g.nodes.items };
+}
+
+/// What sort of node it is. Inner nodes and directories are branches: they have no pairs.
+#[derive(Clone, Copy, Debug, PartialEq, Eq)]
+pub enum Kind {
+    NoBranch,
+    Inner,
+    Directory,
+}
+
+/// What a body shows beside its record: the least place that it may have, its kind, and, where it has them, its range,
+/// its level and the node that its link leads to.
+#[derive(Clone, Copy, Debug, PartialEq, Eq)]
+pub struct Frame {
+    pub low: u64,
+    pub kind: Kind,
+    pub range: Option<Span>,
+    pub level: u32,
+    pub link: Option<u32>,
+}
