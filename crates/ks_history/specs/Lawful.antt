@@ -1,16 +1,10 @@
 -- Which traces are lawful, and what holds at every beginning of one.
-use Rattle.std.specs.Prelude.{ℕ, ◌≡◌, ◌↔◌, List, [], ◌∷◌, All, AllPairs, Option}
-use Rattle.ks_keysets.specs.declared.NodeState.{NodeState}
-use Rattle.ks_keysets.specs.Record.{IsPlace}
-use Rattle.ks_keysets.specs.Keyset.{InKeyset, Good, IsFound, value_at}
+use Rattle.std.specs.Prelude.{ℕ, ◌≡◌, List, [], ◌∷◌, All, AllPairs}
+use Rattle.ks_keysets.specs.Keyset.{InKeyset, Good, SameFound, value_at}
 use Rattle.ks_history.specs.declared.Event.{Event}
 use Rattle.ks_history.specs.declared.Event.TheVariants.{Take, Give, Claim, Shape, Call}
 use Rattle.ks_history.specs.Map.{IsAnswer, Touches}
 use Rattle.ks_history.specs.Trace.{free, idle, held, graph_after, turn_after}
-
--- what is found is the same in both graphs at every place
-pub record SameFound (g k : ℕ → NodeState) : Type 0 where
-  pub at : (p : ℕ) (v : Option ℕ) → IsPlace p → IsFound g p v ↔ IsFound k p v
 
 -- the condition of an event in the state after the trace h
 abbrev pub Meets : List Event → Event → Type 0

@@ -5,10 +5,8 @@ use Rattle.ks_keysets.specs.declared.Frame.{Frame}
 use Rattle.ks_keysets.specs.declared.NodeState.{NodeState}
 use Rattle.ks_keysets.specs.declared.NodeState.TheVariants.{Free, Claimed, Live}
 use Rattle.ks_keysets.specs.Keyset.{opening}
+use Rattle.ks_keysets.specs.Change.{shaped, reframed}
 use Rattle.ks_history.specs.declared.Answered.{Answered}
-use Rattle.ks_history.specs.declared.NewState.{NewState}
-use Rattle.ks_history.specs.declared.NewState.TheVariants.{BecomesLive, BecomesFree}
-use Rattle.ks_history.specs.declared.Change.{Change}
 use Rattle.ks_history.specs.declared.Event.{Event}
 use Rattle.ks_history.specs.declared.Event.TheVariants.{Take, Give, Claim, Shape, Call}
 use Rattle.ks_history.specs.Write.{Write, written, pairs_with}
@@ -32,16 +30,6 @@ abbrev pub given : NodeState → NodeState
 given Free = Free
 given (Claimed c) = Free
 given (Live r) = Live r
-
--- the state that a Shape gives to a node that it lists
-abbrev pub new_state : NewState → NodeState
-new_state (BecomesLive r frame) = Live r
-new_state BecomesFree = Free
-
--- the state of node i after the changes, if it was s
-abbrev pub shaped : List Change → ℕ → NodeState → NodeState
-shaped [] i s = s
-shaped (x ∷ xs) i s = if i == x.node then new_state x.state else shaped xs i s
 
 -- a live node after a write to its pairs
 abbrev pub state_with : Write → NodeState → NodeState
@@ -82,16 +70,6 @@ turn_after (Give c j ∷ h) i = if i == j then turn_given (graph_after h j) else
 turn_after (Claim c j ∷ h) i = if i == j then held c else turn_after h i
 turn_after (Shape c changes ∷ h) i = turn_after h i
 turn_after (Call c j op reply ∷ h) i = turn_after h i
-
--- the frame that a Shape gives to a node that it lists; a node made free keeps its own
-abbrev pub new_frame : NewState → Frame → Frame
-new_frame (BecomesLive r frame) f = frame
-new_frame BecomesFree f = f
-
--- the frame of node i after the changes, if it was f
-abbrev pub reframed : List Change → ℕ → Frame → Frame
-reframed [] i f = f
-reframed (x ∷ xs) i f = if i == x.node then new_frame x.state f else reframed xs i f
 
 -- the frame of node i after the trace: that of the last Shape that made it live, and at first that of a blank body
 abbrev pub frame_after : Frame → List Event → ℕ → Frame

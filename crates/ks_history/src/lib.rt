@@ -4,7 +4,7 @@
 //! the calls after it. The definitions stand in `specs/`, to be read in the order Write, Map, Trace, Lawful, Served.
 #![tactic(auto)]
 
-use ks_keysets::{Frame, Record};
+use ks_keysets::Change;
 
 /// What a caller asks of the map. In a trace the first number is a place, in scripts and printed runs it is a key.
 #[derive(Clone, Copy, Debug, PartialEq, Eq)]
@@ -31,18 +31,6 @@ pub enum Reply {
 pub struct Answered {
     pub op: Op,
     pub reply: Reply,
-}
-
-/// What a node becomes that a Shape lists. No value of it is made.
-pub enum NewState {
-    BecomesLive(Record, Frame),
-    BecomesFree,
-}
-
-/// A node that a Shape lists, and what it becomes. No value of it is made.
-pub struct Change {
-    pub node: u32,
-    pub state: NewState,
 }
 
 /// One event of a trace: what a caller did, by its number, and to which node. No value of it is made; a clause reads

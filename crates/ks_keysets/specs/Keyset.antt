@@ -1,5 +1,5 @@
 -- Insets, outsets and keysets, good graphs, and what a graph holds at a place.
-use Rattle.std.specs.Prelude.{ℕ, zero, suc, ◌≡◌, ◌<◌, Option, Some, None, All, AllPairs}
+use Rattle.std.specs.Prelude.{ℕ, zero, suc, ◌≡◌, ◌<◌, ◌↔◌, Option, Some, None, All, AllPairs}
 use Rattle.ks_keysets.specs.declared.NodeState.{NodeState}
 use Rattle.ks_keysets.specs.declared.NodeState.TheVariants.{Free, Claimed, Live}
 use Rattle.ks_keysets.specs.declared.Record.{Record}
@@ -74,3 +74,7 @@ value_at g n p = value_in (record_at g n) p
 pub data IsFound (g : ℕ → NodeState) (p : ℕ) (v : Option ℕ) : Type 0 where
   here : (n : ℕ) → InKeyset g n p → ((m : ℕ) → m < n → ¬ InKeyset g m p) → v ≡ value_at g n p → IsFound g p v
   nowhere : ((n : ℕ) → ¬ InKeyset g n p) → v ≡ None → IsFound g p v
+
+-- what is found is the same in both graphs at every place
+pub record SameFound (g k : ℕ → NodeState) : Type 0 where
+  pub at : (p : ℕ) (v : Option ℕ) → IsPlace p → IsFound g p v ↔ IsFound k p v

@@ -2,7 +2,7 @@
 //!
 //! A dictionary is a graph of nodes. What a live node has is a record: edges, each leading on for the places of a
 //! span, and pairs of a place and a value. The definitions over graphs stand in `specs/`, to be read in the order
-//! Record, Keyset.
+//! Record, Keyset, Change.
 #![tactic(auto)]
 
 use std::marker::Model;
@@ -90,4 +90,16 @@ pub struct Frame {
     pub range: Option<Span>,
     pub level: u32,
     pub link: Option<u32>,
+}
+
+/// What a node becomes that a change names. No value of it is made.
+pub enum NewState {
+    BecomesLive(Record, Frame),
+    BecomesFree,
+}
+
+/// A change of one node: which it is, and what it becomes. No value of it is made.
+pub struct Change {
+    pub node: u32,
+    pub state: NewState,
 }

@@ -1,0 +1,28 @@
+-- Changes of a graph: what becomes of the nodes that a list of changes names, and of their frames.
+use Rattle.std.specs.Prelude.{ℕ, ◌==◌, List, [], ◌∷◌, if◌then◌else◌}
+use Rattle.ks_keysets.specs.declared.Frame.{Frame}
+use Rattle.ks_keysets.specs.declared.NodeState.{NodeState}
+use Rattle.ks_keysets.specs.declared.NodeState.TheVariants.{Free, Live}
+use Rattle.ks_keysets.specs.declared.NewState.{NewState}
+use Rattle.ks_keysets.specs.declared.NewState.TheVariants.{BecomesLive, BecomesFree}
+use Rattle.ks_keysets.specs.declared.Change.{Change}
+
+-- the state that a change gives to its node
+abbrev pub new_state : NewState → NodeState
+new_state (BecomesLive r frame) = Live r
+new_state BecomesFree = Free
+
+-- the state of node i after the changes, if it was s
+abbrev pub shaped : List Change → ℕ → NodeState → NodeState
+shaped [] i s = s
+shaped (x ∷ xs) i s = if i == x.node then new_state x.state else shaped xs i s
+
+-- the frame that a change gives to its node; a node made free keeps its own
+abbrev pub new_frame : NewState → Frame → Frame
+new_frame (BecomesLive r frame) f = frame
+new_frame BecomesFree f = f
+
+-- the frame of node i after the changes, if it was f
+abbrev pub reframed : List Change → ℕ → Frame → Frame
+reframed [] i f = f
+reframed (x ∷ xs) i f = if i == x.node then new_frame x.state f else reframed xs i f
