@@ -1,0 +1,5 @@
+pub mod Outside
+pub mod Lines
+pub mod Script
+pub mod Run
+pub mod Reading
