@@ -1,0 +1,3 @@
+//! x
+#![tactic(auto)]
+fn main() {}
