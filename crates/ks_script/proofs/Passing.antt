@@ -1,5 +1,5 @@
 -- Sinks that take texts piece by piece.
-use Rattle.std.proofs.Common.{ℕ, ◌≡◌, ◌⊎◌, ◌+◌, ◌-◌, ◌^◌, ◌<◌, ◌≤◌, List, [], ◌∷◌, ◌++◌, length, take, drop, Option, Some, None, Result, Ok, Err, OnOk, OnErr, refl, sym, ap, subst, ◌∙◌, append_assoc, inl, inr, arith}
+use Rattle.std.proofs.Common.{ℕ, ◌≡◌, ◌≤◌, List, [], ◌++◌, take, drop, Option, Some, None, Result, Ok, Err, OnOk, OnErr, refl, sym, ap, subst, ◌∙◌, append_assoc, inl, inr, arith}
 use Rattle.std.proofs.lemmas.List.{append-nil, take-append-drop}
 use Rattle.ks_script.specs.Outside.{Rose, Writes, Grew, GrewByFront, Passes}
 
@@ -97,3 +97,27 @@ on_err (Err e) p = p
 pub on_ok : {T E P : Type 0} (r : Result T E) → P → OnOk r P
 on_ok (Ok x) p = p
 on_ok (Err e) p = tt
+
+-- a text whose second part fails, and whose rest was not begun
+pub failed_in : (o n m : Option (List ℕ)) (p a q b c w : List ℕ) → Passes o p a n q → GrewByFront n m (q ++ b) → (a ++ b) ++ c ≡ w → GrewByFront o m (p ++ w)
+failed_in o n m p a q b c w h f e =
+    subst (λ (x : List ℕ). GrewByFront o m (p ++ x)) e (front_on o m p (a ++ b) c (passes_front o n m p a q b h f))
+
+pub passes_to : (o n : Option (List ℕ)) (p a b q : List ℕ) → Passes o p a n q → a ≡ b → Passes o p b n q
+passes_to o n p a b q h e = subst (λ (x : List ℕ). Passes o p x n q) e h
+
+-- two texts, put to an empty piece, and what waits then sent
+pub both_sent : (o n k m : Option (List ℕ)) (p a q b r w : List ℕ) → p ≡ [] → a ++ b ≡ w → Passes o p a n q → Passes n q b k r → Grew k m r → Grew o m w
+both_sent o n k m p a q b r w e f h i g =
+    subst (λ (x : List ℕ). Grew o m x) (ap (λ (x : List ℕ). x ++ (a ++ b)) e ∙ f) (passes_all o k m p (a ++ b) r (passes_on o n k p a q b r h i) g)
+
+-- or the first, the second or the sending fails
+pub first_failed : (o m : Option (List ℕ)) (p a b w : List ℕ) → p ≡ [] → a ++ b ≡ w → GrewByFront o m (p ++ a) → GrewByFront o m w
+first_failed o m p a b w e f g = subst (λ (x : List ℕ). GrewByFront o m x) (ap (λ (x : List ℕ). x ++ (a ++ b)) e ∙ f) (front_on o m p a b g)
+
+pub second_failed : (o n m : Option (List ℕ)) (p a q b w : List ℕ) → p ≡ [] → a ++ b ≡ w → Passes o p a n q → GrewByFront n m (q ++ b) → GrewByFront o m w
+second_failed o n m p a q b w e f h g = subst (λ (x : List ℕ). GrewByFront o m x) (ap (λ (x : List ℕ). x ++ (a ++ b)) e ∙ f) (passes_front o n m p a q b h g)
+
+pub sending_failed : (o n k m : Option (List ℕ)) (p a q b r w : List ℕ) → p ≡ [] → a ++ b ≡ w → Passes o p a n q → Passes n q b k r → GrewByFront k m r → GrewByFront o m w
+sending_failed o n k m p a q b r w e f h i g =
+    subst (λ (x : List ℕ). GrewByFront o m x) (ap (λ (x : List ℕ). x ++ (a ++ b)) e ∙ f) (passes_front_all o k m p (a ++ b) r (passes_on o n k p a q b r h i) g)

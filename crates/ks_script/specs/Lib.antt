@@ -3,3 +3,5 @@ pub mod Lines
 pub mod Script
 pub mod Run
 pub mod Reading
+pub mod Checked
+pub mod Memory

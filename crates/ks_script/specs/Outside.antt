@@ -1,5 +1,5 @@
 -- What a source of bytes and a sink for bytes do, where they tell their bytes, and when they may fail.
-use Rattle.std.specs.Prelude.{ℕ, ◌≡◌, ◌⊎◌, ◌+◌, ◌-◌, ◌^◌, ◌<◌, ◌≤◌, List, [], ◌++◌, length, take, drop, Option, Some, None, Result, Ok, Err}
+use Rattle.std.specs.Prelude.{ℕ, ◌≡◌, ◌⊎◌, ◌-◌, ◌^◌, ◌<◌, ◌≤◌, List, [], ◌++◌, length, take, drop, Option, Some, None, Result, Ok, Err}
 
 -- a count of faults rose: it is greater now, or has reached the greatest number that it can show
 abbrev pub Rose : ℕ → ℕ → Type 0

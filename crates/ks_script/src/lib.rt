@@ -5,14 +5,18 @@
 //! the first line that does not fit. `Source` and `Sink` are the outside: they may fail, and count it.
 #![tactic(auto)]
 
+mod checked;
 mod fault;
+mod memory;
 mod outside;
 mod pieces;
 mod printed;
 mod script;
 mod source;
 
+pub use checked::read_checked;
 pub use fault::{Failed, ReadFault, TextFault};
+pub use memory::{CleanSink, CleanSource, MemSink, MemSource};
 pub use outside::{Sink, Source};
 pub use pieces::send;
 pub use printed::{Printed, write_run};

@@ -31,11 +31,7 @@ pub fn send<K: Sink>(out: &mut K, bytes: &[u8]) -> Result<(), Failed>
 }
 
 // One byte more waits. A full piece is sent first.
-fn put_byte<K: Sink>(
-    out: &mut K,
-    piece: &mut ArrayVec<u8, PIECE>,
-    byte: u8,
-) -> Result<(), Failed>
+fn put_byte<K: Sink>(out: &mut K, piece: &mut ArrayVec<u8, PIECE>, byte: u8) -> Result<(), Failed>
     ensures ok { OnOk result (Passes (K.taken out.old) piece.old.items (byte ∷ []) (K.taken out.new) piece.new.items) }
     ensures front { OnErr result (GrewByFront (K.taken out.old) (K.taken out.new) (piece.old.items ++ byte ∷ [])) }
     ensures cause { OnErr result (Rose (K.faults out.old) (K.faults out.new)) }
@@ -92,7 +88,7 @@ fn put_word<K: Sink>(
     ensures cause { OnErr result (Rose (K.faults out.old) (K.faults out.new)) }
     ensures count { K.faults out.old ≤ K.faults out.new }
 {
-    put_number(out, piece, u128::from(number))?;
+    put_number(out, piece, number as u128)?;
     put(out, piece, word)
 }
 

@@ -4,9 +4,9 @@ ghost use Rattle.std.specs.Prelude.{◌≤◌, OnOk, OnErr};
 ghost use Rattle.ks_script.specs.Outside.{Rose, Grew, GrewByFront};
 ghost use Rattle.ks_script.specs.Run.{run_text};
 
-
+use crate::pieces::{put_callers, put_map, send};
 use crate::{Failed, Sink};
-
+use arrayvec::ArrayVec;
 use ks_history::Reply;
 use std::marker::Model;
 
@@ -34,7 +34,8 @@ pub fn write_run<K: Sink>(out: &mut K, printed: &Printed) -> Result<(), Failed>
     ensures cause { OnErr result (Rose (K.faults out.old) (K.faults out.new)) }
     ensures count { K.faults out.old ≤ K.faults out.new }
 {
-    let _ = out.write(&[]);
-    let _ = printed;
-    Ok(())
+    let mut piece = ArrayVec::new();
+    put_callers(out, &mut piece, &printed.callers)?;
+    put_map(out, &mut piece, &printed.pairs)?;
+    send(out, piece.as_slice())
 }

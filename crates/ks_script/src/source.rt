@@ -8,11 +8,7 @@ use std::alloc::Global;
 
 /// Reads to the end, and answers with all the bytes. It asks for at most 4,096 bytes at a time, and stops once more
 /// than `limit` bytes came. After an error some first bytes are gone, at most 4,096 more than the limit.
-pub fn read_all<S: Source>(
-    alloc: Global,
-    source: &mut S,
-    limit: u64,
-) -> Result<Vec<u8>, ReadFault>
+pub fn read_all<S: Source>(alloc: Global, source: &mut S, limit: u64) -> Result<Vec<u8>, ReadFault>
     ensures bytes { IfOk result (λ v. IfSome (S.left source.old) (λ bytes. v.items ≡ bytes)) }
     ensures end { OnOk result (IfSome (S.left source.old) (λ _. S.left source.new ≡ Some [])) }
     ensures within { IfOk result (λ v. vec_len v ≤ limit) }

@@ -21,7 +21,7 @@ loop-byte-preserved g c =
     let i = c.loop-byte.byte-index in
     let bytes = c.args.bytes.now in
     record {
-  passed = subst (λ (x : List ℕ). Passes (g.K.Sink.taken c.args.out.now) c.args.piece.now.items x (g.K.Sink.taken c.put_byte.new.out) c.put_byte.new.piece.items) (sym (take_more bytes i 0 c.loop-byte-test.true))
-      (passes_on _ _ _ _ _ _ _ _ c.loop-byte.invariant.passed c.in_ok-put_byte.ensures.ok);
-  count = omega arith;
-}
+      passed = subst (λ (x : List ℕ). Passes (g.K.Sink.taken c.args.out.now) c.args.piece.now.items x (g.K.Sink.taken c.put_byte.new.out) c.put_byte.new.piece.items) (sym (take_more bytes i 0 c.loop-byte-test.true))
+          (passes_on _ _ _ _ _ _ _ _ c.loop-byte.invariant.passed c.in_ok-put_byte.ensures.ok);
+      count = omega arith;
+    }

@@ -1,4 +1,4 @@
-use Rattle.std.proofs.Common.{[], ◌∷◌, ◌++◌, List, ℕ, subst, sym}
+use Rattle.std.proofs.Common.{[], ◌∷◌, List, ℕ, subst}
 use Rattle.ks_script.specs.Outside.{GrewByFront}
 use Rattle.ks_script.proofs.Passing.{on_err, front_more}
 use Rattle.ks_script.proofs.pieces.put_byte.Goals as goal

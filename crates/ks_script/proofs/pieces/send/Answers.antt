@@ -1,4 +1,4 @@
-use Rattle.std.proofs.Common.{◌≡◌, [], arith, subst, sym, List, ℕ, drop}
+use Rattle.std.proofs.Common.{[], arith, subst, sym, List, ℕ}
 use Rattle.ks_script.specs.Outside.{Passes}
 use Rattle.ks_script.proofs.Passing.{passes_sent, grew_written}
 use Rattle.ks_script.proofs.pieces.send.Goals as goal
