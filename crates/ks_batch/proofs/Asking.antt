@@ -1,5 +1,5 @@
 -- The words of commands.
-use Rattle.std.proofs.Common.{ℕ, zero, suc, ◌≡◌, ◌<◌, ◌≤◌, ◌^◌, Result, Ok, List, [], ◌∷◌, length, get_or, map, refl, sym, ◌∙◌, ap, subst, arith, string_bytes, String}
+use Rattle.std.proofs.Common.{ℕ, ◌≡◌, ◌<◌, ◌≤◌, ◌^◌, Result, Ok, List, [], ◌∷◌, length, get_or, map, sym, ◌∙◌, ap, arith, string_bytes, String}
 use Rattle.std.specs.Prelude.{codes}
 use Rattle.std.specs.Fmt.{decimal}
 use Rattle.std.specs.Str.Parse.{ParsesUnsigned}

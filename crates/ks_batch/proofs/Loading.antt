@@ -1,5 +1,5 @@
 -- Why a script is refused, from why its bytes are.
-use Rattle.std.proofs.Common.{ℕ, zero, suc, ◌≡◌, ◌≤◌, ◌<◌, List, length, Option, Some, None, Result, Ok, Err, subst, arith}
+use Rattle.std.proofs.Common.{ℕ, zero, suc, ◌≡◌, ◌≤◌, List, length, Option, Some, None, Result, Ok, Err, subst, arith}
 use Rattle.std.specs.Prelude.{IfSome, IfErr}
 use Rattle.ks_script.specs.Script.{FirstBadOfScript}
 use Rattle.ks_batch.specs.declared.serving.Stop.{Stop}

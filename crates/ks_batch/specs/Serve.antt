@@ -1,5 +1,5 @@
 -- What the program does with a script.
-use Rattle.std.specs.Prelude.{ℕ, zero, suc, ◌≡◌, ◌<◌, ◌≤◌, List, length, Option, Result, Ok, Err, IfSome}
+use Rattle.std.specs.Prelude.{ℕ, zero, suc, ◌<◌, ◌≤◌, List, length}
 use Rattle.ks_history.specs.declared.Op.{Op}
 use Rattle.ks_history.specs.declared.Event.{Event}
 use Rattle.ks_history.specs.Served.{Served}
@@ -20,10 +20,14 @@ pub record Accepts (bytes : List ℕ) (script : List (List Op)) : Type 0 where
   pub within : length bytes ≤ script_limit
   pub reads : ScriptOf bytes script
 
--- the trace h served the script that the bytes spell, and Took holds of the text of the run that tells it
-pub record Prints (bytes : List ℕ) (h : List Event) (Took : List ℕ → Type 0) : Type 0 where
+-- the trace h served the script that the bytes spell, and the run tells it
+pub record Tells (bytes : List ℕ) (h : List Event) (run : Run) : Type 0 where
   pub script : List (List Op)
-  pub run : Run
   pub accepts : Accepts bytes script
   pub served : Served (λ k. k) script run.callers run.pairs h
+
+-- the trace h served the script that the bytes spell, and of the text that tells it Took holds
+pub record Prints (bytes : List ℕ) (h : List Event) (Took : List ℕ → Type 0) : Type 0 where
+  pub run : Run
+  pub tells : Tells bytes h run
   pub took : Took (run_text run)

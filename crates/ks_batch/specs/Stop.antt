@@ -1,5 +1,5 @@
 -- Why no script is served.
-use Rattle.std.specs.Prelude.{ℕ, ◌<◌, List, Option, IfSome}
+use Rattle.std.specs.Prelude.{ℕ, List, Option, IfSome}
 use Rattle.ks_script.specs.Script.{FirstBadOfScript}
 use Rattle.ks_batch.specs.declared.serving.Stop.{Stop}
 use Rattle.ks_batch.specs.declared.serving.Stop.TheVariants.{Refused, Source, Memory}

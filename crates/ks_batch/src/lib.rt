@@ -9,5 +9,5 @@ mod message;
 mod serving;
 mod words;
 
-pub use serving::{Outcome, Stop};
+pub use serving::{Outcome, Stop, serve};
 pub use words::{Asked, command};

@@ -8,7 +8,8 @@ ghost use Rattle.ks_batch.specs.Message.{status_text};
 use itoa::Buffer;
 use ks_script::{Failed, Sink, send};
 
-const USAGE: &[u8] = b"usage: run NODES TEMPLATE ARENA, make NODES TEMPLATE ARENA CALLERS CALLS FIRST, or check\n";
+const USAGE: &[u8] =
+    b"usage: run NODES TEMPLATE ARENA, make NODES TEMPLATE ARENA CALLERS CALLS FIRST, or check\n";
 
 /// Says that a line was refused.
 fn say_line<E: Sink>(err: &mut E, line: u64) -> Result<(), Failed>

@@ -8,12 +8,14 @@ ghost use Rattle.ks_script.specs.Script.{ScriptOf};
 ghost use Rattle.ks_script.specs.Outside.{Rose, Grew, GrewByFront};
 ghost use Rattle.ks_batch.specs.Words.{IsCommand};
 ghost use Rattle.ks_batch.specs.Message.{status_text};
-ghost use Rattle.ks_batch.specs.Serve.{RefusedAt, Accepts, Prints};
+ghost use Rattle.ks_batch.specs.Serve.{RefusedAt, Accepts, Tells, Prints};
 ghost use Rattle.ks_batch.specs.Stop.{IsCause, IsRefusal};
 
 use crate::message::tell;
-use crate::words::command;
-use ks_script::{Printed, ReadFault, Script, Sink, Source, TextFault, read_all, read_script, write_run};
+use crate::words::{Asked, command};
+use ks_script::{
+    Printed, ReadFault, Script, Sink, Source, TextFault, read_all, read_script, write_run,
+};
 use ks_single::{Run, RunTrace, serve_callers};
 use std::alloc::Global;
 
@@ -94,4 +96,117 @@ fn load<S: Source>(alloc: Global, source: &mut S) -> Result<Script, Stop>
 {
     let bytes = input(alloc, source)?;
     script(alloc, &bytes)
+}
+
+/// A run that is served and not yet written.
+#[derive(Drop)]
+struct Ready {
+    printed: Printed,
+    trace: RunTrace,
+}
+
+/// Reads a script and serves it.
+fn prepare<S: Source>(alloc: Global, source: &mut S) -> Result<Ready, Stop>
+    ensures lawful { IfOk result (λ ready. Lawful ready.trace) }
+    ensures good { IfOk result (λ ready. GoodThroughout ready.trace) }
+    ensures tells { IfOk result (λ ready. IfSome (S.left source.old) (λ bytes. Tells bytes ready.trace ready.printed)) }
+    ensures end { OnOk result (IfSome (S.left source.old) (λ _. S.left source.new ≡ Some [])) }
+    ensures cause { IfErr result (λ stop. IsCause stop (S.left source.old) (Rose (S.faults source.old) (S.faults source.new))) }
+{
+    let script = load(alloc, source)?;
+    match serve_callers(alloc, &script.callers) {
+        Ok(run) => Ok(to_print(run)),
+        Err(_) => Err(Stop::Memory),
+    }
+}
+
+fn to_print(run: Run) -> Ready
+    ensures trace { result.trace ≡ run.trace }
+    ensures callers { result.printed.callers ≡ map (λ v. v.items) run.lines.items }
+    ensures pairs { result.printed.pairs ≡ run.pairs.items }
+{
+    Ready {
+        printed: Printed {
+            callers: run.lines,
+            pairs: run.pairs,
+        },
+        trace: run.trace,
+    }
+}
+
+/// The command `run`: serves the script on the source and writes what its calls were answered.
+fn serve_script<S: Source, K: Sink>(alloc: Global, source: &mut S, out: &mut K) -> Outcome
+    ensures lawful { IfSome result.run Lawful }
+    ensures good { IfSome result.run GoodThroughout }
+    ensures ran { IsSome result.run ↔ ((result.status ≡ 0) ⊎ (result.status ≡ 4)) }
+    ensures status { (result.status ≡ 1 → ⊥) × (result.status ≤ 5) }
+    ensures line { (result.status ≡ 2 → ⊥) → result.line ≡ 0 }
+    ensures number { result.number ≡ 0 }
+    ensures done { result.status ≡ 0 → IfSome (S.left source.old) (λ bytes. IfSome result.run (λ h. Prints bytes h (λ text. Grew (K.taken out.old) (K.taken out.new) text))) }
+    ensures cut { result.status ≡ 4 → IfSome (S.left source.old) (λ bytes. IfSome result.run (λ h. Prints bytes h (λ text. GrewByFront (K.taken out.old) (K.taken out.new) text))) }
+    ensures end { IsSome result.run → IfSome (S.left source.old) (λ _. S.left source.new ≡ Some []) }
+    ensures untouched { IsNone result.run → K.taken out.new ≡ K.taken out.old }
+    ensures refused { result.status ≡ 2 → IfSome (S.left source.old) (λ bytes. RefusedAt bytes result.line) }
+    ensures source { result.status ≡ 3 → Rose (S.faults source.old) (S.faults source.new) }
+    ensures output { result.status ≡ 4 → Rose (K.faults out.old) (K.faults out.new) }
+{
+    match prepare(alloc, source) {
+        Ok(ready) => {
+            let status = match write_run(out, &ready.printed) {
+                Ok(()) => 0,
+                Err(_) => 4,
+            };
+            Outcome {
+                status,
+                line: 0,
+                number: 0,
+                run: Some(ready.trace),
+            }
+        }
+        Err(Stop::Refused { line }) => Outcome::without_run(2, line),
+        Err(Stop::Source) => Outcome::without_run(3, 0),
+        Err(Stop::Memory) => Outcome::without_run(5, 0),
+    }
+}
+
+/// The whole program: does what the words ask for, and says on `err` what stood against it.
+pub fn serve<S: Source, K: Sink, E: Sink>(
+    alloc: Global,
+    words: &[String],
+    source: &mut S,
+    out: &mut K,
+    err: &mut E,
+) -> Outcome
+    // What happened in a run is lawful, and the keysets of the live nodes are disjoint and cover all places, always.
+    ensures lawful { IfSome result.run Lawful }
+    ensures good { IfSome result.run GoodThroughout }
+    ensures ran { IsSome result.run ↔ ((result.status ≡ 0) ⊎ (result.status ≡ 4)) }
+
+    // What is written is the text of a run that this served, or, where the output failed, first bytes of it.
+    ensures done { result.status ≡ 0 → IfSome (S.left source.old) (λ bytes. IfSome result.run (λ h. Prints bytes h (λ text. Grew (K.taken out.old) (K.taken out.new) text))) }
+    ensures cut { result.status ≡ 4 → IfSome (S.left source.old) (λ bytes. IfSome result.run (λ h. Prints bytes h (λ text. GrewByFront (K.taken out.old) (K.taken out.new) text))) }
+    ensures end { IsSome result.run → IfSome (S.left source.old) (λ _. S.left source.new ≡ Some []) }
+    ensures untouched { IsNone result.run → K.taken out.new ≡ K.taken out.old }
+
+    // When each status comes.
+    ensures usage { (result.status ≡ 1) ↔ (IsCommand (map string_bytes words.now) → ⊥) }
+    ensures unread { result.status ≡ 1 → S.left source.new ≡ S.left source.old }
+    ensures refused { result.status ≡ 2 → IfSome (S.left source.old) (λ bytes. RefusedAt bytes result.line) }
+    ensures refusal_due { IsCommand (map string_bytes words.now) → (Rose (S.faults source.old) (S.faults source.new) → ⊥) → IfSome (S.left source.old) (λ bytes. (n : ℕ) → RefusedAt bytes n → ((result.status ≡ 2) × (result.line ≡ n)) ⊎ (result.status ≡ 5)) }
+    ensures source { result.status ≡ 3 → Rose (S.faults source.old) (S.faults source.new) }
+    ensures output { result.status ≡ 4 → Rose (K.faults out.old) (K.faults out.new) }
+    ensures done_due { IsCommand (map string_bytes words.now) → (Rose (S.faults source.old) (S.faults source.new) → ⊥) → (Rose (K.faults out.old) (K.faults out.new) → ⊥) → IfSome (S.left source.old) (λ bytes. (script : List (List Op)) → Accepts bytes script → (result.status ≡ 0) ⊎ (result.status ≡ 5)) }
+    ensures line { (result.status ≡ 2 → ⊥) → result.line ≡ 0 }
+    ensures number { result.number ≡ 0 }
+
+    // What is said on the error output: the text of the status, whole if it did not fail.
+    ensures said { (Rose (E.faults err.old) (E.faults err.new) → ⊥) → Grew (E.taken err.old) (E.taken err.new) (status_text result.status result.line) }
+    ensures said_front { GrewByFront (E.taken err.old) (E.taken err.new) (status_text result.status result.line) }
+{
+    let outcome = match command(words) {
+        Some(Asked::Run { .. }) => serve_script(alloc, source, out),
+        None => Outcome::without_run(1, 0),
+    };
+    tell(err, outcome.status, outcome.line);
+    outcome
 }
