@@ -3,6 +3,7 @@
 ghost use Rattle.std.specs.Prelude.{ℕ, ◌≡◌, ◌+◌, ◌<◌, ◌≤◌, List, [], Some, length, vec_len, IfOk, IfSome, OnOk, IsErrOf};
 ghost use Rattle.ks_script.specs.Outside.{Rose, Gone};
 
+use crate::pieces::PIECE;
 use crate::{ReadFault, Source};
 use std::alloc::Global;
 
@@ -17,5 +18,20 @@ pub fn read_all<S: Source>(alloc: Global, source: &mut S, limit: u64) -> Result<
     ensures count { S.faults source.old ≤ S.faults source.new }
     ensures stops { (front : List ℕ) × Gone (S.left source.old) (S.left source.new) front × (length front ≤ limit + 4096) }
 {
-    Err(ReadFault::Memory)
+    let mut bytes = Vec::new(alloc);
+    let mut buffer = [0; PIECE];
+    loop {
+        let Ok(count) = source.read(&mut buffer) else {
+            return Err(ReadFault::Failed);
+        };
+        if count == 0 {
+            return Ok(bytes);
+        }
+        if count as u64 > limit - bytes.len() as u64 {
+            return Err(ReadFault::TooLong);
+        }
+        if bytes.extend_from_slice(&buffer[..count]).is_err() {
+            return Err(ReadFault::Memory);
+        }
+    }
 }
