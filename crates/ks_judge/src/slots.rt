@@ -1,8 +1,8 @@
 //! For each number the line that carries it, found in one pass over all lines.
 
-ghost use Rattle.std.specs.Prelude.{ℕ, ◌≡◌, ◌<◌, ◌≤◌, ◌+◌, ◌^◌, ◌++◌, ◌∷◌, [], length, map, slice_index_or, slice_set, IfOk, take};
-ghost use Rattle.ks_judge.specs.Judgment.{carriers, carriers_from, carriers_in, line_at, IsInOrder};
-ghost use Rattle.ks_judge.specs.Slots.{TellsSlot};
+ghost use Rattle.std.specs.Prelude.{ℕ, ◌≡◌, ◌<◌, ◌+◌, ◌^◌, ◌++◌, List, [], length, map, slice_index_or, All, IfOk};
+ghost use Rattle.ks_judge.specs.Judgment.{Lines, carriers};
+ghost use Rattle.ks_judge.specs.Slots.{TellsOrder, Notes, carriers_to, if_carries, noted_slot};
 
 use ks_history::Reply;
 use std::alloc::{AllocError, Global};
@@ -20,8 +20,10 @@ pub enum Slot {
     Many,
 }
 
-/// Notes that a line carries the number of the slot.
-fn noted(slot: Slot, caller: u32, place: u32, in_order: bool) -> Slot {
+/// The slot when one line more carries its number.
+fn noted(slot: Slot, caller: u32, place: u32, in_order: bool) -> Slot
+    ensures { result ≡ noted_slot slot caller place in_order }
+{
     match slot {
         Slot::Empty => Slot::One {
             caller,
@@ -30,4 +32,43 @@ fn noted(slot: Slot, caller: u32, place: u32, in_order: bool) -> Slot {
         },
         Slot::One { .. } | Slot::Many => Slot::Many,
     }
+}
+
+/// Notes a line in the slot of its number, if there is one.
+fn note(slots: &mut [Slot], number: u64, caller: u32, place: u32, in_order: bool)
+    ensures { (lines : Lines) (P : ℕ → List (ℕ × ℕ)) → TellsOrder lines caller place number in_order → Notes lines slots.old P → Notes lines slots.new (λ n. P n ++ if_carries number n (caller, place)) }
+{
+    if number < slots.len() as u64 {
+        let at = number as usize;
+        slots[at] = noted(slots[at], caller, place, in_order);
+    }
+}
+
+/// Notes the lines of one caller.
+fn note_caller(slots: &mut [Slot], callers: &[Vec<(u64, Reply)>], caller: usize)
+    requires which { caller < length callers.now }
+    requires few { length callers.now < 2 ^ 32 }
+    requires short { length (slice_index_or (map (λ v. v.items) callers.now) caller []) < 2 ^ 32 }
+    requires noted { let lines = map (λ v. v.items) callers.now in Notes lines slots.old (carriers_to lines caller 0) }
+    ensures { let lines = map (λ v. v.items) callers.now in Notes lines slots.new (carriers_to lines (caller + 1) 0) }
+{
+    let mut greatest = 0;
+    for (place, line) in callers[caller].iter().enumerate() {
+        note(slots, line.0, caller as u32, place as u32, greatest <= line.0);
+        greatest = greatest.max(line.0);
+    }
+}
+
+/// For each number below `count` the lines that carry it.
+pub fn slots(alloc: Global, callers: &[Vec<(u64, Reply)>], count: usize) -> Result<Vec<Slot>, AllocError>
+    requires few { length callers.now < 2 ^ 32 }
+    requires short { All (λ xs. length xs < 2 ^ 32) (map (λ v. v.items) callers.now) }
+    ensures count { IfOk result (λ v. length v.items ≡ count) }
+    ensures noted { IfOk result (λ v. let lines = map (λ v. v.items) callers.now in Notes lines v.items (carriers lines)) }
+{
+    let mut slots = vec![in alloc; Slot::Empty; count]?;
+    for caller in 0..callers.len() {
+        note_caller(&mut slots, callers, caller);
+    }
+    Ok(slots)
 }
