@@ -8,7 +8,7 @@ use Rattle.ks_history.specs.declared.Reply.TheVariants.{Nothing}
 use Rattle.ks_judge.specs.declared.slots.Slot.{Slot}
 use Rattle.ks_judge.specs.declared.slots.Slot.TheVariants.{Empty}
 use Rattle.ks_judge.specs.Judgment.{Lines, line_at, IsInOrder, carriers, carriers_from, carriers_in}
-use Rattle.ks_judge.specs.Slots.{TellsOrder, TellsSlot, Notes, carriers_to, if_carries}
+use Rattle.ks_judge.specs.Slots.{Stands, TellsOrder, TellsSlot, Notes, carriers_to, if_carries}
 
 carriers_in-append : (n c j : ℕ) (xs ys : List (ℕ × Reply)) → carriers_in n c j (xs ++ ys) ≡ carriers_in n c j xs ++ carriers_in n c (j + length xs) ys
 carriers_in-append n c j [] ys = ap (λ k. carriers_in n c k ys) (omega arith)
@@ -58,9 +58,9 @@ pub record IsGreatest (lines : Lines) (c j greatest : ℕ) : Type 0 where
   pub above : (i : ℕ) → i < j → (line_at lines c i).0 ≤ greatest
   pub one_of : (greatest ≡ 0) ⊎ ((i : ℕ) × (i < j) × ((line_at lines c i).0 ≡ greatest))
 
-pub tells_order : (lines : Lines) (c j greatest n : ℕ) (b : Bool) → (b ≡ true → greatest ≤ n) → (b ≡ false → n < greatest) → IsGreatest lines c j greatest → TellsOrder lines c j n b
-tells_order lines c j greatest n true if_true if_false is = λ i lt. let a = is.above i lt in let b = if_true refl in omega arith
-tells_order lines c j greatest n false if_true if_false is = λ order. by_side order is.one_of
+pub tells_order : (lines : Lines) (c j greatest n : ℕ) (b : Bool) → Stands lines c j → (b ≡ true → greatest ≤ n) → (b ≡ false → n < greatest) → IsGreatest lines c j greatest → TellsOrder lines c j n b
+tells_order lines c j greatest n true stands if_true if_false is = (stands, λ i lt. let a = is.above i lt in let b = if_true refl in omega arith)
+tells_order lines c j greatest n false stands if_true if_false is = (stands, λ order. by_side order is.one_of)
   where
     by_side : IsInOrder lines c j n → (greatest ≡ 0) ⊎ ((i : ℕ) × (i < j) × ((line_at lines c i).0 ≡ greatest)) → ⊥
     by_side order (inl e) = let a = if_false refl in omega arith
@@ -100,14 +100,14 @@ greatest_more lines c j greatest new is g = record { above = above; one_of = by_
     by_side (inr e) = inr (j, omega arith, sym (is ∙ e))
 
 -- a line noted, as the program notes it: xs are the lines of caller c
-pub line_noted : (lines : Lines) (c j greatest : ℕ) (xs : List (ℕ × Reply)) (slots slots' : List Slot) → get_or lines c [] ≡ xs → j < length xs → IsGreatest lines c j greatest →
+pub line_noted : (lines : Lines) (c j greatest : ℕ) (xs : List (ℕ × Reply)) (slots slots' : List Slot) → get_or lines c [] ≡ xs → c < length lines → j < length xs → IsGreatest lines c j greatest →
     ((ls : Lines) (P : ℕ → List (ℕ × ℕ)) → TellsOrder ls c j (get_or xs j (0, Nothing)).0 (leb greatest (get_or xs j (0, Nothing)).0) → Notes ls slots P → Notes ls slots' (λ n. P n ++ if_carries (get_or xs j (0, Nothing)).0 n (c, j))) →
     Notes lines slots (carriers_to lines c j) → Notes lines slots' (carriers_to lines c (j + 1))
-line_noted lines c j greatest xs slots slots' is lt g noted notes =
+line_noted lines c j greatest xs slots slots' is there lt g noted notes =
     let number : ℕ = (get_or xs j (0, Nothing)).0 in
     let same : (line_at lines c j).0 ≡ number = ap (λ (ys : List (ℕ × Reply)). (get_or ys j (0, Nothing)).0) is in
-    let order : TellsOrder lines c j number (leb greatest number) = tells_order lines c j greatest number (leb greatest number) (λ e. leb_true greatest number e) (λ e. leb_false greatest number e) g in
     let within : j < length (get_or lines c []) = subst (λ (ys : List (ℕ × Reply)). j < length ys) (sym is) lt in
+    let order : TellsOrder lines c j number (leb greatest number) = tells_order lines c j greatest number (leb greatest number) (there, within) (λ e. leb_true greatest number e) (λ e. leb_false greatest number e) g in
     notes_along lines slots' (λ n. carriers_to lines c j n ++ if_carries number n (c, j)) (carriers_to lines c (j + 1))
     (λ n. ap (λ (k : ℕ). carriers_to lines c j n ++ if_carries k n (c, j)) (sym same) ∙ sym (carriers_to-line lines c j n within))
     (noted lines (carriers_to lines c j) order notes)

@@ -4,10 +4,14 @@ use Rattle.ks_judge.specs.declared.slots.Slot.{Slot}
 use Rattle.ks_judge.specs.declared.slots.Slot.TheVariants.{Empty, One, Many}
 use Rattle.ks_judge.specs.Judgment.{Lines, IsInOrder, carriers_in, carriers_from}
 
+-- line j of caller c is there
+abbrev pub Stands : Lines → ℕ → ℕ → Type 0
+Stands lines c j = (c < length lines) × (j < length (slice_index_or lines c []))
+
 -- whether a line is in order
 abbrev pub TellsOrder : Lines → ℕ → ℕ → ℕ → Bool → Type 0
-TellsOrder lines c j n true = IsInOrder lines c j n
-TellsOrder lines c j n false = IsInOrder lines c j n → ⊥
+TellsOrder lines c j n true = Stands lines c j × IsInOrder lines c j n
+TellsOrder lines c j n false = Stands lines c j × (IsInOrder lines c j n → ⊥)
 
 -- the slot of the number n tells the places of the lines that carry it
 abbrev pub TellsSlot : Lines → ℕ → Slot → List (ℕ × ℕ) → Type 0

@@ -12,8 +12,8 @@ use std::alloc::{AllocError, Global};
 pub enum Slot {
     Empty,
     One {
-        caller: u32,
-        place: u32,
+        caller: usize,
+        place: usize,
         /// No earlier line of the caller carries a greater number.
         in_order: bool,
     },
@@ -21,7 +21,7 @@ pub enum Slot {
 }
 
 /// The slot when one line more carries its number.
-fn noted(slot: Slot, caller: u32, place: u32, in_order: bool) -> Slot
+fn noted(slot: Slot, caller: usize, place: usize, in_order: bool) -> Slot
     ensures { result ≡ noted_slot slot caller place in_order }
 {
     match slot {
@@ -35,7 +35,7 @@ fn noted(slot: Slot, caller: u32, place: u32, in_order: bool) -> Slot
 }
 
 /// Notes a line in the slot of its number, if there is one.
-fn note(slots: &mut [Slot], number: u64, caller: u32, place: u32, in_order: bool)
+fn note(slots: &mut [Slot], number: u64, caller: usize, place: usize, in_order: bool)
     ensures { (lines : Lines) (P : ℕ → List (ℕ × ℕ)) → TellsOrder lines caller place number in_order → Notes lines slots.old P → Notes lines slots.new (λ n. P n ++ if_carries number n (caller, place)) }
 {
     if number < slots.len() as u64 {
@@ -47,22 +47,18 @@ fn note(slots: &mut [Slot], number: u64, caller: u32, place: u32, in_order: bool
 /// Notes the lines of one caller.
 fn note_caller(slots: &mut [Slot], callers: &[Vec<(u64, Reply)>], caller: usize)
     requires which { caller < length callers.now }
-    requires few { length callers.now < 2 ^ 32 }
-    requires short { length (slice_index_or (map (λ v. v.items) callers.now) caller []) < 2 ^ 32 }
     requires noted { let lines = map (λ v. v.items) callers.now in Notes lines slots.old (carriers_to lines caller 0) }
     ensures { let lines = map (λ v. v.items) callers.now in Notes lines slots.new (carriers_to lines (caller + 1) 0) }
 {
     let mut greatest = 0;
     for (place, line) in callers[caller].iter().enumerate() {
-        note(slots, line.0, caller as u32, place as u32, greatest <= line.0);
+        note(slots, line.0, caller, place, greatest <= line.0);
         greatest = greatest.max(line.0);
     }
 }
 
 /// For each number below `count` the lines that carry it.
 pub fn slots(alloc: Global, callers: &[Vec<(u64, Reply)>], count: usize) -> Result<Vec<Slot>, AllocError>
-    requires few { length callers.now < 2 ^ 32 }
-    requires short { All (λ xs. length xs < 2 ^ 32) (map (λ v. v.items) callers.now) }
     ensures count { IfOk result (λ v. length v.items ≡ count) }
     ensures noted { IfOk result (λ v. let lines = map (λ v. v.items) callers.now in Notes lines v.items (carriers lines)) }
 {

@@ -10,9 +10,10 @@ pub loop-place-preserved : goal.loop-place-preserved
 loop-place-preserved c =
     let lines = map (λ v. v.items) c.args.callers.now in
     let is = shown (λ v. v.items) c.args.callers.now c.args.caller c.index-callers-caller.result c.requires.which c.index-callers-caller.is ∙ sym c.deref-line-items.ensures.value in
+    let within : c.args.caller < length lines = subst (λ (n : ℕ). c.args.caller < n) (sym (length-map c.args.callers.now (λ v. v.items))) c.requires.which in
     record {
       greatest = greatest_more lines c.args.caller c.loop-place.place c.loop-place.greatest c.max-greatest.result (c.max-greatest.ensures ∙ ap (λ (ys : List (ℕ × Reply)). max c.loop-place.greatest (get_or ys c.loop-place.place (0, Nothing)).0) (sym is)) c.loop-place.invariant.greatest;
-      notes = line_noted lines c.args.caller c.loop-place.place c.loop-place.greatest c.deref-line-items.result.now c.loop-place.slots c.note.new.slots is c.loop-place-test.true c.loop-place.invariant.greatest c.note.ensures c.loop-place.invariant.notes;
+      notes = line_noted lines c.args.caller c.loop-place.place c.loop-place.greatest c.deref-line-items.result.now c.loop-place.slots c.note.new.slots is within c.loop-place-test.true c.loop-place.invariant.greatest c.note.ensures c.loop-place.invariant.notes;
     }
 
 pub returns : goal.returns
