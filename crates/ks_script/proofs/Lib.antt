@@ -2,3 +2,4 @@ pub mod Passing
 pub mod Texts
 pub mod Sources
 pub mod Cuts
+pub mod Scripts
