@@ -1,17 +1,17 @@
 -- Scripts as lines, one after another, and what of them the lines tell.
-use Rattle.std.proofs.Common.{ℕ, zero, suc, ◌≡◌, ◌⊎◌, ◌+◌, ◌-◌, ◌^◌, ◌<◌, ◌≤◌, List, [], ◌∷◌, ◌++◌, length, map, take, drop, get_or, refl, sym, ap, subst, ◌∙◌, append_assoc, arith, codes, inl, inr, length-append}
-use Rattle.std.proofs.lemmas.List.{append-nil, map-append, length-map}
+use Rattle.std.proofs.Common.{ℕ, ◌≡◌, ◌+◌, ◌-◌, ◌<◌, List, [], ◌∷◌, ◌++◌, length, drop, get_or, refl, sym, ap, ◌∙◌, append_assoc, arith, codes, length-append}
+use Rattle.std.proofs.lemmas.List.{append-nil}
 use Rattle.std.proofs.lemmas.Fmt.{decimal_injective}
 use Rattle.std.specs.Fmt.{decimal}
-use Rattle.std.specs.List.{flat_map, AllByRecursion}
+use Rattle.std.specs.List.{AllByRecursion}
 use Rattle.ks_history.specs.declared.Op.{Op}
 use Rattle.ks_history.specs.declared.Op.TheVariants.{Get, Put, Del, Add, Swap}
-use Rattle.ks_script.specs.Lines.{lines_of, Lacks}
+use Rattle.ks_script.specs.Lines.{lines_of}
 use Rattle.ks_script.specs.Script.{IsCall, IsScript, call_line, caller_lines, script_lines, calls_in}
-use Rattle.ks_script.specs.Front.{NoCaller, NoCall, Stuck, CallsThen, ScriptThen}
+use Rattle.ks_script.specs.Front.{NoCall, CallsThen}
 use Rattle.ks_script.proofs.Cuts.{one_cut, decimal_lacks}
 
-abbrev Good : List (List Op) → Type 0
+abbrev pub Good : List (List Op) → Type 0
 Good script = AllByRecursion (AllByRecursion IsCall) script
 
 -- the first byte of a line
@@ -33,7 +33,7 @@ one_call (Del k) (Del m) h i e = ap Del (decimal_injective k m h i (ap (drop 4) 
 one_call (Put k v) (Put m w) h i e =
     let t : decimal k ++ codes " " ++ decimal v ≡ decimal m ++ codes " " ++ decimal w = ap (drop 4) e in
     let parts = one_cut 32 (decimal k) (decimal v) (decimal m) (decimal w) (decimal_lacks 32 refl k h.0) (decimal_lacks 32 refl m i.0)
-        (sym (append_assoc (decimal k) (codes " ") (decimal v)) ∙ (t ∙ append_assoc (decimal m) (codes " ") (decimal w))) in
+    (sym (append_assoc (decimal k) (codes " ") (decimal v)) ∙ (t ∙ append_assoc (decimal m) (codes " ") (decimal w))) in
     ap (λ (n : ℕ). Put n v) (decimal_injective k m h.0 i.0 parts.0) ∙ ap (λ (n : ℕ). Put m n) (decimal_injective v w h.1 i.1 parts.1)
 one_call (Get k) (Put m w) h i e = absurd (omega (arith, ap first e))
 one_call (Get k) (Del m) h i e = absurd (omega (arith, ap first e))
@@ -78,21 +78,15 @@ next_caller bytes rest more left line script ops calls is e f name room count h 
     let fits = h.within in
     let sum = calls_push script ops in
     record {
-  is = record {
-    callers = omega (arith, length-append script (ops ∷ []));
-    calls = omega arith;
-    each = good_push script ops is.each h.each;
-  };
-  lines_are =
-      e ∙ (ap (λ ls. script_lines script ++ ls) (f ∙ (ap (λ l. l ∷ lines_of more) name ∙ ap (λ ls. codes "caller" ∷ ls) h.lines_are))
-      ∙ (sym (append_assoc (script_lines script) (caller_lines ops) (lines_of left))
-      ∙ ap (λ ls. ls ++ lines_of left) (sym (lines_push script ops))));
-  calls_are = omega arith;
-  stuck = λ some below. h.stuck (omega arith);
-}
-
--- a line that follows the script s in another one, t, of which y is what comes after it: `caller` or a call, or s is t
-pub data Follows (s : List (List Op)) (l : List ℕ) (t : List (List Op)) (rest y : List (List ℕ)) : Type 0 where
-  as_caller : l ≡ codes "caller" → length s < length t → Follows s l t rest y
-  as_call : (op : Op) → IsCall op → l ≡ call_line op → calls_in s < calls_in t → Follows s l t rest y
-  as_rest : l ∷ rest ≡ y → Follows s l t rest y
+      is = record {
+        callers = omega (arith, length-append script (ops ∷ []));
+        calls = omega arith;
+        each = good_push script ops is.each h.each;
+      };
+      lines_are =
+          e ∙ (ap (λ ls. script_lines script ++ ls) (f ∙ (ap (λ l. l ∷ lines_of more) name ∙ ap (λ ls. codes "caller" ∷ ls) h.lines_are))
+          ∙ (sym (append_assoc (script_lines script) (caller_lines ops) (lines_of left))
+          ∙ ap (λ ls. ls ++ lines_of left) (sym (lines_push script ops))));
+      calls_are = omega arith;
+      stuck = λ some below. h.stuck (omega arith);
+    }

@@ -40,11 +40,7 @@ fn call_of(line: &[u8]) -> Option<Op>
 }
 
 // The calls at the front, as many as there is room for, and the bytes after them.
-fn read_calls(
-    alloc: Global,
-    bytes: &[u8],
-    room: usize,
-) -> Result<(Vec<Op>, &[u8]), AllocError>
+fn read_calls(alloc: Global, bytes: &[u8], room: usize) -> Result<(Vec<Op>, &[u8]), AllocError>
     ensures { IfOk result (λ x. CallsThen bytes.now room x.0.items x.1.now) }
 {
     let mut ops = Vec::new(alloc);
