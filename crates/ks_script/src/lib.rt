@@ -7,12 +7,14 @@
 
 mod checked;
 mod fault;
+mod front;
 mod memory;
 mod outside;
 mod pieces;
 mod printed;
 mod script;
 mod source;
+mod words;
 
 pub use checked::read_checked;
 pub use fault::{Failed, ReadFault, TextFault};
