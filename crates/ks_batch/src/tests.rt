@@ -1,5 +1,7 @@
 //! Whole runs, from words and bytes to bytes and a status.
 
+ghost use Rattle.std.specs.Prelude.{◌<◌};
+
 use crate::serve;
 use ks_script::{MemSink, MemSource};
 use std::alloc::{AllocError, Global};
