@@ -5,6 +5,7 @@
 //! the first line that does not fit. `Source` and `Sink` are the outside: they may fail, and count it.
 #![tactic(auto)]
 
+mod answers;
 mod checked;
 mod fault;
 mod front;
