@@ -25,3 +25,6 @@ pub use pieces::send;
 pub use printed::{Printed, write_run};
 pub use script::{Script, read_script};
 pub use source::read_all;
+
+#[cfg(test)]
+mod tests;
