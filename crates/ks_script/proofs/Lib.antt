@@ -6,3 +6,7 @@ pub mod Scripts
 pub mod Following
 pub mod Refusals
 pub mod Spelling
+pub mod Leading
+pub mod RunLines
+pub mod Replying
+pub mod Checking

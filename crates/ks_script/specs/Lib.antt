@@ -6,3 +6,5 @@ pub mod Reading
 pub mod Checked
 pub mod Memory
 pub mod Front
+pub mod Answers
+pub mod RunParts

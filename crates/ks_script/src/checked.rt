@@ -6,6 +6,8 @@ ghost use Rattle.ks_script.specs.Run.{Run};
 ghost use Rattle.ks_script.specs.Checked.{CheckedOf, FirstBadOfChecked};
 ghost use Rattle.ks_script.specs.Reading.{Answers, Gives};
 
+use crate::answers::{after_line, read_answers, read_pairs};
+use crate::front::read_callers;
 use crate::{Printed, Script, TextFault};
 use std::alloc::Global;
 
@@ -17,5 +19,36 @@ pub fn read_checked(alloc: Global, bytes: &[u8]) -> Result<(Script, Printed), Te
     ensures checked { (script : List (List Op)) (run : Run) → CheckedOf bytes.now script run → Gives result (Ok (script, run)) }
     ensures refused { (n : ℕ) → FirstBadOfChecked bytes.now n → Gives result (Err (TextFault.Refused n)) }
 {
-    Err(TextFault::Memory)
+    read_both(alloc, bytes)
+}
+
+fn read_both(alloc: Global, bytes: &[u8]) -> Result<(Script, Printed), TextFault>
+    ensures { Answers result (λ x. CheckedOf bytes.now x.0 x.1) (FirstBadOfChecked bytes.now) }
+{
+    let front = read_callers(alloc, bytes)?;
+    let line = front.lines + 1;
+    let Some(answers_text) = after_line(front.rest, b"run") else {
+        return Err(TextFault::Refused { line });
+    };
+    let (callers, rest, line) = match read_answers(alloc, &front.callers, answers_text, line + 1) {
+        Ok(answers) => answers,
+        Err(fault) => return Err(fault),
+    };
+    let Some(pairs_text) = after_line(rest, b"map") else {
+        return Err(TextFault::Refused { line });
+    };
+    let (pairs, rest) = read_pairs(alloc, pairs_text)?;
+    let line = line + 1 + pairs.len() as u64;
+    let Some(end) = after_line(rest, b"end") else {
+        return Err(TextFault::Refused { line });
+    };
+    if !end.is_empty() {
+        return Err(TextFault::Refused { line: line + 1 });
+    }
+    Ok((
+        Script {
+            callers: front.callers,
+        },
+        Printed { callers, pairs },
+    ))
 }

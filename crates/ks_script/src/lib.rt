@@ -5,6 +5,7 @@
 //! the first line that does not fit. `Source` and `Sink` are the outside: they may fail, and count it.
 #![tactic(auto)]
 
+mod answers;
 mod checked;
 mod fault;
 mod front;
@@ -24,3 +25,6 @@ pub use pieces::send;
 pub use printed::{Printed, write_run};
 pub use script::{Script, read_script};
 pub use source::read_all;
+
+#[cfg(test)]
+mod tests;

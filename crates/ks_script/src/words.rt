@@ -75,6 +75,7 @@ pub fn number(bytes: &[u8]) -> Option<u64>
 /// The two numbers below 2^64 whose digits the bytes are, with a space between them.
 pub fn two_numbers(bytes: &[u8]) -> Option<(u64, u64)>
     ensures some { IfSome result (λ x. bytes.now ≡ decimal x.0 ++ codes " " ++ decimal x.1) }
+    ensures fits { IfSome result (λ x. (x.0 < 2 ^ 64) × (x.1 < 2 ^ 64)) }
     ensures none { IfNone result ((m n : ℕ) → m < 2 ^ 64 → n < 2 ^ 64 → bytes.now ≡ decimal m ++ codes " " ++ decimal n → ⊥) }
 {
     let (first, second) = cut(bytes, b' ')?;

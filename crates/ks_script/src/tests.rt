@@ -1,0 +1,131 @@
+use super::*;
+use ks_history::{Op, Reply};
+use std::alloc::Global;
+use std::process::Abort;
+use std::test::*;
+
+const RUN: &[u8] = b"caller 0\n0 none\n1 50\nmap\n5 50\nend\n";
+
+// The run that RUN is the text of.
+fn small_run(alloc: Global) -> Result<Printed, Fail> {
+    let mut calls = Vec::new(alloc);
+    calls.push((0, Reply::Nothing))?;
+    calls.push((1, Reply::Value(50)))?;
+    let mut callers = Vec::new(alloc);
+    callers.push(calls)?;
+    let mut pairs = Vec::new(alloc);
+    pairs.push((5, 50))?;
+    Ok(Printed { callers, pairs })
+}
+
+fn is_refused(rt: &impl Abort, alloc: Global, text: &[u8], line: u64) {
+    let fault = read_script(alloc, text).err();
+    assert_eq!(rt; fault, Some(TextFault::Refused { line }));
+}
+
+fn is_refused_in_check(rt: &impl Abort, alloc: Global, text: &[u8], line: u64) {
+    let fault = read_checked(alloc, text).err();
+    assert_eq!(rt; fault, Some(TextFault::Refused { line }));
+}
+
+#[test]
+fn a_script_is_read_without_its_last_end(rt: HostRuntime) -> Result<(), Fail> {
+    let script = read_script(rt.alloc(), b"caller\nget 1")
+        .ok()
+        .ok_or("it is a script")?;
+    assert_eq!(rt; script.callers.len(), 1);
+    for calls in &script.callers {
+        assert_eq!(rt; calls.as_slice(), [Op::Get(1)].as_slice());
+    }
+    Ok(())
+}
+
+#[test]
+fn lines_that_are_none_are_refused(rt: HostRuntime) {
+    let alloc = rt.alloc();
+    is_refused(&rt, alloc, b"caller\nput  1 2\n", 2);
+    is_refused(&rt, alloc, b"caller\nput 1\n", 2);
+    is_refused(&rt, alloc, b"caller\nget 1 \n", 2);
+    is_refused(&rt, alloc, b"caller\n\n", 2);
+    is_refused(&rt, alloc, b"caller\nget -1\n", 2);
+    is_refused(&rt, alloc, b"caller\nget 00\n", 2);
+    is_refused(&rt, alloc, b"caller\nget 1\r\n", 2);
+    is_refused(&rt, alloc, b"caller\nput 1 18446744073709551616\n", 2);
+    is_refused(&rt, alloc, b"put 1 2\ncaller\n", 1);
+    is_refused(&rt, alloc, b"CALLER\n", 1);
+}
+
+#[test]
+fn a_script_and_its_run_are_read(rt: HostRuntime) -> Result<(), Fail> {
+    let text = b"caller\nput 5 50\nget 5\nrun\ncaller 0\n0 none\n1 50\nmap\n5 50\nend\n";
+    let (script, printed) = read_checked(rt.alloc(), text)
+        .ok()
+        .ok_or("it is a script and a run")?;
+    assert_eq!(rt; script.callers.len(), 1);
+    assert_eq!(rt; printed.callers.len(), 1);
+    assert_eq!(rt; printed.pairs.as_slice(), [(5, 50)].as_slice());
+    Ok(())
+}
+
+#[test]
+fn lines_that_are_missing_or_too_many_are_refused(rt: HostRuntime) {
+    let alloc = rt.alloc();
+    is_refused_in_check(&rt, alloc, b"caller\n", 2);
+    is_refused_in_check(
+        &rt,
+        alloc,
+        b"caller\nget 1\nrun\ncaller 0\n0 none\nmap\n",
+        7,
+    );
+    is_refused_in_check(
+        &rt,
+        alloc,
+        b"caller\nget 1\nrun\ncaller 0\n0 none\nmap\nend\nx\n",
+        8,
+    );
+    is_refused_in_check(&rt, alloc, b"run\nmap\n2 1\n2 1\nend\n", 4);
+}
+
+#[test]
+fn a_source_is_read_up_to_the_limit(rt: HostRuntime) -> Result<(), Fail> {
+    let alloc = rt.alloc();
+    let mut source = MemSource::new(b"abc".to_vec(alloc)?, 1, Vec::new(alloc));
+    let bytes = read_all(alloc, &mut source, 3)
+        .ok()
+        .ok_or("it has 3 bytes")?;
+    assert_eq!(rt; bytes.as_slice(), b"abc".as_slice());
+    let mut source = CleanSource::new(b"abc".to_vec(alloc)?, 1);
+    assert_eq!(rt;
+        read_all(alloc, &mut source, 2).err(),
+        Some(ReadFault::TooLong)
+    );
+    let mut source = MemSource::new(b"abc".to_vec(alloc)?, 1, [0].to_vec(alloc)?);
+    assert_eq!(rt;
+        read_all(alloc, &mut source, 3).err(),
+        Some(ReadFault::Failed)
+    );
+    Ok(())
+}
+
+#[test]
+fn a_run_is_written_byte_by_byte(rt: HostRuntime) -> Result<(), Fail> {
+    let alloc = rt.alloc();
+    let run = small_run(alloc)?;
+    let mut sink = MemSink::new(alloc, 64, 1, Vec::new(alloc))?;
+    assert!(rt; write_run(&mut sink, &run).is_ok());
+    assert_eq!(rt; sink.taken(), RUN);
+    assert_eq!(rt; sink.faults(), 0);
+    assert!(rt; write_run(&mut CleanSink, &run).is_ok());
+    Ok(())
+}
+
+#[test]
+fn a_write_that_fails_leaves_the_front(rt: HostRuntime) -> Result<(), Fail> {
+    let alloc = rt.alloc();
+    let run = small_run(alloc)?;
+    let mut sink = MemSink::new(alloc, 64, 5, [2].to_vec(alloc)?)?;
+    assert!(rt; write_run(&mut sink, &run).is_err());
+    assert_eq!(rt; sink.taken(), b"caller 0\n0".as_slice());
+    assert_eq!(rt; sink.faults(), 1);
+    Ok(())
+}
