@@ -1,0 +1,46 @@
+-- How much a body holds, and how much it may hold. A kind with no capacity is never full and never low.
+use Rattle.std.specs.Prelude.{ℕ, ◌+◌, ◌*◌, ◌≤◌, Bool, false, true, cond, ◌&&◌, nat_le, nat_eq, length, Option, Some, None}
+use Rattle.std.specs.Option.{ForSome}
+use Rattle.ks_keysets.specs.declared.Kind.{Kind}
+use Rattle.ks_keysets.specs.declared.Kind.TheVariants.{NoBranch, Inner, Directory}
+use Rattle.ks_node.specs.Body.{Body, is_branch}
+
+-- the edges of a branch, the pairs of another node
+abbrev pub load : Body → ℕ
+load b = cond (is_branch b) (length b.starts) (length b.pairs)
+
+abbrev pub is_full_at : Option ℕ → ℕ → Bool
+is_full_at None n = false
+is_full_at (Some c) n = nat_eq n c
+
+abbrev pub is_low_at : Option ℕ → ℕ → Bool
+is_low_at None n = false
+is_low_at (Some c) n = nat_le (2 * n) c
+
+abbrev pub is_room_for : Option ℕ → ℕ → Bool
+is_room_for None n = false
+is_room_for (Some c) n = nat_le n c
+
+-- the load is at the capacity, at most half of it, or not above it
+abbrev pub is_full : (Kind → Option ℕ) → Body → Bool
+is_full capacity b = is_full_at (capacity b.kind) (load b)
+
+abbrev pub is_low : (Kind → Option ℕ) → Body → Bool
+is_low capacity b = is_low_at (capacity b.kind) (load b)
+
+abbrev pub IsHeld : (Kind → Option ℕ) → Body → Type 0
+IsHeld capacity b = ForSome (capacity b.kind) (λ c. load b ≤ c)
+
+-- two kinds that fit: one kind, and no directory
+abbrev pub fit_kinds : Kind → Kind → Bool
+fit_kinds NoBranch NoBranch = true
+fit_kinds NoBranch Inner = false
+fit_kinds NoBranch Directory = false
+fit_kinds Inner Inner = true
+fit_kinds Inner NoBranch = false
+fit_kinds Inner Directory = false
+fit_kinds Directory k = false
+
+-- two bodies fit: they are of one kind, and hold together at most the capacity
+abbrev pub fit_together : (Kind → Option ℕ) → Body → Body → Bool
+fit_together capacity b right = fit_kinds b.kind right.kind && is_room_for (capacity b.kind) (load b + load right)
