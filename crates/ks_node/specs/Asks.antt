@@ -4,10 +4,11 @@ use Rattle.std.specs.Option.{ForSome}
 use Rattle.ks_keysets.specs.declared.Span.{Span}
 use Rattle.ks_keysets.specs.declared.Kind.{Kind}
 use Rattle.ks_keysets.specs.declared.Kind.TheVariants.{NoBranch, Inner}
+use Rattle.ks_keysets.specs.Layout.{Layout}
 use Rattle.ks_keysets.specs.Record.{Carries, top}
 use Rattle.ks_node.specs.declared.start.Start.{Start}
-use Rattle.ks_node.specs.Body.{Body, Content, content_of, is_branch, is_branch_kind, begins, first_of, last_of}
-use Rattle.ks_node.specs.Room.{load, is_full_at}
+use Rattle.ks_node.specs.Body.{Body, Content, content_of, is_branch, begins, first_of, last_of}
+use Rattle.ks_node.specs.Room.{is_full}
 use Rattle.ks_node.specs.Edges.{edges_from}
 
 -- the place is above the low and not above the range
@@ -58,5 +59,5 @@ pub record Absorbs (b right : Body) : Type 0 where
   pub ends : last_of b.range ≤ last_of right.range
 
 -- a branch that is not full adopts each cut in its range at which no edge starts
-abbrev pub AdoptsInside : (Content → ℕ → Bool) → (Kind → Option ℕ) → Body → Type 0
-AdoptsInside can capacity b = (cut : ℕ) → IsTrue (is_branch b) → is_full_at (capacity b.kind) (load b) ≡ false → IsCut b cut → begins cut b.starts ≡ false → IsTrue (can (content_of b) cut)
+abbrev pub AdoptsInside : (Content → ℕ → Bool) → Layout → Body → Type 0
+AdoptsInside can layout b = (cut : ℕ) → IsTrue (is_branch b) → is_full layout b ≡ false → IsCut b cut → begins cut b.starts ≡ false → IsTrue (can (content_of b) cut)

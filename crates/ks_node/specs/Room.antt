@@ -3,7 +3,22 @@ use Rattle.std.specs.Prelude.{ℕ, ◌+◌, ◌*◌, ◌≤◌, Bool, false, tru
 use Rattle.std.specs.Option.{ForSome}
 use Rattle.ks_keysets.specs.declared.Kind.{Kind}
 use Rattle.ks_keysets.specs.declared.Kind.TheVariants.{NoBranch, Inner, Directory}
+use Rattle.ks_keysets.specs.Layout.{Layout, list_layout, bplus_layout, hash_layout, room}
 use Rattle.ks_node.specs.Body.{Body, is_branch}
+
+-- the pairs or edges that a node of a kind may have, where there is a bound
+abbrev pub capacity : Layout → Kind → Option ℕ
+capacity layout NoBranch = Some (room layout)
+capacity list_layout Inner = None
+capacity bplus_layout Inner = Some (room bplus_layout)
+capacity hash_layout Inner = None
+capacity layout Directory = None
+
+-- whether full nodes of the layout can become branches
+abbrev pub may_grow : Layout → Bool
+may_grow list_layout = false
+may_grow bplus_layout = true
+may_grow hash_layout = true
 
 -- the edges of a branch, the pairs of another node
 abbrev pub load : Body → ℕ
@@ -22,14 +37,14 @@ is_room_for None n = false
 is_room_for (Some c) n = nat_le n c
 
 -- the load is at the capacity, at most half of it, or not above it
-abbrev pub is_full : (Kind → Option ℕ) → Body → Bool
-is_full capacity b = is_full_at (capacity b.kind) (load b)
+abbrev pub is_full : Layout → Body → Bool
+is_full layout b = is_full_at (capacity layout b.kind) (load b)
 
-abbrev pub is_low : (Kind → Option ℕ) → Body → Bool
-is_low capacity b = is_low_at (capacity b.kind) (load b)
+abbrev pub is_low : Layout → Body → Bool
+is_low layout b = is_low_at (capacity layout b.kind) (load b)
 
-abbrev pub IsHeld : (Kind → Option ℕ) → Body → Type 0
-IsHeld capacity b = ForSome (capacity b.kind) (λ c. load b ≤ c)
+abbrev pub IsHeld : Layout → Body → Type 0
+IsHeld layout b = ForSome (capacity layout b.kind) (λ c. load b ≤ c)
 
 -- two kinds that fit: one kind, and no directory
 abbrev pub fit_kinds : Kind → Kind → Bool
@@ -42,5 +57,5 @@ fit_kinds Inner Directory = false
 fit_kinds Directory k = false
 
 -- two bodies fit: they are of one kind, and hold together at most the capacity
-abbrev pub fit_together : (Kind → Option ℕ) → Body → Body → Bool
-fit_together capacity b right = fit_kinds b.kind right.kind && is_room_for (capacity b.kind) (load b + load right)
+abbrev pub fit_together : Layout → Body → Body → Bool
+fit_together layout b right = fit_kinds b.kind right.kind && is_room_for (capacity layout b.kind) (load b + load right)

@@ -8,10 +8,10 @@ ghost use Rattle.std.specs.Prelude.{◌≡◌, ℕ, ◌<◌, Bool, Option, IsTru
 ghost use Rattle.std.specs.Option.{ForSome};
 ghost use Rattle.ks_keysets.specs.declared.Span.{Span};
 ghost use Rattle.ks_keysets.specs.declared.Kind.{Kind};
-ghost use Rattle.ks_keysets.specs.declared.Kind.TheVariants.{NoBranch};
+ghost use Rattle.ks_keysets.specs.Layout.{Layout, room};
 ghost use Rattle.ks_node.specs.Body.{Body, Content, content_of, is_branch_kind, is_branch, all_places, blank_body, next_at, value_at, only_child_of, chained_of, right_child};
 ghost use Rattle.ks_node.specs.Edges.{edges_of};
-ghost use Rattle.ks_node.specs.Room.{is_full, is_low, IsHeld, fit_together};
+ghost use Rattle.ks_node.specs.Room.{is_full, is_low, IsHeld, fit_together, may_grow};
 ghost use Rattle.ks_node.specs.Effect.{pairs_put, pairs_del, with_pairs, adopted, split_left};
 ghost use Rattle.ks_node.specs.Asks.{IsCut, IsBelowOwn, Suits, IsNoneOr, IsGoodCut, IsSpanOf};
 ghost use Rattle.ks_node.specs.Sound.{Sound, Framed};
@@ -43,8 +43,8 @@ pub trait Node: Send + Drop {
     /// Whether a full node that is not the root becomes a branch in place of being split.
     ghost in_place: { Bool };
 
-    /// The pairs or edges that a node of a kind may have, where there is a bound.
-    ghost capacity: { Kind → Option ℕ };
+    /// The line of the table of layouts that says how much its nodes hold.
+    ghost layout: { Layout };
 
     /// The kind of branch that a full node becomes.
     ghost branch_kind: { Kind };
@@ -80,7 +80,7 @@ pub trait Node: Send + Drop {
     fn put(&mut self, place: u64, value: u128) -> Option<u128>
         requires no_branch { is_branch (body self.old) ≡ false }
         requires below_own { IsBelowOwn (body self.old) place }
-        requires room { value_at (body self.old).pairs place ≡ None → is_full capacity (body self.old) ≡ false }
+        requires room { value_at (body self.old).pairs place ≡ None → is_full layout (body self.old) ≡ false }
         ensures body { body self.new ≡ with_pairs (body self.old) (pairs_put place value (body self.old).pairs) }
         ensures answer { result ≡ value_at (body self.old).pairs place };
 
@@ -92,11 +92,11 @@ pub trait Node: Send + Drop {
 
     /// Whether pairs or children are at capacity.
     fn is_full(&self) -> bool
-        ensures { result ≡ is_full capacity (body self.now) };
+        ensures { result ≡ is_full layout (body self.now) };
 
     /// Whether they are at most half of it.
     fn is_low(&self) -> bool
-        ensures { result ≡ is_low capacity (body self.now) };
+        ensures { result ≡ is_low layout (body self.now) };
 
     /// Whether the node has edges that cover all its places.
     fn is_branch(&self) -> bool
@@ -144,7 +144,7 @@ pub trait Node: Send + Drop {
     /// Where a full node is cut: what lies from the cut on goes right. The span is what the node may hold places of, if
     /// that is known.
     fn cut(&self, span: Option<Span>) -> u64
-        requires { IsTrue (is_full capacity (body self.now)) }
+        requires { IsTrue (is_full layout (body self.now)) }
         ensures is { result ≡ cut_at (content_of (body self.now)) (cond cuts_by_range (body self.now).range span) }
         ensures good { (whole : Span) → Suits (body self.now) whole → IsNoneOr span whole → IsGoodCut (body self.now) whole result }
         ensures grows { (whole : Span) → Suits (body self.now) whole → IsNoneOr span whole → IsTrue (grows_at (content_of (body self.now))) → (in_place ≡ false → span ≡ Some all_places) → IsTrue (can_grow_at (content_of (body self.now)) result) }
@@ -167,17 +167,19 @@ pub trait Node: Send + Drop {
 
     /// Whether two nodes are of one kind that can be joined, and hold together no more than the capacity.
     fn fits(&self, right: &Self) -> bool
-        ensures { result ≡ fit_together capacity (body self.now) (body right.now) };
+        ensures { result ≡ fit_together layout (body self.now) (body right.now) };
 
     ghost sound: { (s : Self) → Sound (content_of (body s)) };
 
     ghost framed: { (s : Self) → ForSome (body s).range (λ r. Framed r (body s)) };
 
-    ghost held: { (s : Self) → IsHeld capacity (body s) };
+    ghost held: { (s : Self) → IsHeld layout (body s) };
 
     ghost has_range: { (s : Self) → is_some (body s).range ≡ ranged };
 
-    ghost room_is: { capacity NoBranch ≡ Some ROOM };
+    ghost room_is: { room layout ≡ ROOM };
+
+    ghost grows_as: { (c : Content) → IsTrue (grows_at c) → IsTrue (may_grow layout) };
 
     ghost becomes_branch: { IsTrue (is_branch_kind branch_kind) };
 }

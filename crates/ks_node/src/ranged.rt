@@ -31,7 +31,7 @@ pub trait Linked: Ranged {
 
     /// Moves what lies from the cut on into a blank node of the same level, which takes over the link, and links to it.
     fn split_link(&mut self, right: &mut Self, right_id: u32, cut: u64)
-        requires full { IsTrue (is_full Self.capacity (Self.body self.old)) }
+        requires full { IsTrue (is_full Self.layout (Self.body self.old)) }
         requires blank { IsBlank (Self.body right.old) }
         requires cut { CanSplitAt (Self.body self.old) cut }
         ensures left { Self.body self.new ≡ with_link (Some right_id) (split_left cut (Self.body self.old)) }
@@ -47,7 +47,7 @@ pub trait Linked: Ranged {
         right_id: u32,
         cut: u64,
     )
-        requires full { IsTrue (is_full Self.capacity (Self.body self.old)) }
+        requires full { IsTrue (is_full Self.layout (Self.body self.old)) }
         requires grows { IsTrue (Self.grows_at (content_of (Self.body self.old))) }
         requires left_blank { IsBlank (Self.body left.old) }
         requires right_blank { IsBlank (Self.body right.old) }

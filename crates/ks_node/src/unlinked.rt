@@ -13,7 +13,7 @@ use crate::node::Node;
 pub trait Unlinked: Node {
     /// Moves what lies from the cut on into a blank node.
     fn split_to(&mut self, right: &mut Self, cut: u64)
-        requires full { IsTrue (is_full Self.capacity (Self.body self.old)) }
+        requires full { IsTrue (is_full Self.layout (Self.body self.old)) }
         requires blank { IsBlank (Self.body right.old) }
         requires cut { CanSplitAt (Self.body self.old) cut }
         ensures left { Self.body self.new ≡ split_left cut (Self.body self.old) }
@@ -26,7 +26,7 @@ pub trait Unlinked: Node {
 
     /// Moves what it has into two blank nodes, left and right of the cut, and becomes a branch over them.
     fn grow(&mut self, left: &mut Self, right: &mut Self, left_id: u32, right_id: u32, cut: u64)
-        requires full { IsTrue (is_full Self.capacity (Self.body self.old)) }
+        requires full { IsTrue (is_full Self.layout (Self.body self.old)) }
         requires grows { IsTrue (Self.grows_at (content_of (Self.body self.old))) }
         requires left_blank { IsBlank (Self.body left.old) }
         requires right_blank { IsBlank (Self.body right.old) }
@@ -38,7 +38,7 @@ pub trait Unlinked: Node {
 
     /// Takes in all that the node right of it has, which becomes blank.
     fn absorb(&mut self, right: &mut Self)
-        requires fits { IsTrue (fit_together Self.capacity (Self.body self.old) (Self.body right.old)) }
+        requires fits { IsTrue (fit_together Self.layout (Self.body self.old) (Self.body right.old)) }
         requires meets { Absorbs (Self.body self.old) (Self.body right.old) }
         ensures left { Self.body self.new ≡ absorbed (Self.body self.old) (Self.body right.old) }
         ensures right { Self.body right.new ≡ emptied (Self.body right.old) };
@@ -64,7 +64,7 @@ pub trait Unlinked: Node {
 
     /// Where it does not grow in place: either each full node can adopt its cut, or each node grows, branches alone
     /// have edges, and a branch that is not full adopts each cut in its range at which no edge starts.
-    ghost sort: { Self.in_place ≡ false → ((s : Self) (span : Span) (o : Option Span) → IsTrue (is_full Self.capacity (Self.body s)) → Suits (Self.body s) span → IsNoneOr o span → IsTrue (Self.can_adopt_at (content_of (Self.body s)) (Self.cut_at (content_of (Self.body s)) o))) ⊎ ((s : Self) → IsTrue (Self.grows_at (content_of (Self.body s))) × (is_branch (Self.body s) ≡ false → length (Self.body s).starts ≡ 0) × AdoptsInside Self.can_adopt_at Self.capacity (Self.body s)) };
+    ghost sort: { Self.in_place ≡ false → ((s : Self) (span : Span) (o : Option Span) → IsTrue (is_full Self.layout (Self.body s)) → Suits (Self.body s) span → IsNoneOr o span → IsTrue (Self.can_adopt_at (content_of (Self.body s)) (Self.cut_at (content_of (Self.body s)) o))) ⊎ ((s : Self) → IsTrue (Self.grows_at (content_of (Self.body s))) × (is_branch (Self.body s) ≡ false → length (Self.body s).starts ≡ 0) × AdoptsInside Self.can_adopt_at Self.layout (Self.body s)) };
 }
 
 /// A node that grows where it is a branch or has no edge.
