@@ -11,3 +11,4 @@ pub mod Keep
 pub mod Within
 pub mod Spans
 pub mod Wrapped
+pub mod Ways
