@@ -3,3 +3,9 @@ pub mod Map
 pub mod Trace
 pub mod Lawful
 pub mod Served
+pub mod Passes
+pub mod Due
+pub mod Done
+pub mod Stays
+pub mod Hand
+pub mod Begins
