@@ -195,7 +195,5 @@ module _ (g k : ℕ → NodeState) (f h : ℕ → Frame) (node id cut : ℕ) (ra
   pub attach_link : KeepsLink g f k h
   attach_link = record {
     link = frame_link h x.frames;
-    live = live_on;
-    low = λ n live. ap (λ (z : Frame). z.low) (x.frames n);
-    level = λ n live ne. ap (λ (z : Frame). z.level) (x.frames n);
+    lasts = record { live = live_on; low = λ n live. ap (λ (z : Frame). z.low) (x.frames n); level = λ n live ne. ap (λ (z : Frame). z.level) (x.frames n) };
   }

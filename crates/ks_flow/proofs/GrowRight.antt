@@ -352,9 +352,7 @@ module _ (g k : ℕ → NodeState) (f h : ℕ → Frame) (left right cut : ℕ) 
   pub grow_link : KeepsLink g f k h
   grow_link = record {
     link = record { range = range_some; root = x.range_after; highest = λ n live ne. omega (arith, level_after n live ne, x.level); apart = apart_after; cover = cover_after; edges = edges_after; inside = inside_after; beyond = beyond_after };
-    live = live_on;
-    low = low_on;
-    level = λ n live ne. ap (λ (z : Frame). z.level) (frame_on n live ne);
+    lasts = record { live = live_on; low = low_on; level = λ n live ne. ap (λ (z : Frame). z.level) (frame_on n live ne) };
   }
 
   off : GrowsOff g k 0 left right cut r v s t

@@ -274,9 +274,7 @@ module _ (g k : ℕ → NodeState) (f h : ℕ → Frame) (node right cut : ℕ) 
   pub split_link : KeepsLink g f k h
   split_link = record {
     link = record { range = range_some; root = ap (λ (z : Frame). z.range) root_frame ∙ link.root; highest = highest_after; apart = apart_after; cover = cover_after; edges = edges_after; inside = inside_after; beyond = beyond_after };
-    live = live_on;
-    low = low_on;
-    level = λ n live ne. level_on n live;
+    lasts = record { live = live_on; low = low_on; level = λ n live ne. level_on n live };
   }
 
   off : SplitsOff g k node right cut r s t

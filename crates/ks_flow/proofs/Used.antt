@@ -53,7 +53,7 @@ edges_used g f n r good tree is i d lt = go (get_or r.edges i d).node refl (good
             at_k : (get_or r.edges k d).node ≡ x.node
             at_k = ap (λ (z : Edge). z.node) (get_or_default r.edges k d x lt' ∙ is')
 
-reaches_along : (g k : ℕ → NodeState) (p n : ℕ) → ((n : ℕ) (r : Record) → record_at g n ≡ Some r → (s : Record) × (record_at k n ≡ Some s) × (s.edges ≡ r.edges)) → Reaches g p n → Reaches k p n
+pub reaches_along : (g k : ℕ → NodeState) (p n : ℕ) → ((n : ℕ) (r : Record) → record_at g n ≡ Some r → (s : Record) × (record_at k n ≡ Some s) × (s.edges ≡ r.edges)) → Reaches g p n → Reaches k p n
 reaches_along g k p n on (at_root live) = let y = on 0 live.0 live.1 in at_root (y.0, y.1)
 reaches_along g k p n on (along {n = m} r reach is to live) =
     let y = on m r is in
@@ -84,7 +84,7 @@ tree_along g k f same tree = record {
 
 -- the opening graph
 
-opening_one : (n : ℕ) (r : Record) → record_at opening n ≡ Some r → (n ≡ 0) × (r ≡ empty_record)
+pub opening_one : (n : ℕ) (r : Record) → record_at opening n ≡ Some r → (n ≡ 0) × (r ≡ empty_record)
 opening_one zero r is = (refl, let e : empty_record ≡ r = cc in sym e)
 opening_one (suc n) r is = absurd (cc)
 

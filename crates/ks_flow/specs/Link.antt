@@ -51,13 +51,16 @@ pub record Link (g : ℕ → NodeState) (frames : ℕ → Frame) : Type 0 where
 abbrev pub IsPartOf : Record → Edge → Type 0
 IsPartOf r e = Any (λ d. (d.node ≡ e.node) × (d.span.low ≡ e.span.low) × (e.span.last ≤ d.span.last)) r.edges
 
--- what a shape keeps under links: the facts, and the lows and levels of live nodes
-pub record KeepsLink (g : ℕ → NodeState) (f : ℕ → Frame) (k : ℕ → NodeState) (h : ℕ → Frame) : Type 0 where
-  pub link : Link k h
-  -- no node is made free
+-- what lasts under links: no node is made free, and live nodes keep their lows and, but the root, their levels
+pub record LastsUnderLink (g : ℕ → NodeState) (f : ℕ → Frame) (k : ℕ → NodeState) (h : ℕ → Frame) : Type 0 where
   pub live : (n : ℕ) → IsLive g n → IsLive k n
   pub low : (n : ℕ) → IsLive g n → (h n).low ≡ (f n).low
   pub level : (n : ℕ) → IsLive g n → (n ≡ 0 → ⊥) → (h n).level ≡ (f n).level
+
+-- what a shape keeps under links: the facts, and what lasts
+pub record KeepsLink (g : ℕ → NodeState) (f : ℕ → Frame) (k : ℕ → NodeState) (h : ℕ → Frame) : Type 0 where
+  pub link : Link k h
+  pub lasts : LastsUnderLink g f k h
 
 -- node, not the root (r before, s after), gives its places from the cut on to the new node right (t), and links to it
 pub record SplitsRight (g k : ℕ → NodeState) (f h : ℕ → Frame) (node right cut : ℕ) (range : Span) (r s t : Record) : Type 0 where
