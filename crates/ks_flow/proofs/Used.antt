@@ -2,14 +2,15 @@
 use Rattle.ks_keysets.specs.declared.Record.{Record}
 use Rattle.ks_keysets.specs.declared.Frame.{Frame}
 use Rattle.std.proofs.Common.{ℕ, zero, suc, ◌≡◌, ◌<◌, ◌≤◌, ◌⊎◌, inl, inr, true, List, [], ◌∷◌, length, get_or, Option, Some, None, refl, sym, ◌∙◌, ap, subst, arith}
-use Rattle.std.specs.Prelude.{All}
+use Rattle.std.specs.Prelude.{All, AllPairs}
 use Rattle.ks_keysets.specs.declared.Edge.{Edge}
 use Rattle.ks_keysets.specs.declared.NodeState.{NodeState}
 use Rattle.ks_keysets.specs.declared.Span.{Span}
-use Rattle.ks_keysets.specs.Record.{top, empty_record, Carries, LeadsTo}
+use Rattle.ks_keysets.specs.Record.{top, IsPlace, empty_record, Carries, LeadsTo}
 use Rattle.ks_keysets.specs.Keyset.{opening, record_at, IsLive, Reaches, at_root, along, InInset, Good}
 use Rattle.ks_flow.specs.Tree.{edges_to, edges_between, edges_in, OneEdge, Tree, IsInset, SameEdges, Steps, none_yet, one_more}
-use Rattle.ks_flow.proofs.Walks.{same_record}
+use Rattle.ks_flow.specs.Walk.{Ends, stops}
+use Rattle.ks_flow.proofs.Walks.{same_record, walked_good}
 use Rattle.ks_flow.proofs.Paths.{edges_to_some}
 use Rattle.std.proofs.Common.{◌==◌, eq-eqb}
 use Rattle.std.specs.Prelude.{Any}
@@ -107,6 +108,16 @@ opening_tree f low range = record {
       let y = range s (ap (λ (m : ℕ). (f m).range) (sym e) ∙ is) in
       subst (λ (m : ℕ). IsInset opening m s.low s.last) (sym e) (opening_inset s.low s.last y.0 y.1);
 }
+
+pub opening_good : Good opening
+opening_good = walked_good opening (record {
+  root = (empty_record, refl);
+  apart = λ n r is. subst (λ (z : Record). AllPairs (λ e f. (p : ℕ) → Carries e p → Carries f p → ⊥) z.edges) (sym (opening_one n r is).1) (λ i j d lt lt'. absurd (omega arith));
+  leads = λ n r is. subst (λ (z : Record). All (λ e. IsLive opening e.node) z.edges) (sym (opening_one n r is).1) (λ i d lt. absurd (omega arith));
+  ends = λ p place. (0, stops empty_record refl (λ y. absurd (omega (arith, y.2))));
+  stored = λ n r is. subst (λ (z : Record). All (λ x. IsPlace x.place × Ends opening x.place n 0) z.pairs) (sym (opening_one n r is).1) (λ i d lt. absurd (omega arith));
+  once = λ n r is. subst (λ (z : Record). AllPairs (λ x y. x.place ≡ y.place → ⊥) z.pairs) (sym (opening_one n r is).1) (λ i j d lt lt'. absurd (omega arith));
+})
 
 -- a walk along edges from the root, whatever the places, meets no node twice
 
