@@ -89,6 +89,7 @@ pub fn tree_facts_law()
     ensures opening { (f : ℕ → Frame) → (f 0).low ≡ 0 → ((s : Span) → (f 0).range ≡ Some s → (s.low ≡ 0) × (s.last ≡ top)) → Tree opening f }
     ensures edges { (g k : ℕ → NodeState) (f : ℕ → Frame) → SameEdges g k → Tree g f → Tree k f }
     ensures used { (g : ℕ → NodeState) (f : ℕ → Frame) (n : ℕ) (r : Record) → Good g → Tree g f → record_at g n ≡ Some r → All (λ e. (p : ℕ) × InInset g n p × Carries e p) r.edges }
+    ensures apart { (g : ℕ → NodeState) (f : ℕ → Frame) (n m : ℕ) (r : Record) → Good g → Tree g f → record_at g n ≡ Some r → 0 < edges_to r.edges m → n ≡ m → ⊥ }
     ensures child { (g : ℕ → NodeState) (e x p : ℕ) (s : Record) → OneEdge g → record_at g e ≡ Some s → 0 < edges_to s.edges x → Reaches g p x → Reaches g p e × LeadsTo s p x }
     ensures fresh { (g : ℕ → NodeState) (n m : ℕ) → Good g → record_at g m ≡ None → edges_between g n m ≡ 0 }
     ensures once { (g : ℕ → NodeState) (n m a b : ℕ) → OneEdge g → Steps g n a → Steps g m b → a ≡ b → n ≡ m }
