@@ -9,7 +9,8 @@ use Rattle.ks_keysets.specs.Record.{LeadsTo}
 use Rattle.ks_keysets.specs.Keyset.{record_at, IsLive, along, InInset, InKeyset, Good}
 use Rattle.ks_flow.specs.Walk.{Path, arrives, passes}
 use Rattle.ks_flow.specs.Ways.{names, Outcome, Inside, AreAlike, ends_at}
-use Rattle.ks_flow.specs.Tree.{edges_between, edges_into, Tree, IsInset, EntryRegion, EdgesKept, RegionSpans}
+use Rattle.ks_flow.specs.Tree.{edges_between, Tree, IsInset}
+use Rattle.ks_flow.proofs.Entry.{edges_into, EntryRegion, EdgesKept, RegionSpans}
 use Rattle.ks_flow.specs.Shapes.{IsTidy, AbsorbsOwn, Collapses, KeepsTree}
 use Rattle.ks_flow.proofs.Edges.{named_here, named_there, named_either, out_either, out_of, leads_kept, sole_parent}
 use Rattle.ks_flow.proofs.Entries.{entry_back, entry_forth}

@@ -9,7 +9,8 @@ use Rattle.ks_keysets.specs.Record.{LeadsTo}
 use Rattle.ks_keysets.specs.Keyset.{record_at, IsLive, along, InInset, InKeyset, Good}
 use Rattle.ks_flow.specs.Walk.{Path, arrives, passes}
 use Rattle.ks_flow.specs.Ways.{names, Outcome, Inside, stays, AreAlike, ends_at}
-use Rattle.ks_flow.specs.Tree.{edges_to, edges_between, edges_into, OneEdge, Tree, IsInset, EntryRegion, EdgesKept, RegionSpans}
+use Rattle.ks_flow.specs.Tree.{edges_to, edges_between, OneEdge, Tree, IsInset}
+use Rattle.ks_flow.proofs.Entry.{edges_into, EntryRegion, EdgesKept, RegionSpans}
 use Rattle.ks_flow.specs.Shapes.{IsTidy, AbsorbsUnder, KeepsTree}
 use Rattle.ks_flow.proofs.Paths.{leads_some}
 use Rattle.ks_flow.proofs.Edges.{named_here, named_there, out_either, out_of, one_after, leads_kept, sole_parent}

@@ -32,9 +32,9 @@ changes_frames f xs = record { same = λ n out. (unnamed xs n Free (f n) out).1 
 
 pub changes_become : (g : ℕ → NodeState) (f : ℕ → Frame) (xs : List Change) → NamedOnce xs → All (HasBecome f (graph_with xs g) (frames_with xs f)) xs
 changes_become g f [] once k d lt = absurd (omega arith)
-changes_become g f (x ∷ xs) once zero d lt = let t : (x.node == x.node) ≡ true = eq-eqb x.node x.node refl in record { state = rw t refl; frame = rw t refl }
+changes_become g f (x ∷ xs) once zero d lt = let t : (x.node == x.node) ≡ true = eq-eqb x.node x.node refl in record { has = rw t refl; frame = rw t refl }
 changes_become g f (x ∷ xs) once (suc k) d lt =
     let y = changes_become g f xs (λ i j d lt lt'. once (suc i) (suc j) d (omega arith) (omega arith)) k d (omega arith) in
     let ne = once 0 (suc k) d (omega arith) lt in
     let t : ((get_or xs k d).node == x.node) ≡ false = ne_eqb (get_or xs k d).node x.node (λ e. ne (sym e)) in
-    record { state = rw t y.state; frame = rw t y.frame }
+    record { has = rw t y.has; frame = rw t y.frame }

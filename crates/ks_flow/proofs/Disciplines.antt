@@ -1,5 +1,5 @@
 -- The two disciplines meet their laws.
-use Rattle.std.proofs.Common.{ℕ, ◌≡◌, ◌⊎◌, inl, inr, List, Some, refl, sym, ◌∙◌, ap, subst, arith}
+use Rattle.std.proofs.Common.{ℕ, ◌≡◌, ◌⊎◌, inl, inr, List, Some, refl, sym, ◌∙◌, ap, subst, arith, false}
 use Rattle.std.specs.Prelude.{All, Any}
 use Rattle.ks_keysets.specs.declared.Edge.{Edge}
 use Rattle.ks_keysets.specs.declared.Span.{Span}
@@ -7,13 +7,13 @@ use Rattle.ks_keysets.specs.declared.Frame.{Frame}
 use Rattle.ks_keysets.specs.declared.Record.{Record}
 use Rattle.ks_keysets.specs.declared.NodeState.{NodeState}
 use Rattle.ks_keysets.specs.declared.Change.{Change}
-use Rattle.ks_keysets.specs.Record.{top, empty_record, Carries}
-use Rattle.ks_keysets.specs.Keyset.{opening, IsLive, Good, SameFound}
+use Rattle.ks_keysets.specs.Record.{top, empty_record, Carries, LeadsOn}
+use Rattle.ks_keysets.specs.Keyset.{opening, IsLive, Good, SameFound, InInset, InOutset, InKeyset, record_at}
 use Rattle.ks_flow.specs.Changes.{nodes_of, graph_with}
-use Rattle.ks_flow.specs.Ways.{KeepsWays}
+use Rattle.ks_flow.specs.Ways.{KeepsWays, names}
 use Rattle.ks_flow.specs.Tree.{Tree, SameEdges}
 use Rattle.ks_flow.specs.Link.{Link, IsRange, IsLinkEdge, IsChildEdge, LastsUnderLink}
-use Rattle.ks_flow.specs.Discipline.{IsDiscipline, BeginsTree, TreeStep, LastsUnderTree, SameInset, BeginsLink, AttachStep, LinkStep, BesideUnderLink}
+use Rattle.ks_flow.specs.Discipline.{IsDiscipline, BeginsTree, TreeStep, LastsUnderTree, SameInset, BeginsLink, AttachStep, LinkStep, SameKeyset}
 use Rattle.ks_flow.proofs.Changed.{changes_differ}
 use Rattle.ks_flow.proofs.Insets.{insets_stay}
 use Rattle.ks_flow.proofs.Regions.{good_after, found_after}
@@ -26,6 +26,30 @@ same_inset g k n same = record {
   back = λ p i. (i.0, reaches_along k g p n same.back i.1);
 }
 
+-- one place of the keyset of a node that has the same inset and the same edges
+keyset_one : (g k : ℕ → NodeState) (n p : ℕ) → (InInset g n p → InInset k n p) → ((r : Record) → record_at k n ≡ Some r → LeadsOn r p → InOutset g n p) → InKeyset g n p → InKeyset k n p
+keyset_one g k n p inset outset i = (inset i.0, λ o. i.1 (outset o.0 o.1 o.2))
+
+same_keyset : (g k : ℕ → NodeState) (n : ℕ) → SameEdges g k → SameKeyset n g k
+same_keyset g k n same = record {
+  forth = λ p. keyset_one g k n p ((same_inset g k n same).forth p) (λ r is on. let y = same.back n r is in (y.0, y.1, subst (λ (es : List Edge). Any (λ e. Carries e p) es) (sym y.2) on));
+  back = λ p. keyset_one k g n p ((same_inset g k n same).back p) (λ r is on. let y = same.forth n r is in (y.0, y.1, subst (λ (es : List Edge). Any (λ e. Carries e p) es) (sym y.2) on));
+}
+
+inset_beside : (g : ℕ → NodeState) (xs : List Change) (n : ℕ) → Good g → KeepsWays g (nodes_of xs) (graph_with xs g) → names (nodes_of xs) n ≡ false → SameInset n g (graph_with xs g)
+inset_beside g xs n good ways out =
+    let y = insets_stay g (nodes_of xs) (graph_with xs g) (changes_differ g xs) ways good n in
+    record { forth = λ p. (y p out).1; back = λ p. (y p out).0 }
+
+keyset_beside : (g : ℕ → NodeState) (xs : List Change) (n : ℕ) → Good g → KeepsWays g (nodes_of xs) (graph_with xs g) → names (nodes_of xs) n ≡ false → SameKeyset n g (graph_with xs g)
+keyset_beside g xs n good ways out =
+    let y = inset_beside g xs n good ways out in
+    let same : record_at (graph_with xs g) n ≡ record_at g n = (changes_differ g xs).same n out in
+    record {
+      forth = λ p. keyset_one g (graph_with xs g) n p (y.forth p) (λ r is on. (r, sym same ∙ is, on));
+      back = λ p. keyset_one (graph_with xs g) g n p (y.back p) (λ r is on. (r, same ∙ is, on));
+    }
+
 pub tree_discipline : IsDiscipline BeginsTree Tree TreeStep LastsUnderTree SameInset
 tree_discipline = record {
   opens = λ blank begins. opening_tree (λ n. blank) begins.low begins.range;
@@ -36,7 +60,9 @@ tree_discipline = record {
   lasts_after = λ g f xs step. tt;
   lasts_along = λ g k f same. tt;
   lasts_on = λ g k l f h j a b. tt;
-  beside_after = λ g f xs n good step out. let y = insets_stay g (nodes_of xs) (graph_with xs g) (changes_differ g xs) step.ways good n in record { forth = λ p. (y p out).1; back = λ p. (y p out).0 };
+  keyset_after = λ g f xs n good step out. keyset_beside g xs n good step.ways out;
+  keyset_along = same_keyset;
+  beside_after = λ g f xs n good step out. inset_beside g xs n good step.ways out;
   beside_along = λ g k n same. same_inset g k n same;
   beside_on = λ g k l n a b. record { forth = λ p i. b.forth p (a.forth p i); back = λ p i. a.back p (b.back p i) };
 }
@@ -102,7 +128,11 @@ link_found : (g : ℕ → NodeState) (xs : List Change) → Good g → KeepsWays
 link_found g xs good (inl ways) = found_after g (nodes_of xs) (graph_with xs g) (changes_differ g xs) ways good
 link_found g xs good (inr y) = attach_found g y.node (graph_with xs g) y.before y.after y.is good
 
-pub link_discipline : IsDiscipline BeginsLink Link LinkStep LastsUnderLink BesideUnderLink
+link_keyset : (g : ℕ → NodeState) (xs : List Change) (n : ℕ) → Good g → KeepsWays g (nodes_of xs) (graph_with xs g) ⊎ AttachStep g xs → names (nodes_of xs) n ≡ false → SameKeyset n g (graph_with xs g)
+link_keyset g xs n good (inl ways) out = keyset_beside g xs n good ways out
+link_keyset g xs n good (inr y) out = record { forth = λ p. (y.is.keysets n p).0; back = λ p. (y.is.keysets n p).1 }
+
+pub link_discipline : IsDiscipline BeginsLink Link LinkStep LastsUnderLink SameKeyset
 link_discipline = record {
   opens = opening_link;
   good = λ g f xs good step. link_good g xs good step.ways;
@@ -112,7 +142,9 @@ link_discipline = record {
   lasts_after = λ g f xs step. step.keeps.lasts;
   lasts_along = lasts_same;
   lasts_on = lasts_then;
-  beside_after = λ g f xs n good step out. tt;
-  beside_along = λ g k n same. tt;
-  beside_on = λ g k l n a b. tt;
+  keyset_after = λ g f xs n good step out. link_keyset g xs n good step.ways out;
+  keyset_along = same_keyset;
+  beside_after = λ g f xs n good step out. link_keyset g xs n good step.ways out;
+  beside_along = same_keyset;
+  beside_on = λ g k l n a b. record { forth = λ p i. b.forth p (a.forth p i); back = λ p i. a.back p (b.back p i) };
 }

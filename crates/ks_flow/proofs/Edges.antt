@@ -9,7 +9,8 @@ use Rattle.ks_keysets.specs.declared.NodeState.{NodeState}
 use Rattle.ks_keysets.specs.Record.{LeadsTo}
 use Rattle.ks_keysets.specs.Keyset.{record_at, IsLive, Reaches, at_root, along, Good}
 use Rattle.ks_flow.specs.Ways.{names, DiffersIn}
-use Rattle.ks_flow.specs.Tree.{edges_to, edges_in, edges_between, edges_into, OneEdge, AreDistinct, EdgesKept}
+use Rattle.ks_flow.specs.Tree.{edges_to, edges_in, edges_between, OneEdge}
+use Rattle.ks_flow.proofs.Entry.{edges_into, AreDistinct, EdgesKept}
 use Rattle.ks_flow.proofs.Paths.{edge_between, leads_between}
 
 pub same_or_apart : (a b : ℕ) → (a ≡ b) ⊎ (a ≡ b → ⊥)

@@ -9,7 +9,8 @@ use Rattle.ks_keysets.specs.Record.{LeadsTo}
 use Rattle.ks_keysets.specs.Keyset.{record_at, IsLive, along, InInset, Good}
 use Rattle.ks_flow.specs.Walk.{arrives}
 use Rattle.ks_flow.specs.Ways.{names, Outcome, Inside, stays, ends, AreAlike, ends_at}
-use Rattle.ks_flow.specs.Tree.{edges_to, edges_between, edges_into, OneEdge, Tree, IsInset, EntryRegion, EdgesKept, RegionSpans}
+use Rattle.ks_flow.specs.Tree.{edges_to, edges_between, OneEdge, Tree, IsInset}
+use Rattle.ks_flow.proofs.Entry.{edges_into, EntryRegion, EdgesKept, RegionSpans}
 use Rattle.ks_flow.specs.Shapes.{IsTidy, GrowsOff, Grows, KeepsTree}
 use Rattle.ks_flow.proofs.Walks.{edge_one, target_live}
 use Rattle.ks_flow.proofs.Paths.{leads_some}

@@ -8,7 +8,8 @@ use Rattle.ks_keysets.specs.declared.Span.{Span}
 use Rattle.ks_keysets.specs.Record.{LeadsTo}
 use Rattle.ks_keysets.specs.Keyset.{record_at, IsLive, InInset, InKeyset, Good}
 use Rattle.ks_flow.specs.Ways.{names, DiffersIn, Inside, ends_at, ends}
-use Rattle.ks_flow.specs.Tree.{edges_to, edges_in, edges_between, Tree, IsInset, EntryRegion, EdgesKept, FramesKept, RegionSpans, ActsAs}
+use Rattle.ks_flow.specs.Tree.{edges_to, edges_in, edges_between, Tree, IsInset, FramesKept, ActsAs}
+use Rattle.ks_flow.proofs.Entry.{EntryRegion, EdgesKept, RegionSpans}
 use Rattle.ks_flow.specs.Shapes.{range_to, range_from, range_over, KeepsTree}
 use Rattle.ks_flow.proofs.Walks.{same_record}
 use Rattle.ks_flow.proofs.Edges.{named_either, one_after}

@@ -1,15 +1,17 @@
 -- Every edge of a tree is used, and changes of pairs alone keep the facts of trees.
+use Rattle.ks_flow.proofs.Acts.{no_way_back}
 use Rattle.ks_keysets.specs.declared.Record.{Record}
 use Rattle.ks_keysets.specs.declared.Frame.{Frame}
 use Rattle.std.proofs.Common.{ℕ, zero, suc, ◌≡◌, ◌<◌, ◌≤◌, ◌⊎◌, inl, inr, true, List, [], ◌∷◌, length, get_or, Option, Some, None, refl, sym, ◌∙◌, ap, subst, arith}
-use Rattle.std.specs.Prelude.{All}
+use Rattle.std.specs.Prelude.{All, AllPairs}
 use Rattle.ks_keysets.specs.declared.Edge.{Edge}
 use Rattle.ks_keysets.specs.declared.NodeState.{NodeState}
 use Rattle.ks_keysets.specs.declared.Span.{Span}
-use Rattle.ks_keysets.specs.Record.{top, empty_record, Carries, LeadsTo}
+use Rattle.ks_keysets.specs.Record.{top, IsPlace, empty_record, Carries, LeadsTo}
 use Rattle.ks_keysets.specs.Keyset.{opening, record_at, IsLive, Reaches, at_root, along, InInset, Good}
 use Rattle.ks_flow.specs.Tree.{edges_to, edges_between, edges_in, OneEdge, Tree, IsInset, SameEdges, Steps, none_yet, one_more}
-use Rattle.ks_flow.proofs.Walks.{same_record}
+use Rattle.ks_flow.specs.Walk.{Ends, stops, Path, arrives}
+use Rattle.ks_flow.proofs.Walks.{same_record, walked_good}
 use Rattle.ks_flow.proofs.Paths.{edges_to_some}
 use Rattle.std.proofs.Common.{◌==◌, eq-eqb}
 use Rattle.std.specs.Prelude.{Any}
@@ -52,6 +54,14 @@ edges_used g f n r good tree is i d lt = go (get_or r.edges i d).node refl (good
           where
             at_k : (get_or r.edges k d).node ≡ x.node
             at_k = ap (λ (z : Edge). z.node) (get_or_default r.edges k d x lt' ∙ is')
+
+-- no edge of a tree leads to its own node
+pub no_loop : (g : ℕ → NodeState) (f : ℕ → Frame) (n m : ℕ) (r : Record) → Good g → Tree g f → record_at g n ≡ Some r → 0 < edges_to r.edges m → n ≡ m → ⊥
+no_loop g f n m r good tree is lt e =
+    let y = tree.spans m (subst (λ (x : ℕ). IsLive g x) e (r, is)) in
+    let low = y.1.back (f m).low (omega arith) y.1.filled in
+    let up = sole_parent g n m (f m).low r tree.edges is lt low.1 in
+    no_way_back g (f m).low n m r good (low.0, up.0) is up.1 (subst (λ (x : ℕ). Path g (f m).low n x) e arrives)
 
 pub reaches_along : (g k : ℕ → NodeState) (p n : ℕ) → ((n : ℕ) (r : Record) → record_at g n ≡ Some r → (s : Record) × (record_at k n ≡ Some s) × (s.edges ≡ r.edges)) → Reaches g p n → Reaches k p n
 reaches_along g k p n on (at_root live) = let y = on 0 live.0 live.1 in at_root (y.0, y.1)
@@ -107,6 +117,16 @@ opening_tree f low range = record {
       let y = range s (ap (λ (m : ℕ). (f m).range) (sym e) ∙ is) in
       subst (λ (m : ℕ). IsInset opening m s.low s.last) (sym e) (opening_inset s.low s.last y.0 y.1);
 }
+
+pub opening_good : Good opening
+opening_good = walked_good opening (record {
+  root = (empty_record, refl);
+  apart = λ n r is. subst (λ (z : Record). AllPairs (λ e f. (p : ℕ) → Carries e p → Carries f p → ⊥) z.edges) (sym (opening_one n r is).1) (λ i j d lt lt'. absurd (omega arith));
+  leads = λ n r is. subst (λ (z : Record). All (λ e. IsLive opening e.node) z.edges) (sym (opening_one n r is).1) (λ i d lt. absurd (omega arith));
+  ends = λ p place. (0, stops empty_record refl (λ y. absurd (omega (arith, y.2))));
+  stored = λ n r is. subst (λ (z : Record). All (λ x. IsPlace x.place × Ends opening x.place n 0) z.pairs) (sym (opening_one n r is).1) (λ i d lt. absurd (omega arith));
+  once = λ n r is. subst (λ (z : Record). AllPairs (λ x y. x.place ≡ y.place → ⊥) z.pairs) (sym (opening_one n r is).1) (λ i j d lt lt'. absurd (omega arith));
+})
 
 -- a walk along edges from the root, whatever the places, meets no node twice
 

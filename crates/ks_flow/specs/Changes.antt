@@ -3,6 +3,7 @@ use Rattle.std.specs.Prelude.{ℕ, ◌≡◌, List, [], ◌∷◌, AllPairs}
 use Rattle.ks_keysets.specs.declared.Frame.{Frame}
 use Rattle.ks_keysets.specs.declared.NodeState.{NodeState}
 use Rattle.ks_keysets.specs.declared.Change.{Change}
+use Rattle.ks_keysets.specs.Keyset.{live_record, record_at}
 use Rattle.ks_keysets.specs.Change.{new_state, new_frame, shaped, reframed}
 
 -- the nodes that the changes name: their region
@@ -22,7 +23,7 @@ frames_with xs f i = reframed xs i (f i)
 abbrev pub NamedOnce : List Change → Type 0
 NamedOnce = AllPairs (λ x y. x.node ≡ y.node → ⊥)
 
--- the node of the change has become what the change says
+-- the node of the change has the record, if any, and the frame that the change gives it
 pub record HasBecome (f : ℕ → Frame) (k : ℕ → NodeState) (h : ℕ → Frame) (x : Change) : Type 0 where
-  pub state : k x.node ≡ new_state x.state
+  pub has : record_at k x.node ≡ live_record (new_state x.state)
   pub frame : h x.node ≡ new_frame x.state (f x.node)

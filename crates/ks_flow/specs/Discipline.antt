@@ -7,11 +7,21 @@ use Rattle.ks_keysets.specs.declared.Record.{Record}
 use Rattle.ks_keysets.specs.declared.Span.{Span}
 use Rattle.ks_keysets.specs.declared.Change.{Change}
 use Rattle.ks_keysets.specs.Record.{top}
-use Rattle.ks_keysets.specs.Keyset.{opening, InInset, Good, SameFound}
+use Rattle.ks_keysets.specs.Keyset.{opening, InInset, Good, SameFound, InKeyset}
 use Rattle.ks_flow.specs.Changes.{nodes_of, graph_with, frames_with}
 use Rattle.ks_flow.specs.Ways.{names, KeepsWays}
 use Rattle.ks_flow.specs.Tree.{Tree, SameEdges}
 use Rattle.ks_flow.specs.Link.{KeepsLink, IsAttach}
+
+-- the inset of the node is the same in both graphs
+pub record SameInset (n : ℕ) (g k : ℕ → NodeState) : Type 0 where
+  pub forth : (p : ℕ) → InInset g n p → InInset k n p
+  pub back : (p : ℕ) → InInset k n p → InInset g n p
+
+-- and its keyset
+pub record SameKeyset (n : ℕ) (g k : ℕ → NodeState) : Type 0 where
+  pub forth : (p : ℕ) → InKeyset g n p → InKeyset k n p
+  pub back : (p : ℕ) → InKeyset k n p → InKeyset g n p
 
 -- the laws of a discipline. `begins` is what it asks of the frame of a blank body, `facts` what holds of graph and
 -- frames between events, `step` what a Shape must meet; `lasts` says what stays whatever happens, and `beside` what
@@ -29,7 +39,10 @@ pub record IsDiscipline (begins : Frame → Type 0) (facts : (ℕ → NodeState)
   pub lasts_after : (g : ℕ → NodeState) (f : ℕ → Frame) (xs : List Change) → step g f xs → lasts g f (graph_with xs g) (frames_with xs f)
   pub lasts_along : (g k : ℕ → NodeState) (f : ℕ → Frame) → SameEdges g k → lasts g f k f
   pub lasts_on : (g k l : ℕ → NodeState) (f h j : ℕ → Frame) → lasts g f k h → lasts k h l j → lasts g f l j
-  -- what stays at a node beside the region
+  -- the keyset of a node stays, if the Shape does not name it
+  pub keyset_after : (g : ℕ → NodeState) (f : ℕ → Frame) (xs : List Change) (n : ℕ) → Good g → step g f xs → names (nodes_of xs) n ≡ false → SameKeyset n g (graph_with xs g)
+  pub keyset_along : (g k : ℕ → NodeState) (n : ℕ) → SameEdges g k → SameKeyset n g k
+  -- and so does what stays at a node beside the region
   pub beside_after : (g : ℕ → NodeState) (f : ℕ → Frame) (xs : List Change) (n : ℕ) → Good g → step g f xs → names (nodes_of xs) n ≡ false → beside n g (graph_with xs g)
   pub beside_along : (g k : ℕ → NodeState) (n : ℕ) → SameEdges g k → beside n g k
   pub beside_on : (g k l : ℕ → NodeState) (n : ℕ) → beside n g k → beside n k l → beside n g l
@@ -47,11 +60,6 @@ pub record TreeStep (g : ℕ → NodeState) (f : ℕ → Frame) (xs : List Chang
 -- what lasts under trees beside the facts: nothing
 abbrev pub LastsUnderTree : (ℕ → NodeState) → (ℕ → Frame) → (ℕ → NodeState) → (ℕ → Frame) → Type 0
 LastsUnderTree g f k h = Unit {0}
-
--- the inset of the node is the same in both graphs
-pub record SameInset (n : ℕ) (g k : ℕ → NodeState) : Type 0 where
-  pub forth : (p : ℕ) → InInset g n p → InInset k n p
-  pub back : (p : ℕ) → InInset k n p → InInset g n p
 
 -- the frame of a blank body under links: its range is all places, on level 0
 pub record BeginsLink (blank : Frame) : Type 0 where
@@ -71,7 +79,3 @@ pub record AttachStep (g : ℕ → NodeState) (xs : List Change) : Type 0 where
 pub record LinkStep (g : ℕ → NodeState) (f : ℕ → Frame) (xs : List Change) : Type 0 where
   pub ways : KeepsWays g (nodes_of xs) (graph_with xs g) ⊎ AttachStep g xs
   pub keeps : KeepsLink g f (graph_with xs g) (frames_with xs f)
-
--- what stays under links at a node beside the region, beside its record: nothing
-abbrev pub BesideUnderLink : ℕ → (ℕ → NodeState) → (ℕ → NodeState) → Type 0
-BesideUnderLink n g k = Unit {0}

@@ -6,7 +6,7 @@ ghost use Rattle.ks_keysets.specs.declared.NodeState.{NodeState};
 ghost use Rattle.ks_keysets.specs.declared.Change.{Change};
 ghost use Rattle.ks_flow.specs.Tree.{Tree as TreeFacts};
 ghost use Rattle.ks_flow.specs.Link.{Link as LinkFacts, LastsUnderLink};
-ghost use Rattle.ks_flow.specs.Discipline.{IsDiscipline, BeginsTree, TreeStep, LastsUnderTree, SameInset, BeginsLink, LinkStep, BesideUnderLink};
+ghost use Rattle.ks_flow.specs.Discipline.{IsDiscipline, BeginsTree, TreeStep, LastsUnderTree, SameInset, SameKeyset, BeginsLink, LinkStep};
 
 /// What a Shape may do to a graph of nodes: facts that hold from the opening on, and a condition on each Shape that
 /// keeps them, and with them a graph good and what is found in it.
@@ -61,7 +61,7 @@ impl Discipline for Link {
 
     ghost lasts = { LastsUnderLink };
 
-    ghost beside = { BesideUnderLink };
+    ghost beside = { SameKeyset };
 
     fn laws() {}
 }

@@ -9,6 +9,9 @@ ghost use Rattle.ks_keysets.specs.Keyset.{opening, Reaches, record_at, Good, InI
 ghost use Rattle.ks_keysets.specs.declared.Span.{Span};
 ghost use Rattle.ks_flow.specs.Link.{Link, IsRange, LeadLive, PairsStand, IsAttach, KeepsLink, SplitsRight, GrowsRight, Attaches};
 ghost use Rattle.ks_keysets.specs.Record.{IsPlace, top, Holds, Carries, LeadsTo};
+ghost use Rattle.ks_keysets.specs.declared.Change.{Change};
+ghost use Rattle.ks_flow.specs.Changes.{nodes_of, graph_with, frames_with, NamedOnce, HasBecome};
+ghost use Rattle.ks_flow.specs.Tree.{FramesKept};
 ghost use Rattle.ks_flow.specs.Walk.{Ends, IsWalked};
 ghost use Rattle.ks_flow.specs.Ways.{names, KeepsWays, DiffersIn};
 ghost use Rattle.ks_flow.specs.Tree.{Tree, OneEdge, SameEdges, Steps, edges_to, edges_between};
@@ -20,6 +23,14 @@ ghost use Rattle.ks_flow.specs.Shapes.{KeepsTree, SplitsOwn, SplitsUnder, Grows,
 pub fn walks_law()
     ensures keyset { (g : ℕ → NodeState) → IsWalked g → (p n : ℕ) → IsPlace p → InKeyset g n p ↔ Ends g p n 0 }
     ensures good { (g : ℕ → NodeState) → Good g ↔ IsWalked g }
+    ensures opening { Good opening }
+{}
+
+/// A list of changes leaves what it does not name; a node that is named once becomes what its change says.
+pub fn changes_law()
+    ensures differs { (g : ℕ → NodeState) (xs : List Change) → DiffersIn g (nodes_of xs) (graph_with xs g) }
+    ensures frames { (f : ℕ → Frame) (xs : List Change) → FramesKept f (nodes_of xs) (frames_with xs f) }
+    ensures named { (g : ℕ → NodeState) (f : ℕ → Frame) (xs : List Change) → NamedOnce xs → All (HasBecome f (graph_with xs g) (frames_with xs f)) xs }
 {}
 
 /// A change of a region that keeps ways keeps a graph good, and what is found in it.
@@ -78,6 +89,7 @@ pub fn tree_facts_law()
     ensures opening { (f : ℕ → Frame) → (f 0).low ≡ 0 → ((s : Span) → (f 0).range ≡ Some s → (s.low ≡ 0) × (s.last ≡ top)) → Tree opening f }
     ensures edges { (g k : ℕ → NodeState) (f : ℕ → Frame) → SameEdges g k → Tree g f → Tree k f }
     ensures used { (g : ℕ → NodeState) (f : ℕ → Frame) (n : ℕ) (r : Record) → Good g → Tree g f → record_at g n ≡ Some r → All (λ e. (p : ℕ) × InInset g n p × Carries e p) r.edges }
+    ensures apart { (g : ℕ → NodeState) (f : ℕ → Frame) (n m : ℕ) (r : Record) → Good g → Tree g f → record_at g n ≡ Some r → 0 < edges_to r.edges m → n ≡ m → ⊥ }
     ensures child { (g : ℕ → NodeState) (e x p : ℕ) (s : Record) → OneEdge g → record_at g e ≡ Some s → 0 < edges_to s.edges x → Reaches g p x → Reaches g p e × LeadsTo s p x }
     ensures fresh { (g : ℕ → NodeState) (n m : ℕ) → Good g → record_at g m ≡ None → edges_between g n m ≡ 0 }
     ensures once { (g : ℕ → NodeState) (n m a b : ℕ) → OneEdge g → Steps g n a → Steps g m b → a ≡ b → n ≡ m }
