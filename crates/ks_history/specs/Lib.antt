@@ -6,3 +6,6 @@ pub mod Served
 pub mod Passes
 pub mod Due
 pub mod Done
+pub mod Stays
+pub mod Hand
+pub mod Begins

@@ -153,7 +153,7 @@ sound_absorb b r kind s t lows low high starts_low starts_high l =
     record {
       starts_ascend = either (Ascends (λ s. s.low)) (is_branch_kind b.kind) _ _
           (λ e. asc_join (λ x. x.low) r.low b.starts (first_from r.low r.starts) s.starts_ascend (asc_first r.low r.starts (starts_high (over e)) t.starts_ascend) (starts_low e)
-          (all_first (λ s. r.low ≤ s.low) r.low r.starts (λ s q. omega arith) (All-weaker (λ s. r.low < s.low) (λ s. r.low ≤ s.low) (λ s q. omega arith) _ (starts_high (over e)))))
+              (all_first (λ s. r.low ≤ s.low) r.low r.starts (λ s q. omega arith) (All-weaker (λ s. r.low < s.low) (λ s. r.low ≤ s.low) (λ s q. omega arith) _ (starts_high (over e)))))
           (λ e. t.starts_ascend);
       starts_are_places = either (All (λ s. s.low ≤ top)) (is_branch_kind b.kind) _ _
           (λ e. All-append (λ s. s.low ≤ top) b.starts _ s.starts_are_places (all_first (λ s. s.low ≤ top) r.low r.starts (λ s q. omega arith) (All-drop (λ s. s.low ≤ top) 1 r.starts t.starts_are_places)))

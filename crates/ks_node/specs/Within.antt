@@ -110,12 +110,12 @@ module _ {r : Span} {b : Body} (f : Framed r b) where
         ends = g.ends;
         upto = either (All (λ s. s.low ≤ q.last)) (is_branch b) _ _
             (λ e. All-append (λ s. s.low ≤ q.last) b.starts _ (All-weaker (λ s. s.low ≤ r.last) (λ s. s.low ≤ q.last) (λ s k. omega arith) b.starts f.upto)
-            (all_first (λ s. s.low ≤ q.last) c.low c.starts (λ s k. omega arith) (All-drop (λ s. s.low ≤ q.last) 1 c.starts g.upto)))
+                (all_first (λ s. s.low ≤ q.last) c.low c.starts (λ s k. omega arith) (All-drop (λ s. s.low ≤ q.last) 1 c.starts g.upto)))
             (λ e. g.upto);
         above = either (λ ss. All (λ s. r.low < s.low) (drop 1 ss)) (is_branch b) _ _
             (λ e. let over : r.low < c.low = low_below c.low b.starts (z e) (seam e) in
-            tail_append (λ s. r.low < s.low) b.starts (first_from c.low c.starts) f.above
-            (all_first (λ s. r.low < s.low) c.low c.starts (λ s k. omega arith) high))
+                tail_append (λ s. r.low < s.low) b.starts (first_from c.low c.starts) f.above
+                (all_first (λ s. r.low < s.low) c.low c.starts (λ s k. omega arith) high))
             (λ e. high);
       }
 
