@@ -6,6 +6,7 @@ pub mod Effect
 pub mod Asks
 pub mod Sound
 pub mod Ascend
+pub mod Cuts
 pub mod Starts
 pub mod Keep
 pub mod Within
