@@ -45,7 +45,7 @@ impl<S: Source> Block<S> {
         requires { (0 < room) × (room ≤ 1024) }
         ensures { IfOk result (λ b. b ≡ contents [] room) }
     {
-        let memory = alloc.take(room)?;
+        let memory = alloc.take_memory(room)?;
         Ok(Block {
             memory,
             len: 0,

@@ -33,7 +33,7 @@ impl Model for Memory {
 /// Where blocks take their memory: `Global` in programs, others in tests.
 pub trait Source: Drop {
     /// Takes memory with `room` empty places, or fails for want of memory.
-    fn take(&self, room: usize) -> Result<Memory, AllocError>
+    fn take_memory(&self, room: usize) -> Result<Memory, AllocError>
         requires { room ≤ 1024 }
         ensures { IfOk result (λ m. m ≡ replicate room None) };
 
@@ -42,7 +42,7 @@ pub trait Source: Drop {
 }
 
 impl Source for Global {
-    fn take(&self, room: usize) -> Result<Memory, AllocError> {
+    fn take_memory(&self, room: usize) -> Result<Memory, AllocError> {
         let (cells, deed) = allocate(self, room)?;
         Ok(Memory {
             cells,
