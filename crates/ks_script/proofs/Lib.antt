@@ -1,0 +1,3 @@
+pub mod Passing
+pub mod Texts
+pub mod Sources
