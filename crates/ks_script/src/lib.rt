@@ -18,6 +18,7 @@ pub use checked::read_checked;
 pub use fault::{Failed, ReadFault, TextFault};
 pub use memory::{CleanSink, CleanSource, MemSink, MemSource};
 pub use outside::{Sink, Source};
+pub use pieces::send;
 pub use printed::{Printed, write_run};
 pub use script::{Script, read_script};
 pub use source::read_all;
