@@ -279,8 +279,11 @@ impl Unlinked for BNode {
 
 impl Growing for BNode {
     ghost use Rattle.std.specs.Prelude.{refl};
+    ghost use Rattle.ks_bplus.specs.Fits.{fit_few};
 
     ghost grows_where = { λ n h. refl };
+
+    ghost few_edges = { λ n. fit_few n.fit };
 }
 
 #[cfg(test)]
