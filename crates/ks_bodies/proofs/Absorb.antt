@@ -45,7 +45,7 @@ own_leads b right plain chained =
     let one : count (record { low = y.1; node = right } ∷ []) right ≡ 1 = rw t refl in
     omega (arith, body_count b plain right, ap (λ (ss : List Start). count ss right) y.2, one)
 
-module _ (g : ℕ → NodeState) (f : ℕ → Frame) (node right : ℕ) (b q : Body) (good : Good g) (tree : Tree g f) (x : CanAbsorbOwn g f node right b q)
+module _ (g : ℕ → NodeState) (f : ℕ → Frame) (node right : ℕ) (b q : Body) (good : Good g) (tree : Tree g f) (x : CanAbsorbOwn g f node right b q) (plain : IsPlain (absorbed b q))
     (other : node ≡ right → ⊥) (up : (p : ℕ) → InInset g right p → InInset g node p × LeadsTo (record_of b) p right) (made : Made g f (absorb_own node right b q)) where
   own : (is_branch b ≡ false) × (low : ℕ) × (b.starts ≡ record { low = low; node = right } ∷ [])
   own = own_of b right x.stands.plain x.chained
@@ -130,7 +130,7 @@ module _ (g : ℕ → NodeState) (f : ℕ → Frame) (node right : ℕ) (b q : B
   no_start = omega (arith, sole_start g f node right right b q tree x.stands x.other other, led_count b.starts seam right (led_from_seam seam (omega arith)))
 
   starts_upto : (m : ℕ) → edges_to (edges_of (absorbed b q)) m ≤ count q.starts m
-  starts_upto m = omega (arith, body_upto (absorbed b q) x.after m, ap (λ (ss : List Start). count ss m) after_starts)
+  starts_upto m = omega (arith, body_upto (absorbed b q) plain m, ap (λ (ss : List Start). count ss m) after_starts)
 
   pub meets_absorb_own : AbsorbsOwn g (graph_with (absorb_own node right b q) g) f (frames_with (absorb_own node right b q) f) node right (record_of b) (record_of q) (record_of (absorbed b q))
   meets_absorb_own = record {
@@ -141,12 +141,12 @@ module _ (g : ℕ → NodeState) (f : ℕ → Frame) (node right : ℕ) (b q : B
     after = after_node.has;
     gone = after_right.has;
     leads = omega (arith, body_count b x.stands.plain right, led_count b.starts seam right (led_from_seam seam (omega arith)));
-    there = λ p inset to. acts_alike (absorbed b q) q p x.after x.other.plain (after_range p inset) (in_range g f right q tree x.other p (down p inset to)) (ap (λ (ss : List Start). led ss p) after_starts) (joined_right b.pairs q.pairs p (pairs_low p (from_leads p to)));
+    there = λ p inset to. acts_alike (absorbed b q) q p plain x.other.plain (after_range p inset) (in_range g f right q tree x.other p (down p inset to)) (ap (λ (ss : List Start). led ss p) after_starts) (joined_right b.pairs q.pairs p (pairs_low p (from_leads p to)));
     else = λ p inset not. elim (low_or_high p seam) [
-      | inl lt ↦ acts_alike (absorbed b q) b p x.after x.stands.plain (after_range p inset) (range p inset) (ap (λ (ss : List Start). led ss p) after_starts ∙ none_low p lt ∙ sym (led_below_seam p lt)) (joined_left b.pairs q.pairs p (pairs_high p lt))
+      | inl lt ↦ acts_alike (absorbed b q) b p plain x.stands.plain (after_range p inset) (range p inset) (ap (λ (ss : List Start). led ss p) after_starts ∙ none_low p lt ∙ sym (led_below_seam p lt)) (joined_left b.pairs q.pairs p (pairs_high p lt))
       | inr ge ↦ absurd (not (leads_from p inset ge))
     ];
-    tidy = body_tidy (absorbed b q) x.after;
+    tidy = body_tidy (absorbed b q) plain;
     edges = λ m ne. omega (arith, starts_upto m, body_count q x.other.plain m);
     edge = omega (arith, starts_upto right, no_start);
     pairs = All-append (λ y. InKeyset g node y.place ⊎ InKeyset g right y.place) b.pairs q.pairs (λ i d lt. inl (pairs_stand g f node b good x.stands i d lt)) (λ i d lt. inr (pairs_stand g f right q good x.other i d lt));

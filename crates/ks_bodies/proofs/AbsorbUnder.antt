@@ -18,7 +18,7 @@ use Rattle.ks_node.specs.Effect.{absorbed, forgot, settled, without, ends_at, fi
 use Rattle.ks_flow.specs.Tree.{Tree, edges_to}
 use Rattle.ks_flow.specs.Changes.{graph_with, frames_with, HasBecome}
 use Rattle.ks_flow.specs.Shapes.{AbsorbsUnder, range_over}
-use Rattle.ks_bodies.specs.Stands.{live_as, free_as}
+use Rattle.ks_bodies.specs.Stands.{live_as, free_as, IsPlain}
 use Rattle.ks_bodies.specs.Shapes.{CanAbsorbUnder, absorb_under}
 use Rattle.ks_bodies.proofs.Led.{or_else, led, led_none, led_append, led_settled, led_count, all_above, above_less, Ascend, count, count_append, count_first, count_settled}
 use Rattle.ks_bodies.proofs.Records.{InRange, body_ascend, body_led, led_body, body_tidy, body_upto, body_count, acts_alike}
@@ -84,7 +84,7 @@ both_range (Some r) (Some t) e = refl
 abbrev pub SoleParent : (ℕ → NodeState) → Type 0
 SoleParent g = (e c p : ℕ) (s : Record) → record_at g e ≡ Some s → 0 < edges_to s.edges c → Reaches g p c → Reaches g p e × LeadsTo s p c
 
-module _ (g : ℕ → NodeState) (f : ℕ → Frame) (parent node right : ℕ) (u b q : Body) (good : Good g) (tree : Tree g f) (x : CanAbsorbUnder g f parent node right u b q)
+module _ (g : ℕ → NodeState) (f : ℕ → Frame) (parent node right : ℕ) (u b q : Body) (good : Good g) (tree : Tree g f) (x : CanAbsorbUnder g f parent node right u b q) (plain_parent : IsPlain (forgot right u)) (plain : IsPlain (absorbed b q))
     (sole : SoleParent g) (other_parent : (c : ℕ) → 0 < edges_to (edges_of u) c → parent ≡ c → ⊥) where
   side : Beside u.starts node right
   side = find_beside u.starts x.place node right (body_ascend u x.above.plain) (body_led u x.above.plain x.place node x.leads).0 (next (is_branch u) x.branch x.next)
@@ -167,7 +167,7 @@ module _ (g : ℕ → NodeState) (f : ℕ → Frame) (parent node right : ℕ) (
   same_branch = ap is_branch_kind (sym x.alike)
 
   after_up : Ascend (absorbed b q).starts
-  after_up = body_ascend (absorbed b q) x.after
+  after_up = body_ascend (absorbed b q) plain
 
   led_here : (p : ℕ) → p < c → led (absorbed b q).starts p ≡ led b.starts p
   led_here p lt = here_led (is_branch b) q.low b.starts q.starts p after_up x.unchained (λ e. x.other.plain.sound.own_low (same_branch ∙ e)) (omega (arith, seam_low))
@@ -206,7 +206,7 @@ module _ (g : ℕ → NodeState) (f : ℕ → Frame) (parent node right : ℕ) (
   forgot_range p r = record { low = r.low; last = r.last }
 
   leads_node : (p : ℕ) → InRange u p → led Q p ≡ Some node → LeadsTo (record_of (forgot right u)) p node
-  leads_node p r e = led_body (forgot right u) x.after_parent p node (forgot_range p r) (led_after p ∙ e)
+  leads_node p r e = led_body (forgot right u) plain_parent p node (forgot_range p r) (led_after p ∙ e)
 
   -- starts counted
 
@@ -245,7 +245,7 @@ module _ (g : ℕ → NodeState) (f : ℕ → Frame) (parent node right : ℕ) (
       gone = after_right.has;
       leads = some_node;
       leads_right = some_right;
-      leads_after = omega (arith, body_count (forgot right u) x.after_parent node, led_count (forgot right u).starts x.place node place_after);
+      leads_after = omega (arith, body_count (forgot right u) plain_parent node, led_count (forgot right u).starts x.place node place_after);
       order = λ p o to to'. omega (arith, (to_node p (led_by p node to)).1, (to_right o (led_by o right to')).0);
       beside = λ p o m to to' le le'.
           let i = (body_led u x.above.plain p node to).1 in
@@ -258,17 +258,17 @@ module _ (g : ℕ → NodeState) (f : ℕ → Frame) (parent node right : ℕ) (
       here = λ p i to.
           let y = to_node p (led_by p node to) in
           let j = down_node p i to in
-          (leads_node p (parent_range p i) y.2, acts_alike (absorbed b q) b p x.after x.stands.plain (range_node p j) (in_range g f node b tree x.stands p j) (led_here p y.1) (joined_left b.pairs q.pairs p (pairs_high p y.1)));
+          (leads_node p (parent_range p i) y.2, acts_alike (absorbed b q) b p plain x.stands.plain (range_node p j) (in_range g f node b tree x.stands p j) (led_here p y.1) (joined_left b.pairs q.pairs p (pairs_high p y.1)));
       there = λ p i to.
           let y = to_right p (led_by p right to) in
           let j = down_right p i to in
-          (leads_node p (parent_range p i) y.2, acts_alike (absorbed b q) q p x.after x.other.plain (range_right p j) (in_range g f right q tree x.other p j) (led_there p (low_le g f right q tree x.other p j)) (joined_right b.pairs q.pairs p (pairs_low p y.0)));
-      else = λ p i not_l not_r. acts_alike (forgot right u) u p x.after_parent x.above.plain (forgot_range p (parent_range p i)) (parent_range p i)
+          (leads_node p (parent_range p i) y.2, acts_alike (absorbed b q) q p plain x.other.plain (range_right p j) (in_range g f right q tree x.other p j) (led_there p (low_le g f right q tree x.other p j)) (joined_right b.pairs q.pairs p (pairs_low p y.0)));
+      else = λ p i not_l not_r. acts_alike (forgot right u) u p plain_parent x.above.plain (forgot_range p (parent_range p i)) (parent_range p i)
           (led_after p ∙ forget.elsewhere node right a c side.ahead side.rest up_P one_P p (λ e. not_l (led_body u x.above.plain p node (parent_range p i) (led_u p ∙ e))) (λ e. not_r (led_body u x.above.plain p right (parent_range p i) (led_u p ∙ e))) ∙ sym (led_u p)) refl;
-      tidy_parent = body_tidy (forgot right u) x.after_parent;
-      tidy = body_tidy (absorbed b q) x.after;
-      edges = λ m ne. omega (arith, body_upto (forgot right u) x.after_parent m, forgot_count m, forget.count_after node right a c side.ahead side.rest up_P one_P m, u_count m, body_upto (absorbed b q) x.after m, both_count (is_branch b) q.low b.starts q.starts m, body_count b x.stands.plain m, body_count q x.other.plain m);
-      edge = omega (arith, body_upto (forgot right u) x.after_parent right, forgot_count right, forget.count_gone node right a c side.ahead side.rest up_P one_P, body_upto (absorbed b q) x.after right, both_count (is_branch b) q.low b.starts q.starts right, none_right);
+      tidy_parent = body_tidy (forgot right u) plain_parent;
+      tidy = body_tidy (absorbed b q) plain;
+      edges = λ m ne. omega (arith, body_upto (forgot right u) plain_parent m, forgot_count m, forget.count_after node right a c side.ahead side.rest up_P one_P m, u_count m, body_upto (absorbed b q) plain m, both_count (is_branch b) q.low b.starts q.starts m, body_count b x.stands.plain m, body_count q x.other.plain m);
+      edge = omega (arith, body_upto (forgot right u) plain_parent right, forgot_count right, forget.count_gone node right a c side.ahead side.rest up_P one_P, body_upto (absorbed b q) plain right, both_count (is_branch b) q.low b.starts q.starts right, none_right);
       pairs_parent = pairs_stand g f parent u good x.above;
       pairs = All-append (λ y. InKeyset g node y.place ⊎ InKeyset g right y.place) b.pairs q.pairs (λ i d lt. inl (pairs_stand g f node b good x.stands i d lt)) (λ i d lt. inr (pairs_stand g f right q good x.other i d lt));
       low_parent = ap (λ (z : Frame). z.low) after_parent.frame ∙ sym (ap (λ (z : Frame). z.low) x.above.frame);

@@ -84,7 +84,7 @@ sole_led b child p plain only =
 pub child_leads : (b : Body) (child : ℕ) → IsPlain b → only_child_of b ≡ Some child → 0 < edges_to (edges_of b) child
 child_leads b child plain only = omega (arith, body_count b plain child, led_count b.starts 0 child (sole_led b child 0 plain only))
 
-module _ (g : ℕ → NodeState) (f : ℕ → Frame) (node child : ℕ) (b q : Body) (good : Good g) (tree : Tree g f) (x : CanCollapse g f node child b q)
+module _ (g : ℕ → NodeState) (f : ℕ → Frame) (node child : ℕ) (b q : Body) (good : Good g) (tree : Tree g f) (x : CanCollapse g f node child b q) (plain : IsPlain (collapsed b q))
     (other : node ≡ child → ⊥) (made : Made g f (collapse node child b q)) where
   led_child : (p : ℕ) → led b.starts p ≡ Some child
   led_child p = sole_led b child p x.stands.plain x.sole
@@ -116,10 +116,10 @@ module _ (g : ℕ → NodeState) (f : ℕ → Frame) (node child : ℕ) (b q : B
     after = after_node.has;
     gone = after_child.has;
     leads = omega (arith, body_count b x.stands.plain child, led_count b.starts 0 child (led_child 0));
-    there = λ p inset. (leads p inset, acts_alike (collapsed b q) q p x.after x.below.plain (range p inset) (in_range g f child q tree x.below p (down p inset)) refl refl);
-    tidy = body_tidy (collapsed b q) x.after;
-    edges = λ m ne. omega (arith, body_upto (collapsed b q) x.after m, body_count q x.below.plain m);
-    edge = omega (arith, body_upto (collapsed b q) x.after child, no_start);
+    there = λ p inset. (leads p inset, acts_alike (collapsed b q) q p plain x.below.plain (range p inset) (in_range g f child q tree x.below p (down p inset)) refl refl);
+    tidy = body_tidy (collapsed b q) plain;
+    edges = λ m ne. omega (arith, body_upto (collapsed b q) plain m, body_count q x.below.plain m);
+    edge = omega (arith, body_upto (collapsed b q) plain child, no_start);
     pairs = pairs_stand g f child q good x.below;
     low = ap (λ (z : Frame). z.low) after_node.frame ∙ sym (ap (λ (z : Frame). z.low) x.below.frame);
     range = ap (λ (z : Frame). z.range) after_node.frame ∙ sym (ap (λ (z : Frame). z.range) x.stands.frame);

@@ -22,7 +22,7 @@ use Rattle.ks_bodies.proofs.Parts.{value_below, value_from, led_right, count_rig
 use Rattle.ks_bodies.proofs.Standing.{Made, in_range, pairs_lower, pairs_upper, none_fresh}
 
 module _ (g : ℕ → NodeState) (f : ℕ → Frame) (kind : Kind) (node left right cut : ℕ) (b : Body) (good : Good g) (tree : Tree g f) (part : CanPart g f node right cut b)
-    (fresh_left : record_at g left ≡ None) (other : left ≡ right → ⊥) (plain : IsPlain (grown kind cut left right b)) (no_edge : (n m : ℕ) → record_at g m ≡ None → edges_between g n m ≡ 0) (made : Made g f (grow kind node left right cut b)) where
+    (fresh_left : record_at g left ≡ None) (other : left ≡ right → ⊥) (plain : IsPlain (grown kind cut left right b)) (lower : IsPlain (split_left cut b)) (upper : IsPlain (split_right cut b)) (no_edge : (n m : ℕ) → record_at g m ≡ None → edges_between g n m ≡ 0) (made : Made g f (grow kind node left right cut b)) where
   abbrev two : List Start
   two = record { low = 0; node = left } ∷ record { low = cut; node = right } ∷ []
 
@@ -71,7 +71,7 @@ module _ (g : ℕ → NodeState) (f : ℕ → Frame) (kind : Kind) (node left ri
   same_at n = let t : (n == n) ≡ true = eq-eqb n n refl in rw t refl
 
   parts_upto : (m : ℕ) → edges_to (edges_of (split_left cut b)) m + edges_to (edges_of (split_right cut b)) m ≤ count b.starts m
-  parts_upto m = omega (arith, body_upto (split_left cut b) part.lower m, body_upto (split_right cut b) part.upper m, count_right (is_branch b) cut b.starts m, count_parts cut b.starts m)
+  parts_upto m = omega (arith, body_upto (split_left cut b) lower m, body_upto (split_right cut b) upper m, count_right (is_branch b) cut b.starts m, count_parts cut b.starts m)
 
   pub meets_grow : Grows g (graph_with (grow kind node left right cut b) g) f (frames_with (grow kind node left right cut b) f) node left right cut (record_of b) (record_of (grown kind cut left right b)) (record_of (split_left cut b)) (record_of (split_right cut b))
   meets_grow = record {
@@ -86,15 +86,15 @@ module _ (g : ℕ → NodeState) (f : ℕ → Frame) (kind : Kind) (node left ri
       after_right = after_right.has;
       below_cut = λ p inset lt. (
         led_body (grown kind cut left right b) plain p left (grown_range p (range p inset)) (led_low p lt),
-        acts_alike (split_left cut b) b p part.lower part.stands.plain (lower_range p lt (range p inset)) (range p inset) (led_below cut b.starts p lt) (value_below cut b.pairs p lt),
+        acts_alike (split_left cut b) b p lower part.stands.plain (lower_range p lt (range p inset)) (range p inset) (led_below cut b.starts p lt) (value_below cut b.pairs p lt),
       );
       from_cut = λ p inset le. (
         led_body (grown kind cut left right b) plain p right (grown_range p (range p inset)) (led_high p le),
-        acts_alike (split_right cut b) b p part.upper part.stands.plain (upper_range p le (range p inset)) (range p inset) (led_right b.kind cut b.starts p (body_ascend b part.stands.plain) part.splits.1 part.splits.2 part.parts le) (value_from cut b.pairs p le),
+        acts_alike (split_right cut b) b p upper part.stands.plain (upper_range p le (range p inset)) (range p inset) (led_right b.kind cut b.starts p (body_ascend b part.stands.plain) part.splits.1 part.splits.2 part.parts le) (value_from cut b.pairs p le),
       );
       tidy = body_tidy (grown kind cut left right b) plain;
-      tidy_left = body_tidy (split_left cut b) part.lower;
-      tidy_right = body_tidy (split_right cut b) part.upper;
+      tidy_left = body_tidy (split_left cut b) lower;
+      tidy_right = body_tidy (split_right cut b) upper;
       pairs = λ i d lt. absurd (omega arith);
       pairs_left = pairs_lower g f node cut b good part.stands;
       pairs_right = pairs_upper g f node cut b good part.stands;

@@ -65,7 +65,7 @@ on_count Inner cut right ss m = inserted cut right (starts_below cut ss) m
 on_count Directory cut right ss m = omega (arith, count_settled Directory (starts_below cut (starts_below cut ss) ++ record { low = cut; node = right } ∷ starts_from cut (starts_below cut ss)) m, count_append (starts_below cut (starts_below cut ss)) (record { low = cut; node = right } ∷ starts_from cut (starts_below cut ss)) m, count_parts cut (starts_below cut ss) m)
 
 module _ (g : ℕ → NodeState) (f : ℕ → Frame) (node right cut : ℕ) (b : Body) (good : Good g) (tree : Tree g f) (part : CanPart g f node right cut b)
-    (plain : IsPlain (split_on cut right b)) (no_edge : (n : ℕ) → edges_between g n right ≡ 0) (made : Made g f (split_own node right cut b)) where
+    (plain : IsPlain (split_on cut right b)) (upper : IsPlain (split_right cut b)) (no_edge : (n : ℕ) → edges_between g n right ≡ 0) (made : Made g f (split_own node right cut b)) where
   on_range : (p : ℕ) → InRange b p → InRange (split_on cut right b) p
   on_range p r = record {
     low = subst (λ (o : Option Span). first_of o ≤ p) (sym (over_parts (cut - 1) cut b.range)) r.low;
@@ -98,17 +98,17 @@ module _ (g : ℕ → NodeState) (f : ℕ → Frame) (node right cut : ℕ) (b :
       below_cut = λ p inset lt. acts_alike (split_on cut right b) b p plain part.stands.plain (on_range p (range p inset)) (range p inset) (on_low b.kind cut right b.starts p part.splits.2 part.parts lt) (value_below cut b.pairs p lt);
       from_cut = λ p inset le. (
         led_body (split_on cut right b) plain p right (on_range p (range p inset)) (on_high b.kind cut right b.starts p part.parts le),
-        acts_alike (split_right cut b) b p part.upper part.stands.plain (right_range p le (range p inset)) (range p inset) (led_right b.kind cut b.starts p (body_ascend b part.stands.plain) part.splits.1 part.splits.2 part.parts le) (value_from cut b.pairs p le),
+        acts_alike (split_right cut b) b p upper part.stands.plain (right_range p le (range p inset)) (range p inset) (led_right b.kind cut b.starts p (body_ascend b part.stands.plain) part.splits.1 part.splits.2 part.parts le) (value_from cut b.pairs p le),
       );
       tidy = body_tidy (split_on cut right b) plain;
-      tidy_right = body_tidy (split_right cut b) part.upper;
+      tidy_right = body_tidy (split_right cut b) upper;
       pairs = pairs_lower g f node cut b good part.stands;
       pairs_right = pairs_upper g f node cut b good part.stands;
     };
     frames = made.frames;
     cut_inside = part.inside;
-    edges = λ m ne. omega (arith, body_upto (split_on cut right b) plain m, body_upto (split_right cut b) part.upper m, on_count b.kind cut right b.starts m, apart_of m ne, count_right (is_branch b) cut b.starts m, count_parts cut b.starts m, body_count b part.stands.plain m);
-    edge = omega (arith, body_upto (split_on cut right b) plain right, body_upto (split_right cut b) part.upper right, on_count b.kind cut right b.starts right, at_right, count_right (is_branch b) cut b.starts right, count_parts cut b.starts right, none_fresh g f node right b part.stands (no_edge node));
+    edges = λ m ne. omega (arith, body_upto (split_on cut right b) plain m, body_upto (split_right cut b) upper m, on_count b.kind cut right b.starts m, apart_of m ne, count_right (is_branch b) cut b.starts m, count_parts cut b.starts m, body_count b part.stands.plain m);
+    edge = omega (arith, body_upto (split_on cut right b) plain right, body_upto (split_right cut b) upper right, on_count b.kind cut right b.starts right, at_right, count_right (is_branch b) cut b.starts right, count_parts cut b.starts right, none_fresh g f node right b part.stands (no_edge node));
     low = ap (λ (z : Frame). z.low) after_node.frame ∙ sym (ap (λ (z : Frame). z.low) part.stands.frame);
     low_right = ap (λ (z : Frame). z.low) after_right.frame;
     range = ap (λ (z : Frame). z.range) after_node.frame ∙ over_parts (cut - 1) cut b.range ∙ sym (ap (λ (z : Frame). z.range) part.stands.frame);

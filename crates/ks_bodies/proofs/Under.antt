@@ -15,7 +15,7 @@ use Rattle.ks_node.specs.Effect.{settled, adopted, split_left, split_right}
 use Rattle.ks_flow.specs.Tree.{Tree, edges_to, edges_between}
 use Rattle.ks_flow.specs.Changes.{graph_with, frames_with, HasBecome}
 use Rattle.ks_flow.specs.Shapes.{SplitsUnder, range_to, range_from}
-use Rattle.ks_bodies.specs.Stands.{live_as, free_as}
+use Rattle.ks_bodies.specs.Stands.{live_as, free_as, IsPlain}
 use Rattle.ks_bodies.specs.Shapes.{CanPart, CanAdopt, split_under}
 use Rattle.ks_bodies.proofs.Led.{low_or_high, or_else, led, led_none, led_below, led_above, led_append, led_parts, led_past, led_count, led_settled, free_from, AllAbove, Ascend, ascend, count, count_parts, count_append, count_settled}
 use Rattle.ks_bodies.proofs.Records.{InRange, body_ascend, body_led, led_body, body_tidy, body_upto, body_count, acts_alike}
@@ -26,7 +26,8 @@ none_at : {X : Type 0} (o : Option X) → is_some o ≡ false → o ≡ None
 none_at None e = refl
 none_at (Some x) e = cc
 
-module _ (g : ℕ → NodeState) (f : ℕ → Frame) (parent node right cut : ℕ) (u b : Body) (good : Good g) (tree : Tree g f) (adopt : CanAdopt g f parent node right cut u) (part : CanPart g f node right cut b)
+module _ (g : ℕ → NodeState) (f : ℕ → Frame) (parent node right cut : ℕ) (u b : Body) (good : Good g) (tree : Tree g f) (adopt : CanAdopt g f parent node cut u) (part : CanPart g f node right cut b)
+    (after : IsPlain (adopted cut right u)) (lower : IsPlain (split_left cut b)) (upper : IsPlain (split_right cut b))
     (no_edge : (n : ℕ) → edges_between g n right ≡ 0) (up : (p : ℕ) → InInset g node p → InInset g parent p × LeadsTo (record_of u) p node) (made : Made g f (split_under parent node right cut u b)) where
   abbrev P : List Start
   P = u.starts
@@ -128,7 +129,7 @@ module _ (g : ℕ → NodeState) (f : ℕ → Frame) (parent node right cut : �
   at_right = let t : (right == right) ≡ true = eq-eqb right right refl in rw t refl
 
   parent_upto : (m : ℕ) → edges_to (edges_of (adopted cut right u)) m ≤ count P m + cond (right == m) 1 0
-  parent_upto m = omega (arith, body_upto (adopted cut right u) adopt.after m, ap (λ (xs : List Start). count xs m) starts_are, count_settled u.kind Q m, count_append (starts_below cut P) (record { low = cut; node = right } ∷ starts_from cut P) m, count_parts cut P m)
+  parent_upto m = omega (arith, body_upto (adopted cut right u) after m, ap (λ (xs : List Start). count xs m) starts_are, count_settled u.kind Q m, count_append (starts_below cut P) (record { low = cut; node = right } ∷ starts_from cut P) m, count_parts cut P m)
 
   pub meets_split_under : SplitsUnder g (graph_with (split_under parent node right cut u b) g) f (frames_with (split_under parent node right cut u b) f) parent node right cut (record_of u) (record_of (adopted cut right u)) (record_of b) (record_of (split_left cut b)) (record_of (split_right cut b))
   meets_split_under = record {
@@ -144,22 +145,22 @@ module _ (g : ℕ → NodeState) (f : ℕ → Frame) (parent node right cut : �
     above = omega (arith, part.splits.0.0, ap (λ (z : Frame). z.low) part.stands.frame);
     leads = omega (arith, body_count u adopt.stands.plain node, led_count P cut node led_cut);
     below_cut = λ p inset to lt. (
-      led_body (adopted cut right u) adopt.after p node (after_range p inset) (after_Q p ∙ led_low p lt ∙ (body_led u adopt.stands.plain p node to).0),
-      acts_alike (split_left cut b) b p part.lower part.stands.plain (lower_range p lt (range p (down p inset to))) (range p (down p inset to)) (led_below cut b.starts p lt) (value_below cut b.pairs p lt),
+      led_body (adopted cut right u) after p node (after_range p inset) (after_Q p ∙ led_low p lt ∙ (body_led u adopt.stands.plain p node to).0),
+      acts_alike (split_left cut b) b p lower part.stands.plain (lower_range p lt (range p (down p inset to))) (range p (down p inset to)) (led_below cut b.starts p lt) (value_below cut b.pairs p lt),
     );
     from_cut = λ p inset to le. (
-      led_body (adopted cut right u) adopt.after p right (after_range p inset) (after_Q p ∙ to_right p le (body_led u adopt.stands.plain p node to).0),
-      acts_alike (split_right cut b) b p part.upper part.stands.plain (upper_range p le (range p (down p inset to))) (range p (down p inset to)) (led_right b.kind cut b.starts p (body_ascend b part.stands.plain) part.splits.1 part.splits.2 part.parts le) (value_from cut b.pairs p le),
+      led_body (adopted cut right u) after p right (after_range p inset) (after_Q p ∙ to_right p le (body_led u adopt.stands.plain p node to).0),
+      acts_alike (split_right cut b) b p upper part.stands.plain (upper_range p le (range p (down p inset to))) (range p (down p inset to)) (led_right b.kind cut b.starts p (body_ascend b part.stands.plain) part.splits.1 part.splits.2 part.parts le) (value_from cut b.pairs p le),
     );
-    else = λ p inset not. acts_alike (adopted cut right u) u p adopt.after adopt.stands.plain (after_range p inset) (parent_range p inset) (after_Q p ∙ elim (low_or_high p cut) [
+    else = λ p inset not. acts_alike (adopted cut right u) u p after adopt.stands.plain (after_range p inset) (parent_range p inset) (after_Q p ∙ elim (low_or_high p cut) [
       | inl lt ↦ led_low p lt
       | inr le ↦ elim (later p le) [ inl y ↦ y.3 ∙ sym y.2 | inr y ↦ absurd (not (led_body u adopt.stands.plain p node (parent_range p inset) y.0)) ]
     ]) refl;
-    tidy_parent = body_tidy (adopted cut right u) adopt.after;
-    tidy = body_tidy (split_left cut b) part.lower;
-    tidy_right = body_tidy (split_right cut b) part.upper;
-    edges = λ m ne. omega (arith, parent_upto m, apart_of m ne, body_upto (split_left cut b) part.lower m, body_upto (split_right cut b) part.upper m, count_right (is_branch b) cut b.starts m, count_parts cut b.starts m, body_count b part.stands.plain m, body_count u adopt.stands.plain m);
-    edge = omega (arith, parent_upto right, at_right, body_upto (split_left cut b) part.lower right, body_upto (split_right cut b) part.upper right, count_right (is_branch b) cut b.starts right, count_parts cut b.starts right, none_fresh g f node right b part.stands (no_edge node), none_fresh g f parent right u adopt.stands (no_edge parent));
+    tidy_parent = body_tidy (adopted cut right u) after;
+    tidy = body_tidy (split_left cut b) lower;
+    tidy_right = body_tidy (split_right cut b) upper;
+    edges = λ m ne. omega (arith, parent_upto m, apart_of m ne, body_upto (split_left cut b) lower m, body_upto (split_right cut b) upper m, count_right (is_branch b) cut b.starts m, count_parts cut b.starts m, body_count b part.stands.plain m, body_count u adopt.stands.plain m);
+    edge = omega (arith, parent_upto right, at_right, body_upto (split_left cut b) lower right, body_upto (split_right cut b) upper right, count_right (is_branch b) cut b.starts right, count_parts cut b.starts right, none_fresh g f node right b part.stands (no_edge node), none_fresh g f parent right u adopt.stands (no_edge parent));
     pairs_parent = pairs_stand g f parent u good adopt.stands;
     pairs = pairs_lower g f node cut b good part.stands;
     pairs_right = pairs_upper g f node cut b good part.stands;

@@ -11,7 +11,7 @@ use Rattle.ks_node.specs.Body.{Body, is_branch, begins, chained_of, only_child_o
 use Rattle.ks_node.specs.Edges.{record_of}
 use Rattle.ks_node.specs.Effect.{split_left, split_right, reached, grown, adopted, absorbed, forgot, collapsed}
 use Rattle.ks_node.specs.Asks.{CanSplitAt}
-use Rattle.ks_bodies.specs.Stands.{IsPlain, Stands, live_as, free_as}
+use Rattle.ks_bodies.specs.Stands.{Stands, live_as, free_as}
 
 -- node, with body b, can be split at the cut, and node right is not live
 pub record CanPart (g : ℕ → NodeState) (f : ℕ → Frame) (node right cut : ℕ) (b : Body) : Type 0 where
@@ -20,17 +20,14 @@ pub record CanPart (g : ℕ → NodeState) (f : ℕ → Frame) (node right cut :
   pub inside : InInset g node cut
   pub splits : CanSplitAt b cut
   pub parts : b.kind ≡ Directory → ⊥
-  pub lower : IsPlain (split_left cut b)
-  pub upper : IsPlain (split_right cut b)
 
 -- the branch parent, with body u, leads to node and can adopt the cut
-pub record CanAdopt (g : ℕ → NodeState) (f : ℕ → Frame) (parent node right cut : ℕ) (u : Body) : Type 0 where
+pub record CanAdopt (g : ℕ → NodeState) (f : ℕ → Frame) (parent node cut : ℕ) (u : Body) : Type 0 where
   pub stands : Stands g f parent u
   pub branch : IsTrue (is_branch u)
   pub place : ℕ
   pub leads : LeadsTo (record_of u) place node
   pub free : begins cut u.starts ≡ false
-  pub after : IsPlain (adopted cut right u)
 
 -- node, with body b, is no branch and leads to right, with body q, itself; neither is a branch, and both have ranges or neither
 pub record CanAbsorbOwn (g : ℕ → NodeState) (f : ℕ → Frame) (node right : ℕ) (b q : Body) : Type 0 where
@@ -39,7 +36,6 @@ pub record CanAbsorbOwn (g : ℕ → NodeState) (f : ℕ → Frame) (node right 
   pub chained : chained_of b ≡ Some right
   pub leaf : is_branch q ≡ false
   pub ranged : is_some b.range ≡ is_some q.range
-  pub after : IsPlain (absorbed b q)
 
 -- in the branch parent, with body u, the edge to right, with body q, follows that to node, with body b; node leads to no
 -- node itself unless both are branches; both are of one kind, and have ranges or neither
@@ -54,15 +50,12 @@ pub record CanAbsorbUnder (g : ℕ → NodeState) (f : ℕ → Frame) (parent no
   pub unchained : chained_of b ≡ None
   pub alike : b.kind ≡ q.kind
   pub ranged : is_some b.range ≡ is_some q.range
-  pub after_parent : IsPlain (forgot right u)
-  pub after : IsPlain (absorbed b q)
 
 -- node, with body b, is a branch all of whose edges lead to child, with body q
 pub record CanCollapse (g : ℕ → NodeState) (f : ℕ → Frame) (node child : ℕ) (b q : Body) : Type 0 where
   pub stands : Stands g f node b
   pub below : Stands g f child q
   pub sole : only_child_of b ≡ Some child
-  pub after : IsPlain (collapsed b q)
 
 -- what is left of a node that split, reached as far as before and adopted what it split off
 abbrev pub split_on : ℕ → ℕ → Body → Body
