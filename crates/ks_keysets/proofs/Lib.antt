@@ -4,3 +4,4 @@ pub mod Strolls
 pub mod Ways
 pub mod Spans
 pub mod Opening
+pub mod Aparts

@@ -10,7 +10,7 @@ mod laws;
 mod readers;
 
 pub use laws::{found_law, keyset_law, stroll_law};
-pub use readers::{keyset_spans, next_of, walk_end};
+pub use readers::{edges_apart, keyset_spans, next_of, walk_end};
 use std::marker::Model;
 
 /// The places from `low` to `last`, both included.

@@ -11,9 +11,63 @@ ghost use Rattle.ks_keysets.specs.Keyset.{InKeyset, AreApart, live_record, recor
 ghost use Rattle.ks_keysets.specs.Walk.{EndsAt, MeetsNotLive, NeverEnds};
 ghost use Rattle.ks_keysets.specs.Listed.{graph_of};
 ghost use Rattle.ks_keysets.specs.Spans.{AreSpansOf, CarriesAlike, AllCarryAlike, with_run};
+ghost use Rattle.ks_keysets.specs.Apart.{AreTwoApart, AreEdgesApart};
 
 use crate::{Edge, Graph, NodeRecord, NodeState, Span};
 use std::alloc::{AllocError, Global};
+
+/// Whether the edges of each node are disjoint, as the readers of a graph ask.
+pub fn edges_apart(graph: &Graph) -> bool
+    ensures { IsTrue result ↔ AreApart (graph_of graph.now) }
+{
+    for node in 0..node_count(graph) {
+        if !node_apart(graph, node) {
+            return false;
+        }
+    }
+    true
+}
+
+/// Whether the edges of the node are disjoint, if it is live.
+fn node_apart(graph: &Graph, node: usize) -> bool
+    ensures { IsTrue result ↔ ((r : Record) → record_at (graph_of graph.now) node ≡ Some r → AreEdgesApart r.edges) }
+{
+    match record_of(graph, node) {
+        Some(record) => list_apart(&record.edges),
+        None => true,
+    }
+}
+
+/// Whether the edges are disjoint.
+fn list_apart(edges: &[Edge]) -> bool
+    ensures { IsTrue result ↔ AreEdgesApart edges.now }
+{
+    for (at, edge) in edges.iter().enumerate() {
+        if !apart_from_all(edge, &edges[..at]) {
+            return false;
+        }
+    }
+    true
+}
+
+/// Whether no place is carried by the edge and by one of the others.
+fn apart_from_all(edge: &Edge, others: &[Edge]) -> bool
+    ensures { IsTrue result ↔ All (AreTwoApart edge.now) others.now }
+{
+    for other in others {
+        if !two_apart(edge, other) {
+            return false;
+        }
+    }
+    true
+}
+
+/// Whether no place is carried by both edges.
+fn two_apart(edge: &Edge, other: &Edge) -> bool
+    ensures { IsTrue result ↔ AreTwoApart edge.now other.now }
+{
+    edge.span.low.max(other.span.low) > edge.span.last.min(other.span.last)
+}
 
 /// The node to which an edge of the record carries the place. None exactly where no edge holds it.
 pub fn next_of(node: &NodeRecord, place: u64) -> Option<u32>
