@@ -26,3 +26,8 @@ pub record FirstBad (IsText : List (List ℕ) → Type 0) (lines : List (List �
   pub before : Begins IsText (take (n - 1) lines)
   pub refused : ((n ≤ length lines) × (Begins IsText (take n lines) → ⊥))
       ⊎ ((n ≡ length lines + 1) × (IsText lines → ⊥))
+
+-- the byte c does not stand among the bytes
+abbrev pub Lacks : ℕ → List ℕ → Type 0
+Lacks c [] = Unit {0}
+Lacks c (b ∷ bytes) = (b ≡ c → ⊥) × Lacks c bytes

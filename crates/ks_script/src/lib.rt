@@ -13,6 +13,7 @@ mod pieces;
 mod printed;
 mod script;
 mod source;
+mod words;
 
 pub use checked::read_checked;
 pub use fault::{Failed, ReadFault, TextFault};
