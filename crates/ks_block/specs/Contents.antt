@@ -1,17 +1,14 @@
 -- What a contract sees of a `Block`.
-use Rattle.std.specs.Prelude.{ℕ, List, slice_index_or, slice_set, refl}
-use Rattle.std.specs.Coded.{Coded, code_by, coded×, coded_list, coded_ℕ}
+use Rattle.std.specs.Prelude.{ℕ, List, slice_index_or, slice_set}
 
 -- the pairs, each a place and a value, and how many there may be
 pub record Contents : Type 0 where
   pub pairs : List (ℕ × ℕ)
   pub room : ℕ
 
+-- the two together
 abbrev pub contents : List (ℕ × ℕ) → ℕ → Contents
 contents ps n = record { pairs = ps; room = n }
-
-abbrev pub contents_code : Coded Contents
-contents_code = code_by (List (ℕ × ℕ) × ℕ) (coded× (coded_list (coded× coded_ℕ coded_ℕ)) coded_ℕ) (λ c. (c.pairs, c.room)) (λ p. contents p.0 p.1) (λ _. refl)
 
 -- the same room, with other pairs
 abbrev pub with_pairs : Contents → List (ℕ × ℕ) → Contents

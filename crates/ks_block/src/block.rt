@@ -8,6 +8,8 @@ use std::alloc::{AllocError, Global};
 use std::marker::Model;
 
 /// A list of pairs of a place and a value, in memory that is taken once and has room for a fixed number of them.
+///
+/// Only `make` takes memory. A drop gives it back.
 pub struct Block<S: Source = Global> {
     memory: Memory,
     len: usize,
@@ -16,12 +18,10 @@ pub struct Block<S: Source = Global> {
 
 impl<S: Source> Model for Block<S> {
     ghost use Rattle.std.specs.Prelude.{◌≡◌, ◌<◌, ◌≤◌, length};
-    ghost use Rattle.ks_block.specs.Contents.{Contents, contents, contents_code};
+    ghost use Rattle.ks_block.specs.Contents.{Contents, contents};
     ghost use Rattle.ks_block.specs.Filled.{somes, IsFilledFirst};
 
     ghost Value = { Contents };
-
-    ghost coded = { contents_code };
 
     ghost view = { λ b. contents (somes b.memory) (length b.memory) };
 
@@ -40,12 +40,12 @@ impl<S: Source> Drop for Block<S> {
 }
 
 impl<S: Source> Block<S> {
-    /// Returns an empty block with room for `room` pairs.
+    /// Returns an empty block with room for `room` pairs, or fails for want of memory.
     pub fn make(alloc: S, room: usize) -> Result<Self, AllocError>
         requires { (0 < room) × (room ≤ 1024) }
         ensures { IfOk result (λ b. b ≡ contents [] room) }
     {
-        let memory = alloc.take(room)?;
+        let memory = alloc.take_memory(room)?;
         Ok(Block {
             memory,
             len: 0,

@@ -9,6 +9,8 @@
 mod block;
 mod cells;
 mod memory;
+#[cfg(test)]
+mod tests;
 
 pub use block::Block;
 pub use memory::{Memory, Pair, Source};

@@ -1,5 +1,5 @@
 -- What each change of a B+ node keeps.
-use Rattle.std.specs.Prelude.{◌≡◌, ℕ, suc, ◌<◌, ◌≤◌, Bool, true, false, not, ◌&&◌, nat_eq, nat_lt, nat_le, List, [], ◌∷◌, ◌++◌, length, filter, refl, IsTrue, Some, None, Option, All, take, drop, position, get_or}
+use Rattle.std.specs.Prelude.{◌≡◌, ℕ, suc, ◌-◌, ◌^◌, ◌<◌, ◌≤◌, Bool, true, false, not, ◌&&◌, nat_eq, nat_lt, nat_le, List, [], ◌∷◌, ◌++◌, length, filter, refl, IsTrue, Some, None, Option, All, take, drop, position, get_or}
 use Rattle.std.proofs.Common.{arith, sym, ◌∙◌, subst}
 use Rattle.std.proofs.lemmas.List.{length-append, nil_from_length, length-take, length-drop, get_or-drop}
 use Rattle.std.proofs.lemmas.Bool.{lt-ltb, eqb-true}
@@ -162,6 +162,9 @@ fit_forget {b = false} f id branch later = absurd (differ refl branch)
 pub fit_held : {low : ℕ} {b : Bool} {ps : List Pair} {ss : List Start} → Fit low b ps ss → IsHeld bplus_layout (bplus_body low b ps ss)
 fit_held {b = true} f c e = let same : 16 ≡ c = cc in omega (arith, f.starts_fit)
 fit_held {b = false} f c e = let same : 16 ≡ c = cc in omega (arith, f.pairs_fit)
+
+pub fit_few : {low : ℕ} {b : Bool} {ps : List Pair} {ss : List Start} → Fit low b ps ss → length ss < 2 ^ 32 - 1
+fit_few f = omega (arith, f.starts_fit)
 
 pub fit_leaf : {low : ℕ} {b : Bool} {ps : List Pair} {ss : List Start} → Fit low b ps ss → is_branch (bplus_body low b ps ss) ≡ false → length ss ≡ 0
 fit_leaf {b = true} f e = absurd (differ e refl)

@@ -6,13 +6,13 @@
 ghost use Rattle.std.proofs.Props.{props};
 ghost use Rattle.ks_bplus.specs.Bplus.{Fit};
 
-use crate::pairs::{Pairs, append_pairs, delete_pair, move_pairs, put_pair, value_of};
-use crate::starts::{
-    Starts, add_start, append_starts, begins_at, child_after, edge_of, move_starts, next_of,
-    only_of, remove_node,
-};
+use crate::pairs::{Pairs, append_pairs, delete_pair, move_pairs, put_pair};
+use crate::starts::{Starts, add_start, append_starts, move_starts, remove_node};
 use ks_keysets::{Edge, Pair, Span};
-use ks_node::{Growing, Next, Node, Start, Unlinked};
+use ks_node::{
+    Growing, Next, Node, Start, Unlinked, begins_at, child_after, edge_in, next_in, only_in,
+    value_in,
+};
 use ks_places::Plain;
 use std::alloc::{AllocError, Global};
 use std::mem;
@@ -117,11 +117,11 @@ impl Node for BNode {
     }
 
     fn next(&self, place: u64) -> Next {
-        next_of(&self.parts.starts, place)
+        next_in(self.parts.starts.as_slice(), place)
     }
 
     fn get(&self, place: u64) -> Option<u128> {
-        value_of(&self.parts.pairs, place)
+        value_in(self.parts.pairs.as_slice(), place)
     }
 
     fn put(&mut self, place: u64, value: u128) -> Option<u128> {
@@ -165,7 +165,7 @@ impl Node for BNode {
     }
 
     fn only_child(&self) -> Option<u32> {
-        only_of(self.parts.starts.as_slice())
+        only_in(self.parts.starts.as_slice())
     }
 
     fn grows_in_place() -> bool {
@@ -181,7 +181,9 @@ impl Node for BNode {
     }
 
     fn can_adopt(&self, cut: u64) -> bool {
-        self.is_inner && !begins_at(&self.parts.starts, cut) && self.parts.starts.len() < 16
+        self.is_inner
+            && !begins_at(self.parts.starts.as_slice(), cut)
+            && self.parts.starts.len() < 16
     }
 
     fn adopt(&mut self, cut: u64, id: u32) {
@@ -193,7 +195,7 @@ impl Node for BNode {
     }
 
     fn edge_at(&self, n: u32) -> Edge {
-        edge_of(self.parts.starts.as_slice(), n as usize)
+        edge_in(self.parts.starts.as_slice(), n as usize)
     }
 
     fn cut(&self, span: Option<Span>) -> u64 {
@@ -209,7 +211,7 @@ impl Node for BNode {
     }
 
     fn right_of(&self, place: u64) -> Option<u32> {
-        child_after(&self.parts.starts, place)
+        child_after(self.parts.starts.as_slice(), place)
     }
 }
 
@@ -277,6 +279,12 @@ impl Unlinked for BNode {
 
 impl Growing for BNode {
     ghost use Rattle.std.specs.Prelude.{refl};
+    ghost use Rattle.ks_bplus.specs.Fits.{fit_few};
 
     ghost grows_where = { λ n h. refl };
+
+    ghost few_edges = { λ n. fit_few n.fit };
 }
+
+#[cfg(test)]
+mod tests;

@@ -13,18 +13,6 @@ use ks_node::{rank, seek};
 /// The pairs of a leaf.
 pub(crate) type Pairs = ArrayVec<Pair, 16>;
 
-/// The value at a place.
-pub(crate) fn value_of(pairs: &Pairs, place: u64) -> Option<u128>
-    requires { Ascends (λ x. x.place) pairs.now.items }
-    ensures { result ≡ value_at pairs.now.items place }
-{
-    let items = pairs.as_slice();
-    match seek(items, place) {
-        Ok(i) => Some(items[i].value),
-        Err(_) => None,
-    }
-}
-
 /// Puts a value at a place, and gives the one before.
 pub(crate) fn put_pair(pairs: &mut Pairs, place: u64, value: u128) -> Option<u128>
     requires ascend { Ascends (λ x. x.place) pairs.old.items }

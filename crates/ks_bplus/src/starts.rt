@@ -1,7 +1,6 @@
 //! Children in ascending order of their first places, in an array of fixed room.
 
 ghost use Rattle.std.specs.Prelude.{◌≡◌, ℕ, suc, ◌+◌, ◌<◌, ◌≤◌, ◌++◌, ◌∷◌, [], None, length, Option, position, nat_eq, IfSome, slice_index_or};
-ghost use Rattle.std.specs.List.{list_all};
 ghost use Rattle.arrayvec.specs.ArrayVec.{array_vec_len};
 ghost use Rattle.ks_node.specs.Keyed.{Ascends};
 ghost use Rattle.ks_node.specs.Body.{starts_below, starts_from, led_to, go_to, begins, first_node, sole};
@@ -15,22 +14,6 @@ use ks_node::{Next, Start, rank, seek};
 
 /// The children of an inner node.
 pub(crate) type Starts = ArrayVec<Start, 16>;
-
-/// Where a place leads.
-pub(crate) fn next_of(starts: &Starts, place: u64) -> Next
-    requires { Ascends (λ s. s.low) starts.now.items }
-    ensures { result ≡ go_to (led_to starts.now.items place) }
-{
-    let items = starts.as_slice();
-    match seek(items, place) {
-        Ok(i) => Next::Go(items[i].node),
-        Err(i) => if i == 0 {
-            Next::Here
-        } else {
-            Next::Go(items[i - 1].node)
-        },
-    }
-}
 
 /// Moves the children from a cut on into an empty array, the first of them from place 0 on.
 pub(crate) fn move_starts(starts: &mut Starts, into: &mut Starts, cut: u64)
@@ -95,77 +78,5 @@ pub(crate) fn remove_node(starts: &mut Starts, node: u32)
             starts.remove(i);
         }
         None => {}
-    }
-}
-
-/// The child after the one that carries the place.
-pub(crate) fn child_after(starts: &Starts, place: u64) -> Option<u32>
-    requires { Ascends (λ s. s.low) starts.now.items }
-    ensures { result ≡ first_node (starts_from (suc place) starts.now.items) }
-{
-    let items = starts.as_slice();
-    let i = match seek(items, place) {
-        Ok(i) => i + 1,
-        Err(i) => i,
-    };
-    match items.get(i) {
-        Some(s) => Some(s.node),
-        None => None,
-    }
-}
-
-/// Whether all children are `node`.
-fn all_lead_to(items: &[Start], node: u32) -> bool
-    ensures { result ≡ list_all (λ s. nat_eq s.node node) items.now }
-{
-    items.iter().all(|s| s.node == node)
-}
-
-/// The child to which all edges lead.
-pub(crate) fn only_of(items: &[Start]) -> Option<u32>
-    ensures { result ≡ sole items.now }
-{
-    match items.split_first() {
-        None => None,
-        Some((first, rest)) => {
-            if all_lead_to(rest, first.node) {
-                Some(first.node)
-            } else {
-                None
-            }
-        }
-    }
-}
-
-/// Whether a child begins at the place.
-pub(crate) fn begins_at(starts: &Starts, place: u64) -> bool
-    requires { Ascends (λ s. s.low) starts.now.items }
-    ensures { result ≡ begins place starts.now.items }
-{
-    match seek(starts.as_slice(), place) {
-        Ok(_) => true,
-        Err(_) => false,
-    }
-}
-
-/// The edge that the start at `n` begins: to the next start, the last one to the last place.
-pub(crate) fn edge_of(items: &[Start], n: usize) -> Edge
-    requires within { n < length items.now }
-    requires few { length items.now ≤ 16 }
-    requires ascend { AreWithin 0 top items.now }
-    ensures { result ≡ slice_index_or (plain_edges 0 top items.now) n result }
-{
-    let start = items[n];
-    let last = if n + 1 == items.len() {
-        u64::MAX
-    } else {
-        items[n + 1].low - 1
-    };
-    Edge {
-        span: Span {
-            low: start.low,
-            last,
-        },
-        node: start.node,
     }
 }

@@ -1,6 +1,6 @@
 //! Nodes with no link to the right: what splits, grows and merges make of them.
 
-ghost use Rattle.std.specs.Prelude.{◌≡◌, ℕ, Bool, Option, IsTrue, IsSome, Some, None, true, false, length, nat_eq, ◌||◌, ◌⊎◌};
+ghost use Rattle.std.specs.Prelude.{◌≡◌, ℕ, ◌<◌, ◌-◌, ◌^◌, Bool, Option, IsTrue, IsSome, Some, None, true, false, length, nat_eq, ◌||◌, ◌⊎◌};
 ghost use Rattle.ks_keysets.specs.declared.Span.{Span};
 ghost use Rattle.ks_node.specs.Body.{Body, content_of, is_branch, IsBlank, only_child_of, first_node};
 ghost use Rattle.ks_node.specs.Room.{is_full, fit_together};
@@ -70,4 +70,7 @@ pub trait Unlinked: Node {
 /// A node that grows where it is a branch or has no edge.
 pub trait Growing: Unlinked {
     ghost grows_where: { (s : Self) → IsTrue (is_branch (Self.body s) || nat_eq (length (Self.body s).starts) 0) → IsTrue (Self.grows_at (content_of (Self.body s))) };
+
+    /// Its edges and one more can be counted.
+    ghost few_edges: { (s : Self) → length (Self.body s).starts < 2 ^ 32 - 1 };
 }

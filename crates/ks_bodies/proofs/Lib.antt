@@ -1,0 +1,12 @@
+pub mod Led
+pub mod Records
+pub mod Parts
+pub mod Standing
+pub mod Own
+pub mod Under
+pub mod Grow
+pub mod Collapse
+pub mod Absorb
+pub mod Forget
+pub mod AbsorbUnder
+pub mod Once

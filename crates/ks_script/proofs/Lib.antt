@@ -1,0 +1,4 @@
+pub mod Passing
+pub mod Texts
+pub mod Sources
+pub mod Cuts
