@@ -1,6 +1,5 @@
 -- What each call makes of a list node that fits still fits, and what its cut is.
-use Rattle.std.specs.Prelude.{◌≡◌, ℕ, suc, ◌+◌, ◌<◌, ◌≤◌, Bool, true, false, not, cond, nat_lt, nat_le, nat_eq, IsTrue, List, [], ◌∷◌, ◌++◌, length, All, refl, Option, None, Some, get_or}
-use Rattle.std.specs.Option.{ForSome}
+use Rattle.std.specs.Prelude.{◌≡◌, ℕ, ◌+◌, ◌<◌, ◌≤◌, true, false, not, nat_lt, nat_le, nat_eq, IsTrue, List, [], ◌∷◌, ◌++◌, length, All, refl, Option, None, Some, get_or}
 use Rattle.std.proofs.Common.{arith, ap, sym, subst, ◌∙◌}
 use Rattle.std.proofs.lemmas.Bool.{ne_eqb, le-leb, le-ltb, lt-ltb, eqb-true}
 use Rattle.std.proofs.lemmas.Bool.Decides.{leb_tells}
@@ -12,10 +11,10 @@ use Rattle.ks_keysets.specs.declared.Kind.TheVariants.{NoBranch, Inner}
 use Rattle.ks_keysets.specs.Layout.{list_layout}
 use Rattle.ks_keysets.specs.Record.{top}
 use Rattle.ks_node.specs.declared.start.Start.{Start}
-use Rattle.ks_node.specs.Body.{begins, starts_below, starts_from, pairs_below, pairs_from, content_of}
-use Rattle.ks_node.specs.Room.{IsHeld, is_full, below_bound, joint_load, fit_together}
-use Rattle.ks_node.specs.Effect.{pairs_put, pairs_del, split_left}
-use Rattle.ks_node.specs.Asks.{Suits, IsNoneOr, IsGoodCut, Absorbs}
+use Rattle.ks_node.specs.Body.{begins, starts_below, starts_from, pairs_below, pairs_from}
+use Rattle.ks_node.specs.Room.{IsHeld, is_full}
+use Rattle.ks_node.specs.Effect.{pairs_put, pairs_del}
+use Rattle.ks_node.specs.Asks.{Suits, IsGoodCut, Absorbs}
 use Rattle.ks_node.specs.Sound.{Sound}
 use Rattle.ks_node.specs.Starts.{filter_le}
 use Rattle.ks_node.specs.Keep.{sound_blank, sound_put, sound_del, sound_adopt, sound_left, sound_right, sound_absorb}

@@ -1,13 +1,13 @@
 -- The pairs of a block as pairs of a record: what each change of the one is to the other.
-use Rattle.std.specs.Prelude.{◌≡◌, ℕ, suc, ◌+◌, ◌<◌, ◌≤◌, List, [], ◌∷◌, ◌++◌, map, length, take, drop, refl, slice_index_or, get_or, Some}
+use Rattle.std.specs.Prelude.{◌≡◌, ℕ, suc, ◌<◌, List, [], ◌∷◌, length, take, drop, refl, slice_index_or, get_or, Some}
 use Rattle.std.specs.Option.{option_map}
 use Rattle.std.specs.List.{insert, remove}
-use Rattle.std.proofs.Common.{arith, ap, ◌∙◌, sym, subst, set, inl, inr}
+use Rattle.std.proofs.Common.{ap, ◌∙◌, sym, subst, inl, inr}
 use Rattle.std.proofs.lemmas.Bool.Decides.{eqb_tells}
-use Rattle.std.proofs.lemmas.List.{take-append-drop, take-map, drop-map, map-append, get_or-map, length-map, get_or_read, set_split}
+use Rattle.std.proofs.lemmas.List.{take-append-drop, take-map, drop-map, map-append, get_or-map, length-map, set_split}
 use Rattle.ks_keysets.specs.declared.Pair.{Pair}
 use Rattle.ks_node.specs.Keyed.{IsFound, IsMissing, at}
-use Rattle.ks_node.specs.Body.{value_at, pairs_below, pairs_from}
+use Rattle.ks_node.specs.Body.{value_at}
 use Rattle.ks_node.specs.Effect.{pairs_put, pairs_del}
 use Rattle.ks_block.specs.Contents.{set_value}
 use Rattle.ks_list.specs.Listed.{pair_of, pairs_of}

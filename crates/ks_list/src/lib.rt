@@ -8,3 +8,6 @@ mod node;
 mod pairs;
 
 pub use node::ListNode;
+
+#[cfg(test)]
+mod tests;

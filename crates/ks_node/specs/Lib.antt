@@ -13,3 +13,4 @@ pub mod Within
 pub mod Spans
 pub mod Wrapped
 pub mod Ways
+pub mod Puts

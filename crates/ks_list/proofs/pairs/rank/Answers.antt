@@ -1,4 +1,4 @@
-use Rattle.std.proofs.Common.{arith, subst, sym}
+use Rattle.std.proofs.Common.{arith}
 use Rattle.ks_node.specs.Cuts.{later, below_more_keys}
 use Rattle.ks_list.specs.Listed.{pair_of, pairs_of}
 use Rattle.ks_list.specs.Pairs.{pair_read, pairs_length}

@@ -1,4 +1,4 @@
-use Rattle.std.proofs.Common.{◌∙◌, arith, ap, sym}
+use Rattle.std.proofs.Common.{◌∙◌, arith, ap}
 use Rattle.ks_node.specs.Cuts.{found, missing}
 use Rattle.ks_list.specs.Listed.{pair_of, pairs_of}
 use Rattle.ks_list.specs.Pairs.{pair_read, pairs_length}
