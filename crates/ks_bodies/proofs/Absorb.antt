@@ -9,7 +9,7 @@ use Rattle.ks_keysets.specs.declared.NodeState.{NodeState}
 use Rattle.ks_keysets.specs.Record.{LeadsTo}
 use Rattle.ks_keysets.specs.Keyset.{InInset, InKeyset, Good, along}
 use Rattle.ks_node.specs.declared.start.Start.{Start}
-use Rattle.ks_node.specs.Body.{Body, is_branch, first_of, last_of, first_node, chained_of}
+use Rattle.ks_node.specs.Body.{Body, is_branch, first_of, last_of, first_node, chained_of, is_branch_kind}
 use Rattle.ks_node.specs.Edges.{record_of, edges_of}
 use Rattle.ks_node.specs.Effect.{absorbed, ends_at}
 use Rattle.ks_flow.specs.Tree.{Tree, edges_to}
@@ -50,6 +50,9 @@ module _ (g : ℕ → NodeState) (f : ℕ → Frame) (node right : ℕ) (b q : B
   pub own : (is_branch b ≡ false) × (low : ℕ) × (b.starts ≡ record { low = low; node = right } ∷ [])
   own = own_of b right x.stands.plain x.chained
 
+  pub leaf : is_branch q ≡ false
+  leaf = ap is_branch_kind (sym x.alike) ∙ own.0
+
   -- the place from which on the node leads to right
   abbrev pub seam : ℕ
   seam = own.1
@@ -86,7 +89,7 @@ module _ (g : ℕ → NodeState) (f : ℕ → Frame) (node right : ℕ) (b q : B
   after_starts = rw own.0 refl
 
   none_low : (p : ℕ) → p < seam → led q.starts p ≡ None
-  none_low p lt = led_none q.starts p p (all_above p q.starts (All-weaker (λ s. q.low ≤ s.low) (λ s. p < s.low) (λ s le. omega (arith, seam_low)) q.starts (x.other.plain.sound.own_low x.leaf))) (omega arith)
+  none_low p lt = led_none q.starts p p (all_above p q.starts (All-weaker (λ s. q.low ≤ s.low) (λ s. p < s.low) (λ s le. omega (arith, seam_low)) q.starts (x.other.plain.sound.own_low leaf))) (omega arith)
 
   -- the ranges of both end at one place
   pub same_end : (absorbed b q).range ≡ b.range

@@ -1,5 +1,5 @@
 -- What the calls of a shape ask of bodies holds where they stand in a tree.
-use Rattle.std.proofs.Common.{ℕ, suc, ◌≡◌, ◌<◌, ◌≤◌, ◌+◌, ◌-◌, ◌==◌, Bool, true, false, List, [], ◌∷◌, ◌++◌, Option, Some, None, refl, sym, ◌∙◌, ap, subst, arith, length, get_or, eq-eqb}
+use Rattle.std.proofs.Common.{ℕ, suc, ◌≡◌, ◌<◌, ◌≤◌, ◌+◌, ◌-◌, ◌==◌, Bool, true, false, List, [], ◌∷◌, ◌++◌, Option, Some, None, refl, sym, ◌∙◌, ap, subst, arith, length, get_or, eq-eqb, IsTrue}
 use Rattle.std.specs.Prelude.{All, is_some, max, drop}
 use Rattle.std.specs.Option.{ForSome}
 use Rattle.ks_keysets.specs.declared.Frame.{Frame}
@@ -13,6 +13,11 @@ use Rattle.ks_node.specs.Body.{Body, is_branch, first_of, last_of, first_node}
 use Rattle.ks_node.specs.Ascend.{all_below}
 use Rattle.ks_node.specs.Edges.{record_of, edges_of}
 use Rattle.ks_node.specs.Effect.{split_left, split_right, reached, ends_at, begins_at}
+use Rattle.std.specs.Prelude.{◌&&◌}
+use Rattle.ks_keysets.specs.declared.Kind.{Kind}
+use Rattle.ks_keysets.specs.declared.Kind.TheVariants.{NoBranch, Inner, Directory}
+use Rattle.ks_keysets.specs.Layout.{Layout}
+use Rattle.ks_node.specs.Room.{fit_together, fit_kinds, is_room_for, capacity, load}
 use Rattle.ks_node.specs.Asks.{IsCut, AreNext, Absorbs}
 use Rattle.ks_flow.specs.Tree.{Tree, edges_to}
 use Rattle.ks_bodies.specs.Stands.{Stands}
@@ -35,7 +40,7 @@ cut_last : (o : Option Span) (cut : ℕ) → cut ≤ last_of o → ForSome o (λ
 cut_last None cut le r e = absurd (cc)
 cut_last (Some t) cut le r e = let same : t ≡ r = cc in subst (λ (s : Span). cut ≤ s.last) same le
 
-pub adopt_asks : (g : ℕ → NodeState) (f : ℕ → Frame) (parent node cut : ℕ) (u b : Body) → Good g → Tree g f → SoleParent g → CanAdopt g f parent node cut u → Stands g f node b → InInset g node cut → b.low < cut → 0 < edges_to (edges_of u) node →
+pub adopt_asks : (g : ℕ → NodeState) (f : ℕ → Frame) (parent node cut : ℕ) (u b : Body) → Good g → Tree g f → SoleParent g → CanAdopt g f parent node u → Stands g f node b → InInset g node cut → b.low < cut → 0 < edges_to (edges_of u) node →
     IsCut u cut × All (λ x. x.place < cut) u.pairs
 adopt_asks g f parent node cut u b good tree sole x stands inside above some =
     let up = sole parent node cut (record_of u) x.stands.has some inside.1 in
@@ -61,6 +66,19 @@ own_asks g f node right cut b x = (
   all_below (λ x. x.place) cut b.pairs,
 )
 
+-- two nodes that fit are of one kind
+pub fit_alike : (layout : Layout) (b q : Body) → IsTrue (fit_together layout b q) → b.kind ≡ q.kind
+fit_alike layout b q fits = go b.kind q.kind (is_room_for (capacity layout b.kind) (load b + load q)) fits
+  where
+    go : (k l : Kind) (r : Bool) → fit_kinds k l && r ≡ true → k ≡ l
+    go NoBranch NoBranch r e = refl
+    go NoBranch Inner r e = cc
+    go NoBranch Directory r e = cc
+    go Inner Inner r e = refl
+    go Inner NoBranch r e = cc
+    go Inner Directory r e = cc
+    go Directory l r e = cc
+
 -- a node that absorbs the node at its own edge
 
 ends_le : (o o' : Option Span) → is_some o ≡ is_some o' → ends_at (last_of o') o ≡ o → last_of o ≤ last_of o'
@@ -77,8 +95,8 @@ absorb_own_asks g f node right b q good tree x other up = record {
   above_pairs = λ k d lt. omega (arith, low, below k d lt);
   above_edges = λ e. differ e leaf;
   right_pairs = λ k d lt. low_le g f right q tree x.other _ (pairs_stand g f right q good x.other k d lt).0;
-  right_own = λ e. x.other.plain.sound.own_low x.leaf;
-  right_edges = λ e. differ e x.leaf;
+  right_own = λ e. x.other.plain.sound.own_low (own.leaf g f node right b q good tree x other up);
+  right_edges = λ e. differ e (own.leaf g f node right b q good tree x other up);
   ends = ends_le b.range q.range x.ranged (own.same_end g f node right b q good tree x other up);
 }
   where

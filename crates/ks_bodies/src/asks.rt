@@ -1,6 +1,6 @@
 //! What the calls of a shape ask of bodies, where they stand in a tree.
 
-ghost use Rattle.std.specs.Prelude.{ℕ, ◌≡◌, ◌<◌, Option, Some, All, is_some};
+ghost use Rattle.std.specs.Prelude.{ℕ, ◌≡◌, ◌<◌, Option, Some, All, IsTrue, is_some};
 ghost use Rattle.ks_keysets.specs.declared.Frame.{Frame};
 ghost use Rattle.ks_keysets.specs.declared.NodeState.{NodeState};
 ghost use Rattle.ks_keysets.specs.declared.Span.{Span};
@@ -9,6 +9,8 @@ ghost use Rattle.ks_keysets.specs.Keyset.{Good, InInset};
 ghost use Rattle.ks_node.specs.Body.{Body, first_node};
 ghost use Rattle.ks_node.specs.Edges.{record_of};
 ghost use Rattle.ks_node.specs.Effect.{split_left, split_right, reached};
+ghost use Rattle.ks_keysets.specs.Layout.{Layout};
+ghost use Rattle.ks_node.specs.Room.{fit_together};
 ghost use Rattle.ks_node.specs.Asks.{IsCut, AreNext, Absorbs, Suits, IsSpanOf};
 ghost use Rattle.ks_flow.specs.Tree.{Tree, IsInset};
 ghost use Rattle.ks_bodies.specs.Stands.{Stands};
@@ -33,8 +35,9 @@ pub fn tree_spans_law()
 pub fn tree_asks_law()
     ensures own { (g : ℕ → NodeState) (f : ℕ → Frame) (node right cut : ℕ) (b : Body) → CanPart g f node right cut b →
         AreNext (split_left cut b) (split_right cut b) × IsCut (reached (split_left cut b) (split_right cut b)) cut × All (λ x. x.place < cut) (reached (split_left cut b) (split_right cut b)).pairs }
-    ensures adopt { (g : ℕ → NodeState) (f : ℕ → Frame) (parent node cut : ℕ) (u b : Body) → Good g → Tree g f → CanAdopt g f parent node cut u → Stands g f node b →
+    ensures adopt { (g : ℕ → NodeState) (f : ℕ → Frame) (parent node cut : ℕ) (u b : Body) → Good g → Tree g f → CanAdopt g f parent node u → Stands g f node b →
         InInset g node cut → b.low < cut → IsCut u cut × All (λ x. x.place < cut) u.pairs }
+    ensures fit { (layout : Layout) (b q : Body) → IsTrue (fit_together layout b q) → b.kind ≡ q.kind }
     ensures absorb_own { (g : ℕ → NodeState) (f : ℕ → Frame) (node right : ℕ) (b q : Body) → Good g → Tree g f → CanAbsorbOwn g f node right b q → Absorbs b q }
     ensures absorb_under { (g : ℕ → NodeState) (f : ℕ → Frame) (parent node right : ℕ) (u b q : Body) → Good g → Tree g f → CanAbsorbUnder g f parent node right u b q → Absorbs b q }
     ensures forget { (g : ℕ → NodeState) (f : ℕ → Frame) (parent node right : ℕ) (u b q : Body) → Good g → Tree g f → CanAbsorbUnder g f parent node right u b q → first_node u.starts ≡ Some right → ⊥ }

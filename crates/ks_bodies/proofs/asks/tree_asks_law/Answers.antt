@@ -5,7 +5,7 @@ use Rattle.ks_node.specs.Edges.{record_of}
 use Rattle.ks_bodies.proofs.Records.{leads_edge}
 use Rattle.ks_bodies.proofs.Absorb.{own_leads}
 use Rattle.ks_bodies.proofs.Collapse.{child_leads, child_down}
-use Rattle.ks_bodies.proofs.Asked.{adopt_asks, own_asks, absorb_own_asks, absorb_under_asks, forget_asks, collapse_asks}
+use Rattle.ks_bodies.proofs.Asked.{fit_alike, adopt_asks, own_asks, absorb_own_asks, absorb_under_asks, forget_asks, collapse_asks}
 use Rattle.ks_bodies.proofs.asks.tree_asks_law.Goals as goal
 
 pub returns-clause-own : goal.returns-clause-own
@@ -33,3 +33,6 @@ returns-clause-forget c g f parent node right u b q good tree x =
 pub returns-clause-collapse : goal.returns-clause-collapse
 returns-clause-collapse c g f node child b q good tree x ranged =
     collapse_asks g f node child b q tree (λ e m p s. c.tree_facts_law.ensures.child g e m p s tree.edges) x ranged (child_leads b child x.stands.plain x.sole) (child_down g f node child b q tree x)
+
+pub returns-clause-fit : goal.returns-clause-fit
+returns-clause-fit c layout b q fits = fit_alike layout b q fits
