@@ -9,7 +9,7 @@ use Rattle.ks_keysets.specs.declared.NodeState.{NodeState}
 use Rattle.ks_keysets.specs.Record.{LeadsTo}
 use Rattle.ks_keysets.specs.Keyset.{InInset, InKeyset, Good, along}
 use Rattle.ks_node.specs.declared.start.Start.{Start}
-use Rattle.ks_node.specs.Body.{Body, is_branch, first_of, last_of, first_node, chained_of}
+use Rattle.ks_node.specs.Body.{Body, is_branch, first_of, last_of, first_node, chained_of, is_branch_kind}
 use Rattle.ks_node.specs.Edges.{record_of, edges_of}
 use Rattle.ks_node.specs.Effect.{absorbed, ends_at}
 use Rattle.ks_flow.specs.Tree.{Tree, edges_to}
@@ -45,13 +45,16 @@ own_leads b right plain chained =
     let one : count (record { low = y.1; node = right } ∷ []) right ≡ 1 = rw t refl in
     omega (arith, body_count b plain right, ap (λ (ss : List Start). count ss right) y.2, one)
 
-module _ (g : ℕ → NodeState) (f : ℕ → Frame) (node right : ℕ) (b q : Body) (good : Good g) (tree : Tree g f) (x : CanAbsorbOwn g f node right b q) (plain : IsPlain (absorbed b q))
-    (other : node ≡ right → ⊥) (up : (p : ℕ) → InInset g right p → InInset g node p × LeadsTo (record_of b) p right) (made : Made g f (absorb_own node right b q)) where
-  own : (is_branch b ≡ false) × (low : ℕ) × (b.starts ≡ record { low = low; node = right } ∷ [])
+module _ (g : ℕ → NodeState) (f : ℕ → Frame) (node right : ℕ) (b q : Body) (good : Good g) (tree : Tree g f) (x : CanAbsorbOwn g f node right b q)
+    (other : node ≡ right → ⊥) (up : (p : ℕ) → InInset g right p → InInset g node p × LeadsTo (record_of b) p right) where
+  pub own : (is_branch b ≡ false) × (low : ℕ) × (b.starts ≡ record { low = low; node = right } ∷ [])
   own = own_of b right x.stands.plain x.chained
 
+  pub leaf : is_branch q ≡ false
+  leaf = ap is_branch_kind (sym x.alike) ∙ own.0
+
   -- the place from which on the node leads to right
-  abbrev seam : ℕ
+  abbrev pub seam : ℕ
   seam = own.1
 
   led_own : (p : ℕ) → led b.starts p ≡ cond (nat_le seam p) (Some right) None
@@ -69,27 +72,27 @@ module _ (g : ℕ → NodeState) (f : ℕ → Frame) (node right : ℕ) (b q : B
   leads_from : (p : ℕ) → InInset g node p → seam ≤ p → LeadsTo (record_of b) p right
   leads_from p inset le = led_body b x.stands.plain p right (range p inset) (led_from_seam p le)
 
-  from_leads : (p : ℕ) → LeadsTo (record_of b) p right → seam ≤ p
+  pub from_leads : (p : ℕ) → LeadsTo (record_of b) p right → seam ≤ p
   from_leads p to = elim (low_or_high p seam) [
     | inl lt ↦ (let e : None ≡ Some right = sym (led_below_seam p lt) ∙ (body_led b x.stands.plain p right to).0 in absurd (cc))
     | inr ge ↦ ge
   ]
 
-  down : (p : ℕ) → InInset g node p → LeadsTo (record_of b) p right → InInset g right p
+  pub down : (p : ℕ) → InInset g node p → LeadsTo (record_of b) p right → InInset g right p
   down p inset to = (inset.0, along (record_of b) inset.1 x.stands.has to (record_of q, x.other.has))
 
   -- what comes to right comes from the seam on
-  seam_low : seam ≤ q.low
+  pub seam_low : seam ≤ q.low
   seam_low = from_leads q.low (up q.low (low_inside g f right q tree x.other)).1
 
   after_starts : (absorbed b q).starts ≡ q.starts
   after_starts = rw own.0 refl
 
   none_low : (p : ℕ) → p < seam → led q.starts p ≡ None
-  none_low p lt = led_none q.starts p p (all_above p q.starts (All-weaker (λ s. q.low ≤ s.low) (λ s. p < s.low) (λ s le. omega (arith, seam_low)) q.starts (x.other.plain.sound.own_low x.leaf))) (omega arith)
+  none_low p lt = led_none q.starts p p (all_above p q.starts (All-weaker (λ s. q.low ≤ s.low) (λ s. p < s.low) (λ s le. omega (arith, seam_low)) q.starts (x.other.plain.sound.own_low leaf))) (omega arith)
 
   -- the ranges of both end at one place
-  same_end : (absorbed b q).range ≡ b.range
+  pub same_end : (absorbed b q).range ≡ b.range
   same_end = go b.range q.range refl refl
     where
       go : (o o' : Option Span) → b.range ≡ o → q.range ≡ o' → ends_at (last_of q.range) b.range ≡ b.range
@@ -107,12 +110,6 @@ module _ (g : ℕ → NodeState) (f : ℕ → Frame) (node right : ℕ) (b q : B
           let ge : r.last ≤ t.last = (j.forth r.last (down r.last whole (leads_from r.last whole (omega (arith, from_leads t.last (up t.last end).1, le))))).1 in
           ap (λ (o : Option Span). ends_at (last_of o) b.range) e' ∙ ap (λ (o : Option Span). ends_at t.last o) e ∙ ap (λ (n : ℕ). Some (record { low = r.low; last = n })) (omega (arith, le, ge)) ∙ sym e
 
-  after_range : (p : ℕ) → InInset g node p → InRange (absorbed b q) p
-  after_range p inset = record {
-    low = subst (λ (o : Option Span). first_of o ≤ p) (sym same_end) (range p inset).low;
-    last = subst (λ (o : Option Span). p ≤ last_of o) (sym same_end) (range p inset).last;
-  }
-
   -- the pairs of the node lie below the seam, those of right do not
   pairs_low : (p : ℕ) → seam ≤ p → All (λ y. y.place ≡ p → ⊥) b.pairs
   pairs_low p le = All-weaker (λ y. y.place < seam) (λ y. y.place ≡ p → ⊥) (λ y lt e. omega (arith, lt)) b.pairs (subst (λ (ss : List Start). All (λ s. All (λ y. y.place < s.low) b.pairs) ss) own.2 (x.stands.plain.sound.own_pairs own.0) 0 (record { low = seam; node = right }) (omega arith))
@@ -120,36 +117,43 @@ module _ (g : ℕ → NodeState) (f : ℕ → Frame) (node right : ℕ) (b q : B
   pairs_high : (p : ℕ) → p < seam → All (λ y. y.place ≡ p → ⊥) q.pairs
   pairs_high p lt = All-weaker (λ y. InKeyset g right y.place) (λ y. y.place ≡ p → ⊥) (λ y k e. omega (arith, seam_low, low_le g f right q tree x.other y.place k.0)) q.pairs (pairs_stand g f right q good x.other)
 
-  after_node : HasBecome f (graph_with (absorb_own node right b q) g) (frames_with (absorb_own node right b q) f) (live_as node (absorbed b q))
-  after_node = made.named 0 (free_as node) (omega arith)
+  module _ (plain : IsPlain (absorbed b q)) (made : Made g f (absorb_own node right b q)) where
+    after_range : (p : ℕ) → InInset g node p → InRange (absorbed b q) p
+    after_range p inset = record {
+      low = subst (λ (o : Option Span). first_of o ≤ p) (sym same_end) (range p inset).low;
+      last = subst (λ (o : Option Span). p ≤ last_of o) (sym same_end) (range p inset).last;
+    }
 
-  after_right : HasBecome f (graph_with (absorb_own node right b q) g) (frames_with (absorb_own node right b q) f) (free_as right)
-  after_right = made.named 1 (free_as node) (omega arith)
+    after_node : HasBecome f (graph_with (absorb_own node right b q) g) (frames_with (absorb_own node right b q) f) (live_as node (absorbed b q))
+    after_node = made.named 0 (free_as node) (omega arith)
 
-  no_start : count q.starts right ≡ 0
-  no_start = omega (arith, sole_start g f node right right b q tree x.stands x.other other, led_count b.starts seam right (led_from_seam seam (omega arith)))
+    after_right : HasBecome f (graph_with (absorb_own node right b q) g) (frames_with (absorb_own node right b q) f) (free_as right)
+    after_right = made.named 1 (free_as node) (omega arith)
 
-  starts_upto : (m : ℕ) → edges_to (edges_of (absorbed b q)) m ≤ count q.starts m
-  starts_upto m = omega (arith, body_upto (absorbed b q) plain m, ap (λ (ss : List Start). count ss m) after_starts)
+    no_start : count q.starts right ≡ 0
+    no_start = omega (arith, sole_start g f node right right b q tree x.stands x.other other, led_count b.starts seam right (led_from_seam seam (omega arith)))
 
-  pub meets_absorb_own : AbsorbsOwn g (graph_with (absorb_own node right b q) g) f (frames_with (absorb_own node right b q) f) node right (record_of b) (record_of q) (record_of (absorbed b q))
-  meets_absorb_own = record {
-    differs = made.differs;
-    frames = made.frames;
-    before = x.stands.has;
-    before_right = x.other.has;
-    after = after_node.has;
-    gone = after_right.has;
-    leads = omega (arith, body_count b x.stands.plain right, led_count b.starts seam right (led_from_seam seam (omega arith)));
-    there = λ p inset to. acts_alike (absorbed b q) q p plain x.other.plain (after_range p inset) (in_range g f right q tree x.other p (down p inset to)) (ap (λ (ss : List Start). led ss p) after_starts) (joined_right b.pairs q.pairs p (pairs_low p (from_leads p to)));
-    else = λ p inset not. elim (low_or_high p seam) [
-      | inl lt ↦ acts_alike (absorbed b q) b p plain x.stands.plain (after_range p inset) (range p inset) (ap (λ (ss : List Start). led ss p) after_starts ∙ none_low p lt ∙ sym (led_below_seam p lt)) (joined_left b.pairs q.pairs p (pairs_high p lt))
-      | inr ge ↦ absurd (not (leads_from p inset ge))
-    ];
-    tidy = body_tidy (absorbed b q) plain;
-    edges = λ m ne. omega (arith, starts_upto m, body_count q x.other.plain m);
-    edge = omega (arith, starts_upto right, no_start);
-    pairs = All-append (λ y. InKeyset g node y.place ⊎ InKeyset g right y.place) b.pairs q.pairs (λ i d lt. inl (pairs_stand g f node b good x.stands i d lt)) (λ i d lt. inr (pairs_stand g f right q good x.other i d lt));
-    low = ap (λ (z : Frame). z.low) after_node.frame ∙ sym (ap (λ (z : Frame). z.low) x.stands.frame);
-    range = ap (λ (z : Frame). z.range) after_node.frame ∙ same_end ∙ sym (ap (λ (z : Frame). z.range) x.stands.frame);
-  }
+    starts_upto : (m : ℕ) → edges_to (edges_of (absorbed b q)) m ≤ count q.starts m
+    starts_upto m = omega (arith, body_upto (absorbed b q) plain m, ap (λ (ss : List Start). count ss m) after_starts)
+
+    pub meets_absorb_own : AbsorbsOwn g (graph_with (absorb_own node right b q) g) f (frames_with (absorb_own node right b q) f) node right (record_of b) (record_of q) (record_of (absorbed b q))
+    meets_absorb_own = record {
+      differs = made.differs;
+      frames = made.frames;
+      before = x.stands.has;
+      before_right = x.other.has;
+      after = after_node.has;
+      gone = after_right.has;
+      leads = omega (arith, body_count b x.stands.plain right, led_count b.starts seam right (led_from_seam seam (omega arith)));
+      there = λ p inset to. acts_alike (absorbed b q) q p plain x.other.plain (after_range p inset) (in_range g f right q tree x.other p (down p inset to)) (ap (λ (ss : List Start). led ss p) after_starts) (joined_right b.pairs q.pairs p (pairs_low p (from_leads p to)));
+      else = λ p inset not. elim (low_or_high p seam) [
+        | inl lt ↦ acts_alike (absorbed b q) b p plain x.stands.plain (after_range p inset) (range p inset) (ap (λ (ss : List Start). led ss p) after_starts ∙ none_low p lt ∙ sym (led_below_seam p lt)) (joined_left b.pairs q.pairs p (pairs_high p lt))
+        | inr ge ↦ absurd (not (leads_from p inset ge))
+      ];
+      tidy = body_tidy (absorbed b q) plain;
+      edges = λ m ne. omega (arith, starts_upto m, body_count q x.other.plain m);
+      edge = omega (arith, starts_upto right, no_start);
+      pairs = All-append (λ y. InKeyset g node y.place ⊎ InKeyset g right y.place) b.pairs q.pairs (λ i d lt. inl (pairs_stand g f node b good x.stands i d lt)) (λ i d lt. inr (pairs_stand g f right q good x.other i d lt));
+      low = ap (λ (z : Frame). z.low) after_node.frame ∙ sym (ap (λ (z : Frame). z.low) x.stands.frame);
+      range = ap (λ (z : Frame). z.range) after_node.frame ∙ same_end ∙ sym (ap (λ (z : Frame). z.range) x.stands.frame);
+    }

@@ -84,6 +84,10 @@ sole_led b child p plain only =
 pub child_leads : (b : Body) (child : ℕ) → IsPlain b → only_child_of b ≡ Some child → 0 < edges_to (edges_of b) child
 child_leads b child plain only = omega (arith, body_count b plain child, led_count b.starts 0 child (sole_led b child 0 plain only))
 
+-- each place that comes to the node goes on to the child
+pub child_down : (g : ℕ → NodeState) (f : ℕ → Frame) (node child : ℕ) (b q : Body) → Tree g f → CanCollapse g f node child b q → (p : ℕ) → InInset g node p → InInset g child p
+child_down g f node child b q tree x p inset = (inset.0, along (record_of b) inset.1 x.stands.has (led_body b x.stands.plain p child (in_range g f node b tree x.stands p inset) (sole_led b child p x.stands.plain x.sole)) (record_of q, x.below.has))
+
 module _ (g : ℕ → NodeState) (f : ℕ → Frame) (node child : ℕ) (b q : Body) (good : Good g) (tree : Tree g f) (x : CanCollapse g f node child b q) (plain : IsPlain (collapsed b q))
     (other : node ≡ child → ⊥) (made : Made g f (collapse node child b q)) where
   led_child : (p : ℕ) → led b.starts p ≡ Some child

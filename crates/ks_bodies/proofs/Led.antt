@@ -8,7 +8,7 @@ use Rattle.ks_keysets.specs.declared.Kind.TheVariants.{NoBranch, Inner, Director
 use Rattle.ks_node.specs.declared.start.Start.{Start}
 use Rattle.ks_node.specs.Keyed.{Ascends}
 use Rattle.ks_node.specs.Ascend.{asc_head, asc_tail}
-use Rattle.ks_node.specs.Body.{starts_below, starts_from, begins}
+use Rattle.ks_node.specs.Body.{starts_below, starts_from, begins, is_branch_kind}
 use Rattle.ks_node.specs.Effect.{first_from, runs_after, runs, settled}
 
 pub low_or_high : (a b : ℕ) → (a < b) ⊎ (b ≤ a)
@@ -279,3 +279,48 @@ led_count (s ∷ ss) p m e = elim (or_some (led ss p) (cond (nat_le s.low p) (So
   | inl h ↦ omega (arith, led_count ss p m h)
   | inr h ↦ (let y = cond_some (nat_le s.low p) s.node m h.1 in let t : (s.node == m) ≡ true = eq-eqb s.node m y.1 in rw t (omega arith))
 ]
+
+-- a new start at the cut keeps starts in order only where none was there
+
+clash : (xs : List Start) (cut id x : ℕ) (rest : List Start) → Ascend (xs ++ record { low = cut; node = id } ∷ record { low = cut; node = x } ∷ rest) → ⊥
+clash [] cut id x rest up = omega (arith, up.0.0)
+clash (y ∷ ys) cut id x rest up = clash ys cut id x rest up.1
+
+clash_after : (m cut id x : ℕ) (rest : List Start) → (x ≡ id → ⊥) → (id ≡ m → ⊥) → Ascend (runs_after m (record { low = cut; node = id } ∷ record { low = cut; node = x } ∷ rest)) → ⊥
+clash_after m cut id x rest ne ne' up =
+    let a : (id == m) ≡ false = ne_eqb id m ne' in
+    let b : (x == id) ≡ false = ne_eqb x id ne in
+    let up' : Ascend (record { low = cut; node = id } ∷ record { low = cut; node = x } ∷ runs_after x rest) = rw (a, b) at up in
+    omega (arith, up'.0.0)
+
+not_here : (y : Start) (ys : List Start) (id : ℕ) → count (y ∷ ys) id ≡ 0 → id ≡ y.node → ⊥
+not_here y ys id none e = let t : (y.node == id) ≡ true = eq-eqb y.node id (sym e) in let c : 1 + count ys id ≡ 0 = rw t at none in omega (arith, c)
+
+clash_runs : (m : ℕ) (xs : List Start) (cut id x : ℕ) (rest : List Start) → count xs id ≡ 0 → (x ≡ id → ⊥) → (id ≡ m → ⊥) → Ascend (runs_after m (xs ++ record { low = cut; node = id } ∷ record { low = cut; node = x } ∷ rest)) → ⊥
+clash_runs m [] cut id x rest none ne ne' up = clash_after m cut id x rest ne ne' up
+clash_runs m (y ∷ ys) cut id x rest none ne ne' up = go (y.node == m) up (clash_runs m ys cut id x rest (omega (arith, none)) ne ne') (clash_runs y.node ys cut id x rest (omega (arith, none)) ne (not_here y ys id none))
+  where
+    go : (b : Bool) → Ascend (cond b (runs_after m (ys ++ record { low = cut; node = id } ∷ record { low = cut; node = x } ∷ rest)) (y ∷ runs_after y.node (ys ++ record { low = cut; node = id } ∷ record { low = cut; node = x } ∷ rest)))
+        → (Ascend (runs_after m (ys ++ record { low = cut; node = id } ∷ record { low = cut; node = x } ∷ rest)) → ⊥) → (Ascend (runs_after y.node (ys ++ record { low = cut; node = id } ∷ record { low = cut; node = x } ∷ rest)) → ⊥) → ⊥
+    go true up one two = one up
+    go false up one two = two up.1
+
+free_or_not : (b : Bool) → (b ≡ true → ⊥) → b ≡ false
+free_or_not true h = absurd (h refl)
+free_or_not false h = refl
+
+pub free_of : (kind : Kind) (cut id : ℕ) (ss : List Start) → Ascend ss → count ss id ≡ 0 → IsTrue (is_branch_kind kind) → Ascend (settled kind (starts_below cut ss ++ record { low = cut; node = id } ∷ starts_from cut ss)) → begins cut ss ≡ false
+free_of NoBranch cut id ss up none branch after = absurd (cc)
+free_of Inner cut id ss up none branch after = free_or_not (begins cut ss) (λ t. let y = begins_from cut ss up t in clash (starts_below cut ss) cut id y.0 y.1 (subst (λ (zs : List Start). Ascend (starts_below cut ss ++ record { low = cut; node = id } ∷ zs)) y.2 after))
+free_of Directory cut id ss up none branch after = free_or_not (begins cut ss) (λ t.
+    let y = begins_from cut ss up t in
+    whole (starts_below cut ss) y.0 y.1 (omega (arith, count_parts cut ss id))
+    (λ e. let one : (y.0 == id) ≡ true = eq-eqb y.0 id e in let c : count (record { low = cut; node = y.0 } ∷ y.1) id ≡ 1 + count y.1 id = rw one refl in omega (arith, none, count_parts cut ss id, ap (λ (zs : List Start). count zs id) y.2, c))
+    (subst (λ (zs : List Start). Ascend (runs (starts_below cut ss ++ record { low = cut; node = id } ∷ zs))) y.2 after))
+  where
+    whole : (xs : List Start) (x : ℕ) (rest : List Start) → count xs id ≡ 0 → (x ≡ id → ⊥) → Ascend (runs (xs ++ record { low = cut; node = id } ∷ record { low = cut; node = x } ∷ rest)) → ⊥
+    whole [] x rest none ne up =
+        let b : (x == id) ≡ false = ne_eqb x id ne in
+        let up' : Ascend (record { low = cut; node = id } ∷ record { low = cut; node = x } ∷ runs_after x rest) = rw b at up in
+        omega (arith, up'.0.0)
+    whole (y ∷ ys) x rest none ne up = clash_runs y.node ys cut id x rest (omega (arith, none)) ne (not_here y ys id none) up.1

@@ -10,3 +10,6 @@ pub mod Absorb
 pub mod Forget
 pub mod AbsorbUnder
 pub mod Once
+pub mod Used
+pub mod Asked
+pub mod Rooted

@@ -153,7 +153,7 @@ pub record InRange (b : Body) (p : ℕ) : Type 0 where
   pub low : first_of b.range ≤ p
   pub last : p ≤ last_of b.range
 
-edges_plain : (b : Body) → b.link ≡ None → edges_of b ≡ edges_from (first_of b.range) (last_of b.range) b.starts
+pub edges_plain : (b : Body) → b.link ≡ None → edges_of b ≡ edges_from (first_of b.range) (last_of b.range) b.starts
 edges_plain b none = ap (λ (l : Option ℕ). edges_from (first_of b.range) (last_of b.range) b.starts ++ link_edge (last_of b.range) l) none ∙ append-nil _
 
 module _ (b : Body) (plain : IsPlain b) where

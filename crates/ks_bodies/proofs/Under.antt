@@ -1,5 +1,5 @@
 -- A node that splits off a part, to which its parent leads.
-use Rattle.std.proofs.Common.{ℕ, ◌≡◌, ◌<◌, ◌≤◌, ◌+◌, ◌-◌, ◌==◌, ◌⊎◌, inl, inr, cond, Bool, true, false, List, ◌∷◌, ◌++◌, Option, Some, None, refl, sym, ◌∙◌, ap, arith, eq-eqb}
+use Rattle.std.proofs.Common.{ℕ, ◌≡◌, ◌<◌, ◌≤◌, ◌+◌, ◌-◌, ◌==◌, ◌⊎◌, inl, inr, cond, Bool, true, false, List, ◌∷◌, ◌++◌, Option, Some, None, refl, sym, ◌∙◌, ap, arith, eq-eqb, subst}
 use Rattle.std.specs.Prelude.{nat_le, is_some}
 use Rattle.std.proofs.lemmas.Bool.{le-leb, lt-leb, ne_eqb}
 use Rattle.ks_keysets.specs.declared.Frame.{Frame}
@@ -9,7 +9,7 @@ use Rattle.ks_keysets.specs.Record.{LeadsTo}
 use Rattle.ks_keysets.specs.Keyset.{InInset, Good, along}
 use Rattle.ks_node.specs.declared.start.Start.{Start}
 use Rattle.ks_node.specs.Ascend.{asc_insert}
-use Rattle.ks_node.specs.Body.{Body, is_branch, starts_below, starts_from}
+use Rattle.ks_node.specs.Body.{Body, is_branch, starts_below, starts_from, begins}
 use Rattle.ks_node.specs.Edges.{record_of, edges_of}
 use Rattle.ks_node.specs.Effect.{settled, adopted, split_left, split_right}
 use Rattle.ks_flow.specs.Tree.{Tree, edges_to, edges_between}
@@ -17,7 +17,7 @@ use Rattle.ks_flow.specs.Changes.{graph_with, frames_with, HasBecome}
 use Rattle.ks_flow.specs.Shapes.{SplitsUnder, range_to, range_from}
 use Rattle.ks_bodies.specs.Stands.{live_as, free_as, IsPlain}
 use Rattle.ks_bodies.specs.Shapes.{CanPart, CanAdopt, split_under}
-use Rattle.ks_bodies.proofs.Led.{low_or_high, or_else, led, led_none, led_below, led_above, led_append, led_parts, led_past, led_count, led_settled, free_from, AllAbove, Ascend, ascend, count, count_parts, count_append, count_settled}
+use Rattle.ks_bodies.proofs.Led.{low_or_high, or_else, led, led_none, led_below, led_above, led_append, led_parts, led_past, led_count, led_settled, free_from, AllAbove, Ascend, ascend, count, count_parts, count_append, count_settled, free_of}
 use Rattle.ks_bodies.proofs.Records.{InRange, body_ascend, body_led, led_body, body_tidy, body_upto, body_count, acts_alike}
 use Rattle.ks_bodies.proofs.Parts.{value_below, value_from, led_right, count_right, left_first, left_last, right_first, right_last, ends_range, begins_range}
 use Rattle.ks_bodies.proofs.Standing.{Made, in_range, one_start, pairs_stand, pairs_lower, pairs_upper, none_fresh}
@@ -26,7 +26,7 @@ none_at : {X : Type 0} (o : Option X) → is_some o ≡ false → o ≡ None
 none_at None e = refl
 none_at (Some x) e = cc
 
-module _ (g : ℕ → NodeState) (f : ℕ → Frame) (parent node right cut : ℕ) (u b : Body) (good : Good g) (tree : Tree g f) (adopt : CanAdopt g f parent node cut u) (part : CanPart g f node right cut b)
+module _ (g : ℕ → NodeState) (f : ℕ → Frame) (parent node right cut : ℕ) (u b : Body) (good : Good g) (tree : Tree g f) (adopt : CanAdopt g f parent node u) (part : CanPart g f node right cut b)
     (after : IsPlain (adopted cut right u)) (lower : IsPlain (split_left cut b)) (upper : IsPlain (split_right cut b))
     (no_edge : (n : ℕ) → edges_between g n right ≡ 0) (up : (p : ℕ) → InInset g node p → InInset g parent p × LeadsTo (record_of u) p node) (made : Made g f (split_under parent node right cut u b)) where
   abbrev P : List Start
@@ -38,14 +38,18 @@ module _ (g : ℕ → NodeState) (f : ℕ → Frame) (parent node right cut : �
   up_P : Ascend P
   up_P = body_ascend u adopt.stands.plain
 
-  up_Q : Ascend Q
-  up_Q = ascend Q (asc_insert (λ s. s.low) cut (record { low = cut; node = right }) P refl (none_at _ adopt.free) adopt.stands.plain.sound.starts_ascend)
-
-  free : AllAbove cut (starts_from cut P)
-  free = free_from cut P up_P adopt.free
-
   starts_are : (adopted cut right u).starts ≡ settled u.kind Q
   starts_are = rw adopt.branch refl
+
+  -- no start of the parent is at the cut, or it could not lead to right from there
+  none_begins : begins cut P ≡ false
+  none_begins = free_of u.kind cut right P up_P (none_fresh g f parent right u adopt.stands (no_edge parent)) adopt.branch (subst Ascend starts_are (body_ascend (adopted cut right u) after))
+
+  up_Q : Ascend Q
+  up_Q = ascend Q (asc_insert (λ s. s.low) cut (record { low = cut; node = right }) P refl (none_at _ none_begins) adopt.stands.plain.sound.starts_ascend)
+
+  free : AllAbove cut (starts_from cut P)
+  free = free_from cut P up_P none_begins
 
   after_Q : (p : ℕ) → led (adopted cut right u).starts p ≡ led Q p
   after_Q p = ap (λ (xs : List Start). led xs p) starts_are ∙ led_settled u.kind Q p up_Q

@@ -1,5 +1,5 @@
 -- The changes that each shape of a tree makes of bodies, and what it asks.
-use Rattle.std.specs.Prelude.{ℕ, ◌≡◌, false, IsTrue, Some, None, is_some, List, [], ◌∷◌}
+use Rattle.std.specs.Prelude.{ℕ, ◌≡◌, IsTrue, Some, None, is_some, List, [], ◌∷◌}
 use Rattle.ks_keysets.specs.declared.Frame.{Frame}
 use Rattle.ks_keysets.specs.declared.Kind.{Kind}
 use Rattle.ks_keysets.specs.declared.Kind.TheVariants.{Directory}
@@ -7,7 +7,7 @@ use Rattle.ks_keysets.specs.declared.NodeState.{NodeState}
 use Rattle.ks_keysets.specs.declared.Change.{Change}
 use Rattle.ks_keysets.specs.Record.{LeadsTo}
 use Rattle.ks_keysets.specs.Keyset.{record_at, InInset}
-use Rattle.ks_node.specs.Body.{Body, is_branch, begins, chained_of, only_child_of, right_child}
+use Rattle.ks_node.specs.Body.{Body, is_branch, chained_of, only_child_of, right_child}
 use Rattle.ks_node.specs.Edges.{record_of}
 use Rattle.ks_node.specs.Effect.{split_left, split_right, reached, grown, adopted, absorbed, forgot, collapsed}
 use Rattle.ks_node.specs.Asks.{CanSplitAt}
@@ -21,20 +21,19 @@ pub record CanPart (g : ℕ → NodeState) (f : ℕ → Frame) (node right cut :
   pub splits : CanSplitAt b cut
   pub parts : b.kind ≡ Directory → ⊥
 
--- the branch parent, with body u, leads to node and can adopt the cut
-pub record CanAdopt (g : ℕ → NodeState) (f : ℕ → Frame) (parent node cut : ℕ) (u : Body) : Type 0 where
+-- parent, with body u, is a branch and leads to node
+pub record CanAdopt (g : ℕ → NodeState) (f : ℕ → Frame) (parent node : ℕ) (u : Body) : Type 0 where
   pub stands : Stands g f parent u
   pub branch : IsTrue (is_branch u)
   pub place : ℕ
   pub leads : LeadsTo (record_of u) place node
-  pub free : begins cut u.starts ≡ false
 
--- node, with body b, is no branch and leads to right, with body q, itself; neither is a branch, and both have ranges or neither
+-- node, with body b, is no branch and leads to right, with body q, itself; both are of one kind, and have ranges or neither
 pub record CanAbsorbOwn (g : ℕ → NodeState) (f : ℕ → Frame) (node right : ℕ) (b q : Body) : Type 0 where
   pub stands : Stands g f node b
   pub other : Stands g f right q
   pub chained : chained_of b ≡ Some right
-  pub leaf : is_branch q ≡ false
+  pub alike : b.kind ≡ q.kind
   pub ranged : is_some b.range ≡ is_some q.range
 
 -- in the branch parent, with body u, the edge to right, with body q, follows that to node, with body b; node leads to no

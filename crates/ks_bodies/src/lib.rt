@@ -4,6 +4,8 @@
 //! and any range, that what the calls make of bodies meets the discipline of trees. Specs in the order Stands, Shapes.
 #![tactic(auto)]
 
+mod asks;
 mod steps;
 
+pub use asks::{tree_asks_law, tree_spans_law};
 pub use steps::tree_steps_law;

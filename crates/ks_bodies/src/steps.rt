@@ -19,7 +19,7 @@ pub fn tree_steps_law()
     ensures split_own { (g : ℕ → NodeState) (f : ℕ → Frame) (node right cut : ℕ) (b : Body) → Good g → Tree g f →
         CanPart g f node right cut b → IsPlain (split_on cut right b) → IsPlain (split_right cut b) → TreeStep g f (split_own node right cut b) }
     ensures split_under { (g : ℕ → NodeState) (f : ℕ → Frame) (parent node right cut : ℕ) (u b : Body) → Good g → Tree g f →
-        CanAdopt g f parent node cut u → CanPart g f node right cut b → IsPlain (adopted cut right u) → IsPlain (split_left cut b) → IsPlain (split_right cut b) → TreeStep g f (split_under parent node right cut u b) }
+        CanAdopt g f parent node u → CanPart g f node right cut b → IsPlain (adopted cut right u) → IsPlain (split_left cut b) → IsPlain (split_right cut b) → TreeStep g f (split_under parent node right cut u b) }
     ensures grow { (g : ℕ → NodeState) (f : ℕ → Frame) (kind : Kind) (node left right cut : ℕ) (b : Body) → Good g → Tree g f →
         CanPart g f node right cut b → record_at g left ≡ None → (left ≡ right → ⊥) → IsPlain (grown kind cut left right b) → IsPlain (split_left cut b) → IsPlain (split_right cut b) → TreeStep g f (grow kind node left right cut b) }
     ensures absorb_own { (g : ℕ → NodeState) (f : ℕ → Frame) (node right : ℕ) (b q : Body) → Good g → Tree g f →

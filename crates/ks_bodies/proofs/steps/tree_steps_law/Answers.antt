@@ -61,7 +61,7 @@ returns-clause-absorb_own c g f node right b q good tree x plain =
     let made : Made g f xs = record { differs = c.changes_law.ensures.differs g xs; frames = c.changes_law.ensures.frames f xs; named = c.changes_law.ensures.named g f xs once } in
     let up : (p : ℕ) → InInset g right p → InInset g node p × LeadsTo (record_of b) p right =
     λ p i. let z = c.tree_facts_law.ensures.child g node right p (record_of b) tree.edges x.stands.has some i.1 in ((i.0, z.0), z.1) in
-    let y = c.tree_law.ensures.absorb_own g _ f _ node right _ _ _ good tree (meets_absorb_own g f node right b q good tree x plain apart up made) in
+    let y = c.tree_law.ensures.absorb_own g _ f _ node right _ _ _ good tree (meets_absorb_own g f node right b q good tree x apart up plain made) in
     record { ways = y.ways; tree = y.tree }
 
 pub returns-clause-absorb_under : goal.returns-clause-absorb_under
@@ -70,11 +70,11 @@ returns-clause-absorb_under c g f parent node right u b q good tree x plain_pare
     let sole : SoleParent g = λ e m p s is lt reach. c.tree_facts_law.ensures.child g e m p s tree.edges is lt reach in
     let apart : (m : ℕ) → 0 < edges_to (edges_of u) m → parent ≡ m → ⊥ = λ m lt. c.tree_facts_law.ensures.apart g f parent m (record_of u) good tree x.above.has lt in
     let once : NamedOnce xs = once_three (live_as parent (forgot right u)) (live_as node (absorbed b q)) (free_as right)
-    (apart node (some_node g f parent node right u b q good tree x plain_parent plain sole apart))
-    (apart right (some_right g f parent node right u b q good tree x plain_parent plain sole apart))
-    (other g f parent node right u b q good tree x plain_parent plain sole apart) in
+    (apart node (some_node g f parent node right u b q good tree x sole apart))
+    (apart right (some_right g f parent node right u b q good tree x sole apart))
+    (other g f parent node right u b q good tree x sole apart) in
     let made : Made g f xs = record { differs = c.changes_law.ensures.differs g xs; frames = c.changes_law.ensures.frames f xs; named = c.changes_law.ensures.named g f xs once } in
-    let y = c.tree_law.ensures.absorb_under g _ f _ parent node right _ _ _ _ _ good tree (meets_absorb_under g f parent node right u b q good tree x plain_parent plain sole apart made) in
+    let y = c.tree_law.ensures.absorb_under g _ f _ parent node right _ _ _ _ _ good tree (meets_absorb_under g f parent node right u b q good tree x sole apart plain_parent plain made) in
     record { ways = y.ways; tree = y.tree }
 
 pub returns-clause-collapse : goal.returns-clause-collapse
