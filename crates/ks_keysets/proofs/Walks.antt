@@ -165,12 +165,12 @@ again g p i d a (suc k) n apart one two le (one_more {a = b} r w is leads) = go 
 pub never_from : (g : ℕ → NodeState) (p i d a : ℕ) → AreApart g → Walks g p i a → Walks g p (i + suc d) a → (bound k : ℕ) → k < bound → (n : ℕ) × Walks g p k n
 never_from g p i d a apart one two zero k lt = absurd (omega arith)
 never_from g p i d a apart one two (suc bound) k lt = elim (split k (i + suc d)) [
-    | inl before ↦ let y : Within g p (i + suc d) k = within g p (i + suc d) a two k in (y.node, y.comes before)
-    | inr past ↦
+  | inl before ↦ let y : Within g p (i + suc d) k = within g p (i + suc d) a two k in (y.node, y.comes before)
+  | inr past ↦
       let shorter = never_from g p i d a apart one two bound (k - suc d) (omega arith) in
       let e : k - suc d + suc d ≡ k = omega arith in
       (shorter.0, subst (λ (j : ℕ). Walks g p j shorter.0) e (again g p i (suc d) a (k - suc d) shorter.0 apart one two (omega arith) shorter.1))
-  ]
+]
   where
     split : (k m : ℕ) → (k ≤ m) ⊎ (m < k)
     split k m = grind arith
