@@ -71,7 +71,7 @@ free_not_live (Take c j ∷ h) i are is = dite (ℕ_discrete i j)
     (λ n. free_not_live h i are.0 (sym (cond_else i j (held c) (turn_after h i) n) ∙ is))
 free_not_live (Give c j ∷ h) i are is = dite (ℕ_discrete i j)
     (λ s. let none : live_record (graph_after h j) ≡ None = given_turn_free (graph_after h j) (sym (cond_here i j (turn_given (graph_after h j)) (turn_after h i) s) ∙ is) in
-      ap live_record (cond_here i j (given (graph_after h j)) (graph_after h i) s) ∙ given_kept (graph_after h j) ∙ none)
+    ap live_record (cond_here i j (given (graph_after h j)) (graph_after h i) s) ∙ given_kept (graph_after h j) ∙ none)
     (λ n. ap live_record (cond_else i j (given (graph_after h j)) (graph_after h i) n) ∙ free_not_live h i are.0 (sym (cond_else i j (turn_given (graph_after h j)) (turn_after h i) n) ∙ is))
 free_not_live (Claim c j ∷ h) i are is = dite (ℕ_discrete i j)
     (λ s. let x : held c ≡ free = sym (cond_here i j (held c) (turn_after h i) s) ∙ is in absurd (cc))
@@ -92,13 +92,13 @@ idle_live (Take c j ∷ h) i are is = dite (ℕ_discrete i j)
     (λ n. idle_live h i are.0 (sym (cond_else i j (held c) (turn_after h i) n) ∙ is))
 idle_live (Give c j ∷ h) i are is = dite (ℕ_discrete i j)
     (λ s. let r = given_turn_idle (graph_after h j) (sym (cond_here i j (turn_given (graph_after h j)) (turn_after h i) s) ∙ is) in
-      (r.0, ap live_record (cond_here i j (given (graph_after h j)) (graph_after h i) s) ∙ r.1))
+    (r.0, ap live_record (cond_here i j (given (graph_after h j)) (graph_after h i) s) ∙ r.1))
     (λ n. let r = idle_live h i are.0 (sym (cond_else i j (turn_given (graph_after h j)) (turn_after h i) n) ∙ is) in
-      (r.0, ap live_record (cond_else i j (given (graph_after h j)) (graph_after h i) n) ∙ r.1))
+    (r.0, ap live_record (cond_else i j (given (graph_after h j)) (graph_after h i) n) ∙ r.1))
 idle_live (Claim c j ∷ h) i are is = dite (ℕ_discrete i j)
     (λ s. let x : held c ≡ idle = sym (cond_here i j (held c) (turn_after h i) s) ∙ is in absurd (cc))
     (λ n. let r = idle_live h i are.0 (sym (cond_else i j (held c) (turn_after h i) n) ∙ is) in
-      (r.0, ap live_record (cond_else i j (Claimed c) (graph_after h i) n) ∙ r.1))
+    (r.0, ap live_record (cond_else i j (Claimed c) (graph_after h i) n) ∙ r.1))
 idle_live (Shape c changes ∷ h) i are is =
     let r = idle_live h i are.0 is in
     (r.0, ap live_record (shaped_else changes i (graph_after h i) (unheld_apart h c i changes are.1 (λ mine. let x : held c ≡ idle = sym mine ∙ is in cc))) ∙ r.1)
