@@ -1,6 +1,5 @@
-use Rattle.std.proofs.Common.{List, ◌≡◌, Some, None, refl, sym, ◌∙◌, ap, subst}
+use Rattle.std.proofs.Common.{◌≡◌, Some, None, refl, sym, ◌∙◌, ap, subst}
 use Rattle.std.proofs.lemmas.Option.{same_Some}
-use Rattle.ks_keysets.specs.declared.Edge.{Edge}
 use Rattle.ks_keysets.specs.declared.Record.{Record}
 use Rattle.ks_keysets.specs.Keyset.{record_at}
 use Rattle.ks_keysets.specs.Listed.{graph_of}

@@ -2,7 +2,7 @@ use Rattle.std.proofs.Common.{◌≡◌, ◌<◌, ℕ, ◌⊎◌, inl, inr, leng
 use Rattle.ks_keysets.specs.declared.Record.{Record}
 use Rattle.ks_keysets.specs.declared.NodeState.{NodeState}
 use Rattle.ks_keysets.specs.Record.{LeadsTo}
-use Rattle.ks_keysets.specs.Keyset.{record_at, IsLive, InKeyset, AreApart}
+use Rattle.ks_keysets.specs.Keyset.{record_at, IsLive, AreApart}
 use Rattle.ks_keysets.specs.Listed.{graph_of}
 use Rattle.ks_keysets.specs.Walk.{Walks, at_start, one_more, EndsAt, MeetsNotLive, NeverEnds}
 use Rattle.ks_keysets.proofs.Walks.{ends_keyset, nowhere_else, long_never}
