@@ -1,19 +1,18 @@
 -- The keyset theorem: a lawful trace with good graphs is a legal history of a map, and the graph after it holds that map.
-use Rattle.std.proofs.Common.{ℕ, zero, suc, ◌≡◌, ◌≢◌, ◌==◌, cond, List, [], ◌∷◌, Option, Some, None, refl, sym, ◌∙◌, ap, subst}
+use Rattle.std.proofs.Common.{ℕ, zero, suc, ◌≡◌, ◌≢◌, ◌==◌, cond, List, [], ◌∷◌, Option, None, refl, sym, ◌∙◌, ap, subst}
 use mathlib.Core.Logic.{dite}
 use native.Mathlib.Decide.{ℕ_discrete}
 use Rattle.ks_keysets.specs.declared.NodeState.{NodeState}
-use Rattle.ks_keysets.specs.declared.NodeState.TheVariants.{Free, Claimed, Live}
-use Rattle.ks_keysets.specs.declared.Record.{Record}
+use Rattle.ks_keysets.specs.declared.NodeState.TheVariants.{Claimed}
 use Rattle.ks_keysets.specs.Record.{IsPlace, first_value}
 use Rattle.ks_keysets.specs.Keyset.{opening, live_record, record_at, IsLive, InKeyset, Good, IsFound, value_in, value_at}
-use Rattle.ks_keysets.specs.Found.{KeepsEdges, keyset_along, found_along, found_one, found_here, reached_live}
+use Rattle.ks_keysets.specs.Found.{KeepsEdges, found_along, found_one, found_here, reached_live}
 use Rattle.ks_history.specs.declared.Answered.{Answered}
 use Rattle.ks_history.specs.declared.Event.{Event}
 use Rattle.ks_history.specs.declared.Event.TheVariants.{Take, Give, Claim, Shape, Call}
 use Rattle.ks_history.specs.Write.{Write, Map, written, map_with}
 use Rattle.ks_history.specs.Map.{map_after, Legal}
-use Rattle.ks_history.specs.Trace.{given, state_with, graph_after, graph_then, calls_of}
+use Rattle.ks_history.specs.Trace.{given, state_with, graph_after, calls_of}
 use Rattle.ks_history.specs.Lawful.{Lawful, GoodThroughout, at_opening, and_then}
 use Rattle.ks_history.specs.Stays.{lawful_in_turn, cond_here, cond_else}
 use Rattle.ks_history.specs.Begins.{good_now}

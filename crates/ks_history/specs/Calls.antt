@@ -1,12 +1,12 @@
 -- Laws of traces: which calls of a caller stand in a trace as it goes on, and after a call that is done or left.
-use Rattle.std.proofs.Common.{◌≡◌, ◌≢◌, ℕ, ◌==◌, cond, List, [], ◌∷◌, ◌++◌, sym, refl, ap, ◌∙◌}
+use Rattle.std.proofs.Common.{◌≡◌, ℕ, List, [], ◌∷◌, ◌++◌, sym, refl, ap, ◌∙◌}
 use Rattle.ks_keysets.specs.Layout.{Layout}
 use Rattle.ks_history.specs.declared.Op.{Op}
 use Rattle.ks_history.specs.declared.Reply.{Reply}
 use Rattle.ks_history.specs.declared.Event.{Event}
 use Rattle.ks_history.specs.declared.Event.TheVariants.{Take, Give, Claim, Shape, Call}
 use Rattle.ks_history.specs.Trace.{number_after, calls_by, NumberedCall}
-use Rattle.ks_history.specs.Passes.{NoneBy, NoCallBy, GrowsByOthers}
+use Rattle.ks_history.specs.Passes.{NoCallBy, GrowsByOthers}
 use Rattle.ks_history.specs.Done.{Template, Done, Left}
 use Rattle.ks_history.specs.Stays.{cond_here, cond_else}
 use Rattle.ks_history.specs.Begins.{none_no_call}

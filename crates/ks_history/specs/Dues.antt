@@ -1,10 +1,7 @@
 -- Laws of traces: what is due stays due for an earlier beginning, and how a Full becomes due.
-use Rattle.std.proofs.Common.{◌≡◌, ◌≢◌, ℕ, ◌<◌, ◌⊎◌, inl, inr, List, [], ◌∷◌, ◌++◌, length, sym, refl, ap, ◌∙◌, subst, append_assoc, arith}
+use Rattle.std.proofs.Common.{◌≡◌, ◌≢◌, ℕ, ◌<◌, inl, inr, List, ◌++◌, sym, ap, ◌∙◌, subst, append_assoc}
 use Rattle.std.proofs.lemmas.List.{append_cancel_right}
-use Rattle.ks_keysets.specs.declared.NodeState.{NodeState}
-use Rattle.ks_keysets.specs.declared.NodeState.TheVariants.{Claimed}
-use Rattle.ks_keysets.specs.declared.Record.{Record}
-use Rattle.ks_keysets.specs.Keyset.{live_record, record_at, IsLive}
+use Rattle.ks_keysets.specs.Keyset.{live_record, IsLive}
 use Rattle.ks_keysets.specs.Layout.{Layout}
 use Rattle.ks_history.specs.declared.Event.{Event}
 use Rattle.ks_history.specs.Trace.{◌⊑◌, free, held, caller_of, graph_after, turn_after}
@@ -50,10 +47,10 @@ live_but_while_waiting layout c g h so are b one =
       is = ap live_record at_root.state ∙ b.is;
       full = b.full;
       others = λ j ne mine.
-        let before : turn_after g j ≡ held c = by_others_turn c j g h so mine in
-        let stays : StaysHeld c j g h = by_others_keeps c j g h so are before in
-        let l : IsLive (graph_after g) j = b.others j ne before in
-        (l.0, ap live_record stays.state ∙ l.1);
+          let before : turn_after g j ≡ held c = by_others_turn c j g h so mine in
+          let stays : StaysHeld c j g h = by_others_keeps c j g h so are before in
+          let l : IsLive (graph_after g) j = b.others j ne before in
+          (l.0, ap live_record stays.state ∙ l.1);
     }
 
 -- a beginning between two traces, when others alone act from the one to the other

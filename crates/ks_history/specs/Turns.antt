@@ -1,5 +1,5 @@
 -- Laws of traces: whose turn it is tells whether a node is live.
-use Rattle.std.proofs.Common.{◌≡◌, ◌≢◌, ℕ, zero, suc, ◌==◌, cond, Bool, true, false, List, [], ◌∷◌, Option, Some, None, sym, refl, ap, ◌∙◌, subst, arith}
+use Rattle.std.proofs.Common.{◌≡◌, ◌≢◌, ℕ, zero, suc, List, [], ◌∷◌, Option, Some, None, sym, refl, ap, ◌∙◌, arith}
 use Rattle.std.specs.Prelude.{All}
 use Rattle.std.proofs.lemmas.Option.{same_Some}
 use mathlib.Core.Logic.{dite}
@@ -9,13 +9,12 @@ use Rattle.ks_keysets.specs.declared.NodeState.TheVariants.{Free, Claimed, Live}
 use Rattle.ks_keysets.specs.declared.Record.{Record}
 use Rattle.ks_keysets.specs.declared.Change.{Change}
 use Rattle.ks_keysets.specs.Record.{empty_record}
-use Rattle.ks_keysets.specs.Keyset.{opening, live_record, record_at, IsLive}
-use Rattle.ks_keysets.specs.Change.{shaped}
+use Rattle.ks_keysets.specs.Keyset.{live_record, record_at, IsLive}
 use Rattle.ks_history.specs.declared.Event.{Event}
 use Rattle.ks_history.specs.declared.Event.TheVariants.{Take, Give, Claim, Shape, Call}
 use Rattle.ks_history.specs.Write.{Write, written, pairs_with}
-use Rattle.ks_history.specs.Trace.{given, state_with, graph_after, Turn, free, idle, held, turn_given, turn_after}
-use Rattle.ks_history.specs.Stays.{IsInTurn, AreInTurn, cond_here, cond_else, shaped_else}
+use Rattle.ks_history.specs.Trace.{given, state_with, graph_after, free, idle, held, turn_given, turn_after}
+use Rattle.ks_history.specs.Stays.{AreInTurn, cond_here, cond_else, shaped_else}
 
 -- what events do to the state of one node
 
