@@ -8,6 +8,8 @@
 
 mod laws;
 mod readers;
+#[cfg(test)]
+mod tests;
 
 pub use laws::{found_law, keyset_law, stroll_law};
 pub use readers::{edges_apart, keyset_spans, next_of, walk_end};
