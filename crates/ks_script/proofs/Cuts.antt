@@ -1,7 +1,7 @@
 -- Bytes that are cut at a byte, and digits.
-use Rattle.std.proofs.Common.{ℕ, zero, suc, ◌≡◌, ◌≢◌, ◌+◌, ◌-◌, ◌*◌, ◌^◌, ◌<◌, ◌≤◌, Bool, true, false, ◌&&◌, cond, eqb, List, [], ◌∷◌, ◌++◌, length, take, drop, get_or, refl, sym, ap, subst, ◌∙◌, append_assoc, arith, rules, codes, inl, inr, Option, Some, None, MatchOption, IfSome, IfNone}
-use Rattle.std.proofs.lemmas.List.{append-nil, drop_more, take-append-drop, take_all, drop-drop}
-use Rattle.std.proofs.lemmas.Bool.{false≢true, eqb-true, eq-eqb, cases_eq}
+use Rattle.std.proofs.Common.{ℕ, zero, suc, ◌≡◌, ◌+◌, ◌-◌, ◌*◌, ◌^◌, ◌<◌, ◌≤◌, Bool, true, false, ◌&&◌, cond, eqb, List, [], ◌∷◌, ◌++◌, length, take, drop, get_or, refl, sym, ap, subst, ◌∙◌, arith, rules, inl, inr, Option, Some, None, MatchOption, IfSome, IfNone}
+use Rattle.std.proofs.lemmas.List.{drop_more, take-append-drop, take_all, drop-drop}
+use Rattle.std.proofs.lemmas.Bool.{false≢true, eqb-true}
 use Rattle.std.proofs.lemmas.Bool.Decides.{eqb_tells}
 use Rattle.std.proofs.lemmas.Str.Parse.{IsNumeralModel, numerals_by_fold}
 use Rattle.std.proofs.lemmas.Fmt.{digits_decimal, digits_value-decimal, decimal_nonempty, first_decimal, decimal_digit, decimal-digits_value}
@@ -22,8 +22,8 @@ pub lines_first : (line rest : List ℕ) → Lacks 10 line → lines_of (line ++
 lines_first [] rest h = refl
 lines_first (b ∷ line) rest h =
     elim (eqb_tells b 10) [
-      inl same ↦ absurd (h.0 same.1)
-    | inr other ↦ ap (λ t. cond t ([] ∷ lines_of (line ++ 10 ∷ rest)) (onto_first b (lines_of (line ++ 10 ∷ rest)))) other.0 ∙ ap (onto_first b) (lines_first line rest h.1)
+      | inl same ↦ absurd (h.0 same.1)
+      | inr other ↦ ap (λ t. cond t ([] ∷ lines_of (line ++ 10 ∷ rest)) (onto_first b (lines_of (line ++ 10 ∷ rest)))) other.0 ∙ ap (onto_first b) (lines_first line rest h.1)
     ]
 
 -- less the first byte of a last line, it is one line or none
@@ -39,8 +39,8 @@ lines_rest : (line : List ℕ) → Lacks 10 line → lines_of line ≡ one_line 
 lines_rest [] h = refl
 lines_rest (b ∷ line) h =
     elim (eqb_tells b 10) [
-      inl same ↦ absurd (h.0 same.1)
-    | inr other ↦ ap (λ t. cond t ([] ∷ lines_of line) (onto_first b (lines_of line))) other.0 ∙ (ap (onto_first b) (lines_rest line h.1) ∙ joins b line)
+      | inl same ↦ absurd (h.0 same.1)
+      | inr other ↦ ap (λ t. cond t ([] ∷ lines_of line) (onto_first b (lines_of line))) other.0 ∙ (ap (onto_first b) (lines_rest line h.1) ∙ joins b line)
     ]
 
 pub lines_last : (bytes : List ℕ) → 0 < length bytes → Lacks 10 bytes → lines_of bytes ≡ bytes ∷ []
@@ -122,9 +122,9 @@ digits_lack c other (d ∷ ds) h =
     let parts = and_parts (is_ascii_digit d) (all_ascii_digits ds) h in
     ((λ e. false≢true (sym other ∙ (ap is_ascii_digit (sym e) ∙ parts.0))), digits_lack c other ds parts.1)
   where
-  and_parts : (a b : Bool) → (a && b) ≡ true → (a ≡ true) × (b ≡ true)
-  and_parts true b h = (refl, h)
-  and_parts false b h = absurd (false≢true h)
+    and_parts : (a b : Bool) → (a && b) ≡ true → (a ≡ true) × (b ≡ true)
+    and_parts true b h = (refl, h)
+    and_parts false b h = absurd (false≢true h)
 
 pub decimal_lacks : (c : ℕ) → is_ascii_digit c ≡ false → (n : ℕ) → n < 2 ^ 64 → Lacks c (decimal n)
 decimal_lacks c other n l = digits_lack c other (decimal n) (digits_decimal own n l)

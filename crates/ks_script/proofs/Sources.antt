@@ -1,6 +1,6 @@
 -- Sources that are read step by step.
-use Rattle.std.proofs.Common.{ℕ, ◌≡◌, ◌+◌, ◌-◌, ◌<◌, ◌≤◌, List, [], ◌++◌, length, take, drop, Option, Some, None, Result, Ok, Err, IfSome, refl, sym, ap, subst, ◌∙◌, append_assoc, length-append, arith}
-use Rattle.std.proofs.lemmas.List.{append-nil, take-append-drop, length-take-le}
+use Rattle.std.proofs.Common.{ℕ, List, ◌++◌, take, drop, Option, Some, None, Ok, sym, ap, subst, ◌∙◌, append_assoc}
+use Rattle.std.proofs.lemmas.List.{take-append-drop}
 use Rattle.ks_script.specs.Outside.{Reads, Moves, Gone}
 
 -- one read more

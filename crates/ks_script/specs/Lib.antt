@@ -5,3 +5,4 @@ pub mod Run
 pub mod Reading
 pub mod Checked
 pub mod Memory
+pub mod Front

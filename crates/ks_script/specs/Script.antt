@@ -1,5 +1,5 @@
 -- The grammar of scripts.
-use Rattle.std.specs.Prelude.{ℕ, ◌≡◌, ◌^◌, ◌<◌, ◌≤◌, List, ◌∷◌, ◌++◌, length, map, codes, sum_by}
+use Rattle.std.specs.Prelude.{ℕ, ◌≡◌, ◌+◌, ◌^◌, ◌<◌, ◌≤◌, List, [], ◌∷◌, ◌++◌, length, map, codes}
 use Rattle.std.specs.List.{flat_map, AllByRecursion}
 use Rattle.std.specs.Fmt.{decimal}
 use Rattle.ks_history.specs.declared.Op.{Op}
@@ -32,7 +32,8 @@ script_lines script = flat_map caller_lines script
 
 -- how many calls the callers have together
 abbrev pub calls_in : List (List Op) → ℕ
-calls_in script = sum_by (λ ops. length ops) script
+calls_in [] = 0
+calls_in (ops ∷ script) = length ops + calls_in script
 
 -- a script has at most 64 callers and 1048576 calls, which may all stand in one
 pub record IsScript (script : List (List Op)) : Type 0 where

@@ -7,6 +7,7 @@
 
 mod checked;
 mod fault;
+mod front;
 mod memory;
 mod outside;
 mod pieces;

@@ -6,6 +6,7 @@ ghost use Rattle.ks_script.specs.Script.{ScriptOf, FirstBadOfScript};
 ghost use Rattle.ks_script.specs.Reading.{Answers, Gives};
 
 use crate::TextFault;
+use crate::front::read_callers;
 use ks_history::Op;
 use std::alloc::Global;
 use std::marker::Model;
@@ -32,5 +33,13 @@ pub fn read_script(alloc: Global, bytes: &[u8]) -> Result<Script, TextFault>
     ensures script { (script : List (List Op)) → ScriptOf bytes.now script → Gives result (Ok script) }
     ensures refused { (n : ℕ) → FirstBadOfScript bytes.now n → Gives result (Err (TextFault.Refused n)) }
 {
-    Err(TextFault::Memory)
+    let front = read_callers(alloc, bytes)?;
+    if !front.rest.is_empty() {
+        return Err(TextFault::Refused {
+            line: front.lines + 1,
+        });
+    }
+    Ok(Script {
+        callers: front.callers,
+    })
 }

@@ -10,10 +10,7 @@ fn place_of(bytes: &[u8], byte: u8) -> usize
     ensures before { (k : ℕ) → k < result → slice_index bytes.now k ≡ byte → ⊥ }
     ensures found { result < length bytes.now → slice_index bytes.now result ≡ byte }
 {
-    bytes
-        .iter()
-        .position(|b| *b == byte)
-        .unwrap_or(bytes.len())
+    bytes.iter().position(|b| *b == byte).unwrap_or(bytes.len())
 }
 
 /// The bytes before the first such byte, and those after it.

@@ -1,4 +1,4 @@
-use Rattle.std.proofs.Common.{◌++◌, take, length, length-append, arith}
+use Rattle.std.proofs.Common.{◌++◌, take, length-append, arith}
 use Rattle.std.proofs.lemmas.List.{length-take-le}
 use Rattle.ks_script.proofs.Sources.{gone_on}
 use Rattle.ks_script.proofs.source.read_all.Goals as goal

@@ -1,4 +1,4 @@
-use Rattle.std.proofs.Common.{◌≡◌, ◌∷◌, ◌++◌, drop, sym, ap, ◌∙◌, arith, length, List, ℕ}
+use Rattle.std.proofs.Common.{◌∷◌, sym, ap, ◌∙◌, arith, length, List, ℕ}
 use Rattle.std.proofs.lemmas.List.{drop_all}
 use Rattle.ks_script.specs.Lines.{lines_of}
 use Rattle.ks_script.proofs.Cuts.{lines_first, lines_last, is_empty_false}

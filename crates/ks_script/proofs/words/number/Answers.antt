@@ -1,4 +1,4 @@
-use Rattle.std.proofs.Common.{◌≡◌, ◌+◌, ◌*◌, ◌-◌, ◌^◌, ◌≤◌, drop, sym, ap, ◌∙◌, arith, length, get_or, List, ℕ, refl}
+use Rattle.std.proofs.Common.{sym, ap, ◌∙◌, arith, length, get_or, refl}
 use Rattle.std.proofs.lemmas.List.{drop_all}
 use Rattle.std.specs.Str.{all_ascii_digits}
 use Rattle.ks_script.proofs.Cuts.{digits_some, no_digits, zero_first, other_byte, too_great, if_none_any, is_empty_true, is_empty_false, read_on}
@@ -37,8 +37,8 @@ returns-clause-some c =
     let rest = drop_all i bytes c.loop-byte-test.false in
     digits_some bytes c.loop-byte.number (is_empty_false (length bytes) c.is_empty.result c.is_empty.ensures c.if-is_empty.false)
     (elim c.else-bytes-eq48.branch [
-      else-bytes-eq48-via-then-bytes-eq48+else-bytes-gt1 w ↦ (λ z. let full = is_empty_false (length bytes) c.is_empty.result c.is_empty.ensures c.if-is_empty.false in omega arith)
-    | else-bytes-eq48-via-else-bytes-eq48 w ↦ (λ z. absurd (w.if-bytes-eq48.false z))
+      | else-bytes-eq48-via-then-bytes-eq48+else-bytes-gt1 w ↦ (λ z. let full = is_empty_false (length bytes) c.is_empty.result c.is_empty.ensures c.if-is_empty.false in omega arith)
+      | else-bytes-eq48-via-else-bytes-eq48 w ↦ (λ z. absurd (w.if-bytes-eq48.false z))
     ])
     (sym c.loop-byte.invariant.digits ∙ ap all_ascii_digits rest)
     (sym c.loop-byte.invariant.value ∙ ap (read_on c.loop-byte.number) rest)

@@ -1,4 +1,4 @@
-use Rattle.std.proofs.Common.{◌≡◌, ◌∷◌, ◌++◌, [], drop, sym, ap, ◌∙◌, arith, length, subst, append_assoc, codes, refl, List, ℕ}
+use Rattle.std.proofs.Common.{sym, ◌∙◌, subst, append_assoc, codes, refl}
 use Rattle.std.specs.Fmt.{decimal}
 use Rattle.ks_script.specs.Lines.{Lacks}
 use Rattle.ks_script.proofs.Cuts.{if_none_any, one_cut, lacks_not, decimal_lacks}
