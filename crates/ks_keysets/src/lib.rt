@@ -22,7 +22,7 @@ pub struct Edge {
 }
 
 /// A value at a place.
-#[derive(Clone, Copy, Debug, PartialEq, Eq)]
+#[derive(Clone, Copy, Debug, Default, PartialEq, Eq)]
 pub struct Pair {
     pub place: u64,
     pub value: u128,
