@@ -17,7 +17,7 @@ use Rattle.ks_node.specs.Ascend.{asc_nil, asc_tail, asc_head, asc_cons}
 use Rattle.ks_node.specs.Body.{last_node, led_to, starts_below, starts_from, begins, first_node}
 use Rattle.ks_node.specs.Effect.{runs, runs_after, without, without_at}
 use Rattle.ks_node.specs.Sound.{starts_at_zero}
-use Rattle.ks_hash.specs.Slices.{is_size, width_of, slice_starts, starts_of, doubled, led_over, run_led}
+use Rattle.ks_hash.specs.Slices.{is_size, width_of, slice_starts, repeats, starts_of, doubled, led_over, run_led}
 
 differ : {b : Bool} → b ≡ false → b ≡ true → ⊥
 differ e f = cc
@@ -82,10 +82,6 @@ led_is : (ss : List Start) (p : ℕ) → led_to ss p ≡ lead None ss p
 led_is ss p = last_none (starts_below (suc p) ss) ∙ lead_filter None ss p
 
 -- starts without those that lead where the one before leads, after one that leads to a node or after none
-
-abbrev pub repeats : Option ℕ → ℕ → Bool
-repeats None m = false
-repeats (Some k) m = nat_eq m k
 
 abbrev pub joined_after : Option ℕ → List Start → List Start
 joined_after o [] = []

@@ -1,5 +1,5 @@
 -- The slices of a directory: equal parts of all places, each with the child that it leads to.
-use Rattle.std.specs.Prelude.{◌≡◌, ℕ, ◌+◌, ◌/◌, ◌^◌, ◌||◌, Bool, cond, nat_eq, IsTrue, List, [], ◌∷◌, ◌++◌, length, get_or, take, drop}
+use Rattle.std.specs.Prelude.{◌≡◌, ℕ, ◌+◌, ◌/◌, ◌^◌, ◌||◌, Bool, false, cond, nat_eq, IsTrue, List, [], ◌∷◌, ◌++◌, length, get_or, take, drop, Option, None, Some}
 use Rattle.ks_node.specs.declared.start.Start.{Start}
 use Rattle.ks_node.specs.Effect.{runs}
 
@@ -14,6 +14,11 @@ smallest = 288230376151711744
 -- the places of each of some slices
 abbrev pub width_of : List ℕ → ℕ
 width_of cs = 2 ^ 64 / length cs
+
+-- a slice leads where the one before it leads, if there is one before it
+abbrev pub repeats : Option ℕ → ℕ → Bool
+repeats None m = false
+repeats (Some k) m = nat_eq m k
 
 -- each slice as a start, the first of them at a place
 abbrev pub slice_starts : ℕ → ℕ → List ℕ → List Start
