@@ -11,6 +11,8 @@ use Rattle.std.specs.List.{position_or_len}
 use Rattle.std.proofs.lemmas.Grind.{get_or_default_zero}
 use Rattle.std.proofs.Math.Seq.{get_or-append_seam, take-append_seam, drop-append_seam, drop-append-add}
 use Rattle.std.proofs.lemmas.List.Elements.{filter-append, All-weaker, All-cons, All-head, All-tail, All-append, All-nil}
+use Rattle.std.proofs.Math.Nat.{mul_comm}
+use Rattle.ks_keysets.specs.Record.{top}
 use Rattle.ks_node.specs.declared.start.Start.{Start}
 use Rattle.ks_node.specs.Keyed.{Ascends}
 use Rattle.ks_node.specs.Ascend.{asc_nil, asc_tail, asc_head, asc_cons}
@@ -300,11 +302,11 @@ below_all : (cut : ℕ) (ss : List Start) → All (λ s. s.low < cut) ss → sta
 below_all cut [] a = refl
 below_all cut (s ∷ ss) a = rw (lt-ltb s.low cut (All-head (λ s. s.low < cut) s ss a)) (ap (λ l. s ∷ l) (below_all cut ss (All-tail (λ s. s.low < cut) s ss a)))
 
-below_none : (cut : ℕ) (ss : List Start) → All (λ s. cut ≤ s.low) ss → starts_below cut ss ≡ []
+pub below_none : (cut : ℕ) (ss : List Start) → All (λ s. cut ≤ s.low) ss → starts_below cut ss ≡ []
 below_none cut [] a = refl
 below_none cut (s ∷ ss) a = rw (le-ltb s.low cut (All-head (λ s. cut ≤ s.low) s ss a)) (below_none cut ss (All-tail (λ s. cut ≤ s.low) s ss a))
 
-from_all : (cut : ℕ) (ss : List Start) → All (λ s. cut ≤ s.low) ss → starts_from cut ss ≡ ss
+pub from_all : (cut : ℕ) (ss : List Start) → All (λ s. cut ≤ s.low) ss → starts_from cut ss ≡ ss
 from_all cut [] a = refl
 from_all cut (s ∷ ss) a = rw (le-leb cut s.low (All-head (λ s. cut ≤ s.low) s ss a)) (ap (λ l. s ∷ l) (from_all cut ss (All-tail (λ s. cut ≤ s.low) s ss a)))
 
@@ -545,3 +547,9 @@ starts_unforgot cs id none =
       | inl past ↦ differ (fails_before_first (λ c. nat_eq c id) cs k d (omega arith)) (eq-eqb _ _ e)
       | inr before ↦ some_none _ (sym (before_is (position_or_len (λ c. nat_eq c id) cs) (length cs) (before.1)) ∙ none)
     ]
+
+pub starts_places : (cs : List ℕ) → IsTrue (is_size (length cs)) → All (λ s. s.low ≤ top) (starts_of cs)
+starts_places cs size =
+    let all : length cs * width_of cs ≡ 2 ^ 64 = mul_comm (length cs) (width_of cs) ∙ width_whole (length cs) size in
+    subst (All (λ s. s.low ≤ top)) (runs_is _) (all_joined (λ s. s.low ≤ top) None _
+    (All-weaker (λ s. s.low < 0 + length cs * width_of cs) (λ s. s.low ≤ top) (λ s l. omega arith) _ (slices_below (width_of cs) 0 cs (width_pos (length cs) size))))

@@ -3,3 +3,4 @@
 
 mod pairs;
 mod slices;
+mod spans;

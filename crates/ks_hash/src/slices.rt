@@ -4,7 +4,7 @@
 //! the same child are one edge of the record. A slice that is to be cut is halved with all others, which changes no
 //! edge; then the slices from the cut to the end of the run get the new child.
 
-ghost use Rattle.std.specs.Prelude.{◌≡◌, ℕ, ◌+◌, ◌%◌, ◌<◌, ◌≤◌, ◌++◌, ◌∷◌, IsTrue, Some, false, length, Option, position, nat_eq};
+ghost use Rattle.std.specs.Prelude.{◌≡◌, ℕ, ◌+◌, ◌%◌, ◌<◌, ◌≤◌, ◌++◌, ◌∷◌, [], IsTrue, Some, false, length, Option, position, nat_eq};
 ghost use Rattle.ks_node.specs.Body.{starts_below, starts_from, led_to, begins, first_node};
 ghost use Rattle.ks_node.specs.Effect.{runs, without};
 ghost use Rattle.ks_hash.specs.Slices.{is_size, width_of, smallest, starts_of, repeats, doubled, run_led};
@@ -119,6 +119,15 @@ pub(crate) fn adopt_slice(slices: &mut Slices, cut: u64, id: u32)
     double_until(slices, cut);
     let at = (cut / width(slices.as_slice())) as usize;
     lead_run(slices.as_mut_slice(), at, id);
+}
+
+/// Makes the slices two, each a half of all places.
+pub(crate) fn halve(slices: &mut Slices, left: u32, right: u32)
+    ensures { slices.new.items ≡ left ∷ right ∷ [] }
+{
+    slices.clear();
+    slices.push(left);
+    slices.push(right);
 }
 
 /// Where the first slice that leads to the child stands.
