@@ -22,7 +22,7 @@ use Rattle.ks_node.specs.Asks.{Absorbs, CanSplitAt, IsCut, Suits, IsNoneOr, IsGo
 use Rattle.ks_node.specs.Sound.{Sound}
 use Rattle.ks_node.specs.Starts.{differ, filter_le}
 use Rattle.ks_node.specs.Keep.{sound_put, sound_del, sound_adopt, sound_right, sound_absorb}
-use Rattle.ks_node.specs.Spans.{plain_edges, edges_are, length_edges}
+use Rattle.ks_node.specs.Spans.{AreWithin, within_all, plain_edges, edges_are, length_edges}
 use Rattle.ks_hash.specs.Slices.{is_size, smallest, starts_of}
 use Rattle.ks_hash.specs.Joined.{starts_ascend, starts_zero, starts_places, size_bounds, from_all, below_none}
 use Rattle.ks_hash.specs.Hash.{kind_of, own_starts, hash_starts, hash_content, hash_body, hash_can_adopt, middle, hash_grows, hash_can_grow, slices_in, is_whole, middle_of, fifth, hash_cut, Fit}
@@ -71,20 +71,27 @@ sound_slices low ps own ss up none size =
 
 -- a full node is a bucket with eight pairs
 
-pub full_bucket : (low : ℕ) (b : Bool) (ps : List Pair) (own : Option Start) (ss : List ℕ) → IsTrue (is_full hash_layout (hash_body low b ps own ss)) → (b ≡ false) × (length ps ≡ 8)
-full_bucket low true ps own ss h = absurd (differ refl h)
-full_bucket low false ps own ss h = (refl, eqb-true (length ps) 8 h)
+pub full_bucket : {low : ℕ} {b : Bool} {ps : List Pair} {own : Option Start} {ss : List ℕ} → Fit low b ps own ss → IsTrue (is_full hash_layout (hash_body low b ps own ss)) → b ≡ false
+full_bucket {b = true} f h = absurd (differ refl h)
+full_bucket {b = false} f h = refl
 
--- a blank body is a bucket with no pair and no edge
-pub blank_parts : (low : ℕ) (b : Bool) (ps : List Pair) (own : Option Start) (ss : List ℕ) → IsBlank (hash_body low b ps own ss) → (b ≡ false) × (ps ≡ []) × (own ≡ None)
-blank_parts low b ps own ss h = (not_directory b (ap (λ x. x.kind) h), ap (λ x. x.pairs) h, no_own own (subst (λ c. cond c (starts_of ss) (own_starts own) ≡ []) (not_directory b (ap (λ x. x.kind) h)) (ap (λ x. x.starts) h)))
+-- a blank body is a bucket
+pub blank_bucket : {low : ℕ} {b : Bool} {ps : List Pair} {own : Option Start} {ss : List ℕ} → Fit low b ps own ss → IsBlank (hash_body low b ps own ss) → b ≡ false
+blank_bucket {b = b} f h = not_directory b (ap (λ x. x.kind) h)
   where
     not_directory : (b : Bool) → kind_of b ≡ NoBranch → b ≡ false
     not_directory true e = cc
     not_directory false e = refl
-    no_own : (own : Option Start) → own_starts own ≡ [] → own ≡ None
-    no_own None e = refl
-    no_own (Some s) e = cc
+
+-- a branch is a directory
+pub is_directory : (b : Bool) → IsTrue (is_branch_kind (kind_of b)) → b ≡ true
+is_directory true h = refl
+is_directory false h = absurd (differ refl h)
+
+-- a bucket's own edge starts at the cut of a split or above
+pub split_above : {low : ℕ} {b : Bool} {ps : List Pair} {own : Option Start} {ss : List ℕ} → Fit low b ps own ss → (cut : ℕ) → b ≡ false → CanSplitAt (hash_body low b ps own ss) cut → All (λ s. cut ≤ s.low) (hash_starts b own ss)
+split_above {b = true} f cut e h = absurd (differ e refl)
+split_above {b = false} f cut e h = h.2 refl
 
 -- two nodes that fit are buckets
 pub fitting_buckets : (low right_low : ℕ) (b c : Bool) (ps qs : List Pair) (own right_own : Option Start) (ss ts : List ℕ) →
@@ -181,6 +188,9 @@ fit_edges {low} {b} {ps} {own} {ss} f = edges_are (hash_body low b ps own ss) f.
 
 pub fit_edge_count : {low : ℕ} {b : Bool} {ps : List Pair} {own : Option Start} {ss : List ℕ} → Fit low b ps own ss → length (edges_of (hash_body low b ps own ss)) ≡ length (hash_starts b own ss)
 fit_edge_count {low} {b} {ps} {own} {ss} f = length_edges (hash_body low b ps own ss) f.sound (λ r e. absurd (no_range r e)) refl
+
+pub fit_within : {low : ℕ} {b : Bool} {ps : List Pair} {own : Option Start} {ss : List ℕ} → Fit low b ps own ss → AreWithin 0 top (hash_starts b own ss)
+fit_within {low} {b} {ps} {own} {ss} f = within_all (hash_body low b ps own ss) f.sound
 
 -- cuts
 
