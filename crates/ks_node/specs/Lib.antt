@@ -10,3 +10,4 @@ pub mod Starts
 pub mod Keep
 pub mod Within
 pub mod Spans
+pub mod Wrapped

@@ -5,16 +5,20 @@
 //! read in the order Keyed, Body, Edges, Room, Effect, Asks, Sound. `WithRange` gives a range to any node.
 #![tactic(auto)]
 
+mod edge;
 mod keyed;
 mod laws;
 mod node;
 mod ranged;
 mod start;
 mod unlinked;
+mod with_range;
 
+pub use edge::cut_edge;
 pub use keyed::{Keyed, rank, seek};
 pub use laws::node_law;
 pub use node::Node;
 pub use ranged::{Linked, Ranged};
 pub use start::{Next, Start};
 pub use unlinked::{Growing, Unlinked};
+pub use with_range::WithRange;

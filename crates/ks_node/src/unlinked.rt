@@ -5,7 +5,7 @@ ghost use Rattle.ks_keysets.specs.declared.Span.{Span};
 ghost use Rattle.ks_node.specs.Body.{Body, content_of, is_branch, IsBlank, only_child_of, first_node};
 ghost use Rattle.ks_node.specs.Room.{is_full, fit_together};
 ghost use Rattle.ks_node.specs.Effect.{split_left, split_right, reached, grown, absorbed, forgot, collapsed, emptied};
-ghost use Rattle.ks_node.specs.Asks.{CanSplitAt, Suits, IsNoneOr, AreNext, Absorbs, AdoptsInside};
+ghost use Rattle.ks_node.specs.Asks.{CanSplitAt, Suits, IsNoneOr, IsGoodCut, AreNext, Absorbs, AdoptsInside};
 
 use crate::node::Node;
 
@@ -64,7 +64,7 @@ pub trait Unlinked: Node {
 
     /// Where it does not grow in place: either each full node can adopt its cut, or each node grows, branches alone
     /// have edges, and a branch that is not full adopts each cut in its range at which no edge starts.
-    ghost sort: { Self.in_place ≡ false → ((s : Self) (span : Span) (o : Option Span) → IsTrue (is_full Self.layout (Self.body s)) → Suits (Self.body s) span → IsNoneOr o span → IsTrue (Self.can_adopt_at (content_of (Self.body s)) (Self.cut_at (content_of (Self.body s)) o))) ⊎ ((s : Self) → IsTrue (Self.grows_at (content_of (Self.body s))) × (is_branch (Self.body s) ≡ false → length (Self.body s).starts ≡ 0) × AdoptsInside Self.can_adopt_at Self.layout (Self.body s)) };
+    ghost sort: { Self.in_place ≡ false → ((s : Self) (span : Span) (o : Option Span) → IsTrue (is_full Self.layout (Self.body s)) → Suits (Self.body s) span → IsNoneOr o span → IsGoodCut (Self.body s) span (Self.cut_at (content_of (Self.body s)) o) → IsTrue (Self.can_adopt_at (content_of (Self.body s)) (Self.cut_at (content_of (Self.body s)) o))) ⊎ ((s : Self) → IsTrue (Self.grows_at (content_of (Self.body s))) × (is_branch (Self.body s) ≡ false → length (Self.body s).starts ≡ 0) × AdoptsInside Self.can_adopt_at Self.layout (Self.body s)) };
 }
 
 /// A node that grows where it is a branch or has no edge.
