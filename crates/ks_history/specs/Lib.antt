@@ -13,3 +13,4 @@ pub mod Begins
 pub mod Turns
 pub mod Calls
 pub mod Dues
+pub mod Underway
