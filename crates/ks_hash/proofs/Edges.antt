@@ -61,6 +61,7 @@ module _ (ss : List Start) (n p : ℕ) (lower : starts_below (suc p) ss ≡ take
           let here : (get_or (take (suc n) ss) n none).low < suc p = upto n none (omega arith) in
           let same : (get_or (take (suc n) ss) n none).low ≡ (get_or ss n none).low = ap (λ s. s.low) (get_or-take (suc n) ss n none (omega arith)) in
           omega arith
+
       last : (ts : List Start) → All (λ s. suc p ≤ s.low) ts → p ≤ last_before ts
       last [] a = l
       last (t ∷ ts) a = let above : suc p ≤ t.low = All-head (λ s. suc p ≤ s.low) t ts a in omega arith

@@ -46,6 +46,7 @@ lead_all child to i cs e = ap (λ n. take n cs ++ led_over child to (drop n cs))
     drop_all : (cs : List ℕ) → drop (length cs) cs ≡ []
     drop_all [] = refl
     drop_all (c ∷ cs) = drop_all cs
+
     all : (cs : List ℕ) → take (length cs) cs ++ led_over child to (drop (length cs) cs) ≡ cs
     all cs = ap (λ l. take (length cs) cs ++ led_over child to l) (drop_all cs) ∙ append-nil _ ∙ take-length cs
 

@@ -226,6 +226,7 @@ cut_below {low} {ps} {own} {ss} f eight o = by_option o
   where
     by_fifth : All (λ s. fifth ps < s.low) (own_starts own)
     by_fifth k d h = f.sound.own_pairs refl k d h 4 (record { place = 0; value = 0 }) (omega arith)
+
     by_option : (o : Option Span) → All (λ s. hash_cut (hash_content low false ps own ss) o < s.low) (own_starts own)
     by_option None = by_fifth
     by_option (Some span) = chosen (λ n. All (λ s. n < s.low) (own_starts own)) (is_whole span && list_all (λ s. nat_lt (middle_of span) s.low) (own_starts own)) (middle_of span) (fifth ps)
@@ -266,6 +267,7 @@ fit_cuts {low} {b = false} {ps} {own} {ss} f full o span suits is =
         let fifth_in = suits.pairs 4 none (omega arith) in
         let rise = f.sound.pairs_ascend 0 4 none (omega arith) (omega arith) in
         (omega (arith, first.0, rise), fifth_in.1)
+
     lies : length ps ≡ 8 → (o : Option Span) → IsNoneOr o span → (span.low < hash_cut (hash_content low false ps own ss) o) × (hash_cut (hash_content low false ps own ss) o ≤ span.last)
     lies eight None is = by_fifth eight
     lies eight (Some given) is =

@@ -31,11 +31,23 @@ or_eq n k b h = elim (eqb_tells n k) [ inl e ↦ inl e.1 | inr e ↦ inr (rw e.0
 
 pub by_size : (P : ℕ → Type 0) → P 2 → P 4 → P 8 → P 16 → P 32 → P 64 → (n : ℕ) → IsTrue (is_size n) → P n
 by_size P a b c d e f n h =
-    elim (or_eq n 2 _ h) [ inl q ↦ subst P (sym q) a | inr h ↦
-    elim (or_eq n 4 _ h) [ inl q ↦ subst P (sym q) b | inr h ↦
-    elim (or_eq n 8 _ h) [ inl q ↦ subst P (sym q) c | inr h ↦
-    elim (or_eq n 16 _ h) [ inl q ↦ subst P (sym q) d | inr h ↦
-    elim (or_eq n 32 _ h) [ inl q ↦ subst P (sym q) e | inr h ↦ subst P (sym (eqb-true n 64 h)) f ] ] ] ] ]
+    elim (or_eq n 2 _ h) [
+      | inl q ↦ subst P (sym q) a
+      | inr h ↦
+          elim (or_eq n 4 _ h) [
+            | inl q ↦ subst P (sym q) b
+            | inr h ↦
+                elim (or_eq n 8 _ h) [
+                  | inl q ↦ subst P (sym q) c
+                  | inr h ↦
+                      elim (or_eq n 16 _ h) [
+                        | inl q ↦ subst P (sym q) d
+                        | inr h ↦
+                            elim (or_eq n 32 _ h) [ inl q ↦ subst P (sym q) e | inr h ↦ subst P (sym (eqb-true n 64 h)) f ]
+                      ]
+                ]
+          ]
+    ]
 
 -- the width times the number of slices is the number of places
 pub width_whole : (n : ℕ) → IsTrue (is_size n) → (2 ^ 64 / n) * n ≡ 2 ^ 64
@@ -165,11 +177,14 @@ lead_joined o (s ∷ ss) p a = elim (bool_cases (repeats o s.node)) [
     same_both : (b : Bool) (x y : Option ℕ) → y ≡ x → cond b y x ≡ x
     same_both true x y e = e
     same_both false x y e = refl
+
     by_test : (b : Bool) {x y u v : Option ℕ} → x ≡ y → (b ≡ false → u ≡ v) → cond b x u ≡ cond b y v
     by_test true e f = e
     by_test false e f = f refl
+
     above : (p : ℕ) → All (λ t. p < t.low) ss → lead o (joined_after (Some s.node) ss) p ≡ lead o ss p
     above p h = lead_above o (joined_after (Some s.node) ss) p (all_joined (λ t. p < t.low) (Some s.node) ss h) ∙ sym (lead_above o ss p h)
+
     test_far : (a b p : ℕ) → nat_lt a (suc p) ≡ false → a < b → p < b
     test_far a b p e l = elim (leb_tells (suc p) a) [ inl h ↦ omega arith | inr h ↦ absurd (differ e (lt-ltb _ _ (omega arith))) ]
 
@@ -214,6 +229,7 @@ led_slice cs p d size h =
   where
     floor_le : (p w : ℕ) → 0 < w → 0 + (p / w) * w ≤ p
     floor_le p w h = omega arith
+
     floor_lt : (p w : ℕ) → 0 < w → p < 0 + suc (p / w) * w
     floor_lt p w h = omega arith
 
@@ -295,6 +311,7 @@ slices_below width low (c ∷ cs) h =
   where
     here : (low width n : ℕ) → 0 < width → low < low + suc n * width
     here low width n h = omega arith
+
     further : (p low width n : ℕ) → p < low + width + n * width → p < low + suc n * width
     further p low width n h = omega arith
 
@@ -381,11 +398,11 @@ adopt_parts width id child cs ds pos last ss is =
     let low : starts_below cut ss ≡ front = ap (starts_below cut) whole ∙ below_parts cut front back (front_below width cs pos) (back_from (Some child) width cut (child ∷ ds)) in
     let high : starts_from cut ss ≡ back = ap (starts_from cut) whole ∙ from_parts cut front back (front_below width cs pos) (back_from (Some child) width cut (child ∷ ds)) in
     let left : joined_after None (slice_starts width 0 (cs ++ led_over child id (child ∷ ds))) ≡ front ++ joined_after (Some child) (slice_starts width cut (led_over child id (child ∷ ds))) =
-        joined_parts width cs (led_over child id (child ∷ ds)) ∙ ap (λ o. front ++ joined_after o (slice_starts width cut (led_over child id (child ∷ ds)))) last in
+    joined_parts width cs (led_over child id (child ∷ ds)) ∙ ap (λ o. front ++ joined_after o (slice_starts width cut (led_over child id (child ∷ ds)))) last in
     let right : joined_after None (front ++ record { low = cut; node = id } ∷ back) ≡ front ++ joined_after (Some child) (record { low = cut; node = id } ∷ back) =
-        joined_append None front (record { low = cut; node = id } ∷ back)
-        ∙ ap (λ l. l ++ joined_after (last_or None front) (record { low = cut; node = id } ∷ back)) (joined_twice None (slice_starts width 0 cs))
-        ∙ ap (λ o. front ++ joined_after o (record { low = cut; node = id } ∷ back)) (last_joined None (slice_starts width 0 cs) ∙ last) in
+    joined_append None front (record { low = cut; node = id } ∷ back)
+    ∙ ap (λ l. l ++ joined_after (last_or None front) (record { low = cut; node = id } ∷ back)) (joined_twice None (slice_starts width 0 cs))
+    ∙ ap (λ o. front ++ joined_after o (record { low = cut; node = id } ∷ back)) (last_joined None (slice_starts width 0 cs) ∙ last) in
     rw (low, high) (left ∙ ap (λ l. front ++ l) (adopt_back width cut id child ds) ∙ sym right)
   where
     adopt_back : (width cut id child : ℕ) (ds : List ℕ) →
@@ -405,9 +422,9 @@ without_parts id ss ts s none here =
     let whole : List Start = ss ++ s ∷ ts in
     let long : length whole ≡ length ss + suc (length ts) = length-append ss (s ∷ ts) in
     let found : position_or_len (λ t. nat_eq t.node id) whole ≡ length ss =
-        position_or_len_is (λ t. nat_eq t.node id) whole (length ss) s (omega arith)
-        (λ k h. ap (λ t. nat_eq t.node id) (get_or_append_left ss (s ∷ ts) s k h) ∙ ne_eqb _ _ (none k s h))
-        (λ h. ap (λ t. nat_eq t.node id) (get_or-append_seam ss s ts s) ∙ eq-eqb _ _ here) in
+    position_or_len_is (λ t. nat_eq t.node id) whole (length ss) s (omega arith)
+    (λ k h. ap (λ t. nat_eq t.node id) (get_or_append_left ss (s ∷ ts) s k h) ∙ ne_eqb _ _ (none k s h))
+    (λ h. ap (λ t. nat_eq t.node id) (get_or-append_seam ss s ts s) ∙ eq-eqb _ _ here) in
     let inside : nat_lt (length ss) (length whole) ≡ true = lt-ltb _ _ (omega arith) in
     let at : position (λ t. nat_eq t.node id) whole ≡ Some (length ss) = rw (found, inside) refl in
     ap (λ o. without_at o whole) at
@@ -434,13 +451,13 @@ forget_parts width id before cs ds pos last none other =
     let front : List Start = joined_after None (slice_starts width 0 cs) in
     let rest : List Start = joined_after (Some id) (slice_starts width (cut + width) ds) in
     let whole : joined_after None (slice_starts width 0 (cs ++ id ∷ ds)) ≡ front ++ record { low = cut; node = id } ∷ rest =
-        joined_parts width cs (id ∷ ds) ∙ ap (λ o. front ++ joined_after o (slice_starts width cut (id ∷ ds))) last ∙ rw differs refl in
+    joined_parts width cs (id ∷ ds) ∙ ap (λ o. front ++ joined_after o (slice_starts width cut (id ∷ ds))) last ∙ rw differs refl in
     let left : joined_after None (slice_starts width 0 (cs ++ led_over id before (id ∷ ds))) ≡ front ++ joined_after (Some before) (slice_starts width (cut + width) (led_over id before ds)) =
-        joined_parts width cs (led_over id before (id ∷ ds)) ∙ ap (λ o. front ++ joined_after o (slice_starts width cut (led_over id before (id ∷ ds)))) last ∙ rw (again, stays) refl in
+    joined_parts width cs (led_over id before (id ∷ ds)) ∙ ap (λ o. front ++ joined_after o (slice_starts width cut (led_over id before (id ∷ ds)))) last ∙ rw (again, stays) refl in
     let right : joined_after None (front ++ rest) ≡ front ++ joined_after (Some before) rest =
-        joined_append None front rest
-        ∙ ap (λ l. l ++ joined_after (last_or None front) rest) (joined_twice None (slice_starts width 0 cs))
-        ∙ ap (λ o. front ++ joined_after o rest) (last_joined None (slice_starts width 0 cs) ∙ last) in
+    joined_append None front rest
+    ∙ ap (λ l. l ++ joined_after (last_or None front) rest) (joined_twice None (slice_starts width 0 cs))
+    ∙ ap (λ o. front ++ joined_after o rest) (last_joined None (slice_starts width 0 cs) ∙ last) in
     left ∙ ap (λ l. front ++ l) (led_joined id before width (cut + width) ds) ∙ sym right
     ∙ ap (joined_after None) (sym (ap (without id) whole ∙ without_parts id front rest (record { low = cut; node = id }) (all_joined (λ t. t.node ≡ id → ⊥) None _ (nodes_other id width 0 cs none)) refl))
 
@@ -508,7 +525,7 @@ starts_forgot cs (suc j) id size pos at =
     let whole : cs ≡ front ++ id ∷ ds = sym (ap (λ l. front ++ l) (sym back) ∙ take-append-drop i cs) in
     let last : last_or None (slice_starts w 0 front) ≡ Some (get_or cs j 0) = last_slice None w 0 cs j 0 (omega arith) in
     let led : run_led i (get_or cs (i - 1) 0) cs ≡ front ++ led_over id (get_or cs j 0) (id ∷ ds) =
-        ap (λ n. front ++ led_over (get_or cs i 0) (get_or cs n 0) (drop i cs)) step ∙ ap (λ n. front ++ led_over n (get_or cs j 0) (drop i cs)) child ∙ ap (λ l. front ++ led_over id (get_or cs j 0) l) back in
+    ap (λ n. front ++ led_over (get_or cs i 0) (get_or cs n 0) (drop i cs)) step ∙ ap (λ n. front ++ led_over n (get_or cs j 0) (drop i cs)) child ∙ ap (λ l. front ++ led_over id (get_or cs j 0) l) back in
     starts_joined (run_led i (get_or cs (i - 1) 0) cs)
     ∙ ap (λ n. joined_after None (slice_starts (2 ^ 64 / n) 0 (run_led i (get_or cs (i - 1) 0) cs))) (run_length i (get_or cs (i - 1) 0) cs)
     ∙ ap (λ l. joined_after None (slice_starts w 0 l)) led
@@ -531,8 +548,8 @@ starts_unforgot cs id none =
     let front : List Start = starts_of cs in
     let others : All (λ t. t.node ≡ id → ⊥) front = subst (All (λ t. t.node ≡ id → ⊥)) (runs_is _) (all_joined (λ t. t.node ≡ id → ⊥) None _ (nodes_other id (width_of cs) 0 cs (none_is cs none))) in
     let end : position_or_len (λ t. nat_eq t.node id) front ≡ length front =
-        position_or_len_is (λ t. nat_eq t.node id) front (length front) (record { low = 0; node = 0 }) (omega arith)
-        (λ k h. ne_eqb _ _ (others k (record { low = 0; node = 0 }) h)) (λ h. absurd (omega arith)) in
+    position_or_len_is (λ t. nat_eq t.node id) front (length front) (record { low = 0; node = 0 }) (omega arith)
+    (λ k h. ne_eqb _ _ (others k (record { low = 0; node = 0 }) h)) (λ h. absurd (omega arith)) in
     let outside : nat_lt (length front) (length front) ≡ false = le-ltb _ _ (omega arith) in
     let at : position (λ t. nat_eq t.node id) front ≡ None = rw (end, outside) refl in
     ap (λ o. runs (without_at o front)) at
@@ -540,8 +557,10 @@ starts_unforgot cs id none =
   where
     before_is : (i n : ℕ) → i < n → cond (nat_lt i n) (Some i) None ≡ Some i
     before_is i n h = rw (lt-ltb i n h) refl
+
     some_none : (i : ℕ) → Some i ≡ None → ⊥
     some_none i e = cc
+
     none_is : (cs : List ℕ) → position (λ c. nat_eq c id) cs ≡ None → All (λ c. c ≡ id → ⊥) cs
     none_is cs none k d h e = elim (leb_tells (length cs) (position_or_len (λ c. nat_eq c id) cs)) [
       | inl past ↦ differ (fails_before_first (λ c. nat_eq c id) cs k d (omega arith)) (eq-eqb _ _ e)

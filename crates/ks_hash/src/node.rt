@@ -8,7 +8,9 @@ ghost use Rattle.std.proofs.Props.{props};
 ghost use Rattle.ks_hash.specs.Hash.{Fit};
 
 use crate::pairs::{Pairs, append_pairs, delete_pair, move_pairs, put_pair};
-use crate::slices::{SMALLEST, Slices, Starts, adopt_slice, child_at, forget_child, halve, runs_of};
+use crate::slices::{
+    SMALLEST, Slices, Starts, adopt_slice, child_at, forget_child, halve, runs_of,
+};
 use crate::spans::{all_above, cut_by, next_by, span_in};
 use ks_keysets::{Edge, Pair, Span};
 use ks_node::{
@@ -300,3 +302,6 @@ impl Growing for HNode {
 
     ghost grows_where = { λ n h. fit_grows n.fit h };
 }
+
+#[cfg(test)]
+mod tests;

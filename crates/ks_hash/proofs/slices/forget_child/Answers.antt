@@ -13,9 +13,9 @@ returns-in-Some-clause-starts c =
     let cs = c.args.slices.now.items in
     let at : position (λ x. nat_eq x c.args.id) cs ≡ Some c.in-Some.at = rw (← c.as_slice.ensures.value) (sym c.position_of.ensures ∙ c.in-Some.is) in
     let led : c.lead_run.new.slices ≡ run_led c.in-Some.at (get_or cs (c.in-Some.at - 1) 0) cs =
-        c.lead_run.ensures
-        ∙ ap (λ l. run_led c.in-Some.at (get_or c.as_slice-in-Some.result.now (c.in-Some.at - 1) 0) l) c.as_mut_slice.ensures.value
-        ∙ ap (λ l. run_led c.in-Some.at (get_or l (c.in-Some.at - 1) 0) cs) c.as_slice-in-Some.ensures.value in
+    c.lead_run.ensures
+    ∙ ap (λ l. run_led c.in-Some.at (get_or c.as_slice-in-Some.result.now (c.in-Some.at - 1) 0) l) c.as_mut_slice.ensures.value
+    ∙ ap (λ l. run_led c.in-Some.at (get_or l (c.in-Some.at - 1) 0) cs) c.as_slice-in-Some.ensures.value in
     ap starts_of (refill_same (length cs) cs c.lead_run.new.slices (ap length led ∙ run_length c.in-Some.at (get_or cs (c.in-Some.at - 1) 0) cs) ∙ led)
     ∙ starts_forgot cs c.in-Some.at c.args.id c.requires.size (first_slice cs c.args.id c.in-Some.at c.requires.later at) at
 
