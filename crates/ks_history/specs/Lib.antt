@@ -14,3 +14,4 @@ pub mod Turns
 pub mod Calls
 pub mod Dues
 pub mod Underway
+pub mod Far
