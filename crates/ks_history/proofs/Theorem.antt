@@ -1,19 +1,18 @@
 -- The keyset theorem: a lawful trace with good graphs is a legal history of a map, and the graph after it holds that map.
-use Rattle.std.proofs.Common.{ℕ, zero, suc, ◌≡◌, ◌≢◌, ◌==◌, cond, List, [], ◌∷◌, Option, Some, None, refl, sym, ◌∙◌, ap, subst}
+use Rattle.std.proofs.Common.{ℕ, zero, suc, ◌≡◌, ◌≢◌, ◌==◌, cond, List, [], ◌∷◌, Option, None, refl, sym, ◌∙◌, ap, subst}
 use mathlib.Core.Logic.{dite}
 use native.Mathlib.Decide.{ℕ_discrete}
 use Rattle.ks_keysets.specs.declared.NodeState.{NodeState}
-use Rattle.ks_keysets.specs.declared.NodeState.TheVariants.{Free, Claimed, Live}
-use Rattle.ks_keysets.specs.declared.Record.{Record}
+use Rattle.ks_keysets.specs.declared.NodeState.TheVariants.{Claimed}
 use Rattle.ks_keysets.specs.Record.{IsPlace, first_value}
 use Rattle.ks_keysets.specs.Keyset.{opening, live_record, record_at, IsLive, InKeyset, Good, IsFound, value_in, value_at}
-use Rattle.ks_keysets.specs.Found.{KeepsEdges, keyset_along, found_along, found_one, found_here, reached_live}
+use Rattle.ks_keysets.specs.Found.{KeepsEdges, found_along, found_one, found_here, reached_live}
 use Rattle.ks_history.specs.declared.Answered.{Answered}
 use Rattle.ks_history.specs.declared.Event.{Event}
 use Rattle.ks_history.specs.declared.Event.TheVariants.{Take, Give, Claim, Shape, Call}
 use Rattle.ks_history.specs.Write.{Write, Map, written, map_with}
 use Rattle.ks_history.specs.Map.{map_after, Legal}
-use Rattle.ks_history.specs.Trace.{given, state_with, graph_after, graph_then, calls_of}
+use Rattle.ks_history.specs.Trace.{given, state_with, graph_after, calls_of}
 use Rattle.ks_history.specs.Lawful.{Lawful, GoodThroughout, at_opening, and_then}
 use Rattle.ks_history.specs.Stays.{lawful_in_turn, cond_here, cond_else}
 use Rattle.ks_history.specs.Begins.{good_now}
@@ -70,14 +69,18 @@ module _ (g : ℕ → NodeState) (j : ℕ) (w : Write) where
   after = with_state g j (state_with w (g j))
 
   forth : KeepsEdges g after
-  forth = record { at = λ n r is. dite (ℕ_discrete n j)
-    (λ same. (record_with w r, record_here g j (state_with w (g j)) n same ∙ state_written w (g j) r (ap (record_at g) (sym same) ∙ is), refl))
-    (λ apart. (r, record_else g j (state_with w (g j)) n apart ∙ is, refl)) }
+  forth = record {
+    at = λ n r is. dite (ℕ_discrete n j)
+        (λ same. (record_with w r, record_here g j (state_with w (g j)) n same ∙ state_written w (g j) r (ap (record_at g) (sym same) ∙ is), refl))
+        (λ apart. (r, record_else g j (state_with w (g j)) n apart ∙ is, refl));
+  }
 
   back : KeepsEdges after g
-  back = record { at = λ n s is. dite (ℕ_discrete n j)
-    (λ same. let r = state_was w (g j) s (sym (record_here g j (state_with w (g j)) n same) ∙ is) in (r.0, ap (record_at g) same ∙ r.1, r.2))
-    (λ apart. (s, sym (record_else g j (state_with w (g j)) n apart) ∙ is, refl)) }
+  back = record {
+    at = λ n s is. dite (ℕ_discrete n j)
+        (λ same. let r = state_was w (g j) s (sym (record_here g j (state_with w (g j)) n same) ∙ is) in (r.0, ap (record_at g) same ∙ r.1, r.2))
+        (λ apart. (s, sym (record_else g j (state_with w (g j)) n apart) ∙ is, refl));
+  }
 
   value_here : (m : Map) (p : ℕ) → IsLive g j → m p ≡ value_at g j p → map_with m w p ≡ value_at after j p
   value_here m p (r, is) had =
@@ -89,11 +92,11 @@ module _ (g : ℕ → NodeState) (j : ℕ) (w : Write) where
     -- what node n holds at a place of its keyset, after the write
     value_after : (n p : ℕ) → InKeyset g n p → m p ≡ value_at g n p → map_with m w p ≡ value_at after n p
     value_after n p in' is = dite (ℕ_discrete n j)
-      (λ same.
+        (λ same.
         let live : IsLive g j = subst (λ (k : ℕ). IsLive g k) same (reached_live in'.0.1) in
         let had : m p ≡ value_at g j p = is ∙ ap (λ (k : ℕ). value_at g k p) same in
         value_here m p live had ∙ ap (λ (k : ℕ). value_at after k p) (sym same))
-      (λ apart.
+        (λ apart.
         map_with-apart w m p (λ writes. apart (good.one n j p in' (keyset p writes)))
         ∙ is
         ∙ ap (λ o. value_in o p) (sym (record_else g j (state_with w (g j)) n apart)))
@@ -115,13 +118,17 @@ pub keyset_both : (h : List Event) → Lawful h → GoodThroughout h → Legal (
 keyset_both [] lawful (at_opening good) = (Legal-nil, opening_matches good)
 keyset_both (Take c j ∷ h) lawful (and_then good now) = keyset_both h lawful.0 good
 keyset_both (Claim c j ∷ h) lawful (and_then good now) =
-    let before = keyset_both h lawful.0 good in
-    (before.0, matches_same (graph_after h) (with_state (graph_after h) j (Claimed c)) (map_after (calls_of h))
-      (records_same (graph_after h) j (Claimed c) (sym (free_not_live h j (lawful_in_turn h lawful.0) lawful.1))) before.1)
+    let before = keyset_both h lawful.0 good in (
+      before.0,
+      matches_same (graph_after h) (with_state (graph_after h) j (Claimed c)) (map_after (calls_of h))
+          (records_same (graph_after h) j (Claimed c) (sym (free_not_live h j (lawful_in_turn h lawful.0) lawful.1))) before.1,
+    )
 keyset_both (Give c j ∷ h) lawful (and_then good now) =
-    let before = keyset_both h lawful.0 good in
-    (before.0, matches_same (graph_after h) (with_state (graph_after h) j (given (graph_after h j))) (map_after (calls_of h))
-      (records_same (graph_after h) j (given (graph_after h j)) (given_kept (graph_after h j))) before.1)
+    let before = keyset_both h lawful.0 good in (
+      before.0,
+      matches_same (graph_after h) (with_state (graph_after h) j (given (graph_after h j))) (map_after (calls_of h))
+          (records_same (graph_after h) j (given (graph_after h j)) (given_kept (graph_after h j))) before.1,
+    )
 keyset_both (Shape c changes ∷ h) lawful (and_then good now) =
     let before = keyset_both h lawful.0 good in
     (before.0, λ p place. (lawful.1.2.at p (map_after (calls_of h) p) place).0 (before.1 p place))

@@ -11,3 +11,7 @@ pub mod Stays
 pub mod Hand
 pub mod Begins
 pub mod Turns
+pub mod Calls
+pub mod Dues
+pub mod Underway
+pub mod Far

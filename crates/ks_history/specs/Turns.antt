@@ -1,5 +1,5 @@
 -- Laws of traces: whose turn it is tells whether a node is live.
-use Rattle.std.proofs.Common.{◌≡◌, ◌≢◌, ℕ, zero, suc, ◌==◌, cond, Bool, true, false, List, [], ◌∷◌, Option, Some, None, sym, refl, ap, ◌∙◌, subst, arith}
+use Rattle.std.proofs.Common.{◌≡◌, ◌≢◌, ℕ, zero, suc, List, [], ◌∷◌, Option, Some, None, sym, refl, ap, ◌∙◌, arith}
 use Rattle.std.specs.Prelude.{All}
 use Rattle.std.proofs.lemmas.Option.{same_Some}
 use mathlib.Core.Logic.{dite}
@@ -9,13 +9,12 @@ use Rattle.ks_keysets.specs.declared.NodeState.TheVariants.{Free, Claimed, Live}
 use Rattle.ks_keysets.specs.declared.Record.{Record}
 use Rattle.ks_keysets.specs.declared.Change.{Change}
 use Rattle.ks_keysets.specs.Record.{empty_record}
-use Rattle.ks_keysets.specs.Keyset.{opening, live_record, record_at, IsLive}
-use Rattle.ks_keysets.specs.Change.{shaped}
+use Rattle.ks_keysets.specs.Keyset.{live_record, record_at, IsLive}
 use Rattle.ks_history.specs.declared.Event.{Event}
 use Rattle.ks_history.specs.declared.Event.TheVariants.{Take, Give, Claim, Shape, Call}
 use Rattle.ks_history.specs.Write.{Write, written, pairs_with}
-use Rattle.ks_history.specs.Trace.{given, state_with, graph_after, Turn, free, idle, held, turn_given, turn_after}
-use Rattle.ks_history.specs.Stays.{IsInTurn, AreInTurn, cond_here, cond_else, shaped_else}
+use Rattle.ks_history.specs.Trace.{given, state_with, graph_after, free, idle, held, turn_given, turn_after}
+use Rattle.ks_history.specs.Stays.{AreInTurn, cond_here, cond_else, shaped_else}
 
 -- what events do to the state of one node
 
@@ -71,7 +70,7 @@ free_not_live (Take c j ∷ h) i are is = dite (ℕ_discrete i j)
     (λ n. free_not_live h i are.0 (sym (cond_else i j (held c) (turn_after h i) n) ∙ is))
 free_not_live (Give c j ∷ h) i are is = dite (ℕ_discrete i j)
     (λ s. let none : live_record (graph_after h j) ≡ None = given_turn_free (graph_after h j) (sym (cond_here i j (turn_given (graph_after h j)) (turn_after h i) s) ∙ is) in
-      ap live_record (cond_here i j (given (graph_after h j)) (graph_after h i) s) ∙ given_kept (graph_after h j) ∙ none)
+    ap live_record (cond_here i j (given (graph_after h j)) (graph_after h i) s) ∙ given_kept (graph_after h j) ∙ none)
     (λ n. ap live_record (cond_else i j (given (graph_after h j)) (graph_after h i) n) ∙ free_not_live h i are.0 (sym (cond_else i j (turn_given (graph_after h j)) (turn_after h i) n) ∙ is))
 free_not_live (Claim c j ∷ h) i are is = dite (ℕ_discrete i j)
     (λ s. let x : held c ≡ free = sym (cond_here i j (held c) (turn_after h i) s) ∙ is in absurd (cc))
@@ -92,13 +91,13 @@ idle_live (Take c j ∷ h) i are is = dite (ℕ_discrete i j)
     (λ n. idle_live h i are.0 (sym (cond_else i j (held c) (turn_after h i) n) ∙ is))
 idle_live (Give c j ∷ h) i are is = dite (ℕ_discrete i j)
     (λ s. let r = given_turn_idle (graph_after h j) (sym (cond_here i j (turn_given (graph_after h j)) (turn_after h i) s) ∙ is) in
-      (r.0, ap live_record (cond_here i j (given (graph_after h j)) (graph_after h i) s) ∙ r.1))
+    (r.0, ap live_record (cond_here i j (given (graph_after h j)) (graph_after h i) s) ∙ r.1))
     (λ n. let r = idle_live h i are.0 (sym (cond_else i j (turn_given (graph_after h j)) (turn_after h i) n) ∙ is) in
-      (r.0, ap live_record (cond_else i j (given (graph_after h j)) (graph_after h i) n) ∙ r.1))
+    (r.0, ap live_record (cond_else i j (given (graph_after h j)) (graph_after h i) n) ∙ r.1))
 idle_live (Claim c j ∷ h) i are is = dite (ℕ_discrete i j)
     (λ s. let x : held c ≡ idle = sym (cond_here i j (held c) (turn_after h i) s) ∙ is in absurd (cc))
     (λ n. let r = idle_live h i are.0 (sym (cond_else i j (held c) (turn_after h i) n) ∙ is) in
-      (r.0, ap live_record (cond_else i j (Claimed c) (graph_after h i) n) ∙ r.1))
+    (r.0, ap live_record (cond_else i j (Claimed c) (graph_after h i) n) ∙ r.1))
 idle_live (Shape c changes ∷ h) i are is =
     let r = idle_live h i are.0 is in
     (r.0, ap live_record (shaped_else changes i (graph_after h i) (unheld_apart h c i changes are.1 (λ mine. let x : held c ≡ idle = sym mine ∙ is in cc))) ∙ r.1)

@@ -7,6 +7,8 @@
 
 mod laws;
 mod replay;
+#[cfg(test)]
+mod tests;
 
 use ks_keysets::Change;
 pub use laws::{keyset_theorem, stability_law, turn_law};

@@ -1,5 +1,5 @@
 -- Lists of disjoint edges, with one edge more.
-use Rattle.std.proofs.Common.{ℕ, ◌≡◌, ◌<◌, ◌+◌, List, ◌∷◌, [], length, get_or, take, sym, ◌∙◌, subst, arith}
+use Rattle.std.proofs.Common.{ℕ, ◌<◌, ◌+◌, List, length, get_or, take, sym, subst, arith}
 use Rattle.std.specs.Prelude.{All}
 use Rattle.std.proofs.lemmas.List.{take_more, get_or-take, get_or_default, length-take-le}
 use Rattle.std.proofs.lemmas.List.Quantifiers.{all_pairs_push}
@@ -15,5 +15,5 @@ pub earlier_apart : (es : List Edge) (i : ℕ) (d : Edge) → i < length es → 
 earlier_apart es i d lt all k x less p here there =
     let within : k < i = omega (arith, less, length-take-le i es (omega arith)) in
     all k i x within lt p
-      (subst (λ (e : Edge). Carries e p) (get_or-take i es k x within) there)
-      (subst (λ (e : Edge). Carries e p) (get_or_default es i d x lt) here)
+    (subst (λ (e : Edge). Carries e p) (get_or-take i es k x within) there)
+    (subst (λ (e : Edge). Carries e p) (get_or_default es i d x lt) here)

@@ -56,12 +56,12 @@ last_or_less i n lt = grind arith
 reached_or_not : (f : ℕ → ℕ) (n x : ℕ) → ((i : ℕ) × (i < n) × (f i ≡ x)) ⊎ ((i : ℕ) → i < n → f i ≡ x → ⊥)
 reached_or_not f zero x = inr (λ i lt e. omega arith)
 reached_or_not f (suc n) x = elim (same_or_apart (f n) x) [
-    | inl e ↦ inl (n, omega arith, e)
-    | inr ne ↦ elim (reached_or_not f n x) [
-      | inl y ↦ inl (y.0, omega (arith, y.1), y.2)
-      | inr none ↦ inr (λ i lt e. elim (last_or_less i n lt) [ inl less ↦ none i less e | inr last ↦ ne (ap f (sym last) ∙ e) ])
-    ]
+  | inl e ↦ inl (n, omega arith, e)
+  | inr ne ↦ elim (reached_or_not f n x) [
+    | inl y ↦ inl (y.0, omega (arith, y.1), y.2)
+    | inr none ↦ inr (λ i lt e. elim (last_or_less i n lt) [ inl less ↦ none i less e | inr last ↦ ne (ap f (sym last) ∙ e) ])
   ]
+]
 
 -- two numbers below n are sent to one
 abbrev pub Repeats : (ℕ → ℕ) → ℕ → Type 0
@@ -70,21 +70,21 @@ Repeats f n = (i : ℕ) × (j : ℕ) × (i < j) × (j < n) × (f i ≡ f j)
 repeats_or_not : (f : ℕ → ℕ) (n : ℕ) → Repeats f n ⊎ OneToOne f n
 repeats_or_not f zero = inr (λ i j lt lt' e. absurd (omega arith))
 repeats_or_not f (suc n) = elim (repeats_or_not f n) [
-    | inl y ↦ inl (y.0, y.1, y.2, omega (arith, y.3), y.4)
-    | inr one ↦ elim (reached_or_not f n (f n)) [
-      | inl y ↦ inl (y.0, n, y.1, omega arith, y.2)
-      | inr none ↦ inr (λ i j lt lt' e. elim (last_or_less i n lt) [
-        | inl a ↦ elim (last_or_less j n lt') [
-          | inl b ↦ one i j a b e
-          | inr b ↦ absurd (none i a (e ∙ ap f b))
-        ]
-        | inr a ↦ elim (last_or_less j n lt') [
-          | inl b ↦ absurd (none j b (sym e ∙ ap f a))
-          | inr b ↦ a ∙ sym b
-        ]
-      ])
-    ]
+  | inl y ↦ inl (y.0, y.1, y.2, omega (arith, y.3), y.4)
+  | inr one ↦ elim (reached_or_not f n (f n)) [
+    | inl y ↦ inl (y.0, n, y.1, omega arith, y.2)
+    | inr none ↦ inr (λ i j lt lt' e. elim (last_or_less i n lt) [
+      | inl a ↦ elim (last_or_less j n lt') [
+        | inl b ↦ one i j a b e
+        | inr b ↦ absurd (none i a (e ∙ ap f b))
+      ]
+      | inr a ↦ elim (last_or_less j n lt') [
+        | inl b ↦ absurd (none j b (sym e ∙ ap f a))
+        | inr b ↦ a ∙ sym b
+      ]
+    ])
   ]
+]
 
 -- of more numbers than m that are sent below m, two are sent to one
 pub repeats : (n : ℕ) (f : ℕ → ℕ) → Into f (suc n) n → Repeats f (suc n)

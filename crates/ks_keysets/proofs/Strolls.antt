@@ -1,9 +1,8 @@
 -- Where nodes have one parent at most, and the root none, no walk along edges meets a node twice.
-use Rattle.std.proofs.Common.{ℕ, zero, suc, ◌≡◌, ◌<◌, ◌≤◌, ◌⊎◌, inl, inr, Some, refl, sym, ap, subst, arith}
+use Rattle.std.proofs.Common.{ℕ, zero, suc, ◌≡◌, ◌<◌, ◌≤◌, ◌⊎◌, inl, inr, refl, sym, ap, subst, arith}
 use Rattle.std.specs.Prelude.{Any}
 use Rattle.ks_keysets.specs.declared.NodeState.{NodeState}
-use Rattle.ks_keysets.specs.declared.Record.{Record}
-use Rattle.ks_keysets.specs.Keyset.{record_at, IsLive}
+use Rattle.ks_keysets.specs.Keyset.{IsLive}
 use Rattle.ks_keysets.specs.Walk.{Strolls, from_root, further, OneParent}
 use Rattle.ks_keysets.proofs.Pigeons.{pigeonhole}
 

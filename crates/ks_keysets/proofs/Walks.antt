@@ -1,6 +1,6 @@
 -- Walks of a place, and keysets.
 use Rattle.std.proofs.Common.{ℕ, zero, suc, ◌≡◌, ◌<◌, ◌≤◌, ◌-◌, ◌+◌, ◌⊎◌, inl, inr, List, get_or, Option, Some, None, refl, sym, ◌∙◌, ap, subst, arith}
-use Rattle.std.specs.Prelude.{All, Any, AllPairs}
+use Rattle.std.specs.Prelude.{Any, AllPairs}
 use Rattle.std.proofs.lemmas.Option.{same_Some}
 use Rattle.std.proofs.lemmas.List.{get_or_default}
 use Rattle.ks_keysets.specs.declared.Edge.{Edge}
@@ -8,7 +8,7 @@ use Rattle.ks_keysets.specs.declared.NodeState.{NodeState}
 use Rattle.ks_keysets.specs.declared.Record.{Record}
 use Rattle.ks_keysets.specs.Record.{IsPlace, Carries, LeadsTo, LeadsOn}
 use Rattle.ks_keysets.specs.Keyset.{record_at, IsLive, Reaches, at_root, along, InKeyset, AreApart}
-use Rattle.ks_keysets.specs.Walk.{Walks, at_start, one_more, EndsAt, MeetsNotLive, NeverEnds, Strolls, from_root, further, OneParent}
+use Rattle.ks_keysets.specs.Walk.{Walks, at_start, one_more, EndsAt, MeetsNotLive, NeverEnds}
 use Rattle.ks_keysets.specs.Found.{reached_live}
 use Rattle.ks_keysets.proofs.Pigeons.{repeats}
 
@@ -165,12 +165,12 @@ again g p i d a (suc k) n apart one two le (one_more {a = b} r w is leads) = go 
 pub never_from : (g : ℕ → NodeState) (p i d a : ℕ) → AreApart g → Walks g p i a → Walks g p (i + suc d) a → (bound k : ℕ) → k < bound → (n : ℕ) × Walks g p k n
 never_from g p i d a apart one two zero k lt = absurd (omega arith)
 never_from g p i d a apart one two (suc bound) k lt = elim (split k (i + suc d)) [
-    | inl before ↦ let y : Within g p (i + suc d) k = within g p (i + suc d) a two k in (y.node, y.comes before)
-    | inr past ↦
+  | inl before ↦ let y : Within g p (i + suc d) k = within g p (i + suc d) a two k in (y.node, y.comes before)
+  | inr past ↦
       let shorter = never_from g p i d a apart one two bound (k - suc d) (omega arith) in
       let e : k - suc d + suc d ≡ k = omega arith in
       (shorter.0, subst (λ (j : ℕ). Walks g p j shorter.0) e (again g p i (suc d) a (k - suc d) shorter.0 apart one two (omega arith) shorter.1))
-  ]
+]
   where
     split : (k m : ℕ) → (k ≤ m) ⊎ (m < k)
     split k m = grind arith

@@ -1,5 +1,5 @@
 -- Walks from the root: of a place, along the edges that carry it, and along any edges.
-use Rattle.std.specs.Prelude.{ℕ, zero, suc, ◌≡◌, ◌≢◌, ◌⊎◌, Option, Some, None, Any}
+use Rattle.std.specs.Prelude.{ℕ, suc, ◌≡◌, Some, None, Any}
 use Rattle.ks_keysets.specs.declared.NodeState.{NodeState}
 use Rattle.ks_keysets.specs.declared.Record.{Record}
 use Rattle.ks_keysets.specs.Record.{LeadsTo, LeadsOn}

@@ -8,6 +8,8 @@
 
 mod laws;
 mod readers;
+#[cfg(test)]
+mod tests;
 
 pub use laws::{found_law, keyset_law, stroll_law};
 pub use readers::{edges_apart, keyset_spans, next_of, walk_end};
@@ -28,7 +30,7 @@ pub struct Edge {
 }
 
 /// A value at a place.
-#[derive(Clone, Copy, Debug, PartialEq, Eq)]
+#[derive(Clone, Copy, Debug, Default, PartialEq, Eq)]
 pub struct Pair {
     pub place: u64,
     pub value: u128,

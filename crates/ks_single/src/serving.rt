@@ -90,11 +90,29 @@ fn call(
     Ok((number, reply(found)))
 }
 
-/// Serves one caller: its numbers and replies, in order.
+/// Room for the replies of each caller, the last caller's first.
+fn rooms(alloc: Global, callers: &[Vec<Op>]) -> Result<Vec<Vec<(u64, Reply)>>, AllocError> {
+    let mut rooms = Vec::with_capacity(alloc, callers.len())?;
+    for ops in callers.iter().rev() {
+        rooms.push(Vec::with_capacity(alloc, ops.len())?)?;
+    }
+    Ok(rooms)
+}
+
+/// How many calls the callers make together, as far as it can be counted.
+fn calls_of(callers: &[Vec<Op>]) -> usize {
+    let mut calls: usize = 0;
+    for ops in callers {
+        calls = calls.saturating_add(ops.len());
+    }
+    calls
+}
+
+/// Serves one caller: its numbers and replies, in order, in the room that is handed in.
 fn serve_caller(
-    alloc: Global,
     caller: u32,
     ops: &[Op],
+    room: Vec<(u64, Reply)>,
     pairs: &mut Vec<(u64, u128)>,
     trace: &mut RunTrace,
 ) -> Result<Vec<(u64, Reply)>, AllocError>
@@ -104,7 +122,8 @@ fn serve_caller(
     ensures rest { OnOk result (AtRest trace.new (value_of pairs.new.items)) }
     ensures serves { IfOk result (λ lines. Serves caller ops.now lines.items trace.old trace.new) }
 {
-    let mut lines = Vec::with_capacity(alloc, ops.len())?;
+    let mut lines = room;
+    lines.clear();
     for op in ops {
         let line = call(caller, *op, pairs, trace)?;
         lines.push(line)?;
@@ -112,18 +131,22 @@ fn serve_caller(
     Ok(lines)
 }
 
-/// Serves the callers one after another, each in its order, over a map that begins empty.
+/// Serves the callers one after another, each in its order, over a map that begins empty. The memory for all replies,
+/// for the pairs and for what happened is taken before the first call.
 pub fn serve_callers(alloc: Global, callers: &[Vec<Op>]) -> Result<Run, AllocError>
     requires { length callers.now < 2 ^ 32 }
     ensures served { IfOk result (λ run. Served (λ k. k) (map (λ v. v.items) callers.now) (map (λ v. v.items) run.lines.items) run.pairs.items run.trace) }
     ensures lawful { IfOk result (λ run. Lawful run.trace) }
     ensures good { IfOk result (λ run. GoodThroughout run.trace) }
 {
-    let mut pairs = Vec::new(alloc);
-    let mut trace = RunTrace::new(alloc);
+    let calls = calls_of(callers);
+    let mut pairs = Vec::with_capacity(alloc, calls)?;
+    let mut trace = RunTrace::with_room(alloc, calls)?;
+    let mut rooms = rooms(alloc, callers)?;
     let mut lines = Vec::with_capacity(alloc, callers.len())?;
     for (caller, ops) in callers.iter().enumerate() {
-        let served = serve_caller(alloc, caller as u32, ops, &mut pairs, &mut trace)?;
+        let room = rooms.pop().unwrap_or(Vec::new(alloc));
+        let served = serve_caller(caller as u32, ops, room, &mut pairs, &mut trace)?;
         lines.push(served)?;
     }
     Ok(Run {

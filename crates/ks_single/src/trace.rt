@@ -1,6 +1,6 @@
 //! What happened in a run, kept as its calls alone.
 
-ghost use Rattle.std.specs.Prelude.{◌≡◌, [], OnOk};
+ghost use Rattle.std.specs.Prelude.{◌≡◌, [], IfOk, OnOk};
 ghost use Rattle.ks_history.specs.Trace.{number_after};
 
 use ks_history::{Answered, Op, Reply};
@@ -33,13 +33,13 @@ impl Model for RunTrace {
 impl RunTrace {
     ghost use Rattle.ks_single.specs.Single.{then_call};
 
-    /// Nothing has happened.
-    pub fn new(alloc: Global) -> RunTrace
-        ensures { result ≡ [] }
+    /// Nothing has happened. There is room for so many calls.
+    pub fn with_room(alloc: Global, calls: usize) -> Result<RunTrace, AllocError>
+        ensures { IfOk result (λ trace. trace ≡ []) }
     {
-        RunTrace {
-            calls: Vec::new(alloc),
-        }
+        Ok(RunTrace {
+            calls: Vec::with_capacity(alloc, calls)?,
+        })
     }
 
     /// How many calls were made.

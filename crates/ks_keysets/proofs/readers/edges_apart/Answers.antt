@@ -1,5 +1,4 @@
 use Rattle.std.proofs.Common.{ℕ, ◌≡◌, ◌<◌, ◌+◌, ◌⊎◌, inl, inr, Some, refl, subst, arith}
-use Rattle.ks_keysets.specs.declared.Record.{Record}
 use Rattle.ks_keysets.specs.Keyset.{record_at}
 use Rattle.ks_keysets.specs.Listed.{graph_of}
 use Rattle.ks_keysets.specs.Apart.{AreEdgesApart}

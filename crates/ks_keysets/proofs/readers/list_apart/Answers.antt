@@ -1,6 +1,5 @@
-use Rattle.std.proofs.Common.{List, refl, subst}
+use Rattle.std.proofs.Common.{refl, subst}
 use Rattle.std.proofs.lemmas.List.{take_all}
-use Rattle.ks_keysets.specs.declared.Edge.{Edge}
 use Rattle.ks_keysets.specs.Apart.{AreEdgesApart}
 use Rattle.ks_keysets.proofs.Aparts.{more_apart, earlier_apart}
 use Rattle.ks_keysets.proofs.readers.list_apart.Goals as goal

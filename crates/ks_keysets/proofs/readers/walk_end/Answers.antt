@@ -2,7 +2,7 @@ use Rattle.std.proofs.Common.{◌≡◌, ◌<◌, ℕ, ◌⊎◌, inl, inr, leng
 use Rattle.ks_keysets.specs.declared.Record.{Record}
 use Rattle.ks_keysets.specs.declared.NodeState.{NodeState}
 use Rattle.ks_keysets.specs.Record.{LeadsTo}
-use Rattle.ks_keysets.specs.Keyset.{record_at, IsLive, InKeyset, AreApart}
+use Rattle.ks_keysets.specs.Keyset.{record_at, IsLive, AreApart}
 use Rattle.ks_keysets.specs.Listed.{graph_of}
 use Rattle.ks_keysets.specs.Walk.{Walks, at_start, one_more, EndsAt, MeetsNotLive, NeverEnds}
 use Rattle.ks_keysets.proofs.Walks.{ends_keyset, nowhere_else, long_never}
@@ -39,5 +39,5 @@ returns c =
     let g : ℕ → NodeState = graph_of c.args.graph.now in
     let end : c.loop-step._step ≡ length c.args.graph.now = omega (arith, c.node_count-step-end.ensures) in
     let lost : MeetsNotLive (graph_of c.args.graph.now) c.args.place ⊎ NeverEnds (graph_of c.args.graph.now) c.args.place =
-        lost_at g c.args.place c.loop-step._step c.loop-step.at c.requires (λ m live. omega (arith, live_within c.args.graph.now m live, end)) c.loop-step.invariant (record_at g c.loop-step.at) refl in
+    lost_at g c.args.place c.loop-step._step c.loop-step.at c.requires (λ m live. omega (arith, live_within c.args.graph.now m live, end)) c.loop-step.invariant (record_at g c.loop-step.at) refl in
     record { ends = search rules; lost = lost; keyset = search rules; nowhere = nowhere_else g c.args.place c.requires lost }

@@ -5,9 +5,9 @@ use Rattle.ks_single.proofs.serving.serve_callers.Goals as goal
 
 pub loop-caller-init : goal.loop-caller-init
 loop-caller-init c = record {
-  order = rw c.new-pairs.ensures.items (λ i j d lt lt'. absurd (omega arith));
-  rest = rest_first c.new-trace.result c.new-pairs.result.items c.new-trace.ensures c.new-pairs.ensures.items;
-  serves = all_first _ c.new-trace.result (ap (map (λ v. v.items)) c.in_ok-lines.ensures.items) c.new-trace.ensures;
+  order = rw c.in_ok-pairs.ensures.items (λ i j d lt lt'. absurd (omega arith));
+  rest = rest_first c.in_ok-trace.trace c.in_ok-pairs.pairs.items c.in_ok-trace.ensures c.in_ok-pairs.ensures.items;
+  serves = all_first _ c.in_ok-trace.trace (ap (map (λ v. v.items)) c.in_ok-lines.ensures.items) c.in_ok-trace.ensures;
 }
 
 pub loop-caller-preserved : goal.loop-caller-preserved
