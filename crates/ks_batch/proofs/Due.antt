@@ -6,7 +6,12 @@ use Rattle.ks_history.specs.declared.Op.{Op}
 use Rattle.ks_history.specs.declared.Event.{Event}
 use Rattle.ks_script.specs.Lines.{lines_of, Begins, FirstBad}
 use Rattle.ks_script.specs.Script.{AreScript}
-use Rattle.ks_batch.specs.Serve.{RefusedAt, Accepts, Prints}
+use Rattle.ks_script.specs.Checked.{AreChecked}
+use Rattle.ks_script.specs.Run.{Run}
+use Rattle.ks_judge.specs.declared.judging.Judged.{Judged}
+use Rattle.ks_batch.specs.declared.words.Text.{Text}
+use Rattle.ks_batch.specs.declared.words.Text.TheVariants.{Script, Checked}
+use Rattle.ks_batch.specs.Serve.{limit_of, FirstBadOf, RefusedAt, Accepts, AcceptsChecked, Tells, Prints, Judges, IsCheck}
 
 module _ (IsText : List (List ℕ) → Type 0) (lines : List (List ℕ)) where
   -- the first lines of a text begin one
@@ -33,63 +38,125 @@ module _ (IsText : List (List ℕ) → Type 0) (lines : List (List ℕ)) where
       by_side (inl x) = x.1 (begins_less n (m - 1) (omega arith) bad'.before)
       by_side (inr x) = elim bad'.refused [ inl y ↦ omega (arith, x.0, y.0) | inr y ↦ omega (arith, x.0, y.0) ]
 
-accepted_not_refused : (bytes : List ℕ) (n : ℕ) {script : List (List Op)} → Accepts bytes script → RefusedAt bytes n → ⊥
-accepted_not_refused bytes zero a bad = omega (arith, a.within, bad)
-accepted_not_refused bytes (suc n) {script} a bad = text_not_bad AreScript (lines_of bytes) (suc n) bad.1 (script, a.reads)
+-- the bytes are refused at no line
+abbrev pub IsAccepted : Text → List ℕ → Type 0
+IsAccepted text bytes = (n : ℕ) → RefusedAt text bytes n → ⊥
 
-refused_once : (bytes : List ℕ) (n m : ℕ) → RefusedAt bytes n → RefusedAt bytes m → m ≡ n
-refused_once bytes zero zero a b = refl
-refused_once bytes zero (suc m) a b = absurd (omega (arith, a, b.0))
-refused_once bytes (suc n) zero a b = absurd (omega (arith, a.0, b))
-refused_once bytes (suc n) (suc m) a b = by_side (side (suc n) (suc m))
+pub script_accepted : (bytes : List ℕ) (script : List (List Op)) → Accepts bytes script → IsAccepted Script bytes
+script_accepted bytes script a zero bad = let le = a.within in omega (arith, bad)
+script_accepted bytes script a (suc n) bad = text_not_bad AreScript (lines_of bytes) (suc n) bad.1 (script, a.reads)
+
+pub checked_accepted : (bytes : List ℕ) (script : List (List Op)) (run : Run) → AcceptsChecked bytes script run → IsAccepted Checked bytes
+checked_accepted bytes script run a zero bad = let le = a.within in omega (arith, bad)
+checked_accepted bytes script run a (suc n) bad = text_not_bad AreChecked (lines_of bytes) (suc n) bad.1 (script, run, a.reads)
+
+-- two lines are not both the first bad one
+first_once : (text : Text) (bytes : List ℕ) (n m : ℕ) → FirstBadOf text bytes n → FirstBadOf text bytes m → n < m → ⊥
+first_once Script bytes n m a b lt = bad_not_before AreScript (lines_of bytes) n m a b lt
+first_once Checked bytes n m a b lt = bad_not_before AreChecked (lines_of bytes) n m a b lt
+
+refused_once : (text : Text) (bytes : List ℕ) (n m : ℕ) → RefusedAt text bytes n → RefusedAt text bytes m → m ≡ n
+refused_once text bytes zero zero a b = refl
+refused_once text bytes zero (suc m) a b = let le = b.0 in absurd (omega (arith, a, le))
+refused_once text bytes (suc n) zero a b = let le = a.0 in absurd (omega (arith, b, le))
+refused_once text bytes (suc n) (suc m) a b = by_side (side (suc n) (suc m))
   where
     side : (x y : ℕ) → (x < y) ⊎ ((y < x) ⊎ (y ≡ x))
     side x y = grind arith
 
     by_side : (suc n < suc m) ⊎ ((suc m < suc n) ⊎ (suc m ≡ suc n)) → suc m ≡ suc n
-    by_side (inl lt) = absurd (bad_not_before AreScript (lines_of bytes) (suc n) (suc m) a.1 b.1 lt)
-    by_side (inr (inl lt)) = absurd (bad_not_before AreScript (lines_of bytes) (suc m) (suc n) b.1 a.1 lt)
+    by_side (inl lt) = absurd (first_once text bytes (suc n) (suc m) a.1 b.1 lt)
+    by_side (inr (inl lt)) = absurd (first_once text bytes (suc m) (suc n) b.1 a.1 lt)
     by_side (inr (inr e)) = e
 
 -- what is known of an outcome
-pub record IsOutcome (left : Option (List ℕ)) (rose out_rose : Type 0) (Grew Front : List ℕ → Type 0) (status line : ℕ) (run : Option (List Event)) : Type 0 where
-  pub known : (status ≡ 1 → ⊥) × (status ≤ 5)
-  pub ran : IsSome run ↔ ((status ≡ 0) ⊎ (status ≡ 4))
-  pub done : status ≡ 0 → IfSome left (λ bytes. IfSome run (λ h. Prints bytes h Grew))
-  pub cut : status ≡ 4 → IfSome left (λ bytes. IfSome run (λ h. Prints bytes h Front))
-  pub refused : status ≡ 2 → IfSome left (λ bytes. RefusedAt bytes line)
+pub record IsOutcome (text : Text) (left : Option (List ℕ)) (rose out_rose : Type 0) (status line : ℕ) : Type 0 where
+  pub known : (status ≡ 1 → ⊥) × (status ≤ 6)
+  pub done : status ≡ 0 → IfSome left (IsAccepted text)
+  pub cut : status ≡ 4 → IfSome left (IsAccepted text)
+  pub wrong : status ≡ 6 → IfSome left (IsAccepted text)
+  pub refused : status ≡ 2 → IfSome left (λ bytes. RefusedAt text bytes line)
   pub source : status ≡ 3 → rose
   pub output : status ≡ 4 → out_rose
 
--- a run that is there and printed was accepted
-accepted_by : (bytes : List ℕ) (run : Option (List Event)) (n : ℕ) (Took : List ℕ → Type 0) → IsSome run → IfSome run (λ h. Prints bytes h Took) → RefusedAt bytes n → ⊥
-accepted_by bytes None n Took some p bad = cc
-accepted_by bytes (Some h) n Took some p bad = accepted_not_refused bytes n p.tells.accepts bad
-
-pub refusal_due : (left : Option (List ℕ)) (rose out_rose : Type 0) (Grew Front : List ℕ → Type 0) (status line : ℕ) (run : Option (List Event)) → IsOutcome left rose out_rose Grew Front status line run →
-    (rose → ⊥) → IfSome left (λ bytes. (n : ℕ) → RefusedAt bytes n → ((status ≡ 2) × (line ≡ n)) ⊎ (status ≡ 5))
-refusal_due None rose out_rose Grew Front status line run o calm = tt
-refusal_due (Some bytes) rose out_rose Grew Front status line run o calm = λ n bad. by_status n bad status refl o.known.1
+pub due_refusal : (text : Text) (left : Option (List ℕ)) (rose out_rose : Type 0) (status line : ℕ) → IsOutcome text left rose out_rose status line →
+    (rose → ⊥) → IfSome left (λ bytes. (n : ℕ) → RefusedAt text bytes n → ((status ≡ 2) × (line ≡ n)) ⊎ (status ≡ 5))
+due_refusal text None rose out_rose status line o calm = tt
+due_refusal text (Some bytes) rose out_rose status line o calm = λ n bad. by_status n bad status refl o.known.1
   where
-    by_status : (n : ℕ) → RefusedAt bytes n → (s : ℕ) → status ≡ s → s ≤ 5 → ((status ≡ 2) × (line ≡ n)) ⊎ (status ≡ 5)
-    by_status n bad zero is le = absurd (accepted_by bytes run n Grew (o.ran.1 (inl is)) (o.done is) bad)
+    by_status : (n : ℕ) → RefusedAt text bytes n → (s : ℕ) → status ≡ s → s ≤ 6 → ((status ≡ 2) × (line ≡ n)) ⊎ (status ≡ 5)
+    by_status n bad zero is le = absurd (o.done is n bad)
     by_status n bad (suc zero) is le = absurd (o.known.0 is)
-    by_status n bad (suc (suc zero)) is le = inl (is, refused_once bytes n line bad (o.refused is))
+    by_status n bad (suc (suc zero)) is le = inl (is, refused_once text bytes n line bad (o.refused is))
     by_status n bad (suc (suc (suc zero))) is le = absurd (calm (o.source is))
-    by_status n bad (suc (suc (suc (suc zero)))) is le = absurd (accepted_by bytes run n Front (o.ran.1 (inr is)) (o.cut is) bad)
+    by_status n bad (suc (suc (suc (suc zero)))) is le = absurd (o.cut is n bad)
     by_status n bad (suc (suc (suc (suc (suc zero))))) is le = inr is
-    by_status n bad (suc (suc (suc (suc (suc (suc s)))))) is le = absurd (omega arith)
+    by_status n bad (suc (suc (suc (suc (suc (suc zero)))))) is le = absurd (o.wrong is n bad)
+    by_status n bad (suc (suc (suc (suc (suc (suc (suc s))))))) is le = absurd (omega arith)
 
-pub done_due : (left : Option (List ℕ)) (rose out_rose : Type 0) (Grew Front : List ℕ → Type 0) (status line : ℕ) (run : Option (List Event)) → IsOutcome left rose out_rose Grew Front status line run →
-    (rose → ⊥) → (out_rose → ⊥) → IfSome left (λ bytes. (script : List (List Op)) → Accepts bytes script → (status ≡ 0) ⊎ (status ≡ 5))
-done_due None rose out_rose Grew Front status line run o calm out_calm = tt
-done_due (Some bytes) rose out_rose Grew Front status line run o calm out_calm = λ script a. by_status script a status refl o.known.1
+pub due_answer : (text : Text) (left : Option (List ℕ)) (rose out_rose : Type 0) (status line : ℕ) → IsOutcome text left rose out_rose status line →
+    (rose → ⊥) → (out_rose → ⊥) → IfSome left (λ bytes. IsAccepted text bytes → (status ≡ 0) ⊎ ((status ≡ 6) ⊎ (status ≡ 5)))
+due_answer text None rose out_rose status line o calm out_calm = tt
+due_answer text (Some bytes) rose out_rose status line o calm out_calm = λ accepted. by_status accepted status refl o.known.1
   where
-    by_status : (script : List (List Op)) → Accepts bytes script → (s : ℕ) → status ≡ s → s ≤ 5 → (status ≡ 0) ⊎ (status ≡ 5)
-    by_status script a zero is le = inl is
-    by_status script a (suc zero) is le = absurd (o.known.0 is)
-    by_status script a (suc (suc zero)) is le = absurd (accepted_not_refused bytes line a (o.refused is))
-    by_status script a (suc (suc (suc zero))) is le = absurd (calm (o.source is))
-    by_status script a (suc (suc (suc (suc zero)))) is le = absurd (out_calm (o.output is))
-    by_status script a (suc (suc (suc (suc (suc zero))))) is le = inr is
-    by_status script a (suc (suc (suc (suc (suc (suc s)))))) is le = absurd (omega arith)
+    by_status : IsAccepted text bytes → (s : ℕ) → status ≡ s → s ≤ 6 → (status ≡ 0) ⊎ ((status ≡ 6) ⊎ (status ≡ 5))
+    by_status accepted zero is le = inl is
+    by_status accepted (suc zero) is le = absurd (o.known.0 is)
+    by_status accepted (suc (suc zero)) is le = absurd (accepted line (o.refused is))
+    by_status accepted (suc (suc (suc zero))) is le = absurd (calm (o.source is))
+    by_status accepted (suc (suc (suc (suc zero)))) is le = absurd (out_calm (o.output is))
+    by_status accepted (suc (suc (suc (suc (suc zero))))) is le = inr (inr is)
+    by_status accepted (suc (suc (suc (suc (suc (suc zero)))))) is le = inr (inl is)
+    by_status accepted (suc (suc (suc (suc (suc (suc (suc s))))))) is le = absurd (omega arith)
+
+-- what is known of the outcome of a script
+
+printed_accepted : (left : Option (List ℕ)) (run : Option (List Event)) (Took : List ℕ → Type 0) → IsSome run → IfSome left (λ bytes. IfSome run (λ h. Prints bytes h Took)) → IfSome left (IsAccepted Script)
+printed_accepted None run Took some p = tt
+printed_accepted (Some bytes) None Took some p = cc
+printed_accepted (Some bytes) (Some h) Took some p = script_accepted bytes p.tells.script p.tells.accepts
+
+pub script_outcome : (left : Option (List ℕ)) (rose out_rose : Type 0) (Whole Front : List ℕ → Type 0) (status line : ℕ) (run : Option (List Event)) →
+    (status ≡ 1 → ⊥) × (status ≤ 5) → IsSome run ↔ ((status ≡ 0) ⊎ (status ≡ 4)) →
+    (status ≡ 0 → IfSome left (λ bytes. IfSome run (λ h. Prints bytes h Whole))) → (status ≡ 4 → IfSome left (λ bytes. IfSome run (λ h. Prints bytes h Front))) →
+    (status ≡ 2 → IfSome left (λ bytes. RefusedAt Script bytes line)) → (status ≡ 3 → rose) → (status ≡ 4 → out_rose) → IsOutcome Script left rose out_rose status line
+script_outcome left rose out_rose Whole Front status line run known ran done cut refused source output = record {
+  known = (known.0, let le = known.1 in omega arith);
+  done = λ is. printed_accepted left run Whole (ran.1 (inl is)) (done is);
+  cut = λ is. printed_accepted left run Front (ran.1 (inr is)) (cut is);
+  wrong = λ is. let le = known.1 in absurd (omega arith);
+  refused = refused;
+  source = source;
+  output = output;
+}
+
+some_then : {X : Type 0} (P Q : X → Type 0) (o : Option X) → ((x : X) → P x → Q x) → IfSome o P → IfSome o Q
+some_then P Q None f p = tt
+some_then P Q (Some x) f p = f x p
+
+judged_accepted : (bytes : List ℕ) (judged : Judged) → Judges bytes judged → IsAccepted Checked bytes
+judged_accepted bytes judged j = checked_accepted bytes j.script j.run j.accepts
+
+pub check_outcome : (left : Option (List ℕ)) (rose out_rose : Type 0) (old new : Option (List ℕ)) (status line number : ℕ) →
+    (status ≡ 1 → ⊥) × (status ≤ 6) → IsCheck left old new status number →
+    (status ≡ 2 → IfSome left (λ bytes. RefusedAt Checked bytes line)) → (status ≡ 3 → rose) → (status ≡ 4 → out_rose) → IsOutcome Checked left rose out_rose status line
+check_outcome left rose out_rose old new status line number known c refused source output = record {
+  known = known;
+  done = λ is. some_then _ _ left (λ bytes p. judged_accepted bytes _ p.1) (c.legal is);
+  cut = λ is. some_then _ _ left (λ bytes p. judged_accepted bytes _ p.1) (c.cut is);
+  wrong = λ is. some_then _ _ left (λ bytes p. judged_accepted bytes _ p.0) (c.wrong is);
+  refused = refused;
+  source = source;
+  output = output;
+}
+
+pub due_done : (left : Option (List ℕ)) (status : ℕ) → status ≤ 5 → IfSome left (λ bytes. IsAccepted Script bytes → (status ≡ 0) ⊎ ((status ≡ 6) ⊎ (status ≡ 5))) → IfSome left (λ bytes. (script : List (List Op)) → Accepts bytes script → (status ≡ 0) ⊎ (status ≡ 5))
+due_done left status le due = some_then _ _ left (λ bytes p script a. by_side (p (script_accepted bytes script a))) due
+  where
+    by_side : (status ≡ 0) ⊎ ((status ≡ 6) ⊎ (status ≡ 5)) → (status ≡ 0) ⊎ (status ≡ 5)
+    by_side (inl e) = inl e
+    by_side (inr (inl e)) = absurd (omega arith)
+    by_side (inr (inr e)) = inr e
+
+pub due_judged : (left : Option (List ℕ)) (status : ℕ) → IfSome left (λ bytes. IsAccepted Checked bytes → (status ≡ 0) ⊎ ((status ≡ 6) ⊎ (status ≡ 5))) → IfSome left (λ bytes. (script : List (List Op)) (run : Run) → AcceptsChecked bytes script run → (status ≡ 0) ⊎ ((status ≡ 6) ⊎ (status ≡ 5)))
+due_judged left status due = some_then _ _ left (λ bytes p script run a. p (checked_accepted bytes script run a)) due

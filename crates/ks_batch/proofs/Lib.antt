@@ -2,3 +2,4 @@ pub mod Asking
 pub mod Growing
 pub mod Loading
 pub mod Due
+pub mod Askings

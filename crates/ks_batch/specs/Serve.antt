@@ -1,23 +1,37 @@
--- What the program does with a script.
-use Rattle.std.specs.Prelude.{ℕ, zero, suc, ◌<◌, ◌≤◌, List, length}
+-- What the program does with what it reads.
+use Rattle.std.specs.Prelude.{ℕ, zero, suc, ◌≡◌, ◌<◌, ◌≤◌, List, [], ◌∷◌, ◌++◌, length, Option, IfSome, codes}
+use Rattle.std.specs.Fmt.{decimal}
 use Rattle.ks_history.specs.declared.Op.{Op}
 use Rattle.ks_history.specs.declared.Event.{Event}
 use Rattle.ks_history.specs.Served.{Served}
 use Rattle.ks_script.specs.Script.{ScriptOf, FirstBadOfScript}
+use Rattle.ks_script.specs.Checked.{CheckedOf, FirstBadOfChecked}
 use Rattle.ks_script.specs.Run.{Run, run_text}
+use Rattle.ks_script.specs.Outside.{Grew, GrewByFront}
+use Rattle.ks_judge.specs.declared.judging.Judged.{Judged}
+use Rattle.ks_judge.specs.declared.judging.Judged.TheVariants.{Legal, Wrong}
+use Rattle.ks_judge.specs.Verdict.{IsJudged}
+use Rattle.ks_batch.specs.declared.words.Text.{Text}
+use Rattle.ks_batch.specs.declared.words.Text.TheVariants.{Script, Checked}
 
--- how many bytes a script may have
-abbrev pub script_limit : ℕ
-script_limit = 16777216
+-- how many bytes a text may have
+abbrev pub limit_of : Text → ℕ
+limit_of Script = 16777216
+limit_of Checked = 134217728
+
+-- line n is the one for which the bytes are no such text
+abbrev pub FirstBadOf : Text → List ℕ → ℕ → Type 0
+FirstBadOf Script bytes n = FirstBadOfScript bytes n
+FirstBadOf Checked bytes n = FirstBadOfChecked bytes n
 
 -- the input is refused at this line, or, at line 0, for its length
-abbrev pub RefusedAt : List ℕ → ℕ → Type 0
-RefusedAt bytes zero = script_limit < length bytes
-RefusedAt bytes (suc n) = (length bytes ≤ script_limit) × FirstBadOfScript bytes (suc n)
+abbrev pub RefusedAt : Text → List ℕ → ℕ → Type 0
+RefusedAt text bytes zero = limit_of text < length bytes
+RefusedAt text bytes (suc n) = (length bytes ≤ limit_of text) × FirstBadOf text bytes (suc n)
 
 -- the bytes are the text of this script
 pub record Accepts (bytes : List ℕ) (script : List (List Op)) : Type 0 where
-  pub within : length bytes ≤ script_limit
+  pub within : length bytes ≤ limit_of Script
   pub reads : ScriptOf bytes script
 
 -- the trace h served the script that the bytes spell, and the run tells it
@@ -31,3 +45,26 @@ pub record Prints (bytes : List ℕ) (h : List Event) (Took : List ℕ → Type 
   pub run : Run
   pub tells : Tells bytes h run
   pub took : Took (run_text run)
+
+-- the bytes are the text of this script and this run
+pub record AcceptsChecked (bytes : List ℕ) (script : List (List Op)) (run : Run) : Type 0 where
+  pub within : length bytes ≤ limit_of Checked
+  pub reads : CheckedOf bytes script run
+
+-- the bytes are the text of a script and a run that is judged so
+pub record Judges (bytes : List ℕ) (judged : Judged) : Type 0 where
+  pub script : List (List Op)
+  pub run : Run
+  pub accepts : AcceptsChecked bytes script run
+  pub is : IsJudged script run judged
+
+-- the line that tells a judgment
+abbrev pub judged_line : Judged → List ℕ
+judged_line (Legal calls) = codes "legal " ++ decimal calls ++ codes "\n"
+judged_line (Wrong number) = codes "wrong " ++ decimal number ++ codes "\n"
+
+-- what a check leaves: with status 0 or 6 its line on the output, and with status 4 first bytes of it
+pub record IsCheck (left old new : Option (List ℕ)) (status number : ℕ) : Type 0 where
+  pub legal : status ≡ 0 → IfSome left (λ bytes. (calls : ℕ) × Judges bytes (Legal calls) × Grew old new (judged_line (Legal calls)))
+  pub wrong : status ≡ 6 → IfSome left (λ bytes. Judges bytes (Wrong number) × Grew old new (judged_line (Wrong number)))
+  pub cut : status ≡ 4 → IfSome left (λ bytes. (judged : Judged) × Judges bytes judged × GrewByFront old new (judged_line judged))

@@ -2,15 +2,19 @@
 use Rattle.std.specs.Prelude.{ℕ, ◌≡◌, ◌≤◌, List, [], ◌∷◌, codes}
 use Rattle.std.specs.Fmt.{decimal}
 use Rattle.ks_batch.specs.declared.words.Asked.{Asked}
-use Rattle.ks_batch.specs.declared.words.Asked.TheVariants.{Run}
+use Rattle.ks_batch.specs.declared.words.Asked.TheVariants.{Run, Check}
+use Rattle.ks_batch.specs.declared.words.Text.{Text}
+use Rattle.ks_batch.specs.declared.words.Text.TheVariants.{Script, Checked}
 
 -- the words of a command
 abbrev pub spelled : Asked → List (List ℕ)
 spelled (Run arena) = codes "run" ∷ codes "bplus" ∷ codes "coupling" ∷ decimal arena ∷ []
+spelled Check = codes "check" ∷ []
 
 -- its numbers are within their limits
 abbrev pub InLimits : Asked → Type 0
 InLimits (Run arena) = (4 ≤ arena) × (arena ≤ 65536)
+InLimits Check = Unit {0}
 
 -- the words are those of the command
 pub record Spells (words : List (List ℕ)) (asked : Asked) : Type 0 where
@@ -20,3 +24,8 @@ pub record Spells (words : List (List ℕ)) (asked : Asked) : Type 0 where
 -- the words are a command
 abbrev pub IsCommand : List (List ℕ) → Type 0
 IsCommand words = (asked : Asked) × Spells words asked
+
+-- the words ask that a text of this kind be read
+abbrev pub Asks : List (List ℕ) → Text → Type 0
+Asks words Script = (arena : ℕ) × Spells words (Run arena)
+Asks words Checked = Spells words Check

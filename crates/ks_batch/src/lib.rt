@@ -5,12 +5,14 @@
 //! caller's calls stand in its order.
 #![tactic(auto)]
 
+mod input;
 mod message;
 mod serving;
 mod words;
 
-pub use serving::{Outcome, Stop, serve};
-pub use words::{Asked, command};
+pub use input::Stop;
+pub use serving::{Outcome, serve};
+pub use words::{Asked, Text, command};
 
 #[cfg(test)]
 mod tests;

@@ -1,26 +1,26 @@
-//! Serves a script, from bytes to bytes.
+//! What the program does: it serves a script, or judges a printed run, from bytes to bytes.
 
-ghost use Rattle.std.specs.Prelude.{ℕ, ◌≡◌, ◌≤◌, ◌<◌, ◌⊎◌, ◌↔◌, length, map, string_bytes, Some, Ok, Err, List, [], IfOk, OnOk, IfErr, IfSome, IfNone, IsSome, IsNone};
+ghost use Rattle.std.specs.Prelude.{ℕ, ◌≡◌, ◌≤◌, ◌⊎◌, ◌↔◌, ◌++◌, map, string_bytes, Some, List, [], IfOk, OnOk, OnErr, IfErr, IfSome, IsSome, IsNone, codes};
+ghost use Rattle.std.specs.Fmt.{decimal};
 ghost use Rattle.ks_history.specs.Lawful.{Lawful, GoodThroughout};
 ghost use Rattle.ks_history.specs.declared.Op.{Op};
-ghost use Rattle.ks_history.specs.Served.{Served};
-ghost use Rattle.ks_script.specs.Script.{ScriptOf};
 ghost use Rattle.ks_script.specs.Outside.{Rose, Grew, GrewByFront};
-ghost use Rattle.ks_batch.specs.Words.{IsCommand};
+ghost use Rattle.ks_script.specs.Run as printed_run;
+ghost use Rattle.ks_batch.specs.declared.words.Text.{Text};
+ghost use Rattle.ks_batch.specs.declared.words.Text.TheVariants as text;
+ghost use Rattle.ks_batch.specs.Words.{IsCommand, Asks};
 ghost use Rattle.ks_batch.specs.Message.{status_text};
-ghost use Rattle.ks_batch.specs.Serve.{RefusedAt, Accepts, Tells, Prints};
-ghost use Rattle.ks_batch.specs.Stop.{IsCause, IsRefusal};
+ghost use Rattle.ks_batch.specs.Serve.{RefusedAt, Accepts, AcceptsChecked, Tells, Prints, Judges, IsCheck, judged_line};
+ghost use Rattle.ks_batch.specs.Stop.{IsCause};
 
+use crate::input::{Stop, load, load_checked};
 use crate::message::tell;
 use crate::words::{Asked, command};
-use ks_script::{
-    Printed, ReadFault, Script, Sink, Source, TextFault, read_all, read_script, write_run,
-};
+use itoa::Buffer;
+use ks_judge::{Judged, judge};
+use ks_script::{Failed, Printed, Sink, Source, send, write_run};
 use ks_single::{Run, RunTrace, serve_callers};
 use std::alloc::Global;
-
-/// How many bytes a script may have.
-const SCRIPT_LIMIT: u64 = 16777216;
 
 /// How the program ended.
 #[derive(Drop)]
@@ -49,55 +49,6 @@ impl Outcome {
     }
 }
 
-/// Why no script is served.
-#[derive(Clone, Copy, Debug, PartialEq, Eq)]
-pub enum Stop {
-    /// The input is refused at this line, or, at line 0, for its length.
-    Refused { line: u64 },
-    /// The source failed.
-    Source,
-    /// Memory was wanting.
-    Memory,
-}
-
-/// All bytes of the source, as many as a script may have.
-fn input<S: Source>(alloc: Global, source: &mut S) -> Result<Vec<u8>, Stop>
-    ensures ok { IfOk result (λ read. IfSome (S.left source.old) (λ bytes. read.items ≡ bytes)) }
-    ensures within { IfOk result (λ read. length read.items ≤ 16777216) }
-    ensures end { OnOk result (IfSome (S.left source.old) (λ _. S.left source.new ≡ Some [])) }
-    ensures cause { IfErr result (λ stop. IsCause stop (S.left source.old) (Rose (S.faults source.old) (S.faults source.new))) }
-{
-    match read_all(alloc, source, SCRIPT_LIMIT) {
-        Ok(bytes) => Ok(bytes),
-        Err(ReadFault::Failed) => Err(Stop::Source),
-        Err(ReadFault::TooLong) => Err(Stop::Refused { line: 0 }),
-        Err(ReadFault::Memory) => Err(Stop::Memory),
-    }
-}
-
-/// The script that the bytes spell.
-fn script(alloc: Global, bytes: &[u8]) -> Result<Script, Stop>
-    ensures accepted { IfOk result (λ script. ScriptOf bytes.now script) }
-    ensures refused { IfErr result (λ stop. IsRefusal stop bytes.now) }
-{
-    match read_script(alloc, bytes) {
-        Ok(script) => Ok(script),
-        Err(TextFault::Refused { line }) => Err(Stop::Refused { line }),
-        Err(TextFault::Memory) => Err(Stop::Memory),
-    }
-}
-
-/// Reads a script from the source.
-fn load<S: Source>(alloc: Global, source: &mut S) -> Result<Script, Stop>
-    ensures ok { IfOk result (λ script. IfSome (S.left source.old) (λ bytes. Accepts bytes script)) }
-    ensures callers { IfOk result (λ script. length script ≤ 64) }
-    ensures end { OnOk result (IfSome (S.left source.old) (λ _. S.left source.new ≡ Some [])) }
-    ensures cause { IfErr result (λ stop. IsCause stop (S.left source.old) (Rose (S.faults source.old) (S.faults source.new))) }
-{
-    let bytes = input(alloc, source)?;
-    script(alloc, &bytes)
-}
-
 /// A run that is served and not yet written.
 #[derive(Drop)]
 struct Ready {
@@ -111,7 +62,7 @@ fn prepare<S: Source>(alloc: Global, source: &mut S) -> Result<Ready, Stop>
     ensures good { IfOk result (λ ready. GoodThroughout ready.trace) }
     ensures tells { IfOk result (λ ready. IfSome (S.left source.old) (λ bytes. Tells bytes ready.trace ready.printed)) }
     ensures end { OnOk result (IfSome (S.left source.old) (λ _. S.left source.new ≡ Some [])) }
-    ensures cause { IfErr result (λ stop. IsCause stop (S.left source.old) (Rose (S.faults source.old) (S.faults source.new))) }
+    ensures cause { IfErr result (λ stop. IsCause stop text.Script (S.left source.old) (Rose (S.faults source.old) (S.faults source.new))) }
 {
     let script = load(alloc, source)?;
     match serve_callers(alloc, &script.callers) {
@@ -145,8 +96,8 @@ fn serve_script<S: Source, K: Sink>(alloc: Global, source: &mut S, out: &mut K) 
     ensures done { result.status ≡ 0 → IfSome (S.left source.old) (λ bytes. IfSome result.run (λ h. Prints bytes h (λ text. Grew (K.taken out.old) (K.taken out.new) text))) }
     ensures cut { result.status ≡ 4 → IfSome (S.left source.old) (λ bytes. IfSome result.run (λ h. Prints bytes h (λ text. GrewByFront (K.taken out.old) (K.taken out.new) text))) }
     ensures end { IsSome result.run → IfSome (S.left source.old) (λ _. S.left source.new ≡ Some []) }
-    ensures untouched { IsNone result.run → K.taken out.new ≡ K.taken out.old }
-    ensures refused { result.status ≡ 2 → IfSome (S.left source.old) (λ bytes. RefusedAt bytes result.line) }
+    ensures untouched { (result.status ≡ 0 → ⊥) → (result.status ≡ 4 → ⊥) → K.taken out.new ≡ K.taken out.old }
+    ensures refused { result.status ≡ 2 → IfSome (S.left source.old) (λ bytes. RefusedAt text.Script bytes result.line) }
     ensures source { result.status ≡ 3 → Rose (S.faults source.old) (S.faults source.new) }
     ensures output { result.status ≡ 4 → Rose (K.faults out.old) (K.faults out.new) }
 {
@@ -169,6 +120,72 @@ fn serve_script<S: Source, K: Sink>(alloc: Global, source: &mut S, out: &mut K) 
     }
 }
 
+/// The judgment of the script and the run on the source.
+fn judged<S: Source>(alloc: Global, source: &mut S) -> Result<Judged, Stop>
+    ensures ok { IfOk result (λ judged. IfSome (S.left source.old) (λ bytes. Judges bytes judged)) }
+    ensures end { OnOk result (IfSome (S.left source.old) (λ _. S.left source.new ≡ Some [])) }
+    ensures cause { IfErr result (λ stop. IsCause stop text.Checked (S.left source.old) (Rose (S.faults source.old) (S.faults source.new))) }
+{
+    let (script, printed) = load_checked(alloc, source)?;
+    match judge(alloc, &script, &printed) {
+        Ok(judged) => Ok(judged),
+        Err(_) => Err(Stop::Memory),
+    }
+}
+
+/// Says a word, a number and the end of the line.
+fn say<K: Sink>(out: &mut K, word: &[u8], number: u64) -> Result<(), Failed>
+    ensures ok { OnOk result (Grew (K.taken out.old) (K.taken out.new) (word.now ++ (decimal number ++ codes "\n"))) }
+    ensures front { OnErr result (GrewByFront (K.taken out.old) (K.taken out.new) (word.now ++ (decimal number ++ codes "\n"))) }
+    ensures cause { OnErr result (Rose (K.faults out.old) (K.faults out.new)) }
+{
+    send(out, word)?;
+    send(out, Buffer::new().format(number).as_bytes())?;
+    send(out, b"\n")
+}
+
+fn say_judged<K: Sink>(out: &mut K, judged: Judged) -> Result<(), Failed>
+    ensures ok { OnOk result (Grew (K.taken out.old) (K.taken out.new) (judged_line judged)) }
+    ensures front { OnErr result (GrewByFront (K.taken out.old) (K.taken out.new) (judged_line judged)) }
+    ensures cause { OnErr result (Rose (K.faults out.old) (K.faults out.new)) }
+{
+    match judged {
+        Judged::Legal { calls } => say(out, b"legal ", calls),
+        Judged::Wrong { number } => say(out, b"wrong ", number),
+    }
+}
+
+/// The command `check`: judges the script and the run on the source, and writes what they are judged to be.
+fn check_run<S: Source, K: Sink>(alloc: Global, source: &mut S, out: &mut K) -> Outcome
+    ensures run { IsNone result.run }
+    ensures status { (result.status ≡ 1 → ⊥) × (result.status ≤ 6) }
+    ensures line { (result.status ≡ 2 → ⊥) → result.line ≡ 0 }
+    ensures number { (result.status ≡ 6 → ⊥) → result.number ≡ 0 }
+    ensures checked { IsCheck (S.left source.old) (K.taken out.old) (K.taken out.new) result.status result.number }
+    ensures untouched { (result.status ≡ 0 → ⊥) → (result.status ≡ 4 → ⊥) → (result.status ≡ 6 → ⊥) → K.taken out.new ≡ K.taken out.old }
+    ensures refused { result.status ≡ 2 → IfSome (S.left source.old) (λ bytes. RefusedAt text.Checked bytes result.line) }
+    ensures source { result.status ≡ 3 → Rose (S.faults source.old) (S.faults source.new) }
+    ensures output { result.status ≡ 4 → Rose (K.faults out.old) (K.faults out.new) }
+{
+    match judged(alloc, source) {
+        Ok(judged) => match say_judged(out, judged) {
+            Ok(()) => match judged {
+                Judged::Legal { .. } => Outcome::without_run(0, 0),
+                Judged::Wrong { number } => Outcome {
+                    status: 6,
+                    line: 0,
+                    number,
+                    run: None,
+                },
+            },
+            Err(_) => Outcome::without_run(4, 0),
+        },
+        Err(Stop::Refused { line }) => Outcome::without_run(2, line),
+        Err(Stop::Source) => Outcome::without_run(3, 0),
+        Err(Stop::Memory) => Outcome::without_run(5, 0),
+    }
+}
+
 /// The whole program: does what the words ask for, and says on `err` what stood against it.
 pub fn serve<S: Source, K: Sink, E: Sink>(
     alloc: Global,
@@ -180,24 +197,30 @@ pub fn serve<S: Source, K: Sink, E: Sink>(
     // What happened in a run is lawful, and the keysets of the live nodes are disjoint and cover all places, always.
     ensures lawful { IfSome result.run Lawful }
     ensures good { IfSome result.run GoodThroughout }
-    ensures ran { IsSome result.run ↔ ((result.status ≡ 0) ⊎ (result.status ≡ 4)) }
+    ensures ran { Asks (map string_bytes words.now) text.Script → (IsSome result.run ↔ ((result.status ≡ 0) ⊎ (result.status ≡ 4))) }
+    ensures not_ran { Asks (map string_bytes words.now) text.Checked → IsNone result.run }
 
     // What is written is the text of a run that this served, or, where the output failed, first bytes of it.
-    ensures done { result.status ≡ 0 → IfSome (S.left source.old) (λ bytes. IfSome result.run (λ h. Prints bytes h (λ text. Grew (K.taken out.old) (K.taken out.new) text))) }
-    ensures cut { result.status ≡ 4 → IfSome (S.left source.old) (λ bytes. IfSome result.run (λ h. Prints bytes h (λ text. GrewByFront (K.taken out.old) (K.taken out.new) text))) }
+    ensures done { Asks (map string_bytes words.now) text.Script → result.status ≡ 0 → IfSome (S.left source.old) (λ bytes. IfSome result.run (λ h. Prints bytes h (λ t. Grew (K.taken out.old) (K.taken out.new) t))) }
+    ensures cut { Asks (map string_bytes words.now) text.Script → result.status ≡ 4 → IfSome (S.left source.old) (λ bytes. IfSome result.run (λ h. Prints bytes h (λ t. GrewByFront (K.taken out.old) (K.taken out.new) t))) }
     ensures end { IsSome result.run → IfSome (S.left source.old) (λ _. S.left source.new ≡ Some []) }
-    ensures untouched { IsNone result.run → K.taken out.new ≡ K.taken out.old }
+
+    // Or it is the line of the judgment of the run that was read.
+    ensures checked { Asks (map string_bytes words.now) text.Checked → IsCheck (S.left source.old) (K.taken out.old) (K.taken out.new) result.status result.number }
+    ensures untouched { (result.status ≡ 0 → ⊥) → (result.status ≡ 4 → ⊥) → (result.status ≡ 6 → ⊥) → K.taken out.new ≡ K.taken out.old }
 
     // When each status comes.
     ensures usage { (result.status ≡ 1) ↔ (IsCommand (map string_bytes words.now) → ⊥) }
     ensures unread { result.status ≡ 1 → S.left source.new ≡ S.left source.old }
-    ensures refused { result.status ≡ 2 → IfSome (S.left source.old) (λ bytes. RefusedAt bytes result.line) }
-    ensures refusal_due { IsCommand (map string_bytes words.now) → (Rose (S.faults source.old) (S.faults source.new) → ⊥) → IfSome (S.left source.old) (λ bytes. (n : ℕ) → RefusedAt bytes n → ((result.status ≡ 2) × (result.line ≡ n)) ⊎ (result.status ≡ 5)) }
+    ensures refused { (t : Text) → Asks (map string_bytes words.now) t → result.status ≡ 2 → IfSome (S.left source.old) (λ bytes. RefusedAt t bytes result.line) }
+    ensures refusal_due { (t : Text) → Asks (map string_bytes words.now) t → (Rose (S.faults source.old) (S.faults source.new) → ⊥) → IfSome (S.left source.old) (λ bytes. (n : ℕ) → RefusedAt t bytes n → ((result.status ≡ 2) × (result.line ≡ n)) ⊎ (result.status ≡ 5)) }
     ensures source { result.status ≡ 3 → Rose (S.faults source.old) (S.faults source.new) }
     ensures output { result.status ≡ 4 → Rose (K.faults out.old) (K.faults out.new) }
-    ensures done_due { IsCommand (map string_bytes words.now) → (Rose (S.faults source.old) (S.faults source.new) → ⊥) → (Rose (K.faults out.old) (K.faults out.new) → ⊥) → IfSome (S.left source.old) (λ bytes. (script : List (List Op)) → Accepts bytes script → (result.status ≡ 0) ⊎ (result.status ≡ 5)) }
+    ensures judgment { result.status ≡ 6 → Asks (map string_bytes words.now) text.Checked }
+    ensures done_due { Asks (map string_bytes words.now) text.Script → (Rose (S.faults source.old) (S.faults source.new) → ⊥) → (Rose (K.faults out.old) (K.faults out.new) → ⊥) → IfSome (S.left source.old) (λ bytes. (script : List (List Op)) → Accepts bytes script → (result.status ≡ 0) ⊎ (result.status ≡ 5)) }
+    ensures judged_due { Asks (map string_bytes words.now) text.Checked → (Rose (S.faults source.old) (S.faults source.new) → ⊥) → (Rose (K.faults out.old) (K.faults out.new) → ⊥) → IfSome (S.left source.old) (λ bytes. (script : List (List Op)) (run : printed_run.Run) → AcceptsChecked bytes script run → (result.status ≡ 0) ⊎ ((result.status ≡ 6) ⊎ (result.status ≡ 5))) }
     ensures line { (result.status ≡ 2 → ⊥) → result.line ≡ 0 }
-    ensures number { result.number ≡ 0 }
+    ensures number { (result.status ≡ 6 → ⊥) → result.number ≡ 0 }
 
     // What is said on the error output: the text of the status, whole if it did not fail.
     ensures said { (Rose (E.faults err.old) (E.faults err.new) → ⊥) → Grew (E.taken err.old) (E.taken err.new) (status_text result.status result.line) }
@@ -205,6 +228,7 @@ pub fn serve<S: Source, K: Sink, E: Sink>(
 {
     let outcome = match command(words) {
         Some(Asked::Run { .. }) => serve_script(alloc, source, out),
+        Some(Asked::Check) => check_run(alloc, source, out),
         None => Outcome::without_run(1, 0),
     };
     tell(err, outcome.status, outcome.line);

@@ -49,7 +49,9 @@ fn run_at(alloc: Global, words: &str, input: &[u8], most: usize) -> Result<Ended
 }
 
 const RUN: &str = "run bplus coupling 4";
+
 const FIRST: &[u8] = b"caller\nput 5 50\nget 5\n";
+
 const FIRST_RUN: &[u8] = b"caller 0\n0 none\n1 50\nmap\n5 50\nend\n";
 
 /// Scripts and the texts of their runs.
@@ -57,8 +59,14 @@ const RUNS: [(&[u8], &[u8]); 7] = [
     (FIRST, FIRST_RUN),
     (b"", b"map\nend\n"),
     (b"caller\n", b"caller 0\nmap\nend\n"),
-    (b"caller\nput 5 50\nput 5 51\n", b"caller 0\n0 none\n1 50\nmap\n5 51\nend\n"),
-    (b"caller\ndel 1\nput 1 9\ndel 1\ndel 1\n", b"caller 0\n0 none\n1 none\n2 9\n3 none\nmap\nend\n"),
+    (
+        b"caller\nput 5 50\nput 5 51\n",
+        b"caller 0\n0 none\n1 50\nmap\n5 51\nend\n",
+    ),
+    (
+        b"caller\ndel 1\nput 1 9\ndel 1\ndel 1\n",
+        b"caller 0\n0 none\n1 none\n2 9\n3 none\nmap\nend\n",
+    ),
     (
         b"caller\nput 0 1\nput 18446744073709551615 2\nget 0\nget 18446744073709551615\n",
         b"caller 0\n0 none\n1 none\n2 1\n3 2\nmap\n0 1\n18446744073709551615 2\nend\n",
@@ -68,14 +76,54 @@ const RUNS: [(&[u8], &[u8]); 7] = [
 
 /// Words, inputs, and what is said of them, with the status.
 const REFUSALS: [(&str, &[u8], &[u8], u8); 5] = [
-    (RUN, b"caller\nput 1 18446744073709551616\n", b"line 2 refused\n", 2),
+    (
+        RUN,
+        b"caller\nput 1 18446744073709551616\n",
+        b"line 2 refused\n",
+        2,
+    ),
     (RUN, b"caller\nput 01 5\n", b"line 2 refused\n", 2),
     (RUN, b"put 1 2\ncaller\n", b"line 1 refused\n", 2),
     ("run bplus coupling 3", b"", USAGE, 1),
     ("run bplus coupling 04", b"", USAGE, 1),
 ];
 
-const USAGE: &[u8] = b"usage: run NODES TEMPLATE ARENA, make NODES TEMPLATE ARENA CALLERS CALLS FIRST, or check\n";
+const USAGE: &[u8] =
+    b"usage: run NODES TEMPLATE ARENA, make NODES TEMPLATE ARENA CALLERS CALLS FIRST, or check\n";
+
+/// What is checked, and what is said of it, with the status.
+const CHECKS: [(&[u8], &[u8], &[u8], u8); 4] = [
+    (
+        b"caller\nput 5 50\nget 5\nrun\ncaller 0\n0 none\n1 50\nmap\n5 50\nend\n",
+        b"legal 2\n",
+        b"",
+        0,
+    ),
+    (
+        b"caller\nput 5 50\nget 5\nrun\ncaller 0\n0 50\n1 none\nmap\n5 50\nend\n",
+        b"wrong 0\n",
+        b"",
+        6,
+    ),
+    (
+        b"caller\nput 5 50\nget 5\nrun\ncaller 0\n0 none\n1 50\nmap\nend\n",
+        b"wrong 2\n",
+        b"",
+        6,
+    ),
+    (b"caller\n", b"", b"line 2 refused\n", 2),
+];
+
+#[test]
+fn judges_a_printed_run(rt: HostRuntime) -> Result<(), Fail> {
+    for (input, text, said, status) in CHECKS {
+        let ended = run_at(rt.alloc(), "check", input, 4096)?;
+        assert_eq!(rt; ended.status, status);
+        assert!(rt; ended.out.as_slice() == text);
+        assert!(rt; ended.err.as_slice() == said);
+    }
+    Ok(())
+}
 
 #[test]
 fn tells_what_each_call_is_answered(rt: HostRuntime) -> Result<(), Fail> {

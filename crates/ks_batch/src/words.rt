@@ -1,6 +1,6 @@
 //! The words of the program, and the command that they ask for.
 
-ghost use Rattle.std.specs.Prelude.{ℕ, ◌≡◌, ◌≤◌, IsTrue, ◌↔◌, map, string_bytes, IfSome, IfNone};
+ghost use Rattle.std.specs.Prelude.{ℕ, ◌≡◌, ◌≤◌, IsTrue, ◌↔◌, [], ◌∷◌, map, string_bytes, IfSome, IfNone};
 ghost use Rattle.std.specs.Fmt.{decimal};
 ghost use Rattle.ks_batch.specs.Words.{Spells, IsCommand};
 
@@ -11,6 +11,16 @@ use itoa::Buffer;
 pub enum Asked {
     /// To serve the script on the source with an arena of so many nodes.
     Run { arena: u64 },
+    /// To judge the script and the printed run on the source.
+    Check,
+}
+
+/// What is read from the source.
+#[derive(Clone, Copy, Debug, PartialEq, Eq)]
+pub enum Text {
+    Script,
+    /// A script and a printed run of it.
+    Checked,
 }
 
 fn is(word: &String, text: &str) -> bool
@@ -35,19 +45,34 @@ fn number(word: &String, least: u64, most: u64) -> Option<u64>
     }
 }
 
+/// The command to serve a script, if these four words are one.
+fn run_words(verb: &String, nodes: &String, template: &String, arena: &String) -> Option<Asked>
+    ensures some { IfSome result (λ asked. Spells (string_bytes verb.now ∷ string_bytes nodes.now ∷ string_bytes template.now ∷ string_bytes arena.now ∷ []) asked) }
+    ensures none { IfNone result (IsCommand (string_bytes verb.now ∷ string_bytes nodes.now ∷ string_bytes template.now ∷ string_bytes arena.now ∷ []) → ⊥) }
+{
+    if is(verb, "run") && is(nodes, "bplus") && is(template, "coupling") {
+        return match number(arena, 4, 65536) {
+            Some(arena) => Some(Asked::Run { arena }),
+            None => None,
+        };
+    }
+    None
+}
+
 /// The command that the words are, if they are one.
 pub fn command(words: &[String]) -> Option<Asked>
     ensures some { IfSome result (λ asked. Spells (map string_bytes words.now) asked) }
     ensures none { IfNone result (IsCommand (map string_bytes words.now) → ⊥) }
 {
-    let [verb, nodes, template, arena] = words else {
-        return None;
-    };
-    if is(verb, "run") && is(nodes, "bplus") && is(template, "coupling") {
-        let Some(arena) = number(arena, 4, 65536) else {
-            return None;
-        };
-        return Some(Asked::Run { arena });
+    match words {
+        [verb, nodes, template, arena] => run_words(verb, nodes, template, arena),
+        [check] => {
+            if is(check, "check") {
+                Some(Asked::Check)
+            } else {
+                None
+            }
+        }
+        _ => None,
     }
-    None
 }

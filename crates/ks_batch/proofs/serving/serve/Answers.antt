@@ -1,21 +1,101 @@
-use Rattle.ks_batch.proofs.Due.{refusal_due, done_due}
+use Rattle.std.proofs.Common.{ℕ, ◌≡◌, ◌⊎◌, map, string_bytes, arith}
+use Rattle.std.specs.Prelude.{IfSome}
+use Rattle.ks_script.specs.Outside.{Rose}
+use Rattle.ks_batch.specs.Serve.{RefusedAt}
+use Rattle.ks_batch.specs.declared.words.Text.TheVariants.{Script, Checked}
+use Rattle.ks_batch.proofs.Due.{script_outcome, check_outcome, due_refusal, due_answer, due_done, due_judged}
+use Rattle.ks_batch.proofs.Askings.{not_both, asks_command, only}
 use Rattle.ks_batch.proofs.serving.serve.Goals as goal
-use Rattle.ks_batch.proofs.serving.serve.Goals.{in-Some-Run, in-None}
+use Rattle.ks_batch.proofs.serving.serve.Goals.{in-Some-Run, in-Some-Check, in-None}
 
-pub returns-clause-refusal_due : goal.returns-clause-refusal_due
-returns-clause-refusal_due g c is =
+pub returns-clause-ran : goal.returns-clause-ran
+returns-clause-ran g c asks =
     elim c.match-command.branch [
-      | in-Some-Run w ↦
-          let e = w.serve_script-outcome.ensures in
-          rw (w.outcome-is, w.source-is) (refusal_due (g.S.Source.left c.args.source.now) _ _ _ _ _ _ _ record { known = e.status; ran = e.ran; done = e.done; cut = e.cut; refused = e.refused; source = e.source; output = e.output })
-      | in-None w ↦ absurd (w.in-None.ensures.none is)
+      | in-Some-Run w ↦ rw w.outcome-is w.serve_script-outcome.ensures.ran
+      | in-Some-Check w ↦ absurd (not_both (map string_bytes c.args.words.now) asks (rw w.in-Some-Check.field-0-is at w.in-Some-Check.ensures.some))
+      | in-None w ↦ absurd (w.in-None.ensures.none (asks_command (map string_bytes c.args.words.now) Script asks))
+    ]
+
+pub returns-clause-not_ran : goal.returns-clause-not_ran
+returns-clause-not_ran g c asks =
+    elim c.match-command.branch [
+      | in-Some-Run w ↦ absurd (not_both (map string_bytes c.args.words.now) (_, rw w.in-Some-Run.field-0-is at w.in-Some-Run.ensures.some) asks)
+      | in-Some-Check w ↦ rw w.outcome-is w.check_run-outcome.ensures.run
+      | in-None w ↦ absurd (w.in-None.ensures.none (asks_command (map string_bytes c.args.words.now) Checked asks))
+    ]
+
+pub returns-clause-done : goal.returns-clause-done
+returns-clause-done g c asks =
+    elim c.match-command.branch [
+      | in-Some-Run w ↦ rw (w.outcome-is, w.out-is) w.serve_script-outcome.ensures.done
+      | in-Some-Check w ↦ absurd (not_both (map string_bytes c.args.words.now) asks (rw w.in-Some-Check.field-0-is at w.in-Some-Check.ensures.some))
+      | in-None w ↦ absurd (w.in-None.ensures.none (asks_command (map string_bytes c.args.words.now) Script asks))
+    ]
+
+pub returns-clause-cut : goal.returns-clause-cut
+returns-clause-cut g c asks =
+    elim c.match-command.branch [
+      | in-Some-Run w ↦ rw (w.outcome-is, w.out-is) w.serve_script-outcome.ensures.cut
+      | in-Some-Check w ↦ absurd (not_both (map string_bytes c.args.words.now) asks (rw w.in-Some-Check.field-0-is at w.in-Some-Check.ensures.some))
+      | in-None w ↦ absurd (w.in-None.ensures.none (asks_command (map string_bytes c.args.words.now) Script asks))
+    ]
+
+pub returns-clause-checked : goal.returns-clause-checked
+returns-clause-checked g c asks =
+    elim c.match-command.branch [
+      | in-Some-Run w ↦ absurd (not_both (map string_bytes c.args.words.now) (_, rw w.in-Some-Run.field-0-is at w.in-Some-Run.ensures.some) asks)
+      | in-Some-Check w ↦ rw (w.outcome-is, w.out-is) w.check_run-outcome.ensures.checked
+      | in-None w ↦ absurd (w.in-None.ensures.none (asks_command (map string_bytes c.args.words.now) Checked asks))
     ]
 
 pub returns-clause-done_due : goal.returns-clause-done_due
-returns-clause-done_due g c is =
+returns-clause-done_due g c asks =
+    elim c.match-command.branch [
+      | in-Some-Run w ↦ let e = w.serve_script-outcome.ensures in rw (w.outcome-is, w.source-is, w.out-is) (λ calm out_calm. due_done (g.S.Source.left c.args.source.now) _ e.status.1 (due_answer Script (g.S.Source.left c.args.source.now) _ _ _ _ (script_outcome (g.S.Source.left c.args.source.now) _ _ _ _ _ _ _ e.status e.ran e.done e.cut e.refused e.source e.output) calm out_calm))
+      | in-Some-Check w ↦ absurd (not_both (map string_bytes c.args.words.now) asks (rw w.in-Some-Check.field-0-is at w.in-Some-Check.ensures.some))
+      | in-None w ↦ absurd (w.in-None.ensures.none (asks_command (map string_bytes c.args.words.now) Script asks))
+    ]
+
+pub returns-clause-judged_due : goal.returns-clause-judged_due
+returns-clause-judged_due g c asks =
+    elim c.match-command.branch [
+      | in-Some-Run w ↦ absurd (not_both (map string_bytes c.args.words.now) (_, rw w.in-Some-Run.field-0-is at w.in-Some-Run.ensures.some) asks)
+      | in-Some-Check w ↦ let e = w.check_run-outcome.ensures in rw (w.outcome-is, w.source-is, w.out-is) (λ calm out_calm. due_judged (g.S.Source.left c.args.source.now) _ (due_answer Checked (g.S.Source.left c.args.source.now) _ _ _ _ (check_outcome (g.S.Source.left c.args.source.now) _ _ _ _ _ _ _ e.status e.checked e.refused e.source e.output) calm out_calm))
+      | in-None w ↦ absurd (w.in-None.ensures.none (asks_command (map string_bytes c.args.words.now) Checked asks))
+    ]
+
+pub returns-clause-judgment : goal.returns-clause-judgment
+returns-clause-judgment g c =
+    elim c.match-command.branch [
+      | in-Some-Run w ↦ rw w.outcome-is (λ is. let le = w.serve_script-outcome.ensures.status.1 in absurd (omega (arith, le, is)))
+      | in-Some-Check w ↦ λ is. rw w.in-Some-Check.field-0-is at w.in-Some-Check.ensures.some
+      | in-None w ↦ rw w.outcome-is (λ is. let e = w.without_run-outcome.ensures.0 in absurd (omega (arith, e, is)))
+    ]
+
+pub returns-clause-refused : goal.returns-clause-refused
+returns-clause-refused g c t asks =
+    elim c.match-command.branch [
+      | in-Some-Run w ↦
+          let r = w.serve_script-outcome.result in
+          rw w.outcome-is (only (λ u. r.status ≡ 2 → IfSome (g.S.Source.left c.args.source.now) (λ bytes. RefusedAt u bytes r.line)) (map string_bytes c.args.words.now) Script t (_, rw w.in-Some-Run.field-0-is at w.in-Some-Run.ensures.some) asks w.serve_script-outcome.ensures.refused)
+      | in-Some-Check w ↦
+          let r = w.check_run-outcome.result in
+          rw w.outcome-is (only (λ u. r.status ≡ 2 → IfSome (g.S.Source.left c.args.source.now) (λ bytes. RefusedAt u bytes r.line)) (map string_bytes c.args.words.now) Checked t (rw w.in-Some-Check.field-0-is at w.in-Some-Check.ensures.some) asks w.check_run-outcome.ensures.refused)
+      | in-None w ↦ absurd (w.in-None.ensures.none (asks_command (map string_bytes c.args.words.now) t asks))
+    ]
+
+pub returns-clause-refusal_due : goal.returns-clause-refusal_due
+returns-clause-refusal_due g c t asks =
     elim c.match-command.branch [
       | in-Some-Run w ↦
           let e = w.serve_script-outcome.ensures in
-          rw (w.outcome-is, w.source-is, w.out-is) (done_due (g.S.Source.left c.args.source.now) _ _ _ _ _ _ _ record { known = e.status; ran = e.ran; done = e.done; cut = e.cut; refused = e.refused; source = e.source; output = e.output })
-      | in-None w ↦ absurd (w.in-None.ensures.none is)
+          let r = w.serve_script-outcome.result in
+          rw (w.outcome-is, w.source-is) (only (λ u. (Rose (g.S.Source.faults c.args.source.now) (g.S.Source.faults w.serve_script-outcome.new.source) → ⊥) → IfSome (g.S.Source.left c.args.source.now) (λ bytes. (n : ℕ) → RefusedAt u bytes n → ((r.status ≡ 2) × (r.line ≡ n)) ⊎ (r.status ≡ 5))) (map string_bytes c.args.words.now) Script t (_, rw w.in-Some-Run.field-0-is at w.in-Some-Run.ensures.some) asks
+          (due_refusal Script (g.S.Source.left c.args.source.now) _ _ _ _ (script_outcome (g.S.Source.left c.args.source.now) _ _ _ _ _ _ _ e.status e.ran e.done e.cut e.refused e.source e.output)))
+      | in-Some-Check w ↦
+          let e = w.check_run-outcome.ensures in
+          let r = w.check_run-outcome.result in
+          rw (w.outcome-is, w.source-is) (only (λ u. (Rose (g.S.Source.faults c.args.source.now) (g.S.Source.faults w.check_run-outcome.new.source) → ⊥) → IfSome (g.S.Source.left c.args.source.now) (λ bytes. (n : ℕ) → RefusedAt u bytes n → ((r.status ≡ 2) × (r.line ≡ n)) ⊎ (r.status ≡ 5))) (map string_bytes c.args.words.now) Checked t (rw w.in-Some-Check.field-0-is at w.in-Some-Check.ensures.some) asks
+          (due_refusal Checked (g.S.Source.left c.args.source.now) _ _ _ _ (check_outcome (g.S.Source.left c.args.source.now) _ _ _ _ _ _ _ e.status e.checked e.refused e.source e.output)))
+      | in-None w ↦ absurd (w.in-None.ensures.none (asks_command (map string_bytes c.args.words.now) t asks))
     ]

@@ -1,0 +1,100 @@
+//! Reads what a command works on from its source.
+
+ghost use Rattle.std.specs.Prelude.{ℕ, ◌≡◌, ◌≤◌, length, Some, [], IfOk, OnOk, IfErr, IfSome};
+ghost use Rattle.ks_script.specs.Outside.{Rose};
+ghost use Rattle.ks_script.specs.Script.{ScriptOf};
+ghost use Rattle.ks_script.specs.Checked.{CheckedOf};
+ghost use Rattle.ks_script.specs.Script.{calls_in};
+ghost use Rattle.ks_judge.specs.Judgment.{SameShape};
+ghost use Rattle.ks_batch.specs.Serve.{limit_of, Accepts, AcceptsChecked};
+ghost use Rattle.ks_batch.specs.Stop.{IsCause, IsRefusal};
+ghost use Rattle.ks_batch.specs.declared.words.Text.TheVariants as text;
+
+use crate::words::Text;
+use ks_script::{
+    Printed, ReadFault, Script, Source, TextFault, read_all, read_checked, read_script,
+};
+use std::alloc::Global;
+
+/// Why an input is not used.
+#[derive(Clone, Copy, Debug, PartialEq, Eq)]
+pub enum Stop {
+    /// The input is refused at this line, or, at line 0, for its length.
+    Refused { line: u64 },
+    /// The source failed.
+    Source,
+    /// Memory was wanting.
+    Memory,
+}
+
+/// How many bytes the text may have.
+fn limit(text: Text) -> u64
+    ensures { result ≡ limit_of text }
+{
+    match text {
+        Text::Script => 16777216,
+        Text::Checked => 134217728,
+    }
+}
+
+/// All bytes of the source, as many as the text may have.
+fn input<S: Source>(alloc: Global, source: &mut S, text: Text) -> Result<Vec<u8>, Stop>
+    ensures ok { IfOk result (λ read. IfSome (S.left source.old) (λ bytes. read.items ≡ bytes)) }
+    ensures within { IfOk result (λ read. length read.items ≤ limit_of text) }
+    ensures end { OnOk result (IfSome (S.left source.old) (λ _. S.left source.new ≡ Some [])) }
+    ensures cause { IfErr result (λ stop. IsCause stop text (S.left source.old) (Rose (S.faults source.old) (S.faults source.new))) }
+{
+    match read_all(alloc, source, limit(text)) {
+        Ok(bytes) => Ok(bytes),
+        Err(ReadFault::Failed) => Err(Stop::Source),
+        Err(ReadFault::TooLong) => Err(Stop::Refused { line: 0 }),
+        Err(ReadFault::Memory) => Err(Stop::Memory),
+    }
+}
+
+/// The script that the bytes spell.
+fn script(alloc: Global, bytes: &[u8]) -> Result<Script, Stop>
+    ensures accepted { IfOk result (λ script. ScriptOf bytes.now script) }
+    ensures refused { IfErr result (λ stop. IsRefusal stop text.Script bytes.now) }
+{
+    match read_script(alloc, bytes) {
+        Ok(script) => Ok(script),
+        Err(TextFault::Refused { line }) => Err(Stop::Refused { line }),
+        Err(TextFault::Memory) => Err(Stop::Memory),
+    }
+}
+
+/// The script and the run that the bytes spell.
+fn checked(alloc: Global, bytes: &[u8]) -> Result<(Script, Printed), Stop>
+    ensures accepted { IfOk result (λ x. CheckedOf bytes.now x.0 x.1) }
+    ensures refused { IfErr result (λ stop. IsRefusal stop text.Checked bytes.now) }
+{
+    match read_checked(alloc, bytes) {
+        Ok(both) => Ok(both),
+        Err(TextFault::Refused { line: at }) => Err(Stop::Refused { line: at }),
+        Err(TextFault::Memory) => Err(Stop::Memory),
+    }
+}
+
+/// Reads a script from the source.
+pub fn load<S: Source>(alloc: Global, source: &mut S) -> Result<Script, Stop>
+    ensures ok { IfOk result (λ script. IfSome (S.left source.old) (λ bytes. Accepts bytes script)) }
+    ensures callers { IfOk result (λ script. length script ≤ 64) }
+    ensures end { OnOk result (IfSome (S.left source.old) (λ _. S.left source.new ≡ Some [])) }
+    ensures cause { IfErr result (λ stop. IsCause stop text.Script (S.left source.old) (Rose (S.faults source.old) (S.faults source.new))) }
+{
+    let bytes = input(alloc, source, Text::Script)?;
+    script(alloc, &bytes)
+}
+
+/// Reads a script and a run of it from the source.
+pub fn load_checked<S: Source>(alloc: Global, source: &mut S) -> Result<(Script, Printed), Stop>
+    ensures ok { IfOk result (λ x. IfSome (S.left source.old) (λ bytes. AcceptsChecked bytes x.0 x.1)) }
+    ensures shape { IfOk result (λ x. SameShape x.0 x.1.callers) }
+    ensures few { IfOk result (λ x. calls_in x.0 ≤ 1048576) }
+    ensures end { OnOk result (IfSome (S.left source.old) (λ _. S.left source.new ≡ Some [])) }
+    ensures cause { IfErr result (λ stop. IsCause stop text.Checked (S.left source.old) (Rose (S.faults source.old) (S.faults source.new))) }
+{
+    let bytes = input(alloc, source, Text::Checked)?;
+    checked(alloc, &bytes)
+}
