@@ -1,5 +1,5 @@
 -- Laws of traces: how what a caller sees of a trace adds up, and what holds at its beginnings.
-use Rattle.std.proofs.Common.{◌≡◌, ◌≢◌, ℕ, ◌⊎◌, inl, inr, List, [], ◌∷◌, ◌++◌, sym, refl, ap, ◌∙◌, subst, append_assoc}
+use Rattle.std.proofs.Common.{◌≡◌, ℕ, inl, inr, List, [], ◌∷◌, ◌++◌, sym, refl, ap, ◌∙◌, subst, append_assoc}
 use Rattle.ks_keysets.specs.Keyset.{Good}
 use Rattle.ks_history.specs.declared.Event.{Event}
 use Rattle.ks_history.specs.declared.Event.TheVariants.{Take, Give, Claim, Shape, Call}
@@ -58,22 +58,22 @@ none_no_call c (Call d i op reply ∷ es) none = (none.0, none_no_call c es none
 
 -- beginnings of traces
 
-pub begins_self : (h : List Event) → h ⊑ h
+abbrev pub begins_self : (h : List Event) → h ⊑ h
 begins_self h = record { rest = []; is = refl }
 
-pub begins_more : (e : Event) (h : List Event) → h ⊑ e ∷ h
+abbrev pub begins_more : (e : Event) (h : List Event) → h ⊑ e ∷ h
 begins_more e h = record { rest = e ∷ []; is = refl }
 
-pub begins_append : (rest h : List Event) → h ⊑ rest ++ h
+abbrev pub begins_append : (rest h : List Event) → h ⊑ rest ++ h
 begins_append rest h = record { rest = rest; is = refl }
 
-pub begins_both : (g h k : List Event) → g ⊑ h → h ⊑ k → g ⊑ k
+abbrev pub begins_both : (g h k : List Event) → g ⊑ h → h ⊑ k → g ⊑ k
 begins_both g h k a b = record { rest = b.rest ++ a.rest; is = b.is ∙ ap (λ (z : List Event). b.rest ++ z) a.is ∙ sym (append_assoc b.rest a.rest g) }
 
-pub by_others_begins : (c : ℕ) (g h : List Event) → GrowsByOthers c g h → g ⊑ h
+abbrev pub by_others_begins : (c : ℕ) (g h : List Event) → GrowsByOthers c g h → g ⊑ h
 by_others_begins c g h so = record { rest = so.rest; is = so.is }
 
-pub with_begins : (c : ℕ) (e : Event) (g h : List Event) → GrowsWith c e g h → g ⊑ h
+abbrev pub with_begins : (c : ℕ) (e : Event) (g h : List Event) → GrowsWith c e g h → g ⊑ h
 with_begins c e g h so = record { rest = e ∷ so.rest; is = so.is }
 
 in_turn_older : (rest h : List Event) → AreInTurn (rest ++ h) → AreInTurn h
@@ -106,10 +106,10 @@ good_begins g h begins good = good_older begins.rest g (subst GoodThroughout beg
 
 -- what a caller sees of the trace adds up
 
-pub by_others_none : (c : ℕ) (h : List Event) → GrowsByOthers c h h
+abbrev pub by_others_none : (c : ℕ) (h : List Event) → GrowsByOthers c h h
 by_others_none c h = record { rest = []; is = refl; others = tt }
 
-pub by_others_both : (c : ℕ) (g h k : List Event) → GrowsByOthers c g h → GrowsByOthers c h k → GrowsByOthers c g k
+abbrev pub by_others_both : (c : ℕ) (g h k : List Event) → GrowsByOthers c g h → GrowsByOthers c h k → GrowsByOthers c g k
 by_others_both c g h k a b = record {
   rest = b.rest ++ a.rest;
   is = b.is ∙ ap (λ (z : List Event). b.rest ++ z) a.is ∙ sym (append_assoc b.rest a.rest g);
@@ -117,7 +117,7 @@ by_others_both c g h k a b = record {
 }
 
 -- others' events, and then others' events and one event
-pub by_others_with : (c : ℕ) (e : Event) (g h k : List Event) → GrowsByOthers c g h → GrowsWith c e h k → GrowsWith c e g k
+abbrev pub by_others_with : (c : ℕ) (e : Event) (g h k : List Event) → GrowsByOthers c g h → GrowsWith c e h k → GrowsWith c e g k
 by_others_with c e g h k a b = record {
   rest = b.rest ++ a.rest;
   is = b.is ∙ ap (λ (z : List Event). e ∷ z) (ap (λ (z : List Event). b.rest ++ z) a.is ∙ sym (append_assoc b.rest a.rest g));
@@ -128,7 +128,7 @@ by_others_with c e g h k a b = record {
 abbrev pub before_it : {c : ℕ} {e : Event} {g h : List Event} → GrowsWith c e g h → List Event
 before_it {g = g} so = so.rest ++ g
 
-pub with_others : (c : ℕ) (e : Event) (g h : List Event) (so : GrowsWith c e g h) → GrowsByOthers c g (so.rest ++ g)
+abbrev pub with_others : (c : ℕ) (e : Event) (g h : List Event) (so : GrowsWith c e g h) → GrowsByOthers c g (so.rest ++ g)
 with_others c e g h so = record { rest = so.rest; is = refl; others = so.others }
 
 -- so with what c holds, its hand and its own events

@@ -70,17 +70,17 @@ pub held_in_hand : (h : List Event) (c i : ℕ) → turn_after h i ≡ held c �
 held_in_hand [] c i mine = absurd (dite (ℕ_discrete i 0) (λ s. let x : idle ≡ held c = sym (cond_here i 0 idle free s) ∙ mine in cc) (λ n. let x : free ≡ held c = sym (cond_else i 0 idle free n) ∙ mine in cc))
 held_in_hand (Take d j ∷ h) c i mine = dite (ℕ_discrete c d)
     (λ own. subst (λ (z : List ℕ). Has z i) (sym (cond_here c d (j ∷ hand c h) (hand c h) own))
-        (dite (ℕ_discrete i j) (λ s. inl (sym s)) (λ n. inr (held_in_hand h c i (sym (cond_else i j (held d) (turn_after h i) n) ∙ mine)))))
+    (dite (ℕ_discrete i j) (λ s. inl (sym s)) (λ n. inr (held_in_hand h c i (sym (cond_else i j (held d) (turn_after h i) n) ∙ mine)))))
     (λ other. subst (λ (z : List ℕ). Has z i) (sym (hand_other h (Take d j) c (λ e. other (sym e)))) (held_in_hand h c i (other_turn h (Take d j) c i (λ e. other (sym e)) mine)))
 held_in_hand (Give d j ∷ h) c i mine = dite (ℕ_discrete c d)
     (λ own. subst (λ (z : List ℕ). Has z i) (sym (cond_here c d (drop_one j (hand c h)) (hand c h) own))
-        (dite (ℕ_discrete i j)
-            (λ s. absurd (given_not_held c (graph_after h j) (sym (cond_here i j (turn_given (graph_after h j)) (turn_after h i) s) ∙ mine)))
-            (λ n. has_not_dropped i j (hand c h) n (held_in_hand h c i (sym (cond_else i j (turn_given (graph_after h j)) (turn_after h i) n) ∙ mine)))))
+    (dite (ℕ_discrete i j)
+    (λ s. absurd (given_not_held c (graph_after h j) (sym (cond_here i j (turn_given (graph_after h j)) (turn_after h i) s) ∙ mine)))
+    (λ n. has_not_dropped i j (hand c h) n (held_in_hand h c i (sym (cond_else i j (turn_given (graph_after h j)) (turn_after h i) n) ∙ mine)))))
     (λ other. subst (λ (z : List ℕ). Has z i) (sym (hand_other h (Give d j) c (λ e. other (sym e)))) (held_in_hand h c i (other_turn h (Give d j) c i (λ e. other (sym e)) mine)))
 held_in_hand (Claim d j ∷ h) c i mine = dite (ℕ_discrete c d)
     (λ own. subst (λ (z : List ℕ). Has z i) (sym (cond_here c d (j ∷ hand c h) (hand c h) own))
-        (dite (ℕ_discrete i j) (λ s. inl (sym s)) (λ n. inr (held_in_hand h c i (sym (cond_else i j (held d) (turn_after h i) n) ∙ mine)))))
+    (dite (ℕ_discrete i j) (λ s. inl (sym s)) (λ n. inr (held_in_hand h c i (sym (cond_else i j (held d) (turn_after h i) n) ∙ mine)))))
     (λ other. subst (λ (z : List ℕ). Has z i) (sym (hand_other h (Claim d j) c (λ e. other (sym e)))) (held_in_hand h c i (other_turn h (Claim d j) c i (λ e. other (sym e)) mine)))
 held_in_hand (Shape d changes ∷ h) c i mine = held_in_hand h c i mine
 held_in_hand (Call d j op reply ∷ h) c i mine = held_in_hand h c i mine
@@ -115,7 +115,7 @@ pub is_hand : (h : List Event) (c : ℕ) → AreInTurn h → IsHand c h
 is_hand [] c are = record { held = λ i has. absurd has; once = tt }
 is_hand (Take d j ∷ h) c are = dite (ℕ_discrete d c)
     (λ own. hand_added h (Take d j) c j (cond_here c d (j ∷ hand c h) (hand c h) (sym own)) (cond_here j j (held d) (turn_after h j) refl ∙ ap held own)
-        (λ i mine. let n : i ≢ j = idle_apart h c i j are.1 mine in (cond_else i j (held d) (turn_after h i) n ∙ mine, n)) (is_hand h c are.0))
+    (λ i mine. let n : i ≢ j = idle_apart h c i j are.1 mine in (cond_else i j (held d) (turn_after h i) n ∙ mine, n)) (is_hand h c are.0))
     (λ other. hand_kept h (Take d j) c are.0 are.1 other (is_hand h c are.0))
 is_hand (Give d j ∷ h) c are = dite (ℕ_discrete d c)
     (λ own. let so : IsHand c h = is_hand h c are.0 in let is : hand c (Give d j ∷ h) ≡ drop_one j (hand c h) = cond_here c d (drop_one j (hand c h)) (hand c h) (sym own) in record {
@@ -127,7 +127,7 @@ is_hand (Give d j ∷ h) c are = dite (ℕ_discrete d c)
     (λ other. hand_kept h (Give d j) c are.0 are.1 other (is_hand h c are.0))
 is_hand (Claim d j ∷ h) c are = dite (ℕ_discrete d c)
     (λ own. hand_added h (Claim d j) c j (cond_here c d (j ∷ hand c h) (hand c h) (sym own)) (cond_here j j (held d) (turn_after h j) refl ∙ ap held own)
-        (λ i mine. let n : i ≢ j = free_apart h c i j are.1 mine in (cond_else i j (held d) (turn_after h i) n ∙ mine, n)) (is_hand h c are.0))
+    (λ i mine. let n : i ≢ j = free_apart h c i j are.1 mine in (cond_else i j (held d) (turn_after h i) n ∙ mine, n)) (is_hand h c are.0))
     (λ other. hand_kept h (Claim d j) c are.0 are.1 other (is_hand h c are.0))
 is_hand (Shape d changes ∷ h) c are = let so : IsHand c h = is_hand h c are.0 in record { held = so.held; once = so.once }
 is_hand (Call d j op reply ∷ h) c are = let so : IsHand c h = is_hand h c are.0 in record { held = so.held; once = so.once }

@@ -5,6 +5,7 @@
 //! read in the order Keyed, Body, Edges, Room, Effect, Asks, Sound. `WithRange` gives a range to any node.
 #![tactic(auto)]
 
+mod children;
 mod edge;
 mod keyed;
 mod laws;
@@ -14,6 +15,7 @@ mod start;
 mod unlinked;
 mod with_range;
 
+pub use children::{begins_at, child_after, edge_in, first_in, next_in, only_in, value_in};
 pub use edge::cut_edge;
 pub use keyed::{Keyed, rank, seek};
 pub use laws::node_law;

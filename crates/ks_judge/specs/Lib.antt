@@ -1,0 +1,2 @@
+pub mod Judgment
+pub mod Slots
