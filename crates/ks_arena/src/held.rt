@@ -11,6 +11,13 @@ pub struct Pass<N, D> {
     pub(crate) marker: PhantomData<D>,
 }
 
+/// What a pass had seen of the run when the note was made.
+#[derive(Drop)]
+pub struct Note<N, D> {
+    pub(crate) seat: Seat<Option<N>, View>,
+    pub(crate) marker: PhantomData<D>,
+}
+
 /// A node in the hand of its holder. A node that is not live becomes free when it is given back.
 pub struct Held<N> {
     pub node: u32,

@@ -6,17 +6,19 @@
 #![tactic(auto)]
 
 mod arena;
+mod claim;
 mod fit;
 mod held;
 pub mod laws;
 mod life;
+mod note;
 mod plays;
 mod rule;
 mod view;
 
 pub use arena::Arena;
 pub use fit::fits_threads;
-pub use held::{Held, Pass, Taken};
+pub use held::{Held, Note, Pass, Taken};
 pub use life::Run;
 pub use rule::Rule;
 pub use view::{Mark, Part, View};
