@@ -5,9 +5,5 @@
 //! through its traits and compared with `plain`.
 #![tactic(auto)]
 
-#[cfg(test)]
-mod asked;
-#[cfg(test)]
-mod plain;
-#[cfg(test)]
-mod tests;
+pub mod asked;
+pub mod plain;
