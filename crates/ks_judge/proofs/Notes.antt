@@ -33,7 +33,7 @@ carriers_to-line lines c j n lt =
     let x : ℕ × Reply = get_or xs j (0, Nothing) in
     let len : 0 + length (take j xs) ≡ j = let e = length-take-le j xs (omega arith) in omega arith in
     let more : carriers_in n c 0 (take (j + 1) xs) ≡ carriers_in n c 0 (take j xs) ++ if_carries x.0 n (c, j) =
-        ap (carriers_in n c 0) (take_more xs j (0, Nothing) lt) ∙ carriers_in-append n c 0 (take j xs) (x ∷ []) ∙ ap (λ k. carriers_in n c 0 (take j xs) ++ carriers_in n c k (x ∷ [])) len in
+    ap (carriers_in n c 0) (take_more xs j (0, Nothing) lt) ∙ carriers_in-append n c 0 (take j xs) (x ∷ []) ∙ ap (λ k. carriers_in n c 0 (take j xs) ++ carriers_in n c k (x ∷ [])) len in
     ap (λ ps. before ++ ps) more ∙ sym (append_assoc before (carriers_in n c 0 (take j xs)) (if_carries x.0 n (c, j)))
 
 -- one caller more
@@ -44,7 +44,7 @@ carriers_to-caller lines c n lt =
     let len : 0 + length (take c lines) ≡ c = let e = length-take-le c lines (omega arith) in omega arith in
     let whole : before ++ carriers_in n c 0 (take (length xs) xs) ≡ before ++ carriers_in n c 0 xs = ap (λ ys. before ++ carriers_in n c 0 ys) (take_all (length xs) xs (omega arith)) in
     let more : carriers_from n 0 (take (c + 1) lines) ≡ before ++ (carriers_in n c 0 xs ++ []) =
-        ap (carriers_from n 0) (take_more lines c [] lt) ∙ carriers_from-append n 0 (take c lines) (xs ∷ []) ∙ ap (λ k. before ++ (carriers_in n k 0 xs ++ [])) len in
+    ap (carriers_from n 0) (take_more lines c [] lt) ∙ carriers_from-append n 0 (take c lines) (xs ∷ []) ∙ ap (λ k. before ++ (carriers_in n k 0 xs ++ [])) len in
     whole ∙ ap (λ ps. before ++ ps) (sym (append-nil (carriers_in n c 0 xs))) ∙ sym more ∙ sym (append-nil (carriers_from n 0 (take (c + 1) lines)))
 
 pub carriers_to-all : (lines : Lines) (c n : ℕ) → length lines ≤ c → carriers_to lines c 0 n ≡ carriers lines n

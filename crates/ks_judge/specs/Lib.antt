@@ -1,2 +1,3 @@
 pub mod Judgment
 pub mod Slots
+pub mod Verdict

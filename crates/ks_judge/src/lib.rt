@@ -4,6 +4,8 @@
 //! numbers, and else which number is the least that is wrong.
 #![tactic(auto)]
 
+mod judging;
 mod slots;
 
+pub use judging::{Judged, judge};
 pub use slots::Slot;

@@ -58,7 +58,11 @@ fn note_caller(slots: &mut [Slot], callers: &[Vec<(u64, Reply)>], caller: usize)
 }
 
 /// For each number below `count` the lines that carry it.
-pub fn slots(alloc: Global, callers: &[Vec<(u64, Reply)>], count: usize) -> Result<Vec<Slot>, AllocError>
+pub fn slots(
+    alloc: Global,
+    callers: &[Vec<(u64, Reply)>],
+    count: usize,
+) -> Result<Vec<Slot>, AllocError>
     ensures count { IfOk result (λ v. length v.items ≡ count) }
     ensures noted { IfOk result (λ v. let lines = map (λ v. v.items) callers.now in Notes lines v.items (carriers lines)) }
 {
