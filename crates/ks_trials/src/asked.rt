@@ -54,6 +54,14 @@ pub fn put<N: Ranged>(rt: &impl Abort, node: &mut N, place: u64, value: u128) ->
     node.put(place, value)
 }
 
+/// Puts a value into a node with no edge, where there is room.
+pub fn put_first<N: Node>(rt: &impl Abort, node: &mut N, place: u64, value: u128) -> Option<u128> {
+    assert!(rt; !node.is_branch());
+    assert!(rt; node.chained().is_none());
+    assert!(rt; !node.is_full());
+    node.put(place, value)
+}
+
 /// Deletes what stands at a place.
 pub fn del<N: Node>(rt: &impl Abort, node: &mut N, place: u64) -> Option<u128> {
     assert!(rt; !node.is_branch());

@@ -5,5 +5,11 @@
 //! through its traits and compared with `plain`.
 #![tactic(auto)]
 
-pub mod asked;
-pub mod plain;
+#[cfg(test)]
+mod asked;
+#[cfg(test)]
+mod plain;
+#[cfg(test)]
+mod tests;
+#[cfg(test)]
+mod trial;
