@@ -1,0 +1,4 @@
+pub mod Slices
+pub mod Joined
+pub mod Hash
+pub mod Fits

@@ -1,0 +1,9 @@
+//! Hash nodes: buckets of pairs, and directories of equal slices.
+#![tactic(auto)]
+
+mod node;
+mod pairs;
+mod slices;
+mod spans;
+
+pub use node::HNode;

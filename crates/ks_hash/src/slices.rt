@@ -1,0 +1,151 @@
+//! The slices of a directory: equal parts of all places, each with the child that it leads to.
+//!
+//! A directory has a power of two of slices, so the slice of a place is found by a division. Neighbouring slices with
+//! the same child are one edge of the record. A slice that is to be cut is halved with all others, which changes no
+//! edge; then the slices from the cut to the end of the run get the new child.
+
+ghost use Rattle.std.specs.Prelude.{◌≡◌, ℕ, ◌+◌, ◌%◌, ◌<◌, ◌≤◌, ◌++◌, ◌∷◌, [], IsTrue, Some, false, length, Option, position, nat_eq};
+ghost use Rattle.ks_node.specs.Body.{starts_below, starts_from, led_to, begins, first_node};
+ghost use Rattle.ks_node.specs.Effect.{runs, without};
+ghost use Rattle.ks_hash.specs.Slices.{is_size, width_of, smallest, starts_of, repeats, doubled, run_led};
+
+use arrayvec::ArrayVec;
+use ks_node::Start;
+
+/// The child of each slice.
+pub(crate) type Slices = ArrayVec<u32, 64>;
+
+/// Edges by where they start.
+pub(crate) type Starts = ArrayVec<Start, 64>;
+
+/// The places of a smallest slice: one of 64.
+pub(crate) const SMALLEST: u64 = 0x400_0000_0000_0000;
+
+/// The places of each slice.
+fn width(slices: &[u32]) -> u64
+    requires { IsTrue (is_size (length slices.now)) }
+    ensures { result ≡ width_of slices.now }
+{
+    u64::MAX / slices.len() as u64 + 1
+}
+
+/// The child of the slice in which a place lies.
+pub(crate) fn child_at(slices: &[u32], place: u64) -> u32
+    requires { IsTrue (is_size (length slices.now)) }
+    ensures { led_to (starts_of slices.now) place ≡ Some result }
+{
+    slices[(place / width(slices)) as usize]
+}
+
+/// Whether the slice before leads to the child too.
+fn is_same(before: Option<u32>, child: u32) -> bool
+    ensures { result ≡ repeats before child }
+{
+    match before {
+        Some(last) => child == last,
+        None => false,
+    }
+}
+
+/// One start for each run of neighbouring slices with the same child.
+pub(crate) fn runs_of(slices: &[u32]) -> Starts
+    requires { IsTrue (is_size (length slices.now)) }
+    ensures { result.items ≡ starts_of slices.now }
+{
+    let width = width(slices);
+    let mut starts = Starts::new();
+    let mut before = None;
+    for (i, child) in slices.iter().enumerate() {
+        if !is_same(before, *child) {
+            starts.push(Start {
+                low: i as u64 * width,
+                node: *child,
+            });
+            before = Some(*child);
+        }
+    }
+    starts
+}
+
+/// Cuts each slice in two.
+fn double(slices: &mut Slices)
+    requires { length slices.old.items ≤ 32 }
+    ensures { slices.new.items ≡ doubled slices.old.items }
+{
+    let mut halves = Slices::new();
+    for child in slices.as_slice() {
+        halves.push(*child);
+        halves.push(*child);
+    }
+    *slices = halves;
+}
+
+/// Cuts all slices in two until one begins at the place.
+fn double_until(slices: &mut Slices, place: u64)
+    requires size { IsTrue (is_size (length slices.old.items)) }
+    requires whole { place % smallest ≡ 0 }
+    ensures starts { starts_of slices.new.items ≡ starts_of slices.old.items }
+    ensures size { IsTrue (is_size (length slices.new.items)) }
+    ensures begins { place % width_of slices.new.items ≡ 0 }
+{
+    while place % width(slices.as_slice()) != 0 {
+        double(slices);
+    }
+}
+
+/// Leads the slices from a position to the end of its run to another child.
+fn lead_run(slices: &mut [u32], at: usize, to: u32)
+    requires { at < length slices.old }
+    ensures { slices.new ≡ run_led at to slices.old }
+{
+    let child = slices[at];
+    for i in at..slices.len() {
+        if slices[i] != child {
+            return;
+        }
+        slices[i] = to;
+    }
+}
+
+/// Leads the places from a cut to the end of its run to a node.
+pub(crate) fn adopt_slice(slices: &mut Slices, cut: u64, id: u32)
+    requires size { IsTrue (is_size (length slices.old.items)) }
+    requires whole { cut % smallest ≡ 0 }
+    requires above { 0 < cut }
+    requires free { begins cut (starts_of slices.old.items) ≡ false }
+    ensures starts { starts_of slices.new.items ≡ runs (starts_below cut (starts_of slices.old.items) ++ record { low = cut; node = id } ∷ starts_from cut (starts_of slices.old.items)) }
+    ensures size { IsTrue (is_size (length slices.new.items)) }
+{
+    double_until(slices, cut);
+    let at = (cut / width(slices.as_slice())) as usize;
+    lead_run(slices.as_mut_slice(), at, id);
+}
+
+/// Makes the slices two, each a half of all places.
+pub(crate) fn halve(slices: &mut Slices, left: u32, right: u32)
+    ensures { slices.new.items ≡ left ∷ right ∷ [] }
+{
+    slices.clear();
+    slices.push(left);
+    slices.push(right);
+}
+
+/// Where the first slice that leads to the child stands.
+fn position_of(slices: &[u32], child: u32) -> Option<usize>
+    ensures { result ≡ position (λ c. nat_eq c child) slices.now }
+{
+    slices.iter().position(|c| *c == child)
+}
+
+/// Leads the first run that leads to a child where the run before it leads.
+pub(crate) fn forget_child(slices: &mut Slices, id: u32)
+    requires size { IsTrue (is_size (length slices.old.items)) }
+    requires later { first_node (starts_of slices.old.items) ≡ Some id → ⊥ }
+    ensures starts { starts_of slices.new.items ≡ runs (without id (starts_of slices.old.items)) }
+    ensures size { IsTrue (is_size (length slices.new.items)) }
+{
+    if let Some(at) = position_of(slices.as_slice(), id) {
+        let before = slices.as_slice()[at - 1];
+        lead_run(slices.as_mut_slice(), at, before);
+    }
+}

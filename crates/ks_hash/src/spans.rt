@@ -1,0 +1,105 @@
+//! Spans: the one that an edge of a directory has, and the middle of one of whole smallest slices.
+
+ghost use Rattle.std.specs.Prelude.{◌≡◌, suc, ◌≤◌, ◌&&◌, cond, nat_lt, length, take, drop, Some, None};
+ghost use Rattle.std.specs.Option.{ForSome};
+ghost use Rattle.std.specs.List.{list_all};
+ghost use Rattle.ks_keysets.specs.Record.{top};
+ghost use Rattle.ks_node.specs.Keyed.{Ascends};
+ghost use Rattle.ks_node.specs.Body.{starts_below, starts_from, go_to, led_to};
+ghost use Rattle.ks_node.specs.Asks.{IsSpanOf};
+ghost use Rattle.ks_node.specs.Spans.{AreWithin};
+ghost use Rattle.ks_hash.specs.Hash.{own_starts, is_whole, middle_of, run_span};
+
+use crate::slices::SMALLEST;
+use ks_keysets::Span;
+use ks_node::{Next, Start, edge_in, seek};
+
+/// Where the search for a place goes on from a bucket.
+pub(crate) fn next_by(own: Option<Start>, place: u64) -> Next
+    ensures { result ≡ go_to (led_to (own_starts own) place) }
+{
+    match own {
+        Some(start) => {
+            if start.low <= place {
+                Next::Go(start.node)
+            } else {
+                Next::Here
+            }
+        }
+        None => Next::Here,
+    }
+}
+
+/// Whether all edges start above a place.
+pub(crate) fn all_above(starts: &[Start], place: u64) -> bool
+    ensures { result ≡ list_all (λ s. nat_lt place s.low) starts.now }
+{
+    for start in starts {
+        if start.low <= place {
+            return false;
+        }
+    }
+    true
+}
+
+/// How many edges start at a place or below.
+fn count_upto(starts: &[Start], place: u64) -> usize
+    requires { Ascends (λ s. s.low) starts.now }
+    ensures within { result ≤ length starts.now }
+    ensures lower { starts_below (suc place) starts.now ≡ take result starts.now }
+    ensures higher { starts_from (suc place) starts.now ≡ drop result starts.now }
+{
+    match seek(starts, place) {
+        Ok(i) => i + 1,
+        Err(i) => i,
+    }
+}
+
+/// The span of the edge that carries a place.
+pub(crate) fn span_in(starts: &[Start], place: u64) -> Option<Span>
+    requires { AreWithin 0 top starts.now }
+    ensures is { result ≡ run_span starts.now place }
+    ensures edge { ForSome result (IsSpanOf starts.now place) }
+{
+    let upto = count_upto(starts, place);
+    if upto == 0 {
+        return None;
+    }
+    Some(edge_in(starts, upto - 1).span)
+}
+
+/// Where the middle slice begins of a span of two or more whole smallest slices.
+pub(crate) fn middle_in(span: &Span) -> Option<u64>
+    ensures { result ≡ cond (is_whole span.now) (Some (middle_of span.now)) None }
+{
+    if span.last < span.low {
+        return None;
+    }
+    if span.low % SMALLEST != 0 {
+        return None;
+    }
+    if span.last % SMALLEST != SMALLEST - 1 {
+        return None;
+    }
+    let slices = (span.last - span.low) / SMALLEST + 1;
+    if slices < 2 {
+        return None;
+    }
+    Some((span.low / SMALLEST + slices / 2) * SMALLEST)
+}
+
+/// The middle of a span of whole smallest slices where all edges start above it, else the other place.
+pub(crate) fn cut_by(span: &Span, starts: &[Start], other: u64) -> u64
+    ensures { result ≡ cond (is_whole span.now && list_all (λ s. nat_lt (middle_of span.now) s.low) starts.now) (middle_of span.now) other }
+{
+    match middle_in(span) {
+        Some(middle) => {
+            if all_above(starts, middle) {
+                middle
+            } else {
+                other
+            }
+        }
+        None => other,
+    }
+}

@@ -1,0 +1,146 @@
+-- When a caller may be refused: that no node was free, that a node was busy, that a node moved, that the way was long.
+use Rattle.std.specs.Prelude.{ℕ, ◌≡◌, ◌≢◌, ◌<◌, ◌≤◌, ◌==◌, ◌⊎◌, List, [], ◌∷◌, length, count_by, Some, None, Any, if◌then◌else◌}
+use Rattle.ks_keysets.specs.declared.NodeState.{NodeState}
+use Rattle.ks_keysets.specs.declared.NodeState.TheVariants.{Claimed}
+use Rattle.ks_keysets.specs.declared.Record.{Record}
+use Rattle.ks_keysets.specs.Record.{LeadsTo, first_value}
+use Rattle.ks_keysets.specs.Keyset.{record_at, IsLive, InInset}
+use Rattle.ks_keysets.specs.Layout.{Layout, list_layout, bplus_layout, hash_layout, room}
+use Rattle.ks_history.specs.declared.Op.{Op}
+use Rattle.ks_history.specs.declared.Op.TheVariants.{Put, Add}
+use Rattle.ks_history.specs.declared.Reply.TheVariants.{Full}
+use Rattle.ks_history.specs.declared.Event.{Event}
+use Rattle.ks_history.specs.declared.Event.TheVariants.{Take, Give, Claim, Shape, Call}
+use Rattle.ks_history.specs.Map.{Touches}
+use Rattle.ks_history.specs.Trace.{◌⊑◌, free, held, caller_of, graph_after, turn_after}
+use Rattle.ks_history.specs.Passes.{NoneBy}
+
+-- node i is live, with pairs that fill it and none at the place p
+pub record IsFullFor (layout : Layout) (g : ℕ → NodeState) (i p : ℕ) : Type 0 where
+  pub node : Record
+  pub is : record_at g i ≡ Some node
+  pub filled : length node.pairs ≡ room layout
+  pub absent : first_value node.pairs p ≡ None
+
+-- the event is a Put or an Add with the reply Full, whose node is full for its place
+abbrev pub FindsNoRoom : Layout → (ℕ → NodeState) → Event → Type 0
+FindsNoRoom layout g (Call c i (Put p v) Full) = IsFullFor layout g i p
+FindsNoRoom layout g (Call c i (Add p v) Full) = IsFullFor layout g i p
+FindsNoRoom layout g e = ⊥
+
+-- a root with this record is full and grows, by two nodes that are claimed one after the other
+abbrev pub IsFullRoot : Layout → Record → Type 0
+IsFullRoot list_layout r = ⊥
+IsFullRoot bplus_layout r = (length r.pairs ≡ room bplus_layout) ⊎ (length r.edges ≡ room bplus_layout)
+IsFullRoot hash_layout r = length r.pairs ≡ room hash_layout
+
+-- each node that c holds after h is live
+abbrev pub HoldsLive : List Event → ℕ → Type 0
+HoldsLive h c = (j : ℕ) → turn_after h j ≡ held c → IsLive (graph_after h) j
+
+-- each is live but one, which c has claimed and holds beside the full root
+pub record HoldsLiveBut (layout : Layout) (h : List Event) (c : ℕ) : Type 0 where
+  pub one : ℕ
+  pub claimed : graph_after h one ≡ Claimed c
+  pub holds : turn_after h 0 ≡ held c
+  pub root : Record
+  pub is : record_at (graph_after h) 0 ≡ Some root
+  pub full : IsFullRoot layout root
+  pub others : (j : ℕ) → j ≢ one → turn_after h j ≡ held c → IsLive (graph_after h) j
+
+-- the reply Full of the event e that follows the trace h is due by what happened after its beginning s, over n nodes
+pub record FullDue (layout : Layout) (n : ℕ) (s h : List Event) (e : Event) : Type 0 where
+  pub no_room : FindsNoRoom layout (graph_after h) e
+  pub from : List Event
+  pub to : List Event
+  pub since : s ⊑ from
+  pub ordered : from ⊑ to
+  pub before : to ⊑ h
+  -- from the one moment to the other the caller does nothing
+  pub waits : NoneBy (caller_of e) ordered.rest
+  -- what it holds meanwhile is live, but for a node that it has claimed for a full root
+  pub holds : (k : List Event) → from ⊑ k → k ⊑ to → HoldsLive k (caller_of e) ⊎ HoldsLiveBut layout k (caller_of e)
+  -- and every node is at some moment not free
+  pub taken : (j : ℕ) → j < n → (k : List Event) × from ⊑ k × k ⊑ to × (turn_after k j ≢ free)
+
+-- the trace up to the last Call of c and with it; the empty trace if c made none
+abbrev pub last_call : ℕ → List Event → List Event
+last_call c [] = []
+last_call c (Take d i ∷ h) = last_call c h
+last_call c (Give d i ∷ h) = last_call c h
+last_call c (Claim d i ∷ h) = last_call c h
+last_call c (Shape d changes ∷ h) = last_call c h
+last_call c (Call d i op reply ∷ h) = if d == c then Call d i op reply ∷ h else last_call c h
+
+-- if the event that follows h has the reply Full, it is due since the last Call of its caller
+abbrev pub IsDue : Layout → ℕ → List Event → Event → Type 0
+IsDue layout n h (Call c i op Full) = FullDue layout n (last_call c h) h (Call c i op Full)
+IsDue layout n h e = Unit {0}
+
+-- each Full of the trace was due
+abbrev pub FullsDue : Layout → ℕ → List Event → Type 0
+FullsDue layout n [] = Unit {0}
+FullsDue layout n (e ∷ h) = FullsDue layout n h × IsDue layout n h e
+
+-- after some trace from s0 to s1 it is so
+pub record Sometime (s0 s1 : List Event) (P : List Event → Type 0) : Type 0 where
+  pub moment : List Event
+  pub since : s0 ⊑ moment
+  pub until : moment ⊑ s1
+  pub so : P moment
+
+-- node i is on the way of the place: it is the root, or an edge of a live node carries the place to it
+abbrev pub IsOnWay : (ℕ → NodeState) → ℕ → ℕ → Type 0
+IsOnWay g p i = (i ≡ 0) ⊎ ((j : ℕ) × (r : Record) × (record_at g j ≡ Some r) × LeadsTo r p i)
+
+-- the answer of caller c, between s0 and s1, that the holder has the node: the node is on the way of the operation's
+-- place, and another caller holds it
+pub record BusyDue (c : ℕ) (op : Op) (s0 s1 : List Event) (node holder : ℕ) : Type 0 where
+  pub another : holder ≢ c
+  pub place : ℕ
+  pub touched : Touches op place
+  pub on_way : Sometime s0 s1 (λ h. IsOnWay (graph_after h) place node)
+  pub is_held : Sometime s0 s1 (λ h. turn_after h node ≡ held holder)
+
+-- the event is a Shape of another caller than c that names the node
+abbrev pub ShapesFor : ℕ → ℕ → Event → Type 0
+ShapesFor c node (Shape d changes) = (d ≢ c) × Any (λ x. x.node ≡ node) changes
+ShapesFor c node e = ⊥
+
+-- the event is a Shape of another caller than c
+abbrev pub ShapesBesides : ℕ → Event → Type 0
+ShapesBesides c (Shape d changes) = d ≢ c
+ShapesBesides c e = ⊥
+
+-- the answer of caller c, between s0 and s1, that the node moved: it is on the way of the operation's place, at a later
+-- moment its inset lacks the place or it is not live, and a Shape of another caller has named it
+pub record MovedDue (c : ℕ) (op : Op) (s0 s1 : List Event) (node : ℕ) : Type 0 where
+  pub place : ℕ
+  pub touched : Touches op place
+  pub before : List Event
+  pub next : Event
+  pub after : List Event
+  pub since : s0 ⊑ before
+  pub later : next ∷ before ⊑ after
+  pub until : after ⊑ s1
+  pub on_way : IsOnWay (graph_after before) place node
+  pub gone : ¬ InInset (graph_after after) node place
+  pub grows : s0 ⊑ s1
+  pub shaped : Any (ShapesFor c node) grows.rest
+
+-- the nodes that c takes
+abbrev pub takes_by : ℕ → List Event → List ℕ
+takes_by c [] = []
+takes_by c (Take d i ∷ h) = if d == c then i ∷ takes_by c h else takes_by c h
+takes_by c (Give d i ∷ h) = takes_by c h
+takes_by c (Claim d i ∷ h) = takes_by c h
+takes_by c (Shape d changes ∷ h) = takes_by c h
+takes_by c (Call d i op reply ∷ h) = takes_by c h
+
+-- the answer of caller c, between s0 and s1, that it took as many nodes as there are, n: the root twice at most, and a
+-- Shape of another caller stands between
+pub record FarDue (n c : ℕ) (s0 s1 : List Event) : Type 0 where
+  pub grows : s0 ⊑ s1
+  pub many : n ≤ length (takes_by c grows.rest)
+  pub root : count_by (λ i. i == 0) (takes_by c grows.rest) ≤ 2
+  pub shaped : Any (ShapesBesides c) grows.rest

@@ -1,0 +1,44 @@
+-- What callers have seen of a trace that goes on.
+use Rattle.std.specs.Prelude.{ℕ, ◌≡◌, ◌≢◌, ◌<◌, ◌⊎◌, List, [], ◌∷◌, ◌++◌}
+use Rattle.ks_history.specs.declared.Event.{Event}
+use Rattle.ks_history.specs.declared.Event.TheVariants.{Call}
+use Rattle.ks_history.specs.Trace.{caller_of}
+
+-- c is one of the numbers
+abbrev pub Has : List ℕ → ℕ → Type 0
+Has [] c = ⊥
+Has (x ∷ xs) c = (x ≡ c) ⊎ Has xs c
+
+-- no event of these callers
+abbrev pub NoneOf : List ℕ → List Event → Type 0
+NoneOf cs [] = Unit {0}
+NoneOf cs (e ∷ es) = (¬ Has cs (caller_of e)) × NoneOf cs es
+
+-- no event of caller c
+abbrev pub NoneBy : ℕ → List Event → Type 0
+NoneBy c [] = Unit {0}
+NoneBy c (e ∷ es) = (caller_of e ≢ c) × NoneBy c es
+
+-- the caller of each event is below n
+abbrev pub CallersBelow : ℕ → List Event → Type 0
+CallersBelow n [] = Unit {0}
+CallersBelow n (e ∷ es) = (caller_of e < n) × CallersBelow n es
+
+-- no Call of caller c
+abbrev pub NoCallBy : ℕ → List Event → Type 0
+NoCallBy c [] = Unit {0}
+NoCallBy c (Call d i op reply ∷ es) = (d ≢ c) × NoCallBy c es
+NoCallBy c (e ∷ es) = NoCallBy c es
+
+-- the trace h begins with what c had seen, and goes on by events of others alone: so it is with what the pass of c has
+-- seen at any moment, and with what the pass saw before it looked and after
+pub record GrowsByOthers (c : ℕ) (seen h : List Event) : Type 0 where
+  pub rest : List Event
+  pub is : h ≡ rest ++ seen
+  pub others : NoneBy c rest
+
+-- the trace h goes on after what c had seen by events of others, and then by this one event
+pub record GrowsWith (c : ℕ) (e : Event) (seen h : List Event) : Type 0 where
+  pub rest : List Event
+  pub is : h ≡ e ∷ (rest ++ seen)
+  pub others : NoneBy c rest

@@ -1,0 +1,8 @@
+use Rattle.ks_node.specs.Wrapped.{suits_inside, good_outside}
+use Rattle.ks_node.proofs.with_range.WithRangeNode.cut.Goals as goal
+
+pub returns-clause-good : goal.returns-clause-good
+returns-clause-good g c =
+    let me = c.args.self.now in
+    let b = g.N.Node.body me.node in
+    λ whole suits is. good_outside b me.range me.same_range c.cut.result suits (c.cut.ensures.good whole (suits_inside b me.range me.same_range suits) is)

@@ -1,0 +1,9 @@
+use Rattle.std.proofs.Common.{◌≡◌, arith, refl, suc}
+use Rattle.ks_node.specs.Within.{framed_reached}
+use Rattle.ks_node.proofs.with_range.WithRangeUnlinked.reach.Goals as goal
+
+pub invariant_of-self-clause-framed : goal.invariant_of-self-clause-framed
+invariant_of-self-clause-framed g c =
+    let next : suc c.args.self.now.range.last ≡ c.args.right.now.range.low = c.requires _ refl _ refl in
+    let ordered = c.args.right.now.framed.ordered in
+    rw c.reach.ensures (framed_reached c.args.self.now.framed (g.N.Node.body c.args.right.now.node) c.args.right.now.range.last (omega arith) c.args.right.now.framed.ends)

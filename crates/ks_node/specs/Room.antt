@@ -1,0 +1,101 @@
+-- How much a body holds, and how much it may hold. A kind with no capacity is never full and never low.
+use Rattle.std.specs.Prelude.{◌≡◌, IsTrue, refl, ℕ, ◌+◌, ◌*◌, ◌<◌, ◌≤◌, Bool, false, true, cond, ◌&&◌, nat_le, nat_eq, length, Option, Some, None}
+use Rattle.std.specs.Option.{ForSome}
+use Rattle.std.proofs.Common.{arith, subst, sym, ◌∙◌, inl, inr}
+use Rattle.std.proofs.lemmas.Bool.{leb-true}
+use Rattle.std.proofs.lemmas.Bool.Decides.{eqb_tells}
+use Rattle.ks_keysets.specs.declared.Kind.{Kind}
+use Rattle.ks_keysets.specs.declared.Kind.TheVariants.{NoBranch, Inner, Directory}
+use Rattle.ks_keysets.specs.Layout.{Layout, list_layout, bplus_layout, hash_layout, room}
+use Rattle.ks_node.specs.Body.{Body, is_branch}
+
+-- the pairs or edges that a node of a kind may have, where there is a bound
+abbrev pub capacity : Layout → Kind → Option ℕ
+capacity layout NoBranch = Some (room layout)
+capacity list_layout Inner = None
+capacity bplus_layout Inner = Some (room bplus_layout)
+capacity hash_layout Inner = None
+capacity layout Directory = None
+
+-- whether full nodes of the layout can become branches
+abbrev pub may_grow : Layout → Bool
+may_grow list_layout = false
+may_grow bplus_layout = true
+may_grow hash_layout = true
+
+-- the edges of a branch, the pairs of another node
+abbrev pub load : Body → ℕ
+load b = cond (is_branch b) (length b.starts) (length b.pairs)
+
+abbrev pub is_full_at : Option ℕ → ℕ → Bool
+is_full_at None n = false
+is_full_at (Some c) n = nat_eq n c
+
+abbrev pub is_low_at : Option ℕ → ℕ → Bool
+is_low_at None n = false
+is_low_at (Some c) n = nat_le (2 * n) c
+
+abbrev pub is_room_for : Option ℕ → ℕ → Bool
+is_room_for None n = false
+is_room_for (Some c) n = nat_le n c
+
+-- the load is at the capacity, at most half of it, or not above it
+abbrev pub is_full : Layout → Body → Bool
+is_full layout b = is_full_at (capacity layout b.kind) (load b)
+
+abbrev pub is_low : Layout → Body → Bool
+is_low layout b = is_low_at (capacity layout b.kind) (load b)
+
+abbrev pub IsHeld : Layout → Body → Type 0
+IsHeld layout b = ForSome (capacity layout b.kind) (λ c. load b ≤ c)
+
+-- two kinds that fit: one kind, and no directory
+abbrev pub fit_kinds : Kind → Kind → Bool
+fit_kinds NoBranch NoBranch = true
+fit_kinds NoBranch Inner = false
+fit_kinds NoBranch Directory = false
+fit_kinds Inner Inner = true
+fit_kinds Inner NoBranch = false
+fit_kinds Inner Directory = false
+fit_kinds Directory k = false
+
+-- two bodies fit: they are of one kind, and hold together at most the capacity
+abbrev pub fit_together : Layout → Body → Body → Bool
+fit_together layout b right = fit_kinds b.kind right.kind && is_room_for (capacity layout b.kind) (load b + load right)
+
+no : false ≡ true → ⊥
+no e = cc
+
+-- two bodies that fit are of one kind
+pub same_kinds : (layout : Layout) (b right : Body) → IsTrue (fit_together layout b right) → b.kind ≡ right.kind
+same_kinds layout b right t = fitted b.kind right.kind (first _ _ t)
+  where
+    first : (x y : Bool) → (x && y) ≡ true → x ≡ true
+    first true y h = refl
+    first false y h = h
+
+    fitted : (k l : Kind) → fit_kinds k l ≡ true → k ≡ l
+    fitted NoBranch NoBranch e = refl
+    fitted NoBranch Inner e = absurd (no e)
+    fitted NoBranch Directory e = absurd (no e)
+    fitted Inner NoBranch e = absurd (no e)
+    fitted Inner Inner e = refl
+    fitted Inner Directory e = absurd (no e)
+    fitted Directory k e = absurd (no e)
+
+-- a body that is full is at the bound of its kind, and one that is held and not full is below it
+pub below_bound : (layout : Layout) (b : Body) (c : ℕ) → capacity layout b.kind ≡ Some c → IsHeld layout b → is_full layout b ≡ false → load b < c
+below_bound layout b c e h f =
+    let held : load b ≤ c = h c e in
+    let other : nat_eq (load b) c ≡ false = subst (λ o. is_full_at o (load b) ≡ false) e f in
+    elim (eqb_tells (load b) c) [ inl q ↦ absurd (no (sym other ∙ q.0)) | inr q ↦ omega (arith, q.1) ]
+
+-- two bodies that fit hold together no more than the bound
+pub joint_load : (layout : Layout) (b right : Body) (c : ℕ) → capacity layout b.kind ≡ Some c → IsTrue (fit_together layout b right) → load b + load right ≤ c
+joint_load layout b right c e t =
+    let room : is_room_for (capacity layout b.kind) (load b + load right) ≡ true = second _ _ t in
+    leb-true _ _ (subst (λ o. is_room_for o (load b + load right) ≡ true) e room)
+  where
+    second : (x y : Bool) → (x && y) ≡ true → y ≡ true
+    second true y h = h
+    second false y h = absurd (no h)

@@ -1,0 +1,26 @@
+//! What a node of a dictionary is.
+//!
+//! A node type implements `Node` and, by how its nodes are reached, `Unlinked` or (through a wrapper of another crate)
+//! `Linked`. What its bodies mean, what each call makes of that meaning and which laws hold stand in `specs/`, to be
+//! read in the order Keyed, Body, Edges, Room, Effect, Asks, Sound. `WithRange` gives a range to any node.
+#![tactic(auto)]
+
+mod children;
+mod edge;
+mod keyed;
+mod laws;
+mod node;
+mod ranged;
+mod start;
+mod unlinked;
+mod with_range;
+
+pub use children::{begins_at, child_after, edge_in, first_in, next_in, only_in, value_in};
+pub use edge::cut_edge;
+pub use keyed::{Keyed, rank, seek};
+pub use laws::node_law;
+pub use node::Node;
+pub use ranged::{Linked, Ranged};
+pub use start::{Next, Start};
+pub use unlinked::{Growing, Unlinked};
+pub use with_range::WithRange;

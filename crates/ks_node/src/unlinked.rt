@@ -1,0 +1,80 @@
+//! Nodes with no link to the right: what splits, grows and merges make of them.
+
+ghost use Rattle.std.specs.Prelude.{◌≡◌, ℕ, ◌<◌, ◌-◌, ◌^◌, Bool, Option, IsTrue, IsSome, Some, None, true, false, length, nat_eq, ◌||◌, ◌⊎◌};
+ghost use Rattle.ks_keysets.specs.declared.Span.{Span};
+ghost use Rattle.ks_node.specs.Body.{Body, content_of, is_branch, IsBlank, only_child_of, first_node};
+ghost use Rattle.ks_node.specs.Room.{is_full, fit_together};
+ghost use Rattle.ks_node.specs.Effect.{split_left, split_right, reached, grown, absorbed, forgot, collapsed, emptied};
+ghost use Rattle.ks_node.specs.Asks.{CanSplitAt, Suits, IsNoneOr, IsGoodCut, AreNext, Absorbs, AdoptsInside};
+
+use crate::node::Node;
+
+/// A node that is reached by the edges of branches, or by an edge of its left neighbour's own.
+pub trait Unlinked: Node {
+    /// Moves what lies from the cut on into a blank node.
+    fn split_to(&mut self, right: &mut Self, cut: u64)
+        requires full { IsTrue (is_full Self.layout (Self.body self.old)) }
+        requires blank { IsBlank (Self.body right.old) }
+        requires cut { CanSplitAt (Self.body self.old) cut }
+        ensures left { Self.body self.new ≡ split_left cut (Self.body self.old) }
+        ensures right { Self.body right.new ≡ split_right cut (Self.body self.old) };
+
+    /// Lets the range reach to the end of that of the node right of it.
+    fn reach(&mut self, right: &Self)
+        requires { AreNext (Self.body self.old) (Self.body right.now) }
+        ensures { Self.body self.new ≡ reached (Self.body self.old) (Self.body right.now) };
+
+    /// Moves what it has into two blank nodes, left and right of the cut, and becomes a branch over them.
+    fn grow(&mut self, left: &mut Self, right: &mut Self, left_id: u32, right_id: u32, cut: u64)
+        requires full { IsTrue (is_full Self.layout (Self.body self.old)) }
+        requires grows { IsTrue (Self.grows_at (content_of (Self.body self.old))) }
+        requires left_blank { IsBlank (Self.body left.old) }
+        requires right_blank { IsBlank (Self.body right.old) }
+        requires cut { CanSplitAt (Self.body self.old) cut }
+        requires at { IsTrue (Self.can_grow_at (content_of (Self.body self.old)) cut) }
+        ensures branch { Self.body self.new ≡ grown Self.branch_kind cut left_id right_id (Self.body self.old) }
+        ensures left { Self.body left.new ≡ split_left cut (Self.body self.old) }
+        ensures right { Self.body right.new ≡ split_right cut (Self.body self.old) };
+
+    /// Takes in all that the node right of it has, which becomes blank.
+    fn absorb(&mut self, right: &mut Self)
+        requires fits { IsTrue (fit_together Self.layout (Self.body self.old) (Self.body right.old)) }
+        requires meets { Absorbs (Self.body self.old) (Self.body right.old) }
+        ensures left { Self.body self.new ≡ absorbed (Self.body self.old) (Self.body right.old) }
+        ensures right { Self.body right.new ≡ emptied (Self.body right.old) };
+
+    /// Drops the edge of a branch that leads to a node; the edge before it reaches to its end.
+    fn forget(&mut self, id: u32)
+        requires branch { IsTrue (is_branch (Self.body self.old)) }
+        requires later { first_node (Self.body self.old).starts ≡ Some id → ⊥ }
+        ensures { Self.body self.new ≡ forgot id (Self.body self.old) };
+
+    /// Becomes what its only child is, which becomes blank.
+    fn collapse(&mut self, child: &mut Self)
+        requires one { IsSome (only_child_of (Self.body self.old)) }
+        requires range { (Self.body self.old).range ≡ (Self.body child.old).range }
+        ensures parent { Self.body self.new ≡ collapsed (Self.body self.old) (Self.body child.old) }
+        ensures child { Self.body child.new ≡ emptied (Self.body child.old) };
+
+    /// There is no link.
+    ghost no_link: { (s : Self) → (Self.body s).link ≡ None };
+
+    /// There is one level alone.
+    ghost no_level: { (s : Self) → (Self.body s).level ≡ 0 };
+
+    /// A cut goes by the span that is handed in.
+    ghost by_span: { Self.cuts_by_range ≡ false };
+
+    /// Where it does not grow in place: either each full node can adopt its cut, or each node grows, branches alone
+    /// have edges, and a branch that is not full adopts each cut in its range at which no edge starts.
+    ghost sort: { Self.in_place ≡ false → ((s : Self) (span : Span) (o : Option Span) → IsTrue (is_full Self.layout (Self.body s)) → Suits (Self.body s) span → IsNoneOr o span → IsGoodCut (Self.body s) span (Self.cut_at (content_of (Self.body s)) o) → IsTrue (Self.can_adopt_at (content_of (Self.body s)) (Self.cut_at (content_of (Self.body s)) o))) ⊎ ((s : Self) → IsTrue (Self.grows_at (content_of (Self.body s))) × (is_branch (Self.body s) ≡ false → length (Self.body s).starts ≡ 0) × AdoptsInside Self.can_adopt_at Self.layout (Self.body s)) };
+}
+
+/// A node that grows where it is a branch or has no edge.
+pub trait Growing: Unlinked {
+    /// A branch grows, and so does a node with no edge.
+    ghost grows_where: { (s : Self) → IsTrue (is_branch (Self.body s) || nat_eq (length (Self.body s).starts) 0) → IsTrue (Self.grows_at (content_of (Self.body s))) };
+
+    /// Its edges and one more can be counted.
+    ghost few_edges: { (s : Self) → length (Self.body s).starts < 2 ^ 32 - 1 };
+}

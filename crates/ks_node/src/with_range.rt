@@ -1,0 +1,254 @@
+//! A node with a range: its edges are those of the node inside, cut to the range.
+//!
+//! The range is kept beside the node and in step with its low and its edges, so that the cut leaves no edge empty. All
+//! calls are the inner node's, and the calls that move places from one node to another move the ends of ranges along.
+
+use crate::edge::cut_edge;
+use crate::node::Node;
+use crate::ranged::Ranged;
+use crate::start::Next;
+use crate::unlinked::{Growing, Unlinked};
+use ks_keysets::{Edge, Pair, Span};
+use std::alloc::{AllocError, Global};
+
+/// A node and the places that may be looked for in it.
+#[derive(Drop)]
+pub struct WithRange<N: Unlinked> {
+    node: N,
+    range: Span,
+    ghost framed: { Framed range (N.body node) } by { Prim.hlevel props },
+    ghost same_range: { ForSome (N.body node).range (λ r. r ≡ range) },
+}
+
+ghost use Rattle.std.specs.Prelude.{◌≡◌};
+ghost use Rattle.std.specs.Option.{ForSome};
+ghost use Rattle.std.proofs.Props.{props};
+ghost use Rattle.ks_node.specs.Sound.{Framed};
+
+/// All places.
+const ALL: Span = Span {
+    low: 0,
+    last: u64::MAX,
+};
+
+impl<N: Unlinked> Node for WithRange<N> {
+    ghost use Rattle.std.specs.Prelude.{Some, true, false, refl};
+    ghost use Rattle.ks_node.specs.Body.{Body, content_of};
+    ghost use Rattle.ks_node.specs.Effect.{with_range};
+    ghost use Rattle.ks_node.specs.Within.{framed_with};
+    ghost use Rattle.ks_node.specs.Wrapped.{adopts_ranged, adopts_inner};
+
+    type Places = N::Places;
+
+    const ROOM: u32 = N::ROOM;
+
+    ghost ROOM = { N.ROOM };
+
+    ghost body = { λ w. with_range w.range (N.body w.node) };
+
+    ghost ranged = { true };
+
+    ghost cuts_by_range = { false };
+
+    ghost in_place = { N.in_place };
+
+    ghost layout = { N.layout };
+
+    ghost branch_kind = { N.branch_kind };
+
+    ghost can_adopt_at = { adopts_ranged N.can_adopt_at };
+
+    ghost grows_at = { N.grows_at };
+
+    ghost can_grow_at = { N.can_grow_at };
+
+    ghost cut_at = { N.cut_at };
+
+    ghost span_at = { N.span_at };
+
+    ghost sound = { λ s. N.sound s.node };
+
+    ghost framed = { λ s r is. framed_with s.framed is };
+
+    ghost held = { λ s. N.held s.node };
+
+    ghost has_range = { λ s. refl };
+
+    ghost room_is = { N.room_is };
+
+    ghost grows_as = { N.grows_as };
+
+    ghost becomes_branch = { N.becomes_branch };
+
+    fn blank(alloc: Global) -> Result<Self, AllocError> {
+        Ok(WithRange {
+            node: N::blank(alloc)?,
+            range: ALL,
+        })
+    }
+
+    fn next(&self, place: u64) -> Next {
+        if self.range.low <= place && place <= self.range.last {
+            self.node.next(place)
+        } else {
+            Next::Here
+        }
+    }
+
+    fn get(&self, place: u64) -> Option<u128> {
+        self.node.get(place)
+    }
+
+    fn put(&mut self, place: u64, value: u128) -> Option<u128> {
+        self.node.put(place, value)
+    }
+
+    fn del(&mut self, place: u64) -> Option<u128> {
+        self.node.del(place)
+    }
+
+    fn is_full(&self) -> bool {
+        self.node.is_full()
+    }
+
+    fn is_low(&self) -> bool {
+        self.node.is_low()
+    }
+
+    fn is_branch(&self) -> bool {
+        self.node.is_branch()
+    }
+
+    fn pairs_held(&self) -> u32 {
+        self.node.pairs_held()
+    }
+
+    fn pair_at(&self, n: u32) -> Pair {
+        self.node.pair_at(n)
+    }
+
+    fn edges_held(&self) -> u32 {
+        self.node.edges_held()
+    }
+
+    fn edge_at(&self, n: u32) -> Edge {
+        let held = self.node.edges_held();
+        cut_edge(self.node.edge_at(n), &self.range, n + 1 == held)
+    }
+
+    fn grows(&self) -> bool {
+        self.node.grows()
+    }
+
+    fn grows_in_place() -> bool {
+        N::grows_in_place()
+    }
+
+    fn only_child(&self) -> Option<u32> {
+        self.node.only_child()
+    }
+
+    fn chained(&self) -> Option<u32> {
+        self.node.chained()
+    }
+
+    fn span_for(&self, place: u64) -> Option<Span> {
+        self.node.span_for(place)
+    }
+
+    fn cut(&self, span: Option<Span>) -> u64 {
+        self.node.cut(span)
+    }
+
+    fn can_adopt(&self, cut: u64) -> bool {
+        !(self.node.is_branch() && cut == self.range.low) && self.node.can_adopt(cut)
+    }
+
+    fn adopt(&mut self, cut: u64, id: u32) {
+        self.node.adopt(cut, id);
+    }
+
+    fn right_of(&self, place: u64) -> Option<u32> {
+        self.node.right_of(place)
+    }
+
+    fn fits(&self, right: &Self) -> bool {
+        self.node.fits(&right.node)
+    }
+}
+
+impl<N: Unlinked> Unlinked for WithRange<N> {
+    ghost use Rattle.std.specs.Prelude.{refl};
+    ghost use Rattle.std.proofs.Common.{inl, inr};
+    ghost use Rattle.ks_node.specs.Body.{content_of};
+    ghost use Rattle.ks_node.specs.Wrapped.{suits_inside, good_inside, adopts_above, adopts_inside};
+
+    ghost no_link = { λ s. N.no_link s.node };
+
+    ghost no_level = { λ s. N.no_level s.node };
+
+    ghost by_span = { refl };
+
+    ghost sort = { λ e. elim (N.sort e) [
+      | inl adopts ↦ inl (λ s span o full suits is good. adopts_above N.can_adopt_at (content_of (N.body s.node)) (N.cut_at (content_of (N.body s.node)) o) good.splits.0.0 (adopts s.node span o full (suits_inside (N.body s.node) s.range s.same_range suits) is (good_inside (N.body s.node) s.range s.same_range (N.cut_at (content_of (N.body s.node)) o) good)))
+      | inr grows ↦ inr (λ s. ((grows s.node).0, (grows s.node).1, adopts_inside (N.body s.node) s.range s.same_range N.can_adopt_at N.layout (grows s.node).2))
+    ] };
+
+    fn split_to(&mut self, right: &mut Self, cut: u64) {
+        self.node.split_to(&mut right.node, cut);
+        right.range = Span {
+            low: cut,
+            last: self.range.last,
+        };
+        self.range.last = cut - 1;
+    }
+
+    fn reach(&mut self, right: &Self) {
+        self.node.reach(&right.node);
+        self.range.last = right.range.last;
+    }
+
+    fn grow(&mut self, left: &mut Self, right: &mut Self, left_id: u32, right_id: u32, cut: u64) {
+        self.node
+            .grow(&mut left.node, &mut right.node, left_id, right_id, cut);
+        left.range = Span {
+            low: self.range.low,
+            last: cut - 1,
+        };
+        right.range = Span {
+            low: cut,
+            last: self.range.last,
+        };
+    }
+
+    fn absorb(&mut self, right: &mut Self) {
+        self.node.absorb(&mut right.node);
+        self.range.last = right.range.last;
+        right.range = ALL;
+    }
+
+    fn forget(&mut self, id: u32) {
+        self.node.forget(id);
+    }
+
+    fn collapse(&mut self, child: &mut Self) {
+        self.node.collapse(&mut child.node);
+        child.range = ALL;
+    }
+}
+
+impl<N: Growing> Growing for WithRange<N> {
+    ghost grows_where = { λ s. N.grows_where s.node };
+
+    ghost few_edges = { λ s. N.few_edges s.node };
+}
+
+impl<N: Unlinked> Ranged for WithRange<N> {
+    ghost use Rattle.std.specs.Prelude.{refl};
+
+    ghost is_ranged = { refl };
+
+    fn range(&self) -> Span {
+        self.range
+    }
+}
