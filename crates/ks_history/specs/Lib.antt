@@ -3,6 +3,15 @@ pub mod Map
 pub mod Trace
 pub mod Lawful
 pub mod Served
+pub mod Verdict
 pub mod Passes
 pub mod Due
 pub mod Done
+pub mod Stays
+pub mod Hand
+pub mod Begins
+pub mod Turns
+pub mod Calls
+pub mod Dues
+pub mod Underway
+pub mod Far

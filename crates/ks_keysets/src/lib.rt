@@ -2,9 +2,17 @@
 //!
 //! A dictionary is a graph of nodes. What a live node has is a record: edges, each leading on for the places of a
 //! span, and pairs of a place and a value. The definitions over graphs stand in `specs/`, to be read in the order
-//! Record, Keyset, Change.
+//! Record, Keyset, Walk, Change, Frame, Layout. A search for a place is a walk from node 0, the root, along the edges
+//! that carry it; the keyset of a node is the places whose walk ends there.
 #![tactic(auto)]
 
+mod laws;
+mod readers;
+#[cfg(test)]
+mod tests;
+
+pub use laws::{found_law, keyset_law, stroll_law};
+pub use readers::{edges_apart, keyset_spans, next_of, walk_end};
 use std::marker::Model;
 
 /// The places from `low` to `last`, both included.

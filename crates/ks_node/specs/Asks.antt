@@ -1,8 +1,7 @@
 -- What the calls ask, and what a cut must be.
-use Rattle.std.specs.Prelude.{◌≡◌, ℕ, suc, ◌<◌, ◌≤◌, Bool, false, true, IsTrue, List, All, Any, Option, Some, None, max, drop}
+use Rattle.std.specs.Prelude.{◌≡◌, ℕ, suc, ◌<◌, ◌≤◌, Bool, false, IsTrue, List, All, Any, Option, max, drop}
 use Rattle.std.specs.Option.{ForSome}
 use Rattle.ks_keysets.specs.declared.Span.{Span}
-use Rattle.ks_keysets.specs.declared.Kind.{Kind}
 use Rattle.ks_keysets.specs.declared.Kind.TheVariants.{NoBranch, Inner}
 use Rattle.ks_keysets.specs.Layout.{Layout}
 use Rattle.ks_keysets.specs.Record.{Carries, top}

@@ -1,6 +1,5 @@
 -- The record of a body: its edges as spans, and its pairs.
 use Rattle.std.specs.Prelude.{ℕ, suc, ◌-◌, cond, nat_le, List, [], ◌∷◌, ◌++◌, Option, Some, None, max, min}
-use Rattle.ks_keysets.specs.declared.Span.{Span}
 use Rattle.ks_keysets.specs.declared.Edge.{Edge}
 use Rattle.ks_keysets.specs.declared.Record.{Record}
 use Rattle.ks_keysets.specs.Record.{top}

@@ -1,6 +1,6 @@
 -- What each call makes of a body that is in order is in order.
 use Rattle.std.specs.Prelude.{◌≡◌, ℕ, suc, ◌<◌, ◌≤◌, Bool, true, false, cond, IsTrue, List, [], ◌∷◌, ◌++◌, length, filter, All, drop, refl, Option, None, Some, is_some, nat_lt, nat_le, get_or}
-use Rattle.std.proofs.Common.{arith, subst, sym}
+use Rattle.std.proofs.Common.{arith, subst}
 use Rattle.std.proofs.lemmas.List.{append-nil, length-append}
 use Rattle.std.proofs.lemmas.List.Elements.{All-filter, All-weaker, All-cons, All-append, All-nil, All-drop}
 use Rattle.ks_keysets.specs.declared.Kind.{Kind}
@@ -9,11 +9,11 @@ use Rattle.ks_keysets.specs.declared.Pair.{Pair}
 use Rattle.ks_keysets.specs.Record.{top}
 use Rattle.ks_node.specs.declared.start.Start.{Start}
 use Rattle.ks_node.specs.Keyed.{Ascends}
-use Rattle.ks_node.specs.Ascend.{asc_put, asc_del, asc_filter, asc_insert, asc_join, asc_cons, asc_nil, all_below, all_from}
+use Rattle.ks_node.specs.Ascend.{asc_put, asc_del, asc_filter, asc_insert, asc_join, asc_cons, asc_nil, all_from}
 use Rattle.ks_node.specs.Body.{Content, pairs_below, pairs_from, starts_below, starts_from, begins, is_branch_kind, first_node}
 use Rattle.ks_node.specs.Effect.{pairs_put, pairs_del, first_from, settled, without}
-use Rattle.ks_node.specs.Sound.{Sound, starts_at_zero}
-use Rattle.ks_node.specs.Starts.{differ, all_first, tail_first, all_settled, all_insert, all_without, asc_settled, asc_without, asc_first, tail_above, zero_below, zero_ahead, zero_settled, zero_first, zero_without, found_from, filter_le}
+use Rattle.ks_node.specs.Sound.{Sound}
+use Rattle.ks_node.specs.Starts.{differ, all_first, all_settled, all_insert, all_without, asc_settled, asc_without, asc_first, tail_above, zero_below, zero_ahead, zero_settled, zero_first, zero_without, found_from, filter_le}
 
 none_at : {X : Type 0} (o : Option X) → is_some o ≡ false → o ≡ None
 none_at None e = refl

@@ -6,9 +6,11 @@ pub mod Effect
 pub mod Asks
 pub mod Sound
 pub mod Ascend
+pub mod Cuts
 pub mod Starts
 pub mod Keep
 pub mod Within
 pub mod Spans
 pub mod Wrapped
 pub mod Ways
+pub mod Puts

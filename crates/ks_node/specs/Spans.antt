@@ -1,9 +1,9 @@
 -- The edges of a body that is in order, one by one: none is cut away.
-use Rattle.std.specs.Prelude.{◌≡◌, ℕ, zero, suc, ◌+◌, ◌-◌, ◌<◌, ◌≤◌, Bool, true, false, cond, nat_le, nat_eq, IsTrue, List, [], ◌∷◌, ◌++◌, length, get_or, max, min, refl, All, drop, Option, None, Some, find, is_some}
+use Rattle.std.specs.Prelude.{◌≡◌, ℕ, zero, suc, ◌+◌, ◌-◌, ◌<◌, ◌≤◌, Bool, true, false, cond, nat_eq, List, [], ◌∷◌, ◌++◌, length, get_or, max, min, refl, All, drop, Option, None, Some, find, is_some}
 use Rattle.std.specs.Option.{ForSome}
 use Rattle.std.proofs.Common.{arith, ap, ◌∙◌, sym, inl, inr, add-one}
 use Rattle.std.proofs.lemmas.List.{append-nil, get_or_read}
-use Rattle.std.proofs.lemmas.List.Elements.{All-head, All-tail, All-nil, All-weaker}
+use Rattle.std.proofs.lemmas.List.Elements.{All-tail, All-nil, All-weaker}
 use Rattle.std.proofs.lemmas.Bool.Decides.{eqb_tells}
 use Rattle.std.proofs.lemmas.Bool.{ne_eqb, eq-eqb, le-leb}
 use Rattle.ks_keysets.specs.declared.Span.{Span}
@@ -12,7 +12,7 @@ use Rattle.ks_keysets.specs.Record.{top}
 use Rattle.ks_node.specs.declared.start.Start.{Start}
 use Rattle.ks_node.specs.Keyed.{Ascends}
 use Rattle.ks_node.specs.Ascend.{asc_head, asc_tail}
-use Rattle.ks_node.specs.Body.{Body, content_of, first_of, last_of, begins, is_branch}
+use Rattle.ks_node.specs.Body.{Body, content_of, first_of, last_of, begins}
 use Rattle.ks_node.specs.Edges.{add_edge, edges_from, edges_of, link_edge}
 use Rattle.ks_node.specs.Effect.{with_range}
 use Rattle.ks_node.specs.Sound.{Sound, Framed}

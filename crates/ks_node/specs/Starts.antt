@@ -9,7 +9,7 @@ use Rattle.ks_keysets.specs.declared.Kind.{Kind}
 use Rattle.ks_keysets.specs.declared.Kind.TheVariants.{NoBranch, Inner, Directory}
 use Rattle.ks_node.specs.declared.start.Start.{Start}
 use Rattle.ks_node.specs.Keyed.{Ascends}
-use Rattle.ks_node.specs.Ascend.{asc_nil, asc_cons, asc_head, asc_tail}
+use Rattle.ks_node.specs.Ascend.{asc_cons, asc_head, asc_tail}
 use Rattle.ks_node.specs.Body.{starts_below, starts_from, begins, first_node}
 use Rattle.ks_node.specs.Effect.{first_from, runs, runs_after, settled, without, without_at}
 use Rattle.ks_node.specs.Sound.{starts_at_zero}

@@ -5,14 +5,12 @@ use Rattle.std.proofs.Common.{arith, ap, ◌∙◌, sym, subst, inl, inr, ◌⊎
 use Rattle.std.proofs.lemmas.Bool.{lt-ltb, le-ltb, le-leb, lt-leb}
 use Rattle.std.proofs.lemmas.Bool.Decides.{leb_tells}
 use Rattle.std.proofs.lemmas.List.Elements.{All-cons, All-nil}
-use Rattle.ks_keysets.specs.declared.Span.{Span}
 use Rattle.ks_keysets.specs.declared.Edge.{Edge}
 use Rattle.ks_keysets.specs.Record.{top, Carries, LeadsTo, LeadsOn}
 use Rattle.ks_node.specs.declared.start.Start.{Start}
-use Rattle.ks_node.specs.declared.start.Next.{Next}
 use Rattle.ks_node.specs.declared.start.Next.TheVariants.{Here, Go}
 use Rattle.ks_node.specs.Keyed.{Ascends}
-use Rattle.ks_node.specs.Ascend.{asc_head, asc_tail}
+use Rattle.ks_node.specs.Ascend.{asc_tail}
 use Rattle.ks_node.specs.Body.{Body, content_of, first_of, last_of, holds, led_to, last_node, starts_below, go_to, next_at}
 use Rattle.ks_node.specs.Edges.{add_edge, edges_from, edges_of, link_edge, record_of}
 use Rattle.ks_node.specs.Asks.{IsBelowOwn}

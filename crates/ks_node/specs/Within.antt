@@ -1,6 +1,6 @@
 -- What each call makes of a body with a range keeps the range and the edges in step.
-use Rattle.std.specs.Prelude.{◌≡◌, ℕ, suc, ◌-◌, ◌<◌, ◌≤◌, Bool, true, false, cond, IsTrue, List, [], ◌∷◌, ◌++◌, length, All, drop, refl, Option, None, Some, max}
-use Rattle.std.proofs.Common.{arith, subst, sym}
+use Rattle.std.specs.Prelude.{◌≡◌, ℕ, ◌-◌, ◌<◌, ◌≤◌, Bool, true, false, cond, IsTrue, List, [], ◌∷◌, ◌++◌, All, drop, refl, Some, max}
+use Rattle.std.proofs.Common.{arith, subst}
 use Rattle.std.proofs.lemmas.List.Elements.{All-filter, All-weaker, All-cons, All-append, All-nil, All-drop}
 use Rattle.ks_keysets.specs.declared.Kind.{Kind}
 use Rattle.ks_keysets.specs.declared.Span.{Span}
@@ -8,10 +8,9 @@ use Rattle.ks_keysets.specs.Record.{top}
 use Rattle.ks_node.specs.declared.start.Start.{Start}
 use Rattle.ks_node.specs.Keyed.{Ascends}
 use Rattle.ks_node.specs.Ascend.{asc_filter, all_below, all_from}
-use Rattle.ks_node.specs.Body.{Body, content_of, is_branch, is_branch_kind, starts_below, starts_from, all_places, blank_body, last_of, first_of}
-use Rattle.ks_node.specs.Effect.{first_from, settled, without, split_left, split_right, grown, adopted, absorbed, forgot, reached, with_range}
-use Rattle.ks_node.specs.Asks.{Absorbs}
-use Rattle.ks_node.specs.Sound.{Sound, Framed, starts_at_zero}
+use Rattle.ks_node.specs.Body.{Body, is_branch, starts_below, starts_from, all_places, blank_body}
+use Rattle.ks_node.specs.Effect.{first_from, without, split_left, split_right, grown, adopted, absorbed, forgot, reached, with_range}
+use Rattle.ks_node.specs.Sound.{Framed, starts_at_zero}
 use Rattle.ks_node.specs.Starts.{differ, tail_filter, tail_append, tail_first, all_first, all_without, tail_without, all_settled, tail_settled, tail_insert, all_insert, tail_above}
 
 either : (P : List Start → Type 0) (b : Bool) (xs ys : List Start) → (b ≡ true → P xs) → (b ≡ false → P ys) → P (cond b xs ys)

@@ -1,13 +1,13 @@
 -- A body with a range in place of the one of the body inside, or of none.
-use Rattle.std.specs.Prelude.{◌≡◌, ℕ, ◌<◌, ◌≤◌, Bool, true, false, cond, not, ◌&&◌, nat_eq, IsTrue, Option, Some, None, refl}
+use Rattle.std.specs.Prelude.{◌≡◌, ℕ, ◌<◌, ◌≤◌, Bool, true, false, cond, not, ◌&&◌, nat_eq, IsTrue, Option, Some, refl}
 use Rattle.std.specs.Option.{ForSome}
 use Rattle.std.proofs.Common.{arith, ap, ◌∙◌, sym, subst}
 use Rattle.std.proofs.lemmas.Bool.{ne_eqb}
 use Rattle.ks_keysets.specs.declared.Span.{Span}
 use Rattle.ks_keysets.specs.Layout.{Layout}
-use Rattle.ks_node.specs.Body.{Body, Content, content_of, is_branch, is_branch_kind, begins}
+use Rattle.ks_node.specs.Body.{Body, Content, content_of, is_branch_kind}
 use Rattle.ks_node.specs.Effect.{with_range}
-use Rattle.ks_node.specs.Asks.{IsCut, Suits, IsNoneOr, IsGoodCut, AdoptsInside}
+use Rattle.ks_node.specs.Asks.{IsCut, Suits, IsGoodCut, AdoptsInside}
 
 -- a branch with a range has an edge that begins at the low
 abbrev pub adopts_ranged : (Content → ℕ → Bool) → Content → ℕ → Bool

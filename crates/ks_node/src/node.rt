@@ -169,17 +169,24 @@ pub trait Node: Send + Drop {
     fn fits(&self, right: &Self) -> bool
         ensures { result ≡ fit_together layout (body self.now) (body right.now) };
 
+    /// Edges and pairs are in order.
     ghost sound: { (s : Self) → Sound (content_of (body s)) };
 
+    /// A range begins at the low, and no edge lies outside it.
     ghost framed: { (s : Self) → ForSome (body s).range (λ r. Framed r (body s)) };
 
+    /// The load is within the capacity.
     ghost held: { (s : Self) → IsHeld layout (body s) };
 
+    /// All bodies of the type have a range, or none.
     ghost has_range: { (s : Self) → is_some (body s).range ≡ ranged };
 
+    /// `ROOM` is the number of the table.
     ghost room_is: { room layout ≡ ROOM };
 
+    /// Nothing grows where the table says so.
     ghost grows_as: { (c : Content) → IsTrue (grows_at c) → IsTrue (may_grow layout) };
 
+    /// What a full node becomes is a branch.
     ghost becomes_branch: { IsTrue (is_branch_kind branch_kind) };
 }

@@ -16,6 +16,7 @@ pub trait Ranged: Node {
     fn range(&self) -> Span
         ensures { (Self.body self.now).range ≡ Some result };
 
+    /// Each body has a range.
     ghost is_ranged: { Self.ranged ≡ true };
 }
 
@@ -62,7 +63,9 @@ pub trait Linked: Ranged {
     /// There is a link where the range ends below the last place.
     ghost link_where: { (s : Self) → is_some (Self.body s).link ≡ nat_lt (last_of (Self.body s).range) top };
 
+    /// A cut goes by the range.
     ghost by_range: { Self.cuts_by_range ≡ true };
 
+    /// A branch grows, and so does a node with no edge but its link.
     ghost grows_where: { (s : Self) → IsTrue (is_branch (Self.body s) || nat_eq (length (Self.body s).starts) 0) → IsTrue (Self.grows_at (content_of (Self.body s))) };
 }

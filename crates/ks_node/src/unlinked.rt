@@ -1,6 +1,6 @@
 //! Nodes with no link to the right: what splits, grows and merges make of them.
 
-ghost use Rattle.std.specs.Prelude.{◌≡◌, ℕ, Bool, Option, IsTrue, IsSome, Some, None, true, false, length, nat_eq, ◌||◌, ◌⊎◌};
+ghost use Rattle.std.specs.Prelude.{◌≡◌, ℕ, ◌<◌, ◌-◌, ◌^◌, Bool, Option, IsTrue, IsSome, Some, None, true, false, length, nat_eq, ◌||◌, ◌⊎◌};
 ghost use Rattle.ks_keysets.specs.declared.Span.{Span};
 ghost use Rattle.ks_node.specs.Body.{Body, content_of, is_branch, IsBlank, only_child_of, first_node};
 ghost use Rattle.ks_node.specs.Room.{is_full, fit_together};
@@ -56,10 +56,13 @@ pub trait Unlinked: Node {
         ensures parent { Self.body self.new ≡ collapsed (Self.body self.old) (Self.body child.old) }
         ensures child { Self.body child.new ≡ emptied (Self.body child.old) };
 
+    /// There is no link.
     ghost no_link: { (s : Self) → (Self.body s).link ≡ None };
 
+    /// There is one level alone.
     ghost no_level: { (s : Self) → (Self.body s).level ≡ 0 };
 
+    /// A cut goes by the span that is handed in.
     ghost by_span: { Self.cuts_by_range ≡ false };
 
     /// Where it does not grow in place: either each full node can adopt its cut, or each node grows, branches alone
@@ -69,5 +72,9 @@ pub trait Unlinked: Node {
 
 /// A node that grows where it is a branch or has no edge.
 pub trait Growing: Unlinked {
+    /// A branch grows, and so does a node with no edge.
     ghost grows_where: { (s : Self) → IsTrue (is_branch (Self.body s) || nat_eq (length (Self.body s).starts) 0) → IsTrue (Self.grows_at (content_of (Self.body s))) };
+
+    /// Its edges and one more can be counted.
+    ghost few_edges: { (s : Self) → length (Self.body s).starts < 2 ^ 32 - 1 };
 }

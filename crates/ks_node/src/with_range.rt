@@ -239,6 +239,8 @@ impl<N: Unlinked> Unlinked for WithRange<N> {
 
 impl<N: Growing> Growing for WithRange<N> {
     ghost grows_where = { λ s. N.grows_where s.node };
+
+    ghost few_edges = { λ s. N.few_edges s.node };
 }
 
 impl<N: Unlinked> Ranged for WithRange<N> {

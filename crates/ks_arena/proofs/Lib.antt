@@ -1,0 +1,11 @@
+pub mod Words
+pub mod Seen
+pub mod Steps
+pub mod Moves
+pub mod Hold
+pub mod After
+pub mod Ready
+pub mod Crew
+pub mod Closing
+pub mod Tries
+pub mod Learning

@@ -1,0 +1,241 @@
+-- What each step of the arena asks and tells.
+use Rattle.std.proofs.Common.{◌≡◌, ◌≢◌, ℕ, zero, suc, ◌+◌, ◌%◌, ◌^◌, ◌<◌, ◌⊎◌, Bool, cond, eqb, List, [], ◌∷◌, ◌++◌, length, get_or, set, sym, refl, ap, ◌∙◌, subst, inl, inr, ⊎_elim, arith, length-set, get_or-set_other, get_or-set_same, length-append}
+use Rattle.std.specs.Prelude.{Option, Some, None, All}
+use Rattle.std.proofs.lemmas.List.{set-get_or, set_comm, set-set}
+use Rattle.std.proofs.lemmas.List.Elements.{All-head, All-tail}
+use mathlib.Core.Option.{none, some, some-injective, some-ne-none}
+use mathlib.Core.Option as maybe
+use mathlib.Core.Logic.{dite}
+use native.Mathlib.Decide.{ℕ_discrete}
+use lib.ListN.{get_elem?}
+use prog.Atomic.{either}
+use Rattle.atomic_table.specs.Table.{State, Me, Act, keeps, takes, gives, chain, Valid, stepped, carried_after, homes_after, Allows, step}
+use Rattle.atomic_table.proofs.Lists.{set_here, set_else, set_again, exchanged}
+use Rattle.ks_keysets.specs.declared.Frame.{Frame}
+use Rattle.ks_keysets.specs.declared.NodeState.{NodeState}
+use Rattle.ks_keysets.specs.declared.NodeState.TheVariants.{Free, Claimed, Live}
+use Rattle.ks_keysets.specs.declared.Change.{Change}
+use Rattle.ks_keysets.specs.Change.{new_state, new_frame, shaped, reframed}
+use Rattle.ks_history.specs.declared.Answered.{Answered}
+use Rattle.ks_history.specs.declared.Op.{Op}
+use Rattle.ks_history.specs.declared.Reply.{Reply}
+use Rattle.ks_history.specs.declared.Event.{Event}
+use Rattle.ks_history.specs.declared.Event.TheVariants.{Take, Give, Claim, Shape, Call}
+use Rattle.ks_history.specs.Trace.{Turn, free, idle, held, turn_given, given, state_with, graph_after, turn_after, frame_after, number_after, calls_of, shapes_in, caller_of}
+use Rattle.ks_history.specs.Write.{written}
+use Rattle.ks_history.specs.Passes.{Has, NoneOf, GrowsByOthers}
+use Rattle.ks_arena.specs.declared.view.View.{View}
+use Rattle.ks_node.specs.Body.{Body, frame_of, blank_body}
+use Rattle.ks_node.specs.Edges.{record_of}
+use Rattle.ks_arena.specs.Sound.{Sort, blank_of, Sound, StepsSoundly}
+use Rattle.ks_arena.specs.Rule.{Fits, Rests, Running, turn_word}
+use Rattle.ks_history.specs.Stays.{StaysHeld, cond_here, cond_else}
+use Rattle.ks_history.specs.Begins.{none_by, by_others_keeps}
+use Rattle.ks_arena.specs.Plays.{Seated, with_seen, Looks, Makes, drop_slot, InHand, HasSlots, Carries, Shows, TookAt, took, ClaimedAt, claimed, gave, brought, decided, formed}
+use Rattle.ks_arena.proofs.Words.{word_idle, word_free, word_below, held_below, are_in_turn}
+use Rattle.ks_arena.proofs.Steps.{inside, has_one, looks, turns_at, counts_at}
+
+same_pair : (cs : List ℕ) (c d i j : ℕ) → cs ≡ c ∷ [] → cs ≡ d ∷ [] → i + 2 ≡ j + 2 → (c ≡ d) × (i ≡ j)
+same_pair cs c d i j a b e = let x : c ∷ [] ≡ d ∷ [] = sym a ∙ b in ((cc), omega arith)
+
+one_more : (a b x : ℕ) → b ≡ a + 1 → x ≡ a % 2 ^ 64 → (x + 1) % 2 ^ 64 ≡ b % 2 ^ 64
+one_more a b x more e = omega arith
+
+a_call_more : (xs : List Answered) (x : Answered) → length (xs ++ x ∷ []) ≡ length xs + 1
+a_call_more xs x = length-append xs (x ∷ [])
+
+-- whatever others do before it, the event may follow
+abbrev pub May : Sort → (Frame → Type 0) → ((ℕ → NodeState) → (ℕ → Frame) → List Change → Type 0) → ℕ → ℕ → List Event → Event → Type 0
+May sort begins asks n c seen e = (h : List Event) → GrowsByOthers c seen h → Sound sort begins asks n h → StepsSoundly sort begins asks n h e
+
+module _ {N : Type 0} (sort : Sort) (begins : Frame → Type 0) (asks : (ℕ → NodeState) → (ℕ → Frame) → List Change → Type 0) (shows : N → Body) where
+  abbrev Rule : State (Option N) View → Type 0
+  Rule = Running sort begins asks shows
+
+  abbrev SoundTo : ℕ → List Event → Type 0
+  SoundTo n = Sound sort begins asks n
+
+  abbrev pub looks_all : (n : ℕ) (s : State (Option N) View) (r : Rule s) (id : ℕ) (v : View) → length s.homes ≡ n → get_elem? s.views id ≡ some v → Looks (SoundTo n) v (with_seen v r.trace)
+  looks_all n s r id v long at = let f = r.views.each id v at in record { rest = f.rest; is = ap (with_seen v) f.is; others = f.others; sound = subst (λ (z : ℕ). SoundTo z r.trace) long r.sound }
+
+  abbrev pub makes_one : (n : ℕ) (s : State (Option N) View) (r : Rule s) (id : ℕ) (v : View) (e : Event) → length s.homes ≡ n → get_elem? s.views id ≡ some v → StepsSoundly sort begins asks (length s.homes) r.trace e → Makes (SoundTo n) e v (with_seen v (e ∷ r.trace))
+  makes_one n s r id v e long at may = let f = r.views.each id v at in record { rest = f.rest; is = ap (λ (z : List Event). with_seen v (e ∷ z)) f.is; others = f.others; sound = subst (λ (z : ℕ). SoundTo z (e ∷ r.trace)) long (r.sound, may) }
+
+  abbrev Goes : State (Option N) View → ℕ → ℕ → Seated N → (ℕ → Seated N → Type 0) → ℕ → Type 0
+  Goes s k id me then x = (w : View) × (a : Act (Option N)) × Valid s.homes me.1 a × Rule (stepped s k x id me.1 w a) × then (get_or s.words k 0) (w, carried_after me.1 a)
+
+  pub takes_ok : (n id : ℕ) (me : Seated N) (c i : ℕ) → me.0.callers ≡ c ∷ [] → c < 2 ^ 32 → i < n → Allows Rule n id me (i + 2) (λ y. either (eqb y 1) (c + 2) y) (took sort begins asks shows (step n (i + 2) 1 (c + 2) none) me)
+  takes_ok n id me c i mine small near s r long at _ = let h : List Event = r.trace in let near' : i < length s.homes = subst (λ (z : ℕ). i < z) (sym long) near in let y : ℕ = get_or s.words (i + 2) 0 in let word : y ≡ turn_word (turn_after h i) = r.turns i near' in
+      let told = took sort begins asks shows (step n (i + 2) 1 (c + 2) none) me in
+      exchanged y 1 (c + 2) (Goes s (i + 2) id me told)
+      (λ hit. let is : turn_after h i ≡ idle = word_idle (turn_after h i) (sym word ∙ hit) in let b = subst (λ (z : Turn). Rests sort shows (graph_after h i) (frame_after (blank_of sort) h i) z (get_elem? s.homes i)) is (r.homes i near') in
+      let e : Event = Take c i in let here : turn_after (e ∷ h) i ≡ held c = cond_here i i (held c) (turn_after h i) refl in (
+        with_seen me.0 (e ∷ h),
+        takes i (Some b.0),
+        b.1,
+        turns_at sort begins asks shows s r id me.0 e i (c + 2) none at (has_one me.0.callers c mine) small near' is refl refl (λ j ne. (cond_else j i (held c) (turn_after h j) ne, refl, refl)) (ap turn_word (sym here))
+            (subst (λ (z : Turn). Rests sort shows (graph_after h i) (frame_after (blank_of sort) h i) z (some none)) (sym here) refl),
+        λ d j own at'. let p = same_pair me.0.callers c d i j mine own at' in subst (λ (z : ℕ × ℕ). TookAt sort begins asks shows n z.0 z.1 me y (with_seen me.0 (e ∷ h), (i, Some b.0) ∷ me.1)) (λ k. (p.0 k, p.1 k))
+            (λ _. (makes_one n s r id me.0 e long at is, (b.0, refl, b.2, b.3)), λ miss. absurd (miss hit)),
+      ))
+      (λ miss. (
+        with_seen me.0 h,
+        keeps,
+        tt,
+        looks sort begins asks shows s r id (i + 2) me.0 at,
+        λ d j own at'. let p = same_pair me.0.callers c d i j mine own at' in subst (λ (z : ℕ × ℕ). TookAt sort begins asks shows n z.0 z.1 me y (with_seen me.0 h, me.1)) (λ k. (p.0 k, p.1 k))
+            (λ hit. absurd (miss hit), λ _. (looks_all n s r id me.0 long at, refl, word, word_below (2 ^ 32) (turn_after h i) y word (λ d e. held_below (2 ^ 32) h i d r.few e))),
+      ))
+
+  pub claims_ok : (n id : ℕ) (me : Seated N) (c i : ℕ) → me.0.callers ≡ c ∷ [] → c < 2 ^ 32 → i < n → Allows Rule n id me (i + 2) (λ y. either (eqb y 0) (c + 2) y) (claimed sort begins asks shows (step n (i + 2) 0 (c + 2) none) me)
+  claims_ok n id me c i mine small near s r long at _ = let h : List Event = r.trace in let near' : i < length s.homes = subst (λ (z : ℕ). i < z) (sym long) near in let y : ℕ = get_or s.words (i + 2) 0 in let word : y ≡ turn_word (turn_after h i) = r.turns i near' in
+      let told = claimed sort begins asks shows (step n (i + 2) 0 (c + 2) none) me in
+      exchanged y 0 (c + 2) (Goes s (i + 2) id me told)
+      (λ hit. let is : turn_after h i ≡ free = word_free (turn_after h i) (sym word ∙ hit) in let b = subst (λ (z : Turn). Rests sort shows (graph_after h i) (frame_after (blank_of sort) h i) z (get_elem? s.homes i)) is (r.homes i near') in
+      let e : Event = Claim c i in let here : turn_after (e ∷ h) i ≡ held c = cond_here i i (held c) (turn_after h i) refl in (
+        with_seen me.0 (e ∷ h),
+        takes i (Some b.0),
+        b.1,
+        turns_at sort begins asks shows s r id me.0 e i (c + 2) none at (has_one me.0.callers c mine) small near' is refl refl (λ j ne. (cond_else j i (held c) (turn_after h j) ne, cond_else j i (Claimed c) (graph_after h j) ne, refl)) (ap turn_word (sym here))
+            (subst (λ (z : Turn). Rests sort shows (graph_after (e ∷ h) i) (frame_after (blank_of sort) h i) z (some none)) (sym here) refl),
+        λ d j own at'. let p = same_pair me.0.callers c d i j mine own at' in subst (λ (z : ℕ × ℕ). ClaimedAt sort begins asks shows n z.0 z.1 me y (with_seen me.0 (e ∷ h), (i, Some b.0) ∷ me.1)) (λ k. (p.0 k, p.1 k))
+            (λ _. (makes_one n s r id me.0 e long at is, (b.0, refl, b.2)), λ miss. absurd (miss hit)),
+      ))
+      (λ miss. (
+        with_seen me.0 h,
+        keeps,
+        tt,
+        looks sort begins asks shows s r id (i + 2) me.0 at,
+        λ d j own at'. let p = same_pair me.0.callers c d i j mine own at' in subst (λ (z : ℕ × ℕ). ClaimedAt sort begins asks shows n z.0 z.1 me y (with_seen me.0 h, me.1)) (λ k. (p.0 k, p.1 k))
+            (λ hit. absurd (miss hit), λ _. (looks_all n s r id me.0 long at, refl, λ now. miss (word ∙ ap turn_word now))),
+      ))
+
+  rests_given : (t : NodeState) (f : Frame) (b : N) → Shows sort begins asks shows t f b → Rests sort shows (given t) f (turn_given t) (some (some (Some b)))
+  rests_given Free f b so = (b, refl, so)
+  rests_given (Claimed d) f b so = (b, refl, so)
+  rests_given (Live r) f b so = (b, refl, ap Live so.0, so.1)
+
+  -- the trace goes on after what the caller has seen by events of others
+  others_now : (s : State (Option N) View) (r : Rule s) (id : ℕ) (v : View) (c : ℕ) → get_elem? s.views id ≡ some v → v.callers ≡ c ∷ [] → GrowsByOthers c v.seen r.trace
+  others_now s r id v c at mine = let f = r.views.each id v at in record { rest = f.rest; is = f.is; others = none_by v.callers f.rest c f.others (has_one v.callers c mine) }
+
+  -- what the caller holds, at the moment of the step
+  pub own_now : (s : State (Option N) View) (r : Rule s) (id : ℕ) (v : View) (c i : ℕ) → get_elem? s.views id ≡ some v → v.callers ≡ c ∷ [] → turn_after v.seen i ≡ held c → StaysHeld c i v.seen r.trace
+  own_now s r id v c i at mine holds = by_others_keeps c i v.seen r.trace (others_now s r id v c at mine) (are_in_turn sort begins asks (length s.homes) r.trace r.sound) holds
+
+  InHand_not : (xs : List (ℕ × Option N)) (i k : ℕ) → ¬ InHand xs k → InHand xs i → k ≢ i
+  InHand_not xs i k out has e = out (subst (InHand xs) (sym e) has)
+
+  -- the slots in hand are out
+  abbrev Out : List (maybe.Option (Option N)) → List (ℕ × Option N) → Type 0
+  Out hs [] = Unit {0}
+  Out hs (x ∷ xs) = (get_elem? hs x.0 ≡ some none) × (¬ InHand xs x.0) × (x.1 ≡ None) × Out hs xs
+
+  out_set : (hs : List (maybe.Option (Option N))) (k : ℕ) (a : maybe.Option (Option N)) (xs : List (ℕ × Option N)) → ¬ InHand xs k → Out hs xs → Out (set hs k a) xs
+  out_set hs k a [] never out = tt
+  out_set hs k a (x ∷ xs) never out = (set_else hs k x.0 a (λ e. never (inl e)) ∙ out.0, out.1, out.2, out_set hs k a xs (λ h. never (inr h)) out.3)
+
+  -- gives back the slots above that of i, and then it, and takes them again, with that of i on top
+  lift : (xs : List (ℕ × Option N)) (i : ℕ) → InHand xs i → Act (Option N)
+  lift [] i h = keeps
+  lift (x ∷ xs) i (inl e) = keeps
+  lift (x ∷ xs) i (inr h) = chain gives (chain (lift xs i h) (chain gives (chain (takes x.0 x.1) (takes i None))))
+
+  Lifts : List (maybe.Option (Option N)) → List (ℕ × Option N) → ℕ → Act (Option N) → Type 0
+  Lifts hs xs i a = Valid hs xs a × (homes_after hs xs a ≡ hs) × (carried_after xs a ≡ (i, None) ∷ drop_slot i xs)
+
+  set_back : (hs : List (maybe.Option (Option N))) (k i : ℕ) (a b : maybe.Option (Option N)) → k ≢ i → get_elem? hs k ≡ some none → get_elem? hs i ≡ some none → set (set (set (set hs k a) i b) k none) i none ≡ hs
+  set_back hs k i a b ne outk outi = ap (λ (z : List (maybe.Option (Option N))). set z i none) (set_comm (set hs k a) i k b none (λ e. ne (sym e)) ∙ ap (λ (z : List (maybe.Option (Option N))). set z i b) (set-set hs k a none ∙ set_again hs k none outk)) ∙ set-set hs i b none ∙ set_again hs i none outi
+
+  out_in : (hs : List (maybe.Option (Option N))) (xs : List (ℕ × Option N)) (i : ℕ) → Out hs xs → InHand xs i → get_elem? hs i ≡ some none
+  out_in hs [] i out h = absurd h
+  out_in hs (x ∷ xs) i out (inl e) = ap (get_elem? hs) (sym e) ∙ out.0
+  out_in hs (x ∷ xs) i out (inr h) = out_in hs xs i out.3 h
+
+  abbrev Tail : ℕ → ℕ × Option N → Act (Option N)
+  Tail i x = chain gives (chain (takes x.0 x.1) (takes i None))
+
+  lifts : (hs : List (maybe.Option (Option N))) (xs : List (ℕ × Option N)) (i : ℕ) (h : InHand xs i) → Out hs xs → Lifts hs xs i (lift xs i h)
+  unfolding lift Lifts
+  lifts hs [] i h out = absurd h
+  lifts hs (x ∷ xs) i (inl e) out = (tt, refl, (λ k. (e k, out.2 k) ∷ xs) ∙ ap (λ (z : List (ℕ × Option N)). (i, None) ∷ z) (sym (cond_here x.0 i xs (x ∷ drop_slot i xs) e)))
+  lifts hs (x ∷ xs) i (inr h) out = let k : ℕ = x.0 in let hs₁ : List (maybe.Option (Option N)) = set hs k (some x.1) in let a : Act (Option N) = lift xs i h in let so = lifts hs₁ xs i h (out_set hs k (some x.1) xs out.1 out.3) in
+      let ne : k ≢ i = InHand_not xs i k out.1 h in let outi : get_elem? hs i ≡ some none = out_in hs xs i out.3 h in let d : List (ℕ × Option N) = drop_slot i xs in
+      let F : List (maybe.Option (Option N)) × List (ℕ × Option N) → Type 0 = λ z. Valid z.0 z.1 (Tail i x) × (homes_after z.0 z.1 (Tail i x) ≡ hs) × (carried_after z.1 (Tail i x) ≡ (i, None) ∷ x ∷ d) in
+      let near : k < length hs₁ = subst (λ (z : ℕ). k < z) (sym (length-set hs k (some x.1))) (inside hs k none out.0) in let neari : i < length hs₁ = subst (λ (z : ℕ). i < z) (sym (length-set hs k (some x.1))) (inside hs i none outi) in
+      let last : F (hs₁, (i, None) ∷ d) = (
+        (tt, (set_else hs₁ i k (some None) ne ∙ set_here hs k (some x.1) (inside hs k none out.0), set_else (set hs₁ i (some None)) k i none (λ e. ne (sym e)) ∙ set_here hs₁ i (some None) neari)),
+        set_back hs k i (some x.1) (some None) ne out.0 outi,
+        refl,
+      ) in let all = subst F (λ j. (sym so.1 j, sym so.2 j)) last in (
+        (tt, (so.0, all.0)),
+        all.1,
+        all.2 ∙ ap (λ (z : List (ℕ × Option N)). (i, None) ∷ z) (sym (cond_else x.0 i xs (x ∷ drop_slot i xs) ne)),
+      )
+
+  hands_out : (s : State (Option N) View) (r : Rule s) (id : ℕ) (v : View) (c n : ℕ) (xs : List (ℕ × Option N)) → length s.homes ≡ n → get_elem? s.views id ≡ some v → v.callers ≡ c ∷ [] → HasSlots n v.seen c xs → Out s.homes xs
+  hands_out s r id v c n [] long at mine hands = tt
+  hands_out s r id v c n (x ∷ xs) long at mine hands = (
+    subst (λ (z : Turn). Rests sort shows (graph_after r.trace x.0) (frame_after (blank_of sort) r.trace x.0) z (get_elem? s.homes x.0)) (own_now s r id v c x.0 at mine hands.2).turn (r.homes x.0 (subst (λ (z : ℕ). x.0 < z) (sym long) hands.0)),
+    hands.3,
+    hands.1,
+    hands_out s r id v c n xs long at mine hands.4,
+  )
+
+  pub brings_ok : (n id : ℕ) (me : Seated N) (c i : ℕ) → me.0.callers ≡ c ∷ [] → HasSlots n me.0.seen c me.1 → InHand me.1 i → Allows Rule n id me (i + 2) (λ y. y) (brought sort begins asks shows (step n (i + 2) 0 0 none) me)
+  unfolding Lifts
+  brings_ok n id me c i mine hands has s r long at _ = let so = lifts s.homes me.1 i has (hands_out s r id me.0 c n me.1 long at mine hands) in let y : ℕ = get_or s.words (i + 2) 0 in let w : View = with_seen me.0 r.trace in (
+    w,
+    lift me.1 i has,
+    so.0,
+    subst (λ (z : List (maybe.Option (Option N))). Rule record { words = set s.words (i + 2) y; homes = z; views = set s.views id w }) (sym so.1) (looks sort begins asks shows s r id (i + 2) me.0 at),
+    λ j at'. let p : i ≡ j = omega arith in (looks_all n s r id me.0 long at, subst (λ (z : ℕ). carried_after me.1 (lift me.1 i has) ≡ (z, None) ∷ drop_slot z me.1) p so.2),
+  )
+
+  pub gives_ok : (n id : ℕ) (me : Seated N) (c i : ℕ) (b : N) (others : List (ℕ × Option N)) (new : ℕ) → me.0.callers ≡ c ∷ [] → c < 2 ^ 32 → i < n → me.1 ≡ (i, Some b) ∷ others → turn_after me.0.seen i ≡ held c → Shows sort begins asks shows (graph_after me.0.seen i) (frame_after (blank_of sort) me.0.seen i) b
+      → new ≡ turn_word (turn_given (graph_after me.0.seen i)) → Allows Rule n id me (i + 2) (λ _. new) (λ _. gave sort begins asks shows (step n (i + 2) new 0 none) me new)
+  gives_ok n id me c i b others new mine small near has holds body word s r long at _ = let h : List Event = r.trace in let near' : i < length s.homes = subst (λ (z : ℕ). i < z) (sym long) near in let own = own_now s r id me.0 c i at mine holds in
+      let e : Event = Give c i in let t : NodeState = graph_after h i in let f : Frame = frame_after (blank_of sort) h i in let turns : turn_after (e ∷ h) i ≡ turn_given t = cond_here i i (turn_given t) (turn_after h i) refl in let states : graph_after (e ∷ h) i ≡ given t = cond_here i i (given t) t refl in
+      subst (λ (cs : List (ℕ × Option N)). Goes s (i + 2) id (me.0, cs) (λ _. gave sort begins asks shows (step n (i + 2) new 0 none) (me.0, cs) new) new) (sym has) (
+        with_seen me.0 (e ∷ h),
+        gives,
+        tt,
+        turns_at sort begins asks shows s r id me.0 e i new (some (Some b)) at (has_one me.0.callers c mine) small near' own.turn refl refl (λ j ne. (cond_else j i (turn_given t) (turn_after h j) ne, cond_else j i (given t) (graph_after h j) ne, refl))
+            (word ∙ ap (λ (z : NodeState). turn_word (turn_given z)) (sym own.state) ∙ ap turn_word (sym turns))
+            (subst (λ (z : NodeState × Turn). Rests sort shows z.0 f z.1 (some (some (Some b)))) (λ k. (sym states k, sym turns k)) (rests_given t f b (subst (λ (z : NodeState × Frame). Shows sort begins asks shows z.0 z.1 b) (λ k. (sym own.state k, sym (own.frame (blank_of sort)) k)) body))),
+        λ d j x more own' at' has'. let p = same_pair me.0.callers c d i j mine own' at' in let q : others ≡ more = cc in (subst (λ (z : ℕ × ℕ). Makes (SoundTo n) (Give z.0 z.1) me.0 (with_seen me.0 (e ∷ h))) (λ k. (p.0 k, p.1 k)) (makes_one n s r id me.0 e long at own.turn), q),
+      )
+
+  now : (n : ℕ) (s : State (Option N) View) (r : Rule s) (id : ℕ) (v : View) (c : ℕ) (e : Event) → length s.homes ≡ n → get_elem? s.views id ≡ some v → v.callers ≡ c ∷ [] → May sort begins asks n c v.seen e → StepsSoundly sort begins asks (length s.homes) r.trace e
+  now n s r id v c e long at mine may = subst (λ (z : ℕ). StepsSoundly sort begins asks z r.trace e) (sym long) (may r.trace (others_now s r id v c at mine) (subst (λ (z : ℕ). SoundTo z r.trace) long r.sound))
+
+  pub decides_ok : (n id : ℕ) (me : Seated N) (c i : ℕ) (o : Op) (y : Reply) (e : Event) → e ≡ Call c i o y → me.0.callers ≡ c ∷ [] → c < 2 ^ 32 → turn_after me.0.seen i ≡ held c → May sort begins asks n c me.0.seen (Call c i o y)
+      → Allows Rule n id me 0 (λ x. (x + 1) % 2 ^ 64) (decided sort begins asks shows (step n 0 1 0 none) e me)
+  decides_ok n id me c i o y said_ said mine small holds may = subst (λ (z : Event). Allows Rule n id me 0 (λ x. (x + 1) % 2 ^ 64) (decided sort begins asks shows (step n 0 1 0 none) z me)) (sym said) (λ s r long at _.
+      let h : List Event = r.trace in let own = own_now s r id me.0 c i at mine holds in let e : Event = Call c i o y in let so = now n s r id me.0 c e long at mine may in
+      let count : get_or s.words 0 0 ≡ number_after h = r.call_count in let wide = r.wide in let x : ℕ = get_or s.words 0 0 in let f = r.views.each id me.0 at in (
+        with_seen me.0 (e ∷ h),
+        keeps,
+        tt,
+        counts_at sort begins asks shows s r id me.0 e 0 ((x + 1) % 2 ^ 64) at (has_one me.0.callers c mine) small (omega arith) so (λ j. refl)
+            (λ j. dite (ℕ_discrete j i) (λ z. inr (c, ap (turn_after h) z ∙ own.turn)) (λ z. inl (cond_else j i (state_with (written o y) (graph_after h i)) (graph_after h j) z, refl)))
+            (get_or-set_same s.words 0 ((x + 1) % 2 ^ 64) 0 (omega arith) ∙ one_more (length (calls_of h)) (length (calls_of (e ∷ h))) x (a_call_more (calls_of h) record { op = o; reply = y }) count) (get_or-set_other s.words 0 1 ((x + 1) % 2 ^ 64) 0 (λ z. omega arith) ∙ r.shape_count),
+        (makes_one n s r id me.0 e long at so, refl, count ∙ ap number_after f.is),
+      ))
+
+  shaped_or : (h : List Event) (c : ℕ) (xs : List Change) (i : ℕ) (t : NodeState) (f : Frame) → All (λ x. turn_after h x.node ≡ held c) xs → ((shaped xs i t ≡ t) × (reframed xs i f ≡ f)) ⊎ ((d : ℕ) × (turn_after h i ≡ held d))
+  shaped_or h c [] i t f so = inl (refl, refl)
+  shaped_or h c (x ∷ xs) i t f so = dite (ℕ_discrete i x.node) (λ e. inr (c, ap (turn_after h) e ∙ All-head (λ (y : Change). turn_after h y.node ≡ held c) x xs so))
+      (λ ne. ⊎_elim (λ a. inl (cond_else i x.node (new_state x.state) (shaped xs i t) ne ∙ a.0, cond_else i x.node (new_frame x.state f) (reframed xs i f) ne ∙ a.1)) (λ a. inr a) (shaped_or h c xs i t f (All-tail (λ (y : Change). turn_after h y.node ≡ held c) x xs so)))
+
+  pub forms_ok : (n id : ℕ) (me : Seated N) (c : ℕ) (xs : List Change) (e : Event) → e ≡ Shape c xs → me.0.callers ≡ c ∷ [] → c < 2 ^ 32 → May sort begins asks n c me.0.seen (Shape c xs) → Allows Rule n id me 1 (λ x. (x + 1) % 2 ^ 64) (λ _ m. formed sort begins asks shows (step n 1 1 0 none) e me m)
+  forms_ok n id me c xs said_ said mine small may = subst (λ (z : Event). Allows Rule n id me 1 (λ x. (x + 1) % 2 ^ 64) (λ _ m. formed sort begins asks shows (step n 1 1 0 none) z me m)) (sym said) (λ s r long at _.
+      let h : List Event = r.trace in let e : Event = Shape c xs in let so = now n s r id me.0 c e long at mine may in
+      let count : get_or s.words 1 0 ≡ shapes_in h % 2 ^ 64 = r.shape_count in let wide = r.wide in let x : ℕ = get_or s.words 1 0 in (
+        with_seen me.0 (e ∷ h),
+        keeps,
+        tt,
+        counts_at sort begins asks shows s r id me.0 e 1 ((x + 1) % 2 ^ 64) at (has_one me.0.callers c mine) small (omega arith) so (λ j. refl) (λ j. shaped_or h c xs j (graph_after h j) (frame_after (blank_of sort) h j) so.0)
+            (get_or-set_other s.words 1 0 ((x + 1) % 2 ^ 64) 0 (λ z. omega arith) ∙ r.call_count) (get_or-set_same s.words 1 ((x + 1) % 2 ^ 64) 0 (omega arith) ∙ one_more (shapes_in h) (shapes_in (e ∷ h)) x refl count),
+        (makes_one n s r id me.0 e long at so, refl),
+      ))

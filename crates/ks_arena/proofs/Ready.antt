@@ -1,0 +1,72 @@
+-- A call that is ready stays so while others act.
+use Rattle.std.proofs.Common.{◌≡◌, ◌≢◌, ℕ, List, [], ◌∷◌, ◌++◌, sym, refl, ap, ◌∙◌, subst}
+use Rattle.std.specs.Prelude.{Option, Some, None}
+use Rattle.ks_keysets.specs.declared.Frame.{Frame}
+use Rattle.ks_keysets.specs.declared.NodeState.{NodeState}
+use Rattle.ks_keysets.specs.declared.Change.{Change}
+use Rattle.ks_keysets.specs.Layout.{Layout}
+use Rattle.ks_keysets.specs.Keyset.{live_record, record_at, value_in, value_at, InKeyset, Good, opening}
+use Rattle.ks_history.specs.declared.Op.{Op}
+use Rattle.ks_history.specs.declared.Op.TheVariants.{Get, Put, Del, Add, Swap}
+use Rattle.ks_history.specs.declared.Reply.{Reply}
+use Rattle.ks_history.specs.declared.Reply.TheVariants.{Nothing, Value, Full}
+use Rattle.ks_history.specs.declared.Event.{Event}
+use Rattle.ks_history.specs.declared.Event.TheVariants.{Take, Give, Claim, Shape, Call}
+use Rattle.ks_history.specs.Map.{IsAnswer}
+use Rattle.ks_history.specs.Trace.{held, graph_after, turn_after}
+use Rattle.ks_history.specs.Lawful.{Meets}
+use Rattle.ks_history.specs.Due.{IsFullFor, FindsNoRoom, FullDue, IsDue, last_call}
+use Rattle.ks_history.specs.Passes.{NoneBy, GrowsByOthers}
+use Rattle.ks_history.specs.Stays.{StaysHeld, cond_else}
+use Rattle.ks_history.specs.Begins.{by_others_begins, by_others_keeps, begins_both}
+use Rattle.ks_flow.specs.Discipline.{IsDiscipline}
+use Rattle.ks_arena.specs.Sound.{Sort, Sound, StepsSoundly}
+use Rattle.ks_arena.specs.FromSound.{fine, unshaped}
+use Rattle.ks_arena.proofs.Moves.{May}
+
+last_kept : (c : ℕ) (rest h : List Event) → NoneBy c rest → last_call c (rest ++ h) ≡ last_call c h
+last_kept c [] h none = refl
+last_kept c (Take d i ∷ rest) h none = last_kept c rest h none.1
+last_kept c (Give d i ∷ rest) h none = last_kept c rest h none.1
+last_kept c (Claim d i ∷ rest) h none = last_kept c rest h none.1
+last_kept c (Shape d xs ∷ rest) h none = last_kept c rest h none.1
+last_kept c (Call d i op reply ∷ rest) h none = cond_else d c (Call d i op reply ∷ (rest ++ h)) (last_call c (rest ++ h)) none.0 ∙ last_kept c rest h none.1
+
+full_kept : (layout : Layout) (g k : ℕ → NodeState) (i p : ℕ) → k i ≡ g i → IsFullFor layout g i p → IsFullFor layout k i p
+full_kept layout g k i p same so = record { node = so.node; is = ap live_record same ∙ so.is; filled = so.filled; absent = so.absent }
+
+room_kept : (layout : Layout) (g k : ℕ → NodeState) (c i : ℕ) (op : Op) → k i ≡ g i → FindsNoRoom layout g (Call c i op Full) → FindsNoRoom layout k (Call c i op Full)
+room_kept layout g k c i (Get p) same so = so
+room_kept layout g k c i (Put p v) same so = full_kept layout g k i p same so
+room_kept layout g k c i (Del p) same so = so
+room_kept layout g k c i (Add p v) same so = full_kept layout g k i p same so
+room_kept layout g k c i (Swap p old new) same so = so
+
+due_kept : (layout : Layout) (n c i : ℕ) (op : Op) (reply : Reply) (seen h : List Event) → GrowsByOthers c seen h → graph_after h i ≡ graph_after seen i → IsDue layout n seen (Call c i op reply) → IsDue layout n h (Call c i op reply)
+due_kept layout n c i op Nothing seen h grows same so = so
+due_kept layout n c i op (Value v) seen h grows same so = so
+due_kept layout n c i op Full seen h grows same so = let last : last_call c seen ≡ last_call c h = sym (ap (last_call c) grows.is ∙ last_kept c grows.rest seen grows.others) in
+    subst (λ (z : List Event). FullDue layout n z h (Call c i op Full)) last record {
+      no_room = room_kept layout (graph_after seen) (graph_after h) c i op same so.no_room;
+      from = so.from;
+      to = so.to;
+      since = so.since;
+      ordered = so.ordered;
+      before = begins_both so.to seen h so.before (by_others_begins c seen h grows);
+      waits = so.waits;
+      holds = so.holds;
+      taken = so.taken;
+    }
+
+module _ (sort : Sort) {begins : Frame → Type 0} {facts : (ℕ → NodeState) → (ℕ → Frame) → Type 0} {asks : (ℕ → NodeState) → (ℕ → Frame) → List Change → Type 0} {lasts : (ℕ → NodeState) → (ℕ → Frame) → (ℕ → NodeState) → (ℕ → Frame) → Type 0} {beside : ℕ → (ℕ → NodeState) → (ℕ → NodeState) → Type 0}
+    (laws : IsDiscipline begins facts asks lasts beside) (good_opening : Good opening) (nodes : ℕ) where
+  -- a lawful and due call may be made whatever others do before it
+  pub may_call : (c i : ℕ) (op : Op) (reply : Reply) (seen : List Event) → Meets seen (Call c i op reply) → IsDue sort.layout nodes seen (Call c i op reply) → May sort begins asks nodes c seen (Call c i op reply)
+  may_call c i op reply seen meets due h grows so = let stays : StaysHeld c i seen h = by_others_keeps c i seen h grows (fine sort laws good_opening nodes h so).turns meets.0 in let keys = (unshaped sort laws good_opening nodes c i seen h grows stays.turn so).keyset in (
+    (
+      stays.turn,
+      (λ p t. keys.forth p (meets.1 p t)),
+      subst (λ (z : NodeState). IsAnswer (λ p. value_in (live_record z) p) op reply) (sym stays.state) meets.2,
+    ),
+    due_kept sort.layout nodes c i op reply seen h grows stays.state due,
+  )

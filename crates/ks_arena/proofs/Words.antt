@@ -1,0 +1,51 @@
+-- Turn words, and the turns of a sound trace.
+use Rattle.std.proofs.Common.{◌≡◌, ◌≢◌, ℕ, ◌+◌, ◌-◌, ◌<◌, List, [], ◌∷◌, refl, sym, ap, ◌∙◌, arith}
+use mathlib.Core.Logic.{dite}
+use native.Mathlib.Decide.{ℕ_discrete}
+use Rattle.ks_keysets.specs.declared.Frame.{Frame}
+use Rattle.ks_keysets.specs.declared.NodeState.{NodeState}
+use Rattle.ks_keysets.specs.declared.Change.{Change}
+use Rattle.ks_history.specs.declared.Event.{Event}
+use Rattle.ks_history.specs.declared.Event.TheVariants.{Take, Give, Claim, Shape, Call}
+use Rattle.ks_history.specs.Trace.{Turn, free, idle, held, turn_after, caller_of}
+use Rattle.ks_history.specs.Stays.{IsInTurn, AreInTurn, cond_here, cond_else, other_turn}
+use Rattle.ks_history.specs.Passes.{CallersBelow}
+use Rattle.ks_arena.specs.Sound.{Sort, Sound, StepsSoundly}
+use Rattle.ks_arena.specs.Rule.{turn_word}
+
+pub word_idle : (t : Turn) → turn_word t ≡ 1 → t ≡ idle
+word_idle free e = absurd (omega arith)
+word_idle idle e = refl
+word_idle (held c) e = absurd (omega arith)
+
+pub word_free : (t : Turn) → turn_word t ≡ 0 → t ≡ free
+word_free free e = refl
+word_free idle e = absurd (omega arith)
+word_free (held c) e = absurd (omega arith)
+
+pub word_other : (t : Turn) (r : ℕ) → r ≡ turn_word t → r ≢ 1 → r ≢ 0 → t ≡ held (r - 2)
+word_other free r e a b = absurd (b e)
+word_other idle r e a b = absurd (a e)
+word_other (held d) r e a b = let s : d ≡ r - 2 = omega arith in ap held s
+
+pub word_below : (n : ℕ) (t : Turn) (r : ℕ) → r ≡ turn_word t → ((c : ℕ) → t ≡ held c → c < n) → r < n + 2
+word_below n free r e low = omega arith
+word_below n idle r e low = omega arith
+word_below n (held c) r e low = let l : c < n = low c refl in omega arith
+
+-- who holds a node has an event
+pub held_below : (n : ℕ) (h : List Event) (i c : ℕ) → CallersBelow n h → turn_after h i ≡ held c → c < n
+held_below n [] i c low now = dite (ℕ_discrete i 0) (λ z. let e : idle ≡ held c = sym (cond_here i 0 idle free z) ∙ now in (cc)) (λ z. let e : free ≡ held c = sym (cond_else i 0 idle free z) ∙ now in (cc))
+held_below n (e ∷ h) i c low now = dite (ℕ_discrete (caller_of e) c) (λ z. let x = low.0 in omega arith) (λ z. held_below n h i c low.1 (other_turn h e c i z now))
+
+module _ (sort : Sort) (begins : Frame → Type 0) (asks : (ℕ → NodeState) → (ℕ → Frame) → List Change → Type 0) (nodes : ℕ) where
+  pub is_in_turn : (h : List Event) (e : Event) → StepsSoundly sort begins asks nodes h e → IsInTurn h e
+  is_in_turn h (Take c j) so = so
+  is_in_turn h (Give c j) so = so
+  is_in_turn h (Claim c j) so = so
+  is_in_turn h (Shape c xs) so = so.0
+  is_in_turn h (Call c j o y) so = so.0.0
+
+  pub are_in_turn : (h : List Event) → Sound sort begins asks nodes h → AreInTurn h
+  are_in_turn [] so = tt
+  are_in_turn (e ∷ h) so = (are_in_turn h so.0, is_in_turn h e so.1)

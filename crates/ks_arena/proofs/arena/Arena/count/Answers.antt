@@ -1,0 +1,62 @@
+use Rattle.std.proofs.Common.{rules, refl, sym, ap, ◌∙◌, subst, ◌≡◌, ◌++◌, ℕ, List, arith}
+use mathlib.Core.Option.{none}
+use Rattle.atomic_table.specs.Table.{step}
+use Rattle.ks_keysets.specs.declared.NodeState.{NodeState}
+use Rattle.ks_history.specs.declared.Event.{Event}
+use Rattle.ks_history.specs.declared.Event.TheVariants.{Call}
+use Rattle.ks_history.specs.Trace.{graph_after, frame_after, turn_after, state_with, held}
+use Rattle.ks_history.specs.Write.{written}
+use Rattle.ks_history.specs.Due.{IsDue}
+use Rattle.ks_history.specs.Stays.{StaysHeld, cond_here, cond_else}
+use Rattle.ks_arena.specs.Sound.{sort_of, blank_of}
+use Rattle.ks_arena.specs.Clauses.{Matches}
+use Rattle.ks_arena.specs.Plays.{decided}
+use Rattle.ks_arena.proofs.Moves.{decides_ok}
+use Rattle.ks_arena.proofs.Ready.{may_call}
+use Rattle.ks_arena.proofs.Hold.{holds_it, makes_grows}
+use Rattle.ks_arena.proofs.After.{matches_live, pass_again, Counted, counted, stays_then}
+use Rattle.ks_arena.proofs.arena.Arena.count.Given.{Over}
+use Rattle.ks_arena.proofs.arena.Arena.count.Goals as goal
+use Rattle.ks_arena.proofs.arena.Arena.count.Goals.{After-fetch_add}
+
+pub fetch_add-requires : goal.fetch_add-requires
+fetch_add-requires g c = let p = c.args.pass.now in let r = c.requires.pass in let n : ℕ = c.args.self.now.table.shared.table_id.slots in
+    let same : c.args.self.now.nodes ≡ n = omega arith in (
+      r.table,
+      omega arith,
+      decides_ok (sort_of g.N.Node.layout g.N.Node.ranged) g.D.Discipline.begins g.D.Discipline.step g.N.Node.body n _ p.seat.me p.caller c.args.held.now.node c.args.op c.args.reply _ c.requires.said r.own r.few (holds_it _ _ _ _ _ r.carries r.slots c.requires.holds)
+          (may_call (sort_of g.N.Node.layout g.N.Node.ranged) c.laws.ensures c.walks_law.ensures.opening n p.caller c.args.held.now.node c.args.op c.args.reply p.seat.me.0.seen c.requires.ready.meets (subst (λ (z : ℕ). IsDue g.N.Node.layout z p.seat.me.0.seen (Call p.caller c.args.held.now.node c.args.op c.args.reply)) same c.requires.ready.due)),
+    )
+
+abbrev event : (g : Over) (c : After-fetch_add g) → Event
+event g c = Call c.args.pass.now.caller c.args.held.now.node c.args.op c.args.reply
+
+told : (g : Over) (c : After-fetch_add g) → decided (sort_of g.N.Node.layout g.N.Node.ranged) g.D.Discipline.begins g.D.Discipline.step g.N.Node.body (step c.args.self.now.table.shared.table_id.slots 0 1 0 none) (event g c) c.args.pass.now.seat.me c.fetch_add.result c.fetch_add.new.seat.me
+told g c = subst (λ (z : Event). decided (sort_of g.N.Node.layout g.N.Node.ranged) g.D.Discipline.begins g.D.Discipline.step g.N.Node.body (step c.args.self.now.table.shared.table_id.slots 0 1 0 none) z c.args.pass.now.seat.me c.fetch_add.result c.fetch_add.new.seat.me) c.requires.said c.fetch_add.ensures.2
+
+after : (g : Over) (c : After-fetch_add g) → Counted (sort_of g.N.Node.layout g.N.Node.ranged) g.D.Discipline.begins g.D.Discipline.step c.args.self.now.table.shared.table_id.slots c.args.pass.now.caller (event g c) c.args.pass.now.seat.me c.fetch_add.new.seat.me
+after g c = let r = c.requires.pass in counted (sort_of g.N.Node.layout g.N.Node.ranged) g.D.Discipline.begins g.D.Discipline.step _ c.args.pass.now.caller (event g c) c.args.pass.now.seat.me c.fetch_add.new.seat.me refl (λ h j. refl) (λ h. refl) r.own r.carries r.slots (told g c).1 (told g c).0
+
+pub returns-clause-pass : goal.returns-clause-pass
+returns-clause-pass g c = let a = after g c in pass_again (sort_of g.N.Node.layout g.N.Node.ranged) g.D.Discipline.begins g.D.Discipline.step _ _ c.args.pass.now _ c.fetch_add.new.seat.me c.requires.pass refl c.fetch_add.ensures.0 refl a.follows a.carries a.slots a.sounds
+
+pub returns-clause-hand : goal.returns-clause-hand
+returns-clause-hand g c = (after g c).hand_is
+
+pub returns-clause-mine : goal.returns-clause-mine
+returns-clause-mine g c = (after g c).mine_is
+
+pub returns-clause-decided : goal.returns-clause-decided
+returns-clause-decided g c = record { grows = makes_grows _ _ _ _ c.args.pass.now.caller c.requires.pass.own (told g c).0; number = (told g c).2 }
+
+pub returns-clause-body : goal.returns-clause-body
+returns-clause-body g c = let a = after g c in let i : ℕ = c.args.held.now.node in let h : List Event = a.grows.rest ++ c.args.pass.now.seat.me.0.seen in let o = c.args.op in let y = c.args.reply in let r = c.requires.pass in
+    let k = a.before i (holds_it _ _ _ _ _ r.carries r.slots c.requires.holds) in
+    subst (λ (z : List Event). Matches (sort_of g.N.Node.layout g.N.Node.ranged) g.N.Node.body z c.args.held.now) (sym a.grows.is) record {
+      is = matches_live (sort_of g.N.Node.layout g.N.Node.ranged) g.N.Node.body c.args.held.now.live _ _ c.args.held.now.body c.requires.ready.live
+          (cond_here i i (state_with (written o y) (graph_after h i)) (graph_after h i) refl ∙ ap (state_with (written o y)) k.state ∙ c.requires.ready.state) (k.frame (blank_of (sort_of g.N.Node.layout g.N.Node.ranged)) ∙ c.requires.ready.frame);
+    }
+
+pub returns-clause-kept : goal.returns-clause-kept
+returns-clause-kept g c = λ j ne x. let a = after g c in let i : ℕ = c.args.held.now.node in let h : List Event = a.grows.rest ++ c.args.pass.now.seat.me.0.seen in let k = a.before j x in
+    subst (StaysHeld c.args.pass.now.caller j c.args.pass.now.seat.me.0.seen) (sym a.grows.is) (stays_then c.args.pass.now.caller (event g c) c.args.pass.now.seat.me.0.seen h j k k.turn (cond_else j i (state_with (written c.args.op c.args.reply) (graph_after h i)) (graph_after h j) ne) (λ blank. refl))

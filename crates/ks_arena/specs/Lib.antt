@@ -1,0 +1,5 @@
+pub mod Sound
+pub mod Rule
+pub mod Plays
+pub mod Clauses
+pub mod FromSound

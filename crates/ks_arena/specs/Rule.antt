@@ -1,0 +1,129 @@
+-- The running rule: what holds of the words, the bodies at home and the views between any two steps.
+use Rattle.std.specs.Prelude.{ℕ, ◌≡◌, ◌≢◌, ◌+◌, ◌%◌, ◌^◌, ◌<◌, ◌⊎◌, max, List, [], ◌∷◌, ◌++◌, length, slice_index, Option, Some}
+use mathlib.Core.Option.{none, some}
+use mathlib.Core.Option as maybe
+use lib.ListN.{get_elem?}
+use Rattle.atomic_table.specs.Table.{State}
+use Rattle.ks_keysets.specs.declared.Frame.{Frame}
+use Rattle.ks_keysets.specs.declared.NodeState.{NodeState}
+use Rattle.ks_keysets.specs.declared.NodeState.TheVariants.{Live}
+use Rattle.ks_keysets.specs.declared.Change.{Change}
+use Rattle.ks_history.specs.declared.Event.{Event}
+use Rattle.ks_history.specs.Trace.{Turn, free, idle, held, graph_after, turn_after, frame_after, number_after, shapes_in}
+use Rattle.ks_history.specs.Passes.{Has, NoneOf, CallersBelow}
+use Rattle.ks_arena.specs.declared.view.Mark.{Mark}
+use Rattle.ks_arena.specs.declared.view.Mark.TheVariants.{Quiet}
+use Rattle.ks_arena.specs.declared.view.Part.{Part}
+use Rattle.ks_arena.specs.declared.view.View.{View}
+use Rattle.ks_node.specs.Body.{Body, frame_of, blank_body}
+use Rattle.ks_node.specs.Edges.{record_of}
+use Rattle.ks_arena.specs.Sound.{Sort, blank_of, Sound}
+
+-- h begins with what a seat had seen, and goes on by events of others than its callers
+pub record Fits (h : List Event) (callers : List ℕ) (seen : List Event) : Type 0 where
+  pub rest : List Event
+  pub is : h ≡ rest ++ seen
+  pub others : NoneOf callers rest
+
+abbrev pub FitsAll : List Event → List Part → Type 0
+FitsAll h [] = Unit {0}
+FitsAll h (p ∷ ps) = Fits h p.callers p.seen × FitsAll h ps
+
+-- the callers of the parts, and of a view with its parts
+abbrev pub callers_in : List Part → List ℕ
+callers_in [] = []
+callers_in (p ∷ ps) = p.callers ++ callers_in ps
+
+abbrev pub all_callers : View → List ℕ
+all_callers v = v.callers ++ callers_in v.absorbed
+
+-- one of the parts has seen all
+abbrev pub SomeWhole : List Event → List Part → Type 0
+SomeWhole h [] = ⊥
+SomeWhole h (p ∷ ps) = (p.seen ≡ h) ⊎ SomeWhole h ps
+
+abbrev pub IsWhole : List Event → View → Type 0
+IsWhole h v = (v.seen ≡ h) ⊎ SomeWhole h v.absorbed
+
+abbrev pub AllBelow : ℕ → List ℕ → Type 0
+AllBelow n cs = (c : ℕ) → Has cs c → c < n
+
+-- the first sentence: h is what the views have seen together, each has all events of its own callers, no caller has two
+-- views, and one view counts the passes
+pub record Views (h : List Event) (vs : List View) : Type 0 where
+  pub each : (j : ℕ) (v : View) → get_elem? vs j ≡ some v → Fits h v.callers v.seen
+  pub parts : (j : ℕ) (v : View) → get_elem? vs j ≡ some v → FitsAll h v.absorbed
+  pub longest : (j : ℕ) × (v : View) × (get_elem? vs j ≡ some v) × IsWhole h v
+  pub apart : (j k c : ℕ) (v w : View) → get_elem? vs j ≡ some v → get_elem? vs k ≡ some w → Has (all_callers v) c → Has (all_callers w) c → j ≡ k
+  pub maker : (j k : ℕ) (v w : View) → get_elem? vs j ≡ some v → get_elem? vs k ≡ some w → v.made ≢ 0 → AllBelow v.made (all_callers w) × (w.made ≢ 0 → j ≡ k)
+  pub known : (j : ℕ) (v : View) → get_elem? vs j ≡ some v → v.made ≢ 0 → CallersBelow v.made h
+
+-- the word of a turn
+abbrev pub turn_word : Turn → ℕ
+turn_word free = 0
+turn_word idle = 1
+turn_word (held c) = c + 2
+
+module _ {N : Type 0} (sort : Sort) (shows : N → Body) where
+  -- what a slot has while the turn of its node, with this state and frame, is free, idle or held
+  abbrev pub Rests : NodeState → Frame → Turn → maybe.Option (maybe.Option (Option N)) → Type 0
+  Rests s f free x = (b : N) × (x ≡ some (some (Some b))) × (shows b ≡ blank_body sort.ranged)
+  Rests s f idle x = (b : N) × (x ≡ some (some (Some b))) × (s ≡ Live (record_of (shows b))) × (f ≡ frame_of (shows b))
+  Rests s f (held c) x = x ≡ some none
+
+-- the rule
+module _ {N : Type 0} (sort : Sort) (begins : Frame → Type 0) (asks : (ℕ → NodeState) → (ℕ → Frame) → List Change → Type 0) (shows : N → Body) where
+  pub record Running (s : State (Option N) View) : Type 0 where
+    pub trace : List Event
+    pub views : Views trace s.views
+    pub sound : Sound sort begins asks (length s.homes) trace
+    pub few : CallersBelow (2 ^ 32) trace
+    -- the words of the counts and of the turns
+    pub wide : length s.words ≡ length s.homes + 2
+    pub call_count : slice_index s.words 0 ≡ number_after trace
+    pub shape_count : slice_index s.words 1 ≡ shapes_in trace % 2 ^ 64
+    pub turns : (i : ℕ) → i < length s.homes → slice_index s.words (i + 2) ≡ turn_word (turn_after trace i)
+    -- the bodies at home
+    pub homes : (i : ℕ) → i < length s.homes → Rests sort shows (graph_after trace i) (frame_after (blank_of sort) trace i) (turn_after trace i) (get_elem? s.homes i)
+
+-- the view of the first pass
+abbrev pub first_view : View
+first_view = record { callers = 0 ∷ []; seen = []; absorbed = []; made = 1; mark = Quiet }
+
+-- the view of the next pass, and the maker's after it
+abbrev pub next_view : View → View
+next_view v = record { callers = v.made ∷ []; seen = v.seen; absorbed = []; made = 0; mark = Quiet }
+
+abbrev pub maker_view : View → View
+maker_view v = record { callers = v.callers; seen = v.seen; absorbed = v.absorbed; made = v.made + 1; mark = v.mark }
+
+-- a view of what v has seen, which stands for no caller
+abbrev pub note_view : View → View
+note_view v = record { callers = []; seen = v.seen; absorbed = []; made = 0; mark = Quiet }
+
+-- a view that takes another in, and what is left of that
+abbrev pub part_of : View → Part
+part_of v = record { callers = v.callers; seen = v.seen }
+
+abbrev pub both_views : View → View → View
+both_views v w = record { callers = v.callers; seen = v.seen; absorbed = v.absorbed ++ (part_of w ∷ w.absorbed); made = max v.made w.made; mark = v.mark }
+
+abbrev pub spent_view : View
+spent_view = record { callers = []; seen = []; absorbed = []; made = 0; mark = Quiet }
+
+module _ {N : Type 0} (sort : Sort) (shows : N → Body) where
+  -- what the slot of a node has once nobody holds it
+  abbrev pub Ends : NodeState → Frame → Turn → maybe.Option (Option N) → Type 0
+  Ends s f free x = (b : N) × (x ≡ some (Some b)) × (shows b ≡ blank_body sort.ranged)
+  Ends s f idle x = (b : N) × (x ≡ some (Some b)) × (s ≡ Live (record_of (shows b))) × (f ≡ frame_of (shows b))
+  Ends s f (held c) x = ⊥
+
+  abbrev pub AllBlank : List (Option N) → Type 0
+  AllBlank xs = (i : ℕ) → i < length xs → (b : N) × (get_elem? xs i ≡ some (Some b)) × (shows b ≡ blank_body sort.ranged)
+
+module _ {N : Type 0} (sort : Sort) (begins : Frame → Type 0) (asks : (ℕ → NodeState) → (ℕ → Frame) → List Change → Type 0) (shows : N → Body) where
+  -- the words and slots of a table that nobody uses any more, whose trace is h
+  pub record Closes (h : List Event) (ws : List ℕ) (xs : List (Option N)) : Type 0 where
+    pub sound : Sound sort begins asks (length xs) h
+    pub count : slice_index ws 0 ≡ number_after h
+    pub ends : (i : ℕ) → i < length xs → Ends sort shows (graph_after h i) (frame_after (blank_of sort) h i) (turn_after h i) (get_elem? xs i)

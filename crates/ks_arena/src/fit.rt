@@ -1,0 +1,20 @@
+//! An arena may be shared by threads, and passes and held nodes may go to another.
+use crate::arena::Arena;
+use crate::held::{Held, Pass};
+use ks_flow::Discipline;
+use ks_node::Node;
+
+fn is_sync<T: Sync>(_x: &T) {}
+
+fn is_send<T: Send>(_x: &T) {}
+
+pub fn fits_threads<N: Node, D: Discipline>(
+    arena: &Arena<N, D>,
+    pass: &Pass<N, D>,
+    held: &Held<N>,
+) {
+    is_sync(arena);
+    is_send(arena);
+    is_send(pass);
+    is_send(held);
+}

@@ -1,0 +1,35 @@
+//! What a caller has in its hand.
+use crate::view::View;
+use atomic_table::Seat;
+use std::marker::PhantomData;
+
+/// What one caller steps with.
+#[derive(Drop)]
+pub struct Pass<N, D> {
+    pub(crate) seat: Seat<Option<N>, View>,
+    pub(crate) caller: u32,
+    pub(crate) marker: PhantomData<D>,
+}
+
+/// What a pass had seen of the run when the note was made.
+#[derive(Drop)]
+pub struct Note<N, D> {
+    pub(crate) seat: Seat<Option<N>, View>,
+    pub(crate) marker: PhantomData<D>,
+}
+
+/// A node in the hand of its holder. A node that is not live becomes free when it is given back.
+pub struct Held<N> {
+    pub node: u32,
+    pub body: N,
+    pub live: bool,
+}
+
+/// What a try to take a node gives.
+pub enum Taken<N> {
+    Held(Held<N>),
+    /// Another caller holds it.
+    Busy { holder: u32 },
+    /// It is free.
+    Gone,
+}

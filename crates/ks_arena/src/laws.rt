@@ -1,0 +1,30 @@
+//! What follows from sound traces. The function computes nothing: its contract is a law.
+ghost use Rattle.std.specs.Prelude.{◌≡◌, ℕ, List};
+ghost use Rattle.ks_keysets.specs.Layout.{Layout};
+ghost use Rattle.ks_history.specs.declared.Event.{Event as Happening};
+ghost use Rattle.ks_history.specs.Trace.{◌⊑◌, held, graph_after, turn_after, frame_after};
+ghost use Rattle.ks_history.specs.Lawful.{Lawful, GoodThroughout};
+ghost use Rattle.ks_history.specs.Due.{FullsDue};
+ghost use Rattle.ks_history.specs.Passes.{GrowsByOthers};
+ghost use Rattle.ks_flow.specs.Discipline.{SameKeyset};
+ghost use Rattle.ks_arena.specs.Sound.{Sort, blank_of, Sound};
+
+use ks_flow::Discipline;
+use ks_flow::laws::walks_law;
+
+/// A sound trace is lawful and its graph is good throughout; at each beginning it has the facts of the discipline, and
+/// each Full was due. What lasts under the discipline lasts from each beginning on. While others act, a node that a
+/// caller holds keeps its keyset, and what the discipline keeps at a node that no Shape names.
+pub fn sound_law<D: Discipline>()
+    ensures lawful { (sort : Sort) (nodes : ℕ) (h : List Happening) → Sound sort D.begins D.step nodes h → Lawful h }
+    ensures good { (sort : Sort) (nodes : ℕ) (h : List Happening) → Sound sort D.begins D.step nodes h → GoodThroughout h }
+    ensures facts { (sort : Sort) (nodes : ℕ) (h : List Happening) → Sound sort D.begins D.step nodes h → D.facts (graph_after h) (frame_after (blank_of sort) h) }
+    ensures begins { (sort : Sort) (nodes : ℕ) (k h : List Happening) → k ⊑ h → Sound sort D.begins D.step nodes h → Sound sort D.begins D.step nodes k }
+    ensures due { (sort : Sort) (nodes : ℕ) (h : List Happening) → Sound sort D.begins D.step nodes h → FullsDue sort.layout nodes h }
+    ensures lasts { (sort : Sort) (nodes : ℕ) (k h : List Happening) → k ⊑ h → Sound sort D.begins D.step nodes h → D.lasts (graph_after k) (frame_after (blank_of sort) k) (graph_after h) (frame_after (blank_of sort) h) }
+    ensures keyset { (sort : Sort) (nodes c i : ℕ) (k h : List Happening) → GrowsByOthers c k h → turn_after h i ≡ held c → Sound sort D.begins D.step nodes h → SameKeyset i (graph_after k) (graph_after h) }
+    ensures beside { (sort : Sort) (nodes c i : ℕ) (k h : List Happening) → GrowsByOthers c k h → turn_after h i ≡ held c → Sound sort D.begins D.step nodes h → D.beside i (graph_after k) (graph_after h) }
+{
+    D::laws();
+    walks_law();
+}

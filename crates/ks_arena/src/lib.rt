@@ -1,0 +1,24 @@
+//! Shared memory of nodes: callers take nodes, change them in their hands, and give them back.
+//!
+//! All callers share one table of words and slots. Each step on a word makes one event of the trace of the run, or
+//! none. A rule over words, slots and what each caller has seen holds between any two steps (`specs/Rule.antt`), and
+//! from it follows what a call tells its caller (`specs/Clauses.antt`).
+#![tactic(auto)]
+
+mod arena;
+mod claim;
+mod fit;
+mod held;
+pub mod laws;
+mod life;
+mod note;
+mod plays;
+mod rule;
+mod view;
+
+pub use arena::Arena;
+pub use fit::fits_threads;
+pub use held::{Held, Note, Pass, Taken};
+pub use life::Run;
+pub use rule::Rule;
+pub use view::{Mark, Part, View};

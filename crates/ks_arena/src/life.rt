@@ -1,0 +1,124 @@
+//! How an arena is made, and how it ends.
+ghost use Rattle.std.specs.Prelude.{◌≡◌, ◌≤◌, ℕ, ◌+◌, ◌<◌, ◌^◌, [], ◌∷◌, cond, eqb, length, slice_index, IfOk};
+ghost use Rattle.std.specs.Slots.{slots_items};
+ghost use Rattle.ks_arena.specs.declared.view.View.{View as Seen};
+ghost use Rattle.ks_arena.specs.Sound.{sort_of, blank_of};
+ghost use Rattle.ks_arena.specs.Rule.{AllBlank, Closes, first_view};
+ghost use Rattle.ks_arena.specs.Clauses.{IsNewCrew, IsCrew, EndsAll};
+
+use crate::arena::Arena;
+use crate::held::Pass;
+use crate::plays::{Gathers, Next, TakeIn, Tell};
+use crate::rule::Rule;
+use crate::view::View;
+use atomic_table::{Badge, Closed, Seat, Shared, Table};
+use ks_flow::Discipline;
+use ks_node::Node;
+use std::alloc::{AllocError, Global};
+use std::marker::PhantomData;
+
+/// What is left of an arena: the words and bodies, and the trace.
+pub struct Run<N> {
+    pub(crate) closed: Closed<Option<N>, Global>,
+    pub(crate) trace: Badge<View>,
+}
+
+fn first_words(alloc: Global, nodes: usize) -> Result<Vec<u64>, AllocError>
+    requires { (0 < nodes) × (nodes < 2 ^ 32) }
+    ensures long { IfOk result (λ v. length v.items ≡ nodes + 2) }
+    ensures counts { IfOk result (λ v. (slice_index v.items 0 ≡ 0) × (slice_index v.items 1 ≡ 0)) }
+    ensures turns { IfOk result (λ v. (i : ℕ) → i < nodes → slice_index v.items (i + 2) ≡ cond (eqb i 0) 1 0) }
+{
+    let mut words = Vec::from_elem(alloc, 0u64, nodes + 2)?;
+    let row = words.as_mut_slice();
+    row[2] = 1;
+    Ok(words)
+}
+
+fn blanks<N: Node>(alloc: Global, nodes: usize) -> Result<Vec<Option<N>>, AllocError>
+    ensures { IfOk result (λ v. (length v.items ≡ nodes) × AllBlank (sort_of N.layout N.ranged) N.body v.items) }
+{
+    let mut slots = Vec::with_capacity(alloc, nodes)?;
+    for _i in 0..nodes {
+        slots.push(Some(N::blank(alloc)?))?;
+    }
+    Ok(slots)
+}
+
+fn crew<N: Node, D: Discipline>(
+    alloc: Global,
+    shared: &Shared<Option<N>, View, (), Rule<N, D>>,
+    mut first: Seat<Option<N>, View>,
+    callers: u32,
+) -> Result<Vec<Pass<N, D>>, AllocError>
+    requires seat { (first.table_id ≡ shared.now.table_id) × (first.me ≡ (first_view, [])) × (0 < callers) × (0 < shared.now.table_id.words) }
+    requires fits { D.begins (blank_of (sort_of N.layout N.ranged)) }
+    ensures { IfOk result (λ v. IsNewCrew (sort_of N.layout N.ranged) D.begins D.step shared.now.table_id callers v.items) }
+{
+    let mut passes = Vec::with_capacity(alloc, callers as usize)?;
+    for caller in 1..callers {
+        let seat = shared.split_seat::<Next>(&mut first);
+        passes.push(Pass {
+            seat,
+            caller,
+            marker: PhantomData,
+        })?;
+    }
+    passes.insert(
+        0,
+        Pass {
+            seat: first,
+            caller: 0,
+            marker: PhantomData,
+        },
+    )?;
+    Ok(passes)
+}
+
+impl<N: Node, D: Discipline> Arena<N, D> {
+    /// An arena of so many nodes, of which node 0 is live and the others are free, and a pass for each caller.
+    pub fn start(
+        alloc: Global,
+        nodes: u32,
+        callers: u32,
+    ) -> Result<(Arena<N, D>, Vec<Pass<N, D>>), AllocError>
+        requires nodes { (4 ≤ nodes) × (nodes ≤ 1048576) }
+        requires callers { (1 ≤ callers) × (callers ≤ 1024) }
+        requires fits { D.begins (blank_of (sort_of N.layout N.ranged)) }
+        ensures { IfOk result (λ r. (r.0.nodes ≡ nodes) × (r.0.callers ≡ callers) × IsNewCrew (sort_of N.layout N.ranged) D.begins D.step r.0.table.shared.table_id callers r.1.items) }
+    {
+        let words = first_words(alloc, nodes as usize)?;
+        let slots = blanks::<N>(alloc, nodes as usize)?;
+        let Ok((table, first)) = Table::new(alloc, words.as_slice(), slots, &()) else {
+            return Err(AllocError);
+        };
+        let passes = crew::<N, D>(alloc, &table.shared, first, callers)?;
+        let arena = Arena {
+            table,
+            nodes,
+            callers,
+        };
+        Ok((arena, passes))
+    }
+
+    /// Ends the arena. The passes are all that `start` gave, and hold no node.
+    pub fn close(self, mut passes: Vec<Pass<N, D>>) -> Run<N>
+        requires { IsCrew (sort_of N.layout N.ranged) D.begins D.step self.table.shared.table_id self.callers passes.items }
+        ensures { (w : Seen) × (result.trace.views ≡ w ∷ []) × Closes (sort_of N.layout N.ranged) D.begins D.step N.body w.seen (slots_items result.closed.words) (slots_items result.closed.slots) × EndsAll w.seen passes.items }
+    {
+        let mut base = match passes.pop() {
+            Some(pass) => pass.seat,
+            None => unreachable!(),
+        };
+        let Arena { table, .. } = self;
+        while let Some(pass) = passes.pop() {
+            table.shared.join_seat::<TakeIn>(&mut base, pass.seat);
+        }
+        table.shared.load::<Gathers<D>>(&mut base, 0);
+        let trace = table.shared.split_seat::<Tell>(&mut base).into_badge();
+        Run {
+            closed: table.close_with(base),
+            trace,
+        }
+    }
+}

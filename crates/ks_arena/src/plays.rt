@@ -1,0 +1,105 @@
+//! What each step tells. These types are for the proofs alone.
+ghost use Rattle.std.specs.Prelude.{ℕ, [], ◌∷◌, ◌+◌};
+ghost use Rattle.ks_history.specs.declared.Event.TheVariants.{Take};
+ghost use Rattle.ks_history.specs.declared.Event.{Event as Happening};
+ghost use Rattle.ks_arena.specs.Rule.{maker_view, next_view, both_views, spent_view, note_view};
+ghost use Rattle.ks_arena.specs.Sound.{sort_of};
+ghost use Rattle.ks_arena.specs.Plays.{took, claimed, gave, brought, decided, gathered, formed};
+
+use crate::view::View;
+use atomic_table::{Join, Play, Split};
+use ks_flow::Discipline;
+use ks_node::Node;
+use std::marker::{Brand, PhantomData};
+
+pub(crate) struct Takes<D> {
+    marker: PhantomData<D>,
+}
+
+impl<N: Node, D: Discipline> Play<Option<N>, View> for Takes<D> {
+    ghost then = { took (sort_of N.layout N.ranged) D.begins D.step N.body };
+}
+
+pub(crate) struct Claims<D> {
+    marker: PhantomData<D>,
+}
+
+impl<N: Node, D: Discipline> Play<Option<N>, View> for Claims<D> {
+    ghost then = { claimed (sort_of N.layout N.ranged) D.begins D.step N.body };
+}
+
+pub(crate) struct Gives<D> {
+    marker: PhantomData<D>,
+}
+
+impl<N: Node, D: Discipline> Play<Option<N>, View> for Gives<D> {
+    ghost then = { gave (sort_of N.layout N.ranged) D.begins D.step N.body };
+}
+
+pub(crate) struct Brings<D> {
+    marker: PhantomData<D>,
+}
+
+impl<N: Node, D: Discipline> Play<Option<N>, View> for Brings<D> {
+    ghost then = { brought (sort_of N.layout N.ranged) D.begins D.step N.body };
+}
+
+/// The event that a step makes, for the proof alone. A call at `Brand` picks it.
+pub(crate) trait Said {
+    ghost event: { Happening };
+}
+
+impl Said for Brand {
+    ghost event = { Take 0 0 };
+}
+
+pub(crate) struct Decides<D, W> {
+    marker: PhantomData<(D, W)>,
+}
+
+impl<N: Node, D: Discipline, W: Said> Play<Option<N>, View> for Decides<D, W> {
+    ghost then = { λ st. decided (sort_of N.layout N.ranged) D.begins D.step N.body st W.event };
+}
+
+pub(crate) struct Forms<D, W> {
+    marker: PhantomData<(D, W)>,
+}
+
+impl<N: Node, D: Discipline, W: Said> Play<Option<N>, View> for Forms<D, W> {
+    ghost then = { λ st m r n. formed (sort_of N.layout N.ranged) D.begins D.step N.body st W.event m n };
+}
+
+pub(crate) struct Gathers<D> {
+    marker: PhantomData<D>,
+}
+
+impl<N: Node, D: Discipline> Play<Option<N>, View> for Gathers<D> {
+    ghost then = { λ st m r n. gathered (sort_of N.layout N.ranged) D.begins D.step N.body st m n };
+}
+
+/// A pass is made.
+pub(crate) struct Next;
+
+impl Split<View> for Next {
+    ghost left = { maker_view };
+
+    ghost right = { next_view };
+}
+
+/// A seat takes another in.
+pub(crate) struct TakeIn;
+
+impl Join<View> for TakeIn {
+    ghost both = { both_views };
+
+    ghost spent = { spent_view };
+}
+
+/// What a seat has seen goes to a new seat.
+pub(crate) struct Tell;
+
+impl Split<View> for Tell {
+    ghost left = { λ v. v };
+
+    ghost right = { note_view };
+}

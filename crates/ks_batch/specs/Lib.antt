@@ -1,0 +1,4 @@
+pub mod Words
+pub mod Message
+pub mod Serve
+pub mod Stop

@@ -1,0 +1,36 @@
+-- The memory of a block may cross threads as its values and its allocator may.
+use Rattle.std.specs.Prelude.{ℕ, ◌+◌, List, [], ◌∷◌, Option, Some, None}
+use Rattle.std.specs.Mem.{type_size}
+use base.Fraction.{full_share}
+use base.Shift.{Keyless}
+use denote.RattleType.{RattleType}
+use denote.RawPtr.{Ptr, block_ptr, null_ptr}
+use denote.Struct.Struct.{exits_of}
+use denote.Struct.Owning.{shape, fields, to}
+use denote.Param.Send.{IsSend, AllSend, part_keyless, owning_send, struct_send, sendable}
+use Rattle.core.specs.declared.alloc.Allocator.{Ghosts}
+use Rattle.std_alloc.proofs.SendSync.{FreesAnywhere, quiet}
+use Rattle.ks_block.specs.Ownership.{slots, cells_own}
+use Rattle.ks_block.specs.contracts.cells.Cells as Cells
+use Rattle.ks_block.specs.contracts.cells.Deed as Deed
+
+module _ (R : RattleType) where
+  slots-Keyless : IsSend R → (b o : ℕ) (cs : List (Option R.Denot)) → Keyless (slots R b o cs)
+  slots-Keyless s b o [] = tt
+  slots-Keyless s b o (Some x ∷ cs) = (part_keyless R s full_share x b o, slots-Keyless s b (o + type_size R) cs)
+  slots-Keyless s b o (None ∷ cs) = (tt, slots-Keyless s b (o + type_size R) cs)
+
+  cells-Keyless : IsSend R → (p : Ptr) (cs : List (Option R.Denot)) → Keyless (cells_own R p cs)
+  cells-Keyless s (block_ptr b o) cs = (tt, slots-Keyless s b o cs)
+  cells-Keyless s null_ptr cs = tt
+
+  pub Cells-send : IsSend R → IsSend (Cells.the_row R)
+  Cells-send s =
+      let O = Cells.the_type R in let all : AllSend (fields O) = (search sendable, tt) in
+      owning_send O all (λ d. cells-Keyless s d.base d.slots) (λ k. quiet (to O) (exits_of k (fields O)) ((struct_send (shape O) all).leaving k))
+
+  module _ (A : RattleType) (g : Ghosts A.Denot) where
+    pub Deed-send : FreesAnywhere A.Denot g → IsSend (Deed.the_row R A g)
+    Deed-send f =
+        let O = Deed.the_type R A g in let all : AllSend (fields O) = (search sendable, tt) in
+        owning_send O all (λ d. f.frees d.alloc _ d.at) (λ k. quiet (to O) (exits_of k (fields O)) ((struct_send (shape O) all).leaving k))

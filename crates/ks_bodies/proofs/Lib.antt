@@ -1,0 +1,15 @@
+pub mod Led
+pub mod Records
+pub mod Parts
+pub mod Standing
+pub mod Own
+pub mod Under
+pub mod Grow
+pub mod Collapse
+pub mod Absorb
+pub mod Forget
+pub mod AbsorbUnder
+pub mod Once
+pub mod Used
+pub mod Asked
+pub mod Rooted

@@ -1,0 +1,11 @@
+//! How the calls of nodes keep a tree.
+//!
+//! Each shape of a tree is some calls of nodes, which change their bodies, and then one Shape. Here stands, for any body
+//! and any range, that what the calls make of bodies meets the discipline of trees. Specs in the order Stands, Shapes.
+#![tactic(auto)]
+
+mod asks;
+mod steps;
+
+pub use asks::{tree_asks_law, tree_spans_law};
+pub use steps::tree_steps_law;

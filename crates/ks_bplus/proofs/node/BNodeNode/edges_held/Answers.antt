@@ -1,0 +1,7 @@
+use Rattle.std.proofs.Common.{sym, ◌∙◌, ap}
+use Rattle.std.specs.Prelude.{length}
+use Rattle.ks_bplus.specs.Fits.{fit_edge_count}
+use Rattle.ks_bplus.proofs.node.BNodeNode.edges_held.Goals as goal
+
+pub returns : goal.returns
+returns c = c.len.ensures.value ∙ ap (λ x. length x.starts.items) c.deref.ensures ∙ sym (fit_edge_count _ _ _ _ c.args.self.now.fit)

@@ -1,0 +1,44 @@
+-- What the two lists of a B+ node mean.
+use Rattle.std.specs.Prelude.{◌≡◌, ℕ, ◌≤◌, Bool, true, false, not, cond, ◌&&◌, nat_lt, List, length, Option, None, slice_index_or}
+use Rattle.ks_keysets.specs.declared.Pair.{Pair}
+use Rattle.ks_keysets.specs.declared.Span.{Span}
+use Rattle.ks_keysets.specs.declared.Kind.{Kind}
+use Rattle.ks_keysets.specs.declared.Kind.TheVariants.{NoBranch, Inner}
+use Rattle.ks_node.specs.declared.start.Start.{Start}
+use Rattle.ks_node.specs.Body.{Body, Content, begins, is_branch_kind}
+use Rattle.ks_node.specs.Sound.{Sound}
+
+-- an inner node is a branch, a leaf is none
+abbrev pub kind_of : Bool → Kind
+kind_of false = NoBranch
+kind_of true = Inner
+
+abbrev pub bplus_content : ℕ → Bool → List Pair → List Start → Content
+bplus_content low is_inner pairs starts = record { starts = starts; pairs = pairs; low = low; kind = kind_of is_inner }
+
+-- the meaning of a node with this low, these pairs and these children
+abbrev pub bplus_body : ℕ → Bool → List Pair → List Start → Body
+bplus_body low is_inner pairs starts = record {
+  starts = starts;
+  pairs = pairs;
+  low = low;
+  kind = kind_of is_inner;
+  range = None;
+  level = 0;
+  link = None;
+}
+
+-- a leaf adopts nothing; an inner node has room for another child
+abbrev pub bplus_can_adopt : Content → ℕ → Bool
+bplus_can_adopt c cut = is_branch_kind c.kind && (not (begins cut c.starts) && nat_lt (length c.starts) 16)
+
+-- the place of the ninth pair, or the start of the ninth child
+abbrev pub bplus_cut : Content → Option Span → ℕ
+bplus_cut c span = cond (is_branch_kind c.kind) (slice_index_or c.starts 8 (record { low = 0; node = 0 })).low (slice_index_or c.pairs 8 (record { place = 0; value = 0 })).place
+
+-- the order, the shape and the room of a node
+pub record Fit (low : ℕ) (is_inner : Bool) (pairs : List Pair) (starts : List Start) : Type 0 where
+  pub sound : Sound (bplus_content low is_inner pairs starts)
+  pub leaf : is_inner ≡ false → length starts ≡ 0
+  pub pairs_fit : length pairs ≤ 16
+  pub starts_fit : length starts ≤ 16

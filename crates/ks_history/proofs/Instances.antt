@@ -1,0 +1,241 @@
+-- Small traces that show what the definitions mean: some at which each holds, and some at which it does not.
+use Rattle.std.proofs.Common.{ℕ, zero, suc, ◌≡◌, ◌<◌, ◌⊎◌, inl, inr, cond, ◌==◌, List, [], ◌∷◌, ◌++◌, length, get_or, Some, None, refl, sym, ◌∙◌, ap, subst, arith}
+use Rattle.std.proofs.lemmas.List.{append_cancel_right}
+use Rattle.std.proofs.lemmas.Option.{same_Some}
+use Rattle.ks_keysets.specs.declared.NewState.TheVariants.{BecomesLive, BecomesFree}
+use Rattle.ks_keysets.specs.declared.Kind.TheVariants.{NoBranch, Directory}
+use Rattle.ks_keysets.specs.declared.Record.{Record}
+use Rattle.ks_keysets.specs.declared.Pair.{Pair}
+use Rattle.ks_keysets.specs.Record.{top, empty_record}
+use Rattle.ks_keysets.specs.Keyset.{record_at, IsLive}
+use Rattle.ks_keysets.specs.Frame.{blank_frame}
+use Rattle.ks_keysets.specs.Found.{reached_live}
+use Rattle.ks_keysets.specs.Layout.{Layout, list_layout, bplus_layout, hash_layout, Fit, IsLow, IsRightNeighbour, chained, beside}
+use Rattle.ks_history.specs.declared.Op.TheVariants.{Get, Put}
+use Rattle.ks_history.specs.declared.Reply.TheVariants.{Nothing, Full}
+use Rattle.ks_history.specs.declared.Op.{Op}
+use Rattle.ks_history.specs.declared.Event.{Event}
+use Rattle.ks_history.specs.declared.Event.TheVariants.{Take, Give, Claim, Shape, Call}
+use Rattle.ks_history.specs.Trace.{◌⊑◌, free, idle, held, graph_after, turn_after, frame_after}
+use Rattle.ks_history.specs.Due.{HoldsLiveBut, FullDue, BusyDue, MovedDue, FarDue, IsOnWay}
+use Rattle.ks_history.specs.Done.{Template, coupling, give_up, MayTake, Hands, at_first, and_on, Done, Left, Tight}
+use Rattle.ks_history.specs.Begins.{begins_self, begins_append, begins_both, by_others_none}
+use Rattle.ks_history.specs.Calls.{done_calls, left_calls}
+use Rattle.ks_history.specs.Dues.{full_due_by}
+use Rattle.ks_history.specs.Stays.{cond_else}
+
+-- a Full with one node free all the while is refused
+full_needs_all : (layout : Layout) (n j : ℕ) (s h : List Event) (e : Event) → FullDue layout n s h e → j < n → ((k : List Event) → s ⊑ k → k ⊑ h → turn_after k j ≡ free) → ⊥
+full_needs_all layout n j s h e due lt unused =
+    let t = due.taken j lt in
+    t.3 (unused t.0 (begins_both s due.from t.0 due.since t.1) (begins_both t.0 due.to h t.2 due.before))
+
+-- the opening graph has neither pair nor edge
+
+opening_is : (j : ℕ) (r : Record) → record_at (graph_after []) j ≡ Some r → r ≡ empty_record
+opening_is zero r is = sym (same_Some empty_record r is)
+opening_is (suc j) r is = absurd (cc)
+
+no_pairs : (j : ℕ) (r : Record) → record_at (graph_after []) j ≡ Some r → length r.pairs ≡ 0
+no_pairs j r is = ap (λ (t : Record). length t.pairs) (opening_is j r is)
+
+no_edges : (j : ℕ) (r : Record) → record_at (graph_after []) j ≡ Some r → length r.edges ≡ 0
+no_edges j r is = ap (λ (t : Record). length t.edges) (opening_is j r is)
+
+-- so a Full is refused at the opening root, which has room
+full_needs_room : (layout : Layout) (s : List Event) → FullDue layout 4 s [] (Call 0 0 (Put 5 50) Full) → ⊥
+full_needs_room list_layout s due = omega (arith, no_pairs 0 due.no_room.node due.no_room.is, due.no_room.filled)
+full_needs_room bplus_layout s due = omega (arith, no_pairs 0 due.no_room.node due.no_room.is, due.no_room.filled)
+full_needs_room hash_layout s due = omega (arith, no_pairs 0 due.no_room.node due.no_room.is, due.no_room.filled)
+
+-- eight pairs fill a list node, and where it is the only node of the arena a ninth is Full
+
+abbrev pair : ℕ → Pair
+pair p = record { place = p; value = p }
+
+abbrev full_root : Record
+full_root = record { edges = []; pairs = pair 0 ∷ pair 1 ∷ pair 2 ∷ pair 3 ∷ pair 4 ∷ pair 5 ∷ pair 6 ∷ pair 7 ∷ [] }
+
+abbrev filled : List Event
+filled = Shape 0 (record { node = 0; state = BecomesLive full_root blank_frame } ∷ []) ∷ Take 0 0 ∷ []
+
+holds_root : (j : ℕ) → turn_after filled j ≡ held 0 → IsLive (graph_after filled) j
+holds_root zero mine = (full_root, refl)
+holds_root (suc j) mine = let x : free ≡ held 0 = sym (cond_else (suc j) 0 idle free (λ e. omega arith)) ∙ sym (cond_else (suc j) 0 (held 0) (cond (suc j == 0) idle free) (λ e. omega arith)) ∙ mine in absurd (cc)
+
+full_is_due : FullDue list_layout 1 filled filled (Call 0 0 (Put 9 90) Full)
+full_is_due = full_due_by list_layout 1 filled filled filled filled (Call 0 0 (Put 9 90) Full)
+    (record { node = full_root; is = refl; filled = refl; absent = refl })
+    (begins_self filled) (by_others_none 0 filled) (begins_self filled)
+    ((tt, refl), λ k d lt. elim (first k lt) [ inl e ↦ subst (λ (i : ℕ). turn_after (Take 0 0 ∷ []) (get_or (record { node = 0; state = BecomesLive full_root blank_frame } ∷ []) i d).node ≡ held 0) (sym e) refl | inr f ↦ absurd f ])
+    holds_root
+    (λ j lt. record { moment = filled; since = begins_self filled; until = begins_self filled; so = λ is. root_held j lt is })
+  where
+    first : (k : ℕ) → k < 1 → (k ≡ 0) ⊎ ⊥
+    first k lt = inl (omega arith)
+
+    root_held : (j : ℕ) → j < 1 → turn_after filled j ≡ free → ⊥
+    root_held j lt is = let zero_is : j ≡ 0 = omega arith in let x : held 0 ≡ free = subst (λ (i : ℕ). turn_after filled i ≡ free) zero_is is in cc
+
+-- a list node claims one node at a time, so no claimed node excuses its Full
+list_claims_alone : (h : List Event) (c : ℕ) → HoldsLiveBut list_layout h c → ⊥
+list_claims_alone h c but = but.full
+
+-- a Busy by oneself is refused
+busy_by_another : (c node : ℕ) (op : Op) (s0 s1 : List Event) → BusyDue c op s0 s1 node c → ⊥
+busy_by_another c node op s0 s1 due = due.another refl
+
+-- caller 1 holds the root, so caller 0 may find it busy
+busy_root : BusyDue 0 (Get 5) (Take 1 0 ∷ []) (Take 1 0 ∷ []) 0 1
+busy_root = record {
+  another = λ e. omega arith;
+  place = 5;
+  touched = refl;
+  on_way = record { moment = Take 1 0 ∷ []; since = begins_self (Take 1 0 ∷ []); until = begins_self (Take 1 0 ∷ []); so = inl refl };
+  is_held = record { moment = Take 1 0 ∷ []; since = begins_self (Take 1 0 ∷ []); until = begins_self (Take 1 0 ∷ []); so = refl };
+}
+
+-- a node off the way is not busy: no edge leads to node 1
+busy_on_way : (holder : ℕ) → BusyDue 0 (Get 5) [] [] 1 holder → ⊥
+busy_on_way holder due = off due.on_way.so
+  where
+    opening : due.on_way.moment ≡ []
+    opening = none_of due.on_way.until.rest due.on_way.moment due.on_way.until.is
+      where
+        none_of : (a b : List Event) → [] ≡ a ++ b → b ≡ []
+        none_of [] b is = sym is
+        none_of (e ∷ a) b is = absurd (cc)
+
+    off : IsOnWay (graph_after due.on_way.moment) due.place 1 → ⊥
+    off (inl e) = omega arith
+    off (inr way) = omega (arith, way.3.2, no_edges way.0 way.1 (subst (λ (h : List Event). record_at (graph_after h) way.0 ≡ Some way.1) opening way.2))
+
+-- nothing moves while nothing happens
+moved_takes_time : (c node : ℕ) (op : Op) (s : List Event) → MovedDue c op s s node → ⊥
+moved_takes_time c node op s due = let rest : due.grows.rest ≡ [] = sym (append_cancel_right [] due.grows.rest s due.grows.is) in absurd (omega (arith, due.shaped.2, ap length rest))
+
+-- nor is a way far that was not gone
+far_takes_steps : (n c : ℕ) (s : List Event) → FarDue (suc n) c s s → ⊥
+far_takes_steps n c s due = let rest : due.grows.rest ≡ [] = sym (append_cancel_right [] due.grows.rest s due.grows.is) in absurd (omega (arith, due.shaped.2, ap length rest))
+
+-- under coupling a caller with nothing in hand takes the root alone, under give-up any node
+coupling_begins : MayTake coupling [] 0 0
+coupling_begins = inl (refl, refl)
+
+coupling_no_jump : MayTake coupling [] 0 5 → ⊥
+coupling_no_jump (inl e) = omega (arith, e.1)
+coupling_no_jump (inr above) = omega (arith, above.leads.2, no_edges above.above above.node above.is)
+
+give_up_jumps : MayTake give_up [] 0 5
+give_up_jumps = inl refl
+
+-- a get at the root: done
+abbrev one_get : List Event
+one_get = Give 0 0 ∷ Call 0 0 (Get 5) Nothing ∷ Take 0 0 ∷ []
+
+-- two Calls in one call are refused
+abbrev two_gets : List Event
+two_gets = Give 0 0 ∷ Call 0 0 (Get 5) Nothing ∷ Call 0 0 (Get 5) Nothing ∷ Take 0 0 ∷ []
+
+get_done : Done list_layout coupling 4 0 (Get 5) [] one_get Nothing 0
+get_done = record {
+  before = Take 0 0 ∷ [];
+  node = 0;
+  after = Give 0 0 ∷ [];
+  is = refl;
+  none_before = tt;
+  none_after = tt;
+  numbered = refl;
+  gave_all = refl;
+  hands = and_on (and_on (and_on (at_first (omega arith)) (λ e. inl (refl, refl)) (omega arith)) tt (omega arith)) tt (omega arith);
+  full = λ e. absurd (cc);
+}
+
+get_once : (n number : ℕ) → Done list_layout coupling n 0 (Get 5) [] two_gets Nothing number → ⊥
+get_once n number done = let e = ap length (done_calls list_layout coupling n 0 (Get 5) [] two_gets Nothing number done) in omega arith
+
+-- nor is a node kept
+keeps_nothing : (number : ℕ) → Done list_layout coupling 4 0 (Get 5) [] (Call 0 0 (Get 5) Nothing ∷ Take 0 0 ∷ []) Nothing number → ⊥
+keeps_nothing number done = let e = ap length done.gave_all in omega arith
+
+-- a get that holds three nodes at once is refused
+three_held : Hands coupling 0 (Get 5) [] (Take 0 2 ∷ Take 0 1 ∷ Take 0 0 ∷ []) → ⊥
+three_held (and_on before well few) = omega (arith, few)
+
+-- a call that gives up without a Call is left
+gives_back : Left give_up 0 (Get 5) [] (Give 0 3 ∷ Take 0 3 ∷ [])
+gives_back = record {
+  rest = Give 0 3 ∷ Take 0 3 ∷ [];
+  is = refl;
+  none = tt;
+  gave_all = refl;
+  hands = and_on (and_on (at_first (omega arith)) (λ e. inl refl) (omega arith)) tt (omega arith);
+}
+
+-- one that made its Call is not
+left_made_none : (template : Template) → Left template 0 (Get 5) [] one_get → ⊥
+left_made_none template left = let e = ap length (left_calls template 0 (Get 5) [] one_get left) in omega arith
+
+-- caller 1 makes node 1 live below the root, and frees it again while caller 0 looks for it
+
+abbrev to_one : Record
+to_one = record { edges = record { span = record { low = 0; last = top }; node = 1 } ∷ []; pairs = [] }
+
+abbrev grown : List Event
+grown = Shape 1 (record { node = 0; state = BecomesLive to_one blank_frame } ∷ record { node = 1; state = BecomesLive empty_record blank_frame } ∷ []) ∷ Claim 1 1 ∷ Take 1 0 ∷ []
+
+abbrev freed : Event
+freed = Shape 1 (record { node = 0; state = BecomesLive empty_record blank_frame } ∷ record { node = 1; state = BecomesFree } ∷ [])
+
+one_moved : MovedDue 0 (Get 5) grown (freed ∷ grown) 1
+one_moved = record {
+  place = 5;
+  touched = refl;
+  before = grown;
+  next = freed;
+  after = freed ∷ grown;
+  since = begins_self grown;
+  later = begins_self (freed ∷ grown);
+  until = begins_self (freed ∷ grown);
+  on_way = inr (0, to_one, refl, (0, record { span = record { low = 0; last = top }; node = 1 }, omega arith, refl, ((omega arith, omega arith), refl)));
+  gone = λ inset. let live : IsLive (graph_after (freed ∷ grown)) 1 = reached_live inset.1 in not_live live.0 live.1;
+  grows = begins_append (freed ∷ []) grown;
+  shaped = (0, freed, omega arith, refl, ((λ e. omega arith), (1, record { node = 1; state = BecomesFree }, omega arith, refl, refl)));
+}
+  where
+    not_live : (r : Record) → record_at (graph_after (freed ∷ grown)) 1 ≡ Some r → ⊥
+    not_live r is = let x : None ≡ Some r = is in cc
+
+-- caller 0 takes the root twice, and a Shape of caller 1 stands between: in an arena of two nodes that is far
+far_way : FarDue 2 0 [] (Give 0 0 ∷ Take 0 0 ∷ Shape 1 [] ∷ Give 0 0 ∷ Take 0 0 ∷ [])
+far_way = record {
+  grows = record { rest = Give 0 0 ∷ Take 0 0 ∷ Shape 1 [] ∷ Give 0 0 ∷ Take 0 0 ∷ []; is = refl };
+  many = omega arith;
+  root = omega arith;
+  shaped = (2, Shape 1 [], omega arith, refl, λ e. omega arith);
+}
+
+-- the opening is tight, as no edge leads anywhere
+opening_tight : (layout : Layout) → Tight layout blank_frame []
+opening_tight layout = record {
+  full = λ n m r s right is is'. absurd (alone n m right);
+  root = λ r m is branch. absurd (branch refl);
+}
+  where
+    alone : (n m : ℕ) → IsRightNeighbour (graph_after []) (frame_after blank_frame []) n m → ⊥
+    alone n m (chained r is own leads) = own.1 (no_edges n r is)
+    alone n m (beside r a s is own is' branch next) = branch refl
+
+-- halves of a list node fit, and more do not; a directory fits with nothing and is never low
+
+abbrev halves : Record → Record → Type 0
+halves r s = (length r.pairs ≡ 4) × (length s.pairs ≡ 4)
+
+halves_fit : (r s : Record) → halves r s → Fit list_layout NoBranch r NoBranch s × IsLow list_layout NoBranch r
+halves_fit r s h = (omega (arith, h.0, h.1), omega (arith, h.0))
+
+more_do_not : (r s : Record) → length r.pairs ≡ 5 → length s.pairs ≡ 4 → Fit list_layout NoBranch r NoBranch s → ⊥
+more_do_not r s e f fit = omega arith
+
+directory_alone : (layout : Layout) (r s : Record) → Fit layout Directory r Directory s → ⊥
+directory_alone layout r s fit = fit

@@ -1,0 +1,4 @@
+pub mod Writes
+pub mod Histories
+pub mod Theorem
+pub mod Instances

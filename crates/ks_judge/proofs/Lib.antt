@@ -1,0 +1,4 @@
+pub mod Notes
+pub mod Numbered
+pub mod Listing
+pub mod Judgments

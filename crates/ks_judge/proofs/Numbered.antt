@@ -1,0 +1,96 @@
+-- Calls in the order of their numbers.
+use Rattle.std.proofs.Common.{ℕ, zero, suc, ◌≡◌, ◌<◌, ◌≤◌, ◌+◌, ◌⊎◌, inl, inr, Bool, true, List, [], ◌∷◌, ◌++◌, length, take, drop, get_or, map, refl, sym, ◌∙◌, ap, subst, arith}
+use Rattle.std.proofs.lemmas.List.{map_more, map-append, take-append-drop, get_or_default, length-map}
+use Rattle.ks_history.specs.declared.Op.{Op}
+use Rattle.ks_history.specs.declared.Op.TheVariants.{Get}
+use Rattle.ks_history.specs.declared.Reply.{Reply}
+use Rattle.ks_history.specs.declared.Reply.TheVariants.{Nothing}
+use Rattle.ks_history.specs.declared.Answered.{Answered}
+use Rattle.ks_script.specs.Script.{calls_in}
+use Rattle.ks_judge.specs.declared.slots.Slot.{Slot}
+use Rattle.ks_judge.specs.declared.slots.Slot.TheVariants.{One}
+use Rattle.ks_judge.specs.Judgment.{Lines, SameShape, line_at, op_at, answered_at, IsInOrder, IsPlaced, carriers, calls_below}
+use Rattle.ks_judge.specs.Slots.{Stands, TellsSlot}
+
+-- how many calls some first callers have
+
+calls-append : (xs ys : List (List Op)) → calls_in (xs ++ ys) ≡ calls_in xs + calls_in ys
+calls-append [] ys = omega arith
+calls-append (x ∷ xs) ys = let e = calls-append xs ys in omega (arith, e)
+
+calls-one : (ops : List Op) → calls_in (ops ∷ []) ≡ length ops
+calls-one ops = omega arith
+
+pub calls_more : {X : Type 0} (items : X → List Op) (xs : List X) (i : ℕ) (d : X) → i < length xs → calls_in (map items (take (i + 1) xs)) ≡ calls_in (map items (take i xs)) + length (items (get_or xs i d))
+calls_more items xs i d lt =
+    let a : calls_in (map items (take (i + 1) xs)) ≡ calls_in (map items (take i xs) ++ items (get_or xs i d) ∷ []) = ap calls_in (map_more items xs i d lt) in
+    let b : calls_in (map items (take i xs) ++ items (get_or xs i d) ∷ []) ≡ calls_in (map items (take i xs)) + calls_in (items (get_or xs i d) ∷ []) = calls-append (map items (take i xs)) (items (get_or xs i d) ∷ []) in
+    let e : calls_in (items (get_or xs i d) ∷ []) ≡ length (items (get_or xs i d)) = calls-one (items (get_or xs i d)) in
+    rw (a, b, e) refl
+
+pub calls_first : {X : Type 0} (items : X → List Op) (xs : List X) (i : ℕ) → calls_in (map items (take i xs)) ≤ calls_in (map items xs)
+calls_first items xs i =
+    let a : calls_in (map items (take i xs ++ drop i xs)) ≡ calls_in (map items xs) = ap (λ ys. calls_in (map items ys)) (take-append-drop i xs) in
+    let b : calls_in (map items (take i xs ++ drop i xs)) ≡ calls_in (map items (take i xs) ++ map items (drop i xs)) = ap calls_in (map-append items (take i xs) (drop i xs)) in
+    let e : calls_in (map items (take i xs) ++ map items (drop i xs)) ≡ calls_in (map items (take i xs)) + calls_in (map items (drop i xs)) = calls-append (map items (take i xs)) (map items (drop i xs)) in
+    at_most (calls_in (map items (take i xs))) (calls_in (map items (drop i xs))) (calls_in (map items xs)) (sym a ∙ b ∙ e)
+  where
+    at_most : (n k m : ℕ) → m ≡ n + k → n ≤ m
+    at_most n k m e = omega arith
+
+-- one caller more, as the program counts
+pub total_more : {X : Type 0} (items : X → List Op) (xs : List X) (i total len : ℕ) (d : X) → i < length xs → d ≡ get_or xs i d → len ≡ length (items d) → calls_in (map items xs) ≤ 1048576 → total ≡ calls_in (map items (take i xs)) →
+    (total + len ≡ calls_in (map items (take (i + 1) xs))) × (total + len ≤ 1048576)
+total_more {X = X} items xs i total len d lt is is_len few so_far =
+    let more : calls_in (map items (take (i + 1) xs)) ≡ calls_in (map items (take i xs)) + length (items (get_or xs i d)) = calls_more items xs i d lt in
+    let same : total + len ≡ calls_in (map items (take (i + 1) xs)) = ap (λ (n : ℕ). n + len) so_far ∙ ap (λ (n : ℕ). calls_in (map items (take i xs)) + n) (is_len ∙ ap (λ (x : X). length (items x)) is) ∙ sym more in
+    (same, at_most (total + len) (calls_in (map items (take (i + 1) xs))) (calls_in (map items xs)) same (calls_first items xs (i + 1)) few)
+  where
+    at_most : (n k m : ℕ) → n ≡ k → k ≤ m → m ≤ 1048576 → n ≤ 1048576
+    at_most n k m e le le' = omega arith
+
+-- a script and lines of one shape
+
+length_at : {X : Type 0} (xs : List (List X)) (c : ℕ) → get_or (map (λ x. length x) xs) c 0 ≡ length (get_or xs c [])
+length_at [] c = refl
+length_at (x ∷ xs) zero = refl
+length_at (x ∷ xs) (suc c) = length_at xs c
+
+pub same_length : (script : List (List Op)) (lines : Lines) → SameShape script lines → (c : ℕ) → length (get_or lines c []) ≡ length (get_or script c [])
+same_length script lines shape c = sym (length_at lines c) ∙ ap (λ (ns : List ℕ). get_or ns c 0) shape ∙ length_at script c
+
+pub same_count : (script : List (List Op)) (lines : Lines) → SameShape script lines → length lines ≡ length script
+same_count script lines shape = sym (length-map lines (λ x. length x)) ∙ ap length shape ∙ length-map script (λ x. length x)
+
+-- a slot that tells one line, in order
+pub one_tells : (lines : Lines) (n : ℕ) (slot : Slot) (c j : ℕ) (o : Bool) (places : List (ℕ × ℕ)) → slot ≡ One c j o → o ≡ true → TellsSlot lines n slot places → (places ≡ (c, j) ∷ []) × Stands lines c j × IsInOrder lines c j n
+one_tells lines n slot c j o places is holds tells =
+    let t : TellsSlot lines n (One c j true) places = subst (λ (s : Slot). TellsSlot lines n s places) (is ∙ ap (λ (b : Bool). One c j b) holds) tells in
+    (t.0, t.1.0, t.1.1)
+
+pub below_more : (script : List (List Op)) (lines : Lines) (n c j : ℕ) → carriers lines n ≡ (c, j) ∷ [] → calls_below script lines (n + 1) ≡ calls_below script lines n ++ answered_at script lines (c, j) ∷ []
+below_more script lines n c j only =
+    let e : n + 1 ≡ suc n = omega arith in
+    ap (calls_below script lines) e ∙ ap (λ (ps : List (ℕ × ℕ)). calls_below script lines n ++ map (answered_at script lines) ps) only
+
+-- one call more, as the program puts it after the others
+pub call_more : (script : List (List Op)) (lines : Lines) (n c j : ℕ) (ops : List Op) (ls : List (ℕ × Reply)) (op : Op) (line : ℕ × Reply) (calls calls' : List Answered) →
+    carriers lines n ≡ (c, j) ∷ [] → Stands lines c j → get_or script c [] ≡ ops → get_or lines c [] ≡ ls → j < length ops → op ≡ get_or ops j op → line ≡ get_or ls j line →
+    calls ≡ calls_below script lines n → calls' ≡ calls ++ record { op = op; reply = line.1 } ∷ [] → calls' ≡ calls_below script lines (n + 1)
+call_more script lines n c j ops ls op line calls calls' only stands is_ops is_ls lt is_op is_line is pushed =
+    let at_op : op ≡ op_at script c j = is_op ∙ get_or_default ops j op (Get 0) lt ∙ ap (λ (xs : List Op). get_or xs j (Get 0)) (sym is_ops) in
+    let within : j < length ls = subst (λ (xs : List (ℕ × Reply)). j < length xs) is_ls stands.1 in
+    let at_line : line ≡ line_at lines c j = is_line ∙ get_or_default ls j line (0, Nothing) within ∙ ap (λ (xs : List (ℕ × Reply)). get_or xs j (0, Nothing)) (sym is_ls) in
+    let answer : Answered = record { op = op; reply = line.1 } in
+    let same : answer ≡ answered_at script lines (c, j) = ap (λ (o : Op). record { op = o; reply = line.1 }) at_op ∙ ap (λ (l : ℕ × Reply). record { op = op_at script c j; reply = l.1 }) at_line in
+    pushed ∙ ap (λ (xs : List Answered). xs ++ answer ∷ []) is ∙ ap (λ (a : Answered). calls_below script lines n ++ a ∷ []) same ∙ sym (below_more script lines n c j only)
+
+pub placed_more : (lines : Lines) (n c j : ℕ) → carriers lines n ≡ (c, j) ∷ [] → IsInOrder lines c j n → ((k : ℕ) → k < n → IsPlaced lines k) → (k : ℕ) → k < n + 1 → IsPlaced lines k
+placed_more lines n c j only ordered before k lt = by_side (side k n lt)
+  where
+    side : (k n : ℕ) → k < n + 1 → (k < n) ⊎ (n ≡ k)
+    side k n lt = grind arith
+
+    by_side : (k < n) ⊎ (n ≡ k) → IsPlaced lines k
+    by_side (inl below) = before k below
+    by_side (inr e) = subst (λ (m : ℕ). IsPlaced lines m) e (record { caller = c; place = j; only = only; ordered = ordered })

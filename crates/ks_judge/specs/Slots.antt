@@ -1,0 +1,38 @@
+-- What is noted of the lines that carry a number.
+use Rattle.std.specs.Prelude.{ℕ, ◌≡◌, ◌==◌, ◌<◌, ◌≤◌, List, [], ◌∷◌, ◌++◌, length, take, slice_index_or, Bool, true, false, if◌then◌else◌}
+use Rattle.ks_judge.specs.declared.slots.Slot.{Slot}
+use Rattle.ks_judge.specs.declared.slots.Slot.TheVariants.{Empty, One, Many}
+use Rattle.ks_judge.specs.Judgment.{Lines, IsInOrder, carriers_in, carriers_from}
+
+-- line j of caller c is there
+abbrev pub Stands : Lines → ℕ → ℕ → Type 0
+Stands lines c j = (c < length lines) × (j < length (slice_index_or lines c []))
+
+-- whether a line is in order
+abbrev pub TellsOrder : Lines → ℕ → ℕ → ℕ → Bool → Type 0
+TellsOrder lines c j n true = Stands lines c j × IsInOrder lines c j n
+TellsOrder lines c j n false = Stands lines c j × (IsInOrder lines c j n → ⊥)
+
+-- the slot of the number n tells the places of the lines that carry it
+abbrev pub TellsSlot : Lines → ℕ → Slot → List (ℕ × ℕ) → Type 0
+TellsSlot lines n Empty places = places ≡ []
+TellsSlot lines n (One c j ordered) places = (places ≡ (c, j) ∷ []) × TellsOrder lines c j n ordered
+TellsSlot lines n Many places = 2 ≤ length places
+
+-- each slot tells the places that P gives for its number
+abbrev pub Notes : Lines → List Slot → (ℕ → List (ℕ × ℕ)) → Type 0
+Notes lines slots P = (n : ℕ) → n < length slots → TellsSlot lines n (slice_index_or slots n Empty) (P n)
+
+-- the places of the lines that carry n: those of the callers before c, and of caller c the first j
+abbrev pub carriers_to : Lines → ℕ → ℕ → ℕ → List (ℕ × ℕ)
+carriers_to lines c j n = carriers_from n 0 (take c lines) ++ carriers_in n c 0 (take j (slice_index_or lines c []))
+
+-- the place, if the line there carries n
+abbrev pub if_carries : ℕ → ℕ → ℕ × ℕ → List (ℕ × ℕ)
+if_carries number n place = if number == n then place ∷ [] else []
+
+-- a slot with one line more
+abbrev pub noted_slot : Slot → ℕ → ℕ → Bool → Slot
+noted_slot Empty c j ordered = One c j ordered
+noted_slot (One d i o) c j ordered = Many
+noted_slot Many c j ordered = Many

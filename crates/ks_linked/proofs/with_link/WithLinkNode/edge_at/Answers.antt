@@ -1,0 +1,27 @@
+use Rattle.std.proofs.Common.{arith, ◌∙◌, ap, ◌+◌, ◌≡◌, nat_eq, refl}
+use Rattle.ks_node.specs.Spans.{cut_one}
+use Rattle.ks_linked.specs.Link.{link_count, count_linked, own_linked, last_linked}
+use Rattle.ks_linked.proofs.with_link.WithLinkNode.edge_at.Goals as goal
+
+pub returns-then-n-own : goal.returns-then-n-own
+returns-then-n-own g c =
+    let me = c.args.self.now in
+    own_linked (g.N.Node.body me.node) me.range me.level (g.met.N.Node.sound me.node) (g.met.N.Node.framed me.node) me.framed (g.met.N.Unlinked.no_link me.node) me.link me.same_range
+    c.args.n c.edge_at.result c.cut_edge.result (omega arith) c.edge_at.ensures
+    (c.cut_edge.ensures ∙ ap (λ n. cut_one me.range (nat_eq (c.args.n + 1) n) c.edge_at.result) c.edges_held-own.ensures)
+
+pub unreachable-requires : goal.unreachable-requires
+unreachable-requires g c =
+    let me = c.args.self.now in
+    let count = count_linked (g.N.Node.body me.node) me.range me.level (g.met.N.Node.sound me.node) (g.met.N.Node.framed me.node) me.framed (g.met.N.Unlinked.no_link me.node) me.link in
+    let none : link_count me.link ≡ 0 = ap link_count c.in-None.is in
+    let own = c.edges_held-own.ensures in
+    omega (arith, c.requires)
+
+pub returns : goal.returns
+returns g c =
+    let me = c.args.self.now in
+    let count = count_linked (g.N.Node.body me.node) me.range me.level (g.met.N.Node.sound me.node) (g.met.N.Node.framed me.node) me.framed (g.met.N.Unlinked.no_link me.node) me.link in
+    let one : link_count me.link ≡ 1 = ap link_count c.in-Some.is in
+    let own = c.edges_held-own.ensures in
+    rw c.in-Some.is (last_linked (g.N.Node.body me.node) me.range me.level (g.met.N.Node.sound me.node) (g.met.N.Node.framed me.node) me.framed (g.met.N.Unlinked.no_link me.node) c.in-Some.right c.args.n _ (omega (arith, c.requires)) refl)

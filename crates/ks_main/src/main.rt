@@ -1,0 +1,35 @@
+//! The program: it hands the words and the standard streams to `serve`, and ends with its status.
+#![tactic(auto)]
+
+mod streams;
+
+use ks_batch::serve;
+use std::env;
+use std::io;
+use std::process::ExitCode;
+use streams::{StdSink, StdSource};
+
+/// The status where memory is wanting.
+const NO_MEMORY: u8 = 5;
+
+/// The words after the program's name.
+fn words(rt: &HostRuntime) -> io::Result<Vec<String>> {
+    let words = env::args(rt)?.skip(1).collect(rt.alloc())?;
+    Ok(words)
+}
+
+fn main(rt: HostRuntime) -> ExitCode {
+    let words = match words(&rt) {
+        Ok(words) => words,
+        Err(error) if error.kind() == io::ErrorKind::OutOfMemory => {
+            return ExitCode::from(NO_MEMORY);
+        }
+        // Words that are no text are no command.
+        Err(_) => Vec::new(rt.alloc()),
+    };
+    let mut source = StdSource::new(rt.stdin());
+    let mut out = StdSink::new(rt.stdout());
+    let mut err = StdSink::new(rt.stderr());
+    let outcome = serve(rt.alloc(), &words, &mut source, &mut out, &mut err);
+    ExitCode::from(outcome.status)
+}

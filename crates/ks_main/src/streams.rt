@@ -1,0 +1,60 @@
+//! The standard streams as a source and as sinks. They tell no bytes: what the system does with them no proof can say.
+
+ghost use Rattle.std.specs.Prelude.{ℕ};
+
+use ks_script::{Failed, Sink, Source};
+use std::io::{Read, Write};
+
+/// Reads from a stream, and counts its faults.
+#[derive(Drop)]
+pub struct StdSource<R: Read + Drop> {
+    stream: R,
+    faults: u64,
+}
+
+impl<R: Read + Drop> StdSource<R> {
+    pub fn new(stream: R) -> StdSource<R> {
+        StdSource { stream, faults: 0 }
+    }
+}
+
+impl<R: Read + Drop> Source for StdSource<R> {
+    ghost faults = { λ s. s.faults };
+
+    fn read(&mut self, into: &mut [u8]) -> Result<usize, Failed> {
+        match self.stream.read(into) {
+            Ok(count) => Ok(count),
+            Err(_) => {
+                self.faults = self.faults.saturating_add(1);
+                Err(Failed)
+            }
+        }
+    }
+}
+
+/// Writes to a stream, and counts its faults. A write that takes nothing is one.
+#[derive(Drop)]
+pub struct StdSink<W: Write + Drop> {
+    stream: W,
+    faults: u64,
+}
+
+impl<W: Write + Drop> StdSink<W> {
+    pub fn new(stream: W) -> StdSink<W> {
+        StdSink { stream, faults: 0 }
+    }
+}
+
+impl<W: Write + Drop> Sink for StdSink<W> {
+    ghost faults = { λ s. s.faults };
+
+    fn write(&mut self, piece: &[u8]) -> Result<usize, Failed> {
+        match self.stream.write(piece) {
+            Ok(count) if count > 0 || piece.is_empty() => Ok(count),
+            _ => {
+                self.faults = self.faults.saturating_add(1);
+                Err(Failed)
+            }
+        }
+    }
+}

@@ -1,0 +1,145 @@
+-- Bytes that are cut at a byte, and digits.
+use Rattle.std.proofs.Common.{ℕ, zero, suc, ◌≡◌, ◌+◌, ◌-◌, ◌*◌, ◌^◌, ◌<◌, ◌≤◌, Bool, true, false, ◌&&◌, cond, eqb, List, [], ◌∷◌, ◌++◌, length, take, drop, get_or, refl, sym, ap, subst, ◌∙◌, arith, rules, inl, inr, Option, Some, None, MatchOption, IfSome, IfNone}
+use Rattle.std.proofs.lemmas.List.{drop_more, take-append-drop, take_all, drop-drop}
+use Rattle.std.proofs.lemmas.Bool.{false≢true, eqb-true}
+use Rattle.std.proofs.lemmas.Bool.Decides.{eqb_tells}
+use Rattle.std.proofs.lemmas.Str.Parse.{IsNumeralModel, numerals_by_fold}
+use Rattle.std.proofs.lemmas.Fmt.{digits_decimal, digits_value-decimal, decimal_nonempty, first_decimal, decimal_digit, decimal-digits_value}
+use Rattle.std.specs.Fmt.{decimal}
+use Rattle.std.specs.Char.{is_ascii_digit}
+use Rattle.std.specs.Str.{all_ascii_digits}
+use Rattle.std.specs.List.{onto_first}
+use Rattle.ks_script.specs.Lines.{Lacks, lines_of}
+
+-- a byte that stands at none of the first places
+pub lacks_front : (c : ℕ) (bytes : List ℕ) (n : ℕ) → n ≤ length bytes → ((k : ℕ) → k < n → get_or bytes k 0 ≡ c → ⊥) → Lacks c (take n bytes)
+lacks_front c bytes zero h f = tt
+lacks_front c [] (suc n) h f = tt
+lacks_front c (b ∷ bytes) (suc n) h f = (f 0 (omega arith), lacks_front c bytes n (omega arith) (λ k l. f (suc k) (omega arith)))
+
+-- a line that ends, and the last line, which does not
+pub lines_first : (line rest : List ℕ) → Lacks 10 line → lines_of (line ++ 10 ∷ rest) ≡ line ∷ lines_of rest
+lines_first [] rest h = refl
+lines_first (b ∷ line) rest h =
+    elim (eqb_tells b 10) [
+      | inl same ↦ absurd (h.0 same.1)
+      | inr other ↦ ap (λ t. cond t ([] ∷ lines_of (line ++ 10 ∷ rest)) (onto_first b (lines_of (line ++ 10 ∷ rest)))) other.0 ∙ ap (onto_first b) (lines_first line rest h.1)
+    ]
+
+-- less the first byte of a last line, it is one line or none
+abbrev one_line : List ℕ → List (List ℕ)
+one_line [] = []
+one_line (b ∷ line) = (b ∷ line) ∷ []
+
+joins : (b : ℕ) (line : List ℕ) → onto_first b (one_line line) ≡ (b ∷ line) ∷ []
+joins b [] = refl
+joins b (d ∷ line) = refl
+
+lines_rest : (line : List ℕ) → Lacks 10 line → lines_of line ≡ one_line line
+lines_rest [] h = refl
+lines_rest (b ∷ line) h =
+    elim (eqb_tells b 10) [
+      | inl same ↦ absurd (h.0 same.1)
+      | inr other ↦ ap (λ t. cond t ([] ∷ lines_of line) (onto_first b (lines_of line))) other.0 ∙ (ap (onto_first b) (lines_rest line h.1) ∙ joins b line)
+    ]
+
+pub lines_last : (bytes : List ℕ) → 0 < length bytes → Lacks 10 bytes → lines_of bytes ≡ bytes ∷ []
+lines_last [] h l = absurd (omega arith)
+lines_last (b ∷ line) h l = lines_rest (b ∷ line) l
+
+-- where the byte does not stand in a front, and stands after it
+pub lacks_all : (c : ℕ) (bytes : List ℕ) (n : ℕ) → n ≡ length bytes → ((k : ℕ) → k < n → get_or bytes k 0 ≡ c → ⊥) → Lacks c bytes
+lacks_all c bytes n e f = subst (Lacks c) (take_all n bytes (omega arith)) (lacks_front c bytes n (omega arith) f)
+
+pub cut_front : (c : ℕ) (bytes : List ℕ) (n : ℕ) → n < length bytes → get_or bytes n 0 ≡ c → bytes ≡ take n bytes ++ c ∷ drop 1 (drop n bytes)
+cut_front c bytes n h e =
+    sym (take-append-drop n bytes)
+    ∙ ap (λ (x : List ℕ). take n bytes ++ x) (drop_more bytes n 0 h ∙ (ap (λ (x : ℕ). x ∷ drop (n + 1) bytes) e ∙ ap (λ (x : List ℕ). c ∷ x) (sym (drop-drop 1 n bytes))))
+
+-- what digits stand for, after a number that was read before them
+abbrev pub read_on : ℕ → List ℕ → ℕ
+read_on n [] = n
+read_on n (c ∷ cs) = read_on (10 * n + (c - 48)) cs
+
+own : IsNumeralModel (λ ds. all_ascii_digits ds ≡ true) (read_on 0)
+own = numerals_by_fold _ (search rules) read_on (search rules)
+
+pub read_on_least : (n : ℕ) (ds : List ℕ) → n ≤ read_on n ds
+read_on_least n [] = omega arith
+read_on_least n (c ∷ cs) = omega (arith, read_on_least (10 * n + (c - 48)) cs)
+
+pub digits_some : (bytes : List ℕ) (n : ℕ) → 0 < length bytes → (get_or bytes 0 0 ≡ 48 → length bytes ≡ 1) → all_ascii_digits bytes ≡ true → read_on 0 bytes ≡ n → n < 2 ^ 64 → bytes ≡ decimal n
+digits_some bytes n h z p e l =
+    sym (decimal-digits_value own bytes p h z (omega (arith, e))) ∙ ap decimal e
+
+-- no number is spelled by no bytes, by a zero with digits after it, by a byte that is no digit, or by too many digits
+pub no_digits : (bytes : List ℕ) → length bytes ≡ 0 → (n : ℕ) → n < 2 ^ 64 → bytes ≡ decimal n → ⊥
+no_digits bytes h n l e = omega (arith, decimal_nonempty n l, ap length e)
+
+pub zero_first : (bytes : List ℕ) → get_or bytes 0 0 ≡ 48 → 1 < length bytes → (n : ℕ) → n < 2 ^ 64 → bytes ≡ decimal n → ⊥
+zero_first bytes z h zero l e = omega (arith, ap length (e ∙ decimal_digit 0 (omega arith)))
+zero_first bytes z h (suc n) l e = omega (arith, first_decimal (suc n) (omega arith) l, ap (λ (x : List ℕ). get_or x 0 0) e)
+
+pub all_digits : (bytes : List ℕ) (n : ℕ) → n < 2 ^ 64 → bytes ≡ decimal n → all_ascii_digits bytes ≡ true
+all_digits bytes n l e = ap all_ascii_digits e ∙ digits_decimal own n l
+
+pub value_small : (bytes : List ℕ) (n : ℕ) → n < 2 ^ 64 → bytes ≡ decimal n → read_on 0 bytes ≡ n
+value_small bytes n l e = ap (read_on 0) e ∙ digits_value-decimal own n l
+
+pub other_byte : (bytes : List ℕ) (b i : ℕ) → i < length bytes → b ≡ get_or bytes i 0 → is_ascii_digit b ≡ false → all_ascii_digits (drop i bytes) ≡ all_ascii_digits bytes → (n : ℕ) → n < 2 ^ 64 → bytes ≡ decimal n → ⊥
+other_byte bytes b i h at odd same n l e =
+    let there : all_ascii_digits (drop i bytes) ≡ false = ap all_ascii_digits (drop_more bytes i 0 h) ∙ ap (λ t. t && all_ascii_digits (drop (i + 1) bytes)) (ap is_ascii_digit (sym at) ∙ odd) in
+    false≢true (sym there ∙ (same ∙ all_digits bytes n l e))
+
+pub too_great : (bytes : List ℕ) (m b i : ℕ) → i < length bytes → b ≡ get_or bytes i 0 → 2 ^ 64 ≤ 10 * m + (b - 48) → read_on m (drop i bytes) ≡ read_on 0 bytes → (n : ℕ) → n < 2 ^ 64 → bytes ≡ decimal n → ⊥
+too_great bytes m b i h at great same n l e =
+    let step : read_on m (drop i bytes) ≡ read_on (10 * m + (b - 48)) (drop (i + 1) bytes) = ap (read_on m) (drop_more bytes i 0 h) ∙ ap (λ d. read_on (10 * m + (d - 48)) (drop (i + 1) bytes)) (sym at) in
+    omega (arith, step, same, value_small bytes n l e, read_on_least (10 * m + (b - 48)) (drop (i + 1) bytes))
+
+pub some_of : {A : Type 0} (o : Option A) (P : Type 0) (Q : A → Type 0) → MatchOption o P Q → IfSome o Q
+some_of None P Q h = tt
+some_of (Some x) P Q h = h
+
+pub none_of : {A : Type 0} (o : Option A) (P : Type 0) (Q : A → Type 0) → MatchOption o P Q → IfNone o P
+none_of None P Q h = h
+none_of (Some x) P Q h = tt
+
+pub if_none_any : {A P : Type 0} (o : Option A) → P → IfNone o P
+if_none_any None p = p
+if_none_any (Some x) p = tt
+
+pub is_empty_true : (n : ℕ) (r : Bool) → r ≡ eqb n 0 → r ≡ true → n ≡ 0
+is_empty_true n r e t = eqb-true n 0 (sym e ∙ t)
+
+pub is_empty_false : (n : ℕ) (r : Bool) → r ≡ eqb n 0 → r ≡ false → 0 < n
+is_empty_false zero r e f = absurd (false≢true (sym f ∙ e))
+is_empty_false (suc n) r e f = omega arith
+
+-- digits are no spaces
+pub digits_lack : (c : ℕ) → (is_ascii_digit c ≡ false) → (ds : List ℕ) → all_ascii_digits ds ≡ true → Lacks c ds
+digits_lack c other [] h = tt
+digits_lack c other (d ∷ ds) h =
+    let parts = and_parts (is_ascii_digit d) (all_ascii_digits ds) h in
+    ((λ e. false≢true (sym other ∙ (ap is_ascii_digit (sym e) ∙ parts.0))), digits_lack c other ds parts.1)
+  where
+    and_parts : (a b : Bool) → (a && b) ≡ true → (a ≡ true) × (b ≡ true)
+    and_parts true b h = (refl, h)
+    and_parts false b h = absurd (false≢true h)
+
+pub decimal_lacks : (c : ℕ) → is_ascii_digit c ≡ false → (n : ℕ) → n < 2 ^ 64 → Lacks c (decimal n)
+decimal_lacks c other n l = digits_lack c other (decimal n) (digits_decimal own n l)
+
+-- bytes are cut at the first such byte in one way
+pub one_cut : (c : ℕ) (a b x y : List ℕ) → Lacks c a → Lacks c x → a ++ c ∷ b ≡ x ++ c ∷ y → (a ≡ x) × (b ≡ y)
+one_cut c [] b [] y l m e = (refl, cc)
+one_cut c [] b (d ∷ x) y l m e = let same : c ≡ d = cc in absurd (m.0 (sym same))
+one_cut c (d ∷ a) b [] y l m e = let same : d ≡ c = cc in absurd (l.0 same)
+one_cut c (d ∷ a) b (f ∷ x) y l m e =
+    let h = one_cut c a b x y l.1 m.1 (let t : a ++ c ∷ b ≡ x ++ c ∷ y = cc in t) in
+    let head : d ≡ f = cc in
+    (ap (λ (z : List ℕ). d ∷ z) h.0 ∙ ap (λ (k : ℕ). k ∷ x) head, h.1)
+
+-- where the byte stands it is not lacking
+pub lacks_not : (c : ℕ) (a b : List ℕ) → Lacks c (a ++ c ∷ b) → ⊥
+lacks_not c [] b l = l.0 refl
+lacks_not c (d ∷ a) b l = lacks_not c a b l.1

@@ -1,0 +1,14 @@
+-- Sources that are read step by step.
+use Rattle.std.proofs.Common.{ℕ, List, ◌++◌, take, drop, Option, Some, None, Ok, sym, ap, subst, ◌∙◌, append_assoc}
+use Rattle.std.proofs.lemmas.List.{take-append-drop}
+use Rattle.ks_script.specs.Outside.{Reads, Moves, Gone}
+
+-- one read more
+pub gone_on : (E : Type 0) (o n m : Option (List ℕ)) (front into : List ℕ) (k : ℕ) → Gone o n front → Reads {E = E} n m into (Ok k) → Gone o m (front ++ take k into)
+gone_on E None n m front into k g r = tt
+gone_on E (Some bytes) n m front into k g r =
+    let moved : Moves g.0 m into k = subst (λ (x : Option (List ℕ)). Reads {E = E} x m into (Ok k)) g.2 r in (
+      drop k g.0,
+      g.1 ∙ (ap (λ (x : List ℕ). front ++ x) (sym (take-append-drop k g.0) ∙ ap (λ (x : List ℕ). x ++ drop k g.0) (sym moved.start)) ∙ sym (append_assoc front (take k into) (drop k g.0))),
+      moved.rest,
+    )

@@ -1,0 +1,37 @@
+//! Reading a source to its end.
+
+ghost use Rattle.std.specs.Prelude.{ℕ, ◌≡◌, ◌+◌, ◌<◌, ◌≤◌, List, [], Some, length, vec_len, IfOk, IfSome, OnOk, IsErrOf};
+ghost use Rattle.ks_script.specs.Outside.{Rose, Gone};
+
+use crate::pieces::PIECE;
+use crate::{ReadFault, Source};
+use std::alloc::Global;
+
+/// Reads to the end, and answers with all the bytes. It asks for at most 4,096 bytes at a time, and stops once more
+/// than `limit` bytes came. After an error some first bytes are gone, at most 4,096 more than the limit.
+pub fn read_all<S: Source>(alloc: Global, source: &mut S, limit: u64) -> Result<Vec<u8>, ReadFault>
+    ensures bytes { IfOk result (λ v. IfSome (S.left source.old) (λ bytes. v.items ≡ bytes)) }
+    ensures end { OnOk result (IfSome (S.left source.old) (λ _. S.left source.new ≡ Some [])) }
+    ensures within { IfOk result (λ v. vec_len v ≤ limit) }
+    ensures long { IsErrOf result ReadFault.TooLong → IfSome (S.left source.old) (λ bytes. limit < length bytes) }
+    ensures failed { IsErrOf result ReadFault.Failed → Rose (S.faults source.old) (S.faults source.new) }
+    ensures count { S.faults source.old ≤ S.faults source.new }
+    ensures stops { (front : List ℕ) × Gone (S.left source.old) (S.left source.new) front × (length front ≤ limit + 4096) }
+{
+    let mut bytes = Vec::new(alloc);
+    let mut buffer = [0; PIECE];
+    loop {
+        let Ok(count) = source.read(&mut buffer) else {
+            return Err(ReadFault::Failed);
+        };
+        if count == 0 {
+            return Ok(bytes);
+        }
+        if count as u64 > limit - bytes.len() as u64 {
+            return Err(ReadFault::TooLong);
+        }
+        if bytes.extend_from_slice(&buffer[..count]).is_err() {
+            return Err(ReadFault::Memory);
+        }
+    }
+}

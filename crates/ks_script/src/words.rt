@@ -1,0 +1,82 @@
+//! Lines and words, taken off the front of bytes.
+
+ghost use Rattle.std.specs.Prelude.{ℕ, ◌≡◌, ◌≤◌, ◌<◌, ◌^◌, List, [], ◌∷◌, ◌++◌, length, slice_index, codes, IfSome, IfNone};
+ghost use Rattle.std.specs.Fmt.{decimal};
+ghost use Rattle.ks_script.specs.Lines.{Lacks, lines_of};
+
+// The place of the first such byte, or how many bytes there are.
+fn place_of(bytes: &[u8], byte: u8) -> usize
+    ensures within { result ≤ length bytes.now }
+    ensures before { (k : ℕ) → k < result → slice_index bytes.now k ≡ byte → ⊥ }
+    ensures found { result < length bytes.now → slice_index bytes.now result ≡ byte }
+{
+    bytes.iter().position(|b| *b == byte).unwrap_or(bytes.len())
+}
+
+/// The bytes before the first such byte, and those after it.
+pub fn cut(bytes: &[u8], byte: u8) -> Option<(&[u8], &[u8])>
+    ensures some { IfSome result (λ x. Lacks byte x.0.now × (bytes.now ≡ x.0.now ++ byte ∷ x.1.now)) }
+    ensures none { IfNone result (Lacks byte bytes.now) }
+{
+    let place = place_of(bytes, byte);
+    if place == bytes.len() {
+        return None;
+    }
+    let (before, rest) = bytes.split_at(place);
+    Some((before, rest.split_at(1).1))
+}
+
+/// The first line, without the byte 10 that ends it, and the bytes after it.
+pub fn first_line(bytes: &[u8]) -> Option<(&[u8], &[u8])>
+    ensures some { IfSome result (λ x. lines_of bytes.now ≡ x.0.now ∷ lines_of x.1.now) }
+    ensures shorter { IfSome result (λ x. length x.1.now < length bytes.now) }
+    ensures none { IfNone result (bytes.now ≡ []) }
+{
+    if bytes.is_empty() {
+        return None;
+    }
+    match cut(bytes, b'\n') {
+        Some((line, rest)) => Some((line, rest)),
+        None => Some((bytes, bytes.split_at(bytes.len()).1)),
+    }
+}
+
+/// What follows the word.
+pub fn after<'a>(bytes: &'a [u8], word: &[u8]) -> Option<&'a [u8]>
+    ensures some { IfSome result (λ rest. bytes.now ≡ word.now ++ rest.now) }
+    ensures none { IfNone result ((rest : List ℕ) → bytes.now ≡ word.now ++ rest → ⊥) }
+{
+    bytes.strip_prefix(word)
+}
+
+/// The number below 2^64 that the bytes are the digits of.
+pub fn number(bytes: &[u8]) -> Option<u64>
+    ensures some { IfSome result (λ n. bytes.now ≡ decimal n) }
+    ensures none { IfNone result ((n : ℕ) → n < 2 ^ 64 → bytes.now ≡ decimal n → ⊥) }
+{
+    if bytes.is_empty() {
+        return None;
+    }
+    if bytes[0] == b'0' && bytes.len() > 1 {
+        return None;
+    }
+    let mut number: u64 = 0;
+    for byte in bytes {
+        if !byte.is_ascii_digit() {
+            return None;
+        }
+        number = number
+            .checked_mul(10)?
+            .checked_add(u64::from(*byte - b'0'))?;
+    }
+    Some(number)
+}
+
+/// The two numbers below 2^64 whose digits the bytes are, with a space between them.
+pub fn two_numbers(bytes: &[u8]) -> Option<(u64, u64)>
+    ensures some { IfSome result (λ x. bytes.now ≡ decimal x.0 ++ codes " " ++ decimal x.1) }
+    ensures none { IfNone result ((m n : ℕ) → m < 2 ^ 64 → n < 2 ^ 64 → bytes.now ≡ decimal m ++ codes " " ++ decimal n → ⊥) }
+{
+    let (first, second) = cut(bytes, b' ')?;
+    Some((number(first)?, number(second)?))
+}

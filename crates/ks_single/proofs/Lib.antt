@@ -1,0 +1,5 @@
+pub mod Edits
+pub mod Writes
+pub mod Histories
+pub mod Rest
+pub mod Traces
