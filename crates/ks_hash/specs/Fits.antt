@@ -1,5 +1,5 @@
 -- What each change of a hash node keeps, and what its cuts are.
-use Rattle.std.specs.Prelude.{◌≡◌, ℕ, suc, ◌%◌, ◌<◌, ◌≤◌, Bool, true, false, cond, ◌&&◌, ◌||◌, nat_eq, nat_lt, nat_le, IsTrue, List, [], ◌∷◌, length, All, Option, None, Some, refl}
+use Rattle.std.specs.Prelude.{◌≡◌, ℕ, suc, ◌%◌, ◌-◌, ◌^◌, ◌<◌, ◌≤◌, Bool, true, false, cond, ◌&&◌, ◌||◌, nat_eq, nat_lt, nat_le, IsTrue, List, [], ◌∷◌, length, All, Option, None, Some, refl}
 use Rattle.std.specs.List.{list_all}
 use Rattle.std.proofs.Common.{arith, ap, sym, subst}
 use Rattle.std.proofs.lemmas.List.Elements.{All-nil, All-cons, All-head, All-tail, All-weaker}
@@ -22,7 +22,7 @@ use Rattle.ks_node.specs.Starts.{differ, filter_le}
 use Rattle.ks_node.specs.Keep.{sound_put, sound_del, sound_right}
 use Rattle.ks_node.specs.Spans.{AreWithin, within_all, plain_edges, edges_are, length_edges}
 use Rattle.ks_hash.specs.Slices.{is_size, smallest}
-use Rattle.ks_hash.specs.Joined.{starts_ascend, starts_zero, starts_places, size_bounds, from_all}
+use Rattle.ks_hash.specs.Joined.{starts_ascend, starts_few, starts_zero, starts_places, size_bounds, from_all}
 use Rattle.ks_hash.specs.Hash.{kind_of, own_starts, hash_starts, hash_content, hash_body, hash_can_adopt, hash_grows, slices_in, is_whole, middle_of, fifth, hash_cut, Fit}
 
 pub no_range : (r : Span) → None ≡ Some r → ⊥
@@ -221,3 +221,8 @@ pub fit_grows : {low : ℕ} {b : Bool} {ps : List Pair} {own : Option Start} {ss
 fit_grows {b = true} f h = refl
 fit_grows {b = false} {own = None} f h = refl
 fit_grows {b = false} {own = Some s} f h = absurd (differ refl h)
+
+pub fit_few : {low : ℕ} {b : Bool} {ps : List Pair} {own : Option Start} {ss : List ℕ} → Fit low b ps own ss → length (hash_starts b own ss) < 2 ^ 32 - 1
+fit_few {b = true} {ss = ss} f = let size = size_bounds (length ss) (f.size refl) in let few = starts_few ss in omega arith
+fit_few {b = false} {own = None} f = omega arith
+fit_few {b = false} {own = Some s} f = omega arith

@@ -238,6 +238,9 @@ led_slice cs p d size h =
 pub starts_ascend : (cs : List ℕ) → IsTrue (is_size (length cs)) → Ascends (λ s. s.low) (starts_of cs)
 starts_ascend cs size = subst (Ascends (λ s. s.low)) (runs_is (slice_starts (width_of cs) 0 cs)) (asc_joined None _ (slices_ascend (width_of cs) 0 cs (width_pos (length cs) size)))
 
+pub starts_few : (cs : List ℕ) → length (starts_of cs) ≤ length cs
+starts_few cs = let n = slices_length (width_of cs) 0 cs in let m = joined_le None (slice_starts (width_of cs) 0 cs) in omega (arith, ap length (runs_is (slice_starts (width_of cs) 0 cs)))
+
 pub starts_zero : (cs : List ℕ) → 0 < length cs → IsTrue (starts_at_zero (starts_of cs))
 starts_zero [] h = absurd (omega arith)
 starts_zero (c ∷ cs) h = refl
