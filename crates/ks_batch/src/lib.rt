@@ -11,3 +11,6 @@ mod words;
 
 pub use serving::{Outcome, Stop, serve};
 pub use words::{Asked, command};
+
+#[cfg(test)]
+mod tests;
