@@ -117,6 +117,16 @@ module _ {N : Type 0} (sort : Sort) (shows : N → Body) where
   pub record Matches (h : List Event) (x : Hand N) : Type 0 where
     pub is : MatchesIf x.live (graph_after h x.node) (frame_after (blank_of sort) h x.node) x.body
 
+  -- what is in this hand and shows its node still does: all of it, or all but node i, or all but what the changes name
+  abbrev pub StillMatch : List ℕ → List Event → List Event → Type 0
+  StillMatch hs h k = (x : Hand N) → Has hs x.node → Matches h x → Matches k x
+
+  abbrev pub StillMatchBut : ℕ → List ℕ → List Event → List Event → Type 0
+  StillMatchBut i hs h k = (x : Hand N) → x.node ≢ i → Has hs x.node → Matches h x → Matches k x
+
+  abbrev pub StillMatchBesides : List Change → List ℕ → List Event → List Event → Type 0
+  StillMatchBesides changes hs h k = (x : Hand N) → NamesNot changes x.node → Has hs x.node → Matches h x → Matches k x
+
   -- c took node i, and has it in hand
   pub record HasTaken (c i : ℕ) (h k : List Event) (x : Hand N) : Type 0 where
     pub node : x.node ≡ i

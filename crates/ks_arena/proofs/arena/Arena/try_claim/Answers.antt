@@ -17,7 +17,7 @@ use Rattle.ks_arena.specs.Clauses.{Kept}
 use Rattle.ks_arena.proofs.Words.{word_free, word_other}
 use Rattle.ks_arena.proofs.Moves.{claims_ok}
 use Rattle.ks_arena.proofs.Hold.{top_rest, top_same, out_of, holds_not, makes_grows}
-use Rattle.ks_arena.proofs.After.{pass_again, Looked, looked, Gained, gained, claim_fresh}
+use Rattle.ks_arena.proofs.After.{still, pass_again, Looked, looked, Gained, gained, claim_fresh}
 use Rattle.ks_arena.proofs.arena.Arena.try_claim.Given.{Over}
 use Rattle.ks_arena.proofs.arena.Arena.try_claim.Goals as goal
 use Rattle.ks_arena.proofs.arena.Arena.try_claim.Goals.{After-unwrap-body, Else-found-eq0}
@@ -82,3 +82,9 @@ returns-else-found-eq0-clause-claimed g c = let a = missed g c in let told = (c.
 
 pub returns-else-found-eq0-clause-kept : goal.returns-else-found-eq0-clause-kept
 returns-else-found-eq0-clause-kept g c = (missed g c).kept
+
+pub returns-then-found-eq0-clause-still : goal.returns-then-found-eq0-clause-still
+returns-then-found-eq0-clause-still g c = λ x has m. still (sort_of g.N.Node.layout g.N.Node.ranged) g.D.Discipline.begins g.D.Discipline.step g.N.Node.body _ _ c.args.pass.now _ x c.requires.pass has (λ t. returns-then-found-eq0-clause-kept g c x.node t) m
+
+pub returns-else-found-eq0-clause-still : goal.returns-else-found-eq0-clause-still
+returns-else-found-eq0-clause-still g c = λ x has m. still (sort_of g.N.Node.layout g.N.Node.ranged) g.D.Discipline.begins g.D.Discipline.step g.N.Node.body _ _ c.args.pass.now _ x c.requires.pass has (λ t. returns-else-found-eq0-clause-kept g c x.node t) m
