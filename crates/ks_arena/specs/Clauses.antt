@@ -133,6 +133,7 @@ module _ {N : Type 0} (sort : Sort) (shows : N → Body) where
     pub live : x.live ≡ true
     pub matches : Matches k x
     pub grows : GrowsWith c (Take c i) h k
+    pub fresh : ¬ Has (hand c h) i
     pub hand : hand c k ≡ i ∷ hand c h
     pub mine : mine c k ≡ Take c i ∷ mine c h
 
@@ -154,6 +155,7 @@ module _ {N : Type 0} (sort : Sort) (shows : N → Body) where
     pub matches : Matches k x
     pub state : graph_after k x.node ≡ Claimed c
     pub grows : GrowsWith c (Claim c x.node) h k
+    pub fresh : ¬ Has (hand c h) x.node
     pub hand : hand c k ≡ x.node ∷ hand c h
     pub mine : mine c k ≡ Claim c x.node ∷ mine c h
 

@@ -64,6 +64,7 @@ returns-then-found-eq1-clause-took g c = let told = (hit g c).0 c.if-found-eq1.t
         );
       };
       grows = subst (λ (z : View). GrowsWith c.args.pass.now.caller (Take c.args.pass.now.caller c.args.node) c.args.pass.now.seat.me.0.seen z.seen) (sym v) a.grows;
+      fresh = c.requires.fresh;
       hand = ap (λ (z : View). hand c.args.pass.now.caller z.seen) v ∙ a.hand_is;
       mine = ap (λ (z : View). mine c.args.pass.now.caller z.seen) v ∙ a.mine_is;
     }
