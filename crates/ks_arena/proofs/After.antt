@@ -138,6 +138,11 @@ module _ {N : Type 0} (sort : Sort) (begins : Frame → Type 0) (asks : (ℕ →
     sound = subst (λ (z : Seated N). Sound sort begins asks t.slots z.0.seen) (sym me) sound;
   }
 
+  -- what a pass has in hand and stays, shows its node still
+  pub still : {D : Type 0} (shows : N → Body) (t : TableId) (callers : ℕ) (p : Pass N D) (k : List Event) (x : Hand N) → IsPass sort begins asks t callers p → Has (hand_of p) x.node → (turn_after (seen_of p) x.node ≡ held p.caller → StaysHeld p.caller x.node (seen_of p) k) → Matches sort shows (seen_of p) x → Matches sort shows k x
+  still shows t callers p k x is has stays m = let so = stays (holds_it t.slots (seen_of p) p.caller x.node p.seat.me.1 is.carries is.slots has) in
+      record { is = subst (λ (z : NodeState × Frame). MatchesIf sort shows x.live z.0 z.1 x.body) (λ j. (sym so.state j, sym (so.frame (blank_of sort)) j)) m.is }
+
   module _ (n c : ℕ) where
     -- what others do leaves the slots
     pub carries_others : (h k : List Event) (xs : List (ℕ × Option N)) → GrowsByOthers c h k → AreInTurn k → Carries n h c xs → Carries n k c xs

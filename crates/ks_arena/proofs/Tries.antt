@@ -11,7 +11,7 @@ use Rattle.ks_history.specs.declared.Event.TheVariants.{Take, Claim}
 use Rattle.ks_history.specs.Trace.{◌⊑◌, free, held, hand, mine, graph_after, turn_after}
 use Rattle.ks_history.specs.Lawful.{Lawful, GoodThroughout}
 use Rattle.ks_history.specs.Due.{Sometime}
-use Rattle.ks_history.specs.Passes.{GrowsByOthers, GrowsWith}
+use Rattle.ks_history.specs.Passes.{Has, GrowsByOthers, GrowsWith}
 use Rattle.ks_history.specs.Stays.{StaysHeld, AreInTurn, lawful_in_turn}
 use Rattle.ks_history.specs.Begins.{begins_self, begins_both, by_others_begins, by_others_none, by_others_both, by_others_with, with_begins, good_now}
 use Rattle.ks_node.specs.Body.{Body}
@@ -59,7 +59,7 @@ root_taken h lawful good now = let r = (good_now good).root in let is : graph_af
 
 module _ {N : Type 0} (sort : Sort) (shows : N → Body) where
   pub claimed_later : (c : ℕ) (h k l : List Event) (x : Hand N) → HasLooked c h k → HasClaimed sort shows c k l x → HasClaimed sort shows c h l x
-  claimed_later c h k l x a so = record { live = so.live; blank = so.blank; matches = so.matches; state = so.state; grows = by_others_with c (Claim c x.node) h k l a.grows so.grows; hand = so.hand ∙ ap (λ (z : List ℕ). x.node ∷ z) a.hand; mine = so.mine ∙ ap (λ (z : List Event). Claim c x.node ∷ z) a.mine }
+  claimed_later c h k l x a so = record { live = so.live; blank = so.blank; matches = so.matches; state = so.state; grows = by_others_with c (Claim c x.node) h k l a.grows so.grows; fresh = λ has. so.fresh (subst (λ (z : List ℕ). Has z x.node) (sym a.hand) has); hand = so.hand ∙ ap (λ (z : List ℕ). x.node ∷ z) a.hand; mine = so.mine ∙ ap (λ (z : List Event). Claim c x.node ∷ z) a.mine }
 
   pub taken_later : (c i : ℕ) (h k l : List Event) (x : Hand N) → HasLooked c h k → HasTaken sort shows c i k l x → HasTaken sort shows c i h l x
-  taken_later c i h k l x a so = record { node = so.node; live = so.live; matches = so.matches; grows = by_others_with c (Take c i) h k l a.grows so.grows; hand = so.hand ∙ ap (λ (z : List ℕ). i ∷ z) a.hand; mine = so.mine ∙ ap (λ (z : List Event). Take c i ∷ z) a.mine }
+  taken_later c i h k l x a so = record { node = so.node; live = so.live; matches = so.matches; grows = by_others_with c (Take c i) h k l a.grows so.grows; fresh = λ has. so.fresh (subst (λ (z : List ℕ). Has z i) (sym a.hand) has); hand = so.hand ∙ ap (λ (z : List ℕ). i ∷ z) a.hand; mine = so.mine ∙ ap (λ (z : List Event). Take c i ∷ z) a.mine }

@@ -1,5 +1,5 @@
 -- What the calls of the arena ask and tell.
-use Rattle.std.specs.Prelude.{map, length, ◌≡◌, ◌≢◌, ℕ, ◌+◌, ◌%◌, ◌^◌, ◌<◌, ◌==◌, if◌then◌else◌, List, [], ◌∷◌, ◌++◌, Option, Some, None, Bool, true, false, All, AllPairs}
+use Rattle.std.specs.Prelude.{map, length, slice_index, ◌≡◌, ◌≢◌, ℕ, ◌+◌, ◌%◌, ◌^◌, ◌<◌, ◌==◌, if◌then◌else◌, List, [], ◌∷◌, ◌++◌, Option, Some, None, Bool, true, false, All, AllPairs}
 use mathlib.Core.Option.{some}
 use lib.ListN.{get_elem?}
 use denote.Bor.{Bor}
@@ -18,11 +18,14 @@ use Rattle.ks_history.specs.declared.Event.{Event}
 use Rattle.ks_history.specs.declared.Event.TheVariants.{Take, Give, Claim, Shape, Call}
 use Rattle.ks_history.specs.Trace.{mine, hand, drop_one, Turn, free, idle, held, graph_after, turn_after, frame_after, number_after, state_with}
 use Rattle.ks_history.specs.Write.{written}
-use Rattle.ks_history.specs.Lawful.{Meets}
-use Rattle.ks_history.specs.Due.{IsDue, Sometime}
+use Rattle.ks_history.specs.Lawful.{Meets, Lawful, GoodThroughout}
+use Rattle.ks_history.specs.Due.{IsDue, FullsDue, Sometime}
 use Rattle.ks_history.specs.Passes.{Has, GrowsByOthers, GrowsWith}
 use Rattle.ks_history.specs.Stays.{StaysHeld}
 use Rattle.ks_arena.specs.declared.held.Held.{Held as Hand}
+use Rattle.std.specs.Slots.{slots_items}
+use Rattle.ks_arena.specs.declared.run.Run.{Run}
+use Rattle.ks_arena.specs.declared.run.RunTrace.{RunTrace}
 use Rattle.ks_arena.specs.declared.held.Note.{Note}
 use Rattle.ks_arena.specs.declared.held.Pass.{Pass}
 use Rattle.ks_arena.specs.declared.held.Taken.{Taken}
@@ -32,7 +35,7 @@ use Rattle.ks_arena.specs.declared.view.View.{View}
 use Rattle.ks_node.specs.Body.{Body, frame_of, blank_body}
 use Rattle.ks_node.specs.Edges.{record_of}
 use Rattle.ks_arena.specs.Sound.{Sort, blank_of, Sound, StepsSoundly}
-use Rattle.ks_arena.specs.Rule.{Fits}
+use Rattle.ks_arena.specs.Rule.{turn_word, Ends}
 use Rattle.ks_arena.specs.Plays.{Carries, Shows}
 
 abbrev pub view_of : {N D : Type 0} → Pass N D → View
@@ -114,12 +117,23 @@ module _ {N : Type 0} (sort : Sort) (shows : N → Body) where
   pub record Matches (h : List Event) (x : Hand N) : Type 0 where
     pub is : MatchesIf x.live (graph_after h x.node) (frame_after (blank_of sort) h x.node) x.body
 
+  -- what is in this hand and shows its node still does: all of it, or all but node i, or all but what the changes name
+  abbrev pub StillMatch : List ℕ → List Event → List Event → Type 0
+  StillMatch hs h k = (x : Hand N) → Has hs x.node → Matches h x → Matches k x
+
+  abbrev pub StillMatchBut : ℕ → List ℕ → List Event → List Event → Type 0
+  StillMatchBut i hs h k = (x : Hand N) → x.node ≢ i → Has hs x.node → Matches h x → Matches k x
+
+  abbrev pub StillMatchBesides : List Change → List ℕ → List Event → List Event → Type 0
+  StillMatchBesides changes hs h k = (x : Hand N) → NamesNot changes x.node → Has hs x.node → Matches h x → Matches k x
+
   -- c took node i, and has it in hand
   pub record HasTaken (c i : ℕ) (h k : List Event) (x : Hand N) : Type 0 where
     pub node : x.node ≡ i
     pub live : x.live ≡ true
     pub matches : Matches k x
     pub grows : GrowsWith c (Take c i) h k
+    pub fresh : ¬ Has (hand c h) i
     pub hand : hand c k ≡ i ∷ hand c h
     pub mine : mine c k ≡ Take c i ∷ mine c h
 
@@ -141,6 +155,7 @@ module _ {N : Type 0} (sort : Sort) (shows : N → Body) where
     pub matches : Matches k x
     pub state : graph_after k x.node ≡ Claimed c
     pub grows : GrowsWith c (Claim c x.node) h k
+    pub fresh : ¬ Has (hand c h) x.node
     pub hand : hand c k ≡ x.node ∷ hand c h
     pub mine : mine c k ≡ Claim c x.node ∷ mine c h
 
@@ -223,3 +238,26 @@ EachOnce (x ∷ xs) = NamesNot xs x.node × EachOnce xs
 module _ (sort : Sort) (begins : Frame → Type 0) (asks : (ℕ → NodeState) → (ℕ → Frame) → List Change → Type 0) where
   abbrev pub MayShape : ℕ → ℕ → List Event → List Change → Type 0
   MayShape nodes c seen changes = (h : List Event) → GrowsByOthers c seen h → Sound sort begins asks nodes h → asks (graph_after h) (frame_after (blank_of sort) h) changes
+
+abbrev pub seen_first : List View → List Event
+seen_first [] = []
+seen_first (v ∷ vs) = v.seen
+
+-- the trace of a run that has ended, the newest event first
+abbrev pub trace_in : RunTrace → List Event
+trace_in t = seen_first t.badge.views
+
+abbrev pub trace_of : {N : Type 0} → Run N → List Event
+trace_of r = trace_in r.trace
+
+-- a run over so many nodes that has ended: its trace is lawful, with a good graph throughout, each Full was due, and
+-- the words and bodies are those after the trace
+module _ {N : Type 0} (sort : Sort) (shows : N → Body) where
+  pub record IsRun (nodes : ℕ) (r : Run N) : Type 0 where
+    pub lawful : Lawful (trace_of r)
+    pub good : GoodThroughout (trace_of r)
+    pub due : FullsDue sort.layout nodes (trace_of r)
+    pub sized : length (slots_items r.remains.closed.slots) ≡ nodes
+    pub count : slice_index (slots_items r.remains.closed.words) 0 ≡ number_after (trace_of r)
+    pub turns : (i : ℕ) → i < nodes → slice_index (slots_items r.remains.closed.words) (i + 2) ≡ turn_word (turn_after (trace_of r) i)
+    pub ends : (i : ℕ) → i < nodes → Ends sort shows (graph_after (trace_of r) i) (frame_after (blank_of sort) (trace_of r) i) (turn_after (trace_of r) i) (get_elem? (slots_items r.remains.closed.slots) i)

@@ -2,7 +2,7 @@
 ghost use Rattle.std.specs.Prelude.{◌≡◌, ◌<◌};
 ghost use Rattle.ks_history.specs.Passes.{Has};
 ghost use Rattle.ks_arena.specs.Sound.{sort_of};
-ghost use Rattle.ks_arena.specs.Clauses.{IsPass, seen_of, hand_of, Kept, Took, TryClaimed, DidClaim};
+ghost use Rattle.ks_arena.specs.Clauses.{IsPass, seen_of, hand_of, Kept, StillMatch, Took, TryClaimed, DidClaim};
 
 use crate::arena::Arena;
 use crate::held::{Held, Pass, Taken};
@@ -23,6 +23,7 @@ impl<N: Node, D: Discipline> Arena<N, D> {
         ensures caller { pass.new.caller ≡ pass.old.caller }
         ensures took { Took (sort_of N.layout N.ranged) N.body pass.old.caller node (seen_of pass.old) (seen_of pass.new) result }
         ensures kept { Kept pass.old.caller (seen_of pass.old) (seen_of pass.new) }
+        ensures still { StillMatch (sort_of N.layout N.ranged) N.body (hand_of pass.old) (seen_of pass.old) (seen_of pass.new) }
     {
         let backoff = Backoff::new();
         for _ in rt.forever() {
@@ -42,6 +43,7 @@ impl<N: Node, D: Discipline> Arena<N, D> {
         ensures caller { pass.new.caller ≡ pass.old.caller }
         ensures claimed { DidClaim (sort_of N.layout N.ranged) N.body self.now.nodes pass.old.caller (seen_of pass.old) (seen_of pass.new) result }
         ensures kept { Kept pass.old.caller (seen_of pass.old) (seen_of pass.new) }
+        ensures still { StillMatch (sort_of N.layout N.ranged) N.body (hand_of pass.old) (seen_of pass.old) (seen_of pass.new) }
     {
         sound_law::<D>();
         for node in 1..self.nodes {
@@ -59,6 +61,7 @@ impl<N: Node, D: Discipline> Arena<N, D> {
         ensures caller { pass.new.caller ≡ pass.old.caller }
         ensures claimed { TryClaimed (sort_of N.layout N.ranged) N.body pass.old.caller node (seen_of pass.old) (seen_of pass.new) result }
         ensures kept { Kept pass.old.caller (seen_of pass.old) (seen_of pass.new) }
+        ensures still { StillMatch (sort_of N.layout N.ranged) N.body (hand_of pass.old) (seen_of pass.old) (seen_of pass.new) }
     {
         let at = node as usize;
         let shared = &self.table.shared;

@@ -13,12 +13,15 @@ pub mod laws;
 mod life;
 mod note;
 mod plays;
+mod remains;
 mod rule;
+mod run;
 mod view;
 
 pub use arena::Arena;
 pub use fit::fits_threads;
 pub use held::{Held, Note, Pass, Taken};
-pub use life::Run;
+pub use remains::Remains;
 pub use rule::Rule;
+pub use run::{Run, RunTrace};
 pub use view::{Mark, Part, View};

@@ -2,7 +2,7 @@
 ghost use Rattle.std.specs.Prelude.{◌≡◌};
 ghost use Rattle.ks_history.specs.Trace.{◌⊑◌};
 ghost use Rattle.ks_arena.specs.Sound.{sort_of};
-ghost use Rattle.ks_arena.specs.Clauses.{IsPass, IsNote, noted, seen_of, HasLooked, Kept};
+ghost use Rattle.ks_arena.specs.Clauses.{IsPass, IsNote, noted, seen_of, hand_of, HasLooked, Kept, StillMatch};
 
 use crate::arena::Arena;
 use crate::held::{Note, Pass};
@@ -37,6 +37,7 @@ impl<N: Node, D: Discipline> Arena<N, D> {
         ensures looked { HasLooked pass.old.caller (seen_of pass.old) (seen_of pass.new) }
         ensures noted { noted note ⊑ seen_of pass.new }
         ensures kept { Kept pass.old.caller (seen_of pass.old) (seen_of pass.new) }
+        ensures still { StillMatch (sort_of N.layout N.ranged) N.body (hand_of pass.old) (seen_of pass.old) (seen_of pass.new) }
     {
         self.table
             .shared

@@ -7,6 +7,7 @@ use Rattle.ks_history.specs.declared.Event.TheVariants.{Claim}
 use Rattle.ks_arena.specs.Sound.{sort_of}
 use Rattle.ks_arena.specs.Clauses.{seen_of, Kept, WasTaken, TryClaimed}
 use Rattle.ks_arena.proofs.Tries.{Tried, tried_none, tried_more, kept_both, taken_within, root_taken, claimed_later}
+use Rattle.ks_arena.proofs.After.{still}
 use Rattle.ks_arena.proofs.arena.Arena.claim.Goals as goal
 
 pub loop-node-init : goal.loop-node-init
@@ -36,3 +37,9 @@ returns-clause-claimed g c = let inv = c.loop-node.invariant in let k = seen_of 
       (λ e. subst (WasTaken (seen_of c.args.pass.now) k) (sym e) (record { moment = k; since = by_others_begins c.args.pass.now.caller (seen_of c.args.pass.now) k inv.2.looked.grows; until = begins_self k; so = root_taken k (c.sound_law.ensures.lawful (sort_of g.N.Node.layout g.N.Node.ranged) n k inv.0.sound) (c.sound_law.ensures.good (sort_of g.N.Node.layout g.N.Node.ranged) n k inv.0.sound) }))
       (λ ne. inv.2.taken j (omega arith) (omega arith)),
 )
+
+pub returns-in-Some-clause-still : goal.returns-in-Some-clause-still
+returns-in-Some-clause-still g c = let inv = c.loop-node.invariant in let me : ℕ = c.args.pass.now.caller in let kept = subst (λ (z : ℕ). Kept z (seen_of c.loop-node.pass) (seen_of c.try_claim.new.pass)) inv.1 c.in-Some.ensures.kept in λ x has m. still (sort_of g.N.Node.layout g.N.Node.ranged) g.D.Discipline.begins g.D.Discipline.step g.N.Node.body _ _ c.args.pass.now _ x c.requires has (λ t. kept_both me (seen_of c.args.pass.now) (seen_of c.loop-node.pass) (seen_of c.try_claim.new.pass) inv.2.kept kept x.node t) m
+
+pub returns-clause-still : goal.returns-clause-still
+returns-clause-still g c = let inv = c.loop-node.invariant in λ x has m. still (sort_of g.N.Node.layout g.N.Node.ranged) g.D.Discipline.begins g.D.Discipline.step g.N.Node.body _ _ c.args.pass.now _ x c.requires has (λ t. inv.2.kept x.node t) m

@@ -4,6 +4,7 @@ use Rattle.ks_arena.specs.Sound.{sort_of}
 use Rattle.ks_arena.specs.declared.held.Taken.TheVariants.{Held, Busy, Gone}
 use Rattle.ks_arena.specs.Clauses.{seen_of, HasLooked, Kept, TryTook}
 use Rattle.ks_arena.proofs.Tries.{looked_none, looked_both, kept_both, taken_later}
+use Rattle.ks_arena.proofs.After.{still}
 use Rattle.ks_arena.proofs.arena.Arena.take.Goals as goal
 
 pub loop-init : goal.loop-init
@@ -25,3 +26,9 @@ loop-preserved g c = let inv = c.loop.invariant in let told = subst (λ (z : ℕ
       looked_both c.args.pass.now.caller (seen_of c.args.pass.now) (seen_of c.loop.pass) (seen_of c.try_take.new.pass) inv.2 told.0,
       kept_both c.args.pass.now.caller (seen_of c.args.pass.now) (seen_of c.loop.pass) (seen_of c.try_take.new.pass) inv.3 kept,
     )
+
+pub returns-in-Held-clause-still : goal.returns-in-Held-clause-still
+returns-in-Held-clause-still g c = let inv = c.loop.invariant in let me : ℕ = c.args.pass.now.caller in let kept = subst (λ (z : ℕ). Kept z (seen_of c.loop.pass) (seen_of c.try_take.new.pass)) inv.1 c.in-Held.ensures.kept in λ x has m. still (sort_of g.N.Node.layout g.N.Node.ranged) g.D.Discipline.begins g.D.Discipline.step g.N.Node.body _ _ c.args.pass.now _ x c.requires.pass has (λ t. kept_both me (seen_of c.args.pass.now) (seen_of c.loop.pass) (seen_of c.try_take.new.pass) inv.3 kept x.node t) m
+
+pub returns-in-Gone-clause-still : goal.returns-in-Gone-clause-still
+returns-in-Gone-clause-still g c = let inv = c.loop.invariant in let me : ℕ = c.args.pass.now.caller in let kept = subst (λ (z : ℕ). Kept z (seen_of c.loop.pass) (seen_of c.try_take.new.pass)) inv.1 c.in-Gone.ensures.kept in λ x has m. still (sort_of g.N.Node.layout g.N.Node.ranged) g.D.Discipline.begins g.D.Discipline.step g.N.Node.body _ _ c.args.pass.now _ x c.requires.pass has (λ t. kept_both me (seen_of c.args.pass.now) (seen_of c.loop.pass) (seen_of c.try_take.new.pass) inv.3 kept x.node t) m

@@ -16,8 +16,8 @@ use Rattle.ks_arena.specs.Sound.{sort_of, blank_of, Sound}
 use Rattle.ks_arena.specs.Clauses.{Kept}
 use Rattle.ks_arena.proofs.Words.{word_free, word_other}
 use Rattle.ks_arena.proofs.Moves.{claims_ok}
-use Rattle.ks_arena.proofs.Hold.{top_rest, top_same, out_of, holds_not, makes_grows}
-use Rattle.ks_arena.proofs.After.{pass_again, Looked, looked, Gained, gained, claim_fresh}
+use Rattle.ks_arena.proofs.Hold.{top_rest, top_same, out_of, holds_it, makes_grows}
+use Rattle.ks_arena.proofs.After.{still, pass_again, Looked, looked, Gained, gained, claim_fresh}
 use Rattle.ks_arena.proofs.arena.Arena.try_claim.Given.{Over}
 use Rattle.ks_arena.proofs.arena.Arena.try_claim.Goals as goal
 use Rattle.ks_arena.proofs.arena.Arena.try_claim.Goals.{After-unwrap-body, Else-found-eq0}
@@ -63,6 +63,7 @@ returns-then-found-eq0-clause-claimed g c = let told = (hit g c).0 c.if-found-eq
         matches = record { is = (ap live_record state, blank) };
         state = state;
         grows = subst (λ (z : View). GrowsWith me (Claim me i) c.args.pass.now.seat.me.0.seen z.seen) (sym v) a.grows;
+        fresh = λ has. claim_fresh (sort_of g.N.Node.layout g.N.Node.ranged) g.D.Discipline.begins g.D.Discipline.step c.args.self.now.table.shared.table_id.slots me i c.args.pass.now.seat.me (after g c) c.requires.pass.own told.0 (holds_it _ c.args.pass.now.seat.me.0.seen me i c.args.pass.now.seat.me.1 c.requires.pass.carries c.requires.pass.slots has);
         hand = ap (λ (z : View). hand me z.seen) v ∙ a.hand_is;
         mine = ap (λ (z : View). mine me z.seen) v ∙ a.mine_is;
       },
@@ -82,3 +83,9 @@ returns-else-found-eq0-clause-claimed g c = let a = missed g c in let told = (c.
 
 pub returns-else-found-eq0-clause-kept : goal.returns-else-found-eq0-clause-kept
 returns-else-found-eq0-clause-kept g c = (missed g c).kept
+
+pub returns-then-found-eq0-clause-still : goal.returns-then-found-eq0-clause-still
+returns-then-found-eq0-clause-still g c = λ x has m. still (sort_of g.N.Node.layout g.N.Node.ranged) g.D.Discipline.begins g.D.Discipline.step g.N.Node.body _ _ c.args.pass.now _ x c.requires.pass has (λ t. returns-then-found-eq0-clause-kept g c x.node t) m
+
+pub returns-else-found-eq0-clause-still : goal.returns-else-found-eq0-clause-still
+returns-else-found-eq0-clause-still g c = λ x has m. still (sort_of g.N.Node.layout g.N.Node.ranged) g.D.Discipline.begins g.D.Discipline.step g.N.Node.body _ _ c.args.pass.now _ x c.requires.pass has (λ t. returns-else-found-eq0-clause-kept g c x.node t) m

@@ -15,7 +15,7 @@ use Rattle.ks_arena.specs.Clauses.{Kept}
 use Rattle.ks_arena.proofs.Words.{word_free, word_other}
 use Rattle.ks_arena.proofs.Moves.{takes_ok}
 use Rattle.ks_arena.proofs.Hold.{top_rest, top_same, out_of, holds_not, makes_grows}
-use Rattle.ks_arena.proofs.After.{pass_again, Looked, looked, Gained, gained}
+use Rattle.ks_arena.proofs.After.{still, pass_again, Looked, looked, Gained, gained}
 use Rattle.ks_arena.proofs.arena.Arena.try_take.Given.{Over}
 use Rattle.ks_arena.proofs.arena.Arena.try_take.Goals as goal
 use Rattle.ks_arena.proofs.arena.Arena.try_take.Goals.{After-unwrap-body, Then-found-eq0, Else-found-eq0}
@@ -64,6 +64,7 @@ returns-then-found-eq1-clause-took g c = let told = (hit g c).0 c.if-found-eq1.t
         );
       };
       grows = subst (λ (z : View). GrowsWith c.args.pass.now.caller (Take c.args.pass.now.caller c.args.node) c.args.pass.now.seat.me.0.seen z.seen) (sym v) a.grows;
+      fresh = c.requires.fresh;
       hand = ap (λ (z : View). hand c.args.pass.now.caller z.seen) v ∙ a.hand_is;
       mine = ap (λ (z : View). mine c.args.pass.now.caller z.seen) v ∙ a.mine_is;
     }
@@ -94,3 +95,12 @@ returns-else-found-eq0-clause-took g c = let a = else_missed g c in let told = (
 
 pub returns-else-found-eq0-clause-kept : goal.returns-else-found-eq0-clause-kept
 returns-else-found-eq0-clause-kept g c = (else_missed g c).kept
+
+pub returns-then-found-eq1-clause-still : goal.returns-then-found-eq1-clause-still
+returns-then-found-eq1-clause-still g c = λ x has m. still (sort_of g.N.Node.layout g.N.Node.ranged) g.D.Discipline.begins g.D.Discipline.step g.N.Node.body _ _ c.args.pass.now _ x c.requires.pass has (λ t. returns-then-found-eq1-clause-kept g c x.node t) m
+
+pub returns-then-found-eq0-clause-still : goal.returns-then-found-eq0-clause-still
+returns-then-found-eq0-clause-still g c = λ x has m. still (sort_of g.N.Node.layout g.N.Node.ranged) g.D.Discipline.begins g.D.Discipline.step g.N.Node.body _ _ c.args.pass.now _ x c.requires.pass has (λ t. returns-then-found-eq0-clause-kept g c x.node t) m
+
+pub returns-else-found-eq0-clause-still : goal.returns-else-found-eq0-clause-still
+returns-else-found-eq0-clause-still g c = λ x has m. still (sort_of g.N.Node.layout g.N.Node.ranged) g.D.Discipline.begins g.D.Discipline.step g.N.Node.body _ _ c.args.pass.now _ x c.requires.pass has (λ t. returns-else-found-eq0-clause-kept g c x.node t) m
