@@ -128,6 +128,7 @@ module _ {N : Type 0} (sort : Sort) (begins : Frame → Type 0) (asks : (ℕ →
       → Follows p.seat.me.0 m.0 → Carries t.slots m.0.seen p.caller m.1 → slots_in m.1 ≡ hand p.caller m.0.seen → Sound sort begins asks t.slots m.0.seen → IsPass sort begins asks t callers q
   pass_again t callers p q m is whose table me follows carries slots sound = record {
     table = table ∙ is.table;
+    bare = ap (λ (z : Seated N). z.0.absorbed) me ∙ follows.bare;
     few = subst (λ (z : ℕ). z < 2 ^ 32) (sym whose) is.few;
     own = ap (λ (z : Seated N). z.0.callers) me ∙ follows.callers ∙ is.own ∙ ap (λ (z : ℕ). z ∷ []) (sym whose);
     carries = subst (λ (z : ℕ × Seated N). Carries t.slots z.1.0.seen z.0 z.1.1) (λ k. (sym whose k, sym me k)) carries;
@@ -136,6 +137,11 @@ module _ {N : Type 0} (sort : Sort) (begins : Frame → Type 0) (asks : (ℕ →
     quiet = ap (λ (z : Seated N). z.0.mark) me ∙ follows.mark ∙ is.quiet;
     sound = subst (λ (z : Seated N). Sound sort begins asks t.slots z.0.seen) (sym me) sound;
   }
+
+  -- what a pass has in hand and stays, shows its node still
+  pub still : {D : Type 0} (shows : N → Body) (t : TableId) (callers : ℕ) (p : Pass N D) (k : List Event) (x : Hand N) → IsPass sort begins asks t callers p → Has (hand_of p) x.node → (turn_after (seen_of p) x.node ≡ held p.caller → StaysHeld p.caller x.node (seen_of p) k) → Matches sort shows (seen_of p) x → Matches sort shows k x
+  still shows t callers p k x is has stays m = let so = stays (holds_it t.slots (seen_of p) p.caller x.node p.seat.me.1 is.carries is.slots has) in
+      record { is = subst (λ (z : NodeState × Frame). MatchesIf sort shows x.live z.0 z.1 x.body) (λ j. (sym so.state j, sym (so.frame (blank_of sort)) j)) m.is }
 
   module _ (n c : ℕ) where
     -- what others do leaves the slots
@@ -191,6 +197,11 @@ module _ {N : Type 0} (sort : Sort) (begins : Frame → Type 0) (asks : (ℕ →
           mine_is = with_mine c e me.0.seen m.0.seen whose grows;
           sounds = so.sound;
         }
+
+    -- a node that c has just claimed it did not hold
+    pub claim_fresh : (i : ℕ) (me m : Seated N) → me.0.callers ≡ c ∷ [] → Makes (Sound sort begins asks n) (Claim c i) me.0 m.0 → ¬ (turn_after me.0.seen i ≡ held c)
+    claim_fresh i me m own so mine_is = let e : Event = Claim c i in let grows : GrowsWith c e me.0.seen m.0.seen = makes_grows (Sound sort begins asks n) e me.0 m.0 c own so in let h : List Event = grows.rest ++ me.0.seen in
+        let all : Sound sort begins asks n (e ∷ h) = subst (Sound sort begins asks n) grows.is so.sound in let k = by_others_keeps c i me.0.seen h (with_others c e me.0.seen m.0.seen grows) (are_in_turn sort begins asks n h all.0) mine_is in let x : free ≡ held c = sym all.1 ∙ k.turn in (cc)
 
     -- the slot of node i is on top, with a body back in it
     pub record Ready (i : ℕ) (b : N) (me m : Seated N) : Type 0 where

@@ -79,6 +79,7 @@ module _ {N D : Type 0} (sort : Sort) (begins : Frame → Type 0) (asks : (ℕ �
   is_new t n c m p fits few table is own made = record {
     pass = record {
       table = table;
+      bare = ap (λ z. z.0.absorbed) is;
       few = subst (λ (z : ℕ). z < 2 ^ 32) (sym own) few;
       own = ap (λ z. z.0.callers) is ∙ ap (λ (z : ℕ). z ∷ []) (sym own);
       carries = subst (λ z. Carries t.slots z.0.seen p.caller z.1) (sym is) (carries_none t.slots p.caller);

@@ -60,6 +60,10 @@ below_part : (n : ℕ) (xs ys : List Event) → CallersBelow n (xs ++ ys) → Ca
 below_part n [] ys b = tt
 below_part n (x ∷ xs) ys b = (b.0, below_part n xs ys b.1)
 
+below_rest : (n : ℕ) (xs ys : List Event) → CallersBelow n (xs ++ ys) → CallersBelow n ys
+below_rest n [] ys b = b
+below_rest n (x ∷ xs) ys b = below_rest n xs ys b.1
+
 -- a view after a pass is made is the new one, or but for its number an old one
 abbrev Comes : List View → View → ℕ → View → Type 0
 Comes vs v j x = ((j ≡ length vs) × (x ≡ next_view v)) ⊎ ((y : View) × (get_elem? vs j ≡ some y) × (x ≡ record { callers = y.callers; seen = y.seen; absorbed = y.absorbed; made = x.made; mark = y.mark }))
@@ -313,12 +317,17 @@ module _ {N : Type 0} (sort : Sort) (begins : Frame → Type 0) (asks : (ℕ →
   ends_of i t f idle hs xs same not_held so = (so.0, same i (Some so.0) so.1, so.2, so.3)
   ends_of i t f (held c) hs xs same not_held so = absurd (not_held c refl)
 
+  pub closes_below : (id n : ℕ) (v : View) (ws : List ℕ) (xs : List (Option N)) → v.made ≡ n → n ≢ 0 → Final (Seen (Running sort begins asks shows) id v) ws xs → CallersBelow n v.seen
+  closes_below id n v ws xs is m fin = let s = fin.0 in let r : Running sort begins asks shows s = fin.1.0 in let at = fin.1.1 in let f = r.views.each id v at in let m' : v.made ≢ 0 = λ z. m (sym is ∙ z) in
+      below_rest n f.rest v.seen (subst (CallersBelow n) f.is (subst (λ (z : ℕ). CallersBelow z r.trace) is (r.views.known id v at m')))
+
   pub closes : (id n : ℕ) (v : View) (ws : List ℕ) (xs : List (Option N)) → v.made ≡ n → n ≢ 0 → ((c : ℕ) → c < n → Has v.callers c) → ((c i : ℕ) → c < n → ¬ (turn_after v.seen i ≡ held c)) → Final (Seen (Running sort begins asks shows) id v) ws xs → Closes sort begins asks shows v.seen ws xs
   closes id n v ws xs is m all quiet fin = let s = fin.0 in let r : Running sort begins asks shows s = fin.1.0 in let at = fin.1.1 in let f = r.views.each id v at in let m' : v.made ≢ 0 = λ z. m (sym is ∙ z) in let known : CallersBelow n r.trace = subst (λ (z : ℕ). CallersBelow z r.trace) is (r.views.known id v at m') in
       let gone : f.rest ≡ [] = none_left n v.callers f.rest all (below_part n f.rest v.seen (subst (CallersBelow n) f.is known)) f.others in let whole : r.trace ≡ v.seen = f.is ∙ ap (λ (z : List Event). z ++ v.seen) gone in
       subst (λ (h : List Event). Closes sort begins asks shows h ws xs) whole record {
         sound = subst (λ (z : ℕ). Sound sort begins asks z r.trace) fin.3 r.sound;
         count = ap (λ (z : List ℕ). get_or z 0 0) (sym fin.2) ∙ r.call_count;
+        turns = λ i near. ap (λ (z : List ℕ). get_or z (i + 2) 0) (sym fin.2) ∙ r.turns i (subst (λ (z : ℕ). i < z) (sym fin.3) near);
         ends = λ i near. ends_of i (graph_after r.trace i) (frame_after (blank_of sort) r.trace i) (turn_after r.trace i) s.homes xs fin.4
             (λ c now. quiet c i (held_below n r.trace i c known now) (subst (λ (z : List Event). turn_after z i ≡ held c) whole now))
             (r.homes i (subst (λ (z : ℕ). i < z) (sym fin.3) near));

@@ -31,12 +31,13 @@ pub record Follows (v w : View) : Type 0 where
   pub callers : w.callers ≡ v.callers
   pub made : w.made ≡ v.made
   pub mark : w.mark ≡ v.mark
+  pub bare : w.absorbed ≡ []
 
 follows : (v w : View) (h : List Event) → w ≡ with_seen v h → Follows v w
-follows v w h is = record { callers = ap (λ (z : View). z.callers) is; made = ap (λ (z : View). z.made) is; mark = ap (λ (z : View). z.mark) is }
+follows v w h is = record { callers = ap (λ (z : View). z.callers) is; made = ap (λ (z : View). z.made) is; mark = ap (λ (z : View). z.mark) is; bare = ap (λ (z : View). z.absorbed) is }
 
 pub follows_both : (u v w : View) → Follows u v → Follows v w → Follows u w
-follows_both u v w a b = record { callers = b.callers ∙ a.callers; made = b.made ∙ a.made; mark = b.mark ∙ a.mark }
+follows_both u v w a b = record { callers = b.callers ∙ a.callers; made = b.made ∙ a.made; mark = b.mark ∙ a.mark; bare = b.bare }
 
 append_both : {A : Type 0} (xs ys zs : List A) → xs ++ (ys ++ zs) ≡ (xs ++ ys) ++ zs
 append_both [] ys zs = refl

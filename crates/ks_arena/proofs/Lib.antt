@@ -7,3 +7,5 @@ pub mod After
 pub mod Ready
 pub mod Crew
 pub mod Closing
+pub mod Tries
+pub mod Learning

@@ -31,8 +31,8 @@ use Rattle.ks_arena.specs.Sound.{Sort, blank_of, Sound, StepsSoundly}
 use Rattle.ks_arena.specs.Rule.{Fits, Rests, Running, turn_word}
 use Rattle.ks_history.specs.Stays.{StaysHeld, cond_here, cond_else}
 use Rattle.ks_history.specs.Begins.{none_by, by_others_keeps}
-use Rattle.ks_arena.specs.Plays.{Seated, with_seen, Looks, Makes, drop_slot, InHand, HasSlots, Carries, Shows, TookAt, took, gave, brought, decided, formed}
-use Rattle.ks_arena.proofs.Words.{word_idle, word_below, held_below, are_in_turn}
+use Rattle.ks_arena.specs.Plays.{Seated, with_seen, Looks, Makes, drop_slot, InHand, HasSlots, Carries, Shows, TookAt, took, ClaimedAt, claimed, gave, brought, decided, formed}
+use Rattle.ks_arena.proofs.Words.{word_idle, word_free, word_below, held_below, are_in_turn}
 use Rattle.ks_arena.proofs.Steps.{inside, has_one, looks, turns_at, counts_at}
 
 same_pair : (cs : List ℕ) (c d i j : ℕ) → cs ≡ c ∷ [] → cs ≡ d ∷ [] → i + 2 ≡ j + 2 → (c ≡ d) × (i ≡ j)
@@ -85,6 +85,29 @@ module _ {N : Type 0} (sort : Sort) (begins : Frame → Type 0) (asks : (ℕ →
         looks sort begins asks shows s r id (i + 2) me.0 at,
         λ d j own at'. let p = same_pair me.0.callers c d i j mine own at' in subst (λ (z : ℕ × ℕ). TookAt sort begins asks shows n z.0 z.1 me y (with_seen me.0 h, me.1)) (λ k. (p.0 k, p.1 k))
             (λ hit. absurd (miss hit), λ _. (looks_all n s r id me.0 long at, refl, word, word_below (2 ^ 32) (turn_after h i) y word (λ d e. held_below (2 ^ 32) h i d r.few e))),
+      ))
+
+  pub claims_ok : (n id : ℕ) (me : Seated N) (c i : ℕ) → me.0.callers ≡ c ∷ [] → c < 2 ^ 32 → i < n → Allows Rule n id me (i + 2) (λ y. either (eqb y 0) (c + 2) y) (claimed sort begins asks shows (step n (i + 2) 0 (c + 2) none) me)
+  claims_ok n id me c i mine small near s r long at _ = let h : List Event = r.trace in let near' : i < length s.homes = subst (λ (z : ℕ). i < z) (sym long) near in let y : ℕ = get_or s.words (i + 2) 0 in let word : y ≡ turn_word (turn_after h i) = r.turns i near' in
+      let told = claimed sort begins asks shows (step n (i + 2) 0 (c + 2) none) me in
+      exchanged y 0 (c + 2) (Goes s (i + 2) id me told)
+      (λ hit. let is : turn_after h i ≡ free = word_free (turn_after h i) (sym word ∙ hit) in let b = subst (λ (z : Turn). Rests sort shows (graph_after h i) (frame_after (blank_of sort) h i) z (get_elem? s.homes i)) is (r.homes i near') in
+      let e : Event = Claim c i in let here : turn_after (e ∷ h) i ≡ held c = cond_here i i (held c) (turn_after h i) refl in (
+        with_seen me.0 (e ∷ h),
+        takes i (Some b.0),
+        b.1,
+        turns_at sort begins asks shows s r id me.0 e i (c + 2) none at (has_one me.0.callers c mine) small near' is refl refl (λ j ne. (cond_else j i (held c) (turn_after h j) ne, cond_else j i (Claimed c) (graph_after h j) ne, refl)) (ap turn_word (sym here))
+            (subst (λ (z : Turn). Rests sort shows (graph_after (e ∷ h) i) (frame_after (blank_of sort) h i) z (some none)) (sym here) refl),
+        λ d j own at'. let p = same_pair me.0.callers c d i j mine own at' in subst (λ (z : ℕ × ℕ). ClaimedAt sort begins asks shows n z.0 z.1 me y (with_seen me.0 (e ∷ h), (i, Some b.0) ∷ me.1)) (λ k. (p.0 k, p.1 k))
+            (λ _. (makes_one n s r id me.0 e long at is, (b.0, refl, b.2)), λ miss. absurd (miss hit)),
+      ))
+      (λ miss. (
+        with_seen me.0 h,
+        keeps,
+        tt,
+        looks sort begins asks shows s r id (i + 2) me.0 at,
+        λ d j own at'. let p = same_pair me.0.callers c d i j mine own at' in subst (λ (z : ℕ × ℕ). ClaimedAt sort begins asks shows n z.0 z.1 me y (with_seen me.0 h, me.1)) (λ k. (p.0 k, p.1 k))
+            (λ hit. absurd (miss hit), λ _. (looks_all n s r id me.0 long at, refl, λ now. miss (word ∙ ap turn_word now))),
       ))
 
   rests_given : (t : NodeState) (f : Frame) (b : N) → Shows sort begins asks shows t f b → Rests sort shows (given t) f (turn_given t) (some (some (Some b)))

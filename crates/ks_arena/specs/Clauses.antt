@@ -1,5 +1,5 @@
 -- What the calls of the arena ask and tell.
-use Rattle.std.specs.Prelude.{map, length, ◌≡◌, ◌≢◌, ℕ, ◌+◌, ◌%◌, ◌^◌, ◌<◌, ◌==◌, if◌then◌else◌, List, [], ◌∷◌, ◌++◌, Option, Some, None, Bool, true, false, All, AllPairs}
+use Rattle.std.specs.Prelude.{map, length, slice_index, ◌≡◌, ◌≢◌, ℕ, ◌+◌, ◌%◌, ◌^◌, ◌<◌, ◌==◌, if◌then◌else◌, List, [], ◌∷◌, ◌++◌, Option, Some, None, Bool, true, false, All, AllPairs}
 use mathlib.Core.Option.{some}
 use lib.ListN.{get_elem?}
 use denote.Bor.{Bor}
@@ -18,11 +18,15 @@ use Rattle.ks_history.specs.declared.Event.{Event}
 use Rattle.ks_history.specs.declared.Event.TheVariants.{Take, Give, Claim, Shape, Call}
 use Rattle.ks_history.specs.Trace.{mine, hand, drop_one, Turn, free, idle, held, graph_after, turn_after, frame_after, number_after, state_with}
 use Rattle.ks_history.specs.Write.{written}
-use Rattle.ks_history.specs.Lawful.{Meets}
-use Rattle.ks_history.specs.Due.{IsDue}
+use Rattle.ks_history.specs.Lawful.{Meets, Lawful, GoodThroughout}
+use Rattle.ks_history.specs.Due.{IsDue, FullsDue, Sometime}
 use Rattle.ks_history.specs.Passes.{Has, GrowsByOthers, GrowsWith}
 use Rattle.ks_history.specs.Stays.{StaysHeld}
 use Rattle.ks_arena.specs.declared.held.Held.{Held as Hand}
+use Rattle.std.specs.Slots.{slots_items}
+use Rattle.ks_arena.specs.declared.run.Run.{Run}
+use Rattle.ks_arena.specs.declared.run.RunTrace.{RunTrace}
+use Rattle.ks_arena.specs.declared.held.Note.{Note}
 use Rattle.ks_arena.specs.declared.held.Pass.{Pass}
 use Rattle.ks_arena.specs.declared.held.Taken.{Taken}
 use Rattle.ks_arena.specs.declared.held.Taken.TheVariants.{Held, Busy, Gone}
@@ -31,7 +35,7 @@ use Rattle.ks_arena.specs.declared.view.View.{View}
 use Rattle.ks_node.specs.Body.{Body, frame_of, blank_body}
 use Rattle.ks_node.specs.Edges.{record_of}
 use Rattle.ks_arena.specs.Sound.{Sort, blank_of, Sound, StepsSoundly}
-use Rattle.ks_arena.specs.Rule.{Fits}
+use Rattle.ks_arena.specs.Rule.{turn_word, Ends}
 use Rattle.ks_arena.specs.Plays.{Carries, Shows}
 
 abbrev pub view_of : {N D : Type 0} → Pass N D → View
@@ -54,6 +58,7 @@ module _ (sort : Sort) (begins : Frame → Type 0) (asks : (ℕ → NodeState) �
   -- nodes that it holds
   pub record IsPass {N D : Type 0} (t : TableId) (callers : ℕ) (p : Pass N D) : Type 0 where
     pub table : p.seat.table_id ≡ t
+    pub bare : (view_of p).absorbed ≡ []
     pub few : p.caller < 2 ^ 32
     pub own : (view_of p).callers ≡ p.caller ∷ []
     pub carries : Carries t.slots (seen_of p) p.caller p.seat.me.1
@@ -61,6 +66,18 @@ module _ (sort : Sort) (begins : Frame → Type 0) (asks : (ℕ → NodeState) �
     pub slots : map (λ x. x.0) p.seat.me.1 ≡ hand_of p
     pub quiet : (view_of p).mark ≡ Quiet
     pub sound : Sound sort begins asks t.slots (seen_of p)
+
+-- what a note has seen
+abbrev pub noted : {N D : Type 0} → Note N D → List Event
+noted x = x.seat.me.0.seen
+
+-- a note of the arena with that table
+pub record IsNote {N D : Type 0} (t : TableId) (x : Note N D) : Type 0 where
+  pub table : x.seat.table_id ≡ t
+  pub own : x.seat.me.0.callers ≡ []
+  pub bare : x.seat.me.0.absorbed ≡ []
+  pub made : x.seat.me.0.made ≡ 0
+  pub slots : x.seat.me.1 ≡ []
 
 -- what c holds after h stays, all of it, or all but node i, or all but what a list of changes names
 abbrev pub Kept : ℕ → List Event → List Event → Type 0
@@ -76,6 +93,16 @@ NamesNot (x ∷ xs) j = (j ≢ x.node) × NamesNot xs j
 abbrev pub KeptBesides : List Change → ℕ → List Event → List Event → Type 0
 KeptBesides changes c h k = (j : ℕ) → NamesNot changes j → turn_after h j ≡ held c → StaysHeld c j h k
 
+-- c has seen more of the trace, and has done nothing
+pub record HasLooked (c : ℕ) (h k : List Event) : Type 0 where
+  pub grows : GrowsByOthers c h k
+  pub hand : hand c k ≡ hand c h
+  pub mine : mine c k ≡ mine c h
+
+-- node j was not free at some moment between
+abbrev pub WasTaken : List Event → List Event → ℕ → Type 0
+WasTaken h k j = Sometime h k (λ m. turn_after m j ≢ free)
+
 -- a call with its number: how many calls stand before it
 pub record Numbered (c : ℕ) (e : Event) (h k : List Event) (n : ℕ) : Type 0 where
   pub grows : GrowsWith c e h k
@@ -90,11 +117,56 @@ module _ {N : Type 0} (sort : Sort) (shows : N → Body) where
   pub record Matches (h : List Event) (x : Hand N) : Type 0 where
     pub is : MatchesIf x.live (graph_after h x.node) (frame_after (blank_of sort) h x.node) x.body
 
+  -- what is in this hand and shows its node still does: all of it, or all but node i, or all but what the changes name
+  abbrev pub StillMatch : List ℕ → List Event → List Event → Type 0
+  StillMatch hs h k = (x : Hand N) → Has hs x.node → Matches h x → Matches k x
+
+  abbrev pub StillMatchBut : ℕ → List ℕ → List Event → List Event → Type 0
+  StillMatchBut i hs h k = (x : Hand N) → x.node ≢ i → Has hs x.node → Matches h x → Matches k x
+
+  abbrev pub StillMatchBesides : List Change → List ℕ → List Event → List Event → Type 0
+  StillMatchBesides changes hs h k = (x : Hand N) → NamesNot changes x.node → Has hs x.node → Matches h x → Matches k x
+
+  -- c took node i, and has it in hand
+  pub record HasTaken (c i : ℕ) (h k : List Event) (x : Hand N) : Type 0 where
+    pub node : x.node ≡ i
+    pub live : x.live ≡ true
+    pub matches : Matches k x
+    pub grows : GrowsWith c (Take c i) h k
+    pub fresh : ¬ Has (hand c h) i
+    pub hand : hand c k ≡ i ∷ hand c h
+    pub mine : mine c k ≡ Take c i ∷ mine c h
+
   -- what a try to take node i tells
   abbrev pub TryTook : ℕ → ℕ → List Event → List Event → Taken N → Type 0
-  TryTook c i h k (Held x) = (x.node ≡ i) × (x.live ≡ true) × Matches k x × GrowsWith c (Take c i) h k × (hand c k ≡ i ∷ hand c h) × (mine c k ≡ Take c i ∷ mine c h)
-  TryTook c i h k (Busy d) = GrowsByOthers c h k × (turn_after k i ≡ held d) × (hand c k ≡ hand c h) × (mine c k ≡ mine c h)
-  TryTook c i h k Gone = GrowsByOthers c h k × (turn_after k i ≡ free) × (hand c k ≡ hand c h) × (mine c k ≡ mine c h)
+  TryTook c i h k (Held x) = HasTaken c i h k x
+  TryTook c i h k (Busy d) = HasLooked c h k × (turn_after k i ≡ held d)
+  TryTook c i h k Gone = HasLooked c h k × (turn_after k i ≡ free)
+
+  -- what a take of node i tells, which waits while others hold it
+  abbrev pub Took : ℕ → ℕ → List Event → List Event → Option (Hand N) → Type 0
+  Took c i h k None = HasLooked c h k × (turn_after k i ≡ free)
+  Took c i h k (Some x) = HasTaken c i h k x
+
+  -- c claimed the node that it has in hand, which is blank
+  pub record HasClaimed (c : ℕ) (h k : List Event) (x : Hand N) : Type 0 where
+    pub live : x.live ≡ false
+    pub blank : shows x.body ≡ blank_body sort.ranged
+    pub matches : Matches k x
+    pub state : graph_after k x.node ≡ Claimed c
+    pub grows : GrowsWith c (Claim c x.node) h k
+    pub fresh : ¬ Has (hand c h) x.node
+    pub hand : hand c k ≡ x.node ∷ hand c h
+    pub mine : mine c k ≡ Claim c x.node ∷ mine c h
+
+  abbrev pub TryClaimed : ℕ → ℕ → List Event → List Event → Option (Hand N) → Type 0
+  TryClaimed c i h k None = HasLooked c h k × (turn_after k i ≢ free)
+  TryClaimed c i h k (Some x) = (x.node ≡ i) × HasClaimed c h k x
+
+  -- what a claim tells: the first node that it found free; or that each node was at some moment not free
+  abbrev pub DidClaim : ℕ → ℕ → List Event → List Event → Option (Hand N) → Type 0
+  DidClaim nodes c h k None = HasLooked c h k × ((j : ℕ) → j < nodes → WasTaken h k j)
+  DidClaim nodes c h k (Some x) = HasClaimed c h k x × (0 < x.node) × (x.node < nodes) × ((j : ℕ) → 0 < j → j < x.node → WasTaken h k j)
 
   -- the operation is lawful at the node after h, Full is due, and the body is the node after it
   pub record IsReady (nodes c : ℕ) (h : List Event) (x : Hand N) (op : Op) (reply : Reply) : Type 0 where
@@ -166,3 +238,26 @@ EachOnce (x ∷ xs) = NamesNot xs x.node × EachOnce xs
 module _ (sort : Sort) (begins : Frame → Type 0) (asks : (ℕ → NodeState) → (ℕ → Frame) → List Change → Type 0) where
   abbrev pub MayShape : ℕ → ℕ → List Event → List Change → Type 0
   MayShape nodes c seen changes = (h : List Event) → GrowsByOthers c seen h → Sound sort begins asks nodes h → asks (graph_after h) (frame_after (blank_of sort) h) changes
+
+abbrev pub seen_first : List View → List Event
+seen_first [] = []
+seen_first (v ∷ vs) = v.seen
+
+-- the trace of a run that has ended, the newest event first
+abbrev pub trace_in : RunTrace → List Event
+trace_in t = seen_first t.badge.views
+
+abbrev pub trace_of : {N : Type 0} → Run N → List Event
+trace_of r = trace_in r.trace
+
+-- a run over so many nodes that has ended: its trace is lawful, with a good graph throughout, each Full was due, and
+-- the words and bodies are those after the trace
+module _ {N : Type 0} (sort : Sort) (shows : N → Body) where
+  pub record IsRun (nodes : ℕ) (r : Run N) : Type 0 where
+    pub lawful : Lawful (trace_of r)
+    pub good : GoodThroughout (trace_of r)
+    pub due : FullsDue sort.layout nodes (trace_of r)
+    pub sized : length (slots_items r.remains.closed.slots) ≡ nodes
+    pub count : slice_index (slots_items r.remains.closed.words) 0 ≡ number_after (trace_of r)
+    pub turns : (i : ℕ) → i < nodes → slice_index (slots_items r.remains.closed.words) (i + 2) ≡ turn_word (turn_after (trace_of r) i)
+    pub ends : (i : ℕ) → i < nodes → Ends sort shows (graph_after (trace_of r) i) (frame_after (blank_of sort) (trace_of r) i) (turn_after (trace_of r) i) (get_elem? (slots_items r.remains.closed.slots) i)

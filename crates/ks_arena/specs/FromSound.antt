@@ -1,7 +1,7 @@
 -- What follows from a sound trace: it is lawful, its graph is good and has the facts of the discipline at every
 -- beginning, and what a caller holds keeps its keyset.
 use Rattle.std.proofs.Common.{◌≡◌, ◌≢◌, ℕ, zero, suc, ◌<◌, ◌⊎◌, ◌==◌, ◌||◌, Bool, true, false, cond, not, List, [], ◌∷◌, ◌++◌, length, map, filter, sym, refl, ap, ◌∙◌, subst, inl, inr, ⊎_elim, arith, eqb, eq-eqb, ne_eqb}
-use Rattle.std.specs.Prelude.{Option, Some, None, is_some, All, AllPairs, nat_lt}
+use Rattle.std.specs.Prelude.{Option, Some, None, is_some, All, Any, AllPairs, nat_lt}
 use Rattle.std.proofs.lemmas.List.Elements.{All-cons, All-head, All-tail, All-weaker, All-filter, All-nil}
 use Rattle.std.proofs.lemmas.List.Kept.{AllPairs-cons, AllPairs-filter}
 use mathlib.Core.Logic.{dite}
@@ -28,7 +28,7 @@ use Rattle.ks_history.specs.Lawful.{Meets, Lawful, GoodThroughout, at_opening, a
 use Rattle.ks_history.specs.Due.{IsDue, FullsDue}
 use Rattle.ks_history.specs.Passes.{NoneBy, GrowsByOthers}
 use Rattle.ks_history.specs.Stays.{IsInTurn, AreInTurn, cond_here, cond_else, held_same, shaped_else, held_apart, other_turn, others_turn}
-use Rattle.ks_history.specs.Begins.{good_now}
+use Rattle.ks_history.specs.Begins.{good_now, by_others_keeps}
 use Rattle.ks_flow.specs.Changes.{nodes_of, graph_with, frames_with}
 use Rattle.ks_flow.specs.Ways.{names}
 use Rattle.ks_flow.specs.Tree.{SameEdges}
@@ -413,3 +413,12 @@ module _ (sort : Sort) {begins : Frame → Type 0} {facts : (ℕ → NodeState) 
   -- what stays at a node that c holds, while others act
   pub unshaped : (c i : ℕ) (k h : List Event) → GrowsByOthers c k h → turn_after h i ≡ held c → Sound sort begins asks nodes h → Unshaped i (graph_after k) (graph_after h)
   unshaped c i k h grows mine so = subst (λ (z : List Event). Unshaped i (graph_after k) (graph_after z)) (sym grows.is) (unshaped_on grows.rest k c i grows.others (subst (λ (z : List Event). turn_after z i ≡ held c) grows.is mine) (subst (Sound sort begins asks nodes) grows.is so))
+
+-- a live node is not free
+pub live_not_free : (h : List Event) (i : ℕ) → AreInTurn h → IsLive (graph_after h) i → turn_after h i ≢ free
+live_not_free h i are live now = let is : graph_after h i ≡ Free = (rested h are i).free_is now in let e : None ≡ Some live.0 = sym (ap live_record is) ∙ live.1 in let q : ⊥ = cc in q
+
+-- the target of an edge of a held node is live
+pub target_live : (c above i : ℕ) (seen h : List Event) (r : Record) → GrowsByOthers c seen h → AreInTurn h → Good (graph_after h) → turn_after seen above ≡ held c → record_at (graph_after seen) above ≡ Some r → Any (λ e. e.node ≡ i) r.edges → IsLive (graph_after h) i
+target_live c above i seen h r grows are good holds is any = let k = by_others_keeps c above seen h grows are holds in
+    subst (IsLive (graph_after h)) (ap (λ e. e.node) any.3 ∙ any.4) (good.leads above r (ap live_record k.state ∙ is) any.0 any.1 any.2)

@@ -6,8 +6,8 @@ use Rattle.ks_keysets.specs.declared.NodeState.TheVariants.{Free, Claimed, Live}
 use Rattle.ks_keysets.specs.declared.Frame.{Frame}
 use Rattle.ks_keysets.specs.declared.Change.{Change}
 use Rattle.ks_history.specs.declared.Event.{Event}
-use Rattle.ks_history.specs.declared.Event.TheVariants.{Take, Give}
-use Rattle.ks_history.specs.Trace.{held, graph_after, turn_after, frame_after, number_after}
+use Rattle.ks_history.specs.declared.Event.TheVariants.{Take, Give, Claim}
+use Rattle.ks_history.specs.Trace.{free, held, graph_after, turn_after, frame_after, number_after}
 use Rattle.ks_history.specs.Passes.{Has, NoneOf}
 use Rattle.ks_arena.specs.declared.view.View.{View}
 use Rattle.ks_node.specs.Body.{Body, frame_of, blank_body}
@@ -71,6 +71,15 @@ module _ {N : Type 0} (sort : Sort) (begins : Frame → Type 0) (asks : (ℕ →
 
   abbrev pub took : Step (Option N) → Seated N → ℕ → Seated N → Type 0
   took st m r m' = (c i : ℕ) → m.0.callers ≡ c ∷ [] → st.word ≡ i + 2 → TookAt st.slots c i m r m'
+
+  -- caller c tried to claim node i, whose turn word was r
+  abbrev pub ClaimedAt : ℕ → ℕ → ℕ → Seated N → ℕ → Seated N → Type 0
+  ClaimedAt n c i m r m' =
+      (r ≡ 0 → Makes (Sound sort begins asks n) (Claim c i) m.0 m'.0 × ((b : N) × (m'.1 ≡ (i, Some b) ∷ m.1) × (shows b ≡ blank_body sort.ranged)))
+      × (r ≢ 0 → Looks (Sound sort begins asks n) m.0 m'.0 × (m'.1 ≡ m.1) × (turn_after m'.0.seen i ≢ free))
+
+  abbrev pub claimed : Step (Option N) → Seated N → ℕ → Seated N → Type 0
+  claimed st m r m' = (c i : ℕ) → m.0.callers ≡ c ∷ [] → st.word ≡ i + 2 → ClaimedAt st.slots c i m r m'
 
   abbrev pub gave : Step (Option N) → Seated N → ℕ → Seated N → Type 0
   gave st m r m' = (c i : ℕ) (x : Option N) (others : List (ℕ × Option N)) → m.0.callers ≡ c ∷ [] → st.word ≡ i + 2 → m.1 ≡ (i, x) ∷ others

@@ -126,4 +126,5 @@ module _ {N : Type 0} (sort : Sort) (begins : Frame → Type 0) (asks : (ℕ →
   pub record Closes (h : List Event) (ws : List ℕ) (xs : List (Option N)) : Type 0 where
     pub sound : Sound sort begins asks (length xs) h
     pub count : slice_index ws 0 ≡ number_after h
+    pub turns : (i : ℕ) → i < length xs → slice_index ws (i + 2) ≡ turn_word (turn_after h i)
     pub ends : (i : ℕ) → i < length xs → Ends sort shows (graph_after h i) (frame_after (blank_of sort) h i) (turn_after h i) (get_elem? xs i)

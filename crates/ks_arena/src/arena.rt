@@ -4,7 +4,7 @@ ghost use Rattle.ks_history.specs.Passes.{Has, GrowsByOthers, GrowsWith};
 ghost use Rattle.ks_history.specs.Trace.{drop_one};
 ghost use Rattle.ks_history.specs.declared.Event.TheVariants.{Call, Give, Shape};
 ghost use Rattle.ks_arena.specs.Sound.{sort_of};
-ghost use Rattle.ks_arena.specs.Clauses.{IsPass, seen_of, Kept, KeptBut, KeptBesides, hand_of, mine_of, Matches, TryTook, IsReady, Numbered, AllAmong, EachOnce, MayShape, AreShaped, changes_of};
+ghost use Rattle.ks_arena.specs.Clauses.{IsPass, seen_of, Kept, KeptBut, KeptBesides, StillMatch, StillMatchBut, StillMatchBesides, hand_of, mine_of, Matches, TryTook, IsReady, Numbered, AllAmong, EachOnce, MayShape, AreShaped, changes_of};
 
 use crate::held::{Held, Pass, Taken};
 use crate::plays::{Brings, Decides, Forms, Gives, Said, Takes};
@@ -44,6 +44,7 @@ impl<N: Node, D: Discipline> Arena<N, D> {
         ensures caller { pass.new.caller ≡ pass.old.caller }
         ensures took { TryTook (sort_of N.layout N.ranged) N.body pass.old.caller node (seen_of pass.old) (seen_of pass.new) result }
         ensures kept { Kept pass.old.caller (seen_of pass.old) (seen_of pass.new) }
+        ensures still { StillMatch (sort_of N.layout N.ranged) N.body (hand_of pass.old) (seen_of pass.old) (seen_of pass.new) }
     {
         let at = node as usize;
         let shared = &self.table.shared;
@@ -80,6 +81,7 @@ impl<N: Node, D: Discipline> Arena<N, D> {
         ensures hand { hand_of pass.new ≡ drop_one held.node (hand_of pass.old) }
         ensures mine { mine_of pass.new ≡ Give pass.old.caller held.node ∷ mine_of pass.old }
         ensures kept { KeptBut held.node pass.old.caller (seen_of pass.old) (seen_of pass.new) }
+        ensures still { StillMatchBut (sort_of N.layout N.ranged) N.body held.node (hand_of pass.old) (seen_of pass.old) (seen_of pass.new) }
     {
         let Held { node, body, live } = held;
         let at = node as usize;
@@ -105,6 +107,7 @@ impl<N: Node, D: Discipline> Arena<N, D> {
         ensures mine { mine_of pass.new ≡ Call pass.old.caller held.now.node op reply ∷ mine_of pass.old }
         ensures body { Matches (sort_of N.layout N.ranged) N.body (seen_of pass.new) held.now }
         ensures kept { KeptBut held.now.node pass.old.caller (seen_of pass.old) (seen_of pass.new) }
+        ensures still { StillMatchBut (sort_of N.layout N.ranged) N.body held.now.node (hand_of pass.old) (seen_of pass.old) (seen_of pass.new) }
     {
         self.count::<Brand>(pass, held, op, reply)
     }
@@ -121,6 +124,7 @@ impl<N: Node, D: Discipline> Arena<N, D> {
         ensures mine { mine_of pass.new ≡ Call pass.old.caller held.now.node op reply ∷ mine_of pass.old }
         ensures body { Matches (sort_of N.layout N.ranged) N.body (seen_of pass.new) held.now }
         ensures kept { KeptBut held.now.node pass.old.caller (seen_of pass.old) (seen_of pass.new) }
+        ensures still { StillMatchBut (sort_of N.layout N.ranged) N.body held.now.node (hand_of pass.old) (seen_of pass.old) (seen_of pass.new) }
     {
         D::laws();
         walks_law();
@@ -148,6 +152,7 @@ impl<N: Node, D: Discipline> Arena<N, D> {
         ensures mine { mine_of pass.new ≡ Shape pass.old.caller (changes_of N.body first.now second.entry third.entry) ∷ mine_of pass.old }
         ensures bodies { AreShaped (sort_of N.layout N.ranged) N.body (seen_of pass.new) first.now second.entry third.entry }
         ensures kept { KeptBesides (changes_of N.body first.now second.entry third.entry) pass.old.caller (seen_of pass.old) (seen_of pass.new) }
+        ensures still { StillMatchBesides (sort_of N.layout N.ranged) N.body (changes_of N.body first.now second.entry third.entry) (hand_of pass.old) (seen_of pass.old) (seen_of pass.new) }
     {
         self.form::<Brand>(pass, first, second, third);
     }
@@ -171,6 +176,7 @@ impl<N: Node, D: Discipline> Arena<N, D> {
         ensures mine { mine_of pass.new ≡ Shape pass.old.caller (changes_of N.body first.now second.entry third.entry) ∷ mine_of pass.old }
         ensures bodies { AreShaped (sort_of N.layout N.ranged) N.body (seen_of pass.new) first.now second.entry third.entry }
         ensures kept { KeptBesides (changes_of N.body first.now second.entry third.entry) pass.old.caller (seen_of pass.old) (seen_of pass.new) }
+        ensures still { StillMatchBesides (sort_of N.layout N.ranged) N.body (changes_of N.body first.now second.entry third.entry) (hand_of pass.old) (seen_of pass.old) (seen_of pass.new) }
     {
         self.table
             .shared

@@ -1,4 +1,6 @@
 //! What a caller has in its hand.
+ghost use Rattle.std.specs.Prelude.{◌≡◌};
+
 use crate::view::View;
 use atomic_table::Seat;
 use std::marker::PhantomData;
@@ -8,6 +10,22 @@ use std::marker::PhantomData;
 pub struct Pass<N, D> {
     pub(crate) seat: Seat<Option<N>, View>,
     pub(crate) caller: u32,
+    pub(crate) marker: PhantomData<D>,
+}
+
+impl<N, D> Pass<N, D> {
+    /// The number of its caller.
+    pub fn caller(&self) -> u32
+        ensures { result ≡ self.now.caller }
+    {
+        self.caller
+    }
+}
+
+/// What a pass had seen of the run when the note was made.
+#[derive(Drop)]
+pub struct Note<N, D> {
+    pub(crate) seat: Seat<Option<N>, View>,
     pub(crate) marker: PhantomData<D>,
 }
 

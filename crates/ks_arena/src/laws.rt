@@ -1,16 +1,17 @@
 //! What follows from sound traces. The function computes nothing: its contract is a law.
-ghost use Rattle.std.specs.Prelude.{◌≡◌, ℕ, List};
-ghost use Rattle.ks_keysets.specs.Layout.{Layout};
+ghost use Rattle.std.specs.Prelude.{◌≡◌, ◌≢◌, ℕ, List, Option, Any};
+ghost use Rattle.ks_keysets.specs.declared.Record.{Record};
+ghost use Rattle.ks_keysets.specs.Keyset.{record_at, IsLive};
 ghost use Rattle.ks_history.specs.declared.Event.{Event as Happening};
-ghost use Rattle.ks_history.specs.Trace.{◌⊑◌, held, graph_after, turn_after, frame_after};
+ghost use Rattle.ks_history.specs.Trace.{◌⊑◌, free, held, graph_after, turn_after, frame_after};
 ghost use Rattle.ks_history.specs.Lawful.{Lawful, GoodThroughout};
 ghost use Rattle.ks_history.specs.Due.{FullsDue};
 ghost use Rattle.ks_history.specs.Passes.{GrowsByOthers};
-ghost use Rattle.ks_flow.specs.Discipline.{SameKeyset};
+ghost use Rattle.ks_flow.specs.Discipline.{SameKeyset, BeginsLink, LinkStep};
 ghost use Rattle.ks_arena.specs.Sound.{Sort, blank_of, Sound};
 
-use ks_flow::Discipline;
 use ks_flow::laws::walks_law;
+use ks_flow::{Discipline, Link};
 
 /// A sound trace is lawful and its graph is good throughout; at each beginning it has the facts of the discipline, and
 /// each Full was due. What lasts under the discipline lasts from each beginning on. While others act, a node that a
@@ -27,4 +28,19 @@ pub fn sound_law<D: Discipline>()
 {
     D::laws();
     walks_law();
+}
+
+/// The target of an edge of a node that a caller holds is never found free, whatever others do.
+pub fn target_law<D: Discipline>()
+    ensures { (sort : Sort) (nodes c above i : ℕ) (seen h : List Happening) (r : Record) → GrowsByOthers c seen h → Sound sort D.begins D.step nodes h → turn_after seen above ≡ held c →
+        record_at (graph_after seen) above ≡ Some r → Any (λ e. e.node ≡ i) r.edges → turn_after h i ≢ free }
+{
+    sound_law::<D>();
+}
+
+/// Under links, a node that was live is never found free later.
+pub fn link_live_law()
+    ensures { (sort : Sort) (nodes i : ℕ) (k h : List Happening) → k ⊑ h → Sound sort BeginsLink LinkStep nodes h → IsLive (graph_after k) i → turn_after h i ≢ free }
+{
+    sound_law::<Link>();
 }

@@ -6,17 +6,22 @@
 #![tactic(auto)]
 
 mod arena;
+mod claim;
 mod fit;
 mod held;
 pub mod laws;
 mod life;
+mod note;
 mod plays;
+mod remains;
 mod rule;
+mod run;
 mod view;
 
 pub use arena::Arena;
 pub use fit::fits_threads;
-pub use held::{Held, Pass, Taken};
-pub use life::Run;
+pub use held::{Held, Note, Pass, Taken};
+pub use remains::Remains;
 pub use rule::Rule;
+pub use run::{Run, RunTrace};
 pub use view::{Mark, Part, View};

@@ -1,27 +1,23 @@
 //! How an arena is made, and how it ends.
 ghost use Rattle.std.specs.Prelude.{◌≡◌, ◌≤◌, ℕ, ◌+◌, ◌<◌, ◌^◌, [], ◌∷◌, cond, eqb, length, slice_index, IfOk};
-ghost use Rattle.std.specs.Slots.{slots_items};
-ghost use Rattle.ks_arena.specs.declared.view.View.{View as Seen};
-ghost use Rattle.ks_arena.specs.Sound.{sort_of, blank_of};
-ghost use Rattle.ks_arena.specs.Rule.{AllBlank, Closes, first_view};
-ghost use Rattle.ks_arena.specs.Clauses.{IsNewCrew, IsCrew, EndsAll};
+ghost use Rattle.ks_history.specs.Passes.{CallersBelow};
+ghost use Rattle.ks_arena.specs.Sound.{sort_of, blank_of, Sound};
+ghost use Rattle.ks_arena.specs.Rule.{AllBlank, first_view};
+ghost use Rattle.ks_arena.specs.Clauses.{IsNewCrew, IsCrew, EndsAll, IsRun, trace_of};
 
 use crate::arena::Arena;
 use crate::held::Pass;
+use crate::laws::sound_law;
 use crate::plays::{Gathers, Next, TakeIn, Tell};
+use crate::remains::Remains;
 use crate::rule::Rule;
+use crate::run::{Run, RunTrace};
 use crate::view::View;
-use atomic_table::{Badge, Closed, Seat, Shared, Table};
+use atomic_table::{Seat, Shared, Table};
 use ks_flow::Discipline;
 use ks_node::Node;
 use std::alloc::{AllocError, Global};
 use std::marker::PhantomData;
-
-/// What is left of an arena: the words and bodies, and the trace.
-pub struct Run<N> {
-    pub(crate) closed: Closed<Option<N>, Global>,
-    pub(crate) trace: Badge<View>,
-}
 
 fn first_words(alloc: Global, nodes: usize) -> Result<Vec<u64>, AllocError>
     requires { (0 < nodes) × (nodes < 2 ^ 32) }
@@ -104,8 +100,12 @@ impl<N: Node, D: Discipline> Arena<N, D> {
     /// Ends the arena. The passes are all that `start` gave, and hold no node.
     pub fn close(self, mut passes: Vec<Pass<N, D>>) -> Run<N>
         requires { IsCrew (sort_of N.layout N.ranged) D.begins D.step self.table.shared.table_id self.callers passes.items }
-        ensures { (w : Seen) × (result.trace.views ≡ w ∷ []) × Closes (sort_of N.layout N.ranged) D.begins D.step N.body w.seen (slots_items result.closed.words) (slots_items result.closed.slots) × EndsAll w.seen passes.items }
+        ensures run { IsRun (sort_of N.layout N.ranged) N.body self.nodes result }
+        ensures sound { Sound (sort_of N.layout N.ranged) D.begins D.step self.nodes (trace_of result) }
+        ensures seen { EndsAll (trace_of result) passes.items }
+        ensures callers { CallersBelow self.callers (trace_of result) }
     {
+        sound_law::<D>();
         let mut base = match passes.pop() {
             Some(pass) => pass.seat,
             None => unreachable!(),
@@ -115,10 +115,12 @@ impl<N: Node, D: Discipline> Arena<N, D> {
             table.shared.join_seat::<TakeIn>(&mut base, pass.seat);
         }
         table.shared.load::<Gathers<D>>(&mut base, 0);
-        let trace = table.shared.split_seat::<Tell>(&mut base).into_badge();
+        let badge = table.shared.split_seat::<Tell>(&mut base).into_badge();
         Run {
-            closed: table.close_with(base),
-            trace,
+            remains: Remains {
+                closed: table.close_with(base),
+            },
+            trace: RunTrace { badge },
         }
     }
 }

@@ -4,7 +4,7 @@ ghost use Rattle.ks_history.specs.declared.Event.TheVariants.{Take};
 ghost use Rattle.ks_history.specs.declared.Event.{Event as Happening};
 ghost use Rattle.ks_arena.specs.Rule.{maker_view, next_view, both_views, spent_view, note_view};
 ghost use Rattle.ks_arena.specs.Sound.{sort_of};
-ghost use Rattle.ks_arena.specs.Plays.{took, gave, brought, decided, gathered, formed};
+ghost use Rattle.ks_arena.specs.Plays.{took, claimed, gave, brought, decided, gathered, formed};
 
 use crate::view::View;
 use atomic_table::{Join, Play, Split};
@@ -18,6 +18,14 @@ pub(crate) struct Takes<D> {
 
 impl<N: Node, D: Discipline> Play<Option<N>, View> for Takes<D> {
     ghost then = { took (sort_of N.layout N.ranged) D.begins D.step N.body };
+}
+
+pub(crate) struct Claims<D> {
+    marker: PhantomData<D>,
+}
+
+impl<N: Node, D: Discipline> Play<Option<N>, View> for Claims<D> {
+    ghost then = { claimed (sort_of N.layout N.ranged) D.begins D.step N.body };
 }
 
 pub(crate) struct Gives<D> {

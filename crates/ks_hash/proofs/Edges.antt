@@ -1,7 +1,7 @@
 -- The edge that carries a place.
 use Rattle.std.specs.Prelude.{◌≡◌, ℕ, zero, suc, ◌+◌, ◌-◌, ◌<◌, ◌≤◌, List, [], ◌∷◌, length, get_or, take, drop, slice_get, Some, All, Any, refl}
 use Rattle.std.specs.Option.{option_map}
-use Rattle.std.proofs.Common.{arith, add-one, drop-cons, ap, ◌∙◌, sym, subst, inl, inr, ◌⊎◌}
+use Rattle.std.proofs.Common.{arith, add-one, drop-cons, ap, ◌∙◌, sym, subst, inl, inr}
 use Rattle.std.proofs.lemmas.List.{length-take-le, get_or-take, get_or_default}
 use Rattle.std.proofs.lemmas.List.Elements.{All-head}
 use Rattle.std.proofs.lemmas.Option.{slice_get-get_or}
@@ -12,7 +12,6 @@ use Rattle.ks_keysets.specs.Record.{Carries, top}
 use Rattle.ks_node.specs.declared.start.Start.{Start}
 use Rattle.ks_node.specs.Ascend.{all_below, all_from}
 use Rattle.ks_node.specs.Body.{starts_below, starts_from}
-use Rattle.ks_node.specs.Edges.{edges_from}
 use Rattle.ks_node.specs.Asks.{IsSpanOf}
 use Rattle.ks_node.specs.Spans.{plain_edges, edges_plain, length_plain, edge_last, edge_inner, AreWithin}
 use Rattle.ks_hash.specs.Hash.{last_before, run_span}

@@ -1,7 +1,7 @@
 -- The steps of the loops over slices.
-use Rattle.std.specs.Prelude.{◌≡◌, ℕ, zero, suc, ◌+◌, ◌-◌, ◌*◌, ◌/◌, ◌%◌, ◌^◌, ◌<◌, ◌≤◌, true, false, nat_eq, IsTrue, List, [], ◌∷◌, ◌++◌, length, get_or, take, drop, position, Option, None, Some, refl}
+use Rattle.std.specs.Prelude.{◌≡◌, ℕ, zero, suc, ◌+◌, ◌-◌, ◌*◌, ◌/◌, ◌%◌, ◌^◌, ◌<◌, ◌≤◌, true, false, nat_eq, IsTrue, List, [], ◌∷◌, ◌++◌, length, get_or, take, drop, position, Option, Some, refl}
 use Rattle.std.proofs.Common.{arith, drop-cons, add-one, ap, ◌∙◌, sym, set}
-use Rattle.std.proofs.lemmas.List.{append_assoc, append-nil, drop-set-lt, take-append-drop, length-set}
+use Rattle.std.proofs.lemmas.List.{append_assoc, append-nil, drop-set-lt, take-append-drop}
 use Rattle.std.proofs.lemmas.List.Quantifiers.{position-Some}
 use Rattle.std.proofs.lemmas.Bool.{eqb-true, eq-eqb, ne_eqb}
 use Rattle.std.proofs.Math.Seq.{take-suc, take-suc-set, take-length, take-append_seam}
@@ -57,9 +57,6 @@ halves_left n p h = by_size (λ n. p % smallest ≡ 0 → (p % (2 ^ 64 / n) ≡ 
 
 pub fewer_left : (cs : List ℕ) → IsTrue (is_size (length cs)) → length cs ≤ 32 → 64 - length (doubled cs) < 64 - length cs
 fewer_left cs size h = let two = size_bounds (length cs) size in let n = doubled_length cs in omega arith
-
-pub slice_fits : (n i : ℕ) → IsTrue (is_size n) → i < n → i * (2 ^ 64 / n) < 2 ^ 64
-slice_fits n i h = by_size (λ n. i < n → i * (2 ^ 64 / n) < 2 ^ 64) (λ l. omega arith) (λ l. omega arith) (λ l. omega arith) (λ l. omega arith) (λ l. omega arith) (λ l. omega arith) n h
 
 module _ (starts all : List Start) (before : Option ℕ) (width i : ℕ) (cs : List ℕ) (h : i < length cs)
     (so_far : starts ++ joined_after before (slice_starts width (i * width) (drop i cs)) ≡ all) where

@@ -1,31 +1,29 @@
 -- What each change of a hash node keeps, and what its cuts are.
-use Rattle.std.specs.Prelude.{◌≡◌, ℕ, zero, suc, ◌+◌, ◌-◌, ◌*◌, ◌/◌, ◌%◌, ◌^◌, ◌<◌, ◌≤◌, Bool, true, false, not, cond, ◌&&◌, ◌||◌, nat_eq, nat_lt, nat_le, IsTrue, List, [], ◌∷◌, ◌++◌, length, filter, get_or, find, is_some, All, Option, None, Some, refl}
+use Rattle.std.specs.Prelude.{◌≡◌, ℕ, suc, ◌%◌, ◌-◌, ◌^◌, ◌<◌, ◌≤◌, Bool, true, false, cond, ◌&&◌, ◌||◌, nat_eq, nat_lt, nat_le, IsTrue, List, [], ◌∷◌, length, All, Option, None, Some, refl}
 use Rattle.std.specs.List.{list_all}
-use Rattle.std.specs.Option.{ForSome}
-use Rattle.std.proofs.Common.{arith, ap, ◌∙◌, sym, subst, inl, inr}
-use Rattle.std.proofs.lemmas.List.{length-append, nil_from_length}
-use Rattle.std.proofs.lemmas.List.Elements.{All-nil, All-cons, All-head, All-tail, All-weaker, All-filter}
-use Rattle.std.proofs.lemmas.Bool.{ltb-true, leb-true, lt-ltb, le-ltb, eqb-true, eq-eqb, ne_eqb}
+use Rattle.std.proofs.Common.{arith, ap, sym, subst}
+use Rattle.std.proofs.lemmas.List.Elements.{All-nil, All-cons, All-head, All-tail, All-weaker}
+use Rattle.std.proofs.lemmas.Bool.{ltb-true, leb-true, eqb-true, ne_eqb}
 use Rattle.ks_keysets.specs.declared.Pair.{Pair}
 use Rattle.ks_keysets.specs.declared.Span.{Span}
-use Rattle.ks_keysets.specs.declared.Kind.TheVariants.{NoBranch, Inner, Directory}
+use Rattle.ks_keysets.specs.declared.Kind.TheVariants.{NoBranch, Inner}
 use Rattle.ks_keysets.specs.Layout.{hash_layout}
 use Rattle.ks_keysets.specs.Record.{top}
 use Rattle.ks_node.specs.declared.start.Start.{Start}
 use Rattle.ks_node.specs.Keyed.{Ascends}
 use Rattle.ks_node.specs.Ascend.{asc_nil, asc_filter}
-use Rattle.ks_node.specs.Body.{all_places, IsBlank, pairs_below, pairs_from, starts_below, starts_from, begins, first_node, is_branch_kind, is_branch, blank_body, only_child_of}
-use Rattle.ks_node.specs.Room.{load, is_full, IsHeld, fit_together}
-use Rattle.ks_node.specs.Effect.{pairs_put, pairs_del, runs, without, settled, split_left, split_right, grown, adopted, absorbed, forgot, collapsed, emptied}
+use Rattle.ks_node.specs.Body.{IsBlank, pairs_below, pairs_from, begins, is_branch_kind, is_branch}
+use Rattle.ks_node.specs.Room.{is_full, IsHeld}
+use Rattle.ks_node.specs.Effect.{pairs_put, pairs_del}
 use Rattle.ks_node.specs.Edges.{edges_of}
-use Rattle.ks_node.specs.Asks.{Absorbs, CanSplitAt, IsCut, Suits, IsNoneOr, IsGoodCut}
+use Rattle.ks_node.specs.Asks.{CanSplitAt, Suits, IsNoneOr, IsGoodCut}
 use Rattle.ks_node.specs.Sound.{Sound}
 use Rattle.ks_node.specs.Starts.{differ, filter_le}
-use Rattle.ks_node.specs.Keep.{sound_put, sound_del, sound_adopt, sound_right, sound_absorb}
+use Rattle.ks_node.specs.Keep.{sound_put, sound_del, sound_right}
 use Rattle.ks_node.specs.Spans.{AreWithin, within_all, plain_edges, edges_are, length_edges}
-use Rattle.ks_hash.specs.Slices.{is_size, smallest, starts_of}
-use Rattle.ks_hash.specs.Joined.{starts_ascend, starts_zero, starts_places, size_bounds, from_all, below_none}
-use Rattle.ks_hash.specs.Hash.{kind_of, own_starts, hash_starts, hash_content, hash_body, hash_can_adopt, middle, hash_grows, hash_can_grow, slices_in, is_whole, middle_of, fifth, hash_cut, Fit}
+use Rattle.ks_hash.specs.Slices.{is_size, smallest}
+use Rattle.ks_hash.specs.Joined.{starts_ascend, starts_few, starts_zero, starts_places, size_bounds, from_all}
+use Rattle.ks_hash.specs.Hash.{kind_of, own_starts, hash_starts, hash_content, hash_body, hash_can_adopt, hash_grows, slices_in, is_whole, middle_of, fifth, hash_cut, Fit}
 
 pub no_range : (r : Span) → None ≡ Some r → ⊥
 no_range r e = cc
@@ -93,13 +91,6 @@ pub split_above : {low : ℕ} {b : Bool} {ps : List Pair} {own : Option Start} {
 split_above {b = true} f cut e h = absurd (differ e refl)
 split_above {b = false} f cut e h = h.2 refl
 
--- two nodes that fit are buckets
-pub fitting_buckets : (low right_low : ℕ) (b c : Bool) (ps qs : List Pair) (own right_own : Option Start) (ss ts : List ℕ) →
-    IsTrue (fit_together hash_layout (hash_body low b ps own ss) (hash_body right_low c qs right_own ts)) → (b ≡ false) × (c ≡ false) × (length ps + length qs ≤ 8)
-fitting_buckets low right_low true c ps qs own right_own ss ts h = absurd (differ refl h)
-fitting_buckets low right_low false true ps qs own right_own ss ts h = absurd (differ refl h)
-fitting_buckets low right_low false false ps qs own right_own ss ts h = (refl, refl, leb-true _ _ h)
-
 pub fit_held : {low : ℕ} {b : Bool} {ps : List Pair} {own : Option Start} {ss : List ℕ} → Fit low b ps own ss → IsHeld hash_layout (hash_body low b ps own ss)
 fit_held {b = true} f c e = cc
 fit_held {b = false} f c e = let same : 8 ≡ c = cc in omega (arith, f.pairs_fit)
@@ -123,23 +114,7 @@ fit_slices {low} {b = true} {ps} {own} {ss} f e ts size = record {
 }
 fit_slices {b = false} f e ts size = absurd (differ refl e)
 
-pub fit_grown : (low left right : ℕ) (own : Option Start) → Fit low true [] own (left ∷ right ∷ [])
-fit_grown low left right own = record {
-  sound = sound_slices low [] own (left ∷ right ∷ []) (asc_nil (λ x. x.place)) refl refl;
-  size = λ _. refl;
-  pairs_fit = omega arith;
-}
-
 -- own edges
-
-pub fit_own : {low : ℕ} {b : Bool} {ps : List Pair} {own : Option Start} {ss : List ℕ} → Fit low b ps own ss → b ≡ false → (cut id : ℕ) → low < cut → cut ≤ top → All (λ x. x.place < cut) ps →
-    Fit low b ps (Some (record { low = cut; node = id })) ss
-fit_own {low} {b = true} f e cut id h l below = absurd (differ e refl)
-fit_own {low} {b = false} {ps} {own} {ss} f e cut id h l below = record {
-  sound = sound_adopt (hash_content low false ps own ss) cut id (λ e. absurd (differ refl e)) h l below f.sound;
-  size = f.size;
-  pairs_fit = f.pairs_fit;
-}
 
 pub fit_plain : (low : ℕ) (ps : List Pair) (ss : List ℕ) → Ascends (λ x. x.place) ps → length ps ≤ 8 → Fit low false ps None ss
 fit_plain low ps ss up long = record { sound = sound_plain low ps ss up; size = λ e. absurd (differ refl e); pairs_fit = long }
@@ -158,28 +133,6 @@ fit_right {low} {b = false} {ps} {own} {ss} f e c cut ts d h above =
       size = λ e. absurd (differ refl e);
       pairs_fit = omega (arith, filter_le (λ x. nat_le cut x.place) ps, f.pairs_fit);
     })
-
-pub fit_absorb : {low right_low : ℕ} {b c : Bool} {ps qs : List Pair} {own right_own : Option Start} {ss ts : List ℕ} → Fit low b ps own ss → Fit right_low c qs right_own ts →
-    IsTrue (fit_together hash_layout (hash_body low b ps own ss) (hash_body right_low c qs right_own ts)) → Absorbs (hash_body low b ps own ss) (hash_body right_low c qs right_own ts) → right_low ≤ top →
-    Fit low b (ps ++ qs) right_own ss
-fit_absorb {b = true} f g fits a l = absurd (differ refl fits)
-fit_absorb {b = false} {c = true} f g fits a l = absurd (differ refl fits)
-fit_absorb {low} {right_low} {b = false} {c = false} {ps} {qs} {own} {right_own} {ss} {ts} f g fits a l =
-    let long : length ps + length qs ≤ 8 = leb-true _ _ fits in
-    record {
-      sound = sound_absorb (hash_content low false ps own ss) (hash_content right_low false qs right_own ts) refl f.sound g.sound a.lows a.above_pairs a.right_pairs (λ e. absurd (differ refl e)) (λ e. absurd (differ refl e)) l;
-      size = λ e. absurd (differ refl e);
-      pairs_fit = omega (arith, length-append ps qs);
-    }
-
--- a branch holds no pair, so what is left of one that gave its place to its child is blank
-pub child_branch : (low : ℕ) (b : Bool) (ps : List Pair) (own : Option Start) (ss : List ℕ) → IsTrue (is_some (only_child_of (hash_body low b ps own ss))) → b ≡ true
-child_branch low true ps own ss h = refl
-child_branch low false ps own ss h = absurd (differ refl h)
-
-pub branch_empty : {low : ℕ} {b : Bool} {ps : List Pair} {own : Option Start} {ss : List ℕ} → Fit low b ps own ss → b ≡ true → ps ≡ []
-branch_empty {b = true} {ps} f e = nil_from_length ps (f.sound.branch_no_pairs refl)
-branch_empty {b = false} f e = absurd (differ refl e)
 
 -- edges
 
@@ -204,17 +157,6 @@ begins_above cut (s ∷ ss) a =
     let here : cut < s.low = All-head (λ s. cut < s.low) s ss a in
     let other : nat_eq s.low cut ≡ false = ne_eqb _ _ (λ e. omega arith) in
     rw other (begins_above cut ss (All-tail (λ s. cut < s.low) s ss a))
-
-begins_below : (cut : ℕ) (ss : List Start) → begins cut (starts_below cut ss) ≡ false
-begins_below cut [] = refl
-begins_below cut (s ∷ ss) = keep (nat_lt s.low cut) refl (begins_below cut ss)
-  where
-    keep : (t : Bool) → nat_lt s.low cut ≡ t → begins cut (starts_below cut ss) ≡ false → begins cut (cond t (s ∷ starts_below cut ss) (starts_below cut ss)) ≡ false
-    keep true e h =
-        let here : s.low < cut = ltb-true _ _ e in
-        let other : nat_eq s.low cut ≡ false = ne_eqb _ _ (λ q. omega arith) in
-        rw other h
-    keep false e h = h
 
 chosen : (P : ℕ → Type 0) (b : Bool) (m n : ℕ) → (b ≡ true → P m) → P n → P (cond b m n)
 chosen P true m n f h = f refl
@@ -275,17 +217,12 @@ fit_cuts {low} {b = false} {ps} {own} {ss} f full o span suits is =
         (chosen (λ n. (span.low < n) × (n ≤ span.last)) (is_whole span && list_all (λ s. nat_lt (middle_of span) s.low) (own_starts own)) (middle_of span) (fifth ps)
         (λ e. middle_inside span (and_first _ _ e)) (by_fifth eight))
 
-pub fit_cut_grows : (low : ℕ) (b : Bool) (ps : List Pair) (own : Option Start) (ss : List ℕ) → IsTrue (is_full hash_layout (hash_body low b ps own ss)) → (o : Option Span) →
-    IsTrue (hash_grows (hash_content low b ps own ss)) → o ≡ Some all_places → IsTrue (hash_can_grow (hash_content low b ps own ss) (hash_cut (hash_content low b ps own ss) o))
-fit_cut_grows low true ps own ss full o grows is = absurd (differ refl full)
-fit_cut_grows low false ps own ss full o grows is =
-    subst (λ q. IsTrue (hash_can_grow (hash_content low false ps own ss) (hash_cut (hash_content low false ps own ss) q))) (sym is) (rw grows refl)
-
-pub fit_adopts_after : (low : ℕ) (b : Bool) (ps : List Pair) (own : Option Start) (ss : List ℕ) (cut : ℕ) → is_branch_kind (kind_of b) ≡ false →
-    IsTrue (hash_can_adopt (record { starts = starts_below cut (hash_starts b own ss); pairs = pairs_below cut ps; low = low; kind = kind_of b }) cut)
-fit_adopts_after low b ps own ss cut leaf = rw (begins_below cut (hash_starts b own ss), leaf) refl
-
 pub fit_grows : {low : ℕ} {b : Bool} {ps : List Pair} {own : Option Start} {ss : List ℕ} → Fit low b ps own ss → IsTrue (is_branch (hash_body low b ps own ss) || nat_eq (length (hash_starts b own ss)) 0) → IsTrue (hash_grows (hash_content low b ps own ss))
 fit_grows {b = true} f h = refl
 fit_grows {b = false} {own = None} f h = refl
 fit_grows {b = false} {own = Some s} f h = absurd (differ refl h)
+
+pub fit_few : {low : ℕ} {b : Bool} {ps : List Pair} {own : Option Start} {ss : List ℕ} → Fit low b ps own ss → length (hash_starts b own ss) < 2 ^ 32 - 1
+fit_few {b = true} {ss = ss} f = let size = size_bounds (length ss) (f.size refl) in let few = starts_few ss in omega arith
+fit_few {b = false} {own = None} f = omega arith
+fit_few {b = false} {own = Some s} f = omega arith

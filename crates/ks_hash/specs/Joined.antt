@@ -1,22 +1,22 @@
 -- Starts of slices, joined where neighbours lead to the same child.
-use Rattle.std.specs.Prelude.{◌≡◌, ℕ, zero, suc, ◌+◌, ◌-◌, ◌*◌, ◌/◌, ◌%◌, ◌^◌, ◌<◌, ◌≤◌, Bool, true, false, cond, ◌||◌, nat_eq, nat_lt, nat_le, IsTrue, List, [], ◌∷◌, ◌++◌, length, get_or, take, drop, filter, remove, position, slice_get, is_some, find, Option, None, Some, All, refl}
+use Rattle.std.specs.Prelude.{◌≡◌, ℕ, zero, suc, ◌+◌, ◌-◌, ◌*◌, ◌/◌, ◌^◌, ◌<◌, ◌≤◌, Bool, true, false, cond, ◌||◌, nat_eq, nat_lt, IsTrue, List, [], ◌∷◌, ◌++◌, length, get_or, take, drop, position, slice_get, is_some, Option, None, Some, All, refl}
 use Rattle.std.specs.Option.{option_map}
 use Rattle.std.proofs.Common.{arith, drop-cons, ap, ◌∙◌, sym, subst, inl, inr, ◌⊎◌}
 use Rattle.std.proofs.lemmas.Bool.{lt-ltb, le-ltb, le-leb, lt-leb, eqb-true, eq-eqb, ne_eqb}
 use Rattle.std.proofs.lemmas.Bool.Decides.{leb_tells, eqb_tells}
-use Rattle.std.proofs.lemmas.List.{length-append, length-take-le, length-drop, take-append-drop, get_or_append_left, get_or-take, append-nil, append_assoc}
+use Rattle.std.proofs.lemmas.List.{length-append, length-take-le, take-append-drop, get_or_append_left, get_or-take, append-nil}
 use Rattle.std.proofs.lemmas.List.Sums.{position_or_len_is, fails_before_first}
 use Rattle.std.proofs.lemmas.List.Quantifiers.{position-Some}
 use Rattle.std.specs.List.{position_or_len}
 use Rattle.std.proofs.lemmas.Grind.{get_or_default_zero}
-use Rattle.std.proofs.Math.Seq.{get_or-append_seam, take-append_seam, drop-append_seam, drop-append-add}
-use Rattle.std.proofs.lemmas.List.Elements.{filter-append, All-weaker, All-cons, All-head, All-tail, All-append, All-nil}
+use Rattle.std.proofs.Math.Seq.{get_or-append_seam, take-append_seam, drop-append-add}
+use Rattle.std.proofs.lemmas.List.Elements.{filter-append, All-weaker, All-cons, All-head, All-tail, All-nil}
 use Rattle.std.proofs.Math.Nat.{mul_comm}
 use Rattle.ks_keysets.specs.Record.{top}
 use Rattle.ks_node.specs.declared.start.Start.{Start}
 use Rattle.ks_node.specs.Keyed.{Ascends}
 use Rattle.ks_node.specs.Ascend.{asc_nil, asc_tail, asc_head, asc_cons}
-use Rattle.ks_node.specs.Body.{last_node, led_to, starts_below, starts_from, begins, first_node}
+use Rattle.ks_node.specs.Body.{last_node, led_to, starts_below, starts_from, begins}
 use Rattle.ks_node.specs.Effect.{runs, runs_after, without, without_at}
 use Rattle.ks_node.specs.Sound.{starts_at_zero}
 use Rattle.ks_hash.specs.Slices.{is_size, width_of, slice_starts, repeats, starts_of, doubled, led_over, run_led}

@@ -1,5 +1,5 @@
 -- The slices of a directory: equal parts of all places, each with the child that it leads to.
-use Rattle.std.specs.Prelude.{◌≡◌, ℕ, ◌+◌, ◌/◌, ◌^◌, ◌||◌, Bool, false, cond, nat_eq, IsTrue, List, [], ◌∷◌, ◌++◌, length, get_or, take, drop, Option, None, Some}
+use Rattle.std.specs.Prelude.{ℕ, ◌+◌, ◌/◌, ◌^◌, ◌||◌, Bool, false, cond, nat_eq, List, [], ◌∷◌, ◌++◌, length, get_or, take, drop, Option, None, Some}
 use Rattle.ks_node.specs.declared.start.Start.{Start}
 use Rattle.ks_node.specs.Effect.{runs}
 

@@ -298,9 +298,11 @@ impl Unlinked for HNode {
 }
 
 impl Growing for HNode {
-    ghost use Rattle.ks_hash.specs.Fits.{fit_grows};
+    ghost use Rattle.ks_hash.specs.Fits.{fit_grows, fit_few};
 
     ghost grows_where = { λ n h. fit_grows n.fit h };
+
+    ghost few_edges = { λ n. fit_few n.fit };
 }
 
 #[cfg(test)]

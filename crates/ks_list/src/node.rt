@@ -186,7 +186,7 @@ impl Node for ListNode {
 }
 
 impl Unlinked for ListNode {
-    ghost use Rattle.std.specs.Prelude.{refl};
+    ghost use Rattle.std.specs.Prelude.{◌≡◌, refl};
     ghost use Rattle.std.proofs.Common.{inl};
     ghost use Rattle.ks_list.specs.Fits.{fit_adopts};
 
@@ -207,7 +207,7 @@ impl Unlinked for ListNode {
 
     fn reach(&mut self, _right: &Self) {}
 
-    // A list node never grows, so no call meets what this one asks.
+    // A list node never becomes a branch: no call at a node asks for this.
     fn grow(
         &mut self,
         _left: &mut Self,
@@ -215,7 +215,11 @@ impl Unlinked for ListNode {
         _left_id: u32,
         _right_id: u32,
         _cut: u64,
-    ) {}
+    )
+        ensures branch { self.new ≡ self.old }
+        ensures left { _left.new ≡ _left.old }
+        ensures right { _right.new ≡ _right.old }
+    {}
 
     fn absorb(&mut self, right: &mut Self) {
         append_pairs(&mut self.pairs, &mut right.pairs);
@@ -224,8 +228,13 @@ impl Unlinked for ListNode {
         right.low = 0;
     }
 
-    // It is never a branch: no call meets what these two ask.
-    fn forget(&mut self, _id: u32) {}
+    // It is no branch: it leads to no child that it could forget, or become.
+    fn forget(&mut self, _id: u32)
+        ensures { self.new ≡ self.old }
+    {}
 
-    fn collapse(&mut self, _child: &mut Self) {}
+    fn collapse(&mut self, _child: &mut Self)
+        ensures parent { self.new ≡ self.old }
+        ensures child { _child.new ≡ _child.old }
+    {}
 }

@@ -10,3 +10,4 @@ pub mod Leading
 pub mod RunLines
 pub mod Replying
 pub mod Checking
+pub mod Spelled

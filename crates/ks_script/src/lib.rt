@@ -9,6 +9,7 @@ mod answers;
 mod checked;
 mod fault;
 mod front;
+mod laws;
 mod memory;
 mod outside;
 mod pieces;
@@ -19,6 +20,7 @@ mod words;
 
 pub use checked::read_checked;
 pub use fault::{Failed, ReadFault, TextFault};
+pub use laws::{one_spelling, written_is_read};
 pub use memory::{CleanSink, CleanSource, MemSink, MemSource};
 pub use outside::{Sink, Source};
 pub use pieces::send;

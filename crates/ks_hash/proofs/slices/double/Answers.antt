@@ -1,4 +1,4 @@
-use Rattle.std.proofs.Common.{arith, ◌∙◌, ap, ◌++◌, ◌∷◌, [], get_or, refl}
+use Rattle.std.proofs.Common.{arith}
 use Rattle.ks_hash.proofs.Steps.{double_more}
 use Rattle.ks_hash.proofs.slices.double.Goals as goal
 

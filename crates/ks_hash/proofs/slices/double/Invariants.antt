@@ -1,4 +1,4 @@
-use Rattle.std.proofs.Common.{◌≡◌, ℕ, ◌+◌, take, length}
+use Rattle.std.proofs.Common.{◌≡◌, ◌+◌, take, length}
 use Rattle.ks_hash.specs.Slices.{doubled}
 use Rattle.ks_hash.proofs.slices.double.Given as goal
 

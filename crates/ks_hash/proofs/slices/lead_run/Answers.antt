@@ -1,4 +1,4 @@
-use Rattle.std.proofs.Common.{arith, ◌∙◌, sym, length}
+use Rattle.std.proofs.Common.{arith, ◌∙◌, sym}
 use Rattle.ks_hash.proofs.Steps.{lead_more, lead_end, lead_all}
 use Rattle.ks_hash.proofs.slices.lead_run.Goals as goal
 

@@ -1,4 +1,4 @@
-use Rattle.std.proofs.Common.{◌≡◌, ◌≤◌, ◌++◌, take, drop}
+use Rattle.std.proofs.Common.{◌≡◌, ◌++◌, take, drop}
 use Rattle.ks_hash.specs.Slices.{led_over, run_led}
 use Rattle.ks_hash.proofs.slices.lead_run.Given as goal
 

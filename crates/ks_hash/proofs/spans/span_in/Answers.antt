@@ -1,6 +1,4 @@
-use Rattle.std.proofs.Common.{arith, ap, ◌∙◌, ◌≡◌, ◌-◌, ◌<◌, ◌≤◌, sym, subst, Some, get_or, length}
-use Rattle.ks_keysets.specs.Record.{top}
-use Rattle.ks_node.specs.Spans.{plain_edges}
+use Rattle.std.proofs.Common.{arith, ap, ◌∙◌, ◌≡◌, sym, subst, Some}
 use Rattle.ks_node.specs.Asks.{IsSpanOf}
 use Rattle.ks_hash.proofs.Edges.{run_at, span_at}
 use Rattle.ks_hash.proofs.spans.span_in.Goals as goal

@@ -1,13 +1,22 @@
-use Rattle.std.proofs.Common.{rules, arith, ◌≡◌, ℕ, ◌<◌, length, [], sym, ap, ◌∙◌, subst, refl}
+use Rattle.std.proofs.Common.{rules, arith, ◌≡◌, ℕ, ◌<◌, List, length, [], sym, ap, ◌∙◌, subst, refl}
 use Rattle.std.specs.Slots.{slots_items}
 use mathlib.Core.Option.{none}
 use Rattle.atomic_table.specs.Table.{Final, Seen, step}
+use lib.ListN.{get_elem?}
+use Rattle.ks_history.specs.declared.Event.{Event}
+use Rattle.ks_history.specs.Trace.{graph_after, turn_after, frame_after, number_after}
+use Rattle.ks_history.specs.Lawful.{Lawful, GoodThroughout}
+use Rattle.ks_history.specs.Due.{FullsDue}
+use Rattle.ks_history.specs.Passes.{CallersBelow}
+use Rattle.ks_arena.specs.Clauses.{seen_first, EndsAll}
 use Rattle.ks_arena.specs.declared.view.View.{View}
-use Rattle.ks_arena.specs.Sound.{sort_of}
-use Rattle.ks_arena.specs.Rule.{Running, note_view}
-use Rattle.ks_arena.proofs.Crew.{joins_ok, gathers_ok, notes_ok, closes}
+use Rattle.ks_arena.specs.Sound.{sort_of, blank_of, Sound}
+use Rattle.ks_arena.specs.Rule.{Running, Closes, Ends, turn_word, note_view}
+use Rattle.ks_arena.proofs.Crew.{joins_ok, gathers_ok, notes_ok, closes, closes_below}
 use Rattle.ks_arena.proofs.Closing.{Joining, begins_joining, takes_in, emptied, Ended, ended, next_in}
+use Rattle.ks_arena.proofs.arena.Arena.close.Given.{Over}
 use Rattle.ks_arena.proofs.arena.Arena.close.Goals as goal
+use Rattle.ks_arena.proofs.arena.Arena.close.Goals.{After-drop-passes}
 
 pub loop-pass-init : goal.loop-pass-init
 loop-pass-init g c = begins_joining (sort_of g.N.Node.layout g.N.Node.ranged) g.D.Discipline.begins g.D.Discipline.step _ _ _ _ _ c.requires c.in-Some.ensures.items
@@ -24,13 +33,38 @@ load-requires g c = (c.loop-pass.invariant.table, search rules, gathers_ok (sort
 pub split_seat-requires : goal.split_seat-requires
 split_seat-requires g c = (c.load.ensures.0 ∙ c.loop-pass.invariant.table, search rules, notes_ok (sort_of g.N.Node.layout g.N.Node.ranged) g.D.Discipline.begins g.D.Discipline.step g.N.Node.body _ c.load.new.seat.me.0)
 
-pub returns : goal.returns
-returns g c = let v : View = c.load.new.seat.me.0 in let n : ℕ = c.args.self.callers in let pos : 0 < n = c.args.self.sized.3 in let none_left : length c.loop-pass.passes.items ≡ 0 = search rules in
-    let e = ended (sort_of g.N.Node.layout g.N.Node.ranged) g.D.Discipline.begins g.D.Discipline.step g.N.Node.body (step c.args.self.table.shared.table_id.slots 0 0 0 none) _ n 0 c.args.passes.items c.loop-pass.passes.items c.loop-pass.base c.load.new.seat.me pos c.requires c.loop-pass.invariant (emptied (sort_of g.N.Node.layout g.N.Node.ranged) g.D.Discipline.begins g.D.Discipline.step _ none_left) c.load.ensures.2 in
-    let fin = c.close_with.ensures.values.2 in let same : c.split_seat.new.seat.me.0 ≡ v = ap (λ m. m.0) c.split_seat.ensures.2 in (
-      note_view v,
-      search rules,
-      closes (sort_of g.N.Node.layout g.N.Node.ranged) g.D.Discipline.begins g.D.Discipline.step g.N.Node.body c.split_seat.new.seat.id n v (slots_items c.close_with.result.words) (slots_items c.close_with.result.slots) e.made (λ z. omega arith) e.all e.quiet
-          (subst (λ (z : View). Final (Seen (Running (sort_of g.N.Node.layout g.N.Node.ranged) g.D.Discipline.begins g.D.Discipline.step g.N.Node.body) c.split_seat.new.seat.id z) (slots_items c.close_with.result.words) (slots_items c.close_with.result.slots)) same fin),
-      e.ends,
-    )
+joined : (g : Over) (c : After-drop-passes g) → Ended (sort_of g.N.Node.layout g.N.Node.ranged) g.D.Discipline.begins g.D.Discipline.step c.args.self.callers 0 c.args.passes.items c.load.new.seat.me.0
+joined g c = let pos : 0 < c.args.self.callers = c.args.self.sized.3 in let none_left : length c.loop-pass.passes.items ≡ 0 = search rules in
+    ended (sort_of g.N.Node.layout g.N.Node.ranged) g.D.Discipline.begins g.D.Discipline.step g.N.Node.body (step c.args.self.table.shared.table_id.slots 0 0 0 none) _ c.args.self.callers 0 c.args.passes.items c.loop-pass.passes.items c.loop-pass.base c.load.new.seat.me pos c.requires c.loop-pass.invariant (emptied (sort_of g.N.Node.layout g.N.Node.ranged) g.D.Discipline.begins g.D.Discipline.step _ none_left) c.load.ensures.2
+
+fin : (g : Over) (c : After-drop-passes g) → Final (Seen (Running (sort_of g.N.Node.layout g.N.Node.ranged) g.D.Discipline.begins g.D.Discipline.step g.N.Node.body) c.split_seat.new.seat.id c.load.new.seat.me.0) (slots_items c.close_with.result.words) (slots_items c.close_with.result.slots)
+fin g c = let same : c.split_seat.new.seat.me.0 ≡ c.load.new.seat.me.0 = ap (λ m. m.0) c.split_seat.ensures.2 in subst (λ (z : View). Final (Seen (Running (sort_of g.N.Node.layout g.N.Node.ranged) g.D.Discipline.begins g.D.Discipline.step g.N.Node.body) c.split_seat.new.seat.id z) (slots_items c.close_with.result.words) (slots_items c.close_with.result.slots)) same c.close_with.ensures.values.2
+
+ends : (g : Over) (c : After-drop-passes g) → Closes (sort_of g.N.Node.layout g.N.Node.ranged) g.D.Discipline.begins g.D.Discipline.step g.N.Node.body c.load.new.seat.me.0.seen (slots_items c.close_with.result.words) (slots_items c.close_with.result.slots)
+ends g c = let pos : 0 < c.args.self.callers = c.args.self.sized.3 in let e = joined g c in closes (sort_of g.N.Node.layout g.N.Node.ranged) g.D.Discipline.begins g.D.Discipline.step g.N.Node.body c.split_seat.new.seat.id c.args.self.callers c.load.new.seat.me.0 (slots_items c.close_with.result.words) (slots_items c.close_with.result.slots) e.made (λ z. omega arith) e.all e.quiet (fin g c)
+
+trace_is : (g : Over) (c : After-drop-passes g) → seen_first c.into_badge-badge.result.views ≡ c.load.new.seat.me.0.seen
+trace_is g c = ap seen_first c.into_badge-badge.ensures.2 ∙ ap (λ m. m.0.seen) c.split_seat.ensures.4
+
+slot_count : (g : Over) (c : After-drop-passes g) → length (slots_items c.close_with.result.slots) ≡ c.args.self.nodes
+slot_count g c = let n = c.close_with.ensures.counts.1 in let m = c.close_with.result.slots.ok.0 in let k = c.args.self.sized.1 in sym m ∙ n ∙ k
+
+pub returns-clause-run : goal.returns-clause-run
+returns-clause-run g c = let e = ends g c in let v = c.load.new.seat.me.0.seen in let n : ℕ = length (slots_items c.close_with.result.slots) in let same = slot_count g c in let t = sym (trace_is g c) in record {
+  lawful = subst Lawful t (c.sound_law.ensures.lawful (sort_of g.N.Node.layout g.N.Node.ranged) n v e.sound);
+  good = subst GoodThroughout t (c.sound_law.ensures.good (sort_of g.N.Node.layout g.N.Node.ranged) n v e.sound);
+  due = subst (λ (z : ℕ × List Event). FullsDue g.N.Node.layout z.0 z.1) (λ k. (same k, t k)) (c.sound_law.ensures.due (sort_of g.N.Node.layout g.N.Node.ranged) n v e.sound);
+  sized = same;
+  count = e.count ∙ ap number_after t;
+  turns = λ i near. e.turns i (subst (λ (z : ℕ). i < z) (sym same) near) ∙ ap (λ (z : List Event). turn_word (turn_after z i)) t;
+  ends = λ i near. subst (λ (z : List Event). Ends (sort_of g.N.Node.layout g.N.Node.ranged) g.N.Node.body (graph_after z i) (frame_after (blank_of (sort_of g.N.Node.layout g.N.Node.ranged)) z i) (turn_after z i) (get_elem? (slots_items c.close_with.result.slots) i)) t (e.ends i (subst (λ (z : ℕ). i < z) (sym same) near));
+}
+
+pub returns-clause-sound : goal.returns-clause-sound
+returns-clause-sound g c = subst (λ (z : ℕ × List Event). Sound (sort_of g.N.Node.layout g.N.Node.ranged) g.D.Discipline.begins g.D.Discipline.step z.0 z.1) (λ k. (slot_count g c k, sym (trace_is g c) k)) (ends g c).sound
+
+pub returns-clause-seen : goal.returns-clause-seen
+returns-clause-seen g c = subst (λ (z : List Event). EndsAll z c.args.passes.items) (sym (trace_is g c)) (joined g c).ends
+
+pub returns-clause-callers : goal.returns-clause-callers
+returns-clause-callers g c = let pos : 0 < c.args.self.callers = c.args.self.sized.3 in subst (CallersBelow c.args.self.callers) (sym (trace_is g c)) (closes_below (sort_of g.N.Node.layout g.N.Node.ranged) g.D.Discipline.begins g.D.Discipline.step g.N.Node.body c.split_seat.new.seat.id c.args.self.callers c.load.new.seat.me.0 (slots_items c.close_with.result.words) (slots_items c.close_with.result.slots) (joined g c).made (λ z. omega arith) (fin g c))

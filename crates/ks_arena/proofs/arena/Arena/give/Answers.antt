@@ -9,7 +9,7 @@ use Rattle.ks_arena.specs.Rule.{turn_word}
 use Rattle.ks_arena.specs.Plays.{Shows, drop_slot}
 use Rattle.ks_arena.proofs.Moves.{brings_ok, gives_ok}
 use Rattle.ks_arena.proofs.Hold.{top_rest, top_same, hand_near, holds_it}
-use Rattle.ks_arena.proofs.After.{matches_shows, pass_again, Ready, ready, Given, gave_it}
+use Rattle.ks_arena.proofs.After.{still, matches_shows, pass_again, Ready, ready, Given, gave_it}
 use Rattle.ks_arena.proofs.arena.Arena.give.Given.{Over}
 use Rattle.ks_arena.proofs.arena.Arena.give.Goals as goal
 use Rattle.ks_arena.proofs.arena.Arena.give.Goals.{In-None, After-store, then-live, else-live}
@@ -59,3 +59,6 @@ returns-clause-mine g c = (done g c).mine_is
 
 pub returns-clause-kept : goal.returns-clause-kept
 returns-clause-kept g c = (done g c).kept
+
+pub returns-clause-still : goal.returns-clause-still
+returns-clause-still g c = λ x ne has m. still (sort_of g.N.Node.layout g.N.Node.ranged) g.D.Discipline.begins g.D.Discipline.step g.N.Node.body _ _ c.args.pass.now _ x c.requires.pass has (λ t. returns-clause-kept g c x.node ne t) m

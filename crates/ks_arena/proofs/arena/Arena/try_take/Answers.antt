@@ -15,7 +15,7 @@ use Rattle.ks_arena.specs.Clauses.{Kept}
 use Rattle.ks_arena.proofs.Words.{word_free, word_other}
 use Rattle.ks_arena.proofs.Moves.{takes_ok}
 use Rattle.ks_arena.proofs.Hold.{top_rest, top_same, out_of, holds_not, makes_grows}
-use Rattle.ks_arena.proofs.After.{pass_again, Looked, looked, Gained, gained}
+use Rattle.ks_arena.proofs.After.{still, pass_again, Looked, looked, Gained, gained}
 use Rattle.ks_arena.proofs.arena.Arena.try_take.Given.{Over}
 use Rattle.ks_arena.proofs.arena.Arena.try_take.Goals as goal
 use Rattle.ks_arena.proofs.arena.Arena.try_take.Goals.{After-unwrap-body, Then-found-eq0, Else-found-eq0}
@@ -54,19 +54,20 @@ returns-then-found-eq1-clause-pass g c = let a = got g c in pass_again _ _ _ _ _
 
 pub returns-then-found-eq1-clause-took : goal.returns-then-found-eq1-clause-took
 returns-then-found-eq1-clause-took g c = let told = (hit g c).0 c.if-found-eq1.true in let a = got g c in let v : c.exchange.new.seat.me.0 ≡ c.compare_exchange-found.new.seat.me.0 = ap (λ (z : Seated g.row.N.Denot). z.0) (final g c) in
-    let same : Some told.1.0 ≡ Some c.unwrap-body.result = (top_same c.args.node (Some told.1.0) c.exchange.result c.compare_exchange-found.new.seat.me.1 _ _ told.1.1 c.exchange.ensures.2).0 ∙ c.unwrap-body.ensures in let body : told.1.0 ≡ c.unwrap-body.result = cc in (
-      refl,
-      refl,
-      record {
+    let same : Some told.1.0 ≡ Some c.unwrap-body.result = (top_same c.args.node (Some told.1.0) c.exchange.result c.compare_exchange-found.new.seat.me.1 _ _ told.1.1 c.exchange.ensures.2).0 ∙ c.unwrap-body.ensures in let body : told.1.0 ≡ c.unwrap-body.result = cc in record {
+      node = refl;
+      live = refl;
+      matches = record {
         is = (
           ap (λ (z : View). graph_after z.seen c.args.node) v ∙ told.1.2 ∙ ap (λ (z : g.row.N.Denot). Live (record_of (g.N.Node.body z))) body,
           ap (λ (z : View). frame_after (blank_of (sort_of g.N.Node.layout g.N.Node.ranged)) z.seen c.args.node) v ∙ told.1.3 ∙ ap (λ (z : g.row.N.Denot). frame_of (g.N.Node.body z)) body,
         );
-      },
-      subst (λ (z : View). GrowsWith c.args.pass.now.caller (Take c.args.pass.now.caller c.args.node) c.args.pass.now.seat.me.0.seen z.seen) (sym v) a.grows,
-      ap (λ (z : View). hand c.args.pass.now.caller z.seen) v ∙ a.hand_is,
-      ap (λ (z : View). mine c.args.pass.now.caller z.seen) v ∙ a.mine_is,
-    )
+      };
+      grows = subst (λ (z : View). GrowsWith c.args.pass.now.caller (Take c.args.pass.now.caller c.args.node) c.args.pass.now.seat.me.0.seen z.seen) (sym v) a.grows;
+      fresh = c.requires.fresh;
+      hand = ap (λ (z : View). hand c.args.pass.now.caller z.seen) v ∙ a.hand_is;
+      mine = ap (λ (z : View). mine c.args.pass.now.caller z.seen) v ∙ a.mine_is;
+    }
 
 pub returns-then-found-eq1-clause-kept : goal.returns-then-found-eq1-clause-kept
 returns-then-found-eq1-clause-kept g c = subst (λ (z : Seated g.row.N.Denot). Kept c.args.pass.now.caller c.args.pass.now.seat.me.0.seen z.0.seen) (sym (final g c)) (got g c).kept
@@ -78,7 +79,7 @@ pub returns-then-found-eq0-clause-pass : goal.returns-then-found-eq0-clause-pass
 returns-then-found-eq0-clause-pass g c = let a = then_missed g c in pass_again _ _ _ _ _ c.args.pass.now _ c.compare_exchange-found.new.seat.me c.requires.pass refl c.compare_exchange-found.ensures.0 refl a.follows a.carries a.slots a.sounds
 
 pub returns-then-found-eq0-clause-took : goal.returns-then-found-eq0-clause-took
-returns-then-found-eq0-clause-took g c = let a = then_missed g c in let told = (c.compare_exchange-found.ensures.2 c.args.pass.now.caller c.args.node c.requires.pass.own refl).1 c.if-found-eq1.false in (a.grows, word_free _ (sym told.2 ∙ c.if-found-eq0.true), a.hand_is, a.mine_is)
+returns-then-found-eq0-clause-took g c = let a = then_missed g c in let told = (c.compare_exchange-found.ensures.2 c.args.pass.now.caller c.args.node c.requires.pass.own refl).1 c.if-found-eq1.false in (record { grows = a.grows; hand = a.hand_is; mine = a.mine_is }, word_free _ (sym told.2 ∙ c.if-found-eq0.true))
 
 pub returns-then-found-eq0-clause-kept : goal.returns-then-found-eq0-clause-kept
 returns-then-found-eq0-clause-kept g c = (then_missed g c).kept
@@ -90,7 +91,16 @@ pub returns-else-found-eq0-clause-pass : goal.returns-else-found-eq0-clause-pass
 returns-else-found-eq0-clause-pass g c = let a = else_missed g c in pass_again _ _ _ _ _ c.args.pass.now _ c.compare_exchange-found.new.seat.me c.requires.pass refl c.compare_exchange-found.ensures.0 refl a.follows a.carries a.slots a.sounds
 
 pub returns-else-found-eq0-clause-took : goal.returns-else-found-eq0-clause-took
-returns-else-found-eq0-clause-took g c = let a = else_missed g c in let told = (c.compare_exchange-found.ensures.2 c.args.pass.now.caller c.args.node c.requires.pass.own refl).1 c.if-found-eq1.false in (a.grows, word_other _ _ told.2 c.if-found-eq1.false c.if-found-eq0.false, a.hand_is, a.mine_is)
+returns-else-found-eq0-clause-took g c = let a = else_missed g c in let told = (c.compare_exchange-found.ensures.2 c.args.pass.now.caller c.args.node c.requires.pass.own refl).1 c.if-found-eq1.false in (record { grows = a.grows; hand = a.hand_is; mine = a.mine_is }, word_other _ _ told.2 c.if-found-eq1.false c.if-found-eq0.false)
 
 pub returns-else-found-eq0-clause-kept : goal.returns-else-found-eq0-clause-kept
 returns-else-found-eq0-clause-kept g c = (else_missed g c).kept
+
+pub returns-then-found-eq1-clause-still : goal.returns-then-found-eq1-clause-still
+returns-then-found-eq1-clause-still g c = λ x has m. still (sort_of g.N.Node.layout g.N.Node.ranged) g.D.Discipline.begins g.D.Discipline.step g.N.Node.body _ _ c.args.pass.now _ x c.requires.pass has (λ t. returns-then-found-eq1-clause-kept g c x.node t) m
+
+pub returns-then-found-eq0-clause-still : goal.returns-then-found-eq0-clause-still
+returns-then-found-eq0-clause-still g c = λ x has m. still (sort_of g.N.Node.layout g.N.Node.ranged) g.D.Discipline.begins g.D.Discipline.step g.N.Node.body _ _ c.args.pass.now _ x c.requires.pass has (λ t. returns-then-found-eq0-clause-kept g c x.node t) m
+
+pub returns-else-found-eq0-clause-still : goal.returns-else-found-eq0-clause-still
+returns-else-found-eq0-clause-still g c = λ x has m. still (sort_of g.N.Node.layout g.N.Node.ranged) g.D.Discipline.begins g.D.Discipline.step g.N.Node.body _ _ c.args.pass.now _ x c.requires.pass has (λ t. returns-else-found-eq0-clause-kept g c x.node t) m

@@ -1,5 +1,3 @@
-use Rattle.std.proofs.Common.{◌∙◌, sym, ap, subst}
-use Rattle.ks_node.specs.Asks.{IsGoodCut}
 use Rattle.ks_hash.specs.Fits.{fit_cuts}
 use Rattle.ks_hash.proofs.node.HNodeNode.cut.Goals as goal
 

@@ -1,0 +1,7 @@
+use Rattle.std.proofs.Common.{ap}
+use Rattle.ks_history.specs.Stays.{lawful_in_turn}
+use Rattle.ks_arena.specs.FromSound.{live_not_free}
+use Rattle.ks_arena.proofs.laws.link_live_law.Goals as goal
+
+pub returns : goal.returns
+returns c = λ sort nodes i k h from so live. live_not_free h i (lawful_in_turn h (c.sound_law.ensures.lawful sort nodes h so)) ((c.sound_law.ensures.lasts sort nodes k h from so).live i live)

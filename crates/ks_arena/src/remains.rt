@@ -1,0 +1,25 @@
+//! The words and the bodies of an arena that has ended.
+ghost use Rattle.std.specs.Prelude.{◌<◌};
+ghost use Rattle.std.specs.Slots.{IsFull, slots_len};
+ghost use Rattle.std.proofs.Props.{props};
+
+use atomic_table::Closed;
+use std::alloc::Global;
+
+pub struct Remains<N> {
+    pub(crate) closed: Closed<Option<N>, Global>,
+    ghost full: { IsFull closed.words × IsFull closed.slots } by { Prim.hlevel props },
+    ghost some: { 0 < slots_len closed.words },
+}
+
+impl<N: Drop> Drop for Remains<N> {
+    fn drop(self) {
+        let Remains { mut closed } = self;
+        let mut i = 0;
+        while i < closed.slot_count() {
+            drop(closed.take(i));
+            i += 1;
+        }
+        closed.free();
+    }
+}

@@ -1,0 +1,126 @@
+-- Texts and their lines, there and back.
+use Rattle.std.proofs.Common.{ℕ, ◌≡◌, ◌⊎◌, ◌+◌, ◌^◌, ◌<◌, ◌≤◌, Bool, true, false, ◌||◌, eqb, cond, List, [], ◌∷◌, ◌++◌, length, map, refl, sym, ap, subst, ◌∙◌, append_assoc, arith, codes, inl, inr, length-append}
+use Rattle.std.proofs.lemmas.List.{length-map}
+use Rattle.std.proofs.lemmas.Bool.{false≢true, eq-eqb}
+use Rattle.std.proofs.lemmas.Bool.Decides.{eqb_tells}
+use Rattle.std.specs.Fmt.{decimal}
+use Rattle.std.specs.List.{AllByRecursion, onto_first}
+use Rattle.ks_history.specs.declared.Op.{Op}
+use Rattle.ks_history.specs.declared.Op.TheVariants.{Get, Put, Del, Add, Swap}
+use Rattle.ks_history.specs.declared.Reply.{Reply}
+use Rattle.ks_history.specs.declared.Reply.TheVariants.{Nothing, Value, Full}
+use Rattle.ks_script.specs.Lines.{Lacks, lines_of, text_of}
+use Rattle.ks_script.specs.Script.{IsCall, IsScript, call_line, script_lines}
+use Rattle.ks_script.specs.Run.{Run, reply_word, reply_line, pair_line, callers_from, map_lines, run_lines}
+use Rattle.ks_script.specs.Checked.{IsReply, IsAnswered, AscendFrom, IsRunOf, CheckedOf}
+use Rattle.ks_script.proofs.Cuts.{lines_first, decimal_lacks}
+
+-- whether the byte stands there
+abbrev stands : ℕ → List ℕ → Bool
+stands c [] = false
+stands c (b ∷ bytes) = eqb b c || stands c bytes
+
+lacks_by : (c : ℕ) (bytes : List ℕ) → stands c bytes ≡ false → Lacks c bytes
+lacks_by c [] h = tt
+lacks_by c (b ∷ bytes) h = let parts = neither (eqb b c) (stands c bytes) h in ((λ e. false≢true (sym parts.0 ∙ eq-eqb b c e)), lacks_by c bytes parts.1)
+  where
+    neither : (x y : Bool) → (x || y) ≡ false → (x ≡ false) × (y ≡ false)
+    neither false y h = (refl, h)
+    neither true y h = absurd (false≢true (sym h))
+
+lacks_append : (c : ℕ) (a b : List ℕ) → Lacks c a → Lacks c b → Lacks c (a ++ b)
+lacks_append c [] b h k = k
+lacks_append c (x ∷ a) b h k = (h.0, lacks_append c a b h.1 k)
+
+abbrev Plain : List (List ℕ) → Type 0
+Plain ls = AllByRecursion (Lacks 10) ls
+
+plain_append : (a b : List (List ℕ)) → Plain a → Plain b → Plain (a ++ b)
+plain_append [] b h k = k
+plain_append (l ∷ a) b h k = (h.0, plain_append a b h.1 k)
+
+number : (n : ℕ) → n < 2 ^ 64 → Lacks 10 (decimal n)
+number n h = decimal_lacks 10 refl n h
+
+spaced : (a b : List ℕ) → Lacks 10 a → Lacks 10 b → Lacks 10 (a ++ codes " " ++ b)
+spaced a b h k = lacks_append 10 (a ++ codes " ") b (lacks_append 10 a (codes " ") h (lacks_by 10 (codes " ") refl)) k
+
+plain_call : (op : Op) → IsCall op → Lacks 10 (call_line op)
+plain_call (Get k) h = lacks_append 10 (codes "get ") (decimal k) (lacks_by 10 (codes "get ") refl) (number k h)
+plain_call (Del k) h = lacks_append 10 (codes "del ") (decimal k) (lacks_by 10 (codes "del ") refl) (number k h)
+plain_call (Put k v) h = spaced (codes "put " ++ decimal k) (decimal v) (lacks_append 10 (codes "put ") (decimal k) (lacks_by 10 (codes "put ") refl) (number k h.0)) (number v h.1)
+plain_call (Add k v) h = absurd h
+plain_call (Swap k v w) h = absurd h
+
+plain_calls : (ops : List Op) → AllByRecursion IsCall ops → Plain (map call_line ops)
+plain_calls [] h = tt
+plain_calls (op ∷ ops) h = (plain_call op h.0, plain_calls ops h.1)
+
+plain_script : (s : List (List Op)) → AllByRecursion (AllByRecursion IsCall) s → Plain (script_lines s)
+plain_script [] h = tt
+plain_script (ops ∷ s) h = (lacks_by 10 (codes "caller") refl, plain_append (map call_line ops) (script_lines s) (plain_calls ops h.0) (plain_script s h.1))
+
+plain_word : (r : Reply) → IsReply r → Lacks 10 (reply_word r)
+plain_word Nothing h = lacks_by 10 (codes "none") refl
+plain_word (Value v) h = number v h
+plain_word Full h = lacks_by 10 (codes "full") refl
+
+plain_replies : (rs : List (ℕ × Reply)) → AllByRecursion IsAnswered rs → Plain (map reply_line rs)
+plain_replies [] h = tt
+plain_replies (r ∷ rs) h = (spaced (decimal r.0) (reply_word r.1) (number r.0 h.0.0) (plain_word r.1 h.0.1), plain_replies rs h.1)
+
+plain_pairs : (n : ℕ) (ps : List (ℕ × ℕ)) → AscendFrom n ps → Plain (map pair_line ps)
+plain_pairs n [] h = tt
+plain_pairs n (p ∷ ps) h = (spaced (decimal p.0) (decimal p.1) (number p.0 h.1) (number p.1 h.2), plain_pairs (p.0 + 1) ps h.3)
+
+plain_callers : (n : ℕ) (cs : List (List (ℕ × Reply))) → n + length cs ≤ 64 → AllByRecursion (AllByRecursion IsAnswered) cs → Plain (callers_from n cs)
+plain_callers n [] few h = tt
+plain_callers n (c ∷ cs) few h = (
+  lacks_append 10 (codes "caller ") (decimal n) (lacks_by 10 (codes "caller ") refl) (number n (omega arith)),
+  plain_append (map reply_line c) (callers_from (n + 1) cs) (plain_replies c h.0) (plain_callers (n + 1) cs (omega arith) h.1),
+)
+
+plain_map : (ps : List (ℕ × ℕ)) → AscendFrom 0 ps → Plain (map_lines ps)
+plain_map ps h = (lacks_by 10 (codes "map") refl, plain_append (map pair_line ps) (codes "end" ∷ []) (plain_pairs 0 ps h) (lacks_by 10 (codes "end") refl, tt))
+
+-- the lines of a text of lines
+pub lines_again : (ls : List (List ℕ)) → Plain ls → lines_of (text_of ls) ≡ ls
+lines_again [] h = refl
+lines_again (l ∷ ls) h = ap lines_of (append_assoc l (10 ∷ []) (text_of ls)) ∙ (lines_first l (text_of ls) h.0 ∙ ap (λ ms. l ∷ ms) (lines_again ls h.1))
+
+pub written_read : (s : List (List Op)) (run : Run) → IsScript s → IsRunOf s run → CheckedOf (text_of (script_lines s ++ codes "run" ∷ run_lines run)) s run
+written_read s run is of =
+    let many : length run.callers ≡ length s = sym (length-map run.callers (λ (ls : List (ℕ × Reply)). length ls)) ∙ (ap (λ (ns : List ℕ). length ns) of.shape ∙ length-map s (λ (ops : List Op). length ops)) in
+    let few : 0 + length run.callers ≤ 64 = (let m = is.callers in omega arith) in
+    record {
+      is_script = is;
+      is_run = of;
+      lines_are = lines_again (script_lines s ++ codes "run" ∷ run_lines run)
+          (plain_append (script_lines s) (codes "run" ∷ run_lines run) (plain_script s is.each)
+          (lacks_by 10 (codes "run") refl, plain_append (callers_from 0 run.callers) (map_lines run.pairs) (plain_callers 0 run.callers few of.each) (plain_map run.pairs of.ascend)));
+    }
+
+-- the text of the lines of a text is that text, with a byte 10 at its end
+abbrev Whole : List ℕ → List ℕ → Type 0
+Whole text bytes = (text ≡ bytes) ⊎ (text ≡ bytes ++ 10 ∷ [])
+
+one_byte_more : (b : ℕ) (text bytes : List ℕ) → Whole text bytes → Whole (b ∷ text) (b ∷ bytes)
+one_byte_more b text bytes (inl e) = inl (ap (λ (x : List ℕ). b ∷ x) e)
+one_byte_more b text bytes (inr e) = inr (ap (λ (x : List ℕ). b ∷ x) e)
+
+onto : (b : ℕ) (ls : List (List ℕ)) (bytes : List ℕ) → Whole (text_of ls) bytes → Whole (text_of (onto_first b ls)) (b ∷ bytes)
+onto b [] bytes (inl e) = inr (ap (λ (x : List ℕ). b ∷ x ++ 10 ∷ []) e)
+onto b [] bytes (inr e) = absurd (omega (arith, ap length e, length-append bytes (10 ∷ [])))
+onto b (l ∷ ls) bytes h = one_byte_more b (text_of (l ∷ ls)) bytes h
+
+pub ends_whole : (bytes : List ℕ) → Whole (text_of (lines_of bytes)) bytes
+ends_whole [] = inl refl
+ends_whole (b ∷ bytes) =
+    elim (eqb_tells b 10) [
+      | inl same ↦
+          (let line : lines_of (b ∷ bytes) ≡ [] ∷ lines_of bytes = ap (λ t. cond t ([] ∷ lines_of bytes) (onto_first b (lines_of bytes))) same.0 in
+          subst (λ ls. Whole (text_of ls) (b ∷ bytes)) (sym line) (subst (λ (k : ℕ). Whole (k ∷ text_of (lines_of bytes)) (b ∷ bytes)) same.1 (one_byte_more b (text_of (lines_of bytes)) bytes (ends_whole bytes))))
+      | inr other ↦
+          (let line : lines_of (b ∷ bytes) ≡ onto_first b (lines_of bytes) = ap (λ t. cond t ([] ∷ lines_of bytes) (onto_first b (lines_of bytes))) other.0 in
+          subst (λ ls. Whole (text_of ls) (b ∷ bytes)) (sym line) (onto b (lines_of bytes) bytes (ends_whole bytes)))
+    ]

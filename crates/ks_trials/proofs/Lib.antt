@@ -1,0 +1,2 @@
+pub mod FirstEdge
+pub mod Own

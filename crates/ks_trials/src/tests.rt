@@ -1,0 +1,115 @@
+ghost use Rattle.std.specs.Prelude.{◌<◌};
+
+use crate::asked;
+use crate::trial::Trial;
+use ks_bplus::BNode;
+use ks_linked::WithLink;
+use ks_list::ListNode;
+use ks_node::{Linked, Node, Ranged, Unlinked, WithRange};
+use std::alloc::Global;
+use std::process::Abort;
+
+fn keeps_a_pair<N: Node>(rt: &impl Abort, alloc: Global) {
+    let mut node = asked::blank::<N>(rt, alloc);
+    assert_eq!(rt; asked::put_first(rt, &mut node, 3, 30), None);
+    assert_eq!(rt; node.get(3), Some(30));
+    assert_eq!(rt; node.get(4), None);
+}
+
+/// A leaf grows, its halves split to the right, and the branch over them takes in the new nodes.
+fn goes_right<N: Linked>(rt: &impl Abort, alloc: Global, length: u64, step: usize) -> Trial<N>
+    requires { 0 < step }
+{
+    let mut root = Trial::<N>::blank(rt, alloc, length);
+    root.fill(rt, 0, 64, step);
+    let (mut left, mut right) = root.grow_link(rt, alloc, 32, [1, 2]);
+    left.fill(rt, step / 2, 32, step);
+    let third = left.split_link(rt, alloc, 16, 3);
+    right.fill(rt, 32 + step / 2, 64, step);
+    let fourth = right.split_link(rt, alloc, 48, 4);
+    left.links_to(rt, &third, 3);
+    third.links_to(rt, &right, 2);
+    right.links_to(rt, &fourth, 4);
+    assert_eq!(rt; fourth.node.link(), None);
+    root.adopt(rt, 48, 4);
+    root.adopt(rt, 16, 3);
+    root.adopt_dozen(rt);
+    root
+}
+
+/// A leaf grows, a half splits and takes its right part in again, and all becomes one leaf.
+fn merges<N: Unlinked + Ranged>(rt: &impl Abort, alloc: Global, length: u64, step: usize)
+    requires { 0 < step }
+{
+    let mut root = Trial::<N>::blank(rt, alloc, length);
+    root.fill(rt, 0, 64, step);
+    let (mut left, mut right) = root.grow(rt, alloc, 32, [1, 2]);
+    left.fill(rt, step / 2, 32, step);
+    let mut third = left.split(rt, alloc, 16);
+    root.adopt(rt, 16, 3);
+    left.reach(rt, &third);
+    left.absorb(rt, &mut third);
+    root.forget(rt, 3);
+    left.thin(rt, step / 2, 32, step);
+    left.absorb(rt, &mut right);
+    root.forget(rt, 2);
+    root.collapse(rt, &mut left);
+}
+
+/// A full branch grows, and its halves join again.
+fn branches_merge<N: Unlinked + Ranged>(rt: &impl Abort, alloc: Global) {
+    let mut root = Trial::<N>::blank(rt, alloc, 1);
+    root.fill(rt, 0, 64, 4);
+    let _ = root.grow(rt, alloc, 32, [1, 2]);
+    root.adopt(rt, 48, 4);
+    root.adopt(rt, 16, 3);
+    root.adopt_dozen(rt);
+    let (mut left, mut right) = root.grow(rt, alloc, 32, [5, 6]);
+    left.absorb(rt, &mut right);
+    root.forget(rt, 6);
+    root.collapse(rt, &mut left);
+}
+
+/// A node splits twice, keeps an edge of its own to each right part, and takes them in again.
+fn chains<N: Unlinked + Ranged>(rt: &impl Abort, alloc: Global) {
+    let mut first = Trial::<N>::blank(rt, alloc, 1);
+    first.fill(rt, 0, 64, 8);
+    let mut last = first.split(rt, alloc, 32);
+    first.reach(rt, &last);
+    first.adopt(rt, 32, 1);
+    first.fill(rt, 4, 32, 8);
+    let mut middle = first.split(rt, alloc, 16);
+    first.reach(rt, &middle);
+    first.adopt(rt, 16, 2);
+    first.absorb(rt, &mut middle);
+    first.thin(rt, 4, 32, 8);
+    first.absorb(rt, &mut last);
+}
+
+#[test]
+fn blank_nodes_keep_a_pair(rt: HostRuntime) {
+    keeps_a_pair::<ListNode>(&rt, rt.alloc());
+    keeps_a_pair::<BNode>(&rt, rt.alloc());
+    keeps_a_pair::<WithRange<ListNode>>(&rt, rt.alloc());
+    keeps_a_pair::<WithRange<BNode>>(&rt, rt.alloc());
+    keeps_a_pair::<WithLink<BNode>>(&rt, rt.alloc());
+    keeps_a_pair::<WithLink<WithRange<BNode>>>(&rt, rt.alloc());
+}
+
+#[test]
+fn linked_nodes_split_to_the_right_and_the_root_grows(rt: HostRuntime) {
+    let mut root = goes_right::<WithLink<BNode>>(&rt, rt.alloc(), 1, 4);
+    let _ = root.grow_link(&rt, rt.alloc(), 32, [5, 6]);
+    assert_eq!(rt; root.node.level(), 2);
+}
+
+#[test]
+fn nodes_with_a_range_split_and_merge(rt: HostRuntime) {
+    merges::<WithRange<BNode>>(&rt, rt.alloc(), 1, 4);
+    branches_merge::<WithRange<BNode>>(&rt, rt.alloc());
+}
+
+#[test]
+fn list_nodes_with_a_range_chain_and_merge(rt: HostRuntime) {
+    chains::<WithRange<ListNode>>(&rt, rt.alloc());
+}

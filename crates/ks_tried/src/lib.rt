@@ -1,0 +1,6 @@
+//! Shapes over records, tried on some hundred small graphs with the readers of graphs. It has tests alone, beside the
+//! laws that say of all graphs what these show of some.
+#![tactic(auto)]
+
+#[cfg(test)]
+mod tests;
