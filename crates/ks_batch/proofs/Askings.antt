@@ -1,9 +1,9 @@
 -- What words ask for: one kind of text at most.
-use Rattle.std.proofs.Common.{ℕ, ◌≡◌, List, length, sym, ◌∙◌, ap, arith}
+use Rattle.std.proofs.Common.{ℕ, List, length, sym, ◌∙◌, ap, arith}
 use Rattle.ks_batch.specs.declared.words.Asked.TheVariants.{Run, Check}
 use Rattle.ks_batch.specs.declared.words.Text.{Text}
 use Rattle.ks_batch.specs.declared.words.Text.TheVariants.{Script, Checked}
-use Rattle.ks_batch.specs.Words.{Spells, IsCommand, Asks, spelled}
+use Rattle.ks_batch.specs.Words.{IsCommand, Asks}
 
 pub not_both : (words : List (List ℕ)) → Asks words Script → Asks words Checked → ⊥
 not_both words run check = let e = ap length (sym run.1.is ∙ check.is) in omega (arith, e)

@@ -11,7 +11,7 @@ use Rattle.ks_script.specs.Run.{Run}
 use Rattle.ks_judge.specs.declared.judging.Judged.{Judged}
 use Rattle.ks_batch.specs.declared.words.Text.{Text}
 use Rattle.ks_batch.specs.declared.words.Text.TheVariants.{Script, Checked}
-use Rattle.ks_batch.specs.Serve.{limit_of, FirstBadOf, RefusedAt, Accepts, AcceptsChecked, Tells, Prints, Judges, IsCheck}
+use Rattle.ks_batch.specs.Serve.{FirstBadOf, RefusedAt, Accepts, AcceptsChecked, Prints, Judges, IsCheck}
 
 module _ (IsText : List (List ℕ) → Type 0) (lines : List (List ℕ)) where
   -- the first lines of a text begin one

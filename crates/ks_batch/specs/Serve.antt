@@ -1,5 +1,5 @@
 -- What the program does with what it reads.
-use Rattle.std.specs.Prelude.{ℕ, zero, suc, ◌≡◌, ◌<◌, ◌≤◌, List, [], ◌∷◌, ◌++◌, length, Option, IfSome, codes}
+use Rattle.std.specs.Prelude.{ℕ, zero, suc, ◌≡◌, ◌<◌, ◌≤◌, List, ◌++◌, length, Option, IfSome, codes}
 use Rattle.std.specs.Fmt.{decimal}
 use Rattle.ks_history.specs.declared.Op.{Op}
 use Rattle.ks_history.specs.declared.Event.{Event}

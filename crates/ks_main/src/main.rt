@@ -4,9 +4,8 @@
 mod streams;
 
 use ks_batch::serve;
-use std::env;
-use std::io;
 use std::process::ExitCode;
+use std::{env, io};
 use streams::{StdSink, StdSource};
 
 /// The status where memory is wanting.
