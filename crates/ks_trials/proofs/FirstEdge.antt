@@ -1,5 +1,5 @@
 -- What reads through the traits tell of a body.
-use Rattle.std.specs.Prelude.{◌≡◌, ℕ, suc, ◌+◌, ◌<◌, ◌≤◌, true, false, nat_lt, nat_le, IsTrue, List, [], ◌∷◌, length, get_or, All, drop, Option, None, Some, refl}
+use Rattle.std.specs.Prelude.{◌≡◌, ℕ, suc, ◌+◌, ◌<◌, true, false, nat_lt, nat_le, IsTrue, List, [], ◌∷◌, length, get_or, All, drop, Some, refl}
 use Rattle.std.proofs.Common.{arith, subst, sym, inl, inr}
 use Rattle.std.proofs.lemmas.Bool.{lt-ltb, le-ltb, le-leb, eqb-true}
 use Rattle.std.proofs.lemmas.Bool.Decides.{eqb_tells}
@@ -7,8 +7,7 @@ use Rattle.std.proofs.lemmas.List.{get_or_read}
 use Rattle.std.proofs.lemmas.List.Elements.{All-tail}
 use Rattle.ks_keysets.specs.declared.Span.{Span}
 use Rattle.ks_node.specs.declared.start.Start.{Start}
-use Rattle.ks_node.specs.declared.start.Next.{Next}
-use Rattle.ks_node.specs.declared.start.Next.TheVariants.{Here, Go}
+use Rattle.ks_node.specs.declared.start.Next.TheVariants.{Go}
 use Rattle.ks_node.specs.Body.{Body, starts_below, first_node, led_to, next_at}
 use Rattle.ks_node.specs.Sound.{Framed, starts_at_zero}
 use Rattle.ks_node.specs.Starts.{differ}

@@ -1,10 +1,8 @@
 -- A body is suited by its own range.
-use Rattle.std.specs.Prelude.{◌≡◌, ℕ, ◌<◌, ◌≤◌, List, All, get_or, drop, Option, Some}
-use Rattle.std.specs.Option.{ForSome}
+use Rattle.std.specs.Prelude.{◌≡◌, ◌<◌, ◌≤◌, All, get_or, drop, Some}
 use Rattle.std.proofs.Common.{arith, sym, ◌∙◌}
 use Rattle.std.proofs.lemmas.List.Elements.{All-drop}
 use Rattle.ks_keysets.specs.declared.Span.{Span}
-use Rattle.ks_node.specs.declared.start.Start.{Start}
 use Rattle.ks_node.specs.Body.{Body}
 use Rattle.ks_node.specs.Sound.{Framed}
 use Rattle.ks_node.specs.Asks.{Suits, IsNoneOr}

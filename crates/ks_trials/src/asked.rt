@@ -115,12 +115,7 @@ pub fn grow<N: Unlinked + Ranged>(
 }
 
 /// Becomes a branch over a left and a right node, which are new and linked, one level higher.
-pub fn grow_link<N: Linked>(
-    rt: &impl Abort,
-    alloc: Global,
-    node: &mut N,
-    ids: [u32; 2],
-) -> (N, N) {
+pub fn grow_link<N: Linked>(rt: &impl Abort, alloc: Global, node: &mut N, ids: [u32; 2]) -> (N, N) {
     let mut left = blank(rt, alloc);
     let mut right = blank(rt, alloc);
     let range = node.range();

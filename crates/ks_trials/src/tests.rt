@@ -3,11 +3,15 @@ ghost use Rattle.std.specs.Prelude.{◌<◌};
 use crate::asked;
 use crate::trial::Trial;
 use ks_bplus::BNode;
+use ks_hash::HNode;
 use ks_linked::WithLink;
 use ks_list::ListNode;
 use ks_node::{Linked, Node, Ranged, Unlinked, WithRange};
 use std::alloc::Global;
 use std::process::Abort;
+
+/// The places of a smallest slice of a directory.
+const SLICE: u64 = 0x0400_0000_0000_0000;
 
 fn keeps_a_pair<N: Node>(rt: &impl Abort, alloc: Global) {
     let mut node = asked::blank::<N>(rt, alloc);
@@ -71,8 +75,8 @@ fn branches_merge<N: Unlinked + Ranged>(rt: &impl Abort, alloc: Global) {
 }
 
 /// A node splits twice, keeps an edge of its own to each right part, and takes them in again.
-fn chains<N: Unlinked + Ranged>(rt: &impl Abort, alloc: Global) {
-    let mut first = Trial::<N>::blank(rt, alloc, 1);
+fn chains<N: Unlinked + Ranged>(rt: &impl Abort, alloc: Global, length: u64) {
+    let mut first = Trial::<N>::blank(rt, alloc, length);
     first.fill(rt, 0, 64, 8);
     let mut last = first.split(rt, alloc, 32);
     first.reach(rt, &last);
@@ -90,9 +94,12 @@ fn chains<N: Unlinked + Ranged>(rt: &impl Abort, alloc: Global) {
 fn blank_nodes_keep_a_pair(rt: HostRuntime) {
     keeps_a_pair::<ListNode>(&rt, rt.alloc());
     keeps_a_pair::<BNode>(&rt, rt.alloc());
+    keeps_a_pair::<HNode>(&rt, rt.alloc());
     keeps_a_pair::<WithRange<ListNode>>(&rt, rt.alloc());
     keeps_a_pair::<WithRange<BNode>>(&rt, rt.alloc());
+    keeps_a_pair::<WithRange<HNode>>(&rt, rt.alloc());
     keeps_a_pair::<WithLink<BNode>>(&rt, rt.alloc());
+    keeps_a_pair::<WithLink<HNode>>(&rt, rt.alloc());
     keeps_a_pair::<WithLink<WithRange<BNode>>>(&rt, rt.alloc());
 }
 
@@ -101,15 +108,19 @@ fn linked_nodes_split_to_the_right_and_the_root_grows(rt: HostRuntime) {
     let mut root = goes_right::<WithLink<BNode>>(&rt, rt.alloc(), 1, 4);
     let _ = root.grow_link(&rt, rt.alloc(), 32, [5, 6]);
     assert_eq!(rt; root.node.level(), 2);
+    let root = goes_right::<WithLink<HNode>>(&rt, rt.alloc(), SLICE, 8);
+    assert!(rt; !root.node.is_full());
 }
 
 #[test]
 fn nodes_with_a_range_split_and_merge(rt: HostRuntime) {
     merges::<WithRange<BNode>>(&rt, rt.alloc(), 1, 4);
+    merges::<WithRange<HNode>>(&rt, rt.alloc(), SLICE, 8);
     branches_merge::<WithRange<BNode>>(&rt, rt.alloc());
 }
 
 #[test]
-fn list_nodes_with_a_range_chain_and_merge(rt: HostRuntime) {
-    chains::<WithRange<ListNode>>(&rt, rt.alloc());
+fn nodes_with_a_range_chain_and_merge(rt: HostRuntime) {
+    chains::<WithRange<ListNode>>(&rt, rt.alloc(), 1);
+    chains::<WithRange<HNode>>(&rt, rt.alloc(), SLICE);
 }

@@ -64,7 +64,11 @@ impl<N: Ranged> Trial<N> {
     pub fn agrees(&self, rt: &impl Abort) {
         assert_eq!(rt; self.node.range(), self.plain.range());
         for i in 0..COUNT {
-            assert_eq!(rt; told(&self.node, self.plain.first(i)), self.plain.told[i], "stretch {i}");
+            assert_eq!(rt;
+                told(&self.node, self.plain.first(i)),
+                self.plain.told[i],
+                "stretch {i}"
+            );
         }
         has_pairs(rt, &self.node, &self.plain);
         has_edges(rt, &self.node, &self.plain);

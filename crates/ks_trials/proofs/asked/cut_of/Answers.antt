@@ -1,6 +1,5 @@
-use Rattle.std.proofs.Common.{rules, ◌≡◌, ◌≤◌, Some, sym, ◌∙◌}
+use Rattle.std.proofs.Common.{rules, ◌≤◌, sym, ◌∙◌}
 use Rattle.std.specs.Prelude.{All}
-use Rattle.ks_node.specs.Asks.{Suits}
 use Rattle.ks_trials.proofs.Own.{suits_own, own_handed}
 use Rattle.ks_trials.proofs.asked.cut_of.Goals as goal
 
