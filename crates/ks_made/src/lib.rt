@@ -4,12 +4,15 @@
 //! its value.
 #![tactic(auto)]
 
+mod summing;
+
 ghost use Rattle.std.specs.Prelude.{◌≡◌, IfOk, OnOk};
 ghost use Rattle.ks_made.specs.Made.{draw, drawn, call_made, after_call, calls_made, after_calls, made};
 
 use ks_history::Op;
 use ks_script::Script;
 use std::alloc::{AllocError, Global};
+pub use summing::{Kind, summary};
 
 /// Draws a number: the state goes on, and its upper bits are the number.
 fn drawn(state: &mut u64) -> u64
@@ -71,4 +74,32 @@ pub fn made_script(
         scripts.push(self::calls(alloc, &mut state, callers, caller, calls)?)?;
     }
     Ok(Script { callers: scripts })
+}
+
+#[cfg(test)]
+mod tests {
+    use super::*;
+    use ks_history::Reply;
+    use ks_script::Printed;
+    use std::test::Fail;
+
+    #[test]
+    fn makes_and_sums_up_two_calls(rt: HostRuntime) -> Result<(), Fail> {
+        let script = made_script(rt.alloc(), 1, 2, 0)?;
+        assert_eq!(rt; script.callers.len(), 1);
+        assert!(rt;
+            script.callers[0].as_slice() == [Op::Del(8), Op::Put(116, 823830125)].as_slice()
+        );
+        let lines = vec![in rt.alloc(); (0, Reply::Nothing), (1, Reply::Nothing)]?;
+        let printed = Printed {
+            callers: vec![in rt.alloc(); lines]?,
+            pairs: vec![in rt.alloc(); (116, 823830125)]?,
+        };
+        let text = summary(rt.alloc(), &script, &printed)?;
+        assert!(rt;
+            text.as_slice()
+                == b"callers 1\ncalls 2\nfound 0\nnone 2\nfull 0\npairs 1\nsum 95564294500\n".as_slice()
+        );
+        Ok(())
+    }
 }
