@@ -15,9 +15,6 @@ use ks_node::Node;
 use std::sync::Wait;
 use std::thread::{Threads, join};
 
-#[cfg(test)]
-mod tests;
-
 /// Claims two nodes and gives them back in the order in which they were claimed.
 pub fn claim_two<N: Node, D: Discipline>(arena: &Arena<N, D>, pass: &mut Pass<N, D>) -> bool
     requires { IsPass (sort_of N.layout N.ranged) D.begins D.step arena.now.table.shared.table_id arena.now.callers pass.old × (hand_of pass.old ≡ []) }
