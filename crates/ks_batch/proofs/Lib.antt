@@ -1,5 +1,6 @@
 pub mod Asking
+pub mod Askings
 pub mod Growing
 pub mod Loading
 pub mod Due
-pub mod Askings
+pub mod Made

@@ -2,3 +2,4 @@ pub mod Words
 pub mod Message
 pub mod Serve
 pub mod Stop
+pub mod Make

@@ -8,9 +8,10 @@ ghost use Rattle.ks_script.specs.Outside.{Rose, Grew, GrewByFront};
 ghost use Rattle.ks_script.specs.Run as printed_run;
 ghost use Rattle.ks_batch.specs.declared.words.Text.{Text};
 ghost use Rattle.ks_batch.specs.declared.words.Text.TheVariants as text;
-ghost use Rattle.ks_batch.specs.Words.{IsCommand, Asks};
+ghost use Rattle.ks_batch.specs.Words.{IsCommand, IsMake, Asks};
 ghost use Rattle.ks_batch.specs.Message.{status_text};
 ghost use Rattle.ks_batch.specs.Serve.{RefusedAt, Accepts, AcceptsChecked, Tells, Prints, Judges, IsCheck, judged_line};
+ghost use Rattle.ks_batch.specs.Make.{SumsUp, Sums, MakesOutcome};
 ghost use Rattle.ks_batch.specs.Stop.{IsCause};
 
 use crate::input::{Stop, load, load_checked};
@@ -18,9 +19,10 @@ use crate::message::tell;
 use crate::words::{Asked, command};
 use itoa::Buffer;
 use ks_judge::{Judged, judge};
+use ks_made::{made_script, summary};
 use ks_script::{Failed, Printed, Sink, Source, send, write_run};
 use ks_single::{Run, RunTrace, serve_callers};
-use std::alloc::Global;
+use std::alloc::{AllocError, Global};
 
 /// How the program ended.
 #[derive(Drop)]
@@ -186,6 +188,60 @@ fn check_run<S: Source, K: Sink>(alloc: Global, source: &mut S, out: &mut K) -> 
     }
 }
 
+/// Makes a script, serves it and sums it up; nothing is written yet.
+fn make(alloc: Global, callers: u32, calls: u32, first: u64) -> Result<Made, AllocError>
+    requires { callers ≤ 64 }
+    ensures lawful { IfOk result (λ made. Lawful made.trace) }
+    ensures good { IfOk result (λ made. GoodThroughout made.trace) }
+    ensures sums { IfOk result (λ made. SumsUp callers calls first made.trace made.text.items) }
+{
+    let script = made_script(alloc, callers, calls, first)?;
+    let ready = to_print(serve_callers(alloc, &script.callers)?);
+    let text = summary(alloc, &script, &ready.printed)?;
+    Ok(Made {
+        text,
+        trace: ready.trace,
+    })
+}
+
+/// A made script that is served, and its summary.
+#[derive(Drop)]
+struct Made {
+    text: Vec<u8>,
+    trace: RunTrace,
+}
+
+/// The command `make`: serves a script that is made, and writes the summary.
+fn make_run<K: Sink>(alloc: Global, callers: u32, calls: u32, first: u64, out: &mut K) -> Outcome
+    requires { callers ≤ 64 }
+    ensures lawful { IfSome result.run Lawful }
+    ensures good { IfSome result.run GoodThroughout }
+    ensures ran { IsSome result.run ↔ ((result.status ≡ 0) ⊎ (result.status ≡ 4)) }
+    ensures status { (result.status ≡ 0) ⊎ ((result.status ≡ 4) ⊎ (result.status ≡ 5)) }
+    ensures line { result.line ≡ 0 }
+    ensures number { result.number ≡ 0 }
+    ensures done { result.status ≡ 0 → IfSome result.run (λ h. Sums callers calls first h (λ t. Grew (K.taken out.old) (K.taken out.new) t)) }
+    ensures cut { result.status ≡ 4 → IfSome result.run (λ h. Sums callers calls first h (λ t. GrewByFront (K.taken out.old) (K.taken out.new) t)) }
+    ensures untouched { (result.status ≡ 0 → ⊥) → (result.status ≡ 4 → ⊥) → K.taken out.new ≡ K.taken out.old }
+    ensures output { result.status ≡ 4 → Rose (K.faults out.old) (K.faults out.new) }
+{
+    match make(alloc, callers, calls, first) {
+        Ok(made) => {
+            let status = match send(out, &made.text) {
+                Ok(()) => 0,
+                Err(_) => 4,
+            };
+            Outcome {
+                status,
+                line: 0,
+                number: 0,
+                run: Some(made.trace),
+            }
+        }
+        Err(_) => Outcome::without_run(5, 0),
+    }
+}
+
 /// The whole program: does what the words ask for, and says on `err` what stood against it.
 pub fn serve<S: Source, K: Sink, E: Sink>(
     alloc: Global,
@@ -203,7 +259,7 @@ pub fn serve<S: Source, K: Sink, E: Sink>(
     // What is written is the text of a run that this served, or, where the output failed, first bytes of it.
     ensures done { Asks (map string_bytes words.now) text.Script → result.status ≡ 0 → IfSome (S.left source.old) (λ bytes. IfSome result.run (λ h. Prints bytes h (λ t. Grew (K.taken out.old) (K.taken out.new) t))) }
     ensures cut { Asks (map string_bytes words.now) text.Script → result.status ≡ 4 → IfSome (S.left source.old) (λ bytes. IfSome result.run (λ h. Prints bytes h (λ t. GrewByFront (K.taken out.old) (K.taken out.new) t))) }
-    ensures end { IsSome result.run → IfSome (S.left source.old) (λ _. S.left source.new ≡ Some []) }
+    ensures end { Asks (map string_bytes words.now) text.Script → IsSome result.run → IfSome (S.left source.old) (λ _. S.left source.new ≡ Some []) }
 
     // Or it is the line of the judgment of the run that was read.
     ensures checked { Asks (map string_bytes words.now) text.Checked → IsCheck (S.left source.old) (K.taken out.old) (K.taken out.new) result.status result.number }
@@ -211,7 +267,8 @@ pub fn serve<S: Source, K: Sink, E: Sink>(
 
     // When each status comes.
     ensures usage { (result.status ≡ 1) ↔ (IsCommand (map string_bytes words.now) → ⊥) }
-    ensures unread { result.status ≡ 1 → S.left source.new ≡ S.left source.old }
+    ensures made { IsMake (map string_bytes words.now) → MakesOutcome (map string_bytes words.now) (K.taken out.old) (K.taken out.new) result.status result.run }
+    ensures unread { (result.status ≡ 1) ⊎ IsMake (map string_bytes words.now) → S.left source.new ≡ S.left source.old }
     ensures refused { (t : Text) → Asks (map string_bytes words.now) t → result.status ≡ 2 → IfSome (S.left source.old) (λ bytes. RefusedAt t bytes result.line) }
     ensures refusal_due { (t : Text) → Asks (map string_bytes words.now) t → (Rose (S.faults source.old) (S.faults source.new) → ⊥) → IfSome (S.left source.old) (λ bytes. (n : ℕ) → RefusedAt t bytes n → ((result.status ≡ 2) × (result.line ≡ n)) ⊎ (result.status ≡ 5)) }
     ensures source { result.status ≡ 3 → Rose (S.faults source.old) (S.faults source.new) }
@@ -228,6 +285,14 @@ pub fn serve<S: Source, K: Sink, E: Sink>(
 {
     let outcome = match command(words) {
         Some(Asked::Run { .. }) => serve_script(alloc, source, out),
+        Some(
+            Asked::Make {
+                callers,
+                calls,
+                first,
+                ..
+            },
+        ) => make_run(alloc, callers, calls, first, out),
         Some(Asked::Check) => check_run(alloc, source, out),
         None => Outcome::without_run(1, 0),
     };

@@ -138,6 +138,17 @@ fn tells_what_each_call_is_answered(rt: HostRuntime) -> Result<(), Fail> {
 }
 
 #[test]
+fn sums_up_a_made_script(rt: HostRuntime) -> Result<(), Fail> {
+    let ended = run_at(rt.alloc(), "make bplus coupling 64 1 2 0", b"", 4096)?;
+    assert_eq!(rt; ended.status, 0);
+    assert!(rt;
+        ended.out.as_slice()
+            == b"callers 1\ncalls 2\nfound 0\nnone 2\nfull 0\npairs 1\nsum 95564294500\n".as_slice()
+    );
+    Ok(())
+}
+
+#[test]
 fn says_why_nothing_is_served(rt: HostRuntime) -> Result<(), Fail> {
     for (words, input, text, status) in REFUSALS {
         let ended = run_at(rt.alloc(), words, input, 4096)?;

@@ -2,7 +2,8 @@
 
 ghost use Rattle.std.specs.Prelude.{ℕ, ◌≡◌, ◌≤◌, IsTrue, ◌↔◌, [], ◌∷◌, map, string_bytes, IfSome, IfNone};
 ghost use Rattle.std.specs.Fmt.{decimal};
-ghost use Rattle.ks_batch.specs.Words.{Spells, IsCommand};
+ghost use Rattle.ks_batch.specs.Words.{Spells, SpellsNumbers, IsCommand};
+ghost use Rattle.ks_batch.specs.declared.words.Asked.{Asked};
 
 use itoa::Buffer;
 
@@ -10,7 +11,16 @@ use itoa::Buffer;
 #[derive(Clone, Copy, Debug, PartialEq, Eq)]
 pub enum Asked {
     /// To serve the script on the source with an arena of so many nodes.
-    Run { arena: u64 },
+    Run {
+        arena: u64,
+    },
+    /// To serve a script that is made for so many callers with so many calls each, drawn from a first number.
+    Make {
+        arena: u64,
+        callers: u32,
+        calls: u32,
+        first: u64,
+    },
     /// To judge the script and the printed run on the source.
     Check,
 }
@@ -59,6 +69,31 @@ fn run_words(verb: &String, nodes: &String, template: &String, arena: &String) -
     None
 }
 
+/// The four numbers of the command to make a script.
+fn make_numbers(arena: &String, callers: &String, calls: &String, first: &String) -> Option<Asked>
+    ensures some { IfSome result (λ asked. SpellsNumbers (string_bytes arena.now) (string_bytes callers.now) (string_bytes calls.now) (string_bytes first.now) asked) }
+    ensures none { IfNone result ((asked : Asked) → SpellsNumbers (string_bytes arena.now) (string_bytes callers.now) (string_bytes calls.now) (string_bytes first.now) asked → ⊥) }
+{
+    let Some(arena) = number(arena, 4, 65536) else {
+        return None;
+    };
+    let Some(callers) = number(callers, 1, 64) else {
+        return None;
+    };
+    let Some(calls) = number(calls, 0, 16384) else {
+        return None;
+    };
+    let Some(first) = number(first, 0, 18446744073709551615) else {
+        return None;
+    };
+    Some(Asked::Make {
+        arena,
+        callers: callers as u32,
+        calls: calls as u32,
+        first,
+    })
+}
+
 /// The command that the words are, if they are one.
 pub fn command(words: &[String]) -> Option<Asked>
     ensures some { IfSome result (λ asked. Spells (map string_bytes words.now) asked) }
@@ -66,6 +101,12 @@ pub fn command(words: &[String]) -> Option<Asked>
 {
     match words {
         [verb, nodes, template, arena] => run_words(verb, nodes, template, arena),
+        [verb, nodes, template, arena, callers, calls, first] => {
+            if is(verb, "make") && is(nodes, "bplus") && is(template, "coupling") {
+                return make_numbers(arena, callers, calls, first);
+            }
+            None
+        }
         [check] => {
             if is(check, "check") {
                 Some(Asked::Check)
