@@ -75,7 +75,7 @@ const RUNS: [(&[u8], &[u8]); 7] = [
 ];
 
 /// Words, inputs, and what is said of them, with the status.
-const REFUSALS: [(&str, &[u8], &[u8], u8); 5] = [
+const REFUSALS: [(&str, &[u8], &[u8], u8); 8] = [
     (
         RUN,
         b"caller\nput 1 18446744073709551616\n",
@@ -86,6 +86,9 @@ const REFUSALS: [(&str, &[u8], &[u8], u8); 5] = [
     (RUN, b"put 1 2\ncaller\n", b"line 1 refused\n", 2),
     ("run bplus coupling 3", b"", USAGE, 1),
     ("run bplus coupling 04", b"", USAGE, 1),
+    ("run bplus coupling 65537", b"caller\n", USAGE, 1),
+    ("run list link 64", b"caller\n", USAGE, 1),
+    ("check now", b"caller\n", USAGE, 1),
 ];
 
 const USAGE: &[u8] =
