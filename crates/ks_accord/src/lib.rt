@@ -19,3 +19,6 @@ pub fn served_is_legal()
     ensures judged { (script : List (List Op)) (run : Run) (h : List Event) (j : Judged) → calls_in script ≤ 1048576 →
         Served (λ k. k) script run.callers run.pairs h → IsJudged script run j → j ≡ verdict.Legal (calls_in script) }
 {}
+
+#[cfg(test)]
+mod tests;
