@@ -117,3 +117,6 @@ pub fn both<R: Threads + Wait + Sync>(
     );
     (one, two, a && b)
 }
+
+#[cfg(test)]
+mod tests;

@@ -1,0 +1,121 @@
+ghost use Rattle.std.specs.Prelude.{◌≡◌, [], ◌∷◌, IfOk, false};
+ghost use Rattle.ks_arena.specs.Sound.{sort_of};
+ghost use Rattle.ks_arena.specs.Clauses.{IsPass, hand_of};
+ghost use Rattle.ks_flow.specs.Discipline.{BeginsTree, TreeStep};
+ghost use Rattle.ks_keysets.specs.Layout.{list_layout};
+
+use crate::{Met, both, meet};
+use ks_arena::{Arena, Pass};
+use ks_flow::Tree;
+use ks_list::ListNode;
+use std::alloc::{AllocError, Global};
+use std::test::Fail;
+
+type Lists = Arena<ListNode, Tree>;
+
+type Caller = Pass<ListNode, Tree>;
+
+/// An arena of four list nodes, and the passes of callers 0 and 1.
+fn two_callers(alloc: Global) -> Result<(Lists, Caller, Caller), AllocError>
+    ensures nodes { IfOk result (λ x. (x.0.nodes ≡ 4) × (x.0.callers ≡ 2)) }
+    ensures one { IfOk result (λ x. IsPass (sort_of list_layout false) BeginsTree TreeStep x.0.table.shared.table_id x.0.callers x.1 × (hand_of x.1 ≡ []) × (x.1.caller ≡ 0)) }
+    ensures two { IfOk result (λ x. IsPass (sort_of list_layout false) BeginsTree TreeStep x.0.table.shared.table_id x.0.callers x.2 × (hand_of x.2 ≡ []) × (x.2.caller ≡ 1)) }
+{
+    let (arena, mut passes) = Lists::start(alloc, 4, 2)?;
+    let Some(two) = passes.pop() else {
+        return Err(AllocError);
+    };
+    let Some(one) = passes.pop() else {
+        return Err(AllocError);
+    };
+    Ok((arena, one, two))
+}
+
+/// The passes in a vector.
+fn crew(alloc: Global, one: Caller, two: Caller) -> Result<Vec<Caller>, AllocError>
+    ensures { IfOk result (λ all. all.items ≡ one ∷ two ∷ []) }
+{
+    let mut all = Vec::with_capacity(alloc, 2)?;
+    all.push(one)?;
+    all.push(two)?;
+    Ok(all)
+}
+
+#[test]
+fn nodes_are_claimed_upward_and_again(rt: HostRuntime) -> Result<(), Fail> {
+    let (arena, mut pass, _) = two_callers(rt.alloc())?;
+    let Some(first) = arena.claim(&mut pass) else {
+        panic!(rt; "no first node")
+    };
+    let Some(second) = arena.claim(&mut pass) else {
+        panic!(rt; "no second node")
+    };
+    let Some(third) = arena.claim(&mut pass) else {
+        panic!(rt; "no third node")
+    };
+    assert!(rt; first.node == 1 && second.node == 2 && third.node == 3);
+    match arena.claim(&mut pass) {
+        None => {}
+        Some(_) => panic!(rt; "a fourth node"),
+    }
+    arena.give(&mut pass, second);
+    let Some(again) = arena.claim(&mut pass) else {
+        panic!(rt; "no node again")
+    };
+    assert!(rt; again.node == 2);
+    arena.give(&mut pass, first);
+    arena.give(&mut pass, third);
+    arena.give(&mut pass, again);
+    Ok(())
+}
+
+#[test]
+fn a_held_node_is_busy_and_a_free_one_gone(rt: HostRuntime) -> Result<(), Fail> {
+    let (arena, mut one, mut two) = two_callers(rt.alloc())?;
+    let Some(root) = arena.take(&rt, &mut one, 0) else {
+        panic!(rt; "the root is not there")
+    };
+    assert!(rt; meet(&arena, &mut two, 0) == Met::Busy(0));
+    assert!(rt; meet(&arena, &mut two, 1) == Met::Gone);
+    arena.give(&mut one, root);
+    assert!(rt; meet(&arena, &mut two, 0) == Met::Ready);
+    Ok(())
+}
+
+#[test]
+fn callers_claim_what_others_gave(rt: HostRuntime) -> Result<(), Fail> {
+    let (arena, mut one, mut two) = two_callers(rt.alloc())?;
+    let Some(first) = arena.claim(&mut one) else {
+        panic!(rt; "no first node")
+    };
+    let Some(second) = arena.claim(&mut one) else {
+        panic!(rt; "no second node")
+    };
+    let Some(third) = arena.claim(&mut two) else {
+        panic!(rt; "no third node")
+    };
+    assert!(rt; first.node == 1 && second.node == 2 && third.node == 3);
+    match arena.claim(&mut two) {
+        None => {}
+        Some(_) => panic!(rt; "a fourth node"),
+    }
+    arena.give(&mut one, second);
+    let Some(again) = arena.claim(&mut two) else {
+        panic!(rt; "no node again")
+    };
+    assert!(rt; again.node == 2);
+    arena.give(&mut one, first);
+    arena.give(&mut two, third);
+    arena.give(&mut two, again);
+    Ok(())
+}
+
+#[test]
+fn two_threads_pass_through_one_node(rt: HostRuntime) -> Result<(), Fail> {
+    let (arena, one, two) = two_callers(rt.alloc())?;
+    let (one, two, met) = both(&rt, &arena, one, two);
+    let all = crew(rt.alloc(), one, two)?;
+    let run = arena.close(all);
+    assert!(rt; met && run.calls() == 0);
+    Ok(())
+}
