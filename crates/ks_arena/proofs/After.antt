@@ -19,17 +19,20 @@ use Rattle.ks_history.specs.Passes.{Has, NoneOf, GrowsByOthers, GrowsWith}
 use Rattle.ks_history.specs.Stays.{StaysHeld, AreInTurn, cond_here, cond_else}
 use Rattle.ks_history.specs.Begins.{by_others_keeps, by_others_turn, by_others_hand, by_others_mine, with_mine, by_others_with, with_others, give_hand}
 use Rattle.ks_arena.specs.declared.held.Pass.{Pass}
+use Rattle.ks_arena.specs.declared.view.Mark.{Mark}
+use Rattle.ks_arena.specs.declared.view.Mark.TheVariants.{Quiet, Freeing}
 use Rattle.ks_arena.specs.declared.view.View.{View}
 use Rattle.ks_node.specs.Body.{Body, frame_of, blank_body}
 use Rattle.ks_node.specs.Edges.{record_of}
 use Rattle.ks_arena.specs.Sound.{Sort, blank_of, Sound, StepsSoundly}
 use Rattle.ks_arena.specs.declared.held.Held.{Held as Hand}
 use denote.Bor.{Bor}
-use Rattle.ks_arena.specs.Clauses.{AllAmong, EachOnce, IsPass, Matches, MatchesIf, new_state_of, change_of, changes_of, IsShaped, AreShaped, hand_of, seen_of, view_of, Kept, KeptBut, KeptBesides, NamesNot}
+use Rattle.ks_arena.specs.Clauses.{AllAmong, EachOnce, IsPass, IsPassWith, give_mark, Matches, MatchesIf, new_state_of, change_of, changes_of, IsShaped, AreShaped, hand_of, seen_of, view_of, Kept, KeptBut, KeptBesides, NamesNot}
 use Rattle.ks_arena.specs.Rule.{turn_word}
-use Rattle.ks_arena.specs.Plays.{Shows, Seated, with_seen, Looks, Makes, drop_slot, InHand, HasSlots, Carries}
+use Rattle.ks_arena.specs.Plays.{Shows, Seated, with_seen, marked, Looks, Makes, drop_slot, InHand, HasSlots, Carries}
 use Rattle.ks_arena.proofs.Words.{are_in_turn}
-use Rattle.ks_arena.proofs.Hold.{Follows, follows_both, looks_follows, makes_follows, looks_grows, makes_grows, looks_makes, Gains, carries_gain, carries_along, carries_give, carries_lift, slots_in, drop_in, hand_near, holds_it, holds_not}
+use Rattle.ks_arena.proofs.Moves.{GivesMark, gives_mark_live, gives_mark_free}
+use Rattle.ks_arena.proofs.Hold.{Follows, follows_marked, follows_both, looks_follows, makes_follows, looks_grows, makes_grows, looks_makes, Gains, carries_gain, carries_along, carries_give, carries_lift, slots_in, drop_in, hand_near, holds_it, holds_not}
 
 -- the event changes the state and the frame of node i alone
 abbrev pub Touches : Event → ℕ → Type 0
@@ -122,11 +125,17 @@ module _ {N : Type 0} (sort : Sort) (begins : Frame → Type 0) (asks : (ℕ →
   matches_shows false (Claimed d) f b so = (so.1, refl)
   matches_shows false (Live r) f b so = let e : Some r ≡ None = so.0 in absurd (let q : ⊥ = cc in q)
 
+  pub matches_mark : (live : Bool) (s : NodeState) (f : Frame) (b : N) (i : ℕ) (k : Mark) → MatchesIf sort shows live s f b → k ≡ give_mark live i → GivesMark s i k
+  matches_mark true s f b i k so e = gives_mark_live s i k (ap turn_given so.0) e
+  matches_mark false Free f b i k so e = gives_mark_free Free i k refl e
+  matches_mark false (Claimed d) f b i k so e = gives_mark_free (Claimed d) i k refl e
+  matches_mark false (Live r) f b i k so e = let e : Some r ≡ None = so.0 in absurd (let q : ⊥ = cc in q)
+
 module _ {N : Type 0} (sort : Sort) (begins : Frame → Type 0) (asks : (ℕ → NodeState) → (ℕ → Frame) → List Change → Type 0) where
-  -- the new seat of a pass serves it
-  pub pass_again : {D : Type 0} (t : TableId) (callers : ℕ) (p q : Pass N D) (m : Seated N) → IsPass sort begins asks t callers p → q.caller ≡ p.caller → q.seat.table_id ≡ p.seat.table_id → q.seat.me ≡ m
-      → Follows p.seat.me.0 m.0 → Carries t.slots m.0.seen p.caller m.1 → slots_in m.1 ≡ hand p.caller m.0.seen → Sound sort begins asks t.slots m.0.seen → IsPass sort begins asks t callers q
-  pass_again t callers p q m is whose table me follows carries slots sound = record {
+  -- the new seat of a pass serves it, with this mark
+  pub pass_marked : {D : Type 0} (k l : Mark) (t : TableId) (callers : ℕ) (p q : Pass N D) (m : Seated N) → IsPassWith sort begins asks k t callers p → q.caller ≡ p.caller → q.seat.table_id ≡ p.seat.table_id → q.seat.me ≡ m
+      → Follows (marked l p.seat.me.0) m.0 → Carries t.slots m.0.seen p.caller m.1 → slots_in m.1 ≡ hand p.caller m.0.seen → Sound sort begins asks t.slots m.0.seen → IsPassWith sort begins asks l t callers q
+  pass_marked k l t callers p q m is whose table me follows carries slots sound = record {
     table = table ∙ is.table;
     bare = ap (λ (z : Seated N). z.0.absorbed) me ∙ follows.bare;
     few = subst (λ (z : ℕ). z < 2 ^ 32) (sym whose) is.few;
@@ -134,12 +143,16 @@ module _ {N : Type 0} (sort : Sort) (begins : Frame → Type 0) (asks : (ℕ →
     carries = subst (λ (z : ℕ × Seated N). Carries t.slots z.1.0.seen z.0 z.1.1) (λ k. (sym whose k, sym me k)) carries;
     made = ap (λ (z : Seated N). z.0.made) me ∙ follows.made ∙ is.made ∙ ap (λ (z : ℕ). cond (eqb z 0) callers 0) (sym whose);
     slots = ap (λ (z : Seated N). slots_in z.1) me ∙ slots ∙ ap (λ (z : ℕ). hand z m.0.seen) (sym whose) ∙ ap (λ (z : Seated N). hand q.caller z.0.seen) (sym me);
-    quiet = ap (λ (z : Seated N). z.0.mark) me ∙ follows.mark ∙ is.quiet;
+    mark = ap (λ (z : Seated N). z.0.mark) me ∙ follows.mark;
     sound = subst (λ (z : Seated N). Sound sort begins asks t.slots z.0.seen) (sym me) sound;
   }
 
+  pub pass_again : {D : Type 0} (t : TableId) (callers : ℕ) (p q : Pass N D) (m : Seated N) → IsPass sort begins asks t callers p → q.caller ≡ p.caller → q.seat.table_id ≡ p.seat.table_id → q.seat.me ≡ m
+      → Follows p.seat.me.0 m.0 → Carries t.slots m.0.seen p.caller m.1 → slots_in m.1 ≡ hand p.caller m.0.seen → Sound sort begins asks t.slots m.0.seen → IsPass sort begins asks t callers q
+  pass_again t callers p q m is whose table me follows carries slots sound = pass_marked Quiet Quiet t callers p q m is whose table me (record { callers = follows.callers; made = follows.made; mark = follows.mark ∙ is.mark; bare = follows.bare }) carries slots sound
+
   -- what a pass has in hand and stays, shows its node still
-  pub still : {D : Type 0} (shows : N → Body) (t : TableId) (callers : ℕ) (p : Pass N D) (k : List Event) (x : Hand N) → IsPass sort begins asks t callers p → Has (hand_of p) x.node → (turn_after (seen_of p) x.node ≡ held p.caller → StaysHeld p.caller x.node (seen_of p) k) → Matches sort shows (seen_of p) x → Matches sort shows k x
+  pub still : {D : Type 0} {l : Mark} (shows : N → Body) (t : TableId) (callers : ℕ) (p : Pass N D) (k : List Event) (x : Hand N) → IsPassWith sort begins asks l t callers p → Has (hand_of p) x.node → (turn_after (seen_of p) x.node ≡ held p.caller → StaysHeld p.caller x.node (seen_of p) k) → Matches sort shows (seen_of p) x → Matches sort shows k x
   still shows t callers p k x is has stays m = let so = stays (holds_it t.slots (seen_of p) p.caller x.node p.seat.me.1 is.carries is.slots has) in
       record { is = subst (λ (z : NodeState × Frame). MatchesIf sort shows x.live z.0 z.1 x.body) (λ j. (sym so.state j, sym (so.frame (blank_of sort)) j)) m.is }
 
@@ -227,7 +240,7 @@ module _ {N : Type 0} (sort : Sort) (begins : Frame → Type 0) (asks : (ℕ →
         }
 
     pub record Given (i : ℕ) (me m : Seated N) : Type 0 where
-      pub follows : Follows me.0 m.0
+      pub follows : Follows (marked Quiet me.0) m.0
       pub grows : GrowsWith c (Give c i) me.0.seen m.0.seen
       pub kept : KeptBut i c me.0.seen m.0.seen
       pub carries : Carries n m.0.seen c m.1
@@ -236,12 +249,12 @@ module _ {N : Type 0} (sort : Sort) (begins : Frame → Type 0) (asks : (ℕ →
       pub mine_is : mine c m.0.seen ≡ Give c i ∷ mine c me.0.seen
       pub sounds : Sound sort begins asks n m.0.seen
 
-    pub gave_it : (i : ℕ) (b : N) (me l m : Seated N) → me.0.callers ≡ c ∷ [] → slots_in me.1 ≡ hand c me.0.seen → Ready i b me l → Makes (Sound sort begins asks n) (Give c i) l.0 m.0 → m.1 ≡ drop_slot i me.1 → Given i me m
-    gave_it i b me l m own slots so makes same = let e : Event = Give c i in let own' : l.0.callers ≡ c ∷ [] = so.follows.callers ∙ own in let later : GrowsWith c e l.0.seen m.0.seen = makes_grows (Sound sort begins asks n) e l.0 m.0 c own' makes in let grows : GrowsWith c e me.0.seen m.0.seen = by_others_with c e me.0.seen l.0.seen m.0.seen so.grows later in
+    pub gave_it : (i : ℕ) (b : N) (me l m : Seated N) → me.0.callers ≡ c ∷ [] → slots_in me.1 ≡ hand c me.0.seen → Ready i b me l → Makes (Sound sort begins asks n) (Give c i) (marked Quiet l.0) m.0 → m.1 ≡ drop_slot i me.1 → Given i me m
+    gave_it i b me l m own slots so makes same = let e : Event = Give c i in let own' : l.0.callers ≡ c ∷ [] = so.follows.callers ∙ own in let later : GrowsWith c e l.0.seen m.0.seen = makes_grows (Sound sort begins asks n) e (marked Quiet l.0) m.0 c own' makes in let grows : GrowsWith c e me.0.seen m.0.seen = by_others_with c e me.0.seen l.0.seen m.0.seen so.grows later in
         let h : List Event = grows.rest ++ me.0.seen in let others : GrowsByOthers c me.0.seen h = with_others c e me.0.seen m.0.seen grows in let are : AreInTurn h = (subst AreInTurn grows.is (are_in_turn sort begins asks n m.0.seen makes.sound)).0 in let seen : e ∷ h ≡ m.0.seen = sym grows.is in
         let k : List Event = later.rest ++ l.0.seen in let there : GrowsByOthers c l.0.seen k = with_others c e l.0.seen m.0.seen later in let now : AreInTurn k = (subst AreInTurn later.is (are_in_turn sort begins asks n m.0.seen makes.sound)).0 in
         let hands : hand c m.0.seen ≡ drop_one i (hand c me.0.seen) = give_hand c i me.0.seen m.0.seen grows in record {
-          follows = follows_both me.0 l.0 m.0 so.follows (makes_follows (Sound sort begins asks n) e l.0 m.0 makes);
+          follows = follows_both (marked Quiet me.0) (marked Quiet l.0) m.0 (follows_marked Quiet me.0 l.0 so.follows) (makes_follows (Sound sort begins asks n) e (marked Quiet l.0) m.0 makes);
           grows = grows;
           kept = λ j ne x. let s = by_others_keeps c j me.0.seen h others are x in
               subst (StaysHeld c j me.0.seen) seen (stays_then c e me.0.seen h j s (cond_else j i (turn_given (graph_after h i)) (turn_after h j) ne ∙ s.turn) (cond_else j i (given (graph_after h i)) (graph_after h j) ne) (λ blank. refl));

@@ -27,7 +27,7 @@ use Rattle.ks_arena.specs.Sound.{Sort, blank_of, Sound}
 use Rattle.ks_arena.specs.Rule.{Fits, FitsAll, callers_in, all_callers, part_of, both_views, AllBlank}
 use Rattle.ks_arena.specs.Plays.{Seated, Carries, InHand, gathered}
 use Rattle.ks_arena.specs.Clauses.{IsPass, IsNewPass, IsNewCrew, IsCrew, EndsAll}
-use Rattle.ks_arena.proofs.Steps.{inside}
+use Rattle.ks_arena.proofs.Bits.{inside}
 use Rattle.ks_arena.proofs.Seen.{has_left, has_right}
 
 there : {A : Type 0} (l : List A) (i : ℕ) → i < length l → (a : A) × (get_elem? l i ≡ some a)
@@ -85,7 +85,7 @@ module _ {N D : Type 0} (sort : Sort) (begins : Frame → Type 0) (asks : (ℕ �
       carries = subst (λ z. Carries t.slots z.0.seen p.caller z.1) (sym is) (carries_none t.slots p.caller);
       made = ap (λ z. z.0.made) is ∙ made ∙ ap (λ (z : ℕ). cond (eqb z 0) n 0) (sym own);
       slots = ap (λ z. map (λ x. x.0) z.1) is ∙ ap (λ z. hand p.caller z.0.seen) (sym is);
-      quiet = ap (λ z. z.0.mark) is;
+      mark = ap (λ z. z.0.mark) is;
       sound = subst (λ z. Sound sort begins asks t.slots z.0.seen) (sym is) fits;
     };
     caller = own;
@@ -213,5 +213,5 @@ module _ {N D : Type 0} (sort : Sort) (begins : Frame → Type 0) (asks : (ℕ �
       }
 
   -- the last of the passes that are left fits the table and holds nothing
-  pub next_in : (t : TableId) (n : ℕ) (o r s : List (Pass N D)) (p : Pass N D) (base : Seat (Option N) View) → IsCrew sort begins asks t n o → Joining t n o r base → r ≡ s ++ p ∷ [] → (p.seat.table_id ≡ t) × (p.seat.me.1 ≡ [])
-  next_in t n o r s p base crew so is = let got = crew.each (length s) p (so.left (length s) p (ap (λ (z : List (Pass N D)). get_elem? z (length s)) is ∙ at_last s p (length s) refl)) in (got.0.table, no_slots p.seat.me.1 (got.0.slots ∙ got.1))
+  pub next_in : (t : TableId) (n : ℕ) (o r s : List (Pass N D)) (p : Pass N D) (base : Seat (Option N) View) → IsCrew sort begins asks t n o → Joining t n o r base → r ≡ s ++ p ∷ [] → (p.seat.table_id ≡ t) × (p.seat.me.1 ≡ []) × (p.seat.me.0.mark ≡ Quiet)
+  next_in t n o r s p base crew so is = let got = crew.each (length s) p (so.left (length s) p (ap (λ (z : List (Pass N D)). get_elem? z (length s)) is ∙ at_last s p (length s) refl)) in (got.0.table, no_slots p.seat.me.1 (got.0.slots ∙ got.1), got.0.mark)

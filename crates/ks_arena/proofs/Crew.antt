@@ -1,5 +1,5 @@
 -- How passes are made and put together, and what the last one knows.
-use Rattle.std.proofs.Common.{◌≡◌, ◌≢◌, ℕ, zero, suc, ◌+◌, ◌%◌, ◌^◌, ◌<◌, ◌≤◌, ◌⊎◌, Bool, true, false, cond, eqb, List, [], ◌∷◌, ◌++◌, length, map, max, get_or, set, sym, refl, ap, ◌∙◌, subst, inl, inr, ⊎_elim, arith, length-set}
+use Rattle.std.proofs.Common.{◌≡◌, ◌≢◌, ℕ, zero, suc, ◌+◌, ◌*◌, ◌%◌, ◌^◌, ◌<◌, ◌≤◌, ◌⊎◌, Bool, true, false, cond, eqb, List, [], ◌∷◌, ◌++◌, length, map, max, get_or, set, sym, refl, ap, ◌∙◌, subst, inl, inr, ⊎_elim, arith, length-set}
 use Rattle.std.specs.Prelude.{Option, Some, None}
 use Rattle.std.proofs.lemmas.List.{set-get_or}
 use mathlib.Core.Option.{none, some, some-injective, some-ne-none}
@@ -25,11 +25,11 @@ use Rattle.ks_arena.specs.declared.view.Mark.TheVariants.{Quiet}
 use Rattle.ks_arena.specs.declared.view.Part.{Part}
 use Rattle.ks_arena.specs.declared.view.View.{View}
 use Rattle.ks_arena.specs.Sound.{Sort, blank_of, Sound}
-use Rattle.ks_arena.specs.Rule.{Fits, FitsAll, callers_in, all_callers, SomeWhole, IsWhole, AllBelow, Views, Rests, Running, turn_word, first_view, next_view, maker_view, note_view, part_of, both_views, spent_view, Ends, Closes, AllBlank}
+use Rattle.ks_arena.specs.Rule.{free_words, Marks, SomeMarks, FreeBits, FirstBits, Fits, FitsAll, callers_in, all_callers, SomeWhole, IsWhole, AllBelow, Views, Rests, Running, turn_word, first_view, next_view, maker_view, note_view, part_of, both_views, spent_view, Ends, Closes, AllBlank}
 use Rattle.ks_arena.specs.Plays.{Seated, gathered}
 use Rattle.ks_arena.proofs.Words.{held_below}
 use Rattle.ks_arena.proofs.Seen.{has_left, has_right, no_more, view_at, grows_to}
-use Rattle.ks_arena.proofs.Steps.{inside}
+use Rattle.ks_arena.proofs.Bits.{inside, bits_view, bits_longer}
 
 at_end : {A : Type 0} (l : List A) (a b : A) (j : ℕ) → get_elem? (l ++ a ∷ []) j ≡ some b → (get_elem? l j ≡ some b) ⊎ ((j ≡ length l) × (a ≡ b))
 at_end [] a b zero e = inr (refl, some-injective a b e)
@@ -242,16 +242,37 @@ alone (suc j) a b e = absurd (some-ne-none b (sym e))
 first_word : (i : ℕ) → turn_word (turn_after [] i) ≡ cond (eqb i 0) 1 0
 first_word i = dite (ℕ_discrete i 0) (λ z. ap turn_word (cond_here i 0 idle free z) ∙ sym (cond_here i 0 1 0 z)) (λ z. ap turn_word (cond_else i 0 idle free z) ∙ sym (cond_else i 0 1 0 z))
 
+unmarked_first : (i : ℕ) → ¬ SomeMarks (first_view ∷ []) i
+unmarked_first i m = subst (λ (z : View). Marks z.mark i) (sym (alone m.0 first_view m.1 m.2).1) m.3
+
+first_bits : (n : ℕ) (ws : List ℕ) → FirstBits n n ws → FreeBits [] (first_view ∷ []) n ws
+first_bits n ws bits = record {
+  sets = λ w b low on. let so = bits.sets w b low on in (so.1, inl (cond_else (64 * w + b) 0 idle free (λ e. omega arith)));
+  clears = λ w b low near off. let so = bits.clears w b low off near in ((λ f. let e : idle ≡ free = sym (cond_here (64 * w + b) 0 idle free so) ∙ f in (cc)), unmarked_first (64 * w + b));
+  marks = λ j i v at m. absurd (unmarked_first i (j, v, at, m));
+}
+
 pub blank_record : (ranged : Bool) → record_of (blank_body ranged) ≡ empty_record
 blank_record true = refl
 blank_record false = refl
 
 module _ {N : Type 0} (sort : Sort) (begins : Frame → Type 0) (asks : (ℕ → NodeState) → (ℕ → Frame) → List Change → Type 0) (shows : N → Body) where
   pub splits_ok : (id : ℕ) (v : View) → v.made ≢ 0 → Splits (Running sort begins asks shows) id v (maker_view v) (next_view v)
-  splits_ok id v m s r at = record { trace = r.trace; views = makes r.trace s.views id v r.views at m; sound = r.sound; few = r.few; wide = r.wide; call_count = r.call_count; shape_count = r.shape_count; turns = r.turns; homes = r.homes }
+  splits_ok id v m s r at = let n : ℕ = length s.homes in record {
+    trace = r.trace;
+    views = makes r.trace s.views id v r.views at m;
+    sound = r.sound;
+    few = r.few;
+    wide = r.wide;
+    call_count = r.call_count;
+    shape_count = r.shape_count;
+    turns = r.turns;
+    bits = bits_longer r.trace (set s.views id (maker_view v)) (next_view v) n s.words refl (bits_view r.trace s.views id v (maker_view v) n s.words at refl (λ i c m has. has) r.bits);
+    homes = r.homes;
+  }
 
-  pub joins_ok : (id other : ℕ) (v w : View) → Joins (Running sort begins asks shows) id v other w (both_views v w) spent_view
-  joins_ok id other v w s r at ne at' = record {
+  pub joins_ok : (id other : ℕ) (v w : View) → w.mark ≡ Quiet → Joins (Running sort begins asks shows) id v other w (both_views v w) spent_view
+  joins_ok id other v w quiet s r at ne at' = let n : ℕ = length s.homes in record {
     trace = r.trace;
     views = joins r.trace s.views id other v w r.views at (sym (set_else s.views id other (both_views v w) ne) ∙ at') (λ e. ne (sym e));
     sound = r.sound;
@@ -260,6 +281,7 @@ module _ {N : Type 0} (sort : Sort) (begins : Frame → Type 0) (asks : (ℕ →
     call_count = r.call_count;
     shape_count = r.shape_count;
     turns = r.turns;
+    bits = bits_view r.trace (set s.views id (both_views v w)) other w spent_view n s.words at' (sym quiet) (λ i c m has. absurd (subst (λ (z : Mark). Marks z i) quiet m)) (bits_view r.trace s.views id v (both_views v w) n s.words at refl (λ i c m has. has) r.bits);
     homes = r.homes;
   }
 
@@ -277,14 +299,15 @@ module _ {N : Type 0} (sort : Sort) (begins : Frame → Type 0) (asks : (ℕ →
       call_count = r.call_count;
       shape_count = r.shape_count;
       turns = r.turns;
+      bits = bits_view r.trace s.views id v w (length s.homes) s.words at refl (λ i c m has. has_left v.callers (callers_in v.absorbed) c has) r.bits;
       homes = r.homes;
     },
     (refl, refl, f, r.views.parts id v at, subst (λ (z : ℕ). Sound sort begins asks z r.trace) long r.sound),
   )
 
-  pub opens : (ws : List ℕ) (xs : List (Option N)) → begins (blank_of sort) → length ws ≡ length xs + 2 → get_or ws 0 0 ≡ 0 → get_or ws 1 0 ≡ 0 → ((i : ℕ) → i < length xs → get_or ws (i + 2) 0 ≡ cond (eqb i 0) 1 0) → AllBlank sort shows xs
+  pub opens : (ws : List ℕ) (xs : List (Option N)) → begins (blank_of sort) → length ws ≡ length xs + 2 + free_words (length xs) → get_or ws 0 0 ≡ 0 → get_or ws 1 0 ≡ 0 → ((i : ℕ) → i < length xs → get_or ws (i + 2) 0 ≡ cond (eqb i 0) 1 0) → FirstBits (length xs) (length xs) ws → AllBlank sort shows xs
       → Running sort begins asks shows (opening ws xs first_view)
-  opens ws xs fits wide e₀ e₁ words blanks = let far : length (map some xs) ≡ length xs = length-map xs some in record {
+  opens ws xs fits wide e₀ e₁ words bits blanks = let far : length (map some xs) ≡ length xs = length-map xs some in record {
     trace = [];
     views = record {
       each = λ j v e. subst (λ (z : View). Fits [] z.callers z.seen) (alone j first_view v e).1 record { rest = []; is = refl; others = tt };
@@ -299,10 +322,11 @@ module _ {N : Type 0} (sort : Sort) (begins : Frame → Type 0) (asks : (ℕ →
     };
     sound = fits;
     few = tt;
-    wide = wide ∙ ap (λ (z : ℕ). z + 2) (sym far);
+    wide = wide ∙ ap (λ (z : ℕ). z + 2 + free_words z) (sym far);
     call_count = e₀;
     shape_count = e₁;
     turns = λ i near. words i (subst (λ (z : ℕ). i < z) far near) ∙ sym (first_word i);
+    bits = subst (λ (z : ℕ). FreeBits [] (first_view ∷ []) z ws) (sym far) (first_bits (length xs) ws bits);
     homes = λ i near. let b = blanks i (subst (λ (z : ℕ). i < z) far near) in let there : get_elem? (map some xs) i ≡ some (some (Some b.0)) = at_map some xs i (Some b.0) b.1 in dite (ℕ_discrete i 0)
         (λ z. subst (λ (t : Turn). Rests sort shows (graph_after [] i) (blank_of sort) t (get_elem? (map some xs) i)) (sym (cond_here i 0 idle free z)) (b.0, there, ap (graph_after []) z ∙ ap Live (sym (ap record_of b.2 ∙ blank_record sort.ranged)), sym (ap frame_of b.2)))
         (λ z. subst (λ (t : Turn). Rests sort shows (graph_after [] i) (blank_of sort) t (get_elem? (map some xs) i)) (sym (cond_else i 0 idle free z)) (b.0, there, b.2));
@@ -335,4 +359,4 @@ module _ {N : Type 0} (sort : Sort) (begins : Frame → Type 0) (asks : (ℕ →
 
   pub notes_ok : (id : ℕ) (v : View) → Splits (Running sort begins asks shows) id v v (note_view v)
   notes_ok id v s r at = subst (λ (vs : List View). Running sort begins asks shows record { words = s.words; homes = s.homes; views = vs ++ note_view v ∷ [] }) (sym (set_again s.views id v at))
-      record { trace = r.trace; views = notes r.trace s.views id v r.views at; sound = r.sound; few = r.few; wide = r.wide; call_count = r.call_count; shape_count = r.shape_count; turns = r.turns; homes = r.homes }
+      record { trace = r.trace; views = notes r.trace s.views id v r.views at; sound = r.sound; few = r.few; wide = r.wide; call_count = r.call_count; shape_count = r.shape_count; turns = r.turns; bits = bits_longer r.trace s.views (note_view v) (length s.homes) s.words refl r.bits; homes = r.homes }

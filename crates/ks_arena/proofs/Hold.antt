@@ -21,10 +21,10 @@ use Rattle.ks_arena.specs.declared.view.View.{View}
 use Rattle.ks_node.specs.Body.{Body, frame_of, blank_body}
 use Rattle.ks_node.specs.Edges.{record_of}
 use Rattle.ks_arena.specs.Sound.{Sort, blank_of, Sound, StepsSoundly}
-use Rattle.ks_arena.specs.Plays.{Seated, with_seen, Looks, Makes, drop_slot, InHand, HasSlots, Carries, decided, formed}
+use Rattle.ks_arena.specs.Plays.{Seated, with_seen, marked, Looks, Makes, drop_slot, InHand, HasSlots, Carries, decided, formed}
 use Rattle.ks_history.specs.Stays.{cond_here, cond_else, given_not_held}
 use Rattle.ks_history.specs.Begins.{none_by, none_of_both}
-use Rattle.ks_arena.proofs.Steps.{has_one}
+use Rattle.ks_arena.proofs.Stepping.{has_one}
 
 -- a view that has become another with the same callers, number and mark
 pub record Follows (v w : View) : Type 0 where
@@ -35,6 +35,9 @@ pub record Follows (v w : View) : Type 0 where
 
 follows : (v w : View) (h : List Event) → w ≡ with_seen v h → Follows v w
 follows v w h is = record { callers = ap (λ (z : View). z.callers) is; made = ap (λ (z : View). z.made) is; mark = ap (λ (z : View). z.mark) is; bare = ap (λ (z : View). z.absorbed) is }
+
+pub follows_marked : (k : Mark) (v w : View) → Follows v w → Follows (marked k v) (marked k w)
+follows_marked k v w so = record { callers = so.callers; made = so.made; mark = refl; bare = so.bare }
 
 pub follows_both : (u v w : View) → Follows u v → Follows v w → Follows u w
 follows_both u v w a b = record { callers = b.callers ∙ a.callers; made = b.made ∙ a.made; mark = b.mark ∙ a.mark; bare = b.bare }

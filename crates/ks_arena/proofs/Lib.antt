@@ -1,6 +1,7 @@
 pub mod Words
 pub mod Seen
-pub mod Steps
+pub mod Bits
+pub mod Stepping
 pub mod Moves
 pub mod Hold
 pub mod After

@@ -1,5 +1,5 @@
 -- What each step of the arena asks and tells.
-use Rattle.std.proofs.Common.{◌≡◌, ◌≢◌, ℕ, zero, suc, ◌+◌, ◌%◌, ◌^◌, ◌<◌, ◌⊎◌, Bool, cond, eqb, List, [], ◌∷◌, ◌++◌, length, get_or, set, sym, refl, ap, ◌∙◌, subst, inl, inr, ⊎_elim, arith, length-set, get_or-set_other, get_or-set_same, length-append}
+use Rattle.std.proofs.Common.{◌≡◌, ◌≢◌, ℕ, zero, suc, ◌+◌, ◌*◌, ◌/◌, max, bit_and, bit_or, w64, ◌%◌, ◌^◌, ◌<◌, ◌⊎◌, Bool, cond, eqb, List, [], ◌∷◌, ◌++◌, length, get_or, set, sym, refl, ap, ◌∙◌, subst, inl, inr, ⊎_elim, arith, length-set, get_or-set_other, get_or-set_same, length-append}
 use Rattle.std.specs.Prelude.{Option, Some, None, All}
 use Rattle.std.proofs.lemmas.List.{set-get_or, set_comm, set-set}
 use Rattle.std.proofs.lemmas.List.Elements.{All-head, All-tail}
@@ -24,16 +24,22 @@ use Rattle.ks_history.specs.declared.Event.TheVariants.{Take, Give, Claim, Shape
 use Rattle.ks_history.specs.Trace.{Turn, free, idle, held, turn_given, given, state_with, graph_after, turn_after, frame_after, number_after, calls_of, shapes_in, caller_of}
 use Rattle.ks_history.specs.Write.{written}
 use Rattle.ks_history.specs.Passes.{Has, NoneOf, GrowsByOthers}
+use Rattle.std.specs.Int.{bit_at, bit_not}
+use Rattle.std.proofs.lemmas.Nat.Bits.{bit_at_or, bit_at-lt, bit_at-pow_same, bit_at-pow_other, bit_at_clear_same, bit_at_clear_other}
+use Rattle.ks_arena.specs.declared.view.Mark.{Mark}
+use Rattle.ks_arena.specs.declared.view.Mark.TheVariants.{Quiet, Claiming, Freeing}
 use Rattle.ks_arena.specs.declared.view.View.{View}
 use Rattle.ks_node.specs.Body.{Body, frame_of, blank_body}
 use Rattle.ks_node.specs.Edges.{record_of}
 use Rattle.ks_arena.specs.Sound.{Sort, blank_of, Sound, StepsSoundly}
-use Rattle.ks_arena.specs.Rule.{Fits, Rests, Running, turn_word}
+use Rattle.ks_arena.specs.Rule.{Fits, Rests, Running, turn_word, Marks, SomeMarks, FreeBits, callers_in, all_callers}
 use Rattle.ks_history.specs.Stays.{StaysHeld, cond_here, cond_else}
 use Rattle.ks_history.specs.Begins.{none_by, by_others_keeps}
-use Rattle.ks_arena.specs.Plays.{Seated, with_seen, Looks, Makes, drop_slot, InHand, HasSlots, Carries, Shows, TookAt, took, ClaimedAt, claimed, gave, brought, decided, formed}
+use Rattle.ks_arena.specs.Plays.{Seated, with_seen, marked, TellsFree, Looks, Makes, drop_slot, InHand, HasSlots, Carries, Shows, TookAt, took, ClaimedAt, claimed, gave, brought, opened, closed, readied, decided, formed}
 use Rattle.ks_arena.proofs.Words.{word_idle, word_free, word_below, held_below, are_in_turn}
-use Rattle.ks_arena.proofs.Steps.{inside, has_one, looks, turns_at, counts_at}
+use Rattle.ks_arena.proofs.Seen.{has_left}
+use Rattle.ks_arena.proofs.Bits.{inside, marks_held, mark_own, turn_bits, free_word_bits}
+use Rattle.ks_arena.proofs.Stepping.{has_one, looks, turns_at, frees_at, counts_at}
 
 same_pair : (cs : List ℕ) (c d i j : ℕ) → cs ≡ c ∷ [] → cs ≡ d ∷ [] → i + 2 ≡ j + 2 → (c ≡ d) × (i ≡ j)
 same_pair cs c d i j a b e = let x : c ∷ [] ≡ d ∷ [] = sym a ∙ b in ((cc), omega arith)
@@ -43,6 +49,22 @@ one_more a b x more e = omega arith
 
 a_call_more : (xs : List Answered) (x : Answered) → length (xs ++ x ∷ []) ≡ length xs + 1
 a_call_more xs x = length-append xs (x ∷ [])
+
+-- a power of two and the word tell which bit it is
+opened_same : (i j n : ℕ) → n + 2 + i / 64 ≡ n + 2 + j / 64 → 2 ^ (i % 64) ≡ 2 ^ (j % 64) → i ≡ j
+opened_same i j n word bit = dite (ℕ_discrete (j % 64) (i % 64)) (λ e. omega arith) (λ ne. let one : bit_at (2 ^ (j % 64)) (j % 64) ≡ 1 = bit_at-pow_same (j % 64) in let none_set : bit_at (2 ^ (i % 64)) (j % 64) ≡ 0 = bit_at-pow_other (i % 64) (j % 64) ne in absurd (omega (arith, one, none_set, ap (λ (z : ℕ). bit_at z (j % 64)) bit)))
+
+-- what is given free has its bit set before, and what is given idle has not
+pub GivesMark : NodeState → ℕ → Mark → Type 0
+GivesMark t i k = ((turn_given t ≡ free) × (k ≡ Freeing i)) ⊎ ((turn_given t ≡ idle) × (k ≡ Quiet))
+
+pub gives_mark_live : (t : NodeState) (i : ℕ) (k : Mark) → turn_given t ≡ idle → k ≡ Quiet → GivesMark t i k
+unfolding GivesMark
+gives_mark_live t i k is quiet = inr (is, quiet)
+
+pub gives_mark_free : (t : NodeState) (i : ℕ) (k : Mark) → turn_given t ≡ free → k ≡ Freeing i → GivesMark t i k
+unfolding GivesMark
+gives_mark_free t i k is freeing = inl (is, freeing)
 
 -- whatever others do before it, the event may follow
 abbrev pub May : Sort → (Frame → Type 0) → ((ℕ → NodeState) → (ℕ → Frame) → List Change → Type 0) → ℕ → ℕ → List Event → Event → Type 0
@@ -64,8 +86,27 @@ module _ {N : Type 0} (sort : Sort) (begins : Frame → Type 0) (asks : (ℕ →
   abbrev Goes : State (Option N) View → ℕ → ℕ → Seated N → (ℕ → Seated N → Type 0) → ℕ → Type 0
   Goes s k id me then x = (w : View) × (a : Act (Option N)) × Valid s.homes me.1 a × Rule (stepped s k x id me.1 w a) × then (get_or s.words k 0) (w, carried_after me.1 a)
 
-  pub takes_ok : (n id : ℕ) (me : Seated N) (c i : ℕ) → me.0.callers ≡ c ∷ [] → c < 2 ^ 32 → i < n → Allows Rule n id me (i + 2) (λ y. either (eqb y 1) (c + 2) y) (took sort begins asks shows (step n (i + 2) 1 (c + 2) none) me)
-  takes_ok n id me c i mine small near s r long at _ = let h : List Event = r.trace in let near' : i < length s.homes = subst (λ (z : ℕ). i < z) (sym long) near in let y : ℕ = get_or s.words (i + 2) 0 in let word : y ≡ turn_word (turn_after h i) = r.turns i near' in
+  -- with another mark, as the step leaves it
+  abbrev pub looks_marked : (n : ℕ) (s : State (Option N) View) (r : Rule s) (id : ℕ) (v : View) (k : Mark) → length s.homes ≡ n → get_elem? s.views id ≡ some v → Looks (SoundTo n) (marked k v) (with_seen (marked k v) r.trace)
+  looks_marked n s r id v k long at = let f = r.views.each id v at in record { rest = f.rest; is = ap (with_seen (marked k v)) f.is; others = f.others; sound = subst (λ (z : ℕ). SoundTo z r.trace) long r.sound }
+
+  abbrev pub makes_marked : (n : ℕ) (s : State (Option N) View) (r : Rule s) (id : ℕ) (v : View) (k : Mark) (e : Event) → length s.homes ≡ n → get_elem? s.views id ≡ some v → StepsSoundly sort begins asks (length s.homes) r.trace e → Makes (SoundTo n) e (marked k v) (with_seen (marked k v) (e ∷ r.trace))
+  makes_marked n s r id v k e long at may = let f = r.views.each id v at in record { rest = f.rest; is = ap (λ (z : List Event). with_seen (marked k v) (e ∷ z)) f.is; others = f.others; sound = subst (λ (z : ℕ). SoundTo z (e ∷ r.trace)) long (r.sound, may) }
+
+  quiet_marks : (k : Mark) → k ≡ Quiet → (i : ℕ) → ¬ Marks k i
+  quiet_marks k quiet i m = subst (λ (z : Mark). Marks z i) quiet m
+
+  unnamed : (k : Mark) (i : ℕ) → k ≡ Quiet → (j : ℕ) → Marks k j → j ≡ i
+  unnamed k i quiet j m = absurd (quiet_marks k quiet j m)
+
+  idle_unmarked : (s : State (Option N) View) (r : Rule s) (i : ℕ) → turn_after r.trace i ≡ idle → ¬ SomeMarks s.views i
+  idle_unmarked s r i is m = let so = marks_held r.trace s.views (length s.homes) s.words r.bits i m in let x : idle ≡ held so.0 = sym is ∙ so.1 in (cc)
+
+  free_unmarked : (s : State (Option N) View) (r : Rule s) (i : ℕ) → turn_after r.trace i ≡ free → ¬ SomeMarks s.views i
+  free_unmarked s r i is m = let so = marks_held r.trace s.views (length s.homes) s.words r.bits i m in let x : free ≡ held so.0 = sym is ∙ so.1 in (cc)
+
+  pub takes_ok : (n id : ℕ) (me : Seated N) (c i : ℕ) → me.0.callers ≡ c ∷ [] → me.0.mark ≡ Quiet → c < 2 ^ 32 → i < n → Allows Rule n id me (i + 2) (λ y. either (eqb y 1) (c + 2) y) (took sort begins asks shows (step n (i + 2) 1 (c + 2) none) me)
+  takes_ok n id me c i mine quiet small near s r long at _ = let h : List Event = r.trace in let near' : i < length s.homes = subst (λ (z : ℕ). i < z) (sym long) near in let y : ℕ = get_or s.words (i + 2) 0 in let word : y ≡ turn_word (turn_after h i) = r.turns i near' in
       let told = took sort begins asks shows (step n (i + 2) 1 (c + 2) none) me in
       exchanged y 1 (c + 2) (Goes s (i + 2) id me told)
       (λ hit. let is : turn_after h i ≡ idle = word_idle (turn_after h i) (sym word ∙ hit) in let b = subst (λ (z : Turn). Rests sort shows (graph_after h i) (frame_after (blank_of sort) h i) z (get_elem? s.homes i)) is (r.homes i near') in
@@ -73,8 +114,10 @@ module _ {N : Type 0} (sort : Sort) (begins : Frame → Type 0) (asks : (ℕ →
         with_seen me.0 (e ∷ h),
         takes i (Some b.0),
         b.1,
-        turns_at sort begins asks shows s r id me.0 e i (c + 2) none at (has_one me.0.callers c mine) small near' is refl refl (λ j ne. (cond_else j i (held c) (turn_after h j) ne, refl, refl)) (ap turn_word (sym here))
-            (subst (λ (z : Turn). Rests sort shows (graph_after h i) (frame_after (blank_of sort) h i) z (some none)) (sym here) refl),
+        turns_at sort begins asks shows s r id me.0 me.0.mark e i (c + 2) none at (has_one me.0.callers c mine) small near' is refl refl (λ j ne. (cond_else j i (held c) (turn_after h j) ne, refl, refl)) (ap turn_word (sym here))
+            (subst (λ (z : Turn). Rests sort shows (graph_after h i) (frame_after (blank_of sort) h i) z (some none)) (sym here) refl)
+            (turn_bits h e s.views id me.0 me.0.mark (length s.homes) s.words i (c + 2) r.bits at near' (λ j ne. cond_else j i (held c) (turn_after h j) ne) (unnamed me.0.mark i quiet) (unnamed me.0.mark i quiet) (λ j u ne there m. idle_unmarked s r i is (j, u, there, m)) (λ m. absurd (quiet_marks me.0.mark quiet i m))
+            (inr ((λ f. let x : idle ≡ free = sym is ∙ f in (cc)), idle_unmarked s r i is, (λ f. let x : held c ≡ free = sym here ∙ f in (cc)), quiet_marks me.0.mark quiet i))),
         λ d j own at'. let p = same_pair me.0.callers c d i j mine own at' in subst (λ (z : ℕ × ℕ). TookAt sort begins asks shows n z.0 z.1 me y (with_seen me.0 (e ∷ h), (i, Some b.0) ∷ me.1)) (λ k. (p.0 k, p.1 k))
             (λ _. (makes_one n s r id me.0 e long at is, (b.0, refl, b.2, b.3)), λ miss. absurd (miss hit)),
       ))
@@ -87,19 +130,20 @@ module _ {N : Type 0} (sort : Sort) (begins : Frame → Type 0) (asks : (ℕ →
             (λ hit. absurd (miss hit), λ _. (looks_all n s r id me.0 long at, refl, word, word_below (2 ^ 32) (turn_after h i) y word (λ d e. held_below (2 ^ 32) h i d r.few e))),
       ))
 
-  pub claims_ok : (n id : ℕ) (me : Seated N) (c i : ℕ) → me.0.callers ≡ c ∷ [] → c < 2 ^ 32 → i < n → Allows Rule n id me (i + 2) (λ y. either (eqb y 0) (c + 2) y) (claimed sort begins asks shows (step n (i + 2) 0 (c + 2) none) me)
-  claims_ok n id me c i mine small near s r long at _ = let h : List Event = r.trace in let near' : i < length s.homes = subst (λ (z : ℕ). i < z) (sym long) near in let y : ℕ = get_or s.words (i + 2) 0 in let word : y ≡ turn_word (turn_after h i) = r.turns i near' in
+  pub claims_ok : (n id : ℕ) (me : Seated N) (c i : ℕ) → me.0.callers ≡ c ∷ [] → me.0.mark ≡ Quiet → c < 2 ^ 32 → i < n → Allows Rule n id me (i + 2) (λ y. either (eqb y 0) (c + 2) y) (claimed sort begins asks shows (step n (i + 2) 0 (c + 2) none) me)
+  claims_ok n id me c i mine quiet small near s r long at _ = let h : List Event = r.trace in let near' : i < length s.homes = subst (λ (z : ℕ). i < z) (sym long) near in let y : ℕ = get_or s.words (i + 2) 0 in let word : y ≡ turn_word (turn_after h i) = r.turns i near' in
       let told = claimed sort begins asks shows (step n (i + 2) 0 (c + 2) none) me in
       exchanged y 0 (c + 2) (Goes s (i + 2) id me told)
       (λ hit. let is : turn_after h i ≡ free = word_free (turn_after h i) (sym word ∙ hit) in let b = subst (λ (z : Turn). Rests sort shows (graph_after h i) (frame_after (blank_of sort) h i) z (get_elem? s.homes i)) is (r.homes i near') in
       let e : Event = Claim c i in let here : turn_after (e ∷ h) i ≡ held c = cond_here i i (held c) (turn_after h i) refl in (
-        with_seen me.0 (e ∷ h),
+        with_seen (marked (Claiming i) me.0) (e ∷ h),
         takes i (Some b.0),
         b.1,
-        turns_at sort begins asks shows s r id me.0 e i (c + 2) none at (has_one me.0.callers c mine) small near' is refl refl (λ j ne. (cond_else j i (held c) (turn_after h j) ne, cond_else j i (Claimed c) (graph_after h j) ne, refl)) (ap turn_word (sym here))
-            (subst (λ (z : Turn). Rests sort shows (graph_after (e ∷ h) i) (frame_after (blank_of sort) h i) z (some none)) (sym here) refl),
-        λ d j own at'. let p = same_pair me.0.callers c d i j mine own at' in subst (λ (z : ℕ × ℕ). ClaimedAt sort begins asks shows n z.0 z.1 me y (with_seen me.0 (e ∷ h), (i, Some b.0) ∷ me.1)) (λ k. (p.0 k, p.1 k))
-            (λ _. (makes_one n s r id me.0 e long at is, (b.0, refl, b.2)), λ miss. absurd (miss hit)),
+        turns_at sort begins asks shows s r id me.0 (Claiming i) e i (c + 2) none at (has_one me.0.callers c mine) small near' is refl refl (λ j ne. (cond_else j i (held c) (turn_after h j) ne, cond_else j i (Claimed c) (graph_after h j) ne, refl)) (ap turn_word (sym here))
+            (subst (λ (z : Turn). Rests sort shows (graph_after (e ∷ h) i) (frame_after (blank_of sort) h i) z (some none)) (sym here) refl)
+            (turn_bits h e s.views id me.0 (Claiming i) (length s.homes) s.words i (c + 2) r.bits at near' (λ j ne. cond_else j i (held c) (turn_after h j) ne) (unnamed me.0.mark i quiet) (λ j m. sym m) (λ j u ne there m. free_unmarked s r i is (j, u, there, m)) (λ m. (c, has_one me.0.callers c mine, here)) (inl (inl is, inr refl))),
+        λ d j own at'. let p = same_pair me.0.callers c d i j mine own at' in subst (λ (z : ℕ × ℕ). ClaimedAt sort begins asks shows n z.0 z.1 me y (with_seen (marked (Claiming i) me.0) (e ∷ h), (i, Some b.0) ∷ me.1)) (λ k. (p.0 k, p.1 k))
+            (λ _. (makes_marked n s r id me.0 (Claiming i) e long at is, (b.0, refl, b.2)), λ miss. absurd (miss hit)),
       ))
       (λ miss. (
         with_seen me.0 h,
@@ -122,6 +166,14 @@ module _ {N : Type 0} (sort : Sort) (begins : Frame → Type 0) (asks : (ℕ →
   -- what the caller holds, at the moment of the step
   pub own_now : (s : State (Option N) View) (r : Rule s) (id : ℕ) (v : View) (c i : ℕ) → get_elem? s.views id ≡ some v → v.callers ≡ c ∷ [] → turn_after v.seen i ≡ held c → StaysHeld c i v.seen r.trace
   own_now s r id v c i at mine holds = by_others_keeps c i v.seen r.trace (others_now s r id v c at mine) (are_in_turn sort begins asks (length s.homes) r.trace r.sound) holds
+
+  -- what a free word says of its nodes
+  reads_word : (s : State (Option N) View) (r : Rule s) (id : ℕ) (v : View) (c w : ℕ) → get_elem? s.views id ≡ some v → v.callers ≡ c ∷ [] → v.mark ≡ Quiet → TellsFree (length s.homes) w c r.trace (get_or s.words (length s.homes + 2 + w) 0)
+  reads_word s r id v c w at mine quiet = record {
+    sets = λ b low on. let so = r.bits.sets w b low on in (so.0, ⊎_elim (λ f. inl f) (λ m. let h = r.bits.marks m.0 (64 * w + b) m.1 m.2 m.3 in
+        inr (h.0, (λ same. quiet_marks v.mark quiet (64 * w + b) (subst (λ (z : View). Marks z.mark (64 * w + b)) (some-injective m.1 v (sym m.2 ∙ ap (get_elem? s.views) (r.views.apart m.0 id c m.1 v m.2 at (subst (λ (z : ℕ). Has (all_callers m.1) z) same (has_left m.1.callers (callers_in m.1.absorbed) h.0 h.1)) (has_left v.callers (callers_in v.absorbed) c (has_one v.callers c mine))) ∙ at)) m.3)), h.2)) so.1);
+    clears = λ b low near off. (r.bits.clears w b low near off).0;
+  }
 
   InHand_not : (xs : List (ℕ × Option N)) (i k : ℕ) → ¬ InHand xs k → InHand xs i → k ≢ i
   InHand_not xs i k out has e = out (subst (InHand xs) (sym e) has)
@@ -192,19 +244,81 @@ module _ {N : Type 0} (sort : Sort) (begins : Frame → Type 0) (asks : (ℕ →
     λ j at'. let p : i ≡ j = omega arith in (looks_all n s r id me.0 long at, subst (λ (z : ℕ). carried_after me.1 (lift me.1 i has) ≡ (z, None) ∷ drop_slot z me.1) p so.2),
   )
 
+  mark_named : (k : Mark) (t : NodeState) (i : ℕ) → GivesMark t i k → (j : ℕ) → Marks k j → j ≡ i
+  unfolding GivesMark
+  mark_named k t i (inl so) j m = sym (subst (λ (z : Mark). Marks z j) so.1 m)
+  mark_named k t i (inr so) j m = absurd (quiet_marks k so.1 j m)
+
+  given_bits : (s : State (Option N) View) (r : Rule s) (id : ℕ) (v : View) (c i new : ℕ) → get_elem? s.views id ≡ some v → Has v.callers c → i < length s.homes → turn_after r.trace i ≡ held c → GivesMark (graph_after r.trace i) i v.mark
+      → FreeBits (Give c i ∷ r.trace) (set s.views id (with_seen (marked Quiet v) (Give c i ∷ r.trace))) (length s.homes) (set s.words (i + 2) new)
+  unfolding GivesMark
+  given_bits s r id v c i new at own near now mark = let h : List Event = r.trace in let e : Event = Give c i in let t : NodeState = graph_after h i in let others = mark_own h s.views (length s.homes) s.words r.bits i r.views id c v at own now in
+      let then : turn_after (e ∷ h) i ≡ turn_given t = cond_here i i (turn_given t) (turn_after h i) refl in
+      turn_bits h e s.views id v Quiet (length s.homes) s.words i new r.bits at near (λ j ne. cond_else j i (turn_given t) (turn_after h j) ne) (mark_named v.mark t i mark) (λ j m. absurd m) others (λ m. absurd m)
+      (⊎_elim (λ so. inl (inr (id, v, at, subst (λ (z : Mark). Marks z i) (sym so.1) refl), inl (then ∙ so.0)))
+      (λ so. inr ((λ f. let x : held c ≡ free = sym now ∙ f in (cc)), (λ m. dite (ℕ_discrete m.0 id)
+      (λ same. quiet_marks v.mark so.1 i (subst (λ (z : View). Marks z.mark i) (some-injective m.1 v (sym m.2 ∙ ap (get_elem? s.views) same ∙ at)) m.3)) (λ ne. others m.0 m.1 ne m.2 m.3)), (λ f. let x : idle ≡ free = sym so.0 ∙ sym then ∙ f in (cc)), λ m. m)) mark)
+
   pub gives_ok : (n id : ℕ) (me : Seated N) (c i : ℕ) (b : N) (others : List (ℕ × Option N)) (new : ℕ) → me.0.callers ≡ c ∷ [] → c < 2 ^ 32 → i < n → me.1 ≡ (i, Some b) ∷ others → turn_after me.0.seen i ≡ held c → Shows sort begins asks shows (graph_after me.0.seen i) (frame_after (blank_of sort) me.0.seen i) b
-      → new ≡ turn_word (turn_given (graph_after me.0.seen i)) → Allows Rule n id me (i + 2) (λ _. new) (λ _. gave sort begins asks shows (step n (i + 2) new 0 none) me new)
-  gives_ok n id me c i b others new mine small near has holds body word s r long at _ = let h : List Event = r.trace in let near' : i < length s.homes = subst (λ (z : ℕ). i < z) (sym long) near in let own = own_now s r id me.0 c i at mine holds in
+      → new ≡ turn_word (turn_given (graph_after me.0.seen i)) → GivesMark (graph_after me.0.seen i) i me.0.mark → Allows Rule n id me (i + 2) (λ _. new) (λ _. gave sort begins asks shows (step n (i + 2) new 0 none) me new)
+  gives_ok n id me c i b others new mine small near has holds body word mark s r long at _ = let h : List Event = r.trace in let near' : i < length s.homes = subst (λ (z : ℕ). i < z) (sym long) near in let own = own_now s r id me.0 c i at mine holds in
       let e : Event = Give c i in let t : NodeState = graph_after h i in let f : Frame = frame_after (blank_of sort) h i in let turns : turn_after (e ∷ h) i ≡ turn_given t = cond_here i i (turn_given t) (turn_after h i) refl in let states : graph_after (e ∷ h) i ≡ given t = cond_here i i (given t) t refl in
+      let one = has_one me.0.callers c mine in
       subst (λ (cs : List (ℕ × Option N)). Goes s (i + 2) id (me.0, cs) (λ _. gave sort begins asks shows (step n (i + 2) new 0 none) (me.0, cs) new) new) (sym has) (
-        with_seen me.0 (e ∷ h),
+        with_seen (marked Quiet me.0) (e ∷ h),
         gives,
         tt,
-        turns_at sort begins asks shows s r id me.0 e i new (some (Some b)) at (has_one me.0.callers c mine) small near' own.turn refl refl (λ j ne. (cond_else j i (turn_given t) (turn_after h j) ne, cond_else j i (given t) (graph_after h j) ne, refl))
+        turns_at sort begins asks shows s r id me.0 Quiet e i new (some (Some b)) at one small near' own.turn refl refl (λ j ne. (cond_else j i (turn_given t) (turn_after h j) ne, cond_else j i (given t) (graph_after h j) ne, refl))
             (word ∙ ap (λ (z : NodeState). turn_word (turn_given z)) (sym own.state) ∙ ap turn_word (sym turns))
-            (subst (λ (z : NodeState × Turn). Rests sort shows z.0 f z.1 (some (some (Some b)))) (λ k. (sym states k, sym turns k)) (rests_given t f b (subst (λ (z : NodeState × Frame). Shows sort begins asks shows z.0 z.1 b) (λ k. (sym own.state k, sym (own.frame (blank_of sort)) k)) body))),
-        λ d j x more own' at' has'. let p = same_pair me.0.callers c d i j mine own' at' in let q : others ≡ more = cc in (subst (λ (z : ℕ × ℕ). Makes (SoundTo n) (Give z.0 z.1) me.0 (with_seen me.0 (e ∷ h))) (λ k. (p.0 k, p.1 k)) (makes_one n s r id me.0 e long at own.turn), q),
+            (subst (λ (z : NodeState × Turn). Rests sort shows z.0 f z.1 (some (some (Some b)))) (λ k. (sym states k, sym turns k)) (rests_given t f b (subst (λ (z : NodeState × Frame). Shows sort begins asks shows z.0 z.1 b) (λ k. (sym own.state k, sym (own.frame (blank_of sort)) k)) body)))
+            (given_bits s r id me.0 c i new at one near' own.turn (subst (λ (z : NodeState). GivesMark z i me.0.mark) (sym own.state) mark)),
+        λ d j x more own' at' has'. let p = same_pair me.0.callers c d i j mine own' at' in let q : others ≡ more = cc in (subst (λ (z : ℕ × ℕ). Makes (SoundTo n) (Give z.0 z.1) (marked Quiet me.0) (with_seen (marked Quiet me.0) (e ∷ h))) (λ k. (p.0 k, p.1 k)) (makes_marked n s r id me.0 Quiet e long at own.turn), q),
       )
+
+  -- the bit of a node that c holds is set, or cleared
+
+  in_words : (s : State (Option N) View) (r : Rule s) (i : ℕ) → i < length s.homes → length s.homes + 2 + i / 64 < length s.words
+  in_words s r i near = let wide = r.wide in omega arith
+
+  pub opens_ok : (n id : ℕ) (me : Seated N) (c i : ℕ) → me.0.callers ≡ c ∷ [] → me.0.mark ≡ Quiet → i < n → turn_after me.0.seen i ≡ held c
+      → Allows Rule n id me (n + 2 + i / 64) (λ y. bit_or y (2 ^ (i % 64))) (λ _ m. opened sort begins asks shows (step n (n + 2 + i / 64) (2 ^ (i % 64)) 0 none) me m)
+  opens_ok n id me c i mine quiet near holds s r long at _ = let q : ℕ = i / 64 in let b : ℕ = i % 64 in let near' : i < length s.homes = subst (λ (z : ℕ). i < z) (sym long) near in let own = own_now s r id me.0 c i at mine holds in
+      let y : ℕ = get_or s.words (n + 2 + q) 0 in let new : ℕ = bit_or y (2 ^ b) in let w : View = with_seen (marked (Freeing i) me.0) r.trace in (
+        w,
+        keeps,
+        tt,
+        subst (λ (z : ℕ). Rule record { words = set s.words (z + 2 + q) (bit_or (get_or s.words (z + 2 + q) 0) (2 ^ b)); homes = s.homes; views = set s.views id w }) long
+            (let x : ℕ = get_or s.words (length s.homes + 2 + q) 0 in frees_at sort begins asks shows s r id me.0 (Freeing i) q (bit_or x (2 ^ b)) at
+            (free_word_bits r.trace s.views id me.0 (Freeing i) (length s.homes) s.words i c (bit_or x (2 ^ b)) r.views r.bits at near' (has_one me.0.callers c mine) own.turn (unnamed me.0.mark i quiet) (λ j m. sym m) (in_words s r i near')
+            (λ a low ne. bit_at_or x (2 ^ b) a ∙ ap (max (bit_at x a)) (bit_at-pow_other b a ne) ∙ (let z : max (bit_at x a) 0 ≡ bit_at x a = omega arith in z))
+            (inl (bit_at_or x (2 ^ b) b ∙ ap (max (bit_at x b)) (bit_at-pow_same b) ∙ (let low = bit_at-lt x b in let z : max (bit_at x b) 1 ≡ 1 = omega arith in z), refl)))),
+        λ j at' bit. let e : i ≡ j = opened_same i j n at' bit in subst (λ (z : ℕ). Looks (SoundTo n) (marked (Freeing z) me.0) w × (me.1 ≡ me.1)) e (looks_marked n s r id me.0 (Freeing i) long at, refl),
+      )
+
+  pub clears_ok : (n id : ℕ) (me : Seated N) (c i : ℕ) → me.0.callers ≡ c ∷ [] → me.0.mark ≡ Claiming i → i < n → turn_after me.0.seen i ≡ held c
+      → Allows Rule n id me (n + 2 + i / 64) (λ y. bit_and y (bit_not w64 (1 * 2 ^ (i % 64) % 2 ^ 64))) (λ _ m. closed sort begins asks shows (step n (n + 2 + i / 64) (bit_not w64 (1 * 2 ^ (i % 64) % 2 ^ 64)) 0 none) me m)
+  clears_ok n id me c i mine claiming near holds s r long at _ = let q : ℕ = i / 64 in let b : ℕ = i % 64 in let near' : i < length s.homes = subst (λ (z : ℕ). i < z) (sym long) near in let own = own_now s r id me.0 c i at mine holds in
+      let mask : ℕ = bit_not w64 (1 * 2 ^ b % 2 ^ 64) in let w : View = with_seen (marked Quiet me.0) r.trace in let low : b < 64 = omega arith in (
+        w,
+        keeps,
+        tt,
+        subst (λ (z : ℕ). Rule record { words = set s.words (z + 2 + q) (bit_and (get_or s.words (z + 2 + q) 0) mask); homes = s.homes; views = set s.views id w }) long
+            (let x : ℕ = get_or s.words (length s.homes + 2 + q) 0 in frees_at sort begins asks shows s r id me.0 Quiet q (bit_and x mask) at
+            (free_word_bits r.trace s.views id me.0 Quiet (length s.homes) s.words i c (bit_and x mask) r.views r.bits at near' (has_one me.0.callers c mine) own.turn (λ j m. sym (subst (λ (z : Mark). Marks z j) claiming m)) (λ j m. absurd m) (in_words s r i near')
+            (λ a low' ne. bit_at_clear_other w64 x b low a low' ne)
+            (inr (bit_at_clear_same w64 x b low, λ m. m)))),
+        (looks_marked n s r id me.0 Quiet long at, refl),
+      )
+
+  -- a free word is read
+  pub reads_ok : (n id : ℕ) (me : Seated N) (w : ℕ) → Allows Rule n id me (n + 2 + w) (λ y. y) (readied sort begins asks shows (step n (n + 2 + w) 0 0 none) me)
+  reads_ok n id me w s r long at _ = let y : ℕ = get_or s.words (n + 2 + w) 0 in (
+    with_seen me.0 r.trace,
+    keeps,
+    tt,
+    looks sort begins asks shows s r id (n + 2 + w) me.0 at,
+    λ c u mine quiet at'. let e : w ≡ u = omega arith in (looks_all n s r id me.0 long at, refl, subst (λ (z : ℕ). TellsFree n z c r.trace y) e (subst (λ (z : ℕ). TellsFree z w c r.trace (get_or s.words (z + 2 + w) 0)) long (reads_word s r id me.0 c w at mine quiet))),
+  )
 
   now : (n : ℕ) (s : State (Option N) View) (r : Rule s) (id : ℕ) (v : View) (c : ℕ) (e : Event) → length s.homes ≡ n → get_elem? s.views id ≡ some v → v.callers ≡ c ∷ [] → May sort begins asks n c v.seen e → StepsSoundly sort begins asks (length s.homes) r.trace e
   now n s r id v c e long at mine may = subst (λ (z : ℕ). StepsSoundly sort begins asks z r.trace e) (sym long) (may r.trace (others_now s r id v c at mine) (subst (λ (z : ℕ). SoundTo z r.trace) long r.sound))

@@ -1,5 +1,5 @@
 -- What the calls of the arena ask and tell.
-use Rattle.std.specs.Prelude.{map, length, slice_index, ◌≡◌, ◌≢◌, ℕ, ◌+◌, ◌%◌, ◌^◌, ◌<◌, ◌==◌, if◌then◌else◌, List, [], ◌∷◌, ◌++◌, Option, Some, None, Bool, true, false, All, AllPairs}
+use Rattle.std.specs.Prelude.{map, length, slice_index, ◌≡◌, ◌≢◌, ℕ, ◌+◌, ◌*◌, ◌/◌, ◌%◌, ◌^◌, ◌<◌, ◌==◌, if◌then◌else◌, List, [], ◌∷◌, ◌++◌, Option, Some, None, Bool, true, false, All, AllPairs}
 use mathlib.Core.Option.{some}
 use lib.ListN.{get_elem?}
 use denote.Bor.{Bor}
@@ -30,12 +30,13 @@ use Rattle.ks_arena.specs.declared.held.Note.{Note}
 use Rattle.ks_arena.specs.declared.held.Pass.{Pass}
 use Rattle.ks_arena.specs.declared.held.Taken.{Taken}
 use Rattle.ks_arena.specs.declared.held.Taken.TheVariants.{Held, Busy, Gone}
-use Rattle.ks_arena.specs.declared.view.Mark.TheVariants.{Quiet}
+use Rattle.ks_arena.specs.declared.view.Mark.{Mark}
+use Rattle.ks_arena.specs.declared.view.Mark.TheVariants.{Quiet, Claiming, Freeing}
 use Rattle.ks_arena.specs.declared.view.View.{View}
 use Rattle.ks_node.specs.Body.{Body, frame_of, blank_body}
 use Rattle.ks_node.specs.Edges.{record_of}
 use Rattle.ks_arena.specs.Sound.{Sort, blank_of, Sound, StepsSoundly}
-use Rattle.ks_arena.specs.Rule.{turn_word, Ends}
+use Rattle.ks_arena.specs.Rule.{turn_word, free_words, Ends}
 use Rattle.ks_arena.specs.Plays.{Carries, Shows}
 
 abbrev pub view_of : {N D : Type 0} → Pass N D → View
@@ -54,9 +55,9 @@ abbrev pub hand_of : {N D : Type 0} → Pass N D → List ℕ
 hand_of p = hand p.caller (seen_of p)
 
 module _ (sort : Sort) (begins : Frame → Type 0) (asks : (ℕ → NodeState) → (ℕ → Frame) → List Change → Type 0) where
-  -- a pass of the arena with that table and so many callers: what it has seen is sound, and its slots are those of the
-  -- nodes that it holds
-  pub record IsPass {N D : Type 0} (t : TableId) (callers : ℕ) (p : Pass N D) : Type 0 where
+  -- a pass of the arena with that table and so many callers: what it has seen is sound, its slots are those of the nodes
+  -- that it holds, and this is its mark
+  pub record IsPassWith {N D : Type 0} (k : Mark) (t : TableId) (callers : ℕ) (p : Pass N D) : Type 0 where
     pub table : p.seat.table_id ≡ t
     pub bare : (view_of p).absorbed ≡ []
     pub few : p.caller < 2 ^ 32
@@ -64,8 +65,12 @@ module _ (sort : Sort) (begins : Frame → Type 0) (asks : (ℕ → NodeState) �
     pub carries : Carries t.slots (seen_of p) p.caller p.seat.me.1
     pub made : (view_of p).made ≡ (if p.caller == 0 then callers else 0)
     pub slots : map (λ x. x.0) p.seat.me.1 ≡ hand_of p
-    pub quiet : (view_of p).mark ≡ Quiet
+    pub mark : (view_of p).mark ≡ k
     pub sound : Sound sort begins asks t.slots (seen_of p)
+
+  -- a pass as it is between two calls: it is about to change no bit
+  abbrev pub IsPass : {N D : Type 0} → TableId → ℕ → Pass N D → Type 0
+  IsPass t callers p = IsPassWith Quiet t callers p
 
 -- what a note has seen
 abbrev pub noted : {N D : Type 0} → Note N D → List Event
@@ -78,6 +83,7 @@ pub record IsNote {N D : Type 0} (t : TableId) (x : Note N D) : Type 0 where
   pub bare : x.seat.me.0.absorbed ≡ []
   pub made : x.seat.me.0.made ≡ 0
   pub slots : x.seat.me.1 ≡ []
+  pub quiet : x.seat.me.0.mark ≡ Quiet
 
 -- what c holds after h stays, all of it, or all but node i, or all but what a list of changes names
 abbrev pub Kept : ℕ → List Event → List Event → Type 0
@@ -107,6 +113,33 @@ WasTaken h k j = Sometime h k (λ m. turn_after m j ≢ free)
 pub record Numbered (c : ℕ) (e : Event) (h k : List Event) (n : ℕ) : Type 0 where
   pub grows : GrowsWith c e h k
   pub number : n ≡ number_after (grows.rest ++ h)
+
+-- the bit of a node that is given free is set before
+abbrev pub give_mark : Bool → ℕ → Mark
+give_mark true i = Quiet
+give_mark false i = Freeing i
+
+module _ {N : Type 0} where
+  -- the bit of a node just claimed is still set
+  abbrev pub claim_mark : Option (Hand N) → Mark
+  claim_mark None = Quiet
+  claim_mark (Some x) = Claiming x.node
+
+  -- how many steps a try to claim a node takes: it takes the turn and clears the bit, or finds the turn taken
+  abbrev pub try_steps : Option (Hand N) → ℕ
+  try_steps None = 1
+  try_steps (Some x) = 2
+
+  -- how many steps a claim takes in a free word if nobody disturbs it: it loads the word, takes a turn and clears a bit
+  abbrev pub word_steps : Option (Hand N) → ℕ
+  word_steps None = 1
+  word_steps (Some x) = 3
+
+  -- how many steps a claim takes that nobody disturbs: it loads the free words up to that of the node, takes the turn
+  -- and clears the bit
+  abbrev pub steps_alone : ℕ → Option (Hand N) → ℕ
+  steps_alone nodes None = free_words nodes
+  steps_alone nodes (Some x) = x.node / 64 + 3
 
 module _ {N : Type 0} (sort : Sort) (shows : N → Body) where
   -- a node in hand that is live has its record and frame after h; one that is not is blank
@@ -154,7 +187,10 @@ module _ {N : Type 0} (sort : Sort) (shows : N → Body) where
     pub blank : shows x.body ≡ blank_body sort.ranged
     pub matches : Matches k x
     pub state : graph_after k x.node ≡ Claimed c
-    pub grows : GrowsWith c (Claim c x.node) h k
+    -- just after the event
+    pub moment : List Event
+    pub grows : GrowsWith c (Claim c x.node) h moment
+    pub since : GrowsByOthers c moment k
     pub fresh : ¬ Has (hand c h) x.node
     pub hand : hand c k ≡ x.node ∷ hand c h
     pub mine : mine c k ≡ Claim c x.node ∷ mine c h
@@ -162,6 +198,11 @@ module _ {N : Type 0} (sort : Sort) (shows : N → Body) where
   abbrev pub TryClaimed : ℕ → ℕ → List Event → List Event → Option (Hand N) → Type 0
   TryClaimed c i h k None = HasLooked c h k × (turn_after k i ≢ free)
   TryClaimed c i h k (Some x) = (x.node ≡ i) × HasClaimed c h k x
+
+  -- what a claim tells among the nodes of free word w: the first that it found free; or that each was at some moment not free
+  abbrev pub DidClaimIn : ℕ → ℕ → ℕ → List Event → List Event → Option (Hand N) → Type 0
+  DidClaimIn nodes w c h k None = HasLooked c h k × ((b : ℕ) → b < 64 → 64 * w + b < nodes → WasTaken h k (64 * w + b))
+  DidClaimIn nodes w c h k (Some x) = HasClaimed c h k x × (x.node < nodes) × ((b : ℕ) × (b < 64) × (x.node ≡ 64 * w + b) × ((a : ℕ) → a < b → WasTaken h k (64 * w + a)))
 
   -- what a claim tells: the first node that it found free; or that each node was at some moment not free
   abbrev pub DidClaim : ℕ → ℕ → List Event → List Event → Option (Hand N) → Type 0

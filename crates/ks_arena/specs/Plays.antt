@@ -1,5 +1,6 @@
 -- What each step tells its seat.
-use Rattle.std.specs.Prelude.{false, ◌≡◌, ◌≢◌, ℕ, ◌+◌, ◌^◌, ◌<◌, ◌⊎◌, ◌==◌, if◌then◌else◌, List, [], ◌∷◌, ◌++◌, Option, Some, None}
+use Rattle.std.specs.Prelude.{false, ◌≡◌, ◌≢◌, ℕ, ◌+◌, ◌*◌, ◌/◌, ◌%◌, ◌^◌, ◌<◌, ◌⊎◌, ◌==◌, if◌then◌else◌, List, [], ◌∷◌, ◌++◌, Option, Some, None}
+use Rattle.std.specs.Int.{bit_at}
 use Rattle.atomic_table.specs.Table.{Me, Step}
 use Rattle.ks_keysets.specs.declared.NodeState.{NodeState}
 use Rattle.ks_keysets.specs.declared.NodeState.TheVariants.{Free, Claimed, Live}
@@ -9,6 +10,8 @@ use Rattle.ks_history.specs.declared.Event.{Event}
 use Rattle.ks_history.specs.declared.Event.TheVariants.{Take, Give, Claim}
 use Rattle.ks_history.specs.Trace.{free, held, graph_after, turn_after, frame_after, number_after}
 use Rattle.ks_history.specs.Passes.{Has, NoneOf}
+use Rattle.ks_arena.specs.declared.view.Mark.{Mark}
+use Rattle.ks_arena.specs.declared.view.Mark.TheVariants.{Quiet, Claiming, Freeing}
 use Rattle.ks_arena.specs.declared.view.View.{View}
 use Rattle.ks_node.specs.Body.{Body, frame_of, blank_body}
 use Rattle.ks_node.specs.Edges.{record_of}
@@ -18,6 +21,10 @@ use Rattle.ks_arena.specs.Rule.{Fits, FitsAll, all_callers, turn_word}
 -- the view once it has seen the trace h
 abbrev pub with_seen : View → List Event → View
 with_seen v h = record { callers = v.callers; seen = h; absorbed = []; made = v.made; mark = v.mark }
+
+-- the view with another mark
+abbrev pub marked : Mark → View → View
+marked k v = record { callers = v.callers; seen = v.seen; absorbed = v.absorbed; made = v.made; mark = k }
 
 -- the slots without the first of node i
 abbrev pub drop_slot : {S : Type 0} → ℕ → List (ℕ × S) → List (ℕ × S)
@@ -37,6 +44,12 @@ HasSlots n h c (x ∷ xs) = (x.0 < n) × (x.1 ≡ None) × (turn_after h x.0 ≡
 pub record Carries {N : Type 0} (n : ℕ) (h : List Event) (c : ℕ) (slots : List (ℕ × Option N)) : Type 0 where
   pub hands : HasSlots n h c slots
   pub all : (i : ℕ) → turn_after h i ≡ held c → InHand slots i
+
+-- what free word w tells caller c, which is about to change no bit: a set bit is that of a node that is free or that
+-- another caller holds, and the node of a clear bit is not free
+pub record TellsFree (n w c : ℕ) (h : List Event) (word : ℕ) : Type 0 where
+  pub sets : (b : ℕ) → b < 64 → bit_at word b ≡ 1 → (64 * w + b < n) × ((turn_after h (64 * w + b) ≡ free) ⊎ ((d : ℕ) × (d ≢ c) × (turn_after h (64 * w + b) ≡ held d)))
+  pub clears : (b : ℕ) → b < 64 → 64 * w + b < n → bit_at word b ≡ 0 → turn_after h (64 * w + b) ≢ free
 
 abbrev pub Seated : Type 0 → Type 0
 Seated N = Me (Option N) View
@@ -75,7 +88,7 @@ module _ {N : Type 0} (sort : Sort) (begins : Frame → Type 0) (asks : (ℕ →
   -- caller c tried to claim node i, whose turn word was r
   abbrev pub ClaimedAt : ℕ → ℕ → ℕ → Seated N → ℕ → Seated N → Type 0
   ClaimedAt n c i m r m' =
-      (r ≡ 0 → Makes (Sound sort begins asks n) (Claim c i) m.0 m'.0 × ((b : N) × (m'.1 ≡ (i, Some b) ∷ m.1) × (shows b ≡ blank_body sort.ranged)))
+      (r ≡ 0 → Makes (Sound sort begins asks n) (Claim c i) (marked (Claiming i) m.0) m'.0 × ((b : N) × (m'.1 ≡ (i, Some b) ∷ m.1) × (shows b ≡ blank_body sort.ranged)))
       × (r ≢ 0 → Looks (Sound sort begins asks n) m.0 m'.0 × (m'.1 ≡ m.1) × (turn_after m'.0.seen i ≢ free))
 
   abbrev pub claimed : Step (Option N) → Seated N → ℕ → Seated N → Type 0
@@ -83,10 +96,21 @@ module _ {N : Type 0} (sort : Sort) (begins : Frame → Type 0) (asks : (ℕ →
 
   abbrev pub gave : Step (Option N) → Seated N → ℕ → Seated N → Type 0
   gave st m r m' = (c i : ℕ) (x : Option N) (others : List (ℕ × Option N)) → m.0.callers ≡ c ∷ [] → st.word ≡ i + 2 → m.1 ≡ (i, x) ∷ others
-      → Makes (Sound sort begins asks st.slots) (Give c i) m.0 m'.0 × (m'.1 ≡ others)
+      → Makes (Sound sort begins asks st.slots) (Give c i) (marked Quiet m.0) m'.0 × (m'.1 ≡ others)
 
   abbrev pub brought : Step (Option N) → Seated N → ℕ → Seated N → Type 0
   brought st m r m' = (i : ℕ) → st.word ≡ i + 2 → Looks (Sound sort begins asks st.slots) m.0 m'.0 × (m'.1 ≡ (i, None) ∷ drop_slot i m.1)
+
+  -- the bit of node i was set or cleared
+  abbrev pub opened : Step (Option N) → Seated N → Seated N → Type 0
+  opened st m m' = (i : ℕ) → st.word ≡ st.slots + 2 + i / 64 → st.first ≡ 2 ^ (i % 64) → Looks (Sound sort begins asks st.slots) (marked (Freeing i) m.0) m'.0 × (m'.1 ≡ m.1)
+
+  abbrev pub closed : Step (Option N) → Seated N → Seated N → Type 0
+  closed st m m' = Looks (Sound sort begins asks st.slots) (marked Quiet m.0) m'.0 × (m'.1 ≡ m.1)
+
+  -- caller c read free word w
+  abbrev pub readied : Step (Option N) → Seated N → ℕ → Seated N → Type 0
+  readied st m r m' = (c w : ℕ) → m.0.callers ≡ c ∷ [] → m.0.mark ≡ Quiet → st.word ≡ st.slots + 2 + w → Looks (Sound sort begins asks st.slots) m.0 m'.0 × (m'.1 ≡ m.1) × TellsFree st.slots w c m'.0.seen r
 
   abbrev pub decided : Step (Option N) → Event → Seated N → ℕ → Seated N → Type 0
   decided st e m r m' = (x : Makes (Sound sort begins asks st.slots) e m.0 m'.0) × (m'.1 ≡ m.1) × (r ≡ number_after (x.rest ++ m.0.seen))

@@ -1,5 +1,6 @@
 -- The running rule: what holds of the words, the bodies at home and the views between any two steps.
-use Rattle.std.specs.Prelude.{ℕ, ◌≡◌, ◌≢◌, ◌+◌, ◌%◌, ◌^◌, ◌<◌, ◌⊎◌, max, List, [], ◌∷◌, ◌++◌, length, slice_index, Option, Some}
+use Rattle.std.specs.Prelude.{ℕ, ◌≡◌, ◌≢◌, ◌+◌, ◌*◌, ◌%◌, ◌^◌, ◌<◌, ◌⊎◌, max, List, [], ◌∷◌, ◌++◌, length, slice_index, Option, Some}
+use Rattle.std.specs.Int.{bit_at, div_ceil}
 use mathlib.Core.Option.{none, some}
 use mathlib.Core.Option as maybe
 use lib.ListN.{get_elem?}
@@ -12,7 +13,7 @@ use Rattle.ks_history.specs.declared.Event.{Event}
 use Rattle.ks_history.specs.Trace.{Turn, free, idle, held, graph_after, turn_after, frame_after, number_after, shapes_in}
 use Rattle.ks_history.specs.Passes.{Has, NoneOf, CallersBelow}
 use Rattle.ks_arena.specs.declared.view.Mark.{Mark}
-use Rattle.ks_arena.specs.declared.view.Mark.TheVariants.{Quiet}
+use Rattle.ks_arena.specs.declared.view.Mark.TheVariants.{Quiet, Claiming, Freeing}
 use Rattle.ks_arena.specs.declared.view.Part.{Part}
 use Rattle.ks_arena.specs.declared.view.View.{View}
 use Rattle.ks_node.specs.Body.{Body, frame_of, blank_body}
@@ -64,6 +65,35 @@ turn_word free = 0
 turn_word idle = 1
 turn_word (held c) = c + 2
 
+-- how many free words stand after the turn words of n nodes
+abbrev pub free_words : ℕ → ℕ
+free_words n = div_ceil n 64
+
+-- bit b of free word w: that of node 64 w + b
+abbrev pub free_bit : ℕ → List ℕ → ℕ → ℕ → ℕ
+free_bit n words w b = bit_at (slice_index words (n + 2 + w)) b
+
+-- the mark says that the caller is about to change the bit of node i
+abbrev pub Marks : Mark → ℕ → Type 0
+Marks Quiet i = ⊥
+Marks (Claiming j) i = j ≡ i
+Marks (Freeing j) i = j ≡ i
+
+abbrev pub SomeMarks : List View → ℕ → Type 0
+SomeMarks vs i = (j : ℕ) × (v : View) × (get_elem? vs j ≡ some v) × Marks v.mark i
+
+-- the bit of a node is set exactly where the node is free or its holder is about to change the bit; bits of no node are
+-- clear; and a mark is of a node that a caller of its view holds
+pub record FreeBits (h : List Event) (vs : List View) (n : ℕ) (words : List ℕ) : Type 0 where
+  pub sets : (w b : ℕ) → b < 64 → free_bit n words w b ≡ 1 → (64 * w + b < n) × ((turn_after h (64 * w + b) ≡ free) ⊎ SomeMarks vs (64 * w + b))
+  pub clears : (w b : ℕ) → b < 64 → 64 * w + b < n → free_bit n words w b ≡ 0 → (turn_after h (64 * w + b) ≢ free) × (¬ SomeMarks vs (64 * w + b))
+  pub marks : (j i : ℕ) (v : View) → get_elem? vs j ≡ some v → Marks v.mark i → (c : ℕ) × Has v.callers c × (turn_after h i ≡ held c)
+
+-- the bits of the nodes from 1 to m are set, that of node m not, and all others clear
+pub record FirstBits (n m : ℕ) (words : List ℕ) : Type 0 where
+  pub sets : (w b : ℕ) → b < 64 → free_bit n words w b ≡ 1 → (0 < 64 * w + b) × (64 * w + b < m)
+  pub clears : (w b : ℕ) → b < 64 → free_bit n words w b ≡ 0 → 64 * w + b < m → 64 * w + b ≡ 0
+
 module _ {N : Type 0} (sort : Sort) (shows : N → Body) where
   -- what a slot has while the turn of its node, with this state and frame, is free, idle or held
   abbrev pub Rests : NodeState → Frame → Turn → maybe.Option (maybe.Option (Option N)) → Type 0
@@ -78,11 +108,12 @@ module _ {N : Type 0} (sort : Sort) (begins : Frame → Type 0) (asks : (ℕ →
     pub views : Views trace s.views
     pub sound : Sound sort begins asks (length s.homes) trace
     pub few : CallersBelow (2 ^ 32) trace
-    -- the words of the counts and of the turns
-    pub wide : length s.words ≡ length s.homes + 2
+    -- the words of the counts, of the turns and of the free bits
+    pub wide : length s.words ≡ length s.homes + 2 + free_words (length s.homes)
     pub call_count : slice_index s.words 0 ≡ number_after trace
     pub shape_count : slice_index s.words 1 ≡ shapes_in trace % 2 ^ 64
     pub turns : (i : ℕ) → i < length s.homes → slice_index s.words (i + 2) ≡ turn_word (turn_after trace i)
+    pub bits : FreeBits trace s.views (length s.homes) s.words
     -- the bodies at home
     pub homes : (i : ℕ) → i < length s.homes → Rests sort shows (graph_after trace i) (frame_after (blank_of sort) trace i) (turn_after trace i) (get_elem? s.homes i)
 

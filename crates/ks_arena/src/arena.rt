@@ -1,13 +1,15 @@
 //! The arena and its calls.
 ghost use Rattle.std.specs.Prelude.{◌≡◌, ◌≢◌, ℕ, ◌+◌, ◌%◌, ◌^◌, ◌<◌, [], ◌∷◌, ◌++◌};
+ghost use Rattle.ks_arena.specs.Rule.{free_words};
+ghost use Rattle.ks_arena.specs.declared.view.Mark.TheVariants.{Freeing};
 ghost use Rattle.ks_history.specs.Passes.{Has, GrowsByOthers, GrowsWith};
 ghost use Rattle.ks_history.specs.Trace.{drop_one};
 ghost use Rattle.ks_history.specs.declared.Event.TheVariants.{Call, Give, Shape};
 ghost use Rattle.ks_arena.specs.Sound.{sort_of};
-ghost use Rattle.ks_arena.specs.Clauses.{IsPass, seen_of, Kept, KeptBut, KeptBesides, StillMatch, StillMatchBut, StillMatchBesides, hand_of, mine_of, Matches, TryTook, IsReady, Numbered, AllAmong, EachOnce, MayShape, AreShaped, changes_of};
+ghost use Rattle.ks_arena.specs.Clauses.{IsPass, IsPassWith, give_mark, HasLooked, seen_of, Kept, KeptBut, KeptBesides, StillMatch, StillMatchBut, StillMatchBesides, hand_of, mine_of, Matches, TryTook, IsReady, Numbered, AllAmong, EachOnce, MayShape, AreShaped, changes_of};
 
 use crate::held::{Held, Pass, Taken};
-use crate::plays::{Brings, Decides, Forms, Gives, Said, Takes};
+use crate::plays::{Brings, Decides, Forms, Gives, Opens, Said, Takes};
 use crate::rule::Rule;
 use crate::view::View;
 use atomic_table::Table;
@@ -24,7 +26,7 @@ pub struct Arena<N: Node, D: Discipline> {
     pub(crate) table: Table<Option<N>, View, (), Rule<N, D>, Global>,
     pub(crate) nodes: u32,
     pub(crate) callers: u32,
-    ghost sized: { (table.shared.table_id.words ≡ nodes + 2) × (table.shared.table_id.slots ≡ nodes) × (0 < nodes) × (0 < callers) },
+    ghost sized: { (table.shared.table_id.words ≡ nodes + 2 + free_words nodes) × (table.shared.table_id.slots ≡ nodes) × (0 < nodes) × (0 < callers) },
 }
 
 impl<N: Node, D: Discipline> Arena<N, D> {
@@ -82,6 +84,42 @@ impl<N: Node, D: Discipline> Arena<N, D> {
         ensures mine { mine_of pass.new ≡ Give pass.old.caller held.node ∷ mine_of pass.old }
         ensures kept { KeptBut held.node pass.old.caller (seen_of pass.old) (seen_of pass.new) }
         ensures still { StillMatchBut (sort_of N.layout N.ranged) N.body held.node (hand_of pass.old) (seen_of pass.old) (seen_of pass.new) }
+    {
+        if held.live {
+            self.put_back(pass, held);
+        } else {
+            self.open(pass, held.node);
+            self.put_back(pass, held);
+        }
+    }
+
+    /// Sets the bit of a node that is about to be given free.
+    fn open(&self, pass: &mut Pass<N, D>, node: u32)
+        requires pass { IsPass (sort_of N.layout N.ranged) D.begins D.step self.now.table.shared.table_id self.now.callers pass.old }
+        requires holds { Has (hand_of pass.old) node }
+        ensures pass { IsPassWith (sort_of N.layout N.ranged) D.begins D.step (Freeing node) self.now.table.shared.table_id self.now.callers pass.new }
+        ensures caller { pass.new.caller ≡ pass.old.caller }
+        ensures looked { HasLooked pass.old.caller (seen_of pass.old) (seen_of pass.new) }
+        ensures kept { Kept pass.old.caller (seen_of pass.old) (seen_of pass.new) }
+        ensures still { StillMatch (sort_of N.layout N.ranged) N.body (hand_of pass.old) (seen_of pass.old) (seen_of pass.new) }
+    {
+        let word = self.nodes as usize + 2 + node as usize / 64;
+        self.table
+            .shared
+            .fetch_or::<Opens<D>>(&mut pass.seat, word, 1u64 << (node % 64));
+    }
+
+    /// Puts the body back into its slot and gives the turn away. The bit of a node that is not live is set.
+    fn put_back(&self, pass: &mut Pass<N, D>, held: Held<N>)
+        requires pass { IsPassWith (sort_of N.layout N.ranged) D.begins D.step (give_mark held.live held.node) self.now.table.shared.table_id self.now.callers pass.old }
+        requires holds { Has (hand_of pass.old) held.node }
+        requires body { Matches (sort_of N.layout N.ranged) N.body (seen_of pass.old) held }
+        ensures pass { IsPass (sort_of N.layout N.ranged) D.begins D.step self.now.table.shared.table_id self.now.callers pass.new }
+        ensures caller { pass.new.caller ≡ pass.old.caller }
+        ensures gave { GrowsWith pass.old.caller (Give pass.old.caller held.node) (seen_of pass.old) (seen_of pass.new) }
+        ensures hand { hand_of pass.new ≡ drop_one held.node (hand_of pass.old) }
+        ensures mine { mine_of pass.new ≡ Give pass.old.caller held.node ∷ mine_of pass.old }
+        ensures kept { KeptBut held.node pass.old.caller (seen_of pass.old) (seen_of pass.new) }
     {
         let Held { node, body, live } = held;
         let at = node as usize;

@@ -1,17 +1,24 @@
 //! How callers claim free nodes, and how they wait for nodes that others hold.
-ghost use Rattle.std.specs.Prelude.{◌≡◌, ◌<◌};
+ghost use Rattle.std.specs.Prelude.{◌≡◌, ◌+◌, ◌<◌, ◌≤◌};
+ghost use Rattle.ks_history.specs.Alone.{ActsAlone, HoldsAlone};
 ghost use Rattle.ks_history.specs.Passes.{Has};
 ghost use Rattle.ks_arena.specs.Sound.{sort_of};
-ghost use Rattle.ks_arena.specs.Clauses.{IsPass, seen_of, hand_of, Kept, StillMatch, Took, TryClaimed, DidClaim};
+ghost use Rattle.ks_arena.specs.Rule.{free_words};
+ghost use Rattle.ks_arena.specs.Plays.{TellsFree};
+ghost use Rattle.ks_arena.specs.declared.view.Mark.TheVariants.{Claiming};
+ghost use Rattle.ks_arena.specs.Clauses.{IsPass, IsPassWith, seen_of, hand_of, HasLooked, Kept, StillMatch, Took, TryClaimed, claim_mark, try_steps, DidClaimIn, word_steps, steps_alone, DidClaim};
 
 use crate::arena::Arena;
 use crate::held::{Held, Pass, Taken};
 use crate::laws::sound_law;
-use crate::plays::Claims;
+use crate::plays::{Claims, Closes, Reads};
+use crate::steps::Steps;
 use crossbeam_utils::Backoff;
 use ks_flow::Discipline;
 use ks_node::Node;
+use std::marker::Brand;
 use std::sync::Wait;
+use std::sync::ledger::{Blank, Ledger};
 
 impl<N: Node, D: Discipline> Arena<N, D> {
     /// Takes the node once nobody else holds it. `None`: it is free.
@@ -36,7 +43,7 @@ impl<N: Node, D: Discipline> Arena<N, D> {
         unreachable!()
     }
 
-    /// Claims the first free node, from node 1 upward. `None`: none was found free.
+    /// Claims the first node, from node 1 upward, that it finds free. `None`: none was found free.
     pub fn claim(&self, pass: &mut Pass<N, D>) -> Option<Held<N>>
         requires { IsPass (sort_of N.layout N.ranged) D.begins D.step self.now.table.shared.table_id self.now.callers pass.old }
         ensures pass { IsPass (sort_of N.layout N.ranged) D.begins D.step self.now.table.shared.table_id self.now.callers pass.new }
@@ -45,26 +52,134 @@ impl<N: Node, D: Discipline> Arena<N, D> {
         ensures kept { Kept pass.old.caller (seen_of pass.old) (seen_of pass.new) }
         ensures still { StillMatch (sort_of N.layout N.ranged) N.body (hand_of pass.old) (seen_of pass.old) (seen_of pass.new) }
     {
+        self.claim_counted::<Brand>(pass, Blank::new(1))
+    }
+
+    fn claim_counted<L: Ledger>(&self, pass: &mut Pass<N, D>, blank: Blank) -> Option<Held<N>>
+        requires pass { IsPass (sort_of N.layout N.ranged) D.begins D.step self.now.table.shared.table_id self.now.callers pass.old }
+        requires name { blank.name ≡ L.name }
+        requires parts { blank.parts ≡ L.parts }
+        requires some { 0 < blank.parts }
+        ensures pass { IsPass (sort_of N.layout N.ranged) D.begins D.step self.now.table.shared.table_id self.now.callers pass.new }
+        ensures caller { pass.new.caller ≡ pass.old.caller }
+        ensures claimed { DidClaim (sort_of N.layout N.ranged) N.body self.now.nodes pass.old.caller (seen_of pass.old) (seen_of pass.new) result }
+        ensures kept { Kept pass.old.caller (seen_of pass.old) (seen_of pass.new) }
+        ensures still { StillMatch (sort_of N.layout N.ranged) N.body (hand_of pass.old) (seen_of pass.old) (seen_of pass.new) }
+    {
+        self.claim_steps(pass, &mut Steps::<L>::start(blank))
+    }
+
+    /// The same, and each step on a word is counted. If nobody else acts meanwhile, and nobody else holds a node at its
+    /// start, then it loads the free words up to that of the node, takes the turn of the node and clears its bit: at most
+    /// `ceil(nodes / 64) + 2` steps.
+    pub fn claim_steps<L: Ledger>(
+        &self,
+        pass: &mut Pass<N, D>,
+        steps: &mut Steps<L>,
+    ) -> Option<Held<N>>
+        requires { IsPass (sort_of N.layout N.ranged) D.begins D.step self.now.table.shared.table_id self.now.callers pass.old }
+        ensures pass { IsPass (sort_of N.layout N.ranged) D.begins D.step self.now.table.shared.table_id self.now.callers pass.new }
+        ensures caller { pass.new.caller ≡ pass.old.caller }
+        ensures claimed { DidClaim (sort_of N.layout N.ranged) N.body self.now.nodes pass.old.caller (seen_of pass.old) (seen_of pass.new) result }
+        ensures kept { Kept pass.old.caller (seen_of pass.old) (seen_of pass.new) }
+        ensures still { StillMatch (sort_of N.layout N.ranged) N.body (hand_of pass.old) (seen_of pass.old) (seen_of pass.new) }
+        ensures cost { ActsAlone pass.old.caller (seen_of pass.old) (seen_of pass.new) → HoldsAlone pass.old.caller (seen_of pass.old) → steps.new ≡ steps.old + steps_alone self.now.nodes result }
+        ensures bound { ActsAlone pass.old.caller (seen_of pass.old) (seen_of pass.new) → HoldsAlone pass.old.caller (seen_of pass.old) → steps.new ≤ steps.old + free_words self.now.nodes + 2 }
+    {
         sound_law::<D>();
-        for node in 1..self.nodes {
-            if let Some(held) = self.try_claim(pass, node) {
+        for index in 0..self.nodes.div_ceil(64) {
+            if let Some(held) = self.claim_in(pass, index, steps) {
                 return Some(held);
             }
         }
         None
     }
 
-    fn try_claim(&self, pass: &mut Pass<N, D>, node: u32) -> Option<Held<N>>
+    /// Claims the first node that it finds free among those of one free word.
+    fn claim_in<L: Ledger>(
+        &self,
+        pass: &mut Pass<N, D>,
+        index: u32,
+        steps: &mut Steps<L>,
+    ) -> Option<Held<N>>
+        requires pass { IsPass (sort_of N.layout N.ranged) D.begins D.step self.now.table.shared.table_id self.now.callers pass.old }
+        requires index { index < free_words self.now.nodes }
+        ensures pass { IsPass (sort_of N.layout N.ranged) D.begins D.step self.now.table.shared.table_id self.now.callers pass.new }
+        ensures caller { pass.new.caller ≡ pass.old.caller }
+        ensures claimed { DidClaimIn (sort_of N.layout N.ranged) N.body self.now.nodes index pass.old.caller (seen_of pass.old) (seen_of pass.new) result }
+        ensures kept { Kept pass.old.caller (seen_of pass.old) (seen_of pass.new) }
+        ensures cost { ActsAlone pass.old.caller (seen_of pass.old) (seen_of pass.new) → HoldsAlone pass.old.caller (seen_of pass.old) → steps.new ≡ steps.old + word_steps result }
+    {
+        let mut left = self.read_free(pass, index, steps);
+        while left != 0 {
+            let bit = left.trailing_zeros();
+            if let Some(held) = self.try_claim(pass, 64 * index + bit, steps) {
+                return Some(held);
+            }
+            left &= !(1u64 << bit);
+        }
+        None
+    }
+
+    /// Reads a free word: a bit for each node that may be free.
+    fn read_free<L: Ledger>(
+        &self,
+        pass: &mut Pass<N, D>,
+        index: u32,
+        steps: &mut Steps<L>,
+    ) -> u64
+        requires pass { IsPass (sort_of N.layout N.ranged) D.begins D.step self.now.table.shared.table_id self.now.callers pass.old }
+        requires index { index < free_words self.now.nodes }
+        ensures pass { IsPass (sort_of N.layout N.ranged) D.begins D.step self.now.table.shared.table_id self.now.callers pass.new }
+        ensures caller { pass.new.caller ≡ pass.old.caller }
+        ensures looked { HasLooked pass.old.caller (seen_of pass.old) (seen_of pass.new) }
+        ensures told { TellsFree self.now.nodes index pass.old.caller (seen_of pass.new) result }
+        ensures kept { Kept pass.old.caller (seen_of pass.old) (seen_of pass.new) }
+        ensures cost { steps.new ≡ steps.old + 1 }
+    {
+        steps.tick();
+        let word = self.nodes as usize + 2 + index as usize;
+        self.table.shared.load::<Reads<D>>(&mut pass.seat, word)
+    }
+
+    /// Claims the node if it is free, and clears its bit.
+    fn try_claim<L: Ledger>(
+        &self,
+        pass: &mut Pass<N, D>,
+        node: u32,
+        steps: &mut Steps<L>,
+    ) -> Option<Held<N>>
         requires pass { IsPass (sort_of N.layout N.ranged) D.begins D.step self.now.table.shared.table_id self.now.callers pass.old }
         requires node { node < self.now.nodes }
         ensures pass { IsPass (sort_of N.layout N.ranged) D.begins D.step self.now.table.shared.table_id self.now.callers pass.new }
         ensures caller { pass.new.caller ≡ pass.old.caller }
         ensures claimed { TryClaimed (sort_of N.layout N.ranged) N.body pass.old.caller node (seen_of pass.old) (seen_of pass.new) result }
         ensures kept { Kept pass.old.caller (seen_of pass.old) (seen_of pass.new) }
-        ensures still { StillMatch (sort_of N.layout N.ranged) N.body (hand_of pass.old) (seen_of pass.old) (seen_of pass.new) }
+        ensures cost { steps.new ≡ steps.old + try_steps result }
+    {
+        let held = self.catch(pass, node, steps)?;
+        self.clear(pass, node, steps);
+        Some(held)
+    }
+
+    /// Takes the turn of the node if it is free. Its bit is still set.
+    fn catch<L: Ledger>(
+        &self,
+        pass: &mut Pass<N, D>,
+        node: u32,
+        steps: &mut Steps<L>,
+    ) -> Option<Held<N>>
+        requires pass { IsPass (sort_of N.layout N.ranged) D.begins D.step self.now.table.shared.table_id self.now.callers pass.old }
+        requires node { node < self.now.nodes }
+        ensures pass { IsPassWith (sort_of N.layout N.ranged) D.begins D.step (claim_mark result) self.now.table.shared.table_id self.now.callers pass.new }
+        ensures caller { pass.new.caller ≡ pass.old.caller }
+        ensures claimed { TryClaimed (sort_of N.layout N.ranged) N.body pass.old.caller node (seen_of pass.old) (seen_of pass.new) result }
+        ensures kept { Kept pass.old.caller (seen_of pass.old) (seen_of pass.new) }
+        ensures cost { steps.new ≡ steps.old + 1 }
     {
         let at = node as usize;
         let shared = &self.table.shared;
+        steps.tick();
         let found = shared.compare_exchange::<Claims<D>>(
             &mut pass.seat,
             at + 2,
@@ -81,5 +196,23 @@ impl<N: Node, D: Discipline> Arena<N, D> {
         } else {
             None
         }
+    }
+
+    /// Clears the bit of a node just claimed.
+    fn clear<L: Ledger>(&self, pass: &mut Pass<N, D>, node: u32, steps: &mut Steps<L>)
+        requires pass { IsPassWith (sort_of N.layout N.ranged) D.begins D.step (Claiming node) self.now.table.shared.table_id self.now.callers pass.old }
+        requires holds { Has (hand_of pass.old) node }
+        ensures pass { IsPass (sort_of N.layout N.ranged) D.begins D.step self.now.table.shared.table_id self.now.callers pass.new }
+        ensures caller { pass.new.caller ≡ pass.old.caller }
+        ensures looked { HasLooked pass.old.caller (seen_of pass.old) (seen_of pass.new) }
+        ensures kept { Kept pass.old.caller (seen_of pass.old) (seen_of pass.new) }
+        ensures still { StillMatch (sort_of N.layout N.ranged) N.body (hand_of pass.old) (seen_of pass.old) (seen_of pass.new) }
+        ensures cost { steps.new ≡ steps.old + 1 }
+    {
+        steps.tick();
+        let word = self.nodes as usize + 2 + node as usize / 64;
+        self.table
+            .shared
+            .fetch_and::<Closes<D>>(&mut pass.seat, word, !(1u64 << (node % 64)));
     }
 }

@@ -1,6 +1,6 @@
-//! An arena may be shared by threads, and passes and held nodes may go to another.
+//! An arena may be shared by threads, and passes, notes and held nodes may go to another.
 use crate::arena::Arena;
-use crate::held::{Held, Pass};
+use crate::held::{Held, Note, Pass};
 use ks_flow::Discipline;
 use ks_node::Node;
 
@@ -11,10 +11,12 @@ fn is_send<T: Send>(_x: &T) {}
 pub fn fits_threads<N: Node, D: Discipline>(
     arena: &Arena<N, D>,
     pass: &Pass<N, D>,
+    note: &Note<N, D>,
     held: &Held<N>,
 ) {
     is_sync(arena);
     is_send(arena);
     is_send(pass);
+    is_send(note);
     is_send(held);
 }

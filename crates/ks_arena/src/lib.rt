@@ -16,6 +16,7 @@ mod plays;
 mod remains;
 mod rule;
 mod run;
+mod steps;
 mod view;
 
 pub use arena::Arena;
@@ -24,4 +25,5 @@ pub use held::{Held, Note, Pass, Taken};
 pub use remains::Remains;
 pub use rule::Rule;
 pub use run::{Run, RunTrace};
+pub use steps::Steps;
 pub use view::{Mark, Part, View};

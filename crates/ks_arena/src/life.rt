@@ -2,7 +2,7 @@
 ghost use Rattle.std.specs.Prelude.{◌≡◌, ◌≤◌, ℕ, ◌+◌, ◌<◌, ◌^◌, [], ◌∷◌, cond, eqb, length, slice_index, IfOk};
 ghost use Rattle.ks_history.specs.Passes.{CallersBelow};
 ghost use Rattle.ks_arena.specs.Sound.{sort_of, blank_of, Sound};
-ghost use Rattle.ks_arena.specs.Rule.{AllBlank, first_view};
+ghost use Rattle.ks_arena.specs.Rule.{AllBlank, first_view, free_words, FirstBits};
 ghost use Rattle.ks_arena.specs.Clauses.{IsNewCrew, IsCrew, EndsAll, IsRun, trace_of};
 
 use crate::arena::Arena;
@@ -19,15 +19,20 @@ use ks_node::Node;
 use std::alloc::{AllocError, Global};
 use std::marker::PhantomData;
 
+/// The words of an arena of which node 0 is live and idle, and the other nodes are free.
 fn first_words(alloc: Global, nodes: usize) -> Result<Vec<u64>, AllocError>
     requires { (0 < nodes) × (nodes < 2 ^ 32) }
-    ensures long { IfOk result (λ v. length v.items ≡ nodes + 2) }
+    ensures long { IfOk result (λ v. length v.items ≡ nodes + 2 + free_words nodes) }
     ensures counts { IfOk result (λ v. (slice_index v.items 0 ≡ 0) × (slice_index v.items 1 ≡ 0)) }
     ensures turns { IfOk result (λ v. (i : ℕ) → i < nodes → slice_index v.items (i + 2) ≡ cond (eqb i 0) 1 0) }
+    ensures bits { IfOk result (λ v. FirstBits nodes nodes v.items) }
 {
-    let mut words = Vec::from_elem(alloc, 0u64, nodes + 2)?;
+    let mut words = Vec::from_elem(alloc, 0u64, nodes + 2 + nodes.div_ceil(64))?;
     let row = words.as_mut_slice();
     row[2] = 1;
+    for node in 1..nodes {
+        row[nodes + 2 + node / 64] |= 1u64 << (node % 64);
+    }
     Ok(words)
 }
 

@@ -4,7 +4,7 @@ ghost use Rattle.ks_history.specs.declared.Event.TheVariants.{Take};
 ghost use Rattle.ks_history.specs.declared.Event.{Event as Happening};
 ghost use Rattle.ks_arena.specs.Rule.{maker_view, next_view, both_views, spent_view, note_view};
 ghost use Rattle.ks_arena.specs.Sound.{sort_of};
-ghost use Rattle.ks_arena.specs.Plays.{took, claimed, gave, brought, decided, gathered, formed};
+ghost use Rattle.ks_arena.specs.Plays.{took, claimed, gave, brought, opened, closed, readied, decided, gathered, formed};
 
 use crate::view::View;
 use atomic_table::{Join, Play, Split};
@@ -34,6 +34,33 @@ pub(crate) struct Gives<D> {
 
 impl<N: Node, D: Discipline> Play<Option<N>, View> for Gives<D> {
     ghost then = { gave (sort_of N.layout N.ranged) D.begins D.step N.body };
+}
+
+/// The bit of a node is set.
+pub(crate) struct Opens<D> {
+    marker: PhantomData<D>,
+}
+
+impl<N: Node, D: Discipline> Play<Option<N>, View> for Opens<D> {
+    ghost then = { λ st m r n. opened (sort_of N.layout N.ranged) D.begins D.step N.body st m n };
+}
+
+/// The bit of a node is cleared.
+pub(crate) struct Closes<D> {
+    marker: PhantomData<D>,
+}
+
+impl<N: Node, D: Discipline> Play<Option<N>, View> for Closes<D> {
+    ghost then = { λ st m r n. closed (sort_of N.layout N.ranged) D.begins D.step N.body st m n };
+}
+
+/// A free word is read.
+pub(crate) struct Reads<D> {
+    marker: PhantomData<D>,
+}
+
+impl<N: Node, D: Discipline> Play<Option<N>, View> for Reads<D> {
+    ghost then = { readied (sort_of N.layout N.ranged) D.begins D.step N.body };
 }
 
 pub(crate) struct Brings<D> {

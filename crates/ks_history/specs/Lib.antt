@@ -15,3 +15,4 @@ pub mod Calls
 pub mod Dues
 pub mod Underway
 pub mod Far
+pub mod Alone

@@ -22,7 +22,7 @@ pub loop-pass-init : goal.loop-pass-init
 loop-pass-init g c = begins_joining (sort_of g.N.Node.layout g.N.Node.ranged) g.D.Discipline.begins g.D.Discipline.step _ _ _ _ _ c.requires c.in-Some.ensures.items
 
 pub join_seat-requires : goal.join_seat-requires
-join_seat-requires g c = let inv = c.loop-pass.invariant in let p = next_in (sort_of g.N.Node.layout g.N.Node.ranged) g.D.Discipline.begins g.D.Discipline.step _ _ _ _ _ c.in-Some-pop.pass c.loop-pass.base c.requires inv c.in-Some-pop.ensures.items in (inv.table, p.0, p.1, search rules, joins_ok (sort_of g.N.Node.layout g.N.Node.ranged) g.D.Discipline.begins g.D.Discipline.step g.N.Node.body _ _ c.loop-pass.base.me.0 c.in-Some-pop.pass.seat.me.0)
+join_seat-requires g c = let inv = c.loop-pass.invariant in let p = next_in (sort_of g.N.Node.layout g.N.Node.ranged) g.D.Discipline.begins g.D.Discipline.step _ _ _ _ _ c.in-Some-pop.pass c.loop-pass.base c.requires inv c.in-Some-pop.ensures.items in (inv.table, p.0, p.1, search rules, joins_ok (sort_of g.N.Node.layout g.N.Node.ranged) g.D.Discipline.begins g.D.Discipline.step g.N.Node.body _ _ c.loop-pass.base.me.0 c.in-Some-pop.pass.seat.me.0 p.2)
 
 pub loop-pass-preserved : goal.loop-pass-preserved
 loop-pass-preserved g c = takes_in (sort_of g.N.Node.layout g.N.Node.ranged) g.D.Discipline.begins g.D.Discipline.step _ _ _ _ _ c.in-Some-pop.pass c.loop-pass.base c.join_seat.new.seat c.requires c.loop-pass.invariant c.in-Some-pop.ensures.items c.join_seat.ensures.0 c.join_seat.ensures.2

@@ -1,64 +1,21 @@
-use Rattle.std.proofs.Common.{rules, ◌≡◌, ◌≢◌, ℕ, ◌+◌, ◌<◌, List, [], ◌∷◌, refl, sym, ap, ◌∙◌, subst, arith, Bool, cond}
-use Rattle.std.specs.Prelude.{Option, Some, None, IsSome}
+use Rattle.std.proofs.Common.{rules, ◌≡◌, ℕ, List, sym, ap, ◌∙◌, subst}
 use Rattle.ks_history.specs.declared.Event.TheVariants.{Give}
-use Rattle.ks_keysets.specs.declared.NodeState.{NodeState}
-use Rattle.ks_keysets.specs.declared.Frame.{Frame}
-use Rattle.ks_history.specs.Trace.{drop_one, turn_given, graph_after, frame_after}
-use Rattle.ks_arena.specs.Sound.{sort_of, blank_of, Sound}
-use Rattle.ks_arena.specs.Rule.{turn_word}
-use Rattle.ks_arena.specs.Plays.{Shows, drop_slot}
-use Rattle.ks_arena.proofs.Moves.{brings_ok, gives_ok}
-use Rattle.ks_arena.proofs.Hold.{top_rest, top_same, hand_near, holds_it}
-use Rattle.ks_arena.proofs.After.{still, matches_shows, pass_again, Ready, ready, Given, gave_it}
-use Rattle.ks_arena.proofs.arena.Arena.give.Given.{Over}
+use Rattle.ks_history.specs.Passes.{Has, GrowsWith}
+use Rattle.ks_history.specs.Trace.{hand}
+use Rattle.ks_history.specs.Begins.{by_others_with}
+use Rattle.ks_arena.specs.Sound.{sort_of}
+use Rattle.ks_arena.specs.Clauses.{seen_of}
+use Rattle.ks_arena.proofs.After.{still}
 use Rattle.ks_arena.proofs.arena.Arena.give.Goals as goal
-use Rattle.ks_arena.proofs.arena.Arena.give.Goals.{In-None, After-store, then-live, else-live}
 
-pub load-requires : goal.load-requires
-load-requires g c = let p = c.args.pass.now in let r = c.requires.pass in let in_hand = r.carries.all c.args.held.node (holds_it _ p.seat.me.0.seen p.caller c.args.held.node p.seat.me.1 r.carries r.slots c.requires.holds) in let e : c.args.held.node < c.args.self.now.table.shared.table_id.slots = hand_near _ p.seat.me.0.seen p.caller _ _ r.carries.hands in_hand in (
-  r.table,
-  omega arith,
-  brings_ok (sort_of g.N.Node.layout g.N.Node.ranged) g.D.Discipline.begins g.D.Discipline.step g.N.Node.body _ _ p.seat.me p.caller c.args.held.node r.own r.carries.hands in_hand,
-)
+pub returns-then-held-clause-still : goal.returns-then-held-clause-still
+returns-then-held-clause-still g c = λ x ne has m. still (sort_of g.N.Node.layout g.N.Node.ranged) g.D.Discipline.begins g.D.Discipline.step g.N.Node.body _ _ c.args.pass.now _ x c.requires.pass has (λ t. c.put_back.ensures.kept x.node ne t) m
 
-pub exchange-requires : goal.exchange-requires
-exchange-requires g c = let told = c.load.ensures.2 c.args.held.node refl in (c.load.ensures.0 ∙ c.requires.pass.table, (None, top_rest _ _ _ told.1))
+pub returns-else-held-clause-gave : goal.returns-else-held-clause-gave
+returns-else-held-clause-gave g c = let me : ℕ = c.args.pass.now.caller in let i : ℕ = c.args.held.node in
+    let gave = subst (λ (z : ℕ). GrowsWith z (Give z i) (seen_of c.open.new.pass) (seen_of c.put_back-else-held.new.pass)) c.open.ensures.caller c.put_back-else-held.ensures.gave in
+    by_others_with me (Give me i) (seen_of c.args.pass.now) (seen_of c.open.new.pass) (seen_of c.put_back-else-held.new.pass) c.open.ensures.looked.grows gave
 
-pub unreachable-requires : goal.unreachable-requires
-unreachable-requires g c = let told = c.load.ensures.2 c.args.held.node refl in let e : None ≡ Some c.in-Some.field-0 = (top_same c.args.held.node None c.exchange.result c.load.new.seat.me.1 _ _ told.1 c.exchange.ensures.2).0 ∙ c.in-Some.is in (cc)
-
-abbrev set_up : (g : Over) (c : In-None g) → Ready (sort_of g.N.Node.layout g.N.Node.ranged) g.D.Discipline.begins g.D.Discipline.step c.args.self.now.table.shared.table_id.slots c.args.pass.now.caller c.args.held.node c.args.held.body c.args.pass.now.seat.me c.exchange.new.seat.me
-set_up g c = let told = c.load.ensures.2 c.args.held.node refl in let p = c.args.pass.now in let r = c.requires.pass in ready _ _ _ _ p.caller c.args.held.node c.args.held.body p.seat.me c.load.new.seat.me c.exchange.new.seat.me r.own (holds_it _ p.seat.me.0.seen p.caller c.args.held.node p.seat.me.1 r.carries r.slots c.requires.holds) r.carries told.0 told.1 c.exchange.ensures.3
-
-pub store-requires : goal.store-requires
-store-requires g c = let r = set_up g (goal.at.store-requires g c).In-None in let near = r.near in let p = c.args.pass.now in let i : ℕ = c.args.held.node in let sort = sort_of g.N.Node.layout g.N.Node.ranged in
-    let m = matches_shows sort g.D.Discipline.begins g.D.Discipline.step g.N.Node.body c.args.held.live (graph_after p.seat.me.0.seen i) (frame_after (blank_of sort) p.seat.me.0.seen i) c.args.held.body c.requires.body.is in
-    let word : c.if-live.turn ≡ cond c.args.held.live 1 0 = elim c.if-live.branch [ then-live w ↦ w.turn-is ∙ sym (ap (λ (z : Bool). cond z 1 0) w.if-live.true) | else-live w ↦ w.turn-is ∙ sym (ap (λ (z : Bool). cond z 1 0) w.if-live.false) ] in (
-      c.exchange.ensures.0 ∙ (c.load.ensures.0 ∙ c.requires.pass.table),
-      omega arith,
-      gives_ok sort g.D.Discipline.begins g.D.Discipline.step g.N.Node.body _ _ c.exchange.new.seat.me p.caller i c.args.held.body (drop_slot i p.seat.me.1) _ (r.follows.callers ∙ c.requires.pass.own) c.requires.pass.few r.near r.top r.stays.turn
-          (subst (λ (z : NodeState × Frame). Shows sort g.D.Discipline.begins g.D.Discipline.step g.N.Node.body z.0 z.1 c.args.held.body) (λ k. (sym r.stays.state k, sym (r.stays.frame (blank_of sort)) k)) m.0)
-          (word ∙ m.1 ∙ ap (λ (z : NodeState). turn_word (turn_given z)) (sym r.stays.state)),
-    )
-
-done : (g : Over) (c : After-store g) → Given (sort_of g.N.Node.layout g.N.Node.ranged) g.D.Discipline.begins g.D.Discipline.step c.args.self.now.table.shared.table_id.slots c.args.pass.now.caller c.args.held.node c.args.pass.now.seat.me c.store.new.seat.me
-done g c = let r = set_up g (goal.at.returns-clause-pass g c).In-None in let own = r.follows.callers ∙ c.requires.pass.own in let told = c.store.ensures.2 c.args.pass.now.caller c.args.held.node (Some c.args.held.body) _ own refl r.top in
-    gave_it _ _ _ _ c.args.pass.now.caller c.args.held.node c.args.held.body c.args.pass.now.seat.me c.exchange.new.seat.me c.store.new.seat.me c.requires.pass.own c.requires.pass.slots r told.0 told.1
-
-pub returns-clause-pass : goal.returns-clause-pass
-returns-clause-pass g c = let d = done g c in pass_again _ _ _ _ _ c.args.pass.now _ c.store.new.seat.me c.requires.pass refl (c.store.ensures.0 ∙ (c.exchange.ensures.0 ∙ c.load.ensures.0)) refl d.follows d.carries d.slots d.sounds
-
-pub returns-clause-gave : goal.returns-clause-gave
-returns-clause-gave g c = (done g c).grows
-
-pub returns-clause-hand : goal.returns-clause-hand
-returns-clause-hand g c = (done g c).hand_is
-
-pub returns-clause-mine : goal.returns-clause-mine
-returns-clause-mine g c = (done g c).mine_is
-
-pub returns-clause-kept : goal.returns-clause-kept
-returns-clause-kept g c = (done g c).kept
-
-pub returns-clause-still : goal.returns-clause-still
-returns-clause-still g c = λ x ne has m. still (sort_of g.N.Node.layout g.N.Node.ranged) g.D.Discipline.begins g.D.Discipline.step g.N.Node.body _ _ c.args.pass.now _ x c.requires.pass has (λ t. returns-clause-kept g c x.node ne t) m
+pub returns-else-held-clause-still : goal.returns-else-held-clause-still
+returns-else-held-clause-still g c = λ x ne has m. let same = ap (λ (z : ℕ). hand z (seen_of c.open.new.pass)) c.open.ensures.caller ∙ c.open.ensures.looked.hand in
+    still (sort_of g.N.Node.layout g.N.Node.ranged) g.D.Discipline.begins g.D.Discipline.step g.N.Node.body _ _ c.open.new.pass _ x c.open.ensures.pass (subst (λ (z : List ℕ). Has z x.node) (sym same) has) (λ t. c.put_back-else-held.ensures.kept x.node ne t) (c.open.ensures.still x has m)

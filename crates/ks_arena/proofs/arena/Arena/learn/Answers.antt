@@ -10,7 +10,7 @@ use Rattle.ks_arena.proofs.arena.Arena.learn.Goals as goal
 use Rattle.ks_arena.proofs.arena.Arena.learn.Goals.{After-load}
 
 pub join_seat-requires : goal.join_seat-requires
-join_seat-requires g c = (c.requires.pass.table, c.requires.note.table, c.requires.note.slots, omega arith, joins_ok (sort_of g.N.Node.layout g.N.Node.ranged) g.D.Discipline.begins g.D.Discipline.step g.N.Node.body _ _ c.args.pass.now.seat.me.0 c.args.note.seat.me.0)
+join_seat-requires g c = (c.requires.pass.table, c.requires.note.table, c.requires.note.slots, omega arith, joins_ok (sort_of g.N.Node.layout g.N.Node.ranged) g.D.Discipline.begins g.D.Discipline.step g.N.Node.body _ _ c.args.pass.now.seat.me.0 c.args.note.seat.me.0 c.requires.note.quiet)
 
 pub load-requires : goal.load-requires
 load-requires g c = (c.join_seat.ensures.0 ∙ c.requires.pass.table, omega arith, gathers_ok (sort_of g.N.Node.layout g.N.Node.ranged) g.D.Discipline.begins g.D.Discipline.step g.N.Node.body _ _ c.join_seat.new.seat.me)

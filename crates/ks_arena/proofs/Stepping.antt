@@ -1,4 +1,4 @@
--- Three kinds of step keep the rule: on the turn word of a node, on a counting word, and one that changes no word.
+-- Four kinds of step keep the rule: on the turn word of a node, on a free word, on a counting word, and one that changes no word.
 use Rattle.std.proofs.Common.{◌≡◌, ◌≢◌, ℕ, zero, suc, ◌+◌, ◌%◌, ◌^◌, ◌<◌, ◌⊎◌, Bool, List, [], ◌∷◌, ◌++◌, length, get_or, set, sym, refl, ap, ◌∙◌, subst, inl, inr, ⊎_elim, arith, length-set, get_or-set_other, get_or-set_same}
 use Rattle.std.specs.Prelude.{Option, Some, None}
 use Rattle.std.proofs.lemmas.List.{set-get_or}
@@ -15,18 +15,15 @@ use Rattle.ks_keysets.specs.declared.Change.{Change}
 use Rattle.ks_history.specs.declared.Event.{Event}
 use Rattle.ks_history.specs.Trace.{Turn, free, idle, held, graph_after, turn_after, frame_after, number_after, shapes_in, caller_of}
 use Rattle.ks_history.specs.Passes.{Has}
+use Rattle.ks_arena.specs.declared.view.Mark.{Mark}
 use Rattle.ks_arena.specs.declared.view.View.{View}
 use Rattle.ks_node.specs.Body.{Body, frame_of, blank_body}
 use Rattle.ks_node.specs.Edges.{record_of}
 use Rattle.ks_arena.specs.Sound.{Sort, blank_of, Sound, StepsSoundly}
-use Rattle.ks_arena.specs.Rule.{Views, Rests, Running, turn_word}
-use Rattle.ks_arena.specs.Plays.{with_seen}
-use Rattle.ks_arena.proofs.Seen.{grows}
-
-pub inside : {A : Type 0} (l : List A) (i : ℕ) (a : A) → get_elem? l i ≡ some a → i < length l
-inside [] i a e = absurd (some-ne-none a (sym e))
-inside (x ∷ xs) zero a e = omega arith
-inside (x ∷ xs) (suc i) a e = let h = inside xs i a e in omega arith
+use Rattle.ks_arena.specs.Rule.{Views, Rests, Running, turn_word, callers_in, free_words, FreeBits}
+use Rattle.ks_arena.specs.Plays.{with_seen, marked}
+use Rattle.ks_arena.proofs.Seen.{view_at, grows, grows_to, has_left}
+use Rattle.ks_arena.proofs.Bits.{inside, bits_words, bits_view}
 
 pub has_one : (cs : List ℕ) (c : ℕ) → cs ≡ c ∷ [] → Has cs c
 has_one cs c e = subst (λ (z : List ℕ). Has z c) (sym e) (inl refl)
@@ -44,6 +41,7 @@ module _ {N : Type 0} (sort : Sort) (begins : Frame → Type 0) (asks : (ℕ →
     call_count = r.call_count;
     shape_count = r.shape_count;
     turns = r.turns;
+    bits = bits_view r.trace s.views id v (with_seen v r.trace) (length s.homes) s.words at refl (λ i c m has. has) r.bits;
     homes = r.homes;
   }
 
@@ -55,25 +53,43 @@ module _ {N : Type 0} (sort : Sort) (begins : Frame → Type 0) (asks : (ℕ →
   abbrev pub RestsAt : List Event → ℕ → maybe.Option (maybe.Option (Option N)) → Type 0
   RestsAt h i x = Rests sort shows (graph_after h i) (frame_after (blank_of sort) h i) (turn_after h i) x
 
-  -- one event on the turn word of node i
-  pub turns_at : (s : State (Option N) View) (r : Running sort begins asks shows s) (id : ℕ) (v : View) (e : Event) (i new : ℕ) (h : maybe.Option (Option N)) → get_elem? s.views id ≡ some v → Has v.callers (caller_of e) → caller_of e < 2 ^ 32 → i < length s.homes
+  -- one event on the turn word of node i, and the mark that the view has then
+  pub turns_at : (s : State (Option N) View) (r : Running sort begins asks shows s) (id : ℕ) (v : View) (k : Mark) (e : Event) (i new : ℕ) (h : maybe.Option (Option N)) → get_elem? s.views id ≡ some v → Has v.callers (caller_of e) → caller_of e < 2 ^ 32 → i < length s.homes
       → StepsSoundly sort begins asks (length s.homes) r.trace e → number_after (e ∷ r.trace) ≡ number_after r.trace → shapes_in (e ∷ r.trace) ≡ shapes_in r.trace → Alone e r.trace i
-      → new ≡ turn_word (turn_after (e ∷ r.trace) i) → RestsAt (e ∷ r.trace) i (some h)
-      → Running sort begins asks shows record { words = set s.words (i + 2) new; homes = set s.homes i h; views = set s.views id (with_seen v (e ∷ r.trace)) }
-  turns_at s r id v e i new h at mine small near may c₀ c₁ alone word rests = let wide = r.wide in let same : length (set s.homes i h) ≡ length s.homes = length-set s.homes i h in record {
+      → new ≡ turn_word (turn_after (e ∷ r.trace) i) → RestsAt (e ∷ r.trace) i (some h) → FreeBits (e ∷ r.trace) (set s.views id (with_seen (marked k v) (e ∷ r.trace))) (length s.homes) (set s.words (i + 2) new)
+      → Running sort begins asks shows record { words = set s.words (i + 2) new; homes = set s.homes i h; views = set s.views id (with_seen (marked k v) (e ∷ r.trace)) }
+  turns_at s r id v k e i new h at mine small near may c₀ c₁ alone word rests bits = let wide = r.wide in let same : length (set s.homes i h) ≡ length s.homes = length-set s.homes i h in record {
     trace = e ∷ r.trace;
-    views = grows r.trace (e ∷ []) s.views id v r.views at (mine, tt) (inside s.views id v at);
+    views = grows_to r.trace (e ∷ []) s.views id v v.callers k r.views at (λ c a. has_left v.callers (callers_in v.absorbed) c a) (mine, tt) (inside s.views id v at);
     sound = subst (λ (z : ℕ). Sound sort begins asks z (e ∷ r.trace)) (sym same) (r.sound, may);
     few = (small, r.few);
-    wide = length-set s.words (i + 2) new ∙ r.wide ∙ ap (λ (z : ℕ). z + 2) (sym same);
+    wide = length-set s.words (i + 2) new ∙ r.wide ∙ ap (λ (z : ℕ). z + 2 + free_words z) (sym same);
     call_count = get_or-set_other s.words (i + 2) 0 new 0 (λ x. omega arith) ∙ r.call_count ∙ sym c₀;
     shape_count = get_or-set_other s.words (i + 2) 1 new 0 (λ x. omega arith) ∙ r.shape_count ∙ ap (λ (z : ℕ). z % 2 ^ 64) (sym c₁);
     turns = λ j close. let close' : j < length s.homes = subst (λ (z : ℕ). j < z) same close in dite (ℕ_discrete j i)
         (λ x. ap (λ (z : ℕ). get_or (set s.words (i + 2) new) (z + 2) 0) x ∙ get_or-set_same s.words (i + 2) new 0 (omega arith) ∙ word ∙ ap (λ (z : ℕ). turn_word (turn_after (e ∷ r.trace) z)) (sym x))
         (λ x. get_or-set_other s.words (i + 2) (j + 2) new 0 (λ y. x (omega arith)) ∙ r.turns j close' ∙ ap turn_word (sym (alone j x).0));
+    bits = subst (λ (z : ℕ). FreeBits (e ∷ r.trace) (set s.views id (with_seen (marked k v) (e ∷ r.trace))) z (set s.words (i + 2) new)) (sym same) bits;
     homes = λ j close. let close' : j < length s.homes = subst (λ (z : ℕ). j < z) same close in dite (ℕ_discrete j i)
         (λ x. subst (λ (z : ℕ). RestsAt (e ∷ r.trace) z (get_elem? (set s.homes i h) z)) (sym x) (subst (RestsAt (e ∷ r.trace) i) (sym (set_here s.homes i h near)) rests))
         (λ x. let so = alone j x in subst (λ (z : NodeState × Frame × Turn × maybe.Option (maybe.Option (Option N))). Rests sort shows z.0 z.1 z.2 z.3) (λ k. (sym so.1 k, sym so.2 k, sym so.0 k, sym (set_else s.homes i j h x) k)) (r.homes j close'));
+  }
+
+  -- no event; the free word k and the mark change
+  pub frees_at : (s : State (Option N) View) (r : Running sort begins asks shows s) (id : ℕ) (v : View) (k : Mark) (w new : ℕ) → get_elem? s.views id ≡ some v
+      → FreeBits r.trace (set s.views id (with_seen (marked k v) r.trace)) (length s.homes) (set s.words (length s.homes + 2 + w) new)
+      → Running sort begins asks shows record { words = set s.words (length s.homes + 2 + w) new; homes = s.homes; views = set s.views id (with_seen (marked k v) r.trace) }
+  frees_at s r id v k w new at bits = let n : ℕ = length s.homes in record {
+    trace = r.trace;
+    views = grows_to r.trace [] s.views id v v.callers k r.views at (λ c a. has_left v.callers (callers_in v.absorbed) c a) tt (inside s.views id v at);
+    sound = r.sound;
+    few = r.few;
+    wide = length-set s.words (n + 2 + w) new ∙ r.wide;
+    call_count = get_or-set_other s.words (n + 2 + w) 0 new 0 (λ x. omega arith) ∙ r.call_count;
+    shape_count = get_or-set_other s.words (n + 2 + w) 1 new 0 (λ x. omega arith) ∙ r.shape_count;
+    turns = λ j close. get_or-set_other s.words (n + 2 + w) (j + 2) new 0 (λ y. omega arith) ∙ r.turns j close;
+    bits = bits;
+    homes = r.homes;
   }
 
   -- the event e leaves the state and the frame of node j, or the node is held
@@ -98,5 +114,7 @@ module _ {N : Type 0} (sort : Sort) (begins : Frame → Type 0) (asks : (ℕ →
     call_count = c₀;
     shape_count = c₁;
     turns = λ j close. get_or-set_other s.words k (j + 2) new 0 (λ y. omega arith) ∙ r.turns j close ∙ ap turn_word (sym (same j));
+    bits = let w : View = with_seen v (e ∷ r.trace) in let n : ℕ = length s.homes in bits_view (e ∷ r.trace) s.views id v w n (set s.words k new) at refl (λ i c m has. has)
+        (bits_words r.trace (e ∷ r.trace) s.views n s.words (set s.words k new) (λ x. get_or-set_other s.words k (n + 2 + x) new 0 (λ y. omega arith)) same r.bits);
     homes = λ j close. rests_on (graph_after r.trace j) (graph_after (e ∷ r.trace) j) (frame_after (blank_of sort) r.trace j) (frame_after (blank_of sort) (e ∷ r.trace) j) (turn_after r.trace j) (turn_after (e ∷ r.trace) j) (get_elem? s.homes j) (same j) (kept j) (r.homes j close);
   }
