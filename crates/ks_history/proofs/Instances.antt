@@ -1,27 +1,32 @@
 -- Small traces that show what the definitions mean: some at which each holds, and some at which it does not.
-use Rattle.std.proofs.Common.{ℕ, zero, suc, ◌≡◌, ◌<◌, ◌⊎◌, inl, inr, cond, ◌==◌, List, [], ◌∷◌, ◌++◌, length, get_or, Some, None, refl, sym, ◌∙◌, ap, subst, arith}
+use Rattle.std.proofs.Common.{ℕ, zero, suc, ◌≡◌, ◌≢◌, ◌<◌, ◌≤◌, ◌⊎◌, inl, inr, cond, ◌==◌, List, [], ◌∷◌, ◌++◌, length, get_or, slice_get, Some, None, refl, sym, ◌∙◌, ap, subst, arith}
+use Rattle.std.specs.Prelude.{Any}
 use Rattle.std.proofs.lemmas.List.{append_cancel_right}
 use Rattle.std.proofs.lemmas.Option.{same_Some}
 use Rattle.ks_keysets.specs.declared.NewState.TheVariants.{BecomesLive, BecomesFree}
-use Rattle.ks_keysets.specs.declared.Kind.TheVariants.{NoBranch, Directory}
+use Rattle.ks_keysets.specs.declared.NodeState.TheVariants.{Claimed, Live}
+use Rattle.ks_keysets.specs.declared.Edge.{Edge}
+use Rattle.ks_keysets.specs.declared.Frame.{Frame}
+use Rattle.ks_keysets.specs.declared.Change.{Change}
+use Rattle.ks_keysets.specs.declared.Kind.TheVariants.{NoBranch, Inner, Directory}
 use Rattle.ks_keysets.specs.declared.Record.{Record}
 use Rattle.ks_keysets.specs.declared.Pair.{Pair}
 use Rattle.ks_keysets.specs.Record.{top, empty_record}
-use Rattle.ks_keysets.specs.Keyset.{record_at, IsLive}
+use Rattle.ks_keysets.specs.Keyset.{opening, live_record, record_at, IsLive, at_root, InKeyset, InOutset}
 use Rattle.ks_keysets.specs.Frame.{blank_frame}
 use Rattle.ks_keysets.specs.Found.{reached_live}
-use Rattle.ks_keysets.specs.Layout.{Layout, list_layout, bplus_layout, hash_layout, Fit, IsLow, IsRightNeighbour, chained, beside}
+use Rattle.ks_keysets.specs.Layout.{Layout, list_layout, bplus_layout, hash_layout, Fit, IsLow, IsNext, IsRightNeighbour, chained, beside}
 use Rattle.ks_history.specs.declared.Op.TheVariants.{Get, Put}
 use Rattle.ks_history.specs.declared.Reply.TheVariants.{Nothing, Full}
 use Rattle.ks_history.specs.declared.Op.{Op}
 use Rattle.ks_history.specs.declared.Event.{Event}
 use Rattle.ks_history.specs.declared.Event.TheVariants.{Take, Give, Claim, Shape, Call}
 use Rattle.ks_history.specs.Trace.{◌⊑◌, free, idle, held, graph_after, turn_after, frame_after}
-use Rattle.ks_history.specs.Due.{HoldsLiveBut, FullDue, BusyDue, MovedDue, FarDue, IsOnWay}
-use Rattle.ks_history.specs.Done.{Template, coupling, give_up, MayTake, Hands, at_first, and_on, Done, Left, Tight}
+use Rattle.ks_history.specs.Due.{HoldsLiveBut, FullDue, last_call, FullsDue, BusyDue, MovedDue, FarDue, IsOnWay}
+use Rattle.ks_history.specs.Done.{Template, coupling, give_up, MayTake, Hands, at_first, and_on, Done, Left, Tight, TidyAt}
 use Rattle.ks_history.specs.Begins.{begins_self, begins_append, begins_both, by_others_none}
 use Rattle.ks_history.specs.Calls.{done_calls, left_calls}
-use Rattle.ks_history.specs.Dues.{full_due_by}
+use Rattle.ks_history.specs.Dues.{full_due_by, full_due_earlier}
 use Rattle.ks_history.specs.Stays.{cond_else}
 
 -- a Full with one node free all the while is refused
@@ -76,6 +81,20 @@ full_is_due = full_due_by list_layout 1 filled filled filled filled (Call 0 0 (P
 
     root_held : (j : ℕ) → j < 1 → turn_after filled j ≡ free → ⊥
     root_held j lt is = let zero_is : j ≡ 0 = omega arith in let x : held 0 ≡ free = subst (λ (i : ℕ). turn_after filled i ≡ free) zero_is is in cc
+
+-- that trace and its Full: all that it owes is due
+filled_due : FullsDue list_layout 1 (Call 0 0 (Put 9 90) Full ∷ filled)
+filled_due = (((tt, tt), tt), full_due_earlier list_layout 1 [] filled filled (Call 0 0 (Put 9 90) Full) (record { rest = filled; is = refl }) full_is_due)
+
+-- in an arena of one node more, which is free all the while, it is not
+filled_not_due : FullsDue list_layout 2 (Call 0 0 (Put 9 90) Full ∷ filled) → ⊥
+filled_not_due due = full_needs_all list_layout 2 1 [] filled (Call 0 0 (Put 9 90) Full) due.1 (omega arith) (λ k since until. unused until.rest k until.is)
+  where
+    unused : (rest k : List Event) → filled ≡ rest ++ k → turn_after k 1 ≡ free
+    unused [] k is = ap (λ (h : List Event). turn_after h 1) (sym is)
+    unused (a ∷ []) k is = let e : Take 0 0 ∷ [] ≡ k = cc in ap (λ (h : List Event). turn_after h 1) (sym e)
+    unused (a ∷ b ∷ []) k is = let e : [] ≡ k = cc in ap (λ (h : List Event). turn_after h 1) (sym e)
+    unused (a ∷ b ∷ c ∷ rest) k is = let e : [] ≡ c ∷ (rest ++ k) = cc in absurd (cc)
 
 -- a list node claims one node at a time, so no claimed node excuses its Full
 list_claims_alone : (h : List Event) (c : ℕ) → HoldsLiveBut list_layout h c → ⊥
@@ -136,6 +155,17 @@ one_get = Give 0 0 ∷ Call 0 0 (Get 5) Nothing ∷ Take 0 0 ∷ []
 -- two Calls in one call are refused
 abbrev two_gets : List Event
 two_gets = Give 0 0 ∷ Call 0 0 (Get 5) Nothing ∷ Call 0 0 (Get 5) Nothing ∷ Take 0 0 ∷ []
+
+-- the last Call of caller 0 stands below its Give; caller 1 has made none
+last_stands : last_call 0 one_get ≡ Call 0 0 (Get 5) Nothing ∷ Take 0 0 ∷ []
+last_stands = refl
+
+last_none : last_call 1 one_get ≡ []
+last_none = refl
+
+-- of two Calls it is the later one
+last_not_first : last_call 0 two_gets ≢ Call 0 0 (Get 5) Nothing ∷ Take 0 0 ∷ []
+last_not_first e = let n = ap length e in omega arith
 
 get_done : Done list_layout coupling 4 0 (Get 5) [] one_get Nothing 0
 get_done = record {
@@ -239,3 +269,158 @@ more_do_not r s e f fit = omega arith
 
 directory_alone : (layout : Layout) (r s : Record) → Fit layout Directory r Directory s → ⊥
 directory_alone layout r s fit = fit
+
+-- node 1 right of the root, by an edge of the root's own
+
+abbrev over_one : List Pair → Record
+over_one xs = record { edges = record { span = record { low = 4; last = top }; node = 1 } ∷ []; pairs = xs }
+
+abbrev edgeless : List Pair → Record
+edgeless ys = record { edges = []; pairs = ys }
+
+abbrev made_chain : List Pair → List Pair → List Change
+made_chain xs ys = record { node = 0; state = BecomesLive (over_one xs) blank_frame } ∷ record { node = 1; state = BecomesLive (edgeless ys) blank_frame } ∷ []
+
+abbrev chain : List Pair → List Pair → List Event
+chain xs ys = Shape 0 (made_chain xs ys) ∷ Claim 0 1 ∷ Take 0 0 ∷ []
+
+chain_right : (xs ys : List Pair) → IsRightNeighbour (graph_after (chain xs ys)) (frame_after blank_frame (chain xs ys)) 0 1
+chain_right xs ys = chained (over_one xs) refl (refl, λ e. omega (arith, e)) (0, record { span = record { low = 4; last = top }; node = 1 }, omega arith, refl, refl)
+
+chain_is : (xs ys : List Pair) (i : ℕ) (r : Record) → record_at (graph_after (chain xs ys)) i ≡ Some r → ((i ≡ 0) × (r ≡ over_one xs)) ⊎ ((i ≡ 1) × (r ≡ edgeless ys))
+chain_is xs ys zero r is = inl (refl, sym (same_Some (over_one xs) r is))
+chain_is xs ys (suc zero) r is = inr (refl, sym (same_Some (edgeless ys) r is))
+chain_is xs ys (suc (suc j)) r is =
+    let i : ℕ = suc (suc j) in
+    let e = cond_else i 0 (Live (over_one xs)) (cond (i == 1) (Live (edgeless ys)) (cond (i == 1) (Claimed 0) (opening i))) (λ e. omega arith)
+    ∙ cond_else i 1 (Live (edgeless ys)) (cond (i == 1) (Claimed 0) (opening i)) (λ e. omega arith)
+    ∙ cond_else i 1 (Claimed 0) (opening i) (λ e. omega arith) in
+    let x : None ≡ Some r = sym (ap live_record e) ∙ is in absurd (cc)
+
+chain_kind : (xs ys : List Pair) (i : ℕ) → (frame_after blank_frame (chain xs ys) i).kind ≡ NoBranch
+chain_kind xs ys zero = refl
+chain_kind xs ys (suc zero) = refl
+chain_kind xs ys (suc (suc j)) =
+    let i : ℕ = suc (suc j) in
+    ap (λ (f : Frame). f.kind) (cond_else i 0 blank_frame (cond (i == 1) blank_frame blank_frame) (λ e. omega arith) ∙ cond_else i 1 blank_frame blank_frame (λ e. omega arith))
+
+leads_one : (xs : List Pair) (m : ℕ) → Any (λ e. e.node ≡ m) (over_one xs).edges → m ≡ 1
+leads_one xs m (zero, d, lt, is, to) = sym to ∙ ap (λ (e : Edge). e.node) (sym is)
+leads_one xs m (suc k, d, lt, is, to) = absurd (omega arith)
+
+-- there is no other right neighbour
+chain_alone : (xs ys : List Pair) (n m : ℕ) → IsRightNeighbour (graph_after (chain xs ys)) (frame_after blank_frame (chain xs ys)) n m → (n ≡ 0) × (m ≡ 1)
+chain_alone xs ys n m (chained r is has leads) = go (chain_is xs ys n r is)
+  where
+    go : ((n ≡ 0) × (r ≡ over_one xs)) ⊎ ((n ≡ 1) × (r ≡ edgeless ys)) → (n ≡ 0) × (m ≡ 1)
+    go (inl e) = (e.0, leads_one xs m (subst (λ (t : Record). Any (λ e. e.node ≡ m) t.edges) e.1 leads))
+    go (inr e) = absurd (has.1 (ap (λ (t : Record). length t.edges) e.1))
+chain_alone xs ys n m (beside r a s is has is' branch next) = absurd (branch (chain_kind xs ys a))
+
+chain_no_left : (xs ys : List Pair) → IsRightNeighbour (graph_after (chain xs ys)) (frame_after blank_frame (chain xs ys)) 1 0 → ⊥
+chain_no_left xs ys left = omega (arith, (chain_alone xs ys 1 0 left).0)
+
+-- four and five pairs do not fit: that is tight
+abbrev four : List Pair
+four = pair 0 ∷ pair 1 ∷ pair 2 ∷ pair 3 ∷ []
+
+abbrev five : List Pair
+five = pair 4 ∷ pair 5 ∷ pair 6 ∷ pair 7 ∷ pair 8 ∷ []
+
+chain_tight : Tight list_layout blank_frame (chain four five)
+chain_tight = record {
+  full = λ n m r s right is is' fit. let at = chain_alone four five n m right in no_fit n m r s at.0 at.1 is is' fit;
+  root = λ r m is branch. absurd (branch refl);
+}
+  where
+    no_fit : (n m : ℕ) (r s : Record) → n ≡ 0 → m ≡ 1 → record_at (graph_after (chain four five)) n ≡ Some r → record_at (graph_after (chain four five)) m ≡ Some s
+        → Fit list_layout (frame_after blank_frame (chain four five) n).kind r (frame_after blank_frame (chain four five) m).kind s → ⊥
+    no_fit zero (suc zero) r s e f is is' fit = omega (arith, ap (λ (t : Record). length t.pairs) (same_Some (over_one four) r is), ap (λ (t : Record). length t.pairs) (same_Some (edgeless five) s is'), fit)
+    no_fit zero zero r s e f is is' fit = omega arith
+    no_fit zero (suc (suc m)) r s e f is is' fit = omega arith
+    no_fit (suc n) m r s e f is is' fit = omega arith
+
+-- empty ones fit: that is not
+chain_loose : Tight list_layout blank_frame (chain [] []) → ⊥
+chain_loose tight = tight.full 0 1 (over_one []) (edgeless []) (chain_right [] []) refl refl (omega arith)
+
+-- a tight graph is tidy at every place
+tight_tidy : (layout : Layout) (h : List Event) (p : ℕ) → Tight layout blank_frame h → TidyAt layout blank_frame h p
+tight_tidy layout h p tight = record { at = λ n m r s inside is is' low right. tight.full n m r s right is is' }
+
+-- the two empty nodes are tidy at the places of the right one, which has no right neighbour
+
+outset_from_four : (xs ys : List Pair) → InOutset (graph_after (chain xs ys)) 0 4
+outset_from_four xs ys = (over_one xs, refl, (0, record { span = record { low = 4; last = top }; node = 1 }, omega arith, refl, (omega arith, omega arith)))
+
+loose_tidy_right : TidyAt list_layout blank_frame (chain [] []) 4
+loose_tidy_right = record { at = λ n m r s inside is is' low right fit. inside.1 (subst (λ (i : ℕ). InOutset (graph_after (chain [] [])) i 4) (sym (chain_alone [] [] n m right).0) (outset_from_four [] [])) }
+
+-- and not at those of the left one
+
+keyset_to_three : InKeyset (graph_after (chain [] [])) 0 3
+keyset_to_three = ((omega arith, at_root (over_one [], refl)), λ o. not_on o.0 o.1 o.2)
+  where
+    below_four : Any (λ e. (e.span.low ≤ 3) × (3 ≤ e.span.last)) (over_one []).edges → ⊥
+    below_four (zero, d, lt, is, on) = let e = ap (λ (t : Edge). t.span.low) is in omega (arith, e, on.0)
+    below_four (suc k, d, lt, is, on) = omega arith
+
+    not_on : (r : Record) → record_at (graph_after (chain [] [])) 0 ≡ Some r → Any (λ e. (e.span.low ≤ 3) × (3 ≤ e.span.last)) r.edges → ⊥
+    not_on r is on = below_four (subst (λ (t : Record). Any (λ e. (e.span.low ≤ 3) × (3 ≤ e.span.last)) t.edges) (sym (same_Some (over_one []) r is)) on)
+
+loose_not_tidy : TidyAt list_layout blank_frame (chain [] []) 3 → ⊥
+loose_not_tidy tidy = tidy.at 0 1 (over_one []) (edgeless []) keyset_to_three refl refl (omega arith) (chain_right [] []) (omega arith)
+
+-- nodes 1 and 2 side by side below an inner root
+
+abbrev inner_frame : Frame
+inner_frame = record { low = 0; kind = Inner; range = None; level = 0; link = None }
+
+abbrev to_low : Edge
+to_low = record { span = record { low = 0; last = 3 }; node = 1 }
+
+abbrev to_high : Edge
+to_high = record { span = record { low = 4; last = top }; node = 2 }
+
+abbrev fork : List Event
+fork = Shape 0 (record { node = 0; state = BecomesLive (record { edges = to_low ∷ to_high ∷ []; pairs = [] }) inner_frame } ∷ record { node = 1; state = BecomesLive empty_record blank_frame } ∷ record { node = 2; state = BecomesLive empty_record blank_frame } ∷ [])
+    ∷ Claim 0 2 ∷ Claim 0 1 ∷ Take 0 0 ∷ []
+
+fork_right : IsRightNeighbour (graph_after fork) (frame_after blank_frame fork) 1 2
+fork_right = beside empty_record 0 (record { edges = to_low ∷ to_high ∷ []; pairs = [] }) refl (λ has. has.1 refl) refl (λ e. absurd (cc))
+    (record { at = 0; one = to_low; other = to_high; first = refl; second = refl; from = refl; to = refl })
+
+fork_no_left : IsRightNeighbour (graph_after fork) (frame_after blank_frame fork) 2 1 → ⊥
+fork_no_left (chained r is has leads) = has.1 (ap (λ (t : Record). length t.edges) (sym (same_Some empty_record r is)))
+fork_no_left (beside r a s is has is' branch next) = below a is' branch
+  where
+    step : (at : ℕ) (one other : Edge) → slice_get (to_low ∷ to_high ∷ []) at ≡ Some one → slice_get (to_low ∷ to_high ∷ []) (suc at) ≡ Some other → one.node ≡ 2 → ⊥
+    step zero one other first second from = omega (arith, ap (λ (e : Edge). e.node) (same_Some to_low one first), from)
+    step (suc zero) one other first second from = cc
+    step (suc (suc at)) one other first second from = cc
+
+    after : IsNext (to_low ∷ to_high ∷ []) 2 1 → ⊥
+    after n = step n.at n.one n.other n.first n.second n.from
+
+    below : (i : ℕ) → record_at (graph_after fork) i ≡ Some s → (frame_after blank_frame fork i).kind ≢ NoBranch → ⊥
+    below zero at other = after (subst (λ (t : Record). IsNext t.edges 2 1) (sym (same_Some (record { edges = to_low ∷ to_high ∷ []; pairs = [] }) s at)) next)
+    below (suc zero) at other = other refl
+    below (suc (suc zero)) at other = other refl
+    below (suc (suc (suc j))) at other =
+        let i : ℕ = suc (suc (suc j)) in
+        other (ap (λ (f : Frame). f.kind)
+        (cond_else i 0 inner_frame (cond (i == 1) blank_frame (cond (i == 2) blank_frame blank_frame)) (λ e. omega arith)
+        ∙ cond_else i 1 blank_frame (cond (i == 2) blank_frame blank_frame) (λ e. omega arith)
+        ∙ cond_else i 2 blank_frame blank_frame (λ e. omega arith)))
+
+-- an inner root with all edges to one child is not tight
+
+abbrev stem : List Event
+stem = Shape 0 (record { node = 0; state = BecomesLive (over_one []) inner_frame } ∷ record { node = 1; state = BecomesLive empty_record blank_frame } ∷ []) ∷ Claim 0 1 ∷ Take 0 0 ∷ []
+
+stem_not_tight : Tight bplus_layout blank_frame stem → ⊥
+stem_not_tight tight = tight.root (over_one []) 1 refl (λ e. absurd (cc)) all_to_one
+  where
+    all_to_one : (k : ℕ) (d : Edge) → k < 1 → (get_or (over_one []).edges k d).node ≡ 1
+    all_to_one zero d lt = refl
+    all_to_one (suc k) d lt = absurd (omega arith)

@@ -1,13 +1,18 @@
 //! What holds of every node, as calls that do nothing: generic code cites their clauses.
 
-ghost use Rattle.std.specs.Prelude.{◌≡◌, IsTrue, true, false, is_some};
+ghost use Rattle.std.specs.Prelude.{◌≡◌, ◌<◌, ◌-◌, ◌^◌, ◌||◌, ◌⊎◌, Option, IsTrue, Some, None, true, false, length, nat_eq, nat_lt, is_some};
 ghost use Rattle.std.specs.Option.{ForSome};
+ghost use Rattle.ks_keysets.specs.declared.Span.{Span};
 ghost use Rattle.ks_keysets.specs.Layout.{room};
-ghost use Rattle.ks_node.specs.Body.{content_of, is_branch_kind};
-ghost use Rattle.ks_node.specs.Room.{IsHeld, may_grow};
+ghost use Rattle.ks_keysets.specs.Record.{top};
+ghost use Rattle.ks_node.specs.Body.{content_of, is_branch, is_branch_kind, last_of};
+ghost use Rattle.ks_node.specs.Room.{IsHeld, is_full, may_grow};
+ghost use Rattle.ks_node.specs.Asks.{Suits, IsNoneOr, IsGoodCut, AdoptsInside};
 ghost use Rattle.ks_node.specs.Sound.{Sound, Framed};
 
 use crate::node::Node;
+use crate::ranged::Linked;
+use crate::unlinked::{Growing, Unlinked};
 
 /// The laws of a node: order and shape, its range, its load.
 pub fn node_law<N: Node>(node: &N)
@@ -18,4 +23,26 @@ pub fn node_law<N: Node>(node: &N)
     ensures room_is { room N.layout ≡ N.ROOM }
     ensures grows_as { IsTrue (N.grows_at (content_of (N.body node.now))) → IsTrue (may_grow N.layout) }
     ensures becomes_branch { IsTrue (is_branch_kind N.branch_kind) }
+{}
+
+/// The laws of a node type without links: neither link nor level, how it is cut, which of its nodes grow.
+pub fn unlinked_law<N: Unlinked>()
+    ensures no_link { (s : N) → (N.body s).link ≡ None }
+    ensures no_level { (s : N) → (N.body s).level ≡ 0 }
+    ensures by_span { N.cuts_by_range ≡ false }
+    ensures sort { N.in_place ≡ false → ((s : N) (span : Span) (o : Option Span) → IsTrue (is_full N.layout (N.body s)) → Suits (N.body s) span → IsNoneOr o span → IsGoodCut (N.body s) span (N.cut_at (content_of (N.body s)) o) → IsTrue (N.can_adopt_at (content_of (N.body s)) (N.cut_at (content_of (N.body s)) o))) ⊎ ((s : N) → IsTrue (N.grows_at (content_of (N.body s))) × (is_branch (N.body s) ≡ false → length (N.body s).starts ≡ 0) × AdoptsInside N.can_adopt_at N.layout (N.body s)) }
+{}
+
+/// The laws of a node type whose branches grow, and its nodes with no edge.
+pub fn growing_law<N: Growing>()
+    ensures grows_where { (s : N) → IsTrue (is_branch (N.body s) || nat_eq (length (N.body s).starts) 0) → IsTrue (N.grows_at (content_of (N.body s))) }
+    ensures few_edges { (s : N) → length (N.body s).starts < 2 ^ 32 - 1 }
+{}
+
+/// The laws of a node type with links: its range, where there is a link, how it is cut, which of its nodes grow.
+pub fn linked_law<N: Linked>()
+    ensures is_ranged { N.ranged ≡ true }
+    ensures link_where { (s : N) → is_some (N.body s).link ≡ nat_lt (last_of (N.body s).range) top }
+    ensures by_range { N.cuts_by_range ≡ true }
+    ensures grows_where { (s : N) → IsTrue (is_branch (N.body s) || nat_eq (length (N.body s).starts) 0) → IsTrue (N.grows_at (content_of (N.body s))) }
 {}
