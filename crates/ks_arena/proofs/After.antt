@@ -15,7 +15,7 @@ use Rattle.ks_keysets.specs.Change.{new_state, new_frame, shaped, reframed}
 use Rattle.ks_history.specs.declared.Event.{Event}
 use Rattle.ks_history.specs.declared.Event.TheVariants.{Take, Give, Claim, Shape, Call}
 use Rattle.ks_history.specs.Trace.{mine, hand, drop_one, Turn, free, idle, held, turn_given, given, graph_after, turn_after, frame_after, number_after, caller_of}
-use Rattle.ks_history.specs.Passes.{Has, NoneOf, GrowsByOthers, GrowsWith}
+use Rattle.ks_history.specs.Passes.{Has, NoneOf, CallersBelow, GrowsByOthers, GrowsWith}
 use Rattle.ks_history.specs.Stays.{StaysHeld, AreInTurn, cond_here, cond_else}
 use Rattle.ks_history.specs.Begins.{by_others_keeps, by_others_turn, by_others_hand, by_others_mine, with_mine, by_others_with, with_others, give_hand}
 use Rattle.ks_arena.specs.declared.held.Pass.{Pass}
@@ -32,7 +32,7 @@ use Rattle.ks_arena.specs.Rule.{turn_word}
 use Rattle.ks_arena.specs.Plays.{Shows, Seated, with_seen, marked, Looks, Makes, drop_slot, InHand, HasSlots, Carries}
 use Rattle.ks_arena.proofs.Words.{are_in_turn}
 use Rattle.ks_arena.proofs.Moves.{GivesMark, gives_mark_live, gives_mark_free}
-use Rattle.ks_arena.proofs.Hold.{Follows, follows_marked, follows_both, looks_follows, makes_follows, looks_grows, makes_grows, looks_makes, Gains, carries_gain, carries_along, carries_give, carries_lift, slots_in, drop_in, hand_near, holds_it, holds_not}
+use Rattle.ks_arena.proofs.Hold.{Follows, follows_marked, follows_both, looks_follows, makes_follows, looks_grows, makes_grows, Gains, carries_gain, carries_along, carries_give, carries_lift, slots_in, drop_in, hand_near, holds_it, holds_not}
 
 -- the event changes the state and the frame of node i alone
 abbrev pub Touches : Event → ℕ → Type 0
@@ -117,6 +117,10 @@ module _ {N : Type 0} (sort : Sort) (shows : N → Body) where
     is_shaped (changes_of shows x (Some y) (Some z)) h c z.now (among_third (change_of shows x) (change_of shows y.now) (change_of shows z.now) [] once),
   )
 
+-- the view that counts the passes knows that nobody else has acted
+abbrev pub Knows : View → View → Type 0
+Knows v w = v.made ≢ 0 → CallersBelow v.made w.seen
+
 -- what is given back, as the step asks it
 module _ {N : Type 0} (sort : Sort) (begins : Frame → Type 0) (asks : (ℕ → NodeState) → (ℕ → Frame) → List Change → Type 0) (shows : N → Body) where
   pub matches_shows : (live : Bool) (s : NodeState) (f : Frame) (b : N) → MatchesIf sort shows live s f b → Shows sort begins asks shows s f b × (cond live 1 0 ≡ turn_word (turn_given s))
@@ -134,22 +138,23 @@ module _ {N : Type 0} (sort : Sort) (begins : Frame → Type 0) (asks : (ℕ →
 module _ {N : Type 0} (sort : Sort) (begins : Frame → Type 0) (asks : (ℕ → NodeState) → (ℕ → Frame) → List Change → Type 0) where
   -- the new seat of a pass serves it, with this mark
   pub pass_marked : {D : Type 0} (k l : Mark) (t : TableId) (callers : ℕ) (p q : Pass N D) (m : Seated N) → IsPassWith sort begins asks k t callers p → q.caller ≡ p.caller → q.seat.table_id ≡ p.seat.table_id → q.seat.me ≡ m
-      → Follows (marked l p.seat.me.0) m.0 → Carries t.slots m.0.seen p.caller m.1 → slots_in m.1 ≡ hand p.caller m.0.seen → Sound sort begins asks t.slots m.0.seen → IsPassWith sort begins asks l t callers q
-  pass_marked k l t callers p q m is whose table me follows carries slots sound = record {
+      → Follows (marked l p.seat.me.0) m.0 → Carries t.slots m.0.seen p.caller m.1 → slots_in m.1 ≡ hand p.caller m.0.seen → Sound sort begins asks t.slots m.0.seen → Knows p.seat.me.0 m.0 → IsPassWith sort begins asks l t callers q
+  pass_marked k l t callers p q m is whose table me follows carries slots sound knows = record {
     table = table ∙ is.table;
     bare = ap (λ (z : Seated N). z.0.absorbed) me ∙ follows.bare;
     few = subst (λ (z : ℕ). z < 2 ^ 32) (sym whose) is.few;
     own = ap (λ (z : Seated N). z.0.callers) me ∙ follows.callers ∙ is.own ∙ ap (λ (z : ℕ). z ∷ []) (sym whose);
     carries = subst (λ (z : ℕ × Seated N). Carries t.slots z.1.0.seen z.0 z.1.1) (λ k. (sym whose k, sym me k)) carries;
     made = ap (λ (z : Seated N). z.0.made) me ∙ follows.made ∙ is.made ∙ ap (λ (z : ℕ). cond (eqb z 0) callers 0) (sym whose);
+    known = λ some_made. subst (λ (z : ℕ × List Event). CallersBelow z.0 z.1) (λ k. (sym (ap (λ (z : Seated N). z.0.made) me ∙ follows.made) k, sym (ap (λ (z : Seated N). z.0.seen) me) k)) (knows (λ e. some_made (ap (λ (z : Seated N). z.0.made) me ∙ follows.made ∙ e)));
     slots = ap (λ (z : Seated N). slots_in z.1) me ∙ slots ∙ ap (λ (z : ℕ). hand z m.0.seen) (sym whose) ∙ ap (λ (z : Seated N). hand q.caller z.0.seen) (sym me);
     mark = ap (λ (z : Seated N). z.0.mark) me ∙ follows.mark;
     sound = subst (λ (z : Seated N). Sound sort begins asks t.slots z.0.seen) (sym me) sound;
   }
 
   pub pass_again : {D : Type 0} (t : TableId) (callers : ℕ) (p q : Pass N D) (m : Seated N) → IsPass sort begins asks t callers p → q.caller ≡ p.caller → q.seat.table_id ≡ p.seat.table_id → q.seat.me ≡ m
-      → Follows p.seat.me.0 m.0 → Carries t.slots m.0.seen p.caller m.1 → slots_in m.1 ≡ hand p.caller m.0.seen → Sound sort begins asks t.slots m.0.seen → IsPass sort begins asks t callers q
-  pass_again t callers p q m is whose table me follows carries slots sound = pass_marked Quiet Quiet t callers p q m is whose table me (record { callers = follows.callers; made = follows.made; mark = follows.mark ∙ is.mark; bare = follows.bare }) carries slots sound
+      → Follows p.seat.me.0 m.0 → Carries t.slots m.0.seen p.caller m.1 → slots_in m.1 ≡ hand p.caller m.0.seen → Sound sort begins asks t.slots m.0.seen → Knows p.seat.me.0 m.0 → IsPass sort begins asks t callers q
+  pass_again t callers p q m is whose table me follows carries slots sound knows = pass_marked Quiet Quiet t callers p q m is whose table me (record { callers = follows.callers; made = follows.made; mark = follows.mark ∙ is.mark; bare = follows.bare }) carries slots sound knows
 
   -- what a pass has in hand and stays, shows its node still
   pub still : {D : Type 0} {l : Mark} (shows : N → Body) (t : TableId) (callers : ℕ) (p : Pass N D) (k : List Event) (x : Hand N) → IsPassWith sort begins asks l t callers p → Has (hand_of p) x.node → (turn_after (seen_of p) x.node ≡ held p.caller → StaysHeld p.caller x.node (seen_of p) k) → Matches sort shows (seen_of p) x → Matches sort shows k x
@@ -170,6 +175,7 @@ module _ {N : Type 0} (sort : Sort) (begins : Frame → Type 0) (asks : (ℕ →
       pub hand_is : hand c m.0.seen ≡ hand c me.0.seen
       pub mine_is : mine c m.0.seen ≡ mine c me.0.seen
       pub sounds : Sound sort begins asks n m.0.seen
+      pub knows : Knows me.0 m.0
 
     -- after a step that made no event
     pub looked : (me m : Seated N) → me.0.callers ≡ c ∷ [] → Carries n me.0.seen c me.1 → slots_in me.1 ≡ hand c me.0.seen → m.1 ≡ me.1 → Looks (Sound sort begins asks n) me.0 m.0 → Looked me m
@@ -183,6 +189,7 @@ module _ {N : Type 0} (sort : Sort) (begins : Frame → Type 0) (asks : (ℕ →
           hand_is = hands;
           mine_is = by_others_mine c me.0.seen m.0.seen grows;
           sounds = so.sound;
+          knows = so.known;
         }
 
     pub record Gained (i : ℕ) (e : Event) (me m : Seated N) : Type 0 where
@@ -194,6 +201,7 @@ module _ {N : Type 0} (sort : Sort) (begins : Frame → Type 0) (asks : (ℕ →
       pub hand_is : hand c m.0.seen ≡ i ∷ hand c me.0.seen
       pub mine_is : mine c m.0.seen ≡ e ∷ mine c me.0.seen
       pub sounds : Sound sort begins asks n m.0.seen
+      pub knows : Knows me.0 m.0
 
     -- after a step that gave c node i, whose slot is out and empty
     pub gained : (i : ℕ) (e : Event) (me m : Seated N) → i < n → caller_of e ≡ c → ((h : List Event) → Gains e h c i) → Touches e i → hand c m.0.seen ≡ i ∷ hand c me.0.seen → me.0.callers ≡ c ∷ [] → ¬ (turn_after me.0.seen i ≡ held c)
@@ -209,6 +217,7 @@ module _ {N : Type 0} (sort : Sort) (begins : Frame → Type 0) (asks : (ℕ →
           hand_is = hands;
           mine_is = with_mine c e me.0.seen m.0.seen whose grows;
           sounds = so.sound;
+          knows = so.known;
         }
 
     -- a node that c has just claimed it did not hold
@@ -225,6 +234,7 @@ module _ {N : Type 0} (sort : Sort) (begins : Frame → Type 0) (asks : (ℕ →
       pub stays : StaysHeld c i me.0.seen m.0.seen
       pub carries : Carries n m.0.seen c ((i, None) ∷ drop_slot i me.1)
       pub sounds : Sound sort begins asks n m.0.seen
+      pub knows : Knows me.0 m.0
 
     pub ready : (i : ℕ) (b : N) (me l m : Seated N) → me.0.callers ≡ c ∷ [] → turn_after me.0.seen i ≡ held c → Carries n me.0.seen c me.1 → Looks (Sound sort begins asks n) me.0 l.0 → l.1 ≡ (i, None) ∷ drop_slot i me.1
         → m ≡ (l.0, (i, Some b) ∷ rest l.1) → Ready i b me m
@@ -237,6 +247,7 @@ module _ {N : Type 0} (sort : Sort) (begins : Frame → Type 0) (asks : (ℕ →
           stays = k;
           carries = carries_lift n l.0.seen c me.1 i k.turn (carries_others me.0.seen l.0.seen me.1 grows are carries);
           sounds = so.sound;
+          knows = so.known;
         }
 
     pub record Given (i : ℕ) (me m : Seated N) : Type 0 where
@@ -248,6 +259,7 @@ module _ {N : Type 0} (sort : Sort) (begins : Frame → Type 0) (asks : (ℕ →
       pub hand_is : hand c m.0.seen ≡ drop_one i (hand c me.0.seen)
       pub mine_is : mine c m.0.seen ≡ Give c i ∷ mine c me.0.seen
       pub sounds : Sound sort begins asks n m.0.seen
+      pub knows : Knows me.0 m.0
 
     pub gave_it : (i : ℕ) (b : N) (me l m : Seated N) → me.0.callers ≡ c ∷ [] → slots_in me.1 ≡ hand c me.0.seen → Ready i b me l → Makes (Sound sort begins asks n) (Give c i) (marked Quiet l.0) m.0 → m.1 ≡ drop_slot i me.1 → Given i me m
     gave_it i b me l m own slots so makes same = let e : Event = Give c i in let own' : l.0.callers ≡ c ∷ [] = so.follows.callers ∙ own in let later : GrowsWith c e l.0.seen m.0.seen = makes_grows (Sound sort begins asks n) e (marked Quiet l.0) m.0 c own' makes in let grows : GrowsWith c e me.0.seen m.0.seen = by_others_with c e me.0.seen l.0.seen m.0.seen so.grows later in
@@ -263,6 +275,7 @@ module _ {N : Type 0} (sort : Sort) (begins : Frame → Type 0) (asks : (ℕ →
           hand_is = hands;
           mine_is = with_mine c e me.0.seen m.0.seen refl grows;
           sounds = makes.sound;
+          knows = λ some_made. subst (λ (z : ℕ). CallersBelow z m.0.seen) so.follows.made (makes.known (λ e. some_made (sym so.follows.made ∙ e)));
         }
 
     -- after an event on a counting word: c holds what it held
@@ -274,6 +287,7 @@ module _ {N : Type 0} (sort : Sort) (begins : Frame → Type 0) (asks : (ℕ →
       pub hand_is : hand c m.0.seen ≡ hand c me.0.seen
       pub mine_is : mine c m.0.seen ≡ e ∷ mine c me.0.seen
       pub sounds : Sound sort begins asks n m.0.seen
+      pub knows : Knows me.0 m.0
       -- just before it, what c held was as before
       pub before : Kept c me.0.seen (grows.rest ++ me.0.seen)
 
@@ -288,5 +302,6 @@ module _ {N : Type 0} (sort : Sort) (begins : Frame → Type 0) (asks : (ℕ →
           hand_is = hand_is;
           mine_is = with_mine c e me.0.seen m.0.seen whose grows;
           sounds = so.sound;
+          knows = so.known;
           before = λ j x. by_others_keeps c j me.0.seen h others are x;
         }

@@ -14,7 +14,7 @@ use Rattle.ks_keysets.specs.declared.NodeState.{NodeState}
 use Rattle.ks_keysets.specs.declared.Change.{Change}
 use Rattle.ks_history.specs.declared.Event.{Event}
 use Rattle.ks_history.specs.Trace.{hand, free, idle, held, turn_after}
-use Rattle.ks_history.specs.Passes.{Has, NoneOf, GrowsByOthers}
+use Rattle.ks_history.specs.Passes.{Has, NoneOf, CallersBelow, GrowsByOthers}
 use Rattle.ks_history.specs.Stays.{cond_here, cond_else, others_turn}
 use Rattle.ks_history.specs.Hand.{held_in_hand}
 use Rattle.ks_history.specs.Begins.{none_by}
@@ -84,6 +84,7 @@ module _ {N D : Type 0} (sort : Sort) (begins : Frame → Type 0) (asks : (ℕ �
       own = ap (λ z. z.0.callers) is ∙ ap (λ (z : ℕ). z ∷ []) (sym own);
       carries = subst (λ z. Carries t.slots z.0.seen p.caller z.1) (sym is) (carries_none t.slots p.caller);
       made = ap (λ z. z.0.made) is ∙ made ∙ ap (λ (z : ℕ). cond (eqb z 0) n 0) (sym own);
+      known = λ some_made. subst (λ z. CallersBelow z.0.made z.0.seen) (sym is) tt;
       slots = ap (λ z. map (λ x. x.0) z.1) is ∙ ap (λ z. hand p.caller z.0.seen) (sym is);
       mark = ap (λ z. z.0.mark) is;
       sound = subst (λ z. Sound sort begins asks t.slots z.0.seen) (sym is) fits;

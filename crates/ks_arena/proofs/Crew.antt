@@ -302,7 +302,7 @@ module _ {N : Type 0} (sort : Sort) (begins : Frame → Type 0) (asks : (ℕ →
       bits = bits_view r.trace s.views id v w (length s.homes) s.words at refl (λ i c m has. has_left v.callers (callers_in v.absorbed) c has) r.bits;
       homes = r.homes;
     },
-    (refl, refl, f, r.views.parts id v at, subst (λ (z : ℕ). Sound sort begins asks z r.trace) long r.sound),
+    (refl, refl, f, r.views.parts id v at, subst (λ (z : ℕ). Sound sort begins asks z r.trace) long r.sound, r.views.known id v at),
   )
 
   pub opens : (ws : List ℕ) (xs : List (Option N)) → begins (blank_of sort) → length ws ≡ length xs + 2 + free_words (length xs) → get_or ws 0 0 ≡ 0 → get_or ws 1 0 ≡ 0 → ((i : ℕ) → i < length xs → get_or ws (i + 2) 0 ≡ cond (eqb i 0) 1 0) → FirstBits (length xs) (length xs) ws → AllBlank sort shows xs

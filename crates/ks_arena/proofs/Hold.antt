@@ -59,15 +59,6 @@ module _ (P : List Event → Type 0) where
   abbrev pub makes_grows : (e : Event) (v w : View) (c : ℕ) → v.callers ≡ c ∷ [] → Makes P e v w → GrowsWith c e v.seen w.seen
   makes_grows e v w c mine so = record { rest = so.rest; is = ap (λ (z : View). z.seen) so.is; others = none_by v.callers so.rest c so.others (has_one v.callers c mine) }
 
-  -- a look and then an event
-  pub looks_makes : (e : Event) (u v w : View) → Looks P u v → Makes P e v w → Makes P e u w
-  looks_makes e u v w a b = record {
-    rest = b.rest ++ a.rest;
-    is = b.is ∙ ap (λ (z : View). with_seen z (e ∷ (b.rest ++ z.seen))) a.is ∙ ap (λ (z : List Event). with_seen u (e ∷ z)) (append_both b.rest a.rest u.seen);
-    others = none_of_both u.callers b.rest a.rest (subst (λ (z : List ℕ). NoneOf z b.rest) (ap (λ (z : View). z.callers) a.is) b.others) a.others;
-    sound = b.sound;
-  }
-
 -- an event that gives c a node
 abbrev pub Gains : Event → List Event → ℕ → ℕ → Type 0
 Gains e h c i = (j : ℕ) → turn_after (e ∷ h) j ≡ cond (eqb j i) (held c) (turn_after h j)

@@ -1,5 +1,5 @@
 -- What a pass is after it took in a note.
-use Rattle.std.proofs.Common.{◌≡◌, ℕ, ◌+◌, ◌^◌, ◌<◌, max, cond, eqb, List, [], ◌∷◌, ◌++◌, map, sym, refl, ap, ◌∙◌, subst, inl, arith}
+use Rattle.std.proofs.Common.{◌≡◌, ◌≢◌, ℕ, ◌+◌, ◌^◌, ◌<◌, max, cond, eqb, List, [], ◌∷◌, ◌++◌, map, sym, refl, ap, ◌∙◌, subst, inl, arith}
 use Rattle.std.specs.Prelude.{Option}
 use Rattle.atomic_table.specs.Seated.{TableId}
 use Rattle.atomic_table.specs.Table.{Step}
@@ -8,7 +8,7 @@ use Rattle.ks_keysets.specs.declared.NodeState.{NodeState}
 use Rattle.ks_keysets.specs.declared.Change.{Change}
 use Rattle.ks_history.specs.declared.Event.{Event}
 use Rattle.ks_history.specs.Trace.{◌⊑◌, hand, mine}
-use Rattle.ks_history.specs.Passes.{Has, GrowsByOthers}
+use Rattle.ks_history.specs.Passes.{Has, CallersBelow, GrowsByOthers}
 use Rattle.ks_history.specs.Begins.{none_by, by_others_hand, by_others_mine, by_others_keeps}
 use Rattle.ks_node.specs.Body.{Body}
 use Rattle.ks_arena.specs.declared.held.Pass.{Pass}
@@ -32,6 +32,7 @@ module _ {N D : Type 0} (sort : Sort) (begins : Frame → Type 0) (asks : (ℕ �
     pub carries : Carries t.slots m.0.seen p.caller m.1
     pub slots : slots_in m.1 ≡ hand p.caller m.0.seen
     pub sounds : Sound sort begins asks t.slots m.0.seen
+    pub knows : p.seat.me.0.made ≢ 0 → CallersBelow p.seat.me.0.made m.0.seen
 
   -- the callers of a pass that has a note among its parts are its own
   own_callers : (p : Pass N D) (x : Note N D) (c : ℕ) → p.seat.me.0.callers ≡ c ∷ [] → p.seat.me.0.absorbed ≡ [] → x.seat.me.0.callers ≡ [] → x.seat.me.0.absorbed ≡ [] → all_callers (both_views p.seat.me.0 x.seat.me.0) ≡ p.seat.me.0.callers
@@ -58,4 +59,5 @@ module _ {N D : Type 0} (sort : Sort) (begins : Frame → Type 0) (asks : (ℕ �
         carries = subst (Carries t.slots m.0.seen c) (sym got.0) (carries_others sort begins asks t.slots c v.seen m.0.seen p.seat.me.1 grows are is.carries);
         slots = ap slots_in got.0 ∙ is.slots ∙ sym hands;
         sounds = sound;
+        knows = λ some_made. let e : max v.made w.made ≡ v.made = omega arith in subst (λ (z : ℕ). CallersBelow z m.0.seen) e (got.5 (λ z. some_made (sym e ∙ z)));
       }

@@ -23,7 +23,7 @@ use Rattle.ks_history.specs.declared.Event.{Event}
 use Rattle.ks_history.specs.declared.Event.TheVariants.{Take, Give, Claim, Shape, Call}
 use Rattle.ks_history.specs.Trace.{Turn, free, idle, held, turn_given, given, state_with, graph_after, turn_after, frame_after, number_after, calls_of, shapes_in, caller_of}
 use Rattle.ks_history.specs.Write.{written}
-use Rattle.ks_history.specs.Passes.{Has, NoneOf, GrowsByOthers}
+use Rattle.ks_history.specs.Passes.{Has, NoneOf, CallersBelow, GrowsByOthers}
 use Rattle.std.specs.Int.{bit_at, bit_not}
 use Rattle.std.proofs.lemmas.Nat.Bits.{bit_at_or, bit_at-lt, bit_at-pow_same, bit_at-pow_other, bit_at_clear_same, bit_at_clear_other}
 use Rattle.ks_arena.specs.declared.view.Mark.{Mark}
@@ -77,21 +77,26 @@ module _ {N : Type 0} (sort : Sort) (begins : Frame → Type 0) (asks : (ℕ →
   abbrev SoundTo : ℕ → List Event → Type 0
   SoundTo n = Sound sort begins asks n
 
-  abbrev pub looks_all : (n : ℕ) (s : State (Option N) View) (r : Rule s) (id : ℕ) (v : View) → length s.homes ≡ n → get_elem? s.views id ≡ some v → Looks (SoundTo n) v (with_seen v r.trace)
-  looks_all n s r id v long at = let f = r.views.each id v at in record { rest = f.rest; is = ap (with_seen v) f.is; others = f.others; sound = subst (λ (z : ℕ). SoundTo z r.trace) long r.sound }
+  -- the mark that the step leaves
+  abbrev pub looks_marked : (n : ℕ) (s : State (Option N) View) (r : Rule s) (id : ℕ) (v : View) (k : Mark) → length s.homes ≡ n → get_elem? s.views id ≡ some v → Looks (SoundTo n) (marked k v) (with_seen (marked k v) r.trace)
+  looks_marked n s r id v k long at = let f = r.views.each id v at in record { rest = f.rest; is = ap (with_seen (marked k v)) f.is; others = f.others; sound = subst (λ (z : ℕ). SoundTo z r.trace) long r.sound; known = r.views.known id v at }
 
-  abbrev pub makes_one : (n : ℕ) (s : State (Option N) View) (r : Rule s) (id : ℕ) (v : View) (e : Event) → length s.homes ≡ n → get_elem? s.views id ≡ some v → StepsSoundly sort begins asks (length s.homes) r.trace e → Makes (SoundTo n) e v (with_seen v (e ∷ r.trace))
-  makes_one n s r id v e long at may = let f = r.views.each id v at in record { rest = f.rest; is = ap (λ (z : List Event). with_seen v (e ∷ z)) f.is; others = f.others; sound = subst (λ (z : ℕ). SoundTo z (e ∷ r.trace)) long (r.sound, may) }
+  pub known_then : (s : State (Option N) View) (r : Rule s) (id : ℕ) (v : View) (e : Event) → get_elem? s.views id ≡ some v → Has v.callers (caller_of e) → v.made ≢ 0 → CallersBelow v.made (e ∷ r.trace)
+  known_then s r id v e at mine made = ((r.views.maker id id v v at at made).0 (caller_of e) (has_left v.callers (callers_in v.absorbed) (caller_of e) mine), r.views.known id v at made)
+
+  abbrev pub makes_marked : (n : ℕ) (s : State (Option N) View) (r : Rule s) (id : ℕ) (v : View) (k : Mark) (e : Event) → length s.homes ≡ n → get_elem? s.views id ≡ some v → Has v.callers (caller_of e) → StepsSoundly sort begins asks (length s.homes) r.trace e → Makes (SoundTo n) e (marked k v) (with_seen (marked k v) (e ∷ r.trace))
+  makes_marked n s r id v k e long at mine may = let f = r.views.each id v at in
+      record { rest = f.rest; is = ap (λ (z : List Event). with_seen (marked k v) (e ∷ z)) f.is; others = f.others; sound = subst (λ (z : ℕ). SoundTo z (e ∷ r.trace)) long (r.sound, may); known = known_then s r id v e at mine }
+
+  -- the same mark
+  abbrev pub looks_all : (n : ℕ) (s : State (Option N) View) (r : Rule s) (id : ℕ) (v : View) → length s.homes ≡ n → get_elem? s.views id ≡ some v → Looks (SoundTo n) v (with_seen v r.trace)
+  looks_all n s r id v long at = let x = looks_marked n s r id v v.mark long at in record { rest = x.rest; is = x.is; others = x.others; sound = x.sound; known = x.known }
+
+  abbrev pub makes_one : (n : ℕ) (s : State (Option N) View) (r : Rule s) (id : ℕ) (v : View) (e : Event) → length s.homes ≡ n → get_elem? s.views id ≡ some v → Has v.callers (caller_of e) → StepsSoundly sort begins asks (length s.homes) r.trace e → Makes (SoundTo n) e v (with_seen v (e ∷ r.trace))
+  makes_one n s r id v e long at mine may = let x = makes_marked n s r id v v.mark e long at mine may in record { rest = x.rest; is = x.is; others = x.others; sound = x.sound; known = x.known }
 
   abbrev Goes : State (Option N) View → ℕ → ℕ → Seated N → (ℕ → Seated N → Type 0) → ℕ → Type 0
   Goes s k id me then x = (w : View) × (a : Act (Option N)) × Valid s.homes me.1 a × Rule (stepped s k x id me.1 w a) × then (get_or s.words k 0) (w, carried_after me.1 a)
-
-  -- with another mark, as the step leaves it
-  abbrev pub looks_marked : (n : ℕ) (s : State (Option N) View) (r : Rule s) (id : ℕ) (v : View) (k : Mark) → length s.homes ≡ n → get_elem? s.views id ≡ some v → Looks (SoundTo n) (marked k v) (with_seen (marked k v) r.trace)
-  looks_marked n s r id v k long at = let f = r.views.each id v at in record { rest = f.rest; is = ap (with_seen (marked k v)) f.is; others = f.others; sound = subst (λ (z : ℕ). SoundTo z r.trace) long r.sound }
-
-  abbrev pub makes_marked : (n : ℕ) (s : State (Option N) View) (r : Rule s) (id : ℕ) (v : View) (k : Mark) (e : Event) → length s.homes ≡ n → get_elem? s.views id ≡ some v → StepsSoundly sort begins asks (length s.homes) r.trace e → Makes (SoundTo n) e (marked k v) (with_seen (marked k v) (e ∷ r.trace))
-  makes_marked n s r id v k e long at may = let f = r.views.each id v at in record { rest = f.rest; is = ap (λ (z : List Event). with_seen (marked k v) (e ∷ z)) f.is; others = f.others; sound = subst (λ (z : ℕ). SoundTo z (e ∷ r.trace)) long (r.sound, may) }
 
   quiet_marks : (k : Mark) → k ≡ Quiet → (i : ℕ) → ¬ Marks k i
   quiet_marks k quiet i m = subst (λ (z : Mark). Marks z i) quiet m
@@ -119,7 +124,7 @@ module _ {N : Type 0} (sort : Sort) (begins : Frame → Type 0) (asks : (ℕ →
             (turn_bits h e s.views id me.0 me.0.mark (length s.homes) s.words i (c + 2) r.bits at near' (λ j ne. cond_else j i (held c) (turn_after h j) ne) (unnamed me.0.mark i quiet) (unnamed me.0.mark i quiet) (λ j u ne there m. idle_unmarked s r i is (j, u, there, m)) (λ m. absurd (quiet_marks me.0.mark quiet i m))
             (inr ((λ f. let x : idle ≡ free = sym is ∙ f in (cc)), idle_unmarked s r i is, (λ f. let x : held c ≡ free = sym here ∙ f in (cc)), quiet_marks me.0.mark quiet i))),
         λ d j own at'. let p = same_pair me.0.callers c d i j mine own at' in subst (λ (z : ℕ × ℕ). TookAt sort begins asks shows n z.0 z.1 me y (with_seen me.0 (e ∷ h), (i, Some b.0) ∷ me.1)) (λ k. (p.0 k, p.1 k))
-            (λ _. (makes_one n s r id me.0 e long at is, (b.0, refl, b.2, b.3)), λ miss. absurd (miss hit)),
+            (λ _. (makes_one n s r id me.0 e long at (has_one me.0.callers c mine) is, (b.0, refl, b.2, b.3)), λ miss. absurd (miss hit)),
       ))
       (λ miss. (
         with_seen me.0 h,
@@ -143,7 +148,7 @@ module _ {N : Type 0} (sort : Sort) (begins : Frame → Type 0) (asks : (ℕ →
             (subst (λ (z : Turn). Rests sort shows (graph_after (e ∷ h) i) (frame_after (blank_of sort) h i) z (some none)) (sym here) refl)
             (turn_bits h e s.views id me.0 (Claiming i) (length s.homes) s.words i (c + 2) r.bits at near' (λ j ne. cond_else j i (held c) (turn_after h j) ne) (unnamed me.0.mark i quiet) (λ j m. sym m) (λ j u ne there m. free_unmarked s r i is (j, u, there, m)) (λ m. (c, has_one me.0.callers c mine, here)) (inl (inl is, inr refl))),
         λ d j own at'. let p = same_pair me.0.callers c d i j mine own at' in subst (λ (z : ℕ × ℕ). ClaimedAt sort begins asks shows n z.0 z.1 me y (with_seen (marked (Claiming i) me.0) (e ∷ h), (i, Some b.0) ∷ me.1)) (λ k. (p.0 k, p.1 k))
-            (λ _. (makes_marked n s r id me.0 (Claiming i) e long at is, (b.0, refl, b.2)), λ miss. absurd (miss hit)),
+            (λ _. (makes_marked n s r id me.0 (Claiming i) e long at (has_one me.0.callers c mine) is, (b.0, refl, b.2)), λ miss. absurd (miss hit)),
       ))
       (λ miss. (
         with_seen me.0 h,
@@ -272,7 +277,7 @@ module _ {N : Type 0} (sort : Sort) (begins : Frame → Type 0) (asks : (ℕ →
             (word ∙ ap (λ (z : NodeState). turn_word (turn_given z)) (sym own.state) ∙ ap turn_word (sym turns))
             (subst (λ (z : NodeState × Turn). Rests sort shows z.0 f z.1 (some (some (Some b)))) (λ k. (sym states k, sym turns k)) (rests_given t f b (subst (λ (z : NodeState × Frame). Shows sort begins asks shows z.0 z.1 b) (λ k. (sym own.state k, sym (own.frame (blank_of sort)) k)) body)))
             (given_bits s r id me.0 c i new at one near' own.turn (subst (λ (z : NodeState). GivesMark z i me.0.mark) (sym own.state) mark)),
-        λ d j x more own' at' has'. let p = same_pair me.0.callers c d i j mine own' at' in let q : others ≡ more = cc in (subst (λ (z : ℕ × ℕ). Makes (SoundTo n) (Give z.0 z.1) (marked Quiet me.0) (with_seen (marked Quiet me.0) (e ∷ h))) (λ k. (p.0 k, p.1 k)) (makes_marked n s r id me.0 Quiet e long at own.turn), q),
+        λ d j x more own' at' has'. let p = same_pair me.0.callers c d i j mine own' at' in let q : others ≡ more = cc in (subst (λ (z : ℕ × ℕ). Makes (SoundTo n) (Give z.0 z.1) (marked Quiet me.0) (with_seen (marked Quiet me.0) (e ∷ h))) (λ k. (p.0 k, p.1 k)) (makes_marked n s r id me.0 Quiet e long at one own.turn), q),
       )
 
   -- the bit of a node that c holds is set, or cleared
@@ -334,7 +339,7 @@ module _ {N : Type 0} (sort : Sort) (begins : Frame → Type 0) (asks : (ℕ →
         counts_at sort begins asks shows s r id me.0 e 0 ((x + 1) % 2 ^ 64) at (has_one me.0.callers c mine) small (omega arith) so (λ j. refl)
             (λ j. dite (ℕ_discrete j i) (λ z. inr (c, ap (turn_after h) z ∙ own.turn)) (λ z. inl (cond_else j i (state_with (written o y) (graph_after h i)) (graph_after h j) z, refl)))
             (get_or-set_same s.words 0 ((x + 1) % 2 ^ 64) 0 (omega arith) ∙ one_more (length (calls_of h)) (length (calls_of (e ∷ h))) x (a_call_more (calls_of h) record { op = o; reply = y }) count) (get_or-set_other s.words 0 1 ((x + 1) % 2 ^ 64) 0 (λ z. omega arith) ∙ r.shape_count),
-        (makes_one n s r id me.0 e long at so, refl, count ∙ ap number_after f.is),
+        (makes_one n s r id me.0 e long at (has_one me.0.callers c mine) so, refl, count ∙ ap number_after f.is),
       ))
 
   shaped_or : (h : List Event) (c : ℕ) (xs : List Change) (i : ℕ) (t : NodeState) (f : Frame) → All (λ x. turn_after h x.node ≡ held c) xs → ((shaped xs i t ≡ t) × (reframed xs i f ≡ f)) ⊎ ((d : ℕ) × (turn_after h i ≡ held d))
@@ -351,5 +356,5 @@ module _ {N : Type 0} (sort : Sort) (begins : Frame → Type 0) (asks : (ℕ →
         tt,
         counts_at sort begins asks shows s r id me.0 e 1 ((x + 1) % 2 ^ 64) at (has_one me.0.callers c mine) small (omega arith) so (λ j. refl) (λ j. shaped_or h c xs j (graph_after h j) (frame_after (blank_of sort) h j) so.0)
             (get_or-set_other s.words 1 0 ((x + 1) % 2 ^ 64) 0 (λ z. omega arith) ∙ r.call_count) (get_or-set_same s.words 1 ((x + 1) % 2 ^ 64) 0 (omega arith) ∙ one_more (shapes_in h) (shapes_in (e ∷ h)) x refl count),
-        (makes_one n s r id me.0 e long at so, refl),
+        (makes_one n s r id me.0 e long at (has_one me.0.callers c mine) so, refl),
       ))

@@ -1,5 +1,5 @@
 -- Turn words, and the turns of a sound trace.
-use Rattle.std.proofs.Common.{◌≡◌, ◌≢◌, ℕ, ◌+◌, ◌-◌, ◌<◌, List, [], ◌∷◌, refl, sym, ap, ◌∙◌, arith}
+use Rattle.std.proofs.Common.{◌≡◌, ◌≢◌, ℕ, ◌+◌, ◌-◌, ◌<◌, List, [], ◌∷◌, ◌++◌, refl, sym, ap, ◌∙◌, subst, arith}
 use mathlib.Core.Logic.{dite}
 use native.Mathlib.Decide.{ℕ_discrete}
 use Rattle.ks_keysets.specs.declared.Frame.{Frame}
@@ -7,9 +7,10 @@ use Rattle.ks_keysets.specs.declared.NodeState.{NodeState}
 use Rattle.ks_keysets.specs.declared.Change.{Change}
 use Rattle.ks_history.specs.declared.Event.{Event}
 use Rattle.ks_history.specs.declared.Event.TheVariants.{Take, Give, Claim, Shape, Call}
-use Rattle.ks_history.specs.Trace.{Turn, free, idle, held, turn_after, caller_of}
+use Rattle.ks_history.specs.Trace.{◌⊑◌, Turn, free, idle, held, turn_after, caller_of}
 use Rattle.ks_history.specs.Stays.{IsInTurn, AreInTurn, cond_here, cond_else, other_turn}
 use Rattle.ks_history.specs.Passes.{CallersBelow}
+use Rattle.ks_history.specs.Alone.{AllBy, ActsAlone, HoldsAlone}
 use Rattle.ks_arena.specs.Sound.{Sort, Sound, StepsSoundly}
 use Rattle.ks_arena.specs.Rule.{turn_word}
 
@@ -37,6 +38,22 @@ word_below n (held c) r e low = let l : c < n = low c refl in omega arith
 pub held_below : (n : ℕ) (h : List Event) (i c : ℕ) → CallersBelow n h → turn_after h i ≡ held c → c < n
 held_below n [] i c low now = dite (ℕ_discrete i 0) (λ z. let e : idle ≡ held c = sym (cond_here i 0 idle free z) ∙ now in (cc)) (λ z. let e : free ≡ held c = sym (cond_else i 0 idle free z) ∙ now in (cc))
 held_below n (e ∷ h) i c low now = dite (ℕ_discrete (caller_of e) c) (λ z. let x = low.0 in omega arith) (λ z. held_below n h i c low.1 (other_turn h e c i z now))
+
+-- where there is but one caller, it acts alone
+
+all_by_one : (es h : List Event) → CallersBelow 1 (es ++ h) → AllBy 0 es
+all_by_one [] h low = tt
+all_by_one (e ∷ es) h low = let x = low.0 in (omega arith, all_by_one es h low.1)
+
+below_old : (n : ℕ) (es h : List Event) → CallersBelow n (es ++ h) → CallersBelow n h
+below_old n [] h low = low
+below_old n (e ∷ es) h low = below_old n es h low.1
+
+pub one_alone : (h k : List Event) → h ⊑ k → CallersBelow 1 k → ActsAlone 0 h k × HoldsAlone 0 h
+one_alone h k begins low = let all = subst (CallersBelow 1) begins.is low in (
+  record { rest = begins.rest; is = begins.is; own = all_by_one begins.rest h all },
+  λ d i now. let x = held_below 1 h i d (below_old 1 begins.rest h all) now in omega arith,
+)
 
 module _ (sort : Sort) (begins : Frame → Type 0) (asks : (ℕ → NodeState) → (ℕ → Frame) → List Change → Type 0) (nodes : ℕ) where
   pub is_in_turn : (h : List Event) (e : Event) → StepsSoundly sort begins asks nodes h e → IsInTurn h e

@@ -20,7 +20,7 @@ use Rattle.ks_history.specs.Trace.{mine, hand, drop_one, Turn, free, idle, held,
 use Rattle.ks_history.specs.Write.{written}
 use Rattle.ks_history.specs.Lawful.{Meets, Lawful, GoodThroughout}
 use Rattle.ks_history.specs.Due.{IsDue, FullsDue, Sometime}
-use Rattle.ks_history.specs.Passes.{Has, GrowsByOthers, GrowsWith}
+use Rattle.ks_history.specs.Passes.{Has, CallersBelow, GrowsByOthers, GrowsWith}
 use Rattle.ks_history.specs.Stays.{StaysHeld}
 use Rattle.ks_arena.specs.declared.held.Held.{Held as Hand}
 use Rattle.std.specs.Slots.{slots_items}
@@ -64,6 +64,7 @@ module _ (sort : Sort) (begins : Frame → Type 0) (asks : (ℕ → NodeState) �
     pub own : (view_of p).callers ≡ p.caller ∷ []
     pub carries : Carries t.slots (seen_of p) p.caller p.seat.me.1
     pub made : (view_of p).made ≡ (if p.caller == 0 then callers else 0)
+    pub known : (view_of p).made ≢ 0 → CallersBelow (view_of p).made (seen_of p)
     pub slots : map (λ x. x.0) p.seat.me.1 ≡ hand_of p
     pub mark : (view_of p).mark ≡ k
     pub sound : Sound sort begins asks t.slots (seen_of p)

@@ -9,7 +9,7 @@ use Rattle.ks_keysets.specs.declared.Change.{Change}
 use Rattle.ks_history.specs.declared.Event.{Event}
 use Rattle.ks_history.specs.declared.Event.TheVariants.{Take, Give, Claim}
 use Rattle.ks_history.specs.Trace.{free, held, graph_after, turn_after, frame_after, number_after}
-use Rattle.ks_history.specs.Passes.{Has, NoneOf}
+use Rattle.ks_history.specs.Passes.{Has, NoneOf, CallersBelow}
 use Rattle.ks_arena.specs.declared.view.Mark.{Mark}
 use Rattle.ks_arena.specs.declared.view.Mark.TheVariants.{Quiet, Claiming, Freeing}
 use Rattle.ks_arena.specs.declared.view.View.{View}
@@ -61,6 +61,8 @@ module _ (P : List Event → Type 0) where
     pub is : w ≡ with_seen v (rest ++ v.seen)
     pub others : NoneOf v.callers rest
     pub sound : P w.seen
+    -- the view that counts the passes knows that nobody else acts
+    pub known : v.made ≢ 0 → CallersBelow v.made w.seen
 
   -- the one event e: the view has become the whole trace, which ends with e
   pub record Makes (e : Event) (v w : View) : Type 0 where
@@ -68,6 +70,7 @@ module _ (P : List Event → Type 0) where
     pub is : w ≡ with_seen v (e ∷ (rest ++ v.seen))
     pub others : NoneOf v.callers rest
     pub sound : P w.seen
+    pub known : v.made ≢ 0 → CallersBelow v.made w.seen
 
 module _ {N : Type 0} (sort : Sort) (begins : Frame → Type 0) (asks : (ℕ → NodeState) → (ℕ → Frame) → List Change → Type 0) (shows : N → Body) where
   -- the body shows what the node, with this state and frame, is
@@ -122,4 +125,4 @@ module _ {N : Type 0} (sort : Sort) (begins : Frame → Type 0) (asks : (ℕ →
   -- has all events of each
   abbrev pub gathered : Step (Option N) → Seated N → Seated N → Type 0
   gathered st m m' = (m'.1 ≡ m.1) × (m'.0 ≡ record { callers = all_callers m.0; seen = m'.0.seen; absorbed = []; made = m.0.made; mark = m.0.mark })
-      × Fits m'.0.seen m.0.callers m.0.seen × FitsAll m'.0.seen m.0.absorbed × Sound sort begins asks st.slots m'.0.seen
+      × Fits m'.0.seen m.0.callers m.0.seen × FitsAll m'.0.seen m.0.absorbed × Sound sort begins asks st.slots m'.0.seen × (m.0.made ≢ 0 → CallersBelow m.0.made m'.0.seen)

@@ -71,7 +71,7 @@ impl<N: Node, D: Discipline> Arena<N, D> {
 
     /// The same, and each step on a word is counted. If nobody else acts meanwhile, and nobody else holds a node at its
     /// start, then it loads the free words up to that of the node, takes the turn of the node and clears its bit: at most
-    /// `ceil(nodes / 64) + 2` steps.
+    /// `ceil(nodes / 64) + 2` steps. So it always is in an arena of one caller.
     pub fn claim_steps<L: Ledger>(
         &self,
         pass: &mut Pass<N, D>,
@@ -85,6 +85,7 @@ impl<N: Node, D: Discipline> Arena<N, D> {
         ensures still { StillMatch (sort_of N.layout N.ranged) N.body (hand_of pass.old) (seen_of pass.old) (seen_of pass.new) }
         ensures cost { ActsAlone pass.old.caller (seen_of pass.old) (seen_of pass.new) → HoldsAlone pass.old.caller (seen_of pass.old) → steps.new ≡ steps.old + steps_alone self.now.nodes result }
         ensures bound { ActsAlone pass.old.caller (seen_of pass.old) (seen_of pass.new) → HoldsAlone pass.old.caller (seen_of pass.old) → steps.new ≤ steps.old + free_words self.now.nodes + 2 }
+        ensures one { self.now.callers ≡ 1 → pass.old.caller ≡ 0 → steps.new ≡ steps.old + steps_alone self.now.nodes result }
     {
         sound_law::<D>();
         for index in 0..self.nodes.div_ceil(64) {

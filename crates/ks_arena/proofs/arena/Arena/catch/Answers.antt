@@ -54,7 +54,7 @@ got g c = let told = (hit g c).0 c.if-found-eq0.true in let p = c.requires.pass 
     p.own (claim_fresh (sort_of g.N.Node.layout g.N.Node.ranged) g.D.Discipline.begins g.D.Discipline.step n c.args.pass.now.caller c.args.node (ready g c) (after g c) p.own told.0) p.carries p.slots refl told.0
 
 pub returns-then-found-eq0-clause-pass : goal.returns-then-found-eq0-clause-pass
-returns-then-found-eq0-clause-pass g c = let a = got g c in pass_marked _ _ _ Quiet (Claiming c.args.node) _ _ c.args.pass.now _ (after g c) c.requires.pass refl (c.exchange.ensures.0 ∙ c.compare_exchange-found.ensures.0) (final g c) a.follows a.carries a.slots a.sounds
+returns-then-found-eq0-clause-pass g c = let a = got g c in pass_marked _ _ _ Quiet (Claiming c.args.node) _ _ c.args.pass.now _ (after g c) c.requires.pass refl (c.exchange.ensures.0 ∙ c.compare_exchange-found.ensures.0) (final g c) a.follows a.carries a.slots a.sounds a.knows
 
 pub returns-then-found-eq0-clause-claimed : goal.returns-then-found-eq0-clause-claimed
 returns-then-found-eq0-clause-claimed g c = let told = (hit g c).0 c.if-found-eq0.true in let a = got g c in let v : c.exchange.new.seat.me.0 ≡ c.compare_exchange-found.new.seat.me.0 = ap (λ (z : Seated g.row.N.Denot). z.0) (final g c) in
@@ -83,7 +83,7 @@ missed : (g : Over) (c : Else-found-eq0 g) → Looked (sort_of g.N.Node.layout g
 missed g c = let told = (c.compare_exchange-found.ensures.2 c.args.pass.now.caller c.args.node c.requires.pass.own refl).1 c.if-found-eq0.false in let p = c.requires.pass in looked _ _ _ _ c.args.pass.now.caller c.args.pass.now.seat.me c.compare_exchange-found.new.seat.me p.own p.carries p.slots told.1 told.0
 
 pub returns-else-found-eq0-clause-pass : goal.returns-else-found-eq0-clause-pass
-returns-else-found-eq0-clause-pass g c = let a = missed g c in pass_again _ _ _ _ _ c.args.pass.now _ c.compare_exchange-found.new.seat.me c.requires.pass refl c.compare_exchange-found.ensures.0 refl a.follows a.carries a.slots a.sounds
+returns-else-found-eq0-clause-pass g c = let a = missed g c in pass_again _ _ _ _ _ c.args.pass.now _ c.compare_exchange-found.new.seat.me c.requires.pass refl c.compare_exchange-found.ensures.0 refl a.follows a.carries a.slots a.sounds a.knows
 
 pub returns-else-found-eq0-clause-claimed : goal.returns-else-found-eq0-clause-claimed
 returns-else-found-eq0-clause-claimed g c = let a = missed g c in let told = (c.compare_exchange-found.ensures.2 c.args.pass.now.caller c.args.node c.requires.pass.own refl).1 c.if-found-eq0.false in (record { grows = a.grows; hand = a.hand_is; mine = a.mine_is }, told.2)

@@ -2,11 +2,16 @@ use Rattle.std.proofs.Common.{rules, arith, ◌≡◌, ◌≢◌, ℕ, ◌+◌, 
 use Rattle.std.specs.Prelude.{Some, None}
 use Rattle.ks_history.specs.declared.Event.{Event}
 use Rattle.ks_history.specs.declared.Event.TheVariants.{Claim}
-use Rattle.ks_history.specs.Trace.{free, turn_after}
+use Rattle.ks_history.specs.Trace.{◌⊑◌, free, turn_after}
 use Rattle.ks_history.specs.Alone.{ActsAlone, HoldsAlone}
 use Rattle.ks_history.specs.Begins.{by_others_begins}
 use Rattle.ks_arena.specs.Sound.{sort_of, Sound}
-use Rattle.ks_arena.specs.Clauses.{seen_of, Kept, DidClaimIn}
+use Rattle.atomic_table.specs.Seated.{TableId}
+use Rattle.ks_history.specs.Passes.{CallersBelow}
+use Rattle.ks_history.specs.Stays.{cond_here}
+use Rattle.ks_arena.specs.declared.held.Pass.{Pass}
+use Rattle.ks_arena.proofs.Words.{one_alone}
+use Rattle.ks_arena.specs.Clauses.{IsPass, seen_of, Kept, DidClaimIn}
 use Rattle.ks_arena.proofs.Tries.{Tried, tried_more, kept_both, root_taken, did_claim, claimed_begins, alone_next}
 use Rattle.ks_arena.proofs.After.{still}
 use Rattle.ks_arena.proofs.arena.Arena.claim_steps.Given.{Over}
@@ -50,3 +55,17 @@ loop-index-preserved g c = let inv = c.loop-index.invariant in let me : ℕ = c.
 
 pub returns-clause-still : goal.returns-clause-still
 returns-clause-still g c = λ x has m. still (sort_of g.N.Node.layout g.N.Node.ranged) g.D.Discipline.begins g.D.Discipline.step g.N.Node.body _ _ c.args.pass.now _ x c.requires has (λ t. c.loop-index.invariant.2.kept x.node t) m
+
+-- the pass of the only caller knows that nobody else acts
+lone : (g : Over) (callers : ℕ) (p : Pass g.row.N.Denot g.row.D.Denot) (t : TableId) (h : List Event) → IsPass (sort_of g.N.Node.layout g.N.Node.ranged) g.D.Discipline.begins g.D.Discipline.step t callers p → callers ≡ 1 → p.caller ≡ 0 → h ⊑ seen_of p → ActsAlone 0 h (seen_of p) × HoldsAlone 0 h
+lone g callers p t h is one first begins = let made : p.seat.me.0.made ≡ 1 = is.made ∙ cond_here p.caller 0 callers 0 first ∙ one in one_alone h (seen_of p) begins (subst (λ (z : ℕ). CallersBelow z (seen_of p)) made (is.known (λ e. omega arith)))
+
+pub returns-in-Some-clause-one : goal.returns-in-Some-clause-one
+returns-in-Some-clause-one g c = λ one first. let t = returns-in-Some-clause-claimed g c in let me : ℕ = c.args.pass.now.caller in let same = c.in-Some.ensures.caller ∙ c.loop-index.invariant.1 in
+    let alone = lone g c.args.self.now.callers c.claim_in.new.pass _ (seen_of c.args.pass.now) c.in-Some.ensures.pass one (same ∙ first) (claimed_begins (sort_of g.N.Node.layout g.N.Node.ranged) g.N.Node.body me (seen_of c.args.pass.now) (seen_of c.claim_in.new.pass) c.in-Some.held t.0) in
+    returns-in-Some-clause-cost g c (subst (λ (z : ℕ). ActsAlone z (seen_of c.args.pass.now) (seen_of c.claim_in.new.pass)) (sym first) alone.0) (subst (λ (z : ℕ). HoldsAlone z (seen_of c.args.pass.now)) (sym first) alone.1)
+
+pub returns-clause-one : goal.returns-clause-one
+returns-clause-one g c = λ one first. let inv = c.loop-index.invariant in let alone = lone g c.args.self.now.callers c.loop-index.pass _ (seen_of c.args.pass.now) inv.0 one (inv.1 ∙ first) (by_others_begins c.args.pass.now.caller (seen_of c.args.pass.now) (seen_of c.loop-index.pass) inv.2.looked.grows) in
+    let cost = inv.3 (subst (λ (z : ℕ). ActsAlone z (seen_of c.args.pass.now) (seen_of c.loop-index.pass)) (sym first) alone.0) (subst (λ (z : ℕ). HoldsAlone z (seen_of c.args.pass.now)) (sym first) alone.1) in
+    let low = c.loop-index-test.false in let high = c.loop-index.auto.index-end in let many = c.div_ceil-index-end.ensures in omega arith

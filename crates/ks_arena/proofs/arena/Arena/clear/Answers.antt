@@ -27,7 +27,7 @@ after : (g : Over) (c : After-fetch_and g) → Looked (sort_of g.N.Node.layout g
 after g c = let p = c.args.pass.now in let r = c.requires.pass in let told = c.fetch_and.ensures.2 in looked _ _ _ _ p.caller (marked Quiet p.seat.me.0, p.seat.me.1) c.fetch_and.new.seat.me r.own r.carries r.slots told.1 told.0
 
 pub returns-clause-pass : goal.returns-clause-pass
-returns-clause-pass g c = let a = after g c in pass_marked _ _ _ (Claiming c.args.node) Quiet _ _ c.args.pass.now _ c.fetch_and.new.seat.me c.requires.pass refl c.fetch_and.ensures.0 refl a.follows a.carries a.slots a.sounds
+returns-clause-pass g c = let a = after g c in pass_marked _ _ _ (Claiming c.args.node) Quiet _ _ c.args.pass.now _ c.fetch_and.new.seat.me c.requires.pass refl c.fetch_and.ensures.0 refl a.follows a.carries a.slots a.sounds a.knows
 
 pub returns-clause-looked : goal.returns-clause-looked
 returns-clause-looked g c = let a = after g c in record { grows = a.grows; hand = a.hand_is; mine = a.mine_is }

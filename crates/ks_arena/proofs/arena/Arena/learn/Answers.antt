@@ -19,7 +19,7 @@ after : (g : Over) (c : After-load g) → Learned (sort_of g.N.Node.layout g.N.N
 after g c = learned (sort_of g.N.Node.layout g.N.Node.ranged) g.D.Discipline.begins g.D.Discipline.step g.N.Node.body _ _ (step c.args.self.now.table.shared.table_id.slots 0 0 0 none) c.args.pass.now c.args.note c.join_seat.new.seat.me c.load.new.seat.me refl c.requires.pass c.requires.note c.join_seat.ensures.2 c.load.ensures.2
 
 pub returns-clause-pass : goal.returns-clause-pass
-returns-clause-pass g c = let a = after g c in pass_again (sort_of g.N.Node.layout g.N.Node.ranged) g.D.Discipline.begins g.D.Discipline.step _ _ c.args.pass.now _ c.load.new.seat.me c.requires.pass refl (c.load.ensures.0 ∙ c.join_seat.ensures.0) refl a.follows a.carries a.slots a.sounds
+returns-clause-pass g c = let a = after g c in pass_again (sort_of g.N.Node.layout g.N.Node.ranged) g.D.Discipline.begins g.D.Discipline.step _ _ c.args.pass.now _ c.load.new.seat.me c.requires.pass refl (c.load.ensures.0 ∙ c.join_seat.ensures.0) refl a.follows a.carries a.slots a.sounds a.knows
 
 pub returns-clause-looked : goal.returns-clause-looked
 returns-clause-looked g c = (after g c).looked

@@ -28,7 +28,7 @@ after g c = let p = c.args.pass.now in let r = c.requires.pass in let i : ℕ = 
     let told = c.fetch_or.ensures.2 i word (one_shl (i % 64) 64 (omega arith)) in looked _ _ _ _ p.caller (marked (Freeing i) p.seat.me.0, p.seat.me.1) c.fetch_or.new.seat.me r.own r.carries r.slots told.1 told.0
 
 pub returns-clause-pass : goal.returns-clause-pass
-returns-clause-pass g c = let a = after g c in pass_marked _ _ _ Quiet (Freeing c.args.node) _ _ c.args.pass.now _ c.fetch_or.new.seat.me c.requires.pass refl c.fetch_or.ensures.0 refl a.follows a.carries a.slots a.sounds
+returns-clause-pass g c = let a = after g c in pass_marked _ _ _ Quiet (Freeing c.args.node) _ _ c.args.pass.now _ c.fetch_or.new.seat.me c.requires.pass refl c.fetch_or.ensures.0 refl a.follows a.carries a.slots a.sounds a.knows
 
 pub returns-clause-looked : goal.returns-clause-looked
 returns-clause-looked g c = let a = after g c in record { grows = a.grows; hand = a.hand_is; mine = a.mine_is }

@@ -49,7 +49,7 @@ done g c = let r = set_up g (goal.at.returns-clause-pass g c).In-None in let own
     gave_it _ _ _ _ c.args.pass.now.caller c.args.held.node c.args.held.body c.args.pass.now.seat.me c.exchange.new.seat.me c.store.new.seat.me c.requires.pass.own c.requires.pass.slots r told.0 told.1
 
 pub returns-clause-pass : goal.returns-clause-pass
-returns-clause-pass g c = let d = done g c in pass_marked _ _ _ (give_mark c.args.held.live c.args.held.node) Quiet _ _ c.args.pass.now _ c.store.new.seat.me c.requires.pass refl (c.store.ensures.0 ∙ (c.exchange.ensures.0 ∙ c.load.ensures.0)) refl d.follows d.carries d.slots d.sounds
+returns-clause-pass g c = let d = done g c in pass_marked _ _ _ (give_mark c.args.held.live c.args.held.node) Quiet _ _ c.args.pass.now _ c.store.new.seat.me c.requires.pass refl (c.store.ensures.0 ∙ (c.exchange.ensures.0 ∙ c.load.ensures.0)) refl d.follows d.carries d.slots d.sounds d.knows
 
 pub returns-clause-gave : goal.returns-clause-gave
 returns-clause-gave g c = (done g c).grows

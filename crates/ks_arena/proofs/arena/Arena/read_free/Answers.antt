@@ -24,7 +24,7 @@ after g c = let p = c.args.pass.now in let r = c.requires.pass in let word : c.a
     let told = c.load.ensures.2 p.caller c.args.index r.own r.mark word in looked _ _ _ _ p.caller p.seat.me c.load.new.seat.me r.own r.carries r.slots told.1 told.0
 
 pub returns-clause-pass : goal.returns-clause-pass
-returns-clause-pass g c = let a = after g c in pass_again _ _ _ _ _ c.args.pass.now _ c.load.new.seat.me c.requires.pass refl c.load.ensures.0 refl a.follows a.carries a.slots a.sounds
+returns-clause-pass g c = let a = after g c in pass_again _ _ _ _ _ c.args.pass.now _ c.load.new.seat.me c.requires.pass refl c.load.ensures.0 refl a.follows a.carries a.slots a.sounds a.knows
 
 pub returns-clause-looked : goal.returns-clause-looked
 returns-clause-looked g c = let a = after g c in record { grows = a.grows; hand = a.hand_is; mine = a.mine_is }

@@ -50,7 +50,7 @@ got g c = let told = (hit g c).0 c.if-found-eq1.true in let p = c.requires.pass 
     p.own (holds_not n c.args.pass.now.seat.me.0.seen c.args.pass.now.caller c.args.node c.args.pass.now.seat.me.1 p.carries p.slots c.requires.fresh) p.carries p.slots refl told.0
 
 pub returns-then-found-eq1-clause-pass : goal.returns-then-found-eq1-clause-pass
-returns-then-found-eq1-clause-pass g c = let a = got g c in pass_again _ _ _ _ _ c.args.pass.now _ (after g c) c.requires.pass refl (c.exchange.ensures.0 ∙ c.compare_exchange-found.ensures.0) (final g c) a.follows a.carries a.slots a.sounds
+returns-then-found-eq1-clause-pass g c = let a = got g c in pass_again _ _ _ _ _ c.args.pass.now _ (after g c) c.requires.pass refl (c.exchange.ensures.0 ∙ c.compare_exchange-found.ensures.0) (final g c) a.follows a.carries a.slots a.sounds a.knows
 
 pub returns-then-found-eq1-clause-took : goal.returns-then-found-eq1-clause-took
 returns-then-found-eq1-clause-took g c = let told = (hit g c).0 c.if-found-eq1.true in let a = got g c in let v : c.exchange.new.seat.me.0 ≡ c.compare_exchange-found.new.seat.me.0 = ap (λ (z : Seated g.row.N.Denot). z.0) (final g c) in
@@ -76,7 +76,7 @@ then_missed : (g : Over) (c : Then-found-eq0 g) → Looked (sort_of g.N.Node.lay
 then_missed g c = let told = (c.compare_exchange-found.ensures.2 c.args.pass.now.caller c.args.node c.requires.pass.own refl).1 c.if-found-eq1.false in let p = c.requires.pass in looked _ _ _ _ c.args.pass.now.caller c.args.pass.now.seat.me c.compare_exchange-found.new.seat.me p.own p.carries p.slots told.1 told.0
 
 pub returns-then-found-eq0-clause-pass : goal.returns-then-found-eq0-clause-pass
-returns-then-found-eq0-clause-pass g c = let a = then_missed g c in pass_again _ _ _ _ _ c.args.pass.now _ c.compare_exchange-found.new.seat.me c.requires.pass refl c.compare_exchange-found.ensures.0 refl a.follows a.carries a.slots a.sounds
+returns-then-found-eq0-clause-pass g c = let a = then_missed g c in pass_again _ _ _ _ _ c.args.pass.now _ c.compare_exchange-found.new.seat.me c.requires.pass refl c.compare_exchange-found.ensures.0 refl a.follows a.carries a.slots a.sounds a.knows
 
 pub returns-then-found-eq0-clause-took : goal.returns-then-found-eq0-clause-took
 returns-then-found-eq0-clause-took g c = let a = then_missed g c in let told = (c.compare_exchange-found.ensures.2 c.args.pass.now.caller c.args.node c.requires.pass.own refl).1 c.if-found-eq1.false in (record { grows = a.grows; hand = a.hand_is; mine = a.mine_is }, word_free _ (sym told.2 ∙ c.if-found-eq0.true))
@@ -88,7 +88,7 @@ else_missed : (g : Over) (c : Else-found-eq0 g) → Looked (sort_of g.N.Node.lay
 else_missed g c = let told = (c.compare_exchange-found.ensures.2 c.args.pass.now.caller c.args.node c.requires.pass.own refl).1 c.if-found-eq1.false in let p = c.requires.pass in looked _ _ _ _ c.args.pass.now.caller c.args.pass.now.seat.me c.compare_exchange-found.new.seat.me p.own p.carries p.slots told.1 told.0
 
 pub returns-else-found-eq0-clause-pass : goal.returns-else-found-eq0-clause-pass
-returns-else-found-eq0-clause-pass g c = let a = else_missed g c in pass_again _ _ _ _ _ c.args.pass.now _ c.compare_exchange-found.new.seat.me c.requires.pass refl c.compare_exchange-found.ensures.0 refl a.follows a.carries a.slots a.sounds
+returns-else-found-eq0-clause-pass g c = let a = else_missed g c in pass_again _ _ _ _ _ c.args.pass.now _ c.compare_exchange-found.new.seat.me c.requires.pass refl c.compare_exchange-found.ensures.0 refl a.follows a.carries a.slots a.sounds a.knows
 
 pub returns-else-found-eq0-clause-took : goal.returns-else-found-eq0-clause-took
 returns-else-found-eq0-clause-took g c = let a = else_missed g c in let told = (c.compare_exchange-found.ensures.2 c.args.pass.now.caller c.args.node c.requires.pass.own refl).1 c.if-found-eq1.false in (record { grows = a.grows; hand = a.hand_is; mine = a.mine_is }, word_other _ _ told.2 c.if-found-eq1.false c.if-found-eq0.false)
