@@ -20,8 +20,9 @@ use std::alloc::{AllocError, Global};
 fn edges_in<N: Node>(alloc: Global, body: &N) -> Result<Vec<Edge>, AllocError>
     ensures { IfOk result (λ edges. edges.items ≡ edges_of (N.body body.now)) }
 {
-    let mut edges = Vec::new(alloc);
-    for n in 0..body.edges_held() {
+    let held = body.edges_held();
+    let mut edges = Vec::with_capacity(alloc, held as usize)?;
+    for n in 0..held {
         edges.push(body.edge_at(n))?;
     }
     Ok(edges)
@@ -31,8 +32,9 @@ fn edges_in<N: Node>(alloc: Global, body: &N) -> Result<Vec<Edge>, AllocError>
 fn pairs_in<N: Node>(alloc: Global, body: &N) -> Result<Vec<Pair>, AllocError>
     ensures { IfOk result (λ pairs. pairs.items ≡ (N.body body.now).pairs) }
 {
-    let mut pairs = Vec::new(alloc);
-    for n in 0..body.pairs_held() {
+    let held = body.pairs_held();
+    let mut pairs = Vec::with_capacity(alloc, held as usize)?;
+    for n in 0..held {
         pairs.push(body.pair_at(n))?;
     }
     Ok(pairs)
@@ -111,8 +113,9 @@ impl<N: Node> Run<N> {
         ensures nodes { (nodes : ℕ) → IsRun (sort_of N.layout N.ranged) N.body nodes self.now → IfOk result (λ graph. length graph ≡ nodes) }
         ensures states { IfOk result (λ graph. (node : ℕ) → graph_of graph node ≡ graph_after (trace_of self.now) node) }
     {
-        let mut nodes = Vec::new(alloc);
-        for node in 0..self.remains.closed.slot_count() {
+        let count = self.remains.closed.slot_count();
+        let mut nodes = Vec::with_capacity(alloc, count)?;
+        for node in 0..count {
             nodes.push(self.state(alloc, node)?)?;
         }
         Ok(Graph { nodes })
