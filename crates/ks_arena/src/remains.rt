@@ -9,6 +9,7 @@ use std::alloc::Global;
 pub struct Remains<N> {
     pub(crate) closed: Closed<Option<N>, Global>,
     ghost full: { IsFull closed.words × IsFull closed.slots } by { Prim.hlevel props },
+    // the two counts, and a turn word for each node
     ghost wide: { slots_len closed.slots + 2 ≤ slots_len closed.words },
 }
 
