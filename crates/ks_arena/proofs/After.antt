@@ -223,7 +223,7 @@ module _ {N : Type 0} (sort : Sort) (begins : Frame → Type 0) (asks : (ℕ →
     -- a node that c has just claimed it did not hold
     pub claim_fresh : (i : ℕ) (me m : Seated N) → me.0.callers ≡ c ∷ [] → Makes (Sound sort begins asks n) (Claim c i) me.0 m.0 → ¬ (turn_after me.0.seen i ≡ held c)
     claim_fresh i me m own so mine_is = let e : Event = Claim c i in let grows : GrowsWith c e me.0.seen m.0.seen = makes_grows (Sound sort begins asks n) e me.0 m.0 c own so in let h : List Event = grows.rest ++ me.0.seen in
-        let all : Sound sort begins asks n (e ∷ h) = subst (Sound sort begins asks n) grows.is so.sound in let k = by_others_keeps c i me.0.seen h (with_others c e me.0.seen m.0.seen grows) (are_in_turn sort begins asks n h all.0) mine_is in let x : free ≡ held c = sym all.1 ∙ k.turn in (cc)
+        let all : Sound sort begins asks n (e ∷ h) = subst (Sound sort begins asks n) grows.is so.sound in let k = by_others_keeps c i me.0.seen h (with_others c e me.0.seen m.0.seen grows) (are_in_turn sort begins asks n h all.0) mine_is in let x : free ≡ held c = sym all.1.0 ∙ k.turn in (cc)
 
     -- the slot of node i is on top, with a body back in it
     pub record Ready (i : ℕ) (b : N) (me m : Seated N) : Type 0 where

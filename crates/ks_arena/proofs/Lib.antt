@@ -10,3 +10,5 @@ pub mod Crew
 pub mod Closing
 pub mod Tries
 pub mod Learning
+pub mod Beyond
+pub mod Entries

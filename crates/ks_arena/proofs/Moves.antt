@@ -144,11 +144,11 @@ module _ {N : Type 0} (sort : Sort) (begins : Frame → Type 0) (asks : (ℕ →
         with_seen (marked (Claiming i) me.0) (e ∷ h),
         takes i (Some b.0),
         b.1,
-        turns_at sort begins asks shows s r id me.0 (Claiming i) e i (c + 2) none at (has_one me.0.callers c mine) small near' is refl refl (λ j ne. (cond_else j i (held c) (turn_after h j) ne, cond_else j i (Claimed c) (graph_after h j) ne, refl)) (ap turn_word (sym here))
+        turns_at sort begins asks shows s r id me.0 (Claiming i) e i (c + 2) none at (has_one me.0.callers c mine) small near' (is, near') refl refl (λ j ne. (cond_else j i (held c) (turn_after h j) ne, cond_else j i (Claimed c) (graph_after h j) ne, refl)) (ap turn_word (sym here))
             (subst (λ (z : Turn). Rests sort shows (graph_after (e ∷ h) i) (frame_after (blank_of sort) h i) z (some none)) (sym here) refl)
             (turn_bits h e s.views id me.0 (Claiming i) (length s.homes) s.words i (c + 2) r.bits at near' (λ j ne. cond_else j i (held c) (turn_after h j) ne) (unnamed me.0.mark i quiet) (λ j m. sym m) (λ j u ne there m. free_unmarked s r i is (j, u, there, m)) (λ m. (c, has_one me.0.callers c mine, here)) (inl (inl is, inr refl))),
         λ d j own at'. let p = same_pair me.0.callers c d i j mine own at' in subst (λ (z : ℕ × ℕ). ClaimedAt sort begins asks shows n z.0 z.1 me y (with_seen (marked (Claiming i) me.0) (e ∷ h), (i, Some b.0) ∷ me.1)) (λ k. (p.0 k, p.1 k))
-            (λ _. (makes_marked n s r id me.0 (Claiming i) e long at (has_one me.0.callers c mine) is, (b.0, refl, b.2)), λ miss. absurd (miss hit)),
+            (λ _. (makes_marked n s r id me.0 (Claiming i) e long at (has_one me.0.callers c mine) (is, near'), (b.0, refl, b.2)), λ miss. absurd (miss hit)),
       ))
       (λ miss. (
         with_seen me.0 h,

@@ -59,7 +59,7 @@ module _ (sort : Sort) (begins : Frame → Type 0) (asks : (ℕ → NodeState) �
   pub is_in_turn : (h : List Event) (e : Event) → StepsSoundly sort begins asks nodes h e → IsInTurn h e
   is_in_turn h (Take c j) so = so
   is_in_turn h (Give c j) so = so
-  is_in_turn h (Claim c j) so = so
+  is_in_turn h (Claim c j) so = so.0
   is_in_turn h (Shape c xs) so = so.0
   is_in_turn h (Call c j o y) so = so.0.0
 

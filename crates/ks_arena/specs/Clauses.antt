@@ -1,5 +1,5 @@
 -- What the calls of the arena ask and tell.
-use Rattle.std.specs.Prelude.{map, length, slice_index, ◌≡◌, ◌≢◌, ℕ, ◌+◌, ◌*◌, ◌/◌, ◌%◌, ◌^◌, ◌<◌, ◌==◌, if◌then◌else◌, List, [], ◌∷◌, ◌++◌, Option, Some, None, Bool, true, false, All, AllPairs}
+use Rattle.std.specs.Prelude.{map, length, slice_index, ◌≡◌, ◌≢◌, ℕ, ◌+◌, ◌*◌, ◌/◌, ◌%◌, ◌^◌, ◌<◌, ◌≤◌, ◌==◌, if◌then◌else◌, List, [], ◌∷◌, ◌++◌, Option, Some, None, Bool, true, false, All, AllPairs}
 use mathlib.Core.Option.{some}
 use lib.ListN.{get_elem?}
 use denote.Bor.{Bor}
@@ -292,8 +292,8 @@ trace_in t = seen_first t.badge.views
 abbrev pub trace_of : {N : Type 0} → Run N → List Event
 trace_of r = trace_in r.trace
 
--- a run over so many nodes that has ended: its trace is lawful, with a good graph throughout, each Full was due, and
--- the words and bodies are those after the trace
+-- a run over so many nodes that has ended: its trace is lawful, with a good graph throughout, each Full was due, the
+-- words and bodies are those after the trace, and no other node was ever used
 module _ {N : Type 0} (sort : Sort) (shows : N → Body) where
   pub record IsRun (nodes : ℕ) (r : Run N) : Type 0 where
     pub lawful : Lawful (trace_of r)
@@ -303,3 +303,4 @@ module _ {N : Type 0} (sort : Sort) (shows : N → Body) where
     pub count : slice_index (slots_items r.remains.closed.words) 0 ≡ number_after (trace_of r)
     pub turns : (i : ℕ) → i < nodes → slice_index (slots_items r.remains.closed.words) (i + 2) ≡ turn_word (turn_after (trace_of r) i)
     pub ends : (i : ℕ) → i < nodes → Ends sort shows (graph_after (trace_of r) i) (frame_after (blank_of sort) (trace_of r) i) (turn_after (trace_of r) i) (get_elem? (slots_items r.remains.closed.slots) i)
+    pub beyond : (i : ℕ) → nodes ≤ i → graph_after (trace_of r) i ≡ Free

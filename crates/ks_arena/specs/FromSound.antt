@@ -313,7 +313,7 @@ module _ (sort : Sort) {begins : Frame → Type 0} {facts : (ℕ → NodeState) 
   in_turn : (h : List Event) (e : Event) → StepsSoundly sort begins asks nodes h e → IsInTurn h e
   in_turn h (Take c j) so = so
   in_turn h (Give c j) so = so
-  in_turn h (Claim c j) so = so
+  in_turn h (Claim c j) so = so.0
   in_turn h (Shape c xs) so = so.0
   in_turn h (Call c j o y) so = so.0.0
 
@@ -333,7 +333,7 @@ module _ (sort : Sort) {begins : Frame → Type 0} {facts : (ℕ → NodeState) 
   fine [] so = record { lawful = tt; good = at_opening good_opening; facts_now = laws.opens (blank_of sort) so; turns = tt }
   fine (Take c i ∷ h) so = fine_records h (Take c i) tt (fine h so.0) so.1 refl so.1 (λ n. refl)
   fine (Give c i ∷ h) so = fine_records h (Give c i) tt (fine h so.0) so.1 refl so.1 (give_records c i h)
-  fine (Claim c i ∷ h) so = let f = fine h so.0 in fine_records h (Claim c i) tt f so.1 refl so.1 (claim_records c i h ((rested h f.turns i).free_is so.1))
+  fine (Claim c i ∷ h) so = let f = fine h so.0 in fine_records h (Claim c i) tt f so.1.0 refl so.1.0 (claim_records c i h ((rested h f.turns i).free_is so.1.0))
   fine (Shape c changes ∷ h) so = let f = fine h so.0 in let g : ℕ → NodeState = graph_after h in let fr : ℕ → Frame = frame_after (blank_of sort) h in let step = so.1 in record {
     lawful = (f.lawful, (step.0, step.1, laws.found g fr changes (good_now f.good) step.2));
     good = and_then f.good (laws.good g fr changes (good_now f.good) step.2);

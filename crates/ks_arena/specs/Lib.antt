@@ -3,3 +3,4 @@ pub mod Rule
 pub mod Plays
 pub mod Clauses
 pub mod FromSound
+pub mod Ended

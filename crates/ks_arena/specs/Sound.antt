@@ -1,5 +1,5 @@
 -- Sound traces: each event of one meets its condition, and each shape that of the discipline.
-use Rattle.std.specs.Prelude.{ℕ, ◌≡◌, Bool, List, [], ◌∷◌, All, AllPairs}
+use Rattle.std.specs.Prelude.{ℕ, ◌≡◌, ◌<◌, Bool, List, [], ◌∷◌, All, AllPairs}
 use Rattle.ks_keysets.specs.declared.Frame.{Frame}
 use Rattle.ks_keysets.specs.declared.NodeState.{NodeState}
 use Rattle.ks_keysets.specs.declared.Change.{Change}
@@ -26,12 +26,12 @@ abbrev pub blank_of : Sort → Frame
 blank_of sort = frame_of (blank_body sort.ranged)
 
 module _ (sort : Sort) (begins : Frame → Type 0) (asks : (ℕ → NodeState) → (ℕ → Frame) → List Change → Type 0) (nodes : ℕ) where
-  -- the condition of an event in the state after the trace h: a shape names nodes that its caller holds, each once, as
-  -- the discipline asks; the reply Full is due
+  -- the condition of an event in the state after the trace h: a claim names one of the nodes; a shape names nodes that
+  -- its caller holds, each once, as the discipline asks; the reply Full is due
   abbrev pub StepsSoundly : List Event → Event → Type 0
   StepsSoundly h (Take c i) = Meets h (Take c i)
   StepsSoundly h (Give c i) = Meets h (Give c i)
-  StepsSoundly h (Claim c i) = Meets h (Claim c i)
+  StepsSoundly h (Claim c i) = Meets h (Claim c i) × (i < nodes)
   StepsSoundly h (Shape c changes) =
       All (λ x. turn_after h x.node ≡ held c) changes
       × AllPairs (λ x y. x.node ≡ y.node → ⊥) changes

@@ -7,6 +7,7 @@
 
 mod arena;
 mod claim;
+mod ended;
 mod fit;
 mod held;
 pub mod laws;

@@ -1,5 +1,5 @@
 //! The words and the bodies of an arena that has ended.
-ghost use Rattle.std.specs.Prelude.{◌<◌};
+ghost use Rattle.std.specs.Prelude.{◌+◌, ◌≤◌};
 ghost use Rattle.std.specs.Slots.{IsFull, slots_len};
 ghost use Rattle.std.proofs.Props.{props};
 
@@ -9,7 +9,8 @@ use std::alloc::Global;
 pub struct Remains<N> {
     pub(crate) closed: Closed<Option<N>, Global>,
     ghost full: { IsFull closed.words × IsFull closed.slots } by { Prim.hlevel props },
-    ghost some: { 0 < slots_len closed.words },
+    // the two counts, and a turn word for each node
+    ghost wide: { slots_len closed.slots + 2 ≤ slots_len closed.words },
 }
 
 impl<N: Drop> Drop for Remains<N> {

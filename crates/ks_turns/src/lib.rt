@@ -119,4 +119,6 @@ pub fn both<R: Threads + Wait + Sync>(
 }
 
 #[cfg(test)]
+mod ended;
+#[cfg(test)]
 mod tests;

@@ -24,7 +24,7 @@ told g c = subst (λ (z : ℕ). DidClaimIn (sort_of g.N.Node.layout g.N.Node.ran
 not_root : (g : Over) (c : In-Some g) → c.in-Some.held.node ≢ 0
 not_root g c = λ z. let so = (told g c).0 in let me : ℕ = c.args.pass.now.caller in let i : ℕ = c.in-Some.held.node in let sort = sort_of g.N.Node.layout g.N.Node.ranged in let n : ℕ = c.args.self.now.table.shared.table_id.slots in let before : List Event = so.grows.rest ++ seen_of c.loop-index.pass in
     let all = subst (Sound sort g.D.Discipline.begins g.D.Discipline.step n) so.grows.is (c.sound_law.ensures.begins sort n so.moment (seen_of c.claim_in.new.pass) (by_others_begins me so.moment (seen_of c.claim_in.new.pass) so.since) c.in-Some.ensures.pass.sound) in
-    root_taken before (c.sound_law.ensures.lawful sort n before all.0) (c.sound_law.ensures.good sort n before all.0) (subst (λ (j : ℕ). turn_after before j ≡ free) z all.1)
+    root_taken before (c.sound_law.ensures.lawful sort n before all.0) (c.sound_law.ensures.good sort n before all.0) (subst (λ (j : ℕ). turn_after before j ≡ free) z all.1.0)
 
 pub returns-in-Some-clause-claimed : goal.returns-in-Some-clause-claimed
 returns-in-Some-clause-claimed g c = did_claim (sort_of g.N.Node.layout g.N.Node.ranged) g.N.Node.body c.args.self.now.nodes c.loop-index.index c.args.pass.now.caller (seen_of c.args.pass.now) (seen_of c.loop-index.pass) (seen_of c.claim_in.new.pass) c.in-Some.held c.loop-index.invariant.2 (told g c) (not_root g c)

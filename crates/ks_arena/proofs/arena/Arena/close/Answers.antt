@@ -1,4 +1,4 @@
-use Rattle.std.proofs.Common.{rules, arith, ◌≡◌, ℕ, ◌<◌, List, length, [], sym, ap, ◌∙◌, subst, refl}
+use Rattle.std.proofs.Common.{rules, arith, ◌≡◌, ℕ, ◌<◌, ◌≤◌, List, length, [], sym, ap, ◌∙◌, subst, refl}
 use Rattle.std.specs.Slots.{slots_items}
 use mathlib.Core.Option.{none}
 use Rattle.atomic_table.specs.Table.{Final, Seen, step}
@@ -12,6 +12,7 @@ use Rattle.ks_arena.specs.Clauses.{seen_first, EndsAll}
 use Rattle.ks_arena.specs.declared.view.View.{View}
 use Rattle.ks_arena.specs.Sound.{sort_of, blank_of, Sound}
 use Rattle.ks_arena.specs.Rule.{Running, Closes, Ends, turn_word, note_view}
+use Rattle.ks_arena.proofs.Beyond.{free_beyond}
 use Rattle.ks_arena.proofs.Crew.{joins_ok, gathers_ok, notes_ok, closes, closes_below}
 use Rattle.ks_arena.proofs.Closing.{Joining, begins_joining, takes_in, emptied, Ended, ended, next_in}
 use Rattle.ks_arena.proofs.arena.Arena.close.Given.{Over}
@@ -58,6 +59,7 @@ returns-clause-run g c = let e = ends g c in let v = c.load.new.seat.me.0.seen i
   count = e.count ∙ ap number_after t;
   turns = λ i near. e.turns i (subst (λ (z : ℕ). i < z) (sym same) near) ∙ ap (λ (z : List Event). turn_word (turn_after z i)) t;
   ends = λ i near. subst (λ (z : List Event). Ends (sort_of g.N.Node.layout g.N.Node.ranged) g.N.Node.body (graph_after z i) (frame_after (blank_of (sort_of g.N.Node.layout g.N.Node.ranged)) z i) (turn_after z i) (get_elem? (slots_items c.close_with.result.slots) i)) t (e.ends i (subst (λ (z : ℕ). i < z) (sym same) near));
+  beyond = λ i far. let some : 0 < c.args.self.nodes = c.args.self.sized.2 in ap (λ (z : List Event). graph_after z i) (sym t) ∙ free_beyond (sort_of g.N.Node.layout g.N.Node.ranged) g.D.Discipline.begins g.D.Discipline.step n (subst (λ (z : ℕ). 0 < z) (sym same) some) v e.sound i (subst (λ (z : ℕ). z ≤ i) (sym same) far);
 }
 
 pub returns-clause-sound : goal.returns-clause-sound
