@@ -8,10 +8,13 @@ ghost use Rattle.ks_history.specs.Passes.{Has};
 ghost use Rattle.ks_keysets.specs.Layout.{list_layout};
 ghost use Rattle.ks_arena.specs.Clauses.{IsPass, hand_of};
 
+mod puts;
+
 use ks_arena::{Arena, Pass, Taken};
 use ks_flow::{Discipline, Tree};
 use ks_list::ListNode;
 use ks_node::Node;
+pub use puts::{PutOutcome, put_at_root};
 use std::sync::Wait;
 use std::thread::{Threads, join};
 
