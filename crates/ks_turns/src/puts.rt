@@ -1,17 +1,21 @@
 //! A layer that decides: puts at node 0.
 ghost use Rattle.std.specs.Prelude.{◌≡◌, ◌++◌, [], false};
+ghost use Rattle.ks_flow.specs.Discipline.{BeginsTree, TreeStep};
+ghost use Rattle.ks_keysets.specs.Layout.{list_layout};
 ghost use Rattle.ks_history.specs.Map.{told};
 ghost use Rattle.ks_arena.specs.Sound.{sort_of};
 ghost use Rattle.ks_history.specs.Trace.{calls_by};
 ghost use Rattle.ks_arena.specs.Clauses.{IsPass, hand_of, mine_of, seen_of};
-ghost use Rattle.ks_turns.specs.Puts.{put_events, put_calls, IsPutDue};
+ghost use Rattle.ks_turns.specs.Puts.{put_events, put_calls, IsPutDue, calls_from};
 
 use ks_arena::laws::sound_law;
 use ks_arena::{Arena, Pass};
-use ks_flow::Discipline;
+use ks_flow::{Discipline, Tree};
 use ks_history::{Op, Reply};
+use ks_list::ListNode;
 use ks_node::{Next, Node, node_law};
 use std::sync::Wait;
+use std::thread::{Threads, join};
 
 /// What a put at node 0 came to.
 #[derive(Clone, Copy, Debug, PartialEq, Eq)]
@@ -68,4 +72,55 @@ pub fn put_at_root<N: Node, D: Discipline, R: Wait>(
     let number = arena.decide(pass, &held, Op::Put(place, value), reply_of(old));
     arena.give(pass, held);
     PutOutcome::Decided { number, old }
+}
+
+/// Puts four values at node 0, at every other place from the caller's number on: each value is its place.
+pub fn put_four<R: Wait>(
+    rt: &R,
+    arena: &Arena<ListNode, Tree>,
+    mut pass: Pass<ListNode, Tree>,
+) -> (Pass<ListNode, Tree>, [PutOutcome; 4])
+    requires { IsPass (sort_of list_layout false) BeginsTree TreeStep arena.now.table.shared.table_id arena.now.callers pass × (hand_of pass ≡ []) }
+    ensures pass { IsPass (sort_of list_layout false) BeginsTree TreeStep arena.now.table.shared.table_id arena.now.callers result.0 × (hand_of result.0 ≡ []) }
+    ensures caller { result.0.caller ≡ pass.caller }
+    ensures calls { calls_by pass.caller (seen_of result.0) ≡ calls_by pass.caller (seen_of pass) ++ calls_from pass.caller result.1 }
+{
+    let at = u64::from(pass.caller());
+    let first = put_at_root(rt, arena, &mut pass, at, u128::from(at));
+    let second = put_at_root(rt, arena, &mut pass, at + 2, u128::from(at + 2));
+    let third = put_at_root(rt, arena, &mut pass, at + 4, u128::from(at + 4));
+    let fourth = put_at_root(rt, arena, &mut pass, at + 6, u128::from(at + 6));
+    (pass, [first, second, third, fourth])
+}
+
+/// Both callers put their four values at once.
+pub fn both_put<R: Threads + Wait + Sync>(
+    rt: &R,
+    arena: &Arena<ListNode, Tree>,
+    one: Pass<ListNode, Tree>,
+    two: Pass<ListNode, Tree>,
+) -> (
+    (Pass<ListNode, Tree>, [PutOutcome; 4]),
+    (Pass<ListNode, Tree>, [PutOutcome; 4]),
+)
+    requires one { IsPass (sort_of list_layout false) BeginsTree TreeStep arena.now.table.shared.table_id arena.now.callers one × (hand_of one ≡ []) }
+    requires two { IsPass (sort_of list_layout false) BeginsTree TreeStep arena.now.table.shared.table_id arena.now.callers two × (hand_of two ≡ []) }
+    ensures one { IsPass (sort_of list_layout false) BeginsTree TreeStep arena.now.table.shared.table_id arena.now.callers result.0.0 × (hand_of result.0.0 ≡ []) × (result.0.0.caller ≡ one.caller) }
+    ensures two { IsPass (sort_of list_layout false) BeginsTree TreeStep arena.now.table.shared.table_id arena.now.callers result.1.0 × (hand_of result.1.0 ≡ []) × (result.1.0.caller ≡ two.caller) }
+    ensures calls_of_one { calls_by one.caller (seen_of result.0.0) ≡ calls_by one.caller (seen_of one) ++ calls_from one.caller result.0.1 }
+    ensures calls_of_two { calls_by two.caller (seen_of result.1.0) ≡ calls_by two.caller (seen_of two) ++ calls_from two.caller result.1.1 }
+{
+    join(
+        rt,
+        move || -> (Pass<ListNode, Tree>, [PutOutcome; 4])
+            requires { IsPass (sort_of list_layout false) BeginsTree TreeStep arena.now.table.shared.table_id arena.now.callers one × (hand_of one ≡ []) }
+            ensures pass { IsPass (sort_of list_layout false) BeginsTree TreeStep arena.entry.now.table.shared.table_id arena.entry.now.callers result.0 × (hand_of result.0 ≡ []) × (result.0.caller ≡ one.caller) }
+            ensures calls { calls_by one.caller (seen_of result.0) ≡ calls_by one.caller (seen_of one) ++ calls_from one.caller result.1 }
+        { put_four(rt, arena, one) },
+        move || -> (Pass<ListNode, Tree>, [PutOutcome; 4])
+            requires { IsPass (sort_of list_layout false) BeginsTree TreeStep arena.now.table.shared.table_id arena.now.callers two × (hand_of two ≡ []) }
+            ensures pass { IsPass (sort_of list_layout false) BeginsTree TreeStep arena.entry.now.table.shared.table_id arena.entry.now.callers result.0 × (hand_of result.0 ≡ []) × (result.0.caller ≡ two.caller) }
+            ensures calls { calls_by two.caller (seen_of result.0) ≡ calls_by two.caller (seen_of two) ++ calls_from two.caller result.1 }
+        { put_four(rt, arena, two) },
+    )
 }
