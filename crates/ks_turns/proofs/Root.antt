@@ -44,7 +44,7 @@ use Rattle.ks_node.specs.Puts.{value_first, put_none, put_here, put_before, put_
 use Rattle.ks_node.specs.Ways.{here_stays, below_own, next_leads}
 use Rattle.ks_arena.specs.declared.held.Held.{Held as Hand}
 use Rattle.ks_arena.specs.Sound.{Sort, blank_of}
-use Rattle.ks_arena.specs.Clauses.{Matches, MatchesIf, Numbered, IsReady}
+use Rattle.ks_arena.specs.Clauses.{Matches, MatchesIf, Numbered, IsReady, HasTaken}
 use Rattle.ks_arena.specs.FromSound.{live_not_free}
 
 -- what a put makes of ascending pairs is what its call writes
@@ -108,8 +108,8 @@ module _ (b : Body) (p : ℕ) (s : InOrder (content_of b)) (none : b.range ≡ N
       by_kind true e = absurd (covers b.starts (s.branch_covers e) ends_below_own)
 
 -- node 0 is never free
-pub root_not_free : (h : List Event) → Lawful h → GoodThroughout h → turn_after h 0 ≡ free → ⊥
-root_not_free h lawful good = live_not_free h 0 (lawful_in_turn h lawful) (good_now good).root
+pub root_not_free : {h : List Event} → Lawful h → GoodThroughout h → turn_after h 0 ≡ free → ⊥
+root_not_free {h} lawful good = live_not_free h 0 (lawful_in_turn h lawful) (good_now good).root
 
 taken_turn : (c : ℕ) (h k : List Event) → GrowsWith c (Take c 0) h k → turn_after k 0 ≡ held c
 taken_turn c h k grows = ap (λ (z : List Event). turn_after z 0) grows.is ∙ cond_here 0 0 (held c) (turn_after (grows.rest ++ h) 0) refl
@@ -125,71 +125,82 @@ told_sets : (p v : ℕ) (old : Option ℕ) → written (Put p v) (told old) ≡ 
 told_sets p v None = refl
 told_sets p v (Some w) = refl
 
-module _ {N : Type 0} (sort : Sort) (shows : N → Body) where
+-- a take and a give leave the calls of their caller
+took_calls : {c i : ℕ} {h k : List Event} → GrowsWith c (Take c i) h k → calls_by c k ≡ calls_by c h
+took_calls {c} {i} {h} {k} grows = ap (calls_by c) grows.is ∙ calls_kept grows.rest h c (none_no_call c grows.rest grows.others)
+
+gave_calls : {c i : ℕ} {h k : List Event} → GrowsWith c (Give c i) h k → calls_by c k ≡ calls_by c h
+gave_calls {c} {i} {h} {k} grows = ap (calls_by c) grows.is ∙ calls_kept grows.rest h c (none_no_call c grows.rest grows.others)
+
+-- a search for the place ends at the body
+pub record EndsHere (b : Body) (p : ℕ) : Type 0 where
+  pub order : InOrder (content_of b)
+  pub place : p ≤ top
+  pub here : next_at b p ≡ Here
+
+module _ {N : Type 0} {sort : Sort} {shows : N → Body} where
   shown : (k : List Event) (x : Hand N) → x.node ≡ 0 → x.live ≡ true → Matches sort shows k x →
       (graph_after k 0 ≡ Live (record_of (shows x.body))) × (frame_after (blank_of sort) k 0 ≡ frame_of (shows x.body))
   shown k x root live so = subst (λ (i : ℕ). (graph_after k i ≡ Live (record_of (shows x.body))) × (frame_after (blank_of sort) k i ≡ frame_of (shows x.body))) root
       (subst (λ (l : Bool). MatchesIf sort shows l (graph_after k x.node) (frame_after (blank_of sort) k x.node) x.body) live so.is)
 
-  -- c has taken node 0, whose search ends here for the place, and has put the value into its body: the call is ready
-  module _ (nodes c d p v : ℕ) (h k : List Event) (x y : Hand N) (old : Option ℕ) (reply : Reply)
-      (grows : GrowsWith c (Take c 0) h k) (same : d ≡ c) (tells : reply ≡ told old) (root : x.node ≡ 0) (live : x.live ≡ true) (so : Matches sort shows k x)
-      (order : InOrder (content_of (shows x.body))) (place : p ≤ top) (here : next_at (shows x.body) p ≡ Here) (was : old ≡ value_at (shows x.body).pairs p)
-      (node : y.node ≡ x.node) (lives : y.live ≡ x.live) (body : shows y.body ≡ with_pairs (shows x.body) (pairs_put p v (shows x.body).pairs)) where
-    is_live : graph_after k 0 ≡ Live (record_of (shows x.body))
-    is_live = (shown k x root live so).0
+  -- c has taken node 0, where the search for the place ends, and has put the value into its body: the call is ready
+  pub put_ready : {nodes c d p v : ℕ} {h k : List Event} {x y : Hand N} {old : Option ℕ} {reply : Reply} → HasTaken sort shows c 0 h k x → d ≡ c → reply ≡ told old → EndsHere (shows x.body) p →
+      old ≡ value_at (shows x.body).pairs p → y.node ≡ x.node → y.live ≡ x.live → shows y.body ≡ with_pairs (shows x.body) (pairs_put p v (shows x.body).pairs) → IsReady sort shows nodes d k y (Put p v) reply
+  put_ready {nodes} {c} {d} {p} {v} {h} {k} {x} {y} {old} {reply} took same tells ends was node lives body =
+      subst (λ (e : ℕ). IsReady sort shows nodes e k y (Put p v) reply) (sym same) (subst (IsReady sort shows nodes c k y (Put p v)) (sym tells) (record {
+        live = lives ∙ took.live;
+        meets = subst (λ (i : ℕ). Meets k (Call c i (Put p v) (told old))) zero_is meets;
+        due = told_due sort.layout nodes c y.node p v k old;
+        state = subst (λ (i : ℕ). state_with (written (Put p v) (told old)) (graph_after k i) ≡ Live (record_of (shows y.body))) zero_is writes;
+        frame = subst (λ (i : ℕ). frame_after (blank_of sort) k i ≡ frame_of (shows y.body)) zero_is ((shown k x took.node took.live took.matches).1 ∙ sym (ap frame_of body));
+      }))
+    where
+      zero_is : 0 ≡ y.node
+      zero_is = sym (node ∙ took.node)
 
-    in_keyset : InKeyset (graph_after k) 0 p
-    in_keyset = (
-      (place, at_root (record_of (shows x.body), ap live_record is_live)),
-      (λ out. let same : Some (record_of (shows x.body)) ≡ Some out.0 = sym (ap live_record is_live) ∙ out.1 in
-          let is : record_of (shows x.body) ≡ out.0 = cc in
-          here_stays (shows x.body) p order here (subst (λ (r : Record). LeadsOn r p) (sym is) out.2)),
-    )
+      is_live : graph_after k 0 ≡ Live (record_of (shows x.body))
+      is_live = (shown k x took.node took.live took.matches).0
 
-    answers : told old ≡ told (found_at (graph_after k) 0 p)
-    answers = ap told (was ∙ sym (value_first (shows x.body).pairs p) ∙ sym (ap (λ (s : NodeState). value_in (live_record s) p) is_live))
+      in_keyset : InKeyset (graph_after k) 0 p
+      in_keyset = (
+        (ends.place, at_root (record_of (shows x.body), ap live_record is_live)),
+        (λ out. let same : Some (record_of (shows x.body)) ≡ Some out.0 = sym (ap live_record is_live) ∙ out.1 in
+            let is : record_of (shows x.body) ≡ out.0 = cc in
+            here_stays (shows x.body) p ends.order ends.here (subst (λ (r : Record). LeadsOn r p) (sym is) out.2)),
+      )
 
-    meets : Meets k (Call c 0 (Put p v) (told old))
-    meets = (taken_turn c h k grows, (λ q t. subst (InKeyset (graph_after k) 0) (sym t) in_keyset), inl answers)
+      answers : told old ≡ told (found_at (graph_after k) 0 p)
+      answers = ap told (was ∙ sym (value_first (shows x.body).pairs p) ∙ sym (ap (λ (s : NodeState). value_in (live_record s) p) is_live))
 
-    writes : state_with (written (Put p v) (told old)) (graph_after k 0) ≡ Live (record_of (shows y.body))
-    writes = rw (told_sets p v old, is_live, body, put_sets p v (shows x.body).pairs order.pairs_ascend) refl
+      meets : Meets k (Call c 0 (Put p v) (told old))
+      meets = (taken_turn c h k took.grows, (λ q t. subst (InKeyset (graph_after k) 0) (sym t) in_keyset), inl answers)
 
-    pub put_ready : IsReady sort shows nodes d k y (Put p v) reply
-    put_ready =
-        let zero_is : 0 ≡ y.node = sym (node ∙ root) in
-        subst (λ (e : ℕ). IsReady sort shows nodes e k y (Put p v) reply) (sym same) (subst (IsReady sort shows nodes c k y (Put p v)) (sym tells) (record {
-          live = lives ∙ live;
-          meets = subst (λ (i : ℕ). Meets k (Call c i (Put p v) (told old))) zero_is meets;
-          due = told_due sort.layout nodes c y.node p v k old;
-          state = subst (λ (i : ℕ). state_with (written (Put p v) (told old)) (graph_after k i) ≡ Live (record_of (shows y.body))) zero_is writes;
-          frame = subst (λ (i : ℕ). frame_after (blank_of sort) k i ≡ frame_of (shows y.body)) zero_is ((shown k x root live so).1 ∙ sym (ap frame_of body));
-        }))
+      writes : state_with (written (Put p v) (told old)) (graph_after k 0) ≡ Live (record_of (shows y.body))
+      writes = rw (told_sets p v old, is_live, body, put_sets p v (shows x.body).pairs ends.order.pairs_ascend) refl
 
-  -- c took node 0, found there that, and gave it back
-  module _ (c d p : ℕ) (h k g : List Event) (x : Hand N) (takes : GrowsWith c (Take c 0) h k) (gave : GrowsWith d (Give d x.node) k g) (same : d ≡ c)
-      (root : x.node ≡ 0) (live : x.live ≡ true) (so : Matches sort shows k x) where
+  -- c took node 0 and gave it back: it made no call, and the node was between as it found it
+  module _ {c d : ℕ} {h k g : List Event} {x : Hand N} (took : HasTaken sort shows c 0 h k x) (gave : GrowsWith d (Give d x.node) k g) (same : d ≡ c) where
     gives : GrowsWith c (Give c 0) k g
-    gives = given c d x.node k g same root gave
+    gives = given c d x.node k g same took.node gave
 
     pub no_calls : calls_by c g ≡ calls_by c h ++ []
-    no_calls = ap (calls_by c) gives.is ∙ calls_kept gives.rest k c (none_no_call c gives.rest gives.others) ∙ ap (calls_by c) takes.is ∙ calls_kept takes.rest h c (none_no_call c takes.rest takes.others) ∙ sym (append-nil (calls_by c h))
+    no_calls = gave_calls gives ∙ took_calls took.grows ∙ sym (append-nil (calls_by c h))
 
     between : {P : List Event → Type 0} → P k → Sometime h g P
     between {P} is = record {
       moment = k;
-      since = record { rest = Take c 0 ∷ takes.rest; is = takes.is };
+      since = record { rest = Take c 0 ∷ took.grows.rest; is = took.grows.is };
       until = record { rest = Give c 0 ∷ gives.rest; is = gives.is };
       so = is;
     }
 
-    pub no_room : InOrder (content_of (shows x.body)) → (shows x.body).range ≡ None → p ≤ top → next_at (shows x.body) p ≡ Here →
-        value_at (shows x.body).pairs p ≡ None → is_full sort.layout (shows x.body) ≡ true → Sometime h g (λ m. IsFullFor sort.layout (graph_after m) 0 p)
-    no_room order unranged place here none full = between (record {
+    pub no_room : {p : ℕ} → EndsHere (shows x.body) p → (shows x.body).range ≡ None → value_at (shows x.body).pairs p ≡ None → is_full sort.layout (shows x.body) ≡ true →
+        Sometime h g (λ m. IsFullFor sort.layout (graph_after m) 0 p)
+    no_room {p} ends unranged none full = between (record {
       node = record_of (shows x.body);
-      is = ap live_record (shown k x root live so).0;
-      filled = fills (shows x.body).kind (length (shows x.body).starts) (length (shows x.body).pairs) (ends_at_no_branch (shows x.body) p order unranged place here) full;
+      is = ap live_record (shown k x took.node took.live took.matches).0;
+      filled = fills (shows x.body).kind (length (shows x.body).starts) (length (shows x.body).pairs) (ends_at_no_branch (shows x.body) p ends.order unranged ends.place ends.here) full;
       absent = value_first (shows x.body).pairs p ∙ none;
     })
       where
@@ -198,26 +209,28 @@ module _ {N : Type 0} (sort : Sort) (shows : N → Body) where
         fills Inner m n e full = cc
         fills Directory m n e full = cc
 
-    pub elsewhere : (m : ℕ) → InOrder (content_of (shows x.body)) → p ≤ top → next_at (shows x.body) p ≡ Go m → Sometime h g (λ m. InOutset (graph_after m) 0 p)
-    elsewhere m order place go =
+    pub elsewhere : {p m : ℕ} → InOrder (content_of (shows x.body)) → p ≤ top → next_at (shows x.body) p ≡ Go m → Sometime h g (λ m. InOutset (graph_after m) 0 p)
+    elsewhere {p} {m} order place go =
         let to = next_leads (shows x.body) p m order place go in
-        between (record_of (shows x.body), ap live_record (shown k x root live so).0, (to.0, to.1, to.2, to.3, to.4.0))
+        between (record_of (shows x.body), ap live_record (shown k x took.node took.live took.matches).0, (to.0, to.1, to.2, to.3, to.4.0))
 
--- c took node 0, made a call there, and gave it back
-pub one_call : (c d e i p v n : ℕ) (reply : Reply) (old : Option ℕ) (h k l g : List Event) → GrowsWith c (Take c 0) h k → Numbered d (Call d i (Put p v) reply) k l n → GrowsWith e (Give e i) l g →
-    d ≡ c → e ≡ c → i ≡ 0 → reply ≡ told old → calls_by c g ≡ calls_by c h ++ numbered n (Put p v) (told old) ∷ []
-one_call c d e i p v n reply old h k l g takes called gave same still root tells =
-    ap (calls_by c) gives.is ∙ calls_kept gives.rest l c (none_no_call c gives.rest gives.others)
-    ∙ ap (calls_by c) calls.grows.is ∙ calls_more (calls.grows.rest ++ k) c 0 (Put p v) (told old)
-    ∙ ap (λ (m : ℕ). calls_by c (calls.grows.rest ++ k) ++ numbered m (Put p v) (told old) ∷ []) (sym calls.number)
-    ∙ ap (λ z. z ++ numbered n (Put p v) (told old) ∷ []) (calls_kept calls.grows.rest k c (none_no_call c calls.grows.rest calls.grows.others) ∙ ap (calls_by c) takes.is ∙ calls_kept takes.rest h c (none_no_call c takes.rest takes.others))
+  -- c took node 0, made a call there, and gave it back
+  pub one_call : {c d e p v n : ℕ} {reply : Reply} {h k l g : List Event} {x : Hand N} (old : Option ℕ) → HasTaken sort shows c 0 h k x → Numbered d (Call d x.node (Put p v) reply) k l n → GrowsWith e (Give e x.node) l g →
+      d ≡ c → e ≡ d → reply ≡ told old → calls_by c g ≡ calls_by c h ++ numbered n (Put p v) (told old) ∷ []
+  one_call {c} {d} {e} {p} {v} {n} {reply} {h} {k} {l} {g} {x} old took called gave same still tells =
+      gave_calls (given c e x.node l g (still ∙ same) took.node gave)
+      ∙ ap (calls_by c) calls.grows.is ∙ calls_more (calls.grows.rest ++ k) c 0 (Put p v) (told old)
+      ∙ ap (λ (m : ℕ). calls_by c (calls.grows.rest ++ k) ++ numbered m (Put p v) (told old) ∷ []) (sym calls.number)
+      ∙ ap (λ z. z ++ numbered n (Put p v) (told old) ∷ []) (calls_kept calls.grows.rest k c (none_no_call c calls.grows.rest calls.grows.others) ∙ took_calls took.grows)
+    where
+      calls : Numbered c (Call c 0 (Put p v) (told old)) k l n
+      calls = subst (λ (r : Reply). Numbered c (Call c 0 (Put p v) r) k l n) tells
+          (subst (λ (j : ℕ). Numbered c (Call c j (Put p v) reply) k l n) took.node (subst (λ (b : ℕ). Numbered b (Call b x.node (Put p v) reply) k l n) same called))
+
+-- without a range
+pub no_range : {X : Type 0} {o : Option X} {b : Bool} → is_some o ≡ b → b ≡ false → o ≡ None
+no_range {X} {o} {b} e f = go o (e ∙ f)
   where
-    gives : GrowsWith c (Give c 0) l g
-    gives = given c e i l g still root gave
-
-    calls : Numbered c (Call c 0 (Put p v) (told old)) k l n
-    calls = subst (λ (r : Reply). Numbered c (Call c 0 (Put p v) r) k l n) tells (subst (λ (j : ℕ). Numbered c (Call c j (Put p v) reply) k l n) root (subst (λ (b : ℕ). Numbered b (Call b i (Put p v) reply) k l n) same called))
-
-pub no_range : {X : Type 0} (o : Option X) (b : Bool) → is_some o ≡ b → b ≡ false → o ≡ None
-no_range None b e f = refl
-no_range (Some x) b e f = let w : true ≡ false = e ∙ f in cc
+    go : (o : Option X) → is_some o ≡ false → o ≡ None
+    go None q = refl
+    go (Some x) q = cc
