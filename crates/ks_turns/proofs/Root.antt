@@ -1,34 +1,30 @@
 -- A put at node 0 that has no edge for the place.
-use Rattle.std.specs.Prelude.{is_some, length, IsTrue, ◌<◌, All, nat_lt, nat_eq, ◌≢◌}
-use Rattle.std.specs.Option.{ForSome}
-use Rattle.std.proofs.Common.{◌≡◌, ℕ, zero, suc, ◌≤◌, ◌==◌, Bool, true, false, cond, List, [], ◌∷◌, ◌++◌, Option, Some, None, sym, refl, ap, ◌∙◌, subst, arith, inl, inr}
+use Rattle.std.specs.Prelude.{is_some, length, ◌<◌, All, nat_lt}
+use Rattle.std.proofs.Common.{◌≡◌, ℕ, suc, ◌≤◌, ◌==◌, Bool, true, false, cond, List, [], ◌∷◌, ◌++◌, Option, Some, None, sym, refl, ap, ◌∙◌, subst, arith, inl, inr}
 use Rattle.std.proofs.lemmas.List.{append-nil}
-use Rattle.std.proofs.lemmas.Bool.{lt-ltb, le-ltb, lt-leb}
+use Rattle.std.proofs.lemmas.Bool.{lt-ltb, le-ltb}
 use Rattle.std.proofs.lemmas.Bool.Decides.{leb_tells, eqb_tells}
 use Rattle.ks_keysets.specs.declared.Pair.{Pair}
-use Rattle.ks_keysets.specs.declared.Span.{Span}
 use Rattle.ks_keysets.specs.declared.Kind.{Kind}
 use Rattle.ks_keysets.specs.declared.Kind.TheVariants.{NoBranch, Inner, Directory}
 use Rattle.ks_keysets.specs.declared.NodeState.{NodeState}
 use Rattle.ks_keysets.specs.declared.NodeState.TheVariants.{Live}
 use Rattle.ks_keysets.specs.declared.Record.{Record}
-use Rattle.ks_keysets.specs.declared.Frame.{Frame}
-use Rattle.ks_keysets.specs.declared.Change.{Change}
-use Rattle.ks_keysets.specs.Record.{first_value, top, LeadsOn, IsPlace}
-use Rattle.ks_keysets.specs.Keyset.{live_record, record_at, value_in, value_at as found_at, InKeyset, InOutset, at_root, IsLive, Good}
-use Rattle.ks_keysets.specs.Layout.{Layout, room, list_layout, bplus_layout, hash_layout}
+use Rattle.ks_keysets.specs.Record.{first_value, top, LeadsOn}
+use Rattle.ks_keysets.specs.Keyset.{live_record, value_in, value_at as found_at, InKeyset, InOutset, at_root}
+use Rattle.ks_keysets.specs.Layout.{Layout, room}
 use Rattle.ks_history.specs.declared.Op.TheVariants.{Put}
 use Rattle.ks_history.specs.declared.Reply.{Reply}
 use Rattle.ks_history.specs.declared.Event.{Event}
 use Rattle.ks_history.specs.declared.Event.TheVariants.{Take, Give, Call}
-use Rattle.ks_history.specs.Map.{IsAnswer, Touches, told}
-use Rattle.ks_history.specs.Write.{written, pairs_set, pairs_with, with_new, with_value, sets}
-use Rattle.ks_history.specs.Trace.{◌⊑◌, caller_of, free, idle, held, graph_after, turn_after, frame_after, state_with, mine, calls_by, number_after}
+use Rattle.ks_history.specs.Map.{told}
+use Rattle.ks_history.specs.Write.{written, pairs_set, with_new, with_value, sets}
+use Rattle.ks_history.specs.Trace.{free, held, graph_after, turn_after, frame_after, state_with, calls_by}
 use Rattle.ks_history.specs.Lawful.{Meets, Lawful, GoodThroughout}
 use Rattle.ks_history.specs.Due.{IsFullFor, IsDue, Sometime}
-use Rattle.ks_history.specs.Passes.{NoneBy, GrowsWith}
+use Rattle.ks_history.specs.Passes.{GrowsWith}
 use Rattle.ks_history.specs.Stays.{cond_here, lawful_in_turn}
-use Rattle.ks_history.specs.Begins.{good_now, with_mine, none_no_call}
+use Rattle.ks_history.specs.Begins.{good_now, none_no_call}
 use Rattle.ks_history.specs.Calls.{numbered, calls_kept, calls_more}
 use Rattle.ks_node.specs.declared.start.Start.{Start}
 use Rattle.ks_node.specs.declared.start.Next.TheVariants.{Here, Go}
@@ -36,11 +32,11 @@ use Rattle.ks_node.specs.Keyed.{Ascends}
 use Rattle.ks_node.specs.Ascend.{asc_head, asc_tail}
 use Rattle.ks_node.specs.Body.{Body, content_of, first_of, last_of, frame_of, next_at, value_at, is_branch, is_branch_kind}
 use Rattle.ks_node.specs.Edges.{record_of}
-use Rattle.ks_node.specs.Room.{is_full, is_full_at, capacity, load}
+use Rattle.ks_node.specs.Room.{is_full, is_full_at, capacity}
 use Rattle.ks_node.specs.Effect.{pairs_put, with_pairs}
 use Rattle.ks_node.specs.Asks.{IsBelowOwn}
 use Rattle.ks_node.specs.Sound.{Sound as InOrder, starts_at_zero}
-use Rattle.ks_node.specs.Puts.{value_first, put_none, put_here, put_before, put_after}
+use Rattle.ks_node.specs.Puts.{value_first, put_here, put_before, put_after}
 use Rattle.ks_node.specs.Ways.{here_stays, below_own, next_leads}
 use Rattle.ks_arena.specs.declared.held.Held.{Held as Hand}
 use Rattle.ks_arena.specs.Sound.{Sort, blank_of}

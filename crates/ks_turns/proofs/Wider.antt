@@ -1,5 +1,5 @@
 -- What was so at some moment was so within any longer time.
-use Rattle.std.proofs.Common.{ℕ, List, [], ◌∷◌}
+use Rattle.std.proofs.Common.{ℕ, List, ◌∷◌}
 use Rattle.ks_history.specs.declared.Event.{Event}
 use Rattle.ks_history.specs.Due.{Sometime}
 use Rattle.ks_history.specs.Passes.{GrowsWith}

@@ -1,6 +1,4 @@
 use Rattle.std.proofs.Common.{arith, sym, refl, ◌∙◌}
-use Rattle.ks_arena.specs.Sound.{sort_of}
-use Rattle.ks_arena.specs.Clauses.{seen_of}
 use Rattle.ks_turns.proofs.Root.{root_not_free, no_range, ends_at_no_branch, ends_below_own, put_ready, no_calls, one_call, no_room, elsewhere}
 use Rattle.ks_turns.proofs.puts.put_at_root.Goals as goal
 
