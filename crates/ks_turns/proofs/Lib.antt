@@ -1,3 +1,4 @@
 pub mod Crews
+pub mod Numbers
 pub mod Root
 pub mod Wider

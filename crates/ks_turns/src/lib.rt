@@ -17,7 +17,7 @@ use ks_arena::{Arena, Pass, Taken};
 use ks_flow::{Discipline, Tree};
 use ks_list::ListNode;
 use ks_node::Node;
-pub use puts::{PutOutcome, both_put, put_at_root, put_four};
+pub use puts::{PutOutcome, both_put, put_at_root, put_four, work};
 use std::sync::Wait;
 use std::thread::{Threads, join};
 

@@ -1,9 +1,6 @@
 use Rattle.std.proofs.Common.{arith, sym, refl, ◌∙◌}
-use Rattle.ks_turns.proofs.Root.{root_not_free, no_range, ends_at_no_branch, ends_below_own, put_ready, no_calls, one_call, no_room, elsewhere}
+use Rattle.ks_turns.proofs.Root.{no_range, ends_at_no_branch, ends_below_own, put_ready, no_calls, one_call, no_room, elsewhere}
 use Rattle.ks_turns.proofs.puts.put_at_root.Goals as goal
-
-pub unreachable-requires : goal.unreachable-requires
-unreachable-requires g c = root_not_free (c.sound_law.ensures.lawful _ _ _ c.take.ensures.pass.sound) (c.sound_law.ensures.good _ _ _ c.take.ensures.pass.sound) (rw c.in_default.is at c.take.ensures.took).1
 
 pub returns-in-Go-clause-calls : goal.returns-in-Go-clause-calls
 returns-in-Go-clause-calls g c = no_calls c.in-Some.ensures.took c.give.ensures.gave c.take.ensures.caller
