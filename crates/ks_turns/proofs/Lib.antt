@@ -1,2 +1,5 @@
 pub mod Crews
 pub mod Ends
+pub mod Numbers
+pub mod Root
+pub mod Wider

@@ -1,36 +1,54 @@
 //! The least layer above an arena: callers take, claim and give nodes, by the clauses of the arena alone.
 #![tactic(auto)]
 
-ghost use Rattle.std.specs.Prelude.{◌≡◌, ◌<◌, [], false};
+ghost use Rattle.std.specs.Prelude.{◌≡◌, ◌<◌, [], ◌∷◌, ◌++◌, false};
 ghost use Rattle.ks_arena.specs.Sound.{sort_of};
 ghost use Rattle.ks_flow.specs.Discipline.{BeginsTree, TreeStep};
 ghost use Rattle.ks_history.specs.Passes.{Has};
 ghost use Rattle.ks_keysets.specs.Layout.{list_layout};
-ghost use Rattle.ks_arena.specs.Clauses.{IsPass, hand_of};
+ghost use Rattle.ks_history.specs.declared.Event.TheVariants.{Take, Give};
+ghost use Rattle.ks_arena.specs.Clauses.{IsPass, hand_of, mine_of, seen_of};
+ghost use Rattle.ks_turns.specs.Turns.{met_events, IsMetDue, claim_events, IsClaimDue};
 
+mod puts;
+
+use ks_arena::laws::sound_law;
 use ks_arena::{Arena, Pass, Taken};
 use ks_flow::{Discipline, Tree};
 use ks_list::ListNode;
 use ks_node::Node;
+pub use puts::{PutOutcome, both_put, put_at_root, put_four, work};
 use std::sync::Wait;
 use std::thread::{Threads, join};
 
+/// What a try to claim two nodes came to.
+#[derive(Clone, Copy, Debug, PartialEq, Eq)]
+pub enum Claimed {
+    Two(u32, u32),
+    One(u32),
+    Nil,
+}
+
 /// Claims two nodes and gives them back in the order in which they were claimed.
-pub fn claim_two<N: Node, D: Discipline>(arena: &Arena<N, D>, pass: &mut Pass<N, D>) -> bool
+pub fn claim_two<N: Node, D: Discipline>(arena: &Arena<N, D>, pass: &mut Pass<N, D>) -> Claimed
     requires { IsPass (sort_of N.layout N.ranged) D.begins D.step arena.now.table.shared.table_id arena.now.callers pass.old × (hand_of pass.old ≡ []) }
     ensures pass { IsPass (sort_of N.layout N.ranged) D.begins D.step arena.now.table.shared.table_id arena.now.callers pass.new × (hand_of pass.new ≡ []) }
     ensures caller { pass.new.caller ≡ pass.old.caller }
+    ensures mine { mine_of pass.new ≡ claim_events pass.old.caller result ++ mine_of pass.old }
+    ensures due { IsClaimDue arena.now.nodes (seen_of pass.old) (seen_of pass.new) result }
 {
     let Some(first) = arena.claim(pass) else {
-        return false;
+        return Claimed::Nil;
     };
+    let one = first.node;
     let Some(second) = arena.claim(pass) else {
         arena.give(pass, first);
-        return false;
+        return Claimed::One(one);
     };
+    let two = second.node;
     arena.give(pass, first);
     arena.give(pass, second);
-    true
+    Claimed::Two(one, two)
 }
 
 /// What a try to take a node met.
@@ -49,6 +67,8 @@ pub fn meet<N: Node, D: Discipline>(arena: &Arena<N, D>, pass: &mut Pass<N, D>, 
     ensures pass { IsPass (sort_of N.layout N.ranged) D.begins D.step arena.now.table.shared.table_id arena.now.callers pass.new }
     ensures caller { pass.new.caller ≡ pass.old.caller }
     ensures hand { hand_of pass.new ≡ hand_of pass.old }
+    ensures mine { mine_of pass.new ≡ met_events pass.old.caller node result ++ mine_of pass.old }
+    ensures due { IsMetDue node (seen_of pass.new) result }
 {
     match arena.try_take(pass, node) {
         Taken::Held(held) => {
@@ -60,36 +80,37 @@ pub fn meet<N: Node, D: Discipline>(arena: &Arena<N, D>, pass: &mut Pass<N, D>, 
     }
 }
 
-/// Takes node 0 once nobody else holds it, and gives it back. Answers whether it was there.
+/// Takes node 0 once nobody else holds it, and gives it back.
+#[tactic(auto, using(crate::proofs::Root::root_not_free))]
 pub fn pass_through<N: Node, D: Discipline, R: Wait>(
     rt: &R,
     arena: &Arena<N, D>,
     pass: &mut Pass<N, D>,
-) -> bool
+)
     requires { IsPass (sort_of N.layout N.ranged) D.begins D.step arena.now.table.shared.table_id arena.now.callers pass.old × (hand_of pass.old ≡ []) }
     ensures pass { IsPass (sort_of N.layout N.ranged) D.begins D.step arena.now.table.shared.table_id arena.now.callers pass.new × (hand_of pass.new ≡ []) }
     ensures caller { pass.new.caller ≡ pass.old.caller }
+    ensures mine { mine_of pass.new ≡ Give pass.old.caller 0 ∷ Take pass.old.caller 0 ∷ mine_of pass.old }
 {
+    sound_law::<D>();
     match arena.take(rt, pass, 0) {
-        Some(held) => {
-            arena.give(pass, held);
-            true
-        }
-        None => false,
+        Some(held) => arena.give(pass, held),
+        None => unreachable!(),
     }
 }
 
-/// Passes through node 0 once, and gives the pass back with the answer.
+/// Passes through node 0 once, and gives the pass back.
 pub fn visit<N: Node, D: Discipline, R: Wait>(
     rt: &R,
     arena: &Arena<N, D>,
     mut pass: Pass<N, D>,
-) -> (Pass<N, D>, bool)
+) -> Pass<N, D>
     requires { IsPass (sort_of N.layout N.ranged) D.begins D.step arena.now.table.shared.table_id arena.now.callers pass × (hand_of pass ≡ []) }
-    ensures { IsPass (sort_of N.layout N.ranged) D.begins D.step arena.now.table.shared.table_id arena.now.callers result.0 × (hand_of result.0 ≡ []) × (result.0.caller ≡ pass.caller) }
+    ensures pass { IsPass (sort_of N.layout N.ranged) D.begins D.step arena.now.table.shared.table_id arena.now.callers result × (hand_of result ≡ []) × (result.caller ≡ pass.caller) }
+    ensures mine { mine_of result ≡ Give pass.caller 0 ∷ Take pass.caller 0 ∷ mine_of pass }
 {
-    let met = pass_through(rt, arena, &mut pass);
-    (pass, met)
+    pass_through(rt, arena, &mut pass);
+    pass
 }
 
 /// Both callers pass through node 0 at once.
@@ -98,24 +119,27 @@ pub fn both<R: Threads + Wait + Sync>(
     arena: &Arena<ListNode, Tree>,
     one: Pass<ListNode, Tree>,
     two: Pass<ListNode, Tree>,
-) -> (Pass<ListNode, Tree>, Pass<ListNode, Tree>, bool)
+) -> (Pass<ListNode, Tree>, Pass<ListNode, Tree>)
     requires one { IsPass (sort_of list_layout false) BeginsTree TreeStep arena.now.table.shared.table_id arena.now.callers one × (hand_of one ≡ []) }
     requires two { IsPass (sort_of list_layout false) BeginsTree TreeStep arena.now.table.shared.table_id arena.now.callers two × (hand_of two ≡ []) }
     ensures one { IsPass (sort_of list_layout false) BeginsTree TreeStep arena.now.table.shared.table_id arena.now.callers result.0 × (hand_of result.0 ≡ []) × (result.0.caller ≡ one.caller) }
     ensures two { IsPass (sort_of list_layout false) BeginsTree TreeStep arena.now.table.shared.table_id arena.now.callers result.1 × (hand_of result.1 ≡ []) × (result.1.caller ≡ two.caller) }
+    ensures events_of_one { mine_of result.0 ≡ Give one.caller 0 ∷ Take one.caller 0 ∷ mine_of one }
+    ensures events_of_two { mine_of result.1 ≡ Give two.caller 0 ∷ Take two.caller 0 ∷ mine_of two }
 {
-    let ((one, a), (two, b)) = join(
+    join(
         rt,
-        move || -> (Pass<ListNode, Tree>, bool)
+        move || -> Pass<ListNode, Tree>
             requires { IsPass (sort_of list_layout false) BeginsTree TreeStep arena.now.table.shared.table_id arena.now.callers one × (hand_of one ≡ []) }
-            ensures { IsPass (sort_of list_layout false) BeginsTree TreeStep arena.entry.now.table.shared.table_id arena.entry.now.callers result.0 × (hand_of result.0 ≡ []) × (result.0.caller ≡ one.caller) }
+            ensures pass { IsPass (sort_of list_layout false) BeginsTree TreeStep arena.entry.now.table.shared.table_id arena.entry.now.callers result × (hand_of result ≡ []) × (result.caller ≡ one.caller) }
+            ensures mine { mine_of result ≡ Give one.caller 0 ∷ Take one.caller 0 ∷ mine_of one }
         { visit(rt, arena, one) },
-        move || -> (Pass<ListNode, Tree>, bool)
+        move || -> Pass<ListNode, Tree>
             requires { IsPass (sort_of list_layout false) BeginsTree TreeStep arena.now.table.shared.table_id arena.now.callers two × (hand_of two ≡ []) }
-            ensures { IsPass (sort_of list_layout false) BeginsTree TreeStep arena.entry.now.table.shared.table_id arena.entry.now.callers result.0 × (hand_of result.0 ≡ []) × (result.0.caller ≡ two.caller) }
+            ensures pass { IsPass (sort_of list_layout false) BeginsTree TreeStep arena.entry.now.table.shared.table_id arena.entry.now.callers result × (hand_of result ≡ []) × (result.caller ≡ two.caller) }
+            ensures mine { mine_of result ≡ Give two.caller 0 ∷ Take two.caller 0 ∷ mine_of two }
         { visit(rt, arena, two) },
-    );
-    (one, two, a && b)
+    )
 }
 
 #[cfg(test)]

@@ -4,7 +4,7 @@ ghost use Rattle.ks_arena.specs.Clauses.{IsPass, hand_of};
 ghost use Rattle.ks_flow.specs.Discipline.{BeginsTree, TreeStep};
 ghost use Rattle.ks_keysets.specs.Layout.{list_layout};
 
-use crate::{Met, both, meet};
+use crate::{Met, PutOutcome, both, both_put, meet};
 use ks_arena::{Arena, Pass};
 use ks_flow::Tree;
 use ks_list::ListNode;
@@ -113,9 +113,44 @@ fn callers_claim_what_others_gave(rt: HostRuntime) -> Result<(), Fail> {
 #[test]
 fn two_threads_pass_through_one_node(rt: HostRuntime) -> Result<(), Fail> {
     let (arena, one, two) = two_callers(rt.alloc())?;
-    let (one, two, met) = both(&rt, &arena, one, two);
+    let (one, two) = both(&rt, &arena, one, two);
     let all = crew(rt.alloc(), one, two)?;
     let run = arena.close(all);
-    assert!(rt; met && run.calls() == 0);
+    assert!(rt; run.calls() == 0);
+    Ok(())
+}
+
+/// Whether each put was decided at a place that was empty, with numbers below 8 that ascend and that no put had before.
+fn ascend(seen: &mut [bool; 8], outcomes: &[PutOutcome]) -> bool {
+    let mut least = 0;
+    for outcome in outcomes {
+        match *outcome {
+            PutOutcome::Decided { number, old: None } if least <= number && number < 8 => {
+                let at = number as usize;
+                if seen[at] {
+                    return false;
+                }
+                seen[at] = true;
+                least = number + 1;
+            }
+            _ => return false,
+        }
+    }
+    true
+}
+
+#[test]
+fn two_threads_put_eight_places_at_one_node(rt: HostRuntime) -> Result<(), Fail> {
+    let (arena, one, two) = two_callers(rt.alloc())?;
+    let (left, right) = both_put(&rt, &arena, one, two);
+    let (one, first) = left;
+    let (two, second) = right;
+    let mut seen = [false; 8];
+    assert!(rt; ascend(&mut seen, &first) && ascend(&mut seen, &second));
+    assert!(rt; seen == [true; 8]);
+    let all = crew(rt.alloc(), one, two)?;
+    let run = arena.close(all);
+    assert!(rt; run.calls() == 8);
+    // Once a run tells its pairs: they stand at the places 0 to 7, each with its place as the value.
     Ok(())
 }
