@@ -26,29 +26,14 @@ use Rattle.ks_arena.specs.declared.held.Taken.TheVariants.{Held, Busy, Gone}
 use Rattle.ks_arena.specs.Sound.{Sort}
 use Rattle.ks_arena.specs.FromSound.{rested}
 use Rattle.ks_arena.specs.Plays.{TellsFree}
+use Rattle.ks_arena.specs.Tells.{looked_none, looked_both, kept_none, kept_both, taken_within, claimed_later, claimed_begins}
 use Rattle.ks_arena.specs.Clauses.{Kept, HasLooked, WasTaken, Matches, HasTaken, HasClaimed, TryTook, Took, TryClaimed, DidClaimIn, DidClaim}
-
-pub looked_none : (c : ℕ) (h : List Event) → HasLooked c h h
-looked_none c h = record { grows = by_others_none c h; hand = refl; mine = refl }
-
-pub looked_both : (c : ℕ) (g h k : List Event) → HasLooked c g h → HasLooked c h k → HasLooked c g k
-looked_both c g h k a b = record { grows = by_others_both c g h k a.grows b.grows; hand = b.hand ∙ a.hand; mine = b.mine ∙ a.mine }
-
-pub kept_both : (c : ℕ) (g h k : List Event) → Kept c g h → Kept c h k → Kept c g k
-kept_both c g h k a b j x = let p = a j x in let q = b j p.turn in record { turn = q.turn; state = q.state ∙ p.state; frame = λ blank. q.frame blank ∙ p.frame blank }
-
--- a node that was taken between two moments was so between an earlier and a later one
-pub taken_within : (f g h k : List Event) (j : ℕ) → f ⊑ g → h ⊑ k → WasTaken g h j → WasTaken f k j
-taken_within f g h k j a b so = record { moment = so.moment; since = begins_both f g so.moment a so.since; until = begins_both so.moment h k so.until b; so = so.so }
 
 -- the free words before the one of index w were tried: their nodes were found taken
 pub record Tried (n c w : ℕ) (h k : List Event) : Type 0 where
   pub looked : HasLooked c h k
   pub kept : Kept c h k
   pub taken : (j : ℕ) → j < n → j < 64 * w → WasTaken h k j
-
-kept_none : (c : ℕ) (h : List Event) → Kept c h h
-kept_none c h j x = record { turn = x; state = refl; frame = λ blank. refl }
 
 pub tried_none : (n c : ℕ) (h : List Event) → Tried n c 0 h h
 tried_none n c h = record { looked = looked_none c h; kept = kept_none c h; taken = λ j near low. absurd (omega arith) }
@@ -125,34 +110,21 @@ pub root_taken : (h : List Event) → Lawful h → GoodThroughout h → turn_aft
 root_taken h lawful good now = let r = (good_now good).root in let is : graph_after h 0 ≡ Free = (rested h (lawful_in_turn h lawful) 0).free_is now in let e : None ≡ Some r.0 = sym (ap live_record is) ∙ r.1 in absurd (let q : ⊥ = cc in q)
 
 module _ {N : Type 0} (sort : Sort) (shows : N → Body) where
-  pub claimed_later : (c : ℕ) (h k l : List Event) (x : Hand N) → HasLooked c h k → HasClaimed sort shows c k l x → HasClaimed sort shows c h l x
-  claimed_later c h k l x a so = record { live = so.live; blank = so.blank; matches = so.matches; state = so.state; moment = so.moment; grows = by_others_with c (Claim c x.node) h k so.moment a.grows so.grows; since = so.since; fresh = λ has. so.fresh (subst (λ (z : List ℕ). Has z x.node) (sym a.hand) has); hand = so.hand ∙ ap (λ (z : List ℕ). x.node ∷ z) a.hand; mine = so.mine ∙ ap (λ (z : List Event). Claim c x.node ∷ z) a.mine }
-
-  -- what was claimed is still there after a look
-  pub claimed_then : (c : ℕ) (h k l : List Event) (x : Hand N) → HasClaimed sort shows c h k x → HasLooked c k l → Matches sort shows l x → graph_after l x.node ≡ graph_after k x.node → HasClaimed sort shows c h l x
-  claimed_then c h k l x so looked matches same = record { live = so.live; blank = so.blank; matches = matches; state = same ∙ so.state; moment = so.moment; grows = so.grows; since = by_others_both c so.moment k l so.since looked.grows; fresh = so.fresh; hand = looked.hand ∙ so.hand; mine = looked.mine ∙ so.mine }
-
-  pub claimed_begins : (c : ℕ) (h k : List Event) (x : Hand N) → HasClaimed sort shows c h k x → h ⊑ k
-  claimed_begins c h k x so = begins_both h so.moment k (with_begins c (Claim c x.node) h so.moment so.grows) (by_others_begins c so.moment k so.since)
-
   -- what a claim among the nodes of a free word found, as those of all words before it were taken
   pub claimed_in : (n w c left b : ℕ) (h k l : List Event) (x : Hand N) → TriedIn n w c left h k → b < 64 → bit_at left b ≡ 1 → ((a : ℕ) → a < b → bit_at left a ≡ 0) → (x.node ≡ 64 * w + b) × HasClaimed sort shows c k l x → DidClaimIn sort shows n w c h l (Some x)
   claimed_in n w c left b h k l x so low on lowest told = let near : 64 * w + b < n = so.near b low on in (
-    claimed_later c h k l x so.looked told.1,
+    claimed_later sort shows c h k l x so.looked told.1,
     (let e = told.0 in omega arith),
-    (b, low, told.0, λ a less. taken_within h h k l (64 * w + a) (begins_self h) (claimed_begins c k l x told.1) (so.taken a (omega arith) (omega arith) (lowest a less))),
+    (b, low, told.0, λ a less. taken_within h h k l (64 * w + a) (begins_self h) (claimed_begins sort shows c k l x told.1) (so.taken a (omega arith) (omega arith) (lowest a less))),
   )
 
   -- and among the nodes of all
   pub did_claim : (n w c : ℕ) (h k l : List Event) (x : Hand N) → Tried n c w h k → DidClaimIn sort shows n w c k l (Some x) → x.node ≢ 0 → DidClaim sort shows n c h l (Some x)
-  did_claim n w c h k l x so told not_root = let b : ℕ = told.2.0 in let is : x.node ≡ 64 * w + b = told.2.2 in let small : b < 64 = told.2.1 in let kl = claimed_begins c k l x told.0 in (
-    claimed_later c h k l x so.looked told.0,
+  did_claim n w c h k l x so told not_root = let b : ℕ = told.2.0 in let is : x.node ≡ 64 * w + b = told.2.2 in let small : b < 64 = told.2.1 in let kl = claimed_begins sort shows c k l x told.0 in (
+    claimed_later sort shows c h k l x so.looked told.0,
     omega arith,
     told.1,
     λ j pos high. let near = told.1 in ⊎_elim
         (λ (less : j < 64 * w). taken_within h h k l j (begins_self h) kl (so.taken j (omega arith) less))
         (λ (more : 64 * w ≤ j). let at = in_word w j (omega arith) more in taken_within h k l l j (by_others_begins c h k so.looked.grows) (begins_self l) (subst (WasTaken k l) at.1 (told.2.3 (j - 64 * w) (omega arith)))) (cases_lt j (64 * w)),
   )
-
-  pub taken_later : (c i : ℕ) (h k l : List Event) (x : Hand N) → HasLooked c h k → HasTaken sort shows c i k l x → HasTaken sort shows c i h l x
-  taken_later c i h k l x a so = record { node = so.node; live = so.live; matches = so.matches; grows = by_others_with c (Take c i) h k l a.grows so.grows; fresh = λ has. so.fresh (subst (λ (z : List ℕ). Has z i) (sym a.hand) has); hand = so.hand ∙ ap (λ (z : List ℕ). i ∷ z) a.hand; mine = so.mine ∙ ap (λ (z : List Event). Take c i ∷ z) a.mine }

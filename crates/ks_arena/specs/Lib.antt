@@ -3,4 +3,5 @@ pub mod Rule
 pub mod Plays
 pub mod Clauses
 pub mod FromSound
+pub mod Tells
 pub mod Ended

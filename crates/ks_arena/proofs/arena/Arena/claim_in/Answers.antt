@@ -6,7 +6,8 @@ use Rattle.ks_history.specs.Alone.{alone_first}
 use Rattle.ks_history.specs.Begins.{by_others_begins}
 use Rattle.ks_arena.specs.Sound.{sort_of}
 use Rattle.ks_arena.specs.Clauses.{seen_of, Kept, TryClaimed}
-use Rattle.ks_arena.proofs.Tries.{TriedIn, told_word, missed, missed_not_alone, without_less, claimed_in, claimed_begins}
+use Rattle.ks_arena.specs.Tells.{claimed_begins}
+use Rattle.ks_arena.proofs.Tries.{TriedIn, told_word, missed, missed_not_alone, without_less, claimed_in}
 use Rattle.ks_arena.proofs.arena.Arena.claim_in.Goals as goal
 use Rattle.ks_arena.proofs.arena.Arena.claim_in.Goals.{After-try_claim}
 

@@ -12,7 +12,8 @@ use Rattle.ks_history.specs.Stays.{cond_here}
 use Rattle.ks_arena.specs.declared.held.Pass.{Pass}
 use Rattle.ks_arena.proofs.Words.{one_alone}
 use Rattle.ks_arena.specs.Clauses.{IsPass, seen_of, Kept, DidClaimIn}
-use Rattle.ks_arena.proofs.Tries.{Tried, tried_more, kept_both, root_taken, did_claim, claimed_begins, alone_next}
+use Rattle.ks_arena.specs.Tells.{kept_both, claimed_begins}
+use Rattle.ks_arena.proofs.Tries.{Tried, tried_more, root_taken, did_claim, alone_next}
 use Rattle.ks_arena.proofs.After.{still}
 use Rattle.ks_arena.proofs.arena.Arena.claim_steps.Given.{Over}
 use Rattle.ks_arena.proofs.arena.Arena.claim_steps.Goals as goal
