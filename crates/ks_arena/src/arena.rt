@@ -172,12 +172,12 @@ impl<N: Node, D: Discipline> Arena<N, D> {
     }
 
     /// Makes what the bodies have become one event. The pass holds the nodes, which are different ones.
-    pub fn shape(
+    pub fn shape<'a>(
         &self,
         pass: &mut Pass<N, D>,
-        first: &Held<N>,
-        second: Option<&Held<N>>,
-        third: Option<&Held<N>>,
+        first: &'a Held<N>,
+        second: Option<&'a Held<N>>,
+        third: Option<&'a Held<N>>,
     )
         requires pass { IsPass (sort_of N.layout N.ranged) D.begins D.step self.now.table.shared.table_id self.now.callers pass.old }
         requires holds { AllAmong (hand_of pass.old) (changes_of N.body first.now second third) }
@@ -195,12 +195,12 @@ impl<N: Node, D: Discipline> Arena<N, D> {
         self.form::<Brand>(pass, first, second, third);
     }
 
-    fn form<W: Said>(
+    fn form<'a, W: Said>(
         &self,
         pass: &mut Pass<N, D>,
-        first: &Held<N>,
-        second: Option<&Held<N>>,
-        third: Option<&Held<N>>,
+        first: &'a Held<N>,
+        second: Option<&'a Held<N>>,
+        third: Option<&'a Held<N>>,
     )
         requires said { W.event ≡ Shape pass.old.caller (changes_of N.body first.now second third) }
         requires pass { IsPass (sort_of N.layout N.ranged) D.begins D.step self.now.table.shared.table_id self.now.callers pass.old }
