@@ -184,8 +184,8 @@ first_more n m ws pos wide bits = let q : ℕ = m / 64 in let a : ℕ = m % 64 i
     let there : get_or us (n + 2 + q) 0 ≡ new = get_or-set_same ws (n + 2 + q) new 0 wide in
     let here : (w b : ℕ) → w ≡ q → free_bit n us w b ≡ bit_at new b = λ w b e. ap (λ (z : ℕ). bit_at (get_or us (n + 2 + z) 0) b) e ∙ ap (λ (z : ℕ). bit_at z b) there in
     let other : (w b : ℕ) → b < 64 → 64 * w + b ≢ m → free_bit n us w b ≡ free_bit n ws w b = λ w b low ne. dite (ℕ_discrete w q)
-        (λ e. here w b e ∙ bit_at_set_other w64 old a low' b (λ f. ne (omega arith)) ∙ ap (λ (z : ℕ). bit_at (get_or ws (n + 2 + z) 0) b) (sym e))
-        (λ d. ap (λ (z : ℕ). bit_at z b) (get_or-set_other ws (n + 2 + q) (n + 2 + w) new 0 (λ y. d (omega arith)))) in record {
+    (λ e. here w b e ∙ bit_at_set_other w64 old a low' b (λ f. ne (omega arith)) ∙ ap (λ (z : ℕ). bit_at (get_or ws (n + 2 + z) 0) b) (sym e))
+    (λ d. ap (λ (z : ℕ). bit_at z b) (get_or-set_other ws (n + 2 + q) (n + 2 + w) new 0 (λ y. d (omega arith)))) in record {
       sets = λ w b low on. dite (ℕ_discrete (64 * w + b) m)
           (λ e. (omega arith, omega arith))
           (λ ne. let so = bits.sets w b low (sym (other w b low ne) ∙ on) in (so.0, omega (arith, so.1)));

@@ -12,3 +12,4 @@ pub mod Tries
 pub mod Learning
 pub mod Beyond
 pub mod Entries
+pub mod Crosses

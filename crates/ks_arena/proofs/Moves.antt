@@ -175,8 +175,11 @@ module _ {N : Type 0} (sort : Sort) (begins : Frame → Type 0) (asks : (ℕ →
   -- what a free word says of its nodes
   reads_word : (s : State (Option N) View) (r : Rule s) (id : ℕ) (v : View) (c w : ℕ) → get_elem? s.views id ≡ some v → v.callers ≡ c ∷ [] → v.mark ≡ Quiet → TellsFree (length s.homes) w c r.trace (get_or s.words (length s.homes + 2 + w) 0)
   reads_word s r id v c w at mine quiet = record {
-    sets = λ b low on. let so = r.bits.sets w b low on in (so.0, ⊎_elim (λ f. inl f) (λ m. let h = r.bits.marks m.0 (64 * w + b) m.1 m.2 m.3 in
-        inr (h.0, (λ same. quiet_marks v.mark quiet (64 * w + b) (subst (λ (z : View). Marks z.mark (64 * w + b)) (some-injective m.1 v (sym m.2 ∙ ap (get_elem? s.views) (r.views.apart m.0 id c m.1 v m.2 at (subst (λ (z : ℕ). Has (all_callers m.1) z) same (has_left m.1.callers (callers_in m.1.absorbed) h.0 h.1)) (has_left v.callers (callers_in v.absorbed) c (has_one v.callers c mine))) ∙ at)) m.3)), h.2)) so.1);
+    sets = λ b low on. let so = r.bits.sets w b low on in (
+      so.0,
+      ⊎_elim (λ f. inl f) (λ m. let h = r.bits.marks m.0 (64 * w + b) m.1 m.2 m.3 in
+          inr (h.0, (λ same. quiet_marks v.mark quiet (64 * w + b) (subst (λ (z : View). Marks z.mark (64 * w + b)) (some-injective m.1 v (sym m.2 ∙ ap (get_elem? s.views) (r.views.apart m.0 id c m.1 v m.2 at (subst (λ (z : ℕ). Has (all_callers m.1) z) same (has_left m.1.callers (callers_in m.1.absorbed) h.0 h.1)) (has_left v.callers (callers_in v.absorbed) c (has_one v.callers c mine))) ∙ at)) m.3)), h.2)) so.1,
+    );
     clears = λ b low near off. (r.bits.clears w b low near off).0;
   }
 
@@ -261,8 +264,13 @@ module _ {N : Type 0} (sort : Sort) (begins : Frame → Type 0) (asks : (ℕ →
       let then : turn_after (e ∷ h) i ≡ turn_given t = cond_here i i (turn_given t) (turn_after h i) refl in
       turn_bits h e s.views id v Quiet (length s.homes) s.words i new r.bits at near (λ j ne. cond_else j i (turn_given t) (turn_after h j) ne) (mark_named v.mark t i mark) (λ j m. absurd m) others (λ m. absurd m)
       (⊎_elim (λ so. inl (inr (id, v, at, subst (λ (z : Mark). Marks z i) (sym so.1) refl), inl (then ∙ so.0)))
-      (λ so. inr ((λ f. let x : held c ≡ free = sym now ∙ f in (cc)), (λ m. dite (ℕ_discrete m.0 id)
-      (λ same. quiet_marks v.mark so.1 i (subst (λ (z : View). Marks z.mark i) (some-injective m.1 v (sym m.2 ∙ ap (get_elem? s.views) same ∙ at)) m.3)) (λ ne. others m.0 m.1 ne m.2 m.3)), (λ f. let x : idle ≡ free = sym so.0 ∙ sym then ∙ f in (cc)), λ m. m)) mark)
+      (λ so. inr (
+        (λ f. let x : held c ≡ free = sym now ∙ f in (cc)),
+        (λ m. dite (ℕ_discrete m.0 id)
+            (λ same. quiet_marks v.mark so.1 i (subst (λ (z : View). Marks z.mark i) (some-injective m.1 v (sym m.2 ∙ ap (get_elem? s.views) same ∙ at)) m.3)) (λ ne. others m.0 m.1 ne m.2 m.3)),
+        (λ f. let x : idle ≡ free = sym so.0 ∙ sym then ∙ f in (cc)),
+        λ m. m,
+      )) mark)
 
   pub gives_ok : (n id : ℕ) (me : Seated N) (c i : ℕ) (b : N) (others : List (ℕ × Option N)) (new : ℕ) → me.0.callers ≡ c ∷ [] → c < 2 ^ 32 → i < n → me.1 ≡ (i, Some b) ∷ others → turn_after me.0.seen i ≡ held c → Shows sort begins asks shows (graph_after me.0.seen i) (frame_after (blank_of sort) me.0.seen i) b
       → new ≡ turn_word (turn_given (graph_after me.0.seen i)) → GivesMark (graph_after me.0.seen i) i me.0.mark → Allows Rule n id me (i + 2) (λ _. new) (λ _. gave sort begins asks shows (step n (i + 2) new 0 none) me new)

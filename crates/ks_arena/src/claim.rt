@@ -123,12 +123,7 @@ impl<N: Node, D: Discipline> Arena<N, D> {
     }
 
     /// Reads a free word: a bit for each node that may be free.
-    fn read_free<L: Ledger>(
-        &self,
-        pass: &mut Pass<N, D>,
-        index: u32,
-        steps: &mut Steps<L>,
-    ) -> u64
+    fn read_free<L: Ledger>(&self, pass: &mut Pass<N, D>, index: u32, steps: &mut Steps<L>) -> u64
         requires pass { IsPass (sort_of N.layout N.ranged) D.begins D.step self.now.table.shared.table_id self.now.callers pass.old }
         requires index { index < free_words self.now.nodes }
         ensures pass { IsPass (sort_of N.layout N.ranged) D.begins D.step self.now.table.shared.table_id self.now.callers pass.new }

@@ -61,7 +61,7 @@ impl<N: Node> Run<N> {
         if self.remains.closed.word(node + 2) == 0 {
             return None;
         }
-        self.remains.closed.slots.get(node).as_ref()
+        self.remains.closed.get(node).as_ref()
     }
 
     /// The places and values of all pairs, node after node.

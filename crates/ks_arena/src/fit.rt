@@ -1,6 +1,7 @@
-//! An arena may be shared by threads, and passes, notes and held nodes may go to another.
+//! An arena may be shared by threads, and passes, notes, held nodes and what is left of an arena may go to another.
 use crate::arena::Arena;
 use crate::held::{Held, Note, Pass};
+use crate::run::Run;
 use ks_flow::Discipline;
 use ks_node::Node;
 
@@ -13,10 +14,12 @@ pub fn fits_threads<N: Node, D: Discipline>(
     pass: &Pass<N, D>,
     note: &Note<N, D>,
     held: &Held<N>,
+    run: &Run<N>,
 ) {
     is_sync(arena);
     is_send(arena);
     is_send(pass);
     is_send(note);
     is_send(held);
+    is_send(run);
 }

@@ -17,6 +17,7 @@ mod plays;
 mod remains;
 mod rule;
 mod run;
+mod send_closed;
 mod steps;
 mod view;
 

@@ -12,6 +12,7 @@ use crate::plays::{Gathers, Next, TakeIn, Tell};
 use crate::remains::Remains;
 use crate::rule::Rule;
 use crate::run::{Run, RunTrace};
+use crate::send_closed::SendClosed;
 use crate::view::View;
 use atomic_table::{Seat, Shared, Table};
 use ks_flow::Discipline;
@@ -123,7 +124,7 @@ impl<N: Node, D: Discipline> Arena<N, D> {
         let badge = table.shared.split_seat::<Tell>(&mut base).into_badge();
         Run {
             remains: Remains {
-                closed: table.close_with(base),
+                closed: SendClosed::of(table.close_with(base)),
             },
             trace: RunTrace { badge },
         }

@@ -3,11 +3,10 @@ ghost use Rattle.std.specs.Prelude.{◌+◌, ◌≤◌};
 ghost use Rattle.std.specs.Slots.{IsFull, slots_len};
 ghost use Rattle.std.proofs.Props.{props};
 
-use atomic_table::Closed;
-use std::alloc::Global;
+use crate::send_closed::SendClosed;
 
 pub struct Remains<N> {
-    pub(crate) closed: Closed<Option<N>, Global>,
+    pub(crate) closed: SendClosed<Option<N>>,
     ghost full: { IsFull closed.words × IsFull closed.slots } by { Prim.hlevel props },
     // the two counts, and a turn word for each node
     ghost wide: { slots_len closed.slots + 2 ≤ slots_len closed.words },
@@ -15,7 +14,8 @@ pub struct Remains<N> {
 
 impl<N: Drop> Drop for Remains<N> {
     fn drop(self) {
-        let Remains { mut closed } = self;
+        let Remains { closed } = self;
+        let mut closed = closed.into_closed();
         let mut i = 0;
         while i < closed.slot_count() {
             drop(closed.take(i));

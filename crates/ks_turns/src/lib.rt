@@ -10,6 +10,7 @@ ghost use Rattle.ks_history.specs.declared.Event.TheVariants.{Take, Give};
 ghost use Rattle.ks_arena.specs.Clauses.{IsPass, hand_of, mine_of, seen_of};
 ghost use Rattle.ks_turns.specs.Turns.{met_events, IsMetDue, claim_events, IsClaimDue};
 
+mod many;
 mod puts;
 
 use ks_arena::laws::sound_law;
@@ -17,6 +18,7 @@ use ks_arena::{Arena, Pass, Taken};
 use ks_flow::{Discipline, Tree};
 use ks_list::ListNode;
 use ks_node::Node;
+pub use many::claim_of_many;
 pub use puts::{PutOutcome, both_put, put_at_root, put_four, work};
 use std::sync::Wait;
 use std::thread::{Threads, join};
@@ -142,6 +144,8 @@ pub fn both<R: Threads + Wait + Sync>(
     )
 }
 
+#[cfg(test)]
+mod claims;
 #[cfg(test)]
 mod ended;
 #[cfg(test)]

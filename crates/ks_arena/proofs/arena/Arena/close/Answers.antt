@@ -1,5 +1,8 @@
-use Rattle.std.proofs.Common.{rules, arith, ◌≡◌, ℕ, ◌<◌, ◌≤◌, List, length, [], sym, ap, ◌∙◌, subst, refl}
+use Rattle.std.proofs.Common.{rules, arith, ◌≡◌, ℕ, ◌+◌, ◌<◌, ◌≤◌, List, length, [], sym, ap, ◌∙◌, subst, refl}
+use Rattle.std.specs.Prelude.{Option, slice_index}
 use Rattle.std.specs.Slots.{slots_items}
+use Rattle.std.specs.declared.alloc.Global.{Global}
+use Rattle.atomic_table.specs.declared.owned.Closed.{Closed}
 use mathlib.Core.Option.{none}
 use Rattle.atomic_table.specs.Table.{Final, Seen, step}
 use lib.ListN.{get_elem?}
@@ -50,15 +53,21 @@ trace_is g c = ap seen_first c.into_badge-badge.ensures.2 ∙ ap (λ m. m.0.seen
 slot_count : (g : Over) (c : After-drop-passes g) → length (slots_items c.close_with.result.slots) ≡ c.args.self.nodes
 slot_count g c = let n = c.close_with.ensures.counts.1 in let m = c.close_with.result.slots.ok.0 in let k = c.args.self.sized.1 in sym m ∙ n ∙ k
 
+abbrev Rest : Over → Type 0
+Rest g = Closed (Option g.row.N.Denot) Global
+
+kept : (g : Over) (c : After-drop-passes g) → c.of.result ≡ c.close_with.result
+kept g c = c.of.ensures
+
 pub returns-clause-run : goal.returns-clause-run
-returns-clause-run g c = let e = ends g c in let v = c.load.new.seat.me.0.seen in let n : ℕ = length (slots_items c.close_with.result.slots) in let same = slot_count g c in let t = sym (trace_is g c) in record {
+returns-clause-run g c = let e = ends g c in let k = kept g c in let v = c.load.new.seat.me.0.seen in let n : ℕ = length (slots_items c.close_with.result.slots) in let same = slot_count g c in let t = sym (trace_is g c) in record {
   lawful = subst Lawful t (c.sound_law.ensures.lawful (sort_of g.N.Node.layout g.N.Node.ranged) n v e.sound);
   good = subst GoodThroughout t (c.sound_law.ensures.good (sort_of g.N.Node.layout g.N.Node.ranged) n v e.sound);
   due = subst (λ (z : ℕ × List Event). FullsDue g.N.Node.layout z.0 z.1) (λ k. (same k, t k)) (c.sound_law.ensures.due (sort_of g.N.Node.layout g.N.Node.ranged) n v e.sound);
-  sized = same;
-  count = e.count ∙ ap number_after t;
-  turns = λ i near. e.turns i (subst (λ (z : ℕ). i < z) (sym same) near) ∙ ap (λ (z : List Event). turn_word (turn_after z i)) t;
-  ends = λ i near. subst (λ (z : List Event). Ends (sort_of g.N.Node.layout g.N.Node.ranged) g.N.Node.body (graph_after z i) (frame_after (blank_of (sort_of g.N.Node.layout g.N.Node.ranged)) z i) (turn_after z i) (get_elem? (slots_items c.close_with.result.slots) i)) t (e.ends i (subst (λ (z : ℕ). i < z) (sym same) near));
+  sized = ap (λ (z : Rest g). length (slots_items z.slots)) k ∙ same;
+  count = ap (λ (z : Rest g). slice_index (slots_items z.words) 0) k ∙ e.count ∙ ap number_after t;
+  turns = λ i near. ap (λ (z : Rest g). slice_index (slots_items z.words) (i + 2)) k ∙ e.turns i (subst (λ (z : ℕ). i < z) (sym same) near) ∙ ap (λ (z : List Event). turn_word (turn_after z i)) t;
+  ends = λ i near. subst (λ (z : List Event × Rest g). Ends (sort_of g.N.Node.layout g.N.Node.ranged) g.N.Node.body (graph_after z.0 i) (frame_after (blank_of (sort_of g.N.Node.layout g.N.Node.ranged)) z.0 i) (turn_after z.0 i) (get_elem? (slots_items z.1.slots) i)) (λ j. (t j, sym k j)) (e.ends i (subst (λ (z : ℕ). i < z) (sym same) near));
   beyond = λ i far. let some : 0 < c.args.self.nodes = c.args.self.sized.2 in ap (λ (z : List Event). graph_after z i) (sym t) ∙ free_beyond (sort_of g.N.Node.layout g.N.Node.ranged) g.D.Discipline.begins g.D.Discipline.step n (subst (λ (z : ℕ). 0 < z) (sym same) some) v e.sound i (subst (λ (z : ℕ). z ≤ i) (sym same) far);
 }
 

@@ -1,0 +1,64 @@
+//! All nodes of an arena of several free words are claimed.
+ghost use Rattle.std.specs.Prelude.{◌≡◌, ◌<◌, ◌≤◌};
+ghost use Rattle.ks_arena.specs.Sound.{sort_of};
+ghost use Rattle.ks_arena.specs.Clauses.{IsPass, StillMatch, hand_of, seen_of};
+
+use crate::claim_of_many;
+use ks_arena::{Arena, Pass, Steps};
+use ks_flow::{Discipline, Tree};
+use ks_list::ListNode;
+use ks_node::Node;
+use std::marker::Brand;
+use std::sync::ledger::{Blank, Ledger};
+use std::test::Fail;
+
+/// Claims the nodes from `next` on until none is left, and gives them back. Tells whether they came in order, up to the
+/// last.
+fn claim_from<N: Node, D: Discipline, L: Ledger>(
+    arena: &Arena<N, D>,
+    pass: &mut Pass<N, D>,
+    steps: &mut Steps<L>,
+    next: u32,
+) -> bool
+    requires pass { IsPass (sort_of N.layout N.ranged) D.begins D.step arena.now.table.shared.table_id arena.now.callers pass.old }
+    requires size { arena.now.nodes ≡ 200 }
+    requires alone { (arena.now.callers ≡ 1) × (pass.old.caller ≡ 0) }
+    requires next { next ≤ 200 }
+    ensures pass { IsPass (sort_of N.layout N.ranged) D.begins D.step arena.now.table.shared.table_id arena.now.callers pass.new }
+    ensures caller { pass.new.caller ≡ pass.old.caller }
+    ensures hand { hand_of pass.new ≡ hand_of pass.old }
+    ensures still { StillMatch (sort_of N.layout N.ranged) N.body (hand_of pass.old) (seen_of pass.old) (seen_of pass.new) }
+{
+    let Some(held) = claim_of_many(arena, pass, steps) else {
+        return next == 200;
+    };
+    let in_order = held.node == next && claim_from(arena, pass, steps, next + 1);
+    arena.give(pass, held);
+    in_order
+}
+
+/// The same from node 1 on, with a new count of steps.
+fn claim_all<N: Node, D: Discipline, L: Ledger>(
+    arena: &Arena<N, D>,
+    pass: &mut Pass<N, D>,
+    blank: Blank,
+) -> bool
+    requires pass { IsPass (sort_of N.layout N.ranged) D.begins D.step arena.now.table.shared.table_id arena.now.callers pass.old }
+    requires size { arena.now.nodes ≡ 200 }
+    requires alone { (arena.now.callers ≡ 1) × (pass.old.caller ≡ 0) }
+    requires name { blank.name ≡ L.name }
+    requires parts { blank.parts ≡ L.parts }
+    requires some { 0 < blank.parts }
+{
+    claim_from(arena, pass, &mut Steps::<L>::start(blank), 1)
+}
+
+#[test]
+fn one_caller_claims_each_of_200_nodes_in_order_in_few_steps(rt: HostRuntime) -> Result<(), Fail> {
+    let (arena, mut passes) = Arena::<ListNode, Tree>::start(rt.alloc(), 200, 1)?;
+    let Some(mut pass) = passes.pop() else {
+        panic!(rt; "no pass")
+    };
+    assert!(rt; claim_all::<ListNode, Tree, Brand>(&arena, &mut pass, Blank::new(1)));
+    Ok(())
+}
