@@ -24,6 +24,7 @@ use Rattle.ks_node.specs.Room.{is_full, is_full_at, capacity, load}
 use Rattle.ks_bodies.specs.Stands.{IsPlain, Stands, live_as}
 use Rattle.ks_arena.specs.declared.held.Held.{Held as Hand}
 use Rattle.ks_arena.specs.Sound.{Sort, blank_of, Sound}
+use Rattle.ks_shape.specs.InHand.{IsLive, IsFree}
 use Rattle.ks_arena.specs.Clauses.{Matches, MatchesIf, new_state_of, change_of}
 
 pub plain : (b : Body) → InOrder (content_of b) → ForSome b.range (λ r. Framed r b) → b.link ≡ None → IsPlain b
@@ -39,18 +40,15 @@ module _ {N : Type 0} (sort : Sort) (shows : N → Body) where
   blank_if false s f b e so = so
 
   -- a live node in hand stands as its body shows, and one that is not live has no record
-  pub stands : (seen h : List Event) (c : ℕ) (x : Hand N) → Matches sort shows seen x → x.live ≡ true → IsPlain (shows x.body) → StaysHeld c x.node seen h → Stands (graph_after h) (frame_after (blank_of sort) h) x.node (shows x.body)
-  stands seen h c x m live plain so = let t = live_if x.live (graph_after seen x.node) (frame_after (blank_of sort) seen x.node) x.body live m.is in record {
+  pub stands : (hs : List ℕ) (seen h : List Event) (c : ℕ) (x : Hand N) → IsLive sort shows hs seen x → IsPlain (shows x.body) → StaysHeld c x.node seen h → Stands (graph_after h) (frame_after (blank_of sort) h) x.node (shows x.body)
+  stands hs seen h c x is plain so = let t = live_if x.live (graph_after seen x.node) (frame_after (blank_of sort) seen x.node) x.body is.live is.matches.is in record {
     has = ap live_record (so.state ∙ t.0);
     frame = so.frame (blank_of sort) ∙ t.1;
     plain = plain;
   }
 
-  pub no_record : (seen h : List Event) (c : ℕ) (x : Hand N) → Matches sort shows seen x → x.live ≡ false → StaysHeld c x.node seen h → record_at (graph_after h) x.node ≡ None
-  no_record seen h c x m live so = let t = blank_if x.live (graph_after seen x.node) (frame_after (blank_of sort) seen x.node) x.body live m.is in ap live_record so.state ∙ t.0
-
-  pub is_blank : (seen : List Event) (x : Hand N) → Matches sort shows seen x → x.live ≡ false → shows x.body ≡ blank_body sort.ranged
-  is_blank seen x m live = (blank_if x.live (graph_after seen x.node) (frame_after (blank_of sort) seen x.node) x.body live m.is).1
+  pub no_record : (hs : List ℕ) (seen h : List Event) (c : ℕ) (x : Hand N) → IsFree sort shows hs seen x → StaysHeld c x.node seen h → record_at (graph_after h) x.node ≡ None
+  no_record hs seen h c x is so = let t = blank_if x.live (graph_after seen x.node) (frame_after (blank_of sort) seen x.node) x.body is.free is.matches.is in ap live_record so.state ∙ t.0
 
   -- the change of a live node in hand is to what its body shows
   pub changed_to : (x : Hand N) (b : Body) → x.live ≡ true → shows x.body ≡ b → change_of shows x ≡ live_as x.node b

@@ -3,4 +3,4 @@
 
 mod tree;
 
-pub use tree::split_own;
+pub use tree::{absorb_own, absorb_under, collapse, grow, split_own, split_under};
