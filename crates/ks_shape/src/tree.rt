@@ -138,8 +138,7 @@ pub fn grow<N: Unlinked>(
     tree_steps_law();
     unlinked_law::<N>();
     node_law(&node.body);
-    node.body
-        .grow(&mut left.body, &mut right.body, left.node, right.node, cut);
+    node.body.grow(&mut left.body, &mut right.body, left.node, right.node, cut);
     left.live = true;
     right.live = true;
     node_law(&node.body);
