@@ -1,0 +1,40 @@
+use Rattle.std.proofs.Common.{rules, ◌≡◌, ◌<◌, ℕ, List, [], ◌∷◌, arith, sym, refl, ap, ◌∙◌, subst, true, false}
+use Rattle.std.specs.Prelude.{All, is_some, None}
+use Rattle.ks_keysets.specs.declared.Change.{Change}
+use Rattle.ks_keysets.specs.declared.NodeState.{NodeState}
+use Rattle.ks_keysets.specs.declared.NewState.TheVariants.{BecomesFree}
+use Rattle.ks_keysets.specs.declared.Frame.{Frame}
+use Rattle.ks_keysets.specs.declared.Pair.{Pair}
+use Rattle.ks_keysets.specs.Keyset.{record_at}
+use Rattle.ks_history.specs.declared.Event.{Event}
+use Rattle.ks_history.specs.Trace.{graph_after, frame_after}
+use Rattle.ks_history.specs.Passes.{GrowsByOthers}
+use Rattle.ks_history.specs.Begins.{good_now, by_others_none}
+use Rattle.ks_node.specs.Body.{Body}
+use Rattle.ks_node.specs.Effect.{split_left, split_right, reached, adopted, grown, absorbed, forgot, collapsed}
+use Rattle.ks_flow.specs.Discipline.{BeginsTree, TreeStep}
+use Rattle.ks_bodies.specs.Shapes.{CanPart, CanAdopt, CanAbsorbOwn, CanAbsorbUnder, CanCollapse, split_on}
+use Rattle.ks_bodies.specs.Stands.{IsPlain, Stands}
+use Rattle.ks_arena.specs.declared.held.Held.{Held}
+use Rattle.ks_arena.specs.Sound.{sort_of, blank_of, Sound}
+use Rattle.ks_arena.specs.Clauses.{seen_of, hand_of}
+use Rattle.ks_shape.proofs.Standing.{plain, stands, no_record, stays, no_directory, changed_to}
+use Rattle.ks_shape.proofs.tree.collapse.Given.{Over}
+use Rattle.ks_shape.proofs.tree.collapse.Goals as goal
+use Rattle.ks_shape.proofs.tree.collapse.Goals.{After-node_law-2}
+
+collapses : (g : Over) (c : After-node_law-2 g) (h : List Event) → GrowsByOthers c.args.pass.now.caller (seen_of c.args.pass.now) h → Sound (sort_of g.N.Node.layout g.N.Node.ranged) BeginsTree TreeStep c.args.arena.now.table.shared.table_id.slots h
+    → CanCollapse (graph_after h) (frame_after (blank_of (sort_of g.N.Node.layout g.N.Node.ranged)) h) c.args.node.now.node c.args.child.now.node (g.N.Node.body c.args.node.now.body) (g.N.Node.body c.args.child.now.body)
+collapses g c h grows so = let sort = sort_of g.N.Node.layout g.N.Node.ranged in let n : ℕ = c.args.arena.now.table.shared.table_id.slots in let me : ℕ = c.args.pass.now.caller in let seen = seen_of c.args.pass.now in let hs : List ℕ = hand_of c.args.pass.now in let r = c.requires in
+    let keep = stays sort n me seen h (λ k sound. c.sound_law.ensures.lawful sort n k sound) grows r.pass.sound so in record { stands = stands sort g.N.Node.body hs seen h me c.args.node.now r.node (plain (g.N.Node.body c.args.node.now.body) c.node_law.ensures.sound c.node_law.ensures.framed (c.unlinked_law.ensures.no_link c.args.node.now.body)) (keep c.args.node.now.node r.node.has); below = stands sort g.N.Node.body hs seen h me c.args.child.now r.child (plain (g.N.Node.body c.args.child.now.body) c.node_law-2.ensures.sound c.node_law-2.ensures.framed (c.unlinked_law.ensures.no_link c.args.child.now.body)) (keep c.args.child.now.node r.child.has); sole = r.sole }
+
+pub collapse-requires-clause-range : goal.collapse-requires-clause-range
+collapse-requires-clause-range g c = let seen = seen_of c.args.pass.now in let sort = sort_of g.N.Node.layout g.N.Node.ranged in let n : ℕ = c.args.arena.now.table.shared.table_id.slots in let g₀ : ℕ → NodeState = graph_after seen in let f₀ : ℕ → Frame = frame_after (blank_of sort) seen in let good = good_now (c.sound_law.ensures.good sort n seen c.requires.pass.sound) in let facts = c.sound_law.ensures.facts sort n seen c.requires.pass.sound in let none = by_others_none c.args.pass.now.caller seen in let at = (goal.at.collapse-requires-clause-range g c).After-node_law-2 in
+    c.tree_asks_law.ensures.collapse g₀ f₀ c.args.node.now.node c.args.child.now.node (g.N.Node.body c.args.node.now.body) (g.N.Node.body c.args.child.now.body) good facts (collapses g at seen none c.requires.pass.sound) (c.node_law.ensures.has_range ∙ sym c.node_law-2.ensures.has_range)
+
+pub shape-requires-clause-may : goal.shape-requires-clause-may
+shape-requires-clause-may g c κs within = λ h grows sound. let sort = sort_of g.N.Node.layout g.N.Node.ranged in let n : ℕ = c.args.arena.now.table.shared.table_id.slots in let same : c.args.arena.now.nodes ≡ n = omega arith in let so = subst (λ (z : ℕ). Sound sort BeginsTree TreeStep z h) same sound in
+    let at = (goal.at.shape-requires-clause-may g c).After-node_law-2 in let good = good_now (c.sound_law.ensures.good sort n h so) in let facts = c.sound_law.ensures.facts sort n h so in let g₁ : ℕ → NodeState = graph_after h in let f₁ : ℕ → Frame = frame_after (blank_of sort) h in let no_link = c.unlinked_law.ensures.no_link in
+    let b : Body = (g.N.Node.body c.args.node.now.body) in let q : Body = (g.N.Node.body c.args.child.now.body) in let left = c.collapse.ensures.parent in
+    let step = c.tree_steps_law.ensures.collapse g₁ f₁ c.args.node.now.node c.args.child.now.node b q good facts (collapses g at h grows so) (subst IsPlain left (plain (g.N.Node.body c.collapse.new.self) c.node_law-3.ensures.sound c.node_law-3.ensures.framed (no_link c.collapse.new.self))) in
+    subst (TreeStep g₁ f₁) (λ k. sym (changed_to sort g.N.Node.body (record { node = c.args.node.now.node; body = c.collapse.new.self; live = c.args.node.now.live }) (collapsed b q) c.requires.node.live left) k ∷ record { node = c.args.child.now.node; state = BecomesFree } ∷ []) step

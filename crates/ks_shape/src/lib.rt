@@ -1,0 +1,6 @@
+//! The shapes of maintenance: each is some calls of nodes in hand, and then one Shape.
+#![tactic(auto)]
+
+mod tree;
+
+pub use tree::{absorb_own, absorb_under, collapse, grow, split_own, split_under};
