@@ -151,6 +151,10 @@ fn two_threads_put_eight_places_at_one_node(rt: HostRuntime) -> Result<(), Fail>
     let all = crew(rt.alloc(), one, two)?;
     let run = arena.close(all);
     assert!(rt; run.calls() == 8);
-    // Once a run tells its pairs: they stand at the places 0 to 7, each with its place as the value.
+    let pairs = run.pairs(rt.alloc())?;
+    assert!(rt; pairs.len() == 8);
+    for (place, pair) in pairs.iter().enumerate() {
+        assert!(rt; pair.0 == place as u64 && pair.1 == place as u128);
+    }
     Ok(())
 }
