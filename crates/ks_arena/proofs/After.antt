@@ -1,11 +1,9 @@
 -- What the calls of the arena leave their passes with.
-use Rattle.std.proofs.Common.{◌≡◌, ◌≢◌, ℕ, zero, suc, ◌+◌, ◌-◌, ◌%◌, ◌^◌, ◌<◌, ◌⊎◌, Bool, true, false, cond, eqb, List, [], ◌∷◌, ◌++◌, length, map, sym, refl, ap, ◌∙◌, subst, inl, inr, ⊎_elim, arith}
+use Rattle.std.proofs.Common.{◌≡◌, ◌≢◌, ℕ, ◌^◌, ◌<◌, ◌⊎◌, Bool, true, false, cond, eqb, List, [], ◌∷◌, ◌++◌, sym, refl, ap, ◌∙◌, subst, inl, inr, arith}
 use Rattle.std.specs.Prelude.{Option, Some, None, All, AllPairs}
 use Rattle.std.proofs.lemmas.List.Elements.{All-cons, All-nil}
 use Rattle.std.proofs.lemmas.List.Kept.{AllPairs-cons}
-use mathlib.Core.Logic.{dite}
-use native.Mathlib.Decide.{ℕ_discrete}
-use Rattle.atomic_table.specs.Table.{Me, rest}
+use Rattle.atomic_table.specs.Table.{rest}
 use Rattle.atomic_table.specs.Seated.{TableId}
 use Rattle.ks_keysets.specs.declared.Frame.{Frame}
 use Rattle.ks_keysets.specs.declared.NodeState.{NodeState}
@@ -13,26 +11,26 @@ use Rattle.ks_keysets.specs.declared.NodeState.TheVariants.{Free, Claimed, Live}
 use Rattle.ks_keysets.specs.declared.Change.{Change}
 use Rattle.ks_keysets.specs.Change.{new_state, new_frame, shaped, reframed}
 use Rattle.ks_history.specs.declared.Event.{Event}
-use Rattle.ks_history.specs.declared.Event.TheVariants.{Take, Give, Claim, Shape, Call}
-use Rattle.ks_history.specs.Trace.{mine, hand, drop_one, Turn, free, idle, held, turn_given, given, graph_after, turn_after, frame_after, number_after, caller_of}
-use Rattle.ks_history.specs.Passes.{Has, NoneOf, CallersBelow, GrowsByOthers, GrowsWith}
+use Rattle.ks_history.specs.declared.Event.TheVariants.{Give, Claim, Shape}
+use Rattle.ks_history.specs.Trace.{mine, hand, drop_one, free, held, turn_given, given, graph_after, turn_after, frame_after, caller_of}
+use Rattle.ks_history.specs.Passes.{Has, CallersBelow, GrowsByOthers, GrowsWith}
 use Rattle.ks_history.specs.Stays.{StaysHeld, AreInTurn, cond_here, cond_else}
 use Rattle.ks_history.specs.Begins.{by_others_keeps, by_others_turn, by_others_hand, by_others_mine, with_mine, by_others_with, with_others, give_hand}
 use Rattle.ks_arena.specs.declared.held.Pass.{Pass}
 use Rattle.ks_arena.specs.declared.view.Mark.{Mark}
-use Rattle.ks_arena.specs.declared.view.Mark.TheVariants.{Quiet, Freeing}
+use Rattle.ks_arena.specs.declared.view.Mark.TheVariants.{Quiet}
 use Rattle.ks_arena.specs.declared.view.View.{View}
 use Rattle.ks_node.specs.Body.{Body, frame_of, blank_body}
 use Rattle.ks_node.specs.Edges.{record_of}
-use Rattle.ks_arena.specs.Sound.{Sort, blank_of, Sound, StepsSoundly}
+use Rattle.ks_arena.specs.Sound.{Sort, blank_of, Sound}
 use Rattle.ks_arena.specs.declared.held.Held.{Held as Hand}
 use denote.Bor.{Bor}
-use Rattle.ks_arena.specs.Clauses.{AllAmong, EachOnce, IsPass, IsPassWith, give_mark, Matches, MatchesIf, new_state_of, change_of, changes_of, IsShaped, AreShaped, hand_of, seen_of, view_of, Kept, KeptBut, KeptBesides, NamesNot}
+use Rattle.ks_arena.specs.Clauses.{AllAmong, EachOnce, IsPass, IsPassWith, give_mark, Matches, MatchesIf, new_state_of, change_of, changes_of, IsShaped, AreShaped, hand_of, seen_of, Kept, KeptBut, NamesNot}
 use Rattle.ks_arena.specs.Rule.{turn_word}
-use Rattle.ks_arena.specs.Plays.{Shows, Seated, with_seen, marked, Looks, Makes, drop_slot, InHand, HasSlots, Carries}
+use Rattle.ks_arena.specs.Plays.{Shows, Seated, marked, Looks, Makes, drop_slot, Carries}
 use Rattle.ks_arena.proofs.Words.{are_in_turn}
 use Rattle.ks_arena.proofs.Moves.{GivesMark, gives_mark_live, gives_mark_free}
-use Rattle.ks_arena.proofs.Hold.{Follows, follows_marked, follows_both, looks_follows, makes_follows, looks_grows, makes_grows, Gains, carries_gain, carries_along, carries_give, carries_lift, slots_in, drop_in, hand_near, holds_it, holds_not}
+use Rattle.ks_arena.proofs.Hold.{Follows, follows_marked, follows_both, looks_follows, makes_follows, looks_grows, makes_grows, Gains, carries_gain, carries_along, carries_give, carries_lift, slots_in, drop_in, hand_near, holds_it}
 
 -- the event changes the state and the frame of node i alone
 abbrev pub Touches : Event → ℕ → Type 0

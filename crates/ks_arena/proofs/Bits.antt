@@ -6,10 +6,10 @@ use native.Mathlib.Decide.{ℕ_discrete}
 use lib.ListN.{get_elem?}
 use Rattle.atomic_table.proofs.Lists.{at_set, set_here, set_else, at_longer}
 use Rattle.ks_history.specs.declared.Event.{Event}
-use Rattle.ks_history.specs.Trace.{Turn, free, idle, held, turn_after}
+use Rattle.ks_history.specs.Trace.{free, held, turn_after}
 use Rattle.ks_history.specs.Passes.{Has}
 use Rattle.ks_arena.specs.declared.view.Mark.{Mark}
-use Rattle.ks_arena.specs.declared.view.Mark.TheVariants.{Quiet, Claiming, Freeing}
+use Rattle.ks_arena.specs.declared.view.Mark.TheVariants.{Quiet}
 use Rattle.ks_arena.specs.declared.view.View.{View}
 use Rattle.ks_arena.specs.Rule.{FirstBits, callers_in, all_callers, Views, Marks, SomeMarks, free_bit, FreeBits}
 use Rattle.ks_arena.specs.Plays.{with_seen, marked}

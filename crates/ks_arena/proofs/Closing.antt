@@ -1,6 +1,6 @@
 -- The list of passes, as it is made and as it is joined.
-use Rattle.std.proofs.Common.{map, ◌≡◌, ◌≢◌, ℕ, zero, suc, ◌+◌, ◌^◌, ◌<◌, ◌⊎◌, cond, eqb, max, List, [], ◌∷◌, ◌++◌, length, sym, refl, ap, ◌∙◌, subst, inl, inr, ⊎_elim, arith, length-append}
-use Rattle.std.specs.Prelude.{Option, Some, None}
+use Rattle.std.proofs.Common.{map, ◌≡◌, ℕ, zero, suc, ◌+◌, ◌^◌, ◌<◌, ◌⊎◌, cond, eqb, max, List, [], ◌∷◌, ◌++◌, length, sym, refl, ap, ◌∙◌, subst, inl, inr, ⊎_elim, arith, length-append}
+use Rattle.std.specs.Prelude.{Option, Some}
 use mathlib.Core.Option.{some, some-injective, some-ne-none}
 use mathlib.Core.Logic.{dite}
 use native.Mathlib.Decide.{ℕ_discrete}
@@ -14,7 +14,7 @@ use Rattle.ks_keysets.specs.declared.NodeState.{NodeState}
 use Rattle.ks_keysets.specs.declared.Change.{Change}
 use Rattle.ks_history.specs.declared.Event.{Event}
 use Rattle.ks_history.specs.Trace.{hand, free, idle, held, turn_after}
-use Rattle.ks_history.specs.Passes.{Has, NoneOf, CallersBelow, GrowsByOthers}
+use Rattle.ks_history.specs.Passes.{Has, CallersBelow}
 use Rattle.ks_history.specs.Stays.{cond_here, cond_else, others_turn}
 use Rattle.ks_history.specs.Hand.{held_in_hand}
 use Rattle.ks_history.specs.Begins.{none_by}
@@ -25,8 +25,8 @@ use Rattle.ks_arena.specs.declared.view.Part.{Part}
 use Rattle.ks_arena.specs.declared.view.View.{View}
 use Rattle.ks_arena.specs.Sound.{Sort, blank_of, Sound}
 use Rattle.ks_arena.specs.Rule.{Fits, FitsAll, callers_in, all_callers, part_of, both_views, AllBlank}
-use Rattle.ks_arena.specs.Plays.{Seated, Carries, InHand, gathered}
-use Rattle.ks_arena.specs.Clauses.{IsPass, IsNewPass, IsNewCrew, IsCrew, EndsAll}
+use Rattle.ks_arena.specs.Plays.{Seated, Carries, gathered}
+use Rattle.ks_arena.specs.Clauses.{IsNewPass, IsNewCrew, IsCrew, EndsAll}
 use Rattle.ks_arena.proofs.Bits.{inside}
 use Rattle.ks_arena.proofs.Seen.{has_left, has_right}
 

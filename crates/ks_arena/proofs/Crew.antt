@@ -1,21 +1,21 @@
 -- How passes are made and put together, and what the last one knows.
-use Rattle.std.proofs.Common.{◌≡◌, ◌≢◌, ℕ, zero, suc, ◌+◌, ◌*◌, ◌%◌, ◌^◌, ◌<◌, ◌≤◌, ◌⊎◌, Bool, true, false, cond, eqb, List, [], ◌∷◌, ◌++◌, length, map, max, get_or, set, sym, refl, ap, ◌∙◌, subst, inl, inr, ⊎_elim, arith, length-set}
-use Rattle.std.specs.Prelude.{Option, Some, None}
+use Rattle.std.proofs.Common.{◌≡◌, ◌≢◌, ℕ, zero, suc, ◌+◌, ◌*◌, ◌<◌, ◌⊎◌, Bool, true, false, cond, eqb, List, [], ◌∷◌, ◌++◌, length, map, max, get_or, set, sym, refl, ap, ◌∙◌, subst, inl, inr, ⊎_elim, arith, length-set}
+use Rattle.std.specs.Prelude.{Option, Some}
 use Rattle.std.proofs.lemmas.List.{set-get_or}
 use mathlib.Core.Option.{none, some, some-injective, some-ne-none}
 use mathlib.Core.Option as maybe
 use mathlib.Core.Logic.{dite}
 use native.Mathlib.Decide.{ℕ_discrete}
 use lib.ListN.{get_elem?, length-map}
-use Rattle.atomic_table.specs.Table.{State, keeps, Allows, Splits, Joins, opening, Final, Seen, step}
-use Rattle.atomic_table.proofs.Lists.{at_set, set_here, set_else, set_again, at_longer, at_last, at_map}
+use Rattle.atomic_table.specs.Table.{keeps, Allows, Splits, Joins, opening, Final, Seen, step}
+use Rattle.atomic_table.proofs.Lists.{at_set, set_here, set_else, set_again, at_longer, at_map}
 use Rattle.ks_keysets.specs.declared.Frame.{Frame}
 use Rattle.ks_keysets.specs.declared.NodeState.{NodeState}
-use Rattle.ks_keysets.specs.declared.NodeState.TheVariants.{Free, Claimed, Live}
+use Rattle.ks_keysets.specs.declared.NodeState.TheVariants.{Live}
 use Rattle.ks_keysets.specs.declared.Change.{Change}
 use Rattle.ks_keysets.specs.Record.{empty_record}
 use Rattle.ks_history.specs.declared.Event.{Event}
-use Rattle.ks_history.specs.Trace.{Turn, free, idle, held, graph_after, turn_after, frame_after, number_after, caller_of}
+use Rattle.ks_history.specs.Trace.{Turn, free, idle, held, graph_after, turn_after, frame_after, caller_of}
 use Rattle.ks_history.specs.Passes.{Has, NoneOf, CallersBelow}
 use Rattle.ks_history.specs.Stays.{cond_here, cond_else}
 use Rattle.ks_node.specs.Body.{Body, frame_of, blank_body}
@@ -28,7 +28,7 @@ use Rattle.ks_arena.specs.Sound.{Sort, blank_of, Sound}
 use Rattle.ks_arena.specs.Rule.{free_words, Marks, SomeMarks, FreeBits, FirstBits, Fits, FitsAll, callers_in, all_callers, SomeWhole, IsWhole, AllBelow, Views, Rests, Running, turn_word, first_view, next_view, maker_view, note_view, part_of, both_views, spent_view, Ends, Closes, AllBlank}
 use Rattle.ks_arena.specs.Plays.{Seated, gathered}
 use Rattle.ks_arena.proofs.Words.{held_below}
-use Rattle.ks_arena.proofs.Seen.{has_left, has_right, no_more, view_at, grows_to}
+use Rattle.ks_arena.proofs.Seen.{has_left, has_right, view_at, grows_to}
 use Rattle.ks_arena.proofs.Bits.{inside, bits_view, bits_longer}
 
 at_end : {A : Type 0} (l : List A) (a b : A) (j : ℕ) → get_elem? (l ++ a ∷ []) j ≡ some b → (get_elem? l j ≡ some b) ⊎ ((j ≡ length l) × (a ≡ b))

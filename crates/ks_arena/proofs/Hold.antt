@@ -1,29 +1,19 @@
 -- What a pass has in hand, and what it knows of it, after each step.
-use Rattle.std.proofs.Common.{◌≡◌, ◌≢◌, ℕ, zero, suc, ◌+◌, ◌-◌, ◌%◌, ◌^◌, ◌<◌, ◌⊎◌, Bool, true, false, cond, eqb, List, [], ◌∷◌, ◌++◌, length, map, sym, refl, ap, ◌∙◌, subst, inl, inr, ⊎_elim, arith}
-use Rattle.std.specs.Prelude.{Option, Some, None}
+use Rattle.std.proofs.Common.{◌≡◌, ◌≢◌, ℕ, ◌<◌, cond, eqb, List, [], ◌∷◌, ◌++◌, map, sym, refl, ap, ◌∙◌, subst, inl, inr, ⊎_elim}
+use Rattle.std.specs.Prelude.{Option, None}
 use mathlib.Core.Logic.{dite}
 use native.Mathlib.Decide.{ℕ_discrete}
-use Rattle.atomic_table.specs.Table.{Me, rest}
-use Rattle.ks_keysets.specs.declared.Frame.{Frame}
+use Rattle.atomic_table.specs.Table.{rest}
 use Rattle.ks_keysets.specs.declared.NodeState.{NodeState}
-use Rattle.ks_keysets.specs.declared.NodeState.TheVariants.{Free, Claimed, Live}
-use Rattle.ks_keysets.specs.declared.Change.{Change}
-use Rattle.ks_keysets.specs.Change.{new_state, new_frame, shaped, reframed}
-use Rattle.ks_history.specs.declared.Op.{Op}
-use Rattle.ks_history.specs.declared.Reply.{Reply}
 use Rattle.ks_history.specs.declared.Event.{Event}
-use Rattle.ks_history.specs.declared.Event.TheVariants.{Take, Give, Claim, Shape, Call}
-use Rattle.ks_history.specs.Trace.{mine, hand, drop_one, Turn, free, idle, held, turn_given, given, state_with, graph_after, turn_after, frame_after, number_after, caller_of}
-use Rattle.ks_history.specs.Write.{written}
-use Rattle.ks_history.specs.Passes.{Has, NoneOf, NoneBy, GrowsByOthers, GrowsWith}
+use Rattle.ks_history.specs.declared.Event.TheVariants.{Give}
+use Rattle.ks_history.specs.Trace.{mine, hand, drop_one, held, turn_given, graph_after, turn_after}
+use Rattle.ks_history.specs.Passes.{Has, GrowsByOthers, GrowsWith}
 use Rattle.ks_arena.specs.declared.view.Mark.{Mark}
 use Rattle.ks_arena.specs.declared.view.View.{View}
-use Rattle.ks_node.specs.Body.{Body, frame_of, blank_body}
-use Rattle.ks_node.specs.Edges.{record_of}
-use Rattle.ks_arena.specs.Sound.{Sort, blank_of, Sound, StepsSoundly}
-use Rattle.ks_arena.specs.Plays.{Seated, with_seen, marked, Looks, Makes, drop_slot, InHand, HasSlots, Carries, decided, formed}
+use Rattle.ks_arena.specs.Plays.{Seated, with_seen, marked, Looks, Makes, drop_slot, InHand, HasSlots, Carries}
 use Rattle.ks_history.specs.Stays.{cond_here, cond_else, given_not_held}
-use Rattle.ks_history.specs.Begins.{none_by, none_of_both}
+use Rattle.ks_history.specs.Begins.{none_by}
 use Rattle.ks_arena.proofs.Stepping.{has_one}
 
 -- a view that has become another with the same callers, number and mark

@@ -1,13 +1,12 @@
 -- What a pass is after it took in a note.
-use Rattle.std.proofs.Common.{◌≡◌, ◌≢◌, ℕ, ◌+◌, ◌^◌, ◌<◌, max, cond, eqb, List, [], ◌∷◌, ◌++◌, map, sym, refl, ap, ◌∙◌, subst, inl, arith}
+use Rattle.std.proofs.Common.{◌≡◌, ◌≢◌, ℕ, max, List, [], ◌∷◌, ◌++◌, sym, refl, ap, ◌∙◌, subst, inl, arith}
 use Rattle.std.specs.Prelude.{Option}
 use Rattle.atomic_table.specs.Seated.{TableId}
 use Rattle.atomic_table.specs.Table.{Step}
 use Rattle.ks_keysets.specs.declared.Frame.{Frame}
 use Rattle.ks_keysets.specs.declared.NodeState.{NodeState}
 use Rattle.ks_keysets.specs.declared.Change.{Change}
-use Rattle.ks_history.specs.declared.Event.{Event}
-use Rattle.ks_history.specs.Trace.{◌⊑◌, hand, mine}
+use Rattle.ks_history.specs.Trace.{◌⊑◌, hand}
 use Rattle.ks_history.specs.Passes.{Has, CallersBelow, GrowsByOthers}
 use Rattle.ks_history.specs.Begins.{none_by, by_others_hand, by_others_mine, by_others_keeps}
 use Rattle.ks_node.specs.Body.{Body}
@@ -21,7 +20,7 @@ use Rattle.ks_arena.specs.Plays.{Seated, gathered, Carries}
 use Rattle.ks_arena.specs.Clauses.{IsPass, IsNote, seen_of, noted, HasLooked, Kept}
 use Rattle.ks_arena.proofs.Words.{are_in_turn}
 use Rattle.ks_arena.proofs.Hold.{Follows, slots_in}
-use Rattle.ks_arena.proofs.After.{pass_again, carries_others}
+use Rattle.ks_arena.proofs.After.{carries_others}
 
 module _ {N D : Type 0} (sort : Sort) (begins : Frame → Type 0) (asks : (ℕ → NodeState) → (ℕ → Frame) → List Change → Type 0) (shows : N → Body) where
   pub record Learned (t : TableId) (callers : ℕ) (p : Pass N D) (x : Note N D) (m : Seated N) : Type 0 where

@@ -1,7 +1,7 @@
 -- What each step of the arena asks and tells.
-use Rattle.std.proofs.Common.{◌≡◌, ◌≢◌, ℕ, zero, suc, ◌+◌, ◌*◌, ◌/◌, max, bit_and, bit_or, w64, ◌%◌, ◌^◌, ◌<◌, ◌⊎◌, Bool, cond, eqb, List, [], ◌∷◌, ◌++◌, length, get_or, set, sym, refl, ap, ◌∙◌, subst, inl, inr, ⊎_elim, arith, length-set, get_or-set_other, get_or-set_same, length-append}
+use Rattle.std.proofs.Common.{◌≡◌, ◌≢◌, ℕ, ◌+◌, ◌*◌, ◌/◌, max, bit_and, bit_or, w64, ◌%◌, ◌^◌, ◌<◌, ◌⊎◌, eqb, List, [], ◌∷◌, ◌++◌, length, get_or, set, sym, refl, ap, ◌∙◌, subst, inl, inr, ⊎_elim, arith, length-set, get_or-set_other, get_or-set_same, length-append}
 use Rattle.std.specs.Prelude.{Option, Some, None, All}
-use Rattle.std.proofs.lemmas.List.{set-get_or, set_comm, set-set}
+use Rattle.std.proofs.lemmas.List.{set_comm, set-set}
 use Rattle.std.proofs.lemmas.List.Elements.{All-head, All-tail}
 use mathlib.Core.Option.{none, some, some-injective, some-ne-none}
 use mathlib.Core.Option as maybe
@@ -9,7 +9,7 @@ use mathlib.Core.Logic.{dite}
 use native.Mathlib.Decide.{ℕ_discrete}
 use lib.ListN.{get_elem?}
 use prog.Atomic.{either}
-use Rattle.atomic_table.specs.Table.{State, Me, Act, keeps, takes, gives, chain, Valid, stepped, carried_after, homes_after, Allows, step}
+use Rattle.atomic_table.specs.Table.{State, Act, keeps, takes, gives, chain, Valid, stepped, carried_after, homes_after, Allows, step}
 use Rattle.atomic_table.proofs.Lists.{set_here, set_else, set_again, exchanged}
 use Rattle.ks_keysets.specs.declared.Frame.{Frame}
 use Rattle.ks_keysets.specs.declared.NodeState.{NodeState}
@@ -23,19 +23,18 @@ use Rattle.ks_history.specs.declared.Event.{Event}
 use Rattle.ks_history.specs.declared.Event.TheVariants.{Take, Give, Claim, Shape, Call}
 use Rattle.ks_history.specs.Trace.{Turn, free, idle, held, turn_given, given, state_with, graph_after, turn_after, frame_after, number_after, calls_of, shapes_in, caller_of}
 use Rattle.ks_history.specs.Write.{written}
-use Rattle.ks_history.specs.Passes.{Has, NoneOf, CallersBelow, GrowsByOthers}
+use Rattle.ks_history.specs.Passes.{Has, CallersBelow, GrowsByOthers}
 use Rattle.std.specs.Int.{bit_at, bit_not}
 use Rattle.std.proofs.lemmas.Nat.Bits.{bit_at_or, bit_at-lt, bit_at-pow_same, bit_at-pow_other, bit_at_clear_same, bit_at_clear_other}
 use Rattle.ks_arena.specs.declared.view.Mark.{Mark}
 use Rattle.ks_arena.specs.declared.view.Mark.TheVariants.{Quiet, Claiming, Freeing}
 use Rattle.ks_arena.specs.declared.view.View.{View}
-use Rattle.ks_node.specs.Body.{Body, frame_of, blank_body}
-use Rattle.ks_node.specs.Edges.{record_of}
+use Rattle.ks_node.specs.Body.{Body}
 use Rattle.ks_arena.specs.Sound.{Sort, blank_of, Sound, StepsSoundly}
-use Rattle.ks_arena.specs.Rule.{Fits, Rests, Running, turn_word, Marks, SomeMarks, FreeBits, callers_in, all_callers}
+use Rattle.ks_arena.specs.Rule.{Rests, Running, turn_word, Marks, SomeMarks, FreeBits, callers_in, all_callers}
 use Rattle.ks_history.specs.Stays.{StaysHeld, cond_here, cond_else}
 use Rattle.ks_history.specs.Begins.{none_by, by_others_keeps}
-use Rattle.ks_arena.specs.Plays.{Seated, with_seen, marked, TellsFree, Looks, Makes, drop_slot, InHand, HasSlots, Carries, Shows, TookAt, took, ClaimedAt, claimed, gave, brought, opened, closed, readied, decided, formed}
+use Rattle.ks_arena.specs.Plays.{Seated, with_seen, marked, TellsFree, Looks, Makes, drop_slot, InHand, HasSlots, Shows, TookAt, took, ClaimedAt, claimed, gave, brought, opened, closed, readied, decided, formed}
 use Rattle.ks_arena.proofs.Words.{word_idle, word_free, word_below, held_below, are_in_turn}
 use Rattle.ks_arena.proofs.Seen.{has_left}
 use Rattle.ks_arena.proofs.Bits.{inside, marks_held, mark_own, turn_bits, free_word_bits}

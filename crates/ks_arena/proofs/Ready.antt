@@ -1,11 +1,10 @@
 -- A call that is ready stays so while others act.
-use Rattle.std.proofs.Common.{◌≡◌, ◌≢◌, ℕ, List, [], ◌∷◌, ◌++◌, sym, refl, ap, ◌∙◌, subst}
-use Rattle.std.specs.Prelude.{Option, Some, None}
+use Rattle.std.proofs.Common.{◌≡◌, ℕ, List, [], ◌∷◌, ◌++◌, sym, refl, ap, ◌∙◌, subst}
 use Rattle.ks_keysets.specs.declared.Frame.{Frame}
 use Rattle.ks_keysets.specs.declared.NodeState.{NodeState}
 use Rattle.ks_keysets.specs.declared.Change.{Change}
 use Rattle.ks_keysets.specs.Layout.{Layout}
-use Rattle.ks_keysets.specs.Keyset.{live_record, record_at, value_in, value_at, InKeyset, Good, opening}
+use Rattle.ks_keysets.specs.Keyset.{live_record, value_in, Good, opening}
 use Rattle.ks_history.specs.declared.Op.{Op}
 use Rattle.ks_history.specs.declared.Op.TheVariants.{Get, Put, Del, Add, Swap}
 use Rattle.ks_history.specs.declared.Reply.{Reply}
@@ -13,14 +12,14 @@ use Rattle.ks_history.specs.declared.Reply.TheVariants.{Nothing, Value, Full}
 use Rattle.ks_history.specs.declared.Event.{Event}
 use Rattle.ks_history.specs.declared.Event.TheVariants.{Take, Give, Claim, Shape, Call}
 use Rattle.ks_history.specs.Map.{IsAnswer}
-use Rattle.ks_history.specs.Trace.{held, graph_after, turn_after}
+use Rattle.ks_history.specs.Trace.{graph_after}
 use Rattle.ks_history.specs.Lawful.{Meets}
 use Rattle.ks_history.specs.Due.{IsFullFor, FindsNoRoom, FullDue, IsDue, last_call}
 use Rattle.ks_history.specs.Passes.{NoneBy, GrowsByOthers}
 use Rattle.ks_history.specs.Stays.{StaysHeld, cond_else}
 use Rattle.ks_history.specs.Begins.{by_others_begins, by_others_keeps, begins_both}
 use Rattle.ks_flow.specs.Discipline.{IsDiscipline}
-use Rattle.ks_arena.specs.Sound.{Sort, Sound, StepsSoundly}
+use Rattle.ks_arena.specs.Sound.{Sort}
 use Rattle.ks_arena.specs.FromSound.{fine, unshaped}
 use Rattle.ks_arena.proofs.Moves.{May}
 

@@ -1,6 +1,6 @@
 -- Four kinds of step keep the rule: on the turn word of a node, on a free word, on a counting word, and one that changes no word.
-use Rattle.std.proofs.Common.{◌≡◌, ◌≢◌, ℕ, zero, suc, ◌+◌, ◌%◌, ◌^◌, ◌<◌, ◌⊎◌, Bool, List, [], ◌∷◌, ◌++◌, length, get_or, set, sym, refl, ap, ◌∙◌, subst, inl, inr, ⊎_elim, arith, length-set, get_or-set_other, get_or-set_same}
-use Rattle.std.specs.Prelude.{Option, Some, None}
+use Rattle.std.proofs.Common.{◌≡◌, ◌≢◌, ℕ, ◌+◌, ◌%◌, ◌^◌, ◌<◌, ◌⊎◌, List, [], ◌∷◌, length, get_or, set, sym, refl, ap, ◌∙◌, subst, inl, inr, arith, length-set, get_or-set_other, get_or-set_same}
+use Rattle.std.specs.Prelude.{Option}
 use Rattle.std.proofs.lemmas.List.{set-get_or}
 use mathlib.Core.Option.{none, some, some-injective, some-ne-none}
 use mathlib.Core.Option as maybe
@@ -8,21 +8,20 @@ use mathlib.Core.Logic.{dite}
 use native.Mathlib.Decide.{ℕ_discrete}
 use lib.ListN.{get_elem?}
 use Rattle.atomic_table.specs.Table.{State}
-use Rattle.atomic_table.proofs.Lists.{at_set, set_here, set_else}
+use Rattle.atomic_table.proofs.Lists.{set_here, set_else}
 use Rattle.ks_keysets.specs.declared.NodeState.{NodeState}
 use Rattle.ks_keysets.specs.declared.Frame.{Frame}
 use Rattle.ks_keysets.specs.declared.Change.{Change}
 use Rattle.ks_history.specs.declared.Event.{Event}
-use Rattle.ks_history.specs.Trace.{Turn, free, idle, held, graph_after, turn_after, frame_after, number_after, shapes_in, caller_of}
+use Rattle.ks_history.specs.Trace.{Turn, held, graph_after, turn_after, frame_after, number_after, shapes_in, caller_of}
 use Rattle.ks_history.specs.Passes.{Has}
 use Rattle.ks_arena.specs.declared.view.Mark.{Mark}
 use Rattle.ks_arena.specs.declared.view.View.{View}
-use Rattle.ks_node.specs.Body.{Body, frame_of, blank_body}
-use Rattle.ks_node.specs.Edges.{record_of}
+use Rattle.ks_node.specs.Body.{Body}
 use Rattle.ks_arena.specs.Sound.{Sort, blank_of, Sound, StepsSoundly}
-use Rattle.ks_arena.specs.Rule.{Views, Rests, Running, turn_word, callers_in, free_words, FreeBits}
+use Rattle.ks_arena.specs.Rule.{Rests, Running, turn_word, callers_in, free_words, FreeBits}
 use Rattle.ks_arena.specs.Plays.{with_seen, marked}
-use Rattle.ks_arena.proofs.Seen.{view_at, grows, grows_to, has_left}
+use Rattle.ks_arena.proofs.Seen.{grows, grows_to, has_left}
 use Rattle.ks_arena.proofs.Bits.{inside, bits_words, bits_view}
 
 pub has_one : (cs : List ℕ) (c : ℕ) → cs ≡ c ∷ [] → Has cs c

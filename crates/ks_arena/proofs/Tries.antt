@@ -1,33 +1,27 @@
 -- What adds up over several tries.
-use Rattle.std.proofs.Common.{◌≡◌, ◌≢◌, ℕ, zero, suc, ◌+◌, ◌-◌, ◌*◌, ◌%◌, ◌^◌, ◌<◌, ◌≤◌, ◌⊎◌, ⊎_elim, bit_and, w64, List, [], ◌∷◌, ◌++◌, sym, refl, ap, ◌∙◌, subst, arith}
+use Rattle.std.proofs.Common.{◌≡◌, ◌≢◌, ℕ, ◌+◌, ◌-◌, ◌*◌, ◌%◌, ◌^◌, ◌<◌, ◌≤◌, ⊎_elim, bit_and, w64, List, sym, ap, ◌∙◌, subst, arith}
 use Rattle.std.specs.Int.{bit_at, bit_not}
 use Rattle.std.proofs.lemmas.Nat.Bits.{bit_at_clear_same, bit_at_clear_other}
 use Rattle.std.proofs.lemmas.Bool.{cases_lt}
 use lib.Bits.{and_le_l}
-use Rattle.std.specs.Prelude.{Option, Some, None}
+use Rattle.std.specs.Prelude.{Some, None}
 use mathlib.Core.Logic.{dite}
 use native.Mathlib.Decide.{ℕ_discrete}
-use Rattle.ks_keysets.specs.declared.NodeState.{NodeState}
-use Rattle.ks_keysets.specs.declared.NodeState.TheVariants.{Free, Claimed, Live}
-use Rattle.ks_keysets.specs.Keyset.{live_record, IsLive, Good}
+use Rattle.ks_keysets.specs.declared.NodeState.TheVariants.{Free}
+use Rattle.ks_keysets.specs.Keyset.{live_record}
 use Rattle.ks_history.specs.declared.Event.{Event}
-use Rattle.ks_history.specs.declared.Event.TheVariants.{Take, Claim}
-use Rattle.ks_history.specs.Trace.{◌⊑◌, free, held, hand, mine, graph_after, turn_after}
+use Rattle.ks_history.specs.Trace.{◌⊑◌, free, held, graph_after, turn_after}
 use Rattle.ks_history.specs.Lawful.{Lawful, GoodThroughout}
-use Rattle.ks_history.specs.Due.{Sometime}
 use Rattle.ks_history.specs.Alone.{ActsAlone, HoldsAlone, alone_still, alone_first, alone_then}
-use Rattle.ks_history.specs.Passes.{Has, GrowsByOthers, GrowsWith}
-use Rattle.ks_history.specs.Stays.{StaysHeld, AreInTurn, lawful_in_turn}
-use Rattle.ks_history.specs.Begins.{begins_self, begins_both, by_others_begins, by_others_none, by_others_both, by_others_with, with_begins, good_now}
+use Rattle.ks_history.specs.Stays.{lawful_in_turn}
+use Rattle.ks_history.specs.Begins.{begins_self, begins_both, by_others_begins, good_now}
 use Rattle.ks_node.specs.Body.{Body}
 use Rattle.ks_arena.specs.declared.held.Held.{Held as Hand}
-use Rattle.ks_arena.specs.declared.held.Taken.{Taken}
-use Rattle.ks_arena.specs.declared.held.Taken.TheVariants.{Held, Busy, Gone}
 use Rattle.ks_arena.specs.Sound.{Sort}
 use Rattle.ks_arena.specs.FromSound.{rested}
 use Rattle.ks_arena.specs.Plays.{TellsFree}
 use Rattle.ks_arena.specs.Tells.{looked_none, looked_both, kept_none, kept_both, taken_within, claimed_later, claimed_begins}
-use Rattle.ks_arena.specs.Clauses.{Kept, HasLooked, WasTaken, Matches, HasTaken, HasClaimed, TryTook, Took, TryClaimed, DidClaimIn, DidClaim}
+use Rattle.ks_arena.specs.Clauses.{Kept, HasLooked, WasTaken, HasClaimed, DidClaimIn, DidClaim}
 
 -- the free words before the one of index w were tried: their nodes were found taken
 pub record Tried (n c w : ℕ) (h k : List Event) : Type 0 where

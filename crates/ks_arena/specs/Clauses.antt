@@ -1,9 +1,8 @@
 -- What the calls of the arena ask and tell.
-use Rattle.std.specs.Prelude.{map, length, slice_index, ◌≡◌, ◌≢◌, ℕ, ◌+◌, ◌*◌, ◌/◌, ◌%◌, ◌^◌, ◌<◌, ◌≤◌, ◌==◌, if◌then◌else◌, List, [], ◌∷◌, ◌++◌, Option, Some, None, Bool, true, false, All, AllPairs}
+use Rattle.std.specs.Prelude.{map, length, slice_index, ◌≡◌, ◌≢◌, ℕ, ◌+◌, ◌*◌, ◌/◌, ◌^◌, ◌<◌, ◌≤◌, ◌==◌, if◌then◌else◌, List, [], ◌∷◌, ◌++◌, Option, Some, None, Bool, true, false}
 use mathlib.Core.Option.{some}
 use lib.ListN.{get_elem?}
 use denote.Bor.{Bor}
-use Rattle.atomic_table.specs.declared.shared.Seat.{Seat}
 use Rattle.atomic_table.specs.Seated.{TableId}
 use Rattle.ks_keysets.specs.declared.NodeState.{NodeState}
 use Rattle.ks_keysets.specs.declared.NodeState.TheVariants.{Free, Claimed, Live}
@@ -15,8 +14,8 @@ use Rattle.ks_keysets.specs.Keyset.{live_record}
 use Rattle.ks_history.specs.declared.Op.{Op}
 use Rattle.ks_history.specs.declared.Reply.{Reply}
 use Rattle.ks_history.specs.declared.Event.{Event}
-use Rattle.ks_history.specs.declared.Event.TheVariants.{Take, Give, Claim, Shape, Call}
-use Rattle.ks_history.specs.Trace.{mine, hand, drop_one, Turn, free, idle, held, graph_after, turn_after, frame_after, number_after, state_with}
+use Rattle.ks_history.specs.declared.Event.TheVariants.{Take, Claim, Call}
+use Rattle.ks_history.specs.Trace.{mine, hand, free, held, graph_after, turn_after, frame_after, number_after, state_with}
 use Rattle.ks_history.specs.Write.{written}
 use Rattle.ks_history.specs.Lawful.{Meets, Lawful, GoodThroughout}
 use Rattle.ks_history.specs.Due.{IsDue, FullsDue, Sometime}
@@ -35,9 +34,9 @@ use Rattle.ks_arena.specs.declared.view.Mark.TheVariants.{Quiet, Claiming, Freei
 use Rattle.ks_arena.specs.declared.view.View.{View}
 use Rattle.ks_node.specs.Body.{Body, frame_of, blank_body}
 use Rattle.ks_node.specs.Edges.{record_of}
-use Rattle.ks_arena.specs.Sound.{Sort, blank_of, Sound, StepsSoundly}
+use Rattle.ks_arena.specs.Sound.{Sort, blank_of, Sound}
 use Rattle.ks_arena.specs.Rule.{turn_word, free_words, Ends}
-use Rattle.ks_arena.specs.Plays.{Carries, Shows}
+use Rattle.ks_arena.specs.Plays.{Carries}
 
 abbrev pub view_of : {N D : Type 0} → Pass N D → View
 view_of p = p.seat.me.0

@@ -1,6 +1,6 @@
 -- What follows from a sound trace: it is lawful, its graph is good and has the facts of the discipline at every
 -- beginning, and what a caller holds keeps its keyset.
-use Rattle.std.proofs.Common.{◌≡◌, ◌≢◌, ℕ, zero, suc, ◌<◌, ◌⊎◌, ◌==◌, ◌||◌, Bool, true, false, cond, not, List, [], ◌∷◌, ◌++◌, length, map, filter, sym, refl, ap, ◌∙◌, subst, inl, inr, ⊎_elim, arith, eqb, eq-eqb, ne_eqb}
+use Rattle.std.proofs.Common.{◌≡◌, ◌≢◌, ℕ, zero, suc, ◌==◌, ◌||◌, Bool, true, false, cond, not, List, [], ◌∷◌, ◌++◌, sym, refl, ap, ◌∙◌, subst, arith, ne_eqb}
 use Rattle.std.specs.Prelude.{Option, Some, None, is_some, All, Any, AllPairs, nat_lt}
 use Rattle.std.proofs.lemmas.List.Elements.{All-cons, All-head, All-tail, All-weaker, All-filter, All-nil}
 use Rattle.std.proofs.lemmas.List.Kept.{AllPairs-cons, AllPairs-filter}
@@ -13,23 +13,22 @@ use Rattle.ks_keysets.specs.declared.NodeState.{NodeState}
 use Rattle.ks_keysets.specs.declared.NodeState.TheVariants.{Free, Claimed, Live}
 use Rattle.ks_keysets.specs.declared.Change.{Change}
 use Rattle.ks_keysets.specs.Record.{Carries, first_value, empty_record}
-use Rattle.ks_keysets.specs.Keyset.{opening, live_record, record_at, IsLive, Reaches, at_root, along, InKeyset, Good}
-use Rattle.ks_keysets.specs.Change.{shaped, reframed}
+use Rattle.ks_keysets.specs.Keyset.{opening, live_record, record_at, IsLive, InKeyset, Good}
 use Rattle.ks_history.specs.declared.Op.{Op}
 use Rattle.ks_history.specs.declared.Op.TheVariants.{Get, Put, Del, Add, Swap}
 use Rattle.ks_history.specs.declared.Reply.{Reply}
 use Rattle.ks_history.specs.declared.Reply.TheVariants.{Nothing, Value, Full}
 use Rattle.ks_history.specs.declared.Event.{Event}
 use Rattle.ks_history.specs.declared.Event.TheVariants.{Take, Give, Claim, Shape, Call}
-use Rattle.ks_history.specs.Write.{Write, keeps, sets, removes, written, with_value, with_new, pairs_set, pairs_without, pairs_with}
+use Rattle.ks_history.specs.Write.{Write, keeps, sets, removes, written, with_value, with_new, pairs_with}
 use Rattle.ks_history.specs.Map.{Touches}
-use Rattle.ks_history.specs.Trace.{◌⊑◌, Turn, free, idle, held, turn_given, given, state_with, graph_after, turn_after, frame_after, caller_of}
+use Rattle.ks_history.specs.Trace.{◌⊑◌, free, idle, held, turn_given, given, state_with, graph_after, turn_after, frame_after, caller_of}
 use Rattle.ks_history.specs.Lawful.{Meets, Lawful, GoodThroughout, at_opening, and_then}
-use Rattle.ks_history.specs.Due.{IsDue, FullsDue}
+use Rattle.ks_history.specs.Due.{FullsDue}
 use Rattle.ks_history.specs.Passes.{NoneBy, GrowsByOthers}
-use Rattle.ks_history.specs.Stays.{IsInTurn, AreInTurn, cond_here, cond_else, held_same, shaped_else, held_apart, other_turn, others_turn}
+use Rattle.ks_history.specs.Stays.{IsInTurn, AreInTurn, cond_here, cond_else, shaped_else, held_apart, other_turn}
 use Rattle.ks_history.specs.Begins.{good_now, by_others_keeps}
-use Rattle.ks_flow.specs.Changes.{nodes_of, graph_with, frames_with}
+use Rattle.ks_flow.specs.Changes.{nodes_of}
 use Rattle.ks_flow.specs.Ways.{names}
 use Rattle.ks_flow.specs.Tree.{SameEdges}
 use Rattle.ks_flow.specs.Discipline.{SameKeyset, IsDiscipline}

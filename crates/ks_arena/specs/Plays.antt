@@ -1,5 +1,5 @@
 -- What each step tells its seat.
-use Rattle.std.specs.Prelude.{false, ◌≡◌, ◌≢◌, ℕ, ◌+◌, ◌*◌, ◌/◌, ◌%◌, ◌^◌, ◌<◌, ◌⊎◌, ◌==◌, if◌then◌else◌, List, [], ◌∷◌, ◌++◌, Option, Some, None}
+use Rattle.std.specs.Prelude.{◌≡◌, ◌≢◌, ℕ, ◌+◌, ◌*◌, ◌/◌, ◌%◌, ◌^◌, ◌<◌, ◌⊎◌, ◌==◌, if◌then◌else◌, List, [], ◌∷◌, ◌++◌, Option, Some, None}
 use Rattle.std.specs.Int.{bit_at}
 use Rattle.atomic_table.specs.Table.{Me, Step}
 use Rattle.ks_keysets.specs.declared.NodeState.{NodeState}
@@ -9,7 +9,7 @@ use Rattle.ks_keysets.specs.declared.Change.{Change}
 use Rattle.ks_history.specs.declared.Event.{Event}
 use Rattle.ks_history.specs.declared.Event.TheVariants.{Take, Give, Claim}
 use Rattle.ks_history.specs.Trace.{free, held, graph_after, turn_after, frame_after, number_after}
-use Rattle.ks_history.specs.Passes.{Has, NoneOf, CallersBelow}
+use Rattle.ks_history.specs.Passes.{NoneOf, CallersBelow}
 use Rattle.ks_arena.specs.declared.view.Mark.{Mark}
 use Rattle.ks_arena.specs.declared.view.Mark.TheVariants.{Quiet, Claiming, Freeing}
 use Rattle.ks_arena.specs.declared.view.View.{View}

@@ -5,11 +5,9 @@ use Rattle.ks_keysets.specs.declared.NodeState.{NodeState}
 use Rattle.ks_keysets.specs.declared.Change.{Change}
 use Rattle.ks_node.specs.Body.{frame_of, blank_body}
 use Rattle.ks_keysets.specs.Layout.{Layout}
-use Rattle.ks_history.specs.declared.Op.{Op}
-use Rattle.ks_history.specs.declared.Reply.{Reply}
 use Rattle.ks_history.specs.declared.Event.{Event}
 use Rattle.ks_history.specs.declared.Event.TheVariants.{Take, Give, Claim, Shape, Call}
-use Rattle.ks_history.specs.Trace.{Turn, free, idle, held, graph_after, turn_after, frame_after}
+use Rattle.ks_history.specs.Trace.{held, graph_after, turn_after, frame_after}
 use Rattle.ks_history.specs.Lawful.{Meets}
 use Rattle.ks_history.specs.Due.{IsDue}
 

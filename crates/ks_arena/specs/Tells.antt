@@ -1,9 +1,9 @@
 -- Laws of what the calls of the arena tell: how what they tell adds up.
-use Rattle.std.proofs.Common.{◌≡◌, ◌≢◌, ℕ, List, [], ◌∷◌, ◌++◌, sym, refl, ap, ◌∙◌, subst}
+use Rattle.std.proofs.Common.{◌≡◌, ℕ, List, ◌∷◌, sym, refl, ap, ◌∙◌, subst}
 use Rattle.ks_history.specs.declared.Event.{Event}
 use Rattle.ks_history.specs.declared.Event.TheVariants.{Take, Claim}
-use Rattle.ks_history.specs.Trace.{◌⊑◌, held, hand, graph_after, turn_after}
-use Rattle.ks_history.specs.Passes.{Has, GrowsByOthers, GrowsWith}
+use Rattle.ks_history.specs.Trace.{◌⊑◌, graph_after}
+use Rattle.ks_history.specs.Passes.{Has}
 use Rattle.ks_history.specs.Begins.{begins_both, by_others_begins, by_others_none, by_others_both, by_others_with, with_begins}
 use Rattle.ks_node.specs.Body.{Body}
 use Rattle.ks_arena.specs.declared.held.Held.{Held as Hand}

@@ -1,4 +1,3 @@
-use Rattle.std.proofs.Common.{ap}
 use Rattle.ks_history.specs.Stays.{lawful_in_turn}
 use Rattle.ks_arena.specs.FromSound.{live_not_free}
 use Rattle.ks_arena.proofs.laws.link_live_law.Goals as goal

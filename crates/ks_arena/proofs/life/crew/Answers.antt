@@ -1,7 +1,6 @@
-use Rattle.std.proofs.Common.{rules, arith, ◌≡◌, ℕ, ◌+◌, ◌≤◌, ◌<◌, List, [], ◌∷◌, ◌++◌, length, sym, ap, ◌∙◌, subst, refl, cond, eqb}
+use Rattle.std.proofs.Common.{rules, arith, ◌≡◌, ℕ, ◌≤◌, [], sym, ap, ◌∙◌, subst, refl}
 use Rattle.ks_history.specs.Stays.{cond_else}
 use Rattle.ks_arena.specs.declared.held.Pass.{Pass}
-use Rattle.ks_arena.specs.declared.view.View.{View}
 use Rattle.ks_arena.specs.Sound.{sort_of}
 use Rattle.ks_arena.specs.Clauses.{IsNewCrew}
 use Rattle.ks_arena.specs.Rule.{maker_view, next_view}

@@ -1,4 +1,4 @@
-use Rattle.std.proofs.Common.{rules, arith, ◌≡◌, ℕ, ◌+◌, ◌<◌, ◌∙◌, length-set, get_or-set_other, length}
+use Rattle.std.proofs.Common.{rules, arith, ◌+◌, ◌<◌, ◌∙◌, length-set, get_or-set_other}
 use Rattle.ks_arena.proofs.Bits.{first_more}
 use Rattle.ks_arena.proofs.life.first_words.Goals as goal
 

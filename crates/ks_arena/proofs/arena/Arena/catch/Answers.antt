@@ -1,21 +1,19 @@
-use Rattle.std.proofs.Common.{rules, ◌≡◌, ◌≢◌, ℕ, ◌+◌, ◌<◌, List, [], ◌∷◌, ◌++◌, refl, sym, ap, ◌∙◌, subst, arith, true}
-use Rattle.std.specs.Prelude.{Option, Some, None, IsSome}
-use Rattle.ks_keysets.specs.declared.NodeState.TheVariants.{Claimed, Live}
+use Rattle.std.proofs.Common.{◌≡◌, ℕ, List, ◌∷◌, ◌++◌, refl, sym, ap, ◌∙◌, subst, arith}
+use Rattle.std.specs.Prelude.{Some, None, IsSome}
+use Rattle.ks_keysets.specs.declared.NodeState.TheVariants.{Claimed}
 use Rattle.ks_history.specs.declared.Event.{Event}
 use Rattle.ks_history.specs.declared.Event.TheVariants.{Claim}
-use Rattle.ks_history.specs.Trace.{graph_after, frame_after, hand, mine}
+use Rattle.ks_history.specs.Trace.{graph_after, hand, mine}
 use Rattle.ks_history.specs.Passes.{GrowsWith}
 use Rattle.ks_history.specs.Begins.{claim_hand, by_others_none}
 use Rattle.ks_keysets.specs.Keyset.{live_record}
 use Rattle.ks_history.specs.Stays.{cond_here, cond_else}
 use Rattle.ks_arena.specs.declared.view.Mark.TheVariants.{Quiet, Claiming}
 use Rattle.ks_arena.specs.declared.view.View.{View}
-use Rattle.ks_node.specs.Body.{frame_of, blank_body}
-use Rattle.ks_node.specs.Edges.{record_of}
-use Rattle.ks_arena.specs.Plays.{Seated, marked, ClaimedAt, Makes, Looks}
-use Rattle.ks_arena.specs.Sound.{sort_of, blank_of, Sound}
+use Rattle.ks_node.specs.Body.{blank_body}
+use Rattle.ks_arena.specs.Plays.{Seated, marked, ClaimedAt}
+use Rattle.ks_arena.specs.Sound.{sort_of, Sound}
 use Rattle.ks_arena.specs.Clauses.{Kept}
-use Rattle.ks_arena.proofs.Words.{word_free, word_other}
 use Rattle.ks_arena.proofs.Moves.{claims_ok}
 use Rattle.ks_arena.proofs.Hold.{top_rest, top_same, out_of, holds_it, makes_grows}
 use Rattle.ks_arena.proofs.After.{pass_again, pass_marked, Looked, looked, Gained, gained, claim_fresh}

@@ -1,4 +1,4 @@
-use Rattle.std.proofs.Common.{rules, arith, ◌≡◌, ◌≢◌, ℕ, ◌+◌, ◌*◌, ◌^◌, ◌<◌, sym, ap, ◌∙◌, subst, refl, w64}
+use Rattle.std.proofs.Common.{rules, arith, ◌≡◌, ◌≢◌, ℕ, ◌+◌, ◌*◌, ◌^◌, ◌<◌, ap, ◌∙◌, subst, w64}
 use Rattle.std.specs.Prelude.{Some, None}
 use Rattle.std.specs.Int.{bit_at, trailing_zeros}
 use Rattle.std.proofs.lemmas.Nat.Bits.{bit_at-trailing_zeros, bit_at-zero}
@@ -7,7 +7,7 @@ use Rattle.ks_history.specs.Begins.{by_others_begins}
 use Rattle.ks_arena.specs.Sound.{sort_of}
 use Rattle.ks_arena.specs.Clauses.{seen_of, Kept, TryClaimed}
 use Rattle.ks_arena.specs.Tells.{claimed_begins}
-use Rattle.ks_arena.proofs.Tries.{TriedIn, told_word, missed, missed_not_alone, without_less, claimed_in}
+use Rattle.ks_arena.proofs.Tries.{told_word, missed, missed_not_alone, without_less, claimed_in}
 use Rattle.ks_arena.proofs.arena.Arena.claim_in.Goals as goal
 use Rattle.ks_arena.proofs.arena.Arena.claim_in.Goals.{After-try_claim}
 

@@ -1,7 +1,6 @@
-use Rattle.std.proofs.Common.{rules, arith, ◌≡◌, ◌≢◌, ℕ, ◌+◌, ◌++◌, ◌∷◌, List, ◌<◌, sym, ap, ◌∙◌, subst, refl}
+use Rattle.std.proofs.Common.{arith, ◌≡◌, ◌≢◌, ℕ, ◌++◌, List, sym, ◌∙◌, subst}
 use Rattle.std.specs.Prelude.{Some, None}
 use Rattle.ks_history.specs.declared.Event.{Event}
-use Rattle.ks_history.specs.declared.Event.TheVariants.{Claim}
 use Rattle.ks_history.specs.Trace.{◌⊑◌, free, turn_after}
 use Rattle.ks_history.specs.Alone.{ActsAlone, HoldsAlone}
 use Rattle.ks_history.specs.Begins.{by_others_begins}
@@ -13,7 +12,7 @@ use Rattle.ks_arena.specs.declared.held.Pass.{Pass}
 use Rattle.ks_arena.proofs.Words.{one_alone}
 use Rattle.ks_arena.specs.Clauses.{IsPass, seen_of, Kept, DidClaimIn}
 use Rattle.ks_arena.specs.Tells.{kept_both, claimed_begins}
-use Rattle.ks_arena.proofs.Tries.{Tried, tried_more, root_taken, did_claim, alone_next}
+use Rattle.ks_arena.proofs.Tries.{tried_more, root_taken, did_claim, alone_next}
 use Rattle.ks_arena.proofs.After.{still}
 use Rattle.ks_arena.proofs.arena.Arena.claim_steps.Given.{Over}
 use Rattle.ks_arena.proofs.arena.Arena.claim_steps.Goals as goal

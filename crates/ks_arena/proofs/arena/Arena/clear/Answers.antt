@@ -1,11 +1,11 @@
-use Rattle.std.proofs.Common.{rules, ◌≡◌, ◌≢◌, ℕ, ◌+◌, ◌*◌, ◌/◌, ◌%◌, ◌^◌, ◌<◌, bit_and, w64, refl, sym, ap, ◌∙◌, subst, arith}
+use Rattle.std.proofs.Common.{◌≡◌, ℕ, ◌+◌, ◌*◌, ◌/◌, ◌%◌, ◌^◌, ◌<◌, bit_and, w64, refl, subst, arith}
 use Rattle.std.specs.Int.{bit_not}
 use mathlib.Core.Option.{none}
 use Rattle.atomic_table.specs.Table.{Allows, step}
 use Rattle.ks_arena.specs.declared.view.Mark.TheVariants.{Quiet, Claiming}
 use Rattle.ks_arena.specs.Sound.{sort_of}
 use Rattle.ks_arena.specs.Rule.{Running}
-use Rattle.ks_arena.specs.Plays.{Seated, marked, closed}
+use Rattle.ks_arena.specs.Plays.{marked, closed}
 use Rattle.ks_arena.proofs.Moves.{clears_ok}
 use Rattle.ks_arena.proofs.Hold.{hand_near, holds_it}
 use Rattle.ks_arena.proofs.After.{still, pass_marked, Looked, looked}

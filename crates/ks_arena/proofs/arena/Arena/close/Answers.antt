@@ -1,4 +1,4 @@
-use Rattle.std.proofs.Common.{rules, arith, ◌≡◌, ℕ, ◌+◌, ◌<◌, ◌≤◌, List, length, [], sym, ap, ◌∙◌, subst, refl}
+use Rattle.std.proofs.Common.{rules, arith, ◌≡◌, ℕ, ◌+◌, ◌<◌, ◌≤◌, List, length, sym, ap, ◌∙◌, subst}
 use Rattle.std.specs.Prelude.{Option, slice_index}
 use Rattle.std.specs.Slots.{slots_items}
 use Rattle.std.specs.declared.alloc.Global.{Global}
@@ -14,10 +14,10 @@ use Rattle.ks_history.specs.Passes.{CallersBelow}
 use Rattle.ks_arena.specs.Clauses.{seen_first, EndsAll}
 use Rattle.ks_arena.specs.declared.view.View.{View}
 use Rattle.ks_arena.specs.Sound.{sort_of, blank_of, Sound}
-use Rattle.ks_arena.specs.Rule.{Running, Closes, Ends, turn_word, note_view}
+use Rattle.ks_arena.specs.Rule.{Running, Closes, Ends, turn_word}
 use Rattle.ks_arena.proofs.Beyond.{free_beyond}
 use Rattle.ks_arena.proofs.Crew.{joins_ok, gathers_ok, notes_ok, closes, closes_below}
-use Rattle.ks_arena.proofs.Closing.{Joining, begins_joining, takes_in, emptied, Ended, ended, next_in}
+use Rattle.ks_arena.proofs.Closing.{begins_joining, takes_in, emptied, Ended, ended, next_in}
 use Rattle.ks_arena.proofs.arena.Arena.close.Given.{Over}
 use Rattle.ks_arena.proofs.arena.Arena.close.Goals as goal
 use Rattle.ks_arena.proofs.arena.Arena.close.Goals.{After-drop-passes}

@@ -1,4 +1,4 @@
-use Rattle.std.proofs.Common.{◌≡◌, length}
+use Rattle.std.proofs.Common.{length}
 use Rattle.ks_arena.specs.Sound.{sort_of}
 use Rattle.ks_arena.proofs.Closing.{Joining}
 use Rattle.ks_arena.proofs.arena.Arena.close.Given as goal

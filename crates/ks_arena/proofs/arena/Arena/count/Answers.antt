@@ -1,10 +1,9 @@
-use Rattle.std.proofs.Common.{rules, refl, sym, ap, ◌∙◌, subst, ◌≡◌, ◌++◌, ℕ, List, arith}
+use Rattle.std.proofs.Common.{refl, sym, ap, ◌∙◌, subst, ◌≡◌, ◌++◌, ℕ, List, arith}
 use mathlib.Core.Option.{none}
 use Rattle.atomic_table.specs.Table.{step}
-use Rattle.ks_keysets.specs.declared.NodeState.{NodeState}
 use Rattle.ks_history.specs.declared.Event.{Event}
 use Rattle.ks_history.specs.declared.Event.TheVariants.{Call}
-use Rattle.ks_history.specs.Trace.{graph_after, frame_after, turn_after, state_with, held}
+use Rattle.ks_history.specs.Trace.{graph_after, state_with}
 use Rattle.ks_history.specs.Write.{written}
 use Rattle.ks_history.specs.Due.{IsDue}
 use Rattle.ks_history.specs.Stays.{StaysHeld, cond_here, cond_else}

@@ -1,13 +1,13 @@
-use Rattle.std.proofs.Common.{rules, refl, sym, ap, ◌∙◌, subst, ◌≡◌, ◌++◌, ℕ, List, arith}
+use Rattle.std.proofs.Common.{refl, sym, subst, ◌≡◌, ◌++◌, ℕ, List, arith}
 use mathlib.Core.Option.{none}
 use Rattle.atomic_table.specs.Table.{step}
 use Rattle.ks_keysets.specs.declared.Change.{Change}
 use Rattle.ks_history.specs.declared.Event.{Event}
 use Rattle.ks_history.specs.declared.Event.TheVariants.{Shape}
-use Rattle.ks_history.specs.Trace.{hand, graph_after, frame_after, turn_after, held}
+use Rattle.ks_history.specs.Trace.{hand, graph_after, frame_after}
 use Rattle.ks_history.specs.Stays.{StaysHeld}
-use Rattle.ks_history.specs.Begins.{by_others_hand, by_others_keeps}
-use Rattle.ks_arena.specs.Sound.{sort_of, blank_of, Sound}
+use Rattle.ks_history.specs.Begins.{by_others_keeps}
+use Rattle.ks_arena.specs.Sound.{sort_of, Sound}
 use Rattle.ks_arena.specs.Plays.{formed}
 use Rattle.ks_arena.specs.Clauses.{changes_of, AreShaped}
 use Rattle.ks_arena.proofs.Words.{are_in_turn}

@@ -1,4 +1,4 @@
-use Rattle.std.proofs.Common.{rules, arith, ◌≡◌, ℕ, ◌<◌, sym, ap, ◌∙◌, subst, refl}
+use Rattle.std.proofs.Common.{arith}
 use Rattle.ks_arena.specs.Sound.{sort_of}
 use Rattle.ks_arena.proofs.Crew.{notes_ok}
 use Rattle.ks_arena.proofs.arena.Arena.note.Goals as goal

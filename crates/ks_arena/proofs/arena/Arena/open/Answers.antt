@@ -1,11 +1,11 @@
-use Rattle.std.proofs.Common.{rules, ◌≡◌, ◌≢◌, ℕ, ◌+◌, ◌*◌, ◌/◌, ◌%◌, ◌^◌, ◌<◌, bit_or, refl, sym, ap, ◌∙◌, subst, arith}
+use Rattle.std.proofs.Common.{◌≡◌, ℕ, ◌+◌, ◌*◌, ◌/◌, ◌%◌, ◌^◌, ◌<◌, bit_or, refl, sym, subst, arith}
 use Rattle.std.proofs.lemmas.Nat.{one_shl}
 use mathlib.Core.Option.{none}
 use Rattle.atomic_table.specs.Table.{Allows, step}
 use Rattle.ks_arena.specs.declared.view.Mark.TheVariants.{Quiet, Freeing}
 use Rattle.ks_arena.specs.Sound.{sort_of}
 use Rattle.ks_arena.specs.Rule.{Running}
-use Rattle.ks_arena.specs.Plays.{Seated, marked, opened}
+use Rattle.ks_arena.specs.Plays.{marked, opened}
 use Rattle.ks_arena.proofs.Moves.{opens_ok}
 use Rattle.ks_arena.proofs.Hold.{hand_near, holds_it}
 use Rattle.ks_arena.proofs.After.{still, pass_marked, Looked, looked}

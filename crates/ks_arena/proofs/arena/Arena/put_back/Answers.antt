@@ -1,10 +1,9 @@
-use Rattle.std.proofs.Common.{rules, ◌≡◌, ◌≢◌, ℕ, ◌+◌, ◌<◌, List, [], ◌∷◌, refl, sym, ap, ◌∙◌, subst, arith, Bool, cond}
-use Rattle.std.specs.Prelude.{Option, Some, None, IsSome}
-use Rattle.ks_history.specs.declared.Event.TheVariants.{Give}
+use Rattle.std.proofs.Common.{◌≡◌, ℕ, ◌<◌, refl, sym, ap, ◌∙◌, subst, arith, Bool, cond}
+use Rattle.std.specs.Prelude.{Some, None}
 use Rattle.ks_keysets.specs.declared.NodeState.{NodeState}
 use Rattle.ks_keysets.specs.declared.Frame.{Frame}
-use Rattle.ks_history.specs.Trace.{drop_one, turn_given, graph_after, frame_after}
-use Rattle.ks_arena.specs.Sound.{sort_of, blank_of, Sound}
+use Rattle.ks_history.specs.Trace.{turn_given, graph_after, frame_after}
+use Rattle.ks_arena.specs.Sound.{sort_of, blank_of}
 use Rattle.ks_arena.specs.Rule.{turn_word}
 use Rattle.ks_arena.specs.Plays.{Shows, drop_slot}
 use Rattle.ks_arena.specs.declared.view.Mark.TheVariants.{Quiet}

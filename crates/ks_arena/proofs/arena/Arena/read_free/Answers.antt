@@ -1,10 +1,9 @@
-use Rattle.std.proofs.Common.{rules, ◌≡◌, ◌≢◌, ℕ, ◌+◌, ◌<◌, refl, sym, ap, ◌∙◌, subst, arith}
+use Rattle.std.proofs.Common.{◌≡◌, ℕ, ◌+◌, refl, subst, arith}
 use mathlib.Core.Option.{none}
 use Rattle.atomic_table.specs.Table.{Allows, step}
 use Rattle.ks_arena.specs.Sound.{sort_of}
 use Rattle.ks_arena.specs.Rule.{Running}
 use Rattle.ks_arena.specs.Plays.{TellsFree, readied}
-use Rattle.ks_arena.specs.Clauses.{seen_of}
 use Rattle.ks_arena.proofs.Moves.{reads_ok}
 use Rattle.ks_arena.proofs.After.{pass_again, Looked, looked}
 use Rattle.ks_arena.proofs.arena.Arena.read_free.Given.{Over}

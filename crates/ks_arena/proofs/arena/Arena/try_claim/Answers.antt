@@ -1,4 +1,4 @@
-use Rattle.std.proofs.Common.{rules, ◌≡◌, ℕ, List, inl, refl, sym, ap, ◌∙◌, subst}
+use Rattle.std.proofs.Common.{◌≡◌, ℕ, List, inl, refl, sym, ap, ◌∙◌, subst}
 use Rattle.ks_history.specs.Passes.{Has}
 use Rattle.ks_history.specs.Trace.{hand, held, turn_after}
 use Rattle.ks_arena.specs.Sound.{sort_of}

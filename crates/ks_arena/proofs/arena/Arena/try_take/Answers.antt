@@ -1,7 +1,6 @@
-use Rattle.std.proofs.Common.{rules, ◌≡◌, ◌≢◌, ℕ, ◌+◌, ◌<◌, List, [], ◌∷◌, refl, sym, ap, ◌∙◌, subst, arith, true}
-use Rattle.std.specs.Prelude.{Option, Some, None, IsSome}
+use Rattle.std.proofs.Common.{◌≡◌, ℕ, ◌∷◌, refl, sym, ap, ◌∙◌, subst, arith}
+use Rattle.std.specs.Prelude.{Some, None, IsSome}
 use Rattle.ks_keysets.specs.declared.NodeState.TheVariants.{Live}
-use Rattle.ks_history.specs.declared.Event.{Event}
 use Rattle.ks_history.specs.declared.Event.TheVariants.{Take}
 use Rattle.ks_history.specs.Trace.{graph_after, frame_after, hand, mine}
 use Rattle.ks_history.specs.Passes.{GrowsWith}
@@ -9,7 +8,7 @@ use Rattle.ks_history.specs.Begins.{take_hand}
 use Rattle.ks_arena.specs.declared.view.View.{View}
 use Rattle.ks_node.specs.Body.{frame_of}
 use Rattle.ks_node.specs.Edges.{record_of}
-use Rattle.ks_arena.specs.Plays.{Seated, TookAt, Makes, Looks}
+use Rattle.ks_arena.specs.Plays.{Seated, TookAt}
 use Rattle.ks_arena.specs.Sound.{sort_of, blank_of, Sound}
 use Rattle.ks_arena.specs.Clauses.{Kept}
 use Rattle.ks_arena.proofs.Words.{word_free, word_other}
