@@ -13,3 +13,4 @@ pub mod Learning
 pub mod Beyond
 pub mod Entries
 pub mod Crosses
+pub mod Calling

@@ -44,3 +44,10 @@ pub fn link_live_law()
 {
     sound_law::<Link>();
 }
+
+/// The root is never found free.
+pub fn root_stays_law<D: Discipline>()
+    ensures { (sort : Sort) (nodes : ℕ) (h : List Happening) → Sound sort D.begins D.step nodes h → turn_after h 0 ≢ free }
+{
+    sound_law::<D>();
+}

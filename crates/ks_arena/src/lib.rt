@@ -6,6 +6,7 @@
 #![tactic(auto)]
 
 mod arena;
+mod calls;
 mod claim;
 mod ended;
 mod fit;
@@ -14,6 +15,7 @@ pub mod laws;
 mod life;
 mod note;
 mod plays;
+
 mod remains;
 mod rule;
 mod run;
@@ -24,6 +26,7 @@ mod view;
 pub use arena::Arena;
 pub use fit::fits_threads;
 pub use held::{Held, Note, Pass, Taken};
+pub use calls::root_law;
 pub use remains::Remains;
 pub use rule::Rule;
 pub use run::{Run, RunTrace};

@@ -103,10 +103,6 @@ module _ (b : Body) (p : ℕ) (s : InOrder (content_of b)) (none : b.range ≡ N
       by_kind false e = e
       by_kind true e = absurd (covers b.starts (s.branch_covers e) ends_below_own)
 
--- node 0 is never free
-pub root_not_free : {h : List Event} → Lawful h → GoodThroughout h → turn_after h 0 ≡ free → ⊥
-root_not_free {h} lawful good = live_not_free h 0 (lawful_in_turn h lawful) (good_now good).root
-
 taken_turn : (c : ℕ) (h k : List Event) → GrowsWith c (Take c 0) h k → turn_after k 0 ≡ held c
 taken_turn c h k grows = ap (λ (z : List Event). turn_after z 0) grows.is ∙ cond_here 0 0 (held c) (turn_after (grows.rest ++ h) 0) refl
 

@@ -10,10 +10,12 @@ ghost use Rattle.ks_history.specs.declared.Event.TheVariants.{Take, Give};
 ghost use Rattle.ks_arena.specs.Clauses.{IsPass, hand_of, mine_of, seen_of};
 ghost use Rattle.ks_turns.specs.Turns.{met_events, IsMetDue, claim_events, IsClaimDue};
 
+mod gets;
 mod many;
 mod puts;
 
-use ks_arena::laws::sound_law;
+pub use gets::{GetOutcome, both_get, get_at_root, look_up};
+use ks_arena::laws::root_stays_law;
 use ks_arena::{Arena, Pass, Taken};
 use ks_flow::{Discipline, Tree};
 use ks_list::ListNode;
@@ -83,7 +85,6 @@ pub fn meet<N: Node, D: Discipline>(arena: &Arena<N, D>, pass: &mut Pass<N, D>, 
 }
 
 /// Takes node 0 once nobody else holds it, and gives it back.
-#[tactic(auto, using(crate::proofs::Root::root_not_free))]
 pub fn pass_through<N: Node, D: Discipline, R: Wait>(
     rt: &R,
     arena: &Arena<N, D>,
@@ -94,7 +95,7 @@ pub fn pass_through<N: Node, D: Discipline, R: Wait>(
     ensures caller { pass.new.caller ≡ pass.old.caller }
     ensures mine { mine_of pass.new ≡ Give pass.old.caller 0 ∷ Take pass.old.caller 0 ∷ mine_of pass.old }
 {
-    sound_law::<D>();
+    root_stays_law::<D>();
     match arena.take(rt, pass, 0) {
         Some(held) => arena.give(pass, held),
         None => unreachable!(),

@@ -9,7 +9,7 @@ ghost use Rattle.ks_node.specs.Keyed.{Ascends};
 ghost use Rattle.ks_arena.specs.Clauses.{IsPass, hand_of, mine_of, seen_of};
 ghost use Rattle.ks_turns.specs.Puts.{put_events, put_calls, IsPutDue, calls_from};
 
-use ks_arena::laws::sound_law;
+use ks_arena::laws::root_stays_law;
 use ks_arena::{Arena, Pass};
 use ks_flow::{Discipline, Tree};
 use ks_history::{Op, Reply};
@@ -40,7 +40,6 @@ fn reply_of(old: Option<u128>) -> Reply
 }
 
 /// Takes node 0 once nobody else holds it, puts the value at the place as one call, and gives the node back.
-#[tactic(auto, using(crate::proofs::Root::root_not_free))]
 pub fn put_at_root<N: Node, D: Discipline, R: Wait>(
     rt: &R,
     arena: &Arena<N, D>,
@@ -56,7 +55,7 @@ pub fn put_at_root<N: Node, D: Discipline, R: Wait>(
     ensures calls { calls_by pass.old.caller (seen_of pass.new) ≡ calls_by pass.old.caller (seen_of pass.old) ++ put_calls place value result }
     ensures due { IsPutDue N.layout place (seen_of pass.old) (seen_of pass.new) result }
 {
-    sound_law::<D>();
+    root_stays_law::<D>();
     let Some(mut held) = arena.take(rt, pass, 0) else {
         unreachable!()
     };

@@ -4,7 +4,7 @@ ghost use Rattle.ks_arena.specs.Clauses.{IsPass, hand_of};
 ghost use Rattle.ks_flow.specs.Discipline.{BeginsTree, TreeStep};
 ghost use Rattle.ks_keysets.specs.Layout.{list_layout};
 
-use crate::{Met, PutOutcome, both, both_put, meet};
+use crate::{GetOutcome, Met, PutOutcome, both, both_get, both_put, meet, put_at_root};
 use ks_arena::{Arena, Pass};
 use ks_flow::Tree;
 use ks_list::ListNode;
@@ -156,5 +156,40 @@ fn two_threads_put_eight_places_at_one_node(rt: HostRuntime) -> Result<(), Fail>
     for (place, pair) in pairs.iter().enumerate() {
         assert!(rt; pair.0 == place as u64 && pair.1 == place as u128);
     }
+    Ok(())
+}
+
+#[test]
+fn two_threads_get_what_one_put(rt: HostRuntime) -> Result<(), Fail> {
+    let (arena, mut one, two) = two_callers(rt.alloc())?;
+    let put = put_at_root(&rt, &arena, &mut one, 5, 50);
+    assert!(rt;
+        put == PutOutcome::Decided {
+            number: 0,
+            old: None
+        }
+    );
+    let (left, right) = both_get(&rt, &arena, one, two, 5);
+    let (one, first) = left;
+    let (two, second) = right;
+    let GetOutcome::Decided {
+        number: a,
+        found: x,
+    } = first
+    else {
+        panic!(rt; "the first get was not decided")
+    };
+    let GetOutcome::Decided {
+        number: b,
+        found: y,
+    } = second
+    else {
+        panic!(rt; "the second get was not decided")
+    };
+    assert!(rt; x == Some(50) && y == Some(50));
+    assert!(rt; (a == 1 && b == 2) || (a == 2 && b == 1));
+    let all = crew(rt.alloc(), one, two)?;
+    let run = arena.close(all);
+    assert!(rt; run.calls() == 3);
     Ok(())
 }

@@ -1,0 +1,71 @@
+-- When a call may be decided at a node in hand.
+use Rattle.std.proofs.Common.{◌≡◌, ◌≢◌, ℕ, ◌≤◌, ◌<◌, Bool, true, false, List, sym, refl, ap, ◌∙◌, subst, inl, arith}
+use Rattle.std.specs.Prelude.{Option, Some, None}
+use Rattle.ks_keysets.specs.declared.NodeState.{NodeState}
+use Rattle.ks_keysets.specs.declared.NodeState.TheVariants.{Live}
+use Rattle.ks_keysets.specs.declared.Frame.{Frame}
+use Rattle.ks_keysets.specs.declared.Record.{Record}
+use Rattle.ks_keysets.specs.Record.{LeadsOn, top}
+use Rattle.ks_keysets.specs.Keyset.{live_record, value_in, value_at as found_at, InInset, InKeyset, InOutset, at_root}
+use Rattle.ks_history.specs.declared.Op.{Op}
+use Rattle.ks_history.specs.declared.Op.TheVariants.{Get}
+use Rattle.ks_history.specs.declared.Reply.{Reply}
+use Rattle.ks_history.specs.declared.Event.{Event}
+use Rattle.ks_history.specs.declared.Event.TheVariants.{Call}
+use Rattle.ks_history.specs.Map.{told}
+use Rattle.ks_history.specs.Write.{written}
+use Rattle.ks_history.specs.Trace.{held, graph_after, turn_after, frame_after, state_with}
+use Rattle.ks_history.specs.Lawful.{Meets}
+use Rattle.ks_history.specs.Due.{IsDue}
+use Rattle.ks_keysets.specs.Layout.{Layout}
+use Rattle.ks_node.specs.declared.start.Next.TheVariants.{Here}
+use Rattle.ks_node.specs.Body.{Body, content_of, frame_of, next_at, value_at}
+use Rattle.ks_node.specs.Edges.{record_of}
+use Rattle.ks_node.specs.Sound.{Sound as InOrder}
+use Rattle.ks_node.specs.Puts.{value_first}
+use Rattle.ks_node.specs.Ways.{here_stays}
+use Rattle.ks_arena.specs.declared.held.Held.{Held as Hand}
+use Rattle.ks_arena.specs.Sound.{Sort, blank_of}
+use Rattle.ks_arena.specs.Clauses.{Matches, MatchesIf, IsReady}
+
+module _ {N : Type 0} (sort : Sort) (shows : N → Body) where
+  live_if : (live : Bool) (s : NodeState) (f : Frame) (b : N) → live ≡ true → MatchesIf sort shows live s f b → (s ≡ Live (record_of (shows b))) × (f ≡ frame_of (shows b))
+  live_if true s f b e so = so
+  live_if false s f b e so = absurd (let q : ⊥ = cc in q)
+
+  abbrev shown : (h : List Event) (x : Hand N) → x.live ≡ true → Matches sort shows h x → (graph_after h x.node ≡ Live (record_of (shows x.body))) × (frame_after (blank_of sort) h x.node ≡ frame_of (shows x.body))
+  shown h x live m = live_if x.live (graph_after h x.node) (frame_after (blank_of sort) h x.node) x.body live m.is
+
+  -- the inset of the root has every place
+  pub root_inset : (h : List Event) (x : Hand N) (p : ℕ) → x.live ≡ true → Matches sort shows h x → x.node ≡ 0 → p ≤ top → InInset (graph_after h) x.node p
+  root_inset h x p live m root low = subst (λ (i : ℕ). InInset (graph_after h) i p) (sym root) (low, at_root (record_of (shows x.body), ap live_record (ap (graph_after h) (sym root) ∙ (shown h x live m).0)))
+
+  -- a place of its inset at which the search ends is in the keyset of the node
+  pub in_keyset : (h : List Event) (x : Hand N) (p : ℕ) → x.live ≡ true → Matches sort shows h x → InInset (graph_after h) x.node p → InOrder (content_of (shows x.body)) → next_at (shows x.body) p ≡ Here → InKeyset (graph_after h) x.node p
+  in_keyset h x p live m inside order here = (
+    inside,
+    λ out. let is_live = (shown h x live m).0 in let same : Some (record_of (shows x.body)) ≡ Some out.0 = sym (ap live_record is_live) ∙ out.1 in let is : record_of (shows x.body) ≡ out.0 = cc in
+        here_stays (shows x.body) p order here (subst (λ (r : Record). LeadsOn r p) (sym is) out.2),
+  )
+
+  -- what the body has at the place is what the graph has there
+  pub shows_value : (h : List Event) (x : Hand N) (p : ℕ) → x.live ≡ true → Matches sort shows h x → found_at (graph_after h) x.node p ≡ value_at (shows x.body).pairs p
+  shows_value h x p live m = ap (λ (s : NodeState). value_in (live_record s) p) (shown h x live m).0 ∙ value_first (shows x.body).pairs p
+
+  get_due : (layout : Layout) (n c i p : ℕ) (h : List Event) (found : Option ℕ) → IsDue layout n h (Call c i (Get p) (told found))
+  get_due layout n c i p h None = tt
+  get_due layout n c i p h (Some w) = tt
+
+  pub get_ready : (nodes c p : ℕ) (h : List Event) (x : Hand N) (found : Option ℕ) (reply : Reply) → turn_after h x.node ≡ held c → x.live ≡ true → Matches sort shows h x → InInset (graph_after h) x.node p → InOrder (content_of (shows x.body)) → next_at (shows x.body) p ≡ Here
+      → found ≡ value_at (shows x.body).pairs p → reply ≡ told found → IsReady sort shows nodes c h x (Get p) reply
+  get_ready nodes c p h x found reply mine live m inside order here is tells = subst (IsReady sort shows nodes c h x (Get p)) (sym tells) record {
+    live = live;
+    meets = (mine, (λ q t. subst (InKeyset (graph_after h) x.node) (sym t) (in_keyset h x p live m inside order here)), ap told (is ∙ sym (shows_value h x p live m)));
+    due = get_due sort.layout nodes c x.node p h found;
+    state = keeps found;
+    frame = (shown h x live m).1;
+  }
+    where
+      keeps : (found : Option ℕ) → state_with (written (Get p) (told found)) (graph_after h x.node) ≡ Live (record_of (shows x.body))
+      keeps None = ap (state_with (written (Get p) (told None))) (shown h x live m).0
+      keeps (Some v) = ap (state_with (written (Get p) (told (Some v)))) (shown h x live m).0

@@ -1,0 +1,42 @@
+//! What makes a call ready to be decided. The functions compute nothing: their contracts are laws.
+ghost use Rattle.std.specs.Prelude.{◌≡◌, List, true};
+ghost use Rattle.ks_keysets.specs.Keyset.{InInset};
+ghost use Rattle.ks_history.specs.declared.Event.{Event as Happening};
+ghost use Rattle.ks_history.specs.declared.Op.TheVariants.{Get};
+ghost use Rattle.ks_history.specs.Map.{told};
+ghost use Rattle.ks_history.specs.Passes.{Has};
+ghost use Rattle.ks_history.specs.Trace.{graph_after};
+ghost use Rattle.ks_node.specs.declared.start.Next.TheVariants.{Here};
+ghost use Rattle.ks_node.specs.Body.{next_at, value_at};
+ghost use Rattle.ks_arena.specs.Sound.{sort_of};
+ghost use Rattle.ks_arena.specs.Clauses.{IsPass, hand_of, seen_of, Matches, IsReady};
+
+use crate::arena::Arena;
+use crate::held::{Held, Pass};
+use crate::laws::sound_law;
+use ks_flow::Discipline;
+use ks_history::Reply;
+use ks_node::{Node, node_law};
+
+/// The inset of the root has every place.
+pub fn root_law<N: Node>(root: &Held<N>, place: u64)
+    requires { root.now.node ≡ 0 }
+    ensures { (h : List Happening) → root.now.live ≡ true → Matches (sort_of N.layout N.ranged) N.body h root.now → InInset (graph_after h) root.now.node place }
+{}
+
+impl<N: Node, D: Discipline> Arena<N, D> {
+    /// A Get may be decided at a live node in hand whose inset has the place, and where the search for it ends. Its
+    /// reply tells what the body has there.
+    pub fn get_law(&self, pass: &Pass<N, D>, held: &Held<N>, place: u64, reply: &Reply)
+        requires pass { IsPass (sort_of N.layout N.ranged) D.begins D.step self.now.table.shared.table_id self.now.callers pass.now }
+        requires holds { Has (hand_of pass.now) held.now.node }
+        requires body { (held.now.live ≡ true) × Matches (sort_of N.layout N.ranged) N.body (seen_of pass.now) held.now }
+        requires inside { InInset (graph_after (seen_of pass.now)) held.now.node place }
+        requires here { next_at (N.body held.now.body) place ≡ Here }
+        requires reply { reply.now ≡ told (value_at (N.body held.now.body).pairs place) }
+        ensures { IsReady (sort_of N.layout N.ranged) N.body self.now.nodes pass.now.caller (seen_of pass.now) held.now (Get place) reply.now }
+    {
+        sound_law::<D>();
+        node_law(&held.body);
+    }
+}

@@ -1,0 +1,113 @@
+//! The least that decides: a get at node 0. It needs no proof by hand.
+ghost use Rattle.std.specs.Prelude.{◌≡◌, ◌++◌, [], false};
+ghost use Rattle.ks_flow.specs.Discipline.{BeginsTree, TreeStep};
+ghost use Rattle.ks_keysets.specs.Layout.{list_layout};
+ghost use Rattle.ks_history.specs.Map.{told};
+ghost use Rattle.ks_arena.specs.Sound.{sort_of};
+ghost use Rattle.ks_arena.specs.Clauses.{IsPass, hand_of, mine_of};
+ghost use Rattle.ks_turns.specs.Gets.{get_events};
+
+use ks_arena::laws::root_stays_law;
+use ks_arena::{Arena, Pass, root_law};
+use ks_flow::{Discipline, Tree};
+use ks_history::{Op, Reply};
+use ks_list::ListNode;
+use ks_node::{Next, Node};
+use std::sync::Wait;
+use std::thread::{Threads, join};
+
+/// What a get at node 0 came to.
+#[derive(Clone, Copy, Debug, PartialEq, Eq)]
+pub enum GetOutcome {
+    /// It is the call of that number, and found that value.
+    Decided { number: u64, found: Option<u128> },
+    /// An edge of the node carries the place.
+    Elsewhere,
+}
+
+/// The reply that tells what stood there.
+fn reply_of(found: Option<u128>) -> Reply
+    ensures { result ≡ told found }
+{
+    match found {
+        Some(value) => Reply::Value(value),
+        None => Reply::Nothing,
+    }
+}
+
+/// Takes node 0 once nobody else holds it, gets the value at the place as one call, and gives the node back.
+pub fn get_at_root<N: Node, D: Discipline, R: Wait>(
+    rt: &R,
+    arena: &Arena<N, D>,
+    pass: &mut Pass<N, D>,
+    place: u64,
+) -> GetOutcome
+    requires pass { IsPass (sort_of N.layout N.ranged) D.begins D.step arena.now.table.shared.table_id arena.now.callers pass.old × (hand_of pass.old ≡ []) }
+    ensures pass { IsPass (sort_of N.layout N.ranged) D.begins D.step arena.now.table.shared.table_id arena.now.callers pass.new × (hand_of pass.new ≡ []) }
+    ensures caller { pass.new.caller ≡ pass.old.caller }
+    ensures mine { mine_of pass.new ≡ get_events pass.old.caller place result ++ mine_of pass.old }
+{
+    root_stays_law::<D>();
+    let Some(held) = arena.take(rt, pass, 0) else {
+        unreachable!()
+    };
+    if let Next::Go(_) = held.body.next(place) {
+        arena.give(pass, held);
+        return GetOutcome::Elsewhere;
+    }
+    let found = held.body.get(place);
+    let reply = reply_of(found);
+    root_law(&held, place);
+    arena.get_law(pass, &held, place, &reply);
+    let number = arena.decide(pass, &held, Op::Get(place), reply);
+    arena.give(pass, held);
+    GetOutcome::Decided { number, found }
+}
+
+/// Gets the place at node 0, and gives the pass back with what it came to.
+pub fn look_up<N: Node, D: Discipline, R: Wait>(
+    rt: &R,
+    arena: &Arena<N, D>,
+    mut pass: Pass<N, D>,
+    place: u64,
+) -> (Pass<N, D>, GetOutcome)
+    requires { IsPass (sort_of N.layout N.ranged) D.begins D.step arena.now.table.shared.table_id arena.now.callers pass × (hand_of pass ≡ []) }
+    ensures pass { IsPass (sort_of N.layout N.ranged) D.begins D.step arena.now.table.shared.table_id arena.now.callers result.0 × (hand_of result.0 ≡ []) × (result.0.caller ≡ pass.caller) }
+    ensures mine { mine_of result.0 ≡ get_events pass.caller place result.1 ++ mine_of pass }
+{
+    let outcome = get_at_root(rt, arena, &mut pass, place);
+    (pass, outcome)
+}
+
+/// Both callers get the place at node 0 at once.
+pub fn both_get<R: Threads + Wait + Sync>(
+    rt: &R,
+    arena: &Arena<ListNode, Tree>,
+    one: Pass<ListNode, Tree>,
+    two: Pass<ListNode, Tree>,
+    place: u64,
+) -> (
+    (Pass<ListNode, Tree>, GetOutcome),
+    (Pass<ListNode, Tree>, GetOutcome),
+)
+    requires one { IsPass (sort_of list_layout false) BeginsTree TreeStep arena.now.table.shared.table_id arena.now.callers one × (hand_of one ≡ []) }
+    requires two { IsPass (sort_of list_layout false) BeginsTree TreeStep arena.now.table.shared.table_id arena.now.callers two × (hand_of two ≡ []) }
+    ensures one { IsPass (sort_of list_layout false) BeginsTree TreeStep arena.now.table.shared.table_id arena.now.callers result.0.0 × (hand_of result.0.0 ≡ []) × (result.0.0.caller ≡ one.caller) }
+    ensures two { IsPass (sort_of list_layout false) BeginsTree TreeStep arena.now.table.shared.table_id arena.now.callers result.1.0 × (hand_of result.1.0 ≡ []) × (result.1.0.caller ≡ two.caller) }
+    ensures events_of_one { mine_of result.0.0 ≡ get_events one.caller place result.0.1 ++ mine_of one }
+    ensures events_of_two { mine_of result.1.0 ≡ get_events two.caller place result.1.1 ++ mine_of two }
+{
+    join(
+        rt,
+        move || -> (Pass<ListNode, Tree>, GetOutcome)
+            requires { IsPass (sort_of list_layout false) BeginsTree TreeStep arena.now.table.shared.table_id arena.now.callers one × (hand_of one ≡ []) }
+            ensures pass { IsPass (sort_of list_layout false) BeginsTree TreeStep arena.entry.now.table.shared.table_id arena.entry.now.callers result.0 × (hand_of result.0 ≡ []) × (result.0.caller ≡ one.caller) }
+            ensures mine { mine_of result.0 ≡ get_events one.caller place result.1 ++ mine_of one }
+        { look_up(rt, arena, one, place) },
+        move || -> (Pass<ListNode, Tree>, GetOutcome)
+            requires { IsPass (sort_of list_layout false) BeginsTree TreeStep arena.now.table.shared.table_id arena.now.callers two × (hand_of two ≡ []) }
+            ensures pass { IsPass (sort_of list_layout false) BeginsTree TreeStep arena.entry.now.table.shared.table_id arena.entry.now.callers result.0 × (hand_of result.0 ≡ []) × (result.0.caller ≡ two.caller) }
+            ensures mine { mine_of result.0 ≡ get_events two.caller place result.1 ++ mine_of two }
+        { look_up(rt, arena, two, place) },
+    )
+}
