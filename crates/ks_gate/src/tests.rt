@@ -80,6 +80,17 @@ fn a_stander_without_a_mover_goes_on_after_its_limit(rt: HostRuntime) {
 }
 
 #[test]
+fn the_point_that_makes_up_the_count_is_not_yet_one_to_stand_at(rt: HostRuntime) {
+    let gate = Meet::of(0, 1, Point::Decided(5), 1, 100);
+    gate.at(0, Point::Decided(5));
+    assert!(rt; !gate.failed());
+    gate.at(0, Point::Decided(6));
+    assert!(rt; !gate.failed());
+    gate.at(0, Point::Decided(5));
+    assert!(rt; gate.failed());
+}
+
+#[test]
 fn a_mover_without_a_stander_goes_on_after_its_limit(rt: HostRuntime) {
     let gate = Meet::of(0, 0, Point::Begin, 1, 100);
     gate.at(1, Point::Taken(0));
@@ -106,6 +117,6 @@ fn others_pass_and_a_stander_waits_for_no_mover_that_went_before(rt: HostRuntime
 
 #[test]
 fn no_gate_keeps_nobody(rt: HostRuntime) {
-    let (first, second) = two(&rt, &NoGate, 1);
-    assert!(rt; first + second == 1);
+    let numbers = two(&rt, &NoGate, 1);
+    assert!(rt; numbers == (0, 1) || numbers == (1, 0));
 }
