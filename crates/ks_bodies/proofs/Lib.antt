@@ -13,3 +13,9 @@ pub mod Once
 pub mod Used
 pub mod Asked
 pub mod Rooted
+pub mod LinkRecords
+pub mod LinkEdges
+pub mod LinkStanding
+pub mod SplitRight
+pub mod LinkAsked
+pub mod Attach

@@ -5,7 +5,9 @@
 #![tactic(auto)]
 
 mod asks;
+mod links;
 mod steps;
 
 pub use asks::{tree_asks_law, tree_spans_law};
+pub use links::{link_asks_law, link_steps_law};
 pub use steps::tree_steps_law;
