@@ -1,7 +1,7 @@
 -- A branch that leads to one node more.
 use Rattle.std.proofs.Common.{ℕ, suc, ◌≡◌, ◌<◌, ◌≤◌, ◌==◌, ◌⊎◌, inl, inr, cond, Bool, true, false, List, [], ◌∷◌, ◌++◌, Option, Some, None, refl, sym, ◌∙◌, ap, subst, arith, eq-eqb}
-use Rattle.std.specs.Prelude.{All, Any, max, drop, nat_le, IsTrue}
-use Rattle.std.proofs.lemmas.Bool.{ne_eqb, eqb-true}
+use Rattle.std.specs.Prelude.{All, max, drop, nat_le, IsTrue}
+use Rattle.std.proofs.lemmas.Bool.{ne_eqb}
 use Rattle.std.proofs.lemmas.Bool.Decides.{eqb_tells}
 use Rattle.std.proofs.lemmas.List.Elements.{All-filter, All-cons, All-nil}
 use Rattle.ks_keysets.specs.declared.Edge.{Edge}
@@ -10,17 +10,17 @@ use Rattle.ks_keysets.specs.declared.Kind.{Kind}
 use Rattle.ks_keysets.specs.declared.Kind.TheVariants.{NoBranch, Inner, Directory}
 use Rattle.ks_keysets.specs.declared.Span.{Span}
 use Rattle.ks_keysets.specs.declared.NodeState.{NodeState}
-use Rattle.ks_keysets.specs.Record.{top, LeadsTo, LeadsOn}
+use Rattle.ks_keysets.specs.Record.{LeadsOn}
 use Rattle.ks_node.specs.declared.start.Start.{Start}
 use Rattle.ks_node.specs.Ascend.{asc_insert, all_below}
-use Rattle.ks_node.specs.Body.{Body, is_branch, is_branch_kind, first_of, last_of, starts_below, starts_from, begins}
+use Rattle.ks_node.specs.Body.{Body, is_branch_kind, first_of, last_of, starts_below, starts_from, begins}
 use Rattle.ks_node.specs.Edges.{edges_from, edges_of, link_edge, record_of}
 use Rattle.ks_node.specs.Effect.{adopted, settled, runs, runs_after}
 use Rattle.ks_node.specs.Starts.{all_insert, tail_insert}
 use Rattle.ks_node.specs.Sound.{Framed}
 use Rattle.ks_bodies.proofs.Under.{none_at}
 use Rattle.ks_flow.specs.Changes.{graph_with, frames_with, HasBecome}
-use Rattle.ks_flow.specs.Link.{Link, IsPartOf, IsLinkEdge, IsChildEdge, Attaches}
+use Rattle.ks_flow.specs.Link.{Link, IsPartOf, Attaches}
 use Rattle.ks_bodies.specs.Stands.{live_as, free_as}
 use Rattle.ks_bodies.specs.Links.{IsLinked, CanAttach, attach}
 use Rattle.ks_bodies.proofs.Led.{or_else, led, led_append, led_parts, AllAbove, Ascend, ascend, begins_from, parts_join, count, clash, clash_all, low_or_high}

@@ -19,3 +19,4 @@ pub mod LinkStanding
 pub mod SplitRight
 pub mod LinkAsked
 pub mod Attach
+pub mod GrowRight

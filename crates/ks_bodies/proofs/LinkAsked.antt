@@ -1,5 +1,5 @@
 -- What the calls of shapes under links ask of bodies.
-use Rattle.std.proofs.Common.{ℕ, suc, ◌≡◌, ◌<◌, ◌≤◌, List, [], ◌∷◌, Option, Some, refl, sym, ◌∙◌, ap, subst, arith, length, get_or, IsTrue}
+use Rattle.std.proofs.Common.{ℕ, suc, ◌≡◌, ◌<◌, ◌≤◌, List, [], ◌∷◌, Option, Some, sym, ◌∙◌, ap, subst, arith, length, get_or, IsTrue}
 use Rattle.std.specs.Prelude.{All, drop}
 use Rattle.ks_keysets.specs.declared.Frame.{Frame}
 use Rattle.ks_keysets.specs.declared.Pair.{Pair}

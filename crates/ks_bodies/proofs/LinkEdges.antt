@@ -1,5 +1,5 @@
 -- The edges of a part of a body are edges of the body, or the first parts of some.
-use Rattle.std.proofs.Common.{ℕ, zero, suc, ◌≡◌, ◌<◌, ◌≤◌, ◌-◌, ◌⊎◌, inl, inr, cond, Bool, true, false, List, [], ◌∷◌, ◌++◌, Option, Some, None, refl, sym, ◌∙◌, ap, subst, arith}
+use Rattle.std.proofs.Common.{ℕ, zero, suc, ◌≡◌, ◌<◌, ◌≤◌, ◌-◌, ◌⊎◌, inl, inr, cond, Bool, true, false, List, [], ◌∷◌, ◌++◌, refl, sym, ◌∙◌, ap, subst, arith}
 use Rattle.std.specs.Prelude.{All, Any, nat_lt, nat_le, min, max, drop, IsTrue}
 use Rattle.std.proofs.lemmas.Bool.{lt-ltb, le-ltb, le-leb, lt-leb}
 use Rattle.std.proofs.lemmas.List.Elements.{All-cons, All-nil}
@@ -11,7 +11,6 @@ use Rattle.ks_node.specs.Body.{starts_below, starts_from, begins, is_branch_kind
 use Rattle.ks_node.specs.Edges.{add_edge, edges_from}
 use Rattle.ks_node.specs.Effect.{first_from}
 use Rattle.ks_bodies.proofs.Led.{low_or_high, AllAbove, Ascend, parts_above, begins_from}
-use Rattle.ks_bodies.proofs.Parts.{none_below}
 
 -- some element of a list
 
@@ -46,7 +45,7 @@ any_there Q low last n es y = go (nat_le low last)
     go true = any_tail Q (record { span = record { low = low; last = last }; node = n }) es y
     go false = y
 
-all_if : (P : Edge → Type 0) (low last n : ℕ) (es : List Edge) → (low ≤ last → P (record { span = record { low = low; last = last }; node = n })) → All P es → All P (add_edge low last n es)
+pub all_if : (P : Edge → Type 0) (low last n : ℕ) (es : List Edge) → (low ≤ last → P (record { span = record { low = low; last = last }; node = n })) → All P es → All P (add_edge low last n es)
 all_if P low last n es h all = elim (low_or_high last low) [
   | inl lt ↦ (let t : nat_le low last ≡ false = lt-leb _ _ lt in rw t all)
   | inr le ↦ (let t : nat_le low last ≡ true = le-leb _ _ le in rw t (All-cons P (record { span = record { low = low; last = last }; node = n }) es (h le) all))

@@ -1,12 +1,12 @@
 -- The edges of a body with a link lead where its starts do, within its range, and above it where the link does.
-use Rattle.std.proofs.Common.{ℕ, zero, suc, ◌≡◌, ◌<◌, ◌≤◌, ◌-◌, ◌⊎◌, inl, inr, cond, Bool, true, false, List, [], ◌∷◌, ◌++◌, Option, Some, None, refl, sym, ◌∙◌, ap, subst, arith}
-use Rattle.std.specs.Prelude.{All, Any, AllPairs, nat_lt, nat_le, is_some, min, max}
+use Rattle.std.proofs.Common.{ℕ, suc, ◌≡◌, ◌<◌, ◌≤◌, ◌-◌, ◌⊎◌, inl, inr, cond, true, false, List, [], ◌∷◌, ◌++◌, Option, Some, None, refl, sym, ◌∙◌, ap, subst, arith}
+use Rattle.std.specs.Prelude.{All, AllPairs, nat_lt, is_some, min, max}
 use Rattle.std.proofs.lemmas.Bool.{lt-ltb, le-ltb}
 use Rattle.std.proofs.lemmas.List.Elements.{All-cons, All-nil}
 use Rattle.std.proofs.lemmas.List.Kept.{AllPairs-cons}
 use Rattle.ks_keysets.specs.declared.Span.{Span}
 use Rattle.ks_keysets.specs.declared.Edge.{Edge}
-use Rattle.ks_keysets.specs.Record.{top, Carries, LeadsTo, LeadsOn, first_value}
+use Rattle.ks_keysets.specs.Record.{top, LeadsTo, LeadsOn, first_value}
 use Rattle.ks_node.specs.declared.start.Start.{Start}
 use Rattle.ks_node.specs.Body.{Body, first_of, last_of}
 use Rattle.ks_node.specs.Edges.{edges_from, edges_of, link_edge, record_of}

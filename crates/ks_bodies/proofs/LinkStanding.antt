@@ -1,18 +1,17 @@
 -- What stands in a graph with links, and the parts of a body with a link.
-use Rattle.std.proofs.Common.{ℕ, suc, ◌≡◌, ◌<◌, ◌≤◌, ◌-◌, ◌⊎◌, inl, inr, List, [], ◌∷◌, ◌++◌, Option, Some, None, refl, sym, ◌∙◌, ap, subst, arith}
-use Rattle.std.specs.Prelude.{All, IsTrue}
-use Rattle.std.specs.Option.{ForSome}
+use Rattle.std.proofs.Common.{ℕ, suc, ◌≡◌, ◌<◌, ◌≤◌, ◌-◌, ◌⊎◌, inl, inr, List, [], Option, Some, refl, sym, ◌∙◌, ap, subst, arith}
+use Rattle.std.specs.Prelude.{All}
 use Rattle.std.proofs.lemmas.List.Elements.{All-filter, All-cons, All-nil}
 use Rattle.ks_keysets.specs.declared.Frame.{Frame}
 use Rattle.ks_keysets.specs.declared.Span.{Span}
 use Rattle.ks_keysets.specs.declared.Edge.{Edge}
-use Rattle.ks_keysets.specs.declared.Kind.TheVariants.{NoBranch, Inner, Directory}
+use Rattle.ks_keysets.specs.declared.Kind.TheVariants.{Directory}
 use Rattle.ks_keysets.specs.declared.NodeState.{NodeState}
 use Rattle.ks_keysets.specs.Record.{top, LeadsTo}
 use Rattle.ks_keysets.specs.Keyset.{InKeyset, Good}
-use Rattle.ks_node.specs.Body.{Body, first_of, last_of, is_branch_kind, pairs_below, pairs_from, starts_below, starts_from}
+use Rattle.ks_node.specs.Body.{Body, first_of, last_of, pairs_below, pairs_from, starts_below}
 use Rattle.ks_node.specs.Edges.{edges_from, edges_of, link_edge, record_of}
-use Rattle.ks_node.specs.Effect.{split_right, ends_at, begins_at, first_from}
+use Rattle.ks_node.specs.Effect.{split_right, ends_at, begins_at}
 use Rattle.ks_node.specs.Asks.{CanSplitAt}
 use Rattle.ks_node.specs.Ascend.{all_below, all_from}
 use Rattle.ks_node.specs.Sound.{Framed}
@@ -20,7 +19,7 @@ use Rattle.ks_flow.specs.Link.{IsRange, IsPartOf}
 use Rattle.ks_flow.specs.Tree.{ActsAs}
 use Rattle.ks_flow.specs.Shapes.{StandBelow, StandFrom}
 use Rattle.ks_bodies.specs.Links.{IsLinked, StandsLinked, split_linked}
-use Rattle.ks_bodies.proofs.Led.{low_or_high, led, led_below}
+use Rattle.ks_bodies.proofs.Led.{low_or_high, led_below}
 use Rattle.ks_bodies.proofs.Parts.{value_below, value_from, led_right}
 use Rattle.ks_bodies.proofs.LinkRecords.{all_append, link_above, goes, range_of, linked_ascend, goes_inside, goes_beyond, goes_leads, linked_alike}
 use Rattle.ks_bodies.proofs.LinkEdges.{any_first, any_second, all_any, PartIn, edges_below, right_edges, edges_part_from}

@@ -1,5 +1,5 @@
 -- How bodies with links stand in a graph, the changes that each shape under links makes of them, and what it asks.
-use Rattle.std.specs.Prelude.{ℕ, suc, ◌≡◌, true, IsTrue, Some, None, is_some, List, [], ◌∷◌, nat_lt}
+use Rattle.std.specs.Prelude.{ℕ, suc, ◌≡◌, ◌+◌, true, IsTrue, Some, None, is_some, List, [], ◌∷◌, nat_lt}
 use Rattle.std.specs.Option.{ForSome}
 use Rattle.ks_keysets.specs.declared.Frame.{Frame}
 use Rattle.ks_keysets.specs.declared.Kind.{Kind}
@@ -60,7 +60,7 @@ split_linked cut right b = with_link (Some right) (split_left cut b)
 
 -- a branch over what a grow made left and right, one level higher
 abbrev pub grown_higher : Kind → ℕ → ℕ → ℕ → Body → Body
-grown_higher kind cut left right b = with_level (suc b.level) (grown kind cut left right b)
+grown_higher kind cut left right b = with_level (b.level + 1) (grown kind cut left right b)
 
 abbrev pub split_to_right : ℕ → ℕ → ℕ → Body → List Change
 split_to_right node right cut b = live_as node (split_linked cut right b) ∷ live_as right (split_right cut b) ∷ []

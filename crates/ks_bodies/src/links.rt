@@ -31,6 +31,8 @@ pub fn link_asks_law()
 pub fn link_steps_law()
     ensures split_right { (g : ℕ → NodeState) (f : ℕ → Frame) (node right cut : ℕ) (b : Body) → Good g → Link g f →
         CanSplitRight g f node right cut b → IsLinked (split_linked cut right b) → IsLinked (split_right cut b) → LinkStep g f (split_to_right node right cut b) }
+    ensures grow_right { (g : ℕ → NodeState) (f : ℕ → Frame) (kind : Kind) (left right cut : ℕ) (b : Body) → Good g → Link g f →
+        CanGrowRight g f left right cut b → IsLinked (grown_higher kind cut left right b) → IsLinked (split_linked cut right b) → IsLinked (with_link None (split_right cut b)) → LinkStep g f (grow_right kind 0 left right cut b) }
     ensures attach { (g : ℕ → NodeState) (f : ℕ → Frame) (node id cut : ℕ) (b : Body) → Good g → Link g f →
         CanAttach g f node id cut b → IsLinked (adopted cut id b) → LinkStep g f (attach node id cut b) }
 {
