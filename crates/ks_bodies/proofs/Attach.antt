@@ -141,7 +141,7 @@ module _ (g : ℕ → NodeState) (f : ℕ → Frame) (node id cut : ℕ) (b : Bo
   rise_P = all_rise key range.low P up_P framed.above keys
 
   keys_Q : All (λ s. key s.node ≡ max range.low s.low) Q
-  keys_Q = all_insert (λ s. key s.node ≡ max range.low s.low) cut id P (omega (arith, x.low, above)) keys
+  keys_Q = all_insert (λ s. key s.node ≡ max range.low s.low) cut id P (omega (arith, x.under.low, above)) keys
 
   tail_Q : All (λ s. range.low < s.low) (drop 1 Q)
   tail_Q = tail_insert (λ s. range.low < s.low) cut id P (omega (arith, above)) (x.stands.linked.sound.branch_covers x.branch) above framed.above
@@ -151,7 +151,7 @@ module _ (g : ℕ → NodeState) (f : ℕ → Frame) (node id cut : ℕ) (b : Bo
 
   -- no start below the cut leads to the node
   none_lower : count (starts_below cut P) id ≡ 0
-  none_lower = none_counted (starts_below cut P) id (λ k d lt e. omega (arith, ap key e, x.low, above, All-filter _ (λ s. key s.node ≡ max range.low s.low) P keys k d lt, all_below (λ s. s.low) cut P k d lt))
+  none_lower = none_counted (starts_below cut P) id (λ k d lt e. omega (arith, ap key e, x.under.low, above, All-filter _ (λ s. key s.node ≡ max range.low s.low) P keys k d lt, all_below (λ s. s.low) cut P k d lt))
 
   -- the new start is there, or was there before
   abbrev NewOrOld : List Start → Type 0
@@ -252,9 +252,9 @@ module _ (g : ℕ → NodeState) (f : ℕ → Frame) (node id cut : ℕ) (b : Bo
     is_range = linked_range g f node b x.stands;
     above = above;
     within = x.cuts.1 range has;
-    target = x.target;
-    level = x.level;
-    low = x.low;
+    target = x.under.live;
+    level = x.under.level ∙ sym (ap (λ (z : Frame). z.level) x.stands.frame);
+    low = x.under.low;
     pairs = refl;
     apart = (linked_tidy (adopted cut id b) after).apart;
     on = still_on;

@@ -45,14 +45,18 @@ pub record CanGrowRight (g : ℕ → NodeState) (f : ℕ → Frame) (left right 
   pub splits : CanSplitAt b cut
   pub parts : b.kind ≡ Directory → ⊥
 
--- node, with body b, is a branch, and node id is live, one level below it, and begins at the cut
+-- node id is live, one level below this one, and begins at the cut
+pub record StandsUnder (g : ℕ → NodeState) (f : ℕ → Frame) (id above cut : ℕ) : Type 0 where
+  pub live : IsLive g id
+  pub level : suc (f id).level ≡ above
+  pub low : (f id).low ≡ cut
+
+-- node, with body b, is a branch with the cut in its range, and node id stands under it
 pub record CanAttach (g : ℕ → NodeState) (f : ℕ → Frame) (node id cut : ℕ) (b : Body) : Type 0 where
   pub stands : StandsLinked g f node b
   pub branch : IsTrue (is_branch b)
   pub cuts : IsCut b cut
-  pub target : IsLive g id
-  pub level : suc (f id).level ≡ (f node).level
-  pub low : (f id).low ≡ cut
+  pub under : StandsUnder g f id b.level cut
 
 -- what is left of a node that split, linked to what it split off
 abbrev pub split_linked : ℕ → ℕ → Body → Body
