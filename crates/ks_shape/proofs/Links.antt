@@ -1,5 +1,5 @@
 -- How what a caller holds stands in a graph with links, at what its pass has seen and whatever others do next.
-use Rattle.std.proofs.Common.{◌≡◌, ℕ, suc, Bool, List, sym, refl, ap, ◌∙◌, subst, true, arith, inl, inr}
+use Rattle.std.proofs.Common.{◌≡◌, ℕ, List, ap, ◌∙◌, true, arith, inl, inr}
 use Rattle.std.specs.Prelude.{is_some, nat_lt}
 use Rattle.std.specs.Option.{ForSome}
 use Rattle.ks_keysets.specs.Keyset.{live_record}

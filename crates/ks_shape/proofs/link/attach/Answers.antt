@@ -1,5 +1,4 @@
-use Rattle.std.proofs.Common.{rules, ◌≡◌, ◌<◌, ℕ, List, [], ◌∷◌, arith, sym, refl, ap, ◌∙◌, subst, true}
-use Rattle.ks_keysets.specs.declared.Change.{Change}
+use Rattle.std.proofs.Common.{◌≡◌, ℕ, List, [], ◌∷◌, arith, sym, ◌∙◌, subst}
 use Rattle.ks_keysets.specs.declared.NodeState.{NodeState}
 use Rattle.ks_keysets.specs.declared.Frame.{Frame}
 use Rattle.ks_history.specs.declared.Event.{Event}

@@ -1,5 +1,4 @@
-use Rattle.std.proofs.Common.{rules, None, ◌≡◌, ◌<◌, ℕ, List, [], ◌∷◌, arith, sym, refl, ap, ◌∙◌, subst, true}
-use Rattle.ks_keysets.specs.declared.Change.{Change}
+use Rattle.std.proofs.Common.{None, ◌≡◌, ℕ, List, [], ◌∷◌, arith, sym, refl, ◌∙◌, subst, true}
 use Rattle.ks_keysets.specs.declared.NodeState.{NodeState}
 use Rattle.ks_keysets.specs.declared.Frame.{Frame}
 use Rattle.ks_history.specs.declared.Event.{Event}
