@@ -3,7 +3,7 @@ use Rattle.std.proofs.Common.{ℕ, suc, ◌≡◌, ◌<◌, ◌≤◌, ◌==◌,
 use Rattle.std.specs.Prelude.{All, max, drop, nat_le, IsTrue}
 use Rattle.std.proofs.lemmas.Bool.{ne_eqb}
 use Rattle.std.proofs.lemmas.Bool.Decides.{eqb_tells}
-use Rattle.std.proofs.lemmas.List.Elements.{All-filter, All-cons, All-nil}
+use Rattle.std.proofs.lemmas.List.Elements.{All-filter, All-cons, All-nil, All-append}
 use Rattle.ks_keysets.specs.declared.Edge.{Edge}
 use Rattle.ks_keysets.specs.declared.Frame.{Frame}
 use Rattle.ks_keysets.specs.declared.Kind.{Kind}
@@ -25,7 +25,7 @@ use Rattle.ks_bodies.specs.Stands.{live_as, free_as}
 use Rattle.ks_bodies.specs.Links.{IsLinked, CanAttach, attach}
 use Rattle.ks_bodies.proofs.Led.{or_else, led, led_append, led_parts, AllAbove, Ascend, ascend, begins_from, parts_join, count, clash, clash_all, low_or_high}
 use Rattle.ks_bodies.proofs.Standing.{Made}
-use Rattle.ks_bodies.proofs.LinkRecords.{all_append, goes, range_of, linked_ascend, linked_tidy, goes_inside, goes_beyond, leads_goes, goes_leads, on_leads, leads_on, leads_place}
+use Rattle.ks_bodies.proofs.LinkRecords.{goes, range_of, linked_ascend, linked_tidy, goes_inside, goes_beyond, leads_goes, goes_leads, on_leads, leads_on, leads_place}
 use Rattle.ks_bodies.proofs.LinkEdges.{any_first, any_second, all_any, PartIn, edges_insert, edges_full}
 use Rattle.ks_bodies.proofs.LinkStanding.{linked_framed, linked_range}
 
@@ -207,7 +207,7 @@ module _ (g : ℕ → NodeState) (f : ℕ → Frame) (node id cut : ℕ) (b : Bo
       (λ k d lt. inl (part_of _ (each (edges_from (first_of b.range) (last_of b.range) P) k d lt)))
 
   attached_edges : All IsOne (edges_of (adopted cut id b))
-  attached_edges = all_append IsOne (edges_from (first_of b.range) (last_of b.range) (adopted cut id b).starts) (link_edge (last_of b.range) b.link)
+  attached_edges = All-append IsOne (edges_from (first_of b.range) (last_of b.range) (adopted cut id b).starts) (link_edge (last_of b.range) b.link)
       (start_edges (adopted cut id b).starts new_or_old)
       (λ k d lt. inl (any_second (λ e. (e.node ≡ _) × (e.span.low ≡ _) × (_ ≤ e.span.last)) (edges_from (first_of b.range) (last_of b.range) P) (link_edge (last_of b.range) b.link) (each (link_edge (last_of b.range) b.link) k d lt)))
 

@@ -1,8 +1,7 @@
 -- What the calls of shapes under links ask of bodies.
-use Rattle.std.proofs.Common.{ℕ, suc, ◌≡◌, ◌<◌, ◌≤◌, List, [], ◌∷◌, Option, Some, sym, ◌∙◌, ap, subst, arith, length, get_or, IsTrue}
+use Rattle.std.proofs.Common.{ℕ, suc, ◌≡◌, ◌<◌, ◌≤◌, List, [], ◌∷◌, Option, Some, sym, ◌∙◌, ap, subst, arith, get_or, IsTrue}
 use Rattle.std.specs.Prelude.{All, drop}
 use Rattle.ks_keysets.specs.declared.Frame.{Frame}
-use Rattle.ks_keysets.specs.declared.Pair.{Pair}
 use Rattle.ks_keysets.specs.declared.Span.{Span}
 use Rattle.ks_keysets.specs.declared.NodeState.{NodeState}
 use Rattle.ks_keysets.specs.Record.{top, Holds}
@@ -13,12 +12,9 @@ use Rattle.ks_node.specs.Edges.{record_of}
 use Rattle.ks_node.specs.Asks.{Suits}
 use Rattle.ks_flow.specs.Link.{Link, IsRange}
 use Rattle.ks_bodies.specs.Links.{IsLinked, StandsLinked}
+use Rattle.ks_bodies.proofs.Asked.{no_pairs}
 use Rattle.ks_bodies.proofs.LinkRecords.{range_of}
 use Rattle.ks_bodies.proofs.LinkStanding.{linked_framed, linked_range}
-
-no_pairs : (ps : List Pair) (P : Pair → Type 0) → length ps ≡ 0 → All P ps
-no_pairs [] P e k d lt = absurd (omega arith)
-no_pairs (x ∷ ps) P e k d lt = absurd (omega arith)
 
 pub branch_pairs : (b : Body) (cut : ℕ) → IsLinked b → IsTrue (is_branch b) → All (λ x. x.place < cut) b.pairs
 branch_pairs b cut x branch = no_pairs b.pairs (λ x. x.place < cut) (x.sound.branch_no_pairs branch)

@@ -2,7 +2,7 @@
 use Rattle.std.proofs.Common.{ℕ, suc, ◌≡◌, ◌<◌, ◌≤◌, ◌-◌, ◌⊎◌, inl, inr, cond, true, false, List, [], ◌∷◌, ◌++◌, Option, Some, None, refl, sym, ◌∙◌, ap, subst, arith}
 use Rattle.std.specs.Prelude.{All, AllPairs, nat_lt, is_some, min, max}
 use Rattle.std.proofs.lemmas.Bool.{lt-ltb, le-ltb}
-use Rattle.std.proofs.lemmas.List.Elements.{All-cons, All-nil}
+use Rattle.std.proofs.lemmas.List.Elements.{All-cons, All-nil, All-append}
 use Rattle.std.proofs.lemmas.List.Kept.{AllPairs-cons}
 use Rattle.ks_keysets.specs.declared.Span.{Span}
 use Rattle.ks_keysets.specs.declared.Edge.{Edge}
@@ -33,14 +33,10 @@ leads_second : (xs ys : List Edge) (p m : ℕ) → Leads ys p m → Leads (xs ++
 leads_second [] ys p m h = h
 leads_second (x ∷ xs) ys p m h = inr (leads_second xs ys p m h)
 
-pub all_append : (P : Edge → Type 0) (xs ys : List Edge) → All P xs → All P ys → All P (xs ++ ys)
-all_append P [] ys a b = b
-all_append P (x ∷ xs) ys a b = All-cons P x (xs ++ ys) (a 0 x (omega arith)) (all_append P xs ys (λ k d lt. a (suc k) d (omega arith)) b)
-
 pairs_append : (xs ys : List Edge) → AllPairs Apart xs → AllPairs Apart ys → All (λ x. All (Apart x) ys) xs → AllPairs Apart (xs ++ ys)
 pairs_append [] ys a b h = b
 pairs_append (x ∷ xs) ys a b h = AllPairs-cons Apart x (xs ++ ys)
-    (all_append (Apart x) xs ys (λ k d lt. a 0 (suc k) d (omega arith) (omega arith)) (h 0 x (omega arith)))
+    (All-append (Apart x) xs ys (λ k d lt. a 0 (suc k) d (omega arith) (omega arith)) (h 0 x (omega arith)))
     (pairs_append xs ys (λ i j d lt lt'. a (suc i) (suc j) d (omega arith) (omega arith)) b (λ k d lt. h (suc k) d (omega arith)))
 
 -- the edges of starts end at the last place or below

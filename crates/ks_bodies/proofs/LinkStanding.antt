@@ -1,7 +1,7 @@
 -- What stands in a graph with links, and the parts of a body with a link.
 use Rattle.std.proofs.Common.{ℕ, suc, ◌≡◌, ◌<◌, ◌≤◌, ◌-◌, ◌⊎◌, inl, inr, List, [], Option, Some, refl, sym, ◌∙◌, ap, subst, arith}
 use Rattle.std.specs.Prelude.{All}
-use Rattle.std.proofs.lemmas.List.Elements.{All-filter, All-cons, All-nil}
+use Rattle.std.proofs.lemmas.List.Elements.{All-filter, All-cons, All-nil, All-append}
 use Rattle.ks_keysets.specs.declared.Frame.{Frame}
 use Rattle.ks_keysets.specs.declared.Span.{Span}
 use Rattle.ks_keysets.specs.declared.Edge.{Edge}
@@ -21,7 +21,7 @@ use Rattle.ks_flow.specs.Shapes.{StandBelow, StandFrom}
 use Rattle.ks_bodies.specs.Links.{IsLinked, StandsLinked, split_linked}
 use Rattle.ks_bodies.proofs.Led.{low_or_high, led_below}
 use Rattle.ks_bodies.proofs.Parts.{value_below, value_from, led_right}
-use Rattle.ks_bodies.proofs.LinkRecords.{all_append, link_above, goes, range_of, linked_ascend, goes_inside, goes_beyond, goes_leads, linked_alike}
+use Rattle.ks_bodies.proofs.LinkRecords.{link_above, goes, range_of, linked_ascend, goes_inside, goes_beyond, goes_leads, linked_alike}
 use Rattle.ks_bodies.proofs.LinkEdges.{any_first, any_second, all_any, PartIn, edges_below, right_edges, edges_part_from}
 
 pub linked_framed : (b : Body) (x : IsLinked b) → Framed (range_of b x).0 b
@@ -113,7 +113,7 @@ module _ (cut right : ℕ) (b : Body) (x : IsLinked b) (splits : CanSplitAt b cu
       (sym has) (edges_below range.low range.last cut b.starts (linked_ascend b x) within)
 
   pub lower_edges : All IsLower (edges_of (split_linked cut right b))
-  lower_edges = all_append IsLower (edges_from (first_of (ends_at (cut - 1) b.range)) (last_of (ends_at (cut - 1) b.range)) (starts_below cut b.starts)) (link_edge (last_of (ends_at (cut - 1) b.range)) (Some right))
+  lower_edges = All-append IsLower (edges_from (first_of (ends_at (cut - 1) b.range)) (last_of (ends_at (cut - 1) b.range)) (starts_below cut b.starts)) (link_edge (last_of (ends_at (cut - 1) b.range)) (Some right))
       (λ k d lt. let y = lower_parts k d lt in inl (part_of _ y.0, y.1, y.2))
       (All-cons IsLower (record { span = record { low = suc (last_of (ends_at (cut - 1) b.range)); last = top }; node = right }) [] (inr (refl, omega (arith, lower_last, above))) (All-nil IsLower))
 
@@ -133,5 +133,5 @@ module _ (cut right : ℕ) (b : Body) (x : IsLinked b) (splits : CanSplitAt b cu
       ))
 
   pub upper_edges : All IsUpper (edges_of (split_right cut b))
-  upper_edges = all_append IsUpper (edges_from (first_of (begins_at cut b.range)) (last_of (begins_at cut b.range)) (split_right cut b).starts) (link_edge (last_of (begins_at cut b.range)) b.link)
+  upper_edges = All-append IsUpper (edges_from (first_of (begins_at cut b.range)) (last_of (begins_at cut b.range)) (split_right cut b).starts) (link_edge (last_of (begins_at cut b.range)) b.link)
       (λ k d lt. let y = upper_parts k d lt in (part_of _ y.0, y.1)) upper_link

@@ -1,7 +1,8 @@
-//! How the calls of nodes keep a tree.
+//! How the calls of nodes keep a tree, or a graph with links.
 //!
-//! Each shape of a tree is some calls of nodes, which change their bodies, and then one Shape. Here stands, for any body
-//! and any range, that what the calls make of bodies meets the discipline of trees. Specs in the order Stands, Shapes.
+//! Each shape is some calls of nodes, which change their bodies, and then one Shape. Here stands, for any body and any
+//! range, that what the calls make of bodies meets the discipline, of trees or of links. Specs in the order Stands,
+//! Shapes, Links.
 #![tactic(auto)]
 
 mod asks;

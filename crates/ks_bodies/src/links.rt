@@ -1,4 +1,4 @@
-//! The same of bodies with links: what the calls of their shapes ask of them, and how what the calls make of them keeps
+//! Bodies with links: what the calls of their shapes ask of them, and how what the calls make of them keeps
 //! the discipline of links.
 
 ghost use Rattle.std.specs.Prelude.{ℕ, ◌≡◌, ◌<◌, Option, Some, All, IsTrue};
