@@ -32,7 +32,7 @@ use Rattle.ks_bodies.proofs.AbsorbUnder as under
 
 -- a node that splits
 
-no_pairs : (ps : List Pair) (P : Pair → Type 0) → length ps ≡ 0 → All P ps
+pub no_pairs : (ps : List Pair) (P : Pair → Type 0) → length ps ≡ 0 → All P ps
 no_pairs [] P e k d lt = absurd (omega arith)
 no_pairs (x ∷ ps) P e k d lt = absurd (omega arith)
 

@@ -111,7 +111,7 @@ led_past cut (s ∷ ss) p q le le' = elim (low_or_high s.low cut) [
 ]
 
 -- ascending starts are their parts in order
-parts_above : (cut : ℕ) (ss : List Start) (l : ℕ) → AllAbove l ss → cut ≤ l → (starts_below cut ss ≡ []) × (starts_from cut ss ≡ ss)
+pub parts_above : (cut : ℕ) (ss : List Start) (l : ℕ) → AllAbove l ss → cut ≤ l → (starts_below cut ss ≡ []) × (starts_from cut ss ≡ ss)
 parts_above cut [] l above le = (refl, refl)
 parts_above cut (s ∷ ss) l above le =
     let a : nat_lt s.low cut ≡ false = le-ltb _ _ (omega (arith, above.0)) in
@@ -282,7 +282,7 @@ led_count (s ∷ ss) p m e = elim (or_some (led ss p) (cond (nat_le s.low p) (So
 
 -- a new start at the cut keeps starts in order only where none was there
 
-clash : (xs : List Start) (cut id x : ℕ) (rest : List Start) → Ascend (xs ++ record { low = cut; node = id } ∷ record { low = cut; node = x } ∷ rest) → ⊥
+pub clash : (xs : List Start) (cut id x : ℕ) (rest : List Start) → Ascend (xs ++ record { low = cut; node = id } ∷ record { low = cut; node = x } ∷ rest) → ⊥
 clash [] cut id x rest up = omega (arith, up.0.0)
 clash (y ∷ ys) cut id x rest up = clash ys cut id x rest up.1
 
@@ -305,6 +305,13 @@ clash_runs m (y ∷ ys) cut id x rest none ne ne' up = go (y.node == m) up (clas
     go true up one two = one up
     go false up one two = two up.1
 
+pub clash_all : (xs : List Start) (cut id x : ℕ) (rest : List Start) → count xs id ≡ 0 → (x ≡ id → ⊥) → Ascend (runs (xs ++ record { low = cut; node = id } ∷ record { low = cut; node = x } ∷ rest)) → ⊥
+clash_all [] cut id x rest none ne up =
+    let b : (x == id) ≡ false = ne_eqb x id ne in
+    let up' : Ascend (record { low = cut; node = id } ∷ record { low = cut; node = x } ∷ runs_after x rest) = rw b at up in
+    omega (arith, up'.0.0)
+clash_all (y ∷ ys) cut id x rest none ne up = clash_runs y.node ys cut id x rest (omega (arith, none)) ne (not_here y ys id none) up.1
+
 free_or_not : (b : Bool) → (b ≡ true → ⊥) → b ≡ false
 free_or_not true h = absurd (h refl)
 free_or_not false h = refl
@@ -314,13 +321,6 @@ free_of NoBranch cut id ss up none branch after = absurd (cc)
 free_of Inner cut id ss up none branch after = free_or_not (begins cut ss) (λ t. let y = begins_from cut ss up t in clash (starts_below cut ss) cut id y.0 y.1 (subst (λ (zs : List Start). Ascend (starts_below cut ss ++ record { low = cut; node = id } ∷ zs)) y.2 after))
 free_of Directory cut id ss up none branch after = free_or_not (begins cut ss) (λ t.
     let y = begins_from cut ss up t in
-    whole (starts_below cut ss) y.0 y.1 (omega (arith, count_parts cut ss id))
+    clash_all (starts_below cut ss) cut id y.0 y.1 (omega (arith, count_parts cut ss id))
     (λ e. let one : (y.0 == id) ≡ true = eq-eqb y.0 id e in let c : count (record { low = cut; node = y.0 } ∷ y.1) id ≡ 1 + count y.1 id = rw one refl in omega (arith, none, count_parts cut ss id, ap (λ (zs : List Start). count zs id) y.2, c))
     (subst (λ (zs : List Start). Ascend (runs (starts_below cut ss ++ record { low = cut; node = id } ∷ zs))) y.2 after))
-  where
-    whole : (xs : List Start) (x : ℕ) (rest : List Start) → count xs id ≡ 0 → (x ≡ id → ⊥) → Ascend (runs (xs ++ record { low = cut; node = id } ∷ record { low = cut; node = x } ∷ rest)) → ⊥
-    whole [] x rest none ne up =
-        let b : (x == id) ≡ false = ne_eqb x id ne in
-        let up' : Ascend (record { low = cut; node = id } ∷ record { low = cut; node = x } ∷ runs_after x rest) = rw b at up in
-        omega (arith, up'.0.0)
-    whole (y ∷ ys) x rest none ne up = clash_runs y.node ys cut id x rest (omega (arith, none)) ne (not_here y ys id none) up.1

@@ -13,3 +13,10 @@ pub mod Once
 pub mod Used
 pub mod Asked
 pub mod Rooted
+pub mod LinkRecords
+pub mod LinkEdges
+pub mod LinkStanding
+pub mod SplitRight
+pub mod LinkAsked
+pub mod Attach
+pub mod GrowRight

@@ -21,12 +21,12 @@ abbrev pub Leads : List Edge → ℕ → ℕ → Type 0
 Leads [] p m = ⊥
 Leads (e ∷ es) p m = (Carries e p × (e.node ≡ m)) ⊎ Leads es p m
 
-any_leads : (es : List Edge) (p m : ℕ) → Any (λ e. Carries e p × (e.node ≡ m)) es → Leads es p m
+pub any_leads : (es : List Edge) (p m : ℕ) → Any (λ e. Carries e p × (e.node ≡ m)) es → Leads es p m
 any_leads [] p m (k, x, lt, is, h) = absurd (omega arith)
 any_leads (e ∷ es) p m (zero, x, lt, is, h) = inl (subst (λ (z : Edge). Carries z p × (z.node ≡ m)) (sym is) h)
 any_leads (e ∷ es) p m (suc k, x, lt, is, h) = inr (any_leads es p m (k, x, omega arith, is, h))
 
-leads_any : (es : List Edge) (p m : ℕ) → Leads es p m → Any (λ e. Carries e p × (e.node ≡ m)) es
+pub leads_any : (es : List Edge) (p m : ℕ) → Leads es p m → Any (λ e. Carries e p × (e.node ≡ m)) es
 leads_any [] p m h = absurd h
 leads_any (e ∷ es) p m (inl h) = (0, e, omega arith, refl, h)
 leads_any (e ∷ es) p m (inr h) = let y = leads_any es p m h in (suc y.0, y.1, omega (arith, y.2), y.3, y.4)
@@ -53,7 +53,7 @@ add_there low last n es p m h = go (nat_le low last)
 
 -- the edges of starts lead where the starts do, from the first place to the last
 
-edges_led : (first last : ℕ) (ss : List Start) (p m : ℕ) → Ascend ss → Leads (edges_from first last ss) p m → (led ss p ≡ Some m) × (first ≤ p) × (p ≤ last)
+pub edges_led : (first last : ℕ) (ss : List Start) (p m : ℕ) → Ascend ss → Leads (edges_from first last ss) p m → (led ss p ≡ Some m) × (first ≤ p) × (p ≤ last)
 edges_led first last [] p m up h = absurd h
 edges_led first last (s ∷ []) p m up h = elim (added (max first s.low) last s.node [] p m h) [
   | inl y ↦ (let a : nat_le s.low p ≡ true = le-leb _ _ (omega (arith, y.0)) in (rw a (ap (λ (n : ℕ). Some n) y.2), omega (arith, y.0), y.1))
@@ -68,7 +68,7 @@ edges_led first last (s ∷ t ∷ ts) p m up h = elim (added (max first s.low) (
   | inr y ↦ (let z = edges_led first last (t ∷ ts) p m up.1 y in (rw z.0 refl, z.1, z.2))
 ]
 
-led_edges : (first last : ℕ) (ss : List Start) (p m : ℕ) → Ascend ss → led ss p ≡ Some m → first ≤ p → p ≤ last → Leads (edges_from first last ss) p m
+pub led_edges : (first last : ℕ) (ss : List Start) (p m : ℕ) → Ascend ss → led ss p ≡ Some m → first ≤ p → p ≤ last → Leads (edges_from first last ss) p m
 led_edges first last [] p m up e le le' = cc
 led_edges first last (s ∷ []) p m up e le le' =
     let h = cond_some (nat_le s.low p) s.node m e in
@@ -87,10 +87,10 @@ led_edges first last (s ∷ t ∷ ts) p m up e le le' = elim (or_some (led (t �
 
 -- the edges of ascending starts are disjoint
 
-abbrev Apart : Edge → Edge → Type 0
+abbrev pub Apart : Edge → Edge → Type 0
 Apart e f = (p : ℕ) → Carries e p → Carries f p → ⊥
 
-all_add : (P : Edge → Type 0) (low last n : ℕ) (es : List Edge) → P (record { span = record { low = low; last = last }; node = n }) → All P es → All P (add_edge low last n es)
+pub all_add : (P : Edge → Type 0) (low last n : ℕ) (es : List Edge) → P (record { span = record { low = low; last = last }; node = n }) → All P es → All P (add_edge low last n es)
 all_add P low last n es h all = go (nat_le low last)
   where
     go : (b : Bool) → All P (cond b (record { span = record { low = low; last = last }; node = n } ∷ es) es)
@@ -109,7 +109,7 @@ pairs_add low last n es h all = go (nat_le low last)
     go true = AllPairs-cons Apart (record { span = record { low = low; last = last }; node = n }) es h all
     go false = all
 
-edges_apart : (first last : ℕ) (ss : List Start) → Ascend ss → AllPairs Apart (edges_from first last ss)
+pub edges_apart : (first last : ℕ) (ss : List Start) → Ascend ss → AllPairs Apart (edges_from first last ss)
 edges_apart first last [] up = λ i j d lt lt'. absurd (omega arith)
 edges_apart first last (s ∷ []) up = pairs_add (max first s.low) last s.node [] (All-nil (λ e. Apart (record { span = record { low = max first s.low; last = last }; node = s.node }) e)) (λ i j d lt lt'. absurd (omega arith))
 edges_apart first last (s ∷ t ∷ ts) up = pairs_add (max first s.low) (min last (t.low - 1)) s.node (edges_from first last (t ∷ ts))

@@ -22,7 +22,7 @@ use Rattle.ks_bodies.proofs.Records.{InRange, body_ascend, body_led, led_body, b
 use Rattle.ks_bodies.proofs.Parts.{value_below, value_from, led_right, count_right, left_first, left_last, right_first, right_last, ends_range, begins_range}
 use Rattle.ks_bodies.proofs.Standing.{Made, in_range, one_start, pairs_stand, pairs_lower, pairs_upper, none_fresh}
 
-none_at : {X : Type 0} (o : Option X) → is_some o ≡ false → o ≡ None
+pub none_at : {X : Type 0} (o : Option X) → is_some o ≡ false → o ≡ None
 none_at None e = refl
 none_at (Some x) e = cc
 

@@ -31,7 +31,7 @@ pub plain : (b : Body) → InOrder (content_of b) → ForSome b.range (λ r. Fra
 plain b sound framed no_link = record { sound = sound; framed = framed; no_link = no_link }
 
 module _ {N : Type 0} (sort : Sort) (shows : N → Body) where
-  live_if : (live : _) (s : NodeState) (f : Frame) (b : N) → live ≡ true → MatchesIf sort shows live s f b → (s ≡ Live (record_of (shows b))) × (f ≡ frame_of (shows b))
+  pub live_if : (live : _) (s : NodeState) (f : Frame) (b : N) → live ≡ true → MatchesIf sort shows live s f b → (s ≡ Live (record_of (shows b))) × (f ≡ frame_of (shows b))
   live_if true s f b e so = so
   live_if false s f b e so = absurd (let q : ⊥ = cc in q)
 

@@ -1,6 +1,8 @@
 //! The shapes of maintenance: each is some calls of nodes in hand, and then one Shape.
 #![tactic(auto)]
 
+mod link;
 mod tree;
 
+pub use link::{attach, grow_right, split_right};
 pub use tree::{absorb_own, absorb_under, collapse, grow, split_own, split_under};

@@ -1,0 +1,41 @@
+//! Bodies with links: what the calls of their shapes ask of them, and how what the calls make of them keeps
+//! the discipline of links.
+
+ghost use Rattle.std.specs.Prelude.{ℕ, ◌≡◌, ◌<◌, Option, Some, All, IsTrue};
+ghost use Rattle.ks_keysets.specs.declared.Frame.{Frame};
+ghost use Rattle.ks_keysets.specs.declared.Kind.{Kind};
+ghost use Rattle.ks_keysets.specs.declared.NodeState.{NodeState};
+ghost use Rattle.ks_keysets.specs.declared.Span.{Span};
+ghost use Rattle.ks_keysets.specs.Record.{top};
+ghost use Rattle.ks_keysets.specs.Keyset.{Good};
+ghost use Rattle.ks_node.specs.Body.{Body, is_branch, last_of};
+ghost use Rattle.ks_node.specs.Effect.{split_right, adopted, with_link};
+ghost use Rattle.ks_node.specs.Asks.{Suits};
+ghost use Rattle.ks_flow.specs.Link.{Link};
+ghost use Rattle.ks_flow.specs.Discipline.{LinkStep};
+ghost use Rattle.ks_bodies.specs.Links.{IsLinked, StandsLinked, CanSplitRight, CanGrowRight, CanAttach, split_linked, grown_higher, split_to_right, grow_right, attach};
+
+use ks_flow::laws::{changes_law, link_law, link_shapes_law};
+
+/// The range of a node suits its body, so that a full one may be cut there; that of the root ends at the last place, as
+/// `grow_link` asks; and a branch has no pairs, as `adopt` asks.
+pub fn link_asks_law()
+    ensures suits { (g : ℕ → NodeState) (f : ℕ → Frame) (n : ℕ) (b : Body) → Good g → Link g f → StandsLinked g f n b → (range : Span) × (b.range ≡ Some range) × Suits b range }
+    ensures ends { (g : ℕ → NodeState) (f : ℕ → Frame) (b : Body) → Link g f → StandsLinked g f 0 b → last_of b.range ≡ top }
+    ensures adopt { (b : Body) (cut : ℕ) → IsLinked b → IsTrue (is_branch b) → All (λ x. x.place < cut) b.pairs }
+{
+    link_law();
+}
+
+/// The changes of bodies that each shape under links makes are a step of the discipline of links.
+pub fn link_steps_law()
+    ensures split_right { (g : ℕ → NodeState) (f : ℕ → Frame) (node right cut : ℕ) (b : Body) → Good g → Link g f →
+        CanSplitRight g f node right cut b → IsLinked (split_linked cut right b) → IsLinked (split_right cut b) → LinkStep g f (split_to_right node right cut b) }
+    ensures grow_right { (g : ℕ → NodeState) (f : ℕ → Frame) (kind : Kind) (left right cut : ℕ) (b : Body) → Good g → Link g f →
+        CanGrowRight g f left right cut b → IsLinked (grown_higher kind cut left right b) → IsLinked (split_linked cut right b) → IsLinked (with_link None (split_right cut b)) → LinkStep g f (grow_right kind 0 left right cut b) }
+    ensures attach { (g : ℕ → NodeState) (f : ℕ → Frame) (node id cut : ℕ) (b : Body) → Good g → Link g f →
+        CanAttach g f node id cut b → IsLinked (adopted cut id b) → LinkStep g f (attach node id cut b) }
+{
+    changes_law();
+    link_shapes_law();
+}

@@ -1,0 +1,135 @@
+//! Shapes under links. Each asks that the pass holds its nodes with the bodies of the graph, and tells what they became.
+ghost use Rattle.std.specs.Prelude.{◌≡◌, ◌≢◌, ◌<◌, IsTrue, None, ◌∷◌};
+ghost use Rattle.ks_flow.specs.Discipline.{BeginsLink, LinkStep};
+ghost use Rattle.ks_history.specs.declared.Event.TheVariants.{Shape};
+ghost use Rattle.ks_history.specs.Passes.{GrowsWith};
+ghost use Rattle.ks_history.specs.Trace.{graph_after, frame_after};
+ghost use Rattle.ks_node.specs.Body.{content_of, is_branch};
+ghost use Rattle.ks_node.specs.Room.{is_full};
+ghost use Rattle.ks_node.specs.Effect.{split_right as right_part, adopted, with_link};
+ghost use Rattle.ks_node.specs.Asks.{CanSplitAt, IsCut};
+ghost use Rattle.ks_bodies.specs.Links as shapes;
+ghost use Rattle.ks_arena.specs.Sound.{sort_of, blank_of};
+ghost use Rattle.ks_arena.specs.Clauses.{IsPass, hand_of, mine_of, seen_of, KeptBesides, StillMatchBesides};
+ghost use Rattle.ks_shape.specs.InHand.{IsLive, IsFree, BecomesLive};
+
+use ks_arena::laws::sound_law;
+use ks_arena::{Arena, Held, Pass};
+use ks_bodies::{link_asks_law, link_steps_law};
+use ks_flow::Link;
+use ks_node::{Linked, linked_law, node_law};
+
+/// The node, which is not the root, keeps what it has below the cut and links to `right`, which gets the rest and the
+/// node's old link.
+pub fn split_right<N: Linked>(
+    arena: &Arena<N, Link>,
+    pass: &mut Pass<N, Link>,
+    node: &mut Held<N>,
+    right: &mut Held<N>,
+    cut: u64,
+)
+    requires pass { IsPass (sort_of N.layout N.ranged) BeginsLink LinkStep arena.now.table.shared.table_id arena.now.callers pass.old }
+    requires node { IsLive (sort_of N.layout N.ranged) N.body (hand_of pass.old) (seen_of pass.old) node.old }
+    requires right { IsFree (sort_of N.layout N.ranged) N.body (hand_of pass.old) (seen_of pass.old) right.old }
+    requires no_root { node.old.node ≢ 0 }
+    requires full { IsTrue (is_full N.layout (N.body node.old.body)) }
+    requires cut { CanSplitAt (N.body node.old.body) cut }
+    ensures pass { IsPass (sort_of N.layout N.ranged) BeginsLink LinkStep arena.now.table.shared.table_id arena.now.callers pass.new }
+    ensures caller { pass.new.caller ≡ pass.old.caller }
+    ensures shaped { GrowsWith pass.old.caller (Shape pass.old.caller (shapes.split_to_right node.old.node right.old.node cut (N.body node.old.body))) (seen_of pass.old) (seen_of pass.new) }
+    ensures hand { hand_of pass.new ≡ hand_of pass.old }
+    ensures mine { mine_of pass.new ≡ Shape pass.old.caller (shapes.split_to_right node.old.node right.old.node cut (N.body node.old.body)) ∷ mine_of pass.old }
+    ensures node { BecomesLive (sort_of N.layout N.ranged) N.body (shapes.split_linked cut right.old.node (N.body node.old.body)) (seen_of pass.new) node.old node.new }
+    ensures right { BecomesLive (sort_of N.layout N.ranged) N.body (right_part cut (N.body node.old.body)) (seen_of pass.new) right.old right.new }
+    ensures kept { KeptBesides (shapes.split_to_right node.old.node right.old.node cut (N.body node.old.body)) pass.old.caller (seen_of pass.old) (seen_of pass.new) }
+    ensures still { StillMatchBesides (sort_of N.layout N.ranged) N.body (shapes.split_to_right node.old.node right.old.node cut (N.body node.old.body)) (hand_of pass.old) (seen_of pass.old) (seen_of pass.new) }
+{
+    sound_law::<Link>();
+    link_steps_law();
+    linked_law::<N>();
+    node_law(&node.body);
+    node.body.split_link(&mut right.body, right.node, cut);
+    right.live = true;
+    node_law(&node.body);
+    node_law(&right.body);
+    arena.shape(pass, node, Some(right), None);
+}
+
+/// The root becomes a branch over `left` and `right`, one level higher. They get what it has below the cut and the rest,
+/// and `left` links to `right`.
+pub fn grow_right<N: Linked>(
+    arena: &Arena<N, Link>,
+    pass: &mut Pass<N, Link>,
+    node: &mut Held<N>,
+    left: &mut Held<N>,
+    right: &mut Held<N>,
+    cut: u64,
+)
+    requires pass { IsPass (sort_of N.layout N.ranged) BeginsLink LinkStep arena.now.table.shared.table_id arena.now.callers pass.old }
+    requires node { IsLive (sort_of N.layout N.ranged) N.body (hand_of pass.old) (seen_of pass.old) node.old }
+    requires left { IsFree (sort_of N.layout N.ranged) N.body (hand_of pass.old) (seen_of pass.old) left.old }
+    requires right { IsFree (sort_of N.layout N.ranged) N.body (hand_of pass.old) (seen_of pass.old) right.old }
+    requires root { node.old.node ≡ 0 }
+    requires apart { left.old.node ≢ right.old.node }
+    requires full { IsTrue (is_full N.layout (N.body node.old.body)) }
+    requires cut { CanSplitAt (N.body node.old.body) cut }
+    requires grows { IsTrue (N.grows_at (content_of (N.body node.old.body))) × IsTrue (N.can_grow_at (content_of (N.body node.old.body)) cut) }
+    requires level { (N.body node.old.body).level < 4294967295 }
+    ensures pass { IsPass (sort_of N.layout N.ranged) BeginsLink LinkStep arena.now.table.shared.table_id arena.now.callers pass.new }
+    ensures caller { pass.new.caller ≡ pass.old.caller }
+    ensures shaped { GrowsWith pass.old.caller (Shape pass.old.caller (shapes.grow_right N.branch_kind node.old.node left.old.node right.old.node cut (N.body node.old.body))) (seen_of pass.old) (seen_of pass.new) }
+    ensures hand { hand_of pass.new ≡ hand_of pass.old }
+    ensures mine { mine_of pass.new ≡ Shape pass.old.caller (shapes.grow_right N.branch_kind node.old.node left.old.node right.old.node cut (N.body node.old.body)) ∷ mine_of pass.old }
+    ensures node { BecomesLive (sort_of N.layout N.ranged) N.body (shapes.grown_higher N.branch_kind cut left.old.node right.old.node (N.body node.old.body)) (seen_of pass.new) node.old node.new }
+    ensures left { BecomesLive (sort_of N.layout N.ranged) N.body (shapes.split_linked cut right.old.node (N.body node.old.body)) (seen_of pass.new) left.old left.new }
+    ensures right { BecomesLive (sort_of N.layout N.ranged) N.body (with_link None (right_part cut (N.body node.old.body))) (seen_of pass.new) right.old right.new }
+    ensures kept { KeptBesides (shapes.grow_right N.branch_kind node.old.node left.old.node right.old.node cut (N.body node.old.body)) pass.old.caller (seen_of pass.old) (seen_of pass.new) }
+    ensures still { StillMatchBesides (sort_of N.layout N.ranged) N.body (shapes.grow_right N.branch_kind node.old.node left.old.node right.old.node cut (N.body node.old.body)) (hand_of pass.old) (seen_of pass.old) (seen_of pass.new) }
+{
+    sound_law::<Link>();
+    link_asks_law();
+    link_steps_law();
+    linked_law::<N>();
+    node_law(&node.body);
+    node.body.grow_link(&mut left.body, &mut right.body, left.node, right.node, cut);
+    left.live = true;
+    right.live = true;
+    node_law(&node.body);
+    node_law(&left.body);
+    node_law(&right.body);
+    arena.shape(pass, node, Some(left), Some(right));
+}
+
+/// The node, a branch, leads from the cut on to `id` as well. At what the pass has seen, that one is live, one level
+/// below it, and begins at the cut: it was split off there, and is reached by its left neighbour's link till then.
+pub fn attach<N: Linked>(
+    arena: &Arena<N, Link>,
+    pass: &mut Pass<N, Link>,
+    node: &mut Held<N>,
+    cut: u64,
+    id: u32,
+)
+    requires pass { IsPass (sort_of N.layout N.ranged) BeginsLink LinkStep arena.now.table.shared.table_id arena.now.callers pass.old }
+    requires node { IsLive (sort_of N.layout N.ranged) N.body (hand_of pass.old) (seen_of pass.old) node.old }
+    requires branch { IsTrue (is_branch (N.body node.old.body)) }
+    requires cut { IsCut (N.body node.old.body) cut }
+    requires adopts { IsTrue (N.can_adopt_at (content_of (N.body node.old.body)) cut) }
+    requires under { shapes.StandsUnder (graph_after (seen_of pass.old)) (frame_after (blank_of (sort_of N.layout N.ranged)) (seen_of pass.old)) id (N.body node.old.body).level cut }
+    ensures pass { IsPass (sort_of N.layout N.ranged) BeginsLink LinkStep arena.now.table.shared.table_id arena.now.callers pass.new }
+    ensures caller { pass.new.caller ≡ pass.old.caller }
+    ensures shaped { GrowsWith pass.old.caller (Shape pass.old.caller (shapes.attach node.old.node id cut (N.body node.old.body))) (seen_of pass.old) (seen_of pass.new) }
+    ensures hand { hand_of pass.new ≡ hand_of pass.old }
+    ensures mine { mine_of pass.new ≡ Shape pass.old.caller (shapes.attach node.old.node id cut (N.body node.old.body)) ∷ mine_of pass.old }
+    ensures node { BecomesLive (sort_of N.layout N.ranged) N.body (adopted cut id (N.body node.old.body)) (seen_of pass.new) node.old node.new }
+    ensures kept { KeptBesides (shapes.attach node.old.node id cut (N.body node.old.body)) pass.old.caller (seen_of pass.old) (seen_of pass.new) }
+    ensures still { StillMatchBesides (sort_of N.layout N.ranged) N.body (shapes.attach node.old.node id cut (N.body node.old.body)) (hand_of pass.old) (seen_of pass.old) (seen_of pass.new) }
+{
+    sound_law::<Link>();
+    link_asks_law();
+    link_steps_law();
+    linked_law::<N>();
+    node_law(&node.body);
+    node.body.adopt(cut, id);
+    node_law(&node.body);
+    arena.shape(pass, node, None, None);
+}
