@@ -34,7 +34,7 @@ use Rattle.ks_arena.specs.Sound.{Sort, blank_of, Sound, StepsSoundly}
 use Rattle.ks_arena.specs.Rule.{Rests, Running, turn_word, Marks, SomeMarks, FreeBits, callers_in, all_callers}
 use Rattle.ks_history.specs.Stays.{StaysHeld, cond_here, cond_else}
 use Rattle.ks_history.specs.Begins.{none_by, by_others_keeps}
-use Rattle.ks_arena.specs.Plays.{Seated, with_seen, marked, TellsFree, Looks, Makes, drop_slot, InHand, HasSlots, Shows, TookAt, took, ClaimedAt, claimed, gave, brought, opened, closed, readied, decided, formed}
+use Rattle.ks_arena.specs.Plays.{Seated, with_seen, marked, TellsFree, Looks, Makes, drop_slot, InHand, HasSlots, Shows, TookAt, took, ClaimedAt, claimed, gave, brought, bit_was_set, bit_was_cleared, scanned, decided, formed}
 use Rattle.ks_arena.proofs.Words.{word_idle, word_free, word_below, held_below, are_in_turn}
 use Rattle.ks_arena.proofs.Seen.{has_left}
 use Rattle.ks_arena.proofs.Bits.{inside, marks_held, mark_own, turn_bits, free_word_bits}
@@ -292,9 +292,9 @@ module _ {N : Type 0} (sort : Sort) (begins : Frame → Type 0) (asks : (ℕ →
   in_words : (s : State (Option N) View) (r : Rule s) (i : ℕ) → i < length s.homes → length s.homes + 2 + i / 64 < length s.words
   in_words s r i near = let wide = r.wide in omega arith
 
-  pub opens_ok : (n id : ℕ) (me : Seated N) (c i : ℕ) → me.0.callers ≡ c ∷ [] → me.0.mark ≡ Quiet → i < n → turn_after me.0.seen i ≡ held c
-      → Allows Rule n id me (n + 2 + i / 64) (λ y. bit_or y (2 ^ (i % 64))) (λ _ m. opened sort begins asks shows (step n (n + 2 + i / 64) (2 ^ (i % 64)) 0 none) me m)
-  opens_ok n id me c i mine quiet near holds s r long at _ = let q : ℕ = i / 64 in let b : ℕ = i % 64 in let near' : i < length s.homes = subst (λ (z : ℕ). i < z) (sym long) near in let own = own_now s r id me.0 c i at mine holds in
+  pub sets_bit_ok : (n id : ℕ) (me : Seated N) (c i : ℕ) → me.0.callers ≡ c ∷ [] → me.0.mark ≡ Quiet → i < n → turn_after me.0.seen i ≡ held c
+      → Allows Rule n id me (n + 2 + i / 64) (λ y. bit_or y (2 ^ (i % 64))) (λ _ m. bit_was_set sort begins asks shows (step n (n + 2 + i / 64) (2 ^ (i % 64)) 0 none) me m)
+  sets_bit_ok n id me c i mine quiet near holds s r long at _ = let q : ℕ = i / 64 in let b : ℕ = i % 64 in let near' : i < length s.homes = subst (λ (z : ℕ). i < z) (sym long) near in let own = own_now s r id me.0 c i at mine holds in
       let y : ℕ = get_or s.words (n + 2 + q) 0 in let new : ℕ = bit_or y (2 ^ b) in let w : View = with_seen (marked (Freeing i) me.0) r.trace in (
         w,
         keeps,
@@ -307,9 +307,9 @@ module _ {N : Type 0} (sort : Sort) (begins : Frame → Type 0) (asks : (ℕ →
         λ j at' bit. let e : i ≡ j = opened_same i j n at' bit in subst (λ (z : ℕ). Looks (SoundTo n) (marked (Freeing z) me.0) w × (me.1 ≡ me.1)) e (looks_marked n s r id me.0 (Freeing i) long at, refl),
       )
 
-  pub clears_ok : (n id : ℕ) (me : Seated N) (c i : ℕ) → me.0.callers ≡ c ∷ [] → me.0.mark ≡ Claiming i → i < n → turn_after me.0.seen i ≡ held c
-      → Allows Rule n id me (n + 2 + i / 64) (λ y. bit_and y (bit_not w64 (1 * 2 ^ (i % 64) % 2 ^ 64))) (λ _ m. closed sort begins asks shows (step n (n + 2 + i / 64) (bit_not w64 (1 * 2 ^ (i % 64) % 2 ^ 64)) 0 none) me m)
-  clears_ok n id me c i mine claiming near holds s r long at _ = let q : ℕ = i / 64 in let b : ℕ = i % 64 in let near' : i < length s.homes = subst (λ (z : ℕ). i < z) (sym long) near in let own = own_now s r id me.0 c i at mine holds in
+  pub clears_bit_ok : (n id : ℕ) (me : Seated N) (c i : ℕ) → me.0.callers ≡ c ∷ [] → me.0.mark ≡ Claiming i → i < n → turn_after me.0.seen i ≡ held c
+      → Allows Rule n id me (n + 2 + i / 64) (λ y. bit_and y (bit_not w64 (1 * 2 ^ (i % 64) % 2 ^ 64))) (λ _ m. bit_was_cleared sort begins asks shows (step n (n + 2 + i / 64) (bit_not w64 (1 * 2 ^ (i % 64) % 2 ^ 64)) 0 none) me m)
+  clears_bit_ok n id me c i mine claiming near holds s r long at _ = let q : ℕ = i / 64 in let b : ℕ = i % 64 in let near' : i < length s.homes = subst (λ (z : ℕ). i < z) (sym long) near in let own = own_now s r id me.0 c i at mine holds in
       let mask : ℕ = bit_not w64 (1 * 2 ^ b % 2 ^ 64) in let w : View = with_seen (marked Quiet me.0) r.trace in let low : b < 64 = omega arith in (
         w,
         keeps,
@@ -323,8 +323,8 @@ module _ {N : Type 0} (sort : Sort) (begins : Frame → Type 0) (asks : (ℕ →
       )
 
   -- a free word is read
-  pub reads_ok : (n id : ℕ) (me : Seated N) (w : ℕ) → Allows Rule n id me (n + 2 + w) (λ y. y) (readied sort begins asks shows (step n (n + 2 + w) 0 0 none) me)
-  reads_ok n id me w s r long at _ = let y : ℕ = get_or s.words (n + 2 + w) 0 in (
+  pub scans_ok : (n id : ℕ) (me : Seated N) (w : ℕ) → Allows Rule n id me (n + 2 + w) (λ y. y) (scanned sort begins asks shows (step n (n + 2 + w) 0 0 none) me)
+  scans_ok n id me w s r long at _ = let y : ℕ = get_or s.words (n + 2 + w) 0 in (
     with_seen me.0 r.trace,
     keeps,
     tt,

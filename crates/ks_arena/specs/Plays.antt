@@ -104,16 +104,16 @@ module _ {N : Type 0} (sort : Sort) (begins : Frame → Type 0) (asks : (ℕ →
   abbrev pub brought : Step (Option N) → Seated N → ℕ → Seated N → Type 0
   brought st m r m' = (i : ℕ) → st.word ≡ i + 2 → Looks (Sound sort begins asks st.slots) m.0 m'.0 × (m'.1 ≡ (i, None) ∷ drop_slot i m.1)
 
-  -- the bit of node i was set or cleared
-  abbrev pub opened : Step (Option N) → Seated N → Seated N → Type 0
-  opened st m m' = (i : ℕ) → st.word ≡ st.slots + 2 + i / 64 → st.first ≡ 2 ^ (i % 64) → Looks (Sound sort begins asks st.slots) (marked (Freeing i) m.0) m'.0 × (m'.1 ≡ m.1)
+  -- the bit of node i was set; the bit of the marked node was cleared
+  abbrev pub bit_was_set : Step (Option N) → Seated N → Seated N → Type 0
+  bit_was_set st m m' = (i : ℕ) → st.word ≡ st.slots + 2 + i / 64 → st.first ≡ 2 ^ (i % 64) → Looks (Sound sort begins asks st.slots) (marked (Freeing i) m.0) m'.0 × (m'.1 ≡ m.1)
 
-  abbrev pub closed : Step (Option N) → Seated N → Seated N → Type 0
-  closed st m m' = Looks (Sound sort begins asks st.slots) (marked Quiet m.0) m'.0 × (m'.1 ≡ m.1)
+  abbrev pub bit_was_cleared : Step (Option N) → Seated N → Seated N → Type 0
+  bit_was_cleared st m m' = Looks (Sound sort begins asks st.slots) (marked Quiet m.0) m'.0 × (m'.1 ≡ m.1)
 
   -- caller c read free word w
-  abbrev pub readied : Step (Option N) → Seated N → ℕ → Seated N → Type 0
-  readied st m r m' = (c w : ℕ) → m.0.callers ≡ c ∷ [] → m.0.mark ≡ Quiet → st.word ≡ st.slots + 2 + w → Looks (Sound sort begins asks st.slots) m.0 m'.0 × (m'.1 ≡ m.1) × TellsFree st.slots w c m'.0.seen r
+  abbrev pub scanned : Step (Option N) → Seated N → ℕ → Seated N → Type 0
+  scanned st m r m' = (c w : ℕ) → m.0.callers ≡ c ∷ [] → m.0.mark ≡ Quiet → st.word ≡ st.slots + 2 + w → Looks (Sound sort begins asks st.slots) m.0 m'.0 × (m'.1 ≡ m.1) × TellsFree st.slots w c m'.0.seen r
 
   abbrev pub decided : Step (Option N) → Event → Seated N → ℕ → Seated N → Type 0
   decided st e m r m' = (x : Makes (Sound sort begins asks st.slots) e m.0 m'.0) × (m'.1 ≡ m.1) × (r ≡ number_after (x.rest ++ m.0.seen))

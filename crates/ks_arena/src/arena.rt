@@ -9,7 +9,7 @@ ghost use Rattle.ks_arena.specs.Sound.{sort_of};
 ghost use Rattle.ks_arena.specs.Clauses.{IsPass, IsPassWith, give_mark, HasLooked, seen_of, Kept, KeptBut, KeptBesides, StillMatch, StillMatchBut, StillMatchBesides, hand_of, mine_of, Matches, TryTook, IsReady, Numbered, AllAmong, EachOnce, MayShape, AreShaped, changes_of};
 
 use crate::held::{Held, Pass, Taken};
-use crate::plays::{Brings, Decides, Forms, Gives, Opens, Said, Takes};
+use crate::plays::{Brings, Decides, Forms, Gives, Said, SetsBit, Takes};
 use crate::rule::Rule;
 use crate::view::View;
 use atomic_table::Table;
@@ -88,13 +88,13 @@ impl<N: Node, D: Discipline> Arena<N, D> {
         if held.live {
             self.put_back(pass, held);
         } else {
-            self.open(pass, held.node);
+            self.set_bit(pass, held.node);
             self.put_back(pass, held);
         }
     }
 
     /// Sets the bit of a node that is about to be given free.
-    fn open(&self, pass: &mut Pass<N, D>, node: u32)
+    fn set_bit(&self, pass: &mut Pass<N, D>, node: u32)
         requires pass { IsPass (sort_of N.layout N.ranged) D.begins D.step self.now.table.shared.table_id self.now.callers pass.old }
         requires holds { Has (hand_of pass.old) node }
         ensures pass { IsPassWith (sort_of N.layout N.ranged) D.begins D.step (Freeing node) self.now.table.shared.table_id self.now.callers pass.new }
@@ -106,7 +106,7 @@ impl<N: Node, D: Discipline> Arena<N, D> {
         let word = self.nodes as usize + 2 + node as usize / 64;
         self.table
             .shared
-            .fetch_or::<Opens<D>>(&mut pass.seat, word, 1u64 << (node % 64));
+            .fetch_or::<SetsBit<D>>(&mut pass.seat, word, 1u64 << (node % 64));
     }
 
     /// Puts the body back into its slot and gives the turn away. The bit of a node that is not live is set.

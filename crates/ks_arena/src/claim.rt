@@ -11,7 +11,7 @@ ghost use Rattle.ks_arena.specs.Clauses.{IsPass, IsPassWith, seen_of, hand_of, H
 use crate::arena::Arena;
 use crate::held::{Held, Pass, Taken};
 use crate::laws::sound_law;
-use crate::plays::{Claims, Closes, Reads};
+use crate::plays::{Claims, ClearsBit, Scans};
 use crate::steps::Steps;
 use crossbeam_utils::Backoff;
 use ks_flow::Discipline;
@@ -111,7 +111,7 @@ impl<N: Node, D: Discipline> Arena<N, D> {
         ensures kept { Kept pass.old.caller (seen_of pass.old) (seen_of pass.new) }
         ensures cost { ActsAlone pass.old.caller (seen_of pass.old) (seen_of pass.new) → HoldsAlone pass.old.caller (seen_of pass.old) → steps.new ≡ steps.old + word_steps result }
     {
-        let mut left = self.read_free(pass, index, steps);
+        let mut left = self.scan(pass, index, steps);
         while left != 0 {
             let bit = left.trailing_zeros();
             if let Some(held) = self.try_claim(pass, 64 * index + bit, steps) {
@@ -123,7 +123,7 @@ impl<N: Node, D: Discipline> Arena<N, D> {
     }
 
     /// Reads a free word: a bit for each node that may be free.
-    fn read_free<L: Ledger>(&self, pass: &mut Pass<N, D>, index: u32, steps: &mut Steps<L>) -> u64
+    fn scan<L: Ledger>(&self, pass: &mut Pass<N, D>, index: u32, steps: &mut Steps<L>) -> u64
         requires pass { IsPass (sort_of N.layout N.ranged) D.begins D.step self.now.table.shared.table_id self.now.callers pass.old }
         requires index { index < free_words self.now.nodes }
         ensures pass { IsPass (sort_of N.layout N.ranged) D.begins D.step self.now.table.shared.table_id self.now.callers pass.new }
@@ -135,7 +135,7 @@ impl<N: Node, D: Discipline> Arena<N, D> {
     {
         steps.tick();
         let word = self.nodes as usize + 2 + index as usize;
-        self.table.shared.load::<Reads<D>>(&mut pass.seat, word)
+        self.table.shared.load::<Scans<D>>(&mut pass.seat, word)
     }
 
     /// Claims the node if it is free, and clears its bit.
@@ -154,7 +154,7 @@ impl<N: Node, D: Discipline> Arena<N, D> {
         ensures cost { steps.new ≡ steps.old + try_steps result }
     {
         let held = self.catch(pass, node, steps)?;
-        self.clear(pass, node, steps);
+        self.clear_bit(pass, node, steps);
         Some(held)
     }
 
@@ -195,7 +195,7 @@ impl<N: Node, D: Discipline> Arena<N, D> {
     }
 
     /// Clears the bit of a node just claimed.
-    fn clear<L: Ledger>(&self, pass: &mut Pass<N, D>, node: u32, steps: &mut Steps<L>)
+    fn clear_bit<L: Ledger>(&self, pass: &mut Pass<N, D>, node: u32, steps: &mut Steps<L>)
         requires pass { IsPassWith (sort_of N.layout N.ranged) D.begins D.step (Claiming node) self.now.table.shared.table_id self.now.callers pass.old }
         requires holds { Has (hand_of pass.old) node }
         ensures pass { IsPass (sort_of N.layout N.ranged) D.begins D.step self.now.table.shared.table_id self.now.callers pass.new }
@@ -209,6 +209,6 @@ impl<N: Node, D: Discipline> Arena<N, D> {
         let word = self.nodes as usize + 2 + node as usize / 64;
         self.table
             .shared
-            .fetch_and::<Closes<D>>(&mut pass.seat, word, !(1u64 << (node % 64)));
+            .fetch_and::<ClearsBit<D>>(&mut pass.seat, word, !(1u64 << (node % 64)));
     }
 }

@@ -15,7 +15,6 @@ pub mod laws;
 mod life;
 mod note;
 mod plays;
-
 mod remains;
 mod rule;
 mod run;
@@ -24,9 +23,9 @@ mod steps;
 mod view;
 
 pub use arena::Arena;
+pub use calls::root_law;
 pub use fit::fits_threads;
 pub use held::{Held, Note, Pass, Taken};
-pub use calls::root_law;
 pub use remains::Remains;
 pub use rule::Rule;
 pub use run::{Run, RunTrace};

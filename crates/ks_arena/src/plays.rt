@@ -4,7 +4,7 @@ ghost use Rattle.ks_history.specs.declared.Event.TheVariants.{Take};
 ghost use Rattle.ks_history.specs.declared.Event.{Event as Happening};
 ghost use Rattle.ks_arena.specs.Rule.{maker_view, next_view, both_views, spent_view, note_view};
 ghost use Rattle.ks_arena.specs.Sound.{sort_of};
-ghost use Rattle.ks_arena.specs.Plays.{took, claimed, gave, brought, opened, closed, readied, decided, gathered, formed};
+ghost use Rattle.ks_arena.specs.Plays.{took, claimed, gave, brought, bit_was_set, bit_was_cleared, scanned, decided, gathered, formed};
 
 use crate::view::View;
 use atomic_table::{Join, Play, Split};
@@ -37,30 +37,30 @@ impl<N: Node, D: Discipline> Play<Option<N>, View> for Gives<D> {
 }
 
 /// The bit of a node is set.
-pub(crate) struct Opens<D> {
+pub(crate) struct SetsBit<D> {
     marker: PhantomData<D>,
 }
 
-impl<N: Node, D: Discipline> Play<Option<N>, View> for Opens<D> {
-    ghost then = { λ st m r n. opened (sort_of N.layout N.ranged) D.begins D.step N.body st m n };
+impl<N: Node, D: Discipline> Play<Option<N>, View> for SetsBit<D> {
+    ghost then = { λ st m r n. bit_was_set (sort_of N.layout N.ranged) D.begins D.step N.body st m n };
 }
 
 /// The bit of a node is cleared.
-pub(crate) struct Closes<D> {
+pub(crate) struct ClearsBit<D> {
     marker: PhantomData<D>,
 }
 
-impl<N: Node, D: Discipline> Play<Option<N>, View> for Closes<D> {
-    ghost then = { λ st m r n. closed (sort_of N.layout N.ranged) D.begins D.step N.body st m n };
+impl<N: Node, D: Discipline> Play<Option<N>, View> for ClearsBit<D> {
+    ghost then = { λ st m r n. bit_was_cleared (sort_of N.layout N.ranged) D.begins D.step N.body st m n };
 }
 
 /// A free word is read.
-pub(crate) struct Reads<D> {
+pub(crate) struct Scans<D> {
     marker: PhantomData<D>,
 }
 
-impl<N: Node, D: Discipline> Play<Option<N>, View> for Reads<D> {
-    ghost then = { readied (sort_of N.layout N.ranged) D.begins D.step N.body };
+impl<N: Node, D: Discipline> Play<Option<N>, View> for Scans<D> {
+    ghost then = { scanned (sort_of N.layout N.ranged) D.begins D.step N.body };
 }
 
 pub(crate) struct Brings<D> {

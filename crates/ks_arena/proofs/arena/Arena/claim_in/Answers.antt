@@ -16,7 +16,7 @@ lowest : (left : ℕ) → left ≢ 0 → left < 2 ^ 64 → (trailing_zeros w64 l
 lowest left some fits = bit_at-trailing_zeros w64 left (omega arith) fits
 
 pub loop-left-init : goal.loop-left-init
-loop-left-init g c = let e = c.read_free-left.ensures in let me : ℕ = c.args.pass.now.caller in (e.pass, e.caller, told_word c.args.self.now.nodes c.args.index me c.read_free-left.result (seen_of c.args.pass.now) (seen_of c.read_free-left.new.pass) e.looked e.kept e.told, λ alone holds. e.cost)
+loop-left-init g c = let e = c.scan-left.ensures in let me : ℕ = c.args.pass.now.caller in (e.pass, e.caller, told_word c.args.self.now.nodes c.args.index me c.scan-left.result (seen_of c.args.pass.now) (seen_of c.scan-left.new.pass) e.looked e.kept e.told, λ alone holds. e.cost)
 
 pub try_claim-requires-clause-node : goal.try_claim-requires-clause-node
 try_claim-requires-clause-node g c κs within = let low = lowest c.loop-left.left (search rules) (search rules) in c.loop-left.invariant.2.near (trailing_zeros w64 c.loop-left.left) low.0 low.1

@@ -13,9 +13,9 @@ returns-then-held-clause-still g c = λ x ne has m. still (sort_of g.N.Node.layo
 
 pub returns-else-held-clause-gave : goal.returns-else-held-clause-gave
 returns-else-held-clause-gave g c = let me : ℕ = c.args.pass.now.caller in let i : ℕ = c.args.held.node in
-    let gave = subst (λ (z : ℕ). GrowsWith z (Give z i) (seen_of c.open.new.pass) (seen_of c.put_back-else-held.new.pass)) c.open.ensures.caller c.put_back-else-held.ensures.gave in
-    by_others_with me (Give me i) (seen_of c.args.pass.now) (seen_of c.open.new.pass) (seen_of c.put_back-else-held.new.pass) c.open.ensures.looked.grows gave
+    let gave = subst (λ (z : ℕ). GrowsWith z (Give z i) (seen_of c.set_bit.new.pass) (seen_of c.put_back-else-held.new.pass)) c.set_bit.ensures.caller c.put_back-else-held.ensures.gave in
+    by_others_with me (Give me i) (seen_of c.args.pass.now) (seen_of c.set_bit.new.pass) (seen_of c.put_back-else-held.new.pass) c.set_bit.ensures.looked.grows gave
 
 pub returns-else-held-clause-still : goal.returns-else-held-clause-still
-returns-else-held-clause-still g c = λ x ne has m. let same = ap (λ (z : ℕ). hand z (seen_of c.open.new.pass)) c.open.ensures.caller ∙ c.open.ensures.looked.hand in
-    still (sort_of g.N.Node.layout g.N.Node.ranged) g.D.Discipline.begins g.D.Discipline.step g.N.Node.body _ _ c.open.new.pass _ x c.open.ensures.pass (subst (λ (z : List ℕ). Has z x.node) (sym same) has) (λ t. c.put_back-else-held.ensures.kept x.node ne t) (c.open.ensures.still x has m)
+returns-else-held-clause-still g c = λ x ne has m. let same = ap (λ (z : ℕ). hand z (seen_of c.set_bit.new.pass)) c.set_bit.ensures.caller ∙ c.set_bit.ensures.looked.hand in
+    still (sort_of g.N.Node.layout g.N.Node.ranged) g.D.Discipline.begins g.D.Discipline.step g.N.Node.body _ _ c.set_bit.new.pass _ x c.set_bit.ensures.pass (subst (λ (z : List ℕ). Has z x.node) (sym same) has) (λ t. c.put_back-else-held.ensures.kept x.node ne t) (c.set_bit.ensures.still x has m)

@@ -5,13 +5,13 @@ use Rattle.atomic_table.specs.Table.{Allows, step}
 use Rattle.ks_arena.specs.declared.view.Mark.TheVariants.{Quiet, Claiming}
 use Rattle.ks_arena.specs.Sound.{sort_of}
 use Rattle.ks_arena.specs.Rule.{Running}
-use Rattle.ks_arena.specs.Plays.{marked, closed}
-use Rattle.ks_arena.proofs.Moves.{clears_ok}
+use Rattle.ks_arena.specs.Plays.{marked, bit_was_cleared}
+use Rattle.ks_arena.proofs.Moves.{clears_bit_ok}
 use Rattle.ks_arena.proofs.Hold.{hand_near, holds_it}
 use Rattle.ks_arena.proofs.After.{still, pass_marked, Looked, looked}
-use Rattle.ks_arena.proofs.arena.Arena.clear.Given.{Over}
-use Rattle.ks_arena.proofs.arena.Arena.clear.Goals as goal
-use Rattle.ks_arena.proofs.arena.Arena.clear.Goals.{After-fetch_and}
+use Rattle.ks_arena.proofs.arena.Arena.clear_bit.Given.{Over}
+use Rattle.ks_arena.proofs.arena.Arena.clear_bit.Goals as goal
+use Rattle.ks_arena.proofs.arena.Arena.clear_bit.Goals.{After-fetch_and}
 
 pub fetch_and-requires : goal.fetch_and-requires
 fetch_and-requires g c = let p = c.args.pass.now in let r = c.requires.pass in let i : ℕ = c.args.node in let n : ℕ = c.args.self.now.table.shared.table_id.slots in let sort = sort_of g.N.Node.layout g.N.Node.ranged in
@@ -19,8 +19,8 @@ fetch_and-requires g c = let p = c.args.pass.now in let r = c.requires.pass in l
     let word : n + 2 + i / 64 ≡ c.args.self.now.nodes + 2 + i / 64 = omega arith in let mask : ℕ = bit_not w64 (1 * 2 ^ (i % 64) % 2 ^ 64) in (
       r.table,
       omega arith,
-      subst (λ (z : ℕ). Allows (Running sort g.D.Discipline.begins g.D.Discipline.step g.N.Node.body) n p.seat.id p.seat.me z (λ y. bit_and y mask) (λ _ m. closed sort g.D.Discipline.begins g.D.Discipline.step g.N.Node.body (step n z mask 0 none) p.seat.me m)) word
-          (clears_ok sort g.D.Discipline.begins g.D.Discipline.step g.N.Node.body n p.seat.id p.seat.me p.caller i r.own r.mark near mine),
+      subst (λ (z : ℕ). Allows (Running sort g.D.Discipline.begins g.D.Discipline.step g.N.Node.body) n p.seat.id p.seat.me z (λ y. bit_and y mask) (λ _ m. bit_was_cleared sort g.D.Discipline.begins g.D.Discipline.step g.N.Node.body (step n z mask 0 none) p.seat.me m)) word
+          (clears_bit_ok sort g.D.Discipline.begins g.D.Discipline.step g.N.Node.body n p.seat.id p.seat.me p.caller i r.own r.mark near mine),
     )
 
 after : (g : Over) (c : After-fetch_and g) → Looked (sort_of g.N.Node.layout g.N.Node.ranged) g.D.Discipline.begins g.D.Discipline.step c.args.self.now.table.shared.table_id.slots c.args.pass.now.caller (marked Quiet c.args.pass.now.seat.me.0, c.args.pass.now.seat.me.1) c.fetch_and.new.seat.me

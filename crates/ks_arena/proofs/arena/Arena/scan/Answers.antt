@@ -3,19 +3,19 @@ use mathlib.Core.Option.{none}
 use Rattle.atomic_table.specs.Table.{Allows, step}
 use Rattle.ks_arena.specs.Sound.{sort_of}
 use Rattle.ks_arena.specs.Rule.{Running}
-use Rattle.ks_arena.specs.Plays.{TellsFree, readied}
-use Rattle.ks_arena.proofs.Moves.{reads_ok}
+use Rattle.ks_arena.specs.Plays.{TellsFree, scanned}
+use Rattle.ks_arena.proofs.Moves.{scans_ok}
 use Rattle.ks_arena.proofs.After.{pass_again, Looked, looked}
-use Rattle.ks_arena.proofs.arena.Arena.read_free.Given.{Over}
-use Rattle.ks_arena.proofs.arena.Arena.read_free.Goals as goal
-use Rattle.ks_arena.proofs.arena.Arena.read_free.Goals.{After-load}
+use Rattle.ks_arena.proofs.arena.Arena.scan.Given.{Over}
+use Rattle.ks_arena.proofs.arena.Arena.scan.Goals as goal
+use Rattle.ks_arena.proofs.arena.Arena.scan.Goals.{After-load}
 
 pub load-requires : goal.load-requires
 load-requires g c = let p = c.args.pass.now in let w : ℕ = c.args.index in let n : ℕ = c.args.self.now.table.shared.table_id.slots in let sort = sort_of g.N.Node.layout g.N.Node.ranged in let word : n + 2 + w ≡ c.args.self.now.nodes + 2 + w = omega arith in (
   c.requires.pass.table,
   omega arith,
-  subst (λ (z : ℕ). Allows (Running sort g.D.Discipline.begins g.D.Discipline.step g.N.Node.body) n p.seat.id p.seat.me z (λ y. y) (readied sort g.D.Discipline.begins g.D.Discipline.step g.N.Node.body (step n z 0 0 none) p.seat.me)) word
-      (reads_ok sort g.D.Discipline.begins g.D.Discipline.step g.N.Node.body n p.seat.id p.seat.me w),
+  subst (λ (z : ℕ). Allows (Running sort g.D.Discipline.begins g.D.Discipline.step g.N.Node.body) n p.seat.id p.seat.me z (λ y. y) (scanned sort g.D.Discipline.begins g.D.Discipline.step g.N.Node.body (step n z 0 0 none) p.seat.me)) word
+      (scans_ok sort g.D.Discipline.begins g.D.Discipline.step g.N.Node.body n p.seat.id p.seat.me w),
 )
 
 after : (g : Over) (c : After-load g) → Looked (sort_of g.N.Node.layout g.N.Node.ranged) g.D.Discipline.begins g.D.Discipline.step c.args.self.now.table.shared.table_id.slots c.args.pass.now.caller c.args.pass.now.seat.me c.load.new.seat.me

@@ -5,13 +5,13 @@ use Rattle.atomic_table.specs.Table.{Allows, step}
 use Rattle.ks_arena.specs.declared.view.Mark.TheVariants.{Quiet, Freeing}
 use Rattle.ks_arena.specs.Sound.{sort_of}
 use Rattle.ks_arena.specs.Rule.{Running}
-use Rattle.ks_arena.specs.Plays.{marked, opened}
-use Rattle.ks_arena.proofs.Moves.{opens_ok}
+use Rattle.ks_arena.specs.Plays.{marked, bit_was_set}
+use Rattle.ks_arena.proofs.Moves.{sets_bit_ok}
 use Rattle.ks_arena.proofs.Hold.{hand_near, holds_it}
 use Rattle.ks_arena.proofs.After.{still, pass_marked, Looked, looked}
-use Rattle.ks_arena.proofs.arena.Arena.open.Given.{Over}
-use Rattle.ks_arena.proofs.arena.Arena.open.Goals as goal
-use Rattle.ks_arena.proofs.arena.Arena.open.Goals.{After-fetch_or}
+use Rattle.ks_arena.proofs.arena.Arena.set_bit.Given.{Over}
+use Rattle.ks_arena.proofs.arena.Arena.set_bit.Goals as goal
+use Rattle.ks_arena.proofs.arena.Arena.set_bit.Goals.{After-fetch_or}
 
 pub fetch_or-requires : goal.fetch_or-requires
 fetch_or-requires g c = let p = c.args.pass.now in let r = c.requires.pass in let i : ℕ = c.args.node in let n : ℕ = c.args.self.now.table.shared.table_id.slots in let sort = sort_of g.N.Node.layout g.N.Node.ranged in
@@ -19,8 +19,8 @@ fetch_or-requires g c = let p = c.args.pass.now in let r = c.requires.pass in le
     let word : n + 2 + i / 64 ≡ c.args.self.now.nodes + 2 + i / 64 = omega arith in let bit : 2 ^ (i % 64) ≡ 1 * 2 ^ (i % 64) % 2 ^ 64 = sym (one_shl (i % 64) 64 (omega arith)) in (
       r.table,
       omega arith,
-      subst (λ (z : ℕ × ℕ). Allows (Running sort g.D.Discipline.begins g.D.Discipline.step g.N.Node.body) n p.seat.id p.seat.me z.0 (λ y. bit_or y z.1) (λ _ m. opened sort g.D.Discipline.begins g.D.Discipline.step g.N.Node.body (step n z.0 z.1 0 none) p.seat.me m)) (λ k. (word k, bit k))
-          (opens_ok sort g.D.Discipline.begins g.D.Discipline.step g.N.Node.body n p.seat.id p.seat.me p.caller i r.own r.mark near mine),
+      subst (λ (z : ℕ × ℕ). Allows (Running sort g.D.Discipline.begins g.D.Discipline.step g.N.Node.body) n p.seat.id p.seat.me z.0 (λ y. bit_or y z.1) (λ _ m. bit_was_set sort g.D.Discipline.begins g.D.Discipline.step g.N.Node.body (step n z.0 z.1 0 none) p.seat.me m)) (λ k. (word k, bit k))
+          (sets_bit_ok sort g.D.Discipline.begins g.D.Discipline.step g.N.Node.body n p.seat.id p.seat.me p.caller i r.own r.mark near mine),
     )
 
 after : (g : Over) (c : After-fetch_or g) → Looked (sort_of g.N.Node.layout g.N.Node.ranged) g.D.Discipline.begins g.D.Discipline.step c.args.self.now.table.shared.table_id.slots c.args.pass.now.caller (marked (Freeing c.args.node) c.args.pass.now.seat.me.0, c.args.pass.now.seat.me.1) c.fetch_or.new.seat.me
