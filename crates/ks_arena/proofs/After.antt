@@ -28,7 +28,7 @@ use denote.Bor.{Bor}
 use Rattle.ks_arena.specs.Clauses.{AllAmong, EachOnce, IsPass, IsPassWith, give_mark, Matches, MatchesIf, new_state_of, change_of, changes_of, IsShaped, AreShaped, hand_of, seen_of, Kept, KeptBut, NamesNot}
 use Rattle.ks_arena.specs.Rule.{turn_word}
 use Rattle.ks_arena.specs.Plays.{Shows, Seated, marked, Looks, Makes, drop_slot, Carries}
-use Rattle.ks_arena.proofs.Words.{are_in_turn}
+use Rattle.ks_arena.specs.Beyond.{are_in_turn}
 use Rattle.ks_arena.proofs.Moves.{GivesMark, gives_mark_live, gives_mark_free}
 use Rattle.ks_arena.proofs.Hold.{Follows, follows_marked, follows_both, looks_follows, makes_follows, looks_grows, makes_grows, Gains, carries_gain, carries_along, carries_give, carries_lift, slots_in, drop_in, hand_near, holds_it}
 

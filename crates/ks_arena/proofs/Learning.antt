@@ -18,7 +18,7 @@ use Rattle.ks_arena.specs.declared.view.Part.{Part}
 use Rattle.ks_arena.specs.Rule.{FitsAll, both_views, callers_in, all_callers, part_of}
 use Rattle.ks_arena.specs.Plays.{Seated, gathered, Carries}
 use Rattle.ks_arena.specs.Clauses.{IsPass, IsNote, seen_of, noted, HasLooked, Kept}
-use Rattle.ks_arena.proofs.Words.{are_in_turn}
+use Rattle.ks_arena.specs.Beyond.{are_in_turn}
 use Rattle.ks_arena.proofs.Hold.{Follows, slots_in}
 use Rattle.ks_arena.proofs.After.{carries_others}
 

@@ -10,7 +10,6 @@ pub mod Crew
 pub mod Closing
 pub mod Tries
 pub mod Learning
-pub mod Beyond
 pub mod Entries
 pub mod Crosses
 pub mod Calling

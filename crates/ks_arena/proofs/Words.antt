@@ -54,15 +54,3 @@ one_alone h k begins low = let all = subst (CallersBelow 1) begins.is low in (
   record { rest = begins.rest; is = begins.is; own = all_by_one begins.rest h all },
   λ d i now. let x = held_below 1 h i d (below_old 1 begins.rest h all) now in omega arith,
 )
-
-module _ (sort : Sort) (begins : Frame → Type 0) (asks : (ℕ → NodeState) → (ℕ → Frame) → List Change → Type 0) (nodes : ℕ) where
-  pub is_in_turn : (h : List Event) (e : Event) → StepsSoundly sort begins asks nodes h e → IsInTurn h e
-  is_in_turn h (Take c j) so = so
-  is_in_turn h (Give c j) so = so
-  is_in_turn h (Claim c j) so = so.0
-  is_in_turn h (Shape c xs) so = so.0
-  is_in_turn h (Call c j o y) so = so.0.0
-
-  pub are_in_turn : (h : List Event) → Sound sort begins asks nodes h → AreInTurn h
-  are_in_turn [] so = tt
-  are_in_turn (e ∷ h) so = (are_in_turn h so.0, is_in_turn h e so.1)

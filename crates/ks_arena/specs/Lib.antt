@@ -5,3 +5,4 @@ pub mod Clauses
 pub mod FromSound
 pub mod Tells
 pub mod Ended
+pub mod Beyond

@@ -1,0 +1,71 @@
+//! The way from the root to the node where a search ends.
+ghost use Rattle.std.specs.Prelude.{◌≡◌, List, []};
+ghost use Rattle.ks_flow.specs.Discipline.{BeginsTree, TreeStep};
+ghost use Rattle.ks_node.specs.declared.start.Next.TheVariants.{Go};
+ghost use Rattle.ks_node.specs.Body.{next_at};
+ghost use Rattle.ks_arena.specs.Sound.{sort_of};
+ghost use Rattle.ks_arena.specs.Clauses.{IsPass, hand_of, seen_of};
+ghost use Rattle.ks_history.specs.declared.Event.{Event as Happening};
+ghost use Rattle.ks_coupling.specs.Descent.{IsOnWay};
+
+use ks_arena::laws::{root_stays_law, sound_law, target_law};
+use ks_arena::{Arena, Held, Pass, root_law};
+use ks_flow::Tree;
+use ks_flow::laws::tree_facts_law;
+use ks_gate::{Gate, Point};
+use ks_node::{Unlinked, node_law};
+use std::sync::Wait;
+
+/// Takes the root.
+pub(crate) fn enter<N: Unlinked, R: Wait, G: Gate>(
+    rt: &R,
+    arena: &Arena<N, Tree>,
+    pass: &mut Pass<N, Tree>,
+    gate: &G,
+    place: u64,
+) -> Held<N>
+    requires pass { IsPass (sort_of N.layout N.ranged) BeginsTree TreeStep arena.now.table.shared.table_id arena.now.callers pass.old × (hand_of pass.old ≡ []) }
+    ensures pass { IsPass (sort_of N.layout N.ranged) BeginsTree TreeStep arena.now.table.shared.table_id arena.now.callers pass.new }
+    ensures caller { pass.new.caller ≡ pass.old.caller }
+    ensures way { IsOnWay (sort_of N.layout N.ranged) N.body pass.old.caller place (seen_of pass.old) (seen_of pass.new) result }
+{
+    root_stays_law::<Tree>();
+    gate.at(pass.caller(), Point::Begin);
+    let Some(root) = arena.take(rt, pass, 0) else {
+        unreachable!()
+    };
+    root_law(&root, place);
+    gate.at(pass.caller(), Point::Taken(0));
+    root
+}
+
+/// Takes the child to which the search goes on, and gives the node.
+pub(crate) fn go_on<N: Unlinked, R: Wait, G: Gate>(
+    rt: &R,
+    arena: &Arena<N, Tree>,
+    pass: &mut Pass<N, Tree>,
+    gate: &G,
+    place: u64,
+    held: Held<N>,
+    child: u32,
+) -> Held<N>
+    requires pass { IsPass (sort_of N.layout N.ranged) BeginsTree TreeStep arena.now.table.shared.table_id arena.now.callers pass.old }
+    requires way { (start : List Happening) × IsOnWay (sort_of N.layout N.ranged) N.body pass.old.caller place start (seen_of pass.old) held }
+    requires goes { next_at (N.body held.body) place ≡ Go child }
+    ensures pass { IsPass (sort_of N.layout N.ranged) BeginsTree TreeStep arena.now.table.shared.table_id arena.now.callers pass.new }
+    ensures caller { pass.new.caller ≡ pass.old.caller }
+    ensures way { (start : List Happening) → IsOnWay (sort_of N.layout N.ranged) N.body pass.old.caller place start (seen_of pass.old) held → IsOnWay (sort_of N.layout N.ranged) N.body pass.old.caller place start (seen_of pass.new) result }
+{
+    sound_law::<Tree>();
+    target_law::<Tree>();
+    tree_facts_law();
+    node_law(&held.body);
+    let Some(below) = arena.take(rt, pass, child) else {
+        unreachable!()
+    };
+    gate.at(pass.caller(), Point::Taken(child));
+    let node = held.node;
+    arena.give(pass, held);
+    gate.at(pass.caller(), Point::Given(node));
+    below
+}

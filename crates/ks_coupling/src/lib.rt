@@ -1,0 +1,11 @@
+//! Lock coupling: the next node is taken before the present one is given.
+//!
+//! A search holds the root, and then from node to node two at most. What it holds lies on the way of its place: the place
+//! is in the inset of the node, whatever others do, since only a Shape changes insets and none names a node that it does
+//! not hold.
+#![tactic(auto)]
+
+mod descent;
+mod lookup;
+
+pub use lookup::get;
