@@ -4,10 +4,10 @@ use Rattle.std.specs.Prelude.{All, drop}
 use Rattle.ks_keysets.specs.declared.Frame.{Frame}
 use Rattle.ks_keysets.specs.declared.Span.{Span}
 use Rattle.ks_keysets.specs.declared.NodeState.{NodeState}
-use Rattle.ks_keysets.specs.Record.{top, Holds}
+use Rattle.ks_keysets.specs.Record.{Holds}
 use Rattle.ks_keysets.specs.Keyset.{InKeyset, Good}
 use Rattle.ks_node.specs.declared.start.Start.{Start}
-use Rattle.ks_node.specs.Body.{Body, is_branch, last_of}
+use Rattle.ks_node.specs.Body.{Body, is_branch, all_places, frame_of}
 use Rattle.ks_node.specs.Edges.{record_of}
 use Rattle.ks_node.specs.Asks.{Suits}
 use Rattle.ks_flow.specs.Link.{Link, IsRange}
@@ -19,8 +19,11 @@ use Rattle.ks_bodies.proofs.LinkStanding.{linked_framed, linked_range}
 pub branch_pairs : (b : Body) (cut : ℕ) → IsLinked b → IsTrue (is_branch b) → All (λ x. x.place < cut) b.pairs
 branch_pairs b cut x branch = no_pairs b.pairs (λ x. x.place < cut) (x.sound.branch_no_pairs branch)
 
-pub root_ends : (g : ℕ → NodeState) (f : ℕ → Frame) (b : Body) → Link g f → StandsLinked g f 0 b → last_of b.range ≡ top
-root_ends g f b link stands = ap last_of (sym (ap (λ (z : Frame). z.range) stands.frame) ∙ link.root)
+pub root_range : (g : ℕ → NodeState) (f : ℕ → Frame) (b : Body) → Link g f → StandsLinked g f 0 b → b.range ≡ Some all_places
+root_range g f b link stands = sym (ap (λ (z : Frame). z.range) stands.frame) ∙ link.root
+
+pub root_level : (f : ℕ → Frame) (b : Body) (bound : ℕ) → f 0 ≡ frame_of b → (f 0).level < bound → b.level < bound
+root_level f b bound frame below = omega (arith, below, ap (λ (z : Frame). z.level) frame)
 
 pub same_span : (o : Option Span) (s t : Span) → o ≡ Some s → o ≡ Some t → s ≡ t
 same_span o s t a c = let e : Some s ≡ Some t = sym a ∙ c in cc

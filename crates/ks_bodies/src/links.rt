@@ -6,9 +6,8 @@ ghost use Rattle.ks_keysets.specs.declared.Frame.{Frame};
 ghost use Rattle.ks_keysets.specs.declared.Kind.{Kind};
 ghost use Rattle.ks_keysets.specs.declared.NodeState.{NodeState};
 ghost use Rattle.ks_keysets.specs.declared.Span.{Span};
-ghost use Rattle.ks_keysets.specs.Record.{top};
-ghost use Rattle.ks_keysets.specs.Keyset.{Good};
-ghost use Rattle.ks_node.specs.Body.{Body, is_branch, last_of};
+ghost use Rattle.ks_keysets.specs.Keyset.{Good, IsLive};
+ghost use Rattle.ks_node.specs.Body.{Body, is_branch, all_places};
 ghost use Rattle.ks_node.specs.Effect.{split_right, adopted, with_link};
 ghost use Rattle.ks_node.specs.Asks.{Suits};
 ghost use Rattle.ks_flow.specs.Link.{Link};
@@ -17,11 +16,13 @@ ghost use Rattle.ks_bodies.specs.Links.{IsLinked, StandsLinked, CanSplitRight, C
 
 use ks_flow::laws::{changes_law, link_law, link_shapes_law};
 
-/// The range of a node suits its body, so that a full one may be cut there; that of the root ends at the last place, as
-/// `grow_link` asks; and a branch has no pairs, as `adopt` asks.
+/// The range of a node suits its body, so that a full one may be cut there; that of the root is all places, and the
+/// level of the root is below each bound on the numbers of live nodes, as `grow_link` asks; and a branch has no pairs, as
+/// `adopt` asks.
 pub fn link_asks_law()
     ensures suits { (g : ℕ → NodeState) (f : ℕ → Frame) (n : ℕ) (b : Body) → Good g → Link g f → StandsLinked g f n b → (range : Span) × (b.range ≡ Some range) × Suits b range }
-    ensures ends { (g : ℕ → NodeState) (f : ℕ → Frame) (b : Body) → Link g f → StandsLinked g f 0 b → last_of b.range ≡ top }
+    ensures root { (g : ℕ → NodeState) (f : ℕ → Frame) (b : Body) → Link g f → StandsLinked g f 0 b → b.range ≡ Some all_places }
+    ensures level { (g : ℕ → NodeState) (f : ℕ → Frame) (b : Body) (bound : ℕ) → Good g → Link g f → StandsLinked g f 0 b → ((n : ℕ) → IsLive g n → n < bound) → b.level < bound }
     ensures adopt { (b : Body) (cut : ℕ) → IsLinked b → IsTrue (is_branch b) → All (λ x. x.place < cut) b.pairs }
 {
     link_law();

@@ -1,11 +1,11 @@
-use Rattle.std.proofs.Common.{None, ◌≡◌, ℕ, List, [], ◌∷◌, arith, sym, refl, ◌∙◌, subst, true}
+use Rattle.std.proofs.Common.{None, ◌≡◌, ℕ, List, [], ◌∷◌, arith, sym, refl, ap, ◌∙◌, subst, true}
 use Rattle.ks_keysets.specs.declared.NodeState.{NodeState}
 use Rattle.ks_keysets.specs.declared.Frame.{Frame}
 use Rattle.ks_history.specs.declared.Event.{Event}
 use Rattle.ks_history.specs.Trace.{graph_after, frame_after}
 use Rattle.ks_history.specs.Passes.{GrowsByOthers}
 use Rattle.ks_history.specs.Begins.{good_now, by_others_none}
-use Rattle.ks_node.specs.Body.{Body}
+use Rattle.ks_node.specs.Body.{Body, last_of}
 use Rattle.ks_node.specs.Effect.{split_right, with_link}
 use Rattle.ks_flow.specs.Discipline.{BeginsLink, LinkStep}
 use Rattle.ks_bodies.specs.Links.{IsLinked, StandsLinked, CanGrowRight, split_linked, grown_higher, grow_right}
@@ -32,7 +32,7 @@ can g c h grows so = let sort = sort_of g.N.Node.layout g.N.Node.ranged in let n
 
 pub grow_link-requires-clause-ends : goal.grow_link-requires-clause-ends
 grow_link-requires-clause-ends g c = let sort = sort_of g.N.Node.layout g.N.Node.ranged in let n : ℕ = c.args.arena.now.table.shared.table_id.slots in let seen = seen_of c.args.pass.now in let at = (goal.at.grow_link-requires-clause-ends g c).After-node_law in
-    c.link_asks_law.ensures.ends (graph_after seen) (frame_after (blank_of sort) seen) (g.N.Node.body c.args.node.now.body) (c.sound_law.ensures.facts sort n seen c.requires.pass.sound) (stands g at seen (by_others_none c.args.pass.now.caller seen) c.requires.pass.sound)
+    ap last_of (c.link_asks_law.ensures.root (graph_after seen) (frame_after (blank_of sort) seen) (g.N.Node.body c.args.node.now.body) (c.sound_law.ensures.facts sort n seen c.requires.pass.sound) (stands g at seen (by_others_none c.args.pass.now.caller seen) c.requires.pass.sound))
 
 pub shape-requires-clause-may : goal.shape-requires-clause-may
 shape-requires-clause-may g c κs within = λ h grows sound. let sort = sort_of g.N.Node.layout g.N.Node.ranged in let n : ℕ = c.args.arena.now.table.shared.table_id.slots in let same : c.args.arena.now.nodes ≡ n = omega arith in let so = subst (λ (z : ℕ). Sound sort BeginsLink LinkStep z h) same sound in
