@@ -8,12 +8,12 @@ use Rattle.ks_keysets.specs.declared.Record.{Record}
 use Rattle.ks_keysets.specs.Record.{LeadsOn, top}
 use Rattle.ks_keysets.specs.Keyset.{live_record, value_in, value_at as found_at, InInset, InKeyset, InOutset, at_root}
 use Rattle.ks_history.specs.declared.Op.{Op}
-use Rattle.ks_history.specs.declared.Op.TheVariants.{Get}
+use Rattle.ks_history.specs.declared.Op.TheVariants.{Get, Put, Del}
 use Rattle.ks_history.specs.declared.Reply.{Reply}
 use Rattle.ks_history.specs.declared.Event.{Event}
 use Rattle.ks_history.specs.declared.Event.TheVariants.{Call}
 use Rattle.ks_history.specs.Map.{told}
-use Rattle.ks_history.specs.Write.{written}
+use Rattle.ks_history.specs.Write.{written, sets}
 use Rattle.ks_history.specs.Trace.{held, graph_after, turn_after, frame_after, state_with}
 use Rattle.ks_history.specs.Lawful.{Meets}
 use Rattle.ks_history.specs.Due.{IsDue}
@@ -21,11 +21,13 @@ use Rattle.ks_keysets.specs.Layout.{Layout}
 use Rattle.ks_node.specs.declared.start.Next.TheVariants.{Here}
 use Rattle.ks_node.specs.Body.{Body, content_of, frame_of, next_at, value_at}
 use Rattle.ks_node.specs.Edges.{record_of}
+use Rattle.ks_node.specs.Effect.{pairs_put, pairs_del, with_pairs}
 use Rattle.ks_node.specs.Sound.{Sound as InOrder}
 use Rattle.ks_node.specs.Puts.{value_first}
 use Rattle.ks_node.specs.Ways.{here_stays}
 use Rattle.ks_arena.specs.declared.held.Held.{Held as Hand}
 use Rattle.ks_arena.specs.Sound.{Sort, blank_of}
+use Rattle.ks_arena.specs.Writes.{put_sets, del_removes}
 use Rattle.ks_arena.specs.Clauses.{Matches, MatchesIf, IsReady}
 
 module _ {N : Type 0} (sort : Sort) (shows : N → Body) where
@@ -69,3 +71,41 @@ module _ {N : Type 0} (sort : Sort) (shows : N → Body) where
       keeps : (found : Option ℕ) → state_with (written (Get p) (told found)) (graph_after h x.node) ≡ Live (record_of (shows x.body))
       keeps None = ap (state_with (written (Get p) (told None))) (shown h x live m).0
       keeps (Some v) = ap (state_with (written (Get p) (told (Some v)))) (shown h x live m).0
+
+  put_due : (layout : Layout) (n c i p v : ℕ) (h : List Event) (found : Option ℕ) → IsDue layout n h (Call c i (Put p v) (told found))
+  put_due layout n c i p v h None = tt
+  put_due layout n c i p v h (Some w) = tt
+
+  del_due : (layout : Layout) (n c i p : ℕ) (h : List Event) (found : Option ℕ) → IsDue layout n h (Call c i (Del p) (told found))
+  del_due layout n c i p h None = tt
+  del_due layout n c i p h (Some w) = tt
+
+  told_sets : (p v : ℕ) (found : Option ℕ) → written (Put p v) (told found) ≡ sets p v
+  told_sets p v None = refl
+  told_sets p v (Some w) = refl
+
+  -- y is x with what a put or a del made of its pairs
+  module _ (nodes c p : ℕ) (h : List Event) (x : Hand N) (mine : turn_after h x.node ≡ held c) (live : x.live ≡ true) (m : Matches sort shows h x) (inside : InInset (graph_after h) x.node p) (order : InOrder (content_of (shows x.body))) (here : next_at (shows x.body) p ≡ Here) where
+    abbrev found : Option ℕ
+    found = value_at (shows x.body).pairs p
+
+    answers : told found ≡ told (found_at (graph_after h) x.node p)
+    answers = ap told (sym (shows_value h x p live m))
+
+    pub put_ready : (v : ℕ) (y : Hand N) → y.node ≡ x.node → y.live ≡ true → shows y.body ≡ with_pairs (shows x.body) (pairs_put p v (shows x.body).pairs) → IsReady sort shows nodes c h y (Put p v) (told found)
+    put_ready v y node lives body = record {
+      live = lives;
+      meets = subst (λ (i : ℕ). Meets h (Call c i (Put p v) (told found))) (sym node) (mine, (λ q t. subst (InKeyset (graph_after h) x.node) (sym t) (in_keyset h x p live m inside order here)), inl answers);
+      due = put_due sort.layout nodes c y.node p v h found;
+      state = subst (λ (i : ℕ). state_with (written (Put p v) (told found)) (graph_after h i) ≡ Live (record_of (shows y.body))) (sym node) (rw (told_sets p v found, (shown h x live m).0, body, put_sets p v (shows x.body).pairs order.pairs_ascend) refl);
+      frame = subst (λ (i : ℕ). frame_after (blank_of sort) h i ≡ frame_of (shows y.body)) (sym node) ((shown h x live m).1 ∙ sym (ap frame_of body));
+    }
+
+    pub del_ready : (y : Hand N) → y.node ≡ x.node → y.live ≡ true → shows y.body ≡ with_pairs (shows x.body) (pairs_del p (shows x.body).pairs) → IsReady sort shows nodes c h y (Del p) (told found)
+    del_ready y node lives body = record {
+      live = lives;
+      meets = subst (λ (i : ℕ). Meets h (Call c i (Del p) (told found))) (sym node) (mine, (λ q t. subst (InKeyset (graph_after h) x.node) (sym t) (in_keyset h x p live m inside order here)), answers);
+      due = del_due sort.layout nodes c y.node p h found;
+      state = subst (λ (i : ℕ). state_with (written (Del p) (told found)) (graph_after h i) ≡ Live (record_of (shows y.body))) (sym node) (rw ((shown h x live m).0, body, del_removes p (shows x.body).pairs order.pairs_ascend) refl);
+      frame = subst (λ (i : ℕ). frame_after (blank_of sort) h i ≡ frame_of (shows y.body)) (sym node) ((shown h x live m).1 ∙ sym (ap frame_of body));
+    }

@@ -6,3 +6,4 @@ pub mod FromSound
 pub mod Tells
 pub mod Ended
 pub mod Beyond
+pub mod Writes

@@ -2,12 +2,14 @@
 ghost use Rattle.std.specs.Prelude.{◌≡◌, List, true};
 ghost use Rattle.ks_keysets.specs.Keyset.{InInset};
 ghost use Rattle.ks_history.specs.declared.Event.{Event as Happening};
-ghost use Rattle.ks_history.specs.declared.Op.TheVariants.{Get};
+ghost use Rattle.ks_history.specs.declared.Op.TheVariants.{Del, Get, Put};
 ghost use Rattle.ks_history.specs.Map.{told};
 ghost use Rattle.ks_history.specs.Passes.{Has};
 ghost use Rattle.ks_history.specs.Trace.{graph_after};
 ghost use Rattle.ks_node.specs.declared.start.Next.TheVariants.{Here};
 ghost use Rattle.ks_node.specs.Body.{next_at, value_at};
+ghost use Rattle.ks_node.specs.Effect.{pairs_del, pairs_put, with_pairs};
+ghost use Rattle.ks_arena.specs.declared.held.Held.{Held as Hand};
 ghost use Rattle.ks_arena.specs.Sound.{sort_of};
 ghost use Rattle.ks_arena.specs.Clauses.{IsPass, hand_of, seen_of, Matches, IsReady};
 
@@ -35,6 +37,34 @@ impl<N: Node, D: Discipline> Arena<N, D> {
         requires here { next_at (N.body held.now.body) place ≡ Here }
         requires reply { reply.now ≡ told (value_at (N.body held.now.body).pairs place) }
         ensures { IsReady (sort_of N.layout N.ranged) N.body self.now.nodes pass.now.caller (seen_of pass.now) held.now (Get place) reply.now }
+    {
+        sound_law::<D>();
+        node_law(&held.body);
+    }
+
+    /// Where a Get may be decided, a Put may be once the value is put at the place in the body. Its reply tells what
+    /// stood there.
+    pub fn put_law(&self, pass: &Pass<N, D>, held: &Held<N>, place: u64, value: u128)
+        requires pass { IsPass (sort_of N.layout N.ranged) D.begins D.step self.now.table.shared.table_id self.now.callers pass.now }
+        requires holds { Has (hand_of pass.now) held.now.node }
+        requires body { (held.now.live ≡ true) × Matches (sort_of N.layout N.ranged) N.body (seen_of pass.now) held.now }
+        requires inside { InInset (graph_after (seen_of pass.now)) held.now.node place }
+        requires here { next_at (N.body held.now.body) place ≡ Here }
+        ensures { (x : Hand N) → x.node ≡ held.now.node → x.live ≡ true → N.body x.body ≡ with_pairs (N.body held.now.body) (pairs_put place value (N.body held.now.body).pairs) → IsReady (sort_of N.layout N.ranged) N.body self.now.nodes pass.now.caller (seen_of pass.now) x (Put place value) (told (value_at (N.body held.now.body).pairs place)) }
+    {
+        sound_law::<D>();
+        node_law(&held.body);
+    }
+
+    /// Where a Get may be decided, a Del may be once the pair of the place is deleted from the body. Its reply tells
+    /// what stood there.
+    pub fn del_law(&self, pass: &Pass<N, D>, held: &Held<N>, place: u64)
+        requires pass { IsPass (sort_of N.layout N.ranged) D.begins D.step self.now.table.shared.table_id self.now.callers pass.now }
+        requires holds { Has (hand_of pass.now) held.now.node }
+        requires body { (held.now.live ≡ true) × Matches (sort_of N.layout N.ranged) N.body (seen_of pass.now) held.now }
+        requires inside { InInset (graph_after (seen_of pass.now)) held.now.node place }
+        requires here { next_at (N.body held.now.body) place ≡ Here }
+        ensures { (x : Hand N) → x.node ≡ held.now.node → x.live ≡ true → N.body x.body ≡ with_pairs (N.body held.now.body) (pairs_del place (N.body held.now.body).pairs) → IsReady (sort_of N.layout N.ranged) N.body self.now.nodes pass.now.caller (seen_of pass.now) x (Del place) (told (value_at (N.body held.now.body).pairs place)) }
     {
         sound_law::<D>();
         node_law(&held.body);

@@ -3,6 +3,7 @@ use Rattle.std.proofs.Common.{◌≡◌, ◌≢◌, ℕ, zero, suc, ◌+◌, ◌
 use Rattle.std.specs.Prelude.{Option, Some, None, Any, All}
 use Rattle.std.proofs.Math.Path.{fun_ext}
 use Rattle.std.proofs.lemmas.Bool.{cases_lt}
+use Rattle.std.proofs.lemmas.Bool.Decides.{eqb_tells}
 use mathlib.Core.Logic.{dite}
 use native.Mathlib.Decide.{ℕ_discrete}
 use Rattle.ks_keysets.specs.declared.Edge.{Edge}
@@ -10,24 +11,30 @@ use Rattle.ks_keysets.specs.declared.Frame.{Frame}
 use Rattle.ks_keysets.specs.declared.NodeState.{NodeState}
 use Rattle.ks_keysets.specs.declared.NodeState.TheVariants.{Free, Claimed, Live}
 use Rattle.ks_keysets.specs.declared.Record.{Record}
+use Rattle.ks_keysets.specs.declared.Span.{Span}
 use Rattle.ks_keysets.specs.Record.{LeadsTo, top}
 use Rattle.ks_keysets.specs.Keyset.{live_record, record_at, IsLive, Good, InInset, along}
 use Rattle.ks_history.specs.declared.Event.{Event}
 use Rattle.ks_history.specs.declared.Event.TheVariants.{Take, Give, Call}
-use Rattle.ks_history.specs.declared.Op.TheVariants.{Get}
+use Rattle.ks_history.specs.declared.Op.{Op}
+use Rattle.ks_history.specs.declared.Op.TheVariants.{Get, Put, Del, Add, Swap}
 use Rattle.ks_history.specs.declared.Reply.{Reply}
-use Rattle.ks_history.specs.declared.Reply.TheVariants.{Nothing, Value, Full}
-use Rattle.ks_history.specs.Map.{told}
+use Rattle.ks_history.specs.declared.Reply.TheVariants.{Full}
 use Rattle.ks_history.specs.Trace.{hand, drop_one, held, given, graph_after, turn_after, frame_after, number_after}
 use Rattle.ks_history.specs.Passes.{Has, GrowsByOthers, GrowsWith}
 use Rattle.ks_history.specs.Stays.{AreInTurn, StaysHeld, cond_here, cond_else}
 use Rattle.ks_history.specs.Begins.{by_others_hand, by_others_keeps, with_others, take_hand, give_hand}
-use Rattle.ks_history.specs.Done.{coupling, TakesWell, Done}
+use Rattle.ks_history.specs.Done.{coupling, most_held, Done}
 use Rattle.ks_history.specs.Underway.{Underway, Decided, underway_first, underway_with, underway_call, decided_with, done_of, may_take_later}
 use Rattle.ks_keysets.specs.Layout.{Layout}
 use Rattle.ks_flow.specs.Tree.{Tree, edges_to}
 use Rattle.ks_flow.specs.Discipline.{BeginsTree, TreeStep, SameInset}
-use Rattle.ks_node.specs.Body.{Body, frame_of}
+use Rattle.ks_node.specs.declared.start.Start.{Start}
+use Rattle.ks_node.specs.declared.start.Next.TheVariants.{Here}
+use Rattle.ks_node.specs.Asks.{IsBelowOwn}
+use Rattle.ks_node.specs.Body.{Body, content_of, first_of, frame_of, is_branch, last_of, next_at}
+use Rattle.ks_node.specs.Sound.{Sound as InOrder, starts_at_zero}
+use Rattle.ks_node.specs.Ways.{below_own}
 use Rattle.ks_node.specs.Edges.{record_of}
 use Rattle.ks_arena.specs.declared.held.Held.{Held as Hand}
 use Rattle.ks_arena.specs.Sound.{Sort, blank_of, Sound}
@@ -54,6 +61,22 @@ is_near sort begins asks nodes h i some so live = ⊎_elim (λ (x : i < nodes). 
 two_held : (i j : ℕ) → i ≢ j → drop_one j (i ∷ j ∷ []) ≡ i ∷ []
 two_held i j ne = cond_else i j (j ∷ []) (i ∷ drop_one j (j ∷ [])) ne ∙ ap (λ (z : List ℕ). i ∷ z) (cond_here j j [] (j ∷ []) refl)
 
+-- edges that cover all places carry each of them
+covered : (p : ℕ) (ss : List Start) → starts_at_zero ss ≡ true → All (λ s. p < s.low) ss → ⊥
+covered p [] z above = cc
+covered p (s ∷ ss) z above = elim (eqb_tells s.low 0) [
+  | inl e ↦ (let low : p < s.low = above 0 s (omega arith) in absurd (omega (arith, low, e.1)))
+  | inr n ↦ (let w : false ≡ true = sym n.0 ∙ z in cc)
+]
+
+-- a call may hold two nodes
+two_may : (op : Op) → 2 ≤ most_held coupling op
+two_may (Get p) = omega arith
+two_may (Put p v) = omega arith
+two_may (Del p) = omega arith
+two_may (Add p v) = omega arith
+two_may (Swap p old new) = omega arith
+
 module _ {N : Type 0} (sort : Sort) (shows : N → Body) where
   live_if : (live : Bool) (s : NodeState) (f : Frame) (b : N) → live ≡ true → MatchesIf sort shows live s f b → (s ≡ Live (record_of (shows b))) × (f ≡ frame_of (shows b))
   live_if true s f b e so = so
@@ -63,17 +86,35 @@ module _ {N : Type 0} (sort : Sort) (shows : N → Body) where
   record_is h x live m = ap live_record (live_if x.live (graph_after h x.node) (frame_after (blank_of sort) h x.node) x.body live m.is).0
 
   -- the root is taken
-  pub enters : (c p : ℕ) (s0 s1 : List Event) (x : Hand N) → hand c s0 ≡ [] → HasTaken sort shows c 0 s0 s1 x → InInset (graph_after s1) x.node p → IsOnWay sort shows c p s0 s1 x
-  enters c p s0 s1 x empty took inside = let alone : hand c s1 ≡ 0 ∷ [] = took.hand ∙ ap (λ (z : List ℕ). 0 ∷ z) empty in record {
-    alone = alone ∙ ap (λ (i : ℕ). i ∷ []) (sym took.node);
+  pub enters : (c p : ℕ) (s0 s1 : List Event) (x : Hand N) → hand c s0 ≡ [] → HasTaken sort shows c 0 s0 s1 x → InInset (graph_after s1) x.node p → IsOnWay sort shows c p s1 x
+  enters c p s0 s1 x empty took inside = record {
+    alone = took.hand ∙ ap (λ (z : List ℕ). 0 ∷ z) empty ∙ ap (λ (i : ℕ). i ∷ []) (sym took.node);
     live = took.live;
     matches = took.matches;
     inside = inside;
-    under = underway_with coupling c (Get p) (Take c 0) s0 s0 s1 tt took.grows
-        (λ same. inl (by_others_hand c s0 (took.grows.rest ++ s0) (with_others c (Take c 0) s0 s1 took.grows) ∙ empty, refl))
-        (omega (arith, ap length alone))
-        (underway_first coupling c (Get p) s0 empty);
   }
+
+  pub enters_under : (c : ℕ) (op : Op) (s0 s1 : List Event) (x : Hand N) → hand c s0 ≡ [] → HasTaken sort shows c 0 s0 s1 x → Underway coupling c op s0 s1
+  enters_under c op s0 s1 x empty took = underway_with coupling c op (Take c 0) s0 s0 s1 tt took.grows
+      (λ same. inl (by_others_hand c s0 (took.grows.rest ++ s0) (with_others c (Take c 0) s0 s1 took.grows) ∙ empty, refl))
+      (omega (arith, ap length (took.hand ∙ ap (λ (z : List ℕ). 0 ∷ z) empty), two_may op))
+      (underway_first coupling c op s0 empty)
+
+  -- a node on the way is no branch where the search ends: its range, if it has one, is its inset
+  module _ (c p : ℕ) (h : List Event) (x : Hand N) (way : IsOnWay sort shows c p h x) (facts : Tree (graph_after h) (frame_after (blank_of sort) h)) (place : p ≤ top) (order : InOrder (content_of (shows x.body))) (here : next_at (shows x.body) p ≡ Here) where
+    held_in : (o : Option Span) → (frame_after (blank_of sort) h x.node).range ≡ o → (first_of o ≤ p) × (p ≤ last_of o)
+    held_in None e = (omega arith, omega (arith, place))
+    held_in (Some r) e = (facts.range x.node r (record_of (shows x.body), record_is h x way.live way.matches) e).forth p way.inside
+
+    pub ends_below_own : IsBelowOwn (shows x.body) p
+    ends_below_own = let b : Body = shows x.body in let is = live_if x.live (graph_after h x.node) (frame_after (blank_of sort) h x.node) x.body way.live way.matches.is in let at = held_in b.range (ap (λ (f : Frame). f.range) is.1) in below_own b p order at.0 at.1 here
+
+    pub ends_at_no_branch : is_branch (shows x.body) ≡ false
+    ends_at_no_branch = go (is_branch (shows x.body)) refl
+      where
+        go : (k : Bool) → is_branch (shows x.body) ≡ k → is_branch (shows x.body) ≡ false
+        go false e = e
+        go true e = absurd (covered p (shows x.body).starts (order.branch_covers e) ends_below_own)
 
   -- the child to which a search goes on is taken, and then the node is given
   module _ (n c p i : ℕ) (h h₁ h₂ : List Event) (x y : Hand N) (r : Record)
@@ -81,7 +122,7 @@ module _ {N : Type 0} (sort : Sort) (shows : N → Body) where
       (beside : (j : ℕ) (k g : List Event) → GrowsByOthers c k g → turn_after g j ≡ held c → Sound sort BeginsTree TreeStep n g → SameInset j (graph_after k) (graph_after g))
       (sound₁ : Sound sort BeginsTree TreeStep n h₁) (sound₂ : Sound sort BeginsTree TreeStep n h₂)
       (mine : turn_after h x.node ≡ held c) (is : record_at (graph_after h) x.node ≡ Some r) (to : LeadsTo r p i) (apart : x.node ≢ i)
-      (took : HasTaken sort shows c i h h₁ y) (gave : GrowsWith c (Give c x.node) h₁ h₂) where
+      (took : HasTaken sort shows c i h h₁ y) (gave : GrowsWith c (Give c x.node) h₁ h₂) (way : IsOnWay sort shows c p h x) (hands : hand c h₂ ≡ drop_one x.node (hand c h₁)) where
     abbrev before : List Event
     before = took.grows.rest ++ h
 
@@ -111,25 +152,29 @@ module _ {N : Type 0} (sort : Sort) (shows : N → Body) where
             (λ ne. cond_else j x.node (given (graph_after later x.node)) (graph_after later j) ne)) in
         subst (λ (z : List Event). InInset (graph_after z) i p) (sym gave.is) (subst (λ (z : ℕ → NodeState). InInset z i p) (sym same) ((beside i h₁ later grow kept.turn all.0).forth p inside))
 
-    pub goes_on : (s0 : List Event) → IsOnWay sort shows c p s0 h x → hand c h₂ ≡ drop_one x.node (hand c h₁) → Matches sort shows h₁ x → Matches sort shows h₂ y → turn_after h₁ x.node ≡ held c → turn_after h₁ i ≡ held c → IsOnWay sort shows c p s0 h₂ y
-    goes_on s0 way hands held₁ matches holds child = let alone₁ : hand c h₁ ≡ i ∷ x.node ∷ [] = took.hand ∙ ap (λ (z : List ℕ). i ∷ z) way.alone in let alone₂ : hand c h₂ ≡ i ∷ [] = hands ∙ ap (drop_one x.node) alone₁ ∙ two_held i x.node (λ e. apart (sym e)) in record {
-      alone = alone₂ ∙ ap (λ (z : ℕ). z ∷ []) (sym took.node);
+    both : hand c h₁ ≡ i ∷ x.node ∷ []
+    both = took.hand ∙ ap (λ (z : List ℕ). i ∷ z) way.alone
+
+    alone : hand c h₂ ≡ i ∷ []
+    alone = hands ∙ ap (drop_one x.node) both ∙ two_held i x.node (λ e. apart (sym e))
+
+    pub goes_on : Matches sort shows h₁ x → Matches sort shows h₂ y → turn_after h₁ x.node ≡ held c → turn_after h₁ i ≡ held c → IsOnWay sort shows c p h₂ y
+    goes_on held₁ matches holds child = record {
+      alone = alone ∙ ap (λ (z : ℕ). z ∷ []) (sym took.node);
       live = took.live;
       matches = matches;
       inside = subst (λ (z : ℕ). InInset (graph_after h₂) z p) (sym took.node) (inside₂ way.live held₁ holds child (inside₁ way.inside));
-      under = underway_with coupling c (Get p) (Give c x.node) s0 h₁ h₂ tt gave tt (omega (arith, ap length alone₂))
-          (underway_with coupling c (Get p) (Take c i) s0 h h₁ tt took.grows (λ same. may_take_later coupling c i h before grew (turns before sound_before) (inr record { above = x.node; node = r; holds = mine; is = is; leads = (to.0, to.1, to.2, to.3, to.4.1) })) (omega (arith, ap length alone₁)) way.under);
     }
 
-  -- the Get is decided at the node, which is then given
-  told_not_full : (found : Option ℕ) → told found ≡ Full → ⊥
-  told_not_full None e = cc
-  told_not_full (Some v) e = cc
+    pub goes_under : (op : Op) (s0 : List Event) → Underway coupling c op s0 h → Underway coupling c op s0 h₂
+    goes_under op s0 under = underway_with coupling c op (Give c x.node) s0 h₁ h₂ tt gave tt (omega (arith, ap length alone, two_may op))
+        (underway_with coupling c op (Take c i) s0 h h₁ tt took.grows (λ same. may_take_later coupling c i h before grew (turns before sound_before) (inr record { above = x.node; node = r; holds = mine; is = is; leads = (to.0, to.1, to.2, to.3, to.4.1) })) (omega (arith, ap length both, two_may op)) under)
 
-  pub finished : (layout : Layout) (n c p number : ℕ) (found : Option ℕ) (s0 h h₁ h₂ : List Event) (x : Hand N) → IsOnWay sort shows c p s0 h x → Numbered c (Call c x.node (Get p) (told found)) h h₁ number → hand c h₁ ≡ hand c h → GrowsWith c (Give c x.node) h₁ h₂ → hand c h₂ ≡ drop_one x.node (hand c h₁)
-      → Done layout coupling n c (Get p) s0 h₂ (told found) number
-  finished layout n c p number found s0 h h₁ h₂ x way called same gave hands = let one : hand c h₁ ≡ x.node ∷ [] = same ∙ way.alone in let none_left : hand c h₂ ≡ [] = hands ∙ ap (drop_one x.node) one ∙ cond_here x.node x.node [] (x.node ∷ []) refl in
-      done_of layout coupling n c (Get p) s0 h₂ (told found) number
-      (decided_with layout coupling n c (Get p) (told found) number (Give c x.node) s0 h₁ h₂ tt gave tt (omega (arith, ap length none_left))
-      (underway_call layout coupling n c x.node (Get p) (told found) number s0 h h₁ called.grows (omega (arith, ap length one)) called.number (λ full. absurd (told_not_full found full)) way.under))
-      none_left
+-- the call is decided at the node, which is then given
+pub concluded : (layout : Layout) (n c i number : ℕ) (op : Op) (reply : Reply) (s0 h h₁ h₂ : List Event) → hand c h ≡ i ∷ [] → (reply ≡ Full → ⊥) → Numbered c (Call c i op reply) h h₁ number → hand c h₁ ≡ hand c h → GrowsWith c (Give c i) h₁ h₂ → hand c h₂ ≡ drop_one i (hand c h₁)
+    → Underway coupling c op s0 h → Done layout coupling n c op s0 h₂ reply number
+concluded layout n c i number op reply s0 h h₁ h₂ alone some called same gave hands under = let one : hand c h₁ ≡ i ∷ [] = same ∙ alone in let none_left : hand c h₂ ≡ [] = hands ∙ ap (drop_one i) one ∙ cond_here i i [] (i ∷ []) refl in
+    done_of layout coupling n c op s0 h₂ reply number
+    (decided_with layout coupling n c op reply number (Give c i) s0 h₁ h₂ tt gave tt (omega (arith, ap length none_left, two_may op))
+    (underway_call layout coupling n c i op reply number s0 h h₁ called.grows (omega (arith, ap length one, two_may op)) called.number (λ full. absurd (some full)) under))
+    none_left

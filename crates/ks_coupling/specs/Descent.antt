@@ -2,19 +2,15 @@
 use Rattle.std.specs.Prelude.{ℕ, ◌≡◌, List, [], ◌∷◌, true}
 use Rattle.ks_keysets.specs.Keyset.{InInset}
 use Rattle.ks_history.specs.declared.Event.{Event}
-use Rattle.ks_history.specs.declared.Op.TheVariants.{Get}
 use Rattle.ks_history.specs.Trace.{hand, graph_after}
-use Rattle.ks_history.specs.Done.{coupling}
-use Rattle.ks_history.specs.Underway.{Underway}
 use Rattle.ks_node.specs.Body.{Body}
 use Rattle.ks_arena.specs.declared.held.Held.{Held as Hand}
 use Rattle.ks_arena.specs.Sound.{Sort}
 use Rattle.ks_arena.specs.Clauses.{Matches}
 
--- c, whose Get of the place began at s0 and has made no Call, holds this live node alone, and the place is in its inset
-pub record IsOnWay {N : Type 0} (sort : Sort) (shows : N → Body) (c place : ℕ) (s0 h : List Event) (x : Hand N) : Type 0 where
+-- after h, c, which searches for the place, holds this live node alone, and the place is in its inset
+pub record IsOnWay {N : Type 0} (sort : Sort) (shows : N → Body) (c place : ℕ) (h : List Event) (x : Hand N) : Type 0 where
   pub alone : hand c h ≡ x.node ∷ []
   pub live : x.live ≡ true
   pub matches : Matches sort shows h x
   pub inside : InInset (graph_after h) x.node place
-  pub under : Underway coupling c (Get place) s0 h

@@ -1,11 +1,14 @@
 //! The way from the root to the node where a search ends.
 ghost use Rattle.std.specs.Prelude.{◌≡◌, List, []};
 ghost use Rattle.ks_flow.specs.Discipline.{BeginsTree, TreeStep};
-ghost use Rattle.ks_node.specs.declared.start.Next.TheVariants.{Go};
+ghost use Rattle.ks_history.specs.declared.Event.{Event as Happening};
+ghost use Rattle.ks_history.specs.declared.Op.{Op as Operation};
+ghost use Rattle.ks_history.specs.Done.{coupling};
+ghost use Rattle.ks_history.specs.Underway.{Underway};
+ghost use Rattle.ks_node.specs.declared.start.Next.TheVariants.{Go, Here};
 ghost use Rattle.ks_node.specs.Body.{next_at};
 ghost use Rattle.ks_arena.specs.Sound.{sort_of};
 ghost use Rattle.ks_arena.specs.Clauses.{IsPass, hand_of, seen_of};
-ghost use Rattle.ks_history.specs.declared.Event.{Event as Happening};
 ghost use Rattle.ks_coupling.specs.Descent.{IsOnWay};
 
 use ks_arena::laws::{root_stays_law, sound_law, target_law};
@@ -13,11 +16,11 @@ use ks_arena::{Arena, Held, Pass, root_law};
 use ks_flow::Tree;
 use ks_flow::laws::tree_facts_law;
 use ks_gate::{Gate, Point};
-use ks_node::{Unlinked, node_law};
+use ks_node::{Next, Unlinked, node_law};
 use std::sync::Wait;
 
 /// Takes the root.
-pub(crate) fn enter<N: Unlinked, R: Wait, G: Gate>(
+fn enter<N: Unlinked, R: Wait, G: Gate>(
     rt: &R,
     arena: &Arena<N, Tree>,
     pass: &mut Pass<N, Tree>,
@@ -27,7 +30,8 @@ pub(crate) fn enter<N: Unlinked, R: Wait, G: Gate>(
     requires pass { IsPass (sort_of N.layout N.ranged) BeginsTree TreeStep arena.now.table.shared.table_id arena.now.callers pass.old × (hand_of pass.old ≡ []) }
     ensures pass { IsPass (sort_of N.layout N.ranged) BeginsTree TreeStep arena.now.table.shared.table_id arena.now.callers pass.new }
     ensures caller { pass.new.caller ≡ pass.old.caller }
-    ensures way { IsOnWay (sort_of N.layout N.ranged) N.body pass.old.caller place (seen_of pass.old) (seen_of pass.new) result }
+    ensures way { IsOnWay (sort_of N.layout N.ranged) N.body pass.old.caller place (seen_of pass.new) result }
+    ensures under { (op : Operation) → Underway coupling pass.old.caller op (seen_of pass.old) (seen_of pass.new) }
 {
     root_stays_law::<Tree>();
     gate.at(pass.caller(), Point::Begin);
@@ -40,7 +44,7 @@ pub(crate) fn enter<N: Unlinked, R: Wait, G: Gate>(
 }
 
 /// Takes the child to which the search goes on, and gives the node.
-pub(crate) fn go_on<N: Unlinked, R: Wait, G: Gate>(
+fn go_on<N: Unlinked, R: Wait, G: Gate>(
     rt: &R,
     arena: &Arena<N, Tree>,
     pass: &mut Pass<N, Tree>,
@@ -50,11 +54,12 @@ pub(crate) fn go_on<N: Unlinked, R: Wait, G: Gate>(
     child: u32,
 ) -> Held<N>
     requires pass { IsPass (sort_of N.layout N.ranged) BeginsTree TreeStep arena.now.table.shared.table_id arena.now.callers pass.old }
-    requires way { (start : List Happening) × IsOnWay (sort_of N.layout N.ranged) N.body pass.old.caller place start (seen_of pass.old) held }
+    requires way { IsOnWay (sort_of N.layout N.ranged) N.body pass.old.caller place (seen_of pass.old) held }
     requires goes { next_at (N.body held.body) place ≡ Go child }
     ensures pass { IsPass (sort_of N.layout N.ranged) BeginsTree TreeStep arena.now.table.shared.table_id arena.now.callers pass.new }
     ensures caller { pass.new.caller ≡ pass.old.caller }
-    ensures way { (start : List Happening) → IsOnWay (sort_of N.layout N.ranged) N.body pass.old.caller place start (seen_of pass.old) held → IsOnWay (sort_of N.layout N.ranged) N.body pass.old.caller place start (seen_of pass.new) result }
+    ensures way { IsOnWay (sort_of N.layout N.ranged) N.body pass.old.caller place (seen_of pass.new) result }
+    ensures under { (op : Operation) (start : List Happening) → Underway coupling pass.old.caller op start (seen_of pass.old) → Underway coupling pass.old.caller op start (seen_of pass.new) }
 {
     sound_law::<Tree>();
     target_law::<Tree>();
@@ -68,4 +73,29 @@ pub(crate) fn go_on<N: Unlinked, R: Wait, G: Gate>(
     arena.give(pass, held);
     gate.at(pass.caller(), Point::Given(node));
     below
+}
+
+/// Takes the node at which the search for a place ends, and holds it alone.
+pub(crate) fn find<N: Unlinked, R: Wait, G: Gate>(
+    rt: &R,
+    arena: &Arena<N, Tree>,
+    pass: &mut Pass<N, Tree>,
+    gate: &G,
+    place: u64,
+) -> Held<N>
+    requires pass { IsPass (sort_of N.layout N.ranged) BeginsTree TreeStep arena.now.table.shared.table_id arena.now.callers pass.old × (hand_of pass.old ≡ []) }
+    ensures pass { IsPass (sort_of N.layout N.ranged) BeginsTree TreeStep arena.now.table.shared.table_id arena.now.callers pass.new }
+    ensures caller { pass.new.caller ≡ pass.old.caller }
+    ensures way { IsOnWay (sort_of N.layout N.ranged) N.body pass.old.caller place (seen_of pass.new) result }
+    ensures ends { next_at (N.body result.body) place ≡ Here }
+    ensures under { (op : Operation) → Underway coupling pass.old.caller op (seen_of pass.old) (seen_of pass.new) }
+{
+    let mut held = enter(rt, arena, pass, gate, place);
+    for _ in rt.forever() {
+        match held.body.next(place) {
+            Next::Here => return held,
+            Next::Go(child) => held = go_on(rt, arena, pass, gate, place, held, child),
+        }
+    }
+    unreachable!()
 }

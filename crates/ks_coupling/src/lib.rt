@@ -5,7 +5,7 @@
 //! not hold.
 #![tactic(auto)]
 
+mod calls;
 mod descent;
-mod lookup;
 
-pub use lookup::get;
+pub use calls::{del, get};
