@@ -1,13 +1,12 @@
 -- When a call may be decided at a node in hand.
-use Rattle.std.proofs.Common.{◌≡◌, ◌≢◌, ℕ, ◌≤◌, ◌<◌, Bool, true, false, List, sym, refl, ap, ◌∙◌, subst, inl, arith}
+use Rattle.std.proofs.Common.{◌≡◌, ℕ, ◌≤◌, Bool, true, false, List, sym, refl, ap, ◌∙◌, subst, inl}
 use Rattle.std.specs.Prelude.{Option, Some, None}
 use Rattle.ks_keysets.specs.declared.NodeState.{NodeState}
 use Rattle.ks_keysets.specs.declared.NodeState.TheVariants.{Live}
 use Rattle.ks_keysets.specs.declared.Frame.{Frame}
 use Rattle.ks_keysets.specs.declared.Record.{Record}
 use Rattle.ks_keysets.specs.Record.{LeadsOn, top}
-use Rattle.ks_keysets.specs.Keyset.{live_record, value_in, value_at as found_at, InInset, InKeyset, InOutset, at_root}
-use Rattle.ks_history.specs.declared.Op.{Op}
+use Rattle.ks_keysets.specs.Keyset.{live_record, value_in, value_at as found_at, InInset, InKeyset, at_root}
 use Rattle.ks_history.specs.declared.Op.TheVariants.{Get, Put, Del}
 use Rattle.ks_history.specs.declared.Reply.{Reply}
 use Rattle.ks_history.specs.declared.Event.{Event}

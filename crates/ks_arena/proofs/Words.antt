@@ -2,16 +2,11 @@
 use Rattle.std.proofs.Common.{◌≡◌, ◌≢◌, ℕ, ◌+◌, ◌-◌, ◌<◌, List, [], ◌∷◌, ◌++◌, refl, sym, ap, ◌∙◌, subst, arith}
 use mathlib.Core.Logic.{dite}
 use native.Mathlib.Decide.{ℕ_discrete}
-use Rattle.ks_keysets.specs.declared.Frame.{Frame}
-use Rattle.ks_keysets.specs.declared.NodeState.{NodeState}
-use Rattle.ks_keysets.specs.declared.Change.{Change}
 use Rattle.ks_history.specs.declared.Event.{Event}
-use Rattle.ks_history.specs.declared.Event.TheVariants.{Take, Give, Claim, Shape, Call}
 use Rattle.ks_history.specs.Trace.{◌⊑◌, Turn, free, idle, held, turn_after, caller_of}
-use Rattle.ks_history.specs.Stays.{IsInTurn, AreInTurn, cond_here, cond_else, other_turn}
+use Rattle.ks_history.specs.Stays.{cond_here, cond_else, other_turn}
 use Rattle.ks_history.specs.Passes.{CallersBelow}
 use Rattle.ks_history.specs.Alone.{AllBy, ActsAlone, HoldsAlone}
-use Rattle.ks_arena.specs.Sound.{Sort, Sound, StepsSoundly}
 use Rattle.ks_arena.specs.Rule.{turn_word}
 
 pub word_idle : (t : Turn) → turn_word t ≡ 1 → t ≡ idle

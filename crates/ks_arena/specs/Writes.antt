@@ -1,14 +1,20 @@
--- What a put and a del make of ascending pairs is what their calls write.
-use Rattle.std.specs.Prelude.{◌≡◌, ℕ, suc, ◌<◌, ◌==◌, Bool, true, false, cond, is_some, nat_lt, List, [], ◌∷◌, All, Option, Some, None, refl}
+-- What a put and a del make of ascending pairs is what their calls write, and of where a search ends: no branch.
+use Rattle.std.specs.Prelude.{◌≡◌, ℕ, suc, ◌<◌, ◌≤◌, ◌==◌, Bool, true, false, cond, is_some, nat_lt, List, [], ◌∷◌, All, None, refl}
 use Rattle.std.proofs.Common.{arith, ap, ◌∙◌, sym, inl, inr}
 use Rattle.std.proofs.lemmas.Bool.{lt-ltb, le-ltb}
 use Rattle.std.proofs.lemmas.Bool.Decides.{leb_tells, eqb_tells}
 use Rattle.ks_keysets.specs.declared.Pair.{Pair}
 use Rattle.ks_keysets.specs.Record.{first_value}
 use Rattle.ks_history.specs.Write.{pairs_set, pairs_without, with_new, with_value}
+use Rattle.ks_node.specs.declared.start.Start.{Start}
+use Rattle.ks_node.specs.declared.start.Next.TheVariants.{Here}
+use Rattle.ks_node.specs.Asks.{IsBelowOwn}
+use Rattle.ks_node.specs.Body.{Body, content_of, first_of, is_branch, last_of, next_at}
 use Rattle.ks_node.specs.Keyed.{Ascends}
 use Rattle.ks_node.specs.Ascend.{asc_head, asc_tail}
 use Rattle.ks_node.specs.Effect.{pairs_put, pairs_del}
+use Rattle.ks_node.specs.Sound.{Sound, starts_at_zero}
+use Rattle.ks_node.specs.Ways.{below_own}
 use Rattle.ks_node.specs.Puts.{put_here, put_before, put_after, del_here, del_before, del_after}
 
 differs : (p : ℕ) (x : Pair) → x.place < p → (x.place == p) ≡ false
@@ -69,3 +75,24 @@ del_removes p (x ∷ xs) up = elim (eqb_tells x.place p) [
     | inr ge ↦ rw n.0 (ap (λ ys. x ∷ ys) (del_removes p xs (asc_tail (λ x. x.place) x xs up)) ∙ sym (del_after p 0 x xs (omega (arith, n.1, ge.1))))
   ]
 ]
+
+-- a search that ends at a place of the range
+
+-- edges that cover all places carry each of them
+covered : (p : ℕ) (ss : List Start) → starts_at_zero ss ≡ true → All (λ s. p < s.low) ss → ⊥
+covered p [] z above = cc
+covered p (s ∷ ss) z above = elim (eqb_tells s.low 0) [
+  | inl e ↦ (let low : p < s.low = above 0 s (omega arith) in absurd (omega (arith, low, e.1)))
+  | inr n ↦ (let w : false ≡ true = sym n.0 ∙ z in cc)
+]
+
+module _ (b : Body) (p : ℕ) (sound : Sound (content_of b)) (first : first_of b.range ≤ p) (last : p ≤ last_of b.range) (here : next_at b p ≡ Here) where
+  pub ends_below_own : IsBelowOwn b p
+  ends_below_own = below_own b p sound first last here
+
+  pub ends_at_no_branch : is_branch b ≡ false
+  ends_at_no_branch = go (is_branch b) refl
+    where
+      go : (k : Bool) → is_branch b ≡ k → is_branch b ≡ false
+      go false e = e
+      go true e = absurd (covered p b.starts (sound.branch_covers e) ends_below_own)

@@ -1,15 +1,14 @@
 -- How a search goes on its way.
-use Rattle.std.proofs.Common.{◌≡◌, ◌≢◌, ℕ, zero, suc, ◌+◌, ◌<◌, ◌≤◌, ◌==◌, eq-eqb, Bool, true, false, cond, eqb, List, [], ◌∷◌, ◌++◌, length, get_or, sym, refl, ap, ◌∙◌, subst, inl, inr, ⊎_elim, arith}
-use Rattle.std.specs.Prelude.{Option, Some, None, Any, All}
+use Rattle.std.proofs.Common.{◌≡◌, ◌≢◌, ℕ, zero, suc, ◌<◌, ◌≤◌, ◌==◌, eq-eqb, Bool, true, false, List, [], ◌∷◌, ◌++◌, length, get_or, sym, refl, ap, ◌∙◌, subst, inl, inr, ⊎_elim, arith}
+use Rattle.std.specs.Prelude.{Option, Some, None}
 use Rattle.std.proofs.Math.Path.{fun_ext}
 use Rattle.std.proofs.lemmas.Bool.{cases_lt}
-use Rattle.std.proofs.lemmas.Bool.Decides.{eqb_tells}
 use mathlib.Core.Logic.{dite}
 use native.Mathlib.Decide.{ℕ_discrete}
 use Rattle.ks_keysets.specs.declared.Edge.{Edge}
 use Rattle.ks_keysets.specs.declared.Frame.{Frame}
 use Rattle.ks_keysets.specs.declared.NodeState.{NodeState}
-use Rattle.ks_keysets.specs.declared.NodeState.TheVariants.{Free, Claimed, Live}
+use Rattle.ks_keysets.specs.declared.NodeState.TheVariants.{Live}
 use Rattle.ks_keysets.specs.declared.Record.{Record}
 use Rattle.ks_keysets.specs.declared.Span.{Span}
 use Rattle.ks_keysets.specs.Record.{LeadsTo, top}
@@ -20,25 +19,23 @@ use Rattle.ks_history.specs.declared.Op.{Op}
 use Rattle.ks_history.specs.declared.Op.TheVariants.{Get, Put, Del, Add, Swap}
 use Rattle.ks_history.specs.declared.Reply.{Reply}
 use Rattle.ks_history.specs.declared.Reply.TheVariants.{Full}
-use Rattle.ks_history.specs.Trace.{hand, drop_one, held, given, graph_after, turn_after, frame_after, number_after}
-use Rattle.ks_history.specs.Passes.{Has, GrowsByOthers, GrowsWith}
+use Rattle.ks_history.specs.Trace.{hand, drop_one, held, given, graph_after, turn_after, frame_after}
+use Rattle.ks_history.specs.Passes.{GrowsByOthers, GrowsWith}
 use Rattle.ks_history.specs.Stays.{AreInTurn, StaysHeld, cond_here, cond_else}
-use Rattle.ks_history.specs.Begins.{by_others_hand, by_others_keeps, with_others, take_hand, give_hand}
+use Rattle.ks_history.specs.Begins.{by_others_hand, by_others_keeps, with_others}
 use Rattle.ks_history.specs.Done.{coupling, most_held, Done}
-use Rattle.ks_history.specs.Underway.{Underway, Decided, underway_first, underway_with, underway_call, decided_with, done_of, may_take_later}
+use Rattle.ks_history.specs.Underway.{Underway, underway_first, underway_with, underway_call, decided_with, done_of, may_take_later}
 use Rattle.ks_keysets.specs.Layout.{Layout}
 use Rattle.ks_flow.specs.Tree.{Tree, edges_to}
 use Rattle.ks_flow.specs.Discipline.{BeginsTree, TreeStep, SameInset}
-use Rattle.ks_node.specs.declared.start.Start.{Start}
 use Rattle.ks_node.specs.declared.start.Next.TheVariants.{Here}
-use Rattle.ks_node.specs.Asks.{IsBelowOwn}
 use Rattle.ks_node.specs.Body.{Body, content_of, first_of, frame_of, is_branch, last_of, next_at}
-use Rattle.ks_node.specs.Sound.{Sound as InOrder, starts_at_zero}
-use Rattle.ks_node.specs.Ways.{below_own}
+use Rattle.ks_node.specs.Sound.{Sound as InOrder}
 use Rattle.ks_node.specs.Edges.{record_of}
 use Rattle.ks_arena.specs.declared.held.Held.{Held as Hand}
 use Rattle.ks_arena.specs.Sound.{Sort, blank_of, Sound}
 use Rattle.ks_arena.specs.Beyond.{free_beyond}
+use Rattle.ks_arena.specs.Writes.{ends_at_no_branch}
 use Rattle.ks_arena.specs.Clauses.{Matches, MatchesIf, HasTaken, Numbered}
 use Rattle.ks_coupling.specs.Descent.{IsOnWay}
 
@@ -60,14 +57,6 @@ is_near sort begins asks nodes h i some so live = ⊎_elim (λ (x : i < nodes). 
 
 two_held : (i j : ℕ) → i ≢ j → drop_one j (i ∷ j ∷ []) ≡ i ∷ []
 two_held i j ne = cond_else i j (j ∷ []) (i ∷ drop_one j (j ∷ [])) ne ∙ ap (λ (z : List ℕ). i ∷ z) (cond_here j j [] (j ∷ []) refl)
-
--- edges that cover all places carry each of them
-covered : (p : ℕ) (ss : List Start) → starts_at_zero ss ≡ true → All (λ s. p < s.low) ss → ⊥
-covered p [] z above = cc
-covered p (s ∷ ss) z above = elim (eqb_tells s.low 0) [
-  | inl e ↦ (let low : p < s.low = above 0 s (omega arith) in absurd (omega (arith, low, e.1)))
-  | inr n ↦ (let w : false ≡ true = sym n.0 ∙ z in cc)
-]
 
 -- a call may hold two nodes
 two_may : (op : Op) → 2 ≤ most_held coupling op
@@ -106,15 +95,8 @@ module _ {N : Type 0} (sort : Sort) (shows : N → Body) where
     held_in None e = (omega arith, omega (arith, place))
     held_in (Some r) e = (facts.range x.node r (record_of (shows x.body), record_is h x way.live way.matches) e).forth p way.inside
 
-    pub ends_below_own : IsBelowOwn (shows x.body) p
-    ends_below_own = let b : Body = shows x.body in let is = live_if x.live (graph_after h x.node) (frame_after (blank_of sort) h x.node) x.body way.live way.matches.is in let at = held_in b.range (ap (λ (f : Frame). f.range) is.1) in below_own b p order at.0 at.1 here
-
-    pub ends_at_no_branch : is_branch (shows x.body) ≡ false
-    ends_at_no_branch = go (is_branch (shows x.body)) refl
-      where
-        go : (k : Bool) → is_branch (shows x.body) ≡ k → is_branch (shows x.body) ≡ false
-        go false e = e
-        go true e = absurd (covered p (shows x.body).starts (order.branch_covers e) ends_below_own)
+    pub ends_unbranched : is_branch (shows x.body) ≡ false
+    ends_unbranched = let b : Body = shows x.body in let is = live_if x.live (graph_after h x.node) (frame_after (blank_of sort) h x.node) x.body way.live way.matches.is in let at = held_in b.range (ap (λ (f : Frame). f.range) is.1) in ends_at_no_branch b p order at.0 at.1 here
 
   -- the child to which a search goes on is taken, and then the node is given
   module _ (n c p i : ℕ) (h h₁ h₂ : List Event) (x y : Hand N) (r : Record)
@@ -148,8 +130,8 @@ module _ {N : Type 0} (sort : Sort) (shows : N → Body) where
         let kept = by_others_keeps c i h₁ later grow (turns later all.0) child in let node = by_others_keeps c x.node h₁ later grow (turns later all.0) holds in
         let state : graph_after later x.node ≡ Live (record_of (shows x.body)) = node.state ∙ (live_if x.live (graph_after h₁ x.node) (frame_after (blank_of sort) h₁ x.node) x.body live matches.is).0 in
         let same : graph_after (Give c x.node ∷ later) ≡ graph_after later = fun_ext (λ j. dite (ℕ_discrete j x.node)
-            (λ e. cond_here j x.node (given (graph_after later x.node)) (graph_after later j) e ∙ ap given state ∙ sym state ∙ ap (graph_after later) (sym e))
-            (λ ne. cond_else j x.node (given (graph_after later x.node)) (graph_after later j) ne)) in
+        (λ e. cond_here j x.node (given (graph_after later x.node)) (graph_after later j) e ∙ ap given state ∙ sym state ∙ ap (graph_after later) (sym e))
+        (λ ne. cond_else j x.node (given (graph_after later x.node)) (graph_after later j) ne)) in
         subst (λ (z : List Event). InInset (graph_after z) i p) (sym gave.is) (subst (λ (z : ℕ → NodeState). InInset z i p) (sym same) ((beside i h₁ later grow kept.turn all.0).forth p inside))
 
     both : hand c h₁ ≡ i ∷ x.node ∷ []

@@ -1,6 +1,6 @@
 -- How what a caller holds stands in the graph, at what its pass has seen and whatever others do next.
-use Rattle.std.proofs.Common.{◌≡◌, ℕ, Bool, List, [], ◌∷◌, sym, refl, ap, ◌∙◌, subst, true, false}
-use Rattle.std.specs.Prelude.{Some, None, IsTrue}
+use Rattle.std.proofs.Common.{◌≡◌, ℕ, Bool, List, ap, ◌∙◌, subst, true, false}
+use Rattle.std.specs.Prelude.{None, IsTrue}
 use Rattle.std.specs.Option.{ForSome}
 use Rattle.ks_keysets.specs.declared.Frame.{Frame}
 use Rattle.ks_keysets.specs.declared.NodeState.{NodeState}
@@ -25,7 +25,7 @@ use Rattle.ks_bodies.specs.Stands.{IsPlain, Stands, live_as}
 use Rattle.ks_arena.specs.declared.held.Held.{Held as Hand}
 use Rattle.ks_arena.specs.Sound.{Sort, blank_of, Sound}
 use Rattle.ks_shape.specs.InHand.{IsLive, IsFree}
-use Rattle.ks_arena.specs.Clauses.{Matches, MatchesIf, new_state_of, change_of}
+use Rattle.ks_arena.specs.Clauses.{MatchesIf, new_state_of, change_of}
 
 pub plain : (b : Body) → InOrder (content_of b) → ForSome b.range (λ r. Framed r b) → b.link ≡ None → IsPlain b
 plain b sound framed no_link = record { sound = sound; framed = framed; no_link = no_link }

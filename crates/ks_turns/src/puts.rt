@@ -10,7 +10,7 @@ ghost use Rattle.ks_arena.specs.Clauses.{IsPass, hand_of, mine_of, seen_of};
 ghost use Rattle.ks_turns.specs.Puts.{put_events, put_calls, IsPutDue, calls_from};
 
 use ks_arena::laws::root_stays_law;
-use ks_arena::{Arena, Pass};
+use ks_arena::{Arena, Pass, root_law};
 use ks_flow::{Discipline, Tree};
 use ks_history::{Op, Reply};
 use ks_list::ListNode;
@@ -60,6 +60,7 @@ pub fn put_at_root<N: Node, D: Discipline, R: Wait>(
         unreachable!()
     };
     node_law(&held.body);
+    root_law(&held, place);
     if let Next::Go(_) = held.body.next(place) {
         arena.give(pass, held);
         return PutOutcome::Elsewhere;
@@ -69,6 +70,7 @@ pub fn put_at_root<N: Node, D: Discipline, R: Wait>(
         arena.give(pass, held);
         return PutOutcome::NoRoom;
     }
+    arena.put_law(pass, &held, place, value);
     held.body.put(place, value);
     let number = arena.decide(pass, &held, Op::Put(place, value), reply_of(old));
     arena.give(pass, held);

@@ -1,4 +1,4 @@
-use Rattle.std.proofs.Common.{rules, arith}
+use Rattle.std.proofs.Common.{arith}
 use Rattle.ks_arena.specs.Sound.{sort_of}
 use Rattle.ks_arena.proofs.Calling.{root_inset}
 use Rattle.ks_arena.proofs.calls.root_law.Goals as goal

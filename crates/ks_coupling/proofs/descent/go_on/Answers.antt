@@ -1,10 +1,8 @@
-use Rattle.std.proofs.Common.{rules, ◌≡◌, ◌≢◌, ℕ, ◌<◌, List, [], ◌∷◌, arith, sym, refl, ap, ◌∙◌, subst, inl, inr, ⊎_elim}
+use Rattle.std.proofs.Common.{◌≡◌, ◌≢◌, ℕ, ◌<◌, List, arith, sym, refl, ap, ◌∙◌, subst, inl, ⊎_elim}
 use Rattle.ks_keysets.specs.declared.Record.{Record}
 use Rattle.ks_keysets.specs.Record.{LeadsTo}
 use Rattle.ks_history.specs.declared.Event.{Event}
-use Rattle.ks_history.specs.declared.Event.TheVariants.{Take, Give, Call}
-use Rattle.ks_history.specs.declared.Op.TheVariants.{Get}
-use Rattle.ks_history.specs.Map.{told}
+use Rattle.ks_history.specs.declared.Event.TheVariants.{Give}
 use Rattle.ks_history.specs.Trace.{held, hand, drop_one, turn_after, graph_after, frame_after}
 use Rattle.ks_history.specs.Passes.{Has, GrowsWith}
 use Rattle.ks_history.specs.Stays.{lawful_in_turn}
@@ -14,7 +12,7 @@ use Rattle.ks_flow.specs.Discipline.{BeginsTree, TreeStep}
 use Rattle.ks_node.specs.Edges.{record_of}
 use Rattle.ks_node.specs.Ways.{next_leads}
 use Rattle.ks_arena.specs.Sound.{sort_of, blank_of, Sound}
-use Rattle.ks_arena.specs.Clauses.{seen_of, hand_of, HasTaken}
+use Rattle.ks_arena.specs.Clauses.{seen_of}
 use Rattle.ks_coupling.proofs.Ways.{counted, led_live, is_near, record_is, goes_on, goes_under}
 use Rattle.ks_coupling.proofs.descent.go_on.Given.{Over}
 use Rattle.ks_coupling.proofs.descent.go_on.Goals as goal
@@ -55,13 +53,13 @@ returns-clause-way g c = let at = (goal.at.returns-clause-way g c).After-node_la
     let law = c.sound_law.ensures in let turns = λ (k : List Event) (so : Sound sort BeginsTree TreeStep n k). lawful_in_turn k (law.lawful sort n k so) in let took = c.in-Some.ensures.took in let e = c.in-Some.ensures in let way = c.requires.way in
     let mine₀ = mine g at in let hand₁ = is_hand h₁ me (turns h₁ e.pass.sound) in let child = hand₁.held c.args.child (subst (λ (z : List ℕ). Has z c.args.child) (sym took.hand) (inl refl)) in
     goes_on sort g.N.Node.body n me c.args.place c.args.child h h₁ h₂ c.args.held c.in-Some.below (record_of (g.N.Node.body c.args.held.body)) (λ k so. good_now (law.good sort n k so)) turns (λ j k k' grows holds so. law.beside sort n me j k k' grows holds so)
-        e.pass.sound c.give.ensures.pass.sound mine₀ (record_is sort g.N.Node.body h c.args.held way.live way.matches) (leads g at) (apart g at) took (gave_of g after) way (hands_of g after)
-        (e.still c.args.held (subst (λ (z : List ℕ). Has z c.args.held.node) (sym way.alone) (inl refl)) way.matches)
-        (c.give.ensures.still c.in-Some.below (λ same. apart g at (sym same ∙ took.node)) (subst (λ (z : List ℕ). Has z c.in-Some.below.node) (sym (ap (λ (z : ℕ). hand z h₁) e.caller ∙ took.hand)) (inl (sym took.node))) took.matches)
-        (e.kept c.args.held.node mine₀).turn child
+    e.pass.sound c.give.ensures.pass.sound mine₀ (record_is sort g.N.Node.body h c.args.held way.live way.matches) (leads g at) (apart g at) took (gave_of g after) way (hands_of g after)
+    (e.still c.args.held (subst (λ (z : List ℕ). Has z c.args.held.node) (sym way.alone) (inl refl)) way.matches)
+    (c.give.ensures.still c.in-Some.below (λ same. apart g at (sym same ∙ took.node)) (subst (λ (z : List ℕ). Has z c.in-Some.below.node) (sym (ap (λ (z : ℕ). hand z h₁) e.caller ∙ took.hand)) (inl (sym took.node))) took.matches)
+    (e.kept c.args.held.node mine₀).turn child
 
 pub returns-clause-under : goal.returns-clause-under
 returns-clause-under g c = λ op start under. let at = (goal.at.returns-clause-under g c).After-node_law in let after = (goal.at.returns-clause-under g c).After-give in let sort = sort_of g.N.Node.layout g.N.Node.ranged in let n : ℕ = c.args.arena.now.table.shared.table_id.slots in let me : ℕ = c.args.pass.now.caller in let h = seen_of c.args.pass.now in let h₁ = seen_of c.take.new.pass in let h₂ = seen_of c.give.new.pass in
     let law = c.sound_law.ensures in let turns = λ (k : List Event) (so : Sound sort BeginsTree TreeStep n k). lawful_in_turn k (law.lawful sort n k so) in let e = c.in-Some.ensures in let way = c.requires.way in
     goes_under sort g.N.Node.body n me c.args.place c.args.child h h₁ h₂ c.args.held c.in-Some.below (record_of (g.N.Node.body c.args.held.body)) (λ k so. good_now (law.good sort n k so)) turns (λ j k k' grows holds so. law.beside sort n me j k k' grows holds so)
-        e.pass.sound c.give.ensures.pass.sound (mine g at) (record_is sort g.N.Node.body h c.args.held way.live way.matches) (leads g at) (apart g at) e.took (gave_of g after) way (hands_of g after) op start under
+    e.pass.sound c.give.ensures.pass.sound (mine g at) (record_is sort g.N.Node.body h c.args.held way.live way.matches) (leads g at) (apart g at) e.took (gave_of g after) way (hands_of g after) op start under

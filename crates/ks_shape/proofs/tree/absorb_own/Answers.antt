@@ -1,24 +1,19 @@
-use Rattle.std.proofs.Common.{rules, ◌≡◌, ◌<◌, ℕ, List, [], ◌∷◌, arith, sym, refl, ap, ◌∙◌, subst, true, false}
-use Rattle.std.specs.Prelude.{All, is_some, None}
-use Rattle.ks_keysets.specs.declared.Change.{Change}
+use Rattle.std.proofs.Common.{◌≡◌, ℕ, List, [], ◌∷◌, arith, sym, ◌∙◌, subst}
 use Rattle.ks_keysets.specs.declared.NodeState.{NodeState}
 use Rattle.ks_keysets.specs.declared.NewState.TheVariants.{BecomesFree}
 use Rattle.ks_keysets.specs.declared.Frame.{Frame}
-use Rattle.ks_keysets.specs.declared.Pair.{Pair}
-use Rattle.ks_keysets.specs.Keyset.{record_at}
 use Rattle.ks_history.specs.declared.Event.{Event}
 use Rattle.ks_history.specs.Trace.{graph_after, frame_after}
 use Rattle.ks_history.specs.Passes.{GrowsByOthers}
 use Rattle.ks_history.specs.Begins.{good_now, by_others_none}
 use Rattle.ks_node.specs.Body.{Body}
-use Rattle.ks_node.specs.Effect.{split_left, split_right, reached, adopted, grown, absorbed, forgot, collapsed}
+use Rattle.ks_node.specs.Effect.{absorbed}
 use Rattle.ks_flow.specs.Discipline.{BeginsTree, TreeStep}
-use Rattle.ks_bodies.specs.Shapes.{CanPart, CanAdopt, CanAbsorbOwn, CanAbsorbUnder, CanCollapse, split_on}
-use Rattle.ks_bodies.specs.Stands.{IsPlain, Stands}
-use Rattle.ks_arena.specs.declared.held.Held.{Held}
+use Rattle.ks_bodies.specs.Shapes.{CanAbsorbOwn}
+use Rattle.ks_bodies.specs.Stands.{IsPlain}
 use Rattle.ks_arena.specs.Sound.{sort_of, blank_of, Sound}
 use Rattle.ks_arena.specs.Clauses.{seen_of, hand_of}
-use Rattle.ks_shape.proofs.Standing.{plain, stands, no_record, stays, no_directory, changed_to}
+use Rattle.ks_shape.proofs.Standing.{plain, stands, stays, changed_to}
 use Rattle.ks_shape.proofs.tree.absorb_own.Given.{Over}
 use Rattle.ks_shape.proofs.tree.absorb_own.Goals as goal
 use Rattle.ks_shape.proofs.tree.absorb_own.Goals.{After-node_law-2}

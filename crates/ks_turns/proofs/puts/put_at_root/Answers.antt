@@ -1,5 +1,10 @@
-use Rattle.std.proofs.Common.{arith, sym, refl, ◌∙◌}
-use Rattle.ks_turns.proofs.Root.{no_range, ends_at_no_branch, ends_below_own, put_ready, no_calls, one_call, no_room, elsewhere}
+use Rattle.std.proofs.Common.{arith, sym, refl, ap, subst, ◌∙◌}
+use Rattle.ks_history.specs.declared.Op.TheVariants.{Put}
+use Rattle.ks_history.specs.Map.{told}
+use Rattle.ks_arena.specs.declared.held.Held.{Held as Hand}
+use Rattle.ks_arena.specs.Sound.{sort_of}
+use Rattle.ks_arena.specs.Clauses.{IsReady, seen_of}
+use Rattle.ks_turns.proofs.Root.{no_range, ends_at_no_branch, ends_below_own, no_calls, one_call, no_room, elsewhere}
 use Rattle.ks_turns.proofs.puts.put_at_root.Goals as goal
 
 pub returns-in-Go-clause-calls : goal.returns-in-Go-clause-calls
@@ -23,8 +28,9 @@ pub put-requires-clause-below_own : goal.put-requires-clause-below_own
 put-requires-clause-below_own g c = ends_below_own (g.N.Node.body c.in-Some.held.body) c.args.place c.node_law.ensures.sound (no_range c.node_law.ensures.has_range c.requires.unranged) (omega (arith, c.ranges.place)) (sym c.next.ensures ∙ c.in_default-next.is)
 
 pub decide-number-requires-clause-ready : goal.decide-number-requires-clause-ready
-decide-number-requires-clause-ready g c κs within = put_ready c.in-Some.ensures.took c.take.ensures.caller c.reply_of.ensures
-    (record { order = c.node_law.ensures.sound; place = omega (arith, c.ranges.place); here = sym c.next.ensures ∙ c.in_default-next.is }) c.get-old.ensures refl refl c.put.ensures.body
+decide-number-requires-clause-ready g c κs within = let x : Hand g.row.N.Denot = record { node = c.in-Some.held.node; body = c.put.new.self; live = c.in-Some.held.live } in
+    subst (IsReady (sort_of g.N.Node.layout g.N.Node.ranged) g.N.Node.body c.args.arena.now.nodes c.take.new.pass.caller (seen_of c.take.new.pass) x (Put c.args.place c.args.value)) (ap told (sym c.get-old.ensures) ∙ sym c.reply_of.ensures)
+    (c.put_law.ensures x refl c.in-Some.ensures.took.live c.put.ensures.body)
 
 pub returns-clause-calls : goal.returns-clause-calls
 returns-clause-calls g c = one_call c.get-old.result c.in-Some.ensures.took c.decide-number.ensures.decided c.give-2.ensures.gave c.take.ensures.caller c.decide-number.ensures.caller c.reply_of.ensures

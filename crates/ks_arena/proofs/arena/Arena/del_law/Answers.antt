@@ -1,4 +1,3 @@
-use Rattle.std.proofs.Common.{rules}
 use Rattle.ks_history.specs.Stays.{lawful_in_turn}
 use Rattle.ks_history.specs.Hand.{is_hand}
 use Rattle.ks_arena.specs.Sound.{sort_of}

@@ -1,4 +1,4 @@
-use Rattle.std.proofs.Common.{rules, refl}
+use Rattle.std.proofs.Common.{refl}
 use Rattle.ks_history.specs.Stays.{lawful_in_turn}
 use Rattle.ks_history.specs.Hand.{is_hand}
 use Rattle.ks_arena.specs.Sound.{sort_of}
