@@ -23,8 +23,8 @@ use Rattle.ks_history.specs.Trace.{hand, drop_one, held, given, graph_after, tur
 use Rattle.ks_history.specs.Passes.{GrowsByOthers, GrowsWith}
 use Rattle.ks_history.specs.Stays.{AreInTurn, StaysHeld, cond_here, cond_else}
 use Rattle.ks_history.specs.Begins.{by_others_hand, by_others_keeps, with_others}
-use Rattle.ks_history.specs.Done.{coupling, most_held, Done}
-use Rattle.ks_history.specs.Underway.{Underway, underway_first, underway_with, underway_call, decided_with, done_of, may_take_later}
+use Rattle.ks_history.specs.Done.{coupling, most_held}
+use Rattle.ks_history.specs.Underway.{Underway, underway_first, underway_with, may_take_later}
 use Rattle.ks_keysets.specs.Layout.{Layout}
 use Rattle.ks_flow.specs.Tree.{Tree, edges_to}
 use Rattle.ks_flow.specs.Discipline.{BeginsTree, TreeStep, SameInset}
@@ -151,12 +151,3 @@ module _ {N : Type 0} (sort : Sort) (shows : N → Body) where
     pub goes_under : (op : Op) (s0 : List Event) → Underway coupling c op s0 h → Underway coupling c op s0 h₂
     goes_under op s0 under = underway_with coupling c op (Give c x.node) s0 h₁ h₂ tt gave tt (omega (arith, ap length alone, two_may op))
         (underway_with coupling c op (Take c i) s0 h h₁ tt took.grows (λ same. may_take_later coupling c i h before grew (turns before sound_before) (inr record { above = x.node; node = r; holds = mine; is = is; leads = (to.0, to.1, to.2, to.3, to.4.1) })) (omega (arith, ap length both, two_may op)) under)
-
--- the call is decided at the node, which is then given
-pub concluded : (layout : Layout) (n c i number : ℕ) (op : Op) (reply : Reply) (s0 h h₁ h₂ : List Event) → hand c h ≡ i ∷ [] → (reply ≡ Full → ⊥) → Numbered c (Call c i op reply) h h₁ number → hand c h₁ ≡ hand c h → GrowsWith c (Give c i) h₁ h₂ → hand c h₂ ≡ drop_one i (hand c h₁)
-    → Underway coupling c op s0 h → Done layout coupling n c op s0 h₂ reply number
-concluded layout n c i number op reply s0 h h₁ h₂ alone some called same gave hands under = let one : hand c h₁ ≡ i ∷ [] = same ∙ alone in let none_left : hand c h₂ ≡ [] = hands ∙ ap (drop_one i) one ∙ cond_here i i [] (i ∷ []) refl in
-    done_of layout coupling n c op s0 h₂ reply number
-    (decided_with layout coupling n c op reply number (Give c i) s0 h₁ h₂ tt gave tt (omega (arith, ap length none_left, two_may op))
-    (underway_call layout coupling n c i op reply number s0 h h₁ called.grows (omega (arith, ap length one, two_may op)) called.number (λ full. absurd (some full)) under))
-    none_left

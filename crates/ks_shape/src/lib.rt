@@ -1,10 +1,13 @@
-//! The shapes of maintenance: each is some calls of nodes in hand, and then one Shape.
+//! The shapes of maintenance, each some calls of nodes in hand and then one Shape; and what the calls of all templates
+//! share: what they answer, and how they end.
 #![tactic(auto)]
 
 mod answers;
+mod ending;
 mod link;
 mod tree;
 
 pub use answers::Numbered;
+pub use ending::{conclude, reply_of};
 pub use link::{attach, grow_right, split_right};
 pub use tree::{absorb_own, absorb_under, collapse, grow, split_own, split_under};

@@ -1,0 +1,99 @@
+//! The way from the root, down and to the right, to the node where a search ends.
+ghost use Rattle.std.specs.Prelude.{◌≡◌, List, []};
+ghost use Rattle.ks_flow.specs.Discipline.{BeginsLink, LinkStep};
+ghost use Rattle.ks_history.specs.declared.Event.{Event as Happening};
+ghost use Rattle.ks_history.specs.declared.Op.{Op as Operation};
+ghost use Rattle.ks_history.specs.Done.{link_move};
+ghost use Rattle.ks_history.specs.Underway.{Underway};
+ghost use Rattle.ks_node.specs.declared.start.Next.TheVariants.{Go, Here};
+ghost use Rattle.ks_node.specs.Body.{next_at};
+ghost use Rattle.ks_arena.specs.Sound.{sort_of};
+ghost use Rattle.ks_arena.specs.Clauses.{IsPass, hand_of, seen_of};
+ghost use Rattle.ks_link.specs.Descent.{IsOnWay};
+
+use ks_arena::laws::{link_live_law, root_stays_law, sound_law};
+use ks_arena::{Arena, Held, Pass};
+use ks_flow::Link;
+use ks_gate::{Gate, Point};
+use ks_node::{Linked, Next, node_law};
+use std::sync::Wait;
+
+/// Takes the root.
+fn enter<N: Linked, R: Wait, G: Gate>(
+    rt: &R,
+    arena: &Arena<N, Link>,
+    pass: &mut Pass<N, Link>,
+    gate: &G,
+    place: u64,
+) -> Held<N>
+    requires pass { IsPass (sort_of N.layout N.ranged) BeginsLink LinkStep arena.now.table.shared.table_id arena.now.callers pass.old × (hand_of pass.old ≡ []) }
+    ensures pass { IsPass (sort_of N.layout N.ranged) BeginsLink LinkStep arena.now.table.shared.table_id arena.now.callers pass.new }
+    ensures caller { pass.new.caller ≡ pass.old.caller }
+    ensures way { IsOnWay (sort_of N.layout N.ranged) N.body pass.old.caller place (seen_of pass.new) result }
+    ensures under { (op : Operation) → Underway link_move pass.old.caller op (seen_of pass.old) (seen_of pass.new) }
+{
+    root_stays_law::<Link>();
+    sound_law::<Link>();
+    gate.at(pass.caller(), Point::Begin);
+    let Some(root) = arena.take(rt, pass, 0) else {
+        unreachable!()
+    };
+    gate.at(pass.caller(), Point::Taken(0));
+    root
+}
+
+/// Gives the node, and takes the one to which the search goes on: a child, or the node right of it.
+fn go_on<N: Linked, R: Wait, G: Gate>(
+    rt: &R,
+    arena: &Arena<N, Link>,
+    pass: &mut Pass<N, Link>,
+    gate: &G,
+    place: u64,
+    held: Held<N>,
+    next: u32,
+) -> Held<N>
+    requires pass { IsPass (sort_of N.layout N.ranged) BeginsLink LinkStep arena.now.table.shared.table_id arena.now.callers pass.old }
+    requires way { IsOnWay (sort_of N.layout N.ranged) N.body pass.old.caller place (seen_of pass.old) held }
+    requires goes { next_at (N.body held.body) place ≡ Go next }
+    ensures pass { IsPass (sort_of N.layout N.ranged) BeginsLink LinkStep arena.now.table.shared.table_id arena.now.callers pass.new }
+    ensures caller { pass.new.caller ≡ pass.old.caller }
+    ensures way { IsOnWay (sort_of N.layout N.ranged) N.body pass.old.caller place (seen_of pass.new) result }
+    ensures under { (op : Operation) (start : List Happening) → Underway link_move pass.old.caller op start (seen_of pass.old) → Underway link_move pass.old.caller op start (seen_of pass.new) }
+{
+    sound_law::<Link>();
+    link_live_law();
+    node_law(&held.body);
+    let node = held.node;
+    arena.give(pass, held);
+    gate.at(pass.caller(), Point::Given(node));
+    let Some(taken) = arena.take(rt, pass, next) else {
+        unreachable!()
+    };
+    gate.at(pass.caller(), Point::Taken(next));
+    taken
+}
+
+/// Takes the node at which the search for a place ends, and holds it alone.
+pub(crate) fn find<N: Linked, R: Wait, G: Gate>(
+    rt: &R,
+    arena: &Arena<N, Link>,
+    pass: &mut Pass<N, Link>,
+    gate: &G,
+    place: u64,
+) -> Held<N>
+    requires pass { IsPass (sort_of N.layout N.ranged) BeginsLink LinkStep arena.now.table.shared.table_id arena.now.callers pass.old × (hand_of pass.old ≡ []) }
+    ensures pass { IsPass (sort_of N.layout N.ranged) BeginsLink LinkStep arena.now.table.shared.table_id arena.now.callers pass.new }
+    ensures caller { pass.new.caller ≡ pass.old.caller }
+    ensures way { IsOnWay (sort_of N.layout N.ranged) N.body pass.old.caller place (seen_of pass.new) result }
+    ensures ends { next_at (N.body result.body) place ≡ Here }
+    ensures under { (op : Operation) → Underway link_move pass.old.caller op (seen_of pass.old) (seen_of pass.new) }
+{
+    let mut held = enter(rt, arena, pass, gate, place);
+    for _ in rt.forever() {
+        match held.body.next(place) {
+            Next::Here => return held,
+            Next::Go(next) => held = go_on(rt, arena, pass, gate, place, held, next),
+        }
+    }
+    unreachable!()
+}
