@@ -35,9 +35,9 @@ use Rattle.ks_node.specs.Edges.{record_of}
 use Rattle.ks_arena.specs.declared.held.Held.{Held as Hand}
 use Rattle.ks_arena.specs.Sound.{Sort, blank_of, Sound}
 use Rattle.ks_arena.specs.Beyond.{free_beyond}
-use Rattle.ks_arena.specs.Writes.{ends_at_no_branch}
 use Rattle.ks_arena.specs.Clauses.{Matches, MatchesIf, HasTaken, Numbered}
-use Rattle.ks_coupling.specs.Descent.{IsOnWay}
+use Rattle.ks_shape.specs.Single.{led_live, shown, record_is}
+use Rattle.ks_shape.specs.OnWay.{IsOnWay}
 
 -- an edge that leads to the node is among those that are counted
 positive : (es : List Edge) (k m : ℕ) (x : Edge) → k < length es → get_or es k x ≡ x → x.node ≡ m → 0 < edges_to es m
@@ -47,13 +47,6 @@ positive (e ∷ es) (suc k) m x near is to = omega (arith, positive es k m x (om
 
 pub counted : (r : Record) (p m : ℕ) → LeadsTo r p m → 0 < edges_to r.edges m
 counted r p m to = positive r.edges to.0 m to.1 to.2 to.3 to.4.1
-
-pub led_live : (g : ℕ → NodeState) (n p m : ℕ) (r : Record) → Good g → record_at g n ≡ Some r → LeadsTo r p m → IsLive g m
-led_live g n p m r good is to = subst (IsLive g) (ap (λ (e : Edge). e.node) to.3 ∙ to.4.1) (good.leads n r is to.0 to.1 to.2)
-
--- a live node is one of the arena's
-pub is_near : (sort : Sort) (begins : Frame → Type 0) (asks : _) (nodes : ℕ) (h : List Event) (i : ℕ) → 0 < nodes → Sound sort begins asks nodes h → IsLive (graph_after h) i → i < nodes
-is_near sort begins asks nodes h i some so live = ⊎_elim (λ (x : i < nodes). x) (λ (far : nodes ≤ i). let is : None ≡ Some live.0 = sym (ap live_record (free_beyond sort begins asks nodes some h so i far)) ∙ live.1 in absurd (let q : ⊥ = cc in q)) (cases_lt i nodes)
 
 two_held : (i j : ℕ) → i ≢ j → drop_one j (i ∷ j ∷ []) ≡ i ∷ []
 two_held i j ne = cond_else i j (j ∷ []) (i ∷ drop_one j (j ∷ [])) ne ∙ ap (λ (z : List ℕ). i ∷ z) (cond_here j j [] (j ∷ []) refl)
@@ -67,13 +60,6 @@ two_may (Add p v) = omega arith
 two_may (Swap p old new) = omega arith
 
 module _ {N : Type 0} (sort : Sort) (shows : N → Body) where
-  live_if : (live : Bool) (s : NodeState) (f : Frame) (b : N) → live ≡ true → MatchesIf sort shows live s f b → (s ≡ Live (record_of (shows b))) × (f ≡ frame_of (shows b))
-  live_if true s f b e so = so
-  live_if false s f b e so = absurd (let q : ⊥ = cc in q)
-
-  pub record_is : (h : List Event) (x : Hand N) → x.live ≡ true → Matches sort shows h x → record_at (graph_after h) x.node ≡ Some (record_of (shows x.body))
-  record_is h x live m = ap live_record (live_if x.live (graph_after h x.node) (frame_after (blank_of sort) h x.node) x.body live m.is).0
-
   -- the root is taken
   pub enters : (c p : ℕ) (s0 s1 : List Event) (x : Hand N) → hand c s0 ≡ [] → HasTaken sort shows c 0 s0 s1 x → InInset (graph_after s1) x.node p → IsOnWay sort shows c p s1 x
   enters c p s0 s1 x empty took inside = record {
@@ -88,15 +74,6 @@ module _ {N : Type 0} (sort : Sort) (shows : N → Body) where
       (λ same. inl (by_others_hand c s0 (took.grows.rest ++ s0) (with_others c (Take c 0) s0 s1 took.grows) ∙ empty, refl))
       (omega (arith, ap length (took.hand ∙ ap (λ (z : List ℕ). 0 ∷ z) empty), two_may op))
       (underway_first coupling c op s0 empty)
-
-  -- a node on the way is no branch where the search ends: its range, if it has one, is its inset
-  module _ (c p : ℕ) (h : List Event) (x : Hand N) (way : IsOnWay sort shows c p h x) (facts : Tree (graph_after h) (frame_after (blank_of sort) h)) (place : p ≤ top) (order : InOrder (content_of (shows x.body))) (here : next_at (shows x.body) p ≡ Here) where
-    held_in : (o : Option Span) → (frame_after (blank_of sort) h x.node).range ≡ o → (first_of o ≤ p) × (p ≤ last_of o)
-    held_in None e = (omega arith, omega (arith, place))
-    held_in (Some r) e = (facts.range x.node r (record_of (shows x.body), record_is h x way.live way.matches) e).forth p way.inside
-
-    pub ends_unbranched : is_branch (shows x.body) ≡ false
-    ends_unbranched = let b : Body = shows x.body in let is = live_if x.live (graph_after h x.node) (frame_after (blank_of sort) h x.node) x.body way.live way.matches.is in let at = held_in b.range (ap (λ (f : Frame). f.range) is.1) in ends_at_no_branch b p order at.0 at.1 here
 
   -- the child to which a search goes on is taken, and then the node is given
   module _ (n c p i : ℕ) (h h₁ h₂ : List Event) (x y : Hand N) (r : Record)
@@ -128,7 +105,7 @@ module _ {N : Type 0} (sort : Sort) (shows : N → Body) where
     inside₂ : x.live ≡ true → Matches sort shows h₁ x → turn_after h₁ x.node ≡ held c → turn_after h₁ i ≡ held c → InInset (graph_after h₁) i p → InInset (graph_after h₂) i p
     inside₂ live matches holds child inside = let later : List Event = gave.rest ++ h₁ in let all = subst (Sound sort BeginsTree TreeStep n) gave.is sound₂ in let grow : GrowsByOthers c h₁ later = with_others c (Give c x.node) h₁ h₂ gave in
         let kept = by_others_keeps c i h₁ later grow (turns later all.0) child in let node = by_others_keeps c x.node h₁ later grow (turns later all.0) holds in
-        let state : graph_after later x.node ≡ Live (record_of (shows x.body)) = node.state ∙ (live_if x.live (graph_after h₁ x.node) (frame_after (blank_of sort) h₁ x.node) x.body live matches.is).0 in
+        let state : graph_after later x.node ≡ Live (record_of (shows x.body)) = node.state ∙ (shown sort shows h₁ x live matches).0 in
         let same : graph_after (Give c x.node ∷ later) ≡ graph_after later = fun_ext (λ j. dite (ℕ_discrete j x.node)
         (λ e. cond_here j x.node (given (graph_after later x.node)) (graph_after later j) e ∙ ap given state ∙ sym state ∙ ap (graph_after later) (sym e))
         (λ ne. cond_else j x.node (given (graph_after later x.node)) (graph_after later j) ne)) in

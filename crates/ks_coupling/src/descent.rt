@@ -9,7 +9,7 @@ ghost use Rattle.ks_node.specs.declared.start.Next.TheVariants.{Go, Here};
 ghost use Rattle.ks_node.specs.Body.{next_at};
 ghost use Rattle.ks_arena.specs.Sound.{sort_of};
 ghost use Rattle.ks_arena.specs.Clauses.{IsPass, hand_of, seen_of};
-ghost use Rattle.ks_coupling.specs.Descent.{IsOnWay};
+ghost use Rattle.ks_shape.specs.OnWay.{IsOnWay};
 
 use ks_arena::laws::{root_stays_law, sound_law, target_law};
 use ks_arena::{Arena, Held, Pass, root_law};

@@ -50,5 +50,5 @@ module _ (g : ℕ → NodeState) (f : ℕ → Frame) (facts : Link g f) where
       let range_n = facts.range n (r, is) in
       let range_m = facts.range m live in
       let same : n ≡ m = facts.apart n m range_n.0 range_m.0 p (r, is) live (level_zero n p r is low place off ∙ sym (level_zero m p live.0 live.1 low_m place away)) range_n.1 range_m.1
-          (range_holds n p r is low place off range_n.0 range_n.1) (range_holds m p live.0 live.1 low_m place away range_m.0 range_m.1) in
+      (range_holds n p r is low place off range_n.0 range_n.1) (range_holds m p live.0 live.1 low_m place away range_m.0 range_m.1) in
       subst (λ (i : ℕ). InKeyset g i p) (sym same) home.1

@@ -32,34 +32,13 @@ use Rattle.ks_arena.specs.Sound.{Sort, blank_of, Sound}
 use Rattle.ks_arena.specs.Beyond.{free_beyond}
 use Rattle.ks_arena.specs.Clauses.{Matches, MatchesIf, HasTaken}
 use Rattle.ks_arena.specs.Writes.{ends_at_no_branch}
+use Rattle.ks_shape.specs.Single.{shown, record_is}
 use Rattle.ks_link.specs.Descent.{IsOnWay}
 use Rattle.ks_link.proofs.Places.{root_low, range_holds, ends_in_keyset}
 
--- a call may hold a node
-one_may : (op : Op) → 1 ≤ most_held link_move op
-one_may (Get p) = omega arith
-one_may (Put p v) = omega arith
-one_may (Del p) = omega arith
-one_may (Add p v) = omega arith
-one_may (Swap p old new) = omega arith
-
--- a live node is one of the arena's
-pub is_near : (sort : Sort) (begins : Frame → Type 0) (asks : _) (nodes : ℕ) (h : List Event) (i : ℕ) → 0 < nodes → Sound sort begins asks nodes h → IsLive (graph_after h) i → i < nodes
-is_near sort begins asks nodes h i some so live = ⊎_elim (λ (x : i < nodes). x) (λ (far : nodes ≤ i). let is : None ≡ Some live.0 = sym (ap live_record (free_beyond sort begins asks nodes some h so i far)) ∙ live.1 in absurd (let q : ⊥ = cc in q)) (cases_lt i nodes)
-
 module _ {N : Type 0} (sort : Sort) (shows : N → Body) where
-  live_if : (live : Bool) (s : NodeState) (f : Frame) (b : N) → live ≡ true → MatchesIf sort shows live s f b → (s ≡ Live (record_of (shows b))) × (f ≡ frame_of (shows b))
-  live_if true s f b e so = so
-  live_if false s f b e so = absurd (let q : ⊥ = cc in q)
-
   abbrev frames : List Event → ℕ → Frame
   frames h = frame_after (blank_of sort) h
-
-  shown : (h : List Event) (x : Hand N) → x.live ≡ true → Matches sort shows h x → (graph_after h x.node ≡ Live (record_of (shows x.body))) × (frames h x.node ≡ frame_of (shows x.body))
-  shown h x live m = live_if x.live (graph_after h x.node) (frames h x.node) x.body live m.is
-
-  pub record_is : (h : List Event) (x : Hand N) → x.live ≡ true → Matches sort shows h x → record_at (graph_after h) x.node ≡ Some (record_of (shows x.body))
-  record_is h x live m = ap live_record (shown h x live m).0
 
   -- a node is taken that is not above the place
   pub arrives : (c p i : ℕ) (h k : List Event) (x : Hand N) → hand c h ≡ [] → HasTaken sort shows c i h k x → (frames k i).low ≤ p → IsOnWay sort shows c p k x
@@ -67,27 +46,14 @@ module _ {N : Type 0} (sort : Sort) (shows : N → Body) where
     alone = took.hand ∙ ap (λ (z : List ℕ). i ∷ z) empty ∙ ap (λ (z : ℕ). z ∷ []) (sym took.node);
     live = took.live;
     matches = took.matches;
-    low = omega (arith, subst (λ (z : ℕ). (frames k z).low ≤ p) (sym took.node) low, ap (λ (f : Frame). f.low) (shown k x took.live took.matches).1);
+    low = omega (arith, subst (λ (z : ℕ). (frames k z).low ≤ p) (sym took.node) low, ap (λ (f : Frame). f.low) (shown sort shows k x took.live took.matches).1);
   }
-
-  pub takes : (c i : ℕ) (op : Op) (s0 h k : List Event) (x : Hand N) → hand c h ≡ [] → HasTaken sort shows c i h k x → Underway link_move c op s0 h → Underway link_move c op s0 k
-  takes c i op s0 h k x empty took under = underway_with link_move c op (Take c i) s0 h k tt took.grows
-      (λ same. inl (by_others_hand c h (took.grows.rest ++ h) (with_others c (Take c i) h k took.grows) ∙ empty))
-      (omega (arith, ap length (took.hand ∙ ap (λ (z : List ℕ). i ∷ z) empty), one_may op))
-      under
 
   -- the root is taken
   pub root_arrives : (c p : ℕ) (h k : List Event) (x : Hand N) → hand c h ≡ [] → HasTaken sort shows c 0 h k x → Link (graph_after k) (frames k) → IsOnWay sort shows c p k x
   root_arrives c p h k x empty took facts =
-      let live : IsLive (graph_after k) 0 = (record_of (shows x.body), ap (λ (i : ℕ). record_at (graph_after k) i) (sym took.node) ∙ record_is k x took.live took.matches) in
+      let live : IsLive (graph_after k) 0 = (record_of (shows x.body), ap (λ (i : ℕ). record_at (graph_after k) i) (sym took.node) ∙ record_is sort shows k x took.live took.matches) in
       arrives c p 0 h k x empty took (omega (arith, root_low (graph_after k) (frames k) facts live))
-
-  -- the node is given, and nothing is in hand
-  pub empty_hand : (c p : ℕ) (h h₁ : List Event) (x : Hand N) → IsOnWay sort shows c p h x → hand c h₁ ≡ drop_one x.node (hand c h) → hand c h₁ ≡ []
-  empty_hand c p h h₁ x way hands = hands ∙ ap (drop_one x.node) way.alone ∙ cond_here x.node x.node [] (x.node ∷ []) refl
-
-  pub gives : (c p : ℕ) (op : Op) (s0 h h₁ : List Event) (x : Hand N) → hand c h₁ ≡ [] → GrowsWith c (Give c x.node) h h₁ → Underway link_move c op s0 h → Underway link_move c op s0 h₁
-  gives c p op s0 h h₁ x empty gave under = underway_with link_move c op (Give c x.node) s0 h h₁ tt gave tt (omega (arith, ap length empty, one_may op)) under
 
   -- where the search ends, the place is in the keyset of the node, which is no branch
   module _ (c p : ℕ) (h : List Event) (x : Hand N) (way : IsOnWay sort shows c p h x) (facts : Link (graph_after h) (frames h)) (place : p ≤ top) (order : InOrder (content_of (shows x.body))) (here : next_at (shows x.body) p ≡ Here) where
@@ -95,18 +61,18 @@ module _ {N : Type 0} (sort : Sort) (shows : N → Body) where
     off = here_stays (shows x.body) p order here
 
     low_at : (frames h x.node).low ≤ p
-    low_at = omega (arith, way.low, ap (λ (f : Frame). f.low) (shown h x way.live way.matches).1)
+    low_at = omega (arith, way.low, ap (λ (f : Frame). f.low) (shown sort shows h x way.live way.matches).1)
 
     pub ends_inside : Good (graph_after h) → InInset (graph_after h) x.node p
-    ends_inside good = (ends_in_keyset (graph_after h) (frames h) facts good x.node p (record_of (shows x.body)) (record_is h x way.live way.matches) low_at place off).0
+    ends_inside good = (ends_in_keyset (graph_after h) (frames h) facts good x.node p (record_of (shows x.body)) (record_is sort shows h x way.live way.matches) low_at place off).0
 
     held_in : (o : Option Span) → (frames h x.node).range ≡ o → (first_of o ≤ p) × (p ≤ last_of o)
     held_in None e = (omega arith, omega (arith, place))
     held_in (Some s) e =
-        let range = facts.range x.node (record_of (shows x.body), record_is h x way.live way.matches) in
+        let range = facts.range x.node (record_of (shows x.body), record_is sort shows h x way.live way.matches) in
         let same : Some range.0 ≡ Some s = sym range.1.is ∙ e in
         let is : range.0 ≡ s = cc in
-        subst (λ (z : Span). (z.low ≤ p) × (p ≤ z.last)) is (range_holds (graph_after h) (frames h) facts x.node p (record_of (shows x.body)) (record_is h x way.live way.matches) low_at place off range.0 range.1)
+        subst (λ (z : Span). (z.low ≤ p) × (p ≤ z.last)) is (range_holds (graph_after h) (frames h) facts x.node p (record_of (shows x.body)) (record_is sort shows h x way.live way.matches) low_at place off range.0 range.1)
 
     pub ends_unbranched : is_branch (shows x.body) ≡ false
-    ends_unbranched = let at = held_in (shows x.body).range (ap (λ (f : Frame). f.range) (shown h x way.live way.matches).1) in ends_at_no_branch (shows x.body) p order at.0 at.1 here
+    ends_unbranched = let at = held_in (shows x.body).range (ap (λ (f : Frame). f.range) (shown sort shows h x way.live way.matches).1) in ends_at_no_branch (shows x.body) p order at.0 at.1 here

@@ -1,1 +1,3 @@
 pub mod InHand
+pub mod Single
+pub mod OnWay

@@ -4,7 +4,7 @@ use Rattle.ks_history.specs.Map.{told}
 use Rattle.ks_arena.specs.declared.held.Held.{Held as Hand}
 use Rattle.ks_arena.specs.Sound.{sort_of}
 use Rattle.ks_arena.specs.Clauses.{IsReady, seen_of}
-use Rattle.ks_coupling.proofs.Ways.{ends_unbranched}
+use Rattle.ks_shape.specs.OnWay.{ends_unbranched}
 use Rattle.ks_coupling.proofs.calls.del.Goals as goal
 
 pub del-found-requires : goal.del-found-requires

@@ -5,7 +5,7 @@ use Rattle.ks_history.specs.Done.{coupling}
 use Rattle.ks_history.specs.Underway.{Underway}
 use Rattle.ks_arena.specs.Sound.{sort_of}
 use Rattle.ks_arena.specs.Clauses.{IsPass, seen_of}
-use Rattle.ks_coupling.specs.Descent.{IsOnWay}
+use Rattle.ks_shape.specs.OnWay.{IsOnWay}
 use Rattle.ks_coupling.proofs.descent.find.Given as goal
 
 abbrev pub invariant-loop : goal.invariant-loop

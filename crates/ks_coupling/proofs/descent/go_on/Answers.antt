@@ -13,7 +13,8 @@ use Rattle.ks_node.specs.Edges.{record_of}
 use Rattle.ks_node.specs.Ways.{next_leads}
 use Rattle.ks_arena.specs.Sound.{sort_of, blank_of, Sound}
 use Rattle.ks_arena.specs.Clauses.{seen_of}
-use Rattle.ks_coupling.proofs.Ways.{counted, led_live, is_near, record_is, goes_on, goes_under}
+use Rattle.ks_shape.specs.Single.{is_near, led_live, record_is}
+use Rattle.ks_coupling.proofs.Ways.{counted, goes_on, goes_under}
 use Rattle.ks_coupling.proofs.descent.go_on.Given.{Over}
 use Rattle.ks_coupling.proofs.descent.go_on.Goals as goal
 use Rattle.ks_coupling.proofs.descent.go_on.Goals.{After-node_law, After-give}

@@ -1,4 +1,4 @@
-use Rattle.std.proofs.Common.{rules, ◌≡◌, ℕ, ◌<◌, ◌≤◌, List, [], arith, sym, refl, ap, ◌∙◌, subst}
+use Rattle.std.proofs.Common.{rules, ◌≡◌, ℕ, ◌<◌, ◌≤◌, List, [], arith, sym, refl, ap, ◌∙◌, subst, inl}
 use Rattle.ks_keysets.specs.declared.Edge.{Edge}
 use Rattle.ks_keysets.specs.declared.Record.{Record}
 use Rattle.ks_keysets.specs.Record.{LeadsTo}
@@ -14,7 +14,9 @@ use Rattle.ks_node.specs.Ways.{next_leads}
 use Rattle.ks_arena.specs.Sound.{Sort, sort_of, blank_of}
 use Rattle.ks_arena.specs.Clauses.{HasTaken, seen_of}
 use Rattle.ks_link.proofs.Places.{step_low}
-use Rattle.ks_link.proofs.Ways.{arrives, empty_hand, gives, is_near, record_is, takes}
+use Rattle.ks_history.specs.Done.{link_move}
+use Rattle.ks_shape.specs.Single.{gave_last, gives, is_near, led_live, record_is, takes}
+use Rattle.ks_link.proofs.Ways.{arrives}
 use Rattle.ks_link.proofs.descent.go_on.Given.{Over}
 use Rattle.ks_link.proofs.descent.go_on.Goals as goal
 use Rattle.ks_link.proofs.descent.go_on.Goals.{After-give}
@@ -43,8 +45,7 @@ module _ (g : Over) (c : After-give g) where
 
   -- the next node was live as the node was held, and began at the place or below
   live : IsLive (graph_after seen) c.args.next
-  live = subst (IsLive (graph_after seen)) (ap (λ (e : Edge). e.node) leads.3 ∙ leads.4.1)
-      ((good_now (c.sound_law.ensures.good sort n seen c.requires.pass.sound)).leads c.args.held.node node (record_is sort g.N.Node.body seen c.args.held c.requires.way.live c.requires.way.matches) leads.0 leads.1 leads.2)
+  live = led_live (graph_after seen) c.args.held.node c.args.place c.args.next node (good_now (c.sound_law.ensures.good sort n seen c.requires.pass.sound)) (record_is sort g.N.Node.body seen c.args.held c.requires.way.live c.requires.way.matches) leads
 
   low : (frame_after (blank_of sort) seen c.args.next).low ≤ c.args.place
   low = step_low (graph_after seen) (frame_after (blank_of sort) seen) (c.sound_law.ensures.facts sort n seen c.requires.pass.sound) c.args.held.node c.args.next c.args.place node (record_is sort g.N.Node.body seen c.args.held c.requires.way.live c.requires.way.matches) leads
@@ -56,7 +57,7 @@ module _ (g : Over) (c : After-give g) where
   begins = with_begins me (Give me c.args.held.node) seen given gave
 
   empty : hand me given ≡ []
-  empty = empty_hand sort g.N.Node.body me c.args.place seen given c.args.held c.requires.way (subst (λ (z : ℕ). hand z given ≡ drop_one c.args.held.node (hand me seen)) c.give.ensures.caller c.give.ensures.hand)
+  empty = gave_last me c.args.held.node seen given c.requires.way.alone (subst (λ (z : ℕ). hand z given ≡ drop_one c.args.held.node (hand me seen)) c.give.ensures.caller c.give.ensures.hand)
 
 pub take-requires-clause-node : goal.take-requires-clause-node
 take-requires-clause-node g c κs within = let at = (goal.at.take-requires-clause-node g c).After-give in let before = given g at in
@@ -76,4 +77,4 @@ returns-clause-way g c = let at = (goal.at.returns-clause-way g c).After-give in
 pub returns-clause-under : goal.returns-clause-under
 returns-clause-under g c = λ op start under. let at = (goal.at.returns-clause-under g c).After-give in let after = seen_of c.take.new.pass in
     let took = subst (λ (z : ℕ). HasTaken (sort g at) g.N.Node.body z c.args.next (given g at) after c.in-Some.taken) c.give.ensures.caller c.in-Some.ensures.took in
-    takes (sort g at) g.N.Node.body (me g at) c.args.next op start (given g at) after c.in-Some.taken (empty g at) took (gives (sort g at) g.N.Node.body (me g at) c.args.place op start (seen g at) (given g at) c.args.held (empty g at) (gave g at) under)
+    takes (sort g at) g.N.Node.body link_move (me g at) c.args.next op start (given g at) after c.in-Some.taken (λ k e. inl e) (empty g at) took (gives link_move (me g at) c.args.held.node op start (seen g at) (given g at) (empty g at) (gave g at) under)

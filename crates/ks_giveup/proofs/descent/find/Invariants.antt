@@ -1,0 +1,16 @@
+use Rattle.std.proofs.Common.{◌≡◌, [], ◌<◌}
+use Rattle.ks_flow.specs.Discipline.{BeginsTree, TreeStep}
+use Rattle.ks_history.specs.declared.Op.{Op}
+use Rattle.ks_history.specs.Done.{give_up}
+use Rattle.ks_history.specs.Underway.{Underway}
+use Rattle.ks_arena.specs.Sound.{sort_of}
+use Rattle.ks_arena.specs.Clauses.{IsPass, hand_of, seen_of}
+use Rattle.ks_giveup.proofs.descent.find.Given as goal
+
+abbrev pub invariant-loop : goal.invariant-loop
+invariant-loop g l =
+    IsPass (sort_of g.N.Node.layout g.N.Node.ranged) BeginsTree TreeStep l.arena.table.shared.table_id l.arena.callers l.pass
+    × (hand_of l.pass ≡ [])
+    × (l.pass.caller ≡ l.fn.pass.caller)
+    × (l.node < l.arena.nodes)
+    × ((op : Op) → Underway give_up l.pass.caller op (seen_of l.fn.pass) (seen_of l.pass))

@@ -1,0 +1,107 @@
+//! The way from the root to the node where a search ends, which begins again where it was led astray.
+ghost use Rattle.std.specs.Prelude.{◌≡◌, ◌<◌, List, []};
+ghost use Rattle.ks_flow.specs.Discipline.{BeginsTree, TreeStep};
+ghost use Rattle.ks_history.specs.declared.Event.{Event as Happening};
+ghost use Rattle.ks_history.specs.declared.Op.{Op as Operation};
+ghost use Rattle.ks_history.specs.Done.{give_up};
+ghost use Rattle.ks_history.specs.Underway.{Underway};
+ghost use Rattle.ks_node.specs.declared.start.Next.TheVariants.{Go, Here};
+ghost use Rattle.ks_node.specs.Body.{next_at};
+ghost use Rattle.ks_arena.specs.Sound.{sort_of};
+ghost use Rattle.ks_arena.specs.Clauses.{IsPass, hand_of, seen_of};
+ghost use Rattle.ks_shape.specs.OnWay.{IsOnWay};
+ghost use Rattle.ks_giveup.specs.Descent.{Came};
+
+use ks_arena::laws::sound_law;
+use ks_arena::{Arena, Held, Pass};
+use ks_flow::Tree;
+use ks_gate::{Gate, Point};
+use ks_node::{Next, Ranged, Unlinked, node_law};
+use std::sync::Wait;
+
+/// Takes a node, and keeps it where it is live and its range holds the place.
+fn visit<N: Ranged + Unlinked, R: Wait, G: Gate>(
+    rt: &R,
+    arena: &Arena<N, Tree>,
+    pass: &mut Pass<N, Tree>,
+    gate: &G,
+    place: u64,
+    node: u32,
+) -> Option<Held<N>>
+    requires pass { IsPass (sort_of N.layout N.ranged) BeginsTree TreeStep arena.now.table.shared.table_id arena.now.callers pass.old × (hand_of pass.old ≡ []) }
+    requires node { node < arena.now.nodes }
+    ensures pass { IsPass (sort_of N.layout N.ranged) BeginsTree TreeStep arena.now.table.shared.table_id arena.now.callers pass.new }
+    ensures caller { pass.new.caller ≡ pass.old.caller }
+    ensures came { Came (sort_of N.layout N.ranged) N.body pass.old.caller place (seen_of pass.new) result }
+    ensures under { (op : Operation) (start : List Happening) → Underway give_up pass.old.caller op start (seen_of pass.old) → Underway give_up pass.old.caller op start (seen_of pass.new) }
+{
+    sound_law::<Tree>();
+    let Some(held) = arena.take(rt, pass, node) else {
+        return None;
+    };
+    gate.at(pass.caller(), Point::Taken(node));
+    let range = held.body.range();
+    if range.low <= place && place <= range.last {
+        return Some(held);
+    }
+    arena.give(pass, held);
+    gate.at(pass.caller(), Point::Given(node));
+    None
+}
+
+/// Gives the node from which the search goes on to another.
+fn leave<N: Ranged + Unlinked, G: Gate>(
+    arena: &Arena<N, Tree>,
+    pass: &mut Pass<N, Tree>,
+    gate: &G,
+    place: u64,
+    held: Held<N>,
+    child: u32,
+)
+    requires pass { IsPass (sort_of N.layout N.ranged) BeginsTree TreeStep arena.now.table.shared.table_id arena.now.callers pass.old }
+    requires way { IsOnWay (sort_of N.layout N.ranged) N.body pass.old.caller place (seen_of pass.old) held }
+    requires goes { next_at (N.body held.body) place ≡ Go child }
+    ensures pass { IsPass (sort_of N.layout N.ranged) BeginsTree TreeStep arena.now.table.shared.table_id arena.now.callers pass.new × (hand_of pass.new ≡ []) }
+    ensures caller { pass.new.caller ≡ pass.old.caller }
+    ensures near { child < arena.now.nodes }
+    ensures under { (op : Operation) (start : List Happening) → Underway give_up pass.old.caller op start (seen_of pass.old) → Underway give_up pass.old.caller op start (seen_of pass.new) }
+{
+    sound_law::<Tree>();
+    node_law(&held.body);
+    let node = held.node;
+    arena.give(pass, held);
+    gate.at(pass.caller(), Point::Given(node));
+}
+
+/// Takes the node at which the search for a place ends, and holds it alone.
+pub(crate) fn find<N: Ranged + Unlinked, R: Wait, G: Gate>(
+    rt: &R,
+    arena: &Arena<N, Tree>,
+    pass: &mut Pass<N, Tree>,
+    gate: &G,
+    place: u64,
+) -> Held<N>
+    requires pass { IsPass (sort_of N.layout N.ranged) BeginsTree TreeStep arena.now.table.shared.table_id arena.now.callers pass.old × (hand_of pass.old ≡ []) }
+    ensures pass { IsPass (sort_of N.layout N.ranged) BeginsTree TreeStep arena.now.table.shared.table_id arena.now.callers pass.new }
+    ensures caller { pass.new.caller ≡ pass.old.caller }
+    ensures way { IsOnWay (sort_of N.layout N.ranged) N.body pass.old.caller place (seen_of pass.new) result }
+    ensures ends { next_at (N.body result.body) place ≡ Here }
+    ensures under { (op : Operation) → Underway give_up pass.old.caller op (seen_of pass.old) (seen_of pass.new) }
+{
+    gate.at(pass.caller(), Point::Begin);
+    let mut node = 0;
+    for _ in rt.forever() {
+        let Some(held) = visit(rt, arena, pass, gate, place, node) else {
+            node = 0;
+            continue;
+        };
+        match held.body.next(place) {
+            Next::Here => return held,
+            Next::Go(child) => {
+                leave(arena, pass, gate, place, held, child);
+                node = child;
+            }
+        }
+    }
+    unreachable!()
+}
