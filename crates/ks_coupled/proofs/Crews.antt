@@ -11,6 +11,13 @@ two_of ps one (x ∷ xs) a b long last first =
     let m : length one ≡ length ((x ∷ xs) ++ a ∷ []) = ap length first in
     absurd (omega (arith, long, n, m, length-append one (b ∷ []), length-append (x ∷ xs) (a ∷ [])))
 
+-- and the one of a list that one pop leaves empty
+pub one_of : {X : Type 0} (ps one : List X) (a : X) → length ps ≡ 1 → ps ≡ one ++ a ∷ [] → get_elem? ps 0 ≡ some a
+one_of ps [] a long last = ap (λ l. get_elem? l 0) last
+one_of ps (x ∷ xs) a long last =
+    let n : length ps ≡ length ((x ∷ xs) ++ a ∷ []) = ap length last in
+    absurd (omega (arith, long, n, length-append (x ∷ xs) (a ∷ [])))
+
 pub first_is : {X : Type 0} (ps : List X) (a b : X) → ps ≡ a ∷ b ∷ [] → get_elem? ps 0 ≡ some a
 first_is ps a b e = ap (λ l. get_elem? l 0) e
 

@@ -1,8 +1,11 @@
-//! Tests of lock coupling over list nodes: gets and dels across a split of the root, on one thread and on two.
+//! Tests of the techniques: gets and dels by lock coupling across a split of the root, on one thread and on two, and by
+//! giving up and along links where nothing is.
 #![tactic(auto)]
 
 #[cfg(test)]
 mod calls;
+#[cfg(test)]
+mod empty;
 #[cfg(test)]
 mod split;
 #[cfg(test)]
