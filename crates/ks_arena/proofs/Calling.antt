@@ -54,8 +54,8 @@ module _ {N : Type 0} (sort : Sort) (shows : N → Body) where
   shows_value h x p live m = ap (λ (s : NodeState). value_in (live_record s) p) (shown h x live m).0 ∙ value_first (shows x.body).pairs p
 
   get_due : (layout : Layout) (n c i p : ℕ) (h : List Event) (found : Option ℕ) → IsDue layout n h (Call c i (Get p) (told found))
-  get_due layout n c i p h None = tt
-  get_due layout n c i p h (Some w) = tt
+  get_due layout n c i p h None full = absurd (cc)
+  get_due layout n c i p h (Some w) full = absurd (cc)
 
   pub get_ready : (nodes c p : ℕ) (h : List Event) (x : Hand N) (found : Option ℕ) (reply : Reply) → turn_after h x.node ≡ held c → x.live ≡ true → Matches sort shows h x → InInset (graph_after h) x.node p → InOrder (content_of (shows x.body)) → next_at (shows x.body) p ≡ Here
       → found ≡ value_at (shows x.body).pairs p → reply ≡ told found → IsReady sort shows nodes c h x (Get p) reply
@@ -72,12 +72,12 @@ module _ {N : Type 0} (sort : Sort) (shows : N → Body) where
       keeps (Some v) = ap (state_with (written (Get p) (told (Some v)))) (shown h x live m).0
 
   put_due : (layout : Layout) (n c i p v : ℕ) (h : List Event) (found : Option ℕ) → IsDue layout n h (Call c i (Put p v) (told found))
-  put_due layout n c i p v h None = tt
-  put_due layout n c i p v h (Some w) = tt
+  put_due layout n c i p v h None full = absurd (cc)
+  put_due layout n c i p v h (Some w) full = absurd (cc)
 
   del_due : (layout : Layout) (n c i p : ℕ) (h : List Event) (found : Option ℕ) → IsDue layout n h (Call c i (Del p) (told found))
-  del_due layout n c i p h None = tt
-  del_due layout n c i p h (Some w) = tt
+  del_due layout n c i p h None full = absurd (cc)
+  del_due layout n c i p h (Some w) full = absurd (cc)
 
   told_sets : (p v : ℕ) (found : Option ℕ) → written (Put p v) (told found) ≡ sets p v
   told_sets p v None = refl

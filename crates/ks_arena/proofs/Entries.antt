@@ -1,6 +1,6 @@
 -- What is read of a run that has ended: states of nodes, a graph, and the entries of a good graph, gathered node after
 -- node and then sorted, which are just what is found in it.
-use Rattle.std.proofs.Common.{◌≡◌, ◌≢◌, ℕ, zero, suc, ◌+◌, ◌-◌, ◌<◌, ◌≤◌, ◌==◌, ◌⊎◌, ◌↔◌, Bool, true, false, cond, List, [], ◌∷◌, ◌++◌, length, map, get_or, Option, Some, None, refl, sym, ap, ◌∙◌, subst, inl, inr, ⊎_elim, arith, length-append, append_assoc, append-nil, add-one, take}
+use Rattle.std.proofs.Common.{◌≡◌, ◌≢◌, ℕ, zero, suc, ◌+◌, ◌-◌, ◌<◌, ◌≤◌, ◌⊎◌, ◌↔◌, List, [], ◌∷◌, ◌++◌, length, map, get_or, Option, Some, None, refl, sym, ap, ◌∙◌, subst, inl, inr, ⊎_elim, arith, length-append, append_assoc, append-nil, add-one, take}
 use Rattle.std.specs.Prelude.{All, AllPairs, Contains}
 use Rattle.std.specs.Option.{option_copied}
 use Rattle.std.proofs.Math.Seq.{take-length}
@@ -13,7 +13,6 @@ use Rattle.std.specs.List.Sorted.{IsPermutation, IsNonDecreasingBy}
 use Rattle.std.proofs.lemmas.List.{take_more, map-append, length-map, get_or-map, get_or_append_left, get_or-append_right}
 use Rattle.std.proofs.lemmas.List.Edits.{length-swap, swapped_from_swap}
 use Rattle.std.proofs.lemmas.List.Elements.{All-contains, All-map, Contains-append_left, Contains-append_right, Contains-append_cases, Contains-get_or}
-use Rattle.std.proofs.lemmas.List.Sums.{fold-append}
 use Rattle.std.proofs.lemmas.List.Sorted.{IsPermutation-keeps, IsPermutation-sym, Contains-permutation}
 use mathlib.Core.Logic.{dite}
 use native.Mathlib.Decide.{ℕ_discrete}
@@ -22,21 +21,14 @@ use Rattle.ks_keysets.specs.declared.Record.{Record}
 use Rattle.ks_keysets.specs.declared.NodeState.{NodeState}
 use Rattle.ks_keysets.specs.declared.NodeState.TheVariants.{Free, Claimed, Live}
 use Rattle.ks_keysets.specs.declared.Frame.{Frame}
-use Rattle.ks_keysets.specs.Record.{IsPlace, top, first_value}
+use Rattle.ks_keysets.specs.Record.{IsPlace, first_value}
 use Rattle.ks_keysets.specs.Listed.{graph_of}
 use Rattle.ks_keysets.specs.Keyset.{live_record, record_at, InKeyset, IsFound, here, nowhere, value_in, value_at, Good}
 use Rattle.ks_keysets.specs.Found.{found_here, found_one, reached_live}
 use Rattle.ks_node.specs.Body.{Body}
 use Rattle.ks_node.specs.Edges.{record_of}
-use Rattle.ks_history.specs.declared.Answered.{Answered}
-use Rattle.ks_history.specs.declared.Op.{Op}
-use Rattle.ks_history.specs.declared.Op.TheVariants.{Get, Put, Del, Add, Swap}
-use Rattle.ks_history.specs.declared.Reply.{Reply}
-use Rattle.ks_history.specs.declared.Reply.TheVariants.{Nothing, Value, Full}
 use Rattle.ks_history.specs.declared.Event.{Event}
-use Rattle.ks_history.specs.declared.Event.TheVariants.{Take, Give, Claim, Shape, Call}
-use Rattle.ks_history.specs.Write.{Write, Map, keeps, sets, removes, written, map_with}
-use Rattle.ks_history.specs.Map.{Touches, map_after, map_then}
+use Rattle.ks_history.specs.Map.{map_after}
 use Rattle.ks_history.specs.Trace.{Turn, free, idle, held, calls_of, graph_after, turn_after}
 use Rattle.ks_history.specs.Lawful.{Lawful}
 use Rattle.ks_history.specs.Served.{IsListing}
@@ -302,61 +294,15 @@ sorted_found g n ys good far moved up = record {
 
 -- the same as a map
 
--- the write is at another place
-abbrev Spares : ℕ → Write → Type 0
-Spares p keeps = Unit {0}
-Spares p (sets q v) = q ≢ p
-Spares p (removes q) = q ≢ p
-
-spares_if : (p q new : ℕ) (b : Bool) → q ≢ p → Spares p (cond b (sets q new) keeps)
-spares_if p q new true other = other
-spares_if p q new false other = tt
-
-written_spares : (p : ℕ) (op : Op) (reply : Reply) → ((q : ℕ) → Touches op q → q ≢ p) → Spares p (written op reply)
-written_spares p (Get q) reply other = tt
-written_spares p (Put q v) Nothing other = other q refl
-written_spares p (Put q v) (Value w) other = other q refl
-written_spares p (Put q v) Full other = tt
-written_spares p (Del q) reply other = other q refl
-written_spares p (Add q v) Nothing other = other q refl
-written_spares p (Add q v) (Value w) other = tt
-written_spares p (Add q v) Full other = tt
-written_spares p (Swap q old new) Nothing other = tt
-written_spares p (Swap q old new) (Value w) other = spares_if p q new (w == old) (other q refl)
-written_spares p (Swap q old new) Full other = tt
-
-kept_by : (m : Map) (w : Write) (p : ℕ) → Spares p w → map_with m w p ≡ m p
-kept_by m keeps p other = refl
-kept_by m (sets q v) p other = cond_else q p (Some v) (m p) other
-kept_by m (removes q) p other = cond_else q p None (m p) other
-
-map_more : (xs : List Answered) (a : Answered) → map_after (xs ++ a ∷ []) ≡ map_then (map_after xs) a
-map_more xs a = fold-append map_then (λ _. None) xs (a ∷ [])
-
--- a lawful trace writes no place past the last one
-none_past : (h : List Event) → Lawful h → (p : ℕ) → top < p → map_after (calls_of h) p ≡ None
-none_past [] lawful p far = refl
-none_past (Take c i ∷ h) lawful p far = none_past h lawful.0 p far
-none_past (Give c i ∷ h) lawful p far = none_past h lawful.0 p far
-none_past (Claim c i ∷ h) lawful p far = none_past h lawful.0 p far
-none_past (Shape c changes ∷ h) lawful p far = none_past h lawful.0 p far
-none_past (Call c i op reply ∷ h) lawful p far = let a : Answered = record { op = op; reply = reply } in
-    ap (λ (m : Map). m p) (map_more (calls_of h) a)
-    ∙ kept_by (map_after (calls_of h)) (written op reply) p (written_spares p op reply (λ q touches same. let place : q ≤ top = (lawful.1.1 q touches).0.0 in omega arith))
-    ∙ none_past h lawful.0 p far
-
 placed : (g : ℕ → NodeState) (p v : ℕ) → IsFound g p (Some v) → IsPlace p
 placed g p v (here n in' least is) = in'.0.0
 placed g p v (nowhere none is) = absurd (let q : ⊥ = cc in q)
 
-pub listing_of : (h : List Event) (ys : List (ℕ × ℕ)) → Lawful h → ((p : ℕ) → IsPlace p → IsFound (graph_after h) p (map_after (calls_of h) p)) → AreFound (graph_after h) ys → IsListing (map_after (calls_of h)) ys
-listing_of h ys lawful matches are = record {
+pub listing_of : (h : List Event) (ys : List (ℕ × ℕ)) → ((p : ℕ) → IsPlace p → IsFound (graph_after h) p (map_after (calls_of h) p)) → AreFound (graph_after h) ys → IsListing (map_after (calls_of h)) ys
+listing_of h ys matches are = record {
   exact = λ p v. (
-    λ is. (are.exact p v).0 (⊎_elim
-        (λ far. let e : None ≡ Some v = sym (none_past h lawful p far) ∙ is in absurd (let q : ⊥ = cc in q))
-        (λ place. subst (IsFound (graph_after h) p) is (matches p place))
-        (index_cases top p)),
-    λ in'. let found = (are.exact p v).1 in' in found_one (graph_after h) p (map_after (calls_of h) p) (Some v) (matches p (placed (graph_after h) p v found)) found,
+    λ is. (are.exact p v).0 (subst (IsFound (graph_after h) p) is.1 (matches p is.0)),
+    λ in'. let found = (are.exact p v).1 in' in let place : IsPlace p = placed (graph_after h) p v found in (place, found_one (graph_after h) p (map_after (calls_of h) p) (Some v) (matches p place) found),
   );
   ascend = are.ascend;
 }

@@ -1,5 +1,5 @@
 -- A call that is ready stays so while others act.
-use Rattle.std.proofs.Common.{◌≡◌, ℕ, List, [], ◌∷◌, ◌++◌, sym, refl, ap, ◌∙◌, subst}
+use Rattle.std.proofs.Common.{◌≡◌, ℕ, List, sym, ap, ◌∙◌, subst}
 use Rattle.ks_keysets.specs.declared.Frame.{Frame}
 use Rattle.ks_keysets.specs.declared.NodeState.{NodeState}
 use Rattle.ks_keysets.specs.declared.Change.{Change}
@@ -8,53 +8,39 @@ use Rattle.ks_keysets.specs.Keyset.{live_record, value_in, Good, opening}
 use Rattle.ks_history.specs.declared.Op.{Op}
 use Rattle.ks_history.specs.declared.Op.TheVariants.{Get, Put, Del, Add, Swap}
 use Rattle.ks_history.specs.declared.Reply.{Reply}
-use Rattle.ks_history.specs.declared.Reply.TheVariants.{Nothing, Value, Full}
 use Rattle.ks_history.specs.declared.Event.{Event}
-use Rattle.ks_history.specs.declared.Event.TheVariants.{Take, Give, Claim, Shape, Call}
+use Rattle.ks_history.specs.declared.Event.TheVariants.{Call}
 use Rattle.ks_history.specs.Map.{IsAnswer}
 use Rattle.ks_history.specs.Trace.{graph_after}
 use Rattle.ks_history.specs.Lawful.{Meets}
-use Rattle.ks_history.specs.Due.{IsFullFor, FindsNoRoom, FullDue, IsDue, last_call}
-use Rattle.ks_history.specs.Passes.{NoneBy, GrowsByOthers}
-use Rattle.ks_history.specs.Stays.{StaysHeld, cond_else}
-use Rattle.ks_history.specs.Begins.{by_others_begins, by_others_keeps, begins_both}
+use Rattle.ks_history.specs.Due.{IsFullFor, HasNoRoom, FullDue, IsDue, last_call}
+use Rattle.ks_history.specs.Passes.{GrowsByOthers}
+use Rattle.ks_history.specs.Stays.{StaysHeld}
+use Rattle.ks_history.specs.Begins.{by_others_begins, by_others_keeps, none_no_call}
+use Rattle.ks_history.specs.Dues.{none_free_later, last_call_kept}
 use Rattle.ks_flow.specs.Discipline.{IsDiscipline}
 use Rattle.ks_arena.specs.Sound.{Sort}
 use Rattle.ks_arena.specs.FromSound.{fine, unshaped}
 use Rattle.ks_arena.proofs.Moves.{May}
 
-last_kept : (c : ℕ) (rest h : List Event) → NoneBy c rest → last_call c (rest ++ h) ≡ last_call c h
-last_kept c [] h none = refl
-last_kept c (Take d i ∷ rest) h none = last_kept c rest h none.1
-last_kept c (Give d i ∷ rest) h none = last_kept c rest h none.1
-last_kept c (Claim d i ∷ rest) h none = last_kept c rest h none.1
-last_kept c (Shape d xs ∷ rest) h none = last_kept c rest h none.1
-last_kept c (Call d i op reply ∷ rest) h none = cond_else d c (Call d i op reply ∷ (rest ++ h)) (last_call c (rest ++ h)) none.0 ∙ last_kept c rest h none.1
-
 full_kept : (layout : Layout) (g k : ℕ → NodeState) (i p : ℕ) → k i ≡ g i → IsFullFor layout g i p → IsFullFor layout k i p
 full_kept layout g k i p same so = record { node = so.node; is = ap live_record same ∙ so.is; filled = so.filled; absent = so.absent }
 
-room_kept : (layout : Layout) (g k : ℕ → NodeState) (c i : ℕ) (op : Op) → k i ≡ g i → FindsNoRoom layout g (Call c i op Full) → FindsNoRoom layout k (Call c i op Full)
-room_kept layout g k c i (Get p) same so = so
-room_kept layout g k c i (Put p v) same so = full_kept layout g k i p same so
-room_kept layout g k c i (Del p) same so = so
-room_kept layout g k c i (Add p v) same so = full_kept layout g k i p same so
-room_kept layout g k c i (Swap p old new) same so = so
+room_kept : (layout : Layout) (g k : ℕ → NodeState) (i place : ℕ) (op : Op) → k i ≡ g i → HasNoRoom layout g i op place → HasNoRoom layout k i op place
+room_kept layout g k i place (Get p) same so = so
+room_kept layout g k i place (Put p v) same so = (so.0, full_kept layout g k i p same so.1)
+room_kept layout g k i place (Del p) same so = so
+room_kept layout g k i place (Add p v) same so = (so.0, full_kept layout g k i p same so.1)
+room_kept layout g k i place (Swap p old new) same so = so
 
 due_kept : (layout : Layout) (n c i : ℕ) (op : Op) (reply : Reply) (seen h : List Event) → GrowsByOthers c seen h → graph_after h i ≡ graph_after seen i → IsDue layout n seen (Call c i op reply) → IsDue layout n h (Call c i op reply)
-due_kept layout n c i op Nothing seen h grows same so = so
-due_kept layout n c i op (Value v) seen h grows same so = so
-due_kept layout n c i op Full seen h grows same so = let last : last_call c seen ≡ last_call c h = sym (ap (last_call c) grows.is ∙ last_kept c grows.rest seen grows.others) in
-    subst (λ (z : List Event). FullDue layout n z h (Call c i op Full)) last record {
-      no_room = room_kept layout (graph_after seen) (graph_after h) c i op same so.no_room;
-      from = so.from;
-      to = so.to;
-      since = so.since;
-      ordered = so.ordered;
-      before = begins_both so.to seen h so.before (by_others_begins c seen h grows);
-      waits = so.waits;
-      holds = so.holds;
-      taken = so.taken;
+due_kept layout n c i op reply seen h grows same so full =
+    let due = so full in
+    let last : last_call c seen ≡ last_call c h = sym (ap (last_call c) grows.is ∙ last_call_kept c grows.rest seen (none_no_call c grows.rest grows.others)) in
+    subst (λ (z : List Event). FullDue layout n z h (Call c i op reply)) last record {
+      place = due.place;
+      no_room = (room_kept layout (graph_after seen) (graph_after h) i due.place op same due.no_room.0, due.no_room.1);
+      none_free = none_free_later layout n c due.place (last_call c seen) seen h (by_others_begins c seen h grows) due.none_free;
     }
 
 module _ (sort : Sort) {begins : Frame → Type 0} {facts : (ℕ → NodeState) → (ℕ → Frame) → Type 0} {asks : (ℕ → NodeState) → (ℕ → Frame) → List Change → Type 0} {lasts : (ℕ → NodeState) → (ℕ → Frame) → (ℕ → NodeState) → (ℕ → Frame) → Type 0} {beside : ℕ → (ℕ → NodeState) → (ℕ → NodeState) → Type 0}

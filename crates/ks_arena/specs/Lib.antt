@@ -7,3 +7,4 @@ pub mod Tells
 pub mod Ended
 pub mod Beyond
 pub mod Writes
+pub mod Aside

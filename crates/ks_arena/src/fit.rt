@@ -9,7 +9,7 @@ fn is_sync<T: Sync>(_x: &T) {}
 
 fn is_send<T: Send>(_x: &T) {}
 
-pub fn fits_threads<N: Node, D: Discipline>(
+pub fn fits_threads<N: Node + Send, D: Discipline>(
     arena: &Arena<N, D>,
     pass: &Pass<N, D>,
     note: &Note<N, D>,

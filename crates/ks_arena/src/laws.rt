@@ -1,17 +1,19 @@
 //! What follows from sound traces. The function computes nothing: its contract is a law.
-ghost use Rattle.std.specs.Prelude.{◌≡◌, ◌≢◌, ℕ, List, Option, Any};
+ghost use Rattle.std.specs.Prelude.{◌≡◌, ◌≢◌, ◌<◌, ℕ, List, Option, Any};
 ghost use Rattle.ks_keysets.specs.declared.Record.{Record};
-ghost use Rattle.ks_keysets.specs.Keyset.{record_at, IsLive};
+ghost use Rattle.ks_keysets.specs.Keyset.{record_at, IsLive, InInset, InKeyset};
+ghost use Rattle.ks_keysets.specs.Walk.{OneParent};
 ghost use Rattle.ks_history.specs.declared.Event.{Event as Happening};
 ghost use Rattle.ks_history.specs.Trace.{◌⊑◌, free, held, graph_after, turn_after, frame_after};
 ghost use Rattle.ks_history.specs.Lawful.{Lawful, GoodThroughout};
 ghost use Rattle.ks_history.specs.Due.{FullsDue};
 ghost use Rattle.ks_history.specs.Passes.{GrowsByOthers};
-ghost use Rattle.ks_flow.specs.Discipline.{SameKeyset, BeginsLink, LinkStep};
+ghost use Rattle.ks_history.specs.Beside.{AreBeside};
+ghost use Rattle.ks_flow.specs.Discipline.{SameKeyset, BeginsTree, TreeStep, BeginsLink, LinkStep};
 ghost use Rattle.ks_arena.specs.Sound.{Sort, blank_of, Sound};
 
-use ks_flow::laws::walks_law;
-use ks_flow::{Discipline, Link};
+use ks_flow::laws::{tree_facts_law, walks_law};
+use ks_flow::{Discipline, Link, Tree};
 
 /// A sound trace is lawful and its graph is good throughout; at each beginning it has the facts of the discipline, and
 /// each Full was due. What lasts under the discipline lasts from each beginning on. While others act, a node that a
@@ -50,4 +52,26 @@ pub fn root_stays_law<D: Discipline>()
     ensures { (sort : Sort) (nodes : ℕ) (h : List Happening) → Sound sort D.begins D.step nodes h → turn_after h 0 ≢ free }
 {
     sound_law::<D>();
+}
+
+/// In a sound trace each Shape leaves the keysets of the nodes that it does not name, and live nodes are nodes of the
+/// arena.
+pub fn beside_law<D: Discipline>()
+    ensures keysets { (sort : Sort) (nodes : ℕ) (h : List Happening) → Sound sort D.begins D.step nodes h → AreBeside InKeyset h }
+    ensures live { (sort : Sort) (nodes m : ℕ) (h : List Happening) → 0 < nodes → Sound sort D.begins D.step nodes h → IsLive (graph_after h) m → m < nodes }
+{
+    D::laws();
+    walks_law();
+}
+
+/// Under trees each Shape leaves the insets of the nodes that it does not name, and edges lead to a node from one node at
+/// most, and none to the root.
+pub fn tree_beside_law()
+    ensures insets { (sort : Sort) (nodes : ℕ) (h : List Happening) → Sound sort BeginsTree TreeStep nodes h → AreBeside InInset h }
+    ensures parents { (sort : Sort) (nodes : ℕ) (h : List Happening) → Sound sort BeginsTree TreeStep nodes h → OneParent (graph_after h) }
+{
+    sound_law::<Tree>();
+    Tree::laws();
+    walks_law();
+    tree_facts_law();
 }

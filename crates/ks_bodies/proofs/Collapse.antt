@@ -40,7 +40,7 @@ one_all : (s : Start) (ss : List Start) (c : ℕ) → s.node ≡ c → All (λ t
 one_all s ss c e all zero d lt = e
 one_all s ss c e all (suc k) d lt = all k d (omega arith) ∙ e
 
-all_sole : (ss : List Start) (c : ℕ) → sole ss ≡ Some c → All (λ s. s.node ≡ c) ss
+pub all_sole : (ss : List Start) (c : ℕ) → sole ss ≡ Some c → All (λ s. s.node ≡ c) ss
 all_sole [] c e = absurd (cc)
 all_sole (s ∷ ss) c e = go (list_all (λ t. nat_eq t.node s.node) ss) refl e
   where
@@ -71,7 +71,7 @@ led_zero (s ∷ ss) p e =
     go a None is = (s.node, rw (is, a) refl)
     go a (Some m) is = (m, rw is refl)
 
-branch_child : (k : Bool) (o : Option ℕ) (c : ℕ) → cond k o None ≡ Some c → (k ≡ true) × (o ≡ Some c)
+pub branch_child : (k : Bool) (o : Option ℕ) (c : ℕ) → cond k o None ≡ Some c → (k ≡ true) × (o ≡ Some c)
 branch_child true o c e = (refl, e)
 branch_child false o c e = absurd (cc)
 

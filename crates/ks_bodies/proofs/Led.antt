@@ -312,7 +312,7 @@ clash_all [] cut id x rest none ne up =
     omega (arith, up'.0.0)
 clash_all (y ∷ ys) cut id x rest none ne up = clash_runs y.node ys cut id x rest (omega (arith, none)) ne (not_here y ys id none) up.1
 
-free_or_not : (b : Bool) → (b ≡ true → ⊥) → b ≡ false
+pub free_or_not : (b : Bool) → (b ≡ true → ⊥) → b ≡ false
 free_or_not true h = absurd (h refl)
 free_or_not false h = refl
 

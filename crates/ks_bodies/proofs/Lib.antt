@@ -12,6 +12,9 @@ pub mod AbsorbUnder
 pub mod Once
 pub mod Used
 pub mod Asked
+pub mod Adopts
+pub mod Neighbours
+pub mod Filled
 pub mod Rooted
 pub mod LinkRecords
 pub mod LinkEdges

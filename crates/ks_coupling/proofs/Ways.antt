@@ -23,7 +23,7 @@ use Rattle.ks_history.specs.Trace.{hand, drop_one, held, given, graph_after, tur
 use Rattle.ks_history.specs.Passes.{GrowsByOthers, GrowsWith}
 use Rattle.ks_history.specs.Stays.{AreInTurn, StaysHeld, cond_here, cond_else}
 use Rattle.ks_history.specs.Begins.{by_others_hand, by_others_keeps, with_others}
-use Rattle.ks_history.specs.Done.{coupling, most_held}
+use Rattle.ks_history.specs.Done.{coupling, first_taken, from_above, most_held}
 use Rattle.ks_history.specs.Underway.{Underway, underway_first, underway_with, may_take_later}
 use Rattle.ks_keysets.specs.Layout.{Layout}
 use Rattle.ks_flow.specs.Tree.{Tree, edges_to}
@@ -71,7 +71,7 @@ module _ {N : Type 0} (sort : Sort) (shows : N → Body) where
 
   pub enters_under : (c : ℕ) (op : Op) (s0 s1 : List Event) (x : Hand N) → hand c s0 ≡ [] → HasTaken sort shows c 0 s0 s1 x → Underway coupling c op s0 s1
   enters_under c op s0 s1 x empty took = underway_with coupling c op (Take c 0) s0 s0 s1 tt took.grows
-      (λ same. inl (by_others_hand c s0 (took.grows.rest ++ s0) (with_others c (Take c 0) s0 s1 took.grows) ∙ empty, refl))
+      (λ same. first_taken (by_others_hand c s0 (took.grows.rest ++ s0) (with_others c (Take c 0) s0 s1 took.grows) ∙ empty) refl)
       (omega (arith, ap length (took.hand ∙ ap (λ (z : List ℕ). 0 ∷ z) empty), two_may op))
       (underway_first coupling c op s0 empty)
 
@@ -127,4 +127,4 @@ module _ {N : Type 0} (sort : Sort) (shows : N → Body) where
 
     pub goes_under : (op : Op) (s0 : List Event) → Underway coupling c op s0 h → Underway coupling c op s0 h₂
     goes_under op s0 under = underway_with coupling c op (Give c x.node) s0 h₁ h₂ tt gave tt (omega (arith, ap length alone, two_may op))
-        (underway_with coupling c op (Take c i) s0 h h₁ tt took.grows (λ same. may_take_later coupling c i h before grew (turns before sound_before) (inr record { above = x.node; node = r; holds = mine; is = is; leads = (to.0, to.1, to.2, to.3, to.4.1) })) (omega (arith, ap length both, two_may op)) under)
+        (underway_with coupling c op (Take c i) s0 h h₁ tt took.grows (λ same. may_take_later coupling c i op h before grew (turns before sound_before) (from_above record { above = x.node; node = r; holds = mine; is = is; leads = (to.0, to.1, to.2, to.3, to.4.1) })) (omega (arith, ap length both, two_may op)) under)

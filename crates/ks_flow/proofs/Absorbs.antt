@@ -12,10 +12,12 @@ use Rattle.ks_flow.specs.Ways.{names, Outcome, Inside, AreAlike, ends_at}
 use Rattle.ks_flow.specs.Tree.{edges_between, Tree, IsInset}
 use Rattle.ks_flow.proofs.Entry.{edges_into, EntryRegion, EdgesKept, RegionSpans}
 use Rattle.ks_flow.specs.Shapes.{IsTidy, AbsorbsOwn, Collapses, KeepsTree}
+use Rattle.ks_flow.specs.Insets.{AbsorbsInsetOwn, CollapsesInset}
+use Rattle.ks_flow.proofs.Walks.{leads_on}
 use Rattle.ks_flow.proofs.Edges.{named_here, named_there, named_either, out_either, out_of, leads_kept, sole_parent}
 use Rattle.ks_flow.proofs.Entries.{entry_back, entry_forth}
-use Rattle.ks_flow.proofs.Acts.{no_way_back, GoesOut, goes_on, acts_out}
-use Rattle.ks_flow.proofs.Trees.{inset_same, inset_like, by_name1, by_name2, at_record, at_none, live_apart, between_is, between_none, pair_ends, not_on, keeps_tree}
+use Rattle.ks_flow.proofs.Acts.{no_way_back, GoesOut, goes_on, acts_out, leads_or_not}
+use Rattle.ks_flow.proofs.Trees.{inset_same, inset_like, by_name1, by_name2, at_record, at_none, live_apart, between_is, between_none, pair_ends, not_on, keeps_tree, keyset_forth, keyset_back}
 
 module _ (g k : ℕ → NodeState) (f h : ℕ → Frame) (node right : ℕ) (r q s : Record) (good : Good g) (tree : Tree g f) (x : AbsorbsOwn g k f h node right r q s) where
   abbrev R : List ℕ
@@ -105,22 +107,45 @@ module _ (g k : ℕ → NodeState) (f h : ℕ → Frame) (node right : ℕ) (r q
   pub absorb_own : KeepsTree g R k h
   absorb_own = keeps_tree g R k node f h [] (right ∷ []) x.differs entry good x.frames kept spans tree
 
+  pub absorb_own_insets : AbsorbsInsetOwn g k node right
+  absorb_own_insets = record {
+    at_node = λ p. (back p, forth p);
+    within = λ p i. (up p i).0;
+    keyset = λ p. (
+      λ i. split p i (back p i.0) (leads_or_not g p node right r good (back p i.0) x.before),
+      λ i. elim i [
+        | inl a ↦ keyset_forth g k node node p r s x.before x.after (x.else p a.0 (not_on g node p r a x.before right)) a (forth p a.0)
+        | inr b ↦ (let z = up p b.0 in keyset_forth g k right node p q s x.before_right x.after (x.there p z.0 z.1) b (forth p z.0))
+      ],
+    );
+  }
+    where
+      back : (p : ℕ) → InInset k node p → InInset g node p
+      back p i = entry_back g R k node x.differs entry good p i
+
+      forth : (p : ℕ) → InInset g node p → InInset k node p
+      forth p i = entry_forth g R k node x.differs entry good p i
+
+      split : (p : ℕ) → InKeyset k node p → InInset g node p → LeadsTo r p right ⊎ (LeadsTo r p right → ⊥) → InKeyset g node p ⊎ InKeyset g right p
+      split p i inset (inl to) = inr (keyset_back g k right node p q s x.before_right x.after (x.there p inset to) i (down p inset to))
+      split p i inset (inr not) = inl (keyset_back g k node node p r s x.before x.after (x.else p inset not) i inset)
+
 -- a collapse is such an absorb
 module _ (g k : ℕ → NodeState) (f h : ℕ → Frame) (node child : ℕ) (r q s : Record) (good : Good g) (tree : Tree g f) (x : Collapses g k f h node child r q s) where
+  child_up : (p : ℕ) → InInset g child p → InInset g node p
+  child_up p inset = let y = sole_parent g node child p r tree.edges x.before x.leads inset.1 in (inset.0, y.0)
+
+  child_down : (p : ℕ) → InInset g node p → InInset g child p
+  child_down p inset = (inset.0, along r inset.1 x.before (x.there p inset).0 (q, x.before_child))
+
   same_low : (f child).low ≡ (f node).low
   same_low =
       let y = tree.spans node (r, x.before) in
       let z = tree.spans child (q, x.before_child) in
-      (inset_same g child (f child).low z.0 (f node).low y.0 z.1 (inset_like g g node child (f node).low y.0 y.1 up down)).0
-    where
-      up : (p : ℕ) → InInset g child p → InInset g node p
-      up p inset = let y = sole_parent g node child p r tree.edges x.before x.leads inset.1 in (inset.0, y.0)
+      (inset_same g child (f child).low z.0 (f node).low y.0 z.1 (inset_like g g node child (f node).low y.0 y.1 child_up child_down)).0
 
-      down : (p : ℕ) → InInset g node p → InInset g child p
-      down p inset = (inset.0, along r inset.1 x.before (x.there p inset).0 (q, x.before_child))
-
-  pub collapse : KeepsTree g (node ∷ child ∷ []) k h
-  collapse = absorb_own g k f h node child r q s good tree (record {
+  absorbs : AbsorbsOwn g k f h node child r q s
+  absorbs = record {
     differs = x.differs;
     frames = x.frames;
     before = x.before;
@@ -136,4 +161,20 @@ module _ (g k : ℕ → NodeState) (f h : ℕ → Frame) (node child : ℕ) (r q
     pairs = λ i d lt. inr (x.pairs i d lt);
     low = x.low ∙ same_low;
     range = x.range;
-  })
+  }
+
+  pub collapse : KeepsTree g (node ∷ child ∷ []) k h
+  collapse = absorb_own g k f h node child r q s good tree absorbs
+
+  pub collapse_insets : CollapsesInset g k node child
+  collapse_insets = record {
+    at_node = (absorb_own_insets g k f h node child r q s good tree absorbs).at_node;
+    at_child = λ p. (child_up p, child_down p);
+    keyset = λ p. (
+      λ i. elim (((absorb_own_insets g k f h node child r q s good tree absorbs).keyset p).0 i) [
+        | inl a ↦ absurd (a.1 (r, x.before, leads_on r p child (x.there p a.0).0))
+        | inr b ↦ b
+      ],
+      λ i. ((absorb_own_insets g k f h node child r q s good tree absorbs).keyset p).1 (inr i),
+    );
+  }

@@ -9,14 +9,15 @@ use Rattle.ks_keysets.specs.Record.{LeadsTo}
 use Rattle.ks_keysets.specs.Keyset.{record_at, IsLive, along, InInset, InKeyset, Good}
 use Rattle.ks_flow.specs.Walk.{Path, arrives, passes}
 use Rattle.ks_flow.specs.Ways.{names, Outcome, Inside, stays, AreAlike, ends_at}
-use Rattle.ks_flow.specs.Tree.{edges_to, edges_between, OneEdge, Tree, IsInset}
+use Rattle.ks_flow.specs.Tree.{edges_to, edges_between, OneEdge, Tree, IsInset, ActsAs}
 use Rattle.ks_flow.proofs.Entry.{edges_into, EntryRegion, EdgesKept, RegionSpans}
 use Rattle.ks_flow.specs.Shapes.{IsTidy, AbsorbsUnder, KeepsTree}
+use Rattle.ks_flow.specs.Insets.{AbsorbsInsetUnder}
 use Rattle.ks_flow.proofs.Paths.{leads_some}
-use Rattle.ks_flow.proofs.Edges.{named_here, named_there, out_either, out_of, one_after, leads_kept, sole_parent}
+use Rattle.ks_flow.proofs.Edges.{named_here, named_there, out_either, out_of, one_after, leads_kept, sole_parent, leads_all}
 use Rattle.ks_flow.proofs.Entries.{entry_back, entry_forth}
 use Rattle.ks_flow.proofs.Acts.{no_way_back, GoesOut, goes_on, acts_out, leads_or_not, acts_back}
-use Rattle.ks_flow.proofs.Trees.{inset_like, by_name1, by_name3, at_record, at_none, live_apart, between_is, between_none, pair_ends, not_on, keeps_tree, range_of_over}
+use Rattle.ks_flow.proofs.Trees.{inset_like, by_name1, by_name3, at_record, at_none, live_apart, between_is, between_none, pair_ends, not_on, keeps_tree, range_of_over, keyset_forth, keyset_back}
 
 module _ (g k : ℕ → NodeState) (f h : ℕ → Frame) (parent node right : ℕ) (u r q v s : Record) (good : Good g) (tree : Tree g f) (x : AbsorbsUnder g k f h parent node right u r q v s) where
   abbrev R : List ℕ
@@ -199,3 +200,26 @@ module _ (g k : ℕ → NodeState) (f h : ℕ → Frame) (parent node right : �
 
   pub absorb_under : KeepsTree g R k h
   absorb_under = keeps_tree g R k parent f h [] (right ∷ []) x.differs entry good x.frames kept spans tree
+
+  pub absorb_under_insets : AbsorbsInsetUnder g k parent node right
+  absorb_under_insets = record {
+    at_parent = λ p. (parent_back p, parent_forth p);
+    at_node = λ p. (node_back p, λ i. elim i [ inl a ↦ node_forth p a | inr b ↦ right_forth p b ]);
+    keyset = λ p. (
+      λ i. elim (node_back p i.0) [
+        | inl a ↦ inl (keyset_back g k node node p r s x.before x.after (acts_node p a) i a)
+        | inr b ↦ inr (keyset_back g k right node p q s x.before_right x.after (acts_right p b) i b)
+      ],
+      λ i. elim i [
+        | inl a ↦ keyset_forth g k node node p r s x.before x.after (acts_node p a.0) a (node_forth p a.0)
+        | inr b ↦ keyset_forth g k right node p q s x.before_right x.after (acts_right p b.0) b (right_forth p b.0)
+      ],
+    );
+    leads_node = leads_all k parent node v one_k x.after_parent x.leads_after;
+  }
+    where
+      acts_node : (p : ℕ) → InInset g node p → ActsAs s r p
+      acts_node p inset = let z = up p inset in (x.here p z.0 z.1).1
+
+      acts_right : (p : ℕ) → InInset g right p → ActsAs s q p
+      acts_right p inset = let z = up_right p inset in (x.there p z.0 z.1).1

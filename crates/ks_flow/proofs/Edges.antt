@@ -7,7 +7,7 @@ use Rattle.std.proofs.lemmas.Bool.Decides.{eqb_tells}
 use Rattle.ks_keysets.specs.declared.Edge.{Edge}
 use Rattle.ks_keysets.specs.declared.NodeState.{NodeState}
 use Rattle.ks_keysets.specs.Record.{LeadsTo}
-use Rattle.ks_keysets.specs.Keyset.{record_at, IsLive, Reaches, at_root, along, Good}
+use Rattle.ks_keysets.specs.Keyset.{record_at, IsLive, Reaches, at_root, along, InInset, Good}
 use Rattle.ks_flow.specs.Ways.{names, DiffersIn}
 use Rattle.ks_flow.specs.Tree.{edges_to, edges_in, edges_between, OneEdge}
 use Rattle.ks_flow.proofs.Entry.{edges_into, AreDistinct, EdgesKept}
@@ -181,3 +181,9 @@ sole_parent g e x p s one is some (along {n} r reach is' to live) = go (same_or_
         let rs : r ≡ s = cc in
         (subst (λ (m : ℕ). Reaches g p m) same reach, subst (λ (t : Record). LeadsTo t p x) rs to)
     go (inr apart) = absurd (omega (arith, one.one x n e apart, here, leads_between g n p x r is' to))
+
+-- so the one node leads to it at each place of its inset
+pub leads_all : (k : ℕ → NodeState) (e x : ℕ) (s : Record) → OneEdge k → record_at k e ≡ Some s → 0 < edges_to s.edges x → (p : ℕ) (r : Record) → record_at k e ≡ Some r → InInset k x p → LeadsTo r p x
+leads_all k e x s one is some p r is' inset =
+    let same : s ≡ r = cc in
+    subst (λ (t : Record). LeadsTo t p x) same (sole_parent k e x p s one is some inset.1).1

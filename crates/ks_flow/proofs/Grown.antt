@@ -12,12 +12,13 @@ use Rattle.ks_flow.specs.Ways.{names, Outcome, Inside, stays, ends, AreAlike, en
 use Rattle.ks_flow.specs.Tree.{edges_to, edges_between, OneEdge, Tree, IsInset}
 use Rattle.ks_flow.proofs.Entry.{edges_into, EntryRegion, EdgesKept, RegionSpans}
 use Rattle.ks_flow.specs.Shapes.{IsTidy, GrowsOff, Grows, KeepsTree}
+use Rattle.ks_flow.specs.Insets.{GrowsInset}
 use Rattle.ks_flow.proofs.Walks.{edge_one, target_live}
 use Rattle.ks_flow.proofs.Paths.{leads_some}
-use Rattle.ks_flow.proofs.Edges.{named_here, named_there, out_either, out_of, none_between, one_after, leads_kept, sole_parent}
+use Rattle.ks_flow.proofs.Edges.{named_here, named_there, out_either, out_of, none_between, one_after, leads_kept, sole_parent, leads_all}
 use Rattle.ks_flow.proofs.Entries.{entry_back, entry_forth}
 use Rattle.ks_flow.proofs.Acts.{no_way_back, GoesOut, acts_out}
-use Rattle.ks_flow.proofs.Trees.{inset_same, inset_like, inset_from, inset_below, below_or_from, by_name2, by_name3, at_record, live_apart, between_is, pair_ends, keeps_tree, range_of_from, range_of_to}
+use Rattle.ks_flow.proofs.Trees.{inset_same, inset_like, inset_from, inset_below, below_or_from, by_name2, by_name3, at_record, live_apart, between_is, pair_ends, keeps_tree, range_of_from, range_of_to, keyset_forth, keyset_back}
 
 module _ (g k : ℕ → NodeState) (node left right cut : ℕ) (r v s t : Record) (good : Good g) (x : GrowsOff g k node left right cut r v s t) where
   abbrev R : List ℕ
@@ -169,3 +170,20 @@ module _ (g k : ℕ → NodeState) (f h : ℕ → Frame) (node left right cut : 
 
   pub grow : KeepsTree g S k h
   grow = keeps_tree g S k node f h (left ∷ right ∷ []) [] own.ways.differs entry good own.frames kept spans tree
+
+  pub grow_insets : GrowsInset g k node left right cut
+  grow_insets = record {
+    at_node = λ p. (node_back p, node_forth p);
+    at_left = λ p. (left_back p, λ i. left_forth p i.0 i.1);
+    at_right = λ p. (right_back p, λ i. right_forth p i.0 i.1);
+    keyset_left = λ p. (
+      λ i. let y = left_back p i.0 in (keyset_back g k node left p r s own.ways.before own.ways.after_left (own.ways.below_cut p y.0 y.1).1 i y.0, y.1),
+      λ i. keyset_forth g k node left p r s own.ways.before own.ways.after_left (own.ways.below_cut p i.0.0 i.1).1 i.0 (left_forth p i.0.0 i.1),
+    );
+    keyset_right = λ p. (
+      λ i. let y = right_back p i.0 in (keyset_back g k node right p r t own.ways.before own.ways.after_right (own.ways.from_cut p y.0 y.1).1 i y.0, y.1),
+      λ i. keyset_forth g k node right p r t own.ways.before own.ways.after_right (own.ways.from_cut p i.0.0 i.1).1 i.0 (right_forth p i.0.0 i.1),
+    );
+    leads_left = leads_all k node left v one_k own.ways.after to_left;
+    leads_right = leads_all k node right v one_k own.ways.after to_right;
+  }

@@ -6,18 +6,19 @@ use Rattle.std.specs.Prelude.{All}
 use Rattle.ks_keysets.specs.declared.NodeState.{NodeState}
 use Rattle.ks_keysets.specs.declared.Span.{Span}
 use Rattle.ks_keysets.specs.Record.{LeadsTo}
-use Rattle.ks_keysets.specs.Keyset.{record_at, IsLive, along, InInset, Good}
+use Rattle.ks_keysets.specs.Keyset.{record_at, IsLive, along, InInset, InKeyset, Good}
 use Rattle.ks_flow.specs.Walk.{Path, arrives}
 use Rattle.ks_flow.specs.Ways.{names, Outcome, Inside, stays, AreAlike, ends_at}
 use Rattle.ks_flow.specs.Tree.{edges_to, edges_between, OneEdge, Tree, IsInset}
 use Rattle.ks_flow.proofs.Entry.{edges_into, EntryRegion, EdgesKept, RegionSpans}
 use Rattle.ks_flow.specs.Shapes.{IsTidy, SplitsOff, SplitsOwn, KeepsTree}
+use Rattle.ks_flow.specs.Insets.{SplitsInsetOwn}
 use Rattle.ks_flow.proofs.Walks.{edge_one, leads_on, leads_where, target_live}
 use Rattle.ks_flow.proofs.Paths.{leads_some}
-use Rattle.ks_flow.proofs.Edges.{named_here, named_there, named_either, out_either, out_of, none_between, one_after, leads_kept, sole_parent}
+use Rattle.ks_flow.proofs.Edges.{named_here, named_there, named_either, out_either, out_of, none_between, one_after, leads_kept, sole_parent, leads_all}
 use Rattle.ks_flow.proofs.Entries.{entry_back, entry_forth}
 use Rattle.ks_flow.proofs.Acts.{no_way_back, GoesOut, acts_out}
-use Rattle.ks_flow.proofs.Trees.{inset_like, inset_from, below_or_from, by_name1, by_name2, at_record, live_apart, between_is, pair_ends, keeps_tree, range_of_from}
+use Rattle.ks_flow.proofs.Trees.{inset_like, inset_from, below_or_from, by_name1, by_name2, at_record, live_apart, between_is, pair_ends, keeps_tree, range_of_from, keyset_forth, keyset_back}
 
 module _ (g k : ℕ → NodeState) (node right cut : ℕ) (r s t : Record) (good : Good g) (x : SplitsOff g k node right cut r s t) where
   abbrev R : List ℕ
@@ -134,3 +135,19 @@ module _ (g k : ℕ → NodeState) (f h : ℕ → Frame) (node right cut : ℕ) 
 
   pub split_own : KeepsTree g S k h
   split_own = keeps_tree g S k node f h (right ∷ []) [] w.ways.differs entry good w.frames kept spans tree
+
+  pub split_own_insets : SplitsInsetOwn g k node right cut
+  split_own_insets = record {
+    at_node = λ p. (node_back p, node_forth p);
+    at_right = λ p. (right_back p, λ i. right_forth p i.0 i.1);
+    keyset_node = λ p. (λ i. below p i (below_or_from p cut), λ i. keyset_forth g k node node p r s w.ways.before w.ways.after (w.ways.below_cut p i.0.0 i.1) i.0 (node_forth p i.0.0));
+    keyset_right = λ p. (
+      λ i. let y = right_back p i.0 in (keyset_back g k node right p r t w.ways.before w.ways.after_right (w.ways.from_cut p y.0 y.1).1 i y.0, y.1),
+      λ i. keyset_forth g k node right p r t w.ways.before w.ways.after_right (w.ways.from_cut p i.0.0 i.1).1 i.0 (right_forth p i.0.0 i.1),
+    );
+    leads_right = leads_all k node right s one_k w.ways.after to_right;
+  }
+    where
+      below : (p : ℕ) → InKeyset k node p → (p < cut) ⊎ (cut ≤ p) → InKeyset g node p × (p < cut)
+      below p i (inl lt) = let inset = node_back p i.0 in (keyset_back g k node node p r s w.ways.before w.ways.after (w.ways.below_cut p inset lt) i inset, lt)
+      below p i (inr le) = absurd (i.1 (s, w.ways.after, leads_on s p right (w.ways.from_cut p (node_back p i.0) le).0))

@@ -5,13 +5,13 @@ use Rattle.std.proofs.Common.{ℕ, ◌≡◌, ◌<◌, ◌≤◌, ◌-◌, ◌�
 use Rattle.std.proofs.lemmas.Bool.Decides.{leb_tells}
 use Rattle.ks_keysets.specs.declared.NodeState.{NodeState}
 use Rattle.ks_keysets.specs.declared.Span.{Span}
-use Rattle.ks_keysets.specs.Record.{LeadsTo}
+use Rattle.ks_keysets.specs.Record.{LeadsTo, LeadsOn}
 use Rattle.ks_keysets.specs.Keyset.{record_at, IsLive, InInset, InKeyset, Good}
 use Rattle.ks_flow.specs.Ways.{names, DiffersIn, Inside, ends_at, ends}
 use Rattle.ks_flow.specs.Tree.{edges_to, edges_in, edges_between, Tree, IsInset, FramesKept, ActsAs}
 use Rattle.ks_flow.proofs.Entry.{EntryRegion, EdgesKept, RegionSpans}
 use Rattle.ks_flow.specs.Shapes.{range_to, range_from, range_over, KeepsTree}
-use Rattle.ks_flow.proofs.Walks.{same_record}
+use Rattle.ks_flow.proofs.Walks.{same_record, leads_on, leads_where}
 use Rattle.ks_flow.proofs.Edges.{named_either, one_after}
 use Rattle.ks_flow.proofs.Entries.{keeps_ways, inset_back, inset_forth}
 
@@ -79,6 +79,16 @@ pair_ends g k region p a b r s h is is' named acts = ends s named is' (λ on. h.
 
 pub not_on : (g : ℕ → NodeState) (a p : ℕ) (r : Record) → InKeyset g a p → record_at g a ≡ Some r → (m : ℕ) → LeadsTo r p m → ⊥
 not_on g a p r h is m (k, x, lt, at, to) = h.1 (r, is, (k, x, lt, at, to.0))
+
+-- a node that acts as another did has the place in its keyset where that one had it
+pub keyset_forth : (g k : ℕ → NodeState) (a b p : ℕ) (r s : Record) → record_at g a ≡ Some r → record_at k b ≡ Some s → ActsAs s r p → InKeyset g a p → InInset k b p → InKeyset k b p
+keyset_forth g k a b p r s is is' acts h inset = (inset, λ o. h.1 (r, is, acts.on (subst (λ (t : Record). LeadsOn t p) (same_record k b o.0 s o.1 is') o.2)))
+
+pub keyset_back : (g k : ℕ → NodeState) (a b p : ℕ) (r s : Record) → record_at g a ≡ Some r → record_at k b ≡ Some s → ActsAs s r p → InKeyset k b p → InInset g a p → InKeyset g a p
+keyset_back g k a b p r s is is' acts h inset = (inset, λ o. out (leads_where r p (subst (λ (t : Record). LeadsOn t p) (same_record g a o.0 r o.1 is) o.2)))
+  where
+    out : (m : ℕ) × LeadsTo r p m → ⊥
+    out (m, to) = h.1 (s, is', leads_on s p m (acts.to m to))
 
 module _ (g : ℕ → NodeState) (region : List ℕ) (k : ℕ → NodeState) (e : ℕ) (f h : ℕ → Frame) (added lost : List ℕ)
     (differs : DiffersIn g region k) (entry : EntryRegion g region k e) (good : Good g) (frames : FramesKept f region h) (kept : EdgesKept g region k added lost) (spans : RegionSpans region k h) (tree : Tree g f) where

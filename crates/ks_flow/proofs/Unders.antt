@@ -9,15 +9,16 @@ use Rattle.ks_keysets.specs.Record.{LeadsTo}
 use Rattle.ks_keysets.specs.Keyset.{record_at, IsLive, along, InInset, Good}
 use Rattle.ks_flow.specs.Walk.{Path, arrives, passes}
 use Rattle.ks_flow.specs.Ways.{names, Outcome, Inside, stays, AreAlike, ends_at}
-use Rattle.ks_flow.specs.Tree.{edges_to, edges_between, OneEdge, Tree, IsInset}
+use Rattle.ks_flow.specs.Tree.{edges_to, edges_between, OneEdge, Tree, IsInset, ActsAs}
 use Rattle.ks_flow.proofs.Entry.{edges_into, EntryRegion, EdgesKept, RegionSpans}
 use Rattle.ks_flow.specs.Shapes.{IsTidy, SplitsUnder, KeepsTree}
+use Rattle.ks_flow.specs.Insets.{SplitsInsetUnder}
 use Rattle.ks_flow.proofs.Walks.{edge_one, target_live}
 use Rattle.ks_flow.proofs.Paths.{leads_some}
-use Rattle.ks_flow.proofs.Edges.{named_here, named_there, named_either, out_either, out_of, none_between, one_after, leads_kept, sole_parent}
+use Rattle.ks_flow.proofs.Edges.{named_here, named_there, named_either, out_either, out_of, none_between, one_after, leads_kept, sole_parent, leads_all}
 use Rattle.ks_flow.proofs.Entries.{entry_back, entry_forth}
 use Rattle.ks_flow.proofs.Acts.{no_way_back, GoesOut, goes_on, acts_out, leads_or_not, acts_back}
-use Rattle.ks_flow.proofs.Trees.{inset_same, inset_like, inset_from, inset_below, below_or_from, by_name1, by_name3, at_record, live_apart, between_is, pair_ends, not_on, keeps_tree, range_of_from, range_of_to}
+use Rattle.ks_flow.proofs.Trees.{inset_same, inset_like, inset_from, inset_below, below_or_from, by_name1, by_name3, at_record, live_apart, between_is, pair_ends, not_on, keeps_tree, range_of_from, range_of_to, keyset_forth, keyset_back}
 
 module _ (g k : ℕ → NodeState) (f h : ℕ → Frame) (parent node right cut : ℕ) (u v r s t : Record) (good : Good g) (tree : Tree g f) (x : SplitsUnder g k f h parent node right cut u v r s t) where
   abbrev R : List ℕ
@@ -212,3 +213,26 @@ module _ (g k : ℕ → NodeState) (f h : ℕ → Frame) (parent node right cut 
 
   pub split_under : KeepsTree g R k h
   split_under = keeps_tree g R k parent f h (right ∷ []) [] x.differs entry good x.frames kept spans tree
+
+  pub split_under_insets : SplitsInsetUnder g k parent node right cut
+  split_under_insets = record {
+    at_parent = λ p. (parent_back p, parent_forth p);
+    at_node = λ p. (node_back p, λ i. node_forth p i.0 i.1);
+    at_right = λ p. (right_back p, λ i. right_forth p i.0 i.1);
+    keyset_node = λ p. (
+      λ i. let y = node_back p i.0 in (keyset_back g k node node p r s x.before x.after (acts_low p y.0 y.1) i y.0, y.1),
+      λ i. keyset_forth g k node node p r s x.before x.after (acts_low p i.0.0 i.1) i.0 (node_forth p i.0.0 i.1),
+    );
+    keyset_right = λ p. (
+      λ i. let y = right_back p i.0 in (keyset_back g k node right p r t x.before x.after_right (acts_high p y.0 y.1) i y.0, y.1),
+      λ i. keyset_forth g k node right p r t x.before x.after_right (acts_high p i.0.0 i.1) i.0 (right_forth p i.0.0 i.1),
+    );
+    leads_node = leads_all k parent node v one_k x.after_parent to_node;
+    leads_right = leads_all k parent right v one_k x.after_parent to_right;
+  }
+    where
+      acts_low : (p : ℕ) → InInset g node p → p < cut → ActsAs s r p
+      acts_low p inset lt = let z = up p inset in (x.below_cut p z.0 z.1 lt).1
+
+      acts_high : (p : ℕ) → InInset g node p → cut ≤ p → ActsAs t r p
+      acts_high p inset le = let z = up p inset in (x.from_cut p z.0 z.1 le).1

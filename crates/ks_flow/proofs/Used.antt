@@ -19,7 +19,7 @@ use Rattle.std.proofs.lemmas.List.{get_or_default}
 use Rattle.ks_flow.proofs.Edges.{same_or_apart, sole_parent}
 use Rattle.ks_flow.proofs.Trees.{inset_like, between_is}
 
-edges_two : (es : List Edge) (i j : ℕ) (d : Edge) (m : ℕ) → i < j → j < length es → (get_or es i d).node ≡ m → (get_or es j d).node ≡ m → 2 ≤ edges_to es m
+pub edges_two : (es : List Edge) (i j : ℕ) (d : Edge) (m : ℕ) → i < j → j < length es → (get_or es i d).node ≡ m → (get_or es j d).node ≡ m → 2 ≤ edges_to es m
 edges_two [] i j d m lt lt' is is' = absurd (omega arith)
 edges_two (e ∷ es) i zero d m lt lt' is is' = absurd (omega arith)
 edges_two (e ∷ es) zero (suc j) d m lt lt' is is' = let t : (e.node == m) ≡ true = eq-eqb e.node m is in rw t (omega (arith, edges_to_some es j d m (omega arith) is'))

@@ -7,6 +7,7 @@ ghost use Rattle.std.specs.Prelude.{ℕ, false, List, [], ◌∷◌, ◌↔◌, 
 ghost use Rattle.ks_keysets.specs.declared.NodeState.{NodeState};
 ghost use Rattle.ks_keysets.specs.Keyset.{opening, Reaches, record_at, Good, InInset, InKeyset, IsLive, AreApart};
 ghost use Rattle.ks_keysets.specs.declared.Span.{Span};
+ghost use Rattle.ks_keysets.specs.Walk.{OneParent};
 ghost use Rattle.ks_flow.specs.Link.{Link, IsRange, LeadLive, PairsStand, IsAttach, KeepsLink, SplitsRight, GrowsRight, Attaches};
 ghost use Rattle.ks_keysets.specs.Record.{IsPlace, top, Holds, Carries, LeadsTo};
 ghost use Rattle.ks_keysets.specs.declared.Change.{Change};
@@ -16,6 +17,7 @@ ghost use Rattle.ks_flow.specs.Walk.{Ends, IsWalked};
 ghost use Rattle.ks_flow.specs.Ways.{names, KeepsWays, DiffersIn};
 ghost use Rattle.ks_flow.specs.Tree.{Tree, OneEdge, SameEdges, Steps, edges_to, edges_between};
 ghost use Rattle.std.specs.Prelude.{Option, Some, None, All};
+ghost use Rattle.ks_flow.specs.Insets.{SplitsInsetOwn, SplitsInsetUnder, GrowsInset, AbsorbsInsetOwn, AbsorbsInsetUnder, CollapsesInset};
 ghost use Rattle.ks_flow.specs.Shapes.{KeepsTree, SplitsOwn, SplitsUnder, Grows, AbsorbsOwn, AbsorbsUnder, Collapses};
 
 /// A graph is good exactly where its root is live, the edges of each node are disjoint and lead to live nodes, each
@@ -56,6 +58,22 @@ pub fn tree_law()
         Collapses g k f h node child r q s → KeepsTree g (node ∷ child ∷ []) k h }
 {}
 
+/// What each shape of a tree makes of the insets of the nodes that it names; the others keep their insets.
+pub fn insets_law()
+    ensures split_own { (g k : ℕ → NodeState) (f h : ℕ → Frame) (node right cut : ℕ) (r s t : Record) → Good g → Tree g f →
+        SplitsOwn g k f h node right cut r s t → SplitsInsetOwn g k node right cut }
+    ensures split_under { (g k : ℕ → NodeState) (f h : ℕ → Frame) (parent node right cut : ℕ) (u v r s t : Record) → Good g → Tree g f →
+        SplitsUnder g k f h parent node right cut u v r s t → SplitsInsetUnder g k parent node right cut }
+    ensures grow { (g k : ℕ → NodeState) (f h : ℕ → Frame) (node left right cut : ℕ) (r v s t : Record) → Good g → Tree g f →
+        Grows g k f h node left right cut r v s t → GrowsInset g k node left right cut }
+    ensures absorb_own { (g k : ℕ → NodeState) (f h : ℕ → Frame) (node right : ℕ) (r q s : Record) → Good g → Tree g f →
+        AbsorbsOwn g k f h node right r q s → AbsorbsInsetOwn g k node right }
+    ensures absorb_under { (g k : ℕ → NodeState) (f h : ℕ → Frame) (parent node right : ℕ) (u r q v s : Record) → Good g → Tree g f →
+        AbsorbsUnder g k f h parent node right u r q v s → AbsorbsInsetUnder g k parent node right }
+    ensures collapse { (g k : ℕ → NodeState) (f h : ℕ → Frame) (node child : ℕ) (r q s : Record) → Good g → Tree g f →
+        Collapses g k f h node child r q s → CollapsesInset g k node child }
+{}
+
 /// Where links hold, the keysets are the ranges on level 0, so the graph is good where each pair stands once, in its
 /// node's keyset; and the level of the root is below each bound on the numbers of live nodes.
 pub fn link_law()
@@ -84,7 +102,7 @@ pub fn link_shapes_law()
 {}
 
 /// The facts of trees hold at the opening, and are kept where edges stay. Each edge carries a place of its node's
-/// inset, and no walk along edges from the root meets a node twice.
+/// inset, and no walk along edges from the root meets a node twice. Edges lead to a node from one node at most.
 pub fn tree_facts_law()
     ensures opening { (f : ℕ → Frame) → (f 0).low ≡ 0 → ((s : Span) → (f 0).range ≡ Some s → (s.low ≡ 0) × (s.last ≡ top)) → Tree opening f }
     ensures edges { (g k : ℕ → NodeState) (f : ℕ → Frame) → SameEdges g k → Tree g f → Tree k f }
@@ -92,5 +110,6 @@ pub fn tree_facts_law()
     ensures apart { (g : ℕ → NodeState) (f : ℕ → Frame) (n m : ℕ) (r : Record) → Good g → Tree g f → record_at g n ≡ Some r → 0 < edges_to r.edges m → n ≡ m → ⊥ }
     ensures child { (g : ℕ → NodeState) (e x p : ℕ) (s : Record) → OneEdge g → record_at g e ≡ Some s → 0 < edges_to s.edges x → Reaches g p x → Reaches g p e × LeadsTo s p x }
     ensures fresh { (g : ℕ → NodeState) (n m : ℕ) → Good g → record_at g m ≡ None → edges_between g n m ≡ 0 }
+    ensures parents { (g : ℕ → NodeState) → OneEdge g → OneParent g }
     ensures once { (g : ℕ → NodeState) (n m a b : ℕ) → OneEdge g → Steps g n a → Steps g m b → a ≡ b → n ≡ m }
 {}

@@ -24,7 +24,7 @@ pub enum Point {
 }
 
 /// What is told of points. The points of one caller come one after another, those of several callers at any time.
-pub trait Gate: Sync {
+pub trait Gate {
     /// Tells that the caller stands at the point. It returns, since it is given no leave to wait.
     fn at(&self, caller: u32, point: Point);
 }

@@ -1,9 +1,15 @@
 -- Small traces that show what the definitions mean: some at which each holds, and some at which it does not.
-use Rattle.std.proofs.Common.{ℕ, zero, suc, ◌≡◌, ◌≢◌, ◌<◌, ◌≤◌, ◌⊎◌, inl, inr, cond, ◌==◌, List, [], ◌∷◌, ◌++◌, length, get_or, slice_get, Some, None, refl, sym, ◌∙◌, ap, subst, arith}
-use Rattle.std.specs.Prelude.{Any}
+use Rattle.std.proofs.Common.{ℕ, zero, suc, ◌≡◌, ◌≢◌, ◌<◌, ◌≤◌, ◌+◌, ◌*◌, ◌%◌, ◌^◌, ◌⊎◌, inl, inr, cond, ◌==◌, List, [], ◌∷◌, ◌++◌, length, length-append, map, get_or, slice_get, Some, None, refl, sym, ◌∙◌, ap, subst, arith}
+use Rattle.std.specs.Prelude.{All, Any, Contains}
+use mathlib.Core.Logic.{dite}
+use native.Mathlib.Decide.{ℕ_discrete}
+use Rattle.std.proofs.lemmas.Nat.{mul-mod_first, mod-mul-add}
 use Rattle.std.proofs.lemmas.List.{append_cancel_right}
+use Rattle.std.proofs.lemmas.List.Elements.{All-nil, All-cons}
 use Rattle.std.proofs.lemmas.Option.{same_Some}
+use Rattle.ks_keysets.specs.declared.NewState.{NewState}
 use Rattle.ks_keysets.specs.declared.NewState.TheVariants.{BecomesLive, BecomesFree}
+use Rattle.ks_keysets.specs.declared.NodeState.{NodeState}
 use Rattle.ks_keysets.specs.declared.NodeState.TheVariants.{Claimed, Live}
 use Rattle.ks_keysets.specs.declared.Edge.{Edge}
 use Rattle.ks_keysets.specs.declared.Frame.{Frame}
@@ -11,29 +17,36 @@ use Rattle.ks_keysets.specs.declared.Change.{Change}
 use Rattle.ks_keysets.specs.declared.Kind.TheVariants.{NoBranch, Inner, Directory}
 use Rattle.ks_keysets.specs.declared.Record.{Record}
 use Rattle.ks_keysets.specs.declared.Pair.{Pair}
-use Rattle.ks_keysets.specs.Record.{top, empty_record}
-use Rattle.ks_keysets.specs.Keyset.{opening, live_record, record_at, IsLive, at_root, InKeyset, InOutset}
+use Rattle.ks_keysets.specs.Record.{IsPlace, LeadsTo, top, empty_record}
+use Rattle.ks_keysets.specs.Keyset.{opening, live_record, record_at, IsLive, at_root, along, InInset, InKeyset, InOutset}
 use Rattle.ks_keysets.specs.Frame.{blank_frame}
 use Rattle.ks_keysets.specs.Found.{reached_live}
 use Rattle.ks_keysets.specs.Layout.{Layout, list_layout, bplus_layout, hash_layout, Fit, IsLow, IsNext, IsRightNeighbour, chained, beside}
 use Rattle.ks_history.specs.declared.Op.TheVariants.{Get, Put}
 use Rattle.ks_history.specs.declared.Reply.TheVariants.{Nothing, Full}
+use Rattle.ks_history.specs.declared.Reply.{Reply}
+use Rattle.ks_history.specs.declared.Answered.{Answered}
 use Rattle.ks_history.specs.declared.Op.{Op}
 use Rattle.ks_history.specs.declared.Event.{Event}
 use Rattle.ks_history.specs.declared.Event.TheVariants.{Take, Give, Claim, Shape, Call}
-use Rattle.ks_history.specs.Trace.{◌⊑◌, free, idle, held, graph_after, turn_after, frame_after}
+use Rattle.ks_history.specs.Map.{IsAnswer, map_after, Legal}
+use Rattle.ks_history.specs.Trace.{◌⊑◌, free, idle, held, given, graph_after, turn_after, frame_after, calls_of, calls_by}
+use Rattle.ks_history.specs.Served.{at_place, CalledBelow, IsListing, Served}
 use Rattle.ks_history.specs.Due.{HoldsLiveBut, FullDue, last_call, FullsDue, BusyDue, MovedDue, FarDue, IsOnWay}
-use Rattle.ks_history.specs.Done.{Template, coupling, give_up, MayTake, Hands, at_first, and_on, Done, Left, Tight, TidyAt}
+use Rattle.ks_history.specs.Done.{Template, coupling, give_up, MayTake, first_taken, from_above, Hands, at_first, and_on, Done, Left, Tight, TidyAt}
 use Rattle.ks_history.specs.Begins.{begins_self, begins_append, begins_both, by_others_none}
 use Rattle.ks_history.specs.Calls.{done_calls, left_calls}
-use Rattle.ks_history.specs.Dues.{full_due_by, full_due_earlier}
-use Rattle.ks_history.specs.Stays.{cond_else}
+use Rattle.ks_history.specs.Dues.{none_free_by, none_free_but, full_due_earlier}
+use Rattle.ks_history.specs.Beside.{spare_others, moved_due}
+use Rattle.ks_history.specs.Descent.{IsDeep, HeldUnder, the_node, target, deep_at_root, deep_freeing}
+use Rattle.ks_history.specs.Stays.{AreInTurn, cond_here, cond_else}
 
 -- a Full with one node free all the while is refused
 full_needs_all : (layout : Layout) (n j : ℕ) (s h : List Event) (e : Event) → FullDue layout n s h e → j < n → ((k : List Event) → s ⊑ k → k ⊑ h → turn_after k j ≡ free) → ⊥
 full_needs_all layout n j s h e due lt unused =
-    let t = due.taken j lt in
-    t.3 (unused t.0 (begins_both s due.from t.0 due.since t.1) (begins_both t.0 due.to h t.2 due.before))
+    let none = due.none_free in
+    let t = none.taken j lt in
+    t.3 (unused t.0 (begins_both s none.from t.0 none.since t.1) (begins_both t.0 none.to h t.2 none.before))
 
 -- the opening graph has neither pair nor edge
 
@@ -49,9 +62,9 @@ no_edges j r is = ap (λ (t : Record). length t.edges) (opening_is j r is)
 
 -- so a Full is refused at the opening root, which has room
 full_needs_room : (layout : Layout) (s : List Event) → FullDue layout 4 s [] (Call 0 0 (Put 5 50) Full) → ⊥
-full_needs_room list_layout s due = omega (arith, no_pairs 0 due.no_room.node due.no_room.is, due.no_room.filled)
-full_needs_room bplus_layout s due = omega (arith, no_pairs 0 due.no_room.node due.no_room.is, due.no_room.filled)
-full_needs_room hash_layout s due = omega (arith, no_pairs 0 due.no_room.node due.no_room.is, due.no_room.filled)
+full_needs_room list_layout s due = let full = due.no_room.0.1 in omega (arith, no_pairs 0 full.node full.is, full.filled)
+full_needs_room bplus_layout s due = let full = due.no_room.0.1 in omega (arith, no_pairs 0 full.node full.is, full.filled)
+full_needs_room hash_layout s due = let full = due.no_room.0.1 in omega (arith, no_pairs 0 full.node full.is, full.filled)
 
 -- eight pairs fill a list node, and where it is the only node of the arena a ninth is Full
 
@@ -69,12 +82,14 @@ holds_root zero mine = (full_root, refl)
 holds_root (suc j) mine = let x : free ≡ held 0 = sym (cond_else (suc j) 0 idle free (λ e. omega arith)) ∙ sym (cond_else (suc j) 0 (held 0) (cond (suc j == 0) idle free) (λ e. omega arith)) ∙ mine in absurd (cc)
 
 full_is_due : FullDue list_layout 1 filled filled (Call 0 0 (Put 9 90) Full)
-full_is_due = full_due_by list_layout 1 filled filled filled filled (Call 0 0 (Put 9 90) Full)
-    (record { node = full_root; is = refl; filled = refl; absent = refl })
-    (begins_self filled) (by_others_none 0 filled) (begins_self filled)
-    ((tt, refl), λ k d lt. elim (first k lt) [ inl e ↦ subst (λ (i : ℕ). turn_after (Take 0 0 ∷ []) (get_or (record { node = 0; state = BecomesLive full_root blank_frame } ∷ []) i d).node ≡ held 0) (sym e) refl | inr f ↦ absurd f ])
-    holds_root
-    (λ j lt. record { moment = filled; since = begins_self filled; until = begins_self filled; so = λ is. root_held j lt is })
+full_is_due = record {
+  place = 9;
+  no_room = ((refl, record { node = full_root; is = refl; filled = refl; absent = refl }), refl);
+  none_free = none_free_by list_layout 1 0 9 filled filled filled filled (begins_self filled) (by_others_none 0 filled) (begins_self filled)
+      ((tt, refl), λ k d lt. elim (first k lt) [ inl e ↦ subst (λ (i : ℕ). turn_after (Take 0 0 ∷ []) (get_or (record { node = 0; state = BecomesLive full_root blank_frame } ∷ []) i d).node ≡ held 0) (sym e) refl | inr f ↦ absurd f ])
+      holds_root
+      (λ j lt. record { moment = filled; since = begins_self filled; until = begins_self filled; so = λ is. root_held j lt is });
+}
   where
     first : (k : ℕ) → k < 1 → (k ≡ 0) ⊎ ⊥
     first k lt = inl (omega arith)
@@ -84,11 +99,11 @@ full_is_due = full_due_by list_layout 1 filled filled filled filled (Call 0 0 (P
 
 -- that trace and its Full: all that it owes is due
 filled_due : FullsDue list_layout 1 (Call 0 0 (Put 9 90) Full ∷ filled)
-filled_due = (((tt, tt), tt), full_due_earlier list_layout 1 [] filled filled (Call 0 0 (Put 9 90) Full) (record { rest = filled; is = refl }) full_is_due)
+filled_due = (((tt, tt), tt), λ is. full_due_earlier list_layout 1 [] filled filled (Call 0 0 (Put 9 90) Full) (record { rest = filled; is = refl }) full_is_due)
 
 -- in an arena of one node more, which is free all the while, it is not
 filled_not_due : FullsDue list_layout 2 (Call 0 0 (Put 9 90) Full ∷ filled) → ⊥
-filled_not_due due = full_needs_all list_layout 2 1 [] filled (Call 0 0 (Put 9 90) Full) due.1 (omega arith) (λ k since until. unused until.rest k until.is)
+filled_not_due due = full_needs_all list_layout 2 1 [] filled (Call 0 0 (Put 9 90) Full) (due.1 refl) (omega arith) (λ k since until. unused until.rest k until.is)
   where
     unused : (rest k : List Event) → filled ≡ rest ++ k → turn_after k 1 ≡ free
     unused [] k is = ap (λ (h : List Event). turn_after h 1) (sym is)
@@ -97,8 +112,8 @@ filled_not_due due = full_needs_all list_layout 2 1 [] filled (Call 0 0 (Put 9 9
     unused (a ∷ b ∷ c ∷ rest) k is = let e : [] ≡ c ∷ (rest ++ k) = cc in absurd (cc)
 
 -- a list node claims one node at a time, so no claimed node excuses its Full
-list_claims_alone : (h : List Event) (c : ℕ) → HoldsLiveBut list_layout h c → ⊥
-list_claims_alone h c but = but.full
+list_claims_alone : (h : List Event) (c place : ℕ) → HoldsLiveBut list_layout place h c → ⊥
+list_claims_alone h c place but = but.grows
 
 -- a Busy by oneself is refused
 busy_by_another : (c node : ℕ) (op : Op) (s0 s1 : List Event) → BusyDue c op s0 s1 node c → ⊥
@@ -138,15 +153,15 @@ far_takes_steps : (n c : ℕ) (s : List Event) → FarDue (suc n) c s s → ⊥
 far_takes_steps n c s due = let rest : due.grows.rest ≡ [] = sym (append_cancel_right [] due.grows.rest s due.grows.is) in absurd (omega (arith, due.shaped.2, ap length rest))
 
 -- under coupling a caller with nothing in hand takes the root alone, under give-up any node
-coupling_begins : MayTake coupling [] 0 0
-coupling_begins = inl (refl, refl)
+coupling_begins : MayTake coupling (Get 5) [] 0 0
+coupling_begins = first_taken refl refl
 
-coupling_no_jump : MayTake coupling [] 0 5 → ⊥
-coupling_no_jump (inl e) = omega (arith, e.1)
-coupling_no_jump (inr above) = omega (arith, above.leads.2, no_edges above.above above.node above.is)
+coupling_no_jump : MayTake coupling (Get 5) [] 0 5 → ⊥
+coupling_no_jump (first_taken empty at) = omega (arith, at)
+coupling_no_jump (from_above above) = omega (arith, above.leads.2, no_edges above.above above.node above.is)
 
-give_up_jumps : MayTake give_up [] 0 5
-give_up_jumps = inl refl
+give_up_jumps : MayTake give_up (Get 5) [] 0 5
+give_up_jumps = first_taken refl tt
 
 -- a get at the root: done
 abbrev one_get : List Event
@@ -170,14 +185,15 @@ last_not_first e = let n = ap length e in omega arith
 get_done : Done list_layout coupling 4 0 (Get 5) [] one_get Nothing 0
 get_done = record {
   before = Take 0 0 ∷ [];
-  node = 0;
+  event = Call 0 0 (Get 5) Nothing;
   after = Give 0 0 ∷ [];
   is = refl;
+  call = refl;
   none_before = tt;
   none_after = tt;
   numbered = refl;
   gave_all = refl;
-  hands = and_on (and_on (and_on (at_first (omega arith)) (λ e. inl (refl, refl)) (omega arith)) tt (omega arith)) tt (omega arith);
+  hands = and_on (and_on (and_on (at_first (omega arith)) (λ e. first_taken refl refl) (omega arith)) tt (omega arith)) tt (omega arith);
   full = λ e. absurd (cc);
 }
 
@@ -199,7 +215,7 @@ gives_back = record {
   is = refl;
   none = tt;
   gave_all = refl;
-  hands = and_on (and_on (at_first (omega arith)) (λ e. inl refl) (omega arith)) tt (omega arith);
+  hands = and_on (and_on (at_first (omega arith)) (λ e. first_taken refl tt) (omega arith)) tt (omega arith);
 }
 
 -- one that made its Call is not
@@ -269,6 +285,13 @@ more_do_not r s e f fit = omega arith
 
 directory_alone : (layout : Layout) (r s : Record) → Fit layout Directory r Directory s → ⊥
 directory_alone layout r s fit = fit
+
+-- inner nodes fit and are low in the B+ layout alone
+inner_fit : (r s : Record) → length r.edges ≡ 1 → length s.edges ≡ 1 → Fit bplus_layout Inner r Inner s × IsLow bplus_layout Inner r
+inner_fit r s e f = (omega (arith, e, f), omega (arith, e))
+
+inner_alone : (r s : Record) → ¬ Fit hash_layout Inner r Inner s × ¬ IsLow hash_layout Inner r × ¬ Fit list_layout Inner r Inner s × ¬ IsLow list_layout Inner r
+inner_alone r s = (λ fit. fit, λ low. low, λ fit. fit, λ low. low)
 
 -- node 1 right of the root, by an edge of the root's own
 
@@ -346,7 +369,7 @@ chain_loose tight = tight.full 0 1 (over_one []) (edgeless []) (chain_right [] [
 
 -- a tight graph is tidy at every place
 tight_tidy : (layout : Layout) (h : List Event) (p : ℕ) → Tight layout blank_frame h → TidyAt layout blank_frame h p
-tight_tidy layout h p tight = record { at = λ n m r s inside is is' low right. tight.full n m r s right is is' }
+tight_tidy layout h p tight = record { at = λ n r inside is low. tight.full n }
 
 -- the two empty nodes are tidy at the places of the right one, which has no right neighbour
 
@@ -354,7 +377,7 @@ outset_from_four : (xs ys : List Pair) → InOutset (graph_after (chain xs ys)) 
 outset_from_four xs ys = (over_one xs, refl, (0, record { span = record { low = 4; last = top }; node = 1 }, omega arith, refl, (omega arith, omega arith)))
 
 loose_tidy_right : TidyAt list_layout blank_frame (chain [] []) 4
-loose_tidy_right = record { at = λ n m r s inside is is' low right fit. inside.1 (subst (λ (i : ℕ). InOutset (graph_after (chain [] [])) i 4) (sym (chain_alone [] [] n m right).0) (outset_from_four [] [])) }
+loose_tidy_right = record { at = λ n r inside is low m t s right is' is'' fit. inside.1 (subst (λ (i : ℕ). InOutset (graph_after (chain [] [])) i 4) (sym (chain_alone [] [] n m right).0) (outset_from_four [] [])) }
 
 -- and not at those of the left one
 
@@ -369,7 +392,7 @@ keyset_to_three = ((omega arith, at_root (over_one [], refl)), λ o. not_on o.0 
     not_on r is on = below_four (subst (λ (t : Record). Any (λ e. (e.span.low ≤ 3) × (3 ≤ e.span.last)) t.edges) (sym (same_Some (over_one []) r is)) on)
 
 loose_not_tidy : TidyAt list_layout blank_frame (chain [] []) 3 → ⊥
-loose_not_tidy tidy = tidy.at 0 1 (over_one []) (edgeless []) keyset_to_three refl refl (omega arith) (chain_right [] []) (omega arith)
+loose_not_tidy tidy = tidy.at 0 (over_one []) keyset_to_three refl (omega arith) 1 (over_one []) (edgeless []) (chain_right [] []) refl refl (omega arith)
 
 -- nodes 1 and 2 side by side below an inner root
 
@@ -424,3 +447,223 @@ stem_not_tight tight = tight.root (over_one []) 1 refl (λ e. absurd (cc)) all_t
     all_to_one : (k : ℕ) (d : Edge) → k < 1 → (get_or (over_one []).edges k d).node ≡ 1
     all_to_one zero d lt = refl
     all_to_one (suc k) d lt = absurd (omega arith)
+
+-- one put is served under a placing that spreads the keys, as hash nodes have it: a factor, and its inverse modulo 2^64
+
+abbrev spread : ℕ → ℕ
+spread k = (k * 0x9E3779B97F4A7C15) % 2 ^ 64
+
+abbrev gathered : ℕ → ℕ
+gathered p = (p * 0xF1DE83E19937733D) % 2 ^ 64
+
+undone : (a b q m k : ℕ) → a * b ≡ q * m + 1 → k < m → (k * a) % m * b % m ≡ k
+undone a b q m k inverse lt =
+    let whole : k * (a * b) ≡ k * (q * m + 1) = ap (λ n. k * n) inverse in
+    let regroup : k * a * b ≡ k * q * m + k = omega (arith, whole) in
+    mul-mod_first (k * a) b m ∙ ap (λ n. n % m) regroup ∙ mod-mul-add (k * q) m k lt
+
+spread_back : (k : ℕ) → IsPlace k → gathered (spread k) ≡ k
+spread_back k place = undone 0x9E3779B97F4A7C15 0xF1DE83E19937733D 10771413168148108919 (2 ^ 64) k refl (omega arith)
+
+-- no two keys have one place
+spread_apart : (j k : ℕ) → IsPlace j → IsPlace k → spread j ≡ spread k → j ≡ k
+spread_apart j k place place' same = sym (spread_back j place) ∙ ap gathered same ∙ spread_back k place'
+
+abbrev one_put : List Event
+one_put = Give 0 0 ∷ Call 0 0 (Put (spread 5) 50) Nothing ∷ Take 0 0 ∷ []
+
+abbrev one_pair : List (ℕ × ℕ)
+one_pair = (5, 50) ∷ []
+
+one_listed : IsListing (λ k. map_after (calls_of one_put) (spread k)) one_pair
+one_listed = record { exact = λ k v. (there k v, back k v); ascend = λ i j d lt lt'. absurd (omega arith) }
+  where
+    pair_is : (k v : ℕ) → 5 ≡ k → 50 ≡ v → let x : ℕ × ℕ = (5, 50) in let y : ℕ × ℕ = (k, v) in x ≡ y
+    pair_is k v key value = ap (λ (n : ℕ). let x : ℕ × ℕ = (n, 50) in x) key ∙ ap (λ (n : ℕ). let x : ℕ × ℕ = (k, n) in x) value
+
+    there : (k v : ℕ) → IsPlace k × (map_after (calls_of one_put) (spread k) ≡ Some v) → Contains one_pair (k, v)
+    there k v is = dite (ℕ_discrete (spread 5) (spread k))
+        (λ same. (0, omega arith, pair_is k v (spread_apart 5 k (omega arith) is.0 same) (same_Some 50 v (sym (cond_here (spread 5) (spread k) (Some 50) None same) ∙ is.1))))
+        (λ apart. let x : None ≡ Some v = sym (cond_else (spread 5) (spread k) (Some 50) None apart) ∙ is.1 in absurd (cc))
+
+    back : (k v : ℕ) → Contains one_pair (k, v) → IsPlace k × (map_after (calls_of one_put) (spread k) ≡ Some v)
+    back k v (zero, lt, same) =
+        let key : 5 ≡ k = ap (λ (x : ℕ × ℕ). x.0) same in
+        let value : 50 ≡ v = ap (λ (x : ℕ × ℕ). x.1) same in
+        (omega arith, cond_here (spread 5) (spread k) (Some 50) None (ap spread key) ∙ ap (λ (n : ℕ). Some n) value)
+    back k v (suc i, lt, same) = absurd (omega arith)
+
+one_served : Served spread ((Put 5 50 ∷ []) ∷ []) (((0, Nothing) ∷ []) ∷ []) one_pair one_put
+one_served = record { asked = asked; told = told_so; callers = refl; others = called; legal = legal; final = one_listed }
+  where
+    asked : (c : ℕ) (ops : List Op) → slice_get ((Put 5 50 ∷ []) ∷ []) c ≡ Some ops → map (λ x. x.call.op) (calls_by c one_put) ≡ map (at_place spread) ops
+    asked zero ops is = ap (map (at_place spread)) (same_Some (Put 5 50 ∷ []) ops is)
+    asked (suc c) ops is = absurd (cc)
+
+    told_so : (c : ℕ) (ls : List (ℕ × Reply)) → slice_get (((0, Nothing) ∷ []) ∷ []) c ≡ Some ls → map (λ x. (x.number, x.call.reply)) (calls_by c one_put) ≡ ls
+    told_so zero ls is = same_Some ((0, Nothing) ∷ []) ls is
+    told_so (suc c) ls is = absurd (cc)
+
+    called : All (CalledBelow 1) one_put
+    called zero d lt = tt
+    called (suc zero) d lt = omega arith
+    called (suc (suc zero)) d lt = tt
+    called (suc (suc (suc k))) d lt = absurd (omega arith)
+
+    legal : Legal (calls_of one_put)
+    legal zero a is = subst (λ (x : Answered). IsAnswer (map_after []) x.op x.reply) (same_Some (record { op = Put (spread 5) 50; reply = Nothing }) a is) (inl refl)
+    legal (suc k) a is = absurd (cc)
+
+-- a printed map that leaves the pair out does not tell it
+pair_left_out : Served spread ((Put 5 50 ∷ []) ∷ []) (((0, Nothing) ∷ []) ∷ []) [] one_put → ⊥
+pair_left_out served = let there = (served.final.exact 5 50).0 (omega arith, refl) in omega (arith, there.1)
+
+-- under a hash layout a claimed node is excused beside the full root, in an arena of these two
+
+abbrev filled_claim : List Event
+filled_claim = Claim 0 1 ∷ filled
+
+claimed_beside : HoldsLiveBut hash_layout 9 filled_claim 0
+claimed_beside = record { one = 1; claimed = refl; node = 0; holds = refl; grows = (refl, full_root, refl, refl); others = others }
+  where
+    others : (j : ℕ) → j ≢ 1 → turn_after filled_claim j ≡ held 0 → IsLive (graph_after filled_claim) j
+    others zero ne mine = (full_root, refl)
+    others (suc zero) ne mine = absurd (ne refl)
+    others (suc (suc j)) ne mine =
+        let i : ℕ = suc (suc j) in
+        let e = cond_else i 1 (held 0) (cond (i == 0) (held 0) (cond (i == 0) idle free)) (λ e. omega arith) ∙ cond_else i 0 (held 0) (cond (i == 0) idle free) (λ e. omega arith) ∙ cond_else i 0 idle free (λ e. omega arith) in
+        let x : free ≡ held 0 = sym e ∙ mine in absurd (cc)
+
+same_between : (t k : List Event) → t ⊑ k → k ⊑ t → k ≡ t
+same_between t k a b = a.is ∙ ap (λ (z : List Event). z ++ t) (empty a.rest (omega (arith, ap length a.is, ap length b.is, length-append a.rest t, length-append b.rest k)))
+  where
+    empty : (rest : List Event) → length rest ≡ 0 → rest ≡ []
+    empty [] none = refl
+    empty (e ∷ rest) none = absurd (omega arith)
+
+claimed_is_due : FullDue hash_layout 2 filled_claim filled_claim (Call 0 0 (Put 9 90) Full)
+unfolding claimed_beside
+claimed_is_due = record {
+  place = 9;
+  no_room = ((refl, record { node = full_root; is = refl; filled = refl; absent = refl }), refl);
+  none_free = none_free_but hash_layout 2 0 9 filled_claim filled_claim filled_claim filled_claim (begins_self filled_claim) (by_others_none 0 filled_claim) (begins_self filled_claim)
+      (((tt, refl), All-cons (λ x. turn_after (Take 0 0 ∷ []) x.node ≡ held 0) (record { node = 0; state = BecomesLive full_root blank_frame }) [] refl (All-nil (λ x. turn_after (Take 0 0 ∷ []) x.node ≡ held 0))), refl)
+      claimed_beside refl
+      (λ k a b inside. subst (λ (z : List Event). InKeyset (graph_after z) 0 9) (sym (same_between filled_claim k a b)) inside)
+      (λ j lt. record { moment = filled_claim; since = begins_self filled_claim; until = begins_self filled_claim; so = both_held j lt });
+}
+  where
+    both_held : (j : ℕ) → j < 2 → turn_after filled_claim j ≡ free → ⊥
+    both_held zero lt is = let x : held 0 ≡ free = is in cc
+    both_held (suc zero) lt is = let x : held 0 ≡ free = is in cc
+    both_held (suc (suc j)) lt is = omega arith
+
+-- the node of `one_moved` moved, by the law: each Shape there leaves the insets of the nodes that it does not name
+
+abbrev two_changes : NewState → NewState → List Change
+two_changes s t = record { node = 0; state = s } ∷ record { node = 1; state = t } ∷ []
+
+past_one : (s t : NewState) (i : ℕ) → All (λ x. x.node ≢ i) (two_changes s t) → (j : ℕ) × (i ≡ suc (suc j))
+past_one s t zero apart = absurd (apart 0 (record { node = 0; state = s }) (omega arith) refl)
+past_one s t (suc zero) apart = absurd (apart 1 (record { node = 0; state = s }) (omega arith) refl)
+past_one s t (suc (suc j)) apart = (j, refl)
+
+both_changes : (P : Change → Type 0) (s t : NewState) → P (record { node = 0; state = s }) → P (record { node = 1; state = t }) → All P (two_changes s t)
+both_changes P s t p q = All-cons P (record { node = 0; state = s }) (record { node = 1; state = t } ∷ []) p (All-cons P (record { node = 1; state = t }) [] q (All-nil P))
+
+one_moved_by_law : MovedDue 0 (Get 5) grown (freed ∷ grown) 1
+one_moved_by_law = moved_due 0 1 5 (Get 5) grown grown (freed ∷ grown) (freed ∷ grown) (begins_self grown) (begins_append (freed ∷ []) grown) (begins_self (freed ∷ grown)) refl
+    turns (((((tt, tt), tt), first), second)) (spare_others 0 1 (freed ∷ []) ((λ e. omega arith), tt))
+    (inr (0, to_one, refl, leads))
+    ((omega arith), along to_one (at_root (to_one, refl)) refl leads (empty_record, refl))
+    (λ inset. let live : IsLive (graph_after (freed ∷ grown)) 1 = reached_live inset.1 in let x : None ≡ Some live.0 = live.1 in cc)
+  where
+    leads : LeadsTo to_one 5 1
+    leads = (0, record { span = record { low = 0; last = top }; node = 1 }, omega arith, refl, ((omega arith, omega arith), refl))
+
+    turns : AreInTurn (freed ∷ grown)
+    turns = (
+      (((tt, refl), refl), both_changes (λ x. turn_after (Claim 1 1 ∷ Take 1 0 ∷ []) x.node ≡ held 1) (BecomesLive to_one blank_frame) (BecomesLive empty_record blank_frame) refl refl),
+      both_changes (λ x. turn_after grown x.node ≡ held 1) (BecomesLive empty_record blank_frame) BecomesFree refl refl,
+    )
+
+    none_live : (j : ℕ) → IsLive (graph_after (Claim 1 1 ∷ Take 1 0 ∷ [])) (suc (suc j)) → ⊥
+    none_live j live =
+        let i : ℕ = suc (suc j) in
+        let x : None ≡ Some live.0 = sym (ap live_record (cond_else i 1 (Claimed 1) (opening i) (λ e. omega arith))) ∙ live.1 in cc
+
+    none_grown : (j : ℕ) → IsLive (graph_after grown) (suc (suc j)) → ⊥
+    none_grown j live =
+        let i : ℕ = suc (suc j) in
+        let e = cond_else i 0 (Live to_one) (cond (i == 1) (Live empty_record) (cond (i == 1) (Claimed 1) (opening i))) (λ e. omega arith)
+        ∙ cond_else i 1 (Live empty_record) (cond (i == 1) (Claimed 1) (opening i)) (λ e. omega arith) in
+        none_live j (live.0, sym (ap live_record e) ∙ live.1)
+
+    first : (i p : ℕ) → All (λ x. x.node ≢ i) (two_changes (BecomesLive to_one blank_frame) (BecomesLive empty_record blank_frame)) → InInset (graph_after (Claim 1 1 ∷ Take 1 0 ∷ [])) i p → InInset (graph_after grown) i p
+    first i p apart inset =
+        let past = past_one (BecomesLive to_one blank_frame) (BecomesLive empty_record blank_frame) i apart in
+        absurd (none_live past.0 (subst (IsLive (graph_after (Claim 1 1 ∷ Take 1 0 ∷ []))) past.1 (reached_live inset.1)))
+
+    second : (i p : ℕ) → All (λ x. x.node ≢ i) (two_changes (BecomesLive empty_record blank_frame) BecomesFree) → InInset (graph_after grown) i p → InInset (graph_after (freed ∷ grown)) i p
+    second i p apart inset =
+        let past = past_one (BecomesLive empty_record blank_frame) BecomesFree i apart in
+        absurd (none_grown past.0 (subst (IsLive (graph_after grown)) past.1 (reached_live inset.1)))
+
+-- caller 0 takes the root and its one child, and collapses them: the root then counts as one step deep, as a node is gone
+
+abbrev twig : List Event
+twig = Give 0 1 ∷ Give 0 0 ∷ Shape 0 (record { node = 0; state = BecomesLive to_one blank_frame } ∷ record { node = 1; state = BecomesLive empty_record blank_frame } ∷ []) ∷ Claim 0 1 ∷ Take 0 0 ∷ []
+
+abbrev both_taken : List Event
+both_taken = Take 0 1 ∷ Take 0 0 ∷ twig
+
+abbrev collapse : List Change
+collapse = record { node = 0; state = BecomesLive empty_record blank_frame } ∷ record { node = 1; state = BecomesFree } ∷ []
+
+collapse_counts : IsDeep 2 0 (1 ∷ []) twig (Shape 0 collapse ∷ both_taken) 1 0
+collapse_counts = deep_freeing 2 0 collapse [] twig both_taken (Shape 0 collapse ∷ both_taken) 0 0 1 (record { rest = []; is = refl; others = tt }) turns
+    (record { one = one; root = none_to_root })
+    (both_changes (λ x. HeldUnder both_taken 0 0 x.node) (BecomesLive empty_record blank_frame) BecomesFree the_node (target to_one the_node refl refl (0, record { span = record { low = 0; last = top }; node = 1 }, omega arith, refl, refl)))
+    (inl refl) (omega arith) refl (empty_record, refl) refl
+    (deep_at_root 2 0 twig both_taken (begins_append (Take 0 1 ∷ Take 0 0 ∷ []) twig))
+  where
+    turns : AreInTurn (Shape 0 collapse ∷ both_taken)
+    turns = (
+      (((((((tt, refl), refl), both_changes (λ x. turn_after (Claim 0 1 ∷ Take 0 0 ∷ []) x.node ≡ held 0) (BecomesLive to_one blank_frame) (BecomesLive empty_record blank_frame) refl refl), refl), refl), refl), refl),
+      both_changes (λ x. turn_after both_taken x.node ≡ held 0) (BecomesLive empty_record blank_frame) BecomesFree refl refl,
+    )
+
+    twig_is : (i : ℕ) (r : Record) → record_at (graph_after both_taken) i ≡ Some r → ((i ≡ 0) × (r ≡ to_one)) ⊎ (r ≡ empty_record)
+    twig_is zero r is = inl (refl, sym (same_Some to_one r is))
+    twig_is (suc zero) r is = inr (sym (same_Some empty_record r is))
+    twig_is (suc (suc j)) r is =
+        let i : ℕ = suc (suc j) in
+        let shaped : ℕ → NodeState = graph_after (Shape 0 (record { node = 0; state = BecomesLive to_one blank_frame } ∷ record { node = 1; state = BecomesLive empty_record blank_frame } ∷ []) ∷ Claim 0 1 ∷ Take 0 0 ∷ []) in
+        let e = cond_else i 1 (given (graph_after (Give 0 0 ∷ Shape 0 (record { node = 0; state = BecomesLive to_one blank_frame } ∷ record { node = 1; state = BecomesLive empty_record blank_frame } ∷ []) ∷ Claim 0 1 ∷ Take 0 0 ∷ []) 1)) (cond (i == 0) (given (shaped 0)) (shaped i)) (λ e. omega arith)
+        ∙ cond_else i 0 (given (shaped 0)) (shaped i) (λ e. omega arith)
+        ∙ cond_else i 0 (Live to_one) (cond (i == 1) (Live empty_record) (cond (i == 1) (Claimed 0) (opening i))) (λ e. omega arith)
+        ∙ cond_else i 1 (Live empty_record) (cond (i == 1) (Claimed 0) (opening i)) (λ e. omega arith)
+        ∙ cond_else i 1 (Claimed 0) (opening i) (λ e. omega arith) in
+        let x : None ≡ Some r = sym (ap live_record e) ∙ is in absurd (cc)
+
+    no_edge : (r : Record) (m : ℕ) → r ≡ empty_record → Any (λ e. e.node ≡ m) r.edges → ⊥
+    no_edge r m is leads = let e = ap (λ (t : Record). length t.edges) is in omega (arith, leads.2, e)
+
+    to_one_alone : (m : ℕ) → Any (λ e. e.node ≡ m) to_one.edges → m ≡ 1
+    to_one_alone m (zero, d, lt, is, to) = sym to ∙ ap (λ (e : Edge). e.node) (sym is)
+    to_one_alone m (suc k, d, lt, is, to) = absurd (omega arith)
+
+    one : (n m b : ℕ) (r s : Record) → record_at (graph_after both_taken) n ≡ Some r → record_at (graph_after both_taken) m ≡ Some s → Any (λ e. e.node ≡ b) r.edges → Any (λ e. e.node ≡ b) s.edges → n ≡ m
+    one n m b r s is is' leads leads' = go (twig_is n r is) (twig_is m s is')
+      where
+        go : ((n ≡ 0) × (r ≡ to_one)) ⊎ (r ≡ empty_record) → ((m ≡ 0) × (s ≡ to_one)) ⊎ (s ≡ empty_record) → n ≡ m
+        go (inl x) (inl y) = x.0 ∙ sym y.0
+        go (inr none) y = absurd (no_edge r b none leads)
+        go (inl x) (inr none) = absurd (no_edge s b none leads')
+
+    none_to_root : (n : ℕ) (r : Record) → record_at (graph_after both_taken) n ≡ Some r → ¬ Any (λ e. e.node ≡ 0) r.edges
+    none_to_root n r is leads = go (twig_is n r is)
+      where
+        go : ((n ≡ 0) × (r ≡ to_one)) ⊎ (r ≡ empty_record) → ⊥
+        go (inl x) = let e = to_one_alone 0 (subst (λ (t : Record). Any (λ e. e.node ≡ 0) t.edges) x.1 leads) in omega arith
+        go (inr none) = no_edge r 0 none leads

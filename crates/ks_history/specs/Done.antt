@@ -1,16 +1,16 @@
 -- What a call leaves in the trace, how many nodes it holds on its way, and tight traces.
-use Rattle.std.specs.Prelude.{ℕ, ◌≡◌, ◌≤◌, ◌⊎◌, List, [], ◌∷◌, ◌++◌, length, Some, Any}
+use Rattle.std.specs.Prelude.{ℕ, ◌≡◌, ◌≤◌, List, [], ◌∷◌, ◌++◌, length, Some, Any}
 use Rattle.ks_keysets.specs.declared.Record.{Record}
 use Rattle.ks_keysets.specs.declared.Frame.{Frame}
-use Rattle.ks_keysets.specs.Keyset.{record_at, InKeyset}
-use Rattle.ks_keysets.specs.Layout.{Layout, IsTight, IsLow, IsRightNeighbour, Fit}
+use Rattle.ks_keysets.specs.Keyset.{record_at}
+use Rattle.ks_keysets.specs.Layout.{Layout, IsTight, IsTidyAt}
 use Rattle.ks_history.specs.declared.Op.{Op}
 use Rattle.ks_history.specs.declared.Op.TheVariants.{Get, Swap}
 use Rattle.ks_history.specs.declared.Reply.{Reply}
 use Rattle.ks_history.specs.declared.Reply.TheVariants.{Full}
 use Rattle.ks_history.specs.declared.Event.{Event}
-use Rattle.ks_history.specs.declared.Event.TheVariants.{Take, Call}
-use Rattle.ks_history.specs.Trace.{held, graph_after, turn_after, frame_after, number_after, hand}
+use Rattle.ks_history.specs.declared.Event.TheVariants.{Take, Give, Claim, Shape, Call}
+use Rattle.ks_history.specs.Trace.{held, called, call_in, graph_after, turn_after, frame_after, number_after, hand}
 use Rattle.ks_history.specs.Passes.{NoCallBy}
 use Rattle.ks_history.specs.Due.{FullDue}
 
@@ -29,16 +29,24 @@ pub record HoldsAbove (h : List Event) (c i : ℕ) : Type 0 where
   pub is : record_at (graph_after h) above ≡ Some node
   pub leads : Any (λ e. e.node ≡ i) node.edges
 
--- how c may come to take node i
-abbrev pub MayTake : Template → List Event → ℕ → ℕ → Type 0
-MayTake coupling h c i = ((hand c h ≡ []) × (i ≡ 0)) ⊎ HoldsAbove h c i
-MayTake give_up h c i = (hand c h ≡ []) ⊎ HoldsAbove h c i
-MayTake link_move h c i = (hand c h ≡ []) ⊎ HoldsAbove h c i
+-- where a caller that holds nothing may begin: by coupling at the root, else at any node
+abbrev pub MayBegin : Template → ℕ → Type 0
+MayBegin coupling i = i ≡ 0
+MayBegin give_up i = Unit {0}
+MayBegin link_move i = Unit {0}
+
+-- how c may come to take node i for its operation: it begins there, or comes from a node that it holds
+pub data MayTake (template : Template) (op : Op) (h : List Event) (c i : ℕ) : Type 0 where
+  first_taken : hand c h ≡ [] → MayBegin template i → MayTake template op h c i
+  from_above : HoldsAbove h c i → MayTake template op h c i
 
 -- if the event that follows h is a Take of c, it may be
-abbrev pub TakesWell : Template → ℕ → List Event → Event → Type 0
-TakesWell template c h (Take d i) = d ≡ c → MayTake template h c i
-TakesWell template c h e = Unit {0}
+abbrev pub TakesWell : Template → ℕ → Op → List Event → Event → Type 0
+TakesWell template c op h (Take d i) = d ≡ c → MayTake template op h c i
+TakesWell template c op h (Give d i) = Unit {0}
+TakesWell template c op h (Claim d i) = Unit {0}
+TakesWell template c op h (Shape d changes) = Unit {0}
+TakesWell template c op h (Call d i op' reply) = Unit {0}
 
 -- how many nodes a call holds at most
 abbrev pub most_held : Template → Op → ℕ
@@ -52,22 +60,24 @@ most_held template op = 3
 -- from s0 on caller c takes nodes as it may, and never holds more than its operation needs
 pub data Hands (template : Template) (c : ℕ) (op : Op) (s0 : List Event) : List Event → Type 0 where
   at_first : length (hand c s0) ≤ most_held template op → Hands template c op s0 s0
-  and_on : {h : List Event} {e : Event} → Hands template c op s0 h → TakesWell template c h e → length (hand c (e ∷ h)) ≤ most_held template op → Hands template c op s0 (e ∷ h)
+  and_on : {h : List Event} {e : Event} → Hands template c op s0 h → TakesWell template c op h e → length (hand c (e ∷ h)) ≤ most_held template op → Hands template c op s0 (e ∷ h)
 
--- the call of c between s0 and s1 made one Call, of this operation, with this reply and number, and gave all back
+-- the call of c between s0 and s1 made one event that is a call, of this operation, with this reply and number, and gave
+-- all back
 pub record Done (layout : Layout) (template : Template) (n c : ℕ) (op : Op) (s0 s1 : List Event) (reply : Reply) (number : ℕ) : Type 0 where
   pub before : List Event
-  pub node : ℕ
+  pub event : Event
   pub after : List Event
-  pub is : s1 ≡ after ++ Call c node op reply ∷ (before ++ s0)
+  pub is : s1 ≡ after ++ event ∷ (before ++ s0)
+  pub call : call_in event ≡ Some (called c op reply)
   pub none_before : NoCallBy c before
   pub none_after : NoCallBy c after
   pub numbered : number ≡ number_after (before ++ s0)
   pub gave_all : hand c s1 ≡ []
   pub hands : Hands template c op s0 s1
-  pub full : reply ≡ Full → FullDue layout n s0 (before ++ s0) (Call c node op reply)
+  pub full : reply ≡ Full → FullDue layout n s0 (before ++ s0) event
 
--- the call of c between s0 and s1 made no Call, and gave all back
+-- the call of c between s0 and s1 made no such event, and gave all back
 pub record Left (template : Template) (c : ℕ) (op : Op) (s0 s1 : List Event) : Type 0 where
   pub rest : List Event
   pub is : s1 ≡ rest ++ s0
@@ -80,7 +90,6 @@ pub record Left (template : Template) (c : ℕ) (op : Op) (s0 s1 : List Event) :
 abbrev pub Tight : Layout → Frame → List Event → Type 0
 Tight layout blank h = IsTight layout (graph_after h) (frame_after blank h)
 
--- the node whose keyset holds the place is not low, or has no right neighbour, or does not fit with it
-pub record TidyAt (layout : Layout) (blank : Frame) (h : List Event) (p : ℕ) : Type 0 where
-  pub at : (n m : ℕ) (r s : Record) → InKeyset (graph_after h) n p → record_at (graph_after h) n ≡ Some r → record_at (graph_after h) m ≡ Some s
-      → IsLow layout (frame_after blank h n).kind r → IsRightNeighbour (graph_after h) (frame_after blank h) n m → ¬ Fit layout (frame_after blank h n).kind r (frame_after blank h m).kind s
+-- after it the node whose keyset holds the place is not low, or fits with no right neighbour
+abbrev pub TidyAt : Layout → Frame → List Event → ℕ → Type 0
+TidyAt layout blank h p = IsTidyAt layout (graph_after h) (frame_after blank h) p

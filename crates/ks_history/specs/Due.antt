@@ -7,12 +7,12 @@ use Rattle.ks_keysets.specs.Record.{LeadsTo, first_value}
 use Rattle.ks_keysets.specs.Keyset.{record_at, IsLive, InInset}
 use Rattle.ks_keysets.specs.Layout.{Layout, list_layout, bplus_layout, hash_layout, room}
 use Rattle.ks_history.specs.declared.Op.{Op}
-use Rattle.ks_history.specs.declared.Op.TheVariants.{Put, Add}
+use Rattle.ks_history.specs.declared.Op.TheVariants.{Get, Put, Del, Add, Swap}
 use Rattle.ks_history.specs.declared.Reply.TheVariants.{Full}
 use Rattle.ks_history.specs.declared.Event.{Event}
 use Rattle.ks_history.specs.declared.Event.TheVariants.{Take, Give, Claim, Shape, Call}
 use Rattle.ks_history.specs.Map.{Touches}
-use Rattle.ks_history.specs.Trace.{◌⊑◌, free, held, caller_of, graph_after, turn_after}
+use Rattle.ks_history.specs.Trace.{◌⊑◌, free, held, caller_of, call_in, graph_after, turn_after}
 use Rattle.ks_history.specs.Passes.{NoneBy}
 
 -- node i is live, with pairs that fill it and none at the place p
@@ -22,60 +22,71 @@ pub record IsFullFor (layout : Layout) (g : ℕ → NodeState) (i p : ℕ) : Typ
   pub filled : length node.pairs ≡ room layout
   pub absent : first_value node.pairs p ≡ None
 
--- the event is a Put or an Add with the reply Full, whose node is full for its place
-abbrev pub FindsNoRoom : Layout → (ℕ → NodeState) → Event → Type 0
-FindsNoRoom layout g (Call c i (Put p v) Full) = IsFullFor layout g i p
-FindsNoRoom layout g (Call c i (Add p v) Full) = IsFullFor layout g i p
-FindsNoRoom layout g e = ⊥
+-- the operation at node i is a Put or an Add of the place, for which the node is full
+abbrev pub HasNoRoom : Layout → (ℕ → NodeState) → ℕ → Op → ℕ → Type 0
+HasNoRoom layout g i (Put p v) place = (p ≡ place) × IsFullFor layout g i p
+HasNoRoom layout g i (Add p v) place = (p ≡ place) × IsFullFor layout g i p
+HasNoRoom layout g i (Get p) place = ⊥
+HasNoRoom layout g i (Del p) place = ⊥
+HasNoRoom layout g i (Swap p old new) place = ⊥
 
--- a root with this record is full and grows, by two nodes that are claimed one after the other
-abbrev pub IsFullRoot : Layout → Record → Type 0
-IsFullRoot list_layout r = ⊥
-IsFullRoot bplus_layout r = (length r.pairs ≡ room bplus_layout) ⊎ (length r.edges ≡ room bplus_layout)
-IsFullRoot hash_layout r = length r.pairs ≡ room hash_layout
+-- the event is a call with the reply Full, whose node has no room for the place
+abbrev pub FindsNoRoom : Layout → (ℕ → NodeState) → Event → ℕ → Type 0
+FindsNoRoom layout g (Take c i) place = ⊥
+FindsNoRoom layout g (Give c i) place = ⊥
+FindsNoRoom layout g (Claim c i) place = ⊥
+FindsNoRoom layout g (Shape c changes) place = ⊥
+FindsNoRoom layout g (Call c i op reply) place = HasNoRoom layout g i op place × (reply ≡ Full)
+
+-- the node may grow for the place, by two nodes that are claimed one after the other: in a B+ or hash layout the full root
+abbrev pub MayGrow : Layout → (ℕ → NodeState) → ℕ → ℕ → Type 0
+MayGrow list_layout g node place = ⊥
+MayGrow bplus_layout g node place = (node ≡ 0) × (r : Record) × (record_at g node ≡ Some r) × ((length r.pairs ≡ room bplus_layout) ⊎ (length r.edges ≡ room bplus_layout))
+MayGrow hash_layout g node place = (node ≡ 0) × (r : Record) × (record_at g node ≡ Some r) × (length r.pairs ≡ room hash_layout)
 
 -- each node that c holds after h is live
 abbrev pub HoldsLive : List Event → ℕ → Type 0
 HoldsLive h c = (j : ℕ) → turn_after h j ≡ held c → IsLive (graph_after h) j
 
--- each is live but one, which c has claimed and holds beside the full root
-pub record HoldsLiveBut (layout : Layout) (h : List Event) (c : ℕ) : Type 0 where
+-- each is live but one, which c has claimed and holds beside a node that may grow for the place
+pub record HoldsLiveBut (layout : Layout) (place : ℕ) (h : List Event) (c : ℕ) : Type 0 where
   pub one : ℕ
   pub claimed : graph_after h one ≡ Claimed c
-  pub holds : turn_after h 0 ≡ held c
-  pub root : Record
-  pub is : record_at (graph_after h) 0 ≡ Some root
-  pub full : IsFullRoot layout root
+  pub node : ℕ
+  pub holds : turn_after h node ≡ held c
+  pub grows : MayGrow layout (graph_after h) node place
   pub others : (j : ℕ) → j ≢ one → turn_after h j ≡ held c → IsLive (graph_after h) j
 
--- the reply Full of the event e that follows the trace h is due by what happened after its beginning s, over n nodes
-pub record FullDue (layout : Layout) (n : ℕ) (s h : List Event) (e : Event) : Type 0 where
-  pub no_room : FindsNoRoom layout (graph_after h) e
+-- after the beginning s of h there were two moments between which c waited, holding no more than a growth for the place
+-- needs, and each of the n nodes was at some moment not free
+pub record NoneFree (layout : Layout) (n c place : ℕ) (s h : List Event) : Type 0 where
   pub from : List Event
   pub to : List Event
   pub since : s ⊑ from
   pub ordered : from ⊑ to
   pub before : to ⊑ h
   -- from the one moment to the other the caller does nothing
-  pub waits : NoneBy (caller_of e) ordered.rest
-  -- what it holds meanwhile is live, but for a node that it has claimed for a full root
-  pub holds : (k : List Event) → from ⊑ k → k ⊑ to → HoldsLive k (caller_of e) ⊎ HoldsLiveBut layout k (caller_of e)
+  pub waits : NoneBy c ordered.rest
+  -- what it holds meanwhile is live, but for a node that it has claimed for one that grows
+  pub holds : (k : List Event) → from ⊑ k → k ⊑ to → HoldsLive k c ⊎ HoldsLiveBut layout place k c
   -- and every node is at some moment not free
   pub taken : (j : ℕ) → j < n → (k : List Event) × from ⊑ k × k ⊑ to × (turn_after k j ≢ free)
 
--- the trace up to the last Call of c and with it; the empty trace if c made none
+-- the reply Full of the event e that follows the trace h is due by what happened after its beginning s, over n nodes:
+-- it finds no room for a place, and no node was free
+pub record FullDue (layout : Layout) (n : ℕ) (s h : List Event) (e : Event) : Type 0 where
+  pub place : ℕ
+  pub no_room : FindsNoRoom layout (graph_after h) e place
+  pub none_free : NoneFree layout n (caller_of e) place s h
+
+-- the trace up to the last call of c and with it; the empty trace if c made none
 abbrev pub last_call : ℕ → List Event → List Event
 last_call c [] = []
-last_call c (Take d i ∷ h) = last_call c h
-last_call c (Give d i ∷ h) = last_call c h
-last_call c (Claim d i ∷ h) = last_call c h
-last_call c (Shape d changes ∷ h) = last_call c h
-last_call c (Call d i op reply ∷ h) = if d == c then Call d i op reply ∷ h else last_call c h
+last_call c (e ∷ h) = elim (call_in e) [ None ↦ last_call c h | Some call ↦ if call.caller == c then e ∷ h else last_call c h ]
 
--- if the event that follows h has the reply Full, it is due since the last Call of its caller
+-- if the event that follows h is a call with the reply Full, it is due since the last call of its caller
 abbrev pub IsDue : Layout → ℕ → List Event → Event → Type 0
-IsDue layout n h (Call c i op Full) = FullDue layout n (last_call c h) h (Call c i op Full)
-IsDue layout n h e = Unit {0}
+IsDue layout n h e = elim (call_in e) [ None ↦ Unit {0} | Some call ↦ call.reply ≡ Full → FullDue layout n (last_call call.caller h) h e ]
 
 -- each Full of the trace was due
 abbrev pub FullsDue : Layout → ℕ → List Event → Type 0

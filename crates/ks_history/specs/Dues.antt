@@ -1,26 +1,50 @@
--- Laws of traces: what is due stays due for an earlier beginning, and how a Full becomes due.
-use Rattle.std.proofs.Common.{◌≡◌, ◌≢◌, ℕ, ◌<◌, inl, inr, List, ◌++◌, sym, ap, ◌∙◌, subst, append_assoc}
+-- Laws of traces: what is due stays due for an earlier beginning, how a Full becomes due, and where the last call stands.
+use Rattle.std.proofs.Common.{◌≡◌, ◌≢◌, ℕ, ◌<◌, inl, inr, List, [], ◌∷◌, ◌++◌, sym, refl, ap, ◌∙◌, subst, append_assoc}
 use Rattle.std.proofs.lemmas.List.{append_cancel_right}
-use Rattle.ks_keysets.specs.Keyset.{live_record, IsLive}
-use Rattle.ks_keysets.specs.Layout.{Layout}
+use mathlib.Core.Logic.{dite}
+use native.Mathlib.Decide.{ℕ_discrete}
+use Rattle.ks_keysets.specs.declared.NodeState.{NodeState}
+use Rattle.ks_keysets.specs.Keyset.{live_record, record_at, IsLive, InKeyset}
+use Rattle.ks_keysets.specs.Layout.{Layout, list_layout, bplus_layout, hash_layout}
 use Rattle.ks_history.specs.declared.Event.{Event}
+use Rattle.ks_history.specs.declared.Event.TheVariants.{Take, Give, Claim, Shape, Call}
 use Rattle.ks_history.specs.Trace.{◌⊑◌, free, held, caller_of, graph_after, turn_after}
-use Rattle.ks_history.specs.Passes.{NoneBy, GrowsByOthers}
-use Rattle.ks_history.specs.Due.{FindsNoRoom, HoldsLive, HoldsLiveBut, FullDue, Sometime}
-use Rattle.ks_history.specs.Stays.{AreInTurn, StaysHeld}
-use Rattle.ks_history.specs.Begins.{none_by_older, begins_both, by_others_keeps, by_others_turn, in_turn_begins}
+use Rattle.ks_history.specs.Passes.{NoneBy, NoCallBy, GrowsByOthers}
+use Rattle.ks_history.specs.Due.{FindsNoRoom, MayGrow, HoldsLive, HoldsLiveBut, NoneFree, FullDue, last_call, Sometime}
+use Rattle.ks_history.specs.Stays.{AreInTurn, StaysHeld, cond_here, cond_else}
+use Rattle.ks_history.specs.Begins.{none_by_older, begins_self, begins_more, begins_both, by_others_keeps, by_others_turn, in_turn_begins}
+
+-- that no node was free stays so as the trace grows, and for an earlier beginning
+
+pub none_free_later : (layout : Layout) (n c place : ℕ) (s h k : List Event) → h ⊑ k → NoneFree layout n c place s h → NoneFree layout n c place s k
+none_free_later layout n c place s h k begins none = record {
+  from = none.from;
+  to = none.to;
+  since = none.since;
+  ordered = none.ordered;
+  before = begins_both none.to h k none.before begins;
+  waits = none.waits;
+  holds = none.holds;
+  taken = none.taken;
+}
+
+pub none_free_earlier : (layout : Layout) (n c place : ℕ) (r s h : List Event) → r ⊑ s → NoneFree layout n c place s h → NoneFree layout n c place r h
+none_free_earlier layout n c place r s h begins none = record {
+  from = none.from;
+  to = none.to;
+  since = begins_both r s none.from begins none.since;
+  ordered = none.ordered;
+  before = none.before;
+  waits = none.waits;
+  holds = none.holds;
+  taken = none.taken;
+}
 
 pub full_due_earlier : (layout : Layout) (n : ℕ) (r s h : List Event) (e : Event) → r ⊑ s → FullDue layout n s h e → FullDue layout n r h e
 full_due_earlier layout n r s h e begins due = record {
+  place = due.place;
   no_room = due.no_room;
-  from = due.from;
-  to = due.to;
-  since = begins_both r s due.from begins due.since;
-  ordered = due.ordered;
-  before = due.before;
-  waits = due.waits;
-  holds = due.holds;
-  taken = due.taken;
+  none_free = none_free_earlier layout n (caller_of e) due.place r s h begins due.none_free;
 }
 
 pub sometime_wider : (r s t u : List Event) (P : List Event → Type 0) → r ⊑ s → t ⊑ u → Sometime s t P → Sometime r u P
@@ -35,17 +59,23 @@ live_while_waiting c g h so are live j mine =
     let l : IsLive (graph_after g) j = live j before in
     (l.0, ap live_record stays.state ∙ l.1)
 
-pub live_but_while_waiting : (layout : Layout) (c : ℕ) (g h : List Event) → GrowsByOthers c g h → AreInTurn h → (b : HoldsLiveBut layout g c) → turn_after g b.one ≡ held c → HoldsLiveBut layout h c
-live_but_while_waiting layout c g h so are b one =
-    let at_root : StaysHeld c 0 g h = by_others_keeps c 0 g h so are b.holds in
+-- a node that may grow still may where its record and its keyset at the place stay
+pub may_grow_along : (layout : Layout) (g k : ℕ → NodeState) (node place : ℕ) → record_at k node ≡ record_at g node → (InKeyset g node place → InKeyset k node place) → MayGrow layout g node place → MayGrow layout k node place
+may_grow_along list_layout g k node place same keyset grows = grows
+may_grow_along bplus_layout g k node place same keyset grows = (grows.0, grows.1, same ∙ grows.2, grows.3)
+may_grow_along hash_layout g k node place same keyset grows = (grows.0, grows.1, same ∙ grows.2, grows.3)
+
+pub live_but_while_waiting : (layout : Layout) (place c : ℕ) (g h : List Event) → GrowsByOthers c g h → AreInTurn h → (b : HoldsLiveBut layout place g c) → turn_after g b.one ≡ held c
+    → (InKeyset (graph_after g) b.node place → InKeyset (graph_after h) b.node place) → HoldsLiveBut layout place h c
+live_but_while_waiting layout place c g h so are b one keyset =
+    let at_node : StaysHeld c b.node g h = by_others_keeps c b.node g h so are b.holds in
     let at_one : StaysHeld c b.one g h = by_others_keeps c b.one g h so are one in
     record {
       one = b.one;
       claimed = at_one.state ∙ b.claimed;
-      holds = at_root.turn;
-      root = b.root;
-      is = ap live_record at_root.state ∙ b.is;
-      full = b.full;
+      node = b.node;
+      holds = at_node.turn;
+      grows = may_grow_along layout (graph_after g) (graph_after h) b.node place (ap live_record at_node.state) keyset b.grows;
       others = λ j ne mine.
           let before : turn_after g j ≡ held c = by_others_turn c j g h so mine in
           let stays : StaysHeld c j g h = by_others_keeps c j g h so are before in
@@ -62,37 +92,71 @@ between_by_others c g k h gk kh gh none =
     let rests : gh.rest ≡ kh.rest ++ gk.rest = sym (append_cancel_right (kh.rest ++ gk.rest) gh.rest g same) in
     record { rest = gk.rest; is = both; others = none_by_older c kh.rest gk.rest (subst (NoneBy c) rests none) }
 
--- a Full is due that finds no room in its node, if others alone act from one moment to another, at the first of them all
--- that the caller holds is live, and every node is at some moment between not free
-pub full_due_by : (layout : Layout) (n : ℕ) (s from to h : List Event) (e : Event) → FindsNoRoom layout (graph_after h) e → s ⊑ from → GrowsByOthers (caller_of e) from to → to ⊑ h → AreInTurn h
-    → HoldsLive from (caller_of e) → ((j : ℕ) → j < n → Sometime from to (λ k. turn_after k j ≢ free)) → FullDue layout n s h e
-full_due_by layout n s from to h e no_room since so before are live taken =
+-- no node was free if others alone act from one moment to another, at the first of which all that the caller holds is
+-- live, and every node is at some moment between not free
+pub none_free_by : (layout : Layout) (n c place : ℕ) (s from to h : List Event) → s ⊑ from → GrowsByOthers c from to → to ⊑ h → AreInTurn h
+    → HoldsLive from c → ((j : ℕ) → j < n → Sometime from to (λ k. turn_after k j ≢ free)) → NoneFree layout n c place s h
+none_free_by layout n c place s from to h since so before are live taken =
     let ordered : from ⊑ to = record { rest = so.rest; is = so.is } in
     record {
-      no_room = no_room;
       from = from;
       to = to;
       since = since;
       ordered = ordered;
       before = before;
       waits = so.others;
-      holds = λ k a b. inl (live_while_waiting (caller_of e) from k (between_by_others (caller_of e) from k to a b ordered so.others) (in_turn_begins k h (begins_both k to h b before) are) live);
+      holds = λ k a b. inl (live_while_waiting c from k (between_by_others c from k to a b ordered so.others) (in_turn_begins k h (begins_both k to h b before) are) live);
       taken = λ j lt. let t = taken j lt in (t.moment, t.since, t.until, t.so);
     }
 
--- and so if it holds a node that it has claimed, and the full root
-pub full_due_but : (layout : Layout) (n : ℕ) (s from to h : List Event) (e : Event) → FindsNoRoom layout (graph_after h) e → s ⊑ from → GrowsByOthers (caller_of e) from to → to ⊑ h → AreInTurn h
-    → (b : HoldsLiveBut layout from (caller_of e)) → turn_after from b.one ≡ held (caller_of e) → ((j : ℕ) → j < n → Sometime from to (λ k. turn_after k j ≢ free)) → FullDue layout n s h e
-full_due_but layout n s from to h e no_room since so before are live one taken =
+-- and so if it holds a node that it has claimed, and one that may grow, whose keyset at the place stays meanwhile
+pub none_free_but : (layout : Layout) (n c place : ℕ) (s from to h : List Event) → s ⊑ from → GrowsByOthers c from to → to ⊑ h → AreInTurn h
+    → (b : HoldsLiveBut layout place from c) → turn_after from b.one ≡ held c → ((k : List Event) → from ⊑ k → k ⊑ to → InKeyset (graph_after from) b.node place → InKeyset (graph_after k) b.node place)
+    → ((j : ℕ) → j < n → Sometime from to (λ k. turn_after k j ≢ free)) → NoneFree layout n c place s h
+none_free_but layout n c place s from to h since so before are live one keyset taken =
     let ordered : from ⊑ to = record { rest = so.rest; is = so.is } in
     record {
-      no_room = no_room;
       from = from;
       to = to;
       since = since;
       ordered = ordered;
       before = before;
       waits = so.others;
-      holds = λ k a b. inr (live_but_while_waiting layout (caller_of e) from k (between_by_others (caller_of e) from k to a b ordered so.others) (in_turn_begins k h (begins_both k to h b before) are) live one);
+      holds = λ k a b. inr (live_but_while_waiting layout place c from k (between_by_others c from k to a b ordered so.others) (in_turn_begins k h (begins_both k to h b before) are) live one (keyset k a b));
       taken = λ j lt. let t = taken j lt in (t.moment, t.since, t.until, t.so);
     }
+
+-- the last call of a caller, where events among which is no call of it follow a trace
+
+pub last_call_kept : (c : ℕ) (rest s : List Event) → NoCallBy c rest → last_call c (rest ++ s) ≡ last_call c s
+last_call_kept c [] s none = refl
+last_call_kept c (Take d i ∷ es) s none = last_call_kept c es s none
+last_call_kept c (Give d i ∷ es) s none = last_call_kept c es s none
+last_call_kept c (Claim d i ∷ es) s none = last_call_kept c es s none
+last_call_kept c (Shape d changes ∷ es) s none = last_call_kept c es s none
+last_call_kept c (Call d i op reply ∷ es) s none = cond_else d c (Call d i op reply ∷ (es ++ s)) (last_call c (es ++ s)) none.0 ∙ last_call_kept c es s none.1
+
+-- it lies in the trace
+pub last_call_begins : (c : ℕ) (h : List Event) → last_call c h ⊑ h
+last_call_begins c [] = begins_self []
+last_call_begins c (Take d i ∷ h) = begins_both (last_call c h) h (Take d i ∷ h) (last_call_begins c h) (begins_more (Take d i) h)
+last_call_begins c (Give d i ∷ h) = begins_both (last_call c h) h (Give d i ∷ h) (last_call_begins c h) (begins_more (Give d i) h)
+last_call_begins c (Claim d i ∷ h) = begins_both (last_call c h) h (Claim d i ∷ h) (last_call_begins c h) (begins_more (Claim d i) h)
+last_call_begins c (Shape d changes ∷ h) = begins_both (last_call c h) h (Shape d changes ∷ h) (last_call_begins c h) (begins_more (Shape d changes) h)
+last_call_begins c (Call d i op reply ∷ h) = dite (ℕ_discrete d c)
+    (λ own. subst (λ (z : List Event). z ⊑ Call d i op reply ∷ h) (sym (cond_here d c (Call d i op reply ∷ h) (last_call c h) own)) (begins_self (Call d i op reply ∷ h)))
+    (λ other. subst (λ (z : List Event). z ⊑ Call d i op reply ∷ h) (sym (cond_else d c (Call d i op reply ∷ h) (last_call c h) other)) (begins_both (last_call c h) h (Call d i op reply ∷ h) (last_call_begins c h) (begins_more (Call d i op reply) h)))
+
+-- and so before those events
+pub last_call_before : (c : ℕ) (rest s : List Event) → NoCallBy c rest → last_call c (rest ++ s) ⊑ s
+last_call_before c rest s none = subst (λ (z : List Event). z ⊑ s) (sym (last_call_kept c rest s none)) (last_call_begins c s)
+
+-- where no node was free since s, and c made no call since s, a Full that finds no room is due
+pub is_due_by : (layout : Layout) (n place : ℕ) (s h : List Event) (e : Event) → FindsNoRoom layout (graph_after h) e place → NoneFree layout n (caller_of e) place s h → (begins : s ⊑ h) → NoCallBy (caller_of e) begins.rest
+    → FullDue layout n (last_call (caller_of e) h) h e
+is_due_by layout n place s h e no_room none begins quiet = record {
+  place = place;
+  no_room = no_room;
+  none_free = none_free_earlier layout n (caller_of e) place (last_call (caller_of e) h) s h
+      (subst (λ (z : List Event). last_call (caller_of e) z ⊑ s) (sym begins.is) (last_call_before (caller_of e) begins.rest s quiet)) none;
+}

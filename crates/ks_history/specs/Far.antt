@@ -1,14 +1,12 @@
--- Laws of traces: edges stay where no Shape stands, so a long way that only its own caller changed is no way to be far.
-use Rattle.std.proofs.Common.{◌≡◌, ℕ, suc, ◌⊎◌, inl, inr, List, [], ◌∷◌, ◌++◌, Some, None, sym, refl, ap, ◌∙◌, subst, arith}
+-- Laws of traces: edges stay where no Shape stands, and whether another than c made one.
+use Rattle.std.proofs.Common.{◌≡◌, ℕ, suc, ◌⊎◌, inl, inr, List, [], ◌∷◌, ◌++◌, Some, None, sym, refl, ap, ◌∙◌, arith}
 use Rattle.std.specs.Prelude.{Any}
 use mathlib.Core.Logic.{dite}
 use native.Mathlib.Decide.{ℕ_discrete}
-use Rattle.ks_keysets.specs.declared.Edge.{Edge}
 use Rattle.ks_keysets.specs.declared.NodeState.{NodeState}
 use Rattle.ks_keysets.specs.declared.NodeState.TheVariants.{Claimed}
 use Rattle.ks_keysets.specs.Keyset.{live_record, record_at}
 use Rattle.ks_keysets.specs.Found.{KeepsEdges}
-use Rattle.ks_keysets.specs.Walk.{Strolls, from_root, further}
 use Rattle.ks_history.specs.declared.Event.{Event}
 use Rattle.ks_history.specs.declared.Event.TheVariants.{Take, Give, Claim, Shape, Call}
 use Rattle.ks_history.specs.Write.{written}
@@ -81,10 +79,3 @@ edges_both g h k a b = record { at = λ n r is. let s = a.at n r is in let t = b
 pub edges_stay : (rest h : List Event) → NoShapes rest → AreInTurn (rest ++ h) → KeepsEdges (graph_after h) (graph_after (rest ++ h))
 edges_stay [] h none are = record { at = λ n r is. (r, is, refl) }
 edges_stay (e ∷ es) h none are = edges_both (graph_after h) (graph_after (es ++ h)) (graph_after (e ∷ (es ++ h))) (edges_stay es h none.1 are.0) (edges_step (es ++ h) e none.0 are.0 are.1)
-
--- and a walk along edges stays a walk
-pub strolls_along : {g k : ℕ → NodeState} {n a : ℕ} → KeepsEdges g k → Strolls g n a → Strolls k n a
-strolls_along keeps from_root = from_root
-strolls_along keeps (further {a = b} {b = c} r w is leads) =
-    let s = keeps.at b r is in
-    further s.0 (strolls_along keeps w) s.1 (subst (λ (es : List Edge). Any (λ e. e.node ≡ c) es) (sym s.2) leads)

@@ -16,3 +16,6 @@ pub mod Dues
 pub mod Underway
 pub mod Far
 pub mod Alone
+pub mod Beside
+pub mod Descent
+pub mod Quiet

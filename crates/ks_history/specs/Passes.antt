@@ -1,8 +1,7 @@
 -- What callers have seen of a trace that goes on.
-use Rattle.std.specs.Prelude.{ℕ, ◌≡◌, ◌≢◌, ◌<◌, ◌⊎◌, List, [], ◌∷◌, ◌++◌}
+use Rattle.std.specs.Prelude.{ℕ, ◌≡◌, ◌≢◌, ◌<◌, ◌⊎◌, List, [], ◌∷◌, ◌++◌, Some, None}
 use Rattle.ks_history.specs.declared.Event.{Event}
-use Rattle.ks_history.specs.declared.Event.TheVariants.{Call}
-use Rattle.ks_history.specs.Trace.{caller_of}
+use Rattle.ks_history.specs.Trace.{caller_of, call_in}
 
 -- c is one of the numbers
 abbrev pub Has : List ℕ → ℕ → Type 0
@@ -24,11 +23,10 @@ abbrev pub CallersBelow : ℕ → List Event → Type 0
 CallersBelow n [] = Unit {0}
 CallersBelow n (e ∷ es) = (caller_of e < n) × CallersBelow n es
 
--- no Call of caller c
+-- no call of caller c
 abbrev pub NoCallBy : ℕ → List Event → Type 0
 NoCallBy c [] = Unit {0}
-NoCallBy c (Call d i op reply ∷ es) = (d ≢ c) × NoCallBy c es
-NoCallBy c (e ∷ es) = NoCallBy c es
+NoCallBy c (e ∷ es) = elim (call_in e) [ None ↦ NoCallBy c es | Some call ↦ (call.caller ≢ c) × NoCallBy c es ]
 
 -- the trace h begins with what c had seen, and goes on by events of others alone: so it is with what the pass of c has
 -- seen at any moment, and with what the pass saw before it looked and after

@@ -1,12 +1,12 @@
 -- What it means that a trace served the script of some callers and that a printed run tells it.
-use Rattle.std.specs.Prelude.{ℕ, ◌≡◌, ◌<◌, ◌↔◌, List, map, length, slice_get, Option, Some, All, AllPairs, Contains}
+use Rattle.std.specs.Prelude.{ℕ, ◌≡◌, ◌<◌, ◌↔◌, List, map, length, slice_get, Option, Some, None, All, AllPairs, Contains}
+use Rattle.ks_keysets.specs.Record.{IsPlace}
 use Rattle.ks_history.specs.declared.Op.{Op}
 use Rattle.ks_history.specs.declared.Op.TheVariants.{Get, Put, Del, Add, Swap}
 use Rattle.ks_history.specs.declared.Reply.{Reply}
 use Rattle.ks_history.specs.declared.Event.{Event}
-use Rattle.ks_history.specs.declared.Event.TheVariants.{Call}
 use Rattle.ks_history.specs.Map.{Legal, map_after}
-use Rattle.ks_history.specs.Trace.{calls_of, calls_by}
+use Rattle.ks_history.specs.Trace.{call_in, calls_of, calls_by}
 
 -- the operation with the place f k for its key k
 abbrev pub at_place : (ℕ → ℕ) → Op → Op
@@ -16,14 +16,14 @@ at_place f (Del k) = Del (f k)
 at_place f (Add k v) = Add (f k) v
 at_place f (Swap k old new) = Swap (f k) old new
 
--- the event is no Call, or one of a caller below n
+-- the event is no call, or one of a caller below n
 abbrev pub CalledBelow : ℕ → Event → Type 0
-CalledBelow n (Call c i op reply) = c < n
-CalledBelow n e = Unit {0}
+CalledBelow n e = elim (call_in e) [ None ↦ Unit {0} | Some call ↦ call.caller < n ]
 
--- the entries, of a key and its value, ascend by key and are just what the map holds
+-- the entries, of a key and its value, ascend by key and are just what the map holds at the keys, the numbers that can
+-- be places; so each entry's key is one
 pub record IsListing (m : ℕ → Option ℕ) (entries : List (ℕ × ℕ)) : Type 0 where
-  pub exact : (k v : ℕ) → (m k ≡ Some v) ↔ Contains entries (k, v)
+  pub exact : (k v : ℕ) → (IsPlace k × (m k ≡ Some v)) ↔ Contains entries (k, v)
   pub ascend : AllPairs (λ x y. x.0 < y.0) entries
 
 -- the trace h served the scripts, one for each caller, and the lines of the callers and the entries tell it; place is

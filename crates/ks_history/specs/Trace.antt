@@ -1,11 +1,13 @@
 -- Traces of events, and the graph, the turns, the frames and the calls after a trace.
 -- A trace is a list of events, the newest first: e ∷ h is the trace h and then the event e.
-use Rattle.std.specs.Prelude.{ℕ, ◌≡◌, ◌==◌, ◌+◌, ◌%◌, ◌^◌, List, [], ◌∷◌, ◌++◌, length, if◌then◌else◌}
+use Rattle.std.specs.Prelude.{ℕ, ◌≡◌, ◌==◌, ◌+◌, ◌%◌, ◌^◌, List, [], ◌∷◌, ◌++◌, length, Option, Some, None, if◌then◌else◌}
 use Rattle.ks_keysets.specs.declared.Frame.{Frame}
 use Rattle.ks_keysets.specs.declared.NodeState.{NodeState}
 use Rattle.ks_keysets.specs.declared.NodeState.TheVariants.{Free, Claimed, Live}
 use Rattle.ks_keysets.specs.Keyset.{opening}
 use Rattle.ks_keysets.specs.Change.{shaped, reframed}
+use Rattle.ks_history.specs.declared.Op.{Op}
+use Rattle.ks_history.specs.declared.Reply.{Reply}
 use Rattle.ks_history.specs.declared.Answered.{Answered}
 use Rattle.ks_history.specs.declared.Event.{Event}
 use Rattle.ks_history.specs.declared.Event.TheVariants.{Take, Give, Claim, Shape, Call}
@@ -80,14 +82,30 @@ frame_after blank (Claim c j ∷ h) i = frame_after blank h i
 frame_after blank (Shape c changes ∷ h) i = reframed changes i (frame_after blank h i)
 frame_after blank (Call c j op reply ∷ h) i = frame_after blank h i
 
+-- a call as an event tells it: whose it is, its operation and its reply
+pub record Called : Type 0 where
+  pub caller : ℕ
+  pub op : Op
+  pub reply : Reply
+
+abbrev pub called : ℕ → Op → Reply → Called
+called c op reply = record { caller = c; op = op; reply = reply }
+
+abbrev pub answered : Called → Answered
+answered call = record { op = call.op; reply = call.reply }
+
+-- the call that the event makes, if it is one
+abbrev pub call_in : Event → Option Called
+call_in (Take c i) = None
+call_in (Give c i) = None
+call_in (Claim c i) = None
+call_in (Shape c changes) = None
+call_in (Call c i op reply) = Some (called c op reply)
+
 -- the calls of the trace, oldest first
 abbrev pub calls_of : List Event → List Answered
 calls_of [] = []
-calls_of (Take c j ∷ h) = calls_of h
-calls_of (Give c j ∷ h) = calls_of h
-calls_of (Claim c j ∷ h) = calls_of h
-calls_of (Shape c changes ∷ h) = calls_of h
-calls_of (Call c j op reply ∷ h) = calls_of h ++ record { op = op; reply = reply } ∷ []
+calls_of (e ∷ h) = elim (call_in e) [ None ↦ calls_of h | Some call ↦ calls_of h ++ answered call ∷ [] ]
 
 -- the number of a call whose event follows h: how many calls stand before it
 abbrev pub number_after : List Event → ℕ
@@ -101,12 +119,11 @@ pub record NumberedCall : Type 0 where
 -- the calls of caller c with their numbers, oldest first
 abbrev pub calls_by : ℕ → List Event → List NumberedCall
 calls_by c [] = []
-calls_by c (Take d j ∷ h) = calls_by c h
-calls_by c (Give d j ∷ h) = calls_by c h
-calls_by c (Claim d j ∷ h) = calls_by c h
-calls_by c (Shape d changes ∷ h) = calls_by c h
-calls_by c (Call d j op reply ∷ h) =
-    if c == d then calls_by c h ++ record { number = number_after h; call = record { op = op; reply = reply } } ∷ [] else calls_by c h
+calls_by c (e ∷ h) =
+    elim (call_in e) [
+      | None ↦ calls_by c h
+      | Some call ↦ if c == call.caller then calls_by c h ++ record { number = number_after h; call = answered call } ∷ [] else calls_by c h
+    ]
 
 -- how many Shapes stand in the trace
 abbrev pub shapes_in : List Event → ℕ

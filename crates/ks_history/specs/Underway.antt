@@ -1,5 +1,5 @@
 -- Calls under way: what holds between their steps, and how it becomes Done or Left. One law for each kind of step.
-use Rattle.std.proofs.Common.{◌≡◌, ◌≢◌, ℕ, ◌≤◌, inl, inr, List, [], ◌∷◌, ◌++◌, length, sym, refl, ap, ◌∙◌, subst, append_assoc, arith}
+use Rattle.std.proofs.Common.{◌≡◌, ◌≢◌, ℕ, ◌≤◌, List, [], ◌∷◌, ◌++◌, length, Some, None, sym, refl, ap, ◌∙◌, subst, append_assoc, arith}
 use Rattle.ks_keysets.specs.Keyset.{live_record}
 use Rattle.ks_keysets.specs.Layout.{Layout}
 use Rattle.ks_history.specs.declared.Op.{Op}
@@ -7,10 +7,10 @@ use Rattle.ks_history.specs.declared.Reply.{Reply}
 use Rattle.ks_history.specs.declared.Reply.TheVariants.{Full}
 use Rattle.ks_history.specs.declared.Event.{Event}
 use Rattle.ks_history.specs.declared.Event.TheVariants.{Take, Give, Claim, Shape, Call}
-use Rattle.ks_history.specs.Trace.{caller_of, number_after, hand}
+use Rattle.ks_history.specs.Trace.{caller_of, called, call_in, number_after, hand}
 use Rattle.ks_history.specs.Passes.{NoneBy, NoCallBy, GrowsByOthers, GrowsWith}
 use Rattle.ks_history.specs.Due.{FullDue}
-use Rattle.ks_history.specs.Done.{Template, coupling, give_up, link_move, HoldsAbove, MayTake, TakesWell, most_held, Hands, at_first, and_on, Done, Left}
+use Rattle.ks_history.specs.Done.{Template, HoldsAbove, MayTake, first_taken, from_above, TakesWell, most_held, Hands, at_first, and_on, Done, Left}
 use Rattle.ks_history.specs.Stays.{AreInTurn, StaysHeld}
 use Rattle.ks_history.specs.Hand.{hand_other}
 use Rattle.ks_history.specs.Begins.{no_call_both, none_no_call, by_others_keeps, by_others_hand}
@@ -25,14 +25,15 @@ pub record Underway (template : Template) (c : ℕ) (op : Op) (s0 s1 : List Even
 -- the call of c has made its Call
 pub record Decided (layout : Layout) (template : Template) (n c : ℕ) (op : Op) (s0 s1 : List Event) (reply : Reply) (number : ℕ) : Type 0 where
   pub before : List Event
-  pub node : ℕ
+  pub event : Event
   pub after : List Event
-  pub is : s1 ≡ after ++ Call c node op reply ∷ (before ++ s0)
+  pub is : s1 ≡ after ++ event ∷ (before ++ s0)
+  pub call : call_in event ≡ Some (called c op reply)
   pub none_before : NoCallBy c before
   pub none_after : NoCallBy c after
   pub numbered : number ≡ number_after (before ++ s0)
   pub hands : Hands template c op s0 s1
-  pub full : reply ≡ Full → FullDue layout n s0 (before ++ s0) (Call c node op reply)
+  pub full : reply ≡ Full → FullDue layout n s0 (before ++ s0) event
 
 -- once nothing is held it is Left, or Done
 
@@ -42,9 +43,10 @@ left_of template c op s0 s1 so empty = record { rest = so.rest; is = so.is; none
 pub done_of : (layout : Layout) (template : Template) (n c : ℕ) (op : Op) (s0 s1 : List Event) (reply : Reply) (number : ℕ) → Decided layout template n c op s0 s1 reply number → hand c s1 ≡ [] → Done layout template n c op s0 s1 reply number
 done_of layout template n c op s0 s1 reply number so empty = record {
   before = so.before;
-  node = so.node;
+  event = so.event;
   after = so.after;
   is = so.is;
+  call = so.call;
   none_before = so.none_before;
   none_after = so.none_after;
   numbered = so.numbered;
@@ -55,12 +57,12 @@ done_of layout template n c op s0 s1 reply number so empty = record {
 
 -- the hands of c as the trace goes on
 
-takes_other : (template : Template) (c : ℕ) (h : List Event) (e : Event) → caller_of e ≢ c → TakesWell template c h e
-takes_other template c h (Take d i) other = λ same. absurd (other same)
-takes_other template c h (Give d i) other = tt
-takes_other template c h (Claim d i) other = tt
-takes_other template c h (Shape d changes) other = tt
-takes_other template c h (Call d i op reply) other = tt
+takes_other : (template : Template) (c : ℕ) (op : Op) (h : List Event) (e : Event) → caller_of e ≢ c → TakesWell template c op h e
+takes_other template c op h (Take d i) other = λ same. absurd (other same)
+takes_other template c op h (Give d i) other = tt
+takes_other template c op h (Claim d i) other = tt
+takes_other template c op h (Shape d changes) other = tt
+takes_other template c op h (Call d i op' reply) other = tt
 
 hands_few : {template : Template} {c : ℕ} {op : Op} {s0 h : List Event} → Hands template c op s0 h → length (hand c h) ≤ most_held template op
 hands_few (at_first few) = few
@@ -70,12 +72,12 @@ hands_after : (template : Template) (c : ℕ) (op : Op) (s0 h rest : List Event)
 hands_after template c op s0 h [] none so = so
 hands_after template c op s0 h (e ∷ es) none so =
     let before : Hands template c op s0 (es ++ h) = hands_after template c op s0 h es none.1 so in
-    and_on before (takes_other template c (es ++ h) e none.0) (subst (λ (xs : List ℕ). length xs ≤ most_held template op) (sym (hand_other (es ++ h) e c none.0)) (hands_few before))
+    and_on before (takes_other template c op (es ++ h) e none.0) (subst (λ (xs : List ℕ). length xs ≤ most_held template op) (sym (hand_other (es ++ h) e c none.0)) (hands_few before))
 
 pub hands_others : (template : Template) (c : ℕ) (op : Op) (s0 g h : List Event) → GrowsByOthers c g h → Hands template c op s0 g → Hands template c op s0 h
 hands_others template c op s0 g h so hands = subst (Hands template c op s0) (sym so.is) (hands_after template c op s0 g so.rest so.others hands)
 
-pub hands_with : (template : Template) (c : ℕ) (op : Op) (e : Event) (s0 g h : List Event) → (so : GrowsWith c e g h) → TakesWell template c (so.rest ++ g) e → length (hand c h) ≤ most_held template op → Hands template c op s0 g → Hands template c op s0 h
+pub hands_with : (template : Template) (c : ℕ) (op : Op) (e : Event) (s0 g h : List Event) → (so : GrowsWith c e g h) → TakesWell template c op (so.rest ++ g) e → length (hand c h) ≤ most_held template op → Hands template c op s0 g → Hands template c op s0 h
 hands_with template c op e s0 g h so well few hands =
     subst (Hands template c op s0) (sym so.is) (and_on (hands_after template c op s0 g so.rest so.others hands) well (subst (λ (z : List Event). length (hand c z) ≤ most_held template op) so.is few))
 
@@ -85,19 +87,14 @@ above_later c i g h so are above =
     let stays : StaysHeld c above.above g h = by_others_keeps c above.above g h so are above.holds in
     record { above = above.above; node = above.node; holds = stays.turn; is = ap live_record stays.state ∙ above.is; leads = above.leads }
 
-pub may_take_later : (template : Template) (c i : ℕ) (g h : List Event) → GrowsByOthers c g h → AreInTurn h → MayTake template g c i → MayTake template h c i
-may_take_later coupling c i g h so are (inl root) = inl (by_others_hand c g h so ∙ root.0, root.1)
-may_take_later coupling c i g h so are (inr above) = inr (above_later c i g h so are above)
-may_take_later give_up c i g h so are (inl empty) = inl (by_others_hand c g h so ∙ empty)
-may_take_later give_up c i g h so are (inr above) = inr (above_later c i g h so are above)
-may_take_later link_move c i g h so are (inl empty) = inl (by_others_hand c g h so ∙ empty)
-may_take_later link_move c i g h so are (inr above) = inr (above_later c i g h so are above)
+pub may_take_later : (template : Template) (c i : ℕ) (op : Op) (g h : List Event) → GrowsByOthers c g h → AreInTurn h → MayTake template op g c i → MayTake template op h c i
+may_take_later template c i op g h so are (first_taken empty at) = first_taken (by_others_hand c g h so ∙ empty) at
+may_take_later template c i op g h so are (from_above above) = from_above (above_later c i g h so are above)
 
 -- steps of a call under way
 
 abbrev pub IsNoCall : Event → Type 0
-IsNoCall (Call c i op reply) = ⊥
-IsNoCall e = Unit {0}
+IsNoCall e = elim (call_in e) [ None ↦ Unit {0} | Some call ↦ ⊥ ]
 
 none_with : (c : ℕ) (e : Event) (es : List Event) → IsNoCall e → NoCallBy c es → NoCallBy c (e ∷ es)
 none_with c (Take d i) es quiet none = none
@@ -118,7 +115,7 @@ underway_others template c op s0 g h so under = record {
 }
 
 -- an event of c that is no Call
-pub underway_with : (template : Template) (c : ℕ) (op : Op) (e : Event) (s0 g h : List Event) → IsNoCall e → (so : GrowsWith c e g h) → TakesWell template c (so.rest ++ g) e → length (hand c h) ≤ most_held template op → Underway template c op s0 g → Underway template c op s0 h
+pub underway_with : (template : Template) (c : ℕ) (op : Op) (e : Event) (s0 g h : List Event) → IsNoCall e → (so : GrowsWith c e g h) → TakesWell template c op (so.rest ++ g) e → length (hand c h) ≤ most_held template op → Underway template c op s0 g → Underway template c op s0 h
 underway_with template c op e s0 g h quiet so well few under = record {
   rest = e ∷ (so.rest ++ under.rest);
   is = so.is ∙ ap (λ (z : List Event). e ∷ z) (ap (λ (z : List Event). so.rest ++ z) under.is ∙ sym (append_assoc so.rest under.rest s0));
@@ -126,31 +123,38 @@ underway_with template c op e s0 g h quiet so well few under = record {
   hands = hands_with template c op e s0 g h so well few under.hands;
 }
 
--- its Call
-pub underway_call : (layout : Layout) (template : Template) (n c i : ℕ) (op : Op) (reply : Reply) (number : ℕ) (s0 g h : List Event) → (so : GrowsWith c (Call c i op reply) g h) → length (hand c h) ≤ most_held template op → number ≡ number_after (so.rest ++ g)
-    → (reply ≡ Full → FullDue layout n s0 (so.rest ++ g) (Call c i op reply)) → Underway template c op s0 g → Decided layout template n c op s0 h reply number
-underway_call layout template n c i op reply number s0 g h so few numbered full under =
+-- its event that is a call
+pub underway_calls : (layout : Layout) (template : Template) (n c : ℕ) (op : Op) (reply : Reply) (number : ℕ) (e : Event) (s0 g h : List Event) → call_in e ≡ Some (called c op reply) → (so : GrowsWith c e g h) → TakesWell template c op (so.rest ++ g) e
+    → length (hand c h) ≤ most_held template op → number ≡ number_after (so.rest ++ g) → (reply ≡ Full → FullDue layout n s0 (so.rest ++ g) e) → Underway template c op s0 g → Decided layout template n c op s0 h reply number
+underway_calls layout template n c op reply number e s0 g h call so well few numbered full under =
     let joined : so.rest ++ g ≡ (so.rest ++ under.rest) ++ s0 = ap (λ (z : List Event). so.rest ++ z) under.is ∙ sym (append_assoc so.rest under.rest s0) in
     record {
       before = so.rest ++ under.rest;
-      node = i;
+      event = e;
       after = [];
-      is = so.is ∙ ap (λ (z : List Event). Call c i op reply ∷ z) joined;
+      is = so.is ∙ ap (λ (z : List Event). e ∷ z) joined;
+      call = call;
       none_before = no_call_both c so.rest under.rest (none_no_call c so.rest so.others) under.none;
       none_after = tt;
       numbered = numbered ∙ ap number_after joined;
-      hands = hands_with template c op (Call c i op reply) s0 g h so tt few under.hands;
-      full = λ is. subst (λ (z : List Event). FullDue layout n s0 z (Call c i op reply)) joined (full is);
+      hands = hands_with template c op e s0 g h so well few under.hands;
+      full = λ is. subst (λ (z : List Event). FullDue layout n s0 z e) joined (full is);
     }
+
+-- its Call
+pub underway_call : (layout : Layout) (template : Template) (n c i : ℕ) (op : Op) (reply : Reply) (number : ℕ) (s0 g h : List Event) → (so : GrowsWith c (Call c i op reply) g h) → length (hand c h) ≤ most_held template op → number ≡ number_after (so.rest ++ g)
+    → (reply ≡ Full → FullDue layout n s0 (so.rest ++ g) (Call c i op reply)) → Underway template c op s0 g → Decided layout template n c op s0 h reply number
+underway_call layout template n c i op reply number s0 g h so few numbered full under = underway_calls layout template n c op reply number (Call c i op reply) s0 g h refl so tt few numbered full under
 
 -- steps after it
 
 pub decided_others : (layout : Layout) (template : Template) (n c : ℕ) (op : Op) (reply : Reply) (number : ℕ) (s0 g h : List Event) → GrowsByOthers c g h → Decided layout template n c op s0 g reply number → Decided layout template n c op s0 h reply number
 decided_others layout template n c op reply number s0 g h so was = record {
   before = was.before;
-  node = was.node;
+  event = was.event;
   after = so.rest ++ was.after;
-  is = so.is ∙ ap (λ (z : List Event). so.rest ++ z) was.is ∙ sym (append_assoc so.rest was.after (Call c was.node op reply ∷ (was.before ++ s0)));
+  is = so.is ∙ ap (λ (z : List Event). so.rest ++ z) was.is ∙ sym (append_assoc so.rest was.after (was.event ∷ (was.before ++ s0)));
+  call = was.call;
   none_before = was.none_before;
   none_after = no_call_both c so.rest was.after (none_no_call c so.rest so.others) was.none_after;
   numbered = was.numbered;
@@ -158,12 +162,13 @@ decided_others layout template n c op reply number s0 g h so was = record {
   full = was.full;
 }
 
-pub decided_with : (layout : Layout) (template : Template) (n c : ℕ) (op : Op) (reply : Reply) (number : ℕ) (e : Event) (s0 g h : List Event) → IsNoCall e → (so : GrowsWith c e g h) → TakesWell template c (so.rest ++ g) e → length (hand c h) ≤ most_held template op → Decided layout template n c op s0 g reply number → Decided layout template n c op s0 h reply number
+pub decided_with : (layout : Layout) (template : Template) (n c : ℕ) (op : Op) (reply : Reply) (number : ℕ) (e : Event) (s0 g h : List Event) → IsNoCall e → (so : GrowsWith c e g h) → TakesWell template c op (so.rest ++ g) e → length (hand c h) ≤ most_held template op → Decided layout template n c op s0 g reply number → Decided layout template n c op s0 h reply number
 decided_with layout template n c op reply number e s0 g h quiet so well few was = record {
   before = was.before;
-  node = was.node;
+  event = was.event;
   after = e ∷ (so.rest ++ was.after);
-  is = so.is ∙ ap (λ (z : List Event). e ∷ z) (ap (λ (z : List Event). so.rest ++ z) was.is ∙ sym (append_assoc so.rest was.after (Call c was.node op reply ∷ (was.before ++ s0))));
+  is = so.is ∙ ap (λ (z : List Event). e ∷ z) (ap (λ (z : List Event). so.rest ++ z) was.is ∙ sym (append_assoc so.rest was.after (was.event ∷ (was.before ++ s0))));
+  call = was.call;
   none_before = was.none_before;
   none_after = none_with c e (so.rest ++ was.after) quiet (no_call_both c so.rest was.after (none_no_call c so.rest so.others) was.none_after);
   numbered = was.numbered;

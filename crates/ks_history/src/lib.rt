@@ -2,7 +2,7 @@
 //!
 //! A trace is the list of all events of a run, the newest first. From it follow the graph, the turns, the frames and
 //! the calls after it. The definitions stand in `specs/`, to be read in the order Write, Map, Trace, Lawful, Passes, Due,
-//! Done, Served. The files Stays, Hand, Begins and Turns there are laws that crates above cite.
+//! Done, Served. The other files there are laws that crates above cite.
 #![tactic(auto)]
 
 mod laws;
@@ -11,7 +11,7 @@ mod replay;
 mod tests;
 
 use ks_keysets::Change;
-pub use laws::{keyset_theorem, stability_law, turn_law};
+pub use laws::{alone_law, far_law, keyset_theorem, moved_law, stability_law, turn_law, turns_law};
 pub use replay::{Verdict, legal, map_after};
 
 /// What a caller asks of the map. In a trace the first number is a place, in scripts and printed runs it is a key.

@@ -1,6 +1,7 @@
 -- The entries of a map, in the order of the keys, are its only listing.
 use Rattle.std.proofs.Common.{ℕ, zero, suc, ◌≡◌, ◌<◌, ◌==◌, ◌⊎◌, ◌↔◌, inl, inr, Bool, true, false, cond, List, [], ◌∷◌, get_or, map, Option, Some, refl, sym, ◌∙◌, ap, subst, arith}
-use Rattle.std.specs.Prelude.{◌&&◌, AllPairs, Contains}
+use Rattle.std.specs.Prelude.{◌&&◌, All, AllPairs, Contains}
+use Rattle.ks_keysets.specs.Record.{IsPlace}
 use Rattle.std.specs.Bool.{Decides}
 use Rattle.std.specs.Map.{lookup}
 use Rattle.std.specs.Ordering.{nat_cmp}
@@ -103,8 +104,11 @@ stands_found (x ∷ xs) k v up in' = by_case (stands_found xs k v (ascends_tail 
     by_case more (inr c) = ap (λ (b : Bool). cond b (Some x.1) (lookup (is_at (nat_cmp k)) xs)) (is_at_apart k x.0 (above_head x (k, v) xs up c)) ∙ more c
 
 -- the entries list what is looked up in them
-pub entries_listing : (es : List (ℕ × ℕ)) → Ascends es → IsListing (λ k. lookup (is_at (nat_cmp k)) es) es
-entries_listing es up = record { exact = λ k v. (λ is. found_stands es k v is, λ in'. stands_found es k v up in'); ascend = up }
+pub entries_listing : (es : List (ℕ × ℕ)) → All (λ e. IsPlace e.0) es → Ascends es → IsListing (λ k. lookup (is_at (nat_cmp k)) es) es
+entries_listing es keys up = record { exact = λ k v. (λ is. found_stands es k v is.1, λ in'. (key_of k v in', stands_found es k v up in')); ascend = up }
+  where
+    key_of : (k v : ℕ) → Contains es (k, v) → IsPlace k
+    key_of k v (i, lt, is) = subst (λ (e : ℕ × ℕ). IsPlace e.0) is (keys i (k, v) lt)
 
 pub listing_unique : (m : ℕ → Option ℕ) (xs ys : List (ℕ × ℕ)) → IsListing m xs → IsListing m ys → xs ≡ ys
 listing_unique m xs ys a b = same_lists xs ys a.ascend b.ascend (λ z in'. (b.exact z.0 z.1).0 ((a.exact z.0 z.1).1 in')) (λ z in'. (a.exact z.0 z.1).0 ((b.exact z.0 z.1).1 in'))
@@ -119,9 +123,9 @@ ascends_entries es sorted i j d lt lt' =
     key_of : (k : ℕ) → get_or (map (λ (e : ℕ × ℕ). e.0) es) k d.0 ≡ (get_or es k d).0
     key_of k = get_or-map (λ (e : ℕ × ℕ). e.0) es k d
 
-pub listing_decided : (es pairs : List (ℕ × ℕ)) (r : Bool) → IsStrictlySortedBy nat_cmp (map (λ e. e.0) es) → Decides r (es ≡ pairs) → (r ≡ true) ↔ IsListing (λ k. lookup (is_at (nat_cmp k)) es) pairs
-listing_decided es pairs r sorted d =
-    let of_entries : IsListing (λ k. lookup (is_at (nat_cmp k)) es) es = entries_listing es (ascends_entries es sorted) in (
+pub listing_decided : (es pairs : List (ℕ × ℕ)) (r : Bool) → All (λ e. IsPlace e.0) es → IsStrictlySortedBy nat_cmp (map (λ e. e.0) es) → Decides r (es ≡ pairs) → (r ≡ true) ↔ IsListing (λ k. lookup (is_at (nat_cmp k)) es) pairs
+listing_decided es pairs r keys sorted d =
+    let of_entries : IsListing (λ k. lookup (is_at (nat_cmp k)) es) es = entries_listing es keys (ascends_entries es sorted) in (
       λ yes'. subst (λ (xs : List (ℕ × ℕ)). IsListing (λ k. lookup (is_at (nat_cmp k)) es) xs) (d.0 yes') of_entries,
       λ listing. d.1 (listing_unique (λ k. lookup (is_at (nat_cmp k)) es) es pairs of_entries listing),
     )
@@ -129,6 +133,6 @@ listing_decided es pairs r sorted d =
 -- a listing of a map is one of each map that has the same
 pub listing_along : (m k : ℕ → Option ℕ) (xs : List (ℕ × ℕ)) → ((p : ℕ) → m p ≡ k p) → IsListing m xs → IsListing k xs
 listing_along m k xs same listing = record {
-  exact = λ p v. (λ is. (listing.exact p v).0 (same p ∙ is), λ in'. sym (same p) ∙ (listing.exact p v).1 in');
+  exact = λ p v. (λ is. (listing.exact p v).0 (is.0, same p ∙ is.1), λ in'. let is = (listing.exact p v).1 in' in (is.0, sym (same p) ∙ is.1));
   ascend = listing.ascend;
 }

@@ -1,8 +1,9 @@
 //! Judges a printed run of a script.
 
-ghost use Rattle.std.specs.Prelude.{ℕ, ◌≡◌, ◌↔◌, ◌<◌, ◌≤◌, ◌⊎◌, List, [], length, map, slice_index_or, IsTrue, IfOk};
+ghost use Rattle.std.specs.Prelude.{ℕ, ◌≡◌, ◌↔◌, ◌<◌, ◌≤◌, ◌⊎◌, List, [], length, map, slice_index_or, All, IsTrue, IfOk};
 ghost use Rattle.std.specs.Ordering.{nat_cmp};
 ghost use Rattle.std.specs.BTreeMap.{get};
+ghost use Rattle.ks_keysets.specs.Record.{IsPlace};
 ghost use Rattle.ks_history.specs.Served.{IsListing};
 ghost use Rattle.ks_script.specs.Script.{calls_in};
 ghost use Rattle.ks_judge.specs.Judgment.{SameShape, carriers, calls_below, op_at, IsPlaced};
@@ -82,6 +83,22 @@ fn in_order(
     Ok(calls)
 }
 
+/// A number of 64 bits can be a place. It computes nothing.
+fn can_be_place(key: u64)
+    ensures { IsPlace key }
+{
+    let _key = key;
+}
+
+/// The keys of all entries can be places. It changes nothing.
+fn keys_can_be_places(entries: &[(u64, u128)])
+    ensures { All (λ e. IsPlace e.0) entries.now }
+{
+    for entry in entries {
+        can_be_place(entry.0);
+    }
+}
+
 /// Whether the pairs are just the map, ascending by key.
 fn is_listing(
     alloc: Global,
@@ -91,7 +108,9 @@ fn is_listing(
     ensures { IfOk result (λ is. IsTrue is ↔ IsListing (get nat_cmp map) pairs.now) }
 {
     let entries: Vec<(u64, u128)> = map.into_iter().collect(alloc)?;
-    Ok(entries.as_slice() == pairs)
+    let listed = entries.as_slice();
+    keys_can_be_places(listed);
+    Ok(listed == pairs)
 }
 
 /// Judges a printed run of a script: whether its replies are those of one map in the order of their numbers, and the

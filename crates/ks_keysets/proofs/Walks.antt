@@ -10,7 +10,7 @@ use Rattle.ks_keysets.specs.Record.{IsPlace, Carries, LeadsTo, LeadsOn}
 use Rattle.ks_keysets.specs.Keyset.{record_at, IsLive, Reaches, at_root, along, InKeyset, AreApart}
 use Rattle.ks_keysets.specs.Walk.{Walks, at_start, one_more, EndsAt, MeetsNotLive, NeverEnds}
 use Rattle.ks_keysets.specs.Found.{reached_live}
-use Rattle.ks_keysets.proofs.Pigeons.{repeats}
+use Rattle.ks_keysets.specs.Pigeons.{repeats}
 
 -- at most one edge of a record carries a place
 edge_one : (es : List Edge) (p b c : ℕ) → AllPairs (λ e f. (p : ℕ) → Carries e p → Carries f p → ⊥) es → Any (λ e. Carries e p × (e.node ≡ b)) es → Any (λ e. Carries e p × (e.node ≡ c)) es → b ≡ c

@@ -12,7 +12,7 @@ mod readers;
 mod tests;
 
 pub use laws::{found_law, keyset_law, stroll_law};
-pub use readers::{edges_apart, keyset_spans, next_of, walk_end};
+pub use readers::{edge_cut, edges_apart, keyset_spans, next_of, walk_end};
 use std::marker::Model;
 
 /// The places from `low` to `last`, both included.

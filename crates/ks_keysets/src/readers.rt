@@ -4,7 +4,7 @@
 //! twice and never ends. The keyset of a node is read run by run: up to the next end of an edge all places go the same
 //! ways, so one walk tells of all of them.
 
-ghost use Rattle.std.specs.Prelude.{ℕ, ◌≡◌, ◌≤◌, ◌<◌, ◌+◌, ◌⊎◌, ◌↔◌, IsTrue, IfSome, IfNone, IfOk, OnOk, Some, All, length, option_and_then, option_copied, slice_get};
+ghost use Rattle.std.specs.Prelude.{ℕ, suc, ◌≡◌, ◌≤◌, ◌<◌, ◌+◌, ◌⊎◌, ◌↔◌, IsTrue, IfSome, IfNone, IfOk, OnOk, Some, All, length, option_and_then, option_copied, slice_get};
 ghost use Rattle.ks_keysets.specs.declared.Record.{Record};
 ghost use Rattle.ks_keysets.specs.Record.{LeadsTo, LeadsOn, top};
 ghost use Rattle.ks_keysets.specs.Keyset.{InKeyset, AreApart, live_record, record_at};
@@ -140,11 +140,12 @@ fn edges_cut(edges: &[Edge], place: u64, last: u64) -> u64
 }
 
 /// The last place, at most `last`, up to which the edge carries all places from `place` on or none.
-fn edge_cut(edge: &Edge, place: u64, last: u64) -> u64
+pub fn edge_cut(edge: &Edge, place: u64, last: u64) -> u64
     requires { place ≤ last }
     ensures above { place ≤ result }
     ensures below { result ≤ last }
     ensures same { (q : ℕ) → place ≤ q → q ≤ result → CarriesAlike edge.now place q }
+    ensures turns { edge.now.span.low ≤ edge.now.span.last → result < last → ¬ CarriesAlike edge.now place (suc result) }
 {
     if place < edge.span.low {
         last.min(edge.span.low - 1)

@@ -6,16 +6,8 @@ use Rattle.std.proofs.lemmas.Bool.{leb-true}
 use Rattle.std.proofs.lemmas.Bool.Decides.{eqb_tells}
 use Rattle.ks_keysets.specs.declared.Kind.{Kind}
 use Rattle.ks_keysets.specs.declared.Kind.TheVariants.{NoBranch, Inner, Directory}
-use Rattle.ks_keysets.specs.Layout.{Layout, list_layout, bplus_layout, hash_layout, room}
+use Rattle.ks_keysets.specs.Layout.{Layout, list_layout, bplus_layout, hash_layout, capacity}
 use Rattle.ks_node.specs.Body.{Body, is_branch}
-
--- the pairs or edges that a node of a kind may have, where there is a bound
-abbrev pub capacity : Layout → Kind → Option ℕ
-capacity layout NoBranch = Some (room layout)
-capacity list_layout Inner = None
-capacity bplus_layout Inner = Some (room bplus_layout)
-capacity hash_layout Inner = None
-capacity layout Directory = None
 
 -- whether full nodes of the layout can become branches
 abbrev pub may_grow : Layout → Bool

@@ -21,8 +21,9 @@ use ks_keysets::{Edge, Pair, Span};
 use ks_places::Placing;
 use std::alloc::{AllocError, Global};
 
-/// A node of a search structure.
-pub trait Node: Send + Drop {
+/// A node of a search structure. Code that takes nodes to threads asks `Send` beside it: a method of a trait's `impl` cannot
+/// yet pass on a bound that has `Send` or `Sync` above it.
+pub trait Node: Drop {
     /// How keys become places here.
     type Places: Placing;
 

@@ -8,7 +8,7 @@ use Rattle.ks_keysets.specs.declared.NodeState.TheVariants.{Live}
 use Rattle.ks_keysets.specs.declared.Kind.{Kind}
 use Rattle.ks_keysets.specs.declared.Kind.TheVariants.{Directory}
 use Rattle.ks_keysets.specs.Keyset.{live_record, record_at}
-use Rattle.ks_keysets.specs.Layout.{Layout, list_layout, bplus_layout, hash_layout}
+use Rattle.ks_keysets.specs.Layout.{Layout, list_layout, bplus_layout, hash_layout, capacity}
 use Rattle.ks_flow.specs.Discipline.{BeginsTree, TreeStep}
 use Rattle.ks_history.specs.declared.Event.{Event}
 use Rattle.ks_history.specs.Trace.{hand, graph_after, frame_after}
@@ -20,7 +20,7 @@ use Rattle.ks_history.specs.Stays.{StaysHeld, lawful_in_turn}
 use Rattle.ks_node.specs.Body.{Body, content_of, frame_of, blank_body}
 use Rattle.ks_node.specs.Edges.{record_of}
 use Rattle.ks_node.specs.Sound.{Sound as InOrder, Framed}
-use Rattle.ks_node.specs.Room.{is_full, is_full_at, capacity, load}
+use Rattle.ks_node.specs.Room.{is_full, is_full_at, load}
 use Rattle.ks_bodies.specs.Stands.{IsPlain, Stands, live_as}
 use Rattle.ks_arena.specs.declared.held.Held.{Held as Hand}
 use Rattle.ks_arena.specs.Sound.{Sort, blank_of, Sound}

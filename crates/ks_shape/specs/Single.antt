@@ -65,7 +65,7 @@ module _ {N : Type 0} (sort : Sort) (shows : N → Body) where
   record_is h x live m = ap live_record (shown h x live m).0
 
   -- a call that holds nothing takes a node as it may
-  pub takes : (template : Template) (c i : ℕ) (op : Op) (s0 h k : List Event) (x : Hand N) → ((g : List Event) → hand c g ≡ [] → MayTake template g c i) → hand c h ≡ [] → HasTaken sort shows c i h k x → Underway template c op s0 h → Underway template c op s0 k
+  pub takes : (template : Template) (c i : ℕ) (op : Op) (s0 h k : List Event) (x : Hand N) → ((g : List Event) → hand c g ≡ [] → MayTake template op g c i) → hand c h ≡ [] → HasTaken sort shows c i h k x → Underway template c op s0 h → Underway template c op s0 k
   takes template c i op s0 h k x may empty took under = underway_with template c op (Take c i) s0 h k tt took.grows
       (λ same. may (took.grows.rest ++ h) (by_others_hand c h (took.grows.rest ++ h) (with_others c (Take c i) h k took.grows) ∙ empty))
       (omega (arith, ap length (took.hand ∙ ap (λ (z : List ℕ). i ∷ z) empty), one_may template op))

@@ -1,9 +1,10 @@
 -- The trace of calls, with one call more, and what the callers were served.
-use Rattle.std.proofs.Common.{ℕ, suc, ◌≡◌, ◌<◌, ◌+◌, ◌^◌, ◌==◌, ◌⊎◌, inl, inr, cond, Bool, true, false, List, [], ◌∷◌, ◌++◌, length, take, get_or, map, Some, refl, sym, ◌∙◌, ap, subst, arith, length-append, append_assoc}
+use Rattle.std.proofs.Common.{ℕ, suc, ◌≡◌, ◌<◌, ◌+◌, ◌^◌, ◌==◌, ◌⊎◌, inl, inr, cond, Bool, true, false, List, [], ◌∷◌, ◌++◌, length, take, get_or, map, None, Some, ◌≤◌, refl, sym, ◌∙◌, ap, subst, arith, length-append, append_assoc}
 use Rattle.std.specs.Prelude.{fold, slice_get, All}
 use Rattle.std.proofs.lemmas.Bool.Decides.{nat_tests}
 use Rattle.std.proofs.lemmas.List.{append-nil, map-append, map_more, take_more, length-map, length-take-le}
 use Rattle.std.proofs.lemmas.List.Elements.{All-cons, All-nil}
+use Rattle.ks_keysets.specs.Record.{IsPlace, top}
 use Rattle.ks_history.specs.declared.Op.{Op}
 use Rattle.ks_history.specs.declared.Op.TheVariants.{Get, Put, Del, Add, Swap}
 use Rattle.ks_history.specs.declared.Reply.{Reply}
@@ -126,12 +127,18 @@ all_served scripts lines pairs h up r s = record {
   legal = r.legal;
   final = record {
     exact = λ k v. (
-      λ is. listed pairs k v (sym (r.told k) ∙ is),
-      λ in'. r.told k ∙ unlisted pairs k v up in',
+      λ is. listed pairs k v (sym (r.told k) ∙ is.1),
+      λ in'. (place k v (unlisted pairs k v up in'), r.told k ∙ unlisted pairs k v up in'),
     );
     ascend = up;
   };
 }
+  where
+    split : (k : ℕ) → (k ≤ top) ⊎ (top < k)
+    split k = grind arith
+
+    place : (k v : ℕ) → value_of pairs k ≡ Some v → IsPlace k
+    place k v is = elim (split k) [ inl at ↦ at | inr past ↦ let x : None ≡ Some v = sym (r.within k past) ∙ is in absurd (let q : ⊥ = cc in q) ]
 
 -- one call more of a caller, as the program makes it
 pub serves_then : (c i : ℕ) (ops : List Op) (d : Op) (lines lines' : List (ℕ × Reply)) (line : ℕ × Reply) (h k k' : List Event) →

@@ -8,7 +8,7 @@ use Rattle.ks_keysets.specs.declared.Kind.TheVariants.{NoBranch, Inner, Director
 use Rattle.ks_keysets.specs.declared.NodeState.TheVariants.{Live}
 use Rattle.ks_keysets.specs.Record.{top}
 use Rattle.ks_keysets.specs.Keyset.{live_record, InOutset}
-use Rattle.ks_keysets.specs.Layout.{room}
+use Rattle.ks_keysets.specs.Layout.{room, capacity}
 use Rattle.ks_history.specs.declared.Op.TheVariants.{Put}
 use Rattle.ks_history.specs.declared.Reply.{Reply}
 use Rattle.ks_history.specs.declared.Event.{Event}
@@ -22,7 +22,7 @@ use Rattle.ks_history.specs.Calls.{numbered, calls_kept, calls_more}
 use Rattle.ks_node.specs.declared.start.Next.TheVariants.{Here, Go}
 use Rattle.ks_node.specs.Body.{Body, content_of, first_of, last_of, frame_of, next_at, value_at, is_branch, is_branch_kind}
 use Rattle.ks_node.specs.Edges.{record_of}
-use Rattle.ks_node.specs.Room.{is_full, is_full_at, capacity}
+use Rattle.ks_node.specs.Room.{is_full, is_full_at}
 use Rattle.ks_node.specs.Asks.{IsBelowOwn}
 use Rattle.ks_node.specs.Sound.{Sound as InOrder}
 use Rattle.ks_node.specs.Puts.{value_first}

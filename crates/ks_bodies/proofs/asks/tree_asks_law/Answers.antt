@@ -6,6 +6,7 @@ use Rattle.ks_bodies.proofs.Records.{leads_edge}
 use Rattle.ks_bodies.proofs.Absorb.{own_leads}
 use Rattle.ks_bodies.proofs.Collapse.{child_leads, child_down}
 use Rattle.ks_bodies.proofs.Asked.{fit_alike, adopt_asks, own_asks, absorb_own_asks, absorb_under_asks, forget_asks, collapse_asks}
+use Rattle.ks_bodies.proofs.Adopts.{adopt_free}
 use Rattle.ks_bodies.proofs.asks.tree_asks_law.Goals as goal
 
 pub returns-clause-own : goal.returns-clause-own
@@ -36,3 +37,13 @@ returns-clause-collapse c g f node child b q good tree x ranged =
 
 pub returns-clause-fit : goal.returns-clause-fit
 returns-clause-fit c layout b q fits = fit_alike layout b q fits
+
+pub returns-clause-adopt_free : goal.returns-clause-adopt_free
+returns-clause-adopt_free c g f parent node cut u b good tree x stands inside above =
+    adopt_free g f parent node cut u b tree (λ e m p s. c.tree_facts_law.ensures.child g e m p s tree.edges) x stands inside above (leads_edge u x.place node x.stands.plain x.leads)
+
+pub returns-clause-adopts : goal.returns-clause-adopts
+returns-clause-adopts c can layout g f parent node cut u b good tree x stands inside above adopts room =
+    adopts cut x.branch room
+    (adopt_asks g f parent node cut u b good tree (λ e m p s. c.tree_facts_law.ensures.child g e m p s tree.edges) x stands inside above (leads_edge u x.place node x.stands.plain x.leads)).0
+    (adopt_free g f parent node cut u b tree (λ e m p s. c.tree_facts_law.ensures.child g e m p s tree.edges) x stands inside above (leads_edge u x.place node x.stands.plain x.leads))

@@ -2,7 +2,7 @@ use Rattle.std.proofs.Common.{rules, ◌≡◌, ℕ, List, [], ◌∷◌, sym, a
 use Rattle.ks_history.specs.declared.Event.TheVariants.{Give}
 use Rattle.ks_history.specs.Trace.{hand, drop_one}
 use Rattle.ks_history.specs.Passes.{GrowsWith}
-use Rattle.ks_history.specs.Done.{give_up}
+use Rattle.ks_history.specs.Done.{give_up, first_taken}
 use Rattle.ks_history.specs.Underway.{underway_others}
 use Rattle.ks_arena.specs.Sound.{sort_of}
 use Rattle.ks_arena.specs.Clauses.{seen_of}
@@ -14,7 +14,7 @@ returns-in_default-clause-under g c = λ op start under. let told = rw c.in_defa
 
 pub returns-then-place-range-clause-under : goal.returns-then-place-range-clause-under
 returns-then-place-range-clause-under g c = λ op start under.
-    takes (sort_of g.N.Node.layout g.N.Node.ranged) g.N.Node.body give_up c.args.pass.now.caller c.args.node op start (seen_of c.args.pass.now) (seen_of c.take.new.pass) c.in-Some.held (λ k e. inl e) c.requires.pass.1 c.in-Some.ensures.took under
+    takes (sort_of g.N.Node.layout g.N.Node.ranged) g.N.Node.body give_up c.args.pass.now.caller c.args.node op start (seen_of c.args.pass.now) (seen_of c.take.new.pass) c.in-Some.held (λ k e. first_taken e tt) c.requires.pass.1 c.in-Some.ensures.took under
 
 pub returns-clause-under : goal.returns-clause-under
 returns-clause-under g c = λ op start under. let me : ℕ = c.args.pass.now.caller in let h = seen_of c.args.pass.now in let h₁ = seen_of c.take.new.pass in let h₂ = seen_of c.give.new.pass in let e = c.in-Some.ensures in let i : ℕ = c.in-Some.held.node in
@@ -22,4 +22,4 @@ returns-clause-under g c = λ op start under. let me : ℕ = c.args.pass.now.cal
     let gave = subst (λ (z : ℕ). GrowsWith z (Give z i) h₁ h₂) e.caller c.give.ensures.gave in
     let hands = subst (λ (z : ℕ). hand z h₂ ≡ drop_one i (hand z h₁)) e.caller (subst (λ (z : ℕ). hand z h₂ ≡ drop_one i (hand c.take.new.pass.caller h₁)) c.give.ensures.caller c.give.ensures.hand) in
     gives give_up me i op start h₁ h₂ (gave_last me i h₁ h₂ alone hands) gave
-    (takes (sort_of g.N.Node.layout g.N.Node.ranged) g.N.Node.body give_up me c.args.node op start h h₁ c.in-Some.held (λ k q. inl q) c.requires.pass.1 e.took under)
+    (takes (sort_of g.N.Node.layout g.N.Node.ranged) g.N.Node.body give_up me c.args.node op start h h₁ c.in-Some.held (λ k q. first_taken q tt) c.requires.pass.1 e.took under)

@@ -1,5 +1,5 @@
 use Rattle.std.proofs.Common.{refl}
-use Rattle.ks_keysets.proofs.Strolls.{meets_once, not_far}
+use Rattle.ks_keysets.specs.Strolls.{meets_once, not_far}
 use Rattle.ks_keysets.proofs.laws.stroll_law.Goals as goal
 
 pub returns-clause-once : goal.returns-clause-once

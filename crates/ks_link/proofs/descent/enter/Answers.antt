@@ -1,5 +1,5 @@
 use Rattle.std.proofs.Common.{rules, ℕ, inl}
-use Rattle.ks_history.specs.Done.{link_move}
+use Rattle.ks_history.specs.Done.{link_move, first_taken}
 use Rattle.ks_history.specs.Underway.{underway_first}
 use Rattle.ks_arena.specs.Sound.{sort_of}
 use Rattle.ks_arena.specs.Clauses.{seen_of}
@@ -13,4 +13,4 @@ returns-clause-way g c = let sort = sort_of g.N.Node.layout g.N.Node.ranged in l
 
 pub returns-clause-under : goal.returns-clause-under
 returns-clause-under g c = λ op. let me : ℕ = c.args.pass.now.caller in let h = seen_of c.args.pass.now in
-    takes (sort_of g.N.Node.layout g.N.Node.ranged) g.N.Node.body link_move me 0 op h h (seen_of c.take.new.pass) c.in-Some.root (λ k e. inl e) c.requires.pass.1 c.in-Some.ensures.took (underway_first link_move me op h c.requires.pass.1)
+    takes (sort_of g.N.Node.layout g.N.Node.ranged) g.N.Node.body link_move me 0 op h h (seen_of c.take.new.pass) c.in-Some.root (λ k e. first_taken e tt) c.requires.pass.1 c.in-Some.ensures.took (underway_first link_move me op h c.requires.pass.1)

@@ -21,4 +21,4 @@ pub returns-clause-found : goal.returns-clause-found
 returns-clause-found g c = found g c
 
 pub returns-clause-map : goal.returns-clause-map
-returns-clause-map g c = listing_of (trace_of c.args.self.now) c.sort_unstable_by_key.new.self.items c.requires.1.lawful (c.keyset_theorem.ensures.found (trace_of c.args.self.now) c.requires.1.lawful c.requires.1.good) (found g c)
+returns-clause-map g c = listing_of (trace_of c.args.self.now) c.sort_unstable_by_key.new.self.items (c.keyset_theorem.ensures.found (trace_of c.args.self.now) c.requires.1.lawful c.requires.1.good) (found g c)

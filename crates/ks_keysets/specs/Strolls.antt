@@ -4,7 +4,7 @@ use Rattle.std.specs.Prelude.{Any}
 use Rattle.ks_keysets.specs.declared.NodeState.{NodeState}
 use Rattle.ks_keysets.specs.Keyset.{IsLive}
 use Rattle.ks_keysets.specs.Walk.{Strolls, from_root, further, OneParent}
-use Rattle.ks_keysets.proofs.Pigeons.{pigeonhole}
+use Rattle.ks_keysets.specs.Pigeons.{pigeonhole}
 
 pub meets_once : (g : ℕ → NodeState) (k j a b : ℕ) → OneParent g → Strolls g k a → Strolls g j b → a ≡ b → k ≡ j
 meets_once g zero zero a b one from_root from_root same = refl
@@ -14,13 +14,13 @@ meets_once g (suc k) (suc j) a b one (further {a = c} r w is leads) (further {a 
     ap suc (meets_once g k j c d one w v (one.one c d a r s is is' leads (subst (λ (m : ℕ). Any (λ e. e.node ≡ m) s.edges) (sym same) leads')))
 
 -- the node at which a walk to n is after i of its k steps
-record On (g : ℕ → NodeState) (k n i : ℕ) : Type 0 where
-  node : ℕ
-  comes : i ≤ k → Strolls g i node
-  live : i < k → IsLive g node
-  last : i ≡ k → node ≡ n
+pub record On (g : ℕ → NodeState) (k n i : ℕ) : Type 0 where
+  pub node : ℕ
+  pub comes : i ≤ k → Strolls g i node
+  pub live : i < k → IsLive g node
+  pub last : i ≡ k → node ≡ n
 
-on_way : (g : ℕ → NodeState) (k n : ℕ) → Strolls g k n → (i : ℕ) → On g k n i
+pub on_way : (g : ℕ → NodeState) (k n : ℕ) → Strolls g k n → (i : ℕ) → On g k n i
 on_way g zero n from_root i = record { node = 0; comes = λ le. let e : 0 ≡ i = omega arith in subst (λ (j : ℕ). Strolls g j 0) e from_root; live = λ lt. absurd (omega arith); last = λ e. refl }
 on_way g (suc k) n (further {a = a} r w is leads) i = go (split i) (on_way g k a w i)
   where

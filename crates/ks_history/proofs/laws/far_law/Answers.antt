@@ -1,0 +1,5 @@
+use Rattle.ks_history.specs.Descent.{far_due}
+use Rattle.ks_history.proofs.laws.far_law.Goals as goal
+
+pub returns : goal.returns
+returns c = far_due
