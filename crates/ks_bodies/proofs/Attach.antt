@@ -1,7 +1,7 @@
 -- A branch that leads to one node more.
-use Rattle.std.proofs.Common.{ℕ, suc, ◌≡◌, ◌<◌, ◌≤◌, ◌==◌, ◌⊎◌, inl, inr, cond, Bool, true, false, List, [], ◌∷◌, ◌++◌, Option, Some, None, refl, sym, ◌∙◌, ap, subst, arith, eq-eqb}
-use Rattle.std.specs.Prelude.{All, max, drop, nat_le, IsTrue}
-use Rattle.std.proofs.lemmas.Bool.{ne_eqb}
+use Rattle.std.proofs.Common.{ℕ, suc, ◌≡◌, ◌<◌, ◌≤◌, ◌-◌, ◌==◌, ◌⊎◌, inl, inr, cond, Bool, true, false, List, [], ◌∷◌, ◌++◌, Option, Some, None, refl, sym, ◌∙◌, ap, subst, arith, eq-eqb}
+use Rattle.std.specs.Prelude.{All, max, drop, nat_le, nat_lt, IsTrue}
+use Rattle.std.proofs.lemmas.Bool.{ne_eqb, lt-ltb, le-ltb, le-leb, lt-leb}
 use Rattle.std.proofs.lemmas.Bool.Decides.{eqb_tells}
 use Rattle.std.proofs.lemmas.List.Elements.{All-filter, All-cons, All-nil, All-append}
 use Rattle.ks_keysets.specs.declared.Edge.{Edge}
@@ -10,7 +10,7 @@ use Rattle.ks_keysets.specs.declared.Kind.{Kind}
 use Rattle.ks_keysets.specs.declared.Kind.TheVariants.{NoBranch, Inner, Directory}
 use Rattle.ks_keysets.specs.declared.Span.{Span}
 use Rattle.ks_keysets.specs.declared.NodeState.{NodeState}
-use Rattle.ks_keysets.specs.Record.{LeadsOn}
+use Rattle.ks_keysets.specs.Record.{LeadsOn, LeadsTo}
 use Rattle.ks_node.specs.declared.start.Start.{Start}
 use Rattle.ks_node.specs.Ascend.{asc_insert, all_below}
 use Rattle.ks_node.specs.Body.{Body, is_branch_kind, first_of, last_of, starts_below, starts_from, begins}
@@ -23,7 +23,7 @@ use Rattle.ks_flow.specs.Changes.{graph_with, frames_with, HasBecome}
 use Rattle.ks_flow.specs.Link.{Link, IsPartOf, Attaches}
 use Rattle.ks_bodies.specs.Stands.{live_as, free_as}
 use Rattle.ks_bodies.specs.Links.{IsLinked, CanAttach, attach}
-use Rattle.ks_bodies.proofs.Led.{or_else, led, led_append, led_parts, AllAbove, Ascend, ascend, begins_from, parts_join, count, clash, clash_all, low_or_high}
+use Rattle.ks_bodies.proofs.Led.{or_else, or_some, led, led_none, free_from, led_append, led_parts, led_above, AllAbove, Ascend, ascend, begins_from, parts_join, count, clash, clash_all, low_or_high}
 use Rattle.ks_bodies.proofs.Standing.{Made}
 use Rattle.ks_bodies.proofs.LinkRecords.{goes, range_of, linked_ascend, linked_tidy, goes_inside, goes_beyond, leads_goes, goes_leads, on_leads, leads_on, leads_place}
 use Rattle.ks_bodies.proofs.LinkEdges.{any_first, any_second, all_any, PartIn, edges_insert, edges_full}
@@ -87,9 +87,21 @@ none_counted (s ∷ ss) m none =
     let t : (s.node == m) ≡ false = ne_eqb s.node m (none 0 s (omega arith)) in
     rw t (omega (arith, none_counted ss m (λ k d lt. none (suc k) d (omega arith))))
 
-all_first : (P : Edge → Type 0) (xs ys : List Edge) → All P (xs ++ ys) → All P xs
+pub all_first : (P : Edge → Type 0) (xs ys : List Edge) → All P (xs ++ ys) → All P xs
 all_first P [] ys all = All-nil P
 all_first P (x ∷ xs) ys all = All-cons P x xs (all 0 x (omega arith)) (all_first P xs ys (λ k d lt. all (suc k) d (omega arith)))
+
+-- just below a cut the part below it leads as it does past it
+led_just_below : (cut : ℕ) (ss : List Start) (p : ℕ) → 0 < cut → cut ≤ p → led (starts_below cut ss) (cut - 1) ≡ led (starts_below cut ss) p
+led_just_below cut [] p some le = refl
+led_just_below cut (s ∷ ss) p some le = elim (low_or_high s.low cut) [
+  | inl lt ↦ (
+      let a : nat_lt s.low cut ≡ true = lt-ltb _ _ lt in
+      let b : nat_le s.low (cut - 1) ≡ true = le-leb _ _ (omega arith) in
+      let c : nat_le s.low p ≡ true = le-leb _ _ (omega arith) in
+      rw (a, b, c) (ap (λ (o : Option ℕ). or_else o (Some s.node)) (led_just_below cut ss p some le)))
+  | inr ge ↦ (let a : nat_lt s.low cut ≡ false = le-ltb _ _ ge in rw a (led_just_below cut ss p some le))
+]
 
 some_more : (o c q : Option ℕ) (m : ℕ) → or_else o q ≡ Some m → (n : ℕ) × (or_else (or_else o c) q ≡ Some n)
 some_more (Some k) c q m e = (k, refl)
@@ -182,6 +194,37 @@ module _ (g : ℕ → NodeState) (f : ℕ → Frame) (node id cut : ℕ) (b : Bo
       go false e = inl (settled_same key b.kind Q (rise_Q e))
       go true e = begun b.kind x.branch e (subst Ascend starts_are (linked_ascend (adopted cut id b) after))
 
+  -- at the cut the node is led to
+
+  led_one : (n : ℕ) (rest : List Start) → AllAbove cut rest → led (record { low = cut; node = n } ∷ rest) cut ≡ Some n
+  led_one n rest higher = let a : nat_le cut cut ≡ true = le-leb _ _ (omega arith) in rw (led_none rest cut cut higher (omega arith), a) refl
+
+  led_begun : (kind : Kind) → IsTrue (is_branch_kind kind) → begins cut P ≡ true → Ascend (settled kind Q) → led (settled kind Q) cut ≡ Some id
+  led_begun NoBranch branch is up = absurd (cc)
+  led_begun Inner branch is up =
+      let y = begins_from cut P up_P is in
+      absurd (clash (starts_below cut P) cut id y.0 y.1 (subst (λ (zs : List Start). Ascend (starts_below cut P ++ new ∷ zs)) y.2 up))
+  led_begun Directory branch is up =
+      let y = begins_from cut P up_P is in
+      elim (eqb_tells y.0 id) [
+        | inl e ↦ (
+            let first : led (starts_from cut P) cut ≡ Some id = ap (λ (xs : List Start). led xs cut) y.2 ∙ led_one y.0 y.1 y.3 ∙ ap (λ (n : ℕ). Some n) e.1 in
+            ap (λ (xs : List Start). led xs cut) (again y.0 y.1 y.2 e.1) ∙ led_parts cut P cut up_P ∙ rw first refl)
+        | inr e ↦ absurd (clash_all (starts_below cut P) cut id y.0 y.1 none_lower e.1 (subst (λ (zs : List Start). Ascend (runs (starts_below cut P ++ new ∷ zs))) y.2 up))
+      ]
+
+  led_new : led (adopted cut id b).starts cut ≡ Some id
+  led_new = subst (λ (xs : List Start). led xs cut ≡ Some id) (sym starts_are) (go (begins cut P) refl)
+    where
+      go : (t : Bool) → begins cut P ≡ t → led (settled b.kind Q) cut ≡ Some id
+      go false e = ap (λ (xs : List Start). led xs cut) (settled_same key b.kind Q (rise_Q e)) ∙ led_append (starts_below cut P) (new ∷ starts_from cut P) cut ∙ rw (led_one id (starts_from cut P) (free_from cut P up_P e)) refl
+      go true e = led_begun b.kind x.branch e (subst Ascend starts_are (linked_ascend (adopted cut id b) after))
+
+  pub attach_leads : LeadsTo (record_of (adopted cut id b)) cut id
+  attach_leads =
+      let within : cut ≤ range.last = x.cuts.1 range has in
+      goes_leads (adopted cut id b) after cut id (omega (arith, above, ap first_of has)) (omega (arith, within, framed.ends)) (goes_inside (adopted cut id b) after cut (omega (arith, within, ap last_of has)) ∙ led_new)
+
   -- edges
 
   abbrev IsOne : Edge → Type 0
@@ -234,6 +277,33 @@ module _ (g : ℕ → NodeState) (f : ℕ → Frame) (node id cut : ℕ) (b : Bo
       let y = still_goes p to.0 (leads_goes b x.stands.linked p to.0 to.1) in
       leads_on (adopted cut id b) after p y.0 (goes_leads (adopted cut id b) after p y.0 place.0 place.1 y.1)
 
+  -- each node that an edge led to is still led to: at the same place, or just below the cut
+  still_led_to : (p m : ℕ) → first_of b.range ≤ p → led P p ≡ Some m → (ss : List Start) → NewOrOld ss → (q : ℕ) × (first_of b.range ≤ q) × (q ≤ p) × (led ss q ≡ Some m)
+  still_led_to p m low is ss (inr e) = (p, low, omega arith, ap (λ (xs : List Start). led xs p) e ∙ is)
+  still_led_to p m low is ss (inl e) = elim (or_some (led (starts_from cut P) p) (led (starts_below cut P) p) m (sym (led_parts cut P p up_P) ∙ is)) [
+    | inl high ↦ (p, low, omega arith, ap (λ (xs : List Start). led xs p) e ∙ led_append (starts_below cut P) (new ∷ starts_from cut P) p ∙ rw high refl)
+    | inr rest ↦ elim (low_or_high p cut) [
+      | inl lt ↦ (let a : nat_le cut p ≡ false = lt-leb _ _ lt in (p, low, omega arith, ap (λ (xs : List Start). led xs p) e ∙ led_append (starts_below cut P) (new ∷ starts_from cut P) p ∙ rw (rest.0, a) rest.1))
+      | inr ge ↦ (
+          let q : ℕ = cut - 1 in
+          let lt : q < cut = omega (arith, above) in
+          let none : led (starts_from cut P) q ≡ None = led_above cut P q lt in
+          let a : nat_le cut q ≡ false = lt-leb _ _ lt in
+          (q, omega (arith, above, ap first_of has), omega (arith, ge), ap (λ (xs : List Start). led xs q) e ∙ led_append (starts_below cut P) (new ∷ starts_from cut P) q ∙ rw (none, a) (led_just_below cut P p (omega (arith, above)) ge ∙ rest.1)))
+    ]
+  ]
+
+  still_to : (p m : ℕ) → LeadsTo (record_of b) p m → (q : ℕ) × LeadsTo (record_of (adopted cut id b)) q m
+  still_to p m to =
+      let place = leads_place b p m x.stands.linked to in
+      let was = leads_goes b x.stands.linked p m to in
+      elim (low_or_high (last_of b.range) p) [
+        | inl lt ↦ (p, goes_leads (adopted cut id b) after p m place.0 place.1 (goes_beyond (adopted cut id b) after p lt ∙ sym (goes_beyond b x.stands.linked p lt) ∙ was))
+        | inr le ↦ (
+            let y = still_led_to p m place.0 (sym (goes_inside b x.stands.linked p le) ∙ was) (adopted cut id b).starts new_or_old in
+            (y.0, goes_leads (adopted cut id b) after y.0 m y.1 (omega (arith, y.2, place.1)) (goes_inside (adopted cut id b) after y.0 (omega (arith, y.2, le)) ∙ y.3)))
+      ]
+
   after_node : HasBecome f (graph_with (attach node id cut b) g) (frames_with (attach node id cut b) f) (live_as node (adopted cut id b))
   after_node = made.named 0 (free_as node) (omega arith)
 
@@ -258,5 +328,6 @@ module _ (g : ℕ → NodeState) (f : ℕ → Frame) (node id cut : ℕ) (b : Bo
     pairs = refl;
     apart = (linked_tidy (adopted cut id b) after).apart;
     on = still_on;
+    still = still_to;
     edges = attached_edges;
   }

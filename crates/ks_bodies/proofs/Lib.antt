@@ -22,4 +22,6 @@ pub mod LinkStanding
 pub mod SplitRight
 pub mod LinkAsked
 pub mod Attach
+pub mod Begun
 pub mod GrowRight
+pub mod Entered

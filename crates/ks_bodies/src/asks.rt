@@ -1,22 +1,24 @@
 //! What the calls of a shape ask of bodies, where they stand in a tree.
 
-ghost use Rattle.std.specs.Prelude.{ℕ, ◌≡◌, ◌<◌, Bool, Option, Some, All, IsTrue, is_some, false};
+ghost use Rattle.std.specs.Prelude.{ℕ, ◌≡◌, ◌<◌, ◌≤◌, Bool, Option, Some, None, All, IsTrue, is_some, false};
 ghost use Rattle.ks_keysets.specs.declared.Frame.{Frame};
 ghost use Rattle.ks_keysets.specs.declared.NodeState.{NodeState};
 ghost use Rattle.ks_keysets.specs.declared.Span.{Span};
 ghost use Rattle.ks_keysets.specs.Record.{LeadsTo, top};
-ghost use Rattle.ks_keysets.specs.Keyset.{Good, InInset};
+ghost use Rattle.ks_keysets.specs.declared.Kind.{Kind};
+ghost use Rattle.ks_keysets.specs.Keyset.{Good, InInset, record_at};
+ghost use Rattle.ks_flow.specs.Changes.{graph_with};
 ghost use Rattle.ks_node.specs.Body.{Body, Content, content_of, first_node, begins};
 ghost use Rattle.ks_node.specs.Edges.{record_of};
-ghost use Rattle.ks_node.specs.Effect.{split_left, split_right, reached};
+ghost use Rattle.ks_node.specs.Effect.{split_left, split_right, reached, adopted, grown};
 ghost use Rattle.ks_keysets.specs.Layout.{Layout};
 ghost use Rattle.ks_node.specs.Room.{is_full, fit_together};
 ghost use Rattle.ks_node.specs.Asks.{IsCut, AreNext, Absorbs, Suits, IsSpanOf, AdoptsInside};
 ghost use Rattle.ks_flow.specs.Tree.{Tree, IsInset};
-ghost use Rattle.ks_bodies.specs.Stands.{Stands};
-ghost use Rattle.ks_bodies.specs.Shapes.{CanPart, CanAdopt, CanAbsorbOwn, CanAbsorbUnder, CanCollapse};
+ghost use Rattle.ks_bodies.specs.Stands.{IsPlain, Stands};
+ghost use Rattle.ks_bodies.specs.Shapes.{CanPart, CanAdopt, CanAbsorbOwn, CanAbsorbUnder, CanCollapse, split_on, split_own, split_under, grow};
 
-use ks_flow::laws::tree_facts_law;
+use ks_flow::laws::{changes_law, tree_facts_law, tree_law};
 
 /// The inset of a node suits its body, so that a full one may be cut there; that of the root is all places, and that
 /// of a node below the root is the span of the root's edge to it.
@@ -48,4 +50,21 @@ pub fn tree_asks_law()
     ensures collapse { (g : ℕ → NodeState) (f : ℕ → Frame) (node child : ℕ) (b q : Body) → Good g → Tree g f → CanCollapse g f node child b q → is_some b.range ≡ is_some q.range → b.range ≡ q.range }
 {
     tree_facts_law();
+}
+
+/// Where the places of a node are found after a split or a grow: below the cut and from it on, in the insets of the two
+/// nodes, to which the parent, or the node itself, leads.
+pub fn tree_parts_law()
+    ensures own { (g : ℕ → NodeState) (f : ℕ → Frame) (node right cut p : ℕ) (b : Body) → Good g → Tree g f → CanPart g f node right cut b → IsPlain (split_on cut right b) → IsPlain (split_right cut b) → InInset g node p →
+        InInset (graph_with (split_own node right cut b) g) node p × (cut ≤ p → LeadsTo (record_of (split_on cut right b)) p right × InInset (graph_with (split_own node right cut b) g) right p) }
+    ensures under { (g : ℕ → NodeState) (f : ℕ → Frame) (parent node right cut p : ℕ) (u b : Body) → Good g → Tree g f → CanAdopt g f parent node u → CanPart g f node right cut b →
+        IsPlain (adopted cut right u) → IsPlain (split_left cut b) → IsPlain (split_right cut b) → InInset g node p →
+        (p < cut → LeadsTo (record_of (adopted cut right u)) p node × InInset (graph_with (split_under parent node right cut u b) g) node p) × (cut ≤ p → LeadsTo (record_of (adopted cut right u)) p right × InInset (graph_with (split_under parent node right cut u b) g) right p) }
+    ensures grow { (g : ℕ → NodeState) (f : ℕ → Frame) (kind : Kind) (node left right cut p : ℕ) (b : Body) → Good g → Tree g f → CanPart g f node right cut b → record_at g left ≡ None → (left ≡ right → ⊥) →
+        IsPlain (grown kind cut left right b) → IsPlain (split_left cut b) → IsPlain (split_right cut b) → InInset g node p →
+        (p < cut → LeadsTo (record_of (grown kind cut left right b)) p left × InInset (graph_with (grow kind node left right cut b) g) left p) × (cut ≤ p → LeadsTo (record_of (grown kind cut left right b)) p right × InInset (graph_with (grow kind node left right cut b) g) right p) }
+{
+    changes_law();
+    tree_facts_law();
+    tree_law();
 }

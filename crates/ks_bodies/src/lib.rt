@@ -11,8 +11,8 @@ mod rights;
 mod runs;
 mod steps;
 
-pub use asks::{tree_asks_law, tree_spans_law};
-pub use links::{link_asks_law, link_steps_law};
+pub use asks::{tree_asks_law, tree_parts_law, tree_spans_law};
+pub use links::{link_asks_law, link_leads_law, link_steps_law};
 pub use rights::{alone_law, neighbour, rights_law, tests_law, tidied_law};
 pub use runs::run_end;
 pub use steps::{tree_insets_law, tree_steps_law};

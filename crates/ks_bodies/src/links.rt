@@ -1,18 +1,20 @@
 //! Bodies with links: what the calls of their shapes ask of them, and how what the calls make of them keeps
 //! the discipline of links.
 
-ghost use Rattle.std.specs.Prelude.{ℕ, ◌≡◌, ◌<◌, Option, Some, All, IsTrue};
+ghost use Rattle.std.specs.Prelude.{ℕ, ◌≡◌, ◌<◌, ◌≤◌, ◌⊎◌, Option, Some, All, IsTrue};
 ghost use Rattle.ks_keysets.specs.declared.Frame.{Frame};
 ghost use Rattle.ks_keysets.specs.declared.Kind.{Kind};
 ghost use Rattle.ks_keysets.specs.declared.NodeState.{NodeState};
 ghost use Rattle.ks_keysets.specs.declared.Span.{Span};
 ghost use Rattle.ks_keysets.specs.Keyset.{Good, IsLive};
-ghost use Rattle.ks_node.specs.Body.{Body, is_branch, all_places};
+ghost use Rattle.ks_keysets.specs.Record.{LeadsTo};
+ghost use Rattle.ks_node.specs.Edges.{record_of};
+ghost use Rattle.ks_node.specs.Body.{Body, is_branch, all_places, begins, last_of};
 ghost use Rattle.ks_node.specs.Effect.{split_right, adopted, with_link};
 ghost use Rattle.ks_node.specs.Asks.{Suits};
 ghost use Rattle.ks_flow.specs.Link.{Link};
 ghost use Rattle.ks_flow.specs.Discipline.{LinkStep};
-ghost use Rattle.ks_bodies.specs.Links.{IsLinked, StandsLinked, CanSplitRight, CanGrowRight, CanAttach, split_linked, grown_higher, split_to_right, grow_right, attach};
+ghost use Rattle.ks_bodies.specs.Links.{IsLinked, StandsLinked, CanSplitRight, CanGrowRight, CanAttach, StandsUnder, split_linked, grown_higher, split_to_right, grow_right, attach};
 
 use ks_flow::laws::{changes_law, link_law, link_shapes_law};
 
@@ -39,4 +41,18 @@ pub fn link_steps_law()
 {
     changes_law();
     link_shapes_law();
+}
+
+/// What a shape under links makes live is led to from the level above: both halves of a root that grows; and so is what
+/// is attached, and what stands under the begin of an edge.
+pub fn link_leads_law()
+    ensures grow_right { (g : ℕ → NodeState) (f : ℕ → Frame) (kind : Kind) (left right cut : ℕ) (b : Body) → Good g → Link g f →
+        CanGrowRight g f left right cut b → IsLinked (grown_higher kind cut left right b) → IsLinked (split_linked cut right b) → IsLinked (with_link None (split_right cut b)) →
+        LeadsTo (record_of (grown_higher kind cut left right b)) 0 left × LeadsTo (record_of (grown_higher kind cut left right b)) cut right }
+    ensures attach { (g : ℕ → NodeState) (f : ℕ → Frame) (node id cut : ℕ) (b : Body) → Good g → Link g f →
+        CanAttach g f node id cut b → IsLinked (adopted cut id b) → LeadsTo (record_of (adopted cut id b)) cut id }
+    ensures begun { (g : ℕ → NodeState) (f : ℕ → Frame) (node id cut : ℕ) (b : Body) → Good g → Link g f →
+        StandsLinked g f node b → StandsUnder g f id b.level cut → b.low ≤ cut → cut ≤ last_of b.range → (b.low ≡ cut) ⊎ IsTrue (begins cut b.starts) → LeadsTo (record_of b) cut id }
+{
+    changes_law();
 }

@@ -10,4 +10,4 @@
 mod calls;
 mod descent;
 
-pub use calls::{del, get};
+pub use calls::{del, get, put};

@@ -8,9 +8,9 @@ use Rattle.ks_keysets.specs.declared.Edge.{Edge}
 use Rattle.ks_keysets.specs.declared.Pair.{Pair}
 use Rattle.ks_keysets.specs.declared.NodeState.{NodeState}
 use Rattle.ks_keysets.specs.declared.Span.{Span}
-use Rattle.ks_keysets.specs.Record.{IsPlace, Carries, LeadsOn, first_value}
+use Rattle.ks_keysets.specs.Record.{IsPlace, Carries, LeadsOn, first_value, LeadsTo}
 use Rattle.ks_keysets.specs.Keyset.{record_at, IsLive, InKeyset, AreApart, Good, IsFound, value_in, value_at}
-use Rattle.ks_flow.specs.Link.{Link, IsRange, IsLinkEdge, IsChildEdge, IsPartOf, KeepsLink, IsAttach, Attaches}
+use Rattle.ks_flow.specs.Link.{Link, IsRange, IsLinkEdge, IsChildEdge, IsPartOf, KeepsLink, IsAttach, Attaches, IsLed}
 use Rattle.ks_flow.proofs.Walks.{found_here, found_one, same_record, reached_live}
 use Rattle.ks_flow.proofs.Edges.{same_or_apart, out_of}
 use Rattle.ks_flow.proofs.Trees.{at_record}
@@ -192,8 +192,21 @@ module _ (g k : ℕ → NodeState) (f h : ℕ → Frame) (node id cut : ℕ) (ra
     beyond = λ n q t p is rng past place. link_f.beyond n q t p is (subst (λ z. IsRange z t) (same n) rng) past place;
   }
 
+  led_on : (i : ℕ) → IsLed g f i → IsLed k h i
+  led_on i l = elim (one_of l.above) [
+    | inl e ↦ (
+        let same : Some l.node ≡ Some r = sym l.is ∙ ap (λ (m : ℕ). record_at g m) e ∙ x.before in
+        let is : l.node ≡ r = cc in
+        let to = x.still l.place i (subst (λ (z : Record). LeadsTo z l.place i) is l.leads) in
+        record { above = l.above; node = s; place = to.0; is = ap (λ (m : ℕ). record_at k m) e ∙ x.after; leads = to.1; level = level_same })
+    | inr same ↦ record { above = l.above; node = l.node; place = l.place; is = same ∙ l.is; leads = l.leads; level = level_same }
+  ]
+    where
+      level_same : (h l.above).level ≡ suc (h i).level
+      level_same = ap (λ (z : Frame). z.level) (x.frames l.above) ∙ l.level ∙ ap (λ (z : Frame). suc z.level) (sym (x.frames i))
+
   pub attach_link : KeepsLink g f k h
   attach_link = record {
     link = frame_link h x.frames;
-    lasts = record { live = live_on; low = λ n live. ap (λ (z : Frame). z.low) (x.frames n); level = λ n live ne. ap (λ (z : Frame). z.level) (x.frames n) };
+    lasts = record { live = live_on; low = λ n live. ap (λ (z : Frame). z.low) (x.frames n); level = λ n live ne. ap (λ (z : Frame). z.level) (x.frames n); led = led_on };
   }

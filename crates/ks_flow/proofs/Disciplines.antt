@@ -111,13 +111,19 @@ link_along g k f same link = record {
 }
 
 lasts_same : (g k : ℕ → NodeState) (f : ℕ → Frame) → SameEdges g k → LastsUnderLink g f k f
-lasts_same g k f same = record { live = λ n live. live_forth g k n same live; low = λ n live. refl; level = λ n live ne. refl }
+lasts_same g k f same = record {
+  live = λ n live. live_forth g k n same live;
+  low = λ n live. refl;
+  level = λ n live ne. refl;
+  led = λ n l. let y = same.forth l.above l.node l.is in record { above = l.above; node = y.0; place = l.place; is = y.1; leads = subst (λ (es : List Edge). Any (λ e. Carries e l.place × (e.node ≡ n)) es) (sym y.2) l.leads; level = l.level };
+}
 
 lasts_then : (g k l : ℕ → NodeState) (f h j : ℕ → Frame) → LastsUnderLink g f k h → LastsUnderLink k h l j → LastsUnderLink g f l j
 lasts_then g k l f h j a b = record {
   live = λ n live. b.live n (a.live n live);
   low = λ n live. b.low n (a.live n live) ∙ a.low n live;
   level = λ n live ne. b.level n (a.live n live) ne ∙ a.level n live ne;
+  led = λ n l. b.led n (a.led n l);
 }
 
 link_good : (g : ℕ → NodeState) (xs : List Change) → Good g → KeepsWays g (nodes_of xs) (graph_with xs g) ⊎ AttachStep g xs → Good (graph_with xs g)

@@ -6,12 +6,12 @@ use Rattle.std.specs.Prelude.{All}
 use Rattle.ks_keysets.specs.declared.Edge.{Edge}
 use Rattle.ks_keysets.specs.declared.NodeState.{NodeState}
 use Rattle.ks_keysets.specs.declared.Span.{Span}
-use Rattle.ks_keysets.specs.Record.{IsPlace, top, Holds, LeadsOn}
+use Rattle.ks_keysets.specs.Record.{IsPlace, top, Holds, LeadsOn, LeadsTo}
 use Rattle.ks_keysets.specs.Keyset.{record_at, IsLive, Good}
 use Rattle.ks_flow.specs.Ways.{names, KeepsWays}
 use Rattle.ks_flow.specs.Tree.{ActsAs}
 use Rattle.ks_flow.specs.Shapes.{GrowsOff}
-use Rattle.ks_flow.specs.Link.{Link, IsRange, IsLinkEdge, IsChildEdge, IsPartOf, KeepsLink, GrowsRight}
+use Rattle.ks_flow.specs.Link.{Link, IsRange, IsLinkEdge, IsChildEdge, IsPartOf, KeepsLink, GrowsRight, IsLed}
 use Rattle.ks_flow.proofs.Walks.{leads_on, leads_where}
 use Rattle.ks_flow.proofs.Entries.{keeps_ways}
 use Rattle.ks_flow.proofs.Edges.{same_or_apart, out_of}
@@ -349,10 +349,53 @@ module _ (g k : ℕ → NodeState) (f h : ℕ → Frame) (left right cut : ℕ) 
       go (inr (inr (inl e))) = subst RangeAt (sym e) (span_right, range_right)
       go (inr (inr (inr same))) = let y = link.range n (live.0, sym same.1 ∙ live.1) in (y.0, subst (λ (z : Frame). IsRange z y.0) (sym same.2) y.1)
 
+  -- what is led to is led to by one of the halves, if it was by the root
+  led_by : (i p : ℕ) → LeadsTo r p i → (h i).level ≡ (f i).level → (f 0).level ≡ suc (f i).level → IsLed k h i
+  led_by i p to same up = elim (below_or_from p cut) [
+    | inl lt ↦ record { above = left; node = s; place = p; is = x.after_left; leads = (x.below_cut p lt).1.to i to; level = omega (arith, x.level_left, same, up) }
+    | inr ge ↦ record { above = right; node = t; place = p; is = x.after_right; leads = (x.from_cut p within ge).1.to i to; level = omega (arith, x.level_right, same, up) }
+  ]
+    where
+      range : (a : Span) × IsRange (f 0) a
+      range = link.range 0 (r, x.before)
+
+      at : IsLinkEdge f 0 range.0 to.1 ⊎ IsChildEdge f 0 range.0 to.1
+      at = subst (λ (e : Edge). IsLinkEdge f 0 range.0 e ⊎ IsChildEdge f 0 range.0 e) to.3 (link.edges 0 r range.0 x.before range.1 to.0 to.1 to.2)
+
+      within : IsPlace p
+      within = elim at [
+        | inl l ↦ absurd (let level : (f i).level ≡ (f 0).level = subst (λ (m : ℕ). (f m).level ≡ (f 0).level) to.4.1 l.level in omega (arith, level, up))
+        | inr c ↦ omega (arith, c.ends, to.4.0.1, range.1.last)
+      ]
+
+  led_on : (i : ℕ) → IsLed g f i → IsLed k h i
+  led_on i l = go (which l.above)
+    where
+      live_i : IsLive g i
+      live_i = subst (λ (m : ℕ). IsLive g m) (ap (λ (e : Edge). e.node) l.leads.3 ∙ l.leads.4.1) (good.leads l.above l.node l.is l.leads.0 l.leads.1 l.leads.2)
+
+      no_root : i ≡ 0 → ⊥
+      no_root e = elim (same_or_apart l.above 0) [
+        | inl a ↦ omega (arith, l.level, ap (λ (m : ℕ). (f m).level) e, ap (λ (m : ℕ). (f m).level) a)
+        | inr a ↦ omega (arith, l.level, ap (λ (m : ℕ). (f m).level) e, link.highest l.above (l.node, l.is) a)
+      ]
+
+      level_i : (h i).level ≡ (f i).level
+      level_i = ap (λ (z : Frame). z.level) (frame_on i live_i no_root)
+
+      go : Which l.above → IsLed k h i
+      go (inl e) =
+          let same : Some l.node ≡ Some r = sym l.is ∙ ap (λ (m : ℕ). record_at g m) e ∙ x.before in
+          let is : l.node ≡ r = cc in
+          led_by i l.place (subst (λ (z : Record). LeadsTo z l.place i) is l.leads) level_i (ap (λ (m : ℕ). (f m).level) (sym e) ∙ l.level)
+      go (inr (inl e)) = absurd (not_left l.above (l.node, l.is) e)
+      go (inr (inr (inl e))) = absurd (not_right l.above (l.node, l.is) e)
+      go (inr (inr (inr same))) = record { above = l.above; node = l.node; place = l.place; is = same.1 ∙ l.is; leads = l.leads; level = omega (arith, ap (λ (z : Frame). z.level) same.2, l.level, level_i) }
+
   pub grow_link : KeepsLink g f k h
   grow_link = record {
     link = record { range = range_some; root = x.range_after; highest = λ n live ne. omega (arith, level_after n live ne, x.level); apart = apart_after; cover = cover_after; edges = edges_after; inside = inside_after; beyond = beyond_after };
-    lasts = record { live = live_on; low = low_on; level = λ n live ne. ap (λ (z : Frame). z.level) (frame_on n live ne) };
+    lasts = record { live = live_on; low = low_on; level = λ n live ne. ap (λ (z : Frame). z.level) (frame_on n live ne); led = led_on };
   }
 
   off : GrowsOff g k 0 left right cut r v s t

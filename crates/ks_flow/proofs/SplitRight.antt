@@ -6,12 +6,12 @@ use Rattle.std.specs.Prelude.{All}
 use Rattle.ks_keysets.specs.declared.Edge.{Edge}
 use Rattle.ks_keysets.specs.declared.NodeState.{NodeState}
 use Rattle.ks_keysets.specs.declared.Span.{Span}
-use Rattle.ks_keysets.specs.Record.{IsPlace, Holds, LeadsOn}
+use Rattle.ks_keysets.specs.Record.{IsPlace, Holds, LeadsOn, LeadsTo}
 use Rattle.ks_keysets.specs.Keyset.{record_at, IsLive, Good}
 use Rattle.ks_flow.specs.Ways.{names, KeepsWays}
 use Rattle.ks_flow.specs.Tree.{ActsAs}
 use Rattle.ks_flow.specs.Shapes.{SplitsOff}
-use Rattle.ks_flow.specs.Link.{Link, IsRange, IsLinkEdge, IsChildEdge, IsPartOf, KeepsLink, SplitsRight}
+use Rattle.ks_flow.specs.Link.{Link, IsRange, IsLinkEdge, IsChildEdge, IsPartOf, KeepsLink, SplitsRight, IsLed}
 use Rattle.ks_flow.proofs.Walks.{leads_on, leads_where}
 use Rattle.ks_flow.proofs.Entries.{keeps_ways}
 use Rattle.ks_flow.proofs.Edges.{same_or_apart, out_of}
@@ -271,10 +271,44 @@ module _ (g k : ℕ → NodeState) (f h : ℕ → Frame) (node right cut : ℕ) 
         ]
       ]
 
+  -- what is led to is led to by the node or by the new one, if it was by the node
+  led_by : (i p : ℕ) → LeadsTo r p i → (h i).level ≡ (f i).level → (f node).level ≡ suc (f i).level → IsLed k h i
+  led_by i p to same up = elim (below_or_from p cut) [
+    | inl lt ↦ record { above = node; node = s; place = p; is = x.after; leads = (x.below_cut p within.0 lt).to i to; level = omega (arith, x.level, same, up) }
+    | inr ge ↦ record { above = right; node = t; place = p; is = x.after_right; leads = (x.from_cut p (omega (arith, within.1, x.is_range.last)) ge).1.to i to; level = omega (arith, x.level_right, same, up) }
+  ]
+    where
+      at : IsLinkEdge f node range to.1 ⊎ IsChildEdge f node range to.1
+      at = subst (λ (e : Edge). IsLinkEdge f node range e ⊎ IsChildEdge f node range e) to.3 (link.edges node r range x.before x.is_range to.0 to.1 to.2)
+
+      within : (range.low ≤ p) × (p ≤ range.last)
+      within = elim at [
+        | inl l ↦ absurd (let level : (f i).level ≡ (f node).level = subst (λ (m : ℕ). (f m).level ≡ (f node).level) to.4.1 l.level in omega (arith, level, up))
+        | inr c ↦ (omega (arith, c.begins, to.4.0.0), omega (arith, c.ends, to.4.0.1))
+      ]
+
+  led_on : (i : ℕ) → IsLed g f i → IsLed k h i
+  led_on i l = elim (which l.above) [
+    | inl e ↦ (
+        let same : Some l.node ≡ Some r = sym l.is ∙ ap (λ (m : ℕ). record_at g m) e ∙ x.before in
+        let is : l.node ≡ r = cc in
+        led_by i l.place (subst (λ (z : Record). LeadsTo z l.place i) is l.leads) level_i (ap (λ (m : ℕ). (f m).level) (sym e) ∙ l.level))
+    | inr w ↦ elim w [
+      | inl e ↦ absurd (not_right l.above (l.node, l.is) e)
+      | inr same ↦ record { above = l.above; node = l.node; place = l.place; is = same.0 ∙ l.is; leads = l.leads; level = omega (arith, ap (λ (z : Frame). z.level) same.1, l.level, level_i) }
+    ]
+  ]
+    where
+      live_i : IsLive g i
+      live_i = subst (λ (m : ℕ). IsLive g m) (ap (λ (e : Edge). e.node) l.leads.3 ∙ l.leads.4.1) (good.leads l.above l.node l.is l.leads.0 l.leads.1 l.leads.2)
+
+      level_i : (h i).level ≡ (f i).level
+      level_i = level_on i live_i
+
   pub split_link : KeepsLink g f k h
   split_link = record {
     link = record { range = range_some; root = ap (λ (z : Frame). z.range) root_frame ∙ link.root; highest = highest_after; apart = apart_after; cover = cover_after; edges = edges_after; inside = inside_after; beyond = beyond_after };
-    lasts = record { live = live_on; low = low_on; level = λ n live ne. level_on n live };
+    lasts = record { live = live_on; low = low_on; level = λ n live ne. level_on n live; led = led_on };
   }
 
   off : SplitsOff g k node right cut r s t

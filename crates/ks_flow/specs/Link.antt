@@ -59,11 +59,22 @@ pub record Link (g : ℕ → NodeState) (frames : ℕ → Frame) : Type 0 where
 abbrev pub IsPartOf : Record → Edge → Type 0
 IsPartOf r e = Any (λ d. (d.node ≡ e.node) × (d.span.low ≡ e.span.low) × (e.span.last ≤ d.span.last)) r.edges
 
--- what lasts under links: no node is made free, and live nodes keep their lows and, but the root, their levels
+-- an edge of a live node one level above node i leads to it
+pub record IsLed (g : ℕ → NodeState) (frames : ℕ → Frame) (i : ℕ) : Type 0 where
+  pub above : ℕ
+  pub node : Record
+  pub place : ℕ
+  pub is : record_at g above ≡ Some node
+  pub leads : LeadsTo node place i
+  pub level : (frames above).level ≡ suc (frames i).level
+
+-- what lasts under links: no node is made free, live nodes keep their lows and, but the root, their levels, and what is
+-- led to from the level above stays so
 pub record LastsUnderLink (g : ℕ → NodeState) (f : ℕ → Frame) (k : ℕ → NodeState) (h : ℕ → Frame) : Type 0 where
   pub live : (n : ℕ) → IsLive g n → IsLive k n
   pub low : (n : ℕ) → IsLive g n → (h n).low ≡ (f n).low
   pub level : (n : ℕ) → IsLive g n → (n ≡ 0 → ⊥) → (h n).level ≡ (f n).level
+  pub led : (n : ℕ) → IsLed g f n → IsLed k h n
 
 -- what a shape keeps under links: the facts, and what lasts
 pub record KeepsLink (g : ℕ → NodeState) (f : ℕ → Frame) (k : ℕ → NodeState) (h : ℕ → Frame) : Type 0 where
@@ -191,8 +202,9 @@ pub record Attaches (g k : ℕ → NodeState) (f h : ℕ → Frame) (node id cut
   -- node keeps its pairs, and its edges are disjoint
   pub pairs : s.pairs ≡ r.pairs
   pub apart : AllPairs (λ e f. (p : ℕ) → Carries e p → Carries f p → ⊥) s.edges
-  -- each place that an edge carried is still carried
+  -- each place that an edge carried is still carried, and each node that an edge led to is still led to
   pub on : (p : ℕ) → LeadsOn r p → LeadsOn s p
+  pub still : (p m : ℕ) → LeadsTo r p m → (q : ℕ) × LeadsTo s q m
   -- an edge is an old one, or the first part of one, or begins at the cut and leads to id, within the range
   pub edges : All (λ e. IsPartOf r e ⊎ ((e.node ≡ id) × (e.span.low ≡ cut) × (e.span.last ≤ range.last))) s.edges
 

@@ -1,19 +1,21 @@
 //! The calls of a dictionary by giving up.
 ghost use Rattle.std.specs.Prelude.{◌≡◌, []};
 ghost use Rattle.ks_flow.specs.Discipline.{BeginsTree, TreeStep};
-ghost use Rattle.ks_history.specs.declared.Op.TheVariants.{Del, Get};
+ghost use Rattle.ks_history.specs.declared.Op.TheVariants.{Del, Get, Put};
 ghost use Rattle.ks_history.specs.Map.{told};
 ghost use Rattle.ks_history.specs.Done.{Done, give_up};
 ghost use Rattle.ks_arena.specs.Sound.{sort_of};
 ghost use Rattle.ks_arena.specs.Clauses.{IsPass, hand_of, seen_of};
+ghost use Rattle.ks_put.specs.Calls.{IsAnswered};
 
 use crate::descent::find;
 use ks_arena::laws::sound_law;
 use ks_arena::{Arena, Pass};
 use ks_flow::Tree;
-use ks_gate::Gate;
+use ks_gate::{Gate, Point};
 use ks_history::Op;
 use ks_node::{Ranged, Unlinked, node_law};
+use ks_put::{Full, pair_put, put_after_law, put_here};
 use ks_shape::{Numbered, conclude, reply_of};
 use std::sync::Wait;
 
@@ -58,4 +60,30 @@ pub fn del<N: Ranged + Unlinked, R: Wait, G: Gate>(
     let found = held.body.del(place);
     let number = conclude(arena, pass, gate, held, Op::Del(place), reply_of(found));
     Numbered { number, found }
+}
+
+/// Puts a value at a place; answers the value that stood there, and the number of the call; or that the node was full and
+/// no node was found free. Where the node has no room it is given, and the put goes by lock coupling from the root.
+pub fn put<N: Ranged + Unlinked, R: Wait, G: Gate>(
+    rt: &R,
+    arena: &Arena<N, Tree>,
+    pass: &mut Pass<N, Tree>,
+    gate: &G,
+    place: u64,
+    value: u128,
+) -> Result<Numbered, Full>
+    requires pass { IsPass (sort_of N.layout N.ranged) BeginsTree TreeStep arena.now.table.shared.table_id arena.now.callers pass.old × (hand_of pass.old ≡ []) }
+    ensures pass { IsPass (sort_of N.layout N.ranged) BeginsTree TreeStep arena.now.table.shared.table_id arena.now.callers pass.new × (hand_of pass.new ≡ []) }
+    ensures caller { pass.new.caller ≡ pass.old.caller }
+    ensures done { IsAnswered N.layout give_up arena.now.nodes pass.old.caller (Put place value) (seen_of pass.old) (seen_of pass.new) result }
+{
+    let held = find(rt, arena, pass, gate, place);
+    if held.body.get(place).is_some() || !held.body.is_full() {
+        return Ok(put_here(arena, pass, gate, place, value, held));
+    }
+    let node = held.node;
+    arena.give(pass, held);
+    gate.at(pass.caller(), Point::Given(node));
+    put_after_law();
+    pair_put(rt, arena, pass, gate, place, value)
 }

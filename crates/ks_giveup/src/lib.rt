@@ -11,4 +11,4 @@
 mod calls;
 mod descent;
 
-pub use calls::{del, get};
+pub use calls::{del, get, put};

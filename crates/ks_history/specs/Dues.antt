@@ -8,8 +8,9 @@ use Rattle.ks_keysets.specs.Keyset.{live_record, record_at, IsLive, InKeyset}
 use Rattle.ks_keysets.specs.Layout.{Layout, list_layout, bplus_layout, hash_layout}
 use Rattle.ks_history.specs.declared.Event.{Event}
 use Rattle.ks_history.specs.declared.Event.TheVariants.{Take, Give, Claim, Shape, Call}
-use Rattle.ks_history.specs.Trace.{◌⊑◌, free, held, caller_of, graph_after, turn_after}
-use Rattle.ks_history.specs.Passes.{NoneBy, NoCallBy, GrowsByOthers}
+use Rattle.ks_history.specs.Trace.{◌⊑◌, free, held, caller_of, graph_after, turn_after, hand}
+use Rattle.ks_history.specs.Passes.{NoneBy, NoCallBy, GrowsByOthers, Has}
+use Rattle.ks_history.specs.Hand.{held_in_hand}
 use Rattle.ks_history.specs.Due.{FindsNoRoom, MayGrow, HoldsLive, HoldsLiveBut, NoneFree, FullDue, last_call, Sometime}
 use Rattle.ks_history.specs.Stays.{AreInTurn, StaysHeld, cond_here, cond_else}
 use Rattle.ks_history.specs.Begins.{none_by_older, begins_self, begins_more, begins_both, by_others_keeps, by_others_turn, in_turn_begins}
@@ -160,3 +161,14 @@ is_due_by layout n place s h e no_room none begins quiet = record {
   none_free = none_free_earlier layout n (caller_of e) place (last_call (caller_of e) h) s h
       (subst (λ (z : List Event). last_call (caller_of e) z ⊑ s) (sym begins.is) (last_call_before (caller_of e) begins.rest s quiet)) none;
 }
+
+-- what a caller holds that holds one live node, or that node and one that it has claimed
+
+pub holds_one : (c i : ℕ) (h : List Event) → hand c h ≡ i ∷ [] → IsLive (graph_after h) i → HoldsLive h c
+holds_one c i h is live j mine = elim (subst (λ (z : List ℕ). Has z j) is (held_in_hand h c j mine)) [ inl same ↦ subst (IsLive (graph_after h)) same live | inr none ↦ absurd none ]
+
+pub holds_others : (c i one : ℕ) (h : List Event) → hand c h ≡ one ∷ i ∷ [] → IsLive (graph_after h) i → (j : ℕ) → j ≢ one → turn_after h j ≡ held c → IsLive (graph_after h) j
+holds_others c i one h is live j other mine = elim (subst (λ (z : List ℕ). Has z j) is (held_in_hand h c j mine)) [
+  | inl same ↦ absurd (other (sym same))
+  | inr rest ↦ elim rest [ inl same ↦ subst (IsLive (graph_after h)) same live | inr none ↦ absurd none ]
+]

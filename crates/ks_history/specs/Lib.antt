@@ -14,6 +14,7 @@ pub mod Turns
 pub mod Calls
 pub mod Dues
 pub mod Underway
+pub mod Stretch
 pub mod Far
 pub mod Alone
 pub mod Beside

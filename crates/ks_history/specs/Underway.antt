@@ -7,7 +7,7 @@ use Rattle.ks_history.specs.declared.Reply.{Reply}
 use Rattle.ks_history.specs.declared.Reply.TheVariants.{Full}
 use Rattle.ks_history.specs.declared.Event.{Event}
 use Rattle.ks_history.specs.declared.Event.TheVariants.{Take, Give, Claim, Shape, Call}
-use Rattle.ks_history.specs.Trace.{caller_of, called, call_in, number_after, hand}
+use Rattle.ks_history.specs.Trace.{◌⊑◌, caller_of, called, call_in, number_after, hand}
 use Rattle.ks_history.specs.Passes.{NoneBy, NoCallBy, GrowsByOthers, GrowsWith}
 use Rattle.ks_history.specs.Due.{FullDue}
 use Rattle.ks_history.specs.Done.{Template, HoldsAbove, MayTake, first_taken, from_above, TakesWell, most_held, Hands, at_first, and_on, Done, Left}
@@ -175,3 +175,40 @@ decided_with layout template n c op reply number e s0 g h quiet so well few was 
   hands = hands_with template c op e s0 g h so well few was.hands;
   full = was.full;
 }
+
+-- a stretch of a call from one moment to a later one is a call under way from there; two stretches are one
+
+pub underway_here : (template : Template) (c : ℕ) (op : Op) (h : List Event) → length (hand c h) ≤ most_held template op → Underway template c op h h
+underway_here template c op h few = record { rest = []; is = refl; none = tt; hands = at_first few }
+
+hands_both : {template : Template} {c : ℕ} {op : Op} {s0 h k : List Event} → Hands template c op s0 h → Hands template c op h k → Hands template c op s0 k
+hands_both a (at_first few) = a
+hands_both a (and_on before well few) = and_on (hands_both a before) well few
+
+pub underway_both : (template : Template) (c : ℕ) (op : Op) (s0 h k : List Event) → Underway template c op s0 h → Underway template c op h k → Underway template c op s0 k
+underway_both template c op s0 h k a b = record {
+  rest = b.rest ++ a.rest;
+  is = b.is ∙ ap (λ (z : List Event). b.rest ++ z) a.is ∙ sym (append_assoc b.rest a.rest s0);
+  none = no_call_both c b.rest a.rest b.none a.none;
+  hands = hands_both a.hands b.hands;
+}
+
+-- a call that is done may go on, and is done
+pub done_on : (layout : Layout) (template : Template) (n c : ℕ) (op : Op) (s0 h k : List Event) (reply : Reply) (number : ℕ) → Done layout template n c op s0 h reply number → Underway template c op h k → hand c k ≡ [] → Done layout template n c op s0 k reply number
+done_on layout template n c op s0 h k reply number was b empty = record {
+  before = was.before;
+  event = was.event;
+  after = b.rest ++ was.after;
+  is = b.is ∙ ap (λ (z : List Event). b.rest ++ z) was.is ∙ sym (append_assoc b.rest was.after (was.event ∷ (was.before ++ s0)));
+  call = was.call;
+  none_before = was.none_before;
+  none_after = no_call_both c b.rest was.after b.none was.none_after;
+  numbered = was.numbered;
+  gave_all = empty;
+  hands = hands_both was.hands b.hands;
+  full = was.full;
+}
+
+-- it stands after its start
+pub done_begins : (layout : Layout) (template : Template) (n c : ℕ) (op : Op) (s0 s1 : List Event) (reply : Reply) (number : ℕ) → Done layout template n c op s0 s1 reply number → s0 ⊑ s1
+done_begins layout template n c op s0 s1 reply number so = record { rest = so.after ++ so.event ∷ so.before; is = so.is ∙ sym (append_assoc so.after (so.event ∷ so.before) s0) }

@@ -1,14 +1,15 @@
 -- How what a caller holds stands in a graph with links, at what its pass has seen and whatever others do next.
-use Rattle.std.proofs.Common.{◌≡◌, ℕ, List, ap, ◌∙◌, true, arith, inl, inr}
+use Rattle.std.proofs.Common.{◌≡◌, ℕ, suc, Some, List, ap, ◌∙◌, true, arith, inl, inr}
 use Rattle.std.specs.Prelude.{is_some, nat_lt}
 use Rattle.std.specs.Option.{ForSome}
 use Rattle.ks_keysets.specs.Keyset.{live_record}
-use Rattle.ks_keysets.specs.Record.{top}
 use Rattle.std.proofs.lemmas.Bool.Decides.{eqb_tells}
 use Rattle.ks_keysets.specs.declared.Frame.{Frame}
 use Rattle.ks_keysets.specs.declared.NodeState.{NodeState}
 use Rattle.ks_node.specs.Edges.{record_of}
-use Rattle.ks_flow.specs.Link.{Link, LastsUnderLink}
+use Rattle.ks_flow.specs.Link.{Link, LastsUnderLink, IsLed}
+use Rattle.ks_keysets.specs.Record.{LeadsTo, top}
+use Rattle.ks_arena.specs.Clauses.{Matches}
 use Rattle.ks_flow.specs.Discipline.{BeginsLink, LinkStep}
 use Rattle.ks_history.specs.declared.Event.{Event}
 use Rattle.ks_history.specs.Trace.{hand, graph_after, frame_after}
@@ -55,3 +56,18 @@ under_later g k f h node id cut b link lasts stands under = record {
       | inl same ↦ omega (arith, ap (λ (z : Frame). z.level) stands.frame, under.level, ap (λ (n : ℕ). (f n).level) e, ap (λ (n : ℕ). (f n).level) same.1)
       | inr other ↦ omega (arith, ap (λ (z : Frame). z.level) stands.frame, under.level, ap (λ (n : ℕ). (f n).level) e, link.highest node (record_of b, stands.has) other.1)
     ]
+
+-- what leads to a node one level below leads to it
+module _ {N : Type 0} (sort : Sort) (shows : N → Body) (h : List Event) where
+  pub shown_led : (x : Hand N) (b : Body) (i p : ℕ) → x.live ≡ true → shows x.body ≡ b → Matches sort shows h x → LeadsTo (record_of b) p i → b.level ≡ suc (frame_after (blank_of sort) h i).level → IsLed (graph_after h) (frame_after (blank_of sort) h) i
+  shown_led x b i p live is matches to up = let t = live_if sort shows x.live (graph_after h x.node) (frame_after (blank_of sort) h x.node) x.body live matches.is in record {
+    above = x.node;
+    node = record_of b;
+    place = p;
+    is = ap live_record t.0 ∙ ap (λ (z : Body). Some (record_of z)) is;
+    leads = to;
+    level = ap (λ (z : Frame). z.level) t.1 ∙ ap (λ (z : Body). z.level) is ∙ up;
+  }
+
+  pub shown_level : (x : Hand N) (b : Body) → x.live ≡ true → shows x.body ≡ b → Matches sort shows h x → (frame_after (blank_of sort) h x.node).level ≡ b.level
+  shown_level x b live is matches = let t = live_if sort shows x.live (graph_after h x.node) (frame_after (blank_of sort) h x.node) x.body live matches.is in ap (λ (z : Frame). z.level) t.1 ∙ ap (λ (z : Body). z.level) is

@@ -1,5 +1,5 @@
 -- How what a caller holds stands in the graph, at what its pass has seen and whatever others do next.
-use Rattle.std.proofs.Common.{◌≡◌, ℕ, Bool, List, ap, ◌∙◌, subst, true, false}
+use Rattle.std.proofs.Common.{◌≡◌, ℕ, Bool, List, [], ◌∷◌, ap, ◌∙◌, subst, true, false}
 use Rattle.std.specs.Prelude.{None, IsTrue}
 use Rattle.std.specs.Option.{ForSome}
 use Rattle.ks_keysets.specs.declared.Frame.{Frame}
@@ -53,6 +53,12 @@ module _ {N : Type 0} (sort : Sort) (shows : N → Body) where
   -- the change of a live node in hand is to what its body shows
   pub changed_to : (x : Hand N) (b : Body) → x.live ≡ true → shows x.body ≡ b → change_of shows x ≡ live_as x.node b
   changed_to x b live same = ap (λ (z : Bool). record { node = x.node; state = new_state_of shows z x.body }) live ∙ ap (λ (z : Body). live_as x.node z) same
+
+  pub changed_two : (x y : Hand N) (a b : Body) → x.live ≡ true → y.live ≡ true → shows x.body ≡ a → shows y.body ≡ b → (change_of shows x ∷ change_of shows y ∷ []) ≡ (live_as x.node a ∷ live_as y.node b ∷ [])
+  changed_two x y a b lx ly sx sy = λ k. changed_to x a lx sx k ∷ changed_to y b ly sy k ∷ []
+
+  pub changed_three : (x y z : Hand N) (a b d : Body) → x.live ≡ true → y.live ≡ true → z.live ≡ true → shows x.body ≡ a → shows y.body ≡ b → shows z.body ≡ d → (change_of shows x ∷ change_of shows y ∷ change_of shows z ∷ []) ≡ (live_as x.node a ∷ live_as y.node b ∷ live_as z.node d ∷ [])
+  changed_three x y z a b d lx ly lz sx sy sz = λ k. changed_to x a lx sx k ∷ changed_to y b ly sy k ∷ changed_to z d lz sz k ∷ []
 
 -- a full body is no directory
 pub no_directory : (layout : Layout) (b : Body) → IsTrue (is_full layout b) → b.kind ≡ Directory → ⊥

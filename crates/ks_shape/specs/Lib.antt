@@ -1,3 +1,4 @@
 pub mod InHand
 pub mod Single
 pub mod OnWay
+pub mod Answers

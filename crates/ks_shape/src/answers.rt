@@ -6,3 +6,9 @@ pub struct Numbered {
     pub number: u64,
     pub found: Option<u128>,
 }
+
+/// The number of a call that found no room for its place, and no free node. It changed nothing in the map.
+#[derive(Clone, Copy, Debug, PartialEq, Eq)]
+pub struct Full {
+    pub number: u64,
+}

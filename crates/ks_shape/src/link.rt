@@ -1,6 +1,7 @@
 //! Shapes under links. Each asks that the pass holds its nodes with the bodies of the graph, and tells what they became.
 ghost use Rattle.std.specs.Prelude.{◌≡◌, ◌≢◌, ◌<◌, IsTrue, None, ◌∷◌};
 ghost use Rattle.ks_flow.specs.Discipline.{BeginsLink, LinkStep};
+ghost use Rattle.ks_flow.specs.Link.{IsLed};
 ghost use Rattle.ks_history.specs.declared.Event.TheVariants.{Shape};
 ghost use Rattle.ks_history.specs.Passes.{GrowsWith};
 ghost use Rattle.ks_history.specs.Trace.{graph_after, frame_after};
@@ -15,7 +16,7 @@ ghost use Rattle.ks_shape.specs.InHand.{IsLive, IsFree, BecomesLive};
 
 use ks_arena::laws::sound_law;
 use ks_arena::{Arena, Held, Pass};
-use ks_bodies::{link_asks_law, link_steps_law};
+use ks_bodies::{link_asks_law, link_leads_law, link_steps_law};
 use ks_flow::Link;
 use ks_node::{Linked, linked_law, node_law};
 
@@ -83,12 +84,14 @@ pub fn grow_right<N: Linked>(
     ensures node { BecomesLive (sort_of N.layout N.ranged) N.body (shapes.grown_higher N.branch_kind cut left.old.node right.old.node (N.body node.old.body)) (seen_of pass.new) node.old node.new }
     ensures left { BecomesLive (sort_of N.layout N.ranged) N.body (shapes.split_linked cut right.old.node (N.body node.old.body)) (seen_of pass.new) left.old left.new }
     ensures right { BecomesLive (sort_of N.layout N.ranged) N.body (with_link None (right_part cut (N.body node.old.body))) (seen_of pass.new) right.old right.new }
+    ensures led { IsLed (graph_after (seen_of pass.new)) (frame_after (blank_of (sort_of N.layout N.ranged)) (seen_of pass.new)) left.old.node × IsLed (graph_after (seen_of pass.new)) (frame_after (blank_of (sort_of N.layout N.ranged)) (seen_of pass.new)) right.old.node }
     ensures kept { KeptBesides (shapes.grow_right N.branch_kind node.old.node left.old.node right.old.node cut (N.body node.old.body)) pass.old.caller (seen_of pass.old) (seen_of pass.new) }
     ensures still { StillMatchBesides (sort_of N.layout N.ranged) N.body (shapes.grow_right N.branch_kind node.old.node left.old.node right.old.node cut (N.body node.old.body)) (hand_of pass.old) (seen_of pass.old) (seen_of pass.new) }
 {
     sound_law::<Link>();
     link_asks_law();
     link_steps_law();
+    link_leads_law();
     linked_law::<N>();
     node_law(&node.body);
     node.body.grow_link(&mut left.body, &mut right.body, left.node, right.node, cut);
@@ -121,12 +124,14 @@ pub fn attach<N: Linked>(
     ensures hand { hand_of pass.new ≡ hand_of pass.old }
     ensures mine { mine_of pass.new ≡ Shape pass.old.caller (shapes.attach node.old.node id cut (N.body node.old.body)) ∷ mine_of pass.old }
     ensures node { BecomesLive (sort_of N.layout N.ranged) N.body (adopted cut id (N.body node.old.body)) (seen_of pass.new) node.old node.new }
+    ensures led { IsLed (graph_after (seen_of pass.new)) (frame_after (blank_of (sort_of N.layout N.ranged)) (seen_of pass.new)) id }
     ensures kept { KeptBesides (shapes.attach node.old.node id cut (N.body node.old.body)) pass.old.caller (seen_of pass.old) (seen_of pass.new) }
     ensures still { StillMatchBesides (sort_of N.layout N.ranged) N.body (shapes.attach node.old.node id cut (N.body node.old.body)) (hand_of pass.old) (seen_of pass.old) (seen_of pass.new) }
 {
     sound_law::<Link>();
     link_asks_law();
     link_steps_law();
+    link_leads_law();
     linked_law::<N>();
     node_law(&node.body);
     node.body.adopt(cut, id);

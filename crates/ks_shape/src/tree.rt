@@ -1,5 +1,5 @@
 //! Shapes of trees. Each asks that the pass holds its nodes with the bodies of the graph, and tells what they became.
-ghost use Rattle.std.specs.Prelude.{◌≡◌, ◌≢◌, ℕ, ◌<◌, IsTrue, Some, None, [], ◌∷◌, true, false};
+ghost use Rattle.std.specs.Prelude.{◌≡◌, ◌≢◌, ℕ, ◌<◌, ◌≤◌, IsTrue, Some, None, [], ◌∷◌, true, false};
 ghost use Rattle.ks_flow.specs.Discipline.{BeginsTree, TreeStep};
 ghost use Rattle.ks_keysets.specs.Keyset.{InInset};
 ghost use Rattle.ks_keysets.specs.Record.{LeadsTo};
@@ -18,7 +18,7 @@ ghost use Rattle.ks_shape.specs.InHand.{IsLive, IsFree, BecomesLive, BecomesFree
 
 use ks_arena::laws::sound_law;
 use ks_arena::{Arena, Held, Pass};
-use ks_bodies::{tree_asks_law, tree_steps_law};
+use ks_bodies::{tree_asks_law, tree_parts_law, tree_steps_law};
 use ks_flow::Tree;
 use ks_node::{Unlinked, node_law, unlinked_law};
 
@@ -43,11 +43,14 @@ pub fn split_own<N: Unlinked>(
     ensures mine { mine_of pass.new ≡ Shape pass.old.caller (shapes.split_own node.old.node right.old.node cut (N.body node.old.body)) ∷ mine_of pass.old }
     ensures node { BecomesLive (sort_of N.layout N.ranged) N.body (shapes.split_on cut right.old.node (N.body node.old.body)) (seen_of pass.new) node.old node.new }
     ensures right { BecomesLive (sort_of N.layout N.ranged) N.body (split_right cut (N.body node.old.body)) (seen_of pass.new) right.old right.new }
+    ensures parts { (p : ℕ) → InInset (graph_after (seen_of pass.old)) node.old.node p →
+        InInset (graph_after (seen_of pass.new)) node.old.node p × (cut ≤ p → LeadsTo (record_of (shapes.split_on cut right.old.node (N.body node.old.body))) p right.old.node × InInset (graph_after (seen_of pass.new)) right.old.node p) }
     ensures kept { KeptBesides (shapes.split_own node.old.node right.old.node cut (N.body node.old.body)) pass.old.caller (seen_of pass.old) (seen_of pass.new) }
     ensures still { StillMatchBesides (sort_of N.layout N.ranged) N.body (shapes.split_own node.old.node right.old.node cut (N.body node.old.body)) (hand_of pass.old) (seen_of pass.old) (seen_of pass.new) }
 {
     sound_law::<Tree>();
     tree_asks_law();
+    tree_parts_law();
     tree_steps_law();
     unlinked_law::<N>();
     node_law(&node.body);
@@ -87,11 +90,15 @@ pub fn split_under<N: Unlinked>(
     ensures parent { BecomesLive (sort_of N.layout N.ranged) N.body (adopted cut right.old.node (N.body parent.old.body)) (seen_of pass.new) parent.old parent.new }
     ensures node { BecomesLive (sort_of N.layout N.ranged) N.body (split_left cut (N.body node.old.body)) (seen_of pass.new) node.old node.new }
     ensures right { BecomesLive (sort_of N.layout N.ranged) N.body (split_right cut (N.body node.old.body)) (seen_of pass.new) right.old right.new }
+    ensures parts { (p : ℕ) → InInset (graph_after (seen_of pass.old)) node.old.node p →
+        (p < cut → LeadsTo (record_of (adopted cut right.old.node (N.body parent.old.body))) p node.old.node × InInset (graph_after (seen_of pass.new)) node.old.node p)
+        × (cut ≤ p → LeadsTo (record_of (adopted cut right.old.node (N.body parent.old.body))) p right.old.node × InInset (graph_after (seen_of pass.new)) right.old.node p) }
     ensures kept { KeptBesides (shapes.split_under parent.old.node node.old.node right.old.node cut (N.body parent.old.body) (N.body node.old.body)) pass.old.caller (seen_of pass.old) (seen_of pass.new) }
     ensures still { StillMatchBesides (sort_of N.layout N.ranged) N.body (shapes.split_under parent.old.node node.old.node right.old.node cut (N.body parent.old.body) (N.body node.old.body)) (hand_of pass.old) (seen_of pass.old) (seen_of pass.new) }
 {
     sound_law::<Tree>();
     tree_asks_law();
+    tree_parts_law();
     tree_steps_law();
     unlinked_law::<N>();
     node_law(&parent.body);
@@ -130,11 +137,15 @@ pub fn grow<N: Unlinked>(
     ensures node { BecomesLive (sort_of N.layout N.ranged) N.body (grown N.branch_kind cut left.old.node right.old.node (N.body node.old.body)) (seen_of pass.new) node.old node.new }
     ensures left { BecomesLive (sort_of N.layout N.ranged) N.body (split_left cut (N.body node.old.body)) (seen_of pass.new) left.old left.new }
     ensures right { BecomesLive (sort_of N.layout N.ranged) N.body (split_right cut (N.body node.old.body)) (seen_of pass.new) right.old right.new }
+    ensures parts { (p : ℕ) → InInset (graph_after (seen_of pass.old)) node.old.node p →
+        (p < cut → LeadsTo (record_of (grown N.branch_kind cut left.old.node right.old.node (N.body node.old.body))) p left.old.node × InInset (graph_after (seen_of pass.new)) left.old.node p)
+        × (cut ≤ p → LeadsTo (record_of (grown N.branch_kind cut left.old.node right.old.node (N.body node.old.body))) p right.old.node × InInset (graph_after (seen_of pass.new)) right.old.node p) }
     ensures kept { KeptBesides (shapes.grow N.branch_kind node.old.node left.old.node right.old.node cut (N.body node.old.body)) pass.old.caller (seen_of pass.old) (seen_of pass.new) }
     ensures still { StillMatchBesides (sort_of N.layout N.ranged) N.body (shapes.grow N.branch_kind node.old.node left.old.node right.old.node cut (N.body node.old.body)) (hand_of pass.old) (seen_of pass.old) (seen_of pass.new) }
 {
     sound_law::<Tree>();
     tree_asks_law();
+    tree_parts_law();
     tree_steps_law();
     unlinked_law::<N>();
     node_law(&node.body);

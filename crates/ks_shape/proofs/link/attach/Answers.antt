@@ -1,10 +1,10 @@
-use Rattle.std.proofs.Common.{◌≡◌, ℕ, List, [], ◌∷◌, arith, sym, ◌∙◌, subst}
+use Rattle.std.proofs.Common.{◌≡◌, ℕ, List, [], ◌∷◌, arith, true, false, sym, ◌∙◌, subst}
 use Rattle.ks_keysets.specs.declared.NodeState.{NodeState}
 use Rattle.ks_keysets.specs.declared.Frame.{Frame}
 use Rattle.ks_history.specs.declared.Event.{Event}
 use Rattle.ks_history.specs.Trace.{graph_after, frame_after}
 use Rattle.ks_history.specs.Passes.{GrowsByOthers}
-use Rattle.ks_history.specs.Begins.{good_now, by_others_none, by_others_begins}
+use Rattle.ks_history.specs.Begins.{good_now, by_others_none, by_others_begins, with_begins}
 use Rattle.ks_node.specs.Body.{Body}
 use Rattle.ks_node.specs.Effect.{adopted}
 use Rattle.ks_flow.specs.Discipline.{BeginsLink, LinkStep}
@@ -12,7 +12,7 @@ use Rattle.ks_bodies.specs.Links.{IsLinked, StandsLinked, CanAttach}
 use Rattle.ks_arena.specs.Sound.{sort_of, blank_of, Sound}
 use Rattle.ks_arena.specs.Clauses.{seen_of, hand_of}
 use Rattle.ks_shape.proofs.Standing.{changed_to}
-use Rattle.ks_shape.proofs.Links.{linked, stands_linked, stays_linked, under_later}
+use Rattle.ks_shape.proofs.Links.{linked, stands_linked, stays_linked, under_later, shown_led}
 use Rattle.ks_shape.proofs.link.attach.Given.{Over}
 use Rattle.ks_shape.proofs.link.attach.Goals as goal
 use Rattle.ks_shape.proofs.link.attach.Goals.{After-node_law}
@@ -42,3 +42,13 @@ shape-requires-clause-may g c κs within = λ h grows sound. let sort = sort_of 
     let after = linked (g.N.Node.body c.adopt.new.self) c.node_law-2.ensures.sound (c.node_law-2.ensures.has_range ∙ c.linked_law.ensures.is_ranged) c.node_law-2.ensures.framed (c.linked_law.ensures.link_where c.adopt.new.self) in
     let step = c.link_steps_law.ensures.attach g₁ f₁ c.args.node.now.node i cut b good facts (can g at h grows so) (subst IsLinked is after) in
     subst (LinkStep g₁ f₁) (λ k. sym (changed_to sort g.N.Node.body (record { node = c.args.node.now.node; body = c.adopt.new.self; live = c.args.node.now.live }) (adopted cut i b) c.requires.node.live is) k ∷ []) step
+
+pub returns-clause-led : goal.returns-clause-led
+returns-clause-led g c = let sort = sort_of g.N.Node.layout g.N.Node.ranged in let n : ℕ = c.args.arena.now.table.shared.table_id.slots in let me : ℕ = c.args.pass.now.caller in let seen = seen_of c.args.pass.now in let k = seen_of c.shape.new.pass in
+    let at = (goal.at.returns-clause-led g c).After-node_law in let law = c.sound_law.ensures in let r = c.requires in let b : Body = g.N.Node.body c.args.node.now.body in let cut : ℕ = c.args.cut in let i : ℕ = c.args.id in let is = c.adopt.ensures in
+    let facts = law.facts sort n seen r.pass.sound in
+    let here = stands g at seen (by_others_none me seen) r.pass.sound in
+    let after = linked (g.N.Node.body c.adopt.new.self) c.node_law-2.ensures.sound (c.node_law-2.ensures.has_range ∙ c.linked_law.ensures.is_ranged) c.node_law-2.ensures.framed (c.linked_law.ensures.link_where c.adopt.new.self) in
+    let leads = c.link_leads_law.ensures.attach (graph_after seen) (frame_after (blank_of sort) seen) c.args.node.now.node i cut b (good_now (law.good sort n seen r.pass.sound)) facts (can g at seen (by_others_none me seen) r.pass.sound) (subst IsLinked is after) in
+    let under = under_later (graph_after seen) (graph_after k) (frame_after (blank_of sort) seen) (frame_after (blank_of sort) k) c.args.node.now.node i cut b facts (law.lasts sort n seen k (with_begins me _ seen k c.shape.ensures.shaped) c.shape.ensures.pass.sound) here r.under in
+    shown_led sort g.N.Node.body k (record { node = c.args.node.now.node; body = c.adopt.new.self; live = c.args.node.now.live }) (adopted cut i b) i cut r.node.live is (c.shape.ensures.bodies.0 (λ dead. let clash : true ≡ false = sym r.node.live ∙ dead in cc)) leads (sym under.level)

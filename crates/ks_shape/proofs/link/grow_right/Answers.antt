@@ -1,4 +1,4 @@
-use Rattle.std.proofs.Common.{None, ◌≡◌, ℕ, List, [], ◌∷◌, arith, sym, refl, ap, ◌∙◌, subst, true}
+use Rattle.std.proofs.Common.{None, ◌≡◌, ℕ, List, [], ◌∷◌, arith, sym, refl, ap, ◌∙◌, subst, true, false}
 use Rattle.ks_keysets.specs.declared.NodeState.{NodeState}
 use Rattle.ks_keysets.specs.declared.Frame.{Frame}
 use Rattle.ks_history.specs.declared.Event.{Event}
@@ -12,7 +12,7 @@ use Rattle.ks_bodies.specs.Links.{IsLinked, StandsLinked, CanGrowRight, split_li
 use Rattle.ks_arena.specs.Sound.{sort_of, blank_of, Sound}
 use Rattle.ks_arena.specs.Clauses.{seen_of, hand_of}
 use Rattle.ks_shape.proofs.Standing.{no_record, no_directory, changed_to}
-use Rattle.ks_shape.proofs.Links.{linked, stands_linked, stays_linked}
+use Rattle.ks_shape.proofs.Links.{linked, stands_linked, stays_linked, shown_led, shown_level}
 use Rattle.ks_shape.proofs.link.grow_right.Given.{Over}
 use Rattle.ks_shape.proofs.link.grow_right.Goals as goal
 use Rattle.ks_shape.proofs.link.grow_right.Goals.{After-node_law}
@@ -44,3 +44,20 @@ shape-requires-clause-may g c κs within = λ h grows sound. let sort = sort_of 
     let step = c.link_steps_law.ensures.grow_right g₁ f₁ kind i j cut b good facts (can g at h grows so) (subst IsLinked above branch) (subst IsLinked left lower) (subst IsLinked right upper) in
     let there = subst (λ (m : ℕ). LinkStep g₁ f₁ (grow_right kind m i j cut b)) (sym c.requires.root) step in
     subst (LinkStep g₁ f₁) (λ k. sym (changed_to sort g.N.Node.body (record { node = c.args.node.now.node; body = c.grow_link.new.self; live = c.args.node.now.live }) (grown_higher kind cut i j b) c.requires.node.live above) k ∷ sym (changed_to sort g.N.Node.body (record { node = i; body = c.grow_link.new.left; live = true }) (split_linked cut j b) refl left) k ∷ sym (changed_to sort g.N.Node.body (record { node = j; body = c.grow_link.new.right; live = true }) (with_link None (split_right cut b)) refl right) k ∷ []) there
+
+pub returns-clause-led : goal.returns-clause-led
+returns-clause-led g c = let sort = sort_of g.N.Node.layout g.N.Node.ranged in let n : ℕ = c.args.arena.now.table.shared.table_id.slots in let me : ℕ = c.args.pass.now.caller in let seen = seen_of c.args.pass.now in let k = seen_of c.shape.new.pass in let shows = g.N.Node.body in
+    let at = (goal.at.returns-clause-led g c).After-node_law in let law = c.sound_law.ensures in let r = c.requires in let b : Body = shows c.args.node.now.body in let cut : ℕ = c.args.cut in let i : ℕ = c.args.left.now.node in let j : ℕ = c.args.right.now.node in let kind = g.N.Node.branch_kind in
+    let above = c.grow_link.ensures.branch in let left = c.grow_link.ensures.left in let right = c.grow_link.ensures.right in let ranged = c.linked_law.ensures.is_ranged in let link_where = c.linked_law.ensures.link_where in
+    let branch = linked (shows c.grow_link.new.self) c.node_law-2.ensures.sound (c.node_law-2.ensures.has_range ∙ ranged) c.node_law-2.ensures.framed (link_where c.grow_link.new.self) in
+    let lower = linked (shows c.grow_link.new.left) c.node_law-3.ensures.sound (c.node_law-3.ensures.has_range ∙ ranged) c.node_law-3.ensures.framed (link_where c.grow_link.new.left) in
+    let upper = linked (shows c.grow_link.new.right) c.node_law-4.ensures.sound (c.node_law-4.ensures.has_range ∙ ranged) c.node_law-4.ensures.framed (link_where c.grow_link.new.right) in
+    let leads = c.link_leads_law.ensures.grow_right (graph_after seen) (frame_after (blank_of sort) seen) kind i j cut b (good_now (law.good sort n seen r.pass.sound)) (law.facts sort n seen r.pass.sound) (can g at seen (by_others_none me seen) r.pass.sound) (subst IsLinked above branch) (subst IsLinked left lower) (subst IsLinked right upper) in
+    let shaped = c.shape.ensures.bodies in
+    let root = shaped.0 (λ dead. let clash : true ≡ false = sym r.node.live ∙ dead in cc) in
+    let level_left = shown_level sort shows k (record { node = i; body = c.grow_link.new.left; live = true }) (split_linked cut j b) refl left (shaped.1 (λ dead. let clash : true ≡ false = dead in cc)) in
+    let level_right = shown_level sort shows k (record { node = j; body = c.grow_link.new.right; live = true }) (with_link None (split_right cut b)) refl right (shaped.2 (λ dead. let clash : true ≡ false = dead in cc)) in
+    (
+      shown_led sort shows k (record { node = c.args.node.now.node; body = c.grow_link.new.self; live = c.args.node.now.live }) (grown_higher kind cut i j b) i 0 r.node.live above root leads.0 (omega (arith, level_left)),
+      shown_led sort shows k (record { node = c.args.node.now.node; body = c.grow_link.new.self; live = c.args.node.now.live }) (grown_higher kind cut i j b) j cut r.node.live above root leads.1 (omega (arith, level_right)),
+    )

@@ -1,8 +1,10 @@
-use Rattle.std.proofs.Common.{◌≡◌, ℕ, List, [], ◌∷◌, arith, sym, refl, subst, true}
+use Rattle.std.proofs.Common.{◌≡◌, ◌++◌, ◌∙◌, ap, ℕ, List, [], ◌∷◌, arith, sym, refl, subst, true}
 use Rattle.std.specs.Prelude.{None}
 use Rattle.ks_keysets.specs.declared.NodeState.{NodeState}
 use Rattle.ks_keysets.specs.declared.Frame.{Frame}
-use Rattle.ks_keysets.specs.Keyset.{record_at}
+use Rattle.ks_keysets.specs.declared.Change.{Change}
+use Rattle.ks_keysets.specs.Keyset.{record_at, InInset}
+use Rattle.ks_flow.specs.Changes.{graph_with}
 use Rattle.ks_history.specs.declared.Event.{Event}
 use Rattle.ks_history.specs.Trace.{graph_after, frame_after}
 use Rattle.ks_history.specs.Passes.{GrowsByOthers}
@@ -10,11 +12,12 @@ use Rattle.ks_history.specs.Begins.{good_now}
 use Rattle.ks_node.specs.Body.{Body}
 use Rattle.ks_node.specs.Effect.{split_left, split_right, grown}
 use Rattle.ks_flow.specs.Discipline.{BeginsTree, TreeStep}
+use Rattle.ks_bodies.specs.Shapes as shapes
 use Rattle.ks_bodies.specs.Shapes.{CanPart}
 use Rattle.ks_bodies.specs.Stands.{IsPlain}
 use Rattle.ks_arena.specs.Sound.{sort_of, blank_of, Sound}
 use Rattle.ks_arena.specs.Clauses.{seen_of, hand_of}
-use Rattle.ks_shape.proofs.Standing.{plain, stands, no_record, stays, no_directory, changed_to}
+use Rattle.ks_shape.proofs.Standing.{plain, stands, no_record, stays, no_directory, changed_to, changed_three}
 use Rattle.ks_shape.proofs.tree.grow.Given.{Over}
 use Rattle.ks_shape.proofs.tree.grow.Goals as goal
 use Rattle.ks_shape.proofs.tree.grow.Goals.{After-node_law}
@@ -35,3 +38,15 @@ shape-requires-clause-may g c κs within = λ h grows sound. let sort = sort_of 
     let b : Body = (g.N.Node.body c.args.node.now.body) in let cut : ℕ = c.args.cut in let i : ℕ = c.args.left.now.node in let j : ℕ = c.args.right.now.node in let above = c.grow.ensures.branch in let left = c.grow.ensures.left in let right = c.grow.ensures.right in
     let step = c.tree_steps_law.ensures.grow g₁ f₁ g.N.Node.branch_kind c.args.node.now.node i j cut b good facts (part g at h grows so) (fresh g at h grows so) c.requires.apart (subst IsPlain above (plain (g.N.Node.body c.grow.new.self) c.node_law-2.ensures.sound c.node_law-2.ensures.framed (no_link c.grow.new.self))) (subst IsPlain left (plain (g.N.Node.body c.grow.new.left) c.node_law-3.ensures.sound c.node_law-3.ensures.framed (no_link c.grow.new.left))) (subst IsPlain right (plain (g.N.Node.body c.grow.new.right) c.node_law-4.ensures.sound c.node_law-4.ensures.framed (no_link c.grow.new.right))) in
     subst (TreeStep g₁ f₁) (λ k. sym (changed_to sort g.N.Node.body (record { node = c.args.node.now.node; body = c.grow.new.self; live = c.args.node.now.live }) (grown g.N.Node.branch_kind cut i j b) c.requires.node.live above) k ∷ sym (changed_to sort g.N.Node.body (record { node = c.args.left.now.node; body = c.grow.new.left; live = true }) (split_left cut b) refl left) k ∷ sym (changed_to sort g.N.Node.body (record { node = c.args.right.now.node; body = c.grow.new.right; live = true }) (split_right cut b) refl right) k ∷ []) step
+
+pub returns-clause-parts : goal.returns-clause-parts
+returns-clause-parts g c = λ p inside. let sort = sort_of g.N.Node.layout g.N.Node.ranged in let n : ℕ = c.args.arena.now.table.shared.table_id.slots in let me : ℕ = c.args.pass.now.caller in let seen = seen_of c.args.pass.now in
+    let at = (goal.at.returns-clause-parts g c).After-node_law in let shaped = c.shape.ensures.shaped in let h : List Event = shaped.rest ++ seen in let so = (subst (Sound sort BeginsTree TreeStep n) shaped.is c.shape.ensures.pass.sound).0 in let grows : GrowsByOthers me seen h = record { rest = shaped.rest; is = refl; others = shaped.others } in
+    let good = good_now (c.sound_law.ensures.good sort n h so) in let facts = c.sound_law.ensures.facts sort n h so in let g₁ : ℕ → NodeState = graph_after h in let f₁ : ℕ → Frame = frame_after (blank_of sort) h in let no_link = c.unlinked_law.ensures.no_link in
+    let keep = stays sort n me seen h (λ k sound. c.sound_law.ensures.lawful sort n k sound) grows c.requires.pass.sound so in
+    let there : InInset g₁ c.args.node.now.node p = (c.sound_law.ensures.beside sort n me c.args.node.now.node seen h grows (keep c.args.node.now.node c.requires.node.has).turn so).forth p inside in
+    let b : Body = (g.N.Node.body c.args.node.now.body) in let cut : ℕ = c.args.cut in let i : ℕ = c.args.left.now.node in let j : ℕ = c.args.right.now.node in let kind = g.N.Node.branch_kind in let above = c.grow.ensures.branch in let left = c.grow.ensures.left in let right = c.grow.ensures.right in
+    let changes = changed_three sort g.N.Node.body (record { node = c.args.node.now.node; body = c.grow.new.self; live = c.args.node.now.live }) (record { node = i; body = c.grow.new.left; live = true }) (record { node = j; body = c.grow.new.right; live = true }) (grown kind cut i j b) (split_left cut b) (split_right cut b) c.requires.node.live refl refl above left right in
+    let same : graph_after (seen_of c.shape.new.pass) ≡ graph_with (shapes.grow kind c.args.node.now.node i j cut b) g₁ = ap graph_after shaped.is ∙ ap (λ (xs : List Change). graph_with xs g₁) changes in
+    let y = c.tree_parts_law.ensures.grow g₁ f₁ kind c.args.node.now.node i j cut p b good facts (part g at h grows so) (fresh g at h grows so) c.requires.apart (subst IsPlain above (plain (g.N.Node.body c.grow.new.self) c.node_law-2.ensures.sound c.node_law-2.ensures.framed (no_link c.grow.new.self))) (subst IsPlain left (plain (g.N.Node.body c.grow.new.left) c.node_law-3.ensures.sound c.node_law-3.ensures.framed (no_link c.grow.new.left))) (subst IsPlain right (plain (g.N.Node.body c.grow.new.right) c.node_law-4.ensures.sound c.node_law-4.ensures.framed (no_link c.grow.new.right))) there in
+    (λ lt. let z = y.0 lt in (z.0, subst (λ (k : ℕ → NodeState). InInset k i p) (sym same) z.1), λ le. let z = y.1 le in (z.0, subst (λ (k : ℕ → NodeState). InInset k j p) (sym same) z.1))

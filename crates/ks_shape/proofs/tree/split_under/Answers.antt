@@ -1,6 +1,9 @@
-use Rattle.std.proofs.Common.{◌≡◌, ℕ, List, [], ◌∷◌, arith, sym, refl, subst, true}
+use Rattle.std.proofs.Common.{◌≡◌, ◌++◌, ◌∙◌, ap, ℕ, List, [], ◌∷◌, arith, sym, refl, subst, true}
 use Rattle.ks_keysets.specs.declared.NodeState.{NodeState}
 use Rattle.ks_keysets.specs.declared.Frame.{Frame}
+use Rattle.ks_keysets.specs.declared.Change.{Change}
+use Rattle.ks_keysets.specs.Keyset.{InInset}
+use Rattle.ks_flow.specs.Changes.{graph_with}
 use Rattle.ks_history.specs.declared.Event.{Event}
 use Rattle.ks_history.specs.Trace.{graph_after, frame_after}
 use Rattle.ks_history.specs.Passes.{GrowsByOthers}
@@ -8,11 +11,12 @@ use Rattle.ks_history.specs.Begins.{good_now, by_others_none}
 use Rattle.ks_node.specs.Body.{Body}
 use Rattle.ks_node.specs.Effect.{split_left, split_right, adopted}
 use Rattle.ks_flow.specs.Discipline.{BeginsTree, TreeStep}
+use Rattle.ks_bodies.specs.Shapes as shapes
 use Rattle.ks_bodies.specs.Shapes.{CanPart, CanAdopt}
 use Rattle.ks_bodies.specs.Stands.{IsPlain}
 use Rattle.ks_arena.specs.Sound.{sort_of, blank_of, Sound}
 use Rattle.ks_arena.specs.Clauses.{seen_of, hand_of}
-use Rattle.ks_shape.proofs.Standing.{plain, stands, no_record, stays, no_directory, changed_to}
+use Rattle.ks_shape.proofs.Standing.{plain, stands, no_record, stays, no_directory, changed_to, changed_three}
 use Rattle.ks_shape.proofs.tree.split_under.Given.{Over}
 use Rattle.ks_shape.proofs.tree.split_under.Goals as goal
 use Rattle.ks_shape.proofs.tree.split_under.Goals.{After-split_to}
@@ -37,3 +41,15 @@ shape-requires-clause-may g c κs within = λ h grows sound. let sort = sort_of 
     let u : Body = (g.N.Node.body c.args.parent.now.body) in let b : Body = (g.N.Node.body c.args.node.now.body) in let cut : ℕ = c.args.cut in let i : ℕ = c.args.right.now.node in let left = c.split_to.ensures.left in let right = c.split_to.ensures.right in let above = c.adopt.ensures in
     let step = c.tree_steps_law.ensures.split_under g₁ f₁ c.args.parent.now.node c.args.node.now.node i cut u b good facts (adopts g at h grows so) (part g at h grows so) (subst IsPlain above (plain (g.N.Node.body c.adopt.new.self) c.node_law-3.ensures.sound c.node_law-3.ensures.framed (no_link c.adopt.new.self))) (subst IsPlain left (plain (g.N.Node.body c.split_to.new.self) c.node_law-4.ensures.sound c.node_law-4.ensures.framed (no_link c.split_to.new.self))) (subst IsPlain right (plain (g.N.Node.body c.split_to.new.right) c.node_law-5.ensures.sound c.node_law-5.ensures.framed (no_link c.split_to.new.right))) in
     subst (TreeStep g₁ f₁) (λ k. sym (changed_to sort g.N.Node.body (record { node = c.args.parent.now.node; body = c.adopt.new.self; live = c.args.parent.now.live }) (adopted cut i u) c.requires.parent.live above) k ∷ sym (changed_to sort g.N.Node.body (record { node = c.args.node.now.node; body = c.split_to.new.self; live = c.args.node.now.live }) (split_left cut b) c.requires.node.live left) k ∷ sym (changed_to sort g.N.Node.body (record { node = c.args.right.now.node; body = c.split_to.new.right; live = true }) (split_right cut b) refl right) k ∷ []) step
+
+pub returns-clause-parts : goal.returns-clause-parts
+returns-clause-parts g c = λ p inside. let sort = sort_of g.N.Node.layout g.N.Node.ranged in let n : ℕ = c.args.arena.now.table.shared.table_id.slots in let me : ℕ = c.args.pass.now.caller in let seen = seen_of c.args.pass.now in
+    let at = (goal.at.returns-clause-parts g c).After-split_to in let shaped = c.shape.ensures.shaped in let h : List Event = shaped.rest ++ seen in let so = (subst (Sound sort BeginsTree TreeStep n) shaped.is c.shape.ensures.pass.sound).0 in let grows : GrowsByOthers me seen h = record { rest = shaped.rest; is = refl; others = shaped.others } in
+    let good = good_now (c.sound_law.ensures.good sort n h so) in let facts = c.sound_law.ensures.facts sort n h so in let g₁ : ℕ → NodeState = graph_after h in let f₁ : ℕ → Frame = frame_after (blank_of sort) h in let no_link = c.unlinked_law.ensures.no_link in
+    let keep = stays sort n me seen h (λ k sound. c.sound_law.ensures.lawful sort n k sound) grows c.requires.pass.sound so in
+    let there : InInset g₁ c.args.node.now.node p = (c.sound_law.ensures.beside sort n me c.args.node.now.node seen h grows (keep c.args.node.now.node c.requires.node.has).turn so).forth p inside in
+    let u : Body = (g.N.Node.body c.args.parent.now.body) in let b : Body = (g.N.Node.body c.args.node.now.body) in let cut : ℕ = c.args.cut in let i : ℕ = c.args.right.now.node in let left = c.split_to.ensures.left in let right = c.split_to.ensures.right in let above = c.adopt.ensures in
+    let changes = changed_three sort g.N.Node.body (record { node = c.args.parent.now.node; body = c.adopt.new.self; live = c.args.parent.now.live }) (record { node = c.args.node.now.node; body = c.split_to.new.self; live = c.args.node.now.live }) (record { node = i; body = c.split_to.new.right; live = true }) (adopted cut i u) (split_left cut b) (split_right cut b) c.requires.parent.live c.requires.node.live refl above left right in
+    let same : graph_after (seen_of c.shape.new.pass) ≡ graph_with (shapes.split_under c.args.parent.now.node c.args.node.now.node i cut u b) g₁ = ap graph_after shaped.is ∙ ap (λ (xs : List Change). graph_with xs g₁) changes in
+    let y = c.tree_parts_law.ensures.under g₁ f₁ c.args.parent.now.node c.args.node.now.node i cut p u b good facts (adopts g at h grows so) (part g at h grows so) (subst IsPlain above (plain (g.N.Node.body c.adopt.new.self) c.node_law-3.ensures.sound c.node_law-3.ensures.framed (no_link c.adopt.new.self))) (subst IsPlain left (plain (g.N.Node.body c.split_to.new.self) c.node_law-4.ensures.sound c.node_law-4.ensures.framed (no_link c.split_to.new.self))) (subst IsPlain right (plain (g.N.Node.body c.split_to.new.right) c.node_law-5.ensures.sound c.node_law-5.ensures.framed (no_link c.split_to.new.right))) there in
+    (λ lt. let z = y.0 lt in (z.0, subst (λ (k : ℕ → NodeState). InInset k c.args.node.now.node p) (sym same) z.1), λ le. let z = y.1 le in (z.0, subst (λ (k : ℕ → NodeState). InInset k i p) (sym same) z.1))

@@ -1,0 +1,125 @@
+-- How a search that keeps the parent goes on its way.
+use Rattle.std.proofs.Common.{◌≡◌, ◌≢◌, ℕ, zero, suc, ◌<◌, ◌≤◌, ◌==◌, eq-eqb, Bool, true, List, [], ◌∷◌, ◌++◌, length, get_or, sym, refl, ap, ◌∙◌, subst, inl, inr, arith}
+use Rattle.std.specs.Prelude.{Option, Some, None}
+use Rattle.ks_keysets.specs.declared.Edge.{Edge}
+use Rattle.ks_keysets.specs.declared.Record.{Record}
+use Rattle.ks_keysets.specs.Record.{LeadsTo}
+use Rattle.ks_keysets.specs.Keyset.{live_record, record_at, InInset, along}
+use Rattle.ks_history.specs.declared.Event.{Event}
+use Rattle.ks_history.specs.declared.Event.TheVariants.{Take, Give}
+use Rattle.ks_history.specs.declared.Op.{Op}
+use Rattle.ks_history.specs.Trace.{hand, drop_one, held, graph_after, turn_after}
+use Rattle.ks_history.specs.Passes.{Has, GrowsByOthers, GrowsWith}
+use Rattle.ks_history.specs.Stays.{StaysHeld, cond_here, cond_else}
+use Rattle.ks_history.specs.Hand.{AreOnce, is_hand}
+use Rattle.ks_history.specs.Begins.{by_others_hand, by_others_keeps, with_others}
+use Rattle.ks_history.specs.Done.{coupling, MayTake}
+use Rattle.ks_history.specs.Underway.{underway_with, may_take_later}
+use Rattle.ks_flow.specs.Tree.{edges_to}
+use Rattle.ks_flow.specs.Discipline.{BeginsTree, TreeStep}
+use Rattle.ks_node.specs.Body.{Body}
+use Rattle.ks_node.specs.Edges.{record_of}
+use Rattle.ks_arena.specs.declared.held.Held.{Held as Hand}
+use Rattle.ks_arena.specs.Sound.{Sort, Sound}
+use Rattle.ks_arena.specs.Clauses.{Matches, HasTaken, StillMatchBut}
+use Rattle.ks_shape.specs.Single.{led_live, record_is}
+use Rattle.ks_shape.specs.OnWay.{IsOnWay}
+use Rattle.ks_put.specs.declared.path.Path.{Path}
+use Rattle.ks_put.specs.Moves.{Moves, underway_at}
+use Rattle.ks_put.specs.OnPath.{IsAbove, IsOnPath}
+use Rattle.ks_put.proofs.Quiet.{Laws, quiet_insets}
+
+-- an edge that leads to the node is among those that are counted
+positive : (es : List Edge) (k m : ℕ) (x : Edge) → k < length es → get_or es k x ≡ x → x.node ≡ m → 0 < edges_to es m
+positive [] k m x near is to = absurd (omega arith)
+positive (e ∷ es) zero m x near is to = let t : (e.node == m) ≡ true = eq-eqb e.node m (ap (λ (z : Edge). z.node) is ∙ to) in rw t (omega arith)
+positive (e ∷ es) (suc k) m x near is to = omega (arith, positive es k m x (omega arith) is to)
+
+pub counted : (r : Record) (p m : ℕ) → LeadsTo r p m → 0 < edges_to r.edges m
+counted r p m to = positive r.edges to.0 m to.1 to.2 to.3 to.4.1
+
+pub last_of_two : (i j : ℕ) → i ≢ j → drop_one j (i ∷ j ∷ []) ≡ i ∷ []
+last_of_two i j ne = cond_else i j (j ∷ []) (i ∷ drop_one j (j ∷ [])) ne ∙ ap (λ (z : List ℕ). i ∷ z) (cond_here j j [] (j ∷ []) refl)
+
+-- a give is one more step
+pub moves_give : (c i : ℕ) (h k : List Event) → length (hand c h) ≤ 3 → length (hand c k) ≤ 3 → GrowsWith c (Give c i) h k → Moves c h k
+moves_give c i h k few few' gave = λ op three. underway_with coupling c op (Give c i) h h k tt gave tt (omega (arith, few', three)) (underway_at coupling c op h (omega (arith, few, three)))
+
+pub moves_take : (c i : ℕ) (h k : List Event) → length (hand c h) ≤ 3 → length (hand c k) ≤ 3 → (grows : GrowsWith c (Take c i) h k) → MayTake coupling (grows.rest ++ h) c i → Moves c h k
+moves_take c i h k few few' grows may = λ op three. underway_with coupling c op (Take c i) h h k tt grows (λ same. may) (omega (arith, few', three)) (underway_at coupling c op h (omega (arith, few, three)))
+
+module _ {N : Type 0} (sort : Sort) (shows : N → Body) where
+  -- the root is taken
+  pub enters : (c p : ℕ) (s0 s1 : List Event) (x : Hand N) → hand c s0 ≡ [] → HasTaken sort shows c 0 s0 s1 x → InInset (graph_after s1) x.node p → IsOnPath sort shows c p s1 (record { parent = None; node = x })
+  enters c p s0 s1 x empty took inside = record {
+    hands = took.hand ∙ ap (λ (z : List ℕ). 0 ∷ z) empty ∙ ap (λ (i : ℕ). i ∷ []) (sym took.node);
+    live = took.live;
+    matches = took.matches;
+    inside = inside;
+    under = took.node;
+  }
+
+  pub enters_moves : (c : ℕ) (s0 s1 : List Event) (x : Hand N) → hand c s0 ≡ [] → HasTaken sort shows c 0 s0 s1 x → Moves c s0 s1
+  enters_moves c s0 s1 x empty took = moves_take c 0 s0 s1 (omega (arith, ap length empty)) (omega (arith, ap length (took.hand ∙ ap (λ (z : List ℕ). 0 ∷ z) empty))) took.grows
+      (inl (by_others_hand c s0 (took.grows.rest ++ s0) (with_others c (Take c 0) s0 s1 took.grows) ∙ empty, refl))
+
+  -- the parent is given
+  module _ (n c p : ℕ) (laws : Laws sort n) (h k : List Event) (x y : Hand N) (sound : Sound sort BeginsTree TreeStep n h) (sound' : Sound sort BeginsTree TreeStep n k)
+      (path : IsOnPath sort shows c p h (record { parent = Some y; node = x })) (gave : GrowsWith c (Give c y.node) h k) (hands : hand c k ≡ drop_one y.node (hand c h)) where
+    apart : x.node ≢ y.node
+    apart same = (subst AreOnce path.hands (is_hand h c (laws.turns h sound)).once).0 (inl (sym same))
+
+    alone : hand c k ≡ x.node ∷ []
+    alone = hands ∙ ap (drop_one y.node) path.hands ∙ last_of_two x.node y.node apart
+
+    has : Has (hand c h) x.node
+    has = subst (λ (z : List ℕ). Has z x.node) (sym path.hands) (inl refl)
+
+    has' : Has (hand c k) x.node
+    has' = subst (λ (z : List ℕ). Has z x.node) (sym alone) (inl refl)
+
+    pub goes_alone : StillMatchBut sort shows y.node (hand c h) h k → IsOnWay sort shows c p k x
+    goes_alone still = record {
+      alone = alone;
+      live = path.live;
+      matches = still x apart has path.matches;
+      inside = quiet_insets sort n c laws (Give c y.node) h k tt gave sound' x.node p ((is_hand h c (laws.turns h sound)).held x.node has) ((is_hand k c (laws.turns k sound')).held x.node has') path.inside;
+    }
+
+    pub alone_moves : Moves c h k
+    alone_moves = moves_give c y.node h k (omega (arith, ap length path.hands)) (omega (arith, ap length alone)) gave
+
+  -- the child is taken
+  module _ (n c p i : ℕ) (laws : Laws sort n) (h k : List Event) (x y : Hand N) (sound : Sound sort BeginsTree TreeStep n h) (sound' : Sound sort BeginsTree TreeStep n k)
+      (way : IsOnWay sort shows c p h x) (to : LeadsTo (record_of (shows x.body)) p i) (took : HasTaken sort shows c i h k y) where
+    is : record_at (graph_after h) x.node ≡ Some (record_of (shows x.body))
+    is = record_is sort shows h x way.live way.matches
+
+    both : hand c k ≡ i ∷ x.node ∷ []
+    both = took.hand ∙ ap (λ (z : List ℕ). i ∷ z) way.alone
+
+    mine : turn_after h x.node ≡ held c
+    mine = (is_hand h c (laws.turns h sound)).held x.node (subst (λ (z : List ℕ). Has z x.node) (sym way.alone) (inl refl))
+
+    mine' : turn_after k x.node ≡ held c
+    mine' = (is_hand k c (laws.turns k sound')).held x.node (subst (λ (z : List ℕ). Has z x.node) (sym both) (inr (inl refl)))
+
+    inside : Matches sort shows k x → InInset (graph_after k) i p
+    inside still =
+        let at : InInset (graph_after k) x.node p = quiet_insets sort n c laws (Take c i) h k tt took.grows sound' x.node p mine mine' way.inside in
+        let here : record_at (graph_after k) x.node ≡ Some (record_of (shows x.body)) = record_is sort shows k x way.live still in
+        (at.0, along (record_of (shows x.body)) at.1 here to (led_live (graph_after k) x.node p i (record_of (shows x.body)) (laws.good k sound') here to))
+
+    pub goes_down : Matches sort shows k x → IsOnPath sort shows c p k (record { parent = Some x; node = y })
+    goes_down still = record {
+      hands = both ∙ ap (λ (z : ℕ). z ∷ x.node ∷ []) (sym took.node);
+      live = took.live;
+      matches = took.matches;
+      inside = subst (λ (z : ℕ). InInset (graph_after k) z p) (sym took.node) (inside still);
+      under = record { live = way.live; matches = still; leads = subst (λ (z : ℕ). LeadsTo (record_of (shows x.body)) p z) (sym took.node) to };
+    }
+
+    pub down_moves : Moves c h k
+    down_moves = let before : List Event = took.grows.rest ++ h in let all = subst (Sound sort BeginsTree TreeStep n) took.grows.is sound' in
+        moves_take c i h k (omega (arith, ap length way.alone)) (omega (arith, ap length both)) took.grows
+        (may_take_later coupling c i h before (with_others c (Take c i) h k took.grows) (laws.turns before all.0) (inr record { above = x.node; node = record_of (shows x.body); holds = mine; is = is; leads = (to.0, to.1, to.2, to.3, to.4.1) }))

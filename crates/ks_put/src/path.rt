@@ -1,0 +1,109 @@
+//! A search that keeps the parent of its node.
+ghost use Rattle.std.specs.Prelude.{◌≡◌, []};
+ghost use Rattle.ks_flow.specs.Discipline.{BeginsTree, TreeStep};
+ghost use Rattle.ks_history.specs.Trace.{graph_after};
+ghost use Rattle.ks_node.specs.declared.start.Next.TheVariants.{Go};
+ghost use Rattle.ks_node.specs.Body.{next_at};
+ghost use Rattle.ks_arena.specs.Sound.{sort_of};
+ghost use Rattle.ks_arena.specs.Clauses.{IsPass, hand_of, seen_of};
+ghost use Rattle.ks_shape.specs.OnWay.{IsOnWay};
+ghost use Rattle.ks_put.specs.Moves.{Moves};
+ghost use Rattle.ks_put.specs.OnPath.{IsOnPath};
+
+use ks_arena::laws::{root_stays_law, sound_law, target_law};
+use ks_arena::{Arena, Held, Pass, root_law};
+use ks_flow::Tree;
+use ks_flow::laws::tree_facts_law;
+use ks_gate::{Gate, Point};
+use ks_node::{Unlinked, node_law};
+use std::sync::Wait;
+
+/// The node at which a search stands, and the one that leads to it; the root alone has none.
+pub struct Path<N> {
+    pub parent: Option<Held<N>>,
+    pub node: Held<N>,
+}
+
+/// Takes the root. It does not tell the gate that a call begins.
+pub fn enter<N: Unlinked, R: Wait, G: Gate>(
+    rt: &R,
+    arena: &Arena<N, Tree>,
+    pass: &mut Pass<N, Tree>,
+    gate: &G,
+    place: u64,
+) -> Path<N>
+    requires pass { IsPass (sort_of N.layout N.ranged) BeginsTree TreeStep arena.now.table.shared.table_id arena.now.callers pass.old × (hand_of pass.old ≡ []) }
+    ensures pass { IsPass (sort_of N.layout N.ranged) BeginsTree TreeStep arena.now.table.shared.table_id arena.now.callers pass.new }
+    ensures caller { pass.new.caller ≡ pass.old.caller }
+    ensures path { IsOnPath (sort_of N.layout N.ranged) N.body pass.old.caller place (seen_of pass.new) result }
+    ensures moves { Moves pass.old.caller (seen_of pass.old) (seen_of pass.new) }
+{
+    root_stays_law::<Tree>();
+    let Some(root) = arena.take(rt, pass, 0) else {
+        unreachable!()
+    };
+    root_law(&root, place);
+    gate.at(pass.caller(), Point::Taken(0));
+    Path {
+        parent: None,
+        node: root,
+    }
+}
+
+/// Gives the parent, and keeps the node.
+pub fn let_go<N: Unlinked, G: Gate>(
+    arena: &Arena<N, Tree>,
+    pass: &mut Pass<N, Tree>,
+    gate: &G,
+    place: u64,
+    path: Path<N>,
+) -> Held<N>
+    requires pass { IsPass (sort_of N.layout N.ranged) BeginsTree TreeStep arena.now.table.shared.table_id arena.now.callers pass.old }
+    requires path { IsOnPath (sort_of N.layout N.ranged) N.body pass.old.caller place (seen_of pass.old) path }
+    ensures pass { IsPass (sort_of N.layout N.ranged) BeginsTree TreeStep arena.now.table.shared.table_id arena.now.callers pass.new }
+    ensures caller { pass.new.caller ≡ pass.old.caller }
+    ensures node { result ≡ path.node }
+    ensures way { IsOnWay (sort_of N.layout N.ranged) N.body pass.old.caller place (seen_of pass.new) result }
+    ensures moves { Moves pass.old.caller (seen_of pass.old) (seen_of pass.new) }
+{
+    sound_law::<Tree>();
+    let Path { parent, node } = path;
+    if let Some(parent) = parent {
+        let number = parent.node;
+        arena.give(pass, parent);
+        gate.at(pass.caller(), Point::Given(number));
+    }
+    node
+}
+
+/// Takes the child to which the search goes on; the node becomes its parent.
+pub fn step_down<N: Unlinked, R: Wait, G: Gate>(
+    rt: &R,
+    arena: &Arena<N, Tree>,
+    pass: &mut Pass<N, Tree>,
+    gate: &G,
+    place: u64,
+    held: Held<N>,
+    child: u32,
+) -> Path<N>
+    requires pass { IsPass (sort_of N.layout N.ranged) BeginsTree TreeStep arena.now.table.shared.table_id arena.now.callers pass.old }
+    requires way { IsOnWay (sort_of N.layout N.ranged) N.body pass.old.caller place (seen_of pass.old) held }
+    requires goes { next_at (N.body held.body) place ≡ Go child }
+    ensures pass { IsPass (sort_of N.layout N.ranged) BeginsTree TreeStep arena.now.table.shared.table_id arena.now.callers pass.new }
+    ensures caller { pass.new.caller ≡ pass.old.caller }
+    ensures path { IsOnPath (sort_of N.layout N.ranged) N.body pass.old.caller place (seen_of pass.new) result }
+    ensures moves { Moves pass.old.caller (seen_of pass.old) (seen_of pass.new) }
+{
+    sound_law::<Tree>();
+    target_law::<Tree>();
+    tree_facts_law();
+    node_law(&held.body);
+    let Some(below) = arena.take(rt, pass, child) else {
+        unreachable!()
+    };
+    gate.at(pass.caller(), Point::Taken(child));
+    Path {
+        parent: Some(held),
+        node: below,
+    }
+}

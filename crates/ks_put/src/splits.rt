@@ -1,0 +1,224 @@
+//! The splits of a full node: where its cut goes.
+ghost use Rattle.std.specs.Prelude.{◌≡◌, IsTrue, Some, None, true, false};
+ghost use Rattle.ks_flow.specs.Discipline.{BeginsTree, TreeStep};
+ghost use Rattle.ks_keysets.specs.Keyset.{InInset};
+ghost use Rattle.ks_history.specs.Trace.{graph_after};
+ghost use Rattle.ks_node.specs.Body.{content_of, is_branch};
+ghost use Rattle.ks_node.specs.Room.{is_full};
+ghost use Rattle.ks_node.specs.Effect.{split_left};
+ghost use Rattle.ks_node.specs.Asks.{CanSplitAt};
+ghost use Rattle.ks_arena.specs.Sound.{sort_of};
+ghost use Rattle.ks_arena.specs.Clauses.{IsPass, hand_of, seen_of};
+ghost use Rattle.ks_put.specs.Moves.{Moves};
+ghost use Rattle.ks_put.specs.OnPath.{IsOnPath};
+ghost use Rattle.ks_put.specs.Parts.{DidPart, HasRoom, IsShut};
+
+use crate::claims::{claim_one, claim_two};
+use crate::cuts::{cut_below, cut_of_root};
+use crate::halves::{Part, keep_half, keep_left, keep_right};
+use crate::path::Path;
+use ks_arena::laws::sound_law;
+use ks_arena::{Arena, Held, Pass};
+use ks_flow::Tree;
+use ks_flow::laws::tree_facts_law;
+use ks_gate::Gate;
+use ks_node::{Unlinked, node_law, unlinked_law};
+use ks_shape::{grow, split_own, split_under};
+
+/// Lets the full root grow by two nodes.
+pub fn grow_root<N: Unlinked, G: Gate>(
+    arena: &Arena<N, Tree>,
+    pass: &mut Pass<N, Tree>,
+    gate: &G,
+    place: u64,
+    cut: u64,
+    root: Held<N>,
+) -> Part<N>
+    requires pass { IsPass (sort_of N.layout N.ranged) BeginsTree TreeStep arena.now.table.shared.table_id arena.now.callers pass.old }
+    requires path { IsOnPath (sort_of N.layout N.ranged) N.body pass.old.caller place (seen_of pass.old) (record { parent = None; node = root }) }
+    requires full { IsTrue (is_full N.layout (N.body root.body)) }
+    requires cut { InInset (graph_after (seen_of pass.old)) root.node cut × CanSplitAt (N.body root.body) cut }
+    requires grows { IsTrue (N.grows_at (content_of (N.body root.body))) × IsTrue (N.can_grow_at (content_of (N.body root.body)) cut) }
+    ensures pass { IsPass (sort_of N.layout N.ranged) BeginsTree TreeStep arena.now.table.shared.table_id arena.now.callers pass.new }
+    ensures caller { pass.new.caller ≡ pass.old.caller }
+    ensures part { DidPart (sort_of N.layout N.ranged) N.body arena.now.nodes pass.old.caller place (seen_of pass.old) (seen_of pass.new) (record { parent = None; node = root }) result }
+    ensures tried { IsShut result → ⊥ }
+    ensures moves { Moves pass.old.caller (seen_of pass.old) (seen_of pass.new) }
+{
+    sound_law::<Tree>();
+    unlinked_law::<N>();
+    node_law(&root.body);
+    let mut root = root;
+    let Some((mut left, mut right)) = claim_two(arena, pass, gate, &root) else {
+        return Part::Refused(Path {
+            parent: None,
+            node: root,
+        });
+    };
+    grow(arena, pass, &mut root, &mut left, &mut right, cut);
+    Part::Split(keep_half(arena, pass, gate, place, cut, root, left, right))
+}
+
+/// Splits the full node under its parent, which adopts the cut.
+pub fn split_below<N: Unlinked, G: Gate>(
+    arena: &Arena<N, Tree>,
+    pass: &mut Pass<N, Tree>,
+    gate: &G,
+    place: u64,
+    cut: u64,
+    parent: Held<N>,
+    node: Held<N>,
+) -> Part<N>
+    requires pass { IsPass (sort_of N.layout N.ranged) BeginsTree TreeStep arena.now.table.shared.table_id arena.now.callers pass.old }
+    requires path { IsOnPath (sort_of N.layout N.ranged) N.body pass.old.caller place (seen_of pass.old) (record { parent = Some parent; node = node }) }
+    requires branch { IsTrue (is_branch (N.body parent.body)) }
+    requires full { IsTrue (is_full N.layout (N.body node.body)) }
+    requires cut { InInset (graph_after (seen_of pass.old)) node.node cut × CanSplitAt (N.body node.body) cut }
+    requires adopts { IsTrue (N.can_adopt_at (content_of (N.body parent.body)) cut) }
+    ensures pass { IsPass (sort_of N.layout N.ranged) BeginsTree TreeStep arena.now.table.shared.table_id arena.now.callers pass.new }
+    ensures caller { pass.new.caller ≡ pass.old.caller }
+    ensures part { DidPart (sort_of N.layout N.ranged) N.body arena.now.nodes pass.old.caller place (seen_of pass.old) (seen_of pass.new) (record { parent = Some parent; node = node }) result }
+    ensures tried { IsShut result → ⊥ }
+    ensures moves { Moves pass.old.caller (seen_of pass.old) (seen_of pass.new) }
+{
+    sound_law::<Tree>();
+    let mut parent = parent;
+    let mut node = node;
+    let Some(mut right) = claim_one(arena, pass, gate) else {
+        return Part::Refused(Path {
+            parent: Some(parent),
+            node,
+        });
+    };
+    split_under(arena, pass, &mut parent, &mut node, &mut right, cut);
+    Part::Split(keep_half(arena, pass, gate, place, cut, parent, node, right))
+}
+
+/// Splits the full node, which leads to its right half itself.
+pub fn split_alone<N: Unlinked, G: Gate>(
+    arena: &Arena<N, Tree>,
+    pass: &mut Pass<N, Tree>,
+    gate: &G,
+    place: u64,
+    cut: u64,
+    path: Path<N>,
+) -> Part<N>
+    requires pass { IsPass (sort_of N.layout N.ranged) BeginsTree TreeStep arena.now.table.shared.table_id arena.now.callers pass.old }
+    requires path { IsOnPath (sort_of N.layout N.ranged) N.body pass.old.caller place (seen_of pass.old) path }
+    requires full { IsTrue (is_full N.layout (N.body path.node.body)) }
+    requires cut { InInset (graph_after (seen_of pass.old)) path.node.node cut × CanSplitAt (N.body path.node.body) cut }
+    requires adopts { IsTrue (N.can_adopt_at (content_of (split_left cut (N.body path.node.body))) cut) }
+    ensures pass { IsPass (sort_of N.layout N.ranged) BeginsTree TreeStep arena.now.table.shared.table_id arena.now.callers pass.new }
+    ensures caller { pass.new.caller ≡ pass.old.caller }
+    ensures part { DidPart (sort_of N.layout N.ranged) N.body arena.now.nodes pass.old.caller place (seen_of pass.old) (seen_of pass.new) path result }
+    ensures tried { IsShut result → ⊥ }
+    ensures moves { Moves pass.old.caller (seen_of pass.old) (seen_of pass.new) }
+{
+    sound_law::<Tree>();
+    let Some(mut right) = claim_one(arena, pass, gate) else {
+        return Part::Refused(path);
+    };
+    let Path { parent, mut node } = path;
+    split_own(arena, pass, &mut node, &mut right, cut);
+    let path = Path { parent, node };
+    if place < cut {
+        Part::Split(keep_left(arena, pass, gate, place, path, right))
+    } else {
+        Part::Split(keep_right(arena, pass, gate, place, path, right))
+    }
+}
+
+/// Splits the full root: it grows, or leads to its right half itself. One of the two can be, if it is no branch and no node
+/// of the type grows in place.
+pub fn split_root<N: Unlinked, G: Gate>(
+    arena: &Arena<N, Tree>,
+    pass: &mut Pass<N, Tree>,
+    gate: &G,
+    place: u64,
+    root: Held<N>,
+) -> Part<N>
+    requires pass { IsPass (sort_of N.layout N.ranged) BeginsTree TreeStep arena.now.table.shared.table_id arena.now.callers pass.old }
+    requires path { IsOnPath (sort_of N.layout N.ranged) N.body pass.old.caller place (seen_of pass.old) (record { parent = None; node = root }) }
+    requires full { IsTrue (is_full N.layout (N.body root.body)) }
+    ensures pass { IsPass (sort_of N.layout N.ranged) BeginsTree TreeStep arena.now.table.shared.table_id arena.now.callers pass.new }
+    ensures caller { pass.new.caller ≡ pass.old.caller }
+    ensures part { DidPart (sort_of N.layout N.ranged) N.body arena.now.nodes pass.old.caller place (seen_of pass.old) (seen_of pass.new) (record { parent = None; node = root }) result }
+    ensures open { N.in_place ≡ false → is_branch (N.body root.body) ≡ false → IsShut result → ⊥ }
+    ensures moves { Moves pass.old.caller (seen_of pass.old) (seen_of pass.new) }
+{
+    let cut = cut_of_root(arena, pass, &root);
+    if root.body.grows() {
+        return grow_root(arena, pass, gate, place, cut, root);
+    }
+    let path = Path {
+        parent: None,
+        node: root,
+    };
+    if path.node.body.is_branch() {
+        return Part::Shut(path);
+    }
+    if !path.node.body.can_adopt(cut) {
+        return Part::Shut(path);
+    }
+    split_alone(arena, pass, gate, place, cut, path)
+}
+
+/// Splits the full node under its parent, or by itself. One of the two can be, if it is no branch, its parent is not full
+/// and no node of the type grows in place.
+pub fn split_child<N: Unlinked, G: Gate>(
+    arena: &Arena<N, Tree>,
+    pass: &mut Pass<N, Tree>,
+    gate: &G,
+    place: u64,
+    parent: Held<N>,
+    node: Held<N>,
+) -> Part<N>
+    requires pass { IsPass (sort_of N.layout N.ranged) BeginsTree TreeStep arena.now.table.shared.table_id arena.now.callers pass.old }
+    requires path { IsOnPath (sort_of N.layout N.ranged) N.body pass.old.caller place (seen_of pass.old) (record { parent = Some parent; node = node }) }
+    requires full { IsTrue (is_full N.layout (N.body node.body)) }
+    ensures pass { IsPass (sort_of N.layout N.ranged) BeginsTree TreeStep arena.now.table.shared.table_id arena.now.callers pass.new }
+    ensures caller { pass.new.caller ≡ pass.old.caller }
+    ensures part { DidPart (sort_of N.layout N.ranged) N.body arena.now.nodes pass.old.caller place (seen_of pass.old) (seen_of pass.new) (record { parent = Some parent; node = node }) result }
+    ensures open { N.in_place ≡ false → is_branch (N.body node.body) ≡ false → is_full N.layout (N.body parent.body) ≡ false → IsShut result → ⊥ }
+    ensures moves { Moves pass.old.caller (seen_of pass.old) (seen_of pass.new) }
+{
+    let cut = cut_below(arena, pass, place, &parent, &node);
+    if parent.body.is_branch() && parent.body.can_adopt(cut) {
+        return split_below(arena, pass, gate, place, cut, parent, node);
+    }
+    let path = Path {
+        parent: Some(parent),
+        node,
+    };
+    if path.node.body.is_branch() {
+        return Part::Shut(path);
+    }
+    if !path.node.body.can_adopt(cut) {
+        return Part::Shut(path);
+    }
+    split_alone(arena, pass, gate, place, cut, path)
+}
+
+/// Splits the full node of a path, if there is a way and a claim is not refused.
+pub fn split<N: Unlinked, G: Gate>(
+    arena: &Arena<N, Tree>,
+    pass: &mut Pass<N, Tree>,
+    gate: &G,
+    place: u64,
+    path: Path<N>,
+) -> Part<N>
+    requires pass { IsPass (sort_of N.layout N.ranged) BeginsTree TreeStep arena.now.table.shared.table_id arena.now.callers pass.old }
+    requires path { IsOnPath (sort_of N.layout N.ranged) N.body pass.old.caller place (seen_of pass.old) path }
+    requires full { IsTrue (is_full N.layout (N.body path.node.body)) }
+    ensures pass { IsPass (sort_of N.layout N.ranged) BeginsTree TreeStep arena.now.table.shared.table_id arena.now.callers pass.new }
+    ensures caller { pass.new.caller ≡ pass.old.caller }
+    ensures part { DidPart (sort_of N.layout N.ranged) N.body arena.now.nodes pass.old.caller place (seen_of pass.old) (seen_of pass.new) path result }
+    ensures open { N.in_place ≡ false → is_branch (N.body path.node.body) ≡ false → HasRoom N.layout N.body path.parent → IsShut result → ⊥ }
+    ensures moves { Moves pass.old.caller (seen_of pass.old) (seen_of pass.new) }
+{
+    let Path { parent, node } = path;
+    match parent {
+        None => split_root(arena, pass, gate, place, node),
+        Some(parent) => split_child(arena, pass, gate, place, parent, node),
+    }
+}

@@ -1,0 +1,15 @@
+-- The reply and the number in what a call answers that may find no room.
+use Rattle.std.specs.Prelude.{ℕ, Result, Ok, Err}
+use Rattle.ks_history.specs.declared.Reply.{Reply}
+use Rattle.ks_history.specs.declared.Reply.TheVariants.{Full as full_reply}
+use Rattle.ks_history.specs.Map.{told}
+use Rattle.ks_shape.specs.declared.answers.Numbered.{Numbered}
+use Rattle.ks_shape.specs.declared.answers.Full.{Full}
+
+abbrev pub reply_in : Result Numbered Full → Reply
+reply_in (Ok answer) = told answer.found
+reply_in (Err full) = full_reply
+
+abbrev pub number_in : Result Numbered Full → ℕ
+number_in (Ok answer) = answer.number
+number_in (Err full) = full.number
