@@ -8,6 +8,6 @@ mod link;
 mod tree;
 
 pub use answers::{Full, Numbered};
-pub use ending::{conclude, reply_of};
+pub use ending::{conclude, refuse, reply_of};
 pub use link::{attach, grow_right, split_right};
 pub use tree::{absorb_own, absorb_under, collapse, grow, split_own, split_under};
