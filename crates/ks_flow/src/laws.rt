@@ -15,7 +15,7 @@ ghost use Rattle.ks_flow.specs.Changes.{nodes_of, graph_with, frames_with, Named
 ghost use Rattle.ks_flow.specs.Tree.{FramesKept};
 ghost use Rattle.ks_flow.specs.Walk.{Ends, IsWalked};
 ghost use Rattle.ks_flow.specs.Ways.{names, KeepsWays, DiffersIn};
-ghost use Rattle.ks_flow.specs.Tree.{Tree, OneEdge, SameEdges, Steps, edges_to, edges_between};
+ghost use Rattle.ks_flow.specs.Tree.{Tree, OneEdge, SameEdges, edges_to, edges_between};
 ghost use Rattle.std.specs.Prelude.{Option, Some, None, All};
 ghost use Rattle.ks_flow.specs.Insets.{SplitsInsetOwn, SplitsInsetUnder, GrowsInset, AbsorbsInsetOwn, AbsorbsInsetUnder, CollapsesInset};
 ghost use Rattle.ks_flow.specs.Shapes.{KeepsTree, SplitsOwn, SplitsUnder, Grows, AbsorbsOwn, AbsorbsUnder, Collapses};
@@ -102,7 +102,7 @@ pub fn link_shapes_law()
 {}
 
 /// The facts of trees hold at the opening, and are kept where edges stay. Each edge carries a place of its node's
-/// inset, and no walk along edges from the root meets a node twice. Edges lead to a node from one node at most.
+/// inset. Edges lead to a node from one node at most, and to the root from none.
 pub fn tree_facts_law()
     ensures opening { (f : ℕ → Frame) → (f 0).low ≡ 0 → ((s : Span) → (f 0).range ≡ Some s → (s.low ≡ 0) × (s.last ≡ top)) → Tree opening f }
     ensures edges { (g k : ℕ → NodeState) (f : ℕ → Frame) → SameEdges g k → Tree g f → Tree k f }
@@ -111,5 +111,4 @@ pub fn tree_facts_law()
     ensures child { (g : ℕ → NodeState) (e x p : ℕ) (s : Record) → OneEdge g → record_at g e ≡ Some s → 0 < edges_to s.edges x → Reaches g p x → Reaches g p e × LeadsTo s p x }
     ensures fresh { (g : ℕ → NodeState) (n m : ℕ) → Good g → record_at g m ≡ None → edges_between g n m ≡ 0 }
     ensures parents { (g : ℕ → NodeState) → OneEdge g → OneParent g }
-    ensures once { (g : ℕ → NodeState) (n m a b : ℕ) → OneEdge g → Steps g n a → Steps g m b → a ≡ b → n ≡ m }
 {}
