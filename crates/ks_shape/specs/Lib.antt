@@ -2,3 +2,4 @@ pub mod InHand
 pub mod Single
 pub mod OnWay
 pub mod Answers
+pub mod Idle
