@@ -2,3 +2,6 @@ pub mod InHand
 pub mod Single
 pub mod OnWay
 pub mod Answers
+pub mod Beside
+pub mod Stretches
+pub mod Claims
