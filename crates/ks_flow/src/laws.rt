@@ -8,7 +8,7 @@ ghost use Rattle.ks_keysets.specs.declared.NodeState.{NodeState};
 ghost use Rattle.ks_keysets.specs.Keyset.{opening, Reaches, record_at, Good, InInset, InKeyset, IsLive, AreApart};
 ghost use Rattle.ks_keysets.specs.declared.Span.{Span};
 ghost use Rattle.ks_keysets.specs.Walk.{OneParent};
-ghost use Rattle.ks_flow.specs.Link.{Link, IsRange, LeadLive, PairsStand, IsAttach, KeepsLink, SplitsRight, GrowsRight, Attaches};
+ghost use Rattle.ks_flow.specs.Link.{Link, IsRange, LeadLive, lives_below, PairsStand, IsAttach, KeepsLink, SplitsRight, GrowsRight, Attaches};
 ghost use Rattle.ks_keysets.specs.Record.{IsPlace, top, Holds, Carries, LeadsTo};
 ghost use Rattle.ks_keysets.specs.declared.Change.{Change};
 ghost use Rattle.ks_flow.specs.Changes.{nodes_of, graph_with, frames_with, NamedOnce, HasBecome};
@@ -75,14 +75,15 @@ pub fn insets_law()
 {}
 
 /// Where links hold, the keysets are the ranges on level 0, so the graph is good where each pair stands once, in its
-/// node's keyset; and the level of the root is below each bound on the numbers of live nodes.
+/// node's keyset; and the level of the root is below the number of live nodes, so below each bound on their numbers.
 pub fn link_law()
     ensures keyset { (g : ℕ → NodeState) (f : ℕ → Frame) → IsLive g 0 → AreApart g → LeadLive g → Link g f → (n p : ℕ) (s : Span) → IsPlace p → IsLive g n →
         IsRange (f n) s → (f n).level ≡ 0 → Holds s p → InKeyset g n p }
     ensures range { (g : ℕ → NodeState) (f : ℕ → Frame) → IsLive g 0 → AreApart g → LeadLive g → Link g f → (n p : ℕ) → InKeyset g n p →
         ((f n).level ≡ 0) × (s : Span) × IsRange (f n) s × Holds s p }
     ensures good { (g : ℕ → NodeState) (f : ℕ → Frame) → IsLive g 0 → AreApart g → LeadLive g → Link g f → PairsStand g → Good g }
-    ensures level { (g : ℕ → NodeState) (f : ℕ → Frame) → IsLive g 0 → AreApart g → LeadLive g → Link g f → (bound : ℕ) → ((n : ℕ) → IsLive g n → n < bound) → (f 0).level < bound }
+    ensures level { (g : ℕ → NodeState) (f : ℕ → Frame) → IsLive g 0 → AreApart g → LeadLive g → Link g f → (bound : ℕ) → ((n : ℕ) → IsLive g n → n < bound) → (f 0).level < lives_below g bound }
+    ensures bound { (g : ℕ → NodeState) (f : ℕ → Frame) → IsLive g 0 → AreApart g → LeadLive g → Link g f → (bound : ℕ) → ((n : ℕ) → IsLive g n → n < bound) → (f 0).level < bound }
 {}
 
 /// An attach keeps a graph good, and what is found in it.
