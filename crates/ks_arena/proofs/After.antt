@@ -141,6 +141,7 @@ module _ {N : Type 0} (sort : Sort) (begins : Frame → Type 0) (asks : (ℕ →
     table = table ∙ is.table;
     bare = ap (λ (z : Seated N). z.0.absorbed) me ∙ follows.bare;
     few = subst (λ (z : ℕ). z < 2 ^ 32) (sym whose) is.few;
+    low = subst (λ (z : ℕ). z < callers) (sym whose) is.low;
     own = ap (λ (z : Seated N). z.0.callers) me ∙ follows.callers ∙ is.own ∙ ap (λ (z : ℕ). z ∷ []) (sym whose);
     carries = subst (λ (z : ℕ × Seated N). Carries t.slots z.1.0.seen z.0 z.1.1) (λ k. (sym whose k, sym me k)) carries;
     made = ap (λ (z : Seated N). z.0.made) me ∙ follows.made ∙ is.made ∙ ap (λ (z : ℕ). cond (eqb z 0) callers 0) (sym whose);

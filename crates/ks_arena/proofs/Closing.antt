@@ -75,12 +75,13 @@ module _ {N D : Type 0} (sort : Sort) (begins : Frame → Type 0) (asks : (ℕ �
   Later t n ps = (j : ℕ) (p : Pass N D) → get_elem? ps j ≡ some p → IsNew t n (j + 1) p
 
   -- a pass whose seat has the fresh view
-  pub is_new : (t : TableId) (n c m : ℕ) (p : Pass N D) → begins (blank_of sort) → c < 2 ^ 32 → p.seat.table_id ≡ t → p.seat.me ≡ (fresh c m, []) → p.caller ≡ c → m ≡ cond (eqb c 0) n 0 → IsNew t n c p
-  is_new t n c m p fits few table is own made = record {
+  pub is_new : (t : TableId) (n c m : ℕ) (p : Pass N D) → begins (blank_of sort) → c < 2 ^ 32 → c < n → p.seat.table_id ≡ t → p.seat.me ≡ (fresh c m, []) → p.caller ≡ c → m ≡ cond (eqb c 0) n 0 → IsNew t n c p
+  is_new t n c m p fits few low table is own made = record {
     pass = record {
       table = table;
       bare = ap (λ z. z.0.absorbed) is;
       few = subst (λ (z : ℕ). z < 2 ^ 32) (sym own) few;
+      low = subst (λ (z : ℕ). z < n) (sym own) low;
       own = ap (λ z. z.0.callers) is ∙ ap (λ (z : ℕ). z ∷ []) (sym own);
       carries = subst (λ z. Carries t.slots z.0.seen p.caller z.1) (sym is) (carries_none t.slots p.caller);
       made = ap (λ z. z.0.made) is ∙ made ∙ ap (λ (z : ℕ). cond (eqb z 0) n 0) (sym own);

@@ -116,6 +116,7 @@ makes h vs id v r at m = let low : Low vs v.made = λ k w e. (r.maker id k v w a
     subst (λ (z : View). AllBelow z.made (all_callers y)) (sym t.1) (makes_below vs v k y low (comes vs id v at k y (kinds vs id v k y f))),
     λ u. t.0 ∙ sym (makers h vs id v r at m k y (kinds vs id v k y f) u).0,
   );
+  first = λ j x e w. let t = makers h vs id v r at m j x (kinds vs id v j x e) w in subst (λ (z : View). Has (all_callers z) 0) (sym t.1) (r.first id v at m);
   known = λ j x e w. let t = makers h vs id v r at m j x (kinds vs id v j x e) w in subst (λ (z : View). CallersBelow z.made h) (sym t.1) (below_next v.made h known);
 }
 
@@ -132,6 +133,22 @@ in_parts (p ∷ ps) qs c h = ⊎_elim (λ a. inl (has_left p.callers (callers_in
 in_both : (v w : View) (c : ℕ) → Has (all_callers (both_views v w)) c → Has (all_callers v) c ⊎ Has (all_callers w) c
 in_both v w c h = ⊎_elim (λ a. inl (has_left v.callers (callers_in v.absorbed) c a)) (λ b. ⊎_elim (λ z. inl (has_right v.callers (callers_in v.absorbed) c z)) (λ z. inr z) (in_parts v.absorbed (part_of w ∷ w.absorbed) c b))
     (in_cat v.callers (callers_in (v.absorbed ++ part_of w ∷ w.absorbed)) c h)
+
+-- and the callers of both are its callers
+
+parts_first : (ps qs : List Part) (c : ℕ) → Has (callers_in ps) c → Has (callers_in (ps ++ qs)) c
+parts_first [] qs c h = absurd h
+parts_first (p ∷ ps) qs c h = ⊎_elim (λ a. has_left p.callers (callers_in (ps ++ qs)) c a) (λ b. has_right p.callers (callers_in (ps ++ qs)) c (parts_first ps qs c b)) (in_cat p.callers (callers_in ps) c h)
+
+parts_last : (ps qs : List Part) (c : ℕ) → Has (callers_in qs) c → Has (callers_in (ps ++ qs)) c
+parts_last [] qs c h = h
+parts_last (p ∷ ps) qs c h = has_right p.callers (callers_in (ps ++ qs)) c (parts_last ps qs c h)
+
+from_left : (v w : View) (c : ℕ) → Has (all_callers v) c → Has (all_callers (both_views v w)) c
+from_left v w c h = let more : List Part = v.absorbed ++ part_of w ∷ w.absorbed in ⊎_elim (λ a. has_left v.callers (callers_in more) c a) (λ b. has_right v.callers (callers_in more) c (parts_first v.absorbed (part_of w ∷ w.absorbed) c b)) (in_cat v.callers (callers_in v.absorbed) c h)
+
+from_right : (v w : View) (c : ℕ) → Has (all_callers w) c → Has (all_callers (both_views v w)) c
+from_right v w c h = has_right v.callers (callers_in (v.absorbed ++ part_of w ∷ w.absorbed)) c (parts_last v.absorbed (part_of w ∷ w.absorbed) c h)
 
 fits_cat : (h : List Event) (ps qs : List Part) → FitsAll h ps → FitsAll h qs → FitsAll h (ps ++ qs)
 fits_cat h [] qs a b = b
@@ -184,6 +201,14 @@ module _ (h : List Event) (vs : List View) (id other : ℕ) (v w : View) (r : Vi
       (λ y. absurd (ne ((r.maker id other v w at at' z).1 y))))
   made_stood j x (inr (inr t)) m = (j, x, t.2, (refl, m), sym (cond_else j other id j t.1))
 
+  first_merged : (j : ℕ) (x : View) → Merged vs id other v w j x → x.made ≢ 0 → Has (all_callers x) 0
+  unfolding Merged
+  first_merged j x (inl t) m = absurd (m (ap (λ (z : View). z.made) t.1))
+  first_merged j x (inr (inl t)) m = let e : x.made ≡ max v.made w.made = ap (λ (z : View). z.made) t.1 in subst (λ (z : View). Has (all_callers z) 0) (sym t.1) (dite (ℕ_discrete v.made 0)
+      (λ z. from_right v w 0 (r.first other w at' (λ y. m (let q : x.made ≡ 0 = omega arith in q))))
+      (λ z. from_left v w 0 (r.first id v at z)))
+  first_merged j x (inr (inr t)) m = r.first j x t.2 m
+
   fits_merged : (j : ℕ) (x : View) → Merged vs id other v w j x → Fits h x.callers x.seen × FitsAll h x.absorbed
   unfolding Merged
   fits_merged j x (inl t) = subst (λ (z : View). Fits h z.callers z.seen × FitsAll h z.absorbed) (sym t.1) (record { rest = h; is = append_nil h; others = none_spent h }, tt)
@@ -209,6 +234,7 @@ module _ (h : List Event) (vs : List View) (id other : ℕ) (v w : View) (r : Vi
       λ c a. let q = has_stood k c y (merged vs id other v w k y e') a in subst (λ (z : ℕ). c < z) (sym p.3.0) ((r.maker p.0 q.0 p.1 q.1 p.2 q.2 p.3.1).0 c q.3),
       λ n. let q = made_stood k y (merged vs id other v w k y e') n in p.4 ∙ ap (λ (z : ℕ). cond (eqb z other) id z) ((r.maker p.0 q.0 p.1 q.1 p.2 q.2 p.3.1).1 q.3.1) ∙ sym q.4,
     );
+    first = λ j x e m. first_merged j x (merged vs id other v w j x e) m;
     known = λ j x e m. let p = made_stood j x (merged vs id other v w j x e) m in subst (λ (z : ℕ). CallersBelow z h) (sym p.3.0) (r.known p.0 p.1 p.2 p.3.1);
   }
 
@@ -232,6 +258,7 @@ notes h vs id v r at = let n : View = note_view v in record {
   longest = let l = r.longest in (l.0, l.1, at_longer vs (n ∷ []) l.0 l.1 l.2, l.3);
   apart = λ j k c x y e f a b. r.apart j k c x y (old_with vs v j c x (at_end vs n x j e) a) (old_with vs v k c y (at_end vs n y k f) b) a b;
   maker = λ j k x y e f m. let e' = old_made vs v j x (at_end vs n x j e) m in (λ c a. (r.maker j k x y e' (old_with vs v k c y (at_end vs n y k f) a) m).0 c a, λ w. (r.maker j k x y e' (old_made vs v k y (at_end vs n y k f) w) m).1 w);
+  first = λ j x e m. r.first j x (old_made vs v j x (at_end vs n x j e) m) m;
   known = λ j x e m. r.known j x (old_made vs v j x (at_end vs n x j e) m) m;
 }
 
@@ -292,7 +319,7 @@ module _ {N : Type 0} (sort : Sort) (begins : Frame → Type 0) (asks : (ℕ →
     tt,
     subst (λ (ws : List ℕ). Running sort begins asks shows record { words = ws; homes = s.homes; views = set s.views id w }) (sym (set-get_or s.words 0 0)) record {
       trace = r.trace;
-      views = grows_to r.trace [] s.views id v (all_callers v) v.mark r.views at (λ c a. a) tt (inside s.views id v at);
+      views = grows_to r.trace [] s.views id v (all_callers v) v.mark r.views at (λ c a. a) (λ c a. a) tt (inside s.views id v at);
       sound = r.sound;
       few = r.few;
       wide = r.wide;
@@ -312,12 +339,13 @@ module _ {N : Type 0} (sort : Sort) (begins : Frame → Type 0) (asks : (ℕ →
     views = record {
       each = λ j v e. subst (λ (z : View). Fits [] z.callers z.seen) (alone j first_view v e).1 record { rest = []; is = refl; others = tt };
       parts = λ j v e. subst (λ (z : View). FitsAll [] z.absorbed) (alone j first_view v e).1 tt;
-      longest = (0, first_view, refl, inl refl);
+      longest = (0, first_view, refl, inl (refl, (0, inl refl)));
       apart = λ j k c v w e f a b. (alone j first_view v e).0 ∙ sym (alone k first_view w f).0;
       maker = λ j k v w e f m. (
         λ c a. let one : first_view ≡ v = (alone j first_view v e).1 in let n : 1 ≡ v.made = ap (λ (z : View). z.made) one in let z : 0 ≡ c = new_has 0 c (subst (λ (z : View). Has (all_callers z) c) (sym (alone k first_view w f).1) a) in omega arith,
         λ _. (alone j first_view v e).0 ∙ sym (alone k first_view w f).0,
       );
+      first = λ j v e m. subst (λ (z : View). Has (all_callers z) 0) (alone j first_view v e).1 (inl refl);
       known = λ j v e m. tt;
     };
     sound = fits;

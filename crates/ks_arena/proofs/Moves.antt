@@ -110,8 +110,8 @@ module _ {N : Type 0} (sort : Sort) (begins : Frame → Type 0) (asks : (ℕ →
   free_unmarked : (s : State (Option N) View) (r : Rule s) (i : ℕ) → turn_after r.trace i ≡ free → ¬ SomeMarks s.views i
   free_unmarked s r i is m = let so = marks_held r.trace s.views (length s.homes) s.words r.bits i m in let x : free ≡ held so.0 = sym is ∙ so.1 in (cc)
 
-  pub takes_ok : (n id : ℕ) (me : Seated N) (c i : ℕ) → me.0.callers ≡ c ∷ [] → me.0.mark ≡ Quiet → c < 2 ^ 32 → i < n → Allows Rule n id me (i + 2) (λ y. either (eqb y 1) (c + 2) y) (took sort begins asks shows (step n (i + 2) 1 (c + 2) none) me)
-  takes_ok n id me c i mine quiet small near s r long at _ = let h : List Event = r.trace in let near' : i < length s.homes = subst (λ (z : ℕ). i < z) (sym long) near in let y : ℕ = get_or s.words (i + 2) 0 in let word : y ≡ turn_word (turn_after h i) = r.turns i near' in
+  pub takes_ok : (n id : ℕ) (me : Seated N) (c i : ℕ) → me.0.callers ≡ c ∷ [] → me.0.absorbed ≡ [] → me.0.mark ≡ Quiet → c < 2 ^ 32 → i < n → Allows Rule n id me (i + 2) (λ y. either (eqb y 1) (c + 2) y) (took sort begins asks shows (step n (i + 2) 1 (c + 2) none) me)
+  takes_ok n id me c i mine bare quiet small near s r long at _ = let h : List Event = r.trace in let near' : i < length s.homes = subst (λ (z : ℕ). i < z) (sym long) near in let y : ℕ = get_or s.words (i + 2) 0 in let word : y ≡ turn_word (turn_after h i) = r.turns i near' in
       let told = took sort begins asks shows (step n (i + 2) 1 (c + 2) none) me in
       exchanged y 1 (c + 2) (Goes s (i + 2) id me told)
       (λ hit. let is : turn_after h i ≡ idle = word_idle (turn_after h i) (sym word ∙ hit) in let b = subst (λ (z : Turn). Rests sort shows (graph_after h i) (frame_after (blank_of sort) h i) z (get_elem? s.homes i)) is (r.homes i near') in
@@ -119,7 +119,7 @@ module _ {N : Type 0} (sort : Sort) (begins : Frame → Type 0) (asks : (ℕ →
         with_seen me.0 (e ∷ h),
         takes i (Some b.0),
         b.1,
-        turns_at sort begins asks shows s r id me.0 me.0.mark e i (c + 2) none at (has_one me.0.callers c mine) small near' is refl refl (λ j ne. (cond_else j i (held c) (turn_after h j) ne, refl, refl)) (ap turn_word (sym here))
+        turns_at sort begins asks shows s r id me.0 me.0.mark e i (c + 2) none at bare (has_one me.0.callers c mine) small near' is refl refl (λ j ne. (cond_else j i (held c) (turn_after h j) ne, refl, refl)) (ap turn_word (sym here))
             (subst (λ (z : Turn). Rests sort shows (graph_after h i) (frame_after (blank_of sort) h i) z (some none)) (sym here) refl)
             (turn_bits h e s.views id me.0 me.0.mark (length s.homes) s.words i (c + 2) r.bits at near' (λ j ne. cond_else j i (held c) (turn_after h j) ne) (unnamed me.0.mark i quiet) (unnamed me.0.mark i quiet) (λ j u ne there m. idle_unmarked s r i is (j, u, there, m)) (λ m. absurd (quiet_marks me.0.mark quiet i m))
             (inr ((λ f. let x : idle ≡ free = sym is ∙ f in (cc)), idle_unmarked s r i is, (λ f. let x : held c ≡ free = sym here ∙ f in (cc)), quiet_marks me.0.mark quiet i))),
@@ -130,13 +130,13 @@ module _ {N : Type 0} (sort : Sort) (begins : Frame → Type 0) (asks : (ℕ →
         with_seen me.0 h,
         keeps,
         tt,
-        looks sort begins asks shows s r id (i + 2) me.0 at,
+        looks sort begins asks shows s r id (i + 2) me.0 at bare,
         λ d j own at'. let p = same_pair me.0.callers c d i j mine own at' in subst (λ (z : ℕ × ℕ). TookAt sort begins asks shows n z.0 z.1 me y (with_seen me.0 h, me.1)) (λ k. (p.0 k, p.1 k))
             (λ hit. absurd (miss hit), λ _. (looks_all n s r id me.0 long at, refl, word, word_below (2 ^ 32) (turn_after h i) y word (λ d e. held_below (2 ^ 32) h i d r.few e))),
       ))
 
-  pub claims_ok : (n id : ℕ) (me : Seated N) (c i : ℕ) → me.0.callers ≡ c ∷ [] → me.0.mark ≡ Quiet → c < 2 ^ 32 → i < n → Allows Rule n id me (i + 2) (λ y. either (eqb y 0) (c + 2) y) (claimed sort begins asks shows (step n (i + 2) 0 (c + 2) none) me)
-  claims_ok n id me c i mine quiet small near s r long at _ = let h : List Event = r.trace in let near' : i < length s.homes = subst (λ (z : ℕ). i < z) (sym long) near in let y : ℕ = get_or s.words (i + 2) 0 in let word : y ≡ turn_word (turn_after h i) = r.turns i near' in
+  pub claims_ok : (n id : ℕ) (me : Seated N) (c i : ℕ) → me.0.callers ≡ c ∷ [] → me.0.absorbed ≡ [] → me.0.mark ≡ Quiet → c < 2 ^ 32 → i < n → Allows Rule n id me (i + 2) (λ y. either (eqb y 0) (c + 2) y) (claimed sort begins asks shows (step n (i + 2) 0 (c + 2) none) me)
+  claims_ok n id me c i mine bare quiet small near s r long at _ = let h : List Event = r.trace in let near' : i < length s.homes = subst (λ (z : ℕ). i < z) (sym long) near in let y : ℕ = get_or s.words (i + 2) 0 in let word : y ≡ turn_word (turn_after h i) = r.turns i near' in
       let told = claimed sort begins asks shows (step n (i + 2) 0 (c + 2) none) me in
       exchanged y 0 (c + 2) (Goes s (i + 2) id me told)
       (λ hit. let is : turn_after h i ≡ free = word_free (turn_after h i) (sym word ∙ hit) in let b = subst (λ (z : Turn). Rests sort shows (graph_after h i) (frame_after (blank_of sort) h i) z (get_elem? s.homes i)) is (r.homes i near') in
@@ -144,7 +144,7 @@ module _ {N : Type 0} (sort : Sort) (begins : Frame → Type 0) (asks : (ℕ →
         with_seen (marked (Claiming i) me.0) (e ∷ h),
         takes i (Some b.0),
         b.1,
-        turns_at sort begins asks shows s r id me.0 (Claiming i) e i (c + 2) none at (has_one me.0.callers c mine) small near' (is, near') refl refl (λ j ne. (cond_else j i (held c) (turn_after h j) ne, cond_else j i (Claimed c) (graph_after h j) ne, refl)) (ap turn_word (sym here))
+        turns_at sort begins asks shows s r id me.0 (Claiming i) e i (c + 2) none at bare (has_one me.0.callers c mine) small near' (is, near') refl refl (λ j ne. (cond_else j i (held c) (turn_after h j) ne, cond_else j i (Claimed c) (graph_after h j) ne, refl)) (ap turn_word (sym here))
             (subst (λ (z : Turn). Rests sort shows (graph_after (e ∷ h) i) (frame_after (blank_of sort) h i) z (some none)) (sym here) refl)
             (turn_bits h e s.views id me.0 (Claiming i) (length s.homes) s.words i (c + 2) r.bits at near' (λ j ne. cond_else j i (held c) (turn_after h j) ne) (unnamed me.0.mark i quiet) (λ j m. sym m) (λ j u ne there m. free_unmarked s r i is (j, u, there, m)) (λ m. (c, has_one me.0.callers c mine, here)) (inl (inl is, inr refl))),
         λ d j own at'. let p = same_pair me.0.callers c d i j mine own at' in subst (λ (z : ℕ × ℕ). ClaimedAt sort begins asks shows n z.0 z.1 me y (with_seen (marked (Claiming i) me.0) (e ∷ h), (i, Some b.0) ∷ me.1)) (λ k. (p.0 k, p.1 k))
@@ -154,7 +154,7 @@ module _ {N : Type 0} (sort : Sort) (begins : Frame → Type 0) (asks : (ℕ →
         with_seen me.0 h,
         keeps,
         tt,
-        looks sort begins asks shows s r id (i + 2) me.0 at,
+        looks sort begins asks shows s r id (i + 2) me.0 at bare,
         λ d j own at'. let p = same_pair me.0.callers c d i j mine own at' in subst (λ (z : ℕ × ℕ). ClaimedAt sort begins asks shows n z.0 z.1 me y (with_seen me.0 h, me.1)) (λ k. (p.0 k, p.1 k))
             (λ hit. absurd (miss hit), λ _. (looks_all n s r id me.0 long at, refl, λ now. miss (word ∙ ap turn_word now))),
       ))
@@ -242,13 +242,13 @@ module _ {N : Type 0} (sort : Sort) (begins : Frame → Type 0) (asks : (ℕ →
     hands_out s r id v c n xs long at mine hands.4,
   )
 
-  pub brings_ok : (n id : ℕ) (me : Seated N) (c i : ℕ) → me.0.callers ≡ c ∷ [] → HasSlots n me.0.seen c me.1 → InHand me.1 i → Allows Rule n id me (i + 2) (λ y. y) (brought sort begins asks shows (step n (i + 2) 0 0 none) me)
+  pub brings_ok : (n id : ℕ) (me : Seated N) (c i : ℕ) → me.0.callers ≡ c ∷ [] → me.0.absorbed ≡ [] → HasSlots n me.0.seen c me.1 → InHand me.1 i → Allows Rule n id me (i + 2) (λ y. y) (brought sort begins asks shows (step n (i + 2) 0 0 none) me)
   unfolding Lifts
-  brings_ok n id me c i mine hands has s r long at _ = let so = lifts s.homes me.1 i has (hands_out s r id me.0 c n me.1 long at mine hands) in let y : ℕ = get_or s.words (i + 2) 0 in let w : View = with_seen me.0 r.trace in (
+  brings_ok n id me c i mine bare hands has s r long at _ = let so = lifts s.homes me.1 i has (hands_out s r id me.0 c n me.1 long at mine hands) in let y : ℕ = get_or s.words (i + 2) 0 in let w : View = with_seen me.0 r.trace in (
     w,
     lift me.1 i has,
     so.0,
-    subst (λ (z : List (maybe.Option (Option N))). Rule record { words = set s.words (i + 2) y; homes = z; views = set s.views id w }) (sym so.1) (looks sort begins asks shows s r id (i + 2) me.0 at),
+    subst (λ (z : List (maybe.Option (Option N))). Rule record { words = set s.words (i + 2) y; homes = z; views = set s.views id w }) (sym so.1) (looks sort begins asks shows s r id (i + 2) me.0 at bare),
     λ j at'. let p : i ≡ j = omega arith in (looks_all n s r id me.0 long at, subst (λ (z : ℕ). carried_after me.1 (lift me.1 i has) ≡ (z, None) ∷ drop_slot z me.1) p so.2),
   )
 
@@ -272,16 +272,16 @@ module _ {N : Type 0} (sort : Sort) (begins : Frame → Type 0) (asks : (ℕ →
         λ m. m,
       )) mark)
 
-  pub gives_ok : (n id : ℕ) (me : Seated N) (c i : ℕ) (b : N) (others : List (ℕ × Option N)) (new : ℕ) → me.0.callers ≡ c ∷ [] → c < 2 ^ 32 → i < n → me.1 ≡ (i, Some b) ∷ others → turn_after me.0.seen i ≡ held c → Shows sort begins asks shows (graph_after me.0.seen i) (frame_after (blank_of sort) me.0.seen i) b
+  pub gives_ok : (n id : ℕ) (me : Seated N) (c i : ℕ) (b : N) (others : List (ℕ × Option N)) (new : ℕ) → me.0.callers ≡ c ∷ [] → me.0.absorbed ≡ [] → c < 2 ^ 32 → i < n → me.1 ≡ (i, Some b) ∷ others → turn_after me.0.seen i ≡ held c → Shows sort begins asks shows (graph_after me.0.seen i) (frame_after (blank_of sort) me.0.seen i) b
       → new ≡ turn_word (turn_given (graph_after me.0.seen i)) → GivesMark (graph_after me.0.seen i) i me.0.mark → Allows Rule n id me (i + 2) (λ _. new) (λ _. gave sort begins asks shows (step n (i + 2) new 0 none) me new)
-  gives_ok n id me c i b others new mine small near has holds body word mark s r long at _ = let h : List Event = r.trace in let near' : i < length s.homes = subst (λ (z : ℕ). i < z) (sym long) near in let own = own_now s r id me.0 c i at mine holds in
+  gives_ok n id me c i b others new mine bare small near has holds body word mark s r long at _ = let h : List Event = r.trace in let near' : i < length s.homes = subst (λ (z : ℕ). i < z) (sym long) near in let own = own_now s r id me.0 c i at mine holds in
       let e : Event = Give c i in let t : NodeState = graph_after h i in let f : Frame = frame_after (blank_of sort) h i in let turns : turn_after (e ∷ h) i ≡ turn_given t = cond_here i i (turn_given t) (turn_after h i) refl in let states : graph_after (e ∷ h) i ≡ given t = cond_here i i (given t) t refl in
       let one = has_one me.0.callers c mine in
       subst (λ (cs : List (ℕ × Option N)). Goes s (i + 2) id (me.0, cs) (λ _. gave sort begins asks shows (step n (i + 2) new 0 none) (me.0, cs) new) new) (sym has) (
         with_seen (marked Quiet me.0) (e ∷ h),
         gives,
         tt,
-        turns_at sort begins asks shows s r id me.0 Quiet e i new (some (Some b)) at one small near' own.turn refl refl (λ j ne. (cond_else j i (turn_given t) (turn_after h j) ne, cond_else j i (given t) (graph_after h j) ne, refl))
+        turns_at sort begins asks shows s r id me.0 Quiet e i new (some (Some b)) at bare one small near' own.turn refl refl (λ j ne. (cond_else j i (turn_given t) (turn_after h j) ne, cond_else j i (given t) (graph_after h j) ne, refl))
             (word ∙ ap (λ (z : NodeState). turn_word (turn_given z)) (sym own.state) ∙ ap turn_word (sym turns))
             (subst (λ (z : NodeState × Turn). Rests sort shows z.0 f z.1 (some (some (Some b)))) (λ k. (sym states k, sym turns k)) (rests_given t f b (subst (λ (z : NodeState × Frame). Shows sort begins asks shows z.0 z.1 b) (λ k. (sym own.state k, sym (own.frame (blank_of sort)) k)) body)))
             (given_bits s r id me.0 c i new at one near' own.turn (subst (λ (z : NodeState). GivesMark z i me.0.mark) (sym own.state) mark)),
@@ -293,30 +293,30 @@ module _ {N : Type 0} (sort : Sort) (begins : Frame → Type 0) (asks : (ℕ →
   in_words : (s : State (Option N) View) (r : Rule s) (i : ℕ) → i < length s.homes → length s.homes + 2 + i / 64 < length s.words
   in_words s r i near = let wide = r.wide in omega arith
 
-  pub sets_bit_ok : (n id : ℕ) (me : Seated N) (c i : ℕ) → me.0.callers ≡ c ∷ [] → me.0.mark ≡ Quiet → i < n → turn_after me.0.seen i ≡ held c
+  pub sets_bit_ok : (n id : ℕ) (me : Seated N) (c i : ℕ) → me.0.callers ≡ c ∷ [] → me.0.absorbed ≡ [] → me.0.mark ≡ Quiet → i < n → turn_after me.0.seen i ≡ held c
       → Allows Rule n id me (n + 2 + i / 64) (λ y. bit_or y (2 ^ (i % 64))) (λ _ m. bit_was_set sort begins asks shows (step n (n + 2 + i / 64) (2 ^ (i % 64)) 0 none) me m)
-  sets_bit_ok n id me c i mine quiet near holds s r long at _ = let q : ℕ = i / 64 in let b : ℕ = i % 64 in let near' : i < length s.homes = subst (λ (z : ℕ). i < z) (sym long) near in let own = own_now s r id me.0 c i at mine holds in
+  sets_bit_ok n id me c i mine bare quiet near holds s r long at _ = let q : ℕ = i / 64 in let b : ℕ = i % 64 in let near' : i < length s.homes = subst (λ (z : ℕ). i < z) (sym long) near in let own = own_now s r id me.0 c i at mine holds in
       let y : ℕ = get_or s.words (n + 2 + q) 0 in let new : ℕ = bit_or y (2 ^ b) in let w : View = with_seen (marked (Freeing i) me.0) r.trace in (
         w,
         keeps,
         tt,
         subst (λ (z : ℕ). Rule record { words = set s.words (z + 2 + q) (bit_or (get_or s.words (z + 2 + q) 0) (2 ^ b)); homes = s.homes; views = set s.views id w }) long
-            (let x : ℕ = get_or s.words (length s.homes + 2 + q) 0 in frees_at sort begins asks shows s r id me.0 (Freeing i) q (bit_or x (2 ^ b)) at
+            (let x : ℕ = get_or s.words (length s.homes + 2 + q) 0 in frees_at sort begins asks shows s r id me.0 (Freeing i) q (bit_or x (2 ^ b)) at bare
             (free_word_bits r.trace s.views id me.0 (Freeing i) (length s.homes) s.words i c (bit_or x (2 ^ b)) r.views r.bits at near' (has_one me.0.callers c mine) own.turn (unnamed me.0.mark i quiet) (λ j m. sym m) (in_words s r i near')
             (λ a low ne. bit_at_or x (2 ^ b) a ∙ ap (max (bit_at x a)) (bit_at-pow_other b a ne) ∙ (let z : max (bit_at x a) 0 ≡ bit_at x a = omega arith in z))
             (inl (bit_at_or x (2 ^ b) b ∙ ap (max (bit_at x b)) (bit_at-pow_same b) ∙ (let low = bit_at-lt x b in let z : max (bit_at x b) 1 ≡ 1 = omega arith in z), refl)))),
         λ j at' bit. let e : i ≡ j = opened_same i j n at' bit in subst (λ (z : ℕ). Looks (SoundTo n) (marked (Freeing z) me.0) w × (me.1 ≡ me.1)) e (looks_marked n s r id me.0 (Freeing i) long at, refl),
       )
 
-  pub clears_bit_ok : (n id : ℕ) (me : Seated N) (c i : ℕ) → me.0.callers ≡ c ∷ [] → me.0.mark ≡ Claiming i → i < n → turn_after me.0.seen i ≡ held c
+  pub clears_bit_ok : (n id : ℕ) (me : Seated N) (c i : ℕ) → me.0.callers ≡ c ∷ [] → me.0.absorbed ≡ [] → me.0.mark ≡ Claiming i → i < n → turn_after me.0.seen i ≡ held c
       → Allows Rule n id me (n + 2 + i / 64) (λ y. bit_and y (bit_not w64 (1 * 2 ^ (i % 64) % 2 ^ 64))) (λ _ m. bit_was_cleared sort begins asks shows (step n (n + 2 + i / 64) (bit_not w64 (1 * 2 ^ (i % 64) % 2 ^ 64)) 0 none) me m)
-  clears_bit_ok n id me c i mine claiming near holds s r long at _ = let q : ℕ = i / 64 in let b : ℕ = i % 64 in let near' : i < length s.homes = subst (λ (z : ℕ). i < z) (sym long) near in let own = own_now s r id me.0 c i at mine holds in
+  clears_bit_ok n id me c i mine bare claiming near holds s r long at _ = let q : ℕ = i / 64 in let b : ℕ = i % 64 in let near' : i < length s.homes = subst (λ (z : ℕ). i < z) (sym long) near in let own = own_now s r id me.0 c i at mine holds in
       let mask : ℕ = bit_not w64 (1 * 2 ^ b % 2 ^ 64) in let w : View = with_seen (marked Quiet me.0) r.trace in let low : b < 64 = omega arith in (
         w,
         keeps,
         tt,
         subst (λ (z : ℕ). Rule record { words = set s.words (z + 2 + q) (bit_and (get_or s.words (z + 2 + q) 0) mask); homes = s.homes; views = set s.views id w }) long
-            (let x : ℕ = get_or s.words (length s.homes + 2 + q) 0 in frees_at sort begins asks shows s r id me.0 Quiet q (bit_and x mask) at
+            (let x : ℕ = get_or s.words (length s.homes + 2 + q) 0 in frees_at sort begins asks shows s r id me.0 Quiet q (bit_and x mask) at bare
             (free_word_bits r.trace s.views id me.0 Quiet (length s.homes) s.words i c (bit_and x mask) r.views r.bits at near' (has_one me.0.callers c mine) own.turn (λ j m. sym (subst (λ (z : Mark). Marks z j) claiming m)) (λ j m. absurd m) (in_words s r i near')
             (λ a low' ne. bit_at_clear_other w64 x b low a low' ne)
             (inr (bit_at_clear_same w64 x b low, λ m. m)))),
@@ -324,27 +324,27 @@ module _ {N : Type 0} (sort : Sort) (begins : Frame → Type 0) (asks : (ℕ →
       )
 
   -- a free word is read
-  pub scans_ok : (n id : ℕ) (me : Seated N) (w : ℕ) → Allows Rule n id me (n + 2 + w) (λ y. y) (scanned sort begins asks shows (step n (n + 2 + w) 0 0 none) me)
-  scans_ok n id me w s r long at _ = let y : ℕ = get_or s.words (n + 2 + w) 0 in (
+  pub scans_ok : (n id : ℕ) (me : Seated N) (w : ℕ) → me.0.absorbed ≡ [] → Allows Rule n id me (n + 2 + w) (λ y. y) (scanned sort begins asks shows (step n (n + 2 + w) 0 0 none) me)
+  scans_ok n id me w bare s r long at _ = let y : ℕ = get_or s.words (n + 2 + w) 0 in (
     with_seen me.0 r.trace,
     keeps,
     tt,
-    looks sort begins asks shows s r id (n + 2 + w) me.0 at,
+    looks sort begins asks shows s r id (n + 2 + w) me.0 at bare,
     λ c u mine quiet at'. let e : w ≡ u = omega arith in (looks_all n s r id me.0 long at, refl, subst (λ (z : ℕ). TellsFree n z c r.trace y) e (subst (λ (z : ℕ). TellsFree z w c r.trace (get_or s.words (z + 2 + w) 0)) long (reads_word s r id me.0 c w at mine quiet))),
   )
 
   now : (n : ℕ) (s : State (Option N) View) (r : Rule s) (id : ℕ) (v : View) (c : ℕ) (e : Event) → length s.homes ≡ n → get_elem? s.views id ≡ some v → v.callers ≡ c ∷ [] → May sort begins asks n c v.seen e → StepsSoundly sort begins asks (length s.homes) r.trace e
   now n s r id v c e long at mine may = subst (λ (z : ℕ). StepsSoundly sort begins asks z r.trace e) (sym long) (may r.trace (others_now s r id v c at mine) (subst (λ (z : ℕ). SoundTo z r.trace) long r.sound))
 
-  pub decides_ok : (n id : ℕ) (me : Seated N) (c i : ℕ) (o : Op) (y : Reply) (e : Event) → e ≡ Call c i o y → me.0.callers ≡ c ∷ [] → c < 2 ^ 32 → turn_after me.0.seen i ≡ held c → May sort begins asks n c me.0.seen (Call c i o y)
+  pub decides_ok : (n id : ℕ) (me : Seated N) (c i : ℕ) (o : Op) (y : Reply) (e : Event) → e ≡ Call c i o y → me.0.callers ≡ c ∷ [] → me.0.absorbed ≡ [] → c < 2 ^ 32 → turn_after me.0.seen i ≡ held c → May sort begins asks n c me.0.seen (Call c i o y)
       → Allows Rule n id me 0 (λ x. (x + 1) % 2 ^ 64) (decided sort begins asks shows (step n 0 1 0 none) e me)
-  decides_ok n id me c i o y said_ said mine small holds may = subst (λ (z : Event). Allows Rule n id me 0 (λ x. (x + 1) % 2 ^ 64) (decided sort begins asks shows (step n 0 1 0 none) z me)) (sym said) (λ s r long at _.
+  decides_ok n id me c i o y said_ said mine bare small holds may = subst (λ (z : Event). Allows Rule n id me 0 (λ x. (x + 1) % 2 ^ 64) (decided sort begins asks shows (step n 0 1 0 none) z me)) (sym said) (λ s r long at _.
       let h : List Event = r.trace in let own = own_now s r id me.0 c i at mine holds in let e : Event = Call c i o y in let so = now n s r id me.0 c e long at mine may in
       let count : get_or s.words 0 0 ≡ number_after h = r.call_count in let wide = r.wide in let x : ℕ = get_or s.words 0 0 in let f = r.views.each id me.0 at in (
         with_seen me.0 (e ∷ h),
         keeps,
         tt,
-        counts_at sort begins asks shows s r id me.0 e 0 ((x + 1) % 2 ^ 64) at (has_one me.0.callers c mine) small (omega arith) so (λ j. refl)
+        counts_at sort begins asks shows s r id me.0 e 0 ((x + 1) % 2 ^ 64) at bare (has_one me.0.callers c mine) small (omega arith) so (λ j. refl)
             (λ j. dite (ℕ_discrete j i) (λ z. inr (c, ap (turn_after h) z ∙ own.turn)) (λ z. inl (cond_else j i (state_with (written o y) (graph_after h i)) (graph_after h j) z, refl)))
             (get_or-set_same s.words 0 ((x + 1) % 2 ^ 64) 0 (omega arith) ∙ one_more (length (calls_of h)) (length (calls_of (e ∷ h))) x (a_call_more (calls_of h) record { op = o; reply = y }) count) (get_or-set_other s.words 0 1 ((x + 1) % 2 ^ 64) 0 (λ z. omega arith) ∙ r.shape_count),
         (makes_one n s r id me.0 e long at (has_one me.0.callers c mine) so, refl, count ∙ ap number_after f.is),
@@ -355,14 +355,14 @@ module _ {N : Type 0} (sort : Sort) (begins : Frame → Type 0) (asks : (ℕ →
   shaped_or h c (x ∷ xs) i t f so = dite (ℕ_discrete i x.node) (λ e. inr (c, ap (turn_after h) e ∙ All-head (λ (y : Change). turn_after h y.node ≡ held c) x xs so))
       (λ ne. ⊎_elim (λ a. inl (cond_else i x.node (new_state x.state) (shaped xs i t) ne ∙ a.0, cond_else i x.node (new_frame x.state f) (reframed xs i f) ne ∙ a.1)) (λ a. inr a) (shaped_or h c xs i t f (All-tail (λ (y : Change). turn_after h y.node ≡ held c) x xs so)))
 
-  pub forms_ok : (n id : ℕ) (me : Seated N) (c : ℕ) (xs : List Change) (e : Event) → e ≡ Shape c xs → me.0.callers ≡ c ∷ [] → c < 2 ^ 32 → May sort begins asks n c me.0.seen (Shape c xs) → Allows Rule n id me 1 (λ x. (x + 1) % 2 ^ 64) (λ _ m. formed sort begins asks shows (step n 1 1 0 none) e me m)
-  forms_ok n id me c xs said_ said mine small may = subst (λ (z : Event). Allows Rule n id me 1 (λ x. (x + 1) % 2 ^ 64) (λ _ m. formed sort begins asks shows (step n 1 1 0 none) z me m)) (sym said) (λ s r long at _.
+  pub forms_ok : (n id : ℕ) (me : Seated N) (c : ℕ) (xs : List Change) (e : Event) → e ≡ Shape c xs → me.0.callers ≡ c ∷ [] → me.0.absorbed ≡ [] → c < 2 ^ 32 → May sort begins asks n c me.0.seen (Shape c xs) → Allows Rule n id me 1 (λ x. (x + 1) % 2 ^ 64) (λ _ m. formed sort begins asks shows (step n 1 1 0 none) e me m)
+  forms_ok n id me c xs said_ said mine bare small may = subst (λ (z : Event). Allows Rule n id me 1 (λ x. (x + 1) % 2 ^ 64) (λ _ m. formed sort begins asks shows (step n 1 1 0 none) z me m)) (sym said) (λ s r long at _.
       let h : List Event = r.trace in let e : Event = Shape c xs in let so = now n s r id me.0 c e long at mine may in
       let count : get_or s.words 1 0 ≡ shapes_in h % 2 ^ 64 = r.shape_count in let wide = r.wide in let x : ℕ = get_or s.words 1 0 in (
         with_seen me.0 (e ∷ h),
         keeps,
         tt,
-        counts_at sort begins asks shows s r id me.0 e 1 ((x + 1) % 2 ^ 64) at (has_one me.0.callers c mine) small (omega arith) so (λ j. refl) (λ j. shaped_or h c xs j (graph_after h j) (frame_after (blank_of sort) h j) so.0)
+        counts_at sort begins asks shows s r id me.0 e 1 ((x + 1) % 2 ^ 64) at bare (has_one me.0.callers c mine) small (omega arith) so (λ j. refl) (λ j. shaped_or h c xs j (graph_after h j) (frame_after (blank_of sort) h j) so.0)
             (get_or-set_other s.words 1 0 ((x + 1) % 2 ^ 64) 0 (λ z. omega arith) ∙ r.call_count) (get_or-set_same s.words 1 ((x + 1) % 2 ^ 64) 0 (omega arith) ∙ one_more (shapes_in h) (shapes_in (e ∷ h)) x refl count),
         (makes_one n s r id me.0 e long at (has_one me.0.callers c mine) so, refl),
       ))

@@ -21,7 +21,7 @@ use Rattle.ks_node.specs.Body.{Body}
 use Rattle.ks_arena.specs.Sound.{Sort, blank_of, Sound, StepsSoundly}
 use Rattle.ks_arena.specs.Rule.{Rests, Running, turn_word, callers_in, free_words, FreeBits}
 use Rattle.ks_arena.specs.Plays.{with_seen, marked}
-use Rattle.ks_arena.proofs.Seen.{grows, grows_to, has_left}
+use Rattle.ks_arena.proofs.Seen.{grows, grows_to, has_left, all_own}
 use Rattle.ks_arena.proofs.Bits.{inside, bits_words, bits_view}
 
 pub has_one : (cs : List ℕ) (c : ℕ) → cs ≡ c ∷ [] → Has cs c
@@ -29,11 +29,11 @@ has_one cs c e = subst (λ (z : List ℕ). Has z c) (sym e) (inl refl)
 
 module _ {N : Type 0} (sort : Sort) (begins : Frame → Type 0) (asks : (ℕ → NodeState) → (ℕ → Frame) → List Change → Type 0) (shows : N → Body) where
   -- no event, no word and no slot changes
-  pub looks : (s : State (Option N) View) (r : Running sort begins asks shows s) (id k : ℕ) (v : View) → get_elem? s.views id ≡ some v
+  pub looks : (s : State (Option N) View) (r : Running sort begins asks shows s) (id k : ℕ) (v : View) → get_elem? s.views id ≡ some v → v.absorbed ≡ []
       → Running sort begins asks shows record { words = set s.words k (get_or s.words k 0); homes = s.homes; views = set s.views id (with_seen v r.trace) }
-  looks s r id k v at = subst (λ (ws : List ℕ). Running sort begins asks shows record { words = ws; homes = s.homes; views = set s.views id (with_seen v r.trace) }) (sym (set-get_or s.words k 0)) record {
+  looks s r id k v at bare = subst (λ (ws : List ℕ). Running sort begins asks shows record { words = ws; homes = s.homes; views = set s.views id (with_seen v r.trace) }) (sym (set-get_or s.words k 0)) record {
     trace = r.trace;
-    views = grows r.trace [] s.views id v r.views at tt (inside s.views id v at);
+    views = grows r.trace [] s.views id v r.views at bare tt (inside s.views id v at);
     sound = r.sound;
     few = r.few;
     wide = r.wide;
@@ -53,13 +53,13 @@ module _ {N : Type 0} (sort : Sort) (begins : Frame → Type 0) (asks : (ℕ →
   RestsAt h i x = Rests sort shows (graph_after h i) (frame_after (blank_of sort) h i) (turn_after h i) x
 
   -- one event on the turn word of node i, and the mark that the view has then
-  pub turns_at : (s : State (Option N) View) (r : Running sort begins asks shows s) (id : ℕ) (v : View) (k : Mark) (e : Event) (i new : ℕ) (h : maybe.Option (Option N)) → get_elem? s.views id ≡ some v → Has v.callers (caller_of e) → caller_of e < 2 ^ 32 → i < length s.homes
+  pub turns_at : (s : State (Option N) View) (r : Running sort begins asks shows s) (id : ℕ) (v : View) (k : Mark) (e : Event) (i new : ℕ) (h : maybe.Option (Option N)) → get_elem? s.views id ≡ some v → v.absorbed ≡ [] → Has v.callers (caller_of e) → caller_of e < 2 ^ 32 → i < length s.homes
       → StepsSoundly sort begins asks (length s.homes) r.trace e → number_after (e ∷ r.trace) ≡ number_after r.trace → shapes_in (e ∷ r.trace) ≡ shapes_in r.trace → Alone e r.trace i
       → new ≡ turn_word (turn_after (e ∷ r.trace) i) → RestsAt (e ∷ r.trace) i (some h) → FreeBits (e ∷ r.trace) (set s.views id (with_seen (marked k v) (e ∷ r.trace))) (length s.homes) (set s.words (i + 2) new)
       → Running sort begins asks shows record { words = set s.words (i + 2) new; homes = set s.homes i h; views = set s.views id (with_seen (marked k v) (e ∷ r.trace)) }
-  turns_at s r id v k e i new h at mine small near may c₀ c₁ alone word rests bits = let wide = r.wide in let same : length (set s.homes i h) ≡ length s.homes = length-set s.homes i h in record {
+  turns_at s r id v k e i new h at bare mine small near may c₀ c₁ alone word rests bits = let wide = r.wide in let same : length (set s.homes i h) ≡ length s.homes = length-set s.homes i h in record {
     trace = e ∷ r.trace;
-    views = grows_to r.trace (e ∷ []) s.views id v v.callers k r.views at (λ c a. has_left v.callers (callers_in v.absorbed) c a) (mine, tt) (inside s.views id v at);
+    views = grows_to r.trace (e ∷ []) s.views id v v.callers k r.views at (λ c a. has_left v.callers (callers_in v.absorbed) c a) (all_own v bare) (mine, tt) (inside s.views id v at);
     sound = subst (λ (z : ℕ). Sound sort begins asks z (e ∷ r.trace)) (sym same) (r.sound, may);
     few = (small, r.few);
     wide = length-set s.words (i + 2) new ∙ r.wide ∙ ap (λ (z : ℕ). z + 2 + free_words z) (sym same);
@@ -75,12 +75,12 @@ module _ {N : Type 0} (sort : Sort) (begins : Frame → Type 0) (asks : (ℕ →
   }
 
   -- no event; the free word k and the mark change
-  pub frees_at : (s : State (Option N) View) (r : Running sort begins asks shows s) (id : ℕ) (v : View) (k : Mark) (w new : ℕ) → get_elem? s.views id ≡ some v
+  pub frees_at : (s : State (Option N) View) (r : Running sort begins asks shows s) (id : ℕ) (v : View) (k : Mark) (w new : ℕ) → get_elem? s.views id ≡ some v → v.absorbed ≡ []
       → FreeBits r.trace (set s.views id (with_seen (marked k v) r.trace)) (length s.homes) (set s.words (length s.homes + 2 + w) new)
       → Running sort begins asks shows record { words = set s.words (length s.homes + 2 + w) new; homes = s.homes; views = set s.views id (with_seen (marked k v) r.trace) }
-  frees_at s r id v k w new at bits = let n : ℕ = length s.homes in record {
+  frees_at s r id v k w new at bare bits = let n : ℕ = length s.homes in record {
     trace = r.trace;
-    views = grows_to r.trace [] s.views id v v.callers k r.views at (λ c a. has_left v.callers (callers_in v.absorbed) c a) tt (inside s.views id v at);
+    views = grows_to r.trace [] s.views id v v.callers k r.views at (λ c a. has_left v.callers (callers_in v.absorbed) c a) (all_own v bare) tt (inside s.views id v at);
     sound = r.sound;
     few = r.few;
     wide = length-set s.words (n + 2 + w) new ∙ r.wide;
@@ -100,13 +100,13 @@ module _ {N : Type 0} (sort : Sort) (begins : Frame → Type 0) (asks : (ℕ →
   rests_on a b f g t u x same (inr h) so = subst (λ (z : Turn). Rests sort shows b g z x) (sym (same ∙ h.1)) (subst (λ (z : Turn). Rests sort shows a f z x) h.1 so)
 
   -- one event on the counting word k, which changes nodes that are held alone
-  pub counts_at : (s : State (Option N) View) (r : Running sort begins asks shows s) (id : ℕ) (v : View) (e : Event) (k new : ℕ) → get_elem? s.views id ≡ some v → Has v.callers (caller_of e) → caller_of e < 2 ^ 32 → k < 2
+  pub counts_at : (s : State (Option N) View) (r : Running sort begins asks shows s) (id : ℕ) (v : View) (e : Event) (k new : ℕ) → get_elem? s.views id ≡ some v → v.absorbed ≡ [] → Has v.callers (caller_of e) → caller_of e < 2 ^ 32 → k < 2
       → StepsSoundly sort begins asks (length s.homes) r.trace e → ((j : ℕ) → turn_after (e ∷ r.trace) j ≡ turn_after r.trace j) → ((j : ℕ) → Leaves e r.trace j)
       → get_or (set s.words k new) 0 0 ≡ number_after (e ∷ r.trace) → get_or (set s.words k new) 1 0 ≡ shapes_in (e ∷ r.trace) % 2 ^ 64
       → Running sort begins asks shows record { words = set s.words k new; homes = s.homes; views = set s.views id (with_seen v (e ∷ r.trace)) }
-  counts_at s r id v e k new at mine small low may same kept c₀ c₁ = record {
+  counts_at s r id v e k new at bare mine small low may same kept c₀ c₁ = record {
     trace = e ∷ r.trace;
-    views = grows r.trace (e ∷ []) s.views id v r.views at (mine, tt) (inside s.views id v at);
+    views = grows r.trace (e ∷ []) s.views id v r.views at bare (mine, tt) (inside s.views id v at);
     sound = (r.sound, may);
     few = (small, r.few);
     wide = length-set s.words k new ∙ r.wide;

@@ -1,5 +1,7 @@
--- Laws of sound traces alone: each event is in turn, and nodes past the end of the arena stay free.
-use Rattle.std.proofs.Common.{◌≡◌, ℕ, ◌<◌, ◌≤◌, List, [], ◌∷◌, sym, ap, ◌∙◌, arith}
+-- Laws of sound traces alone: each event is in turn, and nodes past the end of the arena stay free and are not named.
+use Rattle.std.proofs.Common.{◌≡◌, ◌≢◌, ℕ, ◌<◌, ◌≤◌, List, [], ◌∷◌, sym, ap, ◌∙◌, ⊎_elim, arith}
+use Rattle.std.specs.Prelude.{All}
+use Rattle.std.proofs.lemmas.Bool.{cases_lt}
 use Rattle.ks_keysets.specs.declared.Frame.{Frame}
 use Rattle.ks_keysets.specs.declared.NodeState.{NodeState}
 use Rattle.ks_keysets.specs.declared.NodeState.TheVariants.{Free}
@@ -10,6 +12,7 @@ use Rattle.ks_history.specs.Trace.{free, idle, held, turn_given, graph_after, tu
 use Rattle.ks_history.specs.Stays.{IsInTurn, AreInTurn, cond_else}
 use Rattle.ks_arena.specs.Sound.{Sort, Sound, StepsSoundly}
 use Rattle.ks_arena.specs.FromSound.{rested}
+use Rattle.ks_arena.specs.Named.{NamesBelow, AllNamedBelow}
 
 module _ (sort : Sort) (begins : Frame → Type 0) (asks : (ℕ → NodeState) → (ℕ → Frame) → List Change → Type 0) (nodes : ℕ) where
   pub is_in_turn : (h : List Event) (e : Event) → StepsSoundly sort begins asks nodes h e → IsInTurn h e
@@ -36,3 +39,22 @@ module _ (sort : Sort) (begins : Frame → Type 0) (asks : (ℕ → NodeState) �
 
   pub free_beyond : (h : List Event) → Sound sort begins asks nodes h → (i : ℕ) → nodes ≤ i → graph_after h i ≡ Free
   free_beyond h so i far = (rested h (are_in_turn sort begins asks nodes h so) i).free_is (turn_beyond h so i far)
+
+  -- a node that is not free is one of the arena
+  is_near : (h : List Event) → Sound sort begins asks nodes h → (i : ℕ) → turn_after h i ≢ free → i < nodes
+  is_near h so i taken = ⊎_elim (λ (near : i < nodes). near) (λ (far : nodes ≤ i). absurd (taken (turn_beyond h so i far))) (cases_lt i nodes)
+
+  held_near : (c : ℕ) (h : List Event) → Sound sort begins asks nodes h → (i : ℕ) → turn_after h i ≡ held c → i < nodes
+  held_near c h so i mine = is_near h so i (λ e. let q : held c ≡ free = sym mine ∙ e in let z : ⊥ = cc in z)
+
+  named_then : (h : List Event) (e : Event) → Sound sort begins asks nodes h → StepsSoundly sort begins asks nodes h e → NamesBelow nodes e
+  named_then h (Take c j) so may = is_near h so j (λ e. let q : idle ≡ free = sym may ∙ e in let z : ⊥ = cc in z)
+  named_then h (Give c j) so may = held_near c h so j may
+  named_then h (Claim c j) so may = may.1
+  named_then h (Shape c changes) so may = λ k x lt. held_near c h so _ (may.0 k x lt)
+  named_then h (Call c j op reply) so may = held_near c h so j may.0.0
+
+  -- so every event names nodes of the arena
+  pub named_below : (h : List Event) → Sound sort begins asks nodes h → AllNamedBelow nodes h
+  named_below [] so = tt
+  named_below (e ∷ h) so = (named_below h so.0, named_then h e so.0 so.1)

@@ -24,7 +24,6 @@ use Rattle.ks_history.specs.Stays.{StaysHeld}
 use Rattle.ks_arena.specs.declared.held.Held.{Held as Hand}
 use Rattle.std.specs.Slots.{slots_items}
 use Rattle.ks_arena.specs.declared.run.Run.{Run}
-use Rattle.ks_arena.specs.declared.run.RunTrace.{RunTrace}
 use Rattle.ks_arena.specs.declared.held.Note.{Note}
 use Rattle.ks_arena.specs.declared.held.Pass.{Pass}
 use Rattle.ks_arena.specs.declared.held.Taken.{Taken}
@@ -37,6 +36,7 @@ use Rattle.ks_node.specs.Edges.{record_of}
 use Rattle.ks_arena.specs.Sound.{Sort, blank_of, Sound}
 use Rattle.ks_arena.specs.Rule.{turn_word, free_words, Ends}
 use Rattle.ks_arena.specs.Plays.{Carries}
+use Rattle.ks_arena.specs.Named.{AllNamedBelow}
 
 abbrev pub view_of : {N D : Type 0} → Pass N D → View
 view_of p = p.seat.me.0
@@ -54,12 +54,13 @@ abbrev pub hand_of : {N D : Type 0} → Pass N D → List ℕ
 hand_of p = hand p.caller (seen_of p)
 
 module _ (sort : Sort) (begins : Frame → Type 0) (asks : (ℕ → NodeState) → (ℕ → Frame) → List Change → Type 0) where
-  -- a pass of the arena with that table and so many callers: what it has seen is sound, its slots are those of the nodes
+  -- a pass of the arena with that table and so many callers, one of which is its own: what it has seen is sound, its slots are those of the nodes
   -- that it holds, and this is its mark
   pub record IsPassWith {N D : Type 0} (k : Mark) (t : TableId) (callers : ℕ) (p : Pass N D) : Type 0 where
     pub table : p.seat.table_id ≡ t
     pub bare : (view_of p).absorbed ≡ []
     pub few : p.caller < 2 ^ 32
+    pub low : p.caller < callers
     pub own : (view_of p).callers ≡ p.caller ∷ []
     pub carries : Carries t.slots (seen_of p) p.caller p.seat.me.1
     pub made : (view_of p).made ≡ (if p.caller == 0 then callers else 0)
@@ -170,10 +171,10 @@ module _ {N : Type 0} (sort : Sort) (shows : N → Body) where
     pub hand : hand c k ≡ i ∷ hand c h
     pub mine : mine c k ≡ Take c i ∷ mine c h
 
-  -- what a try to take node i tells
+  -- what a try to take node i tells: it has it, another caller has it, or it is free
   abbrev pub TryTook : ℕ → ℕ → List Event → List Event → Taken N → Type 0
   TryTook c i h k (Held x) = HasTaken c i h k x
-  TryTook c i h k (Busy d) = HasLooked c h k × (turn_after k i ≡ held d)
+  TryTook c i h k (Busy d) = HasLooked c h k × (turn_after k i ≡ held d) × (d ≢ c)
   TryTook c i h k Gone = HasLooked c h k × (turn_after k i ≡ free)
 
   -- what a take of node i tells, which waits while others hold it
@@ -280,19 +281,12 @@ module _ (sort : Sort) (begins : Frame → Type 0) (asks : (ℕ → NodeState) �
   abbrev pub MayShape : ℕ → ℕ → List Event → List Change → Type 0
   MayShape nodes c seen changes = (h : List Event) → GrowsByOthers c seen h → Sound sort begins asks nodes h → asks (graph_after h) (frame_after (blank_of sort) h) changes
 
-abbrev pub seen_first : List View → List Event
-seen_first [] = []
-seen_first (v ∷ vs) = v.seen
-
 -- the trace of a run that has ended, the newest event first
-abbrev pub trace_in : RunTrace → List Event
-trace_in t = seen_first t.badge.views
-
 abbrev pub trace_of : {N : Type 0} → Run N → List Event
-trace_of r = trace_in r.trace
+trace_of r = r.trace
 
 -- a run over so many nodes that has ended: its trace is lawful, with a good graph throughout, each Full was due, the
--- words and bodies are those after the trace, and no other node was ever used
+-- words and bodies are those after the trace, and no other node was ever named or used
 module _ {N : Type 0} (sort : Sort) (shows : N → Body) where
   pub record IsRun (nodes : ℕ) (r : Run N) : Type 0 where
     pub lawful : Lawful (trace_of r)
@@ -302,4 +296,5 @@ module _ {N : Type 0} (sort : Sort) (shows : N → Body) where
     pub count : slice_index (slots_items r.remains.closed.words) 0 ≡ number_after (trace_of r)
     pub turns : (i : ℕ) → i < nodes → slice_index (slots_items r.remains.closed.words) (i + 2) ≡ turn_word (turn_after (trace_of r) i)
     pub ends : (i : ℕ) → i < nodes → Ends sort shows (graph_after (trace_of r) i) (frame_after (blank_of sort) (trace_of r) i) (turn_after (trace_of r) i) (get_elem? (slots_items r.remains.closed.slots) i)
+    pub named : AllNamedBelow nodes (trace_of r)
     pub beyond : (i : ℕ) → nodes ≤ i → graph_after (trace_of r) i ≡ Free

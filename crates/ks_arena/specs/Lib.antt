@@ -1,5 +1,6 @@
 pub mod Sound
 pub mod Rule
+pub mod Named
 pub mod Plays
 pub mod Clauses
 pub mod FromSound

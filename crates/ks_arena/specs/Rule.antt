@@ -38,25 +38,31 @@ callers_in (p ∷ ps) = p.callers ++ callers_in ps
 abbrev pub all_callers : View → List ℕ
 all_callers v = v.callers ++ callers_in v.absorbed
 
--- one of the parts has seen all
+-- a caller is among them: so it is with the callers of a pass, and not with those of a note
+abbrev pub SomeCaller : List ℕ → Type 0
+SomeCaller cs = (c : ℕ) × Has cs c
+
+-- one of the parts stands for a caller and has seen all
 abbrev pub SomeWhole : List Event → List Part → Type 0
 SomeWhole h [] = ⊥
-SomeWhole h (p ∷ ps) = (p.seen ≡ h) ⊎ SomeWhole h ps
+SomeWhole h (p ∷ ps) = ((p.seen ≡ h) × SomeCaller p.callers) ⊎ SomeWhole h ps
 
+-- the view, or a part of it, does
 abbrev pub IsWhole : List Event → View → Type 0
-IsWhole h v = (v.seen ≡ h) ⊎ SomeWhole h v.absorbed
+IsWhole h v = ((v.seen ≡ h) × SomeCaller v.callers) ⊎ SomeWhole h v.absorbed
 
 abbrev pub AllBelow : ℕ → List ℕ → Type 0
 AllBelow n cs = (c : ℕ) → Has cs c → c < n
 
--- the first sentence: h is what the views have seen together, each has all events of its own callers, no caller has two
--- views, and one view counts the passes
+-- the first sentence: h is what a pass has seen, and what any pass or note has seen is a beginning of it; each view has
+-- all events of its own callers, no caller has two views, and one view, which stands for caller 0, counts the passes
 pub record Views (h : List Event) (vs : List View) : Type 0 where
   pub each : (j : ℕ) (v : View) → get_elem? vs j ≡ some v → Fits h v.callers v.seen
   pub parts : (j : ℕ) (v : View) → get_elem? vs j ≡ some v → FitsAll h v.absorbed
   pub longest : (j : ℕ) × (v : View) × (get_elem? vs j ≡ some v) × IsWhole h v
   pub apart : (j k c : ℕ) (v w : View) → get_elem? vs j ≡ some v → get_elem? vs k ≡ some w → Has (all_callers v) c → Has (all_callers w) c → j ≡ k
   pub maker : (j k : ℕ) (v w : View) → get_elem? vs j ≡ some v → get_elem? vs k ≡ some w → v.made ≢ 0 → AllBelow v.made (all_callers w) × (w.made ≢ 0 → j ≡ k)
+  pub first : (j : ℕ) (v : View) → get_elem? vs j ≡ some v → v.made ≢ 0 → Has (all_callers v) 0
   pub known : (j : ℕ) (v : View) → get_elem? vs j ≡ some v → v.made ≢ 0 → CallersBelow v.made h
 
 -- the word of a turn
@@ -141,6 +147,11 @@ both_views v w = record { callers = v.callers; seen = v.seen; absorbed = v.absor
 
 abbrev pub spent_view : View
 spent_view = record { callers = []; seen = []; absorbed = []; made = 0; mark = Quiet }
+
+-- what the first of the views has seen
+abbrev pub seen_first : List View → List Event
+seen_first [] = []
+seen_first (v ∷ vs) = v.seen
 
 module _ {N : Type 0} (sort : Sort) (shows : N → Body) where
   -- what the slot of a node has once nobody holds it

@@ -9,10 +9,11 @@ ghost use Rattle.ks_history.specs.Lawful.{Lawful, GoodThroughout};
 ghost use Rattle.ks_history.specs.Due.{FullsDue};
 ghost use Rattle.ks_history.specs.Passes.{GrowsByOthers};
 ghost use Rattle.ks_history.specs.Beside.{AreBeside};
+ghost use Rattle.ks_flow.specs.Link.{lives_below};
 ghost use Rattle.ks_flow.specs.Discipline.{SameKeyset, BeginsTree, TreeStep, BeginsLink, LinkStep};
 ghost use Rattle.ks_arena.specs.Sound.{Sort, blank_of, Sound};
 
-use ks_flow::laws::{tree_facts_law, walks_law};
+use ks_flow::laws::{link_law, tree_facts_law, walks_law};
 use ks_flow::{Discipline, Link, Tree};
 
 /// A sound trace is lawful and its graph is good throughout; at each beginning it has the facts of the discipline, and
@@ -45,6 +46,15 @@ pub fn link_live_law()
     ensures { (sort : Sort) (nodes i : ℕ) (k h : List Happening) → k ⊑ h → Sound sort BeginsLink LinkStep nodes h → IsLive (graph_after k) i → turn_after h i ≢ free }
 {
     sound_law::<Link>();
+}
+
+/// Under links the level of the root is below the number of live nodes.
+pub fn link_level_law()
+    ensures { (sort : Sort) (nodes : ℕ) (h : List Happening) → 0 < nodes → Sound sort BeginsLink LinkStep nodes h → (frame_after (blank_of sort) h 0).level < lives_below (graph_after h) nodes }
+{
+    sound_law::<Link>();
+    beside_law::<Link>();
+    link_law();
 }
 
 /// The root is never found free.

@@ -5,7 +5,9 @@ use Rattle.ks_keysets.specs.declared.Edge.{Edge}
 use Rattle.ks_keysets.specs.declared.NodeState.{NodeState}
 use Rattle.ks_keysets.specs.Record.{LeadsTo}
 use Rattle.ks_keysets.specs.Keyset.{record_at, IsLive, Reaches, at_root, along, InInset}
-use Rattle.ks_flow.specs.Tree.{edges_between, edges_in, edges_to, Steps, none_yet, one_more}
+use Rattle.std.specs.Prelude.{Any}
+use Rattle.ks_keysets.specs.Walk.{Descends, from_root, further}
+use Rattle.ks_flow.specs.Tree.{edges_to}
 use Rattle.ks_flow.specs.Ways.{names, DiffersIn}
 
 positive : (es : List Edge) (k m : ℕ) (x : Edge) → k < length es → get_or es k x ≡ x → x.node ≡ m → 0 < edges_to es m
@@ -17,14 +19,14 @@ positive (e ∷ es) (suc k) m x near is to = omega (arith, positive es k m x (om
 pub counts : (r : Record) (p m : ℕ) → LeadsTo r p m → 0 < edges_to r.edges m
 counts r p m to = positive r.edges to.0 m to.1 to.2 to.3 to.4.1
 
-abbrev pub Counts : (ℕ → NodeState) → Type 0
-Counts g = (r : Record) (p m : ℕ) → LeadsTo r p m → 0 < edges_to r.edges m
+-- an edge that carries a place to the node is one of the record's
+pub leads_any : (r : Record) (p m : ℕ) → LeadsTo r p m → Any (λ e. e.node ≡ m) r.edges
+leads_any r p m (k, x, lt, is, to) = (k, x, lt, is, to.1)
 
--- a node whose inset has a place is some steps from the root
-pub stepped : (g : ℕ → NodeState) (p n : ℕ) → Counts g → Reaches g p n → (k : ℕ) × Steps g k n
-stepped g p n counts (at_root live) = (0, none_yet)
-stepped g p n counts (along {n = m} r before is to live) = let y = stepped g p m counts before in
-    (suc y.0, one_more n y.1 (subst (λ (o : Option Record). 0 < edges_in o n) (sym is) (counts r p n to)))
+-- a descent leads to a node whose inset has a place
+pub descended : (g : ℕ → NodeState) (p n : ℕ) → Reaches g p n → (k : ℕ) × Descends g k n
+descended g p n (at_root live) = (0, from_root)
+descended g p n (along {n = m} r before is to live) = let y = descended g p m before in (suc y.0, further r y.1 is (leads_any r p n to))
 
 -- the node at which a region is entered: the node is live after, and the nodes that lead to it are outside
 pub entered : (g k : ℕ → NodeState) (region : List ℕ) (e p : ℕ) → DiffersIn g region k → ((n : ℕ) → names region n ≡ false → InInset g n p → InInset k n p) → IsLive k 0 → IsLive k e

@@ -1,23 +1,61 @@
 -- Under the facts of links a keyset is a range of level 0.
 use Rattle.ks_keysets.specs.declared.Record.{Record}
 use Rattle.ks_keysets.specs.declared.Frame.{Frame}
-use Rattle.std.proofs.Common.{ℕ, zero, suc, ◌≡◌, ◌<◌, ◌≤◌, ◌+◌, ◌⊎◌, inl, inr, List, Some, refl, sym, ◌∙◌, ap, subst, arith}
-use Rattle.std.specs.Prelude.{All, Any, AllPairs}
-use Rattle.std.proofs.lemmas.Bool.Decides.{leb_tells}
+use Rattle.std.proofs.Common.{ℕ, zero, suc, ◌≡◌, ◌<◌, ◌≤◌, ◌+◌, ◌⊎◌, inl, inr, Bool, true, false, cond, List, Some, refl, sym, ◌∙◌, ap, subst, arith}
+use Rattle.std.specs.Prelude.{All, Any, AllPairs, Option, is_some}
+use Rattle.std.proofs.lemmas.Bool.Decides.{leb_tells, eqb_tells}
 use Rattle.ks_keysets.specs.declared.Edge.{Edge}
 use Rattle.ks_keysets.specs.declared.NodeState.{NodeState}
 use Rattle.ks_keysets.specs.declared.Span.{Span}
 use Rattle.ks_keysets.specs.Record.{IsPlace, top, Holds, Carries, LeadsTo, LeadsOn}
 use Rattle.ks_keysets.specs.Keyset.{record_at, IsLive, Reaches, at_root, along, InOutset, InKeyset, AreApart, Good}
-use Rattle.ks_flow.specs.Link.{Link, IsRange, IsLinkEdge, IsChildEdge}
-use Rattle.ks_flow.proofs.Walks.{ends_one, keyset_ends, target_live, reached_live}
-use Rattle.ks_flow.proofs.Pigeons.{pigeonhole}
+use Rattle.ks_flow.specs.Link.{Link, IsRange, IsLinkEdge, IsChildEdge, lives_below}
+use Rattle.ks_keysets.specs.Found.{reached_live}
+use Rattle.ks_keysets.specs.Next.{target_live}
+use Rattle.ks_flow.proofs.Walks.{ends_one, keyset_ends}
+use Rattle.ks_keysets.specs.Pigeons.{pigeonhole}
 
 pub edge_at : (es : List Edge) (P Q : Edge → Type 0) → Any Q es → All P es → (e : Edge) × Q e × P e
 edge_at es P Q (k, x, lt, is, h) all = (x, h, subst P is (all k x lt))
 
 pub same_range : (f : Frame) (s t : Span) → IsRange f s → IsRange f t → s ≡ t
 same_range f s t a b = let e : Some s ≡ Some t = sym a.is ∙ b.is in cc
+
+-- a live node is counted, so two live nodes have different numbers of live nodes below them
+
+lives_more : (g : ℕ → NodeState) (n : ℕ) → lives_below g n ≤ lives_below g (suc n)
+lives_more g n = go (is_some (record_at g n))
+  where
+    go : (t : Bool) → lives_below g n ≤ cond t (suc (lives_below g n)) (lives_below g n)
+    go true = omega arith
+    go false = omega arith
+
+lives_one : (g : ℕ → NodeState) (n : ℕ) → IsLive g n → lives_below g (suc n) ≡ suc (lives_below g n)
+lives_one g n live = ap (λ (o : Option Record). cond (is_some o) (suc (lives_below g n)) (lives_below g n)) live.1
+
+lives_less : (g : ℕ → NodeState) (n m : ℕ) → n < m → IsLive g n → lives_below g n < lives_below g m
+lives_less g n zero lt live = absurd (omega arith)
+lives_less g n (suc m) lt live = elim (eqb_tells n m) [
+  | inl e ↦ subst (λ (z : ℕ). lives_below g n < lives_below g (suc z)) e.1 (omega (arith, lives_one g n live))
+  | inr ne ↦ let less : lives_below g n < lives_below g m = lives_less g n m (omega (arith, ne.1)) live in omega (arith, less, lives_more g m)
+]
+
+lives_upto : (g : ℕ → NodeState) (n : ℕ) → lives_below g n ≤ n
+lives_upto g zero = omega arith
+lives_upto g (suc n) = let less : lives_below g n ≤ n = lives_upto g n in go less (is_some (record_at g n))
+  where
+    go : lives_below g n ≤ n → (t : Bool) → cond t (suc (lives_below g n)) (lives_below g n) ≤ suc n
+    go less true = omega arith
+    go less false = omega arith
+
+lives_apart : (g : ℕ → NodeState) (n m : ℕ) → IsLive g n → IsLive g m → lives_below g n ≡ lives_below g m → n ≡ m
+lives_apart g n m live other same = elim (leb_tells (suc n) m) [
+  | inl lt ↦ absurd (omega (arith, same, lives_less g n m lt.1 live))
+  | inr ge ↦ elim (leb_tells (suc m) n) [
+    | inl gt ↦ absurd (omega (arith, same, lives_less g m n gt.1 other))
+    | inr le ↦ omega (arith, ge.1, le.1)
+  ]
+]
 
 module _ (g : ℕ → NodeState) (f : ℕ → Frame) (root : IsLive g 0) (apart : AreApart g) (leads : (n : ℕ) (r : Record) → record_at g n ≡ Some r → All (λ e. IsLive g e.node) r.edges) (link : Link g f) where
   -- an edge that carries a place
@@ -141,9 +179,9 @@ module _ (g : ℕ → NodeState) (f : ℕ → Frame) (root : IsLive g 0) (apart 
   picked l (inl le) le' = let c = link.cover l 0 le (omega arith) in (c.1, c.2)
   picked l (inr gt) le' = absurd (omega arith)
 
-  -- the level of the root is below any bound on the numbers of live nodes
-  pub root_level : (bound : ℕ) → ((n : ℕ) → IsLive g n → n < bound) → (f 0).level < bound
-  root_level bound within = omega (arith, pigeonhole (suc (f 0).level) bound at into one)
+  -- the level of the root is below the number of live nodes: each level has one
+  pub root_level : (bound : ℕ) → ((n : ℕ) → IsLive g n → n < bound) → (f 0).level < lives_below g bound
+  root_level bound within = omega (arith, pigeonhole (suc (f 0).level) (lives_below g bound) (λ l. lives_below g (at l)) into one)
     where
       at : ℕ → ℕ
       at l = pick l (leb_tells' l)
@@ -151,8 +189,12 @@ module _ (g : ℕ → NodeState) (f : ℕ → Frame) (root : IsLive g 0) (apart 
       at_is : (l : ℕ) → l ≤ (f 0).level → IsLive g (at l) × ((f (at l)).level ≡ l)
       at_is l le = picked l (leb_tells' l) le
 
-      into : (i : ℕ) → i < suc (f 0).level → at i < bound
-      into i lt = within (at i) (at_is i (omega arith)).0
+      into : (i : ℕ) → i < suc (f 0).level → lives_below g (at i) < lives_below g bound
+      into i lt = let live = (at_is i (omega arith)).0 in lives_less g (at i) bound (within (at i) live) live
 
-      one : (i j : ℕ) → i < suc (f 0).level → j < suc (f 0).level → at i ≡ at j → i ≡ j
-      one i j lt lt' same = sym (at_is i (omega arith)).1 ∙ ap (λ (n : ℕ). (f n).level) same ∙ (at_is j (omega arith)).1
+      one : (i j : ℕ) → i < suc (f 0).level → j < suc (f 0).level → lives_below g (at i) ≡ lives_below g (at j) → i ≡ j
+      one i j lt lt' same = sym (at_is i (omega arith)).1 ∙ ap (λ (n : ℕ). (f n).level) (lives_apart g (at i) (at j) (at_is i (omega arith)).0 (at_is j (omega arith)).0 same) ∙ (at_is j (omega arith)).1
+
+  -- so below any bound on the numbers of live nodes
+  pub root_bound : (bound : ℕ) → ((n : ℕ) → IsLive g n → n < bound) → (f 0).level < bound
+  root_bound bound within = omega (arith, root_level bound within, lives_upto g bound)

@@ -9,14 +9,15 @@ use Rattle.ks_keysets.specs.declared.NodeState.{NodeState}
 use Rattle.ks_keysets.specs.declared.Span.{Span}
 use Rattle.ks_keysets.specs.Record.{top, IsPlace, empty_record, Carries, LeadsTo}
 use Rattle.ks_keysets.specs.Keyset.{opening, record_at, IsLive, Reaches, at_root, along, InInset, Good}
-use Rattle.ks_flow.specs.Tree.{edges_to, edges_between, edges_in, OneEdge, Tree, IsInset, SameEdges, Steps, none_yet, one_more}
+use Rattle.ks_flow.specs.Tree.{edges_to, edges_between, edges_in, Tree, IsInset, SameEdges}
 use Rattle.ks_flow.specs.Walk.{Ends, stops, Path, arrives}
-use Rattle.ks_flow.proofs.Walks.{same_record, walked_good}
+use Rattle.ks_keysets.specs.Next.{same_record}
+use Rattle.ks_flow.proofs.Walks.{walked_good}
 use Rattle.ks_flow.proofs.Paths.{edges_to_some}
 use Rattle.std.proofs.Common.{◌==◌, eq-eqb}
 use Rattle.std.specs.Prelude.{Any}
 use Rattle.std.proofs.lemmas.List.{get_or_default}
-use Rattle.ks_flow.proofs.Edges.{same_or_apart, sole_parent}
+use Rattle.ks_flow.proofs.Edges.{sole_parent}
 use Rattle.ks_flow.proofs.Trees.{inset_like, between_is}
 
 pub edges_two : (es : List Edge) (i j : ℕ) (d : Edge) (m : ℕ) → i < j → j < length es → (get_or es i d).node ≡ m → (get_or es j d).node ≡ m → 2 ≤ edges_to es m
@@ -127,16 +128,3 @@ opening_good = walked_good opening (record {
   stored = λ n r is. subst (λ (z : Record). All (λ x. IsPlace x.place × Ends opening x.place n 0) z.pairs) (sym (opening_one n r is).1) (λ i d lt. absurd (omega arith));
   once = λ n r is. subst (λ (z : Record). AllPairs (λ x y. x.place ≡ y.place → ⊥) z.pairs) (sym (opening_one n r is).1) (λ i j d lt lt'. absurd (omega arith));
 })
-
--- a walk along edges from the root, whatever the places, meets no node twice
-
-pub steps_apart : (g : ℕ → NodeState) (n m a b : ℕ) → OneEdge g → Steps g n a → Steps g m b → a ≡ b → n ≡ m
-steps_apart g n m a b one none_yet none_yet same = refl
-steps_apart g n m a b one none_yet (one_more {a = c} d w lt) same = absurd (omega (arith, one.none c, subst (λ (x : ℕ). 0 < edges_between g c x) (sym same) lt))
-steps_apart g n m a b one (one_more {a = c} d w lt) none_yet same = absurd (omega (arith, one.none c, subst (λ (x : ℕ). 0 < edges_between g c x) same lt))
-steps_apart g n m a b one (one_more {n = i} {a = c} d w lt) (one_more {n = j} {a = c'} d' w' lt') same =
-    ap suc (steps_apart g i j c c' one w w' (parent (same_or_apart c c')))
-  where
-    parent : (c ≡ c') ⊎ (c ≡ c' → ⊥) → c ≡ c'
-    parent (inl e) = e
-    parent (inr ne) = absurd (omega (arith, one.one a c c' ne, lt, subst (λ (x : ℕ). 0 < edges_between g c' x) (sym same) lt'))

@@ -2,7 +2,7 @@
 -- In each shape g and f are the graph and the frames before it, k and h those after it.
 use Rattle.ks_keysets.specs.declared.Record.{Record}
 use Rattle.ks_keysets.specs.declared.Frame.{Frame}
-use Rattle.std.specs.Prelude.{ℕ, suc, ◌≡◌, ◌<◌, ◌≤◌, ◌-◌, ◌↔◌, ◌⊎◌, [], ◌∷◌, Some, None, All, Any, AllPairs}
+use Rattle.std.specs.Prelude.{ℕ, zero, suc, ◌≡◌, ◌<◌, ◌≤◌, ◌-◌, ◌↔◌, ◌⊎◌, [], ◌∷◌, Some, None, All, Any, AllPairs, is_some, if◌then◌else◌}
 use Rattle.ks_keysets.specs.declared.NodeState.{NodeState}
 use Rattle.ks_keysets.specs.declared.Span.{Span}
 use Rattle.ks_keysets.specs.declared.Edge.{Edge}
@@ -54,6 +54,11 @@ pub record Link (g : ℕ → NodeState) (frames : ℕ → Frame) : Type 0 where
   -- an edge carries each place past the range, and above level 0 each from the low on
   pub inside : (n : ℕ) (r : Record) (p : ℕ) → record_at g n ≡ Some r → 0 < (frames n).level → (frames n).low ≤ p → IsPlace p → LeadsOn r p
   pub beyond : (n : ℕ) (r : Record) (s : Span) (p : ℕ) → record_at g n ≡ Some r → IsRange (frames n) s → s.last < p → IsPlace p → LeadsOn r p
+
+-- how many of the nodes below n are live
+abbrev pub lives_below : (ℕ → NodeState) → ℕ → ℕ
+lives_below g zero = 0
+lives_below g (suc n) = if is_some (record_at g n) then suc (lives_below g n) else lives_below g n
 
 -- an edge of the record, or the first part of one
 abbrev pub IsPartOf : Record → Edge → Type 0

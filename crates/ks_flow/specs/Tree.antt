@@ -1,7 +1,7 @@
 -- The facts of trees.
 use Rattle.ks_keysets.specs.declared.Frame.{Frame}
 use Rattle.ks_keysets.specs.declared.Record.{Record}
-use Rattle.std.specs.Prelude.{ℕ, suc, ◌≡◌, ◌<◌, ◌≤◌, ◌+◌, ◌==◌, if◌then◌else◌, false, List, [], ◌∷◌, Option, Some, None}
+use Rattle.std.specs.Prelude.{ℕ, ◌≡◌, ◌≤◌, ◌+◌, ◌==◌, if◌then◌else◌, false, List, [], ◌∷◌, Option, Some, None}
 use Rattle.ks_keysets.specs.declared.NodeState.{NodeState}
 use Rattle.ks_keysets.specs.declared.Span.{Span}
 use Rattle.ks_keysets.specs.declared.Edge.{Edge}
@@ -54,8 +54,3 @@ pub record ActsAs (s r : Record) (p : ℕ) : Type 0 where
 pub record SameEdges (g k : ℕ → NodeState) : Type 0 where
   pub forth : (n : ℕ) (r : Record) → record_at g n ≡ Some r → (s : Record) × (record_at k n ≡ Some s) × (s.edges ≡ r.edges)
   pub back : (n : ℕ) (s : Record) → record_at k n ≡ Some s → (r : Record) × (record_at g n ≡ Some r) × (r.edges ≡ s.edges)
-
--- a walk along edges from the root, whatever the places, of some steps to a node
-pub data Steps (g : ℕ → NodeState) : ℕ → ℕ → Type 0 where
-  none_yet : Steps g 0 0
-  one_more : {n a : ℕ} (b : ℕ) → Steps g n a → 0 < edges_between g a b → Steps g (suc n) b

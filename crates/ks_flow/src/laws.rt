@@ -8,14 +8,14 @@ ghost use Rattle.ks_keysets.specs.declared.NodeState.{NodeState};
 ghost use Rattle.ks_keysets.specs.Keyset.{opening, Reaches, record_at, Good, InInset, InKeyset, IsLive, AreApart};
 ghost use Rattle.ks_keysets.specs.declared.Span.{Span};
 ghost use Rattle.ks_keysets.specs.Walk.{OneParent};
-ghost use Rattle.ks_flow.specs.Link.{Link, IsRange, LeadLive, PairsStand, IsAttach, KeepsLink, SplitsRight, GrowsRight, Attaches};
+ghost use Rattle.ks_flow.specs.Link.{Link, IsRange, LeadLive, lives_below, PairsStand, IsAttach, KeepsLink, SplitsRight, GrowsRight, Attaches};
 ghost use Rattle.ks_keysets.specs.Record.{IsPlace, top, Holds, Carries, LeadsTo};
 ghost use Rattle.ks_keysets.specs.declared.Change.{Change};
 ghost use Rattle.ks_flow.specs.Changes.{nodes_of, graph_with, frames_with, NamedOnce, HasBecome};
 ghost use Rattle.ks_flow.specs.Tree.{FramesKept};
 ghost use Rattle.ks_flow.specs.Walk.{Ends, IsWalked};
 ghost use Rattle.ks_flow.specs.Ways.{names, KeepsWays, DiffersIn};
-ghost use Rattle.ks_flow.specs.Tree.{Tree, OneEdge, SameEdges, Steps, edges_to, edges_between};
+ghost use Rattle.ks_flow.specs.Tree.{Tree, OneEdge, SameEdges, edges_to, edges_between};
 ghost use Rattle.std.specs.Prelude.{Option, Some, None, All};
 ghost use Rattle.ks_flow.specs.Insets.{SplitsInsetOwn, SplitsInsetUnder, GrowsInset, AbsorbsInsetOwn, AbsorbsInsetUnder, CollapsesInset};
 ghost use Rattle.ks_flow.specs.Shapes.{KeepsTree, SplitsOwn, SplitsUnder, Grows, AbsorbsOwn, AbsorbsUnder, Collapses};
@@ -75,14 +75,15 @@ pub fn insets_law()
 {}
 
 /// Where links hold, the keysets are the ranges on level 0, so the graph is good where each pair stands once, in its
-/// node's keyset; and the level of the root is below each bound on the numbers of live nodes.
+/// node's keyset; and the level of the root is below the number of live nodes, so below each bound on their numbers.
 pub fn link_law()
     ensures keyset { (g : ℕ → NodeState) (f : ℕ → Frame) → IsLive g 0 → AreApart g → LeadLive g → Link g f → (n p : ℕ) (s : Span) → IsPlace p → IsLive g n →
         IsRange (f n) s → (f n).level ≡ 0 → Holds s p → InKeyset g n p }
     ensures range { (g : ℕ → NodeState) (f : ℕ → Frame) → IsLive g 0 → AreApart g → LeadLive g → Link g f → (n p : ℕ) → InKeyset g n p →
         ((f n).level ≡ 0) × (s : Span) × IsRange (f n) s × Holds s p }
     ensures good { (g : ℕ → NodeState) (f : ℕ → Frame) → IsLive g 0 → AreApart g → LeadLive g → Link g f → PairsStand g → Good g }
-    ensures level { (g : ℕ → NodeState) (f : ℕ → Frame) → IsLive g 0 → AreApart g → LeadLive g → Link g f → (bound : ℕ) → ((n : ℕ) → IsLive g n → n < bound) → (f 0).level < bound }
+    ensures level { (g : ℕ → NodeState) (f : ℕ → Frame) → IsLive g 0 → AreApart g → LeadLive g → Link g f → (bound : ℕ) → ((n : ℕ) → IsLive g n → n < bound) → (f 0).level < lives_below g bound }
+    ensures bound { (g : ℕ → NodeState) (f : ℕ → Frame) → IsLive g 0 → AreApart g → LeadLive g → Link g f → (bound : ℕ) → ((n : ℕ) → IsLive g n → n < bound) → (f 0).level < bound }
 {}
 
 /// An attach keeps a graph good, and what is found in it.
@@ -102,7 +103,7 @@ pub fn link_shapes_law()
 {}
 
 /// The facts of trees hold at the opening, and are kept where edges stay. Each edge carries a place of its node's
-/// inset, and no walk along edges from the root meets a node twice. Edges lead to a node from one node at most.
+/// inset. Edges lead to a node from one node at most, and to the root from none.
 pub fn tree_facts_law()
     ensures opening { (f : ℕ → Frame) → (f 0).low ≡ 0 → ((s : Span) → (f 0).range ≡ Some s → (s.low ≡ 0) × (s.last ≡ top)) → Tree opening f }
     ensures edges { (g k : ℕ → NodeState) (f : ℕ → Frame) → SameEdges g k → Tree g f → Tree k f }
@@ -111,5 +112,4 @@ pub fn tree_facts_law()
     ensures child { (g : ℕ → NodeState) (e x p : ℕ) (s : Record) → OneEdge g → record_at g e ≡ Some s → 0 < edges_to s.edges x → Reaches g p x → Reaches g p e × LeadsTo s p x }
     ensures fresh { (g : ℕ → NodeState) (n m : ℕ) → Good g → record_at g m ≡ None → edges_between g n m ≡ 0 }
     ensures parents { (g : ℕ → NodeState) → OneEdge g → OneParent g }
-    ensures once { (g : ℕ → NodeState) (n m a b : ℕ) → OneEdge g → Steps g n a → Steps g m b → a ≡ b → n ≡ m }
 {}

@@ -1,52 +1,19 @@
 -- Walks of a place, and keysets.
-use Rattle.std.proofs.Common.{ℕ, zero, suc, ◌≡◌, ◌<◌, ◌≤◌, ◌-◌, ◌+◌, ◌⊎◌, inl, inr, List, get_or, Option, Some, None, refl, sym, ◌∙◌, ap, subst, arith}
-use Rattle.std.specs.Prelude.{Any, AllPairs}
-use Rattle.std.proofs.lemmas.Option.{same_Some}
-use Rattle.std.proofs.lemmas.List.{get_or_default}
-use Rattle.ks_keysets.specs.declared.Edge.{Edge}
+use Rattle.std.proofs.Common.{ℕ, zero, suc, ◌≡◌, ◌<◌, ◌≤◌, ◌-◌, ◌+◌, ◌⊎◌, inl, inr, Option, Some, None, refl, sym, ◌∙◌, ap, subst, arith}
 use Rattle.ks_keysets.specs.declared.NodeState.{NodeState}
 use Rattle.ks_keysets.specs.declared.Record.{Record}
-use Rattle.ks_keysets.specs.Record.{IsPlace, Carries, LeadsTo, LeadsOn}
+use Rattle.ks_keysets.specs.Record.{IsPlace, LeadsOn}
 use Rattle.ks_keysets.specs.Keyset.{record_at, IsLive, Reaches, at_root, along, InKeyset, AreApart}
 use Rattle.ks_keysets.specs.Walk.{Walks, at_start, one_more, EndsAt, MeetsNotLive, NeverEnds}
 use Rattle.ks_keysets.specs.Found.{reached_live}
+use Rattle.ks_keysets.specs.Next.{leads_on, same_record, next_one}
 use Rattle.ks_keysets.specs.Pigeons.{repeats}
-
--- at most one edge of a record carries a place
-edge_one : (es : List Edge) (p b c : ℕ) → AllPairs (λ e f. (p : ℕ) → Carries e p → Carries f p → ⊥) es → Any (λ e. Carries e p × (e.node ≡ b)) es → Any (λ e. Carries e p × (e.node ≡ c)) es → b ≡ c
-edge_one es p b c apart (k, x, lt, is, leads) (l, y, lt', is', leads') = go (cases k l)
-  where
-    cases : (k l : ℕ) → (k < l) ⊎ ((l < k) ⊎ (k ≡ l))
-    cases k l = grind arith
-
-    carried : Carries (get_or es k x) p
-    carried = subst (λ (e : Edge). Carries e p) (sym is) leads.0
-
-    carried' : Carries (get_or es l x) p
-    carried' = subst (λ (e : Edge). Carries e p) (sym is' ∙ get_or_default es l y x lt') leads'.0
-
-    go : (k < l) ⊎ ((l < k) ⊎ (k ≡ l)) → b ≡ c
-    go (inl less) = absurd (apart k l x less lt' p carried carried')
-    go (inr (inl less)) = absurd (apart l k x less lt p carried' carried)
-    go (inr (inr same)) =
-        let one : x ≡ y = sym is ∙ get_or_default es k x y lt ∙ ap (λ (i : ℕ). get_or es i y) same ∙ is' in
-        sym leads.1 ∙ ap (λ (e : Edge). e.node) one ∙ leads'.1
-
-leads_on : (r : Record) (p b : ℕ) → LeadsTo r p b → LeadsOn r p
-leads_on r p b (k, x, lt, is, leads) = (k, x, lt, is, leads.0)
-
-same_record : (g : ℕ → NodeState) (n : ℕ) (r s : Record) → record_at g n ≡ Some r → record_at g n ≡ Some s → r ≡ s
-same_record g n r s is is' = same_Some r s (sym is ∙ is')
 
 -- the record of a node that has two names
 record_along : (g : ℕ → NodeState) (n m : ℕ) (o : Option Record) → n ≡ m → record_at g n ≡ o → record_at g m ≡ o
 record_along g n m o same is = ap (record_at g) (sym same) ∙ is
 
 -- the walk of a place is one
-
-next_one : (g : ℕ → NodeState) (p a b c : ℕ) (r s : Record) → AreApart g → record_at g a ≡ Some r → record_at g a ≡ Some s → LeadsTo r p b → LeadsTo s p c → b ≡ c
-next_one g p a b c r s apart is is' leads leads' =
-    edge_one r.edges p b c (apart a r is) leads (subst (λ (t : Record). LeadsTo t p c) (same_record g a s r is' is) leads')
 
 walks_one : (g : ℕ → NodeState) (p k a b : ℕ) → AreApart g → Walks g p k a → Walks g p k b → a ≡ b
 walks_one g p zero a b apart at_start at_start = refl

@@ -8,15 +8,15 @@ use Rattle.ks_keysets.specs.declared.NodeState.{NodeState}
 use Rattle.ks_keysets.specs.declared.Record.{Record}
 use Rattle.ks_keysets.specs.Keyset.{record_at, IsLive}
 use Rattle.ks_keysets.specs.Found.{KeepsEdges}
-use Rattle.ks_keysets.specs.Walk.{Strolls, from_root, further, OneParent}
+use Rattle.ks_keysets.specs.Walk.{Descends, from_root, further, OneParent}
 use Rattle.ks_keysets.specs.Pigeons.{pigeonhole}
-use Rattle.ks_keysets.specs.Strolls.{meets_once, on_way}
+use Rattle.ks_keysets.specs.Descents.{meets_once, on_way}
 
 -- node i lies so many steps deep: at least as many edges below the root, or as many together with nodes that are gone:
 -- numbers below n of nodes that are not live, each once
 pub record Deep (g : ℕ → NodeState) (n : ℕ) (gone : List ℕ) (steps i : ℕ) : Type 0 where
   pub edges : ℕ
-  pub way : Strolls g edges i
+  pub way : Descends g edges i
   pub enough : steps ≤ edges + length gone
   pub once : AllPairs (λ x y. x ≡ y → ⊥) gone
   pub numbers : All (λ m. m < n) gone
@@ -53,9 +53,9 @@ deep_fewer g n gone fewer steps i less deep = record { edges = deep.edges; way =
 
 -- what the i-th of the nodes on the way and the nodes that are gone is
 abbrev Spot : (ℕ → NodeState) → ℕ → List ℕ → ℕ → ℕ → Type 0
-Spot g edges gone i m = ((i < suc edges) × Strolls g i m × IsLive g m) ⊎ ((suc edges ≤ i) × (m ≡ get_or gone (i - suc edges) 0))
+Spot g edges gone i m = ((i < suc edges) × Descends g i m × IsLive g m) ⊎ ((suc edges ≤ i) × (m ≡ get_or gone (i - suc edges) 0))
 
-spot : (g : ℕ → NodeState) (edges a : ℕ) (gone : List ℕ) → Strolls g edges a → IsLive g a → (i : ℕ) → (m : ℕ) × Spot g edges gone i m
+spot : (g : ℕ → NodeState) (edges a : ℕ) (gone : List ℕ) → Descends g edges a → IsLive g a → (i : ℕ) → (m : ℕ) × Spot g edges gone i m
 spot g edges a gone way live i = go (split i edges)
   where
     split : (i k : ℕ) → (i < k) ⊎ ((i ≡ k) ⊎ (k < i))
@@ -63,7 +63,7 @@ spot g edges a gone way live i = go (split i edges)
 
     go : (i < edges) ⊎ ((i ≡ edges) ⊎ (edges < i)) → (m : ℕ) × Spot g edges gone i m
     go (inl less) = let on = on_way g edges a way i in (on.node, inl (omega arith, on.comes (omega arith), on.live less))
-    go (inr (inl same)) = (a, inl (omega arith, subst (λ (j : ℕ). Strolls g j a) (sym same) way, live))
+    go (inr (inl same)) = (a, inl (omega arith, subst (λ (j : ℕ). Descends g j a) (sym same) way, live))
     go (inr (inr more)) = (get_or gone (i - suc edges) 0, inr (omega arith, refl))
 
 apart_at : (gone : List ℕ) → AllPairs (λ x y. x ≡ y → ⊥) gone → (i j : ℕ) → i < length gone → j < length gone → get_or gone i 0 ≡ get_or gone j 0 → i ≡ j
@@ -113,34 +113,34 @@ deep_bound g n gone steps i one few deep live =
             let s = apart_at gone deep.once (j - suc deep.edges) (k - suc deep.edges) (omega (arith, lt, x.0)) (omega (arith, lt', y.0)) (sym x.1 ∙ e ∙ y.1) in
             omega (arith, s, x.0, y.0)
 
--- a walk stays one where live nodes keep their edges
-pub strolls_over : (g k : ℕ → NodeState) (d a : ℕ) → KeepsEdges g k → Strolls g d a → Strolls k d a
-strolls_over g k zero a keeps from_root = from_root
-strolls_over g k (suc d) a keeps (further {a = b} r w is leads) =
+-- a descent stays one where live nodes keep their edges
+pub descends_over : (g k : ℕ → NodeState) (d a : ℕ) → KeepsEdges g k → Descends g d a → Descends k d a
+descends_over g k zero a keeps from_root = from_root
+descends_over g k (suc d) a keeps (further {a = b} r w is leads) =
     let s = keeps.at b r is in
-    further s.0 (strolls_over g k d b keeps w) s.1 (subst (λ (es : List Edge). Any (λ e. e.node ≡ a) es) (sym s.2) leads)
+    further s.0 (descends_over g k d b keeps w) s.1 (subst (λ (es : List Edge). Any (λ e. e.node ≡ a) es) (sym s.2) leads)
 
 -- and a node stays as deep, if those that are gone are still not live
 pub deep_along : (g k : ℕ → NodeState) (n : ℕ) (gone : List ℕ) (steps i : ℕ) → KeepsEdges g k → All (λ m. record_at k m ≡ None) gone → Deep g n gone steps i → Deep k n gone steps i
-deep_along g k n gone steps i keeps dead deep = record { edges = deep.edges; way = strolls_over g k deep.edges i keeps deep.way; enough = deep.enough; once = deep.once; numbers = deep.numbers; dead = dead }
+deep_along g k n gone steps i keeps dead deep = record { edges = deep.edges; way = descends_over g k deep.edges i keeps deep.way; enough = deep.enough; once = deep.once; numbers = deep.numbers; dead = dead }
 
 -- what is under a node lies as deep as it, or deeper, or is not live
-under_deeper : (g : ℕ → NodeState) (d i m : ℕ) → Strolls g d i → Under g i m → (record_at g m ≡ None) ⊎ ((j : ℕ) × (d ≤ j) × Strolls g j m)
+under_deeper : (g : ℕ → NodeState) (d i m : ℕ) → Descends g d i → Under g i m → (record_at g m ≡ None) ⊎ ((j : ℕ) × (d ≤ j) × Descends g j m)
 under_deeper g d i m way (absent none) = inl none
 under_deeper g d i m way itself = inr (d, omega arith, way)
 under_deeper g d i m way (onward {a = a} r u is leads) = go (under_deeper g d i a way u)
   where
-    go : (record_at g a ≡ None) ⊎ ((j : ℕ) × (d ≤ j) × Strolls g j a) → (record_at g m ≡ None) ⊎ ((j : ℕ) × (d ≤ j) × Strolls g j m)
+    go : (record_at g a ≡ None) ⊎ ((j : ℕ) × (d ≤ j) × Descends g j a) → (record_at g m ≡ None) ⊎ ((j : ℕ) × (d ≤ j) × Descends g j m)
     go (inl none) = let x : None ≡ Some r = sym none ∙ is in absurd (cc)
     go (inr x) = inr (suc x.0, (let e = x.1 in omega (arith, e)), further r x.2 is leads)
 
--- a walk to a node stays one where nothing changes but what is under it
-strolls_above : (g k : ℕ → NodeState) (d i : ℕ) → OneParent g → Strolls g d i → KeptAbove g i k → (j b : ℕ) → j ≤ d → Strolls g j b → Strolls k j b
-strolls_above g k d i one way kept zero b le from_root = from_root
-strolls_above g k d i one way kept (suc j) b le (further {a = a} r w is leads) =
-    further r (strolls_above g k d i one way kept j a (omega arith) w) (kept.same a (λ u. go (under_deeper g d i a way u)) ∙ is) leads
+-- a descent to a node stays one where nothing changes but what is under it
+descends_above : (g k : ℕ → NodeState) (d i : ℕ) → OneParent g → Descends g d i → KeptAbove g i k → (j b : ℕ) → j ≤ d → Descends g j b → Descends k j b
+descends_above g k d i one way kept zero b le from_root = from_root
+descends_above g k d i one way kept (suc j) b le (further {a = a} r w is leads) =
+    further r (descends_above g k d i one way kept j a (omega arith) w) (kept.same a (λ u. go (under_deeper g d i a way u)) ∙ is) leads
   where
-    go : (record_at g a ≡ None) ⊎ ((l : ℕ) × (d ≤ l) × Strolls g l a) → ⊥
+    go : (record_at g a ≡ None) ⊎ ((l : ℕ) × (d ≤ l) × Descends g l a) → ⊥
     go (inl none) = let x : None ≡ Some r = sym none ∙ is in cc
     go (inr x) = let e = meets_once g j x.0 a a one w x.2 refl in let more = x.1 in omega (arith, e, le, more)
 
@@ -148,7 +148,7 @@ strolls_above g k d i one way kept (suc j) b le (further {a = a} r w is leads) =
 pub deep_above : (g k : ℕ → NodeState) (n : ℕ) (gone : List ℕ) (steps i : ℕ) → OneParent g → KeptAbove g i k → All (λ m. record_at k m ≡ None) gone → Deep g n gone steps i → Deep k n gone steps i
 deep_above g k n gone steps i one kept dead deep = record {
   edges = deep.edges;
-  way = strolls_above g k deep.edges i one deep.way kept deep.edges i (omega arith) deep.way;
+  way = descends_above g k deep.edges i one deep.way kept deep.edges i (omega arith) deep.way;
   enough = deep.enough;
   once = deep.once;
   numbers = deep.numbers;
@@ -159,7 +159,7 @@ deep_above g k n gone steps i one kept dead deep = record {
 pub deep_freed : (g k : ℕ → NodeState) (n : ℕ) (gone : List ℕ) (steps i x : ℕ) → OneParent g → KeptAbove g i k → All (λ m. record_at k m ≡ None) gone → x < n → IsLive g x → record_at k x ≡ None → Deep g n gone steps i → Deep k n (x ∷ gone) (suc steps) i
 deep_freed g k n gone steps i x one kept dead lt live none deep = record {
   edges = deep.edges;
-  way = strolls_above g k deep.edges i one deep.way kept deep.edges i (omega arith) deep.way;
+  way = descends_above g k deep.edges i one deep.way kept deep.edges i (omega arith) deep.way;
   enough = let e = deep.enough in omega (arith, e);
   once = AllPairs-cons (λ y z. y ≡ z → ⊥) x gone (λ j d less same. fresh (get_or gone j d) same (deep.dead j d less)) deep.once;
   numbers = All-cons (λ m. m < n) x gone lt deep.numbers;

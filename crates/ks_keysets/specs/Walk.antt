@@ -1,4 +1,4 @@
--- Walks from the root: of a place, along the edges that carry it, and along any edges.
+-- Walks of a place from the root, along the edges that carry it; and descents from the root along any edges.
 use Rattle.std.specs.Prelude.{ℕ, suc, ◌≡◌, Some, None, Any}
 use Rattle.ks_keysets.specs.declared.NodeState.{NodeState}
 use Rattle.ks_keysets.specs.declared.Record.{Record}
@@ -29,10 +29,10 @@ pub record MeetsNotLive (g : ℕ → NodeState) (p : ℕ) : Type 0 where
 pub record NeverEnds (g : ℕ → NodeState) (p : ℕ) : Type 0 where
   pub goes : (k : ℕ) → (n : ℕ) × Walks g p k n
 
--- a walk along edges from the root, whatever they carry, comes after so many steps to a node
-pub data Strolls (g : ℕ → NodeState) : ℕ → ℕ → Type 0 where
-  from_root : Strolls g 0 0
-  further : {k a b : ℕ} (r : Record) → Strolls g k a → record_at g a ≡ Some r → Any (λ e. e.node ≡ b) r.edges → Strolls g (suc k) b
+-- a descent from the root along edges, whatever they carry, comes after so many of them to a node
+pub data Descends (g : ℕ → NodeState) : ℕ → ℕ → Type 0 where
+  from_root : Descends g 0 0
+  further : {k a b : ℕ} (r : Record) → Descends g k a → record_at g a ≡ Some r → Any (λ e. e.node ≡ b) r.edges → Descends g (suc k) b
 
 -- edges of live nodes lead to a node from one node at most, and none leads to the root
 pub record OneParent (g : ℕ → NodeState) : Type 0 where

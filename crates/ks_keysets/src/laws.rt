@@ -1,10 +1,10 @@
 //! Laws of graphs. Each function here computes nothing: its contract is a law.
 
-ghost use Rattle.std.specs.Prelude.{ℕ, ◌≡◌, ◌<◌, ◌↔◌, Option};
+ghost use Rattle.std.specs.Prelude.{ℕ, ◌≡◌, ◌↔◌, Option};
 ghost use Rattle.ks_keysets.specs.declared.NodeState.{NodeState};
 ghost use Rattle.ks_keysets.specs.Record.{IsPlace};
-ghost use Rattle.ks_keysets.specs.Keyset.{AreApart, Good, InKeyset, IsFound, IsLive, opening, value_at};
-ghost use Rattle.ks_keysets.specs.Walk.{EndsAt, MeetsNotLive, NeverEnds, OneParent, Strolls};
+ghost use Rattle.ks_keysets.specs.Keyset.{AreApart, Good, InKeyset, IsFound, opening, value_at};
+ghost use Rattle.ks_keysets.specs.Walk.{EndsAt, MeetsNotLive, NeverEnds};
 
 /// A place is in the keyset of a node exactly where its walk ends there. Where edges are disjoint no place is in two
 /// keysets, and a walk that ends neither meets a node that is not live nor goes on without end.
@@ -21,11 +21,4 @@ pub fn found_law()
     ensures one { (g : ℕ → NodeState) (p : ℕ) (v w : Option ℕ) → IsFound g p v → IsFound g p w → v ≡ w }
     ensures stands { (g : ℕ → NodeState) (n p : ℕ) → Good g → InKeyset g n p → IsFound g p (value_at g n p) }
     ensures opening { Good opening }
-{}
-
-/// Where edges of live nodes lead to each node from one node at most, and none to the root, no walk along edges from
-/// the root meets a node twice. So a walk to a live node has fewer steps than there are nodes.
-pub fn stroll_law()
-    ensures once { (g : ℕ → NodeState) (k j a : ℕ) → OneParent g → Strolls g k a → Strolls g j a → k ≡ j }
-    ensures short { (g : ℕ → NodeState) (n k a : ℕ) → OneParent g → ((m : ℕ) → IsLive g m → m < n) → Strolls g k a → IsLive g a → k < n }
 {}

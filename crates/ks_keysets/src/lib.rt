@@ -11,7 +11,7 @@ mod readers;
 #[cfg(test)]
 mod tests;
 
-pub use laws::{found_law, keyset_law, stroll_law};
+pub use laws::{found_law, keyset_law};
 pub use readers::{edge_cut, edges_apart, keyset_spans, next_of, walk_end};
 use std::marker::Model;
 

@@ -17,7 +17,7 @@ loop-caller-init g c = (c.requires.seat.0, c.requires.seat.1, search rules, none
 pub loop-caller-preserved : goal.loop-caller-preserved
 loop-caller-preserved g c = let t = c.args.shared.now.table_id in let n : ℕ = c.args.callers in let k : ℕ = c.loop-caller.caller in let inv = c.loop-caller.invariant in let so = c.split_seat-seat.ensures in let low : 1 ≤ k = c.loop-caller.auto.caller in
     let p : Pass g.row.N.Denot g.row.D.Denot = record { seat = c.split_seat-seat.result; caller = k; marker = record {} } in let me = so.4 ∙ ap (λ m. (next_view m.0, [])) inv.1 in
-    let new : IsNew (sort_of g.N.Node.layout g.N.Node.ranged) g.D.Discipline.begins g.D.Discipline.step t n k p = is_new (sort_of g.N.Node.layout g.N.Node.ranged) g.D.Discipline.begins g.D.Discipline.step t n k 0 p c.requires.fits (omega arith) (so.3 ∙ inv.0) me refl (sym (cond_else k 0 n 0 (λ z. omega arith))) in (
+    let new : IsNew (sort_of g.N.Node.layout g.N.Node.ranged) g.D.Discipline.begins g.D.Discipline.step t n k p = is_new (sort_of g.N.Node.layout g.N.Node.ranged) g.D.Discipline.begins g.D.Discipline.step t n k 0 p c.requires.fits (omega arith) (omega arith) (so.3 ∙ inv.0) me refl (sym (cond_else k 0 n 0 (λ z. omega arith))) in (
       so.0 ∙ inv.0,
       so.2 ∙ ap (λ m. (maker_view m.0, m.1)) inv.1,
       search rules,
@@ -26,4 +26,4 @@ loop-caller-preserved g c = let t = c.args.shared.now.table_id in let n : ℕ = 
 
 pub returns : goal.returns
 returns g c = let t = c.args.shared.now.table_id in let n : ℕ = c.args.callers in let inv = c.loop-caller.invariant in let p : Pass g.row.N.Denot g.row.D.Denot = record { seat = c.loop-caller.first; caller = 0; marker = record {} } in
-    subst (IsNewCrew (sort_of g.N.Node.layout g.N.Node.ranged) g.D.Discipline.begins g.D.Discipline.step t n) (sym c.in_ok-insert.ensures.items) (whole_crew (sort_of g.N.Node.layout g.N.Node.ranged) g.D.Discipline.begins g.D.Discipline.step t n _ p (search rules) inv.3 (is_new (sort_of g.N.Node.layout g.N.Node.ranged) g.D.Discipline.begins g.D.Discipline.step t n 0 n p c.requires.fits (omega arith) inv.0 (inv.1 ∙ ap (λ (z : ℕ). (fresh 0 z, [])) (search rules)) refl refl))
+    subst (IsNewCrew (sort_of g.N.Node.layout g.N.Node.ranged) g.D.Discipline.begins g.D.Discipline.step t n) (sym c.in_ok-insert.ensures.items) (whole_crew (sort_of g.N.Node.layout g.N.Node.ranged) g.D.Discipline.begins g.D.Discipline.step t n _ p (search rules) inv.3 (is_new (sort_of g.N.Node.layout g.N.Node.ranged) g.D.Discipline.begins g.D.Discipline.step t n 0 n p c.requires.fits (omega arith) (omega arith) inv.0 (inv.1 ∙ ap (λ (z : ℕ). (fresh 0 z, [])) (search rules)) refl refl))

@@ -4,7 +4,8 @@ use Rattle.ks_keysets.specs.Record.{LeadsTo}
 use Rattle.ks_keysets.specs.Keyset.{record_at, Reaches, along, InInset}
 use Rattle.ks_node.specs.Edges.{record_of, edges_of}
 use Rattle.ks_node.specs.Effect.{split_left, split_right, grown, adopted}
-use Rattle.ks_flow.specs.Tree.{edges_between, edges_in, edges_to, one_more}
+use Rattle.ks_keysets.specs.Walk.{further}
+use Rattle.ks_keysets.specs.Descents.{meets_once}
 use Rattle.ks_flow.specs.Changes.{NamedOnce, graph_with}
 use Rattle.ks_bodies.specs.Stands.{live_as, free_as}
 use Rattle.ks_bodies.specs.Shapes.{split_on, split_own, split_under, grow}
@@ -14,7 +15,7 @@ use Rattle.ks_bodies.proofs.Once.{once_two, once_three}
 use Rattle.ks_bodies.proofs.Own.{meets_split_own}
 use Rattle.ks_bodies.proofs.Under.{meets_split_under}
 use Rattle.ks_bodies.proofs.Grow.{meets_grow}
-use Rattle.ks_bodies.proofs.Entered.{stepped, entered, not_two, not_three, counts}
+use Rattle.ks_bodies.proofs.Entered.{descended, leads_any, entered, not_two, not_three, counts}
 use Rattle.ks_bodies.proofs.asks.tree_parts_law.Goals as goal
 
 pub returns-clause-own : goal.returns-clause-own
@@ -46,10 +47,9 @@ returns-clause-under c g f parent node right cut p u b good tree adopt part afte
     let keeps = c.tree_law.ensures.split_under g k f _ parent node right cut _ _ _ _ _ good tree meets in
     let above = up p inside in
     let never : (n : ℕ) (r : Record) → record_at g n ≡ Some r → LeadsTo r p parent → Reaches g p n → n ≡ node → ⊥ =
-    λ n r is to before same. let deep = stepped g p n counts before in
-    let next = one_more parent deep.1 (subst (λ (o : Option Record). 0 < edges_in o parent) (sym is) (counts r p parent to)) in
-    let last = one_more node next (subst (λ (o : Option Record). 0 < edges_in o node) (sym adopt.stands.has) some) in
-    let loop : deep.0 ≡ suc (suc deep.0) = c.tree_facts_law.ensures.once g deep.0 (suc (suc deep.0)) n node tree.edges deep.1 last same in omega (arith, loop) in
+    λ n r is to before same. let deep = descended g p n before in
+    let last = further (record_of u) (further r deep.1 is (leads_any r p parent to)) adopt.stands.has (leads_any (record_of u) p node above.1) in
+    let loop : deep.0 ≡ suc (suc deep.0) = meets_once g deep.0 (suc (suc deep.0)) n node (c.tree_facts_law.ensures.parents g tree.edges) deep.1 last same in omega (arith, loop) in
     let at : InInset k parent p = entered g k (parent ∷ node ∷ right ∷ []) parent p made.differs (λ n out i. (keeps.insets n p out).1 i) keeps.ways.root (record_of (adopted cut right u), meets.after_parent)
     (λ n r is to before. not_three parent node right n (c.tree_facts_law.ensures.apart g f n parent r good tree is (counts r p parent to)) (never n r is to before) (fresh_apart g n right r is part.fresh)) above.0 in (
       λ lt. let to = (meets.below_cut p above.0 above.1 lt).0 in (to, (at.0, along (record_of (adopted cut right u)) at.1 meets.after_parent to (record_of (split_left cut b), meets.after))),

@@ -8,7 +8,7 @@ pub returns-clause-root : goal.returns-clause-root
 returns-clause-root c = root_range
 
 pub returns-clause-level : goal.returns-clause-level
-returns-clause-level c g f b bound good link stands few = root_level f b bound stands.frame (c.link_law.ensures.level g f good.root good.apart good.leads link bound few)
+returns-clause-level c g f b bound good link stands few = root_level f b bound stands.frame (c.link_law.ensures.bound g f good.root good.apart good.leads link bound few)
 
 pub returns-clause-adopt : goal.returns-clause-adopt
 returns-clause-adopt c = branch_pairs

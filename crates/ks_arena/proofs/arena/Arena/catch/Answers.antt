@@ -22,7 +22,7 @@ use Rattle.ks_arena.proofs.arena.Arena.catch.Goals as goal
 use Rattle.ks_arena.proofs.arena.Arena.catch.Goals.{After-unwrap-body, Else-found-eq0}
 
 pub compare_exchange-found-requires : goal.compare_exchange-found-requires
-compare_exchange-found-requires g c = (c.requires.pass.table, omega arith, claims_ok (sort_of g.N.Node.layout g.N.Node.ranged) g.D.Discipline.begins g.D.Discipline.step g.N.Node.body _ _ c.args.pass.now.seat.me c.args.pass.now.caller c.args.node c.requires.pass.own c.requires.pass.mark c.requires.pass.few (omega arith))
+compare_exchange-found-requires g c = (c.requires.pass.table, omega arith, claims_ok (sort_of g.N.Node.layout g.N.Node.ranged) g.D.Discipline.begins g.D.Discipline.step g.N.Node.body _ _ c.args.pass.now.seat.me c.args.pass.now.caller c.args.node c.requires.pass.own c.requires.pass.bare c.requires.pass.mark c.requires.pass.few (omega arith))
 
 pub exchange-requires : goal.exchange-requires
 exchange-requires g c = let told = (c.compare_exchange-found.ensures.2 c.args.pass.now.caller c.args.node c.requires.pass.own refl).0 c.if-found-eq0.true in (c.compare_exchange-found.ensures.0 ∙ c.requires.pass.table, (Some told.1.0, top_rest _ _ _ told.1.1))

@@ -20,7 +20,7 @@ fetch_and-requires g c = let p = c.args.pass.now in let r = c.requires.pass in l
       r.table,
       omega arith,
       subst (λ (z : ℕ). Allows (Running sort g.D.Discipline.begins g.D.Discipline.step g.N.Node.body) n p.seat.id p.seat.me z (λ y. bit_and y mask) (λ _ m. bit_was_cleared sort g.D.Discipline.begins g.D.Discipline.step g.N.Node.body (step n z mask 0 none) p.seat.me m)) word
-          (clears_bit_ok sort g.D.Discipline.begins g.D.Discipline.step g.N.Node.body n p.seat.id p.seat.me p.caller i r.own r.mark near mine),
+          (clears_bit_ok sort g.D.Discipline.begins g.D.Discipline.step g.N.Node.body n p.seat.id p.seat.me p.caller i r.own r.bare r.mark near mine),
     )
 
 after : (g : Over) (c : After-fetch_and g) → Looked (sort_of g.N.Node.layout g.N.Node.ranged) g.D.Discipline.begins g.D.Discipline.step c.args.self.now.table.shared.table_id.slots c.args.pass.now.caller (marked Quiet c.args.pass.now.seat.me.0, c.args.pass.now.seat.me.1) c.fetch_and.new.seat.me

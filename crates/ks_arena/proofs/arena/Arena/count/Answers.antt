@@ -23,7 +23,7 @@ fetch_add-requires g c = let p = c.args.pass.now in let r = c.requires.pass in l
     let same : c.args.self.now.nodes ≡ n = omega arith in (
       r.table,
       omega arith,
-      decides_ok (sort_of g.N.Node.layout g.N.Node.ranged) g.D.Discipline.begins g.D.Discipline.step g.N.Node.body n _ p.seat.me p.caller c.args.held.now.node c.args.op c.args.reply _ c.requires.said r.own r.few (holds_it _ _ _ _ _ r.carries r.slots c.requires.holds)
+      decides_ok (sort_of g.N.Node.layout g.N.Node.ranged) g.D.Discipline.begins g.D.Discipline.step g.N.Node.body n _ p.seat.me p.caller c.args.held.now.node c.args.op c.args.reply _ c.requires.said r.own r.bare r.few (holds_it _ _ _ _ _ r.carries r.slots c.requires.holds)
           (may_call (sort_of g.N.Node.layout g.N.Node.ranged) c.laws.ensures c.walks_law.ensures.opening n p.caller c.args.held.now.node c.args.op c.args.reply p.seat.me.0.seen c.requires.ready.meets (subst (λ (z : ℕ). IsDue g.N.Node.layout z p.seat.me.0.seen (Call p.caller c.args.held.now.node c.args.op c.args.reply)) same c.requires.ready.due)),
     )
 

@@ -22,7 +22,7 @@ pub fetch_add-requires : goal.fetch_add-requires
 fetch_add-requires g c = let p = c.args.pass.now in let r = c.requires.pass in let n : ℕ = c.args.self.now.table.shared.table_id.slots in let same : c.args.self.now.nodes ≡ n = omega arith in let xs : List Change = changes_of g.N.Node.body c.args.first.now c.args.second c.args.third in (
   r.table,
   omega arith,
-  forms_ok (sort_of g.N.Node.layout g.N.Node.ranged) g.D.Discipline.begins g.D.Discipline.step g.N.Node.body n _ p.seat.me p.caller xs _ c.requires.said r.own r.few
+  forms_ok (sort_of g.N.Node.layout g.N.Node.ranged) g.D.Discipline.begins g.D.Discipline.step g.N.Node.body n _ p.seat.me p.caller xs _ c.requires.said r.own r.bare r.few
       (λ h grows so. let are = are_in_turn (sort_of g.N.Node.layout g.N.Node.ranged) g.D.Discipline.begins g.D.Discipline.step n h so in (
         all_held h p.caller (hand p.caller p.seat.me.0.seen) xs (λ i has. (by_others_keeps p.caller i p.seat.me.0.seen h grows are (holds_it _ _ _ _ _ r.carries r.slots has)).turn) c.requires.holds,
         each_once xs c.requires.once,

@@ -19,7 +19,7 @@ pub load-requires : goal.load-requires
 load-requires g c = let p = c.args.pass.now in let r = c.requires.pass in let in_hand = r.carries.all c.args.held.node (holds_it _ p.seat.me.0.seen p.caller c.args.held.node p.seat.me.1 r.carries r.slots c.requires.holds) in let e : c.args.held.node < c.args.self.now.table.shared.table_id.slots = hand_near _ p.seat.me.0.seen p.caller _ _ r.carries.hands in_hand in (
   r.table,
   omega arith,
-  brings_ok (sort_of g.N.Node.layout g.N.Node.ranged) g.D.Discipline.begins g.D.Discipline.step g.N.Node.body _ _ p.seat.me p.caller c.args.held.node r.own r.carries.hands in_hand,
+  brings_ok (sort_of g.N.Node.layout g.N.Node.ranged) g.D.Discipline.begins g.D.Discipline.step g.N.Node.body _ _ p.seat.me p.caller c.args.held.node r.own r.bare r.carries.hands in_hand,
 )
 
 pub exchange-requires : goal.exchange-requires
@@ -37,7 +37,7 @@ store-requires g c = let r = set_up g (goal.at.store-requires g c).In-None in le
     let word : c.if-live.turn ≡ cond c.args.held.live 1 0 = elim c.if-live.branch [ then-live w ↦ w.turn-is ∙ sym (ap (λ (z : Bool). cond z 1 0) w.if-live.true) | else-live w ↦ w.turn-is ∙ sym (ap (λ (z : Bool). cond z 1 0) w.if-live.false) ] in (
       c.exchange.ensures.0 ∙ (c.load.ensures.0 ∙ c.requires.pass.table),
       omega arith,
-      gives_ok sort g.D.Discipline.begins g.D.Discipline.step g.N.Node.body _ _ c.exchange.new.seat.me p.caller i c.args.held.body (drop_slot i p.seat.me.1) _ (r.follows.callers ∙ c.requires.pass.own) c.requires.pass.few r.near r.top r.stays.turn
+      gives_ok sort g.D.Discipline.begins g.D.Discipline.step g.N.Node.body _ _ c.exchange.new.seat.me p.caller i c.args.held.body (drop_slot i p.seat.me.1) _ (r.follows.callers ∙ c.requires.pass.own) r.follows.bare c.requires.pass.few r.near r.top r.stays.turn
           (subst (λ (z : NodeState × Frame). Shows sort g.D.Discipline.begins g.D.Discipline.step g.N.Node.body z.0 z.1 c.args.held.body) (λ k. (sym r.stays.state k, sym (r.stays.frame (blank_of sort)) k)) m.0)
           (word ∙ m.1 ∙ ap (λ (z : NodeState). turn_word (turn_given z)) (sym r.stays.state))
           (subst (λ (z : NodeState). GivesMark z i c.exchange.new.seat.me.0.mark) (sym r.stays.state) (matches_mark sort g.D.Discipline.begins g.D.Discipline.step g.N.Node.body c.args.held.live (graph_after p.seat.me.0.seen i) (frame_after (blank_of sort) p.seat.me.0.seen i) c.args.held.body i c.exchange.new.seat.me.0.mark c.requires.body.is (r.follows.mark ∙ c.requires.pass.mark))),

@@ -15,7 +15,7 @@ load-requires g c = let p = c.args.pass.now in let w : ℕ = c.args.index in let
   c.requires.pass.table,
   omega arith,
   subst (λ (z : ℕ). Allows (Running sort g.D.Discipline.begins g.D.Discipline.step g.N.Node.body) n p.seat.id p.seat.me z (λ y. y) (scanned sort g.D.Discipline.begins g.D.Discipline.step g.N.Node.body (step n z 0 0 none) p.seat.me)) word
-      (scans_ok sort g.D.Discipline.begins g.D.Discipline.step g.N.Node.body n p.seat.id p.seat.me w),
+      (scans_ok sort g.D.Discipline.begins g.D.Discipline.step g.N.Node.body n p.seat.id p.seat.me w c.requires.pass.bare),
 )
 
 after : (g : Over) (c : After-load g) → Looked (sort_of g.N.Node.layout g.N.Node.ranged) g.D.Discipline.begins g.D.Discipline.step c.args.self.now.table.shared.table_id.slots c.args.pass.now.caller c.args.pass.now.seat.me c.load.new.seat.me

@@ -20,7 +20,7 @@ fetch_or-requires g c = let p = c.args.pass.now in let r = c.requires.pass in le
       r.table,
       omega arith,
       subst (λ (z : ℕ × ℕ). Allows (Running sort g.D.Discipline.begins g.D.Discipline.step g.N.Node.body) n p.seat.id p.seat.me z.0 (λ y. bit_or y z.1) (λ _ m. bit_was_set sort g.D.Discipline.begins g.D.Discipline.step g.N.Node.body (step n z.0 z.1 0 none) p.seat.me m)) (λ k. (word k, bit k))
-          (sets_bit_ok sort g.D.Discipline.begins g.D.Discipline.step g.N.Node.body n p.seat.id p.seat.me p.caller i r.own r.mark near mine),
+          (sets_bit_ok sort g.D.Discipline.begins g.D.Discipline.step g.N.Node.body n p.seat.id p.seat.me p.caller i r.own r.bare r.mark near mine),
     )
 
 after : (g : Over) (c : After-fetch_or g) → Looked (sort_of g.N.Node.layout g.N.Node.ranged) g.D.Discipline.begins g.D.Discipline.step c.args.self.now.table.shared.table_id.slots c.args.pass.now.caller (marked (Freeing c.args.node) c.args.pass.now.seat.me.0, c.args.pass.now.seat.me.1) c.fetch_or.new.seat.me

@@ -2,9 +2,9 @@ use Rattle.std.proofs.Common.{◌≡◌, ℕ, ◌∷◌, refl, sym, ap, ◌∙�
 use Rattle.std.specs.Prelude.{Some, None, IsSome}
 use Rattle.ks_keysets.specs.declared.NodeState.TheVariants.{Live}
 use Rattle.ks_history.specs.declared.Event.TheVariants.{Take}
-use Rattle.ks_history.specs.Trace.{graph_after, frame_after, hand, mine}
+use Rattle.ks_history.specs.Trace.{graph_after, turn_after, frame_after, hand, held, mine}
 use Rattle.ks_history.specs.Passes.{GrowsWith}
-use Rattle.ks_history.specs.Begins.{take_hand}
+use Rattle.ks_history.specs.Begins.{take_hand, by_others_turn}
 use Rattle.ks_arena.specs.declared.view.View.{View}
 use Rattle.ks_node.specs.Body.{frame_of}
 use Rattle.ks_node.specs.Edges.{record_of}
@@ -20,7 +20,7 @@ use Rattle.ks_arena.proofs.arena.Arena.try_take.Goals as goal
 use Rattle.ks_arena.proofs.arena.Arena.try_take.Goals.{After-unwrap-body, Then-found-eq0, Else-found-eq0}
 
 pub compare_exchange-found-requires : goal.compare_exchange-found-requires
-compare_exchange-found-requires g c = (c.requires.pass.table, omega arith, takes_ok (sort_of g.N.Node.layout g.N.Node.ranged) g.D.Discipline.begins g.D.Discipline.step g.N.Node.body _ _ c.args.pass.now.seat.me c.args.pass.now.caller c.args.node c.requires.pass.own c.requires.pass.mark c.requires.pass.few (omega arith))
+compare_exchange-found-requires g c = (c.requires.pass.table, omega arith, takes_ok (sort_of g.N.Node.layout g.N.Node.ranged) g.D.Discipline.begins g.D.Discipline.step g.N.Node.body _ _ c.args.pass.now.seat.me c.args.pass.now.caller c.args.node c.requires.pass.own c.requires.pass.bare c.requires.pass.mark c.requires.pass.few (omega arith))
 
 pub exchange-requires : goal.exchange-requires
 exchange-requires g c = let told = (c.compare_exchange-found.ensures.2 c.args.pass.now.caller c.args.node c.requires.pass.own refl).0 c.if-found-eq1.true in (c.compare_exchange-found.ensures.0 ∙ c.requires.pass.table, (Some told.1.0, top_rest _ _ _ told.1.1))
@@ -90,7 +90,13 @@ pub returns-else-found-eq0-clause-pass : goal.returns-else-found-eq0-clause-pass
 returns-else-found-eq0-clause-pass g c = let a = else_missed g c in pass_again _ _ _ _ _ c.args.pass.now _ c.compare_exchange-found.new.seat.me c.requires.pass refl c.compare_exchange-found.ensures.0 refl a.follows a.carries a.slots a.sounds a.knows
 
 pub returns-else-found-eq0-clause-took : goal.returns-else-found-eq0-clause-took
-returns-else-found-eq0-clause-took g c = let a = else_missed g c in let told = (c.compare_exchange-found.ensures.2 c.args.pass.now.caller c.args.node c.requires.pass.own refl).1 c.if-found-eq1.false in (record { grows = a.grows; hand = a.hand_is; mine = a.mine_is }, word_other _ _ told.2 c.if-found-eq1.false c.if-found-eq0.false)
+returns-else-found-eq0-clause-took g c = let a = else_missed g c in let p = c.requires.pass in let me : ℕ = c.args.pass.now.caller in let i : ℕ = c.args.node in let seat = c.args.pass.now.seat.me in let seen = c.compare_exchange-found.new.seat.me.0.seen in
+    let told = (c.compare_exchange-found.ensures.2 me i p.own refl).1 c.if-found-eq1.false in (
+      record { grows = a.grows; hand = a.hand_is; mine = a.mine_is },
+      word_other _ _ told.2 c.if-found-eq1.false c.if-found-eq0.false,
+      λ same. holds_not c.args.self.now.table.shared.table_id.slots seat.0.seen me i seat.1 p.carries p.slots c.requires.fresh
+          (by_others_turn me i seat.0.seen seen a.grows (word_other (turn_after seen i) c.compare_exchange-found.result told.2 c.if-found-eq1.false c.if-found-eq0.false ∙ ap held same)),
+    )
 
 pub returns-else-found-eq0-clause-kept : goal.returns-else-found-eq0-clause-kept
 returns-else-found-eq0-clause-kept g c = (else_missed g c).kept
