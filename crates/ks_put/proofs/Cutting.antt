@@ -1,7 +1,6 @@
 -- Where a node that is held is cut.
-use Rattle.std.proofs.Common.{◌≡◌, ℕ, ◌<◌, ◌≤◌, true, List, sym, refl, ap, ◌∙◌, subst, arith}
+use Rattle.std.proofs.Common.{◌≡◌, ℕ, true, List, sym, refl, arith}
 use Rattle.std.specs.Prelude.{Option, Some, None}
-use Rattle.ks_keysets.specs.declared.Frame.{Frame}
 use Rattle.ks_keysets.specs.declared.NodeState.{NodeState}
 use Rattle.ks_keysets.specs.declared.Span.{Span}
 use Rattle.ks_keysets.specs.Keyset.{InInset}

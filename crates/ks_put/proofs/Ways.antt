@@ -1,20 +1,19 @@
 -- How a search that keeps the parent goes on its way.
-use Rattle.std.proofs.Common.{◌≡◌, ◌≢◌, ℕ, zero, suc, ◌<◌, ◌≤◌, ◌==◌, eq-eqb, Bool, true, List, [], ◌∷◌, ◌++◌, length, get_or, sym, refl, ap, ◌∙◌, subst, inl, inr, arith}
-use Rattle.std.specs.Prelude.{Option, Some, None}
+use Rattle.std.proofs.Common.{◌≡◌, ◌≢◌, ℕ, zero, suc, ◌<◌, ◌==◌, eq-eqb, true, List, [], ◌∷◌, ◌++◌, length, get_or, sym, refl, ap, ◌∙◌, subst, inl, inr, arith}
+use Rattle.std.specs.Prelude.{Some, None}
 use Rattle.ks_keysets.specs.declared.Edge.{Edge}
 use Rattle.ks_keysets.specs.declared.Record.{Record}
 use Rattle.ks_keysets.specs.Record.{LeadsTo}
-use Rattle.ks_keysets.specs.Keyset.{live_record, record_at, InInset, along}
+use Rattle.ks_keysets.specs.Keyset.{record_at, InInset, along}
 use Rattle.ks_history.specs.declared.Event.{Event}
 use Rattle.ks_history.specs.declared.Event.TheVariants.{Take, Give}
-use Rattle.ks_history.specs.declared.Op.{Op}
 use Rattle.ks_history.specs.Trace.{hand, drop_one, held, graph_after, turn_after}
-use Rattle.ks_history.specs.Passes.{Has, GrowsByOthers, GrowsWith}
-use Rattle.ks_history.specs.Stays.{StaysHeld, cond_here, cond_else}
+use Rattle.ks_history.specs.Passes.{Has, GrowsWith}
+use Rattle.ks_history.specs.Stays.{cond_here, cond_else}
 use Rattle.ks_history.specs.Hand.{AreOnce, is_hand}
-use Rattle.ks_history.specs.Begins.{by_others_hand, by_others_keeps, with_others}
-use Rattle.ks_history.specs.Done.{coupling, MayTake}
-use Rattle.ks_history.specs.Underway.{underway_with, may_take_later}
+use Rattle.ks_history.specs.Begins.{with_others}
+use Rattle.ks_history.specs.Done.{from_above}
+use Rattle.ks_history.specs.Underway.{may_take_later}
 use Rattle.ks_flow.specs.Tree.{edges_to}
 use Rattle.ks_flow.specs.Discipline.{BeginsTree, TreeStep}
 use Rattle.ks_node.specs.Body.{Body}
@@ -24,10 +23,10 @@ use Rattle.ks_arena.specs.Sound.{Sort, Sound}
 use Rattle.ks_arena.specs.Clauses.{Matches, HasTaken, StillMatchBut}
 use Rattle.ks_shape.specs.Single.{led_live, record_is}
 use Rattle.ks_shape.specs.OnWay.{IsOnWay}
-use Rattle.ks_put.specs.declared.path.Path.{Path}
-use Rattle.ks_put.specs.Moves.{Moves, underway_at}
-use Rattle.ks_put.specs.OnPath.{IsAbove, IsOnPath}
-use Rattle.ks_put.proofs.Quiet.{Laws, quiet_insets}
+use Rattle.ks_shape.specs.Stretches.{Stretches, stretches_give, stretches_take, stretches_root}
+use Rattle.ks_put.specs.OnPath.{IsOnPath}
+use Rattle.ks_put.specs.Laws.{Laws}
+use Rattle.ks_put.proofs.Quiet.{quiet_insets}
 
 -- an edge that leads to the node is among those that are counted
 positive : (es : List Edge) (k m : ℕ) (x : Edge) → k < length es → get_or es k x ≡ x → x.node ≡ m → 0 < edges_to es m
@@ -41,13 +40,6 @@ counted r p m to = positive r.edges to.0 m to.1 to.2 to.3 to.4.1
 pub last_of_two : (i j : ℕ) → i ≢ j → drop_one j (i ∷ j ∷ []) ≡ i ∷ []
 last_of_two i j ne = cond_else i j (j ∷ []) (i ∷ drop_one j (j ∷ [])) ne ∙ ap (λ (z : List ℕ). i ∷ z) (cond_here j j [] (j ∷ []) refl)
 
--- a give is one more step
-pub moves_give : (c i : ℕ) (h k : List Event) → length (hand c h) ≤ 3 → length (hand c k) ≤ 3 → GrowsWith c (Give c i) h k → Moves c h k
-moves_give c i h k few few' gave = λ op three. underway_with coupling c op (Give c i) h h k tt gave tt (omega (arith, few', three)) (underway_at coupling c op h (omega (arith, few, three)))
-
-pub moves_take : (c i : ℕ) (h k : List Event) → length (hand c h) ≤ 3 → length (hand c k) ≤ 3 → (grows : GrowsWith c (Take c i) h k) → MayTake coupling (grows.rest ++ h) c i → Moves c h k
-moves_take c i h k few few' grows may = λ op three. underway_with coupling c op (Take c i) h h k tt grows (λ same. may) (omega (arith, few', three)) (underway_at coupling c op h (omega (arith, few, three)))
-
 module _ {N : Type 0} (sort : Sort) (shows : N → Body) where
   -- the root is taken
   pub enters : (c p : ℕ) (s0 s1 : List Event) (x : Hand N) → hand c s0 ≡ [] → HasTaken sort shows c 0 s0 s1 x → InInset (graph_after s1) x.node p → IsOnPath sort shows c p s1 (record { parent = None; node = x })
@@ -56,24 +48,23 @@ module _ {N : Type 0} (sort : Sort) (shows : N → Body) where
     live = took.live;
     matches = took.matches;
     inside = inside;
-    under = took.node;
+    under = inl took.node;
   }
 
-  pub enters_moves : (c : ℕ) (s0 s1 : List Event) (x : Hand N) → hand c s0 ≡ [] → HasTaken sort shows c 0 s0 s1 x → Moves c s0 s1
-  enters_moves c s0 s1 x empty took = moves_take c 0 s0 s1 (omega (arith, ap length empty)) (omega (arith, ap length (took.hand ∙ ap (λ (z : List ℕ). 0 ∷ z) empty))) took.grows
-      (inl (by_others_hand c s0 (took.grows.rest ++ s0) (with_others c (Take c 0) s0 s1 took.grows) ∙ empty, refl))
+  pub enters_stretch : (c : ℕ) (s0 s1 : List Event) (x : Hand N) → hand c s0 ≡ [] → HasTaken sort shows c 0 s0 s1 x → Stretches c s0 s1
+  enters_stretch c s0 s1 x empty took = stretches_root c s0 s1 empty (omega (arith, ap length (took.hand ∙ ap (λ (z : List ℕ). 0 ∷ z) empty))) took.grows
 
-  -- the parent is given
+  -- the other node in hand is given
   module _ (n c p : ℕ) (laws : Laws sort n) (h k : List Event) (x y : Hand N) (sound : Sound sort BeginsTree TreeStep n h) (sound' : Sound sort BeginsTree TreeStep n k)
-      (path : IsOnPath sort shows c p h (record { parent = Some y; node = x })) (gave : GrowsWith c (Give c y.node) h k) (hands : hand c k ≡ drop_one y.node (hand c h)) where
+      (both : hand c h ≡ x.node ∷ y.node ∷ []) (is : (x.live ≡ true) × Matches sort shows h x) (inside : InInset (graph_after h) x.node p) (gave : GrowsWith c (Give c y.node) h k) (hands : hand c k ≡ drop_one y.node (hand c h)) where
     apart : x.node ≢ y.node
-    apart same = (subst AreOnce path.hands (is_hand h c (laws.turns h sound)).once).0 (inl (sym same))
+    apart same = (subst AreOnce both (is_hand h c (laws.turns h sound)).once).0 (inl (sym same))
 
     alone : hand c k ≡ x.node ∷ []
-    alone = hands ∙ ap (drop_one y.node) path.hands ∙ last_of_two x.node y.node apart
+    alone = hands ∙ ap (drop_one y.node) both ∙ last_of_two x.node y.node apart
 
     has : Has (hand c h) x.node
-    has = subst (λ (z : List ℕ). Has z x.node) (sym path.hands) (inl refl)
+    has = subst (λ (z : List ℕ). Has z x.node) (sym both) (inl refl)
 
     has' : Has (hand c k) x.node
     has' = subst (λ (z : List ℕ). Has z x.node) (sym alone) (inl refl)
@@ -81,13 +72,13 @@ module _ {N : Type 0} (sort : Sort) (shows : N → Body) where
     pub goes_alone : StillMatchBut sort shows y.node (hand c h) h k → IsOnWay sort shows c p k x
     goes_alone still = record {
       alone = alone;
-      live = path.live;
-      matches = still x apart has path.matches;
-      inside = quiet_insets sort n c laws (Give c y.node) h k tt gave sound' x.node p ((is_hand h c (laws.turns h sound)).held x.node has) ((is_hand k c (laws.turns k sound')).held x.node has') path.inside;
+      live = is.0;
+      matches = still x apart has is.1;
+      inside = quiet_insets sort n c laws (Give c y.node) h k tt gave sound' x.node p ((is_hand h c (laws.turns h sound)).held x.node has) ((is_hand k c (laws.turns k sound')).held x.node has') inside;
     }
 
-    pub alone_moves : Moves c h k
-    alone_moves = moves_give c y.node h k (omega (arith, ap length path.hands)) (omega (arith, ap length alone)) gave
+    pub alone_stretch : Stretches c h k
+    alone_stretch = stretches_give c y.node h k (omega (arith, ap length both)) gave
 
   -- the child is taken
   module _ (n c p i : ℕ) (laws : Laws sort n) (h k : List Event) (x y : Hand N) (sound : Sound sort BeginsTree TreeStep n h) (sound' : Sound sort BeginsTree TreeStep n k)
@@ -119,7 +110,7 @@ module _ {N : Type 0} (sort : Sort) (shows : N → Body) where
       under = record { live = way.live; matches = still; leads = subst (λ (z : ℕ). LeadsTo (record_of (shows x.body)) p z) (sym took.node) to };
     }
 
-    pub down_moves : Moves c h k
-    down_moves = let before : List Event = took.grows.rest ++ h in let all = subst (Sound sort BeginsTree TreeStep n) took.grows.is sound' in
-        moves_take c i h k (omega (arith, ap length way.alone)) (omega (arith, ap length both)) took.grows
-        (may_take_later coupling c i h before (with_others c (Take c i) h k took.grows) (laws.turns before all.0) (inr record { above = x.node; node = record_of (shows x.body); holds = mine; is = is; leads = (to.0, to.1, to.2, to.3, to.4.1) }))
+    pub down_stretch : Stretches c h k
+    down_stretch = let before : List Event = took.grows.rest ++ h in let all = subst (Sound sort BeginsTree TreeStep n) took.grows.is sound' in
+        stretches_take c i h k (omega (arith, ap length way.alone)) (omega (arith, ap length both)) took.grows
+        (λ template op. may_take_later template c i op h before (with_others c (Take c i) h k took.grows) (laws.turns before all.0) (from_above record { above = x.node; node = record_of (shows x.body); holds = mine; is = is; leads = (to.0, to.1, to.2, to.3, to.4.1) }))

@@ -1,7 +1,4 @@
-pub mod Moves
-pub mod Refused
+pub mod Laws
 pub mod OnPath
-pub mod Claims
 pub mod Parts
-pub mod Calls
-pub mod Joined
+pub mod Room

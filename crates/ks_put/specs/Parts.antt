@@ -6,6 +6,7 @@ use Rattle.ks_node.specs.Room.{is_full}
 use Rattle.ks_keysets.specs.Record.{LeadsTo}
 use Rattle.ks_keysets.specs.Keyset.{InInset}
 use Rattle.ks_history.specs.declared.Event.{Event}
+use Rattle.ks_history.specs.Due.{NoneFree}
 use Rattle.ks_history.specs.Trace.{graph_after}
 use Rattle.ks_node.specs.Body.{Body}
 use Rattle.ks_node.specs.Edges.{record_of}
@@ -14,7 +15,6 @@ use Rattle.ks_arena.specs.Sound.{Sort}
 use Rattle.ks_put.specs.declared.path.Path.{Path}
 use Rattle.ks_put.specs.declared.halves.Part.{Part}
 use Rattle.ks_put.specs.declared.halves.Part.TheVariants.{Split, Refused, Shut}
-use Rattle.ks_put.specs.Refused.{WasRefused}
 use Rattle.ks_put.specs.OnPath.{IsOnPath}
 
 -- there was no way to split the node
@@ -24,18 +24,18 @@ IsShut (Refused x) = ⊥
 IsShut (Shut x) = Unit {0}
 
 -- the parent, if there is one, is not full
-abbrev pub HasRoom : {N : Type 0} → Layout → (N → Body) → Option (Hand N) → Type 0
-HasRoom layout shows None = Unit {0}
-HasRoom layout shows (Some y) = is_full layout (shows y.body) ≡ false
+abbrev pub HasRoomAbove : {N : Type 0} → Layout → (N → Body) → Option (Hand N) → Type 0
+HasRoomAbove layout shows None = Unit {0}
+HasRoomAbove layout shows (Some y) = is_full layout (shows y.body) ≡ false
 
 module _ {N : Type 0} (sort : Sort) (shows : N → Body) where
   -- the place is in the inset of the node, and the other node leads to it
   abbrev pub IsPart : ℕ → List Event → Hand N → Hand N → Type 0
   IsPart place h above x = LeadsTo (record_of (shows above.body)) place x.node × InInset (graph_after h) x.node place
 
-  -- what a try to split the node of a path tells: the path to the half that holds the place; or the path, since a claim
-  -- was refused, or since there is no way to split it
+  -- what a try to split the node of a path tells: the path to the half that holds the place; or the path, since no node
+  -- was free, or since there is no way to split it
   abbrev pub DidPart : ℕ → ℕ → ℕ → List Event → List Event → Path N → Part N → Type 0
   DidPart n c place h k path (Split x) = IsOnPath sort shows c place k x
-  DidPart n c place h k path (Refused x) = (x ≡ path) × IsOnPath sort shows c place k x × WasRefused sort.layout n c h k
+  DidPart n c place h k path (Refused x) = (x ≡ path) × IsOnPath sort shows c place k x × NoneFree sort.layout n c place h k
   DidPart n c place h k path (Shut x) = (x ≡ path) × IsOnPath sort shows c place k x

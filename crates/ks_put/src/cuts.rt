@@ -11,7 +11,7 @@ ghost use Rattle.ks_arena.specs.Sound.{sort_of};
 ghost use Rattle.ks_arena.specs.Clauses.{IsPass, Matches, seen_of};
 ghost use Rattle.ks_put.specs.OnPath.{IsAbove};
 
-use ks_arena::laws::sound_law;
+use crate::laws::search_law;
 use ks_arena::{Arena, Held, Pass};
 use ks_bodies::{tree_asks_law, tree_spans_law};
 use ks_flow::Tree;
@@ -19,7 +19,11 @@ use ks_keysets::Span;
 use ks_node::{Unlinked, node_law, unlinked_law};
 
 /// The cut of a full root. A root that is no branch grows, or can adopt it, if no node of the type grows in place.
-pub fn cut_of_root<N: Unlinked>(arena: &Arena<N, Tree>, pass: &Pass<N, Tree>, root: &Held<N>) -> u64
+pub(crate) fn cut_of_root<N: Unlinked>(
+    arena: &Arena<N, Tree>,
+    pass: &Pass<N, Tree>,
+    root: &Held<N>,
+) -> u64
     requires pass { IsPass (sort_of N.layout N.ranged) BeginsTree TreeStep arena.now.table.shared.table_id arena.now.callers pass.now }
     requires root { root.now.node ≡ 0 }
     requires node { (root.now.live ≡ true) × Matches (sort_of N.layout N.ranged) N.body (seen_of pass.now) root.now }
@@ -29,7 +33,7 @@ pub fn cut_of_root<N: Unlinked>(arena: &Arena<N, Tree>, pass: &Pass<N, Tree>, ro
     ensures open { N.in_place ≡ false → is_branch (N.body root.now.body) ≡ false → IsTrue (N.grows_at (content_of (N.body root.now.body))) ⊎ IsTrue (N.can_adopt_at (content_of (N.body root.now.body)) result) }
     ensures adopts { is_branch (N.body root.now.body) ≡ false → IsTrue (N.can_adopt_at (content_of (N.body root.now.body)) result) → IsTrue (N.can_adopt_at (content_of (split_left result (N.body root.now.body))) result) }
 {
-    sound_law::<Tree>();
+    search_law();
     tree_spans_law();
     unlinked_law::<N>();
     node_law(&root.body);
@@ -42,7 +46,7 @@ pub fn cut_of_root<N: Unlinked>(arena: &Arena<N, Tree>, pass: &Pass<N, Tree>, ro
 
 /// The cut of a full node below its parent, which leads to it at the place. If the node is no branch and no node of the
 /// type grows in place, the node can adopt it, or the parent, a branch, can, unless the parent is full.
-pub fn cut_below<N: Unlinked>(
+pub(crate) fn cut_below<N: Unlinked>(
     arena: &Arena<N, Tree>,
     pass: &Pass<N, Tree>,
     place: u64,
@@ -58,7 +62,7 @@ pub fn cut_below<N: Unlinked>(
         IsTrue (N.can_adopt_at (content_of (N.body node.now.body)) result) ⊎ (IsTrue (is_branch (N.body parent.now.body)) × IsTrue (N.can_adopt_at (content_of (N.body parent.now.body)) result)) }
     ensures adopts { is_branch (N.body node.now.body) ≡ false → IsTrue (N.can_adopt_at (content_of (N.body node.now.body)) result) → IsTrue (N.can_adopt_at (content_of (split_left result (N.body node.now.body))) result) }
 {
-    sound_law::<Tree>();
+    search_law();
     tree_asks_law();
     tree_spans_law();
     unlinked_law::<N>();

@@ -1,13 +1,16 @@
-//! What puts add up to. The function computes nothing: its contract is a law.
-ghost use Rattle.std.specs.Prelude.{ℕ, List};
-ghost use Rattle.ks_keysets.specs.Layout.{Layout};
-ghost use Rattle.ks_history.specs.declared.Event.{Event as Happening};
-ghost use Rattle.ks_history.specs.declared.Op.TheVariants.{Put};
-ghost use Rattle.ks_history.specs.declared.Reply.{Reply as Answer};
-ghost use Rattle.ks_history.specs.Done.{Done, coupling, give_up};
-ghost use Rattle.ks_history.specs.Underway.{Underway};
+//! What sound traces tell of a search. The function computes nothing: its contract is a law.
+ghost use Rattle.std.specs.Prelude.{ℕ};
+ghost use Rattle.ks_arena.specs.Sound.{Sort};
+ghost use Rattle.ks_put.specs.Laws.{Laws};
 
-/// A call by giving up that is under way and then puts by lock coupling is one call by giving up, and done.
-pub fn put_after_law()
-    ensures { (layout : Layout) (nodes c place value : ℕ) (start seen h : List Happening) (reply : Answer) (number : ℕ) → Underway give_up c (Put place value) start seen → Done layout coupling nodes c (Put place value) seen h reply number → Done layout give_up nodes c (Put place value) start h reply number }
-{}
+use ks_flow::laws::walks_law;
+use ks_flow::{Discipline, Tree};
+
+/// A sound trace has its turns in order, a good graph and the facts of trees; and what a caller holds keeps its inset while
+/// others act.
+pub(crate) fn search_law()
+    ensures { (sort : Sort) (slots : ℕ) → Laws sort slots }
+{
+    Tree::laws();
+    walks_law();
+}

@@ -1,16 +1,19 @@
 //! A search that keeps the parent of its node.
-ghost use Rattle.std.specs.Prelude.{◌≡◌, []};
+ghost use Rattle.std.specs.Prelude.{◌≡◌, ◌∷◌, [], true};
+ghost use Rattle.std.specs.Option.{ForSome};
 ghost use Rattle.ks_flow.specs.Discipline.{BeginsTree, TreeStep};
+ghost use Rattle.ks_keysets.specs.Keyset.{InInset};
 ghost use Rattle.ks_history.specs.Trace.{graph_after};
 ghost use Rattle.ks_node.specs.declared.start.Next.TheVariants.{Go};
 ghost use Rattle.ks_node.specs.Body.{next_at};
 ghost use Rattle.ks_arena.specs.Sound.{sort_of};
-ghost use Rattle.ks_arena.specs.Clauses.{IsPass, hand_of, seen_of};
+ghost use Rattle.ks_arena.specs.Clauses.{IsPass, Matches, hand_of, seen_of};
 ghost use Rattle.ks_shape.specs.OnWay.{IsOnWay};
-ghost use Rattle.ks_put.specs.Moves.{Moves};
-ghost use Rattle.ks_put.specs.OnPath.{IsOnPath};
+ghost use Rattle.ks_shape.specs.Stretches.{Stretches};
+ghost use Rattle.ks_put.specs.OnPath.{IsOnPath, numbers};
 
-use ks_arena::laws::{root_stays_law, sound_law, target_law};
+use crate::laws::search_law;
+use ks_arena::laws::{root_stays_law, target_law};
 use ks_arena::{Arena, Held, Pass, root_law};
 use ks_flow::Tree;
 use ks_flow::laws::tree_facts_law;
@@ -18,14 +21,15 @@ use ks_gate::{Gate, Point};
 use ks_node::{Unlinked, node_law};
 use std::sync::Wait;
 
-/// The node at which a search stands, and the one that leads to it; the root alone has none.
-pub struct Path<N> {
+/// The node at which a search stands, and the one that leads to it. The root has none, and a node that is not full needs
+/// none.
+pub(crate) struct Path<N> {
     pub parent: Option<Held<N>>,
     pub node: Held<N>,
 }
 
 /// Takes the root. It does not tell the gate that a call begins.
-pub fn enter<N: Unlinked, R: Wait, G: Gate>(
+pub(crate) fn enter<N: Unlinked, R: Wait, G: Gate>(
     rt: &R,
     arena: &Arena<N, Tree>,
     pass: &mut Pass<N, Tree>,
@@ -36,7 +40,7 @@ pub fn enter<N: Unlinked, R: Wait, G: Gate>(
     ensures pass { IsPass (sort_of N.layout N.ranged) BeginsTree TreeStep arena.now.table.shared.table_id arena.now.callers pass.new }
     ensures caller { pass.new.caller ≡ pass.old.caller }
     ensures path { IsOnPath (sort_of N.layout N.ranged) N.body pass.old.caller place (seen_of pass.new) result }
-    ensures moves { Moves pass.old.caller (seen_of pass.old) (seen_of pass.new) }
+    ensures stretch { Stretches pass.old.caller (seen_of pass.old) (seen_of pass.new) }
 {
     root_stays_law::<Tree>();
     let Some(root) = arena.take(rt, pass, 0) else {
@@ -50,8 +54,37 @@ pub fn enter<N: Unlinked, R: Wait, G: Gate>(
     }
 }
 
+/// Gives the other node in hand, if there is one, and keeps the node.
+pub(crate) fn keep_alone<N: Unlinked, G: Gate>(
+    arena: &Arena<N, Tree>,
+    pass: &mut Pass<N, Tree>,
+    gate: &G,
+    place: u64,
+    other: Option<Held<N>>,
+    node: Held<N>,
+) -> Held<N>
+    requires pass { IsPass (sort_of N.layout N.ranged) BeginsTree TreeStep arena.now.table.shared.table_id arena.now.callers pass.old }
+    requires hands { hand_of pass.old ≡ node.node ∷ numbers other }
+    requires other { ForSome other (λ y. Matches (sort_of N.layout N.ranged) N.body (seen_of pass.old) y) }
+    requires node { (node.live ≡ true) × Matches (sort_of N.layout N.ranged) N.body (seen_of pass.old) node }
+    requires inside { InInset (graph_after (seen_of pass.old)) node.node place }
+    ensures pass { IsPass (sort_of N.layout N.ranged) BeginsTree TreeStep arena.now.table.shared.table_id arena.now.callers pass.new }
+    ensures caller { pass.new.caller ≡ pass.old.caller }
+    ensures node { result ≡ node }
+    ensures way { IsOnWay (sort_of N.layout N.ranged) N.body pass.old.caller place (seen_of pass.new) result }
+    ensures stretch { Stretches pass.old.caller (seen_of pass.old) (seen_of pass.new) }
+{
+    search_law();
+    if let Some(other) = other {
+        let number = other.node;
+        arena.give(pass, other);
+        gate.at(pass.caller(), Point::Given(number));
+    }
+    node
+}
+
 /// Gives the parent, and keeps the node.
-pub fn let_go<N: Unlinked, G: Gate>(
+pub(crate) fn let_go<N: Unlinked, G: Gate>(
     arena: &Arena<N, Tree>,
     pass: &mut Pass<N, Tree>,
     gate: &G,
@@ -64,20 +97,36 @@ pub fn let_go<N: Unlinked, G: Gate>(
     ensures caller { pass.new.caller ≡ pass.old.caller }
     ensures node { result ≡ path.node }
     ensures way { IsOnWay (sort_of N.layout N.ranged) N.body pass.old.caller place (seen_of pass.new) result }
-    ensures moves { Moves pass.old.caller (seen_of pass.old) (seen_of pass.new) }
+    ensures stretch { Stretches pass.old.caller (seen_of pass.old) (seen_of pass.new) }
 {
-    sound_law::<Tree>();
     let Path { parent, node } = path;
-    if let Some(parent) = parent {
-        let number = parent.node;
-        arena.give(pass, parent);
-        gate.at(pass.caller(), Point::Given(number));
+    keep_alone(arena, pass, gate, place, parent, node)
+}
+
+/// Gives the parent of a node that is not full: it has no need of it.
+pub(crate) fn settle<N: Unlinked, G: Gate>(
+    arena: &Arena<N, Tree>,
+    pass: &mut Pass<N, Tree>,
+    gate: &G,
+    place: u64,
+    path: Path<N>,
+) -> Path<N>
+    requires pass { IsPass (sort_of N.layout N.ranged) BeginsTree TreeStep arena.now.table.shared.table_id arena.now.callers pass.old }
+    requires path { IsOnPath (sort_of N.layout N.ranged) N.body pass.old.caller place (seen_of pass.old) path }
+    ensures pass { IsPass (sort_of N.layout N.ranged) BeginsTree TreeStep arena.now.table.shared.table_id arena.now.callers pass.new }
+    ensures caller { pass.new.caller ≡ pass.old.caller }
+    ensures path { IsOnPath (sort_of N.layout N.ranged) N.body pass.old.caller place (seen_of pass.new) result }
+    ensures stretch { Stretches pass.old.caller (seen_of pass.old) (seen_of pass.new) }
+{
+    if path.node.body.is_full() {
+        return path;
     }
-    node
+    let node = let_go(arena, pass, gate, place, path);
+    Path { parent: None, node }
 }
 
 /// Takes the child to which the search goes on; the node becomes its parent.
-pub fn step_down<N: Unlinked, R: Wait, G: Gate>(
+pub(crate) fn step_down<N: Unlinked, R: Wait, G: Gate>(
     rt: &R,
     arena: &Arena<N, Tree>,
     pass: &mut Pass<N, Tree>,
@@ -92,9 +141,9 @@ pub fn step_down<N: Unlinked, R: Wait, G: Gate>(
     ensures pass { IsPass (sort_of N.layout N.ranged) BeginsTree TreeStep arena.now.table.shared.table_id arena.now.callers pass.new }
     ensures caller { pass.new.caller ≡ pass.old.caller }
     ensures path { IsOnPath (sort_of N.layout N.ranged) N.body pass.old.caller place (seen_of pass.new) result }
-    ensures moves { Moves pass.old.caller (seen_of pass.old) (seen_of pass.new) }
+    ensures stretch { Stretches pass.old.caller (seen_of pass.old) (seen_of pass.new) }
 {
-    sound_law::<Tree>();
+    search_law();
     target_law::<Tree>();
     tree_facts_law();
     node_law(&held.body);

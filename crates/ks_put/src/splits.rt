@@ -9,24 +9,22 @@ ghost use Rattle.ks_node.specs.Effect.{split_left};
 ghost use Rattle.ks_node.specs.Asks.{CanSplitAt};
 ghost use Rattle.ks_arena.specs.Sound.{sort_of};
 ghost use Rattle.ks_arena.specs.Clauses.{IsPass, hand_of, seen_of};
-ghost use Rattle.ks_put.specs.Moves.{Moves};
+ghost use Rattle.ks_shape.specs.Stretches.{Stretches};
 ghost use Rattle.ks_put.specs.OnPath.{IsOnPath};
-ghost use Rattle.ks_put.specs.Parts.{DidPart, HasRoom, IsShut};
+ghost use Rattle.ks_put.specs.Parts.{DidPart, HasRoomAbove, IsShut};
 
-use crate::claims::{claim_one, claim_two};
 use crate::cuts::{cut_below, cut_of_root};
-use crate::halves::{Part, keep_half, keep_left, keep_right};
-use crate::path::Path;
-use ks_arena::laws::sound_law;
+use crate::halves::{Part, keep_half, keep_left, keep_right, keep_right_alone};
+use crate::laws::search_law;
+use crate::path::{Path, settle};
 use ks_arena::{Arena, Held, Pass};
 use ks_flow::Tree;
-use ks_flow::laws::tree_facts_law;
 use ks_gate::Gate;
 use ks_node::{Unlinked, node_law, unlinked_law};
-use ks_shape::{grow, split_own, split_under};
+use ks_shape::{claim_one, claim_two, grow, split_own, split_under};
 
 /// Lets the full root grow by two nodes.
-pub fn grow_root<N: Unlinked, G: Gate>(
+pub(crate) fn grow_root<N: Unlinked, G: Gate>(
     arena: &Arena<N, Tree>,
     pass: &mut Pass<N, Tree>,
     gate: &G,
@@ -43,13 +41,13 @@ pub fn grow_root<N: Unlinked, G: Gate>(
     ensures caller { pass.new.caller ≡ pass.old.caller }
     ensures part { DidPart (sort_of N.layout N.ranged) N.body arena.now.nodes pass.old.caller place (seen_of pass.old) (seen_of pass.new) (record { parent = None; node = root }) result }
     ensures tried { IsShut result → ⊥ }
-    ensures moves { Moves pass.old.caller (seen_of pass.old) (seen_of pass.new) }
+    ensures stretch { Stretches pass.old.caller (seen_of pass.old) (seen_of pass.new) }
 {
-    sound_law::<Tree>();
+    search_law();
     unlinked_law::<N>();
     node_law(&root.body);
     let mut root = root;
-    let Some((mut left, mut right)) = claim_two(arena, pass, gate, &root) else {
+    let Some((mut left, mut right)) = claim_two(arena, pass, gate) else {
         return Part::Refused(Path {
             parent: None,
             node: root,
@@ -60,7 +58,7 @@ pub fn grow_root<N: Unlinked, G: Gate>(
 }
 
 /// Splits the full node under its parent, which adopts the cut.
-pub fn split_below<N: Unlinked, G: Gate>(
+pub(crate) fn split_below<N: Unlinked, G: Gate>(
     arena: &Arena<N, Tree>,
     pass: &mut Pass<N, Tree>,
     gate: &G,
@@ -79,9 +77,9 @@ pub fn split_below<N: Unlinked, G: Gate>(
     ensures caller { pass.new.caller ≡ pass.old.caller }
     ensures part { DidPart (sort_of N.layout N.ranged) N.body arena.now.nodes pass.old.caller place (seen_of pass.old) (seen_of pass.new) (record { parent = Some parent; node = node }) result }
     ensures tried { IsShut result → ⊥ }
-    ensures moves { Moves pass.old.caller (seen_of pass.old) (seen_of pass.new) }
+    ensures stretch { Stretches pass.old.caller (seen_of pass.old) (seen_of pass.new) }
 {
-    sound_law::<Tree>();
+    search_law();
     let mut parent = parent;
     let mut node = node;
     let Some(mut right) = claim_one(arena, pass, gate) else {
@@ -95,7 +93,7 @@ pub fn split_below<N: Unlinked, G: Gate>(
 }
 
 /// Splits the full node, which leads to its right half itself.
-pub fn split_alone<N: Unlinked, G: Gate>(
+pub(crate) fn split_alone<N: Unlinked, G: Gate>(
     arena: &Arena<N, Tree>,
     pass: &mut Pass<N, Tree>,
     gate: &G,
@@ -112,9 +110,9 @@ pub fn split_alone<N: Unlinked, G: Gate>(
     ensures caller { pass.new.caller ≡ pass.old.caller }
     ensures part { DidPart (sort_of N.layout N.ranged) N.body arena.now.nodes pass.old.caller place (seen_of pass.old) (seen_of pass.new) path result }
     ensures tried { IsShut result → ⊥ }
-    ensures moves { Moves pass.old.caller (seen_of pass.old) (seen_of pass.new) }
+    ensures stretch { Stretches pass.old.caller (seen_of pass.old) (seen_of pass.new) }
 {
-    sound_law::<Tree>();
+    search_law();
     let Some(mut right) = claim_one(arena, pass, gate) else {
         return Part::Refused(path);
     };
@@ -122,15 +120,17 @@ pub fn split_alone<N: Unlinked, G: Gate>(
     split_own(arena, pass, &mut node, &mut right, cut);
     let path = Path { parent, node };
     if place < cut {
-        Part::Split(keep_left(arena, pass, gate, place, path, right))
-    } else {
-        Part::Split(keep_right(arena, pass, gate, place, path, right))
+        return Part::Split(keep_left(arena, pass, gate, place, path, right));
     }
+    if right.body.is_full() {
+        return Part::Split(keep_right(arena, pass, gate, place, path, right));
+    }
+    Part::Split(keep_right_alone(arena, pass, gate, place, path, right))
 }
 
 /// Splits the full root: it grows, or leads to its right half itself. One of the two can be, if it is no branch and no node
 /// of the type grows in place.
-pub fn split_root<N: Unlinked, G: Gate>(
+pub(crate) fn split_root<N: Unlinked, G: Gate>(
     arena: &Arena<N, Tree>,
     pass: &mut Pass<N, Tree>,
     gate: &G,
@@ -144,7 +144,7 @@ pub fn split_root<N: Unlinked, G: Gate>(
     ensures caller { pass.new.caller ≡ pass.old.caller }
     ensures part { DidPart (sort_of N.layout N.ranged) N.body arena.now.nodes pass.old.caller place (seen_of pass.old) (seen_of pass.new) (record { parent = None; node = root }) result }
     ensures open { N.in_place ≡ false → is_branch (N.body root.body) ≡ false → IsShut result → ⊥ }
-    ensures moves { Moves pass.old.caller (seen_of pass.old) (seen_of pass.new) }
+    ensures stretch { Stretches pass.old.caller (seen_of pass.old) (seen_of pass.new) }
 {
     let cut = cut_of_root(arena, pass, &root);
     if root.body.grows() {
@@ -165,7 +165,7 @@ pub fn split_root<N: Unlinked, G: Gate>(
 
 /// Splits the full node under its parent, or by itself. One of the two can be, if it is no branch, its parent is not full
 /// and no node of the type grows in place.
-pub fn split_child<N: Unlinked, G: Gate>(
+pub(crate) fn split_child<N: Unlinked, G: Gate>(
     arena: &Arena<N, Tree>,
     pass: &mut Pass<N, Tree>,
     gate: &G,
@@ -180,7 +180,7 @@ pub fn split_child<N: Unlinked, G: Gate>(
     ensures caller { pass.new.caller ≡ pass.old.caller }
     ensures part { DidPart (sort_of N.layout N.ranged) N.body arena.now.nodes pass.old.caller place (seen_of pass.old) (seen_of pass.new) (record { parent = Some parent; node = node }) result }
     ensures open { N.in_place ≡ false → is_branch (N.body node.body) ≡ false → is_full N.layout (N.body parent.body) ≡ false → IsShut result → ⊥ }
-    ensures moves { Moves pass.old.caller (seen_of pass.old) (seen_of pass.new) }
+    ensures stretch { Stretches pass.old.caller (seen_of pass.old) (seen_of pass.new) }
 {
     let cut = cut_below(arena, pass, place, &parent, &node);
     if parent.body.is_branch() && parent.body.can_adopt(cut) {
@@ -199,8 +199,8 @@ pub fn split_child<N: Unlinked, G: Gate>(
     split_alone(arena, pass, gate, place, cut, path)
 }
 
-/// Splits the full node of a path, if there is a way and a claim is not refused.
-pub fn split<N: Unlinked, G: Gate>(
+/// Splits the full node of a path, if there is a way and a claim is not refused, and gives the half that has not the place.
+fn split_whole<N: Unlinked, G: Gate>(
     arena: &Arena<N, Tree>,
     pass: &mut Pass<N, Tree>,
     gate: &G,
@@ -213,12 +213,37 @@ pub fn split<N: Unlinked, G: Gate>(
     ensures pass { IsPass (sort_of N.layout N.ranged) BeginsTree TreeStep arena.now.table.shared.table_id arena.now.callers pass.new }
     ensures caller { pass.new.caller ≡ pass.old.caller }
     ensures part { DidPart (sort_of N.layout N.ranged) N.body arena.now.nodes pass.old.caller place (seen_of pass.old) (seen_of pass.new) path result }
-    ensures open { N.in_place ≡ false → is_branch (N.body path.node.body) ≡ false → HasRoom N.layout N.body path.parent → IsShut result → ⊥ }
-    ensures moves { Moves pass.old.caller (seen_of pass.old) (seen_of pass.new) }
+    ensures open { N.in_place ≡ false → is_branch (N.body path.node.body) ≡ false → HasRoomAbove N.layout N.body path.parent → IsShut result → ⊥ }
+    ensures stretch { Stretches pass.old.caller (seen_of pass.old) (seen_of pass.new) }
 {
     let Path { parent, node } = path;
     match parent {
         None => split_root(arena, pass, gate, place, node),
         Some(parent) => split_child(arena, pass, gate, place, parent, node),
+    }
+}
+
+/// Splits the full node of a path, if there is a way and a claim is not refused. The half that has not the place is given,
+/// and the parent once the kept half is not full.
+pub(crate) fn split<N: Unlinked, G: Gate>(
+    arena: &Arena<N, Tree>,
+    pass: &mut Pass<N, Tree>,
+    gate: &G,
+    place: u64,
+    path: Path<N>,
+) -> Part<N>
+    requires pass { IsPass (sort_of N.layout N.ranged) BeginsTree TreeStep arena.now.table.shared.table_id arena.now.callers pass.old }
+    requires path { IsOnPath (sort_of N.layout N.ranged) N.body pass.old.caller place (seen_of pass.old) path }
+    requires full { IsTrue (is_full N.layout (N.body path.node.body)) }
+    ensures pass { IsPass (sort_of N.layout N.ranged) BeginsTree TreeStep arena.now.table.shared.table_id arena.now.callers pass.new }
+    ensures caller { pass.new.caller ≡ pass.old.caller }
+    ensures part { DidPart (sort_of N.layout N.ranged) N.body arena.now.nodes pass.old.caller place (seen_of pass.old) (seen_of pass.new) path result }
+    ensures open { N.in_place ≡ false → is_branch (N.body path.node.body) ≡ false → HasRoomAbove N.layout N.body path.parent → IsShut result → ⊥ }
+    ensures stretch { Stretches pass.old.caller (seen_of pass.old) (seen_of pass.new) }
+{
+    match split_whole(arena, pass, gate, place, path) {
+        Part::Split(half) => Part::Split(settle(arena, pass, gate, place, half)),
+        Part::Refused(whole) => Part::Refused(whole),
+        Part::Shut(whole) => Part::Shut(whole),
     }
 }

@@ -1,18 +1,15 @@
 use Rattle.std.proofs.Common.{◌≡◌, ◌<◌, ℕ, Bool, true, false, cond, length, refl, sym, ap, ◌∙◌, subst, inl, inr, ⊎_elim, arith}
 use Rattle.std.specs.Prelude.{Option, Some, None, IsTrue}
-use Rattle.ks_keysets.specs.declared.Frame.{Frame}
-use Rattle.ks_keysets.specs.declared.NodeState.{NodeState}
 use Rattle.ks_keysets.specs.declared.Span.{Span}
 use Rattle.ks_keysets.specs.Keyset.{InInset}
 use Rattle.ks_history.specs.Trace.{graph_after, frame_after}
-use Rattle.ks_history.specs.Begins.{good_now}
 use Rattle.ks_node.specs.Asks.{CanSplitAt, IsGoodCut}
 use Rattle.ks_node.specs.Body.{Body, content_of, is_branch}
-use Rattle.ks_node.specs.Edges.{record_of, edges_of}
+use Rattle.ks_node.specs.Edges.{edges_of}
 use Rattle.ks_node.specs.Spans.{length_edges}
 use Rattle.ks_bodies.specs.Shapes.{CanAdopt}
 use Rattle.ks_flow.specs.Tree.{IsInset}
-use Rattle.ks_bodies.specs.Stands.{IsPlain, Stands}
+use Rattle.ks_bodies.specs.Stands.{Stands}
 use Rattle.ks_arena.specs.Sound.{sort_of, blank_of}
 use Rattle.ks_arena.specs.Clauses.{seen_of}
 use Rattle.ks_put.proofs.Cutting.{stands_now, cut_inside, Whole, whole_of}
@@ -27,12 +24,12 @@ at_node : (g : Over) (c : After-cut g) → Stands (graph_after (seen_of c.args.p
 at_node g c = stands_now (sort_of g.N.Node.layout g.N.Node.ranged) g.N.Node.body (seen_of c.args.pass.now) c.args.node.now c.requires.node.0 c.requires.node.1 (record { sound = c.node_law-2.ensures.sound; framed = c.node_law-2.ensures.framed; no_link = c.unlinked_law.ensures.no_link c.args.node.now.body })
 
 whole : (g : Over) (c : After-cut g) (o : Option Span) → ((s : Span) → o ≡ Some s → IsInset (graph_after (seen_of c.args.pass.now)) c.args.node.now.node s.low s.last) → Whole (graph_after (seen_of c.args.pass.now)) c.args.node.now.node (g.N.Node.body c.args.node.now.body) o
-whole g c o at = let sort = sort_of g.N.Node.layout g.N.Node.ranged in let n : ℕ = c.args.arena.now.table.shared.table_id.slots in let h = seen_of c.args.pass.now in let sound = c.requires.pass.sound in let good = good_now (c.sound_law.ensures.good sort n h sound) in let facts = c.sound_law.ensures.facts sort n h sound in let b : Body = g.N.Node.body c.args.node.now.body in let i : ℕ = c.args.node.now.node in
+whole g c o at = let sort = sort_of g.N.Node.layout g.N.Node.ranged in let n : ℕ = c.args.arena.now.table.shared.table_id.slots in let h = seen_of c.args.pass.now in let sound = c.requires.pass.sound in let good = ((c.search_law.ensures sort n).good h sound) in let facts = (c.search_law.ensures sort n).facts h sound in let b : Body = g.N.Node.body c.args.node.now.body in let i : ℕ = c.args.node.now.node in
     whole_of (graph_after h) i b o (c.tree_spans_law.ensures.some (graph_after h) (frame_after (blank_of sort) h) i b good facts (at_node g c)) (λ s inset. c.tree_spans_law.ensures.suits (graph_after h) (frame_after (blank_of sort) h) i b s good facts (at_node g c) inset) at
 
 -- the span of the node that was handed in, or any
 span_is : (g : Over) (c : After-cut g) → Whole (graph_after (seen_of c.args.pass.now)) c.args.node.now.node (g.N.Node.body c.args.node.now.body) c.if-parent-eq0.span
-span_is g c = let sort = sort_of g.N.Node.layout g.N.Node.ranged in let n : ℕ = c.args.arena.now.table.shared.table_id.slots in let h = seen_of c.args.pass.now in let sound = c.requires.pass.sound in let good = good_now (c.sound_law.ensures.good sort n h sound) in let facts = c.sound_law.ensures.facts sort n h sound in let b : Body = g.N.Node.body c.args.node.now.body in let u : Body = g.N.Node.body c.args.parent.now.body in let i : ℕ = c.args.node.now.node in
+span_is g c = let sort = sort_of g.N.Node.layout g.N.Node.ranged in let n : ℕ = c.args.arena.now.table.shared.table_id.slots in let h = seen_of c.args.pass.now in let sound = c.requires.pass.sound in let good = ((c.search_law.ensures sort n).good h sound) in let facts = (c.search_law.ensures sort n).facts h sound in let b : Body = g.N.Node.body c.args.node.now.body in let u : Body = g.N.Node.body c.args.parent.now.body in let i : ℕ = c.args.node.now.node in
     elim c.if-parent-eq0.branch [
       | then-parent-eq0 w ↦ whole g c c.if-parent-eq0.span (λ s e. c.tree_spans_law.ensures.below (graph_after h) (frame_after (blank_of sort) h) i c.args.place s u b good facts (subst (λ (z : ℕ). Stands (graph_after h) (frame_after (blank_of sort) h) z u) w.if-parent-eq0.true (above g c)) (at_node g c) c.requires.above.leads (w.span_for-span.ensures.edge s (sym w.span-is ∙ e)))
       | else-parent-eq0 w ↦ whole g c c.if-parent-eq0.span (λ s e. absurd (let q : None ≡ Some s = sym w.span-is ∙ e in let z : ⊥ = cc in z))
@@ -57,7 +54,7 @@ branch_is true u e none same some = e
 branch_is false u e none same some = absurd (omega (arith, none e, same, some))
 
 pub returns-clause-open : goal.returns-clause-open
-returns-clause-open g c = λ no_place leaf room. let sort = sort_of g.N.Node.layout g.N.Node.ranged in let n : ℕ = c.args.arena.now.table.shared.table_id.slots in let h = seen_of c.args.pass.now in let sound = c.requires.pass.sound in let good = good_now (c.sound_law.ensures.good sort n h sound) in let facts = c.sound_law.ensures.facts sort n h sound in
+returns-clause-open g c = λ no_place leaf room. let sort = sort_of g.N.Node.layout g.N.Node.ranged in let n : ℕ = c.args.arena.now.table.shared.table_id.slots in let h = seen_of c.args.pass.now in let sound = c.requires.pass.sound in let good = ((c.search_law.ensures sort n).good h sound) in let facts = (c.search_law.ensures sort n).facts h sound in
     let b : Body = g.N.Node.body c.args.node.now.body in let u : Body = g.N.Node.body c.args.parent.now.body in let i : ℕ = c.args.node.now.node in let p : ℕ = c.args.parent.now.node in let same = is_cut g c in let w = span_is g c in let at = within g c in
     ⊎_elim
     (λ first. inl (subst (λ (z : ℕ). IsTrue (g.N.Node.can_adopt_at (content_of b) z)) (sym same) (first c.args.node.now.body w.span c.if-parent-eq0.span c.requires.full w.suits w.given (subst (IsGoodCut b w.span) same (good_cut g c)))))

@@ -1,15 +1,12 @@
 use Rattle.std.proofs.Common.{◌≡◌, ◌∙◌, ℕ, cond, Bool, refl, sym, ap, subst, inl, inr, ⊎_elim}
-use Rattle.std.specs.Prelude.{Option, Some, IsTrue}
-use Rattle.ks_keysets.specs.declared.Frame.{Frame}
-use Rattle.ks_keysets.specs.declared.NodeState.{NodeState}
+use Rattle.std.specs.Prelude.{Some, IsTrue}
 use Rattle.ks_keysets.specs.declared.Span.{Span}
 use Rattle.ks_keysets.specs.Keyset.{InInset}
 use Rattle.ks_history.specs.Trace.{graph_after, frame_after}
-use Rattle.ks_history.specs.Begins.{good_now}
-use Rattle.ks_node.specs.Body.{Body, Content, all_places, content_of}
+use Rattle.ks_node.specs.Body.{Body, all_places, content_of}
 use Rattle.ks_node.specs.Asks.{CanSplitAt, IsGoodCut, Suits}
 use Rattle.ks_flow.specs.Tree.{IsInset}
-use Rattle.ks_bodies.specs.Stands.{IsPlain, Stands}
+use Rattle.ks_bodies.specs.Stands.{Stands}
 use Rattle.ks_arena.specs.Sound.{sort_of, blank_of}
 use Rattle.ks_arena.specs.Clauses.{seen_of}
 use Rattle.ks_put.proofs.Cutting.{stands_now, cut_inside}
@@ -27,7 +24,7 @@ inset g c = let sort = sort_of g.N.Node.layout g.N.Node.ranged in let h = seen_o
 
 suits : (g : Over) (c : After-node_law g) → Suits (g.N.Node.body c.args.root.now.body) all_places
 suits g c = let sort = sort_of g.N.Node.layout g.N.Node.ranged in let n : ℕ = c.args.arena.now.table.shared.table_id.slots in let h = seen_of c.args.pass.now in let sound = c.requires.pass.sound in
-    c.tree_spans_law.ensures.suits (graph_after h) (frame_after (blank_of sort) h) 0 (g.N.Node.body c.args.root.now.body) all_places (good_now (c.sound_law.ensures.good sort n h sound)) (c.sound_law.ensures.facts sort n h sound) (at_root g c) (inset g c)
+    c.tree_spans_law.ensures.suits (graph_after h) (frame_after (blank_of sort) h) 0 (g.N.Node.body c.args.root.now.body) all_places (((c.search_law.ensures sort n).good h sound)) ((c.search_law.ensures sort n).facts h sound) (at_root g c) (inset g c)
 
 same_span : (s r : Span) → Some s ≡ Some r → r ≡ s
 same_span s r e = let q : s ≡ r = cc in sym q

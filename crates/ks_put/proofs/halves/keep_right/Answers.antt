@@ -1,34 +1,27 @@
-use Rattle.std.proofs.Common.{◌≡◌, ◌≢◌, ◌≤◌, ◌∙◌, ℕ, List, [], ◌∷◌, length, arith, refl, sym, ap, subst, inl, inr}
+use Rattle.std.proofs.Common.{◌≡◌, ◌≤◌, ◌∙◌, ℕ, List, [], ◌∷◌, length, arith, refl, sym, ap, subst, inl, inr}
 use Rattle.std.specs.Prelude.{Option, Some, None}
 use Rattle.ks_history.specs.Trace.{hand, drop_one}
 use Rattle.ks_history.specs.Passes.{Has}
-use Rattle.ks_history.specs.Stays.{lawful_in_turn}
-use Rattle.ks_history.specs.Begins.{good_now}
 use Rattle.ks_arena.specs.declared.held.Held.{Held as Hand}
 use Rattle.ks_arena.specs.Sound.{sort_of}
 use Rattle.ks_arena.specs.Clauses.{seen_of, hand_of}
-use Rattle.ks_put.specs.OnPath.{IsOnPath, numbers}
-use Rattle.ks_put.specs.Moves.{moves_none}
-use Rattle.ks_put.proofs.Quiet.{Laws}
-use Rattle.ks_put.proofs.Ways.{moves_give}
-use Rattle.ks_put.proofs.Keeping.{once, drop_first, drop_later, half_kept, path_kept}
+use Rattle.ks_put.specs.OnPath.{numbers}
+use Rattle.ks_shape.specs.Stretches.{stretches_give, stretches_here}
+use Rattle.ks_put.specs.Laws.{Laws}
+use Rattle.ks_put.proofs.Keeping.{once, drop_first, drop_later, half_kept}
 use Rattle.ks_put.proofs.halves.keep_right.Given.{Over}
 use Rattle.ks_put.proofs.halves.keep_right.Goals as goal
-use Rattle.ks_put.proofs.halves.keep_right.Goals.{After-sound_law}
+use Rattle.ks_put.proofs.halves.keep_right.Goals.{After-search_law}
 
-laws : (g : Over) (c : After-sound_law g) → Laws (sort_of g.N.Node.layout g.N.Node.ranged) c.args.arena.now.table.shared.table_id.slots
-laws g c = let sort = sort_of g.N.Node.layout g.N.Node.ranged in let n : ℕ = c.args.arena.now.table.shared.table_id.slots in let law = c.sound_law.ensures in record {
-  turns = λ h so. lawful_in_turn h (law.lawful sort n h so);
-  good = λ h so. good_now (law.good sort n h so);
-  beside = λ me j k h grows holds so. law.beside sort n me j k h grows holds so;
-}
+laws : (g : Over) (c : After-search_law g) → Laws (sort_of g.N.Node.layout g.N.Node.ranged) c.args.arena.now.table.shared.table_id.slots
+laws g c = c.search_law.ensures (sort_of g.N.Node.layout g.N.Node.ranged) c.args.arena.now.table.shared.table_id.slots
 
 few : {N : Type 0} (o : Option (Hand N)) (hs : List ℕ) (i j : ℕ) → hs ≡ i ∷ j ∷ numbers o → length hs ≤ 3
 few None hs i j is = omega (arith, ap length is)
 few (Some y) hs i j is = omega (arith, ap length is)
 
 pub returns-clause-path : goal.returns-clause-path
-returns-clause-path g c = let at = (goal.at.returns-clause-path g c).After-sound_law in let sort = sort_of g.N.Node.layout g.N.Node.ranged in let shows = g.N.Node.body in let n : ℕ = c.args.arena.now.table.shared.table_id.slots in let me : ℕ = c.args.pass.now.caller in let h = seen_of c.args.pass.now in let k = seen_of c.give.new.pass in let i : ℕ = c.in-Some.parent.node in let e = c.give.ensures in
+returns-clause-path g c = let at = (goal.at.returns-clause-path g c).After-search_law in let sort = sort_of g.N.Node.layout g.N.Node.ranged in let shows = g.N.Node.body in let n : ℕ = c.args.arena.now.table.shared.table_id.slots in let me : ℕ = c.args.pass.now.caller in let h = seen_of c.args.pass.now in let k = seen_of c.give.new.pass in let i : ℕ = c.in-Some.parent.node in let e = c.give.ensures in
     let gone : hand me k ≡ drop_one i (hand me h) = subst (λ (z : ℕ). hand z k ≡ drop_one i (hand me h)) e.caller e.hand in
     let r : ℕ = c.args.right.node in let x : ℕ = c.args.path.node.node in
     let three : hand me h ≡ r ∷ x ∷ i ∷ [] = subst (λ (o : Option (Hand g.row.N.Denot)). hand me h ≡ r ∷ x ∷ numbers o) c.in-Some.is c.requires.hands in
@@ -36,14 +29,14 @@ returns-clause-path g c = let at = (goal.at.returns-clause-path g c).After-sound
     let hands : hand me k ≡ r ∷ x ∷ [] = gone ∙ ap (drop_one i) three ∙ drop_later r i (x ∷ i ∷ []) (λ same. all.0 (inr (inl (sym same)))) ∙ ap (λ (z : List ℕ). r ∷ z) (drop_later x i (i ∷ []) (λ same. all.1.0 (inl (sym same))) ∙ ap (λ (z : List ℕ). x ∷ z) (drop_first i [])) in
     half_kept sort shows n me (laws g at) h k i c.requires.pass.sound e.pass.sound e.gave e.still c.args.place c.args.right c.args.path.node hands (subst (λ (z : List ℕ). Has z r) (sym three) (inl refl)) (subst (λ (z : List ℕ). Has z x) (sym three) (inr (inl refl))) (λ same. all.0 (inr (inl (sym same)))) (λ same. all.1.0 (inl (sym same))) c.requires.right c.requires.node c.requires.part
 
-pub returns-clause-moves : goal.returns-clause-moves
-returns-clause-moves g c = let at = (goal.at.returns-clause-moves g c).After-sound_law in let sort = sort_of g.N.Node.layout g.N.Node.ranged in let shows = g.N.Node.body in let n : ℕ = c.args.arena.now.table.shared.table_id.slots in let me : ℕ = c.args.pass.now.caller in let h = seen_of c.args.pass.now in let k = seen_of c.give.new.pass in let i : ℕ = c.in-Some.parent.node in let e = c.give.ensures in
+pub returns-clause-stretch : goal.returns-clause-stretch
+returns-clause-stretch g c = let at = (goal.at.returns-clause-stretch g c).After-search_law in let sort = sort_of g.N.Node.layout g.N.Node.ranged in let shows = g.N.Node.body in let n : ℕ = c.args.arena.now.table.shared.table_id.slots in let me : ℕ = c.args.pass.now.caller in let h = seen_of c.args.pass.now in let k = seen_of c.give.new.pass in let i : ℕ = c.in-Some.parent.node in let e = c.give.ensures in
     let gone : hand me k ≡ drop_one i (hand me h) = subst (λ (z : ℕ). hand z k ≡ drop_one i (hand me h)) e.caller e.hand in
     let r : ℕ = c.args.right.node in let x : ℕ = c.args.path.node.node in
     let three : hand me h ≡ r ∷ x ∷ i ∷ [] = subst (λ (o : Option (Hand g.row.N.Denot)). hand me h ≡ r ∷ x ∷ numbers o) c.in-Some.is c.requires.hands in
     let all = once sort shows n me (laws g at) h k i c.requires.pass.sound e.pass.sound e.gave e.still (r ∷ x ∷ i ∷ []) three in
     let hands : hand me k ≡ r ∷ x ∷ [] = gone ∙ ap (drop_one i) three ∙ drop_later r i (x ∷ i ∷ []) (λ same. all.0 (inr (inl (sym same)))) ∙ ap (λ (z : List ℕ). r ∷ z) (drop_later x i (i ∷ []) (λ same. all.1.0 (inl (sym same))) ∙ ap (λ (z : List ℕ). x ∷ z) (drop_first i [])) in
-    moves_give me i h k (omega (arith, ap length three)) (omega (arith, ap length hands)) e.gave
+    stretches_give me i h k (omega (arith, ap length three)) e.gave
 
 pub returns-in_default-clause-path : goal.returns-in_default-clause-path
 returns-in_default-clause-path g c = record {
@@ -54,5 +47,5 @@ returns-in_default-clause-path g c = record {
   under = record { live = c.requires.node.0; matches = c.requires.node.1; leads = c.requires.part.0 };
 }
 
-pub returns-in_default-clause-moves : goal.returns-in_default-clause-moves
-returns-in_default-clause-moves g c = moves_none c.args.pass.now.caller (seen_of c.args.pass.now) (few c.args.path.parent (hand_of c.args.pass.now) c.args.right.node c.args.path.node.node c.requires.hands)
+pub returns-in_default-clause-stretch : goal.returns-in_default-clause-stretch
+returns-in_default-clause-stretch g c = stretches_here c.args.pass.now.caller (seen_of c.args.pass.now) (few c.args.path.parent (hand_of c.args.pass.now) c.args.right.node c.args.path.node.node c.requires.hands)

@@ -1,8 +1,7 @@
-use Rattle.std.proofs.Common.{◌≡◌, ◌≢◌, ◌<◌, ℕ, List, arith, refl, sym, ap, subst, inl, ⊎_elim}
+use Rattle.std.proofs.Common.{◌≡◌, ◌≢◌, ◌<◌, ℕ, List, arith, refl, sym, subst, inl, ⊎_elim}
 use Rattle.ks_keysets.specs.declared.Record.{Record}
 use Rattle.ks_keysets.specs.Record.{LeadsTo}
-use Rattle.ks_history.specs.declared.Event.{Event}
-use Rattle.ks_history.specs.Trace.{hand, held, turn_after, graph_after, frame_after}
+use Rattle.ks_history.specs.Trace.{held, turn_after, graph_after, frame_after}
 use Rattle.ks_history.specs.Passes.{Has}
 use Rattle.ks_history.specs.Hand.{is_hand}
 use Rattle.ks_flow.specs.Discipline.{BeginsTree, TreeStep}
@@ -10,22 +9,16 @@ use Rattle.ks_node.specs.Edges.{record_of}
 use Rattle.ks_node.specs.Ways.{next_leads}
 use Rattle.ks_arena.specs.Sound.{blank_of}
 use Rattle.ks_shape.specs.Single.{is_near, led_live, record_is}
-use Rattle.ks_history.specs.Stays.{lawful_in_turn}
-use Rattle.ks_history.specs.Begins.{good_now}
 use Rattle.ks_arena.specs.Sound.{sort_of}
-use Rattle.ks_arena.specs.Clauses.{seen_of, hand_of}
-use Rattle.ks_put.proofs.Quiet.{Laws}
-use Rattle.ks_put.proofs.Ways.{counted, goes_down, down_moves}
+use Rattle.ks_arena.specs.Clauses.{seen_of}
+use Rattle.ks_put.specs.Laws.{Laws}
+use Rattle.ks_put.proofs.Ways.{counted, goes_down, down_stretch}
 use Rattle.ks_put.proofs.path.step_down.Given.{Over}
 use Rattle.ks_put.proofs.path.step_down.Goals as goal
 use Rattle.ks_put.proofs.path.step_down.Goals.{After-node_law}
 
 laws : (g : Over) (c : After-node_law g) → Laws (sort_of g.N.Node.layout g.N.Node.ranged) c.args.arena.now.table.shared.table_id.slots
-laws g c = let sort = sort_of g.N.Node.layout g.N.Node.ranged in let n : ℕ = c.args.arena.now.table.shared.table_id.slots in let law = c.sound_law.ensures in record {
-  turns = λ h so. lawful_in_turn h (law.lawful sort n h so);
-  good = λ h so. good_now (law.good sort n h so);
-  beside = λ me j k h grows holds so. law.beside sort n me j k h grows holds so;
-}
+laws g c = c.search_law.ensures (sort_of g.N.Node.layout g.N.Node.ranged) c.args.arena.now.table.shared.table_id.slots
 
 -- the edge to the child
 leads : (g : Over) (c : After-node_law g) → LeadsTo (record_of (g.N.Node.body c.args.held.body)) c.args.place c.args.child
@@ -37,7 +30,7 @@ mine g c = let way = c.requires.way in let p = c.args.pass.now in
 
 apart : (g : Over) (c : After-node_law g) → c.args.held.node ≢ c.args.child
 apart g c = λ same. let way = c.requires.way in let h = seen_of c.args.pass.now in let sort = sort_of g.N.Node.layout g.N.Node.ranged in let n : ℕ = c.args.arena.now.table.shared.table_id.slots in let sound = c.requires.pass.sound in let r : Record = record_of (g.N.Node.body c.args.held.body) in
-    c.tree_facts_law.ensures.apart (graph_after h) (frame_after (blank_of sort) h) c.args.held.node c.args.child r ((laws g c).good h sound) (c.sound_law.ensures.facts sort n h sound) (record_is sort g.N.Node.body h c.args.held way.live way.matches) (counted r c.args.place c.args.child (leads g c)) same
+    c.tree_facts_law.ensures.apart (graph_after h) (frame_after (blank_of sort) h) c.args.held.node c.args.child r ((laws g c).good h sound) ((c.search_law.ensures sort n).facts h sound) (record_is sort g.N.Node.body h c.args.held way.live way.matches) (counted r c.args.place c.args.child (leads g c)) same
 
 pub take-requires-clause-node : goal.take-requires-clause-node
 take-requires-clause-node g c κs within = let at = (goal.at.take-requires-clause-node g c).After-node_law in let way = c.requires.way in let h = seen_of c.args.pass.now in let sort = sort_of g.N.Node.layout g.N.Node.ranged in let n : ℕ = c.args.arena.now.table.shared.table_id.slots in let sound = c.requires.pass.sound in let r : Record = record_of (g.N.Node.body c.args.held.body) in
@@ -55,6 +48,6 @@ returns-clause-path g c = let at = (goal.at.returns-clause-path g c).After-node_
     goes_down (sort_of g.N.Node.layout g.N.Node.ranged) g.N.Node.body c.args.arena.now.table.shared.table_id.slots c.args.pass.now.caller c.args.place c.args.child (laws g at) (seen_of c.args.pass.now) (seen_of c.take.new.pass) c.args.held c.in-Some.below c.requires.pass.sound e.pass.sound way (leads g at) e.took
     (e.still c.args.held (subst (λ (z : List ℕ). Has z c.args.held.node) (sym way.alone) (inl refl)) way.matches)
 
-pub returns-clause-moves : goal.returns-clause-moves
-returns-clause-moves g c = let at = (goal.at.returns-clause-moves g c).After-node_law in let e = c.in-Some.ensures in let way = c.requires.way in
-    down_moves (sort_of g.N.Node.layout g.N.Node.ranged) g.N.Node.body c.args.arena.now.table.shared.table_id.slots c.args.pass.now.caller c.args.place c.args.child (laws g at) (seen_of c.args.pass.now) (seen_of c.take.new.pass) c.args.held c.in-Some.below c.requires.pass.sound e.pass.sound way (leads g at) e.took
+pub returns-clause-stretch : goal.returns-clause-stretch
+returns-clause-stretch g c = let at = (goal.at.returns-clause-stretch g c).After-node_law in let e = c.in-Some.ensures in let way = c.requires.way in
+    down_stretch (sort_of g.N.Node.layout g.N.Node.ranged) g.N.Node.body c.args.arena.now.table.shared.table_id.slots c.args.pass.now.caller c.args.place c.args.child (laws g at) (seen_of c.args.pass.now) (seen_of c.take.new.pass) c.args.held c.in-Some.below c.requires.pass.sound e.pass.sound way (leads g at) e.took

@@ -1,58 +1,48 @@
-use Rattle.std.proofs.Common.{◌≡◌, ◌≢◌, ◌≤◌, ◌<◌, ◌∙◌, ℕ, List, [], ◌∷◌, length, arith, refl, sym, ap, subst, inl, inr}
+use Rattle.std.proofs.Common.{◌≡◌, ◌≤◌, ◌∙◌, ℕ, List, ◌∷◌, length, arith, refl, sym, ap, subst, inl}
 use Rattle.std.specs.Prelude.{Option, Some, None}
 use Rattle.ks_keysets.specs.Record.{LeadsTo}
 use Rattle.ks_keysets.specs.Keyset.{InInset}
-use Rattle.ks_history.specs.Trace.{hand, held, graph_after, turn_after}
-use Rattle.ks_history.specs.Passes.{Has}
+use Rattle.ks_history.specs.Trace.{held, graph_after, turn_after}
 use Rattle.ks_history.specs.Hand.{AreOnce, is_hand}
-use Rattle.ks_history.specs.Stays.{lawful_in_turn}
-use Rattle.ks_history.specs.Begins.{good_now}
 use Rattle.ks_node.specs.Body.{Body}
 use Rattle.ks_node.specs.Edges.{record_of}
-use Rattle.ks_node.specs.Spans.{length_edges}
-use Rattle.ks_node.specs.Effect.{grown, adopted}
-use Rattle.ks_bodies.specs.Shapes.{split_on}
+use Rattle.ks_node.specs.Effect.{adopted}
 use Rattle.ks_arena.specs.declared.held.Held.{Held as Hand}
 use Rattle.ks_arena.specs.Sound.{sort_of}
-use Rattle.ks_arena.specs.Clauses.{seen_of, hand_of, Matches}
-use Rattle.ks_put.specs.declared.path.Path.{Path}
-use Rattle.ks_put.specs.OnPath.{IsUnder, IsOnPath, numbers}
-use Rattle.ks_put.specs.Moves.{Moves, moves_both}
+use Rattle.ks_arena.specs.Clauses.{seen_of}
+use Rattle.ks_put.specs.OnPath.{numbers}
+use Rattle.ks_shape.specs.Stretches.{stretches_as, stretches_both, stretches_shape}
 use Rattle.ks_put.specs.Parts.{IsPart}
-use Rattle.ks_put.proofs.Quiet.{Laws}
-use Rattle.ks_put.proofs.Keeping.{moves_as, moves_shape, path_turn, path_stays, path_live, parent_has, parent_apart, under_later, full_root}
+use Rattle.ks_put.specs.Laws.{Laws}
+use Rattle.ks_put.proofs.Keeping.{path_turn, path_stays, path_live}
 use Rattle.ks_put.proofs.splits.split_below.Given.{Over}
 use Rattle.ks_put.proofs.splits.split_below.Goals as goal
-use Rattle.ks_put.proofs.splits.split_below.Goals.{After-sound_law, After-claim_one, After-split_under}
+use Rattle.ks_put.proofs.splits.split_below.Goals.{After-search_law, After-claim_one, After-split_under}
 
-laws : (g : Over) (c : After-sound_law g) → Laws (sort_of g.N.Node.layout g.N.Node.ranged) c.args.arena.now.table.shared.table_id.slots
-laws g c = let sort = sort_of g.N.Node.layout g.N.Node.ranged in let n : ℕ = c.args.arena.now.table.shared.table_id.slots in let law = c.sound_law.ensures in record {
-  turns = λ h so. lawful_in_turn h (law.lawful sort n h so);
-  good = λ h so. good_now (law.good sort n h so);
-  beside = λ me j k h grows holds so. law.beside sort n me j k h grows holds so;
-}
+laws : (g : Over) (c : After-search_law g) → Laws (sort_of g.N.Node.layout g.N.Node.ranged) c.args.arena.now.table.shared.table_id.slots
+laws g c = c.search_law.ensures (sort_of g.N.Node.layout g.N.Node.ranged) c.args.arena.now.table.shared.table_id.slots
 
 -- c holds the node
-mine : (g : Over) (c : After-sound_law g) → turn_after (seen_of c.args.pass.now) c.args.node.node ≡ held c.args.pass.now.caller
+mine : (g : Over) (c : After-search_law g) → turn_after (seen_of c.args.pass.now) c.args.node.node ≡ held c.args.pass.now.caller
 mine g c = path_turn (sort_of g.N.Node.layout g.N.Node.ranged) g.N.Node.body c.args.arena.now.table.shared.table_id.slots c.args.pass.now.caller (laws g c) c.args.place (seen_of c.args.pass.now) (record { parent = Some c.args.parent; node = c.args.node }) c.requires.pass.sound c.requires.path
 
 -- what is in its inset stays there as nodes are claimed
 inset : (g : Over) (c : After-claim_one g) (p : ℕ) → InInset (graph_after (seen_of c.args.pass.now)) c.args.node.node p → turn_after (seen_of c.args.pass.now) c.args.node.node ≡ held c.args.pass.now.caller → InInset (graph_after (seen_of c.claim_one.new.pass)) c.args.node.node p
-inset g c p inside mine = c.claim_one.ensures.insets c.args.node.node p mine (c.claim_one.ensures.kept c.args.node.node mine).turn inside
+inset g c p inside mine = (c.claim_one.ensures.beside c.args.node.node mine (c.claim_one.ensures.kept c.args.node.node mine).turn).forth p inside
 
 few : {N : Type 0} (o : Option (Hand N)) (hs : List ℕ) (i : ℕ) → hs ≡ i ∷ numbers o → length hs ≤ 2
 few None hs i is = omega (arith, ap length is)
 few (Some y) hs i is = omega (arith, ap length is)
 
 pub returns-in_default-clause-part : goal.returns-in_default-clause-part
-returns-in_default-clause-part g c = let at = (goal.at.returns-in_default-clause-part g c).After-sound_law in let told = rw c.in_default.is at c.claim_one.ensures.claimed in let sort = sort_of g.N.Node.layout g.N.Node.ranged in let n : ℕ = c.args.arena.now.table.shared.table_id.slots in let me : ℕ = c.args.pass.now.caller in let h = seen_of c.args.pass.now in let k = seen_of c.claim_one.new.pass in
-    (refl, path_stays sort g.N.Node.body n me (laws g at) c.args.place h k (record { parent = Some c.args.parent; node = c.args.node }) c.requires.pass.sound told.0 c.claim_one.ensures.kept c.claim_one.ensures.insets c.claim_one.ensures.still c.requires.path, told.1 (inl (path_live sort g.N.Node.body n me (laws g at) c.args.place h (record { parent = Some c.args.parent; node = c.args.node }) c.requires.path)))
+returns-in_default-clause-part g c = let at = (goal.at.returns-in_default-clause-part g c).After-search_law in let told = rw c.in_default.is at c.claim_one.ensures.claimed in let sort = sort_of g.N.Node.layout g.N.Node.ranged in let n : ℕ = c.args.arena.now.table.shared.table_id.slots in let me : ℕ = c.args.pass.now.caller in let h = seen_of c.args.pass.now in let k = seen_of c.claim_one.new.pass in
+    (refl, path_stays sort g.N.Node.body n me (laws g at) c.args.place h k (record { parent = Some c.args.parent; node = c.args.node }) c.requires.pass.sound told.0 c.claim_one.ensures.kept c.claim_one.ensures.beside c.claim_one.ensures.still c.requires.path, told.1 c.args.place (inl (path_live sort g.N.Node.body n me (laws g at) c.args.place h (record { parent = Some c.args.parent; node = c.args.node }) c.requires.path)))
 
 pub split_under-requires-clause-apart : goal.split_under-requires-clause-apart
-split_under-requires-clause-apart g c κs within = λ same. (subst AreOnce c.requires.path.hands (is_hand (seen_of c.args.pass.now) c.args.pass.now.caller ((laws g (goal.at.split_under-requires-clause-apart g c).After-sound_law).turns (seen_of c.args.pass.now) c.requires.pass.sound)).once).0 (inl same)
+split_under-requires-clause-apart g c = λ same. (subst AreOnce c.requires.path.hands (is_hand (seen_of c.args.pass.now) c.args.pass.now.caller ((laws g (goal.at.split_under-requires-clause-apart g c).After-search_law).turns (seen_of c.args.pass.now) c.requires.pass.sound)).once).0 (inl same)
 
 pub split_under-requires-clause-cut : goal.split_under-requires-clause-cut
-split_under-requires-clause-cut g c κs within = (inset g (goal.at.split_under-requires-clause-cut g c).After-claim_one c.args.cut c.requires.cut.0 (mine g (goal.at.split_under-requires-clause-cut g c).After-sound_law), c.requires.cut.1)
+split_under-requires-clause-cut g c = (inset g (goal.at.split_under-requires-clause-cut g c).After-claim_one c.args.cut c.requires.cut.0 (mine g (goal.at.split_under-requires-clause-cut g c).After-search_law), c.requires.cut.1)
 
 -- the half to which the parent leads
 half : (g : Over) (c : After-split_under g) (x y : Hand g.row.N.Denot) → y.node ≡ x.node → LeadsTo (record_of (adopted c.args.cut c.in-Some.right.node (g.N.Node.body c.args.parent.body))) c.args.place x.node × InInset (graph_after (seen_of c.split_under.new.pass)) x.node c.args.place → IsPart (sort_of g.N.Node.layout g.N.Node.ranged) g.N.Node.body c.args.place (seen_of c.split_under.new.pass) c.split_under.new.parent y
@@ -60,13 +50,13 @@ half g c x y same z = let b : Body = adopted c.args.cut c.in-Some.right.node (g.
     (subst (λ (w : Body). LeadsTo (record_of w) c.args.place y.node) (sym c.split_under.ensures.parent.body) (subst (λ (w : ℕ). LeadsTo (record_of b) c.args.place w) (sym same) z.0), subst (λ (w : ℕ). InInset (graph_after (seen_of c.split_under.new.pass)) w c.args.place) (sym same) z.1)
 
 pub keep_half-requires-clause-below : goal.keep_half-requires-clause-below
-keep_half-requires-clause-below g c κs within = λ lt. let at = goal.at.keep_half-requires-clause-below g c in half g at.After-split_under c.args.node c.split_under.new.node c.split_under.ensures.node.node ((c.split_under.ensures.parts c.args.place (inset g at.After-claim_one c.args.place c.requires.path.inside (mine g at.After-sound_law))).0 lt)
+keep_half-requires-clause-below g c = λ lt. let at = goal.at.keep_half-requires-clause-below g c in half g at.After-split_under c.args.node c.split_under.new.node c.split_under.ensures.node.node ((c.split_under.ensures.parts c.args.place (inset g at.After-claim_one c.args.place c.requires.path.inside (mine g at.After-search_law))).0 lt)
 
 pub keep_half-requires-clause-from : goal.keep_half-requires-clause-from
-keep_half-requires-clause-from g c κs within = λ le. let at = goal.at.keep_half-requires-clause-from g c in half g at.After-split_under c.in-Some.right c.split_under.new.right c.split_under.ensures.right.node ((c.split_under.ensures.parts c.args.place (inset g at.After-claim_one c.args.place c.requires.path.inside (mine g at.After-sound_law))).1 le)
+keep_half-requires-clause-from g c = λ le. let at = goal.at.keep_half-requires-clause-from g c in half g at.After-split_under c.in-Some.right c.split_under.new.right c.split_under.ensures.right.node ((c.split_under.ensures.parts c.args.place (inset g at.After-claim_one c.args.place c.requires.path.inside (mine g at.After-search_law))).1 le)
 
-pub returns-clause-moves : goal.returns-clause-moves
-returns-clause-moves g c = let me : ℕ = c.args.pass.now.caller in let h = seen_of c.args.pass.now in let h₁ = seen_of c.claim_one.new.pass in let h₂ = seen_of c.split_under.new.pass in let h₃ = seen_of c.keep_half.new.pass in let one = c.claim_one.ensures.caller in let two = c.split_under.ensures.caller in
-    moves_both me h h₁ h₃ c.claim_one.ensures.moves (moves_both me h₁ h₂ h₃
-    (moves_shape me c.claim_one.new.pass.caller c.split_under.new.pass.caller h₁ h₂ one two (omega (arith, ap length c.in-Some.ensures.claimed.hands, ap length c.requires.path.hands)) c.split_under.ensures.hand c.split_under.ensures.shaped)
-    (moves_as me c.split_under.new.pass.caller h₂ h₃ (two ∙ one) c.keep_half.ensures.moves))
+pub returns-clause-stretch : goal.returns-clause-stretch
+returns-clause-stretch g c = let me : ℕ = c.args.pass.now.caller in let h = seen_of c.args.pass.now in let h₁ = seen_of c.claim_one.new.pass in let h₂ = seen_of c.split_under.new.pass in let h₃ = seen_of c.keep_half.new.pass in let one = c.claim_one.ensures.caller in let two = c.split_under.ensures.caller in
+    stretches_both me h h₁ h₃ c.claim_one.ensures.stretch (stretches_both me h₁ h₂ h₃
+    (stretches_shape me c.claim_one.new.pass.caller c.split_under.new.pass.caller h₁ h₂ one two (omega (arith, ap length c.in-Some.ensures.claimed.hands, ap length c.requires.path.hands)) c.split_under.ensures.hand c.split_under.ensures.shaped)
+    (stretches_as me c.split_under.new.pass.caller h₂ h₃ (two ∙ one) c.keep_half.ensures.stretch))

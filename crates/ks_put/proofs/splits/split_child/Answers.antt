@@ -1,10 +1,10 @@
 use Rattle.std.proofs.Common.{length, arith, ap}
 use Rattle.ks_arena.specs.Clauses.{seen_of}
-use Rattle.ks_put.specs.Moves.{moves_none}
+use Rattle.ks_shape.specs.Stretches.{stretches_here}
 use Rattle.ks_put.proofs.splits.split_child.Goals as goal
 
-pub returns-then-is_branch-2-clause-moves : goal.returns-then-is_branch-2-clause-moves
-returns-then-is_branch-2-clause-moves g c = moves_none c.args.pass.now.caller (seen_of c.args.pass.now) (omega (arith, ap length c.requires.path.hands))
+pub returns-then-is_branch-2-clause-stretch : goal.returns-then-is_branch-2-clause-stretch
+returns-then-is_branch-2-clause-stretch g c = stretches_here c.args.pass.now.caller (seen_of c.args.pass.now) (omega (arith, ap length c.requires.path.hands))
 
-pub returns-then-not-can_adopt-clause-moves : goal.returns-then-not-can_adopt-clause-moves
-returns-then-not-can_adopt-clause-moves g c = moves_none c.args.pass.now.caller (seen_of c.args.pass.now) (omega (arith, ap length c.requires.path.hands))
+pub returns-then-not-can_adopt-clause-stretch : goal.returns-then-not-can_adopt-clause-stretch
+returns-then-not-can_adopt-clause-stretch g c = stretches_here c.args.pass.now.caller (seen_of c.args.pass.now) (omega (arith, ap length c.requires.path.hands))

@@ -1,0 +1,35 @@
+use Rattle.std.proofs.Common.{ℕ, inl, inr, refl, sym, subst, arith}
+use Rattle.ks_keysets.specs.declared.NodeState.{NodeState}
+use Rattle.ks_keysets.specs.Layout.{Layout}
+use Rattle.ks_history.specs.declared.Op.{Op}
+use Rattle.ks_history.specs.declared.Op.TheVariants.{Add, Put}
+use Rattle.ks_history.specs.declared.Reply.TheVariants.{Full}
+use Rattle.ks_history.specs.Due.{HasNoRoom, IsFullFor}
+use Rattle.ks_history.specs.Trace.{graph_after}
+use Rattle.ks_arena.specs.Sound.{sort_of}
+use Rattle.ks_arena.specs.Clauses.{IsReady, seen_of}
+use Rattle.ks_shape.specs.OnWay.{ends_unbranched}
+use Rattle.ks_put.specs.Room.{Fills}
+use Rattle.ks_put.proofs.fills.refuse_here.Goals as goal
+
+pub full_law-requires-clause-no_branch : goal.full_law-requires-clause-no_branch
+full_law-requires-clause-no_branch g c κs within = let sort = sort_of g.N.Node.layout g.N.Node.ranged in let h = seen_of c.args.pass.now in let r = c.requires.crowded in
+    ends_unbranched sort g.N.Node.body c.args.pass.now.caller c.args.place h c.args.held r.way ((c.search_law.ensures sort c.args.arena.now.table.shared.table_id.slots).facts h c.requires.pass.sound) (omega (arith, c.ranges.place)) c.node_law.ensures.sound r.here
+
+pub full_law-requires-clause-none_free : goal.full_law-requires-clause-none_free
+full_law-requires-clause-none_free g c κs within = let r = c.requires.refused in (r.start, r.since, r.quiet, r.none_free)
+
+-- of a put or an add
+by_op : (p v : ℕ) (op : Op) (P : Op → Type 0) → Fills p v op → P (Put p v) → P (Add p v) → P op
+by_op p v op P (inl e) put add = subst P (sym e) put
+by_op p v op P (inr e) put add = subst P (sym e) add
+
+pub refuse-requires-clause-ready : goal.refuse-requires-clause-ready
+refuse-requires-clause-ready g c κs within = by_op c.args.place c.args.value c.args.op (λ (op : Op). IsReady (sort_of g.N.Node.layout g.N.Node.ranged) g.N.Node.body c.args.arena.now.nodes c.args.pass.now.caller (seen_of c.args.pass.now) c.args.held op Full) c.requires.fills c.full_law.ensures.put c.full_law.ensures.add
+
+no_room : (layout : Layout) (g : ℕ → NodeState) (i p v : ℕ) (op : Op) → Fills p v op → IsFullFor layout g i p → HasNoRoom layout g i op p
+no_room layout g i p v op fills full = by_op p v op (λ (o : Op). HasNoRoom layout g i o p) fills (refl, full) (refl, full)
+
+pub returns-clause-done : goal.returns-clause-done
+returns-clause-done g c = λ template start under none. c.refuse.ensures.done template start c.args.place under none
+    (λ k grows sound. no_room g.N.Node.layout (graph_after k) c.args.held.node c.args.place c.args.value c.args.op c.requires.fills (c.full_law.ensures.still k grows sound))

@@ -1,0 +1,5 @@
+use Rattle.ks_put.specs.Laws.{laws_of}
+use Rattle.ks_put.proofs.laws.search_law.Goals as goal
+
+pub returns : goal.returns
+returns c = λ sort slots. laws_of c.laws.ensures c.walks_law.ensures.opening sort slots

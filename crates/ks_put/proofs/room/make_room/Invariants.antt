@@ -1,0 +1,17 @@
+use Rattle.std.proofs.Common.{◌≡◌}
+use Rattle.std.specs.Prelude.{IsTrue}
+use Rattle.ks_flow.specs.Discipline.{BeginsTree, TreeStep}
+use Rattle.ks_history.specs.Due.{NoneFree}
+use Rattle.ks_arena.specs.Sound.{sort_of}
+use Rattle.ks_arena.specs.Clauses.{IsPass, seen_of}
+use Rattle.ks_shape.specs.Stretches.{Stretches}
+use Rattle.ks_put.specs.OnPath.{IsOnPath}
+use Rattle.ks_put.proofs.room.make_room.Given as goal
+
+abbrev pub invariant-loop : goal.invariant-loop
+invariant-loop g l =
+    IsPass (sort_of g.N.Node.layout g.N.Node.ranged) BeginsTree TreeStep l.arena.table.shared.table_id l.arena.callers l.pass
+    × (l.pass.caller ≡ l.fn.pass.caller)
+    × IsOnPath (sort_of g.N.Node.layout g.N.Node.ranged) g.N.Node.body l.pass.caller l.place (seen_of l.pass) l.path
+    × Stretches l.pass.caller (seen_of l.fn.pass) (seen_of l.pass)
+    × (IsTrue l.refused → NoneFree g.N.Node.layout l.arena.nodes l.pass.caller l.place (seen_of l.fn.pass) (seen_of l.pass))

@@ -1,0 +1,190 @@
+//! The search for room for a place, which keeps the parent of its node, so that a full node can be split under it.
+ghost use Rattle.std.specs.Prelude.{◌≡◌, [], ℕ, IsTrue, List, None, false};
+ghost use Rattle.ks_flow.specs.Discipline.{BeginsTree, TreeStep};
+ghost use Rattle.ks_history.specs.declared.Event.{Event as Happening};
+ghost use Rattle.ks_history.specs.Due.{NoneFree};
+ghost use Rattle.ks_node.specs.declared.start.Next.TheVariants.{Go, Here};
+ghost use Rattle.ks_node.specs.Body.{next_at, value_at};
+ghost use Rattle.ks_node.specs.Room.{is_full};
+ghost use Rattle.ks_arena.specs.Sound.{sort_of};
+ghost use Rattle.ks_arena.specs.Clauses.{IsPass, hand_of, seen_of};
+ghost use Rattle.ks_shape.specs.Stretches.{Stretches};
+ghost use Rattle.ks_put.specs.OnPath.{IsOnPath};
+ghost use Rattle.ks_put.specs.Room.{CameTo};
+
+use crate::halves::Part;
+use crate::path::{Path, enter, let_go, step_down};
+use crate::splits::split;
+use ks_arena::{Arena, Held, Pass};
+use ks_flow::Tree;
+use ks_gate::{Gate, Point};
+use ks_node::{Next, Unlinked};
+use std::sync::Wait;
+
+/// What a search for room came to: the node where it ended, held alone.
+pub enum Room<N> {
+    /// It has the place, or room for it.
+    Found(Held<N>),
+    /// It is full and has not the place, and no node was found free.
+    Refused(Held<N>),
+}
+
+/// Gives the parent, and takes the child.
+fn down<N: Unlinked, R: Wait, G: Gate>(
+    rt: &R,
+    arena: &Arena<N, Tree>,
+    pass: &mut Pass<N, Tree>,
+    gate: &G,
+    place: u64,
+    path: Path<N>,
+    child: u32,
+) -> Path<N>
+    requires pass { IsPass (sort_of N.layout N.ranged) BeginsTree TreeStep arena.now.table.shared.table_id arena.now.callers pass.old }
+    requires path { IsOnPath (sort_of N.layout N.ranged) N.body pass.old.caller place (seen_of pass.old) path }
+    requires goes { next_at (N.body path.node.body) place ≡ Go child }
+    ensures pass { IsPass (sort_of N.layout N.ranged) BeginsTree TreeStep arena.now.table.shared.table_id arena.now.callers pass.new }
+    ensures caller { pass.new.caller ≡ pass.old.caller }
+    ensures path { IsOnPath (sort_of N.layout N.ranged) N.body pass.old.caller place (seen_of pass.new) result }
+    ensures stretch { Stretches pass.old.caller (seen_of pass.old) (seen_of pass.new) }
+{
+    let held = let_go(arena, pass, gate, place, path);
+    step_down(rt, arena, pass, gate, place, held, child)
+}
+
+/// Goes on to the child. A full node is split before, if there is a way and a claim is not refused: then the search looks
+/// again. Tells whether no node was free.
+fn go_on<N: Unlinked, R: Wait, G: Gate>(
+    rt: &R,
+    arena: &Arena<N, Tree>,
+    pass: &mut Pass<N, Tree>,
+    gate: &G,
+    place: u64,
+    path: Path<N>,
+    child: u32,
+) -> (Path<N>, bool)
+    requires pass { IsPass (sort_of N.layout N.ranged) BeginsTree TreeStep arena.now.table.shared.table_id arena.now.callers pass.old }
+    requires path { IsOnPath (sort_of N.layout N.ranged) N.body pass.old.caller place (seen_of pass.old) path }
+    requires goes { next_at (N.body path.node.body) place ≡ Go child }
+    ensures pass { IsPass (sort_of N.layout N.ranged) BeginsTree TreeStep arena.now.table.shared.table_id arena.now.callers pass.new }
+    ensures caller { pass.new.caller ≡ pass.old.caller }
+    ensures path { IsOnPath (sort_of N.layout N.ranged) N.body pass.old.caller place (seen_of pass.new) result.0 }
+    ensures stretch { Stretches pass.old.caller (seen_of pass.old) (seen_of pass.new) }
+    ensures refused { IsTrue result.1 → NoneFree N.layout arena.now.nodes pass.old.caller place (seen_of pass.old) (seen_of pass.new) }
+{
+    if !path.node.body.is_full() {
+        return (down(rt, arena, pass, gate, place, path, child), false);
+    }
+    match split(arena, pass, gate, place, path) {
+        Part::Split(path) => (path, false),
+        Part::Refused(path) => (down(rt, arena, pass, gate, place, path, child), true),
+        Part::Shut(path) => (down(rt, arena, pass, gate, place, path, child), false),
+    }
+}
+
+/// Gives what is held, and takes the root again.
+fn begin_again<N: Unlinked, R: Wait, G: Gate>(
+    rt: &R,
+    arena: &Arena<N, Tree>,
+    pass: &mut Pass<N, Tree>,
+    gate: &G,
+    place: u64,
+    path: Path<N>,
+) -> Path<N>
+    requires pass { IsPass (sort_of N.layout N.ranged) BeginsTree TreeStep arena.now.table.shared.table_id arena.now.callers pass.old }
+    requires path { IsOnPath (sort_of N.layout N.ranged) N.body pass.old.caller place (seen_of pass.old) path }
+    ensures pass { IsPass (sort_of N.layout N.ranged) BeginsTree TreeStep arena.now.table.shared.table_id arena.now.callers pass.new }
+    ensures caller { pass.new.caller ≡ pass.old.caller }
+    ensures path { IsOnPath (sort_of N.layout N.ranged) N.body pass.old.caller place (seen_of pass.new) result }
+    ensures stretch { Stretches pass.old.caller (seen_of pass.old) (seen_of pass.new) }
+{
+    let held = let_go(arena, pass, gate, place, path);
+    let node = held.node;
+    arena.give(pass, held);
+    gate.at(pass.caller(), Point::Given(node));
+    enter(rt, arena, pass, gate, place)
+}
+
+/// Gives the parent of a node that has the place, or room for it.
+fn come_to_room<N: Unlinked, G: Gate>(
+    arena: &Arena<N, Tree>,
+    pass: &mut Pass<N, Tree>,
+    gate: &G,
+    place: u64,
+    path: Path<N>,
+) -> Room<N>
+    requires pass { IsPass (sort_of N.layout N.ranged) BeginsTree TreeStep arena.now.table.shared.table_id arena.now.callers pass.old }
+    requires path { IsOnPath (sort_of N.layout N.ranged) N.body pass.old.caller place (seen_of pass.old) path }
+    requires here { next_at (N.body path.node.body) place ≡ Here }
+    requires room { value_at (N.body path.node.body).pairs place ≡ None → is_full N.layout (N.body path.node.body) ≡ false }
+    ensures pass { IsPass (sort_of N.layout N.ranged) BeginsTree TreeStep arena.now.table.shared.table_id arena.now.callers pass.new }
+    ensures caller { pass.new.caller ≡ pass.old.caller }
+    ensures came { (n : ℕ) (start : List Happening) → CameTo (sort_of N.layout N.ranged) N.body n pass.old.caller place start (seen_of pass.new) result }
+    ensures stretch { Stretches pass.old.caller (seen_of pass.old) (seen_of pass.new) }
+{
+    Room::Found(let_go(arena, pass, gate, place, path))
+}
+
+/// Gives the parent of a full node that has not the place.
+fn come_to_full<N: Unlinked, G: Gate>(
+    arena: &Arena<N, Tree>,
+    pass: &mut Pass<N, Tree>,
+    gate: &G,
+    place: u64,
+    path: Path<N>,
+) -> Room<N>
+    requires pass { IsPass (sort_of N.layout N.ranged) BeginsTree TreeStep arena.now.table.shared.table_id arena.now.callers pass.old }
+    requires path { IsOnPath (sort_of N.layout N.ranged) N.body pass.old.caller place (seen_of pass.old) path }
+    requires here { next_at (N.body path.node.body) place ≡ Here }
+    requires absent { value_at (N.body path.node.body).pairs place ≡ None }
+    requires full { IsTrue (is_full N.layout (N.body path.node.body)) }
+    ensures pass { IsPass (sort_of N.layout N.ranged) BeginsTree TreeStep arena.now.table.shared.table_id arena.now.callers pass.new }
+    ensures caller { pass.new.caller ≡ pass.old.caller }
+    ensures came { (n : ℕ) (start : List Happening) → NoneFree N.layout n pass.old.caller place start (seen_of pass.old) → CameTo (sort_of N.layout N.ranged) N.body n pass.old.caller place start (seen_of pass.new) result }
+    ensures stretch { Stretches pass.old.caller (seen_of pass.old) (seen_of pass.new) }
+{
+    Room::Refused(let_go(arena, pass, gate, place, path))
+}
+
+/// Takes the node at which the search for a place ends, and holds it alone. Full nodes are split on the way and at the end,
+/// by nodes found free. It does not tell the gate that a call begins.
+pub fn make_room<N: Unlinked, R: Wait, G: Gate>(
+    rt: &R,
+    arena: &Arena<N, Tree>,
+    pass: &mut Pass<N, Tree>,
+    gate: &G,
+    place: u64,
+) -> Room<N>
+    requires pass { IsPass (sort_of N.layout N.ranged) BeginsTree TreeStep arena.now.table.shared.table_id arena.now.callers pass.old × (hand_of pass.old ≡ []) }
+    ensures pass { IsPass (sort_of N.layout N.ranged) BeginsTree TreeStep arena.now.table.shared.table_id arena.now.callers pass.new }
+    ensures caller { pass.new.caller ≡ pass.old.caller }
+    ensures room { CameTo (sort_of N.layout N.ranged) N.body arena.now.nodes pass.old.caller place (seen_of pass.old) (seen_of pass.new) result }
+    ensures stretch { Stretches pass.old.caller (seen_of pass.old) (seen_of pass.new) }
+{
+    let mut path = enter(rt, arena, pass, gate, place);
+    let mut refused = false;
+    for _ in rt.forever() {
+        match path.node.body.next(place) {
+            Next::Go(child) => {
+                let (next, was) = go_on(rt, arena, pass, gate, place, path, child);
+                path = next;
+                refused = refused || was;
+            }
+            Next::Here => {
+                if path.node.body.get(place).is_some() || !path.node.body.is_full() {
+                    return come_to_room(arena, pass, gate, place, path);
+                }
+                match split(arena, pass, gate, place, path) {
+                    Part::Split(half) => path = half,
+                    Part::Refused(whole) => return come_to_full(arena, pass, gate, place, whole),
+                    Part::Shut(whole) => {
+                        if refused {
+                            return come_to_full(arena, pass, gate, place, whole);
+                        }
+                        path = begin_again(rt, arena, pass, gate, place, whole);
+                    }
+                }
+            }
+        }
+    }
+    unreachable!()
+}
