@@ -4,92 +4,24 @@ ghost use Rattle.ks_flow.specs.Discipline.{BeginsTree, TreeStep};
 ghost use Rattle.ks_history.specs.declared.Event.{Event as Happening};
 ghost use Rattle.ks_history.specs.declared.Op.TheVariants.{Add, Put};
 ghost use Rattle.ks_history.specs.declared.Reply.TheVariants.{Full as full_reply};
-ghost use Rattle.ks_history.specs.Map.{told};
 ghost use Rattle.ks_history.specs.Due.{NoneFree};
 ghost use Rattle.ks_history.specs.Done.{Done, Template};
 ghost use Rattle.ks_history.specs.Underway.{Underway};
 ghost use Rattle.ks_arena.specs.Sound.{sort_of};
 ghost use Rattle.ks_arena.specs.Clauses.{IsPass, hand_of, seen_of};
 ghost use Rattle.ks_shape.specs.Answers.{number_in, reply_in};
-ghost use Rattle.ks_put.specs.Room.{Fills, HasRoom, IsCrowded, WasRefused};
+ghost use Rattle.ks_put.specs.Room.{Fills, IsCrowded, WasRefused};
 
+use crate::here::{add_here, put_here};
 use crate::laws::search_law;
 use crate::room::{Room, make_room};
 use ks_arena::{Arena, Held, Pass};
 use ks_flow::Tree;
 use ks_gate::Gate;
-use ks_history::{Op, Reply};
+use ks_history::Op;
 use ks_node::{Unlinked, node_law};
-use ks_shape::{Full, Numbered, conclude, refuse, reply_of};
+use ks_shape::{Full, Numbered, refuse};
 use std::sync::Wait;
-
-/// Decides a put at the one node in hand, which has the place or room for it. By whatever template the call came to the
-/// node, it is done.
-pub fn put_here<N: Unlinked, G: Gate>(
-    arena: &Arena<N, Tree>,
-    pass: &mut Pass<N, Tree>,
-    gate: &G,
-    place: u64,
-    value: u128,
-    held: Held<N>,
-) -> Numbered
-    requires pass { IsPass (sort_of N.layout N.ranged) BeginsTree TreeStep arena.now.table.shared.table_id arena.now.callers pass.old }
-    requires room { HasRoom (sort_of N.layout N.ranged) N.body pass.old.caller place (seen_of pass.old) held }
-    ensures pass { IsPass (sort_of N.layout N.ranged) BeginsTree TreeStep arena.now.table.shared.table_id arena.now.callers pass.new × (hand_of pass.new ≡ []) }
-    ensures caller { pass.new.caller ≡ pass.old.caller }
-    ensures done { (template : Template) (start : List Happening) → Underway template pass.old.caller (Put place value) start (seen_of pass.old) → Done N.layout template arena.now.nodes pass.old.caller (Put place value) start (seen_of pass.new) (told result.found) result.number }
-{
-    let mut held = held;
-    search_law();
-    node_law(&held.body);
-    arena.put_law(pass, &held, place, value);
-    let found = held.body.put(place, value);
-    let number = conclude(
-        arena,
-        pass,
-        gate,
-        held,
-        Op::Put(place, value),
-        reply_of(found),
-    );
-    Numbered { number, found }
-}
-
-/// Decides an add at the one node in hand, which has the place or room for it: where a value stands, it stays. By whatever
-/// template the call came to the node, it is done.
-pub fn add_here<N: Unlinked, G: Gate>(
-    arena: &Arena<N, Tree>,
-    pass: &mut Pass<N, Tree>,
-    gate: &G,
-    place: u64,
-    value: u128,
-    held: Held<N>,
-) -> Numbered
-    requires pass { IsPass (sort_of N.layout N.ranged) BeginsTree TreeStep arena.now.table.shared.table_id arena.now.callers pass.old }
-    requires room { HasRoom (sort_of N.layout N.ranged) N.body pass.old.caller place (seen_of pass.old) held }
-    ensures pass { IsPass (sort_of N.layout N.ranged) BeginsTree TreeStep arena.now.table.shared.table_id arena.now.callers pass.new × (hand_of pass.new ≡ []) }
-    ensures caller { pass.new.caller ≡ pass.old.caller }
-    ensures done { (template : Template) (start : List Happening) → Underway template pass.old.caller (Add place value) start (seen_of pass.old) → Done N.layout template arena.now.nodes pass.old.caller (Add place value) start (seen_of pass.new) (told result.found) result.number }
-{
-    let mut held = held;
-    search_law();
-    node_law(&held.body);
-    arena.add_law(pass, &held, place, value);
-    let op = Op::Add(place, value);
-    let Some(found) = held.body.get(place) else {
-        held.body.put(place, value);
-        let number = conclude(arena, pass, gate, held, op, Reply::Nothing);
-        return Numbered {
-            number,
-            found: None,
-        };
-    };
-    let number = conclude(arena, pass, gate, held, op, Reply::Value(found));
-    Numbered {
-        number,
-        found: Some(found),
-    }
-}
 
 /// Decides a put or an add as full at the one node in hand, after no node was found free.
 fn refuse_here<N: Unlinked, G: Gate>(

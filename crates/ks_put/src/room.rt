@@ -1,5 +1,5 @@
 //! The search for room for a place, which keeps the parent of its node, so that a full node can be split under it.
-ghost use Rattle.std.specs.Prelude.{◌≡◌, [], ℕ, IsTrue, List, None, false};
+ghost use Rattle.std.specs.Prelude.{◌≡◌, [], ℕ, IsTrue, List, None, true, false};
 ghost use Rattle.ks_flow.specs.Discipline.{BeginsTree, TreeStep};
 ghost use Rattle.ks_history.specs.declared.Event.{Event as Happening};
 ghost use Rattle.ks_history.specs.Due.{NoneFree};
@@ -27,6 +27,14 @@ pub enum Room<N> {
     Found(Held<N>),
     /// It is full and has not the place, and no node was found free.
     Refused(Held<N>),
+}
+
+/// Whether a node has a place, or room for it.
+pub fn has_room<N: Unlinked>(held: &Held<N>, place: u64) -> bool
+    ensures room { result ≡ true → value_at (N.body held.now.body).pairs place ≡ None → is_full N.layout (N.body held.now.body) ≡ false }
+    ensures none { result ≡ false → (value_at (N.body held.now.body).pairs place ≡ None) × IsTrue (is_full N.layout (N.body held.now.body)) }
+{
+    held.body.get(place).is_some() || !held.body.is_full()
 }
 
 /// Gives the parent, and takes the child.
@@ -170,7 +178,7 @@ pub fn make_room<N: Unlinked, R: Wait, G: Gate>(
                 refused = refused || was;
             }
             Next::Here => {
-                if path.node.body.get(place).is_some() || !path.node.body.is_full() {
+                if has_room(&path.node, place) {
                     return come_to_room(arena, pass, gate, place, path);
                 }
                 match split(arena, pass, gate, place, path) {

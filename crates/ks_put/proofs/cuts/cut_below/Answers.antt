@@ -58,8 +58,8 @@ returns-clause-open g c = λ no_place leaf room. let sort = sort_of g.N.Node.lay
     let b : Body = g.N.Node.body c.args.node.now.body in let u : Body = g.N.Node.body c.args.parent.now.body in let i : ℕ = c.args.node.now.node in let p : ℕ = c.args.parent.now.node in let same = is_cut g c in let w = span_is g c in let at = within g c in
     ⊎_elim
     (λ first. inl (subst (λ (z : ℕ). IsTrue (g.N.Node.can_adopt_at (content_of b) z)) (sym same) (first c.args.node.now.body w.span c.if-parent-eq0.span c.requires.full w.suits w.given (subst (IsGoodCut b w.span) same (good_cut g c)))))
-    (λ second. let t = second c.args.parent.now.body in let to = c.requires.above.leads in
-    let branch : IsTrue (is_branch u) = branch_is (is_branch u) u refl t.1 (length_edges u c.node_law.ensures.sound c.node_law.ensures.framed (c.unlinked_law.ensures.no_link c.args.parent.now.body)) (omega (arith, to.1)) in
+    (λ second. let t = c.unlinked_law.ensures.adopting second.1 c.args.parent.now.body in let to = c.requires.above.leads in
+    let branch : IsTrue (is_branch u) = branch_is (is_branch u) u refl t.bare (length_edges u c.node_law.ensures.sound c.node_law.ensures.framed (c.unlinked_law.ensures.no_link c.args.parent.now.body)) (omega (arith, to.1)) in
     let can : CanAdopt (graph_after h) (frame_after (blank_of sort) h) p i u = record { stands = above g c; branch = branch; place = c.args.place; leads = to } in
-    inr (branch, t.2 c.cut.result branch room (c.tree_asks_law.ensures.adopt (graph_after h) (frame_after (blank_of sort) h) p i c.cut.result u b good facts can (at_node g c) at.0 at.1.0.0).0 (c.tree_asks_law.ensures.adopt_free (graph_after h) (frame_after (blank_of sort) h) p i c.cut.result u b good facts can (at_node g c) at.0 at.1.0.0)))
+    inr (branch, t.inside c.cut.result branch room (c.tree_asks_law.ensures.adopt (graph_after h) (frame_after (blank_of sort) h) p i c.cut.result u b good facts can (at_node g c) at.0 at.1.0.0).0 (c.tree_asks_law.ensures.adopt_free (graph_after h) (frame_after (blank_of sort) h) p i c.cut.result u b good facts can (at_node g c) at.0 at.1.0.0)))
     (c.unlinked_law.ensures.sort no_place)

@@ -44,5 +44,5 @@ pub returns-clause-open : goal.returns-clause-open
 returns-clause-open g c = λ no_place leaf. let at = (goal.at.returns-clause-open g c).After-node_law in let b : Body = g.N.Node.body c.args.root.now.body in let same = is_cut g c in
     ⊎_elim
     (λ first. inr (subst (λ (z : ℕ). IsTrue (g.N.Node.can_adopt_at (content_of b) z)) (sym same) (first c.args.root.now.body all_places (Some all_places) c.requires.full (suits g at) (λ r e. same_span all_places r e) (subst (IsGoodCut b all_places) same (c.cut.ensures.good all_places (suits g at) (λ r e. same_span all_places r e))))))
-    (λ second. inl (second c.args.root.now.body).0)
+    (λ second. inl (second.0 c.args.root.now.body))
     (c.unlinked_law.ensures.sort no_place)

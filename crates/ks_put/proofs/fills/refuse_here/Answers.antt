@@ -1,11 +1,8 @@
 use Rattle.std.proofs.Common.{ℕ, inl, inr, refl, sym, subst, arith}
-use Rattle.ks_keysets.specs.declared.NodeState.{NodeState}
-use Rattle.ks_keysets.specs.Layout.{Layout}
 use Rattle.ks_history.specs.declared.Op.{Op}
 use Rattle.ks_history.specs.declared.Op.TheVariants.{Add, Put}
 use Rattle.ks_history.specs.declared.Reply.TheVariants.{Full}
-use Rattle.ks_history.specs.Due.{HasNoRoom, IsFullFor}
-use Rattle.ks_history.specs.Trace.{graph_after}
+use Rattle.ks_history.specs.Map.{Touches}
 use Rattle.ks_arena.specs.Sound.{sort_of}
 use Rattle.ks_arena.specs.Clauses.{IsReady, seen_of}
 use Rattle.ks_shape.specs.OnWay.{ends_unbranched}
@@ -27,9 +24,5 @@ by_op p v op P (inr e) put add = subst P (sym e) add
 pub refuse-requires-clause-ready : goal.refuse-requires-clause-ready
 refuse-requires-clause-ready g c κs within = by_op c.args.place c.args.value c.args.op (λ (op : Op). IsReady (sort_of g.N.Node.layout g.N.Node.ranged) g.N.Node.body c.args.arena.now.nodes c.args.pass.now.caller (seen_of c.args.pass.now) c.args.held op Full) c.requires.fills c.full_law.ensures.put c.full_law.ensures.add
 
-no_room : (layout : Layout) (g : ℕ → NodeState) (i p v : ℕ) (op : Op) → Fills p v op → IsFullFor layout g i p → HasNoRoom layout g i op p
-no_room layout g i p v op fills full = by_op p v op (λ (o : Op). HasNoRoom layout g i o p) fills (refl, full) (refl, full)
-
 pub returns-clause-done : goal.returns-clause-done
-returns-clause-done g c = λ template start under none. c.refuse.ensures.done template start c.args.place under none
-    (λ k grows sound. no_room g.N.Node.layout (graph_after k) c.args.held.node c.args.place c.args.value c.args.op c.requires.fills (c.full_law.ensures.still k grows sound))
+returns-clause-done g c = λ template start under none. let p : ℕ = c.args.place in (c.refuse.ensures.done template start p (by_op p c.args.value c.args.op (λ (op : Op). Touches op p) c.requires.fills refl refl) none under).done

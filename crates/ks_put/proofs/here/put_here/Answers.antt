@@ -6,7 +6,7 @@ use Rattle.ks_arena.specs.Sound.{sort_of}
 use Rattle.ks_arena.specs.Clauses.{IsReady, seen_of}
 use Rattle.ks_shape.specs.OnWay.{ends_unbranched}
 use Rattle.ks_put.proofs.Ends.{ends_own}
-use Rattle.ks_put.proofs.fills.put_here.Goals as goal
+use Rattle.ks_put.proofs.here.put_here.Goals as goal
 
 pub put-found-requires-clause-no_branch : goal.put-found-requires-clause-no_branch
 put-found-requires-clause-no_branch g c = let sort = sort_of g.N.Node.layout g.N.Node.ranged in let h = seen_of c.args.pass.now in let r = c.requires.room in

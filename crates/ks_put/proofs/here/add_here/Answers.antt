@@ -4,7 +4,7 @@ use Rattle.ks_arena.specs.Sound.{sort_of}
 use Rattle.ks_arena.specs.Clauses.{seen_of}
 use Rattle.ks_shape.specs.OnWay.{ends_unbranched}
 use Rattle.ks_put.proofs.Ends.{ends_own}
-use Rattle.ks_put.proofs.fills.add_here.Goals as goal
+use Rattle.ks_put.proofs.here.add_here.Goals as goal
 
 pub put-requires-clause-no_branch : goal.put-requires-clause-no_branch
 put-requires-clause-no_branch g c = let sort = sort_of g.N.Node.layout g.N.Node.ranged in let h = seen_of c.args.pass.now in let r = c.requires.room in
