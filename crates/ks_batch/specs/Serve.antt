@@ -34,16 +34,16 @@ pub record Accepts (bytes : List ℕ) (script : List (List Op)) : Type 0 where
   pub within : length bytes ≤ limit_of Script
   pub reads : ScriptOf bytes script
 
--- the trace h served the script that the bytes spell, and the run tells it
-pub record Tells (bytes : List ℕ) (h : List Event) (run : Run) : Type 0 where
+-- the trace h served the script that the bytes spell, with these places for keys, and the run tells it
+pub record Tells (place : ℕ → ℕ) (bytes : List ℕ) (h : List Event) (run : Run) : Type 0 where
   pub script : List (List Op)
   pub accepts : Accepts bytes script
-  pub served : Served (λ k. k) script run.callers run.pairs h
+  pub served : Served place script run.callers run.pairs h
 
 -- the trace h served the script that the bytes spell, and of the text that tells it Took holds
-pub record Prints (bytes : List ℕ) (h : List Event) (Took : List ℕ → Type 0) : Type 0 where
+pub record Prints (place : ℕ → ℕ) (bytes : List ℕ) (h : List Event) (Took : List ℕ → Type 0) : Type 0 where
   pub run : Run
-  pub tells : Tells bytes h run
+  pub tells : Tells place bytes h run
   pub took : Took (run_text run)
 
 -- the bytes are the text of this script and this run

@@ -2,13 +2,18 @@
 
 ghost use Rattle.std.specs.Prelude.{ℕ, ◌≡◌, ◌≤◌, ◌⊎◌, ◌↔◌, ◌++◌, map, string_bytes, Some, List, [], IfOk, OnOk, OnErr, IfErr, IfSome, IsSome, IsNone, codes};
 ghost use Rattle.std.specs.Fmt.{decimal};
+ghost use Rattle.ks_history.specs.Due.{FullsDue};
 ghost use Rattle.ks_history.specs.Lawful.{Lawful, GoodThroughout};
+ghost use Rattle.ks_arena.specs.Clauses.{trace_in};
 ghost use Rattle.ks_history.specs.declared.Op.{Op};
 ghost use Rattle.ks_script.specs.Outside.{Rose, Grew, GrewByFront};
 ghost use Rattle.ks_script.specs.Run as printed_run;
 ghost use Rattle.ks_batch.specs.declared.words.Text.{Text};
 ghost use Rattle.ks_batch.specs.declared.words.Text.TheVariants as text;
-ghost use Rattle.ks_batch.specs.Words.{IsCommand, IsMake, Asks};
+ghost use Rattle.ks_batch.specs.declared.pairings.Pairing.{Pairing};
+ghost use Rattle.ks_batch.specs.declared.words.Asked.TheVariants as asked;
+ghost use Rattle.ks_batch.specs.Pairings.{row_of};
+ghost use Rattle.ks_batch.specs.Words.{Spells, AskToServe, IsCommand, IsMake, Asks};
 ghost use Rattle.ks_batch.specs.Message.{status_text};
 ghost use Rattle.ks_batch.specs.Serve.{RefusedAt, Accepts, AcceptsChecked, Tells, Prints, Judges, IsCheck, judged_line};
 ghost use Rattle.ks_batch.specs.Make.{SumsUp, Sums, MakesOutcome};
@@ -16,13 +21,18 @@ ghost use Rattle.ks_batch.specs.Stop.{IsCause};
 
 use crate::input::{Stop, load, load_checked};
 use crate::message::tell;
-use crate::words::{Asked, command};
+use crate::pairings::{Pairing, serve_by};
+use crate::words::{Asked, Draft, command};
 use itoa::Buffer;
+use ks_arena::RunTrace;
+use ks_dictionary::Told;
+use ks_gate::Gate;
 use ks_judge::{Judged, judge};
-use ks_made::{made_script, summary};
+use ks_made::{Size, made_script, summary};
 use ks_script::{Failed, Printed, Sink, Source, send, write_run};
-use ks_single::{Run, RunTrace, serve_callers};
 use std::alloc::{AllocError, Global};
+use std::sync::Wait;
+use std::thread::Threads;
 
 /// How the program ended.
 #[derive(Drop)]
@@ -58,52 +68,71 @@ struct Ready {
     trace: RunTrace,
 }
 
-/// Reads a script and serves it.
-fn prepare<S: Source>(alloc: Global, source: &mut S) -> Result<Ready, Stop>
-    ensures lawful { IfOk result (λ ready. Lawful ready.trace) }
-    ensures good { IfOk result (λ ready. GoodThroughout ready.trace) }
-    ensures tells { IfOk result (λ ready. IfSome (S.left source.old) (λ bytes. Tells bytes ready.trace ready.printed)) }
+fn to_print(told: Told) -> Ready
+    ensures trace { result.trace ≡ told.trace }
+    ensures callers { result.printed.callers ≡ map (λ v. v.items) told.lines.items }
+    ensures pairs { result.printed.pairs ≡ told.pairs.items }
+{
+    Ready {
+        printed: Printed {
+            callers: told.lines,
+            pairs: told.pairs,
+        },
+        trace: told.trace,
+    }
+}
+
+/// Reads a script and serves it by the pairing, over so many nodes.
+fn prepare<R: Threads + Wait + Sync, S: Source, G: Gate + Sync>(
+    rt: &R,
+    alloc: Global,
+    pairing: Pairing,
+    arena: u32,
+    source: &mut S,
+    gate: &G,
+) -> Result<Ready, Stop>
+    requires { (4 ≤ arena) × (arena ≤ 65536) }
+    ensures lawful { IfOk result (λ ready. Lawful (trace_in ready.trace)) }
+    ensures good { IfOk result (λ ready. GoodThroughout (trace_in ready.trace)) }
+    ensures due { IfOk result (λ ready. FullsDue (row_of pairing).layout arena (trace_in ready.trace)) }
+    ensures tells { IfOk result (λ ready. IfSome (S.left source.old) (λ bytes. Tells (row_of pairing).place bytes (trace_in ready.trace) ready.printed)) }
     ensures end { OnOk result (IfSome (S.left source.old) (λ _. S.left source.new ≡ Some [])) }
     ensures cause { IfErr result (λ stop. IsCause stop text.Script (S.left source.old) (Rose (S.faults source.old) (S.faults source.new))) }
 {
     let script = load(alloc, source)?;
-    match serve_callers(alloc, &script.callers) {
-        Ok(run) => Ok(to_print(run)),
+    match serve_by(rt, alloc, pairing, arena, script.callers, gate) {
+        Ok(told) => Ok(to_print(told)),
         Err(_) => Err(Stop::Memory),
     }
 }
 
-fn to_print(run: Run) -> Ready
-    ensures trace { result.trace ≡ run.trace }
-    ensures callers { result.printed.callers ≡ map (λ v. v.items) run.lines.items }
-    ensures pairs { result.printed.pairs ≡ run.pairs.items }
-{
-    Ready {
-        printed: Printed {
-            callers: run.lines,
-            pairs: run.pairs,
-        },
-        trace: run.trace,
-    }
-}
-
 /// The command `run`: serves the script on the source and writes what its calls were answered.
-fn serve_script<S: Source, K: Sink>(alloc: Global, source: &mut S, out: &mut K) -> Outcome
-    ensures lawful { IfSome result.run Lawful }
-    ensures good { IfSome result.run GoodThroughout }
+fn serve_script<R: Threads + Wait + Sync, S: Source, K: Sink, G: Gate + Sync>(
+    rt: &R,
+    alloc: Global,
+    pairing: Pairing,
+    arena: u32,
+    source: &mut S,
+    out: &mut K,
+    gate: &G,
+) -> Outcome
+    requires { (4 ≤ arena) × (arena ≤ 65536) }
+    ensures lawful { IfSome result.run (λ run. Lawful (trace_in run)) }
+    ensures good { IfSome result.run (λ run. GoodThroughout (trace_in run)) }
+    ensures due { IfSome result.run (λ run. FullsDue (row_of pairing).layout arena (trace_in run)) }
     ensures ran { IsSome result.run ↔ ((result.status ≡ 0) ⊎ (result.status ≡ 4)) }
     ensures status { (result.status ≡ 1 → ⊥) × (result.status ≤ 5) }
     ensures line { (result.status ≡ 2 → ⊥) → result.line ≡ 0 }
     ensures number { result.number ≡ 0 }
-    ensures done { result.status ≡ 0 → IfSome (S.left source.old) (λ bytes. IfSome result.run (λ h. Prints bytes h (λ text. Grew (K.taken out.old) (K.taken out.new) text))) }
-    ensures cut { result.status ≡ 4 → IfSome (S.left source.old) (λ bytes. IfSome result.run (λ h. Prints bytes h (λ text. GrewByFront (K.taken out.old) (K.taken out.new) text))) }
+    ensures done { result.status ≡ 0 → IfSome (S.left source.old) (λ bytes. IfSome result.run (λ run. Prints (row_of pairing).place bytes (trace_in run) (λ text. Grew (K.taken out.old) (K.taken out.new) text))) }
+    ensures cut { result.status ≡ 4 → IfSome (S.left source.old) (λ bytes. IfSome result.run (λ run. Prints (row_of pairing).place bytes (trace_in run) (λ text. GrewByFront (K.taken out.old) (K.taken out.new) text))) }
     ensures end { IsSome result.run → IfSome (S.left source.old) (λ _. S.left source.new ≡ Some []) }
     ensures untouched { (result.status ≡ 0 → ⊥) → (result.status ≡ 4 → ⊥) → K.taken out.new ≡ K.taken out.old }
     ensures refused { result.status ≡ 2 → IfSome (S.left source.old) (λ bytes. RefusedAt text.Script bytes result.line) }
     ensures source { result.status ≡ 3 → Rose (S.faults source.old) (S.faults source.new) }
     ensures output { result.status ≡ 4 → Rose (K.faults out.old) (K.faults out.new) }
 {
-    match prepare(alloc, source) {
+    match prepare(rt, alloc, pairing, arena, source, gate) {
         Ok(ready) => {
             let status = match write_run(out, &ready.printed) {
                 Ok(()) => 0,
@@ -188,16 +217,27 @@ fn check_run<S: Source, K: Sink>(alloc: Global, source: &mut S, out: &mut K) -> 
     }
 }
 
-/// Makes a script, serves it and sums it up; nothing is written yet.
-fn make(alloc: Global, callers: u32, calls: u32, first: u64) -> Result<Made, AllocError>
-    requires { callers ≤ 64 }
-    ensures lawful { IfOk result (λ made. Lawful made.trace) }
-    ensures good { IfOk result (λ made. GoodThroughout made.trace) }
-    ensures sums { IfOk result (λ made. SumsUp callers calls first made.trace made.text.items) }
+/// Makes a script, serves it by the pairing over so many nodes, and sums it up; nothing is written yet.
+fn make<R: Threads + Wait + Sync, G: Gate + Sync>(
+    rt: &R,
+    alloc: Global,
+    pairing: Pairing,
+    arena: u32,
+    draft: Draft,
+    gate: &G,
+) -> Result<Made, AllocError>
+    requires arena { (4 ≤ arena) × (arena ≤ 65536) }
+    requires callers { draft.callers ≤ 64 }
+    ensures lawful { IfOk result (λ made. Lawful (trace_in made.trace)) }
+    ensures good { IfOk result (λ made. GoodThroughout (trace_in made.trace)) }
+    ensures due { IfOk result (λ made. FullsDue (row_of pairing).layout arena (trace_in made.trace)) }
+    ensures sums { IfOk result (λ made. SumsUp (row_of pairing).place draft (trace_in made.trace) made.text.items) }
 {
-    let script = made_script(alloc, callers, calls, first)?;
-    let ready = to_print(serve_callers(alloc, &script.callers)?);
-    let text = summary(alloc, &script, &ready.printed)?;
+    let script = made_script(alloc, draft.callers, draft.calls, draft.first)?;
+    let size = Size::of(&script);
+    let told = serve_by(rt, alloc, pairing, arena, script.callers, gate)?;
+    let ready = to_print(told);
+    let text = summary(alloc, size, &ready.printed)?;
     Ok(Made {
         text,
         trace: ready.trace,
@@ -212,20 +252,30 @@ struct Made {
 }
 
 /// The command `make`: serves a script that is made, and writes the summary.
-fn make_run<K: Sink>(alloc: Global, callers: u32, calls: u32, first: u64, out: &mut K) -> Outcome
-    requires { callers ≤ 64 }
-    ensures lawful { IfSome result.run Lawful }
-    ensures good { IfSome result.run GoodThroughout }
+fn make_run<R: Threads + Wait + Sync, K: Sink, G: Gate + Sync>(
+    rt: &R,
+    alloc: Global,
+    pairing: Pairing,
+    arena: u32,
+    draft: Draft,
+    out: &mut K,
+    gate: &G,
+) -> Outcome
+    requires arena { (4 ≤ arena) × (arena ≤ 65536) }
+    requires callers { draft.callers ≤ 64 }
+    ensures lawful { IfSome result.run (λ run. Lawful (trace_in run)) }
+    ensures good { IfSome result.run (λ run. GoodThroughout (trace_in run)) }
+    ensures due { IfSome result.run (λ run. FullsDue (row_of pairing).layout arena (trace_in run)) }
     ensures ran { IsSome result.run ↔ ((result.status ≡ 0) ⊎ (result.status ≡ 4)) }
     ensures status { (result.status ≡ 0) ⊎ ((result.status ≡ 4) ⊎ (result.status ≡ 5)) }
     ensures line { result.line ≡ 0 }
     ensures number { result.number ≡ 0 }
-    ensures done { result.status ≡ 0 → IfSome result.run (λ h. Sums callers calls first h (λ t. Grew (K.taken out.old) (K.taken out.new) t)) }
-    ensures cut { result.status ≡ 4 → IfSome result.run (λ h. Sums callers calls first h (λ t. GrewByFront (K.taken out.old) (K.taken out.new) t)) }
+    ensures done { result.status ≡ 0 → IfSome result.run (λ run. Sums (row_of pairing).place draft (trace_in run) (λ t. Grew (K.taken out.old) (K.taken out.new) t)) }
+    ensures cut { result.status ≡ 4 → IfSome result.run (λ run. Sums (row_of pairing).place draft (trace_in run) (λ t. GrewByFront (K.taken out.old) (K.taken out.new) t)) }
     ensures untouched { (result.status ≡ 0 → ⊥) → (result.status ≡ 4 → ⊥) → K.taken out.new ≡ K.taken out.old }
     ensures output { result.status ≡ 4 → Rose (K.faults out.old) (K.faults out.new) }
 {
-    match make(alloc, callers, calls, first) {
+    match make(rt, alloc, pairing, arena, draft, gate) {
         Ok(made) => {
             let status = match send(out, &made.text) {
                 Ok(()) => 0,
@@ -243,22 +293,32 @@ fn make_run<K: Sink>(alloc: Global, callers: u32, calls: u32, first: u64, out: &
 }
 
 /// The whole program: does what the words ask for, and says on `err` what stood against it.
-pub fn serve<S: Source, K: Sink, E: Sink>(
+///
+/// The headline: for every pairing, script and gate, and however the steps of the callers fall between one another, the
+/// calls that are printed are, in the order of their numbers, one legal history of a finite map, each call once, those of
+/// each caller in its order; at every moment the keysets of the live nodes are disjoint and cover all keys; and `full` is
+/// answered only where that call found every node not free. Splits, merges and the use of a node again are steps like all
+/// others. It holds where the call returns, memory is not wanting, and source and sink do not fail.
+pub fn serve<R: Threads + Wait + Sync, S: Source, K: Sink, E: Sink, G: Gate + Sync>(
+    rt: &R,
     alloc: Global,
     words: &[String],
     source: &mut S,
     out: &mut K,
     err: &mut E,
+    gate: &G,
 ) -> Outcome
-    // What happened in a run is lawful, and the keysets of the live nodes are disjoint and cover all places, always.
-    ensures lawful { IfSome result.run Lawful }
-    ensures good { IfSome result.run GoodThroughout }
+    // What happened in a run is lawful, the keysets of the live nodes are disjoint and cover all places, always, and each
+    // Full was due.
+    ensures lawful { IfSome result.run (λ run. Lawful (trace_in run)) }
+    ensures good { IfSome result.run (λ run. GoodThroughout (trace_in run)) }
+    ensures due { (pairing : Pairing) (nodes : ℕ) → AskToServe (map string_bytes words.now) pairing nodes → IfSome result.run (λ run. FullsDue (row_of pairing).layout nodes (trace_in run)) }
     ensures ran { Asks (map string_bytes words.now) text.Script → (IsSome result.run ↔ ((result.status ≡ 0) ⊎ (result.status ≡ 4))) }
     ensures not_ran { Asks (map string_bytes words.now) text.Checked → IsNone result.run }
 
     // What is written is the text of a run that this served, or, where the output failed, first bytes of it.
-    ensures done { Asks (map string_bytes words.now) text.Script → result.status ≡ 0 → IfSome (S.left source.old) (λ bytes. IfSome result.run (λ h. Prints bytes h (λ t. Grew (K.taken out.old) (K.taken out.new) t))) }
-    ensures cut { Asks (map string_bytes words.now) text.Script → result.status ≡ 4 → IfSome (S.left source.old) (λ bytes. IfSome result.run (λ h. Prints bytes h (λ t. GrewByFront (K.taken out.old) (K.taken out.new) t))) }
+    ensures done { (pairing : Pairing) (nodes : ℕ) → Spells (map string_bytes words.now) (asked.Run pairing nodes) → result.status ≡ 0 → IfSome (S.left source.old) (λ bytes. IfSome result.run (λ run. Prints (row_of pairing).place bytes (trace_in run) (λ t. Grew (K.taken out.old) (K.taken out.new) t))) }
+    ensures cut { (pairing : Pairing) (nodes : ℕ) → Spells (map string_bytes words.now) (asked.Run pairing nodes) → result.status ≡ 4 → IfSome (S.left source.old) (λ bytes. IfSome result.run (λ run. Prints (row_of pairing).place bytes (trace_in run) (λ t. GrewByFront (K.taken out.old) (K.taken out.new) t))) }
     ensures end { Asks (map string_bytes words.now) text.Script → IsSome result.run → IfSome (S.left source.old) (λ _. S.left source.new ≡ Some []) }
 
     // Or it is the line of the judgment of the run that was read.
@@ -284,15 +344,10 @@ pub fn serve<S: Source, K: Sink, E: Sink>(
     ensures said_front { GrewByFront (E.taken err.old) (E.taken err.new) (status_text result.status result.line) }
 {
     let outcome = match command(words) {
-        Some(Asked::Run { .. }) => serve_script(alloc, source, out),
-        Some(
-            Asked::Make {
-                callers,
-                calls,
-                first,
-                ..
-            },
-        ) => make_run(alloc, callers, calls, first, out),
+        Some(Asked::Run { pairing, arena }) =>
+            serve_script(rt, alloc, pairing, arena, source, out, gate),
+        Some(Asked::Make { pairing, arena, draft }) =>
+            make_run(rt, alloc, pairing, arena, draft, out, gate),
         Some(Asked::Check) => check_run(alloc, source, out),
         None => Outcome::without_run(1, 0),
     };
