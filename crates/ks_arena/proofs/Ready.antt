@@ -23,7 +23,7 @@ use Rattle.ks_arena.specs.Sound.{Sort}
 use Rattle.ks_arena.specs.FromSound.{fine, unshaped}
 use Rattle.ks_arena.proofs.Moves.{May}
 
-full_kept : (layout : Layout) (g k : ℕ → NodeState) (i p : ℕ) → k i ≡ g i → IsFullFor layout g i p → IsFullFor layout k i p
+pub full_kept : (layout : Layout) (g k : ℕ → NodeState) (i p : ℕ) → k i ≡ g i → IsFullFor layout g i p → IsFullFor layout k i p
 full_kept layout g k i p same so = record { node = so.node; is = ap live_record same ∙ so.is; filled = so.filled; absent = so.absent }
 
 room_kept : (layout : Layout) (g k : ℕ → NodeState) (i place : ℕ) (op : Op) → k i ≡ g i → HasNoRoom layout g i op place → HasNoRoom layout k i op place

@@ -24,7 +24,6 @@ use Rattle.ks_history.specs.Stays.{StaysHeld}
 use Rattle.ks_arena.specs.declared.held.Held.{Held as Hand}
 use Rattle.std.specs.Slots.{slots_items}
 use Rattle.ks_arena.specs.declared.run.Run.{Run}
-use Rattle.ks_arena.specs.declared.run.RunTrace.{RunTrace}
 use Rattle.ks_arena.specs.declared.held.Note.{Note}
 use Rattle.ks_arena.specs.declared.held.Pass.{Pass}
 use Rattle.ks_arena.specs.declared.held.Taken.{Taken}
@@ -280,16 +279,9 @@ module _ (sort : Sort) (begins : Frame → Type 0) (asks : (ℕ → NodeState) �
   abbrev pub MayShape : ℕ → ℕ → List Event → List Change → Type 0
   MayShape nodes c seen changes = (h : List Event) → GrowsByOthers c seen h → Sound sort begins asks nodes h → asks (graph_after h) (frame_after (blank_of sort) h) changes
 
-abbrev pub seen_first : List View → List Event
-seen_first [] = []
-seen_first (v ∷ vs) = v.seen
-
 -- the trace of a run that has ended, the newest event first
-abbrev pub trace_in : RunTrace → List Event
-trace_in t = seen_first t.badge.views
-
 abbrev pub trace_of : {N : Type 0} → Run N → List Event
-trace_of r = trace_in r.trace
+trace_of r = r.trace
 
 -- a run over so many nodes that has ended: its trace is lawful, with a good graph throughout, each Full was due, the
 -- words and bodies are those after the trace, and no other node was ever used

@@ -139,6 +139,11 @@ part_of v = record { callers = v.callers; seen = v.seen }
 abbrev pub both_views : View → View → View
 both_views v w = record { callers = v.callers; seen = v.seen; absorbed = v.absorbed ++ (part_of w ∷ w.absorbed); made = max v.made w.made; mark = v.mark }
 
+-- what the first of the views has seen
+abbrev pub seen_first : List View → List Event
+seen_first [] = []
+seen_first (v ∷ vs) = v.seen
+
 abbrev pub spent_view : View
 spent_view = record { callers = []; seen = []; absorbed = []; made = 0; mark = Quiet }
 

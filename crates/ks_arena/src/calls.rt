@@ -1,16 +1,19 @@
 //! What makes a call ready to be decided. The functions compute nothing: their contracts are laws.
-ghost use Rattle.std.specs.Prelude.{◌≡◌, List, true};
+ghost use Rattle.std.specs.Prelude.{◌≡◌, ◌≢◌, List, IsTrue, Some, None, ℕ, true, false};
 ghost use Rattle.ks_keysets.specs.Keyset.{InInset};
 ghost use Rattle.ks_history.specs.declared.Event.{Event as Happening};
-ghost use Rattle.ks_history.specs.declared.Op.TheVariants.{Del, Get, Put};
+ghost use Rattle.ks_history.specs.declared.Op.TheVariants.{Add, Del, Get, Put, Swap};
+ghost use Rattle.ks_history.specs.declared.Reply.TheVariants.{Full, Nothing, Value};
+ghost use Rattle.ks_history.specs.Due.{IsFullFor, NoneFree};
 ghost use Rattle.ks_history.specs.Map.{told};
-ghost use Rattle.ks_history.specs.Passes.{Has};
-ghost use Rattle.ks_history.specs.Trace.{graph_after};
+ghost use Rattle.ks_history.specs.Passes.{GrowsByOthers, Has, NoCallBy};
+ghost use Rattle.ks_history.specs.Trace.{◌⊑◌, graph_after};
 ghost use Rattle.ks_node.specs.declared.start.Next.TheVariants.{Here};
-ghost use Rattle.ks_node.specs.Body.{next_at, value_at};
+ghost use Rattle.ks_node.specs.Body.{is_branch, next_at, value_at};
 ghost use Rattle.ks_node.specs.Effect.{pairs_del, pairs_put, with_pairs};
+ghost use Rattle.ks_node.specs.Room.{is_full};
 ghost use Rattle.ks_arena.specs.declared.held.Held.{Held as Hand};
-ghost use Rattle.ks_arena.specs.Sound.{sort_of};
+ghost use Rattle.ks_arena.specs.Sound.{sort_of, Sound};
 ghost use Rattle.ks_arena.specs.Clauses.{IsPass, hand_of, seen_of, Matches, IsReady};
 
 use crate::arena::Arena;
@@ -65,6 +68,57 @@ impl<N: Node, D: Discipline> Arena<N, D> {
         requires inside { InInset (graph_after (seen_of pass.now)) held.now.node place }
         requires here { next_at (N.body held.now.body) place ≡ Here }
         ensures { (x : Hand N) → x.node ≡ held.now.node → x.live ≡ true → N.body x.body ≡ with_pairs (N.body held.now.body) (pairs_del place (N.body held.now.body).pairs) → IsReady (sort_of N.layout N.ranged) N.body self.now.nodes pass.now.caller (seen_of pass.now) x (Del place) (told (value_at (N.body held.now.body).pairs place)) }
+    {
+        sound_law::<D>();
+        node_law(&held.body);
+    }
+
+    /// Where a Get may be decided, an Add may be. Where the body has a value at the place, the reply tells it and the body
+    /// stays; else the value is put there.
+    pub fn add_law(&self, pass: &Pass<N, D>, held: &Held<N>, place: u64, value: u128)
+        requires pass { IsPass (sort_of N.layout N.ranged) D.begins D.step self.now.table.shared.table_id self.now.callers pass.now }
+        requires holds { Has (hand_of pass.now) held.now.node }
+        requires body { (held.now.live ≡ true) × Matches (sort_of N.layout N.ranged) N.body (seen_of pass.now) held.now }
+        requires inside { InInset (graph_after (seen_of pass.now)) held.now.node place }
+        requires here { next_at (N.body held.now.body) place ≡ Here }
+        ensures stays { (found : ℕ) → value_at (N.body held.now.body).pairs place ≡ Some found → IsReady (sort_of N.layout N.ranged) N.body self.now.nodes pass.now.caller (seen_of pass.now) held.now (Add place value) (Value found) }
+        ensures adds { value_at (N.body held.now.body).pairs place ≡ None → (x : Hand N) → x.node ≡ held.now.node → x.live ≡ true → N.body x.body ≡ with_pairs (N.body held.now.body) (pairs_put place value (N.body held.now.body).pairs) → IsReady (sort_of N.layout N.ranged) N.body self.now.nodes pass.now.caller (seen_of pass.now) x (Add place value) Nothing }
+    {
+        sound_law::<D>();
+        node_law(&held.body);
+    }
+
+    /// Where a Get may be decided, a Swap may be. Its reply tells what stood at the place. Where that is the old value, the
+    /// new one is put there; else the body stays.
+    pub fn swap_law(&self, pass: &Pass<N, D>, held: &Held<N>, place: u64, old: u128, new: u128)
+        requires pass { IsPass (sort_of N.layout N.ranged) D.begins D.step self.now.table.shared.table_id self.now.callers pass.now }
+        requires holds { Has (hand_of pass.now) held.now.node }
+        requires body { (held.now.live ≡ true) × Matches (sort_of N.layout N.ranged) N.body (seen_of pass.now) held.now }
+        requires inside { InInset (graph_after (seen_of pass.now)) held.now.node place }
+        requires here { next_at (N.body held.now.body) place ≡ Here }
+        ensures swaps { value_at (N.body held.now.body).pairs place ≡ Some old → (x : Hand N) → x.node ≡ held.now.node → x.live ≡ true → N.body x.body ≡ with_pairs (N.body held.now.body) (pairs_put place new (N.body held.now.body).pairs) → IsReady (sort_of N.layout N.ranged) N.body self.now.nodes pass.now.caller (seen_of pass.now) x (Swap place old new) (Value old) }
+        ensures stays { value_at (N.body held.now.body).pairs place ≢ Some old → IsReady (sort_of N.layout N.ranged) N.body self.now.nodes pass.now.caller (seen_of pass.now) held.now (Swap place old new) (told (value_at (N.body held.now.body).pairs place)) }
+    {
+        sound_law::<D>();
+        node_law(&held.body);
+    }
+
+    /// Where a Get may be decided, a Put or an Add may be refused where the body is full and has no pair at the place, if no
+    /// node was free for it since some moment after which the caller has made no call. The node stays full for the place
+    /// while others act.
+    pub fn full_law(&self, pass: &Pass<N, D>, held: &Held<N>, place: u64, value: u128)
+        requires pass { IsPass (sort_of N.layout N.ranged) D.begins D.step self.now.table.shared.table_id self.now.callers pass.now }
+        requires holds { Has (hand_of pass.now) held.now.node }
+        requires body { (held.now.live ≡ true) × Matches (sort_of N.layout N.ranged) N.body (seen_of pass.now) held.now }
+        requires inside { InInset (graph_after (seen_of pass.now)) held.now.node place }
+        requires here { next_at (N.body held.now.body) place ≡ Here }
+        requires no_branch { is_branch (N.body held.now.body) ≡ false }
+        requires full { IsTrue (is_full N.layout (N.body held.now.body)) }
+        requires absent { value_at (N.body held.now.body).pairs place ≡ None }
+        requires none_free { (start : List Happening) × (since : start ⊑ seen_of pass.now) × NoCallBy pass.now.caller since.rest × NoneFree N.layout self.now.nodes pass.now.caller place start (seen_of pass.now) }
+        ensures put { IsReady (sort_of N.layout N.ranged) N.body self.now.nodes pass.now.caller (seen_of pass.now) held.now (Put place value) Full }
+        ensures add { IsReady (sort_of N.layout N.ranged) N.body self.now.nodes pass.now.caller (seen_of pass.now) held.now (Add place value) Full }
+        ensures still { (h : List Happening) → GrowsByOthers pass.now.caller (seen_of pass.now) h → Sound (sort_of N.layout N.ranged) D.begins D.step self.now.table.shared.table_id.slots h → IsFullFor N.layout (graph_after h) held.now.node place }
     {
         sound_law::<D>();
         node_law(&held.body);

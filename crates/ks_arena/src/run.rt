@@ -2,17 +2,28 @@
 ghost use Rattle.std.specs.Prelude.{◌≡◌, ℕ};
 ghost use Rattle.ks_arena.specs.Sound.{sort_of};
 ghost use Rattle.ks_history.specs.Trace.{number_after};
-ghost use Rattle.ks_arena.specs.Clauses.{IsRun, trace_of, trace_in};
+ghost use Rattle.ks_arena.specs.Clauses.{IsRun, trace_of};
 
 use crate::remains::Remains;
 use crate::view::View;
 use atomic_table::Badge;
 use ks_node::Node;
+use std::marker::Model;
 
-/// The trace of a run, for the proofs alone.
+/// The trace of a run, for the proofs alone. Contracts see it as its events, the newest first.
 #[derive(Drop)]
 pub struct RunTrace {
     pub(crate) badge: Badge<View>,
+}
+
+impl Model for RunTrace {
+    ghost use Rattle.std.specs.Prelude.{List};
+    ghost use Rattle.ks_history.specs.declared.Event.{Event};
+    ghost use Rattle.ks_arena.specs.Rule.{seen_first};
+
+    ghost Value = { List Event };
+
+    ghost view = { λ t. seen_first t.badge.views };
 }
 
 /// An arena that has ended.
@@ -31,8 +42,9 @@ impl<N: Node> Run<N> {
         self.remains.closed.word(0)
     }
 
+    /// Its trace.
     pub fn trace(self) -> RunTrace
-        ensures { trace_in result ≡ trace_of self }
+        ensures { result ≡ trace_of self }
     {
         let Run { remains: _, trace } = self;
         trace

@@ -13,8 +13,9 @@ use Rattle.ks_node.specs.Body.{pairs_below, pairs_from, starts_below, starts_fro
 use Rattle.ks_node.specs.Room.{load, is_full, IsHeld, fit_together}
 use Rattle.ks_node.specs.Effect.{pairs_put, pairs_del, first_from, without, without_at}
 use Rattle.ks_node.specs.Edges.{edges_of}
-use Rattle.ks_node.specs.Asks.{Absorbs, Suits, IsGoodCut, AdoptsInside}
+use Rattle.ks_node.specs.Asks.{Absorbs, Suits, IsGoodCut, AdoptsInside, BranchesAdopt, HalvesHaveRoom}
 use Rattle.ks_node.specs.Sound.{Sound}
+use Rattle.ks_node.specs.Cuts.{length-below, length-from}
 use Rattle.ks_node.specs.Starts.{differ, filter_le}
 use Rattle.ks_node.specs.Keep.{sound_blank, sound_put, sound_del, sound_adopt, sound_left, sound_right, sound_grown, sound_absorb, sound_forget}
 use Rattle.ks_node.specs.Spans.{begins_start, plain_edges, AreWithin, within_all, edges_are, length_edges}
@@ -166,7 +167,7 @@ fit_held {b = false} f c e = let same : 16 ≡ c = cc in omega (arith, f.pairs_f
 pub fit_few : {low : ℕ} {b : Bool} {ps : List Pair} {ss : List Start} → Fit low b ps ss → length ss < 2 ^ 32 - 1
 fit_few f = omega (arith, f.starts_fit)
 
-pub fit_leaf : {low : ℕ} {b : Bool} {ps : List Pair} {ss : List Start} → Fit low b ps ss → is_branch (bplus_body low b ps ss) ≡ false → length ss ≡ 0
+fit_leaf : {low : ℕ} {b : Bool} {ps : List Pair} {ss : List Start} → Fit low b ps ss → is_branch (bplus_body low b ps ss) ≡ false → length ss ≡ 0
 fit_leaf {b = true} f e = absurd (differ e refl)
 fit_leaf {b = false} f e = f.leaf refl
 
@@ -174,9 +175,12 @@ fit_leaf {b = false} f e = f.leaf refl
 not_full : (n : ℕ) → n ≤ 16 → nat_eq n 16 ≡ false → n < 16
 not_full n h e = grind arith
 
-pub fit_adopts : {low : ℕ} {b : Bool} {ps : List Pair} {ss : List Start} → Fit low b ps ss → AdoptsInside bplus_can_adopt bplus_layout (bplus_body low b ps ss)
+fit_adopts : {low : ℕ} {b : Bool} {ps : List Pair} {ss : List Start} → Fit low b ps ss → AdoptsInside bplus_can_adopt bplus_layout (bplus_body low b ps ss)
 fit_adopts {b = true} {ss = ss} f cut branch less inside free = rw free (lt-ltb (length ss) 16 (not_full (length ss) f.starts_fit less))
 fit_adopts {b = false} f cut branch less inside free = absurd (differ refl branch)
+
+pub fit_adopting : {low : ℕ} {b : Bool} {ps : List Pair} {ss : List Start} → Fit low b ps ss → BranchesAdopt bplus_can_adopt bplus_layout (bplus_body low b ps ss)
+fit_adopting f = record { bare = fit_leaf f; inside = fit_adopts f }
 
 pub full_is : (low : ℕ) (b : Bool) (ps : List Pair) (ss : List Start) → IsTrue (is_full bplus_layout (bplus_body low b ps ss)) → load (bplus_body low b ps ss) ≡ 16
 full_is low true ps ss h = eqb-true (length ss) 16 h
@@ -211,6 +215,22 @@ fit_cuts {b = false} {ps = ps} {ss = ss} f span o full suits =
       splits = ((omega (arith, first.0, rise, low_is), λ r e. absurd (no_range r e)), λ e. absurd (kinds_differ e), λ e k d h. absurd (omega (arith, f.leaf refl)));
     }
 
+-- half of what a full node holds goes to each side of its cut
+pub fit_halves : {low : ℕ} {b : Bool} {ps : List Pair} {ss : List Start} → Fit low b ps ss → load (bplus_body low b ps ss) ≡ 16 → (o : Option Span) →
+    HalvesHaveRoom bplus_layout (bplus_cut (bplus_content low b ps ss) o) (bplus_body low b ps ss)
+fit_halves {b = true} {ss = ss} f full o =
+    let none : Start = record { low = 0; node = 0 } in
+    let cut : ℕ = (get_or ss 8 none).low in
+    let left : length (starts_below cut ss) ≡ 8 = length-below (λ s. s.low) ss 8 none f.sound.starts_ascend (omega arith) in
+    let right : length (starts_from cut ss) ≡ 8 = omega (arith, length-from (λ s. s.low) ss 8 none f.sound.starts_ascend (omega arith)) in
+    (rw left refl, rw (first_length 0 (starts_from cut ss), right) refl)
+fit_halves {b = false} {ps = ps} f full o =
+    let none : Pair = record { place = 0; value = 0 } in
+    let cut : ℕ = (get_or ps 8 none).place in
+    let left : length (pairs_below cut ps) ≡ 8 = length-below (λ x. x.place) ps 8 none f.sound.pairs_ascend (omega arith) in
+    let right : length (pairs_from cut ps) ≡ 8 = omega (arith, length-from (λ x. x.place) ps 8 none f.sound.pairs_ascend (omega arith)) in
+    (rw left refl, rw right refl)
+
 -- the edges of a node, one for each child
 
 pub fit_edges : (low : ℕ) (b : Bool) (ps : List Pair) (ss : List Start) → Fit low b ps ss → edges_of (bplus_body low b ps ss) ≡ plain_edges 0 top ss
@@ -233,3 +253,13 @@ pub fit_cut_leaf : (low : ℕ) (b : Bool) (ps : List Pair) (ss : List Start) →
     Suits (bplus_body low b ps ss) span → IsGoodCut (bplus_body low b ps ss) span (get_or ps 8 (record { place = 0; value = 0 })).place
 fit_cut_leaf low true ps ss e f full span suits = absurd (differ e refl)
 fit_cut_leaf low false ps ss e f full span suits = fit_cuts f span None (full_is low false ps ss full) suits
+
+pub fit_halves_inner : (low : ℕ) (b : Bool) (ps : List Pair) (ss : List Start) → b ≡ true → Fit low b ps ss → IsTrue (is_full bplus_layout (bplus_body low b ps ss)) →
+    HalvesHaveRoom bplus_layout (get_or ss 8 (record { low = 0; node = 0 })).low (bplus_body low b ps ss)
+fit_halves_inner low true ps ss e f full = fit_halves f (full_is low true ps ss full) None
+fit_halves_inner low false ps ss e f full = absurd (differ refl e)
+
+pub fit_halves_leaf : (low : ℕ) (b : Bool) (ps : List Pair) (ss : List Start) → b ≡ false → Fit low b ps ss → IsTrue (is_full bplus_layout (bplus_body low b ps ss)) →
+    HalvesHaveRoom bplus_layout (get_or ps 8 (record { place = 0; value = 0 })).place (bplus_body low b ps ss)
+fit_halves_leaf low true ps ss e f full = absurd (differ e refl)
+fit_halves_leaf low false ps ss e f full = fit_halves f (full_is low false ps ss full) None

@@ -57,7 +57,7 @@ impl Node for BNode {
     ghost use Rattle.ks_keysets.specs.declared.Kind.TheVariants.{Inner};
     ghost use Rattle.ks_node.specs.Body.{Body};
     ghost use Rattle.ks_bplus.specs.Bplus.{bplus_body, bplus_can_adopt, bplus_cut};
-    ghost use Rattle.ks_bplus.specs.Fits.{fit_held, no_range};
+    ghost use Rattle.ks_bplus.specs.Fits.{fit_held, fit_adopting, no_range};
 
     type Places = Plain;
 
@@ -79,6 +79,10 @@ impl Node for BNode {
 
     ghost can_adopt_at = { bplus_can_adopt };
 
+    ghost branches_adopt = { true };
+
+    ghost halves_have_room = { true };
+
     ghost grows_at = { λ _. true };
 
     ghost can_grow_at = { λ _ _. true };
@@ -94,6 +98,8 @@ impl Node for BNode {
     ghost held = { λ n. fit_held n.fit };
 
     ghost has_range = { λ n. refl };
+
+    ghost adopting = { λ _ n. fit_adopting n.fit };
 
     ghost room_is = { refl };
 
@@ -218,7 +224,6 @@ impl Node for BNode {
 impl Unlinked for BNode {
     ghost use Rattle.std.specs.Prelude.{refl};
     ghost use Rattle.std.proofs.Common.{inr};
-    ghost use Rattle.ks_bplus.specs.Fits.{fit_adopts, fit_leaf};
 
     ghost no_link = { λ n. refl };
 
@@ -226,7 +231,7 @@ impl Unlinked for BNode {
 
     ghost by_span = { refl };
 
-    ghost sort = { λ _. inr (λ n. (refl, fit_leaf n.fit, fit_adopts n.fit)) };
+    ghost sort = { λ _. inr (λ n. refl, refl, refl) };
 
     fn split_to(&mut self, right: &mut Self, cut: u64) {
         right.low = cut;

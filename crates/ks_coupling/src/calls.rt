@@ -15,8 +15,8 @@ use ks_flow::Tree;
 use ks_gate::{Gate, Point};
 use ks_history::Op;
 use ks_node::{Unlinked, node_law};
-use ks_put::{Full, pair_put};
-use ks_shape::{Numbered, conclude, reply_of};
+use ks_put::pair_put;
+use ks_shape::{Full, Numbered, conclude, reply_of};
 use std::sync::Wait;
 
 /// Answers the value at a place, and the number of the call. It holds two nodes at most.

@@ -15,8 +15,8 @@ use ks_flow::Tree;
 use ks_gate::{Gate, Point};
 use ks_history::Op;
 use ks_node::{Ranged, Unlinked, node_law};
-use ks_put::{Full, pair_put, put_after_law, put_here};
-use ks_shape::{Numbered, conclude, reply_of};
+use ks_put::{pair_put, put_after_law, put_here};
+use ks_shape::{Full, Numbered, conclude, reply_of};
 use std::sync::Wait;
 
 /// Answers the value at a place, and the number of the call. It holds one node at a time.

@@ -67,6 +67,7 @@ impl Node for HNode {
     ghost use Rattle.ks_node.specs.Body.{Body};
     ghost use Rattle.ks_hash.specs.Hash.{hash_body, hash_can_adopt, hash_grows, hash_can_grow, hash_cut, hash_span};
     ghost use Rattle.ks_hash.specs.Fits.{fit_held, no_range};
+    ghost use Rattle.ks_node.specs.Starts.{differ};
 
     type Places = Golden;
 
@@ -88,6 +89,10 @@ impl Node for HNode {
 
     ghost can_adopt_at = { hash_can_adopt };
 
+    ghost branches_adopt = { false };
+
+    ghost halves_have_room = { false };
+
     ghost grows_at = { hash_grows };
 
     ghost can_grow_at = { hash_can_grow };
@@ -103,6 +108,8 @@ impl Node for HNode {
     ghost held = { λ n. fit_held n.fit };
 
     ghost has_range = { λ n. refl };
+
+    ghost adopting = { λ promised. absurd (differ refl promised) };
 
     ghost room_is = { refl };
 

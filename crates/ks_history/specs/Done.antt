@@ -5,12 +5,12 @@ use Rattle.ks_keysets.specs.declared.Frame.{Frame}
 use Rattle.ks_keysets.specs.Keyset.{record_at}
 use Rattle.ks_keysets.specs.Layout.{Layout, IsTight, IsTidyAt}
 use Rattle.ks_history.specs.declared.Op.{Op}
-use Rattle.ks_history.specs.declared.Op.TheVariants.{Get, Swap}
+use Rattle.ks_history.specs.declared.Op.TheVariants.{Get, Put, Del, Add, Swap}
 use Rattle.ks_history.specs.declared.Reply.{Reply}
 use Rattle.ks_history.specs.declared.Reply.TheVariants.{Full}
 use Rattle.ks_history.specs.declared.Event.{Event}
 use Rattle.ks_history.specs.declared.Event.TheVariants.{Take, Give, Claim, Shape, Call}
-use Rattle.ks_history.specs.Trace.{held, called, call_in, graph_after, turn_after, frame_after, number_after, hand}
+use Rattle.ks_history.specs.Trace.{held, called, call_in, decided_at, graph_after, turn_after, frame_after, number_after, hand}
 use Rattle.ks_history.specs.Passes.{NoCallBy}
 use Rattle.ks_history.specs.Due.{FullDue}
 
@@ -48,14 +48,19 @@ TakesWell template c op h (Claim d i) = Unit {0}
 TakesWell template c op h (Shape d changes) = Unit {0}
 TakesWell template c op h (Call d i op' reply) = Unit {0}
 
+-- how many nodes a call holds at most that never needs one more
+abbrev pub most_searched : Template → ℕ
+most_searched coupling = 2
+most_searched give_up = 1
+most_searched link_move = 1
+
 -- how many nodes a call holds at most
 abbrev pub most_held : Template → Op → ℕ
-most_held coupling (Get p) = 2
-most_held coupling (Swap p old new) = 2
-most_held coupling op = 3
-most_held template (Get p) = 1
-most_held template (Swap p old new) = 1
-most_held template op = 3
+most_held template (Get p) = most_searched template
+most_held template (Put p v) = 3
+most_held template (Del p) = 3
+most_held template (Add p v) = 3
+most_held template (Swap p old new) = most_searched template
 
 -- from s0 on caller c takes nodes as it may, and never holds more than its operation needs
 pub data Hands (template : Template) (c : ℕ) (op : Op) (s0 : List Event) : List Event → Type 0 where
@@ -76,6 +81,12 @@ pub record Done (layout : Layout) (template : Template) (n c : ℕ) (op : Op) (s
   pub gave_all : hand c s1 ≡ []
   pub hands : Hands template c op s0 s1
   pub full : reply ≡ Full → FullDue layout n s0 (before ++ s0) event
+
+-- so it is, and the event was at this node alone, which then had this frame; blank is the frame of a blank body
+pub record DoneAt (layout : Layout) (template : Template) (n c : ℕ) (op : Op) (s0 s1 : List Event) (reply : Reply) (number node : ℕ) (blank frame : Frame) : Type 0 where
+  pub done : Done layout template n c op s0 s1 reply number
+  pub at : decided_at done.event ≡ node ∷ []
+  pub framed : frame_after blank (done.before ++ s0) node ≡ frame
 
 -- the call of c between s0 and s1 made no such event, and gave all back
 pub record Left (template : Template) (c : ℕ) (op : Op) (s0 s1 : List Event) : Type 0 where

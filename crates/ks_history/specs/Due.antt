@@ -115,13 +115,19 @@ pub record BusyDue (c : ℕ) (op : Op) (s0 s1 : List Event) (node holder : ℕ) 
 
 -- the event is a Shape of another caller than c that names the node
 abbrev pub ShapesFor : ℕ → ℕ → Event → Type 0
+ShapesFor c node (Take d i) = ⊥
+ShapesFor c node (Give d i) = ⊥
+ShapesFor c node (Claim d i) = ⊥
 ShapesFor c node (Shape d changes) = (d ≢ c) × Any (λ x. x.node ≡ node) changes
-ShapesFor c node e = ⊥
+ShapesFor c node (Call d i op reply) = ⊥
 
 -- the event is a Shape of another caller than c
 abbrev pub ShapesBesides : ℕ → Event → Type 0
+ShapesBesides c (Take d i) = ⊥
+ShapesBesides c (Give d i) = ⊥
+ShapesBesides c (Claim d i) = ⊥
 ShapesBesides c (Shape d changes) = d ≢ c
-ShapesBesides c e = ⊥
+ShapesBesides c (Call d i op reply) = ⊥
 
 -- the answer of caller c, between s0 and s1, that the node moved: it is on the way of the operation's place, at a later
 -- moment its inset lacks the place or it is not live, and a Shape of another caller has named it

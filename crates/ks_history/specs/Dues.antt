@@ -6,12 +6,16 @@ use native.Mathlib.Decide.{ℕ_discrete}
 use Rattle.ks_keysets.specs.declared.NodeState.{NodeState}
 use Rattle.ks_keysets.specs.Keyset.{live_record, record_at, IsLive, InKeyset}
 use Rattle.ks_keysets.specs.Layout.{Layout, list_layout, bplus_layout, hash_layout}
+use Rattle.ks_history.specs.declared.Op.{Op}
+use Rattle.ks_history.specs.declared.Op.TheVariants.{Get, Put, Del, Add, Swap}
+use Rattle.ks_history.specs.declared.Reply.TheVariants.{Full}
 use Rattle.ks_history.specs.declared.Event.{Event}
 use Rattle.ks_history.specs.declared.Event.TheVariants.{Take, Give, Claim, Shape, Call}
+use Rattle.ks_history.specs.Map.{Touches}
 use Rattle.ks_history.specs.Trace.{◌⊑◌, free, held, caller_of, graph_after, turn_after, hand}
 use Rattle.ks_history.specs.Passes.{NoneBy, NoCallBy, GrowsByOthers, Has}
 use Rattle.ks_history.specs.Hand.{held_in_hand}
-use Rattle.ks_history.specs.Due.{FindsNoRoom, MayGrow, HoldsLive, HoldsLiveBut, NoneFree, FullDue, last_call, Sometime}
+use Rattle.ks_history.specs.Due.{IsFullFor, HasNoRoom, FindsNoRoom, MayGrow, HoldsLive, HoldsLiveBut, NoneFree, FullDue, last_call, Sometime}
 use Rattle.ks_history.specs.Stays.{AreInTurn, StaysHeld, cond_here, cond_else}
 use Rattle.ks_history.specs.Begins.{none_by_older, begins_self, begins_more, begins_both, by_others_keeps, by_others_turn, in_turn_begins}
 
@@ -160,6 +164,35 @@ is_due_by layout n place s h e no_room none begins quiet = record {
   no_room = no_room;
   none_free = none_free_earlier layout n (caller_of e) place (last_call (caller_of e) h) s h
       (subst (λ (z : List Event). last_call (caller_of e) z ⊑ s) (sym begins.is) (last_call_before (caller_of e) begins.rest s quiet)) none;
+}
+
+-- a node that stays as it is has no room later either
+
+full_kept : (layout : Layout) (g k : ℕ → NodeState) (i p : ℕ) → k i ≡ g i → IsFullFor layout g i p → IsFullFor layout k i p
+full_kept layout g k i p same full = record { node = full.node; is = ap live_record same ∙ full.is; filled = full.filled; absent = full.absent }
+
+pub no_room_kept : (layout : Layout) (g k : ℕ → NodeState) (i place : ℕ) (op : Op) → k i ≡ g i → HasNoRoom layout g i op place → HasNoRoom layout k i op place
+no_room_kept layout g k i place (Get p) same none = none
+no_room_kept layout g k i place (Put p v) same none = (none.0, full_kept layout g k i p same none.1)
+no_room_kept layout g k i place (Del p) same none = none
+no_room_kept layout g k i place (Add p v) same none = (none.0, full_kept layout g k i p same none.1)
+no_room_kept layout g k i place (Swap p old new) same none = none
+
+-- the place for which it has none is the operation's
+pub no_room_place : (layout : Layout) (g : ℕ → NodeState) (i p q : ℕ) (op : Op) → Touches op p → HasNoRoom layout g i op q → p ≡ q
+no_room_place layout g i p q (Get k) at none = absurd none
+no_room_place layout g i p q (Put k v) at none = at ∙ none.0
+no_room_place layout g i p q (Del k) at none = absurd none
+no_room_place layout g i p q (Add k v) at none = at ∙ none.0
+no_room_place layout g i p q (Swap k old new) at none = absurd none
+
+-- a Full that is due is due at a later moment too, at which its node stands as it did, and since any beginning since
+-- which no node was free for its place
+pub full_due_later : (layout : Layout) (n c i place : ℕ) (op : Op) (r s h k : List Event) → h ⊑ k → graph_after k i ≡ graph_after h i → Touches op place → NoneFree layout n c place s h → FullDue layout n r h (Call c i op Full) → FullDue layout n s k (Call c i op Full)
+full_due_later layout n c i place op r s h k begins same touched none due = record {
+  place = due.place;
+  no_room = (no_room_kept layout (graph_after h) (graph_after k) i due.place op same due.no_room.0, refl);
+  none_free = none_free_later layout n c due.place s h k begins (subst (λ (p : ℕ). NoneFree layout n c p s h) (no_room_place layout (graph_after h) i place due.place op touched due.no_room.0) none);
 }
 
 -- what a caller holds that holds one live node, or that node and one that it has claimed

@@ -17,8 +17,11 @@ use Rattle.ks_history.specs.Turns.{record_with, given_kept, state_written, free_
 
 -- the event is no Shape
 abbrev pub IsNoShape : Event → Type 0
+IsNoShape (Take c i) = Unit {0}
+IsNoShape (Give c i) = Unit {0}
+IsNoShape (Claim c i) = Unit {0}
 IsNoShape (Shape c changes) = ⊥
-IsNoShape e = Unit {0}
+IsNoShape (Call c i op reply) = Unit {0}
 
 -- none of the events is a Shape
 abbrev pub NoShapes : List Event → Type 0

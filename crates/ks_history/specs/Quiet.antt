@@ -17,7 +17,9 @@ use Rattle.ks_history.specs.Alone.{ActsAlone, alone_first, alone_then, alone_sti
 abbrev pub IsTurn : Event → Type 0
 IsTurn (Take c i) = Unit {0}
 IsTurn (Give c i) = Unit {0}
-IsTurn e = ⊥
+IsTurn (Claim c i) = ⊥
+IsTurn (Shape c changes) = ⊥
+IsTurn (Call c i op reply) = ⊥
 
 abbrev pub AllTurns : List Event → Type 0
 AllTurns [] = Unit {0}

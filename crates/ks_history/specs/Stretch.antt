@@ -7,7 +7,7 @@ use Rattle.ks_history.specs.declared.Event.{Event}
 use Rattle.ks_history.specs.declared.Event.TheVariants.{Take, Give, Claim, Shape}
 use Rattle.ks_history.specs.Trace.{◌⊑◌, hand, drop_one}
 use Rattle.ks_history.specs.Passes.{GrowsByOthers, GrowsWith}
-use Rattle.ks_history.specs.Done.{Template, coupling, give_up, link_move, MayBegin, MayTake, first_taken, most_held}
+use Rattle.ks_history.specs.Done.{Template, MayBegin, MayTake, first_taken, most_held}
 use Rattle.ks_history.specs.Underway.{Underway, underway_others, underway_with, underway_both, underway_here}
 use Rattle.ks_history.specs.Begins.{by_others_hand, with_others, give_hand}
 
@@ -30,9 +30,7 @@ stretch_both template c g h k a b = λ op three. underway_both template c op g h
 
 -- a put may hold three nodes, by each template
 three_held : (template : Template) → 3 ≤ most_held template (Put 0 0)
-three_held coupling = omega arith
-three_held give_up = omega arith
-three_held link_move = omega arith
+three_held template = omega arith
 
 pub stretch_begins : (template : Template) (c : ℕ) (h k : List Event) → Stretch template c h k → h ⊑ k
 stretch_begins template c h k so = let under = so (Put 0 0) (three_held template) in record { rest = under.rest; is = under.is }

@@ -102,6 +102,14 @@ call_in (Claim c i) = None
 call_in (Shape c changes) = None
 call_in (Call c i op reply) = Some (called c op reply)
 
+-- the nodes at which the event decides a call; none if it is no call
+abbrev pub decided_at : Event → List ℕ
+decided_at (Take c i) = []
+decided_at (Give c i) = []
+decided_at (Claim c i) = []
+decided_at (Shape c changes) = []
+decided_at (Call c i op reply) = i ∷ []
+
 -- the calls of the trace, oldest first
 abbrev pub calls_of : List Event → List Answered
 calls_of [] = []

@@ -40,7 +40,7 @@ pub record Decided (layout : Layout) (template : Template) (n c : ℕ) (op : Op)
 pub left_of : (template : Template) (c : ℕ) (op : Op) (s0 s1 : List Event) → Underway template c op s0 s1 → hand c s1 ≡ [] → Left template c op s0 s1
 left_of template c op s0 s1 so empty = record { rest = so.rest; is = so.is; none = so.none; gave_all = empty; hands = so.hands }
 
-pub done_of : (layout : Layout) (template : Template) (n c : ℕ) (op : Op) (s0 s1 : List Event) (reply : Reply) (number : ℕ) → Decided layout template n c op s0 s1 reply number → hand c s1 ≡ [] → Done layout template n c op s0 s1 reply number
+abbrev pub done_of : (layout : Layout) (template : Template) (n c : ℕ) (op : Op) (s0 s1 : List Event) (reply : Reply) (number : ℕ) → Decided layout template n c op s0 s1 reply number → hand c s1 ≡ [] → Done layout template n c op s0 s1 reply number
 done_of layout template n c op s0 s1 reply number so empty = record {
   before = so.before;
   event = so.event;
@@ -96,7 +96,7 @@ may_take_later template c i op g h so are (from_above above) = from_above (above
 abbrev pub IsNoCall : Event → Type 0
 IsNoCall e = elim (call_in e) [ None ↦ Unit {0} | Some call ↦ ⊥ ]
 
-none_with : (c : ℕ) (e : Event) (es : List Event) → IsNoCall e → NoCallBy c es → NoCallBy c (e ∷ es)
+pub none_with : (c : ℕ) (e : Event) (es : List Event) → IsNoCall e → NoCallBy c es → NoCallBy c (e ∷ es)
 none_with c (Take d i) es quiet none = none
 none_with c (Give d i) es quiet none = none
 none_with c (Claim d i) es quiet none = none
@@ -124,7 +124,7 @@ underway_with template c op e s0 g h quiet so well few under = record {
 }
 
 -- its event that is a call
-pub underway_calls : (layout : Layout) (template : Template) (n c : ℕ) (op : Op) (reply : Reply) (number : ℕ) (e : Event) (s0 g h : List Event) → call_in e ≡ Some (called c op reply) → (so : GrowsWith c e g h) → TakesWell template c op (so.rest ++ g) e
+abbrev pub underway_calls : (layout : Layout) (template : Template) (n c : ℕ) (op : Op) (reply : Reply) (number : ℕ) (e : Event) (s0 g h : List Event) → call_in e ≡ Some (called c op reply) → (so : GrowsWith c e g h) → TakesWell template c op (so.rest ++ g) e
     → length (hand c h) ≤ most_held template op → number ≡ number_after (so.rest ++ g) → (reply ≡ Full → FullDue layout n s0 (so.rest ++ g) e) → Underway template c op s0 g → Decided layout template n c op s0 h reply number
 underway_calls layout template n c op reply number e s0 g h call so well few numbered full under =
     let joined : so.rest ++ g ≡ (so.rest ++ under.rest) ++ s0 = ap (λ (z : List Event). so.rest ++ z) under.is ∙ sym (append_assoc so.rest under.rest s0) in
@@ -142,13 +142,13 @@ underway_calls layout template n c op reply number e s0 g h call so well few num
     }
 
 -- its Call
-pub underway_call : (layout : Layout) (template : Template) (n c i : ℕ) (op : Op) (reply : Reply) (number : ℕ) (s0 g h : List Event) → (so : GrowsWith c (Call c i op reply) g h) → length (hand c h) ≤ most_held template op → number ≡ number_after (so.rest ++ g)
+abbrev pub underway_call : (layout : Layout) (template : Template) (n c i : ℕ) (op : Op) (reply : Reply) (number : ℕ) (s0 g h : List Event) → (so : GrowsWith c (Call c i op reply) g h) → length (hand c h) ≤ most_held template op → number ≡ number_after (so.rest ++ g)
     → (reply ≡ Full → FullDue layout n s0 (so.rest ++ g) (Call c i op reply)) → Underway template c op s0 g → Decided layout template n c op s0 h reply number
 underway_call layout template n c i op reply number s0 g h so few numbered full under = underway_calls layout template n c op reply number (Call c i op reply) s0 g h refl so tt few numbered full under
 
 -- steps after it
 
-pub decided_others : (layout : Layout) (template : Template) (n c : ℕ) (op : Op) (reply : Reply) (number : ℕ) (s0 g h : List Event) → GrowsByOthers c g h → Decided layout template n c op s0 g reply number → Decided layout template n c op s0 h reply number
+abbrev pub decided_others : (layout : Layout) (template : Template) (n c : ℕ) (op : Op) (reply : Reply) (number : ℕ) (s0 g h : List Event) → GrowsByOthers c g h → Decided layout template n c op s0 g reply number → Decided layout template n c op s0 h reply number
 decided_others layout template n c op reply number s0 g h so was = record {
   before = was.before;
   event = was.event;
@@ -162,7 +162,7 @@ decided_others layout template n c op reply number s0 g h so was = record {
   full = was.full;
 }
 
-pub decided_with : (layout : Layout) (template : Template) (n c : ℕ) (op : Op) (reply : Reply) (number : ℕ) (e : Event) (s0 g h : List Event) → IsNoCall e → (so : GrowsWith c e g h) → TakesWell template c op (so.rest ++ g) e → length (hand c h) ≤ most_held template op → Decided layout template n c op s0 g reply number → Decided layout template n c op s0 h reply number
+abbrev pub decided_with : (layout : Layout) (template : Template) (n c : ℕ) (op : Op) (reply : Reply) (number : ℕ) (e : Event) (s0 g h : List Event) → IsNoCall e → (so : GrowsWith c e g h) → TakesWell template c op (so.rest ++ g) e → length (hand c h) ≤ most_held template op → Decided layout template n c op s0 g reply number → Decided layout template n c op s0 h reply number
 decided_with layout template n c op reply number e s0 g h quiet so well few was = record {
   before = was.before;
   event = was.event;

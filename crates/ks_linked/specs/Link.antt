@@ -1,19 +1,20 @@
 -- A body with a range, a level and a link, in place of a body that has neither level nor link.
-use Rattle.std.specs.Prelude.{◌≡◌, ℕ, suc, ◌+◌, ◌<◌, Bool, false, ◌&&◌, nat_eq, IsTrue, [], ◌++◌, length, Option, Some, None, get_or, refl}
+use Rattle.std.specs.Prelude.{◌≡◌, ℕ, suc, ◌+◌, ◌<◌, Bool, true, false, ◌&&◌, nat_eq, IsTrue, [], ◌++◌, length, Option, Some, None, get_or, refl}
 use Rattle.std.specs.Option.{ForSome}
 use Rattle.std.proofs.Common.{arith, ap, ◌∙◌, sym, subst, add-one}
 use Rattle.std.proofs.lemmas.List.{append-nil, length-append, get_or_append_left}
 use Rattle.std.proofs.Math.Seq.{get_or-append_seam}
 use Rattle.ks_keysets.specs.declared.Span.{Span}
 use Rattle.ks_keysets.specs.declared.Edge.{Edge}
+use Rattle.ks_keysets.specs.Layout.{Layout}
 use Rattle.ks_keysets.specs.Record.{top}
 use Rattle.ks_node.specs.Body.{Body, Content, content_of, is_branch_kind, all_places}
 use Rattle.ks_node.specs.Edges.{edges_of, edges_from, link_edge}
 use Rattle.ks_node.specs.Effect.{with_range, ends_at, begins_at}
-use Rattle.ks_node.specs.Asks.{Suits, IsNoneOr, IsGoodCut}
+use Rattle.ks_node.specs.Asks.{Suits, IsNoneOr, IsGoodCut, BranchesAdopt}
 use Rattle.ks_node.specs.Sound.{Sound, Framed}
 use Rattle.ks_node.specs.Spans.{same_count, edge_cut, cut_one}
-use Rattle.ks_node.specs.Wrapped.{adopts_ranged, suits_inside, good_outside}
+use Rattle.ks_node.specs.Wrapped.{adopts_ranged, branches_inside, suits_inside, good_outside}
 
 -- the body with a range, a level and a link
 abbrev pub linked : Span → ℕ → Option ℕ → Body → Body
@@ -25,6 +26,16 @@ adopts_linked can c cut = is_branch_kind c.kind && adopts_ranged can c cut
 
 pub no_leaf_adopts : (can : Content → ℕ → Bool) (c : Content) (cut : ℕ) → is_branch_kind c.kind ≡ false → IsTrue (adopts_linked can c cut) → ⊥
 no_leaf_adopts can c cut leaf h = let none : adopts_linked can c cut ≡ false = rw leaf refl in cc
+
+both : (a x : Bool) → a ≡ true → x ≡ true → (a && x) ≡ true
+both a x e h = rw (e, h) refl
+
+-- branches with a link adopt as those with the range do
+pub branches_linked : (b : Body) (r : Span) (level : ℕ) (link : Option ℕ) → ForSome b.range (λ q. q ≡ r) → (can : Content → ℕ → Bool) (layout : Layout) →
+    BranchesAdopt can layout b → BranchesAdopt (adopts_linked can) layout (linked r level link b)
+branches_linked b r level link same can layout a =
+    let ranged = branches_inside b r same can layout a in
+    record { bare = a.bare; inside = λ cut branch less cuts free. both (is_branch_kind b.kind) (adopts_ranged can (content_of b) cut) branch (ranged.inside cut branch less cuts free) }
 
 -- the edges of a body with a link: those of the body with the range, and then that of the link
 pub edges_linked : (r : Span) (level : ℕ) (link : Option ℕ) (b : Body) → b.link ≡ None → edges_of (linked r level link b) ≡ edges_of (with_range r b) ++ link_edge r.last link

@@ -29,7 +29,7 @@ pub struct WithLink<N: Growing> {
 impl<N: Growing> Node for WithLink<N> {
     ghost use Rattle.std.specs.Prelude.{Some, true, false, refl};
     ghost use Rattle.ks_node.specs.Body.{Body, content_of};
-    ghost use Rattle.ks_linked.specs.Link.{linked, adopts_linked, framed_linked};
+    ghost use Rattle.ks_linked.specs.Link.{linked, adopts_linked, branches_linked, framed_linked};
 
     type Places = N::Places;
 
@@ -51,6 +51,10 @@ impl<N: Growing> Node for WithLink<N> {
 
     ghost can_adopt_at = { adopts_linked N.can_adopt_at };
 
+    ghost branches_adopt = { N.branches_adopt };
+
+    ghost halves_have_room = { N.halves_have_room };
+
     ghost grows_at = { N.grows_at };
 
     ghost can_grow_at = { N.can_grow_at };
@@ -66,6 +70,8 @@ impl<N: Growing> Node for WithLink<N> {
     ghost held = { λ s. N.held s.node };
 
     ghost has_range = { λ s. refl };
+
+    ghost adopting = { λ promised s. branches_linked (N.body s.node) s.range s.level s.link s.same_range N.can_adopt_at N.layout (N.adopting promised s.node) };
 
     ghost room_is = { N.room_is };
 

@@ -14,8 +14,9 @@ use Rattle.ks_node.specs.declared.start.Start.{Start}
 use Rattle.ks_node.specs.Body.{begins, starts_below, starts_from, pairs_below, pairs_from}
 use Rattle.ks_node.specs.Room.{IsHeld, is_full}
 use Rattle.ks_node.specs.Effect.{pairs_put, pairs_del}
-use Rattle.ks_node.specs.Asks.{Suits, IsGoodCut, Absorbs}
+use Rattle.ks_node.specs.Asks.{Suits, IsGoodCut, Absorbs, HalvesHaveRoom}
 use Rattle.ks_node.specs.Sound.{Sound}
+use Rattle.ks_node.specs.Cuts.{length-below, length-from}
 use Rattle.ks_node.specs.Starts.{filter_le}
 use Rattle.ks_node.specs.Keep.{sound_blank, sound_put, sound_del, sound_adopt, sound_left, sound_right, sound_absorb}
 use Rattle.ks_list.specs.Listed.{pair_of, pairs_of, starts_of, list_content, list_body, list_can_adopt, list_cut, Fit}
@@ -123,6 +124,23 @@ module _ {low room : ℕ} {own : Option Start} {xs : List (ℕ × ℕ)} (f : Fit
       let same = pairs_length xs in
       let read = ap (λ q. q.place) (pair_read xs 4 x (record { place = 0; value = 0 }) (omega arith) is) in
       subst (λ n. IsGoodCut (list_body low own xs) span n) (sym read) (fit_cuts span o full suits)
+
+  -- four of the eight pairs go to each side of it
+  fit_halves : IsTrue (is_full list_layout (list_body low own xs)) → HalvesHaveRoom list_layout (get_or (pairs_of xs) 4 (record { place = 0; value = 0 })).place (list_body low own xs)
+  fit_halves full =
+      let none : Pair = record { place = 0; value = 0 } in
+      let long : length (pairs_of xs) ≡ 8 = eqb-true _ _ full in
+      let cut : ℕ = (get_or (pairs_of xs) 4 none).place in
+      let left : length (pairs_below cut (pairs_of xs)) ≡ 4 = length-below (λ x. x.place) (pairs_of xs) 4 none f.sound.pairs_ascend (omega arith) in
+      let right : length (pairs_from cut (pairs_of xs)) ≡ 4 = omega (arith, length-from (λ x. x.place) (pairs_of xs) 4 none f.sound.pairs_ascend (omega arith)) in
+      (rw left refl, rw right refl)
+
+  pub fit_halves_read : (x : ℕ × ℕ) → x ≡ get_or xs 4 x → IsTrue (is_full list_layout (list_body low own xs)) → HalvesHaveRoom list_layout x.0 (list_body low own xs)
+  fit_halves_read x is full =
+      let long : length (pairs_of xs) ≡ 8 = eqb-true _ _ full in
+      let same = pairs_length xs in
+      let read = ap (λ q. q.place) (pair_read xs 4 x (record { place = 0; value = 0 }) (omega arith) is) in
+      subst (λ n. HalvesHaveRoom list_layout n (list_body low own xs)) (sym read) (fit_halves full)
 
   high_begins : (cut : ℕ) (o : Option Start) → All (λ s. cut < s.low) (starts_of o) → not (begins cut (starts_of o)) ≡ true
   high_begins cut None a = refl

@@ -23,7 +23,7 @@ pub struct ListNode {
 }
 
 impl Node for ListNode {
-    ghost use Rattle.std.specs.Prelude.{false, refl, None};
+    ghost use Rattle.std.specs.Prelude.{true, false, refl, None};
     ghost use Rattle.ks_keysets.specs.declared.Kind.TheVariants.{Inner};
     ghost use Rattle.ks_keysets.specs.Layout.{list_layout};
     ghost use Rattle.ks_list.specs.Listed.{list_body, list_can_adopt, list_cut};
@@ -49,6 +49,10 @@ impl Node for ListNode {
 
     ghost can_adopt_at = { list_can_adopt };
 
+    ghost branches_adopt = { false };
+
+    ghost halves_have_room = { true };
+
     ghost grows_at = { λ _. false };
 
     ghost can_grow_at = { λ _ _. false };
@@ -64,6 +68,8 @@ impl Node for ListNode {
     ghost held = { λ n. fit_held n.fit };
 
     ghost has_range = { λ n. refl };
+
+    ghost adopting = { λ promised. absurd (differ promised) };
 
     ghost room_is = { refl };
 

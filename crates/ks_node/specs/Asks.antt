@@ -1,5 +1,5 @@
 -- What the calls ask, and what a cut must be.
-use Rattle.std.specs.Prelude.{◌≡◌, ℕ, suc, ◌<◌, ◌≤◌, Bool, false, IsTrue, List, All, Any, Option, max, drop}
+use Rattle.std.specs.Prelude.{◌≡◌, ℕ, suc, ◌<◌, ◌≤◌, Bool, false, IsTrue, List, All, Any, Option, length, max, drop}
 use Rattle.std.specs.Option.{ForSome}
 use Rattle.ks_keysets.specs.declared.Span.{Span}
 use Rattle.ks_keysets.specs.declared.Kind.TheVariants.{NoBranch, Inner}
@@ -8,6 +8,7 @@ use Rattle.ks_keysets.specs.Record.{Carries, top}
 use Rattle.ks_node.specs.declared.start.Start.{Start}
 use Rattle.ks_node.specs.Body.{Body, Content, content_of, is_branch, begins, first_of, last_of}
 use Rattle.ks_node.specs.Room.{is_full}
+use Rattle.ks_node.specs.Effect.{split_left, split_right}
 use Rattle.ks_node.specs.Edges.{edges_from}
 
 -- the place is above the low and not above the range
@@ -60,3 +61,18 @@ pub record Absorbs (b right : Body) : Type 0 where
 -- a branch that is not full adopts each cut in its range at which no edge starts
 abbrev pub AdoptsInside : (Content → ℕ → Bool) → Layout → Body → Type 0
 AdoptsInside can layout b = (cut : ℕ) → IsTrue (is_branch b) → is_full layout b ≡ false → IsCut b cut → begins cut b.starts ≡ false → IsTrue (can (content_of b) cut)
+
+-- branches alone have edges, and one that is not full adopts each cut in its range at which no edge starts
+pub record BranchesAdopt (can : Content → ℕ → Bool) (layout : Layout) (b : Body) : Type 0 where
+  pub bare : is_branch b ≡ false → length b.starts ≡ 0
+  pub inside : AdoptsInside can layout b
+
+-- a full body can adopt its cut, wherever a good one lies
+abbrev pub AdoptsItsCut : (Content → ℕ → Bool) → (Content → Option Span → ℕ) → Layout → Body → Type 0
+AdoptsItsCut can cut_at layout b =
+    (span : Span) (o : Option Span) → IsTrue (is_full layout b) → Suits b span → IsNoneOr o span → IsGoodCut b span (cut_at (content_of b) o) →
+    IsTrue (can (content_of b) (cut_at (content_of b) o))
+
+-- neither half of a split at the cut is full
+abbrev pub HalvesHaveRoom : Layout → ℕ → Body → Type 0
+HalvesHaveRoom layout cut b = (is_full layout (split_left cut b) ≡ false) × (is_full layout (split_right cut b) ≡ false)

@@ -7,7 +7,7 @@ use Rattle.ks_keysets.specs.declared.Span.{Span}
 use Rattle.ks_keysets.specs.Layout.{Layout}
 use Rattle.ks_node.specs.Body.{Body, Content, content_of, is_branch_kind}
 use Rattle.ks_node.specs.Effect.{with_range}
-use Rattle.ks_node.specs.Asks.{IsCut, Suits, IsGoodCut, AdoptsInside}
+use Rattle.ks_node.specs.Asks.{IsCut, Suits, IsGoodCut, AdoptsInside, AdoptsItsCut, BranchesAdopt}
 
 -- a branch with a range has an edge that begins at the low
 abbrev pub adopts_ranged : (Content → ℕ → Bool) → Content → ℕ → Bool
@@ -65,6 +65,14 @@ module _ (b : Body) (r : Span) (same : ForSome b.range (λ q. q ≡ r)) where
   pub adopts_inside : (can : Content → ℕ → Bool) (layout : Layout) → AdoptsInside can layout b → AdoptsInside (adopts_ranged can) layout (with_range r b)
   adopts_inside can layout a cut branch less cuts free =
       adopts_above can (content_of b) cut cuts.0 (a cut branch less (cut_inside cut cuts) free)
+
+  pub branches_inside : (can : Content → ℕ → Bool) (layout : Layout) → BranchesAdopt can layout b → BranchesAdopt (adopts_ranged can) layout (with_range r b)
+  branches_inside can layout a = record { bare = a.bare; inside = adopts_inside can layout a.inside }
+
+  pub adopts_its_cut : (can : Content → ℕ → Bool) (cut_at : Content → Option Span → ℕ) (layout : Layout) → AdoptsItsCut can cut_at layout b → AdoptsItsCut (adopts_ranged can) cut_at layout (with_range r b)
+  adopts_its_cut can cut_at layout a span o full suits is good =
+      let cut : ℕ = cut_at (content_of b) o in
+      adopts_above can (content_of b) cut good.splits.0.0 (a span o full (suits_inside suits) is (good_inside cut good))
 
 -- a node that does not go by its own range is cut by the span that is handed in
 pub by_span_cut : {by_range : Bool} → by_range ≡ false → (cut_at : Option Span → ℕ) (range o : Option Span) (n : ℕ) → n ≡ cut_at (cond by_range range o) → n ≡ cut_at o

@@ -2,35 +2,41 @@
 
 ghost use Rattle.std.specs.Prelude.{◌≡◌, ◌<◌, ◌-◌, ◌^◌, ◌||◌, ◌⊎◌, Option, IsTrue, Some, None, true, false, length, nat_eq, nat_lt, is_some};
 ghost use Rattle.std.specs.Option.{ForSome};
-ghost use Rattle.ks_keysets.specs.declared.Span.{Span};
 ghost use Rattle.ks_keysets.specs.Layout.{room};
 ghost use Rattle.ks_keysets.specs.Record.{top};
-ghost use Rattle.ks_node.specs.Body.{content_of, is_branch, is_branch_kind, last_of};
+ghost use Rattle.ks_node.specs.Body.{begins, content_of, is_branch, is_branch_kind, last_of};
 ghost use Rattle.ks_node.specs.Room.{IsHeld, is_full, may_grow};
-ghost use Rattle.ks_node.specs.Asks.{Suits, IsNoneOr, IsGoodCut, AdoptsInside};
+ghost use Rattle.ks_node.specs.Asks.{IsCut, AdoptsItsCut, BranchesAdopt};
 ghost use Rattle.ks_node.specs.Sound.{Sound, Framed};
 
 use crate::node::Node;
 use crate::ranged::Linked;
 use crate::unlinked::{Growing, Unlinked};
 
-/// The laws of a node: order and shape, its range, its load.
+/// The laws of a node: order and shape, its range, its load, how it adopts.
 pub fn node_law<N: Node>(node: &N)
     ensures sound { Sound (content_of (N.body node.now)) }
     ensures framed { ForSome (N.body node.now).range (λ r. Framed r (N.body node.now)) }
     ensures held { IsHeld N.layout (N.body node.now) }
     ensures has_range { is_some (N.body node.now).range ≡ N.ranged }
+    ensures adopting { IsTrue N.branches_adopt → BranchesAdopt N.can_adopt_at N.layout (N.body node.now) }
     ensures room_is { room N.layout ≡ N.ROOM }
     ensures grows_as { IsTrue (N.grows_at (content_of (N.body node.now))) → IsTrue (may_grow N.layout) }
     ensures becomes_branch { IsTrue (is_branch_kind N.branch_kind) }
 {}
 
-/// The laws of a node type without links: neither link nor level, how it is cut, which of its nodes grow.
+/// A branch that is not full adopts a cut in its range at which no edge starts, if the type promises it.
+pub fn adopt_law<N: Node>(node: &N, cut: u64)
+    ensures { IsTrue N.branches_adopt → IsTrue (is_branch (N.body node.now)) → is_full N.layout (N.body node.now) ≡ false → IsCut (N.body node.now) cut → begins cut (N.body node.now).starts ≡ false → IsTrue (N.can_adopt_at (content_of (N.body node.now)) cut) }
+{}
+
+/// The laws of a node type without links: neither link nor level, how it is cut, which of its nodes adopt or grow.
 pub fn unlinked_law<N: Unlinked>()
     ensures no_link { (s : N) → (N.body s).link ≡ None }
     ensures no_level { (s : N) → (N.body s).level ≡ 0 }
     ensures by_span { N.cuts_by_range ≡ false }
-    ensures sort { N.in_place ≡ false → ((s : N) (span : Span) (o : Option Span) → IsTrue (is_full N.layout (N.body s)) → Suits (N.body s) span → IsNoneOr o span → IsGoodCut (N.body s) span (N.cut_at (content_of (N.body s)) o) → IsTrue (N.can_adopt_at (content_of (N.body s)) (N.cut_at (content_of (N.body s)) o))) ⊎ ((s : N) → IsTrue (N.grows_at (content_of (N.body s))) × (is_branch (N.body s) ≡ false → length (N.body s).starts ≡ 0) × AdoptsInside N.can_adopt_at N.layout (N.body s)) }
+    ensures adopting { IsTrue N.branches_adopt → (s : N) → BranchesAdopt N.can_adopt_at N.layout (N.body s) }
+    ensures sort { N.in_place ≡ false → ((s : N) → AdoptsItsCut N.can_adopt_at N.cut_at N.layout (N.body s)) ⊎ (((s : N) → IsTrue (N.grows_at (content_of (N.body s)))) × IsTrue N.branches_adopt × IsTrue N.halves_have_room) }
 {}
 
 /// The laws of a node type whose branches grow, and its nodes with no edge.
@@ -39,10 +45,12 @@ pub fn growing_law<N: Growing>()
     ensures few_edges { (s : N) → length (N.body s).starts < 2 ^ 32 - 1 }
 {}
 
-/// The laws of a node type with links: its range, where there is a link, how it is cut, which of its nodes grow.
+/// The laws of a node type with links: its range, where there is a link, how it is cut, which of its nodes
+/// adopt or grow.
 pub fn linked_law<N: Linked>()
     ensures is_ranged { N.ranged ≡ true }
     ensures link_where { (s : N) → is_some (N.body s).link ≡ nat_lt (last_of (N.body s).range) top }
     ensures by_range { N.cuts_by_range ≡ true }
+    ensures adopting { IsTrue N.branches_adopt → (s : N) → BranchesAdopt N.can_adopt_at N.layout (N.body s) }
     ensures grows_where { (s : N) → IsTrue (is_branch (N.body s) || nat_eq (length (N.body s).starts) 0) → IsTrue (N.grows_at (content_of (N.body s))) }
 {}

@@ -18,7 +18,7 @@ mod with_range;
 pub use children::{begins_at, child_after, edge_in, first_in, next_in, only_in, value_in};
 pub use edge::cut_edge;
 pub use keyed::{Keyed, rank, seek};
-pub use laws::{growing_law, linked_law, node_law, unlinked_law};
+pub use laws::{adopt_law, growing_law, linked_law, node_law, unlinked_law};
 pub use node::Node;
 pub use ranged::{Linked, Ranged};
 pub use start::{Next, Start};

@@ -13,7 +13,7 @@ ghost use Rattle.ks_node.specs.Body.{Body, Content, content_of, is_branch_kind, 
 ghost use Rattle.ks_node.specs.Edges.{edges_of};
 ghost use Rattle.ks_node.specs.Room.{is_full, is_low, IsHeld, fit_together, may_grow};
 ghost use Rattle.ks_node.specs.Effect.{pairs_put, pairs_del, with_pairs, adopted, split_left};
-ghost use Rattle.ks_node.specs.Asks.{IsCut, IsBelowOwn, Suits, IsNoneOr, IsGoodCut, IsSpanOf};
+ghost use Rattle.ks_node.specs.Asks.{IsCut, IsBelowOwn, Suits, IsNoneOr, IsGoodCut, IsSpanOf, BranchesAdopt, HalvesHaveRoom};
 ghost use Rattle.ks_node.specs.Sound.{Sound, Framed};
 
 use crate::start::Next;
@@ -52,6 +52,12 @@ pub trait Node: Drop {
 
     /// Whether an edge from a cut on can be added.
     ghost can_adopt_at: { Content → ℕ → Bool };
+
+    /// Whether branches alone have edges, and adopt each cut in their range at which no edge starts, unless they are full.
+    ghost branches_adopt: { Bool };
+
+    /// Whether neither half of a full node is full after a split at its cut.
+    ghost halves_have_room: { Bool };
 
     /// Whether a full node can become a branch.
     ghost grows_at: { Content → Bool };
@@ -149,7 +155,8 @@ pub trait Node: Drop {
         ensures is { result ≡ cut_at (content_of (body self.now)) (cond cuts_by_range (body self.now).range span) }
         ensures good { (whole : Span) → Suits (body self.now) whole → IsNoneOr span whole → IsGoodCut (body self.now) whole result }
         ensures grows { (whole : Span) → Suits (body self.now) whole → IsNoneOr span whole → IsTrue (grows_at (content_of (body self.now))) → (in_place ≡ false → span ≡ Some all_places) → IsTrue (can_grow_at (content_of (body self.now)) result) }
-        ensures adopts { is_branch (body self.now) ≡ false → IsTrue (can_adopt_at (content_of (body self.now)) result) → IsTrue (can_adopt_at (content_of (split_left result (body self.now))) result) };
+        ensures adopts { is_branch (body self.now) ≡ false → IsTrue (can_adopt_at (content_of (body self.now)) result) → IsTrue (can_adopt_at (content_of (split_left result (body self.now))) result) }
+        ensures halves { IsTrue halves_have_room → HalvesHaveRoom layout result (body self.now) };
 
     /// Whether an edge from the cut on can be added.
     fn can_adopt(&self, cut: u64) -> bool
@@ -181,6 +188,9 @@ pub trait Node: Drop {
 
     /// All bodies of the type have a range, or none.
     ghost has_range: { (s : Self) → is_some (body s).range ≡ ranged };
+
+    /// How branches adopt, where `branches_adopt` promises it.
+    ghost adopting: { IsTrue branches_adopt → (s : Self) → BranchesAdopt can_adopt_at layout (body s) };
 
     /// `ROOM` is the number of the table.
     ghost room_is: { room layout ≡ ROOM };

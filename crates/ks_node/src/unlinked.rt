@@ -1,11 +1,10 @@
 //! Nodes with no link to the right: what splits, grows and merges make of them.
 
 ghost use Rattle.std.specs.Prelude.{◌≡◌, ℕ, ◌<◌, ◌-◌, ◌^◌, Bool, Option, IsTrue, IsSome, Some, None, true, false, length, nat_eq, ◌||◌, ◌⊎◌};
-ghost use Rattle.ks_keysets.specs.declared.Span.{Span};
 ghost use Rattle.ks_node.specs.Body.{Body, content_of, is_branch, IsBlank, only_child_of, first_node};
 ghost use Rattle.ks_node.specs.Room.{is_full, fit_together};
 ghost use Rattle.ks_node.specs.Effect.{split_left, split_right, reached, grown, absorbed, forgot, collapsed, emptied};
-ghost use Rattle.ks_node.specs.Asks.{CanSplitAt, Suits, IsNoneOr, IsGoodCut, AreNext, Absorbs, AdoptsInside};
+ghost use Rattle.ks_node.specs.Asks.{CanSplitAt, AreNext, Absorbs, AdoptsItsCut};
 
 use crate::node::Node;
 
@@ -65,9 +64,9 @@ pub trait Unlinked: Node {
     /// A cut goes by the span that is handed in.
     ghost by_span: { Self.cuts_by_range ≡ false };
 
-    /// Where it does not grow in place: either each full node can adopt its cut, or each node grows, branches alone
-    /// have edges, and a branch that is not full adopts each cut in its range at which no edge starts.
-    ghost sort: { Self.in_place ≡ false → ((s : Self) (span : Span) (o : Option Span) → IsTrue (is_full Self.layout (Self.body s)) → Suits (Self.body s) span → IsNoneOr o span → IsGoodCut (Self.body s) span (Self.cut_at (content_of (Self.body s)) o) → IsTrue (Self.can_adopt_at (content_of (Self.body s)) (Self.cut_at (content_of (Self.body s)) o))) ⊎ ((s : Self) → IsTrue (Self.grows_at (content_of (Self.body s))) × (is_branch (Self.body s) ≡ false → length (Self.body s).starts ≡ 0) × AdoptsInside Self.can_adopt_at Self.layout (Self.body s)) };
+    /// Where it does not grow in place: either each full node can adopt its cut, or each node grows, branches adopt, and
+    /// neither half of a full node is full.
+    ghost sort: { Self.in_place ≡ false → ((s : Self) → AdoptsItsCut Self.can_adopt_at Self.cut_at Self.layout (Self.body s)) ⊎ (((s : Self) → IsTrue (Self.grows_at (content_of (Self.body s)))) × IsTrue Self.branches_adopt × IsTrue Self.halves_have_room) };
 }
 
 /// A node that grows where it is a branch or has no edge.

@@ -36,7 +36,7 @@ impl<N: Unlinked> Node for WithRange<N> {
     ghost use Rattle.ks_node.specs.Body.{Body, content_of};
     ghost use Rattle.ks_node.specs.Effect.{with_range};
     ghost use Rattle.ks_node.specs.Within.{framed_with};
-    ghost use Rattle.ks_node.specs.Wrapped.{adopts_ranged, adopts_inner};
+    ghost use Rattle.ks_node.specs.Wrapped.{adopts_ranged, adopts_inner, branches_inside};
 
     type Places = N::Places;
 
@@ -58,6 +58,10 @@ impl<N: Unlinked> Node for WithRange<N> {
 
     ghost can_adopt_at = { adopts_ranged N.can_adopt_at };
 
+    ghost branches_adopt = { N.branches_adopt };
+
+    ghost halves_have_room = { N.halves_have_room };
+
     ghost grows_at = { N.grows_at };
 
     ghost can_grow_at = { N.can_grow_at };
@@ -73,6 +77,8 @@ impl<N: Unlinked> Node for WithRange<N> {
     ghost held = { λ s. N.held s.node };
 
     ghost has_range = { λ s. refl };
+
+    ghost adopting = { λ promised s. branches_inside (N.body s.node) s.range s.same_range N.can_adopt_at N.layout (N.adopting promised s.node) };
 
     ghost room_is = { N.room_is };
 
@@ -180,8 +186,7 @@ impl<N: Unlinked> Node for WithRange<N> {
 impl<N: Unlinked> Unlinked for WithRange<N> {
     ghost use Rattle.std.specs.Prelude.{refl};
     ghost use Rattle.std.proofs.Common.{inl, inr};
-    ghost use Rattle.ks_node.specs.Body.{content_of};
-    ghost use Rattle.ks_node.specs.Wrapped.{suits_inside, good_inside, adopts_above, adopts_inside};
+    ghost use Rattle.ks_node.specs.Wrapped.{adopts_its_cut};
 
     ghost no_link = { λ s. N.no_link s.node };
 
@@ -190,8 +195,8 @@ impl<N: Unlinked> Unlinked for WithRange<N> {
     ghost by_span = { refl };
 
     ghost sort = { λ e. elim (N.sort e) [
-      | inl adopts ↦ inl (λ s span o full suits is good. adopts_above N.can_adopt_at (content_of (N.body s.node)) (N.cut_at (content_of (N.body s.node)) o) good.splits.0.0 (adopts s.node span o full (suits_inside (N.body s.node) s.range s.same_range suits) is (good_inside (N.body s.node) s.range s.same_range (N.cut_at (content_of (N.body s.node)) o) good)))
-      | inr grows ↦ inr (λ s. ((grows s.node).0, (grows s.node).1, adopts_inside (N.body s.node) s.range s.same_range N.can_adopt_at N.layout (grows s.node).2))
+      | inl adopts ↦ inl (λ s. adopts_its_cut (N.body s.node) s.range s.same_range N.can_adopt_at N.cut_at N.layout (adopts s.node))
+      | inr grows ↦ inr (λ s. grows.0 s.node, grows.1, grows.2)
     ] };
 
     fn split_to(&mut self, right: &mut Self, cut: u64) {

@@ -6,7 +6,7 @@ use ks_giveup::{get as get_by_giving_up, put as put_by_giving_up};
 use ks_hash::HNode;
 use ks_list::ListNode;
 use ks_node::WithRange;
-use ks_put::{Full, pair_put};
+use ks_put::pair_put;
 use ks_shape::Numbered;
 use std::test::Fail;
 

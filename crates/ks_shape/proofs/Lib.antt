@@ -1,3 +1,4 @@
 pub mod Standing
 pub mod Links
 pub mod Concludes
+pub mod Claiming

@@ -1,13 +1,18 @@
-//! The end of a call of a dictionary: it is decided at the one node in hand, which is then given.
-ghost use Rattle.std.specs.Prelude.{◌≡◌, ◌≢◌, ◌∷◌, [], List};
+//! The end of a call of a dictionary: it is decided at the one node in hand, which is then given. By whatever template
+//! the call came to the node, it is done.
+ghost use Rattle.std.specs.Prelude.{ℕ, ◌≡◌, ◌≢◌, ◌∷◌, [], List};
 ghost use Rattle.ks_history.specs.declared.Event.{Event as Happening};
-ghost use Rattle.ks_history.specs.declared.Reply.TheVariants.{Full};
-ghost use Rattle.ks_history.specs.Map.{told};
-ghost use Rattle.ks_history.specs.Done.{Done, Template};
+ghost use Rattle.ks_history.specs.declared.Reply.TheVariants.{Full as full_reply};
+ghost use Rattle.ks_history.specs.Map.{Touches, told};
+ghost use Rattle.ks_history.specs.Due.{NoneFree};
+ghost use Rattle.ks_history.specs.Done.{Done, DoneAt, Template};
 ghost use Rattle.ks_history.specs.Underway.{Underway};
-ghost use Rattle.ks_arena.specs.Sound.{sort_of};
+ghost use Rattle.ks_node.specs.Body.{frame_of};
+ghost use Rattle.ks_arena.specs.Sound.{blank_of, sort_of};
 ghost use Rattle.ks_arena.specs.Clauses.{IsPass, IsReady, hand_of, seen_of};
 
+use crate::answers::Full;
+use ks_arena::laws::sound_law;
 use ks_arena::{Arena, Held, Pass};
 use ks_flow::Discipline;
 use ks_gate::{Gate, Point};
@@ -17,7 +22,7 @@ use ks_node::Node;
 /// The reply that tells what stood at a place: its value, or nothing.
 pub fn reply_of(found: Option<u128>) -> Reply
     ensures told { result ≡ told found }
-    ensures some { result ≢ Full }
+    ensures some { result ≢ full_reply }
 {
     match found {
         Some(value) => Reply::Value(value),
@@ -25,8 +30,34 @@ pub fn reply_of(found: Option<u128>) -> Reply
     }
 }
 
-/// Decides a call at the one node in hand, and gives the node. Gives the number of the call, modulo 2^64. By whatever
-/// template the call came to the node, it is done.
+/// Decides a call at the one node in hand, and gives the node. Gives the number of the call, modulo 2^64. A Full is due
+/// where no node was free since the call began.
+fn decide_here<N: Node, D: Discipline, G: Gate>(
+    arena: &Arena<N, D>,
+    pass: &mut Pass<N, D>,
+    gate: &G,
+    held: Held<N>,
+    op: Op,
+    reply: Reply,
+) -> u64
+    requires pass { IsPass (sort_of N.layout N.ranged) D.begins D.step arena.now.table.shared.table_id arena.now.callers pass.old }
+    requires alone { hand_of pass.old ≡ held.node ∷ [] }
+    requires ready { IsReady (sort_of N.layout N.ranged) N.body arena.now.nodes pass.old.caller (seen_of pass.old) held op reply }
+    ensures pass { IsPass (sort_of N.layout N.ranged) D.begins D.step arena.now.table.shared.table_id arena.now.callers pass.new × (hand_of pass.new ≡ []) }
+    ensures caller { pass.new.caller ≡ pass.old.caller }
+    ensures done { (template : Template) (start : List Happening) → (reply ≡ full_reply → (place : ℕ) × Touches op place × NoneFree N.layout arena.now.nodes pass.old.caller place start (seen_of pass.old)) →
+        Underway template pass.old.caller op start (seen_of pass.old) → DoneAt N.layout template arena.now.nodes pass.old.caller op start (seen_of pass.new) reply result held.node (blank_of (sort_of N.layout N.ranged)) (frame_of (N.body held.body)) }
+{
+    sound_law::<D>();
+    let number = arena.decide(pass, &held, op, reply);
+    gate.at(pass.caller(), Point::Decided(number));
+    let node = held.node;
+    arena.give(pass, held);
+    gate.at(pass.caller(), Point::Given(node));
+    number
+}
+
+/// Decides a call at the one node in hand, and gives the node. Gives the number of the call, modulo 2^64.
 pub fn conclude<N: Node, D: Discipline, G: Gate>(
     arena: &Arena<N, D>,
     pass: &mut Pass<N, D>,
@@ -38,15 +69,33 @@ pub fn conclude<N: Node, D: Discipline, G: Gate>(
     requires pass { IsPass (sort_of N.layout N.ranged) D.begins D.step arena.now.table.shared.table_id arena.now.callers pass.old }
     requires alone { hand_of pass.old ≡ held.node ∷ [] }
     requires ready { IsReady (sort_of N.layout N.ranged) N.body arena.now.nodes pass.old.caller (seen_of pass.old) held op reply }
-    requires some { reply ≢ Full }
+    requires some { reply ≢ full_reply }
     ensures pass { IsPass (sort_of N.layout N.ranged) D.begins D.step arena.now.table.shared.table_id arena.now.callers pass.new × (hand_of pass.new ≡ []) }
     ensures caller { pass.new.caller ≡ pass.old.caller }
     ensures done { (template : Template) (start : List Happening) → Underway template pass.old.caller op start (seen_of pass.old) → Done N.layout template arena.now.nodes pass.old.caller op start (seen_of pass.new) reply result }
+    ensures at { (template : Template) (start : List Happening) → Underway template pass.old.caller op start (seen_of pass.old) → DoneAt N.layout template arena.now.nodes pass.old.caller op start (seen_of pass.new) reply result held.node (blank_of (sort_of N.layout N.ranged)) (frame_of (N.body held.body)) }
 {
-    let number = arena.decide(pass, &held, op, reply);
-    gate.at(pass.caller(), Point::Decided(number));
-    let node = held.node;
-    arena.give(pass, held);
-    gate.at(pass.caller(), Point::Given(node));
-    number
+    decide_here(arena, pass, gate, held, op, reply)
+}
+
+/// Decides as full, at the one node in hand, a call that finds no room there, and gives the node. Gives the number of the
+/// call. The call is done if no node was free since it began.
+pub fn refuse<N: Node, D: Discipline, G: Gate>(
+    arena: &Arena<N, D>,
+    pass: &mut Pass<N, D>,
+    gate: &G,
+    held: Held<N>,
+    op: Op,
+) -> Full
+    requires pass { IsPass (sort_of N.layout N.ranged) D.begins D.step arena.now.table.shared.table_id arena.now.callers pass.old }
+    requires alone { hand_of pass.old ≡ held.node ∷ [] }
+    requires ready { IsReady (sort_of N.layout N.ranged) N.body arena.now.nodes pass.old.caller (seen_of pass.old) held op full_reply }
+    ensures pass { IsPass (sort_of N.layout N.ranged) D.begins D.step arena.now.table.shared.table_id arena.now.callers pass.new × (hand_of pass.new ≡ []) }
+    ensures caller { pass.new.caller ≡ pass.old.caller }
+    ensures done { (template : Template) (start : List Happening) (place : ℕ) → Touches op place → NoneFree N.layout arena.now.nodes pass.old.caller place start (seen_of pass.old) →
+        Underway template pass.old.caller op start (seen_of pass.old) → DoneAt N.layout template arena.now.nodes pass.old.caller op start (seen_of pass.new) full_reply result.number held.node (blank_of (sort_of N.layout N.ranged)) (frame_of (N.body held.body)) }
+{
+    Full {
+        number: decide_here(arena, pass, gate, held, op, Reply::Full),
+    }
 }

@@ -3,11 +3,15 @@
 #![tactic(auto)]
 
 mod answers;
+mod claims;
 mod ending;
 mod link;
+mod template;
 mod tree;
 
 pub use answers::{Full, Numbered};
-pub use ending::{conclude, reply_of};
+pub use claims::{claim_one, claim_two};
+pub use ending::{conclude, refuse, reply_of};
 pub use link::{attach, grow_right, split_right};
+pub use template::{Ruled, Shelf, Template};
 pub use tree::{absorb_own, absorb_under, collapse, grow, split_own, split_under};

@@ -56,8 +56,7 @@ returns-clause-led g c = let sort = sort_of g.N.Node.layout g.N.Node.ranged in l
     let shaped = c.shape.ensures.bodies in
     let root = shaped.0 (λ dead. let clash : true ≡ false = sym r.node.live ∙ dead in cc) in
     let level_left = shown_level sort shows k (record { node = i; body = c.grow_link.new.left; live = true }) (split_linked cut j b) refl left (shaped.1 (λ dead. let clash : true ≡ false = dead in cc)) in
-    let level_right = shown_level sort shows k (record { node = j; body = c.grow_link.new.right; live = true }) (with_link None (split_right cut b)) refl right (shaped.2 (λ dead. let clash : true ≡ false = dead in cc)) in
-    (
+    let level_right = shown_level sort shows k (record { node = j; body = c.grow_link.new.right; live = true }) (with_link None (split_right cut b)) refl right (shaped.2 (λ dead. let clash : true ≡ false = dead in cc)) in (
       shown_led sort shows k (record { node = c.args.node.now.node; body = c.grow_link.new.self; live = c.args.node.now.live }) (grown_higher kind cut i j b) i 0 r.node.live above root leads.0 (omega (arith, level_left)),
       shown_led sort shows k (record { node = c.args.node.now.node; body = c.grow_link.new.self; live = c.args.node.now.live }) (grown_higher kind cut i j b) j cut r.node.live above root leads.1 (omega (arith, level_right)),
     )

@@ -11,7 +11,8 @@ use Rattle.ks_history.specs.Trace.{graph_after, turn_after, frame_after, number_
 use Rattle.ks_history.specs.Lawful.{Lawful, GoodThroughout}
 use Rattle.ks_history.specs.Due.{FullsDue}
 use Rattle.ks_history.specs.Passes.{CallersBelow}
-use Rattle.ks_arena.specs.Clauses.{seen_first, EndsAll}
+use Rattle.ks_arena.specs.Rule.{seen_first}
+use Rattle.ks_arena.specs.Clauses.{EndsAll}
 use Rattle.ks_arena.specs.declared.view.View.{View}
 use Rattle.ks_arena.specs.Sound.{sort_of, blank_of, Sound}
 use Rattle.ks_arena.specs.Rule.{Running, Closes, Ends, turn_word}

@@ -1,0 +1,87 @@
+"""What is measured: the pairings that the proved program admits, and maps that a user would pick instead of it."""
+
+import os
+import shutil
+import subprocess
+from dataclasses import dataclass
+
+TOP = os.path.dirname(os.path.dirname(os.path.abspath(__file__)))
+PROGRAM = os.path.join(TOP, "crates", "ks_main", "out", "ks_main")
+PEERS = os.path.join(TOP, "bench", "peers")
+BUILT = os.path.join(TOP, "bench", "out")
+
+LAYOUTS = ("list", "bplus", "hash")
+TEMPLATES = ("coupling", "giveup", "link")
+FIRST = 7
+NODES_FOR_EACH_CALLER = 1024
+
+
+@dataclass(frozen=True)
+class Contender:
+    """A command that serves generated calls and prints their summary."""
+
+    name: str
+    words: tuple
+    layout: str = ""
+
+    def command(self, callers, calls):
+        """The command that serves so many callers, each with so many calls."""
+        arena = [str(callers * NODES_FOR_EACH_CALLER)] if self.layout else []
+        return [*self.words, *arena, str(callers), str(calls), str(FIRST)]
+
+
+MUTEX = Contender("Mutex<BTreeMap>", (os.path.join(BUILT, "ordered_maps"), "mutex"))
+RWLOCK = Contender("RwLock<BTreeMap>", (os.path.join(BUILT, "ordered_maps"), "rwlock"))
+HASH_MAP = Contender("TBB concurrent_hash_map, no numbers", (os.path.join(BUILT, "hash_map"),))
+SKIP_LIST = Contender("Java ConcurrentSkipListMap, no numbers", ("java", "-cp", BUILT, "SkipList"))
+
+
+def build_program():
+    """Proves and builds the program where it is missing or old; ends with its status where that fails."""
+    status = subprocess.run([os.path.join(TOP, "ks"), "run", "bplus", "coupling", "4"],
+                            stdin=subprocess.DEVNULL, stdout=subprocess.DEVNULL).returncode
+    if status != 0:
+        raise SystemExit(status)
+
+
+def is_admitted(layout, template):
+    """Whether the program serves this pairing: it is asked with an empty script."""
+    return subprocess.run([PROGRAM, "run", layout, template, "4"], stdin=subprocess.DEVNULL,
+                          stdout=subprocess.DEVNULL, stderr=subprocess.DEVNULL).returncode == 0
+
+
+def pairings():
+    """The pairings that the program admits, with a line for each that it does not."""
+    admitted = []
+    for layout in LAYOUTS:
+        for template in TEMPLATES:
+            if is_admitted(layout, template):
+                admitted.append(Contender(f"{layout} {template}", (PROGRAM, "make", layout, template), layout))
+            else:
+                print(f"skipped: {layout} {template}, which the program does not admit")
+    return admitted
+
+
+def is_built(what, compiler):
+    """Whether the compiler makes the peer, with a line where it does not."""
+    if shutil.which(compiler[0]) is None:
+        print(f"skipped: {what}, for want of {compiler[0]}")
+        return False
+    built = subprocess.run(compiler, cwd=PEERS, capture_output=True, text=True)
+    if built.returncode != 0:
+        said = built.stderr.strip().splitlines() or ["no reason given"]
+        print(f"skipped: {what}, which {compiler[0]} does not build here: {said[0]}")
+    return built.returncode == 0
+
+
+def peers():
+    """The peers that this machine can build, with a line for each that it cannot."""
+    os.makedirs(BUILT, exist_ok=True)
+    built = []
+    if is_built("the maps of Rust", ["rustc", "-O", "--edition", "2021", "-o", MUTEX.words[0], "ordered_maps.rs"]):
+        built += [MUTEX, RWLOCK]
+    if is_built("the hash map of TBB", ["g++", "-O2", "-std=c++17", "-o", HASH_MAP.words[0], "hash_map.cpp", "-ltbb"]):
+        built.append(HASH_MAP)
+    if is_built("the skip list of Java", ["javac", "-d", BUILT, "SkipList.java"]):
+        built.append(SKIP_LIST)
+    return built

@@ -1,0 +1,111 @@
+// The generated calls over the concurrent_hash_map of oneTBB.
+//
+// usage: hash_map CALLERS CALLS FIRST
+//
+// Each caller has a thread. The map gives no order of all calls, so calls have no numbers.
+
+#include <tbb/concurrent_hash_map.h>
+
+#include <cstdint>
+#include <iostream>
+#include <optional>
+#include <string>
+#include <thread>
+#include <vector>
+
+using Map = tbb::concurrent_hash_map<uint64_t, uint64_t>;
+using Answer = std::optional<uint64_t>;
+
+enum class Kind { put, get, del };
+
+struct Call {
+    Kind kind;
+    uint64_t key;
+    uint64_t value;
+};
+
+class Generator {
+public:
+    explicit Generator(uint64_t first) : state(first) {}
+
+    Call call(uint64_t caller, uint64_t callers) {
+        const uint64_t kind = draw() % 4;
+        const uint64_t key = caller + callers * (draw() % 256);
+        if (kind < 2) return {Kind::put, key, draw()};
+        return {kind == 2 ? Kind::get : Kind::del, key, 0};
+    }
+
+private:
+    uint64_t draw() {
+        state = state * 6364136223846793005u + 1442695040888963407u;
+        return state >> 33;
+    }
+
+    uint64_t state;
+};
+
+std::vector<std::vector<Call>> made_script(uint64_t callers, uint64_t calls, uint64_t first) {
+    Generator generator(first);
+    std::vector<std::vector<Call>> script(callers);
+    for (uint64_t caller = 0; caller < callers; ++caller) {
+        script[caller].reserve(calls);
+        for (uint64_t made = 0; made < calls; ++made) script[caller].push_back(generator.call(caller, callers));
+    }
+    return script;
+}
+
+Answer put(Map& map, uint64_t key, uint64_t value) {
+    Map::accessor place;
+    const bool is_new = map.insert(place, key);
+    const Answer before = is_new ? Answer() : Answer(place->second);
+    place->second = value;
+    return before;
+}
+
+Answer get(const Map& map, uint64_t key) {
+    Map::const_accessor place;
+    return map.find(place, key) ? Answer(place->second) : Answer();
+}
+
+Answer del(Map& map, uint64_t key) {
+    Map::accessor place;
+    if (!map.find(place, key)) return Answer();
+    const Answer before(place->second);
+    map.erase(place);
+    return before;
+}
+
+void serve(Map& map, const std::vector<Call>& calls, std::vector<Answer>& answers) {
+    answers.reserve(calls.size());
+    for (const Call& call : calls) {
+        switch (call.kind) {
+            case Kind::put: answers.push_back(put(map, call.key, call.value)); break;
+            case Kind::get: answers.push_back(get(map, call.key)); break;
+            case Kind::del: answers.push_back(del(map, call.key)); break;
+        }
+    }
+}
+
+int main(int count, char** words) {
+    if (count != 4) {
+        std::cerr << "usage: hash_map CALLERS CALLS FIRST\n";
+        return 1;
+    }
+    const auto script = made_script(std::stoull(words[1]), std::stoull(words[2]), std::stoull(words[3]));
+    Map map;
+    std::vector<std::vector<Answer>> answers(script.size());
+    std::vector<std::thread> callers;
+    for (size_t caller = 0; caller < script.size(); ++caller) {
+        callers.emplace_back([&, caller] { serve(map, script[caller], answers[caller]); });
+    }
+    for (std::thread& caller : callers) caller.join();
+
+    uint64_t calls = 0, found = 0, sum = 0;
+    for (const auto& of_caller : answers) {
+        calls += of_caller.size();
+        for (const Answer& answer : of_caller) found += answer.has_value();
+    }
+    for (const auto& [key, value] : map) sum += key * value;
+    std::cout << "callers " << script.size() << "\ncalls " << calls << "\nfound " << found << "\nnone " << calls - found
+              << "\nfull 0\npairs " << map.size() << "\nsum " << sum << "\n";
+}

@@ -1,0 +1,4 @@
+pub mod Calling
+pub mod Joined
+pub mod Keyed
+pub mod Stored

@@ -1,0 +1,54 @@
+-- What a lawful history leaves in the map stands at places.
+use Rattle.std.proofs.Common.{◌≡◌, ◌==◌, ℕ, List, [], ◌∷◌, ◌++◌, ◌⊎◌, Some, None, cond, true, false, sym, ap, ◌∙◌, inl, ⊎_elim, arith}
+use Rattle.std.proofs.lemmas.Bool.Decides.{nat_tests}
+use Rattle.std.proofs.lemmas.List.Sums.{fold-append}
+use Rattle.ks_keysets.specs.Record.{IsPlace}
+use Rattle.ks_history.specs.declared.Answered.{Answered}
+use Rattle.ks_history.specs.declared.Event.{Event}
+use Rattle.ks_history.specs.declared.Event.TheVariants.{Take, Give, Claim, Shape, Call}
+use Rattle.ks_history.specs.declared.Op.{Op}
+use Rattle.ks_history.specs.declared.Op.TheVariants.{Get, Put, Del, Add, Swap}
+use Rattle.ks_history.specs.declared.Reply.{Reply}
+use Rattle.ks_history.specs.declared.Reply.TheVariants.{Nothing, Value, Full}
+use Rattle.ks_history.specs.Map.{Touches, map_after, map_then}
+use Rattle.ks_history.specs.Trace.{calls_of}
+use Rattle.ks_history.specs.Lawful.{Lawful}
+use Rattle.ks_history.specs.Write.{Map, keeps, sets, removes, map_with, written}
+
+-- what a map holds after a write it held before, or it was set
+held_or_set : (m : Map) (p v q u : ℕ) → map_with m (sets p v) q ≡ Some u → (m q ≡ Some u) ⊎ (q ≡ p)
+held_or_set m p v q u is = grind (arith, nat_tests, is)
+
+held_if_removed : (m : Map) (p q u : ℕ) → map_with m (removes p) q ≡ Some u → m q ≡ Some u
+held_if_removed m p q u is = grind (arith, nat_tests, is)
+
+-- what a map holds after a call it held before, or the call touches its place
+held_or_touched : (m : Map) (op : Op) (reply : Reply) (q u : ℕ) → map_with m (written op reply) q ≡ Some u → (m q ≡ Some u) ⊎ Touches op q
+held_or_touched m (Get p) reply q u is = inl is
+held_or_touched m (Put p v) Nothing q u is = held_or_set m p v q u is
+held_or_touched m (Put p v) (Value w) q u is = held_or_set m p v q u is
+held_or_touched m (Put p v) Full q u is = inl is
+held_or_touched m (Del p) reply q u is = inl (held_if_removed m p q u is)
+held_or_touched m (Add p v) Nothing q u is = held_or_set m p v q u is
+held_or_touched m (Add p v) (Value w) q u is = inl is
+held_or_touched m (Add p v) Full q u is = inl is
+held_or_touched m (Swap p old new) Nothing q u is = inl is
+held_or_touched m (Swap p old new) (Value v) q u is = by_test (v == old) is
+  where
+    by_test : (b : _) → map_with m (cond b (sets p new) keeps) q ≡ Some u → (m q ≡ Some u) ⊎ (q ≡ p)
+    by_test true is = held_or_set m p new q u is
+    by_test false is = inl is
+held_or_touched m (Swap p old new) Full q u is = inl is
+
+pub stored_at_places : (h : List Event) → Lawful h → (p v : ℕ) → map_after (calls_of h) p ≡ Some v → IsPlace p
+stored_at_places [] lawful p v is = absurd (let q : ⊥ = cc in q)
+stored_at_places (Take c j ∷ h) lawful p v is = stored_at_places h lawful.0 p v is
+stored_at_places (Give c j ∷ h) lawful p v is = stored_at_places h lawful.0 p v is
+stored_at_places (Claim c j ∷ h) lawful p v is = stored_at_places h lawful.0 p v is
+stored_at_places (Shape c changes ∷ h) lawful p v is = stored_at_places h lawful.0 p v is
+stored_at_places (Call c j op reply ∷ h) lawful p v is =
+    let a : Answered = record { op = op; reply = reply } in
+    let m : Map = map_after (calls_of h) in
+    let now : map_after (calls_of h ++ a ∷ []) ≡ map_then m a = fold-append map_then (λ (q : ℕ). None) (calls_of h) (a ∷ []) in
+    ⊎_elim (λ before. stored_at_places h lawful.0 p v before) (λ touches. (lawful.1.1 p touches).0.0)
+    (held_or_touched m op reply p v (sym (ap (λ (k : Map). k p) now) ∙ is))

@@ -1,0 +1,28 @@
+-- All passes of a dictionary, and its notes.
+use Rattle.std.specs.Prelude.{ℕ, List}
+use Rattle.atomic_table.specs.Seated.{TableId}
+use Rattle.ks_keysets.specs.declared.Change.{Change}
+use Rattle.ks_keysets.specs.declared.Frame.{Frame}
+use Rattle.ks_keysets.specs.declared.NodeState.{NodeState}
+use Rattle.ks_arena.specs.declared.held.Note.{Note}
+use Rattle.ks_arena.specs.declared.held.Pass.{Pass}
+use Rattle.ks_arena.specs.Sound.{Sort}
+use Rattle.ks_arena.specs.Clauses.{IsNote, IsNewCrew, IsCrew}
+use Rattle.ks_shape.specs.Idle.{Site}
+
+-- an arena by its parts, for clauses of closures
+abbrev pub site_with : Sort → (Frame → Type 0) → ((ℕ → NodeState) → (ℕ → Frame) → List Change → Type 0) → TableId → ℕ → ℕ → Site
+site_with sort begins step table callers nodes = record { sort = sort; begins = begins; step = step; table = table; callers = callers; nodes = nodes }
+
+module _ {N D : Type 0} where
+  -- the passes that a start gives: one for each caller, numbered from 0; they have seen nothing and hold nothing
+  abbrev pub AreNew : Site → List (Pass N D) → Type 0
+  AreNew a ps = IsNewCrew a.sort a.begins a.step a.table a.callers ps
+
+  -- the passes of all callers, none of which holds a node
+  abbrev pub AreAll : Site → List (Pass N D) → Type 0
+  AreAll a ps = IsCrew a.sort a.begins a.step a.table a.callers ps
+
+  -- a note of a pass of the arena
+  abbrev pub IsNoteOf : Site → Note N D → Type 0
+  IsNoteOf a x = IsNote a.table x

@@ -1,0 +1,4 @@
+pub mod Called
+pub mod Crew
+pub mod Ended
+pub mod Work

@@ -1,0 +1,40 @@
+-- What the work of a caller begins with and comes to.
+use Rattle.std.specs.Prelude.{ℕ, ◌≡◌, List, [], ◌++◌, map, length}
+use Rattle.ks_history.specs.declared.Event.{Event}
+use Rattle.ks_history.specs.declared.Op.{Op}
+use Rattle.ks_history.specs.declared.Reply.{Reply}
+use Rattle.ks_history.specs.Trace.{calls_by}
+use Rattle.ks_history.specs.Served.{at_place}
+use Rattle.ks_arena.specs.Clauses.{seen_of}
+use Rattle.ks_shape.specs.Idle.{Site, IsIdle}
+use Rattle.ks_dictionary.specs.declared.workers.Job.{Job}
+
+-- the operations that caller c has called in the trace, and the numbers and replies of its calls, oldest first
+abbrev pub asked_by : ℕ → List Event → List Op
+asked_by c h = map (λ x. x.call.op) (calls_by c h)
+
+abbrev pub told_by : ℕ → List Event → List (ℕ × Reply)
+told_by c h = map (λ x. (x.number, x.call.reply)) (calls_by c h)
+
+-- from s0 to s1 c has called these operations, in order
+abbrev pub HasAsked : ℕ → List Event → List Event → List Op → Type 0
+HasAsked c s0 s1 ops = asked_by c s1 ≡ asked_by c s0 ++ ops
+
+-- from s0 to s1 the calls of c got these numbers and replies, in order
+abbrev pub HasAnswered : ℕ → List Event → List Event → List (ℕ × Reply) → Type 0
+HasAnswered c s0 s1 lines = told_by c s1 ≡ told_by c s0 ++ lines
+
+module _ {N D : Type 0} (a : Site) where
+  -- the caller holds nothing and has made no call, and there is a line for each of its calls
+  pub record IsReadyJob (job : Job N D) : Type 0 where
+    pub pass : IsIdle a job.pass
+    pub fresh : calls_by job.pass.caller (seen_of job.pass) ≡ []
+    pub room : length job.lines.items ≡ length job.ops.items
+
+  -- the caller holds nothing, and has made the calls of its script, with places for keys, in order; its lines tell their
+  -- numbers and replies
+  pub record HasRun (place : ℕ → ℕ) (before after : Job N D) : Type 0 where
+    pub pass : IsIdle a after.pass
+    pub caller : after.pass.caller ≡ before.pass.caller
+    pub asked : asked_by before.pass.caller (seen_of after.pass) ≡ map (at_place place) before.ops.items
+    pub told : told_by before.pass.caller (seen_of after.pass) ≡ after.lines.items

@@ -1,0 +1,199 @@
+//! A dictionary: an arena, a technique, and keys for places.
+ghost use Rattle.std.specs.Prelude.{◌≡◌, ◌≤◌, IfOk};
+ghost use Rattle.ks_history.specs.declared.Op.TheVariants.{Add, Del, Get, Put, Swap};
+ghost use Rattle.ks_history.specs.Map.{told};
+ghost use Rattle.ks_history.specs.Trace.{◌⊑◌};
+ghost use Rattle.ks_history.specs.Done.{Done};
+ghost use Rattle.ks_history.specs.Passes.{CallersBelow, GrowsByOthers};
+ghost use Rattle.ks_arena.specs.Sound.{sort_of, Sound};
+ghost use Rattle.ks_arena.specs.Clauses.{EndsAll, noted, seen_of};
+ghost use Rattle.ks_shape.specs.Answers.{number_in, reply_in};
+ghost use Rattle.ks_shape.specs.Idle.{IsIdle};
+ghost use Rattle.ks_dictionary.specs.Crew.{AreAll, AreNew, IsNoteOf};
+ghost use Rattle.ks_dictionary.specs.Ended.{HasEndedWith, history};
+
+use crate::closed::Closed;
+use ks_arena::{Arena, Note, Pass};
+use ks_gate::Gate;
+use ks_node::Node;
+use ks_places::Placing;
+use ks_shape::{Full, Numbered, Ruled, Shelf, Template};
+use std::alloc::{AllocError, Global};
+use std::sync::Wait;
+
+/// A map from keys to values that many callers use at once, each with a pass of its own.
+///
+/// All calls stand in one history: each once, each caller's in its order, and each after all that its pass had seen when
+/// it began. A call answers what the map held just before it in that history.
+#[derive(Drop)]
+pub struct Dictionary<N: Node, T: Ruled> {
+    pub(crate) arena: Arena<N, T::Rule>,
+}
+
+impl<N: Node, T: Ruled> Shelf for Dictionary<N, T> {
+    ghost site = { λ d. ⟦<Arena<N, T::Rule> as Shelf>⟧.site d.arena };
+}
+
+impl<N: Node, T: Ruled + Template<N, Arena<N, <T as Ruled>::Rule>>> Dictionary<N, T> {
+    /// An empty dictionary over so many nodes, and a pass for each caller.
+    ///
+    /// # Errors
+    ///
+    /// Want of memory alone.
+    pub fn start(
+        alloc: Global,
+        nodes: u32,
+        callers: u32,
+    ) -> Result<(Dictionary<N, T>, Vec<Pass<N, T::Rule>>), AllocError>
+        requires nodes { (4 ≤ nodes) × (nodes ≤ 1048576) }
+        requires callers { (1 ≤ callers) × (callers ≤ 1024) }
+        ensures nodes { IfOk result (λ r. (⟦<Dictionary<N, T> as Shelf>⟧.site r.0).nodes ≡ nodes) }
+        ensures callers { IfOk result (λ r. (⟦<Dictionary<N, T> as Shelf>⟧.site r.0).callers ≡ callers) }
+        ensures passes { IfOk result (λ r. AreNew (⟦<Dictionary<N, T> as Shelf>⟧.site r.0) r.1.items) }
+    {
+        T::fits();
+        let (arena, passes) = Arena::<N, T::Rule>::start(alloc, nodes, callers)?;
+        Ok((Dictionary { arena }, passes))
+    }
+
+    /// Answers the value of a key.
+    pub fn get<R: Wait, G: Gate>(
+        &self,
+        rt: &R,
+        pass: &mut Pass<N, T::Rule>,
+        gate: &G,
+        key: u64,
+    ) -> Numbered
+        requires pass { IsIdle (⟦<Dictionary<N, T> as Shelf>⟧.site self.now) pass.old }
+        ensures pass { IsIdle (⟦<Dictionary<N, T> as Shelf>⟧.site self.now) pass.new }
+        ensures caller { pass.new.caller ≡ pass.old.caller }
+        ensures done { Done N.layout T.technique (⟦<Dictionary<N, T> as Shelf>⟧.site self.now).nodes pass.old.caller
+            (Get (N.Places.place_of key)) (seen_of pass.old) (seen_of pass.new) (told result.found) result.number }
+    {
+        T::get(rt, &self.arena, pass, gate, N::Places::place(key))
+    }
+
+    /// Sets the value of a key, and answers the one that it had.
+    ///
+    /// # Errors
+    ///
+    /// `Full` comes only where the key has no value, its node has no room, and each node was not free at some moment of
+    /// the call. Then the map is as before the call, which has its number in the history; splits that it made before
+    /// stay.
+    pub fn put<R: Wait, G: Gate>(
+        &self,
+        rt: &R,
+        pass: &mut Pass<N, T::Rule>,
+        gate: &G,
+        key: u64,
+        value: u128,
+    ) -> Result<Numbered, Full>
+        requires pass { IsIdle (⟦<Dictionary<N, T> as Shelf>⟧.site self.now) pass.old }
+        ensures pass { IsIdle (⟦<Dictionary<N, T> as Shelf>⟧.site self.now) pass.new }
+        ensures caller { pass.new.caller ≡ pass.old.caller }
+        ensures done { Done N.layout T.technique (⟦<Dictionary<N, T> as Shelf>⟧.site self.now).nodes pass.old.caller
+            (Put (N.Places.place_of key) value) (seen_of pass.old) (seen_of pass.new) (reply_in result) (number_in result) }
+    {
+        T::put(rt, &self.arena, pass, gate, N::Places::place(key), value)
+    }
+
+    /// Sets the value of a key that has none, and answers the one that it had: a key that had one keeps it.
+    ///
+    /// # Errors
+    ///
+    /// `Full` comes, and leaves the map, as for `put`.
+    pub fn add<R: Wait, G: Gate>(
+        &self,
+        rt: &R,
+        pass: &mut Pass<N, T::Rule>,
+        gate: &G,
+        key: u64,
+        value: u128,
+    ) -> Result<Numbered, Full>
+        requires pass { IsIdle (⟦<Dictionary<N, T> as Shelf>⟧.site self.now) pass.old }
+        ensures pass { IsIdle (⟦<Dictionary<N, T> as Shelf>⟧.site self.now) pass.new }
+        ensures caller { pass.new.caller ≡ pass.old.caller }
+        ensures done { Done N.layout T.technique (⟦<Dictionary<N, T> as Shelf>⟧.site self.now).nodes pass.old.caller
+            (Add (N.Places.place_of key) value) (seen_of pass.old) (seen_of pass.new) (reply_in result) (number_in result) }
+    {
+        T::add(rt, &self.arena, pass, gate, N::Places::place(key), value)
+    }
+
+    /// Sets the value of a key from `old` to `new`, and answers the one that it had: it was set exactly where that is
+    /// `old`.
+    pub fn swap<R: Wait, G: Gate>(
+        &self,
+        rt: &R,
+        pass: &mut Pass<N, T::Rule>,
+        gate: &G,
+        key: u64,
+        old: u128,
+        new: u128,
+    ) -> Numbered
+        requires pass { IsIdle (⟦<Dictionary<N, T> as Shelf>⟧.site self.now) pass.old }
+        ensures pass { IsIdle (⟦<Dictionary<N, T> as Shelf>⟧.site self.now) pass.new }
+        ensures caller { pass.new.caller ≡ pass.old.caller }
+        ensures done { Done N.layout T.technique (⟦<Dictionary<N, T> as Shelf>⟧.site self.now).nodes pass.old.caller
+            (Swap (N.Places.place_of key) old new) (seen_of pass.old) (seen_of pass.new) (told result.found) result.number }
+    {
+        T::swap(rt, &self.arena, pass, gate, N::Places::place(key), old, new)
+    }
+
+    /// Deletes a key, and answers the value that it had.
+    pub fn del<R: Wait, G: Gate>(
+        &self,
+        rt: &R,
+        pass: &mut Pass<N, T::Rule>,
+        gate: &G,
+        key: u64,
+    ) -> Numbered
+        requires pass { IsIdle (⟦<Dictionary<N, T> as Shelf>⟧.site self.now) pass.old }
+        ensures pass { IsIdle (⟦<Dictionary<N, T> as Shelf>⟧.site self.now) pass.new }
+        ensures caller { pass.new.caller ≡ pass.old.caller }
+        ensures done { Done N.layout T.technique (⟦<Dictionary<N, T> as Shelf>⟧.site self.now).nodes pass.old.caller
+            (Del (N.Places.place_of key)) (seen_of pass.old) (seen_of pass.new) (told result.found) result.number }
+    {
+        T::del(rt, &self.arena, pass, gate, N::Places::place(key))
+    }
+
+    /// A note of what the pass has seen, for another caller to learn. It makes no event.
+    pub fn note(&self, pass: &mut Pass<N, T::Rule>) -> Note<N, T::Rule>
+        requires { IsIdle (⟦<Dictionary<N, T> as Shelf>⟧.site self.now) pass.old }
+        ensures pass { IsIdle (⟦<Dictionary<N, T> as Shelf>⟧.site self.now) pass.new }
+        ensures caller { pass.new.caller ≡ pass.old.caller }
+        ensures seen { seen_of pass.new ≡ seen_of pass.old }
+        ensures note { IsNoteOf (⟦<Dictionary<N, T> as Shelf>⟧.site self.now) result }
+        ensures noted { noted result ≡ seen_of pass.old }
+    {
+        self.arena.note(pass)
+    }
+
+    /// From now on the pass has seen what the note has, beside what it had seen itself: a call that it makes now stands
+    /// after both in the history. It makes no event.
+    pub fn learn(&self, pass: &mut Pass<N, T::Rule>, note: Note<N, T::Rule>)
+        requires pass { IsIdle (⟦<Dictionary<N, T> as Shelf>⟧.site self.now) pass.old }
+        requires note { IsNoteOf (⟦<Dictionary<N, T> as Shelf>⟧.site self.now) note }
+        ensures pass { IsIdle (⟦<Dictionary<N, T> as Shelf>⟧.site self.now) pass.new }
+        ensures caller { pass.new.caller ≡ pass.old.caller }
+        ensures noted { noted note ⊑ seen_of pass.new }
+        ensures own { GrowsByOthers pass.old.caller (seen_of pass.old) (seen_of pass.new) }
+    {
+        self.arena.learn(pass, note);
+    }
+
+    /// Ends the dictionary. The passes are all that `start` gave, and hold no node.
+    pub fn close(self, passes: Vec<Pass<N, T::Rule>>) -> Closed<N>
+        requires { AreAll (⟦<Dictionary<N, T> as Shelf>⟧.site self) passes.items }
+        ensures ended { HasEndedWith (sort_of N.layout N.ranged) N.body
+            (⟦<Dictionary<N, T> as Shelf>⟧.site self).nodes result }
+        ensures sound { Sound (sort_of N.layout N.ranged) T.Rule.begins T.Rule.step
+            (⟦<Dictionary<N, T> as Shelf>⟧.site self).nodes (history result) }
+        ensures seen { EndsAll (history result) passes.items }
+        ensures callers { CallersBelow (⟦<Dictionary<N, T> as Shelf>⟧.site self).callers (history result) }
+    {
+        let Dictionary { arena } = self;
+        Closed {
+            run: arena.close(passes),
+        }
+    }
+}

@@ -1,0 +1,188 @@
+//! All callers are served at once over one dictionary, and what they did is one legal history.
+ghost use Rattle.std.specs.Prelude.{◌≡◌, ℕ, ◌<◌, ◌≤◌, [], map, length, All, IfOk};
+ghost use Rattle.ks_history.specs.Due.{FullsDue};
+ghost use Rattle.ks_history.specs.Lawful.{Lawful, GoodThroughout};
+ghost use Rattle.ks_history.specs.Served.{Served};
+ghost use Rattle.ks_arena.specs.Sound.{sort_of};
+ghost use Rattle.ks_arena.specs.Clauses.{trace_in};
+ghost use Rattle.ks_dictionary.specs.Called.{HaveCalled};
+ghost use Rattle.ks_dictionary.specs.Crew.{AreNew};
+ghost use Rattle.ks_dictionary.specs.Ended.{HasEndedWith, history};
+
+use crate::closed::Closed;
+use crate::dictionary::Dictionary;
+use crate::workers::{Job, work};
+use ks_arena::{Arena, Pass, RunTrace};
+use ks_gate::Gate;
+use ks_history::{Op, Reply, keyset_theorem};
+use ks_node::Node;
+use ks_shape::{Ruled, Shelf, Template};
+use std::alloc::{AllocError, Global};
+use std::sync::Wait;
+use std::thread::Threads;
+
+/// What serving all callers gives: for each caller the numbers and replies of its calls, the map at the end, and what
+/// happened.
+#[derive(Drop)]
+pub struct Told {
+    pub lines: Vec<Vec<(u64, Reply)>>,
+    pub pairs: Vec<(u64, u128)>,
+    pub trace: RunTrace,
+}
+
+/// Room for so many lines.
+fn blank_lines(alloc: Global, calls: usize) -> Result<Vec<(u64, Reply)>, AllocError>
+    ensures { IfOk result (λ lines. length lines.items ≡ calls) }
+{
+    let mut lines = Vec::with_capacity(alloc, calls)?;
+    for _ in 0..calls {
+        lines.push((0, Reply::Nothing))?;
+    }
+    Ok(lines)
+}
+
+/// Each pass with its script, and a line for each of its calls.
+fn jobs_of<N, D>(
+    alloc: Global,
+    passes: Vec<Pass<N, D>>,
+    scripts: Vec<Vec<Op>>,
+) -> Result<Vec<Job<N, D>>, AllocError>
+    requires { length passes.items ≡ length scripts.items }
+    ensures passes { IfOk result (λ jobs. map (λ job. job.pass) jobs.items ≡ passes.items) }
+    ensures scripts { IfOk result (λ jobs. map (λ job. job.ops) jobs.items ≡ scripts.items) }
+    ensures room { IfOk result (λ jobs. All (λ job. length job.lines.items ≡ length job.ops.items) jobs.items) }
+{
+    let mut jobs = Vec::with_capacity(alloc, passes.len())?;
+    for (pass, ops) in passes.into_iter().zip(scripts) {
+        let lines = blank_lines(alloc, ops.len())?;
+        jobs.push(Job { pass, ops, lines })?;
+    }
+    Ok(jobs)
+}
+
+/// The passes and the lines apart.
+fn apart<N, D>(
+    alloc: Global,
+    jobs: Vec<Job<N, D>>,
+) -> Result<(Vec<Pass<N, D>>, Vec<Vec<(u64, Reply)>>), AllocError>
+    ensures passes { IfOk result (λ r. r.0.items ≡ map (λ job. job.pass) jobs.items) }
+    ensures lines { IfOk result (λ r. r.1.items ≡ map (λ job. job.lines) jobs.items) }
+{
+    let mut passes = Vec::with_capacity(alloc, jobs.len())?;
+    let mut lines = Vec::with_capacity(alloc, jobs.len())?;
+    for job in jobs {
+        let Job {
+            pass,
+            ops: _,
+            lines: told,
+        } = job;
+        passes.push(pass)?;
+        lines.push(told)?;
+    }
+    Ok((passes, lines))
+}
+
+/// Serves all jobs at once, and ends the dictionary. Memory is taken only once the callers have ended.
+fn serve_jobs<
+    N: Node + Send,
+    T: Ruled + Template<N, Arena<N, <T as Ruled>::Rule>>,
+    R: Threads + Wait + Sync,
+    G: Gate + Sync,
+>(
+    rt: &R,
+    alloc: Global,
+    dictionary: Dictionary<N, T>,
+    gate: &G,
+    mut jobs: Vec<Job<N, T::Rule>>,
+) -> Result<(Closed<N>, Vec<Vec<(u64, Reply)>>), AllocError>
+where
+    N::Places: Send + Sync,
+    requires some { 0 < length jobs.items }
+    requires crew { AreNew (⟦<Dictionary<N, T> as Shelf>⟧.site dictionary) (map (λ job. job.pass) jobs.items) }
+    requires room { All (λ job. length job.lines.items ≡ length job.ops.items) jobs.items }
+    ensures ended { IfOk result (λ r. HasEndedWith (sort_of N.layout N.ranged) N.body
+        (⟦<Dictionary<N, T> as Shelf>⟧.site dictionary).nodes r.0) }
+    ensures called { IfOk result (λ r. HaveCalled N.Places.place_of (map (λ job. job.ops.items) jobs.items)
+        (map (λ v. v.items) r.1.items) (history r.0)) }
+{
+    work(rt, &dictionary, gate, jobs.as_mut_slice());
+    let (passes, lines) = apart(alloc, jobs)?;
+    Ok((dictionary.close(passes), lines))
+}
+
+/// Where there is no caller: a dictionary that ends at once.
+fn serve_nobody<N: Node, T: Ruled + Template<N, Arena<N, <T as Ruled>::Rule>>>(
+    alloc: Global,
+    nodes: u32,
+) -> Result<Closed<N>, AllocError>
+    requires { (4 ≤ nodes) × (nodes ≤ 1048576) }
+    ensures ended { IfOk result (λ closed. HasEndedWith (sort_of N.layout N.ranged) N.body nodes closed) }
+    ensures called { IfOk result (λ closed. HaveCalled N.Places.place_of [] [] (history closed)) }
+{
+    let (dictionary, passes) = Dictionary::<N, T>::start(alloc, nodes, 1)?;
+    Ok(dictionary.close(passes))
+}
+
+/// Serves all callers at once over a dictionary that begins empty, and ends it.
+fn serve_all<
+    N: Node + Send,
+    T: Ruled + Template<N, Arena<N, <T as Ruled>::Rule>>,
+    R: Threads + Wait + Sync,
+    G: Gate + Sync,
+>(
+    rt: &R,
+    alloc: Global,
+    nodes: u32,
+    scripts: Vec<Vec<Op>>,
+    gate: &G,
+) -> Result<(Closed<N>, Vec<Vec<(u64, Reply)>>), AllocError>
+where
+    N::Places: Send + Sync,
+    requires nodes { (4 ≤ nodes) × (nodes ≤ 1048576) }
+    requires callers { length scripts.items ≤ 1024 }
+    ensures ended { IfOk result (λ r. HasEndedWith (sort_of N.layout N.ranged) N.body nodes r.0) }
+    ensures called { IfOk result (λ r. HaveCalled N.Places.place_of (map (λ v. v.items) scripts.items)
+        (map (λ v. v.items) r.1.items) (history r.0)) }
+{
+    if scripts.is_empty() {
+        let closed = serve_nobody::<N, T>(alloc, nodes)?;
+        return Ok((closed, Vec::new(alloc)));
+    }
+    let callers = scripts.len() as u32;
+    let (dictionary, passes) = Dictionary::<N, T>::start(alloc, nodes, callers)?;
+    let jobs = jobs_of(alloc, passes, scripts)?;
+    serve_jobs(rt, alloc, dictionary, gate, jobs)
+}
+
+/// Serves all callers at once over a dictionary that begins empty, each in its order and in joined work of its own. What
+/// they did is one legal history of a map, the graph was good at each moment of it, and each Full was due. Memory is
+/// taken before the first call and after the last alone.
+///
+/// # Errors
+///
+/// Want of memory alone.
+pub fn serve_callers<
+    N: Node + Send,
+    T: Ruled + Template<N, Arena<N, <T as Ruled>::Rule>>,
+    R: Threads + Wait + Sync,
+    G: Gate + Sync,
+>(rt: &R, alloc: Global, nodes: u32, scripts: Vec<Vec<Op>>, gate: &G) -> Result<Told, AllocError>
+where
+    N::Places: Send + Sync,
+    requires nodes { (4 ≤ nodes) × (nodes ≤ 1048576) }
+    requires callers { length scripts.items ≤ 1024 }
+    ensures served { IfOk result (λ told. Served N.Places.place_of (map (λ v. v.items) scripts.items)
+        (map (λ v. v.items) told.lines.items) told.pairs.items (trace_in told.trace)) }
+    ensures lawful { IfOk result (λ told. Lawful (trace_in told.trace)) }
+    ensures good { IfOk result (λ told. GoodThroughout (trace_in told.trace)) }
+    ensures due { IfOk result (λ told. FullsDue N.layout nodes (trace_in told.trace)) }
+{
+    let (ended, lines) = serve_all::<N, T, R, G>(rt, alloc, nodes, scripts, gate)?;
+    keyset_theorem();
+    let pairs = ended.pairs(alloc)?;
+    Ok(Told {
+        lines,
+        pairs,
+        trace: ended.trace(),
+    })
+}

@@ -1,0 +1,143 @@
+//! The work of the callers, each in joined work of its own. It takes no memory: each job has a line for each of its calls
+//! from the start.
+ghost use Rattle.std.specs.Prelude.{◌≡◌, ℕ, ◌<◌, ◌++◌, ◌∷◌, [], map, length, All, slice_index_or};
+ghost use Rattle.ks_history.specs.Map.{told};
+ghost use Rattle.ks_history.specs.Trace.{calls_by};
+ghost use Rattle.ks_history.specs.Calls.{numbered};
+ghost use Rattle.ks_history.specs.Served.{at_place};
+ghost use Rattle.ks_arena.specs.Sound.{sort_of};
+ghost use Rattle.ks_arena.specs.Clauses.{seen_of};
+ghost use Rattle.ks_shape.specs.Answers.{number_in, reply_in};
+ghost use Rattle.ks_shape.specs.Idle.{IsIdle};
+ghost use Rattle.ks_dictionary.specs.Crew.{site_with};
+ghost use Rattle.ks_dictionary.specs.Work.{HasAnswered, HasAsked, HasRun, IsReadyJob};
+
+use crate::dictionary::Dictionary;
+use ks_arena::{Arena, Pass};
+use ks_gate::Gate;
+use ks_history::{Op, Reply};
+use ks_node::Node;
+use ks_shape::{Full, Numbered, Ruled, Shelf, Template, reply_of};
+use std::sync::Wait;
+use std::thread::{Threads, for_each_mut};
+
+/// A caller: its pass, its script, and room for a number and a reply for each of its calls.
+#[derive(Drop)]
+pub struct Job<N, D> {
+    pub pass: Pass<N, D>,
+    pub ops: Vec<Op>,
+    pub lines: Vec<(u64, Reply)>,
+}
+
+/// The number and the reply that an answer tells.
+fn line_of(answer: Numbered) -> (u64, Reply)
+    ensures number { result.0 ≡ answer.number }
+    ensures reply { result.1 ≡ told answer.found }
+{
+    (answer.number, reply_of(answer.found))
+}
+
+fn line_in(answer: Result<Numbered, Full>) -> (u64, Reply)
+    ensures number { result.0 ≡ number_in answer }
+    ensures reply { result.1 ≡ reply_in answer }
+{
+    match answer {
+        Ok(answer) => line_of(answer),
+        Err(full) => (full.number, Reply::Full),
+    }
+}
+
+/// Makes one call, and answers its number and its reply.
+fn call<N: Node, T: Ruled + Template<N, Arena<N, <T as Ruled>::Rule>>, R: Wait, G: Gate>(
+    rt: &R,
+    dictionary: &Dictionary<N, T>,
+    gate: &G,
+    pass: &mut Pass<N, T::Rule>,
+    op: Op,
+) -> (u64, Reply)
+    requires { IsIdle (⟦<Dictionary<N, T> as Shelf>⟧.site dictionary.now) pass.old }
+    ensures pass { IsIdle (⟦<Dictionary<N, T> as Shelf>⟧.site dictionary.now) pass.new }
+    ensures caller { pass.new.caller ≡ pass.old.caller }
+    ensures calls { calls_by pass.old.caller (seen_of pass.new)
+        ≡ calls_by pass.old.caller (seen_of pass.old) ++ numbered result.0 (at_place N.Places.place_of op) result.1 ∷ [] }
+{
+    match op {
+        Op::Get(key) => line_of(dictionary.get(rt, pass, gate, key)),
+        Op::Put(key, value) => line_in(dictionary.put(rt, pass, gate, key, value)),
+        Op::Del(key) => line_of(dictionary.del(rt, pass, gate, key)),
+        Op::Add(key, value) => line_in(dictionary.add(rt, pass, gate, key, value)),
+        Op::Swap(key, old, new) => line_of(dictionary.swap(rt, pass, gate, key, old, new)),
+    }
+}
+
+/// Makes the calls of a script, in order, and writes down their numbers and replies.
+fn call_each<N: Node, T: Ruled + Template<N, Arena<N, <T as Ruled>::Rule>>, R: Wait, G: Gate>(
+    rt: &R,
+    dictionary: &Dictionary<N, T>,
+    gate: &G,
+    pass: &mut Pass<N, T::Rule>,
+    ops: &[Op],
+    lines: &mut [(u64, Reply)],
+)
+    requires pass { IsIdle (⟦<Dictionary<N, T> as Shelf>⟧.site dictionary.now) pass.old }
+    requires room { length lines.old ≡ length ops.now }
+    ensures pass { IsIdle (⟦<Dictionary<N, T> as Shelf>⟧.site dictionary.now) pass.new }
+    ensures caller { pass.new.caller ≡ pass.old.caller }
+    ensures asked { HasAsked pass.old.caller (seen_of pass.old) (seen_of pass.new) (map (at_place N.Places.place_of) ops.now) }
+    ensures told { HasAnswered pass.old.caller (seen_of pass.old) (seen_of pass.new) lines.new }
+{
+    for at in 0..ops.len() {
+        lines[at] = call(rt, dictionary, gate, pass, ops[at]);
+    }
+}
+
+/// Serves one caller.
+fn run_job<N: Node, T: Ruled + Template<N, Arena<N, <T as Ruled>::Rule>>, R: Wait, G: Gate>(
+    rt: &R,
+    dictionary: &Dictionary<N, T>,
+    gate: &G,
+    job: &mut Job<N, T::Rule>,
+)
+    requires { IsReadyJob (⟦<Dictionary<N, T> as Shelf>⟧.site dictionary.now) job.old }
+    ensures { HasRun (⟦<Dictionary<N, T> as Shelf>⟧.site dictionary.now) N.Places.place_of job.old job.new }
+{
+    call_each(
+        rt,
+        dictionary,
+        gate,
+        &mut job.pass,
+        job.ops.as_slice(),
+        job.lines.as_mut_slice(),
+    );
+}
+
+/// Serves all callers at once, each in joined work of its own. Each job ends with all calls of its script made, in
+/// order, and their numbers and replies in its lines.
+pub fn work<
+    N: Node + Send,
+    T: Ruled + Template<N, Arena<N, <T as Ruled>::Rule>>,
+    R: Threads + Wait + Sync,
+    G: Gate + Sync,
+>(rt: &R, dictionary: &Dictionary<N, T>, gate: &G, jobs: &mut [Job<N, T::Rule>])
+where
+    N::Places: Send + Sync,
+    requires some { 0 < length jobs.old }
+    requires ready { All (λ job. IsReadyJob (⟦<Dictionary<N, T> as Shelf>⟧.site dictionary.now) job) jobs.old }
+    ensures same { length jobs.new ≡ length jobs.old }
+    ensures ran { (i : ℕ) (d : _) → i < length jobs.old → HasRun (⟦<Dictionary<N, T> as Shelf>⟧.site dictionary.now)
+        N.Places.place_of (slice_index_or jobs.old i d) (slice_index_or jobs.new i d) }
+{
+    let threads = jobs.len();
+    for_each_mut(
+        rt,
+        jobs,
+        threads,
+        &|_: usize, job: &mut Job<N, T::Rule>|
+            requires { IsReadyJob (site_with (sort_of N.layout N.ranged) T.Rule.begins T.Rule.step
+                dictionary.now.arena.table.shared.table_id dictionary.now.arena.callers dictionary.now.arena.nodes) job.old }
+            ensures { HasRun (site_with (sort_of N.layout N.ranged) T.Rule.begins T.Rule.step
+                dictionary.entry.now.arena.table.shared.table_id dictionary.entry.now.arena.callers dictionary.entry.now.arena.nodes)
+                N.Places.place_of job.old job.new }
+        { run_job(rt, dictionary, gate, job) },
+    );
+}

@@ -1,0 +1,42 @@
+use Rattle.std.proofs.Common.{ℕ, refl, arith}
+use Rattle.ks_flow.specs.Discipline.{SameKeyset}
+use Rattle.ks_history.specs.Stretch.{stretch_others}
+use Rattle.ks_arena.specs.Sound.{sort_of}
+use Rattle.ks_arena.specs.Clauses.{seen_of, hand_of}
+use Rattle.ks_shape.specs.Beside.{StaysBeside, beside_others, stays_beside, keyset_beside}
+use Rattle.ks_shape.proofs.Claiming.{claimed_stretch, claimed_beside, refused}
+use Rattle.ks_shape.proofs.claims.claim_one.Given.{Over}
+use Rattle.ks_shape.proofs.claims.claim_one.Goals as goal
+use Rattle.ks_shape.proofs.claims.claim_one.Goals.{After-claim}
+
+besides : (g : Over) (c : After-claim g) → StaysBeside g.D.Discipline.beside (sort_of g.N.Node.layout g.N.Node.ranged) g.D.Discipline.begins g.D.Discipline.step c.args.arena.now.table.shared.table_id.slots
+besides g c = stays_beside (sort_of g.N.Node.layout g.N.Node.ranged) c.laws.ensures c.walks_law.ensures.opening c.args.arena.now.table.shared.table_id.slots
+
+keysets : (g : Over) (c : After-claim g) → StaysBeside SameKeyset (sort_of g.N.Node.layout g.N.Node.ranged) g.D.Discipline.begins g.D.Discipline.step c.args.arena.now.table.shared.table_id.slots
+keysets g c = keyset_beside (sort_of g.N.Node.layout g.N.Node.ranged) c.laws.ensures c.walks_law.ensures.opening c.args.arena.now.table.shared.table_id.slots
+
+pub returns-in_default-clause-claimed : goal.returns-in_default-clause-claimed
+returns-in_default-clause-claimed g c = let at = (goal.at.returns-in_default-clause-claimed g c).After-claim in let told = rw c.in_default.is at c.claim.ensures.claimed in
+    (told.0.hand, λ place holds. refused (sort_of g.N.Node.layout g.N.Node.ranged) g.D.Discipline.begins g.D.Discipline.step c.args.arena.now.table.shared.table_id.slots c.args.pass.now.caller c.args.arena.now.nodes (keysets g at) (seen_of c.args.pass.now) (seen_of c.claim.new.pass) told.0 told.1 c.claim.ensures.pass.sound place holds)
+
+pub returns-in_default-clause-stretch : goal.returns-in_default-clause-stretch
+returns-in_default-clause-stretch g c = λ template. let told = rw c.in_default.is at c.claim.ensures.claimed in stretch_others template c.args.pass.now.caller (seen_of c.args.pass.now) (seen_of c.claim.new.pass) (omega (arith, c.requires.few)) told.0.grows
+
+pub returns-in_default-clause-beside : goal.returns-in_default-clause-beside
+returns-in_default-clause-beside g c = let at = (goal.at.returns-in_default-clause-beside g c).After-claim in let told = rw c.in_default.is at c.claim.ensures.claimed in
+    beside_others g.D.Discipline.beside (sort_of g.N.Node.layout g.N.Node.ranged) g.D.Discipline.begins g.D.Discipline.step c.args.arena.now.table.shared.table_id.slots (besides g at) c.args.pass.now.caller (seen_of c.args.pass.now) (seen_of c.claim.new.pass) told.0.grows c.claim.ensures.pass.sound
+
+pub returns-in_default-clause-keysets : goal.returns-in_default-clause-keysets
+returns-in_default-clause-keysets g c = let at = (goal.at.returns-in_default-clause-keysets g c).After-claim in let told = rw c.in_default.is at c.claim.ensures.claimed in
+    beside_others SameKeyset (sort_of g.N.Node.layout g.N.Node.ranged) g.D.Discipline.begins g.D.Discipline.step c.args.arena.now.table.shared.table_id.slots (keysets g at) c.args.pass.now.caller (seen_of c.args.pass.now) (seen_of c.claim.new.pass) told.0.grows c.claim.ensures.pass.sound
+
+pub returns-clause-stretch : goal.returns-clause-stretch
+returns-clause-stretch g c = λ template. claimed_stretch (sort_of g.N.Node.layout g.N.Node.ranged) g.N.Node.body c.args.pass.now.caller (seen_of c.args.pass.now) (seen_of c.claim.new.pass) c.in-Some.claimed c.in-Some.ensures.claimed.0 template c.requires.few
+
+pub returns-clause-beside : goal.returns-clause-beside
+returns-clause-beside g c = let at = (goal.at.returns-clause-beside g c).After-claim in
+    claimed_beside (sort_of g.N.Node.layout g.N.Node.ranged) g.N.Node.body c.args.pass.now.caller (seen_of c.args.pass.now) (seen_of c.claim.new.pass) c.in-Some.claimed c.in-Some.ensures.claimed.0 g.D.Discipline.begins g.D.Discipline.step c.args.arena.now.table.shared.table_id.slots g.D.Discipline.beside (besides g at) c.claim.ensures.pass.sound
+
+pub returns-clause-keysets : goal.returns-clause-keysets
+returns-clause-keysets g c = let at = (goal.at.returns-clause-keysets g c).After-claim in
+    claimed_beside (sort_of g.N.Node.layout g.N.Node.ranged) g.N.Node.body c.args.pass.now.caller (seen_of c.args.pass.now) (seen_of c.claim.new.pass) c.in-Some.claimed c.in-Some.ensures.claimed.0 g.D.Discipline.begins g.D.Discipline.step c.args.arena.now.table.shared.table_id.slots SameKeyset (keysets g at) c.claim.ensures.pass.sound

@@ -1,0 +1,23 @@
+-- An arena as contracts see it, and its passes between two calls.
+use Rattle.std.specs.Prelude.{ℕ, ◌≡◌, List, []}
+use Rattle.atomic_table.specs.Seated.{TableId}
+use Rattle.ks_keysets.specs.declared.Change.{Change}
+use Rattle.ks_keysets.specs.declared.Frame.{Frame}
+use Rattle.ks_keysets.specs.declared.NodeState.{NodeState}
+use Rattle.ks_arena.specs.declared.held.Pass.{Pass}
+use Rattle.ks_arena.specs.Sound.{Sort}
+use Rattle.ks_arena.specs.Clauses.{IsPass, hand_of}
+
+-- an arena as contracts see it: its type of nodes, what its discipline asks of a blank frame and of a Shape, its table,
+-- and how many callers and nodes it has
+pub record Site : Type 1 where
+  pub sort : Sort
+  pub begins : Frame → Type 0
+  pub step : (ℕ → NodeState) → (ℕ → Frame) → List Change → Type 0
+  pub table : TableId
+  pub callers : ℕ
+  pub nodes : ℕ
+
+-- a pass of the arena, which holds no node
+abbrev pub IsIdle : {N D : Type 0} → Site → Pass N D → Type 0
+IsIdle a p = IsPass a.sort a.begins a.step a.table a.callers p × (hand_of p ≡ [])

@@ -1,0 +1,74 @@
+//! Claims of one node and of two. Where a claim is refused, no node was free.
+ghost use Rattle.std.specs.Prelude.{◌≡◌, ◌≤◌, length};
+ghost use Rattle.ks_flow.specs.Discipline.{SameKeyset};
+ghost use Rattle.ks_arena.specs.Sound.{sort_of};
+ghost use Rattle.ks_arena.specs.Clauses.{IsPass, hand_of, seen_of, Kept, StillMatch};
+ghost use Rattle.ks_shape.specs.Beside.{KeepsBeside};
+ghost use Rattle.ks_shape.specs.Claims.{DidClaimOne, DidClaimTwo};
+ghost use Rattle.ks_shape.specs.Stretches.{Stretches};
+
+use ks_arena::{Arena, Held, Pass};
+use ks_flow::Discipline;
+use ks_flow::laws::walks_law;
+use ks_gate::{Gate, Point};
+use ks_node::Node;
+
+/// Claims a node. `None`: each was at some moment not free.
+pub fn claim_one<N: Node, D: Discipline, G: Gate>(
+    arena: &Arena<N, D>,
+    pass: &mut Pass<N, D>,
+    gate: &G,
+) -> Option<Held<N>>
+    requires pass { IsPass (sort_of N.layout N.ranged) D.begins D.step arena.now.table.shared.table_id arena.now.callers pass.old }
+    requires few { length (hand_of pass.old) ≤ 2 }
+    ensures pass { IsPass (sort_of N.layout N.ranged) D.begins D.step arena.now.table.shared.table_id arena.now.callers pass.new }
+    ensures caller { pass.new.caller ≡ pass.old.caller }
+    ensures claimed { DidClaimOne (sort_of N.layout N.ranged) N.body arena.now.nodes pass.old.caller (seen_of pass.old) (seen_of pass.new) result }
+    ensures stretch { Stretches pass.old.caller (seen_of pass.old) (seen_of pass.new) }
+    ensures beside { KeepsBeside D.beside pass.old.caller (seen_of pass.old) (seen_of pass.new) }
+    ensures keysets { KeepsBeside SameKeyset pass.old.caller (seen_of pass.old) (seen_of pass.new) }
+    ensures kept { Kept pass.old.caller (seen_of pass.old) (seen_of pass.new) }
+    ensures still { StillMatch (sort_of N.layout N.ranged) N.body (hand_of pass.old) (seen_of pass.old) (seen_of pass.new) }
+{
+    D::laws();
+    walks_law();
+    let Some(claimed) = arena.claim(pass) else {
+        return None;
+    };
+    gate.at(pass.caller(), Point::Taken(claimed.node));
+    Some(claimed)
+}
+
+/// Claims a node and then another, for a node that grows. Where there is no second one, the first is given back. `None`:
+/// each was at some moment not free.
+pub fn claim_two<N: Node, D: Discipline, G: Gate>(
+    arena: &Arena<N, D>,
+    pass: &mut Pass<N, D>,
+    gate: &G,
+) -> Option<(Held<N>, Held<N>)>
+    requires pass { IsPass (sort_of N.layout N.ranged) D.begins D.step arena.now.table.shared.table_id arena.now.callers pass.old }
+    requires few { length (hand_of pass.old) ≤ 1 }
+    ensures pass { IsPass (sort_of N.layout N.ranged) D.begins D.step arena.now.table.shared.table_id arena.now.callers pass.new }
+    ensures caller { pass.new.caller ≡ pass.old.caller }
+    ensures claimed { DidClaimTwo (sort_of N.layout N.ranged) N.body arena.now.nodes pass.old.caller (seen_of pass.old) (seen_of pass.new) result }
+    ensures stretch { Stretches pass.old.caller (seen_of pass.old) (seen_of pass.new) }
+    ensures beside { KeepsBeside D.beside pass.old.caller (seen_of pass.old) (seen_of pass.new) }
+    ensures keysets { KeepsBeside SameKeyset pass.old.caller (seen_of pass.old) (seen_of pass.new) }
+    ensures kept { Kept pass.old.caller (seen_of pass.old) (seen_of pass.new) }
+    ensures still { StillMatch (sort_of N.layout N.ranged) N.body (hand_of pass.old) (seen_of pass.old) (seen_of pass.new) }
+{
+    D::laws();
+    walks_law();
+    let Some(left) = claim_one(arena, pass, gate) else {
+        return None;
+    };
+    match claim_one(arena, pass, gate) {
+        Some(right) => Some((left, right)),
+        None => {
+            let number = left.node;
+            arena.give(pass, left);
+            gate.at(pass.caller(), Point::Given(number));
+            None
+        }
+    }
+}

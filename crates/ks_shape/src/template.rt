@@ -1,0 +1,136 @@
+//! What a technique of concurrency offers: five calls, each of which stands once in the one history of all calls.
+ghost use Rattle.std.specs.Prelude.{◌≡◌};
+ghost use Rattle.ks_history.specs.declared.Op.TheVariants.{Add, Del, Get, Put, Swap};
+ghost use Rattle.ks_history.specs.Map.{told};
+ghost use Rattle.ks_history.specs.Done.{Template as Technique, Done};
+ghost use Rattle.ks_arena.specs.Sound.{sort_of, blank_of};
+ghost use Rattle.ks_arena.specs.Clauses.{seen_of};
+ghost use Rattle.ks_shape.specs.Answers.{number_in, reply_in};
+ghost use Rattle.ks_shape.specs.Idle.{IsIdle, Site};
+
+use crate::answers::{Full, Numbered};
+use ks_arena::{Arena, Pass};
+use ks_flow::Discipline;
+use ks_gate::Gate;
+use ks_node::Node;
+use std::sync::Wait;
+
+/// What the contract of a call reads of its arena. A template takes its arena as a type parameter: a signature of a trait
+/// that names `Arena<N, D>` itself gets no generated proof where it is called.
+pub trait Shelf {
+    ghost site: { Self → Site };
+}
+
+impl<N: Node, D: Discipline> Shelf for Arena<N, D> {
+    ghost site = { λ a. record {
+      sort = sort_of N.layout N.ranged;
+      begins = D.begins;
+      step = D.step;
+      table = a.table.shared.table_id;
+      callers = a.callers;
+      nodes = a.nodes;
+    } };
+}
+
+/// What a technique keeps, over whatever nodes. It may cross threads, so that code over any technique may be sent to one.
+pub trait Ruled: Send + Sync {
+    /// What its shapes keep.
+    type Rule: Discipline;
+
+    /// Which technique it is.
+    ghost technique: { Technique };
+}
+
+/// A technique by which callers come from node to node, over one type of nodes. Each call waits for nodes that others
+/// hold. Its pass holds no node before it, and none after it. The call stands once in the one history of all calls, after
+/// all that its pass had seen, and has its number there; the answer tells what the map held at the place just before it.
+pub trait Template<N: Node, A: Shelf>: Ruled {
+    /// The frame of a blank node is as the rule asks. It computes nothing.
+    fn fits()
+        ensures { Self.Rule.begins (blank_of (sort_of N.layout N.ranged)) };
+
+    /// Answers the value at a place.
+    fn get<R: Wait, G: Gate>(
+        rt: &R,
+        arena: &A,
+        pass: &mut Pass<N, Self::Rule>,
+        gate: &G,
+        place: u64,
+    ) -> Numbered
+        requires pass { IsIdle (A.site arena.now) pass.old }
+        ensures pass { IsIdle (A.site arena.now) pass.new }
+        ensures caller { pass.new.caller ≡ pass.old.caller }
+        ensures done { Done N.layout Self.technique (A.site arena.now).nodes pass.old.caller (Get place)
+            (seen_of pass.old) (seen_of pass.new) (told result.found) result.number };
+
+    /// Sets the value at a place, and answers the one that stood there.
+    ///
+    /// # Errors
+    ///
+    /// `Full` comes only where no value stands at the place, its node has no room, and each node was not free at some
+    /// moment of the call. Then the map is as before the call, which has its number in the history; splits that it
+    /// made before stay.
+    fn put<R: Wait, G: Gate>(
+        rt: &R,
+        arena: &A,
+        pass: &mut Pass<N, Self::Rule>,
+        gate: &G,
+        place: u64,
+        value: u128,
+    ) -> Result<Numbered, Full>
+        requires pass { IsIdle (A.site arena.now) pass.old }
+        ensures pass { IsIdle (A.site arena.now) pass.new }
+        ensures caller { pass.new.caller ≡ pass.old.caller }
+        ensures done { Done N.layout Self.technique (A.site arena.now).nodes pass.old.caller (Put place value)
+            (seen_of pass.old) (seen_of pass.new) (reply_in result) (number_in result) };
+
+    /// Sets the value at a place where none stands, and answers the one that stood there: where one did, it stays.
+    ///
+    /// # Errors
+    ///
+    /// `Full` comes, and leaves the map, as for `put`.
+    fn add<R: Wait, G: Gate>(
+        rt: &R,
+        arena: &A,
+        pass: &mut Pass<N, Self::Rule>,
+        gate: &G,
+        place: u64,
+        value: u128,
+    ) -> Result<Numbered, Full>
+        requires pass { IsIdle (A.site arena.now) pass.old }
+        ensures pass { IsIdle (A.site arena.now) pass.new }
+        ensures caller { pass.new.caller ≡ pass.old.caller }
+        ensures done { Done N.layout Self.technique (A.site arena.now).nodes pass.old.caller (Add place value)
+            (seen_of pass.old) (seen_of pass.new) (reply_in result) (number_in result) };
+
+    /// Sets the value at a place to `new` where `old` stands, and answers the one that stood there: it was set exactly
+    /// where that is `old`.
+    fn swap<R: Wait, G: Gate>(
+        rt: &R,
+        arena: &A,
+        pass: &mut Pass<N, Self::Rule>,
+        gate: &G,
+        place: u64,
+        old: u128,
+        new: u128,
+    ) -> Numbered
+        requires pass { IsIdle (A.site arena.now) pass.old }
+        ensures pass { IsIdle (A.site arena.now) pass.new }
+        ensures caller { pass.new.caller ≡ pass.old.caller }
+        ensures done { Done N.layout Self.technique (A.site arena.now).nodes pass.old.caller (Swap place old new)
+            (seen_of pass.old) (seen_of pass.new) (told result.found) result.number };
+
+    /// Deletes what stands at a place, and answers it.
+    fn del<R: Wait, G: Gate>(
+        rt: &R,
+        arena: &A,
+        pass: &mut Pass<N, Self::Rule>,
+        gate: &G,
+        place: u64,
+    ) -> Numbered
+        requires pass { IsIdle (A.site arena.now) pass.old }
+        ensures pass { IsIdle (A.site arena.now) pass.new }
+        ensures caller { pass.new.caller ≡ pass.old.caller }
+        ensures done { Done N.layout Self.technique (A.site arena.now).nodes pass.old.caller (Del place)
+            (seen_of pass.old) (seen_of pass.new) (told result.found) result.number };
+}
