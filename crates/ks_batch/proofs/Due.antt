@@ -3,8 +3,7 @@ use Rattle.std.proofs.Common.{ℕ, zero, suc, ◌≡◌, ◌≤◌, ◌<◌, ◌
 use Rattle.std.specs.Prelude.{IfSome, IsSome}
 use Rattle.std.proofs.lemmas.List.{take-append-drop, take-take}
 use Rattle.ks_history.specs.declared.Op.{Op}
-use Rattle.ks_arena.specs.declared.run.RunTrace.{RunTrace}
-use Rattle.ks_arena.specs.Clauses.{trace_in}
+use Rattle.ks_history.specs.declared.Event.{Event}
 use Rattle.ks_script.specs.Lines.{lines_of, Begins, FirstBad}
 use Rattle.ks_script.specs.Script.{AreScript}
 use Rattle.ks_script.specs.Checked.{AreChecked}
@@ -112,14 +111,14 @@ due_answer text (Some bytes) rose out_rose status line o calm out_calm = λ acce
 
 -- what is known of the outcome of a script
 
-printed_accepted : (place : ℕ → ℕ) (left : Option (List ℕ)) (run : Option RunTrace) (Took : List ℕ → Type 0) → IsSome run → IfSome left (λ bytes. IfSome run (λ r. Prints place bytes (trace_in r) Took)) → IfSome left (IsAccepted Script)
+printed_accepted : (place : ℕ → ℕ) (left : Option (List ℕ)) (run : Option (List Event)) (Took : List ℕ → Type 0) → IsSome run → IfSome left (λ bytes. IfSome run (λ h. Prints place bytes h Took)) → IfSome left (IsAccepted Script)
 printed_accepted place None run Took some p = tt
 printed_accepted place (Some bytes) None Took some p = cc
-printed_accepted place (Some bytes) (Some r) Took some p = script_accepted bytes p.tells.script p.tells.accepts
+printed_accepted place (Some bytes) (Some h) Took some p = script_accepted bytes p.tells.script p.tells.accepts
 
-pub script_outcome : (place : ℕ → ℕ) (left : Option (List ℕ)) (rose out_rose : Type 0) (Whole Front : List ℕ → Type 0) (status line : ℕ) (run : Option RunTrace) →
+pub script_outcome : (place : ℕ → ℕ) (left : Option (List ℕ)) (rose out_rose : Type 0) (Whole Front : List ℕ → Type 0) (status line : ℕ) (run : Option (List Event)) →
     (status ≡ 1 → ⊥) × (status ≤ 5) → IsSome run ↔ ((status ≡ 0) ⊎ (status ≡ 4)) →
-    (status ≡ 0 → IfSome left (λ bytes. IfSome run (λ r. Prints place bytes (trace_in r) Whole))) → (status ≡ 4 → IfSome left (λ bytes. IfSome run (λ r. Prints place bytes (trace_in r) Front))) →
+    (status ≡ 0 → IfSome left (λ bytes. IfSome run (λ h. Prints place bytes h Whole))) → (status ≡ 4 → IfSome left (λ bytes. IfSome run (λ h. Prints place bytes h Front))) →
     (status ≡ 2 → IfSome left (λ bytes. RefusedAt Script bytes line)) → (status ≡ 3 → rose) → (status ≡ 4 → out_rose) → IsOutcome Script left rose out_rose status line
 script_outcome place left rose out_rose Whole Front status line run known ran done cut refused source output = record {
   known = (known.0, let le = known.1 in omega arith);

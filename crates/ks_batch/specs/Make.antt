@@ -6,8 +6,6 @@ use Rattle.ks_script.specs.Run.{Run}
 use Rattle.ks_script.specs.Outside.{Grew, GrewByFront}
 use Rattle.ks_made.specs.Made.{made}
 use Rattle.ks_made.specs.Summary.{summary_text}
-use Rattle.ks_arena.specs.declared.run.RunTrace.{RunTrace}
-use Rattle.ks_arena.specs.Clauses.{trace_in}
 use Rattle.ks_batch.specs.declared.pairings.Pairing.{Pairing}
 use Rattle.ks_batch.specs.declared.words.Draft.{Draft}
 use Rattle.ks_batch.specs.declared.words.Asked.TheVariants.{Make}
@@ -25,12 +23,12 @@ abbrev pub SumsUp : (ℕ → ℕ) → Draft → List Event → List ℕ → Type
 SumsUp place draft h text = Sums place draft h (λ t. text ≡ t)
 
 -- what the command leaves: it is done, or the output failed, or memory was wanting
-pub record MakesOutcome (words : List (List ℕ)) (old new : Option (List ℕ)) (status : ℕ) (run : Option RunTrace) : Type 0 where
+pub record MakesOutcome (words : List (List ℕ)) (old new : Option (List ℕ)) (status : ℕ) (run : Option (List Event)) : Type 0 where
   pub pairing : Pairing
   pub arena : ℕ
   pub draft : Draft
   pub spells : Spells words (Make pairing arena draft)
   pub known : (status ≡ 0) ⊎ ((status ≡ 4) ⊎ (status ≡ 5))
   pub ran : IsSome run ↔ ((status ≡ 0) ⊎ (status ≡ 4))
-  pub done : status ≡ 0 → IfSome run (λ r. Sums (row_of pairing).place draft (trace_in r) (λ t. Grew old new t))
-  pub cut : status ≡ 4 → IfSome run (λ r. Sums (row_of pairing).place draft (trace_in r) (λ t. GrewByFront old new t))
+  pub done : status ≡ 0 → IfSome run (λ h. Sums (row_of pairing).place draft h (λ t. Grew old new t))
+  pub cut : status ≡ 4 → IfSome run (λ h. Sums (row_of pairing).place draft h (λ t. GrewByFront old new t))

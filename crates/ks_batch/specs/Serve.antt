@@ -46,6 +46,11 @@ pub record Prints (place : ℕ → ℕ) (bytes : List ℕ) (h : List Event) (Too
   pub tells : Tells place bytes h run
   pub took : Took (run_text run)
 
+-- the trace of the run, if there is one, served the script that the source had left, if it tells, and of the text that
+-- tells it Took holds
+abbrev pub PrintsRun : (ℕ → ℕ) → Option (List ℕ) → Option (List Event) → (List ℕ → Type 0) → Type 0
+PrintsRun place left run Took = IfSome left (λ bytes. IfSome run (λ h. Prints place bytes h Took))
+
 -- the bytes are the text of this script and this run
 pub record AcceptsChecked (bytes : List ℕ) (script : List (List Op)) (run : Run) : Type 0 where
   pub within : length bytes ≤ limit_of Checked

@@ -1,6 +1,7 @@
 -- The words of the program.
-use Rattle.std.specs.Prelude.{ℕ, ◌≡◌, ◌≤◌, ◌⊎◌, List, [], ◌∷◌, codes}
+use Rattle.std.specs.Prelude.{ℕ, ◌≡◌, ◌≤◌, ◌⊎◌, List, [], ◌∷◌, map, codes, string_bytes}
 use Rattle.std.specs.Fmt.{decimal}
+use Rattle.std_alloc.specs.declared.string.String.{String}
 use Rattle.ks_batch.specs.declared.pairings.Pairing.{Pairing}
 use Rattle.ks_batch.specs.declared.words.Draft.{Draft}
 use Rattle.ks_batch.specs.declared.words.Asked.{Asked}
@@ -8,6 +9,10 @@ use Rattle.ks_batch.specs.declared.words.Asked.TheVariants.{Run, Make, Check}
 use Rattle.ks_batch.specs.declared.words.Text.{Text}
 use Rattle.ks_batch.specs.declared.words.Text.TheVariants.{Script, Checked}
 use Rattle.ks_batch.specs.Pairings.{row_of}
+
+-- the bytes of each word
+abbrev pub bytes_of : {Z : Type 0} → List (String Z) → List (List ℕ)
+bytes_of words = map string_bytes words
 
 -- the words of a command
 abbrev pub spelled : Asked → List (List ℕ)

@@ -4,7 +4,6 @@ ghost use Rattle.std.specs.Prelude.{ℕ, ◌≤◌, map, length, IfOk};
 ghost use Rattle.ks_history.specs.Due.{FullsDue};
 ghost use Rattle.ks_history.specs.Lawful.{Lawful, GoodThroughout};
 ghost use Rattle.ks_history.specs.Served.{Served};
-ghost use Rattle.ks_arena.specs.Clauses.{trace_in};
 ghost use Rattle.ks_batch.specs.Pairings.{row_of};
 
 use ks_bplus::BNode;
@@ -52,10 +51,10 @@ pub fn serve_by<R: Threads + Wait + Sync, G: Gate + Sync>(
 ) -> Result<Told, AllocError>
     requires nodes { (4 ≤ nodes) × (nodes ≤ 65536) }
     requires callers { length callers.items ≤ 64 }
-    ensures served { IfOk result (λ told. Served (row_of pairing).place (map (λ v. v.items) callers.items) (map (λ v. v.items) told.lines.items) told.pairs.items (trace_in told.trace)) }
-    ensures lawful { IfOk result (λ told. Lawful (trace_in told.trace)) }
-    ensures good { IfOk result (λ told. GoodThroughout (trace_in told.trace)) }
-    ensures due { IfOk result (λ told. FullsDue (row_of pairing).layout nodes (trace_in told.trace)) }
+    ensures served { IfOk result (λ told. Served (row_of pairing).place (map (λ v. v.items) callers.items) (map (λ v. v.items) told.lines.items) told.pairs.items told.trace) }
+    ensures lawful { IfOk result (λ told. Lawful told.trace) }
+    ensures good { IfOk result (λ told. GoodThroughout told.trace) }
+    ensures due { IfOk result (λ told. FullsDue (row_of pairing).layout nodes told.trace) }
 {
     match pairing {
         Pairing::ListCoupling =>

@@ -1,10 +1,9 @@
 //! What the program does: it serves a script, or judges a printed run, from bytes to bytes.
 
-ghost use Rattle.std.specs.Prelude.{ℕ, ◌≡◌, ◌≤◌, ◌⊎◌, ◌↔◌, ◌++◌, map, string_bytes, Some, List, [], IfOk, OnOk, OnErr, IfErr, IfSome, IsSome, IsNone, codes};
+ghost use Rattle.std.specs.Prelude.{ℕ, ◌≡◌, ◌≢◌, ◌≤◌, ◌⊎◌, ◌↔◌, ◌++◌, map, Some, List, [], IfOk, OnOk, OnErr, IfErr, IfSome, IsSome, IsNone, codes};
 ghost use Rattle.std.specs.Fmt.{decimal};
 ghost use Rattle.ks_history.specs.Due.{FullsDue};
 ghost use Rattle.ks_history.specs.Lawful.{Lawful, GoodThroughout};
-ghost use Rattle.ks_arena.specs.Clauses.{trace_in};
 ghost use Rattle.ks_history.specs.declared.Op.{Op};
 ghost use Rattle.ks_script.specs.Outside.{Rose, Grew, GrewByFront};
 ghost use Rattle.ks_script.specs.Run as printed_run;
@@ -13,9 +12,9 @@ ghost use Rattle.ks_batch.specs.declared.words.Text.TheVariants as text;
 ghost use Rattle.ks_batch.specs.declared.pairings.Pairing.{Pairing};
 ghost use Rattle.ks_batch.specs.declared.words.Asked.TheVariants as asked;
 ghost use Rattle.ks_batch.specs.Pairings.{row_of};
-ghost use Rattle.ks_batch.specs.Words.{Spells, AskToServe, IsCommand, IsMake, Asks};
+ghost use Rattle.ks_batch.specs.Words.{bytes_of, Spells, AskToServe, IsCommand, IsMake, Asks};
 ghost use Rattle.ks_batch.specs.Message.{status_text};
-ghost use Rattle.ks_batch.specs.Serve.{RefusedAt, Accepts, AcceptsChecked, Tells, Prints, Judges, IsCheck, judged_line};
+ghost use Rattle.ks_batch.specs.Serve.{RefusedAt, Accepts, AcceptsChecked, Tells, PrintsRun, Judges, IsCheck, judged_line};
 ghost use Rattle.ks_batch.specs.Make.{SumsUp, Sums, MakesOutcome};
 ghost use Rattle.ks_batch.specs.Stop.{IsCause};
 
@@ -92,10 +91,10 @@ fn prepare<R: Threads + Wait + Sync, S: Source, G: Gate + Sync>(
     gate: &G,
 ) -> Result<Ready, Stop>
     requires { (4 ≤ arena) × (arena ≤ 65536) }
-    ensures lawful { IfOk result (λ ready. Lawful (trace_in ready.trace)) }
-    ensures good { IfOk result (λ ready. GoodThroughout (trace_in ready.trace)) }
-    ensures due { IfOk result (λ ready. FullsDue (row_of pairing).layout arena (trace_in ready.trace)) }
-    ensures tells { IfOk result (λ ready. IfSome (S.left source.old) (λ bytes. Tells (row_of pairing).place bytes (trace_in ready.trace) ready.printed)) }
+    ensures lawful { IfOk result (λ ready. Lawful ready.trace) }
+    ensures good { IfOk result (λ ready. GoodThroughout ready.trace) }
+    ensures due { IfOk result (λ ready. FullsDue (row_of pairing).layout arena ready.trace) }
+    ensures tells { IfOk result (λ ready. IfSome (S.left source.old) (λ bytes. Tells (row_of pairing).place bytes ready.trace ready.printed)) }
     ensures end { OnOk result (IfSome (S.left source.old) (λ _. S.left source.new ≡ Some [])) }
     ensures cause { IfErr result (λ stop. IsCause stop text.Script (S.left source.old) (Rose (S.faults source.old) (S.faults source.new))) }
 {
@@ -117,18 +116,21 @@ fn serve_script<R: Threads + Wait + Sync, S: Source, K: Sink, G: Gate + Sync>(
     gate: &G,
 ) -> Outcome
     requires { (4 ≤ arena) × (arena ≤ 65536) }
-    ensures lawful { IfSome result.run (λ run. Lawful (trace_in run)) }
-    ensures good { IfSome result.run (λ run. GoodThroughout (trace_in run)) }
-    ensures due { IfSome result.run (λ run. FullsDue (row_of pairing).layout arena (trace_in run)) }
+    ensures lawful { IfSome result.run Lawful }
+    ensures good { IfSome result.run GoodThroughout }
+    ensures due { IfSome result.run (FullsDue (row_of pairing).layout arena) }
     ensures ran { IsSome result.run ↔ ((result.status ≡ 0) ⊎ (result.status ≡ 4)) }
-    ensures status { (result.status ≡ 1 → ⊥) × (result.status ≤ 5) }
-    ensures line { (result.status ≡ 2 → ⊥) → result.line ≡ 0 }
+    ensures status { (result.status ≢ 1) × (result.status ≤ 5) }
+    ensures line { result.status ≢ 2 → result.line ≡ 0 }
     ensures number { result.number ≡ 0 }
-    ensures done { result.status ≡ 0 → IfSome (S.left source.old) (λ bytes. IfSome result.run (λ run. Prints (row_of pairing).place bytes (trace_in run) (λ text. Grew (K.taken out.old) (K.taken out.new) text))) }
-    ensures cut { result.status ≡ 4 → IfSome (S.left source.old) (λ bytes. IfSome result.run (λ run. Prints (row_of pairing).place bytes (trace_in run) (λ text. GrewByFront (K.taken out.old) (K.taken out.new) text))) }
+    ensures done { result.status ≡ 0 →
+        PrintsRun (row_of pairing).place (S.left source.old) result.run (Grew (K.taken out.old) (K.taken out.new)) }
+    ensures cut { result.status ≡ 4 →
+        PrintsRun (row_of pairing).place (S.left source.old) result.run (GrewByFront (K.taken out.old) (K.taken out.new)) }
     ensures end { IsSome result.run → IfSome (S.left source.old) (λ _. S.left source.new ≡ Some []) }
-    ensures untouched { (result.status ≡ 0 → ⊥) → (result.status ≡ 4 → ⊥) → K.taken out.new ≡ K.taken out.old }
-    ensures refused { result.status ≡ 2 → IfSome (S.left source.old) (λ bytes. RefusedAt text.Script bytes result.line) }
+    ensures untouched { result.status ≢ 0 → result.status ≢ 4 → K.taken out.new ≡ K.taken out.old }
+    ensures refused { result.status ≡ 2 →
+        IfSome (S.left source.old) (λ bytes. RefusedAt text.Script bytes result.line) }
     ensures source { result.status ≡ 3 → Rose (S.faults source.old) (S.faults source.new) }
     ensures output { result.status ≡ 4 → Rose (K.faults out.old) (K.faults out.new) }
 {
@@ -189,12 +191,14 @@ fn say_judged<K: Sink>(out: &mut K, judged: Judged) -> Result<(), Failed>
 /// The command `check`: judges the script and the run on the source, and writes what they are judged to be.
 fn check_run<S: Source, K: Sink>(alloc: Global, source: &mut S, out: &mut K) -> Outcome
     ensures run { IsNone result.run }
-    ensures status { (result.status ≡ 1 → ⊥) × (result.status ≤ 6) }
-    ensures line { (result.status ≡ 2 → ⊥) → result.line ≡ 0 }
-    ensures number { (result.status ≡ 6 → ⊥) → result.number ≡ 0 }
+    ensures status { (result.status ≢ 1) × (result.status ≤ 6) }
+    ensures line { result.status ≢ 2 → result.line ≡ 0 }
+    ensures number { result.status ≢ 6 → result.number ≡ 0 }
     ensures checked { IsCheck (S.left source.old) (K.taken out.old) (K.taken out.new) result.status result.number }
-    ensures untouched { (result.status ≡ 0 → ⊥) → (result.status ≡ 4 → ⊥) → (result.status ≡ 6 → ⊥) → K.taken out.new ≡ K.taken out.old }
-    ensures refused { result.status ≡ 2 → IfSome (S.left source.old) (λ bytes. RefusedAt text.Checked bytes result.line) }
+    ensures untouched { result.status ≢ 0 → result.status ≢ 4 → result.status ≢ 6 →
+        K.taken out.new ≡ K.taken out.old }
+    ensures refused { result.status ≡ 2 →
+        IfSome (S.left source.old) (λ bytes. RefusedAt text.Checked bytes result.line) }
     ensures source { result.status ≡ 3 → Rose (S.faults source.old) (S.faults source.new) }
     ensures output { result.status ≡ 4 → Rose (K.faults out.old) (K.faults out.new) }
 {
@@ -228,10 +232,10 @@ fn make<R: Threads + Wait + Sync, G: Gate + Sync>(
 ) -> Result<Made, AllocError>
     requires arena { (4 ≤ arena) × (arena ≤ 65536) }
     requires callers { draft.callers ≤ 64 }
-    ensures lawful { IfOk result (λ made. Lawful (trace_in made.trace)) }
-    ensures good { IfOk result (λ made. GoodThroughout (trace_in made.trace)) }
-    ensures due { IfOk result (λ made. FullsDue (row_of pairing).layout arena (trace_in made.trace)) }
-    ensures sums { IfOk result (λ made. SumsUp (row_of pairing).place draft (trace_in made.trace) made.text.items) }
+    ensures lawful { IfOk result (λ made. Lawful made.trace) }
+    ensures good { IfOk result (λ made. GoodThroughout made.trace) }
+    ensures due { IfOk result (λ made. FullsDue (row_of pairing).layout arena made.trace) }
+    ensures sums { IfOk result (λ made. SumsUp (row_of pairing).place draft made.trace made.text.items) }
 {
     let script = made_script(alloc, draft.callers, draft.calls, draft.first)?;
     let size = Size::of(&script);
@@ -263,16 +267,18 @@ fn make_run<R: Threads + Wait + Sync, K: Sink, G: Gate + Sync>(
 ) -> Outcome
     requires arena { (4 ≤ arena) × (arena ≤ 65536) }
     requires callers { draft.callers ≤ 64 }
-    ensures lawful { IfSome result.run (λ run. Lawful (trace_in run)) }
-    ensures good { IfSome result.run (λ run. GoodThroughout (trace_in run)) }
-    ensures due { IfSome result.run (λ run. FullsDue (row_of pairing).layout arena (trace_in run)) }
+    ensures lawful { IfSome result.run Lawful }
+    ensures good { IfSome result.run GoodThroughout }
+    ensures due { IfSome result.run (FullsDue (row_of pairing).layout arena) }
     ensures ran { IsSome result.run ↔ ((result.status ≡ 0) ⊎ (result.status ≡ 4)) }
     ensures status { (result.status ≡ 0) ⊎ ((result.status ≡ 4) ⊎ (result.status ≡ 5)) }
     ensures line { result.line ≡ 0 }
     ensures number { result.number ≡ 0 }
-    ensures done { result.status ≡ 0 → IfSome result.run (λ run. Sums (row_of pairing).place draft (trace_in run) (λ t. Grew (K.taken out.old) (K.taken out.new) t)) }
-    ensures cut { result.status ≡ 4 → IfSome result.run (λ run. Sums (row_of pairing).place draft (trace_in run) (λ t. GrewByFront (K.taken out.old) (K.taken out.new) t)) }
-    ensures untouched { (result.status ≡ 0 → ⊥) → (result.status ≡ 4 → ⊥) → K.taken out.new ≡ K.taken out.old }
+    ensures done { result.status ≡ 0 →
+        IfSome result.run (λ h. Sums (row_of pairing).place draft h (Grew (K.taken out.old) (K.taken out.new))) }
+    ensures cut { result.status ≡ 4 →
+        IfSome result.run (λ h. Sums (row_of pairing).place draft h (GrewByFront (K.taken out.old) (K.taken out.new))) }
+    ensures untouched { result.status ≢ 0 → result.status ≢ 4 → K.taken out.new ≡ K.taken out.old }
     ensures output { result.status ≡ 4 → Rose (K.faults out.old) (K.faults out.new) }
 {
     match make(rt, alloc, pairing, arena, draft, gate) {
@@ -310,37 +316,56 @@ pub fn serve<R: Threads + Wait + Sync, S: Source, K: Sink, E: Sink, G: Gate + Sy
 ) -> Outcome
     // What happened in a run is lawful, the keysets of the live nodes are disjoint and cover all places, always, and each
     // Full was due.
-    ensures lawful { IfSome result.run (λ run. Lawful (trace_in run)) }
-    ensures good { IfSome result.run (λ run. GoodThroughout (trace_in run)) }
-    ensures due { (pairing : Pairing) (nodes : ℕ) → AskToServe (map string_bytes words.now) pairing nodes → IfSome result.run (λ run. FullsDue (row_of pairing).layout nodes (trace_in run)) }
-    ensures ran { Asks (map string_bytes words.now) text.Script → (IsSome result.run ↔ ((result.status ≡ 0) ⊎ (result.status ≡ 4))) }
-    ensures not_ran { Asks (map string_bytes words.now) text.Checked → IsNone result.run }
+    ensures lawful { IfSome result.run Lawful }
+    ensures good { IfSome result.run GoodThroughout }
+    ensures due { (pairing : Pairing) (nodes : ℕ) → AskToServe (bytes_of words.now) pairing nodes →
+        IfSome result.run (FullsDue (row_of pairing).layout nodes) }
+    ensures ran { Asks (bytes_of words.now) text.Script →
+        (IsSome result.run ↔ ((result.status ≡ 0) ⊎ (result.status ≡ 4))) }
+    ensures not_ran { Asks (bytes_of words.now) text.Checked → IsNone result.run }
 
     // What is written is the text of a run that this served, or, where the output failed, first bytes of it.
-    ensures done { (pairing : Pairing) (nodes : ℕ) → Spells (map string_bytes words.now) (asked.Run pairing nodes) → result.status ≡ 0 → IfSome (S.left source.old) (λ bytes. IfSome result.run (λ run. Prints (row_of pairing).place bytes (trace_in run) (λ t. Grew (K.taken out.old) (K.taken out.new) t))) }
-    ensures cut { (pairing : Pairing) (nodes : ℕ) → Spells (map string_bytes words.now) (asked.Run pairing nodes) → result.status ≡ 4 → IfSome (S.left source.old) (λ bytes. IfSome result.run (λ run. Prints (row_of pairing).place bytes (trace_in run) (λ t. GrewByFront (K.taken out.old) (K.taken out.new) t))) }
-    ensures end { Asks (map string_bytes words.now) text.Script → IsSome result.run → IfSome (S.left source.old) (λ _. S.left source.new ≡ Some []) }
+    ensures done { (pairing : Pairing) (nodes : ℕ) →
+        Spells (bytes_of words.now) (asked.Run pairing nodes) → result.status ≡ 0 →
+        PrintsRun (row_of pairing).place (S.left source.old) result.run (Grew (K.taken out.old) (K.taken out.new)) }
+    ensures cut { (pairing : Pairing) (nodes : ℕ) → Spells (bytes_of words.now) (asked.Run pairing nodes) →
+        result.status ≡ 4 →
+        PrintsRun (row_of pairing).place (S.left source.old) result.run (GrewByFront (K.taken out.old) (K.taken out.new)) }
+    ensures end { Asks (bytes_of words.now) text.Script → IsSome result.run →
+        IfSome (S.left source.old) (λ _. S.left source.new ≡ Some []) }
 
     // Or it is the line of the judgment of the run that was read.
-    ensures checked { Asks (map string_bytes words.now) text.Checked → IsCheck (S.left source.old) (K.taken out.old) (K.taken out.new) result.status result.number }
-    ensures untouched { (result.status ≡ 0 → ⊥) → (result.status ≡ 4 → ⊥) → (result.status ≡ 6 → ⊥) → K.taken out.new ≡ K.taken out.old }
+    ensures checked { Asks (bytes_of words.now) text.Checked →
+        IsCheck (S.left source.old) (K.taken out.old) (K.taken out.new) result.status result.number }
+    ensures untouched { result.status ≢ 0 → result.status ≢ 4 → result.status ≢ 6 →
+        K.taken out.new ≡ K.taken out.old }
 
     // When each status comes.
-    ensures usage { (result.status ≡ 1) ↔ (IsCommand (map string_bytes words.now) → ⊥) }
-    ensures made { IsMake (map string_bytes words.now) → MakesOutcome (map string_bytes words.now) (K.taken out.old) (K.taken out.new) result.status result.run }
-    ensures unread { (result.status ≡ 1) ⊎ IsMake (map string_bytes words.now) → S.left source.new ≡ S.left source.old }
-    ensures refused { (t : Text) → Asks (map string_bytes words.now) t → result.status ≡ 2 → IfSome (S.left source.old) (λ bytes. RefusedAt t bytes result.line) }
-    ensures refusal_due { (t : Text) → Asks (map string_bytes words.now) t → (Rose (S.faults source.old) (S.faults source.new) → ⊥) → IfSome (S.left source.old) (λ bytes. (n : ℕ) → RefusedAt t bytes n → ((result.status ≡ 2) × (result.line ≡ n)) ⊎ (result.status ≡ 5)) }
+    ensures usage { (result.status ≡ 1) ↔ ¬ IsCommand (bytes_of words.now) }
+    ensures made { IsMake (bytes_of words.now) →
+        MakesOutcome (bytes_of words.now) (K.taken out.old) (K.taken out.new) result.status result.run }
+    ensures unread { (result.status ≡ 1) ⊎ IsMake (bytes_of words.now) →
+        S.left source.new ≡ S.left source.old }
+    ensures refused { (t : Text) → Asks (bytes_of words.now) t → result.status ≡ 2 →
+        IfSome (S.left source.old) (λ bytes. RefusedAt t bytes result.line) }
+    ensures refusal_due { (t : Text) → Asks (bytes_of words.now) t →
+        ¬ Rose (S.faults source.old) (S.faults source.new) →
+        IfSome (S.left source.old) (λ bytes. (n : ℕ) → RefusedAt t bytes n → ((result.status ≡ 2) × (result.line ≡ n)) ⊎ (result.status ≡ 5)) }
     ensures source { result.status ≡ 3 → Rose (S.faults source.old) (S.faults source.new) }
     ensures output { result.status ≡ 4 → Rose (K.faults out.old) (K.faults out.new) }
-    ensures judgment { result.status ≡ 6 → Asks (map string_bytes words.now) text.Checked }
-    ensures done_due { Asks (map string_bytes words.now) text.Script → (Rose (S.faults source.old) (S.faults source.new) → ⊥) → (Rose (K.faults out.old) (K.faults out.new) → ⊥) → IfSome (S.left source.old) (λ bytes. (script : List (List Op)) → Accepts bytes script → (result.status ≡ 0) ⊎ (result.status ≡ 5)) }
-    ensures judged_due { Asks (map string_bytes words.now) text.Checked → (Rose (S.faults source.old) (S.faults source.new) → ⊥) → (Rose (K.faults out.old) (K.faults out.new) → ⊥) → IfSome (S.left source.old) (λ bytes. (script : List (List Op)) (run : printed_run.Run) → AcceptsChecked bytes script run → (result.status ≡ 0) ⊎ ((result.status ≡ 6) ⊎ (result.status ≡ 5))) }
-    ensures line { (result.status ≡ 2 → ⊥) → result.line ≡ 0 }
-    ensures number { (result.status ≡ 6 → ⊥) → result.number ≡ 0 }
+    ensures judgment { result.status ≡ 6 → Asks (bytes_of words.now) text.Checked }
+    ensures done_due { Asks (bytes_of words.now) text.Script →
+        ¬ Rose (S.faults source.old) (S.faults source.new) → ¬ Rose (K.faults out.old) (K.faults out.new) →
+        IfSome (S.left source.old) (λ bytes. (script : List (List Op)) → Accepts bytes script → (result.status ≡ 0) ⊎ (result.status ≡ 5)) }
+    ensures judged_due { Asks (bytes_of words.now) text.Checked →
+        ¬ Rose (S.faults source.old) (S.faults source.new) → ¬ Rose (K.faults out.old) (K.faults out.new) →
+        IfSome (S.left source.old) (λ bytes. (script : List (List Op)) (run : printed_run.Run) → AcceptsChecked bytes script run → (result.status ≡ 0) ⊎ ((result.status ≡ 6) ⊎ (result.status ≡ 5))) }
+    ensures line { result.status ≢ 2 → result.line ≡ 0 }
+    ensures number { result.status ≢ 6 → result.number ≡ 0 }
 
     // What is said on the error output: the text of the status, whole if it did not fail.
-    ensures said { (Rose (E.faults err.old) (E.faults err.new) → ⊥) → Grew (E.taken err.old) (E.taken err.new) (status_text result.status result.line) }
+    ensures said { ¬ Rose (E.faults err.old) (E.faults err.new) →
+        Grew (E.taken err.old) (E.taken err.new) (status_text result.status result.line) }
     ensures said_front { GrewByFront (E.taken err.old) (E.taken err.new) (status_text result.status result.line) }
 {
     let outcome = match command(words) {

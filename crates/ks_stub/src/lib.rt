@@ -2,11 +2,10 @@
 #![tactic(auto)]
 
 use ks_arena::{Arena, Pass};
-use ks_dictionary::{Ruled, Template};
 use ks_flow::{Link, Tree};
 use ks_gate::Gate;
 use ks_node::{Linked, Ranged, Unlinked};
-use ks_shape::{Full, Numbered};
+use ks_shape::{Full, Numbered, Ruled, Template};
 use std::sync::Wait;
 
 pub struct Coupling;
@@ -43,6 +42,31 @@ impl<N: Unlinked> Template<N, Arena<N, Tree>> for Coupling {
         _place: u64,
         _value: u128,
     ) -> Result<Numbered, Full> {
+        for _ in rt.forever() {}
+        unreachable!()
+    }
+
+    fn add<R: Wait, G: Gate>(
+        rt: &R,
+        _arena: &Arena<N, Tree>,
+        _pass: &mut Pass<N, Tree>,
+        _gate: &G,
+        _place: u64,
+        _value: u128,
+    ) -> Result<Numbered, Full> {
+        for _ in rt.forever() {}
+        unreachable!()
+    }
+
+    fn swap<R: Wait, G: Gate>(
+        rt: &R,
+        _arena: &Arena<N, Tree>,
+        _pass: &mut Pass<N, Tree>,
+        _gate: &G,
+        _place: u64,
+        _old: u128,
+        _new: u128,
+    ) -> Numbered {
         for _ in rt.forever() {}
         unreachable!()
     }
@@ -97,6 +121,31 @@ impl<N: Ranged + Unlinked> Template<N, Arena<N, Tree>> for GiveUp {
         unreachable!()
     }
 
+    fn add<R: Wait, G: Gate>(
+        rt: &R,
+        _arena: &Arena<N, Tree>,
+        _pass: &mut Pass<N, Tree>,
+        _gate: &G,
+        _place: u64,
+        _value: u128,
+    ) -> Result<Numbered, Full> {
+        for _ in rt.forever() {}
+        unreachable!()
+    }
+
+    fn swap<R: Wait, G: Gate>(
+        rt: &R,
+        _arena: &Arena<N, Tree>,
+        _pass: &mut Pass<N, Tree>,
+        _gate: &G,
+        _place: u64,
+        _old: u128,
+        _new: u128,
+    ) -> Numbered {
+        for _ in rt.forever() {}
+        unreachable!()
+    }
+
     fn del<R: Wait, G: Gate>(
         rt: &R,
         _arena: &Arena<N, Tree>,
@@ -143,6 +192,31 @@ impl<N: Linked> Template<N, Arena<N, Link>> for LinkMove {
         _place: u64,
         _value: u128,
     ) -> Result<Numbered, Full> {
+        for _ in rt.forever() {}
+        unreachable!()
+    }
+
+    fn add<R: Wait, G: Gate>(
+        rt: &R,
+        _arena: &Arena<N, Link>,
+        _pass: &mut Pass<N, Link>,
+        _gate: &G,
+        _place: u64,
+        _value: u128,
+    ) -> Result<Numbered, Full> {
+        for _ in rt.forever() {}
+        unreachable!()
+    }
+
+    fn swap<R: Wait, G: Gate>(
+        rt: &R,
+        _arena: &Arena<N, Link>,
+        _pass: &mut Pass<N, Link>,
+        _gate: &G,
+        _place: u64,
+        _old: u128,
+        _new: u128,
+    ) -> Numbered {
         for _ in rt.forever() {}
         unreachable!()
     }

@@ -1,7 +1,6 @@
 use Rattle.std.proofs.Common.{ℕ, ◌≡◌, ◌⊎◌, map, string_bytes, arith}
 use Rattle.std.specs.Prelude.{IfSome}
 use Rattle.ks_history.specs.Due.{FullsDue}
-use Rattle.ks_arena.specs.Clauses.{trace_in}
 use Rattle.ks_script.specs.Outside.{Rose, Grew, GrewByFront}
 use Rattle.ks_batch.specs.Pairings.{row_of}
 use Rattle.ks_batch.specs.Serve.{RefusedAt, Prints}
@@ -34,10 +33,10 @@ returns-clause-due g c p n asks =
     elim c.match-command.branch [
       | in-Some-Run w ↦
           let r = w.serve_script-outcome.result in
-          rw w.outcome-is (served_run (λ q m. IfSome r.run (λ run. FullsDue (row_of q).layout m (trace_in run))) (map string_bytes c.args.words.now) _ p _ n (rw w.in-Some-Run.field-0-is at w.in-Some-Run.ensures.some) asks w.serve_script-outcome.ensures.due)
+          rw w.outcome-is (served_run (λ q m. IfSome r.run (λ run. FullsDue (row_of q).layout m run)) (map string_bytes c.args.words.now) _ p _ n (rw w.in-Some-Run.field-0-is at w.in-Some-Run.ensures.some) asks w.serve_script-outcome.ensures.due)
       | in-Some-Make w ↦
           let r = w.make_run-outcome.result in
-          rw w.outcome-is (served_make (λ q m. IfSome r.run (λ run. FullsDue (row_of q).layout m (trace_in run))) (map string_bytes c.args.words.now) _ p _ n _ (rw w.in-Some-Make.field-0-is at w.in-Some-Make.ensures.some) asks w.make_run-outcome.ensures.due)
+          rw w.outcome-is (served_make (λ q m. IfSome r.run (λ run. FullsDue (row_of q).layout m run)) (map string_bytes c.args.words.now) _ p _ n _ (rw w.in-Some-Make.field-0-is at w.in-Some-Make.ensures.some) asks w.make_run-outcome.ensures.due)
       | in-Some-Check w ↦ absurd (check_serves_none (map string_bytes c.args.words.now) p n (rw w.in-Some-Check.field-0-is at w.in-Some-Check.ensures.some) asks)
       | in-None w ↦ absurd (w.in-None.ensures.none (serve_command (map string_bytes c.args.words.now) p n asks))
     ]
@@ -48,7 +47,7 @@ returns-clause-done g c p n spells =
       | in-Some-Run w ↦
           let r = w.serve_script-outcome.result in
           rw (w.outcome-is, w.out-is)
-          (of_run (λ q. r.status ≡ 0 → IfSome (g.S.Source.left c.args.source.now) (λ bytes. IfSome r.run (λ run. Prints (row_of q).place bytes (trace_in run) (λ t. Grew (g.K.Sink.taken c.args.out.now) (g.K.Sink.taken w.serve_script-outcome.new.out) t))))
+          (of_run (λ q. r.status ≡ 0 → IfSome (g.S.Source.left c.args.source.now) (λ bytes. IfSome r.run (λ run. Prints (row_of q).place bytes run (λ t. Grew (g.K.Sink.taken c.args.out.now) (g.K.Sink.taken w.serve_script-outcome.new.out) t))))
           (map string_bytes c.args.words.now) _ p _ n (rw w.in-Some-Run.field-0-is at w.in-Some-Run.ensures.some) spells w.serve_script-outcome.ensures.done)
       | in-Some-Make w ↦ absurd (make_asks (map string_bytes c.args.words.now) _ _ _ Script (rw w.in-Some-Make.field-0-is at w.in-Some-Make.ensures.some) (p, n, spells))
       | in-Some-Check w ↦ absurd (not_both (map string_bytes c.args.words.now) (p, n, spells) (rw w.in-Some-Check.field-0-is at w.in-Some-Check.ensures.some))
@@ -70,7 +69,7 @@ returns-clause-cut g c p n spells =
       | in-Some-Run w ↦
           let r = w.serve_script-outcome.result in
           rw (w.outcome-is, w.out-is)
-          (of_run (λ q. r.status ≡ 4 → IfSome (g.S.Source.left c.args.source.now) (λ bytes. IfSome r.run (λ run. Prints (row_of q).place bytes (trace_in run) (λ t. GrewByFront (g.K.Sink.taken c.args.out.now) (g.K.Sink.taken w.serve_script-outcome.new.out) t))))
+          (of_run (λ q. r.status ≡ 4 → IfSome (g.S.Source.left c.args.source.now) (λ bytes. IfSome r.run (λ run. Prints (row_of q).place bytes run (λ t. GrewByFront (g.K.Sink.taken c.args.out.now) (g.K.Sink.taken w.serve_script-outcome.new.out) t))))
           (map string_bytes c.args.words.now) _ p _ n (rw w.in-Some-Run.field-0-is at w.in-Some-Run.ensures.some) spells w.serve_script-outcome.ensures.cut)
       | in-Some-Make w ↦ absurd (make_asks (map string_bytes c.args.words.now) _ _ _ Script (rw w.in-Some-Make.field-0-is at w.in-Some-Make.ensures.some) (p, n, spells))
       | in-Some-Check w ↦ absurd (not_both (map string_bytes c.args.words.now) (p, n, spells) (rw w.in-Some-Check.field-0-is at w.in-Some-Check.ensures.some))
