@@ -12,6 +12,8 @@ use itoa::Buffer;
 use ks_gate::{Gate, NoGate};
 use ks_script::{MemSink, MemSource};
 use std::alloc::{AllocError, Global};
+use std::sync::Wait;
+use std::thread::Threads;
 
 /// What a run of the program gave.
 #[derive(Drop)]
@@ -30,14 +32,14 @@ fn split(alloc: Global, words: &str) -> Result<Vec<String>, AllocError> {
 }
 
 /// Runs the program on these ends, with the gate for its callers.
-fn run_on<G: Gate + Sync>(
-    rt: &HostRuntime,
+fn run_on<R: Threads + Wait + Sync, G: Gate + Sync>(
+    rt: &R,
+    alloc: Global,
     words: &str,
     mut source: MemSource,
     mut out: MemSink,
     gate: &G,
 ) -> Result<Ended, AllocError> {
-    let alloc = rt.alloc();
     let mut err = MemSink::new(alloc, 4096, 4096, Vec::new(alloc))?;
     let words = split(alloc, words)?;
     let outcome = serve(rt, alloc, &words, &mut source, &mut out, &mut err, gate);
@@ -49,8 +51,9 @@ fn run_on<G: Gate + Sync>(
 }
 
 /// Runs the program with ends that give and take so many bytes at a time.
-fn run_at<G: Gate + Sync>(
-    rt: &HostRuntime,
+fn run_at<R: Threads + Wait + Sync, G: Gate + Sync>(
+    rt: &R,
+    alloc: Global,
     words: &str,
     input: &[u8],
     most: usize,
@@ -58,15 +61,19 @@ fn run_at<G: Gate + Sync>(
 ) -> Result<Ended, AllocError>
     requires { 0 < most }
 {
-    let alloc = rt.alloc();
     let source = MemSource::new(Vec::from_slice(alloc, input)?, most, Vec::new(alloc));
     let out = MemSink::new(alloc, 65536, most, Vec::new(alloc))?;
-    run_on(rt, words, source, out, gate)
+    run_on(rt, alloc, words, source, out, gate)
 }
 
 /// Runs the program, where no caller is kept.
-fn run(rt: &HostRuntime, words: &str, input: &[u8]) -> Result<Ended, AllocError> {
-    run_at(rt, words, input, 4096, &NoGate)
+fn run<R: Threads + Wait + Sync>(
+    rt: &R,
+    alloc: Global,
+    words: &str,
+    input: &[u8],
+) -> Result<Ended, AllocError> {
+    run_at(rt, alloc, words, input, 4096, &NoGate)
 }
 
 fn put_number(text: &mut Vec<u8>, number: u64) -> Result<(), AllocError> {

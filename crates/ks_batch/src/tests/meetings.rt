@@ -9,7 +9,7 @@ use std::test::Fail;
 fn a_caller_is_overtaken_before_its_call(rt: HostRuntime) -> Result<(), Fail> {
     let gate = Meet::of(0, 0, Point::Begin, 1, 50_000_000);
     let input: &[u8] = b"caller\nput 7 70\ncaller\nget 7\n";
-    let ended = run_at(&rt, "run bplus coupling 4", input, 4096, &gate)?;
+    let ended = run_at(&rt, rt.alloc(), "run bplus coupling 4", input, 4096, &gate)?;
     assert_eq!(rt; ended.status, 0);
     assert!(rt;
         ended.out.as_slice() == b"caller 0\n1 none\ncaller 1\n0 none\nmap\n7 70\nend\n".as_slice()
@@ -31,7 +31,7 @@ fn a_caller_is_overtaken_in_its_call(rt: HostRuntime) -> Result<(), Fail> {
     wanted.extend_from_slice(b"18 0\ncaller 1\n17 16\nmap\n")?;
     put_pairs(&mut wanted, b"", 0, 16)?;
     wanted.extend_from_slice(b"end\n")?;
-    let ended = run_at(&rt, "run bplus coupling 64", &input, 4096, &gate)?;
+    let ended = run_at(&rt, rt.alloc(), "run bplus coupling 64", &input, 4096, &gate)?;
     assert_eq!(rt; ended.status, 0);
     assert!(rt; ended.out.as_slice() == wanted.as_slice());
     assert!(rt; !gate.failed());

@@ -21,7 +21,7 @@ fn every_pairing_serves_the_least_and_the_greatest_key(rt: HostRuntime) -> Resul
     for words in ALL {
         let input: &[u8] =
             b"caller\nput 0 1\nput 18446744073709551615 2\nget 0\nget 18446744073709551615\n";
-        let ended = run(&rt, words, input)?;
+        let ended = run(&rt, rt.alloc(), words, input)?;
         assert_eq!(rt; ended.status, 0);
         assert!(rt;
             ended.out.as_slice()
@@ -43,7 +43,7 @@ fn four_nodes_of_a_tree_fill(rt: HostRuntime) -> Result<(), Fail> {
     put_pairs(&mut wanted, b"", 0, 31)?;
     wanted.extend_from_slice(b"end\n")?;
     for words in ["run bplus coupling 4", "run bplus giveup 4", "run bplus link 4"] {
-        let ended = run(&rt, words, &input)?;
+        let ended = run(&rt, rt.alloc(), words, &input)?;
         assert_eq!(rt; ended.status, 0);
         assert!(rt; ended.out.as_slice() == wanted.as_slice());
     }
@@ -63,7 +63,7 @@ fn four_nodes_of_a_list_fill(rt: HostRuntime) -> Result<(), Fail> {
     wanted.extend_from_slice(b"3 99\n")?;
     put_pairs(&mut wanted, b"", 4, 19)?;
     wanted.extend_from_slice(b"end\n")?;
-    let ended = run(&rt, "run list coupling 4", &input)?;
+    let ended = run(&rt, rt.alloc(), "run list coupling 4", &input)?;
     assert_eq!(rt; ended.status, 0);
     assert!(rt; ended.out.as_slice() == wanted.as_slice());
     Ok(())
@@ -121,7 +121,7 @@ fn near_keys_of_a_hash_table_fill_its_nodes(rt: HostRuntime) -> Result<(), Fail>
     put_nones(&mut nine, 0, 8)?;
     nine.extend_from_slice(&near_map(rt.alloc(), 9)?)?;
     for words in ["run hash coupling 9", "run hash giveup 9", "run hash link 9"] {
-        let ended = run(&rt, words, &input)?;
+        let ended = run(&rt, rt.alloc(), words, &input)?;
         assert_eq!(rt; ended.status, 0);
         assert!(rt; ended.out.as_slice() == nine.as_slice());
     }
@@ -130,7 +130,7 @@ fn near_keys_of_a_hash_table_fill_its_nodes(rt: HostRuntime) -> Result<(), Fail>
     eight.extend_from_slice(b"8 full\n")?;
     eight.extend_from_slice(&near_map(rt.alloc(), 8)?)?;
     for words in ["run hash coupling 8", "run hash giveup 8", "run hash link 8"] {
-        let ended = run(&rt, words, &input)?;
+        let ended = run(&rt, rt.alloc(), words, &input)?;
         assert_eq!(rt; ended.status, 0);
         assert!(rt; ended.out.as_slice() == eight.as_slice());
     }

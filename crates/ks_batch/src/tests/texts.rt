@@ -72,7 +72,7 @@ const CHECKS: [(&[u8], &[u8], &[u8], u8); 4] = [
 #[test]
 fn judges_a_printed_run(rt: HostRuntime) -> Result<(), Fail> {
     for (input, text, said, status) in CHECKS {
-        let ended = run(&rt, "check", input)?;
+        let ended = run(&rt, rt.alloc(), "check", input)?;
         assert_eq!(rt; ended.status, status);
         assert!(rt; ended.out.as_slice() == text);
         assert!(rt; ended.err.as_slice() == said);
@@ -83,10 +83,10 @@ fn judges_a_printed_run(rt: HostRuntime) -> Result<(), Fail> {
 #[test]
 fn tells_what_each_call_is_answered(rt: HostRuntime) -> Result<(), Fail> {
     for (input, text) in RUNS {
-        let whole = run(&rt, RUN, input)?;
+        let whole = run(&rt, rt.alloc(), RUN, input)?;
         assert_eq!(rt; whole.status, 0);
         assert!(rt; whole.out.as_slice() == text);
-        let bytewise = run_at(&rt, RUN, input, 1, &NoGate)?;
+        let bytewise = run_at(&rt, rt.alloc(), RUN, input, 1, &NoGate)?;
         assert!(rt; bytewise.out.as_slice() == text);
     }
     Ok(())
@@ -94,7 +94,7 @@ fn tells_what_each_call_is_answered(rt: HostRuntime) -> Result<(), Fail> {
 
 #[test]
 fn sums_up_a_made_script(rt: HostRuntime) -> Result<(), Fail> {
-    let ended = run(&rt, "make bplus coupling 64 1 2 0", b"")?;
+    let ended = run(&rt, rt.alloc(), "make bplus coupling 64 1 2 0", b"")?;
     assert_eq!(rt; ended.status, 0);
     assert!(rt;
         ended.out.as_slice()
@@ -106,7 +106,7 @@ fn sums_up_a_made_script(rt: HostRuntime) -> Result<(), Fail> {
 #[test]
 fn says_why_nothing_is_served(rt: HostRuntime) -> Result<(), Fail> {
     for (words, input, text, status) in REFUSALS {
-        let ended = run(&rt, words, input)?;
+        let ended = run(&rt, rt.alloc(), words, input)?;
         assert_eq!(rt; ended.status, status);
         assert!(rt; ended.err.as_slice() == text);
         assert!(rt; ended.out.is_empty());
