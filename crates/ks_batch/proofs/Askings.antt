@@ -64,17 +64,19 @@ named_by words p a b = ap (λ x. first_two x (get_or words 2 [])) a ∙ ap (firs
 
 pub run_once : (words : List (List ℕ)) (p q : Pairing) (n m : ℕ) → Spells words (Run p n) → Spells words (Run q m) → (p ≡ q) × (n ≡ m)
 run_once words p q n m a b = (
-    pairing_once words p q
-    (named_by words p (ap (λ xs. get_or xs 1 []) a.is) (ap (λ xs. get_or xs 2 []) a.is))
-    (named_by words q (ap (λ xs. get_or xs 1 []) b.is) (ap (λ xs. get_or xs 2 []) b.is)),
-    decimal_injective n m (let le = a.limits.1 in omega (arith, le)) (let le = b.limits.1 in omega (arith, le)) (ap (λ xs. get_or xs 3 []) (sym a.is ∙ b.is)))
+  pairing_once words p q
+      (named_by words p (ap (λ xs. get_or xs 1 []) a.is) (ap (λ xs. get_or xs 2 []) a.is))
+      (named_by words q (ap (λ xs. get_or xs 1 []) b.is) (ap (λ xs. get_or xs 2 []) b.is)),
+  decimal_injective n m (let le = a.limits.1 in omega (arith, le)) (let le = b.limits.1 in omega (arith, le)) (ap (λ xs. get_or xs 3 []) (sym a.is ∙ b.is)),
+)
 
 pub make_once : (words : List (List ℕ)) (p q : Pairing) (n m : ℕ) (d e : Draft) → Spells words (Make p n d) → Spells words (Make q m e) → (p ≡ q) × (n ≡ m)
 make_once words p q n m d e a b = (
-    pairing_once words p q
-    (named_by words p (ap (λ xs. get_or xs 1 []) a.is) (ap (λ xs. get_or xs 2 []) a.is))
-    (named_by words q (ap (λ xs. get_or xs 1 []) b.is) (ap (λ xs. get_or xs 2 []) b.is)),
-    decimal_injective n m (let le = a.limits.1 in omega (arith, le)) (let le = b.limits.1 in omega (arith, le)) (ap (λ xs. get_or xs 3 []) (sym a.is ∙ b.is)))
+  pairing_once words p q
+      (named_by words p (ap (λ xs. get_or xs 1 []) a.is) (ap (λ xs. get_or xs 2 []) a.is))
+      (named_by words q (ap (λ xs. get_or xs 1 []) b.is) (ap (λ xs. get_or xs 2 []) b.is)),
+  decimal_injective n m (let le = a.limits.1 in omega (arith, le)) (let le = b.limits.1 in omega (arith, le)) (ap (λ xs. get_or xs 3 []) (sym a.is ∙ b.is)),
+)
 
 -- what is so of the pairing of a run is so of the one that its words name
 pub of_run : (P : Pairing → Type 0) (words : List (List ℕ)) (p q : Pairing) (n m : ℕ) → Spells words (Run p n) → Spells words (Run q m) → P p → P q

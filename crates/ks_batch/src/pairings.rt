@@ -57,21 +57,29 @@ pub fn serve_by<R: Threads + Wait + Sync, G: Gate + Sync>(
     ensures due { IfOk result (λ told. FullsDue (row_of pairing).layout nodes told.trace) }
 {
     match pairing {
-        Pairing::ListCoupling =>
-            serve_callers::<ListNode, Coupling, R, G>(rt, alloc, nodes, callers, gate),
-        Pairing::BplusCoupling =>
-            serve_callers::<BNode, Coupling, R, G>(rt, alloc, nodes, callers, gate),
-        Pairing::HashCoupling =>
-            serve_callers::<HNode, Coupling, R, G>(rt, alloc, nodes, callers, gate),
-        Pairing::ListGiveUp =>
-            serve_callers::<WithRange<ListNode>, GiveUp, R, G>(rt, alloc, nodes, callers, gate),
-        Pairing::BplusGiveUp =>
-            serve_callers::<WithRange<BNode>, GiveUp, R, G>(rt, alloc, nodes, callers, gate),
-        Pairing::HashGiveUp =>
-            serve_callers::<WithRange<HNode>, GiveUp, R, G>(rt, alloc, nodes, callers, gate),
-        Pairing::BplusLink =>
-            serve_callers::<WithLink<BNode>, LinkMove, R, G>(rt, alloc, nodes, callers, gate),
-        Pairing::HashLink =>
-            serve_callers::<WithLink<HNode>, LinkMove, R, G>(rt, alloc, nodes, callers, gate),
+        Pairing::ListCoupling => serve_callers::<ListNode, Coupling, R, G>(
+            rt, alloc, nodes, callers, gate,
+        ),
+        Pairing::BplusCoupling => serve_callers::<BNode, Coupling, R, G>(
+            rt, alloc, nodes, callers, gate,
+        ),
+        Pairing::HashCoupling => serve_callers::<HNode, Coupling, R, G>(
+            rt, alloc, nodes, callers, gate,
+        ),
+        Pairing::ListGiveUp => serve_callers::<WithRange<ListNode>, GiveUp, R, G>(
+            rt, alloc, nodes, callers, gate,
+        ),
+        Pairing::BplusGiveUp => serve_callers::<WithRange<BNode>, GiveUp, R, G>(
+            rt, alloc, nodes, callers, gate,
+        ),
+        Pairing::HashGiveUp => serve_callers::<WithRange<HNode>, GiveUp, R, G>(
+            rt, alloc, nodes, callers, gate,
+        ),
+        Pairing::BplusLink => serve_callers::<WithLink<BNode>, LinkMove, R, G>(
+            rt, alloc, nodes, callers, gate,
+        ),
+        Pairing::HashLink => serve_callers::<WithLink<HNode>, LinkMove, R, G>(
+            rt, alloc, nodes, callers, gate,
+        ),
     }
 }

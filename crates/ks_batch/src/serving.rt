@@ -328,8 +328,8 @@ pub fn serve<R: Threads + Wait + Sync, S: Source, K: Sink, E: Sink, G: Gate + Sy
     ensures done { (pairing : Pairing) (nodes : ℕ) →
         Spells (bytes_of words.now) (asked.Run pairing nodes) → result.status ≡ 0 →
         PrintsRun (row_of pairing).place (S.left source.old) result.run (Grew (K.taken out.old) (K.taken out.new)) }
-    ensures cut { (pairing : Pairing) (nodes : ℕ) → Spells (bytes_of words.now) (asked.Run pairing nodes) →
-        result.status ≡ 4 →
+    ensures cut { (pairing : Pairing) (nodes : ℕ) →
+        Spells (bytes_of words.now) (asked.Run pairing nodes) → result.status ≡ 4 →
         PrintsRun (row_of pairing).place (S.left source.old) result.run (GrewByFront (K.taken out.old) (K.taken out.new)) }
     ensures end { Asks (bytes_of words.now) text.Script → IsSome result.run →
         IfSome (S.left source.old) (λ _. S.left source.new ≡ Some []) }
@@ -350,16 +350,19 @@ pub fn serve<R: Threads + Wait + Sync, S: Source, K: Sink, E: Sink, G: Gate + Sy
         IfSome (S.left source.old) (λ bytes. RefusedAt t bytes result.line) }
     ensures refusal_due { (t : Text) → Asks (bytes_of words.now) t →
         ¬ Rose (S.faults source.old) (S.faults source.new) →
-        IfSome (S.left source.old) (λ bytes. (n : ℕ) → RefusedAt t bytes n → ((result.status ≡ 2) × (result.line ≡ n)) ⊎ (result.status ≡ 5)) }
+        IfSome (S.left source.old) (λ bytes. (n : ℕ) → RefusedAt t bytes n →
+        ((result.status ≡ 2) × (result.line ≡ n)) ⊎ (result.status ≡ 5)) }
     ensures source { result.status ≡ 3 → Rose (S.faults source.old) (S.faults source.new) }
     ensures output { result.status ≡ 4 → Rose (K.faults out.old) (K.faults out.new) }
     ensures judgment { result.status ≡ 6 → Asks (bytes_of words.now) text.Checked }
     ensures done_due { Asks (bytes_of words.now) text.Script →
         ¬ Rose (S.faults source.old) (S.faults source.new) → ¬ Rose (K.faults out.old) (K.faults out.new) →
-        IfSome (S.left source.old) (λ bytes. (script : List (List Op)) → Accepts bytes script → (result.status ≡ 0) ⊎ (result.status ≡ 5)) }
+        IfSome (S.left source.old) (λ bytes. (script : List (List Op)) → Accepts bytes script →
+        (result.status ≡ 0) ⊎ (result.status ≡ 5)) }
     ensures judged_due { Asks (bytes_of words.now) text.Checked →
         ¬ Rose (S.faults source.old) (S.faults source.new) → ¬ Rose (K.faults out.old) (K.faults out.new) →
-        IfSome (S.left source.old) (λ bytes. (script : List (List Op)) (run : printed_run.Run) → AcceptsChecked bytes script run → (result.status ≡ 0) ⊎ ((result.status ≡ 6) ⊎ (result.status ≡ 5))) }
+        IfSome (S.left source.old) (λ bytes. (script : List (List Op)) (run : printed_run.Run) →
+        AcceptsChecked bytes script run → (result.status ≡ 0) ⊎ ((result.status ≡ 6) ⊎ (result.status ≡ 5))) }
     ensures line { result.status ≢ 2 → result.line ≡ 0 }
     ensures number { result.status ≢ 6 → result.number ≡ 0 }
 
@@ -369,10 +372,16 @@ pub fn serve<R: Threads + Wait + Sync, S: Source, K: Sink, E: Sink, G: Gate + Sy
     ensures said_front { GrewByFront (E.taken err.old) (E.taken err.new) (status_text result.status result.line) }
 {
     let outcome = match command(words) {
-        Some(Asked::Run { pairing, arena }) =>
-            serve_script(rt, alloc, pairing, arena, source, out, gate),
-        Some(Asked::Make { pairing, arena, draft }) =>
-            make_run(rt, alloc, pairing, arena, draft, out, gate),
+        Some(Asked::Run { pairing, arena }) => serve_script(
+            rt, alloc, pairing, arena, source, out, gate,
+        ),
+        Some(
+            Asked::Make {
+                pairing,
+                arena,
+                draft,
+            },
+        ) => make_run(rt, alloc, pairing, arena, draft, out, gate),
         Some(Asked::Check) => check_run(alloc, source, out),
         None => Outcome::without_run(1, 0),
     };

@@ -31,7 +31,14 @@ fn a_caller_is_overtaken_in_its_call(rt: HostRuntime) -> Result<(), Fail> {
     wanted.extend_from_slice(b"18 0\ncaller 1\n17 16\nmap\n")?;
     put_pairs(&mut wanted, b"", 0, 16)?;
     wanted.extend_from_slice(b"end\n")?;
-    let ended = run_at(&rt, rt.alloc(), "run bplus coupling 64", &input, 4096, &gate)?;
+    let ended = run_at(
+        &rt,
+        rt.alloc(),
+        "run bplus coupling 64",
+        &input,
+        4096,
+        &gate,
+    )?;
     assert_eq!(rt; ended.status, 0);
     assert!(rt; ended.out.as_slice() == wanted.as_slice());
     assert!(rt; !gate.failed());

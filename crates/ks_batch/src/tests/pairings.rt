@@ -42,7 +42,11 @@ fn four_nodes_of_a_tree_fill(rt: HostRuntime) -> Result<(), Fail> {
     wanted.extend_from_slice(b"32 full\nmap\n")?;
     put_pairs(&mut wanted, b"", 0, 31)?;
     wanted.extend_from_slice(b"end\n")?;
-    for words in ["run bplus coupling 4", "run bplus giveup 4", "run bplus link 4"] {
+    for words in [
+        "run bplus coupling 4",
+        "run bplus giveup 4",
+        "run bplus link 4",
+    ] {
         let ended = run(&rt, rt.alloc(), words, &input)?;
         assert_eq!(rt; ended.status, 0);
         assert!(rt; ended.out.as_slice() == wanted.as_slice());
@@ -120,7 +124,11 @@ fn near_keys_of_a_hash_table_fill_its_nodes(rt: HostRuntime) -> Result<(), Fail>
     let mut nine = Vec::from_slice(rt.alloc(), b"caller 0\n")?;
     put_nones(&mut nine, 0, 8)?;
     nine.extend_from_slice(&near_map(rt.alloc(), 9)?)?;
-    for words in ["run hash coupling 9", "run hash giveup 9", "run hash link 9"] {
+    for words in [
+        "run hash coupling 9",
+        "run hash giveup 9",
+        "run hash link 9",
+    ] {
         let ended = run(&rt, rt.alloc(), words, &input)?;
         assert_eq!(rt; ended.status, 0);
         assert!(rt; ended.out.as_slice() == nine.as_slice());
@@ -129,7 +137,11 @@ fn near_keys_of_a_hash_table_fill_its_nodes(rt: HostRuntime) -> Result<(), Fail>
     put_nones(&mut eight, 0, 7)?;
     eight.extend_from_slice(b"8 full\n")?;
     eight.extend_from_slice(&near_map(rt.alloc(), 8)?)?;
-    for words in ["run hash coupling 8", "run hash giveup 8", "run hash link 8"] {
+    for words in [
+        "run hash coupling 8",
+        "run hash giveup 8",
+        "run hash link 8",
+    ] {
         let ended = run(&rt, rt.alloc(), words, &input)?;
         assert_eq!(rt; ended.status, 0);
         assert!(rt; ended.out.as_slice() == eight.as_slice());
