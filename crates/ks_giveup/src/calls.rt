@@ -1,12 +1,12 @@
 //! The calls of a dictionary by giving up.
 ghost use Rattle.std.specs.Prelude.{◌≡◌, []};
 ghost use Rattle.ks_flow.specs.Discipline.{BeginsTree, TreeStep};
-ghost use Rattle.ks_history.specs.declared.Op.TheVariants.{Del, Get, Put};
+ghost use Rattle.ks_history.specs.declared.Op.TheVariants.{Add, Del, Get, Put, Swap};
 ghost use Rattle.ks_history.specs.Map.{told};
-ghost use Rattle.ks_history.specs.Done.{Done, give_up};
+ghost use Rattle.ks_history.specs.Done.{give_up, Done};
 ghost use Rattle.ks_arena.specs.Sound.{sort_of};
 ghost use Rattle.ks_arena.specs.Clauses.{IsPass, hand_of, seen_of};
-ghost use Rattle.ks_put.specs.Calls.{IsAnswered};
+ghost use Rattle.ks_shape.specs.Answers.{number_in, reply_in};
 
 use crate::descent::find;
 use ks_arena::laws::sound_law;
@@ -15,7 +15,7 @@ use ks_flow::Tree;
 use ks_gate::{Gate, Point};
 use ks_history::Op;
 use ks_node::{Ranged, Unlinked, node_law};
-use ks_put::{pair_put, put_after_law, put_here};
+use ks_put::{add_here, has_room, pair_add, pair_put, put_here, swap_here};
 use ks_shape::{Full, Numbered, conclude, reply_of};
 use std::sync::Wait;
 
@@ -40,6 +40,84 @@ pub fn get<N: Ranged + Unlinked, R: Wait, G: Gate>(
     Numbered { number, found }
 }
 
+/// Puts a value at a place; answers the value that stood there, and the number of the call. Where the node has no room it is
+/// given, and the put goes by lock coupling from the root.
+///
+/// # Errors
+///
+/// `Full` where the node has no room, no value stands at the place, and no node was found free.
+pub fn put<N: Ranged + Unlinked, R: Wait, G: Gate>(
+    rt: &R,
+    arena: &Arena<N, Tree>,
+    pass: &mut Pass<N, Tree>,
+    gate: &G,
+    place: u64,
+    value: u128,
+) -> Result<Numbered, Full>
+    requires pass { IsPass (sort_of N.layout N.ranged) BeginsTree TreeStep arena.now.table.shared.table_id arena.now.callers pass.old × (hand_of pass.old ≡ []) }
+    ensures pass { IsPass (sort_of N.layout N.ranged) BeginsTree TreeStep arena.now.table.shared.table_id arena.now.callers pass.new × (hand_of pass.new ≡ []) }
+    ensures caller { pass.new.caller ≡ pass.old.caller }
+    ensures done { Done N.layout give_up arena.now.nodes pass.old.caller (Put place value) (seen_of pass.old) (seen_of pass.new) (reply_in result) (number_in result) }
+{
+    let held = find(rt, arena, pass, gate, place);
+    if has_room(&held, place) {
+        return Ok(put_here(arena, pass, gate, place, value, held));
+    }
+    let node = held.node;
+    arena.give(pass, held);
+    gate.at(pass.caller(), Point::Given(node));
+    pair_put(rt, arena, pass, gate, place, value)
+}
+
+/// Puts a value at a place where none stands; answers the value that stood there, and the number of the call. It goes as
+/// `put`.
+///
+/// # Errors
+///
+/// `Full` as for `put`.
+pub fn add<N: Ranged + Unlinked, R: Wait, G: Gate>(
+    rt: &R,
+    arena: &Arena<N, Tree>,
+    pass: &mut Pass<N, Tree>,
+    gate: &G,
+    place: u64,
+    value: u128,
+) -> Result<Numbered, Full>
+    requires pass { IsPass (sort_of N.layout N.ranged) BeginsTree TreeStep arena.now.table.shared.table_id arena.now.callers pass.old × (hand_of pass.old ≡ []) }
+    ensures pass { IsPass (sort_of N.layout N.ranged) BeginsTree TreeStep arena.now.table.shared.table_id arena.now.callers pass.new × (hand_of pass.new ≡ []) }
+    ensures caller { pass.new.caller ≡ pass.old.caller }
+    ensures done { Done N.layout give_up arena.now.nodes pass.old.caller (Add place value) (seen_of pass.old) (seen_of pass.new) (reply_in result) (number_in result) }
+{
+    let held = find(rt, arena, pass, gate, place);
+    if has_room(&held, place) {
+        return Ok(add_here(arena, pass, gate, place, value, held));
+    }
+    let node = held.node;
+    arena.give(pass, held);
+    gate.at(pass.caller(), Point::Given(node));
+    pair_add(rt, arena, pass, gate, place, value)
+}
+
+/// Puts `new` at a place where `old` stands; answers the value that stood there, and the number of the call. It holds one
+/// node at a time.
+pub fn swap<N: Ranged + Unlinked, R: Wait, G: Gate>(
+    rt: &R,
+    arena: &Arena<N, Tree>,
+    pass: &mut Pass<N, Tree>,
+    gate: &G,
+    place: u64,
+    old: u128,
+    new: u128,
+) -> Numbered
+    requires pass { IsPass (sort_of N.layout N.ranged) BeginsTree TreeStep arena.now.table.shared.table_id arena.now.callers pass.old × (hand_of pass.old ≡ []) }
+    ensures pass { IsPass (sort_of N.layout N.ranged) BeginsTree TreeStep arena.now.table.shared.table_id arena.now.callers pass.new × (hand_of pass.new ≡ []) }
+    ensures caller { pass.new.caller ≡ pass.old.caller }
+    ensures done { Done N.layout give_up arena.now.nodes pass.old.caller (Swap place old new) (seen_of pass.old) (seen_of pass.new) (told result.found) result.number }
+{
+    let held = find(rt, arena, pass, gate, place);
+    swap_here(arena, pass, gate, place, old, new, held)
+}
+
 /// Deletes what stands at a place; answers the value that stood there, and the number of the call. It merges no nodes.
 pub fn del<N: Ranged + Unlinked, R: Wait, G: Gate>(
     rt: &R,
@@ -60,30 +138,4 @@ pub fn del<N: Ranged + Unlinked, R: Wait, G: Gate>(
     let found = held.body.del(place);
     let number = conclude(arena, pass, gate, held, Op::Del(place), reply_of(found));
     Numbered { number, found }
-}
-
-/// Puts a value at a place; answers the value that stood there, and the number of the call; or that the node was full and
-/// no node was found free. Where the node has no room it is given, and the put goes by lock coupling from the root.
-pub fn put<N: Ranged + Unlinked, R: Wait, G: Gate>(
-    rt: &R,
-    arena: &Arena<N, Tree>,
-    pass: &mut Pass<N, Tree>,
-    gate: &G,
-    place: u64,
-    value: u128,
-) -> Result<Numbered, Full>
-    requires pass { IsPass (sort_of N.layout N.ranged) BeginsTree TreeStep arena.now.table.shared.table_id arena.now.callers pass.old × (hand_of pass.old ≡ []) }
-    ensures pass { IsPass (sort_of N.layout N.ranged) BeginsTree TreeStep arena.now.table.shared.table_id arena.now.callers pass.new × (hand_of pass.new ≡ []) }
-    ensures caller { pass.new.caller ≡ pass.old.caller }
-    ensures done { IsAnswered N.layout give_up arena.now.nodes pass.old.caller (Put place value) (seen_of pass.old) (seen_of pass.new) result }
-{
-    let held = find(rt, arena, pass, gate, place);
-    if held.body.get(place).is_some() || !held.body.is_full() {
-        return Ok(put_here(arena, pass, gate, place, value, held));
-    }
-    let node = held.node;
-    arena.give(pass, held);
-    gate.at(pass.caller(), Point::Given(node));
-    put_after_law();
-    pair_put(rt, arena, pass, gate, place, value)
 }

@@ -10,5 +10,7 @@
 
 mod calls;
 mod descent;
+mod technique;
 
-pub use calls::{del, get, put};
+pub use calls::{add, del, get, put, swap};
+pub use technique::GiveUp;
