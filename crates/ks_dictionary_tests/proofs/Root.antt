@@ -1,5 +1,8 @@
--- Calls at the root: how it is taken, and that the place of a search that ends there is below its own edge.
-use Rattle.std.proofs.Common.{◌≡◌, ℕ, ◌≤◌, List, [], ◌∷◌, Option, Some, None, sym, refl, ap, ◌∙◌, arith}
+-- Calls at the root: how it is taken, that the place of a search that ends there is below its own edge, and what is found.
+use Rattle.std.proofs.Common.{◌≡◌, ℕ, ◌≤◌, List, [], ◌∷◌, Bool, true, false, not, Option, Some, None, sym, refl, ap, ◌∙◌, arith}
+use Rattle.std.specs.Option.{option_eq}
+use Rattle.std.proofs.Math.Dec.{eqb}
+use Rattle.std.proofs.lemmas.Bool.{eqb-true}
 use Rattle.ks_keysets.specs.declared.Frame.{Frame}
 use Rattle.ks_keysets.specs.declared.Span.{Span}
 use Rattle.ks_keysets.specs.Record.{top}
@@ -21,6 +24,15 @@ use Rattle.ks_arena.specs.Clauses.{HasTaken}
 use Rattle.ks_arena.specs.Writes.{ends_below_own}
 use Rattle.ks_shape.specs.OnWay.{IsOnWay}
 use Rattle.ks_shape.specs.Single.{shown, record_is, takes}
+
+-- the value that was looked for was found
+pub same_found : (o : Option ℕ) (v : ℕ) → not (option_eq eqb o (Some v)) ≡ false → o ≡ Some v
+same_found None v e = absurd (let q : ⊥ = cc in q)
+same_found (Some w) v e = ap Some (eqb-true w v (not_false (eqb w v) e))
+  where
+    not_false : (b : Bool) → not b ≡ false → b ≡ true
+    not_false true e = refl
+    not_false false e = cc
 
 module _ {N : Type 0} (sort : Sort) (shows : N → Body) where
   -- the root is taken

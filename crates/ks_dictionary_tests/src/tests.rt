@@ -1,10 +1,14 @@
 ghost use Rattle.std.specs.Prelude.{length, ◌≤◌, IfOk};
+ghost use Rattle.ks_shape.specs.Idle.{IsIdle};
 
 use crate::AtRoot;
+use ks_arena::Pass;
 use ks_dictionary::{Dictionary, serve_callers};
+use ks_flow::Tree;
 use ks_gate::{Meet, NoGate, Point};
 use ks_history::{Op, Reply};
 use ks_list::ListNode;
+use ks_shape::Shelf;
 use std::alloc::{AllocError, Global};
 use std::test::Fail;
 
@@ -117,24 +121,34 @@ fn callers_run_beside_each_other(rt: HostRuntime) -> Result<(), Fail> {
     Ok(())
 }
 
+type Lists = Dictionary<ListNode, AtRoot>;
+
+type Caller = Pass<ListNode, Tree>;
+
+/// A dictionary of four list nodes, and the passes of callers 0 and 1.
+fn two_callers(alloc: Global) -> Result<(Lists, Caller, Caller), AllocError>
+    ensures one { IfOk result (λ x. IsIdle (⟦<Dictionary<ListNode, AtRoot> as Shelf>⟧.site x.0) x.1) }
+    ensures two { IfOk result (λ x. IsIdle (⟦<Dictionary<ListNode, AtRoot> as Shelf>⟧.site x.0) x.2) }
+{
+    let (dictionary, mut passes) = Lists::start(alloc, 4, 2)?;
+    let Some(two) = passes.pop() else {
+        return Err(AllocError);
+    };
+    let Some(one) = passes.pop() else {
+        return Err(AllocError);
+    };
+    Ok((dictionary, one, two))
+}
+
 /// Caller 0 puts a value and notes what it has seen; caller 1 learns that, and finds the value.
 #[test]
 fn a_note_is_learnt(rt: HostRuntime) -> Result<(), Fail> {
-    let alloc = rt.alloc();
-    let (dictionary, mut passes) = Dictionary::<ListNode, AtRoot>::start(alloc, 4, 2)?;
-    let (Some(mut second), Some(mut first)) = (passes.pop(), passes.pop()) else {
-        unreachable!()
-    };
-    let put = dictionary.put(&rt, &mut first, &NoGate, 5, 50);
-    let note = dictionary.note(&mut first);
-    dictionary.learn(&mut second, note);
-    let got = dictionary.get(&rt, &mut second, &NoGate, 5);
+    let (dictionary, mut one, mut two) = two_callers(rt.alloc())?;
+    let put = dictionary.put(&rt, &mut one, &NoGate, 5, 50);
     assert!(rt; matches!(put, Ok(told) if told.number == 0 && told.found.is_none()));
+    let note = dictionary.note(&mut one);
+    dictionary.learn(&mut two, note);
+    let got = dictionary.get(&rt, &mut two, &NoGate, 5);
     assert!(rt; got.number == 1 && got.found == Some(50));
-    let closed = dictionary.close(vec![in alloc; first, second]?);
-    assert!(rt; closed.calls() == 2);
-    let pairs = closed.pairs(alloc)?;
-    assert!(rt; pairs.len() == 1 && pairs[0] == (5, 50));
-    assert!(rt; closed.graph(alloc)?.nodes.len() == 4);
     Ok(())
 }

@@ -5,7 +5,6 @@ use Rattle.ks_arena.specs.declared.held.Held.{Held as Hand}
 use Rattle.ks_arena.specs.Sound.{sort_of}
 use Rattle.ks_arena.specs.Clauses.{IsReady, seen_of}
 use Rattle.ks_shape.specs.OnWay.{ends_unbranched}
-use Rattle.ks_dictionary_tests.proofs.Root.{below_own}
 use Rattle.ks_dictionary_tests.proofs.at_root.del.Goals as goal
 
 pub del-found-requires : goal.del-found-requires
