@@ -1,3 +1,4 @@
+pub mod Leading
 pub mod Nearer
 pub mod Parting
 pub mod Places

@@ -1,6 +1,6 @@
 -- How a search from above comes nearer to a level.
 use Rattle.std.proofs.Common.{◌≡◌, ◌≢◌, ℕ, suc, ◌+◌, ◌<◌, ◌≤◌, inl, inr, sym, ap, ◌∙◌, subst, arith, length, Bool, true, false, cond, List, [], ◌∷◌, refl}
-use Rattle.std.specs.Prelude.{◌⊎◌, Some, nat_lt, None}
+use Rattle.std.specs.Prelude.{◌⊎◌, Some, nat_lt, None, IsTrue}
 use Rattle.std.proofs.lemmas.Bool.{cases_lt, le-ltb}
 use Rattle.std.proofs.lemmas.Bool.Decides.{eqb_tells}
 use Rattle.ks_keysets.specs.declared.Edge.{Edge}
@@ -12,7 +12,10 @@ use Rattle.ks_keysets.specs.Record.{IsPlace, top, LeadsTo}
 use Rattle.ks_keysets.specs.Keyset.{record_at, IsLive}
 use Rattle.ks_node.specs.declared.start.Start.{Start}
 use Rattle.ks_node.specs.declared.start.Next.TheVariants.{Here}
-use Rattle.ks_node.specs.Body.{Body, last_of, holds, led_to, go_to, next_at}
+use Rattle.ks_node.specs.Body.{Body, content_of, frame_of, is_branch, last_of, holds, led_to, go_to, next_at}
+use Rattle.ks_node.specs.Edges.{record_of}
+use Rattle.ks_node.specs.Sound.{Sound as InOrder}
+use Rattle.ks_node.specs.Ways.{here_stays}
 use Rattle.ks_flow.specs.Link.{Link, IsRange, IsLinkEdge, IsChildEdge}
 
 module _ (g : ℕ → NodeState) (f : ℕ → Frame) (facts : Link g f) where
@@ -63,3 +66,11 @@ bare_here b p none le = go b.starts none (holds b.range p) (nat_lt (last_of b.ra
     go [] e false true is = absurd (let q : ⊥ = cc in q)
     go [] e false false is = refl
     go (s ∷ ss) e h l is = absurd (omega (arith, e))
+
+-- a node above level 0 whose range reaches a place at its low or above is a branch, if others have no edge of their own
+pub branch_above : (g : ℕ → NodeState) (f : ℕ → Frame) (n p : ℕ) (b : Body) → Link g f → record_at g n ≡ Some (record_of b) → f n ≡ frame_of b → 0 < b.level → b.low ≤ p → IsPlace p → p ≤ last_of b.range → InOrder (content_of b) → (is_branch b ≡ false → length b.starts ≡ 0) → IsTrue (is_branch b)
+branch_above g f n p b facts is frame above low place within order bare = go (is_branch b) refl
+  where
+    go : (t : Bool) → is_branch b ≡ t → is_branch b ≡ true
+    go true e = e
+    go false e = absurd (here_stays b p order (bare_here b p (bare e) within) (facts.inside n (record_of b) p is (omega (arith, above, ap (λ (x : Frame). x.level) frame)) (omega (arith, low, ap (λ (x : Frame). x.low) frame)) place))

@@ -1,5 +1,5 @@
 -- How a search goes on its way.
-use Rattle.std.proofs.Common.{◌≡◌, ℕ, ◌<◌, ◌≤◌, false, List, [], ◌∷◌, length, sym, refl, ap, ◌∙◌, subst, inl, inr, arith}
+use Rattle.std.proofs.Common.{◌≡◌, ℕ, ◌<◌, ◌≤◌, true, false, List, [], ◌∷◌, length, sym, refl, ap, ◌∙◌, subst, inl, inr, arith}
 use Rattle.std.specs.Prelude.{◌⊎◌, Option, Some, None, All, max}
 use Rattle.std.specs.Option.{ForSome}
 use Rattle.ks_keysets.specs.declared.Edge.{Edge}
@@ -20,7 +20,7 @@ use Rattle.ks_flow.specs.Link.{IsRange, IsLinkEdge, IsChildEdge}
 use Rattle.ks_node.specs.Ways.{here_stays, stays_here, below_own}
 use Rattle.ks_arena.specs.declared.held.Held.{Held as Hand}
 use Rattle.ks_arena.specs.Sound.{Sort, blank_of}
-use Rattle.ks_arena.specs.Clauses.{HasTaken}
+use Rattle.ks_arena.specs.Clauses.{HasTaken, Matches}
 use Rattle.ks_arena.specs.Writes.{ends_at_no_branch, ends_below_own}
 use Rattle.ks_shape.specs.Single.{shown, record_is}
 use Rattle.ks_link.specs.Descent.{IsOnWay}
@@ -44,6 +44,18 @@ module _ {N : Type 0} (sort : Sort) (shows : N → Body) where
   root_arrives c p h k x empty took facts =
       let live : IsLive (graph_after k) 0 = (record_of (shows x.body), ap (λ (i : ℕ). record_at (graph_after k) i) (sym took.node) ∙ record_is sort shows k x took.live took.matches) in
       arrives c p 0 h k x empty took (omega (arith, root_low (graph_after k) (frames k) facts live))
+
+  -- a search ends at a node on level 0 whose range reaches the place
+  pub leaf_ends : (p : ℕ) (h : List Event) (x : Hand N) → x.live ≡ true → Matches sort shows h x → Link (graph_after h) (frames h) → p ≤ top → InOrder (content_of (shows x.body)) → (shows x.body).level ≡ 0 → p ≤ last_of (shows x.body).range → next_at (shows x.body) p ≡ Here
+  leaf_ends p h x live matches facts place order level within =
+      let is = record_is sort shows h x live matches in
+      let frame = (shown sort shows h x live matches).1 in
+      let range = facts.range x.node (record_of (shows x.body), is) in
+      let has : (shows x.body).range ≡ Some range.0 = sym (ap (λ (f : Frame). f.range) frame) ∙ range.1.is in
+      let last : last_of (shows x.body).range ≡ range.0.last = ap last_of has in
+      stays_here (shows x.body) p order place (λ on.
+      let edge : IsLinkEdge (frames h) x.node range.0 on.1 ⊎ IsChildEdge (frames h) x.node range.0 on.1 = subst (λ (e : Edge). IsLinkEdge (frames h) x.node range.0 e ⊎ IsChildEdge (frames h) x.node range.0 e) on.3 (facts.edges x.node (record_of (shows x.body)) range.0 is range.1 on.0 on.1 on.2) in
+      elim edge [ inl l ↦ omega (arith, l.begins, on.4.0, within, last) | inr d ↦ omega (arith, d.level, level, ap (λ (f : Frame). f.level) frame) ])
 
   -- where the search ends, the place is in the keyset of the node, which is no branch
   module _ (c p : ℕ) (h : List Event) (x : Hand N) (way : IsOnWay sort shows c p h x) (facts : Link (graph_after h) (frames h)) (place : p ≤ top) (order : InOrder (content_of (shows x.body))) (here : next_at (shows x.body) p ≡ Here) where
@@ -70,7 +82,10 @@ module _ {N : Type 0} (sort : Sort) (shows : N → Body) where
     pub ends_below : IsBelowOwn (shows x.body) p
     ends_below = let at = held_in (shows x.body).range (ap (λ (f : Frame). f.range) (shown sort shows h x way.live way.matches).1) in ends_below_own (shows x.body) p order at.0 at.1 here
 
-    at_level : (frames h x.node).level ≡ 0
+    pub ends_within : p ≤ last_of (shows x.body).range
+    ends_within = (held_in (shows x.body).range (ap (λ (f : Frame). f.range) (shown sort shows h x way.live way.matches).1)).1
+
+    pub at_level : (frames h x.node).level ≡ 0
     at_level = level_zero (graph_after h) (frames h) facts x.node p (record_of (shows x.body)) (record_is sort shows h x way.live way.matches) low_at place off
 
     -- no edge carries a place of its range

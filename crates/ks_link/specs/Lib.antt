@@ -1,3 +1,4 @@
 pub mod Descent
 pub mod Parts
 pub mod Puts
+pub mod Leads

@@ -4,7 +4,7 @@ use Rattle.std.specs.Option.{ForSome}
 use Rattle.ks_keysets.specs.Keyset.{IsLive as IsLiveIn}
 use Rattle.ks_history.specs.declared.Event.{Event}
 use Rattle.ks_history.specs.Trace.{hand, graph_after, frame_after}
-use Rattle.ks_history.specs.Due.{MayGrow, NoneFree}
+use Rattle.ks_history.specs.Due.{NoneFree}
 use Rattle.ks_node.specs.Body.{Body, last_of}
 use Rattle.ks_arena.specs.declared.held.Held.{Held as Hand}
 use Rattle.ks_arena.specs.Sound.{Sort, blank_of}
@@ -27,8 +27,7 @@ module _ {N : Type 0} (sort : Sort) (shows : N → Body) where
     pub live : x.live ≡ true
     pub matches : Matches sort shows h x
 
-  -- the full node x was parted, and c holds the half alone in which the place lies; or no node was found free, if x is
-  -- not the root or may grow for the place
+  -- the full node x was parted, and c holds the half alone in which the place lies; or no node was found free
   abbrev pub IsParted : ℕ → ℕ → ℕ → List Event → List Event → Hand N → Result (Parted N) (Hand N) → Type 0
   IsParted n c place h k x (Ok p) =
       IsOnWay sort shows c place k p.half
@@ -38,4 +37,4 @@ module _ {N : Type 0} (sort : Sort) (shows : N → Body) where
   IsParted n c place h k x (Err y) =
       (y ≡ x)
       × IsAlone c k x
-      × ((x.node ≡ 0 → MayGrow sort.layout (graph_after h) x.node place) → NoneFree sort.layout n c place h k)
+      × NoneFree sort.layout n c place h k

@@ -1,14 +1,14 @@
 //! How a node that was split off gets an edge one level above it, after the call that split it off has been decided.
-ghost use Rattle.std.specs.Prelude.{◌≡◌, ◌+◌, ◌<◌, ◌≤◌, ◌↔◌, All, IsTrue, false, []};
+ghost use Rattle.std.specs.Prelude.{ℕ, ◌≡◌, ◌+◌, ◌<◌, ◌≤◌, ◌↔◌, ◌⊎◌, All, IsTrue, false, []};
 ghost use Rattle.std.specs.Option.{ForSome};
 ghost use Rattle.ks_flow.specs.Discipline.{BeginsLink, LinkStep};
-ghost use Rattle.ks_flow.specs.Link.{IsLed};
-ghost use Rattle.ks_history.specs.Trace.{frame_after, graph_after};
 ghost use Rattle.ks_node.specs.Room.{is_full};
-ghost use Rattle.ks_node.specs.Asks.{IsCut};
-ghost use Rattle.ks_node.specs.Body.{content_of, is_branch, last_of};
-ghost use Rattle.ks_arena.specs.Sound.{blank_of, sort_of};
+ghost use Rattle.ks_node.specs.Body.{is_branch, last_of};
+ghost use Rattle.ks_arena.specs.Sound.{sort_of};
 ghost use Rattle.ks_arena.specs.Clauses.{IsPass, hand_of, seen_of};
+ghost use Rattle.ks_history.specs.Alone.{ActsAlone};
+ghost use Rattle.ks_shape.specs.Makes.{MakesNone, TwoFree};
+ghost use Rattle.ks_link.specs.Leads.{CanLead, IsLedAfter, LedBut, Waits, waits_if};
 ghost use Rattle.ks_link.specs.Descent.{IsOnWay};
 ghost use Rattle.ks_link.specs.Parts.{IsAlone, IsParted, IsSplitOff};
 ghost use Rattle.ks_history.specs.Done.{link_move};
@@ -27,11 +27,19 @@ use std::sync::Wait;
 
 /// Whether an edge from the cut on can be added to a branch.
 fn can_lead<N: Linked>(node: &N, cut: u64) -> bool
-    ensures { IsTrue result ↔ (IsTrue (is_branch (N.body node.now)) × IsCut (N.body node.now) cut × IsTrue (N.can_adopt_at (content_of (N.body node.now)) cut)) }
+    ensures { IsTrue result ↔ CanLead N.can_adopt_at (N.body node.now) cut }
 {
     node_law(node);
     let range = node.range();
     node.is_branch() && range.low < cut && cut <= range.last && node.can_adopt(cut)
+}
+
+/// Whether a node is a full branch to which no edge from the cut on can be added.
+fn must_part<N: Linked>(node: &N, cut: u64) -> bool
+    ensures full { IsTrue result → IsTrue (is_branch (N.body node.now)) × IsTrue (is_full N.layout (N.body node.now)) }
+    ensures room { result ≡ false → IsTrue (is_branch (N.body node.now)) → CanLead N.can_adopt_at (N.body node.now) cut ⊎ (is_full N.layout (N.body node.now) ≡ false) }
+{
+    !can_lead(node, cut) && node.is_branch() && node.is_full()
 }
 
 /// Goes on from a node above the level to one above it that is nearer to the cut: a child, or the node right of it.
@@ -53,6 +61,7 @@ fn go_nearer<N: Linked, R: Wait, G: Gate>(
     ensures way { IsOnWay (sort_of N.layout N.ranged) N.body pass.old.caller cut (seen_of pass.new) result }
     ensures above { level < (N.body result.body).level }
     ensures stretch { Stretch link_move pass.old.caller (seen_of pass.old) (seen_of pass.new) }
+    ensures makes { MakesNone pass.old.caller (seen_of pass.old) (seen_of pass.new) }
 {
     sound_law::<Link>();
     node_law(&held.body);
@@ -78,6 +87,7 @@ fn find_above<N: Linked, R: Wait, G: Gate>(
     ensures level { (N.body result.body).level ≡ to.level + 1 }
     ensures within { to.cut ≤ last_of (N.body result.body).range }
     ensures stretch { Stretch link_move pass.old.caller (seen_of pass.old) (seen_of pass.new) }
+    ensures makes { MakesNone pass.old.caller (seen_of pass.old) (seen_of pass.new) }
 {
     sound_law::<Link>();
     let mut held = enter(rt, arena, pass, gate, to.cut);
@@ -101,13 +111,20 @@ fn ready<N: Linked, G: Gate>(
 ) -> Parted<N>
     requires pass { IsPass (sort_of N.layout N.ranged) BeginsLink LinkStep arena.now.table.shared.table_id arena.now.callers pass.old }
     requires way { IsOnWay (sort_of N.layout N.ranged) N.body pass.old.caller cut (seen_of pass.old) held }
+    requires above { 0 < (N.body held.body).level }
+    requires within { cut ≤ last_of (N.body held.body).range }
     ensures pass { IsPass (sort_of N.layout N.ranged) BeginsLink LinkStep arena.now.table.shared.table_id arena.now.callers pass.new }
     ensures caller { pass.new.caller ≡ pass.old.caller }
     ensures parted { IsParted (sort_of N.layout N.ranged) N.body arena.now.nodes pass.old.caller cut (seen_of pass.old) (seen_of pass.new) held (Ok result) }
     ensures stretch { Stretch link_move pass.old.caller (seen_of pass.old) (seen_of pass.new) }
+    ensures led { ActsAlone pass.old.caller (seen_of pass.old) (seen_of pass.new) → LedBut (sort_of N.layout N.ranged) (waits_if result.new) (seen_of pass.old) (seen_of pass.new) }
+    ensures ready { IsTrue N.branches_adopt → IsTrue N.halves_have_room → ActsAlone pass.old.caller (seen_of pass.old) (seen_of pass.new) → TwoFree arena.now.nodes (seen_of pass.new)
+        → CanLead N.can_adopt_at (N.body result.half.body) cut ⊎ (is_full N.layout (N.body result.half.body) ≡ false) }
 {
+    sound_law::<Link>();
     linked_law::<N>();
-    if can_lead(&held.body, cut) || !held.body.is_branch() || !held.body.is_full() {
+    node_law(&held.body);
+    if !must_part(&held.body, cut) {
         return Parted {
             half: held,
             new: None,
@@ -122,8 +139,8 @@ fn ready<N: Linked, G: Gate>(
     }
 }
 
-/// Adds an edge to what was split off to the node in hand, if it can be added. Where the node is not full, and branches of
-/// its type adopt, what was split off is then led to.
+/// Adds an edge to what was split off to the node in hand, if it can be added. Where it can, or the node is not full and
+/// branches of its type adopt, what was split off is then led to.
 fn lead<N: Linked>(
     arena: &Arena<N, Link>,
     pass: &mut Pass<N, Link>,
@@ -139,8 +156,10 @@ fn lead<N: Linked>(
     ensures pass { IsPass (sort_of N.layout N.ranged) BeginsLink LinkStep arena.now.table.shared.table_id arena.now.callers pass.new }
     ensures caller { pass.new.caller ≡ pass.old.caller }
     ensures held { IsAlone (sort_of N.layout N.ranged) N.body pass.old.caller (seen_of pass.new) held.new }
-    ensures led { IsTrue N.branches_adopt → is_full N.layout (N.body held.old.body) ≡ false → IsLed (graph_after (seen_of pass.new)) (frame_after (blank_of (sort_of N.layout N.ranged)) (seen_of pass.new)) to.node }
+    ensures led { IsTrue N.branches_adopt → CanLead N.can_adopt_at (N.body held.old.body) to.cut ⊎ (is_full N.layout (N.body held.old.body) ≡ false)
+        → IsLedAfter (sort_of N.layout N.ranged) (seen_of pass.new) to.node }
     ensures stretch { Stretch link_move pass.old.caller (seen_of pass.old) (seen_of pass.new) }
+    ensures makes { MakesNone pass.old.caller (seen_of pass.old) (seen_of pass.new) }
 {
     sound_law::<Link>();
     link_leads_law();
@@ -165,6 +184,9 @@ fn attach_one<N: Linked, R: Wait, G: Gate>(
     ensures caller { pass.new.caller ≡ pass.old.caller }
     ensures off { ForSome result (λ w. IsSplitOff (sort_of N.layout N.ranged) (seen_of pass.new) w) }
     ensures stretch { Stretch link_move pass.old.caller (seen_of pass.old) (seen_of pass.new) }
+    ensures led { ActsAlone pass.old.caller (seen_of pass.old) (seen_of pass.new) → LedBut (sort_of N.layout N.ranged) (waits_if result) (seen_of pass.old) (seen_of pass.new) }
+    ensures leads { IsTrue N.branches_adopt → IsTrue N.halves_have_room → ActsAlone pass.old.caller (seen_of pass.old) (seen_of pass.new) → TwoFree arena.now.nodes (seen_of pass.new)
+        → IsLedAfter (sort_of N.layout N.ranged) (seen_of pass.new) to.node }
 {
     sound_law::<Link>();
     let held = find_above(rt, arena, pass, gate, to);
@@ -189,7 +211,10 @@ fn attach_on<N: Linked, R: Wait, G: Gate>(
     ensures pass { IsPass (sort_of N.layout N.ranged) BeginsLink LinkStep arena.now.table.shared.table_id arena.now.callers pass.new × (hand_of pass.new ≡ []) }
     ensures caller { pass.new.caller ≡ pass.old.caller }
     ensures stretch { Stretch link_move pass.old.caller (seen_of pass.old) (seen_of pass.new) }
+    ensures leads { IsTrue N.branches_adopt → IsTrue N.halves_have_room → ActsAlone pass.old.caller (seen_of pass.old) (seen_of pass.new) → TwoFree arena.now.nodes (seen_of pass.new)
+        → IsLedAfter (sort_of N.layout N.ranged) (seen_of pass.new) to.node × LedBut (sort_of N.layout N.ranged) [] (seen_of pass.old) (seen_of pass.new) }
 {
+    sound_law::<Link>();
     for _ in rt.forever() {
         match attach_one(rt, arena, pass, gate, to) {
             Some(next) => to = next,
@@ -212,6 +237,8 @@ pub(crate) fn attach_all<N: Linked, R: Wait, G: Gate>(
     ensures pass { IsPass (sort_of N.layout N.ranged) BeginsLink LinkStep arena.now.table.shared.table_id arena.now.callers pass.new × (hand_of pass.new ≡ []) }
     ensures caller { pass.new.caller ≡ pass.old.caller }
     ensures stretch { Stretch link_move pass.old.caller (seen_of pass.old) (seen_of pass.new) }
+    ensures leads { IsTrue N.branches_adopt → IsTrue N.halves_have_room → ActsAlone pass.old.caller (seen_of pass.old) (seen_of pass.new) → TwoFree arena.now.nodes (seen_of pass.new)
+        → ((i : ℕ) → Waits waiting.now i → IsLedAfter (sort_of N.layout N.ranged) (seen_of pass.new) i) × LedBut (sort_of N.layout N.ranged) [] (seen_of pass.old) (seen_of pass.new) }
 {
     sound_law::<Link>();
     for to in waiting {

@@ -9,6 +9,7 @@ ghost use Rattle.ks_node.specs.declared.start.Next.TheVariants.{Go, Here};
 ghost use Rattle.ks_node.specs.Body.{next_at};
 ghost use Rattle.ks_arena.specs.Sound.{sort_of};
 ghost use Rattle.ks_arena.specs.Clauses.{IsPass, hand_of, seen_of};
+ghost use Rattle.ks_shape.specs.Makes.{MakesNone};
 ghost use Rattle.ks_link.specs.Descent.{IsOnWay};
 
 use ks_arena::laws::{link_live_law, root_stays_law, sound_law};
@@ -32,6 +33,7 @@ pub(crate) fn enter<N: Linked, R: Wait, G: Gate>(
     ensures way { IsOnWay (sort_of N.layout N.ranged) N.body pass.old.caller place (seen_of pass.new) result }
     ensures root { result.node ≡ 0 }
     ensures under { (op : Operation) → Underway link_move pass.old.caller op (seen_of pass.old) (seen_of pass.new) }
+    ensures makes { MakesNone pass.old.caller (seen_of pass.old) (seen_of pass.new) }
 {
     root_stays_law::<Link>();
     sound_law::<Link>();
@@ -60,6 +62,7 @@ pub(crate) fn go_on<N: Linked, R: Wait, G: Gate>(
     ensures node { result.node ≡ next }
     ensures way { IsOnWay (sort_of N.layout N.ranged) N.body pass.old.caller place (seen_of pass.new) result }
     ensures under { (op : Operation) (start : List Happening) → Underway link_move pass.old.caller op start (seen_of pass.old) → Underway link_move pass.old.caller op start (seen_of pass.new) }
+    ensures makes { MakesNone pass.old.caller (seen_of pass.old) (seen_of pass.new) }
 {
     sound_law::<Link>();
     link_live_law();
@@ -72,32 +75,6 @@ pub(crate) fn go_on<N: Linked, R: Wait, G: Gate>(
     };
     gate.at(pass.caller(), Point::Taken(next));
     taken
-}
-
-/// Goes on from a node on the way to the one at which the search ends, and holds it alone.
-pub(crate) fn find_from<N: Linked, R: Wait, G: Gate>(
-    rt: &R,
-    arena: &Arena<N, Link>,
-    pass: &mut Pass<N, Link>,
-    gate: &G,
-    place: u64,
-    mut held: Held<N>,
-) -> Held<N>
-    requires pass { IsPass (sort_of N.layout N.ranged) BeginsLink LinkStep arena.now.table.shared.table_id arena.now.callers pass.old }
-    requires way { IsOnWay (sort_of N.layout N.ranged) N.body pass.old.caller place (seen_of pass.old) held }
-    ensures pass { IsPass (sort_of N.layout N.ranged) BeginsLink LinkStep arena.now.table.shared.table_id arena.now.callers pass.new }
-    ensures caller { pass.new.caller ≡ pass.old.caller }
-    ensures way { IsOnWay (sort_of N.layout N.ranged) N.body pass.old.caller place (seen_of pass.new) result }
-    ensures ends { next_at (N.body result.body) place ≡ Here }
-    ensures under { (op : Operation) (start : List Happening) → Underway link_move pass.old.caller op start (seen_of pass.old) → Underway link_move pass.old.caller op start (seen_of pass.new) }
-{
-    for _ in rt.forever() {
-        match held.body.next(place) {
-            Next::Here => return held,
-            Next::Go(next) => held = go_on(rt, arena, pass, gate, place, held, next),
-        }
-    }
-    unreachable!()
 }
 
 /// Takes the node at which the search for a place ends, and holds it alone.
@@ -114,8 +91,15 @@ pub(crate) fn find<N: Linked, R: Wait, G: Gate>(
     ensures way { IsOnWay (sort_of N.layout N.ranged) N.body pass.old.caller place (seen_of pass.new) result }
     ensures ends { next_at (N.body result.body) place ≡ Here }
     ensures under { (op : Operation) → Underway link_move pass.old.caller op (seen_of pass.old) (seen_of pass.new) }
+    ensures makes { MakesNone pass.old.caller (seen_of pass.old) (seen_of pass.new) }
 {
     gate.at(pass.caller(), Point::Begin);
-    let held = enter(rt, arena, pass, gate, place);
-    find_from(rt, arena, pass, gate, place, held)
+    let mut held = enter(rt, arena, pass, gate, place);
+    for _ in rt.forever() {
+        match held.body.next(place) {
+            Next::Here => return held,
+            Next::Go(next) => held = go_on(rt, arena, pass, gate, place, held, next),
+        }
+    }
+    unreachable!()
 }

@@ -6,6 +6,9 @@ ghost use Rattle.ks_node.specs.Room.{is_full};
 ghost use Rattle.ks_arena.specs.Sound.{sort_of};
 ghost use Rattle.ks_arena.specs.Clauses.{IsPass, hand_of, seen_of};
 ghost use Rattle.ks_shape.specs.InHand.{IsLive, IsFree};
+ghost use Rattle.ks_history.specs.Alone.{ActsAlone};
+ghost use Rattle.ks_shape.specs.Makes.{MakesNone};
+ghost use Rattle.ks_link.specs.Leads.{HalfHasRoom, PartsLed};
 ghost use Rattle.ks_link.specs.Descent.{IsOnWay};
 ghost use Rattle.ks_link.specs.Parts.{IsParted, IsSplitOff};
 ghost use Rattle.ks_history.specs.Done.{link_move};
@@ -55,6 +58,7 @@ fn keep_half<N: Linked, G: Gate>(
     ensures way { IsOnWay (sort_of N.layout N.ranged) N.body pass.old.caller place (seen_of pass.new) result }
     ensures half { ((result ≡ left) × (place < cut)) ⊎ (result ≡ right) }
     ensures stretch { Stretch link_move pass.old.caller (seen_of pass.old) (seen_of pass.new) }
+    ensures makes { MakesNone pass.old.caller (seen_of pass.old) (seen_of pass.new) }
 {
     if place < cut {
         let node = right.node;
@@ -89,6 +93,8 @@ fn split<N: Linked, G: Gate>(
     ensures caller { pass.new.caller ≡ pass.old.caller }
     ensures parted { IsParted (sort_of N.layout N.ranged) N.body arena.now.nodes pass.old.caller place (seen_of pass.old) (seen_of pass.new) held (Ok result) }
     ensures stretch { Stretch link_move pass.old.caller (seen_of pass.old) (seen_of pass.new) }
+    ensures led { ActsAlone pass.old.caller (seen_of pass.old) (seen_of pass.new) → PartsLed (sort_of N.layout N.ranged) (seen_of pass.old) (seen_of pass.new) (Ok result) }
+    ensures room { IsTrue N.halves_have_room → HalfHasRoom N.layout N.body (Ok result) }
 {
     sound_law::<Link>();
     link_asks_law();
@@ -131,6 +137,8 @@ fn grow<N: Linked, G: Gate>(
     ensures caller { pass.new.caller ≡ pass.old.caller }
     ensures parted { IsParted (sort_of N.layout N.ranged) N.body arena.now.nodes pass.old.caller place (seen_of pass.old) (seen_of pass.new) root (Ok result) }
     ensures stretch { Stretch link_move pass.old.caller (seen_of pass.old) (seen_of pass.new) }
+    ensures led { ActsAlone pass.old.caller (seen_of pass.old) (seen_of pass.new) → PartsLed (sort_of N.layout N.ranged) (seen_of pass.old) (seen_of pass.new) (Ok result) }
+    ensures room { IsTrue N.halves_have_room → HalfHasRoom N.layout N.body (Ok result) }
 {
     sound_law::<Link>();
     link_asks_law();
@@ -165,8 +173,13 @@ pub(crate) fn part<N: Linked, G: Gate>(
     ensures caller { pass.new.caller ≡ pass.old.caller }
     ensures parted { IsParted (sort_of N.layout N.ranged) N.body arena.now.nodes pass.old.caller place (seen_of pass.old) (seen_of pass.new) held result }
     ensures stretch { Stretch link_move pass.old.caller (seen_of pass.old) (seen_of pass.new) }
+    ensures led { ActsAlone pass.old.caller (seen_of pass.old) (seen_of pass.new) → PartsLed (sort_of N.layout N.ranged) (seen_of pass.old) (seen_of pass.new) result }
+    ensures room { IsTrue N.halves_have_room → HalfHasRoom N.layout N.body result }
 {
     sound_law::<Link>();
+    link_asks_law();
+    linked_law::<N>();
+    node_law(&held.body);
     if held.node == 0 {
         match claim_two(arena, pass, gate) {
             None => Err(held),

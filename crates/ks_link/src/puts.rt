@@ -16,13 +16,16 @@ ghost use Rattle.ks_node.specs.Room.{is_full};
 ghost use Rattle.ks_arena.specs.Sound.{sort_of};
 ghost use Rattle.ks_arena.specs.Clauses.{IsPass, hand_of, seen_of};
 ghost use Rattle.ks_shape.specs.Answers.{number_in, reply_in};
+ghost use Rattle.ks_history.specs.Alone.{ActsAlone};
+ghost use Rattle.ks_shape.specs.Makes.{MakesNone, TwoFree};
+ghost use Rattle.ks_link.specs.Leads.{AreLed, HasRoom, LedBut};
 ghost use Rattle.ks_link.specs.Descent.{IsOnWay};
 ghost use Rattle.ks_link.specs.Parts.{IsSplitOff};
 ghost use Rattle.ks_link.specs.Puts.{FoundRoom, MadeRoom, WaitsFor};
 ghost use Rattle.ks_history.specs.Stretch.{Stretch};
 
 use crate::attaches::attach_all;
-use crate::descent::{find, find_from};
+use crate::descent::find;
 use crate::parts::{Parted, Waiting, part};
 use arrayvec::ArrayVec;
 use ks_arena::laws::sound_law;
@@ -50,6 +53,7 @@ fn write<N: Linked, G: Gate>(
     ensures pass { IsPass (sort_of N.layout N.ranged) BeginsLink LinkStep arena.now.table.shared.table_id arena.now.callers pass.new × (hand_of pass.new ≡ []) }
     ensures caller { pass.new.caller ≡ pass.old.caller }
     ensures begins { seen_of pass.old ⊑ seen_of pass.new }
+    ensures makes { MakesNone pass.old.caller (seen_of pass.old) (seen_of pass.new) }
     ensures done { (start : List Happening) → Underway link_move pass.old.caller (Put place value) start (seen_of pass.old) → Done N.layout link_move arena.now.nodes pass.old.caller (Put place value) start (seen_of pass.new) (told result.found) result.number }
 {
     sound_law::<Link>();
@@ -83,6 +87,7 @@ fn write_new<N: Linked, G: Gate>(
     ensures pass { IsPass (sort_of N.layout N.ranged) BeginsLink LinkStep arena.now.table.shared.table_id arena.now.callers pass.new × (hand_of pass.new ≡ []) }
     ensures caller { pass.new.caller ≡ pass.old.caller }
     ensures begins { seen_of pass.old ⊑ seen_of pass.new }
+    ensures makes { MakesNone pass.old.caller (seen_of pass.old) (seen_of pass.new) }
     ensures done { (start : List Happening) → Underway link_move pass.old.caller (Add place value) start (seen_of pass.old) → Done N.layout link_move arena.now.nodes pass.old.caller (Add place value) start (seen_of pass.new) (told result.found) result.number }
 {
     sound_law::<Link>();
@@ -141,6 +146,7 @@ fn turn_away<N: Linked, G: Gate>(
     ensures pass { IsPass (sort_of N.layout N.ranged) BeginsLink LinkStep arena.now.table.shared.table_id arena.now.callers pass.new × (hand_of pass.new ≡ []) }
     ensures caller { pass.new.caller ≡ pass.old.caller }
     ensures begins { seen_of pass.old ⊑ seen_of pass.new }
+    ensures makes { MakesNone pass.old.caller (seen_of pass.old) (seen_of pass.new) }
     ensures done { (start : List Happening) → NoneFree N.layout arena.now.nodes pass.old.caller place start (seen_of pass.old) → Underway link_move pass.old.caller op start (seen_of pass.old) → Done N.layout link_move arena.now.nodes pass.old.caller op start (seen_of pass.new) full_reply result.number }
 {
     sound_law::<Link>();
@@ -158,10 +164,9 @@ fn wait_for(waiting: &mut ArrayVec<Waiting, 7>, new: Option<Waiting>)
     }
 }
 
-/// Parts the full node at which the search ends, and goes on to the one at which it ends then. `Err`: the node is as it
-/// was, since none was found free. What is split off waits, where there is room for it.
-fn make_room<N: Linked, R: Wait, G: Gate>(
-    rt: &R,
+/// Parts the full node at which the search ends, and keeps the half at which it ends then. `Err`: the node is as it was,
+/// since none was found free. What is split off waits, where there is room for it.
+fn make_room<N: Linked, G: Gate>(
     arena: &Arena<N, Link>,
     pass: &mut Pass<N, Link>,
     gate: &G,
@@ -179,14 +184,17 @@ fn make_room<N: Linked, R: Wait, G: Gate>(
     ensures made { MadeRoom (sort_of N.layout N.ranged) N.body arena.now.nodes pass.old.caller place (seen_of pass.old) (seen_of pass.new) held result }
     ensures waiting { All (λ w. IsSplitOff (sort_of N.layout N.ranged) (seen_of pass.new) w) waiting.new.items }
     ensures stretch { Stretch link_move pass.old.caller (seen_of pass.old) (seen_of pass.new) }
+    ensures led { waiting.old.items ≡ [] → ActsAlone pass.old.caller (seen_of pass.old) (seen_of pass.new) → LedBut (sort_of N.layout N.ranged) waiting.new.items (seen_of pass.old) (seen_of pass.new) }
+    ensures room { IsTrue N.halves_have_room → HasRoom N.layout N.body result }
 {
     sound_law::<Link>();
     linked_law::<N>();
     node_law(&held.body);
     match part(arena, pass, gate, place, held) {
         Ok(Parted { half, new }) => {
+            node_law(&half.body);
             wait_for(waiting, new);
-            Ok(find_from(rt, arena, pass, gate, place, half))
+            Ok(half)
         }
         Err(held) => Err(held),
     }
@@ -209,6 +217,7 @@ fn find_room<N: Linked, R: Wait, G: Gate>(
     ensures found { FoundRoom (sort_of N.layout N.ranged) N.body arena.now.nodes pass.old.caller place (seen_of pass.old) (seen_of pass.new) result }
     ensures waiting { All (λ w. IsSplitOff (sort_of N.layout N.ranged) (seen_of pass.new) w) waiting.new.items }
     ensures stretch { Stretch link_move pass.old.caller (seen_of pass.old) (seen_of pass.new) }
+    ensures led { IsTrue N.halves_have_room → ActsAlone pass.old.caller (seen_of pass.old) (seen_of pass.new) → LedBut (sort_of N.layout N.ranged) waiting.new.items (seen_of pass.old) (seen_of pass.new) }
 {
     sound_law::<Link>();
     let mut held = find(rt, arena, pass, gate, place);
@@ -216,7 +225,7 @@ fn find_room<N: Linked, R: Wait, G: Gate>(
         if !held.body.is_full() || held.body.get(place).is_some() {
             return Ok(held);
         }
-        match make_room(rt, arena, pass, gate, place, held, waiting) {
+        match make_room(arena, pass, gate, place, held, waiting) {
             Ok(next) => held = next,
             Err(held) => return Err(held),
         }
@@ -243,6 +252,8 @@ pub fn put<N: Linked, R: Wait, G: Gate>(
     ensures pass { IsPass (sort_of N.layout N.ranged) BeginsLink LinkStep arena.now.table.shared.table_id arena.now.callers pass.new × (hand_of pass.new ≡ []) }
     ensures caller { pass.new.caller ≡ pass.old.caller }
     ensures done { Done N.layout link_move arena.now.nodes pass.old.caller (Put place value) (seen_of pass.old) (seen_of pass.new) (reply_in result) (number_in result) }
+    ensures led { IsTrue N.branches_adopt → IsTrue N.halves_have_room → ActsAlone pass.old.caller (seen_of pass.old) (seen_of pass.new) → TwoFree arena.now.nodes (seen_of pass.new)
+        → AreLed (sort_of N.layout N.ranged) (seen_of pass.old) (seen_of pass.new) }
 {
     sound_law::<Link>();
     let mut waiting = ArrayVec::new();
@@ -278,6 +289,8 @@ pub fn add<N: Linked, R: Wait, G: Gate>(
     ensures pass { IsPass (sort_of N.layout N.ranged) BeginsLink LinkStep arena.now.table.shared.table_id arena.now.callers pass.new × (hand_of pass.new ≡ []) }
     ensures caller { pass.new.caller ≡ pass.old.caller }
     ensures done { Done N.layout link_move arena.now.nodes pass.old.caller (Add place value) (seen_of pass.old) (seen_of pass.new) (reply_in result) (number_in result) }
+    ensures led { IsTrue N.branches_adopt → IsTrue N.halves_have_room → ActsAlone pass.old.caller (seen_of pass.old) (seen_of pass.new) → TwoFree arena.now.nodes (seen_of pass.new)
+        → AreLed (sort_of N.layout N.ranged) (seen_of pass.old) (seen_of pass.new) }
 {
     sound_law::<Link>();
     let mut waiting = ArrayVec::new();

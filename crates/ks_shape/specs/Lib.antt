@@ -6,3 +6,4 @@ pub mod Idle
 pub mod Beside
 pub mod Stretches
 pub mod Claims
+pub mod Makes

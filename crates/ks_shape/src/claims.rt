@@ -4,6 +4,7 @@ ghost use Rattle.ks_flow.specs.Discipline.{SameKeyset};
 ghost use Rattle.ks_arena.specs.Sound.{sort_of};
 ghost use Rattle.ks_arena.specs.Clauses.{IsPass, hand_of, seen_of, Kept, StillMatch};
 ghost use Rattle.ks_shape.specs.Beside.{KeepsBeside};
+ghost use Rattle.ks_shape.specs.Makes.{MakesNone};
 ghost use Rattle.ks_shape.specs.Claims.{DidClaimOne, DidClaimTwo};
 ghost use Rattle.ks_shape.specs.Stretches.{Stretches};
 
@@ -25,6 +26,7 @@ pub fn claim_one<N: Node, D: Discipline, G: Gate>(
     ensures caller { pass.new.caller ≡ pass.old.caller }
     ensures claimed { DidClaimOne (sort_of N.layout N.ranged) N.body arena.now.nodes pass.old.caller (seen_of pass.old) (seen_of pass.new) result }
     ensures stretch { Stretches pass.old.caller (seen_of pass.old) (seen_of pass.new) }
+    ensures makes { MakesNone pass.old.caller (seen_of pass.old) (seen_of pass.new) }
     ensures beside { KeepsBeside D.beside pass.old.caller (seen_of pass.old) (seen_of pass.new) }
     ensures keysets { KeepsBeside SameKeyset pass.old.caller (seen_of pass.old) (seen_of pass.new) }
     ensures kept { Kept pass.old.caller (seen_of pass.old) (seen_of pass.new) }
@@ -52,6 +54,7 @@ pub fn claim_two<N: Node, D: Discipline, G: Gate>(
     ensures caller { pass.new.caller ≡ pass.old.caller }
     ensures claimed { DidClaimTwo (sort_of N.layout N.ranged) N.body arena.now.nodes pass.old.caller (seen_of pass.old) (seen_of pass.new) result }
     ensures stretch { Stretches pass.old.caller (seen_of pass.old) (seen_of pass.new) }
+    ensures makes { MakesNone pass.old.caller (seen_of pass.old) (seen_of pass.new) }
     ensures beside { KeepsBeside D.beside pass.old.caller (seen_of pass.old) (seen_of pass.new) }
     ensures keysets { KeepsBeside SameKeyset pass.old.caller (seen_of pass.old) (seen_of pass.new) }
     ensures kept { Kept pass.old.caller (seen_of pass.old) (seen_of pass.new) }

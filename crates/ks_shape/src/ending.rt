@@ -11,6 +11,7 @@ ghost use Rattle.ks_history.specs.Underway.{Underway};
 ghost use Rattle.ks_node.specs.Body.{frame_of};
 ghost use Rattle.ks_arena.specs.Sound.{blank_of, sort_of};
 ghost use Rattle.ks_arena.specs.Clauses.{IsPass, IsReady, hand_of, seen_of};
+ghost use Rattle.ks_shape.specs.Makes.{MakesNone};
 
 use crate::answers::Full;
 use ks_arena::laws::sound_law;
@@ -47,6 +48,7 @@ fn decide_here<N: Node, D: Discipline, G: Gate>(
     ensures pass { IsPass (sort_of N.layout N.ranged) D.begins D.step arena.now.table.shared.table_id arena.now.callers pass.new × (hand_of pass.new ≡ []) }
     ensures caller { pass.new.caller ≡ pass.old.caller }
     ensures begins { seen_of pass.old ⊑ seen_of pass.new }
+    ensures makes { MakesNone pass.old.caller (seen_of pass.old) (seen_of pass.new) }
     ensures done { (template : Template) (start : List Happening) → (reply ≡ full_reply → (place : ℕ) × Touches op place × NoneFree N.layout arena.now.nodes pass.old.caller place start (seen_of pass.old)) →
         Underway template pass.old.caller op start (seen_of pass.old) → DoneAt N.layout template arena.now.nodes pass.old.caller op start (seen_of pass.new) reply result held.node (blank_of (sort_of N.layout N.ranged)) (frame_of (N.body held.body)) }
 {
@@ -74,6 +76,7 @@ pub fn conclude<N: Node, D: Discipline, G: Gate>(
     requires some { reply ≢ full_reply }
     ensures pass { IsPass (sort_of N.layout N.ranged) D.begins D.step arena.now.table.shared.table_id arena.now.callers pass.new × (hand_of pass.new ≡ []) }
     ensures caller { pass.new.caller ≡ pass.old.caller }
+    ensures makes { MakesNone pass.old.caller (seen_of pass.old) (seen_of pass.new) }
     ensures done { (template : Template) (start : List Happening) → Underway template pass.old.caller op start (seen_of pass.old) → Done N.layout template arena.now.nodes pass.old.caller op start (seen_of pass.new) reply result }
     ensures at { (template : Template) (start : List Happening) → Underway template pass.old.caller op start (seen_of pass.old) → DoneAt N.layout template arena.now.nodes pass.old.caller op start (seen_of pass.new) reply result held.node (blank_of (sort_of N.layout N.ranged)) (frame_of (N.body held.body)) }
 {
@@ -95,6 +98,7 @@ pub fn refuse<N: Node, D: Discipline, G: Gate>(
     ensures pass { IsPass (sort_of N.layout N.ranged) D.begins D.step arena.now.table.shared.table_id arena.now.callers pass.new × (hand_of pass.new ≡ []) }
     ensures caller { pass.new.caller ≡ pass.old.caller }
     ensures begins { seen_of pass.old ⊑ seen_of pass.new }
+    ensures makes { MakesNone pass.old.caller (seen_of pass.old) (seen_of pass.new) }
     ensures done { (template : Template) (start : List Happening) (place : ℕ) → Touches op place → NoneFree N.layout arena.now.nodes pass.old.caller place start (seen_of pass.old) →
         Underway template pass.old.caller op start (seen_of pass.old) → DoneAt N.layout template arena.now.nodes pass.old.caller op start (seen_of pass.new) full_reply result.number held.node (blank_of (sort_of N.layout N.ranged)) (frame_of (N.body held.body)) }
 {

@@ -1,8 +1,11 @@
-use Rattle.std.proofs.Common.{◌≡◌, []}
-use Rattle.std.specs.Prelude.{All}
+use Rattle.std.proofs.Common.{◌≡◌, ℕ, ◌<◌, []}
+use Rattle.std.specs.Prelude.{All, IsTrue, slice_index_or}
+use Rattle.ks_history.specs.Alone.{ActsAlone}
 use Rattle.ks_flow.specs.Discipline.{BeginsLink, LinkStep}
 use Rattle.ks_arena.specs.Sound.{sort_of}
 use Rattle.ks_arena.specs.Clauses.{IsPass, hand_of, seen_of}
+use Rattle.ks_shape.specs.Makes.{TwoFree}
+use Rattle.ks_link.specs.Leads.{IsLedAfter, LedBut}
 use Rattle.ks_link.specs.Parts.{IsSplitOff}
 use Rattle.ks_history.specs.Done.{link_move}
 use Rattle.ks_history.specs.Stretch.{Stretch}
@@ -15,3 +18,4 @@ invariant-loop-to g l =
     × (l.pass.caller ≡ l.fn.pass.caller)
     × All (λ w. IsSplitOff (sort_of g.N.Node.layout g.N.Node.ranged) (seen_of l.pass) w) l.waiting
     × Stretch link_move l.pass.caller (seen_of l.fn.pass) (seen_of l.pass)
+    × (IsTrue g.N.Node.branches_adopt → IsTrue g.N.Node.halves_have_room → ActsAlone l.pass.caller (seen_of l.fn.pass) (seen_of l.pass) → TwoFree l.arena.nodes (seen_of l.pass) → LedBut (sort_of g.N.Node.layout g.N.Node.ranged) [] (seen_of l.fn.pass) (seen_of l.pass) × ((j : ℕ) → j < l.to-index → IsLedAfter (sort_of g.N.Node.layout g.N.Node.ranged) (seen_of l.pass) (slice_index_or l.waiting j record { cut = 0; node = 0; level = 0 }).node))

@@ -1,12 +1,22 @@
-use Rattle.std.proofs.Common.{◌≡◌, ℕ, [], ◌∷◌, ap, ◌∙◌, length, subst, arith}
+use Rattle.std.proofs.Common.{◌≡◌, ℕ, List, [], ◌∷◌, inl, sym, ap, ◌∙◌, length, subst, arith}
+use Rattle.ks_flow.specs.Discipline.{BeginsLink, LinkStep}
+use Rattle.ks_history.specs.declared.Event.{Event}
 use Rattle.ks_history.specs.declared.Event.TheVariants.{Give}
-use Rattle.ks_history.specs.Trace.{hand}
+use Rattle.ks_history.specs.Alone.{ActsAlone, alone_first, alone_then}
+use Rattle.ks_history.specs.Begins.{begins_both, with_begins}
+use Rattle.ks_history.specs.Dues.{holds_one}
+use Rattle.ks_history.specs.Stays.{lawful_in_turn}
+use Rattle.ks_history.specs.Trace.{◌⊑◌, hand}
 use Rattle.ks_history.specs.Passes.{GrowsWith}
-use Rattle.ks_arena.specs.Sound.{sort_of}
-use Rattle.ks_arena.specs.Clauses.{seen_of}
 use Rattle.ks_history.specs.Done.{link_move}
 use Rattle.ks_history.specs.Stretch.{Stretch, stretch_both, stretch_give, stretch_begins}
-use Rattle.ks_link.proofs.Parting.{split_off_later}
+use Rattle.ks_arena.specs.Sound.{Sort, Sound, sort_of}
+use Rattle.ks_arena.specs.Clauses.{seen_of}
+use Rattle.ks_shape.specs.Makes.{MakesNone, TwoFree, makes_both, makes_with, two_before}
+use Rattle.ks_link.specs.Descent.{IsOnWay}
+use Rattle.ks_link.specs.Leads.{LedBut, waits_if}
+use Rattle.ks_link.proofs.Leading.{Lasts, led_none, led_then}
+use Rattle.ks_link.proofs.Parting.{live_in, split_off_later}
 use Rattle.ks_link.proofs.attaches.attach_one.Given.{Over}
 use Rattle.ks_link.proofs.attaches.attach_one.Goals as goal
 use Rattle.ks_link.proofs.attaches.attach_one.Goals.{After-ready-half, After-give}
@@ -36,3 +46,87 @@ returns-clause-off g c = λ w is. let at = (goal.at.returns-clause-off g c).Afte
 pub returns-clause-stretch : goal.returns-clause-stretch
 returns-clause-stretch g c = let at = (goal.at.returns-clause-stretch g c).After-give in let before = (goal.at.returns-clause-stretch g c).After-ready-half in
     stretch_both link_move c.args.pass.now.caller (seen_of c.args.pass.now) (seen_of c.ready-half.new.pass) (seen_of c.give.new.pass) (stretch_ready g before) (stretch_on g at)
+
+module _ (g : Over) (c : After-give g) where
+  abbrev me : ℕ
+  me = c.args.pass.now.caller
+
+  abbrev sort : Sort
+  sort = sort_of g.N.Node.layout g.N.Node.ranged
+
+  abbrev n : ℕ
+  n = c.args.arena.now.table.shared.table_id.slots
+
+  -- the moments: at first, over the node, once it is ready, once it leads, and at the end
+
+  abbrev first : List Event
+  first = seen_of c.args.pass.now
+
+  abbrev over : List Event
+  over = seen_of c.find_above-held.new.pass
+
+  abbrev prepared : List Event
+  prepared = seen_of c.ready-half.new.pass
+
+  abbrev led : List Event
+  led = seen_of c.lead.new.pass
+
+  abbrev last : List Event
+  last = seen_of c.give.new.pass
+
+  same : c.ready-half.new.pass.caller ≡ me
+  same = c.ready-half.ensures.caller ∙ c.find_above-held.ensures.caller
+
+  gave : GrowsWith me (Give me c.lead.new.held.node) led last
+  gave = subst (λ (z : ℕ). GrowsWith z (Give z c.lead.new.held.node) led last) (c.lead.ensures.caller ∙ same) c.give.ensures.gave
+
+  to_over : first ⊑ over
+  to_over = stretch_begins link_move me first over c.find_above-held.ensures.stretch
+
+  to_ready : over ⊑ prepared
+  to_ready = stretch_begins link_move c.find_above-held.new.pass.caller over prepared c.ready-half.ensures.stretch
+
+  to_led : prepared ⊑ led
+  to_led = stretch_begins link_move c.ready-half.new.pass.caller prepared led c.lead.ensures.stretch
+
+  to_last : led ⊑ last
+  to_last = with_begins me _ led last gave
+
+  on_ready : prepared ⊑ last
+  on_ready = begins_both prepared led last to_led to_last
+
+  on_over : over ⊑ last
+  on_over = begins_both over prepared last to_ready on_ready
+
+  lasts : (k l : List Event) → k ⊑ l → Sound sort BeginsLink LinkStep n l → Lasts sort k l
+  lasts k l begins sound = c.sound_law.ensures.lasts sort n k l begins sound
+
+  -- the halves are led to, or wait
+  till_ready : ActsAlone me first last → LedBut sort (waits_if c.ready-half.result.new) first prepared
+  till_ready alone = let then = alone_then me first over last to_over on_over alone in
+      led_then sort (waits_if c.ready-half.result.new) first over prepared (lasts over prepared to_ready c.ready-half.ensures.pass.sound) (λ i live. inl (c.find_above-held.ensures.makes (alone_first me first over last to_over on_over alone) i live))
+      (subst (λ (z : ℕ). ActsAlone z over prepared → LedBut sort (waits_if c.ready-half.result.new) over prepared) c.find_above-held.ensures.caller c.ready-half.ensures.led (alone_first me over prepared last to_ready on_ready then))
+
+  since_ready : ActsAlone me first last → ActsAlone me prepared last
+  since_ready alone = alone_then me over prepared last to_ready on_ready (alone_then me first over last to_over on_over alone)
+
+  -- from then on no node is made live
+  makes_on : MakesNone me prepared last
+  makes_on = makes_both me prepared led last to_led to_last (subst (λ (z : ℕ). MakesNone z prepared led) same c.lead.ensures.makes) (makes_with me _ led last tt gave)
+
+  -- two nodes that are free at the end were free
+  two_ready : ActsAlone me first last → TwoFree c.args.arena.now.nodes last → TwoFree c.args.arena.now.nodes prepared
+  two_ready alone two = let way = subst (λ (z : ℕ). IsOnWay sort g.N.Node.body z c.args.to.cut prepared c.ready-half.result.half) c.find_above-held.ensures.caller c.ready-half.ensures.parted.0 in
+      two_before c.args.arena.now.nodes me prepared last (since_ready alone) (lawful_in_turn last (c.sound_law.ensures.lawful sort n last c.give.ensures.pass.sound)) (lasts prepared last on_ready c.give.ensures.pass.sound).live
+      (holds_one me c.ready-half.result.half.node prepared way.alone (live_in sort g.N.Node.body prepared c.ready-half.result.half way.live way.matches)) two
+
+pub returns-clause-led : goal.returns-clause-led
+returns-clause-led g c = λ alone. let at = (goal.at.returns-clause-led g c).After-give in
+    led_none (sort g at) (waits_if c.ready-half.result.new) (first g at) (prepared g at) (last g at) (lasts g at (prepared g at) (last g at) (on_ready g at) c.give.ensures.pass.sound) (till_ready g at alone) (makes_on g at (since_ready g at alone))
+
+pub returns-clause-leads : goal.returns-clause-leads
+returns-clause-leads g c = λ adopts halves alone two. let at = (goal.at.returns-clause-leads g c).After-give in
+    let then = alone_then (me g at) (first g at) (over g at) (last g at) (to_over g at) (on_over g at) alone in
+    let part = subst (λ (z : ℕ). ActsAlone z (over g at) (prepared g at)) (sym c.find_above-held.ensures.caller) (alone_first (me g at) (over g at) (prepared g at) (last g at) (to_ready g at) (on_ready g at) then) in
+    let which = c.ready-half.ensures.ready adopts halves part (two_ready g at alone two) in
+    (lasts g at (led g at) (last g at) (to_last g at) c.give.ensures.pass.sound).led c.args.to.node (c.lead.ensures.led adopts which)

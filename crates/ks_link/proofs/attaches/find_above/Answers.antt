@@ -4,6 +4,7 @@ use Rattle.ks_history.specs.Trace.{frame_after}
 use Rattle.ks_arena.specs.Sound.{sort_of, blank_of}
 use Rattle.ks_arena.specs.Clauses.{seen_of}
 use Rattle.ks_shape.specs.Single.{shown}
+use Rattle.ks_shape.specs.Makes.{MakesNone, makes_both}
 use Rattle.ks_link.specs.Descent.{IsOnWay}
 use Rattle.ks_history.specs.Done.{link_move}
 use Rattle.ks_history.specs.Stretch.{Stretch, stretch_both, stretch_begins}
@@ -22,6 +23,7 @@ loop-init g c = let sort = sort_of g.N.Node.layout g.N.Node.ranged in let n : �
       subst (λ (z : ℕ). IsOnWay sort shows z c.args.to.cut k x) (sym e.caller) e.way,
       omega (arith, high, off.level, ap (λ (f : Frame). f.level) frame, ap (λ (i : ℕ). (frame_after (blank_of sort) k i).level) e.root),
       subst (λ (z : ℕ). Stretch link_move z h k) (sym e.caller) stretch,
+      subst (λ (z : ℕ). MakesNone z h k) (sym e.caller) e.makes,
     )
 
 pub loop-preserved : goal.loop-preserved
@@ -31,4 +33,5 @@ loop-preserved g c = let sort = sort_of g.N.Node.layout g.N.Node.ranged in let s
   subst (λ (z : ℕ). IsOnWay sort shows z c.args.to.cut l c.go_nearer-held.result) (sym e.caller) e.way,
   e.above,
   subst (λ (z : ℕ). Stretch link_move z h l) (sym e.caller) (stretch_both link_move me h k l c.loop.invariant.4 e.stretch),
+  subst (λ (z : ℕ). MakesNone z h l) (sym e.caller) (makes_both me h k l (stretch_begins link_move me h k c.loop.invariant.4) (stretch_begins link_move me k l e.stretch) c.loop.invariant.5 e.makes),
 )

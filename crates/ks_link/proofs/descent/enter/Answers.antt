@@ -4,6 +4,8 @@ use Rattle.ks_history.specs.Underway.{underway_first}
 use Rattle.ks_arena.specs.Sound.{sort_of}
 use Rattle.ks_arena.specs.Clauses.{seen_of}
 use Rattle.ks_shape.specs.Single.{takes}
+use Rattle.ks_history.specs.declared.Event.TheVariants.{Take}
+use Rattle.ks_shape.specs.Makes.{makes_with}
 use Rattle.ks_link.proofs.Ways.{root_arrives}
 use Rattle.ks_link.proofs.descent.enter.Goals as goal
 
@@ -14,3 +16,6 @@ returns-clause-way g c = let sort = sort_of g.N.Node.layout g.N.Node.ranged in l
 pub returns-clause-under : goal.returns-clause-under
 returns-clause-under g c = λ op. let me : ℕ = c.args.pass.now.caller in let h = seen_of c.args.pass.now in
     takes (sort_of g.N.Node.layout g.N.Node.ranged) g.N.Node.body link_move me 0 op h h (seen_of c.take.new.pass) c.in-Some.root (λ k e. first_taken e tt) c.requires.pass.1 c.in-Some.ensures.took (underway_first link_move me op h c.requires.pass.1)
+
+pub returns-clause-makes : goal.returns-clause-makes
+returns-clause-makes g c = let me : ℕ = c.args.pass.now.caller in makes_with me (Take me 0) (seen_of c.args.pass.now) (seen_of c.take.new.pass) tt c.in-Some.ensures.took.grows

@@ -15,6 +15,7 @@ use Rattle.ks_arena.specs.Clauses.{HasTaken, seen_of}
 use Rattle.ks_link.proofs.Places.{step_low}
 use Rattle.ks_history.specs.Done.{link_move, first_taken}
 use Rattle.ks_shape.specs.Single.{gave_last, gives, is_near, led_live, record_is, takes}
+use Rattle.ks_shape.specs.Makes.{makes_both, makes_with}
 use Rattle.ks_link.proofs.Ways.{arrives}
 use Rattle.ks_link.proofs.descent.go_on.Given.{Over}
 use Rattle.ks_link.proofs.descent.go_on.Goals as goal
@@ -77,3 +78,8 @@ pub returns-clause-under : goal.returns-clause-under
 returns-clause-under g c = λ op start under. let at = (goal.at.returns-clause-under g c).After-give in let after = seen_of c.take.new.pass in
     let took = subst (λ (z : ℕ). HasTaken (sort g at) g.N.Node.body z c.args.next (given g at) after c.in-Some.taken) c.give.ensures.caller c.in-Some.ensures.took in
     takes (sort g at) g.N.Node.body link_move (me g at) c.args.next op start (given g at) after c.in-Some.taken (λ k e. first_taken e tt) (empty g at) took (gives link_move (me g at) c.args.held.node op start (seen g at) (given g at) (empty g at) (gave g at) under)
+
+pub returns-clause-makes : goal.returns-clause-makes
+returns-clause-makes g c = let at = (goal.at.returns-clause-makes g c).After-give in let after = seen_of c.take.new.pass in
+    let took = subst (λ (z : ℕ). HasTaken (sort g at) g.N.Node.body z c.args.next (given g at) after c.in-Some.taken) c.give.ensures.caller c.in-Some.ensures.took in
+    makes_both (me g at) (seen g at) (given g at) after (begins g at) (with_begins (me g at) _ (given g at) after took.grows) (makes_with (me g at) _ (seen g at) (given g at) tt (gave g at)) (makes_with (me g at) _ (given g at) after tt took.grows)

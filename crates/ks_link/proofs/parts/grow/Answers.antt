@@ -1,9 +1,11 @@
 use Rattle.std.proofs.Common.{◌≡◌, ◌≤◌, ◌≢◌, ℕ, ◌<◌, List, [], ◌∷◌, inl, inr, sym, refl, ap, ◌∙◌, subst, length, arith}
 use Rattle.std.specs.Prelude.{Some}
 use Rattle.ks_history.specs.declared.Event.TheVariants.{Give}
-use Rattle.ks_history.specs.Trace.{hand, drop_one, graph_after, frame_after}
+use Rattle.ks_history.specs.Trace.{◌⊑◌, hand, drop_one, graph_after, frame_after}
 use Rattle.ks_history.specs.Passes.{Has, GrowsWith}
-use Rattle.ks_history.specs.Begins.{good_now}
+use Rattle.ks_keysets.specs.Keyset.{IsLive as IsLiveIn}
+use Rattle.ks_history.specs.Begins.{begins_both, good_now, with_begins}
+use Rattle.ks_history.specs.Alone.{alone_first, alone_then}
 use Rattle.ks_flow.specs.Discipline.{BeginsLink, LinkStep}
 use Rattle.ks_node.specs.Body.{Body, all_places, last_of}
 use Rattle.ks_node.specs.Asks.{Suits}
@@ -13,10 +15,14 @@ use Rattle.ks_arena.specs.Sound.{sort_of, blank_of}
 use Rattle.ks_arena.specs.Clauses.{hand_of, seen_of}
 use Rattle.ks_shape.specs.InHand.{IsLive, BecomesLive}
 use Rattle.ks_shape.specs.Single.{is_near}
+use Rattle.ks_node.specs.Room.{is_full}
+use Rattle.ks_shape.specs.Makes.{MakesNone, makes_both, makes_with}
+use Rattle.ks_link.specs.Leads.{IsLedAfter}
+use Rattle.ks_link.proofs.Leading.{shape_live}
 use Rattle.ks_link.specs.Descent.{IsOnWay}
 use Rattle.ks_history.specs.Done.{link_move}
-use Rattle.ks_history.specs.Stretch.{Stretch, stretch_both, stretch_give, stretch_shape}
-use Rattle.ks_link.proofs.Parting.{ends_left, ends_right, drop_third, suits_all, stands_now}
+use Rattle.ks_history.specs.Stretch.{Stretch, stretch_begins, stretch_both, stretch_give, stretch_shape}
+use Rattle.ks_link.proofs.Parting.{live_in, ends_left, ends_right, drop_third, suits_all, stands_now}
 use Rattle.ks_link.proofs.parts.grow.Given.{Over}
 use Rattle.ks_link.proofs.parts.grow.Goals as goal
 use Rattle.ks_link.proofs.parts.grow.Goals.{After-node_law, After-give}
@@ -99,3 +105,28 @@ returns-clause-stretch g c = let me : ℕ = c.args.pass.now.caller in let h = se
     let kept = subst (λ (z : ℕ). Stretch link_move z l m) (c.give.ensures.caller ∙ caller) c.keep_half-half.ensures.stretch in
     stretch_both link_move me h k m (stretch_shape link_move me h k (grow_right g.N.Node.branch_kind c.args.root.node c.args.left.node c.args.right.node c.cut-cut.result (g.N.Node.body c.args.root.body)) (omega (arith, few)) (omega (arith, few, ap length same)) c.grow_right.ensures.shaped)
     (stretch_both link_move me k l m (stretch_give link_move me k l c.grow_right.new.node.node (omega (arith, few, ap length same)) gave) kept)
+
+pub returns-clause-room : goal.returns-clause-room
+returns-clause-room g c = λ promise. let halves = c.cut-cut.ensures.halves promise in let shows = g.N.Node.body in let layout = g.N.Node.layout in elim c.keep_half-half.ensures.half [
+  | inl is ↦ ap (λ (x : Hand g.row.N.Denot). is_full layout (shows x.body)) is.0 ∙ ap (is_full layout) c.grow_right.ensures.left.body ∙ halves.0
+  | inr is ↦ ap (λ (x : Hand g.row.N.Denot). is_full layout (shows x.body)) is ∙ ap (is_full layout) c.grow_right.ensures.right.body ∙ halves.1
+]
+
+pub returns-clause-led : goal.returns-clause-led
+returns-clause-led g c = λ alone i live. let me : ℕ = c.args.pass.now.caller in let sort = sort_of g.N.Node.layout g.N.Node.ranged in let n : ℕ = c.args.arena.now.table.shared.table_id.slots in let h = seen_of c.args.pass.now in let k = seen_of c.grow_right.new.pass in let l = seen_of c.give.new.pass in let m = seen_of c.keep_half-half.new.pass in let e = c.grow_right.ensures in
+    let gave = subst (λ (z : ℕ). GrowsWith z (Give z c.grow_right.new.node.node) k l) e.caller c.give.ensures.gave in
+    let kept = subst (λ (z : ℕ). MakesNone z l m) (c.give.ensures.caller ∙ e.caller) c.keep_half-half.ensures.makes in
+    let stretch = subst (λ (z : ℕ). Stretch link_move z l m) (c.give.ensures.caller ∙ e.caller) c.keep_half-half.ensures.stretch in
+    let till : h ⊑ k = with_begins me _ h k e.shaped in let then : k ⊑ l = with_begins me _ k l gave in let on : l ⊑ m = stretch_begins link_move me l m stretch in let after = begins_both k l m then on in
+    let before = makes_both me k l m then on (makes_with me _ k l tt gave) kept (alone_then me h k m till after alone) i live in
+    let lasts = c.sound_law.ensures.lasts sort n k m after c.keep_half-half.ensures.pass.sound in
+    elim (shape_live me (grow_right g.N.Node.branch_kind c.args.root.node c.args.left.node c.args.right.node c.cut-cut.result (g.N.Node.body c.args.root.body)) h k e.shaped (alone_first me h k m till after alone) i before) [
+      | inl named ↦ elim named [
+        | inl node ↦ inl (subst (IsLiveIn (graph_after h)) node (live_in sort g.N.Node.body h c.args.root c.requires.node.live c.requires.node.matches))
+        | inr rest ↦ elim rest [
+          | inl left ↦ inr (inl (lasts.led i (subst (IsLedAfter sort k) left e.led.0)))
+          | inr last ↦ elim last [ inl right ↦ inr (inl (lasts.led i (subst (IsLedAfter sort k) right e.led.1))) | inr none ↦ absurd none ]
+        ]
+      ]
+      | inr was ↦ inl was
+    ]

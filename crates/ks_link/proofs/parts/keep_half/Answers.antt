@@ -2,6 +2,7 @@ use Rattle.std.proofs.Common.{ap, length, arith}
 use Rattle.ks_arena.specs.Clauses.{seen_of}
 use Rattle.ks_history.specs.Done.{link_move}
 use Rattle.ks_history.specs.Stretch.{stretch_give}
+use Rattle.ks_shape.specs.Makes.{makes_with}
 use Rattle.ks_link.proofs.parts.keep_half.Goals as goal
 
 pub returns-then-place-cut-clause-stretch : goal.returns-then-place-cut-clause-stretch
@@ -9,3 +10,9 @@ returns-then-place-cut-clause-stretch g c = stretch_give link_move c.args.pass.n
 
 pub returns-else-place-cut-clause-stretch : goal.returns-else-place-cut-clause-stretch
 returns-else-place-cut-clause-stretch g c = stretch_give link_move c.args.pass.now.caller (seen_of c.args.pass.now) (seen_of c.give-else-place-cut.new.pass) c.args.left.node (omega (arith, ap length c.requires.hand.0)) c.give-else-place-cut.ensures.gave
+
+pub returns-then-place-cut-clause-makes : goal.returns-then-place-cut-clause-makes
+returns-then-place-cut-clause-makes g c = makes_with c.args.pass.now.caller _ (seen_of c.args.pass.now) (seen_of c.give.new.pass) tt c.give.ensures.gave
+
+pub returns-else-place-cut-clause-makes : goal.returns-else-place-cut-clause-makes
+returns-else-place-cut-clause-makes g c = makes_with c.args.pass.now.caller _ (seen_of c.args.pass.now) (seen_of c.give-else-place-cut.new.pass) tt c.give-else-place-cut.ensures.gave

@@ -1,18 +1,23 @@
 use Rattle.std.proofs.Common.{◌≡◌, ◌≤◌, ℕ, inl, inr, sym, ap, ◌∙◌, subst, length, arith}
 use Rattle.std.specs.Prelude.{Some, None}
-use Rattle.ks_history.specs.Trace.{hand, graph_after, frame_after}
-use Rattle.ks_history.specs.Begins.{good_now}
+use Rattle.ks_history.specs.Trace.{◌⊑◌, hand, graph_after, frame_after}
+use Rattle.ks_keysets.specs.Keyset.{IsLive as IsLiveIn}
+use Rattle.ks_history.specs.Begins.{good_now, with_begins}
+use Rattle.ks_history.specs.Alone.{alone_first, alone_then}
 use Rattle.ks_node.specs.Body.{Body, last_of}
 use Rattle.ks_bodies.specs.Links.{IsLinked, split_to_right}
 use Rattle.ks_arena.specs.declared.held.Held.{Held as Hand}
 use Rattle.ks_arena.specs.Sound.{sort_of, blank_of}
 use Rattle.ks_arena.specs.Clauses.{hand_of, seen_of}
 use Rattle.ks_link.specs.declared.parts.Waiting.{Waiting}
+use Rattle.ks_node.specs.Room.{is_full}
+use Rattle.ks_shape.specs.Makes.{MakesNone}
+use Rattle.ks_link.proofs.Leading.{shape_live}
 use Rattle.ks_link.specs.Descent.{IsOnWay}
 use Rattle.ks_link.specs.Parts.{IsSplitOff}
 use Rattle.ks_history.specs.Done.{link_move}
 use Rattle.ks_history.specs.Stretch.{Stretch, stretch_both, stretch_shape, stretch_begins}
-use Rattle.ks_link.proofs.Parting.{ends_left, ends_right, stands_now, spare_no_root, split_off, split_off_later}
+use Rattle.ks_link.proofs.Parting.{live_in, ends_left, ends_right, stands_now, spare_no_root, split_off, split_off_later}
 use Rattle.ks_link.proofs.parts.split.Given.{Over}
 use Rattle.ks_link.proofs.parts.split.Goals as goal
 use Rattle.ks_link.proofs.parts.split.Goals.{After-node_law}
@@ -54,3 +59,22 @@ returns-clause-stretch g c = let me : ℕ = c.args.pass.now.caller in let h = se
     let few = ap length c.requires.hand.0 in
     let same = subst (λ (z : ℕ). hand z k ≡ hand_of c.args.pass.now) c.split_right.ensures.caller c.split_right.ensures.hand in
     stretch_both link_move me h k l (stretch_shape link_move me h k (split_to_right c.args.held.node c.args.right.node c.cut-cut.result (g.N.Node.body c.args.held.body)) (omega (arith, few)) (omega (arith, few, ap length same)) c.split_right.ensures.shaped) (subst (λ (z : ℕ). Stretch link_move z k l) c.split_right.ensures.caller c.keep_half-half.ensures.stretch)
+
+pub returns-clause-room : goal.returns-clause-room
+returns-clause-room g c = λ promise. let halves = c.cut-cut.ensures.halves promise in let shows = g.N.Node.body in let layout = g.N.Node.layout in elim c.keep_half-half.ensures.half [
+  | inl is ↦ ap (λ (x : Hand g.row.N.Denot). is_full layout (shows x.body)) is.0 ∙ ap (is_full layout) c.split_right.ensures.node.body ∙ halves.0
+  | inr is ↦ ap (λ (x : Hand g.row.N.Denot). is_full layout (shows x.body)) is ∙ ap (is_full layout) c.split_right.ensures.right.body ∙ halves.1
+]
+
+pub returns-clause-led : goal.returns-clause-led
+returns-clause-led g c = λ alone i live. let me : ℕ = c.args.pass.now.caller in let sort = sort_of g.N.Node.layout g.N.Node.ranged in let h = seen_of c.args.pass.now in let k = seen_of c.split_right.new.pass in let l = seen_of c.keep_half-half.new.pass in let e = c.split_right.ensures in
+    let stretch = subst (λ (z : ℕ). Stretch link_move z k l) e.caller c.keep_half-half.ensures.stretch in
+    let till : h ⊑ k = with_begins me _ h k e.shaped in let on : k ⊑ l = stretch_begins link_move me k l stretch in
+    let before = subst (λ (z : ℕ). MakesNone z k l) e.caller c.keep_half-half.ensures.makes (alone_then me h k l till on alone) i live in
+    elim (shape_live me (split_to_right c.args.held.node c.args.right.node c.cut-cut.result (g.N.Node.body c.args.held.body)) h k e.shaped (alone_first me h k l till on alone) i before) [
+      | inl named ↦ elim named [
+        | inl node ↦ inl (subst (IsLiveIn (graph_after h)) node (live_in sort g.N.Node.body h c.args.held c.requires.node.live c.requires.node.matches))
+        | inr rest ↦ elim rest [ inl right ↦ inr (inr (inl (e.right.node ∙ right))) | inr none ↦ absurd none ]
+      ]
+      | inr was ↦ inl was
+    ]

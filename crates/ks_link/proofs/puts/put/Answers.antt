@@ -6,13 +6,22 @@ use Rattle.ks_history.specs.declared.Reply.TheVariants.{Full}
 use Rattle.ks_history.specs.Due.{NoneFree}
 use Rattle.ks_history.specs.Map.{told}
 use Rattle.ks_history.specs.Passes.{NoCallBy}
-use Rattle.ks_history.specs.Trace.{hand}
+use Rattle.ks_history.specs.Trace.{◌⊑◌, hand}
+use Rattle.ks_history.specs.Alone.{ActsAlone, alone_first, alone_then}
+use Rattle.ks_history.specs.Begins.{begins_both}
+use Rattle.ks_history.specs.Dues.{holds_one}
+use Rattle.ks_history.specs.Stays.{lawful_in_turn}
+use Rattle.ks_history.specs.Stretch.{stretch_begins}
 use Rattle.ks_history.specs.Done.{Done, link_move}
 use Rattle.ks_history.specs.Underway.{Underway, done_on}
 use Rattle.ks_arena.specs.Sound.{sort_of}
 use Rattle.ks_arena.specs.Clauses.{seen_of}
 use Rattle.ks_link.specs.declared.parts.Waiting.{Waiting}
 use Rattle.ks_link.specs.Parts.{IsSplitOff}
+use Rattle.ks_shape.specs.Makes.{MakesNone, never_refused, two_before}
+use Rattle.ks_link.specs.Leads.{Waits}
+use Rattle.ks_link.proofs.Leading.{are_led, led_both, led_none}
+use Rattle.ks_link.proofs.Parting.{live_in}
 use Rattle.ks_link.proofs.Rooms.{all_later}
 use Rattle.ks_link.proofs.puts.put.Goals as goal
 
@@ -53,3 +62,24 @@ pub attach_all-requires-in-Err-clause-off : goal.attach_all-requires-in-Err-clau
 attach_all-requires-in-Err-clause-off g c = let sort = sort_of g.N.Node.layout g.N.Node.ranged in let n : ℕ = c.args.arena.now.table.shared.table_id.slots in let k = seen_of c.find_room.new.pass in let l = seen_of c.turn_away-full.new.pass in
     subst (λ (ws : List Waiting). All (λ w. IsSplitOff sort l w) ws) (sym c.as_slice-in-Err.ensures.value)
     (all_later sort k l c.find_room.new.waiting.items (c.sound_law.ensures.lasts sort n k l c.turn_away-full.ensures.begins c.turn_away-full.ensures.pass.0.sound) c.find_room.ensures.waiting)
+
+pub returns-in-Ok-clause-led : goal.returns-in-Ok-clause-led
+returns-in-Ok-clause-led g c = λ adopts halves alone two. let me : ℕ = c.args.pass.now.caller in let sort = sort_of g.N.Node.layout g.N.Node.ranged in let n : ℕ = c.args.arena.now.table.shared.table_id.slots in let law = c.sound_law.ensures in
+    let h = seen_of c.args.pass.now in let k = seen_of c.find_room.new.pass in let l = seen_of c.write-answer.new.pass in let m = seen_of c.attach_all.new.pass in
+    let found = c.find_room.ensures in let wrote = c.write-answer.ensures in let ends = c.attach_all.ensures in let e' = wrote.caller ∙ found.caller in let ws : List Waiting = c.find_room.new.waiting.items in
+    let till : h ⊑ k = stretch_begins link_move me h k found.stretch in let on : k ⊑ l = wrote.begins in let then : l ⊑ m = stretch_begins link_move c.write-answer.new.pass.caller l m ends.stretch in
+    let after : k ⊑ m = begins_both k l m on then in let since = alone_then me h k m till after alone in
+    let last = law.lasts sort n l m then ends.pass.0.sound in
+    let room = found.led halves (alone_first me h k m till after alone) in
+    let made = subst (λ (z : ℕ). MakesNone z k l) found.caller wrote.makes (alone_first me k l m on then since) in
+    let leads = ends.leads adopts halves (subst (λ (z : ℕ). ActsAlone z l m) (sym e') (alone_then me k l m on then since)) two in
+    are_led sort h m (led_both sort ws [] h l m last (λ i waits. leads.0 i (subst (λ (z : List Waiting). Waits z i) (sym c.as_slice.ensures.value) waits)) (led_none sort ws h k l (law.lasts sort n k l on wrote.pass.0.sound) room made) leads.1)
+
+pub returns-in-Err-clause-led : goal.returns-in-Err-clause-led
+returns-in-Err-clause-led g c = λ adopts halves alone two. let me : ℕ = c.args.pass.now.caller in let sort = sort_of g.N.Node.layout g.N.Node.ranged in let n : ℕ = c.args.arena.now.table.shared.table_id.slots in let nodes : ℕ = c.args.arena.now.nodes in let law = c.sound_law.ensures in let shows = g.N.Node.body in
+    let h = seen_of c.args.pass.now in let k = seen_of c.find_room.new.pass in let l = seen_of c.turn_away-full.new.pass in let m = seen_of c.attach_all-in-Err.new.pass in
+    let found = c.find_room.ensures in let told = c.turn_away-full.ensures in let ends = c.attach_all-in-Err.ensures in let x = c.in-Err.held in let way = c.in-Err.ensures.found.0 in
+    let till : h ⊑ k = stretch_begins link_move me h k found.stretch in let on : k ⊑ l = told.begins in let then : l ⊑ m = stretch_begins link_move c.turn_away-full.new.pass.caller l m ends.stretch in
+    let after : k ⊑ m = begins_both k l m on then in
+    let two' = two_before nodes me k m (alone_then me h k m till after alone) (lawful_in_turn m (law.lawful sort n m ends.pass.0.sound)) (law.lasts sort n k m after ends.pass.0.sound).live (holds_one me x.node k way.alone (live_in sort shows k x way.live way.matches)) two in
+    absurd (never_refused g.N.Node.layout nodes me c.args.place h k (alone_first me h k m till after alone) (lawful_in_turn k (law.lawful sort n k found.pass.sound)) (λ z before i live. (law.lasts sort n z k before found.pass.sound).live i live) two' c.in-Err.ensures.found.4)

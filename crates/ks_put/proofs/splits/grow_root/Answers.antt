@@ -15,7 +15,8 @@ use Rattle.ks_put.specs.OnPath.{numbers}
 use Rattle.ks_shape.specs.Stretches.{stretches_as, stretches_both, stretches_shape}
 use Rattle.ks_put.specs.Parts.{IsPart}
 use Rattle.ks_put.specs.Laws.{Laws}
-use Rattle.ks_put.proofs.Keeping.{path_turn, path_stays, path_live, full_is_root, may_grow_root}
+use Rattle.ks_shape.specs.Claims.{may_grow_root}
+use Rattle.ks_put.proofs.Keeping.{path_turn, path_stays, path_live, full_is_root}
 use Rattle.ks_put.proofs.splits.grow_root.Given.{Over}
 use Rattle.ks_put.proofs.splits.grow_root.Goals as goal
 use Rattle.ks_put.proofs.splits.grow_root.Goals.{After-search_law, After-claim_two, After-grow}

@@ -1,9 +1,12 @@
 use Rattle.std.proofs.Common.{ℕ, refl, arith}
 use Rattle.ks_flow.specs.Discipline.{SameKeyset}
+use Rattle.ks_history.specs.declared.Event.TheVariants.{Claim}
+use Rattle.ks_history.specs.Begins.{by_others_begins, with_begins}
 use Rattle.ks_history.specs.Stretch.{stretch_others}
 use Rattle.ks_arena.specs.Sound.{sort_of}
 use Rattle.ks_arena.specs.Clauses.{seen_of, hand_of}
 use Rattle.ks_shape.specs.Beside.{StaysBeside, beside_others, stays_beside, keyset_beside}
+use Rattle.ks_shape.specs.Makes.{makes_both, makes_others, makes_with}
 use Rattle.ks_shape.proofs.Claiming.{claimed_stretch, claimed_beside, refused}
 use Rattle.ks_shape.proofs.claims.claim_one.Given.{Over}
 use Rattle.ks_shape.proofs.claims.claim_one.Goals as goal
@@ -40,3 +43,10 @@ returns-clause-beside g c = let at = (goal.at.returns-clause-beside g c).After-c
 pub returns-clause-keysets : goal.returns-clause-keysets
 returns-clause-keysets g c = let at = (goal.at.returns-clause-keysets g c).After-claim in
     claimed_beside (sort_of g.N.Node.layout g.N.Node.ranged) g.N.Node.body c.args.pass.now.caller (seen_of c.args.pass.now) (seen_of c.claim.new.pass) c.in-Some.claimed c.in-Some.ensures.claimed.0 g.D.Discipline.begins g.D.Discipline.step c.args.arena.now.table.shared.table_id.slots SameKeyset (keysets g at) c.claim.ensures.pass.sound
+
+pub returns-in_default-clause-makes : goal.returns-in_default-clause-makes
+returns-in_default-clause-makes g c = let told = rw c.in_default.is at c.claim.ensures.claimed in makes_others c.args.pass.now.caller (seen_of c.args.pass.now) (seen_of c.claim.new.pass) told.0.grows
+
+pub returns-clause-makes : goal.returns-clause-makes
+returns-clause-makes g c = let me : ℕ = c.args.pass.now.caller in let h = seen_of c.args.pass.now in let k = seen_of c.claim.new.pass in let got = c.in-Some.ensures.claimed.0 in let e = Claim me c.in-Some.claimed.node in
+    makes_both me h got.moment k (with_begins me e h got.moment got.grows) (by_others_begins me got.moment k got.since) (makes_with me e h got.moment tt got.grows) (makes_others me got.moment k got.since)

@@ -6,12 +6,14 @@ use Rattle.ks_history.specs.Passes.{Has, GrowsWith}
 use Rattle.ks_history.specs.declared.Event.{Event}
 use Rattle.ks_history.specs.Done.{Template, coupling}
 use Rattle.ks_history.specs.Due.{NoneFree}
-use Rattle.ks_history.specs.Stretch.{Stretch, stretch_both}
+use Rattle.ks_history.specs.Stretch.{Stretch, stretch_both, stretch_begins}
+use Rattle.ks_history.specs.Begins.{begins_both, with_begins}
 use Rattle.ks_flow.specs.Discipline.{SameKeyset}
 use Rattle.ks_arena.specs.Sound.{sort_of}
 use Rattle.ks_arena.specs.Clauses.{seen_of, hand_of, Kept, KeptBut}
 use Rattle.ks_shape.specs.Beside.{KeepsBeside, StaysBeside, beside_with, beside_both, stays_beside, keyset_beside}
 use Rattle.ks_shape.specs.Claims.{HoldsForClaim}
+use Rattle.ks_shape.specs.Makes.{MakesNone, makes_both, makes_with}
 use Rattle.ks_shape.proofs.Claiming.{still_for_claim, back_hand, back_stretch, back_refused, back_kept}
 use Rattle.ks_shape.proofs.claims.claim_two.Given.{Over}
 use Rattle.ks_shape.proofs.claims.claim_two.Goals as goal
@@ -105,3 +107,18 @@ returns-in-None-clause-still g c = λ x has matches. let got = c.in-Some.ensures
     let in₂ : Has (hand me (seen_of c.claim_one-2.new.pass)) x.node = subst (λ (z : List ℕ). Has z x.node) (sym (second g gv).0) in₁ in
     c.give.ensures.still x (λ e. got.fresh (subst (Has (hand_of c.args.pass.now)) e has)) (subst (λ (z : ℕ). Has (hand z (seen_of c.claim_one-2.new.pass)) x.node) (sym (own g gv)) in₂)
     (c.claim_one-2.ensures.still x (subst (λ (z : ℕ). Has (hand z h₁) x.node) (sym c.claim_one.ensures.caller) in₁) (c.claim_one.ensures.still x has matches))
+
+-- no node is made live
+
+made : (a b : ℕ) (h k l : List Event) → b ≡ a → Stretch coupling a h k → Stretch coupling b k l → MakesNone a h k → MakesNone b k l → MakesNone a h l
+made a b h k l same one two first then = makes_both a h k l (stretch_begins coupling a h k one) (stretch_begins coupling b k l two) first (subst (λ (z : ℕ). MakesNone z k l) same then)
+
+pub returns-in-Some-claim_one-clause-makes : goal.returns-in-Some-claim_one-clause-makes
+returns-in-Some-claim_one-clause-makes g c = let one = c.claim_one.ensures in let two = c.claim_one-2.ensures in
+    made c.args.pass.now.caller c.claim_one.new.pass.caller (seen_of c.args.pass.now) (seen_of c.claim_one.new.pass) (seen_of c.claim_one-2.new.pass) one.caller (one.stretch coupling) (two.stretch coupling) one.makes two.makes
+
+pub returns-in-None-clause-makes : goal.returns-in-None-clause-makes
+returns-in-None-clause-makes g c = let gv = (goal.at.returns-in-None-clause-makes g c).After-give in let me : ℕ = c.args.pass.now.caller in let h = seen_of c.args.pass.now in let h₁ = seen_of c.claim_one.new.pass in let h₂ = seen_of c.claim_one-2.new.pass in let h₃ = seen_of c.give.new.pass in let one = c.claim_one.ensures in let two = c.claim_one-2.ensures in
+    let last = with_begins me _ h₂ h₃ (gave g gv) in let till = begins_both h₁ h₂ h₃ (stretch_begins coupling c.claim_one.new.pass.caller h₁ h₂ (two.stretch coupling)) last in
+    makes_both me h h₁ h₃ (stretch_begins coupling me h h₁ (one.stretch coupling)) till one.makes
+    (makes_both me h₁ h₂ h₃ (stretch_begins coupling c.claim_one.new.pass.caller h₁ h₂ (two.stretch coupling)) last (subst (λ (z : ℕ). MakesNone z h₁ h₂) one.caller two.makes) (makes_with me _ h₂ h₃ tt (gave g gv)))

@@ -9,6 +9,7 @@ use Rattle.ks_history.specs.Stays.{lawful_in_turn}
 use Rattle.ks_node.specs.Body.{frame_of}
 use Rattle.ks_arena.specs.Sound.{blank_of, sort_of}
 use Rattle.ks_arena.specs.Clauses.{seen_of}
+use Rattle.ks_shape.specs.Makes.{makes_both, makes_with}
 use Rattle.ks_shape.proofs.Concludes.{concluded}
 use Rattle.ks_shape.proofs.ending.decide_here.Goals as goal
 
@@ -24,3 +25,8 @@ returns-clause-done g c = λ template start none under. let me : ℕ = c.args.pa
     let are = lawful_in_turn h₁ (c.sound_law.ensures.lawful sort c.args.arena.now.table.shared.table_id.slots h₁ e.pass.sound) in
     concluded g.N.Node.layout template c.args.arena.now.nodes me i c.decide-number.result c.args.op c.args.reply (blank_of sort) (frame_of (g.N.Node.body c.args.held.body)) start h h₁ h₂ are r.meets.0 r.frame c.requires.alone e.decided same gave hands under
     (last_call me h) r.due none
+
+pub returns-clause-makes : goal.returns-clause-makes
+returns-clause-makes g c = let me : ℕ = c.args.pass.now.caller in let h = seen_of c.args.pass.now in let h₁ = seen_of c.decide-number.new.pass in let h₂ = seen_of c.give.new.pass in let e = c.decide-number.ensures in
+    let gave = subst (λ (z : ℕ). GrowsWith z (Give z c.args.held.node) h₁ h₂) e.caller c.give.ensures.gave in
+    makes_both me h h₁ h₂ (with_begins me _ h h₁ e.decided.grows) (with_begins me _ h₁ h₂ gave) (makes_with me _ h h₁ tt e.decided.grows) (makes_with me _ h₁ h₂ tt gave)
