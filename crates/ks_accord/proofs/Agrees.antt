@@ -4,7 +4,10 @@ use Rattle.std.specs.Prelude.{All, slice_get}
 use Rattle.std.proofs.Math.Path.{fun_ext}
 use mathlib.Core.Logic.{dite}
 use native.Mathlib.Decide.{ℕ_discrete}
-use Rattle.std.proofs.lemmas.List.{length-append, map-append, take_more}
+use Rattle.std.specs.List.{AllByRecursion}
+use Rattle.std.proofs.lemmas.List.{length-append, length-map, map-append, take_more}
+use Rattle.std.proofs.lemmas.Simd.{map-map}
+use Rattle.ks_keysets.specs.Record.{IsPlace}
 use Rattle.std.proofs.lemmas.List.Elements.{All-tail}
 use Rattle.ks_history.specs.declared.Op.{Op}
 use Rattle.ks_history.specs.declared.Op.TheVariants.{Get, Put, Del, Add, Swap}
@@ -24,6 +27,8 @@ use Rattle.ks_judge.specs.declared.judging.Judged.TheVariants as judged
 use Rattle.ks_judge.specs.Verdict.{IsJudged}
 use Rattle.ks_judge.specs.Judgment.{WrongAt, at_call, at_map, Lines, IsRight, IsLegalRun, carriers, calls_below, answered_at, line_at}
 use Rattle.ks_accord.proofs.Tables.{lines_by, ops_by, rows, rows_are, row_at, pushed, zero_plus}
+use Rattle.ks_accord.specs.Keys.{HasKey, AreKeys}
+use Rattle.ks_accord.proofs.Placed.{placed, IsPlaced, of_all, ops_back, are_placed, have_keys, placed_back, after_agree, legal_back, listing_back}
 use Rattle.ks_accord.proofs.Stand.{Known, Stands, known_first, known_more, no_call}
 
 small : (n : ℕ) → n ≤ 1048576 → n % 2 ^ 64 ≡ n
@@ -31,7 +36,7 @@ small n h = omega arith
 
 -- the rows after a Call
 
-module _ (h : List Event) (d i : ℕ) (op : Op) (reply : Reply) where
+module _ (key : ℕ → ℕ) (h : List Event) (d i : ℕ) (op : Op) (reply : Reply) where
   mapped : {X : Type 0} (f : NumberedCall → X) → (λ c. map f (calls_by c (Call d i op reply ∷ h))) ≡ pushed (λ c. map f (calls_by c h)) d (f (record { number = number_after h; call = record { op = op; reply = reply } }))
   mapped f = fun_ext (λ c. dite (ℕ_discrete c d)
       (λ e. ap (map f) (cond_here c d (calls_by c h ++ record { number = number_after h; call = record { op = op; reply = reply } } ∷ []) (calls_by c h) e)
@@ -40,28 +45,33 @@ module _ (h : List Event) (d i : ℕ) (op : Op) (reply : Reply) where
       (λ e. ap (map f) (cond_else c d (calls_by c h ++ record { number = number_after h; call = record { op = op; reply = reply } } ∷ []) (calls_by c h) e)
       ∙ sym (cond_else c d (map f (calls_by c h) ++ f (record { number = number_after h; call = record { op = op; reply = reply } }) ∷ []) (map f (calls_by c h)) e)))
 
-  lines_more : length (calls_of h) ≤ 1048576 → lines_by (Call d i op reply ∷ h) ≡ pushed (lines_by h) d (length (calls_of h), reply)
-  lines_more few = mapped (λ x. (x.number, x.call.reply)) ∙ ap (λ n. pushed (lines_by h) d (n, reply)) (small (length (calls_of h)) few)
+  lines_more : length (calls_of h) ≤ 1048576 → lines_by (Call d i op reply ∷ h) ≡ pushed (lines_by h) d (length (map (placed key) (calls_of h)), reply)
+  lines_more few = mapped (λ x. (x.number, x.call.reply)) ∙ ap (λ n. pushed (lines_by h) d (n, reply)) (small (length (calls_of h)) few ∙ sym (length-map (calls_of h) (placed key)))
 
-  ops_more : ops_by (Call d i op reply ∷ h) ≡ pushed (ops_by h) d op
-  ops_more = mapped (λ x. x.call.op)
+  ops_more : ops_by key (Call d i op reply ∷ h) ≡ pushed (ops_by key h) d (at_place key op)
+  ops_more = mapped (λ x. at_place key x.call.op)
+
+  calls_more : map (placed key) (calls_of (Call d i op reply ∷ h)) ≡ map (placed key) (calls_of h) ++ record { op = at_place key op; reply = reply } ∷ []
+  calls_more = map-append (placed key) (calls_of h) (record { op = op; reply = reply } ∷ [])
 
 one_more : (calls : List Answered) (a : Answered) → length (calls ++ a ∷ []) ≡ length calls + 1
 one_more calls a = length-append calls (a ∷ [])
 
-pub known_of : (m : ℕ) (h : List Event) → All (CalledBelow m) h → length (calls_of h) ≤ 1048576 → Known m (lines_by h) (ops_by h) (calls_of h)
-known_of m [] others few = known_first m
-known_of m (Take d j ∷ h) others few = known_of m h (All-tail (CalledBelow m) (Take d j) h others) few
-known_of m (Give d j ∷ h) others few = known_of m h (All-tail (CalledBelow m) (Give d j) h others) few
-known_of m (Claim d j ∷ h) others few = known_of m h (All-tail (CalledBelow m) (Claim d j) h others) few
-known_of m (Shape d changes ∷ h) others few = known_of m h (All-tail (CalledBelow m) (Shape d changes) h others) few
-known_of m (Call d j op reply ∷ h) others few =
+pub known_of : (key : ℕ → ℕ) (m : ℕ) (h : List Event) → All (CalledBelow m) h → length (calls_of h) ≤ 1048576 → Known m (lines_by h) (ops_by key h) (map (placed key) (calls_of h))
+known_of key m [] others few = known_first m
+known_of key m (Take d j ∷ h) others few = known_of key m h (All-tail (CalledBelow m) (Take d j) h others) few
+known_of key m (Give d j ∷ h) others few = known_of key m h (All-tail (CalledBelow m) (Give d j) h others) few
+known_of key m (Claim d j ∷ h) others few = known_of key m h (All-tail (CalledBelow m) (Claim d j) h others) few
+known_of key m (Shape d changes ∷ h) others few = known_of key m h (All-tail (CalledBelow m) (Shape d changes) h others) few
+known_of key m (Call d j op reply ∷ h) others few =
     let long = one_more (calls_of h) (record { op = op; reply = reply }) in
     let less : length (calls_of h) ≤ 1048576 = omega (arith, long) in
     let inside : d < m = others 0 (Call d j op reply) (omega arith) in
-    let k = known_more m (lines_by h) (ops_by h) (calls_of h) (known_of m h (All-tail (CalledBelow m) (Call d j op reply) h others) less) d op reply inside in
-    subst (λ L. Known m L (ops_by (Call d j op reply ∷ h)) (calls_of h ++ record { op = op; reply = reply } ∷ [])) (sym (lines_more h d j op reply less))
-    (subst (λ O. Known m (pushed (lines_by h) d (length (calls_of h), reply)) O (calls_of h ++ record { op = op; reply = reply } ∷ [])) (sym (ops_more h d j op reply)) k)
+    let calls = map (placed key) (calls_of h) in
+    let k = known_more m (lines_by h) (ops_by key h) calls (known_of key m h (All-tail (CalledBelow m) (Call d j op reply) h others) less) d (at_place key op) reply inside in
+    subst (λ L. Known m L (ops_by key (Call d j op reply ∷ h)) (map (placed key) (calls_of (Call d j op reply ∷ h)))) (sym (lines_more key h d j op reply less))
+    (subst (λ O. Known m (pushed (lines_by h) d (length calls, reply)) O (map (placed key) (calls_of (Call d j op reply ∷ h)))) (sym (ops_more key h d j op reply))
+    (subst (λ cs. Known m (pushed (lines_by h) d (length calls, reply)) (pushed (ops_by key h) d (at_place key op)) cs) (sym (calls_more key h d j op reply)) k))
 
 -- how many calls the rows have
 
@@ -84,17 +94,17 @@ total_none : (c k : ℕ) → calls_in (rows (λ b. []) c k) ≡ 0
 total_none c zero = refl
 total_none c (suc k) = zero_plus (calls_in (rows (λ b. []) (suc c) k)) ∙ total_none (suc c) k
 
-pub total : (m : ℕ) (h : List Event) → All (CalledBelow m) h → calls_in (rows (ops_by h) 0 m) ≡ length (calls_of h)
-total m [] others = total_none 0 m
-total m (Take d j ∷ h) others = total m h (All-tail (CalledBelow m) (Take d j) h others)
-total m (Give d j ∷ h) others = total m h (All-tail (CalledBelow m) (Give d j) h others)
-total m (Claim d j ∷ h) others = total m h (All-tail (CalledBelow m) (Claim d j) h others)
-total m (Shape d changes ∷ h) others = total m h (All-tail (CalledBelow m) (Shape d changes) h others)
-total m (Call d j op reply ∷ h) others =
+pub total : (key : ℕ → ℕ) (m : ℕ) (h : List Event) → All (CalledBelow m) h → calls_in (rows (ops_by key h) 0 m) ≡ length (calls_of h)
+total key m [] others = total_none 0 m
+total key m (Take d j ∷ h) others = total key m h (All-tail (CalledBelow m) (Take d j) h others)
+total key m (Give d j ∷ h) others = total key m h (All-tail (CalledBelow m) (Give d j) h others)
+total key m (Claim d j ∷ h) others = total key m h (All-tail (CalledBelow m) (Claim d j) h others)
+total key m (Shape d changes ∷ h) others = total key m h (All-tail (CalledBelow m) (Shape d changes) h others)
+total key m (Call d j op reply ∷ h) others =
     let inside : d < m = others 0 (Call d j op reply) (omega arith) in
-    ap (λ O. calls_in (rows O 0 m)) (ops_more h d j op reply)
-    ∙ total_push (ops_by h) d op 0 m (omega arith) (omega arith)
-    ∙ ap (λ n. n + 1) (total m h (All-tail (CalledBelow m) (Call d j op reply) h others))
+    ap (λ O. calls_in (rows O 0 m)) (ops_more key h d j op reply)
+    ∙ total_push (ops_by key h) d (at_place key op) 0 m (omega arith) (omega arith)
+    ∙ ap (λ n. n + 1) (total key m h (All-tail (CalledBelow m) (Call d j op reply) h others))
     ∙ sym (one_more (calls_of h) (record { op = op; reply = reply }))
 
 -- rows are read by their number
@@ -140,42 +150,55 @@ module _ (m : ℕ) (L : ℕ → List (ℕ × Reply)) (O : ℕ → List Op) (call
             (subst (λ cs. IsAnswer (map_after cs) (get_or calls n no_call).op (get_or calls n no_call).reply) (sym (below_is n (omega arith))) (legal n (get_or calls n no_call) (slice_get_is calls n lt)));
       }
 
--- the operations with each key for its place
+-- of the operations at places keys are told
 
-at_same : (o : Op) → at_place (λ k. k) o ≡ o
-at_same (Get k) = refl
-at_same (Put k v) = refl
-at_same (Del k) = refl
-at_same (Add k v) = refl
-at_same (Swap k old new) = refl
+module _ (place key : ℕ → ℕ) (back : (k : ℕ) → IsPlace k → key (place k) ≡ k) where
+  keyed : (h : List Event) (c : ℕ) (ops : List Op) → AllByRecursion HasKey ops → map (λ x. x.call.op) (calls_by c h) ≡ map (at_place place) ops → ops_by key h c ≡ ops
+  keyed h c ops are is = sym (map-map (at_place key) (λ x. x.call.op) (calls_by c h)) ∙ ap (map (at_place key)) is ∙ ops_back place key back ops are
 
-all_same : (ops : List Op) → map (at_place (λ k. k)) ops ≡ ops
-all_same [] = refl
-all_same (o ∷ ops) = ap (λ x. x ∷ map (at_place (λ k. k)) ops) (at_same o) ∙ ap (λ l. o ∷ l) (all_same ops)
+  ops_at : (script : List (List Op)) (c : ℕ) → c < length script → AreKeys script → (ops : List Op) × (slice_get script c ≡ Some ops) × AllByRecursion HasKey ops
+  ops_at [] c lt are = absurd (omega arith)
+  ops_at (ops ∷ script) zero lt are = (ops, refl, are.0)
+  ops_at (ops ∷ script) (suc c) lt are = ops_at script c (omega arith) are.1
 
-pub agrees : (script : List (List Op)) (lines : Lines) (pairs : List (ℕ × ℕ)) (h : List Event) → calls_in script ≤ 1048576 → Served (λ k. k) script lines pairs h → IsLegalRun script lines pairs
-agrees script lines pairs h few served =
-    let m = length script in
-    let scripts : script ≡ rows (ops_by h) 0 m = rows_are (ops_by h) 0 script (λ i x e. ap (ops_by h) (zero_plus i) ∙ served.asked i x e ∙ all_same x) in
-    let told : lines ≡ rows (lines_by h) 0 m = rows_are (lines_by h) 0 lines (λ i x e. ap (lines_by h) (zero_plus i) ∙ served.told i x e) ∙ ap (rows (lines_by h) 0) served.callers in
-    let count : calls_in script ≡ length (calls_of h) = ap calls_in scripts ∙ total m h served.others in
-    let known : Known m (lines_by h) (ops_by h) (calls_of h) = known_of m h served.others (omega arith) in
-    let whole : calls_below (rows (ops_by h) 0 m) (rows (lines_by h) 0 m) (calls_in script) ≡ calls_of h =
-    below_is m (lines_by h) (ops_by h) (calls_of h) known (calls_in script) (omega arith) ∙ ap (λ k. take k (calls_of h)) count ∙ take_all (length (calls_of h)) (calls_of h) (omega arith) in
-    record {
-      numbers = λ n lt.
-          subst (λ s. IsRight s lines n) (sym scripts) (subst (λ l. IsRight (rows (ops_by h) 0 m) l n) (sym told) (right m (lines_by h) (ops_by h) (calls_of h) known served.legal n (omega arith)));
-      map =
-          subst (λ s. IsListing (map_after (calls_below s lines (calls_in script))) pairs) (sym scripts)
-          (subst (λ l. IsListing (map_after (calls_below (rows (ops_by h) 0 m) l (calls_in script))) pairs) (sym told)
-          (subst (λ cs. IsListing (map_after cs) pairs) (sym whole) served.final));
-    }
+  keys_at : (script : List (List Op)) (c : ℕ) (ops : List Op) → AreKeys script → slice_get script c ≡ Some ops → AllByRecursion HasKey ops
+  keys_at [] c ops are e = absurd cc
+  keys_at (x ∷ script) zero ops are e = let same : x ≡ ops = cc in subst (AllByRecursion HasKey) same are.0
+  keys_at (x ∷ script) (suc c) ops are e = keys_at script c ops are.1 e
+
+  pub agrees : (script : List (List Op)) (lines : Lines) (pairs : List (ℕ × ℕ)) (h : List Event) → calls_in script ≤ 1048576 → AreKeys script → Served place script lines pairs h → IsLegalRun script lines pairs
+  agrees script lines pairs h few are served =
+      let m = length script in
+      let rooted : (c : ℕ) → c < m → AllByRecursion (IsPlaced place key back) (map (λ x. x.call.op) (calls_by c h)) =
+      λ c lt. let o = ops_at script c lt are in subst (AllByRecursion (IsPlaced place key back)) (sym (served.asked c o.0 o.1)) (are_placed place key back o.0 o.2) in
+      let all : AllByRecursion (λ a. IsPlaced place key back a.op) (calls_of h) = of_all (IsPlaced place key back) m h served.others rooted in
+      let calls = map (placed key) (calls_of h) in
+      let keys : AllByRecursion (λ a. HasKey a.op) calls = have_keys place key back (calls_of h) all in
+      let whole_back : map (placed place) calls ≡ calls_of h = placed_back place key back (calls_of h) all in
+      let legal : Legal calls = legal_back place key back calls keys (subst Legal (sym whole_back) served.legal) in
+      let final : IsListing (map_after calls) pairs =
+      listing_back place key back (map_after (calls_of h)) (map_after calls) pairs (subst (λ cs. (k : ℕ) → IsPlace k → map_after cs (place k) ≡ map_after calls k) whole_back (after_agree place key back calls keys)) served.final in
+      let scripts : script ≡ rows (ops_by key h) 0 m = rows_are (ops_by key h) 0 script (λ i x e. ap (ops_by key h) (zero_plus i) ∙ keyed h i x (keys_at script i x are e) (served.asked i x e)) in
+      let told : lines ≡ rows (lines_by h) 0 m = rows_are (lines_by h) 0 lines (λ i x e. ap (lines_by h) (zero_plus i) ∙ served.told i x e) ∙ ap (rows (lines_by h) 0) served.callers in
+      let long : length calls ≡ length (calls_of h) = length-map (calls_of h) (placed key) in
+      let count : calls_in script ≡ length calls = ap calls_in scripts ∙ total key m h served.others ∙ sym long in
+      let known : Known m (lines_by h) (ops_by key h) calls = known_of key m h served.others (omega (arith, count, long)) in
+      let whole : calls_below (rows (ops_by key h) 0 m) (rows (lines_by h) 0 m) (calls_in script) ≡ calls =
+      below_is m (lines_by h) (ops_by key h) calls known (calls_in script) (omega (arith, count)) ∙ ap (λ k. take k calls) count ∙ take_all (length calls) calls (omega arith) in
+      record {
+        numbers = λ n lt.
+            subst (λ s. IsRight s lines n) (sym scripts) (subst (λ l. IsRight (rows (ops_by key h) 0 m) l n) (sym told) (right m (lines_by h) (ops_by key h) calls known legal n (omega (arith, count))));
+        map =
+            subst (λ s. IsListing (map_after (calls_below s lines (calls_in script))) pairs) (sym scripts)
+            (subst (λ l. IsListing (map_after (calls_below (rows (ops_by key h) 0 m) l (calls_in script))) pairs) (sym told)
+            (subst (λ cs. IsListing (map_after cs) pairs) (sym whole) final));
+      }
 
 -- so no judgment finds a wrong number in it
 pub no_wrong : (script : List (List Op)) (lines : Lines) (pairs : List (ℕ × ℕ)) (n : ℕ) → IsLegalRun script lines pairs → WrongAt script lines pairs n → ⊥
 no_wrong script lines pairs n legal (at_call {n = k} lt wrong) = wrong (legal.numbers k lt)
 no_wrong script lines pairs n legal (at_map wrong) = wrong legal.map
 
-pub judged_legal : (script : List (List Op)) (run : Run) (h : List Event) (j : Judged) → calls_in script ≤ 1048576 → Served (λ k. k) script run.callers run.pairs h → IsJudged script run j → j ≡ judged.Legal (calls_in script)
-judged_legal script run h (judged.Legal calls) few served is = ap (λ n. judged.Legal n) is.0
-judged_legal script run h (judged.Wrong n) few served is = absurd (no_wrong script run.callers run.pairs n (agrees script run.callers run.pairs h few served) is.wrong)
+pub judged_legal : (script : List (List Op)) (run : Run) (j : Judged) → IsLegalRun script run.callers run.pairs → IsJudged script run j → j ≡ judged.Legal (calls_in script)
+judged_legal script run (judged.Legal calls) legal is = ap (λ n. judged.Legal n) is.0
+judged_legal script run (judged.Wrong n) legal is = absurd (no_wrong script run.callers run.pairs n legal is.wrong)

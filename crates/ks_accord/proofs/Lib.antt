@@ -1,3 +1,4 @@
 pub mod Tables
 pub mod Stand
+pub mod Placed
 pub mod Agrees

@@ -9,15 +9,16 @@ use Rattle.ks_history.specs.declared.Op.{Op}
 use Rattle.ks_history.specs.declared.Reply.{Reply}
 use Rattle.ks_history.specs.declared.Event.{Event}
 use Rattle.ks_history.specs.Trace.{calls_by}
+use Rattle.ks_history.specs.Served.{at_place}
 use Rattle.ks_history.specs.Stays.{cond_here, cond_else}
 use Rattle.ks_judge.specs.Judgment.{carriers_in, carriers_from}
 
--- the lines and the operations of a caller after a trace
+-- the lines of a caller after a trace, and its operations, with keys for places
 abbrev pub lines_by : List Event → ℕ → List (ℕ × Reply)
 lines_by h c = map (λ x. (x.number, x.call.reply)) (calls_by c h)
 
-abbrev pub ops_by : List Event → ℕ → List Op
-ops_by h c = map (λ x. x.call.op) (calls_by c h)
+abbrev pub ops_by : (ℕ → ℕ) → List Event → ℕ → List Op
+ops_by key h c = map (λ x. at_place key x.call.op) (calls_by c h)
 
 -- k rows from row c on
 abbrev pub rows : {X : Type 0} → (ℕ → X) → ℕ → ℕ → List X

@@ -11,13 +11,17 @@ ghost use Rattle.ks_judge.specs.Judgment.{IsLegalRun};
 ghost use Rattle.ks_judge.specs.Verdict.{IsJudged};
 ghost use Rattle.ks_judge.specs.declared.judging.Judged.{Judged};
 ghost use Rattle.ks_judge.specs.declared.judging.Judged.TheVariants as verdict;
+ghost use Rattle.ks_accord.specs.Keys.{AreKeys};
 
-/// A run that tells what a trace served has no wrong number, and every judgment of it is legal. It computes nothing.
-pub fn served_is_legal()
-    ensures legal { (script : List (List Op)) (run : Run) (h : List Event) → calls_in script ≤ 1048576 →
-        Served (λ k. k) script run.callers run.pairs h → IsLegalRun script run.callers run.pairs }
-    ensures judged { (script : List (List Op)) (run : Run) (h : List Event) (j : Judged) → calls_in script ≤ 1048576 →
-        Served (λ k. k) script run.callers run.pairs h → IsJudged script run j → j ≡ verdict.Legal (calls_in script) }
+use ks_places::Placing;
+
+/// Whatever places keys have: a run that tells what a trace served has no wrong number, and every judgment of it is legal.
+/// It computes nothing.
+pub fn served_is_legal<P: Placing>()
+    ensures legal { (script : List (List Op)) (run : Run) (h : List Event) → calls_in script ≤ 1048576 → AreKeys script →
+        Served P.place_of script run.callers run.pairs h → IsLegalRun script run.callers run.pairs }
+    ensures judged { (script : List (List Op)) (run : Run) (h : List Event) (j : Judged) → calls_in script ≤ 1048576 → AreKeys script →
+        Served P.place_of script run.callers run.pairs h → IsJudged script run j → j ≡ verdict.Legal (calls_in script) }
 {}
 
 #[cfg(test)]

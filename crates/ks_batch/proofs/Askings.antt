@@ -1,15 +1,21 @@
--- What words ask for: one kind of text at most.
-use Rattle.std.proofs.Common.{ℕ, ◌≡◌, ◌⊎◌, inl, inr, List, length, sym, ◌∙◌, ap, arith}
+-- What words ask for: one command at most.
+use Rattle.std.proofs.Common.{ℕ, ◌≡◌, ◌<◌, ◌≤◌, ◌⊎◌, inl, inr, List, length, get_or, [], refl, sym, ◌∙◌, ap, subst, arith, if◌then◌else◌, ◌==◌}
+use Rattle.std.proofs.lemmas.Fmt.{decimal_injective}
+use Rattle.ks_batch.specs.declared.pairings.Pairing.{Pairing}
+use Rattle.ks_batch.specs.declared.pairings.Pairing.TheVariants.{ListCoupling, BplusCoupling, HashCoupling, ListGiveUp, BplusGiveUp, HashGiveUp, BplusLink, HashLink}
+use Rattle.ks_batch.specs.declared.words.Draft.{Draft}
+use Rattle.ks_batch.specs.declared.words.Asked.{Asked}
 use Rattle.ks_batch.specs.declared.words.Asked.TheVariants.{Run, Make, Check}
 use Rattle.ks_batch.specs.declared.words.Text.{Text}
 use Rattle.ks_batch.specs.declared.words.Text.TheVariants.{Script, Checked}
-use Rattle.ks_batch.specs.Words.{Spells, IsCommand, IsMake, Asks}
+use Rattle.ks_batch.specs.Pairings.{row_of}
+use Rattle.ks_batch.specs.Words.{Spells, AskToServe, IsCommand, IsMake, Asks}
 
 pub not_both : (words : List (List ℕ)) → Asks words Script → Asks words Checked → ⊥
-not_both words run check = let e = ap length (sym run.1.is ∙ check.is) in omega (arith, e)
+not_both words run check = let e = ap length (sym run.2.is ∙ check.is) in omega (arith, e)
 
 pub asks_command : (words : List (List ℕ)) (t : Text) → Asks words t → IsCommand words
-asks_command words Script asks = (Run asks.0, asks.1)
+asks_command words Script asks = (Run asks.0 asks.1, asks.2)
 asks_command words Checked asks = (Check, asks)
 
 pub only : (P : Text → Type 0) (words : List (List ℕ)) (t u : Text) → Asks words t → Asks words u → P t → P u
@@ -19,15 +25,80 @@ only P words Checked Script a b p = absurd (not_both words b a)
 only P words Checked Checked a b p = p
 
 -- a command to make a script asks for no text
-pub make_asks : (words : List (List ℕ)) (arena callers calls first : ℕ) (t : Text) → Spells words (Make arena callers calls first) → Asks words t → ⊥
-make_asks words arena callers calls first Script s asks = let e = ap length (sym asks.1.is ∙ s.is) in omega (arith, e)
-make_asks words arena callers calls first Checked s asks = let e = ap length (sym asks.is ∙ s.is) in omega (arith, e)
+pub make_asks : (words : List (List ℕ)) (pairing : Pairing) (arena : ℕ) (draft : Draft) (t : Text) → Spells words (Make pairing arena draft) → Asks words t → ⊥
+make_asks words pairing arena draft Script s asks = let e = ap length (sym asks.2.is ∙ s.is) in omega (arith, e)
+make_asks words pairing arena draft Checked s asks = let e = ap length (sym asks.is ∙ s.is) in omega (arith, e)
 
 pub asks_make : (words : List (List ℕ)) (t : Text) → Asks words t → IsMake words → ⊥
-asks_make words t asks (arena, callers, calls, first, s) = make_asks words arena callers calls first t s asks
+asks_make words t asks (pairing, arena, draft, s) = make_asks words pairing arena draft t s asks
 
 pub make_command : (words : List (List ℕ)) → IsMake words → IsCommand words
-make_command words (arena, callers, calls, first, s) = (Make arena callers calls first, s)
+make_command words (pairing, arena, draft, s) = (Make pairing arena draft, s)
+
+-- the words of a pairing are of no other
+
+abbrev pairing_of : (a b : ℕ) → Pairing
+pairing_of a b =
+    if a == 108 then (if b == 99 then ListCoupling else ListGiveUp)
+    else if a == 98 then (if b == 99 then BplusCoupling else if b == 103 then BplusGiveUp else BplusLink)
+    else (if b == 99 then HashCoupling else if b == 103 then HashGiveUp else HashLink)
+
+abbrev first_two : List ℕ → List ℕ → Pairing
+first_two nodes template = pairing_of (get_or nodes 0 0) (get_or template 0 0)
+
+read_back : (p : Pairing) → first_two (row_of p).nodes (row_of p).template ≡ p
+read_back ListCoupling = refl
+read_back BplusCoupling = refl
+read_back HashCoupling = refl
+read_back ListGiveUp = refl
+read_back BplusGiveUp = refl
+read_back HashGiveUp = refl
+read_back BplusLink = refl
+read_back HashLink = refl
+
+pairing_once : (words : List (List ℕ)) (p q : Pairing) → first_two (get_or words 1 []) (get_or words 2 []) ≡ p → first_two (get_or words 1 []) (get_or words 2 []) ≡ q → p ≡ q
+pairing_once words p q a b = sym a ∙ b
+
+named_by : (words : List (List ℕ)) (p : Pairing) → get_or words 1 [] ≡ (row_of p).nodes → get_or words 2 [] ≡ (row_of p).template → first_two (get_or words 1 []) (get_or words 2 []) ≡ p
+named_by words p a b = ap (λ x. first_two x (get_or words 2 [])) a ∙ ap (first_two (row_of p).nodes) b ∙ read_back p
+
+pub run_once : (words : List (List ℕ)) (p q : Pairing) (n m : ℕ) → Spells words (Run p n) → Spells words (Run q m) → (p ≡ q) × (n ≡ m)
+run_once words p q n m a b = (
+  pairing_once words p q
+      (named_by words p (ap (λ xs. get_or xs 1 []) a.is) (ap (λ xs. get_or xs 2 []) a.is))
+      (named_by words q (ap (λ xs. get_or xs 1 []) b.is) (ap (λ xs. get_or xs 2 []) b.is)),
+  decimal_injective n m (let le = a.limits.1 in omega (arith, le)) (let le = b.limits.1 in omega (arith, le)) (ap (λ xs. get_or xs 3 []) (sym a.is ∙ b.is)),
+)
+
+pub make_once : (words : List (List ℕ)) (p q : Pairing) (n m : ℕ) (d e : Draft) → Spells words (Make p n d) → Spells words (Make q m e) → (p ≡ q) × (n ≡ m)
+make_once words p q n m d e a b = (
+  pairing_once words p q
+      (named_by words p (ap (λ xs. get_or xs 1 []) a.is) (ap (λ xs. get_or xs 2 []) a.is))
+      (named_by words q (ap (λ xs. get_or xs 1 []) b.is) (ap (λ xs. get_or xs 2 []) b.is)),
+  decimal_injective n m (let le = a.limits.1 in omega (arith, le)) (let le = b.limits.1 in omega (arith, le)) (ap (λ xs. get_or xs 3 []) (sym a.is ∙ b.is)),
+)
+
+-- what is so of the pairing of a run is so of the one that its words name
+pub of_run : (P : Pairing → Type 0) (words : List (List ℕ)) (p q : Pairing) (n m : ℕ) → Spells words (Run p n) → Spells words (Run q m) → P p → P q
+of_run P words p q n m s other k = subst P (run_once words p q n m s other).0 k
+
+-- and so where a command serves
+pub served_run : (P : Pairing → ℕ → Type 0) (words : List (List ℕ)) (p q : Pairing) (n m : ℕ) → Spells words (Run p n) → AskToServe words q m → P p n → P q m
+served_run P words p q n m s (inl other) k = let e = run_once words p q n m s other in subst (P q) e.1 (subst (λ x. P x n) e.0 k)
+served_run P words p q n m s (inr other) k = let e = ap length (sym s.is ∙ other.1.is) in absurd (omega (arith, e))
+
+pub served_make : (P : Pairing → ℕ → Type 0) (words : List (List ℕ)) (p q : Pairing) (n m : ℕ) (d : Draft) → Spells words (Make p n d) → AskToServe words q m → P p n → P q m
+served_make P words p q n m d s (inl other) k = let e = ap length (sym s.is ∙ other.is) in absurd (omega (arith, e))
+served_make P words p q n m d s (inr other) k = let e = make_once words p q n m d other.0 s other.1 in subst (P q) e.1 (subst (λ x. P x n) e.0 k)
+
+-- nor does a check serve
+pub check_serves_none : (words : List (List ℕ)) (p : Pairing) (n : ℕ) → Spells words Check → AskToServe words p n → ⊥
+check_serves_none words p n s (inl other) = let e = ap length (sym s.is ∙ other.is) in omega (arith, e)
+check_serves_none words p n s (inr other) = let e = ap length (sym s.is ∙ other.1.is) in omega (arith, e)
+
+pub serve_command : (words : List (List ℕ)) (p : Pairing) (n : ℕ) → AskToServe words p n → IsCommand words
+serve_command words p n (inl s) = (Run p n, s)
+serve_command words p n (inr s) = (Make p n s.0, s.1)
 
 pub not_six : {n : ℕ} → (n ≡ 0) ⊎ ((n ≡ 4) ⊎ (n ≡ 5)) → n ≡ 6 → ⊥
 not_six (inl e) is = omega (arith, e, is)

@@ -111,19 +111,19 @@ due_answer text (Some bytes) rose out_rose status line o calm out_calm = λ acce
 
 -- what is known of the outcome of a script
 
-printed_accepted : (left : Option (List ℕ)) (run : Option (List Event)) (Took : List ℕ → Type 0) → IsSome run → IfSome left (λ bytes. IfSome run (λ h. Prints bytes h Took)) → IfSome left (IsAccepted Script)
-printed_accepted None run Took some p = tt
-printed_accepted (Some bytes) None Took some p = cc
-printed_accepted (Some bytes) (Some h) Took some p = script_accepted bytes p.tells.script p.tells.accepts
+printed_accepted : (place : ℕ → ℕ) (left : Option (List ℕ)) (run : Option (List Event)) (Took : List ℕ → Type 0) → IsSome run → IfSome left (λ bytes. IfSome run (λ h. Prints place bytes h Took)) → IfSome left (IsAccepted Script)
+printed_accepted place None run Took some p = tt
+printed_accepted place (Some bytes) None Took some p = cc
+printed_accepted place (Some bytes) (Some h) Took some p = script_accepted bytes p.tells.script p.tells.accepts
 
-pub script_outcome : (left : Option (List ℕ)) (rose out_rose : Type 0) (Whole Front : List ℕ → Type 0) (status line : ℕ) (run : Option (List Event)) →
+pub script_outcome : (place : ℕ → ℕ) (left : Option (List ℕ)) (rose out_rose : Type 0) (Whole Front : List ℕ → Type 0) (status line : ℕ) (run : Option (List Event)) →
     (status ≡ 1 → ⊥) × (status ≤ 5) → IsSome run ↔ ((status ≡ 0) ⊎ (status ≡ 4)) →
-    (status ≡ 0 → IfSome left (λ bytes. IfSome run (λ h. Prints bytes h Whole))) → (status ≡ 4 → IfSome left (λ bytes. IfSome run (λ h. Prints bytes h Front))) →
+    (status ≡ 0 → IfSome left (λ bytes. IfSome run (λ h. Prints place bytes h Whole))) → (status ≡ 4 → IfSome left (λ bytes. IfSome run (λ h. Prints place bytes h Front))) →
     (status ≡ 2 → IfSome left (λ bytes. RefusedAt Script bytes line)) → (status ≡ 3 → rose) → (status ≡ 4 → out_rose) → IsOutcome Script left rose out_rose status line
-script_outcome left rose out_rose Whole Front status line run known ran done cut refused source output = record {
+script_outcome place left rose out_rose Whole Front status line run known ran done cut refused source output = record {
   known = (known.0, let le = known.1 in omega arith);
-  done = λ is. printed_accepted left run Whole (ran.1 (inl is)) (done is);
-  cut = λ is. printed_accepted left run Front (ran.1 (inr is)) (cut is);
+  done = λ is. printed_accepted place left run Whole (ran.1 (inl is)) (done is);
+  cut = λ is. printed_accepted place left run Front (ran.1 (inr is)) (cut is);
   wrong = λ is. let le = known.1 in absurd (omega arith);
   refused = refused;
   source = source;

@@ -1,3 +1,4 @@
+pub mod Pairings
 pub mod Words
 pub mod Message
 pub mod Serve

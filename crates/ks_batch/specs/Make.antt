@@ -6,27 +6,29 @@ use Rattle.ks_script.specs.Run.{Run}
 use Rattle.ks_script.specs.Outside.{Grew, GrewByFront}
 use Rattle.ks_made.specs.Made.{made}
 use Rattle.ks_made.specs.Summary.{summary_text}
+use Rattle.ks_batch.specs.declared.pairings.Pairing.{Pairing}
+use Rattle.ks_batch.specs.declared.words.Draft.{Draft}
 use Rattle.ks_batch.specs.declared.words.Asked.TheVariants.{Make}
+use Rattle.ks_batch.specs.Pairings.{row_of}
 use Rattle.ks_batch.specs.Words.{Spells}
 
--- the trace h served the script that is made, and of the summary of the run that tells it Took holds
-pub record Sums (callers calls first : ℕ) (h : List Event) (Took : List ℕ → Type 0) : Type 0 where
+-- the trace h served the script that is made, with these places for keys, and of the summary of the run that tells it Took holds
+pub record Sums (place : ℕ → ℕ) (draft : Draft) (h : List Event) (Took : List ℕ → Type 0) : Type 0 where
   pub run : Run
-  pub served : Served (λ k. k) (made callers calls first) run.callers run.pairs h
-  pub took : Took (summary_text (made callers calls first) run)
+  pub served : Served place (made draft.callers draft.calls draft.first) run.callers run.pairs h
+  pub took : Took (summary_text (made draft.callers draft.calls draft.first) run)
 
 -- the text is that summary
-abbrev pub SumsUp : (callers calls first : ℕ) → List Event → List ℕ → Type 0
-SumsUp callers calls first h text = Sums callers calls first h (λ t. text ≡ t)
+abbrev pub SumsUp : (ℕ → ℕ) → Draft → List Event → List ℕ → Type 0
+SumsUp place draft h text = Sums place draft h (λ t. text ≡ t)
 
 -- what the command leaves: it is done, or the output failed, or memory was wanting
 pub record MakesOutcome (words : List (List ℕ)) (old new : Option (List ℕ)) (status : ℕ) (run : Option (List Event)) : Type 0 where
+  pub pairing : Pairing
   pub arena : ℕ
-  pub callers : ℕ
-  pub calls : ℕ
-  pub first : ℕ
-  pub spells : Spells words (Make arena callers calls first)
+  pub draft : Draft
+  pub spells : Spells words (Make pairing arena draft)
   pub known : (status ≡ 0) ⊎ ((status ≡ 4) ⊎ (status ≡ 5))
   pub ran : IsSome run ↔ ((status ≡ 0) ⊎ (status ≡ 4))
-  pub done : status ≡ 0 → IfSome run (λ h. Sums callers calls first h (λ t. Grew old new t))
-  pub cut : status ≡ 4 → IfSome run (λ h. Sums callers calls first h (λ t. GrewByFront old new t))
+  pub done : status ≡ 0 → IfSome run (λ h. Sums (row_of pairing).place draft h (λ t. Grew old new t))
+  pub cut : status ≡ 4 → IfSome run (λ h. Sums (row_of pairing).place draft h (λ t. GrewByFront old new t))

@@ -34,17 +34,22 @@ pub record Accepts (bytes : List ℕ) (script : List (List Op)) : Type 0 where
   pub within : length bytes ≤ limit_of Script
   pub reads : ScriptOf bytes script
 
--- the trace h served the script that the bytes spell, and the run tells it
-pub record Tells (bytes : List ℕ) (h : List Event) (run : Run) : Type 0 where
+-- the trace h served the script that the bytes spell, with these places for keys, and the run tells it
+pub record Tells (place : ℕ → ℕ) (bytes : List ℕ) (h : List Event) (run : Run) : Type 0 where
   pub script : List (List Op)
   pub accepts : Accepts bytes script
-  pub served : Served (λ k. k) script run.callers run.pairs h
+  pub served : Served place script run.callers run.pairs h
 
 -- the trace h served the script that the bytes spell, and of the text that tells it Took holds
-pub record Prints (bytes : List ℕ) (h : List Event) (Took : List ℕ → Type 0) : Type 0 where
+pub record Prints (place : ℕ → ℕ) (bytes : List ℕ) (h : List Event) (Took : List ℕ → Type 0) : Type 0 where
   pub run : Run
-  pub tells : Tells bytes h run
+  pub tells : Tells place bytes h run
   pub took : Took (run_text run)
+
+-- the trace of the run, if there is one, served the script that the source had left, if it tells, and of the text that
+-- tells it Took holds
+abbrev pub PrintsRun : (ℕ → ℕ) → Option (List ℕ) → Option (List Event) → (List ℕ → Type 0) → Type 0
+PrintsRun place left run Took = IfSome left (λ bytes. IfSome run (λ h. Prints place bytes h Took))
 
 -- the bytes are the text of this script and this run
 pub record AcceptsChecked (bytes : List ℕ) (script : List (List Op)) (run : Run) : Type 0 where

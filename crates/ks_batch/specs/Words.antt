@@ -1,21 +1,28 @@
 -- The words of the program.
-use Rattle.std.specs.Prelude.{ℕ, ◌≡◌, ◌≤◌, List, [], ◌∷◌, codes}
+use Rattle.std.specs.Prelude.{ℕ, ◌≡◌, ◌≤◌, ◌⊎◌, List, [], ◌∷◌, map, codes, String, string_bytes}
 use Rattle.std.specs.Fmt.{decimal}
+use Rattle.ks_batch.specs.declared.pairings.Pairing.{Pairing}
+use Rattle.ks_batch.specs.declared.words.Draft.{Draft}
 use Rattle.ks_batch.specs.declared.words.Asked.{Asked}
 use Rattle.ks_batch.specs.declared.words.Asked.TheVariants.{Run, Make, Check}
 use Rattle.ks_batch.specs.declared.words.Text.{Text}
 use Rattle.ks_batch.specs.declared.words.Text.TheVariants.{Script, Checked}
+use Rattle.ks_batch.specs.Pairings.{row_of}
+
+-- the bytes of each word
+abbrev pub bytes_of : {Z : Type 0} → List (String Z) → List (List ℕ)
+bytes_of words = map string_bytes words
 
 -- the words of a command
 abbrev pub spelled : Asked → List (List ℕ)
-spelled (Run arena) = codes "run" ∷ codes "bplus" ∷ codes "coupling" ∷ decimal arena ∷ []
-spelled (Make arena callers calls first) = codes "make" ∷ codes "bplus" ∷ codes "coupling" ∷ decimal arena ∷ decimal callers ∷ decimal calls ∷ decimal first ∷ []
+spelled (Run pairing arena) = codes "run" ∷ (row_of pairing).nodes ∷ (row_of pairing).template ∷ decimal arena ∷ []
+spelled (Make pairing arena draft) = codes "make" ∷ (row_of pairing).nodes ∷ (row_of pairing).template ∷ decimal arena ∷ decimal draft.callers ∷ decimal draft.calls ∷ decimal draft.first ∷ []
 spelled Check = codes "check" ∷ []
 
 -- its numbers are within their limits
 abbrev pub InLimits : Asked → Type 0
-InLimits (Run arena) = (4 ≤ arena) × (arena ≤ 65536)
-InLimits (Make arena callers calls first) = (4 ≤ arena) × (arena ≤ 65536) × (1 ≤ callers) × (callers ≤ 64) × (calls ≤ 16384) × (first ≤ 18446744073709551615)
+InLimits (Run pairing arena) = (4 ≤ arena) × (arena ≤ 65536)
+InLimits (Make pairing arena draft) = (4 ≤ arena) × (arena ≤ 65536) × (1 ≤ draft.callers) × (draft.callers ≤ 64) × (draft.calls ≤ 16384) × (draft.first ≤ 18446744073709551615)
 InLimits Check = Unit {0}
 
 -- the words are those of the command
@@ -29,15 +36,18 @@ IsCommand words = (asked : Asked) × Spells words asked
 
 -- the words ask that a text of this kind be read
 abbrev pub Asks : List (List ℕ) → Text → Type 0
-Asks words Script = (arena : ℕ) × Spells words (Run arena)
+Asks words Script = (pairing : Pairing) × (arena : ℕ) × Spells words (Run pairing arena)
 Asks words Checked = Spells words Check
 
--- the words are the numbers of a command to make a script
-abbrev pub SpellsNumbers : (arena callers calls first : List ℕ) → Asked → Type 0
-SpellsNumbers a c n f (Run arena) = ⊥
-SpellsNumbers a c n f (Make arena callers calls first) = (a ≡ decimal arena) × (c ≡ decimal callers) × (n ≡ decimal calls) × (f ≡ decimal first) × InLimits (Make arena callers calls first)
-SpellsNumbers a c n f Check = ⊥
+-- these words are those of the pairing
+pub record Names (nodes template : List ℕ) (pairing : Pairing) : Type 0 where
+  pub nodes_are : nodes ≡ (row_of pairing).nodes
+  pub template_is : template ≡ (row_of pairing).template
 
 -- the words are a command to make a script
 abbrev pub IsMake : List (List ℕ) → Type 0
-IsMake words = (arena callers calls first : ℕ) × Spells words (Make arena callers calls first)
+IsMake words = (pairing : Pairing) × (arena : ℕ) × (draft : Draft) × Spells words (Make pairing arena draft)
+
+-- the words are a command to serve callers by the pairing, over an arena of so many nodes
+abbrev pub AskToServe : List (List ℕ) → Pairing → ℕ → Type 0
+AskToServe words pairing arena = Spells words (Run pairing arena) ⊎ ((draft : Draft) × Spells words (Make pairing arena draft))

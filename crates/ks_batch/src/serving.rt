@@ -1,28 +1,37 @@
 //! What the program does: it serves a script, or judges a printed run, from bytes to bytes.
 
-ghost use Rattle.std.specs.Prelude.{ℕ, ◌≡◌, ◌≤◌, ◌⊎◌, ◌↔◌, ◌++◌, map, string_bytes, Some, List, [], IfOk, OnOk, OnErr, IfErr, IfSome, IsSome, IsNone, codes};
+ghost use Rattle.std.specs.Prelude.{ℕ, ◌≡◌, ◌≢◌, ◌≤◌, ◌⊎◌, ◌↔◌, ◌++◌, map, Some, List, [], IfOk, OnOk, OnErr, IfErr, IfSome, IsSome, IsNone, codes};
 ghost use Rattle.std.specs.Fmt.{decimal};
+ghost use Rattle.ks_history.specs.Due.{FullsDue};
 ghost use Rattle.ks_history.specs.Lawful.{Lawful, GoodThroughout};
 ghost use Rattle.ks_history.specs.declared.Op.{Op};
 ghost use Rattle.ks_script.specs.Outside.{Rose, Grew, GrewByFront};
 ghost use Rattle.ks_script.specs.Run as printed_run;
 ghost use Rattle.ks_batch.specs.declared.words.Text.{Text};
 ghost use Rattle.ks_batch.specs.declared.words.Text.TheVariants as text;
-ghost use Rattle.ks_batch.specs.Words.{IsCommand, IsMake, Asks};
+ghost use Rattle.ks_batch.specs.declared.pairings.Pairing.{Pairing};
+ghost use Rattle.ks_batch.specs.declared.words.Asked.TheVariants as asked;
+ghost use Rattle.ks_batch.specs.Pairings.{row_of};
+ghost use Rattle.ks_batch.specs.Words.{bytes_of, Spells, AskToServe, IsCommand, IsMake, Asks};
 ghost use Rattle.ks_batch.specs.Message.{status_text};
-ghost use Rattle.ks_batch.specs.Serve.{RefusedAt, Accepts, AcceptsChecked, Tells, Prints, Judges, IsCheck, judged_line};
+ghost use Rattle.ks_batch.specs.Serve.{RefusedAt, Accepts, AcceptsChecked, Tells, PrintsRun, Judges, IsCheck, judged_line};
 ghost use Rattle.ks_batch.specs.Make.{SumsUp, Sums, MakesOutcome};
 ghost use Rattle.ks_batch.specs.Stop.{IsCause};
 
 use crate::input::{Stop, load, load_checked};
 use crate::message::tell;
-use crate::words::{Asked, command};
+use crate::pairings::{Pairing, serve_by};
+use crate::words::{Asked, Draft, command};
 use itoa::Buffer;
+use ks_arena::RunTrace;
+use ks_dictionary::Told;
+use ks_gate::Gate;
 use ks_judge::{Judged, judge};
-use ks_made::{made_script, summary};
+use ks_made::{Size, made_script, summary};
 use ks_script::{Failed, Printed, Sink, Source, send, write_run};
-use ks_single::{Run, RunTrace, serve_callers};
 use std::alloc::{AllocError, Global};
+use std::sync::Wait;
+use std::thread::Threads;
 
 /// How the program ended.
 #[derive(Drop)]
@@ -58,52 +67,74 @@ struct Ready {
     trace: RunTrace,
 }
 
-/// Reads a script and serves it.
-fn prepare<S: Source>(alloc: Global, source: &mut S) -> Result<Ready, Stop>
+fn to_print(told: Told) -> Ready
+    ensures trace { result.trace ≡ told.trace }
+    ensures callers { result.printed.callers ≡ map (λ v. v.items) told.lines.items }
+    ensures pairs { result.printed.pairs ≡ told.pairs.items }
+{
+    Ready {
+        printed: Printed {
+            callers: told.lines,
+            pairs: told.pairs,
+        },
+        trace: told.trace,
+    }
+}
+
+/// Reads a script and serves it by the pairing, over so many nodes.
+fn prepare<R: Threads + Wait + Sync, S: Source, G: Gate + Sync>(
+    rt: &R,
+    alloc: Global,
+    pairing: Pairing,
+    arena: u32,
+    source: &mut S,
+    gate: &G,
+) -> Result<Ready, Stop>
+    requires { (4 ≤ arena) × (arena ≤ 65536) }
     ensures lawful { IfOk result (λ ready. Lawful ready.trace) }
     ensures good { IfOk result (λ ready. GoodThroughout ready.trace) }
-    ensures tells { IfOk result (λ ready. IfSome (S.left source.old) (λ bytes. Tells bytes ready.trace ready.printed)) }
+    ensures due { IfOk result (λ ready. FullsDue (row_of pairing).layout arena ready.trace) }
+    ensures tells { IfOk result (λ ready. IfSome (S.left source.old) (λ bytes. Tells (row_of pairing).place bytes ready.trace ready.printed)) }
     ensures end { OnOk result (IfSome (S.left source.old) (λ _. S.left source.new ≡ Some [])) }
     ensures cause { IfErr result (λ stop. IsCause stop text.Script (S.left source.old) (Rose (S.faults source.old) (S.faults source.new))) }
 {
     let script = load(alloc, source)?;
-    match serve_callers(alloc, &script.callers) {
-        Ok(run) => Ok(to_print(run)),
+    match serve_by(rt, alloc, pairing, arena, script.callers, gate) {
+        Ok(told) => Ok(to_print(told)),
         Err(_) => Err(Stop::Memory),
     }
 }
 
-fn to_print(run: Run) -> Ready
-    ensures trace { result.trace ≡ run.trace }
-    ensures callers { result.printed.callers ≡ map (λ v. v.items) run.lines.items }
-    ensures pairs { result.printed.pairs ≡ run.pairs.items }
-{
-    Ready {
-        printed: Printed {
-            callers: run.lines,
-            pairs: run.pairs,
-        },
-        trace: run.trace,
-    }
-}
-
 /// The command `run`: serves the script on the source and writes what its calls were answered.
-fn serve_script<S: Source, K: Sink>(alloc: Global, source: &mut S, out: &mut K) -> Outcome
+fn serve_script<R: Threads + Wait + Sync, S: Source, K: Sink, G: Gate + Sync>(
+    rt: &R,
+    alloc: Global,
+    pairing: Pairing,
+    arena: u32,
+    source: &mut S,
+    out: &mut K,
+    gate: &G,
+) -> Outcome
+    requires { (4 ≤ arena) × (arena ≤ 65536) }
     ensures lawful { IfSome result.run Lawful }
     ensures good { IfSome result.run GoodThroughout }
+    ensures due { IfSome result.run (FullsDue (row_of pairing).layout arena) }
     ensures ran { IsSome result.run ↔ ((result.status ≡ 0) ⊎ (result.status ≡ 4)) }
-    ensures status { (result.status ≡ 1 → ⊥) × (result.status ≤ 5) }
-    ensures line { (result.status ≡ 2 → ⊥) → result.line ≡ 0 }
+    ensures status { (result.status ≢ 1) × (result.status ≤ 5) }
+    ensures line { result.status ≢ 2 → result.line ≡ 0 }
     ensures number { result.number ≡ 0 }
-    ensures done { result.status ≡ 0 → IfSome (S.left source.old) (λ bytes. IfSome result.run (λ h. Prints bytes h (λ text. Grew (K.taken out.old) (K.taken out.new) text))) }
-    ensures cut { result.status ≡ 4 → IfSome (S.left source.old) (λ bytes. IfSome result.run (λ h. Prints bytes h (λ text. GrewByFront (K.taken out.old) (K.taken out.new) text))) }
+    ensures done { result.status ≡ 0 →
+        PrintsRun (row_of pairing).place (S.left source.old) result.run (Grew (K.taken out.old) (K.taken out.new)) }
+    ensures cut { result.status ≡ 4 →
+        PrintsRun (row_of pairing).place (S.left source.old) result.run (GrewByFront (K.taken out.old) (K.taken out.new)) }
     ensures end { IsSome result.run → IfSome (S.left source.old) (λ _. S.left source.new ≡ Some []) }
-    ensures untouched { (result.status ≡ 0 → ⊥) → (result.status ≡ 4 → ⊥) → K.taken out.new ≡ K.taken out.old }
-    ensures refused { result.status ≡ 2 → IfSome (S.left source.old) (λ bytes. RefusedAt text.Script bytes result.line) }
+    ensures untouched { result.status ≢ 0 → result.status ≢ 4 → K.taken out.new ≡ K.taken out.old }
+    ensures refused { result.status ≡ 2 →
+        IfSome (S.left source.old) (λ bytes. RefusedAt text.Script bytes result.line) }
     ensures source { result.status ≡ 3 → Rose (S.faults source.old) (S.faults source.new) }
     ensures output { result.status ≡ 4 → Rose (K.faults out.old) (K.faults out.new) }
 {
-    match prepare(alloc, source) {
+    match prepare(rt, alloc, pairing, arena, source, gate) {
         Ok(ready) => {
             let status = match write_run(out, &ready.printed) {
                 Ok(()) => 0,
@@ -160,12 +191,14 @@ fn say_judged<K: Sink>(out: &mut K, judged: Judged) -> Result<(), Failed>
 /// The command `check`: judges the script and the run on the source, and writes what they are judged to be.
 fn check_run<S: Source, K: Sink>(alloc: Global, source: &mut S, out: &mut K) -> Outcome
     ensures run { IsNone result.run }
-    ensures status { (result.status ≡ 1 → ⊥) × (result.status ≤ 6) }
-    ensures line { (result.status ≡ 2 → ⊥) → result.line ≡ 0 }
-    ensures number { (result.status ≡ 6 → ⊥) → result.number ≡ 0 }
+    ensures status { (result.status ≢ 1) × (result.status ≤ 6) }
+    ensures line { result.status ≢ 2 → result.line ≡ 0 }
+    ensures number { result.status ≢ 6 → result.number ≡ 0 }
     ensures checked { IsCheck (S.left source.old) (K.taken out.old) (K.taken out.new) result.status result.number }
-    ensures untouched { (result.status ≡ 0 → ⊥) → (result.status ≡ 4 → ⊥) → (result.status ≡ 6 → ⊥) → K.taken out.new ≡ K.taken out.old }
-    ensures refused { result.status ≡ 2 → IfSome (S.left source.old) (λ bytes. RefusedAt text.Checked bytes result.line) }
+    ensures untouched { result.status ≢ 0 → result.status ≢ 4 → result.status ≢ 6 →
+        K.taken out.new ≡ K.taken out.old }
+    ensures refused { result.status ≡ 2 →
+        IfSome (S.left source.old) (λ bytes. RefusedAt text.Checked bytes result.line) }
     ensures source { result.status ≡ 3 → Rose (S.faults source.old) (S.faults source.new) }
     ensures output { result.status ≡ 4 → Rose (K.faults out.old) (K.faults out.new) }
 {
@@ -188,16 +221,27 @@ fn check_run<S: Source, K: Sink>(alloc: Global, source: &mut S, out: &mut K) -> 
     }
 }
 
-/// Makes a script, serves it and sums it up; nothing is written yet.
-fn make(alloc: Global, callers: u32, calls: u32, first: u64) -> Result<Made, AllocError>
-    requires { callers ≤ 64 }
+/// Makes a script, serves it by the pairing over so many nodes, and sums it up; nothing is written yet.
+fn make<R: Threads + Wait + Sync, G: Gate + Sync>(
+    rt: &R,
+    alloc: Global,
+    pairing: Pairing,
+    arena: u32,
+    draft: Draft,
+    gate: &G,
+) -> Result<Made, AllocError>
+    requires arena { (4 ≤ arena) × (arena ≤ 65536) }
+    requires callers { draft.callers ≤ 64 }
     ensures lawful { IfOk result (λ made. Lawful made.trace) }
     ensures good { IfOk result (λ made. GoodThroughout made.trace) }
-    ensures sums { IfOk result (λ made. SumsUp callers calls first made.trace made.text.items) }
+    ensures due { IfOk result (λ made. FullsDue (row_of pairing).layout arena made.trace) }
+    ensures sums { IfOk result (λ made. SumsUp (row_of pairing).place draft made.trace made.text.items) }
 {
-    let script = made_script(alloc, callers, calls, first)?;
-    let ready = to_print(serve_callers(alloc, &script.callers)?);
-    let text = summary(alloc, &script, &ready.printed)?;
+    let script = made_script(alloc, draft.callers, draft.calls, draft.first)?;
+    let size = Size::of(&script);
+    let told = serve_by(rt, alloc, pairing, arena, script.callers, gate)?;
+    let ready = to_print(told);
+    let text = summary(alloc, size, &ready.printed)?;
     Ok(Made {
         text,
         trace: ready.trace,
@@ -212,20 +256,32 @@ struct Made {
 }
 
 /// The command `make`: serves a script that is made, and writes the summary.
-fn make_run<K: Sink>(alloc: Global, callers: u32, calls: u32, first: u64, out: &mut K) -> Outcome
-    requires { callers ≤ 64 }
+fn make_run<R: Threads + Wait + Sync, K: Sink, G: Gate + Sync>(
+    rt: &R,
+    alloc: Global,
+    pairing: Pairing,
+    arena: u32,
+    draft: Draft,
+    out: &mut K,
+    gate: &G,
+) -> Outcome
+    requires arena { (4 ≤ arena) × (arena ≤ 65536) }
+    requires callers { draft.callers ≤ 64 }
     ensures lawful { IfSome result.run Lawful }
     ensures good { IfSome result.run GoodThroughout }
+    ensures due { IfSome result.run (FullsDue (row_of pairing).layout arena) }
     ensures ran { IsSome result.run ↔ ((result.status ≡ 0) ⊎ (result.status ≡ 4)) }
     ensures status { (result.status ≡ 0) ⊎ ((result.status ≡ 4) ⊎ (result.status ≡ 5)) }
     ensures line { result.line ≡ 0 }
     ensures number { result.number ≡ 0 }
-    ensures done { result.status ≡ 0 → IfSome result.run (λ h. Sums callers calls first h (λ t. Grew (K.taken out.old) (K.taken out.new) t)) }
-    ensures cut { result.status ≡ 4 → IfSome result.run (λ h. Sums callers calls first h (λ t. GrewByFront (K.taken out.old) (K.taken out.new) t)) }
-    ensures untouched { (result.status ≡ 0 → ⊥) → (result.status ≡ 4 → ⊥) → K.taken out.new ≡ K.taken out.old }
+    ensures done { result.status ≡ 0 →
+        IfSome result.run (λ h. Sums (row_of pairing).place draft h (Grew (K.taken out.old) (K.taken out.new))) }
+    ensures cut { result.status ≡ 4 →
+        IfSome result.run (λ h. Sums (row_of pairing).place draft h (GrewByFront (K.taken out.old) (K.taken out.new))) }
+    ensures untouched { result.status ≢ 0 → result.status ≢ 4 → K.taken out.new ≡ K.taken out.old }
     ensures output { result.status ≡ 4 → Rose (K.faults out.old) (K.faults out.new) }
 {
-    match make(alloc, callers, calls, first) {
+    match make(rt, alloc, pairing, arena, draft, gate) {
         Ok(made) => {
             let status = match send(out, &made.text) {
                 Ok(()) => 0,
@@ -243,56 +299,89 @@ fn make_run<K: Sink>(alloc: Global, callers: u32, calls: u32, first: u64, out: &
 }
 
 /// The whole program: does what the words ask for, and says on `err` what stood against it.
-pub fn serve<S: Source, K: Sink, E: Sink>(
+///
+/// The headline: for every pairing, script and gate, and however the steps of the callers fall between one another, the
+/// calls that are printed are, in the order of their numbers, one legal history of a finite map, each call once, those of
+/// each caller in its order; at every moment the keysets of the live nodes are disjoint and cover all keys; and `full` is
+/// answered only where that call found every node not free. Splits, merges and the use of a node again are steps like all
+/// others. It holds where the call returns, memory is not wanting, and source and sink do not fail.
+pub fn serve<R: Threads + Wait + Sync, S: Source, K: Sink, E: Sink, G: Gate + Sync>(
+    rt: &R,
     alloc: Global,
     words: &[String],
     source: &mut S,
     out: &mut K,
     err: &mut E,
+    gate: &G,
 ) -> Outcome
-    // What happened in a run is lawful, and the keysets of the live nodes are disjoint and cover all places, always.
+    // What happened in a run is lawful, the keysets of the live nodes are disjoint and cover all places, always, and each
+    // Full was due.
     ensures lawful { IfSome result.run Lawful }
     ensures good { IfSome result.run GoodThroughout }
-    ensures ran { Asks (map string_bytes words.now) text.Script → (IsSome result.run ↔ ((result.status ≡ 0) ⊎ (result.status ≡ 4))) }
-    ensures not_ran { Asks (map string_bytes words.now) text.Checked → IsNone result.run }
+    ensures due { (pairing : Pairing) (nodes : ℕ) → AskToServe (bytes_of words.now) pairing nodes →
+        IfSome result.run (FullsDue (row_of pairing).layout nodes) }
+    ensures ran { Asks (bytes_of words.now) text.Script →
+        (IsSome result.run ↔ ((result.status ≡ 0) ⊎ (result.status ≡ 4))) }
+    ensures not_ran { Asks (bytes_of words.now) text.Checked → IsNone result.run }
 
     // What is written is the text of a run that this served, or, where the output failed, first bytes of it.
-    ensures done { Asks (map string_bytes words.now) text.Script → result.status ≡ 0 → IfSome (S.left source.old) (λ bytes. IfSome result.run (λ h. Prints bytes h (λ t. Grew (K.taken out.old) (K.taken out.new) t))) }
-    ensures cut { Asks (map string_bytes words.now) text.Script → result.status ≡ 4 → IfSome (S.left source.old) (λ bytes. IfSome result.run (λ h. Prints bytes h (λ t. GrewByFront (K.taken out.old) (K.taken out.new) t))) }
-    ensures end { Asks (map string_bytes words.now) text.Script → IsSome result.run → IfSome (S.left source.old) (λ _. S.left source.new ≡ Some []) }
+    ensures done { (pairing : Pairing) (nodes : ℕ) →
+        Spells (bytes_of words.now) (asked.Run pairing nodes) → result.status ≡ 0 →
+        PrintsRun (row_of pairing).place (S.left source.old) result.run (Grew (K.taken out.old) (K.taken out.new)) }
+    ensures cut { (pairing : Pairing) (nodes : ℕ) →
+        Spells (bytes_of words.now) (asked.Run pairing nodes) → result.status ≡ 4 →
+        PrintsRun (row_of pairing).place (S.left source.old) result.run (GrewByFront (K.taken out.old) (K.taken out.new)) }
+    ensures end { Asks (bytes_of words.now) text.Script → IsSome result.run →
+        IfSome (S.left source.old) (λ _. S.left source.new ≡ Some []) }
 
     // Or it is the line of the judgment of the run that was read.
-    ensures checked { Asks (map string_bytes words.now) text.Checked → IsCheck (S.left source.old) (K.taken out.old) (K.taken out.new) result.status result.number }
-    ensures untouched { (result.status ≡ 0 → ⊥) → (result.status ≡ 4 → ⊥) → (result.status ≡ 6 → ⊥) → K.taken out.new ≡ K.taken out.old }
+    ensures checked { Asks (bytes_of words.now) text.Checked →
+        IsCheck (S.left source.old) (K.taken out.old) (K.taken out.new) result.status result.number }
+    ensures untouched { result.status ≢ 0 → result.status ≢ 4 → result.status ≢ 6 →
+        K.taken out.new ≡ K.taken out.old }
 
     // When each status comes.
-    ensures usage { (result.status ≡ 1) ↔ (IsCommand (map string_bytes words.now) → ⊥) }
-    ensures made { IsMake (map string_bytes words.now) → MakesOutcome (map string_bytes words.now) (K.taken out.old) (K.taken out.new) result.status result.run }
-    ensures unread { (result.status ≡ 1) ⊎ IsMake (map string_bytes words.now) → S.left source.new ≡ S.left source.old }
-    ensures refused { (t : Text) → Asks (map string_bytes words.now) t → result.status ≡ 2 → IfSome (S.left source.old) (λ bytes. RefusedAt t bytes result.line) }
-    ensures refusal_due { (t : Text) → Asks (map string_bytes words.now) t → (Rose (S.faults source.old) (S.faults source.new) → ⊥) → IfSome (S.left source.old) (λ bytes. (n : ℕ) → RefusedAt t bytes n → ((result.status ≡ 2) × (result.line ≡ n)) ⊎ (result.status ≡ 5)) }
+    ensures usage { (result.status ≡ 1) ↔ ¬ IsCommand (bytes_of words.now) }
+    ensures made { IsMake (bytes_of words.now) →
+        MakesOutcome (bytes_of words.now) (K.taken out.old) (K.taken out.new) result.status result.run }
+    ensures unread { (result.status ≡ 1) ⊎ IsMake (bytes_of words.now) →
+        S.left source.new ≡ S.left source.old }
+    ensures refused { (t : Text) → Asks (bytes_of words.now) t → result.status ≡ 2 →
+        IfSome (S.left source.old) (λ bytes. RefusedAt t bytes result.line) }
+    ensures refusal_due { (t : Text) → Asks (bytes_of words.now) t →
+        ¬ Rose (S.faults source.old) (S.faults source.new) →
+        IfSome (S.left source.old) (λ bytes. (n : ℕ) → RefusedAt t bytes n →
+        ((result.status ≡ 2) × (result.line ≡ n)) ⊎ (result.status ≡ 5)) }
     ensures source { result.status ≡ 3 → Rose (S.faults source.old) (S.faults source.new) }
     ensures output { result.status ≡ 4 → Rose (K.faults out.old) (K.faults out.new) }
-    ensures judgment { result.status ≡ 6 → Asks (map string_bytes words.now) text.Checked }
-    ensures done_due { Asks (map string_bytes words.now) text.Script → (Rose (S.faults source.old) (S.faults source.new) → ⊥) → (Rose (K.faults out.old) (K.faults out.new) → ⊥) → IfSome (S.left source.old) (λ bytes. (script : List (List Op)) → Accepts bytes script → (result.status ≡ 0) ⊎ (result.status ≡ 5)) }
-    ensures judged_due { Asks (map string_bytes words.now) text.Checked → (Rose (S.faults source.old) (S.faults source.new) → ⊥) → (Rose (K.faults out.old) (K.faults out.new) → ⊥) → IfSome (S.left source.old) (λ bytes. (script : List (List Op)) (run : printed_run.Run) → AcceptsChecked bytes script run → (result.status ≡ 0) ⊎ ((result.status ≡ 6) ⊎ (result.status ≡ 5))) }
-    ensures line { (result.status ≡ 2 → ⊥) → result.line ≡ 0 }
-    ensures number { (result.status ≡ 6 → ⊥) → result.number ≡ 0 }
+    ensures judgment { result.status ≡ 6 → Asks (bytes_of words.now) text.Checked }
+    ensures done_due { Asks (bytes_of words.now) text.Script →
+        ¬ Rose (S.faults source.old) (S.faults source.new) → ¬ Rose (K.faults out.old) (K.faults out.new) →
+        IfSome (S.left source.old) (λ bytes. (script : List (List Op)) → Accepts bytes script →
+        (result.status ≡ 0) ⊎ (result.status ≡ 5)) }
+    ensures judged_due { Asks (bytes_of words.now) text.Checked →
+        ¬ Rose (S.faults source.old) (S.faults source.new) → ¬ Rose (K.faults out.old) (K.faults out.new) →
+        IfSome (S.left source.old) (λ bytes. (script : List (List Op)) (run : printed_run.Run) →
+        AcceptsChecked bytes script run → (result.status ≡ 0) ⊎ ((result.status ≡ 6) ⊎ (result.status ≡ 5))) }
+    ensures line { result.status ≢ 2 → result.line ≡ 0 }
+    ensures number { result.status ≢ 6 → result.number ≡ 0 }
 
     // What is said on the error output: the text of the status, whole if it did not fail.
-    ensures said { (Rose (E.faults err.old) (E.faults err.new) → ⊥) → Grew (E.taken err.old) (E.taken err.new) (status_text result.status result.line) }
+    ensures said { ¬ Rose (E.faults err.old) (E.faults err.new) →
+        Grew (E.taken err.old) (E.taken err.new) (status_text result.status result.line) }
     ensures said_front { GrewByFront (E.taken err.old) (E.taken err.new) (status_text result.status result.line) }
 {
     let outcome = match command(words) {
-        Some(Asked::Run { .. }) => serve_script(alloc, source, out),
+        Some(Asked::Run { pairing, arena }) => serve_script(
+            rt, alloc, pairing, arena, source, out, gate,
+        ),
         Some(
             Asked::Make {
-                callers,
-                calls,
-                first,
-                ..
+                pairing,
+                arena,
+                draft,
             },
-        ) => make_run(alloc, callers, calls, first, out),
+        ) => make_run(rt, alloc, pairing, arena, draft, out, gate),
         Some(Asked::Check) => check_run(alloc, source, out),
         None => Outcome::without_run(1, 0),
     };

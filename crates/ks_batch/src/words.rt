@@ -1,28 +1,37 @@
 //! The words of the program, and the command that they ask for.
 
-ghost use Rattle.std.specs.Prelude.{ℕ, ◌≡◌, ◌≤◌, IsTrue, ◌↔◌, [], ◌∷◌, map, string_bytes, IfSome, IfNone};
+ghost use Rattle.std.specs.Prelude.{ℕ, ◌≡◌, ◌≤◌, IsTrue, ◌↔◌, [], ◌∷◌, map, string_bytes, IfSome, IfNone, codes};
 ghost use Rattle.std.specs.Fmt.{decimal};
-ghost use Rattle.ks_batch.specs.Words.{Spells, SpellsNumbers, IsCommand};
-ghost use Rattle.ks_batch.specs.declared.words.Asked.{Asked};
+ghost use Rattle.ks_batch.specs.declared.pairings.Pairing.{Pairing};
+ghost use Rattle.ks_batch.specs.Words.{Spells, Names, IsCommand};
 
+use crate::pairings::Pairing;
 use itoa::Buffer;
 
 /// What the words ask for.
 #[derive(Clone, Copy, Debug, PartialEq, Eq)]
 pub enum Asked {
-    /// To serve the script on the source with an arena of so many nodes.
+    /// To serve the script on the source, by a pairing with an arena of so many nodes.
     Run {
-        arena: u64,
+        pairing: Pairing,
+        arena: u32,
     },
-    /// To serve a script that is made for so many callers with so many calls each, drawn from a first number.
+    /// To serve a script that is made, by a pairing with an arena of so many nodes.
     Make {
-        arena: u64,
-        callers: u32,
-        calls: u32,
-        first: u64,
+        pairing: Pairing,
+        arena: u32,
+        draft: Draft,
     },
     /// To judge the script and the printed run on the source.
     Check,
+}
+
+/// How a script is made: for so many callers, with so many calls each, drawn from a first number.
+#[derive(Clone, Copy, Debug, PartialEq, Eq)]
+pub struct Draft {
+    pub callers: u32,
+    pub calls: u32,
+    pub first: u64,
 }
 
 /// What is read from the source.
@@ -55,25 +64,56 @@ fn number(word: &String, least: u64, most: u64) -> Option<u64>
     }
 }
 
-/// The command to serve a script, if these four words are one.
-fn run_words(verb: &String, nodes: &String, template: &String, arena: &String) -> Option<Asked>
-    ensures some { IfSome result (λ asked. Spells (string_bytes verb.now ∷ string_bytes nodes.now ∷ string_bytes template.now ∷ string_bytes arena.now ∷ []) asked) }
-    ensures none { IfNone result (IsCommand (string_bytes verb.now ∷ string_bytes nodes.now ∷ string_bytes template.now ∷ string_bytes arena.now ∷ []) → ⊥) }
+/// The pairing with these words.
+fn named(nodes: &String, template: &String) -> Option<Pairing>
+    ensures some { IfSome result (λ pairing. Names (string_bytes nodes.now) (string_bytes template.now) pairing) }
+    ensures none { IfNone result ((pairing : Pairing) → Names (string_bytes nodes.now) (string_bytes template.now) pairing → ⊥) }
 {
-    if is(verb, "run") && is(nodes, "bplus") && is(template, "coupling") {
-        return match number(arena, 4, 65536) {
-            Some(arena) => Some(Asked::Run { arena }),
-            None => None,
-        };
+    match (nodes.as_str(), template.as_str()) {
+        ("list", "coupling") => Some(Pairing::ListCoupling),
+        ("bplus", "coupling") => Some(Pairing::BplusCoupling),
+        ("hash", "coupling") => Some(Pairing::HashCoupling),
+        ("list", "giveup") => Some(Pairing::ListGiveUp),
+        ("bplus", "giveup") => Some(Pairing::BplusGiveUp),
+        ("hash", "giveup") => Some(Pairing::HashGiveUp),
+        ("bplus", "link") => Some(Pairing::BplusLink),
+        ("hash", "link") => Some(Pairing::HashLink),
+        _ => None,
     }
-    None
 }
 
-/// The four numbers of the command to make a script.
-fn make_numbers(arena: &String, callers: &String, calls: &String, first: &String) -> Option<Asked>
-    ensures some { IfSome result (λ asked. SpellsNumbers (string_bytes arena.now) (string_bytes callers.now) (string_bytes calls.now) (string_bytes first.now) asked) }
-    ensures none { IfNone result ((asked : Asked) → SpellsNumbers (string_bytes arena.now) (string_bytes callers.now) (string_bytes calls.now) (string_bytes first.now) asked → ⊥) }
+/// The command to serve a script, if the words after the first are those of one.
+fn run_words(nodes: &String, template: &String, arena: &String) -> Option<Asked>
+    ensures some { IfSome result (λ asked. Spells (codes "run" ∷ string_bytes nodes.now ∷ string_bytes template.now ∷ string_bytes arena.now ∷ []) asked) }
+    ensures none { IfNone result (IsCommand (codes "run" ∷ string_bytes nodes.now ∷ string_bytes template.now ∷ string_bytes arena.now ∷ []) → ⊥) }
 {
+    let Some(pairing) = named(nodes, template) else {
+        return None;
+    };
+    let Some(arena) = number(arena, 4, 65536) else {
+        return None;
+    };
+    Some(Asked::Run {
+        pairing,
+        arena: arena as u32,
+    })
+}
+
+/// The command to make a script, if the words after the first are those of one.
+fn make_words(
+    nodes: &String,
+    template: &String,
+    arena: &String,
+    callers: &String,
+    calls: &String,
+    first: &String,
+) -> Option<Asked>
+    ensures some { IfSome result (λ asked. Spells (codes "make" ∷ string_bytes nodes.now ∷ string_bytes template.now ∷ string_bytes arena.now ∷ string_bytes callers.now ∷ string_bytes calls.now ∷ string_bytes first.now ∷ []) asked) }
+    ensures none { IfNone result (IsCommand (codes "make" ∷ string_bytes nodes.now ∷ string_bytes template.now ∷ string_bytes arena.now ∷ string_bytes callers.now ∷ string_bytes calls.now ∷ string_bytes first.now ∷ []) → ⊥) }
+{
+    let Some(pairing) = named(nodes, template) else {
+        return None;
+    };
     let Some(arena) = number(arena, 4, 65536) else {
         return None;
     };
@@ -86,11 +126,15 @@ fn make_numbers(arena: &String, callers: &String, calls: &String, first: &String
     let Some(first) = number(first, 0, 18446744073709551615) else {
         return None;
     };
-    Some(Asked::Make {
-        arena,
+    let draft = Draft {
         callers: callers as u32,
         calls: calls as u32,
         first,
+    };
+    Some(Asked::Make {
+        pairing,
+        arena: arena as u32,
+        draft,
     })
 }
 
@@ -100,10 +144,15 @@ pub fn command(words: &[String]) -> Option<Asked>
     ensures none { IfNone result (IsCommand (map string_bytes words.now) → ⊥) }
 {
     match words {
-        [verb, nodes, template, arena] => run_words(verb, nodes, template, arena),
+        [verb, nodes, template, arena] => {
+            if is(verb, "run") {
+                return run_words(nodes, template, arena);
+            }
+            None
+        }
         [verb, nodes, template, arena, callers, calls, first] => {
-            if is(verb, "make") && is(nodes, "bplus") && is(template, "coupling") {
-                return make_numbers(arena, callers, calls, first);
+            if is(verb, "make") {
+                return make_words(nodes, template, arena, callers, calls, first);
             }
             None
         }

@@ -5,7 +5,6 @@ ghost use Rattle.ks_history.specs.Map.{map_after};
 ghost use Rattle.ks_history.specs.Served.{IsListing};
 ghost use Rattle.ks_history.specs.Trace.{calls_of, graph_after, number_after};
 ghost use Rattle.ks_arena.specs.Sound.{sort_of};
-ghost use Rattle.ks_arena.specs.Clauses.{trace_in};
 ghost use Rattle.ks_dictionary.specs.Ended.{HasEnded, HasEndedWith, history};
 
 use ks_arena::{Run, RunTrace};
@@ -64,7 +63,7 @@ impl<N: Node> Closed<N> {
 
     /// What happened, for the proofs alone.
     pub fn trace(self) -> RunTrace
-        ensures { trace_in result ≡ history self }
+        ensures { result ≡ history self }
     {
         let Closed { run } = self;
         run.trace()

@@ -4,7 +4,6 @@ ghost use Rattle.ks_history.specs.Due.{FullsDue};
 ghost use Rattle.ks_history.specs.Lawful.{Lawful, GoodThroughout};
 ghost use Rattle.ks_history.specs.Served.{Served};
 ghost use Rattle.ks_arena.specs.Sound.{sort_of};
-ghost use Rattle.ks_arena.specs.Clauses.{trace_in};
 ghost use Rattle.ks_dictionary.specs.Called.{HaveCalled};
 ghost use Rattle.ks_dictionary.specs.Crew.{AreNew};
 ghost use Rattle.ks_dictionary.specs.Ended.{HasEndedWith, history};
@@ -172,10 +171,10 @@ where
     requires nodes { (4 ≤ nodes) × (nodes ≤ 1048576) }
     requires callers { length scripts.items ≤ 1024 }
     ensures served { IfOk result (λ told. Served N.Places.place_of (map (λ v. v.items) scripts.items)
-        (map (λ v. v.items) told.lines.items) told.pairs.items (trace_in told.trace)) }
-    ensures lawful { IfOk result (λ told. Lawful (trace_in told.trace)) }
-    ensures good { IfOk result (λ told. GoodThroughout (trace_in told.trace)) }
-    ensures due { IfOk result (λ told. FullsDue N.layout nodes (trace_in told.trace)) }
+        (map (λ v. v.items) told.lines.items) told.pairs.items (told.trace)) }
+    ensures lawful { IfOk result (λ told. Lawful (told.trace)) }
+    ensures good { IfOk result (λ told. GoodThroughout (told.trace)) }
+    ensures due { IfOk result (λ told. FullsDue N.layout nodes (told.trace)) }
 {
     let (ended, lines) = serve_all::<N, T, R, G>(rt, alloc, nodes, scripts, gate)?;
     keyset_theorem();

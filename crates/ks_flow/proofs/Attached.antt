@@ -79,16 +79,6 @@ module _ (g : ℕ → NodeState) (node : ℕ) (k : ℕ → NodeState) (r s : Rec
           let is : v ≡ value_at g w.0 p = found_one k p w.0 v attach_good ((x.keysets w.0 p).0 w.1) found ∙ sym (values w.0 p) in
           subst (λ (o : Option ℕ). IsFound g p o) (sym is) (found_here g w.0 p good w.1)
 
--- frames that show the same low, level, range and link
-pub record SameFrame (a b : Frame) : Type 0 where
-  pub low : b.low ≡ a.low
-  pub level : b.level ≡ a.level
-  pub range : b.range ≡ a.range
-  pub link : b.link ≡ a.link
-
-pub range_along : (a b : Frame) (s : Span) → b.low ≡ a.low → b.range ≡ a.range → IsRange a s → IsRange b s
-range_along a b s low range x = record { is = range ∙ x.is; low = x.low ∙ sym low; filled = x.filled; last = x.last }
-
 -- an edge, seen with frames that keep the low and the level of its target
 pub edge_along : (f h : ℕ → Frame) (n : ℕ) (s : Span) (e : Edge) → (h n).level ≡ (f n).level → (h n).link ≡ (f n).link → (h e.node).low ≡ (f e.node).low → (h e.node).level ≡ (f e.node).level → IsLinkEdge f n s e ⊎ IsChildEdge f n s e → IsLinkEdge h n s e ⊎ IsChildEdge h n s e
 edge_along f h n s e level link low level' (inl x) = inl (record { linked = link ∙ x.linked; begins = x.begins; level = level' ∙ x.level ∙ sym level; low = low ∙ x.low })

@@ -46,9 +46,6 @@ out_of a ns n ne h = let t : (a == n) ≡ false = ne_eqb a n (λ e. ne (sym e)) 
 not_both : {A : Type 0} {b : Bool} → b ≡ true → b ≡ false → A
 not_both e f = absurd (cc)
 
-apart_by : (ns : List ℕ) (n l : ℕ) → names ns n ≡ true → names ns l ≡ false → n ≡ l → ⊥
-apart_by ns n l t f e = let h : names ns n ≡ names ns l = ap (λ (m : ℕ). names ns m) e in cc
-
 -- edges to nodes that are not live
 
 none_to : (g : ℕ → NodeState) (es : List Edge) (m : ℕ) → record_at g m ≡ None → All (λ e. IsLive g e.node) es → edges_to es m ≡ 0

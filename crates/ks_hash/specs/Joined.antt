@@ -1,5 +1,5 @@
 -- Starts of slices, joined where neighbours lead to the same child.
-use Rattle.std.specs.Prelude.{◌≡◌, ℕ, zero, suc, ◌+◌, ◌-◌, ◌*◌, ◌/◌, ◌^◌, ◌<◌, ◌≤◌, Bool, true, false, cond, ◌||◌, nat_eq, nat_lt, IsTrue, List, [], ◌∷◌, ◌++◌, length, get_or, take, drop, position, slice_get, is_some, Option, None, Some, All, refl}
+use Rattle.std.specs.Prelude.{◌≡◌, ℕ, zero, suc, ◌+◌, ◌-◌, ◌*◌, ◌/◌, ◌%◌, ◌^◌, ◌<◌, ◌≤◌, Bool, true, false, not, cond, ◌||◌, nat_eq, nat_lt, IsTrue, List, [], ◌∷◌, ◌++◌, length, get_or, take, drop, position, slice_get, is_some, Option, None, Some, All, refl}
 use Rattle.std.specs.Option.{option_map}
 use Rattle.std.proofs.Common.{arith, drop-cons, ap, ◌∙◌, sym, subst, inl, inr, ◌⊎◌}
 use Rattle.std.proofs.lemmas.Bool.{lt-ltb, le-ltb, le-leb, lt-leb, eqb-true, eq-eqb, ne_eqb}
@@ -7,7 +7,7 @@ use Rattle.std.proofs.lemmas.Bool.Decides.{leb_tells, eqb_tells}
 use Rattle.std.proofs.lemmas.List.{length-append, length-take-le, take-append-drop, get_or_append_left, get_or-take, append-nil}
 use Rattle.std.proofs.lemmas.List.Sums.{position_or_len_is, fails_before_first}
 use Rattle.std.proofs.lemmas.List.Quantifiers.{position-Some}
-use Rattle.std.specs.List.{position_or_len}
+use Rattle.std.specs.List.{list_all, position_or_len}
 use Rattle.std.proofs.lemmas.Grind.{get_or_default_zero}
 use Rattle.std.proofs.Math.Seq.{get_or-append_seam, take-append_seam, drop-append-add}
 use Rattle.std.proofs.lemmas.List.Elements.{filter-append, All-weaker, All-cons, All-head, All-tail, All-nil}
@@ -16,10 +16,10 @@ use Rattle.ks_keysets.specs.Record.{top}
 use Rattle.ks_node.specs.declared.start.Start.{Start}
 use Rattle.ks_node.specs.Keyed.{Ascends}
 use Rattle.ks_node.specs.Ascend.{asc_nil, asc_tail, asc_head, asc_cons}
-use Rattle.ks_node.specs.Body.{last_node, led_to, starts_below, starts_from, begins}
+use Rattle.ks_node.specs.Body.{last_node, led_to, starts_below, starts_from, begins, sole}
 use Rattle.ks_node.specs.Effect.{runs, runs_after, without, without_at}
 use Rattle.ks_node.specs.Sound.{starts_at_zero}
-use Rattle.ks_hash.specs.Slices.{is_size, width_of, slice_starts, repeats, starts_of, doubled, led_over, run_led}
+use Rattle.ks_hash.specs.Slices.{is_size, width_of, slice_starts, repeats, before_at, starts_of, doubled, led_over, run_led}
 
 differ : {b : Bool} → b ≡ false → b ≡ true → ⊥
 differ e f = cc
@@ -232,6 +232,87 @@ led_slice cs p d size h =
 
     floor_lt : (p w : ℕ) → 0 < w → p < 0 + suc (p / w) * w
     floor_lt p w h = omega arith
+
+-- where a run begins
+
+pub begins_none : (cut : ℕ) (ss : List Start) → All (λ s. s.low ≡ cut → ⊥) ss → begins cut ss ≡ false
+begins_none cut [] a = refl
+begins_none cut (s ∷ ss) a =
+    let other : nat_eq s.low cut ≡ false = ne_eqb _ _ (All-head (λ s. s.low ≡ cut → ⊥) s ss a) in
+    rw other (begins_none cut ss (All-tail (λ s. s.low ≡ cut → ⊥) s ss a))
+
+child_ahead : (o : Option ℕ) (c : ℕ) (cs : List ℕ) (j : ℕ) → o ≡ Some c → cond (nat_eq j 0) o (Some (get_or cs (j - 1) 0)) ≡ Some (get_or (c ∷ cs) j 0)
+child_ahead o c cs zero e = e
+child_ahead o c cs (suc k) e =
+    let later : nat_eq (suc k) 0 ≡ false = ne_eqb _ _ (λ q. omega arith) in
+    let step : suc k - 1 ≡ k = omega arith in
+    rw (later, step) refl
+
+-- at a slice, unless it leads where the one before it leads
+begins_slice : (o : Option ℕ) (width low : ℕ) (cs : List ℕ) (i : ℕ) → 0 < width → i < length cs →
+    begins (low + i * width) (joined_after o (slice_starts width low cs)) ≡ not (repeats (cond (nat_eq i 0) o (Some (get_or cs (i - 1) 0))) (get_or cs i 0))
+begins_slice o width low [] i pos h = absurd (omega arith)
+begins_slice o width low (c ∷ cs) zero pos h =
+    let rest : List Start = slice_starts width (low + width) cs in
+    let here : nat_eq low (low + zero * width) ≡ true = eq-eqb _ _ (omega arith) in
+    elim (bool_cases (repeats o c)) [
+      | inl e ↦ rw e (begins_none (low + zero * width) (joined_after o rest) (all_joined (λ s. s.low ≡ low + zero * width → ⊥) o rest
+          (All-weaker (λ s. low + width ≤ s.low) (λ s. s.low ≡ low + zero * width → ⊥) (λ s l q. omega arith) rest (slices_from width (low + width) cs))))
+      | inr e ↦ rw (e, here) refl
+    ]
+begins_slice o width low (c ∷ cs) (suc j) pos h =
+    let next : low + suc j * width ≡ low + width + j * width = omega arith in
+    let step : suc j - 1 ≡ j = omega arith in
+    let later : nat_eq (suc j) 0 ≡ false = ne_eqb _ _ (λ q. omega arith) in
+    let rest : List Start = slice_starts width (low + width) cs in
+    ap (λ n. begins n (cond (repeats o c) (joined_after o rest) (record { low = low; node = c } ∷ joined_after (Some c) rest))) next
+    ∙ elim (bool_cases (repeats o c)) [
+      | inl e ↦ rw (e, later, step) (begins_slice o width (low + width) cs j pos (omega arith) ∙ ap (λ q. not (repeats q (get_or cs j 0))) (child_ahead o c cs j (repeats_is o c e)))
+      | inr e ↦ (let other : nat_eq low (low + width + j * width) ≡ false = ne_eqb _ _ (λ q. omega arith) in
+          rw (e, later, step, other) (begins_slice (Some c) width (low + width) cs j pos (omega arith) ∙ ap (λ q. not (repeats q (get_or cs j 0))) (child_ahead (Some c) c cs j refl)))
+    ]
+
+pub begins_run : (cs : List ℕ) (p : ℕ) → IsTrue (is_size (length cs)) → p < 2 ^ 64 → p % width_of cs ≡ 0 →
+    begins p (starts_of cs) ≡ not (repeats (before_at (p / width_of cs) cs) (get_or cs (p / width_of cs) 0))
+begins_run cs p size h whole =
+    let w : ℕ = width_of cs in
+    let pos : 0 < w = width_pos (length cs) size in
+    ap (begins p) (starts_joined cs)
+    ∙ ap (λ n. begins n (joined_after None (slice_starts w 0 cs))) (at_slice p w pos whole)
+    ∙ begins_slice None w 0 cs (p / w) pos (slice_within (length cs) size p h)
+  where
+    at_slice : (p w : ℕ) → 0 < w → p % w ≡ 0 → p ≡ 0 + (p / w) * w
+    at_slice p w h e = omega arith
+
+slices_whole : (width low : ℕ) (cs : List ℕ) → ((n : ℕ) → n % width ≡ 0 → (n + width) % width ≡ 0) → low % width ≡ 0 → All (λ s. s.low % width ≡ 0) (slice_starts width low cs)
+slices_whole width low [] next e = All-nil (λ s. s.low % width ≡ 0)
+slices_whole width low (c ∷ cs) next e =
+    All-cons (λ s. s.low % width ≡ 0) (record { low = low; node = c }) (slice_starts width (low + width) cs) e (slices_whole width (low + width) cs next (next low e))
+
+next_whole : (n : ℕ) → IsTrue (is_size n) → (p : ℕ) → p % (2 ^ 64 / n) ≡ 0 → (p + 2 ^ 64 / n) % (2 ^ 64 / n) ≡ 0
+next_whole n h = by_size (λ n. (p : ℕ) → p % (2 ^ 64 / n) ≡ 0 → (p + 2 ^ 64 / n) % (2 ^ 64 / n) ≡ 0)
+    (λ p e. omega arith) (λ p e. omega arith) (λ p e. omega arith) (λ p e. omega arith) (λ p e. omega arith) (λ p e. omega arith) n h
+
+pub begins_no_slice : (cs : List ℕ) (p : ℕ) → IsTrue (is_size (length cs)) → (p % width_of cs ≡ 0 → ⊥) → begins p (starts_of cs) ≡ false
+begins_no_slice cs p size other =
+    let w : ℕ = width_of cs in
+    ap (begins p) (starts_joined cs)
+    ∙ begins_none p _ (all_joined (λ s. s.low ≡ p → ⊥) None (slice_starts w 0 cs)
+    (All-weaker (λ s. s.low % w ≡ 0) (λ s. s.low ≡ p → ⊥) (λ s whole q. other (subst (λ n. n % w ≡ 0) q whole)) _ (slices_whole w 0 cs (next_whole (length cs) size) (by_size (λ n. 0 % (2 ^ 64 / n) ≡ 0) refl refl refl refl refl refl (length cs) size))))
+
+-- the child of all runs is that of all slices
+all_runs : (c width low : ℕ) (cs : List ℕ) → list_all (λ s. nat_eq s.node c) (runs_after c (slice_starts width low cs)) ≡ list_all (λ d. nat_eq d c) cs
+all_runs c width low [] = refl
+all_runs c width low (d ∷ cs) = elim (bool_cases (nat_eq d c)) [
+  | inl e ↦ rw e (all_runs c width (low + width) cs)
+  | inr e ↦ rw (e, e) refl
+]
+
+pub sole_starts : (cs : List ℕ) → 0 < length cs → sole (starts_of cs) ≡ cond (list_all (λ d. nat_eq d (get_or cs 0 0)) cs) (Some (get_or cs 0 0)) None
+sole_starts [] h = absurd (omega arith)
+sole_starts (c ∷ cs) h =
+    let again : nat_eq c c ≡ true = eq-eqb c c refl in
+    rw again (ap (λ b. cond b (Some c) None) (all_runs c (width_of (c ∷ cs)) (0 + width_of (c ∷ cs)) cs))
 
 -- what the starts of a directory are like
 

@@ -1,5 +1,5 @@
 -- The slices of a directory: equal parts of all places, each with the child that it leads to.
-use Rattle.std.specs.Prelude.{ℕ, ◌+◌, ◌/◌, ◌^◌, ◌||◌, Bool, false, cond, nat_eq, List, [], ◌∷◌, ◌++◌, length, get_or, take, drop, Option, None, Some}
+use Rattle.std.specs.Prelude.{ℕ, ◌+◌, ◌-◌, ◌/◌, ◌^◌, ◌||◌, Bool, false, cond, nat_eq, List, [], ◌∷◌, ◌++◌, length, get_or, take, drop, Option, None, Some}
 use Rattle.ks_node.specs.declared.start.Start.{Start}
 use Rattle.ks_node.specs.Effect.{runs}
 
@@ -19,6 +19,10 @@ width_of cs = 2 ^ 64 / length cs
 abbrev pub repeats : Option ℕ → ℕ → Bool
 repeats None m = false
 repeats (Some k) m = nat_eq m k
+
+-- the child of the slice before a position
+abbrev pub before_at : ℕ → List ℕ → Option ℕ
+before_at i cs = cond (nat_eq i 0) None (Some (get_or cs (i - 1) 0))
 
 -- each slice as a start, the first of them at a place
 abbrev pub slice_starts : ℕ → ℕ → List ℕ → List Start

@@ -9,13 +9,12 @@ ghost use Rattle.ks_hash.specs.Hash.{Fit};
 
 use crate::pairs::{Pairs, append_pairs, delete_pair, move_pairs, put_pair};
 use crate::slices::{
-    SMALLEST, Slices, Starts, adopt_slice, child_at, forget_child, halve, runs_of,
+    SMALLEST, Slices, Starts, adopt_slice, begins_run, child_at, forget_child, halve, runs_of,
+    sole_child,
 };
-use crate::spans::{all_above, cut_by, next_by, span_in};
+use crate::spans::{begins_own, cut_by, next_by, own_above, span_in};
 use ks_keysets::{Edge, Pair, Span};
-use ks_node::{
-    Growing, Next, Node, Start, Unlinked, begins_at, child_after, edge_in, only_in, value_in,
-};
+use ks_node::{Growing, Next, Node, Start, Unlinked, child_after, edge_in, value_in};
 use ks_places::Golden;
 use std::alloc::{AllocError, Global};
 use std::mem;
@@ -182,7 +181,7 @@ impl Node for HNode {
     }
 
     fn grows(&self) -> bool {
-        self.is_directory || all_above(self.starts().as_slice(), MIDDLE)
+        self.is_directory || own_above(self.parts.own, MIDDLE)
     }
 
     fn grows_in_place() -> bool {
@@ -191,7 +190,7 @@ impl Node for HNode {
 
     fn only_child(&self) -> Option<u32> {
         if self.is_directory {
-            only_in(self.starts().as_slice())
+            sole_child(self.parts.slices.as_slice())
         } else {
             None
         }
@@ -224,7 +223,11 @@ impl Node for HNode {
     }
 
     fn can_adopt(&self, cut: u64) -> bool {
-        !begins_at(self.starts().as_slice(), cut) && (!self.is_directory || cut % SMALLEST == 0)
+        if self.is_directory {
+            !begins_run(self.parts.slices.as_slice(), cut) && cut % SMALLEST == 0
+        } else {
+            !begins_own(self.parts.own, cut)
+        }
     }
 
     fn adopt(&mut self, cut: u64, id: u32) {

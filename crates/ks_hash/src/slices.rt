@@ -5,9 +5,10 @@
 //! edge; then the slices from the cut to the end of the run get the new child.
 
 ghost use Rattle.std.specs.Prelude.{◌≡◌, ℕ, ◌+◌, ◌%◌, ◌<◌, ◌≤◌, ◌++◌, ◌∷◌, [], IsTrue, Some, false, length, Option, position, nat_eq};
-ghost use Rattle.ks_node.specs.Body.{starts_below, starts_from, led_to, begins, first_node};
+ghost use Rattle.std.specs.List.{list_all};
+ghost use Rattle.ks_node.specs.Body.{starts_below, starts_from, led_to, begins, first_node, sole};
 ghost use Rattle.ks_node.specs.Effect.{runs, without};
-ghost use Rattle.ks_hash.specs.Slices.{is_size, width_of, smallest, starts_of, repeats, doubled, run_led};
+ghost use Rattle.ks_hash.specs.Slices.{is_size, width_of, smallest, starts_of, repeats, before_at, doubled, run_led};
 
 use arrayvec::ArrayVec;
 use ks_node::Start;
@@ -65,6 +66,52 @@ pub(crate) fn runs_of(slices: &[u32]) -> Starts
         }
     }
     starts
+}
+
+/// The child of the slice before a position.
+fn child_before(slices: &[u32], at: usize) -> Option<u32>
+    requires { at ≤ length slices.now }
+    ensures { result ≡ before_at at slices.now }
+{
+    if at == 0 { None } else { Some(slices[at - 1]) }
+}
+
+/// Whether a run begins at a place.
+pub(crate) fn begins_run(slices: &[u32], place: u64) -> bool
+    requires { IsTrue (is_size (length slices.now)) }
+    ensures { result ≡ begins place (starts_of slices.now) }
+{
+    let width = width(slices);
+    if place % width != 0 {
+        return false;
+    }
+    let at = (place / width) as usize;
+    !is_same(child_before(slices, at), slices[at])
+}
+
+/// Whether all slices lead to a child.
+fn all_lead_to(slices: &[u32], child: u32) -> bool
+    ensures { result ≡ list_all (λ c. nat_eq c child) slices.now }
+{
+    for slice in slices {
+        if *slice != child {
+            return false;
+        }
+    }
+    true
+}
+
+/// The child to which all slices lead.
+pub(crate) fn sole_child(slices: &[u32]) -> Option<u32>
+    requires { 0 < length slices.now }
+    ensures { result ≡ sole (starts_of slices.now) }
+{
+    let child = slices[0];
+    if all_lead_to(slices, child) {
+        Some(child)
+    } else {
+        None
+    }
 }
 
 /// Cuts each slice in two.

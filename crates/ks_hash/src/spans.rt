@@ -5,7 +5,7 @@ ghost use Rattle.std.specs.Option.{ForSome};
 ghost use Rattle.std.specs.List.{list_all};
 ghost use Rattle.ks_keysets.specs.Record.{top};
 ghost use Rattle.ks_node.specs.Keyed.{Ascends};
-ghost use Rattle.ks_node.specs.Body.{starts_below, starts_from, go_to, led_to};
+ghost use Rattle.ks_node.specs.Body.{begins, starts_below, starts_from, go_to, led_to};
 ghost use Rattle.ks_node.specs.Asks.{IsSpanOf};
 ghost use Rattle.ks_node.specs.Spans.{AreWithin};
 ghost use Rattle.ks_hash.specs.Hash.{own_starts, is_whole, middle_of, run_span};
@@ -30,8 +30,28 @@ pub(crate) fn next_by(own: Option<Start>, place: u64) -> Next
     }
 }
 
+/// Whether a bucket's own edge starts at a place.
+pub(crate) fn begins_own(own: Option<Start>, place: u64) -> bool
+    ensures { result ≡ begins place (own_starts own) }
+{
+    match own {
+        Some(start) => start.low == place,
+        None => false,
+    }
+}
+
+/// Whether a bucket's own edge, if it has one, starts above a place.
+pub(crate) fn own_above(own: Option<Start>, place: u64) -> bool
+    ensures { result ≡ list_all (λ s. nat_lt place s.low) (own_starts own) }
+{
+    match own {
+        Some(start) => place < start.low,
+        None => true,
+    }
+}
+
 /// Whether all edges start above a place.
-pub(crate) fn all_above(starts: &[Start], place: u64) -> bool
+fn all_above(starts: &[Start], place: u64) -> bool
     ensures { result ≡ list_all (λ s. nat_lt place s.low) starts.now }
 {
     for start in starts {

@@ -30,13 +30,13 @@ use Rattle.ks_history.specs.declared.Op.{Op}
 use Rattle.ks_history.specs.declared.Event.{Event}
 use Rattle.ks_history.specs.declared.Event.TheVariants.{Take, Give, Claim, Shape, Call}
 use Rattle.ks_history.specs.Map.{IsAnswer, map_after, Legal}
-use Rattle.ks_history.specs.Trace.{◌⊑◌, free, idle, held, given, graph_after, turn_after, frame_after, calls_of, calls_by}
+use Rattle.ks_history.specs.Trace.{◌⊑◌, free, idle, held, given, called, call_in, decided_at, graph_after, turn_after, frame_after, calls_of, calls_by}
 use Rattle.ks_history.specs.Served.{at_place, CalledBelow, IsListing, Served}
 use Rattle.ks_history.specs.Due.{HoldsLiveBut, FullDue, last_call, FullsDue, BusyDue, MovedDue, FarDue, IsOnWay}
-use Rattle.ks_history.specs.Done.{Template, coupling, give_up, MayTake, first_taken, from_above, Hands, at_first, and_on, Done, Left, Tight, TidyAt}
+use Rattle.ks_history.specs.Done.{Template, coupling, give_up, link_move, MayTake, first_taken, from_above, Hands, at_first, and_on, Done, DoneAt, Left, Tight, TidyAt}
 use Rattle.ks_history.specs.Begins.{begins_self, begins_append, begins_both, by_others_none}
 use Rattle.ks_history.specs.Calls.{done_calls, left_calls}
-use Rattle.ks_history.specs.Dues.{none_free_by, none_free_but, full_due_earlier}
+use Rattle.ks_history.specs.Dues.{none_free_by, none_free_but, full_due_earlier, full_due_later}
 use Rattle.ks_history.specs.Beside.{spare_others, moved_due}
 use Rattle.ks_history.specs.Descent.{IsDeep, HeldUnder, the_node, target, deep_at_root, deep_freeing}
 use Rattle.ks_history.specs.Stays.{AreInTurn, cond_here, cond_else}
@@ -111,6 +111,14 @@ filled_not_due due = full_needs_all list_layout 2 1 [] filled (Call 0 0 (Put 9 9
     unused (a ∷ b ∷ []) k is = let e : [] ≡ k = cc in ap (λ (h : List Event). turn_after h 1) (sym e)
     unused (a ∷ b ∷ c ∷ rest) k is = let e : [] ≡ c ∷ (rest ++ k) = cc in absurd (cc)
 
+-- that no node was free may lie before the Call, with events of the caller between: it gave the root, and took it again
+abbrev filled_again : List Event
+filled_again = Take 0 0 ∷ Give 0 0 ∷ filled
+
+full_is_due_later : FullDue list_layout 1 filled filled_again (Call 0 0 (Put 9 90) Full)
+unfolding full_is_due
+full_is_due_later = full_due_later list_layout 1 0 0 9 (Put 9 90) filled filled filled filled_again (begins_append (Take 0 0 ∷ Give 0 0 ∷ []) filled) refl refl full_is_due.none_free full_is_due
+
 -- a list node claims one node at a time, so no claimed node excuses its Full
 list_claims_alone : (h : List Event) (c place : ℕ) → HoldsLiveBut list_layout place h c → ⊥
 list_claims_alone h c place but = but.grows
@@ -152,6 +160,17 @@ moved_takes_time c node op s due = let rest : due.grows.rest ≡ [] = sym (appen
 far_takes_steps : (n c : ℕ) (s : List Event) → FarDue (suc n) c s s → ⊥
 far_takes_steps n c s due = let rest : due.grows.rest ≡ [] = sym (append_cancel_right [] due.grows.rest s due.grows.is) in absurd (omega (arith, due.shaped.2, ap length rest))
 
+-- node 1 below the root, both idle
+
+abbrev to_one : Record
+to_one = record { edges = record { span = record { low = 0; last = top }; node = 1 } ∷ []; pairs = [] }
+
+abbrev grown : List Event
+grown = Shape 1 (record { node = 0; state = BecomesLive to_one blank_frame } ∷ record { node = 1; state = BecomesLive empty_record blank_frame } ∷ []) ∷ Claim 1 1 ∷ Take 1 0 ∷ []
+
+abbrev grown_by_one : List Event
+grown_by_one = Give 1 1 ∷ Give 1 0 ∷ grown
+
 -- under coupling a caller with nothing in hand takes the root alone, under give-up any node
 coupling_begins : MayTake coupling (Get 5) [] 0 0
 coupling_begins = first_taken refl refl
@@ -159,6 +178,10 @@ coupling_begins = first_taken refl refl
 coupling_no_jump : MayTake coupling (Get 5) [] 0 5 → ⊥
 coupling_no_jump (first_taken empty at) = omega (arith, at)
 coupling_no_jump (from_above above) = omega (arith, above.leads.2, no_edges above.above above.node above.is)
+
+-- with a node in hand it takes one to which that leads
+coupling_steps_down : MayTake coupling (Get 5) (Take 0 0 ∷ grown_by_one) 0 1
+coupling_steps_down = from_above (record { above = 0; node = to_one; holds = refl; is = refl; leads = (0, record { span = record { low = 0; last = top }; node = 1 }, omega arith, refl, refl) })
 
 give_up_jumps : MayTake give_up (Get 5) [] 0 5
 give_up_jumps = first_taken refl tt
@@ -197,6 +220,21 @@ get_done = record {
   full = λ e. absurd (cc);
 }
 
+-- it was decided at the root, whose frame was that of a blank body
+get_at_root : DoneAt list_layout coupling 4 0 (Get 5) [] one_get Nothing 0 0 blank_frame blank_frame
+unfolding get_done
+get_at_root = record { done = get_done; at = refl; framed = refl }
+
+-- and not at node 1
+get_not_at_one : (blank frame : Frame) → DoneAt list_layout coupling 4 0 (Get 5) [] one_get Nothing 0 1 blank frame → ⊥
+get_not_at_one blank frame so = go so.done.after so.done.event (so.done.before ++ []) so.done.is so.done.call so.at
+  where
+    go : (after : List Event) (e : Event) (before : List Event) → one_get ≡ after ++ e ∷ before → call_in e ≡ Some (called 0 (Get 5) Nothing) → decided_at e ≡ 1 ∷ [] → ⊥
+    go [] e before is call at = let x : Give 0 0 ≡ e = cc in let y : None ≡ Some (called 0 (Get 5) Nothing) = ap call_in x ∙ call in cc
+    go (a ∷ []) e before is call at = let x : Call 0 0 (Get 5) Nothing ≡ e = cc in let y : 0 ∷ [] ≡ 1 ∷ [] = ap decided_at x ∙ at in omega (arith, ap (λ (xs : List ℕ). get_or xs 0 0) y)
+    go (a ∷ b ∷ []) e before is call at = let x : Take 0 0 ≡ e = cc in let y : None ≡ Some (called 0 (Get 5) Nothing) = ap call_in x ∙ call in cc
+    go (a ∷ b ∷ d ∷ after) e before is call at = let x : [] ≡ after ++ e ∷ before = cc in omega (arith, ap length x, length-append after (e ∷ before))
+
 get_once : (n number : ℕ) → Done list_layout coupling n 0 (Get 5) [] two_gets Nothing number → ⊥
 get_once n number done = let e = ap length (done_calls list_layout coupling n 0 (Get 5) [] two_gets Nothing number done) in omega arith
 
@@ -207,6 +245,10 @@ keeps_nothing number done = let e = ap length done.gave_all in omega arith
 -- a get that holds three nodes at once is refused
 three_held : Hands coupling 0 (Get 5) [] (Take 0 2 ∷ Take 0 1 ∷ Take 0 0 ∷ []) → ⊥
 three_held (and_on before well few) = omega (arith, few)
+
+-- along links, one that holds two is
+two_held : Hands link_move 0 (Get 5) [] (Take 0 1 ∷ Take 0 0 ∷ []) → ⊥
+two_held (and_on before well few) = omega (arith, few)
 
 -- a call that gives up without a Call is left
 gives_back : Left give_up 0 (Get 5) [] (Give 0 3 ∷ Take 0 3 ∷ [])
@@ -222,13 +264,7 @@ gives_back = record {
 left_made_none : (template : Template) → Left template 0 (Get 5) [] one_get → ⊥
 left_made_none template left = let e = ap length (left_calls template 0 (Get 5) [] one_get left) in omega arith
 
--- caller 1 makes node 1 live below the root, and frees it again while caller 0 looks for it
-
-abbrev to_one : Record
-to_one = record { edges = record { span = record { low = 0; last = top }; node = 1 } ∷ []; pairs = [] }
-
-abbrev grown : List Event
-grown = Shape 1 (record { node = 0; state = BecomesLive to_one blank_frame } ∷ record { node = 1; state = BecomesLive empty_record blank_frame } ∷ []) ∷ Claim 1 1 ∷ Take 1 0 ∷ []
+-- caller 1, which made node 1 live below the root, frees it again while caller 0 looks for it
 
 abbrev freed : Event
 freed = Shape 1 (record { node = 0; state = BecomesLive empty_record blank_frame } ∷ record { node = 1; state = BecomesFree } ∷ [])

@@ -1,2 +1,5 @@
+pub mod Nearer
+pub mod Parting
 pub mod Places
+pub mod Rooms
 pub mod Ways

@@ -1,6 +1,6 @@
 -- Where places are under links: below no node that a search for them comes to, and at the one on level 0 whose range holds them.
-use Rattle.std.proofs.Common.{◌≡◌, ℕ, zero, suc, ◌<◌, ◌≤◌, List, [], ◌∷◌, get_or, length, sym, refl, ap, ◌∙◌, subst, inl, inr, ⊎_elim, arith}
-use Rattle.std.specs.Prelude.{◌⊎◌, Option, Some, None, Any, All}
+use Rattle.std.proofs.Common.{◌≡◌, ℕ, ◌<◌, ◌≤◌, sym, ap, ◌∙◌, subst, ⊎_elim, arith}
+use Rattle.std.specs.Prelude.{◌⊎◌, Some}
 use Rattle.std.proofs.lemmas.Bool.{cases_lt}
 use Rattle.ks_keysets.specs.declared.Edge.{Edge}
 use Rattle.ks_keysets.specs.declared.Frame.{Frame}
@@ -8,7 +8,7 @@ use Rattle.ks_keysets.specs.declared.NodeState.{NodeState}
 use Rattle.ks_keysets.specs.declared.Record.{Record}
 use Rattle.ks_keysets.specs.declared.Span.{Span}
 use Rattle.ks_keysets.specs.Record.{IsPlace, top, Holds, LeadsTo, LeadsOn}
-use Rattle.ks_keysets.specs.Keyset.{record_at, IsLive, Good, Reaches, at_root, along, InInset, InKeyset}
+use Rattle.ks_keysets.specs.Keyset.{record_at, IsLive, Good, Reaches, at_root, along, InKeyset}
 use Rattle.ks_flow.specs.Link.{Link, IsRange, IsLinkEdge, IsChildEdge}
 
 module _ (g : ℕ → NodeState) (f : ℕ → Frame) (facts : Link g f) where

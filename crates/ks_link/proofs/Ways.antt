@@ -1,40 +1,30 @@
 -- How a search goes on its way.
-use Rattle.std.proofs.Common.{◌≡◌, ◌≢◌, ℕ, suc, ◌<◌, ◌≤◌, Bool, true, false, List, [], ◌∷◌, ◌++◌, length, sym, refl, ap, ◌∙◌, subst, inl, inr, ⊎_elim, arith}
-use Rattle.std.specs.Prelude.{Option, Some, None}
-use Rattle.std.proofs.lemmas.Bool.{cases_lt}
+use Rattle.std.proofs.Common.{◌≡◌, ℕ, ◌<◌, ◌≤◌, false, List, [], ◌∷◌, length, sym, refl, ap, ◌∙◌, subst, inl, inr, arith}
+use Rattle.std.specs.Prelude.{◌⊎◌, Option, Some, None, All, max}
+use Rattle.std.specs.Option.{ForSome}
 use Rattle.ks_keysets.specs.declared.Edge.{Edge}
 use Rattle.ks_keysets.specs.declared.Frame.{Frame}
-use Rattle.ks_keysets.specs.declared.NodeState.{NodeState}
-use Rattle.ks_keysets.specs.declared.NodeState.TheVariants.{Live}
-use Rattle.ks_keysets.specs.declared.Record.{Record}
 use Rattle.ks_keysets.specs.declared.Span.{Span}
-use Rattle.ks_keysets.specs.Record.{IsPlace, LeadsTo, LeadsOn, top}
-use Rattle.ks_keysets.specs.Keyset.{live_record, record_at, IsLive, Good, InInset, InKeyset}
+use Rattle.ks_keysets.specs.Record.{LeadsOn, top}
+use Rattle.ks_keysets.specs.Keyset.{record_at, IsLive, Good, InInset}
 use Rattle.ks_history.specs.declared.Event.{Event}
-use Rattle.ks_history.specs.declared.Event.TheVariants.{Take, Give}
-use Rattle.ks_history.specs.declared.Op.{Op}
-use Rattle.ks_history.specs.declared.Op.TheVariants.{Get, Put, Del, Add, Swap}
-use Rattle.ks_history.specs.Trace.{◌⊑◌, hand, drop_one, graph_after, frame_after}
-use Rattle.ks_history.specs.Passes.{GrowsByOthers, GrowsWith}
-use Rattle.ks_history.specs.Stays.{cond_here}
-use Rattle.ks_history.specs.Begins.{begins_both, by_others_hand, with_begins, with_others}
-use Rattle.ks_history.specs.Done.{link_move, most_held}
-use Rattle.ks_history.specs.Underway.{Underway, underway_first, underway_with}
-use Rattle.ks_flow.specs.Link.{Link, LastsUnderLink}
-use Rattle.ks_flow.specs.Discipline.{BeginsLink, LinkStep}
+use Rattle.ks_history.specs.Trace.{hand, graph_after, frame_after}
+use Rattle.ks_flow.specs.Link.{Link}
 use Rattle.ks_node.specs.declared.start.Next.TheVariants.{Here}
-use Rattle.ks_node.specs.Body.{Body, content_of, first_of, frame_of, is_branch, last_of, next_at}
+use Rattle.ks_node.specs.Body.{Body, content_of, first_of, is_branch, last_of, next_at}
 use Rattle.ks_node.specs.Edges.{record_of}
-use Rattle.ks_node.specs.Sound.{Sound as InOrder}
-use Rattle.ks_node.specs.Ways.{here_stays}
+use Rattle.ks_node.specs.Asks.{IsBelowOwn}
+use Rattle.ks_node.specs.Sound.{Sound as InOrder, Framed}
+use Rattle.ks_node.specs.declared.start.Start.{Start}
+use Rattle.ks_flow.specs.Link.{IsRange, IsLinkEdge, IsChildEdge}
+use Rattle.ks_node.specs.Ways.{here_stays, stays_here, below_own}
 use Rattle.ks_arena.specs.declared.held.Held.{Held as Hand}
-use Rattle.ks_arena.specs.Sound.{Sort, blank_of, Sound}
-use Rattle.ks_arena.specs.Beyond.{free_beyond}
-use Rattle.ks_arena.specs.Clauses.{Matches, MatchesIf, HasTaken}
-use Rattle.ks_arena.specs.Writes.{ends_at_no_branch}
+use Rattle.ks_arena.specs.Sound.{Sort, blank_of}
+use Rattle.ks_arena.specs.Clauses.{HasTaken}
+use Rattle.ks_arena.specs.Writes.{ends_at_no_branch, ends_below_own}
 use Rattle.ks_shape.specs.Single.{shown, record_is}
 use Rattle.ks_link.specs.Descent.{IsOnWay}
-use Rattle.ks_link.proofs.Places.{root_low, range_holds, ends_in_keyset}
+use Rattle.ks_link.proofs.Places.{root_low, range_holds, level_zero, ends_in_keyset}
 
 module _ {N : Type 0} (sort : Sort) (shows : N → Body) where
   abbrev frames : List Event → ℕ → Frame
@@ -76,3 +66,42 @@ module _ {N : Type 0} (sort : Sort) (shows : N → Body) where
 
     pub ends_unbranched : is_branch (shows x.body) ≡ false
     ends_unbranched = let at = held_in (shows x.body).range (ap (λ (f : Frame). f.range) (shown sort shows h x way.live way.matches).1) in ends_at_no_branch (shows x.body) p order at.0 at.1 here
+
+    pub ends_below : IsBelowOwn (shows x.body) p
+    ends_below = let at = held_in (shows x.body).range (ap (λ (f : Frame). f.range) (shown sort shows h x way.live way.matches).1) in ends_below_own (shows x.body) p order at.0 at.1 here
+
+    at_level : (frames h x.node).level ≡ 0
+    at_level = level_zero (graph_after h) (frames h) facts x.node p (record_of (shows x.body)) (record_is sort shows h x way.live way.matches) low_at place off
+
+    -- no edge carries a place of its range
+    off_inside : (s : Span) → IsRange (frames h x.node) s → (q : ℕ) → q ≤ s.last → LeadsOn (record_of (shows x.body)) q → ⊥
+    off_inside s range q upto on =
+        let edge : IsLinkEdge (frames h) x.node s on.1 ⊎ IsChildEdge (frames h) x.node s on.1 = subst (λ (e : Edge). IsLinkEdge (frames h) x.node s e ⊎ IsChildEdge (frames h) x.node s e) on.3 (facts.edges x.node (record_of (shows x.body)) s (record_is sort shows h x way.live way.matches) range on.0 on.1 on.2) in
+        elim edge [ inl l ↦ omega (arith, l.begins, on.4.0, upto) | inr d ↦ omega (arith, d.level, at_level) ]
+
+    -- the node has no edge of its own
+    module _ (framed : ForSome (shows x.body).range (λ r. Framed r (shows x.body))) where
+      ranged : (s : Span) × IsRange (frames h x.node) s
+      ranged = facts.range x.node (record_of (shows x.body), record_is sort shows h x way.live way.matches)
+
+      has : (shows x.body).range ≡ Some ranged.0
+      has = sym (ap (λ (f : Frame). f.range) (shown sort shows h x way.live way.matches).1) ∙ ranged.1.is
+
+      none : (ss : List Start) → (shows x.body).starts ≡ ss → length ss ≡ 0
+      none [] is = refl
+      none (s ∷ ss) is =
+          let b : Body = shows x.body in
+          let r : Span = ranged.0 in
+          let frame : Framed r b = framed r has in
+          let first : first_of b.range ≡ r.low = ap first_of has in
+          let last : last_of b.range ≡ r.last = ap last_of has in
+          let upto : s.low ≤ r.last = subst (λ (z : List Start). All (λ t. t.low ≤ r.last) z) is frame.upto 0 s (omega arith) in
+          let q : ℕ = max r.low s.low in
+          let within : q ≤ r.last = omega (arith, upto, frame.ordered) in
+          let stays : next_at b q ≡ Here = stays_here b q order (omega (arith, within, frame.ends)) (off_inside r ranged.1 q within) in
+          let above : All (λ t. q < t.low) b.starts = below_own b q order (omega (arith, first)) (omega (arith, within, last)) stays in
+          let lt : q < s.low = subst (λ (z : List Start). All (λ t. q < t.low) z) is above 0 s (omega arith) in
+          absurd (omega (arith, lt))
+
+      pub ends_bare : length (shows x.body).starts ≡ 0
+      ends_bare = none (shows x.body).starts refl

@@ -1,1 +1,3 @@
 pub mod Descent
+pub mod Parts
+pub mod Puts

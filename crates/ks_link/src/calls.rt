@@ -1,7 +1,7 @@
 //! The calls of a dictionary along links.
 ghost use Rattle.std.specs.Prelude.{◌≡◌, []};
 ghost use Rattle.ks_flow.specs.Discipline.{BeginsLink, LinkStep};
-ghost use Rattle.ks_history.specs.declared.Op.TheVariants.{Del, Get};
+ghost use Rattle.ks_history.specs.declared.Op.TheVariants.{Del, Get, Swap};
 ghost use Rattle.ks_history.specs.Map.{told};
 ghost use Rattle.ks_history.specs.Done.{Done, link_move};
 ghost use Rattle.ks_arena.specs.Sound.{sort_of};
@@ -12,7 +12,7 @@ use ks_arena::laws::sound_law;
 use ks_arena::{Arena, Pass};
 use ks_flow::Link;
 use ks_gate::Gate;
-use ks_history::Op;
+use ks_history::{Op, Reply};
 use ks_node::{Linked, node_law};
 use ks_shape::{Numbered, conclude, reply_of};
 use std::sync::Wait;
@@ -61,4 +61,42 @@ pub fn del<N: Linked, R: Wait, G: Gate>(
     let found = held.body.del(place);
     let number = conclude(arena, pass, gate, held, Op::Del(place), reply_of(found));
     Numbered { number, found }
+}
+
+/// Sets the value at a place to `new` where `old` stands; answers the value that stood there, and the number of the call. It
+/// holds one node at a time.
+pub fn swap<N: Linked, R: Wait, G: Gate>(
+    rt: &R,
+    arena: &Arena<N, Link>,
+    pass: &mut Pass<N, Link>,
+    gate: &G,
+    place: u64,
+    old: u128,
+    new: u128,
+) -> Numbered
+    requires pass { IsPass (sort_of N.layout N.ranged) BeginsLink LinkStep arena.now.table.shared.table_id arena.now.callers pass.old × (hand_of pass.old ≡ []) }
+    ensures pass { IsPass (sort_of N.layout N.ranged) BeginsLink LinkStep arena.now.table.shared.table_id arena.now.callers pass.new × (hand_of pass.new ≡ []) }
+    ensures caller { pass.new.caller ≡ pass.old.caller }
+    ensures done { Done N.layout link_move arena.now.nodes pass.old.caller (Swap place old new) (seen_of pass.old) (seen_of pass.new) (told result.found) result.number }
+{
+    let mut held = find(rt, arena, pass, gate, place);
+    sound_law::<Link>();
+    node_law(&held.body);
+    arena.swap_law(pass, &held, place, old, new);
+    let stands = held.body.get(place);
+    let op = Op::Swap(place, old, new);
+    if stands == Some(old) {
+        let _ = held.body.put(place, new);
+        let number = conclude(arena, pass, gate, held, op, Reply::Value(old));
+        Numbered {
+            number,
+            found: stands,
+        }
+    } else {
+        let number = conclude(arena, pass, gate, held, op, reply_of(stands));
+        Numbered {
+            number,
+            found: stands,
+        }
+    }
 }

@@ -19,7 +19,7 @@ use ks_node::{Linked, Next, node_law};
 use std::sync::Wait;
 
 /// Takes the root.
-fn enter<N: Linked, R: Wait, G: Gate>(
+pub(crate) fn enter<N: Linked, R: Wait, G: Gate>(
     rt: &R,
     arena: &Arena<N, Link>,
     pass: &mut Pass<N, Link>,
@@ -30,11 +30,11 @@ fn enter<N: Linked, R: Wait, G: Gate>(
     ensures pass { IsPass (sort_of N.layout N.ranged) BeginsLink LinkStep arena.now.table.shared.table_id arena.now.callers pass.new }
     ensures caller { pass.new.caller ≡ pass.old.caller }
     ensures way { IsOnWay (sort_of N.layout N.ranged) N.body pass.old.caller place (seen_of pass.new) result }
+    ensures root { result.node ≡ 0 }
     ensures under { (op : Operation) → Underway link_move pass.old.caller op (seen_of pass.old) (seen_of pass.new) }
 {
     root_stays_law::<Link>();
     sound_law::<Link>();
-    gate.at(pass.caller(), Point::Begin);
     let Some(root) = arena.take(rt, pass, 0) else {
         unreachable!()
     };
@@ -43,7 +43,7 @@ fn enter<N: Linked, R: Wait, G: Gate>(
 }
 
 /// Gives the node, and takes the one to which the search goes on: a child, or the node right of it.
-fn go_on<N: Linked, R: Wait, G: Gate>(
+pub(crate) fn go_on<N: Linked, R: Wait, G: Gate>(
     rt: &R,
     arena: &Arena<N, Link>,
     pass: &mut Pass<N, Link>,
@@ -57,6 +57,7 @@ fn go_on<N: Linked, R: Wait, G: Gate>(
     requires goes { next_at (N.body held.body) place ≡ Go next }
     ensures pass { IsPass (sort_of N.layout N.ranged) BeginsLink LinkStep arena.now.table.shared.table_id arena.now.callers pass.new }
     ensures caller { pass.new.caller ≡ pass.old.caller }
+    ensures node { result.node ≡ next }
     ensures way { IsOnWay (sort_of N.layout N.ranged) N.body pass.old.caller place (seen_of pass.new) result }
     ensures under { (op : Operation) (start : List Happening) → Underway link_move pass.old.caller op start (seen_of pass.old) → Underway link_move pass.old.caller op start (seen_of pass.new) }
 {
@@ -71,6 +72,32 @@ fn go_on<N: Linked, R: Wait, G: Gate>(
     };
     gate.at(pass.caller(), Point::Taken(next));
     taken
+}
+
+/// Goes on from a node on the way to the one at which the search ends, and holds it alone.
+pub(crate) fn find_from<N: Linked, R: Wait, G: Gate>(
+    rt: &R,
+    arena: &Arena<N, Link>,
+    pass: &mut Pass<N, Link>,
+    gate: &G,
+    place: u64,
+    mut held: Held<N>,
+) -> Held<N>
+    requires pass { IsPass (sort_of N.layout N.ranged) BeginsLink LinkStep arena.now.table.shared.table_id arena.now.callers pass.old }
+    requires way { IsOnWay (sort_of N.layout N.ranged) N.body pass.old.caller place (seen_of pass.old) held }
+    ensures pass { IsPass (sort_of N.layout N.ranged) BeginsLink LinkStep arena.now.table.shared.table_id arena.now.callers pass.new }
+    ensures caller { pass.new.caller ≡ pass.old.caller }
+    ensures way { IsOnWay (sort_of N.layout N.ranged) N.body pass.old.caller place (seen_of pass.new) result }
+    ensures ends { next_at (N.body result.body) place ≡ Here }
+    ensures under { (op : Operation) (start : List Happening) → Underway link_move pass.old.caller op start (seen_of pass.old) → Underway link_move pass.old.caller op start (seen_of pass.new) }
+{
+    for _ in rt.forever() {
+        match held.body.next(place) {
+            Next::Here => return held,
+            Next::Go(next) => held = go_on(rt, arena, pass, gate, place, held, next),
+        }
+    }
+    unreachable!()
 }
 
 /// Takes the node at which the search for a place ends, and holds it alone.
@@ -88,12 +115,7 @@ pub(crate) fn find<N: Linked, R: Wait, G: Gate>(
     ensures ends { next_at (N.body result.body) place ≡ Here }
     ensures under { (op : Operation) → Underway link_move pass.old.caller op (seen_of pass.old) (seen_of pass.new) }
 {
-    let mut held = enter(rt, arena, pass, gate, place);
-    for _ in rt.forever() {
-        match held.body.next(place) {
-            Next::Here => return held,
-            Next::Go(next) => held = go_on(rt, arena, pass, gate, place, held, next),
-        }
-    }
-    unreachable!()
+    gate.at(pass.caller(), Point::Begin);
+    let held = enter(rt, arena, pass, gate, place);
+    find_from(rt, arena, pass, gate, place, held)
 }

@@ -7,7 +7,13 @@
 //! The technique is that of Lehman and Yao ("Efficient Locking for Concurrent Operations on B-Trees", 1981).
 #![tactic(auto)]
 
+mod attaches;
 mod calls;
 mod descent;
+mod parts;
+mod puts;
+mod template;
 
-pub use calls::{del, get};
+pub use calls::{del, get, swap};
+pub use puts::{add, put};
+pub use template::LinkMove;

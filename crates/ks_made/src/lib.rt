@@ -12,7 +12,7 @@ ghost use Rattle.ks_made.specs.Made.{draw, drawn, call_made, after_call, calls_m
 use ks_history::Op;
 use ks_script::Script;
 use std::alloc::{AllocError, Global};
-pub use summing::{Kind, summary};
+pub use summing::{Kind, Size, summary};
 
 /// Draws a number: the state goes on, and its upper bits are the number.
 fn drawn(state: &mut u64) -> u64
@@ -95,7 +95,7 @@ mod tests {
             callers: vec![in rt.alloc(); lines]?,
             pairs: vec![in rt.alloc(); (116, 823830125)]?,
         };
-        let text = summary(rt.alloc(), &script, &printed)?;
+        let text = summary(rt.alloc(), Size::of(&script), &printed)?;
         assert!(rt;
             text.as_slice()
                 == b"callers 1\ncalls 2\nfound 0\nnone 2\nfull 0\npairs 1\nsum 95564294500\n".as_slice()

@@ -1,9 +1,10 @@
 //! The summary of a run: how many replies of each kind, and what the map came to.
 
-ghost use Rattle.std.specs.Prelude.{◌≡◌, ◌%◌, ◌^◌, length, ◌++◌, map, count_by, IfOk, OnOk};
+ghost use Rattle.std.specs.Prelude.{◌≡◌, ◌%◌, ◌^◌, List, length, ◌++◌, map, count_by, IfOk, OnOk};
 ghost use Rattle.std.specs.Fmt.{decimal};
 ghost use Rattle.ks_script.specs.Script.{calls_in};
-ghost use Rattle.ks_made.specs.Summary.{is_of, replies_of, sum_of, summary_text, lines_of_summary};
+ghost use Rattle.ks_history.specs.declared.Op.{Op};
+ghost use Rattle.ks_made.specs.Summary.{IsSize, is_of, replies_of, sum_of, summary_text, lines_of_summary};
 ghost use Rattle.ks_made.specs.declared.summing.Kind.TheVariants as kinds;
 
 use itoa::Buffer;
@@ -104,17 +105,35 @@ fn text(alloc: Global, counts: &Counts) -> Result<Vec<u8>, AllocError>
     Ok(text)
 }
 
-/// The text of the summary.
-pub fn summary(alloc: Global, script: &Script, printed: &Printed) -> Result<Vec<u8>, AllocError>
-    ensures { IfOk result (λ text. text.items ≡ summary_text script.now printed.now) }
+/// How many callers a script has, and how many calls they have together.
+#[derive(Clone, Copy, Debug, PartialEq, Eq)]
+pub struct Size {
+    callers: usize,
+    calls: u128,
+}
+
+impl Size {
+    pub fn of(script: &Script) -> Size
+        ensures { IsSize result script.now }
+    {
+        Size {
+            callers: script.callers.len(),
+            calls: calls(&script.callers),
+        }
+    }
+}
+
+/// The text of the summary of a run, of a script of this size.
+pub fn summary(alloc: Global, size: Size, printed: &Printed) -> Result<Vec<u8>, AllocError>
+    ensures { (script : List (List Op)) → IsSize size script → IfOk result (λ text. text.items ≡ summary_text script printed.now) }
 {
-    let summary = count(&script.callers, &printed.callers, &printed.pairs);
+    let summary = count(size, &printed.callers, &printed.pairs);
     text(alloc, &summary)
 }
 
-fn count(callers: &[Vec<Op>], lines: &[Vec<(u64, Reply)>], pairs: &[(u64, u128)]) -> Counts
-    ensures callers { result.callers ≡ length (map (λ v. v.items) callers.now) }
-    ensures calls { result.calls ≡ calls_in (map (λ v. v.items) callers.now) }
+fn count(size: Size, lines: &[Vec<(u64, Reply)>], pairs: &[(u64, u128)]) -> Counts
+    ensures callers { result.callers ≡ size.callers }
+    ensures calls { result.calls ≡ size.calls }
     ensures found { result.found ≡ replies_of kinds.Found (map (λ v. v.items) lines.now) }
     ensures none { result.none ≡ replies_of kinds.Missing (map (λ v. v.items) lines.now) }
     ensures full { result.full ≡ replies_of kinds.NoRoom (map (λ v. v.items) lines.now) }
@@ -122,8 +141,8 @@ fn count(callers: &[Vec<Op>], lines: &[Vec<(u64, Reply)>], pairs: &[(u64, u128)]
     ensures sum { result.sum ≡ sum_of pairs.now % 2 ^ 64 }
 {
     Counts {
-        callers: callers.len(),
-        calls: calls(callers),
+        callers: size.callers,
+        calls: size.calls,
         found: replies(Kind::Found, lines),
         none: replies(Kind::Missing, lines),
         full: replies(Kind::NoRoom, lines),

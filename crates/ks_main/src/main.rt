@@ -1,9 +1,11 @@
-//! The program: it hands the words and the standard streams to `serve`, and ends with its status.
+//! The program: it hands the words and the standard streams to `serve`, with a gate that keeps nobody, and ends with its
+//! status.
 #![tactic(auto)]
 
 mod streams;
 
 use ks_batch::serve;
+use ks_gate::NoGate;
 use std::process::ExitCode;
 use std::{env, io};
 use streams::{StdSink, StdSource};
@@ -29,6 +31,14 @@ fn main(rt: HostRuntime) -> ExitCode {
     let mut source = StdSource::new(rt.stdin());
     let mut out = StdSink::new(rt.stdout());
     let mut err = StdSink::new(rt.stderr());
-    let outcome = serve(rt.alloc(), &words, &mut source, &mut out, &mut err);
+    let outcome = serve(
+        &rt,
+        rt.alloc(),
+        &words,
+        &mut source,
+        &mut out,
+        &mut err,
+        &NoGate,
+    );
     ExitCode::from(outcome.status)
 }

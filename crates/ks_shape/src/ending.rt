@@ -4,6 +4,7 @@ ghost use Rattle.std.specs.Prelude.{ℕ, ◌≡◌, ◌≢◌, ◌∷◌, [], Li
 ghost use Rattle.ks_history.specs.declared.Event.{Event as Happening};
 ghost use Rattle.ks_history.specs.declared.Reply.TheVariants.{Full as full_reply};
 ghost use Rattle.ks_history.specs.Map.{Touches, told};
+ghost use Rattle.ks_history.specs.Trace.{◌⊑◌};
 ghost use Rattle.ks_history.specs.Due.{NoneFree};
 ghost use Rattle.ks_history.specs.Done.{Done, DoneAt, Template};
 ghost use Rattle.ks_history.specs.Underway.{Underway};
@@ -45,6 +46,7 @@ fn decide_here<N: Node, D: Discipline, G: Gate>(
     requires ready { IsReady (sort_of N.layout N.ranged) N.body arena.now.nodes pass.old.caller (seen_of pass.old) held op reply }
     ensures pass { IsPass (sort_of N.layout N.ranged) D.begins D.step arena.now.table.shared.table_id arena.now.callers pass.new × (hand_of pass.new ≡ []) }
     ensures caller { pass.new.caller ≡ pass.old.caller }
+    ensures begins { seen_of pass.old ⊑ seen_of pass.new }
     ensures done { (template : Template) (start : List Happening) → (reply ≡ full_reply → (place : ℕ) × Touches op place × NoneFree N.layout arena.now.nodes pass.old.caller place start (seen_of pass.old)) →
         Underway template pass.old.caller op start (seen_of pass.old) → DoneAt N.layout template arena.now.nodes pass.old.caller op start (seen_of pass.new) reply result held.node (blank_of (sort_of N.layout N.ranged)) (frame_of (N.body held.body)) }
 {
@@ -92,6 +94,7 @@ pub fn refuse<N: Node, D: Discipline, G: Gate>(
     requires ready { IsReady (sort_of N.layout N.ranged) N.body arena.now.nodes pass.old.caller (seen_of pass.old) held op full_reply }
     ensures pass { IsPass (sort_of N.layout N.ranged) D.begins D.step arena.now.table.shared.table_id arena.now.callers pass.new × (hand_of pass.new ≡ []) }
     ensures caller { pass.new.caller ≡ pass.old.caller }
+    ensures begins { seen_of pass.old ⊑ seen_of pass.new }
     ensures done { (template : Template) (start : List Happening) (place : ℕ) → Touches op place → NoneFree N.layout arena.now.nodes pass.old.caller place start (seen_of pass.old) →
         Underway template pass.old.caller op start (seen_of pass.old) → DoneAt N.layout template arena.now.nodes pass.old.caller op start (seen_of pass.new) full_reply result.number held.node (blank_of (sort_of N.layout N.ranged)) (frame_of (N.body held.body)) }
 {

@@ -1,4 +1,4 @@
-use Rattle.std.proofs.Common.{rules, arith, refl, sym, ◌∙◌, ap, subst, ℕ}
+use Rattle.std.proofs.Common.{arith, refl, sym, ◌∙◌, ap, subst, ℕ}
 use Rattle.ks_history.specs.declared.Reply.{Reply}
 use Rattle.ks_keysets.specs.Layout.{Layout}
 use Rattle.ks_history.specs.declared.Op.{Op}

@@ -1,4 +1,4 @@
-use Rattle.std.proofs.Common.{rules, ℕ, arith, sym, subst}
+use Rattle.std.proofs.Common.{ℕ, arith, sym, subst}
 use Rattle.ks_keysets.specs.Layout.{Layout}
 use Rattle.ks_history.specs.declared.Op.{Op}
 use Rattle.ks_history.specs.Done.{Done, link_move}

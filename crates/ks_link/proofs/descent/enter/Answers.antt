@@ -1,4 +1,4 @@
-use Rattle.std.proofs.Common.{rules, ℕ, inl}
+use Rattle.std.proofs.Common.{ℕ}
 use Rattle.ks_history.specs.Done.{link_move, first_taken}
 use Rattle.ks_history.specs.Underway.{underway_first}
 use Rattle.ks_arena.specs.Sound.{sort_of}

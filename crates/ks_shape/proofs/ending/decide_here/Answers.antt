@@ -3,6 +3,7 @@ use Rattle.ks_history.specs.declared.Event.{Event}
 use Rattle.ks_history.specs.declared.Event.TheVariants.{Give}
 use Rattle.ks_history.specs.Trace.{hand, drop_one}
 use Rattle.ks_history.specs.Passes.{GrowsWith}
+use Rattle.ks_history.specs.Begins.{begins_both, with_begins}
 use Rattle.ks_history.specs.Due.{last_call}
 use Rattle.ks_history.specs.Stays.{lawful_in_turn}
 use Rattle.ks_node.specs.Body.{frame_of}
@@ -10,6 +11,10 @@ use Rattle.ks_arena.specs.Sound.{blank_of, sort_of}
 use Rattle.ks_arena.specs.Clauses.{seen_of}
 use Rattle.ks_shape.proofs.Concludes.{concluded}
 use Rattle.ks_shape.proofs.ending.decide_here.Goals as goal
+
+pub returns-clause-begins : goal.returns-clause-begins
+returns-clause-begins g c = let h = seen_of c.args.pass.now in let h₁ = seen_of c.decide-number.new.pass in let h₂ = seen_of c.give.new.pass in
+    begins_both h h₁ h₂ (with_begins c.args.pass.now.caller _ h h₁ c.decide-number.ensures.decided.grows) (with_begins c.decide-number.new.pass.caller _ h₁ h₂ c.give.ensures.gave)
 
 pub returns-clause-done : goal.returns-clause-done
 returns-clause-done g c = λ template start none under. let me : ℕ = c.args.pass.now.caller in let h = seen_of c.args.pass.now in let h₁ = seen_of c.decide-number.new.pass in let h₂ = seen_of c.give.new.pass in let i : ℕ = c.args.held.node in let e = c.decide-number.ensures in let r = c.requires.ready in

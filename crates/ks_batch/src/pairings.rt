@@ -1,0 +1,87 @@
+//! The pairings of node types and techniques that are served, and the dictionary of each.
+
+ghost use Rattle.std.specs.Prelude.{ℕ, ◌≤◌, map, length, IfOk};
+ghost use Rattle.ks_history.specs.Due.{FullsDue};
+ghost use Rattle.ks_history.specs.Lawful.{Lawful, GoodThroughout};
+ghost use Rattle.ks_history.specs.Served.{Served};
+ghost use Rattle.ks_batch.specs.Pairings.{row_of};
+
+use ks_bplus::BNode;
+use ks_coupling::Coupling;
+use ks_dictionary::{Told, serve_callers};
+use ks_gate::Gate;
+use ks_giveup::GiveUp;
+use ks_hash::HNode;
+use ks_history::Op;
+use ks_link::LinkMove;
+use ks_linked::WithLink;
+use ks_list::ListNode;
+use ks_node::WithRange;
+use std::alloc::{AllocError, Global};
+use std::sync::Wait;
+use std::thread::Threads;
+
+/// A type of nodes and a technique by which callers come from one to the next.
+#[derive(Clone, Copy, Debug, PartialEq, Eq)]
+pub enum Pairing {
+    /// Sorted lists, by lock coupling.
+    ListCoupling,
+    /// B+ trees, by lock coupling.
+    BplusCoupling,
+    /// Hash tables, by lock coupling.
+    HashCoupling,
+    /// Sorted lists, by giving up.
+    ListGiveUp,
+    /// B+ trees, by giving up.
+    BplusGiveUp,
+    /// Hash tables, by giving up.
+    HashGiveUp,
+    /// B+ trees, along links.
+    BplusLink,
+    /// Hash tables, along links.
+    HashLink,
+}
+
+/// Serves all callers at once, over an empty dictionary of the pairing with so many nodes.
+pub fn serve_by<R: Threads + Wait + Sync, G: Gate + Sync>(
+    rt: &R,
+    alloc: Global,
+    pairing: Pairing,
+    nodes: u32,
+    callers: Vec<Vec<Op>>,
+    gate: &G,
+) -> Result<Told, AllocError>
+    requires nodes { (4 ≤ nodes) × (nodes ≤ 65536) }
+    requires callers { length callers.items ≤ 64 }
+    ensures served { IfOk result (λ told. Served (row_of pairing).place (map (λ v. v.items) callers.items) (map (λ v. v.items) told.lines.items) told.pairs.items told.trace) }
+    ensures lawful { IfOk result (λ told. Lawful told.trace) }
+    ensures good { IfOk result (λ told. GoodThroughout told.trace) }
+    ensures due { IfOk result (λ told. FullsDue (row_of pairing).layout nodes told.trace) }
+{
+    match pairing {
+        Pairing::ListCoupling => serve_callers::<ListNode, Coupling, R, G>(
+            rt, alloc, nodes, callers, gate,
+        ),
+        Pairing::BplusCoupling => serve_callers::<BNode, Coupling, R, G>(
+            rt, alloc, nodes, callers, gate,
+        ),
+        Pairing::HashCoupling => serve_callers::<HNode, Coupling, R, G>(
+            rt, alloc, nodes, callers, gate,
+        ),
+        Pairing::ListGiveUp => serve_callers::<WithRange<ListNode>, GiveUp, R, G>(
+            rt, alloc, nodes, callers, gate,
+        ),
+        Pairing::BplusGiveUp => serve_callers::<WithRange<BNode>, GiveUp, R, G>(
+            rt, alloc, nodes, callers, gate,
+        ),
+        Pairing::HashGiveUp => serve_callers::<WithRange<HNode>, GiveUp, R, G>(
+            rt, alloc, nodes, callers, gate,
+        ),
+        Pairing::BplusLink => serve_callers::<WithLink<BNode>, LinkMove, R, G>(
+            rt, alloc, nodes, callers, gate,
+        ),
+        Pairing::HashLink => serve_callers::<WithLink<HNode>, LinkMove, R, G>(
+            rt, alloc, nodes, callers, gate,
+        ),
+    }
+}

@@ -1,0 +1,17 @@
+use Rattle.std.proofs.Common.{◌≡◌, List}
+use Rattle.ks_flow.specs.Discipline.{BeginsLink, LinkStep}
+use Rattle.ks_history.specs.declared.Event.{Event}
+use Rattle.ks_history.specs.declared.Op.{Op}
+use Rattle.ks_history.specs.Done.{link_move}
+use Rattle.ks_history.specs.Underway.{Underway}
+use Rattle.ks_arena.specs.Sound.{sort_of}
+use Rattle.ks_arena.specs.Clauses.{IsPass, seen_of}
+use Rattle.ks_link.specs.Descent.{IsOnWay}
+use Rattle.ks_link.proofs.descent.find_from.Given as goal
+
+abbrev pub invariant-loop : goal.invariant-loop
+invariant-loop g l =
+    IsPass (sort_of g.N.Node.layout g.N.Node.ranged) BeginsLink LinkStep l.arena.table.shared.table_id l.arena.callers l.pass
+    × (l.pass.caller ≡ l.fn.pass.caller)
+    × IsOnWay (sort_of g.N.Node.layout g.N.Node.ranged) g.N.Node.body l.pass.caller l.place (seen_of l.pass) l.held
+    × ((op : Op) (start : List Event) → Underway link_move l.pass.caller op start (seen_of l.fn.pass) → Underway link_move l.pass.caller op start (seen_of l.pass))

@@ -1,0 +1,95 @@
+use Rattle.std.proofs.Common.{◌≡◌, ◌≢◌, ℕ, inl, inr, refl, sym, ap, ◌∙◌, subst, List, [], ◌∷◌}
+use Rattle.ks_history.specs.declared.Event.{Event}
+use Rattle.ks_history.specs.Trace.{hand, held, turn_after}
+use Rattle.ks_history.specs.Passes.{Has}
+use Rattle.ks_history.specs.Stays.{lawful_in_turn}
+use Rattle.ks_history.specs.Hand.{is_hand}
+use Rattle.ks_history.specs.Begins.{good_now}
+use Rattle.ks_history.specs.Due.{HoldsLive}
+use Rattle.ks_history.specs.Dues.{holds_one}
+use Rattle.ks_history.specs.Done.{link_move}
+use Rattle.ks_history.specs.Stretch.{Stretch, stretch_both}
+use Rattle.ks_arena.specs.declared.held.Held.{Held as Hand}
+use Rattle.ks_arena.specs.Sound.{sort_of}
+use Rattle.ks_arena.specs.Clauses.{seen_of, hand_of, Matches}
+use Rattle.ks_shape.specs.InHand.{IsFree}
+use Rattle.ks_link.specs.Parts.{IsAlone}
+use Rattle.ks_link.proofs.Parting.{live_in, spare_no_root}
+use Rattle.ks_link.proofs.parts.part.Given.{Over}
+use Rattle.ks_link.proofs.parts.part.Goals as goal
+use Rattle.ks_link.proofs.parts.part.Goals.{After-sound_law}
+
+-- what is held before is live
+
+live_before : (g : Over) (c : After-sound_law g) → HoldsLive (seen_of c.args.pass.now) c.args.pass.now.caller
+live_before g c = let sort = sort_of g.N.Node.layout g.N.Node.ranged in let h = seen_of c.args.pass.now in let way = c.requires.way in
+    holds_one c.args.pass.now.caller c.args.held.node h way.alone (live_in sort g.N.Node.body h c.args.held way.live way.matches)
+
+held_before : (g : Over) (c : After-sound_law g) → turn_after (seen_of c.args.pass.now) c.args.held.node ≡ held c.args.pass.now.caller
+held_before g c = let sort = sort_of g.N.Node.layout g.N.Node.ranged in let n : ℕ = c.args.arena.now.table.shared.table_id.slots in let h = seen_of c.args.pass.now in let me : ℕ = c.args.pass.now.caller in
+    (is_hand h me (lawful_in_turn h (c.sound_law.ensures.lawful sort n h c.requires.pass.sound))).held c.args.held.node (subst (λ (z : List ℕ). Has z c.args.held.node) (sym c.requires.way.alone) (inl refl))
+
+-- the node stays in hand
+still_alone : (g : Over) (c : After-sound_law g) (k : List Event) → hand c.args.pass.now.caller k ≡ hand_of c.args.pass.now → Matches (sort_of g.N.Node.layout g.N.Node.ranged) g.N.Node.body k c.args.held → IsAlone (sort_of g.N.Node.layout g.N.Node.ranged) g.N.Node.body c.args.pass.now.caller k c.args.held
+still_alone g c k same matches = record { alone = same ∙ c.requires.way.alone; live = c.requires.way.live; matches = matches }
+
+in_hand : (g : Over) (c : After-sound_law g) → Has (hand_of c.args.pass.now) c.args.held.node
+in_hand g c = subst (λ (z : List ℕ). Has z c.args.held.node) (sym c.requires.way.alone) (inl refl)
+
+-- the hand with the claimed nodes
+
+one : (g : Over) (c : After-sound_law g) (k : List Event) (d right : ℕ) → d ≡ c.args.pass.now.caller → hand c.args.pass.now.caller k ≡ right ∷ hand_of c.args.pass.now → hand d k ≡ right ∷ c.args.held.node ∷ []
+one g c k d right same is = subst (λ (z : ℕ). hand z k ≡ right ∷ c.args.held.node ∷ []) (sym same) (is ∙ ap (λ (z : List ℕ). right ∷ z) c.requires.way.alone)
+
+two : (g : Over) (c : After-sound_law g) (k : List Event) (d left right : ℕ) → d ≡ c.args.pass.now.caller → hand c.args.pass.now.caller k ≡ right ∷ left ∷ hand_of c.args.pass.now → hand d k ≡ right ∷ left ∷ c.args.held.node ∷ []
+two g c k d left right same is = subst (λ (z : ℕ). hand z k ≡ right ∷ left ∷ c.args.held.node ∷ []) (sym same) (is ∙ ap (λ (z : List ℕ). right ∷ left ∷ z) c.requires.way.alone)
+
+-- claims refused
+
+pub returns-in-None-clause-parted : goal.returns-in-None-clause-parted
+returns-in-None-clause-parted g c = let at = (goal.at.returns-in-None-clause-parted g c).After-sound_law in let told = rw c.in-None.is at c.claim_two.ensures.claimed in
+    (refl, still_alone g at (seen_of c.claim_two.new.pass) told.0 (c.claim_two.ensures.still c.args.held (in_hand g at) c.requires.way.matches), λ grows. told.1 c.args.held.node c.args.place (live_before g at) (held_before g at) (grows c.if-held-eq0.true))
+
+pub returns-in-None-claim_one-clause-parted : goal.returns-in-None-claim_one-clause-parted
+returns-in-None-claim_one-clause-parted g c = let at = (goal.at.returns-in-None-claim_one-clause-parted g c).After-sound_law in let told = rw c.in-None-claim_one.is at c.claim_one.ensures.claimed in
+    (refl, still_alone g at (seen_of c.claim_one.new.pass) told.0 (c.claim_one.ensures.still c.args.held (in_hand g at) c.requires.way.matches), λ grows. told.1 c.args.place (inl (live_before g at)))
+
+pub returns-in-None-clause-stretch : goal.returns-in-None-clause-stretch
+returns-in-None-clause-stretch g c = c.claim_two.ensures.stretch link_move
+
+pub returns-in-None-claim_one-clause-stretch : goal.returns-in-None-claim_one-clause-stretch
+returns-in-None-claim_one-clause-stretch g c = c.claim_one.ensures.stretch link_move
+
+pub returns-in-Some-clause-stretch : goal.returns-in-Some-clause-stretch
+returns-in-Some-clause-stretch g c = let me : ℕ = c.args.pass.now.caller in let h = seen_of c.args.pass.now in let k = seen_of c.claim_two.new.pass in let l = seen_of c.grow.new.pass in
+    stretch_both link_move me h k l (c.claim_two.ensures.stretch link_move) (subst (λ (z : ℕ). Stretch link_move z k l) c.claim_two.ensures.caller c.grow.ensures.stretch)
+
+pub returns-in-Some-claim_one-clause-stretch : goal.returns-in-Some-claim_one-clause-stretch
+returns-in-Some-claim_one-clause-stretch g c = let me : ℕ = c.args.pass.now.caller in let h = seen_of c.args.pass.now in let k = seen_of c.claim_one.new.pass in let l = seen_of c.split.new.pass in
+    stretch_both link_move me h k l (c.claim_one.ensures.stretch link_move) (subst (λ (z : ℕ). Stretch link_move z k l) c.claim_one.ensures.caller c.split.ensures.stretch)
+
+-- the claimed nodes beside it
+
+pub grow-requires-clause-node : goal.grow-requires-clause-node
+grow-requires-clause-node g c = let at = (goal.at.grow-requires-clause-node g c).After-sound_law in record {
+  has = subst (λ (z : List ℕ). Has z c.args.held.node) (sym (two g at (seen_of c.claim_two.new.pass) c.claim_two.new.pass.caller c.in-Some.left.node c.in-Some.right.node c.claim_two.ensures.caller c.in-Some.ensures.claimed.hands)) (inr (inr (inl refl)));
+  live = c.requires.way.live;
+  matches = c.claim_two.ensures.still c.args.held (in_hand g at) c.requires.way.matches;
+}
+
+pub grow-requires-clause-hand : goal.grow-requires-clause-hand
+grow-requires-clause-hand g c = let at = (goal.at.grow-requires-clause-hand g c).After-sound_law in let sort = sort_of g.N.Node.layout g.N.Node.ranged in let n : ℕ = c.args.arena.now.table.shared.table_id.slots in let k = seen_of c.claim_two.new.pass in let got = c.in-Some.ensures.claimed in
+    let good = good_now (c.sound_law.ensures.good sort n k c.claim_two.ensures.pass.sound) in
+    let spare : (x : Hand g.row.N.Denot) → IsFree sort g.N.Node.body (hand c.args.pass.now.caller k) k x → x.node ≢ c.args.held.node = λ x free same. spare_no_root sort g.N.Node.body k x free.free free.matches good (same ∙ c.if-held-eq0.true) in
+    (two g at k c.claim_two.new.pass.caller c.in-Some.left.node c.in-Some.right.node c.claim_two.ensures.caller got.hands, spare c.in-Some.left got.left, spare c.in-Some.right got.right, λ same. got.apart (sym same))
+
+pub split-requires-clause-node : goal.split-requires-clause-node
+split-requires-clause-node g c = let at = (goal.at.split-requires-clause-node g c).After-sound_law in record {
+  has = subst (λ (z : List ℕ). Has z c.args.held.node) (sym (one g at (seen_of c.claim_one.new.pass) c.claim_one.new.pass.caller c.in-Some-claim_one.right.node c.claim_one.ensures.caller c.in-Some-claim_one.ensures.claimed.hands)) (inr (inl refl));
+  live = c.requires.way.live;
+  matches = c.claim_one.ensures.still c.args.held (in_hand g at) c.requires.way.matches;
+}
+
+pub split-requires-clause-hand : goal.split-requires-clause-hand
+split-requires-clause-hand g c = let at = (goal.at.split-requires-clause-hand g c).After-sound_law in let got = c.in-Some-claim_one.ensures.claimed in
+    (one g at (seen_of c.claim_one.new.pass) c.claim_one.new.pass.caller c.in-Some-claim_one.right.node c.claim_one.ensures.caller got.hands, λ same. got.fresh (subst (λ (z : ℕ). Has (hand_of c.args.pass.now) z) (sym same) (in_hand g at)))

@@ -1,0 +1,41 @@
+-- What splits and the growing of the root leave in hand.
+use Rattle.std.specs.Prelude.{ℕ, ◌≡◌, ◌≢◌, ◌≤◌, true, List, [], ◌∷◌, Result, Ok, Err}
+use Rattle.std.specs.Option.{ForSome}
+use Rattle.ks_keysets.specs.Keyset.{IsLive as IsLiveIn}
+use Rattle.ks_history.specs.declared.Event.{Event}
+use Rattle.ks_history.specs.Trace.{hand, graph_after, frame_after}
+use Rattle.ks_history.specs.Due.{MayGrow, NoneFree}
+use Rattle.ks_node.specs.Body.{Body, last_of}
+use Rattle.ks_arena.specs.declared.held.Held.{Held as Hand}
+use Rattle.ks_arena.specs.Sound.{Sort, blank_of}
+use Rattle.ks_arena.specs.Clauses.{Matches}
+use Rattle.ks_link.specs.declared.parts.Waiting.{Waiting}
+use Rattle.ks_link.specs.declared.parts.Parted.{Parted}
+use Rattle.ks_link.specs.Descent.{IsOnWay}
+
+-- a node that was split off: it is live, not the root, and begins at the cut, on this level
+pub record IsSplitOff (sort : Sort) (h : List Event) (w : Waiting) : Type 0 where
+  pub live : IsLiveIn (graph_after h) w.node
+  pub no_root : w.node ≢ 0
+  pub low : (frame_after (blank_of sort) h w.node).low ≡ w.cut
+  pub level : (frame_after (blank_of sort) h w.node).level ≡ w.level
+
+module _ {N : Type 0} (sort : Sort) (shows : N → Body) where
+  -- c holds this live node alone
+  pub record IsAlone (c : ℕ) (h : List Event) (x : Hand N) : Type 0 where
+    pub alone : hand c h ≡ x.node ∷ []
+    pub live : x.live ≡ true
+    pub matches : Matches sort shows h x
+
+  -- the full node x was parted, and c holds the half alone in which the place lies; or no node was found free, if x is
+  -- not the root or may grow for the place
+  abbrev pub IsParted : ℕ → ℕ → ℕ → List Event → List Event → Hand N → Result (Parted N) (Hand N) → Type 0
+  IsParted n c place h k x (Ok p) =
+      IsOnWay sort shows c place k p.half
+      × ((shows p.half.body).level ≡ (shows x.body).level)
+      × ForSome p.new (λ w. IsSplitOff sort k w × (w.level ≡ (shows x.body).level))
+      × (place ≤ last_of (shows x.body).range → place ≤ last_of (shows p.half.body).range)
+  IsParted n c place h k x (Err y) =
+      (y ≡ x)
+      × IsAlone c k x
+      × ((x.node ≡ 0 → MayGrow sort.layout (graph_after h) x.node place) → NoneFree sort.layout n c place h k)

@@ -1,0 +1,220 @@
+//! How a node that was split off gets an edge one level above it, after the call that split it off has been decided.
+ghost use Rattle.std.specs.Prelude.{◌≡◌, ◌+◌, ◌<◌, ◌≤◌, ◌↔◌, All, IsTrue, false, []};
+ghost use Rattle.std.specs.Option.{ForSome};
+ghost use Rattle.ks_flow.specs.Discipline.{BeginsLink, LinkStep};
+ghost use Rattle.ks_flow.specs.Link.{IsLed};
+ghost use Rattle.ks_history.specs.Trace.{frame_after, graph_after};
+ghost use Rattle.ks_node.specs.Room.{is_full};
+ghost use Rattle.ks_node.specs.Asks.{IsCut};
+ghost use Rattle.ks_node.specs.Body.{content_of, is_branch, last_of};
+ghost use Rattle.ks_arena.specs.Sound.{blank_of, sort_of};
+ghost use Rattle.ks_arena.specs.Clauses.{IsPass, hand_of, seen_of};
+ghost use Rattle.ks_link.specs.Descent.{IsOnWay};
+ghost use Rattle.ks_link.specs.Parts.{IsAlone, IsParted, IsSplitOff};
+ghost use Rattle.ks_history.specs.Done.{link_move};
+ghost use Rattle.ks_history.specs.Stretch.{Stretch};
+
+use crate::descent::{enter, go_on};
+use crate::parts::{Parted, Waiting, part};
+use ks_arena::laws::sound_law;
+use ks_arena::{Arena, Held, Pass};
+use ks_bodies::link_leads_law;
+use ks_flow::Link;
+use ks_gate::{Gate, Point};
+use ks_node::{Linked, Next, linked_law, node_law};
+use ks_shape::attach;
+use std::sync::Wait;
+
+/// Whether an edge from the cut on can be added to a branch.
+fn can_lead<N: Linked>(node: &N, cut: u64) -> bool
+    ensures { IsTrue result ↔ (IsTrue (is_branch (N.body node.now)) × IsCut (N.body node.now) cut × IsTrue (N.can_adopt_at (content_of (N.body node.now)) cut)) }
+{
+    node_law(node);
+    let range = node.range();
+    node.is_branch() && range.low < cut && cut <= range.last && node.can_adopt(cut)
+}
+
+/// Goes on from a node above the level to one above it that is nearer to the cut: a child, or the node right of it.
+fn go_nearer<N: Linked, R: Wait, G: Gate>(
+    rt: &R,
+    arena: &Arena<N, Link>,
+    pass: &mut Pass<N, Link>,
+    gate: &G,
+    level: u32,
+    cut: u64,
+    held: Held<N>,
+) -> Held<N>
+    requires pass { IsPass (sort_of N.layout N.ranged) BeginsLink LinkStep arena.now.table.shared.table_id arena.now.callers pass.old }
+    requires way { IsOnWay (sort_of N.layout N.ranged) N.body pass.old.caller cut (seen_of pass.old) held }
+    requires above { level < (N.body held.body).level }
+    requires away { (N.body held.body).level ≡ level + 1 → last_of (N.body held.body).range < cut }
+    ensures pass { IsPass (sort_of N.layout N.ranged) BeginsLink LinkStep arena.now.table.shared.table_id arena.now.callers pass.new }
+    ensures caller { pass.new.caller ≡ pass.old.caller }
+    ensures way { IsOnWay (sort_of N.layout N.ranged) N.body pass.old.caller cut (seen_of pass.new) result }
+    ensures above { level < (N.body result.body).level }
+    ensures stretch { Stretch link_move pass.old.caller (seen_of pass.old) (seen_of pass.new) }
+{
+    sound_law::<Link>();
+    node_law(&held.body);
+    let Next::Go(next) = held.body.next(cut) else {
+        unreachable!()
+    };
+    go_on(rt, arena, pass, gate, cut, held, next)
+}
+
+/// Takes the node one level above what was split off whose range holds the cut, and holds it alone.
+fn find_above<N: Linked, R: Wait, G: Gate>(
+    rt: &R,
+    arena: &Arena<N, Link>,
+    pass: &mut Pass<N, Link>,
+    gate: &G,
+    to: Waiting,
+) -> Held<N>
+    requires pass { IsPass (sort_of N.layout N.ranged) BeginsLink LinkStep arena.now.table.shared.table_id arena.now.callers pass.old × (hand_of pass.old ≡ []) }
+    requires off { IsSplitOff (sort_of N.layout N.ranged) (seen_of pass.old) to }
+    ensures pass { IsPass (sort_of N.layout N.ranged) BeginsLink LinkStep arena.now.table.shared.table_id arena.now.callers pass.new }
+    ensures caller { pass.new.caller ≡ pass.old.caller }
+    ensures way { IsOnWay (sort_of N.layout N.ranged) N.body pass.old.caller to.cut (seen_of pass.new) result }
+    ensures level { (N.body result.body).level ≡ to.level + 1 }
+    ensures within { to.cut ≤ last_of (N.body result.body).range }
+    ensures stretch { Stretch link_move pass.old.caller (seen_of pass.old) (seen_of pass.new) }
+{
+    sound_law::<Link>();
+    let mut held = enter(rt, arena, pass, gate, to.cut);
+    for _ in rt.forever() {
+        if held.body.level() == to.level + 1 && to.cut <= held.body.range().last {
+            return held;
+        }
+        held = go_nearer(rt, arena, pass, gate, to.level, to.cut, held);
+    }
+    unreachable!()
+}
+
+/// Parts the node, if it is a full branch to which the edge cannot be added, and a node is free; and keeps the half in
+/// which the cut lies.
+fn ready<N: Linked, G: Gate>(
+    arena: &Arena<N, Link>,
+    pass: &mut Pass<N, Link>,
+    gate: &G,
+    cut: u64,
+    held: Held<N>,
+) -> Parted<N>
+    requires pass { IsPass (sort_of N.layout N.ranged) BeginsLink LinkStep arena.now.table.shared.table_id arena.now.callers pass.old }
+    requires way { IsOnWay (sort_of N.layout N.ranged) N.body pass.old.caller cut (seen_of pass.old) held }
+    ensures pass { IsPass (sort_of N.layout N.ranged) BeginsLink LinkStep arena.now.table.shared.table_id arena.now.callers pass.new }
+    ensures caller { pass.new.caller ≡ pass.old.caller }
+    ensures parted { IsParted (sort_of N.layout N.ranged) N.body arena.now.nodes pass.old.caller cut (seen_of pass.old) (seen_of pass.new) held (Ok result) }
+    ensures stretch { Stretch link_move pass.old.caller (seen_of pass.old) (seen_of pass.new) }
+{
+    linked_law::<N>();
+    if can_lead(&held.body, cut) || !held.body.is_branch() || !held.body.is_full() {
+        return Parted {
+            half: held,
+            new: None,
+        };
+    }
+    match part(arena, pass, gate, cut, held) {
+        Ok(parted) => parted,
+        Err(held) => Parted {
+            half: held,
+            new: None,
+        },
+    }
+}
+
+/// Adds an edge to what was split off to the node in hand, if it can be added. Where the node is not full, and branches of
+/// its type adopt, what was split off is then led to.
+fn lead<N: Linked>(
+    arena: &Arena<N, Link>,
+    pass: &mut Pass<N, Link>,
+    to: Waiting,
+    held: &mut Held<N>,
+)
+    requires pass { IsPass (sort_of N.layout N.ranged) BeginsLink LinkStep arena.now.table.shared.table_id arena.now.callers pass.old }
+    requires held { IsAlone (sort_of N.layout N.ranged) N.body pass.old.caller (seen_of pass.old) held.old }
+    requires off { IsSplitOff (sort_of N.layout N.ranged) (seen_of pass.old) to }
+    requires level { (N.body held.old.body).level ≡ to.level + 1 }
+    requires low { (N.body held.old.body).low ≤ to.cut }
+    requires within { to.cut ≤ last_of (N.body held.old.body).range }
+    ensures pass { IsPass (sort_of N.layout N.ranged) BeginsLink LinkStep arena.now.table.shared.table_id arena.now.callers pass.new }
+    ensures caller { pass.new.caller ≡ pass.old.caller }
+    ensures held { IsAlone (sort_of N.layout N.ranged) N.body pass.old.caller (seen_of pass.new) held.new }
+    ensures led { IsTrue N.branches_adopt → is_full N.layout (N.body held.old.body) ≡ false → IsLed (graph_after (seen_of pass.new)) (frame_after (blank_of (sort_of N.layout N.ranged)) (seen_of pass.new)) to.node }
+    ensures stretch { Stretch link_move pass.old.caller (seen_of pass.old) (seen_of pass.new) }
+{
+    sound_law::<Link>();
+    link_leads_law();
+    linked_law::<N>();
+    node_law(&held.body);
+    if can_lead(&held.body, to.cut) {
+        attach(arena, pass, held, to.cut, to.node);
+    }
+}
+
+/// Attaches what was split off to the level above it, if it can be. Gives what was split off on the way.
+fn attach_one<N: Linked, R: Wait, G: Gate>(
+    rt: &R,
+    arena: &Arena<N, Link>,
+    pass: &mut Pass<N, Link>,
+    gate: &G,
+    to: Waiting,
+) -> Option<Waiting>
+    requires pass { IsPass (sort_of N.layout N.ranged) BeginsLink LinkStep arena.now.table.shared.table_id arena.now.callers pass.old × (hand_of pass.old ≡ []) }
+    requires off { IsSplitOff (sort_of N.layout N.ranged) (seen_of pass.old) to }
+    ensures pass { IsPass (sort_of N.layout N.ranged) BeginsLink LinkStep arena.now.table.shared.table_id arena.now.callers pass.new × (hand_of pass.new ≡ []) }
+    ensures caller { pass.new.caller ≡ pass.old.caller }
+    ensures off { ForSome result (λ w. IsSplitOff (sort_of N.layout N.ranged) (seen_of pass.new) w) }
+    ensures stretch { Stretch link_move pass.old.caller (seen_of pass.old) (seen_of pass.new) }
+{
+    sound_law::<Link>();
+    let held = find_above(rt, arena, pass, gate, to);
+    let Parted { mut half, new } = ready(arena, pass, gate, to.cut, held);
+    lead(arena, pass, to, &mut half);
+    let node = half.node;
+    arena.give(pass, half);
+    gate.at(pass.caller(), Point::Given(node));
+    new
+}
+
+/// Attaches what was split off, and what is split off by that, and so on.
+fn attach_on<N: Linked, R: Wait, G: Gate>(
+    rt: &R,
+    arena: &Arena<N, Link>,
+    pass: &mut Pass<N, Link>,
+    gate: &G,
+    mut to: Waiting,
+)
+    requires pass { IsPass (sort_of N.layout N.ranged) BeginsLink LinkStep arena.now.table.shared.table_id arena.now.callers pass.old × (hand_of pass.old ≡ []) }
+    requires off { IsSplitOff (sort_of N.layout N.ranged) (seen_of pass.old) to }
+    ensures pass { IsPass (sort_of N.layout N.ranged) BeginsLink LinkStep arena.now.table.shared.table_id arena.now.callers pass.new × (hand_of pass.new ≡ []) }
+    ensures caller { pass.new.caller ≡ pass.old.caller }
+    ensures stretch { Stretch link_move pass.old.caller (seen_of pass.old) (seen_of pass.new) }
+{
+    for _ in rt.forever() {
+        match attach_one(rt, arena, pass, gate, to) {
+            Some(next) => to = next,
+            None => return,
+        }
+    }
+    unreachable!()
+}
+
+/// Attaches all that waits, the oldest first.
+pub(crate) fn attach_all<N: Linked, R: Wait, G: Gate>(
+    rt: &R,
+    arena: &Arena<N, Link>,
+    pass: &mut Pass<N, Link>,
+    gate: &G,
+    waiting: &[Waiting],
+)
+    requires pass { IsPass (sort_of N.layout N.ranged) BeginsLink LinkStep arena.now.table.shared.table_id arena.now.callers pass.old × (hand_of pass.old ≡ []) }
+    requires off { All (λ w. IsSplitOff (sort_of N.layout N.ranged) (seen_of pass.old) w) waiting.now }
+    ensures pass { IsPass (sort_of N.layout N.ranged) BeginsLink LinkStep arena.now.table.shared.table_id arena.now.callers pass.new × (hand_of pass.new ≡ []) }
+    ensures caller { pass.new.caller ≡ pass.old.caller }
+    ensures stretch { Stretch link_move pass.old.caller (seen_of pass.old) (seen_of pass.new) }
+{
+    sound_law::<Link>();
+    for to in waiting {
+        attach_on(rt, arena, pass, gate, *to);
+    }
+}

@@ -1,0 +1,181 @@
+//! How a full node is parted: the root grows, any other node splits to the right.
+ghost use Rattle.std.specs.Prelude.{◌≡◌, ◌≢◌, ◌<◌, ◌≤◌, ◌⊎◌, IsTrue, [], ◌∷◌};
+ghost use Rattle.ks_flow.specs.Discipline.{BeginsLink, LinkStep};
+ghost use Rattle.ks_node.specs.Body.{content_of};
+ghost use Rattle.ks_node.specs.Room.{is_full};
+ghost use Rattle.ks_arena.specs.Sound.{sort_of};
+ghost use Rattle.ks_arena.specs.Clauses.{IsPass, hand_of, seen_of};
+ghost use Rattle.ks_shape.specs.InHand.{IsLive, IsFree};
+ghost use Rattle.ks_link.specs.Descent.{IsOnWay};
+ghost use Rattle.ks_link.specs.Parts.{IsParted, IsSplitOff};
+ghost use Rattle.ks_history.specs.Done.{link_move};
+ghost use Rattle.ks_history.specs.Stretch.{Stretch};
+
+use ks_arena::laws::sound_law;
+use ks_arena::{Arena, Held, Pass};
+use ks_bodies::link_asks_law;
+use ks_flow::Link;
+use ks_gate::{Gate, Point};
+use ks_keysets::Span;
+use ks_node::{Linked, linked_law, node_law};
+use ks_shape::{claim_one, claim_two, grow_right, split_right};
+
+/// A node that was split off at a cut, and is reached by its left neighbour's link alone till it is attached.
+#[derive(Clone, Copy, Debug, Default, PartialEq, Eq)]
+pub(crate) struct Waiting {
+    pub cut: u64,
+    pub node: u32,
+    pub level: u32,
+}
+
+/// What a full node was parted into: the half that is held, and the node that was split off, if the root did not grow.
+pub(crate) struct Parted<N> {
+    pub half: Held<N>,
+    pub new: Option<Waiting>,
+}
+
+/// Gives the one of two halves in which the place does not lie.
+fn keep_half<N: Linked, G: Gate>(
+    arena: &Arena<N, Link>,
+    pass: &mut Pass<N, Link>,
+    gate: &G,
+    place: u64,
+    cut: u64,
+    left: Held<N>,
+    right: Held<N>,
+) -> Held<N>
+    requires pass { IsPass (sort_of N.layout N.ranged) BeginsLink LinkStep arena.now.table.shared.table_id arena.now.callers pass.old }
+    requires left { IsLive (sort_of N.layout N.ranged) N.body (hand_of pass.old) (seen_of pass.old) left }
+    requires right { IsLive (sort_of N.layout N.ranged) N.body (hand_of pass.old) (seen_of pass.old) right }
+    requires hand { (hand_of pass.old ≡ right.node ∷ left.node ∷ []) × (right.node ≢ left.node) }
+    requires low { (N.body left.body).low ≤ place }
+    requires cut { (N.body right.body).low ≡ cut }
+    ensures pass { IsPass (sort_of N.layout N.ranged) BeginsLink LinkStep arena.now.table.shared.table_id arena.now.callers pass.new }
+    ensures caller { pass.new.caller ≡ pass.old.caller }
+    ensures way { IsOnWay (sort_of N.layout N.ranged) N.body pass.old.caller place (seen_of pass.new) result }
+    ensures half { ((result ≡ left) × (place < cut)) ⊎ (result ≡ right) }
+    ensures stretch { Stretch link_move pass.old.caller (seen_of pass.old) (seen_of pass.new) }
+{
+    if place < cut {
+        let node = right.node;
+        arena.give(pass, right);
+        gate.at(pass.caller(), Point::Given(node));
+        left
+    } else {
+        let node = left.node;
+        arena.give(pass, left);
+        gate.at(pass.caller(), Point::Given(node));
+        right
+    }
+}
+
+/// Splits a full node that is not the root, and keeps the half in which the place lies.
+fn split<N: Linked, G: Gate>(
+    arena: &Arena<N, Link>,
+    pass: &mut Pass<N, Link>,
+    gate: &G,
+    place: u64,
+    mut held: Held<N>,
+    mut right: Held<N>,
+) -> Parted<N>
+    requires pass { IsPass (sort_of N.layout N.ranged) BeginsLink LinkStep arena.now.table.shared.table_id arena.now.callers pass.old }
+    requires node { IsLive (sort_of N.layout N.ranged) N.body (hand_of pass.old) (seen_of pass.old) held }
+    requires right { IsFree (sort_of N.layout N.ranged) N.body (hand_of pass.old) (seen_of pass.old) right }
+    requires hand { (hand_of pass.old ≡ right.node ∷ held.node ∷ []) × (right.node ≢ held.node) }
+    requires no_root { held.node ≢ 0 }
+    requires full { IsTrue (is_full N.layout (N.body held.body)) }
+    requires low { (N.body held.body).low ≤ place }
+    ensures pass { IsPass (sort_of N.layout N.ranged) BeginsLink LinkStep arena.now.table.shared.table_id arena.now.callers pass.new }
+    ensures caller { pass.new.caller ≡ pass.old.caller }
+    ensures parted { IsParted (sort_of N.layout N.ranged) N.body arena.now.nodes pass.old.caller place (seen_of pass.old) (seen_of pass.new) held (Ok result) }
+    ensures stretch { Stretch link_move pass.old.caller (seen_of pass.old) (seen_of pass.new) }
+{
+    sound_law::<Link>();
+    link_asks_law();
+    linked_law::<N>();
+    node_law(&held.body);
+    let cut = held.body.cut(None);
+    split_right(arena, pass, &mut held, &mut right, cut);
+    let new = Waiting {
+        cut,
+        node: right.node,
+        level: right.body.level(),
+    };
+    let half = keep_half(arena, pass, gate, place, cut, held, right);
+    Parted {
+        half,
+        new: Some(new),
+    }
+}
+
+/// Lets the full root grow over two nodes, gives it, and keeps the one in which the place lies.
+fn grow<N: Linked, G: Gate>(
+    arena: &Arena<N, Link>,
+    pass: &mut Pass<N, Link>,
+    gate: &G,
+    place: u64,
+    mut root: Held<N>,
+    mut left: Held<N>,
+    mut right: Held<N>,
+) -> Parted<N>
+    requires pass { IsPass (sort_of N.layout N.ranged) BeginsLink LinkStep arena.now.table.shared.table_id arena.now.callers pass.old }
+    requires node { IsLive (sort_of N.layout N.ranged) N.body (hand_of pass.old) (seen_of pass.old) root }
+    requires left { IsFree (sort_of N.layout N.ranged) N.body (hand_of pass.old) (seen_of pass.old) left }
+    requires right { IsFree (sort_of N.layout N.ranged) N.body (hand_of pass.old) (seen_of pass.old) right }
+    requires hand { (hand_of pass.old ≡ right.node ∷ left.node ∷ root.node ∷ []) × (left.node ≢ root.node) × (right.node ≢ root.node) × (right.node ≢ left.node) }
+    requires root { root.node ≡ 0 }
+    requires full { IsTrue (is_full N.layout (N.body root.body)) }
+    requires grows { IsTrue (N.grows_at (content_of (N.body root.body))) }
+    requires low { (N.body root.body).low ≤ place }
+    ensures pass { IsPass (sort_of N.layout N.ranged) BeginsLink LinkStep arena.now.table.shared.table_id arena.now.callers pass.new }
+    ensures caller { pass.new.caller ≡ pass.old.caller }
+    ensures parted { IsParted (sort_of N.layout N.ranged) N.body arena.now.nodes pass.old.caller place (seen_of pass.old) (seen_of pass.new) root (Ok result) }
+    ensures stretch { Stretch link_move pass.old.caller (seen_of pass.old) (seen_of pass.new) }
+{
+    sound_law::<Link>();
+    link_asks_law();
+    linked_law::<N>();
+    node_law(&root.body);
+    let all = Span {
+        low: 0,
+        last: u64::MAX,
+    };
+    let _nodes = arena.nodes();
+    let cut = root.body.cut(Some(all));
+    grow_right(arena, pass, &mut root, &mut left, &mut right, cut);
+    arena.give(pass, root);
+    gate.at(pass.caller(), Point::Given(0));
+    let half = keep_half(arena, pass, gate, place, cut, left, right);
+    Parted { half, new: None }
+}
+
+/// Parts a full node, and keeps the half in which the place lies. `Err`: the node is as it was, since none was found free.
+pub(crate) fn part<N: Linked, G: Gate>(
+    arena: &Arena<N, Link>,
+    pass: &mut Pass<N, Link>,
+    gate: &G,
+    place: u64,
+    held: Held<N>,
+) -> Result<Parted<N>, Held<N>>
+    requires pass { IsPass (sort_of N.layout N.ranged) BeginsLink LinkStep arena.now.table.shared.table_id arena.now.callers pass.old }
+    requires way { IsOnWay (sort_of N.layout N.ranged) N.body pass.old.caller place (seen_of pass.old) held }
+    requires full { IsTrue (is_full N.layout (N.body held.body)) }
+    requires grows { held.node ≡ 0 → IsTrue (N.grows_at (content_of (N.body held.body))) }
+    ensures pass { IsPass (sort_of N.layout N.ranged) BeginsLink LinkStep arena.now.table.shared.table_id arena.now.callers pass.new }
+    ensures caller { pass.new.caller ≡ pass.old.caller }
+    ensures parted { IsParted (sort_of N.layout N.ranged) N.body arena.now.nodes pass.old.caller place (seen_of pass.old) (seen_of pass.new) held result }
+    ensures stretch { Stretch link_move pass.old.caller (seen_of pass.old) (seen_of pass.new) }
+{
+    sound_law::<Link>();
+    if held.node == 0 {
+        match claim_two(arena, pass, gate) {
+            None => Err(held),
+            Some((left, right)) => Ok(grow(arena, pass, gate, place, held, left, right)),
+        }
+    } else {
+        match claim_one(arena, pass, gate) {
+            None => Err(held),
+            Some(right) => Ok(split(arena, pass, gate, place, held, right)),
+        }
+    }
+}

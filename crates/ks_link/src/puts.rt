@@ -1,0 +1,296 @@
+//! Puts and adds along links.
+ghost use Rattle.std.specs.Prelude.{◌≡◌, ◌⊎◌, List, All, IsTrue, None, false, []};
+ghost use Rattle.ks_flow.specs.Discipline.{BeginsLink, LinkStep};
+ghost use Rattle.ks_history.specs.declared.Event.{Event as Happening};
+ghost use Rattle.ks_history.specs.declared.Op.TheVariants.{Add, Put};
+ghost use Rattle.ks_history.specs.declared.Reply.TheVariants.{Full as full_reply};
+ghost use Rattle.ks_history.specs.Map.{told};
+ghost use Rattle.ks_history.specs.Due.{NoneFree};
+ghost use Rattle.ks_history.specs.Passes.{NoCallBy};
+ghost use Rattle.ks_history.specs.Trace.{◌⊑◌};
+ghost use Rattle.ks_history.specs.Done.{Done, link_move};
+ghost use Rattle.ks_history.specs.Underway.{Underway};
+ghost use Rattle.ks_node.specs.declared.start.Next.TheVariants.{Here};
+ghost use Rattle.ks_node.specs.Body.{next_at, value_at};
+ghost use Rattle.ks_node.specs.Room.{is_full};
+ghost use Rattle.ks_arena.specs.Sound.{sort_of};
+ghost use Rattle.ks_arena.specs.Clauses.{IsPass, hand_of, seen_of};
+ghost use Rattle.ks_shape.specs.Answers.{number_in, reply_in};
+ghost use Rattle.ks_link.specs.Descent.{IsOnWay};
+ghost use Rattle.ks_link.specs.Parts.{IsSplitOff};
+ghost use Rattle.ks_link.specs.Puts.{FoundRoom, MadeRoom, WaitsFor};
+ghost use Rattle.ks_history.specs.Stretch.{Stretch};
+
+use crate::attaches::attach_all;
+use crate::descent::{find, find_from};
+use crate::parts::{Parted, Waiting, part};
+use arrayvec::ArrayVec;
+use ks_arena::laws::sound_law;
+use ks_arena::{Arena, Held, Pass};
+use ks_flow::Link;
+use ks_gate::{Gate, Point};
+use ks_history::{Op, Reply};
+use ks_node::{Linked, linked_law, node_law};
+use ks_shape::{Full, Numbered, conclude, refuse, reply_of};
+use std::sync::Wait;
+
+/// Puts the value at the place in the one node in hand, as a call, and gives the node.
+fn write<N: Linked, G: Gate>(
+    arena: &Arena<N, Link>,
+    pass: &mut Pass<N, Link>,
+    gate: &G,
+    place: u64,
+    value: u128,
+    mut held: Held<N>,
+) -> Numbered
+    requires pass { IsPass (sort_of N.layout N.ranged) BeginsLink LinkStep arena.now.table.shared.table_id arena.now.callers pass.old }
+    requires way { IsOnWay (sort_of N.layout N.ranged) N.body pass.old.caller place (seen_of pass.old) held }
+    requires ends { next_at (N.body held.body) place ≡ Here }
+    requires room { value_at (N.body held.body).pairs place ≡ None → is_full N.layout (N.body held.body) ≡ false }
+    ensures pass { IsPass (sort_of N.layout N.ranged) BeginsLink LinkStep arena.now.table.shared.table_id arena.now.callers pass.new × (hand_of pass.new ≡ []) }
+    ensures caller { pass.new.caller ≡ pass.old.caller }
+    ensures begins { seen_of pass.old ⊑ seen_of pass.new }
+    ensures done { (start : List Happening) → Underway link_move pass.old.caller (Put place value) start (seen_of pass.old) → Done N.layout link_move arena.now.nodes pass.old.caller (Put place value) start (seen_of pass.new) (told result.found) result.number }
+{
+    sound_law::<Link>();
+    node_law(&held.body);
+    arena.put_law(pass, &held, place, value);
+    let found = held.body.put(place, value);
+    let number = conclude(
+        arena,
+        pass,
+        gate,
+        held,
+        Op::Put(place, value),
+        reply_of(found),
+    );
+    Numbered { number, found }
+}
+
+/// Adds the value at the place in the one node in hand, as a call, if none stands there, and gives the node.
+fn write_new<N: Linked, G: Gate>(
+    arena: &Arena<N, Link>,
+    pass: &mut Pass<N, Link>,
+    gate: &G,
+    place: u64,
+    value: u128,
+    mut held: Held<N>,
+) -> Numbered
+    requires pass { IsPass (sort_of N.layout N.ranged) BeginsLink LinkStep arena.now.table.shared.table_id arena.now.callers pass.old }
+    requires way { IsOnWay (sort_of N.layout N.ranged) N.body pass.old.caller place (seen_of pass.old) held }
+    requires ends { next_at (N.body held.body) place ≡ Here }
+    requires room { value_at (N.body held.body).pairs place ≡ None → is_full N.layout (N.body held.body) ≡ false }
+    ensures pass { IsPass (sort_of N.layout N.ranged) BeginsLink LinkStep arena.now.table.shared.table_id arena.now.callers pass.new × (hand_of pass.new ≡ []) }
+    ensures caller { pass.new.caller ≡ pass.old.caller }
+    ensures begins { seen_of pass.old ⊑ seen_of pass.new }
+    ensures done { (start : List Happening) → Underway link_move pass.old.caller (Add place value) start (seen_of pass.old) → Done N.layout link_move arena.now.nodes pass.old.caller (Add place value) start (seen_of pass.new) (told result.found) result.number }
+{
+    sound_law::<Link>();
+    node_law(&held.body);
+    arena.add_law(pass, &held, place, value);
+    match held.body.get(place) {
+        Some(old) => {
+            let number = conclude(
+                arena,
+                pass,
+                gate,
+                held,
+                Op::Add(place, value),
+                Reply::Value(old),
+            );
+            Numbered {
+                number,
+                found: Some(old),
+            }
+        }
+        None => {
+            let _ = held.body.put(place, value);
+            let number = conclude(
+                arena,
+                pass,
+                gate,
+                held,
+                Op::Add(place, value),
+                Reply::Nothing,
+            );
+            Numbered {
+                number,
+                found: None,
+            }
+        }
+    }
+}
+
+/// Answers a put or an add as full at the one node in hand, which is full and lacks the place, and gives the node.
+fn turn_away<N: Linked, G: Gate>(
+    arena: &Arena<N, Link>,
+    pass: &mut Pass<N, Link>,
+    gate: &G,
+    place: u64,
+    value: u128,
+    op: Op,
+    held: Held<N>,
+) -> Full
+    requires pass { IsPass (sort_of N.layout N.ranged) BeginsLink LinkStep arena.now.table.shared.table_id arena.now.callers pass.old }
+    requires op { (op ≡ Put place value) ⊎ (op ≡ Add place value) }
+    requires way { IsOnWay (sort_of N.layout N.ranged) N.body pass.old.caller place (seen_of pass.old) held }
+    requires ends { next_at (N.body held.body) place ≡ Here }
+    requires full { IsTrue (is_full N.layout (N.body held.body)) }
+    requires absent { value_at (N.body held.body).pairs place ≡ None }
+    requires none_free { (start : List Happening) × (since : start ⊑ seen_of pass.old) × NoCallBy pass.old.caller since.rest × NoneFree N.layout arena.now.nodes pass.old.caller place start (seen_of pass.old) }
+    ensures pass { IsPass (sort_of N.layout N.ranged) BeginsLink LinkStep arena.now.table.shared.table_id arena.now.callers pass.new × (hand_of pass.new ≡ []) }
+    ensures caller { pass.new.caller ≡ pass.old.caller }
+    ensures begins { seen_of pass.old ⊑ seen_of pass.new }
+    ensures done { (start : List Happening) → NoneFree N.layout arena.now.nodes pass.old.caller place start (seen_of pass.old) → Underway link_move pass.old.caller op start (seen_of pass.old) → Done N.layout link_move arena.now.nodes pass.old.caller op start (seen_of pass.new) full_reply result.number }
+{
+    sound_law::<Link>();
+    node_law(&held.body);
+    arena.full_law(pass, &held, place, value);
+    refuse(arena, pass, gate, held, op)
+}
+
+/// What was split off waits, if there is room for it.
+fn wait_for(waiting: &mut ArrayVec<Waiting, 7>, new: Option<Waiting>)
+    ensures { WaitsFor waiting.old.items waiting.new.items new }
+{
+    if let Some(new) = new {
+        let _ = waiting.try_push(new);
+    }
+}
+
+/// Parts the full node at which the search ends, and goes on to the one at which it ends then. `Err`: the node is as it
+/// was, since none was found free. What is split off waits, where there is room for it.
+fn make_room<N: Linked, R: Wait, G: Gate>(
+    rt: &R,
+    arena: &Arena<N, Link>,
+    pass: &mut Pass<N, Link>,
+    gate: &G,
+    place: u64,
+    held: Held<N>,
+    waiting: &mut ArrayVec<Waiting, 7>,
+) -> Result<Held<N>, Held<N>>
+    requires pass { IsPass (sort_of N.layout N.ranged) BeginsLink LinkStep arena.now.table.shared.table_id arena.now.callers pass.old }
+    requires way { IsOnWay (sort_of N.layout N.ranged) N.body pass.old.caller place (seen_of pass.old) held }
+    requires ends { next_at (N.body held.body) place ≡ Here }
+    requires full { IsTrue (is_full N.layout (N.body held.body)) }
+    requires waiting { All (λ w. IsSplitOff (sort_of N.layout N.ranged) (seen_of pass.old) w) waiting.old.items }
+    ensures pass { IsPass (sort_of N.layout N.ranged) BeginsLink LinkStep arena.now.table.shared.table_id arena.now.callers pass.new }
+    ensures caller { pass.new.caller ≡ pass.old.caller }
+    ensures made { MadeRoom (sort_of N.layout N.ranged) N.body arena.now.nodes pass.old.caller place (seen_of pass.old) (seen_of pass.new) held result }
+    ensures waiting { All (λ w. IsSplitOff (sort_of N.layout N.ranged) (seen_of pass.new) w) waiting.new.items }
+    ensures stretch { Stretch link_move pass.old.caller (seen_of pass.old) (seen_of pass.new) }
+{
+    sound_law::<Link>();
+    linked_law::<N>();
+    node_law(&held.body);
+    match part(arena, pass, gate, place, held) {
+        Ok(Parted { half, new }) => {
+            wait_for(waiting, new);
+            Ok(find_from(rt, arena, pass, gate, place, half))
+        }
+        Err(held) => Err(held),
+    }
+}
+
+/// Takes the node at which the search for a place ends, and makes room for the place, if it lacks it. `Err`: the node is
+/// full and lacks it, and none was found free. What was split off on the way waits.
+fn find_room<N: Linked, R: Wait, G: Gate>(
+    rt: &R,
+    arena: &Arena<N, Link>,
+    pass: &mut Pass<N, Link>,
+    gate: &G,
+    place: u64,
+    waiting: &mut ArrayVec<Waiting, 7>,
+) -> Result<Held<N>, Held<N>>
+    requires pass { IsPass (sort_of N.layout N.ranged) BeginsLink LinkStep arena.now.table.shared.table_id arena.now.callers pass.old × (hand_of pass.old ≡ []) }
+    requires waiting { waiting.old.items ≡ [] }
+    ensures pass { IsPass (sort_of N.layout N.ranged) BeginsLink LinkStep arena.now.table.shared.table_id arena.now.callers pass.new }
+    ensures caller { pass.new.caller ≡ pass.old.caller }
+    ensures found { FoundRoom (sort_of N.layout N.ranged) N.body arena.now.nodes pass.old.caller place (seen_of pass.old) (seen_of pass.new) result }
+    ensures waiting { All (λ w. IsSplitOff (sort_of N.layout N.ranged) (seen_of pass.new) w) waiting.new.items }
+    ensures stretch { Stretch link_move pass.old.caller (seen_of pass.old) (seen_of pass.new) }
+{
+    sound_law::<Link>();
+    let mut held = find(rt, arena, pass, gate, place);
+    for _ in rt.forever() {
+        if !held.body.is_full() || held.body.get(place).is_some() {
+            return Ok(held);
+        }
+        match make_room(rt, arena, pass, gate, place, held, waiting) {
+            Ok(next) => held = next,
+            Err(held) => return Err(held),
+        }
+    }
+    unreachable!()
+}
+
+/// Sets the value at a place; answers the value that stood there, and the number of the call. A full node is parted before,
+/// if a node is free. Then what was split off on the way is attached to the level above it, where it can be.
+///
+/// # Errors
+///
+/// `Full` comes only where no value stands at the place, its node is full, and each node was not free at some moment of the
+/// call. Then the map is as before; what was split off before stays so, and is attached.
+pub fn put<N: Linked, R: Wait, G: Gate>(
+    rt: &R,
+    arena: &Arena<N, Link>,
+    pass: &mut Pass<N, Link>,
+    gate: &G,
+    place: u64,
+    value: u128,
+) -> Result<Numbered, Full>
+    requires pass { IsPass (sort_of N.layout N.ranged) BeginsLink LinkStep arena.now.table.shared.table_id arena.now.callers pass.old × (hand_of pass.old ≡ []) }
+    ensures pass { IsPass (sort_of N.layout N.ranged) BeginsLink LinkStep arena.now.table.shared.table_id arena.now.callers pass.new × (hand_of pass.new ≡ []) }
+    ensures caller { pass.new.caller ≡ pass.old.caller }
+    ensures done { Done N.layout link_move arena.now.nodes pass.old.caller (Put place value) (seen_of pass.old) (seen_of pass.new) (reply_in result) (number_in result) }
+{
+    sound_law::<Link>();
+    let mut waiting = ArrayVec::new();
+    match find_room(rt, arena, pass, gate, place, &mut waiting) {
+        Ok(held) => {
+            let answer = write(arena, pass, gate, place, value, held);
+            attach_all(rt, arena, pass, gate, waiting.as_slice());
+            Ok(answer)
+        }
+        Err(held) => {
+            let full = turn_away(arena, pass, gate, place, value, Op::Put(place, value), held);
+            attach_all(rt, arena, pass, gate, waiting.as_slice());
+            Err(full)
+        }
+    }
+}
+
+/// Sets the value at a place where none stands; answers the value that stood there, which then stays, and the number of the
+/// call. It makes room as `put` does.
+///
+/// # Errors
+///
+/// `Full` comes, and leaves the map, as for `put`.
+pub fn add<N: Linked, R: Wait, G: Gate>(
+    rt: &R,
+    arena: &Arena<N, Link>,
+    pass: &mut Pass<N, Link>,
+    gate: &G,
+    place: u64,
+    value: u128,
+) -> Result<Numbered, Full>
+    requires pass { IsPass (sort_of N.layout N.ranged) BeginsLink LinkStep arena.now.table.shared.table_id arena.now.callers pass.old × (hand_of pass.old ≡ []) }
+    ensures pass { IsPass (sort_of N.layout N.ranged) BeginsLink LinkStep arena.now.table.shared.table_id arena.now.callers pass.new × (hand_of pass.new ≡ []) }
+    ensures caller { pass.new.caller ≡ pass.old.caller }
+    ensures done { Done N.layout link_move arena.now.nodes pass.old.caller (Add place value) (seen_of pass.old) (seen_of pass.new) (reply_in result) (number_in result) }
+{
+    sound_law::<Link>();
+    let mut waiting = ArrayVec::new();
+    match find_room(rt, arena, pass, gate, place, &mut waiting) {
+        Ok(held) => {
+            let answer = write_new(arena, pass, gate, place, value, held);
+            attach_all(rt, arena, pass, gate, waiting.as_slice());
+            Ok(answer)
+        }
+        Err(held) => {
+            let full = turn_away(arena, pass, gate, place, value, Op::Add(place, value), held);
+            attach_all(rt, arena, pass, gate, waiting.as_slice());
+            Err(full)
+        }
+    }
+}

@@ -1,0 +1,7 @@
+//! Tests of calls along links.
+#![tactic(auto)]
+
+#[cfg(test)]
+mod calls;
+#[cfg(test)]
+mod tests;
