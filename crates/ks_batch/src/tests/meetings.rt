@@ -1,5 +1,7 @@
 //! Callers that run beside each other: where one stands, another goes on.
 
+ghost use Rattle.std.specs.Prelude.{◌<◌};
+
 use super::{put_nones, put_number, put_pairs, run_at};
 use ks_gate::{Meet, Point};
 use std::alloc::{AllocError, Global};
