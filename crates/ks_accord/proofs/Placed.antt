@@ -1,5 +1,5 @@
 -- A history over places is one over keys, where each key has a place of its own.
-use Rattle.std.proofs.Common.{ℕ, zero, suc, ◌≡◌, ◌<◌, ◌⊎◌, inl, inr, cond, List, [], ◌∷◌, ◌++◌, length, fold, take, map, Some, None, refl, sym, ◌∙◌, ap, subst, arith}
+use Rattle.std.proofs.Common.{ℕ, zero, suc, ◌≡◌, ◌<◌, inl, inr, List, [], ◌∷◌, ◌++◌, fold, take, map, Some, None, refl, sym, ◌∙◌, ap, subst, arith}
 use Rattle.std.specs.Prelude.{All, slice_get}
 use Rattle.std.specs.List.{AllByRecursion}
 use mathlib.Core.Logic.{dite}
@@ -14,7 +14,7 @@ use Rattle.ks_history.specs.declared.Reply.TheVariants.{Nothing, Value, Full}
 use Rattle.ks_history.specs.declared.Answered.{Answered}
 use Rattle.ks_history.specs.declared.Event.{Event}
 use Rattle.ks_history.specs.declared.Event.TheVariants.{Take, Give, Claim, Shape, Call}
-use Rattle.ks_history.specs.Write.{Map, Write, keeps, sets, removes, written, map_with}
+use Rattle.ks_history.specs.Write.{Map, keeps, sets, removes, written, map_with}
 use Rattle.ks_history.specs.Map.{told, IsAnswer, map_then, map_after, Legal}
 use Rattle.ks_history.specs.Trace.{calls_of, calls_by, number_after}
 use Rattle.ks_history.specs.Stays.{cond_here, cond_else}

@@ -1,10 +1,9 @@
 -- What words ask for: one command at most.
-use Rattle.std.proofs.Common.{ℕ, ◌≡◌, ◌<◌, ◌≤◌, ◌⊎◌, inl, inr, List, length, get_or, [], refl, sym, ◌∙◌, ap, subst, arith, if◌then◌else◌, ◌==◌}
+use Rattle.std.proofs.Common.{ℕ, ◌≡◌, ◌⊎◌, inl, inr, List, length, get_or, [], refl, sym, ◌∙◌, ap, subst, arith, if◌then◌else◌, ◌==◌}
 use Rattle.std.proofs.lemmas.Fmt.{decimal_injective}
 use Rattle.ks_batch.specs.declared.pairings.Pairing.{Pairing}
 use Rattle.ks_batch.specs.declared.pairings.Pairing.TheVariants.{ListCoupling, BplusCoupling, HashCoupling, ListGiveUp, BplusGiveUp, HashGiveUp, BplusLink, HashLink}
 use Rattle.ks_batch.specs.declared.words.Draft.{Draft}
-use Rattle.ks_batch.specs.declared.words.Asked.{Asked}
 use Rattle.ks_batch.specs.declared.words.Asked.TheVariants.{Run, Make, Check}
 use Rattle.ks_batch.specs.declared.words.Text.{Text}
 use Rattle.ks_batch.specs.declared.words.Text.TheVariants.{Script, Checked}

@@ -12,7 +12,8 @@ use Rattle.ks_batch.specs.declared.words.Asked.TheVariants.{Make}
 use Rattle.ks_batch.specs.Pairings.{row_of}
 use Rattle.ks_batch.specs.Words.{Spells}
 
--- the trace h served the script that is made, with these places for keys, and of the summary of the run that tells it Took holds
+-- the trace h served the script that is made, with these places for keys, and of the summary of the run that tells it
+-- Took holds
 pub record Sums (place : ℕ → ℕ) (draft : Draft) (h : List Event) (Took : List ℕ → Type 0) : Type 0 where
   pub run : Run
   pub served : Served place (made draft.callers draft.calls draft.first) run.callers run.pairs h

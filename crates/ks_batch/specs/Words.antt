@@ -16,13 +16,17 @@ bytes_of words = map string_bytes words
 -- the words of a command
 abbrev pub spelled : Asked → List (List ℕ)
 spelled (Run pairing arena) = codes "run" ∷ (row_of pairing).nodes ∷ (row_of pairing).template ∷ decimal arena ∷ []
-spelled (Make pairing arena draft) = codes "make" ∷ (row_of pairing).nodes ∷ (row_of pairing).template ∷ decimal arena ∷ decimal draft.callers ∷ decimal draft.calls ∷ decimal draft.first ∷ []
+spelled (Make pairing arena draft) =
+    codes "make" ∷ (row_of pairing).nodes ∷ (row_of pairing).template ∷ decimal arena
+    ∷ decimal draft.callers ∷ decimal draft.calls ∷ decimal draft.first ∷ []
 spelled Check = codes "check" ∷ []
 
 -- its numbers are within their limits
 abbrev pub InLimits : Asked → Type 0
 InLimits (Run pairing arena) = (4 ≤ arena) × (arena ≤ 65536)
-InLimits (Make pairing arena draft) = (4 ≤ arena) × (arena ≤ 65536) × (1 ≤ draft.callers) × (draft.callers ≤ 64) × (draft.calls ≤ 16384) × (draft.first ≤ 18446744073709551615)
+InLimits (Make pairing arena draft) =
+    (4 ≤ arena) × (arena ≤ 65536)
+    × (1 ≤ draft.callers) × (draft.callers ≤ 64) × (draft.calls ≤ 16384) × (draft.first ≤ 18446744073709551615)
 InLimits Check = Unit {0}
 
 -- the words are those of the command

@@ -47,7 +47,8 @@ fn say<E: Sink>(err: &mut E, status: u8, line: u64) -> Result<(), Failed>
 
 /// Says what the status is, with the line, as far as the error output takes it.
 pub fn tell<E: Sink>(err: &mut E, status: u8, line: u64)
-    ensures whole { (Rose (E.faults err.old) (E.faults err.new) → ⊥) → Grew (E.taken err.old) (E.taken err.new) (status_text status line) }
+    ensures whole { ¬ Rose (E.faults err.old) (E.faults err.new) →
+        Grew (E.taken err.old) (E.taken err.new) (status_text status line) }
     ensures front { GrewByFront (E.taken err.old) (E.taken err.new) (status_text status line) }
 {
     let _ = say(err, status, line);

@@ -1,9 +1,9 @@
 //! The words of the program, and the command that they ask for.
 
-ghost use Rattle.std.specs.Prelude.{ℕ, ◌≡◌, ◌≤◌, IsTrue, ◌↔◌, [], ◌∷◌, map, string_bytes, IfSome, IfNone, codes};
+ghost use Rattle.std.specs.Prelude.{ℕ, ◌≡◌, ◌≢◌, ◌≤◌, IsTrue, ◌↔◌, [], ◌∷◌, string_bytes, IfSome, IfNone, codes};
 ghost use Rattle.std.specs.Fmt.{decimal};
 ghost use Rattle.ks_batch.specs.declared.pairings.Pairing.{Pairing};
-ghost use Rattle.ks_batch.specs.Words.{Spells, Names, IsCommand};
+ghost use Rattle.ks_batch.specs.Words.{bytes_of, Spells, Names, IsCommand};
 
 use crate::pairings::Pairing;
 use itoa::Buffer;
@@ -51,7 +51,7 @@ fn is(word: &String, text: &str) -> bool
 /// The number that the word spells in decimal, with no sign and no leading zero, from `least` to `most`.
 fn number(word: &String, least: u64, most: u64) -> Option<u64>
     ensures some { IfSome result (λ n. (string_bytes word.now ≡ decimal n) × (least ≤ n) × (n ≤ most)) }
-    ensures none { IfNone result ((n : ℕ) → string_bytes word.now ≡ decimal n → least ≤ n → n ≤ most → ⊥) }
+    ensures none { IfNone result ((n : ℕ) → least ≤ n → n ≤ most → string_bytes word.now ≢ decimal n) }
 {
     let Ok(number) = word.as_str().parse::<u64>() else {
         return None;
@@ -67,7 +67,7 @@ fn number(word: &String, least: u64, most: u64) -> Option<u64>
 /// The pairing with these words.
 fn named(nodes: &String, template: &String) -> Option<Pairing>
     ensures some { IfSome result (λ pairing. Names (string_bytes nodes.now) (string_bytes template.now) pairing) }
-    ensures none { IfNone result ((pairing : Pairing) → Names (string_bytes nodes.now) (string_bytes template.now) pairing → ⊥) }
+    ensures none { IfNone result ((pairing : Pairing) → ¬ Names (string_bytes nodes.now) (string_bytes template.now) pairing) }
 {
     match (nodes.as_str(), template.as_str()) {
         ("list", "coupling") => Some(Pairing::ListCoupling),
@@ -84,8 +84,8 @@ fn named(nodes: &String, template: &String) -> Option<Pairing>
 
 /// The command to serve a script, if the words after the first are those of one.
 fn run_words(nodes: &String, template: &String, arena: &String) -> Option<Asked>
-    ensures some { IfSome result (λ asked. Spells (codes "run" ∷ string_bytes nodes.now ∷ string_bytes template.now ∷ string_bytes arena.now ∷ []) asked) }
-    ensures none { IfNone result (IsCommand (codes "run" ∷ string_bytes nodes.now ∷ string_bytes template.now ∷ string_bytes arena.now ∷ []) → ⊥) }
+    ensures some { IfSome result (λ asked. Spells (codes "run" ∷ bytes_of (nodes.now ∷ template.now ∷ arena.now ∷ [])) asked) }
+    ensures none { IfNone result (¬ IsCommand (codes "run" ∷ bytes_of (nodes.now ∷ template.now ∷ arena.now ∷ []))) }
 {
     let Some(pairing) = named(nodes, template) else {
         return None;
@@ -108,8 +108,10 @@ fn make_words(
     calls: &String,
     first: &String,
 ) -> Option<Asked>
-    ensures some { IfSome result (λ asked. Spells (codes "make" ∷ string_bytes nodes.now ∷ string_bytes template.now ∷ string_bytes arena.now ∷ string_bytes callers.now ∷ string_bytes calls.now ∷ string_bytes first.now ∷ []) asked) }
-    ensures none { IfNone result (IsCommand (codes "make" ∷ string_bytes nodes.now ∷ string_bytes template.now ∷ string_bytes arena.now ∷ string_bytes callers.now ∷ string_bytes calls.now ∷ string_bytes first.now ∷ []) → ⊥) }
+    ensures some { IfSome result (λ asked. Spells (codes "make" ∷
+        bytes_of (nodes.now ∷ template.now ∷ arena.now ∷ callers.now ∷ calls.now ∷ first.now ∷ [])) asked) }
+    ensures none { IfNone result (¬ IsCommand (codes "make" ∷
+        bytes_of (nodes.now ∷ template.now ∷ arena.now ∷ callers.now ∷ calls.now ∷ first.now ∷ []))) }
 {
     let Some(pairing) = named(nodes, template) else {
         return None;
@@ -140,8 +142,8 @@ fn make_words(
 
 /// The command that the words are, if they are one.
 pub fn command(words: &[String]) -> Option<Asked>
-    ensures some { IfSome result (λ asked. Spells (map string_bytes words.now) asked) }
-    ensures none { IfNone result (IsCommand (map string_bytes words.now) → ⊥) }
+    ensures some { IfSome result (λ asked. Spells (bytes_of words.now) asked) }
+    ensures none { IfNone result (¬ IsCommand (bytes_of words.now)) }
 {
     match words {
         [verb, nodes, template, arena] => {

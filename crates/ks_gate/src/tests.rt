@@ -35,7 +35,7 @@ fn last_of<G: Gate>(gate: &G, caller: u32, calls: u32, numbers: &AtomicU64) -> u
 }
 
 /// Caller 0 makes so many calls while caller 1 turns back once and makes one. It answers the numbers of their last calls.
-fn two<G: Gate, R: Threads>(rt: &R, gate: &G, calls: u32) -> (u64, u64) {
+fn two<G: Gate + Sync, R: Threads>(rt: &R, gate: &G, calls: u32) -> (u64, u64) {
     let numbers = AtomicU64::new(0);
     join(
         rt,

@@ -59,7 +59,7 @@ fn down<N: Unlinked, R: Wait, G: Gate>(
     step_down(rt, arena, pass, gate, place, held, child)
 }
 
-/// Goes on to the child. A full node is split before, if there is a way and a claim is not refused: then the search looks
+/// Goes on to the child. A full branch is split before, if there is a way and a claim is not refused: then the search looks
 /// again. Tells whether no node was free.
 fn go_on<N: Unlinked, R: Wait, G: Gate>(
     rt: &R,
@@ -79,6 +79,9 @@ fn go_on<N: Unlinked, R: Wait, G: Gate>(
     ensures stretch { Stretches pass.old.caller (seen_of pass.old) (seen_of pass.new) }
     ensures refused { IsTrue result.1 → NoneFree N.layout arena.now.nodes pass.old.caller place (seen_of pass.old) (seen_of pass.new) }
 {
+    if !path.node.body.is_branch() {
+        return (down(rt, arena, pass, gate, place, path, child), false);
+    }
     if !path.node.body.is_full() {
         return (down(rt, arena, pass, gate, place, path, child), false);
     }

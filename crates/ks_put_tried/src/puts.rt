@@ -8,7 +8,7 @@ use ks_arena::{Arena, Pass};
 use ks_flow::Tree;
 use ks_gate::NoGate;
 use ks_node::Unlinked;
-use ks_put::pair_put;
+use ks_put::{pair_add, pair_put};
 use ks_shape::Numbered;
 use std::alloc::{AllocError, Global};
 use std::sync::Wait;
@@ -29,11 +29,12 @@ pub(crate) fn one_caller<N: Unlinked>(
     Ok((arena, pass))
 }
 
-/// Puts `many` places as their own value, a stride apart. Tells whether nothing stood there, and the numbers went from 0 up.
+/// Puts `many` places from `first` on as their own value, a stride apart. Tells whether nothing stood there, and the numbers went from 0 up.
 pub(crate) fn put_each<N: Unlinked, R: Wait>(
     rt: &R,
     arena: &Arena<N, Tree>,
     pass: &mut Pass<N, Tree>,
+    first: u64,
     many: u64,
     stride: u64,
 ) -> bool
@@ -43,8 +44,35 @@ pub(crate) fn put_each<N: Unlinked, R: Wait>(
 {
     let mut right = true;
     for count in 0..many {
-        let place = count.wrapping_mul(stride);
+        let place = count.wrapping_mul(stride).wrapping_add(first);
         let told = pair_put(rt, arena, pass, &NoGate, place, u128::from(place));
+        right = right
+            && told
+                == Ok(Numbered {
+                    number: count,
+                    found: None,
+                });
+    }
+    right
+}
+
+/// Adds `many` places from `first` on as their own value, a stride apart. Tells whether nothing stood there, and the numbers went from 0 up.
+pub(crate) fn add_each<N: Unlinked, R: Wait>(
+    rt: &R,
+    arena: &Arena<N, Tree>,
+    pass: &mut Pass<N, Tree>,
+    first: u64,
+    many: u64,
+    stride: u64,
+) -> bool
+    requires pass { IsPass (sort_of N.layout N.ranged) BeginsTree TreeStep arena.now.table.shared.table_id arena.now.callers pass.old × (hand_of pass.old ≡ []) }
+    ensures pass { IsPass (sort_of N.layout N.ranged) BeginsTree TreeStep arena.now.table.shared.table_id arena.now.callers pass.new × (hand_of pass.new ≡ []) }
+    ensures caller { pass.new.caller ≡ pass.old.caller }
+{
+    let mut right = true;
+    for count in 0..many {
+        let place = count.wrapping_mul(stride).wrapping_add(first);
+        let told = pair_add(rt, arena, pass, &NoGate, place, u128::from(place));
         right = right
             && told
                 == Ok(Numbered {

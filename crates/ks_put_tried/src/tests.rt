@@ -1,37 +1,37 @@
-use crate::puts::{one_caller, put_each};
+use crate::puts::{add_each, one_caller, put_each};
 use ks_bplus::BNode;
-use ks_coupling::{get as get_coupling, put as put_coupling};
+use ks_coupling::{add, get, put, swap};
 use ks_gate::NoGate;
-use ks_giveup::{get as get_by_giving_up, put as put_by_giving_up};
+use ks_giveup as giveup;
 use ks_hash::HNode;
 use ks_list::ListNode;
 use ks_node::WithRange;
 use ks_put::pair_put;
-use ks_shape::Numbered;
+use ks_shape::{Full, Numbered};
 use std::test::Fail;
 
 /// Multiples of it come in no order.
 const STRIDE: u64 = 0x9E37_79B9_7F4A_7C15;
 
+fn told(number: u64, found: Option<u128>) -> Numbered {
+    Numbered { number, found }
+}
+
 #[test]
 fn a_list_of_four_nodes_fills(rt: HostRuntime) -> Result<(), Fail> {
     let (arena, mut pass) = one_caller::<ListNode>(rt.alloc(), 4)?;
-    assert!(rt; put_each(&rt, &arena, &mut pass, 20, 1));
+    assert!(rt; put_each(&rt, &arena, &mut pass, 0, 20, 1));
     let full = pair_put(&rt, &arena, &mut pass, &NoGate, 20, 20);
     assert!(rt; full == Err(Full { number: 20 }));
     let put = pair_put(&rt, &arena, &mut pass, &NoGate, 3, 99);
-    let three = Numbered {
-        number: 21,
-        found: Some(3),
-    };
-    assert!(rt; put == Ok(three));
+    assert!(rt; put == Ok(told(21, Some(3))));
     Ok(())
 }
 
 #[test]
 fn a_tree_of_four_nodes_fills(rt: HostRuntime) -> Result<(), Fail> {
     let (arena, mut pass) = one_caller::<BNode>(rt.alloc(), 4)?;
-    assert!(rt; put_each(&rt, &arena, &mut pass, 32, 1));
+    assert!(rt; put_each(&rt, &arena, &mut pass, 0, 32, 1));
     let full = pair_put(&rt, &arena, &mut pass, &NoGate, 32, 32);
     assert!(rt; full == Err(Full { number: 32 }));
     Ok(())
@@ -40,58 +40,109 @@ fn a_tree_of_four_nodes_fills(rt: HostRuntime) -> Result<(), Fail> {
 #[test]
 fn a_tree_of_many_nodes_splits_its_branches(rt: HostRuntime) -> Result<(), Fail> {
     let (arena, mut pass) = one_caller::<BNode>(rt.alloc(), 400)?;
-    assert!(rt; put_each(&rt, &arena, &mut pass, 2000, STRIDE));
+    assert!(rt; put_each(&rt, &arena, &mut pass, 0, 2000, STRIDE));
     Ok(())
 }
 
 #[test]
 fn a_tree_with_ranges_splits_its_branches(rt: HostRuntime) -> Result<(), Fail> {
     let (arena, mut pass) = one_caller::<WithRange<BNode>>(rt.alloc(), 400)?;
-    assert!(rt; put_each(&rt, &arena, &mut pass, 2000, STRIDE));
+    assert!(rt; put_each(&rt, &arena, &mut pass, 0, 2000, STRIDE));
     Ok(())
 }
 
 #[test]
 fn a_table_of_many_nodes_splits(rt: HostRuntime) -> Result<(), Fail> {
     let (arena, mut pass) = one_caller::<HNode>(rt.alloc(), 200)?;
-    assert!(rt; put_each(&rt, &arena, &mut pass, 300, STRIDE));
+    assert!(rt; put_each(&rt, &arena, &mut pass, 0, 300, STRIDE));
+    Ok(())
+}
+
+#[test]
+fn nine_places_of_one_slice_take_nine_nodes(rt: HostRuntime) -> Result<(), Fail> {
+    let (arena, mut pass) = one_caller::<HNode>(rt.alloc(), 9)?;
+    assert!(rt; put_each(&rt, &arena, &mut pass, 1, 9, 1));
+    assert!(rt; get(&rt, &arena, &mut pass, &NoGate, 9) == told(9, Some(9)));
+    Ok(())
+}
+
+#[test]
+fn nine_places_of_one_slice_fill_eight_nodes(rt: HostRuntime) -> Result<(), Fail> {
+    let (arena, mut pass) = one_caller::<HNode>(rt.alloc(), 8)?;
+    assert!(rt; put_each(&rt, &arena, &mut pass, 1, 8, 1));
+    let full = put(&rt, &arena, &mut pass, &NoGate, 9, 9);
+    assert!(rt; full == Err(Full { number: 8 }));
+    let again = put(&rt, &arena, &mut pass, &NoGate, 3, 99);
+    assert!(rt; again == Ok(told(9, Some(3))));
+    Ok(())
+}
+
+#[test]
+fn nine_places_of_one_slice_fill_eight_nodes_with_ranges(rt: HostRuntime) -> Result<(), Fail> {
+    let (arena, mut pass) = one_caller::<WithRange<HNode>>(rt.alloc(), 8)?;
+    assert!(rt; put_each(&rt, &arena, &mut pass, 1, 8, 1));
+    let full = giveup::put(&rt, &arena, &mut pass, &NoGate, 9, 9);
+    assert!(rt; full == Err(Full { number: 8 }));
+    assert!(rt; giveup::get(&rt, &arena, &mut pass, &NoGate, 7) == told(9, Some(7)));
+    Ok(())
+}
+
+#[test]
+fn a_list_of_four_nodes_fills_by_adds(rt: HostRuntime) -> Result<(), Fail> {
+    let (arena, mut pass) = one_caller::<ListNode>(rt.alloc(), 4)?;
+    assert!(rt; add_each(&rt, &arena, &mut pass, 0, 20, 1));
+    let full = add(&rt, &arena, &mut pass, &NoGate, 20, 20);
+    assert!(rt; full == Err(Full { number: 20 }));
+    let present = add(&rt, &arena, &mut pass, &NoGate, 3, 99);
+    assert!(rt; present == Ok(told(21, Some(3))));
+    assert!(rt; get(&rt, &arena, &mut pass, &NoGate, 3) == told(22, Some(3)));
+    Ok(())
+}
+
+#[test]
+fn a_swap_sets_where_the_old_value_stands(rt: HostRuntime) -> Result<(), Fail> {
+    let (arena, mut pass) = one_caller::<ListNode>(rt.alloc(), 4)?;
+    let added = add(&rt, &arena, &mut pass, &NoGate, 1, 5);
+    assert!(rt; added == Ok(told(0, None)));
+    assert!(rt; swap(&rt, &arena, &mut pass, &NoGate, 1, 5, u128::MAX) == told(1, Some(5)));
+    assert!(rt; swap(&rt, &arena, &mut pass, &NoGate, 1, 5, 0) == told(2, Some(u128::MAX)));
+    assert!(rt; swap(&rt, &arena, &mut pass, &NoGate, 9, 0, 1) == told(3, None));
+    assert!(rt; get(&rt, &arena, &mut pass, &NoGate, 1) == told(4, Some(u128::MAX)));
+    assert!(rt; get(&rt, &arena, &mut pass, &NoGate, 9) == told(5, None));
+    Ok(())
+}
+
+#[test]
+fn a_swap_by_giving_up_sets_where_the_old_value_stands(rt: HostRuntime) -> Result<(), Fail> {
+    let (arena, mut pass) = one_caller::<WithRange<BNode>>(rt.alloc(), 4)?;
+    let added = giveup::add(&rt, &arena, &mut pass, &NoGate, 1, 5);
+    assert!(rt; added == Ok(told(0, None)));
+    let present = giveup::add(&rt, &arena, &mut pass, &NoGate, 1, 6);
+    assert!(rt; present == Ok(told(1, Some(5))));
+    assert!(rt; giveup::swap(&rt, &arena, &mut pass, &NoGate, 1, 5, 7) == told(2, Some(5)));
+    assert!(rt; giveup::swap(&rt, &arena, &mut pass, &NoGate, 1, 5, 8) == told(3, Some(7)));
+    assert!(rt; giveup::get(&rt, &arena, &mut pass, &NoGate, 1) == told(4, Some(7)));
     Ok(())
 }
 
 #[test]
 fn what_is_put_by_lock_coupling_is_got(rt: HostRuntime) -> Result<(), Fail> {
     let (arena, mut pass) = one_caller::<BNode>(rt.alloc(), 100)?;
-    assert!(rt; put_each(&rt, &arena, &mut pass, 300, STRIDE));
-    let put = put_coupling(&rt, &arena, &mut pass, &NoGate, STRIDE, 7);
-    let told = Numbered {
-        number: 300,
-        found: Some(u128::from(STRIDE)),
-    };
-    assert!(rt; put == Ok(told));
-    let told = Numbered {
-        number: 301,
-        found: Some(7),
-    };
-    assert!(rt; get_coupling(&rt, &arena, &mut pass, &NoGate, STRIDE) == told);
+    assert!(rt; put_each(&rt, &arena, &mut pass, 0, 300, STRIDE));
+    let again = put(&rt, &arena, &mut pass, &NoGate, STRIDE, 7);
+    assert!(rt; again == Ok(told(300, Some(u128::from(STRIDE)))));
+    assert!(rt; get(&rt, &arena, &mut pass, &NoGate, STRIDE) == told(301, Some(7)));
     Ok(())
 }
 
 #[test]
 fn what_is_put_by_giving_up_is_got(rt: HostRuntime) -> Result<(), Fail> {
     let (arena, mut pass) = one_caller::<WithRange<BNode>>(rt.alloc(), 4)?;
-    assert!(rt; put_each(&rt, &arena, &mut pass, 32, 1));
-    let full = put_by_giving_up(&rt, &arena, &mut pass, &NoGate, 32, 32);
+    assert!(rt; put_each(&rt, &arena, &mut pass, 0, 32, 1));
+    let full = giveup::put(&rt, &arena, &mut pass, &NoGate, 32, 32);
     assert!(rt; full == Err(Full { number: 32 }));
-    let put = put_by_giving_up(&rt, &arena, &mut pass, &NoGate, 3, 99);
-    let told = Numbered {
-        number: 33,
-        found: Some(3),
-    };
-    assert!(rt; put == Ok(told));
-    let told = Numbered {
-        number: 34,
-        found: Some(99),
-    };
-    assert!(rt; get_by_giving_up(&rt, &arena, &mut pass, &NoGate, 3) == told);
+    let again = giveup::put(&rt, &arena, &mut pass, &NoGate, 3, 99);
+    assert!(rt; again == Ok(told(33, Some(3))));
+    assert!(rt; giveup::get(&rt, &arena, &mut pass, &NoGate, 3) == told(34, Some(99)));
     Ok(())
 }

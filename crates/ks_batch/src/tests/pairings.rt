@@ -89,13 +89,11 @@ const NEAR: [u64; 9] = [
 /// Puts of the keys, with the values 1 to 9.
 fn near_puts(alloc: Global) -> Result<Vec<u8>, AllocError> {
     let mut input = Vec::from_slice(alloc, b"caller\n")?;
-    let mut value = 0;
-    for key in NEAR {
-        value += 1;
+    for at in 0..9usize {
         input.extend_from_slice(b"put ")?;
-        put_number(&mut input, key)?;
+        put_number(&mut input, NEAR[at])?;
         input.push(b' ')?;
-        put_number(&mut input, value)?;
+        put_number(&mut input, at as u64 + 1)?;
         input.push(b'\n')?;
     }
     Ok(input)
