@@ -146,3 +146,23 @@ fn near_keys_of_a_hash_table_fill_its_nodes(rt: HostRuntime) -> Result<(), Fail>
     }
     Ok(())
 }
+
+/// Along links the cut of the seventeenth leaf finds the root full with sixteen children. With nodes to spare the root grows
+/// for it. With eighteen nodes none is left: the new leaf stays reached by its neighbour's link, and its keys are found.
+#[test]
+fn a_leaf_that_no_edge_leads_to_is_reached_by_the_link(rt: HostRuntime) -> Result<(), Fail> {
+    let mut input = Vec::from_slice(rt.alloc(), b"caller\n")?;
+    put_pairs(&mut input, b"put ", 0, 143)?;
+    input.extend_from_slice(b"get 143\nget 128\n")?;
+    let mut wanted = Vec::from_slice(rt.alloc(), b"caller 0\n")?;
+    put_nones(&mut wanted, 0, 143)?;
+    wanted.extend_from_slice(b"144 143\n145 128\nmap\n")?;
+    put_pairs(&mut wanted, b"", 0, 143)?;
+    wanted.extend_from_slice(b"end\n")?;
+    for words in ["run bplus link 18", "run bplus link 64"] {
+        let ended = run(&rt, rt.alloc(), words, &input)?;
+        assert_eq!(rt; ended.status, 0);
+        assert!(rt; ended.out.as_slice() == wanted.as_slice());
+    }
+    Ok(())
+}
