@@ -27,8 +27,8 @@ pub fn get<N: Unlinked, R: Wait, G: Gate>(
     gate: &G,
     place: u64,
 ) -> Numbered
-    requires pass { IsPass (sort_of N.layout N.ranged) BeginsTree TreeStep arena.now.table.shared.table_id arena.now.callers pass.old × (hand_of pass.old ≡ []) }
-    ensures pass { IsPass (sort_of N.layout N.ranged) BeginsTree TreeStep arena.now.table.shared.table_id arena.now.callers pass.new × (hand_of pass.new ≡ []) }
+    requires pass { IsEmptyPassOf arena.now pass.old }
+    ensures pass { IsEmptyPassOf arena.now pass.new }
     ensures caller { pass.new.caller ≡ pass.old.caller }
     ensures done { Done N.layout coupling arena.now.nodes pass.old.caller (Get place) (seen_of pass.old) (seen_of pass.new) (told result.found) result.number }
 {
@@ -54,8 +54,8 @@ pub fn put<N: Unlinked, R: Wait, G: Gate>(
     place: u64,
     value: u128,
 ) -> Result<Numbered, Full>
-    requires pass { IsPass (sort_of N.layout N.ranged) BeginsTree TreeStep arena.now.table.shared.table_id arena.now.callers pass.old × (hand_of pass.old ≡ []) }
-    ensures pass { IsPass (sort_of N.layout N.ranged) BeginsTree TreeStep arena.now.table.shared.table_id arena.now.callers pass.new × (hand_of pass.new ≡ []) }
+    requires pass { IsEmptyPassOf arena.now pass.old }
+    ensures pass { IsEmptyPassOf arena.now pass.new }
     ensures caller { pass.new.caller ≡ pass.old.caller }
     ensures done { Done N.layout coupling arena.now.nodes pass.old.caller (Put place value) (seen_of pass.old) (seen_of pass.new) (reply_in result) (number_in result) }
 {
@@ -77,8 +77,8 @@ pub fn add<N: Unlinked, R: Wait, G: Gate>(
     place: u64,
     value: u128,
 ) -> Result<Numbered, Full>
-    requires pass { IsPass (sort_of N.layout N.ranged) BeginsTree TreeStep arena.now.table.shared.table_id arena.now.callers pass.old × (hand_of pass.old ≡ []) }
-    ensures pass { IsPass (sort_of N.layout N.ranged) BeginsTree TreeStep arena.now.table.shared.table_id arena.now.callers pass.new × (hand_of pass.new ≡ []) }
+    requires pass { IsEmptyPassOf arena.now pass.old }
+    ensures pass { IsEmptyPassOf arena.now pass.new }
     ensures caller { pass.new.caller ≡ pass.old.caller }
     ensures done { Done N.layout coupling arena.now.nodes pass.old.caller (Add place value) (seen_of pass.old) (seen_of pass.new) (reply_in result) (number_in result) }
 {
@@ -97,8 +97,8 @@ pub fn swap<N: Unlinked, R: Wait, G: Gate>(
     old: u128,
     new: u128,
 ) -> Numbered
-    requires pass { IsPass (sort_of N.layout N.ranged) BeginsTree TreeStep arena.now.table.shared.table_id arena.now.callers pass.old × (hand_of pass.old ≡ []) }
-    ensures pass { IsPass (sort_of N.layout N.ranged) BeginsTree TreeStep arena.now.table.shared.table_id arena.now.callers pass.new × (hand_of pass.new ≡ []) }
+    requires pass { IsEmptyPassOf arena.now pass.old }
+    ensures pass { IsEmptyPassOf arena.now pass.new }
     ensures caller { pass.new.caller ≡ pass.old.caller }
     ensures done { Done N.layout coupling arena.now.nodes pass.old.caller (Swap place old new) (seen_of pass.old) (seen_of pass.new) (told result.found) result.number }
 {
@@ -114,8 +114,8 @@ pub fn del<N: Unlinked, R: Wait, G: Gate>(
     gate: &G,
     place: u64,
 ) -> Numbered
-    requires pass { IsPass (sort_of N.layout N.ranged) BeginsTree TreeStep arena.now.table.shared.table_id arena.now.callers pass.old × (hand_of pass.old ≡ []) }
-    ensures pass { IsPass (sort_of N.layout N.ranged) BeginsTree TreeStep arena.now.table.shared.table_id arena.now.callers pass.new × (hand_of pass.new ≡ []) }
+    requires pass { IsEmptyPassOf arena.now pass.old }
+    ensures pass { IsEmptyPassOf arena.now pass.new }
     ensures caller { pass.new.caller ≡ pass.old.caller }
     ensures done { Done N.layout coupling arena.now.nodes pass.old.caller (Del place) (seen_of pass.old) (seen_of pass.new) (told result.found) result.number }
 {

@@ -28,9 +28,9 @@ fn visit<N: Ranged + Unlinked, R: Wait, G: Gate>(
     place: u64,
     node: u32,
 ) -> Option<Held<N>>
-    requires pass { IsPass (sort_of N.layout N.ranged) BeginsTree TreeStep arena.now.table.shared.table_id arena.now.callers pass.old × (hand_of pass.old ≡ []) }
+    requires pass { IsEmptyPassOf arena.now pass.old }
     requires node { node < arena.now.nodes }
-    ensures pass { IsPass (sort_of N.layout N.ranged) BeginsTree TreeStep arena.now.table.shared.table_id arena.now.callers pass.new }
+    ensures pass { IsPassOf arena.now pass.new }
     ensures caller { pass.new.caller ≡ pass.old.caller }
     ensures came { Came (sort_of N.layout N.ranged) N.body pass.old.caller place (seen_of pass.new) result }
     ensures under { (op : Operation) (start : List Happening) → Underway give_up pass.old.caller op start (seen_of pass.old) → Underway give_up pass.old.caller op start (seen_of pass.new) }
@@ -58,10 +58,10 @@ fn leave<N: Ranged + Unlinked, G: Gate>(
     held: Held<N>,
     child: u32,
 )
-    requires pass { IsPass (sort_of N.layout N.ranged) BeginsTree TreeStep arena.now.table.shared.table_id arena.now.callers pass.old }
+    requires pass { IsPassOf arena.now pass.old }
     requires way { IsOnWay (sort_of N.layout N.ranged) N.body pass.old.caller place (seen_of pass.old) held }
     requires goes { next_at (N.body held.body) place ≡ Go child }
-    ensures pass { IsPass (sort_of N.layout N.ranged) BeginsTree TreeStep arena.now.table.shared.table_id arena.now.callers pass.new × (hand_of pass.new ≡ []) }
+    ensures pass { IsEmptyPassOf arena.now pass.new }
     ensures caller { pass.new.caller ≡ pass.old.caller }
     ensures near { child < arena.now.nodes }
     ensures under { (op : Operation) (start : List Happening) → Underway give_up pass.old.caller op start (seen_of pass.old) → Underway give_up pass.old.caller op start (seen_of pass.new) }
@@ -81,8 +81,8 @@ pub(crate) fn find<N: Ranged + Unlinked, R: Wait, G: Gate>(
     gate: &G,
     place: u64,
 ) -> Held<N>
-    requires pass { IsPass (sort_of N.layout N.ranged) BeginsTree TreeStep arena.now.table.shared.table_id arena.now.callers pass.old × (hand_of pass.old ≡ []) }
-    ensures pass { IsPass (sort_of N.layout N.ranged) BeginsTree TreeStep arena.now.table.shared.table_id arena.now.callers pass.new }
+    requires pass { IsEmptyPassOf arena.now pass.old }
+    ensures pass { IsPassOf arena.now pass.new }
     ensures caller { pass.new.caller ≡ pass.old.caller }
     ensures way { IsOnWay (sort_of N.layout N.ranged) N.body pass.old.caller place (seen_of pass.new) result }
     ensures ends { next_at (N.body result.body) place ≡ Here }

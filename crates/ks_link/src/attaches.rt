@@ -52,11 +52,11 @@ fn go_nearer<N: Linked, R: Wait, G: Gate>(
     cut: u64,
     held: Held<N>,
 ) -> Held<N>
-    requires pass { IsPass (sort_of N.layout N.ranged) BeginsLink LinkStep arena.now.table.shared.table_id arena.now.callers pass.old }
+    requires pass { IsPassOf arena.now pass.old }
     requires way { IsOnWay (sort_of N.layout N.ranged) N.body pass.old.caller cut (seen_of pass.old) held }
     requires above { level < (N.body held.body).level }
     requires away { (N.body held.body).level ≡ level + 1 → last_of (N.body held.body).range < cut }
-    ensures pass { IsPass (sort_of N.layout N.ranged) BeginsLink LinkStep arena.now.table.shared.table_id arena.now.callers pass.new }
+    ensures pass { IsPassOf arena.now pass.new }
     ensures caller { pass.new.caller ≡ pass.old.caller }
     ensures way { IsOnWay (sort_of N.layout N.ranged) N.body pass.old.caller cut (seen_of pass.new) result }
     ensures above { level < (N.body result.body).level }
@@ -79,9 +79,9 @@ fn find_above<N: Linked, R: Wait, G: Gate>(
     gate: &G,
     to: Waiting,
 ) -> Held<N>
-    requires pass { IsPass (sort_of N.layout N.ranged) BeginsLink LinkStep arena.now.table.shared.table_id arena.now.callers pass.old × (hand_of pass.old ≡ []) }
+    requires pass { IsEmptyPassOf arena.now pass.old }
     requires off { IsSplitOff (sort_of N.layout N.ranged) (seen_of pass.old) to }
-    ensures pass { IsPass (sort_of N.layout N.ranged) BeginsLink LinkStep arena.now.table.shared.table_id arena.now.callers pass.new }
+    ensures pass { IsPassOf arena.now pass.new }
     ensures caller { pass.new.caller ≡ pass.old.caller }
     ensures way { IsOnWay (sort_of N.layout N.ranged) N.body pass.old.caller to.cut (seen_of pass.new) result }
     ensures level { (N.body result.body).level ≡ to.level + 1 }
@@ -109,11 +109,11 @@ fn ready<N: Linked, G: Gate>(
     cut: u64,
     held: Held<N>,
 ) -> Parted<N>
-    requires pass { IsPass (sort_of N.layout N.ranged) BeginsLink LinkStep arena.now.table.shared.table_id arena.now.callers pass.old }
+    requires pass { IsPassOf arena.now pass.old }
     requires way { IsOnWay (sort_of N.layout N.ranged) N.body pass.old.caller cut (seen_of pass.old) held }
     requires above { 0 < (N.body held.body).level }
     requires within { cut ≤ last_of (N.body held.body).range }
-    ensures pass { IsPass (sort_of N.layout N.ranged) BeginsLink LinkStep arena.now.table.shared.table_id arena.now.callers pass.new }
+    ensures pass { IsPassOf arena.now pass.new }
     ensures caller { pass.new.caller ≡ pass.old.caller }
     ensures parted { IsParted (sort_of N.layout N.ranged) N.body arena.now.nodes pass.old.caller cut (seen_of pass.old) (seen_of pass.new) held (Ok result) }
     ensures stretch { Stretch link_move pass.old.caller (seen_of pass.old) (seen_of pass.new) }
@@ -147,13 +147,13 @@ fn lead<N: Linked>(
     to: Waiting,
     held: &mut Held<N>,
 )
-    requires pass { IsPass (sort_of N.layout N.ranged) BeginsLink LinkStep arena.now.table.shared.table_id arena.now.callers pass.old }
+    requires pass { IsPassOf arena.now pass.old }
     requires held { IsAlone (sort_of N.layout N.ranged) N.body pass.old.caller (seen_of pass.old) held.old }
     requires off { IsSplitOff (sort_of N.layout N.ranged) (seen_of pass.old) to }
     requires level { (N.body held.old.body).level ≡ to.level + 1 }
     requires low { (N.body held.old.body).low ≤ to.cut }
     requires within { to.cut ≤ last_of (N.body held.old.body).range }
-    ensures pass { IsPass (sort_of N.layout N.ranged) BeginsLink LinkStep arena.now.table.shared.table_id arena.now.callers pass.new }
+    ensures pass { IsPassOf arena.now pass.new }
     ensures caller { pass.new.caller ≡ pass.old.caller }
     ensures held { IsAlone (sort_of N.layout N.ranged) N.body pass.old.caller (seen_of pass.new) held.new }
     ensures led { IsTrue N.branches_adopt → CanLead N.can_adopt_at (N.body held.old.body) to.cut ⊎ (is_full N.layout (N.body held.old.body) ≡ false)
@@ -178,9 +178,9 @@ fn attach_one<N: Linked, R: Wait, G: Gate>(
     gate: &G,
     to: Waiting,
 ) -> Option<Waiting>
-    requires pass { IsPass (sort_of N.layout N.ranged) BeginsLink LinkStep arena.now.table.shared.table_id arena.now.callers pass.old × (hand_of pass.old ≡ []) }
+    requires pass { IsEmptyPassOf arena.now pass.old }
     requires off { IsSplitOff (sort_of N.layout N.ranged) (seen_of pass.old) to }
-    ensures pass { IsPass (sort_of N.layout N.ranged) BeginsLink LinkStep arena.now.table.shared.table_id arena.now.callers pass.new × (hand_of pass.new ≡ []) }
+    ensures pass { IsEmptyPassOf arena.now pass.new }
     ensures caller { pass.new.caller ≡ pass.old.caller }
     ensures off { ForSome result (λ w. IsSplitOff (sort_of N.layout N.ranged) (seen_of pass.new) w) }
     ensures stretch { Stretch link_move pass.old.caller (seen_of pass.old) (seen_of pass.new) }
@@ -206,9 +206,9 @@ fn attach_on<N: Linked, R: Wait, G: Gate>(
     gate: &G,
     mut to: Waiting,
 )
-    requires pass { IsPass (sort_of N.layout N.ranged) BeginsLink LinkStep arena.now.table.shared.table_id arena.now.callers pass.old × (hand_of pass.old ≡ []) }
+    requires pass { IsEmptyPassOf arena.now pass.old }
     requires off { IsSplitOff (sort_of N.layout N.ranged) (seen_of pass.old) to }
-    ensures pass { IsPass (sort_of N.layout N.ranged) BeginsLink LinkStep arena.now.table.shared.table_id arena.now.callers pass.new × (hand_of pass.new ≡ []) }
+    ensures pass { IsEmptyPassOf arena.now pass.new }
     ensures caller { pass.new.caller ≡ pass.old.caller }
     ensures stretch { Stretch link_move pass.old.caller (seen_of pass.old) (seen_of pass.new) }
     ensures leads { IsTrue N.branches_adopt → IsTrue N.halves_have_room → ActsAlone pass.old.caller (seen_of pass.old) (seen_of pass.new) → TwoFree arena.now.nodes (seen_of pass.new)
@@ -232,9 +232,9 @@ pub(crate) fn attach_all<N: Linked, R: Wait, G: Gate>(
     gate: &G,
     waiting: &[Waiting],
 )
-    requires pass { IsPass (sort_of N.layout N.ranged) BeginsLink LinkStep arena.now.table.shared.table_id arena.now.callers pass.old × (hand_of pass.old ≡ []) }
+    requires pass { IsEmptyPassOf arena.now pass.old }
     requires off { All (λ w. IsSplitOff (sort_of N.layout N.ranged) (seen_of pass.old) w) waiting.now }
-    ensures pass { IsPass (sort_of N.layout N.ranged) BeginsLink LinkStep arena.now.table.shared.table_id arena.now.callers pass.new × (hand_of pass.new ≡ []) }
+    ensures pass { IsEmptyPassOf arena.now pass.new }
     ensures caller { pass.new.caller ≡ pass.old.caller }
     ensures stretch { Stretch link_move pass.old.caller (seen_of pass.old) (seen_of pass.new) }
     ensures leads { IsTrue N.branches_adopt → IsTrue N.halves_have_room → ActsAlone pass.old.caller (seen_of pass.old) (seen_of pass.new) → TwoFree arena.now.nodes (seen_of pass.new)

@@ -25,8 +25,8 @@ pub fn get<N: Linked, R: Wait, G: Gate>(
     gate: &G,
     place: u64,
 ) -> Numbered
-    requires pass { IsPass (sort_of N.layout N.ranged) BeginsLink LinkStep arena.now.table.shared.table_id arena.now.callers pass.old × (hand_of pass.old ≡ []) }
-    ensures pass { IsPass (sort_of N.layout N.ranged) BeginsLink LinkStep arena.now.table.shared.table_id arena.now.callers pass.new × (hand_of pass.new ≡ []) }
+    requires pass { IsEmptyPassOf arena.now pass.old }
+    ensures pass { IsEmptyPassOf arena.now pass.new }
     ensures caller { pass.new.caller ≡ pass.old.caller }
     ensures done { Done N.layout link_move arena.now.nodes pass.old.caller (Get place) (seen_of pass.old) (seen_of pass.new) (told result.found) result.number }
 {
@@ -49,8 +49,8 @@ pub fn del<N: Linked, R: Wait, G: Gate>(
     gate: &G,
     place: u64,
 ) -> Numbered
-    requires pass { IsPass (sort_of N.layout N.ranged) BeginsLink LinkStep arena.now.table.shared.table_id arena.now.callers pass.old × (hand_of pass.old ≡ []) }
-    ensures pass { IsPass (sort_of N.layout N.ranged) BeginsLink LinkStep arena.now.table.shared.table_id arena.now.callers pass.new × (hand_of pass.new ≡ []) }
+    requires pass { IsEmptyPassOf arena.now pass.old }
+    ensures pass { IsEmptyPassOf arena.now pass.new }
     ensures caller { pass.new.caller ≡ pass.old.caller }
     ensures done { Done N.layout link_move arena.now.nodes pass.old.caller (Del place) (seen_of pass.old) (seen_of pass.new) (told result.found) result.number }
 {
@@ -74,8 +74,8 @@ pub fn swap<N: Linked, R: Wait, G: Gate>(
     old: u128,
     new: u128,
 ) -> Numbered
-    requires pass { IsPass (sort_of N.layout N.ranged) BeginsLink LinkStep arena.now.table.shared.table_id arena.now.callers pass.old × (hand_of pass.old ≡ []) }
-    ensures pass { IsPass (sort_of N.layout N.ranged) BeginsLink LinkStep arena.now.table.shared.table_id arena.now.callers pass.new × (hand_of pass.new ≡ []) }
+    requires pass { IsEmptyPassOf arena.now pass.old }
+    ensures pass { IsEmptyPassOf arena.now pass.new }
     ensures caller { pass.new.caller ≡ pass.old.caller }
     ensures done { Done N.layout link_move arena.now.nodes pass.old.caller (Swap place old new) (seen_of pass.old) (seen_of pass.new) (told result.found) result.number }
 {

@@ -47,13 +47,13 @@ fn keep_half<N: Linked, G: Gate>(
     left: Held<N>,
     right: Held<N>,
 ) -> Held<N>
-    requires pass { IsPass (sort_of N.layout N.ranged) BeginsLink LinkStep arena.now.table.shared.table_id arena.now.callers pass.old }
+    requires pass { IsPassOf arena.now pass.old }
     requires left { IsLive (sort_of N.layout N.ranged) N.body (hand_of pass.old) (seen_of pass.old) left }
     requires right { IsLive (sort_of N.layout N.ranged) N.body (hand_of pass.old) (seen_of pass.old) right }
     requires hand { (hand_of pass.old ≡ right.node ∷ left.node ∷ []) × (right.node ≢ left.node) }
     requires low { (N.body left.body).low ≤ place }
     requires cut { (N.body right.body).low ≡ cut }
-    ensures pass { IsPass (sort_of N.layout N.ranged) BeginsLink LinkStep arena.now.table.shared.table_id arena.now.callers pass.new }
+    ensures pass { IsPassOf arena.now pass.new }
     ensures caller { pass.new.caller ≡ pass.old.caller }
     ensures way { IsOnWay (sort_of N.layout N.ranged) N.body pass.old.caller place (seen_of pass.new) result }
     ensures half { ((result ≡ left) × (place < cut)) ⊎ (result ≡ right) }
@@ -82,14 +82,14 @@ fn split<N: Linked, G: Gate>(
     mut held: Held<N>,
     mut right: Held<N>,
 ) -> Parted<N>
-    requires pass { IsPass (sort_of N.layout N.ranged) BeginsLink LinkStep arena.now.table.shared.table_id arena.now.callers pass.old }
+    requires pass { IsPassOf arena.now pass.old }
     requires node { IsLive (sort_of N.layout N.ranged) N.body (hand_of pass.old) (seen_of pass.old) held }
     requires right { IsFree (sort_of N.layout N.ranged) N.body (hand_of pass.old) (seen_of pass.old) right }
     requires hand { (hand_of pass.old ≡ right.node ∷ held.node ∷ []) × (right.node ≢ held.node) }
     requires no_root { held.node ≢ 0 }
     requires full { IsTrue (is_full N.layout (N.body held.body)) }
     requires low { (N.body held.body).low ≤ place }
-    ensures pass { IsPass (sort_of N.layout N.ranged) BeginsLink LinkStep arena.now.table.shared.table_id arena.now.callers pass.new }
+    ensures pass { IsPassOf arena.now pass.new }
     ensures caller { pass.new.caller ≡ pass.old.caller }
     ensures parted { IsParted (sort_of N.layout N.ranged) N.body arena.now.nodes pass.old.caller place (seen_of pass.old) (seen_of pass.new) held (Ok result) }
     ensures stretch { Stretch link_move pass.old.caller (seen_of pass.old) (seen_of pass.new) }
@@ -124,7 +124,7 @@ fn grow<N: Linked, G: Gate>(
     mut left: Held<N>,
     mut right: Held<N>,
 ) -> Parted<N>
-    requires pass { IsPass (sort_of N.layout N.ranged) BeginsLink LinkStep arena.now.table.shared.table_id arena.now.callers pass.old }
+    requires pass { IsPassOf arena.now pass.old }
     requires node { IsLive (sort_of N.layout N.ranged) N.body (hand_of pass.old) (seen_of pass.old) root }
     requires left { IsFree (sort_of N.layout N.ranged) N.body (hand_of pass.old) (seen_of pass.old) left }
     requires right { IsFree (sort_of N.layout N.ranged) N.body (hand_of pass.old) (seen_of pass.old) right }
@@ -133,7 +133,7 @@ fn grow<N: Linked, G: Gate>(
     requires full { IsTrue (is_full N.layout (N.body root.body)) }
     requires grows { IsTrue (N.grows_at (content_of (N.body root.body))) }
     requires low { (N.body root.body).low ≤ place }
-    ensures pass { IsPass (sort_of N.layout N.ranged) BeginsLink LinkStep arena.now.table.shared.table_id arena.now.callers pass.new }
+    ensures pass { IsPassOf arena.now pass.new }
     ensures caller { pass.new.caller ≡ pass.old.caller }
     ensures parted { IsParted (sort_of N.layout N.ranged) N.body arena.now.nodes pass.old.caller place (seen_of pass.old) (seen_of pass.new) root (Ok result) }
     ensures stretch { Stretch link_move pass.old.caller (seen_of pass.old) (seen_of pass.new) }
@@ -165,11 +165,11 @@ pub(crate) fn part<N: Linked, G: Gate>(
     place: u64,
     held: Held<N>,
 ) -> Result<Parted<N>, Held<N>>
-    requires pass { IsPass (sort_of N.layout N.ranged) BeginsLink LinkStep arena.now.table.shared.table_id arena.now.callers pass.old }
+    requires pass { IsPassOf arena.now pass.old }
     requires way { IsOnWay (sort_of N.layout N.ranged) N.body pass.old.caller place (seen_of pass.old) held }
     requires full { IsTrue (is_full N.layout (N.body held.body)) }
     requires grows { held.node ≡ 0 → IsTrue (N.grows_at (content_of (N.body held.body))) }
-    ensures pass { IsPass (sort_of N.layout N.ranged) BeginsLink LinkStep arena.now.table.shared.table_id arena.now.callers pass.new }
+    ensures pass { IsPassOf arena.now pass.new }
     ensures caller { pass.new.caller ≡ pass.old.caller }
     ensures parted { IsParted (sort_of N.layout N.ranged) N.body arena.now.nodes pass.old.caller place (seen_of pass.old) (seen_of pass.new) held result }
     ensures stretch { Stretch link_move pass.old.caller (seen_of pass.old) (seen_of pass.new) }

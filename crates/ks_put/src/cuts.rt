@@ -24,7 +24,7 @@ pub(crate) fn cut_of_root<N: Unlinked>(
     pass: &Pass<N, Tree>,
     root: &Held<N>,
 ) -> u64
-    requires pass { IsPass (sort_of N.layout N.ranged) BeginsTree TreeStep arena.now.table.shared.table_id arena.now.callers pass.now }
+    requires pass { IsPassOf arena.now pass.now }
     requires root { root.now.node ≡ 0 }
     requires node { (root.now.live ≡ true) × Matches (sort_of N.layout N.ranged) N.body (seen_of pass.now) root.now }
     requires full { IsTrue (is_full N.layout (N.body root.now.body)) }
@@ -53,7 +53,7 @@ pub(crate) fn cut_below<N: Unlinked>(
     parent: &Held<N>,
     node: &Held<N>,
 ) -> u64
-    requires pass { IsPass (sort_of N.layout N.ranged) BeginsTree TreeStep arena.now.table.shared.table_id arena.now.callers pass.now }
+    requires pass { IsPassOf arena.now pass.now }
     requires above { IsAbove (sort_of N.layout N.ranged) N.body place node.now.node (seen_of pass.now) parent.now }
     requires node { (node.now.live ≡ true) × Matches (sort_of N.layout N.ranged) N.body (seen_of pass.now) node.now }
     requires full { IsTrue (is_full N.layout (N.body node.now.body)) }

@@ -33,11 +33,11 @@ fn refuse_here<N: Unlinked, G: Gate>(
     held: Held<N>,
     op: Op,
 ) -> Full
-    requires pass { IsPass (sort_of N.layout N.ranged) BeginsTree TreeStep arena.now.table.shared.table_id arena.now.callers pass.old }
+    requires pass { IsPassOf arena.now pass.old }
     requires crowded { IsCrowded (sort_of N.layout N.ranged) N.body pass.old.caller place (seen_of pass.old) held }
     requires refused { WasRefused N.layout arena.now.nodes pass.old.caller place (seen_of pass.old) }
     requires fills { Fills place value op }
-    ensures pass { IsPass (sort_of N.layout N.ranged) BeginsTree TreeStep arena.now.table.shared.table_id arena.now.callers pass.new × (hand_of pass.new ≡ []) }
+    ensures pass { IsEmptyPassOf arena.now pass.new }
     ensures caller { pass.new.caller ≡ pass.old.caller }
     ensures done { (template : Template) (start : List Happening) → Underway template pass.old.caller op start (seen_of pass.old) → NoneFree N.layout arena.now.nodes pass.old.caller place start (seen_of pass.old) → Done N.layout template arena.now.nodes pass.old.caller op start (seen_of pass.new) full_reply result.number }
 {
@@ -57,8 +57,8 @@ pub fn pair_put<N: Unlinked, R: Wait, G: Gate>(
     place: u64,
     value: u128,
 ) -> Result<Numbered, Full>
-    requires pass { IsPass (sort_of N.layout N.ranged) BeginsTree TreeStep arena.now.table.shared.table_id arena.now.callers pass.old × (hand_of pass.old ≡ []) }
-    ensures pass { IsPass (sort_of N.layout N.ranged) BeginsTree TreeStep arena.now.table.shared.table_id arena.now.callers pass.new × (hand_of pass.new ≡ []) }
+    requires pass { IsEmptyPassOf arena.now pass.old }
+    ensures pass { IsEmptyPassOf arena.now pass.new }
     ensures caller { pass.new.caller ≡ pass.old.caller }
     ensures done { (template : Template) (start : List Happening) → Underway template pass.old.caller (Put place value) start (seen_of pass.old) → Done N.layout template arena.now.nodes pass.old.caller (Put place value) start (seen_of pass.new) (reply_in result) (number_in result) }
 {
@@ -81,8 +81,8 @@ pub fn pair_add<N: Unlinked, R: Wait, G: Gate>(
     place: u64,
     value: u128,
 ) -> Result<Numbered, Full>
-    requires pass { IsPass (sort_of N.layout N.ranged) BeginsTree TreeStep arena.now.table.shared.table_id arena.now.callers pass.old × (hand_of pass.old ≡ []) }
-    ensures pass { IsPass (sort_of N.layout N.ranged) BeginsTree TreeStep arena.now.table.shared.table_id arena.now.callers pass.new × (hand_of pass.new ≡ []) }
+    requires pass { IsEmptyPassOf arena.now pass.old }
+    ensures pass { IsEmptyPassOf arena.now pass.new }
     ensures caller { pass.new.caller ≡ pass.old.caller }
     ensures done { (template : Template) (start : List Happening) → Underway template pass.old.caller (Add place value) start (seen_of pass.old) → Done N.layout template arena.now.nodes pass.old.caller (Add place value) start (seen_of pass.new) (reply_in result) (number_in result) }
 {

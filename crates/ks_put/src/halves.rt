@@ -38,14 +38,14 @@ pub(crate) fn keep_half<N: Unlinked, G: Gate>(
     left: Held<N>,
     right: Held<N>,
 ) -> Path<N>
-    requires pass { IsPass (sort_of N.layout N.ranged) BeginsTree TreeStep arena.now.table.shared.table_id arena.now.callers pass.old }
+    requires pass { IsPassOf arena.now pass.old }
     requires hands { hand_of pass.old ≡ right.node ∷ left.node ∷ parent.node ∷ [] }
     requires parent { (parent.live ≡ true) × Matches (sort_of N.layout N.ranged) N.body (seen_of pass.old) parent }
     requires left { (left.live ≡ true) × Matches (sort_of N.layout N.ranged) N.body (seen_of pass.old) left }
     requires right { (right.live ≡ true) × Matches (sort_of N.layout N.ranged) N.body (seen_of pass.old) right }
     requires below { place < cut → IsPart (sort_of N.layout N.ranged) N.body place (seen_of pass.old) parent left }
     requires from { cut ≤ place → IsPart (sort_of N.layout N.ranged) N.body place (seen_of pass.old) parent right }
-    ensures pass { IsPass (sort_of N.layout N.ranged) BeginsTree TreeStep arena.now.table.shared.table_id arena.now.callers pass.new }
+    ensures pass { IsPassOf arena.now pass.new }
     ensures caller { pass.new.caller ≡ pass.old.caller }
     ensures path { IsOnPath (sort_of N.layout N.ranged) N.body pass.old.caller place (seen_of pass.new) result }
     ensures stretch { Stretches pass.old.caller (seen_of pass.old) (seen_of pass.new) }
@@ -79,13 +79,13 @@ pub(crate) fn keep_left<N: Unlinked, G: Gate>(
     path: Path<N>,
     right: Held<N>,
 ) -> Path<N>
-    requires pass { IsPass (sort_of N.layout N.ranged) BeginsTree TreeStep arena.now.table.shared.table_id arena.now.callers pass.old }
+    requires pass { IsPassOf arena.now pass.old }
     requires hands { hand_of pass.old ≡ right.node ∷ path.node.node ∷ numbers path.parent }
     requires under { IsUnder (sort_of N.layout N.ranged) N.body place path.node (seen_of pass.old) path.parent }
     requires node { (path.node.live ≡ true) × Matches (sort_of N.layout N.ranged) N.body (seen_of pass.old) path.node }
     requires right { Matches (sort_of N.layout N.ranged) N.body (seen_of pass.old) right }
     requires inside { InInset (graph_after (seen_of pass.old)) path.node.node place }
-    ensures pass { IsPass (sort_of N.layout N.ranged) BeginsTree TreeStep arena.now.table.shared.table_id arena.now.callers pass.new }
+    ensures pass { IsPassOf arena.now pass.new }
     ensures caller { pass.new.caller ≡ pass.old.caller }
     ensures path { IsOnPath (sort_of N.layout N.ranged) N.body pass.old.caller place (seen_of pass.new) result }
     ensures stretch { Stretches pass.old.caller (seen_of pass.old) (seen_of pass.new) }
@@ -106,13 +106,13 @@ pub(crate) fn keep_right<N: Unlinked, G: Gate>(
     path: Path<N>,
     right: Held<N>,
 ) -> Path<N>
-    requires pass { IsPass (sort_of N.layout N.ranged) BeginsTree TreeStep arena.now.table.shared.table_id arena.now.callers pass.old }
+    requires pass { IsPassOf arena.now pass.old }
     requires hands { hand_of pass.old ≡ right.node ∷ path.node.node ∷ numbers path.parent }
     requires under { IsUnder (sort_of N.layout N.ranged) N.body place path.node (seen_of pass.old) path.parent }
     requires node { (path.node.live ≡ true) × Matches (sort_of N.layout N.ranged) N.body (seen_of pass.old) path.node }
     requires right { (right.live ≡ true) × Matches (sort_of N.layout N.ranged) N.body (seen_of pass.old) right }
     requires part { IsPart (sort_of N.layout N.ranged) N.body place (seen_of pass.old) path.node right }
-    ensures pass { IsPass (sort_of N.layout N.ranged) BeginsTree TreeStep arena.now.table.shared.table_id arena.now.callers pass.new }
+    ensures pass { IsPassOf arena.now pass.new }
     ensures caller { pass.new.caller ≡ pass.old.caller }
     ensures path { IsOnPath (sort_of N.layout N.ranged) N.body pass.old.caller place (seen_of pass.new) result }
     ensures stretch { Stretches pass.old.caller (seen_of pass.old) (seen_of pass.new) }
@@ -143,14 +143,14 @@ pub(crate) fn keep_right_alone<N: Unlinked, G: Gate>(
     path: Path<N>,
     right: Held<N>,
 ) -> Path<N>
-    requires pass { IsPass (sort_of N.layout N.ranged) BeginsTree TreeStep arena.now.table.shared.table_id arena.now.callers pass.old }
+    requires pass { IsPassOf arena.now pass.old }
     requires hands { hand_of pass.old ≡ right.node ∷ path.node.node ∷ numbers path.parent }
     requires under { IsUnder (sort_of N.layout N.ranged) N.body place path.node (seen_of pass.old) path.parent }
     requires node { Matches (sort_of N.layout N.ranged) N.body (seen_of pass.old) path.node }
     requires right { (right.live ≡ true) × Matches (sort_of N.layout N.ranged) N.body (seen_of pass.old) right }
     requires inside { InInset (graph_after (seen_of pass.old)) right.node place }
     requires room { is_full N.layout (N.body right.body) ≡ false }
-    ensures pass { IsPass (sort_of N.layout N.ranged) BeginsTree TreeStep arena.now.table.shared.table_id arena.now.callers pass.new }
+    ensures pass { IsPassOf arena.now pass.new }
     ensures caller { pass.new.caller ≡ pass.old.caller }
     ensures path { IsOnPath (sort_of N.layout N.ranged) N.body pass.old.caller place (seen_of pass.new) result }
     ensures stretch { Stretches pass.old.caller (seen_of pass.old) (seen_of pass.new) }

@@ -31,9 +31,9 @@ pub fn put_here<N: Unlinked, G: Gate>(
     value: u128,
     held: Held<N>,
 ) -> Numbered
-    requires pass { IsPass (sort_of N.layout N.ranged) BeginsTree TreeStep arena.now.table.shared.table_id arena.now.callers pass.old }
+    requires pass { IsPassOf arena.now pass.old }
     requires room { HasRoom (sort_of N.layout N.ranged) N.body pass.old.caller place (seen_of pass.old) held }
-    ensures pass { IsPass (sort_of N.layout N.ranged) BeginsTree TreeStep arena.now.table.shared.table_id arena.now.callers pass.new × (hand_of pass.new ≡ []) }
+    ensures pass { IsEmptyPassOf arena.now pass.new }
     ensures caller { pass.new.caller ≡ pass.old.caller }
     ensures done { (template : Template) (start : List Happening) → Underway template pass.old.caller (Put place value) start (seen_of pass.old) → Done N.layout template arena.now.nodes pass.old.caller (Put place value) start (seen_of pass.new) (told result.found) result.number }
 {
@@ -63,9 +63,9 @@ pub fn add_here<N: Unlinked, G: Gate>(
     value: u128,
     held: Held<N>,
 ) -> Numbered
-    requires pass { IsPass (sort_of N.layout N.ranged) BeginsTree TreeStep arena.now.table.shared.table_id arena.now.callers pass.old }
+    requires pass { IsPassOf arena.now pass.old }
     requires room { HasRoom (sort_of N.layout N.ranged) N.body pass.old.caller place (seen_of pass.old) held }
-    ensures pass { IsPass (sort_of N.layout N.ranged) BeginsTree TreeStep arena.now.table.shared.table_id arena.now.callers pass.new × (hand_of pass.new ≡ []) }
+    ensures pass { IsEmptyPassOf arena.now pass.new }
     ensures caller { pass.new.caller ≡ pass.old.caller }
     ensures done { (template : Template) (start : List Happening) → Underway template pass.old.caller (Add place value) start (seen_of pass.old) → Done N.layout template arena.now.nodes pass.old.caller (Add place value) start (seen_of pass.new) (told result.found) result.number }
 {
@@ -100,10 +100,10 @@ pub fn swap_here<N: Unlinked, G: Gate>(
     new: u128,
     held: Held<N>,
 ) -> Numbered
-    requires pass { IsPass (sort_of N.layout N.ranged) BeginsTree TreeStep arena.now.table.shared.table_id arena.now.callers pass.old }
+    requires pass { IsPassOf arena.now pass.old }
     requires way { IsOnWay (sort_of N.layout N.ranged) N.body pass.old.caller place (seen_of pass.old) held }
     requires here { next_at (N.body held.body) place ≡ Here }
-    ensures pass { IsPass (sort_of N.layout N.ranged) BeginsTree TreeStep arena.now.table.shared.table_id arena.now.callers pass.new × (hand_of pass.new ≡ []) }
+    ensures pass { IsEmptyPassOf arena.now pass.new }
     ensures caller { pass.new.caller ≡ pass.old.caller }
     ensures done { (template : Template) (start : List Happening) → Underway template pass.old.caller (Swap place old new) start (seen_of pass.old) → Done N.layout template arena.now.nodes pass.old.caller (Swap place old new) start (seen_of pass.new) (told result.found) result.number }
 {

@@ -36,8 +36,8 @@ pub(crate) fn enter<N: Unlinked, R: Wait, G: Gate>(
     gate: &G,
     place: u64,
 ) -> Path<N>
-    requires pass { IsPass (sort_of N.layout N.ranged) BeginsTree TreeStep arena.now.table.shared.table_id arena.now.callers pass.old × (hand_of pass.old ≡ []) }
-    ensures pass { IsPass (sort_of N.layout N.ranged) BeginsTree TreeStep arena.now.table.shared.table_id arena.now.callers pass.new }
+    requires pass { IsEmptyPassOf arena.now pass.old }
+    ensures pass { IsPassOf arena.now pass.new }
     ensures caller { pass.new.caller ≡ pass.old.caller }
     ensures path { IsOnPath (sort_of N.layout N.ranged) N.body pass.old.caller place (seen_of pass.new) result }
     ensures stretch { Stretches pass.old.caller (seen_of pass.old) (seen_of pass.new) }
@@ -63,12 +63,12 @@ pub(crate) fn keep_alone<N: Unlinked, G: Gate>(
     other: Option<Held<N>>,
     node: Held<N>,
 ) -> Held<N>
-    requires pass { IsPass (sort_of N.layout N.ranged) BeginsTree TreeStep arena.now.table.shared.table_id arena.now.callers pass.old }
+    requires pass { IsPassOf arena.now pass.old }
     requires hands { hand_of pass.old ≡ node.node ∷ numbers other }
     requires other { ForSome other (λ y. Matches (sort_of N.layout N.ranged) N.body (seen_of pass.old) y) }
     requires node { (node.live ≡ true) × Matches (sort_of N.layout N.ranged) N.body (seen_of pass.old) node }
     requires inside { InInset (graph_after (seen_of pass.old)) node.node place }
-    ensures pass { IsPass (sort_of N.layout N.ranged) BeginsTree TreeStep arena.now.table.shared.table_id arena.now.callers pass.new }
+    ensures pass { IsPassOf arena.now pass.new }
     ensures caller { pass.new.caller ≡ pass.old.caller }
     ensures node { result ≡ node }
     ensures way { IsOnWay (sort_of N.layout N.ranged) N.body pass.old.caller place (seen_of pass.new) result }
@@ -91,9 +91,9 @@ pub(crate) fn let_go<N: Unlinked, G: Gate>(
     place: u64,
     path: Path<N>,
 ) -> Held<N>
-    requires pass { IsPass (sort_of N.layout N.ranged) BeginsTree TreeStep arena.now.table.shared.table_id arena.now.callers pass.old }
+    requires pass { IsPassOf arena.now pass.old }
     requires path { IsOnPath (sort_of N.layout N.ranged) N.body pass.old.caller place (seen_of pass.old) path }
-    ensures pass { IsPass (sort_of N.layout N.ranged) BeginsTree TreeStep arena.now.table.shared.table_id arena.now.callers pass.new }
+    ensures pass { IsPassOf arena.now pass.new }
     ensures caller { pass.new.caller ≡ pass.old.caller }
     ensures node { result ≡ path.node }
     ensures way { IsOnWay (sort_of N.layout N.ranged) N.body pass.old.caller place (seen_of pass.new) result }
@@ -111,9 +111,9 @@ pub(crate) fn settle<N: Unlinked, G: Gate>(
     place: u64,
     path: Path<N>,
 ) -> Path<N>
-    requires pass { IsPass (sort_of N.layout N.ranged) BeginsTree TreeStep arena.now.table.shared.table_id arena.now.callers pass.old }
+    requires pass { IsPassOf arena.now pass.old }
     requires path { IsOnPath (sort_of N.layout N.ranged) N.body pass.old.caller place (seen_of pass.old) path }
-    ensures pass { IsPass (sort_of N.layout N.ranged) BeginsTree TreeStep arena.now.table.shared.table_id arena.now.callers pass.new }
+    ensures pass { IsPassOf arena.now pass.new }
     ensures caller { pass.new.caller ≡ pass.old.caller }
     ensures path { IsOnPath (sort_of N.layout N.ranged) N.body pass.old.caller place (seen_of pass.new) result }
     ensures stretch { Stretches pass.old.caller (seen_of pass.old) (seen_of pass.new) }
@@ -135,10 +135,10 @@ pub(crate) fn step_down<N: Unlinked, R: Wait, G: Gate>(
     held: Held<N>,
     child: u32,
 ) -> Path<N>
-    requires pass { IsPass (sort_of N.layout N.ranged) BeginsTree TreeStep arena.now.table.shared.table_id arena.now.callers pass.old }
+    requires pass { IsPassOf arena.now pass.old }
     requires way { IsOnWay (sort_of N.layout N.ranged) N.body pass.old.caller place (seen_of pass.old) held }
     requires goes { next_at (N.body held.body) place ≡ Go child }
-    ensures pass { IsPass (sort_of N.layout N.ranged) BeginsTree TreeStep arena.now.table.shared.table_id arena.now.callers pass.new }
+    ensures pass { IsPassOf arena.now pass.new }
     ensures caller { pass.new.caller ≡ pass.old.caller }
     ensures path { IsOnPath (sort_of N.layout N.ranged) N.body pass.old.caller place (seen_of pass.new) result }
     ensures stretch { Stretches pass.old.caller (seen_of pass.old) (seen_of pass.new) }

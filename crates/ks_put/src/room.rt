@@ -47,10 +47,10 @@ fn down<N: Unlinked, R: Wait, G: Gate>(
     path: Path<N>,
     child: u32,
 ) -> Path<N>
-    requires pass { IsPass (sort_of N.layout N.ranged) BeginsTree TreeStep arena.now.table.shared.table_id arena.now.callers pass.old }
+    requires pass { IsPassOf arena.now pass.old }
     requires path { IsOnPath (sort_of N.layout N.ranged) N.body pass.old.caller place (seen_of pass.old) path }
     requires goes { next_at (N.body path.node.body) place ≡ Go child }
-    ensures pass { IsPass (sort_of N.layout N.ranged) BeginsTree TreeStep arena.now.table.shared.table_id arena.now.callers pass.new }
+    ensures pass { IsPassOf arena.now pass.new }
     ensures caller { pass.new.caller ≡ pass.old.caller }
     ensures path { IsOnPath (sort_of N.layout N.ranged) N.body pass.old.caller place (seen_of pass.new) result }
     ensures stretch { Stretches pass.old.caller (seen_of pass.old) (seen_of pass.new) }
@@ -70,10 +70,10 @@ fn go_on<N: Unlinked, R: Wait, G: Gate>(
     path: Path<N>,
     child: u32,
 ) -> (Path<N>, bool)
-    requires pass { IsPass (sort_of N.layout N.ranged) BeginsTree TreeStep arena.now.table.shared.table_id arena.now.callers pass.old }
+    requires pass { IsPassOf arena.now pass.old }
     requires path { IsOnPath (sort_of N.layout N.ranged) N.body pass.old.caller place (seen_of pass.old) path }
     requires goes { next_at (N.body path.node.body) place ≡ Go child }
-    ensures pass { IsPass (sort_of N.layout N.ranged) BeginsTree TreeStep arena.now.table.shared.table_id arena.now.callers pass.new }
+    ensures pass { IsPassOf arena.now pass.new }
     ensures caller { pass.new.caller ≡ pass.old.caller }
     ensures path { IsOnPath (sort_of N.layout N.ranged) N.body pass.old.caller place (seen_of pass.new) result.0 }
     ensures stretch { Stretches pass.old.caller (seen_of pass.old) (seen_of pass.new) }
@@ -101,9 +101,9 @@ fn begin_again<N: Unlinked, R: Wait, G: Gate>(
     place: u64,
     path: Path<N>,
 ) -> Path<N>
-    requires pass { IsPass (sort_of N.layout N.ranged) BeginsTree TreeStep arena.now.table.shared.table_id arena.now.callers pass.old }
+    requires pass { IsPassOf arena.now pass.old }
     requires path { IsOnPath (sort_of N.layout N.ranged) N.body pass.old.caller place (seen_of pass.old) path }
-    ensures pass { IsPass (sort_of N.layout N.ranged) BeginsTree TreeStep arena.now.table.shared.table_id arena.now.callers pass.new }
+    ensures pass { IsPassOf arena.now pass.new }
     ensures caller { pass.new.caller ≡ pass.old.caller }
     ensures path { IsOnPath (sort_of N.layout N.ranged) N.body pass.old.caller place (seen_of pass.new) result }
     ensures stretch { Stretches pass.old.caller (seen_of pass.old) (seen_of pass.new) }
@@ -123,11 +123,11 @@ fn come_to_room<N: Unlinked, G: Gate>(
     place: u64,
     path: Path<N>,
 ) -> Room<N>
-    requires pass { IsPass (sort_of N.layout N.ranged) BeginsTree TreeStep arena.now.table.shared.table_id arena.now.callers pass.old }
+    requires pass { IsPassOf arena.now pass.old }
     requires path { IsOnPath (sort_of N.layout N.ranged) N.body pass.old.caller place (seen_of pass.old) path }
     requires here { next_at (N.body path.node.body) place ≡ Here }
     requires room { value_at (N.body path.node.body).pairs place ≡ None → is_full N.layout (N.body path.node.body) ≡ false }
-    ensures pass { IsPass (sort_of N.layout N.ranged) BeginsTree TreeStep arena.now.table.shared.table_id arena.now.callers pass.new }
+    ensures pass { IsPassOf arena.now pass.new }
     ensures caller { pass.new.caller ≡ pass.old.caller }
     ensures came { (n : ℕ) (start : List Happening) → CameTo (sort_of N.layout N.ranged) N.body n pass.old.caller place start (seen_of pass.new) result }
     ensures stretch { Stretches pass.old.caller (seen_of pass.old) (seen_of pass.new) }
@@ -143,12 +143,12 @@ fn come_to_full<N: Unlinked, G: Gate>(
     place: u64,
     path: Path<N>,
 ) -> Room<N>
-    requires pass { IsPass (sort_of N.layout N.ranged) BeginsTree TreeStep arena.now.table.shared.table_id arena.now.callers pass.old }
+    requires pass { IsPassOf arena.now pass.old }
     requires path { IsOnPath (sort_of N.layout N.ranged) N.body pass.old.caller place (seen_of pass.old) path }
     requires here { next_at (N.body path.node.body) place ≡ Here }
     requires absent { value_at (N.body path.node.body).pairs place ≡ None }
     requires full { IsTrue (is_full N.layout (N.body path.node.body)) }
-    ensures pass { IsPass (sort_of N.layout N.ranged) BeginsTree TreeStep arena.now.table.shared.table_id arena.now.callers pass.new }
+    ensures pass { IsPassOf arena.now pass.new }
     ensures caller { pass.new.caller ≡ pass.old.caller }
     ensures came { (n : ℕ) (start : List Happening) → NoneFree N.layout n pass.old.caller place start (seen_of pass.old) → CameTo (sort_of N.layout N.ranged) N.body n pass.old.caller place start (seen_of pass.new) result }
     ensures stretch { Stretches pass.old.caller (seen_of pass.old) (seen_of pass.new) }
@@ -165,8 +165,8 @@ pub fn make_room<N: Unlinked, R: Wait, G: Gate>(
     gate: &G,
     place: u64,
 ) -> Room<N>
-    requires pass { IsPass (sort_of N.layout N.ranged) BeginsTree TreeStep arena.now.table.shared.table_id arena.now.callers pass.old × (hand_of pass.old ≡ []) }
-    ensures pass { IsPass (sort_of N.layout N.ranged) BeginsTree TreeStep arena.now.table.shared.table_id arena.now.callers pass.new }
+    requires pass { IsEmptyPassOf arena.now pass.old }
+    ensures pass { IsPassOf arena.now pass.new }
     ensures caller { pass.new.caller ≡ pass.old.caller }
     ensures room { CameTo (sort_of N.layout N.ranged) N.body arena.now.nodes pass.old.caller place (seen_of pass.old) (seen_of pass.new) result }
     ensures stretch { Stretches pass.old.caller (seen_of pass.old) (seen_of pass.new) }

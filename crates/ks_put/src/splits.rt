@@ -32,12 +32,12 @@ pub(crate) fn grow_root<N: Unlinked, G: Gate>(
     cut: u64,
     root: Held<N>,
 ) -> Part<N>
-    requires pass { IsPass (sort_of N.layout N.ranged) BeginsTree TreeStep arena.now.table.shared.table_id arena.now.callers pass.old }
+    requires pass { IsPassOf arena.now pass.old }
     requires path { IsOnPath (sort_of N.layout N.ranged) N.body pass.old.caller place (seen_of pass.old) (record { parent = None; node = root }) }
     requires full { IsTrue (is_full N.layout (N.body root.body)) }
     requires cut { InInset (graph_after (seen_of pass.old)) root.node cut × CanSplitAt (N.body root.body) cut }
     requires grows { IsTrue (N.grows_at (content_of (N.body root.body))) × IsTrue (N.can_grow_at (content_of (N.body root.body)) cut) }
-    ensures pass { IsPass (sort_of N.layout N.ranged) BeginsTree TreeStep arena.now.table.shared.table_id arena.now.callers pass.new }
+    ensures pass { IsPassOf arena.now pass.new }
     ensures caller { pass.new.caller ≡ pass.old.caller }
     ensures part { DidPart (sort_of N.layout N.ranged) N.body arena.now.nodes pass.old.caller place (seen_of pass.old) (seen_of pass.new) (record { parent = None; node = root }) result }
     ensures tried { IsShut result → ⊥ }
@@ -67,13 +67,13 @@ pub(crate) fn split_below<N: Unlinked, G: Gate>(
     parent: Held<N>,
     node: Held<N>,
 ) -> Part<N>
-    requires pass { IsPass (sort_of N.layout N.ranged) BeginsTree TreeStep arena.now.table.shared.table_id arena.now.callers pass.old }
+    requires pass { IsPassOf arena.now pass.old }
     requires path { IsOnPath (sort_of N.layout N.ranged) N.body pass.old.caller place (seen_of pass.old) (record { parent = Some parent; node = node }) }
     requires branch { IsTrue (is_branch (N.body parent.body)) }
     requires full { IsTrue (is_full N.layout (N.body node.body)) }
     requires cut { InInset (graph_after (seen_of pass.old)) node.node cut × CanSplitAt (N.body node.body) cut }
     requires adopts { IsTrue (N.can_adopt_at (content_of (N.body parent.body)) cut) }
-    ensures pass { IsPass (sort_of N.layout N.ranged) BeginsTree TreeStep arena.now.table.shared.table_id arena.now.callers pass.new }
+    ensures pass { IsPassOf arena.now pass.new }
     ensures caller { pass.new.caller ≡ pass.old.caller }
     ensures part { DidPart (sort_of N.layout N.ranged) N.body arena.now.nodes pass.old.caller place (seen_of pass.old) (seen_of pass.new) (record { parent = Some parent; node = node }) result }
     ensures tried { IsShut result → ⊥ }
@@ -101,12 +101,12 @@ pub(crate) fn split_alone<N: Unlinked, G: Gate>(
     cut: u64,
     path: Path<N>,
 ) -> Part<N>
-    requires pass { IsPass (sort_of N.layout N.ranged) BeginsTree TreeStep arena.now.table.shared.table_id arena.now.callers pass.old }
+    requires pass { IsPassOf arena.now pass.old }
     requires path { IsOnPath (sort_of N.layout N.ranged) N.body pass.old.caller place (seen_of pass.old) path }
     requires full { IsTrue (is_full N.layout (N.body path.node.body)) }
     requires cut { InInset (graph_after (seen_of pass.old)) path.node.node cut × CanSplitAt (N.body path.node.body) cut }
     requires adopts { IsTrue (N.can_adopt_at (content_of (split_left cut (N.body path.node.body))) cut) }
-    ensures pass { IsPass (sort_of N.layout N.ranged) BeginsTree TreeStep arena.now.table.shared.table_id arena.now.callers pass.new }
+    ensures pass { IsPassOf arena.now pass.new }
     ensures caller { pass.new.caller ≡ pass.old.caller }
     ensures part { DidPart (sort_of N.layout N.ranged) N.body arena.now.nodes pass.old.caller place (seen_of pass.old) (seen_of pass.new) path result }
     ensures tried { IsShut result → ⊥ }
@@ -137,10 +137,10 @@ pub(crate) fn split_root<N: Unlinked, G: Gate>(
     place: u64,
     root: Held<N>,
 ) -> Part<N>
-    requires pass { IsPass (sort_of N.layout N.ranged) BeginsTree TreeStep arena.now.table.shared.table_id arena.now.callers pass.old }
+    requires pass { IsPassOf arena.now pass.old }
     requires path { IsOnPath (sort_of N.layout N.ranged) N.body pass.old.caller place (seen_of pass.old) (record { parent = None; node = root }) }
     requires full { IsTrue (is_full N.layout (N.body root.body)) }
-    ensures pass { IsPass (sort_of N.layout N.ranged) BeginsTree TreeStep arena.now.table.shared.table_id arena.now.callers pass.new }
+    ensures pass { IsPassOf arena.now pass.new }
     ensures caller { pass.new.caller ≡ pass.old.caller }
     ensures part { DidPart (sort_of N.layout N.ranged) N.body arena.now.nodes pass.old.caller place (seen_of pass.old) (seen_of pass.new) (record { parent = None; node = root }) result }
     ensures open { N.in_place ≡ false → is_branch (N.body root.body) ≡ false → IsShut result → ⊥ }
@@ -173,10 +173,10 @@ pub(crate) fn split_child<N: Unlinked, G: Gate>(
     parent: Held<N>,
     node: Held<N>,
 ) -> Part<N>
-    requires pass { IsPass (sort_of N.layout N.ranged) BeginsTree TreeStep arena.now.table.shared.table_id arena.now.callers pass.old }
+    requires pass { IsPassOf arena.now pass.old }
     requires path { IsOnPath (sort_of N.layout N.ranged) N.body pass.old.caller place (seen_of pass.old) (record { parent = Some parent; node = node }) }
     requires full { IsTrue (is_full N.layout (N.body node.body)) }
-    ensures pass { IsPass (sort_of N.layout N.ranged) BeginsTree TreeStep arena.now.table.shared.table_id arena.now.callers pass.new }
+    ensures pass { IsPassOf arena.now pass.new }
     ensures caller { pass.new.caller ≡ pass.old.caller }
     ensures part { DidPart (sort_of N.layout N.ranged) N.body arena.now.nodes pass.old.caller place (seen_of pass.old) (seen_of pass.new) (record { parent = Some parent; node = node }) result }
     ensures open { N.in_place ≡ false → is_branch (N.body node.body) ≡ false → is_full N.layout (N.body parent.body) ≡ false → IsShut result → ⊥ }
@@ -207,10 +207,10 @@ fn split_whole<N: Unlinked, G: Gate>(
     place: u64,
     path: Path<N>,
 ) -> Part<N>
-    requires pass { IsPass (sort_of N.layout N.ranged) BeginsTree TreeStep arena.now.table.shared.table_id arena.now.callers pass.old }
+    requires pass { IsPassOf arena.now pass.old }
     requires path { IsOnPath (sort_of N.layout N.ranged) N.body pass.old.caller place (seen_of pass.old) path }
     requires full { IsTrue (is_full N.layout (N.body path.node.body)) }
-    ensures pass { IsPass (sort_of N.layout N.ranged) BeginsTree TreeStep arena.now.table.shared.table_id arena.now.callers pass.new }
+    ensures pass { IsPassOf arena.now pass.new }
     ensures caller { pass.new.caller ≡ pass.old.caller }
     ensures part { DidPart (sort_of N.layout N.ranged) N.body arena.now.nodes pass.old.caller place (seen_of pass.old) (seen_of pass.new) path result }
     ensures open { N.in_place ≡ false → is_branch (N.body path.node.body) ≡ false → HasRoomAbove N.layout N.body path.parent → IsShut result → ⊥ }
@@ -232,10 +232,10 @@ pub(crate) fn split<N: Unlinked, G: Gate>(
     place: u64,
     path: Path<N>,
 ) -> Part<N>
-    requires pass { IsPass (sort_of N.layout N.ranged) BeginsTree TreeStep arena.now.table.shared.table_id arena.now.callers pass.old }
+    requires pass { IsPassOf arena.now pass.old }
     requires path { IsOnPath (sort_of N.layout N.ranged) N.body pass.old.caller place (seen_of pass.old) path }
     requires full { IsTrue (is_full N.layout (N.body path.node.body)) }
-    ensures pass { IsPass (sort_of N.layout N.ranged) BeginsTree TreeStep arena.now.table.shared.table_id arena.now.callers pass.new }
+    ensures pass { IsPassOf arena.now pass.new }
     ensures caller { pass.new.caller ≡ pass.old.caller }
     ensures part { DidPart (sort_of N.layout N.ranged) N.body arena.now.nodes pass.old.caller place (seen_of pass.old) (seen_of pass.new) path result }
     ensures open { N.in_place ≡ false → is_branch (N.body path.node.body) ≡ false → HasRoomAbove N.layout N.body path.parent → IsShut result → ⊥ }

@@ -38,8 +38,8 @@ pub(crate) fn put_each<N: Unlinked, R: Wait>(
     many: u64,
     stride: u64,
 ) -> bool
-    requires pass { IsPass (sort_of N.layout N.ranged) BeginsTree TreeStep arena.now.table.shared.table_id arena.now.callers pass.old × (hand_of pass.old ≡ []) }
-    ensures pass { IsPass (sort_of N.layout N.ranged) BeginsTree TreeStep arena.now.table.shared.table_id arena.now.callers pass.new × (hand_of pass.new ≡ []) }
+    requires pass { IsEmptyPassOf arena.now pass.old }
+    ensures pass { IsEmptyPassOf arena.now pass.new }
     ensures caller { pass.new.caller ≡ pass.old.caller }
 {
     let mut right = true;
@@ -65,8 +65,8 @@ pub(crate) fn add_each<N: Unlinked, R: Wait>(
     many: u64,
     stride: u64,
 ) -> bool
-    requires pass { IsPass (sort_of N.layout N.ranged) BeginsTree TreeStep arena.now.table.shared.table_id arena.now.callers pass.old × (hand_of pass.old ≡ []) }
-    ensures pass { IsPass (sort_of N.layout N.ranged) BeginsTree TreeStep arena.now.table.shared.table_id arena.now.callers pass.new × (hand_of pass.new ≡ []) }
+    requires pass { IsEmptyPassOf arena.now pass.old }
+    ensures pass { IsEmptyPassOf arena.now pass.new }
     ensures caller { pass.new.caller ≡ pass.old.caller }
 {
     let mut right = true;

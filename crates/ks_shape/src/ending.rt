@@ -42,10 +42,10 @@ fn decide_here<N: Node, D: Discipline, G: Gate>(
     op: Op,
     reply: Reply,
 ) -> u64
-    requires pass { IsPass (sort_of N.layout N.ranged) D.begins D.step arena.now.table.shared.table_id arena.now.callers pass.old }
+    requires pass { IsPassOf arena.now pass.old }
     requires alone { hand_of pass.old ≡ held.node ∷ [] }
     requires ready { IsReady (sort_of N.layout N.ranged) N.body arena.now.nodes pass.old.caller (seen_of pass.old) held op reply }
-    ensures pass { IsPass (sort_of N.layout N.ranged) D.begins D.step arena.now.table.shared.table_id arena.now.callers pass.new × (hand_of pass.new ≡ []) }
+    ensures pass { IsEmptyPassOf arena.now pass.new }
     ensures caller { pass.new.caller ≡ pass.old.caller }
     ensures begins { seen_of pass.old ⊑ seen_of pass.new }
     ensures makes { MakesNone pass.old.caller (seen_of pass.old) (seen_of pass.new) }
@@ -70,11 +70,11 @@ pub fn conclude<N: Node, D: Discipline, G: Gate>(
     op: Op,
     reply: Reply,
 ) -> u64
-    requires pass { IsPass (sort_of N.layout N.ranged) D.begins D.step arena.now.table.shared.table_id arena.now.callers pass.old }
+    requires pass { IsPassOf arena.now pass.old }
     requires alone { hand_of pass.old ≡ held.node ∷ [] }
     requires ready { IsReady (sort_of N.layout N.ranged) N.body arena.now.nodes pass.old.caller (seen_of pass.old) held op reply }
     requires some { reply ≢ full_reply }
-    ensures pass { IsPass (sort_of N.layout N.ranged) D.begins D.step arena.now.table.shared.table_id arena.now.callers pass.new × (hand_of pass.new ≡ []) }
+    ensures pass { IsEmptyPassOf arena.now pass.new }
     ensures caller { pass.new.caller ≡ pass.old.caller }
     ensures makes { MakesNone pass.old.caller (seen_of pass.old) (seen_of pass.new) }
     ensures done { (template : Template) (start : List Happening) → Underway template pass.old.caller op start (seen_of pass.old) → Done N.layout template arena.now.nodes pass.old.caller op start (seen_of pass.new) reply result }
@@ -92,10 +92,10 @@ pub fn refuse<N: Node, D: Discipline, G: Gate>(
     held: Held<N>,
     op: Op,
 ) -> Full
-    requires pass { IsPass (sort_of N.layout N.ranged) D.begins D.step arena.now.table.shared.table_id arena.now.callers pass.old }
+    requires pass { IsPassOf arena.now pass.old }
     requires alone { hand_of pass.old ≡ held.node ∷ [] }
     requires ready { IsReady (sort_of N.layout N.ranged) N.body arena.now.nodes pass.old.caller (seen_of pass.old) held op full_reply }
-    ensures pass { IsPass (sort_of N.layout N.ranged) D.begins D.step arena.now.table.shared.table_id arena.now.callers pass.new × (hand_of pass.new ≡ []) }
+    ensures pass { IsEmptyPassOf arena.now pass.new }
     ensures caller { pass.new.caller ≡ pass.old.caller }
     ensures begins { seen_of pass.old ⊑ seen_of pass.new }
     ensures makes { MakesNone pass.old.caller (seen_of pass.old) (seen_of pass.new) }

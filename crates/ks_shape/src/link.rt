@@ -29,13 +29,13 @@ pub fn split_right<N: Linked>(
     right: &mut Held<N>,
     cut: u64,
 )
-    requires pass { IsPass (sort_of N.layout N.ranged) BeginsLink LinkStep arena.now.table.shared.table_id arena.now.callers pass.old }
+    requires pass { IsPassOf arena.now pass.old }
     requires node { IsLive (sort_of N.layout N.ranged) N.body (hand_of pass.old) (seen_of pass.old) node.old }
     requires right { IsFree (sort_of N.layout N.ranged) N.body (hand_of pass.old) (seen_of pass.old) right.old }
     requires no_root { node.old.node ≢ 0 }
     requires full { IsTrue (is_full N.layout (N.body node.old.body)) }
     requires cut { CanSplitAt (N.body node.old.body) cut }
-    ensures pass { IsPass (sort_of N.layout N.ranged) BeginsLink LinkStep arena.now.table.shared.table_id arena.now.callers pass.new }
+    ensures pass { IsPassOf arena.now pass.new }
     ensures caller { pass.new.caller ≡ pass.old.caller }
     ensures shaped { GrowsWith pass.old.caller (Shape pass.old.caller (shapes.split_to_right node.old.node right.old.node cut (N.body node.old.body))) (seen_of pass.old) (seen_of pass.new) }
     ensures hand { hand_of pass.new ≡ hand_of pass.old }
@@ -66,7 +66,7 @@ pub fn grow_right<N: Linked>(
     right: &mut Held<N>,
     cut: u64,
 )
-    requires pass { IsPass (sort_of N.layout N.ranged) BeginsLink LinkStep arena.now.table.shared.table_id arena.now.callers pass.old }
+    requires pass { IsPassOf arena.now pass.old }
     requires node { IsLive (sort_of N.layout N.ranged) N.body (hand_of pass.old) (seen_of pass.old) node.old }
     requires left { IsFree (sort_of N.layout N.ranged) N.body (hand_of pass.old) (seen_of pass.old) left.old }
     requires right { IsFree (sort_of N.layout N.ranged) N.body (hand_of pass.old) (seen_of pass.old) right.old }
@@ -76,7 +76,7 @@ pub fn grow_right<N: Linked>(
     requires cut { CanSplitAt (N.body node.old.body) cut }
     requires grows { IsTrue (N.grows_at (content_of (N.body node.old.body))) × IsTrue (N.can_grow_at (content_of (N.body node.old.body)) cut) }
     requires level { (N.body node.old.body).level < 4294967295 }
-    ensures pass { IsPass (sort_of N.layout N.ranged) BeginsLink LinkStep arena.now.table.shared.table_id arena.now.callers pass.new }
+    ensures pass { IsPassOf arena.now pass.new }
     ensures caller { pass.new.caller ≡ pass.old.caller }
     ensures shaped { GrowsWith pass.old.caller (Shape pass.old.caller (shapes.grow_right N.branch_kind node.old.node left.old.node right.old.node cut (N.body node.old.body))) (seen_of pass.old) (seen_of pass.new) }
     ensures hand { hand_of pass.new ≡ hand_of pass.old }
@@ -112,13 +112,13 @@ pub fn attach<N: Linked>(
     cut: u64,
     id: u32,
 )
-    requires pass { IsPass (sort_of N.layout N.ranged) BeginsLink LinkStep arena.now.table.shared.table_id arena.now.callers pass.old }
+    requires pass { IsPassOf arena.now pass.old }
     requires node { IsLive (sort_of N.layout N.ranged) N.body (hand_of pass.old) (seen_of pass.old) node.old }
     requires branch { IsTrue (is_branch (N.body node.old.body)) }
     requires cut { IsCut (N.body node.old.body) cut }
     requires adopts { IsTrue (N.can_adopt_at (content_of (N.body node.old.body)) cut) }
     requires under { shapes.StandsUnder (graph_after (seen_of pass.old)) (frame_after (blank_of (sort_of N.layout N.ranged)) (seen_of pass.old)) id (N.body node.old.body).level cut }
-    ensures pass { IsPass (sort_of N.layout N.ranged) BeginsLink LinkStep arena.now.table.shared.table_id arena.now.callers pass.new }
+    ensures pass { IsPassOf arena.now pass.new }
     ensures caller { pass.new.caller ≡ pass.old.caller }
     ensures shaped { GrowsWith pass.old.caller (Shape pass.old.caller (shapes.attach node.old.node id cut (N.body node.old.body))) (seen_of pass.old) (seen_of pass.new) }
     ensures hand { hand_of pass.new ≡ hand_of pass.old }

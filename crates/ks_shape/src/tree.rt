@@ -30,13 +30,13 @@ pub fn split_own<N: Unlinked>(
     right: &mut Held<N>,
     cut: u64,
 )
-    requires pass { IsPass (sort_of N.layout N.ranged) BeginsTree TreeStep arena.now.table.shared.table_id arena.now.callers pass.old }
+    requires pass { IsPassOf arena.now pass.old }
     requires node { IsLive (sort_of N.layout N.ranged) N.body (hand_of pass.old) (seen_of pass.old) node.old }
     requires right { IsFree (sort_of N.layout N.ranged) N.body (hand_of pass.old) (seen_of pass.old) right.old }
     requires full { IsTrue (is_full N.layout (N.body node.old.body)) }
     requires cut { InInset (graph_after (seen_of pass.old)) node.old.node cut × CanSplitAt (N.body node.old.body) cut }
     requires adopts { IsTrue (N.can_adopt_at (content_of (split_left cut (N.body node.old.body))) cut) }
-    ensures pass { IsPass (sort_of N.layout N.ranged) BeginsTree TreeStep arena.now.table.shared.table_id arena.now.callers pass.new }
+    ensures pass { IsPassOf arena.now pass.new }
     ensures caller { pass.new.caller ≡ pass.old.caller }
     ensures shaped { GrowsWith pass.old.caller (Shape pass.old.caller (shapes.split_own node.old.node right.old.node cut (N.body node.old.body))) (seen_of pass.old) (seen_of pass.new) }
     ensures hand { hand_of pass.new ≡ hand_of pass.old }
@@ -72,7 +72,7 @@ pub fn split_under<N: Unlinked>(
     right: &mut Held<N>,
     cut: u64,
 )
-    requires pass { IsPass (sort_of N.layout N.ranged) BeginsTree TreeStep arena.now.table.shared.table_id arena.now.callers pass.old }
+    requires pass { IsPassOf arena.now pass.old }
     requires parent { IsLive (sort_of N.layout N.ranged) N.body (hand_of pass.old) (seen_of pass.old) parent.old }
     requires node { IsLive (sort_of N.layout N.ranged) N.body (hand_of pass.old) (seen_of pass.old) node.old }
     requires right { IsFree (sort_of N.layout N.ranged) N.body (hand_of pass.old) (seen_of pass.old) right.old }
@@ -82,7 +82,7 @@ pub fn split_under<N: Unlinked>(
     requires full { IsTrue (is_full N.layout (N.body node.old.body)) }
     requires cut { InInset (graph_after (seen_of pass.old)) node.old.node cut × CanSplitAt (N.body node.old.body) cut }
     requires adopts { IsTrue (N.can_adopt_at (content_of (N.body parent.old.body)) cut) }
-    ensures pass { IsPass (sort_of N.layout N.ranged) BeginsTree TreeStep arena.now.table.shared.table_id arena.now.callers pass.new }
+    ensures pass { IsPassOf arena.now pass.new }
     ensures caller { pass.new.caller ≡ pass.old.caller }
     ensures shaped { GrowsWith pass.old.caller (Shape pass.old.caller (shapes.split_under parent.old.node node.old.node right.old.node cut (N.body parent.old.body) (N.body node.old.body))) (seen_of pass.old) (seen_of pass.new) }
     ensures hand { hand_of pass.new ≡ hand_of pass.old }
@@ -121,7 +121,7 @@ pub fn grow<N: Unlinked>(
     right: &mut Held<N>,
     cut: u64,
 )
-    requires pass { IsPass (sort_of N.layout N.ranged) BeginsTree TreeStep arena.now.table.shared.table_id arena.now.callers pass.old }
+    requires pass { IsPassOf arena.now pass.old }
     requires node { IsLive (sort_of N.layout N.ranged) N.body (hand_of pass.old) (seen_of pass.old) node.old }
     requires left { IsFree (sort_of N.layout N.ranged) N.body (hand_of pass.old) (seen_of pass.old) left.old }
     requires right { IsFree (sort_of N.layout N.ranged) N.body (hand_of pass.old) (seen_of pass.old) right.old }
@@ -129,7 +129,7 @@ pub fn grow<N: Unlinked>(
     requires full { IsTrue (is_full N.layout (N.body node.old.body)) }
     requires cut { InInset (graph_after (seen_of pass.old)) node.old.node cut × CanSplitAt (N.body node.old.body) cut }
     requires grows { IsTrue (N.grows_at (content_of (N.body node.old.body))) × IsTrue (N.can_grow_at (content_of (N.body node.old.body)) cut) }
-    ensures pass { IsPass (sort_of N.layout N.ranged) BeginsTree TreeStep arena.now.table.shared.table_id arena.now.callers pass.new }
+    ensures pass { IsPassOf arena.now pass.new }
     ensures caller { pass.new.caller ≡ pass.old.caller }
     ensures shaped { GrowsWith pass.old.caller (Shape pass.old.caller (shapes.grow N.branch_kind node.old.node left.old.node right.old.node cut (N.body node.old.body))) (seen_of pass.old) (seen_of pass.new) }
     ensures hand { hand_of pass.new ≡ hand_of pass.old }
@@ -165,13 +165,13 @@ pub fn absorb_own<N: Unlinked>(
     node: &mut Held<N>,
     right: &mut Held<N>,
 )
-    requires pass { IsPass (sort_of N.layout N.ranged) BeginsTree TreeStep arena.now.table.shared.table_id arena.now.callers pass.old }
+    requires pass { IsPassOf arena.now pass.old }
     requires node { IsLive (sort_of N.layout N.ranged) N.body (hand_of pass.old) (seen_of pass.old) node.old }
     requires right { IsLive (sort_of N.layout N.ranged) N.body (hand_of pass.old) (seen_of pass.old) right.old }
     requires chained { chained_of (N.body node.old.body) ≡ Some right.old.node }
     requires apart { node.old.node ≢ right.old.node }
     requires fits { IsTrue (fit_together N.layout (N.body node.old.body) (N.body right.old.body)) }
-    ensures pass { IsPass (sort_of N.layout N.ranged) BeginsTree TreeStep arena.now.table.shared.table_id arena.now.callers pass.new }
+    ensures pass { IsPassOf arena.now pass.new }
     ensures caller { pass.new.caller ≡ pass.old.caller }
     ensures shaped { GrowsWith pass.old.caller (Shape pass.old.caller (shapes.absorb_own node.old.node right.old.node (N.body node.old.body) (N.body right.old.body))) (seen_of pass.old) (seen_of pass.new) }
     ensures hand { hand_of pass.new ≡ hand_of pass.old }
@@ -201,7 +201,7 @@ pub fn absorb_under<N: Unlinked>(
     node: &mut Held<N>,
     right: &mut Held<N>,
 )
-    requires pass { IsPass (sort_of N.layout N.ranged) BeginsTree TreeStep arena.now.table.shared.table_id arena.now.callers pass.old }
+    requires pass { IsPassOf arena.now pass.old }
     requires parent { IsLive (sort_of N.layout N.ranged) N.body (hand_of pass.old) (seen_of pass.old) parent.old }
     requires node { IsLive (sort_of N.layout N.ranged) N.body (hand_of pass.old) (seen_of pass.old) node.old }
     requires right { IsLive (sort_of N.layout N.ranged) N.body (hand_of pass.old) (seen_of pass.old) right.old }
@@ -210,7 +210,7 @@ pub fn absorb_under<N: Unlinked>(
     requires unchained { chained_of (N.body node.old.body) ≡ None }
     requires apart { (parent.old.node ≢ node.old.node) × (parent.old.node ≢ right.old.node) × (node.old.node ≢ right.old.node) }
     requires fits { IsTrue (fit_together N.layout (N.body node.old.body) (N.body right.old.body)) }
-    ensures pass { IsPass (sort_of N.layout N.ranged) BeginsTree TreeStep arena.now.table.shared.table_id arena.now.callers pass.new }
+    ensures pass { IsPassOf arena.now pass.new }
     ensures caller { pass.new.caller ≡ pass.old.caller }
     ensures shaped { GrowsWith pass.old.caller (Shape pass.old.caller (shapes.absorb_under parent.old.node node.old.node right.old.node (N.body parent.old.body) (N.body node.old.body) (N.body right.old.body))) (seen_of pass.old) (seen_of pass.new) }
     ensures hand { hand_of pass.new ≡ hand_of pass.old }
@@ -243,12 +243,12 @@ pub fn collapse<N: Unlinked>(
     node: &mut Held<N>,
     child: &mut Held<N>,
 )
-    requires pass { IsPass (sort_of N.layout N.ranged) BeginsTree TreeStep arena.now.table.shared.table_id arena.now.callers pass.old }
+    requires pass { IsPassOf arena.now pass.old }
     requires node { IsLive (sort_of N.layout N.ranged) N.body (hand_of pass.old) (seen_of pass.old) node.old }
     requires child { IsLive (sort_of N.layout N.ranged) N.body (hand_of pass.old) (seen_of pass.old) child.old }
     requires sole { only_child_of (N.body node.old.body) ≡ Some child.old.node }
     requires apart { node.old.node ≢ child.old.node }
-    ensures pass { IsPass (sort_of N.layout N.ranged) BeginsTree TreeStep arena.now.table.shared.table_id arena.now.callers pass.new }
+    ensures pass { IsPassOf arena.now pass.new }
     ensures caller { pass.new.caller ≡ pass.old.caller }
     ensures shaped { GrowsWith pass.old.caller (Shape pass.old.caller (shapes.collapse node.old.node child.old.node (N.body node.old.body) (N.body child.old.body))) (seen_of pass.old) (seen_of pass.new) }
     ensures hand { hand_of pass.new ≡ hand_of pass.old }

@@ -42,8 +42,8 @@ pub fn get_at_root<N: Node, D: Discipline, R: Wait>(
     pass: &mut Pass<N, D>,
     place: u64,
 ) -> GetOutcome
-    requires pass { IsPass (sort_of N.layout N.ranged) D.begins D.step arena.now.table.shared.table_id arena.now.callers pass.old × (hand_of pass.old ≡ []) }
-    ensures pass { IsPass (sort_of N.layout N.ranged) D.begins D.step arena.now.table.shared.table_id arena.now.callers pass.new × (hand_of pass.new ≡ []) }
+    requires pass { IsEmptyPassOf arena.now pass.old }
+    ensures pass { IsEmptyPassOf arena.now pass.new }
     ensures caller { pass.new.caller ≡ pass.old.caller }
     ensures mine { mine_of pass.new ≡ get_events pass.old.caller place result ++ mine_of pass.old }
 {
@@ -71,7 +71,7 @@ pub fn look_up<N: Node, D: Discipline, R: Wait>(
     mut pass: Pass<N, D>,
     place: u64,
 ) -> (Pass<N, D>, GetOutcome)
-    requires { IsPass (sort_of N.layout N.ranged) D.begins D.step arena.now.table.shared.table_id arena.now.callers pass × (hand_of pass ≡ []) }
+    requires { IsEmptyPassOf arena.now pass }
     ensures pass { IsPass (sort_of N.layout N.ranged) D.begins D.step arena.now.table.shared.table_id arena.now.callers result.0 × (hand_of result.0 ≡ []) × (result.0.caller ≡ pass.caller) }
     ensures mine { mine_of result.0 ≡ get_events pass.caller place result.1 ++ mine_of pass }
 {

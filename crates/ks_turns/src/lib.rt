@@ -35,8 +35,8 @@ pub enum Claimed {
 
 /// Claims two nodes and gives them back in the order in which they were claimed.
 pub fn claim_two<N: Node, D: Discipline>(arena: &Arena<N, D>, pass: &mut Pass<N, D>) -> Claimed
-    requires { IsPass (sort_of N.layout N.ranged) D.begins D.step arena.now.table.shared.table_id arena.now.callers pass.old × (hand_of pass.old ≡ []) }
-    ensures pass { IsPass (sort_of N.layout N.ranged) D.begins D.step arena.now.table.shared.table_id arena.now.callers pass.new × (hand_of pass.new ≡ []) }
+    requires { IsEmptyPassOf arena.now pass.old }
+    ensures pass { IsEmptyPassOf arena.now pass.new }
     ensures caller { pass.new.caller ≡ pass.old.caller }
     ensures mine { mine_of pass.new ≡ claim_events pass.old.caller result ++ mine_of pass.old }
     ensures due { IsClaimDue arena.now.nodes (seen_of pass.old) (seen_of pass.new) result }
@@ -65,10 +65,10 @@ pub enum Met {
 
 /// Tries to take the node, and gives it back at once.
 pub fn meet<N: Node, D: Discipline>(arena: &Arena<N, D>, pass: &mut Pass<N, D>, node: u32) -> Met
-    requires pass { IsPass (sort_of N.layout N.ranged) D.begins D.step arena.now.table.shared.table_id arena.now.callers pass.old }
+    requires pass { IsPassOf arena.now pass.old }
     requires node { node < arena.now.nodes }
     requires fresh { ¬ Has (hand_of pass.old) node }
-    ensures pass { IsPass (sort_of N.layout N.ranged) D.begins D.step arena.now.table.shared.table_id arena.now.callers pass.new }
+    ensures pass { IsPassOf arena.now pass.new }
     ensures caller { pass.new.caller ≡ pass.old.caller }
     ensures hand { hand_of pass.new ≡ hand_of pass.old }
     ensures mine { mine_of pass.new ≡ met_events pass.old.caller node result ++ mine_of pass.old }
@@ -90,8 +90,8 @@ pub fn pass_through<N: Node, D: Discipline, R: Wait>(
     arena: &Arena<N, D>,
     pass: &mut Pass<N, D>,
 )
-    requires { IsPass (sort_of N.layout N.ranged) D.begins D.step arena.now.table.shared.table_id arena.now.callers pass.old × (hand_of pass.old ≡ []) }
-    ensures pass { IsPass (sort_of N.layout N.ranged) D.begins D.step arena.now.table.shared.table_id arena.now.callers pass.new × (hand_of pass.new ≡ []) }
+    requires { IsEmptyPassOf arena.now pass.old }
+    ensures pass { IsEmptyPassOf arena.now pass.new }
     ensures caller { pass.new.caller ≡ pass.old.caller }
     ensures mine { mine_of pass.new ≡ Give pass.old.caller 0 ∷ Take pass.old.caller 0 ∷ mine_of pass.old }
 {
@@ -108,7 +108,7 @@ pub fn visit<N: Node, D: Discipline, R: Wait>(
     arena: &Arena<N, D>,
     mut pass: Pass<N, D>,
 ) -> Pass<N, D>
-    requires { IsPass (sort_of N.layout N.ranged) D.begins D.step arena.now.table.shared.table_id arena.now.callers pass × (hand_of pass ≡ []) }
+    requires { IsEmptyPassOf arena.now pass }
     ensures pass { IsPass (sort_of N.layout N.ranged) D.begins D.step arena.now.table.shared.table_id arena.now.callers result × (hand_of result ≡ []) × (result.caller ≡ pass.caller) }
     ensures mine { mine_of result ≡ Give pass.caller 0 ∷ Take pass.caller 0 ∷ mine_of pass }
 {

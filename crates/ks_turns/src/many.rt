@@ -15,10 +15,10 @@ pub fn claim_of_many<N: Node, D: Discipline, L: Ledger>(
     pass: &mut Pass<N, D>,
     steps: &mut Steps<L>,
 ) -> Option<Held<N>>
-    requires pass { IsPass (sort_of N.layout N.ranged) D.begins D.step arena.now.table.shared.table_id arena.now.callers pass.old }
+    requires pass { IsPassOf arena.now pass.old }
     requires size { arena.now.nodes ≡ 200 }
     requires alone { (arena.now.callers ≡ 1) × (pass.old.caller ≡ 0) }
-    ensures pass { IsPass (sort_of N.layout N.ranged) D.begins D.step arena.now.table.shared.table_id arena.now.callers pass.new }
+    ensures pass { IsPassOf arena.now pass.new }
     ensures caller { pass.new.caller ≡ pass.old.caller }
     ensures claimed { DidClaim (sort_of N.layout N.ranged) N.body arena.now.nodes pass.old.caller (seen_of pass.old) (seen_of pass.new) result }
     ensures kept { Kept pass.old.caller (seen_of pass.old) (seen_of pass.new) }

@@ -48,8 +48,8 @@ pub fn put_at_root<N: Node, D: Discipline, R: Wait>(
     value: u128,
 ) -> PutOutcome
     requires unranged { N.ranged ≡ false }
-    requires pass { IsPass (sort_of N.layout N.ranged) D.begins D.step arena.now.table.shared.table_id arena.now.callers pass.old × (hand_of pass.old ≡ []) }
-    ensures pass { IsPass (sort_of N.layout N.ranged) D.begins D.step arena.now.table.shared.table_id arena.now.callers pass.new × (hand_of pass.new ≡ []) }
+    requires pass { IsEmptyPassOf arena.now pass.old }
+    ensures pass { IsEmptyPassOf arena.now pass.new }
     ensures caller { pass.new.caller ≡ pass.old.caller }
     ensures mine { mine_of pass.new ≡ put_events pass.old.caller place value result ++ mine_of pass.old }
     ensures calls { calls_by pass.old.caller (seen_of pass.new) ≡ calls_by pass.old.caller (seen_of pass.old) ++ put_calls place value result }
