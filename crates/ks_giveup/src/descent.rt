@@ -1,16 +1,13 @@
 //! The way from the root to the node where a search ends, which begins again where it was led astray.
-ghost use Rattle.std.specs.Prelude.{◌≡◌, ◌<◌, List, []};
-ghost use Rattle.ks_flow.specs.Discipline.{BeginsTree, TreeStep};
-ghost use Rattle.ks_history.specs.declared.Event.{Event as Happening};
-ghost use Rattle.ks_history.specs.declared.Op.{Op as Operation};
+ghost use Rattle.std.specs.Prelude.{◌≡◌, ◌<◌};
 ghost use Rattle.ks_history.specs.Done.{give_up};
-ghost use Rattle.ks_history.specs.Underway.{Underway};
 ghost use Rattle.ks_node.specs.declared.start.Next.TheVariants.{Go, Here};
 ghost use Rattle.ks_node.specs.Body.{next_at};
 ghost use Rattle.ks_arena.specs.Sound.{sort_of};
-ghost use Rattle.ks_arena.specs.Clauses.{IsPass, hand_of, seen_of};
-ghost use Rattle.ks_shape.specs.OnWay.{IsOnWay};
+ghost use Rattle.ks_arena.specs.Clauses.{seen_of};
 ghost use Rattle.ks_giveup.specs.Descent.{Came};
+ghost use Rattle.ks_arena.specs.Of.{IsPassOf, IsEmptyPassOf};
+ghost use Rattle.ks_shape.specs.Of.{IsUnderway, StaysUnderway, IsOnWayOf};
 
 use ks_arena::laws::sound_law;
 use ks_arena::{Arena, Held, Pass};
@@ -33,7 +30,7 @@ fn visit<N: Ranged + Unlinked, R: Wait, G: Gate>(
     ensures pass { IsPassOf arena.now pass.new }
     ensures caller { pass.new.caller ≡ pass.old.caller }
     ensures came { Came (sort_of N.layout N.ranged) N.body pass.old.caller place (seen_of pass.new) result }
-    ensures under { (op : Operation) (start : List Happening) → Underway give_up pass.old.caller op start (seen_of pass.old) → Underway give_up pass.old.caller op start (seen_of pass.new) }
+    ensures under { StaysUnderway give_up pass.old pass.new }
 {
     sound_law::<Tree>();
     let Some(held) = arena.take(rt, pass, node) else {
@@ -59,12 +56,12 @@ fn leave<N: Ranged + Unlinked, G: Gate>(
     child: u32,
 )
     requires pass { IsPassOf arena.now pass.old }
-    requires way { IsOnWay (sort_of N.layout N.ranged) N.body pass.old.caller place (seen_of pass.old) held }
+    requires way { IsOnWayOf arena.now pass.old.caller place pass.old held }
     requires goes { next_at (N.body held.body) place ≡ Go child }
     ensures pass { IsEmptyPassOf arena.now pass.new }
     ensures caller { pass.new.caller ≡ pass.old.caller }
     ensures near { child < arena.now.nodes }
-    ensures under { (op : Operation) (start : List Happening) → Underway give_up pass.old.caller op start (seen_of pass.old) → Underway give_up pass.old.caller op start (seen_of pass.new) }
+    ensures under { StaysUnderway give_up pass.old pass.new }
 {
     sound_law::<Tree>();
     node_law(&held.body);
@@ -84,9 +81,9 @@ pub(crate) fn find<N: Ranged + Unlinked, R: Wait, G: Gate>(
     requires pass { IsEmptyPassOf arena.now pass.old }
     ensures pass { IsPassOf arena.now pass.new }
     ensures caller { pass.new.caller ≡ pass.old.caller }
-    ensures way { IsOnWay (sort_of N.layout N.ranged) N.body pass.old.caller place (seen_of pass.new) result }
+    ensures way { IsOnWayOf arena.now pass.old.caller place pass.new result }
     ensures ends { next_at (N.body result.body) place ≡ Here }
-    ensures under { (op : Operation) → Underway give_up pass.old.caller op (seen_of pass.old) (seen_of pass.new) }
+    ensures under { IsUnderway give_up pass.old pass.new }
 {
     gate.at(pass.caller(), Point::Begin);
     let mut node = 0;

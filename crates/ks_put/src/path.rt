@@ -1,16 +1,13 @@
 //! A search that keeps the parent of its node.
-ghost use Rattle.std.specs.Prelude.{◌≡◌, ◌∷◌, [], true};
+ghost use Rattle.std.specs.Prelude.{◌≡◌, ◌∷◌};
 ghost use Rattle.std.specs.Option.{ForSome};
-ghost use Rattle.ks_flow.specs.Discipline.{BeginsTree, TreeStep};
-ghost use Rattle.ks_keysets.specs.Keyset.{InInset};
-ghost use Rattle.ks_history.specs.Trace.{graph_after};
 ghost use Rattle.ks_node.specs.declared.start.Next.TheVariants.{Go};
 ghost use Rattle.ks_node.specs.Body.{next_at};
-ghost use Rattle.ks_arena.specs.Sound.{sort_of};
-ghost use Rattle.ks_arena.specs.Clauses.{IsPass, Matches, hand_of, seen_of};
-ghost use Rattle.ks_shape.specs.OnWay.{IsOnWay};
-ghost use Rattle.ks_shape.specs.Stretches.{Stretches};
-ghost use Rattle.ks_put.specs.OnPath.{IsOnPath, numbers};
+ghost use Rattle.ks_arena.specs.Clauses.{hand_of};
+ghost use Rattle.ks_put.specs.OnPath.{numbers};
+ghost use Rattle.ks_arena.specs.Of.{IsInside, IsPassOf, IsEmptyPassOf, IsCurrent, IsLiveAndCurrent};
+ghost use Rattle.ks_shape.specs.Of.{IsStretch, IsOnWayOf};
+ghost use Rattle.ks_put.specs.Of.{IsOnPathOf};
 
 use crate::laws::search_law;
 use ks_arena::laws::{root_stays_law, target_law};
@@ -39,8 +36,8 @@ pub(crate) fn enter<N: Unlinked, R: Wait, G: Gate>(
     requires pass { IsEmptyPassOf arena.now pass.old }
     ensures pass { IsPassOf arena.now pass.new }
     ensures caller { pass.new.caller ≡ pass.old.caller }
-    ensures path { IsOnPath (sort_of N.layout N.ranged) N.body pass.old.caller place (seen_of pass.new) result }
-    ensures stretch { Stretches pass.old.caller (seen_of pass.old) (seen_of pass.new) }
+    ensures path { IsOnPathOf arena.now pass.old.caller place pass.new result }
+    ensures stretch { IsStretch pass.old pass.new }
 {
     root_stays_law::<Tree>();
     let Some(root) = arena.take(rt, pass, 0) else {
@@ -65,14 +62,14 @@ pub(crate) fn keep_alone<N: Unlinked, G: Gate>(
 ) -> Held<N>
     requires pass { IsPassOf arena.now pass.old }
     requires hands { hand_of pass.old ≡ node.node ∷ numbers other }
-    requires other { ForSome other (λ y. Matches (sort_of N.layout N.ranged) N.body (seen_of pass.old) y) }
-    requires node { (node.live ≡ true) × Matches (sort_of N.layout N.ranged) N.body (seen_of pass.old) node }
-    requires inside { InInset (graph_after (seen_of pass.old)) node.node place }
+    requires other { ForSome other (λ y. IsCurrent arena.now pass.old y) }
+    requires node { IsLiveAndCurrent arena.now pass.old node }
+    requires inside { IsInside pass.old node.node place }
     ensures pass { IsPassOf arena.now pass.new }
     ensures caller { pass.new.caller ≡ pass.old.caller }
     ensures node { result ≡ node }
-    ensures way { IsOnWay (sort_of N.layout N.ranged) N.body pass.old.caller place (seen_of pass.new) result }
-    ensures stretch { Stretches pass.old.caller (seen_of pass.old) (seen_of pass.new) }
+    ensures way { IsOnWayOf arena.now pass.old.caller place pass.new result }
+    ensures stretch { IsStretch pass.old pass.new }
 {
     search_law();
     if let Some(other) = other {
@@ -92,12 +89,12 @@ pub(crate) fn let_go<N: Unlinked, G: Gate>(
     path: Path<N>,
 ) -> Held<N>
     requires pass { IsPassOf arena.now pass.old }
-    requires path { IsOnPath (sort_of N.layout N.ranged) N.body pass.old.caller place (seen_of pass.old) path }
+    requires path { IsOnPathOf arena.now pass.old.caller place pass.old path }
     ensures pass { IsPassOf arena.now pass.new }
     ensures caller { pass.new.caller ≡ pass.old.caller }
     ensures node { result ≡ path.node }
-    ensures way { IsOnWay (sort_of N.layout N.ranged) N.body pass.old.caller place (seen_of pass.new) result }
-    ensures stretch { Stretches pass.old.caller (seen_of pass.old) (seen_of pass.new) }
+    ensures way { IsOnWayOf arena.now pass.old.caller place pass.new result }
+    ensures stretch { IsStretch pass.old pass.new }
 {
     let Path { parent, node } = path;
     keep_alone(arena, pass, gate, place, parent, node)
@@ -112,11 +109,11 @@ pub(crate) fn settle<N: Unlinked, G: Gate>(
     path: Path<N>,
 ) -> Path<N>
     requires pass { IsPassOf arena.now pass.old }
-    requires path { IsOnPath (sort_of N.layout N.ranged) N.body pass.old.caller place (seen_of pass.old) path }
+    requires path { IsOnPathOf arena.now pass.old.caller place pass.old path }
     ensures pass { IsPassOf arena.now pass.new }
     ensures caller { pass.new.caller ≡ pass.old.caller }
-    ensures path { IsOnPath (sort_of N.layout N.ranged) N.body pass.old.caller place (seen_of pass.new) result }
-    ensures stretch { Stretches pass.old.caller (seen_of pass.old) (seen_of pass.new) }
+    ensures path { IsOnPathOf arena.now pass.old.caller place pass.new result }
+    ensures stretch { IsStretch pass.old pass.new }
 {
     if path.node.body.is_full() {
         return path;
@@ -136,12 +133,12 @@ pub(crate) fn step_down<N: Unlinked, R: Wait, G: Gate>(
     child: u32,
 ) -> Path<N>
     requires pass { IsPassOf arena.now pass.old }
-    requires way { IsOnWay (sort_of N.layout N.ranged) N.body pass.old.caller place (seen_of pass.old) held }
+    requires way { IsOnWayOf arena.now pass.old.caller place pass.old held }
     requires goes { next_at (N.body held.body) place ≡ Go child }
     ensures pass { IsPassOf arena.now pass.new }
     ensures caller { pass.new.caller ≡ pass.old.caller }
-    ensures path { IsOnPath (sort_of N.layout N.ranged) N.body pass.old.caller place (seen_of pass.new) result }
-    ensures stretch { Stretches pass.old.caller (seen_of pass.old) (seen_of pass.new) }
+    ensures path { IsOnPathOf arena.now pass.old.caller place pass.new result }
+    ensures stretch { IsStretch pass.old pass.new }
 {
     search_law();
     target_law::<Tree>();
