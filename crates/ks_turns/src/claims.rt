@@ -1,7 +1,7 @@
 //! All nodes of an arena of several free words are claimed.
 ghost use Rattle.std.specs.Prelude.{◌≡◌, ◌<◌, ◌≤◌};
-ghost use Rattle.ks_arena.specs.Sound.{sort_of};
-ghost use Rattle.ks_arena.specs.Clauses.{IsPass, StillMatch, hand_of, seen_of};
+ghost use Rattle.ks_arena.specs.Clauses.{hand_of};
+ghost use Rattle.ks_arena.specs.Of.{IsPassOf, StayCurrent};
 
 use crate::claim_of_many;
 use ks_arena::{Arena, Pass, Steps};
@@ -27,7 +27,7 @@ fn claim_from<N: Node, D: Discipline, L: Ledger>(
     ensures pass { IsPassOf arena.now pass.new }
     ensures caller { pass.new.caller ≡ pass.old.caller }
     ensures hand { hand_of pass.new ≡ hand_of pass.old }
-    ensures still { StillMatch (sort_of N.layout N.ranged) N.body (hand_of pass.old) (seen_of pass.old) (seen_of pass.new) }
+    ensures still { StayCurrent arena.now pass.old pass.new }
 {
     let Some(held) = claim_of_many(arena, pass, steps) else {
         return next == 200;
