@@ -77,6 +77,7 @@ pub fn conclude<N: Node, D: Discipline, G: Gate>(
     requires some { reply ≢ full_reply }
     ensures pass { IsEmptyPassOf arena.now pass.new }
     ensures caller { pass.new.caller ≡ pass.old.caller }
+    ensures begins { seen_of pass.old ⊑ seen_of pass.new }
     ensures makes { MakesNoneLive pass.old pass.new }
     ensures done { FinishesAny arena.now op pass.old pass.new reply result }
     ensures at { FinishesAt arena.now held op pass.old pass.new reply result }

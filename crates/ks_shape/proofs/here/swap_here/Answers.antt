@@ -1,4 +1,4 @@
-use Rattle.std.proofs.Common.{◌≡◌, ◌∙◌, ℕ, arith, refl, sym, ap, subst}
+use Rattle.std.proofs.Common.{◌≡◌, ◌∙◌, ℕ, refl, sym, ap, subst}
 use Rattle.std.specs.Prelude.{None, Some}
 use Rattle.ks_history.specs.declared.Op.TheVariants.{Swap}
 use Rattle.ks_history.specs.Map.{told}
@@ -6,17 +6,14 @@ use Rattle.ks_node.specs.Body.{value_at}
 use Rattle.ks_arena.specs.declared.held.Held.{Held as Hand}
 use Rattle.ks_arena.specs.Sound.{sort_of}
 use Rattle.ks_arena.specs.Clauses.{IsReady, seen_of}
-use Rattle.ks_shape.specs.OnWay.{ends_unbranched}
-use Rattle.ks_put.proofs.Ends.{ends_own}
-use Rattle.ks_put.proofs.here.swap_here.Goals as goal
+use Rattle.ks_shape.specs.SearchEnd.{unbranched, below_own}
+use Rattle.ks_shape.proofs.here.swap_here.Goals as goal
 
 pub put-requires-clause-no_branch : goal.put-requires-clause-no_branch
-put-requires-clause-no_branch g c = let sort = sort_of g.N.Node.layout g.N.Node.ranged in let h = seen_of c.args.pass.now in
-    ends_unbranched sort g.N.Node.body c.args.pass.now.caller c.args.place h c.args.held c.requires.way ((c.search_law.ensures sort c.args.arena.now.table.shared.table_id.slots).facts h c.requires.pass.sound) (omega (arith, c.ranges.place)) c.node_law.ensures.sound c.requires.here
+put-requires-clause-no_branch g c = unbranched (sort_of g.N.Node.layout g.N.Node.ranged) g.N.Node.body c.args.pass.now.caller c.args.place (seen_of c.args.pass.now) c.args.held c.requires.ends c.node_law.ensures.sound
 
 pub put-requires-clause-below_own : goal.put-requires-clause-below_own
-put-requires-clause-below_own g c = let sort = sort_of g.N.Node.layout g.N.Node.ranged in let h = seen_of c.args.pass.now in
-    ends_own sort g.N.Node.body c.args.pass.now.caller c.args.place h c.args.held c.requires.way ((c.search_law.ensures sort c.args.arena.now.table.shared.table_id.slots).facts h c.requires.pass.sound) (omega (arith, c.ranges.place)) c.node_law.ensures.sound c.requires.here
+put-requires-clause-below_own g c = below_own (sort_of g.N.Node.layout g.N.Node.ranged) g.N.Node.body c.args.pass.now.caller c.args.place (seen_of c.args.pass.now) c.args.held c.requires.ends c.node_law.ensures.sound
 
 pub put-requires-clause-room : goal.put-requires-clause-room
 put-requires-clause-room g c = λ absent. absurd (let e : Some c.in-Some.found ≡ None = sym (sym c.get.ensures ∙ c.in-Some.is) ∙ absent in let q : ⊥ = cc in q)
@@ -31,4 +28,4 @@ conclude-number-requires-then-found-old-clause-ready g c κs within = let b = g.
 
 pub conclude-number-requires-2-clause-ready : goal.conclude-number-requires-2-clause-ready
 conclude-number-requires-2-clause-ready g c κs within = let x : Hand g.row.N.Denot = record { node = c.args.held.node; body = c.put.new.self; live = c.args.held.live } in
-    c.swap_law.ensures.swaps (sym c.get.ensures ∙ c.in-Some.is ∙ ap (λ (v : ℕ). Some v) c.if-found-old.false) x refl c.requires.way.live c.put.ensures.body
+    c.swap_law.ensures.swaps (sym c.get.ensures ∙ c.in-Some.is ∙ ap (λ (v : ℕ). Some v) c.if-found-old.false) x refl c.requires.ends.live c.put.ensures.body
