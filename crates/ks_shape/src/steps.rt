@@ -1,8 +1,8 @@
 //! Steps of a call under way, each with its gate: by whatever technique the call goes, it stays under way.
 ghost use Rattle.std.specs.Prelude.{◌≡◌};
-ghost use Rattle.ks_history.specs.declared.Event.TheVariants.{Give};
+ghost use Rattle.ks_history.specs.declared.Event.TheVariants.{Give, Take};
 ghost use Rattle.ks_arena.specs.Of.{Adds, IsPassOf, IsEmptyPassOf, IsCurrent};
-ghost use Rattle.ks_shape.specs.Of.{HoldsOnly, IsOnWayOf, MakesNoneLive, StaysUnderwayAny};
+ghost use Rattle.ks_shape.specs.Of.{HoldsOnly, IsOnWayOf, IsStretch, MakesNoneLive, StaysUnderwayAny};
 
 use ks_arena::laws::root_stays_law;
 use ks_arena::{Arena, Held, Pass, root_law};
@@ -22,9 +22,11 @@ pub fn take_root<N: Node, D: Discipline, R: Wait, G: Gate>(
     requires pass { IsEmptyPassOf arena.now pass.old }
     ensures pass { IsPassOf arena.now pass.new }
     ensures caller { pass.new.caller ≡ pass.old.caller }
+    ensures took { Adds (Take pass.old.caller 0) pass.old pass.new }
     ensures root { result.node ≡ 0 }
     ensures way { IsOnWayOf arena.now pass.old.caller place pass.new result }
     ensures under { StaysUnderwayAny pass.old pass.new }
+    ensures stretch { IsStretch pass.old pass.new }
     ensures makes { MakesNoneLive pass.old pass.new }
 {
     root_stays_law::<D>();
@@ -50,6 +52,7 @@ pub fn give_last<N: Node, D: Discipline, G: Gate>(
     ensures caller { pass.new.caller ≡ pass.old.caller }
     ensures gave { Adds (Give pass.old.caller held.node) pass.old pass.new }
     ensures under { StaysUnderwayAny pass.old pass.new }
+    ensures stretch { IsStretch pass.old pass.new }
     ensures makes { MakesNoneLive pass.old pass.new }
 {
     let node = held.node;

@@ -1,9 +1,10 @@
-use Rattle.std.proofs.Common.{◌≡◌, ℕ, [], sym, subst}
+use Rattle.std.proofs.Common.{◌≡◌, ◌≤◌, ℕ, List, [], ◌∷◌, length, sym, ap, subst, arith}
 use Rattle.ks_history.specs.declared.Event.TheVariants.{Give}
 use Rattle.ks_history.specs.Trace.{hand, drop_one}
 use Rattle.ks_arena.specs.Clauses.{seen_of}
 use Rattle.ks_shape.specs.Makes.{makes_with}
 use Rattle.ks_shape.specs.Single.{gave_last, gives}
+use Rattle.ks_shape.specs.Stretches.{stretches_give}
 use Rattle.ks_shape.proofs.steps.give_last.Given.{Over}
 use Rattle.ks_shape.proofs.steps.give_last.Goals as goal
 use Rattle.ks_shape.proofs.steps.give_last.Goals.{After-give}
@@ -21,3 +22,6 @@ returns-clause-under g c = λ template op start under. let at = (goal.at.returns
 
 pub returns-clause-makes : goal.returns-clause-makes
 returns-clause-makes g c = let me : ℕ = c.args.pass.now.caller in makes_with me (Give me c.args.held.node) (seen_of c.args.pass.now) (seen_of c.give.new.pass) tt c.give.ensures.gave
+
+pub returns-clause-stretch : goal.returns-clause-stretch
+returns-clause-stretch g c = stretches_give c.args.pass.now.caller c.args.held.node (seen_of c.args.pass.now) (seen_of c.give.new.pass) (omega (arith, ap length c.requires.alone)) c.give.ensures.gave

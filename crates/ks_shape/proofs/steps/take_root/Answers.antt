@@ -1,11 +1,11 @@
-use Rattle.std.proofs.Common.{◌≡◌, ℕ, List, [], ◌∷◌, sym, ap, ◌∙◌}
+use Rattle.std.proofs.Common.{◌≤◌, ℕ, List, [], ◌∷◌, length, sym, ap, ◌∙◌, arith}
 use Rattle.ks_history.specs.declared.Event.TheVariants.{Take}
 use Rattle.ks_history.specs.Done.{first_taken}
 use Rattle.ks_arena.specs.Sound.{sort_of}
 use Rattle.ks_arena.specs.Clauses.{seen_of}
 use Rattle.ks_shape.specs.Makes.{makes_with}
 use Rattle.ks_shape.specs.Single.{takes}
-use Rattle.ks_shape.specs.Stretches.{root_begins}
+use Rattle.ks_shape.specs.Stretches.{root_begins, stretches_root}
 use Rattle.ks_shape.proofs.steps.take_root.Goals as goal
 
 pub returns-clause-way : goal.returns-clause-way
@@ -21,3 +21,7 @@ returns-clause-under g c = λ template op start under. takes (sort_of g.N.Node.l
 
 pub returns-clause-makes : goal.returns-clause-makes
 returns-clause-makes g c = let me : ℕ = c.args.pass.now.caller in makes_with me (Take me 0) (seen_of c.args.pass.now) (seen_of c.take.new.pass) tt c.in-Some.ensures.took.grows
+
+pub returns-clause-stretch : goal.returns-clause-stretch
+returns-clause-stretch g c = let e = c.in-Some.ensures in let h = seen_of c.args.pass.now in
+    stretches_root c.args.pass.now.caller h (seen_of c.take.new.pass) c.requires.pass.1 (omega (arith, ap length (e.took.hand ∙ ap (λ (z : List ℕ). 0 ∷ z) c.requires.pass.1))) e.took.grows
