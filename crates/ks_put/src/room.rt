@@ -7,6 +7,7 @@ ghost use Rattle.ks_node.specs.Body.{next_at, value_at};
 ghost use Rattle.ks_node.specs.Room.{is_full};
 ghost use Rattle.ks_arena.specs.Clauses.{seen_of};
 ghost use Rattle.ks_arena.specs.Of.{IsPassOf, IsEmptyPassOf};
+ghost use Rattle.ks_shape.specs.SearchEnd.{TakesPlace};
 ghost use Rattle.ks_shape.specs.Of.{IsStretch, NoneWasFree};
 ghost use Rattle.ks_put.specs.Of.{IsOnPathOf, CameToRoom, CameToRoomSince};
 
@@ -115,7 +116,7 @@ fn come_to_room<N: Unlinked, G: Gate>(
     requires pass { IsPassOf arena.now pass.old }
     requires path { IsOnPathOf arena.now pass.old.caller place pass.old path }
     requires here { next_at (N.body path.node.body) place ≡ Here }
-    requires room { value_at (N.body path.node.body).pairs place ≡ None → is_full N.layout (N.body path.node.body) ≡ false }
+    requires room { TakesPlace N.layout (N.body path.node.body) place }
     ensures pass { IsPassOf arena.now pass.new }
     ensures caller { pass.new.caller ≡ pass.old.caller }
     ensures came { (n : ℕ) (start : List Happening) → CameToRoomSince arena.now place start pass.old pass.new n result }
@@ -141,7 +142,8 @@ fn come_to_full<N: Unlinked, G: Gate>(
     requires full { IsTrue (is_full N.layout (N.body path.node.body)) }
     ensures pass { IsPassOf arena.now pass.new }
     ensures caller { pass.new.caller ≡ pass.old.caller }
-    ensures came { (n : ℕ) (start : List Happening) → NoneFree N.layout n pass.old.caller place start (seen_of pass.old) → CameToRoomSince arena.now place start pass.old pass.new n result }
+    ensures came { (n : ℕ) (start : List Happening) → NoneFree N.layout n pass.old.caller place start (seen_of pass.old) →
+        CameToRoomSince arena.now place start pass.old pass.new n result }
     ensures stretch { IsStretch pass.old pass.new }
 {
     let held = let_go(arena, pass, gate, place, path);

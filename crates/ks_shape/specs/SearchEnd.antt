@@ -2,6 +2,7 @@
 use Rattle.std.proofs.Common.{◌≡◌, ◌⊎◌, ℕ, ◌≤◌, true, false, List, [], ◌∷◌}
 use Rattle.std.specs.Prelude.{None, IsTrue}
 use Rattle.ks_keysets.specs.Keyset.{InInset}
+use Rattle.ks_keysets.specs.Layout.{Layout}
 use Rattle.ks_history.specs.declared.Event.{Event}
 use Rattle.ks_history.specs.declared.Op.{Op}
 use Rattle.ks_history.specs.declared.Op.TheVariants.{Add, Put}
@@ -19,6 +20,13 @@ use Rattle.ks_arena.specs.Writes.{ends_at_no_branch, ends_below_own}
 -- the operation puts or adds the value at the place
 abbrev pub Fills : ℕ → ℕ → Op → Type 0
 Fills place value op = (op ≡ Put place value) ⊎ (op ≡ Add place value)
+
+-- a node of this body has the place, or room for it; or it has neither
+abbrev pub TakesPlace : Layout → Body → ℕ → Type 0
+TakesPlace layout b place = value_at b.pairs place ≡ None → is_full layout b ≡ false
+
+abbrev pub LacksPlace : Layout → Body → ℕ → Type 0
+LacksPlace layout b place = (value_at b.pairs place ≡ None) × IsTrue (is_full layout b)
 
 module _ {N : Type 0} (sort : Sort) (shows : N → Body) where
   -- after h, c holds this live node alone; the place is in its inset, and in its range, if it has one; and no edge of it leads
@@ -42,7 +50,7 @@ module _ {N : Type 0} (sort : Sort) (shows : N → Body) where
   -- it has the place, or room for it
   pub record HasRoom (c place : ℕ) (h : List Event) (x : Hand N) : Type 0 where
     pub ends : IsEnd c place h x
-    pub room : value_at (shows x.body).pairs place ≡ None → is_full sort.layout (shows x.body) ≡ false
+    pub room : TakesPlace sort.layout (shows x.body) place
 
   -- or it is full, and has not the place
   pub record IsCrowded (c place : ℕ) (h : List Event) (x : Hand N) : Type 0 where

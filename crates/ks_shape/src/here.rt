@@ -1,14 +1,13 @@
 //! Where a search for a place ends, a call is decided: each operation once, for all techniques.
-ghost use Rattle.std.specs.Prelude.{◌≡◌, IsTrue, None, false, true};
+ghost use Rattle.std.specs.Prelude.{◌≡◌, false, true};
 ghost use Rattle.ks_history.specs.declared.Op.TheVariants.{Add, Del, Get, Put, Swap};
 ghost use Rattle.ks_history.specs.Map.{told};
 ghost use Rattle.ks_history.specs.Trace.{◌⊑◌};
 ghost use Rattle.ks_node.specs.declared.start.Next.TheVariants.{Here};
-ghost use Rattle.ks_node.specs.Body.{next_at, value_at};
-ghost use Rattle.ks_node.specs.Room.{is_full};
+ghost use Rattle.ks_node.specs.Body.{next_at};
 ghost use Rattle.ks_arena.specs.Clauses.{seen_of};
 ghost use Rattle.ks_arena.specs.Of.{IsPassOf, IsEmptyPassOf, WasRefusedAt};
-ghost use Rattle.ks_shape.specs.SearchEnd.{Fills};
+ghost use Rattle.ks_shape.specs.SearchEnd.{Fills, LacksPlace, TakesPlace};
 ghost use Rattle.ks_shape.specs.Of.{IsOnWayOf, MakesNoneLive, FinishesAny, FinishesCrowded, SearchEndsAt, HasRoomAt, IsCrowdedAt};
 
 use crate::answers::{Full, Numbered};
@@ -38,8 +37,8 @@ pub fn tree_end_law<N: Node>(
 
 /// Whether a node has a place, or room for it.
 pub fn has_room<N: Node>(held: &Held<N>, place: u64) -> bool
-    ensures room { result ≡ true → value_at (N.body held.now.body).pairs place ≡ None → is_full N.layout (N.body held.now.body) ≡ false }
-    ensures none { result ≡ false → (value_at (N.body held.now.body).pairs place ≡ None) × IsTrue (is_full N.layout (N.body held.now.body)) }
+    ensures room { result ≡ true → TakesPlace N.layout (N.body held.now.body) place }
+    ensures none { result ≡ false → LacksPlace N.layout (N.body held.now.body) place }
 {
     held.body.get(place).is_some() || !held.body.is_full()
 }
