@@ -17,7 +17,8 @@ use ks_put::{pair_add, pair_put};
 use ks_shape::{Full, Numbered, add_here, del_here, get_here, put_here, swap_here};
 use std::sync::Wait;
 
-/// Answers the value at a place, and the number of the call. It holds one node at a time.
+/// Answers the value at a place, and the number of the call. It holds one node at a time: the root, or the one at which the
+/// node given just before hinted.
 pub fn get<N: Ranged + Unlinked, R: Wait, G: Gate>(
     rt: &R,
     arena: &Arena<N, Tree>,
@@ -35,8 +36,8 @@ pub fn get<N: Ranged + Unlinked, R: Wait, G: Gate>(
     get_here(arena, pass, gate, place, held)
 }
 
-/// Puts a value at a place; answers the value that stood there, and the number of the call. Where the node has no room it is
-/// given, and the put goes by lock coupling from the root.
+/// Puts a value at a place; answers the value that stood there, and the number of the call. It goes as `get`; where the node
+/// has no room it goes on by lock coupling, from the root to nodes that one in hand leads to.
 ///
 /// # Errors
 ///
@@ -87,8 +88,8 @@ pub fn add<N: Ranged + Unlinked, R: Wait, G: Gate>(
     }
 }
 
-/// Puts `new` at a place where `old` stands; answers the value that stood there, and the number of the call. It holds one
-/// node at a time.
+/// Puts `new` at a place where `old` stands; answers the value that stood there, and the number of the call. It goes as
+/// `get`.
 pub fn swap<N: Ranged + Unlinked, R: Wait, G: Gate>(
     rt: &R,
     arena: &Arena<N, Tree>,
