@@ -8,14 +8,12 @@ ghost use Rattle.ks_arena.specs.Of.{IsEmptyPassOf};
 ghost use Rattle.ks_shape.specs.Of.{DoneOf};
 
 use crate::descent::find;
-use ks_arena::laws::sound_law;
 use ks_arena::{Arena, Pass};
 use ks_flow::Tree;
 use ks_gate::{Gate, Point};
-use ks_history::Op;
-use ks_node::{Unlinked, node_law};
-use ks_put::{pair_add, pair_put, swap_here};
-use ks_shape::{Full, Numbered, conclude, reply_of};
+use ks_node::Unlinked;
+use ks_put::{pair_add, pair_put};
+use ks_shape::{Full, Numbered, del_here, get_here, swap_here};
 use std::sync::Wait;
 
 /// Answers the value at a place, and the number of the call. It holds two nodes at most.
@@ -32,11 +30,7 @@ pub fn get<N: Unlinked, R: Wait, G: Gate>(
     ensures done { DoneOf arena.now coupling (Get place) pass.old pass.new (told result.found) result.number }
 {
     let held = find(rt, arena, pass, gate, place);
-    let found = held.body.get(place);
-    let reply = reply_of(found);
-    arena.get_law(pass, &held, place, &reply);
-    let number = conclude(arena, pass, gate, held, Op::Get(place), reply);
-    Numbered { number, found }
+    get_here(arena, pass, gate, place, held)
 }
 
 /// Puts a value at a place; answers the value that stood there, and the number of the call. It splits full nodes on its way
@@ -118,11 +112,6 @@ pub fn del<N: Unlinked, R: Wait, G: Gate>(
     ensures caller { pass.new.caller ≡ pass.old.caller }
     ensures done { DoneOf arena.now coupling (Del place) pass.old pass.new (told result.found) result.number }
 {
-    let mut held = find(rt, arena, pass, gate, place);
-    sound_law::<Tree>();
-    node_law(&held.body);
-    arena.del_law(pass, &held, place);
-    let found = held.body.del(place);
-    let number = conclude(arena, pass, gate, held, Op::Del(place), reply_of(found));
-    Numbered { number, found }
+    let held = find(rt, arena, pass, gate, place);
+    del_here(arena, pass, gate, place, held)
 }

@@ -6,19 +6,19 @@ ghost use Rattle.ks_history.specs.Done.{give_up};
 ghost use Rattle.ks_shape.specs.Answers.{number_in, reply_in};
 ghost use Rattle.ks_arena.specs.Of.{IsEmptyPassOf};
 ghost use Rattle.ks_shape.specs.Of.{DoneOf};
+ghost use Rattle.ks_giveup.specs.Goes.{GoesTowards};
 
-use crate::descent::find;
-use ks_arena::laws::sound_law;
+use crate::descent::{find, find_room};
 use ks_arena::{Arena, Pass};
 use ks_flow::Tree;
-use ks_gate::{Gate, Point};
-use ks_history::Op;
-use ks_node::{Ranged, Unlinked, node_law};
-use ks_put::{add_here, has_room, pair_add, pair_put, put_here, swap_here};
-use ks_shape::{Full, Numbered, conclude, reply_of};
+use ks_gate::Gate;
+use ks_node::{Ranged, Unlinked};
+use ks_put::{pair_add, pair_put};
+use ks_shape::{Full, Numbered, add_here, del_here, get_here, put_here, swap_here};
 use std::sync::Wait;
 
-/// Answers the value at a place, and the number of the call. It holds one node at a time.
+/// Answers the value at a place, and the number of the call. It holds one node at a time: the root, or the one at which the
+/// node given just before hinted.
 pub fn get<N: Ranged + Unlinked, R: Wait, G: Gate>(
     rt: &R,
     arena: &Arena<N, Tree>,
@@ -30,17 +30,14 @@ pub fn get<N: Ranged + Unlinked, R: Wait, G: Gate>(
     ensures pass { IsEmptyPassOf arena.now pass.new }
     ensures caller { pass.new.caller ≡ pass.old.caller }
     ensures done { DoneOf arena.now give_up (Get place) pass.old pass.new (told result.found) result.number }
+    ensures goes { GoesTowards place pass.old pass.new }
 {
     let held = find(rt, arena, pass, gate, place);
-    let found = held.body.get(place);
-    let reply = reply_of(found);
-    arena.get_law(pass, &held, place, &reply);
-    let number = conclude(arena, pass, gate, held, Op::Get(place), reply);
-    Numbered { number, found }
+    get_here(arena, pass, gate, place, held)
 }
 
-/// Puts a value at a place; answers the value that stood there, and the number of the call. Where the node has no room it is
-/// given, and the put goes by lock coupling from the root.
+/// Puts a value at a place; answers the value that stood there, and the number of the call. It goes as `get`; where the node
+/// has no room it goes on by lock coupling, from the root to nodes that one in hand leads to.
 ///
 /// # Errors
 ///
@@ -57,15 +54,12 @@ pub fn put<N: Ranged + Unlinked, R: Wait, G: Gate>(
     ensures pass { IsEmptyPassOf arena.now pass.new }
     ensures caller { pass.new.caller ≡ pass.old.caller }
     ensures done { DoneOf arena.now give_up (Put place value) pass.old pass.new (reply_in result) (number_in result) }
+    ensures goes { GoesTowards place pass.old pass.new }
 {
-    let held = find(rt, arena, pass, gate, place);
-    if has_room(&held, place) {
-        return Ok(put_here(arena, pass, gate, place, value, held));
+    match find_room(rt, arena, pass, gate, place) {
+        Some(held) => Ok(put_here(arena, pass, gate, place, value, held)),
+        None => pair_put(rt, arena, pass, gate, place, value),
     }
-    let node = held.node;
-    arena.give(pass, held);
-    gate.at(pass.caller(), Point::Given(node));
-    pair_put(rt, arena, pass, gate, place, value)
 }
 
 /// Puts a value at a place where none stands; answers the value that stood there, and the number of the call. It goes as
@@ -86,19 +80,16 @@ pub fn add<N: Ranged + Unlinked, R: Wait, G: Gate>(
     ensures pass { IsEmptyPassOf arena.now pass.new }
     ensures caller { pass.new.caller ≡ pass.old.caller }
     ensures done { DoneOf arena.now give_up (Add place value) pass.old pass.new (reply_in result) (number_in result) }
+    ensures goes { GoesTowards place pass.old pass.new }
 {
-    let held = find(rt, arena, pass, gate, place);
-    if has_room(&held, place) {
-        return Ok(add_here(arena, pass, gate, place, value, held));
+    match find_room(rt, arena, pass, gate, place) {
+        Some(held) => Ok(add_here(arena, pass, gate, place, value, held)),
+        None => pair_add(rt, arena, pass, gate, place, value),
     }
-    let node = held.node;
-    arena.give(pass, held);
-    gate.at(pass.caller(), Point::Given(node));
-    pair_add(rt, arena, pass, gate, place, value)
 }
 
-/// Puts `new` at a place where `old` stands; answers the value that stood there, and the number of the call. It holds one
-/// node at a time.
+/// Puts `new` at a place where `old` stands; answers the value that stood there, and the number of the call. It goes as
+/// `get`.
 pub fn swap<N: Ranged + Unlinked, R: Wait, G: Gate>(
     rt: &R,
     arena: &Arena<N, Tree>,
@@ -112,6 +103,7 @@ pub fn swap<N: Ranged + Unlinked, R: Wait, G: Gate>(
     ensures pass { IsEmptyPassOf arena.now pass.new }
     ensures caller { pass.new.caller ≡ pass.old.caller }
     ensures done { DoneOf arena.now give_up (Swap place old new) pass.old pass.new (told result.found) result.number }
+    ensures goes { GoesTowards place pass.old pass.new }
 {
     let held = find(rt, arena, pass, gate, place);
     swap_here(arena, pass, gate, place, old, new, held)
@@ -129,12 +121,8 @@ pub fn del<N: Ranged + Unlinked, R: Wait, G: Gate>(
     ensures pass { IsEmptyPassOf arena.now pass.new }
     ensures caller { pass.new.caller ≡ pass.old.caller }
     ensures done { DoneOf arena.now give_up (Del place) pass.old pass.new (told result.found) result.number }
+    ensures goes { GoesTowards place pass.old pass.new }
 {
-    let mut held = find(rt, arena, pass, gate, place);
-    sound_law::<Tree>();
-    node_law(&held.body);
-    arena.del_law(pass, &held, place);
-    let found = held.body.del(place);
-    let number = conclude(arena, pass, gate, held, Op::Del(place), reply_of(found));
-    Numbered { number, found }
+    let held = find(rt, arena, pass, gate, place);
+    del_here(arena, pass, gate, place, held)
 }

@@ -4,12 +4,11 @@
 mod cuts;
 mod fills;
 mod halves;
-mod here;
 mod laws;
 mod path;
 mod room;
 mod splits;
 
 pub use fills::{pair_add, pair_put};
-pub use here::{add_here, put_here, swap_here};
-pub use room::{Room, has_room, make_room};
+pub use path::{Path, let_go, step_down};
+pub use room::{Room, make_room};

@@ -1,26 +1,28 @@
 //! A search that keeps the parent of its node.
 ghost use Rattle.std.specs.Prelude.{◌≡◌, ◌∷◌};
 ghost use Rattle.std.specs.Option.{ForSome};
+ghost use Rattle.ks_history.specs.Done.{coupling};
 ghost use Rattle.ks_node.specs.declared.start.Next.TheVariants.{Go};
 ghost use Rattle.ks_node.specs.Body.{next_at};
 ghost use Rattle.ks_arena.specs.Clauses.{hand_of};
 ghost use Rattle.ks_put.specs.OnPath.{numbers};
 ghost use Rattle.ks_arena.specs.Of.{IsInside, IsPassOf, IsEmptyPassOf, IsCurrent, IsLiveAndCurrent};
-ghost use Rattle.ks_shape.specs.Of.{IsStretch, IsOnWayOf};
+ghost use Rattle.ks_shape.specs.Of.{IsStretch, IsOnWayOf, StaysUnderway};
 ghost use Rattle.ks_put.specs.Of.{IsOnPathOf};
 
 use crate::laws::search_law;
-use ks_arena::laws::{root_stays_law, target_law};
-use ks_arena::{Arena, Held, Pass, root_law};
+use ks_arena::laws::target_law;
+use ks_arena::{Arena, Held, Pass};
 use ks_flow::Tree;
 use ks_flow::laws::tree_facts_law;
 use ks_gate::{Gate, Point};
 use ks_node::{Unlinked, node_law};
+use ks_shape::take_root;
 use std::sync::Wait;
 
 /// The node at which a search stands, and the one that leads to it. The root has none, and a node that is not full needs
 /// none.
-pub(crate) struct Path<N> {
+pub struct Path<N> {
     pub parent: Option<Held<N>>,
     pub node: Held<N>,
 }
@@ -39,16 +41,8 @@ pub(crate) fn enter<N: Unlinked, R: Wait, G: Gate>(
     ensures path { IsOnPathOf arena.now pass.old.caller place pass.new result }
     ensures stretch { IsStretch pass.old pass.new }
 {
-    root_stays_law::<Tree>();
-    let Some(root) = arena.take(rt, pass, 0) else {
-        unreachable!()
-    };
-    root_law(&root, place);
-    gate.at(pass.caller(), Point::Taken(0));
-    Path {
-        parent: None,
-        node: root,
-    }
+    let node = take_root(rt, arena, pass, gate, place);
+    Path { parent: None, node }
 }
 
 /// Gives the other node in hand, if there is one, and keeps the node.
@@ -69,6 +63,7 @@ pub(crate) fn keep_alone<N: Unlinked, G: Gate>(
     ensures caller { pass.new.caller ≡ pass.old.caller }
     ensures node { result ≡ node }
     ensures way { IsOnWayOf arena.now pass.old.caller place pass.new result }
+    ensures under { StaysUnderway coupling pass.old pass.new }
     ensures stretch { IsStretch pass.old pass.new }
 {
     search_law();
@@ -81,7 +76,7 @@ pub(crate) fn keep_alone<N: Unlinked, G: Gate>(
 }
 
 /// Gives the parent, and keeps the node.
-pub(crate) fn let_go<N: Unlinked, G: Gate>(
+pub fn let_go<N: Unlinked, G: Gate>(
     arena: &Arena<N, Tree>,
     pass: &mut Pass<N, Tree>,
     gate: &G,
@@ -94,6 +89,7 @@ pub(crate) fn let_go<N: Unlinked, G: Gate>(
     ensures caller { pass.new.caller ≡ pass.old.caller }
     ensures node { result ≡ path.node }
     ensures way { IsOnWayOf arena.now pass.old.caller place pass.new result }
+    ensures under { StaysUnderway coupling pass.old pass.new }
     ensures stretch { IsStretch pass.old pass.new }
 {
     let Path { parent, node } = path;
@@ -123,7 +119,7 @@ pub(crate) fn settle<N: Unlinked, G: Gate>(
 }
 
 /// Takes the child to which the search goes on; the node becomes its parent.
-pub(crate) fn step_down<N: Unlinked, R: Wait, G: Gate>(
+pub fn step_down<N: Unlinked, R: Wait, G: Gate>(
     rt: &R,
     arena: &Arena<N, Tree>,
     pass: &mut Pass<N, Tree>,
@@ -138,6 +134,7 @@ pub(crate) fn step_down<N: Unlinked, R: Wait, G: Gate>(
     ensures pass { IsPassOf arena.now pass.new }
     ensures caller { pass.new.caller ≡ pass.old.caller }
     ensures path { IsOnPathOf arena.now pass.old.caller place pass.new result }
+    ensures under { StaysUnderway coupling pass.old pass.new }
     ensures stretch { IsStretch pass.old pass.new }
 {
     search_law();

@@ -1,17 +1,9 @@
-use Rattle.std.proofs.Common.{arith, refl, sym, ◌∙◌, ap, subst}
+use Rattle.std.proofs.Common.{◌≤◌, ℕ, length, ap, arith}
 use Rattle.ks_history.specs.declared.Op.TheVariants.{Del}
-use Rattle.ks_history.specs.Map.{told}
-use Rattle.ks_arena.specs.declared.held.Held.{Held as Hand}
-use Rattle.ks_arena.specs.Sound.{sort_of}
-use Rattle.ks_arena.specs.Clauses.{IsReady, seen_of}
-use Rattle.ks_shape.specs.OnWay.{ends_unbranched}
+use Rattle.ks_arena.specs.Clauses.{seen_of}
+use Rattle.ks_giveup.proofs.Way.{ends_goes}
 use Rattle.ks_giveup.proofs.calls.del.Goals as goal
 
-pub del-found-requires : goal.del-found-requires
-del-found-requires g c = let sort = sort_of g.N.Node.layout g.N.Node.ranged in let h = seen_of c.find-held.new.pass in let e = c.find-held.ensures in
-    ends_unbranched sort g.N.Node.body c.args.pass.now.caller c.args.place h c.find-held.result e.way (c.sound_law.ensures.facts sort c.args.arena.now.table.shared.table_id.slots h e.pass.sound) (omega (arith, c.ranges.place)) c.node_law.ensures.sound e.ends
-
-pub conclude-number-requires-clause-ready : goal.conclude-number-requires-clause-ready
-conclude-number-requires-clause-ready g c κs within = let x : Hand g.row.N.Denot = record { node = c.find-held.result.node; body = c.del-found.new.self; live = c.find-held.result.live } in
-    subst (IsReady (sort_of g.N.Node.layout g.N.Node.ranged) g.N.Node.body c.args.arena.now.nodes c.find-held.new.pass.caller (seen_of c.find-held.new.pass) x (Del c.args.place)) (ap told (sym c.del-found.ensures.answer) ∙ sym c.reply_of.ensures.told)
-    (c.del_law.ensures x refl c.find-held.ensures.way.live c.del-found.ensures.body)
+pub returns-clause-goes : goal.returns-clause-goes
+returns-clause-goes g c = let e = c.find-held.ensures in
+    ends_goes c.args.pass.now.caller c.find-held.new.pass.caller c.args.place (Del c.args.place) (seen_of c.args.pass.now) (seen_of c.find-held.new.pass) (seen_of c.del_here.new.pass) e.caller (omega (arith, ap length e.ends.alone)) e.goes c.del_here.ensures.done
