@@ -1,8 +1,8 @@
-// Refuses one request for memory, or none and counts them: preloaded by tools/memory.
+// Refuses one request for memory, or all from one on, or none and counts them: preloaded by tools/memory.
 //
-// REFUSE is the number of the request, counted from 1. Requests of the program count, those of the C library and of the
-// loader for themselves do not: the address to which the request returns tells them apart. At the end the number of
-// requests is written to the file that COUNTED names.
+// REFUSE is the number of the request, counted from 1, with '+' behind it where all that follow are refused too. Requests of the program count, those of the C library and of the
+// loader for themselves do not: the address to which the request returns tells them apart. How many there were so far stands
+// in the file that COUNTED names, in 8 bytes, the lowest first.
 
 typedef unsigned long size_t;
 struct Where {
@@ -20,44 +20,37 @@ extern char *getenv(const char *);
 extern unsigned long getauxval(unsigned long);
 extern int dladdr(const void *, struct Where *);
 extern int open(const char *, int, ...);
-extern long write(int, const void *, size_t);
-extern int close(int);
+extern long pwrite(int, const void *, size_t, long);
 
 static long requests;
 static long refused;
+static int and_all_after;
+static int counted = -1;
 static void *program;
 
 __attribute__((constructor)) static void begin(void) {
     struct Where where;
     const char *word = getenv("REFUSE");
+    const char *file = getenv("COUNTED");
+    while (word && *word >= '0' && *word <= '9')
+        refused = refused * 10 + (*word++ - '0');
+    and_all_after = word && *word == '+';
+    // 577 is to write, to create and to empty it
+    if (file)
+        counted = open(file, 577, 0600);
     // 9 asks for the address at which the program is entered
     if (dladdr((void *)getauxval(9), &where))
         program = where.base;
-    while (word && *word >= '0' && *word <= '9')
-        refused = refused * 10 + (*word++ - '0');
-}
-
-__attribute__((destructor)) static void end(void) {
-    const char *file = getenv("COUNTED");
-    char digits[24];
-    int at = 24;
-    long count = requests;
-    // 577 is to write, to create and to empty it
-    int to = file ? open(file, 577, 0600) : -1;
-    if (to < 0)
-        return;
-    do
-        digits[--at] = '0' + count % 10;
-    while (count /= 10);
-    write(to, digits + at, 24 - at);
-    close(to);
 }
 
 static int refuses(void *from) {
     struct Where where;
     if (!program || !dladdr(from, &where) || where.base != program)
         return 0;
-    return __atomic_add_fetch(&requests, 1, __ATOMIC_SEQ_CST) == refused;
+    long number = __atomic_add_fetch(&requests, 1, __ATOMIC_SEQ_CST);
+    if (pwrite(counted, &number, sizeof number, 0) < 0)
+        return 0;
+    return number == refused || (and_all_after && number > refused);
 }
 
 void *malloc(size_t size) {

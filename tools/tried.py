@@ -26,6 +26,11 @@ class Tries:
         sys.exit(1 if self.failed or not self.count else 0)
 
 
+def has_full():
+    """Whether the system has the device that is always full."""
+    return os.access("/dev/full", os.W_OK)
+
+
 def program():
     """The built program: the one that is named, else the one that the gate built, else the one that ./ks builds."""
     if len(sys.argv) > 1:
