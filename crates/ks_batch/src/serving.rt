@@ -1,7 +1,6 @@
 //! What the program does: it serves a script, or judges a printed run, from bytes to bytes.
 
-ghost use Rattle.std.specs.Prelude.{ℕ, ◌≡◌, ◌≢◌, ◌≤◌, ◌⊎◌, ◌↔◌, ◌++◌, map, Some, List, [], IfOk, OnOk, OnErr, IfErr, IfSome, IsSome, IsNone, codes};
-ghost use Rattle.std.specs.Fmt.{decimal};
+ghost use Rattle.std.specs.Prelude.{ℕ, ◌≡◌, ◌≢◌, ◌≤◌, ◌⊎◌, ◌↔◌, map, Some, List, [], IfOk, OnOk, OnErr, IfErr, IfSome, IsSome, IsNone};
 ghost use Rattle.ks_history.specs.Due.{FullsDue};
 ghost use Rattle.ks_history.specs.Lawful.{Lawful, GoodThroughout};
 ghost use Rattle.ks_history.specs.declared.Op.{Op};
@@ -22,13 +21,12 @@ use crate::input::{Stop, load, load_checked};
 use crate::message::tell;
 use crate::pairings::{Pairing, serve_by};
 use crate::words::{Asked, Draft, command};
-use itoa::Buffer;
 use ks_arena::RunTrace;
 use ks_dictionary::Told;
 use ks_gate::Gate;
 use ks_judge::{Judged, judge};
 use ks_made::{Size, made_script, summary};
-use ks_script::{Failed, Printed, Sink, Source, send, write_run};
+use ks_script::{Failed, Printed, Sink, Source, send, send_line, write_run};
 use std::alloc::{AllocError, Global};
 use std::sync::Wait;
 use std::thread::Threads;
@@ -166,25 +164,15 @@ fn judged<S: Source>(alloc: Global, source: &mut S) -> Result<Judged, Stop>
     }
 }
 
-/// Says a word, a number and the end of the line.
-fn say<K: Sink>(out: &mut K, word: &[u8], number: u64) -> Result<(), Failed>
-    ensures ok { OnOk result (Grew (K.taken out.old) (K.taken out.new) (word.now ++ (decimal number ++ codes "\n"))) }
-    ensures front { OnErr result (GrewByFront (K.taken out.old) (K.taken out.new) (word.now ++ (decimal number ++ codes "\n"))) }
-    ensures cause { OnErr result (Rose (K.faults out.old) (K.faults out.new)) }
-{
-    send(out, word)?;
-    send(out, Buffer::new().format(number).as_bytes())?;
-    send(out, b"\n")
-}
-
+/// Writes the line that tells the judgment, in one piece.
 fn say_judged<K: Sink>(out: &mut K, judged: Judged) -> Result<(), Failed>
     ensures ok { OnOk result (Grew (K.taken out.old) (K.taken out.new) (judged_line judged)) }
     ensures front { OnErr result (GrewByFront (K.taken out.old) (K.taken out.new) (judged_line judged)) }
     ensures cause { OnErr result (Rose (K.faults out.old) (K.faults out.new)) }
 {
     match judged {
-        Judged::Legal { calls } => say(out, b"legal ", calls),
-        Judged::Wrong { number } => say(out, b"wrong ", number),
+        Judged::Legal { calls } => send_line(out, b"legal ", calls, b"\n"),
+        Judged::Wrong { number } => send_line(out, b"wrong ", number, b"\n"),
     }
 }
 
