@@ -23,9 +23,9 @@ spelled Check = codes "check" ∷ []
 
 -- its numbers are within their limits
 abbrev pub InLimits : Asked → Type 0
-InLimits (Run pairing arena) = (4 ≤ arena) × (arena ≤ 65536)
+InLimits (Run pairing arena) = (4 ≤ arena) × (arena ≤ 1048576)
 InLimits (Make pairing arena draft) =
-    (4 ≤ arena) × (arena ≤ 65536)
+    (4 ≤ arena) × (arena ≤ 1048576)
     × (1 ≤ draft.callers) × (draft.callers ≤ 64) × (draft.calls ≤ 16384) × (draft.first ≤ 18446744073709551615)
 InLimits Check = Unit {0}
 

@@ -88,7 +88,7 @@ fn prepare<R: Threads + Wait + Sync, S: Source, G: Gate + Sync>(
     source: &mut S,
     gate: &G,
 ) -> Result<Ready, Stop>
-    requires { (4 ≤ arena) × (arena ≤ 65536) }
+    requires { (4 ≤ arena) × (arena ≤ 1048576) }
     ensures lawful { IfOk result (λ ready. Lawful ready.trace) }
     ensures good { IfOk result (λ ready. GoodThroughout ready.trace) }
     ensures due { IfOk result (λ ready. FullsDue (row_of pairing).layout arena ready.trace) }
@@ -113,7 +113,7 @@ fn serve_script<R: Threads + Wait + Sync, S: Source, K: Sink, G: Gate + Sync>(
     out: &mut K,
     gate: &G,
 ) -> Outcome
-    requires { (4 ≤ arena) × (arena ≤ 65536) }
+    requires { (4 ≤ arena) × (arena ≤ 1048576) }
     ensures lawful { IfSome result.run Lawful }
     ensures good { IfSome result.run GoodThroughout }
     ensures due { IfSome result.run (FullsDue (row_of pairing).layout arena) }
@@ -218,7 +218,7 @@ fn make<R: Threads + Wait + Sync, G: Gate + Sync>(
     draft: Draft,
     gate: &G,
 ) -> Result<Made, AllocError>
-    requires arena { (4 ≤ arena) × (arena ≤ 65536) }
+    requires arena { (4 ≤ arena) × (arena ≤ 1048576) }
     requires callers { draft.callers ≤ 64 }
     ensures lawful { IfOk result (λ made. Lawful made.trace) }
     ensures good { IfOk result (λ made. GoodThroughout made.trace) }
@@ -253,7 +253,7 @@ fn make_run<R: Threads + Wait + Sync, K: Sink, G: Gate + Sync>(
     out: &mut K,
     gate: &G,
 ) -> Outcome
-    requires arena { (4 ≤ arena) × (arena ≤ 65536) }
+    requires arena { (4 ≤ arena) × (arena ≤ 1048576) }
     requires callers { draft.callers ≤ 64 }
     ensures lawful { IfSome result.run Lawful }
     ensures good { IfSome result.run GoodThroughout }

@@ -90,7 +90,7 @@ fn run_words(nodes: &String, template: &String, arena: &String) -> Option<Asked>
     let Some(pairing) = named(nodes, template) else {
         return None;
     };
-    let Some(arena) = number(arena, 4, 65536) else {
+    let Some(arena) = number(arena, 4, 1048576) else {
         return None;
     };
     Some(Asked::Run {
@@ -116,7 +116,7 @@ fn make_words(
     let Some(pairing) = named(nodes, template) else {
         return None;
     };
-    let Some(arena) = number(arena, 4, 65536) else {
+    let Some(arena) = number(arena, 4, 1048576) else {
         return None;
     };
     let Some(callers) = number(callers, 1, 64) else {
