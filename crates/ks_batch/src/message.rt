@@ -9,7 +9,7 @@ use itoa::Buffer;
 use ks_script::{Failed, Sink, send};
 
 const USAGE: &[u8] =
-    b"usage: run NODES TEMPLATE ARENA, make NODES TEMPLATE ARENA CALLERS CALLS FIRST, or check\n";
+    b"usage: run NODES TEMPLATE ARENA [WORKERS], make NODES TEMPLATE ARENA CALLERS CALLS FIRST, or check\n";
 
 /// Says that a line was refused.
 fn say_line<E: Sink>(err: &mut E, line: u64) -> Result<(), Failed>

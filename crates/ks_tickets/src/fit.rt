@@ -6,7 +6,7 @@ fn is_sync<T: Sync>(_x: &T) {}
 
 fn is_send<T: Send>(_x: &T) {}
 
-pub fn fits_threads<J: Ticketed>(tickets: &Tickets<J>, desk: &Desk<J>, job: &J) {
+pub fn fits_threads<J: Ticketed + Send>(tickets: &Tickets<J>, desk: &Desk<J>, job: &J) {
     is_sync(tickets);
     is_send(tickets);
     is_send(desk);

@@ -2,7 +2,7 @@
 ghost use Rattle.std.specs.Prelude.{ℕ};
 
 /// A job that is drawn by ticket.
-pub trait Ticketed: Send + Drop {
+pub trait Ticketed: Drop {
     /// It is the job of that ticket, and has not run.
     ghost waits: { Self → ℕ → Type 0 };
 

@@ -27,7 +27,7 @@ const RUNS: [(&[u8], &[u8]); 6] = [
 ];
 
 /// Words, inputs, and what is said of them, with the status.
-const REFUSALS: [(&str, &[u8], &[u8], u8); 8] = [
+const REFUSALS: [(&str, &[u8], &[u8], u8); 12] = [
     (
         RUN,
         b"caller\nput 1 18446744073709551616\n",
@@ -41,10 +41,14 @@ const REFUSALS: [(&str, &[u8], &[u8], u8); 8] = [
     ("run bplus coupling 65537", b"caller\n", USAGE, 1),
     ("run list link 64", b"caller\n", USAGE, 1),
     ("check now", b"caller\n", USAGE, 1),
+    ("run bplus coupling 4 0", b"caller\n", USAGE, 1),
+    ("run bplus coupling 4 65", b"caller\n", USAGE, 1),
+    ("run bplus coupling 4 01", b"caller\n", USAGE, 1),
+    ("run bplus coupling 4 1 1", b"caller\n", USAGE, 1),
 ];
 
 const USAGE: &[u8] =
-    b"usage: run NODES TEMPLATE ARENA, make NODES TEMPLATE ARENA CALLERS CALLS FIRST, or check\n";
+    b"usage: run NODES TEMPLATE ARENA [WORKERS], make NODES TEMPLATE ARENA CALLERS CALLS FIRST, or check\n";
 
 /// What is checked, and what is said of it, with the status.
 const CHECKS: [(&[u8], &[u8], &[u8], u8); 4] = [

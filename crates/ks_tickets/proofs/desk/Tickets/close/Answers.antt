@@ -14,5 +14,5 @@ pub loop-desk-preserved : goal.loop-desk-preserved
 loop-desk-preserved g c = takes_in _ _ _ c.in-Some-pop.desk c.loop-desk.base c.join_seat.new.seat c.loop-desk.invariant c.in-Some-pop.ensures.items c.join_seat.ensures.0 c.join_seat.ensures.2
 
 pub collect-requires-clause-home : goal.collect-requires-clause-home
-collect-requires-clause-home g c = λ _ _. let inv = c.loop-desk.invariant in let none_left : length c.loop-desk.desks.items ≡ 0 = search rules in
+collect-requires-clause-home g c = let inv = c.loop-desk.invariant in let none_left : length c.loop-desk.desks.items ≡ 0 = search rules in
     closes g.J.Ticketed.waits g.J.Ticketed.finished c.loop-desk.base.id c.loop-desk.base.me.0 (slots_items c.close_with.result.words) (slots_items c.close_with.result.slots) (all_in _ c.loop-desk.desks.items c.loop-desk.base inv none_left) inv.ended inv.closed c.close_with.ensures.values.2
