@@ -7,7 +7,7 @@ ghost use Rattle.ks_batch.specs.Message.{status_text};
 use ks_script::{Failed, Sink, send, send_line};
 
 const USAGE: &[u8] =
-    b"usage: run NODES TEMPLATE ARENA, make NODES TEMPLATE ARENA CALLERS CALLS FIRST, or check\n";
+    b"usage: run NODES TEMPLATE ARENA [WORKERS], make NODES TEMPLATE ARENA CALLERS CALLS FIRST, or check\n";
 
 /// Says what the status is, with the line, in one piece.
 fn say<E: Sink>(err: &mut E, status: u8, line: u64) -> Result<(), Failed>

@@ -7,6 +7,7 @@ mod meetings;
 mod pairings;
 mod texts;
 mod versions;
+mod workers;
 
 use crate::serve;
 use itoa::Buffer;
