@@ -2,6 +2,8 @@
 ghost use Rattle.std.specs.Prelude.{◌≡◌, ◌<◌, ◌≤◌, ◌∷◌, [], true, false};
 ghost use Rattle.ks_flow.specs.Discipline.{BeginsTree, TreeStep};
 ghost use Rattle.ks_keysets.specs.Keyset.{InInset};
+ghost use Rattle.ks_history.specs.declared.Event.TheVariants.{Give};
+ghost use Rattle.ks_history.specs.Passes.{GrowsWith};
 ghost use Rattle.ks_history.specs.Trace.{graph_after};
 ghost use Rattle.ks_node.specs.Room.{is_full};
 ghost use Rattle.ks_arena.specs.Sound.{sort_of};
@@ -70,8 +72,8 @@ pub(crate) fn keep_half<N: Unlinked, G: Gate>(
     }
 }
 
-/// Gives the right half of a node that leads to it itself; the path goes to the node as before.
-pub(crate) fn keep_left<N: Unlinked, G: Gate>(
+/// Gives the node in hand that is right of a path, as the right half of its node, and keeps the path.
+pub fn keep_left<N: Unlinked, G: Gate>(
     arena: &Arena<N, Tree>,
     pass: &mut Pass<N, Tree>,
     gate: &G,
@@ -89,6 +91,8 @@ pub(crate) fn keep_left<N: Unlinked, G: Gate>(
     ensures caller { pass.new.caller ≡ pass.old.caller }
     ensures path { IsOnPath (sort_of N.layout N.ranged) N.body pass.old.caller place (seen_of pass.new) result }
     ensures stretch { Stretches pass.old.caller (seen_of pass.old) (seen_of pass.new) }
+    ensures same { result ≡ path }
+    ensures gave { GrowsWith pass.old.caller (Give pass.old.caller right.node) (seen_of pass.old) (seen_of pass.new) }
 {
     search_law();
     let number = right.node;

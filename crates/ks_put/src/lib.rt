@@ -11,5 +11,8 @@ mod room;
 mod splits;
 
 pub use fills::{pair_add, pair_put};
+pub use halves::keep_left;
 pub use here::{add_here, put_here, swap_here};
+pub use laws::search_law;
+pub use path::{Path, enter, keep_alone, let_go, step_down};
 pub use room::{Room, has_room, make_room};

@@ -1,8 +1,10 @@
 //! A search that keeps the parent of its node.
-ghost use Rattle.std.specs.Prelude.{◌≡◌, ◌∷◌, [], true};
+ghost use Rattle.std.specs.Prelude.{◌≡◌, ◌∷◌, [], None, Some, true};
 ghost use Rattle.std.specs.Option.{ForSome};
 ghost use Rattle.ks_flow.specs.Discipline.{BeginsTree, TreeStep};
 ghost use Rattle.ks_keysets.specs.Keyset.{InInset};
+ghost use Rattle.ks_history.specs.declared.Event.TheVariants.{Take};
+ghost use Rattle.ks_history.specs.Passes.{GrowsWith};
 ghost use Rattle.ks_history.specs.Trace.{graph_after};
 ghost use Rattle.ks_node.specs.declared.start.Next.TheVariants.{Go};
 ghost use Rattle.ks_node.specs.Body.{next_at};
@@ -10,7 +12,7 @@ ghost use Rattle.ks_arena.specs.Sound.{sort_of};
 ghost use Rattle.ks_arena.specs.Clauses.{IsPass, Matches, hand_of, seen_of};
 ghost use Rattle.ks_shape.specs.OnWay.{IsOnWay};
 ghost use Rattle.ks_shape.specs.Stretches.{Stretches};
-ghost use Rattle.ks_put.specs.OnPath.{IsOnPath, numbers};
+ghost use Rattle.ks_put.specs.OnPath.{GaveIf, IsOnPath, numbers};
 
 use crate::laws::search_law;
 use ks_arena::laws::{root_stays_law, target_law};
@@ -23,13 +25,13 @@ use std::sync::Wait;
 
 /// The node at which a search stands, and the one that leads to it. The root has none, and a node that is not full needs
 /// none.
-pub(crate) struct Path<N> {
+pub struct Path<N> {
     pub parent: Option<Held<N>>,
     pub node: Held<N>,
 }
 
 /// Takes the root. It does not tell the gate that a call begins.
-pub(crate) fn enter<N: Unlinked, R: Wait, G: Gate>(
+pub fn enter<N: Unlinked, R: Wait, G: Gate>(
     rt: &R,
     arena: &Arena<N, Tree>,
     pass: &mut Pass<N, Tree>,
@@ -41,6 +43,8 @@ pub(crate) fn enter<N: Unlinked, R: Wait, G: Gate>(
     ensures caller { pass.new.caller ≡ pass.old.caller }
     ensures path { IsOnPath (sort_of N.layout N.ranged) N.body pass.old.caller place (seen_of pass.new) result }
     ensures stretch { Stretches pass.old.caller (seen_of pass.old) (seen_of pass.new) }
+    ensures root { (result.parent ≡ None) × (result.node.node ≡ 0) }
+    ensures took { GrowsWith pass.old.caller (Take pass.old.caller 0) (seen_of pass.old) (seen_of pass.new) }
 {
     root_stays_law::<Tree>();
     let Some(root) = arena.take(rt, pass, 0) else {
@@ -55,7 +59,7 @@ pub(crate) fn enter<N: Unlinked, R: Wait, G: Gate>(
 }
 
 /// Gives the other node in hand, if there is one, and keeps the node.
-pub(crate) fn keep_alone<N: Unlinked, G: Gate>(
+pub fn keep_alone<N: Unlinked, G: Gate>(
     arena: &Arena<N, Tree>,
     pass: &mut Pass<N, Tree>,
     gate: &G,
@@ -73,6 +77,7 @@ pub(crate) fn keep_alone<N: Unlinked, G: Gate>(
     ensures node { result ≡ node }
     ensures way { IsOnWay (sort_of N.layout N.ranged) N.body pass.old.caller place (seen_of pass.new) result }
     ensures stretch { Stretches pass.old.caller (seen_of pass.old) (seen_of pass.new) }
+    ensures gave { GaveIf pass.old.caller other (seen_of pass.old) (seen_of pass.new) }
 {
     search_law();
     if let Some(other) = other {
@@ -84,7 +89,7 @@ pub(crate) fn keep_alone<N: Unlinked, G: Gate>(
 }
 
 /// Gives the parent, and keeps the node.
-pub(crate) fn let_go<N: Unlinked, G: Gate>(
+pub fn let_go<N: Unlinked, G: Gate>(
     arena: &Arena<N, Tree>,
     pass: &mut Pass<N, Tree>,
     gate: &G,
@@ -98,6 +103,7 @@ pub(crate) fn let_go<N: Unlinked, G: Gate>(
     ensures node { result ≡ path.node }
     ensures way { IsOnWay (sort_of N.layout N.ranged) N.body pass.old.caller place (seen_of pass.new) result }
     ensures stretch { Stretches pass.old.caller (seen_of pass.old) (seen_of pass.new) }
+    ensures gave { GaveIf pass.old.caller path.parent (seen_of pass.old) (seen_of pass.new) }
 {
     let Path { parent, node } = path;
     keep_alone(arena, pass, gate, place, parent, node)
@@ -126,7 +132,7 @@ pub(crate) fn settle<N: Unlinked, G: Gate>(
 }
 
 /// Takes the child to which the search goes on; the node becomes its parent.
-pub(crate) fn step_down<N: Unlinked, R: Wait, G: Gate>(
+pub fn step_down<N: Unlinked, R: Wait, G: Gate>(
     rt: &R,
     arena: &Arena<N, Tree>,
     pass: &mut Pass<N, Tree>,
@@ -142,6 +148,9 @@ pub(crate) fn step_down<N: Unlinked, R: Wait, G: Gate>(
     ensures caller { pass.new.caller ≡ pass.old.caller }
     ensures path { IsOnPath (sort_of N.layout N.ranged) N.body pass.old.caller place (seen_of pass.new) result }
     ensures stretch { Stretches pass.old.caller (seen_of pass.old) (seen_of pass.new) }
+    ensures parent { result.parent ≡ Some held }
+    ensures child { result.node.node ≡ child }
+    ensures took { GrowsWith pass.old.caller (Take pass.old.caller child) (seen_of pass.old) (seen_of pass.new) }
 {
     search_law();
     target_law::<Tree>();

@@ -7,3 +7,4 @@ pub mod Beside
 pub mod Stretches
 pub mod Claims
 pub mod Makes
+pub mod Places

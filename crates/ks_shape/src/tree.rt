@@ -15,10 +15,11 @@ ghost use Rattle.ks_bodies.specs.Shapes as shapes;
 ghost use Rattle.ks_arena.specs.Sound.{sort_of};
 ghost use Rattle.ks_arena.specs.Clauses.{IsPass, hand_of, mine_of, seen_of, KeptBesides, StillMatchBesides};
 ghost use Rattle.ks_shape.specs.InHand.{IsLive, IsFree, BecomesLive, BecomesFree};
+ghost use Rattle.ks_shape.specs.Places.{HasPlacesOf};
 
 use ks_arena::laws::sound_law;
 use ks_arena::{Arena, Held, Pass};
-use ks_bodies::{tree_asks_law, tree_parts_law, tree_steps_law};
+use ks_bodies::{tree_asks_law, tree_insets_law, tree_parts_law, tree_steps_law};
 use ks_flow::Tree;
 use ks_node::{Unlinked, node_law, unlinked_law};
 
@@ -180,10 +181,12 @@ pub fn absorb_own<N: Unlinked>(
     ensures right { BecomesFree (sort_of N.layout N.ranged) N.body (seen_of pass.new) right.old right.new }
     ensures kept { KeptBesides (shapes.absorb_own node.old.node right.old.node (N.body node.old.body) (N.body right.old.body)) pass.old.caller (seen_of pass.old) (seen_of pass.new) }
     ensures still { StillMatchBesides (sort_of N.layout N.ranged) N.body (shapes.absorb_own node.old.node right.old.node (N.body node.old.body) (N.body right.old.body)) (hand_of pass.old) (seen_of pass.old) (seen_of pass.new) }
+    ensures places { HasPlacesOf (graph_after (seen_of pass.old)) (graph_after (seen_of pass.new)) node.old.node node.old.node }
 {
     sound_law::<Tree>();
     tree_asks_law();
     tree_steps_law();
+    tree_insets_law();
     unlinked_law::<N>();
     node_law(&node.body);
     node_law(&right.body);
@@ -220,10 +223,13 @@ pub fn absorb_under<N: Unlinked>(
     ensures right { BecomesFree (sort_of N.layout N.ranged) N.body (seen_of pass.new) right.old right.new }
     ensures kept { KeptBesides (shapes.absorb_under parent.old.node node.old.node right.old.node (N.body parent.old.body) (N.body node.old.body) (N.body right.old.body)) pass.old.caller (seen_of pass.old) (seen_of pass.new) }
     ensures still { StillMatchBesides (sort_of N.layout N.ranged) N.body (shapes.absorb_under parent.old.node node.old.node right.old.node (N.body parent.old.body) (N.body node.old.body) (N.body right.old.body)) (hand_of pass.old) (seen_of pass.old) (seen_of pass.new) }
+    ensures places { HasPlacesOf (graph_after (seen_of pass.old)) (graph_after (seen_of pass.new)) node.old.node node.old.node }
+    ensures leads { (p : ℕ) → InInset (graph_after (seen_of pass.old)) node.old.node p → LeadsTo (record_of (forgot right.old.node (N.body parent.old.body))) p node.old.node }
 {
     sound_law::<Tree>();
     tree_asks_law();
     tree_steps_law();
+    tree_insets_law();
     unlinked_law::<N>();
     node_law(&parent.body);
     node_law(&node.body);
@@ -257,10 +263,12 @@ pub fn collapse<N: Unlinked>(
     ensures child { BecomesFree (sort_of N.layout N.ranged) N.body (seen_of pass.new) child.old child.new }
     ensures kept { KeptBesides (shapes.collapse node.old.node child.old.node (N.body node.old.body) (N.body child.old.body)) pass.old.caller (seen_of pass.old) (seen_of pass.new) }
     ensures still { StillMatchBesides (sort_of N.layout N.ranged) N.body (shapes.collapse node.old.node child.old.node (N.body node.old.body) (N.body child.old.body)) (hand_of pass.old) (seen_of pass.old) (seen_of pass.new) }
+    ensures places { HasPlacesOf (graph_after (seen_of pass.old)) (graph_after (seen_of pass.new)) child.old.node node.old.node }
 {
     sound_law::<Tree>();
     tree_asks_law();
     tree_steps_law();
+    tree_insets_law();
     unlinked_law::<N>();
     node_law(&node.body);
     node_law(&child.body);
