@@ -1,5 +1,5 @@
 -- How many nodes a caller makes free while it merges nodes, and what stands while it makes none free.
-use Rattle.std.proofs.Common.{◌≡◌, ◌≢◌, ℕ, ◌+◌, ◌<◌, ◌%◌, ◌^◌, ◌==◌, cond, List, [], ◌∷◌, ◌++◌, sym, refl, ap, ◌∙◌, subst, append_assoc, arith}
+use Rattle.std.proofs.Common.{◌≡◌, ◌≢◌, ℕ, ◌+◌, ◌<◌, ◌%◌, ◌^◌, ◌==◌, List, [], ◌∷◌, ◌++◌, sym, refl, ap, ◌∙◌, subst, append_assoc, arith}
 use Rattle.std.specs.Prelude.{if◌then◌else◌}
 use Rattle.std.proofs.lemmas.List.{append_cancel_right}
 use Rattle.ks_keysets.specs.declared.Frame.{Frame}
@@ -147,6 +147,35 @@ frees_begins c h k so = record { rest = so.rest; is = so.is }
 -- the number is one
 pub frees_same : (c a b : ℕ) (h k : List Event) → Frees c h k a → Frees c h k b → a ≡ b
 frees_same c a b h k x y = sym x.made ∙ ap (freed_by c) (append_cancel_right x.rest y.rest h (sym x.is ∙ y.is)) ∙ y.made
+
+-- what is told of it adds up
+
+pub counts_of : (c count : ℕ) (h k : List Event) → count < 2 ^ 32 → Frees c h k count → Counts c h k count
+counts_of c count h k small so = record { count = count; frees = so; is = omega (arith, small) }
+
+pub counts_both : (c a b : ℕ) (g h k : List Event) → Counts c g h a → Counts c h k b → Counts c g k ((a + b) % 2 ^ 32)
+counts_both c a b g h k x y = record {
+  count = x.count + y.count;
+  frees = frees_both c x.count y.count g h k x.frees y.frees;
+  is = omega (arith, x.is, y.is);
+}
+
+pub counts_more : (c a count : ℕ) (g h k : List Event) → Counts c g h a → Frees c h k count → Counts c g k ((a + count) % 2 ^ 32)
+counts_more c a count g h k x y = record { count = x.count + count; frees = frees_both c x.count count g h k x.frees y; is = omega (arith, x.is) }
+
+-- what makes none free leaves it
+
+pub counts_on : (c a : ℕ) (g h k : List Event) → Counts c g h a → Frees c h k 0 → Counts c g k a
+counts_on c a g h k x y = record { count = x.count + 0; frees = frees_both c x.count 0 g h k x.frees y; is = omega (arith, x.is) }
+
+pub counts_after : (c a : ℕ) (g h k : List Event) → Frees c g h 0 → Counts c h k a → Counts c g k a
+counts_after c a g h k x y = record { count = 0 + y.count; frees = frees_both c 0 y.count g h k x y.frees; is = omega (arith, y.is) }
+
+pub counts_as : (c d a : ℕ) (h k : List Event) → d ≡ c → Counts d h k a → Counts c h k a
+counts_as c d a h k same so = subst (λ (z : ℕ). Counts z h k a) same so
+
+pub undisturbed_as : (c d : ℕ) (h k : List Event) → d ≡ c → Undisturbed d h k → Undisturbed c h k
+undisturbed_as c d h k same so = subst (λ (z : ℕ). Undisturbed z h k) same so
 
 -- what was undisturbed is so in each part
 
