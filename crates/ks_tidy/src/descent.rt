@@ -113,9 +113,12 @@ pub fn come_down<N: Unlinked, R: Wait, G: Gate>(
     let mut path = enter(rt, arena, pass, gate, place);
     let mut freed: u32 = 0;
     for _ in rt.forever() {
-        let tidied = tidy_branch(rt, arena, pass, gate, place, path);
-        path = tidied.path;
-        freed = freed.wrapping_add(tidied.freed);
+        let Tidied {
+            path: tidied,
+            freed: more,
+        } = tidy_branch(rt, arena, pass, gate, place, path);
+        path = tidied;
+        freed = freed.wrapping_add(more);
         match path.node.body.next(place) {
             Next::Here => return Tidied { path, freed },
             Next::Go(child) => path = go_down(rt, arena, pass, gate, place, path, child),
@@ -146,8 +149,7 @@ pub fn tidy_end<N: Unlinked, R: Wait, G: Gate>(
     tidied_law();
     tidy_law();
     unlinked_law::<N>();
-    let tidied = tidy_node(rt, arena, pass, gate, place, false, path);
-    let Tidied { path, freed } = tidied;
+    let Tidied { path, freed } = tidy_node(rt, arena, pass, gate, place, false, path);
     node_law(&path.node.body);
     leave(arena, pass, gate, place, path);
     freed
