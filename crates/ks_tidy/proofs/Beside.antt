@@ -43,7 +43,7 @@ module _ (g : ℕ → NodeState) (one : OneEdge g) where
   between n m r is some = subst (λ (o : Option Record). 0 < edges_in o m) (sym is) some
 
   -- two nodes that lead to each other are not reached
-  cycle : (p a b x : ℕ) → x ≡ a → 0 < edges_between g a b → 0 < edges_between g b a → Reaches g p x → ⊥
+  pub cycle : (p a b x : ℕ) → x ≡ a → 0 < edges_between g a b → 0 < edges_between g b a → Reaches g p x → ⊥
   cycle p a b x same ab ba (at_root live) = let none : edges_between g b 0 ≡ 0 = one.none b in let some : 0 < edges_between g b 0 = subst (λ (z : ℕ). 0 < edges_between g b z) (sym same) ba in absurd (omega (arith, none, some))
   cycle p a b x same ab ba (along {n} r way is to live) = dite (ℕ_discrete n b)
       (λ e. cycle p b a n e ba ab way)
@@ -57,15 +57,17 @@ module _ (g : ℕ → NodeState) (one : OneEdge g) where
   module _ (f : ℕ → Frame) (parent n m p : ℕ) (r u : Record) (is : record_at g n ≡ Some r) (is_u : record_at g parent ≡ Some u) (none : ¬ HasOwnEdge (f n) r) (to : LeadsTo u p n) where
     pub next_in : IsRightNeighbour g f n m → IsNext u.edges n m
     next_in (chained s at own edge) = let same : s ≡ r = (let q : Some s ≡ Some r = sym at ∙ is in cc) in absurd (none (subst (λ (z : Record). HasOwnEdge (f n) z) same own))
-    next_in (beside s a t at no at' branch next) = dite (ℕ_discrete a parent)
+    next_in (beside s a t at own at' branch next) = dite (ℕ_discrete a parent)
         (λ e. let q : Some t ≡ Some u = sym at' ∙ ap (record_at g) e ∙ is_u in let same : t ≡ u = cc in subst (λ (z : Record). IsNext z.edges n m) same next)
         (λ ne. absurd (omega (arith, one.one n a parent ne, between a n t at' (any_counted t.edges n (any_get t.edges next.at n next.one next.first next.from)), between parent n u is_u (leads_counted u p n to))))
 
-    pub edge_to : IsNext u.edges n m → Any (λ (e : Edge). e.node ≡ m) u.edges
-    edge_to next = any_get u.edges (suc next.at) m next.other next.second next.to
+-- so the parent has an edge to the neighbour, which is another node
+pub next_edge : (es : List Edge) (n m : ℕ) → IsNext es n m → Any (λ (e : Edge). e.node ≡ m) es
+next_edge es n m next = any_get es (suc next.at) m next.other next.second next.to
 
-    pub next_apart : IsNext u.edges n m → n ≢ m
-    next_apart next same = let twice : 1 < edges_to u.edges n = two_counted u.edges next.at n next.one next.other next.first next.second next.from (next.to ∙ sym same) in
-        let most : edges_between g parent n + edges_between g (suc parent) n ≤ 1 = one.one n parent (suc parent) (λ e. omega (arith, e)) in
-        let here : 1 < edges_between g parent n = subst (λ (o : Option Record). 1 < edges_in o n) (sym is_u) twice in
-        absurd (omega (arith, most, here))
+pub next_apart : (g : ℕ → NodeState) (one : OneEdge g) (parent n m : ℕ) (u : Record) → record_at g parent ≡ Some u → IsNext u.edges n m → n ≢ m
+next_apart g one parent n m u is next same =
+    let twice : 1 < edges_to u.edges n = two_counted u.edges next.at n next.one next.other next.first next.second next.from (next.to ∙ sym same) in
+    let most : edges_between g parent n + edges_between g (suc parent) n ≤ 1 = one.one n parent (suc parent) (λ e. omega (arith, e)) in
+    let here : 1 < edges_between g parent n = subst (λ (o : Option Record). 1 < edges_in o n) (sym is) twice in
+    absurd (omega (arith, most, here))

@@ -1,3 +1,6 @@
 pub mod Keeping
 pub mod Standing
 pub mod Beside
+pub mod Fresh
+pub mod Steps
+pub mod Going

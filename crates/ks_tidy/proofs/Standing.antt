@@ -1,6 +1,6 @@
 -- How what is held stands in the graph, and what stays of it.
-use Rattle.std.proofs.Common.{◌≡◌, ◌≢◌, ℕ, true, List, sym, ap, ◌∙◌, subst}
-use Rattle.std.specs.Prelude.{Some, None, Any}
+use Rattle.std.proofs.Common.{◌≡◌, ◌≢◌, ◌≤◌, ℕ, true, false, List, sym, ap, ◌∙◌, subst, arith}
+use Rattle.std.specs.Prelude.{Option, Some, None, Any}
 use Rattle.std.specs.Option.{ForSome}
 use Rattle.ks_keysets.specs.declared.Edge.{Edge}
 use Rattle.ks_keysets.specs.declared.Frame.{Frame}
@@ -8,17 +8,24 @@ use Rattle.ks_keysets.specs.declared.Kind.{Kind}
 use Rattle.ks_keysets.specs.declared.Kind.TheVariants.{NoBranch}
 use Rattle.ks_keysets.specs.declared.NodeState.{NodeState}
 use Rattle.ks_keysets.specs.declared.Record.{Record}
-use Rattle.ks_keysets.specs.Keyset.{record_at, Good, IsLive}
+use Rattle.ks_keysets.specs.declared.Span.{Span}
+use Rattle.ks_keysets.specs.Record.{LeadsOn, top}
+use Rattle.ks_keysets.specs.Keyset.{record_at, Good, InInset, InKeyset, IsLive}
 use Rattle.ks_keysets.specs.Change.{SameNodes}
 use Rattle.ks_keysets.specs.Layout.{Layout, Fit, HasOwnEdge, IsRightNeighbour, chained, beside, FitsNoRight}
 use Rattle.ks_history.specs.declared.Event.{Event}
 use Rattle.ks_history.specs.Trace.{graph_after, frame_after}
-use Rattle.ks_node.specs.Body.{Body, content_of}
+use Rattle.ks_flow.specs.Tree.{Tree}
+use Rattle.ks_node.specs.declared.start.Next.TheVariants.{Here}
+use Rattle.ks_node.specs.Body.{Body, content_of, first_of, is_branch, last_of, next_at}
+use Rattle.ks_node.specs.Edges.{record_of}
+use Rattle.ks_node.specs.Ways.{here_stays}
 use Rattle.ks_node.specs.Sound.{Sound as InOrder, Framed}
 use Rattle.ks_bodies.specs.Stands.{IsPlain, Stands}
 use Rattle.ks_arena.specs.declared.held.Held.{Held as Hand}
 use Rattle.ks_arena.specs.Sound.{Sort, blank_of}
 use Rattle.ks_arena.specs.Clauses.{Matches}
+use Rattle.ks_arena.specs.Writes.{ends_at_no_branch}
 use Rattle.ks_shape.specs.Single.{shown, record_is}
 
 pub plain : (b : Body) → InOrder (content_of b) → ForSome b.range (λ r. Framed r b) → b.link ≡ None → IsPlain b
@@ -41,3 +48,16 @@ module _ (layout : Layout) (g k : ℕ → NodeState) (f h : ℕ → Frame) (same
   pub fits_along : (n : ℕ) → FitsNoRight layout g f n → FitsNoRight layout k h n
   fits_along n none m r s right is is' fit = none m r s (right_back n m right) (sym (same.records n) ∙ is) (sym (same.records m) ∙ is')
       (subst (λ (x : Kind). Fit layout x r (f m).kind s) (ap (λ (x : Frame). x.kind) (same.frames n)) (subst (λ (x : Kind). Fit layout (h n).kind r x s) (ap (λ (x : Frame). x.kind) (same.frames m)) fit))
+
+-- where the search for a place ends, the place is in the keyset of the node
+pub keyset_here : {N : Type 0} (sort : Sort) (shows : N → Body) (p : ℕ) (h : List Event) (x : Hand N) → x.live ≡ true → Matches sort shows h x → InOrder (content_of (shows x.body)) → InInset (graph_after h) x.node p → next_at (shows x.body) p ≡ Here → InKeyset (graph_after h) x.node p
+keyset_here sort shows p h x live matches order inside here = (inside, λ out. let is = record_is sort shows h x live matches in let q : Some out.0 ≡ Some (record_of (shows x.body)) = sym out.1 ∙ is in let same : out.0 ≡ record_of (shows x.body) = cc in here_stays (shows x.body) p order here (subst (λ (r : Record). LeadsOn r p) same out.2))
+
+-- a live node is no branch where the search ends: its range, if it has one, is its inset
+module _ {N : Type 0} (sort : Sort) (shows : N → Body) (p : ℕ) (h : List Event) (x : Hand N) (live : x.live ≡ true) (matches : Matches sort shows h x) (inside : InInset (graph_after h) x.node p) (facts : Tree (graph_after h) (frame_after (blank_of sort) h)) (place : p ≤ top) (order : InOrder (content_of (shows x.body))) (here : next_at (shows x.body) p ≡ Here) where
+  held_in : (o : Option Span) → (frame_after (blank_of sort) h x.node).range ≡ o → (first_of o ≤ p) × (p ≤ last_of o)
+  held_in None e = (omega arith, omega (arith, place))
+  held_in (Some r) e = (facts.range x.node r (record_of (shows x.body), record_is sort shows h x live matches) e).forth p inside
+
+  pub no_branch : is_branch (shows x.body) ≡ false
+  no_branch = let b : Body = shows x.body in let is = shown sort shows h x live matches in let at = held_in b.range (ap (λ (f : Frame). f.range) is.1) in ends_at_no_branch b p order at.0 at.1 here

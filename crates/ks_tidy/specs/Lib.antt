@@ -1,2 +1,3 @@
 pub mod Frees
 pub mod Pair
+pub mod Deciding

@@ -8,7 +8,7 @@ ghost use Rattle.ks_history.specs.Alone.{ActsAlone};
 ghost use Rattle.ks_history.specs.Done.{Done, Template, TidyAt};
 ghost use Rattle.ks_history.specs.Map.{told};
 ghost use Rattle.ks_history.specs.Passes.{Has};
-ghost use Rattle.ks_history.specs.Trace.{graph_after};
+ghost use Rattle.ks_history.specs.Trace.{◌⊑◌, graph_after};
 ghost use Rattle.ks_history.specs.Underway.{Decided, Underway};
 ghost use Rattle.ks_node.specs.declared.start.Next.TheVariants.{Here};
 ghost use Rattle.ks_node.specs.Body.{next_at, value_at};
@@ -18,7 +18,6 @@ ghost use Rattle.ks_arena.specs.Clauses.{IsPass, Matches, StillMatchBut, hand_of
 ghost use Rattle.ks_tidy.specs.Pair.{IsPair};
 
 use crate::descent::{leave, tidy_end};
-use ks_arena::laws::sound_law;
 use ks_arena::{Arena, Held, Pass};
 use ks_flow::Tree;
 use ks_gate::{Gate, Point};
@@ -45,6 +44,7 @@ pub fn delete<N: Unlinked, G: Gate>(
     requires ends { next_at (N.body held.old.body) place ≡ Here }
     ensures pass { IsPass (sort_of N.layout N.ranged) BeginsTree TreeStep arena.now.table.shared.table_id arena.now.callers pass.new }
     ensures caller { pass.new.caller ≡ pass.old.caller }
+    ensures begins { seen_of pass.old ⊑ seen_of pass.new }
     ensures hand { hand_of pass.new ≡ hand_of pass.old }
     ensures node { (held.new.node ≡ held.old.node) × (held.new.live ≡ true) }
     ensures body { Matches (sort_of N.layout N.ranged) N.body (seen_of pass.new) held.new }

@@ -1,5 +1,5 @@
 //! The way from the root to the node where a search ends, which merges nodes as it goes.
-ghost use Rattle.std.specs.Prelude.{◌≡◌, []};
+ghost use Rattle.std.specs.Prelude.{◌≡◌, Some, []};
 ghost use Rattle.ks_flow.specs.Discipline.{BeginsTree, TreeStep};
 ghost use Rattle.ks_keysets.specs.Keyset.{InKeyset};
 ghost use Rattle.ks_history.specs.Alone.{ActsAlone};
@@ -14,12 +14,12 @@ ghost use Rattle.ks_tidy.specs.Frees.{Counts, Frees};
 ghost use Rattle.ks_tidy.specs.Pair.{IsPair};
 
 use crate::node::{Tidied, tidy_node};
-use ks_arena::{Arena, Held, Pass};
+use ks_arena::{Arena, Pass};
 use ks_bodies::tidied_law;
 use ks_flow::{Tree, tidy_law};
 use ks_gate::{Gate, Point};
 use ks_node::{Next, Unlinked, node_law, unlinked_law};
-use ks_put::{Path, enter, keep_alone, search_law, step_down};
+use ks_put::{Path, enter, let_go, search_law, step_down};
 use std::sync::Wait;
 
 /// Gives the parent, if there is one, and takes the child to which the search goes on; the node becomes its parent.
@@ -38,12 +38,12 @@ pub fn go_down<N: Unlinked, R: Wait, G: Gate>(
     ensures pass { IsPass (sort_of N.layout N.ranged) BeginsTree TreeStep arena.now.table.shared.table_id arena.now.callers pass.new }
     ensures caller { pass.new.caller ≡ pass.old.caller }
     ensures pair { IsPair (sort_of N.layout N.ranged) N.body pass.old.caller place (seen_of pass.new) result }
+    ensures parent { result.parent ≡ Some path.node }
     ensures child { result.node.node ≡ child }
     ensures stretch { Stretches pass.old.caller (seen_of pass.old) (seen_of pass.new) }
     ensures frees { Frees pass.old.caller (seen_of pass.old) (seen_of pass.new) 0 }
 {
-    let Path { parent, node } = path;
-    let node = keep_alone(arena, pass, gate, place, parent, node);
+    let node = let_go(arena, pass, gate, place, path);
     step_down(rt, arena, pass, gate, place, node, child)
 }
 
@@ -63,8 +63,7 @@ pub fn leave<N: Unlinked, G: Gate>(
     ensures frees { Frees pass.old.caller (seen_of pass.old) (seen_of pass.new) 0 }
 {
     search_law();
-    let Path { parent, node } = path;
-    let node = keep_alone(arena, pass, gate, place, parent, node);
+    let node = let_go(arena, pass, gate, place, path);
     let number = node.node;
     arena.give(pass, node);
     gate.at(pass.caller(), Point::Given(number));

@@ -13,11 +13,10 @@ ghost use Rattle.ks_tidy.specs.Pair.{DidStep, IsNoSole, IsPair, path_in};
 use crate::step::Step;
 use crate::takes::take_led;
 use ks_arena::{Arena, Held, Pass, root_law};
-use ks_bodies::{alone_law, rights_law};
+use ks_bodies::{alone_law, rights_law, tests_law};
 use ks_flow::Tree;
 use ks_flow::laws::tree_facts_law;
 use ks_gate::{Gate, Point};
-use ks_history::turns_law;
 use ks_node::{Unlinked, node_law, unlinked_law};
 use ks_put::{Path, keep_left, search_law};
 use ks_shape::{absorb_own, absorb_under, collapse};
@@ -80,21 +79,20 @@ pub(crate) fn merge_own<N: Unlinked, R: Wait, G: Gate>(
 {
     search_law();
     tree_facts_law();
-    rights_law();
+    tests_law();
     alone_law();
-    turns_law();
     unlinked_law::<N>();
     let Path { parent, mut node } = path;
     node_law(&node.body);
     let mut right = take_led(rt, arena, pass, gate, &node, target);
     node_law(&right.body);
-    if !node.body.fits(&right.body) {
+    if node.body.fits(&right.body) {
+        absorb_own(arena, pass, &mut node, &mut right);
         let path = Path { parent, node };
-        return Step::Rests(keep_left(arena, pass, gate, place, path, right));
+        return Step::Freed(keep_left(arena, pass, gate, place, path, right));
     }
-    absorb_own(arena, pass, &mut node, &mut right);
     let path = Path { parent, node };
-    Step::Freed(keep_left(arena, pass, gate, place, path, right))
+    Step::Rests(keep_left(arena, pass, gate, place, path, right))
 }
 
 /// The node below a branch absorbs the node to which the branch leads next, if both fit. That one is given back, or the
@@ -123,9 +121,9 @@ pub(crate) fn merge_beside<N: Unlinked, R: Wait, G: Gate>(
 {
     search_law();
     tree_facts_law();
+    tests_law();
     rights_law();
     alone_law();
-    turns_law();
     unlinked_law::<N>();
     let mut parent = parent;
     let mut node = node;
@@ -133,17 +131,17 @@ pub(crate) fn merge_beside<N: Unlinked, R: Wait, G: Gate>(
     node_law(&node.body);
     let mut right = take_led(rt, arena, pass, gate, &parent, target);
     node_law(&right.body);
-    if !node.body.fits(&right.body) {
+    if node.body.fits(&right.body) {
+        absorb_under(arena, pass, &mut parent, &mut node, &mut right);
         let path = Path {
             parent: Some(parent),
             node,
         };
-        return Step::Rests(keep_left(arena, pass, gate, place, path, right));
+        return Step::Freed(keep_left(arena, pass, gate, place, path, right));
     }
-    absorb_under(arena, pass, &mut parent, &mut node, &mut right);
     let path = Path {
         parent: Some(parent),
         node,
     };
-    Step::Freed(keep_left(arena, pass, gate, place, path, right))
+    Step::Rests(keep_left(arena, pass, gate, place, path, right))
 }

@@ -1,8 +1,8 @@
 //! One try to merge at a node.
-ghost use Rattle.std.specs.Prelude.{◌≡◌, None, true};
+ghost use Rattle.std.specs.Prelude.{◌≡◌, ℕ, IsTrue, None, Some, true, false};
 ghost use Rattle.ks_flow.specs.Discipline.{BeginsTree, TreeStep};
 ghost use Rattle.ks_history.specs.Trace.{graph_after};
-ghost use Rattle.ks_node.specs.Body.{chained_of};
+ghost use Rattle.ks_node.specs.Body.{chained_of, only_child_of};
 ghost use Rattle.ks_arena.specs.Sound.{sort_of};
 ghost use Rattle.ks_arena.specs.Clauses.{IsPass, seen_of};
 ghost use Rattle.ks_shape.specs.Places.{HasPlacesOf};
@@ -10,11 +10,11 @@ ghost use Rattle.ks_shape.specs.Stretches.{Stretches};
 ghost use Rattle.ks_tidy.specs.Pair.{DidStep, IsNoSole, IsPair, path_in};
 
 use crate::merges::{merge_beside, merge_own, take_over};
-use ks_arena::{Arena, Pass};
+use ks_arena::{Arena, Held, Pass};
 use ks_bodies::{alone_law, tests_law};
 use ks_flow::Tree;
 use ks_gate::Gate;
-use ks_node::{Unlinked, node_law, unlinked_law};
+use ks_node::{Node, Unlinked, node_law, unlinked_law};
 use ks_put::{Path, search_law};
 use std::sync::Wait;
 
@@ -26,35 +26,65 @@ pub enum Step<N> {
     Rests(Path<N>),
 }
 
-/// Merges the node of a path, which leads to no node itself, with the node to which its parent leads next, if they fit.
+/// Merges the root with the node to which it leads itself, if there is one and they fit.
+fn merge_root<N: Unlinked, R: Wait, G: Gate>(
+    rt: &R,
+    arena: &Arena<N, Tree>,
+    pass: &mut Pass<N, Tree>,
+    gate: &G,
+    place: u64,
+    root: Held<N>,
+) -> Step<N>
+    requires pass { IsPass (sort_of N.layout N.ranged) BeginsTree TreeStep arena.now.table.shared.table_id arena.now.callers pass.old }
+    requires pair { IsPair (sort_of N.layout N.ranged) N.body pass.old.caller place (seen_of pass.old) (record { parent = None; node = root }) }
+    ensures pass { IsPass (sort_of N.layout N.ranged) BeginsTree TreeStep arena.now.table.shared.table_id arena.now.callers pass.new }
+    ensures caller { pass.new.caller ≡ pass.old.caller }
+    ensures pair { IsPair (sort_of N.layout N.ranged) N.body pass.old.caller place (seen_of pass.new) (path_in result) }
+    ensures places { HasPlacesOf (graph_after (seen_of pass.old)) (graph_after (seen_of pass.new)) root.node (path_in result).node.node }
+    ensures stretch { Stretches pass.old.caller (seen_of pass.old) (seen_of pass.new) }
+    ensures step { DidStep (sort_of N.layout N.ranged) N.body pass.old.caller (seen_of pass.old) (seen_of pass.new) true (record { parent = None; node = root }) result }
+{
+    search_law();
+    alone_law();
+    unlinked_law::<N>();
+    node_law(&root.body);
+    let right = root.body.chained();
+    let path = Path {
+        parent: None,
+        node: root,
+    };
+    match right {
+        Some(right) => merge_own(rt, arena, pass, gate, place, path, right),
+        None => Step::Rests(path),
+    }
+}
+
+/// Merges a node that leads to no node itself with the one to which its parent leads next, if there is one and they fit.
 fn merge_next<N: Unlinked, R: Wait, G: Gate>(
     rt: &R,
     arena: &Arena<N, Tree>,
     pass: &mut Pass<N, Tree>,
     gate: &G,
     place: u64,
-    path: Path<N>,
+    parent: Held<N>,
+    node: Held<N>,
 ) -> Step<N>
     requires pass { IsPass (sort_of N.layout N.ranged) BeginsTree TreeStep arena.now.table.shared.table_id arena.now.callers pass.old }
-    requires pair { IsPair (sort_of N.layout N.ranged) N.body pass.old.caller place (seen_of pass.old) path }
-    requires unchained { chained_of (N.body path.node.body) ≡ None }
-    requires no_sole { IsNoSole (sort_of N.layout N.ranged) N.body path.parent }
+    requires pair { IsPair (sort_of N.layout N.ranged) N.body pass.old.caller place (seen_of pass.old) (record { parent = Some parent; node = node }) }
+    requires unchained { chained_of (N.body node.body) ≡ None }
+    requires no_sole { IsNoSole (sort_of N.layout N.ranged) N.body (Some parent) }
     ensures pass { IsPass (sort_of N.layout N.ranged) BeginsTree TreeStep arena.now.table.shared.table_id arena.now.callers pass.new }
     ensures caller { pass.new.caller ≡ pass.old.caller }
     ensures pair { IsPair (sort_of N.layout N.ranged) N.body pass.old.caller place (seen_of pass.new) (path_in result) }
-    ensures places { HasPlacesOf (graph_after (seen_of pass.old)) (graph_after (seen_of pass.new)) path.node.node (path_in result).node.node }
+    ensures places { HasPlacesOf (graph_after (seen_of pass.old)) (graph_after (seen_of pass.new)) node.node (path_in result).node.node }
     ensures stretch { Stretches pass.old.caller (seen_of pass.old) (seen_of pass.new) }
-    ensures step { DidStep (sort_of N.layout N.ranged) N.body pass.old.caller (seen_of pass.old) (seen_of pass.new) true path result }
+    ensures step { DidStep (sort_of N.layout N.ranged) N.body pass.old.caller (seen_of pass.old) (seen_of pass.new) true (record { parent = Some parent; node = node }) result }
 {
     search_law();
     alone_law();
     unlinked_law::<N>();
-    let Path { parent, node } = path;
-    node_law(&node.body);
-    let Some(parent) = parent else {
-        return Step::Rests(Path { parent: None, node });
-    };
     node_law(&parent.body);
+    node_law(&node.body);
     match parent.body.right_of(place) {
         Some(right) => merge_beside(rt, arena, pass, gate, place, parent, node, right),
         None => Step::Rests(Path {
@@ -64,58 +94,118 @@ fn merge_next<N: Unlinked, R: Wait, G: Gate>(
     }
 }
 
-/// Merges the node of a path with its right neighbour, if it has one and they fit.
-fn merge_right<N: Unlinked, R: Wait, G: Gate>(
+/// Merges a node below its parent with its right neighbour, if there is one and they fit.
+fn merge_child<N: Unlinked, R: Wait, G: Gate>(
     rt: &R,
     arena: &Arena<N, Tree>,
     pass: &mut Pass<N, Tree>,
     gate: &G,
     place: u64,
-    path: Path<N>,
+    parent: Held<N>,
+    node: Held<N>,
 ) -> Step<N>
     requires pass { IsPass (sort_of N.layout N.ranged) BeginsTree TreeStep arena.now.table.shared.table_id arena.now.callers pass.old }
-    requires pair { IsPair (sort_of N.layout N.ranged) N.body pass.old.caller place (seen_of pass.old) path }
-    requires no_sole { IsNoSole (sort_of N.layout N.ranged) N.body path.parent }
+    requires pair { IsPair (sort_of N.layout N.ranged) N.body pass.old.caller place (seen_of pass.old) (record { parent = Some parent; node = node }) }
+    requires no_sole { IsNoSole (sort_of N.layout N.ranged) N.body (Some parent) }
     ensures pass { IsPass (sort_of N.layout N.ranged) BeginsTree TreeStep arena.now.table.shared.table_id arena.now.callers pass.new }
     ensures caller { pass.new.caller ≡ pass.old.caller }
     ensures pair { IsPair (sort_of N.layout N.ranged) N.body pass.old.caller place (seen_of pass.new) (path_in result) }
-    ensures places { HasPlacesOf (graph_after (seen_of pass.old)) (graph_after (seen_of pass.new)) path.node.node (path_in result).node.node }
+    ensures places { HasPlacesOf (graph_after (seen_of pass.old)) (graph_after (seen_of pass.new)) node.node (path_in result).node.node }
     ensures stretch { Stretches pass.old.caller (seen_of pass.old) (seen_of pass.new) }
-    ensures step { DidStep (sort_of N.layout N.ranged) N.body pass.old.caller (seen_of pass.old) (seen_of pass.new) true path result }
+    ensures step { DidStep (sort_of N.layout N.ranged) N.body pass.old.caller (seen_of pass.old) (seen_of pass.new) true (record { parent = Some parent; node = node }) result }
 {
-    match path.node.body.chained() {
-        Some(right) => merge_own(rt, arena, pass, gate, place, path, right),
-        None => merge_next(rt, arena, pass, gate, place, path),
+    match node.body.chained() {
+        Some(right) => {
+            let path = Path {
+                parent: Some(parent),
+                node,
+            };
+            merge_own(rt, arena, pass, gate, place, path, right)
+        }
+        None => merge_next(rt, arena, pass, gate, place, parent, node),
     }
 }
 
-/// Merges the node of a path with its right neighbour, if it is low or the work is thorough.
-fn merge_low<N: Unlinked, R: Wait, G: Gate>(
+/// Merges the root with its right neighbour, if it is low or the work is thorough.
+fn tidy_root<N: Unlinked, R: Wait, G: Gate>(
     rt: &R,
     arena: &Arena<N, Tree>,
     pass: &mut Pass<N, Tree>,
     gate: &G,
     place: u64,
     thorough: bool,
-    path: Path<N>,
+    root: Held<N>,
 ) -> Step<N>
     requires pass { IsPass (sort_of N.layout N.ranged) BeginsTree TreeStep arena.now.table.shared.table_id arena.now.callers pass.old }
-    requires pair { IsPair (sort_of N.layout N.ranged) N.body pass.old.caller place (seen_of pass.old) path }
-    requires no_sole { IsNoSole (sort_of N.layout N.ranged) N.body path.parent }
+    requires pair { IsPair (sort_of N.layout N.ranged) N.body pass.old.caller place (seen_of pass.old) (record { parent = None; node = root }) }
     ensures pass { IsPass (sort_of N.layout N.ranged) BeginsTree TreeStep arena.now.table.shared.table_id arena.now.callers pass.new }
     ensures caller { pass.new.caller ≡ pass.old.caller }
     ensures pair { IsPair (sort_of N.layout N.ranged) N.body pass.old.caller place (seen_of pass.new) (path_in result) }
-    ensures places { HasPlacesOf (graph_after (seen_of pass.old)) (graph_after (seen_of pass.new)) path.node.node (path_in result).node.node }
+    ensures places { HasPlacesOf (graph_after (seen_of pass.old)) (graph_after (seen_of pass.new)) root.node (path_in result).node.node }
     ensures stretch { Stretches pass.old.caller (seen_of pass.old) (seen_of pass.new) }
-    ensures step { DidStep (sort_of N.layout N.ranged) N.body pass.old.caller (seen_of pass.old) (seen_of pass.new) thorough path result }
+    ensures step { DidStep (sort_of N.layout N.ranged) N.body pass.old.caller (seen_of pass.old) (seen_of pass.new) thorough (record { parent = None; node = root }) result }
 {
     if thorough {
-        return merge_right(rt, arena, pass, gate, place, path);
+        return merge_root(rt, arena, pass, gate, place, root);
     }
-    if path.node.body.is_low() {
-        return merge_right(rt, arena, pass, gate, place, path);
+    if root.body.is_low() {
+        return merge_root(rt, arena, pass, gate, place, root);
     }
-    Step::Rests(path)
+    Step::Rests(Path {
+        parent: None,
+        node: root,
+    })
+}
+
+/// Whether the node is the root, and a branch over one child.
+fn has_sole<N: Node>(parent: &Held<N>) -> bool
+    ensures sole { IsTrue result → (parent.now.node ≡ 0) × ((m : ℕ) × (only_child_of (N.body parent.now.body) ≡ Some m)) }
+    ensures none { result ≡ false → parent.now.node ≡ 0 → only_child_of (N.body parent.now.body) ≡ None }
+{
+    if parent.node != 0 {
+        return false;
+    }
+    parent.body.only_child().is_some()
+}
+
+/// Lets the root take over its only child; else merges the child with its right neighbour, if it is low or the work is
+/// thorough.
+fn tidy_child<N: Unlinked, R: Wait, G: Gate>(
+    rt: &R,
+    arena: &Arena<N, Tree>,
+    pass: &mut Pass<N, Tree>,
+    gate: &G,
+    place: u64,
+    thorough: bool,
+    parent: Held<N>,
+    node: Held<N>,
+) -> Step<N>
+    requires pass { IsPass (sort_of N.layout N.ranged) BeginsTree TreeStep arena.now.table.shared.table_id arena.now.callers pass.old }
+    requires pair { IsPair (sort_of N.layout N.ranged) N.body pass.old.caller place (seen_of pass.old) (record { parent = Some parent; node = node }) }
+    ensures pass { IsPass (sort_of N.layout N.ranged) BeginsTree TreeStep arena.now.table.shared.table_id arena.now.callers pass.new }
+    ensures caller { pass.new.caller ≡ pass.old.caller }
+    ensures pair { IsPair (sort_of N.layout N.ranged) N.body pass.old.caller place (seen_of pass.new) (path_in result) }
+    ensures places { HasPlacesOf (graph_after (seen_of pass.old)) (graph_after (seen_of pass.new)) node.node (path_in result).node.node }
+    ensures stretch { Stretches pass.old.caller (seen_of pass.old) (seen_of pass.new) }
+    ensures step { DidStep (sort_of N.layout N.ranged) N.body pass.old.caller (seen_of pass.old) (seen_of pass.new) thorough (record { parent = Some parent; node = node }) result }
+{
+    search_law();
+    tests_law();
+    unlinked_law::<N>();
+    node_law(&parent.body);
+    if has_sole(&parent) {
+        return Step::Freed(take_over(arena, pass, gate, place, parent, node));
+    }
+    if thorough {
+        return merge_child(rt, arena, pass, gate, place, parent, node);
+    }
+    if node.body.is_low() {
+        return merge_child(rt, arena, pass, gate, place, parent, node);
+    }
+    Step::Rests(Path {
+        parent: Some(parent),
+        node,
+    })
 }
 
 /// Makes one node free, if it can: the root takes over the node of the path, if that is its only child; else the node
@@ -138,18 +228,9 @@ pub fn tidy_once<N: Unlinked, R: Wait, G: Gate>(
     ensures stretch { Stretches pass.old.caller (seen_of pass.old) (seen_of pass.new) }
     ensures step { DidStep (sort_of N.layout N.ranged) N.body pass.old.caller (seen_of pass.old) (seen_of pass.new) thorough path result }
 {
-    tests_law();
     let Path { parent, node } = path;
-    let Some(parent) = parent else {
-        let path = Path { parent: None, node };
-        return merge_low(rt, arena, pass, gate, place, thorough, path);
-    };
-    if parent.node == 0 && parent.body.only_child().is_some() {
-        return Step::Freed(take_over(arena, pass, gate, place, parent, node));
+    match parent {
+        None => tidy_root(rt, arena, pass, gate, place, thorough, node),
+        Some(parent) => tidy_child(rt, arena, pass, gate, place, thorough, parent, node),
     }
-    let path = Path {
-        parent: Some(parent),
-        node,
-    };
-    merge_low(rt, arena, pass, gate, place, thorough, path)
 }

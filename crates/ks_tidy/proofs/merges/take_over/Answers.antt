@@ -46,7 +46,7 @@ gave : (g : Over) (c : After-give g) → GrowsWith c.args.pass.now.caller (Give 
 gave g c = subst (λ (z : ℕ). GrowsWith z (Give z c.collapse.new.child.node) (seen_of c.collapse.new.pass) (seen_of c.give.new.pass)) c.collapse.ensures.caller c.give.ensures.gave
 
 pub give-requires-clause-holds : goal.give-requires-clause-holds
-give-requires-clause-holds g c = let h₁ = seen_of c.collapse.new.pass in
+give-requires-clause-holds g c κs within = let h₁ = seen_of c.collapse.new.pass in
     subst (λ (z : List ℕ). Has z c.collapse.new.child.node) (sym (c.collapse.ensures.hand ∙ c.requires.pair.path.hands)) (inl (sym c.collapse.ensures.child.node))
 
 pub returns-clause-pair : goal.returns-clause-pair
