@@ -9,3 +9,4 @@ pub mod Ended
 pub mod Beyond
 pub mod Writes
 pub mod Aside
+pub mod Of

@@ -1,20 +1,20 @@
 //! What makes a call ready to be decided. The functions compute nothing: their contracts are laws.
-ghost use Rattle.std.specs.Prelude.{◌≡◌, ◌≢◌, List, IsTrue, Some, None, ℕ, true, false};
+ghost use Rattle.std.specs.Prelude.{ℕ, ◌≡◌, ◌≢◌, List, IsTrue, Some, None, true, false};
 ghost use Rattle.ks_keysets.specs.Keyset.{InInset};
 ghost use Rattle.ks_history.specs.declared.Event.{Event as Happening};
 ghost use Rattle.ks_history.specs.declared.Op.TheVariants.{Add, Del, Get, Put, Swap};
 ghost use Rattle.ks_history.specs.declared.Reply.TheVariants.{Full, Nothing, Value};
-ghost use Rattle.ks_history.specs.Due.{IsFullFor, NoneFree};
+ghost use Rattle.ks_history.specs.Due.{IsFullFor};
 ghost use Rattle.ks_history.specs.Map.{told};
-ghost use Rattle.ks_history.specs.Passes.{GrowsByOthers, Has, NoCallBy};
-ghost use Rattle.ks_history.specs.Trace.{◌⊑◌, graph_after};
+ghost use Rattle.ks_history.specs.Passes.{GrowsByOthers};
+ghost use Rattle.ks_history.specs.Trace.{graph_after};
 ghost use Rattle.ks_node.specs.declared.start.Next.TheVariants.{Here};
 ghost use Rattle.ks_node.specs.Body.{is_branch, next_at, value_at};
-ghost use Rattle.ks_node.specs.Effect.{pairs_del, pairs_put, with_pairs};
+ghost use Rattle.ks_node.specs.Effect.{pairs_del, pairs_put};
 ghost use Rattle.ks_node.specs.Room.{is_full};
-ghost use Rattle.ks_arena.specs.declared.held.Held.{Held as Hand};
 ghost use Rattle.ks_arena.specs.Sound.{sort_of, Sound};
-ghost use Rattle.ks_arena.specs.Clauses.{IsPass, hand_of, seen_of, Matches, IsReady};
+ghost use Rattle.ks_arena.specs.Clauses.{seen_of, Matches};
+ghost use Rattle.ks_arena.specs.Of.{Holds, IsInside, IsPassOf, IsLiveAndCurrent, IsReadyAt, IsReadyOnce, WasRefusedAt};
 
 use crate::arena::Arena;
 use crate::held::{Held, Pass};
@@ -33,13 +33,13 @@ impl<N: Node, D: Discipline> Arena<N, D> {
     /// A Get may be decided at a live node in hand whose inset has the place, and where the search for it ends. Its
     /// reply tells what the body has there.
     pub fn get_law(&self, pass: &Pass<N, D>, held: &Held<N>, place: u64, reply: &Reply)
-        requires pass { IsPass (sort_of N.layout N.ranged) D.begins D.step self.now.table.shared.table_id self.now.callers pass.now }
-        requires holds { Has (hand_of pass.now) held.now.node }
-        requires body { (held.now.live ≡ true) × Matches (sort_of N.layout N.ranged) N.body (seen_of pass.now) held.now }
-        requires inside { InInset (graph_after (seen_of pass.now)) held.now.node place }
+        requires pass { IsPassOf self.now pass.now }
+        requires holds { Holds pass.now held.now.node }
+        requires body { IsLiveAndCurrent self.now pass.now held.now }
+        requires inside { IsInside pass.now held.now.node place }
         requires here { next_at (N.body held.now.body) place ≡ Here }
         requires reply { reply.now ≡ told (value_at (N.body held.now.body).pairs place) }
-        ensures { IsReady (sort_of N.layout N.ranged) N.body self.now.nodes pass.now.caller (seen_of pass.now) held.now (Get place) reply.now }
+        ensures { IsReadyAt self.now pass.now held.now (Get place) reply.now }
     {
         sound_law::<D>();
         node_law(&held.body);
@@ -48,12 +48,12 @@ impl<N: Node, D: Discipline> Arena<N, D> {
     /// Where a Get may be decided, a Put may be once the value is put at the place in the body. Its reply tells what
     /// stood there.
     pub fn put_law(&self, pass: &Pass<N, D>, held: &Held<N>, place: u64, value: u128)
-        requires pass { IsPass (sort_of N.layout N.ranged) D.begins D.step self.now.table.shared.table_id self.now.callers pass.now }
-        requires holds { Has (hand_of pass.now) held.now.node }
-        requires body { (held.now.live ≡ true) × Matches (sort_of N.layout N.ranged) N.body (seen_of pass.now) held.now }
-        requires inside { InInset (graph_after (seen_of pass.now)) held.now.node place }
+        requires pass { IsPassOf self.now pass.now }
+        requires holds { Holds pass.now held.now.node }
+        requires body { IsLiveAndCurrent self.now pass.now held.now }
+        requires inside { IsInside pass.now held.now.node place }
         requires here { next_at (N.body held.now.body) place ≡ Here }
-        ensures { (x : Hand N) → x.node ≡ held.now.node → x.live ≡ true → N.body x.body ≡ with_pairs (N.body held.now.body) (pairs_put place value (N.body held.now.body).pairs) → IsReady (sort_of N.layout N.ranged) N.body self.now.nodes pass.now.caller (seen_of pass.now) x (Put place value) (told (value_at (N.body held.now.body).pairs place)) }
+        ensures { IsReadyOnce self.now pass.now held.now (pairs_put place value (N.body held.now.body).pairs) (Put place value) (told (value_at (N.body held.now.body).pairs place)) }
     {
         sound_law::<D>();
         node_law(&held.body);
@@ -62,12 +62,12 @@ impl<N: Node, D: Discipline> Arena<N, D> {
     /// Where a Get may be decided, a Del may be once the pair of the place is deleted from the body. Its reply tells
     /// what stood there.
     pub fn del_law(&self, pass: &Pass<N, D>, held: &Held<N>, place: u64)
-        requires pass { IsPass (sort_of N.layout N.ranged) D.begins D.step self.now.table.shared.table_id self.now.callers pass.now }
-        requires holds { Has (hand_of pass.now) held.now.node }
-        requires body { (held.now.live ≡ true) × Matches (sort_of N.layout N.ranged) N.body (seen_of pass.now) held.now }
-        requires inside { InInset (graph_after (seen_of pass.now)) held.now.node place }
+        requires pass { IsPassOf self.now pass.now }
+        requires holds { Holds pass.now held.now.node }
+        requires body { IsLiveAndCurrent self.now pass.now held.now }
+        requires inside { IsInside pass.now held.now.node place }
         requires here { next_at (N.body held.now.body) place ≡ Here }
-        ensures { (x : Hand N) → x.node ≡ held.now.node → x.live ≡ true → N.body x.body ≡ with_pairs (N.body held.now.body) (pairs_del place (N.body held.now.body).pairs) → IsReady (sort_of N.layout N.ranged) N.body self.now.nodes pass.now.caller (seen_of pass.now) x (Del place) (told (value_at (N.body held.now.body).pairs place)) }
+        ensures { IsReadyOnce self.now pass.now held.now (pairs_del place (N.body held.now.body).pairs) (Del place) (told (value_at (N.body held.now.body).pairs place)) }
     {
         sound_law::<D>();
         node_law(&held.body);
@@ -76,13 +76,13 @@ impl<N: Node, D: Discipline> Arena<N, D> {
     /// Where a Get may be decided, an Add may be. Where the body has a value at the place, the reply tells it and the body
     /// stays; else the value is put there.
     pub fn add_law(&self, pass: &Pass<N, D>, held: &Held<N>, place: u64, value: u128)
-        requires pass { IsPass (sort_of N.layout N.ranged) D.begins D.step self.now.table.shared.table_id self.now.callers pass.now }
-        requires holds { Has (hand_of pass.now) held.now.node }
-        requires body { (held.now.live ≡ true) × Matches (sort_of N.layout N.ranged) N.body (seen_of pass.now) held.now }
-        requires inside { InInset (graph_after (seen_of pass.now)) held.now.node place }
+        requires pass { IsPassOf self.now pass.now }
+        requires holds { Holds pass.now held.now.node }
+        requires body { IsLiveAndCurrent self.now pass.now held.now }
+        requires inside { IsInside pass.now held.now.node place }
         requires here { next_at (N.body held.now.body) place ≡ Here }
-        ensures stays { (found : ℕ) → value_at (N.body held.now.body).pairs place ≡ Some found → IsReady (sort_of N.layout N.ranged) N.body self.now.nodes pass.now.caller (seen_of pass.now) held.now (Add place value) (Value found) }
-        ensures adds { value_at (N.body held.now.body).pairs place ≡ None → (x : Hand N) → x.node ≡ held.now.node → x.live ≡ true → N.body x.body ≡ with_pairs (N.body held.now.body) (pairs_put place value (N.body held.now.body).pairs) → IsReady (sort_of N.layout N.ranged) N.body self.now.nodes pass.now.caller (seen_of pass.now) x (Add place value) Nothing }
+        ensures stays { (found : ℕ) → value_at (N.body held.now.body).pairs place ≡ Some found → IsReadyAt self.now pass.now held.now (Add place value) (Value found) }
+        ensures adds { value_at (N.body held.now.body).pairs place ≡ None → IsReadyOnce self.now pass.now held.now (pairs_put place value (N.body held.now.body).pairs) (Add place value) Nothing }
     {
         sound_law::<D>();
         node_law(&held.body);
@@ -91,13 +91,13 @@ impl<N: Node, D: Discipline> Arena<N, D> {
     /// Where a Get may be decided, a Swap may be. Its reply tells what stood at the place. Where that is the old value, the
     /// new one is put there; else the body stays.
     pub fn swap_law(&self, pass: &Pass<N, D>, held: &Held<N>, place: u64, old: u128, new: u128)
-        requires pass { IsPass (sort_of N.layout N.ranged) D.begins D.step self.now.table.shared.table_id self.now.callers pass.now }
-        requires holds { Has (hand_of pass.now) held.now.node }
-        requires body { (held.now.live ≡ true) × Matches (sort_of N.layout N.ranged) N.body (seen_of pass.now) held.now }
-        requires inside { InInset (graph_after (seen_of pass.now)) held.now.node place }
+        requires pass { IsPassOf self.now pass.now }
+        requires holds { Holds pass.now held.now.node }
+        requires body { IsLiveAndCurrent self.now pass.now held.now }
+        requires inside { IsInside pass.now held.now.node place }
         requires here { next_at (N.body held.now.body) place ≡ Here }
-        ensures swaps { value_at (N.body held.now.body).pairs place ≡ Some old → (x : Hand N) → x.node ≡ held.now.node → x.live ≡ true → N.body x.body ≡ with_pairs (N.body held.now.body) (pairs_put place new (N.body held.now.body).pairs) → IsReady (sort_of N.layout N.ranged) N.body self.now.nodes pass.now.caller (seen_of pass.now) x (Swap place old new) (Value old) }
-        ensures stays { value_at (N.body held.now.body).pairs place ≢ Some old → IsReady (sort_of N.layout N.ranged) N.body self.now.nodes pass.now.caller (seen_of pass.now) held.now (Swap place old new) (told (value_at (N.body held.now.body).pairs place)) }
+        ensures swaps { value_at (N.body held.now.body).pairs place ≡ Some old → IsReadyOnce self.now pass.now held.now (pairs_put place new (N.body held.now.body).pairs) (Swap place old new) (Value old) }
+        ensures stays { value_at (N.body held.now.body).pairs place ≢ Some old → IsReadyAt self.now pass.now held.now (Swap place old new) (told (value_at (N.body held.now.body).pairs place)) }
     {
         sound_law::<D>();
         node_law(&held.body);
@@ -107,17 +107,17 @@ impl<N: Node, D: Discipline> Arena<N, D> {
     /// node was free for it since some moment after which the caller has made no call. The node stays full for the place
     /// while others act.
     pub fn full_law(&self, pass: &Pass<N, D>, held: &Held<N>, place: u64, value: u128)
-        requires pass { IsPass (sort_of N.layout N.ranged) D.begins D.step self.now.table.shared.table_id self.now.callers pass.now }
-        requires holds { Has (hand_of pass.now) held.now.node }
-        requires body { (held.now.live ≡ true) × Matches (sort_of N.layout N.ranged) N.body (seen_of pass.now) held.now }
-        requires inside { InInset (graph_after (seen_of pass.now)) held.now.node place }
+        requires pass { IsPassOf self.now pass.now }
+        requires holds { Holds pass.now held.now.node }
+        requires body { IsLiveAndCurrent self.now pass.now held.now }
+        requires inside { IsInside pass.now held.now.node place }
         requires here { next_at (N.body held.now.body) place ≡ Here }
         requires no_branch { is_branch (N.body held.now.body) ≡ false }
         requires full { IsTrue (is_full N.layout (N.body held.now.body)) }
         requires absent { value_at (N.body held.now.body).pairs place ≡ None }
-        requires none_free { (start : List Happening) × (since : start ⊑ seen_of pass.now) × NoCallBy pass.now.caller since.rest × NoneFree N.layout self.now.nodes pass.now.caller place start (seen_of pass.now) }
-        ensures put { IsReady (sort_of N.layout N.ranged) N.body self.now.nodes pass.now.caller (seen_of pass.now) held.now (Put place value) Full }
-        ensures add { IsReady (sort_of N.layout N.ranged) N.body self.now.nodes pass.now.caller (seen_of pass.now) held.now (Add place value) Full }
+        requires none_free { WasRefusedAt self.now pass.now place }
+        ensures put { IsReadyAt self.now pass.now held.now (Put place value) Full }
+        ensures add { IsReadyAt self.now pass.now held.now (Add place value) Full }
         ensures still { (h : List Happening) → GrowsByOthers pass.now.caller (seen_of pass.now) h → Sound (sort_of N.layout N.ranged) D.begins D.step self.now.table.shared.table_id.slots h → IsFullFor N.layout (graph_after h) held.now.node place }
     {
         sound_law::<D>();

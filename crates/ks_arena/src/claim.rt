@@ -1,12 +1,11 @@
 //! How callers claim free nodes, and how they wait for nodes that others hold.
 ghost use Rattle.std.specs.Prelude.{◌≡◌, ◌+◌, ◌<◌, ◌≤◌};
-ghost use Rattle.ks_history.specs.Alone.{ActsAlone, HoldsAlone};
-ghost use Rattle.ks_history.specs.Passes.{Has};
 ghost use Rattle.ks_arena.specs.Sound.{sort_of};
 ghost use Rattle.ks_arena.specs.Rule.{free_words};
 ghost use Rattle.ks_arena.specs.Plays.{TellsFree};
 ghost use Rattle.ks_arena.specs.declared.view.Mark.TheVariants.{Claiming};
-ghost use Rattle.ks_arena.specs.Clauses.{IsPass, IsPassWith, seen_of, hand_of, HasLooked, Kept, StillMatch, Took, TryClaimed, claim_mark, try_steps, DidClaimIn, word_steps, steps_alone, DidClaim};
+ghost use Rattle.ks_arena.specs.Clauses.{seen_of, TryClaimed, claim_mark, try_steps, DidClaimIn, word_steps, steps_alone};
+ghost use Rattle.ks_arena.specs.Of.{Holds, Looks, Keeps, WasAlone, HeldAlone, IsPassOf, IsMarkedPassOf, StayCurrent, HasTakenFrom, HasClaimedFrom};
 
 use crate::arena::Arena;
 use crate::held::{Held, Pass, Taken};
@@ -23,14 +22,14 @@ use std::sync::ledger::{Blank, Ledger};
 impl<N: Node, D: Discipline> Arena<N, D> {
     /// Takes the node once nobody else holds it. `None`: it is free.
     pub fn take<R: Wait>(&self, rt: &R, pass: &mut Pass<N, D>, node: u32) -> Option<Held<N>>
-        requires pass { IsPass (sort_of N.layout N.ranged) D.begins D.step self.now.table.shared.table_id self.now.callers pass.old }
+        requires pass { IsPassOf self.now pass.old }
         requires node { node < self.now.nodes }
-        requires fresh { ¬ Has (hand_of pass.old) node }
-        ensures pass { IsPass (sort_of N.layout N.ranged) D.begins D.step self.now.table.shared.table_id self.now.callers pass.new }
+        requires fresh { ¬ Holds pass.old node }
+        ensures pass { IsPassOf self.now pass.new }
         ensures caller { pass.new.caller ≡ pass.old.caller }
-        ensures took { Took (sort_of N.layout N.ranged) N.body pass.old.caller node (seen_of pass.old) (seen_of pass.new) result }
-        ensures kept { Kept pass.old.caller (seen_of pass.old) (seen_of pass.new) }
-        ensures still { StillMatch (sort_of N.layout N.ranged) N.body (hand_of pass.old) (seen_of pass.old) (seen_of pass.new) }
+        ensures took { HasTakenFrom self.now node pass.old pass.new result }
+        ensures kept { Keeps pass.old pass.new }
+        ensures still { StayCurrent self.now pass.old pass.new }
     {
         let backoff = Backoff::new();
         for _ in rt.forever() {
@@ -45,26 +44,26 @@ impl<N: Node, D: Discipline> Arena<N, D> {
 
     /// Claims the first node, from node 1 upward, that it finds free. `None`: none was found free.
     pub fn claim(&self, pass: &mut Pass<N, D>) -> Option<Held<N>>
-        requires { IsPass (sort_of N.layout N.ranged) D.begins D.step self.now.table.shared.table_id self.now.callers pass.old }
-        ensures pass { IsPass (sort_of N.layout N.ranged) D.begins D.step self.now.table.shared.table_id self.now.callers pass.new }
+        requires { IsPassOf self.now pass.old }
+        ensures pass { IsPassOf self.now pass.new }
         ensures caller { pass.new.caller ≡ pass.old.caller }
-        ensures claimed { DidClaim (sort_of N.layout N.ranged) N.body self.now.nodes pass.old.caller (seen_of pass.old) (seen_of pass.new) result }
-        ensures kept { Kept pass.old.caller (seen_of pass.old) (seen_of pass.new) }
-        ensures still { StillMatch (sort_of N.layout N.ranged) N.body (hand_of pass.old) (seen_of pass.old) (seen_of pass.new) }
+        ensures claimed { HasClaimedFrom self.now pass.old pass.new result }
+        ensures kept { Keeps pass.old pass.new }
+        ensures still { StayCurrent self.now pass.old pass.new }
     {
         self.claim_counted::<Brand>(pass, Blank::new(1))
     }
 
     fn claim_counted<L: Ledger>(&self, pass: &mut Pass<N, D>, blank: Blank) -> Option<Held<N>>
-        requires pass { IsPass (sort_of N.layout N.ranged) D.begins D.step self.now.table.shared.table_id self.now.callers pass.old }
+        requires pass { IsPassOf self.now pass.old }
         requires name { blank.name ≡ L.name }
         requires parts { blank.parts ≡ L.parts }
         requires some { 0 < blank.parts }
-        ensures pass { IsPass (sort_of N.layout N.ranged) D.begins D.step self.now.table.shared.table_id self.now.callers pass.new }
+        ensures pass { IsPassOf self.now pass.new }
         ensures caller { pass.new.caller ≡ pass.old.caller }
-        ensures claimed { DidClaim (sort_of N.layout N.ranged) N.body self.now.nodes pass.old.caller (seen_of pass.old) (seen_of pass.new) result }
-        ensures kept { Kept pass.old.caller (seen_of pass.old) (seen_of pass.new) }
-        ensures still { StillMatch (sort_of N.layout N.ranged) N.body (hand_of pass.old) (seen_of pass.old) (seen_of pass.new) }
+        ensures claimed { HasClaimedFrom self.now pass.old pass.new result }
+        ensures kept { Keeps pass.old pass.new }
+        ensures still { StayCurrent self.now pass.old pass.new }
     {
         self.claim_steps(pass, &mut Steps::<L>::start(blank))
     }
@@ -77,14 +76,14 @@ impl<N: Node, D: Discipline> Arena<N, D> {
         pass: &mut Pass<N, D>,
         steps: &mut Steps<L>,
     ) -> Option<Held<N>>
-        requires { IsPass (sort_of N.layout N.ranged) D.begins D.step self.now.table.shared.table_id self.now.callers pass.old }
-        ensures pass { IsPass (sort_of N.layout N.ranged) D.begins D.step self.now.table.shared.table_id self.now.callers pass.new }
+        requires { IsPassOf self.now pass.old }
+        ensures pass { IsPassOf self.now pass.new }
         ensures caller { pass.new.caller ≡ pass.old.caller }
-        ensures claimed { DidClaim (sort_of N.layout N.ranged) N.body self.now.nodes pass.old.caller (seen_of pass.old) (seen_of pass.new) result }
-        ensures kept { Kept pass.old.caller (seen_of pass.old) (seen_of pass.new) }
-        ensures still { StillMatch (sort_of N.layout N.ranged) N.body (hand_of pass.old) (seen_of pass.old) (seen_of pass.new) }
-        ensures cost { ActsAlone pass.old.caller (seen_of pass.old) (seen_of pass.new) → HoldsAlone pass.old.caller (seen_of pass.old) → steps.new ≡ steps.old + steps_alone self.now.nodes result }
-        ensures bound { ActsAlone pass.old.caller (seen_of pass.old) (seen_of pass.new) → HoldsAlone pass.old.caller (seen_of pass.old) → steps.new ≤ steps.old + free_words self.now.nodes + 2 }
+        ensures claimed { HasClaimedFrom self.now pass.old pass.new result }
+        ensures kept { Keeps pass.old pass.new }
+        ensures still { StayCurrent self.now pass.old pass.new }
+        ensures cost { WasAlone pass.old pass.new → HeldAlone pass.old → steps.new ≡ steps.old + steps_alone self.now.nodes result }
+        ensures bound { WasAlone pass.old pass.new → HeldAlone pass.old → steps.new ≤ steps.old + free_words self.now.nodes + 2 }
         ensures one { self.now.callers ≡ 1 → pass.old.caller ≡ 0 → steps.new ≡ steps.old + steps_alone self.now.nodes result }
     {
         sound_law::<D>();
@@ -103,13 +102,13 @@ impl<N: Node, D: Discipline> Arena<N, D> {
         index: u32,
         steps: &mut Steps<L>,
     ) -> Option<Held<N>>
-        requires pass { IsPass (sort_of N.layout N.ranged) D.begins D.step self.now.table.shared.table_id self.now.callers pass.old }
+        requires pass { IsPassOf self.now pass.old }
         requires index { index < free_words self.now.nodes }
-        ensures pass { IsPass (sort_of N.layout N.ranged) D.begins D.step self.now.table.shared.table_id self.now.callers pass.new }
+        ensures pass { IsPassOf self.now pass.new }
         ensures caller { pass.new.caller ≡ pass.old.caller }
         ensures claimed { DidClaimIn (sort_of N.layout N.ranged) N.body self.now.nodes index pass.old.caller (seen_of pass.old) (seen_of pass.new) result }
-        ensures kept { Kept pass.old.caller (seen_of pass.old) (seen_of pass.new) }
-        ensures cost { ActsAlone pass.old.caller (seen_of pass.old) (seen_of pass.new) → HoldsAlone pass.old.caller (seen_of pass.old) → steps.new ≡ steps.old + word_steps result }
+        ensures kept { Keeps pass.old pass.new }
+        ensures cost { WasAlone pass.old pass.new → HeldAlone pass.old → steps.new ≡ steps.old + word_steps result }
     {
         let mut left = self.scan(pass, index, steps);
         while left != 0 {
@@ -124,13 +123,13 @@ impl<N: Node, D: Discipline> Arena<N, D> {
 
     /// Reads a free word: a bit for each node that may be free.
     fn scan<L: Ledger>(&self, pass: &mut Pass<N, D>, index: u32, steps: &mut Steps<L>) -> u64
-        requires pass { IsPass (sort_of N.layout N.ranged) D.begins D.step self.now.table.shared.table_id self.now.callers pass.old }
+        requires pass { IsPassOf self.now pass.old }
         requires index { index < free_words self.now.nodes }
-        ensures pass { IsPass (sort_of N.layout N.ranged) D.begins D.step self.now.table.shared.table_id self.now.callers pass.new }
+        ensures pass { IsPassOf self.now pass.new }
         ensures caller { pass.new.caller ≡ pass.old.caller }
-        ensures looked { HasLooked pass.old.caller (seen_of pass.old) (seen_of pass.new) }
+        ensures looked { Looks pass.old pass.new }
         ensures told { TellsFree self.now.nodes index pass.old.caller (seen_of pass.new) result }
-        ensures kept { Kept pass.old.caller (seen_of pass.old) (seen_of pass.new) }
+        ensures kept { Keeps pass.old pass.new }
         ensures cost { steps.new ≡ steps.old + 1 }
     {
         steps.tick();
@@ -145,12 +144,12 @@ impl<N: Node, D: Discipline> Arena<N, D> {
         node: u32,
         steps: &mut Steps<L>,
     ) -> Option<Held<N>>
-        requires pass { IsPass (sort_of N.layout N.ranged) D.begins D.step self.now.table.shared.table_id self.now.callers pass.old }
+        requires pass { IsPassOf self.now pass.old }
         requires node { node < self.now.nodes }
-        ensures pass { IsPass (sort_of N.layout N.ranged) D.begins D.step self.now.table.shared.table_id self.now.callers pass.new }
+        ensures pass { IsPassOf self.now pass.new }
         ensures caller { pass.new.caller ≡ pass.old.caller }
         ensures claimed { TryClaimed (sort_of N.layout N.ranged) N.body pass.old.caller node (seen_of pass.old) (seen_of pass.new) result }
-        ensures kept { Kept pass.old.caller (seen_of pass.old) (seen_of pass.new) }
+        ensures kept { Keeps pass.old pass.new }
         ensures cost { steps.new ≡ steps.old + try_steps result }
     {
         let held = self.catch(pass, node, steps)?;
@@ -165,12 +164,12 @@ impl<N: Node, D: Discipline> Arena<N, D> {
         node: u32,
         steps: &mut Steps<L>,
     ) -> Option<Held<N>>
-        requires pass { IsPass (sort_of N.layout N.ranged) D.begins D.step self.now.table.shared.table_id self.now.callers pass.old }
+        requires pass { IsPassOf self.now pass.old }
         requires node { node < self.now.nodes }
-        ensures pass { IsPassWith (sort_of N.layout N.ranged) D.begins D.step (claim_mark result) self.now.table.shared.table_id self.now.callers pass.new }
+        ensures pass { IsMarkedPassOf self.now (claim_mark result) pass.new }
         ensures caller { pass.new.caller ≡ pass.old.caller }
         ensures claimed { TryClaimed (sort_of N.layout N.ranged) N.body pass.old.caller node (seen_of pass.old) (seen_of pass.new) result }
-        ensures kept { Kept pass.old.caller (seen_of pass.old) (seen_of pass.new) }
+        ensures kept { Keeps pass.old pass.new }
         ensures cost { steps.new ≡ steps.old + 1 }
     {
         let at = node as usize;
@@ -196,13 +195,13 @@ impl<N: Node, D: Discipline> Arena<N, D> {
 
     /// Clears the bit of a node just claimed.
     fn clear_bit<L: Ledger>(&self, pass: &mut Pass<N, D>, node: u32, steps: &mut Steps<L>)
-        requires pass { IsPassWith (sort_of N.layout N.ranged) D.begins D.step (Claiming node) self.now.table.shared.table_id self.now.callers pass.old }
-        requires holds { Has (hand_of pass.old) node }
-        ensures pass { IsPass (sort_of N.layout N.ranged) D.begins D.step self.now.table.shared.table_id self.now.callers pass.new }
+        requires pass { IsMarkedPassOf self.now (Claiming node) pass.old }
+        requires holds { Holds pass.old node }
+        ensures pass { IsPassOf self.now pass.new }
         ensures caller { pass.new.caller ≡ pass.old.caller }
-        ensures looked { HasLooked pass.old.caller (seen_of pass.old) (seen_of pass.new) }
-        ensures kept { Kept pass.old.caller (seen_of pass.old) (seen_of pass.new) }
-        ensures still { StillMatch (sort_of N.layout N.ranged) N.body (hand_of pass.old) (seen_of pass.old) (seen_of pass.new) }
+        ensures looked { Looks pass.old pass.new }
+        ensures kept { Keeps pass.old pass.new }
+        ensures still { StayCurrent self.now pass.old pass.new }
         ensures cost { steps.new ≡ steps.old + 1 }
     {
         steps.tick();

@@ -11,6 +11,7 @@ mod claim;
 mod ended;
 mod fit;
 mod held;
+mod kin;
 pub mod laws;
 mod life;
 mod note;
@@ -20,6 +21,7 @@ mod rule;
 mod run;
 mod send_closed;
 mod steps;
+mod turns;
 mod view;
 
 pub use arena::Arena;

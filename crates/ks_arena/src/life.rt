@@ -1,12 +1,14 @@
 //! How an arena is made, and how it ends.
-ghost use Rattle.std.specs.Prelude.{◌≡◌, ◌≤◌, ℕ, ◌+◌, ◌<◌, ◌^◌, [], ◌∷◌, cond, eqb, length, slice_index, IfOk};
+ghost use Rattle.std.specs.Prelude.{ℕ, ◌≡◌, ◌≤◌, ◌+◌, ◌<◌, ◌^◌, [], cond, eqb, length, slice_index, IfOk};
 ghost use Rattle.ks_history.specs.Passes.{CallersBelow};
 ghost use Rattle.ks_arena.specs.Sound.{sort_of, blank_of, Sound};
 ghost use Rattle.ks_arena.specs.Rule.{AllBlank, first_view, free_words, FirstBits};
-ghost use Rattle.ks_arena.specs.Clauses.{IsNewCrew, IsCrew, EndsAll, IsRun, trace_of};
+ghost use Rattle.ks_arena.specs.Clauses.{IsNewCrew, EndsAll, IsRun, trace_of};
+ghost use Rattle.ks_arena.specs.Of.{AreAllPassesOf};
 
 use crate::arena::Arena;
 use crate::held::Pass;
+use crate::kin::Kin;
 use crate::laws::sound_law;
 use crate::plays::{Gathers, Next, TakeIn, Tell};
 use crate::remains::Remains;
@@ -99,13 +101,14 @@ impl<N: Node, D: Discipline> Arena<N, D> {
             table,
             nodes,
             callers,
+            kin: Kin::new(),
         };
         Ok((arena, passes))
     }
 
     /// Ends the arena. The passes are all that `start` gave, and hold no node.
     pub fn close(self, mut passes: Vec<Pass<N, D>>) -> Run<N>
-        requires { IsCrew (sort_of N.layout N.ranged) D.begins D.step self.table.shared.table_id self.callers passes.items }
+        requires { AreAllPassesOf self passes.items }
         ensures run { IsRun (sort_of N.layout N.ranged) N.body self.nodes result }
         ensures sound { Sound (sort_of N.layout N.ranged) D.begins D.step self.nodes (trace_of result) }
         ensures seen { EndsAll (trace_of result) passes.items }

@@ -1,8 +1,8 @@
 //! How a caller learns what another one has seen.
 ghost use Rattle.std.specs.Prelude.{◌≡◌};
 ghost use Rattle.ks_history.specs.Trace.{◌⊑◌};
-ghost use Rattle.ks_arena.specs.Sound.{sort_of};
-ghost use Rattle.ks_arena.specs.Clauses.{IsPass, IsNote, noted, seen_of, hand_of, HasLooked, Kept, StillMatch};
+ghost use Rattle.ks_arena.specs.Clauses.{noted, seen_of};
+ghost use Rattle.ks_arena.specs.Of.{Looks, Keeps, IsPassOf, IsNoteFrom, StayCurrent};
 
 use crate::arena::Arena;
 use crate::held::{Note, Pass};
@@ -14,11 +14,11 @@ use std::marker::PhantomData;
 impl<N: Node, D: Discipline> Arena<N, D> {
     /// A copy of what the pass has seen.
     pub fn note(&self, pass: &mut Pass<N, D>) -> Note<N, D>
-        requires { IsPass (sort_of N.layout N.ranged) D.begins D.step self.now.table.shared.table_id self.now.callers pass.old }
-        ensures pass { IsPass (sort_of N.layout N.ranged) D.begins D.step self.now.table.shared.table_id self.now.callers pass.new }
+        requires { IsPassOf self.now pass.old }
+        ensures pass { IsPassOf self.now pass.new }
         ensures caller { pass.new.caller ≡ pass.old.caller }
         ensures seen { seen_of pass.new ≡ seen_of pass.old }
-        ensures note { IsNote self.now.table.shared.table_id result }
+        ensures note { IsNoteFrom self.now result }
         ensures noted { noted result ≡ seen_of pass.old }
     {
         let seat = self.table.shared.split_seat::<Tell>(&mut pass.seat);
@@ -30,14 +30,14 @@ impl<N: Node, D: Discipline> Arena<N, D> {
 
     /// From now on the pass has seen what the note has.
     pub fn learn(&self, pass: &mut Pass<N, D>, note: Note<N, D>)
-        requires pass { IsPass (sort_of N.layout N.ranged) D.begins D.step self.now.table.shared.table_id self.now.callers pass.old }
-        requires note { IsNote self.now.table.shared.table_id note }
-        ensures pass { IsPass (sort_of N.layout N.ranged) D.begins D.step self.now.table.shared.table_id self.now.callers pass.new }
+        requires pass { IsPassOf self.now pass.old }
+        requires note { IsNoteFrom self.now note }
+        ensures pass { IsPassOf self.now pass.new }
         ensures caller { pass.new.caller ≡ pass.old.caller }
-        ensures looked { HasLooked pass.old.caller (seen_of pass.old) (seen_of pass.new) }
+        ensures looked { Looks pass.old pass.new }
         ensures noted { noted note ⊑ seen_of pass.new }
-        ensures kept { Kept pass.old.caller (seen_of pass.old) (seen_of pass.new) }
-        ensures still { StillMatch (sort_of N.layout N.ranged) N.body (hand_of pass.old) (seen_of pass.old) (seen_of pass.new) }
+        ensures kept { Keeps pass.old pass.new }
+        ensures still { StayCurrent self.now pass.old pass.new }
     {
         self.table
             .shared

@@ -1,12 +1,11 @@
 //! The calls of a dictionary by lock coupling.
-ghost use Rattle.std.specs.Prelude.{◌≡◌, []};
-ghost use Rattle.ks_flow.specs.Discipline.{BeginsTree, TreeStep};
+ghost use Rattle.std.specs.Prelude.{◌≡◌};
 ghost use Rattle.ks_history.specs.declared.Op.TheVariants.{Add, Del, Get, Put, Swap};
 ghost use Rattle.ks_history.specs.Map.{told};
-ghost use Rattle.ks_history.specs.Done.{coupling, Done};
-ghost use Rattle.ks_arena.specs.Sound.{sort_of};
-ghost use Rattle.ks_arena.specs.Clauses.{IsPass, hand_of, seen_of};
+ghost use Rattle.ks_history.specs.Done.{coupling};
 ghost use Rattle.ks_shape.specs.Answers.{number_in, reply_in};
+ghost use Rattle.ks_arena.specs.Of.{IsEmptyPassOf};
+ghost use Rattle.ks_shape.specs.Of.{DoneOf};
 
 use crate::descent::find;
 use ks_arena::laws::sound_law;
@@ -27,10 +26,10 @@ pub fn get<N: Unlinked, R: Wait, G: Gate>(
     gate: &G,
     place: u64,
 ) -> Numbered
-    requires pass { IsPass (sort_of N.layout N.ranged) BeginsTree TreeStep arena.now.table.shared.table_id arena.now.callers pass.old × (hand_of pass.old ≡ []) }
-    ensures pass { IsPass (sort_of N.layout N.ranged) BeginsTree TreeStep arena.now.table.shared.table_id arena.now.callers pass.new × (hand_of pass.new ≡ []) }
+    requires pass { IsEmptyPassOf arena.now pass.old }
+    ensures pass { IsEmptyPassOf arena.now pass.new }
     ensures caller { pass.new.caller ≡ pass.old.caller }
-    ensures done { Done N.layout coupling arena.now.nodes pass.old.caller (Get place) (seen_of pass.old) (seen_of pass.new) (told result.found) result.number }
+    ensures done { DoneOf arena.now coupling (Get place) pass.old pass.new (told result.found) result.number }
 {
     let held = find(rt, arena, pass, gate, place);
     let found = held.body.get(place);
@@ -54,10 +53,10 @@ pub fn put<N: Unlinked, R: Wait, G: Gate>(
     place: u64,
     value: u128,
 ) -> Result<Numbered, Full>
-    requires pass { IsPass (sort_of N.layout N.ranged) BeginsTree TreeStep arena.now.table.shared.table_id arena.now.callers pass.old × (hand_of pass.old ≡ []) }
-    ensures pass { IsPass (sort_of N.layout N.ranged) BeginsTree TreeStep arena.now.table.shared.table_id arena.now.callers pass.new × (hand_of pass.new ≡ []) }
+    requires pass { IsEmptyPassOf arena.now pass.old }
+    ensures pass { IsEmptyPassOf arena.now pass.new }
     ensures caller { pass.new.caller ≡ pass.old.caller }
-    ensures done { Done N.layout coupling arena.now.nodes pass.old.caller (Put place value) (seen_of pass.old) (seen_of pass.new) (reply_in result) (number_in result) }
+    ensures done { DoneOf arena.now coupling (Put place value) pass.old pass.new (reply_in result) (number_in result) }
 {
     gate.at(pass.caller(), Point::Begin);
     pair_put(rt, arena, pass, gate, place, value)
@@ -77,10 +76,10 @@ pub fn add<N: Unlinked, R: Wait, G: Gate>(
     place: u64,
     value: u128,
 ) -> Result<Numbered, Full>
-    requires pass { IsPass (sort_of N.layout N.ranged) BeginsTree TreeStep arena.now.table.shared.table_id arena.now.callers pass.old × (hand_of pass.old ≡ []) }
-    ensures pass { IsPass (sort_of N.layout N.ranged) BeginsTree TreeStep arena.now.table.shared.table_id arena.now.callers pass.new × (hand_of pass.new ≡ []) }
+    requires pass { IsEmptyPassOf arena.now pass.old }
+    ensures pass { IsEmptyPassOf arena.now pass.new }
     ensures caller { pass.new.caller ≡ pass.old.caller }
-    ensures done { Done N.layout coupling arena.now.nodes pass.old.caller (Add place value) (seen_of pass.old) (seen_of pass.new) (reply_in result) (number_in result) }
+    ensures done { DoneOf arena.now coupling (Add place value) pass.old pass.new (reply_in result) (number_in result) }
 {
     gate.at(pass.caller(), Point::Begin);
     pair_add(rt, arena, pass, gate, place, value)
@@ -97,10 +96,10 @@ pub fn swap<N: Unlinked, R: Wait, G: Gate>(
     old: u128,
     new: u128,
 ) -> Numbered
-    requires pass { IsPass (sort_of N.layout N.ranged) BeginsTree TreeStep arena.now.table.shared.table_id arena.now.callers pass.old × (hand_of pass.old ≡ []) }
-    ensures pass { IsPass (sort_of N.layout N.ranged) BeginsTree TreeStep arena.now.table.shared.table_id arena.now.callers pass.new × (hand_of pass.new ≡ []) }
+    requires pass { IsEmptyPassOf arena.now pass.old }
+    ensures pass { IsEmptyPassOf arena.now pass.new }
     ensures caller { pass.new.caller ≡ pass.old.caller }
-    ensures done { Done N.layout coupling arena.now.nodes pass.old.caller (Swap place old new) (seen_of pass.old) (seen_of pass.new) (told result.found) result.number }
+    ensures done { DoneOf arena.now coupling (Swap place old new) pass.old pass.new (told result.found) result.number }
 {
     let held = find(rt, arena, pass, gate, place);
     swap_here(arena, pass, gate, place, old, new, held)
@@ -114,10 +113,10 @@ pub fn del<N: Unlinked, R: Wait, G: Gate>(
     gate: &G,
     place: u64,
 ) -> Numbered
-    requires pass { IsPass (sort_of N.layout N.ranged) BeginsTree TreeStep arena.now.table.shared.table_id arena.now.callers pass.old × (hand_of pass.old ≡ []) }
-    ensures pass { IsPass (sort_of N.layout N.ranged) BeginsTree TreeStep arena.now.table.shared.table_id arena.now.callers pass.new × (hand_of pass.new ≡ []) }
+    requires pass { IsEmptyPassOf arena.now pass.old }
+    ensures pass { IsEmptyPassOf arena.now pass.new }
     ensures caller { pass.new.caller ≡ pass.old.caller }
-    ensures done { Done N.layout coupling arena.now.nodes pass.old.caller (Del place) (seen_of pass.old) (seen_of pass.new) (told result.found) result.number }
+    ensures done { DoneOf arena.now coupling (Del place) pass.old pass.new (told result.found) result.number }
 {
     let mut held = find(rt, arena, pass, gate, place);
     sound_law::<Tree>();

@@ -1,15 +1,10 @@
 //! The way from the root to the node where a search ends.
-ghost use Rattle.std.specs.Prelude.{◌≡◌, List, []};
-ghost use Rattle.ks_flow.specs.Discipline.{BeginsTree, TreeStep};
-ghost use Rattle.ks_history.specs.declared.Event.{Event as Happening};
-ghost use Rattle.ks_history.specs.declared.Op.{Op as Operation};
+ghost use Rattle.std.specs.Prelude.{◌≡◌};
 ghost use Rattle.ks_history.specs.Done.{coupling};
-ghost use Rattle.ks_history.specs.Underway.{Underway};
 ghost use Rattle.ks_node.specs.declared.start.Next.TheVariants.{Go, Here};
 ghost use Rattle.ks_node.specs.Body.{next_at};
-ghost use Rattle.ks_arena.specs.Sound.{sort_of};
-ghost use Rattle.ks_arena.specs.Clauses.{IsPass, hand_of, seen_of};
-ghost use Rattle.ks_shape.specs.OnWay.{IsOnWay};
+ghost use Rattle.ks_arena.specs.Of.{IsPassOf, IsEmptyPassOf};
+ghost use Rattle.ks_shape.specs.Of.{IsUnderway, StaysUnderway, IsOnWayOf};
 
 use ks_arena::laws::{root_stays_law, sound_law, target_law};
 use ks_arena::{Arena, Held, Pass, root_law};
@@ -27,11 +22,11 @@ fn enter<N: Unlinked, R: Wait, G: Gate>(
     gate: &G,
     place: u64,
 ) -> Held<N>
-    requires pass { IsPass (sort_of N.layout N.ranged) BeginsTree TreeStep arena.now.table.shared.table_id arena.now.callers pass.old × (hand_of pass.old ≡ []) }
-    ensures pass { IsPass (sort_of N.layout N.ranged) BeginsTree TreeStep arena.now.table.shared.table_id arena.now.callers pass.new }
+    requires pass { IsEmptyPassOf arena.now pass.old }
+    ensures pass { IsPassOf arena.now pass.new }
     ensures caller { pass.new.caller ≡ pass.old.caller }
-    ensures way { IsOnWay (sort_of N.layout N.ranged) N.body pass.old.caller place (seen_of pass.new) result }
-    ensures under { (op : Operation) → Underway coupling pass.old.caller op (seen_of pass.old) (seen_of pass.new) }
+    ensures way { IsOnWayOf arena.now pass.old.caller place pass.new result }
+    ensures under { IsUnderway coupling pass.old pass.new }
 {
     root_stays_law::<Tree>();
     gate.at(pass.caller(), Point::Begin);
@@ -53,13 +48,13 @@ fn go_on<N: Unlinked, R: Wait, G: Gate>(
     held: Held<N>,
     child: u32,
 ) -> Held<N>
-    requires pass { IsPass (sort_of N.layout N.ranged) BeginsTree TreeStep arena.now.table.shared.table_id arena.now.callers pass.old }
-    requires way { IsOnWay (sort_of N.layout N.ranged) N.body pass.old.caller place (seen_of pass.old) held }
+    requires pass { IsPassOf arena.now pass.old }
+    requires way { IsOnWayOf arena.now pass.old.caller place pass.old held }
     requires goes { next_at (N.body held.body) place ≡ Go child }
-    ensures pass { IsPass (sort_of N.layout N.ranged) BeginsTree TreeStep arena.now.table.shared.table_id arena.now.callers pass.new }
+    ensures pass { IsPassOf arena.now pass.new }
     ensures caller { pass.new.caller ≡ pass.old.caller }
-    ensures way { IsOnWay (sort_of N.layout N.ranged) N.body pass.old.caller place (seen_of pass.new) result }
-    ensures under { (op : Operation) (start : List Happening) → Underway coupling pass.old.caller op start (seen_of pass.old) → Underway coupling pass.old.caller op start (seen_of pass.new) }
+    ensures way { IsOnWayOf arena.now pass.old.caller place pass.new result }
+    ensures under { StaysUnderway coupling pass.old pass.new }
 {
     sound_law::<Tree>();
     target_law::<Tree>();
@@ -83,12 +78,12 @@ pub(crate) fn find<N: Unlinked, R: Wait, G: Gate>(
     gate: &G,
     place: u64,
 ) -> Held<N>
-    requires pass { IsPass (sort_of N.layout N.ranged) BeginsTree TreeStep arena.now.table.shared.table_id arena.now.callers pass.old × (hand_of pass.old ≡ []) }
-    ensures pass { IsPass (sort_of N.layout N.ranged) BeginsTree TreeStep arena.now.table.shared.table_id arena.now.callers pass.new }
+    requires pass { IsEmptyPassOf arena.now pass.old }
+    ensures pass { IsPassOf arena.now pass.new }
     ensures caller { pass.new.caller ≡ pass.old.caller }
-    ensures way { IsOnWay (sort_of N.layout N.ranged) N.body pass.old.caller place (seen_of pass.new) result }
+    ensures way { IsOnWayOf arena.now pass.old.caller place pass.new result }
     ensures ends { next_at (N.body result.body) place ≡ Here }
-    ensures under { (op : Operation) → Underway coupling pass.old.caller op (seen_of pass.old) (seen_of pass.new) }
+    ensures under { IsUnderway coupling pass.old pass.new }
 {
     let mut held = enter(rt, arena, pass, gate, place);
     for _ in rt.forever() {

@@ -3,12 +3,11 @@ ghost use Rattle.std.specs.Prelude.{◌≡◌, ◌≤◌, IfOk};
 ghost use Rattle.ks_history.specs.declared.Op.TheVariants.{Add, Del, Get, Put, Swap};
 ghost use Rattle.ks_history.specs.Map.{told};
 ghost use Rattle.ks_history.specs.Trace.{◌⊑◌};
-ghost use Rattle.ks_history.specs.Done.{Done};
 ghost use Rattle.ks_history.specs.Passes.{CallersBelow, GrowsByOthers};
 ghost use Rattle.ks_arena.specs.Sound.{sort_of, Sound};
 ghost use Rattle.ks_arena.specs.Clauses.{EndsAll, noted, seen_of};
 ghost use Rattle.ks_shape.specs.Answers.{number_in, reply_in};
-ghost use Rattle.ks_shape.specs.Idle.{IsIdle};
+ghost use Rattle.ks_shape.specs.Idle.{IsDone, IsIdle};
 ghost use Rattle.ks_dictionary.specs.Crew.{AreAll, AreNew, IsNoteOf};
 ghost use Rattle.ks_dictionary.specs.Ended.{HasEndedWith, history};
 
@@ -67,8 +66,8 @@ impl<N: Node, T: Ruled + Template<N, Arena<N, <T as Ruled>::Rule>>> Dictionary<N
         requires pass { IsIdle (⟦<Dictionary<N, T> as Shelf>⟧.site self.now) pass.old }
         ensures pass { IsIdle (⟦<Dictionary<N, T> as Shelf>⟧.site self.now) pass.new }
         ensures caller { pass.new.caller ≡ pass.old.caller }
-        ensures done { Done N.layout T.technique (⟦<Dictionary<N, T> as Shelf>⟧.site self.now).nodes pass.old.caller
-            (Get (N.Places.place_of key)) (seen_of pass.old) (seen_of pass.new) (told result.found) result.number }
+        ensures done { IsDone N.layout T.technique (⟦<Dictionary<N, T> as Shelf>⟧.site self.now)
+            (Get (N.Places.place_of key)) pass.old pass.new (told result.found) result.number }
     {
         T::get(rt, &self.arena, pass, gate, N::Places::place(key))
     }
@@ -91,8 +90,8 @@ impl<N: Node, T: Ruled + Template<N, Arena<N, <T as Ruled>::Rule>>> Dictionary<N
         requires pass { IsIdle (⟦<Dictionary<N, T> as Shelf>⟧.site self.now) pass.old }
         ensures pass { IsIdle (⟦<Dictionary<N, T> as Shelf>⟧.site self.now) pass.new }
         ensures caller { pass.new.caller ≡ pass.old.caller }
-        ensures done { Done N.layout T.technique (⟦<Dictionary<N, T> as Shelf>⟧.site self.now).nodes pass.old.caller
-            (Put (N.Places.place_of key) value) (seen_of pass.old) (seen_of pass.new) (reply_in result) (number_in result) }
+        ensures done { IsDone N.layout T.technique (⟦<Dictionary<N, T> as Shelf>⟧.site self.now)
+            (Put (N.Places.place_of key) value) pass.old pass.new (reply_in result) (number_in result) }
     {
         T::put(rt, &self.arena, pass, gate, N::Places::place(key), value)
     }
@@ -113,8 +112,8 @@ impl<N: Node, T: Ruled + Template<N, Arena<N, <T as Ruled>::Rule>>> Dictionary<N
         requires pass { IsIdle (⟦<Dictionary<N, T> as Shelf>⟧.site self.now) pass.old }
         ensures pass { IsIdle (⟦<Dictionary<N, T> as Shelf>⟧.site self.now) pass.new }
         ensures caller { pass.new.caller ≡ pass.old.caller }
-        ensures done { Done N.layout T.technique (⟦<Dictionary<N, T> as Shelf>⟧.site self.now).nodes pass.old.caller
-            (Add (N.Places.place_of key) value) (seen_of pass.old) (seen_of pass.new) (reply_in result) (number_in result) }
+        ensures done { IsDone N.layout T.technique (⟦<Dictionary<N, T> as Shelf>⟧.site self.now)
+            (Add (N.Places.place_of key) value) pass.old pass.new (reply_in result) (number_in result) }
     {
         T::add(rt, &self.arena, pass, gate, N::Places::place(key), value)
     }
@@ -133,8 +132,8 @@ impl<N: Node, T: Ruled + Template<N, Arena<N, <T as Ruled>::Rule>>> Dictionary<N
         requires pass { IsIdle (⟦<Dictionary<N, T> as Shelf>⟧.site self.now) pass.old }
         ensures pass { IsIdle (⟦<Dictionary<N, T> as Shelf>⟧.site self.now) pass.new }
         ensures caller { pass.new.caller ≡ pass.old.caller }
-        ensures done { Done N.layout T.technique (⟦<Dictionary<N, T> as Shelf>⟧.site self.now).nodes pass.old.caller
-            (Swap (N.Places.place_of key) old new) (seen_of pass.old) (seen_of pass.new) (told result.found) result.number }
+        ensures done { IsDone N.layout T.technique (⟦<Dictionary<N, T> as Shelf>⟧.site self.now)
+            (Swap (N.Places.place_of key) old new) pass.old pass.new (told result.found) result.number }
     {
         T::swap(rt, &self.arena, pass, gate, N::Places::place(key), old, new)
     }
@@ -150,8 +149,8 @@ impl<N: Node, T: Ruled + Template<N, Arena<N, <T as Ruled>::Rule>>> Dictionary<N
         requires pass { IsIdle (⟦<Dictionary<N, T> as Shelf>⟧.site self.now) pass.old }
         ensures pass { IsIdle (⟦<Dictionary<N, T> as Shelf>⟧.site self.now) pass.new }
         ensures caller { pass.new.caller ≡ pass.old.caller }
-        ensures done { Done N.layout T.technique (⟦<Dictionary<N, T> as Shelf>⟧.site self.now).nodes pass.old.caller
-            (Del (N.Places.place_of key)) (seen_of pass.old) (seen_of pass.new) (told result.found) result.number }
+        ensures done { IsDone N.layout T.technique (⟦<Dictionary<N, T> as Shelf>⟧.site self.now)
+            (Del (N.Places.place_of key)) pass.old pass.new (told result.found) result.number }
     {
         T::del(rt, &self.arena, pass, gate, N::Places::place(key))
     }

@@ -35,11 +35,11 @@ fn take_root<N: Unlinked, R: Wait, G: Gate>(
     place: u64,
 ) -> Held<N>
     requires pass { IsIdle (⟦<Arena<N, Tree> as Shelf>⟧.site arena.now) pass.old }
-    ensures pass { IsPass (sort_of N.layout N.ranged) BeginsTree TreeStep arena.now.table.shared.table_id arena.now.callers pass.new }
+    ensures pass { IsPassOf arena.now pass.new }
     ensures caller { pass.new.caller ≡ pass.old.caller }
-    ensures way { IsOnWay (sort_of N.layout N.ranged) N.body pass.old.caller place (seen_of pass.new) result }
+    ensures way { IsOnWayOf arena.now pass.old.caller place pass.new result }
     ensures ends { next_at (N.body result.body) place ≡ Here }
-    ensures under { (op : Operation) → Underway coupling pass.old.caller op (seen_of pass.old) (seen_of pass.new) }
+    ensures under { IsUnderway coupling pass.old pass.new }
 {
     root_stays_law::<Tree>();
     gate.at(pass.caller(), Point::Begin);

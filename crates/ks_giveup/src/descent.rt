@@ -1,16 +1,13 @@
 //! The way from the root to the node where a search ends, which begins again where it was led astray.
-ghost use Rattle.std.specs.Prelude.{◌≡◌, ◌<◌, List, []};
-ghost use Rattle.ks_flow.specs.Discipline.{BeginsTree, TreeStep};
-ghost use Rattle.ks_history.specs.declared.Event.{Event as Happening};
-ghost use Rattle.ks_history.specs.declared.Op.{Op as Operation};
+ghost use Rattle.std.specs.Prelude.{◌≡◌, ◌<◌};
 ghost use Rattle.ks_history.specs.Done.{give_up};
-ghost use Rattle.ks_history.specs.Underway.{Underway};
 ghost use Rattle.ks_node.specs.declared.start.Next.TheVariants.{Go, Here};
 ghost use Rattle.ks_node.specs.Body.{next_at};
 ghost use Rattle.ks_arena.specs.Sound.{sort_of};
-ghost use Rattle.ks_arena.specs.Clauses.{IsPass, hand_of, seen_of};
-ghost use Rattle.ks_shape.specs.OnWay.{IsOnWay};
+ghost use Rattle.ks_arena.specs.Clauses.{seen_of};
 ghost use Rattle.ks_giveup.specs.Descent.{Came};
+ghost use Rattle.ks_arena.specs.Of.{IsPassOf, IsEmptyPassOf};
+ghost use Rattle.ks_shape.specs.Of.{IsUnderway, StaysUnderway, IsOnWayOf};
 
 use ks_arena::laws::sound_law;
 use ks_arena::{Arena, Held, Pass};
@@ -28,12 +25,12 @@ fn visit<N: Ranged + Unlinked, R: Wait, G: Gate>(
     place: u64,
     node: u32,
 ) -> Option<Held<N>>
-    requires pass { IsPass (sort_of N.layout N.ranged) BeginsTree TreeStep arena.now.table.shared.table_id arena.now.callers pass.old × (hand_of pass.old ≡ []) }
+    requires pass { IsEmptyPassOf arena.now pass.old }
     requires node { node < arena.now.nodes }
-    ensures pass { IsPass (sort_of N.layout N.ranged) BeginsTree TreeStep arena.now.table.shared.table_id arena.now.callers pass.new }
+    ensures pass { IsPassOf arena.now pass.new }
     ensures caller { pass.new.caller ≡ pass.old.caller }
     ensures came { Came (sort_of N.layout N.ranged) N.body pass.old.caller place (seen_of pass.new) result }
-    ensures under { (op : Operation) (start : List Happening) → Underway give_up pass.old.caller op start (seen_of pass.old) → Underway give_up pass.old.caller op start (seen_of pass.new) }
+    ensures under { StaysUnderway give_up pass.old pass.new }
 {
     sound_law::<Tree>();
     let Some(held) = arena.take(rt, pass, node) else {
@@ -58,13 +55,13 @@ fn leave<N: Ranged + Unlinked, G: Gate>(
     held: Held<N>,
     child: u32,
 )
-    requires pass { IsPass (sort_of N.layout N.ranged) BeginsTree TreeStep arena.now.table.shared.table_id arena.now.callers pass.old }
-    requires way { IsOnWay (sort_of N.layout N.ranged) N.body pass.old.caller place (seen_of pass.old) held }
+    requires pass { IsPassOf arena.now pass.old }
+    requires way { IsOnWayOf arena.now pass.old.caller place pass.old held }
     requires goes { next_at (N.body held.body) place ≡ Go child }
-    ensures pass { IsPass (sort_of N.layout N.ranged) BeginsTree TreeStep arena.now.table.shared.table_id arena.now.callers pass.new × (hand_of pass.new ≡ []) }
+    ensures pass { IsEmptyPassOf arena.now pass.new }
     ensures caller { pass.new.caller ≡ pass.old.caller }
     ensures near { child < arena.now.nodes }
-    ensures under { (op : Operation) (start : List Happening) → Underway give_up pass.old.caller op start (seen_of pass.old) → Underway give_up pass.old.caller op start (seen_of pass.new) }
+    ensures under { StaysUnderway give_up pass.old pass.new }
 {
     sound_law::<Tree>();
     node_law(&held.body);
@@ -81,12 +78,12 @@ pub(crate) fn find<N: Ranged + Unlinked, R: Wait, G: Gate>(
     gate: &G,
     place: u64,
 ) -> Held<N>
-    requires pass { IsPass (sort_of N.layout N.ranged) BeginsTree TreeStep arena.now.table.shared.table_id arena.now.callers pass.old × (hand_of pass.old ≡ []) }
-    ensures pass { IsPass (sort_of N.layout N.ranged) BeginsTree TreeStep arena.now.table.shared.table_id arena.now.callers pass.new }
+    requires pass { IsEmptyPassOf arena.now pass.old }
+    ensures pass { IsPassOf arena.now pass.new }
     ensures caller { pass.new.caller ≡ pass.old.caller }
-    ensures way { IsOnWay (sort_of N.layout N.ranged) N.body pass.old.caller place (seen_of pass.new) result }
+    ensures way { IsOnWayOf arena.now pass.old.caller place pass.new result }
     ensures ends { next_at (N.body result.body) place ≡ Here }
-    ensures under { (op : Operation) → Underway give_up pass.old.caller op (seen_of pass.old) (seen_of pass.new) }
+    ensures under { IsUnderway give_up pass.old pass.new }
 {
     gate.at(pass.caller(), Point::Begin);
     let mut node = 0;

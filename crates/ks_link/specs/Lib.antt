@@ -2,3 +2,4 @@ pub mod Descent
 pub mod Parts
 pub mod Puts
 pub mod Leads
+pub mod Of

@@ -1,18 +1,18 @@
 //! How a node that was split off gets an edge one level above it, after the call that split it off has been decided.
 ghost use Rattle.std.specs.Prelude.{ℕ, ◌≡◌, ◌+◌, ◌<◌, ◌≤◌, ◌↔◌, ◌⊎◌, All, IsTrue, false, []};
 ghost use Rattle.std.specs.Option.{ForSome};
-ghost use Rattle.ks_flow.specs.Discipline.{BeginsLink, LinkStep};
 ghost use Rattle.ks_node.specs.Room.{is_full};
 ghost use Rattle.ks_node.specs.Body.{is_branch, last_of};
 ghost use Rattle.ks_arena.specs.Sound.{sort_of};
-ghost use Rattle.ks_arena.specs.Clauses.{IsPass, hand_of, seen_of};
-ghost use Rattle.ks_history.specs.Alone.{ActsAlone};
-ghost use Rattle.ks_shape.specs.Makes.{MakesNone, TwoFree};
-ghost use Rattle.ks_link.specs.Leads.{CanLead, IsLedAfter, LedBut, Waits, waits_if};
+ghost use Rattle.ks_arena.specs.Clauses.{seen_of};
+ghost use Rattle.ks_shape.specs.Makes.{TwoFree};
+ghost use Rattle.ks_link.specs.Leads.{CanLead, Waits, waits_if};
 ghost use Rattle.ks_link.specs.Descent.{IsOnWay};
-ghost use Rattle.ks_link.specs.Parts.{IsAlone, IsParted, IsSplitOff};
+ghost use Rattle.ks_link.specs.Parts.{IsAlone};
 ghost use Rattle.ks_history.specs.Done.{link_move};
-ghost use Rattle.ks_history.specs.Stretch.{Stretch};
+ghost use Rattle.ks_arena.specs.Of.{WasAlone, IsPassOf, IsEmptyPassOf};
+ghost use Rattle.ks_shape.specs.Of.{IsStretchBy, MakesNoneLive, IsLedTo};
+ghost use Rattle.ks_link.specs.Of.{IsOnWayOf, WasSplitOff, HasParted, LeadsAllBut};
 
 use crate::descent::{enter, go_on};
 use crate::parts::{Parted, Waiting, part};
@@ -52,16 +52,16 @@ fn go_nearer<N: Linked, R: Wait, G: Gate>(
     cut: u64,
     held: Held<N>,
 ) -> Held<N>
-    requires pass { IsPass (sort_of N.layout N.ranged) BeginsLink LinkStep arena.now.table.shared.table_id arena.now.callers pass.old }
-    requires way { IsOnWay (sort_of N.layout N.ranged) N.body pass.old.caller cut (seen_of pass.old) held }
+    requires pass { IsPassOf arena.now pass.old }
+    requires way { IsOnWayOf arena.now pass.old.caller cut pass.old held }
     requires above { level < (N.body held.body).level }
     requires away { (N.body held.body).level ≡ level + 1 → last_of (N.body held.body).range < cut }
-    ensures pass { IsPass (sort_of N.layout N.ranged) BeginsLink LinkStep arena.now.table.shared.table_id arena.now.callers pass.new }
+    ensures pass { IsPassOf arena.now pass.new }
     ensures caller { pass.new.caller ≡ pass.old.caller }
-    ensures way { IsOnWay (sort_of N.layout N.ranged) N.body pass.old.caller cut (seen_of pass.new) result }
+    ensures way { IsOnWayOf arena.now pass.old.caller cut pass.new result }
     ensures above { level < (N.body result.body).level }
-    ensures stretch { Stretch link_move pass.old.caller (seen_of pass.old) (seen_of pass.new) }
-    ensures makes { MakesNone pass.old.caller (seen_of pass.old) (seen_of pass.new) }
+    ensures stretch { IsStretchBy link_move pass.old pass.new }
+    ensures makes { MakesNoneLive pass.old pass.new }
 {
     sound_law::<Link>();
     node_law(&held.body);
@@ -79,15 +79,15 @@ fn find_above<N: Linked, R: Wait, G: Gate>(
     gate: &G,
     to: Waiting,
 ) -> Held<N>
-    requires pass { IsPass (sort_of N.layout N.ranged) BeginsLink LinkStep arena.now.table.shared.table_id arena.now.callers pass.old × (hand_of pass.old ≡ []) }
-    requires off { IsSplitOff (sort_of N.layout N.ranged) (seen_of pass.old) to }
-    ensures pass { IsPass (sort_of N.layout N.ranged) BeginsLink LinkStep arena.now.table.shared.table_id arena.now.callers pass.new }
+    requires pass { IsEmptyPassOf arena.now pass.old }
+    requires off { WasSplitOff arena.now pass.old to }
+    ensures pass { IsPassOf arena.now pass.new }
     ensures caller { pass.new.caller ≡ pass.old.caller }
     ensures way { IsOnWay (sort_of N.layout N.ranged) N.body pass.old.caller to.cut (seen_of pass.new) result }
     ensures level { (N.body result.body).level ≡ to.level + 1 }
     ensures within { to.cut ≤ last_of (N.body result.body).range }
-    ensures stretch { Stretch link_move pass.old.caller (seen_of pass.old) (seen_of pass.new) }
-    ensures makes { MakesNone pass.old.caller (seen_of pass.old) (seen_of pass.new) }
+    ensures stretch { IsStretchBy link_move pass.old pass.new }
+    ensures makes { MakesNoneLive pass.old pass.new }
 {
     sound_law::<Link>();
     let mut held = enter(rt, arena, pass, gate, to.cut);
@@ -109,16 +109,16 @@ fn ready<N: Linked, G: Gate>(
     cut: u64,
     held: Held<N>,
 ) -> Parted<N>
-    requires pass { IsPass (sort_of N.layout N.ranged) BeginsLink LinkStep arena.now.table.shared.table_id arena.now.callers pass.old }
-    requires way { IsOnWay (sort_of N.layout N.ranged) N.body pass.old.caller cut (seen_of pass.old) held }
+    requires pass { IsPassOf arena.now pass.old }
+    requires way { IsOnWayOf arena.now pass.old.caller cut pass.old held }
     requires above { 0 < (N.body held.body).level }
     requires within { cut ≤ last_of (N.body held.body).range }
-    ensures pass { IsPass (sort_of N.layout N.ranged) BeginsLink LinkStep arena.now.table.shared.table_id arena.now.callers pass.new }
+    ensures pass { IsPassOf arena.now pass.new }
     ensures caller { pass.new.caller ≡ pass.old.caller }
-    ensures parted { IsParted (sort_of N.layout N.ranged) N.body arena.now.nodes pass.old.caller cut (seen_of pass.old) (seen_of pass.new) held (Ok result) }
-    ensures stretch { Stretch link_move pass.old.caller (seen_of pass.old) (seen_of pass.new) }
-    ensures led { ActsAlone pass.old.caller (seen_of pass.old) (seen_of pass.new) → LedBut (sort_of N.layout N.ranged) (waits_if result.new) (seen_of pass.old) (seen_of pass.new) }
-    ensures ready { IsTrue N.branches_adopt → IsTrue N.halves_have_room → ActsAlone pass.old.caller (seen_of pass.old) (seen_of pass.new) → TwoFree arena.now.nodes (seen_of pass.new)
+    ensures parted { HasParted arena.now cut pass.old pass.new held (Ok result) }
+    ensures stretch { IsStretchBy link_move pass.old pass.new }
+    ensures led { WasAlone pass.old pass.new → LeadsAllBut arena.now (waits_if result.new) pass.old pass.new }
+    ensures ready { IsTrue N.branches_adopt → IsTrue N.halves_have_room → WasAlone pass.old pass.new → TwoFree arena.now.nodes (seen_of pass.new)
         → CanLead N.can_adopt_at (N.body result.half.body) cut ⊎ (is_full N.layout (N.body result.half.body) ≡ false) }
 {
     sound_law::<Link>();
@@ -147,19 +147,19 @@ fn lead<N: Linked>(
     to: Waiting,
     held: &mut Held<N>,
 )
-    requires pass { IsPass (sort_of N.layout N.ranged) BeginsLink LinkStep arena.now.table.shared.table_id arena.now.callers pass.old }
+    requires pass { IsPassOf arena.now pass.old }
     requires held { IsAlone (sort_of N.layout N.ranged) N.body pass.old.caller (seen_of pass.old) held.old }
-    requires off { IsSplitOff (sort_of N.layout N.ranged) (seen_of pass.old) to }
+    requires off { WasSplitOff arena.now pass.old to }
     requires level { (N.body held.old.body).level ≡ to.level + 1 }
     requires low { (N.body held.old.body).low ≤ to.cut }
     requires within { to.cut ≤ last_of (N.body held.old.body).range }
-    ensures pass { IsPass (sort_of N.layout N.ranged) BeginsLink LinkStep arena.now.table.shared.table_id arena.now.callers pass.new }
+    ensures pass { IsPassOf arena.now pass.new }
     ensures caller { pass.new.caller ≡ pass.old.caller }
     ensures held { IsAlone (sort_of N.layout N.ranged) N.body pass.old.caller (seen_of pass.new) held.new }
     ensures led { IsTrue N.branches_adopt → CanLead N.can_adopt_at (N.body held.old.body) to.cut ⊎ (is_full N.layout (N.body held.old.body) ≡ false)
-        → IsLedAfter (sort_of N.layout N.ranged) (seen_of pass.new) to.node }
-    ensures stretch { Stretch link_move pass.old.caller (seen_of pass.old) (seen_of pass.new) }
-    ensures makes { MakesNone pass.old.caller (seen_of pass.old) (seen_of pass.new) }
+        → IsLedTo arena.now pass.new to.node }
+    ensures stretch { IsStretchBy link_move pass.old pass.new }
+    ensures makes { MakesNoneLive pass.old pass.new }
 {
     sound_law::<Link>();
     link_leads_law();
@@ -178,15 +178,15 @@ fn attach_one<N: Linked, R: Wait, G: Gate>(
     gate: &G,
     to: Waiting,
 ) -> Option<Waiting>
-    requires pass { IsPass (sort_of N.layout N.ranged) BeginsLink LinkStep arena.now.table.shared.table_id arena.now.callers pass.old × (hand_of pass.old ≡ []) }
-    requires off { IsSplitOff (sort_of N.layout N.ranged) (seen_of pass.old) to }
-    ensures pass { IsPass (sort_of N.layout N.ranged) BeginsLink LinkStep arena.now.table.shared.table_id arena.now.callers pass.new × (hand_of pass.new ≡ []) }
+    requires pass { IsEmptyPassOf arena.now pass.old }
+    requires off { WasSplitOff arena.now pass.old to }
+    ensures pass { IsEmptyPassOf arena.now pass.new }
     ensures caller { pass.new.caller ≡ pass.old.caller }
-    ensures off { ForSome result (λ w. IsSplitOff (sort_of N.layout N.ranged) (seen_of pass.new) w) }
-    ensures stretch { Stretch link_move pass.old.caller (seen_of pass.old) (seen_of pass.new) }
-    ensures led { ActsAlone pass.old.caller (seen_of pass.old) (seen_of pass.new) → LedBut (sort_of N.layout N.ranged) (waits_if result) (seen_of pass.old) (seen_of pass.new) }
-    ensures leads { IsTrue N.branches_adopt → IsTrue N.halves_have_room → ActsAlone pass.old.caller (seen_of pass.old) (seen_of pass.new) → TwoFree arena.now.nodes (seen_of pass.new)
-        → IsLedAfter (sort_of N.layout N.ranged) (seen_of pass.new) to.node }
+    ensures off { ForSome result (λ w. WasSplitOff arena.now pass.new w) }
+    ensures stretch { IsStretchBy link_move pass.old pass.new }
+    ensures led { WasAlone pass.old pass.new → LeadsAllBut arena.now (waits_if result) pass.old pass.new }
+    ensures leads { IsTrue N.branches_adopt → IsTrue N.halves_have_room → WasAlone pass.old pass.new → TwoFree arena.now.nodes (seen_of pass.new)
+        → IsLedTo arena.now pass.new to.node }
 {
     sound_law::<Link>();
     let held = find_above(rt, arena, pass, gate, to);
@@ -206,13 +206,13 @@ fn attach_on<N: Linked, R: Wait, G: Gate>(
     gate: &G,
     mut to: Waiting,
 )
-    requires pass { IsPass (sort_of N.layout N.ranged) BeginsLink LinkStep arena.now.table.shared.table_id arena.now.callers pass.old × (hand_of pass.old ≡ []) }
-    requires off { IsSplitOff (sort_of N.layout N.ranged) (seen_of pass.old) to }
-    ensures pass { IsPass (sort_of N.layout N.ranged) BeginsLink LinkStep arena.now.table.shared.table_id arena.now.callers pass.new × (hand_of pass.new ≡ []) }
+    requires pass { IsEmptyPassOf arena.now pass.old }
+    requires off { WasSplitOff arena.now pass.old to }
+    ensures pass { IsEmptyPassOf arena.now pass.new }
     ensures caller { pass.new.caller ≡ pass.old.caller }
-    ensures stretch { Stretch link_move pass.old.caller (seen_of pass.old) (seen_of pass.new) }
-    ensures leads { IsTrue N.branches_adopt → IsTrue N.halves_have_room → ActsAlone pass.old.caller (seen_of pass.old) (seen_of pass.new) → TwoFree arena.now.nodes (seen_of pass.new)
-        → IsLedAfter (sort_of N.layout N.ranged) (seen_of pass.new) to.node × LedBut (sort_of N.layout N.ranged) [] (seen_of pass.old) (seen_of pass.new) }
+    ensures stretch { IsStretchBy link_move pass.old pass.new }
+    ensures leads { IsTrue N.branches_adopt → IsTrue N.halves_have_room → WasAlone pass.old pass.new → TwoFree arena.now.nodes (seen_of pass.new)
+        → IsLedTo arena.now pass.new to.node × LeadsAllBut arena.now [] pass.old pass.new }
 {
     sound_law::<Link>();
     for _ in rt.forever() {
@@ -232,13 +232,13 @@ pub(crate) fn attach_all<N: Linked, R: Wait, G: Gate>(
     gate: &G,
     waiting: &[Waiting],
 )
-    requires pass { IsPass (sort_of N.layout N.ranged) BeginsLink LinkStep arena.now.table.shared.table_id arena.now.callers pass.old × (hand_of pass.old ≡ []) }
-    requires off { All (λ w. IsSplitOff (sort_of N.layout N.ranged) (seen_of pass.old) w) waiting.now }
-    ensures pass { IsPass (sort_of N.layout N.ranged) BeginsLink LinkStep arena.now.table.shared.table_id arena.now.callers pass.new × (hand_of pass.new ≡ []) }
+    requires pass { IsEmptyPassOf arena.now pass.old }
+    requires off { All (λ w. WasSplitOff arena.now pass.old w) waiting.now }
+    ensures pass { IsEmptyPassOf arena.now pass.new }
     ensures caller { pass.new.caller ≡ pass.old.caller }
-    ensures stretch { Stretch link_move pass.old.caller (seen_of pass.old) (seen_of pass.new) }
-    ensures leads { IsTrue N.branches_adopt → IsTrue N.halves_have_room → ActsAlone pass.old.caller (seen_of pass.old) (seen_of pass.new) → TwoFree arena.now.nodes (seen_of pass.new)
-        → ((i : ℕ) → Waits waiting.now i → IsLedAfter (sort_of N.layout N.ranged) (seen_of pass.new) i) × LedBut (sort_of N.layout N.ranged) [] (seen_of pass.old) (seen_of pass.new) }
+    ensures stretch { IsStretchBy link_move pass.old pass.new }
+    ensures leads { IsTrue N.branches_adopt → IsTrue N.halves_have_room → WasAlone pass.old pass.new → TwoFree arena.now.nodes (seen_of pass.new)
+        → ((i : ℕ) → Waits waiting.now i → IsLedTo arena.now pass.new i) × LeadsAllBut arena.now [] pass.old pass.new }
 {
     sound_law::<Link>();
     for to in waiting {

@@ -1,11 +1,10 @@
 //! The calls of a dictionary along links.
-ghost use Rattle.std.specs.Prelude.{◌≡◌, []};
-ghost use Rattle.ks_flow.specs.Discipline.{BeginsLink, LinkStep};
+ghost use Rattle.std.specs.Prelude.{◌≡◌};
 ghost use Rattle.ks_history.specs.declared.Op.TheVariants.{Del, Get, Swap};
 ghost use Rattle.ks_history.specs.Map.{told};
-ghost use Rattle.ks_history.specs.Done.{Done, link_move};
-ghost use Rattle.ks_arena.specs.Sound.{sort_of};
-ghost use Rattle.ks_arena.specs.Clauses.{IsPass, hand_of, seen_of};
+ghost use Rattle.ks_history.specs.Done.{link_move};
+ghost use Rattle.ks_arena.specs.Of.{IsEmptyPassOf};
+ghost use Rattle.ks_shape.specs.Of.{DoneOf};
 
 use crate::descent::find;
 use ks_arena::laws::sound_law;
@@ -25,10 +24,10 @@ pub fn get<N: Linked, R: Wait, G: Gate>(
     gate: &G,
     place: u64,
 ) -> Numbered
-    requires pass { IsPass (sort_of N.layout N.ranged) BeginsLink LinkStep arena.now.table.shared.table_id arena.now.callers pass.old × (hand_of pass.old ≡ []) }
-    ensures pass { IsPass (sort_of N.layout N.ranged) BeginsLink LinkStep arena.now.table.shared.table_id arena.now.callers pass.new × (hand_of pass.new ≡ []) }
+    requires pass { IsEmptyPassOf arena.now pass.old }
+    ensures pass { IsEmptyPassOf arena.now pass.new }
     ensures caller { pass.new.caller ≡ pass.old.caller }
-    ensures done { Done N.layout link_move arena.now.nodes pass.old.caller (Get place) (seen_of pass.old) (seen_of pass.new) (told result.found) result.number }
+    ensures done { DoneOf arena.now link_move (Get place) pass.old pass.new (told result.found) result.number }
 {
     let held = find(rt, arena, pass, gate, place);
     sound_law::<Link>();
@@ -49,10 +48,10 @@ pub fn del<N: Linked, R: Wait, G: Gate>(
     gate: &G,
     place: u64,
 ) -> Numbered
-    requires pass { IsPass (sort_of N.layout N.ranged) BeginsLink LinkStep arena.now.table.shared.table_id arena.now.callers pass.old × (hand_of pass.old ≡ []) }
-    ensures pass { IsPass (sort_of N.layout N.ranged) BeginsLink LinkStep arena.now.table.shared.table_id arena.now.callers pass.new × (hand_of pass.new ≡ []) }
+    requires pass { IsEmptyPassOf arena.now pass.old }
+    ensures pass { IsEmptyPassOf arena.now pass.new }
     ensures caller { pass.new.caller ≡ pass.old.caller }
-    ensures done { Done N.layout link_move arena.now.nodes pass.old.caller (Del place) (seen_of pass.old) (seen_of pass.new) (told result.found) result.number }
+    ensures done { DoneOf arena.now link_move (Del place) pass.old pass.new (told result.found) result.number }
 {
     let mut held = find(rt, arena, pass, gate, place);
     sound_law::<Link>();
@@ -74,10 +73,10 @@ pub fn swap<N: Linked, R: Wait, G: Gate>(
     old: u128,
     new: u128,
 ) -> Numbered
-    requires pass { IsPass (sort_of N.layout N.ranged) BeginsLink LinkStep arena.now.table.shared.table_id arena.now.callers pass.old × (hand_of pass.old ≡ []) }
-    ensures pass { IsPass (sort_of N.layout N.ranged) BeginsLink LinkStep arena.now.table.shared.table_id arena.now.callers pass.new × (hand_of pass.new ≡ []) }
+    requires pass { IsEmptyPassOf arena.now pass.old }
+    ensures pass { IsEmptyPassOf arena.now pass.new }
     ensures caller { pass.new.caller ≡ pass.old.caller }
-    ensures done { Done N.layout link_move arena.now.nodes pass.old.caller (Swap place old new) (seen_of pass.old) (seen_of pass.new) (told result.found) result.number }
+    ensures done { DoneOf arena.now link_move (Swap place old new) pass.old pass.new (told result.found) result.number }
 {
     let mut held = find(rt, arena, pass, gate, place);
     sound_law::<Link>();

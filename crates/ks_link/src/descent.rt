@@ -1,16 +1,11 @@
 //! The way from the root, down and to the right, to the node where a search ends.
-ghost use Rattle.std.specs.Prelude.{◌≡◌, List, []};
-ghost use Rattle.ks_flow.specs.Discipline.{BeginsLink, LinkStep};
-ghost use Rattle.ks_history.specs.declared.Event.{Event as Happening};
-ghost use Rattle.ks_history.specs.declared.Op.{Op as Operation};
+ghost use Rattle.std.specs.Prelude.{◌≡◌};
 ghost use Rattle.ks_history.specs.Done.{link_move};
-ghost use Rattle.ks_history.specs.Underway.{Underway};
 ghost use Rattle.ks_node.specs.declared.start.Next.TheVariants.{Go, Here};
 ghost use Rattle.ks_node.specs.Body.{next_at};
-ghost use Rattle.ks_arena.specs.Sound.{sort_of};
-ghost use Rattle.ks_arena.specs.Clauses.{IsPass, hand_of, seen_of};
-ghost use Rattle.ks_shape.specs.Makes.{MakesNone};
-ghost use Rattle.ks_link.specs.Descent.{IsOnWay};
+ghost use Rattle.ks_arena.specs.Of.{IsPassOf, IsEmptyPassOf};
+ghost use Rattle.ks_shape.specs.Of.{IsUnderway, StaysUnderway, MakesNoneLive};
+ghost use Rattle.ks_link.specs.Of.{IsOnWayOf};
 
 use ks_arena::laws::{link_live_law, root_stays_law, sound_law};
 use ks_arena::{Arena, Held, Pass};
@@ -27,13 +22,13 @@ pub(crate) fn enter<N: Linked, R: Wait, G: Gate>(
     gate: &G,
     place: u64,
 ) -> Held<N>
-    requires pass { IsPass (sort_of N.layout N.ranged) BeginsLink LinkStep arena.now.table.shared.table_id arena.now.callers pass.old × (hand_of pass.old ≡ []) }
-    ensures pass { IsPass (sort_of N.layout N.ranged) BeginsLink LinkStep arena.now.table.shared.table_id arena.now.callers pass.new }
+    requires pass { IsEmptyPassOf arena.now pass.old }
+    ensures pass { IsPassOf arena.now pass.new }
     ensures caller { pass.new.caller ≡ pass.old.caller }
-    ensures way { IsOnWay (sort_of N.layout N.ranged) N.body pass.old.caller place (seen_of pass.new) result }
+    ensures way { IsOnWayOf arena.now pass.old.caller place pass.new result }
     ensures root { result.node ≡ 0 }
-    ensures under { (op : Operation) → Underway link_move pass.old.caller op (seen_of pass.old) (seen_of pass.new) }
-    ensures makes { MakesNone pass.old.caller (seen_of pass.old) (seen_of pass.new) }
+    ensures under { IsUnderway link_move pass.old pass.new }
+    ensures makes { MakesNoneLive pass.old pass.new }
 {
     root_stays_law::<Link>();
     sound_law::<Link>();
@@ -54,15 +49,15 @@ pub(crate) fn go_on<N: Linked, R: Wait, G: Gate>(
     held: Held<N>,
     next: u32,
 ) -> Held<N>
-    requires pass { IsPass (sort_of N.layout N.ranged) BeginsLink LinkStep arena.now.table.shared.table_id arena.now.callers pass.old }
-    requires way { IsOnWay (sort_of N.layout N.ranged) N.body pass.old.caller place (seen_of pass.old) held }
+    requires pass { IsPassOf arena.now pass.old }
+    requires way { IsOnWayOf arena.now pass.old.caller place pass.old held }
     requires goes { next_at (N.body held.body) place ≡ Go next }
-    ensures pass { IsPass (sort_of N.layout N.ranged) BeginsLink LinkStep arena.now.table.shared.table_id arena.now.callers pass.new }
+    ensures pass { IsPassOf arena.now pass.new }
     ensures caller { pass.new.caller ≡ pass.old.caller }
     ensures node { result.node ≡ next }
-    ensures way { IsOnWay (sort_of N.layout N.ranged) N.body pass.old.caller place (seen_of pass.new) result }
-    ensures under { (op : Operation) (start : List Happening) → Underway link_move pass.old.caller op start (seen_of pass.old) → Underway link_move pass.old.caller op start (seen_of pass.new) }
-    ensures makes { MakesNone pass.old.caller (seen_of pass.old) (seen_of pass.new) }
+    ensures way { IsOnWayOf arena.now pass.old.caller place pass.new result }
+    ensures under { StaysUnderway link_move pass.old pass.new }
+    ensures makes { MakesNoneLive pass.old pass.new }
 {
     sound_law::<Link>();
     link_live_law();
@@ -85,13 +80,13 @@ pub(crate) fn find<N: Linked, R: Wait, G: Gate>(
     gate: &G,
     place: u64,
 ) -> Held<N>
-    requires pass { IsPass (sort_of N.layout N.ranged) BeginsLink LinkStep arena.now.table.shared.table_id arena.now.callers pass.old × (hand_of pass.old ≡ []) }
-    ensures pass { IsPass (sort_of N.layout N.ranged) BeginsLink LinkStep arena.now.table.shared.table_id arena.now.callers pass.new }
+    requires pass { IsEmptyPassOf arena.now pass.old }
+    ensures pass { IsPassOf arena.now pass.new }
     ensures caller { pass.new.caller ≡ pass.old.caller }
-    ensures way { IsOnWay (sort_of N.layout N.ranged) N.body pass.old.caller place (seen_of pass.new) result }
+    ensures way { IsOnWayOf arena.now pass.old.caller place pass.new result }
     ensures ends { next_at (N.body result.body) place ≡ Here }
-    ensures under { (op : Operation) → Underway link_move pass.old.caller op (seen_of pass.old) (seen_of pass.new) }
-    ensures makes { MakesNone pass.old.caller (seen_of pass.old) (seen_of pass.new) }
+    ensures under { IsUnderway link_move pass.old pass.new }
+    ensures makes { MakesNoneLive pass.old pass.new }
 {
     gate.at(pass.caller(), Point::Begin);
     let mut held = enter(rt, arena, pass, gate, place);

@@ -1,18 +1,13 @@
 //! How a full node is parted: the root grows, any other node splits to the right.
 ghost use Rattle.std.specs.Prelude.{◌≡◌, ◌≢◌, ◌<◌, ◌≤◌, ◌⊎◌, IsTrue, [], ◌∷◌};
-ghost use Rattle.ks_flow.specs.Discipline.{BeginsLink, LinkStep};
 ghost use Rattle.ks_node.specs.Body.{content_of};
 ghost use Rattle.ks_node.specs.Room.{is_full};
-ghost use Rattle.ks_arena.specs.Sound.{sort_of};
-ghost use Rattle.ks_arena.specs.Clauses.{IsPass, hand_of, seen_of};
-ghost use Rattle.ks_shape.specs.InHand.{IsLive, IsFree};
-ghost use Rattle.ks_history.specs.Alone.{ActsAlone};
-ghost use Rattle.ks_shape.specs.Makes.{MakesNone};
-ghost use Rattle.ks_link.specs.Leads.{HalfHasRoom, PartsLed};
-ghost use Rattle.ks_link.specs.Descent.{IsOnWay};
-ghost use Rattle.ks_link.specs.Parts.{IsParted, IsSplitOff};
+ghost use Rattle.ks_arena.specs.Clauses.{hand_of};
+ghost use Rattle.ks_link.specs.Leads.{HalfHasRoom};
 ghost use Rattle.ks_history.specs.Done.{link_move};
-ghost use Rattle.ks_history.specs.Stretch.{Stretch};
+ghost use Rattle.ks_arena.specs.Of.{WasAlone, IsPassOf};
+ghost use Rattle.ks_shape.specs.Of.{IsStretchBy, MakesNoneLive, IsLiveInHand, IsFreeInHand};
+ghost use Rattle.ks_link.specs.Of.{IsOnWayOf, HasParted, LeadsParts};
 
 use ks_arena::laws::sound_law;
 use ks_arena::{Arena, Held, Pass};
@@ -47,18 +42,18 @@ fn keep_half<N: Linked, G: Gate>(
     left: Held<N>,
     right: Held<N>,
 ) -> Held<N>
-    requires pass { IsPass (sort_of N.layout N.ranged) BeginsLink LinkStep arena.now.table.shared.table_id arena.now.callers pass.old }
-    requires left { IsLive (sort_of N.layout N.ranged) N.body (hand_of pass.old) (seen_of pass.old) left }
-    requires right { IsLive (sort_of N.layout N.ranged) N.body (hand_of pass.old) (seen_of pass.old) right }
+    requires pass { IsPassOf arena.now pass.old }
+    requires left { IsLiveInHand arena.now pass.old left }
+    requires right { IsLiveInHand arena.now pass.old right }
     requires hand { (hand_of pass.old ≡ right.node ∷ left.node ∷ []) × (right.node ≢ left.node) }
     requires low { (N.body left.body).low ≤ place }
     requires cut { (N.body right.body).low ≡ cut }
-    ensures pass { IsPass (sort_of N.layout N.ranged) BeginsLink LinkStep arena.now.table.shared.table_id arena.now.callers pass.new }
+    ensures pass { IsPassOf arena.now pass.new }
     ensures caller { pass.new.caller ≡ pass.old.caller }
-    ensures way { IsOnWay (sort_of N.layout N.ranged) N.body pass.old.caller place (seen_of pass.new) result }
+    ensures way { IsOnWayOf arena.now pass.old.caller place pass.new result }
     ensures half { ((result ≡ left) × (place < cut)) ⊎ (result ≡ right) }
-    ensures stretch { Stretch link_move pass.old.caller (seen_of pass.old) (seen_of pass.new) }
-    ensures makes { MakesNone pass.old.caller (seen_of pass.old) (seen_of pass.new) }
+    ensures stretch { IsStretchBy link_move pass.old pass.new }
+    ensures makes { MakesNoneLive pass.old pass.new }
 {
     if place < cut {
         let node = right.node;
@@ -82,18 +77,18 @@ fn split<N: Linked, G: Gate>(
     mut held: Held<N>,
     mut right: Held<N>,
 ) -> Parted<N>
-    requires pass { IsPass (sort_of N.layout N.ranged) BeginsLink LinkStep arena.now.table.shared.table_id arena.now.callers pass.old }
-    requires node { IsLive (sort_of N.layout N.ranged) N.body (hand_of pass.old) (seen_of pass.old) held }
-    requires right { IsFree (sort_of N.layout N.ranged) N.body (hand_of pass.old) (seen_of pass.old) right }
+    requires pass { IsPassOf arena.now pass.old }
+    requires node { IsLiveInHand arena.now pass.old held }
+    requires right { IsFreeInHand arena.now pass.old right }
     requires hand { (hand_of pass.old ≡ right.node ∷ held.node ∷ []) × (right.node ≢ held.node) }
     requires no_root { held.node ≢ 0 }
     requires full { IsTrue (is_full N.layout (N.body held.body)) }
     requires low { (N.body held.body).low ≤ place }
-    ensures pass { IsPass (sort_of N.layout N.ranged) BeginsLink LinkStep arena.now.table.shared.table_id arena.now.callers pass.new }
+    ensures pass { IsPassOf arena.now pass.new }
     ensures caller { pass.new.caller ≡ pass.old.caller }
-    ensures parted { IsParted (sort_of N.layout N.ranged) N.body arena.now.nodes pass.old.caller place (seen_of pass.old) (seen_of pass.new) held (Ok result) }
-    ensures stretch { Stretch link_move pass.old.caller (seen_of pass.old) (seen_of pass.new) }
-    ensures led { ActsAlone pass.old.caller (seen_of pass.old) (seen_of pass.new) → PartsLed (sort_of N.layout N.ranged) (seen_of pass.old) (seen_of pass.new) (Ok result) }
+    ensures parted { HasParted arena.now place pass.old pass.new held (Ok result) }
+    ensures stretch { IsStretchBy link_move pass.old pass.new }
+    ensures led { WasAlone pass.old pass.new → LeadsParts arena.now pass.old pass.new (Ok result) }
     ensures room { IsTrue N.halves_have_room → HalfHasRoom N.layout N.body (Ok result) }
 {
     sound_law::<Link>();
@@ -124,20 +119,20 @@ fn grow<N: Linked, G: Gate>(
     mut left: Held<N>,
     mut right: Held<N>,
 ) -> Parted<N>
-    requires pass { IsPass (sort_of N.layout N.ranged) BeginsLink LinkStep arena.now.table.shared.table_id arena.now.callers pass.old }
-    requires node { IsLive (sort_of N.layout N.ranged) N.body (hand_of pass.old) (seen_of pass.old) root }
-    requires left { IsFree (sort_of N.layout N.ranged) N.body (hand_of pass.old) (seen_of pass.old) left }
-    requires right { IsFree (sort_of N.layout N.ranged) N.body (hand_of pass.old) (seen_of pass.old) right }
+    requires pass { IsPassOf arena.now pass.old }
+    requires node { IsLiveInHand arena.now pass.old root }
+    requires left { IsFreeInHand arena.now pass.old left }
+    requires right { IsFreeInHand arena.now pass.old right }
     requires hand { (hand_of pass.old ≡ right.node ∷ left.node ∷ root.node ∷ []) × (left.node ≢ root.node) × (right.node ≢ root.node) × (right.node ≢ left.node) }
     requires root { root.node ≡ 0 }
     requires full { IsTrue (is_full N.layout (N.body root.body)) }
     requires grows { IsTrue (N.grows_at (content_of (N.body root.body))) }
     requires low { (N.body root.body).low ≤ place }
-    ensures pass { IsPass (sort_of N.layout N.ranged) BeginsLink LinkStep arena.now.table.shared.table_id arena.now.callers pass.new }
+    ensures pass { IsPassOf arena.now pass.new }
     ensures caller { pass.new.caller ≡ pass.old.caller }
-    ensures parted { IsParted (sort_of N.layout N.ranged) N.body arena.now.nodes pass.old.caller place (seen_of pass.old) (seen_of pass.new) root (Ok result) }
-    ensures stretch { Stretch link_move pass.old.caller (seen_of pass.old) (seen_of pass.new) }
-    ensures led { ActsAlone pass.old.caller (seen_of pass.old) (seen_of pass.new) → PartsLed (sort_of N.layout N.ranged) (seen_of pass.old) (seen_of pass.new) (Ok result) }
+    ensures parted { HasParted arena.now place pass.old pass.new root (Ok result) }
+    ensures stretch { IsStretchBy link_move pass.old pass.new }
+    ensures led { WasAlone pass.old pass.new → LeadsParts arena.now pass.old pass.new (Ok result) }
     ensures room { IsTrue N.halves_have_room → HalfHasRoom N.layout N.body (Ok result) }
 {
     sound_law::<Link>();
@@ -165,15 +160,15 @@ pub(crate) fn part<N: Linked, G: Gate>(
     place: u64,
     held: Held<N>,
 ) -> Result<Parted<N>, Held<N>>
-    requires pass { IsPass (sort_of N.layout N.ranged) BeginsLink LinkStep arena.now.table.shared.table_id arena.now.callers pass.old }
-    requires way { IsOnWay (sort_of N.layout N.ranged) N.body pass.old.caller place (seen_of pass.old) held }
+    requires pass { IsPassOf arena.now pass.old }
+    requires way { IsOnWayOf arena.now pass.old.caller place pass.old held }
     requires full { IsTrue (is_full N.layout (N.body held.body)) }
     requires grows { held.node ≡ 0 → IsTrue (N.grows_at (content_of (N.body held.body))) }
-    ensures pass { IsPass (sort_of N.layout N.ranged) BeginsLink LinkStep arena.now.table.shared.table_id arena.now.callers pass.new }
+    ensures pass { IsPassOf arena.now pass.new }
     ensures caller { pass.new.caller ≡ pass.old.caller }
-    ensures parted { IsParted (sort_of N.layout N.ranged) N.body arena.now.nodes pass.old.caller place (seen_of pass.old) (seen_of pass.new) held result }
-    ensures stretch { Stretch link_move pass.old.caller (seen_of pass.old) (seen_of pass.new) }
-    ensures led { ActsAlone pass.old.caller (seen_of pass.old) (seen_of pass.new) → PartsLed (sort_of N.layout N.ranged) (seen_of pass.old) (seen_of pass.new) result }
+    ensures parted { HasParted arena.now place pass.old pass.new held result }
+    ensures stretch { IsStretchBy link_move pass.old pass.new }
+    ensures led { WasAlone pass.old pass.new → LeadsParts arena.now pass.old pass.new result }
     ensures room { IsTrue N.halves_have_room → HalfHasRoom N.layout N.body result }
 {
     sound_law::<Link>();

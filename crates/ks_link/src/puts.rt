@@ -1,28 +1,20 @@
 //! Puts and adds along links.
-ghost use Rattle.std.specs.Prelude.{◌≡◌, ◌⊎◌, List, All, IsTrue, None, false, []};
-ghost use Rattle.ks_flow.specs.Discipline.{BeginsLink, LinkStep};
-ghost use Rattle.ks_history.specs.declared.Event.{Event as Happening};
+ghost use Rattle.std.specs.Prelude.{◌≡◌, ◌⊎◌, All, IsTrue, None, false, []};
 ghost use Rattle.ks_history.specs.declared.Op.TheVariants.{Add, Put};
-ghost use Rattle.ks_history.specs.declared.Reply.TheVariants.{Full as full_reply};
 ghost use Rattle.ks_history.specs.Map.{told};
-ghost use Rattle.ks_history.specs.Due.{NoneFree};
-ghost use Rattle.ks_history.specs.Passes.{NoCallBy};
 ghost use Rattle.ks_history.specs.Trace.{◌⊑◌};
-ghost use Rattle.ks_history.specs.Done.{Done, link_move};
-ghost use Rattle.ks_history.specs.Underway.{Underway};
+ghost use Rattle.ks_history.specs.Done.{link_move};
 ghost use Rattle.ks_node.specs.declared.start.Next.TheVariants.{Here};
 ghost use Rattle.ks_node.specs.Body.{next_at, value_at};
 ghost use Rattle.ks_node.specs.Room.{is_full};
-ghost use Rattle.ks_arena.specs.Sound.{sort_of};
-ghost use Rattle.ks_arena.specs.Clauses.{IsPass, hand_of, seen_of};
+ghost use Rattle.ks_arena.specs.Clauses.{seen_of};
 ghost use Rattle.ks_shape.specs.Answers.{number_in, reply_in};
-ghost use Rattle.ks_history.specs.Alone.{ActsAlone};
-ghost use Rattle.ks_shape.specs.Makes.{MakesNone, TwoFree};
-ghost use Rattle.ks_link.specs.Leads.{AreLed, HasRoom, LedBut};
-ghost use Rattle.ks_link.specs.Descent.{IsOnWay};
-ghost use Rattle.ks_link.specs.Parts.{IsSplitOff};
-ghost use Rattle.ks_link.specs.Puts.{FoundRoom, MadeRoom, WaitsFor};
-ghost use Rattle.ks_history.specs.Stretch.{Stretch};
+ghost use Rattle.ks_shape.specs.Makes.{TwoFree};
+ghost use Rattle.ks_link.specs.Leads.{HasRoom};
+ghost use Rattle.ks_link.specs.Puts.{WaitsFor};
+ghost use Rattle.ks_arena.specs.Of.{WasAlone, IsPassOf, IsEmptyPassOf, WasRefusedAt};
+ghost use Rattle.ks_shape.specs.Of.{IsStretchBy, MakesNoneLive, DoneOf};
+ghost use Rattle.ks_link.specs.Of.{IsOnWayOf, WasSplitOff, HasMadeRoom, HasFoundRoom, LeadsAllBut, LeadsAll, Finishes, FinishesCrowded};
 
 use crate::attaches::attach_all;
 use crate::descent::find;
@@ -46,15 +38,15 @@ fn write<N: Linked, G: Gate>(
     value: u128,
     mut held: Held<N>,
 ) -> Numbered
-    requires pass { IsPass (sort_of N.layout N.ranged) BeginsLink LinkStep arena.now.table.shared.table_id arena.now.callers pass.old }
-    requires way { IsOnWay (sort_of N.layout N.ranged) N.body pass.old.caller place (seen_of pass.old) held }
+    requires pass { IsPassOf arena.now pass.old }
+    requires way { IsOnWayOf arena.now pass.old.caller place pass.old held }
     requires ends { next_at (N.body held.body) place ≡ Here }
     requires room { value_at (N.body held.body).pairs place ≡ None → is_full N.layout (N.body held.body) ≡ false }
-    ensures pass { IsPass (sort_of N.layout N.ranged) BeginsLink LinkStep arena.now.table.shared.table_id arena.now.callers pass.new × (hand_of pass.new ≡ []) }
+    ensures pass { IsEmptyPassOf arena.now pass.new }
     ensures caller { pass.new.caller ≡ pass.old.caller }
     ensures begins { seen_of pass.old ⊑ seen_of pass.new }
-    ensures makes { MakesNone pass.old.caller (seen_of pass.old) (seen_of pass.new) }
-    ensures done { (start : List Happening) → Underway link_move pass.old.caller (Put place value) start (seen_of pass.old) → Done N.layout link_move arena.now.nodes pass.old.caller (Put place value) start (seen_of pass.new) (told result.found) result.number }
+    ensures makes { MakesNoneLive pass.old pass.new }
+    ensures done { Finishes arena.now (Put place value) pass.old pass.new (told result.found) result.number }
 {
     sound_law::<Link>();
     node_law(&held.body);
@@ -80,15 +72,15 @@ fn write_new<N: Linked, G: Gate>(
     value: u128,
     mut held: Held<N>,
 ) -> Numbered
-    requires pass { IsPass (sort_of N.layout N.ranged) BeginsLink LinkStep arena.now.table.shared.table_id arena.now.callers pass.old }
-    requires way { IsOnWay (sort_of N.layout N.ranged) N.body pass.old.caller place (seen_of pass.old) held }
+    requires pass { IsPassOf arena.now pass.old }
+    requires way { IsOnWayOf arena.now pass.old.caller place pass.old held }
     requires ends { next_at (N.body held.body) place ≡ Here }
     requires room { value_at (N.body held.body).pairs place ≡ None → is_full N.layout (N.body held.body) ≡ false }
-    ensures pass { IsPass (sort_of N.layout N.ranged) BeginsLink LinkStep arena.now.table.shared.table_id arena.now.callers pass.new × (hand_of pass.new ≡ []) }
+    ensures pass { IsEmptyPassOf arena.now pass.new }
     ensures caller { pass.new.caller ≡ pass.old.caller }
     ensures begins { seen_of pass.old ⊑ seen_of pass.new }
-    ensures makes { MakesNone pass.old.caller (seen_of pass.old) (seen_of pass.new) }
-    ensures done { (start : List Happening) → Underway link_move pass.old.caller (Add place value) start (seen_of pass.old) → Done N.layout link_move arena.now.nodes pass.old.caller (Add place value) start (seen_of pass.new) (told result.found) result.number }
+    ensures makes { MakesNoneLive pass.old pass.new }
+    ensures done { Finishes arena.now (Add place value) pass.old pass.new (told result.found) result.number }
 {
     sound_law::<Link>();
     node_law(&held.body);
@@ -136,18 +128,18 @@ fn turn_away<N: Linked, G: Gate>(
     op: Op,
     held: Held<N>,
 ) -> Full
-    requires pass { IsPass (sort_of N.layout N.ranged) BeginsLink LinkStep arena.now.table.shared.table_id arena.now.callers pass.old }
+    requires pass { IsPassOf arena.now pass.old }
     requires op { (op ≡ Put place value) ⊎ (op ≡ Add place value) }
-    requires way { IsOnWay (sort_of N.layout N.ranged) N.body pass.old.caller place (seen_of pass.old) held }
+    requires way { IsOnWayOf arena.now pass.old.caller place pass.old held }
     requires ends { next_at (N.body held.body) place ≡ Here }
     requires full { IsTrue (is_full N.layout (N.body held.body)) }
     requires absent { value_at (N.body held.body).pairs place ≡ None }
-    requires none_free { (start : List Happening) × (since : start ⊑ seen_of pass.old) × NoCallBy pass.old.caller since.rest × NoneFree N.layout arena.now.nodes pass.old.caller place start (seen_of pass.old) }
-    ensures pass { IsPass (sort_of N.layout N.ranged) BeginsLink LinkStep arena.now.table.shared.table_id arena.now.callers pass.new × (hand_of pass.new ≡ []) }
+    requires none_free { WasRefusedAt arena.now pass.old place }
+    ensures pass { IsEmptyPassOf arena.now pass.new }
     ensures caller { pass.new.caller ≡ pass.old.caller }
     ensures begins { seen_of pass.old ⊑ seen_of pass.new }
-    ensures makes { MakesNone pass.old.caller (seen_of pass.old) (seen_of pass.new) }
-    ensures done { (start : List Happening) → NoneFree N.layout arena.now.nodes pass.old.caller place start (seen_of pass.old) → Underway link_move pass.old.caller op start (seen_of pass.old) → Done N.layout link_move arena.now.nodes pass.old.caller op start (seen_of pass.new) full_reply result.number }
+    ensures makes { MakesNoneLive pass.old pass.new }
+    ensures done { FinishesCrowded arena.now op place pass.old pass.new result.number }
 {
     sound_law::<Link>();
     node_law(&held.body);
@@ -174,17 +166,17 @@ fn make_room<N: Linked, G: Gate>(
     held: Held<N>,
     waiting: &mut ArrayVec<Waiting, 7>,
 ) -> Result<Held<N>, Held<N>>
-    requires pass { IsPass (sort_of N.layout N.ranged) BeginsLink LinkStep arena.now.table.shared.table_id arena.now.callers pass.old }
-    requires way { IsOnWay (sort_of N.layout N.ranged) N.body pass.old.caller place (seen_of pass.old) held }
+    requires pass { IsPassOf arena.now pass.old }
+    requires way { IsOnWayOf arena.now pass.old.caller place pass.old held }
     requires ends { next_at (N.body held.body) place ≡ Here }
     requires full { IsTrue (is_full N.layout (N.body held.body)) }
-    requires waiting { All (λ w. IsSplitOff (sort_of N.layout N.ranged) (seen_of pass.old) w) waiting.old.items }
-    ensures pass { IsPass (sort_of N.layout N.ranged) BeginsLink LinkStep arena.now.table.shared.table_id arena.now.callers pass.new }
+    requires waiting { All (λ w. WasSplitOff arena.now pass.old w) waiting.old.items }
+    ensures pass { IsPassOf arena.now pass.new }
     ensures caller { pass.new.caller ≡ pass.old.caller }
-    ensures made { MadeRoom (sort_of N.layout N.ranged) N.body arena.now.nodes pass.old.caller place (seen_of pass.old) (seen_of pass.new) held result }
-    ensures waiting { All (λ w. IsSplitOff (sort_of N.layout N.ranged) (seen_of pass.new) w) waiting.new.items }
-    ensures stretch { Stretch link_move pass.old.caller (seen_of pass.old) (seen_of pass.new) }
-    ensures led { waiting.old.items ≡ [] → ActsAlone pass.old.caller (seen_of pass.old) (seen_of pass.new) → LedBut (sort_of N.layout N.ranged) waiting.new.items (seen_of pass.old) (seen_of pass.new) }
+    ensures made { HasMadeRoom arena.now place pass.old pass.new held result }
+    ensures waiting { All (λ w. WasSplitOff arena.now pass.new w) waiting.new.items }
+    ensures stretch { IsStretchBy link_move pass.old pass.new }
+    ensures led { waiting.old.items ≡ [] → WasAlone pass.old pass.new → LeadsAllBut arena.now waiting.new.items pass.old pass.new }
     ensures room { IsTrue N.halves_have_room → HasRoom N.layout N.body result }
 {
     sound_law::<Link>();
@@ -210,14 +202,14 @@ fn find_room<N: Linked, R: Wait, G: Gate>(
     place: u64,
     waiting: &mut ArrayVec<Waiting, 7>,
 ) -> Result<Held<N>, Held<N>>
-    requires pass { IsPass (sort_of N.layout N.ranged) BeginsLink LinkStep arena.now.table.shared.table_id arena.now.callers pass.old × (hand_of pass.old ≡ []) }
+    requires pass { IsEmptyPassOf arena.now pass.old }
     requires waiting { waiting.old.items ≡ [] }
-    ensures pass { IsPass (sort_of N.layout N.ranged) BeginsLink LinkStep arena.now.table.shared.table_id arena.now.callers pass.new }
+    ensures pass { IsPassOf arena.now pass.new }
     ensures caller { pass.new.caller ≡ pass.old.caller }
-    ensures found { FoundRoom (sort_of N.layout N.ranged) N.body arena.now.nodes pass.old.caller place (seen_of pass.old) (seen_of pass.new) result }
-    ensures waiting { All (λ w. IsSplitOff (sort_of N.layout N.ranged) (seen_of pass.new) w) waiting.new.items }
-    ensures stretch { Stretch link_move pass.old.caller (seen_of pass.old) (seen_of pass.new) }
-    ensures led { IsTrue N.halves_have_room → ActsAlone pass.old.caller (seen_of pass.old) (seen_of pass.new) → LedBut (sort_of N.layout N.ranged) waiting.new.items (seen_of pass.old) (seen_of pass.new) }
+    ensures found { HasFoundRoom arena.now place pass.old pass.new result }
+    ensures waiting { All (λ w. WasSplitOff arena.now pass.new w) waiting.new.items }
+    ensures stretch { IsStretchBy link_move pass.old pass.new }
+    ensures led { IsTrue N.halves_have_room → WasAlone pass.old pass.new → LeadsAllBut arena.now waiting.new.items pass.old pass.new }
 {
     sound_law::<Link>();
     let mut held = find(rt, arena, pass, gate, place);
@@ -248,12 +240,12 @@ pub fn put<N: Linked, R: Wait, G: Gate>(
     place: u64,
     value: u128,
 ) -> Result<Numbered, Full>
-    requires pass { IsPass (sort_of N.layout N.ranged) BeginsLink LinkStep arena.now.table.shared.table_id arena.now.callers pass.old × (hand_of pass.old ≡ []) }
-    ensures pass { IsPass (sort_of N.layout N.ranged) BeginsLink LinkStep arena.now.table.shared.table_id arena.now.callers pass.new × (hand_of pass.new ≡ []) }
+    requires pass { IsEmptyPassOf arena.now pass.old }
+    ensures pass { IsEmptyPassOf arena.now pass.new }
     ensures caller { pass.new.caller ≡ pass.old.caller }
-    ensures done { Done N.layout link_move arena.now.nodes pass.old.caller (Put place value) (seen_of pass.old) (seen_of pass.new) (reply_in result) (number_in result) }
-    ensures led { IsTrue N.branches_adopt → IsTrue N.halves_have_room → ActsAlone pass.old.caller (seen_of pass.old) (seen_of pass.new) → TwoFree arena.now.nodes (seen_of pass.new)
-        → AreLed (sort_of N.layout N.ranged) (seen_of pass.old) (seen_of pass.new) }
+    ensures done { DoneOf arena.now link_move (Put place value) pass.old pass.new (reply_in result) (number_in result) }
+    ensures led { IsTrue N.branches_adopt → IsTrue N.halves_have_room → WasAlone pass.old pass.new → TwoFree arena.now.nodes (seen_of pass.new)
+        → LeadsAll arena.now pass.old pass.new }
 {
     sound_law::<Link>();
     let mut waiting = ArrayVec::new();
@@ -285,12 +277,12 @@ pub fn add<N: Linked, R: Wait, G: Gate>(
     place: u64,
     value: u128,
 ) -> Result<Numbered, Full>
-    requires pass { IsPass (sort_of N.layout N.ranged) BeginsLink LinkStep arena.now.table.shared.table_id arena.now.callers pass.old × (hand_of pass.old ≡ []) }
-    ensures pass { IsPass (sort_of N.layout N.ranged) BeginsLink LinkStep arena.now.table.shared.table_id arena.now.callers pass.new × (hand_of pass.new ≡ []) }
+    requires pass { IsEmptyPassOf arena.now pass.old }
+    ensures pass { IsEmptyPassOf arena.now pass.new }
     ensures caller { pass.new.caller ≡ pass.old.caller }
-    ensures done { Done N.layout link_move arena.now.nodes pass.old.caller (Add place value) (seen_of pass.old) (seen_of pass.new) (reply_in result) (number_in result) }
-    ensures led { IsTrue N.branches_adopt → IsTrue N.halves_have_room → ActsAlone pass.old.caller (seen_of pass.old) (seen_of pass.new) → TwoFree arena.now.nodes (seen_of pass.new)
-        → AreLed (sort_of N.layout N.ranged) (seen_of pass.old) (seen_of pass.new) }
+    ensures done { DoneOf arena.now link_move (Add place value) pass.old pass.new (reply_in result) (number_in result) }
+    ensures led { IsTrue N.branches_adopt → IsTrue N.halves_have_room → WasAlone pass.old pass.new → TwoFree arena.now.nodes (seen_of pass.new)
+        → LeadsAll arena.now pass.old pass.new }
 {
     sound_law::<Link>();
     let mut waiting = ArrayVec::new();

@@ -1,15 +1,11 @@
 //! Where a full node is cut.
-ghost use Rattle.std.specs.Prelude.{◌≡◌, ◌⊎◌, IsTrue, true, false};
-ghost use Rattle.ks_flow.specs.Discipline.{BeginsTree, TreeStep};
-ghost use Rattle.ks_keysets.specs.Keyset.{InInset};
-ghost use Rattle.ks_history.specs.Trace.{graph_after};
+ghost use Rattle.std.specs.Prelude.{◌≡◌, ◌⊎◌, IsTrue, false};
 ghost use Rattle.ks_node.specs.Body.{content_of, is_branch};
 ghost use Rattle.ks_node.specs.Room.{is_full};
 ghost use Rattle.ks_node.specs.Effect.{split_left};
 ghost use Rattle.ks_node.specs.Asks.{CanSplitAt};
-ghost use Rattle.ks_arena.specs.Sound.{sort_of};
-ghost use Rattle.ks_arena.specs.Clauses.{IsPass, Matches, seen_of};
-ghost use Rattle.ks_put.specs.OnPath.{IsAbove};
+ghost use Rattle.ks_arena.specs.Of.{IsInside, IsPassOf, IsLiveAndCurrent};
+ghost use Rattle.ks_put.specs.Of.{LeadsDown};
 
 use crate::laws::search_law;
 use ks_arena::{Arena, Held, Pass};
@@ -24,11 +20,11 @@ pub(crate) fn cut_of_root<N: Unlinked>(
     pass: &Pass<N, Tree>,
     root: &Held<N>,
 ) -> u64
-    requires pass { IsPass (sort_of N.layout N.ranged) BeginsTree TreeStep arena.now.table.shared.table_id arena.now.callers pass.now }
+    requires pass { IsPassOf arena.now pass.now }
     requires root { root.now.node ≡ 0 }
-    requires node { (root.now.live ≡ true) × Matches (sort_of N.layout N.ranged) N.body (seen_of pass.now) root.now }
+    requires node { IsLiveAndCurrent arena.now pass.now root.now }
     requires full { IsTrue (is_full N.layout (N.body root.now.body)) }
-    ensures cut { InInset (graph_after (seen_of pass.now)) root.now.node result × CanSplitAt (N.body root.now.body) result }
+    ensures cut { IsInside pass.now root.now.node result × CanSplitAt (N.body root.now.body) result }
     ensures grows { IsTrue (N.grows_at (content_of (N.body root.now.body))) → IsTrue (N.can_grow_at (content_of (N.body root.now.body)) result) }
     ensures open { N.in_place ≡ false → is_branch (N.body root.now.body) ≡ false → IsTrue (N.grows_at (content_of (N.body root.now.body))) ⊎ IsTrue (N.can_adopt_at (content_of (N.body root.now.body)) result) }
     ensures adopts { is_branch (N.body root.now.body) ≡ false → IsTrue (N.can_adopt_at (content_of (N.body root.now.body)) result) → IsTrue (N.can_adopt_at (content_of (split_left result (N.body root.now.body))) result) }
@@ -53,11 +49,11 @@ pub(crate) fn cut_below<N: Unlinked>(
     parent: &Held<N>,
     node: &Held<N>,
 ) -> u64
-    requires pass { IsPass (sort_of N.layout N.ranged) BeginsTree TreeStep arena.now.table.shared.table_id arena.now.callers pass.now }
-    requires above { IsAbove (sort_of N.layout N.ranged) N.body place node.now.node (seen_of pass.now) parent.now }
-    requires node { (node.now.live ≡ true) × Matches (sort_of N.layout N.ranged) N.body (seen_of pass.now) node.now }
+    requires pass { IsPassOf arena.now pass.now }
+    requires above { LeadsDown arena.now place node.now.node pass.now parent.now }
+    requires node { IsLiveAndCurrent arena.now pass.now node.now }
     requires full { IsTrue (is_full N.layout (N.body node.now.body)) }
-    ensures cut { InInset (graph_after (seen_of pass.now)) node.now.node result × CanSplitAt (N.body node.now.body) result }
+    ensures cut { IsInside pass.now node.now.node result × CanSplitAt (N.body node.now.body) result }
     ensures open { N.in_place ≡ false → is_branch (N.body node.now.body) ≡ false → is_full N.layout (N.body parent.now.body) ≡ false →
         IsTrue (N.can_adopt_at (content_of (N.body node.now.body)) result) ⊎ (IsTrue (is_branch (N.body parent.now.body)) × IsTrue (N.can_adopt_at (content_of (N.body parent.now.body)) result)) }
     ensures adopts { is_branch (N.body node.now.body) ≡ false → IsTrue (N.can_adopt_at (content_of (N.body node.now.body)) result) → IsTrue (N.can_adopt_at (content_of (split_left result (N.body node.now.body))) result) }

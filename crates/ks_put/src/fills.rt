@@ -1,16 +1,11 @@
 //! Puts and adds: a search for room, and then the Call.
-ghost use Rattle.std.specs.Prelude.{◌≡◌, [], List};
-ghost use Rattle.ks_flow.specs.Discipline.{BeginsTree, TreeStep};
-ghost use Rattle.ks_history.specs.declared.Event.{Event as Happening};
+ghost use Rattle.std.specs.Prelude.{◌≡◌};
 ghost use Rattle.ks_history.specs.declared.Op.TheVariants.{Add, Put};
-ghost use Rattle.ks_history.specs.declared.Reply.TheVariants.{Full as full_reply};
-ghost use Rattle.ks_history.specs.Due.{NoneFree};
-ghost use Rattle.ks_history.specs.Done.{Done, Template};
-ghost use Rattle.ks_history.specs.Underway.{Underway};
-ghost use Rattle.ks_arena.specs.Sound.{sort_of};
-ghost use Rattle.ks_arena.specs.Clauses.{IsPass, hand_of, seen_of};
 ghost use Rattle.ks_shape.specs.Answers.{number_in, reply_in};
-ghost use Rattle.ks_put.specs.Room.{Fills, IsCrowded, WasRefused};
+ghost use Rattle.ks_put.specs.Room.{Fills};
+ghost use Rattle.ks_arena.specs.Of.{IsPassOf, IsEmptyPassOf};
+ghost use Rattle.ks_shape.specs.Of.{FinishesAny};
+ghost use Rattle.ks_put.specs.Of.{IsCrowdedOf, WasRefusedOf, FinishesCrowded};
 
 use crate::here::{add_here, put_here};
 use crate::laws::search_law;
@@ -33,13 +28,13 @@ fn refuse_here<N: Unlinked, G: Gate>(
     held: Held<N>,
     op: Op,
 ) -> Full
-    requires pass { IsPass (sort_of N.layout N.ranged) BeginsTree TreeStep arena.now.table.shared.table_id arena.now.callers pass.old }
-    requires crowded { IsCrowded (sort_of N.layout N.ranged) N.body pass.old.caller place (seen_of pass.old) held }
-    requires refused { WasRefused N.layout arena.now.nodes pass.old.caller place (seen_of pass.old) }
+    requires pass { IsPassOf arena.now pass.old }
+    requires crowded { IsCrowdedOf arena.now pass.old.caller place pass.old held }
+    requires refused { WasRefusedOf arena.now place pass.old }
     requires fills { Fills place value op }
-    ensures pass { IsPass (sort_of N.layout N.ranged) BeginsTree TreeStep arena.now.table.shared.table_id arena.now.callers pass.new × (hand_of pass.new ≡ []) }
+    ensures pass { IsEmptyPassOf arena.now pass.new }
     ensures caller { pass.new.caller ≡ pass.old.caller }
-    ensures done { (template : Template) (start : List Happening) → Underway template pass.old.caller op start (seen_of pass.old) → NoneFree N.layout arena.now.nodes pass.old.caller place start (seen_of pass.old) → Done N.layout template arena.now.nodes pass.old.caller op start (seen_of pass.new) full_reply result.number }
+    ensures done { FinishesCrowded arena.now op place pass.old pass.new result.number }
 {
     search_law();
     node_law(&held.body);
@@ -57,10 +52,10 @@ pub fn pair_put<N: Unlinked, R: Wait, G: Gate>(
     place: u64,
     value: u128,
 ) -> Result<Numbered, Full>
-    requires pass { IsPass (sort_of N.layout N.ranged) BeginsTree TreeStep arena.now.table.shared.table_id arena.now.callers pass.old × (hand_of pass.old ≡ []) }
-    ensures pass { IsPass (sort_of N.layout N.ranged) BeginsTree TreeStep arena.now.table.shared.table_id arena.now.callers pass.new × (hand_of pass.new ≡ []) }
+    requires pass { IsEmptyPassOf arena.now pass.old }
+    ensures pass { IsEmptyPassOf arena.now pass.new }
     ensures caller { pass.new.caller ≡ pass.old.caller }
-    ensures done { (template : Template) (start : List Happening) → Underway template pass.old.caller (Put place value) start (seen_of pass.old) → Done N.layout template arena.now.nodes pass.old.caller (Put place value) start (seen_of pass.new) (reply_in result) (number_in result) }
+    ensures done { FinishesAny arena.now (Put place value) pass.old pass.new (reply_in result) (number_in result) }
 {
     match make_room(rt, arena, pass, gate, place) {
         Room::Found(held) => Ok(put_here(arena, pass, gate, place, value, held)),
@@ -81,10 +76,10 @@ pub fn pair_add<N: Unlinked, R: Wait, G: Gate>(
     place: u64,
     value: u128,
 ) -> Result<Numbered, Full>
-    requires pass { IsPass (sort_of N.layout N.ranged) BeginsTree TreeStep arena.now.table.shared.table_id arena.now.callers pass.old × (hand_of pass.old ≡ []) }
-    ensures pass { IsPass (sort_of N.layout N.ranged) BeginsTree TreeStep arena.now.table.shared.table_id arena.now.callers pass.new × (hand_of pass.new ≡ []) }
+    requires pass { IsEmptyPassOf arena.now pass.old }
+    ensures pass { IsEmptyPassOf arena.now pass.new }
     ensures caller { pass.new.caller ≡ pass.old.caller }
-    ensures done { (template : Template) (start : List Happening) → Underway template pass.old.caller (Add place value) start (seen_of pass.old) → Done N.layout template arena.now.nodes pass.old.caller (Add place value) start (seen_of pass.new) (reply_in result) (number_in result) }
+    ensures done { FinishesAny arena.now (Add place value) pass.old pass.new (reply_in result) (number_in result) }
 {
     match make_room(rt, arena, pass, gate, place) {
         Room::Found(held) => Ok(add_here(arena, pass, gate, place, value, held)),

@@ -1,16 +1,12 @@
 //! What is kept of a node that was split: the half that holds the place, and the node that leads to it.
-ghost use Rattle.std.specs.Prelude.{◌≡◌, ◌<◌, ◌≤◌, ◌∷◌, [], true, false};
-ghost use Rattle.ks_flow.specs.Discipline.{BeginsTree, TreeStep};
-ghost use Rattle.ks_keysets.specs.Keyset.{InInset};
+ghost use Rattle.std.specs.Prelude.{◌≡◌, ◌<◌, ◌≤◌, ◌∷◌, [], false};
 ghost use Rattle.ks_history.specs.declared.Event.TheVariants.{Give};
-ghost use Rattle.ks_history.specs.Passes.{GrowsWith};
-ghost use Rattle.ks_history.specs.Trace.{graph_after};
 ghost use Rattle.ks_node.specs.Room.{is_full};
-ghost use Rattle.ks_arena.specs.Sound.{sort_of};
-ghost use Rattle.ks_arena.specs.Clauses.{IsPass, Matches, hand_of, seen_of};
-ghost use Rattle.ks_shape.specs.Stretches.{Stretches};
-ghost use Rattle.ks_put.specs.OnPath.{IsOnPath, IsUnder, numbers};
-ghost use Rattle.ks_put.specs.Parts.{IsPart};
+ghost use Rattle.ks_arena.specs.Clauses.{hand_of};
+ghost use Rattle.ks_put.specs.OnPath.{numbers};
+ghost use Rattle.ks_arena.specs.Of.{Adds, IsInside, IsPassOf, IsCurrent, IsLiveAndCurrent};
+ghost use Rattle.ks_shape.specs.Of.{IsStretch};
+ghost use Rattle.ks_put.specs.Of.{IsOnPathOf, IsUnderParent, IsPartOf};
 
 use crate::laws::search_law;
 use crate::path::{Path, keep_alone};
@@ -40,17 +36,17 @@ pub(crate) fn keep_half<N: Unlinked, G: Gate>(
     left: Held<N>,
     right: Held<N>,
 ) -> Path<N>
-    requires pass { IsPass (sort_of N.layout N.ranged) BeginsTree TreeStep arena.now.table.shared.table_id arena.now.callers pass.old }
+    requires pass { IsPassOf arena.now pass.old }
     requires hands { hand_of pass.old ≡ right.node ∷ left.node ∷ parent.node ∷ [] }
-    requires parent { (parent.live ≡ true) × Matches (sort_of N.layout N.ranged) N.body (seen_of pass.old) parent }
-    requires left { (left.live ≡ true) × Matches (sort_of N.layout N.ranged) N.body (seen_of pass.old) left }
-    requires right { (right.live ≡ true) × Matches (sort_of N.layout N.ranged) N.body (seen_of pass.old) right }
-    requires below { place < cut → IsPart (sort_of N.layout N.ranged) N.body place (seen_of pass.old) parent left }
-    requires from { cut ≤ place → IsPart (sort_of N.layout N.ranged) N.body place (seen_of pass.old) parent right }
-    ensures pass { IsPass (sort_of N.layout N.ranged) BeginsTree TreeStep arena.now.table.shared.table_id arena.now.callers pass.new }
+    requires parent { IsLiveAndCurrent arena.now pass.old parent }
+    requires left { IsLiveAndCurrent arena.now pass.old left }
+    requires right { IsLiveAndCurrent arena.now pass.old right }
+    requires below { place < cut → IsPartOf arena.now place pass.old parent left }
+    requires from { cut ≤ place → IsPartOf arena.now place pass.old parent right }
+    ensures pass { IsPassOf arena.now pass.new }
     ensures caller { pass.new.caller ≡ pass.old.caller }
-    ensures path { IsOnPath (sort_of N.layout N.ranged) N.body pass.old.caller place (seen_of pass.new) result }
-    ensures stretch { Stretches pass.old.caller (seen_of pass.old) (seen_of pass.new) }
+    ensures path { IsOnPathOf arena.now pass.old.caller place pass.new result }
+    ensures stretch { IsStretch pass.old pass.new }
 {
     search_law();
     if place < cut {
@@ -81,18 +77,18 @@ pub fn keep_left<N: Unlinked, G: Gate>(
     path: Path<N>,
     right: Held<N>,
 ) -> Path<N>
-    requires pass { IsPass (sort_of N.layout N.ranged) BeginsTree TreeStep arena.now.table.shared.table_id arena.now.callers pass.old }
+    requires pass { IsPassOf arena.now pass.old }
     requires hands { hand_of pass.old ≡ right.node ∷ path.node.node ∷ numbers path.parent }
-    requires under { IsUnder (sort_of N.layout N.ranged) N.body place path.node (seen_of pass.old) path.parent }
-    requires node { (path.node.live ≡ true) × Matches (sort_of N.layout N.ranged) N.body (seen_of pass.old) path.node }
-    requires right { Matches (sort_of N.layout N.ranged) N.body (seen_of pass.old) right }
-    requires inside { InInset (graph_after (seen_of pass.old)) path.node.node place }
-    ensures pass { IsPass (sort_of N.layout N.ranged) BeginsTree TreeStep arena.now.table.shared.table_id arena.now.callers pass.new }
+    requires under { IsUnderParent arena.now place pass.old path.node path.parent }
+    requires node { IsLiveAndCurrent arena.now pass.old path.node }
+    requires right { IsCurrent arena.now pass.old right }
+    requires inside { IsInside pass.old path.node.node place }
+    ensures pass { IsPassOf arena.now pass.new }
     ensures caller { pass.new.caller ≡ pass.old.caller }
-    ensures path { IsOnPath (sort_of N.layout N.ranged) N.body pass.old.caller place (seen_of pass.new) result }
-    ensures stretch { Stretches pass.old.caller (seen_of pass.old) (seen_of pass.new) }
+    ensures path { IsOnPathOf arena.now pass.old.caller place pass.new result }
+    ensures stretch { IsStretch pass.old pass.new }
     ensures same { result ≡ path }
-    ensures gave { GrowsWith pass.old.caller (Give pass.old.caller right.node) (seen_of pass.old) (seen_of pass.new) }
+    ensures gave { Adds (Give pass.old.caller right.node) pass.old pass.new }
 {
     search_law();
     let number = right.node;
@@ -110,16 +106,16 @@ pub(crate) fn keep_right<N: Unlinked, G: Gate>(
     path: Path<N>,
     right: Held<N>,
 ) -> Path<N>
-    requires pass { IsPass (sort_of N.layout N.ranged) BeginsTree TreeStep arena.now.table.shared.table_id arena.now.callers pass.old }
+    requires pass { IsPassOf arena.now pass.old }
     requires hands { hand_of pass.old ≡ right.node ∷ path.node.node ∷ numbers path.parent }
-    requires under { IsUnder (sort_of N.layout N.ranged) N.body place path.node (seen_of pass.old) path.parent }
-    requires node { (path.node.live ≡ true) × Matches (sort_of N.layout N.ranged) N.body (seen_of pass.old) path.node }
-    requires right { (right.live ≡ true) × Matches (sort_of N.layout N.ranged) N.body (seen_of pass.old) right }
-    requires part { IsPart (sort_of N.layout N.ranged) N.body place (seen_of pass.old) path.node right }
-    ensures pass { IsPass (sort_of N.layout N.ranged) BeginsTree TreeStep arena.now.table.shared.table_id arena.now.callers pass.new }
+    requires under { IsUnderParent arena.now place pass.old path.node path.parent }
+    requires node { IsLiveAndCurrent arena.now pass.old path.node }
+    requires right { IsLiveAndCurrent arena.now pass.old right }
+    requires part { IsPartOf arena.now place pass.old path.node right }
+    ensures pass { IsPassOf arena.now pass.new }
     ensures caller { pass.new.caller ≡ pass.old.caller }
-    ensures path { IsOnPath (sort_of N.layout N.ranged) N.body pass.old.caller place (seen_of pass.new) result }
-    ensures stretch { Stretches pass.old.caller (seen_of pass.old) (seen_of pass.new) }
+    ensures path { IsOnPathOf arena.now pass.old.caller place pass.new result }
+    ensures stretch { IsStretch pass.old pass.new }
 {
     search_law();
     let Path { parent, node } = path;
@@ -147,17 +143,17 @@ pub(crate) fn keep_right_alone<N: Unlinked, G: Gate>(
     path: Path<N>,
     right: Held<N>,
 ) -> Path<N>
-    requires pass { IsPass (sort_of N.layout N.ranged) BeginsTree TreeStep arena.now.table.shared.table_id arena.now.callers pass.old }
+    requires pass { IsPassOf arena.now pass.old }
     requires hands { hand_of pass.old ≡ right.node ∷ path.node.node ∷ numbers path.parent }
-    requires under { IsUnder (sort_of N.layout N.ranged) N.body place path.node (seen_of pass.old) path.parent }
-    requires node { Matches (sort_of N.layout N.ranged) N.body (seen_of pass.old) path.node }
-    requires right { (right.live ≡ true) × Matches (sort_of N.layout N.ranged) N.body (seen_of pass.old) right }
-    requires inside { InInset (graph_after (seen_of pass.old)) right.node place }
+    requires under { IsUnderParent arena.now place pass.old path.node path.parent }
+    requires node { IsCurrent arena.now pass.old path.node }
+    requires right { IsLiveAndCurrent arena.now pass.old right }
+    requires inside { IsInside pass.old right.node place }
     requires room { is_full N.layout (N.body right.body) ≡ false }
-    ensures pass { IsPass (sort_of N.layout N.ranged) BeginsTree TreeStep arena.now.table.shared.table_id arena.now.callers pass.new }
+    ensures pass { IsPassOf arena.now pass.new }
     ensures caller { pass.new.caller ≡ pass.old.caller }
-    ensures path { IsOnPath (sort_of N.layout N.ranged) N.body pass.old.caller place (seen_of pass.new) result }
-    ensures stretch { Stretches pass.old.caller (seen_of pass.old) (seen_of pass.new) }
+    ensures path { IsOnPathOf arena.now pass.old.caller place pass.new result }
+    ensures stretch { IsStretch pass.old pass.new }
 {
     search_law();
     let Path { parent, node } = path;

@@ -1,17 +1,12 @@
 //! Calls that are decided at the one node in hand, where the search ended.
-ghost use Rattle.std.specs.Prelude.{◌≡◌, [], List};
-ghost use Rattle.ks_flow.specs.Discipline.{BeginsTree, TreeStep};
-ghost use Rattle.ks_history.specs.declared.Event.{Event as Happening};
+ghost use Rattle.std.specs.Prelude.{◌≡◌};
 ghost use Rattle.ks_history.specs.declared.Op.TheVariants.{Add, Put, Swap};
 ghost use Rattle.ks_history.specs.Map.{told};
-ghost use Rattle.ks_history.specs.Done.{Done, Template};
-ghost use Rattle.ks_history.specs.Underway.{Underway};
 ghost use Rattle.ks_node.specs.declared.start.Next.TheVariants.{Here};
 ghost use Rattle.ks_node.specs.Body.{next_at};
-ghost use Rattle.ks_arena.specs.Sound.{sort_of};
-ghost use Rattle.ks_arena.specs.Clauses.{IsPass, hand_of, seen_of};
-ghost use Rattle.ks_shape.specs.OnWay.{IsOnWay};
-ghost use Rattle.ks_put.specs.Room.{HasRoom};
+ghost use Rattle.ks_arena.specs.Of.{IsPassOf, IsEmptyPassOf};
+ghost use Rattle.ks_shape.specs.Of.{IsOnWayOf, FinishesAny};
+ghost use Rattle.ks_put.specs.Of.{HasRoomOf};
 
 use crate::laws::search_law;
 use ks_arena::{Arena, Held, Pass};
@@ -31,11 +26,11 @@ pub fn put_here<N: Unlinked, G: Gate>(
     value: u128,
     held: Held<N>,
 ) -> Numbered
-    requires pass { IsPass (sort_of N.layout N.ranged) BeginsTree TreeStep arena.now.table.shared.table_id arena.now.callers pass.old }
-    requires room { HasRoom (sort_of N.layout N.ranged) N.body pass.old.caller place (seen_of pass.old) held }
-    ensures pass { IsPass (sort_of N.layout N.ranged) BeginsTree TreeStep arena.now.table.shared.table_id arena.now.callers pass.new × (hand_of pass.new ≡ []) }
+    requires pass { IsPassOf arena.now pass.old }
+    requires room { HasRoomOf arena.now pass.old.caller place pass.old held }
+    ensures pass { IsEmptyPassOf arena.now pass.new }
     ensures caller { pass.new.caller ≡ pass.old.caller }
-    ensures done { (template : Template) (start : List Happening) → Underway template pass.old.caller (Put place value) start (seen_of pass.old) → Done N.layout template arena.now.nodes pass.old.caller (Put place value) start (seen_of pass.new) (told result.found) result.number }
+    ensures done { FinishesAny arena.now (Put place value) pass.old pass.new (told result.found) result.number }
 {
     let mut held = held;
     search_law();
@@ -63,11 +58,11 @@ pub fn add_here<N: Unlinked, G: Gate>(
     value: u128,
     held: Held<N>,
 ) -> Numbered
-    requires pass { IsPass (sort_of N.layout N.ranged) BeginsTree TreeStep arena.now.table.shared.table_id arena.now.callers pass.old }
-    requires room { HasRoom (sort_of N.layout N.ranged) N.body pass.old.caller place (seen_of pass.old) held }
-    ensures pass { IsPass (sort_of N.layout N.ranged) BeginsTree TreeStep arena.now.table.shared.table_id arena.now.callers pass.new × (hand_of pass.new ≡ []) }
+    requires pass { IsPassOf arena.now pass.old }
+    requires room { HasRoomOf arena.now pass.old.caller place pass.old held }
+    ensures pass { IsEmptyPassOf arena.now pass.new }
     ensures caller { pass.new.caller ≡ pass.old.caller }
-    ensures done { (template : Template) (start : List Happening) → Underway template pass.old.caller (Add place value) start (seen_of pass.old) → Done N.layout template arena.now.nodes pass.old.caller (Add place value) start (seen_of pass.new) (told result.found) result.number }
+    ensures done { FinishesAny arena.now (Add place value) pass.old pass.new (told result.found) result.number }
 {
     let mut held = held;
     search_law();
@@ -100,12 +95,12 @@ pub fn swap_here<N: Unlinked, G: Gate>(
     new: u128,
     held: Held<N>,
 ) -> Numbered
-    requires pass { IsPass (sort_of N.layout N.ranged) BeginsTree TreeStep arena.now.table.shared.table_id arena.now.callers pass.old }
-    requires way { IsOnWay (sort_of N.layout N.ranged) N.body pass.old.caller place (seen_of pass.old) held }
+    requires pass { IsPassOf arena.now pass.old }
+    requires way { IsOnWayOf arena.now pass.old.caller place pass.old held }
     requires here { next_at (N.body held.body) place ≡ Here }
-    ensures pass { IsPass (sort_of N.layout N.ranged) BeginsTree TreeStep arena.now.table.shared.table_id arena.now.callers pass.new × (hand_of pass.new ≡ []) }
+    ensures pass { IsEmptyPassOf arena.now pass.new }
     ensures caller { pass.new.caller ≡ pass.old.caller }
-    ensures done { (template : Template) (start : List Happening) → Underway template pass.old.caller (Swap place old new) start (seen_of pass.old) → Done N.layout template arena.now.nodes pass.old.caller (Swap place old new) start (seen_of pass.new) (told result.found) result.number }
+    ensures done { FinishesAny arena.now (Swap place old new) pass.old pass.new (told result.found) result.number }
 {
     let mut held = held;
     search_law();

@@ -1,18 +1,14 @@
 //! A search that keeps the parent of its node.
-ghost use Rattle.std.specs.Prelude.{◌≡◌, ◌∷◌, [], None, Some, true};
+ghost use Rattle.std.specs.Prelude.{◌≡◌, ◌∷◌, None, Some};
 ghost use Rattle.std.specs.Option.{ForSome};
-ghost use Rattle.ks_flow.specs.Discipline.{BeginsTree, TreeStep};
-ghost use Rattle.ks_keysets.specs.Keyset.{InInset};
 ghost use Rattle.ks_history.specs.declared.Event.TheVariants.{Take};
-ghost use Rattle.ks_history.specs.Passes.{GrowsWith};
-ghost use Rattle.ks_history.specs.Trace.{graph_after};
 ghost use Rattle.ks_node.specs.declared.start.Next.TheVariants.{Go};
 ghost use Rattle.ks_node.specs.Body.{next_at};
-ghost use Rattle.ks_arena.specs.Sound.{sort_of};
-ghost use Rattle.ks_arena.specs.Clauses.{IsPass, Matches, hand_of, seen_of};
-ghost use Rattle.ks_shape.specs.OnWay.{IsOnWay};
-ghost use Rattle.ks_shape.specs.Stretches.{Stretches};
-ghost use Rattle.ks_put.specs.OnPath.{GaveIf, IsOnPath, numbers};
+ghost use Rattle.ks_arena.specs.Clauses.{hand_of};
+ghost use Rattle.ks_put.specs.OnPath.{numbers};
+ghost use Rattle.ks_arena.specs.Of.{Adds, IsInside, IsPassOf, IsEmptyPassOf, IsCurrent, IsLiveAndCurrent};
+ghost use Rattle.ks_shape.specs.Of.{IsStretch, IsOnWayOf};
+ghost use Rattle.ks_put.specs.Of.{AddsGive, IsOnPathOf};
 
 use crate::laws::search_law;
 use ks_arena::laws::{root_stays_law, target_law};
@@ -38,13 +34,13 @@ pub fn enter<N: Unlinked, R: Wait, G: Gate>(
     gate: &G,
     place: u64,
 ) -> Path<N>
-    requires pass { IsPass (sort_of N.layout N.ranged) BeginsTree TreeStep arena.now.table.shared.table_id arena.now.callers pass.old × (hand_of pass.old ≡ []) }
-    ensures pass { IsPass (sort_of N.layout N.ranged) BeginsTree TreeStep arena.now.table.shared.table_id arena.now.callers pass.new }
+    requires pass { IsEmptyPassOf arena.now pass.old }
+    ensures pass { IsPassOf arena.now pass.new }
     ensures caller { pass.new.caller ≡ pass.old.caller }
-    ensures path { IsOnPath (sort_of N.layout N.ranged) N.body pass.old.caller place (seen_of pass.new) result }
-    ensures stretch { Stretches pass.old.caller (seen_of pass.old) (seen_of pass.new) }
+    ensures path { IsOnPathOf arena.now pass.old.caller place pass.new result }
+    ensures stretch { IsStretch pass.old pass.new }
     ensures root { (result.parent ≡ None) × (result.node.node ≡ 0) }
-    ensures took { GrowsWith pass.old.caller (Take pass.old.caller 0) (seen_of pass.old) (seen_of pass.new) }
+    ensures took { Adds (Take pass.old.caller 0) pass.old pass.new }
 {
     root_stays_law::<Tree>();
     let Some(root) = arena.take(rt, pass, 0) else {
@@ -67,17 +63,17 @@ pub fn keep_alone<N: Unlinked, G: Gate>(
     other: Option<Held<N>>,
     node: Held<N>,
 ) -> Held<N>
-    requires pass { IsPass (sort_of N.layout N.ranged) BeginsTree TreeStep arena.now.table.shared.table_id arena.now.callers pass.old }
+    requires pass { IsPassOf arena.now pass.old }
     requires hands { hand_of pass.old ≡ node.node ∷ numbers other }
-    requires other { ForSome other (λ y. Matches (sort_of N.layout N.ranged) N.body (seen_of pass.old) y) }
-    requires node { (node.live ≡ true) × Matches (sort_of N.layout N.ranged) N.body (seen_of pass.old) node }
-    requires inside { InInset (graph_after (seen_of pass.old)) node.node place }
-    ensures pass { IsPass (sort_of N.layout N.ranged) BeginsTree TreeStep arena.now.table.shared.table_id arena.now.callers pass.new }
+    requires other { ForSome other (λ y. IsCurrent arena.now pass.old y) }
+    requires node { IsLiveAndCurrent arena.now pass.old node }
+    requires inside { IsInside pass.old node.node place }
+    ensures pass { IsPassOf arena.now pass.new }
     ensures caller { pass.new.caller ≡ pass.old.caller }
     ensures node { result ≡ node }
-    ensures way { IsOnWay (sort_of N.layout N.ranged) N.body pass.old.caller place (seen_of pass.new) result }
-    ensures stretch { Stretches pass.old.caller (seen_of pass.old) (seen_of pass.new) }
-    ensures gave { GaveIf pass.old.caller other (seen_of pass.old) (seen_of pass.new) }
+    ensures way { IsOnWayOf arena.now pass.old.caller place pass.new result }
+    ensures stretch { IsStretch pass.old pass.new }
+    ensures gave { AddsGive other pass.old pass.new }
 {
     search_law();
     if let Some(other) = other {
@@ -96,14 +92,14 @@ pub fn let_go<N: Unlinked, G: Gate>(
     place: u64,
     path: Path<N>,
 ) -> Held<N>
-    requires pass { IsPass (sort_of N.layout N.ranged) BeginsTree TreeStep arena.now.table.shared.table_id arena.now.callers pass.old }
-    requires path { IsOnPath (sort_of N.layout N.ranged) N.body pass.old.caller place (seen_of pass.old) path }
-    ensures pass { IsPass (sort_of N.layout N.ranged) BeginsTree TreeStep arena.now.table.shared.table_id arena.now.callers pass.new }
+    requires pass { IsPassOf arena.now pass.old }
+    requires path { IsOnPathOf arena.now pass.old.caller place pass.old path }
+    ensures pass { IsPassOf arena.now pass.new }
     ensures caller { pass.new.caller ≡ pass.old.caller }
     ensures node { result ≡ path.node }
-    ensures way { IsOnWay (sort_of N.layout N.ranged) N.body pass.old.caller place (seen_of pass.new) result }
-    ensures stretch { Stretches pass.old.caller (seen_of pass.old) (seen_of pass.new) }
-    ensures gave { GaveIf pass.old.caller path.parent (seen_of pass.old) (seen_of pass.new) }
+    ensures way { IsOnWayOf arena.now pass.old.caller place pass.new result }
+    ensures stretch { IsStretch pass.old pass.new }
+    ensures gave { AddsGive path.parent pass.old pass.new }
 {
     let Path { parent, node } = path;
     keep_alone(arena, pass, gate, place, parent, node)
@@ -117,12 +113,12 @@ pub(crate) fn settle<N: Unlinked, G: Gate>(
     place: u64,
     path: Path<N>,
 ) -> Path<N>
-    requires pass { IsPass (sort_of N.layout N.ranged) BeginsTree TreeStep arena.now.table.shared.table_id arena.now.callers pass.old }
-    requires path { IsOnPath (sort_of N.layout N.ranged) N.body pass.old.caller place (seen_of pass.old) path }
-    ensures pass { IsPass (sort_of N.layout N.ranged) BeginsTree TreeStep arena.now.table.shared.table_id arena.now.callers pass.new }
+    requires pass { IsPassOf arena.now pass.old }
+    requires path { IsOnPathOf arena.now pass.old.caller place pass.old path }
+    ensures pass { IsPassOf arena.now pass.new }
     ensures caller { pass.new.caller ≡ pass.old.caller }
-    ensures path { IsOnPath (sort_of N.layout N.ranged) N.body pass.old.caller place (seen_of pass.new) result }
-    ensures stretch { Stretches pass.old.caller (seen_of pass.old) (seen_of pass.new) }
+    ensures path { IsOnPathOf arena.now pass.old.caller place pass.new result }
+    ensures stretch { IsStretch pass.old pass.new }
 {
     if path.node.body.is_full() {
         return path;
@@ -141,16 +137,16 @@ pub fn step_down<N: Unlinked, R: Wait, G: Gate>(
     held: Held<N>,
     child: u32,
 ) -> Path<N>
-    requires pass { IsPass (sort_of N.layout N.ranged) BeginsTree TreeStep arena.now.table.shared.table_id arena.now.callers pass.old }
-    requires way { IsOnWay (sort_of N.layout N.ranged) N.body pass.old.caller place (seen_of pass.old) held }
+    requires pass { IsPassOf arena.now pass.old }
+    requires way { IsOnWayOf arena.now pass.old.caller place pass.old held }
     requires goes { next_at (N.body held.body) place ≡ Go child }
-    ensures pass { IsPass (sort_of N.layout N.ranged) BeginsTree TreeStep arena.now.table.shared.table_id arena.now.callers pass.new }
+    ensures pass { IsPassOf arena.now pass.new }
     ensures caller { pass.new.caller ≡ pass.old.caller }
-    ensures path { IsOnPath (sort_of N.layout N.ranged) N.body pass.old.caller place (seen_of pass.new) result }
-    ensures stretch { Stretches pass.old.caller (seen_of pass.old) (seen_of pass.new) }
+    ensures path { IsOnPathOf arena.now pass.old.caller place pass.new result }
+    ensures stretch { IsStretch pass.old pass.new }
     ensures parent { result.parent ≡ Some held }
     ensures child { result.node.node ≡ child }
-    ensures took { GrowsWith pass.old.caller (Take pass.old.caller child) (seen_of pass.old) (seen_of pass.new) }
+    ensures took { Adds (Take pass.old.caller child) pass.old pass.new }
 {
     search_law();
     target_law::<Tree>();

@@ -1,16 +1,14 @@
 //! The search for room for a place, which keeps the parent of its node, so that a full node can be split under it.
-ghost use Rattle.std.specs.Prelude.{◌≡◌, [], ℕ, IsTrue, List, None, true, false};
-ghost use Rattle.ks_flow.specs.Discipline.{BeginsTree, TreeStep};
+ghost use Rattle.std.specs.Prelude.{◌≡◌, ℕ, IsTrue, List, None, true, false};
 ghost use Rattle.ks_history.specs.declared.Event.{Event as Happening};
 ghost use Rattle.ks_history.specs.Due.{NoneFree};
 ghost use Rattle.ks_node.specs.declared.start.Next.TheVariants.{Go, Here};
 ghost use Rattle.ks_node.specs.Body.{next_at, value_at};
 ghost use Rattle.ks_node.specs.Room.{is_full};
-ghost use Rattle.ks_arena.specs.Sound.{sort_of};
-ghost use Rattle.ks_arena.specs.Clauses.{IsPass, hand_of, seen_of};
-ghost use Rattle.ks_shape.specs.Stretches.{Stretches};
-ghost use Rattle.ks_put.specs.OnPath.{IsOnPath};
-ghost use Rattle.ks_put.specs.Room.{CameTo};
+ghost use Rattle.ks_arena.specs.Clauses.{seen_of};
+ghost use Rattle.ks_arena.specs.Of.{IsPassOf, IsEmptyPassOf};
+ghost use Rattle.ks_shape.specs.Of.{IsStretch, NoneWasFree};
+ghost use Rattle.ks_put.specs.Of.{IsOnPathOf, CameToRoom, CameToRoomSince};
 
 use crate::halves::Part;
 use crate::path::{Path, enter, let_go, step_down};
@@ -47,13 +45,13 @@ fn down<N: Unlinked, R: Wait, G: Gate>(
     path: Path<N>,
     child: u32,
 ) -> Path<N>
-    requires pass { IsPass (sort_of N.layout N.ranged) BeginsTree TreeStep arena.now.table.shared.table_id arena.now.callers pass.old }
-    requires path { IsOnPath (sort_of N.layout N.ranged) N.body pass.old.caller place (seen_of pass.old) path }
+    requires pass { IsPassOf arena.now pass.old }
+    requires path { IsOnPathOf arena.now pass.old.caller place pass.old path }
     requires goes { next_at (N.body path.node.body) place ≡ Go child }
-    ensures pass { IsPass (sort_of N.layout N.ranged) BeginsTree TreeStep arena.now.table.shared.table_id arena.now.callers pass.new }
+    ensures pass { IsPassOf arena.now pass.new }
     ensures caller { pass.new.caller ≡ pass.old.caller }
-    ensures path { IsOnPath (sort_of N.layout N.ranged) N.body pass.old.caller place (seen_of pass.new) result }
-    ensures stretch { Stretches pass.old.caller (seen_of pass.old) (seen_of pass.new) }
+    ensures path { IsOnPathOf arena.now pass.old.caller place pass.new result }
+    ensures stretch { IsStretch pass.old pass.new }
 {
     let held = let_go(arena, pass, gate, place, path);
     step_down(rt, arena, pass, gate, place, held, child)
@@ -70,14 +68,14 @@ fn go_on<N: Unlinked, R: Wait, G: Gate>(
     path: Path<N>,
     child: u32,
 ) -> (Path<N>, bool)
-    requires pass { IsPass (sort_of N.layout N.ranged) BeginsTree TreeStep arena.now.table.shared.table_id arena.now.callers pass.old }
-    requires path { IsOnPath (sort_of N.layout N.ranged) N.body pass.old.caller place (seen_of pass.old) path }
+    requires pass { IsPassOf arena.now pass.old }
+    requires path { IsOnPathOf arena.now pass.old.caller place pass.old path }
     requires goes { next_at (N.body path.node.body) place ≡ Go child }
-    ensures pass { IsPass (sort_of N.layout N.ranged) BeginsTree TreeStep arena.now.table.shared.table_id arena.now.callers pass.new }
+    ensures pass { IsPassOf arena.now pass.new }
     ensures caller { pass.new.caller ≡ pass.old.caller }
-    ensures path { IsOnPath (sort_of N.layout N.ranged) N.body pass.old.caller place (seen_of pass.new) result.0 }
-    ensures stretch { Stretches pass.old.caller (seen_of pass.old) (seen_of pass.new) }
-    ensures refused { IsTrue result.1 → NoneFree N.layout arena.now.nodes pass.old.caller place (seen_of pass.old) (seen_of pass.new) }
+    ensures path { IsOnPathOf arena.now pass.old.caller place pass.new result.0 }
+    ensures stretch { IsStretch pass.old pass.new }
+    ensures refused { IsTrue result.1 → NoneWasFree arena.now place pass.old pass.new }
 {
     if !path.node.body.is_branch() {
         return (down(rt, arena, pass, gate, place, path, child), false);
@@ -101,12 +99,12 @@ fn begin_again<N: Unlinked, R: Wait, G: Gate>(
     place: u64,
     path: Path<N>,
 ) -> Path<N>
-    requires pass { IsPass (sort_of N.layout N.ranged) BeginsTree TreeStep arena.now.table.shared.table_id arena.now.callers pass.old }
-    requires path { IsOnPath (sort_of N.layout N.ranged) N.body pass.old.caller place (seen_of pass.old) path }
-    ensures pass { IsPass (sort_of N.layout N.ranged) BeginsTree TreeStep arena.now.table.shared.table_id arena.now.callers pass.new }
+    requires pass { IsPassOf arena.now pass.old }
+    requires path { IsOnPathOf arena.now pass.old.caller place pass.old path }
+    ensures pass { IsPassOf arena.now pass.new }
     ensures caller { pass.new.caller ≡ pass.old.caller }
-    ensures path { IsOnPath (sort_of N.layout N.ranged) N.body pass.old.caller place (seen_of pass.new) result }
-    ensures stretch { Stretches pass.old.caller (seen_of pass.old) (seen_of pass.new) }
+    ensures path { IsOnPathOf arena.now pass.old.caller place pass.new result }
+    ensures stretch { IsStretch pass.old pass.new }
 {
     let held = let_go(arena, pass, gate, place, path);
     let node = held.node;
@@ -123,14 +121,14 @@ fn come_to_room<N: Unlinked, G: Gate>(
     place: u64,
     path: Path<N>,
 ) -> Room<N>
-    requires pass { IsPass (sort_of N.layout N.ranged) BeginsTree TreeStep arena.now.table.shared.table_id arena.now.callers pass.old }
-    requires path { IsOnPath (sort_of N.layout N.ranged) N.body pass.old.caller place (seen_of pass.old) path }
+    requires pass { IsPassOf arena.now pass.old }
+    requires path { IsOnPathOf arena.now pass.old.caller place pass.old path }
     requires here { next_at (N.body path.node.body) place ≡ Here }
     requires room { value_at (N.body path.node.body).pairs place ≡ None → is_full N.layout (N.body path.node.body) ≡ false }
-    ensures pass { IsPass (sort_of N.layout N.ranged) BeginsTree TreeStep arena.now.table.shared.table_id arena.now.callers pass.new }
+    ensures pass { IsPassOf arena.now pass.new }
     ensures caller { pass.new.caller ≡ pass.old.caller }
-    ensures came { (n : ℕ) (start : List Happening) → CameTo (sort_of N.layout N.ranged) N.body n pass.old.caller place start (seen_of pass.new) result }
-    ensures stretch { Stretches pass.old.caller (seen_of pass.old) (seen_of pass.new) }
+    ensures came { (n : ℕ) (start : List Happening) → CameToRoomSince arena.now place start pass.old pass.new n result }
+    ensures stretch { IsStretch pass.old pass.new }
 {
     Room::Found(let_go(arena, pass, gate, place, path))
 }
@@ -143,15 +141,15 @@ fn come_to_full<N: Unlinked, G: Gate>(
     place: u64,
     path: Path<N>,
 ) -> Room<N>
-    requires pass { IsPass (sort_of N.layout N.ranged) BeginsTree TreeStep arena.now.table.shared.table_id arena.now.callers pass.old }
-    requires path { IsOnPath (sort_of N.layout N.ranged) N.body pass.old.caller place (seen_of pass.old) path }
+    requires pass { IsPassOf arena.now pass.old }
+    requires path { IsOnPathOf arena.now pass.old.caller place pass.old path }
     requires here { next_at (N.body path.node.body) place ≡ Here }
     requires absent { value_at (N.body path.node.body).pairs place ≡ None }
     requires full { IsTrue (is_full N.layout (N.body path.node.body)) }
-    ensures pass { IsPass (sort_of N.layout N.ranged) BeginsTree TreeStep arena.now.table.shared.table_id arena.now.callers pass.new }
+    ensures pass { IsPassOf arena.now pass.new }
     ensures caller { pass.new.caller ≡ pass.old.caller }
-    ensures came { (n : ℕ) (start : List Happening) → NoneFree N.layout n pass.old.caller place start (seen_of pass.old) → CameTo (sort_of N.layout N.ranged) N.body n pass.old.caller place start (seen_of pass.new) result }
-    ensures stretch { Stretches pass.old.caller (seen_of pass.old) (seen_of pass.new) }
+    ensures came { (n : ℕ) (start : List Happening) → NoneFree N.layout n pass.old.caller place start (seen_of pass.old) → CameToRoomSince arena.now place start pass.old pass.new n result }
+    ensures stretch { IsStretch pass.old pass.new }
 {
     Room::Refused(let_go(arena, pass, gate, place, path))
 }
@@ -165,11 +163,11 @@ pub fn make_room<N: Unlinked, R: Wait, G: Gate>(
     gate: &G,
     place: u64,
 ) -> Room<N>
-    requires pass { IsPass (sort_of N.layout N.ranged) BeginsTree TreeStep arena.now.table.shared.table_id arena.now.callers pass.old × (hand_of pass.old ≡ []) }
-    ensures pass { IsPass (sort_of N.layout N.ranged) BeginsTree TreeStep arena.now.table.shared.table_id arena.now.callers pass.new }
+    requires pass { IsEmptyPassOf arena.now pass.old }
+    ensures pass { IsPassOf arena.now pass.new }
     ensures caller { pass.new.caller ≡ pass.old.caller }
-    ensures room { CameTo (sort_of N.layout N.ranged) N.body arena.now.nodes pass.old.caller place (seen_of pass.old) (seen_of pass.new) result }
-    ensures stretch { Stretches pass.old.caller (seen_of pass.old) (seen_of pass.new) }
+    ensures room { CameToRoom arena.now place pass.old pass.new result }
+    ensures stretch { IsStretch pass.old pass.new }
 {
     let mut path = enter(rt, arena, pass, gate, place);
     let mut refused = false;

@@ -1,17 +1,13 @@
 //! The splits of a full node: where its cut goes.
-ghost use Rattle.std.specs.Prelude.{◌≡◌, IsTrue, Some, None, true, false};
-ghost use Rattle.ks_flow.specs.Discipline.{BeginsTree, TreeStep};
-ghost use Rattle.ks_keysets.specs.Keyset.{InInset};
-ghost use Rattle.ks_history.specs.Trace.{graph_after};
+ghost use Rattle.std.specs.Prelude.{◌≡◌, IsTrue, Some, None, false};
 ghost use Rattle.ks_node.specs.Body.{content_of, is_branch};
 ghost use Rattle.ks_node.specs.Room.{is_full};
 ghost use Rattle.ks_node.specs.Effect.{split_left};
 ghost use Rattle.ks_node.specs.Asks.{CanSplitAt};
-ghost use Rattle.ks_arena.specs.Sound.{sort_of};
-ghost use Rattle.ks_arena.specs.Clauses.{IsPass, hand_of, seen_of};
-ghost use Rattle.ks_shape.specs.Stretches.{Stretches};
-ghost use Rattle.ks_put.specs.OnPath.{IsOnPath};
-ghost use Rattle.ks_put.specs.Parts.{DidPart, HasRoomAbove, IsShut};
+ghost use Rattle.ks_put.specs.Parts.{HasRoomAbove, IsShut};
+ghost use Rattle.ks_arena.specs.Of.{IsInside, IsPassOf};
+ghost use Rattle.ks_shape.specs.Of.{IsStretch};
+ghost use Rattle.ks_put.specs.Of.{IsOnPathOf, HasParted};
 
 use crate::cuts::{cut_below, cut_of_root};
 use crate::halves::{Part, keep_half, keep_left, keep_right, keep_right_alone};
@@ -32,16 +28,16 @@ pub(crate) fn grow_root<N: Unlinked, G: Gate>(
     cut: u64,
     root: Held<N>,
 ) -> Part<N>
-    requires pass { IsPass (sort_of N.layout N.ranged) BeginsTree TreeStep arena.now.table.shared.table_id arena.now.callers pass.old }
-    requires path { IsOnPath (sort_of N.layout N.ranged) N.body pass.old.caller place (seen_of pass.old) (record { parent = None; node = root }) }
+    requires pass { IsPassOf arena.now pass.old }
+    requires path { IsOnPathOf arena.now pass.old.caller place pass.old (record { parent = None; node = root }) }
     requires full { IsTrue (is_full N.layout (N.body root.body)) }
-    requires cut { InInset (graph_after (seen_of pass.old)) root.node cut × CanSplitAt (N.body root.body) cut }
+    requires cut { IsInside pass.old root.node cut × CanSplitAt (N.body root.body) cut }
     requires grows { IsTrue (N.grows_at (content_of (N.body root.body))) × IsTrue (N.can_grow_at (content_of (N.body root.body)) cut) }
-    ensures pass { IsPass (sort_of N.layout N.ranged) BeginsTree TreeStep arena.now.table.shared.table_id arena.now.callers pass.new }
+    ensures pass { IsPassOf arena.now pass.new }
     ensures caller { pass.new.caller ≡ pass.old.caller }
-    ensures part { DidPart (sort_of N.layout N.ranged) N.body arena.now.nodes pass.old.caller place (seen_of pass.old) (seen_of pass.new) (record { parent = None; node = root }) result }
-    ensures tried { IsShut result → ⊥ }
-    ensures stretch { Stretches pass.old.caller (seen_of pass.old) (seen_of pass.new) }
+    ensures part { HasParted arena.now place pass.old pass.new (record { parent = None; node = root }) result }
+    ensures tried { ¬ IsShut result }
+    ensures stretch { IsStretch pass.old pass.new }
 {
     search_law();
     unlinked_law::<N>();
@@ -67,17 +63,17 @@ pub(crate) fn split_below<N: Unlinked, G: Gate>(
     parent: Held<N>,
     node: Held<N>,
 ) -> Part<N>
-    requires pass { IsPass (sort_of N.layout N.ranged) BeginsTree TreeStep arena.now.table.shared.table_id arena.now.callers pass.old }
-    requires path { IsOnPath (sort_of N.layout N.ranged) N.body pass.old.caller place (seen_of pass.old) (record { parent = Some parent; node = node }) }
+    requires pass { IsPassOf arena.now pass.old }
+    requires path { IsOnPathOf arena.now pass.old.caller place pass.old (record { parent = Some parent; node = node }) }
     requires branch { IsTrue (is_branch (N.body parent.body)) }
     requires full { IsTrue (is_full N.layout (N.body node.body)) }
-    requires cut { InInset (graph_after (seen_of pass.old)) node.node cut × CanSplitAt (N.body node.body) cut }
+    requires cut { IsInside pass.old node.node cut × CanSplitAt (N.body node.body) cut }
     requires adopts { IsTrue (N.can_adopt_at (content_of (N.body parent.body)) cut) }
-    ensures pass { IsPass (sort_of N.layout N.ranged) BeginsTree TreeStep arena.now.table.shared.table_id arena.now.callers pass.new }
+    ensures pass { IsPassOf arena.now pass.new }
     ensures caller { pass.new.caller ≡ pass.old.caller }
-    ensures part { DidPart (sort_of N.layout N.ranged) N.body arena.now.nodes pass.old.caller place (seen_of pass.old) (seen_of pass.new) (record { parent = Some parent; node = node }) result }
-    ensures tried { IsShut result → ⊥ }
-    ensures stretch { Stretches pass.old.caller (seen_of pass.old) (seen_of pass.new) }
+    ensures part { HasParted arena.now place pass.old pass.new (record { parent = Some parent; node = node }) result }
+    ensures tried { ¬ IsShut result }
+    ensures stretch { IsStretch pass.old pass.new }
 {
     search_law();
     let mut parent = parent;
@@ -101,16 +97,16 @@ pub(crate) fn split_alone<N: Unlinked, G: Gate>(
     cut: u64,
     path: Path<N>,
 ) -> Part<N>
-    requires pass { IsPass (sort_of N.layout N.ranged) BeginsTree TreeStep arena.now.table.shared.table_id arena.now.callers pass.old }
-    requires path { IsOnPath (sort_of N.layout N.ranged) N.body pass.old.caller place (seen_of pass.old) path }
+    requires pass { IsPassOf arena.now pass.old }
+    requires path { IsOnPathOf arena.now pass.old.caller place pass.old path }
     requires full { IsTrue (is_full N.layout (N.body path.node.body)) }
-    requires cut { InInset (graph_after (seen_of pass.old)) path.node.node cut × CanSplitAt (N.body path.node.body) cut }
+    requires cut { IsInside pass.old path.node.node cut × CanSplitAt (N.body path.node.body) cut }
     requires adopts { IsTrue (N.can_adopt_at (content_of (split_left cut (N.body path.node.body))) cut) }
-    ensures pass { IsPass (sort_of N.layout N.ranged) BeginsTree TreeStep arena.now.table.shared.table_id arena.now.callers pass.new }
+    ensures pass { IsPassOf arena.now pass.new }
     ensures caller { pass.new.caller ≡ pass.old.caller }
-    ensures part { DidPart (sort_of N.layout N.ranged) N.body arena.now.nodes pass.old.caller place (seen_of pass.old) (seen_of pass.new) path result }
-    ensures tried { IsShut result → ⊥ }
-    ensures stretch { Stretches pass.old.caller (seen_of pass.old) (seen_of pass.new) }
+    ensures part { HasParted arena.now place pass.old pass.new path result }
+    ensures tried { ¬ IsShut result }
+    ensures stretch { IsStretch pass.old pass.new }
 {
     search_law();
     let Some(mut right) = claim_one(arena, pass, gate) else {
@@ -137,14 +133,14 @@ pub(crate) fn split_root<N: Unlinked, G: Gate>(
     place: u64,
     root: Held<N>,
 ) -> Part<N>
-    requires pass { IsPass (sort_of N.layout N.ranged) BeginsTree TreeStep arena.now.table.shared.table_id arena.now.callers pass.old }
-    requires path { IsOnPath (sort_of N.layout N.ranged) N.body pass.old.caller place (seen_of pass.old) (record { parent = None; node = root }) }
+    requires pass { IsPassOf arena.now pass.old }
+    requires path { IsOnPathOf arena.now pass.old.caller place pass.old (record { parent = None; node = root }) }
     requires full { IsTrue (is_full N.layout (N.body root.body)) }
-    ensures pass { IsPass (sort_of N.layout N.ranged) BeginsTree TreeStep arena.now.table.shared.table_id arena.now.callers pass.new }
+    ensures pass { IsPassOf arena.now pass.new }
     ensures caller { pass.new.caller ≡ pass.old.caller }
-    ensures part { DidPart (sort_of N.layout N.ranged) N.body arena.now.nodes pass.old.caller place (seen_of pass.old) (seen_of pass.new) (record { parent = None; node = root }) result }
-    ensures open { N.in_place ≡ false → is_branch (N.body root.body) ≡ false → IsShut result → ⊥ }
-    ensures stretch { Stretches pass.old.caller (seen_of pass.old) (seen_of pass.new) }
+    ensures part { HasParted arena.now place pass.old pass.new (record { parent = None; node = root }) result }
+    ensures open { N.in_place ≡ false → is_branch (N.body root.body) ≡ false → ¬ IsShut result }
+    ensures stretch { IsStretch pass.old pass.new }
 {
     let cut = cut_of_root(arena, pass, &root);
     if root.body.grows() {
@@ -173,14 +169,14 @@ pub(crate) fn split_child<N: Unlinked, G: Gate>(
     parent: Held<N>,
     node: Held<N>,
 ) -> Part<N>
-    requires pass { IsPass (sort_of N.layout N.ranged) BeginsTree TreeStep arena.now.table.shared.table_id arena.now.callers pass.old }
-    requires path { IsOnPath (sort_of N.layout N.ranged) N.body pass.old.caller place (seen_of pass.old) (record { parent = Some parent; node = node }) }
+    requires pass { IsPassOf arena.now pass.old }
+    requires path { IsOnPathOf arena.now pass.old.caller place pass.old (record { parent = Some parent; node = node }) }
     requires full { IsTrue (is_full N.layout (N.body node.body)) }
-    ensures pass { IsPass (sort_of N.layout N.ranged) BeginsTree TreeStep arena.now.table.shared.table_id arena.now.callers pass.new }
+    ensures pass { IsPassOf arena.now pass.new }
     ensures caller { pass.new.caller ≡ pass.old.caller }
-    ensures part { DidPart (sort_of N.layout N.ranged) N.body arena.now.nodes pass.old.caller place (seen_of pass.old) (seen_of pass.new) (record { parent = Some parent; node = node }) result }
-    ensures open { N.in_place ≡ false → is_branch (N.body node.body) ≡ false → is_full N.layout (N.body parent.body) ≡ false → IsShut result → ⊥ }
-    ensures stretch { Stretches pass.old.caller (seen_of pass.old) (seen_of pass.new) }
+    ensures part { HasParted arena.now place pass.old pass.new (record { parent = Some parent; node = node }) result }
+    ensures open { N.in_place ≡ false → is_branch (N.body node.body) ≡ false → is_full N.layout (N.body parent.body) ≡ false → ¬ IsShut result }
+    ensures stretch { IsStretch pass.old pass.new }
 {
     let cut = cut_below(arena, pass, place, &parent, &node);
     if parent.body.is_branch() && parent.body.can_adopt(cut) {
@@ -207,14 +203,14 @@ fn split_whole<N: Unlinked, G: Gate>(
     place: u64,
     path: Path<N>,
 ) -> Part<N>
-    requires pass { IsPass (sort_of N.layout N.ranged) BeginsTree TreeStep arena.now.table.shared.table_id arena.now.callers pass.old }
-    requires path { IsOnPath (sort_of N.layout N.ranged) N.body pass.old.caller place (seen_of pass.old) path }
+    requires pass { IsPassOf arena.now pass.old }
+    requires path { IsOnPathOf arena.now pass.old.caller place pass.old path }
     requires full { IsTrue (is_full N.layout (N.body path.node.body)) }
-    ensures pass { IsPass (sort_of N.layout N.ranged) BeginsTree TreeStep arena.now.table.shared.table_id arena.now.callers pass.new }
+    ensures pass { IsPassOf arena.now pass.new }
     ensures caller { pass.new.caller ≡ pass.old.caller }
-    ensures part { DidPart (sort_of N.layout N.ranged) N.body arena.now.nodes pass.old.caller place (seen_of pass.old) (seen_of pass.new) path result }
-    ensures open { N.in_place ≡ false → is_branch (N.body path.node.body) ≡ false → HasRoomAbove N.layout N.body path.parent → IsShut result → ⊥ }
-    ensures stretch { Stretches pass.old.caller (seen_of pass.old) (seen_of pass.new) }
+    ensures part { HasParted arena.now place pass.old pass.new path result }
+    ensures open { N.in_place ≡ false → is_branch (N.body path.node.body) ≡ false → HasRoomAbove N.layout N.body path.parent → ¬ IsShut result }
+    ensures stretch { IsStretch pass.old pass.new }
 {
     let Path { parent, node } = path;
     match parent {
@@ -232,14 +228,14 @@ pub(crate) fn split<N: Unlinked, G: Gate>(
     place: u64,
     path: Path<N>,
 ) -> Part<N>
-    requires pass { IsPass (sort_of N.layout N.ranged) BeginsTree TreeStep arena.now.table.shared.table_id arena.now.callers pass.old }
-    requires path { IsOnPath (sort_of N.layout N.ranged) N.body pass.old.caller place (seen_of pass.old) path }
+    requires pass { IsPassOf arena.now pass.old }
+    requires path { IsOnPathOf arena.now pass.old.caller place pass.old path }
     requires full { IsTrue (is_full N.layout (N.body path.node.body)) }
-    ensures pass { IsPass (sort_of N.layout N.ranged) BeginsTree TreeStep arena.now.table.shared.table_id arena.now.callers pass.new }
+    ensures pass { IsPassOf arena.now pass.new }
     ensures caller { pass.new.caller ≡ pass.old.caller }
-    ensures part { DidPart (sort_of N.layout N.ranged) N.body arena.now.nodes pass.old.caller place (seen_of pass.old) (seen_of pass.new) path result }
-    ensures open { N.in_place ≡ false → is_branch (N.body path.node.body) ≡ false → HasRoomAbove N.layout N.body path.parent → IsShut result → ⊥ }
-    ensures stretch { Stretches pass.old.caller (seen_of pass.old) (seen_of pass.new) }
+    ensures part { HasParted arena.now place pass.old pass.new path result }
+    ensures open { N.in_place ≡ false → is_branch (N.body path.node.body) ≡ false → HasRoomAbove N.layout N.body path.parent → ¬ IsShut result }
+    ensures stretch { IsStretch pass.old pass.new }
 {
     match split_whole(arena, pass, gate, place, path) {
         Part::Split(half) => Part::Split(settle(arena, pass, gate, place, half)),

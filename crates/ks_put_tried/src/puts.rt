@@ -1,8 +1,8 @@
 //! Runs of puts by one caller.
-ghost use Rattle.std.specs.Prelude.{◌≡◌, ◌≤◌, [], IfOk};
-ghost use Rattle.ks_flow.specs.Discipline.{BeginsTree, TreeStep};
+ghost use Rattle.std.specs.Prelude.{◌≡◌, ◌≤◌, IfOk};
+ghost use Rattle.ks_flow.specs.Discipline.{BeginsTree};
 ghost use Rattle.ks_arena.specs.Sound.{blank_of, sort_of};
-ghost use Rattle.ks_arena.specs.Clauses.{IsPass, hand_of};
+ghost use Rattle.ks_arena.specs.Of.{IsEmptyPassOf};
 
 use ks_arena::{Arena, Pass};
 use ks_flow::Tree;
@@ -20,7 +20,7 @@ pub(crate) fn one_caller<N: Unlinked>(
 ) -> Result<(Arena<N, Tree>, Pass<N, Tree>), AllocError>
     requires fits { BeginsTree (blank_of (sort_of N.layout N.ranged)) }
     requires nodes { (4 ≤ nodes) × (nodes ≤ 1048576) }
-    ensures { IfOk result (λ x. IsPass (sort_of N.layout N.ranged) BeginsTree TreeStep x.0.table.shared.table_id x.0.callers x.1 × (hand_of x.1 ≡ [])) }
+    ensures { IfOk result (λ x. IsEmptyPassOf x.0 x.1) }
 {
     let (arena, mut passes) = Arena::<N, Tree>::start(alloc, nodes, 1)?;
     let Some(pass) = passes.pop() else {
@@ -38,8 +38,8 @@ pub(crate) fn put_each<N: Unlinked, R: Wait>(
     many: u64,
     stride: u64,
 ) -> bool
-    requires pass { IsPass (sort_of N.layout N.ranged) BeginsTree TreeStep arena.now.table.shared.table_id arena.now.callers pass.old × (hand_of pass.old ≡ []) }
-    ensures pass { IsPass (sort_of N.layout N.ranged) BeginsTree TreeStep arena.now.table.shared.table_id arena.now.callers pass.new × (hand_of pass.new ≡ []) }
+    requires pass { IsEmptyPassOf arena.now pass.old }
+    ensures pass { IsEmptyPassOf arena.now pass.new }
     ensures caller { pass.new.caller ≡ pass.old.caller }
 {
     let mut right = true;
@@ -65,8 +65,8 @@ pub(crate) fn add_each<N: Unlinked, R: Wait>(
     many: u64,
     stride: u64,
 ) -> bool
-    requires pass { IsPass (sort_of N.layout N.ranged) BeginsTree TreeStep arena.now.table.shared.table_id arena.now.callers pass.old × (hand_of pass.old ≡ []) }
-    ensures pass { IsPass (sort_of N.layout N.ranged) BeginsTree TreeStep arena.now.table.shared.table_id arena.now.callers pass.new × (hand_of pass.new ≡ []) }
+    requires pass { IsEmptyPassOf arena.now pass.old }
+    ensures pass { IsEmptyPassOf arena.now pass.new }
     ensures caller { pass.new.caller ≡ pass.old.caller }
 {
     let mut right = true;

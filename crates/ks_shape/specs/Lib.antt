@@ -7,4 +7,5 @@ pub mod Beside
 pub mod Stretches
 pub mod Claims
 pub mod Makes
+pub mod Of
 pub mod Places

@@ -1,12 +1,9 @@
 //! Claims of one node and of two. Where a claim is refused, no node was free.
 ghost use Rattle.std.specs.Prelude.{◌≡◌, ◌≤◌, length};
 ghost use Rattle.ks_flow.specs.Discipline.{SameKeyset};
-ghost use Rattle.ks_arena.specs.Sound.{sort_of};
-ghost use Rattle.ks_arena.specs.Clauses.{IsPass, hand_of, seen_of, Kept, StillMatch};
-ghost use Rattle.ks_shape.specs.Beside.{KeepsBeside};
-ghost use Rattle.ks_shape.specs.Makes.{MakesNone};
-ghost use Rattle.ks_shape.specs.Claims.{DidClaimOne, DidClaimTwo};
-ghost use Rattle.ks_shape.specs.Stretches.{Stretches};
+ghost use Rattle.ks_arena.specs.Clauses.{hand_of};
+ghost use Rattle.ks_arena.specs.Of.{Keeps, IsPassOf, StayCurrent};
+ghost use Rattle.ks_shape.specs.Of.{IsStretch, MakesNoneLive, KeepsAside, HasClaimedOne, HasClaimedTwo};
 
 use ks_arena::{Arena, Held, Pass};
 use ks_flow::Discipline;
@@ -20,17 +17,17 @@ pub fn claim_one<N: Node, D: Discipline, G: Gate>(
     pass: &mut Pass<N, D>,
     gate: &G,
 ) -> Option<Held<N>>
-    requires pass { IsPass (sort_of N.layout N.ranged) D.begins D.step arena.now.table.shared.table_id arena.now.callers pass.old }
+    requires pass { IsPassOf arena.now pass.old }
     requires few { length (hand_of pass.old) ≤ 2 }
-    ensures pass { IsPass (sort_of N.layout N.ranged) D.begins D.step arena.now.table.shared.table_id arena.now.callers pass.new }
+    ensures pass { IsPassOf arena.now pass.new }
     ensures caller { pass.new.caller ≡ pass.old.caller }
-    ensures claimed { DidClaimOne (sort_of N.layout N.ranged) N.body arena.now.nodes pass.old.caller (seen_of pass.old) (seen_of pass.new) result }
-    ensures stretch { Stretches pass.old.caller (seen_of pass.old) (seen_of pass.new) }
-    ensures makes { MakesNone pass.old.caller (seen_of pass.old) (seen_of pass.new) }
-    ensures beside { KeepsBeside D.beside pass.old.caller (seen_of pass.old) (seen_of pass.new) }
-    ensures keysets { KeepsBeside SameKeyset pass.old.caller (seen_of pass.old) (seen_of pass.new) }
-    ensures kept { Kept pass.old.caller (seen_of pass.old) (seen_of pass.new) }
-    ensures still { StillMatch (sort_of N.layout N.ranged) N.body (hand_of pass.old) (seen_of pass.old) (seen_of pass.new) }
+    ensures claimed { HasClaimedOne arena.now pass.old pass.new result }
+    ensures stretch { IsStretch pass.old pass.new }
+    ensures makes { MakesNoneLive pass.old pass.new }
+    ensures beside { KeepsAside D.beside pass.old pass.new }
+    ensures keysets { KeepsAside SameKeyset pass.old pass.new }
+    ensures kept { Keeps pass.old pass.new }
+    ensures still { StayCurrent arena.now pass.old pass.new }
 {
     D::laws();
     walks_law();
@@ -48,17 +45,17 @@ pub fn claim_two<N: Node, D: Discipline, G: Gate>(
     pass: &mut Pass<N, D>,
     gate: &G,
 ) -> Option<(Held<N>, Held<N>)>
-    requires pass { IsPass (sort_of N.layout N.ranged) D.begins D.step arena.now.table.shared.table_id arena.now.callers pass.old }
+    requires pass { IsPassOf arena.now pass.old }
     requires few { length (hand_of pass.old) ≤ 1 }
-    ensures pass { IsPass (sort_of N.layout N.ranged) D.begins D.step arena.now.table.shared.table_id arena.now.callers pass.new }
+    ensures pass { IsPassOf arena.now pass.new }
     ensures caller { pass.new.caller ≡ pass.old.caller }
-    ensures claimed { DidClaimTwo (sort_of N.layout N.ranged) N.body arena.now.nodes pass.old.caller (seen_of pass.old) (seen_of pass.new) result }
-    ensures stretch { Stretches pass.old.caller (seen_of pass.old) (seen_of pass.new) }
-    ensures makes { MakesNone pass.old.caller (seen_of pass.old) (seen_of pass.new) }
-    ensures beside { KeepsBeside D.beside pass.old.caller (seen_of pass.old) (seen_of pass.new) }
-    ensures keysets { KeepsBeside SameKeyset pass.old.caller (seen_of pass.old) (seen_of pass.new) }
-    ensures kept { Kept pass.old.caller (seen_of pass.old) (seen_of pass.new) }
-    ensures still { StillMatch (sort_of N.layout N.ranged) N.body (hand_of pass.old) (seen_of pass.old) (seen_of pass.new) }
+    ensures claimed { HasClaimedTwo arena.now pass.old pass.new result }
+    ensures stretch { IsStretch pass.old pass.new }
+    ensures makes { MakesNoneLive pass.old pass.new }
+    ensures beside { KeepsAside D.beside pass.old pass.new }
+    ensures keysets { KeepsAside SameKeyset pass.old pass.new }
+    ensures kept { Keeps pass.old pass.new }
+    ensures still { StayCurrent arena.now pass.old pass.new }
 {
     D::laws();
     walks_law();

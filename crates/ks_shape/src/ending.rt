@@ -6,12 +6,13 @@ ghost use Rattle.ks_history.specs.declared.Reply.TheVariants.{Full as full_reply
 ghost use Rattle.ks_history.specs.Map.{Touches, told};
 ghost use Rattle.ks_history.specs.Trace.{◌⊑◌};
 ghost use Rattle.ks_history.specs.Due.{NoneFree};
-ghost use Rattle.ks_history.specs.Done.{Done, DoneAt, Template};
+ghost use Rattle.ks_history.specs.Done.{DoneAt, Template};
 ghost use Rattle.ks_history.specs.Underway.{Underway};
 ghost use Rattle.ks_node.specs.Body.{frame_of};
 ghost use Rattle.ks_arena.specs.Sound.{blank_of, sort_of};
-ghost use Rattle.ks_arena.specs.Clauses.{IsPass, IsReady, hand_of, seen_of};
-ghost use Rattle.ks_shape.specs.Makes.{MakesNone};
+ghost use Rattle.ks_arena.specs.Clauses.{hand_of, seen_of};
+ghost use Rattle.ks_arena.specs.Of.{IsPassOf, IsEmptyPassOf, IsReadyAt};
+ghost use Rattle.ks_shape.specs.Of.{MakesNoneLive, FinishesAny, FinishesAt, FinishesFull};
 
 use crate::answers::Full;
 use ks_arena::laws::sound_law;
@@ -42,13 +43,13 @@ fn decide_here<N: Node, D: Discipline, G: Gate>(
     op: Op,
     reply: Reply,
 ) -> u64
-    requires pass { IsPass (sort_of N.layout N.ranged) D.begins D.step arena.now.table.shared.table_id arena.now.callers pass.old }
+    requires pass { IsPassOf arena.now pass.old }
     requires alone { hand_of pass.old ≡ held.node ∷ [] }
-    requires ready { IsReady (sort_of N.layout N.ranged) N.body arena.now.nodes pass.old.caller (seen_of pass.old) held op reply }
-    ensures pass { IsPass (sort_of N.layout N.ranged) D.begins D.step arena.now.table.shared.table_id arena.now.callers pass.new × (hand_of pass.new ≡ []) }
+    requires ready { IsReadyAt arena.now pass.old held op reply }
+    ensures pass { IsEmptyPassOf arena.now pass.new }
     ensures caller { pass.new.caller ≡ pass.old.caller }
     ensures begins { seen_of pass.old ⊑ seen_of pass.new }
-    ensures makes { MakesNone pass.old.caller (seen_of pass.old) (seen_of pass.new) }
+    ensures makes { MakesNoneLive pass.old pass.new }
     ensures done { (template : Template) (start : List Happening) → (reply ≡ full_reply → (place : ℕ) × Touches op place × NoneFree N.layout arena.now.nodes pass.old.caller place start (seen_of pass.old)) →
         Underway template pass.old.caller op start (seen_of pass.old) → DoneAt N.layout template arena.now.nodes pass.old.caller op start (seen_of pass.new) reply result held.node (blank_of (sort_of N.layout N.ranged)) (frame_of (N.body held.body)) }
 {
@@ -70,15 +71,15 @@ pub fn conclude<N: Node, D: Discipline, G: Gate>(
     op: Op,
     reply: Reply,
 ) -> u64
-    requires pass { IsPass (sort_of N.layout N.ranged) D.begins D.step arena.now.table.shared.table_id arena.now.callers pass.old }
+    requires pass { IsPassOf arena.now pass.old }
     requires alone { hand_of pass.old ≡ held.node ∷ [] }
-    requires ready { IsReady (sort_of N.layout N.ranged) N.body arena.now.nodes pass.old.caller (seen_of pass.old) held op reply }
+    requires ready { IsReadyAt arena.now pass.old held op reply }
     requires some { reply ≢ full_reply }
-    ensures pass { IsPass (sort_of N.layout N.ranged) D.begins D.step arena.now.table.shared.table_id arena.now.callers pass.new × (hand_of pass.new ≡ []) }
+    ensures pass { IsEmptyPassOf arena.now pass.new }
     ensures caller { pass.new.caller ≡ pass.old.caller }
-    ensures makes { MakesNone pass.old.caller (seen_of pass.old) (seen_of pass.new) }
-    ensures done { (template : Template) (start : List Happening) → Underway template pass.old.caller op start (seen_of pass.old) → Done N.layout template arena.now.nodes pass.old.caller op start (seen_of pass.new) reply result }
-    ensures at { (template : Template) (start : List Happening) → Underway template pass.old.caller op start (seen_of pass.old) → DoneAt N.layout template arena.now.nodes pass.old.caller op start (seen_of pass.new) reply result held.node (blank_of (sort_of N.layout N.ranged)) (frame_of (N.body held.body)) }
+    ensures makes { MakesNoneLive pass.old pass.new }
+    ensures done { FinishesAny arena.now op pass.old pass.new reply result }
+    ensures at { FinishesAt arena.now held op pass.old pass.new reply result }
 {
     decide_here(arena, pass, gate, held, op, reply)
 }
@@ -92,15 +93,14 @@ pub fn refuse<N: Node, D: Discipline, G: Gate>(
     held: Held<N>,
     op: Op,
 ) -> Full
-    requires pass { IsPass (sort_of N.layout N.ranged) D.begins D.step arena.now.table.shared.table_id arena.now.callers pass.old }
+    requires pass { IsPassOf arena.now pass.old }
     requires alone { hand_of pass.old ≡ held.node ∷ [] }
-    requires ready { IsReady (sort_of N.layout N.ranged) N.body arena.now.nodes pass.old.caller (seen_of pass.old) held op full_reply }
-    ensures pass { IsPass (sort_of N.layout N.ranged) D.begins D.step arena.now.table.shared.table_id arena.now.callers pass.new × (hand_of pass.new ≡ []) }
+    requires ready { IsReadyAt arena.now pass.old held op full_reply }
+    ensures pass { IsEmptyPassOf arena.now pass.new }
     ensures caller { pass.new.caller ≡ pass.old.caller }
     ensures begins { seen_of pass.old ⊑ seen_of pass.new }
-    ensures makes { MakesNone pass.old.caller (seen_of pass.old) (seen_of pass.new) }
-    ensures done { (template : Template) (start : List Happening) (place : ℕ) → Touches op place → NoneFree N.layout arena.now.nodes pass.old.caller place start (seen_of pass.old) →
-        Underway template pass.old.caller op start (seen_of pass.old) → DoneAt N.layout template arena.now.nodes pass.old.caller op start (seen_of pass.new) full_reply result.number held.node (blank_of (sort_of N.layout N.ranged)) (frame_of (N.body held.body)) }
+    ensures makes { MakesNoneLive pass.old pass.new }
+    ensures done { FinishesFull arena.now held op pass.old pass.new result.number }
 {
     Full {
         number: decide_here(arena, pass, gate, held, op, Reply::Full),

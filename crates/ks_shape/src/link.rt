@@ -1,9 +1,6 @@
 //! Shapes under links. Each asks that the pass holds its nodes with the bodies of the graph, and tells what they became.
 ghost use Rattle.std.specs.Prelude.{◌≡◌, ◌≢◌, ◌<◌, IsTrue, None, ◌∷◌};
-ghost use Rattle.ks_flow.specs.Discipline.{BeginsLink, LinkStep};
-ghost use Rattle.ks_flow.specs.Link.{IsLed};
 ghost use Rattle.ks_history.specs.declared.Event.TheVariants.{Shape};
-ghost use Rattle.ks_history.specs.Passes.{GrowsWith};
 ghost use Rattle.ks_history.specs.Trace.{graph_after, frame_after};
 ghost use Rattle.ks_node.specs.Body.{content_of, is_branch};
 ghost use Rattle.ks_node.specs.Room.{is_full};
@@ -11,8 +8,9 @@ ghost use Rattle.ks_node.specs.Effect.{split_right as right_part, adopted, with_
 ghost use Rattle.ks_node.specs.Asks.{CanSplitAt, IsCut};
 ghost use Rattle.ks_bodies.specs.Links as shapes;
 ghost use Rattle.ks_arena.specs.Sound.{sort_of, blank_of};
-ghost use Rattle.ks_arena.specs.Clauses.{IsPass, hand_of, mine_of, seen_of, KeptBesides, StillMatchBesides};
-ghost use Rattle.ks_shape.specs.InHand.{IsLive, IsFree, BecomesLive};
+ghost use Rattle.ks_arena.specs.Clauses.{hand_of, mine_of, seen_of};
+ghost use Rattle.ks_arena.specs.Of.{Adds, KeepsBesides, IsPassOf, StayCurrentBesides};
+ghost use Rattle.ks_shape.specs.Of.{IsLiveInHand, IsFreeInHand, HasBecome, IsLedTo, splits_right, grows_right, attaches_to};
 
 use ks_arena::laws::sound_law;
 use ks_arena::{Arena, Held, Pass};
@@ -29,21 +27,21 @@ pub fn split_right<N: Linked>(
     right: &mut Held<N>,
     cut: u64,
 )
-    requires pass { IsPass (sort_of N.layout N.ranged) BeginsLink LinkStep arena.now.table.shared.table_id arena.now.callers pass.old }
-    requires node { IsLive (sort_of N.layout N.ranged) N.body (hand_of pass.old) (seen_of pass.old) node.old }
-    requires right { IsFree (sort_of N.layout N.ranged) N.body (hand_of pass.old) (seen_of pass.old) right.old }
+    requires pass { IsPassOf arena.now pass.old }
+    requires node { IsLiveInHand arena.now pass.old node.old }
+    requires right { IsFreeInHand arena.now pass.old right.old }
     requires no_root { node.old.node ≢ 0 }
     requires full { IsTrue (is_full N.layout (N.body node.old.body)) }
     requires cut { CanSplitAt (N.body node.old.body) cut }
-    ensures pass { IsPass (sort_of N.layout N.ranged) BeginsLink LinkStep arena.now.table.shared.table_id arena.now.callers pass.new }
+    ensures pass { IsPassOf arena.now pass.new }
     ensures caller { pass.new.caller ≡ pass.old.caller }
-    ensures shaped { GrowsWith pass.old.caller (Shape pass.old.caller (shapes.split_to_right node.old.node right.old.node cut (N.body node.old.body))) (seen_of pass.old) (seen_of pass.new) }
+    ensures shaped { Adds (Shape pass.old.caller (splits_right arena.now node.old right.old cut)) pass.old pass.new }
     ensures hand { hand_of pass.new ≡ hand_of pass.old }
-    ensures mine { mine_of pass.new ≡ Shape pass.old.caller (shapes.split_to_right node.old.node right.old.node cut (N.body node.old.body)) ∷ mine_of pass.old }
-    ensures node { BecomesLive (sort_of N.layout N.ranged) N.body (shapes.split_linked cut right.old.node (N.body node.old.body)) (seen_of pass.new) node.old node.new }
-    ensures right { BecomesLive (sort_of N.layout N.ranged) N.body (right_part cut (N.body node.old.body)) (seen_of pass.new) right.old right.new }
-    ensures kept { KeptBesides (shapes.split_to_right node.old.node right.old.node cut (N.body node.old.body)) pass.old.caller (seen_of pass.old) (seen_of pass.new) }
-    ensures still { StillMatchBesides (sort_of N.layout N.ranged) N.body (shapes.split_to_right node.old.node right.old.node cut (N.body node.old.body)) (hand_of pass.old) (seen_of pass.old) (seen_of pass.new) }
+    ensures mine { mine_of pass.new ≡ Shape pass.old.caller (splits_right arena.now node.old right.old cut) ∷ mine_of pass.old }
+    ensures node { HasBecome arena.now pass.new (shapes.split_linked cut right.old.node (N.body node.old.body)) node.old node.new }
+    ensures right { HasBecome arena.now pass.new (right_part cut (N.body node.old.body)) right.old right.new }
+    ensures kept { KeepsBesides (splits_right arena.now node.old right.old cut) pass.old pass.new }
+    ensures still { StayCurrentBesides arena.now (splits_right arena.now node.old right.old cut) pass.old pass.new }
 {
     sound_law::<Link>();
     link_steps_law();
@@ -66,27 +64,27 @@ pub fn grow_right<N: Linked>(
     right: &mut Held<N>,
     cut: u64,
 )
-    requires pass { IsPass (sort_of N.layout N.ranged) BeginsLink LinkStep arena.now.table.shared.table_id arena.now.callers pass.old }
-    requires node { IsLive (sort_of N.layout N.ranged) N.body (hand_of pass.old) (seen_of pass.old) node.old }
-    requires left { IsFree (sort_of N.layout N.ranged) N.body (hand_of pass.old) (seen_of pass.old) left.old }
-    requires right { IsFree (sort_of N.layout N.ranged) N.body (hand_of pass.old) (seen_of pass.old) right.old }
+    requires pass { IsPassOf arena.now pass.old }
+    requires node { IsLiveInHand arena.now pass.old node.old }
+    requires left { IsFreeInHand arena.now pass.old left.old }
+    requires right { IsFreeInHand arena.now pass.old right.old }
     requires root { node.old.node ≡ 0 }
     requires apart { left.old.node ≢ right.old.node }
     requires full { IsTrue (is_full N.layout (N.body node.old.body)) }
     requires cut { CanSplitAt (N.body node.old.body) cut }
     requires grows { IsTrue (N.grows_at (content_of (N.body node.old.body))) × IsTrue (N.can_grow_at (content_of (N.body node.old.body)) cut) }
     requires level { (N.body node.old.body).level < 4294967295 }
-    ensures pass { IsPass (sort_of N.layout N.ranged) BeginsLink LinkStep arena.now.table.shared.table_id arena.now.callers pass.new }
+    ensures pass { IsPassOf arena.now pass.new }
     ensures caller { pass.new.caller ≡ pass.old.caller }
-    ensures shaped { GrowsWith pass.old.caller (Shape pass.old.caller (shapes.grow_right N.branch_kind node.old.node left.old.node right.old.node cut (N.body node.old.body))) (seen_of pass.old) (seen_of pass.new) }
+    ensures shaped { Adds (Shape pass.old.caller (grows_right arena.now node.old left.old right.old cut)) pass.old pass.new }
     ensures hand { hand_of pass.new ≡ hand_of pass.old }
-    ensures mine { mine_of pass.new ≡ Shape pass.old.caller (shapes.grow_right N.branch_kind node.old.node left.old.node right.old.node cut (N.body node.old.body)) ∷ mine_of pass.old }
-    ensures node { BecomesLive (sort_of N.layout N.ranged) N.body (shapes.grown_higher N.branch_kind cut left.old.node right.old.node (N.body node.old.body)) (seen_of pass.new) node.old node.new }
-    ensures left { BecomesLive (sort_of N.layout N.ranged) N.body (shapes.split_linked cut right.old.node (N.body node.old.body)) (seen_of pass.new) left.old left.new }
-    ensures right { BecomesLive (sort_of N.layout N.ranged) N.body (with_link None (right_part cut (N.body node.old.body))) (seen_of pass.new) right.old right.new }
-    ensures led { IsLed (graph_after (seen_of pass.new)) (frame_after (blank_of (sort_of N.layout N.ranged)) (seen_of pass.new)) left.old.node × IsLed (graph_after (seen_of pass.new)) (frame_after (blank_of (sort_of N.layout N.ranged)) (seen_of pass.new)) right.old.node }
-    ensures kept { KeptBesides (shapes.grow_right N.branch_kind node.old.node left.old.node right.old.node cut (N.body node.old.body)) pass.old.caller (seen_of pass.old) (seen_of pass.new) }
-    ensures still { StillMatchBesides (sort_of N.layout N.ranged) N.body (shapes.grow_right N.branch_kind node.old.node left.old.node right.old.node cut (N.body node.old.body)) (hand_of pass.old) (seen_of pass.old) (seen_of pass.new) }
+    ensures mine { mine_of pass.new ≡ Shape pass.old.caller (grows_right arena.now node.old left.old right.old cut) ∷ mine_of pass.old }
+    ensures node { HasBecome arena.now pass.new (shapes.grown_higher N.branch_kind cut left.old.node right.old.node (N.body node.old.body)) node.old node.new }
+    ensures left { HasBecome arena.now pass.new (shapes.split_linked cut right.old.node (N.body node.old.body)) left.old left.new }
+    ensures right { HasBecome arena.now pass.new (with_link None (right_part cut (N.body node.old.body))) right.old right.new }
+    ensures led { IsLedTo arena.now pass.new left.old.node × IsLedTo arena.now pass.new right.old.node }
+    ensures kept { KeepsBesides (grows_right arena.now node.old left.old right.old cut) pass.old pass.new }
+    ensures still { StayCurrentBesides arena.now (grows_right arena.now node.old left.old right.old cut) pass.old pass.new }
 {
     sound_law::<Link>();
     link_asks_law();
@@ -112,21 +110,21 @@ pub fn attach<N: Linked>(
     cut: u64,
     id: u32,
 )
-    requires pass { IsPass (sort_of N.layout N.ranged) BeginsLink LinkStep arena.now.table.shared.table_id arena.now.callers pass.old }
-    requires node { IsLive (sort_of N.layout N.ranged) N.body (hand_of pass.old) (seen_of pass.old) node.old }
+    requires pass { IsPassOf arena.now pass.old }
+    requires node { IsLiveInHand arena.now pass.old node.old }
     requires branch { IsTrue (is_branch (N.body node.old.body)) }
     requires cut { IsCut (N.body node.old.body) cut }
     requires adopts { IsTrue (N.can_adopt_at (content_of (N.body node.old.body)) cut) }
     requires under { shapes.StandsUnder (graph_after (seen_of pass.old)) (frame_after (blank_of (sort_of N.layout N.ranged)) (seen_of pass.old)) id (N.body node.old.body).level cut }
-    ensures pass { IsPass (sort_of N.layout N.ranged) BeginsLink LinkStep arena.now.table.shared.table_id arena.now.callers pass.new }
+    ensures pass { IsPassOf arena.now pass.new }
     ensures caller { pass.new.caller ≡ pass.old.caller }
-    ensures shaped { GrowsWith pass.old.caller (Shape pass.old.caller (shapes.attach node.old.node id cut (N.body node.old.body))) (seen_of pass.old) (seen_of pass.new) }
+    ensures shaped { Adds (Shape pass.old.caller (attaches_to arena.now node.old id cut)) pass.old pass.new }
     ensures hand { hand_of pass.new ≡ hand_of pass.old }
-    ensures mine { mine_of pass.new ≡ Shape pass.old.caller (shapes.attach node.old.node id cut (N.body node.old.body)) ∷ mine_of pass.old }
-    ensures node { BecomesLive (sort_of N.layout N.ranged) N.body (adopted cut id (N.body node.old.body)) (seen_of pass.new) node.old node.new }
-    ensures led { IsLed (graph_after (seen_of pass.new)) (frame_after (blank_of (sort_of N.layout N.ranged)) (seen_of pass.new)) id }
-    ensures kept { KeptBesides (shapes.attach node.old.node id cut (N.body node.old.body)) pass.old.caller (seen_of pass.old) (seen_of pass.new) }
-    ensures still { StillMatchBesides (sort_of N.layout N.ranged) N.body (shapes.attach node.old.node id cut (N.body node.old.body)) (hand_of pass.old) (seen_of pass.old) (seen_of pass.new) }
+    ensures mine { mine_of pass.new ≡ Shape pass.old.caller (attaches_to arena.now node.old id cut) ∷ mine_of pass.old }
+    ensures node { HasBecome arena.now pass.new (adopted cut id (N.body node.old.body)) node.old node.new }
+    ensures led { IsLedTo arena.now pass.new id }
+    ensures kept { KeepsBesides (attaches_to arena.now node.old id cut) pass.old pass.new }
+    ensures still { StayCurrentBesides arena.now (attaches_to arena.now node.old id cut) pass.old pass.new }
 {
     sound_law::<Link>();
     link_asks_law();

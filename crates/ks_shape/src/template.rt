@@ -2,11 +2,10 @@
 ghost use Rattle.std.specs.Prelude.{◌≡◌};
 ghost use Rattle.ks_history.specs.declared.Op.TheVariants.{Add, Del, Get, Put, Swap};
 ghost use Rattle.ks_history.specs.Map.{told};
-ghost use Rattle.ks_history.specs.Done.{Template as Technique, Done};
+ghost use Rattle.ks_history.specs.Done.{Template as Technique};
 ghost use Rattle.ks_arena.specs.Sound.{sort_of, blank_of};
-ghost use Rattle.ks_arena.specs.Clauses.{seen_of};
 ghost use Rattle.ks_shape.specs.Answers.{number_in, reply_in};
-ghost use Rattle.ks_shape.specs.Idle.{IsIdle, Site};
+ghost use Rattle.ks_shape.specs.Idle.{IsDone, IsIdle, Site};
 
 use crate::answers::{Full, Numbered};
 use ks_arena::{Arena, Pass};
@@ -60,8 +59,8 @@ pub trait Template<N: Node, A: Shelf>: Ruled {
         requires pass { IsIdle (A.site arena.now) pass.old }
         ensures pass { IsIdle (A.site arena.now) pass.new }
         ensures caller { pass.new.caller ≡ pass.old.caller }
-        ensures done { Done N.layout Self.technique (A.site arena.now).nodes pass.old.caller (Get place)
-            (seen_of pass.old) (seen_of pass.new) (told result.found) result.number };
+        ensures done { IsDone N.layout Self.technique (A.site arena.now) (Get place)
+            pass.old pass.new (told result.found) result.number };
 
     /// Sets the value at a place, and answers the one that stood there.
     ///
@@ -81,8 +80,8 @@ pub trait Template<N: Node, A: Shelf>: Ruled {
         requires pass { IsIdle (A.site arena.now) pass.old }
         ensures pass { IsIdle (A.site arena.now) pass.new }
         ensures caller { pass.new.caller ≡ pass.old.caller }
-        ensures done { Done N.layout Self.technique (A.site arena.now).nodes pass.old.caller (Put place value)
-            (seen_of pass.old) (seen_of pass.new) (reply_in result) (number_in result) };
+        ensures done { IsDone N.layout Self.technique (A.site arena.now) (Put place value)
+            pass.old pass.new (reply_in result) (number_in result) };
 
     /// Sets the value at a place where none stands, and answers the one that stood there: where one did, it stays.
     ///
@@ -100,8 +99,8 @@ pub trait Template<N: Node, A: Shelf>: Ruled {
         requires pass { IsIdle (A.site arena.now) pass.old }
         ensures pass { IsIdle (A.site arena.now) pass.new }
         ensures caller { pass.new.caller ≡ pass.old.caller }
-        ensures done { Done N.layout Self.technique (A.site arena.now).nodes pass.old.caller (Add place value)
-            (seen_of pass.old) (seen_of pass.new) (reply_in result) (number_in result) };
+        ensures done { IsDone N.layout Self.technique (A.site arena.now) (Add place value)
+            pass.old pass.new (reply_in result) (number_in result) };
 
     /// Sets the value at a place to `new` where `old` stands, and answers the one that stood there: it was set exactly
     /// where that is `old`.
@@ -117,8 +116,8 @@ pub trait Template<N: Node, A: Shelf>: Ruled {
         requires pass { IsIdle (A.site arena.now) pass.old }
         ensures pass { IsIdle (A.site arena.now) pass.new }
         ensures caller { pass.new.caller ≡ pass.old.caller }
-        ensures done { Done N.layout Self.technique (A.site arena.now).nodes pass.old.caller (Swap place old new)
-            (seen_of pass.old) (seen_of pass.new) (told result.found) result.number };
+        ensures done { IsDone N.layout Self.technique (A.site arena.now) (Swap place old new)
+            pass.old pass.new (told result.found) result.number };
 
     /// Deletes what stands at a place, and answers it.
     fn del<R: Wait, G: Gate>(
@@ -131,6 +130,6 @@ pub trait Template<N: Node, A: Shelf>: Ruled {
         requires pass { IsIdle (A.site arena.now) pass.old }
         ensures pass { IsIdle (A.site arena.now) pass.new }
         ensures caller { pass.new.caller ≡ pass.old.caller }
-        ensures done { Done N.layout Self.technique (A.site arena.now).nodes pass.old.caller (Del place)
-            (seen_of pass.old) (seen_of pass.new) (told result.found) result.number };
+        ensures done { IsDone N.layout Self.technique (A.site arena.now) (Del place)
+            pass.old pass.new (told result.found) result.number };
 }

@@ -1,21 +1,16 @@
 //! Shapes of trees. Each asks that the pass holds its nodes with the bodies of the graph, and tells what they became.
-ghost use Rattle.std.specs.Prelude.{◌≡◌, ◌≢◌, ℕ, ◌<◌, ◌≤◌, IsTrue, Some, None, [], ◌∷◌, true, false};
-ghost use Rattle.ks_flow.specs.Discipline.{BeginsTree, TreeStep};
-ghost use Rattle.ks_keysets.specs.Keyset.{InInset};
+ghost use Rattle.std.specs.Prelude.{◌≡◌, ◌≢◌, ℕ, ◌<◌, ◌≤◌, IsTrue, Some, None, ◌∷◌, true, false};
 ghost use Rattle.ks_keysets.specs.Record.{LeadsTo};
 ghost use Rattle.ks_history.specs.declared.Event.TheVariants.{Shape};
-ghost use Rattle.ks_history.specs.Passes.{GrowsWith};
-ghost use Rattle.ks_history.specs.Trace.{graph_after};
 ghost use Rattle.ks_node.specs.Body.{content_of, is_branch, chained_of, only_child_of, right_child};
 ghost use Rattle.ks_node.specs.Edges.{record_of};
 ghost use Rattle.ks_node.specs.Room.{is_full, fit_together};
 ghost use Rattle.ks_node.specs.Effect.{split_left, split_right, grown, adopted, absorbed, forgot, collapsed};
 ghost use Rattle.ks_node.specs.Asks.{CanSplitAt};
 ghost use Rattle.ks_bodies.specs.Shapes as shapes;
-ghost use Rattle.ks_arena.specs.Sound.{sort_of};
-ghost use Rattle.ks_arena.specs.Clauses.{IsPass, hand_of, mine_of, seen_of, KeptBesides, StillMatchBesides};
-ghost use Rattle.ks_shape.specs.InHand.{IsLive, IsFree, BecomesLive, BecomesFree};
-ghost use Rattle.ks_shape.specs.Places.{HasPlacesOf};
+ghost use Rattle.ks_arena.specs.Clauses.{hand_of, mine_of};
+ghost use Rattle.ks_arena.specs.Of.{IsInside, Adds, KeepsBesides, IsPassOf, StayCurrentBesides};
+ghost use Rattle.ks_shape.specs.Of.{IsLiveInHand, IsFreeInHand, HasBecome, HasBecomeFree, splits_own, splits_under, grows_to, HasPlaces, absorbs_own, absorbs_under, collapses_to};
 
 use ks_arena::laws::sound_law;
 use ks_arena::{Arena, Held, Pass};
@@ -31,23 +26,23 @@ pub fn split_own<N: Unlinked>(
     right: &mut Held<N>,
     cut: u64,
 )
-    requires pass { IsPass (sort_of N.layout N.ranged) BeginsTree TreeStep arena.now.table.shared.table_id arena.now.callers pass.old }
-    requires node { IsLive (sort_of N.layout N.ranged) N.body (hand_of pass.old) (seen_of pass.old) node.old }
-    requires right { IsFree (sort_of N.layout N.ranged) N.body (hand_of pass.old) (seen_of pass.old) right.old }
+    requires pass { IsPassOf arena.now pass.old }
+    requires node { IsLiveInHand arena.now pass.old node.old }
+    requires right { IsFreeInHand arena.now pass.old right.old }
     requires full { IsTrue (is_full N.layout (N.body node.old.body)) }
-    requires cut { InInset (graph_after (seen_of pass.old)) node.old.node cut × CanSplitAt (N.body node.old.body) cut }
+    requires cut { IsInside pass.old node.old.node cut × CanSplitAt (N.body node.old.body) cut }
     requires adopts { IsTrue (N.can_adopt_at (content_of (split_left cut (N.body node.old.body))) cut) }
-    ensures pass { IsPass (sort_of N.layout N.ranged) BeginsTree TreeStep arena.now.table.shared.table_id arena.now.callers pass.new }
+    ensures pass { IsPassOf arena.now pass.new }
     ensures caller { pass.new.caller ≡ pass.old.caller }
-    ensures shaped { GrowsWith pass.old.caller (Shape pass.old.caller (shapes.split_own node.old.node right.old.node cut (N.body node.old.body))) (seen_of pass.old) (seen_of pass.new) }
+    ensures shaped { Adds (Shape pass.old.caller (splits_own arena.now node.old right.old cut)) pass.old pass.new }
     ensures hand { hand_of pass.new ≡ hand_of pass.old }
-    ensures mine { mine_of pass.new ≡ Shape pass.old.caller (shapes.split_own node.old.node right.old.node cut (N.body node.old.body)) ∷ mine_of pass.old }
-    ensures node { BecomesLive (sort_of N.layout N.ranged) N.body (shapes.split_on cut right.old.node (N.body node.old.body)) (seen_of pass.new) node.old node.new }
-    ensures right { BecomesLive (sort_of N.layout N.ranged) N.body (split_right cut (N.body node.old.body)) (seen_of pass.new) right.old right.new }
-    ensures parts { (p : ℕ) → InInset (graph_after (seen_of pass.old)) node.old.node p →
-        InInset (graph_after (seen_of pass.new)) node.old.node p × (cut ≤ p → LeadsTo (record_of (shapes.split_on cut right.old.node (N.body node.old.body))) p right.old.node × InInset (graph_after (seen_of pass.new)) right.old.node p) }
-    ensures kept { KeptBesides (shapes.split_own node.old.node right.old.node cut (N.body node.old.body)) pass.old.caller (seen_of pass.old) (seen_of pass.new) }
-    ensures still { StillMatchBesides (sort_of N.layout N.ranged) N.body (shapes.split_own node.old.node right.old.node cut (N.body node.old.body)) (hand_of pass.old) (seen_of pass.old) (seen_of pass.new) }
+    ensures mine { mine_of pass.new ≡ Shape pass.old.caller (splits_own arena.now node.old right.old cut) ∷ mine_of pass.old }
+    ensures node { HasBecome arena.now pass.new (shapes.split_on cut right.old.node (N.body node.old.body)) node.old node.new }
+    ensures right { HasBecome arena.now pass.new (split_right cut (N.body node.old.body)) right.old right.new }
+    ensures parts { (p : ℕ) → IsInside pass.old node.old.node p →
+        IsInside pass.new node.old.node p × (cut ≤ p → LeadsTo (record_of (shapes.split_on cut right.old.node (N.body node.old.body))) p right.old.node × IsInside pass.new right.old.node p) }
+    ensures kept { KeepsBesides (splits_own arena.now node.old right.old cut) pass.old pass.new }
+    ensures still { StayCurrentBesides arena.now (splits_own arena.now node.old right.old cut) pass.old pass.new }
 {
     sound_law::<Tree>();
     tree_asks_law();
@@ -73,29 +68,29 @@ pub fn split_under<N: Unlinked>(
     right: &mut Held<N>,
     cut: u64,
 )
-    requires pass { IsPass (sort_of N.layout N.ranged) BeginsTree TreeStep arena.now.table.shared.table_id arena.now.callers pass.old }
-    requires parent { IsLive (sort_of N.layout N.ranged) N.body (hand_of pass.old) (seen_of pass.old) parent.old }
-    requires node { IsLive (sort_of N.layout N.ranged) N.body (hand_of pass.old) (seen_of pass.old) node.old }
-    requires right { IsFree (sort_of N.layout N.ranged) N.body (hand_of pass.old) (seen_of pass.old) right.old }
+    requires pass { IsPassOf arena.now pass.old }
+    requires parent { IsLiveInHand arena.now pass.old parent.old }
+    requires node { IsLiveInHand arena.now pass.old node.old }
+    requires right { IsFreeInHand arena.now pass.old right.old }
     requires branch { IsTrue (is_branch (N.body parent.old.body)) }
     requires leads { (place : ℕ) × LeadsTo (record_of (N.body parent.old.body)) place node.old.node }
     requires apart { parent.old.node ≢ node.old.node }
     requires full { IsTrue (is_full N.layout (N.body node.old.body)) }
-    requires cut { InInset (graph_after (seen_of pass.old)) node.old.node cut × CanSplitAt (N.body node.old.body) cut }
+    requires cut { IsInside pass.old node.old.node cut × CanSplitAt (N.body node.old.body) cut }
     requires adopts { IsTrue (N.can_adopt_at (content_of (N.body parent.old.body)) cut) }
-    ensures pass { IsPass (sort_of N.layout N.ranged) BeginsTree TreeStep arena.now.table.shared.table_id arena.now.callers pass.new }
+    ensures pass { IsPassOf arena.now pass.new }
     ensures caller { pass.new.caller ≡ pass.old.caller }
-    ensures shaped { GrowsWith pass.old.caller (Shape pass.old.caller (shapes.split_under parent.old.node node.old.node right.old.node cut (N.body parent.old.body) (N.body node.old.body))) (seen_of pass.old) (seen_of pass.new) }
+    ensures shaped { Adds (Shape pass.old.caller (splits_under arena.now parent.old node.old right.old cut)) pass.old pass.new }
     ensures hand { hand_of pass.new ≡ hand_of pass.old }
-    ensures mine { mine_of pass.new ≡ Shape pass.old.caller (shapes.split_under parent.old.node node.old.node right.old.node cut (N.body parent.old.body) (N.body node.old.body)) ∷ mine_of pass.old }
-    ensures parent { BecomesLive (sort_of N.layout N.ranged) N.body (adopted cut right.old.node (N.body parent.old.body)) (seen_of pass.new) parent.old parent.new }
-    ensures node { BecomesLive (sort_of N.layout N.ranged) N.body (split_left cut (N.body node.old.body)) (seen_of pass.new) node.old node.new }
-    ensures right { BecomesLive (sort_of N.layout N.ranged) N.body (split_right cut (N.body node.old.body)) (seen_of pass.new) right.old right.new }
-    ensures parts { (p : ℕ) → InInset (graph_after (seen_of pass.old)) node.old.node p →
-        (p < cut → LeadsTo (record_of (adopted cut right.old.node (N.body parent.old.body))) p node.old.node × InInset (graph_after (seen_of pass.new)) node.old.node p)
-        × (cut ≤ p → LeadsTo (record_of (adopted cut right.old.node (N.body parent.old.body))) p right.old.node × InInset (graph_after (seen_of pass.new)) right.old.node p) }
-    ensures kept { KeptBesides (shapes.split_under parent.old.node node.old.node right.old.node cut (N.body parent.old.body) (N.body node.old.body)) pass.old.caller (seen_of pass.old) (seen_of pass.new) }
-    ensures still { StillMatchBesides (sort_of N.layout N.ranged) N.body (shapes.split_under parent.old.node node.old.node right.old.node cut (N.body parent.old.body) (N.body node.old.body)) (hand_of pass.old) (seen_of pass.old) (seen_of pass.new) }
+    ensures mine { mine_of pass.new ≡ Shape pass.old.caller (splits_under arena.now parent.old node.old right.old cut) ∷ mine_of pass.old }
+    ensures parent { HasBecome arena.now pass.new (adopted cut right.old.node (N.body parent.old.body)) parent.old parent.new }
+    ensures node { HasBecome arena.now pass.new (split_left cut (N.body node.old.body)) node.old node.new }
+    ensures right { HasBecome arena.now pass.new (split_right cut (N.body node.old.body)) right.old right.new }
+    ensures parts { (p : ℕ) → IsInside pass.old node.old.node p →
+        (p < cut → LeadsTo (record_of (adopted cut right.old.node (N.body parent.old.body))) p node.old.node × IsInside pass.new node.old.node p)
+        × (cut ≤ p → LeadsTo (record_of (adopted cut right.old.node (N.body parent.old.body))) p right.old.node × IsInside pass.new right.old.node p) }
+    ensures kept { KeepsBesides (splits_under arena.now parent.old node.old right.old cut) pass.old pass.new }
+    ensures still { StayCurrentBesides arena.now (splits_under arena.now parent.old node.old right.old cut) pass.old pass.new }
 {
     sound_law::<Tree>();
     tree_asks_law();
@@ -122,27 +117,27 @@ pub fn grow<N: Unlinked>(
     right: &mut Held<N>,
     cut: u64,
 )
-    requires pass { IsPass (sort_of N.layout N.ranged) BeginsTree TreeStep arena.now.table.shared.table_id arena.now.callers pass.old }
-    requires node { IsLive (sort_of N.layout N.ranged) N.body (hand_of pass.old) (seen_of pass.old) node.old }
-    requires left { IsFree (sort_of N.layout N.ranged) N.body (hand_of pass.old) (seen_of pass.old) left.old }
-    requires right { IsFree (sort_of N.layout N.ranged) N.body (hand_of pass.old) (seen_of pass.old) right.old }
+    requires pass { IsPassOf arena.now pass.old }
+    requires node { IsLiveInHand arena.now pass.old node.old }
+    requires left { IsFreeInHand arena.now pass.old left.old }
+    requires right { IsFreeInHand arena.now pass.old right.old }
     requires apart { left.old.node ≢ right.old.node }
     requires full { IsTrue (is_full N.layout (N.body node.old.body)) }
-    requires cut { InInset (graph_after (seen_of pass.old)) node.old.node cut × CanSplitAt (N.body node.old.body) cut }
+    requires cut { IsInside pass.old node.old.node cut × CanSplitAt (N.body node.old.body) cut }
     requires grows { IsTrue (N.grows_at (content_of (N.body node.old.body))) × IsTrue (N.can_grow_at (content_of (N.body node.old.body)) cut) }
-    ensures pass { IsPass (sort_of N.layout N.ranged) BeginsTree TreeStep arena.now.table.shared.table_id arena.now.callers pass.new }
+    ensures pass { IsPassOf arena.now pass.new }
     ensures caller { pass.new.caller ≡ pass.old.caller }
-    ensures shaped { GrowsWith pass.old.caller (Shape pass.old.caller (shapes.grow N.branch_kind node.old.node left.old.node right.old.node cut (N.body node.old.body))) (seen_of pass.old) (seen_of pass.new) }
+    ensures shaped { Adds (Shape pass.old.caller (grows_to arena.now node.old left.old right.old cut)) pass.old pass.new }
     ensures hand { hand_of pass.new ≡ hand_of pass.old }
-    ensures mine { mine_of pass.new ≡ Shape pass.old.caller (shapes.grow N.branch_kind node.old.node left.old.node right.old.node cut (N.body node.old.body)) ∷ mine_of pass.old }
-    ensures node { BecomesLive (sort_of N.layout N.ranged) N.body (grown N.branch_kind cut left.old.node right.old.node (N.body node.old.body)) (seen_of pass.new) node.old node.new }
-    ensures left { BecomesLive (sort_of N.layout N.ranged) N.body (split_left cut (N.body node.old.body)) (seen_of pass.new) left.old left.new }
-    ensures right { BecomesLive (sort_of N.layout N.ranged) N.body (split_right cut (N.body node.old.body)) (seen_of pass.new) right.old right.new }
-    ensures parts { (p : ℕ) → InInset (graph_after (seen_of pass.old)) node.old.node p →
-        (p < cut → LeadsTo (record_of (grown N.branch_kind cut left.old.node right.old.node (N.body node.old.body))) p left.old.node × InInset (graph_after (seen_of pass.new)) left.old.node p)
-        × (cut ≤ p → LeadsTo (record_of (grown N.branch_kind cut left.old.node right.old.node (N.body node.old.body))) p right.old.node × InInset (graph_after (seen_of pass.new)) right.old.node p) }
-    ensures kept { KeptBesides (shapes.grow N.branch_kind node.old.node left.old.node right.old.node cut (N.body node.old.body)) pass.old.caller (seen_of pass.old) (seen_of pass.new) }
-    ensures still { StillMatchBesides (sort_of N.layout N.ranged) N.body (shapes.grow N.branch_kind node.old.node left.old.node right.old.node cut (N.body node.old.body)) (hand_of pass.old) (seen_of pass.old) (seen_of pass.new) }
+    ensures mine { mine_of pass.new ≡ Shape pass.old.caller (grows_to arena.now node.old left.old right.old cut) ∷ mine_of pass.old }
+    ensures node { HasBecome arena.now pass.new (grown N.branch_kind cut left.old.node right.old.node (N.body node.old.body)) node.old node.new }
+    ensures left { HasBecome arena.now pass.new (split_left cut (N.body node.old.body)) left.old left.new }
+    ensures right { HasBecome arena.now pass.new (split_right cut (N.body node.old.body)) right.old right.new }
+    ensures parts { (p : ℕ) → IsInside pass.old node.old.node p →
+        (p < cut → LeadsTo (record_of (grown N.branch_kind cut left.old.node right.old.node (N.body node.old.body))) p left.old.node × IsInside pass.new left.old.node p)
+        × (cut ≤ p → LeadsTo (record_of (grown N.branch_kind cut left.old.node right.old.node (N.body node.old.body))) p right.old.node × IsInside pass.new right.old.node p) }
+    ensures kept { KeepsBesides (grows_to arena.now node.old left.old right.old cut) pass.old pass.new }
+    ensures still { StayCurrentBesides arena.now (grows_to arena.now node.old left.old right.old cut) pass.old pass.new }
 {
     sound_law::<Tree>();
     tree_asks_law();
@@ -166,22 +161,22 @@ pub fn absorb_own<N: Unlinked>(
     node: &mut Held<N>,
     right: &mut Held<N>,
 )
-    requires pass { IsPass (sort_of N.layout N.ranged) BeginsTree TreeStep arena.now.table.shared.table_id arena.now.callers pass.old }
-    requires node { IsLive (sort_of N.layout N.ranged) N.body (hand_of pass.old) (seen_of pass.old) node.old }
-    requires right { IsLive (sort_of N.layout N.ranged) N.body (hand_of pass.old) (seen_of pass.old) right.old }
+    requires pass { IsPassOf arena.now pass.old }
+    requires node { IsLiveInHand arena.now pass.old node.old }
+    requires right { IsLiveInHand arena.now pass.old right.old }
     requires chained { chained_of (N.body node.old.body) ≡ Some right.old.node }
     requires apart { node.old.node ≢ right.old.node }
     requires fits { IsTrue (fit_together N.layout (N.body node.old.body) (N.body right.old.body)) }
-    ensures pass { IsPass (sort_of N.layout N.ranged) BeginsTree TreeStep arena.now.table.shared.table_id arena.now.callers pass.new }
+    ensures pass { IsPassOf arena.now pass.new }
     ensures caller { pass.new.caller ≡ pass.old.caller }
-    ensures shaped { GrowsWith pass.old.caller (Shape pass.old.caller (shapes.absorb_own node.old.node right.old.node (N.body node.old.body) (N.body right.old.body))) (seen_of pass.old) (seen_of pass.new) }
+    ensures shaped { Adds (Shape pass.old.caller (absorbs_own arena.now node.old right.old)) pass.old pass.new }
     ensures hand { hand_of pass.new ≡ hand_of pass.old }
-    ensures mine { mine_of pass.new ≡ Shape pass.old.caller (shapes.absorb_own node.old.node right.old.node (N.body node.old.body) (N.body right.old.body)) ∷ mine_of pass.old }
-    ensures node { BecomesLive (sort_of N.layout N.ranged) N.body (absorbed (N.body node.old.body) (N.body right.old.body)) (seen_of pass.new) node.old node.new }
-    ensures right { BecomesFree (sort_of N.layout N.ranged) N.body (seen_of pass.new) right.old right.new }
-    ensures kept { KeptBesides (shapes.absorb_own node.old.node right.old.node (N.body node.old.body) (N.body right.old.body)) pass.old.caller (seen_of pass.old) (seen_of pass.new) }
-    ensures still { StillMatchBesides (sort_of N.layout N.ranged) N.body (shapes.absorb_own node.old.node right.old.node (N.body node.old.body) (N.body right.old.body)) (hand_of pass.old) (seen_of pass.old) (seen_of pass.new) }
-    ensures places { HasPlacesOf (graph_after (seen_of pass.old)) (graph_after (seen_of pass.new)) node.old.node node.old.node }
+    ensures mine { mine_of pass.new ≡ Shape pass.old.caller (absorbs_own arena.now node.old right.old) ∷ mine_of pass.old }
+    ensures node { HasBecome arena.now pass.new (absorbed (N.body node.old.body) (N.body right.old.body)) node.old node.new }
+    ensures right { HasBecomeFree arena.now pass.new right.old right.new }
+    ensures kept { KeepsBesides (absorbs_own arena.now node.old right.old) pass.old pass.new }
+    ensures still { StayCurrentBesides arena.now (absorbs_own arena.now node.old right.old) pass.old pass.new }
+    ensures places { HasPlaces node.old.node node.old.node pass.old pass.new }
 {
     sound_law::<Tree>();
     tree_asks_law();
@@ -204,27 +199,27 @@ pub fn absorb_under<N: Unlinked>(
     node: &mut Held<N>,
     right: &mut Held<N>,
 )
-    requires pass { IsPass (sort_of N.layout N.ranged) BeginsTree TreeStep arena.now.table.shared.table_id arena.now.callers pass.old }
-    requires parent { IsLive (sort_of N.layout N.ranged) N.body (hand_of pass.old) (seen_of pass.old) parent.old }
-    requires node { IsLive (sort_of N.layout N.ranged) N.body (hand_of pass.old) (seen_of pass.old) node.old }
-    requires right { IsLive (sort_of N.layout N.ranged) N.body (hand_of pass.old) (seen_of pass.old) right.old }
+    requires pass { IsPassOf arena.now pass.old }
+    requires parent { IsLiveInHand arena.now pass.old parent.old }
+    requires node { IsLiveInHand arena.now pass.old node.old }
+    requires right { IsLiveInHand arena.now pass.old right.old }
     requires branch { IsTrue (is_branch (N.body parent.old.body)) }
     requires leads { (place : ℕ) × LeadsTo (record_of (N.body parent.old.body)) place node.old.node × (right_child (N.body parent.old.body) place ≡ Some right.old.node) }
     requires unchained { chained_of (N.body node.old.body) ≡ None }
     requires apart { (parent.old.node ≢ node.old.node) × (parent.old.node ≢ right.old.node) × (node.old.node ≢ right.old.node) }
     requires fits { IsTrue (fit_together N.layout (N.body node.old.body) (N.body right.old.body)) }
-    ensures pass { IsPass (sort_of N.layout N.ranged) BeginsTree TreeStep arena.now.table.shared.table_id arena.now.callers pass.new }
+    ensures pass { IsPassOf arena.now pass.new }
     ensures caller { pass.new.caller ≡ pass.old.caller }
-    ensures shaped { GrowsWith pass.old.caller (Shape pass.old.caller (shapes.absorb_under parent.old.node node.old.node right.old.node (N.body parent.old.body) (N.body node.old.body) (N.body right.old.body))) (seen_of pass.old) (seen_of pass.new) }
+    ensures shaped { Adds (Shape pass.old.caller (absorbs_under arena.now parent.old node.old right.old)) pass.old pass.new }
     ensures hand { hand_of pass.new ≡ hand_of pass.old }
-    ensures mine { mine_of pass.new ≡ Shape pass.old.caller (shapes.absorb_under parent.old.node node.old.node right.old.node (N.body parent.old.body) (N.body node.old.body) (N.body right.old.body)) ∷ mine_of pass.old }
-    ensures parent { BecomesLive (sort_of N.layout N.ranged) N.body (forgot right.old.node (N.body parent.old.body)) (seen_of pass.new) parent.old parent.new }
-    ensures node { BecomesLive (sort_of N.layout N.ranged) N.body (absorbed (N.body node.old.body) (N.body right.old.body)) (seen_of pass.new) node.old node.new }
-    ensures right { BecomesFree (sort_of N.layout N.ranged) N.body (seen_of pass.new) right.old right.new }
-    ensures kept { KeptBesides (shapes.absorb_under parent.old.node node.old.node right.old.node (N.body parent.old.body) (N.body node.old.body) (N.body right.old.body)) pass.old.caller (seen_of pass.old) (seen_of pass.new) }
-    ensures still { StillMatchBesides (sort_of N.layout N.ranged) N.body (shapes.absorb_under parent.old.node node.old.node right.old.node (N.body parent.old.body) (N.body node.old.body) (N.body right.old.body)) (hand_of pass.old) (seen_of pass.old) (seen_of pass.new) }
-    ensures places { HasPlacesOf (graph_after (seen_of pass.old)) (graph_after (seen_of pass.new)) node.old.node node.old.node }
-    ensures leads { (p : ℕ) → InInset (graph_after (seen_of pass.old)) node.old.node p → LeadsTo (record_of (forgot right.old.node (N.body parent.old.body))) p node.old.node }
+    ensures mine { mine_of pass.new ≡ Shape pass.old.caller (absorbs_under arena.now parent.old node.old right.old) ∷ mine_of pass.old }
+    ensures parent { HasBecome arena.now pass.new (forgot right.old.node (N.body parent.old.body)) parent.old parent.new }
+    ensures node { HasBecome arena.now pass.new (absorbed (N.body node.old.body) (N.body right.old.body)) node.old node.new }
+    ensures right { HasBecomeFree arena.now pass.new right.old right.new }
+    ensures kept { KeepsBesides (absorbs_under arena.now parent.old node.old right.old) pass.old pass.new }
+    ensures still { StayCurrentBesides arena.now (absorbs_under arena.now parent.old node.old right.old) pass.old pass.new }
+    ensures places { HasPlaces node.old.node node.old.node pass.old pass.new }
+    ensures leads { (p : ℕ) → IsInside pass.old node.old.node p → LeadsTo (record_of (forgot right.old.node (N.body parent.old.body))) p node.old.node }
 {
     sound_law::<Tree>();
     tree_asks_law();
@@ -249,21 +244,21 @@ pub fn collapse<N: Unlinked>(
     node: &mut Held<N>,
     child: &mut Held<N>,
 )
-    requires pass { IsPass (sort_of N.layout N.ranged) BeginsTree TreeStep arena.now.table.shared.table_id arena.now.callers pass.old }
-    requires node { IsLive (sort_of N.layout N.ranged) N.body (hand_of pass.old) (seen_of pass.old) node.old }
-    requires child { IsLive (sort_of N.layout N.ranged) N.body (hand_of pass.old) (seen_of pass.old) child.old }
+    requires pass { IsPassOf arena.now pass.old }
+    requires node { IsLiveInHand arena.now pass.old node.old }
+    requires child { IsLiveInHand arena.now pass.old child.old }
     requires sole { only_child_of (N.body node.old.body) ≡ Some child.old.node }
     requires apart { node.old.node ≢ child.old.node }
-    ensures pass { IsPass (sort_of N.layout N.ranged) BeginsTree TreeStep arena.now.table.shared.table_id arena.now.callers pass.new }
+    ensures pass { IsPassOf arena.now pass.new }
     ensures caller { pass.new.caller ≡ pass.old.caller }
-    ensures shaped { GrowsWith pass.old.caller (Shape pass.old.caller (shapes.collapse node.old.node child.old.node (N.body node.old.body) (N.body child.old.body))) (seen_of pass.old) (seen_of pass.new) }
+    ensures shaped { Adds (Shape pass.old.caller (collapses_to arena.now node.old child.old)) pass.old pass.new }
     ensures hand { hand_of pass.new ≡ hand_of pass.old }
-    ensures mine { mine_of pass.new ≡ Shape pass.old.caller (shapes.collapse node.old.node child.old.node (N.body node.old.body) (N.body child.old.body)) ∷ mine_of pass.old }
-    ensures node { BecomesLive (sort_of N.layout N.ranged) N.body (collapsed (N.body node.old.body) (N.body child.old.body)) (seen_of pass.new) node.old node.new }
-    ensures child { BecomesFree (sort_of N.layout N.ranged) N.body (seen_of pass.new) child.old child.new }
-    ensures kept { KeptBesides (shapes.collapse node.old.node child.old.node (N.body node.old.body) (N.body child.old.body)) pass.old.caller (seen_of pass.old) (seen_of pass.new) }
-    ensures still { StillMatchBesides (sort_of N.layout N.ranged) N.body (shapes.collapse node.old.node child.old.node (N.body node.old.body) (N.body child.old.body)) (hand_of pass.old) (seen_of pass.old) (seen_of pass.new) }
-    ensures places { HasPlacesOf (graph_after (seen_of pass.old)) (graph_after (seen_of pass.new)) child.old.node node.old.node }
+    ensures mine { mine_of pass.new ≡ Shape pass.old.caller (collapses_to arena.now node.old child.old) ∷ mine_of pass.old }
+    ensures node { HasBecome arena.now pass.new (collapsed (N.body node.old.body) (N.body child.old.body)) node.old node.new }
+    ensures child { HasBecomeFree arena.now pass.new child.old child.new }
+    ensures kept { KeepsBesides (collapses_to arena.now node.old child.old) pass.old pass.new }
+    ensures still { StayCurrentBesides arena.now (collapses_to arena.now node.old child.old) pass.old pass.new }
+    ensures places { HasPlaces child.old.node node.old.node pass.old pass.new }
 {
     sound_law::<Tree>();
     tree_asks_law();

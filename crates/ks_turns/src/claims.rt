@@ -1,7 +1,7 @@
 //! All nodes of an arena of several free words are claimed.
 ghost use Rattle.std.specs.Prelude.{◌≡◌, ◌<◌, ◌≤◌};
-ghost use Rattle.ks_arena.specs.Sound.{sort_of};
-ghost use Rattle.ks_arena.specs.Clauses.{IsPass, StillMatch, hand_of, seen_of};
+ghost use Rattle.ks_arena.specs.Clauses.{hand_of};
+ghost use Rattle.ks_arena.specs.Of.{IsPassOf, StayCurrent};
 
 use crate::claim_of_many;
 use ks_arena::{Arena, Pass, Steps};
@@ -20,14 +20,14 @@ fn claim_from<N: Node, D: Discipline, L: Ledger>(
     steps: &mut Steps<L>,
     next: u32,
 ) -> bool
-    requires pass { IsPass (sort_of N.layout N.ranged) D.begins D.step arena.now.table.shared.table_id arena.now.callers pass.old }
+    requires pass { IsPassOf arena.now pass.old }
     requires size { arena.now.nodes ≡ 200 }
     requires alone { (arena.now.callers ≡ 1) × (pass.old.caller ≡ 0) }
     requires next { next ≤ 200 }
-    ensures pass { IsPass (sort_of N.layout N.ranged) D.begins D.step arena.now.table.shared.table_id arena.now.callers pass.new }
+    ensures pass { IsPassOf arena.now pass.new }
     ensures caller { pass.new.caller ≡ pass.old.caller }
     ensures hand { hand_of pass.new ≡ hand_of pass.old }
-    ensures still { StillMatch (sort_of N.layout N.ranged) N.body (hand_of pass.old) (seen_of pass.old) (seen_of pass.new) }
+    ensures still { StayCurrent arena.now pass.old pass.new }
 {
     let Some(held) = claim_of_many(arena, pass, steps) else {
         return next == 200;
@@ -43,7 +43,7 @@ fn claim_all<N: Node, D: Discipline, L: Ledger>(
     pass: &mut Pass<N, D>,
     blank: Blank,
 ) -> bool
-    requires pass { IsPass (sort_of N.layout N.ranged) D.begins D.step arena.now.table.shared.table_id arena.now.callers pass.old }
+    requires pass { IsPassOf arena.now pass.old }
     requires size { arena.now.nodes ≡ 200 }
     requires alone { (arena.now.callers ≡ 1) × (pass.old.caller ≡ 0) }
     requires name { blank.name ≡ L.name }

@@ -1,11 +1,9 @@
 //! The least that decides: a get at node 0. It needs no proof by hand.
-ghost use Rattle.std.specs.Prelude.{◌≡◌, ◌++◌, [], false};
-ghost use Rattle.ks_flow.specs.Discipline.{BeginsTree, TreeStep};
-ghost use Rattle.ks_keysets.specs.Layout.{list_layout};
+ghost use Rattle.std.specs.Prelude.{◌≡◌, ◌++◌};
 ghost use Rattle.ks_history.specs.Map.{told};
-ghost use Rattle.ks_arena.specs.Sound.{sort_of};
-ghost use Rattle.ks_arena.specs.Clauses.{IsPass, hand_of, mine_of};
+ghost use Rattle.ks_arena.specs.Clauses.{mine_of};
 ghost use Rattle.ks_turns.specs.Gets.{get_events};
+ghost use Rattle.ks_arena.specs.Of.{IsEmptyPassOf};
 
 use ks_arena::laws::root_stays_law;
 use ks_arena::{Arena, Pass, root_law};
@@ -42,8 +40,8 @@ pub fn get_at_root<N: Node, D: Discipline, R: Wait>(
     pass: &mut Pass<N, D>,
     place: u64,
 ) -> GetOutcome
-    requires pass { IsPass (sort_of N.layout N.ranged) D.begins D.step arena.now.table.shared.table_id arena.now.callers pass.old × (hand_of pass.old ≡ []) }
-    ensures pass { IsPass (sort_of N.layout N.ranged) D.begins D.step arena.now.table.shared.table_id arena.now.callers pass.new × (hand_of pass.new ≡ []) }
+    requires pass { IsEmptyPassOf arena.now pass.old }
+    ensures pass { IsEmptyPassOf arena.now pass.new }
     ensures caller { pass.new.caller ≡ pass.old.caller }
     ensures mine { mine_of pass.new ≡ get_events pass.old.caller place result ++ mine_of pass.old }
 {
@@ -71,8 +69,8 @@ pub fn look_up<N: Node, D: Discipline, R: Wait>(
     mut pass: Pass<N, D>,
     place: u64,
 ) -> (Pass<N, D>, GetOutcome)
-    requires { IsPass (sort_of N.layout N.ranged) D.begins D.step arena.now.table.shared.table_id arena.now.callers pass × (hand_of pass ≡ []) }
-    ensures pass { IsPass (sort_of N.layout N.ranged) D.begins D.step arena.now.table.shared.table_id arena.now.callers result.0 × (hand_of result.0 ≡ []) × (result.0.caller ≡ pass.caller) }
+    requires { IsEmptyPassOf arena.now pass }
+    ensures pass { IsEmptyPassOf arena.now result.0 × (result.0.caller ≡ pass.caller) }
     ensures mine { mine_of result.0 ≡ get_events pass.caller place result.1 ++ mine_of pass }
 {
     let outcome = get_at_root(rt, arena, &mut pass, place);
@@ -90,23 +88,23 @@ pub fn both_get<R: Threads + Wait + Sync>(
     (Pass<ListNode, Tree>, GetOutcome),
     (Pass<ListNode, Tree>, GetOutcome),
 )
-    requires one { IsPass (sort_of list_layout false) BeginsTree TreeStep arena.now.table.shared.table_id arena.now.callers one × (hand_of one ≡ []) }
-    requires two { IsPass (sort_of list_layout false) BeginsTree TreeStep arena.now.table.shared.table_id arena.now.callers two × (hand_of two ≡ []) }
-    ensures one { IsPass (sort_of list_layout false) BeginsTree TreeStep arena.now.table.shared.table_id arena.now.callers result.0.0 × (hand_of result.0.0 ≡ []) × (result.0.0.caller ≡ one.caller) }
-    ensures two { IsPass (sort_of list_layout false) BeginsTree TreeStep arena.now.table.shared.table_id arena.now.callers result.1.0 × (hand_of result.1.0 ≡ []) × (result.1.0.caller ≡ two.caller) }
+    requires one { IsEmptyPassOf arena.now one }
+    requires two { IsEmptyPassOf arena.now two }
+    ensures one { IsEmptyPassOf arena.now result.0.0 × (result.0.0.caller ≡ one.caller) }
+    ensures two { IsEmptyPassOf arena.now result.1.0 × (result.1.0.caller ≡ two.caller) }
     ensures events_of_one { mine_of result.0.0 ≡ get_events one.caller place result.0.1 ++ mine_of one }
     ensures events_of_two { mine_of result.1.0 ≡ get_events two.caller place result.1.1 ++ mine_of two }
 {
     join(
         rt,
         move || -> (Pass<ListNode, Tree>, GetOutcome)
-            requires { IsPass (sort_of list_layout false) BeginsTree TreeStep arena.now.table.shared.table_id arena.now.callers one × (hand_of one ≡ []) }
-            ensures pass { IsPass (sort_of list_layout false) BeginsTree TreeStep arena.entry.now.table.shared.table_id arena.entry.now.callers result.0 × (hand_of result.0 ≡ []) × (result.0.caller ≡ one.caller) }
+            requires { IsEmptyPassOf arena.now one }
+            ensures pass { IsEmptyPassOf arena.entry.now result.0 × (result.0.caller ≡ one.caller) }
             ensures mine { mine_of result.0 ≡ get_events one.caller place result.1 ++ mine_of one }
         { look_up(rt, arena, one, place) },
         move || -> (Pass<ListNode, Tree>, GetOutcome)
-            requires { IsPass (sort_of list_layout false) BeginsTree TreeStep arena.now.table.shared.table_id arena.now.callers two × (hand_of two ≡ []) }
-            ensures pass { IsPass (sort_of list_layout false) BeginsTree TreeStep arena.entry.now.table.shared.table_id arena.entry.now.callers result.0 × (hand_of result.0 ≡ []) × (result.0.caller ≡ two.caller) }
+            requires { IsEmptyPassOf arena.now two }
+            ensures pass { IsEmptyPassOf arena.entry.now result.0 × (result.0.caller ≡ two.caller) }
             ensures mine { mine_of result.0 ≡ get_events two.caller place result.1 ++ mine_of two }
         { look_up(rt, arena, two, place) },
     )

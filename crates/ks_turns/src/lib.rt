@@ -1,14 +1,11 @@
 //! The least layer above an arena: callers take, claim and give nodes, by the clauses of the arena alone.
 #![tactic(auto)]
 
-ghost use Rattle.std.specs.Prelude.{◌≡◌, ◌<◌, [], ◌∷◌, ◌++◌, false};
-ghost use Rattle.ks_arena.specs.Sound.{sort_of};
-ghost use Rattle.ks_flow.specs.Discipline.{BeginsTree, TreeStep};
-ghost use Rattle.ks_history.specs.Passes.{Has};
-ghost use Rattle.ks_keysets.specs.Layout.{list_layout};
+ghost use Rattle.std.specs.Prelude.{◌≡◌, ◌<◌, ◌∷◌, ◌++◌};
 ghost use Rattle.ks_history.specs.declared.Event.TheVariants.{Take, Give};
-ghost use Rattle.ks_arena.specs.Clauses.{IsPass, hand_of, mine_of, seen_of};
+ghost use Rattle.ks_arena.specs.Clauses.{hand_of, mine_of, seen_of};
 ghost use Rattle.ks_turns.specs.Turns.{met_events, IsMetDue, claim_events, IsClaimDue};
+ghost use Rattle.ks_arena.specs.Of.{Holds, IsPassOf, IsEmptyPassOf};
 
 mod gets;
 mod many;
@@ -35,8 +32,8 @@ pub enum Claimed {
 
 /// Claims two nodes and gives them back in the order in which they were claimed.
 pub fn claim_two<N: Node, D: Discipline>(arena: &Arena<N, D>, pass: &mut Pass<N, D>) -> Claimed
-    requires { IsPass (sort_of N.layout N.ranged) D.begins D.step arena.now.table.shared.table_id arena.now.callers pass.old × (hand_of pass.old ≡ []) }
-    ensures pass { IsPass (sort_of N.layout N.ranged) D.begins D.step arena.now.table.shared.table_id arena.now.callers pass.new × (hand_of pass.new ≡ []) }
+    requires { IsEmptyPassOf arena.now pass.old }
+    ensures pass { IsEmptyPassOf arena.now pass.new }
     ensures caller { pass.new.caller ≡ pass.old.caller }
     ensures mine { mine_of pass.new ≡ claim_events pass.old.caller result ++ mine_of pass.old }
     ensures due { IsClaimDue arena.now.nodes (seen_of pass.old) (seen_of pass.new) result }
@@ -65,10 +62,10 @@ pub enum Met {
 
 /// Tries to take the node, and gives it back at once.
 pub fn meet<N: Node, D: Discipline>(arena: &Arena<N, D>, pass: &mut Pass<N, D>, node: u32) -> Met
-    requires pass { IsPass (sort_of N.layout N.ranged) D.begins D.step arena.now.table.shared.table_id arena.now.callers pass.old }
+    requires pass { IsPassOf arena.now pass.old }
     requires node { node < arena.now.nodes }
-    requires fresh { ¬ Has (hand_of pass.old) node }
-    ensures pass { IsPass (sort_of N.layout N.ranged) D.begins D.step arena.now.table.shared.table_id arena.now.callers pass.new }
+    requires fresh { ¬ Holds pass.old node }
+    ensures pass { IsPassOf arena.now pass.new }
     ensures caller { pass.new.caller ≡ pass.old.caller }
     ensures hand { hand_of pass.new ≡ hand_of pass.old }
     ensures mine { mine_of pass.new ≡ met_events pass.old.caller node result ++ mine_of pass.old }
@@ -90,8 +87,8 @@ pub fn pass_through<N: Node, D: Discipline, R: Wait>(
     arena: &Arena<N, D>,
     pass: &mut Pass<N, D>,
 )
-    requires { IsPass (sort_of N.layout N.ranged) D.begins D.step arena.now.table.shared.table_id arena.now.callers pass.old × (hand_of pass.old ≡ []) }
-    ensures pass { IsPass (sort_of N.layout N.ranged) D.begins D.step arena.now.table.shared.table_id arena.now.callers pass.new × (hand_of pass.new ≡ []) }
+    requires { IsEmptyPassOf arena.now pass.old }
+    ensures pass { IsEmptyPassOf arena.now pass.new }
     ensures caller { pass.new.caller ≡ pass.old.caller }
     ensures mine { mine_of pass.new ≡ Give pass.old.caller 0 ∷ Take pass.old.caller 0 ∷ mine_of pass.old }
 {
@@ -108,8 +105,8 @@ pub fn visit<N: Node, D: Discipline, R: Wait>(
     arena: &Arena<N, D>,
     mut pass: Pass<N, D>,
 ) -> Pass<N, D>
-    requires { IsPass (sort_of N.layout N.ranged) D.begins D.step arena.now.table.shared.table_id arena.now.callers pass × (hand_of pass ≡ []) }
-    ensures pass { IsPass (sort_of N.layout N.ranged) D.begins D.step arena.now.table.shared.table_id arena.now.callers result × (hand_of result ≡ []) × (result.caller ≡ pass.caller) }
+    requires { IsEmptyPassOf arena.now pass }
+    ensures pass { IsEmptyPassOf arena.now result × (result.caller ≡ pass.caller) }
     ensures mine { mine_of result ≡ Give pass.caller 0 ∷ Take pass.caller 0 ∷ mine_of pass }
 {
     pass_through(rt, arena, &mut pass);
@@ -123,23 +120,23 @@ pub fn both<R: Threads + Wait + Sync>(
     one: Pass<ListNode, Tree>,
     two: Pass<ListNode, Tree>,
 ) -> (Pass<ListNode, Tree>, Pass<ListNode, Tree>)
-    requires one { IsPass (sort_of list_layout false) BeginsTree TreeStep arena.now.table.shared.table_id arena.now.callers one × (hand_of one ≡ []) }
-    requires two { IsPass (sort_of list_layout false) BeginsTree TreeStep arena.now.table.shared.table_id arena.now.callers two × (hand_of two ≡ []) }
-    ensures one { IsPass (sort_of list_layout false) BeginsTree TreeStep arena.now.table.shared.table_id arena.now.callers result.0 × (hand_of result.0 ≡ []) × (result.0.caller ≡ one.caller) }
-    ensures two { IsPass (sort_of list_layout false) BeginsTree TreeStep arena.now.table.shared.table_id arena.now.callers result.1 × (hand_of result.1 ≡ []) × (result.1.caller ≡ two.caller) }
+    requires one { IsEmptyPassOf arena.now one }
+    requires two { IsEmptyPassOf arena.now two }
+    ensures one { IsEmptyPassOf arena.now result.0 × (result.0.caller ≡ one.caller) }
+    ensures two { IsEmptyPassOf arena.now result.1 × (result.1.caller ≡ two.caller) }
     ensures events_of_one { mine_of result.0 ≡ Give one.caller 0 ∷ Take one.caller 0 ∷ mine_of one }
     ensures events_of_two { mine_of result.1 ≡ Give two.caller 0 ∷ Take two.caller 0 ∷ mine_of two }
 {
     join(
         rt,
         move || -> Pass<ListNode, Tree>
-            requires { IsPass (sort_of list_layout false) BeginsTree TreeStep arena.now.table.shared.table_id arena.now.callers one × (hand_of one ≡ []) }
-            ensures pass { IsPass (sort_of list_layout false) BeginsTree TreeStep arena.entry.now.table.shared.table_id arena.entry.now.callers result × (hand_of result ≡ []) × (result.caller ≡ one.caller) }
+            requires { IsEmptyPassOf arena.now one }
+            ensures pass { IsEmptyPassOf arena.entry.now result × (result.caller ≡ one.caller) }
             ensures mine { mine_of result ≡ Give one.caller 0 ∷ Take one.caller 0 ∷ mine_of one }
         { visit(rt, arena, one) },
         move || -> Pass<ListNode, Tree>
-            requires { IsPass (sort_of list_layout false) BeginsTree TreeStep arena.now.table.shared.table_id arena.now.callers two × (hand_of two ≡ []) }
-            ensures pass { IsPass (sort_of list_layout false) BeginsTree TreeStep arena.entry.now.table.shared.table_id arena.entry.now.callers result × (hand_of result ≡ []) × (result.caller ≡ two.caller) }
+            requires { IsEmptyPassOf arena.now two }
+            ensures pass { IsEmptyPassOf arena.entry.now result × (result.caller ≡ two.caller) }
             ensures mine { mine_of result ≡ Give two.caller 0 ∷ Take two.caller 0 ∷ mine_of two }
         { visit(rt, arena, two) },
     )

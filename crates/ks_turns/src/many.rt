@@ -1,7 +1,6 @@
 //! A claim in an arena of several free words, with its steps counted.
 ghost use Rattle.std.specs.Prelude.{◌≡◌, ◌+◌, ◌≤◌, None};
-ghost use Rattle.ks_arena.specs.Sound.{sort_of};
-ghost use Rattle.ks_arena.specs.Clauses.{IsPass, DidClaim, Kept, StillMatch, hand_of, seen_of};
+ghost use Rattle.ks_arena.specs.Of.{Keeps, IsPassOf, StayCurrent, HasClaimedFrom};
 
 use ks_arena::{Arena, Held, Pass, Steps};
 use ks_flow::Discipline;
@@ -15,14 +14,14 @@ pub fn claim_of_many<N: Node, D: Discipline, L: Ledger>(
     pass: &mut Pass<N, D>,
     steps: &mut Steps<L>,
 ) -> Option<Held<N>>
-    requires pass { IsPass (sort_of N.layout N.ranged) D.begins D.step arena.now.table.shared.table_id arena.now.callers pass.old }
+    requires pass { IsPassOf arena.now pass.old }
     requires size { arena.now.nodes ≡ 200 }
     requires alone { (arena.now.callers ≡ 1) × (pass.old.caller ≡ 0) }
-    ensures pass { IsPass (sort_of N.layout N.ranged) D.begins D.step arena.now.table.shared.table_id arena.now.callers pass.new }
+    ensures pass { IsPassOf arena.now pass.new }
     ensures caller { pass.new.caller ≡ pass.old.caller }
-    ensures claimed { DidClaim (sort_of N.layout N.ranged) N.body arena.now.nodes pass.old.caller (seen_of pass.old) (seen_of pass.new) result }
-    ensures kept { Kept pass.old.caller (seen_of pass.old) (seen_of pass.new) }
-    ensures still { StillMatch (sort_of N.layout N.ranged) N.body (hand_of pass.old) (seen_of pass.old) (seen_of pass.new) }
+    ensures claimed { HasClaimedFrom arena.now pass.old pass.new result }
+    ensures kept { Keeps pass.old pass.new }
+    ensures still { StayCurrent arena.now pass.old pass.new }
     ensures cost { steps.new ≤ steps.old + 6 }
     ensures none { result ≡ None → steps.new ≡ steps.old + 4 }
 {

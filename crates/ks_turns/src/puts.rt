@@ -1,13 +1,11 @@
 //! A layer that decides: puts at node 0.
-ghost use Rattle.std.specs.Prelude.{◌≡◌, ◌++◌, ◌<◌, ◌^◌, [], false, length};
-ghost use Rattle.ks_flow.specs.Discipline.{BeginsTree, TreeStep};
-ghost use Rattle.ks_keysets.specs.Layout.{list_layout};
+ghost use Rattle.std.specs.Prelude.{◌≡◌, ◌++◌, ◌<◌, ◌^◌, false, length};
 ghost use Rattle.ks_history.specs.Map.{told};
-ghost use Rattle.ks_arena.specs.Sound.{sort_of};
 ghost use Rattle.ks_history.specs.Trace.{calls_by, calls_of};
 ghost use Rattle.ks_node.specs.Keyed.{Ascends};
-ghost use Rattle.ks_arena.specs.Clauses.{IsPass, hand_of, mine_of, seen_of};
+ghost use Rattle.ks_arena.specs.Clauses.{mine_of, seen_of};
 ghost use Rattle.ks_turns.specs.Puts.{put_events, put_calls, IsPutDue, calls_from};
+ghost use Rattle.ks_arena.specs.Of.{IsEmptyPassOf};
 
 use ks_arena::laws::root_stays_law;
 use ks_arena::{Arena, Pass, root_law};
@@ -48,8 +46,8 @@ pub fn put_at_root<N: Node, D: Discipline, R: Wait>(
     value: u128,
 ) -> PutOutcome
     requires unranged { N.ranged ≡ false }
-    requires pass { IsPass (sort_of N.layout N.ranged) D.begins D.step arena.now.table.shared.table_id arena.now.callers pass.old × (hand_of pass.old ≡ []) }
-    ensures pass { IsPass (sort_of N.layout N.ranged) D.begins D.step arena.now.table.shared.table_id arena.now.callers pass.new × (hand_of pass.new ≡ []) }
+    requires pass { IsEmptyPassOf arena.now pass.old }
+    ensures pass { IsEmptyPassOf arena.now pass.new }
     ensures caller { pass.new.caller ≡ pass.old.caller }
     ensures mine { mine_of pass.new ≡ put_events pass.old.caller place value result ++ mine_of pass.old }
     ensures calls { calls_by pass.old.caller (seen_of pass.new) ≡ calls_by pass.old.caller (seen_of pass.old) ++ put_calls place value result }
@@ -83,8 +81,8 @@ pub fn put_four<R: Wait>(
     arena: &Arena<ListNode, Tree>,
     pass: &mut Pass<ListNode, Tree>,
 ) -> [PutOutcome; 4]
-    requires { IsPass (sort_of list_layout false) BeginsTree TreeStep arena.now.table.shared.table_id arena.now.callers pass.old × (hand_of pass.old ≡ []) }
-    ensures pass { IsPass (sort_of list_layout false) BeginsTree TreeStep arena.now.table.shared.table_id arena.now.callers pass.new × (hand_of pass.new ≡ []) }
+    requires { IsEmptyPassOf arena.now pass.old }
+    ensures pass { IsEmptyPassOf arena.now pass.new }
     ensures caller { pass.new.caller ≡ pass.old.caller }
     ensures calls { calls_by pass.old.caller (seen_of pass.new) ≡ calls_by pass.old.caller (seen_of pass.old) ++ calls_from pass.old.caller result }
 {
@@ -103,8 +101,8 @@ pub fn work<R: Wait>(
     arena: &Arena<ListNode, Tree>,
     mut pass: Pass<ListNode, Tree>,
 ) -> (Pass<ListNode, Tree>, [PutOutcome; 4])
-    requires { IsPass (sort_of list_layout false) BeginsTree TreeStep arena.now.table.shared.table_id arena.now.callers pass × (hand_of pass ≡ []) }
-    ensures pass { IsPass (sort_of list_layout false) BeginsTree TreeStep arena.now.table.shared.table_id arena.now.callers result.0 × (hand_of result.0 ≡ []) }
+    requires { IsEmptyPassOf arena.now pass }
+    ensures pass { IsEmptyPassOf arena.now result.0 }
     ensures caller { result.0.caller ≡ pass.caller }
     ensures calls { calls_by pass.caller (seen_of result.0) ≡ calls_by pass.caller (seen_of pass) ++ calls_from pass.caller result.1 }
     ensures ascend { length (calls_of (seen_of result.0)) < 2 ^ 64 → Ascends (λ x. x.number) (calls_from pass.caller result.1) }
@@ -123,10 +121,10 @@ pub fn both_put<R: Threads + Wait + Sync>(
     (Pass<ListNode, Tree>, [PutOutcome; 4]),
     (Pass<ListNode, Tree>, [PutOutcome; 4]),
 )
-    requires one { IsPass (sort_of list_layout false) BeginsTree TreeStep arena.now.table.shared.table_id arena.now.callers one × (hand_of one ≡ []) }
-    requires two { IsPass (sort_of list_layout false) BeginsTree TreeStep arena.now.table.shared.table_id arena.now.callers two × (hand_of two ≡ []) }
-    ensures one { IsPass (sort_of list_layout false) BeginsTree TreeStep arena.now.table.shared.table_id arena.now.callers result.0.0 × (hand_of result.0.0 ≡ []) × (result.0.0.caller ≡ one.caller) }
-    ensures two { IsPass (sort_of list_layout false) BeginsTree TreeStep arena.now.table.shared.table_id arena.now.callers result.1.0 × (hand_of result.1.0 ≡ []) × (result.1.0.caller ≡ two.caller) }
+    requires one { IsEmptyPassOf arena.now one }
+    requires two { IsEmptyPassOf arena.now two }
+    ensures one { IsEmptyPassOf arena.now result.0.0 × (result.0.0.caller ≡ one.caller) }
+    ensures two { IsEmptyPassOf arena.now result.1.0 × (result.1.0.caller ≡ two.caller) }
     ensures calls_of_one { calls_by one.caller (seen_of result.0.0) ≡ calls_by one.caller (seen_of one) ++ calls_from one.caller result.0.1 }
     ensures calls_of_two { calls_by two.caller (seen_of result.1.0) ≡ calls_by two.caller (seen_of two) ++ calls_from two.caller result.1.1 }
     ensures one_ascends { length (calls_of (seen_of result.0.0)) < 2 ^ 64 → Ascends (λ x. x.number) (calls_from one.caller result.0.1) }
@@ -135,14 +133,14 @@ pub fn both_put<R: Threads + Wait + Sync>(
     join(
         rt,
         move || -> (Pass<ListNode, Tree>, [PutOutcome; 4])
-            requires { IsPass (sort_of list_layout false) BeginsTree TreeStep arena.now.table.shared.table_id arena.now.callers one × (hand_of one ≡ []) }
-            ensures pass { IsPass (sort_of list_layout false) BeginsTree TreeStep arena.entry.now.table.shared.table_id arena.entry.now.callers result.0 × (hand_of result.0 ≡ []) × (result.0.caller ≡ one.caller) }
+            requires { IsEmptyPassOf arena.now one }
+            ensures pass { IsEmptyPassOf arena.entry.now result.0 × (result.0.caller ≡ one.caller) }
             ensures calls { calls_by one.caller (seen_of result.0) ≡ calls_by one.caller (seen_of one) ++ calls_from one.caller result.1 }
             ensures ascend { length (calls_of (seen_of result.0)) < 2 ^ 64 → Ascends (λ x. x.number) (calls_from one.caller result.1) }
         { work(rt, arena, one) },
         move || -> (Pass<ListNode, Tree>, [PutOutcome; 4])
-            requires { IsPass (sort_of list_layout false) BeginsTree TreeStep arena.now.table.shared.table_id arena.now.callers two × (hand_of two ≡ []) }
-            ensures pass { IsPass (sort_of list_layout false) BeginsTree TreeStep arena.entry.now.table.shared.table_id arena.entry.now.callers result.0 × (hand_of result.0 ≡ []) × (result.0.caller ≡ two.caller) }
+            requires { IsEmptyPassOf arena.now two }
+            ensures pass { IsEmptyPassOf arena.entry.now result.0 × (result.0.caller ≡ two.caller) }
             ensures calls { calls_by two.caller (seen_of result.0) ≡ calls_by two.caller (seen_of two) ++ calls_from two.caller result.1 }
             ensures ascend { length (calls_of (seen_of result.0)) < 2 ^ 64 → Ascends (λ x. x.number) (calls_from two.caller result.1) }
         { work(rt, arena, two) },

@@ -1,8 +1,5 @@
 ghost use Rattle.std.specs.Prelude.{◌≡◌, [], ◌∷◌, IfOk, false};
-ghost use Rattle.ks_arena.specs.Sound.{sort_of};
-ghost use Rattle.ks_arena.specs.Clauses.{IsPass, hand_of};
-ghost use Rattle.ks_flow.specs.Discipline.{BeginsTree, TreeStep};
-ghost use Rattle.ks_keysets.specs.Layout.{list_layout};
+ghost use Rattle.ks_arena.specs.Of.{IsEmptyPassOf};
 
 use crate::{GetOutcome, Met, PutOutcome, both, both_get, both_put, meet, put_at_root};
 use ks_arena::{Arena, Pass};
@@ -18,8 +15,8 @@ type Caller = Pass<ListNode, Tree>;
 /// An arena of four list nodes, and the passes of callers 0 and 1.
 fn two_callers(alloc: Global) -> Result<(Lists, Caller, Caller), AllocError>
     ensures nodes { IfOk result (λ x. (x.0.nodes ≡ 4) × (x.0.callers ≡ 2)) }
-    ensures one { IfOk result (λ x. IsPass (sort_of list_layout false) BeginsTree TreeStep x.0.table.shared.table_id x.0.callers x.1 × (hand_of x.1 ≡ []) × (x.1.caller ≡ 0)) }
-    ensures two { IfOk result (λ x. IsPass (sort_of list_layout false) BeginsTree TreeStep x.0.table.shared.table_id x.0.callers x.2 × (hand_of x.2 ≡ []) × (x.2.caller ≡ 1)) }
+    ensures one { IfOk result (λ x. IsEmptyPassOf x.0 x.1 × (x.1.caller ≡ 0)) }
+    ensures two { IfOk result (λ x. IsEmptyPassOf x.0 x.2 × (x.2.caller ≡ 1)) }
 {
     let (arena, mut passes) = Lists::start(alloc, 4, 2)?;
     let Some(two) = passes.pop() else {

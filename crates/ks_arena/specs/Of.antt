@@ -1,0 +1,135 @@
+-- What calls ask of a pass of an arena and of nodes in hand, and what they tell of the pass before and after: the arena's
+-- type knows the type of its nodes and their discipline.
+use Rattle.std.specs.Prelude.{ℕ, ◌≡◌, List, [], Option, true}
+use denote.Bor.{Bor}
+use Rattle.ks_keysets.specs.declared.Change.{Change}
+use Rattle.ks_keysets.specs.declared.Pair.{Pair}
+use Rattle.ks_keysets.specs.Keyset.{InInset}
+use Rattle.ks_node.specs.declared.node.Node.{Ghosts as NodeGhosts}
+use Rattle.ks_node.below.ks_places.specs.declared.Placing.{Ghosts as PlacingGhosts}
+use Rattle.ks_flow.specs.declared.discipline.Discipline.{Ghosts as DisciplineGhosts}
+use Rattle.ks_history.specs.declared.Event.{Event}
+use Rattle.ks_history.specs.declared.Op.{Op}
+use Rattle.ks_history.specs.declared.Reply.{Reply}
+use Rattle.ks_history.specs.Alone.{ActsAlone, HoldsAlone}
+use Rattle.ks_history.specs.Due.{NoneFree}
+use Rattle.ks_history.specs.Passes.{Has, NoCallBy, GrowsWith}
+use Rattle.ks_history.specs.Trace.{◌⊑◌, graph_after}
+use Rattle.ks_node.specs.Effect.{with_pairs}
+use Rattle.ks_arena.specs.declared.arena.Arena.{Arena}
+use Rattle.ks_arena.specs.declared.held.Pass.{Pass}
+use Rattle.ks_arena.specs.declared.held.Note.{Note}
+use Rattle.ks_arena.specs.declared.held.Taken.{Taken}
+use Rattle.ks_arena.specs.declared.held.Held.{Held as Hand}
+use Rattle.ks_arena.specs.declared.view.Mark.{Mark}
+use Rattle.ks_arena.specs.Sound.{sort_of}
+use Rattle.ks_arena.specs.Clauses.{AreShaped, Numbered, IsPass, IsPassWith, IsNote, IsNewCrew, IsCrew, IsReady, Matches, MayShape, Kept, KeptBut, KeptBesides, StillMatch, StillMatchBut, StillMatchBesides, HasLooked, TryTook, Took, DidClaim, hand_of, seen_of}
+
+module _ {N D : Type 0} where
+  -- the pass holds the node
+  abbrev pub Holds : Pass N D → ℕ → Type 0
+  Holds p i = Has (hand_of p) i
+
+  -- the place is in the inset of the node, as far as the pass has seen
+  abbrev pub IsInside : Pass N D → ℕ → ℕ → Type 0
+  IsInside p i place = InInset (graph_after (seen_of p)) i place
+
+  -- the pass has seen this event of its caller, and beside it what others did
+  abbrev pub Adds : Event → Pass N D → Pass N D → Type 0
+  Adds e p q = GrowsWith p.caller e (seen_of p) (seen_of q)
+
+  -- so it is, and the event is a call with this number
+  abbrev pub AddsCall : Event → Pass N D → Pass N D → ℕ → Type 0
+  AddsCall e p q number = Numbered p.caller e (seen_of p) (seen_of q) number
+
+  -- it has seen more, and its caller has done nothing
+  abbrev pub Looks : Pass N D → Pass N D → Type 0
+  Looks p q = HasLooked p.caller (seen_of p) (seen_of q)
+
+  -- what it holds stays as it is; all but node i; all but what the changes name
+  abbrev pub Keeps : Pass N D → Pass N D → Type 0
+  Keeps p q = Kept p.caller (seen_of p) (seen_of q)
+
+  abbrev pub KeepsBut : ℕ → Pass N D → Pass N D → Type 0
+  KeepsBut i p q = KeptBut i p.caller (seen_of p) (seen_of q)
+
+  abbrev pub KeepsBesides : List Change → Pass N D → Pass N D → Type 0
+  KeepsBesides changes p q = KeptBesides changes p.caller (seen_of p) (seen_of q)
+
+  -- nobody else did anything meanwhile; and nobody else held a node before
+  abbrev pub WasAlone : Pass N D → Pass N D → Type 0
+  WasAlone p q = ActsAlone p.caller (seen_of p) (seen_of q)
+
+  abbrev pub HeldAlone : Pass N D → Type 0
+  HeldAlone p = HoldsAlone p.caller (seen_of p)
+
+module _ {N D P : Type 0} {n : NodeGhosts N P} {q : PlacingGhosts P} {d : DisciplineGhosts D} where
+  -- a pass of the arena, as it is between two calls
+  abbrev pub IsPassOf : Arena N D P n q d → Pass N D → Type 0
+  IsPassOf a p = IsPass (sort_of n.layout n.ranged) d.begins d.step a.table.shared.table_id a.callers p
+
+  -- one that holds no node
+  abbrev pub IsEmptyPassOf : Arena N D P n q d → Pass N D → Type 0
+  IsEmptyPassOf a p = IsPassOf a p × (hand_of p ≡ [])
+
+  -- one that is about to change the bit of a node
+  abbrev pub IsMarkedPassOf : Arena N D P n q d → Mark → Pass N D → Type 0
+  IsMarkedPassOf a mark p = IsPassWith (sort_of n.layout n.ranged) d.begins d.step mark a.table.shared.table_id a.callers p
+
+  -- the passes that a start gives; and all passes of the arena, none of which holds a node
+  abbrev pub AreNewPassesOf : Arena N D P n q d → List (Pass N D) → Type 0
+  AreNewPassesOf a ps = IsNewCrew (sort_of n.layout n.ranged) d.begins d.step a.table.shared.table_id a.callers ps
+
+  abbrev pub AreAllPassesOf : Arena N D P n q d → List (Pass N D) → Type 0
+  AreAllPassesOf a ps = IsCrew (sort_of n.layout n.ranged) d.begins d.step a.table.shared.table_id a.callers ps
+
+  -- a note of what a pass of the arena had seen
+  abbrev pub IsNoteFrom : Arena N D P n q d → Note N D → Type 0
+  IsNoteFrom a x = IsNote a.table.shared.table_id x
+
+  -- the body in hand is that of its node, as far as the pass has seen; and the node is live
+  abbrev pub IsCurrent : Arena N D P n q d → Pass N D → Hand N → Type 0
+  IsCurrent a p x = Matches (sort_of n.layout n.ranged) n.body (seen_of p) x
+
+  abbrev pub IsLiveAndCurrent : Arena N D P n q d → Pass N D → Hand N → Type 0
+  IsLiveAndCurrent a p x = (x.live ≡ true) × IsCurrent a p x
+
+  -- bodies in hand that were current still are; all but that of node i; all but those of nodes that the changes name
+  abbrev pub StayCurrent : Arena N D P n q d → Pass N D → Pass N D → Type 0
+  StayCurrent a p p' = StillMatch (sort_of n.layout n.ranged) n.body (hand_of p) (seen_of p) (seen_of p')
+
+  abbrev pub StayCurrentBut : Arena N D P n q d → ℕ → Pass N D → Pass N D → Type 0
+  StayCurrentBut a i p p' = StillMatchBut (sort_of n.layout n.ranged) n.body i (hand_of p) (seen_of p) (seen_of p')
+
+  abbrev pub StayCurrentBesides : Arena N D P n q d → List Change → Pass N D → Pass N D → Type 0
+  StayCurrentBesides a changes p p' = StillMatchBesides (sort_of n.layout n.ranged) n.body changes (hand_of p) (seen_of p) (seen_of p')
+
+  -- what a try to take node i tells; what a take tells, which waits; and what a claim tells
+  abbrev pub TriedToTake : Arena N D P n q d → ℕ → Pass N D → Pass N D → Taken N → Type 0
+  TriedToTake a i p p' taken = TryTook (sort_of n.layout n.ranged) n.body p.caller i (seen_of p) (seen_of p') taken
+
+  abbrev pub HasTakenFrom : Arena N D P n q d → ℕ → Pass N D → Pass N D → Option (Hand N) → Type 0
+  HasTakenFrom a i p p' taken = Took (sort_of n.layout n.ranged) n.body p.caller i (seen_of p) (seen_of p') taken
+
+  abbrev pub HasClaimedFrom : Arena N D P n q d → Pass N D → Pass N D → Option (Hand N) → Type 0
+  HasClaimedFrom a p p' claimed = DidClaim (sort_of n.layout n.ranged) n.body a.nodes p.caller (seen_of p) (seen_of p') claimed
+
+  -- the operation may be decided at the node, whose body it has changed, with this reply
+  abbrev pub IsReadyAt : Arena N D P n q d → Pass N D → Hand N → Op → Reply → Type 0
+  IsReadyAt a p x op reply = IsReady (sort_of n.layout n.ranged) n.body a.nodes p.caller (seen_of p) x op reply
+
+  -- it may be at the node once it has these pairs in place of its own
+  abbrev pub IsReadyOnce : Arena N D P n q d → Pass N D → Hand N → List Pair → Op → Reply → Type 0
+  IsReadyOnce a p x pairs op reply = (y : Hand N) → y.node ≡ x.node → y.live ≡ true → n.body y.body ≡ with_pairs (n.body x.body) pairs → IsReadyAt a p y op reply
+
+  -- since some moment, from which the caller made no call, no node was free for the place
+  abbrev pub WasRefusedAt : Arena N D P n q d → Pass N D → ℕ → Type 0
+  WasRefusedAt a p place = (start : List Event) × (since : start ⊑ seen_of p) × NoCallBy p.caller since.rest × NoneFree n.layout a.nodes p.caller place start (seen_of p)
+
+  -- what a Shape leaves of the nodes in hand
+  abbrev pub AreCurrent : Arena N D P n q d → Pass N D → Hand N → Option (Bor (Hand N)) → Option (Bor (Hand N)) → Type 0
+  AreCurrent a p x y z = AreShaped (sort_of n.layout n.ranged) n.body (seen_of p) x y z
+
+  -- whatever others do before it, the discipline allows a Shape of these changes
+  abbrev pub MayBecome : Arena N D P n q d → Pass N D → List Change → Type 0
+  MayBecome a p changes = MayShape (sort_of n.layout n.ranged) d.begins d.step a.nodes p.caller (seen_of p) changes

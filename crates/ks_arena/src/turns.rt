@@ -1,0 +1,209 @@
+//! Taking nodes, giving them back, and what is decided and shaped meanwhile.
+ghost use Rattle.std.specs.Prelude.{◌≡◌, ◌+◌, ◌%◌, ◌<◌, ◌∷◌};
+ghost use Rattle.ks_arena.specs.declared.view.Mark.TheVariants.{Freeing};
+ghost use Rattle.ks_history.specs.Trace.{drop_one};
+ghost use Rattle.ks_history.specs.declared.Event.TheVariants.{Call, Give, Shape};
+ghost use Rattle.ks_arena.specs.Clauses.{give_mark, hand_of, mine_of, AllAmong, EachOnce, changes_of};
+ghost use Rattle.ks_arena.specs.Of.{Holds, Adds, AddsCall, Looks, Keeps, KeepsBut, KeepsBesides, IsPassOf, IsMarkedPassOf, IsCurrent, StayCurrent, StayCurrentBut, StayCurrentBesides, TriedToTake, IsReadyAt, AreCurrent, MayBecome};
+
+use crate::arena::Arena;
+use crate::held::{Held, Pass, Taken};
+use crate::plays::{Brings, Decides, Forms, Gives, Said, SetsBit, Takes};
+use ks_flow::Discipline;
+use ks_flow::laws::walks_law;
+use ks_history::{Op, Reply};
+use ks_node::Node;
+use std::marker::Brand;
+
+impl<N: Node, D: Discipline> Arena<N, D> {
+    /// How many nodes there are.
+    pub fn nodes(&self) -> u32
+        ensures { result ≡ self.now.nodes }
+    {
+        self.nodes
+    }
+
+    /// Tries once to take the node.
+    pub fn try_take(&self, pass: &mut Pass<N, D>, node: u32) -> Taken<N>
+        requires pass { IsPassOf self.now pass.old }
+        requires node { node < self.now.nodes }
+        requires fresh { ¬ Holds pass.old node }
+        ensures pass { IsPassOf self.now pass.new }
+        ensures caller { pass.new.caller ≡ pass.old.caller }
+        ensures took { TriedToTake self.now node pass.old pass.new result }
+        ensures kept { Keeps pass.old pass.new }
+        ensures still { StayCurrent self.now pass.old pass.new }
+    {
+        let at = node as usize;
+        let shared = &self.table.shared;
+        let found = shared.compare_exchange::<Takes<D>>(
+            &mut pass.seat,
+            at + 2,
+            1,
+            pass.caller as u64 + 2,
+        );
+        if found == 1 {
+            let body = shared.exchange(&mut pass.seat, at, None).unwrap();
+            Taken::Held(Held {
+                node,
+                body,
+                live: true,
+            })
+        } else if found == 0 {
+            Taken::Gone
+        } else {
+            Taken::Busy {
+                holder: (found - 2) as u32,
+            }
+        }
+    }
+
+    /// Gives a node back: a live one to whoever takes it next, any other one to be claimed.
+    pub fn give(&self, pass: &mut Pass<N, D>, held: Held<N>)
+        requires pass { IsPassOf self.now pass.old }
+        requires holds { Holds pass.old held.node }
+        requires body { IsCurrent self.now pass.old held }
+        ensures pass { IsPassOf self.now pass.new }
+        ensures caller { pass.new.caller ≡ pass.old.caller }
+        ensures gave { Adds (Give pass.old.caller held.node) pass.old pass.new }
+        ensures hand { hand_of pass.new ≡ drop_one held.node (hand_of pass.old) }
+        ensures mine { mine_of pass.new ≡ Give pass.old.caller held.node ∷ mine_of pass.old }
+        ensures kept { KeepsBut held.node pass.old pass.new }
+        ensures still { StayCurrentBut self.now held.node pass.old pass.new }
+    {
+        if held.live {
+            self.put_back(pass, held);
+        } else {
+            self.set_bit(pass, held.node);
+            self.put_back(pass, held);
+        }
+    }
+
+    /// Sets the bit of a node that is about to be given free.
+    fn set_bit(&self, pass: &mut Pass<N, D>, node: u32)
+        requires pass { IsPassOf self.now pass.old }
+        requires holds { Holds pass.old node }
+        ensures pass { IsMarkedPassOf self.now (Freeing node) pass.new }
+        ensures caller { pass.new.caller ≡ pass.old.caller }
+        ensures looked { Looks pass.old pass.new }
+        ensures kept { Keeps pass.old pass.new }
+        ensures still { StayCurrent self.now pass.old pass.new }
+    {
+        let word = self.nodes as usize + 2 + node as usize / 64;
+        self.table
+            .shared
+            .fetch_or::<SetsBit<D>>(&mut pass.seat, word, 1u64 << (node % 64));
+    }
+
+    /// Puts the body back into its slot and gives the turn away. The bit of a node that is not live is set.
+    fn put_back(&self, pass: &mut Pass<N, D>, held: Held<N>)
+        requires pass { IsMarkedPassOf self.now (give_mark held.live held.node) pass.old }
+        requires holds { Holds pass.old held.node }
+        requires body { IsCurrent self.now pass.old held }
+        ensures pass { IsPassOf self.now pass.new }
+        ensures caller { pass.new.caller ≡ pass.old.caller }
+        ensures gave { Adds (Give pass.old.caller held.node) pass.old pass.new }
+        ensures hand { hand_of pass.new ≡ drop_one held.node (hand_of pass.old) }
+        ensures mine { mine_of pass.new ≡ Give pass.old.caller held.node ∷ mine_of pass.old }
+        ensures kept { KeepsBut held.node pass.old pass.new }
+    {
+        let Held { node, body, live } = held;
+        let at = node as usize;
+        let shared = &self.table.shared;
+        shared.load::<Brings<D>>(&mut pass.seat, at + 2);
+        match shared.exchange(&mut pass.seat, at, Some(body)) {
+            None => {}
+            Some(_) => unreachable!(),
+        }
+        let turn = if live { 1 } else { 0 };
+        shared.store::<Gives<D>>(&mut pass.seat, at + 2, turn);
+    }
+
+    /// Makes the operation a call of the history, at the node whose body it has changed. Gives its number.
+    pub fn decide(&self, pass: &mut Pass<N, D>, held: &Held<N>, op: Op, reply: Reply) -> u64
+        requires pass { IsPassOf self.now pass.old }
+        requires holds { Holds pass.old held.now.node }
+        requires ready { IsReadyAt self.now pass.old held.now op reply }
+        ensures pass { IsPassOf self.now pass.new }
+        ensures caller { pass.new.caller ≡ pass.old.caller }
+        ensures decided { AddsCall (Call pass.old.caller held.now.node op reply) pass.old pass.new result }
+        ensures hand { hand_of pass.new ≡ hand_of pass.old }
+        ensures mine { mine_of pass.new ≡ Call pass.old.caller held.now.node op reply ∷ mine_of pass.old }
+        ensures body { IsCurrent self.now pass.new held.now }
+        ensures kept { KeepsBut held.now.node pass.old pass.new }
+        ensures still { StayCurrentBut self.now held.now.node pass.old pass.new }
+    {
+        self.count::<Brand>(pass, held, op, reply)
+    }
+
+    fn count<W: Said>(&self, pass: &mut Pass<N, D>, held: &Held<N>, op: Op, reply: Reply) -> u64
+        requires said { W.event ≡ Call pass.old.caller held.now.node op reply }
+        requires pass { IsPassOf self.now pass.old }
+        requires holds { Holds pass.old held.now.node }
+        requires ready { IsReadyAt self.now pass.old held.now op reply }
+        ensures pass { IsPassOf self.now pass.new }
+        ensures caller { pass.new.caller ≡ pass.old.caller }
+        ensures decided { AddsCall (Call pass.old.caller held.now.node op reply) pass.old pass.new result }
+        ensures hand { hand_of pass.new ≡ hand_of pass.old }
+        ensures mine { mine_of pass.new ≡ Call pass.old.caller held.now.node op reply ∷ mine_of pass.old }
+        ensures body { IsCurrent self.now pass.new held.now }
+        ensures kept { KeepsBut held.now.node pass.old pass.new }
+        ensures still { StayCurrentBut self.now held.now.node pass.old pass.new }
+    {
+        D::laws();
+        walks_law();
+        self.table
+            .shared
+            .fetch_add::<Decides<D, W>>(&mut pass.seat, 0, 1)
+    }
+
+    /// Makes what the bodies have become one event. The pass holds the nodes, which are different ones.
+    pub fn shape<'a>(
+        &self,
+        pass: &mut Pass<N, D>,
+        first: &'a Held<N>,
+        second: Option<&'a Held<N>>,
+        third: Option<&'a Held<N>>,
+    )
+        requires pass { IsPassOf self.now pass.old }
+        requires holds { AllAmong (hand_of pass.old) (changes_of N.body first.now second third) }
+        requires once { EachOnce (changes_of N.body first.now second third) }
+        requires may { MayBecome self.now pass.old (changes_of N.body first.now second third) }
+        ensures pass { IsPassOf self.now pass.new }
+        ensures caller { pass.new.caller ≡ pass.old.caller }
+        ensures shaped { Adds (Shape pass.old.caller (changes_of N.body first.now second.entry third.entry)) pass.old pass.new }
+        ensures hand { hand_of pass.new ≡ hand_of pass.old }
+        ensures mine { mine_of pass.new ≡ Shape pass.old.caller (changes_of N.body first.now second.entry third.entry) ∷ mine_of pass.old }
+        ensures bodies { AreCurrent self.now pass.new first.now second.entry third.entry }
+        ensures kept { KeepsBesides (changes_of N.body first.now second.entry third.entry) pass.old pass.new }
+        ensures still { StayCurrentBesides self.now (changes_of N.body first.now second.entry third.entry) pass.old pass.new }
+    {
+        self.form::<Brand>(pass, first, second, third);
+    }
+
+    fn form<'a, W: Said>(
+        &self,
+        pass: &mut Pass<N, D>,
+        first: &'a Held<N>,
+        second: Option<&'a Held<N>>,
+        third: Option<&'a Held<N>>,
+    )
+        requires said { W.event ≡ Shape pass.old.caller (changes_of N.body first.now second third) }
+        requires pass { IsPassOf self.now pass.old }
+        requires holds { AllAmong (hand_of pass.old) (changes_of N.body first.now second third) }
+        requires once { EachOnce (changes_of N.body first.now second third) }
+        requires may { MayBecome self.now pass.old (changes_of N.body first.now second third) }
+        ensures pass { IsPassOf self.now pass.new }
+        ensures caller { pass.new.caller ≡ pass.old.caller }
+        ensures shaped { Adds (Shape pass.old.caller (changes_of N.body first.now second.entry third.entry)) pass.old pass.new }
+        ensures hand { hand_of pass.new ≡ hand_of pass.old }
+        ensures mine { mine_of pass.new ≡ Shape pass.old.caller (changes_of N.body first.now second.entry third.entry) ∷ mine_of pass.old }
+        ensures bodies { AreCurrent self.now pass.new first.now second.entry third.entry }
+        ensures kept { KeepsBesides (changes_of N.body first.now second.entry third.entry) pass.old pass.new }
+        ensures still { StayCurrentBesides self.now (changes_of N.body first.now second.entry third.entry) pass.old pass.new }
+    {
+        self.table
+            .shared
+            .fetch_add::<Forms<D, W>>(&mut pass.seat, 1, 1);
+    }
+}

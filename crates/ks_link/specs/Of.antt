@@ -1,0 +1,64 @@
+-- What a search along links, and the adding of edges, ask and tell, said of an arena and of a pass before and after.
+use Rattle.std.specs.Prelude.{ℕ, List, Option, Result}
+use Rattle.ks_node.specs.declared.node.Node.{Ghosts as NodeGhosts}
+use Rattle.ks_node.below.ks_places.specs.declared.Placing.{Ghosts as PlacingGhosts}
+use Rattle.ks_flow.specs.declared.discipline.Discipline.{Ghosts as DisciplineGhosts}
+use Rattle.ks_history.specs.declared.Event.{Event}
+use Rattle.ks_history.specs.declared.Op.{Op}
+use Rattle.ks_history.specs.declared.Reply.{Reply}
+use Rattle.ks_history.specs.declared.Reply.TheVariants.{Full}
+use Rattle.ks_history.specs.Done.{Done, link_move}
+use Rattle.ks_history.specs.Due.{NoneFree}
+use Rattle.ks_history.specs.Underway.{Underway}
+use Rattle.ks_arena.specs.declared.arena.Arena.{Arena}
+use Rattle.ks_arena.specs.declared.held.Pass.{Pass}
+use Rattle.ks_arena.specs.declared.held.Held.{Held as Hand}
+use Rattle.ks_arena.specs.Sound.{sort_of}
+use Rattle.ks_arena.specs.Clauses.{seen_of}
+use Rattle.ks_link.specs.declared.parts.Parted.{Parted}
+use Rattle.ks_link.specs.declared.parts.Waiting.{Waiting}
+use Rattle.ks_link.specs.Descent.{IsOnWay}
+use Rattle.ks_link.specs.Leads.{LedBut, AreLed, PartsLed, HalfHasRoom}
+use Rattle.ks_link.specs.Parts.{IsSplitOff, IsParted}
+use Rattle.ks_link.specs.Puts.{MadeRoom, FoundRoom}
+
+module _ {N D P : Type 0} {n : NodeGhosts N P} {q : PlacingGhosts P} {d : DisciplineGhosts D} where
+  -- caller c, which searches for the place, holds this live node alone, and the place is not below it
+  abbrev pub IsOnWayOf : Arena N D P n q d → ℕ → ℕ → Pass N D → Hand N → Type 0
+  IsOnWayOf a c place p x = IsOnWay (sort_of n.layout n.ranged) n.body c place (seen_of p) x
+
+  -- the node that waits for an edge was split off: it is live, not the root, on its level, and begins at its cut
+  abbrev pub WasSplitOff : Arena N D P n q d → Pass N D → Waiting → Type 0
+  WasSplitOff a p w = IsSplitOff (sort_of n.layout n.ranged) (seen_of p) w
+
+  -- the full node x was parted, and the half in which the place lies is held alone; or no node was found free
+  abbrev pub HasParted : Arena N D P n q d → ℕ → Pass N D → Pass N D → Hand N → Result (Parted N) (Hand N) → Type 0
+  HasParted a place p p' x parted = IsParted (sort_of n.layout n.ranged) n.body a.nodes p.caller place (seen_of p) (seen_of p') x parted
+
+  -- so it was, and the search has ended at the half; or as before, and no node was found free
+  abbrev pub HasMadeRoom : Arena N D P n q d → ℕ → Pass N D → Pass N D → Hand N → Result (Hand N) (Hand N) → Type 0
+  HasMadeRoom a place p p' x made = MadeRoom (sort_of n.layout n.ranged) n.body a.nodes p.caller place (seen_of p) (seen_of p') x made
+
+  -- the search has ended at a node that has the place, or room for it; or at a full one without it, and none was found free
+  abbrev pub HasFoundRoom : Arena N D P n q d → ℕ → Pass N D → Pass N D → Result (Hand N) (Hand N) → Type 0
+  HasFoundRoom a place p p' found = FoundRoom (sort_of n.layout n.ranged) n.body a.nodes p.caller place (seen_of p) (seen_of p') found
+
+  -- each node that is live at p' was live at p, or is led to from one level above, or waits for an edge
+  abbrev pub LeadsAllBut : Arena N D P n q d → List Waiting → Pass N D → Pass N D → Type 0
+  LeadsAllBut a waiting p p' = LedBut (sort_of n.layout n.ranged) waiting (seen_of p) (seen_of p')
+
+  -- so it is of the parts of a node: what was split off waits
+  abbrev pub LeadsParts : Arena N D P n q d → Pass N D → Pass N D → Result (Parted N) (Hand N) → Type 0
+  LeadsParts a p p' parted = PartsLed (sort_of n.layout n.ranged) (seen_of p) (seen_of p') parted
+
+  -- each node that is live at p' was live at p, or is led to from one level above
+  abbrev pub LeadsAll : Arena N D P n q d → Pass N D → Pass N D → Type 0
+  LeadsAll a p p' = AreLed (sort_of n.layout n.ranged) (seen_of p) (seen_of p')
+
+  -- a call along links that is under way at p, since whatever moment, is done at p'
+  abbrev pub Finishes : Arena N D P n q d → Op → Pass N D → Pass N D → Reply → ℕ → Type 0
+  Finishes a op p p' reply number = (start : List Event) → Underway link_move p.caller op start (seen_of p) → Done n.layout link_move a.nodes p.caller op start (seen_of p') reply number
+
+  -- so it is with the reply Full, if no node was free for the place since its start
+  abbrev pub FinishesCrowded : Arena N D P n q d → Op → ℕ → Pass N D → Pass N D → ℕ → Type 0
+  FinishesCrowded a op place p p' number = (start : List Event) → NoneFree n.layout a.nodes p.caller place start (seen_of p) → Underway link_move p.caller op start (seen_of p) → Done n.layout link_move a.nodes p.caller op start (seen_of p') Full number

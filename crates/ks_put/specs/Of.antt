@@ -1,0 +1,72 @@
+-- What a search that keeps the parent asks and tells, said of an arena and of a pass before and after.
+use Rattle.std.specs.Prelude.{ℕ, List, Option}
+use Rattle.ks_node.specs.declared.node.Node.{Ghosts as NodeGhosts}
+use Rattle.ks_node.below.ks_places.specs.declared.Placing.{Ghosts as PlacingGhosts}
+use Rattle.ks_flow.specs.declared.discipline.Discipline.{Ghosts as DisciplineGhosts}
+use Rattle.ks_history.specs.declared.Event.{Event}
+use Rattle.ks_history.specs.declared.Op.{Op}
+use Rattle.ks_history.specs.declared.Reply.TheVariants.{Full}
+use Rattle.ks_history.specs.Done.{Template, Done}
+use Rattle.ks_history.specs.Due.{NoneFree}
+use Rattle.ks_history.specs.Underway.{Underway}
+use Rattle.ks_arena.specs.declared.arena.Arena.{Arena}
+use Rattle.ks_arena.specs.declared.held.Pass.{Pass}
+use Rattle.ks_arena.specs.declared.held.Held.{Held as Hand}
+use Rattle.ks_arena.specs.Sound.{sort_of}
+use Rattle.ks_arena.specs.Clauses.{seen_of}
+use Rattle.ks_put.specs.declared.halves.Part.{Part}
+use Rattle.ks_put.specs.declared.path.Path.{Path}
+use Rattle.ks_put.specs.declared.room.Room.{Room}
+use Rattle.ks_put.specs.OnPath.{GaveIf, IsAbove, IsUnder, IsOnPath}
+use Rattle.ks_put.specs.Parts.{IsPart, DidPart}
+use Rattle.ks_put.specs.Room.{WasRefused, HasRoom, IsCrowded, CameTo}
+
+module _ {N D : Type 0} where
+  -- the pass has seen its caller give the one node, if there was one, and beside it what others did; else nothing
+  abbrev pub AddsGive : Option (Hand N) → Pass N D → Pass N D → Type 0
+  AddsGive given p q = GaveIf p.caller given (seen_of p) (seen_of q)
+
+module _ {N D P : Type 0} {n : NodeGhosts N P} {q : PlacingGhosts P} {d : DisciplineGhosts D} where
+  -- caller c, which searches for the place, holds the node of the path, whose inset has the place, and its parent unless it
+  -- needs none
+  abbrev pub IsOnPathOf : Arena N D P n q d → ℕ → ℕ → Pass N D → Path N → Type 0
+  IsOnPathOf a c place p path = IsOnPath (sort_of n.layout n.ranged) n.body c place (seen_of p) path
+
+  -- the node y is live, and leads to node i at the place
+  abbrev pub LeadsDown : Arena N D P n q d → ℕ → ℕ → Pass N D → Hand N → Type 0
+  LeadsDown a place i p y = IsAbove (sort_of n.layout n.ranged) n.body place i (seen_of p) y
+
+  -- the parent leads to the node at the place; the root has none, and a node that is not full needs none
+  abbrev pub IsUnderParent : Arena N D P n q d → ℕ → Pass N D → Hand N → Option (Hand N) → Type 0
+  IsUnderParent a place p x parent = IsUnder (sort_of n.layout n.ranged) n.body place x (seen_of p) parent
+
+  -- the place is in the inset of the node x, and the other leads to it there
+  abbrev pub IsPartOf : Arena N D P n q d → ℕ → Pass N D → Hand N → Hand N → Type 0
+  IsPartOf a place p above x = IsPart (sort_of n.layout n.ranged) n.body place (seen_of p) above x
+
+  -- what a try to split the node of a path tells
+  abbrev pub HasParted : Arena N D P n q d → ℕ → Pass N D → Pass N D → Path N → Part N → Type 0
+  HasParted a place p p' path part = DidPart (sort_of n.layout n.ranged) n.body a.nodes p.caller place (seen_of p) (seen_of p') path part
+
+  -- the caller holds this node alone, where the search for the place ends, and it has the place or room for it
+  abbrev pub HasRoomOf : Arena N D P n q d → ℕ → ℕ → Pass N D → Hand N → Type 0
+  HasRoomOf a c place p x = HasRoom (sort_of n.layout n.ranged) n.body c place (seen_of p) x
+
+  -- or it is full, and has not the place
+  abbrev pub IsCrowdedOf : Arena N D P n q d → ℕ → ℕ → Pass N D → Hand N → Type 0
+  IsCrowdedOf a c place p x = IsCrowded (sort_of n.layout n.ranged) n.body c place (seen_of p) x
+
+  -- since some moment, from which the caller made no call, no node was free for the place
+  abbrev pub WasRefusedOf : Arena N D P n q d → ℕ → Pass N D → Type 0
+  WasRefusedOf a place p = WasRefused n.layout a.nodes p.caller place (seen_of p)
+
+  -- what a search for room between p and p' came to; if a claim was refused, it was so at some moment since the start
+  abbrev pub CameToRoom : Arena N D P n q d → ℕ → Pass N D → Pass N D → Room N → Type 0
+  CameToRoom a place p p' room = CameTo (sort_of n.layout n.ranged) n.body a.nodes p.caller place (seen_of p) (seen_of p') room
+
+  abbrev pub CameToRoomSince : Arena N D P n q d → ℕ → List Event → Pass N D → Pass N D → ℕ → Room N → Type 0
+  CameToRoomSince a place start p p' nodes room = CameTo (sort_of n.layout n.ranged) n.body nodes p.caller place start (seen_of p') room
+
+  -- a call that is under way at p, and since whose start no node was free for the place, is done at p' with the reply Full
+  abbrev pub FinishesCrowded : Arena N D P n q d → Op → ℕ → Pass N D → Pass N D → ℕ → Type 0
+  FinishesCrowded a op place p p' number = (template : Template) (start : List Event) → Underway template p.caller op start (seen_of p) → NoneFree n.layout a.nodes p.caller place start (seen_of p) → Done n.layout template a.nodes p.caller op start (seen_of p') Full number

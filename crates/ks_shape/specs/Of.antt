@@ -1,0 +1,147 @@
+-- What calls and shapes ask and tell, said of an arena and of a pass before and after.
+use Rattle.std.specs.Prelude.{ℕ, List, Option}
+use Rattle.ks_keysets.specs.declared.Change.{Change}
+use Rattle.ks_keysets.specs.declared.NodeState.{NodeState}
+use Rattle.ks_node.specs.declared.node.Node.{Ghosts as NodeGhosts}
+use Rattle.ks_node.below.ks_places.specs.declared.Placing.{Ghosts as PlacingGhosts}
+use Rattle.ks_flow.specs.declared.discipline.Discipline.{Ghosts as DisciplineGhosts}
+use Rattle.ks_history.specs.declared.Event.{Event}
+use Rattle.ks_history.specs.declared.Op.{Op}
+use Rattle.ks_history.specs.declared.Reply.{Reply}
+use Rattle.ks_history.specs.declared.Reply.TheVariants.{Full}
+use Rattle.ks_history.specs.Map.{Touches}
+use Rattle.ks_history.specs.Trace.{graph_after, frame_after}
+use Rattle.ks_history.specs.Done.{Template, Done, DoneAt, Left}
+use Rattle.ks_history.specs.Due.{NoneFree}
+use Rattle.ks_history.specs.Stretch.{Stretch}
+use Rattle.ks_history.specs.Underway.{Underway}
+use Rattle.ks_node.specs.Body.{Body, frame_of}
+use Rattle.ks_flow.specs.Link.{IsLed}
+use Rattle.ks_bodies.specs.Shapes as Trees
+use Rattle.ks_bodies.specs.Links as Linked
+use Rattle.ks_arena.specs.declared.arena.Arena.{Arena}
+use Rattle.ks_arena.specs.declared.held.Pass.{Pass}
+use Rattle.ks_arena.specs.declared.held.Held.{Held as Hand}
+use Rattle.ks_arena.specs.Sound.{sort_of, blank_of}
+use Rattle.ks_arena.specs.Clauses.{hand_of, seen_of}
+use Rattle.ks_shape.specs.Beside.{KeepsBeside}
+use Rattle.ks_shape.specs.Claims.{DidClaimOne, DidClaimTwo}
+use Rattle.ks_shape.specs.InHand.{IsLive, IsFree, BecomesLive, BecomesFree}
+use Rattle.ks_shape.specs.Makes.{MakesNone}
+use Rattle.ks_shape.specs.OnWay.{IsOnWay}
+use Rattle.ks_shape.specs.Places.{HasPlacesOf}
+use Rattle.ks_shape.specs.Stretches.{Stretches}
+
+module _ {N D : Type 0} where
+  -- from p to q the caller made no call, and took and held nodes as any operation of the technique that may hold so many does
+  abbrev pub IsStretchBy : Template → Pass N D → Pass N D → Type 0
+  IsStretchBy template p q = Stretch template p.caller (seen_of p) (seen_of q)
+
+  -- so it did by every technique
+  abbrev pub IsStretch : Pass N D → Pass N D → Type 0
+  IsStretch p q = Stretches p.caller (seen_of p) (seen_of q)
+
+  -- a call that began at p is under way at q, whatever its operation
+  abbrev pub IsUnderway : Template → Pass N D → Pass N D → Type 0
+  IsUnderway template p q = (op : Op) → Underway template p.caller op (seen_of p) (seen_of q)
+
+  -- a call that is under way at p, since whatever moment, still is at q
+  abbrev pub StaysUnderway : Template → Pass N D → Pass N D → Type 0
+  StaysUnderway template p q = (op : Op) (start : List Event) → Underway template p.caller op start (seen_of p) → Underway template p.caller op start (seen_of q)
+
+  -- if the caller acts alone from p to q, it makes no node live
+  abbrev pub MakesNoneLive : Pass N D → Pass N D → Type 0
+  MakesNoneLive p q = MakesNone p.caller (seen_of p) (seen_of q)
+
+  -- the call between p and q made no event that is a call, and gave all back
+  abbrev pub IsLeft : Template → Op → Pass N D → Pass N D → Type 0
+  IsLeft template op p q = Left template p.caller op (seen_of p) (seen_of q)
+
+  -- others, and the caller's events meanwhile, leave what this says of nodes that they do not name
+  abbrev pub KeepsAside : (ℕ → (ℕ → NodeState) → (ℕ → NodeState) → Type 0) → Pass N D → Pass N D → Type 0
+  KeepsAside Same p q = KeepsBeside Same p.caller (seen_of p) (seen_of q)
+
+  -- at q node j has each place that node i had at p, in its inset and in its keyset
+  abbrev pub HasPlaces : ℕ → ℕ → Pass N D → Pass N D → Type 0
+  HasPlaces i j p q = HasPlacesOf (graph_after (seen_of p)) (graph_after (seen_of q)) i j
+
+module _ {N D P : Type 0} {n : NodeGhosts N P} {q : PlacingGhosts P} {d : DisciplineGhosts D} where
+  -- the pass holds the node, which is live, or is not, and whose body is current
+  abbrev pub IsLiveInHand : Arena N D P n q d → Pass N D → Hand N → Type 0
+  IsLiveInHand a p x = IsLive (sort_of n.layout n.ranged) n.body (hand_of p) (seen_of p) x
+
+  abbrev pub IsFreeInHand : Arena N D P n q d → Pass N D → Hand N → Type 0
+  IsFreeInHand a p x = IsFree (sort_of n.layout n.ranged) n.body (hand_of p) (seen_of p) x
+
+  -- the node x has become y, live with this body; or free
+  abbrev pub HasBecome : Arena N D P n q d → Pass N D → Body → Hand N → Hand N → Type 0
+  HasBecome a p b x y = BecomesLive (sort_of n.layout n.ranged) n.body b (seen_of p) x y
+
+  abbrev pub HasBecomeFree : Arena N D P n q d → Pass N D → Hand N → Hand N → Type 0
+  HasBecomeFree a p x y = BecomesFree (sort_of n.layout n.ranged) n.body (seen_of p) x y
+
+  -- caller c, which searches for the place, holds this live node alone, and the place is in its inset
+  abbrev pub IsOnWayOf : Arena N D P n q d → ℕ → ℕ → Pass N D → Hand N → Type 0
+  IsOnWayOf a c place p x = IsOnWay (sort_of n.layout n.ranged) n.body c place (seen_of p) x
+
+  -- since p the caller found each node not free, when it needed one for the place
+  abbrev pub NoneWasFree : Arena N D P n q d → ℕ → Pass N D → Pass N D → Type 0
+  NoneWasFree a place p p' = NoneFree n.layout a.nodes p.caller place (seen_of p) (seen_of p')
+
+  -- between p and p' the caller made one call, of this operation, with this reply and number, and gave all back
+  abbrev pub DoneOf : Arena N D P n q d → Template → Op → Pass N D → Pass N D → Reply → ℕ → Type 0
+  DoneOf a template op p p' reply number = Done n.layout template a.nodes p.caller op (seen_of p) (seen_of p') reply number
+
+  -- a call that is under way at p, by whatever technique and since whatever moment, is done at p'
+  abbrev pub FinishesAny : Arena N D P n q d → Op → Pass N D → Pass N D → Reply → ℕ → Type 0
+  FinishesAny a op p p' reply number = (template : Template) (start : List Event) → Underway template p.caller op start (seen_of p) → Done n.layout template a.nodes p.caller op start (seen_of p') reply number
+
+  -- so it is, and it was decided at the node x, which then had the frame of its body
+  abbrev pub FinishesAt : Arena N D P n q d → Hand N → Op → Pass N D → Pass N D → Reply → ℕ → Type 0
+  FinishesAt a x op p p' reply number = (template : Template) (start : List Event) → Underway template p.caller op start (seen_of p) → DoneAt n.layout template a.nodes p.caller op start (seen_of p') reply number x.node (blank_of (sort_of n.layout n.ranged)) (frame_of (n.body x.body))
+
+  -- so it is with the reply Full, if no node was free since it began
+  abbrev pub FinishesFull : Arena N D P n q d → Hand N → Op → Pass N D → Pass N D → ℕ → Type 0
+  FinishesFull a x op p p' number = (template : Template) (start : List Event) (place : ℕ) → Touches op place → NoneFree n.layout a.nodes p.caller place start (seen_of p) → Underway template p.caller op start (seen_of p) → DoneAt n.layout template a.nodes p.caller op start (seen_of p') Full number x.node (blank_of (sort_of n.layout n.ranged)) (frame_of (n.body x.body))
+
+  -- what a claim of a node tells, and one of two nodes: they are in hand; or no node was free, if a claim was due
+  abbrev pub HasClaimedOne : Arena N D P n q d → Pass N D → Pass N D → Option (Hand N) → Type 0
+  HasClaimedOne a p p' claimed = DidClaimOne (sort_of n.layout n.ranged) n.body a.nodes p.caller (seen_of p) (seen_of p') claimed
+
+  abbrev pub HasClaimedTwo : Arena N D P n q d → Pass N D → Pass N D → Option (Hand N × Hand N) → Type 0
+  HasClaimedTwo a p p' claimed = DidClaimTwo (sort_of n.layout n.ranged) n.body a.nodes p.caller (seen_of p) (seen_of p') claimed
+
+  -- an edge of a live node one level above leads to node i
+  abbrev pub IsLedTo : Arena N D P n q d → Pass N D → ℕ → Type 0
+  IsLedTo a p i = IsLed (graph_after (seen_of p)) (frame_after (blank_of (sort_of n.layout n.ranged)) (seen_of p)) i
+
+  -- the changes of each shape of trees, from the nodes in hand before it: x is split at the cut, and y gets what lies from
+  -- there on, x or u leading to it; the root x grows, and y and z get its halves; x absorbs y; x gets all of its only child y
+  abbrev pub splits_own : Arena N D P n q d → Hand N → Hand N → ℕ → List Change
+  splits_own a x y cut = Trees.split_own x.node y.node cut (n.body x.body)
+
+  abbrev pub splits_under : Arena N D P n q d → Hand N → Hand N → Hand N → ℕ → List Change
+  splits_under a u x y cut = Trees.split_under u.node x.node y.node cut (n.body u.body) (n.body x.body)
+
+  abbrev pub grows_to : Arena N D P n q d → Hand N → Hand N → Hand N → ℕ → List Change
+  grows_to a x y z cut = Trees.grow n.branch_kind x.node y.node z.node cut (n.body x.body)
+
+  abbrev pub absorbs_own : Arena N D P n q d → Hand N → Hand N → List Change
+  absorbs_own a x y = Trees.absorb_own x.node y.node (n.body x.body) (n.body y.body)
+
+  abbrev pub absorbs_under : Arena N D P n q d → Hand N → Hand N → Hand N → List Change
+  absorbs_under a u x y = Trees.absorb_under u.node x.node y.node (n.body u.body) (n.body x.body) (n.body y.body)
+
+  abbrev pub collapses_to : Arena N D P n q d → Hand N → Hand N → List Change
+  collapses_to a x y = Trees.collapse x.node y.node (n.body x.body) (n.body y.body)
+
+  -- those of the shapes under links: x is split at the cut to the right, into y; the root x grows; x gets an edge from the
+  -- cut on to node i
+  abbrev pub splits_right : Arena N D P n q d → Hand N → Hand N → ℕ → List Change
+  splits_right a x y cut = Linked.split_to_right x.node y.node cut (n.body x.body)
+
+  abbrev pub grows_right : Arena N D P n q d → Hand N → Hand N → Hand N → ℕ → List Change
+  grows_right a x y z cut = Linked.grow_right n.branch_kind x.node y.node z.node cut (n.body x.body)
+
+  abbrev pub attaches_to : Arena N D P n q d → Hand N → ℕ → ℕ → List Change
+  attaches_to a x i cut = Linked.attach x.node i cut (n.body x.body)
