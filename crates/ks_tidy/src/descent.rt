@@ -1,17 +1,10 @@
 //! The way from the root to the node where a search ends, which merges nodes as it goes.
-ghost use Rattle.std.specs.Prelude.{◌≡◌, Some, []};
-ghost use Rattle.ks_flow.specs.Discipline.{BeginsTree, TreeStep};
-ghost use Rattle.ks_keysets.specs.Keyset.{InKeyset};
-ghost use Rattle.ks_history.specs.Alone.{ActsAlone};
-ghost use Rattle.ks_history.specs.Done.{TidyAt};
-ghost use Rattle.ks_history.specs.Trace.{graph_after};
+ghost use Rattle.std.specs.Prelude.{◌≡◌, Some};
 ghost use Rattle.ks_node.specs.declared.start.Next.TheVariants.{Go, Here};
 ghost use Rattle.ks_node.specs.Body.{next_at};
-ghost use Rattle.ks_arena.specs.Sound.{blank_of, sort_of};
-ghost use Rattle.ks_arena.specs.Clauses.{IsPass, hand_of, seen_of};
-ghost use Rattle.ks_shape.specs.Stretches.{Stretches};
-ghost use Rattle.ks_tidy.specs.Frees.{Counts, Frees};
-ghost use Rattle.ks_tidy.specs.Pair.{IsPair};
+ghost use Rattle.ks_arena.specs.Of.{IsEmptyPassOf, IsPassOf, WasAlone};
+ghost use Rattle.ks_shape.specs.Of.{IsStretch};
+ghost use Rattle.ks_tidy.specs.Of.{CountsFree, IsKeptAt, IsPairOf, IsTidyOf, MakesFree};
 
 use crate::node::{Tidied, tidy_node};
 use ks_arena::{Arena, Pass};
@@ -32,16 +25,16 @@ pub fn go_down<N: Unlinked, R: Wait, G: Gate>(
     path: Path<N>,
     child: u32,
 ) -> Path<N>
-    requires pass { IsPass (sort_of N.layout N.ranged) BeginsTree TreeStep arena.now.table.shared.table_id arena.now.callers pass.old }
-    requires pair { IsPair (sort_of N.layout N.ranged) N.body pass.old.caller place (seen_of pass.old) path }
+    requires pass { IsPassOf arena.now pass.old }
+    requires pair { IsPairOf arena.now pass.old.caller place pass.old path }
     requires goes { next_at (N.body path.node.body) place ≡ Go child }
-    ensures pass { IsPass (sort_of N.layout N.ranged) BeginsTree TreeStep arena.now.table.shared.table_id arena.now.callers pass.new }
+    ensures pass { IsPassOf arena.now pass.new }
     ensures caller { pass.new.caller ≡ pass.old.caller }
-    ensures pair { IsPair (sort_of N.layout N.ranged) N.body pass.old.caller place (seen_of pass.new) result }
+    ensures pair { IsPairOf arena.now pass.old.caller place pass.new result }
     ensures parent { result.parent ≡ Some path.node }
     ensures child { result.node.node ≡ child }
-    ensures stretch { Stretches pass.old.caller (seen_of pass.old) (seen_of pass.new) }
-    ensures frees { Frees pass.old.caller (seen_of pass.old) (seen_of pass.new) 0 }
+    ensures stretch { IsStretch pass.old pass.new }
+    ensures frees { MakesFree 0 pass.old pass.new }
 {
     let node = let_go(arena, pass, gate, place, path);
     step_down(rt, arena, pass, gate, place, node, child)
@@ -55,12 +48,12 @@ pub fn leave<N: Unlinked, G: Gate>(
     place: u64,
     path: Path<N>,
 )
-    requires pass { IsPass (sort_of N.layout N.ranged) BeginsTree TreeStep arena.now.table.shared.table_id arena.now.callers pass.old }
-    requires pair { IsPair (sort_of N.layout N.ranged) N.body pass.old.caller place (seen_of pass.old) path }
-    ensures pass { IsPass (sort_of N.layout N.ranged) BeginsTree TreeStep arena.now.table.shared.table_id arena.now.callers pass.new × (hand_of pass.new ≡ []) }
+    requires pass { IsPassOf arena.now pass.old }
+    requires pair { IsPairOf arena.now pass.old.caller place pass.old path }
+    ensures pass { IsEmptyPassOf arena.now pass.new }
     ensures caller { pass.new.caller ≡ pass.old.caller }
-    ensures stretch { Stretches pass.old.caller (seen_of pass.old) (seen_of pass.new) }
-    ensures frees { Frees pass.old.caller (seen_of pass.old) (seen_of pass.new) 0 }
+    ensures stretch { IsStretch pass.old pass.new }
+    ensures frees { MakesFree 0 pass.old pass.new }
 {
     search_law();
     let node = let_go(arena, pass, gate, place, path);
@@ -78,13 +71,13 @@ fn tidy_branch<N: Unlinked, R: Wait, G: Gate>(
     place: u64,
     path: Path<N>,
 ) -> Tidied<N>
-    requires pass { IsPass (sort_of N.layout N.ranged) BeginsTree TreeStep arena.now.table.shared.table_id arena.now.callers pass.old }
-    requires pair { IsPair (sort_of N.layout N.ranged) N.body pass.old.caller place (seen_of pass.old) path }
-    ensures pass { IsPass (sort_of N.layout N.ranged) BeginsTree TreeStep arena.now.table.shared.table_id arena.now.callers pass.new }
+    requires pass { IsPassOf arena.now pass.old }
+    requires pair { IsPairOf arena.now pass.old.caller place pass.old path }
+    ensures pass { IsPassOf arena.now pass.new }
     ensures caller { pass.new.caller ≡ pass.old.caller }
-    ensures pair { IsPair (sort_of N.layout N.ranged) N.body pass.old.caller place (seen_of pass.new) result.path }
-    ensures stretch { Stretches pass.old.caller (seen_of pass.old) (seen_of pass.new) }
-    ensures counts { Counts pass.old.caller (seen_of pass.old) (seen_of pass.new) result.freed }
+    ensures pair { IsPairOf arena.now pass.old.caller place pass.new result.path }
+    ensures stretch { IsStretch pass.old pass.new }
+    ensures counts { CountsFree result.freed pass.old pass.new }
 {
     if path.node.body.is_branch() {
         return tidy_node(rt, arena, pass, gate, place, false, path);
@@ -101,13 +94,13 @@ pub fn come_down<N: Unlinked, R: Wait, G: Gate>(
     gate: &G,
     place: u64,
 ) -> Tidied<N>
-    requires pass { IsPass (sort_of N.layout N.ranged) BeginsTree TreeStep arena.now.table.shared.table_id arena.now.callers pass.old × (hand_of pass.old ≡ []) }
-    ensures pass { IsPass (sort_of N.layout N.ranged) BeginsTree TreeStep arena.now.table.shared.table_id arena.now.callers pass.new }
+    requires pass { IsEmptyPassOf arena.now pass.old }
+    ensures pass { IsPassOf arena.now pass.new }
     ensures caller { pass.new.caller ≡ pass.old.caller }
-    ensures pair { IsPair (sort_of N.layout N.ranged) N.body pass.old.caller place (seen_of pass.new) result.path }
+    ensures pair { IsPairOf arena.now pass.old.caller place pass.new result.path }
     ensures ends { next_at (N.body result.path.node.body) place ≡ Here }
-    ensures stretch { Stretches pass.old.caller (seen_of pass.old) (seen_of pass.new) }
-    ensures counts { Counts pass.old.caller (seen_of pass.old) (seen_of pass.new) result.freed }
+    ensures stretch { IsStretch pass.old pass.new }
+    ensures counts { CountsFree result.freed pass.old pass.new }
 {
     let mut path = enter(rt, arena, pass, gate, place);
     let mut freed: u32 = 0;
@@ -135,14 +128,14 @@ pub fn tidy_end<N: Unlinked, R: Wait, G: Gate>(
     place: u64,
     path: Path<N>,
 ) -> u32
-    requires pass { IsPass (sort_of N.layout N.ranged) BeginsTree TreeStep arena.now.table.shared.table_id arena.now.callers pass.old }
-    requires pair { IsPair (sort_of N.layout N.ranged) N.body pass.old.caller place (seen_of pass.old) path }
-    requires ends { InKeyset (graph_after (seen_of pass.old)) path.node.node place }
-    ensures pass { IsPass (sort_of N.layout N.ranged) BeginsTree TreeStep arena.now.table.shared.table_id arena.now.callers pass.new × (hand_of pass.new ≡ []) }
+    requires pass { IsPassOf arena.now pass.old }
+    requires pair { IsPairOf arena.now pass.old.caller place pass.old path }
+    requires ends { IsKeptAt pass.old path.node.node place }
+    ensures pass { IsEmptyPassOf arena.now pass.new }
     ensures caller { pass.new.caller ≡ pass.old.caller }
-    ensures stretch { Stretches pass.old.caller (seen_of pass.old) (seen_of pass.new) }
-    ensures counts { Counts pass.old.caller (seen_of pass.old) (seen_of pass.new) result }
-    ensures tidy { ActsAlone pass.old.caller (seen_of pass.old) (seen_of pass.new) → TidyAt N.layout (blank_of (sort_of N.layout N.ranged)) (seen_of pass.new) place }
+    ensures stretch { IsStretch pass.old pass.new }
+    ensures counts { CountsFree result pass.old pass.new }
+    ensures tidy { WasAlone pass.old pass.new → IsTidyOf arena.now pass.new place }
 {
     search_law();
     tidied_law();
@@ -163,12 +156,12 @@ pub fn pair_tidy<N: Unlinked, R: Wait, G: Gate>(
     gate: &G,
     place: u64,
 ) -> u32
-    requires pass { IsPass (sort_of N.layout N.ranged) BeginsTree TreeStep arena.now.table.shared.table_id arena.now.callers pass.old × (hand_of pass.old ≡ []) }
-    ensures pass { IsPass (sort_of N.layout N.ranged) BeginsTree TreeStep arena.now.table.shared.table_id arena.now.callers pass.new × (hand_of pass.new ≡ []) }
+    requires pass { IsEmptyPassOf arena.now pass.old }
+    ensures pass { IsEmptyPassOf arena.now pass.new }
     ensures caller { pass.new.caller ≡ pass.old.caller }
-    ensures stretch { Stretches pass.old.caller (seen_of pass.old) (seen_of pass.new) }
-    ensures counts { Counts pass.old.caller (seen_of pass.old) (seen_of pass.new) result }
-    ensures tidy { ActsAlone pass.old.caller (seen_of pass.old) (seen_of pass.new) → TidyAt N.layout (blank_of (sort_of N.layout N.ranged)) (seen_of pass.new) place }
+    ensures stretch { IsStretch pass.old pass.new }
+    ensures counts { CountsFree result pass.old pass.new }
+    ensures tidy { WasAlone pass.old pass.new → IsTidyOf arena.now pass.new place }
 {
     let Tidied { path, freed } = come_down(rt, arena, pass, gate, place);
     node_law(&path.node.body);

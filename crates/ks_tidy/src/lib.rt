@@ -11,7 +11,7 @@ mod node;
 mod step;
 mod takes;
 
-pub use deletes::{del_on, delete};
+pub use deletes::{del_alone, del_on};
 pub use descent::{come_down, go_down, leave, pair_tidy, tidy_end};
 pub use node::{Tidied, tidy_node};
 pub use step::{Step, tidy_once};

@@ -1,14 +1,10 @@
 //! The three ways to make a node free: by its parent, by its left neighbour that leads to it, and by one beside it.
 ghost use Rattle.std.specs.Prelude.{◌≡◌, Some, None, true};
-ghost use Rattle.ks_flow.specs.Discipline.{BeginsTree, TreeStep};
-ghost use Rattle.ks_history.specs.Trace.{graph_after};
 ghost use Rattle.ks_node.specs.Body.{chained_of, only_child_of, right_child};
-ghost use Rattle.ks_arena.specs.Sound.{sort_of};
-ghost use Rattle.ks_arena.specs.Clauses.{IsPass, seen_of};
-ghost use Rattle.ks_shape.specs.Places.{HasPlacesOf};
-ghost use Rattle.ks_shape.specs.Stretches.{Stretches};
-ghost use Rattle.ks_tidy.specs.Frees.{Frees};
-ghost use Rattle.ks_tidy.specs.Pair.{DidStep, IsNoSole, IsPair, path_in};
+ghost use Rattle.ks_tidy.specs.Pair.{path_in};
+ghost use Rattle.ks_arena.specs.Of.{IsPassOf};
+ghost use Rattle.ks_shape.specs.Of.{HasPlaces, IsStretch};
+ghost use Rattle.ks_tidy.specs.Of.{HasNoSole, HasTried, IsPairOf, MakesFree};
 
 use crate::step::Step;
 use crate::takes::take_led;
@@ -31,16 +27,16 @@ pub(crate) fn take_over<N: Unlinked, G: Gate>(
     root: Held<N>,
     child: Held<N>,
 ) -> Path<N>
-    requires pass { IsPass (sort_of N.layout N.ranged) BeginsTree TreeStep arena.now.table.shared.table_id arena.now.callers pass.old }
-    requires pair { IsPair (sort_of N.layout N.ranged) N.body pass.old.caller place (seen_of pass.old) (record { parent = Some root; node = child }) }
+    requires pass { IsPassOf arena.now pass.old }
+    requires pair { IsPairOf arena.now pass.old.caller place pass.old (record { parent = Some root; node = child }) }
     requires root { root.node ≡ 0 }
     requires sole { only_child_of (N.body root.body) ≡ Some child.node }
-    ensures pass { IsPass (sort_of N.layout N.ranged) BeginsTree TreeStep arena.now.table.shared.table_id arena.now.callers pass.new }
+    ensures pass { IsPassOf arena.now pass.new }
     ensures caller { pass.new.caller ≡ pass.old.caller }
-    ensures pair { IsPair (sort_of N.layout N.ranged) N.body pass.old.caller place (seen_of pass.new) result }
-    ensures places { HasPlacesOf (graph_after (seen_of pass.old)) (graph_after (seen_of pass.new)) child.node result.node.node }
-    ensures stretch { Stretches pass.old.caller (seen_of pass.old) (seen_of pass.new) }
-    ensures frees { Frees pass.old.caller (seen_of pass.old) (seen_of pass.new) 1 }
+    ensures pair { IsPairOf arena.now pass.old.caller place pass.new result }
+    ensures places { HasPlaces child.node result.node.node pass.old pass.new }
+    ensures stretch { IsStretch pass.old pass.new }
+    ensures frees { MakesFree 1 pass.old pass.new }
 {
     search_law();
     let mut root = root;
@@ -66,16 +62,16 @@ pub(crate) fn merge_own<N: Unlinked, R: Wait, G: Gate>(
     path: Path<N>,
     target: u32,
 ) -> Step<N>
-    requires pass { IsPass (sort_of N.layout N.ranged) BeginsTree TreeStep arena.now.table.shared.table_id arena.now.callers pass.old }
-    requires pair { IsPair (sort_of N.layout N.ranged) N.body pass.old.caller place (seen_of pass.old) path }
+    requires pass { IsPassOf arena.now pass.old }
+    requires pair { IsPairOf arena.now pass.old.caller place pass.old path }
     requires chained { chained_of (N.body path.node.body) ≡ Some target }
-    requires no_sole { IsNoSole (sort_of N.layout N.ranged) N.body path.parent }
-    ensures pass { IsPass (sort_of N.layout N.ranged) BeginsTree TreeStep arena.now.table.shared.table_id arena.now.callers pass.new }
+    requires no_sole { HasNoSole arena.now path.parent }
+    ensures pass { IsPassOf arena.now pass.new }
     ensures caller { pass.new.caller ≡ pass.old.caller }
-    ensures pair { IsPair (sort_of N.layout N.ranged) N.body pass.old.caller place (seen_of pass.new) (path_in result) }
-    ensures places { HasPlacesOf (graph_after (seen_of pass.old)) (graph_after (seen_of pass.new)) path.node.node (path_in result).node.node }
-    ensures stretch { Stretches pass.old.caller (seen_of pass.old) (seen_of pass.new) }
-    ensures step { DidStep (sort_of N.layout N.ranged) N.body pass.old.caller (seen_of pass.old) (seen_of pass.new) true path result }
+    ensures pair { IsPairOf arena.now pass.old.caller place pass.new (path_in result) }
+    ensures places { HasPlaces path.node.node (path_in result).node.node pass.old pass.new }
+    ensures stretch { IsStretch pass.old pass.new }
+    ensures step { HasTried arena.now true pass.old pass.new path result }
 {
     search_law();
     tree_facts_law();
@@ -84,15 +80,15 @@ pub(crate) fn merge_own<N: Unlinked, R: Wait, G: Gate>(
     unlinked_law::<N>();
     let Path { parent, mut node } = path;
     node_law(&node.body);
-    let mut right = take_led(rt, arena, pass, gate, &node, target);
-    node_law(&right.body);
-    if node.body.fits(&right.body) {
-        absorb_own(arena, pass, &mut node, &mut right);
+    let mut next = take_led(rt, arena, pass, gate, &node, target);
+    node_law(&next.body);
+    if node.body.fits(&next.body) {
+        absorb_own(arena, pass, &mut node, &mut next);
         let path = Path { parent, node };
-        return Step::Freed(keep_left(arena, pass, gate, place, path, right));
+        return Step::Freed(keep_left(arena, pass, gate, place, path, next));
     }
     let path = Path { parent, node };
-    Step::Rests(keep_left(arena, pass, gate, place, path, right))
+    Step::Rests(keep_left(arena, pass, gate, place, path, next))
 }
 
 /// The node below a branch absorbs the node to which the branch leads next, if both fit. That one is given back, or the
@@ -107,17 +103,17 @@ pub(crate) fn merge_beside<N: Unlinked, R: Wait, G: Gate>(
     node: Held<N>,
     target: u32,
 ) -> Step<N>
-    requires pass { IsPass (sort_of N.layout N.ranged) BeginsTree TreeStep arena.now.table.shared.table_id arena.now.callers pass.old }
-    requires pair { IsPair (sort_of N.layout N.ranged) N.body pass.old.caller place (seen_of pass.old) (record { parent = Some parent; node = node }) }
+    requires pass { IsPassOf arena.now pass.old }
+    requires pair { IsPairOf arena.now pass.old.caller place pass.old (record { parent = Some parent; node = node }) }
     requires unchained { chained_of (N.body node.body) ≡ None }
     requires beside { right_child (N.body parent.body) place ≡ Some target }
-    requires no_sole { IsNoSole (sort_of N.layout N.ranged) N.body (Some parent) }
-    ensures pass { IsPass (sort_of N.layout N.ranged) BeginsTree TreeStep arena.now.table.shared.table_id arena.now.callers pass.new }
+    requires no_sole { HasNoSole arena.now (Some parent) }
+    ensures pass { IsPassOf arena.now pass.new }
     ensures caller { pass.new.caller ≡ pass.old.caller }
-    ensures pair { IsPair (sort_of N.layout N.ranged) N.body pass.old.caller place (seen_of pass.new) (path_in result) }
-    ensures places { HasPlacesOf (graph_after (seen_of pass.old)) (graph_after (seen_of pass.new)) node.node (path_in result).node.node }
-    ensures stretch { Stretches pass.old.caller (seen_of pass.old) (seen_of pass.new) }
-    ensures step { DidStep (sort_of N.layout N.ranged) N.body pass.old.caller (seen_of pass.old) (seen_of pass.new) true (record { parent = Some parent; node = node }) result }
+    ensures pair { IsPairOf arena.now pass.old.caller place pass.new (path_in result) }
+    ensures places { HasPlaces node.node (path_in result).node.node pass.old pass.new }
+    ensures stretch { IsStretch pass.old pass.new }
+    ensures step { HasTried arena.now true pass.old pass.new (record { parent = Some parent; node = node }) result }
 {
     search_law();
     tree_facts_law();

@@ -1,14 +1,9 @@
 //! Merging at one node until nothing is left to merge.
 ghost use Rattle.std.specs.Prelude.{◌≡◌, ◌⊎◌, IsTrue};
-ghost use Rattle.ks_flow.specs.Discipline.{BeginsTree, TreeStep};
-ghost use Rattle.ks_history.specs.Trace.{graph_after};
 ghost use Rattle.ks_node.specs.Room.{is_low};
-ghost use Rattle.ks_arena.specs.Sound.{sort_of};
-ghost use Rattle.ks_arena.specs.Clauses.{IsPass, seen_of};
-ghost use Rattle.ks_shape.specs.Places.{HasPlacesOf};
-ghost use Rattle.ks_shape.specs.Stretches.{Stretches};
-ghost use Rattle.ks_tidy.specs.Frees.{Counts, Undisturbed};
-ghost use Rattle.ks_tidy.specs.Pair.{FitsAlone, IsNoSole, IsPair};
+ghost use Rattle.ks_arena.specs.Of.{IsPassOf};
+ghost use Rattle.ks_shape.specs.Of.{HasPlaces, IsStretch};
+ghost use Rattle.ks_tidy.specs.Of.{CountsFree, FitsNoneAlone, HasNoSole, IsPairOf, WasUndisturbed};
 
 use crate::step::{Step, tidy_once};
 use ks_arena::{Arena, Pass};
@@ -35,18 +30,18 @@ pub fn tidy_node<N: Unlinked, R: Wait, G: Gate>(
     thorough: bool,
     path: Path<N>,
 ) -> Tidied<N>
-    requires pass { IsPass (sort_of N.layout N.ranged) BeginsTree TreeStep arena.now.table.shared.table_id arena.now.callers pass.old }
-    requires pair { IsPair (sort_of N.layout N.ranged) N.body pass.old.caller place (seen_of pass.old) path }
-    ensures pass { IsPass (sort_of N.layout N.ranged) BeginsTree TreeStep arena.now.table.shared.table_id arena.now.callers pass.new }
+    requires pass { IsPassOf arena.now pass.old }
+    requires pair { IsPairOf arena.now pass.old.caller place pass.old path }
+    ensures pass { IsPassOf arena.now pass.new }
     ensures caller { pass.new.caller ≡ pass.old.caller }
-    ensures pair { IsPair (sort_of N.layout N.ranged) N.body pass.old.caller place (seen_of pass.new) result.path }
-    ensures places { HasPlacesOf (graph_after (seen_of pass.old)) (graph_after (seen_of pass.new)) path.node.node result.path.node.node }
-    ensures stretch { Stretches pass.old.caller (seen_of pass.old) (seen_of pass.new) }
-    ensures counts { Counts pass.old.caller (seen_of pass.old) (seen_of pass.new) result.freed }
-    ensures same { Undisturbed pass.old.caller (seen_of pass.old) (seen_of pass.new) → result.path ≡ path }
-    ensures no_sole { IsNoSole (sort_of N.layout N.ranged) N.body result.path.parent }
+    ensures pair { IsPairOf arena.now pass.old.caller place pass.new result.path }
+    ensures places { HasPlaces path.node.node result.path.node.node pass.old pass.new }
+    ensures stretch { IsStretch pass.old pass.new }
+    ensures counts { CountsFree result.freed pass.old pass.new }
+    ensures same { WasUndisturbed pass.old pass.new → result.path ≡ path }
+    ensures no_sole { HasNoSole arena.now result.path.parent }
     ensures tested { IsTrue thorough ⊎ IsTrue (is_low N.layout (N.body result.path.node.body)) →
-        FitsAlone (sort_of N.layout N.ranged) N.body pass.old.caller result.path.node.node (seen_of pass.old) (seen_of pass.new) }
+        FitsNoneAlone arena.now result.path.node.node pass.old pass.new }
 {
     let mut path = path;
     let mut freed: u32 = 0;

@@ -1,13 +1,10 @@
 //! One try to merge at a node.
 ghost use Rattle.std.specs.Prelude.{◌≡◌, ℕ, IsTrue, None, Some, true, false};
-ghost use Rattle.ks_flow.specs.Discipline.{BeginsTree, TreeStep};
-ghost use Rattle.ks_history.specs.Trace.{graph_after};
 ghost use Rattle.ks_node.specs.Body.{chained_of, only_child_of};
-ghost use Rattle.ks_arena.specs.Sound.{sort_of};
-ghost use Rattle.ks_arena.specs.Clauses.{IsPass, seen_of};
-ghost use Rattle.ks_shape.specs.Places.{HasPlacesOf};
-ghost use Rattle.ks_shape.specs.Stretches.{Stretches};
-ghost use Rattle.ks_tidy.specs.Pair.{DidStep, IsNoSole, IsPair, path_in};
+ghost use Rattle.ks_tidy.specs.Pair.{path_in};
+ghost use Rattle.ks_arena.specs.Of.{IsPassOf};
+ghost use Rattle.ks_shape.specs.Of.{HasPlaces, IsStretch};
+ghost use Rattle.ks_tidy.specs.Of.{HasNoSole, HasTried, IsPairOf};
 
 use crate::merges::{merge_beside, merge_own, take_over};
 use ks_arena::{Arena, Held, Pass};
@@ -35,14 +32,14 @@ fn merge_root<N: Unlinked, R: Wait, G: Gate>(
     place: u64,
     root: Held<N>,
 ) -> Step<N>
-    requires pass { IsPass (sort_of N.layout N.ranged) BeginsTree TreeStep arena.now.table.shared.table_id arena.now.callers pass.old }
-    requires pair { IsPair (sort_of N.layout N.ranged) N.body pass.old.caller place (seen_of pass.old) (record { parent = None; node = root }) }
-    ensures pass { IsPass (sort_of N.layout N.ranged) BeginsTree TreeStep arena.now.table.shared.table_id arena.now.callers pass.new }
+    requires pass { IsPassOf arena.now pass.old }
+    requires pair { IsPairOf arena.now pass.old.caller place pass.old (record { parent = None; node = root }) }
+    ensures pass { IsPassOf arena.now pass.new }
     ensures caller { pass.new.caller ≡ pass.old.caller }
-    ensures pair { IsPair (sort_of N.layout N.ranged) N.body pass.old.caller place (seen_of pass.new) (path_in result) }
-    ensures places { HasPlacesOf (graph_after (seen_of pass.old)) (graph_after (seen_of pass.new)) root.node (path_in result).node.node }
-    ensures stretch { Stretches pass.old.caller (seen_of pass.old) (seen_of pass.new) }
-    ensures step { DidStep (sort_of N.layout N.ranged) N.body pass.old.caller (seen_of pass.old) (seen_of pass.new) true (record { parent = None; node = root }) result }
+    ensures pair { IsPairOf arena.now pass.old.caller place pass.new (path_in result) }
+    ensures places { HasPlaces root.node (path_in result).node.node pass.old pass.new }
+    ensures stretch { IsStretch pass.old pass.new }
+    ensures step { HasTried arena.now true pass.old pass.new (record { parent = None; node = root }) result }
 {
     search_law();
     alone_law();
@@ -69,16 +66,16 @@ fn merge_next<N: Unlinked, R: Wait, G: Gate>(
     parent: Held<N>,
     node: Held<N>,
 ) -> Step<N>
-    requires pass { IsPass (sort_of N.layout N.ranged) BeginsTree TreeStep arena.now.table.shared.table_id arena.now.callers pass.old }
-    requires pair { IsPair (sort_of N.layout N.ranged) N.body pass.old.caller place (seen_of pass.old) (record { parent = Some parent; node = node }) }
+    requires pass { IsPassOf arena.now pass.old }
+    requires pair { IsPairOf arena.now pass.old.caller place pass.old (record { parent = Some parent; node = node }) }
     requires unchained { chained_of (N.body node.body) ≡ None }
-    requires no_sole { IsNoSole (sort_of N.layout N.ranged) N.body (Some parent) }
-    ensures pass { IsPass (sort_of N.layout N.ranged) BeginsTree TreeStep arena.now.table.shared.table_id arena.now.callers pass.new }
+    requires no_sole { HasNoSole arena.now (Some parent) }
+    ensures pass { IsPassOf arena.now pass.new }
     ensures caller { pass.new.caller ≡ pass.old.caller }
-    ensures pair { IsPair (sort_of N.layout N.ranged) N.body pass.old.caller place (seen_of pass.new) (path_in result) }
-    ensures places { HasPlacesOf (graph_after (seen_of pass.old)) (graph_after (seen_of pass.new)) node.node (path_in result).node.node }
-    ensures stretch { Stretches pass.old.caller (seen_of pass.old) (seen_of pass.new) }
-    ensures step { DidStep (sort_of N.layout N.ranged) N.body pass.old.caller (seen_of pass.old) (seen_of pass.new) true (record { parent = Some parent; node = node }) result }
+    ensures pair { IsPairOf arena.now pass.old.caller place pass.new (path_in result) }
+    ensures places { HasPlaces node.node (path_in result).node.node pass.old pass.new }
+    ensures stretch { IsStretch pass.old pass.new }
+    ensures step { HasTried arena.now true pass.old pass.new (record { parent = Some parent; node = node }) result }
 {
     search_law();
     alone_law();
@@ -104,15 +101,15 @@ fn merge_child<N: Unlinked, R: Wait, G: Gate>(
     parent: Held<N>,
     node: Held<N>,
 ) -> Step<N>
-    requires pass { IsPass (sort_of N.layout N.ranged) BeginsTree TreeStep arena.now.table.shared.table_id arena.now.callers pass.old }
-    requires pair { IsPair (sort_of N.layout N.ranged) N.body pass.old.caller place (seen_of pass.old) (record { parent = Some parent; node = node }) }
-    requires no_sole { IsNoSole (sort_of N.layout N.ranged) N.body (Some parent) }
-    ensures pass { IsPass (sort_of N.layout N.ranged) BeginsTree TreeStep arena.now.table.shared.table_id arena.now.callers pass.new }
+    requires pass { IsPassOf arena.now pass.old }
+    requires pair { IsPairOf arena.now pass.old.caller place pass.old (record { parent = Some parent; node = node }) }
+    requires no_sole { HasNoSole arena.now (Some parent) }
+    ensures pass { IsPassOf arena.now pass.new }
     ensures caller { pass.new.caller ≡ pass.old.caller }
-    ensures pair { IsPair (sort_of N.layout N.ranged) N.body pass.old.caller place (seen_of pass.new) (path_in result) }
-    ensures places { HasPlacesOf (graph_after (seen_of pass.old)) (graph_after (seen_of pass.new)) node.node (path_in result).node.node }
-    ensures stretch { Stretches pass.old.caller (seen_of pass.old) (seen_of pass.new) }
-    ensures step { DidStep (sort_of N.layout N.ranged) N.body pass.old.caller (seen_of pass.old) (seen_of pass.new) true (record { parent = Some parent; node = node }) result }
+    ensures pair { IsPairOf arena.now pass.old.caller place pass.new (path_in result) }
+    ensures places { HasPlaces node.node (path_in result).node.node pass.old pass.new }
+    ensures stretch { IsStretch pass.old pass.new }
+    ensures step { HasTried arena.now true pass.old pass.new (record { parent = Some parent; node = node }) result }
 {
     match node.body.chained() {
         Some(right) => {
@@ -136,14 +133,14 @@ fn tidy_root<N: Unlinked, R: Wait, G: Gate>(
     thorough: bool,
     root: Held<N>,
 ) -> Step<N>
-    requires pass { IsPass (sort_of N.layout N.ranged) BeginsTree TreeStep arena.now.table.shared.table_id arena.now.callers pass.old }
-    requires pair { IsPair (sort_of N.layout N.ranged) N.body pass.old.caller place (seen_of pass.old) (record { parent = None; node = root }) }
-    ensures pass { IsPass (sort_of N.layout N.ranged) BeginsTree TreeStep arena.now.table.shared.table_id arena.now.callers pass.new }
+    requires pass { IsPassOf arena.now pass.old }
+    requires pair { IsPairOf arena.now pass.old.caller place pass.old (record { parent = None; node = root }) }
+    ensures pass { IsPassOf arena.now pass.new }
     ensures caller { pass.new.caller ≡ pass.old.caller }
-    ensures pair { IsPair (sort_of N.layout N.ranged) N.body pass.old.caller place (seen_of pass.new) (path_in result) }
-    ensures places { HasPlacesOf (graph_after (seen_of pass.old)) (graph_after (seen_of pass.new)) root.node (path_in result).node.node }
-    ensures stretch { Stretches pass.old.caller (seen_of pass.old) (seen_of pass.new) }
-    ensures step { DidStep (sort_of N.layout N.ranged) N.body pass.old.caller (seen_of pass.old) (seen_of pass.new) thorough (record { parent = None; node = root }) result }
+    ensures pair { IsPairOf arena.now pass.old.caller place pass.new (path_in result) }
+    ensures places { HasPlaces root.node (path_in result).node.node pass.old pass.new }
+    ensures stretch { IsStretch pass.old pass.new }
+    ensures step { HasTried arena.now thorough pass.old pass.new (record { parent = None; node = root }) result }
 {
     if thorough {
         return merge_root(rt, arena, pass, gate, place, root);
@@ -180,14 +177,14 @@ fn tidy_child<N: Unlinked, R: Wait, G: Gate>(
     parent: Held<N>,
     node: Held<N>,
 ) -> Step<N>
-    requires pass { IsPass (sort_of N.layout N.ranged) BeginsTree TreeStep arena.now.table.shared.table_id arena.now.callers pass.old }
-    requires pair { IsPair (sort_of N.layout N.ranged) N.body pass.old.caller place (seen_of pass.old) (record { parent = Some parent; node = node }) }
-    ensures pass { IsPass (sort_of N.layout N.ranged) BeginsTree TreeStep arena.now.table.shared.table_id arena.now.callers pass.new }
+    requires pass { IsPassOf arena.now pass.old }
+    requires pair { IsPairOf arena.now pass.old.caller place pass.old (record { parent = Some parent; node = node }) }
+    ensures pass { IsPassOf arena.now pass.new }
     ensures caller { pass.new.caller ≡ pass.old.caller }
-    ensures pair { IsPair (sort_of N.layout N.ranged) N.body pass.old.caller place (seen_of pass.new) (path_in result) }
-    ensures places { HasPlacesOf (graph_after (seen_of pass.old)) (graph_after (seen_of pass.new)) node.node (path_in result).node.node }
-    ensures stretch { Stretches pass.old.caller (seen_of pass.old) (seen_of pass.new) }
-    ensures step { DidStep (sort_of N.layout N.ranged) N.body pass.old.caller (seen_of pass.old) (seen_of pass.new) thorough (record { parent = Some parent; node = node }) result }
+    ensures pair { IsPairOf arena.now pass.old.caller place pass.new (path_in result) }
+    ensures places { HasPlaces node.node (path_in result).node.node pass.old pass.new }
+    ensures stretch { IsStretch pass.old pass.new }
+    ensures step { HasTried arena.now thorough pass.old pass.new (record { parent = Some parent; node = node }) result }
 {
     search_law();
     tests_law();
@@ -219,14 +216,14 @@ pub fn tidy_once<N: Unlinked, R: Wait, G: Gate>(
     thorough: bool,
     path: Path<N>,
 ) -> Step<N>
-    requires pass { IsPass (sort_of N.layout N.ranged) BeginsTree TreeStep arena.now.table.shared.table_id arena.now.callers pass.old }
-    requires pair { IsPair (sort_of N.layout N.ranged) N.body pass.old.caller place (seen_of pass.old) path }
-    ensures pass { IsPass (sort_of N.layout N.ranged) BeginsTree TreeStep arena.now.table.shared.table_id arena.now.callers pass.new }
+    requires pass { IsPassOf arena.now pass.old }
+    requires pair { IsPairOf arena.now pass.old.caller place pass.old path }
+    ensures pass { IsPassOf arena.now pass.new }
     ensures caller { pass.new.caller ≡ pass.old.caller }
-    ensures pair { IsPair (sort_of N.layout N.ranged) N.body pass.old.caller place (seen_of pass.new) (path_in result) }
-    ensures places { HasPlacesOf (graph_after (seen_of pass.old)) (graph_after (seen_of pass.new)) path.node.node (path_in result).node.node }
-    ensures stretch { Stretches pass.old.caller (seen_of pass.old) (seen_of pass.new) }
-    ensures step { DidStep (sort_of N.layout N.ranged) N.body pass.old.caller (seen_of pass.old) (seen_of pass.new) thorough path result }
+    ensures pair { IsPairOf arena.now pass.old.caller place pass.new (path_in result) }
+    ensures places { HasPlaces path.node.node (path_in result).node.node pass.old pass.new }
+    ensures stretch { IsStretch pass.old pass.new }
+    ensures step { HasTried arena.now thorough pass.old pass.new path result }
 {
     let Path { parent, node } = path;
     match parent {

@@ -1,17 +1,26 @@
-use Rattle.std.proofs.Common.{arith, refl, sym, ◌∙◌, ap, subst}
+use Rattle.std.proofs.Common.{◌≡◌, ℕ, sym, subst}
+use Rattle.ks_history.specs.declared.Op.{Op}
 use Rattle.ks_history.specs.declared.Op.TheVariants.{Del}
+use Rattle.ks_history.specs.Alone.{ActsAlone, alone_then}
+use Rattle.ks_history.specs.Done.{Done, give_up}
 use Rattle.ks_history.specs.Map.{told}
-use Rattle.ks_arena.specs.declared.held.Held.{Held as Hand}
+use Rattle.ks_history.specs.Trace.{◌⊑◌}
+use Rattle.ks_history.specs.Underway.{Underway}
 use Rattle.ks_arena.specs.Sound.{sort_of}
-use Rattle.ks_arena.specs.Clauses.{IsReady, seen_of}
-use Rattle.ks_shape.specs.OnWay.{ends_unbranched}
+use Rattle.ks_arena.specs.Clauses.{seen_of}
+use Rattle.ks_shape.specs.OnWay.{IsOnWay}
 use Rattle.ks_giveup.proofs.calls.del.Goals as goal
 
-pub del-found-requires : goal.del-found-requires
-del-found-requires g c = let sort = sort_of g.N.Node.layout g.N.Node.ranged in let h = seen_of c.find-held.new.pass in let e = c.find-held.ensures in
-    ends_unbranched sort g.N.Node.body c.args.pass.now.caller c.args.place h c.find-held.result e.way (c.sound_law.ensures.facts sort c.args.arena.now.table.shared.table_id.slots h e.pass.sound) (omega (arith, c.ranges.place)) c.node_law.ensures.sound e.ends
+pub del_alone-requires-clause-way : goal.del_alone-requires-clause-way
+del_alone-requires-clause-way g c = subst (λ (z : ℕ). IsOnWay (sort_of g.N.Node.layout g.N.Node.ranged) g.N.Node.body z c.args.place (seen_of c.find-held.new.pass) c.find-held.result) (sym c.find-held.ensures.caller) c.find-held.ensures.way
 
-pub conclude-number-requires-clause-ready : goal.conclude-number-requires-clause-ready
-conclude-number-requires-clause-ready g c κs within = let x : Hand g.row.N.Denot = record { node = c.find-held.result.node; body = c.del-found.new.self; live = c.find-held.result.live } in
-    subst (IsReady (sort_of g.N.Node.layout g.N.Node.ranged) g.N.Node.body c.args.arena.now.nodes c.find-held.new.pass.caller (seen_of c.find-held.new.pass) x (Del c.args.place)) (ap told (sym c.del-found.ensures.answer) ∙ sym c.reply_of.ensures.told)
-    (c.del_law.ensures x refl c.find-held.ensures.way.live c.del-found.ensures.body)
+pub returns-clause-done : goal.returns-clause-done
+returns-clause-done g c = let s = seen_of c.args.pass.now in let h = seen_of c.find-held.new.pass in let k = seen_of c.del_alone.new.pass in let op : Op = Del c.args.place in let e = c.find-held.ensures in let x = c.del_alone.result in
+    let under : Underway give_up c.find-held.new.pass.caller op s h = subst (λ (z : ℕ). Underway give_up z op s h) (sym e.caller) (e.under op) in
+    subst (λ (z : ℕ). Done g.N.Node.layout give_up c.args.arena.now.nodes z op s k (told x.found) x.number) e.caller (c.del_alone.ensures.done give_up s under)
+
+pub returns-clause-tidy : goal.returns-clause-tidy
+returns-clause-tidy g c = λ removed alone. let me : ℕ = c.args.pass.now.caller in let s = seen_of c.args.pass.now in let h = seen_of c.find-held.new.pass in let k = seen_of c.del_alone.new.pass in
+    let under = c.find-held.ensures.under (Del c.args.place) in let up : s ⊑ h = record { rest = under.rest; is = under.is } in
+    let then : ActsAlone me h k = alone_then me s h k up c.del_alone.ensures.begins alone in
+    c.del_alone.ensures.tidy removed (subst (λ (z : ℕ). ActsAlone z h k) (sym c.find-held.ensures.caller) then)

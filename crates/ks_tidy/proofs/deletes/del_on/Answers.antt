@@ -1,7 +1,7 @@
 use Rattle.std.proofs.Common.{◌≡◌, ◌≢◌, ◌∙◌, ℕ, List, [], ◌∷◌, length, arith, refl, sym, ap, subst, inl, inr}
 use Rattle.std.specs.Prelude.{Option, Some, None}
 use Rattle.ks_history.specs.Alone.{ActsAlone, alone_then}
-use Rattle.ks_history.specs.Begins.{with_begins}
+use Rattle.ks_history.specs.Begins.{begins_both}
 use Rattle.ks_history.specs.Hand.{AreOnce}
 use Rattle.ks_history.specs.Passes.{Has}
 use Rattle.ks_history.specs.Trace.{hand, graph_after}
@@ -69,3 +69,11 @@ returns-clause-tidy g c = λ removed alone. let me : ℕ = c.args.pass.now.calle
     let on = stretches_as me c.delete-answer.new.pass.caller h₁ k e.caller c.tidy_end.ensures.stretch in
     let then : ActsAlone me h₁ k = alone_then me h h₁ k e.begins (stretches_begins me h₁ k on) alone in
     c.tidy_end.ensures.tidy (subst (λ (z : ℕ). ActsAlone z h₁ k) (sym e.caller) then)
+
+pub returns-then-is_none-clause-begins : goal.returns-then-is_none-clause-begins
+returns-then-is_none-clause-begins g c = let me : ℕ = c.args.pass.now.caller in let h₁ = seen_of c.delete-answer.new.pass in let k = seen_of c.leave.new.pass in
+    begins_both (seen_of c.args.pass.now) h₁ k c.delete-answer.ensures.begins (stretches_begins c.delete-answer.new.pass.caller h₁ k c.leave.ensures.stretch)
+
+pub returns-clause-begins : goal.returns-clause-begins
+returns-clause-begins g c = let h₁ = seen_of c.delete-answer.new.pass in let k = seen_of c.tidy_end.new.pass in
+    begins_both (seen_of c.args.pass.now) h₁ k c.delete-answer.ensures.begins (stretches_begins c.delete-answer.new.pass.caller h₁ k c.tidy_end.ensures.stretch)
