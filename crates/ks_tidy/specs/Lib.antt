@@ -1,3 +1,4 @@
 pub mod Frees
 pub mod Pair
 pub mod Deciding
+pub mod Walking
