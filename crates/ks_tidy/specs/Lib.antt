@@ -1,4 +1,5 @@
 pub mod Frees
+pub mod Leaves
 pub mod Pair
 pub mod Deciding
 pub mod Walking

@@ -3,13 +3,14 @@ ghost use Rattle.std.specs.Prelude.{◌≡◌, ◌≤◌, suc, []};
 ghost use Rattle.ks_flow.specs.Discipline.{BeginsTree, TreeStep};
 ghost use Rattle.ks_flow.specs.Tight.{EndsRun};
 ghost use Rattle.ks_keysets.specs.Layout.{FitsNoRight};
-ghost use Rattle.ks_history.specs.Done.{Tight};
+ghost use Rattle.ks_history.specs.Done.{Template, Tight};
 ghost use Rattle.ks_history.specs.Trace.{frame_after, graph_after};
 ghost use Rattle.ks_node.specs.Edges.{record_of};
 ghost use Rattle.ks_arena.specs.Sound.{blank_of, sort_of};
 ghost use Rattle.ks_arena.specs.Clauses.{IsPass, hand_of, seen_of};
 ghost use Rattle.ks_shape.specs.Stretches.{Stretches};
 ghost use Rattle.ks_tidy.specs.Frees.{Counts, Undisturbed};
+ghost use Rattle.ks_tidy.specs.Leaves.{HasLeft};
 ghost use Rattle.ks_tidy.specs.Pair.{IsNoSole, IsPair};
 ghost use Rattle.ks_tidy.specs.Walking.{TightUpTo};
 
@@ -125,8 +126,8 @@ pub fn pair_compact<N: Unlinked, R: Wait, G: Gate>(
     requires pass { IsPass (sort_of N.layout N.ranged) BeginsTree TreeStep arena.now.table.shared.table_id arena.now.callers pass.old × (hand_of pass.old ≡ []) }
     ensures pass { IsPass (sort_of N.layout N.ranged) BeginsTree TreeStep arena.now.table.shared.table_id arena.now.callers pass.new × (hand_of pass.new ≡ []) }
     ensures caller { pass.new.caller ≡ pass.old.caller }
-    ensures stretch { Stretches pass.old.caller (seen_of pass.old) (seen_of pass.new) }
-    ensures counts { Counts pass.old.caller (seen_of pass.old) (seen_of pass.new) result }
+    ensures left { (template : Template) → HasLeft template pass.old.caller (seen_of pass.old) (seen_of pass.new) }
+    ensures frees { Counts pass.old.caller (seen_of pass.old) (seen_of pass.new) result }
     ensures tight { Undisturbed pass.old.caller (seen_of pass.old) (seen_of pass.new) → Tight N.layout (blank_of (sort_of N.layout N.ranged)) (seen_of pass.new) }
 {
     search_law();

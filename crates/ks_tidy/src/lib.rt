@@ -5,6 +5,7 @@
 #![tactic(auto)]
 
 mod compact;
+mod compacting;
 mod deletes;
 mod descent;
 mod merges;
@@ -13,6 +14,7 @@ mod step;
 mod takes;
 
 pub use compact::pair_compact;
+pub use compacting::Compacting;
 pub use deletes::{del_on, delete};
 pub use descent::{come_down, go_down, leave, pair_tidy, tidy_end};
 pub use node::{Tidied, tidy_node};

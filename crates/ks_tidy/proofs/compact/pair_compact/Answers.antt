@@ -1,11 +1,12 @@
-use Rattle.std.proofs.Common.{◌≡◌, ◌∙◌, ◌+◌, ◌%◌, ◌^◌, ℕ, suc, refl, sym, ap, subst, length, arith}
+use Rattle.std.proofs.Common.{◌≡◌, ◌∙◌, ◌+◌, ◌%◌, ◌^◌, ℕ, suc, refl, [], sym, ap, subst, length, arith}
 use Rattle.ks_keysets.specs.Record.{top}
-use Rattle.ks_history.specs.Trace.{graph_after, frame_after}
+use Rattle.ks_history.specs.Trace.{hand, graph_after, frame_after}
 use Rattle.ks_flow.specs.Tight.{IsTightBelow}
 use Rattle.ks_arena.specs.Sound.{sort_of, blank_of}
 use Rattle.ks_arena.specs.Clauses.{seen_of}
 use Rattle.ks_shape.specs.Stretches.{stretches_as, stretches_here, stretches_on}
 use Rattle.ks_tidy.specs.Frees.{Undisturbed, counts_as, counts_both, counts_of, frees_here, undisturbed_as, undisturbed_first, undisturbed_then}
+use Rattle.ks_tidy.specs.Leaves.{has_left}
 use Rattle.ks_tidy.specs.Walking.{TightUpTo}
 use Rattle.ks_tidy.proofs.compact.pair_compact.Goals as goal
 use Rattle.ks_tidy.proofs.compact.pair_compact.Goals.{At-loop}
@@ -35,13 +36,13 @@ loop-preserved g c = let sort = sort_of g.N.Node.layout g.N.Node.ranged in let s
         (e.tight (undisturbed_then a inv.4.count e.counts.count s h k inv.4.frees e.counts.frees still) (inv.5 (undisturbed_first a inv.4.count e.counts.count s h k inv.4.frees e.counts.frees still))),
     )
 
-pub returns-then-walked-clause-stretch : goal.returns-then-walked-clause-stretch
-returns-then-walked-clause-stretch g c = let s = seen_of c.args.pass.now in let h = seen_of c.loop.pass in let k = seen_of c.walk-walked.new.pass in let a : ℕ = c.loop.pass.caller in let b : ℕ = c.walk-walked.new.pass.caller in
+pub returns-then-walked-clause-left : goal.returns-then-walked-clause-left
+returns-then-walked-clause-left g c = λ template. let s = seen_of c.args.pass.now in let h = seen_of c.loop.pass in let k = seen_of c.walk-walked.new.pass in let me : ℕ = c.args.pass.now.caller in let a : ℕ = c.loop.pass.caller in let b : ℕ = c.walk-walked.new.pass.caller in
     let inv = c.loop.invariant in let e = c.walk-walked.ensures in
-    stretches_as c.args.pass.now.caller b s k (e.caller ∙ inv.2) (stretches_on a b s h k e.caller inv.3 e.stretch)
+    has_left template me s k (stretches_as me b s k (e.caller ∙ inv.2) (stretches_on a b s h k e.caller inv.3 e.stretch)) (subst (λ (z : ℕ). hand z k ≡ []) (e.caller ∙ inv.2) e.pass.1)
 
-pub returns-then-walked-clause-counts : goal.returns-then-walked-clause-counts
-returns-then-walked-clause-counts g c = let s = seen_of c.args.pass.now in let h = seen_of c.loop.pass in let k = seen_of c.walk-walked.new.pass in let a : ℕ = c.loop.pass.caller in
+pub returns-then-walked-clause-frees : goal.returns-then-walked-clause-frees
+returns-then-walked-clause-frees g c = let s = seen_of c.args.pass.now in let h = seen_of c.loop.pass in let k = seen_of c.walk-walked.new.pass in let a : ℕ = c.loop.pass.caller in
     let inv = c.loop.invariant in let e = c.walk-walked.ensures in
     counts_as c.args.pass.now.caller a ((c.loop.freed + c.walk-walked.result.freed) % 2 ^ 32) s k inv.2 (counts_both a c.loop.freed c.walk-walked.result.freed s h k inv.4 e.counts)
 
