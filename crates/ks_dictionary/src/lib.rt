@@ -9,6 +9,7 @@
 #![tactic(auto)]
 
 mod closed;
+mod compact;
 mod dictionary;
 mod fit;
 mod serving;

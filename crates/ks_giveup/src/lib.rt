@@ -9,8 +9,10 @@
 #![tactic(auto)]
 
 mod calls;
+mod compact;
 mod descent;
 mod technique;
 
 pub use calls::{add, del, get, put, swap};
+pub use compact::compact;
 pub use technique::GiveUp;

@@ -4,3 +4,4 @@ pub mod Beside
 pub mod Fresh
 pub mod Steps
 pub mod Going
+pub mod Onward

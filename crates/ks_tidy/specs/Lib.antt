@@ -1,4 +1,6 @@
 pub mod Frees
+pub mod Leaves
 pub mod Pair
 pub mod Deciding
 pub mod Of
+pub mod Walking

@@ -4,6 +4,8 @@
 //! an edge. If both fit, the node absorbs its neighbour. A root over one child takes over that child.
 #![tactic(auto)]
 
+mod compact;
+mod compacting;
 mod deletes;
 mod descent;
 mod merges;
@@ -11,6 +13,8 @@ mod node;
 mod step;
 mod takes;
 
+pub use compact::pair_compact;
+pub use compacting::Compacting;
 pub use deletes::{del_alone, del_on};
 pub use descent::{come_down, go_down, leave, pair_tidy, tidy_end};
 pub use node::{Tidied, tidy_node};
