@@ -53,8 +53,8 @@ returns-then-is_none-clause-done g c = λ template start under. let at = (goal.a
     decided_on g.N.Node.layout template c.args.arena.now.nodes me op start h₁ k (told c.delete-answer.result.found) c.delete-answer.result.number (c.delete-answer.ensures.decided template start under)
     (gives g at template op (omega arith)) (ap (λ (z : ℕ). hand z k) (sym (now g at)) ∙ none g at)
 
-pub pair_tidy-requires-clause-pass : goal.pair_tidy-requires-clause-pass
-pair_tidy-requires-clause-pass g c = (c.give.ensures.pass, none g (goal.at.pair_tidy-requires-clause-pass g c).After-give)
+pub pair_tidy-requires : goal.pair_tidy-requires
+pair_tidy-requires g c = record { pass = (c.give.ensures.pass, none g (goal.at.pair_tidy-requires g c).After-give) }
 
 pub returns-then-low-clause-done : goal.returns-then-low-clause-done
 returns-then-low-clause-done g c = λ template start under. let at = (goal.at.returns-then-low-clause-done g c).After-give in let me : ℕ = c.args.pass.now.caller in let h₁ = seen_of c.delete-answer.new.pass in let h₂ = seen_of c.give.new.pass in let k = seen_of c.pair_tidy.new.pass in let op : Op = Del c.args.place in
