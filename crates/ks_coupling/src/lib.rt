@@ -8,10 +8,10 @@
 #![tactic(auto)]
 
 mod calls;
-mod compact;
 mod descent;
+mod merging;
 mod technique;
 
 pub use calls::{add, del, get, put, swap};
-pub use compact::compact;
+pub use merging::compact;
 pub use technique::Coupling;

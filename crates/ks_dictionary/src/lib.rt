@@ -9,9 +9,9 @@
 #![tactic(auto)]
 
 mod closed;
-mod compact;
 mod dictionary;
 mod fit;
+mod merging;
 mod serving;
 mod workers;
 

@@ -4,3 +4,4 @@ pub mod Pair
 pub mod Deciding
 pub mod Of
 pub mod Walking
+pub mod Compacts

@@ -1,18 +1,11 @@
 //! Compaction: walks from the root to place after place, which merge at each node that they meet.
-ghost use Rattle.std.specs.Prelude.{◌≡◌, ◌≤◌, suc, []};
-ghost use Rattle.ks_flow.specs.Discipline.{BeginsTree, TreeStep};
+ghost use Rattle.std.specs.Prelude.{◌≡◌, ◌≤◌, suc};
 ghost use Rattle.ks_flow.specs.Tight.{EndsRun};
-ghost use Rattle.ks_keysets.specs.Layout.{FitsNoRight};
-ghost use Rattle.ks_history.specs.Done.{Template, Tight};
-ghost use Rattle.ks_history.specs.Trace.{frame_after, graph_after};
+ghost use Rattle.ks_history.specs.Done.{Template};
 ghost use Rattle.ks_node.specs.Edges.{record_of};
-ghost use Rattle.ks_arena.specs.Sound.{blank_of, sort_of};
-ghost use Rattle.ks_arena.specs.Clauses.{IsPass, hand_of, seen_of};
-ghost use Rattle.ks_shape.specs.Stretches.{Stretches};
-ghost use Rattle.ks_tidy.specs.Frees.{Counts, Undisturbed};
-ghost use Rattle.ks_tidy.specs.Leaves.{HasLeft};
-ghost use Rattle.ks_tidy.specs.Pair.{IsNoSole, IsPair};
-ghost use Rattle.ks_tidy.specs.Walking.{TightUpTo};
+ghost use Rattle.ks_arena.specs.Of.{IsEmptyPassOf, IsPassOf};
+ghost use Rattle.ks_shape.specs.Of.{IsStretch};
+ghost use Rattle.ks_tidy.specs.Compacts.{FitsNone, HasFreed, HasLeftBy, IsNotSole, IsPairOf, IsTightBefore, IsTightOf, WasUndisturbed};
 
 use crate::descent::{go_down, leave};
 use crate::node::{Tidied, tidy_node};
@@ -50,18 +43,17 @@ fn visit<N: Unlinked, R: Wait, G: Gate>(
     last: u64,
     path: Path<N>,
 ) -> Visited<N>
-    requires pass { IsPass (sort_of N.layout N.ranged) BeginsTree TreeStep arena.now.table.shared.table_id arena.now.callers pass.old }
-    requires pair { IsPair (sort_of N.layout N.ranged) N.body pass.old.caller place (seen_of pass.old) path }
+    requires pass { IsPassOf arena.now pass.old }
+    requires pair { IsPairOf arena.now pass.old.caller place pass.old path }
     requires upto { place ≤ last }
-    ensures pass { IsPass (sort_of N.layout N.ranged) BeginsTree TreeStep arena.now.table.shared.table_id arena.now.callers pass.new }
+    ensures pass { IsPassOf arena.now pass.new }
     ensures caller { pass.new.caller ≡ pass.old.caller }
-    ensures pair { IsPair (sort_of N.layout N.ranged) N.body pass.old.caller place (seen_of pass.new) result.path }
-    ensures stretch { Stretches pass.old.caller (seen_of pass.old) (seen_of pass.new) }
-    ensures counts { Counts pass.old.caller (seen_of pass.old) (seen_of pass.new) result.freed }
-    ensures same { Undisturbed pass.old.caller (seen_of pass.old) (seen_of pass.new) → result.path ≡ path }
-    ensures no_sole { IsNoSole (sort_of N.layout N.ranged) N.body result.path.parent }
-    ensures fits { Undisturbed pass.old.caller (seen_of pass.old) (seen_of pass.new) →
-        FitsNoRight N.layout (graph_after (seen_of pass.new)) (frame_after (blank_of (sort_of N.layout N.ranged)) (seen_of pass.new)) result.path.node.node }
+    ensures pair { IsPairOf arena.now pass.old.caller place pass.new result.path }
+    ensures stretch { IsStretch pass.old pass.new }
+    ensures counts { HasFreed pass.old pass.new result.freed }
+    ensures same { WasUndisturbed pass.old pass.new → result.path ≡ path }
+    ensures no_sole { IsNotSole arena.now result.path }
+    ensures fits { WasUndisturbed pass.old pass.new → FitsNone arena.now pass.new result.path.node.node }
     ensures run { EndsRun (record_of (N.body result.path.node.body)) place last result.end }
 {
     let Tidied { path, freed } = tidy_node(rt, arena, pass, gate, place, true, path);
@@ -77,14 +69,14 @@ fn walk<N: Unlinked, R: Wait, G: Gate>(
     gate: &G,
     place: u64,
 ) -> Walked
-    requires pass { IsPass (sort_of N.layout N.ranged) BeginsTree TreeStep arena.now.table.shared.table_id arena.now.callers pass.old × (hand_of pass.old ≡ []) }
-    ensures pass { IsPass (sort_of N.layout N.ranged) BeginsTree TreeStep arena.now.table.shared.table_id arena.now.callers pass.new × (hand_of pass.new ≡ []) }
+    requires pass { IsEmptyPassOf arena.now pass.old }
+    ensures pass { IsEmptyPassOf arena.now pass.new }
     ensures caller { pass.new.caller ≡ pass.old.caller }
-    ensures stretch { Stretches pass.old.caller (seen_of pass.old) (seen_of pass.new) }
-    ensures counts { Counts pass.old.caller (seen_of pass.old) (seen_of pass.new) result.freed }
+    ensures stretch { IsStretch pass.old pass.new }
+    ensures counts { HasFreed pass.old pass.new result.freed }
     ensures upto { place ≤ result.end }
-    ensures tight { Undisturbed pass.old.caller (seen_of pass.old) (seen_of pass.new) →
-        TightUpTo (sort_of N.layout N.ranged) place (seen_of pass.old) → TightUpTo (sort_of N.layout N.ranged) (suc result.end) (seen_of pass.new) }
+    ensures tight { WasUndisturbed pass.old pass.new → IsTightBefore arena.now place pass.old →
+        IsTightBefore arena.now (suc result.end) pass.new }
 {
     search_law();
     tests_law();
@@ -123,12 +115,12 @@ pub fn pair_compact<N: Unlinked, R: Wait, G: Gate>(
     pass: &mut Pass<N, Tree>,
     gate: &G,
 ) -> u32
-    requires pass { IsPass (sort_of N.layout N.ranged) BeginsTree TreeStep arena.now.table.shared.table_id arena.now.callers pass.old × (hand_of pass.old ≡ []) }
-    ensures pass { IsPass (sort_of N.layout N.ranged) BeginsTree TreeStep arena.now.table.shared.table_id arena.now.callers pass.new × (hand_of pass.new ≡ []) }
+    requires pass { IsEmptyPassOf arena.now pass.old }
+    ensures pass { IsEmptyPassOf arena.now pass.new }
     ensures caller { pass.new.caller ≡ pass.old.caller }
-    ensures left { (template : Template) → HasLeft template pass.old.caller (seen_of pass.old) (seen_of pass.new) }
-    ensures frees { Counts pass.old.caller (seen_of pass.old) (seen_of pass.new) result }
-    ensures tight { Undisturbed pass.old.caller (seen_of pass.old) (seen_of pass.new) → Tight N.layout (blank_of (sort_of N.layout N.ranged)) (seen_of pass.new) }
+    ensures left { (template : Template) → HasLeftBy template pass.old pass.new }
+    ensures frees { HasFreed pass.old pass.new result }
+    ensures tight { WasUndisturbed pass.old pass.new → IsTightOf arena.now pass.new }
 {
     search_law();
     tight_law();

@@ -1,11 +1,7 @@
 //! What a technique offers that can merge nodes all over the graph.
 ghost use Rattle.std.specs.Prelude.{◌≡◌};
-ghost use Rattle.ks_history.specs.Done.{Tight};
-ghost use Rattle.ks_arena.specs.Sound.{blank_of, sort_of};
-ghost use Rattle.ks_arena.specs.Clauses.{seen_of};
 ghost use Rattle.ks_shape.specs.Idle.{IsIdle, Site};
-ghost use Rattle.ks_tidy.specs.Frees.{Counts, Undisturbed};
-ghost use Rattle.ks_tidy.specs.Leaves.{HasLeft};
+ghost use Rattle.ks_tidy.specs.Compacts.{HasFreed, HasLeftBy, IsTightIn, WasUndisturbed};
 
 use ks_arena::Pass;
 use ks_gate::Gate;
@@ -28,8 +24,7 @@ pub trait Compacting<N: Node, A: Shelf>: Template<N, A> {
         requires pass { IsIdle (A.site arena.now) pass.old }
         ensures pass { IsIdle (A.site arena.now) pass.new }
         ensures caller { pass.new.caller ≡ pass.old.caller }
-        ensures left { HasLeft Self.technique pass.old.caller (seen_of pass.old) (seen_of pass.new) }
-        ensures frees { Counts pass.old.caller (seen_of pass.old) (seen_of pass.new) result }
-        ensures tight { Undisturbed pass.old.caller (seen_of pass.old) (seen_of pass.new) →
-            Tight N.layout (blank_of (sort_of N.layout N.ranged)) (seen_of pass.new) };
+        ensures left { HasLeftBy Self.technique pass.old pass.new }
+        ensures frees { HasFreed pass.old pass.new result }
+        ensures tight { WasUndisturbed pass.old pass.new → IsTightIn (A.site arena.now) pass.new };
 }

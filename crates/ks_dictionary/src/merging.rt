@@ -1,11 +1,7 @@
 //! Merging all over a dictionary.
 ghost use Rattle.std.specs.Prelude.{◌≡◌};
-ghost use Rattle.ks_history.specs.Done.{Tight};
-ghost use Rattle.ks_arena.specs.Sound.{blank_of, sort_of};
-ghost use Rattle.ks_arena.specs.Clauses.{seen_of};
 ghost use Rattle.ks_shape.specs.Idle.{IsIdle};
-ghost use Rattle.ks_tidy.specs.Frees.{Counts, Undisturbed};
-ghost use Rattle.ks_tidy.specs.Leaves.{HasLeft};
+ghost use Rattle.ks_tidy.specs.Compacts.{HasFreed, HasLeftBy, IsTightIn, WasUndisturbed};
 
 use crate::dictionary::Dictionary;
 use ks_arena::{Arena, Pass};
@@ -29,10 +25,10 @@ impl<N: Node, T: Ruled + Compacting<N, Arena<N, <T as Ruled>::Rule>>> Dictionary
         requires pass { IsIdle (⟦<Dictionary<N, T> as Shelf>⟧.site self.now) pass.old }
         ensures pass { IsIdle (⟦<Dictionary<N, T> as Shelf>⟧.site self.now) pass.new }
         ensures caller { pass.new.caller ≡ pass.old.caller }
-        ensures left { HasLeft T.technique pass.old.caller (seen_of pass.old) (seen_of pass.new) }
-        ensures frees { Counts pass.old.caller (seen_of pass.old) (seen_of pass.new) result }
-        ensures tight { Undisturbed pass.old.caller (seen_of pass.old) (seen_of pass.new) →
-            Tight N.layout (blank_of (sort_of N.layout N.ranged)) (seen_of pass.new) }
+        ensures left { HasLeftBy T.technique pass.old pass.new }
+        ensures frees { HasFreed pass.old pass.new result }
+        ensures tight { WasUndisturbed pass.old pass.new →
+            IsTightIn (⟦<Dictionary<N, T> as Shelf>⟧.site self.now) pass.new }
     {
         T::compact(rt, &self.arena, pass, gate)
     }
