@@ -4,6 +4,7 @@ ghost use Rattle.std.specs.Prelude.{◌<◌};
 
 mod ends;
 mod meetings;
+mod merging;
 mod pairings;
 mod texts;
 mod versions;

@@ -1,11 +1,12 @@
 //! The calls of a dictionary by lock coupling.
-ghost use Rattle.std.specs.Prelude.{◌≡◌};
+ghost use Rattle.std.specs.Prelude.{◌≡◌, ◌≢◌, None};
 ghost use Rattle.ks_history.specs.declared.Op.TheVariants.{Add, Del, Get, Put, Swap};
 ghost use Rattle.ks_history.specs.Map.{told};
 ghost use Rattle.ks_history.specs.Done.{coupling};
 ghost use Rattle.ks_shape.specs.Answers.{number_in, reply_in};
-ghost use Rattle.ks_arena.specs.Of.{IsEmptyPassOf};
+ghost use Rattle.ks_arena.specs.Of.{IsEmptyPassOf, WasAlone};
 ghost use Rattle.ks_shape.specs.Of.{DoneOf};
+ghost use Rattle.ks_tidy.specs.Of.{IsTidyOf};
 
 use crate::descent::find;
 use ks_arena::{Arena, Pass};
@@ -13,7 +14,8 @@ use ks_flow::Tree;
 use ks_gate::{Gate, Point};
 use ks_node::Unlinked;
 use ks_put::{pair_add, pair_put};
-use ks_shape::{Full, Numbered, del_here, get_here, swap_here};
+use ks_shape::{Full, Numbered, get_here, swap_here};
+use ks_tidy::{Tidied, come_down, del_on};
 use std::sync::Wait;
 
 /// Answers the value at a place, and the number of the call. It holds two nodes at most.
@@ -99,7 +101,8 @@ pub fn swap<N: Unlinked, R: Wait, G: Gate>(
     swap_here(arena, pass, gate, place, old, new, held)
 }
 
-/// Deletes what stands at a place; answers the value that stood there, and the number of the call. It merges no nodes.
+/// Deletes what stands at a place; answers the value that stood there, and the number of the call. On its way it merges low
+/// branches, and, if it removed a pair, at its end the node while that is low. It holds three nodes at most.
 pub fn del<N: Unlinked, R: Wait, G: Gate>(
     rt: &R,
     arena: &Arena<N, Tree>,
@@ -111,7 +114,9 @@ pub fn del<N: Unlinked, R: Wait, G: Gate>(
     ensures pass { IsEmptyPassOf arena.now pass.new }
     ensures caller { pass.new.caller ≡ pass.old.caller }
     ensures done { DoneOf arena.now coupling (Del place) pass.old pass.new (told result.found) result.number }
+    ensures tidy { result.found ≢ None → WasAlone pass.old pass.new → IsTidyOf arena.now pass.new place }
 {
-    let held = find(rt, arena, pass, gate, place);
-    del_here(arena, pass, gate, place, held)
+    gate.at(pass.caller(), Point::Begin);
+    let Tidied { path, freed: _ } = come_down(rt, arena, pass, gate, place);
+    del_on(rt, arena, pass, gate, place, path)
 }

@@ -9,7 +9,9 @@
 
 mod calls;
 mod descent;
+mod merging;
 mod technique;
 
 pub use calls::{add, del, get, put, swap};
+pub use merging::compact;
 pub use technique::Coupling;

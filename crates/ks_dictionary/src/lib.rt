@@ -13,6 +13,7 @@ mod closed;
 mod dictionary;
 mod fit;
 mod job;
+mod merging;
 mod serving;
 mod workers;
 

@@ -1,11 +1,12 @@
 //! The calls of a dictionary by giving up.
-ghost use Rattle.std.specs.Prelude.{◌≡◌};
+ghost use Rattle.std.specs.Prelude.{◌≡◌, ◌≢◌, None};
 ghost use Rattle.ks_history.specs.declared.Op.TheVariants.{Add, Del, Get, Put, Swap};
 ghost use Rattle.ks_history.specs.Map.{told};
 ghost use Rattle.ks_history.specs.Done.{give_up};
 ghost use Rattle.ks_shape.specs.Answers.{number_in, reply_in};
-ghost use Rattle.ks_arena.specs.Of.{IsEmptyPassOf};
+ghost use Rattle.ks_arena.specs.Of.{IsEmptyPassOf, WasAlone};
 ghost use Rattle.ks_shape.specs.Of.{DoneOf};
+ghost use Rattle.ks_tidy.specs.Of.{IsTidyOf};
 ghost use Rattle.ks_giveup.specs.Goes.{GoesTowards};
 
 use crate::descent::{find, find_room};
@@ -14,7 +15,8 @@ use ks_flow::Tree;
 use ks_gate::Gate;
 use ks_node::{Ranged, Unlinked};
 use ks_put::{pair_add, pair_put};
-use ks_shape::{Full, Numbered, add_here, del_here, get_here, put_here, swap_here};
+use ks_shape::{Full, Numbered, add_here, get_here, put_here, swap_here};
+use ks_tidy::del_alone;
 use std::sync::Wait;
 
 /// Answers the value at a place, and the number of the call. It holds one node at a time: the root, or the one at which the
@@ -109,7 +111,8 @@ pub fn swap<N: Ranged + Unlinked, R: Wait, G: Gate>(
     swap_here(arena, pass, gate, place, old, new, held)
 }
 
-/// Deletes what stands at a place; answers the value that stood there, and the number of the call. It merges no nodes.
+/// Deletes what stands at a place; answers the value that stood there, and the number of the call. If it removed a pair and
+/// left the node low, it gives the node and goes by lock coupling from the root, to merge on the way and at that node.
 pub fn del<N: Ranged + Unlinked, R: Wait, G: Gate>(
     rt: &R,
     arena: &Arena<N, Tree>,
@@ -122,7 +125,8 @@ pub fn del<N: Ranged + Unlinked, R: Wait, G: Gate>(
     ensures caller { pass.new.caller ≡ pass.old.caller }
     ensures done { DoneOf arena.now give_up (Del place) pass.old pass.new (told result.found) result.number }
     ensures goes { GoesTowards place pass.old pass.new }
+    ensures tidy { result.found ≢ None → WasAlone pass.old pass.new → IsTidyOf arena.now pass.new place }
 {
     let held = find(rt, arena, pass, gate, place);
-    del_here(arena, pass, gate, place, held)
+    del_alone(rt, arena, pass, gate, place, held)
 }

@@ -12,9 +12,14 @@ use Rattle.ks_arena.specs.Clauses.{seen_of}
 use Rattle.ks_put.specs.declared.halves.Part.{Part}
 use Rattle.ks_put.specs.declared.path.Path.{Path}
 use Rattle.ks_put.specs.declared.room.Room.{Room}
-use Rattle.ks_put.specs.OnPath.{IsAbove, IsUnder, IsOnPath}
+use Rattle.ks_put.specs.OnPath.{GaveIf, IsAbove, IsUnder, IsOnPath}
 use Rattle.ks_put.specs.Parts.{IsPart, DidPart}
 use Rattle.ks_put.specs.Room.{CameTo}
+
+module _ {N D : Type 0} where
+  -- the pass has seen its caller give the one node, if there was one, and beside it what others did; else nothing
+  abbrev pub AddsGive : Option (Hand N) → Pass N D → Pass N D → Type 0
+  AddsGive given p q = GaveIf p.caller given (seen_of p) (seen_of q)
 
 module _ {N D P : Type 0} {n : NodeGhosts N P} {q : PlacingGhosts P} {d : DisciplineGhosts D} where
   -- caller c, which searches for the place, holds the node of the path, whose inset has the place, and its parent unless it

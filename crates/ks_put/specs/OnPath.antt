@@ -4,6 +4,8 @@ use Rattle.std.specs.Prelude.{Option, Some, None}
 use Rattle.ks_keysets.specs.Record.{LeadsTo}
 use Rattle.ks_keysets.specs.Keyset.{InInset}
 use Rattle.ks_history.specs.declared.Event.{Event}
+use Rattle.ks_history.specs.declared.Event.TheVariants.{Give}
+use Rattle.ks_history.specs.Passes.{GrowsWith}
 use Rattle.ks_history.specs.Trace.{hand, graph_after}
 use Rattle.ks_node.specs.Body.{Body}
 use Rattle.ks_node.specs.Edges.{record_of}
@@ -17,6 +19,11 @@ use Rattle.ks_put.specs.declared.path.Path.{Path}
 abbrev pub numbers : {N : Type 0} → Option (Hand N) → List ℕ
 numbers None = []
 numbers (Some y) = y.node ∷ []
+
+-- c gave the one node, if there was one, and did nothing else
+abbrev pub GaveIf : {N : Type 0} → ℕ → Option (Hand N) → List Event → List Event → Type 0
+GaveIf c None h k = k ≡ h
+GaveIf c (Some y) h k = GrowsWith c (Give c y.node) h k
 
 module _ {N : Type 0} (sort : Sort) (shows : N → Body) where
   -- y is live, and leads to node i where the place is carried

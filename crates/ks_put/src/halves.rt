@@ -1,9 +1,10 @@
 //! What is kept of a node that was split: the half that holds the place, and the node that leads to it.
 ghost use Rattle.std.specs.Prelude.{◌≡◌, ◌<◌, ◌≤◌, ◌∷◌, [], false};
+ghost use Rattle.ks_history.specs.declared.Event.TheVariants.{Give};
 ghost use Rattle.ks_node.specs.Room.{is_full};
 ghost use Rattle.ks_arena.specs.Clauses.{hand_of};
 ghost use Rattle.ks_put.specs.OnPath.{numbers};
-ghost use Rattle.ks_arena.specs.Of.{IsInside, IsPassOf, IsCurrent, IsLiveAndCurrent};
+ghost use Rattle.ks_arena.specs.Of.{Adds, IsInside, IsPassOf, IsCurrent, IsLiveAndCurrent};
 ghost use Rattle.ks_shape.specs.Of.{IsStretch};
 ghost use Rattle.ks_put.specs.Of.{IsOnPathOf, IsUnderParent, IsPartOf};
 
@@ -67,8 +68,8 @@ pub(crate) fn keep_half<N: Unlinked, G: Gate>(
     }
 }
 
-/// Gives the right half of a node that leads to it itself; the path goes to the node as before.
-pub(crate) fn keep_left<N: Unlinked, G: Gate>(
+/// Gives the node in hand that is right of a path, as the right half of its node, and keeps the path.
+pub fn keep_left<N: Unlinked, G: Gate>(
     arena: &Arena<N, Tree>,
     pass: &mut Pass<N, Tree>,
     gate: &G,
@@ -86,6 +87,8 @@ pub(crate) fn keep_left<N: Unlinked, G: Gate>(
     ensures caller { pass.new.caller ≡ pass.old.caller }
     ensures path { IsOnPathOf arena.now pass.old.caller place pass.new result }
     ensures stretch { IsStretch pass.old pass.new }
+    ensures same { result ≡ path }
+    ensures gave { Adds (Give pass.old.caller right.node) pass.old pass.new }
 {
     search_law();
     let number = right.node;

@@ -6,9 +6,9 @@ ghost use Rattle.ks_put.specs.Laws.{Laws};
 use ks_flow::laws::walks_law;
 use ks_flow::{Discipline, Tree};
 
-/// A sound trace has its turns in order, a good graph and the facts of trees; and what a caller holds keeps its inset while
-/// others act.
-pub(crate) fn search_law()
+/// A sound trace has its turns in order, a good graph and the facts of trees; and what a caller holds keeps its inset and
+/// its keyset while others act.
+pub fn search_law()
     ensures { (sort : Sort) (slots : ℕ) → Laws sort slots }
 {
     Tree::laws();

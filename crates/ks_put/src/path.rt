@@ -1,14 +1,15 @@
 //! A search that keeps the parent of its node.
-ghost use Rattle.std.specs.Prelude.{◌≡◌, ◌∷◌};
+ghost use Rattle.std.specs.Prelude.{◌≡◌, ◌∷◌, None, Some};
 ghost use Rattle.std.specs.Option.{ForSome};
+ghost use Rattle.ks_history.specs.declared.Event.TheVariants.{Take};
 ghost use Rattle.ks_history.specs.Done.{coupling};
 ghost use Rattle.ks_node.specs.declared.start.Next.TheVariants.{Go};
 ghost use Rattle.ks_node.specs.Body.{next_at};
 ghost use Rattle.ks_arena.specs.Clauses.{hand_of};
 ghost use Rattle.ks_put.specs.OnPath.{numbers};
-ghost use Rattle.ks_arena.specs.Of.{IsInside, IsPassOf, IsEmptyPassOf, IsCurrent, IsLiveAndCurrent};
+ghost use Rattle.ks_arena.specs.Of.{Adds, IsInside, IsPassOf, IsEmptyPassOf, IsCurrent, IsLiveAndCurrent};
 ghost use Rattle.ks_shape.specs.Of.{IsStretch, IsOnWayOf, StaysUnderway};
-ghost use Rattle.ks_put.specs.Of.{IsOnPathOf};
+ghost use Rattle.ks_put.specs.Of.{AddsGive, IsOnPathOf};
 
 use crate::laws::search_law;
 use ks_arena::laws::target_law;
@@ -28,7 +29,7 @@ pub struct Path<N> {
 }
 
 /// Takes the root. It does not tell the gate that a call begins.
-pub(crate) fn enter<N: Unlinked, R: Wait, G: Gate>(
+pub fn enter<N: Unlinked, R: Wait, G: Gate>(
     rt: &R,
     arena: &Arena<N, Tree>,
     pass: &mut Pass<N, Tree>,
@@ -40,13 +41,15 @@ pub(crate) fn enter<N: Unlinked, R: Wait, G: Gate>(
     ensures caller { pass.new.caller ≡ pass.old.caller }
     ensures path { IsOnPathOf arena.now pass.old.caller place pass.new result }
     ensures stretch { IsStretch pass.old pass.new }
+    ensures root { (result.parent ≡ None) × (result.node.node ≡ 0) }
+    ensures took { Adds (Take pass.old.caller 0) pass.old pass.new }
 {
     let node = take_root(rt, arena, pass, gate, place);
     Path { parent: None, node }
 }
 
 /// Gives the other node in hand, if there is one, and keeps the node.
-pub(crate) fn keep_alone<N: Unlinked, G: Gate>(
+pub fn keep_alone<N: Unlinked, G: Gate>(
     arena: &Arena<N, Tree>,
     pass: &mut Pass<N, Tree>,
     gate: &G,
@@ -65,6 +68,7 @@ pub(crate) fn keep_alone<N: Unlinked, G: Gate>(
     ensures way { IsOnWayOf arena.now pass.old.caller place pass.new result }
     ensures under { StaysUnderway coupling pass.old pass.new }
     ensures stretch { IsStretch pass.old pass.new }
+    ensures gave { AddsGive other pass.old pass.new }
 {
     search_law();
     if let Some(other) = other {
@@ -91,6 +95,7 @@ pub fn let_go<N: Unlinked, G: Gate>(
     ensures way { IsOnWayOf arena.now pass.old.caller place pass.new result }
     ensures under { StaysUnderway coupling pass.old pass.new }
     ensures stretch { IsStretch pass.old pass.new }
+    ensures gave { AddsGive path.parent pass.old pass.new }
 {
     let Path { parent, node } = path;
     keep_alone(arena, pass, gate, place, parent, node)
@@ -136,6 +141,9 @@ pub fn step_down<N: Unlinked, R: Wait, G: Gate>(
     ensures path { IsOnPathOf arena.now pass.old.caller place pass.new result }
     ensures under { StaysUnderway coupling pass.old pass.new }
     ensures stretch { IsStretch pass.old pass.new }
+    ensures parent { result.parent ≡ Some held }
+    ensures child { result.node.node ≡ child }
+    ensures took { Adds (Take pass.old.caller child) pass.old pass.new }
 {
     search_law();
     target_law::<Tree>();

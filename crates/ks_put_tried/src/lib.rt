@@ -1,6 +1,8 @@
-//! Tests of puts by pairs.
+//! Tests of puts and dels by pairs.
 #![tactic(auto)]
 
+#[cfg(test)]
+mod dels;
 #[cfg(test)]
 mod puts;
 #[cfg(test)]

@@ -1,3 +1,4 @@
+use crate::dels::{del_each, del_each_ranged, put_each_from};
 use crate::puts::{add_each, one_caller, put_each};
 use ks_bplus::BNode;
 use ks_coupling::{add, get, put, swap};
@@ -144,5 +145,60 @@ fn what_is_put_by_giving_up_is_got(rt: HostRuntime) -> Result<(), Fail> {
     let again = giveup::put(&rt, &arena, &mut pass, &NoGate, 3, 99);
     assert!(rt; again == Ok(told(33, Some(3))));
     assert!(rt; giveup::get(&rt, &arena, &mut pass, &NoGate, 3) == told(34, Some(99)));
+    Ok(())
+}
+
+#[test]
+fn a_list_of_four_nodes_is_used_again(rt: HostRuntime) -> Result<(), Fail> {
+    let (arena, mut pass) = one_caller::<ListNode>(rt.alloc(), 4)?;
+    assert!(rt; put_each(&rt, &arena, &mut pass, 0, 20, 1));
+    assert!(rt; del_each(&rt, &arena, &mut pass, 20, 0, 20, 1));
+    assert!(rt; put_each_from(&rt, &arena, &mut pass, 40, 100, 20, 1));
+    assert!(rt; get(&rt, &arena, &mut pass, &NoGate, 119) == told(60, Some(119)));
+    Ok(())
+}
+
+#[test]
+fn a_tree_of_four_nodes_is_used_again(rt: HostRuntime) -> Result<(), Fail> {
+    let (arena, mut pass) = one_caller::<BNode>(rt.alloc(), 4)?;
+    assert!(rt; put_each(&rt, &arena, &mut pass, 0, 32, 1));
+    assert!(rt; del_each(&rt, &arena, &mut pass, 32, 0, 32, 1));
+    assert!(rt; put_each_from(&rt, &arena, &mut pass, 64, 100, 32, 1));
+    Ok(())
+}
+
+#[test]
+fn a_tree_with_ranges_is_used_again(rt: HostRuntime) -> Result<(), Fail> {
+    let (arena, mut pass) = one_caller::<WithRange<BNode>>(rt.alloc(), 4)?;
+    assert!(rt; put_each(&rt, &arena, &mut pass, 0, 32, 1));
+    assert!(rt; del_each_ranged(&rt, &arena, &mut pass, 32, 0, 32, 1));
+    assert!(rt; put_each_from(&rt, &arena, &mut pass, 64, 100, 32, 1));
+    Ok(())
+}
+
+#[test]
+fn nine_nodes_of_one_slice_are_used_again(rt: HostRuntime) -> Result<(), Fail> {
+    let (arena, mut pass) = one_caller::<HNode>(rt.alloc(), 9)?;
+    assert!(rt; put_each(&rt, &arena, &mut pass, 1, 9, 1));
+    assert!(rt; del_each(&rt, &arena, &mut pass, 9, 1, 9, 1));
+    assert!(rt; put_each_from(&rt, &arena, &mut pass, 18, 1, 9, 1));
+    Ok(())
+}
+
+#[test]
+fn a_tree_of_many_nodes_shrinks_and_grows_again(rt: HostRuntime) -> Result<(), Fail> {
+    let (arena, mut pass) = one_caller::<BNode>(rt.alloc(), 300)?;
+    assert!(rt; put_each(&rt, &arena, &mut pass, 0, 2000, STRIDE));
+    assert!(rt; del_each(&rt, &arena, &mut pass, 2000, 0, 2000, STRIDE));
+    assert!(rt; put_each_from(&rt, &arena, &mut pass, 4000, 0, 2000, STRIDE));
+    Ok(())
+}
+
+#[test]
+fn a_tree_with_ranges_shrinks_and_grows_again(rt: HostRuntime) -> Result<(), Fail> {
+    let (arena, mut pass) = one_caller::<WithRange<BNode>>(rt.alloc(), 300)?;
+    assert!(rt; put_each(&rt, &arena, &mut pass, 0, 2000, STRIDE));
+    assert!(rt; del_each_ranged(&rt, &arena, &mut pass, 2000, 0, 2000, STRIDE));
+    assert!(rt; put_each_from(&rt, &arena, &mut pass, 4000, 0, 2000, STRIDE));
     Ok(())
 }

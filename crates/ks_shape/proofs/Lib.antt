@@ -2,3 +2,4 @@ pub mod Standing
 pub mod Links
 pub mod Concludes
 pub mod Claiming
+pub mod Places

@@ -9,3 +9,4 @@ pub mod Stretches
 pub mod Claims
 pub mod Makes
 pub mod Of
+pub mod Places

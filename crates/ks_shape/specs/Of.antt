@@ -29,6 +29,7 @@ use Rattle.ks_shape.specs.Claims.{DidClaimOne, DidClaimTwo}
 use Rattle.ks_shape.specs.InHand.{IsLive, IsFree, BecomesLive, BecomesFree}
 use Rattle.ks_shape.specs.Makes.{MakesNone}
 use Rattle.ks_shape.specs.OnWay.{IsOnWay}
+use Rattle.ks_shape.specs.Places.{HasPlacesOf}
 use Rattle.ks_shape.specs.SearchEnd.{IsEnd, HasRoom, IsCrowded}
 use Rattle.ks_shape.specs.Stretches.{Stretches}
 
@@ -68,6 +69,10 @@ module _ {N D : Type 0} where
   -- others, and the caller's events meanwhile, leave what this says of nodes that they do not name
   abbrev pub KeepsAside : (ℕ → (ℕ → NodeState) → (ℕ → NodeState) → Type 0) → Pass N D → Pass N D → Type 0
   KeepsAside Same p q = KeepsBeside Same p.caller (seen_of p) (seen_of q)
+
+  -- at q node j has each place that node i had at p, in its inset and in its keyset
+  abbrev pub HasPlaces : ℕ → ℕ → Pass N D → Pass N D → Type 0
+  HasPlaces i j p q = HasPlacesOf (graph_after (seen_of p)) (graph_after (seen_of q)) i j
 
 module _ {N D P : Type 0} {n : NodeGhosts N P} {q : PlacingGhosts P} {d : DisciplineGhosts D} where
   -- the pass holds the node, which is live, or is not, and whose body is current

@@ -10,11 +10,11 @@ ghost use Rattle.ks_node.specs.Asks.{CanSplitAt};
 ghost use Rattle.ks_bodies.specs.Shapes as shapes;
 ghost use Rattle.ks_arena.specs.Clauses.{hand_of, mine_of};
 ghost use Rattle.ks_arena.specs.Of.{IsInside, Adds, KeepsBesides, IsPassOf, StayCurrentBesides};
-ghost use Rattle.ks_shape.specs.Of.{IsLiveInHand, IsFreeInHand, HasBecome, HasBecomeFree, splits_own, splits_under, grows_to, absorbs_own, absorbs_under, collapses_to};
+ghost use Rattle.ks_shape.specs.Of.{IsLiveInHand, IsFreeInHand, HasBecome, HasBecomeFree, splits_own, splits_under, grows_to, HasPlaces, absorbs_own, absorbs_under, collapses_to};
 
 use ks_arena::laws::sound_law;
 use ks_arena::{Arena, Held, Pass};
-use ks_bodies::{tree_asks_law, tree_parts_law, tree_steps_law};
+use ks_bodies::{tree_asks_law, tree_insets_law, tree_parts_law, tree_steps_law};
 use ks_flow::Tree;
 use ks_node::{Unlinked, node_law, unlinked_law};
 
@@ -176,10 +176,12 @@ pub fn absorb_own<N: Unlinked>(
     ensures right { HasBecomeFree arena.now pass.new right.old right.new }
     ensures kept { KeepsBesides (absorbs_own arena.now node.old right.old) pass.old pass.new }
     ensures still { StayCurrentBesides arena.now (absorbs_own arena.now node.old right.old) pass.old pass.new }
+    ensures places { HasPlaces node.old.node node.old.node pass.old pass.new }
 {
     sound_law::<Tree>();
     tree_asks_law();
     tree_steps_law();
+    tree_insets_law();
     unlinked_law::<N>();
     node_law(&node.body);
     node_law(&right.body);
@@ -216,10 +218,13 @@ pub fn absorb_under<N: Unlinked>(
     ensures right { HasBecomeFree arena.now pass.new right.old right.new }
     ensures kept { KeepsBesides (absorbs_under arena.now parent.old node.old right.old) pass.old pass.new }
     ensures still { StayCurrentBesides arena.now (absorbs_under arena.now parent.old node.old right.old) pass.old pass.new }
+    ensures places { HasPlaces node.old.node node.old.node pass.old pass.new }
+    ensures leads { (p : ℕ) → IsInside pass.old node.old.node p → LeadsTo (record_of (forgot right.old.node (N.body parent.old.body))) p node.old.node }
 {
     sound_law::<Tree>();
     tree_asks_law();
     tree_steps_law();
+    tree_insets_law();
     unlinked_law::<N>();
     node_law(&parent.body);
     node_law(&node.body);
@@ -253,10 +258,12 @@ pub fn collapse<N: Unlinked>(
     ensures child { HasBecomeFree arena.now pass.new child.old child.new }
     ensures kept { KeepsBesides (collapses_to arena.now node.old child.old) pass.old pass.new }
     ensures still { StayCurrentBesides arena.now (collapses_to arena.now node.old child.old) pass.old pass.new }
+    ensures places { HasPlaces child.old.node node.old.node pass.old pass.new }
 {
     sound_law::<Tree>();
     tree_asks_law();
     tree_steps_law();
+    tree_insets_law();
     unlinked_law::<N>();
     node_law(&node.body);
     node_law(&child.body);

@@ -1,9 +1,32 @@
-use Rattle.std.proofs.Common.{◌≤◌, ℕ, length, ap, arith}
+use Rattle.std.proofs.Common.{◌≡◌, ◌≤◌, ℕ, length, ap, arith, sym, subst}
+use Rattle.ks_history.specs.declared.Op.{Op}
 use Rattle.ks_history.specs.declared.Op.TheVariants.{Del}
+use Rattle.ks_history.specs.Alone.{ActsAlone, alone_then}
+use Rattle.ks_history.specs.Done.{Done, give_up}
+use Rattle.ks_history.specs.Map.{told}
+use Rattle.ks_history.specs.Trace.{◌⊑◌}
+use Rattle.ks_history.specs.Underway.{Underway}
 use Rattle.ks_arena.specs.Clauses.{seen_of}
 use Rattle.ks_giveup.proofs.Way.{ends_goes}
 use Rattle.ks_giveup.proofs.calls.del.Goals as goal
 
+pub del_alone-requires-clause-way : goal.del_alone-requires-clause-way
+del_alone-requires-clause-way g c = let x = c.find-held.ensures.ends in record { alone = x.alone; live = x.live; matches = x.matches; inside = x.inside }
+
+pub del_alone-requires-clause-ends : goal.del_alone-requires-clause-ends
+del_alone-requires-clause-ends g c = c.find-held.ensures.ends.here
+
+pub returns-clause-done : goal.returns-clause-done
+returns-clause-done g c = let s = seen_of c.args.pass.now in let h = seen_of c.find-held.new.pass in let k = seen_of c.del_alone.new.pass in let op : Op = Del c.args.place in let e = c.find-held.ensures in let x = c.del_alone.result in
+    let under : Underway give_up c.find-held.new.pass.caller op s h = subst (λ (z : ℕ). Underway give_up z op s h) (sym e.caller) (e.under op) in
+    subst (λ (z : ℕ). Done g.N.Node.layout give_up c.args.arena.now.nodes z op s k (told x.found) x.number) e.caller (c.del_alone.ensures.done give_up s under)
+
+pub returns-clause-tidy : goal.returns-clause-tidy
+returns-clause-tidy g c = λ removed alone. let me : ℕ = c.args.pass.now.caller in let s = seen_of c.args.pass.now in let h = seen_of c.find-held.new.pass in let k = seen_of c.del_alone.new.pass in
+    let under = c.find-held.ensures.under (Del c.args.place) in let up : s ⊑ h = record { rest = under.rest; is = under.is } in
+    let then : ActsAlone me h k = alone_then me s h k up c.del_alone.ensures.begins alone in
+    c.del_alone.ensures.tidy removed (subst (λ (z : ℕ). ActsAlone z h k) (sym c.find-held.ensures.caller) then)
+
 pub returns-clause-goes : goal.returns-clause-goes
 returns-clause-goes g c = let e = c.find-held.ensures in
-    ends_goes c.args.pass.now.caller c.find-held.new.pass.caller c.args.place (Del c.args.place) (seen_of c.args.pass.now) (seen_of c.find-held.new.pass) (seen_of c.del_here.new.pass) e.caller (omega (arith, ap length e.ends.alone)) e.goes c.del_here.ensures.done
+    ends_goes c.args.pass.now.caller c.find-held.new.pass.caller c.args.place (Del c.args.place) (seen_of c.args.pass.now) (seen_of c.find-held.new.pass) (seen_of c.del_alone.new.pass) e.caller (omega (arith, ap length e.ends.alone)) e.goes c.del_alone.ensures.done

@@ -1,4 +1,9 @@
-use Rattle.std.proofs.Common.{◌≡◌, ℕ, List, [], ◌∷◌, arith, sym, ◌∙◌, subst}
+use Rattle.ks_keysets.specs.declared.Change.{Change}
+use Rattle.ks_bodies.specs.Shapes as shapes
+use Rattle.ks_flow.specs.Changes.{graph_with}
+use Rattle.ks_arena.specs.declared.held.Held.{Held as Hand}
+use Rattle.ks_shape.specs.Places.{HasPlacesOf}
+use Rattle.std.proofs.Common.{◌≡◌, ℕ, List, [], ◌∷◌, ◌++◌, ap, arith, refl, sym, ◌∙◌, subst}
 use Rattle.ks_keysets.specs.declared.NodeState.{NodeState}
 use Rattle.ks_keysets.specs.declared.NewState.TheVariants.{BecomesFree}
 use Rattle.ks_keysets.specs.declared.Frame.{Frame}
@@ -12,7 +17,8 @@ use Rattle.ks_flow.specs.Discipline.{BeginsTree, TreeStep}
 use Rattle.ks_bodies.specs.Shapes.{CanCollapse}
 use Rattle.ks_bodies.specs.Stands.{IsPlain}
 use Rattle.ks_arena.specs.Sound.{sort_of, blank_of, Sound}
-use Rattle.ks_arena.specs.Clauses.{seen_of, hand_of}
+use Rattle.ks_arena.specs.Clauses.{seen_of, hand_of, change_of}
+use Rattle.ks_shape.proofs.Places.{child_places}
 use Rattle.ks_shape.proofs.Standing.{plain, stands, stays, changed_to}
 use Rattle.ks_shape.proofs.tree.collapse.Given.{Over}
 use Rattle.ks_shape.proofs.tree.collapse.Goals as goal
@@ -33,3 +39,15 @@ shape-requires-clause-may g c κs within = λ h grows sound. let sort = sort_of 
     let b : Body = (g.N.Node.body c.args.node.now.body) in let q : Body = (g.N.Node.body c.args.child.now.body) in let left = c.collapse.ensures.parent in
     let step = c.tree_steps_law.ensures.collapse g₁ f₁ c.args.node.now.node c.args.child.now.node b q good facts (collapses g at h grows so) (subst IsPlain left (plain (g.N.Node.body c.collapse.new.self) c.node_law-3.ensures.sound c.node_law-3.ensures.framed (no_link c.collapse.new.self))) in
     subst (TreeStep g₁ f₁) (λ k. sym (changed_to sort g.N.Node.body (record { node = c.args.node.now.node; body = c.collapse.new.self; live = c.args.node.now.live }) (collapsed b q) c.requires.node.live left) k ∷ record { node = c.args.child.now.node; state = BecomesFree } ∷ []) step
+
+pub returns-clause-places : goal.returns-clause-places
+returns-clause-places g c = let sort = sort_of g.N.Node.layout g.N.Node.ranged in let shows = g.N.Node.body in let n : ℕ = c.args.arena.now.table.shared.table_id.slots in let me : ℕ = c.args.pass.now.caller in let seen = seen_of c.args.pass.now in
+    let at = (goal.at.returns-clause-places g c).After-node_law-2 in let shaped = c.shape.ensures.shaped in let h : List Event = shaped.rest ++ seen in let so = (subst (Sound sort BeginsTree TreeStep n) shaped.is c.shape.ensures.pass.sound).0 in let grows : GrowsByOthers me seen h = record { rest = shaped.rest; is = refl; others = shaped.others } in
+    let good = good_now (c.sound_law.ensures.good sort n h so) in let facts = c.sound_law.ensures.facts sort n h so in let g₁ : ℕ → NodeState = graph_after h in let f₁ : ℕ → Frame = frame_after (blank_of sort) h in let no_link = c.unlinked_law.ensures.no_link in
+    let i : ℕ = c.args.node.now.node in let j : ℕ = c.args.child.now.node in let b : Body = shows c.args.node.now.body in let q : Body = shows c.args.child.now.body in let left = c.collapse.ensures.parent in
+    let mine = (stays sort n me seen h (λ k sound. c.sound_law.ensures.lawful sort n k sound) grows c.requires.pass.sound so j c.requires.child.has).turn in
+    let x : Hand g.row.N.Denot = record { node = i; body = c.collapse.new.self; live = c.args.node.now.live } in
+    let changes : (change_of shows x ∷ record { node = j; state = BecomesFree } ∷ []) ≡ shapes.collapse i j b q = λ k. changed_to sort shows x (collapsed b q) c.requires.node.live left k ∷ record { node = j; state = BecomesFree } ∷ [] in
+    let same : graph_after (seen_of c.shape.new.pass) ≡ graph_with (shapes.collapse i j b q) g₁ = ap graph_after shaped.is ∙ ap (λ (xs : List Change). graph_with xs g₁) changes in
+    let y = c.tree_insets_law.ensures.collapse g₁ f₁ i j b q good facts (collapses g at h grows so) (subst IsPlain left (plain (shows c.collapse.new.self) c.node_law-3.ensures.sound c.node_law-3.ensures.framed (no_link c.collapse.new.self))) in
+    subst (λ (k : ℕ → NodeState). HasPlacesOf (graph_after seen) k j i) (sym same) (child_places (graph_after seen) g₁ (graph_with (shapes.collapse i j b q) g₁) i j (c.sound_law.ensures.beside sort n me j seen h grows mine so) (c.sound_law.ensures.keyset sort n me j seen h grows mine so) y)

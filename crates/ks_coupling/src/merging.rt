@@ -1,0 +1,42 @@
+//! Compaction by lock coupling.
+ghost use Rattle.std.specs.Prelude.{◌≡◌};
+ghost use Rattle.ks_history.specs.Done.{coupling};
+ghost use Rattle.ks_arena.specs.Of.{IsEmptyPassOf};
+ghost use Rattle.ks_tidy.specs.Compacts.{HasFreed, HasLeftBy, IsTightOf, WasUndisturbed};
+
+use crate::technique::Coupling;
+use ks_arena::{Arena, Pass};
+use ks_flow::Tree;
+use ks_gate::{Gate, Point};
+use ks_node::Unlinked;
+use ks_tidy::{Compacting, pair_compact};
+use std::sync::Wait;
+
+/// Merges what fits, node after node; answers how many nodes it made free, modulo 2^32. It holds three nodes at most.
+pub fn compact<N: Unlinked, R: Wait, G: Gate>(
+    rt: &R,
+    arena: &Arena<N, Tree>,
+    pass: &mut Pass<N, Tree>,
+    gate: &G,
+) -> u32
+    requires pass { IsEmptyPassOf arena.now pass.old }
+    ensures pass { IsEmptyPassOf arena.now pass.new }
+    ensures caller { pass.new.caller ≡ pass.old.caller }
+    ensures left { HasLeftBy coupling pass.old pass.new }
+    ensures frees { HasFreed pass.old pass.new result }
+    ensures tight { WasUndisturbed pass.old pass.new → IsTightOf arena.now pass.new }
+{
+    gate.at(pass.caller(), Point::Begin);
+    pair_compact(rt, arena, pass, gate)
+}
+
+impl<N: Unlinked> Compacting<N, Arena<N, Tree>> for Coupling {
+    fn compact<R: Wait, G: Gate>(
+        rt: &R,
+        arena: &Arena<N, Tree>,
+        pass: &mut Pass<N, Tree>,
+        gate: &G,
+    ) -> u32 {
+        compact(rt, arena, pass, gate)
+    }
+}

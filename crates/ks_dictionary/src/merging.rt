@@ -1,0 +1,35 @@
+//! Merging all over a dictionary.
+ghost use Rattle.std.specs.Prelude.{◌≡◌};
+ghost use Rattle.ks_shape.specs.Idle.{IsIdle};
+ghost use Rattle.ks_tidy.specs.Compacts.{HasFreed, HasLeftBy, IsTightIn, WasUndisturbed};
+
+use crate::dictionary::Dictionary;
+use ks_arena::{Arena, Pass};
+use ks_gate::Gate;
+use ks_node::Node;
+use ks_shape::{Ruled, Shelf};
+use ks_tidy::Compacting;
+use std::sync::Wait;
+
+impl<N: Node, T: Ruled + Compacting<N, Arena<N, <T as Ruled>::Rule>>> Dictionary<N, T> {
+    /// Merges nodes that fit into one, all over the dictionary, while others use it; answers how many nodes it made free,
+    /// modulo 2^32. No key and no value changes: it is no call of the history, and claims no node. If no other caller did
+    /// anything meanwhile and it made none free, no node fits with its right neighbour, and the root is no branch over one
+    /// child; so a caller that is alone repeats it until it answers 0.
+    pub fn compact<R: Wait, G: Gate>(
+        &self,
+        rt: &R,
+        pass: &mut Pass<N, T::Rule>,
+        gate: &G,
+    ) -> u32
+        requires pass { IsIdle (⟦<Dictionary<N, T> as Shelf>⟧.site self.now) pass.old }
+        ensures pass { IsIdle (⟦<Dictionary<N, T> as Shelf>⟧.site self.now) pass.new }
+        ensures caller { pass.new.caller ≡ pass.old.caller }
+        ensures left { HasLeftBy T.technique pass.old pass.new }
+        ensures frees { HasFreed pass.old pass.new result }
+        ensures tight { WasUndisturbed pass.old pass.new →
+            IsTightIn (⟦<Dictionary<N, T> as Shelf>⟧.site self.now) pass.new }
+    {
+        T::compact(rt, &self.arena, pass, gate)
+    }
+}

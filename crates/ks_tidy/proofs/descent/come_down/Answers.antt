@@ -1,0 +1,48 @@
+use Rattle.std.proofs.Common.{◌≡◌, ◌∙◌, ◌+◌, ◌%◌, ◌^◌, ℕ, arith, refl, sym, ap, subst}
+use Rattle.ks_arena.specs.Sound.{sort_of}
+use Rattle.ks_arena.specs.Clauses.{seen_of}
+use Rattle.ks_put.specs.declared.path.Path.{Path}
+use Rattle.ks_shape.specs.Stretches.{Stretches, stretches_as, stretches_both}
+use Rattle.ks_tidy.specs.Frees.{Counts, counts_as, counts_both, counts_of, counts_on, frees_as, frees_take}
+use Rattle.ks_tidy.specs.Pair.{IsPair}
+use Rattle.ks_tidy.proofs.descent.come_down.Given.{Over}
+use Rattle.ks_tidy.proofs.descent.come_down.Goals as goal
+use Rattle.ks_tidy.proofs.descent.come_down.Goals.{After-tidy_branch-tidied}
+
+pub loop-init : goal.loop-init
+loop-init g c = let me : ℕ = c.args.pass.now.caller in let h = seen_of c.args.pass.now in let k = seen_of c.enter-path.new.pass in let e = c.enter-path.ensures in
+    (e.pass, e.caller, record { path = e.path; rooted = λ none. e.root.1 }, e.stretch, counts_of me 0 h k (omega arith) (frees_take me 0 h k e.took))
+
+-- where the search stands after it tidied
+now : (g : Over) (c : After-tidy_branch-tidied g) → c.tidy_branch-tidied.new.pass.caller ≡ c.args.pass.now.caller
+now g c = c.tidy_branch-tidied.ensures.caller ∙ c.loop.invariant.1
+
+pair : (g : Over) (c : After-tidy_branch-tidied g) → IsPair (sort_of g.N.Node.layout g.N.Node.ranged) g.N.Node.body c.args.pass.now.caller c.args.place (seen_of c.tidy_branch-tidied.new.pass) c.tidy_branch-tidied.result.path
+pair g c = subst (λ (z : ℕ). IsPair (sort_of g.N.Node.layout g.N.Node.ranged) g.N.Node.body z c.args.place (seen_of c.tidy_branch-tidied.new.pass) c.tidy_branch-tidied.result.path) c.loop.invariant.1 c.tidy_branch-tidied.ensures.pair
+
+stretch : (g : Over) (c : After-tidy_branch-tidied g) → Stretches c.args.pass.now.caller (seen_of c.args.pass.now) (seen_of c.tidy_branch-tidied.new.pass)
+stretch g c = let me : ℕ = c.args.pass.now.caller in let h = seen_of c.loop.pass in let k = seen_of c.tidy_branch-tidied.new.pass in
+    stretches_both me (seen_of c.args.pass.now) h k c.loop.invariant.3 (stretches_as me c.loop.pass.caller h k c.loop.invariant.1 c.tidy_branch-tidied.ensures.stretch)
+
+counts : (g : Over) (c : After-tidy_branch-tidied g) → Counts c.args.pass.now.caller (seen_of c.args.pass.now) (seen_of c.tidy_branch-tidied.new.pass) ((c.loop.freed + c.tidy_branch-tidied.result.freed) % 2 ^ 32)
+counts g c = let me : ℕ = c.args.pass.now.caller in let h = seen_of c.loop.pass in let k = seen_of c.tidy_branch-tidied.new.pass in
+    counts_both me c.loop.freed c.tidy_branch-tidied.result.freed (seen_of c.args.pass.now) h k c.loop.invariant.4 (counts_as me c.loop.pass.caller c.tidy_branch-tidied.result.freed h k c.loop.invariant.1 c.tidy_branch-tidied.ensures.counts)
+
+pub go_down-path-requires-clause-pair : goal.go_down-path-requires-clause-pair
+go_down-path-requires-clause-pair g c = let at = (goal.at.go_down-path-requires-clause-pair g c).After-tidy_branch-tidied in subst (λ (z : ℕ). IsPair (sort_of g.N.Node.layout g.N.Node.ranged) g.N.Node.body z c.args.place (seen_of c.tidy_branch-tidied.new.pass) c.tidy_branch-tidied.result.path) (sym (now g at)) (pair g at)
+
+pub loop-preserved : goal.loop-preserved
+loop-preserved g c = let at = (goal.at.loop-preserved g c).After-tidy_branch-tidied in let me : ℕ = c.args.pass.now.caller in let s = seen_of c.args.pass.now in let h₁ = seen_of c.tidy_branch-tidied.new.pass in let b : ℕ = c.tidy_branch-tidied.new.pass.caller in let k = seen_of c.go_down-path.new.pass in let e = c.go_down-path.ensures in
+    (e.pass, e.caller ∙ now g at,
+    subst (λ (z : ℕ). IsPair (sort_of g.N.Node.layout g.N.Node.ranged) g.N.Node.body z c.args.place k c.go_down-path.result) (now g at) e.pair,
+    stretches_both me s h₁ k (stretch g at) (stretches_as me b h₁ k (now g at) e.stretch),
+    counts_on me ((c.loop.freed + c.tidy_branch-tidied.result.freed) % 2 ^ 32) s h₁ k (counts g at) (frees_as me b h₁ k (now g at) e.frees))
+
+pub returns-in-Here-clause-pair : goal.returns-in-Here-clause-pair
+returns-in-Here-clause-pair g c = pair g (goal.at.returns-in-Here-clause-pair g c).After-tidy_branch-tidied
+
+pub returns-in-Here-clause-stretch : goal.returns-in-Here-clause-stretch
+returns-in-Here-clause-stretch g c = stretch g (goal.at.returns-in-Here-clause-stretch g c).After-tidy_branch-tidied
+
+pub returns-in-Here-clause-counts : goal.returns-in-Here-clause-counts
+returns-in-Here-clause-counts g c = counts g (goal.at.returns-in-Here-clause-counts g c).After-tidy_branch-tidied

@@ -1,0 +1,29 @@
+use Rattle.std.proofs.Common.{◌≡◌, ◌∙◌, ℕ, sym, ap, subst}
+use Rattle.ks_history.specs.Alone.{ActsAlone, alone_then}
+use Rattle.ks_arena.specs.Sound.{sort_of}
+use Rattle.ks_arena.specs.Clauses.{seen_of}
+use Rattle.ks_shape.specs.Stretches.{stretches_as, stretches_begins, stretches_both}
+use Rattle.ks_tidy.specs.Frees.{counts_as, counts_both}
+use Rattle.ks_tidy.specs.Pair.{IsPair}
+use Rattle.ks_tidy.proofs.Standing.{keyset_here}
+use Rattle.ks_tidy.proofs.descent.pair_tidy.Goals as goal
+
+pub tidy_end-more-requires-clause-pair : goal.tidy_end-more-requires-clause-pair
+tidy_end-more-requires-clause-pair g c = subst (λ (z : ℕ). IsPair (sort_of g.N.Node.layout g.N.Node.ranged) g.N.Node.body z c.args.place (seen_of c.come_down-path.new.pass) c.come_down-path.result.path) (sym c.come_down-path.ensures.caller) c.come_down-path.ensures.pair
+
+pub tidy_end-more-requires-clause-ends : goal.tidy_end-more-requires-clause-ends
+tidy_end-more-requires-clause-ends g c = let e = c.come_down-path.ensures in let path = e.pair.path in keyset_here (sort_of g.N.Node.layout g.N.Node.ranged) g.N.Node.body c.args.place (seen_of c.come_down-path.new.pass) c.come_down-path.result.path.node path.live path.matches c.node_law.ensures.sound path.inside e.ends
+
+pub returns-clause-stretch : goal.returns-clause-stretch
+returns-clause-stretch g c = let me : ℕ = c.args.pass.now.caller in let h = seen_of c.args.pass.now in let h₁ = seen_of c.come_down-path.new.pass in let k = seen_of c.tidy_end-more.new.pass in
+    stretches_both me h h₁ k c.come_down-path.ensures.stretch (stretches_as me c.come_down-path.new.pass.caller h₁ k c.come_down-path.ensures.caller c.tidy_end-more.ensures.stretch)
+
+pub returns-clause-counts : goal.returns-clause-counts
+returns-clause-counts g c = let me : ℕ = c.args.pass.now.caller in let h = seen_of c.args.pass.now in let h₁ = seen_of c.come_down-path.new.pass in let k = seen_of c.tidy_end-more.new.pass in
+    counts_both me c.come_down-path.result.freed c.tidy_end-more.result h h₁ k c.come_down-path.ensures.counts (counts_as me c.come_down-path.new.pass.caller c.tidy_end-more.result h₁ k c.come_down-path.ensures.caller c.tidy_end-more.ensures.counts)
+
+pub returns-clause-tidy : goal.returns-clause-tidy
+returns-clause-tidy g c = λ alone. let me : ℕ = c.args.pass.now.caller in let h = seen_of c.args.pass.now in let h₁ = seen_of c.come_down-path.new.pass in let k = seen_of c.tidy_end-more.new.pass in let e = c.come_down-path.ensures.caller in
+    let on = stretches_as me c.come_down-path.new.pass.caller h₁ k e c.tidy_end-more.ensures.stretch in
+    let then : ActsAlone me h₁ k = alone_then me h h₁ k (stretches_begins me h h₁ c.come_down-path.ensures.stretch) (stretches_begins me h₁ k on) alone in
+    c.tidy_end-more.ensures.tidy (subst (λ (z : ℕ). ActsAlone z h₁ k) (sym e) then)

@@ -1,0 +1,33 @@
+use Rattle.std.proofs.Common.{◌≡◌, ◌∙◌, ℕ, length, true, false, arith, refl, sym, ap, subst, inl, inr}
+use Rattle.std.specs.Prelude.{Some, None}
+use Rattle.ks_history.specs.Trace.{graph_after, frame_after}
+use Rattle.ks_arena.specs.Sound.{blank_of, sort_of}
+use Rattle.ks_arena.specs.Clauses.{hand_of, seen_of}
+use Rattle.ks_shape.specs.Stretches.{stretches_here}
+use Rattle.ks_tidy.specs.Frees.{frees_here}
+use Rattle.ks_tidy.proofs.Standing.{plain, stands_now}
+use Rattle.ks_tidy.proofs.Steps.{did_as, places_here, sole_is}
+use Rattle.ks_tidy.proofs.step.tidy_root.Goals as goal
+
+pub returns-then-thorough-clause-step : goal.returns-then-thorough-clause-step
+returns-then-thorough-clause-step g c = did_as (sort_of g.N.Node.layout g.N.Node.ranged) g.N.Node.body c.args.pass.now.caller (seen_of c.args.pass.now) (seen_of c.merge_root.new.pass) c.args.thorough (record { parent = None; node = c.args.root }) c.merge_root.result c.merge_root.ensures.step
+
+pub returns-then-is_low-clause-step : goal.returns-then-is_low-clause-step
+returns-then-is_low-clause-step g c = did_as (sort_of g.N.Node.layout g.N.Node.ranged) g.N.Node.body c.args.pass.now.caller (seen_of c.args.pass.now) (seen_of c.merge_root-then-is_low.new.pass) c.args.thorough (record { parent = None; node = c.args.root }) c.merge_root-then-is_low.result c.merge_root-then-is_low.ensures.step
+
+pub returns-clause-places : goal.returns-clause-places
+returns-clause-places g c = places_here (graph_after (seen_of c.args.pass.now)) c.args.root.node
+
+pub returns-clause-stretch : goal.returns-clause-stretch
+returns-clause-stretch g c = stretches_here c.args.pass.now.caller (seen_of c.args.pass.now) (omega (arith, ap length c.requires.pair.path.hands))
+
+pub returns-clause-step : goal.returns-clause-step
+returns-clause-step g c = record {
+  same = refl;
+  frees = frees_here c.args.pass.now.caller (seen_of c.args.pass.now);
+  no_sole = tt;
+  tested = λ which alone. absurd (elim which [
+    | inl on ↦ (let q : false ≡ true = sym c.if-thorough.false ∙ on in let z : ⊥ = cc in z)
+    | inr low ↦ (let q : false ≡ true = sym (sym c.is_low.ensures ∙ c.if-is_low.false) ∙ low in let z : ⊥ = cc in z)
+  ]);
+}

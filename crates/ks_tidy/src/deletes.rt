@@ -1,0 +1,127 @@
+//! Deletes, which merge after their Call.
+ghost use Rattle.std.specs.Prelude.{◌≡◌, ◌≢◌, ◌≤◌, length, None, true};
+ghost use Rattle.ks_history.specs.declared.Op.TheVariants.{Del};
+ghost use Rattle.ks_history.specs.Map.{told};
+ghost use Rattle.ks_history.specs.Trace.{◌⊑◌};
+ghost use Rattle.ks_node.specs.declared.start.Next.TheVariants.{Here};
+ghost use Rattle.ks_node.specs.Body.{next_at};
+ghost use Rattle.ks_arena.specs.Clauses.{hand_of, seen_of};
+ghost use Rattle.ks_arena.specs.Of.{Holds, IsCurrent, IsEmptyPassOf, IsInside, IsLiveAndCurrent, IsPassOf, StayCurrentBut, WasAlone};
+ghost use Rattle.ks_shape.specs.Of.{FinishesAny, IsOnWayOf};
+ghost use Rattle.ks_tidy.specs.Of.{DecidesAny, IsKeptAt, IsPairOf, IsTidyOf};
+
+use crate::descent::{leave, pair_tidy, tidy_end};
+use ks_arena::{Arena, Held, Pass};
+use ks_bodies::tidied_law;
+use ks_flow::{Tree, tidy_law};
+use ks_gate::{Gate, Point};
+use ks_history::Op;
+use ks_node::{Unlinked, node_law, unlinked_law};
+use ks_put::{Path, search_law};
+use ks_shape::{Numbered, reply_of};
+use std::sync::Wait;
+
+/// Deletes what stands at a place, at a node in hand where the search for the place ends, and keeps the node. Answers what
+/// stood there, and the number of the call.
+pub(crate) fn delete<N: Unlinked, G: Gate>(
+    arena: &Arena<N, Tree>,
+    pass: &mut Pass<N, Tree>,
+    gate: &G,
+    place: u64,
+    held: &mut Held<N>,
+) -> Numbered
+    requires pass { IsPassOf arena.now pass.old }
+    requires holds { Holds pass.old held.old.node }
+    requires few { length (hand_of pass.old) ≤ 3 }
+    requires body { IsLiveAndCurrent arena.now pass.old held.old }
+    requires inside { IsInside pass.old held.old.node place }
+    requires ends { next_at (N.body held.old.body) place ≡ Here }
+    ensures pass { IsPassOf arena.now pass.new }
+    ensures caller { pass.new.caller ≡ pass.old.caller }
+    ensures begins { seen_of pass.old ⊑ seen_of pass.new }
+    ensures hand { hand_of pass.new ≡ hand_of pass.old }
+    ensures node { (held.new.node ≡ held.old.node) × (held.new.live ≡ true) }
+    ensures body { IsCurrent arena.now pass.new held.new }
+    ensures keyset { IsKeptAt pass.new held.old.node place }
+    ensures still { StayCurrentBut arena.now held.old.node pass.old pass.new }
+    ensures decided { DecidesAny arena.now (Del place) pass.old pass.new (told result.found) result.number }
+{
+    search_law();
+    node_law(&held.body);
+    arena.del_law(pass, held, place);
+    let found = held.body.del(place);
+    let number = arena.decide(pass, held, Op::Del(place), reply_of(found));
+    gate.at(pass.caller(), Point::Decided(number));
+    Numbered { number, found }
+}
+
+/// Deletes what stands at a place, at the node of a path where the search for the place ends, and gives all. If it removed a
+/// pair, it merges the node before, while it is low.
+pub fn del_on<N: Unlinked, R: Wait, G: Gate>(
+    rt: &R,
+    arena: &Arena<N, Tree>,
+    pass: &mut Pass<N, Tree>,
+    gate: &G,
+    place: u64,
+    path: Path<N>,
+) -> Numbered
+    requires pass { IsPassOf arena.now pass.old }
+    requires pair { IsPairOf arena.now pass.old.caller place pass.old path }
+    requires ends { next_at (N.body path.node.body) place ≡ Here }
+    ensures pass { IsEmptyPassOf arena.now pass.new }
+    ensures caller { pass.new.caller ≡ pass.old.caller }
+    ensures begins { seen_of pass.old ⊑ seen_of pass.new }
+    ensures done { FinishesAny arena.now (Del place) pass.old pass.new (told result.found) result.number }
+    ensures tidy { result.found ≢ None → WasAlone pass.old pass.new → IsTidyOf arena.now pass.new place }
+{
+    search_law();
+    let Path { parent, mut node } = path;
+    let answer = delete(arena, pass, gate, place, &mut node);
+    let path = Path { parent, node };
+    if answer.found.is_none() {
+        leave(arena, pass, gate, place, path);
+        return answer;
+    }
+    tidy_end(rt, arena, pass, gate, place, path);
+    answer
+}
+
+/// Deletes what stands at a place, at the one node in hand, where the search for the place ends, and gives it. If it removed
+/// a pair and the node is low, it comes to the place again, and merges on its way and at its end.
+pub fn del_alone<N: Unlinked, R: Wait, G: Gate>(
+    rt: &R,
+    arena: &Arena<N, Tree>,
+    pass: &mut Pass<N, Tree>,
+    gate: &G,
+    place: u64,
+    held: Held<N>,
+) -> Numbered
+    requires pass { IsPassOf arena.now pass.old }
+    requires way { IsOnWayOf arena.now pass.old.caller place pass.old held }
+    requires ends { next_at (N.body held.body) place ≡ Here }
+    ensures pass { IsEmptyPassOf arena.now pass.new }
+    ensures caller { pass.new.caller ≡ pass.old.caller }
+    ensures begins { seen_of pass.old ⊑ seen_of pass.new }
+    ensures done { FinishesAny arena.now (Del place) pass.old pass.new (told result.found) result.number }
+    ensures tidy { result.found ≢ None → WasAlone pass.old pass.new → IsTidyOf arena.now pass.new place }
+{
+    search_law();
+    tidied_law();
+    tidy_law();
+    unlinked_law::<N>();
+    let mut held = held;
+    let answer = delete(arena, pass, gate, place, &mut held);
+    node_law(&held.body);
+    let low = held.body.is_low();
+    let node = held.node;
+    arena.give(pass, held);
+    gate.at(pass.caller(), Point::Given(node));
+    if answer.found.is_none() {
+        return answer;
+    }
+    if low {
+        pair_tidy(rt, arena, pass, gate, place);
+        return answer;
+    }
+    answer
+}

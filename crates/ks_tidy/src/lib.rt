@@ -1,0 +1,21 @@
+//! Merging: nodes that fit into one are merged, and nodes that no edge needs any more are given back free.
+//!
+//! A caller that merges holds a node and its parent, and takes the right neighbour of the node, to which one of the two has
+//! an edge. If both fit, the node absorbs its neighbour. A root over one child takes over that child.
+#![tactic(auto)]
+
+mod compact;
+mod compacting;
+mod deletes;
+mod descent;
+mod merges;
+mod node;
+mod step;
+mod takes;
+
+pub use compact::pair_compact;
+pub use compacting::Compacting;
+pub use deletes::{del_alone, del_on};
+pub use descent::{come_down, go_down, leave, pair_tidy, tidy_end};
+pub use node::{Tidied, tidy_node};
+pub use step::{Step, tidy_once};

@@ -1,0 +1,143 @@
+//! The three ways to make a node free: by its parent, by its left neighbour that leads to it, and by one beside it.
+ghost use Rattle.std.specs.Prelude.{◌≡◌, Some, None, true};
+ghost use Rattle.ks_node.specs.Body.{chained_of, only_child_of, right_child};
+ghost use Rattle.ks_tidy.specs.Pair.{path_in};
+ghost use Rattle.ks_arena.specs.Of.{IsPassOf};
+ghost use Rattle.ks_shape.specs.Of.{HasPlaces, IsStretch};
+ghost use Rattle.ks_tidy.specs.Of.{HasNoSole, HasTried, IsPairOf, MakesFree};
+
+use crate::step::Step;
+use crate::takes::take_led;
+use ks_arena::{Arena, Held, Pass, root_law};
+use ks_bodies::{alone_law, rights_law, tests_law};
+use ks_flow::Tree;
+use ks_flow::laws::tree_facts_law;
+use ks_gate::{Gate, Point};
+use ks_node::{Unlinked, node_law, unlinked_law};
+use ks_put::{Path, keep_left, search_law};
+use ks_shape::{absorb_own, absorb_under, collapse};
+use std::sync::Wait;
+
+/// The root takes over its only child, which is given free.
+pub(crate) fn take_over<N: Unlinked, G: Gate>(
+    arena: &Arena<N, Tree>,
+    pass: &mut Pass<N, Tree>,
+    gate: &G,
+    place: u64,
+    root: Held<N>,
+    child: Held<N>,
+) -> Path<N>
+    requires pass { IsPassOf arena.now pass.old }
+    requires pair { IsPairOf arena.now pass.old.caller place pass.old (record { parent = Some root; node = child }) }
+    requires root { root.node ≡ 0 }
+    requires sole { only_child_of (N.body root.body) ≡ Some child.node }
+    ensures pass { IsPassOf arena.now pass.new }
+    ensures caller { pass.new.caller ≡ pass.old.caller }
+    ensures pair { IsPairOf arena.now pass.old.caller place pass.new result }
+    ensures places { HasPlaces child.node result.node.node pass.old pass.new }
+    ensures stretch { IsStretch pass.old pass.new }
+    ensures frees { MakesFree 1 pass.old pass.new }
+{
+    search_law();
+    let mut root = root;
+    let mut child = child;
+    collapse(arena, pass, &mut root, &mut child);
+    root_law(&root, place);
+    let number = child.node;
+    arena.give(pass, child);
+    gate.at(pass.caller(), Point::Given(number));
+    Path {
+        parent: None,
+        node: root,
+    }
+}
+
+/// The node of a path absorbs the node to which it leads itself, if both fit. That one is given back, or given free.
+pub(crate) fn merge_own<N: Unlinked, R: Wait, G: Gate>(
+    rt: &R,
+    arena: &Arena<N, Tree>,
+    pass: &mut Pass<N, Tree>,
+    gate: &G,
+    place: u64,
+    path: Path<N>,
+    target: u32,
+) -> Step<N>
+    requires pass { IsPassOf arena.now pass.old }
+    requires pair { IsPairOf arena.now pass.old.caller place pass.old path }
+    requires chained { chained_of (N.body path.node.body) ≡ Some target }
+    requires no_sole { HasNoSole arena.now path.parent }
+    ensures pass { IsPassOf arena.now pass.new }
+    ensures caller { pass.new.caller ≡ pass.old.caller }
+    ensures pair { IsPairOf arena.now pass.old.caller place pass.new (path_in result) }
+    ensures places { HasPlaces path.node.node (path_in result).node.node pass.old pass.new }
+    ensures stretch { IsStretch pass.old pass.new }
+    ensures step { HasTried arena.now true pass.old pass.new path result }
+{
+    search_law();
+    tree_facts_law();
+    tests_law();
+    alone_law();
+    unlinked_law::<N>();
+    let Path { parent, mut node } = path;
+    node_law(&node.body);
+    let mut next = take_led(rt, arena, pass, gate, &node, target);
+    node_law(&next.body);
+    if node.body.fits(&next.body) {
+        absorb_own(arena, pass, &mut node, &mut next);
+        let path = Path { parent, node };
+        return Step::Freed(keep_left(arena, pass, gate, place, path, next));
+    }
+    let path = Path { parent, node };
+    Step::Rests(keep_left(arena, pass, gate, place, path, next))
+}
+
+/// The node below a branch absorbs the node to which the branch leads next, if both fit. That one is given back, or the
+/// branch forgets it and it is given free.
+pub(crate) fn merge_beside<N: Unlinked, R: Wait, G: Gate>(
+    rt: &R,
+    arena: &Arena<N, Tree>,
+    pass: &mut Pass<N, Tree>,
+    gate: &G,
+    place: u64,
+    parent: Held<N>,
+    node: Held<N>,
+    target: u32,
+) -> Step<N>
+    requires pass { IsPassOf arena.now pass.old }
+    requires pair { IsPairOf arena.now pass.old.caller place pass.old (record { parent = Some parent; node = node }) }
+    requires unchained { chained_of (N.body node.body) ≡ None }
+    requires beside { right_child (N.body parent.body) place ≡ Some target }
+    requires no_sole { HasNoSole arena.now (Some parent) }
+    ensures pass { IsPassOf arena.now pass.new }
+    ensures caller { pass.new.caller ≡ pass.old.caller }
+    ensures pair { IsPairOf arena.now pass.old.caller place pass.new (path_in result) }
+    ensures places { HasPlaces node.node (path_in result).node.node pass.old pass.new }
+    ensures stretch { IsStretch pass.old pass.new }
+    ensures step { HasTried arena.now true pass.old pass.new (record { parent = Some parent; node = node }) result }
+{
+    search_law();
+    tree_facts_law();
+    tests_law();
+    rights_law();
+    alone_law();
+    unlinked_law::<N>();
+    let mut parent = parent;
+    let mut node = node;
+    node_law(&parent.body);
+    node_law(&node.body);
+    let mut right = take_led(rt, arena, pass, gate, &parent, target);
+    node_law(&right.body);
+    if node.body.fits(&right.body) {
+        absorb_under(arena, pass, &mut parent, &mut node, &mut right);
+        let path = Path {
+            parent: Some(parent),
+            node,
+        };
+        return Step::Freed(keep_left(arena, pass, gate, place, path, right));
+    }
+    let path = Path {
+        parent: Some(parent),
+        node,
+    };
+    Step::Rests(keep_left(arena, pass, gate, place, path, right))
+}

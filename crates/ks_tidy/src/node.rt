@@ -1,0 +1,58 @@
+//! Merging at one node until nothing is left to merge.
+ghost use Rattle.std.specs.Prelude.{◌≡◌, ◌⊎◌, IsTrue};
+ghost use Rattle.ks_node.specs.Room.{is_low};
+ghost use Rattle.ks_arena.specs.Of.{IsPassOf};
+ghost use Rattle.ks_shape.specs.Of.{HasPlaces, IsStretch};
+ghost use Rattle.ks_tidy.specs.Of.{CountsFree, FitsNoneAlone, HasNoSole, IsPairOf, WasUndisturbed};
+
+use crate::step::{Step, tidy_once};
+use ks_arena::{Arena, Pass};
+use ks_flow::Tree;
+use ks_gate::Gate;
+use ks_node::Unlinked;
+use ks_put::Path;
+use std::sync::Wait;
+
+/// Where a search stands after it merged nodes, and how many it made free, modulo 2^32.
+pub struct Tidied<N> {
+    pub path: Path<N>,
+    pub freed: u32,
+}
+
+/// Merges at the node of a path until nothing is left to merge there. It goes on while the node is low, or, if the work is
+/// thorough, whatever it holds. What the node had has the node of the path then, which may be the root.
+pub fn tidy_node<N: Unlinked, R: Wait, G: Gate>(
+    rt: &R,
+    arena: &Arena<N, Tree>,
+    pass: &mut Pass<N, Tree>,
+    gate: &G,
+    place: u64,
+    thorough: bool,
+    path: Path<N>,
+) -> Tidied<N>
+    requires pass { IsPassOf arena.now pass.old }
+    requires pair { IsPairOf arena.now pass.old.caller place pass.old path }
+    ensures pass { IsPassOf arena.now pass.new }
+    ensures caller { pass.new.caller ≡ pass.old.caller }
+    ensures pair { IsPairOf arena.now pass.old.caller place pass.new result.path }
+    ensures places { HasPlaces path.node.node result.path.node.node pass.old pass.new }
+    ensures stretch { IsStretch pass.old pass.new }
+    ensures counts { CountsFree result.freed pass.old pass.new }
+    ensures same { WasUndisturbed pass.old pass.new → result.path ≡ path }
+    ensures no_sole { HasNoSole arena.now result.path.parent }
+    ensures tested { IsTrue thorough ⊎ IsTrue (is_low N.layout (N.body result.path.node.body)) →
+        FitsNoneAlone arena.now result.path.node.node pass.old pass.new }
+{
+    let mut path = path;
+    let mut freed: u32 = 0;
+    for _ in rt.forever() {
+        match tidy_once(rt, arena, pass, gate, place, thorough, path) {
+            Step::Freed(next) => {
+                path = next;
+                freed = freed.wrapping_add(1);
+            }
+            Step::Rests(rest) => return Tidied { path: rest, freed },
+        }
+    }
+    unreachable!()
+}

@@ -1,0 +1,233 @@
+//! One try to merge at a node.
+ghost use Rattle.std.specs.Prelude.{◌≡◌, ℕ, IsTrue, None, Some, true, false};
+ghost use Rattle.ks_node.specs.Body.{chained_of, only_child_of};
+ghost use Rattle.ks_tidy.specs.Pair.{path_in};
+ghost use Rattle.ks_arena.specs.Of.{IsPassOf};
+ghost use Rattle.ks_shape.specs.Of.{HasPlaces, IsStretch};
+ghost use Rattle.ks_tidy.specs.Of.{HasNoSole, HasTried, IsPairOf};
+
+use crate::merges::{merge_beside, merge_own, take_over};
+use ks_arena::{Arena, Held, Pass};
+use ks_bodies::{alone_law, tests_law};
+use ks_flow::Tree;
+use ks_gate::Gate;
+use ks_node::{Node, Unlinked, node_law, unlinked_law};
+use ks_put::{Path, search_law};
+use std::sync::Wait;
+
+/// What a try to merge at the node of a path came to.
+pub enum Step<N> {
+    /// One node was made free and given; the path goes to the node that took over what it had.
+    Freed(Path<N>),
+    /// None was; the path is as before.
+    Rests(Path<N>),
+}
+
+/// Merges the root with the node to which it leads itself, if there is one and they fit.
+fn merge_root<N: Unlinked, R: Wait, G: Gate>(
+    rt: &R,
+    arena: &Arena<N, Tree>,
+    pass: &mut Pass<N, Tree>,
+    gate: &G,
+    place: u64,
+    root: Held<N>,
+) -> Step<N>
+    requires pass { IsPassOf arena.now pass.old }
+    requires pair { IsPairOf arena.now pass.old.caller place pass.old (record { parent = None; node = root }) }
+    ensures pass { IsPassOf arena.now pass.new }
+    ensures caller { pass.new.caller ≡ pass.old.caller }
+    ensures pair { IsPairOf arena.now pass.old.caller place pass.new (path_in result) }
+    ensures places { HasPlaces root.node (path_in result).node.node pass.old pass.new }
+    ensures stretch { IsStretch pass.old pass.new }
+    ensures step { HasTried arena.now true pass.old pass.new (record { parent = None; node = root }) result }
+{
+    search_law();
+    alone_law();
+    unlinked_law::<N>();
+    node_law(&root.body);
+    let right = root.body.chained();
+    let path = Path {
+        parent: None,
+        node: root,
+    };
+    match right {
+        Some(right) => merge_own(rt, arena, pass, gate, place, path, right),
+        None => Step::Rests(path),
+    }
+}
+
+/// Merges a node that leads to no node itself with the one to which its parent leads next, if there is one and they fit.
+fn merge_next<N: Unlinked, R: Wait, G: Gate>(
+    rt: &R,
+    arena: &Arena<N, Tree>,
+    pass: &mut Pass<N, Tree>,
+    gate: &G,
+    place: u64,
+    parent: Held<N>,
+    node: Held<N>,
+) -> Step<N>
+    requires pass { IsPassOf arena.now pass.old }
+    requires pair { IsPairOf arena.now pass.old.caller place pass.old (record { parent = Some parent; node = node }) }
+    requires unchained { chained_of (N.body node.body) ≡ None }
+    requires no_sole { HasNoSole arena.now (Some parent) }
+    ensures pass { IsPassOf arena.now pass.new }
+    ensures caller { pass.new.caller ≡ pass.old.caller }
+    ensures pair { IsPairOf arena.now pass.old.caller place pass.new (path_in result) }
+    ensures places { HasPlaces node.node (path_in result).node.node pass.old pass.new }
+    ensures stretch { IsStretch pass.old pass.new }
+    ensures step { HasTried arena.now true pass.old pass.new (record { parent = Some parent; node = node }) result }
+{
+    search_law();
+    alone_law();
+    unlinked_law::<N>();
+    node_law(&parent.body);
+    node_law(&node.body);
+    match parent.body.right_of(place) {
+        Some(right) => merge_beside(rt, arena, pass, gate, place, parent, node, right),
+        None => Step::Rests(Path {
+            parent: Some(parent),
+            node,
+        }),
+    }
+}
+
+/// Merges a node below its parent with its right neighbour, if there is one and they fit.
+fn merge_child<N: Unlinked, R: Wait, G: Gate>(
+    rt: &R,
+    arena: &Arena<N, Tree>,
+    pass: &mut Pass<N, Tree>,
+    gate: &G,
+    place: u64,
+    parent: Held<N>,
+    node: Held<N>,
+) -> Step<N>
+    requires pass { IsPassOf arena.now pass.old }
+    requires pair { IsPairOf arena.now pass.old.caller place pass.old (record { parent = Some parent; node = node }) }
+    requires no_sole { HasNoSole arena.now (Some parent) }
+    ensures pass { IsPassOf arena.now pass.new }
+    ensures caller { pass.new.caller ≡ pass.old.caller }
+    ensures pair { IsPairOf arena.now pass.old.caller place pass.new (path_in result) }
+    ensures places { HasPlaces node.node (path_in result).node.node pass.old pass.new }
+    ensures stretch { IsStretch pass.old pass.new }
+    ensures step { HasTried arena.now true pass.old pass.new (record { parent = Some parent; node = node }) result }
+{
+    match node.body.chained() {
+        Some(right) => {
+            let path = Path {
+                parent: Some(parent),
+                node,
+            };
+            merge_own(rt, arena, pass, gate, place, path, right)
+        }
+        None => merge_next(rt, arena, pass, gate, place, parent, node),
+    }
+}
+
+/// Merges the root with its right neighbour, if it is low or the work is thorough.
+fn tidy_root<N: Unlinked, R: Wait, G: Gate>(
+    rt: &R,
+    arena: &Arena<N, Tree>,
+    pass: &mut Pass<N, Tree>,
+    gate: &G,
+    place: u64,
+    thorough: bool,
+    root: Held<N>,
+) -> Step<N>
+    requires pass { IsPassOf arena.now pass.old }
+    requires pair { IsPairOf arena.now pass.old.caller place pass.old (record { parent = None; node = root }) }
+    ensures pass { IsPassOf arena.now pass.new }
+    ensures caller { pass.new.caller ≡ pass.old.caller }
+    ensures pair { IsPairOf arena.now pass.old.caller place pass.new (path_in result) }
+    ensures places { HasPlaces root.node (path_in result).node.node pass.old pass.new }
+    ensures stretch { IsStretch pass.old pass.new }
+    ensures step { HasTried arena.now thorough pass.old pass.new (record { parent = None; node = root }) result }
+{
+    if thorough {
+        return merge_root(rt, arena, pass, gate, place, root);
+    }
+    if root.body.is_low() {
+        return merge_root(rt, arena, pass, gate, place, root);
+    }
+    Step::Rests(Path {
+        parent: None,
+        node: root,
+    })
+}
+
+/// Whether the node is the root, and a branch over one child.
+fn has_sole<N: Node>(parent: &Held<N>) -> bool
+    ensures sole { IsTrue result → (parent.now.node ≡ 0) × ((m : ℕ) × (only_child_of (N.body parent.now.body) ≡ Some m)) }
+    ensures none { result ≡ false → parent.now.node ≡ 0 → only_child_of (N.body parent.now.body) ≡ None }
+{
+    if parent.node != 0 {
+        return false;
+    }
+    parent.body.only_child().is_some()
+}
+
+/// Lets the root take over its only child; else merges the child with its right neighbour, if it is low or the work is
+/// thorough.
+fn tidy_child<N: Unlinked, R: Wait, G: Gate>(
+    rt: &R,
+    arena: &Arena<N, Tree>,
+    pass: &mut Pass<N, Tree>,
+    gate: &G,
+    place: u64,
+    thorough: bool,
+    parent: Held<N>,
+    node: Held<N>,
+) -> Step<N>
+    requires pass { IsPassOf arena.now pass.old }
+    requires pair { IsPairOf arena.now pass.old.caller place pass.old (record { parent = Some parent; node = node }) }
+    ensures pass { IsPassOf arena.now pass.new }
+    ensures caller { pass.new.caller ≡ pass.old.caller }
+    ensures pair { IsPairOf arena.now pass.old.caller place pass.new (path_in result) }
+    ensures places { HasPlaces node.node (path_in result).node.node pass.old pass.new }
+    ensures stretch { IsStretch pass.old pass.new }
+    ensures step { HasTried arena.now thorough pass.old pass.new (record { parent = Some parent; node = node }) result }
+{
+    search_law();
+    tests_law();
+    unlinked_law::<N>();
+    node_law(&parent.body);
+    if has_sole(&parent) {
+        return Step::Freed(take_over(arena, pass, gate, place, parent, node));
+    }
+    if thorough {
+        return merge_child(rt, arena, pass, gate, place, parent, node);
+    }
+    if node.body.is_low() {
+        return merge_child(rt, arena, pass, gate, place, parent, node);
+    }
+    Step::Rests(Path {
+        parent: Some(parent),
+        node,
+    })
+}
+
+/// Makes one node free, if it can: the root takes over the node of the path, if that is its only child; else the node
+/// absorbs its right neighbour, if both fit and the node is low. Thorough work does not ask whether it is low.
+pub fn tidy_once<N: Unlinked, R: Wait, G: Gate>(
+    rt: &R,
+    arena: &Arena<N, Tree>,
+    pass: &mut Pass<N, Tree>,
+    gate: &G,
+    place: u64,
+    thorough: bool,
+    path: Path<N>,
+) -> Step<N>
+    requires pass { IsPassOf arena.now pass.old }
+    requires pair { IsPairOf arena.now pass.old.caller place pass.old path }
+    ensures pass { IsPassOf arena.now pass.new }
+    ensures caller { pass.new.caller ≡ pass.old.caller }
+    ensures pair { IsPairOf arena.now pass.old.caller place pass.new (path_in result) }
+    ensures places { HasPlaces path.node.node (path_in result).node.node pass.old pass.new }
+    ensures stretch { IsStretch pass.old pass.new }
+    ensures step { HasTried arena.now thorough pass.old pass.new path result }
+{
+    let Path { parent, node } = path;
+    match parent {
+        None => tidy_root(rt, arena, pass, gate, place, thorough, node),
+        Some(parent) => tidy_child(rt, arena, pass, gate, place, thorough, parent, node),
+    }
+}

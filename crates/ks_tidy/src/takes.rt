@@ -1,0 +1,45 @@
+//! A node is taken to which one in hand has an edge.
+ghost use Rattle.std.specs.Prelude.{◌≡◌, ◌≤◌, length, Any};
+ghost use Rattle.ks_node.specs.Edges.{edges_of};
+ghost use Rattle.ks_arena.specs.Clauses.{hand_of};
+ghost use Rattle.ks_arena.specs.Of.{Holds, IsPassOf, Keeps, StayCurrent};
+ghost use Rattle.ks_shape.specs.Of.{IsLiveInHand, IsStretch};
+ghost use Rattle.ks_tidy.specs.Of.{HasTakenNode};
+
+use ks_arena::laws::target_law;
+use ks_arena::{Arena, Held, Pass};
+use ks_flow::Tree;
+use ks_gate::{Gate, Point};
+use ks_node::Unlinked;
+use ks_put::search_law;
+use std::sync::Wait;
+
+/// Takes the node to which a node in hand has an edge.
+pub(crate) fn take_led<N: Unlinked, R: Wait, G: Gate>(
+    rt: &R,
+    arena: &Arena<N, Tree>,
+    pass: &mut Pass<N, Tree>,
+    gate: &G,
+    above: &Held<N>,
+    target: u32,
+) -> Held<N>
+    requires pass { IsPassOf arena.now pass.old }
+    requires above { IsLiveInHand arena.now pass.old above.now }
+    requires edge { Any (λ e. e.node ≡ target) (edges_of (N.body above.now.body)) }
+    requires fresh { ¬ Holds pass.old target }
+    requires few { length (hand_of pass.old) ≤ 2 }
+    ensures pass { IsPassOf arena.now pass.new }
+    ensures caller { pass.new.caller ≡ pass.old.caller }
+    ensures took { HasTakenNode arena.now target pass.old pass.new result }
+    ensures kept { Keeps pass.old pass.new }
+    ensures still { StayCurrent arena.now pass.old pass.new }
+    ensures stretch { IsStretch pass.old pass.new }
+{
+    search_law();
+    target_law::<Tree>();
+    let Some(held) = arena.take(rt, pass, target) else {
+        unreachable!()
+    };
+    gate.at(pass.caller(), Point::Taken(target));
+    held
+}
