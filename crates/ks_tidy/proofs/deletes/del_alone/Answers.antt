@@ -83,7 +83,7 @@ returns-clause-tidy g c = λ removed alone. let at = (goal.at.returns-clause-tid
     let stands = stands_now sort g.N.Node.body h₁ x e.node.1 e.body (plain (g.N.Node.body x.body) c.node_law.ensures.sound c.node_law.ensures.framed (c.unlinked_law.ensures.no_link x.body)) in
     let keys = subst (λ (z : ℕ). InKeyset (graph_after h₁) z c.args.place) (sym e.node.0) e.keyset in
     let done = c.tidied_law.ensures.tidy g.N.Node.layout (graph_after h₁) (frame_after (blank_of sort) h₁) x.node c.args.place (g.N.Node.body x.body) ((c.search_law.ensures sort n).good h₁ e.pass.sound) stands keys
-        (λ low. absurd (let q : false ≡ true = sym (sym c.is_low-low.ensures ∙ c.if-low.false) ∙ low in let z : ⊥ = cc in z)) in
+    (λ low. absurd (let q : false ≡ true = sym (sym c.is_low-low.ensures ∙ c.if-low.false) ∙ low in let z : ⊥ = cc in z)) in
     c.tidy_law.ensures.along g.N.Node.layout (graph_after h₁) (graph_after k) (frame_after (blank_of sort) h₁) (frame_after (blank_of sort) k) c.args.place
     (undisturbed_same me (blank_of sort) h₁ k (record { alone = alone_then me h h₁ k e.begins (with_begins me (Give me x.node) h₁ k (gave g at)) alone; none = frees_give me x.node h₁ k (gave g at) })) done
 
