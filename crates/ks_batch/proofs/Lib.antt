@@ -1,6 +1,5 @@
 pub mod Asking
 pub mod Askings
-pub mod Growing
 pub mod Loading
 pub mod Due
 pub mod Made

@@ -1,5 +1,5 @@
 -- The words of the program.
-use Rattle.std.specs.Prelude.{ℕ, ◌≡◌, ◌≤◌, ◌⊎◌, List, [], ◌∷◌, map, codes, String, string_bytes}
+use Rattle.std.specs.Prelude.{ℕ, ◌≡◌, ◌≤◌, ◌⊎◌, List, [], ◌∷◌, ◌++◌, map, codes, String, string_bytes}
 use Rattle.std.specs.Fmt.{decimal}
 use Rattle.ks_batch.specs.declared.pairings.Pairing.{Pairing}
 use Rattle.ks_batch.specs.declared.words.Draft.{Draft}
@@ -13,26 +13,36 @@ use Rattle.ks_batch.specs.Pairings.{row_of}
 abbrev pub bytes_of : {Z : Type 0} → List (String Z) → List (List ℕ)
 bytes_of words = map string_bytes words
 
--- the words of a command
-abbrev pub spelled : Asked → List (List ℕ)
-spelled (Run pairing arena) = codes "run" ∷ (row_of pairing).nodes ∷ (row_of pairing).template ∷ decimal arena ∷ []
-spelled (Make pairing arena draft) =
-    codes "make" ∷ (row_of pairing).nodes ∷ (row_of pairing).template ∷ decimal arena
+-- the words that ask to serve a script, but for the number of workers
+abbrev pub run_words : Pairing → ℕ → List (List ℕ)
+run_words pairing arena = codes "run" ∷ (row_of pairing).nodes ∷ (row_of pairing).template ∷ decimal arena ∷ []
+
+-- the words are those of the command: to serve a script has the number of workers for its last word, or, where they are 64,
+-- no such word
+abbrev pub AreWords : List (List ℕ) → Asked → Type 0
+AreWords words (Run pairing arena workers) =
+    (words ≡ run_words pairing arena ++ decimal workers ∷ []) ⊎ ((words ≡ run_words pairing arena) × (workers ≡ 64))
+AreWords words (Make pairing arena draft) =
+    words ≡ codes "make" ∷ (row_of pairing).nodes ∷ (row_of pairing).template ∷ decimal arena
     ∷ decimal draft.callers ∷ decimal draft.calls ∷ decimal draft.first ∷ []
-spelled Check = codes "check" ∷ []
+AreWords words Check = words ≡ codes "check" ∷ []
 
 -- its numbers are within their limits
 abbrev pub InLimits : Asked → Type 0
-InLimits (Run pairing arena) = (4 ≤ arena) × (arena ≤ 65536)
+InLimits (Run pairing arena workers) = (4 ≤ arena) × (arena ≤ 1048576) × (1 ≤ workers) × (workers ≤ 64)
 InLimits (Make pairing arena draft) =
-    (4 ≤ arena) × (arena ≤ 65536)
+    (4 ≤ arena) × (arena ≤ 1048576)
     × (1 ≤ draft.callers) × (draft.callers ≤ 64) × (draft.calls ≤ 16384) × (draft.first ≤ 18446744073709551615)
 InLimits Check = Unit {0}
 
--- the words are those of the command
+-- the words are those of the command, within its limits
 pub record Spells (words : List (List ℕ)) (asked : Asked) : Type 0 where
-  pub is : words ≡ spelled asked
+  pub is : AreWords words asked
   pub limits : InLimits asked
+
+-- the words ask to serve a script by the pairing, over an arena of so many nodes
+abbrev pub AsksToRun : List (List ℕ) → Pairing → ℕ → Type 0
+AsksToRun words pairing arena = (workers : ℕ) × Spells words (Run pairing arena workers)
 
 -- the words are a command
 abbrev pub IsCommand : List (List ℕ) → Type 0
@@ -40,7 +50,7 @@ IsCommand words = (asked : Asked) × Spells words asked
 
 -- the words ask that a text of this kind be read
 abbrev pub Asks : List (List ℕ) → Text → Type 0
-Asks words Script = (pairing : Pairing) × (arena : ℕ) × Spells words (Run pairing arena)
+Asks words Script = (pairing : Pairing) × (arena : ℕ) × AsksToRun words pairing arena
 Asks words Checked = Spells words Check
 
 -- these words are those of the pairing
@@ -48,10 +58,17 @@ pub record Names (nodes template : List ℕ) (pairing : Pairing) : Type 0 where
   pub nodes_are : nodes ≡ (row_of pairing).nodes
   pub template_is : template ≡ (row_of pairing).template
 
+-- these words are those of the pairing and of a number of nodes within its limits
+pub record NamesArena (nodes template arena : List ℕ) (pairing : Pairing) (count : ℕ) : Type 0 where
+  pub pairing_is : Names nodes template pairing
+  pub arena_is : arena ≡ decimal count
+  pub least : 4 ≤ count
+  pub most : count ≤ 1048576
+
 -- the words are a command to make a script
 abbrev pub IsMake : List (List ℕ) → Type 0
 IsMake words = (pairing : Pairing) × (arena : ℕ) × (draft : Draft) × Spells words (Make pairing arena draft)
 
 -- the words are a command to serve callers by the pairing, over an arena of so many nodes
 abbrev pub AskToServe : List (List ℕ) → Pairing → ℕ → Type 0
-AskToServe words pairing arena = Spells words (Run pairing arena) ⊎ ((draft : Draft) × Spells words (Make pairing arena draft))
+AskToServe words pairing arena = AsksToRun words pairing arena ⊎ ((draft : Draft) × Spells words (Make pairing arena draft))

@@ -1,29 +1,15 @@
 //! What the program says on the error output.
 
-ghost use Rattle.std.specs.Prelude.{ℕ, ◌≡◌, ◌≤◌, ◌<◌, ◌++◌, OnOk, OnErr, codes};
-ghost use Rattle.std.specs.Fmt.{decimal};
+ghost use Rattle.std.specs.Prelude.{OnOk, OnErr};
 ghost use Rattle.ks_script.specs.Outside.{Rose, Grew, GrewByFront};
 ghost use Rattle.ks_batch.specs.Message.{status_text};
 
-use itoa::Buffer;
-use ks_script::{Failed, Sink, send};
+use ks_script::{Failed, Sink, send, send_line};
 
 const USAGE: &[u8] =
-    b"usage: run NODES TEMPLATE ARENA, make NODES TEMPLATE ARENA CALLERS CALLS FIRST, or check\n";
+    b"usage: run NODES TEMPLATE ARENA [WORKERS], make NODES TEMPLATE ARENA CALLERS CALLS FIRST, or check\n";
 
-/// Says that a line was refused.
-fn say_line<E: Sink>(err: &mut E, line: u64) -> Result<(), Failed>
-    ensures ok { OnOk result (Grew (E.taken err.old) (E.taken err.new) (codes "line " ++ decimal line ++ codes " refused\n")) }
-    ensures front { OnErr result (GrewByFront (E.taken err.old) (E.taken err.new) (codes "line " ++ decimal line ++ codes " refused\n")) }
-    ensures cause { OnErr result (Rose (E.faults err.old) (E.faults err.new)) }
-    ensures count { E.faults err.old ≤ E.faults err.new }
-{
-    send(err, b"line ")?;
-    send(err, Buffer::new().format(line).as_bytes())?;
-    send(err, b" refused\n")
-}
-
-/// Says what the status is, with the line.
+/// Says what the status is, with the line, in one piece.
 fn say<E: Sink>(err: &mut E, status: u8, line: u64) -> Result<(), Failed>
     ensures ok { OnOk result (Grew (E.taken err.old) (E.taken err.new) (status_text status line)) }
     ensures front { OnErr result (GrewByFront (E.taken err.old) (E.taken err.new) (status_text status line)) }
@@ -35,7 +21,7 @@ fn say<E: Sink>(err: &mut E, status: u8, line: u64) -> Result<(), Failed>
             if line == 0 {
                 send(err, b"too many bytes\n")
             } else {
-                say_line(err, line)
+                send_line(err, b"line ", line, b" refused\n")
             }
         }
         3 => send(err, b"read fault\n"),

@@ -42,17 +42,19 @@ pub enum Pairing {
     HashLink,
 }
 
-/// Serves all callers at once, over an empty dictionary of the pairing with so many nodes.
+/// Serves all callers by so many workers, over an empty dictionary of the pairing with so many nodes.
 pub fn serve_by<R: Threads + Wait + Sync, G: Gate + Sync>(
     rt: &R,
     alloc: Global,
     pairing: Pairing,
     nodes: u32,
     callers: Vec<Vec<Op>>,
+    workers: u32,
     gate: &G,
 ) -> Result<Told, AllocError>
-    requires nodes { (4 ≤ nodes) × (nodes ≤ 65536) }
-    requires callers { length callers.items ≤ 64 }
+    requires nodes { (4 ≤ nodes) × (nodes ≤ 1048576) }
+    requires callers { length callers.items ≤ 1024 }
+    requires workers { (1 ≤ workers) × (workers ≤ 64) }
     ensures served { IfOk result (λ told. Served (row_of pairing).place (map (λ v. v.items) callers.items) (map (λ v. v.items) told.lines.items) told.pairs.items told.trace) }
     ensures lawful { IfOk result (λ told. Lawful told.trace) }
     ensures good { IfOk result (λ told. GoodThroughout told.trace) }
@@ -60,28 +62,28 @@ pub fn serve_by<R: Threads + Wait + Sync, G: Gate + Sync>(
 {
     match pairing {
         Pairing::ListCoupling => serve_callers::<ListNode, Coupling, R, G>(
-            rt, alloc, nodes, callers, gate,
+            rt, alloc, nodes, callers, workers, gate,
         ),
         Pairing::BplusCoupling => serve_callers::<BNode, Coupling, R, G>(
-            rt, alloc, nodes, callers, gate,
+            rt, alloc, nodes, callers, workers, gate,
         ),
         Pairing::HashCoupling => serve_callers::<HNode, Coupling, R, G>(
-            rt, alloc, nodes, callers, gate,
+            rt, alloc, nodes, callers, workers, gate,
         ),
         Pairing::ListGiveUp => serve_callers::<WithRange<ListNode>, GiveUp, R, G>(
-            rt, alloc, nodes, callers, gate,
+            rt, alloc, nodes, callers, workers, gate,
         ),
         Pairing::BplusGiveUp => serve_callers::<WithRange<BNode>, GiveUp, R, G>(
-            rt, alloc, nodes, callers, gate,
+            rt, alloc, nodes, callers, workers, gate,
         ),
         Pairing::HashGiveUp => serve_callers::<WithRange<HNode>, GiveUp, R, G>(
-            rt, alloc, nodes, callers, gate,
+            rt, alloc, nodes, callers, workers, gate,
         ),
         Pairing::BplusLink => serve_callers::<WithLink<BNode>, LinkMove, R, G>(
-            rt, alloc, nodes, callers, gate,
+            rt, alloc, nodes, callers, workers, gate,
         ),
         Pairing::HashLink => serve_callers::<WithLink<HNode>, LinkMove, R, G>(
-            rt, alloc, nodes, callers, gate,
+            rt, alloc, nodes, callers, workers, gate,
         ),
     }
 }

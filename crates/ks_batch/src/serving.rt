@@ -1,7 +1,6 @@
 //! What the program does: it serves a script, or judges a printed run, from bytes to bytes.
 
-ghost use Rattle.std.specs.Prelude.{ℕ, ◌≡◌, ◌≢◌, ◌≤◌, ◌⊎◌, ◌↔◌, ◌++◌, map, Some, List, [], IfOk, OnOk, OnErr, IfErr, IfSome, IsSome, IsNone, codes};
-ghost use Rattle.std.specs.Fmt.{decimal};
+ghost use Rattle.std.specs.Prelude.{ℕ, ◌≡◌, ◌≢◌, ◌≤◌, ◌⊎◌, ◌↔◌, map, Some, List, [], IfOk, OnOk, OnErr, IfErr, IfSome, IsSome, IsNone};
 ghost use Rattle.ks_history.specs.Due.{FullsDue};
 ghost use Rattle.ks_history.specs.Lawful.{Lawful, GoodThroughout};
 ghost use Rattle.ks_history.specs.declared.Op.{Op};
@@ -10,9 +9,8 @@ ghost use Rattle.ks_script.specs.Run as printed_run;
 ghost use Rattle.ks_batch.specs.declared.words.Text.{Text};
 ghost use Rattle.ks_batch.specs.declared.words.Text.TheVariants as text;
 ghost use Rattle.ks_batch.specs.declared.pairings.Pairing.{Pairing};
-ghost use Rattle.ks_batch.specs.declared.words.Asked.TheVariants as asked;
 ghost use Rattle.ks_batch.specs.Pairings.{row_of};
-ghost use Rattle.ks_batch.specs.Words.{bytes_of, Spells, AskToServe, IsCommand, IsMake, Asks};
+ghost use Rattle.ks_batch.specs.Words.{bytes_of, AsksToRun, AskToServe, IsCommand, IsMake, Asks};
 ghost use Rattle.ks_batch.specs.Message.{status_text};
 ghost use Rattle.ks_batch.specs.Serve.{RefusedAt, Accepts, AcceptsChecked, Tells, PrintsRun, Judges, IsCheck, judged_line};
 ghost use Rattle.ks_batch.specs.Make.{SumsUp, Sums, MakesOutcome};
@@ -21,14 +19,13 @@ ghost use Rattle.ks_batch.specs.Stop.{IsCause};
 use crate::input::{Stop, load, load_checked};
 use crate::message::tell;
 use crate::pairings::{Pairing, serve_by};
-use crate::words::{Asked, Draft, command};
-use itoa::Buffer;
+use crate::words::{Asked, Draft, MOST_WORKERS, command};
 use ks_arena::RunTrace;
 use ks_dictionary::Told;
 use ks_gate::Gate;
 use ks_judge::{Judged, judge};
 use ks_made::{Size, made_script, summary};
-use ks_script::{Failed, Printed, Sink, Source, send, write_run};
+use ks_script::{Failed, Printed, Sink, Source, send, send_line, write_run};
 use std::alloc::{AllocError, Global};
 use std::sync::Wait;
 use std::thread::Threads;
@@ -81,16 +78,18 @@ fn to_print(told: Told) -> Ready
     }
 }
 
-/// Reads a script and serves it by the pairing, over so many nodes.
+/// Reads a script and serves it by the pairing, over so many nodes, by so many workers.
 fn prepare<R: Threads + Wait + Sync, S: Source, G: Gate + Sync>(
     rt: &R,
     alloc: Global,
     pairing: Pairing,
     arena: u32,
+    workers: u32,
     source: &mut S,
     gate: &G,
 ) -> Result<Ready, Stop>
-    requires { (4 ≤ arena) × (arena ≤ 65536) }
+    requires arena { (4 ≤ arena) × (arena ≤ 1048576) }
+    requires workers { (1 ≤ workers) × (workers ≤ 64) }
     ensures lawful { IfOk result (λ ready. Lawful ready.trace) }
     ensures good { IfOk result (λ ready. GoodThroughout ready.trace) }
     ensures due { IfOk result (λ ready. FullsDue (row_of pairing).layout arena ready.trace) }
@@ -99,7 +98,7 @@ fn prepare<R: Threads + Wait + Sync, S: Source, G: Gate + Sync>(
     ensures cause { IfErr result (λ stop. IsCause stop text.Script (S.left source.old) (Rose (S.faults source.old) (S.faults source.new))) }
 {
     let script = load(alloc, source)?;
-    match serve_by(rt, alloc, pairing, arena, script.callers, gate) {
+    match serve_by(rt, alloc, pairing, arena, script.callers, workers, gate) {
         Ok(told) => Ok(to_print(told)),
         Err(_) => Err(Stop::Memory),
     }
@@ -111,11 +110,13 @@ fn serve_script<R: Threads + Wait + Sync, S: Source, K: Sink, G: Gate + Sync>(
     alloc: Global,
     pairing: Pairing,
     arena: u32,
+    workers: u32,
     source: &mut S,
     out: &mut K,
     gate: &G,
 ) -> Outcome
-    requires { (4 ≤ arena) × (arena ≤ 65536) }
+    requires arena { (4 ≤ arena) × (arena ≤ 1048576) }
+    requires workers { (1 ≤ workers) × (workers ≤ 64) }
     ensures lawful { IfSome result.run Lawful }
     ensures good { IfSome result.run GoodThroughout }
     ensures due { IfSome result.run (FullsDue (row_of pairing).layout arena) }
@@ -134,7 +135,7 @@ fn serve_script<R: Threads + Wait + Sync, S: Source, K: Sink, G: Gate + Sync>(
     ensures source { result.status ≡ 3 → Rose (S.faults source.old) (S.faults source.new) }
     ensures output { result.status ≡ 4 → Rose (K.faults out.old) (K.faults out.new) }
 {
-    match prepare(rt, alloc, pairing, arena, source, gate) {
+    match prepare(rt, alloc, pairing, arena, workers, source, gate) {
         Ok(ready) => {
             let status = match write_run(out, &ready.printed) {
                 Ok(()) => 0,
@@ -166,25 +167,15 @@ fn judged<S: Source>(alloc: Global, source: &mut S) -> Result<Judged, Stop>
     }
 }
 
-/// Says a word, a number and the end of the line.
-fn say<K: Sink>(out: &mut K, word: &[u8], number: u64) -> Result<(), Failed>
-    ensures ok { OnOk result (Grew (K.taken out.old) (K.taken out.new) (word.now ++ (decimal number ++ codes "\n"))) }
-    ensures front { OnErr result (GrewByFront (K.taken out.old) (K.taken out.new) (word.now ++ (decimal number ++ codes "\n"))) }
-    ensures cause { OnErr result (Rose (K.faults out.old) (K.faults out.new)) }
-{
-    send(out, word)?;
-    send(out, Buffer::new().format(number).as_bytes())?;
-    send(out, b"\n")
-}
-
+/// Writes the line that tells the judgment, in one piece.
 fn say_judged<K: Sink>(out: &mut K, judged: Judged) -> Result<(), Failed>
     ensures ok { OnOk result (Grew (K.taken out.old) (K.taken out.new) (judged_line judged)) }
     ensures front { OnErr result (GrewByFront (K.taken out.old) (K.taken out.new) (judged_line judged)) }
     ensures cause { OnErr result (Rose (K.faults out.old) (K.faults out.new)) }
 {
     match judged {
-        Judged::Legal { calls } => say(out, b"legal ", calls),
-        Judged::Wrong { number } => say(out, b"wrong ", number),
+        Judged::Legal { calls } => send_line(out, b"legal ", calls, b"\n"),
+        Judged::Wrong { number } => send_line(out, b"wrong ", number, b"\n"),
     }
 }
 
@@ -221,17 +212,19 @@ fn check_run<S: Source, K: Sink>(alloc: Global, source: &mut S, out: &mut K) -> 
     }
 }
 
-/// Makes a script, serves it by the pairing over so many nodes, and sums it up; nothing is written yet.
-fn make<R: Threads + Wait + Sync, G: Gate + Sync>(
+/// Makes a script, serves it by the pairing over so many nodes and by so many workers, and sums it up; nothing is written yet.
+pub fn make<R: Threads + Wait + Sync, G: Gate + Sync>(
     rt: &R,
     alloc: Global,
     pairing: Pairing,
     arena: u32,
     draft: Draft,
+    workers: u32,
     gate: &G,
 ) -> Result<Made, AllocError>
-    requires arena { (4 ≤ arena) × (arena ≤ 65536) }
+    requires arena { (4 ≤ arena) × (arena ≤ 1048576) }
     requires callers { draft.callers ≤ 64 }
+    requires workers { (1 ≤ workers) × (workers ≤ 64) }
     ensures lawful { IfOk result (λ made. Lawful made.trace) }
     ensures good { IfOk result (λ made. GoodThroughout made.trace) }
     ensures due { IfOk result (λ made. FullsDue (row_of pairing).layout arena made.trace) }
@@ -239,7 +232,7 @@ fn make<R: Threads + Wait + Sync, G: Gate + Sync>(
 {
     let script = made_script(alloc, draft.callers, draft.calls, draft.first)?;
     let size = Size::of(&script);
-    let told = serve_by(rt, alloc, pairing, arena, script.callers, gate)?;
+    let told = serve_by(rt, alloc, pairing, arena, script.callers, workers, gate)?;
     let ready = to_print(told);
     let text = summary(alloc, size, &ready.printed)?;
     Ok(Made {
@@ -250,12 +243,12 @@ fn make<R: Threads + Wait + Sync, G: Gate + Sync>(
 
 /// A made script that is served, and its summary.
 #[derive(Drop)]
-struct Made {
-    text: Vec<u8>,
-    trace: RunTrace,
+pub struct Made {
+    pub text: Vec<u8>,
+    pub trace: RunTrace,
 }
 
-/// The command `make`: serves a script that is made, and writes the summary.
+/// The command `make`: serves a script that is made, by as many workers as there can be, and writes the summary.
 fn make_run<R: Threads + Wait + Sync, K: Sink, G: Gate + Sync>(
     rt: &R,
     alloc: Global,
@@ -265,7 +258,7 @@ fn make_run<R: Threads + Wait + Sync, K: Sink, G: Gate + Sync>(
     out: &mut K,
     gate: &G,
 ) -> Outcome
-    requires arena { (4 ≤ arena) × (arena ≤ 65536) }
+    requires arena { (4 ≤ arena) × (arena ≤ 1048576) }
     requires callers { draft.callers ≤ 64 }
     ensures lawful { IfSome result.run Lawful }
     ensures good { IfSome result.run GoodThroughout }
@@ -281,7 +274,7 @@ fn make_run<R: Threads + Wait + Sync, K: Sink, G: Gate + Sync>(
     ensures untouched { result.status ≢ 0 → result.status ≢ 4 → K.taken out.new ≡ K.taken out.old }
     ensures output { result.status ≡ 4 → Rose (K.faults out.old) (K.faults out.new) }
 {
-    match make(rt, alloc, pairing, arena, draft, gate) {
+    match make(rt, alloc, pairing, arena, draft, MOST_WORKERS, gate) {
         Ok(made) => {
             let status = match send(out, &made.text) {
                 Ok(()) => 0,
@@ -326,10 +319,10 @@ pub fn serve<R: Threads + Wait + Sync, S: Source, K: Sink, E: Sink, G: Gate + Sy
 
     // What is written is the text of a run that this served, or, where the output failed, first bytes of it.
     ensures done { (pairing : Pairing) (nodes : ℕ) →
-        Spells (bytes_of words.now) (asked.Run pairing nodes) → result.status ≡ 0 →
+        AsksToRun (bytes_of words.now) pairing nodes → result.status ≡ 0 →
         PrintsRun (row_of pairing).place (S.left source.old) result.run (Grew (K.taken out.old) (K.taken out.new)) }
     ensures cut { (pairing : Pairing) (nodes : ℕ) →
-        Spells (bytes_of words.now) (asked.Run pairing nodes) → result.status ≡ 4 →
+        AsksToRun (bytes_of words.now) pairing nodes → result.status ≡ 4 →
         PrintsRun (row_of pairing).place (S.left source.old) result.run (GrewByFront (K.taken out.old) (K.taken out.new)) }
     ensures end { Asks (bytes_of words.now) text.Script → IsSome result.run →
         IfSome (S.left source.old) (λ _. S.left source.new ≡ Some []) }
@@ -372,9 +365,13 @@ pub fn serve<R: Threads + Wait + Sync, S: Source, K: Sink, E: Sink, G: Gate + Sy
     ensures said_front { GrewByFront (E.taken err.old) (E.taken err.new) (status_text result.status result.line) }
 {
     let outcome = match command(words) {
-        Some(Asked::Run { pairing, arena }) => serve_script(
-            rt, alloc, pairing, arena, source, out, gate,
-        ),
+        Some(
+            Asked::Run {
+                pairing,
+                arena,
+                workers,
+            },
+        ) => serve_script(rt, alloc, pairing, arena, workers, source, out, gate),
         Some(
             Asked::Make {
                 pairing,

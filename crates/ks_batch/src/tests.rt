@@ -7,6 +7,8 @@ mod meetings;
 mod merging;
 mod pairings;
 mod texts;
+mod versions;
+mod workers;
 
 use crate::serve;
 use itoa::Buffer;

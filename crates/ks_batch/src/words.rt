@@ -3,18 +3,22 @@
 ghost use Rattle.std.specs.Prelude.{ℕ, ◌≡◌, ◌≢◌, ◌≤◌, IsTrue, ◌↔◌, [], ◌∷◌, string_bytes, IfSome, IfNone, codes};
 ghost use Rattle.std.specs.Fmt.{decimal};
 ghost use Rattle.ks_batch.specs.declared.pairings.Pairing.{Pairing};
-ghost use Rattle.ks_batch.specs.Words.{bytes_of, Spells, Names, IsCommand};
+ghost use Rattle.ks_batch.specs.Words.{bytes_of, Spells, Names, NamesArena, IsCommand};
 
 use crate::pairings::Pairing;
 use itoa::Buffer;
 
+/// How many workers there are at most, and where the words do not say it.
+pub const MOST_WORKERS: u32 = 64;
+
 /// What the words ask for.
 #[derive(Clone, Copy, Debug, PartialEq, Eq)]
 pub enum Asked {
-    /// To serve the script on the source, by a pairing with an arena of so many nodes.
+    /// To serve the script on the source, by a pairing with an arena of so many nodes, and by so many workers.
     Run {
         pairing: Pairing,
         arena: u32,
+        workers: u32,
     },
     /// To serve a script that is made, by a pairing with an arena of so many nodes.
     Make {
@@ -82,20 +86,59 @@ fn named(nodes: &String, template: &String) -> Option<Pairing>
     }
 }
 
-/// The command to serve a script, if the words after the first are those of one.
-fn run_words(nodes: &String, template: &String, arena: &String) -> Option<Asked>
-    ensures some { IfSome result (λ asked. Spells (codes "run" ∷ bytes_of (nodes.now ∷ template.now ∷ arena.now ∷ [])) asked) }
-    ensures none { IfNone result (¬ IsCommand (codes "run" ∷ bytes_of (nodes.now ∷ template.now ∷ arena.now ∷ []))) }
+/// The pairing and the number of nodes with these words.
+fn arena_named(nodes: &String, template: &String, arena: &String) -> Option<(Pairing, u32)>
+    ensures some { IfSome result (λ named.
+        NamesArena (string_bytes nodes.now) (string_bytes template.now) (string_bytes arena.now) named.0 named.1) }
+    ensures none { IfNone result ((pairing : Pairing) (count : ℕ) →
+        ¬ NamesArena (string_bytes nodes.now) (string_bytes template.now) (string_bytes arena.now) pairing count) }
 {
     let Some(pairing) = named(nodes, template) else {
         return None;
     };
-    let Some(arena) = number(arena, 4, 65536) else {
+    let Some(arena) = number(arena, 4, 1048576) else {
+        return None;
+    };
+    Some((pairing, arena as u32))
+}
+
+/// The command to serve a script, if the words after the first are those of one that does not say the number of workers.
+fn run_words(nodes: &String, template: &String, arena: &String) -> Option<Asked>
+    ensures some { IfSome result (λ asked. Spells (codes "run" ∷ bytes_of (nodes.now ∷ template.now ∷ arena.now ∷ [])) asked) }
+    ensures none { IfNone result (¬ IsCommand (codes "run" ∷ bytes_of (nodes.now ∷ template.now ∷ arena.now ∷ []))) }
+{
+    let Some((pairing, arena)) = arena_named(nodes, template, arena) else {
         return None;
     };
     Some(Asked::Run {
         pairing,
-        arena: arena as u32,
+        arena,
+        workers: MOST_WORKERS,
+    })
+}
+
+/// The command to serve a script, if the words after the first are those of one that says the number of workers.
+fn run_words_by(
+    nodes: &String,
+    template: &String,
+    arena: &String,
+    workers: &String,
+) -> Option<Asked>
+    ensures some { IfSome result (λ asked. Spells (codes "run" ∷
+        bytes_of (nodes.now ∷ template.now ∷ arena.now ∷ workers.now ∷ [])) asked) }
+    ensures none { IfNone result (¬ IsCommand (codes "run" ∷
+        bytes_of (nodes.now ∷ template.now ∷ arena.now ∷ workers.now ∷ []))) }
+{
+    let Some((pairing, arena)) = arena_named(nodes, template, arena) else {
+        return None;
+    };
+    let Some(workers) = number(workers, 1, MOST_WORKERS as u64) else {
+        return None;
+    };
+    Some(Asked::Run {
+        pairing,
+        arena,
+        workers: workers as u32,
     })
 }
 
@@ -113,10 +156,7 @@ fn make_words(
     ensures none { IfNone result (¬ IsCommand (codes "make" ∷
         bytes_of (nodes.now ∷ template.now ∷ arena.now ∷ callers.now ∷ calls.now ∷ first.now ∷ []))) }
 {
-    let Some(pairing) = named(nodes, template) else {
-        return None;
-    };
-    let Some(arena) = number(arena, 4, 65536) else {
+    let Some((pairing, arena)) = arena_named(nodes, template, arena) else {
         return None;
     };
     let Some(callers) = number(callers, 1, 64) else {
@@ -135,7 +175,7 @@ fn make_words(
     };
     Some(Asked::Make {
         pairing,
-        arena: arena as u32,
+        arena,
         draft,
     })
 }
@@ -149,6 +189,12 @@ pub fn command(words: &[String]) -> Option<Asked>
         [verb, nodes, template, arena] => {
             if is(verb, "run") {
                 return run_words(nodes, template, arena);
+            }
+            None
+        }
+        [verb, nodes, template, arena, workers] => {
+            if is(verb, "run") {
+                return run_words_by(nodes, template, arena, workers);
             }
             None
         }

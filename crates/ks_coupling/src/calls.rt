@@ -12,10 +12,9 @@ use crate::descent::find;
 use ks_arena::{Arena, Pass};
 use ks_flow::Tree;
 use ks_gate::{Gate, Point};
-use ks_history::Op;
 use ks_node::Unlinked;
-use ks_put::{pair_add, pair_put, swap_here};
-use ks_shape::{Full, Numbered, conclude, reply_of};
+use ks_put::{pair_add, pair_put};
+use ks_shape::{Full, Numbered, get_here, swap_here};
 use ks_tidy::{Tidied, come_down, del_on};
 use std::sync::Wait;
 
@@ -33,11 +32,7 @@ pub fn get<N: Unlinked, R: Wait, G: Gate>(
     ensures done { DoneOf arena.now coupling (Get place) pass.old pass.new (told result.found) result.number }
 {
     let held = find(rt, arena, pass, gate, place);
-    let found = held.body.get(place);
-    let reply = reply_of(found);
-    arena.get_law(pass, &held, place, &reply);
-    let number = conclude(arena, pass, gate, held, Op::Get(place), reply);
-    Numbered { number, found }
+    get_here(arena, pass, gate, place, held)
 }
 
 /// Puts a value at a place; answers the value that stood there, and the number of the call. It splits full nodes on its way

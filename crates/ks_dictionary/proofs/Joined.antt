@@ -6,8 +6,13 @@ use Rattle.std.proofs.lemmas.List.{map-append, append_assoc, append-nil, length-
 use Rattle.std.proofs.lemmas.List.{get_or-map}
 use Rattle.std.proofs.lemmas.List.Elements.{All-nil, All-push, All-from_recursion}
 use Rattle.std.proofs.Math.Seq.{take-append_seam}
-use mathlib.Core.Option.{some}
+use mathlib.Core.Option.{some, some-injective, some-ne-none}
 use lib.ListN.{get_elem?}
+use Rattle.atomic_table.proofs.Lists.{at_map}
+use Rattle.atomic_table.specs.Seated.{TableId}
+use Rattle.ks_keysets.specs.declared.Change.{Change}
+use Rattle.ks_keysets.specs.declared.Frame.{Frame}
+use Rattle.ks_keysets.specs.declared.NodeState.{NodeState}
 use Rattle.ks_history.specs.declared.Op.{Op}
 use Rattle.ks_history.specs.declared.Reply.{Reply}
 use Rattle.ks_history.specs.declared.Event.{Event}
@@ -18,12 +23,14 @@ use Rattle.ks_history.specs.Calls.{by_others_calls}
 use Rattle.ks_history.specs.Passes.{NoneBy, CallersBelow, GrowsByOthers}
 use Rattle.ks_history.specs.Served.{at_place, CalledBelow, IsListing, Served}
 use Rattle.ks_arena.specs.declared.held.Pass.{Pass}
+use Rattle.ks_arena.specs.Sound.{Sort}
 use Rattle.ks_arena.specs.Clauses.{EndsAll, seen_of}
 use Rattle.ks_shape.specs.Idle.{Site, IsIdle}
-use Rattle.ks_dictionary.specs.Crew.{AreNew, AreAll}
+use Rattle.ks_dictionary.specs.Crew.{AreNew, AreAll, site_with}
 use Rattle.ks_dictionary.specs.Called.{HaveCalled}
-use Rattle.ks_dictionary.specs.Work.{IsReadyJob, HasRun}
-use Rattle.ks_dictionary.specs.declared.workers.Job.{Job}
+use Rattle.ks_dictionary.specs.Work.{AreAbout, HasRun, WaitsAs, FinishedAs, asked_by, told_by}
+use Rattle.ks_dictionary.specs.declared.job.Job.{Job}
+use Rattle.ks_tickets.specs.Clauses.{EachAs}
 
 -- what was made so far and what is left are the whole, and so they are one element later
 pub more_of : {X Y : Type 0} (f : X → Y) (made made' : List X) (x : X) (left left' whole : List Y) →
@@ -58,42 +65,34 @@ ended xs ys m n is is' even (inr e) = none_left xs ys even (inr (sym is' ∙ e.1
 pub written : {X : Type 0} (n : ℕ) (xs ys : List X) → n ≡ length xs → length ys ≡ length xs → take n (ys ++ drop (length ys) xs) ≡ ys
 written n xs ys is same = ap (λ k. take k (ys ++ drop (length ys) xs)) (is ∙ sym same) ∙ take-append_seam ys (drop (length ys) xs)
 
--- the element at a place, of a list that is a map of another
-pub elem_map : {X Y : Type 0} (f : X → Y) (xs : List X) (j : ℕ) (d : X) → j < length xs → get_elem? (map f xs) j ≡ some (f (get_or xs j d))
-elem_map f [] j d lt = absurd (omega (arith, lt))
-elem_map f (x ∷ xs) zero d lt = refl
-elem_map f (x ∷ xs) (suc j) d lt = elem_map f xs j d (omega (arith, lt))
+-- the element at a place of a list, where it is a map of another
+pub at_of_map : {X Y : Type 0} (f : X → Y) (xs : List X) (j : ℕ) (y : Y) → get_elem? (map f xs) j ≡ some y → (x : X) × (get_elem? xs j ≡ some x) × (f x ≡ y)
+at_of_map f [] j y is = absurd (cc)
+at_of_map f (x ∷ xs) zero y is = let same : f x ≡ y = cc in (x, refl, same)
+at_of_map f (x ∷ xs) (suc j) y is = at_of_map f xs j y is
 
-pub record At {X Y : Type 0} (f : X → Y) (xs : List X) (j : ℕ) (y : Y) : Type 0 where
-  pub x : X
-  pub within : j < length xs
-  pub here : get_or xs j x ≡ x
-  pub is : f x ≡ y
+pub at_of_slice : {X : Type 0} (xs : List X) (j : ℕ) (y : X) → slice_get xs j ≡ Some y → get_elem? xs j ≡ some y
+at_of_slice [] j y is = absurd (cc)
+at_of_slice (x ∷ xs) zero y is = let same : x ≡ y = cc in ap some same
+at_of_slice (x ∷ xs) (suc j) y is = at_of_slice xs j y is
 
-pub elem_of : {X Y : Type 0} (f : X → Y) (xs : List X) (j : ℕ) (y : Y) → get_elem? (map f xs) j ≡ some y → At f xs j y
-elem_of f [] j y is = absurd (cc)
-elem_of f (x ∷ xs) zero y is = let same : f x ≡ y = cc in record { x = x; within = omega arith; here = refl; is = same }
-elem_of f (x ∷ xs) (suc j) y is = let r = elem_of f xs j y is in record { x = r.x; within = omega (arith, r.within); here = r.here; is = r.is }
+at_once : {X : Type 0} (xs : List X) (j : ℕ) (x y : X) → get_elem? xs j ≡ some x → get_elem? xs j ≡ some y → x ≡ y
+at_once xs j x y a b = some-injective x y (sym a ∙ b)
 
-pub slice_of : {X Y : Type 0} (f : X → Y) (xs : List X) (j : ℕ) (y : Y) → slice_get (map f xs) j ≡ Some y → At f xs j y
-slice_of f [] j y is = absurd (cc)
-slice_of f (x ∷ xs) zero y is = let same : f x ≡ y = cc in record { x = x; within = omega arith; here = refl; is = same }
-slice_of f (x ∷ xs) (suc j) y is = let r = slice_of f xs j y is in record { x = r.x; within = omega (arith, r.within); here = r.here; is = r.is }
+at_within : {X : Type 0} (xs : List X) (j : ℕ) (x : X) → get_elem? xs j ≡ some x → j < length xs
+at_within [] j x is = absurd (some-ne-none x (sym is))
+at_within (y ∷ xs) zero x is = omega arith
+at_within (y ∷ xs) (suc j) x is = let p = at_within xs j x is in omega arith
+
+at_or : {X : Type 0} (xs : List X) (j : ℕ) (x d : X) → get_elem? xs j ≡ some x → get_or xs j d ≡ x
+at_or [] j x d is = absurd (some-ne-none x (sym is))
+at_or (y ∷ xs) zero x d is = some-injective y x is
+at_or (y ∷ xs) (suc j) x d is = at_or xs j x d is
 
 elem_at : {X : Type 0} (xs : List X) (j : ℕ) → j < length xs → (x : X) × (get_elem? xs j ≡ some x)
 elem_at [] j lt = absurd (omega (arith, lt))
 elem_at (x ∷ xs) zero lt = (x, refl)
 elem_at (x ∷ xs) (suc j) lt = elem_at xs j (omega (arith, lt))
-
--- what holds of all of a map's list
-pub unmapped : {X Y : Type 0} (P : Y → Type 0) (f : X → Y) (xs : List X) (ys : List Y) → map f xs ≡ ys → All P ys → All (λ x. P (f x)) xs
-unmapped P f xs ys is all k d lt =
-    let long : length ys ≡ length xs = ap length (sym is) ∙ length-map xs f in
-    subst P (ap (λ zs. get_or zs k (f d)) (sym is) ∙ get_or-map f xs k d (f d) lt) (all k (f d) (omega (arith, long, lt)))
-
-pick : {X : Type 0} (xs : List X) (i : ℕ) → i < length xs → X
-pick [] i lt = absurd (omega (arith, lt))
-pick (x ∷ xs) i lt = x
 
 pub map_both : {X Y Z : Type 0} (f : Y → Z) (g : X → Y) (xs : List X) → map f (map g xs) ≡ map (λ x. f (g x)) xs
 map_both f g [] = refl
@@ -144,59 +143,73 @@ module _ (a : Site) {N D : Type 0} where
       let none : NoneBy 0 h = subst (NoneBy 0) (sym is) (subst (λ k. NoneBy k s.rest) q.caller s.others) in
       subst (HaveCalled place [] []) (sym (none_at_all h none (subst (λ k. CallersBelow k h) one below))) (called_nothing place)
 
-  -- new passes with scripts and room are ready
-  pub all_ready : (js : List (Job N D)) → AreNew a (map (λ j. j.pass) js) → All (λ j. length j.lines.items ≡ length j.ops.items) js
-      → All (λ j. IsReadyJob a j) js
-  all_ready js crew room k d lt =
-      let j : Job N D = get_or js k d in
-      let new = crew.each k j.pass (elem_map (λ j. j.pass) js k d lt) in
-      record {
-        pass = (new.pass, ap (hand j.pass.caller) new.seen);
-        fresh = ap (calls_by j.pass.caller) new.seen;
-        room = room k d lt;
-      }
+-- what jobs are about is the arena
+module _ (sort : Sort) (begins : Frame → Type 0) (step : (ℕ → NodeState) → (ℕ → Frame) → List Change → Type 0) (t : TableId) (c n : ℕ)
+    (t' : TableId) (c' n' : ℕ) (about : AreAbout (site_with sort begins step t c n) t' c' n') (P : Site → Type 0) where
+  pub at_arena : P (site_with sort begins step t' c' n') → P (site_with sort begins step t c n)
+  at_arena = subst (λ (z : TableId × ℕ × ℕ). P (site_with sort begins step z.0 z.1 z.2)) (λ k. (about.table_is k, about.callers_are k, about.nodes_are k))
 
-  module _ (place : ℕ → ℕ) (js ks : List (Job N D)) (crew : AreNew a (map (λ j. j.pass) js)) (long : length ks ≡ length js)
-      (ran : (i : ℕ) (d : Job N D) → i < length js → HasRun a place (get_or js i d) (get_or ks i d)) where
-    many : length js ≡ a.callers
-    many = sym (length-map js (λ j. j.pass)) ∙ crew.long
+  pub as_about : P (site_with sort begins step t c n) → P (site_with sort begins step t' c' n')
+  as_about = subst (λ (z : TableId × ℕ × ℕ). P (site_with sort begins step z.0 z.1 z.2)) (λ k. (sym about.table_is k, sym about.callers_are k, sym about.nodes_are k))
 
-    caller_at : (i : ℕ) (d : Job N D) → i < length js → (get_or js i d).pass.caller ≡ i
-    caller_at i d lt = (crew.each i (get_or js i d).pass (elem_map (λ j. j.pass) js i d lt)).caller
+module _ (a : Site) {N D W : Type 0} where
+  -- new passes with scripts and room wait
+  pub all_wait : (js : List (Job N D W)) → AreNew a (map (λ j. j.pass) js) → All (λ j. length j.lines.items ≡ length j.ops.items) js
+      → EachAs (WaitsAs a (map (λ j. j.ops.items) js)) js
+  all_wait js crew room t near =
+      let at = elem_at js t near in
+      let j : Job N D W = at.0 in
+      let new = crew.each t j.pass (at_map (λ x. x.pass) js t j at.1) in (
+        j,
+        at.1,
+        record {
+          ready = record {
+            pass = (new.pass, ap (hand j.pass.caller) new.seen);
+            fresh = ap (calls_by j.pass.caller) new.seen;
+            room = subst (λ (x : Job N D W). length x.lines.items ≡ length x.ops.items) (at_or js t j j at.1) (room t j near);
+          };
+          caller = new.caller;
+          script = at_map (λ x. x.ops.items) js t j at.1;
+        },
+      )
+
+  -- a job that waited has run
+  pub has_finished : (place : ℕ → ℕ) (scripts : List (List Op)) (before after : Job N D W) (t : ℕ) → WaitsAs a scripts before t → HasRun a place before after → FinishedAs a scripts place after t
+  has_finished place scripts before after t w r = record {
+    pass = r.pass;
+    caller = r.caller ∙ w.caller;
+    script = w.script ∙ ap (λ o. some o.items) (sym r.ops);
+    asked = ap (λ c. asked_by c (seen_of after.pass)) (sym w.caller) ∙ r.asked ∙ ap (λ o. map (at_place place) o.items) (sym r.ops);
+    told = ap (λ c. told_by c (seen_of after.pass)) (sym w.caller) ∙ r.told;
+  }
+
+  module _ (place : ℕ → ℕ) (scripts : List (List Op)) (js : List (Job N D W)) (all : a.callers ≡ length js) (long : length js ≡ length scripts)
+      (done : EachAs (FinishedAs a scripts place) js) where
+    job_at : (t : ℕ) (j : Job N D W) → get_elem? js t ≡ some j → FinishedAs a scripts place j t
+    job_at t j is = let d = done t (at_within js t j is) in subst (λ (x : Job N D W). FinishedAs a scripts place x t) (at_once js t d.0 j d.1 is) d.2
 
     -- after their work the passes are a crew
-    pub is_crew : AreAll a (map (λ j. j.pass) ks)
+    pub is_crew : AreAll a (map (λ j. j.pass) js)
     is_crew = record {
-      each = λ j p is.
-          let at = elem_of (λ j. j.pass) ks j p is in
-          let lt : j < length js = omega (arith, at.within, long) in
-          let r = ran j at.x lt in
-          let same : (get_or ks j at.x).pass ≡ p = ap (λ k. k.pass) at.here ∙ at.is in
-          subst (λ q. IsIdle a q) same r.pass;
-      all = λ c lt.
-          let in' : c < length js = omega (arith, lt, many) in
-          let in'' : c < length ks = omega (arith, in', long) in
-          let d : Job N D = pick js c in' in
-          (c, (get_or ks c d).pass, elem_map (λ j. j.pass) ks c d in'', (ran c d in').caller ∙ caller_at c d in');
+      each = λ t p is. let at = at_of_map (λ j. j.pass) js t p is in subst (λ q. IsIdle a q) at.2 (job_at t at.0 at.1).pass;
+      all = λ c lt. let d = done c (omega (arith, lt, all)) in (c, d.0.pass, at_map (λ j. j.pass) js c d.0 d.1, d.2.caller);
     }
 
-    module _ (h : List Event) (seen : EndsAll h (map (λ j. j.pass) ks)) (below : CallersBelow a.callers h) where
-      calls_at : (c : ℕ) (d : Job N D) → c < length js → calls_by c h ≡ calls_by (get_or js c d).pass.caller (seen_of (get_or ks c d).pass)
-      calls_at c d lt =
-          let p : Pass N D = (get_or ks c d).pass in
-          let mine : p.caller ≡ c = (ran c d lt).caller ∙ caller_at c d lt in
-          let grows : GrowsByOthers c (seen_of p) h = subst (λ k. GrowsByOthers k (seen_of p) h) mine (seen c p (elem_map (λ j. j.pass) ks c d (omega (arith, lt, long)))) in
-          by_others_calls c (seen_of p) h grows ∙ ap (λ k. calls_by k (seen_of p)) (sym (caller_at c d lt))
+    module _ (h : List Event) (seen : EndsAll h (map (λ j. j.pass) js)) (below : CallersBelow a.callers h) where
+      calls_at : (c : ℕ) (j : Job N D W) → get_elem? js c ≡ some j → calls_by c h ≡ calls_by c (seen_of j.pass)
+      calls_at c j is =
+          let grows : GrowsByOthers c (seen_of j.pass) h = subst (λ k. GrowsByOthers k (seen_of j.pass) h) (job_at c j is).caller (seen c j.pass (at_map (λ x. x.pass) js c j is)) in
+          by_others_calls c (seen_of j.pass) h grows
 
-      pub have_called : HaveCalled place (map (λ j. j.ops.items) js) (map (λ j. j.lines.items) ks) h
+      pub have_called : HaveCalled place scripts (map (λ j. j.lines.items) js) h
       have_called = record {
         asked = λ c ops is.
-            let at = slice_of (λ j. j.ops.items) js c ops is in
-            ap (map (λ x. x.call.op)) (calls_at c at.x at.within) ∙ (ran c at.x at.within).asked ∙ ap (λ j. map (at_place place) j.ops.items) at.here ∙ ap (map (at_place place)) at.is;
+            let at = at_of_slice scripts c ops is in
+            let d = done c (omega (arith, long, at_within scripts c ops at)) in
+            ap (map (λ x. x.call.op)) (calls_at c d.0 d.1) ∙ d.2.asked ∙ ap (map (at_place place)) (at_once scripts c d.0.ops.items ops d.2.script at);
         told = λ c ls is.
-            let at = slice_of (λ j. j.lines.items) ks c ls is in
-            let lt : c < length js = omega (arith, at.within, long) in
-            ap (map (λ x. (x.number, x.call.reply))) (calls_at c at.x lt) ∙ (ran c at.x lt).told ∙ ap (λ j. j.lines.items) at.here ∙ at.is;
-        callers = length-map ks (λ j. j.lines.items) ∙ long ∙ sym (length-map js (λ j. j.ops.items));
-        others = subst (λ k. All (CalledBelow k) h) (sym many ∙ sym (length-map js (λ j. j.ops.items))) (All-from_recursion (CalledBelow a.callers) h (called_below a.callers h below));
+            let at = at_of_map (λ j. j.lines.items) js c ls (at_of_slice (map (λ j. j.lines.items) js) c ls is) in
+            ap (map (λ x. (x.number, x.call.reply))) (calls_at c at.0 at.1) ∙ (job_at c at.0 at.1).told ∙ at.2;
+        callers = length-map js (λ j. j.lines.items) ∙ long;
+        others = subst (λ k. All (CalledBelow k) h) (all ∙ long) (All-from_recursion (CalledBelow a.callers) h (called_below a.callers h below));
       }

@@ -1,5 +1,5 @@
 -- All passes of a dictionary, and its notes.
-use Rattle.std.specs.Prelude.{ℕ, List}
+use Rattle.std.specs.Prelude.{ℕ, List, []}
 use Rattle.atomic_table.specs.Seated.{TableId}
 use Rattle.ks_keysets.specs.declared.Change.{Change}
 use Rattle.ks_keysets.specs.declared.Frame.{Frame}
@@ -9,6 +9,10 @@ use Rattle.ks_arena.specs.declared.held.Pass.{Pass}
 use Rattle.ks_arena.specs.Sound.{Sort}
 use Rattle.ks_arena.specs.Clauses.{IsNote, IsNewCrew, IsCrew}
 use Rattle.ks_shape.specs.Idle.{Site}
+
+-- a table that no arena stands on
+abbrev pub no_table : TableId
+no_table = record { words = 0; slots = 0; views_name = 0; atom = 0; block = 0; offset = 0; slot_names = [] }
 
 -- an arena by its parts, for clauses of closures
 abbrev pub site_with : Sort → (Frame → Type 0) → ((ℕ → NodeState) → (ℕ → Frame) → List Change → Type 0) → TableId → ℕ → ℕ → Site

@@ -1,7 +1,8 @@
-//! A dictionary may be shared by threads, and its passes, its notes and what is left of it may go to another.
+//! A dictionary may be shared by threads, and its passes, its notes, its callers and what is left of it may go to another.
+use crate::about::About;
 use crate::closed::Closed;
 use crate::dictionary::Dictionary;
-use crate::workers::Job;
+use crate::job::Job;
 use ks_arena::{Arena, Note, Pass};
 use ks_node::Node;
 use ks_shape::{Ruled, Template};
@@ -10,11 +11,15 @@ fn is_sync<T: Sync>(_x: &T) {}
 
 fn is_send<T: Send>(_x: &T) {}
 
-pub fn fits_threads<N: Node + Send, T: Ruled + Template<N, Arena<N, <T as Ruled>::Rule>>>(
+pub fn fits_threads<
+    N: Node + Send,
+    T: Ruled + Template<N, Arena<N, <T as Ruled>::Rule>>,
+    W: About + Send,
+>(
     dictionary: &Dictionary<N, T>,
     pass: &Pass<N, T::Rule>,
     note: &Note<N, T::Rule>,
-    job: &Job<N, T::Rule>,
+    job: &Job<N, T::Rule, W>,
     closed: &Closed<N>,
 ) {
     is_sync(dictionary);

@@ -1,22 +1,26 @@
 //! Dictionaries that many callers use at once: keys for places, numbered calls, and the work of all callers.
 //!
 //! A `Dictionary` is an arena of nodes and a technique by which callers come from node to node. Its calls take keys; each
-//! stands once, with its number, in one history of a map. `serve_callers` runs a script for each of many callers, each in
-//! joined work of its own, and gives what they were answered and the map at the end.
+//! stands once, with its number, in one history of a map. `serve_callers` runs a script for each of many callers, by workers
+//! that draw whole callers, and gives what they were answered and the map at the end.
 //!
 //! Memory is taken before the callers run and after they have ended, and at no moment between: the functions that run
 //! them take no allocator.
 #![tactic(auto)]
 
+mod about;
 mod closed;
 mod dictionary;
 mod fit;
+mod job;
 mod merging;
 mod serving;
 mod workers;
 
+pub use about::About;
 pub use closed::Closed;
 pub use dictionary::Dictionary;
 pub use fit::fits_threads;
+pub use job::Job;
 pub use serving::{Told, serve_callers};
-pub use workers::{Job, work};
+pub use workers::work;

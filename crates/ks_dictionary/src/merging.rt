@@ -16,12 +16,7 @@ impl<N: Node, T: Ruled + Compacting<N, Arena<N, <T as Ruled>::Rule>>> Dictionary
     /// modulo 2^32. No key and no value changes: it is no call of the history, and claims no node. If no other caller did
     /// anything meanwhile and it made none free, no node fits with its right neighbour, and the root is no branch over one
     /// child; so a caller that is alone repeats it until it answers 0.
-    pub fn compact<R: Wait, G: Gate>(
-        &self,
-        rt: &R,
-        pass: &mut Pass<N, T::Rule>,
-        gate: &G,
-    ) -> u32
+    pub fn compact<R: Wait, G: Gate>(&self, rt: &R, pass: &mut Pass<N, T::Rule>, gate: &G) -> u32
         requires pass { IsIdle (⟦<Dictionary<N, T> as Shelf>⟧.site self.now) pass.old }
         ensures pass { IsIdle (⟦<Dictionary<N, T> as Shelf>⟧.site self.now) pass.new }
         ensures caller { pass.new.caller ≡ pass.old.caller }

@@ -1,5 +1,5 @@
 //! All callers are served at once over one dictionary, and what they did is one legal history.
-ghost use Rattle.std.specs.Prelude.{◌≡◌, ℕ, ◌<◌, ◌≤◌, [], map, length, All, IfOk};
+ghost use Rattle.std.specs.Prelude.{◌≡◌, ◌<◌, ◌≤◌, ◌⊎◌, [], map, length, All, IfOk};
 ghost use Rattle.ks_history.specs.Due.{FullsDue};
 ghost use Rattle.ks_history.specs.Lawful.{Lawful, GoodThroughout};
 ghost use Rattle.ks_history.specs.Served.{Served};
@@ -7,16 +7,21 @@ ghost use Rattle.ks_arena.specs.Sound.{sort_of};
 ghost use Rattle.ks_dictionary.specs.Called.{HaveCalled};
 ghost use Rattle.ks_dictionary.specs.Crew.{AreNew};
 ghost use Rattle.ks_dictionary.specs.Ended.{HasEndedWith, history};
+ghost use Rattle.ks_dictionary.specs.Work.{AreAbout};
 
+use crate::about::About;
 use crate::closed::Closed;
 use crate::dictionary::Dictionary;
-use crate::workers::{Job, work};
+use crate::job::Job;
+use crate::workers::work;
 use ks_arena::{Arena, Pass, RunTrace};
 use ks_gate::Gate;
 use ks_history::{Op, Reply, keyset_theorem};
 use ks_node::Node;
 use ks_shape::{Ruled, Shelf, Template};
+use ks_tickets::Tickets;
 use std::alloc::{AllocError, Global};
+use std::marker::{Brand, PhantomData};
 use std::sync::Wait;
 use std::thread::Threads;
 
@@ -41,11 +46,11 @@ fn blank_lines(alloc: Global, calls: usize) -> Result<Vec<(u64, Reply)>, AllocEr
 }
 
 /// Each pass with its script, and a line for each of its calls.
-fn jobs_of<N, D>(
+fn jobs_of<N, D, W>(
     alloc: Global,
     passes: Vec<Pass<N, D>>,
     scripts: Vec<Vec<Op>>,
-) -> Result<Vec<Job<N, D>>, AllocError>
+) -> Result<Vec<Job<N, D, W>>, AllocError>
     requires { length passes.items ≡ length scripts.items }
     ensures passes { IfOk result (λ jobs. map (λ job. job.pass) jobs.items ≡ passes.items) }
     ensures scripts { IfOk result (λ jobs. map (λ job. job.ops) jobs.items ≡ scripts.items) }
@@ -54,15 +59,20 @@ fn jobs_of<N, D>(
     let mut jobs = Vec::with_capacity(alloc, passes.len())?;
     for (pass, ops) in passes.into_iter().zip(scripts) {
         let lines = blank_lines(alloc, ops.len())?;
-        jobs.push(Job { pass, ops, lines })?;
+        jobs.push(Job {
+            pass,
+            ops,
+            lines,
+            about: PhantomData,
+        })?;
     }
     Ok(jobs)
 }
 
 /// The passes and the lines apart.
-fn apart<N, D>(
+fn apart<N, D, W>(
     alloc: Global,
-    jobs: Vec<Job<N, D>>,
+    jobs: Vec<Job<N, D, W>>,
 ) -> Result<(Vec<Pass<N, D>>, Vec<Vec<(u64, Reply)>>), AllocError>
     ensures passes { IfOk result (λ r. r.0.items ≡ map (λ job. job.pass) jobs.items) }
     ensures lines { IfOk result (λ r. r.1.items ≡ map (λ job. job.lines) jobs.items) }
@@ -74,6 +84,7 @@ fn apart<N, D>(
             pass,
             ops: _,
             lines: told,
+            about: _,
         } = job;
         passes.push(pass)?;
         lines.push(told)?;
@@ -81,31 +92,55 @@ fn apart<N, D>(
     Ok((passes, lines))
 }
 
-/// Serves all jobs at once, and ends the dictionary. Memory is taken only once the callers have ended.
+/// How many workers serve so many callers: the lesser of the two numbers.
+fn workers_for(callers: usize, workers: u32) -> u32
+    ensures least { (result ≤ callers) × (result ≤ workers) }
+    ensures one { (result ≡ callers) ⊎ (result ≡ workers) }
+{
+    if callers < workers as usize {
+        callers as u32
+    } else {
+        workers
+    }
+}
+
+/// Serves all callers by so many workers, at most one for each, and ends the dictionary. Memory is taken only before the
+/// workers begin and once they have ended.
 fn serve_jobs<
     N: Node + Send,
     T: Ruled + Template<N, Arena<N, <T as Ruled>::Rule>>,
     R: Threads + Wait + Sync,
     G: Gate + Sync,
+    W: About + Send + Sync,
 >(
     rt: &R,
     alloc: Global,
     dictionary: Dictionary<N, T>,
     gate: &G,
-    mut jobs: Vec<Job<N, T::Rule>>,
+    passes: Vec<Pass<N, T::Rule>>,
+    scripts: Vec<Vec<Op>>,
+    workers: u32,
 ) -> Result<(Closed<N>, Vec<Vec<(u64, Reply)>>), AllocError>
 where
     N::Places: Send + Sync,
-    requires some { 0 < length jobs.items }
-    requires crew { AreNew (⟦<Dictionary<N, T> as Shelf>⟧.site dictionary) (map (λ job. job.pass) jobs.items) }
-    requires room { All (λ job. length job.lines.items ≡ length job.ops.items) jobs.items }
+    requires about { AreAbout (⟦<Dictionary<N, T> as Shelf>⟧.site dictionary) W.table W.callers W.nodes }
+    requires scripts { W.scripts ≡ map (λ v. v.items) scripts.items }
+    requires crew { AreNew (⟦<Dictionary<N, T> as Shelf>⟧.site dictionary) passes.items }
+    requires even { length passes.items ≡ length scripts.items }
+    requires some { 0 < length scripts.items }
+    requires few { length scripts.items ≤ 1024 }
+    requires workers { (1 ≤ workers) × (workers ≤ 64) }
     ensures ended { IfOk result (λ r. HasEndedWith (sort_of N.layout N.ranged) N.body
         (⟦<Dictionary<N, T> as Shelf>⟧.site dictionary).nodes r.0) }
-    ensures called { IfOk result (λ r. HaveCalled N.Places.place_of (map (λ job. job.ops.items) jobs.items)
+    ensures called { IfOk result (λ r. HaveCalled N.Places.place_of (map (λ v. v.items) scripts.items)
         (map (λ v. v.items) r.1.items) (history r.0)) }
 {
-    work(rt, &dictionary, gate, jobs.as_mut_slice());
-    let (passes, lines) = apart(alloc, jobs)?;
+    let jobs = jobs_of::<N, T::Rule, W>(alloc, passes, scripts)?;
+    let into = Vec::with_capacity(alloc, jobs.len())?;
+    let desks = workers_for(jobs.len(), workers);
+    let (tickets, mut desks) = Tickets::start(alloc, jobs, desks)?;
+    work(rt, &dictionary, gate, &tickets, desks.as_mut_slice());
+    let (passes, lines) = apart(alloc, tickets.close(desks, into))?;
     Ok((dictionary.close(passes), lines))
 }
 
@@ -122,7 +157,7 @@ fn serve_nobody<N: Node, T: Ruled + Template<N, Arena<N, <T as Ruled>::Rule>>>(
     Ok(dictionary.close(passes))
 }
 
-/// Serves all callers at once over a dictionary that begins empty, and ends it.
+/// Serves all callers over a dictionary that begins empty, and ends it.
 fn serve_all<
     N: Node + Send,
     T: Ruled + Template<N, Arena<N, <T as Ruled>::Rule>>,
@@ -133,12 +168,14 @@ fn serve_all<
     alloc: Global,
     nodes: u32,
     scripts: Vec<Vec<Op>>,
+    workers: u32,
     gate: &G,
 ) -> Result<(Closed<N>, Vec<Vec<(u64, Reply)>>), AllocError>
 where
     N::Places: Send + Sync,
     requires nodes { (4 ≤ nodes) × (nodes ≤ 1048576) }
     requires callers { length scripts.items ≤ 1024 }
+    requires workers { (1 ≤ workers) × (workers ≤ 64) }
     ensures ended { IfOk result (λ r. HasEndedWith (sort_of N.layout N.ranged) N.body nodes r.0) }
     ensures called { IfOk result (λ r. HaveCalled N.Places.place_of (map (λ v. v.items) scripts.items)
         (map (λ v. v.items) r.1.items) (history r.0)) }
@@ -149,12 +186,12 @@ where
     }
     let callers = scripts.len() as u32;
     let (dictionary, passes) = Dictionary::<N, T>::start(alloc, nodes, callers)?;
-    let jobs = jobs_of(alloc, passes, scripts)?;
-    serve_jobs(rt, alloc, dictionary, gate, jobs)
+    serve_jobs::<N, T, R, G, Brand>(rt, alloc, dictionary, gate, passes, scripts, workers)
 }
 
-/// Serves all callers at once over a dictionary that begins empty, each in its order and in joined work of its own. What
-/// they did is one legal history of a map, the graph was good at each moment of it, and each Full was due. Memory is
+/// Serves all callers over a dictionary that begins empty, each in its order: so many workers run beside each other, or
+/// one for each caller where there are fewer, and each draws a caller and serves it whole until none is left. What the
+/// callers did is one legal history of a map, the graph was good at each moment of it, and each Full was due. Memory is
 /// taken before the first call and after the last alone.
 ///
 /// # Errors
@@ -165,18 +202,26 @@ pub fn serve_callers<
     T: Ruled + Template<N, Arena<N, <T as Ruled>::Rule>>,
     R: Threads + Wait + Sync,
     G: Gate + Sync,
->(rt: &R, alloc: Global, nodes: u32, scripts: Vec<Vec<Op>>, gate: &G) -> Result<Told, AllocError>
+>(
+    rt: &R,
+    alloc: Global,
+    nodes: u32,
+    scripts: Vec<Vec<Op>>,
+    workers: u32,
+    gate: &G,
+) -> Result<Told, AllocError>
 where
     N::Places: Send + Sync,
     requires nodes { (4 ≤ nodes) × (nodes ≤ 1048576) }
     requires callers { length scripts.items ≤ 1024 }
+    requires workers { (1 ≤ workers) × (workers ≤ 64) }
     ensures served { IfOk result (λ told. Served N.Places.place_of (map (λ v. v.items) scripts.items)
         (map (λ v. v.items) told.lines.items) told.pairs.items (told.trace)) }
     ensures lawful { IfOk result (λ told. Lawful (told.trace)) }
     ensures good { IfOk result (λ told. GoodThroughout (told.trace)) }
     ensures due { IfOk result (λ told. FullsDue N.layout nodes (told.trace)) }
 {
-    let (ended, lines) = serve_all::<N, T, R, G>(rt, alloc, nodes, scripts, gate)?;
+    let (ended, lines) = serve_all::<N, T, R, G>(rt, alloc, nodes, scripts, workers, gate)?;
     keyset_theorem();
     let pairs = ended.pairs(alloc)?;
     Ok(Told {

@@ -1,5 +1,5 @@
-//! The work of the callers, each in joined work of its own. It takes no memory: each job has a line for each of its calls
-//! from the start.
+//! The work of the callers, by workers that draw whole callers. It takes no memory: each job has a line for each of its
+//! calls from the start.
 ghost use Rattle.std.specs.Prelude.{◌≡◌, ℕ, ◌<◌, ◌++◌, ◌∷◌, [], map, length, All, slice_index_or};
 ghost use Rattle.ks_history.specs.Map.{told};
 ghost use Rattle.ks_history.specs.Trace.{calls_by};
@@ -10,24 +10,20 @@ ghost use Rattle.ks_arena.specs.Clauses.{seen_of};
 ghost use Rattle.ks_shape.specs.Answers.{number_in, reply_in};
 ghost use Rattle.ks_shape.specs.Idle.{IsIdle};
 ghost use Rattle.ks_dictionary.specs.Crew.{site_with};
-ghost use Rattle.ks_dictionary.specs.Work.{HasAnswered, HasAsked, HasRun, IsReadyJob};
+ghost use Rattle.ks_dictionary.specs.Work.{AreAbout, HasAnswered, HasAsked, HasRun, IsReadyJob};
+ghost use Rattle.ks_tickets.specs.Clauses.{HasEnded, IsFree, IsSameDesk};
 
+use crate::about::About;
 use crate::dictionary::Dictionary;
+use crate::job::Job;
 use ks_arena::{Arena, Pass};
 use ks_gate::Gate;
 use ks_history::{Op, Reply};
 use ks_node::Node;
 use ks_shape::{Full, Numbered, Ruled, Shelf, Template, reply_of};
+use ks_tickets::{Desk, Tickets};
 use std::sync::Wait;
 use std::thread::{Threads, for_each_mut};
-
-/// A caller: its pass, its script, and room for a number and a reply for each of its calls.
-#[derive(Drop)]
-pub struct Job<N, D> {
-    pub pass: Pass<N, D>,
-    pub ops: Vec<Op>,
-    pub lines: Vec<(u64, Reply)>,
-}
 
 /// The number and the reply that an answer tells.
 fn line_of(answer: Numbered) -> (u64, Reply)
@@ -92,11 +88,11 @@ fn call_each<N: Node, T: Ruled + Template<N, Arena<N, <T as Ruled>::Rule>>, R: W
 }
 
 /// Serves one caller.
-fn run_job<N: Node, T: Ruled + Template<N, Arena<N, <T as Ruled>::Rule>>, R: Wait, G: Gate>(
+fn run_job<N: Node, T: Ruled + Template<N, Arena<N, <T as Ruled>::Rule>>, R: Wait, G: Gate, W>(
     rt: &R,
     dictionary: &Dictionary<N, T>,
     gate: &G,
-    job: &mut Job<N, T::Rule>,
+    job: &mut Job<N, T::Rule, W>,
 )
     requires { IsReadyJob (⟦<Dictionary<N, T> as Shelf>⟧.site dictionary.now) job.old }
     ensures { HasRun (⟦<Dictionary<N, T> as Shelf>⟧.site dictionary.now) N.Places.place_of job.old job.new }
@@ -111,33 +107,68 @@ fn run_job<N: Node, T: Ruled + Template<N, Arena<N, <T as Ruled>::Rule>>, R: Wai
     );
 }
 
-/// Serves all callers at once, each in joined work of its own. Each job ends with all calls of its script made, in
-/// order, and their numbers and replies in its lines.
+/// Draws callers at the desk and serves each, until none is left.
+fn work_at<
+    N: Node,
+    T: Ruled + Template<N, Arena<N, <T as Ruled>::Rule>>,
+    R: Wait,
+    G: Gate,
+    W: About,
+>(
+    rt: &R,
+    dictionary: &Dictionary<N, T>,
+    gate: &G,
+    tickets: &Tickets<Job<N, T::Rule, W>>,
+    desk: &mut Desk<Job<N, T::Rule, W>>,
+)
+    requires about { AreAbout (⟦<Dictionary<N, T> as Shelf>⟧.site dictionary.now) W.table W.callers W.nodes }
+    requires desk { IsFree tickets.now desk.old }
+    ensures ended { HasEnded tickets.now desk.new }
+    ensures same { IsSameDesk desk.old desk.new }
+{
+    while let Some((ticket, mut job)) = tickets.draw(desk) {
+        run_job(rt, dictionary, gate, &mut job);
+        tickets.finish(desk, ticket, job);
+    }
+}
+
+/// Serves the callers of all tickets, by a worker at each desk: each in joined work of its own. A worker serves a caller
+/// whole before it draws the next.
 pub fn work<
     N: Node + Send,
     T: Ruled + Template<N, Arena<N, <T as Ruled>::Rule>>,
     R: Threads + Wait + Sync,
     G: Gate + Sync,
->(rt: &R, dictionary: &Dictionary<N, T>, gate: &G, jobs: &mut [Job<N, T::Rule>])
+    W: About + Send + Sync,
+>(
+    rt: &R,
+    dictionary: &Dictionary<N, T>,
+    gate: &G,
+    tickets: &Tickets<Job<N, T::Rule, W>>,
+    desks: &mut [Desk<Job<N, T::Rule, W>>],
+)
 where
     N::Places: Send + Sync,
-    requires some { 0 < length jobs.old }
-    requires ready { All (λ job. IsReadyJob (⟦<Dictionary<N, T> as Shelf>⟧.site dictionary.now) job) jobs.old }
-    ensures same { length jobs.new ≡ length jobs.old }
-    ensures ran { (i : ℕ) (d : _) → i < length jobs.old → HasRun (⟦<Dictionary<N, T> as Shelf>⟧.site dictionary.now)
-        N.Places.place_of (slice_index_or jobs.old i d) (slice_index_or jobs.new i d) }
+    requires some { 0 < length desks.old }
+    requires about { AreAbout (⟦<Dictionary<N, T> as Shelf>⟧.site dictionary.now) W.table W.callers W.nodes }
+    requires free { All (λ desk. IsFree tickets.now desk) desks.old }
+    ensures count { length desks.new ≡ length desks.old }
+    ensures ended { (i : ℕ) (d : _) → i < length desks.old → HasEnded tickets.now (slice_index_or desks.new i d) }
+    ensures same { (i : ℕ) (d : _) → i < length desks.old →
+        IsSameDesk (slice_index_or desks.old i d) (slice_index_or desks.new i d) }
 {
-    let threads = jobs.len();
+    let threads = desks.len();
     for_each_mut(
         rt,
-        jobs,
+        desks,
         threads,
-        &|_: usize, job: &mut Job<N, T::Rule>|
-            requires { IsReadyJob (site_with (sort_of N.layout N.ranged) T.Rule.begins T.Rule.step
-                dictionary.now.arena.table.shared.table_id dictionary.now.arena.callers dictionary.now.arena.nodes) job.old }
-            ensures { HasRun (site_with (sort_of N.layout N.ranged) T.Rule.begins T.Rule.step
-                dictionary.entry.now.arena.table.shared.table_id dictionary.entry.now.arena.callers dictionary.entry.now.arena.nodes)
-                N.Places.place_of job.old job.new }
-        { run_job(rt, dictionary, gate, job) },
+        &|_: usize, desk: &mut Desk<Job<N, T::Rule, W>>|
+            requires about { AreAbout (site_with (sort_of N.layout N.ranged) T.Rule.begins T.Rule.step
+                dictionary.now.arena.table.shared.table_id dictionary.now.arena.callers dictionary.now.arena.nodes)
+                W.table W.callers W.nodes }
+            requires desk { IsFree tickets.now desk.old }
+            ensures ended { HasEnded tickets.entry.now desk.new }
+            ensures same { IsSameDesk desk.old desk.new }
+        { work_at(rt, dictionary, gate, tickets, desk) },
     );
 }

@@ -1,59 +1,49 @@
 //! The technique for tests: each call is made at the root. Where the root has an edge at the place, or is full for it, the
 //! call waits for ever: it never answers what is not so.
 ghost use Rattle.std.specs.Prelude.{◌≡◌};
-ghost use Rattle.ks_history.specs.declared.Op.{Op as Operation};
 ghost use Rattle.ks_history.specs.declared.Op.TheVariants.{Add, Del, Get, Put, Swap};
 ghost use Rattle.ks_history.specs.Map.{told};
-ghost use Rattle.ks_history.specs.Done.{coupling, Done};
-ghost use Rattle.ks_history.specs.Underway.{Underway};
-ghost use Rattle.ks_flow.specs.Discipline.{BeginsTree, TreeStep};
-ghost use Rattle.ks_node.specs.declared.start.Next.TheVariants.{Here};
-ghost use Rattle.ks_node.specs.Body.{next_at};
-ghost use Rattle.ks_arena.specs.Sound.{sort_of};
-ghost use Rattle.ks_arena.specs.Clauses.{IsPass, seen_of};
-ghost use Rattle.ks_shape.specs.Idle.{IsIdle};
-ghost use Rattle.ks_shape.specs.OnWay.{IsOnWay};
+ghost use Rattle.ks_history.specs.Done.{coupling};
+ghost use Rattle.ks_arena.specs.Of.{IsPassOf, IsEmptyPassOf};
+ghost use Rattle.ks_shape.specs.Of.{DoneOf, IsUnderway, SearchEndsAt};
 
-use ks_arena::laws::{root_stays_law, sound_law};
-use ks_arena::{Arena, Held, Pass, root_law};
+use ks_arena::{Arena, Held, Pass};
 use ks_flow::Tree;
 use ks_gate::{Gate, Point};
-use ks_history::{Op, Reply};
-use ks_node::{Next, Unlinked, node_law};
-use ks_shape::{Full, Numbered, Ruled, Shelf, Template, conclude, reply_of};
+use ks_node::{Next, Unlinked};
+use ks_shape::{Full, Numbered, Ruled, Template, add_here, del_here, get_here, has_room, put_here, swap_here, take_root, tree_end_law};
 use std::sync::Wait;
 
 /// Makes all calls at the root.
 pub struct AtRoot;
 
 /// Takes the root, where the search for the place ends there.
-fn take_root<N: Unlinked, R: Wait, G: Gate>(
+fn reach<N: Unlinked, R: Wait, G: Gate>(
     rt: &R,
     arena: &Arena<N, Tree>,
     pass: &mut Pass<N, Tree>,
     gate: &G,
     place: u64,
 ) -> Held<N>
-    requires pass { IsIdle (⟦<Arena<N, Tree> as Shelf>⟧.site arena.now) pass.old }
+    requires pass { IsEmptyPassOf arena.now pass.old }
     ensures pass { IsPassOf arena.now pass.new }
     ensures caller { pass.new.caller ≡ pass.old.caller }
-    ensures way { IsOnWayOf arena.now pass.old.caller place pass.new result }
-    ensures ends { next_at (N.body result.body) place ≡ Here }
+    ensures ends { SearchEndsAt arena.now place pass.new result }
     ensures under { IsUnderway coupling pass.old pass.new }
 {
-    root_stays_law::<Tree>();
     gate.at(pass.caller(), Point::Begin);
-    let Some(held) = arena.take(rt, pass, 0) else {
-        unreachable!()
-    };
-    root_law(&held, place);
-    gate.at(pass.caller(), Point::Taken(0));
-    if let Next::Go(_) = held.body.next(place) {
-        arena.give(pass, held);
-        for _ in rt.forever() {}
-        unreachable!()
+    let held = take_root(rt, arena, pass, gate, place);
+    match held.body.next(place) {
+        Next::Here => {
+            tree_end_law(arena, pass, &held, place);
+            held
+        }
+        Next::Go(_) => {
+            arena.give(pass, held);
+            for _ in rt.forever() {}
+            unreachable!()
+        }
     }
-    held
 }
 
 /// Answers the value at a place.
@@ -64,18 +54,13 @@ fn get<N: Unlinked, R: Wait, G: Gate>(
     gate: &G,
     place: u64,
 ) -> Numbered
-    requires pass { IsIdle (⟦<Arena<N, Tree> as Shelf>⟧.site arena.now) pass.old }
-    ensures pass { IsIdle (⟦<Arena<N, Tree> as Shelf>⟧.site arena.now) pass.new }
+    requires pass { IsEmptyPassOf arena.now pass.old }
+    ensures pass { IsEmptyPassOf arena.now pass.new }
     ensures caller { pass.new.caller ≡ pass.old.caller }
-    ensures done { Done N.layout coupling arena.now.nodes pass.old.caller (Get place) (seen_of pass.old) (seen_of pass.new)
-        (told result.found) result.number }
+    ensures done { DoneOf arena.now coupling (Get place) pass.old pass.new (told result.found) result.number }
 {
-    let held = take_root(rt, arena, pass, gate, place);
-    let found = held.body.get(place);
-    let reply = reply_of(found);
-    arena.get_law(pass, &held, place, &reply);
-    let number = conclude(arena, pass, gate, held, Op::Get(place), reply);
-    Numbered { number, found }
+    let held = reach(rt, arena, pass, gate, place);
+    get_here(arena, pass, gate, place, held)
 }
 
 /// Sets the value at a place.
@@ -87,25 +72,18 @@ fn put<N: Unlinked, R: Wait, G: Gate>(
     place: u64,
     value: u128,
 ) -> Numbered
-    requires pass { IsIdle (⟦<Arena<N, Tree> as Shelf>⟧.site arena.now) pass.old }
-    ensures pass { IsIdle (⟦<Arena<N, Tree> as Shelf>⟧.site arena.now) pass.new }
+    requires pass { IsEmptyPassOf arena.now pass.old }
+    ensures pass { IsEmptyPassOf arena.now pass.new }
     ensures caller { pass.new.caller ≡ pass.old.caller }
-    ensures done { Done N.layout coupling arena.now.nodes pass.old.caller (Put place value) (seen_of pass.old) (seen_of pass.new)
-        (told result.found) result.number }
+    ensures done { DoneOf arena.now coupling (Put place value) pass.old pass.new (told result.found) result.number }
 {
-    let mut held = take_root(rt, arena, pass, gate, place);
-    if held.body.is_full() {
-        arena.give(pass, held);
-        for _ in rt.forever() {}
-        unreachable!()
+    let held = reach(rt, arena, pass, gate, place);
+    if has_room(&held, place) {
+        return put_here(arena, pass, gate, place, value, held);
     }
-    sound_law::<Tree>();
-    node_law(&held.body);
-    arena.put_law(pass, &held, place, value);
-    let found = held.body.put(place, value);
-    let op = Op::Put(place, value);
-    let number = conclude(arena, pass, gate, held, op, reply_of(found));
-    Numbered { number, found }
+    arena.give(pass, held);
+    for _ in rt.forever() {}
+    unreachable!()
 }
 
 /// Sets the value at a place where none stands.
@@ -117,39 +95,18 @@ fn add<N: Unlinked, R: Wait, G: Gate>(
     place: u64,
     value: u128,
 ) -> Numbered
-    requires pass { IsIdle (⟦<Arena<N, Tree> as Shelf>⟧.site arena.now) pass.old }
-    ensures pass { IsIdle (⟦<Arena<N, Tree> as Shelf>⟧.site arena.now) pass.new }
+    requires pass { IsEmptyPassOf arena.now pass.old }
+    ensures pass { IsEmptyPassOf arena.now pass.new }
     ensures caller { pass.new.caller ≡ pass.old.caller }
-    ensures done { Done N.layout coupling arena.now.nodes pass.old.caller (Add place value) (seen_of pass.old) (seen_of pass.new)
-        (told result.found) result.number }
+    ensures done { DoneOf arena.now coupling (Add place value) pass.old pass.new (told result.found) result.number }
 {
-    let mut held = take_root(rt, arena, pass, gate, place);
-    if held.body.is_full() {
-        arena.give(pass, held);
-        for _ in rt.forever() {}
-        unreachable!()
+    let held = reach(rt, arena, pass, gate, place);
+    if has_room(&held, place) {
+        return add_here(arena, pass, gate, place, value, held);
     }
-    sound_law::<Tree>();
-    node_law(&held.body);
-    arena.add_law(pass, &held, place, value);
-    let op = Op::Add(place, value);
-    match held.body.get(place) {
-        Some(standing) => {
-            let number = conclude(arena, pass, gate, held, op, Reply::Value(standing));
-            Numbered {
-                number,
-                found: Some(standing),
-            }
-        }
-        None => {
-            held.body.put(place, value);
-            let number = conclude(arena, pass, gate, held, op, Reply::Nothing);
-            Numbered {
-                number,
-                found: None,
-            }
-        }
-    }
+    arena.give(pass, held);
+    for _ in rt.forever() {}
+    unreachable!()
 }
 
 /// Sets the value at a place to `new` where `old` stands.
@@ -162,25 +119,13 @@ fn swap<N: Unlinked, R: Wait, G: Gate>(
     old: u128,
     new: u128,
 ) -> Numbered
-    requires pass { IsIdle (⟦<Arena<N, Tree> as Shelf>⟧.site arena.now) pass.old }
-    ensures pass { IsIdle (⟦<Arena<N, Tree> as Shelf>⟧.site arena.now) pass.new }
+    requires pass { IsEmptyPassOf arena.now pass.old }
+    ensures pass { IsEmptyPassOf arena.now pass.new }
     ensures caller { pass.new.caller ≡ pass.old.caller }
-    ensures done { Done N.layout coupling arena.now.nodes pass.old.caller (Swap place old new) (seen_of pass.old) (seen_of pass.new)
-        (told result.found) result.number }
+    ensures done { DoneOf arena.now coupling (Swap place old new) pass.old pass.new (told result.found) result.number }
 {
-    let mut held = take_root(rt, arena, pass, gate, place);
-    sound_law::<Tree>();
-    node_law(&held.body);
-    arena.swap_law(pass, &held, place, old, new);
-    let found = held.body.get(place);
-    let op = Op::Swap(place, old, new);
-    if found != Some(old) {
-        let number = conclude(arena, pass, gate, held, op, reply_of(found));
-        return Numbered { number, found };
-    }
-    held.body.put(place, new);
-    let number = conclude(arena, pass, gate, held, op, reply_of(found));
-    Numbered { number, found }
+    let held = reach(rt, arena, pass, gate, place);
+    swap_here(arena, pass, gate, place, old, new, held)
 }
 
 /// Deletes what stands at a place.
@@ -191,19 +136,13 @@ fn del<N: Unlinked, R: Wait, G: Gate>(
     gate: &G,
     place: u64,
 ) -> Numbered
-    requires pass { IsIdle (⟦<Arena<N, Tree> as Shelf>⟧.site arena.now) pass.old }
-    ensures pass { IsIdle (⟦<Arena<N, Tree> as Shelf>⟧.site arena.now) pass.new }
+    requires pass { IsEmptyPassOf arena.now pass.old }
+    ensures pass { IsEmptyPassOf arena.now pass.new }
     ensures caller { pass.new.caller ≡ pass.old.caller }
-    ensures done { Done N.layout coupling arena.now.nodes pass.old.caller (Del place) (seen_of pass.old) (seen_of pass.new)
-        (told result.found) result.number }
+    ensures done { DoneOf arena.now coupling (Del place) pass.old pass.new (told result.found) result.number }
 {
-    let mut held = take_root(rt, arena, pass, gate, place);
-    sound_law::<Tree>();
-    node_law(&held.body);
-    arena.del_law(pass, &held, place);
-    let found = held.body.del(place);
-    let number = conclude(arena, pass, gate, held, Op::Del(place), reply_of(found));
-    Numbered { number, found }
+    let held = reach(rt, arena, pass, gate, place);
+    del_here(arena, pass, gate, place, held)
 }
 
 impl Ruled for AtRoot {

@@ -61,7 +61,7 @@ fn four_callers_are_served_at_once(rt: HostRuntime) -> Result<(), Fail> {
     let alloc = rt.alloc();
     let scripts = four(alloc)?;
     let told = serve_callers::<ListNode, AtRoot, HostRuntime, NoGate>(
-        &rt, alloc, 4, scripts, &NoGate,
+        &rt, alloc, 4, scripts, 64, &NoGate,
     )?;
     assert!(rt; told.lines.len() == 4);
     let mut seen = [false; 32];
@@ -89,6 +89,7 @@ fn nobody_is_served(rt: HostRuntime) -> Result<(), Fail> {
         alloc,
         4,
         Vec::new(alloc),
+        1,
         &NoGate,
     )?;
     assert!(rt; told.lines.is_empty() && told.pairs.is_empty());
@@ -113,7 +114,9 @@ fn callers_run_beside_each_other(rt: HostRuntime) -> Result<(), Fail> {
     let alloc = rt.alloc();
     let gate = Meet::of(0, 0, Point::Given(0), 1, 50_000_000);
     let scripts = two(alloc)?;
-    let told = serve_callers::<ListNode, AtRoot, HostRuntime, Meet>(&rt, alloc, 4, scripts, &gate)?;
+    let told = serve_callers::<ListNode, AtRoot, HostRuntime, Meet>(
+        &rt, alloc, 4, scripts, 2, &gate,
+    )?;
     assert!(rt; !gate.failed());
     assert!(rt; told.lines.len() == 2);
     assert!(rt; told.lines[0].len() == 1 && told.lines[1].len() == 1);

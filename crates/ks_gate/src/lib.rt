@@ -7,8 +7,10 @@
 #![tactic(auto)]
 
 mod meet;
+mod stand;
 
 pub use meet::Meet;
+pub use stand::{Stand, Standing};
 
 /// A point of a call. Two points are equal where their numbers are equal too.
 #[derive(Clone, Copy, Debug, PartialEq, Eq)]

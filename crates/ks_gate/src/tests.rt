@@ -1,4 +1,4 @@
-use crate::{Gate, Meet, NoGate, Point};
+use crate::{Gate, Meet, NoGate, Point, Stand};
 use std::sync::atomic::AtomicU64;
 use std::sync::atomic::Ordering::SeqCst;
 use std::thread::{Threads, join};
@@ -44,6 +44,16 @@ fn two<G: Gate + Sync, R: Threads>(rt: &R, gate: &G, calls: u32) -> (u64, u64) {
             turn_back(gate, 1);
             call(gate, 1, &numbers)
         },
+    )
+}
+
+/// Each of the callers 0 and 1 makes so many calls. It answers the numbers of their last calls.
+fn beside<G: Gate + Sync, R: Threads>(rt: &R, gate: &G, calls: u32, moves: u32) -> (u64, u64) {
+    let numbers = AtomicU64::new(0);
+    join(
+        rt,
+        || last_of(gate, 0, calls, &numbers),
+        || last_of(gate, 1, moves, &numbers),
     )
 }
 
@@ -119,4 +129,30 @@ fn others_pass_and_a_stander_waits_for_no_mover_that_went_before(rt: HostRuntime
 fn no_gate_keeps_nobody(rt: HostRuntime) {
     let numbers = two(&rt, &NoGate, 1);
     assert!(rt; numbers == (0, 1) || numbers == (1, 0));
+}
+
+#[test]
+fn a_stander_stands_for_as_many_calls_as_it_was_told(rt: HostRuntime) {
+    let gate = Stand::of(0, 17, Point::Given(0), 1, 3, LONG);
+    assert!(rt; !gate.failed());
+    assert!(rt; beside(&rt, &gate, 18, 3) == (20, 19));
+    assert!(rt; !gate.failed());
+}
+
+#[test]
+fn a_stander_for_more_calls_than_the_mover_makes_goes_on_after_its_limit(rt: HostRuntime) {
+    let gate = Stand::of(0, 0, Point::Taken(1), 1, 2, 100);
+    gate.at(1, Point::Decided(0));
+    assert!(rt; !gate.failed());
+    gate.at(0, Point::Taken(1));
+    assert!(rt; gate.failed());
+}
+
+#[test]
+fn a_stander_for_no_call_goes_on_at_once(rt: HostRuntime) {
+    let gate = Stand::of(0, 0, Point::Begin, 1, 0, 1);
+    gate.at(0, Point::Begin);
+    assert!(rt; !gate.failed());
+    gate.at(1, Point::Begin);
+    assert!(rt; !gate.failed());
 }

@@ -6,20 +6,21 @@ ghost use Rattle.ks_history.specs.Done.{give_up};
 ghost use Rattle.ks_shape.specs.Answers.{number_in, reply_in};
 ghost use Rattle.ks_arena.specs.Of.{IsEmptyPassOf, WasAlone};
 ghost use Rattle.ks_shape.specs.Of.{DoneOf};
+ghost use Rattle.ks_giveup.specs.Goes.{GoesTowards};
 ghost use Rattle.ks_tidy.specs.Of.{IsTidyOf};
 
-use crate::descent::find;
+use crate::descent::{find, find_room};
 use ks_arena::{Arena, Pass};
 use ks_flow::Tree;
-use ks_gate::{Gate, Point};
-use ks_history::Op;
+use ks_gate::Gate;
 use ks_node::{Ranged, Unlinked};
-use ks_put::{add_here, has_room, pair_add, pair_put, put_here, swap_here};
-use ks_shape::{Full, Numbered, conclude, reply_of};
+use ks_put::{pair_add, pair_put};
+use ks_shape::{Full, Numbered, add_here, get_here, put_here, swap_here};
 use ks_tidy::del_alone;
 use std::sync::Wait;
 
-/// Answers the value at a place, and the number of the call. It holds one node at a time.
+/// Answers the value at a place, and the number of the call. It holds one node at a time: the root, or the one at which the
+/// node given just before hinted.
 pub fn get<N: Ranged + Unlinked, R: Wait, G: Gate>(
     rt: &R,
     arena: &Arena<N, Tree>,
@@ -31,17 +32,14 @@ pub fn get<N: Ranged + Unlinked, R: Wait, G: Gate>(
     ensures pass { IsEmptyPassOf arena.now pass.new }
     ensures caller { pass.new.caller ≡ pass.old.caller }
     ensures done { DoneOf arena.now give_up (Get place) pass.old pass.new (told result.found) result.number }
+    ensures goes { GoesTowards place pass.old pass.new }
 {
     let held = find(rt, arena, pass, gate, place);
-    let found = held.body.get(place);
-    let reply = reply_of(found);
-    arena.get_law(pass, &held, place, &reply);
-    let number = conclude(arena, pass, gate, held, Op::Get(place), reply);
-    Numbered { number, found }
+    get_here(arena, pass, gate, place, held)
 }
 
-/// Puts a value at a place; answers the value that stood there, and the number of the call. Where the node has no room it is
-/// given, and the put goes by lock coupling from the root.
+/// Puts a value at a place; answers the value that stood there, and the number of the call. It goes as `get`; where the node
+/// has no room it goes on by lock coupling, from the root to nodes that one in hand leads to.
 ///
 /// # Errors
 ///
@@ -58,15 +56,12 @@ pub fn put<N: Ranged + Unlinked, R: Wait, G: Gate>(
     ensures pass { IsEmptyPassOf arena.now pass.new }
     ensures caller { pass.new.caller ≡ pass.old.caller }
     ensures done { DoneOf arena.now give_up (Put place value) pass.old pass.new (reply_in result) (number_in result) }
+    ensures goes { GoesTowards place pass.old pass.new }
 {
-    let held = find(rt, arena, pass, gate, place);
-    if has_room(&held, place) {
-        return Ok(put_here(arena, pass, gate, place, value, held));
+    match find_room(rt, arena, pass, gate, place) {
+        Some(held) => Ok(put_here(arena, pass, gate, place, value, held)),
+        None => pair_put(rt, arena, pass, gate, place, value),
     }
-    let node = held.node;
-    arena.give(pass, held);
-    gate.at(pass.caller(), Point::Given(node));
-    pair_put(rt, arena, pass, gate, place, value)
 }
 
 /// Puts a value at a place where none stands; answers the value that stood there, and the number of the call. It goes as
@@ -87,19 +82,16 @@ pub fn add<N: Ranged + Unlinked, R: Wait, G: Gate>(
     ensures pass { IsEmptyPassOf arena.now pass.new }
     ensures caller { pass.new.caller ≡ pass.old.caller }
     ensures done { DoneOf arena.now give_up (Add place value) pass.old pass.new (reply_in result) (number_in result) }
+    ensures goes { GoesTowards place pass.old pass.new }
 {
-    let held = find(rt, arena, pass, gate, place);
-    if has_room(&held, place) {
-        return Ok(add_here(arena, pass, gate, place, value, held));
+    match find_room(rt, arena, pass, gate, place) {
+        Some(held) => Ok(add_here(arena, pass, gate, place, value, held)),
+        None => pair_add(rt, arena, pass, gate, place, value),
     }
-    let node = held.node;
-    arena.give(pass, held);
-    gate.at(pass.caller(), Point::Given(node));
-    pair_add(rt, arena, pass, gate, place, value)
 }
 
-/// Puts `new` at a place where `old` stands; answers the value that stood there, and the number of the call. It holds one
-/// node at a time.
+/// Puts `new` at a place where `old` stands; answers the value that stood there, and the number of the call. It goes as
+/// `get`.
 pub fn swap<N: Ranged + Unlinked, R: Wait, G: Gate>(
     rt: &R,
     arena: &Arena<N, Tree>,
@@ -113,13 +105,15 @@ pub fn swap<N: Ranged + Unlinked, R: Wait, G: Gate>(
     ensures pass { IsEmptyPassOf arena.now pass.new }
     ensures caller { pass.new.caller ≡ pass.old.caller }
     ensures done { DoneOf arena.now give_up (Swap place old new) pass.old pass.new (told result.found) result.number }
+    ensures goes { GoesTowards place pass.old pass.new }
 {
     let held = find(rt, arena, pass, gate, place);
     swap_here(arena, pass, gate, place, old, new, held)
 }
 
-/// Deletes what stands at a place; answers the value that stood there, and the number of the call. If it removed a pair and
-/// left the node low, it gives the node and goes by lock coupling from the root, to merge on the way and at that node.
+/// Deletes what stands at a place; answers the value that stood there, and the number of the call. It goes as `get`. If it
+/// removed a pair and left the node low, it gives the node and goes on by lock coupling, from the root, to merge on the way
+/// and at that node.
 pub fn del<N: Ranged + Unlinked, R: Wait, G: Gate>(
     rt: &R,
     arena: &Arena<N, Tree>,
@@ -131,6 +125,7 @@ pub fn del<N: Ranged + Unlinked, R: Wait, G: Gate>(
     ensures pass { IsEmptyPassOf arena.now pass.new }
     ensures caller { pass.new.caller ≡ pass.old.caller }
     ensures done { DoneOf arena.now give_up (Del place) pass.old pass.new (told result.found) result.number }
+    ensures goes { GoesTowards place pass.old pass.new }
     ensures tidy { result.found ≢ None → WasAlone pass.old pass.new → IsTidyOf arena.now pass.new place }
 {
     let held = find(rt, arena, pass, gate, place);

@@ -1,19 +1,21 @@
 //! The way from the root to the node where a search ends, which begins again where it was led astray.
 ghost use Rattle.std.specs.Prelude.{◌≡◌, ◌<◌};
 ghost use Rattle.ks_history.specs.Done.{give_up};
-ghost use Rattle.ks_node.specs.declared.start.Next.TheVariants.{Go, Here};
+ghost use Rattle.ks_node.specs.declared.start.Next.TheVariants.{Go};
 ghost use Rattle.ks_node.specs.Body.{next_at};
 ghost use Rattle.ks_arena.specs.Sound.{sort_of};
 ghost use Rattle.ks_arena.specs.Clauses.{seen_of};
-ghost use Rattle.ks_giveup.specs.Descent.{Came};
+ghost use Rattle.ks_giveup.specs.Descent.{Came, CameToRoom};
+ghost use Rattle.ks_giveup.specs.Goes.{GoesTowards, MayVisitNext};
 ghost use Rattle.ks_arena.specs.Of.{IsPassOf, IsEmptyPassOf};
-ghost use Rattle.ks_shape.specs.Of.{IsUnderway, StaysUnderway, IsOnWayOf};
+ghost use Rattle.ks_shape.specs.Of.{IsUnderway, StaysUnderway, IsOnWayOf, SearchEndsAt};
 
 use ks_arena::laws::sound_law;
 use ks_arena::{Arena, Held, Pass};
 use ks_flow::Tree;
 use ks_gate::{Gate, Point};
 use ks_node::{Next, Ranged, Unlinked, node_law};
+use ks_shape::{give_last, has_room, tree_end_law};
 use std::sync::Wait;
 
 /// Takes a node, and keeps it where it is live and its range holds the place.
@@ -27,9 +29,11 @@ fn visit<N: Ranged + Unlinked, R: Wait, G: Gate>(
 ) -> Option<Held<N>>
     requires pass { IsEmptyPassOf arena.now pass.old }
     requires node { node < arena.now.nodes }
+    requires next { MayVisitNext place node pass.old }
     ensures pass { IsPassOf arena.now pass.new }
     ensures caller { pass.new.caller ≡ pass.old.caller }
     ensures came { Came (sort_of N.layout N.ranged) N.body pass.old.caller place (seen_of pass.new) result }
+    ensures goes { GoesTowards place pass.old pass.new }
     ensures under { StaysUnderway give_up pass.old pass.new }
 {
     sound_law::<Tree>();
@@ -41,12 +45,11 @@ fn visit<N: Ranged + Unlinked, R: Wait, G: Gate>(
     if range.low <= place && place <= range.last {
         return Some(held);
     }
-    arena.give(pass, held);
-    gate.at(pass.caller(), Point::Given(node));
+    give_last(arena, pass, gate, held);
     None
 }
 
-/// Gives the node from which the search goes on to another.
+/// Gives the node, whose edge hints at the one to which the search goes on.
 fn leave<N: Ranged + Unlinked, G: Gate>(
     arena: &Arena<N, Tree>,
     pass: &mut Pass<N, Tree>,
@@ -61,13 +64,13 @@ fn leave<N: Ranged + Unlinked, G: Gate>(
     ensures pass { IsEmptyPassOf arena.now pass.new }
     ensures caller { pass.new.caller ≡ pass.old.caller }
     ensures near { child < arena.now.nodes }
+    ensures next { MayVisitNext place child pass.new }
+    ensures goes { GoesTowards place pass.old pass.new }
     ensures under { StaysUnderway give_up pass.old pass.new }
 {
     sound_law::<Tree>();
     node_law(&held.body);
-    let node = held.node;
-    arena.give(pass, held);
-    gate.at(pass.caller(), Point::Given(node));
+    give_last(arena, pass, gate, held);
 }
 
 /// Takes the node at which the search for a place ends, and holds it alone.
@@ -81,8 +84,8 @@ pub(crate) fn find<N: Ranged + Unlinked, R: Wait, G: Gate>(
     requires pass { IsEmptyPassOf arena.now pass.old }
     ensures pass { IsPassOf arena.now pass.new }
     ensures caller { pass.new.caller ≡ pass.old.caller }
-    ensures way { IsOnWayOf arena.now pass.old.caller place pass.new result }
-    ensures ends { next_at (N.body result.body) place ≡ Here }
+    ensures ends { SearchEndsAt arena.now place pass.new result }
+    ensures goes { GoesTowards place pass.old pass.new }
     ensures under { IsUnderway give_up pass.old pass.new }
 {
     gate.at(pass.caller(), Point::Begin);
@@ -93,7 +96,10 @@ pub(crate) fn find<N: Ranged + Unlinked, R: Wait, G: Gate>(
             continue;
         };
         match held.body.next(place) {
-            Next::Here => return held,
+            Next::Here => {
+                tree_end_law(arena, pass, &held, place);
+                return held;
+            }
             Next::Go(child) => {
                 leave(arena, pass, gate, place, held, child);
                 node = child;
@@ -101,4 +107,28 @@ pub(crate) fn find<N: Ranged + Unlinked, R: Wait, G: Gate>(
         }
     }
     unreachable!()
+}
+
+/// Takes the node at which the search for a place ends, and keeps it where it has the place or room for it. `None`: it had
+/// neither, and is given.
+pub(crate) fn find_room<N: Ranged + Unlinked, R: Wait, G: Gate>(
+    rt: &R,
+    arena: &Arena<N, Tree>,
+    pass: &mut Pass<N, Tree>,
+    gate: &G,
+    place: u64,
+) -> Option<Held<N>>
+    requires pass { IsEmptyPassOf arena.now pass.old }
+    ensures pass { IsPassOf arena.now pass.new }
+    ensures caller { pass.new.caller ≡ pass.old.caller }
+    ensures came { CameToRoom (sort_of N.layout N.ranged) N.body pass.new.caller place (seen_of pass.new) result }
+    ensures goes { GoesTowards place pass.old pass.new }
+    ensures under { IsUnderway give_up pass.old pass.new }
+{
+    let held = find(rt, arena, pass, gate, place);
+    if has_room(&held, place) {
+        return Some(held);
+    }
+    give_last(arena, pass, gate, held);
+    None
 }

@@ -13,7 +13,6 @@ use Rattle.ks_flow.specs.Link.{Link}
 use Rattle.ks_node.specs.declared.start.Next.TheVariants.{Here}
 use Rattle.ks_node.specs.Body.{Body, content_of, first_of, is_branch, last_of, next_at}
 use Rattle.ks_node.specs.Edges.{record_of}
-use Rattle.ks_node.specs.Asks.{IsBelowOwn}
 use Rattle.ks_node.specs.Sound.{Sound as InOrder, Framed}
 use Rattle.ks_node.specs.declared.start.Start.{Start}
 use Rattle.ks_flow.specs.Link.{IsRange, IsLinkEdge, IsChildEdge}
@@ -21,8 +20,10 @@ use Rattle.ks_node.specs.Ways.{here_stays, stays_here, below_own}
 use Rattle.ks_arena.specs.declared.held.Held.{Held as Hand}
 use Rattle.ks_arena.specs.Sound.{Sort, blank_of}
 use Rattle.ks_arena.specs.Clauses.{HasTaken, Matches}
-use Rattle.ks_arena.specs.Writes.{ends_at_no_branch, ends_below_own}
+use Rattle.ks_arena.specs.Writes.{ends_at_no_branch}
 use Rattle.ks_shape.specs.Single.{shown, record_is}
+use Rattle.ks_shape.specs.OnWay.{IsOnWay as IsReached}
+use Rattle.ks_shape.specs.SearchEnd.{IsEnd}
 use Rattle.ks_link.specs.Descent.{IsOnWay}
 use Rattle.ks_link.proofs.Places.{root_low, range_holds, level_zero, ends_in_keyset}
 
@@ -39,11 +40,16 @@ module _ {N : Type 0} (sort : Sort) (shows : N → Body) where
     low = omega (arith, subst (λ (z : ℕ). (frames k z).low ≤ p) (sym took.node) low, ap (λ (f : Frame). f.low) (shown sort shows k x took.live took.matches).1);
   }
 
-  -- the root is taken
-  pub root_arrives : (c p : ℕ) (h k : List Event) (x : Hand N) → hand c h ≡ [] → HasTaken sort shows c 0 h k x → Link (graph_after k) (frames k) → IsOnWay sort shows c p k x
-  root_arrives c p h k x empty took facts =
-      let live : IsLive (graph_after k) 0 = (record_of (shows x.body), ap (λ (i : ℕ). record_at (graph_after k) i) (sym took.node) ∙ record_is sort shows k x took.live took.matches) in
-      arrives c p 0 h k x empty took (omega (arith, root_low (graph_after k) (frames k) facts live))
+  -- the root is not above the place
+  pub root_arrives : (c p : ℕ) (k : List Event) (x : Hand N) → IsReached sort shows c p k x → x.node ≡ 0 → Link (graph_after k) (frames k) → IsOnWay sort shows c p k x
+  root_arrives c p k x way root facts =
+      let live : IsLive (graph_after k) 0 = (record_of (shows x.body), ap (λ (i : ℕ). record_at (graph_after k) i) (sym root) ∙ record_is sort shows k x way.live way.matches) in
+      record {
+        alone = way.alone;
+        live = way.live;
+        matches = way.matches;
+        low = omega (arith, root_low (graph_after k) (frames k) facts live, ap (λ (i : ℕ). (frames k i).low) root, ap (λ (f : Frame). f.low) (shown sort shows k x way.live way.matches).1);
+      }
 
   -- a search ends at a node on level 0 whose range reaches the place
   pub leaf_ends : (p : ℕ) (h : List Event) (x : Hand N) → x.live ≡ true → Matches sort shows h x → Link (graph_after h) (frames h) → p ≤ top → InOrder (content_of (shows x.body)) → (shows x.body).level ≡ 0 → p ≤ last_of (shows x.body).range → next_at (shows x.body) p ≡ Here
@@ -65,7 +71,7 @@ module _ {N : Type 0} (sort : Sort) (shows : N → Body) where
     low_at : (frames h x.node).low ≤ p
     low_at = omega (arith, way.low, ap (λ (f : Frame). f.low) (shown sort shows h x way.live way.matches).1)
 
-    pub ends_inside : Good (graph_after h) → InInset (graph_after h) x.node p
+    ends_inside : Good (graph_after h) → InInset (graph_after h) x.node p
     ends_inside good = (ends_in_keyset (graph_after h) (frames h) facts good x.node p (record_of (shows x.body)) (record_is sort shows h x way.live way.matches) low_at place off).0
 
     held_in : (o : Option Span) → (frames h x.node).range ≡ o → (first_of o ≤ p) × (p ≤ last_of o)
@@ -76,11 +82,18 @@ module _ {N : Type 0} (sort : Sort) (shows : N → Body) where
         let is : range.0 ≡ s = cc in
         subst (λ (z : Span). (z.low ≤ p) × (p ≤ z.last)) is (range_holds (graph_after h) (frames h) facts x.node p (record_of (shows x.body)) (record_is sort shows h x way.live way.matches) low_at place off range.0 range.1)
 
+    pub ends_here : Good (graph_after h) → IsEnd sort shows c p h x
+    ends_here good = record {
+      alone = way.alone;
+      live = way.live;
+      matches = way.matches;
+      inside = ends_inside good;
+      within = held_in (shows x.body).range (ap (λ (f : Frame). f.range) (shown sort shows h x way.live way.matches).1);
+      here = here;
+    }
+
     pub ends_unbranched : is_branch (shows x.body) ≡ false
     ends_unbranched = let at = held_in (shows x.body).range (ap (λ (f : Frame). f.range) (shown sort shows h x way.live way.matches).1) in ends_at_no_branch (shows x.body) p order at.0 at.1 here
-
-    pub ends_below : IsBelowOwn (shows x.body) p
-    ends_below = let at = held_in (shows x.body).range (ap (λ (f : Frame). f.range) (shown sort shows h x way.live way.matches).1) in ends_below_own (shows x.body) p order at.0 at.1 here
 
     pub ends_within : p ≤ last_of (shows x.body).range
     ends_within = (held_in (shows x.body).range (ap (λ (f : Frame). f.range) (shown sort shows h x way.live way.matches).1)).1

@@ -26,6 +26,10 @@ waits_if (Some w) = w ∷ []
 abbrev pub CanLead : (Content → ℕ → Bool) → Body → ℕ → Type 0
 CanLead can b cut = IsTrue (is_branch b) × IsCut b cut × IsTrue (can (content_of b) cut)
 
+-- or the node is not full
+abbrev pub TakesEdge : Layout → (Content → ℕ → Bool) → Body → ℕ → Type 0
+TakesEdge layout can b cut = CanLead can b cut ⊎ (is_full layout b ≡ false)
+
 module _ (sort : Sort) where
   -- after h an edge of a live node one level above node i leads to it
   abbrev pub IsLedAfter : List Event → ℕ → Type 0
@@ -51,6 +55,6 @@ HalfHasRoom layout shows (Ok p) = is_full layout (shows p.half.body) ≡ false
 HalfHasRoom layout shows (Err y) = Unit {0}
 
 -- the node that is handed back is not full
-abbrev pub HasRoom : {N : Type 0} → Layout → (N → Body) → Result (Hand N) (Hand N) → Type 0
-HasRoom layout shows (Ok x) = is_full layout (shows x.body) ≡ false
-HasRoom layout shows (Err x) = Unit {0}
+abbrev pub LeavesRoom : {N : Type 0} → Layout → (N → Body) → Result (Hand N) (Hand N) → Type 0
+LeavesRoom layout shows (Ok x) = is_full layout (shows x.body) ≡ false
+LeavesRoom layout shows (Err x) = Unit {0}

@@ -1,26 +1,30 @@
 -- What a search along links, and the adding of edges, ask and tell, said of an arena and of a pass before and after.
-use Rattle.std.specs.Prelude.{ℕ, List, Option, Result}
+use Rattle.std.specs.Prelude.{ℕ, ◌≡◌, ◌≢◌, List, [], ◌∷◌, Option, Result}
 use Rattle.ks_node.specs.declared.node.Node.{Ghosts as NodeGhosts}
 use Rattle.ks_node.below.ks_places.specs.declared.Placing.{Ghosts as PlacingGhosts}
 use Rattle.ks_flow.specs.declared.discipline.Discipline.{Ghosts as DisciplineGhosts}
-use Rattle.ks_history.specs.declared.Event.{Event}
-use Rattle.ks_history.specs.declared.Op.{Op}
-use Rattle.ks_history.specs.declared.Reply.{Reply}
-use Rattle.ks_history.specs.declared.Reply.TheVariants.{Full}
-use Rattle.ks_history.specs.Done.{Done, link_move}
-use Rattle.ks_history.specs.Due.{NoneFree}
-use Rattle.ks_history.specs.Underway.{Underway}
 use Rattle.ks_arena.specs.declared.arena.Arena.{Arena}
 use Rattle.ks_arena.specs.declared.held.Pass.{Pass}
 use Rattle.ks_arena.specs.declared.held.Held.{Held as Hand}
 use Rattle.ks_arena.specs.Sound.{sort_of}
-use Rattle.ks_arena.specs.Clauses.{seen_of}
+use Rattle.ks_arena.specs.Clauses.{hand_of, seen_of}
+use Rattle.ks_arena.specs.Of.{WasAlone}
+use Rattle.ks_shape.specs.Makes.{TwoFree}
+use Rattle.ks_shape.specs.Of.{IsLedTo}
 use Rattle.ks_link.specs.declared.parts.Parted.{Parted}
 use Rattle.ks_link.specs.declared.parts.Waiting.{Waiting}
 use Rattle.ks_link.specs.Descent.{IsOnWay}
-use Rattle.ks_link.specs.Leads.{LedBut, AreLed, PartsLed, HalfHasRoom}
-use Rattle.ks_link.specs.Parts.{IsSplitOff, IsParted}
+use Rattle.ks_link.specs.Leads.{LedBut, AreLed, PartsLed, Waits}
+use Rattle.ks_link.specs.Parts.{IsAlone, IsSplitOff, IsParted}
 use Rattle.ks_link.specs.Puts.{MadeRoom, FoundRoom}
+
+module _ {N D : Type 0} where
+  -- the pass holds these two nodes, the second taken last; these three
+  abbrev pub HoldsTwo : Pass N D → Hand N → Hand N → Type 0
+  HoldsTwo p x y = (hand_of p ≡ y.node ∷ x.node ∷ []) × (y.node ≢ x.node)
+
+  abbrev pub HoldsThree : Pass N D → Hand N → Hand N → Hand N → Type 0
+  HoldsThree p x y z = (hand_of p ≡ z.node ∷ y.node ∷ x.node ∷ []) × (y.node ≢ x.node) × (z.node ≢ x.node) × (z.node ≢ y.node)
 
 module _ {N D P : Type 0} {n : NodeGhosts N P} {q : PlacingGhosts P} {d : DisciplineGhosts D} where
   -- caller c, which searches for the place, holds this live node alone, and the place is not below it
@@ -55,10 +59,17 @@ module _ {N D P : Type 0} {n : NodeGhosts N P} {q : PlacingGhosts P} {d : Discip
   abbrev pub LeadsAll : Arena N D P n q d → Pass N D → Pass N D → Type 0
   LeadsAll a p p' = AreLed (sort_of n.layout n.ranged) (seen_of p) (seen_of p')
 
-  -- a call along links that is under way at p, since whatever moment, is done at p'
-  abbrev pub Finishes : Arena N D P n q d → Op → Pass N D → Pass N D → Reply → ℕ → Type 0
-  Finishes a op p p' reply number = (start : List Event) → Underway link_move p.caller op start (seen_of p) → Done n.layout link_move a.nodes p.caller op start (seen_of p') reply number
+  -- this holds if the caller acts alone from p to p', and two nodes are free in the end
+  abbrev pub IfAloneWithRoom : Arena N D P n q d → Pass N D → Pass N D → Type 0 → Type 0
+  IfAloneWithRoom a p p' Fact = WasAlone p p' → TwoFree a.nodes (seen_of p') → Fact
 
-  -- so it is with the reply Full, if no node was free for the place since its start
-  abbrev pub FinishesCrowded : Arena N D P n q d → Op → ℕ → Pass N D → Pass N D → ℕ → Type 0
-  FinishesCrowded a op place p p' number = (start : List Event) → NoneFree n.layout a.nodes p.caller place start (seen_of p) → Underway link_move p.caller op start (seen_of p) → Done n.layout link_move a.nodes p.caller op start (seen_of p') Full number
+  -- caller c holds this live node alone
+  abbrev pub HoldsAloneOf : Arena N D P n q d → ℕ → Pass N D → Hand N → Type 0
+  HoldsAloneOf a c p x = IsAlone (sort_of n.layout n.ranged) n.body c (seen_of p) x
+
+  -- node i is led to at p', and so is each node that was made live since p; so it is with each node that waited
+  abbrev pub LeadsOne : Arena N D P n q d → ℕ → Pass N D → Pass N D → Type 0
+  LeadsOne a i p p' = IsLedTo a p' i × LeadsAllBut a [] p p'
+
+  abbrev pub LeadsEach : Arena N D P n q d → List Waiting → Pass N D → Pass N D → Type 0
+  LeadsEach a waiting p p' = ((i : ℕ) → Waits waiting i → IsLedTo a p' i) × LeadsAllBut a [] p p'

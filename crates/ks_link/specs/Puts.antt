@@ -8,6 +8,7 @@ use Rattle.ks_node.specs.Room.{is_full}
 use Rattle.ks_arena.specs.declared.held.Held.{Held as Hand}
 use Rattle.ks_arena.specs.Sound.{Sort}
 use Rattle.ks_link.specs.declared.parts.Waiting.{Waiting}
+use Rattle.ks_shape.specs.SearchEnd.{HasRoom, IsCrowded}
 use Rattle.ks_link.specs.Descent.{IsOnWay}
 
 -- the new one waits after those that wait, unless seven do
@@ -23,13 +24,5 @@ module _ {N : Type 0} (sort : Sort) (shows : N → Body) where
 
   -- the search has ended at a node that has the place, or room for it; or at a full one without it, and none was found free
   abbrev pub FoundRoom : ℕ → ℕ → ℕ → List Event → List Event → Result (Hand N) (Hand N) → Type 0
-  FoundRoom n c place h k (Ok x) =
-      IsOnWay sort shows c place k x
-      × (next_at (shows x.body) place ≡ Here)
-      × (value_at (shows x.body).pairs place ≡ None → is_full sort.layout (shows x.body) ≡ false)
-  FoundRoom n c place h k (Err x) =
-      IsOnWay sort shows c place k x
-      × (next_at (shows x.body) place ≡ Here)
-      × (value_at (shows x.body).pairs place ≡ None)
-      × IsTrue (is_full sort.layout (shows x.body))
-      × NoneFree sort.layout n c place h k
+  FoundRoom n c place h k (Ok x) = HasRoom sort shows c place k x
+  FoundRoom n c place h k (Err x) = IsCrowded sort shows c place k x × NoneFree sort.layout n c place h k

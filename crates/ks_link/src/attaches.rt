@@ -1,18 +1,13 @@
 //! How a node that was split off gets an edge one level above it, after the call that split it off has been decided.
-ghost use Rattle.std.specs.Prelude.{ℕ, ◌≡◌, ◌+◌, ◌<◌, ◌≤◌, ◌↔◌, ◌⊎◌, All, IsTrue, false, []};
+ghost use Rattle.std.specs.Prelude.{◌≡◌, ◌+◌, ◌<◌, ◌≤◌, ◌↔◌, All, IsTrue, false};
 ghost use Rattle.std.specs.Option.{ForSome};
 ghost use Rattle.ks_node.specs.Room.{is_full};
 ghost use Rattle.ks_node.specs.Body.{is_branch, last_of};
-ghost use Rattle.ks_arena.specs.Sound.{sort_of};
-ghost use Rattle.ks_arena.specs.Clauses.{seen_of};
-ghost use Rattle.ks_shape.specs.Makes.{TwoFree};
-ghost use Rattle.ks_link.specs.Leads.{CanLead, Waits, waits_if};
-ghost use Rattle.ks_link.specs.Descent.{IsOnWay};
-ghost use Rattle.ks_link.specs.Parts.{IsAlone};
+ghost use Rattle.ks_link.specs.Leads.{CanLead, TakesEdge, waits_if};
 ghost use Rattle.ks_history.specs.Done.{link_move};
 ghost use Rattle.ks_arena.specs.Of.{WasAlone, IsPassOf, IsEmptyPassOf};
 ghost use Rattle.ks_shape.specs.Of.{IsStretchBy, MakesNoneLive, IsLedTo};
-ghost use Rattle.ks_link.specs.Of.{IsOnWayOf, WasSplitOff, HasParted, LeadsAllBut};
+ghost use Rattle.ks_link.specs.Of.{HasParted, HoldsAloneOf, IfAloneWithRoom, IsOnWayOf, LeadsAllBut, LeadsEach, LeadsOne, WasSplitOff};
 
 use crate::descent::{enter, go_on};
 use crate::parts::{Parted, Waiting, part};
@@ -37,7 +32,8 @@ fn can_lead<N: Linked>(node: &N, cut: u64) -> bool
 /// Whether a node is a full branch to which no edge from the cut on can be added.
 fn must_part<N: Linked>(node: &N, cut: u64) -> bool
     ensures full { IsTrue result → IsTrue (is_branch (N.body node.now)) × IsTrue (is_full N.layout (N.body node.now)) }
-    ensures room { result ≡ false → IsTrue (is_branch (N.body node.now)) → CanLead N.can_adopt_at (N.body node.now) cut ⊎ (is_full N.layout (N.body node.now) ≡ false) }
+    ensures room { result ≡ false → IsTrue (is_branch (N.body node.now)) →
+        TakesEdge N.layout N.can_adopt_at (N.body node.now) cut }
 {
     !can_lead(node, cut) && node.is_branch() && node.is_full()
 }
@@ -83,7 +79,7 @@ fn find_above<N: Linked, R: Wait, G: Gate>(
     requires off { WasSplitOff arena.now pass.old to }
     ensures pass { IsPassOf arena.now pass.new }
     ensures caller { pass.new.caller ≡ pass.old.caller }
-    ensures way { IsOnWay (sort_of N.layout N.ranged) N.body pass.old.caller to.cut (seen_of pass.new) result }
+    ensures way { IsOnWayOf arena.now pass.old.caller to.cut pass.new result }
     ensures level { (N.body result.body).level ≡ to.level + 1 }
     ensures within { to.cut ≤ last_of (N.body result.body).range }
     ensures stretch { IsStretchBy link_move pass.old pass.new }
@@ -118,8 +114,8 @@ fn ready<N: Linked, G: Gate>(
     ensures parted { HasParted arena.now cut pass.old pass.new held (Ok result) }
     ensures stretch { IsStretchBy link_move pass.old pass.new }
     ensures led { WasAlone pass.old pass.new → LeadsAllBut arena.now (waits_if result.new) pass.old pass.new }
-    ensures ready { IsTrue N.branches_adopt → IsTrue N.halves_have_room → WasAlone pass.old pass.new → TwoFree arena.now.nodes (seen_of pass.new)
-        → CanLead N.can_adopt_at (N.body result.half.body) cut ⊎ (is_full N.layout (N.body result.half.body) ≡ false) }
+    ensures ready { IsTrue N.branches_adopt → IsTrue N.halves_have_room →
+        IfAloneWithRoom arena.now pass.old pass.new (TakesEdge N.layout N.can_adopt_at (N.body result.half.body) cut) }
 {
     sound_law::<Link>();
     linked_law::<N>();
@@ -148,16 +144,16 @@ fn lead<N: Linked>(
     held: &mut Held<N>,
 )
     requires pass { IsPassOf arena.now pass.old }
-    requires held { IsAlone (sort_of N.layout N.ranged) N.body pass.old.caller (seen_of pass.old) held.old }
+    requires held { HoldsAloneOf arena.now pass.old.caller pass.old held.old }
     requires off { WasSplitOff arena.now pass.old to }
     requires level { (N.body held.old.body).level ≡ to.level + 1 }
     requires low { (N.body held.old.body).low ≤ to.cut }
     requires within { to.cut ≤ last_of (N.body held.old.body).range }
     ensures pass { IsPassOf arena.now pass.new }
     ensures caller { pass.new.caller ≡ pass.old.caller }
-    ensures held { IsAlone (sort_of N.layout N.ranged) N.body pass.old.caller (seen_of pass.new) held.new }
-    ensures led { IsTrue N.branches_adopt → CanLead N.can_adopt_at (N.body held.old.body) to.cut ⊎ (is_full N.layout (N.body held.old.body) ≡ false)
-        → IsLedTo arena.now pass.new to.node }
+    ensures held { HoldsAloneOf arena.now pass.old.caller pass.new held.new }
+    ensures led { IsTrue N.branches_adopt → TakesEdge N.layout N.can_adopt_at (N.body held.old.body) to.cut →
+        IsLedTo arena.now pass.new to.node }
     ensures stretch { IsStretchBy link_move pass.old pass.new }
     ensures makes { MakesNoneLive pass.old pass.new }
 {
@@ -185,8 +181,8 @@ fn attach_one<N: Linked, R: Wait, G: Gate>(
     ensures off { ForSome result (λ w. WasSplitOff arena.now pass.new w) }
     ensures stretch { IsStretchBy link_move pass.old pass.new }
     ensures led { WasAlone pass.old pass.new → LeadsAllBut arena.now (waits_if result) pass.old pass.new }
-    ensures leads { IsTrue N.branches_adopt → IsTrue N.halves_have_room → WasAlone pass.old pass.new → TwoFree arena.now.nodes (seen_of pass.new)
-        → IsLedTo arena.now pass.new to.node }
+    ensures leads { IsTrue N.branches_adopt → IsTrue N.halves_have_room →
+        IfAloneWithRoom arena.now pass.old pass.new (IsLedTo arena.now pass.new to.node) }
 {
     sound_law::<Link>();
     let held = find_above(rt, arena, pass, gate, to);
@@ -211,8 +207,8 @@ fn attach_on<N: Linked, R: Wait, G: Gate>(
     ensures pass { IsEmptyPassOf arena.now pass.new }
     ensures caller { pass.new.caller ≡ pass.old.caller }
     ensures stretch { IsStretchBy link_move pass.old pass.new }
-    ensures leads { IsTrue N.branches_adopt → IsTrue N.halves_have_room → WasAlone pass.old pass.new → TwoFree arena.now.nodes (seen_of pass.new)
-        → IsLedTo arena.now pass.new to.node × LeadsAllBut arena.now [] pass.old pass.new }
+    ensures leads { IsTrue N.branches_adopt → IsTrue N.halves_have_room →
+        IfAloneWithRoom arena.now pass.old pass.new (LeadsOne arena.now to.node pass.old pass.new) }
 {
     sound_law::<Link>();
     for _ in rt.forever() {
@@ -237,8 +233,8 @@ pub(crate) fn attach_all<N: Linked, R: Wait, G: Gate>(
     ensures pass { IsEmptyPassOf arena.now pass.new }
     ensures caller { pass.new.caller ≡ pass.old.caller }
     ensures stretch { IsStretchBy link_move pass.old pass.new }
-    ensures leads { IsTrue N.branches_adopt → IsTrue N.halves_have_room → WasAlone pass.old pass.new → TwoFree arena.now.nodes (seen_of pass.new)
-        → ((i : ℕ) → Waits waiting.now i → IsLedTo arena.now pass.new i) × LeadsAllBut arena.now [] pass.old pass.new }
+    ensures leads { IsTrue N.branches_adopt → IsTrue N.halves_have_room →
+        IfAloneWithRoom arena.now pass.old pass.new (LeadsEach arena.now waiting.now pass.old pass.new) }
 {
     sound_law::<Link>();
     for to in waiting {

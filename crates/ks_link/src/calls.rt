@@ -7,13 +7,11 @@ ghost use Rattle.ks_arena.specs.Of.{IsEmptyPassOf};
 ghost use Rattle.ks_shape.specs.Of.{DoneOf};
 
 use crate::descent::find;
-use ks_arena::laws::sound_law;
 use ks_arena::{Arena, Pass};
 use ks_flow::Link;
 use ks_gate::Gate;
-use ks_history::{Op, Reply};
-use ks_node::{Linked, node_law};
-use ks_shape::{Numbered, conclude, reply_of};
+use ks_node::Linked;
+use ks_shape::{Numbered, del_here, get_here, swap_here};
 use std::sync::Wait;
 
 /// Answers the value at a place, and the number of the call. It holds one node at a time.
@@ -30,13 +28,7 @@ pub fn get<N: Linked, R: Wait, G: Gate>(
     ensures done { DoneOf arena.now link_move (Get place) pass.old pass.new (told result.found) result.number }
 {
     let held = find(rt, arena, pass, gate, place);
-    sound_law::<Link>();
-    node_law(&held.body);
-    let found = held.body.get(place);
-    let reply = reply_of(found);
-    arena.get_law(pass, &held, place, &reply);
-    let number = conclude(arena, pass, gate, held, Op::Get(place), reply);
-    Numbered { number, found }
+    get_here(arena, pass, gate, place, held)
 }
 
 /// Deletes what stands at a place; answers the value that stood there, and the number of the call. It holds one node at a
@@ -53,13 +45,8 @@ pub fn del<N: Linked, R: Wait, G: Gate>(
     ensures caller { pass.new.caller ≡ pass.old.caller }
     ensures done { DoneOf arena.now link_move (Del place) pass.old pass.new (told result.found) result.number }
 {
-    let mut held = find(rt, arena, pass, gate, place);
-    sound_law::<Link>();
-    node_law(&held.body);
-    arena.del_law(pass, &held, place);
-    let found = held.body.del(place);
-    let number = conclude(arena, pass, gate, held, Op::Del(place), reply_of(found));
-    Numbered { number, found }
+    let held = find(rt, arena, pass, gate, place);
+    del_here(arena, pass, gate, place, held)
 }
 
 /// Sets the value at a place to `new` where `old` stands; answers the value that stood there, and the number of the call. It
@@ -78,24 +65,6 @@ pub fn swap<N: Linked, R: Wait, G: Gate>(
     ensures caller { pass.new.caller ≡ pass.old.caller }
     ensures done { DoneOf arena.now link_move (Swap place old new) pass.old pass.new (told result.found) result.number }
 {
-    let mut held = find(rt, arena, pass, gate, place);
-    sound_law::<Link>();
-    node_law(&held.body);
-    arena.swap_law(pass, &held, place, old, new);
-    let stands = held.body.get(place);
-    let op = Op::Swap(place, old, new);
-    if stands == Some(old) {
-        let _ = held.body.put(place, new);
-        let number = conclude(arena, pass, gate, held, op, Reply::Value(old));
-        Numbered {
-            number,
-            found: stands,
-        }
-    } else {
-        let number = conclude(arena, pass, gate, held, op, reply_of(stands));
-        Numbered {
-            number,
-            found: stands,
-        }
-    }
+    let held = find(rt, arena, pass, gate, place);
+    swap_here(arena, pass, gate, place, old, new, held)
 }

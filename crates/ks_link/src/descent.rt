@@ -4,14 +4,15 @@ ghost use Rattle.ks_history.specs.Done.{link_move};
 ghost use Rattle.ks_node.specs.declared.start.Next.TheVariants.{Go, Here};
 ghost use Rattle.ks_node.specs.Body.{next_at};
 ghost use Rattle.ks_arena.specs.Of.{IsPassOf, IsEmptyPassOf};
-ghost use Rattle.ks_shape.specs.Of.{IsUnderway, StaysUnderway, MakesNoneLive};
+ghost use Rattle.ks_shape.specs.Of.{IsUnderway, StaysUnderway, MakesNoneLive, SearchEndsAt};
 ghost use Rattle.ks_link.specs.Of.{IsOnWayOf};
 
-use ks_arena::laws::{link_live_law, root_stays_law, sound_law};
+use ks_arena::laws::{link_live_law, sound_law};
 use ks_arena::{Arena, Held, Pass};
 use ks_flow::Link;
 use ks_gate::{Gate, Point};
 use ks_node::{Linked, Next, node_law};
+use ks_shape::{give_last, take_root};
 use std::sync::Wait;
 
 /// Takes the root.
@@ -30,13 +31,8 @@ pub(crate) fn enter<N: Linked, R: Wait, G: Gate>(
     ensures under { IsUnderway link_move pass.old pass.new }
     ensures makes { MakesNoneLive pass.old pass.new }
 {
-    root_stays_law::<Link>();
     sound_law::<Link>();
-    let Some(root) = arena.take(rt, pass, 0) else {
-        unreachable!()
-    };
-    gate.at(pass.caller(), Point::Taken(0));
-    root
+    take_root(rt, arena, pass, gate, place)
 }
 
 /// Gives the node, and takes the one to which the search goes on: a child, or the node right of it.
@@ -62,14 +58,28 @@ pub(crate) fn go_on<N: Linked, R: Wait, G: Gate>(
     sound_law::<Link>();
     link_live_law();
     node_law(&held.body);
-    let node = held.node;
-    arena.give(pass, held);
-    gate.at(pass.caller(), Point::Given(node));
+    give_last(arena, pass, gate, held);
     let Some(taken) = arena.take(rt, pass, next) else {
         unreachable!()
     };
     gate.at(pass.caller(), Point::Taken(next));
     taken
+}
+
+/// A search ends at a node on level 0 whose range holds the place, which then is in its inset. The function computes nothing.
+pub(crate) fn end_law<N: Linked>(
+    arena: &Arena<N, Link>,
+    pass: &Pass<N, Link>,
+    held: &Held<N>,
+    place: u64,
+)
+    requires pass { IsPassOf arena.now pass.now }
+    requires way { IsOnWayOf arena.now pass.now.caller place pass.now held.now }
+    requires here { next_at (N.body held.now.body) place ≡ Here }
+    ensures { SearchEndsAt arena.now place pass.now held.now }
+{
+    sound_law::<Link>();
+    node_law(&held.body);
 }
 
 /// Takes the node at which the search for a place ends, and holds it alone.
@@ -84,7 +94,7 @@ pub(crate) fn find<N: Linked, R: Wait, G: Gate>(
     ensures pass { IsPassOf arena.now pass.new }
     ensures caller { pass.new.caller ≡ pass.old.caller }
     ensures way { IsOnWayOf arena.now pass.old.caller place pass.new result }
-    ensures ends { next_at (N.body result.body) place ≡ Here }
+    ensures ends { SearchEndsAt arena.now place pass.new result }
     ensures under { IsUnderway link_move pass.old pass.new }
     ensures makes { MakesNoneLive pass.old pass.new }
 {
@@ -92,7 +102,10 @@ pub(crate) fn find<N: Linked, R: Wait, G: Gate>(
     let mut held = enter(rt, arena, pass, gate, place);
     for _ in rt.forever() {
         match held.body.next(place) {
-            Next::Here => return held,
+            Next::Here => {
+                end_law(arena, pass, &held, place);
+                return held;
+            }
             Next::Go(next) => held = go_on(rt, arena, pass, gate, place, held, next),
         }
     }

@@ -1,13 +1,12 @@
 //! How a full node is parted: the root grows, any other node splits to the right.
-ghost use Rattle.std.specs.Prelude.{◌≡◌, ◌≢◌, ◌<◌, ◌≤◌, ◌⊎◌, IsTrue, [], ◌∷◌};
+ghost use Rattle.std.specs.Prelude.{◌≡◌, ◌≢◌, ◌<◌, ◌≤◌, ◌⊎◌, IsTrue};
 ghost use Rattle.ks_node.specs.Body.{content_of};
 ghost use Rattle.ks_node.specs.Room.{is_full};
-ghost use Rattle.ks_arena.specs.Clauses.{hand_of};
 ghost use Rattle.ks_link.specs.Leads.{HalfHasRoom};
 ghost use Rattle.ks_history.specs.Done.{link_move};
 ghost use Rattle.ks_arena.specs.Of.{WasAlone, IsPassOf};
 ghost use Rattle.ks_shape.specs.Of.{IsStretchBy, MakesNoneLive, IsLiveInHand, IsFreeInHand};
-ghost use Rattle.ks_link.specs.Of.{IsOnWayOf, HasParted, LeadsParts};
+ghost use Rattle.ks_link.specs.Of.{HoldsThree, HoldsTwo, IsOnWayOf, HasParted, LeadsParts};
 
 use ks_arena::laws::sound_law;
 use ks_arena::{Arena, Held, Pass};
@@ -45,7 +44,7 @@ fn keep_half<N: Linked, G: Gate>(
     requires pass { IsPassOf arena.now pass.old }
     requires left { IsLiveInHand arena.now pass.old left }
     requires right { IsLiveInHand arena.now pass.old right }
-    requires hand { (hand_of pass.old ≡ right.node ∷ left.node ∷ []) × (right.node ≢ left.node) }
+    requires hand { HoldsTwo pass.old left right }
     requires low { (N.body left.body).low ≤ place }
     requires cut { (N.body right.body).low ≡ cut }
     ensures pass { IsPassOf arena.now pass.new }
@@ -80,7 +79,7 @@ fn split<N: Linked, G: Gate>(
     requires pass { IsPassOf arena.now pass.old }
     requires node { IsLiveInHand arena.now pass.old held }
     requires right { IsFreeInHand arena.now pass.old right }
-    requires hand { (hand_of pass.old ≡ right.node ∷ held.node ∷ []) × (right.node ≢ held.node) }
+    requires hand { HoldsTwo pass.old held right }
     requires no_root { held.node ≢ 0 }
     requires full { IsTrue (is_full N.layout (N.body held.body)) }
     requires low { (N.body held.body).low ≤ place }
@@ -123,7 +122,7 @@ fn grow<N: Linked, G: Gate>(
     requires node { IsLiveInHand arena.now pass.old root }
     requires left { IsFreeInHand arena.now pass.old left }
     requires right { IsFreeInHand arena.now pass.old right }
-    requires hand { (hand_of pass.old ≡ right.node ∷ left.node ∷ root.node ∷ []) × (left.node ≢ root.node) × (right.node ≢ root.node) × (right.node ≢ left.node) }
+    requires hand { HoldsThree pass.old root left right }
     requires root { root.node ≡ 0 }
     requires full { IsTrue (is_full N.layout (N.body root.body)) }
     requires grows { IsTrue (N.grows_at (content_of (N.body root.body))) }

@@ -1,151 +1,29 @@
 //! Puts and adds along links.
-ghost use Rattle.std.specs.Prelude.{◌≡◌, ◌⊎◌, All, IsTrue, None, false, []};
+ghost use Rattle.std.specs.Prelude.{◌≡◌, All, IsTrue, []};
 ghost use Rattle.ks_history.specs.declared.Op.TheVariants.{Add, Put};
-ghost use Rattle.ks_history.specs.Map.{told};
-ghost use Rattle.ks_history.specs.Trace.{◌⊑◌};
 ghost use Rattle.ks_history.specs.Done.{link_move};
 ghost use Rattle.ks_node.specs.declared.start.Next.TheVariants.{Here};
-ghost use Rattle.ks_node.specs.Body.{next_at, value_at};
+ghost use Rattle.ks_node.specs.Body.{next_at};
 ghost use Rattle.ks_node.specs.Room.{is_full};
-ghost use Rattle.ks_arena.specs.Clauses.{seen_of};
 ghost use Rattle.ks_shape.specs.Answers.{number_in, reply_in};
-ghost use Rattle.ks_shape.specs.Makes.{TwoFree};
-ghost use Rattle.ks_link.specs.Leads.{HasRoom};
+ghost use Rattle.ks_link.specs.Leads.{LeavesRoom};
 ghost use Rattle.ks_link.specs.Puts.{WaitsFor};
-ghost use Rattle.ks_arena.specs.Of.{WasAlone, IsPassOf, IsEmptyPassOf, WasRefusedAt};
-ghost use Rattle.ks_shape.specs.Of.{IsStretchBy, MakesNoneLive, DoneOf};
-ghost use Rattle.ks_link.specs.Of.{IsOnWayOf, WasSplitOff, HasMadeRoom, HasFoundRoom, LeadsAllBut, LeadsAll, Finishes, FinishesCrowded};
+ghost use Rattle.ks_arena.specs.Of.{WasAlone, IsPassOf, IsEmptyPassOf};
+ghost use Rattle.ks_shape.specs.Of.{IsStretchBy, DoneOf};
+ghost use Rattle.ks_link.specs.Of.{IfAloneWithRoom, IsOnWayOf, WasSplitOff, HasMadeRoom, HasFoundRoom, LeadsAllBut, LeadsAll};
 
 use crate::attaches::attach_all;
-use crate::descent::find;
+use crate::descent::{end_law, find};
 use crate::parts::{Parted, Waiting, part};
 use arrayvec::ArrayVec;
 use ks_arena::laws::sound_law;
 use ks_arena::{Arena, Held, Pass};
 use ks_flow::Link;
-use ks_gate::{Gate, Point};
-use ks_history::{Op, Reply};
+use ks_gate::Gate;
+use ks_history::Op;
 use ks_node::{Linked, linked_law, node_law};
-use ks_shape::{Full, Numbered, conclude, refuse, reply_of};
+use ks_shape::{Full, Numbered, add_here, has_room, put_here, refuse_here};
 use std::sync::Wait;
-
-/// Puts the value at the place in the one node in hand, as a call, and gives the node.
-fn write<N: Linked, G: Gate>(
-    arena: &Arena<N, Link>,
-    pass: &mut Pass<N, Link>,
-    gate: &G,
-    place: u64,
-    value: u128,
-    mut held: Held<N>,
-) -> Numbered
-    requires pass { IsPassOf arena.now pass.old }
-    requires way { IsOnWayOf arena.now pass.old.caller place pass.old held }
-    requires ends { next_at (N.body held.body) place ≡ Here }
-    requires room { value_at (N.body held.body).pairs place ≡ None → is_full N.layout (N.body held.body) ≡ false }
-    ensures pass { IsEmptyPassOf arena.now pass.new }
-    ensures caller { pass.new.caller ≡ pass.old.caller }
-    ensures begins { seen_of pass.old ⊑ seen_of pass.new }
-    ensures makes { MakesNoneLive pass.old pass.new }
-    ensures done { Finishes arena.now (Put place value) pass.old pass.new (told result.found) result.number }
-{
-    sound_law::<Link>();
-    node_law(&held.body);
-    arena.put_law(pass, &held, place, value);
-    let found = held.body.put(place, value);
-    let number = conclude(
-        arena,
-        pass,
-        gate,
-        held,
-        Op::Put(place, value),
-        reply_of(found),
-    );
-    Numbered { number, found }
-}
-
-/// Adds the value at the place in the one node in hand, as a call, if none stands there, and gives the node.
-fn write_new<N: Linked, G: Gate>(
-    arena: &Arena<N, Link>,
-    pass: &mut Pass<N, Link>,
-    gate: &G,
-    place: u64,
-    value: u128,
-    mut held: Held<N>,
-) -> Numbered
-    requires pass { IsPassOf arena.now pass.old }
-    requires way { IsOnWayOf arena.now pass.old.caller place pass.old held }
-    requires ends { next_at (N.body held.body) place ≡ Here }
-    requires room { value_at (N.body held.body).pairs place ≡ None → is_full N.layout (N.body held.body) ≡ false }
-    ensures pass { IsEmptyPassOf arena.now pass.new }
-    ensures caller { pass.new.caller ≡ pass.old.caller }
-    ensures begins { seen_of pass.old ⊑ seen_of pass.new }
-    ensures makes { MakesNoneLive pass.old pass.new }
-    ensures done { Finishes arena.now (Add place value) pass.old pass.new (told result.found) result.number }
-{
-    sound_law::<Link>();
-    node_law(&held.body);
-    arena.add_law(pass, &held, place, value);
-    match held.body.get(place) {
-        Some(old) => {
-            let number = conclude(
-                arena,
-                pass,
-                gate,
-                held,
-                Op::Add(place, value),
-                Reply::Value(old),
-            );
-            Numbered {
-                number,
-                found: Some(old),
-            }
-        }
-        None => {
-            let _ = held.body.put(place, value);
-            let number = conclude(
-                arena,
-                pass,
-                gate,
-                held,
-                Op::Add(place, value),
-                Reply::Nothing,
-            );
-            Numbered {
-                number,
-                found: None,
-            }
-        }
-    }
-}
-
-/// Answers a put or an add as full at the one node in hand, which is full and lacks the place, and gives the node.
-fn turn_away<N: Linked, G: Gate>(
-    arena: &Arena<N, Link>,
-    pass: &mut Pass<N, Link>,
-    gate: &G,
-    place: u64,
-    value: u128,
-    op: Op,
-    held: Held<N>,
-) -> Full
-    requires pass { IsPassOf arena.now pass.old }
-    requires op { (op ≡ Put place value) ⊎ (op ≡ Add place value) }
-    requires way { IsOnWayOf arena.now pass.old.caller place pass.old held }
-    requires ends { next_at (N.body held.body) place ≡ Here }
-    requires full { IsTrue (is_full N.layout (N.body held.body)) }
-    requires absent { value_at (N.body held.body).pairs place ≡ None }
-    requires none_free { WasRefusedAt arena.now pass.old place }
-    ensures pass { IsEmptyPassOf arena.now pass.new }
-    ensures caller { pass.new.caller ≡ pass.old.caller }
-    ensures begins { seen_of pass.old ⊑ seen_of pass.new }
-    ensures makes { MakesNoneLive pass.old pass.new }
-    ensures done { FinishesCrowded arena.now op place pass.old pass.new result.number }
-{
-    sound_law::<Link>();
-    node_law(&held.body);
-    arena.full_law(pass, &held, place, value);
-    refuse(arena, pass, gate, held, op)
-}
 
 /// What was split off waits, if there is room for it.
 fn wait_for(waiting: &mut ArrayVec<Waiting, 7>, new: Option<Waiting>)
@@ -176,8 +54,9 @@ fn make_room<N: Linked, G: Gate>(
     ensures made { HasMadeRoom arena.now place pass.old pass.new held result }
     ensures waiting { All (λ w. WasSplitOff arena.now pass.new w) waiting.new.items }
     ensures stretch { IsStretchBy link_move pass.old pass.new }
-    ensures led { waiting.old.items ≡ [] → WasAlone pass.old pass.new → LeadsAllBut arena.now waiting.new.items pass.old pass.new }
-    ensures room { IsTrue N.halves_have_room → HasRoom N.layout N.body result }
+    ensures led { waiting.old.items ≡ [] → WasAlone pass.old pass.new →
+        LeadsAllBut arena.now waiting.new.items pass.old pass.new }
+    ensures room { IsTrue N.halves_have_room → LeavesRoom N.layout N.body result }
 {
     sound_law::<Link>();
     linked_law::<N>();
@@ -209,17 +88,22 @@ fn find_room<N: Linked, R: Wait, G: Gate>(
     ensures found { HasFoundRoom arena.now place pass.old pass.new result }
     ensures waiting { All (λ w. WasSplitOff arena.now pass.new w) waiting.new.items }
     ensures stretch { IsStretchBy link_move pass.old pass.new }
-    ensures led { IsTrue N.halves_have_room → WasAlone pass.old pass.new → LeadsAllBut arena.now waiting.new.items pass.old pass.new }
+    ensures led { IsTrue N.halves_have_room → WasAlone pass.old pass.new →
+        LeadsAllBut arena.now waiting.new.items pass.old pass.new }
 {
     sound_law::<Link>();
     let mut held = find(rt, arena, pass, gate, place);
     for _ in rt.forever() {
-        if !held.body.is_full() || held.body.get(place).is_some() {
+        if has_room(&held, place) {
+            end_law(arena, pass, &held, place);
             return Ok(held);
         }
         match make_room(arena, pass, gate, place, held, waiting) {
             Ok(next) => held = next,
-            Err(held) => return Err(held),
+            Err(held) => {
+                end_law(arena, pass, &held, place);
+                return Err(held);
+            }
         }
     }
     unreachable!()
@@ -244,19 +128,20 @@ pub fn put<N: Linked, R: Wait, G: Gate>(
     ensures pass { IsEmptyPassOf arena.now pass.new }
     ensures caller { pass.new.caller ≡ pass.old.caller }
     ensures done { DoneOf arena.now link_move (Put place value) pass.old pass.new (reply_in result) (number_in result) }
-    ensures led { IsTrue N.branches_adopt → IsTrue N.halves_have_room → WasAlone pass.old pass.new → TwoFree arena.now.nodes (seen_of pass.new)
-        → LeadsAll arena.now pass.old pass.new }
+    ensures led { IsTrue N.branches_adopt → IsTrue N.halves_have_room →
+        IfAloneWithRoom arena.now pass.old pass.new (LeadsAll arena.now pass.old pass.new) }
 {
     sound_law::<Link>();
     let mut waiting = ArrayVec::new();
     match find_room(rt, arena, pass, gate, place, &mut waiting) {
         Ok(held) => {
-            let answer = write(arena, pass, gate, place, value, held);
+            let answer = put_here(arena, pass, gate, place, value, held);
             attach_all(rt, arena, pass, gate, waiting.as_slice());
             Ok(answer)
         }
         Err(held) => {
-            let full = turn_away(arena, pass, gate, place, value, Op::Put(place, value), held);
+            let op = Op::Put(place, value);
+            let full = refuse_here(arena, pass, gate, place, value, held, op);
             attach_all(rt, arena, pass, gate, waiting.as_slice());
             Err(full)
         }
@@ -281,19 +166,20 @@ pub fn add<N: Linked, R: Wait, G: Gate>(
     ensures pass { IsEmptyPassOf arena.now pass.new }
     ensures caller { pass.new.caller ≡ pass.old.caller }
     ensures done { DoneOf arena.now link_move (Add place value) pass.old pass.new (reply_in result) (number_in result) }
-    ensures led { IsTrue N.branches_adopt → IsTrue N.halves_have_room → WasAlone pass.old pass.new → TwoFree arena.now.nodes (seen_of pass.new)
-        → LeadsAll arena.now pass.old pass.new }
+    ensures led { IsTrue N.branches_adopt → IsTrue N.halves_have_room →
+        IfAloneWithRoom arena.now pass.old pass.new (LeadsAll arena.now pass.old pass.new) }
 {
     sound_law::<Link>();
     let mut waiting = ArrayVec::new();
     match find_room(rt, arena, pass, gate, place, &mut waiting) {
         Ok(held) => {
-            let answer = write_new(arena, pass, gate, place, value, held);
+            let answer = add_here(arena, pass, gate, place, value, held);
             attach_all(rt, arena, pass, gate, waiting.as_slice());
             Ok(answer)
         }
         Err(held) => {
-            let full = turn_away(arena, pass, gate, place, value, Op::Add(place, value), held);
+            let op = Op::Add(place, value);
+            let full = refuse_here(arena, pass, gate, place, value, held, op);
             attach_all(rt, arena, pass, gate, waiting.as_slice());
             Err(full)
         }

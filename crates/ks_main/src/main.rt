@@ -2,9 +2,12 @@
 //! status.
 #![tactic(auto)]
 
+ghost use Rattle.std.specs.Prelude.{◌≡◌};
+ghost use Rattle.std.specs.Process.{exit_status};
+
 mod streams;
 
-use ks_batch::serve;
+use ks_batch::{Outcome, serve};
 use ks_gate::NoGate;
 use std::process::ExitCode;
 use std::{env, io};
@@ -17,6 +20,13 @@ const NO_MEMORY: u8 = 5;
 fn words(rt: &HostRuntime) -> io::Result<Vec<String>> {
     let words = env::args(rt)?.skip(1).collect(rt.alloc())?;
     Ok(words)
+}
+
+/// What the process ends with: the status of the outcome.
+fn exit_code(outcome: &Outcome) -> ExitCode
+    ensures { exit_status result ≡ outcome.now.status }
+{
+    ExitCode::from(outcome.status)
 }
 
 fn main(rt: HostRuntime) -> ExitCode {
@@ -40,5 +50,5 @@ fn main(rt: HostRuntime) -> ExitCode {
         &mut err,
         &NoGate,
     );
-    ExitCode::from(outcome.status)
+    exit_code(&outcome)
 }

@@ -1,6 +1,10 @@
-//! The standard streams as a source and as sinks. They tell no bytes: what the system does with them no proof can say.
+//! The standard streams as a source and as sinks.
+//!
+//! What the system does with bytes no proof can say, so over the streams of a process they tell none. Over a stream of
+//! std whose bytes are known they tell just those, and so each error has to be told as a fault: one that was taken for
+//! the end, or for bytes that were written, would contradict what the stream still has.
 
-ghost use Rattle.std.specs.Prelude.{ℕ};
+ghost use Rattle.std.specs.Prelude.{ℕ, ◌≡◌};
 
 use ks_script::{Failed, Sink, Source};
 use std::io::{Read, Write};
@@ -13,12 +17,17 @@ pub struct StdSource<R: Read + Drop> {
 }
 
 impl<R: Read + Drop> StdSource<R> {
-    pub fn new(stream: R) -> StdSource<R> {
+    pub fn new(stream: R) -> StdSource<R>
+        ensures stream { result.stream ≡ stream }
+        ensures faults { result.faults ≡ 0 }
+    {
         StdSource { stream, faults: 0 }
     }
 }
 
 impl<R: Read + Drop> Source for StdSource<R> {
+    ghost left = { λ s. R.remaining s.stream };
+
     ghost faults = { λ s. s.faults };
 
     fn read(&mut self, into: &mut [u8]) -> Result<usize, Failed> {
@@ -40,12 +49,17 @@ pub struct StdSink<W: Write + Drop> {
 }
 
 impl<W: Write + Drop> StdSink<W> {
-    pub fn new(stream: W) -> StdSink<W> {
+    pub fn new(stream: W) -> StdSink<W>
+        ensures stream { result.stream ≡ stream }
+        ensures faults { result.faults ≡ 0 }
+    {
         StdSink { stream, faults: 0 }
     }
 }
 
 impl<W: Write + Drop> Sink for StdSink<W> {
+    ghost taken = { λ s. W.contents s.stream };
+
     ghost faults = { λ s. s.faults };
 
     fn write(&mut self, piece: &[u8]) -> Result<usize, Failed> {
@@ -58,3 +72,6 @@ impl<W: Write + Drop> Sink for StdSink<W> {
         }
     }
 }
+
+#[cfg(test)]
+mod tests;

@@ -2,5 +2,4 @@ pub mod Quiet
 pub mod Ways
 pub mod Keeping
 pub mod Cutting
-pub mod Ends
 pub mod Going

@@ -1,6 +1,6 @@
 -- How a search that keeps the parent goes on its way.
-use Rattle.std.proofs.Common.{◌≡◌, ◌≢◌, ℕ, zero, suc, ◌<◌, ◌==◌, eq-eqb, true, List, [], ◌∷◌, ◌++◌, length, get_or, sym, refl, ap, ◌∙◌, subst, inl, inr, arith}
-use Rattle.std.specs.Prelude.{Some, None}
+use Rattle.std.proofs.Common.{◌≡◌, ◌≢◌, ℕ, zero, suc, ◌<◌, ◌≤◌, ◌==◌, eq-eqb, true, List, [], ◌∷◌, ◌++◌, length, get_or, sym, refl, ap, ◌∙◌, subst, inl, inr, arith}
+use Rattle.std.specs.Prelude.{Some}
 use Rattle.ks_keysets.specs.declared.Edge.{Edge}
 use Rattle.ks_keysets.specs.declared.Record.{Record}
 use Rattle.ks_keysets.specs.Record.{LeadsTo}
@@ -12,8 +12,11 @@ use Rattle.ks_history.specs.Passes.{Has, GrowsWith}
 use Rattle.ks_history.specs.Stays.{cond_here, cond_else}
 use Rattle.ks_history.specs.Hand.{AreOnce, is_hand}
 use Rattle.ks_history.specs.Begins.{with_others}
-use Rattle.ks_history.specs.Done.{from_above}
-use Rattle.ks_history.specs.Underway.{may_take_later}
+use Rattle.ks_history.specs.declared.Op.{Op}
+use Rattle.ks_history.specs.declared.Op.TheVariants.{Get, Put, Del, Add, Swap}
+use Rattle.ks_history.specs.Stays.{AreInTurn}
+use Rattle.ks_history.specs.Done.{Template, coupling, from_above, most_held, MayTake}
+use Rattle.ks_history.specs.Underway.{Underway, may_take_later, underway_with}
 use Rattle.ks_flow.specs.Tree.{edges_to}
 use Rattle.ks_flow.specs.Discipline.{BeginsTree, TreeStep}
 use Rattle.ks_node.specs.Body.{Body}
@@ -23,7 +26,7 @@ use Rattle.ks_arena.specs.Sound.{Sort, Sound}
 use Rattle.ks_arena.specs.Clauses.{Matches, HasTaken, StillMatchBut}
 use Rattle.ks_shape.specs.Single.{led_live, record_is}
 use Rattle.ks_shape.specs.OnWay.{IsOnWay}
-use Rattle.ks_shape.specs.Stretches.{Stretches, stretches_give, stretches_take, stretches_root}
+use Rattle.ks_shape.specs.Stretches.{Stretches, stretches_give, stretches_take}
 use Rattle.ks_put.specs.OnPath.{IsOnPath}
 use Rattle.ks_put.specs.Laws.{Laws}
 use Rattle.ks_put.proofs.Quiet.{quiet_insets}
@@ -40,20 +43,15 @@ counted r p m to = positive r.edges to.0 m to.1 to.2 to.3 to.4.1
 pub last_of_two : (i j : ℕ) → i ≢ j → drop_one j (i ∷ j ∷ []) ≡ i ∷ []
 last_of_two i j ne = cond_else i j (j ∷ []) (i ∷ drop_one j (j ∷ [])) ne ∙ ap (λ (z : List ℕ). i ∷ z) (cond_here j j [] (j ∷ []) refl)
 
+-- a call by lock coupling may hold two nodes
+two_may : (op : Op) → 2 ≤ most_held coupling op
+two_may (Get p) = omega arith
+two_may (Put p v) = omega arith
+two_may (Del p) = omega arith
+two_may (Add p v) = omega arith
+two_may (Swap p old new) = omega arith
+
 module _ {N : Type 0} (sort : Sort) (shows : N → Body) where
-  -- the root is taken
-  pub enters : (c p : ℕ) (s0 s1 : List Event) (x : Hand N) → hand c s0 ≡ [] → HasTaken sort shows c 0 s0 s1 x → InInset (graph_after s1) x.node p → IsOnPath sort shows c p s1 (record { parent = None; node = x })
-  enters c p s0 s1 x empty took inside = record {
-    hands = took.hand ∙ ap (λ (z : List ℕ). 0 ∷ z) empty ∙ ap (λ (i : ℕ). i ∷ []) (sym took.node);
-    live = took.live;
-    matches = took.matches;
-    inside = inside;
-    under = inl took.node;
-  }
-
-  pub enters_stretch : (c : ℕ) (s0 s1 : List Event) (x : Hand N) → hand c s0 ≡ [] → HasTaken sort shows c 0 s0 s1 x → Stretches c s0 s1
-  enters_stretch c s0 s1 x empty took = stretches_root c s0 s1 empty (omega (arith, ap length (took.hand ∙ ap (λ (z : List ℕ). 0 ∷ z) empty))) took.grows
-
   -- the other node in hand is given
   module _ (n c p : ℕ) (laws : Laws sort n) (h k : List Event) (x y : Hand N) (sound : Sound sort BeginsTree TreeStep n h) (sound' : Sound sort BeginsTree TreeStep n k)
       (both : hand c h ≡ x.node ∷ y.node ∷ []) (is : (x.live ≡ true) × Matches sort shows h x) (inside : InInset (graph_after h) x.node p) (gave : GrowsWith c (Give c y.node) h k) (hands : hand c k ≡ drop_one y.node (hand c h)) where
@@ -79,6 +77,9 @@ module _ {N : Type 0} (sort : Sort) (shows : N → Body) where
 
     pub alone_stretch : Stretches c h k
     alone_stretch = stretches_give c y.node h k (omega (arith, ap length both)) gave
+
+    pub alone_under : (op : Op) (s : List Event) → Underway coupling c op s h → Underway coupling c op s k
+    alone_under op s under = underway_with coupling c op (Give c y.node) s h k tt gave tt (omega (arith, ap length alone, two_may op)) under
 
   -- the child is taken
   module _ (n c p i : ℕ) (laws : Laws sort n) (h k : List Event) (x y : Hand N) (sound : Sound sort BeginsTree TreeStep n h) (sound' : Sound sort BeginsTree TreeStep n k)
@@ -110,7 +111,14 @@ module _ {N : Type 0} (sort : Sort) (shows : N → Body) where
       under = record { live = way.live; matches = still; leads = subst (λ (z : ℕ). LeadsTo (record_of (shows x.body)) p z) (sym took.node) to };
     }
 
+    turns : AreInTurn (took.grows.rest ++ h)
+    turns = laws.turns (took.grows.rest ++ h) (subst (Sound sort BeginsTree TreeStep n) took.grows.is sound').0
+
+    may : (template : Template) (op : Op) → MayTake template op (took.grows.rest ++ h) c i
+    may template op = may_take_later template c i op h (took.grows.rest ++ h) (with_others c (Take c i) h k took.grows) turns (from_above record { above = x.node; node = record_of (shows x.body); holds = mine; is = is; leads = (to.0, to.1, to.2, to.3, to.4.1) })
+
     pub down_stretch : Stretches c h k
-    down_stretch = let before : List Event = took.grows.rest ++ h in let all = subst (Sound sort BeginsTree TreeStep n) took.grows.is sound' in
-        stretches_take c i h k (omega (arith, ap length way.alone)) (omega (arith, ap length both)) took.grows
-        (λ template op. may_take_later template c i op h before (with_others c (Take c i) h k took.grows) (laws.turns before all.0) (from_above record { above = x.node; node = record_of (shows x.body); holds = mine; is = is; leads = (to.0, to.1, to.2, to.3, to.4.1) }))
+    down_stretch = stretches_take c i h k (omega (arith, ap length way.alone)) (omega (arith, ap length both)) took.grows may
+
+    pub down_under : (op : Op) (s : List Event) → Underway coupling c op s h → Underway coupling c op s k
+    down_under op s under = underway_with coupling c op (Take c i) s h k tt took.grows (λ same. may coupling op) (omega (arith, ap length both, two_may op)) under

@@ -4,11 +4,6 @@ use Rattle.ks_node.specs.declared.node.Node.{Ghosts as NodeGhosts}
 use Rattle.ks_node.below.ks_places.specs.declared.Placing.{Ghosts as PlacingGhosts}
 use Rattle.ks_flow.specs.declared.discipline.Discipline.{Ghosts as DisciplineGhosts}
 use Rattle.ks_history.specs.declared.Event.{Event}
-use Rattle.ks_history.specs.declared.Op.{Op}
-use Rattle.ks_history.specs.declared.Reply.TheVariants.{Full}
-use Rattle.ks_history.specs.Done.{Template, Done}
-use Rattle.ks_history.specs.Due.{NoneFree}
-use Rattle.ks_history.specs.Underway.{Underway}
 use Rattle.ks_arena.specs.declared.arena.Arena.{Arena}
 use Rattle.ks_arena.specs.declared.held.Pass.{Pass}
 use Rattle.ks_arena.specs.declared.held.Held.{Held as Hand}
@@ -19,7 +14,7 @@ use Rattle.ks_put.specs.declared.path.Path.{Path}
 use Rattle.ks_put.specs.declared.room.Room.{Room}
 use Rattle.ks_put.specs.OnPath.{GaveIf, IsAbove, IsUnder, IsOnPath}
 use Rattle.ks_put.specs.Parts.{IsPart, DidPart}
-use Rattle.ks_put.specs.Room.{WasRefused, HasRoom, IsCrowded, CameTo}
+use Rattle.ks_put.specs.Room.{CameTo}
 
 module _ {N D : Type 0} where
   -- the pass has seen its caller give the one node, if there was one, and beside it what others did; else nothing
@@ -48,25 +43,9 @@ module _ {N D P : Type 0} {n : NodeGhosts N P} {q : PlacingGhosts P} {d : Discip
   abbrev pub HasParted : Arena N D P n q d → ℕ → Pass N D → Pass N D → Path N → Part N → Type 0
   HasParted a place p p' path part = DidPart (sort_of n.layout n.ranged) n.body a.nodes p.caller place (seen_of p) (seen_of p') path part
 
-  -- the caller holds this node alone, where the search for the place ends, and it has the place or room for it
-  abbrev pub HasRoomOf : Arena N D P n q d → ℕ → ℕ → Pass N D → Hand N → Type 0
-  HasRoomOf a c place p x = HasRoom (sort_of n.layout n.ranged) n.body c place (seen_of p) x
-
-  -- or it is full, and has not the place
-  abbrev pub IsCrowdedOf : Arena N D P n q d → ℕ → ℕ → Pass N D → Hand N → Type 0
-  IsCrowdedOf a c place p x = IsCrowded (sort_of n.layout n.ranged) n.body c place (seen_of p) x
-
-  -- since some moment, from which the caller made no call, no node was free for the place
-  abbrev pub WasRefusedOf : Arena N D P n q d → ℕ → Pass N D → Type 0
-  WasRefusedOf a place p = WasRefused n.layout a.nodes p.caller place (seen_of p)
-
   -- what a search for room between p and p' came to; if a claim was refused, it was so at some moment since the start
   abbrev pub CameToRoom : Arena N D P n q d → ℕ → Pass N D → Pass N D → Room N → Type 0
   CameToRoom a place p p' room = CameTo (sort_of n.layout n.ranged) n.body a.nodes p.caller place (seen_of p) (seen_of p') room
 
   abbrev pub CameToRoomSince : Arena N D P n q d → ℕ → List Event → Pass N D → Pass N D → ℕ → Room N → Type 0
   CameToRoomSince a place start p p' nodes room = CameTo (sort_of n.layout n.ranged) n.body nodes p.caller place start (seen_of p') room
-
-  -- a call that is under way at p, and since whose start no node was free for the place, is done at p' with the reply Full
-  abbrev pub FinishesCrowded : Arena N D P n q d → Op → ℕ → Pass N D → Pass N D → ℕ → Type 0
-  FinishesCrowded a op place p p' number = (template : Template) (start : List Event) → Underway template p.caller op start (seen_of p) → NoneFree n.layout a.nodes p.caller place start (seen_of p) → Done n.layout template a.nodes p.caller op start (seen_of p') Full number

@@ -1,6 +1,6 @@
 -- What splits ask and tell.
-use Rattle.std.proofs.Common.{◌≡◌, ℕ, List, false}
-use Rattle.std.specs.Prelude.{Option, Some, None}
+use Rattle.std.proofs.Common.{◌≡◌, ℕ, Bool, List, false}
+use Rattle.std.specs.Prelude.{IsTrue, Option, Some, None}
 use Rattle.ks_keysets.specs.Layout.{Layout}
 use Rattle.ks_node.specs.Room.{is_full}
 use Rattle.ks_keysets.specs.Record.{LeadsTo}
@@ -8,7 +8,8 @@ use Rattle.ks_keysets.specs.Keyset.{InInset}
 use Rattle.ks_history.specs.declared.Event.{Event}
 use Rattle.ks_history.specs.Due.{NoneFree}
 use Rattle.ks_history.specs.Trace.{graph_after}
-use Rattle.ks_node.specs.Body.{Body}
+use Rattle.ks_node.specs.Body.{Body, Content, content_of, is_branch}
+use Rattle.ks_node.specs.Effect.{split_left}
 use Rattle.ks_node.specs.Edges.{record_of}
 use Rattle.ks_arena.specs.declared.held.Held.{Held as Hand}
 use Rattle.ks_arena.specs.Sound.{Sort}
@@ -16,6 +17,21 @@ use Rattle.ks_put.specs.declared.path.Path.{Path}
 use Rattle.ks_put.specs.declared.halves.Part.{Part}
 use Rattle.ks_put.specs.declared.halves.Part.TheVariants.{Split, Refused, Shut}
 use Rattle.ks_put.specs.OnPath.{IsOnPath}
+
+-- a root of this body may grow, as its type says
+abbrev pub Grows : (Content → Bool) → Body → Type 0
+Grows can b = IsTrue (can (content_of b))
+
+-- a node of this body can do so at the cut, as its type says; and it is a branch
+abbrev pub CanAt : (Content → ℕ → Bool) → Body → ℕ → Type 0
+CanAt can b cut = IsTrue (can (content_of b) cut)
+
+abbrev pub BranchCanAt : (Content → ℕ → Bool) → Body → ℕ → Type 0
+BranchCanAt can b cut = IsTrue (is_branch b) × CanAt can b cut
+
+-- if it is no branch, and can do so at the cut, so can its left part once it is split there
+abbrev pub HalfAdopts : (Content → ℕ → Bool) → Body → ℕ → Type 0
+HalfAdopts can b cut = is_branch b ≡ false → CanAt can b cut → CanAt can (split_left cut b) cut
 
 -- there was no way to split the node
 abbrev pub IsShut : {N : Type 0} → Part N → Type 0

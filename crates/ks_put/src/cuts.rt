@@ -1,11 +1,11 @@
 //! Where a full node is cut.
 ghost use Rattle.std.specs.Prelude.{◌≡◌, ◌⊎◌, IsTrue, false};
-ghost use Rattle.ks_node.specs.Body.{content_of, is_branch};
+ghost use Rattle.ks_node.specs.Body.{is_branch};
 ghost use Rattle.ks_node.specs.Room.{is_full};
-ghost use Rattle.ks_node.specs.Effect.{split_left};
 ghost use Rattle.ks_node.specs.Asks.{CanSplitAt};
 ghost use Rattle.ks_arena.specs.Of.{IsInside, IsPassOf, IsLiveAndCurrent};
 ghost use Rattle.ks_put.specs.Of.{LeadsDown};
+ghost use Rattle.ks_put.specs.Parts.{Grows, CanAt, BranchCanAt, HalfAdopts};
 
 use crate::laws::search_law;
 use ks_arena::{Arena, Held, Pass};
@@ -25,9 +25,10 @@ pub(crate) fn cut_of_root<N: Unlinked>(
     requires node { IsLiveAndCurrent arena.now pass.now root.now }
     requires full { IsTrue (is_full N.layout (N.body root.now.body)) }
     ensures cut { IsInside pass.now root.now.node result × CanSplitAt (N.body root.now.body) result }
-    ensures grows { IsTrue (N.grows_at (content_of (N.body root.now.body))) → IsTrue (N.can_grow_at (content_of (N.body root.now.body)) result) }
-    ensures open { N.in_place ≡ false → is_branch (N.body root.now.body) ≡ false → IsTrue (N.grows_at (content_of (N.body root.now.body))) ⊎ IsTrue (N.can_adopt_at (content_of (N.body root.now.body)) result) }
-    ensures adopts { is_branch (N.body root.now.body) ≡ false → IsTrue (N.can_adopt_at (content_of (N.body root.now.body)) result) → IsTrue (N.can_adopt_at (content_of (split_left result (N.body root.now.body))) result) }
+    ensures grows { Grows N.grows_at (N.body root.now.body) → CanAt N.can_grow_at (N.body root.now.body) result }
+    ensures open { N.in_place ≡ false → is_branch (N.body root.now.body) ≡ false →
+        Grows N.grows_at (N.body root.now.body) ⊎ CanAt N.can_adopt_at (N.body root.now.body) result }
+    ensures adopts { HalfAdopts N.can_adopt_at (N.body root.now.body) result }
 {
     search_law();
     tree_spans_law();
@@ -54,9 +55,10 @@ pub(crate) fn cut_below<N: Unlinked>(
     requires node { IsLiveAndCurrent arena.now pass.now node.now }
     requires full { IsTrue (is_full N.layout (N.body node.now.body)) }
     ensures cut { IsInside pass.now node.now.node result × CanSplitAt (N.body node.now.body) result }
-    ensures open { N.in_place ≡ false → is_branch (N.body node.now.body) ≡ false → is_full N.layout (N.body parent.now.body) ≡ false →
-        IsTrue (N.can_adopt_at (content_of (N.body node.now.body)) result) ⊎ (IsTrue (is_branch (N.body parent.now.body)) × IsTrue (N.can_adopt_at (content_of (N.body parent.now.body)) result)) }
-    ensures adopts { is_branch (N.body node.now.body) ≡ false → IsTrue (N.can_adopt_at (content_of (N.body node.now.body)) result) → IsTrue (N.can_adopt_at (content_of (split_left result (N.body node.now.body))) result) }
+    ensures open { N.in_place ≡ false → is_branch (N.body node.now.body) ≡ false →
+        is_full N.layout (N.body parent.now.body) ≡ false →
+        CanAt N.can_adopt_at (N.body node.now.body) result ⊎ BranchCanAt N.can_adopt_at (N.body parent.now.body) result }
+    ensures adopts { HalfAdopts N.can_adopt_at (N.body node.now.body) result }
 {
     search_law();
     tree_asks_law();

@@ -2,45 +2,17 @@
 ghost use Rattle.std.specs.Prelude.{◌≡◌};
 ghost use Rattle.ks_history.specs.declared.Op.TheVariants.{Add, Put};
 ghost use Rattle.ks_shape.specs.Answers.{number_in, reply_in};
-ghost use Rattle.ks_put.specs.Room.{Fills};
-ghost use Rattle.ks_arena.specs.Of.{IsPassOf, IsEmptyPassOf};
+ghost use Rattle.ks_arena.specs.Of.{IsEmptyPassOf};
 ghost use Rattle.ks_shape.specs.Of.{FinishesAny};
-ghost use Rattle.ks_put.specs.Of.{IsCrowdedOf, WasRefusedOf, FinishesCrowded};
 
-use crate::here::{add_here, put_here};
-use crate::laws::search_law;
 use crate::room::{Room, make_room};
-use ks_arena::{Arena, Held, Pass};
+use ks_arena::{Arena, Pass};
 use ks_flow::Tree;
 use ks_gate::Gate;
 use ks_history::Op;
-use ks_node::{Unlinked, node_law};
-use ks_shape::{Full, Numbered, refuse};
+use ks_node::Unlinked;
+use ks_shape::{Full, Numbered, add_here, put_here, refuse_here};
 use std::sync::Wait;
-
-/// Decides a put or an add as full at the one node in hand, after no node was found free.
-fn refuse_here<N: Unlinked, G: Gate>(
-    arena: &Arena<N, Tree>,
-    pass: &mut Pass<N, Tree>,
-    gate: &G,
-    place: u64,
-    value: u128,
-    held: Held<N>,
-    op: Op,
-) -> Full
-    requires pass { IsPassOf arena.now pass.old }
-    requires crowded { IsCrowdedOf arena.now pass.old.caller place pass.old held }
-    requires refused { WasRefusedOf arena.now place pass.old }
-    requires fills { Fills place value op }
-    ensures pass { IsEmptyPassOf arena.now pass.new }
-    ensures caller { pass.new.caller ≡ pass.old.caller }
-    ensures done { FinishesCrowded arena.now op place pass.old pass.new result.number }
-{
-    search_law();
-    node_law(&held.body);
-    arena.full_law(pass, &held, place, value);
-    refuse(arena, pass, gate, held, op)
-}
 
 /// Puts a value at a place. Answers the number of the call, and the value that stood there; or that the node is full
 /// and none was found free. It ends a call by any template, and does not tell the gate that one begins.

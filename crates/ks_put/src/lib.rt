@@ -4,7 +4,6 @@
 mod cuts;
 mod fills;
 mod halves;
-mod here;
 mod laws;
 mod path;
 mod room;
@@ -12,7 +11,6 @@ mod splits;
 
 pub use fills::{pair_add, pair_put};
 pub use halves::keep_left;
-pub use here::{add_here, put_here, swap_here};
 pub use laws::search_law;
-pub use path::{Path, enter, keep_alone, let_go, step_down};
-pub use room::{Room, has_room, make_room};
+pub use path::{Path, enter, let_go, step_down};
+pub use room::{Room, make_room};

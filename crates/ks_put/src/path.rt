@@ -2,21 +2,23 @@
 ghost use Rattle.std.specs.Prelude.{◌≡◌, ◌∷◌, None, Some};
 ghost use Rattle.std.specs.Option.{ForSome};
 ghost use Rattle.ks_history.specs.declared.Event.TheVariants.{Take};
+ghost use Rattle.ks_history.specs.Done.{coupling};
 ghost use Rattle.ks_node.specs.declared.start.Next.TheVariants.{Go};
 ghost use Rattle.ks_node.specs.Body.{next_at};
 ghost use Rattle.ks_arena.specs.Clauses.{hand_of};
 ghost use Rattle.ks_put.specs.OnPath.{numbers};
 ghost use Rattle.ks_arena.specs.Of.{Adds, IsInside, IsPassOf, IsEmptyPassOf, IsCurrent, IsLiveAndCurrent};
-ghost use Rattle.ks_shape.specs.Of.{IsStretch, IsOnWayOf};
+ghost use Rattle.ks_shape.specs.Of.{IsStretch, IsOnWayOf, StaysUnderway};
 ghost use Rattle.ks_put.specs.Of.{AddsGive, IsOnPathOf};
 
 use crate::laws::search_law;
-use ks_arena::laws::{root_stays_law, target_law};
-use ks_arena::{Arena, Held, Pass, root_law};
+use ks_arena::laws::target_law;
+use ks_arena::{Arena, Held, Pass};
 use ks_flow::Tree;
 use ks_flow::laws::tree_facts_law;
 use ks_gate::{Gate, Point};
 use ks_node::{Unlinked, node_law};
+use ks_shape::take_root;
 use std::sync::Wait;
 
 /// The node at which a search stands, and the one that leads to it. The root has none, and a node that is not full needs
@@ -42,20 +44,12 @@ pub fn enter<N: Unlinked, R: Wait, G: Gate>(
     ensures root { (result.parent ≡ None) × (result.node.node ≡ 0) }
     ensures took { Adds (Take pass.old.caller 0) pass.old pass.new }
 {
-    root_stays_law::<Tree>();
-    let Some(root) = arena.take(rt, pass, 0) else {
-        unreachable!()
-    };
-    root_law(&root, place);
-    gate.at(pass.caller(), Point::Taken(0));
-    Path {
-        parent: None,
-        node: root,
-    }
+    let node = take_root(rt, arena, pass, gate, place);
+    Path { parent: None, node }
 }
 
 /// Gives the other node in hand, if there is one, and keeps the node.
-pub fn keep_alone<N: Unlinked, G: Gate>(
+pub(crate) fn keep_alone<N: Unlinked, G: Gate>(
     arena: &Arena<N, Tree>,
     pass: &mut Pass<N, Tree>,
     gate: &G,
@@ -72,6 +66,7 @@ pub fn keep_alone<N: Unlinked, G: Gate>(
     ensures caller { pass.new.caller ≡ pass.old.caller }
     ensures node { result ≡ node }
     ensures way { IsOnWayOf arena.now pass.old.caller place pass.new result }
+    ensures under { StaysUnderway coupling pass.old pass.new }
     ensures stretch { IsStretch pass.old pass.new }
     ensures gave { AddsGive other pass.old pass.new }
 {
@@ -98,6 +93,7 @@ pub fn let_go<N: Unlinked, G: Gate>(
     ensures caller { pass.new.caller ≡ pass.old.caller }
     ensures node { result ≡ path.node }
     ensures way { IsOnWayOf arena.now pass.old.caller place pass.new result }
+    ensures under { StaysUnderway coupling pass.old pass.new }
     ensures stretch { IsStretch pass.old pass.new }
     ensures gave { AddsGive path.parent pass.old pass.new }
 {
@@ -143,6 +139,7 @@ pub fn step_down<N: Unlinked, R: Wait, G: Gate>(
     ensures pass { IsPassOf arena.now pass.new }
     ensures caller { pass.new.caller ≡ pass.old.caller }
     ensures path { IsOnPathOf arena.now pass.old.caller place pass.new result }
+    ensures under { StaysUnderway coupling pass.old pass.new }
     ensures stretch { IsStretch pass.old pass.new }
     ensures parent { result.parent ≡ Some held }
     ensures child { result.node.node ≡ child }

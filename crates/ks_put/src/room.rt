@@ -7,6 +7,7 @@ ghost use Rattle.ks_node.specs.Body.{next_at, value_at};
 ghost use Rattle.ks_node.specs.Room.{is_full};
 ghost use Rattle.ks_arena.specs.Clauses.{seen_of};
 ghost use Rattle.ks_arena.specs.Of.{IsPassOf, IsEmptyPassOf};
+ghost use Rattle.ks_shape.specs.SearchEnd.{TakesPlace};
 ghost use Rattle.ks_shape.specs.Of.{IsStretch, NoneWasFree};
 ghost use Rattle.ks_put.specs.Of.{IsOnPathOf, CameToRoom, CameToRoomSince};
 
@@ -15,8 +16,9 @@ use crate::path::{Path, enter, let_go, step_down};
 use crate::splits::split;
 use ks_arena::{Arena, Held, Pass};
 use ks_flow::Tree;
-use ks_gate::{Gate, Point};
+use ks_gate::Gate;
 use ks_node::{Next, Unlinked};
+use ks_shape::{give_last, has_room, tree_end_law};
 use std::sync::Wait;
 
 /// What a search for room came to: the node where it ended, held alone.
@@ -25,14 +27,6 @@ pub enum Room<N> {
     Found(Held<N>),
     /// It is full and has not the place, and no node was found free.
     Refused(Held<N>),
-}
-
-/// Whether a node has a place, or room for it.
-pub fn has_room<N: Unlinked>(held: &Held<N>, place: u64) -> bool
-    ensures room { result ≡ true → value_at (N.body held.now.body).pairs place ≡ None → is_full N.layout (N.body held.now.body) ≡ false }
-    ensures none { result ≡ false → (value_at (N.body held.now.body).pairs place ≡ None) × IsTrue (is_full N.layout (N.body held.now.body)) }
-{
-    held.body.get(place).is_some() || !held.body.is_full()
 }
 
 /// Gives the parent, and takes the child.
@@ -107,9 +101,7 @@ fn begin_again<N: Unlinked, R: Wait, G: Gate>(
     ensures stretch { IsStretch pass.old pass.new }
 {
     let held = let_go(arena, pass, gate, place, path);
-    let node = held.node;
-    arena.give(pass, held);
-    gate.at(pass.caller(), Point::Given(node));
+    give_last(arena, pass, gate, held);
     enter(rt, arena, pass, gate, place)
 }
 
@@ -124,13 +116,15 @@ fn come_to_room<N: Unlinked, G: Gate>(
     requires pass { IsPassOf arena.now pass.old }
     requires path { IsOnPathOf arena.now pass.old.caller place pass.old path }
     requires here { next_at (N.body path.node.body) place ≡ Here }
-    requires room { value_at (N.body path.node.body).pairs place ≡ None → is_full N.layout (N.body path.node.body) ≡ false }
+    requires room { TakesPlace N.layout (N.body path.node.body) place }
     ensures pass { IsPassOf arena.now pass.new }
     ensures caller { pass.new.caller ≡ pass.old.caller }
     ensures came { (n : ℕ) (start : List Happening) → CameToRoomSince arena.now place start pass.old pass.new n result }
     ensures stretch { IsStretch pass.old pass.new }
 {
-    Room::Found(let_go(arena, pass, gate, place, path))
+    let held = let_go(arena, pass, gate, place, path);
+    tree_end_law(arena, pass, &held, place);
+    Room::Found(held)
 }
 
 /// Gives the parent of a full node that has not the place.
@@ -148,10 +142,13 @@ fn come_to_full<N: Unlinked, G: Gate>(
     requires full { IsTrue (is_full N.layout (N.body path.node.body)) }
     ensures pass { IsPassOf arena.now pass.new }
     ensures caller { pass.new.caller ≡ pass.old.caller }
-    ensures came { (n : ℕ) (start : List Happening) → NoneFree N.layout n pass.old.caller place start (seen_of pass.old) → CameToRoomSince arena.now place start pass.old pass.new n result }
+    ensures came { (n : ℕ) (start : List Happening) → NoneFree N.layout n pass.old.caller place start (seen_of pass.old) →
+        CameToRoomSince arena.now place start pass.old pass.new n result }
     ensures stretch { IsStretch pass.old pass.new }
 {
-    Room::Refused(let_go(arena, pass, gate, place, path))
+    let held = let_go(arena, pass, gate, place, path);
+    tree_end_law(arena, pass, &held, place);
+    Room::Refused(held)
 }
 
 /// Takes the node at which the search for a place ends, and holds it alone. Full nodes are split on the way and at the end,

@@ -1,10 +1,10 @@
 //! The splits of a full node: where its cut goes.
 ghost use Rattle.std.specs.Prelude.{◌≡◌, IsTrue, Some, None, false};
-ghost use Rattle.ks_node.specs.Body.{content_of, is_branch};
+ghost use Rattle.ks_node.specs.Body.{is_branch};
 ghost use Rattle.ks_node.specs.Room.{is_full};
 ghost use Rattle.ks_node.specs.Effect.{split_left};
 ghost use Rattle.ks_node.specs.Asks.{CanSplitAt};
-ghost use Rattle.ks_put.specs.Parts.{HasRoomAbove, IsShut};
+ghost use Rattle.ks_put.specs.Parts.{CanAt, Grows, HasRoomAbove, IsShut};
 ghost use Rattle.ks_arena.specs.Of.{IsInside, IsPassOf};
 ghost use Rattle.ks_shape.specs.Of.{IsStretch};
 ghost use Rattle.ks_put.specs.Of.{IsOnPathOf, HasParted};
@@ -32,7 +32,7 @@ pub(crate) fn grow_root<N: Unlinked, G: Gate>(
     requires path { IsOnPathOf arena.now pass.old.caller place pass.old (record { parent = None; node = root }) }
     requires full { IsTrue (is_full N.layout (N.body root.body)) }
     requires cut { IsInside pass.old root.node cut × CanSplitAt (N.body root.body) cut }
-    requires grows { IsTrue (N.grows_at (content_of (N.body root.body))) × IsTrue (N.can_grow_at (content_of (N.body root.body)) cut) }
+    requires grows { Grows N.grows_at (N.body root.body) × CanAt N.can_grow_at (N.body root.body) cut }
     ensures pass { IsPassOf arena.now pass.new }
     ensures caller { pass.new.caller ≡ pass.old.caller }
     ensures part { HasParted arena.now place pass.old pass.new (record { parent = None; node = root }) result }
@@ -68,7 +68,7 @@ pub(crate) fn split_below<N: Unlinked, G: Gate>(
     requires branch { IsTrue (is_branch (N.body parent.body)) }
     requires full { IsTrue (is_full N.layout (N.body node.body)) }
     requires cut { IsInside pass.old node.node cut × CanSplitAt (N.body node.body) cut }
-    requires adopts { IsTrue (N.can_adopt_at (content_of (N.body parent.body)) cut) }
+    requires adopts { CanAt N.can_adopt_at (N.body parent.body) cut }
     ensures pass { IsPassOf arena.now pass.new }
     ensures caller { pass.new.caller ≡ pass.old.caller }
     ensures part { HasParted arena.now place pass.old pass.new (record { parent = Some parent; node = node }) result }
@@ -101,7 +101,7 @@ pub(crate) fn split_alone<N: Unlinked, G: Gate>(
     requires path { IsOnPathOf arena.now pass.old.caller place pass.old path }
     requires full { IsTrue (is_full N.layout (N.body path.node.body)) }
     requires cut { IsInside pass.old path.node.node cut × CanSplitAt (N.body path.node.body) cut }
-    requires adopts { IsTrue (N.can_adopt_at (content_of (split_left cut (N.body path.node.body))) cut) }
+    requires adopts { CanAt N.can_adopt_at (split_left cut (N.body path.node.body)) cut }
     ensures pass { IsPassOf arena.now pass.new }
     ensures caller { pass.new.caller ≡ pass.old.caller }
     ensures part { HasParted arena.now place pass.old pass.new path result }
@@ -175,7 +175,8 @@ pub(crate) fn split_child<N: Unlinked, G: Gate>(
     ensures pass { IsPassOf arena.now pass.new }
     ensures caller { pass.new.caller ≡ pass.old.caller }
     ensures part { HasParted arena.now place pass.old pass.new (record { parent = Some parent; node = node }) result }
-    ensures open { N.in_place ≡ false → is_branch (N.body node.body) ≡ false → is_full N.layout (N.body parent.body) ≡ false → ¬ IsShut result }
+    ensures open { N.in_place ≡ false → is_branch (N.body node.body) ≡ false →
+        is_full N.layout (N.body parent.body) ≡ false → ¬ IsShut result }
     ensures stretch { IsStretch pass.old pass.new }
 {
     let cut = cut_below(arena, pass, place, &parent, &node);
@@ -209,7 +210,8 @@ fn split_whole<N: Unlinked, G: Gate>(
     ensures pass { IsPassOf arena.now pass.new }
     ensures caller { pass.new.caller ≡ pass.old.caller }
     ensures part { HasParted arena.now place pass.old pass.new path result }
-    ensures open { N.in_place ≡ false → is_branch (N.body path.node.body) ≡ false → HasRoomAbove N.layout N.body path.parent → ¬ IsShut result }
+    ensures open { N.in_place ≡ false → is_branch (N.body path.node.body) ≡ false →
+        HasRoomAbove N.layout N.body path.parent → ¬ IsShut result }
     ensures stretch { IsStretch pass.old pass.new }
 {
     let Path { parent, node } = path;
@@ -234,7 +236,8 @@ pub(crate) fn split<N: Unlinked, G: Gate>(
     ensures pass { IsPassOf arena.now pass.new }
     ensures caller { pass.new.caller ≡ pass.old.caller }
     ensures part { HasParted arena.now place pass.old pass.new path result }
-    ensures open { N.in_place ≡ false → is_branch (N.body path.node.body) ≡ false → HasRoomAbove N.layout N.body path.parent → ¬ IsShut result }
+    ensures open { N.in_place ≡ false → is_branch (N.body path.node.body) ≡ false →
+        HasRoomAbove N.layout N.body path.parent → ¬ IsShut result }
     ensures stretch { IsStretch pass.old pass.new }
 {
     match split_whole(arena, pass, gate, place, path) {

@@ -76,8 +76,8 @@ fn put_number<K: Sink>(
     put(out, piece, Buffer::new().format(number).as_bytes())
 }
 
-// A number, and what follows it.
-fn put_word<K: Sink>(
+/// A number, and what follows it, wait behind what waited, as by `put`.
+pub fn put_word<K: Sink>(
     out: &mut K,
     piece: &mut ArrayVec<u8, PIECE>,
     number: u64,

@@ -1,5 +1,6 @@
 pub mod InHand
 pub mod Single
+pub mod SearchEnd
 pub mod OnWay
 pub mod Answers
 pub mod Idle

@@ -1,5 +1,5 @@
 -- What calls and shapes ask and tell, said of an arena and of a pass before and after.
-use Rattle.std.specs.Prelude.{ℕ, List, Option}
+use Rattle.std.specs.Prelude.{ℕ, ◌≡◌, List, [], ◌∷◌, Option}
 use Rattle.ks_keysets.specs.declared.Change.{Change}
 use Rattle.ks_keysets.specs.declared.NodeState.{NodeState}
 use Rattle.ks_node.specs.declared.node.Node.{Ghosts as NodeGhosts}
@@ -30,6 +30,7 @@ use Rattle.ks_shape.specs.InHand.{IsLive, IsFree, BecomesLive, BecomesFree}
 use Rattle.ks_shape.specs.Makes.{MakesNone}
 use Rattle.ks_shape.specs.OnWay.{IsOnWay}
 use Rattle.ks_shape.specs.Places.{HasPlacesOf}
+use Rattle.ks_shape.specs.SearchEnd.{IsEnd, HasRoom, IsCrowded}
 use Rattle.ks_shape.specs.Stretches.{Stretches}
 
 module _ {N D : Type 0} where
@@ -48,6 +49,14 @@ module _ {N D : Type 0} where
   -- a call that is under way at p, since whatever moment, still is at q
   abbrev pub StaysUnderway : Template → Pass N D → Pass N D → Type 0
   StaysUnderway template p q = (op : Op) (start : List Event) → Underway template p.caller op start (seen_of p) → Underway template p.caller op start (seen_of q)
+
+  -- so it is by every technique
+  abbrev pub StaysUnderwayAny : Pass N D → Pass N D → Type 0
+  StaysUnderwayAny p q = (template : Template) → StaysUnderway template p q
+
+  -- the pass holds this node and no other
+  abbrev pub HoldsOnly : Pass N D → Hand N → Type 0
+  HoldsOnly p x = hand_of p ≡ x.node ∷ []
 
   -- if the caller acts alone from p to q, it makes no node live
   abbrev pub MakesNoneLive : Pass N D → Pass N D → Type 0
@@ -84,6 +93,17 @@ module _ {N D P : Type 0} {n : NodeGhosts N P} {q : PlacingGhosts P} {d : Discip
   abbrev pub IsOnWayOf : Arena N D P n q d → ℕ → ℕ → Pass N D → Hand N → Type 0
   IsOnWayOf a c place p x = IsOnWay (sort_of n.layout n.ranged) n.body c place (seen_of p) x
 
+  -- the search of the pass for the place has ended at this live node: it is held alone, and no edge of it leads on
+  abbrev pub SearchEndsAt : Arena N D P n q d → ℕ → Pass N D → Hand N → Type 0
+  SearchEndsAt a place p x = IsEnd (sort_of n.layout n.ranged) n.body p.caller place (seen_of p) x
+
+  -- so it has, and the node has the place or room for it; or it is full, and has not the place
+  abbrev pub HasRoomAt : Arena N D P n q d → ℕ → Pass N D → Hand N → Type 0
+  HasRoomAt a place p x = HasRoom (sort_of n.layout n.ranged) n.body p.caller place (seen_of p) x
+
+  abbrev pub IsCrowdedAt : Arena N D P n q d → ℕ → Pass N D → Hand N → Type 0
+  IsCrowdedAt a place p x = IsCrowded (sort_of n.layout n.ranged) n.body p.caller place (seen_of p) x
+
   -- since p the caller found each node not free, when it needed one for the place
   abbrev pub NoneWasFree : Arena N D P n q d → ℕ → Pass N D → Pass N D → Type 0
   NoneWasFree a place p p' = NoneFree n.layout a.nodes p.caller place (seen_of p) (seen_of p')
@@ -103,6 +123,10 @@ module _ {N D P : Type 0} {n : NodeGhosts N P} {q : PlacingGhosts P} {d : Discip
   -- so it is with the reply Full, if no node was free since it began
   abbrev pub FinishesFull : Arena N D P n q d → Hand N → Op → Pass N D → Pass N D → ℕ → Type 0
   FinishesFull a x op p p' number = (template : Template) (start : List Event) (place : ℕ) → Touches op place → NoneFree n.layout a.nodes p.caller place start (seen_of p) → Underway template p.caller op start (seen_of p) → DoneAt n.layout template a.nodes p.caller op start (seen_of p') Full number x.node (blank_of (sort_of n.layout n.ranged)) (frame_of (n.body x.body))
+
+  -- so it is with the reply Full, if no node was free for the place since it began
+  abbrev pub FinishesCrowded : Arena N D P n q d → Op → ℕ → Pass N D → Pass N D → ℕ → Type 0
+  FinishesCrowded a op place p p' number = (template : Template) (start : List Event) → Underway template p.caller op start (seen_of p) → NoneFree n.layout a.nodes p.caller place start (seen_of p) → Done n.layout template a.nodes p.caller op start (seen_of p') Full number
 
   -- what a claim of a node tells, and one of two nodes: they are in hand; or no node was free, if a claim was due
   abbrev pub HasClaimedOne : Arena N D P n q d → Pass N D → Pass N D → Option (Hand N) → Type 0

@@ -35,7 +35,7 @@ pub stretches_take : (c i : ℕ) (h k : List Event) → length (hand c h) ≤ 3 
 stretches_take c i h k few after so may = λ template. stretch_take template c h k i few after so (may template)
 
 -- every template may begin at the root
-root_begins : (template : Template) → MayBegin template 0
+pub root_begins : (template : Template) → MayBegin template 0
 root_begins coupling = refl
 root_begins give_up = tt
 root_begins link_move = tt

@@ -50,8 +50,10 @@ fn decide_here<N: Node, D: Discipline, G: Gate>(
     ensures caller { pass.new.caller ≡ pass.old.caller }
     ensures begins { seen_of pass.old ⊑ seen_of pass.new }
     ensures makes { MakesNoneLive pass.old pass.new }
-    ensures done { (template : Template) (start : List Happening) → (reply ≡ full_reply → (place : ℕ) × Touches op place × NoneFree N.layout arena.now.nodes pass.old.caller place start (seen_of pass.old)) →
-        Underway template pass.old.caller op start (seen_of pass.old) → DoneAt N.layout template arena.now.nodes pass.old.caller op start (seen_of pass.new) reply result held.node (blank_of (sort_of N.layout N.ranged)) (frame_of (N.body held.body)) }
+    ensures done { (template : Template) (start : List Happening) →
+        (reply ≡ full_reply → (place : ℕ) × Touches op place × NoneFree N.layout arena.now.nodes pass.old.caller place start (seen_of pass.old)) →
+        Underway template pass.old.caller op start (seen_of pass.old) →
+        DoneAt N.layout template arena.now.nodes pass.old.caller op start (seen_of pass.new) reply result held.node (blank_of (sort_of N.layout N.ranged)) (frame_of (N.body held.body)) }
 {
     sound_law::<D>();
     let number = arena.decide(pass, &held, op, reply);
@@ -77,6 +79,7 @@ pub fn conclude<N: Node, D: Discipline, G: Gate>(
     requires some { reply ≢ full_reply }
     ensures pass { IsEmptyPassOf arena.now pass.new }
     ensures caller { pass.new.caller ≡ pass.old.caller }
+    ensures begins { seen_of pass.old ⊑ seen_of pass.new }
     ensures makes { MakesNoneLive pass.old pass.new }
     ensures done { FinishesAny arena.now op pass.old pass.new reply result }
     ensures at { FinishesAt arena.now held op pass.old pass.new reply result }

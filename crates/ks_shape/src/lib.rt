@@ -5,13 +5,19 @@
 mod answers;
 mod claims;
 mod ending;
+mod here;
 mod link;
+mod steps;
 mod template;
 mod tree;
 
 pub use answers::{Full, Numbered};
 pub use claims::{claim_one, claim_two};
 pub use ending::{conclude, refuse, reply_of};
+pub use here::{
+    add_here, del_here, get_here, has_room, put_here, refuse_here, swap_here, tree_end_law,
+};
 pub use link::{attach, grow_right, split_right};
+pub use steps::{give_last, take_root};
 pub use template::{Ruled, Shelf, Template};
 pub use tree::{absorb_own, absorb_under, collapse, grow, split_own, split_under};

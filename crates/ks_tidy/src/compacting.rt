@@ -15,12 +15,7 @@ pub trait Compacting<N: Node, A: Shelf>: Template<N, A> {
     /// history and claims no node. If no other caller did anything meanwhile and it made none free, no live node fits with
     /// its right neighbour, and the root is no branch over one child: so a caller that is alone repeats it until it answers
     /// 0, in an arena of fewer than 2^32 nodes.
-    fn compact<R: Wait, G: Gate>(
-        rt: &R,
-        arena: &A,
-        pass: &mut Pass<N, Self::Rule>,
-        gate: &G,
-    ) -> u32
+    fn compact<R: Wait, G: Gate>(rt: &R, arena: &A, pass: &mut Pass<N, Self::Rule>, gate: &G) -> u32
         requires pass { IsIdle (A.site arena.now) pass.old }
         ensures pass { IsIdle (A.site arena.now) pass.new }
         ensures caller { pass.new.caller ≡ pass.old.caller }

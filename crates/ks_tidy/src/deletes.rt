@@ -8,7 +8,7 @@ ghost use Rattle.ks_node.specs.Body.{next_at};
 ghost use Rattle.ks_arena.specs.Clauses.{hand_of, seen_of};
 ghost use Rattle.ks_arena.specs.Of.{Holds, IsCurrent, IsLiveAndCurrent, StayCurrentBut};
 ghost use Rattle.ks_arena.specs.Of.{IsEmptyPassOf, IsInside, IsPassOf, WasAlone};
-ghost use Rattle.ks_shape.specs.Of.{FinishesAny, IsOnWayOf};
+ghost use Rattle.ks_shape.specs.Of.{FinishesAny, SearchEndsAt};
 ghost use Rattle.ks_tidy.specs.Of.{DecidesAny, IsKeptAt, IsPairOf, IsTidyOf};
 
 use crate::descent::{leave, pair_tidy, tidy_end};
@@ -98,8 +98,7 @@ pub fn del_alone<N: Unlinked, R: Wait, G: Gate>(
     held: Held<N>,
 ) -> Numbered
     requires pass { IsPassOf arena.now pass.old }
-    requires way { IsOnWayOf arena.now pass.old.caller place pass.old held }
-    requires ends { next_at (N.body held.body) place ≡ Here }
+    requires ends { SearchEndsAt arena.now place pass.old held }
     ensures pass { IsEmptyPassOf arena.now pass.new }
     ensures caller { pass.new.caller ≡ pass.old.caller }
     ensures begins { seen_of pass.old ⊑ seen_of pass.new }

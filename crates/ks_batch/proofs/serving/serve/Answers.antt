@@ -22,7 +22,7 @@ returns-clause-ran g c asks =
 pub returns-clause-not_ran : goal.returns-clause-not_ran
 returns-clause-not_ran g c asks =
     elim c.match-command.branch [
-      | in-Some-Run w ↦ absurd (not_both (map string_bytes c.args.words.now) (_, _, rw w.in-Some-Run.field-0-is at w.in-Some-Run.ensures.some) asks)
+      | in-Some-Run w ↦ absurd (not_both (map string_bytes c.args.words.now) (_, _, (_, rw w.in-Some-Run.field-0-is at w.in-Some-Run.ensures.some)) asks)
       | in-Some-Make w ↦ absurd (make_asks (map string_bytes c.args.words.now) _ _ _ Checked (rw w.in-Some-Make.field-0-is at w.in-Some-Make.ensures.some) asks)
       | in-Some-Check w ↦ rw w.outcome-is w.check_run-outcome.ensures.run
       | in-None w ↦ absurd (w.in-None.ensures.none (asks_command (map string_bytes c.args.words.now) Checked asks))
@@ -33,7 +33,7 @@ returns-clause-due g c p n asks =
     elim c.match-command.branch [
       | in-Some-Run w ↦
           let r = w.serve_script-outcome.result in
-          rw w.outcome-is (served_run (λ q m. IfSome r.run (λ run. FullsDue (row_of q).layout m run)) (map string_bytes c.args.words.now) _ p _ n (rw w.in-Some-Run.field-0-is at w.in-Some-Run.ensures.some) asks w.serve_script-outcome.ensures.due)
+          rw w.outcome-is (served_run (λ q m. IfSome r.run (λ run. FullsDue (row_of q).layout m run)) (map string_bytes c.args.words.now) _ p _ n (_, rw w.in-Some-Run.field-0-is at w.in-Some-Run.ensures.some) asks w.serve_script-outcome.ensures.due)
       | in-Some-Make w ↦
           let r = w.make_run-outcome.result in
           rw w.outcome-is (served_make (λ q m. IfSome r.run (λ run. FullsDue (row_of q).layout m run)) (map string_bytes c.args.words.now) _ p _ n _ (rw w.in-Some-Make.field-0-is at w.in-Some-Make.ensures.some) asks w.make_run-outcome.ensures.due)
@@ -48,7 +48,7 @@ returns-clause-done g c p n spells =
           let r = w.serve_script-outcome.result in
           rw (w.outcome-is, w.out-is)
           (of_run (λ q. r.status ≡ 0 → IfSome (g.S.Source.left c.args.source.now) (λ bytes. IfSome r.run (λ run. Prints (row_of q).place bytes run (λ t. Grew (g.K.Sink.taken c.args.out.now) (g.K.Sink.taken w.serve_script-outcome.new.out) t))))
-          (map string_bytes c.args.words.now) _ p _ n (rw w.in-Some-Run.field-0-is at w.in-Some-Run.ensures.some) spells w.serve_script-outcome.ensures.done)
+          (map string_bytes c.args.words.now) _ p _ n (_, rw w.in-Some-Run.field-0-is at w.in-Some-Run.ensures.some) spells w.serve_script-outcome.ensures.done)
       | in-Some-Make w ↦ absurd (make_asks (map string_bytes c.args.words.now) _ _ _ Script (rw w.in-Some-Make.field-0-is at w.in-Some-Make.ensures.some) (p, n, spells))
       | in-Some-Check w ↦ absurd (not_both (map string_bytes c.args.words.now) (p, n, spells) (rw w.in-Some-Check.field-0-is at w.in-Some-Check.ensures.some))
       | in-None w ↦ absurd (w.in-None.ensures.none (asks_command (map string_bytes c.args.words.now) Script (p, n, spells)))
@@ -70,7 +70,7 @@ returns-clause-cut g c p n spells =
           let r = w.serve_script-outcome.result in
           rw (w.outcome-is, w.out-is)
           (of_run (λ q. r.status ≡ 4 → IfSome (g.S.Source.left c.args.source.now) (λ bytes. IfSome r.run (λ run. Prints (row_of q).place bytes run (λ t. GrewByFront (g.K.Sink.taken c.args.out.now) (g.K.Sink.taken w.serve_script-outcome.new.out) t))))
-          (map string_bytes c.args.words.now) _ p _ n (rw w.in-Some-Run.field-0-is at w.in-Some-Run.ensures.some) spells w.serve_script-outcome.ensures.cut)
+          (map string_bytes c.args.words.now) _ p _ n (_, rw w.in-Some-Run.field-0-is at w.in-Some-Run.ensures.some) spells w.serve_script-outcome.ensures.cut)
       | in-Some-Make w ↦ absurd (make_asks (map string_bytes c.args.words.now) _ _ _ Script (rw w.in-Some-Make.field-0-is at w.in-Some-Make.ensures.some) (p, n, spells))
       | in-Some-Check w ↦ absurd (not_both (map string_bytes c.args.words.now) (p, n, spells) (rw w.in-Some-Check.field-0-is at w.in-Some-Check.ensures.some))
       | in-None w ↦ absurd (w.in-None.ensures.none (asks_command (map string_bytes c.args.words.now) Script (p, n, spells)))
@@ -79,7 +79,7 @@ returns-clause-cut g c p n spells =
 pub returns-clause-checked : goal.returns-clause-checked
 returns-clause-checked g c asks =
     elim c.match-command.branch [
-      | in-Some-Run w ↦ absurd (not_both (map string_bytes c.args.words.now) (_, _, rw w.in-Some-Run.field-0-is at w.in-Some-Run.ensures.some) asks)
+      | in-Some-Run w ↦ absurd (not_both (map string_bytes c.args.words.now) (_, _, (_, rw w.in-Some-Run.field-0-is at w.in-Some-Run.ensures.some)) asks)
       | in-Some-Make w ↦ absurd (make_asks (map string_bytes c.args.words.now) _ _ _ Checked (rw w.in-Some-Make.field-0-is at w.in-Some-Make.ensures.some) asks)
       | in-Some-Check w ↦ rw (w.outcome-is, w.out-is) w.check_run-outcome.ensures.checked
       | in-None w ↦ absurd (w.in-None.ensures.none (asks_command (map string_bytes c.args.words.now) Checked asks))
@@ -97,7 +97,7 @@ returns-clause-done_due g c asks =
 pub returns-clause-judged_due : goal.returns-clause-judged_due
 returns-clause-judged_due g c asks =
     elim c.match-command.branch [
-      | in-Some-Run w ↦ absurd (not_both (map string_bytes c.args.words.now) (_, _, rw w.in-Some-Run.field-0-is at w.in-Some-Run.ensures.some) asks)
+      | in-Some-Run w ↦ absurd (not_both (map string_bytes c.args.words.now) (_, _, (_, rw w.in-Some-Run.field-0-is at w.in-Some-Run.ensures.some)) asks)
       | in-Some-Make w ↦ absurd (make_asks (map string_bytes c.args.words.now) _ _ _ Checked (rw w.in-Some-Make.field-0-is at w.in-Some-Make.ensures.some) asks)
       | in-Some-Check w ↦ let e = w.check_run-outcome.ensures in rw (w.outcome-is, w.source-is, w.out-is) (λ calm out_calm. due_judged (g.S.Source.left c.args.source.now) _ (due_answer Checked (g.S.Source.left c.args.source.now) _ _ _ _ (check_outcome (g.S.Source.left c.args.source.now) _ _ _ _ _ _ _ e.status e.checked e.refused e.source e.output) calm out_calm))
       | in-None w ↦ absurd (w.in-None.ensures.none (asks_command (map string_bytes c.args.words.now) Checked asks))
@@ -117,7 +117,7 @@ returns-clause-refused g c t asks =
     elim c.match-command.branch [
       | in-Some-Run w ↦
           let r = w.serve_script-outcome.result in
-          rw w.outcome-is (only (λ u. r.status ≡ 2 → IfSome (g.S.Source.left c.args.source.now) (λ bytes. RefusedAt u bytes r.line)) (map string_bytes c.args.words.now) Script t (_, _, rw w.in-Some-Run.field-0-is at w.in-Some-Run.ensures.some) asks w.serve_script-outcome.ensures.refused)
+          rw w.outcome-is (only (λ u. r.status ≡ 2 → IfSome (g.S.Source.left c.args.source.now) (λ bytes. RefusedAt u bytes r.line)) (map string_bytes c.args.words.now) Script t (_, _, (_, rw w.in-Some-Run.field-0-is at w.in-Some-Run.ensures.some)) asks w.serve_script-outcome.ensures.refused)
       | in-Some-Make w ↦ absurd (make_asks (map string_bytes c.args.words.now) _ _ _ t (rw w.in-Some-Make.field-0-is at w.in-Some-Make.ensures.some) asks)
       | in-Some-Check w ↦
           let r = w.check_run-outcome.result in
@@ -131,7 +131,7 @@ returns-clause-refusal_due g c t asks =
       | in-Some-Run w ↦
           let e = w.serve_script-outcome.ensures in
           let r = w.serve_script-outcome.result in
-          rw (w.outcome-is, w.source-is) (only (λ u. (Rose (g.S.Source.faults c.args.source.now) (g.S.Source.faults w.serve_script-outcome.new.source) → ⊥) → IfSome (g.S.Source.left c.args.source.now) (λ bytes. (n : ℕ) → RefusedAt u bytes n → ((r.status ≡ 2) × (r.line ≡ n)) ⊎ (r.status ≡ 5))) (map string_bytes c.args.words.now) Script t (_, _, rw w.in-Some-Run.field-0-is at w.in-Some-Run.ensures.some) asks
+          rw (w.outcome-is, w.source-is) (only (λ u. (Rose (g.S.Source.faults c.args.source.now) (g.S.Source.faults w.serve_script-outcome.new.source) → ⊥) → IfSome (g.S.Source.left c.args.source.now) (λ bytes. (n : ℕ) → RefusedAt u bytes n → ((r.status ≡ 2) × (r.line ≡ n)) ⊎ (r.status ≡ 5))) (map string_bytes c.args.words.now) Script t (_, _, (_, rw w.in-Some-Run.field-0-is at w.in-Some-Run.ensures.some)) asks
           (due_refusal Script (g.S.Source.left c.args.source.now) _ _ _ _ (script_outcome _ (g.S.Source.left c.args.source.now) _ _ _ _ _ _ _ e.status e.ran e.done e.cut e.refused e.source e.output)))
       | in-Some-Make w ↦ absurd (make_asks (map string_bytes c.args.words.now) _ _ _ t (rw w.in-Some-Make.field-0-is at w.in-Some-Make.ensures.some) asks)
       | in-Some-Check w ↦
@@ -145,7 +145,7 @@ returns-clause-refusal_due g c t asks =
 pub returns-clause-made : goal.returns-clause-made
 returns-clause-made g c is_make =
     elim c.match-command.branch [
-      | in-Some-Run w ↦ absurd (asks_make (map string_bytes c.args.words.now) Script (_, _, rw w.in-Some-Run.field-0-is at w.in-Some-Run.ensures.some) is_make)
+      | in-Some-Run w ↦ absurd (asks_make (map string_bytes c.args.words.now) Script (_, _, (_, rw w.in-Some-Run.field-0-is at w.in-Some-Run.ensures.some)) is_make)
       | in-Some-Make w ↦
           let e = w.make_run-outcome.ensures in
           rw (w.outcome-is, w.out-is) record { pairing = _; arena = _; draft = _; spells = rw w.in-Some-Make.field-0-is at w.in-Some-Make.ensures.some; known = e.status; ran = e.ran; done = e.done; cut = e.cut }

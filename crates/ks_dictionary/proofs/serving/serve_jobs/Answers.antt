@@ -1,33 +1,94 @@
-use Rattle.std.proofs.Common.{◌≡◌, ◌∙◌, ◌++◌, map, length, take, drop, All, sym, ap, subst}
+use Rattle.std.proofs.Common.{◌≡◌, ◌∙◌, List, map, length, All, sym, ap, subst, ⊎_elim, arith}
+use Rattle.std.proofs.lemmas.List.{length-map}
+use Rattle.ks_history.specs.declared.Op.{Op}
 use Rattle.ks_arena.specs.Sound.{sort_of}
 use Rattle.ks_shape.specs.Idle.{Site}
+use Rattle.ks_tickets.specs.Clauses.{EachAs, HaveEndedAt, IsFreeAt}
+use Rattle.ks_tickets.specs.Ended.{all_free, each_ended}
+use Rattle.ks_dictionary.specs.Crew.{site_with}
+use Rattle.ks_dictionary.specs.declared.job.Job.{Job}
 use Rattle.ks_dictionary.specs.Ended.{history}
-use Rattle.ks_dictionary.specs.Work.{IsReadyJob}
-use Rattle.ks_dictionary.proofs.Joined.{all_ready, is_crew, have_called, map_both, written}
+use Rattle.ks_dictionary.specs.Work.{FinishedAs, WaitsAs}
+use Rattle.ks_dictionary.proofs.Joined.{all_wait, as_about, at_arena, is_crew, have_called, map_both, written}
 use Rattle.ks_dictionary.proofs.serving.serve_jobs.Goals as goal
-use Rattle.ks_dictionary.proofs.serving.serve_jobs.Goals.{In_ok-passes}
+use Rattle.ks_dictionary.proofs.serving.serve_jobs.Given.{Over}
+use Rattle.ks_dictionary.proofs.serving.serve_jobs.Goals.{In_ok-jobs}
 
-same : (g : _) (c : In_ok-passes g) → length c.work.new.jobs ≡ length c.args.jobs.items
-same g c = rw c.as_mut_slice.ensures.value at c.work.ensures.same
+abbrev site : (g : Over) → In_ok-jobs g → Site
+site g c = site_with (sort_of g.N.Node.layout g.N.Node.ranged) g.T.Rule.Discipline.begins g.T.Rule.Discipline.step c.args.dictionary.arena.table.shared.table_id c.args.dictionary.arena.callers c.args.dictionary.arena.nodes
 
-whole : (g : _) (c : In_ok-passes g) → take c.args.jobs.len (c.work.new.jobs ++ drop (length c.work.new.jobs) c.args.jobs.items) ≡ c.work.new.jobs
-whole g c = written c.args.jobs.len c.args.jobs.items c.work.new.jobs c.args.jobs.ok.0 (same g c)
+-- there is a job for each script
+many : (g : Over) (c : In_ok-jobs g) → length c.in_ok-jobs.jobs.items ≡ length c.args.scripts.items
+many g c = sym (length-map c.in_ok-jobs.jobs.items (λ j. j.ops)) ∙ ap length c.in_ok-jobs.ensures.scripts
 
-pub work-requires-clause-ready : goal.work-requires-clause-ready
-work-requires-clause-ready g c κs within =
-    let site : Site = record { sort = sort_of g.N.Node.layout g.N.Node.ranged; begins = g.T.Rule.Discipline.begins; step = g.T.Rule.Discipline.step; table = c.args.dictionary.arena.table.shared.table_id; callers = c.args.dictionary.arena.callers; nodes = c.args.dictionary.arena.nodes } in
-    subst (All (λ j. IsReadyJob site j)) (sym c.as_mut_slice.ensures.value) (all_ready site c.args.jobs.items c.requires.crew c.requires.room)
+scripts_are : (g : Over) (c : In_ok-jobs g) → map (λ j. j.ops.items) c.in_ok-jobs.jobs.items ≡ g.W.About.scripts
+scripts_are g c = sym (map_both (λ v. v.items) (λ j. j.ops) c.in_ok-jobs.jobs.items) ∙ ap (map (λ v. v.items)) c.in_ok-jobs.ensures.scripts ∙ sym c.requires.scripts
 
-pub close-requires-after_bounds : goal.close-requires-after_bounds
-close-requires-after_bounds g c κs within =
-    let site : Site = record { sort = sort_of g.N.Node.layout g.N.Node.ranged; begins = g.T.Rule.Discipline.begins; step = g.T.Rule.Discipline.step; table = c.args.dictionary.arena.table.shared.table_id; callers = c.args.dictionary.arena.callers; nodes = c.args.dictionary.arena.nodes } in
-    rw (c.in_ok-passes.ensures.passes ∙ ap (map (λ j. j.pass)) (whole g c))
-    (is_crew site g.N.Places.Placing.place_of c.args.jobs.items c.work.new.jobs c.requires.crew (same g c) (rw c.as_mut_slice.ensures.value at c.work.ensures.ran))
+abbrev asked : (g : Over) → In_ok-jobs g → List (List Op)
+asked g c = map (λ v. v.items) c.args.scripts.items
+
+-- what is so of jobs about the run is so of them about the arena
+jobs_done : {N D W : Type 0} (g : Over) (c : In_ok-jobs g) (js : List (Job N D W))
+    → EachAs (FinishedAs (site_with (sort_of g.N.Node.layout g.N.Node.ranged) g.T.Rule.Discipline.begins g.T.Rule.Discipline.step g.W.About.table g.W.About.callers g.W.About.nodes) g.W.About.scripts g.N.Places.Placing.place_of) js
+    → EachAs (FinishedAs (site g c) (asked g c) g.N.Places.Placing.place_of) js
+jobs_done g c js done =
+    let a = c.args.dictionary.arena in
+    subst (λ (xs : List (List Op)). EachAs (FinishedAs (site g c) xs g.N.Places.Placing.place_of) js) c.requires.scripts
+    (at_arena (sort_of g.N.Node.layout g.N.Node.ranged) g.T.Rule.Discipline.begins g.T.Rule.Discipline.step a.table.shared.table_id a.callers a.nodes
+    g.W.About.table g.W.About.callers g.W.About.nodes c.requires.about (λ s. EachAs (FinishedAs s g.W.About.scripts g.N.Places.Placing.place_of) js) done)
+
+all_callers : {A : Type 0} (g : Over) (c : In_ok-jobs g) (js : List A) → length js ≡ length c.in_ok-jobs.jobs.items → c.args.dictionary.arena.callers ≡ length js
+all_callers g c js long = sym c.requires.crew.long ∙ c.requires.even ∙ sym (many g c) ∙ sym long
+
+as_asked : {A : Type 0} (g : Over) (c : In_ok-jobs g) (js : List A) → length js ≡ length c.in_ok-jobs.jobs.items → length js ≡ length (asked g c)
+as_asked g c js long = long ∙ many g c ∙ sym (length-map c.args.scripts.items (λ v. v.items))
+
+pub start-requires-clause-few : goal.start-requires-clause-few
+start-requires-clause-few g c = let n = many g (goal.at.start-requires-clause-few g c).In_ok-jobs in let few = c.requires.few in omega arith
+
+pub start-requires-clause-workers : goal.start-requires-clause-workers
+start-requires-clause-workers g c =
+    let n = many g (goal.at.start-requires-clause-workers g c).In_ok-jobs in let m = c.in_ok-jobs.jobs.ok.0 in let l = c.len-2.ensures in let some = c.requires.some in let w = c.requires.workers in let le = c.workers_for-desks.ensures.least.1 in
+    (⊎_elim (λ e. omega arith) (λ e. omega arith) c.workers_for-desks.ensures.one, omega arith)
+
+pub start-requires-clause-jobs : goal.start-requires-clause-jobs
+start-requires-clause-jobs g c =
+    let d = (goal.at.start-requires-clause-jobs g c).In_ok-jobs in
+    let a = c.args.dictionary.arena in
+    as_about (sort_of g.N.Node.layout g.N.Node.ranged) g.T.Rule.Discipline.begins g.T.Rule.Discipline.step a.table.shared.table_id a.callers a.nodes
+    g.W.About.table g.W.About.callers g.W.About.nodes c.requires.about (λ s. EachAs (WaitsAs s g.W.About.scripts) c.in_ok-jobs.jobs.items)
+    (subst (λ (xs : List (List Op)). EachAs (WaitsAs (site g d) xs) c.in_ok-jobs.jobs.items) (scripts_are g d)
+    (all_wait (site g d) c.in_ok-jobs.jobs.items (rw c.in_ok-jobs.ensures.passes c.requires.crew) c.in_ok-jobs.ensures.room))
+
+pub work-requires-clause-free : goal.work-requires-clause-free
+work-requires-clause-free g c κs within =
+    let t = c.in_ok-tickets.tickets.table.shared.table_id in
+    subst (All (λ d. IsFreeAt t d)) (sym c.as_mut_slice.ensures.value) (all_free t c.in_ok-tickets.desks.items c.in_ok-tickets.ensures.desks)
+
+pub close-requires-clause-desks : goal.close-requires-clause-desks
+close-requires-clause-desks g c =
+    let t = c.in_ok-tickets.tickets.table.shared.table_id in
+    let value = c.as_mut_slice.ensures.value in
+    let count : length c.work.new.desks ≡ length c.in_ok-tickets.desks.items = rw value at c.work.ensures.count in
+    subst (HaveEndedAt t) (sym (written c.in_ok-tickets.desks.len c.in_ok-tickets.desks.items c.work.new.desks c.in_ok-tickets.desks.ok.0 count))
+    (each_ended t c.in_ok-tickets.desks.items c.work.new.desks count c.in_ok-tickets.ensures.desks (rw value at c.work.ensures.ended) (rw value at c.work.ensures.same))
+
+pub close-requires-clause-room : goal.close-requires-clause-room
+close-requires-clause-room g c = let a = c.in_ok-tickets.ensures.jobs in let b = c.in_ok-into.ensures.capacity in let d = c.len.ensures in let e = c.in_ok-jobs.jobs.ok.0 in omega arith
+
+pub close-requires-2-after_bounds : goal.close-requires-2-after_bounds
+close-requires-2-after_bounds g c κs within =
+    let d = (goal.at.close-requires-2-after_bounds g c).In_ok-jobs in
+    let js = c.close.result.items in
+    let long : length js ≡ length c.in_ok-jobs.jobs.items = c.close.ensures.count ∙ c.in_ok-tickets.ensures.jobs in
+    rw c.in_ok-passes.ensures.passes
+    (is_crew (site g d) g.N.Places.Placing.place_of (asked g d) js (all_callers g d js long) (as_asked g d js long) (jobs_done g d js c.close.ensures.jobs))
 
 pub returns-clause-called : goal.returns-clause-called
 returns-clause-called g c =
-    let site : Site = record { sort = sort_of g.N.Node.layout g.N.Node.ranged; begins = g.T.Rule.Discipline.begins; step = g.T.Rule.Discipline.step; table = c.args.dictionary.arena.table.shared.table_id; callers = c.args.dictionary.arena.callers; nodes = c.args.dictionary.arena.nodes } in
-    let d = (goal.at.returns-clause-called g c).In_ok-passes in
-    rw (ap (map (λ v. v.items)) (c.in_ok-passes.ensures.lines ∙ ap (map (λ j. j.lines)) (whole g d)) ∙ map_both (λ v. v.items) (λ j. j.lines) c.work.new.jobs)
-    (have_called site g.N.Places.Placing.place_of c.args.jobs.items c.work.new.jobs c.requires.crew (same g d) (rw c.as_mut_slice.ensures.value at c.work.ensures.ran)
-    (history c.close.result) (rw (c.in_ok-passes.ensures.passes ∙ ap (map (λ j. j.pass)) (whole g d)) at c.close.ensures.seen) c.close.ensures.callers)
+    let d = (goal.at.returns-clause-called g c).In_ok-jobs in
+    let js = c.close.result.items in
+    let long : length js ≡ length c.in_ok-jobs.jobs.items = c.close.ensures.count ∙ c.in_ok-tickets.ensures.jobs in
+    rw (ap (map (λ v. v.items)) c.in_ok-passes.ensures.lines ∙ map_both (λ v. v.items) (λ j. j.lines) js)
+    (have_called (site g d) g.N.Places.Placing.place_of (asked g d) js (all_callers g d js long) (as_asked g d js long) (jobs_done g d js c.close.ensures.jobs)
+    (history c.close-2.result) (rw c.in_ok-passes.ensures.passes at c.close-2.ensures.seen) c.close-2.ensures.callers)

@@ -1,22 +1,4 @@
-use Rattle.std.proofs.Common.{arith, refl, sym, ◌∙◌, ap, subst}
-use Rattle.ks_history.specs.declared.Op.TheVariants.{Put}
-use Rattle.ks_history.specs.Map.{told}
-use Rattle.ks_arena.specs.declared.held.Held.{Held as Hand}
-use Rattle.ks_arena.specs.Sound.{sort_of}
-use Rattle.ks_arena.specs.Clauses.{IsReady, seen_of}
-use Rattle.ks_shape.specs.OnWay.{ends_unbranched}
-use Rattle.ks_dictionary_tests.proofs.Root.{below_own}
 use Rattle.ks_dictionary_tests.proofs.at_root.put.Goals as goal
 
-pub put-found-requires-clause-no_branch : goal.put-found-requires-clause-no_branch
-put-found-requires-clause-no_branch g c = let sort = sort_of g.N.Node.layout g.N.Node.ranged in let h = seen_of c.take_root-held.new.pass in let e = c.take_root-held.ensures in
-    ends_unbranched sort g.N.Node.body c.args.pass.now.caller c.args.place h c.take_root-held.result e.way (c.sound_law.ensures.facts sort c.args.arena.now.table.shared.table_id.slots h e.pass.sound) (omega (arith, c.ranges.place)) c.node_law.ensures.sound e.ends
-
-pub put-found-requires-clause-below_own : goal.put-found-requires-clause-below_own
-put-found-requires-clause-below_own g c = let sort = sort_of g.N.Node.layout g.N.Node.ranged in let h = seen_of c.take_root-held.new.pass in let e = c.take_root-held.ensures in
-    below_own sort g.N.Node.body c.args.pass.now.caller c.args.place h c.take_root-held.result e.way (c.sound_law.ensures.facts sort c.args.arena.now.table.shared.table_id.slots h e.pass.sound) (omega (arith, c.ranges.place)) c.node_law.ensures.sound e.ends
-
-pub conclude-number-requires-clause-ready : goal.conclude-number-requires-clause-ready
-conclude-number-requires-clause-ready g c κs within = let x : Hand g.row.N.Denot = record { node = c.take_root-held.result.node; body = c.put-found.new.self; live = c.take_root-held.result.live } in
-    subst (IsReady (sort_of g.N.Node.layout g.N.Node.ranged) g.N.Node.body c.args.arena.now.nodes c.take_root-held.new.pass.caller (seen_of c.take_root-held.new.pass) x (Put c.args.place c.args.value)) (ap told (sym c.put-found.ensures.answer) ∙ sym c.reply_of.ensures.told)
-    (c.put_law.ensures x refl c.take_root-held.ensures.way.live c.put-found.ensures.body)
+pub put_here-requires-clause-room : goal.put_here-requires-clause-room
+put_here-requires-clause-room g c = record { ends = c.reach-held.ensures.ends; room = c.has_room.ensures.room c.if-has_room.true }

@@ -1,4 +1,4 @@
-use Rattle.std.proofs.Common.{◌≡◌, ℕ, sym, subst}
+use Rattle.std.proofs.Common.{◌≡◌, ◌≤◌, ℕ, length, ap, sym, subst, arith}
 use Rattle.ks_history.specs.declared.Op.{Op}
 use Rattle.ks_history.specs.declared.Op.TheVariants.{Del}
 use Rattle.ks_history.specs.Alone.{ActsAlone, alone_then}
@@ -6,13 +6,13 @@ use Rattle.ks_history.specs.Done.{Done, give_up}
 use Rattle.ks_history.specs.Map.{told}
 use Rattle.ks_history.specs.Trace.{◌⊑◌}
 use Rattle.ks_history.specs.Underway.{Underway}
-use Rattle.ks_arena.specs.Sound.{sort_of}
 use Rattle.ks_arena.specs.Clauses.{seen_of}
-use Rattle.ks_shape.specs.OnWay.{IsOnWay}
+use Rattle.ks_giveup.proofs.Way.{ends_goes}
 use Rattle.ks_giveup.proofs.calls.del.Goals as goal
 
-pub del_alone-requires-clause-way : goal.del_alone-requires-clause-way
-del_alone-requires-clause-way g c = subst (λ (z : ℕ). IsOnWay (sort_of g.N.Node.layout g.N.Node.ranged) g.N.Node.body z c.args.place (seen_of c.find-held.new.pass) c.find-held.result) (sym c.find-held.ensures.caller) c.find-held.ensures.way
+pub returns-clause-goes : goal.returns-clause-goes
+returns-clause-goes g c = let e = c.find-held.ensures in
+    ends_goes c.args.pass.now.caller c.find-held.new.pass.caller c.args.place (Del c.args.place) (seen_of c.args.pass.now) (seen_of c.find-held.new.pass) (seen_of c.del_alone.new.pass) e.caller (omega (arith, ap length e.ends.alone)) e.goes c.del_alone.ensures.done
 
 pub returns-clause-done : goal.returns-clause-done
 returns-clause-done g c = let s = seen_of c.args.pass.now in let h = seen_of c.find-held.new.pass in let k = seen_of c.del_alone.new.pass in let op : Op = Del c.args.place in let e = c.find-held.ensures in let x = c.del_alone.result in

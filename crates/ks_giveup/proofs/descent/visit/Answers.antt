@@ -1,13 +1,38 @@
-use Rattle.std.proofs.Common.{rules, ◌≡◌, ℕ, List, [], ◌∷◌, sym, ap, ◌∙◌, subst, inl}
-use Rattle.ks_history.specs.declared.Event.TheVariants.{Give}
-use Rattle.ks_history.specs.Trace.{hand, drop_one}
-use Rattle.ks_history.specs.Passes.{GrowsWith}
+use Rattle.std.proofs.Common.{rules, ◌≡◌, ℕ, List, [], ◌∷◌, ◌++◌, sym, ap, ◌∙◌, subst, inl}
+use Rattle.ks_history.specs.declared.Event.{Event}
+use Rattle.ks_history.specs.declared.Event.TheVariants.{Give, Take}
+use Rattle.ks_history.specs.Trace.{hand}
 use Rattle.ks_history.specs.Done.{give_up, first_taken}
-use Rattle.ks_history.specs.Underway.{underway_others}
-use Rattle.ks_arena.specs.Sound.{sort_of}
-use Rattle.ks_arena.specs.Clauses.{seen_of}
-use Rattle.ks_shape.specs.Single.{gave_last, gives, takes}
+use Rattle.ks_history.specs.Begins.{with_others}
+use Rattle.ks_history.specs.Passes.{GrowsWith}
+use Rattle.ks_history.specs.Underway.{Underway, underway_others}
+use Rattle.ks_node.specs.Body.{Body}
+use Rattle.ks_arena.specs.declared.held.Held.{Held as Hand}
+use Rattle.ks_arena.specs.Sound.{Sort, sort_of}
+use Rattle.ks_arena.specs.Clauses.{HasTaken, seen_of}
+use Rattle.ks_shape.specs.Single.{takes}
+use Rattle.ks_giveup.specs.Goes.{MayVisit, Goes, at_first}
+use Rattle.ks_giveup.proofs.Way.{goes_others, goes_with, may_later}
 use Rattle.ks_giveup.proofs.descent.visit.Goals as goal
+
+-- the node is taken as it may be visited
+visited : {N : Type 0} (sort : Sort) (shows : N → Body) (c p i : ℕ) (h k : List Event) (x : Hand N) → MayVisit c p i h → HasTaken sort shows c i h k x → Goes c p h k
+visited sort shows c p i h k x may took = goes_with c p (Take c i) h h k took.grows (λ same. inl (may_later c p i h (took.grows.rest ++ h) (with_others c (Take c i) h k took.grows) may)) at_first
+
+pub give_last-requires-clause-alone : goal.give_last-requires-clause-alone
+give_last-requires-clause-alone g c κs within = let e = c.in-Some.ensures in let i : ℕ = c.in-Some.held.node in
+    subst (λ (z : ℕ). hand z (seen_of c.take.new.pass) ≡ i ∷ []) (sym e.caller) (e.took.hand ∙ ap (λ (z : List ℕ). c.args.node ∷ z) c.requires.pass.1 ∙ ap (λ (z : ℕ). z ∷ []) (sym e.took.node))
+
+pub returns-in_default-clause-goes : goal.returns-in_default-clause-goes
+returns-in_default-clause-goes g c = let told = rw c.in_default.is at c.take.ensures.took in goes_others c.args.pass.now.caller c.args.place (seen_of c.args.pass.now) (seen_of c.args.pass.now) (seen_of c.take.new.pass) told.0.grows at_first
+
+pub returns-then-place-range-clause-goes : goal.returns-then-place-range-clause-goes
+returns-then-place-range-clause-goes g c = visited (sort_of g.N.Node.layout g.N.Node.ranged) g.N.Node.body c.args.pass.now.caller c.args.place c.args.node (seen_of c.args.pass.now) (seen_of c.take.new.pass) c.in-Some.held c.requires.next c.in-Some.ensures.took
+
+pub returns-clause-goes : goal.returns-clause-goes
+returns-clause-goes g c = let me : ℕ = c.args.pass.now.caller in let h = seen_of c.args.pass.now in let h₁ = seen_of c.take.new.pass in let h₂ = seen_of c.give_last.new.pass in let e = c.in-Some.ensures in let i : ℕ = c.in-Some.held.node in
+    goes_with me c.args.place (Give me i) h h₁ h₂ (subst (λ (z : ℕ). GrowsWith z (Give z i) h₁ h₂) e.caller c.give_last.ensures.gave) tt
+    (visited (sort_of g.N.Node.layout g.N.Node.ranged) g.N.Node.body me c.args.place c.args.node h h₁ c.in-Some.held c.requires.next e.took)
 
 pub returns-in_default-clause-under : goal.returns-in_default-clause-under
 returns-in_default-clause-under g c = λ op start under. let told = rw c.in_default.is at c.take.ensures.took in underway_others give_up c.args.pass.now.caller op start (seen_of c.args.pass.now) (seen_of c.take.new.pass) told.0.grows under
@@ -17,9 +42,6 @@ returns-then-place-range-clause-under g c = λ op start under.
     takes (sort_of g.N.Node.layout g.N.Node.ranged) g.N.Node.body give_up c.args.pass.now.caller c.args.node op start (seen_of c.args.pass.now) (seen_of c.take.new.pass) c.in-Some.held (λ k e. first_taken e tt) c.requires.pass.1 c.in-Some.ensures.took under
 
 pub returns-clause-under : goal.returns-clause-under
-returns-clause-under g c = λ op start under. let me : ℕ = c.args.pass.now.caller in let h = seen_of c.args.pass.now in let h₁ = seen_of c.take.new.pass in let h₂ = seen_of c.give.new.pass in let e = c.in-Some.ensures in let i : ℕ = c.in-Some.held.node in
-    let alone : hand me h₁ ≡ i ∷ [] = e.took.hand ∙ ap (λ (z : List ℕ). c.args.node ∷ z) c.requires.pass.1 ∙ ap (λ (z : ℕ). z ∷ []) (sym e.took.node) in
-    let gave = subst (λ (z : ℕ). GrowsWith z (Give z i) h₁ h₂) e.caller c.give.ensures.gave in
-    let hands = subst (λ (z : ℕ). hand z h₂ ≡ drop_one i (hand z h₁)) e.caller (subst (λ (z : ℕ). hand z h₂ ≡ drop_one i (hand c.take.new.pass.caller h₁)) c.give.ensures.caller c.give.ensures.hand) in
-    gives give_up me i op start h₁ h₂ (gave_last me i h₁ h₂ alone hands) gave
-    (takes (sort_of g.N.Node.layout g.N.Node.ranged) g.N.Node.body give_up me c.args.node op start h h₁ c.in-Some.held (λ k q. first_taken q tt) c.requires.pass.1 e.took under)
+returns-clause-under g c = λ op start under. let me : ℕ = c.args.pass.now.caller in let h₁ = seen_of c.take.new.pass in let e = c.in-Some.ensures in
+    subst (λ (z : ℕ). Underway give_up z op start (seen_of c.give_last.new.pass)) e.caller (c.give_last.ensures.under give_up op start (subst (λ (z : ℕ). Underway give_up z op start h₁) (sym e.caller)
+    (takes (sort_of g.N.Node.layout g.N.Node.ranged) g.N.Node.body give_up me c.args.node op start (seen_of c.args.pass.now) h₁ c.in-Some.held (λ k q. first_taken q tt) c.requires.pass.1 e.took under)))

@@ -4,7 +4,7 @@ use Rattle.ks_keysets.specs.Record.{LeadsTo}
 use Rattle.ks_keysets.specs.Keyset.{IsLive}
 use Rattle.ks_history.specs.declared.Event.{Event}
 use Rattle.ks_history.specs.declared.Event.TheVariants.{Give}
-use Rattle.ks_history.specs.Trace.{◌⊑◌, hand, drop_one, graph_after, frame_after}
+use Rattle.ks_history.specs.Trace.{◌⊑◌, hand, graph_after, frame_after}
 use Rattle.ks_history.specs.Passes.{GrowsWith}
 use Rattle.ks_history.specs.Begins.{begins_both, by_others_begins, good_now, with_begins}
 use Rattle.ks_flow.specs.Discipline.{BeginsLink, LinkStep}
@@ -14,14 +14,14 @@ use Rattle.ks_arena.specs.Sound.{Sort, sort_of, blank_of}
 use Rattle.ks_arena.specs.Clauses.{HasTaken, seen_of}
 use Rattle.ks_link.proofs.Places.{step_low}
 use Rattle.ks_history.specs.Done.{link_move, first_taken}
-use Rattle.ks_shape.specs.Single.{gave_last, gives, is_near, led_live, record_is, takes}
+use Rattle.ks_shape.specs.Single.{is_near, led_live, record_is, takes}
 use Rattle.ks_shape.specs.Makes.{makes_both, makes_with}
 use Rattle.ks_link.proofs.Ways.{arrives}
 use Rattle.ks_link.proofs.descent.go_on.Given.{Over}
 use Rattle.ks_link.proofs.descent.go_on.Goals as goal
-use Rattle.ks_link.proofs.descent.go_on.Goals.{After-give}
+use Rattle.ks_link.proofs.descent.go_on.Goals.{After-give_last}
 
-module _ (g : Over) (c : After-give g) where
+module _ (g : Over) (c : After-give_last g) where
   abbrev sort : Sort
   sort = sort_of g.N.Node.layout g.N.Node.ranged
 
@@ -35,7 +35,7 @@ module _ (g : Over) (c : After-give g) where
   seen = seen_of c.args.pass.now
 
   abbrev given : List Event
-  given = seen_of c.give.new.pass
+  given = seen_of c.give_last.new.pass
 
   abbrev node : Record
   node = record_of (g.N.Node.body c.args.held.body)
@@ -51,35 +51,35 @@ module _ (g : Over) (c : After-give g) where
   low = step_low (graph_after seen) (frame_after (blank_of sort) seen) (c.sound_law.ensures.facts sort n seen c.requires.pass.sound) c.args.held.node c.args.next c.args.place node (record_is sort g.N.Node.body seen c.args.held c.requires.way.live c.requires.way.matches) leads
 
   gave : GrowsWith me (Give me c.args.held.node) seen given
-  gave = c.give.ensures.gave
+  gave = c.give_last.ensures.gave
 
   begins : seen ⊑ given
   begins = with_begins me (Give me c.args.held.node) seen given gave
 
   empty : hand me given ≡ []
-  empty = gave_last me c.args.held.node seen given c.requires.way.alone (subst (λ (z : ℕ). hand z given ≡ drop_one c.args.held.node (hand me seen)) c.give.ensures.caller c.give.ensures.hand)
+  empty = subst (λ (z : ℕ). hand z given ≡ []) c.give_last.ensures.caller c.give_last.ensures.pass.1
 
 pub take-requires-clause-node : goal.take-requires-clause-node
-take-requires-clause-node g c κs within = let at = (goal.at.take-requires-clause-node g c).After-give in let before = given g at in
-    let near : c.args.next < n g at = is_near (sort g at) BeginsLink LinkStep (n g at) before c.args.next (omega arith) c.give.ensures.pass.sound ((c.sound_law.ensures.lasts (sort g at) (n g at) (seen g at) before (begins g at) c.give.ensures.pass.sound).live c.args.next (live g at)) in omega arith
+take-requires-clause-node g c κs within = let at = (goal.at.take-requires-clause-node g c).After-give_last in let before = given g at in
+    let near : c.args.next < n g at = is_near (sort g at) BeginsLink LinkStep (n g at) before c.args.next (omega arith) c.give_last.ensures.pass.0.sound ((c.sound_law.ensures.lasts (sort g at) (n g at) (seen g at) before (begins g at) c.give_last.ensures.pass.0.sound).live c.args.next (live g at)) in omega arith
 
 pub unreachable-requires : goal.unreachable-requires
-unreachable-requires g c = let at = (goal.at.unreachable-requires g c).After-give in let told = rw c.in_default.is at c.take.ensures.took in let after = seen_of c.take.new.pass in
-    c.link_live_law.ensures (sort g at) (n g at) c.args.next (seen g at) after (begins_both (seen g at) (given g at) after (begins g at) (by_others_begins c.give.new.pass.caller (given g at) after told.0.grows)) c.take.ensures.pass.sound (live g at) told.1
+unreachable-requires g c = let at = (goal.at.unreachable-requires g c).After-give_last in let told = rw c.in_default.is at c.take.ensures.took in let after = seen_of c.take.new.pass in
+    c.link_live_law.ensures (sort g at) (n g at) c.args.next (seen g at) after (begins_both (seen g at) (given g at) after (begins g at) (by_others_begins c.give_last.new.pass.caller (given g at) after told.0.grows)) c.take.ensures.pass.sound (live g at) told.1
 
 pub returns-clause-way : goal.returns-clause-way
-returns-clause-way g c = let at = (goal.at.returns-clause-way g c).After-give in let after = seen_of c.take.new.pass in let e = c.in-Some.ensures in
-    let took = subst (λ (z : ℕ). HasTaken (sort g at) g.N.Node.body z c.args.next (given g at) after c.in-Some.taken) c.give.ensures.caller e.took in
+returns-clause-way g c = let at = (goal.at.returns-clause-way g c).After-give_last in let after = seen_of c.take.new.pass in let e = c.in-Some.ensures in
+    let took = subst (λ (z : ℕ). HasTaken (sort g at) g.N.Node.body z c.args.next (given g at) after c.in-Some.taken) c.give_last.ensures.caller e.took in
     let all = begins_both (seen g at) (given g at) after (begins g at) (with_begins (me g at) _ (given g at) after took.grows) in
     let lasts = c.sound_law.ensures.lasts (sort g at) (n g at) (seen g at) after all e.pass.sound in
     arrives (sort g at) g.N.Node.body (me g at) c.args.place c.args.next (given g at) after c.in-Some.taken (empty g at) took (omega (arith, low g at, lasts.low c.args.next (live g at)))
 
 pub returns-clause-under : goal.returns-clause-under
-returns-clause-under g c = λ op start under. let at = (goal.at.returns-clause-under g c).After-give in let after = seen_of c.take.new.pass in
-    let took = subst (λ (z : ℕ). HasTaken (sort g at) g.N.Node.body z c.args.next (given g at) after c.in-Some.taken) c.give.ensures.caller c.in-Some.ensures.took in
-    takes (sort g at) g.N.Node.body link_move (me g at) c.args.next op start (given g at) after c.in-Some.taken (λ k e. first_taken e tt) (empty g at) took (gives link_move (me g at) c.args.held.node op start (seen g at) (given g at) (empty g at) (gave g at) under)
+returns-clause-under g c = λ op start under. let at = (goal.at.returns-clause-under g c).After-give_last in let after = seen_of c.take.new.pass in
+    let took = subst (λ (z : ℕ). HasTaken (sort g at) g.N.Node.body z c.args.next (given g at) after c.in-Some.taken) c.give_last.ensures.caller c.in-Some.ensures.took in
+    takes (sort g at) g.N.Node.body link_move (me g at) c.args.next op start (given g at) after c.in-Some.taken (λ k e. first_taken e tt) (empty g at) took (c.give_last.ensures.under link_move op start under)
 
 pub returns-clause-makes : goal.returns-clause-makes
-returns-clause-makes g c = let at = (goal.at.returns-clause-makes g c).After-give in let after = seen_of c.take.new.pass in
-    let took = subst (λ (z : ℕ). HasTaken (sort g at) g.N.Node.body z c.args.next (given g at) after c.in-Some.taken) c.give.ensures.caller c.in-Some.ensures.took in
-    makes_both (me g at) (seen g at) (given g at) after (begins g at) (with_begins (me g at) _ (given g at) after took.grows) (makes_with (me g at) _ (seen g at) (given g at) tt (gave g at)) (makes_with (me g at) _ (given g at) after tt took.grows)
+returns-clause-makes g c = let at = (goal.at.returns-clause-makes g c).After-give_last in let after = seen_of c.take.new.pass in
+    let took = subst (λ (z : ℕ). HasTaken (sort g at) g.N.Node.body z c.args.next (given g at) after c.in-Some.taken) c.give_last.ensures.caller c.in-Some.ensures.took in
+    makes_both (me g at) (seen g at) (given g at) after (begins g at) (with_begins (me g at) _ (given g at) after took.grows) c.give_last.ensures.makes (makes_with (me g at) _ (given g at) after tt took.grows)

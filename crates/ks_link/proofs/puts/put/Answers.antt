@@ -27,47 +27,47 @@ use Rattle.ks_link.proofs.puts.put.Goals as goal
 
 pub returns-in-Ok-clause-done : goal.returns-in-Ok-clause-done
 returns-in-Ok-clause-done g c = let me : ℕ = c.args.pass.now.caller in let n : ℕ = c.args.arena.now.nodes in let op : Op = Put c.args.place c.args.value in
-    let h = seen_of c.args.pass.now in let k = seen_of c.find_room.new.pass in let l = seen_of c.write-answer.new.pass in let m = seen_of c.attach_all.new.pass in
-    let e = c.find_room.ensures.caller in let e' = c.write-answer.ensures.caller ∙ e in let x = c.write-answer.result in
+    let h = seen_of c.args.pass.now in let k = seen_of c.find_room.new.pass in let l = seen_of c.put_here-answer.new.pass in let m = seen_of c.attach_all.new.pass in
+    let e = c.find_room.ensures.caller in let e' = c.put_here-answer.ensures.caller ∙ e in let x = c.put_here-answer.result in
     let under = subst (λ (z : ℕ). Underway link_move z op h k) (sym e) (c.find_room.ensures.stretch op (omega arith)) in
-    let done = subst (λ (z : ℕ). Done g.N.Node.layout link_move n z op h l (told x.found) x.number) e (c.write-answer.ensures.done h under) in
+    let done = subst (λ (z : ℕ). Done g.N.Node.layout link_move n z op h l (told x.found) x.number) e (c.put_here-answer.ensures.done link_move h under) in
     let on = subst (λ (z : ℕ). Underway link_move z op l m) e' (c.attach_all.ensures.stretch op (omega arith)) in
     done_on g.N.Node.layout link_move n me op h l m (told x.found) x.number done on (subst (λ (z : ℕ). hand z m ≡ []) (c.attach_all.ensures.caller ∙ e') c.attach_all.ensures.pass.1)
 
-pub turn_away-full-requires-clause-none_free : goal.turn_away-full-requires-clause-none_free
-turn_away-full-requires-clause-none_free g c = let n : ℕ = c.args.arena.now.nodes in let h = seen_of c.args.pass.now in let k = seen_of c.find_room.new.pass in let e = c.find_room.ensures.caller in
+pub refuse_here-full-requires-clause-refused : goal.refuse_here-full-requires-clause-refused
+refuse_here-full-requires-clause-refused g c κs within = let n : ℕ = c.args.arena.now.nodes in let h = seen_of c.args.pass.now in let k = seen_of c.find_room.new.pass in let e = c.find_room.ensures.caller in
     let under = c.find_room.ensures.stretch (Put c.args.place c.args.value) (omega arith) in (
       h,
       record { rest = under.rest; is = under.is },
       subst (λ (z : ℕ). NoCallBy z under.rest) (sym e) under.none,
-      subst (λ (z : ℕ). NoneFree g.N.Node.layout n z c.args.place h k) (sym e) c.in-Err.ensures.found.4,
+      subst (λ (z : ℕ). NoneFree g.N.Node.layout n z c.args.place h k) (sym e) c.in-Err.ensures.found.1,
     )
 
 pub returns-in-Err-clause-done : goal.returns-in-Err-clause-done
 returns-in-Err-clause-done g c = let me : ℕ = c.args.pass.now.caller in let n : ℕ = c.args.arena.now.nodes in let op : Op = Put c.args.place c.args.value in
-    let h = seen_of c.args.pass.now in let k = seen_of c.find_room.new.pass in let l = seen_of c.turn_away-full.new.pass in let m = seen_of c.attach_all-in-Err.new.pass in
-    let e = c.find_room.ensures.caller in let e' = c.turn_away-full.ensures.caller ∙ e in let x = c.turn_away-full.result in
+    let h = seen_of c.args.pass.now in let k = seen_of c.find_room.new.pass in let l = seen_of c.refuse_here-full.new.pass in let m = seen_of c.attach_all-in-Err.new.pass in
+    let e = c.find_room.ensures.caller in let e' = c.refuse_here-full.ensures.caller ∙ e in let x = c.refuse_here-full.result in
     let under = subst (λ (z : ℕ). Underway link_move z op h k) (sym e) (c.find_room.ensures.stretch op (omega arith)) in
-    let none = subst (λ (z : ℕ). NoneFree g.N.Node.layout n z c.args.place h k) (sym e) c.in-Err.ensures.found.4 in
-    let done = subst (λ (z : ℕ). Done g.N.Node.layout link_move n z op h l Full x.number) e (c.turn_away-full.ensures.done h none under) in
+    let none = subst (λ (z : ℕ). NoneFree g.N.Node.layout n z c.args.place h k) (sym e) c.in-Err.ensures.found.1 in
+    let done = subst (λ (z : ℕ). Done g.N.Node.layout link_move n z op h l Full x.number) e (c.refuse_here-full.ensures.done link_move h under none) in
     let on = subst (λ (z : ℕ). Underway link_move z op l m) e' (c.attach_all-in-Err.ensures.stretch op (omega arith)) in
     done_on g.N.Node.layout link_move n me op h l m Full x.number done on (subst (λ (z : ℕ). hand z m ≡ []) (c.attach_all-in-Err.ensures.caller ∙ e') c.attach_all-in-Err.ensures.pass.1)
 
 pub attach_all-requires-clause-off : goal.attach_all-requires-clause-off
-attach_all-requires-clause-off g c = let sort = sort_of g.N.Node.layout g.N.Node.ranged in let n : ℕ = c.args.arena.now.table.shared.table_id.slots in let k = seen_of c.find_room.new.pass in let l = seen_of c.write-answer.new.pass in
+attach_all-requires-clause-off g c = let sort = sort_of g.N.Node.layout g.N.Node.ranged in let n : ℕ = c.args.arena.now.table.shared.table_id.slots in let k = seen_of c.find_room.new.pass in let l = seen_of c.put_here-answer.new.pass in
     subst (λ (ws : List Waiting). All (λ w. IsSplitOff sort l w) ws) (sym c.as_slice.ensures.value)
-    (all_later sort k l c.find_room.new.waiting.items (c.sound_law.ensures.lasts sort n k l c.write-answer.ensures.begins c.write-answer.ensures.pass.0.sound) c.find_room.ensures.waiting)
+    (all_later sort k l c.find_room.new.waiting.items (c.sound_law.ensures.lasts sort n k l c.put_here-answer.ensures.begins c.put_here-answer.ensures.pass.0.sound) c.find_room.ensures.waiting)
 
 pub attach_all-requires-in-Err-clause-off : goal.attach_all-requires-in-Err-clause-off
-attach_all-requires-in-Err-clause-off g c = let sort = sort_of g.N.Node.layout g.N.Node.ranged in let n : ℕ = c.args.arena.now.table.shared.table_id.slots in let k = seen_of c.find_room.new.pass in let l = seen_of c.turn_away-full.new.pass in
+attach_all-requires-in-Err-clause-off g c = let sort = sort_of g.N.Node.layout g.N.Node.ranged in let n : ℕ = c.args.arena.now.table.shared.table_id.slots in let k = seen_of c.find_room.new.pass in let l = seen_of c.refuse_here-full.new.pass in
     subst (λ (ws : List Waiting). All (λ w. IsSplitOff sort l w) ws) (sym c.as_slice-in-Err.ensures.value)
-    (all_later sort k l c.find_room.new.waiting.items (c.sound_law.ensures.lasts sort n k l c.turn_away-full.ensures.begins c.turn_away-full.ensures.pass.0.sound) c.find_room.ensures.waiting)
+    (all_later sort k l c.find_room.new.waiting.items (c.sound_law.ensures.lasts sort n k l c.refuse_here-full.ensures.begins c.refuse_here-full.ensures.pass.0.sound) c.find_room.ensures.waiting)
 
 pub returns-in-Ok-clause-led : goal.returns-in-Ok-clause-led
 returns-in-Ok-clause-led g c = λ adopts halves alone two. let me : ℕ = c.args.pass.now.caller in let sort = sort_of g.N.Node.layout g.N.Node.ranged in let n : ℕ = c.args.arena.now.table.shared.table_id.slots in let law = c.sound_law.ensures in
-    let h = seen_of c.args.pass.now in let k = seen_of c.find_room.new.pass in let l = seen_of c.write-answer.new.pass in let m = seen_of c.attach_all.new.pass in
-    let found = c.find_room.ensures in let wrote = c.write-answer.ensures in let ends = c.attach_all.ensures in let e' = wrote.caller ∙ found.caller in let ws : List Waiting = c.find_room.new.waiting.items in
-    let till : h ⊑ k = stretch_begins link_move me h k found.stretch in let on : k ⊑ l = wrote.begins in let then : l ⊑ m = stretch_begins link_move c.write-answer.new.pass.caller l m ends.stretch in
+    let h = seen_of c.args.pass.now in let k = seen_of c.find_room.new.pass in let l = seen_of c.put_here-answer.new.pass in let m = seen_of c.attach_all.new.pass in
+    let found = c.find_room.ensures in let wrote = c.put_here-answer.ensures in let ends = c.attach_all.ensures in let e' = wrote.caller ∙ found.caller in let ws : List Waiting = c.find_room.new.waiting.items in
+    let till : h ⊑ k = stretch_begins link_move me h k found.stretch in let on : k ⊑ l = wrote.begins in let then : l ⊑ m = stretch_begins link_move c.put_here-answer.new.pass.caller l m ends.stretch in
     let after : k ⊑ m = begins_both k l m on then in let since = alone_then me h k m till after alone in
     let last = law.lasts sort n l m then ends.pass.0.sound in
     let room = found.led halves (alone_first me h k m till after alone) in
@@ -77,9 +77,9 @@ returns-in-Ok-clause-led g c = λ adopts halves alone two. let me : ℕ = c.args
 
 pub returns-in-Err-clause-led : goal.returns-in-Err-clause-led
 returns-in-Err-clause-led g c = λ adopts halves alone two. let me : ℕ = c.args.pass.now.caller in let sort = sort_of g.N.Node.layout g.N.Node.ranged in let n : ℕ = c.args.arena.now.table.shared.table_id.slots in let nodes : ℕ = c.args.arena.now.nodes in let law = c.sound_law.ensures in let shows = g.N.Node.body in
-    let h = seen_of c.args.pass.now in let k = seen_of c.find_room.new.pass in let l = seen_of c.turn_away-full.new.pass in let m = seen_of c.attach_all-in-Err.new.pass in
-    let found = c.find_room.ensures in let told = c.turn_away-full.ensures in let ends = c.attach_all-in-Err.ensures in let x = c.in-Err.held in let way = c.in-Err.ensures.found.0 in
-    let till : h ⊑ k = stretch_begins link_move me h k found.stretch in let on : k ⊑ l = told.begins in let then : l ⊑ m = stretch_begins link_move c.turn_away-full.new.pass.caller l m ends.stretch in
+    let h = seen_of c.args.pass.now in let k = seen_of c.find_room.new.pass in let l = seen_of c.refuse_here-full.new.pass in let m = seen_of c.attach_all-in-Err.new.pass in
+    let found = c.find_room.ensures in let told = c.refuse_here-full.ensures in let ends = c.attach_all-in-Err.ensures in let x = c.in-Err.held in let way = c.in-Err.ensures.found.0.ends in
+    let till : h ⊑ k = stretch_begins link_move me h k found.stretch in let on : k ⊑ l = told.begins in let then : l ⊑ m = stretch_begins link_move c.refuse_here-full.new.pass.caller l m ends.stretch in
     let after : k ⊑ m = begins_both k l m on then in
     let two' = two_before nodes me k m (alone_then me h k m till after alone) (lawful_in_turn m (law.lawful sort n m ends.pass.0.sound)) (law.lasts sort n k m after ends.pass.0.sound).live (holds_one me x.node k way.alone (live_in sort shows k x way.live way.matches)) two in
-    absurd (never_refused g.N.Node.layout nodes me c.args.place h k (alone_first me h k m till after alone) (lawful_in_turn k (law.lawful sort n k found.pass.sound)) (λ z before i live. (law.lasts sort n z k before found.pass.sound).live i live) two' c.in-Err.ensures.found.4)
+    absurd (never_refused g.N.Node.layout nodes me c.args.place h k (alone_first me h k m till after alone) (lawful_in_turn k (law.lawful sort n k found.pass.sound)) (λ z before i live. (law.lasts sort n z k before found.pass.sound).live i live) two' c.in-Err.ensures.found.1)

@@ -12,7 +12,7 @@ use Rattle.ks_put.proofs.Going.{refused_since}
 use Rattle.ks_put.proofs.fills.pair_put.Goals as goal
 
 pub refuse_here-requires-clause-refused : goal.refuse_here-requires-clause-refused
-refuse_here-requires-clause-refused g c = let e = c.make_room.ensures in
+refuse_here-requires-clause-refused g c κs within = let e = c.make_room.ensures in
     refused_since g.N.Node.layout c.args.arena.now.nodes c.args.place c.args.pass.now.caller c.make_room.new.pass.caller (seen_of c.args.pass.now) (seen_of c.make_room.new.pass) e.caller e.stretch c.in-Refused.ensures.room.1
 
 pub returns-in-Found-clause-done : goal.returns-in-Found-clause-done

@@ -7,7 +7,7 @@ use Rattle.ks_arena.specs.Clauses.{seen_of, hand_of}
 use Rattle.ks_put.specs.Laws.{Laws}
 use Rattle.ks_shape.specs.Stretches.{stretches_here}
 use Rattle.ks_put.specs.OnPath.{numbers}
-use Rattle.ks_put.proofs.Ways.{goes_alone, alone_stretch}
+use Rattle.ks_put.proofs.Ways.{goes_alone, alone_stretch, alone_under}
 use Rattle.ks_put.proofs.path.keep_alone.Given.{Over}
 use Rattle.ks_put.proofs.path.keep_alone.Goals as goal
 use Rattle.ks_put.proofs.path.keep_alone.Goals.{After-at}
@@ -26,6 +26,9 @@ returns-in-Some-clause-way g c = goes_alone (sort_of g.N.Node.layout g.N.Node.ra
 
 pub returns-in-Some-clause-stretch : goal.returns-in-Some-clause-stretch
 returns-in-Some-clause-stretch g c = alone_stretch (sort_of g.N.Node.layout g.N.Node.ranged) g.N.Node.body c.args.arena.now.table.shared.table_id.slots c.args.pass.now.caller c.args.place (laws g c) (seen_of c.args.pass.now) (seen_of c.give.new.pass) c.args.node c.in-Some.other c.requires.pass.sound c.give.ensures.pass.sound (both g c) c.requires.node c.requires.inside c.give.ensures.gave (hands g c)
+
+pub returns-in-Some-clause-under : goal.returns-in-Some-clause-under
+returns-in-Some-clause-under g c = λ op start under. alone_under (sort_of g.N.Node.layout g.N.Node.ranged) g.N.Node.body c.args.arena.now.table.shared.table_id.slots c.args.pass.now.caller c.args.place (laws g c) (seen_of c.args.pass.now) (seen_of c.give.new.pass) c.args.node c.in-Some.other c.requires.pass.sound c.give.ensures.pass.sound (both g c) c.requires.node c.requires.inside c.give.ensures.gave (hands g c) op start under
 
 few : {N : Type 0} (o : Option (Hand N)) (hs : List ℕ) (i : ℕ) → hs ≡ i ∷ numbers o → length hs ≤ 3
 few None hs i is = omega (arith, ap length is)

@@ -12,7 +12,7 @@ use Rattle.ks_shape.specs.Single.{is_near, led_live, record_is}
 use Rattle.ks_arena.specs.Sound.{sort_of}
 use Rattle.ks_arena.specs.Clauses.{seen_of}
 use Rattle.ks_put.specs.Laws.{Laws}
-use Rattle.ks_put.proofs.Ways.{counted, goes_down, down_stretch}
+use Rattle.ks_put.proofs.Ways.{counted, goes_down, down_stretch, down_under}
 use Rattle.ks_put.proofs.path.step_down.Given.{Over}
 use Rattle.ks_put.proofs.path.step_down.Goals as goal
 use Rattle.ks_put.proofs.path.step_down.Goals.{After-node_law}
@@ -51,3 +51,7 @@ returns-clause-path g c = let at = (goal.at.returns-clause-path g c).After-node_
 pub returns-clause-stretch : goal.returns-clause-stretch
 returns-clause-stretch g c = let at = (goal.at.returns-clause-stretch g c).After-node_law in let e = c.in-Some.ensures in let way = c.requires.way in
     down_stretch (sort_of g.N.Node.layout g.N.Node.ranged) g.N.Node.body c.args.arena.now.table.shared.table_id.slots c.args.pass.now.caller c.args.place c.args.child (laws g at) (seen_of c.args.pass.now) (seen_of c.take.new.pass) c.args.held c.in-Some.below c.requires.pass.sound e.pass.sound way (leads g at) e.took
+
+pub returns-clause-under : goal.returns-clause-under
+returns-clause-under g c = λ op start under. let at = (goal.at.returns-clause-under g c).After-node_law in let e = c.in-Some.ensures in let way = c.requires.way in
+    down_under (sort_of g.N.Node.layout g.N.Node.ranged) g.N.Node.body c.args.arena.now.table.shared.table_id.slots c.args.pass.now.caller c.args.place c.args.child (laws g at) (seen_of c.args.pass.now) (seen_of c.take.new.pass) c.args.held c.in-Some.below c.requires.pass.sound e.pass.sound way (leads g at) e.took op start under

@@ -1,20 +1,24 @@
-use Rattle.std.proofs.Common.{◌≡◌, sym, refl, subst}
+use Rattle.std.proofs.Common.{◌≡◌, ℕ, sym, refl, subst}
 use Rattle.std.specs.Prelude.{None, IsTrue}
 use Rattle.ks_node.specs.declared.start.Next.TheVariants.{Here}
 use Rattle.ks_node.specs.Body.{next_at, value_at}
 use Rattle.ks_node.specs.Room.{is_full}
 use Rattle.ks_arena.specs.declared.held.Held.{Held as Hand}
+use Rattle.ks_arena.specs.Sound.{sort_of}
 use Rattle.ks_arena.specs.Clauses.{seen_of}
+use Rattle.ks_shape.specs.SearchEnd.{IsEnd}
 use Rattle.ks_put.proofs.Going.{on_was}
 use Rattle.ks_put.proofs.room.come_to_full.Goals as goal
 
+pub tree_end_law-requires-clause-here : goal.tree_end_law-requires-clause-here
+tree_end_law-requires-clause-here g c = subst (λ (x : Hand g.row.N.Denot). next_at (g.N.Node.body x.body) c.args.place ≡ Here) (sym c.let_go-held.ensures.node) c.requires.here
+
 pub returns-clause-came : goal.returns-clause-came
-returns-clause-came g c = λ n start none. let e = c.let_go.ensures in let same = sym e.node in (
+returns-clause-came g c = λ n start none. let e = c.let_go-held.ensures in let same = sym e.node in (
   record {
-    way = e.way;
-    here = subst (λ (x : Hand g.row.N.Denot). next_at (g.N.Node.body x.body) c.args.place ≡ Here) same c.requires.here;
+    ends = subst (λ (z : ℕ). IsEnd (sort_of g.N.Node.layout g.N.Node.ranged) g.N.Node.body z c.args.place (seen_of c.let_go-held.new.pass) c.let_go-held.result) e.caller c.tree_end_law.ensures;
     absent = subst (λ (x : Hand g.row.N.Denot). value_at (g.N.Node.body x.body).pairs c.args.place ≡ None) same c.requires.absent;
     full = subst (λ (x : Hand g.row.N.Denot). IsTrue (is_full g.N.Node.layout (g.N.Node.body x.body))) same c.requires.full;
   },
-  on_was g.N.Node.layout n c.args.place c.args.pass.now.caller c.args.pass.now.caller start (seen_of c.args.pass.now) (seen_of c.let_go.new.pass) refl e.stretch none,
+  on_was g.N.Node.layout n c.args.place c.args.pass.now.caller c.args.pass.now.caller start (seen_of c.args.pass.now) (seen_of c.let_go-held.new.pass) refl e.stretch none,
 )

@@ -30,10 +30,10 @@ loop-preserved g c = let sort = sort_of g.N.Node.layout g.N.Node.ranged in let s
       stretches_on a b s h k e.caller inv.3 e.stretch,
       counts_as b a ((c.loop.freed + c.walk-walked.result.freed) % 2 ^ 32) s k (sym e.caller) (counts_both a c.loop.freed c.walk-walked.result.freed s h k inv.4 e.counts),
       λ quiet.
-        let still : Undisturbed a s k = undisturbed_as a b s k e.caller quiet in
-        let next : suc end ≡ end + 1 = omega arith in
-        subst (λ (z : ℕ). TightUpTo sort z k) next
-        (e.tight (undisturbed_then a inv.4.count e.counts.count s h k inv.4.frees e.counts.frees still) (inv.5 (undisturbed_first a inv.4.count e.counts.count s h k inv.4.frees e.counts.frees still))),
+          let still : Undisturbed a s k = undisturbed_as a b s k e.caller quiet in
+          let next : suc end ≡ end + 1 = omega arith in
+          subst (λ (z : ℕ). TightUpTo sort z k) next
+          (e.tight (undisturbed_then a inv.4.count e.counts.count s h k inv.4.frees e.counts.frees still) (inv.5 (undisturbed_first a inv.4.count e.counts.count s h k inv.4.frees e.counts.frees still))),
     )
 
 pub returns-then-walked-clause-left : goal.returns-then-walked-clause-left

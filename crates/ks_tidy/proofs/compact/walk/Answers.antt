@@ -54,14 +54,14 @@ loop-preserved g c = let at = (goal.at.loop-preserved g c).After-node_law in let
       counts_next a b d c.loop.freed c.visit-here.result.freed s h k m v.caller e.caller inv.4 v.counts e.frees,
       v.run.above,
       λ quiet.
-        let still : Undisturbed a s k = quiet_before a inv.4.count v.counts.count s h k m inv.4.frees v.counts.frees (frees_as a b k m v.caller e.frees) (undisturbed_as a d s m (e.caller ∙ v.caller) quiet) in
-        walk_down sort shows p c.loop.end upto c.in-Go.child s x c.go_down-path.result
-        (λ n i r. c.tight_law.ensures.goes_down g.N.Node.layout (graph_after s) (frame_after (blank_of sort) s) p c.loop.end upto n i r (good g before) (facts g before))
-        (tested g at still)
-        (next_leads body p c.in-Go.child c.node_law.ensures.sound (omega (arith, c.ranges.place)) (sym c.next-in-loop.ensures ∙ c.in-Go.is))
-        v.run
-        (record { sound = c.node_law.ensures.sound; framed = c.node_law.ensures.framed; no_link = c.unlinked_law.ensures.no_link x.node.body })
-        v.pair.rooted e.parent e.child,
+          let still : Undisturbed a s k = quiet_before a inv.4.count v.counts.count s h k m inv.4.frees v.counts.frees (frees_as a b k m v.caller e.frees) (undisturbed_as a d s m (e.caller ∙ v.caller) quiet) in
+          walk_down sort shows p c.loop.end upto c.in-Go.child s x c.go_down-path.result
+          (λ n i r. c.tight_law.ensures.goes_down g.N.Node.layout (graph_after s) (frame_after (blank_of sort) s) p c.loop.end upto n i r (good g before) (facts g before))
+          (tested g at still)
+          (next_leads body p c.in-Go.child c.node_law.ensures.sound (omega (arith, c.ranges.place)) (sym c.next-in-loop.ensures ∙ c.in-Go.is))
+          v.run
+          (record { sound = c.node_law.ensures.sound; framed = c.node_law.ensures.framed; no_link = c.unlinked_law.ensures.no_link x.node.body })
+          v.pair.rooted e.parent e.child,
     )
 
 pub returns-in-Here-clause-stretch : goal.returns-in-Here-clause-stretch

@@ -32,11 +32,13 @@ pub go_down-path-requires-clause-pair : goal.go_down-path-requires-clause-pair
 go_down-path-requires-clause-pair g c = let at = (goal.at.go_down-path-requires-clause-pair g c).After-tidy_branch-tidied in subst (λ (z : ℕ). IsPair (sort_of g.N.Node.layout g.N.Node.ranged) g.N.Node.body z c.args.place (seen_of c.tidy_branch-tidied.new.pass) c.tidy_branch-tidied.result.path) (sym (now g at)) (pair g at)
 
 pub loop-preserved : goal.loop-preserved
-loop-preserved g c = let at = (goal.at.loop-preserved g c).After-tidy_branch-tidied in let me : ℕ = c.args.pass.now.caller in let s = seen_of c.args.pass.now in let h₁ = seen_of c.tidy_branch-tidied.new.pass in let b : ℕ = c.tidy_branch-tidied.new.pass.caller in let k = seen_of c.go_down-path.new.pass in let e = c.go_down-path.ensures in
-    (e.pass, e.caller ∙ now g at,
-    subst (λ (z : ℕ). IsPair (sort_of g.N.Node.layout g.N.Node.ranged) g.N.Node.body z c.args.place k c.go_down-path.result) (now g at) e.pair,
-    stretches_both me s h₁ k (stretch g at) (stretches_as me b h₁ k (now g at) e.stretch),
-    counts_on me ((c.loop.freed + c.tidy_branch-tidied.result.freed) % 2 ^ 32) s h₁ k (counts g at) (frees_as me b h₁ k (now g at) e.frees))
+loop-preserved g c = let at = (goal.at.loop-preserved g c).After-tidy_branch-tidied in let me : ℕ = c.args.pass.now.caller in let s = seen_of c.args.pass.now in let h₁ = seen_of c.tidy_branch-tidied.new.pass in let b : ℕ = c.tidy_branch-tidied.new.pass.caller in let k = seen_of c.go_down-path.new.pass in let e = c.go_down-path.ensures in (
+  e.pass,
+  e.caller ∙ now g at,
+  subst (λ (z : ℕ). IsPair (sort_of g.N.Node.layout g.N.Node.ranged) g.N.Node.body z c.args.place k c.go_down-path.result) (now g at) e.pair,
+  stretches_both me s h₁ k (stretch g at) (stretches_as me b h₁ k (now g at) e.stretch),
+  counts_on me ((c.loop.freed + c.tidy_branch-tidied.result.freed) % 2 ^ 32) s h₁ k (counts g at) (frees_as me b h₁ k (now g at) e.frees),
+)
 
 pub returns-in-Here-clause-pair : goal.returns-in-Here-clause-pair
 returns-in-Here-clause-pair g c = pair g (goal.at.returns-in-Here-clause-pair g c).After-tidy_branch-tidied

@@ -94,7 +94,7 @@ keep_left-requires-clause-under g c = let at = goal.at.keep_left-requires-clause
     let has : (y : Hand g.row.N.Denot) → o ≡ Some y → Has (hand me h) y.node = parent_has j o (hand me h) c.requires.pair.path.hands in
     under_with sort g.N.Node.body c.args.place c.args.path.node c.absorb_own.new.node h (seen_of c.absorb_own.new.pass) o e.node.node c.requires.pair.rooted
     (λ y is m. e.still y (parent_apart j o once y is, ((λ same. took.fresh (subst (Has (hand me h)) (same ∙ took.node) (has y is))), tt))
-        (subst (λ (z : ℕ). Has (hand z h₁) y.node) (sym c.take_led-next.ensures.caller) (subst (λ (z : List ℕ). Has z y.node) (sym took.hand) (inr (has y is)))) (parent_took g at.After-take_led-next y is m))
+    (subst (λ (z : ℕ). Has (hand z h₁) y.node) (sym c.take_led-next.ensures.caller) (subst (λ (z : List ℕ). Has z y.node) (sym took.hand) (inr (has y is)))) (parent_took g at.After-take_led-next y is m))
     c.requires.pair.path.under
 
 pub keep_left-requires-clause-inside : goal.keep_left-requires-clause-inside

@@ -53,7 +53,7 @@ pub returns-clause-pair : goal.returns-clause-pair
 returns-clause-pair g c = let at = goal.at.returns-clause-pair g c in let me : ℕ = c.args.pass.now.caller in let h₁ = seen_of c.collapse.new.pass in let k = seen_of c.give.new.pass in let e = c.collapse.ensures in let sort = sort_of g.N.Node.layout g.N.Node.ranged in
     let zero : c.collapse.new.node.node ≡ 0 = e.node.node ∙ c.requires.root in
     let still = c.give.ensures.still c.collapse.new.node (λ same. apart g at.After-search_law (sym e.node.node ∙ same ∙ e.child.node))
-        (subst (λ (z : List ℕ). Has z c.collapse.new.node.node) (sym (c.collapse.ensures.hand ∙ c.requires.pair.path.hands)) (inr (inl (sym e.node.node)))) e.node.matches in
+    (subst (λ (z : List ℕ). Has z c.collapse.new.node.node) (sym (c.collapse.ensures.hand ∙ c.requires.pair.path.hands)) (inr (inl (sym e.node.node)))) e.node.matches in
     record {
       path = record {
         hands = gave_hands g at.After-give ∙ ap (λ (z : ℕ). z ∷ []) (sym e.node.node);

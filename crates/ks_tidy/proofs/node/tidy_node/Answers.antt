@@ -16,19 +16,27 @@ use Rattle.ks_tidy.proofs.node.tidy_node.Given.{Over}
 use Rattle.ks_tidy.proofs.node.tidy_node.Goals as goal
 
 pub loop-init : goal.loop-init
-loop-init g c = let me : ℕ = c.args.pass.now.caller in let h = seen_of c.args.pass.now in
-    (c.requires.pass, refl, c.requires.pair, places_here (graph_after h) c.args.path.node.node,
-    stretches_here me h (let few = few_on c.args.path.parent (hand_of c.args.pass.now) c.args.path.node.node c.requires.pair.path.hands in omega (arith, few)),
-    counts_of me 0 h h (omega arith) (frees_here me h), λ calm. refl)
+loop-init g c = let me : ℕ = c.args.pass.now.caller in let h = seen_of c.args.pass.now in (
+  c.requires.pass,
+  refl,
+  c.requires.pair,
+  places_here (graph_after h) c.args.path.node.node,
+  stretches_here me h (let few = few_on c.args.path.parent (hand_of c.args.pass.now) c.args.path.node.node c.requires.pair.path.hands in omega (arith, few)),
+  counts_of me 0 h h (omega arith) (frees_here me h),
+  λ calm. refl,
+)
 
 pub loop-preserved : goal.loop-preserved
 loop-preserved g c = let me : ℕ = c.args.pass.now.caller in let s = seen_of c.args.pass.now in let h = seen_of c.loop.pass in let k = seen_of c.tidy_once.new.pass in let inv = c.loop.invariant in let e = c.tidy_once.ensures in let sort = sort_of g.N.Node.layout g.N.Node.ranged in
-    let one = frees_as me c.loop.pass.caller h k inv.1 c.in-Freed.ensures.step in
-    (e.pass, e.caller ∙ inv.1, subst (λ (z : ℕ). IsPair sort g.N.Node.body z c.args.place k c.in-Freed.next) inv.1 c.in-Freed.ensures.pair,
-    places_both (graph_after s) (graph_after h) (graph_after k) c.args.path.node.node c.loop.path.node.node c.in-Freed.next.node.node inv.3 c.in-Freed.ensures.places,
-    stretches_both me s h k inv.4 (stretches_as me c.loop.pass.caller h k inv.1 e.stretch),
-    counts_more me c.loop.freed 1 s h k inv.5 one,
-    λ calm. absurd (let zero = frees_same me (inv.5.count + 1) 0 s k (frees_both me inv.5.count 1 s h k inv.5.frees one) calm.none in omega (arith, zero)))
+    let one = frees_as me c.loop.pass.caller h k inv.1 c.in-Freed.ensures.step in (
+      e.pass,
+      e.caller ∙ inv.1,
+      subst (λ (z : ℕ). IsPair sort g.N.Node.body z c.args.place k c.in-Freed.next) inv.1 c.in-Freed.ensures.pair,
+      places_both (graph_after s) (graph_after h) (graph_after k) c.args.path.node.node c.loop.path.node.node c.in-Freed.next.node.node inv.3 c.in-Freed.ensures.places,
+      stretches_both me s h k inv.4 (stretches_as me c.loop.pass.caller h k inv.1 e.stretch),
+      counts_more me c.loop.freed 1 s h k inv.5 one,
+      λ calm. absurd (let zero = frees_same me (inv.5.count + 1) 0 s k (frees_both me inv.5.count 1 s h k inv.5.frees one) calm.none in omega (arith, zero)),
+    )
 
 pub returns-in-Rests-clause-pair : goal.returns-in-Rests-clause-pair
 returns-in-Rests-clause-pair g c = let k = seen_of c.tidy_once.new.pass in subst (λ (z : ℕ). IsPair (sort_of g.N.Node.layout g.N.Node.ranged) g.N.Node.body z c.args.place k c.in-Rests.rest) c.loop.invariant.1 c.in-Rests.ensures.pair

@@ -1,0 +1,22 @@
+use Rattle.std.proofs.Common.{refl, sym, ◌∙◌, ap, subst}
+use Rattle.ks_history.specs.declared.Op.TheVariants.{Put}
+use Rattle.ks_history.specs.Map.{told}
+use Rattle.ks_arena.specs.declared.held.Held.{Held as Hand}
+use Rattle.ks_arena.specs.Sound.{sort_of}
+use Rattle.ks_arena.specs.Clauses.{IsReady, seen_of}
+use Rattle.ks_shape.specs.SearchEnd.{unbranched, below_own}
+use Rattle.ks_shape.proofs.here.put_here.Goals as goal
+
+pub put-found-requires-clause-no_branch : goal.put-found-requires-clause-no_branch
+put-found-requires-clause-no_branch g c = unbranched (sort_of g.N.Node.layout g.N.Node.ranged) g.N.Node.body c.args.pass.now.caller c.args.place (seen_of c.args.pass.now) c.args.held c.requires.room.ends c.node_law.ensures.sound
+
+pub put-found-requires-clause-below_own : goal.put-found-requires-clause-below_own
+put-found-requires-clause-below_own g c = below_own (sort_of g.N.Node.layout g.N.Node.ranged) g.N.Node.body c.args.pass.now.caller c.args.place (seen_of c.args.pass.now) c.args.held c.requires.room.ends c.node_law.ensures.sound
+
+pub put-found-requires-clause-room : goal.put-found-requires-clause-room
+put-found-requires-clause-room g c = c.requires.room.room
+
+pub conclude-number-requires-clause-ready : goal.conclude-number-requires-clause-ready
+conclude-number-requires-clause-ready g c κs within = let x : Hand g.row.N.Denot = record { node = c.args.held.node; body = c.put-found.new.self; live = c.args.held.live } in
+    subst (IsReady (sort_of g.N.Node.layout g.N.Node.ranged) g.N.Node.body c.args.arena.now.nodes c.args.pass.now.caller (seen_of c.args.pass.now) x (Put c.args.place c.args.value)) (ap told (sym c.put-found.ensures.answer) ∙ sym c.reply_of.ensures.told)
+    (c.put_law.ensures x refl c.requires.room.ends.live c.put-found.ensures.body)

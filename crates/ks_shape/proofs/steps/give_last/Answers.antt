@@ -1,0 +1,27 @@
+use Rattle.std.proofs.Common.{◌≡◌, ◌≤◌, ℕ, List, [], ◌∷◌, length, sym, ap, subst, arith}
+use Rattle.ks_history.specs.declared.Event.TheVariants.{Give}
+use Rattle.ks_history.specs.Trace.{hand, drop_one}
+use Rattle.ks_arena.specs.Clauses.{seen_of}
+use Rattle.ks_shape.specs.Makes.{makes_with}
+use Rattle.ks_shape.specs.Single.{gave_last, gives}
+use Rattle.ks_shape.specs.Stretches.{stretches_give}
+use Rattle.ks_shape.proofs.steps.give_last.Given.{Over}
+use Rattle.ks_shape.proofs.steps.give_last.Goals as goal
+use Rattle.ks_shape.proofs.steps.give_last.Goals.{After-give}
+
+empty : (g : Over) (c : After-give g) → hand c.args.pass.now.caller (seen_of c.give.new.pass) ≡ []
+empty g c = let me : ℕ = c.args.pass.now.caller in let h = seen_of c.args.pass.now in let k = seen_of c.give.new.pass in let i : ℕ = c.args.held.node in
+    gave_last me i h k c.requires.alone (subst (λ (z : ℕ). hand z k ≡ drop_one i (hand me h)) c.give.ensures.caller c.give.ensures.hand)
+
+pub returns-clause-pass : goal.returns-clause-pass
+returns-clause-pass g c = let at = (goal.at.returns-clause-pass g c).After-give in (c.give.ensures.pass, subst (λ (z : ℕ). hand z (seen_of c.give.new.pass) ≡ []) (sym c.give.ensures.caller) (empty g at))
+
+pub returns-clause-under : goal.returns-clause-under
+returns-clause-under g c = λ template op start under. let at = (goal.at.returns-clause-under g c).After-give in
+    gives template c.args.pass.now.caller c.args.held.node op start (seen_of c.args.pass.now) (seen_of c.give.new.pass) (empty g at) c.give.ensures.gave under
+
+pub returns-clause-makes : goal.returns-clause-makes
+returns-clause-makes g c = let me : ℕ = c.args.pass.now.caller in makes_with me (Give me c.args.held.node) (seen_of c.args.pass.now) (seen_of c.give.new.pass) tt c.give.ensures.gave
+
+pub returns-clause-stretch : goal.returns-clause-stretch
+returns-clause-stretch g c = stretches_give c.args.pass.now.caller c.args.held.node (seen_of c.args.pass.now) (seen_of c.give.new.pass) (omega (arith, ap length c.requires.alone)) c.give.ensures.gave

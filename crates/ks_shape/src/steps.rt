@@ -1,0 +1,61 @@
+//! Steps of a call under way, each with its gate: by whatever technique the call goes, it stays under way.
+ghost use Rattle.std.specs.Prelude.{◌≡◌};
+ghost use Rattle.ks_history.specs.declared.Event.TheVariants.{Give, Take};
+ghost use Rattle.ks_arena.specs.Of.{Adds, IsPassOf, IsEmptyPassOf, IsCurrent};
+ghost use Rattle.ks_shape.specs.Of.{HoldsOnly, IsOnWayOf, IsStretch, MakesNoneLive, StaysUnderwayAny};
+
+use ks_arena::laws::root_stays_law;
+use ks_arena::{Arena, Held, Pass, root_law};
+use ks_flow::Discipline;
+use ks_gate::{Gate, Point};
+use ks_node::Node;
+use std::sync::Wait;
+
+/// Takes the root, for a call that holds nothing: it is on its way to whatever place.
+pub fn take_root<N: Node, D: Discipline, R: Wait, G: Gate>(
+    rt: &R,
+    arena: &Arena<N, D>,
+    pass: &mut Pass<N, D>,
+    gate: &G,
+    place: u64,
+) -> Held<N>
+    requires pass { IsEmptyPassOf arena.now pass.old }
+    ensures pass { IsPassOf arena.now pass.new }
+    ensures caller { pass.new.caller ≡ pass.old.caller }
+    ensures took { Adds (Take pass.old.caller 0) pass.old pass.new }
+    ensures root { result.node ≡ 0 }
+    ensures way { IsOnWayOf arena.now pass.old.caller place pass.new result }
+    ensures under { StaysUnderwayAny pass.old pass.new }
+    ensures stretch { IsStretch pass.old pass.new }
+    ensures makes { MakesNoneLive pass.old pass.new }
+{
+    root_stays_law::<D>();
+    let Some(root) = arena.take(rt, pass, 0) else {
+        unreachable!()
+    };
+    root_law(&root, place);
+    gate.at(pass.caller(), Point::Taken(0));
+    root
+}
+
+/// Gives the one node in hand.
+pub fn give_last<N: Node, D: Discipline, G: Gate>(
+    arena: &Arena<N, D>,
+    pass: &mut Pass<N, D>,
+    gate: &G,
+    held: Held<N>,
+)
+    requires pass { IsPassOf arena.now pass.old }
+    requires alone { HoldsOnly pass.old held }
+    requires body { IsCurrent arena.now pass.old held }
+    ensures pass { IsEmptyPassOf arena.now pass.new }
+    ensures caller { pass.new.caller ≡ pass.old.caller }
+    ensures gave { Adds (Give pass.old.caller held.node) pass.old pass.new }
+    ensures under { StaysUnderwayAny pass.old pass.new }
+    ensures stretch { IsStretch pass.old pass.new }
+    ensures makes { MakesNoneLive pass.old pass.new }
+{
+    let node = held.node;
+    arena.give(pass, held);
+    gate.at(pass.caller(), Point::Given(node));
+}

@@ -1,0 +1,82 @@
+// Refuses one request for memory, or all from one on, or none and counts them: preloaded by tools/memory.
+//
+// REFUSE is the number of the request, counted from 1, with '+' behind it where all that follow are refused too. Requests of the program count, those of the C library and of the
+// loader for themselves do not: the address to which the request returns tells them apart. How many there were so far stands
+// in the file that COUNTED names, in 8 bytes, the lowest first.
+
+typedef unsigned long size_t;
+struct Where {
+    const char *file;
+    void *base;
+    const char *name;
+    void *address;
+};
+
+extern void *__libc_malloc(size_t);
+extern void *__libc_calloc(size_t, size_t);
+extern void *__libc_realloc(void *, size_t);
+extern void *__libc_memalign(size_t, size_t);
+extern char *getenv(const char *);
+extern unsigned long getauxval(unsigned long);
+extern int dladdr(const void *, struct Where *);
+extern int open(const char *, int, ...);
+extern long pwrite(int, const void *, size_t, long);
+
+static long requests;
+static long refused;
+static int and_all_after;
+static int counted = -1;
+static void *program;
+
+__attribute__((constructor)) static void begin(void) {
+    struct Where where;
+    const char *word = getenv("REFUSE");
+    const char *file = getenv("COUNTED");
+    while (word && *word >= '0' && *word <= '9')
+        refused = refused * 10 + (*word++ - '0');
+    and_all_after = word && *word == '+';
+    // 577 is to write, to create and to empty it
+    if (file)
+        counted = open(file, 577, 0600);
+    // 9 asks for the address at which the program is entered
+    if (dladdr((void *)getauxval(9), &where))
+        program = where.base;
+}
+
+static int refuses(void *from) {
+    struct Where where;
+    if (!program || !dladdr(from, &where) || where.base != program)
+        return 0;
+    long number = __atomic_add_fetch(&requests, 1, __ATOMIC_SEQ_CST);
+    if (pwrite(counted, &number, sizeof number, 0) < 0)
+        return 0;
+    return number == refused || (and_all_after && number > refused);
+}
+
+void *malloc(size_t size) {
+    return refuses(__builtin_return_address(0)) ? 0 : __libc_malloc(size);
+}
+
+void *calloc(size_t many, size_t size) {
+    return refuses(__builtin_return_address(0)) ? 0 : __libc_calloc(many, size);
+}
+
+void *realloc(void *old, size_t size) {
+    return refuses(__builtin_return_address(0)) ? 0 : __libc_realloc(old, size);
+}
+
+void *memalign(size_t to, size_t size) {
+    return refuses(__builtin_return_address(0)) ? 0 : __libc_memalign(to, size);
+}
+
+void *aligned_alloc(size_t to, size_t size) {
+    return refuses(__builtin_return_address(0)) ? 0 : __libc_memalign(to, size);
+}
+
+int posix_memalign(void **into, size_t to, size_t size) {
+    void *got = refuses(__builtin_return_address(0)) ? 0 : __libc_memalign(to, size);
+    if (!got)
+        return 12;
+    *into = got;
+    return 0;
+}

@@ -1,0 +1,43 @@
+"""What the scripts of this folder share: tries that are counted, and where the built program is."""
+
+import os
+import subprocess
+import sys
+
+TOP = os.path.dirname(os.path.dirname(os.path.realpath(__file__)))
+
+
+class Tries:
+    """Counts tries, and names those that fail."""
+
+    def __init__(self, name):
+        self.name, self.count, self.failed = name, 0, 0
+
+    def hold(self, what, wanted, found):
+        """One try: what was found is what is wanted."""
+        self.count += 1
+        if wanted != found:
+            self.failed += 1
+            print(f"{self.name}: {what}:\n  wanted {wanted!r}\n  found  {found!r}", flush=True)
+
+    def end(self, of="tries"):
+        """Says how many there were, and ends with status 1 where one failed."""
+        print(f"{self.name}: {self.count} {of}, {self.failed} failed", flush=True)
+        sys.exit(1 if self.failed or not self.count else 0)
+
+
+def has_full():
+    """Whether the system has the device that is always full."""
+    return os.access("/dev/full", os.W_OK)
+
+
+def program():
+    """The built program: the one that is named, else the one that the gate built, else the one that ./ks builds."""
+    if len(sys.argv) > 1:
+        return os.path.abspath(sys.argv[1])
+    built = f"{TOP}/crates/ks_main/out/ks_main"
+    if not os.access(built, os.X_OK):
+        built_by = subprocess.run([f"{TOP}/ks", "run", "list", "coupling", "4"], stdin=subprocess.DEVNULL, stdout=subprocess.DEVNULL)
+        if built_by.returncode:
+            sys.exit(f"{os.path.basename(sys.argv[0])}: there is no program to try")
+    return built
