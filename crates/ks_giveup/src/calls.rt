@@ -6,8 +6,8 @@ ghost use Rattle.ks_history.specs.Done.{give_up};
 ghost use Rattle.ks_shape.specs.Answers.{number_in, reply_in};
 ghost use Rattle.ks_arena.specs.Of.{IsEmptyPassOf, WasAlone};
 ghost use Rattle.ks_shape.specs.Of.{DoneOf};
-ghost use Rattle.ks_tidy.specs.Of.{IsTidyOf};
 ghost use Rattle.ks_giveup.specs.Goes.{GoesTowards};
+ghost use Rattle.ks_tidy.specs.Of.{IsTidyOf};
 
 use crate::descent::{find, find_room};
 use ks_arena::{Arena, Pass};
@@ -111,8 +111,9 @@ pub fn swap<N: Ranged + Unlinked, R: Wait, G: Gate>(
     swap_here(arena, pass, gate, place, old, new, held)
 }
 
-/// Deletes what stands at a place; answers the value that stood there, and the number of the call. If it removed a pair and
-/// left the node low, it gives the node and goes by lock coupling from the root, to merge on the way and at that node.
+/// Deletes what stands at a place; answers the value that stood there, and the number of the call. It goes as `get`. If it
+/// removed a pair and left the node low, it gives the node and goes on by lock coupling, from the root, to merge on the way
+/// and at that node.
 pub fn del<N: Ranged + Unlinked, R: Wait, G: Gate>(
     rt: &R,
     arena: &Arena<N, Tree>,

@@ -12,5 +12,5 @@ mod splits;
 pub use fills::{pair_add, pair_put};
 pub use halves::keep_left;
 pub use laws::search_law;
-pub use path::{Path, enter, keep_alone, let_go, step_down};
+pub use path::{Path, enter, let_go, step_down};
 pub use room::{Room, make_room};

@@ -49,7 +49,7 @@ pub fn enter<N: Unlinked, R: Wait, G: Gate>(
 }
 
 /// Gives the other node in hand, if there is one, and keeps the node.
-pub fn keep_alone<N: Unlinked, G: Gate>(
+pub(crate) fn keep_alone<N: Unlinked, G: Gate>(
     arena: &Arena<N, Tree>,
     pass: &mut Pass<N, Tree>,
     gate: &G,

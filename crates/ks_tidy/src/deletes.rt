@@ -6,8 +6,9 @@ ghost use Rattle.ks_history.specs.Trace.{◌⊑◌};
 ghost use Rattle.ks_node.specs.declared.start.Next.TheVariants.{Here};
 ghost use Rattle.ks_node.specs.Body.{next_at};
 ghost use Rattle.ks_arena.specs.Clauses.{hand_of, seen_of};
-ghost use Rattle.ks_arena.specs.Of.{Holds, IsCurrent, IsEmptyPassOf, IsInside, IsLiveAndCurrent, IsPassOf, StayCurrentBut, WasAlone};
-ghost use Rattle.ks_shape.specs.Of.{FinishesAny, IsOnWayOf};
+ghost use Rattle.ks_arena.specs.Of.{Holds, IsCurrent, IsLiveAndCurrent, StayCurrentBut};
+ghost use Rattle.ks_arena.specs.Of.{IsEmptyPassOf, IsInside, IsPassOf, WasAlone};
+ghost use Rattle.ks_shape.specs.Of.{FinishesAny, SearchEndsAt};
 ghost use Rattle.ks_tidy.specs.Of.{DecidesAny, IsKeptAt, IsPairOf, IsTidyOf};
 
 use crate::descent::{leave, pair_tidy, tidy_end};
@@ -21,8 +22,8 @@ use ks_put::{Path, search_law};
 use ks_shape::{Numbered, reply_of};
 use std::sync::Wait;
 
-/// Deletes what stands at a place, at a node in hand where the search for the place ends, and keeps the node. Answers what
-/// stood there, and the number of the call.
+/// Deletes what stands at a place, at a node in hand where the search for the place ends, and keeps the node. Answers
+/// what stood there, and the number of the call.
 pub(crate) fn delete<N: Unlinked, G: Gate>(
     arena: &Arena<N, Tree>,
     pass: &mut Pass<N, Tree>,
@@ -55,8 +56,8 @@ pub(crate) fn delete<N: Unlinked, G: Gate>(
     Numbered { number, found }
 }
 
-/// Deletes what stands at a place, at the node of a path where the search for the place ends, and gives all. If it removed a
-/// pair, it merges the node before, while it is low.
+/// Deletes what stands at a place, at the node of a path where the search for the place ends, and gives all. If it
+/// removed a pair, it merges the node before, while it is low.
 pub fn del_on<N: Unlinked, R: Wait, G: Gate>(
     rt: &R,
     arena: &Arena<N, Tree>,
@@ -86,8 +87,8 @@ pub fn del_on<N: Unlinked, R: Wait, G: Gate>(
     answer
 }
 
-/// Deletes what stands at a place, at the one node in hand, where the search for the place ends, and gives it. If it removed
-/// a pair and the node is low, it comes to the place again, and merges on its way and at its end.
+/// Deletes what stands at a place, at the one node in hand, where the search for the place ends, and gives it. If it
+/// removed a pair and the node is low, it comes to the place again, and merges on its way and at its end.
 pub fn del_alone<N: Unlinked, R: Wait, G: Gate>(
     rt: &R,
     arena: &Arena<N, Tree>,
@@ -97,8 +98,7 @@ pub fn del_alone<N: Unlinked, R: Wait, G: Gate>(
     held: Held<N>,
 ) -> Numbered
     requires pass { IsPassOf arena.now pass.old }
-    requires way { IsOnWayOf arena.now pass.old.caller place pass.old held }
-    requires ends { next_at (N.body held.body) place ≡ Here }
+    requires ends { SearchEndsAt arena.now place pass.old held }
     ensures pass { IsEmptyPassOf arena.now pass.new }
     ensures caller { pass.new.caller ≡ pass.old.caller }
     ensures begins { seen_of pass.old ⊑ seen_of pass.new }

@@ -85,8 +85,8 @@ fn tidy_branch<N: Unlinked, R: Wait, G: Gate>(
     Tidied { path, freed: 0 }
 }
 
-/// Comes to the node at which the search for a place ends, with its parent in hand; on the way it merges low branches. It
-/// does not tell the gate that a call begins.
+/// Comes to the node at which the search for a place ends, with its parent in hand; on the way it merges low branches.
+/// It does not tell the gate that a call begins.
 pub fn come_down<N: Unlinked, R: Wait, G: Gate>(
     rt: &R,
     arena: &Arena<N, Tree>,
@@ -147,8 +147,9 @@ pub fn tidy_end<N: Unlinked, R: Wait, G: Gate>(
     freed
 }
 
-/// Merges for a place: low branches on the way to the node whose keyset holds it, and that node, if it is low. Answers how
-/// many nodes it made free, modulo 2^32. It makes no call of the history, and does not tell the gate that one begins.
+/// Merges for a place: low branches on the way to the node whose keyset holds it, and that node, if it is low. Answers
+/// how many nodes it made free, modulo 2^32. It makes no call of the history, and does not tell the gate that one
+/// begins.
 pub fn pair_tidy<N: Unlinked, R: Wait, G: Gate>(
     rt: &R,
     arena: &Arena<N, Tree>,

@@ -91,8 +91,8 @@ pub(crate) fn merge_own<N: Unlinked, R: Wait, G: Gate>(
     Step::Rests(keep_left(arena, pass, gate, place, path, next))
 }
 
-/// The node below a branch absorbs the node to which the branch leads next, if both fit. That one is given back, or the
-/// branch forgets it and it is given free.
+/// The node below a branch absorbs the node to which the branch leads next, if both fit. That one is given back, or
+/// the branch forgets it and it is given free.
 pub(crate) fn merge_beside<N: Unlinked, R: Wait, G: Gate>(
     rt: &R,
     arena: &Arena<N, Tree>,

@@ -19,8 +19,8 @@ pub struct Tidied<N> {
     pub freed: u32,
 }
 
-/// Merges at the node of a path until nothing is left to merge there. It goes on while the node is low, or, if the work is
-/// thorough, whatever it holds. What the node had has the node of the path then, which may be the root.
+/// Merges at the node of a path until nothing is left to merge there. It goes on while the node is low, or, if the
+/// work is thorough, whatever it holds. What the node had has the node of the path then, which may be the root.
 pub fn tidy_node<N: Unlinked, R: Wait, G: Gate>(
     rt: &R,
     arena: &Arena<N, Tree>,

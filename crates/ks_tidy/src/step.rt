@@ -56,7 +56,8 @@ fn merge_root<N: Unlinked, R: Wait, G: Gate>(
     }
 }
 
-/// Merges a node that leads to no node itself with the one to which its parent leads next, if there is one and they fit.
+/// Merges a node that leads to no node itself with the one to which its parent leads next, if there is one and they
+/// fit.
 fn merge_next<N: Unlinked, R: Wait, G: Gate>(
     rt: &R,
     arena: &Arena<N, Tree>,
@@ -156,7 +157,8 @@ fn tidy_root<N: Unlinked, R: Wait, G: Gate>(
 
 /// Whether the node is the root, and a branch over one child.
 fn has_sole<N: Node>(parent: &Held<N>) -> bool
-    ensures sole { IsTrue result → (parent.now.node ≡ 0) × ((m : ℕ) × (only_child_of (N.body parent.now.body) ≡ Some m)) }
+    ensures root { IsTrue result → parent.now.node ≡ 0 }
+    ensures sole { IsTrue result → (m : ℕ) × (only_child_of (N.body parent.now.body) ≡ Some m) }
     ensures none { result ≡ false → parent.now.node ≡ 0 → only_child_of (N.body parent.now.body) ≡ None }
 {
     if parent.node != 0 {

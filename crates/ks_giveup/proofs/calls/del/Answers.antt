@@ -1,4 +1,4 @@
-use Rattle.std.proofs.Common.{◌≡◌, ◌≤◌, ℕ, length, ap, arith, sym, subst}
+use Rattle.std.proofs.Common.{◌≡◌, ◌≤◌, ℕ, length, ap, sym, subst, arith}
 use Rattle.ks_history.specs.declared.Op.{Op}
 use Rattle.ks_history.specs.declared.Op.TheVariants.{Del}
 use Rattle.ks_history.specs.Alone.{ActsAlone, alone_then}
@@ -10,11 +10,9 @@ use Rattle.ks_arena.specs.Clauses.{seen_of}
 use Rattle.ks_giveup.proofs.Way.{ends_goes}
 use Rattle.ks_giveup.proofs.calls.del.Goals as goal
 
-pub del_alone-requires-clause-way : goal.del_alone-requires-clause-way
-del_alone-requires-clause-way g c = let x = c.find-held.ensures.ends in record { alone = x.alone; live = x.live; matches = x.matches; inside = x.inside }
-
-pub del_alone-requires-clause-ends : goal.del_alone-requires-clause-ends
-del_alone-requires-clause-ends g c = c.find-held.ensures.ends.here
+pub returns-clause-goes : goal.returns-clause-goes
+returns-clause-goes g c = let e = c.find-held.ensures in
+    ends_goes c.args.pass.now.caller c.find-held.new.pass.caller c.args.place (Del c.args.place) (seen_of c.args.pass.now) (seen_of c.find-held.new.pass) (seen_of c.del_alone.new.pass) e.caller (omega (arith, ap length e.ends.alone)) e.goes c.del_alone.ensures.done
 
 pub returns-clause-done : goal.returns-clause-done
 returns-clause-done g c = let s = seen_of c.args.pass.now in let h = seen_of c.find-held.new.pass in let k = seen_of c.del_alone.new.pass in let op : Op = Del c.args.place in let e = c.find-held.ensures in let x = c.del_alone.result in
@@ -26,7 +24,3 @@ returns-clause-tidy g c = λ removed alone. let me : ℕ = c.args.pass.now.calle
     let under = c.find-held.ensures.under (Del c.args.place) in let up : s ⊑ h = record { rest = under.rest; is = under.is } in
     let then : ActsAlone me h k = alone_then me s h k up c.del_alone.ensures.begins alone in
     c.del_alone.ensures.tidy removed (subst (λ (z : ℕ). ActsAlone z h k) (sym c.find-held.ensures.caller) then)
-
-pub returns-clause-goes : goal.returns-clause-goes
-returns-clause-goes g c = let e = c.find-held.ensures in
-    ends_goes c.args.pass.now.caller c.find-held.new.pass.caller c.args.place (Del c.args.place) (seen_of c.args.pass.now) (seen_of c.find-held.new.pass) (seen_of c.del_alone.new.pass) e.caller (omega (arith, ap length e.ends.alone)) e.goes c.del_alone.ensures.done

@@ -20,20 +20,29 @@ use Rattle.ks_tidy.proofs.deletes.del_alone.Goals as goal
 use Rattle.ks_tidy.proofs.deletes.del_alone.Goals.{After-give}
 
 pub delete-answer-requires-clause-holds : goal.delete-answer-requires-clause-holds
-delete-answer-requires-clause-holds g c = subst (λ (z : List ℕ). Has z c.args.held.node) (sym c.requires.way.alone) (inl refl)
+delete-answer-requires-clause-holds g c = subst (λ (z : List ℕ). Has z c.args.held.node) (sym c.requires.ends.alone) (inl refl)
 
 pub delete-answer-requires-clause-few : goal.delete-answer-requires-clause-few
-delete-answer-requires-clause-few g c = omega (arith, ap length c.requires.way.alone)
+delete-answer-requires-clause-few g c = omega (arith, ap length c.requires.ends.alone)
+
+pub delete-answer-requires-clause-body : goal.delete-answer-requires-clause-body
+delete-answer-requires-clause-body g c = (c.requires.ends.live, c.requires.ends.matches)
+
+pub delete-answer-requires-clause-inside : goal.delete-answer-requires-clause-inside
+delete-answer-requires-clause-inside g c = c.requires.ends.inside
+
+pub delete-answer-requires-clause-ends : goal.delete-answer-requires-clause-ends
+delete-answer-requires-clause-ends g c = c.requires.ends.here
 
 pub give-requires-clause-holds : goal.give-requires-clause-holds
-give-requires-clause-holds g c κs within = let e = c.delete-answer.ensures in subst (λ (z : List ℕ). Has z c.delete-answer.new.held.node) (sym (e.hand ∙ c.requires.way.alone)) (inl (sym e.node.0))
+give-requires-clause-holds g c κs within = let e = c.delete-answer.ensures in subst (λ (z : List ℕ). Has z c.delete-answer.new.held.node) (sym (e.hand ∙ c.requires.ends.alone)) (inl (sym e.node.0))
 
 -- the caller after the Call, and its hand
 now : (g : Over) (c : After-give g) → c.give.new.pass.caller ≡ c.args.pass.now.caller
 now g c = c.give.ensures.caller ∙ c.delete-answer.ensures.caller
 
 one : (g : Over) (c : After-give g) → hand c.delete-answer.new.pass.caller (seen_of c.delete-answer.new.pass) ≡ c.delete-answer.new.held.node ∷ []
-one g c = c.delete-answer.ensures.hand ∙ c.requires.way.alone ∙ ap (λ (z : ℕ). z ∷ []) (sym c.delete-answer.ensures.node.0)
+one g c = c.delete-answer.ensures.hand ∙ c.requires.ends.alone ∙ ap (λ (z : ℕ). z ∷ []) (sym c.delete-answer.ensures.node.0)
 
 none : (g : Over) (c : After-give g) → hand c.give.new.pass.caller (seen_of c.give.new.pass) ≡ []
 none g c = let k = seen_of c.give.new.pass in ap (λ (z : ℕ). hand z k) c.give.ensures.caller ∙ gave_last c.delete-answer.new.pass.caller c.delete-answer.new.held.node (seen_of c.delete-answer.new.pass) k (one g c) (ap (λ (z : ℕ). hand z k) (sym c.give.ensures.caller) ∙ c.give.ensures.hand)
