@@ -11,6 +11,9 @@
 mod calls;
 mod descent;
 mod technique;
+mod tries;
+mod try_descent;
 
 pub use calls::{add, del, get, put, swap};
 pub use technique::GiveUp;
+pub use tries::{try_del, try_get, try_swap};
