@@ -11,7 +11,10 @@ use ks_arena::{Arena, Held, Pass};
 use ks_flow::Tree;
 use ks_gate::{Gate, Point};
 use ks_node::{Next, Unlinked};
-use ks_shape::{Full, Numbered, Ruled, Template, add_here, del_here, get_here, has_room, put_here, swap_here, take_root, tree_end_law};
+use ks_shape::{
+    Full, Numbered, Ruled, Template, add_here, del_here, get_here, has_room, put_here, swap_here,
+    take_root, tree_end_law,
+};
 use std::sync::Wait;
 
 /// Makes all calls at the root.
