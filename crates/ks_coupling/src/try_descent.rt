@@ -1,20 +1,18 @@
 //! The way from the root to the node where a search ends, by takes that wait for nobody.
-ghost use Rattle.std.specs.Prelude.{◌≡◌, ℕ, suc, List};
-ghost use Rattle.ks_history.specs.declared.Event.{Event as Happening};
+ghost use Rattle.std.specs.Prelude.{◌≡◌};
 ghost use Rattle.ks_history.specs.Done.{coupling};
 ghost use Rattle.ks_node.specs.declared.start.Next.TheVariants.{Go};
 ghost use Rattle.ks_node.specs.Body.{next_at};
-ghost use Rattle.ks_arena.specs.Clauses.{seen_of};
 ghost use Rattle.ks_arena.specs.Of.{IsPassOf, IsEmptyPassOf};
 ghost use Rattle.ks_shape.specs.Of.{IsUnderway, StaysUnderway, IsOnWayOf};
-ghost use Rattle.ks_try.specs.Of.{CameDownTo, StandsOrLeft, CameToEnd};
+ghost use Rattle.ks_try.specs.Of.{StandsAtRoot, GoesDownFrom, CameToEnd};
 
 use ks_arena::laws::{root_stays_law, sound_law};
 use ks_arena::{Arena, Held, Pass, Taken, root_law};
 use ks_flow::Tree;
 use ks_gate::{Gate, Point};
 use ks_node::{Next, Unlinked};
-use ks_shape::Later;
+use ks_shape::{Later, give_last, tree_end_law};
 use ks_try::{child_law, turn_back};
 
 /// Tries to take the root.
@@ -27,7 +25,7 @@ fn try_enter<N: Unlinked, G: Gate>(
     requires pass { IsEmptyPassOf arena.now pass.old }
     ensures pass { IsPassOf arena.now pass.new }
     ensures caller { pass.new.caller ≡ pass.old.caller }
-    ensures came { StandsOrLeft arena.now coupling pass.old.caller place (seen_of pass.old) pass.new 0 result }
+    ensures came { StandsAtRoot arena.now coupling place pass.old pass.new result }
     ensures under { IsUnderway coupling pass.old pass.new }
 {
     root_stays_law::<Tree>();
@@ -57,23 +55,21 @@ fn try_go_on<N: Unlinked, G: Gate>(
     requires goes { next_at (N.body held.body) place ≡ Go child }
     ensures pass { IsPassOf arena.now pass.new }
     ensures caller { pass.new.caller ≡ pass.old.caller }
-    ensures came { (start : List Happening) (steps : ℕ) → CameDownTo arena.now pass.old.caller start pass.old steps held →
-        StandsOrLeft arena.now coupling pass.old.caller place start pass.new (suc steps) result }
+    ensures came { GoesDownFrom arena.now coupling place pass.old pass.new held result }
     ensures under { StaysUnderway coupling pass.old pass.new }
 {
     sound_law::<Tree>();
     child_law(arena, pass, place, &held, child);
-    let node = held.node;
     match arena.try_take(pass, child) {
         Taken::Held(below) => {
             gate.at(pass.caller(), Point::Taken(child));
+            let node = held.node;
             arena.give(pass, held);
             gate.at(pass.caller(), Point::Given(node));
             Ok(below)
         }
         Taken::Busy { holder } => {
-            arena.give(pass, held);
-            gate.at(pass.caller(), Point::Given(node));
+            give_last(arena, pass, gate, held);
             Err(Later::Busy {
                 node: child,
                 holder,
@@ -102,7 +98,10 @@ pub(crate) fn try_find<N: Unlinked, G: Gate>(
     };
     for _steps in 0..arena.nodes() - 1 {
         match held.body.next(place) {
-            Next::Here => return Ok(held),
+            Next::Here => {
+                tree_end_law(arena, pass, &held, place);
+                return Ok(held);
+            }
             Next::Go(child) => match try_go_on(arena, pass, gate, place, held, child) {
                 Ok(below) => held = below,
                 Err(later) => return Err(later),
@@ -110,7 +109,10 @@ pub(crate) fn try_find<N: Unlinked, G: Gate>(
         }
     }
     match held.body.next(place) {
-        Next::Here => Ok(held),
+        Next::Here => {
+            tree_end_law(arena, pass, &held, place);
+            Ok(held)
+        }
         Next::Go(child) => {
             turn_back(arena, pass, gate, place, held, child);
             Err(Later::Far)

@@ -1,5 +1,5 @@
 -- Nodes on the way of a search by giving up that waits for nobody, which it does not hold yet.
-use Rattle.std.proofs.Common.{ℕ, ◌≡◌, List, [], ◌∷◌, ◌++◌, subst}
+use Rattle.std.proofs.Common.{ℕ, ◌≡◌, ◌≤◌, List, [], ◌∷◌, ◌++◌, subst}
 use Rattle.std.specs.Prelude.{Result, Ok, Err}
 use Rattle.ks_keysets.specs.Keyset.{InInset}
 use Rattle.ks_node.specs.declared.node.Node.{Ghosts as NodeGhosts}
@@ -16,7 +16,7 @@ use Rattle.ks_history.specs.Begins.{begins_both}
 use Rattle.ks_history.specs.Beside.{OwnSpare, AreBeside, spare_both, moved_due}
 use Rattle.ks_history.specs.Done.{give_up}
 use Rattle.ks_history.specs.Due.{IsOnWay as IsNextOnWay, MovedDue}
-use Rattle.ks_node.specs.Body.{Body}
+use Rattle.ks_node.specs.Body.{Body, first_of, last_of}
 use Rattle.ks_arena.specs.declared.arena.Arena.{Arena}
 use Rattle.ks_arena.specs.declared.held.Pass.{Pass}
 use Rattle.ks_arena.specs.declared.held.Held.{Held as Hand}
@@ -25,6 +25,10 @@ use Rattle.ks_arena.specs.Clauses.{seen_of}
 use Rattle.ks_shape.specs.declared.answers.Later.{Later}
 use Rattle.ks_shape.specs.OnWay.{IsOnWay}
 use Rattle.ks_try.specs.Of.{IsCauseAt}
+
+-- the place lies within the range of the body
+abbrev pub IsWithin : Body → ℕ → Type 0
+IsWithin b place = (first_of b.range ≤ place) × (place ≤ last_of b.range)
 
 -- at some moment since s0 node j was on the way of the place, which was in its inset, and since then c has made no Shape
 -- of it
@@ -58,10 +62,7 @@ Visited sort shows n c place s0 h k j (Ok x) = IsOnWay sort shows c place k x ×
 Visited sort shows n c place s0 h k j (Err later) = (hand c k ≡ []) × IsCauseAt give_up n c place s0 k later
 
 module _ {N D P : Type 0} {n : NodeGhosts N P} {q : PlacingGhosts P} {d : DisciplineGhosts D} where
-  -- at some moment since the start node j was on the way of the place, and the caller has made no Shape of it since
-  abbrev pub IsSought : Arena N D P n q d → ℕ → List Event → Pass N D → ℕ → Type 0
-  IsSought a place start p j = WasOnWay p.caller place start (seen_of p) j
-
-  -- what a visit of the node between p and p' came to, in a search that began at the start
-  abbrev pub HasVisited : Arena N D P n q d → ℕ → List Event → Pass N D → Pass N D → ℕ → Result (Hand N) Later → Type 0
-  HasVisited a place start p p' j result = Visited (sort_of n.layout n.ranged) n.body a.nodes p.caller place start (seen_of p) (seen_of p') j result
+  -- a search for the place which the caller began at some moment, since when node j was on its way, has visited the node
+  -- between p and p'
+  abbrev pub ComesTo : Arena N D P n q d → ℕ → Pass N D → Pass N D → ℕ → Result (Hand N) Later → Type 0
+  ComesTo a place p p' j result = (start : List Event) → WasOnWay p.caller place start (seen_of p) j → Visited (sort_of n.layout n.ranged) n.body a.nodes p.caller place start (seen_of p) (seen_of p') j result

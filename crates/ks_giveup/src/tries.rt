@@ -6,14 +6,11 @@ ghost use Rattle.ks_arena.specs.Of.{IsEmptyPassOf};
 ghost use Rattle.ks_shape.specs.Of.{TriedOf};
 
 use crate::try_descent::try_find;
-use ks_arena::laws::sound_law;
 use ks_arena::{Arena, Pass};
 use ks_flow::Tree;
 use ks_gate::Gate;
-use ks_history::Op;
-use ks_node::{Ranged, Unlinked, node_law};
-use ks_put::swap_here;
-use ks_shape::{Later, Numbered, conclude, reply_of};
+use ks_node::{Ranged, Unlinked};
+use ks_shape::{Later, Numbered, del_here, get_here, swap_here};
 
 /// Answers the value at a place, and the number of the call. It holds one node at a time, and waits for none.
 ///
@@ -33,15 +30,10 @@ pub fn try_get<N: Ranged + Unlinked, G: Gate>(
     ensures caller { pass.new.caller ≡ pass.old.caller }
     ensures tried { TriedOf arena.now give_up (Get place) pass.old pass.new result }
 {
-    let held = match try_find(arena, pass, gate, place) {
-        Ok(held) => held,
-        Err(later) => return Err(later),
-    };
-    let found = held.body.get(place);
-    let reply = reply_of(found);
-    arena.get_law(pass, &held, place, &reply);
-    let number = conclude(arena, pass, gate, held, Op::Get(place), reply);
-    Ok(Numbered { number, found })
+    match try_find(arena, pass, gate, place) {
+        Ok(held) => Ok(get_here(arena, pass, gate, place, held)),
+        Err(later) => Err(later),
+    }
 }
 
 /// Puts `new` at a place where `old` stands; answers the value that stood there, and the number of the call. It holds one
@@ -86,14 +78,8 @@ pub fn try_del<N: Ranged + Unlinked, G: Gate>(
     ensures caller { pass.new.caller ≡ pass.old.caller }
     ensures tried { TriedOf arena.now give_up (Del place) pass.old pass.new result }
 {
-    let mut held = match try_find(arena, pass, gate, place) {
-        Ok(held) => held,
-        Err(later) => return Err(later),
-    };
-    sound_law::<Tree>();
-    node_law(&held.body);
-    arena.del_law(pass, &held, place);
-    let found = held.body.del(place);
-    let number = conclude(arena, pass, gate, held, Op::Del(place), reply_of(found));
-    Ok(Numbered { number, found })
+    match try_find(arena, pass, gate, place) {
+        Ok(held) => Ok(del_here(arena, pass, gate, place, held)),
+        Err(later) => Err(later),
+    }
 }

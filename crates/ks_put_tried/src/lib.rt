@@ -1,4 +1,4 @@
-//! Tests of puts and dels by pairs.
+//! Tests of puts and dels by pairs, and of calls that wait for nobody.
 #![tactic(auto)]
 
 #[cfg(test)]
@@ -7,3 +7,5 @@ mod dels;
 mod puts;
 #[cfg(test)]
 mod tests;
+#[cfg(test)]
+mod tries;

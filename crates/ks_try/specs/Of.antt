@@ -1,5 +1,5 @@
 -- What descents that wait for nobody ask and tell, said of an arena and of a pass before and after.
-use Rattle.std.specs.Prelude.{ℕ, ◌≡◌, suc, List, [], Result, Ok, Err}
+use Rattle.std.specs.Prelude.{ℕ, ◌≡◌, ◌≤◌, suc, List, [], Result, Ok, Err}
 use Rattle.ks_node.specs.declared.node.Node.{Ghosts as NodeGhosts}
 use Rattle.ks_node.below.ks_places.specs.declared.Placing.{Ghosts as PlacingGhosts}
 use Rattle.ks_flow.specs.declared.discipline.Discipline.{Ghosts as DisciplineGhosts}
@@ -9,8 +9,7 @@ use Rattle.ks_history.specs.Map.{Touches}
 use Rattle.ks_history.specs.Trace.{hand}
 use Rattle.ks_history.specs.Done.{Template}
 use Rattle.ks_history.specs.Due.{FarDue}
-use Rattle.ks_node.specs.declared.start.Next.TheVariants.{Here}
-use Rattle.ks_node.specs.Body.{Body, next_at}
+use Rattle.ks_node.specs.Body.{Body}
 use Rattle.ks_arena.specs.declared.arena.Arena.{Arena}
 use Rattle.ks_arena.specs.declared.held.Pass.{Pass}
 use Rattle.ks_arena.specs.declared.held.Held.{Held as Hand}
@@ -18,6 +17,7 @@ use Rattle.ks_arena.specs.Sound.{Sort, sort_of}
 use Rattle.ks_arena.specs.Clauses.{seen_of}
 use Rattle.ks_shape.specs.declared.answers.Later.{Later}
 use Rattle.ks_shape.specs.OnWay.{IsOnWay}
+use Rattle.ks_shape.specs.SearchEnd.{IsEnd}
 use Rattle.ks_shape.specs.Tries.{IsCause}
 use Rattle.ks_try.specs.Down.{IsDown}
 use Rattle.ks_try.specs.Next.{LeadsOnTo}
@@ -34,7 +34,7 @@ IsAt sort shows template n c place s0 h steps (Err later) = (hand c h ≡ []) ×
 
 -- c, whose search began at s0, holds the node alone at which it ends; or it holds nothing, and what put it off is so
 abbrev pub CameTo : {N : Type 0} → Sort → (N → Body) → Template → ℕ → ℕ → ℕ → List Event → List Event → Result (Hand N) Later → Type 0
-CameTo sort shows template n c place s0 h (Ok x) = IsOnWay sort shows c place h x × (next_at (shows x.body) place ≡ Here)
+CameTo sort shows template n c place s0 h (Ok x) = IsEnd sort shows c place h x
 CameTo sort shows template n c place s0 h (Err later) = (hand c h ≡ []) × IsCauseAt template n c place s0 h later
 
 module _ {N D P : Type 0} {n : NodeGhosts N P} {q : PlacingGhosts P} {d : DisciplineGhosts D} where
@@ -46,13 +46,18 @@ module _ {N D P : Type 0} {n : NodeGhosts N P} {q : PlacingGhosts P} {d : Discip
   abbrev pub CameDownTo : Arena N D P n q d → ℕ → List Event → Pass N D → ℕ → Hand N → Type 0
   CameDownTo a c start p steps x = IsDown a.nodes c start (seen_of p) (suc steps) 1 steps x.node
 
-  -- so it is, and the node is on the way of the place; or c holds nothing, and what put it off is so
-  abbrev pub StandsOrLeft : Arena N D P n q d → Template → ℕ → ℕ → List Event → Pass N D → ℕ → Result (Hand N) Later → Type 0
-  StandsOrLeft a template c place start p steps result = IsAt (sort_of n.layout n.ranged) n.body template a.nodes c place start (seen_of p) steps result
+  -- the search for the place that began at p, and took the root, stands at it at p'; or the caller holds nothing, and what put
+  -- it off is so
+  abbrev pub StandsAtRoot : Arena N D P n q d → Template → ℕ → Pass N D → Pass N D → Result (Hand N) Later → Type 0
+  StandsAtRoot a template place p p' result = IsAt (sort_of n.layout n.ranged) n.body template a.nodes p.caller place (seen_of p) (seen_of p') 0 result
 
-  -- c took as many nodes since the start as there are, while another changed some
-  abbrev pub IsFarOf : Arena N D P n q d → ℕ → List Event → Pass N D → Type 0
-  IsFarOf a c start p = FarDue a.nodes c start (seen_of p)
+  -- a search for the place that came down to the node x at p stands a step deeper at p'; or so
+  abbrev pub GoesDownFrom : Arena N D P n q d → Template → ℕ → Pass N D → Pass N D → Hand N → Result (Hand N) Later → Type 0
+  GoesDownFrom a template place p p' x result = (start : List Event) (steps : ℕ) → CameDownTo a p.caller start p steps x → IsAt (sort_of n.layout n.ranged) n.body template a.nodes p.caller place start (seen_of p') (suc steps) result
+
+  -- if a call came down to the node x at p by as many takes as there are nodes, another has changed some since it began
+  abbrev pub IsFarFrom : Arena N D P n q d → Pass N D → Pass N D → Hand N → Type 0
+  IsFarFrom a p p' x = (start : List Event) (steps : ℕ) → a.nodes ≤ suc steps → CameDownTo a p.caller start p steps x → FarDue a.nodes p.caller start (seen_of p')
 
   -- what a search between p and p' came to
   abbrev pub CameToEnd : Arena N D P n q d → Template → ℕ → Pass N D → Pass N D → Result (Hand N) Later → Type 0
