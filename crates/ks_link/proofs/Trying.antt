@@ -1,11 +1,10 @@
 -- How a search along links that waits for nobody goes on, how far it can go, and what puts it off.
-use Rattle.std.proofs.Common.{◌≡◌, ◌≢◌, ℕ, ◌+◌, ◌-◌, ◌*◌, ◌<◌, ◌≤◌, inl, inr, List, sym, ap, ◌∙◌, arith}
+use Rattle.std.proofs.Common.{◌≡◌, ◌≢◌, ℕ, ◌+◌, ◌-◌, ◌*◌, ◌<◌, ◌≤◌, inl, inr, List, ap, arith}
 use Rattle.std.specs.Prelude.{◌⊎◌, Some}
 use Rattle.ks_keysets.specs.declared.Frame.{Frame}
 use Rattle.ks_keysets.specs.declared.Record.{Record}
-use Rattle.ks_keysets.specs.declared.Span.{Span}
-use Rattle.ks_keysets.specs.Record.{LeadsTo, top}
-use Rattle.ks_keysets.specs.Keyset.{record_at, Good}
+use Rattle.ks_keysets.specs.Record.{LeadsTo}
+use Rattle.ks_keysets.specs.Keyset.{record_at}
 use Rattle.ks_history.specs.declared.Event.{Event}
 use Rattle.ks_history.specs.declared.Op.{Op}
 use Rattle.ks_history.specs.Begins.{begins_self}
@@ -13,22 +12,12 @@ use Rattle.ks_history.specs.Done.{link_move}
 use Rattle.ks_history.specs.Due.{IsOnWay, BusyDue}
 use Rattle.ks_history.specs.Dues.{sometime_wider}
 use Rattle.ks_history.specs.Map.{Touches}
-use Rattle.ks_history.specs.Trace.{◌⊑◌, held, graph_after, turn_after, frame_after}
-use Rattle.ks_flow.specs.Link.{Link, IsRange}
-use Rattle.ks_node.specs.declared.start.Next.TheVariants.{Here}
-use Rattle.ks_node.specs.Body.{Body, content_of, first_of, frame_of, next_at}
-use Rattle.ks_node.specs.Edges.{record_of}
-use Rattle.ks_node.specs.Sound.{Sound as InOrder}
-use Rattle.ks_arena.specs.declared.held.Held.{Held as Hand}
-use Rattle.ks_arena.specs.Sound.{Sort, blank_of}
+use Rattle.ks_history.specs.Trace.{◌⊑◌, held, graph_after, turn_after}
+use Rattle.ks_node.specs.Body.{Body, frame_of}
 use Rattle.ks_shape.specs.declared.answers.Later.{Later}
 use Rattle.ks_shape.specs.declared.answers.Later.TheVariants.{Busy, Moved, Far}
-use Rattle.ks_shape.specs.SearchEnd.{IsEnd}
-use Rattle.ks_shape.specs.Single.{shown, record_is}
 use Rattle.ks_shape.specs.Tries.{IsCause}
-use Rattle.ks_link.specs.Descent.{IsOnWay as IsWay}
 use Rattle.ks_link.specs.Tries.{IsOnFrom}
-use Rattle.ks_link.proofs.Ways.{ends_inside, ends_within}
 
 -- a step on in the graph is one between bodies, which others leave as to level and low
 pub on_from : (f k : ℕ → Frame) (n m y : ℕ) (a b : Body) → f n ≡ frame_of a → k y ≡ frame_of b → y ≡ m → (k m).level ≡ (f m).level → (k m).low ≡ (f m).low → ((f m).level < (f n).level) ⊎ (((f m).level ≡ (f n).level) × ((f n).low < (f m).low)) → IsOnFrom a b

@@ -1,6 +1,5 @@
-use Rattle.std.proofs.Common.{◌≡◌, ℕ, List, [], ◌∷◌, inl, inr, sym, refl, ap, ◌∙◌, length, subst, arith}
-use Rattle.std.specs.Prelude.{◌⊎◌, IsTrue, Option, Some, None}
-use Rattle.ks_history.specs.declared.Event.{Event}
+use Rattle.std.proofs.Common.{ℕ, [], ◌∷◌, inl, inr, sym, refl, ap, ◌∙◌, length, subst, arith}
+use Rattle.std.specs.Prelude.{IsTrue, Option}
 use Rattle.ks_history.specs.Alone.{ActsAlone, alone_first, alone_then}
 use Rattle.ks_history.specs.Stays.{lawful_in_turn}
 use Rattle.ks_history.specs.Trace.{◌⊑◌}

@@ -1,12 +1,10 @@
-use Rattle.std.proofs.Common.{◌≡◌, ℕ, false, inl, inr, ap, length, subst, arith}
+use Rattle.std.proofs.Common.{ℕ, inl, inr, ap, length, arith}
 use Rattle.std.specs.Prelude.{IsTrue}
-use Rattle.ks_history.specs.Alone.{ActsAlone}
-use Rattle.ks_history.specs.Begins.{begins_both}
 use Rattle.ks_history.specs.Done.{link_move}
 use Rattle.ks_history.specs.Stays.{lawful_in_turn}
-use Rattle.ks_history.specs.Stretch.{stretch_begins, stretch_here}
+use Rattle.ks_history.specs.Stretch.{stretch_here}
 use Rattle.ks_history.specs.Trace.{graph_after, frame_after}
-use Rattle.ks_node.specs.Body.{Body, is_branch}
+use Rattle.ks_node.specs.Body.{is_branch}
 use Rattle.ks_arena.specs.Sound.{sort_of, blank_of}
 use Rattle.ks_arena.specs.Clauses.{seen_of}
 use Rattle.ks_shape.specs.Makes.{never_refused}

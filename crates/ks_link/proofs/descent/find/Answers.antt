@@ -1,5 +1,4 @@
 use Rattle.std.proofs.Common.{ℕ, sym, ◌∙◌, ap, length, subst, arith}
-use Rattle.ks_history.specs.declared.Op.{Op}
 use Rattle.ks_history.specs.declared.Op.TheVariants.{Put}
 use Rattle.ks_history.specs.Done.{link_move}
 use Rattle.ks_history.specs.Trace.{◌⊑◌}
