@@ -11,7 +11,10 @@ mod calls;
 mod descent;
 mod merging;
 mod technique;
+mod tries;
+mod try_descent;
 
 pub use calls::{add, del, get, put, swap};
 pub use merging::compact;
 pub use technique::Coupling;
+pub use tries::{try_del, try_get, try_swap};

@@ -1,2 +1,3 @@
 pub mod Descent
 pub mod Goes
+pub mod Tries

@@ -45,6 +45,18 @@ module _ (g : ℕ → NodeState) (f : ℕ → Frame) (facts : Link g f) where
           omega (arith, at, ap (λ (i : ℕ). (f i).level) here))
     ]
 
+    -- an edge leads a level down, or further right on its level
+    pub step_on : ((f m).level < (f n).level) ⊎ (((f m).level ≡ (f n).level) × ((f n).low < (f m).low))
+    step_on = elim edge [
+      | inl e ↦ (
+          let level : (f m).level ≡ (f n).level = subst (λ (i : ℕ). (f i).level ≡ (f n).level) to.4.1 e.level in
+          let low : (f m).low ≡ to.1.span.low = subst (λ (i : ℕ). (f i).low ≡ to.1.span.low) to.4.1 e.low in
+          inr (level, omega (arith, low, e.begins, range.1.low, range.1.filled)))
+      | inr e ↦ (
+          let at : suc (f m).level ≡ (f n).level = subst (λ (i : ℕ). suc (f i).level ≡ (f n).level) to.4.1 e.level in
+          inl (omega (arith, at)))
+    ]
+
     -- an edge of a node above a level leads to one above it, if the place is past the range of a node just above it
     pub nearer : (l : ℕ) → l < (f n).level → ((s : Span) → IsRange (f n) s → (f n).level ≡ l + 1 → s.last < p) → l < (f m).level
     nearer l above away = elim edge [

@@ -3,3 +3,4 @@ pub mod Parts
 pub mod Puts
 pub mod Leads
 pub mod Of
+pub mod Tries

@@ -3,6 +3,10 @@ use Rattle.std.specs.Prelude.{ℕ, ◌≡◌, ◌≢◌, List, [], ◌∷◌, Op
 use Rattle.ks_node.specs.declared.node.Node.{Ghosts as NodeGhosts}
 use Rattle.ks_node.below.ks_places.specs.declared.Placing.{Ghosts as PlacingGhosts}
 use Rattle.ks_flow.specs.declared.discipline.Discipline.{Ghosts as DisciplineGhosts}
+use Rattle.ks_history.specs.declared.Event.{Event}
+use Rattle.ks_history.specs.declared.Op.{Op}
+use Rattle.ks_history.specs.Done.{link_move}
+use Rattle.ks_history.specs.Underway.{Underway}
 use Rattle.ks_arena.specs.declared.arena.Arena.{Arena}
 use Rattle.ks_arena.specs.declared.held.Pass.{Pass}
 use Rattle.ks_arena.specs.declared.held.Held.{Held as Hand}
@@ -17,6 +21,11 @@ use Rattle.ks_link.specs.Descent.{IsOnWay}
 use Rattle.ks_link.specs.Leads.{LedBut, AreLed, PartsLed, Waits}
 use Rattle.ks_link.specs.Parts.{IsAlone, IsSplitOff, IsParted}
 use Rattle.ks_link.specs.Puts.{MadeRoom, FoundRoom}
+use Rattle.ks_link.specs.Tries.{Enters, GoesOn, Finds, ComesToRoom, IsHeldAbove}
+use Rattle.ks_shape.specs.declared.answers.Later.{Later}
+use Rattle.ks_shape.specs.declared.answers.Numbered.{Numbered}
+use Rattle.ks_shape.specs.declared.answers.PutLater.{PutLater}
+use Rattle.ks_shape.specs.Tries.{TriedPut}
 
 module _ {N D : Type 0} where
   -- the pass holds these two nodes, the second taken last; these three
@@ -73,3 +82,25 @@ module _ {N D P : Type 0} {n : NodeGhosts N P} {q : PlacingGhosts P} {d : Discip
 
   abbrev pub LeadsEach : Arena N D P n q d → List Waiting → Pass N D → Pass N D → Type 0
   LeadsEach a waiting p p' = ((i : ℕ) → Waits waiting i → IsLedTo a p' i) × LeadsAllBut a [] p p'
+
+  -- a search that waits for nobody holds the root; it has gone on from node x to node i; it has ended. Or it was put off between p and p'
+  abbrev pub EntersOr : Arena N D P n q d → ℕ → Pass N D → Pass N D → Result (Hand N) Later → Type 0
+  EntersOr a place p p' found = Enters (sort_of n.layout n.ranged) n.body a.nodes p.caller place (seen_of p) (seen_of p') found
+
+  abbrev pub GoesOnOr : Arena N D P n q d → ℕ → Pass N D → Pass N D → Hand N → ℕ → Result (Hand N) Later → Type 0
+  GoesOnOr a place p p' x i found = GoesOn (sort_of n.layout n.ranged) n.body (n.body x.body) i a.nodes p.caller place (seen_of p) (seen_of p') found
+
+  abbrev pub FindsOr : Arena N D P n q d → ℕ → Pass N D → Pass N D → Result (Hand N) Later → Type 0
+  FindsOr a place p p' found = Finds (sort_of n.layout n.ranged) n.body a.nodes p.caller place (seen_of p) (seen_of p') found
+
+  -- the search has come to room for the place since p, or no node was found free
+  abbrev pub HasComeToRoom : Arena N D P n q d → ℕ → Pass N D → Pass N D → Result (Hand N) (Hand N) → Type 0
+  HasComeToRoom a place p p' found = ComesToRoom (sort_of n.layout n.ranged) n.body a.nodes p.caller place (seen_of p) (seen_of p') found
+
+  -- the node one level above what was split off, whose range reaches the cut, is held alone; or nothing is held
+  abbrev pub HoldsAbove : Arena N D P n q d → Waiting → Pass N D → Option (Hand N) → Type 0
+  HoldsAbove a w p found = IsHeldAbove (sort_of n.layout n.ranged) n.body p.caller w (seen_of p) found
+
+  -- a put or an add that is under way at p, since whatever moment, is tried at p'
+  abbrev pub FinishesTry : Arena N D P n q d → Op → Pass N D → Pass N D → Result Numbered PutLater → Type 0
+  FinishesTry a op p p' answer = (start : List Event) → Underway link_move p.caller op start (seen_of p) → TriedPut n.layout link_move a.nodes p.caller op start (seen_of p') answer

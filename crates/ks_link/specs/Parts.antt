@@ -1,5 +1,5 @@
 -- What splits and the growing of the root leave in hand.
-use Rattle.std.specs.Prelude.{ℕ, ◌≡◌, ◌≢◌, ◌≤◌, true, List, [], ◌∷◌, Result, Ok, Err}
+use Rattle.std.specs.Prelude.{ℕ, ◌≡◌, ◌≢◌, ◌<◌, ◌≤◌, ◌-◌, true, List, [], ◌∷◌, Result, Ok, Err}
 use Rattle.std.specs.Option.{ForSome}
 use Rattle.ks_keysets.specs.Keyset.{IsLive as IsLiveIn}
 use Rattle.ks_history.specs.declared.Event.{Event}
@@ -38,3 +38,17 @@ module _ {N : Type 0} (sort : Sort) (shows : N → Body) where
       (y ≡ x)
       × IsAlone c k x
       × NoneFree sort.layout n c place h k
+
+-- how far a node reaches past its low
+abbrev pub reach_of : Body → ℕ
+reach_of b = last_of b.range - b.low
+
+module _ {N : Type 0} (shows : N → Body) where
+  -- the half that is kept reaches less far than the body did; and so does the node that is handed back
+  abbrev pub HalfReachesLess : Body → Result (Parted N) (Hand N) → Type 0
+  HalfReachesLess b (Ok p) = reach_of (shows p.half.body) < reach_of b
+  HalfReachesLess b (Err y) = Unit {0}
+
+  abbrev pub ReachesLess : Body → Result (Hand N) (Hand N) → Type 0
+  ReachesLess b (Ok x) = reach_of (shows x.body) < reach_of b
+  ReachesLess b (Err x) = Unit {0}

@@ -98,7 +98,7 @@ fn find_above<N: Linked, R: Wait, G: Gate>(
 
 /// Parts the node, if it is a full branch to which the edge cannot be added, and a node is free; and keeps the half in
 /// which the cut lies.
-fn ready<N: Linked, G: Gate>(
+pub(crate) fn ready<N: Linked, G: Gate>(
     arena: &Arena<N, Link>,
     pass: &mut Pass<N, Link>,
     gate: &G,
@@ -137,7 +137,7 @@ fn ready<N: Linked, G: Gate>(
 
 /// Adds an edge to what was split off to the node in hand, if it can be added. Where it can, or the node is not full and
 /// branches of its type adopt, what was split off is then led to.
-fn lead<N: Linked>(
+pub(crate) fn lead<N: Linked>(
     arena: &Arena<N, Link>,
     pass: &mut Pass<N, Link>,
     to: Waiting,

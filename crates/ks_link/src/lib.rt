@@ -12,8 +12,15 @@ mod calls;
 mod descent;
 mod parts;
 mod puts;
+mod room;
 mod template;
+mod tries;
+mod try_attaches;
+mod try_descent;
+mod try_puts;
 
 pub use calls::{del, get, swap};
 pub use puts::{add, put};
 pub use template::LinkMove;
+pub use tries::{try_del, try_get, try_swap};
+pub use try_puts::{try_add, try_put};

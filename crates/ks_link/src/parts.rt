@@ -3,6 +3,7 @@ ghost use Rattle.std.specs.Prelude.{◌≡◌, ◌≢◌, ◌<◌, ◌≤◌, �
 ghost use Rattle.ks_node.specs.Body.{content_of};
 ghost use Rattle.ks_node.specs.Room.{is_full};
 ghost use Rattle.ks_link.specs.Leads.{HalfHasRoom};
+ghost use Rattle.ks_link.specs.Parts.{HalfReachesLess};
 ghost use Rattle.ks_history.specs.Done.{link_move};
 ghost use Rattle.ks_arena.specs.Of.{WasAlone, IsPassOf};
 ghost use Rattle.ks_shape.specs.Of.{IsStretchBy, MakesNoneLive, IsLiveInHand, IsFreeInHand};
@@ -86,6 +87,7 @@ fn split<N: Linked, G: Gate>(
     ensures pass { IsPassOf arena.now pass.new }
     ensures caller { pass.new.caller ≡ pass.old.caller }
     ensures parted { HasParted arena.now place pass.old pass.new held (Ok result) }
+    ensures narrower { HalfReachesLess N.body (N.body held.body) (Ok result) }
     ensures stretch { IsStretchBy link_move pass.old pass.new }
     ensures led { WasAlone pass.old pass.new → LeadsParts arena.now pass.old pass.new (Ok result) }
     ensures room { IsTrue N.halves_have_room → HalfHasRoom N.layout N.body (Ok result) }
@@ -130,6 +132,7 @@ fn grow<N: Linked, G: Gate>(
     ensures pass { IsPassOf arena.now pass.new }
     ensures caller { pass.new.caller ≡ pass.old.caller }
     ensures parted { HasParted arena.now place pass.old pass.new root (Ok result) }
+    ensures narrower { HalfReachesLess N.body (N.body root.body) (Ok result) }
     ensures stretch { IsStretchBy link_move pass.old pass.new }
     ensures led { WasAlone pass.old pass.new → LeadsParts arena.now pass.old pass.new (Ok result) }
     ensures room { IsTrue N.halves_have_room → HalfHasRoom N.layout N.body (Ok result) }
@@ -166,6 +169,7 @@ pub(crate) fn part<N: Linked, G: Gate>(
     ensures pass { IsPassOf arena.now pass.new }
     ensures caller { pass.new.caller ≡ pass.old.caller }
     ensures parted { HasParted arena.now place pass.old pass.new held result }
+    ensures narrower { HalfReachesLess N.body (N.body held.body) result }
     ensures stretch { IsStretchBy link_move pass.old pass.new }
     ensures led { WasAlone pass.old pass.new → LeadsParts arena.now pass.old pass.new result }
     ensures room { IsTrue N.halves_have_room → HalfHasRoom N.layout N.body result }

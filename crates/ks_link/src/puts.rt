@@ -7,6 +7,7 @@ ghost use Rattle.ks_node.specs.Body.{next_at};
 ghost use Rattle.ks_node.specs.Room.{is_full};
 ghost use Rattle.ks_shape.specs.Answers.{number_in, reply_in};
 ghost use Rattle.ks_link.specs.Leads.{LeavesRoom};
+ghost use Rattle.ks_link.specs.Parts.{ReachesLess};
 ghost use Rattle.ks_link.specs.Puts.{WaitsFor};
 ghost use Rattle.ks_arena.specs.Of.{WasAlone, IsPassOf, IsEmptyPassOf};
 ghost use Rattle.ks_shape.specs.Of.{IsStretchBy, DoneOf};
@@ -36,7 +37,7 @@ fn wait_for(waiting: &mut ArrayVec<Waiting, 7>, new: Option<Waiting>)
 
 /// Parts the full node at which the search ends, and keeps the half at which it ends then. `Err`: the node is as it was,
 /// since none was found free. What is split off waits, where there is room for it.
-fn make_room<N: Linked, G: Gate>(
+pub(crate) fn make_room<N: Linked, G: Gate>(
     arena: &Arena<N, Link>,
     pass: &mut Pass<N, Link>,
     gate: &G,
@@ -52,6 +53,7 @@ fn make_room<N: Linked, G: Gate>(
     ensures pass { IsPassOf arena.now pass.new }
     ensures caller { pass.new.caller ≡ pass.old.caller }
     ensures made { HasMadeRoom arena.now place pass.old pass.new held result }
+    ensures narrower { ReachesLess N.body (N.body held.body) result }
     ensures waiting { All (λ w. WasSplitOff arena.now pass.new w) waiting.new.items }
     ensures stretch { IsStretchBy link_move pass.old pass.new }
     ensures led { waiting.old.items ≡ [] → WasAlone pass.old pass.new →

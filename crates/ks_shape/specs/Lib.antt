@@ -4,6 +4,7 @@ pub mod SearchEnd
 pub mod OnWay
 pub mod Answers
 pub mod Idle
+pub mod Tries
 pub mod Beside
 pub mod Stretches
 pub mod Claims

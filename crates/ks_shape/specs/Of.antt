@@ -1,5 +1,5 @@
 -- What calls and shapes ask and tell, said of an arena and of a pass before and after.
-use Rattle.std.specs.Prelude.{ℕ, ◌≡◌, List, [], ◌∷◌, Option}
+use Rattle.std.specs.Prelude.{ℕ, ◌≡◌, List, [], ◌∷◌, Option, Result}
 use Rattle.ks_keysets.specs.declared.Change.{Change}
 use Rattle.ks_keysets.specs.declared.NodeState.{NodeState}
 use Rattle.ks_node.specs.declared.node.Node.{Ghosts as NodeGhosts}
@@ -32,6 +32,10 @@ use Rattle.ks_shape.specs.OnWay.{IsOnWay}
 use Rattle.ks_shape.specs.Places.{HasPlacesOf}
 use Rattle.ks_shape.specs.SearchEnd.{IsEnd, HasRoom, IsCrowded}
 use Rattle.ks_shape.specs.Stretches.{Stretches}
+use Rattle.ks_shape.specs.Tries.{Tried, TriedPut}
+use Rattle.ks_shape.specs.declared.answers.Numbered.{Numbered}
+use Rattle.ks_shape.specs.declared.answers.Later.{Later}
+use Rattle.ks_shape.specs.declared.answers.PutLater.{PutLater}
 
 module _ {N D : Type 0} where
   -- from p to q the caller made no call, and took and held nodes as any operation of the technique that may hold so many does
@@ -111,6 +115,14 @@ module _ {N D P : Type 0} {n : NodeGhosts N P} {q : PlacingGhosts P} {d : Discip
   -- between p and p' the caller made one call, of this operation, with this reply and number, and gave all back
   abbrev pub DoneOf : Arena N D P n q d → Template → Op → Pass N D → Pass N D → Reply → ℕ → Type 0
   DoneOf a template op p p' reply number = Done n.layout template a.nodes p.caller op (seen_of p) (seen_of p') reply number
+
+  -- a call that waits for nobody is done between p and p', or put off, as its answer tells
+  abbrev pub TriedOf : Arena N D P n q d → Template → Op → Pass N D → Pass N D → Result Numbered Later → Type 0
+  TriedOf a template op p p' answer = Tried n.layout template a.nodes p.caller op (seen_of p) (seen_of p') answer
+
+  -- so it is with a put or an add, which may also be done with the reply Full
+  abbrev pub TriedPutOf : Arena N D P n q d → Template → Op → Pass N D → Pass N D → Result Numbered PutLater → Type 0
+  TriedPutOf a template op p p' answer = TriedPut n.layout template a.nodes p.caller op (seen_of p) (seen_of p') answer
 
   -- a call that is under way at p, by whatever technique and since whatever moment, is done at p'
   abbrev pub FinishesAny : Arena N D P n q d → Op → Pass N D → Pass N D → Reply → ℕ → Type 0

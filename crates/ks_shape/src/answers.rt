@@ -12,3 +12,25 @@ pub struct Numbered {
 pub struct Full {
     pub number: u64,
 }
+
+/// Why a call that waits for nobody was put off. It made no call of the history and changed nothing in the map, holds
+/// nothing, and has no number.
+#[derive(Clone, Copy, Debug, PartialEq, Eq)]
+pub enum Later {
+    /// The holder, another caller, held the node, which is on the way of the place.
+    Busy { node: u32, holder: u32 },
+    /// Another caller changed the node, which was on the way of the place and no longer is. It comes by giving up alone.
+    Moved { node: u32 },
+    /// The call took as many nodes as there are, while another caller changed some. It never comes along links.
+    Far,
+}
+
+/// Why a put or an add that waits for nobody did not put the value.
+#[derive(Clone, Copy, Debug, PartialEq, Eq)]
+pub enum PutLater {
+    /// It found no room for its place, and no free node: it is a call of the history, with this number modulo 2^64, that
+    /// changed nothing in the map.
+    Full { number: u64 },
+    /// It was put off: it is no call of the history.
+    Later(Later),
+}

@@ -10,8 +10,9 @@ mod link;
 mod steps;
 mod template;
 mod tree;
+mod tries;
 
-pub use answers::{Full, Numbered};
+pub use answers::{Full, Later, Numbered, PutLater};
 pub use claims::{claim_one, claim_two};
 pub use ending::{conclude, refuse, reply_of};
 pub use here::{
@@ -21,3 +22,4 @@ pub use link::{attach, grow_right, split_right};
 pub use steps::{give_last, take_root};
 pub use template::{Ruled, Shelf, Template};
 pub use tree::{absorb_own, absorb_under, collapse, grow, split_own, split_under};
+pub use tries::tries_law;

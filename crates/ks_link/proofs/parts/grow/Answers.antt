@@ -18,6 +18,8 @@ use Rattle.ks_shape.specs.Single.{is_near}
 use Rattle.ks_node.specs.Room.{is_full}
 use Rattle.ks_shape.specs.Makes.{MakesNone, makes_both, makes_with}
 use Rattle.ks_link.specs.Leads.{IsLedAfter}
+use Rattle.ks_link.specs.Parts.{reach_of}
+use Rattle.ks_link.proofs.Narrowing.{left_less, right_less}
 use Rattle.ks_link.proofs.Leading.{shape_live}
 use Rattle.ks_link.specs.Descent.{IsOnWay}
 use Rattle.ks_history.specs.Done.{link_move}
@@ -129,4 +131,13 @@ returns-clause-led g c = λ alone i live. let me : ℕ = c.args.pass.now.caller 
         ]
       ]
       | inr was ↦ inl was
+    ]
+
+-- both halves reach less far
+pub returns-clause-narrower : goal.returns-clause-narrower
+returns-clause-narrower g c = let at = (goal.at.returns-clause-narrower g c).After-node_law in let shows = g.N.Node.body in let b : Body = shows c.args.root.body in let cut : ℕ = c.cut-cut.result in
+    let splits = (c.cut-cut.ensures.good all_places (suits g at) (λ r e. let same : Some all_places ≡ Some r = e in cc)).splits in
+    elim c.keep_half-half.ensures.half [
+      | inl is ↦ subst (λ (x : Hand g.row.N.Denot). reach_of (shows x.body) < reach_of b) (sym is.0) (subst (λ (z : Body). reach_of z < reach_of b) (sym c.grow_right.ensures.left.body) (left_less b.range b.low cut (is_linked g at).ranged splits.0.0 splits.0.1))
+      | inr is ↦ subst (λ (x : Hand g.row.N.Denot). reach_of (shows x.body) < reach_of b) (sym is) (subst (λ (z : Body). reach_of z < reach_of b) (sym c.grow_right.ensures.right.body) (right_less b.range b.low cut (is_linked g at).ranged splits.0.0 splits.0.1))
     ]

@@ -135,3 +135,11 @@ returns-in-Some-claim_one-clause-led g c = λ alone. let me : ℕ = c.args.pass.
     let till : h ⊑ k = stretch_begins link_move me h k (e.stretch link_move) in let on : k ⊑ l = stretch_begins link_move c.claim_one.new.pass.caller k l c.split.ensures.stretch in
     led_then sort (waits_if c.split.result.new) h k l (c.sound_law.ensures.lasts sort n k l on c.split.ensures.pass.sound) (λ i live. inl (e.makes (alone_first me h k l till on alone) i live))
     (subst (λ (z : ℕ). ActsAlone z k l → LedBut sort (waits_if c.split.result.new) k l) e.caller c.split.ensures.led (alone_then me h k l till on alone))
+
+-- the half that is kept reaches less far
+
+pub returns-in-Some-clause-narrower : goal.returns-in-Some-clause-narrower
+returns-in-Some-clause-narrower g c = c.grow.ensures.narrower
+
+pub returns-in-Some-claim_one-clause-narrower : goal.returns-in-Some-claim_one-clause-narrower
+returns-in-Some-claim_one-clause-narrower g c = c.split.ensures.narrower

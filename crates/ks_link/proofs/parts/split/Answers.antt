@@ -1,4 +1,4 @@
-use Rattle.std.proofs.Common.{◌≡◌, ◌≤◌, ℕ, inl, inr, sym, ap, ◌∙◌, subst, length, arith}
+use Rattle.std.proofs.Common.{◌≡◌, ◌<◌, ◌≤◌, ℕ, inl, inr, sym, ap, ◌∙◌, subst, length, arith}
 use Rattle.std.specs.Prelude.{Some, None}
 use Rattle.ks_history.specs.Trace.{◌⊑◌, hand, graph_after, frame_after}
 use Rattle.ks_keysets.specs.Keyset.{IsLive as IsLiveIn}
@@ -12,6 +12,8 @@ use Rattle.ks_arena.specs.Clauses.{hand_of, seen_of}
 use Rattle.ks_link.specs.declared.parts.Waiting.{Waiting}
 use Rattle.ks_node.specs.Room.{is_full}
 use Rattle.ks_shape.specs.Makes.{MakesNone}
+use Rattle.ks_link.specs.Parts.{reach_of}
+use Rattle.ks_link.proofs.Narrowing.{left_less, right_less}
 use Rattle.ks_link.proofs.Leading.{shape_live}
 use Rattle.ks_link.specs.Descent.{IsOnWay}
 use Rattle.ks_link.specs.Parts.{IsSplitOff}
@@ -77,4 +79,16 @@ returns-clause-led g c = λ alone i live. let me : ℕ = c.args.pass.now.caller 
         | inr rest ↦ elim rest [ inl right ↦ inr (inr (inl (e.right.node ∙ right))) | inr none ↦ absurd none ]
       ]
       | inr was ↦ inl was
+    ]
+
+-- both halves reach less far
+pub returns-clause-narrower : goal.returns-clause-narrower
+returns-clause-narrower g c = let at = (goal.at.returns-clause-narrower g c).After-node_law in let sort = sort_of g.N.Node.layout g.N.Node.ranged in let n : ℕ = c.args.arena.now.table.shared.table_id.slots in let h = seen_of c.args.pass.now in let shows = g.N.Node.body in
+    let b : Body = shows c.args.held.body in let cut : ℕ = c.cut-cut.result in
+    let suits = c.link_asks_law.ensures.suits (graph_after h) (frame_after (blank_of sort) h) c.args.held.node b (good_now (c.sound_law.ensures.good sort n h c.requires.pass.sound)) (c.sound_law.ensures.facts sort n h c.requires.pass.sound)
+    (stands_now sort shows h c.args.held c.requires.node.live c.requires.node.matches (is_linked g at)) in
+    let splits = (c.cut-cut.ensures.good suits.0 suits.2 (λ r e. let none : None ≡ Some r = e in cc)).splits in
+    elim c.keep_half-half.ensures.half [
+      | inl is ↦ subst (λ (x : Hand g.row.N.Denot). reach_of (shows x.body) < reach_of b) (sym is.0) (subst (λ (z : Body). reach_of z < reach_of b) (sym c.split_right.ensures.node.body) (left_less b.range b.low cut (is_linked g at).ranged splits.0.0 splits.0.1))
+      | inr is ↦ subst (λ (x : Hand g.row.N.Denot). reach_of (shows x.body) < reach_of b) (sym is) (subst (λ (z : Body). reach_of z < reach_of b) (sym c.split_right.ensures.right.body) (right_less b.range b.low cut (is_linked g at).ranged splits.0.0 splits.0.1))
     ]

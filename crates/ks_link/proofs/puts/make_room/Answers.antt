@@ -61,3 +61,6 @@ pub returns-in-Err-clause-waiting : goal.returns-in-Err-clause-waiting
 returns-in-Err-clause-waiting g c = let sort = sort_of g.N.Node.layout g.N.Node.ranged in let n : ℕ = c.args.arena.now.table.shared.table_id.slots in let me : ℕ = c.args.pass.now.caller in
     let h = seen_of c.args.pass.now in let k = seen_of c.part.new.pass in
     all_later sort h k c.args.waiting.now.items (c.sound_law.ensures.lasts sort n h k (stretch_begins link_move me h k c.part.ensures.stretch) c.part.ensures.pass.sound) c.requires.waiting
+
+pub returns-in-Ok-clause-narrower : goal.returns-in-Ok-clause-narrower
+returns-in-Ok-clause-narrower g c = c.in-Ok.ensures.narrower

@@ -1,0 +1,18 @@
+use Rattle.std.proofs.Common.{◌≡◌, ℕ, suc}
+use Rattle.ks_flow.specs.Discipline.{BeginsTree, TreeStep}
+use Rattle.ks_history.specs.declared.Op.{Op}
+use Rattle.ks_history.specs.Done.{coupling}
+use Rattle.ks_history.specs.Underway.{Underway}
+use Rattle.ks_arena.specs.Sound.{sort_of}
+use Rattle.ks_arena.specs.Clauses.{IsPass, seen_of}
+use Rattle.ks_shape.specs.OnWay.{IsOnWay}
+use Rattle.ks_try.specs.Down.{IsDown}
+use Rattle.ks_coupling.proofs.try_descent.try_find.Given as goal
+
+abbrev pub invariant-loop-steps : goal.invariant-loop-steps
+invariant-loop-steps g l =
+    IsPass (sort_of g.N.Node.layout g.N.Node.ranged) BeginsTree TreeStep l.arena.table.shared.table_id l.arena.callers l.pass
+    × (l.pass.caller ≡ l.fn.pass.caller)
+    × IsOnWay (sort_of g.N.Node.layout g.N.Node.ranged) g.N.Node.body l.pass.caller l.place (seen_of l.pass) l.held
+    × ((op : Op) → Underway coupling l.pass.caller op (seen_of l.fn.pass) (seen_of l.pass))
+    × IsDown l.arena.nodes l.pass.caller (seen_of l.fn.pass) (seen_of l.pass) (suc l._steps) 1 l._steps l.held.node

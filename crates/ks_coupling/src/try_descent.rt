@@ -1,0 +1,119 @@
+//! The way from the root to the node where a search ends, by takes that wait for nobody.
+ghost use Rattle.std.specs.Prelude.{◌≡◌, ℕ, suc, List};
+ghost use Rattle.ks_history.specs.declared.Event.{Event as Happening};
+ghost use Rattle.ks_history.specs.Done.{coupling};
+ghost use Rattle.ks_node.specs.declared.start.Next.TheVariants.{Go};
+ghost use Rattle.ks_node.specs.Body.{next_at};
+ghost use Rattle.ks_arena.specs.Clauses.{seen_of};
+ghost use Rattle.ks_arena.specs.Of.{IsPassOf, IsEmptyPassOf};
+ghost use Rattle.ks_shape.specs.Of.{IsUnderway, StaysUnderway, IsOnWayOf};
+ghost use Rattle.ks_try.specs.Of.{CameDownTo, StandsOrLeft, CameToEnd};
+
+use ks_arena::laws::{root_stays_law, sound_law};
+use ks_arena::{Arena, Held, Pass, Taken, root_law};
+use ks_flow::Tree;
+use ks_gate::{Gate, Point};
+use ks_node::{Next, Unlinked};
+use ks_shape::Later;
+use ks_try::{child_law, turn_back};
+
+/// Tries to take the root.
+fn try_enter<N: Unlinked, G: Gate>(
+    arena: &Arena<N, Tree>,
+    pass: &mut Pass<N, Tree>,
+    gate: &G,
+    place: u64,
+) -> Result<Held<N>, Later>
+    requires pass { IsEmptyPassOf arena.now pass.old }
+    ensures pass { IsPassOf arena.now pass.new }
+    ensures caller { pass.new.caller ≡ pass.old.caller }
+    ensures came { StandsOrLeft arena.now coupling pass.old.caller place (seen_of pass.old) pass.new 0 result }
+    ensures under { IsUnderway coupling pass.old pass.new }
+{
+    root_stays_law::<Tree>();
+    gate.at(pass.caller(), Point::Begin);
+    match arena.try_take(pass, 0) {
+        Taken::Held(root) => {
+            root_law(&root, place);
+            gate.at(pass.caller(), Point::Taken(0));
+            Ok(root)
+        }
+        Taken::Busy { holder } => Err(Later::Busy { node: 0, holder }),
+        Taken::Gone => unreachable!(),
+    }
+}
+
+/// Tries to take the child to which the search goes on, and gives the node, whether the child was taken or not.
+fn try_go_on<N: Unlinked, G: Gate>(
+    arena: &Arena<N, Tree>,
+    pass: &mut Pass<N, Tree>,
+    gate: &G,
+    place: u64,
+    held: Held<N>,
+    child: u32,
+) -> Result<Held<N>, Later>
+    requires pass { IsPassOf arena.now pass.old }
+    requires way { IsOnWayOf arena.now pass.old.caller place pass.old held }
+    requires goes { next_at (N.body held.body) place ≡ Go child }
+    ensures pass { IsPassOf arena.now pass.new }
+    ensures caller { pass.new.caller ≡ pass.old.caller }
+    ensures came { (start : List Happening) (steps : ℕ) → CameDownTo arena.now pass.old.caller start pass.old steps held →
+        StandsOrLeft arena.now coupling pass.old.caller place start pass.new (suc steps) result }
+    ensures under { StaysUnderway coupling pass.old pass.new }
+{
+    sound_law::<Tree>();
+    child_law(arena, pass, place, &held, child);
+    let node = held.node;
+    match arena.try_take(pass, child) {
+        Taken::Held(below) => {
+            gate.at(pass.caller(), Point::Taken(child));
+            arena.give(pass, held);
+            gate.at(pass.caller(), Point::Given(node));
+            Ok(below)
+        }
+        Taken::Busy { holder } => {
+            arena.give(pass, held);
+            gate.at(pass.caller(), Point::Given(node));
+            Err(Later::Busy {
+                node: child,
+                holder,
+            })
+        }
+        Taken::Gone => unreachable!(),
+    }
+}
+
+/// Takes the node at which the search for a place ends, and holds it alone; or holds nothing.
+pub(crate) fn try_find<N: Unlinked, G: Gate>(
+    arena: &Arena<N, Tree>,
+    pass: &mut Pass<N, Tree>,
+    gate: &G,
+    place: u64,
+) -> Result<Held<N>, Later>
+    requires pass { IsEmptyPassOf arena.now pass.old }
+    ensures pass { IsPassOf arena.now pass.new }
+    ensures caller { pass.new.caller ≡ pass.old.caller }
+    ensures came { CameToEnd arena.now coupling place pass.old pass.new result }
+    ensures under { IsUnderway coupling pass.old pass.new }
+{
+    let mut held = match try_enter(arena, pass, gate, place) {
+        Ok(root) => root,
+        Err(later) => return Err(later),
+    };
+    for _steps in 0..arena.nodes() - 1 {
+        match held.body.next(place) {
+            Next::Here => return Ok(held),
+            Next::Go(child) => match try_go_on(arena, pass, gate, place, held, child) {
+                Ok(below) => held = below,
+                Err(later) => return Err(later),
+            },
+        }
+    }
+    match held.body.next(place) {
+        Next::Here => Ok(held),
+        Next::Go(child) => {
+            turn_back(arena, pass, gate, place, held, child);
+            Err(Later::Far)
+        }
+    }
+}

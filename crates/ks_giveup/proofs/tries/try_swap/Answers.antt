@@ -1,0 +1,9 @@
+use Rattle.std.proofs.Common.{refl}
+use Rattle.ks_history.specs.declared.Op.TheVariants.{Swap}
+use Rattle.ks_history.specs.Done.{give_up}
+use Rattle.ks_history.specs.Underway.{left_of}
+use Rattle.ks_arena.specs.Clauses.{seen_of}
+use Rattle.ks_giveup.proofs.tries.try_swap.Goals as goal
+
+pub returns-in-Err-clause-tried : goal.returns-in-Err-clause-tried
+returns-in-Err-clause-tried g c = let e = c.in-Err.ensures in record { left = left_of give_up c.args.pass.now.caller (Swap c.args.place c.args.old c.args.new) (seen_of c.args.pass.now) (seen_of c.try_find.new.pass) (e.under (Swap c.args.place c.args.old c.args.new)) e.came.0; cause = e.came.1 (Swap c.args.place c.args.old c.args.new) refl }

@@ -1,0 +1,139 @@
+//! The way from the root to the node where a search ends, by takes that wait for nobody; it never begins again.
+ghost use Rattle.std.specs.Prelude.{◌≡◌, ◌<◌, ◌≤◌, ℕ, suc, List, Decides, IsTrue, is_some};
+ghost use Rattle.ks_history.specs.declared.Event.{Event as Happening};
+ghost use Rattle.ks_history.specs.Done.{give_up};
+ghost use Rattle.ks_node.specs.declared.start.Next.TheVariants.{Go};
+ghost use Rattle.ks_node.specs.Body.{first_of, last_of, next_at};
+ghost use Rattle.ks_arena.specs.Clauses.{seen_of};
+ghost use Rattle.ks_arena.specs.Of.{IsPassOf, IsEmptyPassOf};
+ghost use Rattle.ks_shape.specs.Of.{IsUnderway, StaysUnderway, IsOnWayOf};
+ghost use Rattle.ks_try.specs.Of.{CameDownTo, StandsOrLeft, CameToEnd};
+ghost use Rattle.ks_giveup.specs.Tries.{IsSought, HasVisited};
+
+use ks_arena::laws::{sound_law, tree_beside_law};
+use ks_arena::{Arena, Held, Pass, Taken};
+use ks_flow::Tree;
+use ks_gate::{Gate, Point};
+use ks_node::{Next, Ranged, Unlinked};
+use ks_shape::Later;
+use ks_try::{child_law, turn_back};
+
+/// Whether the range of a node holds the place.
+fn is_in_range<N: Ranged + Unlinked>(held: &Held<N>, place: u64) -> bool
+    ensures ranged { IsTrue (is_some (N.body held.now.body).range) }
+    ensures within { Decides result ((first_of (N.body held.now.body).range ≤ place) × (place ≤ last_of (N.body held.now.body).range)) }
+{
+    let range = held.body.range();
+    range.low <= place && place <= range.last
+}
+
+/// Tries to take a node that was on the way, and keeps it where its range holds the place.
+fn try_visit<N: Ranged + Unlinked, G: Gate>(
+    arena: &Arena<N, Tree>,
+    pass: &mut Pass<N, Tree>,
+    gate: &G,
+    place: u64,
+    node: u32,
+) -> Result<Held<N>, Later>
+    requires pass { IsEmptyPassOf arena.now pass.old }
+    requires node { node < arena.now.nodes }
+    ensures pass { IsPassOf arena.now pass.new }
+    ensures caller { pass.new.caller ≡ pass.old.caller }
+    ensures came { (start : List Happening) → IsSought arena.now place start pass.old node → HasVisited arena.now place start pass.old pass.new node result }
+    ensures under { StaysUnderway give_up pass.old pass.new }
+{
+    sound_law::<Tree>();
+    tree_beside_law();
+    match arena.try_take(pass, node) {
+        Taken::Held(held) => {
+            gate.at(pass.caller(), Point::Taken(node));
+            if is_in_range(&held, place) {
+                return Ok(held);
+            }
+            arena.give(pass, held);
+            gate.at(pass.caller(), Point::Given(node));
+            Err(Later::Moved { node })
+        }
+        Taken::Busy { holder } => Err(Later::Busy { node, holder }),
+        Taken::Gone => Err(Later::Moved { node }),
+    }
+}
+
+/// Tries to take the root.
+fn try_enter<N: Ranged + Unlinked, G: Gate>(
+    arena: &Arena<N, Tree>,
+    pass: &mut Pass<N, Tree>,
+    gate: &G,
+    place: u64,
+) -> Result<Held<N>, Later>
+    requires pass { IsEmptyPassOf arena.now pass.old }
+    ensures pass { IsPassOf arena.now pass.new }
+    ensures caller { pass.new.caller ≡ pass.old.caller }
+    ensures came { StandsOrLeft arena.now give_up pass.old.caller place (seen_of pass.old) pass.new 0 result }
+    ensures under { IsUnderway give_up pass.old pass.new }
+{
+    sound_law::<Tree>();
+    gate.at(pass.caller(), Point::Begin);
+    try_visit(arena, pass, gate, place, 0)
+}
+
+/// Gives the node, and tries to take the child to which the search goes on.
+fn try_go_on<N: Ranged + Unlinked, G: Gate>(
+    arena: &Arena<N, Tree>,
+    pass: &mut Pass<N, Tree>,
+    gate: &G,
+    place: u64,
+    held: Held<N>,
+    child: u32,
+) -> Result<Held<N>, Later>
+    requires pass { IsPassOf arena.now pass.old }
+    requires way { IsOnWayOf arena.now pass.old.caller place pass.old held }
+    requires goes { next_at (N.body held.body) place ≡ Go child }
+    ensures pass { IsPassOf arena.now pass.new }
+    ensures caller { pass.new.caller ≡ pass.old.caller }
+    ensures came { (start : List Happening) (steps : ℕ) → CameDownTo arena.now pass.old.caller start pass.old steps held →
+        StandsOrLeft arena.now give_up pass.old.caller place start pass.new (suc steps) result }
+    ensures under { StaysUnderway give_up pass.old pass.new }
+{
+    sound_law::<Tree>();
+    child_law(arena, pass, place, &held, child);
+    let node = held.node;
+    arena.give(pass, held);
+    gate.at(pass.caller(), Point::Given(node));
+    try_visit(arena, pass, gate, place, child)
+}
+
+/// Takes the node at which the search for a place ends, and holds it alone; or holds nothing.
+pub(crate) fn try_find<N: Ranged + Unlinked, G: Gate>(
+    arena: &Arena<N, Tree>,
+    pass: &mut Pass<N, Tree>,
+    gate: &G,
+    place: u64,
+) -> Result<Held<N>, Later>
+    requires pass { IsEmptyPassOf arena.now pass.old }
+    ensures pass { IsPassOf arena.now pass.new }
+    ensures caller { pass.new.caller ≡ pass.old.caller }
+    ensures came { CameToEnd arena.now give_up place pass.old pass.new result }
+    ensures under { IsUnderway give_up pass.old pass.new }
+{
+    let mut held = match try_enter(arena, pass, gate, place) {
+        Ok(root) => root,
+        Err(later) => return Err(later),
+    };
+    for _steps in 0..arena.nodes() - 1 {
+        match held.body.next(place) {
+            Next::Here => return Ok(held),
+            Next::Go(child) => match try_go_on(arena, pass, gate, place, held, child) {
+                Ok(below) => held = below,
+                Err(later) => return Err(later),
+            },
+        }
+    }
+    match held.body.next(place) {
+        Next::Here => Ok(held),
+        Next::Go(child) => {
+            turn_back(arena, pass, gate, place, held, child);
+            Err(Later::Far)
+        }
+    }
+}

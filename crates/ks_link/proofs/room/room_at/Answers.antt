@@ -1,0 +1,59 @@
+use Rattle.std.proofs.Common.{◌≡◌, ℕ, List, refl, sym, ap, ◌∙◌, length, subst, arith}
+use Rattle.std.specs.Prelude.{All, Err}
+use Rattle.std.proofs.lemmas.List.Elements.{All-nil}
+use Rattle.ks_history.specs.Begins.{good_now}
+use Rattle.ks_history.specs.Dues.{none_free_earlier}
+use Rattle.ks_history.specs.Done.{link_move}
+use Rattle.ks_history.specs.Stretch.{Stretch, stretch_both, stretch_begins, stretch_here}
+use Rattle.ks_arena.specs.declared.held.Held.{Held as Hand}
+use Rattle.ks_arena.specs.Sound.{sort_of}
+use Rattle.ks_arena.specs.Clauses.{seen_of}
+use Rattle.ks_link.specs.declared.parts.Waiting.{Waiting}
+use Rattle.ks_link.specs.Descent.{IsOnWay}
+use Rattle.ks_link.specs.Parts.{IsSplitOff}
+use Rattle.ks_link.specs.Tries.{ComesToRoom}
+use Rattle.ks_link.proofs.Ways.{ends_here}
+use Rattle.ks_link.proofs.room.room_at.Goals as goal
+
+pub loop-held-init : goal.loop-held-init
+loop-held-init g c = let sort = sort_of g.N.Node.layout g.N.Node.ranged in let h = seen_of c.args.pass.now in (
+  c.requires.pass,
+  refl,
+  c.requires.way,
+  c.requires.ends,
+  stretch_here link_move c.args.pass.now.caller h h (omega (arith, ap length c.requires.way.alone)),
+  subst (λ (ws : List Waiting). All (λ w. IsSplitOff sort h w) ws) (sym c.requires.waiting) (All-nil (λ w. IsSplitOff sort h w)),
+)
+
+pub make_room-requires-clause-full : goal.make_room-requires-clause-full
+make_room-requires-clause-full g c = (c.has_room.ensures.none c.if-has_room.false).1
+
+pub loop-held-smaller : goal.loop-held-smaller
+loop-held-smaller g c = c.in-Ok.ensures.narrower
+
+pub loop-held-preserved : goal.loop-held-preserved
+loop-held-preserved g c = let sort = sort_of g.N.Node.layout g.N.Node.ranged in let e = c.make_room.ensures in let h = seen_of c.args.pass.now in let k = seen_of c.loop-held.pass in let l = seen_of c.make_room.new.pass in let me : ℕ = c.loop-held.pass.caller in let inv = c.loop-held.invariant in let made = c.in-Ok.ensures.made in (
+  e.pass,
+  e.caller ∙ inv.1,
+  subst (λ (z : ℕ). IsOnWay sort g.N.Node.body z c.args.place l c.in-Ok.next) (sym e.caller) made.0,
+  made.1,
+  subst (λ (z : ℕ). Stretch link_move z h l) (sym e.caller) (stretch_both link_move me h k l inv.4 e.stretch),
+  e.waiting,
+)
+
+pub returns-then-has_room-clause-found : goal.returns-then-has_room-clause-found
+returns-then-has_room-clause-found g c = let sort = sort_of g.N.Node.layout g.N.Node.ranged in let n : ℕ = c.args.arena.now.table.shared.table_id.slots in let k = seen_of c.loop-held.pass in let x = c.loop-held.held in let inv = c.loop-held.invariant in let law = c.sound_law.ensures in
+    let way = subst (λ (z : ℕ). IsOnWay sort g.N.Node.body z c.args.place k x) inv.1 inv.2 in
+    record { ends = ends_here sort g.N.Node.body c.args.pass.now.caller c.args.place k x way (law.facts sort n k inv.0.sound) (omega (arith, c.ranges.place)) c.node_law.ensures.sound inv.3 (good_now (law.good sort n k inv.0.sound)); room = c.has_room.ensures.room c.if-has_room.true }
+
+pub returns-in-Err-clause-found : goal.returns-in-Err-clause-found
+returns-in-Err-clause-found g c = let sort = sort_of g.N.Node.layout g.N.Node.ranged in let slots : ℕ = c.args.arena.now.table.shared.table_id.slots in let shows = g.N.Node.body in let h = seen_of c.args.pass.now in let k = seen_of c.loop-held.pass in let l = seen_of c.make_room.new.pass in let me : ℕ = c.loop-held.pass.caller in let inv = c.loop-held.invariant in let law = c.sound_law.ensures in
+    let made = c.in-Err.ensures.made in let place : ℕ = c.args.place in let n : ℕ = c.args.arena.now.nodes in let x = c.loop-held.held in let told = c.has_room.ensures.none c.if-has_room.false in
+    let ends = ends_here sort shows me place l x made.1 (law.facts sort slots l c.make_room.ensures.pass.sound) (omega (arith, c.ranges.place)) c.node_law.ensures.sound inv.3 (good_now (law.good sort slots l c.make_room.ensures.pass.sound)) in
+    let none = none_free_earlier g.N.Node.layout n me place h k l (stretch_begins link_move me h k inv.4) made.2 in
+    subst (λ (y : Hand g.row.N.Denot). ComesToRoom sort shows n c.args.pass.now.caller place h l (Err y)) (sym made.0)
+    (subst (λ (z : ℕ). ComesToRoom sort shows n z place h l (Err x)) inv.1 (record { ends = ends; absent = told.0; full = told.1 }, none))
+
+pub returns-in-Err-clause-stretch : goal.returns-in-Err-clause-stretch
+returns-in-Err-clause-stretch g c = let h = seen_of c.args.pass.now in let k = seen_of c.loop-held.pass in let l = seen_of c.make_room.new.pass in
+    subst (λ (z : ℕ). Stretch link_move z h l) c.loop-held.invariant.1 (stretch_both link_move c.loop-held.pass.caller h k l c.loop-held.invariant.4 c.make_room.ensures.stretch)

@@ -1,0 +1,17 @@
+use Rattle.std.proofs.Common.{◌≡◌, []}
+use Rattle.std.specs.Prelude.{All}
+use Rattle.ks_flow.specs.Discipline.{BeginsLink, LinkStep}
+use Rattle.ks_history.specs.Done.{link_move}
+use Rattle.ks_history.specs.Stretch.{Stretch}
+use Rattle.ks_arena.specs.Sound.{sort_of}
+use Rattle.ks_arena.specs.Clauses.{IsPass, hand_of, seen_of}
+use Rattle.ks_link.specs.Parts.{IsSplitOff}
+use Rattle.ks_link.proofs.try_attaches.try_attach_all.Given as goal
+
+abbrev pub invariant-loop-to : goal.invariant-loop-to
+invariant-loop-to g l =
+    IsPass (sort_of g.N.Node.layout g.N.Node.ranged) BeginsLink LinkStep l.arena.table.shared.table_id l.arena.callers l.pass
+    × (hand_of l.pass ≡ [])
+    × (l.pass.caller ≡ l.fn.pass.caller)
+    × All (λ w. IsSplitOff (sort_of g.N.Node.layout g.N.Node.ranged) (seen_of l.pass) w) l.waiting
+    × Stretch link_move l.pass.caller (seen_of l.fn.pass) (seen_of l.pass)

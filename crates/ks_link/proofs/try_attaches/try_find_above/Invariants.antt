@@ -1,0 +1,20 @@
+use Rattle.std.proofs.Common.{◌≡◌, ◌<◌}
+use Rattle.ks_flow.specs.Discipline.{BeginsLink, LinkStep}
+use Rattle.ks_history.specs.Done.{link_move}
+use Rattle.ks_history.specs.Stretch.{Stretch}
+use Rattle.ks_arena.specs.Sound.{sort_of}
+use Rattle.ks_arena.specs.Clauses.{IsPass, seen_of}
+use Rattle.ks_link.specs.Descent.{IsOnWay}
+use Rattle.ks_link.proofs.Trying.{way_left}
+use Rattle.ks_link.proofs.try_attaches.try_find_above.Given as goal
+
+abbrev pub invariant-loop-to : goal.invariant-loop-to
+invariant-loop-to g l =
+    IsPass (sort_of g.N.Node.layout g.N.Node.ranged) BeginsLink LinkStep l.arena.table.shared.table_id l.arena.callers l.pass
+    × (l.pass.caller ≡ l.fn.pass.caller)
+    × IsOnWay (sort_of g.N.Node.layout g.N.Node.ranged) g.N.Node.body l.pass.caller l.to.cut (seen_of l.pass) l.held
+    × (l.to.level < (g.N.Node.body l.held.body).level)
+    × Stretch link_move l.pass.caller (seen_of l.fn.pass) (seen_of l.pass)
+
+abbrev pub decreases-loop-to : goal.decreases-loop-to
+decreases-loop-to g l = way_left (g.N.Node.body l.held.body)

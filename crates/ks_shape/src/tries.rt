@@ -1,0 +1,26 @@
+//! What calls that wait for nobody answer where nobody is in their way.
+ghost use Rattle.std.specs.Prelude.{ℕ, List, Result, IsTrue};
+ghost use Rattle.std.specs.Result.{is_ok};
+ghost use Rattle.ks_keysets.specs.Layout.{Layout};
+ghost use Rattle.ks_history.specs.declared.Event.{Event as Happening};
+ghost use Rattle.ks_history.specs.declared.Op.{Op as Operation};
+ghost use Rattle.ks_history.specs.Alone.{ActsAlone, HoldsAlone};
+ghost use Rattle.ks_history.specs.Done.{Template};
+ghost use Rattle.ks_shape.specs.declared.answers.Numbered.{Numbered};
+ghost use Rattle.ks_shape.specs.declared.answers.Later.{Later};
+ghost use Rattle.ks_shape.specs.declared.answers.PutLater.{PutLater};
+ghost use Rattle.ks_shape.specs.Tries.{IsPutOff, Tried, TriedPut, IsDoneIn};
+
+use ks_history::alone_law;
+
+/// Whoever acts alone, from a moment at which no other caller holds a node, is never put off: its call answers `Ok`; a put
+/// or an add `Ok`, or `Full` as due. It computes nothing.
+pub fn tries_law()
+    ensures never { (template : Template) (n c : ℕ) (op : Operation) (s0 s1 : List Happening) (later : Later) → ActsAlone c s0 s1 → HoldsAlone c s0 → ¬ IsPutOff template n c op s0 s1 later }
+    ensures ok { (layout : Layout) (template : Template) (n c : ℕ) (op : Operation) (s0 s1 : List Happening) (answer : Result Numbered Later) → ActsAlone c s0 s1 → HoldsAlone c s0 →
+        Tried layout template n c op s0 s1 answer → IsTrue (is_ok answer) }
+    ensures put { (layout : Layout) (template : Template) (n c : ℕ) (op : Operation) (s0 s1 : List Happening) (answer : Result Numbered PutLater) → ActsAlone c s0 s1 → HoldsAlone c s0 →
+        TriedPut layout template n c op s0 s1 answer → IsDoneIn answer }
+{
+    alone_law();
+}
