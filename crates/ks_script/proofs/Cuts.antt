@@ -1,15 +1,15 @@
 -- Bytes that are cut at a byte, and digits.
-use Rattle.std.proofs.Common.{ℕ, zero, suc, ◌≡◌, ◌+◌, ◌-◌, ◌*◌, ◌^◌, ◌<◌, ◌≤◌, Bool, true, false, ◌&&◌, cond, eqb, List, [], ◌∷◌, ◌++◌, length, take, drop, get_or, refl, sym, ap, subst, ◌∙◌, arith, rules, inl, inr, Option, Some, None, MatchOption, IfSome, IfNone}
+use Rattle.std.proofs.Common.{ℕ, zero, suc, ◌≡◌, ◌+◌, ◌-◌, ◌*◌, ◌^◌, ◌<◌, ◌≤◌, Bool, true, false, ◌&&◌, cond, eqb, List, [], ◌∷◌, ◌++◌, length, take, drop, get_or, refl, sym, ap, subst, ◌∙◌, arith, inl, inr, Option, Some, None, MatchOption, IfSome, IfNone}
 use Rattle.std.proofs.lemmas.List.{drop_more, take-append-drop, take_all, drop-drop}
 use Rattle.std.proofs.lemmas.Bool.{false≢true, eqb-true}
 use Rattle.std.proofs.lemmas.Bool.Decides.{eqb_tells}
-use Rattle.std.proofs.lemmas.Str.Parse.{IsNumeralModel, numerals_by_fold}
-use Rattle.std.proofs.lemmas.Fmt.{digits_decimal, digits_value-decimal, decimal_nonempty, first_decimal, decimal_digit, decimal-digits_value}
+use Rattle.std.proofs.lemmas.Fmt.{decimal_digit}
 use Rattle.std.specs.Fmt.{decimal}
 use Rattle.std.specs.Char.{is_ascii_digit}
 use Rattle.std.specs.Str.{all_ascii_digits}
 use Rattle.std.specs.List.{onto_first}
 use Rattle.ks_script.specs.Lines.{Lacks, lines_of}
+use Rattle.ks_script.proofs.Numerals.{read_on, digits_of_number, value_of_digits, some_digits, no_zero_first, digits_spelled}
 
 -- a byte that stands at none of the first places
 pub lacks_front : (c : ℕ) (bytes : List ℕ) (n : ℕ) → n ≤ length bytes → ((k : ℕ) → k < n → get_or bytes k 0 ≡ c → ⊥) → Lacks c (take n bytes)
@@ -56,42 +56,33 @@ cut_front c bytes n h e =
     sym (take-append-drop n bytes)
     ∙ ap (λ (x : List ℕ). take n bytes ++ x) (drop_more bytes n 0 h ∙ (ap (λ (x : ℕ). x ∷ drop (n + 1) bytes) e ∙ ap (λ (x : List ℕ). c ∷ x) (sym (drop-drop 1 n bytes))))
 
--- what digits stand for, after a number that was read before them
-abbrev pub read_on : ℕ → List ℕ → ℕ
-read_on n [] = n
-read_on n (c ∷ cs) = read_on (10 * n + (c - 48)) cs
-
-own : IsNumeralModel (λ ds. all_ascii_digits ds ≡ true) (read_on 0)
-own = numerals_by_fold _ (search rules) read_on (search rules)
-
 pub read_on_least : (n : ℕ) (ds : List ℕ) → n ≤ read_on n ds
 read_on_least n [] = omega arith
 read_on_least n (c ∷ cs) = omega (arith, read_on_least (10 * n + (c - 48)) cs)
 
-pub digits_some : (bytes : List ℕ) (n : ℕ) → 0 < length bytes → (get_or bytes 0 0 ≡ 48 → length bytes ≡ 1) → all_ascii_digits bytes ≡ true → read_on 0 bytes ≡ n → n < 2 ^ 64 → bytes ≡ decimal n
-digits_some bytes n h z p e l =
-    sym (decimal-digits_value own bytes p h z (omega (arith, e))) ∙ ap decimal e
+pub digits_some : (bytes : List ℕ) (n : ℕ) → 0 < length bytes → (get_or bytes 0 0 ≡ 48 → length bytes ≡ 1) → all_ascii_digits bytes ≡ true → read_on 0 bytes ≡ n → n < 2 ^ 128 → bytes ≡ decimal n
+digits_some bytes n h z p e l = sym (digits_spelled bytes p h z (omega (arith, e))) ∙ ap decimal e
 
 -- no number is spelled by no bytes, by a zero with digits after it, by a byte that is no digit, or by too many digits
-pub no_digits : (bytes : List ℕ) → length bytes ≡ 0 → (n : ℕ) → n < 2 ^ 64 → bytes ≡ decimal n → ⊥
-no_digits bytes h n l e = omega (arith, decimal_nonempty n l, ap length e)
+pub no_digits : (bytes : List ℕ) → length bytes ≡ 0 → (n : ℕ) → n < 2 ^ 128 → bytes ≡ decimal n → ⊥
+no_digits bytes h n l e = omega (arith, some_digits n l, ap length e)
 
-pub zero_first : (bytes : List ℕ) → get_or bytes 0 0 ≡ 48 → 1 < length bytes → (n : ℕ) → n < 2 ^ 64 → bytes ≡ decimal n → ⊥
+pub zero_first : (bytes : List ℕ) → get_or bytes 0 0 ≡ 48 → 1 < length bytes → (n : ℕ) → n < 2 ^ 128 → bytes ≡ decimal n → ⊥
 zero_first bytes z h zero l e = omega (arith, ap length (e ∙ decimal_digit 0 (omega arith)))
-zero_first bytes z h (suc n) l e = omega (arith, first_decimal (suc n) (omega arith) l, ap (λ (x : List ℕ). get_or x 0 0) e)
+zero_first bytes z h (suc n) l e = omega (arith, no_zero_first (suc n) (omega arith) l, ap (λ (x : List ℕ). get_or x 0 0) e)
 
-pub all_digits : (bytes : List ℕ) (n : ℕ) → n < 2 ^ 64 → bytes ≡ decimal n → all_ascii_digits bytes ≡ true
-all_digits bytes n l e = ap all_ascii_digits e ∙ digits_decimal own n l
+pub all_digits : (bytes : List ℕ) (n : ℕ) → n < 2 ^ 128 → bytes ≡ decimal n → all_ascii_digits bytes ≡ true
+all_digits bytes n l e = ap all_ascii_digits e ∙ digits_of_number n l
 
-pub value_small : (bytes : List ℕ) (n : ℕ) → n < 2 ^ 64 → bytes ≡ decimal n → read_on 0 bytes ≡ n
-value_small bytes n l e = ap (read_on 0) e ∙ digits_value-decimal own n l
+pub value_small : (bytes : List ℕ) (n : ℕ) → n < 2 ^ 128 → bytes ≡ decimal n → read_on 0 bytes ≡ n
+value_small bytes n l e = ap (read_on 0) e ∙ value_of_digits n l
 
-pub other_byte : (bytes : List ℕ) (b i : ℕ) → i < length bytes → b ≡ get_or bytes i 0 → is_ascii_digit b ≡ false → all_ascii_digits (drop i bytes) ≡ all_ascii_digits bytes → (n : ℕ) → n < 2 ^ 64 → bytes ≡ decimal n → ⊥
+pub other_byte : (bytes : List ℕ) (b i : ℕ) → i < length bytes → b ≡ get_or bytes i 0 → is_ascii_digit b ≡ false → all_ascii_digits (drop i bytes) ≡ all_ascii_digits bytes → (n : ℕ) → n < 2 ^ 128 → bytes ≡ decimal n → ⊥
 other_byte bytes b i h at odd same n l e =
     let there : all_ascii_digits (drop i bytes) ≡ false = ap all_ascii_digits (drop_more bytes i 0 h) ∙ ap (λ t. t && all_ascii_digits (drop (i + 1) bytes)) (ap is_ascii_digit (sym at) ∙ odd) in
     false≢true (sym there ∙ (same ∙ all_digits bytes n l e))
 
-pub too_great : (bytes : List ℕ) (m b i : ℕ) → i < length bytes → b ≡ get_or bytes i 0 → 2 ^ 64 ≤ 10 * m + (b - 48) → read_on m (drop i bytes) ≡ read_on 0 bytes → (n : ℕ) → n < 2 ^ 64 → bytes ≡ decimal n → ⊥
+pub too_great : (bytes : List ℕ) (m b i : ℕ) → i < length bytes → b ≡ get_or bytes i 0 → 2 ^ 128 ≤ 10 * m + (b - 48) → read_on m (drop i bytes) ≡ read_on 0 bytes → (n : ℕ) → n < 2 ^ 128 → bytes ≡ decimal n → ⊥
 too_great bytes m b i h at great same n l e =
     let step : read_on m (drop i bytes) ≡ read_on (10 * m + (b - 48)) (drop (i + 1) bytes) = ap (read_on m) (drop_more bytes i 0 h) ∙ ap (λ d. read_on (10 * m + (d - 48)) (drop (i + 1) bytes)) (sym at) in
     omega (arith, step, same, value_small bytes n l e, read_on_least (10 * m + (b - 48)) (drop (i + 1) bytes))
@@ -126,8 +117,8 @@ digits_lack c other (d ∷ ds) h =
     and_parts true b h = (refl, h)
     and_parts false b h = absurd (false≢true h)
 
-pub decimal_lacks : (c : ℕ) → is_ascii_digit c ≡ false → (n : ℕ) → n < 2 ^ 64 → Lacks c (decimal n)
-decimal_lacks c other n l = digits_lack c other (decimal n) (digits_decimal own n l)
+pub decimal_lacks : (c : ℕ) → is_ascii_digit c ≡ false → (n : ℕ) → n < 2 ^ 128 → Lacks c (decimal n)
+decimal_lacks c other n l = digits_lack c other (decimal n) (digits_of_number n l)
 
 -- bytes are cut at the first such byte in one way
 pub one_cut : (c : ℕ) (a b x y : List ℕ) → Lacks c a → Lacks c x → a ++ c ∷ b ≡ x ++ c ∷ y → (a ≡ x) × (b ≡ y)

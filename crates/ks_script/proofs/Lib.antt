@@ -1,7 +1,10 @@
 pub mod Passing
 pub mod Texts
 pub mod Sources
+pub mod Numerals
 pub mod Cuts
+pub mod Pairs
+pub mod CallLines
 pub mod Scripts
 pub mod Following
 pub mod Refusals

@@ -11,8 +11,9 @@ use Rattle.ks_script.specs.Checked.{IsAnswered}
 use Rattle.ks_script.specs.Answers.{NotFirst, NoReply, NoPair, SpellAnswers, RepliesThen, RefusedFrom}
 use Rattle.ks_script.specs.RunParts.{SpellReplies}
 use Rattle.ks_script.proofs.Texts.{one_caller, callers_append, taken_with, cut_at}
+use Rattle.ks_script.proofs.Pairs.{one_pair}
 use Rattle.ks_script.proofs.Leading.{Lines, leads_bad}
-use Rattle.ks_script.proofs.RunLines.{Replies, counts, GoodReplies, callers_lead, part_leads, bad_head, bad_reply, one_pair}
+use Rattle.ks_script.proofs.RunLines.{Replies, counts, GoodReplies, callers_lead, part_leads, bad_head, bad_reply}
 
 -- a line more in front of others
 pub push_line : {X : Type 0} (f : X → List ℕ) (xs : List X) (x : X) (all rest more : Lines) (l : List ℕ) → all ≡ map f xs ++ rest → rest ≡ l ∷ more → l ≡ f x → all ≡ map f (xs ++ x ∷ []) ++ more
@@ -26,7 +27,7 @@ other_caller bytes first word more n caller h k e f g other =
     (λ is. other (decimal_injective n caller h k (sym g ∙ ap (drop 7) (sym f ∙ is))))
 
 -- a pair whose key is too small
-pub small_key : (bound key value : ℕ) (l : List ℕ) (lines more : Lines) → lines ≡ l ∷ more → l ≡ pair_line (key, value) → key < bound → key < 2 ^ 64 → value < 2 ^ 64 → NoPair bound lines
+pub small_key : (bound key value : ℕ) (l : List ℕ) (lines more : Lines) → lines ≡ l ∷ more → l ≡ pair_line (key, value) → key < bound → key < 2 ^ 64 → value < 2 ^ 128 → NoPair bound lines
 small_key bound key value l lines more e f small k v =
     subst (NoPair bound) (sym e) (λ x h i j is.
     let same : (key, value) ≡ x = one_pair (key, value) x k v i j (sym f ∙ is) in

@@ -2,7 +2,6 @@
 use Rattle.std.proofs.Common.{ℕ, zero, suc, ◌≡◌, ◌+◌, ◌^◌, ◌<◌, ◌≤◌, false, List, [], ◌∷◌, ◌++◌, length, map, take, drop, get_or, refl, sym, ap, subst, ◌∙◌, append_assoc, arith, codes, length-append}
 use Rattle.std.proofs.lemmas.List.{append-nil, map-append, length-map, take-append-drop, length-take-le, length-drop}
 use Rattle.std.proofs.lemmas.Bool.{false≢true}
-use Rattle.std.proofs.lemmas.Fmt.{decimal_injective}
 use Rattle.std.specs.Fmt.{decimal}
 use Rattle.std.specs.Str.{all_ascii_digits}
 use Rattle.std.specs.List.{AllByRecursion}
@@ -13,7 +12,9 @@ use Rattle.ks_script.specs.Run.{Run, reply_word, reply_line, pair_line, callers_
 use Rattle.ks_script.specs.Checked.{IsReply, IsAnswered, AscendFrom}
 use Rattle.ks_script.specs.Answers.{NotFirst, NoReply, NoPair, next_key, SpellAnswers}
 use Rattle.ks_script.specs.RunParts.{SpellReplies, SpellPairs}
-use Rattle.ks_script.proofs.Cuts.{one_cut, lacks_not, decimal_lacks, all_digits}
+use Rattle.ks_script.proofs.Numerals.{wide, one_number}
+use Rattle.ks_script.proofs.Cuts.{lacks_not, all_digits}
+use Rattle.ks_script.proofs.Pairs.{spaced, one_pair}
 use Rattle.ks_script.proofs.Texts.{one_caller}
 use Rattle.ks_script.proofs.Leading.{Lines, Leads, leads_on, leads_none, bad_first, strip}
 
@@ -35,24 +36,14 @@ tail ls = drop 1 ls
 abbrev head : Lines → List ℕ
 head ls = get_or ls 0 []
 
--- a line spells one pair, and one reply
-spaced : (m n : ℕ) (a b : List ℕ) → m < 2 ^ 64 → n < 2 ^ 64 → decimal m ++ codes " " ++ a ≡ decimal n ++ codes " " ++ b → (m ≡ n) × (a ≡ b)
-spaced m n a b h k e =
-    let parts = one_cut 32 (decimal m) a (decimal n) b (decimal_lacks 32 refl m h) (decimal_lacks 32 refl n k) (sym (append_assoc (decimal m) (codes " ") a) ∙ (e ∙ append_assoc (decimal n) (codes " ") b)) in
-    (decimal_injective m n h k parts.0, parts.1)
-
-pub one_pair : (x y : ℕ × ℕ) → x.0 < 2 ^ 64 → x.1 < 2 ^ 64 → y.0 < 2 ^ 64 → y.1 < 2 ^ 64 → pair_line x ≡ pair_line y → x ≡ y
-one_pair x y h i k l e =
-    let parts = spaced x.0 y.0 (decimal x.1) (decimal y.1) h k e in
-    ap (λ (n : ℕ). (n, x.1)) parts.0 ∙ ap (λ (n : ℕ). (y.0, n)) (decimal_injective x.1 y.1 i l parts.1)
-
-no_number : (w : List ℕ) (v : ℕ) → v < 2 ^ 64 → all_ascii_digits w ≡ false → w ≡ decimal v → ⊥
+-- a line spells one reply
+no_number : (w : List ℕ) (v : ℕ) → v < 2 ^ 128 → all_ascii_digits w ≡ false → w ≡ decimal v → ⊥
 no_number w v h f e = false≢true (sym f ∙ all_digits w v h e)
 
 one_word : (r s : Reply) → IsReply r → IsReply s → reply_word r ≡ reply_word s → r ≡ s
 one_word Nothing Nothing h k e = refl
 one_word Full Full h k e = refl
-one_word (Value v) (Value w) h k e = ap Value (decimal_injective v w h k e)
+one_word (Value v) (Value w) h k e = ap Value (one_number v w h k e)
 one_word Nothing Full h k e = absurd (omega (arith, ap (λ (z : List ℕ). get_or z 0 0) e))
 one_word Full Nothing h k e = absurd (omega (arith, ap (λ (z : List ℕ). get_or z 0 0) e))
 one_word Nothing (Value w) h k e = absurd (no_number (codes "none") w k refl e)
@@ -62,7 +53,7 @@ one_word (Value v) Full h k e = absurd (no_number (codes "full") v h refl (sym e
 
 pub one_reply : (x y : ℕ × Reply) → IsAnswered x → IsAnswered y → reply_line x ≡ reply_line y → x ≡ y
 one_reply x y h k e =
-    let parts = spaced x.0 y.0 (reply_word x.1) (reply_word y.1) h.0 k.0 e in
+    let parts = spaced x.0 y.0 (reply_word x.1) (reply_word y.1) (wide x.0 h.0) (wide y.0 k.0) e in
     ap (λ (n : ℕ). (n, x.1)) parts.0 ∙ ap (λ r. (y.0, r)) (one_word x.1 y.1 h.1 k.1 parts.1)
 
 -- a pair is not `end`
@@ -235,7 +226,7 @@ bad_map n lines h =
     (λ e t. no_map n t.callers t.pairs t.has_shape t.lines_are)
 
 abbrev Fits : ℕ → ℕ × ℕ → Type 0
-Fits n x = (n ≤ x.0) × (x.0 < 2 ^ 64) × (x.1 < 2 ^ 64)
+Fits n x = (n ≤ x.0) × (x.0 < 2 ^ 64) × (x.1 < 2 ^ 128)
 
 after_pair : (n : ℕ) (x : ℕ × ℕ) (ls : Lines) (ps : List (ℕ × ℕ)) → Fits n x → AscendFrom n ps → pair_line x ∷ ls ≡ map pair_line ps ++ codes "end" ∷ [] → SpellPairs (x.0 + 1) ls
 after_pair n x ls [] f a e = absurd (end_apart x (ap head e))
@@ -289,7 +280,7 @@ bad_rest l ls lines e =
     (λ f t. omega (arith, ap length (sym e ∙ f)))
 
 -- the pairs with one more
-pub ascend_push : (n : ℕ) (ps : List (ℕ × ℕ)) (x : ℕ × ℕ) → AscendFrom n ps → next_key n ps ≤ x.0 → x.0 < 2 ^ 64 → x.1 < 2 ^ 64 → AscendFrom n (ps ++ x ∷ [])
+pub ascend_push : (n : ℕ) (ps : List (ℕ × ℕ)) (x : ℕ × ℕ) → AscendFrom n ps → next_key n ps ≤ x.0 → x.0 < 2 ^ 64 → x.1 < 2 ^ 128 → AscendFrom n (ps ++ x ∷ [])
 ascend_push n [] x a le k v = (le, k, v, tt)
 ascend_push n (p ∷ ps) x a le k v = (a.0, a.1, a.2, ascend_push (p.0 + 1) ps x a.3 le k v)
 

@@ -1,54 +1,16 @@
--- Scripts as lines, one after another, and what of them the lines tell.
-use Rattle.std.proofs.Common.{ℕ, ◌≡◌, ◌+◌, ◌-◌, ◌<◌, List, [], ◌∷◌, ◌++◌, length, drop, get_or, refl, sym, ap, ◌∙◌, append_assoc, arith, codes, length-append}
+-- Scripts as lines, one after another.
+use Rattle.std.proofs.Common.{ℕ, ◌≡◌, ◌+◌, ◌-◌, ◌<◌, List, [], ◌∷◌, ◌++◌, length, refl, sym, ap, ◌∙◌, append_assoc, arith, codes, length-append}
 use Rattle.std.proofs.lemmas.List.{append-nil}
-use Rattle.std.proofs.lemmas.Fmt.{decimal_injective}
-use Rattle.std.specs.Fmt.{decimal}
 use Rattle.std.specs.List.{AllByRecursion}
 use Rattle.ks_history.specs.declared.Op.{Op}
-use Rattle.ks_history.specs.declared.Op.TheVariants.{Get, Put, Del, Add, Swap}
+use Rattle.ks_script.specs.declared.version.Version.{Version}
 use Rattle.ks_script.specs.Lines.{lines_of}
-use Rattle.ks_script.specs.Script.{IsCall, IsScript, call_line, caller_lines, script_lines, calls_in}
-use Rattle.ks_script.specs.Front.{NoCall, CallsThen}
-use Rattle.ks_script.proofs.Cuts.{one_cut, decimal_lacks}
+use Rattle.ks_script.specs.Version.{version_line, callers_limit}
+use Rattle.ks_script.specs.Script.{IsCall, IsScript, caller_lines, script_lines, calls_in}
+use Rattle.ks_script.specs.Front.{HasBegun, NoCall, CallsThen}
 
-abbrev pub Good : List (List Op) → Type 0
-Good script = AllByRecursion (AllByRecursion IsCall) script
-
--- the first byte of a line
-abbrev first : List ℕ → ℕ
-first line = get_or line 0 0
-
--- no call is `caller`
-pub call_apart : (op : Op) → IsCall op → call_line op ≡ codes "caller" → ⊥
-call_apart (Get k) h e = omega (arith, ap first e)
-call_apart (Put k v) h e = omega (arith, ap first e)
-call_apart (Del k) h e = omega (arith, ap first e)
-call_apart (Add k v) h e = h
-call_apart (Swap k old new) h e = h
-
--- a line spells one call
-pub one_call : (a b : Op) → IsCall a → IsCall b → call_line a ≡ call_line b → a ≡ b
-one_call (Get k) (Get m) h i e = ap Get (decimal_injective k m h i (ap (drop 4) e))
-one_call (Del k) (Del m) h i e = ap Del (decimal_injective k m h i (ap (drop 4) e))
-one_call (Put k v) (Put m w) h i e =
-    let t : decimal k ++ codes " " ++ decimal v ≡ decimal m ++ codes " " ++ decimal w = ap (drop 4) e in
-    let parts = one_cut 32 (decimal k) (decimal v) (decimal m) (decimal w) (decimal_lacks 32 refl k h.0) (decimal_lacks 32 refl m i.0)
-    (sym (append_assoc (decimal k) (codes " ") (decimal v)) ∙ (t ∙ append_assoc (decimal m) (codes " ") (decimal w))) in
-    ap (λ (n : ℕ). Put n v) (decimal_injective k m h.0 i.0 parts.0) ∙ ap (λ (n : ℕ). Put m n) (decimal_injective v w h.1 i.1 parts.1)
-one_call (Get k) (Put m w) h i e = absurd (omega (arith, ap first e))
-one_call (Get k) (Del m) h i e = absurd (omega (arith, ap first e))
-one_call (Put k v) (Get m) h i e = absurd (omega (arith, ap first e))
-one_call (Put k v) (Del m) h i e = absurd (omega (arith, ap first e))
-one_call (Del k) (Get m) h i e = absurd (omega (arith, ap first e))
-one_call (Del k) (Put m w) h i e = absurd (omega (arith, ap first e))
-one_call (Get k) (Add m w) h i e = absurd i
-one_call (Put k v) (Add m w) h i e = absurd i
-one_call (Del k) (Add m w) h i e = absurd i
-one_call (Get k) (Swap m w u) h i e = absurd i
-one_call (Put k v) (Swap m w u) h i e = absurd i
-one_call (Del k) (Swap m w u) h i e = absurd i
-one_call (Add k v) b h i e = absurd h
-one_call (Swap k v u) b h i e = absurd h
+abbrev pub Good : Version → List (List Op) → Type 0
+Good version script = AllByRecursion (AllByRecursion (IsCall version)) script
 
 pub lines_append : (s t : List (List Op)) → script_lines (s ++ t) ≡ script_lines s ++ script_lines t
 lines_append [] t = refl
@@ -61,19 +23,20 @@ pub calls_push : (s : List (List Op)) (ops : List Op) → calls_in (s ++ ops ∷
 calls_push [] ops = omega arith
 calls_push (o ∷ s) ops = omega (arith, calls_push s ops)
 
-pub good_push : (s : List (List Op)) (ops : List Op) → Good s → AllByRecursion IsCall ops → Good (s ++ ops ∷ [])
-good_push [] ops g h = (h, tt)
-good_push (o ∷ s) ops g h = (g.0, good_push s ops g.1 h)
+pub good_push : (version : Version) (s : List (List Op)) (ops : List Op) → Good version s → AllByRecursion (IsCall version) ops → Good version (s ++ ops ∷ [])
+good_push version [] ops g h = (h, tt)
+good_push version (o ∷ s) ops g h = (g.0, good_push version s ops g.1 h)
 
 -- a script that grew by a caller
-pub record Grown (bytes left : List ℕ) (script : List (List Op)) (calls : ℕ) : Type 0 where
-  pub is : IsScript script
-  pub lines_are : lines_of bytes ≡ script_lines script ++ lines_of left
+pub record Grown (version : Version) (bytes left : List ℕ) (script : List (List Op)) (calls : ℕ) : Type 0 where
+  pub is : IsScript version script
+  pub lines_are : lines_of bytes ≡ version_line version ++ (script_lines script ++ lines_of left)
   pub calls_are : calls ≡ calls_in script
-  pub stuck : 0 < length script → calls_in script < 1048576 → NoCall (lines_of left)
+  pub begun : length script ≡ 0 → HasBegun version (lines_of left)
+  pub stuck : 0 < length script → calls_in script < 1048576 → NoCall version (lines_of left)
 
-pub next_caller : (bytes rest more left line : List ℕ) (script : List (List Op)) (ops : List Op) (calls : ℕ) → IsScript script → lines_of bytes ≡ script_lines script ++ lines_of rest → lines_of rest ≡ line ∷ lines_of more → line ≡ codes "caller" → length script < 64 → calls ≡ calls_in script → CallsThen more (1048576 - calls) ops left → Grown bytes left (script ++ ops ∷ []) (calls + length ops)
-next_caller bytes rest more left line script ops calls is e f name room count h =
+pub next_caller : (version : Version) (bytes rest more left line : List ℕ) (script : List (List Op)) (ops : List Op) (calls : ℕ) → IsScript version script → lines_of bytes ≡ version_line version ++ (script_lines script ++ lines_of rest) → lines_of rest ≡ line ∷ lines_of more → line ≡ codes "caller" → length script < callers_limit version → calls ≡ calls_in script → CallsThen version more (1048576 - calls) ops left → Grown version bytes left (script ++ ops ∷ []) (calls + length ops)
+next_caller version bytes rest more left line script ops calls is e f name room count h =
     let within = is.calls in
     let fits = h.within in
     let sum = calls_push script ops in
@@ -81,12 +44,14 @@ next_caller bytes rest more left line script ops calls is e f name room count h 
       is = record {
         callers = omega (arith, length-append script (ops ∷ []));
         calls = omega arith;
-        each = good_push script ops is.each h.each;
+        each = good_push version script ops is.each h.each;
       };
       lines_are =
-          e ∙ (ap (λ ls. script_lines script ++ ls) (f ∙ (ap (λ l. l ∷ lines_of more) name ∙ ap (λ ls. codes "caller" ∷ ls) h.lines_are))
+          e ∙ ap (λ ls. version_line version ++ ls)
+          (ap (λ ls. script_lines script ++ ls) (f ∙ (ap (λ l. l ∷ lines_of more) name ∙ ap (λ ls. codes "caller" ∷ ls) h.lines_are))
           ∙ (sym (append_assoc (script_lines script) (caller_lines ops) (lines_of left))
           ∙ ap (λ ls. ls ++ lines_of left) (sym (lines_push script ops))));
       calls_are = omega arith;
+      begun = λ none. absurd (omega (arith, length-append script (ops ∷ [])));
       stuck = λ some below. h.stuck (omega arith);
     }

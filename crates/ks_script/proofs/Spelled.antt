@@ -9,11 +9,16 @@ use Rattle.ks_history.specs.declared.Op.{Op}
 use Rattle.ks_history.specs.declared.Op.TheVariants.{Get, Put, Del, Add, Swap}
 use Rattle.ks_history.specs.declared.Reply.{Reply}
 use Rattle.ks_history.specs.declared.Reply.TheVariants.{Nothing, Value, Full}
+use Rattle.ks_script.specs.declared.version.Version.{Version}
+use Rattle.ks_script.specs.declared.version.Version.TheVariants.{First, Second}
 use Rattle.ks_script.specs.Lines.{Lacks, lines_of, text_of}
+use Rattle.ks_script.specs.Version.{version_line, callers_limit}
 use Rattle.ks_script.specs.Script.{IsCall, IsScript, call_line, script_lines}
 use Rattle.ks_script.specs.Run.{Run, reply_word, reply_line, pair_line, callers_from, map_lines, run_lines}
-use Rattle.ks_script.specs.Checked.{IsReply, IsAnswered, AscendFrom, IsRunOf, CheckedOf}
+use Rattle.ks_script.specs.Checked.{IsReply, IsAnswered, AscendFrom, IsRunOf, CheckedIn}
+use Rattle.ks_script.proofs.Numerals.{wide}
 use Rattle.ks_script.proofs.Cuts.{lines_first, decimal_lacks}
+use Rattle.ks_script.proofs.Pairs.{value_small}
 
 -- whether the byte stands there
 abbrev stands : ℕ → List ℕ → Bool
@@ -40,29 +45,43 @@ plain_append [] b h k = k
 plain_append (l ∷ a) b h k = (h.0, plain_append a b h.1 k)
 
 number : (n : ℕ) → n < 2 ^ 64 → Lacks 10 (decimal n)
-number n h = decimal_lacks 10 refl n h
+number n h = decimal_lacks 10 refl n (wide n h)
+
+value : (n : ℕ) → n < 2 ^ 128 → Lacks 10 (decimal n)
+value n h = decimal_lacks 10 refl n h
 
 spaced : (a b : List ℕ) → Lacks 10 a → Lacks 10 b → Lacks 10 (a ++ codes " " ++ b)
 spaced a b h k = lacks_append 10 (a ++ codes " ") b (lacks_append 10 a (codes " ") h (lacks_by 10 (codes " ") refl)) k
 
-plain_call : (op : Op) → IsCall op → Lacks 10 (call_line op)
-plain_call (Get k) h = lacks_append 10 (codes "get ") (decimal k) (lacks_by 10 (codes "get ") refl) (number k h)
-plain_call (Del k) h = lacks_append 10 (codes "del ") (decimal k) (lacks_by 10 (codes "del ") refl) (number k h)
-plain_call (Put k v) h = spaced (codes "put " ++ decimal k) (decimal v) (lacks_append 10 (codes "put ") (decimal k) (lacks_by 10 (codes "put ") refl) (number k h.0)) (number v h.1)
-plain_call (Add k v) h = absurd h
-plain_call (Swap k v w) h = absurd h
+-- a word and a key
+keyed : (word : List ℕ) (k : ℕ) → stands 10 word ≡ false → k < 2 ^ 64 → Lacks 10 (word ++ decimal k)
+keyed word k none h = lacks_append 10 word (decimal k) (lacks_by 10 word none) (number k h)
 
-plain_calls : (ops : List Op) → AllByRecursion IsCall ops → Plain (map call_line ops)
-plain_calls [] h = tt
-plain_calls (op ∷ ops) h = (plain_call op h.0, plain_calls ops h.1)
+plain_call : (version : Version) (op : Op) → IsCall version op → Lacks 10 (call_line op)
+plain_call version (Get k) h = keyed (codes "get ") k refl h
+plain_call version (Del k) h = keyed (codes "del ") k refl h
+plain_call version (Put k v) h = spaced (codes "put " ++ decimal k) (decimal v) (keyed (codes "put ") k refl h.0) (value v (value_small version v h.1))
+plain_call version (Add k v) h = spaced (codes "add " ++ decimal k) (decimal v) (keyed (codes "add ") k refl h.1) (value v (value_small version v h.2))
+plain_call version (Swap k v w) h =
+    spaced (codes "swap " ++ decimal k ++ codes " " ++ decimal v) (decimal w)
+    (spaced (codes "swap " ++ decimal k) (decimal v) (keyed (codes "swap ") k refl h.1) (value v (value_small version v h.2)))
+    (value w (value_small version w h.3))
 
-plain_script : (s : List (List Op)) → AllByRecursion (AllByRecursion IsCall) s → Plain (script_lines s)
-plain_script [] h = tt
-plain_script (ops ∷ s) h = (lacks_by 10 (codes "caller") refl, plain_append (map call_line ops) (script_lines s) (plain_calls ops h.0) (plain_script s h.1))
+plain_calls : (version : Version) (ops : List Op) → AllByRecursion (IsCall version) ops → Plain (map call_line ops)
+plain_calls version [] h = tt
+plain_calls version (op ∷ ops) h = (plain_call version op h.0, plain_calls version ops h.1)
+
+plain_script : (version : Version) (s : List (List Op)) → AllByRecursion (AllByRecursion (IsCall version)) s → Plain (script_lines s)
+plain_script version [] h = tt
+plain_script version (ops ∷ s) h = (lacks_by 10 (codes "caller") refl, plain_append (map call_line ops) (script_lines s) (plain_calls version ops h.0) (plain_script version s h.1))
+
+plain_version : (version : Version) → Plain (version_line version)
+plain_version First = tt
+plain_version Second = (lacks_by 10 (codes "script 2") refl, tt)
 
 plain_word : (r : Reply) → IsReply r → Lacks 10 (reply_word r)
 plain_word Nothing h = lacks_by 10 (codes "none") refl
-plain_word (Value v) h = number v h
+plain_word (Value v) h = value v h
 plain_word Full h = lacks_by 10 (codes "full") refl
 
 plain_replies : (rs : List (ℕ × Reply)) → AllByRecursion IsAnswered rs → Plain (map reply_line rs)
@@ -71,9 +90,9 @@ plain_replies (r ∷ rs) h = (spaced (decimal r.0) (reply_word r.1) (number r.0 
 
 plain_pairs : (n : ℕ) (ps : List (ℕ × ℕ)) → AscendFrom n ps → Plain (map pair_line ps)
 plain_pairs n [] h = tt
-plain_pairs n (p ∷ ps) h = (spaced (decimal p.0) (decimal p.1) (number p.0 h.1) (number p.1 h.2), plain_pairs (p.0 + 1) ps h.3)
+plain_pairs n (p ∷ ps) h = (spaced (decimal p.0) (decimal p.1) (number p.0 h.1) (value p.1 h.2), plain_pairs (p.0 + 1) ps h.3)
 
-plain_callers : (n : ℕ) (cs : List (List (ℕ × Reply))) → n + length cs ≤ 64 → AllByRecursion (AllByRecursion IsAnswered) cs → Plain (callers_from n cs)
+plain_callers : (n : ℕ) (cs : List (List (ℕ × Reply))) → n + length cs ≤ 1024 → AllByRecursion (AllByRecursion IsAnswered) cs → Plain (callers_from n cs)
 plain_callers n [] few h = tt
 plain_callers n (c ∷ cs) few h = (
   lacks_append 10 (codes "caller ") (decimal n) (lacks_by 10 (codes "caller ") refl) (number n (omega arith)),
@@ -88,16 +107,21 @@ pub lines_again : (ls : List (List ℕ)) → Plain ls → lines_of (text_of ls) 
 lines_again [] h = refl
 lines_again (l ∷ ls) h = ap lines_of (append_assoc l (10 ∷ []) (text_of ls)) ∙ (lines_first l (text_of ls) h.0 ∙ ap (λ ms. l ∷ ms) (lines_again ls h.1))
 
-pub written_read : (s : List (List Op)) (run : Run) → IsScript s → IsRunOf s run → CheckedOf (text_of (script_lines s ++ codes "run" ∷ run_lines run)) s run
-written_read s run is of =
+few_callers : (version : Version) (n : ℕ) → n ≤ callers_limit version → n ≤ 1024
+few_callers First n h = omega arith
+few_callers Second n h = h
+
+pub written_read : (version : Version) (s : List (List Op)) (run : Run) → IsScript version s → IsRunOf s run → CheckedIn version (text_of (version_line version ++ (script_lines s ++ codes "run" ∷ run_lines run))) s run
+written_read version s run is of =
     let many : length run.callers ≡ length s = sym (length-map run.callers (λ (ls : List (ℕ × Reply)). length ls)) ∙ (ap (λ (ns : List ℕ). length ns) of.shape ∙ length-map s (λ (ops : List Op). length ops)) in
-    let few : 0 + length run.callers ≤ 64 = (let m = is.callers in omega arith) in
+    let few : 0 + length run.callers ≤ 1024 = (let m = few_callers version (length s) is.callers in omega arith) in
     record {
       is_script = is;
       is_run = of;
-      lines_are = lines_again (script_lines s ++ codes "run" ∷ run_lines run)
-          (plain_append (script_lines s) (codes "run" ∷ run_lines run) (plain_script s is.each)
-          (lacks_by 10 (codes "run") refl, plain_append (callers_from 0 run.callers) (map_lines run.pairs) (plain_callers 0 run.callers few of.each) (plain_map run.pairs of.ascend)));
+      lines_are = lines_again (version_line version ++ (script_lines s ++ codes "run" ∷ run_lines run))
+          (plain_append (version_line version) (script_lines s ++ codes "run" ∷ run_lines run) (plain_version version)
+          (plain_append (script_lines s) (codes "run" ∷ run_lines run) (plain_script version s is.each)
+          (lacks_by 10 (codes "run") refl, plain_append (callers_from 0 run.callers) (map_lines run.pairs) (plain_callers 0 run.callers few of.each) (plain_map run.pairs of.ascend))));
     }
 
 -- the text of the lines of a text is that text, with a byte 10 at its end

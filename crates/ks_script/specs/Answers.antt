@@ -19,7 +19,7 @@ NoReply (l ∷ lines) = (x : ℕ × Reply) → IsAnswered x → l ≡ reply_line
 -- the first of the lines is no pair whose key is n at least
 abbrev pub NoPair : ℕ → List (List ℕ) → Type 0
 NoPair n [] = Unit {0}
-NoPair n (l ∷ lines) = (x : ℕ × ℕ) → n ≤ x.0 → x.0 < 2 ^ 64 → x.1 < 2 ^ 64 → l ≡ pair_line x → ⊥
+NoPair n (l ∷ lines) = (x : ℕ × ℕ) → n ≤ x.0 → x.0 < 2 ^ 64 → x.1 < 2 ^ 128 → l ≡ pair_line x → ⊥
 
 -- the least key that may follow the pairs, where n may be the first
 abbrev pub next_key : ℕ → List (ℕ × ℕ) → ℕ

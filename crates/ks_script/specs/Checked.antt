@@ -4,24 +4,26 @@ use Rattle.std.specs.List.{AllByRecursion}
 use Rattle.ks_history.specs.declared.Op.{Op}
 use Rattle.ks_history.specs.declared.Reply.{Reply}
 use Rattle.ks_history.specs.declared.Reply.TheVariants.{Nothing, Value, Full}
+use Rattle.ks_script.specs.declared.version.Version.{Version}
 use Rattle.ks_script.specs.Lines.{lines_of, FirstBad}
+use Rattle.ks_script.specs.Version.{version_line}
 use Rattle.ks_script.specs.Script.{IsScript, script_lines}
 use Rattle.ks_script.specs.Run.{Run, run_lines}
 
--- the value of the reply, if it has one, has 64 bits
+-- the value of the reply, if it has one, has 128 bits
 abbrev pub IsReply : Reply → Type 0
 IsReply Nothing = Unit {0}
-IsReply (Value v) = v < 2 ^ 64
+IsReply (Value v) = v < 2 ^ 128
 IsReply Full = Unit {0}
 
--- the number of a call and its reply have 64 bits
+-- the number of a call has 64 bits, and a value that it is answered has 128
 abbrev pub IsAnswered : ℕ × Reply → Type 0
 IsAnswered x = (x.0 < 2 ^ 64) × IsReply x.1
 
--- the keys are n at least, each is greater than the one before, and keys and values have 64 bits
+-- the keys are n at least, each is greater than the one before; keys have 64 bits, and values 128
 abbrev pub AscendFrom : ℕ → List (ℕ × ℕ) → Type 0
 AscendFrom n [] = Unit {0}
-AscendFrom n (x ∷ xs) = (n ≤ x.0) × (x.0 < 2 ^ 64) × (x.1 < 2 ^ 64) × AscendFrom (x.0 + 1) xs
+AscendFrom n (x ∷ xs) = (n ≤ x.0) × (x.0 < 2 ^ 64) × (x.1 < 2 ^ 128) × AscendFrom (x.0 + 1) xs
 
 -- the run may be the printed run of the script: it has the script's callers, and for each as many lines as it has calls
 pub record IsRunOf (script : List (List Op)) (run : Run) : Type 0 where
@@ -29,19 +31,23 @@ pub record IsRunOf (script : List (List Op)) (run : Run) : Type 0 where
   pub each : AllByRecursion (AllByRecursion IsAnswered) run.callers
   pub ascend : AscendFrom 0 run.pairs
 
--- the lines are those of the script, then `run`, then those of the run
-pub record SpellsChecked (script : List (List Op)) (run : Run) (lines : List (List ℕ)) : Type 0 where
-  pub is_script : IsScript script
+-- the lines are those of the script in this version, then `run`, then those of the run
+pub record SpellsChecked (version : Version) (script : List (List Op)) (run : Run) (lines : List (List ℕ)) : Type 0 where
+  pub is_script : IsScript version script
   pub is_run : IsRunOf script run
-  pub lines_are : lines ≡ script_lines script ++ codes "run" ∷ run_lines run
+  pub lines_are : lines ≡ version_line version ++ (script_lines script ++ codes "run" ∷ run_lines run)
 
 -- the lines are those of some script and a run of it
 abbrev pub AreChecked : List (List ℕ) → Type 0
-AreChecked lines = (script : List (List Op)) × (run : Run) × SpellsChecked script run lines
+AreChecked lines = (version : Version) × (script : List (List Op)) × (run : Run) × SpellsChecked version script run lines
+
+-- the bytes are the text of the script in this version, and of the run
+abbrev pub CheckedIn : Version → List ℕ → List (List Op) → Run → Type 0
+CheckedIn version bytes script run = SpellsChecked version script run (lines_of bytes)
 
 -- the bytes are the text of the script and the run
 abbrev pub CheckedOf : List ℕ → List (List Op) → Run → Type 0
-CheckedOf bytes script run = SpellsChecked script run (lines_of bytes)
+CheckedOf bytes script run = (version : Version) × CheckedIn version bytes script run
 
 -- line n is the one for which the bytes are no text of a script and a run
 abbrev pub FirstBadOfChecked : List ℕ → ℕ → Type 0

@@ -1,5 +1,6 @@
 pub mod Outside
 pub mod Lines
+pub mod Version
 pub mod Script
 pub mod Run
 pub mod Reading

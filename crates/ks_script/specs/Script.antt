@@ -4,7 +4,9 @@ use Rattle.std.specs.List.{flat_map, AllByRecursion}
 use Rattle.std.specs.Fmt.{decimal}
 use Rattle.ks_history.specs.declared.Op.{Op}
 use Rattle.ks_history.specs.declared.Op.TheVariants.{Get, Put, Del, Add, Swap}
+use Rattle.ks_script.specs.declared.version.Version.{Version}
 use Rattle.ks_script.specs.Lines.{lines_of, FirstBad}
+use Rattle.ks_script.specs.Version.{version_line, callers_limit, value_limit, AddsAndSwaps}
 
 -- the line of a call: its words, with one space between them
 abbrev pub call_line : Op → List ℕ
@@ -14,13 +16,14 @@ call_line (Del k) = codes "del " ++ decimal k
 call_line (Add k v) = codes "add " ++ decimal k ++ codes " " ++ decimal v
 call_line (Swap k old new) = codes "swap " ++ decimal k ++ codes " " ++ decimal old ++ codes " " ++ decimal new
 
--- the call may stand in a script: it is a Get, Put or Del, and its numbers have 64 bits
-abbrev pub IsCall : Op → Type 0
-IsCall (Get k) = k < 2 ^ 64
-IsCall (Put k v) = (k < 2 ^ 64) × (v < 2 ^ 64)
-IsCall (Del k) = k < 2 ^ 64
-IsCall (Add k v) = ⊥
-IsCall (Swap k old new) = ⊥
+-- the call may stand in a script of the version: its key has 64 bits, its values are those that the version has, and the
+-- version has an Add and a Swap
+abbrev pub IsCall : Version → Op → Type 0
+IsCall version (Get k) = k < 2 ^ 64
+IsCall version (Put k v) = (k < 2 ^ 64) × (v < value_limit version)
+IsCall version (Del k) = k < 2 ^ 64
+IsCall version (Add k v) = AddsAndSwaps version × (k < 2 ^ 64) × (v < value_limit version)
+IsCall version (Swap k old new) = AddsAndSwaps version × (k < 2 ^ 64) × (old < value_limit version) × (new < value_limit version)
 
 -- the lines of a caller: `caller`, and its calls
 abbrev pub caller_lines : List Op → List (List ℕ)
@@ -35,24 +38,28 @@ abbrev pub calls_in : List (List Op) → ℕ
 calls_in [] = 0
 calls_in (ops ∷ script) = length ops + calls_in script
 
--- a script has at most 64 callers and 1048576 calls, which may all stand in one
-pub record IsScript (script : List (List Op)) : Type 0 where
-  pub callers : length script ≤ 64
+-- a script has so many callers as its version admits, and 1048576 calls, at most; all of them may stand in one
+pub record IsScript (version : Version) (script : List (List Op)) : Type 0 where
+  pub callers : length script ≤ callers_limit version
   pub calls : calls_in script ≤ 1048576
-  pub each : AllByRecursion (AllByRecursion IsCall) script
+  pub each : AllByRecursion (AllByRecursion (IsCall version)) script
 
--- the lines are those of the script
-pub record SpellsScript (script : List (List Op)) (lines : List (List ℕ)) : Type 0 where
-  pub is : IsScript script
-  pub lines_are : lines ≡ script_lines script
+-- the lines are those of the script: the one that tells its version, and those of its callers
+pub record SpellsScript (version : Version) (script : List (List Op)) (lines : List (List ℕ)) : Type 0 where
+  pub is : IsScript version script
+  pub lines_are : lines ≡ version_line version ++ script_lines script
 
--- the lines are those of some script
+-- the lines are those of some script of some version
 abbrev pub AreScript : List (List ℕ) → Type 0
-AreScript lines = (script : List (List Op)) × SpellsScript script lines
+AreScript lines = (version : Version) × (script : List (List Op)) × SpellsScript version script lines
+
+-- the bytes are the text of the script in this version
+abbrev pub ScriptIn : Version → List ℕ → List (List Op) → Type 0
+ScriptIn version bytes script = SpellsScript version script (lines_of bytes)
 
 -- the bytes are the text of the script
 abbrev pub ScriptOf : List ℕ → List (List Op) → Type 0
-ScriptOf bytes script = SpellsScript script (lines_of bytes)
+ScriptOf bytes script = (version : Version) × ScriptIn version bytes script
 
 -- line n is the one for which the bytes are no script
 abbrev pub FirstBadOfScript : List ℕ → ℕ → Type 0

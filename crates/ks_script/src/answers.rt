@@ -9,7 +9,7 @@ ghost use Rattle.ks_script.specs.Checked.{IsAnswered};
 ghost use Rattle.ks_script.specs.Answers.{NotFirst, RepliesThen, PairsThen, SpellAnswers, AnswersThen, RefusedFrom};
 
 use crate::TextFault;
-use crate::words::{after, cut, first_line, number, two_numbers};
+use crate::words::{after, cut, first_line, key_and_value, number, wide_number};
 use ks_history::{Op, Reply};
 use std::alloc::{AllocError, Global};
 
@@ -52,7 +52,7 @@ fn reply_of(line: &[u8]) -> Option<(u64, Reply)>
     if word == b"full".as_slice() {
         return Some((number_of_call, Reply::Full));
     }
-    Some((number_of_call, Reply::Value(number(word)? as u128)))
+    Some((number_of_call, Reply::Value(wide_number(word)?)))
 }
 
 // The replies at the front, as many as are wanted, and the bytes after them.
@@ -89,13 +89,13 @@ pub fn read_pairs(alloc: Global, bytes: &[u8]) -> Result<(Vec<(u64, u128)>, &[u8
         let Some((line, more)) = first_line(rest) else {
             return Ok((pairs, rest));
         };
-        let Some((key, value)) = two_numbers(line) else {
+        let Some((key, value)) = key_and_value(line) else {
             return Ok((pairs, rest));
         };
         if (key as u128) < least {
             return Ok((pairs, rest));
         }
-        pairs.push((key, value as u128))?;
+        pairs.push((key, value))?;
         least = key as u128 + 1;
         rest = more;
     }

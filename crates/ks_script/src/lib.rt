@@ -1,11 +1,12 @@
 //! Scripts and printed runs as texts, and the ends that bytes come from and go to.
 //!
-//! The grammars stand in `specs/`, to be read in the order Lines, Script, Run: a text is a list of lines, and the
-//! lines of a script or of a run are a function of what they say. A reader answers with what the bytes say, or with
+//! The grammars stand in `specs/`, to be read in the order Lines, Version, Script, Run: a text is a list of lines, and the
+//! lines of a script or of a run are a function of what they say. Scripts have versions, which one grammar tells. A reader answers with what the bytes say, or with
 //! the first line that does not fit. `Source` and `Sink` are the outside: they may fail, and count it.
 #![tactic(auto)]
 
 mod answers;
+mod calls;
 mod checked;
 mod fault;
 mod front;
@@ -16,6 +17,7 @@ mod pieces;
 mod printed;
 mod script;
 mod source;
+mod version;
 mod words;
 
 pub use checked::read_checked;
@@ -27,6 +29,7 @@ pub use pieces::send;
 pub use printed::{Printed, write_run};
 pub use script::{Script, read_script};
 pub use source::read_all;
+pub use version::Version;
 
 #[cfg(test)]
 mod tests;

@@ -1,6 +1,6 @@
 use super::*;
 use ks_history::{Op, Reply};
-use std::alloc::Global;
+use std::alloc::{AllocError, Global};
 use std::process::Abort;
 use std::test::*;
 
@@ -56,6 +56,77 @@ fn lines_that_are_none_are_refused(rt: HostRuntime) {
 }
 
 #[test]
+fn a_script_of_the_second_version_is_read(rt: HostRuntime) -> Result<(), Fail> {
+    let text =
+        b"script 2\ncaller\nadd 5 1\nswap 5 1 340282366920938463463374607431768211455\nput 1 18446744073709551616\n";
+    let script = read_script(rt.alloc(), text).ok().ok_or("it is a script")?;
+    assert_eq!(rt; script.callers.len(), 1);
+    let calls = [
+        Op::Add(5, 1),
+        Op::Swap(5, 1, 340282366920938463463374607431768211455),
+        Op::Put(1, 18446744073709551616),
+    ];
+    for ops in &script.callers {
+        assert_eq!(rt; ops.as_slice(), calls.as_slice());
+    }
+    let empty = read_script(rt.alloc(), b"script 2")
+        .ok()
+        .ok_or("it is a script")?;
+    assert!(rt; empty.callers.is_empty());
+    Ok(())
+}
+
+#[test]
+fn lines_of_another_version_are_refused(rt: HostRuntime) {
+    let alloc = rt.alloc();
+    is_refused(&rt, alloc, b"caller\nadd 5 1\n", 2);
+    is_refused(&rt, alloc, b"caller\nswap 5 1 2\n", 2);
+    is_refused(&rt, alloc, b"caller\nscript 2\n", 2);
+    is_refused(&rt, alloc, b"script 9\n", 1);
+    is_refused(&rt, alloc, b"script 1\ncaller\n", 1);
+    is_refused(&rt, alloc, b"script 2\nscript 2\n", 2);
+    is_refused(&rt, alloc, b"script 2\nput 1 1\n", 2);
+    is_refused(
+        &rt,
+        alloc,
+        b"script 2\ncaller\nput 1 340282366920938463463374607431768211456\n",
+        3,
+    );
+    is_refused(
+        &rt,
+        alloc,
+        b"script 2\ncaller\nget 18446744073709551616\n",
+        3,
+    );
+    is_refused(&rt, alloc, b"script 2\ncaller\nswap 1 2\n", 3);
+    is_refused(&rt, alloc, b"script 2\ncaller\nadd 1 2 3\n", 3);
+}
+
+// The line, and so many lines `caller` after it.
+fn callers_after(alloc: Global, line: &[u8], callers: u64) -> Result<Vec<u8>, AllocError> {
+    let mut text = Vec::from_slice(alloc, line)?;
+    for _ in 0..callers {
+        text.extend_from_slice(b"caller\n")?;
+    }
+    Ok(text)
+}
+
+#[test]
+fn a_version_has_so_many_callers(rt: HostRuntime) -> Result<(), Fail> {
+    let alloc = rt.alloc();
+    assert!(rt; read_script(alloc, &callers_after(alloc, b"", 64)?).is_ok());
+    is_refused(&rt, alloc, &callers_after(alloc, b"", 65)?, 65);
+    assert!(rt; read_script(alloc, &callers_after(alloc, b"script 2\n", 1024)?).is_ok());
+    is_refused(
+        &rt,
+        alloc,
+        &callers_after(alloc, b"script 2\n", 1025)?,
+        1026,
+    );
+    Ok(())
+}
+
+#[test]
 fn a_script_and_its_run_are_read(rt: HostRuntime) -> Result<(), Fail> {
     let text = b"caller\nput 5 50\nget 5\nrun\ncaller 0\n0 none\n1 50\nmap\n5 50\nend\n";
     let (script, printed) = read_checked(rt.alloc(), text)
@@ -64,6 +135,28 @@ fn a_script_and_its_run_are_read(rt: HostRuntime) -> Result<(), Fail> {
     assert_eq!(rt; script.callers.len(), 1);
     assert_eq!(rt; printed.callers.len(), 1);
     assert_eq!(rt; printed.pairs.as_slice(), [(5, 50)].as_slice());
+    Ok(())
+}
+
+#[test]
+fn a_script_of_the_second_version_and_its_run_are_read(rt: HostRuntime) -> Result<(), Fail> {
+    let text =
+        b"script 2\ncaller\nadd 5 340282366920938463463374607431768211455\nrun\ncaller 0\n0 none\nmap\n5 340282366920938463463374607431768211455\nend\n";
+    let (script, printed) = read_checked(rt.alloc(), text)
+        .ok()
+        .ok_or("it is a script and a run")?;
+    assert_eq!(rt; script.callers.len(), 1);
+    assert_eq!(rt;
+        printed.pairs.as_slice(),
+        [(5, 340282366920938463463374607431768211455)].as_slice()
+    );
+    is_refused_in_check(&rt, rt.alloc(), b"script 2\n", 2);
+    is_refused_in_check(
+        &rt,
+        rt.alloc(),
+        b"run\nmap\n1 340282366920938463463374607431768211456\nend\n",
+        3,
+    );
     Ok(())
 }
 

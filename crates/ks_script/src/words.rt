@@ -49,10 +49,10 @@ pub fn after<'a>(bytes: &'a [u8], word: &[u8]) -> Option<&'a [u8]>
     bytes.strip_prefix(word)
 }
 
-/// The number below 2^64 that the bytes are the digits of.
-pub fn number(bytes: &[u8]) -> Option<u64>
+/// The number below 2^128 that the bytes are the digits of.
+pub fn wide_number(bytes: &[u8]) -> Option<u128>
     ensures some { IfSome result (λ n. bytes.now ≡ decimal n) }
-    ensures none { IfNone result ((n : ℕ) → n < 2 ^ 64 → bytes.now ≡ decimal n → ⊥) }
+    ensures none { IfNone result ((n : ℕ) → n < 2 ^ 128 → bytes.now ≡ decimal n → ⊥) }
 {
     if bytes.is_empty() {
         return None;
@@ -60,24 +60,46 @@ pub fn number(bytes: &[u8]) -> Option<u64>
     if bytes[0] == b'0' && bytes.len() > 1 {
         return None;
     }
-    let mut number: u64 = 0;
+    let mut number: u128 = 0;
     for byte in bytes {
         if !byte.is_ascii_digit() {
             return None;
         }
         number = number
             .checked_mul(10)?
-            .checked_add(u64::from(*byte - b'0'))?;
+            .checked_add(u128::from(*byte - b'0'))?;
     }
     Some(number)
 }
 
-/// The two numbers below 2^64 whose digits the bytes are, with a space between them.
-pub fn two_numbers(bytes: &[u8]) -> Option<(u64, u64)>
+/// The number below 2^64 that the bytes are the digits of.
+pub fn number(bytes: &[u8]) -> Option<u64>
+    ensures some { IfSome result (λ n. bytes.now ≡ decimal n) }
+    ensures none { IfNone result ((n : ℕ) → n < 2 ^ 64 → bytes.now ≡ decimal n → ⊥) }
+{
+    let number = wide_number(bytes)?;
+    if number > u64::MAX as u128 {
+        return None;
+    }
+    Some(number as u64)
+}
+
+/// The number below 2^64 and the one below 2^128 whose digits the bytes are, with a space between them.
+pub fn key_and_value(bytes: &[u8]) -> Option<(u64, u128)>
     ensures some { IfSome result (λ x. bytes.now ≡ decimal x.0 ++ codes " " ++ decimal x.1) }
-    ensures fits { IfSome result (λ x. (x.0 < 2 ^ 64) × (x.1 < 2 ^ 64)) }
-    ensures none { IfNone result ((m n : ℕ) → m < 2 ^ 64 → n < 2 ^ 64 → bytes.now ≡ decimal m ++ codes " " ++ decimal n → ⊥) }
+    ensures fits { IfSome result (λ x. (x.0 < 2 ^ 64) × (x.1 < 2 ^ 128)) }
+    ensures none { IfNone result ((m n : ℕ) → m < 2 ^ 64 → n < 2 ^ 128 → bytes.now ≡ decimal m ++ codes " " ++ decimal n → ⊥) }
 {
     let (first, second) = cut(bytes, b' ')?;
-    Some((number(first)?, number(second)?))
+    Some((number(first)?, wide_number(second)?))
+}
+
+/// The two numbers below 2^128 whose digits the bytes are, with a space between them.
+pub fn two_values(bytes: &[u8]) -> Option<(u128, u128)>
+    ensures some { IfSome result (λ x. bytes.now ≡ decimal x.0 ++ codes " " ++ decimal x.1) }
+    ensures fits { IfSome result (λ x. (x.0 < 2 ^ 128) × (x.1 < 2 ^ 128)) }
+    ensures none { IfNone result ((m n : ℕ) → m < 2 ^ 128 → n < 2 ^ 128 → bytes.now ≡ decimal m ++ codes " " ++ decimal n → ⊥) }
+{
+    let (first, second) = cut(bytes, b' ')?;
+    Some((wide_number(first)?, wide_number(second)?))
 }

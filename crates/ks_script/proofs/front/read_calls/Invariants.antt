@@ -6,7 +6,7 @@ use Rattle.ks_script.proofs.front.read_calls.Given as goal
 
 abbrev pub invariant-calls : goal.invariant-calls
 invariant-calls l = record {
-  each : AllByRecursion IsCall l.ops.items;
+  each : AllByRecursion (IsCall l.version) l.ops.items;
   within : length l.ops.items ≤ l.room;
   lines_are : lines_of l.bytes ≡ map call_line l.ops.items ++ lines_of l.rest;
   shorter : length l.rest ≤ length l.bytes;

@@ -1,0 +1,45 @@
+//! The versions of scripts: what each may say.
+
+ghost use Rattle.std.specs.Prelude.{◌≡◌, ◌<◌, ◌↔◌, IsTrue};
+ghost use Rattle.ks_script.specs.Version.{callers_limit, value_limit, AddsAndSwaps};
+
+/// A version of scripts. The first line tells it, unless it is the first version.
+#[derive(Clone, Copy, Debug, PartialEq, Eq)]
+pub enum Version {
+    /// `get`, `put` and `del`, with values of 64 bits.
+    First,
+    /// `add` and `swap` besides, and values of 128 bits.
+    Second,
+}
+
+impl Version {
+    /// How many callers a script may have.
+    pub fn most_callers(self) -> usize
+        ensures { result ≡ callers_limit self }
+    {
+        match self {
+            Version::First => 64,
+            Version::Second => 1024,
+        }
+    }
+
+    /// Whether the value may stand in a script.
+    pub fn has_value(self, value: u128) -> bool
+        ensures { IsTrue result ↔ (value < value_limit self) }
+    {
+        match self {
+            Version::First => value <= u64::MAX as u128,
+            Version::Second => true,
+        }
+    }
+
+    /// Whether a script may have the calls `add` and `swap`.
+    pub fn adds_and_swaps(self) -> bool
+        ensures { IsTrue result ↔ AddsAndSwaps self }
+    {
+        match self {
+            Version::First => false,
+            Version::Second => true,
+        }
+    }
+}
