@@ -44,11 +44,11 @@ IsAccepted text bytes = (n : ℕ) → RefusedAt text bytes n → ⊥
 
 pub script_accepted : (bytes : List ℕ) (script : List (List Op)) → Accepts bytes script → IsAccepted Script bytes
 script_accepted bytes script a zero bad = let le = a.within in omega (arith, bad)
-script_accepted bytes script a (suc n) bad = text_not_bad AreScript (lines_of bytes) (suc n) bad.1 (script, a.reads)
+script_accepted bytes script a (suc n) bad = text_not_bad AreScript (lines_of bytes) (suc n) bad.1 (a.reads.0, script, a.reads.1)
 
 pub checked_accepted : (bytes : List ℕ) (script : List (List Op)) (run : Run) → AcceptsChecked bytes script run → IsAccepted Checked bytes
 checked_accepted bytes script run a zero bad = let le = a.within in omega (arith, bad)
-checked_accepted bytes script run a (suc n) bad = text_not_bad AreChecked (lines_of bytes) (suc n) bad.1 (script, run, a.reads)
+checked_accepted bytes script run a (suc n) bad = text_not_bad AreChecked (lines_of bytes) (suc n) bad.1 (a.reads.0, script, run, a.reads.1)
 
 -- two lines are not both the first bad one
 first_once : (text : Text) (bytes : List ℕ) (n m : ℕ) → FirstBadOf text bytes n → FirstBadOf text bytes m → n < m → ⊥

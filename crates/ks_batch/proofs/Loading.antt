@@ -1,6 +1,11 @@
 -- Why an input is refused, from why its bytes are.
 use Rattle.std.proofs.Common.{ℕ, zero, suc, ◌≡◌, ◌≤◌, ◌<◌, List, length, Option, Some, None, Result, Ok, Err, subst, arith}
-use Rattle.std.specs.Prelude.{IfSome, IfErr}
+use Rattle.std.specs.Prelude.{IfSome, IfErr, IfOk}
+use Rattle.ks_history.specs.declared.Op.{Op}
+use Rattle.ks_script.specs.declared.version.Version.{Version}
+use Rattle.ks_script.specs.declared.version.Version.TheVariants.{First, Second}
+use Rattle.ks_script.specs.Version.{callers_limit}
+use Rattle.ks_script.specs.Script.{ScriptOf}
 use Rattle.ks_batch.specs.declared.words.Text.{Text}
 use Rattle.ks_batch.specs.declared.words.Text.TheVariants.{Script, Checked}
 use Rattle.ks_batch.specs.declared.input.Stop.{Stop}
@@ -22,3 +27,12 @@ load_cause text None rose v (Err (Refused n)) is le bad = tt
 load_cause text (Some bytes) rose v (Err (Refused n)) is le bad = refused_at text n v bytes is le bad
 load_cause text left rose v (Err Source) is le bad = absurd bad
 load_cause text left rose v (Err Memory) is le bad = tt
+
+-- no version has more callers than the second
+within : (version : Version) (n : ℕ) → n ≤ callers_limit version → n ≤ 1024
+within First n le = omega arith
+within Second n le = le
+
+pub few_read : (bytes : List ℕ) (r : Result (List (List Op)) Stop) → IfOk r (λ script. ScriptOf bytes script) → IfOk r (λ script. length script ≤ 1024)
+few_read bytes (Ok script) is = within is.0 (length script) is.1.is.callers
+few_read bytes (Err stop) is = tt

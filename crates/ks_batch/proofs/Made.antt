@@ -9,7 +9,7 @@ made_length : (callers n c k x : ℕ) → length (callers_made callers n c k x) 
 made_length callers n c zero x = omega arith
 made_length callers n c (suc k) x = let e = made_length callers n (c + 1) k (after_calls n x) in omega (arith, e)
 
-pub few_callers : {X : Type 0} (items : X → List Op) (xs : List X) (script : List (List Op)) (draft : Draft) → draft.callers ≤ 64 → map items xs ≡ script → script ≡ made draft.callers draft.calls draft.first → length xs ≤ 64
+pub few_callers : {X : Type 0} (items : X → List Op) (xs : List X) (script : List (List Op)) (draft : Draft) → draft.callers ≤ 64 → map items xs ≡ script → script ≡ made draft.callers draft.calls draft.first → length xs ≤ 1024
 few_callers items xs script draft le view is =
     let e : length xs ≡ draft.callers = sym (length-map xs items) ∙ ap length (view ∙ is) ∙ made_length draft.callers draft.calls 0 draft.callers draft.first in
     omega (arith, e, le)

@@ -29,9 +29,9 @@ AreWords words Check = words ≡ codes "check" ∷ []
 
 -- its numbers are within their limits
 abbrev pub InLimits : Asked → Type 0
-InLimits (Run pairing arena workers) = (4 ≤ arena) × (arena ≤ 65536) × (1 ≤ workers) × (workers ≤ 64)
+InLimits (Run pairing arena workers) = (4 ≤ arena) × (arena ≤ 1048576) × (1 ≤ workers) × (workers ≤ 64)
 InLimits (Make pairing arena draft) =
-    (4 ≤ arena) × (arena ≤ 65536)
+    (4 ≤ arena) × (arena ≤ 1048576)
     × (1 ≤ draft.callers) × (draft.callers ≤ 64) × (draft.calls ≤ 16384) × (draft.first ≤ 18446744073709551615)
 InLimits Check = Unit {0}
 
@@ -63,7 +63,7 @@ pub record NamesArena (nodes template arena : List ℕ) (pairing : Pairing) (cou
   pub pairing_is : Names nodes template pairing
   pub arena_is : arena ≡ decimal count
   pub least : 4 ≤ count
-  pub most : count ≤ 65536
+  pub most : count ≤ 1048576
 
 -- the words are a command to make a script
 abbrev pub IsMake : List (List ℕ) → Type 0

@@ -79,7 +79,7 @@ fn checked(alloc: Global, bytes: &[u8]) -> Result<(Script, Printed), Stop>
 /// Reads a script from the source.
 pub fn load<S: Source>(alloc: Global, source: &mut S) -> Result<Script, Stop>
     ensures ok { IfOk result (λ script. IfSome (S.left source.old) (λ bytes. Accepts bytes script)) }
-    ensures callers { IfOk result (λ script. length script ≤ 64) }
+    ensures callers { IfOk result (λ script. length script ≤ 1024) }
     ensures end { OnOk result (IfSome (S.left source.old) (λ _. S.left source.new ≡ Some [])) }
     ensures cause { IfErr result (λ stop. IsCause stop text.Script (S.left source.old) (Rose (S.faults source.old) (S.faults source.new))) }
 {

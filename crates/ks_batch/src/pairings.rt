@@ -52,8 +52,8 @@ pub fn serve_by<R: Threads + Wait + Sync, G: Gate + Sync>(
     workers: u32,
     gate: &G,
 ) -> Result<Told, AllocError>
-    requires nodes { (4 ≤ nodes) × (nodes ≤ 65536) }
-    requires callers { length callers.items ≤ 64 }
+    requires nodes { (4 ≤ nodes) × (nodes ≤ 1048576) }
+    requires callers { length callers.items ≤ 1024 }
     requires workers { (1 ≤ workers) × (workers ≤ 64) }
     ensures served { IfOk result (λ told. Served (row_of pairing).place (map (λ v. v.items) callers.items) (map (λ v. v.items) told.lines.items) told.pairs.items told.trace) }
     ensures lawful { IfOk result (λ told. Lawful told.trace) }

@@ -90,7 +90,7 @@ fn prepare<R: Threads + Wait + Sync, S: Source, G: Gate + Sync>(
     source: &mut S,
     gate: &G,
 ) -> Result<Ready, Stop>
-    requires arena { (4 ≤ arena) × (arena ≤ 65536) }
+    requires arena { (4 ≤ arena) × (arena ≤ 1048576) }
     requires workers { (1 ≤ workers) × (workers ≤ 64) }
     ensures lawful { IfOk result (λ ready. Lawful ready.trace) }
     ensures good { IfOk result (λ ready. GoodThroughout ready.trace) }
@@ -117,7 +117,7 @@ fn serve_script<R: Threads + Wait + Sync, S: Source, K: Sink, G: Gate + Sync>(
     out: &mut K,
     gate: &G,
 ) -> Outcome
-    requires arena { (4 ≤ arena) × (arena ≤ 65536) }
+    requires arena { (4 ≤ arena) × (arena ≤ 1048576) }
     requires workers { (1 ≤ workers) × (workers ≤ 64) }
     ensures lawful { IfSome result.run Lawful }
     ensures good { IfSome result.run GoodThroughout }
@@ -234,7 +234,7 @@ pub fn make<R: Threads + Wait + Sync, G: Gate + Sync>(
     workers: u32,
     gate: &G,
 ) -> Result<Made, AllocError>
-    requires arena { (4 ≤ arena) × (arena ≤ 65536) }
+    requires arena { (4 ≤ arena) × (arena ≤ 1048576) }
     requires callers { draft.callers ≤ 64 }
     requires workers { (1 ≤ workers) × (workers ≤ 64) }
     ensures lawful { IfOk result (λ made. Lawful made.trace) }
@@ -270,7 +270,7 @@ fn make_run<R: Threads + Wait + Sync, K: Sink, G: Gate + Sync>(
     out: &mut K,
     gate: &G,
 ) -> Outcome
-    requires arena { (4 ≤ arena) × (arena ≤ 65536) }
+    requires arena { (4 ≤ arena) × (arena ≤ 1048576) }
     requires callers { draft.callers ≤ 64 }
     ensures lawful { IfSome result.run Lawful }
     ensures good { IfSome result.run GoodThroughout }

@@ -6,6 +6,7 @@ mod ends;
 mod meetings;
 mod pairings;
 mod texts;
+mod versions;
 mod workers;
 
 use crate::serve;

@@ -96,7 +96,7 @@ fn arena_named(nodes: &String, template: &String, arena: &String) -> Option<(Pai
     let Some(pairing) = named(nodes, template) else {
         return None;
     };
-    let Some(arena) = number(arena, 4, 65536) else {
+    let Some(arena) = number(arena, 4, 1048576) else {
         return None;
     };
     Some((pairing, arena as u32))

@@ -1,6 +1,9 @@
 use Rattle.ks_batch.specs.declared.words.Text.TheVariants.{Script}
-use Rattle.ks_batch.proofs.Loading.{load_cause}
+use Rattle.ks_batch.proofs.Loading.{load_cause, few_read}
 use Rattle.ks_batch.proofs.input.load.Goals as goal
 
 pub returns-clause-cause : goal.returns-clause-cause
 returns-clause-cause g c = load_cause Script (g.S.Source.left c.args.source.now) _ c.in_ok-bytes.bytes.items c.script.result c.in_ok-bytes.ensures.ok c.in_ok-bytes.ensures.within (rw c.deref.ensures.value at c.script.ensures.refused)
+
+pub returns-clause-callers : goal.returns-clause-callers
+returns-clause-callers g c = few_read c.deref.result.now c.script.result c.script.ensures.accepted
