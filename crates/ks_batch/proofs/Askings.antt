@@ -18,7 +18,7 @@ record Front (words : List (List ℕ)) (p : Pairing) (n : ℕ) : Type 0 where
   pub nodes : get_or words 1 [] ≡ (row_of p).nodes
   pub template : get_or words 2 [] ≡ (row_of p).template
   pub arena : get_or words 3 [] ≡ decimal n
-  pub limit : n ≤ 65536
+  pub limit : n ≤ 1048576
 
 front : (words : List (List ℕ)) (p : Pairing) (n : ℕ) → AsksToRun words p n → Front words p n
 front words p n (workers, s) = by_words s.is

@@ -15,7 +15,8 @@ use ks_history::Op;
 fn entry_of(version: Version, bytes: &[u8]) -> Option<(u64, u128)>
     ensures some { IfSome result (λ x. bytes.now ≡ pair_line x) }
     ensures fits { IfSome result (λ x. (x.0 < 2 ^ 64) × (x.1 < value_limit version)) }
-    ensures none { IfNone result ((k v : ℕ) → k < 2 ^ 64 → v < value_limit version → bytes.now ≡ pair_line (k, v) → ⊥) }
+    ensures none { IfNone result ((k v : ℕ) → k < 2 ^ 64 → v < value_limit version →
+        bytes.now ≡ pair_line (k, v) → ⊥) }
 {
     let (key, value) = key_and_value(bytes)?;
     if !version.has_value(value) {

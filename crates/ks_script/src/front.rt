@@ -62,7 +62,8 @@ fn read_calls(
 /// The script at the front, as far as the lines go.
 pub fn read_callers(alloc: Global, bytes: &[u8]) -> Result<Front<'_>, AllocError>
     ensures script { IfOk result (λ f. ScriptThen f.version bytes.now (map (λ v. v.items) f.callers.items) f.rest.now) }
-    ensures lines { IfOk result (λ f. f.lines ≡ length (version_line f.version) + length f.callers.items + calls_in (map (λ v. v.items) f.callers.items)) }
+    ensures lines { IfOk result (λ f. f.lines ≡
+        length (version_line f.version) + length f.callers.items + calls_in (map (λ v. v.items) f.callers.items)) }
 {
     let (version, told, body) = version_of(bytes);
     let most = version.most_callers();

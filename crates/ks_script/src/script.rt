@@ -26,7 +26,7 @@ impl Model for Script {
     ghost view = { λ s. map (λ v. v.items) s.callers.items };
 }
 
-/// The script that the bytes are the text of, or the first line that does not fit.
+/// The script, of either version, that the bytes are the text of, or the first line that does not fit.
 pub fn read_script(alloc: Global, bytes: &[u8]) -> Result<Script, TextFault>
     ensures answer { Answers result (ScriptOf bytes.now) (FirstBadOfScript bytes.now) }
     // What is a script is read, and a line that does not fit is refused, unless memory is wanting.

@@ -88,7 +88,8 @@ pub fn number(bytes: &[u8]) -> Option<u64>
 pub fn key_and_value(bytes: &[u8]) -> Option<(u64, u128)>
     ensures some { IfSome result (λ x. bytes.now ≡ decimal x.0 ++ codes " " ++ decimal x.1) }
     ensures fits { IfSome result (λ x. (x.0 < 2 ^ 64) × (x.1 < 2 ^ 128)) }
-    ensures none { IfNone result ((m n : ℕ) → m < 2 ^ 64 → n < 2 ^ 128 → bytes.now ≡ decimal m ++ codes " " ++ decimal n → ⊥) }
+    ensures none { IfNone result ((m n : ℕ) → m < 2 ^ 64 → n < 2 ^ 128 →
+        bytes.now ≡ decimal m ++ codes " " ++ decimal n → ⊥) }
 {
     let (first, second) = cut(bytes, b' ')?;
     Some((number(first)?, wide_number(second)?))
@@ -98,7 +99,8 @@ pub fn key_and_value(bytes: &[u8]) -> Option<(u64, u128)>
 pub fn two_values(bytes: &[u8]) -> Option<(u128, u128)>
     ensures some { IfSome result (λ x. bytes.now ≡ decimal x.0 ++ codes " " ++ decimal x.1) }
     ensures fits { IfSome result (λ x. (x.0 < 2 ^ 128) × (x.1 < 2 ^ 128)) }
-    ensures none { IfNone result ((m n : ℕ) → m < 2 ^ 128 → n < 2 ^ 128 → bytes.now ≡ decimal m ++ codes " " ++ decimal n → ⊥) }
+    ensures none { IfNone result ((m n : ℕ) → m < 2 ^ 128 → n < 2 ^ 128 →
+        bytes.now ≡ decimal m ++ codes " " ++ decimal n → ⊥) }
 {
     let (first, second) = cut(bytes, b' ')?;
     Some((wide_number(first)?, wide_number(second)?))
