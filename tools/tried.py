@@ -34,6 +34,8 @@ def has_full():
 def program():
     """The built program: the one that is named, else the one that the gate built, else the one that ./ks builds."""
     if len(sys.argv) > 1:
+        if not os.access(sys.argv[1], os.X_OK):
+            sys.exit(f"{os.path.basename(sys.argv[0])}: {sys.argv[1]} is no program")
         return os.path.abspath(sys.argv[1])
     built = f"{TOP}/crates/ks_main/out/ks_main"
     if not os.access(built, os.X_OK):

@@ -3,9 +3,12 @@
 ghost use Rattle.std.specs.Prelude.{◌<◌};
 
 mod ends;
+mod failing;
+mod hostile;
 mod meetings;
 mod merging;
 mod pairings;
+mod standing;
 mod texts;
 mod versions;
 mod workers;
@@ -35,15 +38,15 @@ fn split(alloc: Global, words: &str) -> Result<Vec<String>, AllocError> {
 }
 
 /// Runs the program on these ends, with the gate for its callers.
-fn run_on<R: Threads + Wait + Sync, G: Gate + Sync>(
+fn run_ends<R: Threads + Wait + Sync, G: Gate + Sync>(
     rt: &R,
     alloc: Global,
     words: &str,
     mut source: MemSource,
     mut out: MemSink,
+    mut err: MemSink,
     gate: &G,
 ) -> Result<Ended, AllocError> {
-    let mut err = MemSink::new(alloc, 4096, 4096, Vec::new(alloc))?;
     let words = split(alloc, words)?;
     let outcome = serve(rt, alloc, &words, &mut source, &mut out, &mut err, gate);
     Ok(Ended {
@@ -51,6 +54,19 @@ fn run_on<R: Threads + Wait + Sync, G: Gate + Sync>(
         out: Vec::from_slice(alloc, out.taken())?,
         err: Vec::from_slice(alloc, err.taken())?,
     })
+}
+
+/// Runs the program on these ends, with an error output that takes all.
+fn run_on<R: Threads + Wait + Sync, G: Gate + Sync>(
+    rt: &R,
+    alloc: Global,
+    words: &str,
+    source: MemSource,
+    out: MemSink,
+    gate: &G,
+) -> Result<Ended, AllocError> {
+    let err = MemSink::new(alloc, 4096, 4096, Vec::new(alloc))?;
+    run_ends(rt, alloc, words, source, out, err, gate)
 }
 
 /// Runs the program with ends that give and take so many bytes at a time.

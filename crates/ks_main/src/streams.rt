@@ -18,8 +18,8 @@ pub struct StdSource<R: Read + Drop> {
 
 impl<R: Read + Drop> StdSource<R> {
     pub fn new(stream: R) -> StdSource<R>
-        ensures stream { result.stream ≡ stream }
-        ensures faults { result.faults ≡ 0 }
+        ensures tells { ⟦<StdSource<R> as Source>⟧.left result ≡ R.remaining stream }
+        ensures clean { ⟦<StdSource<R> as Source>⟧.faults result ≡ 0 }
     {
         StdSource { stream, faults: 0 }
     }
@@ -50,8 +50,8 @@ pub struct StdSink<W: Write + Drop> {
 
 impl<W: Write + Drop> StdSink<W> {
     pub fn new(stream: W) -> StdSink<W>
-        ensures stream { result.stream ≡ stream }
-        ensures faults { result.faults ≡ 0 }
+        ensures tells { ⟦<StdSink<W> as Sink>⟧.taken result ≡ W.contents stream }
+        ensures clean { ⟦<StdSink<W> as Sink>⟧.faults result ≡ 0 }
     {
         StdSink { stream, faults: 0 }
     }

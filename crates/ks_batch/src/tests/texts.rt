@@ -8,7 +8,7 @@ pub const RUN: &str = "run bplus coupling 4";
 
 pub const FIRST: &[u8] = b"caller\nput 5 50\nget 5\n";
 
-const FIRST_RUN: &[u8] = b"caller 0\n0 none\n1 50\nmap\n5 50\nend\n";
+pub const FIRST_RUN: &[u8] = b"caller 0\n0 none\n1 50\nmap\n5 50\nend\n";
 
 /// Scripts and the texts of their runs.
 const RUNS: [(&[u8], &[u8]); 6] = [
@@ -49,7 +49,7 @@ const REFUSALS: [(&str, &[u8], &[u8], u8); 14] = [
     ("run bplus coupling 4 1 1", b"caller\n", USAGE, 1),
 ];
 
-const USAGE: &[u8] =
+pub const USAGE: &[u8] =
     b"usage: run NODES TEMPLATE ARENA [WORKERS], make NODES TEMPLATE ARENA CALLERS CALLS FIRST, or check\n";
 
 /// What is checked, and what is said of it, with the status.

@@ -1,0 +1,47 @@
+//! Callers that run beside each other, where one stands while the other makes some calls.
+
+use super::{put_nones, put_pairs, run_at};
+use ks_gate::{Point, Stand};
+use std::test::Fail;
+
+/// Along links: caller 0 stands in its last get, with the root given back and the number of the leaf in mind, while
+/// caller 1 puts the next key and splits that leaf. The get moves to the right and finds its key.
+#[test]
+fn a_get_along_links_ends_right_past_a_split(rt: HostRuntime) -> Result<(), Fail> {
+    let gate = Stand::of(0, 25, Point::Given(0), 1, 1, 50_000_000);
+    let mut input = Vec::from_slice(rt.alloc(), b"caller\n")?;
+    put_pairs(&mut input, b"put ", 0, 23)?;
+    input.extend_from_slice(b"get 0\nget 23\ncaller\nput 24 24\n")?;
+    let mut wanted = Vec::from_slice(rt.alloc(), b"caller 0\n")?;
+    put_nones(&mut wanted, 0, 23)?;
+    wanted.extend_from_slice(b"24 0\n26 23\ncaller 1\n25 none\nmap\n")?;
+    put_pairs(&mut wanted, b"", 0, 24)?;
+    wanted.extend_from_slice(b"end\n")?;
+    let ended = run_at(&rt, rt.alloc(), "run bplus link 64", &input, 4096, &gate)?;
+    assert_eq!(rt; ended.status, 0);
+    assert!(rt; ended.out.as_slice() == wanted.as_slice());
+    assert!(rt; !gate.failed());
+    Ok(())
+}
+
+/// By giving up: caller 1 puts three keys meanwhile, the second of which splits the leaf; the get begins again.
+#[test]
+fn a_get_that_gives_up_ends_right_past_three_calls(rt: HostRuntime) -> Result<(), Fail> {
+    let gate = Stand::of(0, 23, Point::Given(0), 1, 3, 50_000_000);
+    let mut input = Vec::from_slice(rt.alloc(), b"caller\n")?;
+    put_pairs(&mut input, b"put ", 0, 22)?;
+    input.extend_from_slice(b"get 22\ncaller\n")?;
+    put_pairs(&mut input, b"put ", 23, 25)?;
+    let mut wanted = Vec::from_slice(rt.alloc(), b"caller 0\n")?;
+    put_nones(&mut wanted, 0, 22)?;
+    wanted.extend_from_slice(b"26 22\ncaller 1\n")?;
+    put_nones(&mut wanted, 23, 25)?;
+    wanted.extend_from_slice(b"map\n")?;
+    put_pairs(&mut wanted, b"", 0, 25)?;
+    wanted.extend_from_slice(b"end\n")?;
+    let ended = run_at(&rt, rt.alloc(), "run bplus giveup 64", &input, 4096, &gate)?;
+    assert_eq!(rt; ended.status, 0);
+    assert!(rt; ended.out.as_slice() == wanted.as_slice());
+    assert!(rt; !gate.failed());
+    Ok(())
+}
