@@ -79,13 +79,16 @@ fn beside_a_holder<N: Unlinked>(
     ensures one { IsEmptyPassOf arena.now one.new }
     ensures two { IsEmptyPassOf arena.now two.new }
 {
-    let Taken::Held(held) = arena.try_take(one, 1) else {
-        return None;
-    };
-    let low = try_get(arena, two, &NoGate, 0);
-    let high = try_get(arena, two, &NoGate, 16);
-    arena.give(one, held);
-    Some([low, high])
+    match arena.try_take(one, 1) {
+        Taken::Held(held) => {
+            let low = try_get(arena, two, &NoGate, 0);
+            let high = try_get(arena, two, &NoGate, 16);
+            arena.give(one, held);
+            Some([low, high])
+        }
+        Taken::Busy { holder: _ } => None,
+        Taken::Gone => None,
+    }
 }
 
 /// Caller 0 puts 17 places, which takes three nodes, and holds the left leaf.
