@@ -3,8 +3,6 @@
 
 mod at_root;
 #[cfg(test)]
-mod dropped;
-#[cfg(test)]
 mod tests;
 
 pub use at_root::AtRoot;
