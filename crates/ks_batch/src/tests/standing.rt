@@ -45,3 +45,43 @@ fn a_get_that_gives_up_ends_right_past_three_calls(rt: HostRuntime) -> Result<()
     assert!(rt; !gate.failed());
     Ok(())
 }
+
+/// By giving up: caller 0 stands in its last get with the number of a leaf in mind, while caller 1 deletes a key, so that
+/// the leaf is merged away and the root takes over all. The number is that of a free node: the get begins again.
+#[test]
+fn a_get_that_gives_up_ends_right_past_a_merge(rt: HostRuntime) -> Result<(), Fail> {
+    let gate = Stand::of(0, 18, Point::Given(0), 1, 2, 50_000_000);
+    let mut input = Vec::from_slice(rt.alloc(), b"caller\n")?;
+    put_pairs(&mut input, b"put ", 0, 16)?;
+    input.extend_from_slice(b"get 0\nget 8\ncaller\ndel 0\nget 1\n")?;
+    let mut wanted = Vec::from_slice(rt.alloc(), b"caller 0\n")?;
+    put_nones(&mut wanted, 0, 16)?;
+    wanted.extend_from_slice(b"17 0\n20 8\ncaller 1\n18 0\n19 1\nmap\n")?;
+    put_pairs(&mut wanted, b"", 1, 16)?;
+    wanted.extend_from_slice(b"end\n")?;
+    let ended = run_at(&rt, rt.alloc(), "run bplus giveup 64", &input, 4096, &gate)?;
+    assert_eq!(rt; ended.status, 0);
+    assert!(rt; ended.out.as_slice() == wanted.as_slice());
+    assert!(rt; !gate.failed());
+    Ok(())
+}
+
+/// By giving up: meanwhile caller 1 merges the leaf away and lets the root grow again, so that the node is used for other
+/// keys: its range does not hold the key, and the get begins again.
+#[test]
+fn a_get_that_gives_up_ends_right_past_a_node_used_again(rt: HostRuntime) -> Result<(), Fail> {
+    let gate = Stand::of(0, 18, Point::Given(0), 1, 3, 50_000_000);
+    let mut input = Vec::from_slice(rt.alloc(), b"caller\n")?;
+    put_pairs(&mut input, b"put ", 0, 16)?;
+    input.extend_from_slice(b"get 0\nget 8\ncaller\ndel 0\nput 100 100\nget 1\n")?;
+    let mut wanted = Vec::from_slice(rt.alloc(), b"caller 0\n")?;
+    put_nones(&mut wanted, 0, 16)?;
+    wanted.extend_from_slice(b"17 0\n21 8\ncaller 1\n18 0\n19 none\n20 1\nmap\n")?;
+    put_pairs(&mut wanted, b"", 1, 16)?;
+    wanted.extend_from_slice(b"100 100\nend\n")?;
+    let ended = run_at(&rt, rt.alloc(), "run bplus giveup 64", &input, 4096, &gate)?;
+    assert_eq!(rt; ended.status, 0);
+    assert!(rt; ended.out.as_slice() == wanted.as_slice());
+    assert!(rt; !gate.failed());
+    Ok(())
+}
