@@ -1,11 +1,9 @@
 //! Tests of calls along links that wait for nobody.
-ghost use Rattle.std.specs.Prelude.{◌≡◌, ◌≤◌, ◌<◌, IfOk};
-ghost use Rattle.ks_flow.specs.Discipline.{BeginsLink};
-ghost use Rattle.ks_arena.specs.Sound.{blank_of, sort_of};
+ghost use Rattle.std.specs.Prelude.{◌≡◌};
 ghost use Rattle.ks_arena.specs.Of.{IsEmptyPassOf};
 
 use crate::calls::{one_caller, put_each};
-use ks_arena::{Arena, Pass, Taken};
+use ks_arena::{Arena, Pass};
 use ks_bplus::BNode;
 use ks_flow::Link;
 use ks_gate::NoGate;
@@ -13,7 +11,6 @@ use ks_link::{try_add, try_del, try_get, try_put, try_swap};
 use ks_linked::WithLink;
 use ks_node::Linked;
 use ks_shape::{Later, Numbered, PutLater};
-use std::alloc::{AllocError, Global};
 use std::test::Fail;
 
 /// An answer of a call that was not put off.
@@ -68,62 +65,5 @@ fn try_each<N: Linked>(arena: &Arena<N, Link>, pass: &mut Pass<N, Link>, many: u
 fn puts_that_wait_for_nobody_split_branches(rt: HostRuntime) -> Result<(), Fail> {
     let (arena, mut pass) = one_caller::<WithLink<BNode>>(rt.alloc(), 400)?;
     assert!(rt; try_each(&arena, &mut pass, 1500));
-    Ok(())
-}
-
-/// An arena of two callers, and the passes of callers 0 and 1.
-fn two_callers<N: Linked>(
-    alloc: Global,
-    nodes: u32,
-) -> Result<(Arena<N, Link>, Pass<N, Link>, Pass<N, Link>), AllocError>
-    requires fits { BeginsLink (blank_of (sort_of N.layout N.ranged)) }
-    requires nodes { (4 ≤ nodes) × (nodes ≤ 1048576) }
-    ensures nodes { IfOk result (λ x. x.0.nodes ≡ nodes) }
-    ensures one { IfOk result (λ x. IsEmptyPassOf x.0 x.1) }
-    ensures two { IfOk result (λ x. IsEmptyPassOf x.0 x.2) }
-{
-    let (arena, mut passes) = Arena::<N, Link>::start(alloc, nodes, 2)?;
-    let Some(two) = passes.pop() else {
-        return Err(AllocError);
-    };
-    let Some(one) = passes.pop() else {
-        return Err(AllocError);
-    };
-    Ok((arena, one, two))
-}
-
-/// What caller 1 is told of a get at places 0 and 16, and of a put at place 0, while caller 0 holds node 1.
-fn beside_a_holder<N: Linked>(
-    arena: &Arena<N, Link>,
-    one: &mut Pass<N, Link>,
-    two: &mut Pass<N, Link>,
-) -> Option<([Result<Numbered, Later>; 2], Result<Numbered, PutLater>)>
-    requires nodes { 1 < arena.now.nodes }
-    requires one { IsEmptyPassOf arena.now one.old }
-    requires two { IsEmptyPassOf arena.now two.old }
-    ensures one { IsEmptyPassOf arena.now one.new }
-    ensures two { IsEmptyPassOf arena.now two.new }
-{
-    match arena.try_take(one, 1) {
-        Taken::Held(held) => {
-            let low = try_get(arena, two, &NoGate, 0);
-            let high = try_get(arena, two, &NoGate, 16);
-            let put = try_put(arena, two, &NoGate, 0, 7);
-            arena.give(one, held);
-            Some(([low, high], put))
-        }
-        Taken::Busy { holder: _ } | Taken::Gone => None,
-    }
-}
-
-/// Caller 0 puts 17 places, which takes three nodes, and holds the left leaf.
-#[test]
-fn a_node_that_another_holds_is_busy_and_nothing_is_put(rt: HostRuntime) -> Result<(), Fail> {
-    let (arena, mut one, mut two) = two_callers::<WithLink<BNode>>(rt.alloc(), 64)?;
-    assert!(rt; put_each(&rt, &arena, &mut one, 17, 0, 1));
-    let busy = Later::Busy { node: 1, holder: 0 };
-    let beside = beside_a_holder(&arena, &mut one, &mut two);
-    assert!(rt; beside == Some(([Err(busy), told(17, Some(16))], Err(PutLater::Later(busy)))));
-    assert!(rt; try_get(&arena, &mut two, &NoGate, 0) == told(18, Some(0)));
     Ok(())
 }
