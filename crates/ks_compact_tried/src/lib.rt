@@ -1,0 +1,7 @@
+//! Tests of compaction: what was split off is free again, and the map stays.
+#![tactic(auto)]
+
+#[cfg(test)]
+mod runs;
+#[cfg(test)]
+mod tests;
