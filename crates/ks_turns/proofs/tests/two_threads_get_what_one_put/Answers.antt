@@ -13,6 +13,6 @@ close-run-requires-after_bounds g c bounds =
     let arena = c.in_ok-arena.arena in
     record {
       each = each_of (λ p. IsPass (sort_of list_layout false) BeginsTree TreeStep arena.table.shared.table_id arena.callers p × (hand_of p ≡ []))
-          c.in_ok-all.all.items c.both_get-left.result.0.0 c.both_get-left.result.1.0 c.in_ok-all.ensures (met.one.0, met.one.1) (met.two.0, met.two.1);
-      all = λ k lt. all_of (λ p. p.caller) c.in_ok-all.all.items c.both_get-left.result.0.0 c.both_get-left.result.1.0 c.in_ok-all.ensures (met.one.2 ∙ c.put_at_root-put.ensures.caller ∙ start.one.2) (met.two.2 ∙ start.two.2) k (subst (λ n. k < n) start.nodes.1 lt);
+          c.in_ok-all.all.items c.both_get-left.result.0.0 c.both_get-left.result.1.0 c.in_ok-all.ensures met.one.0 met.two.0;
+      all = λ k lt. all_of (λ p. p.caller) c.in_ok-all.all.items c.both_get-left.result.0.0 c.both_get-left.result.1.0 c.in_ok-all.ensures (met.one.1 ∙ c.put_at_root-put.ensures.caller ∙ start.one.1) (met.two.1 ∙ start.two.1) k (subst (λ n. k < n) start.nodes.1 lt);
     }
