@@ -2,6 +2,8 @@
 #![tactic(auto)]
 
 #[cfg(test)]
+mod churn;
+#[cfg(test)]
 mod runs;
 #[cfg(test)]
 mod tests;

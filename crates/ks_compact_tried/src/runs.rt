@@ -1,7 +1,9 @@
 //! Runs of one caller over a dictionary: puts, dels, and compaction.
 ghost use Rattle.std.specs.Prelude.{◌≡◌, ◌≤◌, ◌∷◌, [], IfOk};
 ghost use Rattle.ks_arena.specs.Sound.{sort_of};
+ghost use Rattle.ks_shape.specs.Idle.{IsIdle};
 ghost use Rattle.ks_dictionary.specs.Ended.{HasEnded};
+ghost use Rattle.ks_compact_tried.specs.Many.{IsSameCaller};
 ghost use Rattle.ks_compact_tried.specs.Only.{IsOnly};
 
 use ks_arena::{Arena, Pass};
@@ -85,6 +87,22 @@ pub(crate) fn compact_once<
 }
 
 /// Compacts until no node is made free.
+pub(crate) fn compact_until_none<
+    N: Node,
+    T: Ruled + Compacting<N, Arena<N, <T as Ruled>::Rule>>,
+    R: Wait,
+>(rt: &R, dictionary: &Dictionary<N, T>, pass: &mut Pass<N, T::Rule>)
+    requires { IsIdle (⟦<Dictionary<N, T> as Shelf>⟧.site dictionary.now) pass.old }
+    ensures { IsSameCaller (⟦<Dictionary<N, T> as Shelf>⟧.site dictionary.now) pass.old pass.new }
+{
+    for _ in rt.forever() {
+        if dictionary.compact(rt, pass, &NoGate) == 0 {
+            return;
+        }
+    }
+}
+
+/// Compacts until no node is made free, where there is one caller.
 pub(crate) fn compact_all<N: Node, T: Ruled + Compacting<N, Arena<N, <T as Ruled>::Rule>>, R: Wait>(
     rt: &R,
     dictionary: &Dictionary<N, T>,
@@ -93,11 +111,7 @@ pub(crate) fn compact_all<N: Node, T: Ruled + Compacting<N, Arena<N, <T as Ruled
     requires { IsOnly (⟦<Dictionary<N, T> as Shelf>⟧.site dictionary.now) pass.old }
     ensures { IsOnly (⟦<Dictionary<N, T> as Shelf>⟧.site dictionary.now) pass.new }
 {
-    for _ in rt.forever() {
-        if dictionary.compact(rt, pass, &NoGate) == 0 {
-            return;
-        }
-    }
+    compact_until_none(rt, dictionary, pass);
 }
 
 /// The one pass in a vector.

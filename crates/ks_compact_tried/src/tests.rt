@@ -1,3 +1,4 @@
+use crate::churn::churned;
 use crate::runs::{compact_all, compact_once, del_each, end_one, put_each, start_one};
 use ks_bplus::BNode;
 use ks_coupling::Coupling;
@@ -87,6 +88,26 @@ fn a_table_whose_keys_are_deleted_becomes_its_root(rt: HostRuntime) -> Result<()
     assert!(rt; del_each(&rt, &dictionary, &mut pass, 7, 600, 1));
     compact_all(&rt, &dictionary, &mut pass);
     let closed = end_one(rt.alloc(), dictionary, pass)?;
+    assert!(rt; is_root_alone(&closed.graph(rt.alloc())?, 0));
+    Ok(())
+}
+
+#[test]
+fn a_tree_becomes_its_root_after_a_churn_of_64_callers(rt: HostRuntime) -> Result<(), Fail> {
+    let closed = churned::<BNode, Coupling, HostRuntime>(&rt, rt.alloc(), 65_536)?;
+    assert!(rt; closed.calls() == 1_024_000);
+    assert!(rt; closed.pairs(rt.alloc())?.is_empty());
+    assert!(rt; is_root_alone(&closed.graph(rt.alloc())?, 0));
+    Ok(())
+}
+
+#[test]
+fn a_tree_with_ranges_becomes_its_root_after_a_churn_by_giving_up(
+    rt: HostRuntime,
+) -> Result<(), Fail> {
+    let closed = churned::<WithRange<BNode>, GiveUp, HostRuntime>(&rt, rt.alloc(), 65_536)?;
+    assert!(rt; closed.calls() == 1_024_000);
+    assert!(rt; closed.pairs(rt.alloc())?.is_empty());
     assert!(rt; is_root_alone(&closed.graph(rt.alloc())?, 0));
     Ok(())
 }
