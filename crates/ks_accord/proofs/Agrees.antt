@@ -18,7 +18,7 @@ use Rattle.ks_history.specs.declared.Event.{Event}
 use Rattle.ks_history.specs.declared.Event.TheVariants.{Take, Give, Claim, Shape, Call}
 use Rattle.ks_history.specs.Trace.{calls_of, calls_by, number_after, NumberedCall}
 use Rattle.ks_history.specs.Map.{IsAnswer, map_after, Legal}
-use Rattle.ks_history.specs.Stays.{cond_here, cond_else}
+use Rattle.ks_history.specs.Laws.Stays.{cond_here, cond_else}
 use Rattle.ks_history.specs.Served.{CalledBelow, Served, IsListing, at_place}
 use Rattle.ks_script.specs.Script.{calls_in}
 use Rattle.ks_script.specs.Run.{Run}

@@ -17,7 +17,7 @@ use Rattle.ks_history.specs.declared.Event.TheVariants.{Take, Give, Claim, Shape
 use Rattle.ks_history.specs.Write.{Map, keeps, sets, removes, written, map_with}
 use Rattle.ks_history.specs.Map.{told, IsAnswer, map_then, map_after, Legal}
 use Rattle.ks_history.specs.Trace.{calls_of, calls_by, number_after}
-use Rattle.ks_history.specs.Stays.{cond_here, cond_else}
+use Rattle.ks_history.specs.Laws.Stays.{cond_here, cond_else}
 use Rattle.ks_history.specs.Served.{at_place, CalledBelow, IsListing}
 use Rattle.ks_accord.specs.Keys.{HasKey}
 

@@ -9,7 +9,7 @@ use Rattle.ks_history.specs.declared.Op.TheVariants.{Get}
 use Rattle.ks_history.specs.declared.Reply.{Reply}
 use Rattle.ks_history.specs.declared.Reply.TheVariants.{Nothing}
 use Rattle.ks_history.specs.declared.Answered.{Answered}
-use Rattle.ks_history.specs.Stays.{cond_here, cond_else}
+use Rattle.ks_history.specs.Laws.Stays.{cond_here, cond_else}
 use Rattle.ks_judge.specs.Judgment.{carriers_from}
 use Rattle.ks_accord.proofs.Tables.{rows, Below, below_more, below_push, below_at, pushed, from_other, from_new, pushed_at, pushed_last, pushed_long, pushed_longer}
 

@@ -10,7 +10,7 @@ use Rattle.ks_history.specs.declared.Reply.{Reply}
 use Rattle.ks_history.specs.declared.Event.{Event}
 use Rattle.ks_history.specs.Trace.{calls_by}
 use Rattle.ks_history.specs.Served.{at_place}
-use Rattle.ks_history.specs.Stays.{cond_here, cond_else}
+use Rattle.ks_history.specs.Laws.Stays.{cond_here, cond_else}
 use Rattle.ks_judge.specs.Judgment.{carriers_in, carriers_from}
 
 -- the lines of a caller after a trace, and its operations, with keys for places

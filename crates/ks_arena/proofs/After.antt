@@ -14,8 +14,9 @@ use Rattle.ks_history.specs.declared.Event.{Event}
 use Rattle.ks_history.specs.declared.Event.TheVariants.{Give, Claim, Shape}
 use Rattle.ks_history.specs.Trace.{mine, hand, drop_one, free, held, turn_given, given, graph_after, turn_after, frame_after, caller_of}
 use Rattle.ks_history.specs.Passes.{Has, CallersBelow, GrowsByOthers, GrowsWith}
-use Rattle.ks_history.specs.Stays.{StaysHeld, AreInTurn, cond_here, cond_else}
-use Rattle.ks_history.specs.Begins.{by_others_keeps, by_others_turn, by_others_hand, by_others_mine, with_mine, by_others_with, with_others, give_hand}
+use Rattle.ks_history.specs.Stays.{StaysHeld}
+use Rattle.ks_history.specs.Laws.Stays.{AreInTurn, cond_here, cond_else}
+use Rattle.ks_history.specs.Laws.Begins.{by_others_keeps, by_others_turn, by_others_hand, by_others_mine, with_mine, by_others_with, with_others, give_hand}
 use Rattle.ks_arena.specs.declared.held.Pass.{Pass}
 use Rattle.ks_arena.specs.declared.view.Mark.{Mark}
 use Rattle.ks_arena.specs.declared.view.Mark.TheVariants.{Quiet}
@@ -28,7 +29,7 @@ use denote.Bor.{Bor}
 use Rattle.ks_arena.specs.Clauses.{AllAmong, EachOnce, IsPass, IsPassWith, give_mark, Matches, MatchesIf, new_state_of, change_of, changes_of, IsShaped, AreShaped, hand_of, seen_of, Kept, KeptBut, NamesNot}
 use Rattle.ks_arena.specs.Rule.{turn_word}
 use Rattle.ks_arena.specs.Plays.{Shows, Seated, marked, Looks, Makes, drop_slot, Carries}
-use Rattle.ks_arena.specs.Beyond.{are_in_turn}
+use Rattle.ks_arena.specs.Laws.Beyond.{are_in_turn}
 use Rattle.ks_arena.proofs.Moves.{GivesMark, gives_mark_live, gives_mark_free}
 use Rattle.ks_arena.proofs.Hold.{Follows, follows_marked, follows_both, looks_follows, makes_follows, looks_grows, makes_grows, Gains, carries_gain, carries_along, carries_give, carries_lift, slots_in, drop_in, hand_near, holds_it}
 

@@ -17,9 +17,9 @@ use Rattle.ks_history.specs.declared.Event.{Event}
 use Rattle.ks_history.specs.declared.Event.TheVariants.{Call}
 use Rattle.ks_history.specs.Map.{told}
 use Rattle.ks_history.specs.Write.{written, keeps, sets}
-use Rattle.ks_history.specs.Stays.{cond_here, cond_else}
+use Rattle.ks_history.specs.Laws.Stays.{cond_here, cond_else}
 use Rattle.ks_history.specs.Passes.{NoCallBy}
-use Rattle.ks_history.specs.Dues.{is_due_by}
+use Rattle.ks_history.specs.Laws.Dues.{is_due_by}
 use Rattle.ks_history.specs.Trace.{◌⊑◌, held, graph_after, turn_after, frame_after, state_with}
 use Rattle.ks_history.specs.Lawful.{Meets}
 use Rattle.ks_history.specs.Due.{IsDue, IsFullFor, NoneFree}
@@ -29,12 +29,12 @@ use Rattle.ks_node.specs.Body.{Body, content_of, frame_of, is_branch, is_branch_
 use Rattle.ks_node.specs.Edges.{record_of}
 use Rattle.ks_node.specs.Effect.{pairs_put, pairs_del, with_pairs}
 use Rattle.ks_node.specs.Sound.{Sound as InOrder}
-use Rattle.ks_node.specs.Puts.{value_first}
+use Rattle.ks_node.specs.Laws.Puts.{value_first}
 use Rattle.ks_node.specs.Room.{is_full, is_full_at}
-use Rattle.ks_node.specs.Ways.{here_stays}
+use Rattle.ks_node.specs.Laws.Ways.{here_stays}
 use Rattle.ks_arena.specs.declared.held.Held.{Held as Hand}
 use Rattle.ks_arena.specs.Sound.{Sort, blank_of}
-use Rattle.ks_arena.specs.Writes.{put_sets, del_removes}
+use Rattle.ks_arena.specs.Laws.Writes.{put_sets, del_removes}
 use Rattle.ks_arena.specs.Clauses.{Matches, MatchesIf, IsReady}
 
 -- a full body that is no branch has as many pairs as its layout has room for

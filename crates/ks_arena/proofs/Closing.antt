@@ -15,9 +15,9 @@ use Rattle.ks_keysets.specs.declared.Change.{Change}
 use Rattle.ks_history.specs.declared.Event.{Event}
 use Rattle.ks_history.specs.Trace.{hand, free, idle, held, turn_after}
 use Rattle.ks_history.specs.Passes.{Has, CallersBelow}
-use Rattle.ks_history.specs.Stays.{cond_here, cond_else, others_turn}
-use Rattle.ks_history.specs.Hand.{held_in_hand}
-use Rattle.ks_history.specs.Begins.{none_by}
+use Rattle.ks_history.specs.Laws.Stays.{cond_here, cond_else, others_turn}
+use Rattle.ks_history.specs.Laws.Hand.{held_in_hand}
+use Rattle.ks_history.specs.Laws.Begins.{none_by}
 use Rattle.ks_node.specs.Body.{Body, blank_body}
 use Rattle.ks_arena.specs.declared.held.Pass.{Pass}
 use Rattle.ks_arena.specs.declared.view.Mark.TheVariants.{Quiet}

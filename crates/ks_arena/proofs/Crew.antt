@@ -17,7 +17,7 @@ use Rattle.ks_keysets.specs.Record.{empty_record}
 use Rattle.ks_history.specs.declared.Event.{Event}
 use Rattle.ks_history.specs.Trace.{Turn, free, idle, held, graph_after, turn_after, frame_after, caller_of}
 use Rattle.ks_history.specs.Passes.{Has, NoneOf, CallersBelow}
-use Rattle.ks_history.specs.Stays.{cond_here, cond_else}
+use Rattle.ks_history.specs.Laws.Stays.{cond_here, cond_else}
 use Rattle.ks_node.specs.Body.{Body, frame_of, blank_body}
 use Rattle.ks_node.specs.Edges.{record_of}
 use Rattle.ks_arena.specs.declared.view.Mark.{Mark}

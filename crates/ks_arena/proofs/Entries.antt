@@ -24,7 +24,7 @@ use Rattle.ks_keysets.specs.declared.Frame.{Frame}
 use Rattle.ks_keysets.specs.Record.{IsPlace, first_value}
 use Rattle.ks_keysets.specs.Listed.{graph_of}
 use Rattle.ks_keysets.specs.Keyset.{live_record, record_at, InKeyset, IsFound, here, nowhere, value_in, value_at, Good}
-use Rattle.ks_keysets.specs.Found.{found_here, found_one, reached_live}
+use Rattle.ks_keysets.specs.Laws.Found.{found_here, found_one, reached_live}
 use Rattle.ks_node.specs.Body.{Body}
 use Rattle.ks_node.specs.Edges.{record_of}
 use Rattle.ks_history.specs.declared.Event.{Event}
@@ -32,10 +32,10 @@ use Rattle.ks_history.specs.Map.{map_after}
 use Rattle.ks_history.specs.Trace.{Turn, free, idle, held, calls_of, graph_after, turn_after}
 use Rattle.ks_history.specs.Lawful.{Lawful}
 use Rattle.ks_history.specs.Served.{IsListing}
-use Rattle.ks_history.specs.Stays.{cond_here, cond_else, lawful_in_turn}
+use Rattle.ks_history.specs.Laws.Stays.{cond_here, cond_else, lawful_in_turn}
 use Rattle.ks_arena.specs.Sound.{Sort}
 use Rattle.ks_arena.specs.Rule.{turn_word, Ends}
-use Rattle.ks_arena.specs.FromSound.{rested}
+use Rattle.ks_arena.specs.Laws.FromSound.{rested}
 use Rattle.ks_arena.specs.Ended.{AreFound, IsReadAs, entry_of, entries_at, entries_below}
 use Rattle.ks_arena.proofs.Words.{word_free}
 

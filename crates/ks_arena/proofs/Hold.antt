@@ -12,8 +12,8 @@ use Rattle.ks_history.specs.Passes.{Has, GrowsByOthers, GrowsWith}
 use Rattle.ks_arena.specs.declared.view.Mark.{Mark}
 use Rattle.ks_arena.specs.declared.view.View.{View}
 use Rattle.ks_arena.specs.Plays.{Seated, with_seen, marked, Looks, Makes, drop_slot, InHand, HasSlots, Carries}
-use Rattle.ks_history.specs.Stays.{cond_here, cond_else, given_not_held}
-use Rattle.ks_history.specs.Begins.{none_by}
+use Rattle.ks_history.specs.Laws.Stays.{cond_here, cond_else, given_not_held}
+use Rattle.ks_history.specs.Laws.Begins.{none_by}
 use Rattle.ks_arena.proofs.Stepping.{has_one}
 
 -- a view that has become another with the same callers, number and mark

@@ -8,7 +8,7 @@ use Rattle.ks_keysets.specs.declared.NodeState.{NodeState}
 use Rattle.ks_keysets.specs.declared.Change.{Change}
 use Rattle.ks_history.specs.Trace.{◌⊑◌, hand}
 use Rattle.ks_history.specs.Passes.{Has, CallersBelow, GrowsByOthers}
-use Rattle.ks_history.specs.Begins.{none_by, by_others_hand, by_others_mine, by_others_keeps}
+use Rattle.ks_history.specs.Laws.Begins.{none_by, by_others_hand, by_others_mine, by_others_keeps}
 use Rattle.ks_node.specs.Body.{Body}
 use Rattle.ks_arena.specs.declared.held.Pass.{Pass}
 use Rattle.ks_arena.specs.declared.held.Note.{Note}
@@ -18,7 +18,7 @@ use Rattle.ks_arena.specs.declared.view.Part.{Part}
 use Rattle.ks_arena.specs.Rule.{FitsAll, both_views, callers_in, all_callers, part_of}
 use Rattle.ks_arena.specs.Plays.{Seated, gathered, Carries}
 use Rattle.ks_arena.specs.Clauses.{IsPass, IsNote, seen_of, noted, HasLooked, Kept}
-use Rattle.ks_arena.specs.Beyond.{are_in_turn}
+use Rattle.ks_arena.specs.Laws.Beyond.{are_in_turn}
 use Rattle.ks_arena.proofs.Hold.{Follows, slots_in}
 use Rattle.ks_arena.proofs.After.{carries_others}
 

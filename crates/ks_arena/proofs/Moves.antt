@@ -32,11 +32,12 @@ use Rattle.ks_arena.specs.declared.view.View.{View}
 use Rattle.ks_node.specs.Body.{Body}
 use Rattle.ks_arena.specs.Sound.{Sort, blank_of, Sound, StepsSoundly}
 use Rattle.ks_arena.specs.Rule.{Rests, Running, turn_word, Marks, SomeMarks, FreeBits, callers_in, all_callers}
-use Rattle.ks_history.specs.Stays.{StaysHeld, cond_here, cond_else}
-use Rattle.ks_history.specs.Begins.{none_by, by_others_keeps}
+use Rattle.ks_history.specs.Stays.{StaysHeld}
+use Rattle.ks_history.specs.Laws.Stays.{cond_here, cond_else}
+use Rattle.ks_history.specs.Laws.Begins.{none_by, by_others_keeps}
 use Rattle.ks_arena.specs.Plays.{Seated, with_seen, marked, TellsFree, Looks, Makes, drop_slot, InHand, HasSlots, Shows, TookAt, took, ClaimedAt, claimed, gave, brought, bit_was_set, bit_was_cleared, scanned, decided, formed}
 use Rattle.ks_arena.proofs.Words.{word_idle, word_free, word_below, held_below}
-use Rattle.ks_arena.specs.Beyond.{are_in_turn}
+use Rattle.ks_arena.specs.Laws.Beyond.{are_in_turn}
 use Rattle.ks_arena.proofs.Seen.{has_left}
 use Rattle.ks_arena.proofs.Bits.{inside, marks_held, mark_own, turn_bits, free_word_bits}
 use Rattle.ks_arena.proofs.Stepping.{has_one, looks, turns_at, frees_at, counts_at}

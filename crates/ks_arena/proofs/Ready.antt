@@ -16,11 +16,11 @@ use Rattle.ks_history.specs.Lawful.{Meets}
 use Rattle.ks_history.specs.Due.{IsFullFor, HasNoRoom, FullDue, IsDue, last_call}
 use Rattle.ks_history.specs.Passes.{GrowsByOthers}
 use Rattle.ks_history.specs.Stays.{StaysHeld}
-use Rattle.ks_history.specs.Begins.{by_others_begins, by_others_keeps, none_no_call}
-use Rattle.ks_history.specs.Dues.{none_free_later, last_call_kept}
+use Rattle.ks_history.specs.Laws.Begins.{by_others_begins, by_others_keeps, none_no_call}
+use Rattle.ks_history.specs.Laws.Dues.{none_free_later, last_call_kept}
 use Rattle.ks_flow.specs.Discipline.{IsDiscipline}
 use Rattle.ks_arena.specs.Sound.{Sort}
-use Rattle.ks_arena.specs.FromSound.{fine, unshaped}
+use Rattle.ks_arena.specs.Laws.FromSound.{fine, unshaped}
 use Rattle.ks_arena.proofs.Moves.{May}
 
 pub full_kept : (layout : Layout) (g k : ℕ → NodeState) (i p : ℕ) → k i ≡ g i → IsFullFor layout g i p → IsFullFor layout k i p

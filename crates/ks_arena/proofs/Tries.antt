@@ -12,15 +12,16 @@ use Rattle.ks_keysets.specs.Keyset.{live_record}
 use Rattle.ks_history.specs.declared.Event.{Event}
 use Rattle.ks_history.specs.Trace.{◌⊑◌, free, held, graph_after, turn_after}
 use Rattle.ks_history.specs.Lawful.{Lawful, GoodThroughout}
-use Rattle.ks_history.specs.Alone.{ActsAlone, HoldsAlone, alone_still, alone_first, alone_then}
-use Rattle.ks_history.specs.Stays.{lawful_in_turn}
-use Rattle.ks_history.specs.Begins.{begins_self, begins_both, by_others_begins, good_now}
+use Rattle.ks_history.specs.Alone.{ActsAlone, HoldsAlone}
+use Rattle.ks_history.specs.Laws.Alone.{alone_still, alone_first, alone_then}
+use Rattle.ks_history.specs.Laws.Stays.{lawful_in_turn}
+use Rattle.ks_history.specs.Laws.Begins.{begins_self, begins_both, by_others_begins, good_now}
 use Rattle.ks_node.specs.Body.{Body}
 use Rattle.ks_arena.specs.declared.held.Held.{Held as Hand}
 use Rattle.ks_arena.specs.Sound.{Sort}
-use Rattle.ks_arena.specs.FromSound.{rested}
+use Rattle.ks_arena.specs.Laws.FromSound.{rested}
 use Rattle.ks_arena.specs.Plays.{TellsFree}
-use Rattle.ks_arena.specs.Tells.{looked_none, looked_both, kept_none, kept_both, taken_within, claimed_later, claimed_begins}
+use Rattle.ks_arena.specs.Laws.Tells.{looked_none, looked_both, kept_none, kept_both, taken_within, claimed_later, claimed_begins}
 use Rattle.ks_arena.specs.Clauses.{Kept, HasLooked, WasTaken, HasClaimed, DidClaimIn, DidClaim}
 
 -- the free words before the one of index w were tried: their nodes were found taken

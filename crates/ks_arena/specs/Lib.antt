@@ -3,10 +3,6 @@ pub mod Rule
 pub mod Named
 pub mod Plays
 pub mod Clauses
-pub mod FromSound
-pub mod Tells
 pub mod Ended
-pub mod Beyond
-pub mod Writes
-pub mod Aside
 pub mod Of
+pub mod Laws

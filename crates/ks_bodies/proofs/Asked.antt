@@ -10,7 +10,7 @@ use Rattle.ks_keysets.specs.Record.{LeadsTo}
 use Rattle.ks_keysets.specs.Keyset.{InInset, Good}
 use Rattle.ks_node.specs.declared.start.Start.{Start}
 use Rattle.ks_node.specs.Body.{Body, is_branch, first_of, last_of, first_node}
-use Rattle.ks_node.specs.Ascend.{all_below}
+use Rattle.ks_node.specs.Laws.Ascend.{all_below}
 use Rattle.ks_node.specs.Edges.{record_of, edges_of}
 use Rattle.ks_node.specs.Effect.{split_left, split_right, reached, ends_at, begins_at}
 use Rattle.std.specs.Prelude.{◌&&◌}

@@ -12,11 +12,11 @@ use Rattle.ks_keysets.specs.declared.Span.{Span}
 use Rattle.ks_keysets.specs.declared.NodeState.{NodeState}
 use Rattle.ks_keysets.specs.Record.{LeadsOn, LeadsTo}
 use Rattle.ks_node.specs.declared.start.Start.{Start}
-use Rattle.ks_node.specs.Ascend.{asc_insert, all_below}
+use Rattle.ks_node.specs.Laws.Ascend.{asc_insert, all_below}
 use Rattle.ks_node.specs.Body.{Body, is_branch_kind, first_of, last_of, starts_below, starts_from, begins}
 use Rattle.ks_node.specs.Edges.{edges_from, edges_of, link_edge, record_of}
 use Rattle.ks_node.specs.Effect.{adopted, settled, runs, runs_after}
-use Rattle.ks_node.specs.Starts.{all_insert, tail_insert}
+use Rattle.ks_node.specs.Laws.Starts.{all_insert, tail_insert}
 use Rattle.ks_node.specs.Sound.{Framed}
 use Rattle.ks_bodies.proofs.Under.{none_at}
 use Rattle.ks_flow.specs.Changes.{graph_with, frames_with, HasBecome}

@@ -7,7 +7,7 @@ use Rattle.ks_keysets.specs.declared.Kind.{Kind}
 use Rattle.ks_keysets.specs.declared.Kind.TheVariants.{NoBranch, Inner, Directory}
 use Rattle.ks_node.specs.declared.start.Start.{Start}
 use Rattle.ks_node.specs.Keyed.{Ascends}
-use Rattle.ks_node.specs.Ascend.{asc_head, asc_tail}
+use Rattle.ks_node.specs.Laws.Ascend.{asc_head, asc_tail}
 use Rattle.ks_node.specs.Body.{starts_below, starts_from, begins, is_branch_kind}
 use Rattle.ks_node.specs.Effect.{first_from, runs_after, runs, settled}
 

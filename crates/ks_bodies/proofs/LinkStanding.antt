@@ -13,7 +13,7 @@ use Rattle.ks_node.specs.Body.{Body, first_of, last_of, pairs_below, pairs_from,
 use Rattle.ks_node.specs.Edges.{edges_from, edges_of, link_edge, record_of}
 use Rattle.ks_node.specs.Effect.{split_right, ends_at, begins_at}
 use Rattle.ks_node.specs.Asks.{CanSplitAt}
-use Rattle.ks_node.specs.Ascend.{all_below, all_from}
+use Rattle.ks_node.specs.Laws.Ascend.{all_below, all_from}
 use Rattle.ks_node.specs.Sound.{Framed}
 use Rattle.ks_flow.specs.Link.{IsRange, IsPartOf}
 use Rattle.ks_flow.specs.Tree.{ActsAs}

@@ -20,7 +20,8 @@ use Rattle.ks_node.specs.Body.{Body, is_branch, is_branch_kind, first_of, last_o
 use Rattle.ks_node.specs.Edges.{record_of, edges_of, edges_from}
 use Rattle.ks_node.specs.Sound.{starts_at_zero}
 use Rattle.ks_node.specs.Room.{load, is_low, is_low_at, is_room_for, fit_kinds, fit_together}
-use Rattle.ks_node.specs.Spans.{length_edges, edges_are, plain_edges}
+use Rattle.ks_node.specs.Spans.{plain_edges}
+use Rattle.ks_node.specs.Laws.Spans.{length_edges, edges_are}
 use Rattle.ks_flow.specs.Tree.{Tree, edges_to, edges_in, edges_between}
 use Rattle.ks_bodies.specs.Stands.{IsPlain, Stands}
 use Rattle.ks_bodies.specs.Neighbours.{neighbour_of}

@@ -10,7 +10,7 @@ use Rattle.ks_keysets.specs.declared.Change.{Change}
 use Rattle.ks_keysets.specs.Keyset.{record_at, InInset, InKeyset, Good}
 use Rattle.ks_node.specs.Body.{Body, first_of, last_of, pairs_below, pairs_from}
 use Rattle.ks_node.specs.Edges.{record_of}
-use Rattle.ks_node.specs.Ascend.{all_below, all_from}
+use Rattle.ks_node.specs.Laws.Ascend.{all_below, all_from}
 use Rattle.ks_flow.specs.Ways.{DiffersIn}
 use Rattle.ks_flow.specs.Tree.{Tree, FramesKept, edges_between, edges_in}
 use Rattle.ks_flow.specs.Changes.{nodes_of, graph_with, frames_with, HasBecome}

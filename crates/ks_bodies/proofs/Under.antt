@@ -8,7 +8,7 @@ use Rattle.ks_keysets.specs.declared.NodeState.{NodeState}
 use Rattle.ks_keysets.specs.Record.{LeadsTo}
 use Rattle.ks_keysets.specs.Keyset.{InInset, Good, along}
 use Rattle.ks_node.specs.declared.start.Start.{Start}
-use Rattle.ks_node.specs.Ascend.{asc_insert}
+use Rattle.ks_node.specs.Laws.Ascend.{asc_insert}
 use Rattle.ks_node.specs.Body.{Body, is_branch, starts_below, starts_from, begins}
 use Rattle.ks_node.specs.Edges.{record_of, edges_of}
 use Rattle.ks_node.specs.Effect.{settled, adopted, split_left, split_right}

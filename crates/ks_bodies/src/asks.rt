@@ -1,6 +1,6 @@
 //! What the calls of a shape ask of bodies, where they stand in a tree.
 
-ghost use Rattle.std.specs.Prelude.{ℕ, ◌≡◌, ◌<◌, ◌≤◌, Bool, Option, Some, None, All, IsTrue, is_some, false};
+ghost use Rattle.std.specs.Prelude.{◌≢◌, ℕ, ◌≡◌, ◌<◌, ◌≤◌, Bool, Option, Some, None, All, IsTrue, is_some, false};
 ghost use Rattle.ks_keysets.specs.declared.Frame.{Frame};
 ghost use Rattle.ks_keysets.specs.declared.NodeState.{NodeState};
 ghost use Rattle.ks_keysets.specs.declared.Span.{Span};
@@ -46,7 +46,7 @@ pub fn tree_asks_law()
     ensures fit { (layout : Layout) (b q : Body) → IsTrue (fit_together layout b q) → b.kind ≡ q.kind }
     ensures absorb_own { (g : ℕ → NodeState) (f : ℕ → Frame) (node right : ℕ) (b q : Body) → Good g → Tree g f → CanAbsorbOwn g f node right b q → Absorbs b q }
     ensures absorb_under { (g : ℕ → NodeState) (f : ℕ → Frame) (parent node right : ℕ) (u b q : Body) → Good g → Tree g f → CanAbsorbUnder g f parent node right u b q → Absorbs b q }
-    ensures forget { (g : ℕ → NodeState) (f : ℕ → Frame) (parent node right : ℕ) (u b q : Body) → Good g → Tree g f → CanAbsorbUnder g f parent node right u b q → first_node u.starts ≡ Some right → ⊥ }
+    ensures forget { (g : ℕ → NodeState) (f : ℕ → Frame) (parent node right : ℕ) (u b q : Body) → Good g → Tree g f → CanAbsorbUnder g f parent node right u b q → first_node u.starts ≢ Some right }
     ensures collapse { (g : ℕ → NodeState) (f : ℕ → Frame) (node child : ℕ) (b q : Body) → Good g → Tree g f → CanCollapse g f node child b q → is_some b.range ≡ is_some q.range → b.range ≡ q.range }
 {
     tree_facts_law();
@@ -60,7 +60,7 @@ pub fn tree_parts_law()
     ensures under { (g : ℕ → NodeState) (f : ℕ → Frame) (parent node right cut p : ℕ) (u b : Body) → Good g → Tree g f → CanAdopt g f parent node u → CanPart g f node right cut b →
         IsPlain (adopted cut right u) → IsPlain (split_left cut b) → IsPlain (split_right cut b) → InInset g node p →
         (p < cut → LeadsTo (record_of (adopted cut right u)) p node × InInset (graph_with (split_under parent node right cut u b) g) node p) × (cut ≤ p → LeadsTo (record_of (adopted cut right u)) p right × InInset (graph_with (split_under parent node right cut u b) g) right p) }
-    ensures grow { (g : ℕ → NodeState) (f : ℕ → Frame) (kind : Kind) (node left right cut p : ℕ) (b : Body) → Good g → Tree g f → CanPart g f node right cut b → record_at g left ≡ None → (left ≡ right → ⊥) →
+    ensures grow { (g : ℕ → NodeState) (f : ℕ → Frame) (kind : Kind) (node left right cut p : ℕ) (b : Body) → Good g → Tree g f → CanPart g f node right cut b → record_at g left ≡ None → left ≢ right →
         IsPlain (grown kind cut left right b) → IsPlain (split_left cut b) → IsPlain (split_right cut b) → InInset g node p →
         (p < cut → LeadsTo (record_of (grown kind cut left right b)) p left × InInset (graph_with (grow kind node left right cut b) g) left p) × (cut ≤ p → LeadsTo (record_of (grown kind cut left right b)) p right × InInset (graph_with (grow kind node left right cut b) g) right p) }
 {

@@ -1,6 +1,6 @@
 //! What the shapes of a tree do to bodies, as steps of the discipline.
 
-ghost use Rattle.std.specs.Prelude.{ℕ, ◌≡◌, Option, None, Some};
+ghost use Rattle.std.specs.Prelude.{◌≢◌, ℕ, ◌≡◌, Option, None, Some};
 ghost use Rattle.ks_keysets.specs.declared.Frame.{Frame};
 ghost use Rattle.ks_keysets.specs.declared.Kind.{Kind};
 ghost use Rattle.ks_keysets.specs.declared.NodeState.{NodeState};
@@ -23,7 +23,7 @@ pub fn tree_steps_law()
     ensures split_under { (g : ℕ → NodeState) (f : ℕ → Frame) (parent node right cut : ℕ) (u b : Body) → Good g → Tree g f →
         CanAdopt g f parent node u → CanPart g f node right cut b → IsPlain (adopted cut right u) → IsPlain (split_left cut b) → IsPlain (split_right cut b) → TreeStep g f (split_under parent node right cut u b) }
     ensures grow { (g : ℕ → NodeState) (f : ℕ → Frame) (kind : Kind) (node left right cut : ℕ) (b : Body) → Good g → Tree g f →
-        CanPart g f node right cut b → record_at g left ≡ None → (left ≡ right → ⊥) → IsPlain (grown kind cut left right b) → IsPlain (split_left cut b) → IsPlain (split_right cut b) → TreeStep g f (grow kind node left right cut b) }
+        CanPart g f node right cut b → record_at g left ≡ None → left ≢ right → IsPlain (grown kind cut left right b) → IsPlain (split_left cut b) → IsPlain (split_right cut b) → TreeStep g f (grow kind node left right cut b) }
     ensures absorb_own { (g : ℕ → NodeState) (f : ℕ → Frame) (node right : ℕ) (b q : Body) → Good g → Tree g f →
         CanAbsorbOwn g f node right b q → IsPlain (absorbed b q) → TreeStep g f (absorb_own node right b q) }
     ensures absorb_under { (g : ℕ → NodeState) (f : ℕ → Frame) (parent node right : ℕ) (u b q : Body) → Good g → Tree g f →
@@ -43,7 +43,7 @@ pub fn tree_insets_law()
     ensures split_under { (g : ℕ → NodeState) (f : ℕ → Frame) (parent node right cut : ℕ) (u b : Body) → Good g → Tree g f →
         CanAdopt g f parent node u → CanPart g f node right cut b → IsPlain (adopted cut right u) → IsPlain (split_left cut b) → IsPlain (split_right cut b) → SplitsInsetUnder g (graph_with (split_under parent node right cut u b) g) parent node right cut }
     ensures grow { (g : ℕ → NodeState) (f : ℕ → Frame) (kind : Kind) (node left right cut : ℕ) (b : Body) → Good g → Tree g f →
-        CanPart g f node right cut b → record_at g left ≡ None → (left ≡ right → ⊥) → IsPlain (grown kind cut left right b) → IsPlain (split_left cut b) → IsPlain (split_right cut b) → GrowsInset g (graph_with (grow kind node left right cut b) g) node left right cut }
+        CanPart g f node right cut b → record_at g left ≡ None → left ≢ right → IsPlain (grown kind cut left right b) → IsPlain (split_left cut b) → IsPlain (split_right cut b) → GrowsInset g (graph_with (grow kind node left right cut b) g) node left right cut }
     ensures absorb_own { (g : ℕ → NodeState) (f : ℕ → Frame) (node right : ℕ) (b q : Body) → Good g → Tree g f →
         CanAbsorbOwn g f node right b q → IsPlain (absorbed b q) → AbsorbsInsetOwn g (graph_with (absorb_own node right b q) g) node right }
     ensures absorb_under { (g : ℕ → NodeState) (f : ℕ → Frame) (parent node right : ℕ) (u b q : Body) → Good g → Tree g f →

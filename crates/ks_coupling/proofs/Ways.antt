@@ -21,10 +21,12 @@ use Rattle.ks_history.specs.declared.Reply.{Reply}
 use Rattle.ks_history.specs.declared.Reply.TheVariants.{Full}
 use Rattle.ks_history.specs.Trace.{hand, drop_one, held, given, graph_after, turn_after, frame_after}
 use Rattle.ks_history.specs.Passes.{GrowsByOthers, GrowsWith}
-use Rattle.ks_history.specs.Stays.{AreInTurn, StaysHeld, cond_here, cond_else}
-use Rattle.ks_history.specs.Begins.{by_others_hand, by_others_keeps, with_others}
+use Rattle.ks_history.specs.Stays.{StaysHeld}
+use Rattle.ks_history.specs.Laws.Stays.{AreInTurn, cond_here, cond_else}
+use Rattle.ks_history.specs.Laws.Begins.{by_others_hand, by_others_keeps, with_others}
 use Rattle.ks_history.specs.Done.{coupling, first_taken, from_above, most_held}
-use Rattle.ks_history.specs.Underway.{Underway, underway_first, underway_with, may_take_later}
+use Rattle.ks_history.specs.Underway.{Underway}
+use Rattle.ks_history.specs.Laws.Underway.{underway_first, underway_with, may_take_later}
 use Rattle.ks_keysets.specs.Layout.{Layout}
 use Rattle.ks_flow.specs.Tree.{Tree, edges_to}
 use Rattle.ks_flow.specs.Discipline.{BeginsTree, TreeStep, SameInset}
@@ -34,9 +36,9 @@ use Rattle.ks_node.specs.Sound.{Sound as InOrder}
 use Rattle.ks_node.specs.Edges.{record_of}
 use Rattle.ks_arena.specs.declared.held.Held.{Held as Hand}
 use Rattle.ks_arena.specs.Sound.{Sort, blank_of, Sound}
-use Rattle.ks_arena.specs.Beyond.{free_beyond}
+use Rattle.ks_arena.specs.Laws.Beyond.{free_beyond}
 use Rattle.ks_arena.specs.Clauses.{Matches, MatchesIf, HasTaken, Numbered}
-use Rattle.ks_shape.specs.Single.{led_live, shown, record_is}
+use Rattle.ks_shape.specs.Laws.Single.{led_live, shown, record_is}
 use Rattle.ks_shape.specs.OnWay.{IsOnWay}
 
 -- an edge that leads to the node is among those that are counted

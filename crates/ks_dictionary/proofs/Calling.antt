@@ -6,7 +6,8 @@ use Rattle.ks_history.specs.declared.Reply.{Reply}
 use Rattle.ks_history.specs.declared.Event.{Event}
 use Rattle.ks_history.specs.Trace.{calls_by}
 use Rattle.ks_history.specs.Done.{Template, Done}
-use Rattle.ks_history.specs.Calls.{numbered, done_calls}
+use Rattle.ks_history.specs.Calls.{numbered}
+use Rattle.ks_history.specs.Laws.Calls.{done_calls}
 
 -- the call that is done, by other words for its operation, its reply and its number
 pub one_call : (layout : Layout) (template : Template) (n c : ℕ) (op : Op) (s0 s1 : List Event) (reply : Reply) (number : ℕ) (op' : Op) (reply' : Reply) (number' : ℕ) → Done layout template n c op s0 s1 reply number

@@ -13,7 +13,7 @@ use Rattle.ks_flow.specs.Tree.{edges_between, Tree, IsInset}
 use Rattle.ks_flow.proofs.Entry.{edges_into, EntryRegion, EdgesKept, RegionSpans}
 use Rattle.ks_flow.specs.Shapes.{IsTidy, AbsorbsOwn, Collapses, KeepsTree}
 use Rattle.ks_flow.specs.Insets.{AbsorbsInsetOwn, CollapsesInset}
-use Rattle.ks_keysets.specs.Next.{leads_on}
+use Rattle.ks_keysets.specs.Laws.Next.{leads_on}
 use Rattle.ks_flow.proofs.Edges.{named_here, named_there, named_either, out_either, out_of, leads_kept, sole_parent}
 use Rattle.ks_flow.proofs.Entries.{entry_back, entry_forth}
 use Rattle.ks_flow.proofs.Acts.{no_way_back, GoesOut, goes_on, acts_out, leads_or_not}

@@ -7,7 +7,7 @@ use Rattle.ks_keysets.specs.Keyset.{record_at, InInset, AreApart, Good, value_in
 use Rattle.ks_flow.specs.Walk.{Path, Ends, stops, goes}
 use Rattle.ks_flow.specs.Ways.{names, Outcome, leaves_to, ends_at, Inside, leaves, stays, ends, AreAlike}
 use Rattle.ks_flow.specs.Tree.{ActsAs}
-use Rattle.ks_keysets.specs.Next.{edge_one, next_one, leads_on, leads_where, same_record}
+use Rattle.ks_keysets.specs.Laws.Next.{edge_one, next_one, leads_on, leads_where, same_record}
 use Rattle.ks_flow.proofs.Walks.{good_walked}
 use Rattle.ks_flow.proofs.Edges.{same_or_apart}
 use Rattle.std.specs.Prelude.{AllPairs}

@@ -11,8 +11,8 @@ use Rattle.ks_keysets.specs.declared.Span.{Span}
 use Rattle.ks_keysets.specs.Record.{IsPlace, Carries, LeadsOn, first_value, LeadsTo}
 use Rattle.ks_keysets.specs.Keyset.{record_at, IsLive, InKeyset, AreApart, Good, IsFound, value_in, value_at}
 use Rattle.ks_flow.specs.Link.{Link, IsRange, IsLinkEdge, IsChildEdge, IsPartOf, KeepsLink, IsAttach, Attaches, IsLed}
-use Rattle.ks_keysets.specs.Found.{reached_live}
-use Rattle.ks_keysets.specs.Next.{same_record}
+use Rattle.ks_keysets.specs.Laws.Found.{reached_live}
+use Rattle.ks_keysets.specs.Laws.Next.{same_record}
 use Rattle.ks_flow.proofs.Walks.{found_here, found_one}
 use Rattle.ks_flow.proofs.Edges.{same_or_apart, out_of}
 use Rattle.ks_flow.proofs.Trees.{at_record}

@@ -8,7 +8,7 @@ use Rattle.ks_keysets.specs.Keyset.{record_at, IsLive, Reaches, at_root, along, 
 use Rattle.ks_flow.specs.Walk.{Path, arrives}
 use Rattle.ks_flow.specs.Ways.{names, Meets, now, later, Enters, Outcome, leaves_to, ends_at, Inside, leaves, stays, AreAlike, DiffersIn, KeepsWays}
 use Rattle.ks_flow.proofs.Entry.{EntryRegion}
-use Rattle.ks_keysets.specs.Next.{target_live}
+use Rattle.ks_keysets.specs.Laws.Next.{target_live}
 use Rattle.ks_flow.proofs.Walks.{good_walked}
 use Rattle.ks_flow.proofs.Regions.{goes_inside, good_after}
 use Rattle.ks_flow.proofs.Paths.{path_then, path_root, path_meets, meets_path, leaves_path, no_return, ends_reached, inside_one, reaches_out, leads_between, edge_between}

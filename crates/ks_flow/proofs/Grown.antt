@@ -13,7 +13,7 @@ use Rattle.ks_flow.specs.Tree.{edges_to, edges_between, OneEdge, Tree, IsInset}
 use Rattle.ks_flow.proofs.Entry.{edges_into, EntryRegion, EdgesKept, RegionSpans}
 use Rattle.ks_flow.specs.Shapes.{IsTidy, GrowsOff, Grows, KeepsTree}
 use Rattle.ks_flow.specs.Insets.{GrowsInset}
-use Rattle.ks_keysets.specs.Next.{edge_one, target_live}
+use Rattle.ks_keysets.specs.Laws.Next.{edge_one, target_live}
 use Rattle.ks_flow.proofs.Paths.{leads_some}
 use Rattle.ks_flow.proofs.Edges.{named_here, named_there, out_either, out_of, none_between, one_after, leads_kept, sole_parent, leads_all}
 use Rattle.ks_flow.proofs.Entries.{entry_back, entry_forth}

@@ -7,7 +7,7 @@ use Rattle.ks_keysets.specs.Record.{IsPlace, LeadsTo, LeadsOn}
 use Rattle.ks_keysets.specs.Keyset.{record_at, IsLive, Reaches, at_root, along, InInset, AreApart, Good}
 use Rattle.ks_flow.specs.Walk.{Path, arrives, passes, Ends, stops, goes}
 use Rattle.ks_flow.specs.Ways.{names, Meets, now, later, Enters, Outcome, leaves_to, ends_at, Inside, leaves, stays, AreAlike, DiffersIn, KeepsWays}
-use Rattle.ks_keysets.specs.Next.{next_one, leads_on, same_record, target_live}
+use Rattle.ks_keysets.specs.Laws.Next.{next_one, leads_on, same_record, target_live}
 use Rattle.ks_flow.proofs.Walks.{good_walked}
 use Rattle.ks_flow.proofs.Regions.{goes_inside, good_after}
 use Rattle.ks_flow.proofs.Paths.{path_then, path_root, inside_one}

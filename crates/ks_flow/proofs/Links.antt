@@ -10,10 +10,10 @@ use Rattle.ks_keysets.specs.declared.Span.{Span}
 use Rattle.ks_keysets.specs.Record.{IsPlace, top, Holds, Carries, LeadsTo, LeadsOn}
 use Rattle.ks_keysets.specs.Keyset.{record_at, IsLive, Reaches, at_root, along, InOutset, InKeyset, AreApart, Good}
 use Rattle.ks_flow.specs.Link.{Link, IsRange, IsLinkEdge, IsChildEdge, lives_below}
-use Rattle.ks_keysets.specs.Found.{reached_live}
-use Rattle.ks_keysets.specs.Next.{target_live}
+use Rattle.ks_keysets.specs.Laws.Found.{reached_live}
+use Rattle.ks_keysets.specs.Laws.Next.{target_live}
 use Rattle.ks_flow.proofs.Walks.{ends_one, keyset_ends}
-use Rattle.ks_keysets.specs.Pigeons.{pigeonhole}
+use Rattle.ks_keysets.specs.Laws.Pigeons.{pigeonhole}
 
 pub edge_at : (es : List Edge) (P Q : Edge → Type 0) → Any Q es → All P es → (e : Edge) × Q e × P e
 edge_at es P Q (k, x, lt, is, h) all = (x, h, subst P is (all k x lt))

@@ -9,7 +9,7 @@ use Rattle.ks_keysets.specs.Keyset.{record_at, Reaches, at_root, along, AreApart
 use Rattle.ks_flow.specs.Walk.{Path, arrives, passes, Ends, stops, goes}
 use Rattle.ks_flow.specs.Ways.{names, Meets, now, later, Outcome, leaves_to, ends_at, Inside, leaves, stays, ends}
 use Rattle.ks_flow.specs.Tree.{edges_to, edges_in, edges_between}
-use Rattle.ks_keysets.specs.Next.{next_one, leads_on, same_record, target_live}
+use Rattle.ks_keysets.specs.Laws.Next.{next_one, leads_on, same_record, target_live}
 
 pub path_then : (g : ℕ → NodeState) (p b c a : ℕ) → Path g p b a → Path g p c b → Path g p c a
 path_then g p b c a arrives w = w

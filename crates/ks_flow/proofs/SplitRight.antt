@@ -12,7 +12,7 @@ use Rattle.ks_flow.specs.Ways.{names, KeepsWays}
 use Rattle.ks_flow.specs.Tree.{ActsAs}
 use Rattle.ks_flow.specs.Shapes.{SplitsOff}
 use Rattle.ks_flow.specs.Link.{Link, IsRange, IsLinkEdge, IsChildEdge, IsPartOf, KeepsLink, SplitsRight, IsLed}
-use Rattle.ks_keysets.specs.Next.{leads_on, leads_where}
+use Rattle.ks_keysets.specs.Laws.Next.{leads_on, leads_where}
 use Rattle.ks_flow.proofs.Entries.{keeps_ways}
 use Rattle.ks_flow.proofs.Edges.{same_or_apart, out_of}
 use Rattle.ks_flow.proofs.Splits.{split_entry}

@@ -16,7 +16,7 @@ use Rattle.ks_keysets.specs.Layout.{Layout, Fit, IsLow, IsRightNeighbour, chaine
 use Rattle.ks_flow.specs.Walk.{Path, arrives, passes, Ends, stops, goes}
 use Rattle.ks_flow.specs.Tree.{edges_to, Tree}
 use Rattle.ks_flow.specs.Tight.{IsTightBelow, EndsRun, ComesTo}
-use Rattle.ks_keysets.specs.Next.{next_one, leads_on, same_record, target_live}
+use Rattle.ks_keysets.specs.Laws.Next.{next_one, leads_on, same_record, target_live}
 use Rattle.ks_flow.proofs.Walks.{keyset_ends}
 use Rattle.ks_flow.proofs.Paths.{path_root, ends_reached, leads_some}
 use Rattle.ks_flow.proofs.Edges.{sole_parent}

@@ -11,7 +11,7 @@ use Rattle.ks_flow.specs.Ways.{names, DiffersIn, Inside, ends_at, ends}
 use Rattle.ks_flow.specs.Tree.{edges_to, edges_in, edges_between, Tree, IsInset, FramesKept, ActsAs}
 use Rattle.ks_flow.proofs.Entry.{EntryRegion, EdgesKept, RegionSpans}
 use Rattle.ks_flow.specs.Shapes.{range_to, range_from, range_over, KeepsTree}
-use Rattle.ks_keysets.specs.Next.{same_record, leads_on, leads_where}
+use Rattle.ks_keysets.specs.Laws.Next.{same_record, leads_on, leads_where}
 use Rattle.ks_flow.proofs.Edges.{named_either, one_after}
 use Rattle.ks_flow.proofs.Entries.{keeps_ways, inset_back, inset_forth}
 

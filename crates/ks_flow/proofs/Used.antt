@@ -11,7 +11,7 @@ use Rattle.ks_keysets.specs.Record.{top, IsPlace, empty_record, Carries, LeadsTo
 use Rattle.ks_keysets.specs.Keyset.{opening, record_at, IsLive, Reaches, at_root, along, InInset, Good}
 use Rattle.ks_flow.specs.Tree.{edges_to, edges_between, edges_in, Tree, IsInset, SameEdges}
 use Rattle.ks_flow.specs.Walk.{Ends, stops, Path, arrives}
-use Rattle.ks_keysets.specs.Next.{same_record}
+use Rattle.ks_keysets.specs.Laws.Next.{same_record}
 use Rattle.ks_flow.proofs.Walks.{walked_good}
 use Rattle.ks_flow.proofs.Paths.{edges_to_some}
 use Rattle.std.proofs.Common.{◌==◌, eq-eqb}

@@ -5,8 +5,8 @@ use Rattle.std.specs.Prelude.{All}
 use Rattle.ks_keysets.specs.declared.NodeState.{NodeState}
 use Rattle.ks_keysets.specs.Record.{IsPlace, LeadsOn}
 use Rattle.ks_keysets.specs.Keyset.{record_at, IsLive, Reaches, at_root, along, InKeyset, AreApart, Good, IsFound, here, nowhere, value_at}
-use Rattle.ks_keysets.specs.Found.{reached_live}
-use Rattle.ks_keysets.specs.Next.{leads_on, next_one, same_record, target_live}
+use Rattle.ks_keysets.specs.Laws.Found.{reached_live}
+use Rattle.ks_keysets.specs.Laws.Next.{leads_on, next_one, same_record, target_live}
 use Rattle.ks_flow.specs.Walk.{Ends, stops, goes, IsWalked}
 
 ends_from : (g : ℕ → NodeState) (p n a b : ℕ) → Reaches g p a → a ≡ b → Ends g p n b → Ends g p n 0

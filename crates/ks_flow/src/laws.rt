@@ -3,7 +3,7 @@
 ghost use Rattle.ks_keysets.specs.declared.Record.{Record};
 ghost use Rattle.ks_keysets.specs.Keyset.{SameFound};
 ghost use Rattle.ks_keysets.specs.declared.Frame.{Frame};
-ghost use Rattle.std.specs.Prelude.{ℕ, false, List, [], ◌∷◌, ◌↔◌, ◌≡◌, ◌<◌};
+ghost use Rattle.std.specs.Prelude.{◌≢◌, ℕ, false, List, [], ◌∷◌, ◌↔◌, ◌≡◌, ◌<◌};
 ghost use Rattle.ks_keysets.specs.declared.NodeState.{NodeState};
 ghost use Rattle.ks_keysets.specs.Keyset.{opening, Reaches, record_at, Good, InInset, InKeyset, IsLive, AreApart};
 ghost use Rattle.ks_keysets.specs.declared.Span.{Span};
@@ -108,7 +108,7 @@ pub fn tree_facts_law()
     ensures opening { (f : ℕ → Frame) → (f 0).low ≡ 0 → ((s : Span) → (f 0).range ≡ Some s → (s.low ≡ 0) × (s.last ≡ top)) → Tree opening f }
     ensures edges { (g k : ℕ → NodeState) (f : ℕ → Frame) → SameEdges g k → Tree g f → Tree k f }
     ensures used { (g : ℕ → NodeState) (f : ℕ → Frame) (n : ℕ) (r : Record) → Good g → Tree g f → record_at g n ≡ Some r → All (λ e. (p : ℕ) × InInset g n p × Carries e p) r.edges }
-    ensures apart { (g : ℕ → NodeState) (f : ℕ → Frame) (n m : ℕ) (r : Record) → Good g → Tree g f → record_at g n ≡ Some r → 0 < edges_to r.edges m → n ≡ m → ⊥ }
+    ensures apart { (g : ℕ → NodeState) (f : ℕ → Frame) (n m : ℕ) (r : Record) → Good g → Tree g f → record_at g n ≡ Some r → 0 < edges_to r.edges m → n ≢ m }
     ensures child { (g : ℕ → NodeState) (e x p : ℕ) (s : Record) → OneEdge g → record_at g e ≡ Some s → 0 < edges_to s.edges x → Reaches g p x → Reaches g p e × LeadsTo s p x }
     ensures fresh { (g : ℕ → NodeState) (n m : ℕ) → Good g → record_at g m ≡ None → edges_between g n m ≡ 0 }
     ensures parents { (g : ℕ → NodeState) → OneEdge g → OneParent g }

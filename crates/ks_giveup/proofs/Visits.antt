@@ -7,14 +7,15 @@ use Rattle.ks_keysets.specs.declared.Span.{Span}
 use Rattle.ks_keysets.specs.Keyset.{IsLive}
 use Rattle.ks_flow.specs.Tree.{Tree, IsInset}
 use Rattle.ks_history.specs.declared.Event.{Event}
-use Rattle.ks_history.specs.Stays.{AreInTurn}
+use Rattle.ks_history.specs.Laws.Stays.{AreInTurn}
 use Rattle.ks_history.specs.Done.{give_up}
-use Rattle.ks_history.specs.Descent.{took_none}
+use Rattle.ks_history.specs.Laws.Descent.{took_none}
 use Rattle.ks_node.specs.Body.{Body, first_of, last_of}
 use Rattle.ks_arena.specs.declared.held.Held.{Held as Hand}
 use Rattle.ks_arena.specs.Sound.{Sort}
 use Rattle.ks_shape.specs.declared.answers.Later.{Later}
-use Rattle.ks_try.specs.Down.{IsDown, down_root, down_take}
+use Rattle.ks_try.specs.Down.{IsDown}
+use Rattle.ks_try.specs.Laws.Down.{down_root, down_take}
 use Rattle.ks_try.specs.Of.{IsAt}
 use Rattle.ks_giveup.specs.Tries.{Visited}
 

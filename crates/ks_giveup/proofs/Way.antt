@@ -11,11 +11,13 @@ use Rattle.ks_keysets.specs.Layout.{Layout}
 use Rattle.ks_history.specs.declared.Reply.{Reply}
 use Rattle.ks_history.specs.Trace.{caller_of, hand, held, graph_after, turn_after}
 use Rattle.ks_history.specs.Passes.{NoneBy, GrowsByOthers, GrowsWith}
-use Rattle.ks_history.specs.Begins.{none_by_both, with_others, by_others_keeps}
-use Rattle.ks_history.specs.Stays.{AreInTurn, StaysHeld}
+use Rattle.ks_history.specs.Laws.Begins.{none_by_both, with_others, by_others_keeps}
+use Rattle.ks_history.specs.Stays.{StaysHeld}
+use Rattle.ks_history.specs.Laws.Stays.{AreInTurn}
 use Rattle.ks_history.specs.Done.{Template, coupling, HoldsAbove, MayTake, first_taken, from_above, TakesWell, Done, Hands, at_first as hands_first, and_on as hands_on}
-use Rattle.ks_history.specs.Underway.{Underway, underway_here}
-use Rattle.ks_shape.specs.Single.{one_may}
+use Rattle.ks_history.specs.Underway.{Underway}
+use Rattle.ks_history.specs.Laws.Underway.{underway_here}
+use Rattle.ks_shape.specs.Laws.Single.{one_may}
 use Rattle.ks_giveup.specs.Goes.{IsHinted, MayVisit, GoesWell, Goes, at_first, and_on}
 
 -- others' events

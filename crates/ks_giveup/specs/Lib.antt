@@ -1,3 +1,4 @@
 pub mod Descent
 pub mod Goes
 pub mod Tries
+pub mod Laws

@@ -10,10 +10,11 @@ use Rattle.ks_keysets.specs.declared.Edge.{Edge}
 use Rattle.ks_keysets.specs.declared.Span.{Span}
 use Rattle.ks_keysets.specs.Record.{Carries, top}
 use Rattle.ks_node.specs.declared.start.Start.{Start}
-use Rattle.ks_node.specs.Ascend.{all_below, all_from}
+use Rattle.ks_node.specs.Laws.Ascend.{all_below, all_from}
 use Rattle.ks_node.specs.Body.{starts_below, starts_from}
 use Rattle.ks_node.specs.Asks.{IsSpanOf}
-use Rattle.ks_node.specs.Spans.{plain_edges, edges_plain, length_plain, edge_last, edge_inner, AreWithin}
+use Rattle.ks_node.specs.Spans.{plain_edges, AreWithin}
+use Rattle.ks_node.specs.Laws.Spans.{edges_plain, length_plain, edge_last, edge_inner}
 use Rattle.ks_hash.specs.Hash.{last_before, run_span}
 
 none : Start

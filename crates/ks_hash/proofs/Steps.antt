@@ -10,7 +10,7 @@ use Rattle.ks_node.specs.declared.start.Start.{Start}
 use Rattle.ks_node.specs.Body.{first_node, begins, starts_below, starts_from}
 use Rattle.ks_node.specs.Effect.{runs}
 use Rattle.ks_hash.specs.Slices.{is_size, smallest, width_of, slice_starts, repeats, starts_of, doubled, led_over, run_led}
-use Rattle.ks_hash.specs.Joined.{joined_after, starts_adopted, by_size, size_bounds, doubled_length}
+use Rattle.ks_hash.specs.Laws.Joined.{joined_after, starts_adopted, by_size, size_bounds, doubled_length}
 
 doubled_append : (cs ds : List ℕ) → doubled (cs ++ ds) ≡ doubled cs ++ doubled ds
 doubled_append [] ds = refl

@@ -1,4 +1,3 @@
 pub mod Slices
-pub mod Joined
 pub mod Hash
-pub mod Fits
+pub mod Laws

@@ -4,7 +4,7 @@
 //! the same child are one edge of the record. A slice that is to be cut is halved with all others, which changes no
 //! edge; then the slices from the cut to the end of the run get the new child.
 
-ghost use Rattle.std.specs.Prelude.{◌≡◌, ℕ, ◌+◌, ◌%◌, ◌<◌, ◌≤◌, ◌++◌, ◌∷◌, [], IsTrue, Some, false, length, Option, position, nat_eq};
+ghost use Rattle.std.specs.Prelude.{◌≢◌, ◌≡◌, ℕ, ◌+◌, ◌%◌, ◌<◌, ◌≤◌, ◌++◌, ◌∷◌, [], IsTrue, Some, false, length, Option, position, nat_eq};
 ghost use Rattle.std.specs.List.{list_all};
 ghost use Rattle.ks_node.specs.Body.{starts_below, starts_from, led_to, begins, first_node, sole};
 ghost use Rattle.ks_node.specs.Effect.{runs, without};
@@ -187,7 +187,7 @@ fn position_of(slices: &[u32], child: u32) -> Option<usize>
 /// Leads the first run that leads to a child where the run before it leads.
 pub(crate) fn forget_child(slices: &mut Slices, id: u32)
     requires size { IsTrue (is_size (length slices.old.items)) }
-    requires later { first_node (starts_of slices.old.items) ≡ Some id → ⊥ }
+    requires later { first_node (starts_of slices.old.items) ≢ Some id }
     ensures starts { starts_of slices.new.items ≡ runs (without id (starts_of slices.old.items)) }
     ensures size { IsTrue (is_size (length slices.new.items)) }
 {

@@ -20,7 +20,7 @@ use Rattle.ks_keysets.specs.declared.Pair.{Pair}
 use Rattle.ks_keysets.specs.Record.{IsPlace, LeadsTo, top, empty_record}
 use Rattle.ks_keysets.specs.Keyset.{opening, live_record, record_at, IsLive, at_root, along, InInset, InKeyset, InOutset}
 use Rattle.ks_keysets.specs.Frame.{blank_frame}
-use Rattle.ks_keysets.specs.Found.{reached_live}
+use Rattle.ks_keysets.specs.Laws.Found.{reached_live}
 use Rattle.ks_keysets.specs.Layout.{Layout, list_layout, bplus_layout, hash_layout, Fit, IsLow, IsNext, IsRightNeighbour, chained, beside}
 use Rattle.ks_history.specs.declared.Op.TheVariants.{Get, Put}
 use Rattle.ks_history.specs.declared.Reply.TheVariants.{Nothing, Full}
@@ -34,12 +34,13 @@ use Rattle.ks_history.specs.Trace.{◌⊑◌, free, idle, held, given, called, c
 use Rattle.ks_history.specs.Served.{at_place, CalledBelow, IsListing, Served}
 use Rattle.ks_history.specs.Due.{HoldsLiveBut, FullDue, last_call, FullsDue, BusyDue, MovedDue, FarDue, IsOnWay}
 use Rattle.ks_history.specs.Done.{Template, coupling, give_up, link_move, MayTake, first_taken, from_above, Hands, at_first, and_on, Done, DoneAt, Left, Tight, TidyAt}
-use Rattle.ks_history.specs.Begins.{begins_self, begins_append, begins_both, by_others_none}
-use Rattle.ks_history.specs.Calls.{done_calls, left_calls}
-use Rattle.ks_history.specs.Dues.{none_free_by, none_free_but, full_due_earlier, full_due_later}
-use Rattle.ks_history.specs.Beside.{spare_others, moved_due}
-use Rattle.ks_history.specs.Descent.{IsDeep, HeldUnder, the_node, target, deep_at_root, deep_freeing}
-use Rattle.ks_history.specs.Stays.{AreInTurn, cond_here, cond_else}
+use Rattle.ks_history.specs.Laws.Begins.{begins_self, begins_append, begins_both, by_others_none}
+use Rattle.ks_history.specs.Laws.Calls.{done_calls, left_calls}
+use Rattle.ks_history.specs.Laws.Dues.{none_free_by, none_free_but, full_due_earlier, full_due_later}
+use Rattle.ks_history.specs.Laws.Beside.{spare_others, moved_due}
+use Rattle.ks_history.specs.Descent.{IsDeep, the_node, target}
+use Rattle.ks_history.specs.Laws.Descent.{HeldUnder, deep_at_root, deep_freeing}
+use Rattle.ks_history.specs.Laws.Stays.{AreInTurn, cond_here, cond_else}
 
 -- a Full with one node free all the while is refused
 full_needs_all : (layout : Layout) (n j : ℕ) (s h : List Event) (e : Event) → FullDue layout n s h e → j < n → ((k : List Event) → s ⊑ k → k ⊑ h → turn_after k j ≡ free) → ⊥

@@ -6,7 +6,7 @@ use Rattle.ks_keysets.specs.declared.NodeState.{NodeState}
 use Rattle.ks_keysets.specs.declared.NodeState.TheVariants.{Claimed}
 use Rattle.ks_keysets.specs.Record.{IsPlace, first_value}
 use Rattle.ks_keysets.specs.Keyset.{opening, live_record, record_at, IsLive, InKeyset, Good, IsFound, value_in, value_at}
-use Rattle.ks_keysets.specs.Found.{KeepsEdges, found_along, found_one, found_here, reached_live}
+use Rattle.ks_keysets.specs.Laws.Found.{KeepsEdges, found_along, found_one, found_here, reached_live}
 use Rattle.ks_history.specs.declared.Answered.{Answered}
 use Rattle.ks_history.specs.declared.Event.{Event}
 use Rattle.ks_history.specs.declared.Event.TheVariants.{Take, Give, Claim, Shape, Call}
@@ -14,9 +14,9 @@ use Rattle.ks_history.specs.Write.{Write, Map, written, map_with}
 use Rattle.ks_history.specs.Map.{map_after, Legal}
 use Rattle.ks_history.specs.Trace.{given, state_with, graph_after, calls_of}
 use Rattle.ks_history.specs.Lawful.{Lawful, GoodThroughout, at_opening, and_then}
-use Rattle.ks_history.specs.Stays.{lawful_in_turn, cond_here, cond_else}
-use Rattle.ks_history.specs.Begins.{good_now}
-use Rattle.ks_history.specs.Turns.{record_with, given_kept, state_written, state_was, free_not_live}
+use Rattle.ks_history.specs.Laws.Stays.{lawful_in_turn, cond_here, cond_else}
+use Rattle.ks_history.specs.Laws.Begins.{good_now}
+use Rattle.ks_history.specs.Laws.Turns.{record_with, given_kept, state_written, state_was, free_not_live}
 use Rattle.ks_history.proofs.Writes.{map_with-at, first_value-pairs_with, WritesAt, map_with-apart, written-touches, answer_along}
 use Rattle.ks_history.proofs.Histories.{map_after-push, Legal-nil, Legal-push}
 

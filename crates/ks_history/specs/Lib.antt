@@ -9,14 +9,11 @@ pub mod Due
 pub mod Done
 pub mod Stays
 pub mod Hand
-pub mod Begins
-pub mod Turns
 pub mod Calls
-pub mod Dues
 pub mod Underway
 pub mod Stretch
-pub mod Far
 pub mod Alone
 pub mod Beside
 pub mod Descent
 pub mod Quiet
+pub mod Laws

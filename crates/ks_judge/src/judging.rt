@@ -59,7 +59,7 @@ fn in_order(
     ensures calls { IfOk result (λ calls. calls.items ≡ calls_below (map (λ v. v.items) callers.now) (map (λ v. v.items) lines.now) (length calls.items)) }
     ensures placed { IfOk result (λ calls. (n : ℕ) → n < length calls.items → IsPlaced (map (λ v. v.items) lines.now) n) }
     ensures within { IfOk result (λ calls. length calls.items ≤ length slots.now) }
-    ensures stop { IfOk result (λ calls. length calls.items < length slots.now → IsPlaced (map (λ v. v.items) lines.now) (length calls.items) → ⊥) }
+    ensures stop { IfOk result (λ calls. length calls.items < length slots.now → ¬ IsPlaced (map (λ v. v.items) lines.now) (length calls.items)) }
 {
     let mut calls = Vec::with_capacity(alloc, slots.len())?;
     for slot in slots {

@@ -4,7 +4,7 @@ use Rattle.std.proofs.lemmas.Option.{same_Some}
 use Rattle.ks_keysets.specs.declared.Record.{Record}
 use Rattle.ks_keysets.specs.Record.{empty_record}
 use Rattle.ks_keysets.specs.Keyset.{opening, record_at, IsLive, Reaches, at_root, Good}
-use Rattle.ks_keysets.specs.Found.{reached_live}
+use Rattle.ks_keysets.specs.Laws.Found.{reached_live}
 
 opening_one : (k : ℕ) (r : Record) → record_at opening k ≡ Some r → (k ≡ 0) × (r ≡ empty_record)
 opening_one zero r is = (refl, sym (same_Some empty_record r is))

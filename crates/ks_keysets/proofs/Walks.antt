@@ -5,9 +5,9 @@ use Rattle.ks_keysets.specs.declared.Record.{Record}
 use Rattle.ks_keysets.specs.Record.{IsPlace, LeadsOn}
 use Rattle.ks_keysets.specs.Keyset.{record_at, IsLive, Reaches, at_root, along, InKeyset, AreApart}
 use Rattle.ks_keysets.specs.Walk.{Walks, at_start, one_more, EndsAt, MeetsNotLive, NeverEnds}
-use Rattle.ks_keysets.specs.Found.{reached_live}
-use Rattle.ks_keysets.specs.Next.{leads_on, same_record, next_one}
-use Rattle.ks_keysets.specs.Pigeons.{repeats}
+use Rattle.ks_keysets.specs.Laws.Found.{reached_live}
+use Rattle.ks_keysets.specs.Laws.Next.{leads_on, same_record, next_one}
+use Rattle.ks_keysets.specs.Laws.Pigeons.{repeats}
 
 -- the record of a node that has two names
 record_along : (g : ℕ → NodeState) (n m : ℕ) (o : Option Record) → n ≡ m → record_at g n ≡ o → record_at g m ≡ o

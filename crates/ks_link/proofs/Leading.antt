@@ -14,12 +14,12 @@ use Rattle.ks_history.specs.declared.Event.TheVariants.{Shape}
 use Rattle.ks_history.specs.Trace.{hand, graph_after, frame_after}
 use Rattle.ks_history.specs.Passes.{Has, GrowsWith}
 use Rattle.ks_history.specs.Due.{HoldsLive}
-use Rattle.ks_history.specs.Hand.{held_in_hand}
-use Rattle.ks_history.specs.Stays.{cond_else}
+use Rattle.ks_history.specs.Laws.Hand.{held_in_hand}
+use Rattle.ks_history.specs.Laws.Stays.{cond_else}
 use Rattle.ks_history.specs.Alone.{ActsAlone}
 use Rattle.ks_flow.specs.Link.{LastsUnderLink}
 use Rattle.ks_arena.specs.Sound.{Sort, blank_of}
-use Rattle.ks_shape.specs.Makes.{alone_with}
+use Rattle.ks_shape.specs.Laws.Makes.{alone_with}
 use Rattle.ks_link.specs.declared.parts.Waiting.{Waiting}
 use Rattle.ks_link.specs.Leads.{AreLed, IsLedAfter, LedBut, Waits}
 

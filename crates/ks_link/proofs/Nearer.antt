@@ -15,7 +15,7 @@ use Rattle.ks_node.specs.declared.start.Next.TheVariants.{Here}
 use Rattle.ks_node.specs.Body.{Body, content_of, frame_of, is_branch, last_of, holds, led_to, go_to, next_at}
 use Rattle.ks_node.specs.Edges.{record_of}
 use Rattle.ks_node.specs.Sound.{Sound as InOrder}
-use Rattle.ks_node.specs.Ways.{here_stays}
+use Rattle.ks_node.specs.Laws.Ways.{here_stays}
 use Rattle.ks_flow.specs.Link.{Link, IsRange, IsLinkEdge, IsChildEdge}
 
 module _ (g : ℕ → NodeState) (f : ℕ → Frame) (facts : Link g f) where

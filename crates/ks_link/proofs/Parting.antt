@@ -8,7 +8,7 @@ use Rattle.ks_keysets.specs.declared.NodeState.{NodeState}
 use Rattle.ks_keysets.specs.Keyset.{live_record, record_at, IsLive, Good}
 use Rattle.ks_history.specs.declared.Event.{Event}
 use Rattle.ks_history.specs.Trace.{drop_one, graph_after, frame_after}
-use Rattle.ks_history.specs.Stays.{cond_here, cond_else}
+use Rattle.ks_history.specs.Laws.Stays.{cond_here, cond_else}
 use Rattle.ks_flow.specs.Link.{LastsUnderLink}
 use Rattle.ks_node.specs.Body.{Body, all_places, last_of}
 use Rattle.ks_node.specs.Asks.{Suits}
@@ -17,7 +17,7 @@ use Rattle.ks_bodies.specs.Links.{IsLinked, StandsLinked}
 use Rattle.ks_arena.specs.declared.held.Held.{Held as Hand}
 use Rattle.ks_arena.specs.Sound.{Sort, blank_of}
 use Rattle.ks_arena.specs.Clauses.{Matches, MatchesIf}
-use Rattle.ks_shape.specs.Single.{shown, record_is}
+use Rattle.ks_shape.specs.Laws.Single.{shown, record_is}
 use Rattle.ks_link.specs.declared.parts.Waiting.{Waiting}
 use Rattle.ks_link.specs.Parts.{IsSplitOff}
 

@@ -16,12 +16,12 @@ use Rattle.ks_node.specs.Edges.{record_of}
 use Rattle.ks_node.specs.Sound.{Sound as InOrder, Framed}
 use Rattle.ks_node.specs.declared.start.Start.{Start}
 use Rattle.ks_flow.specs.Link.{IsRange, IsLinkEdge, IsChildEdge}
-use Rattle.ks_node.specs.Ways.{here_stays, stays_here, below_own}
+use Rattle.ks_node.specs.Laws.Ways.{here_stays, stays_here, below_own}
 use Rattle.ks_arena.specs.declared.held.Held.{Held as Hand}
 use Rattle.ks_arena.specs.Sound.{Sort, blank_of}
 use Rattle.ks_arena.specs.Clauses.{HasTaken, Matches}
-use Rattle.ks_arena.specs.Writes.{ends_at_no_branch}
-use Rattle.ks_shape.specs.Single.{shown, record_is}
+use Rattle.ks_arena.specs.Laws.Writes.{ends_at_no_branch}
+use Rattle.ks_shape.specs.Laws.Single.{shown, record_is}
 use Rattle.ks_shape.specs.OnWay.{IsOnWay as IsReached}
 use Rattle.ks_shape.specs.SearchEnd.{IsEnd}
 use Rattle.ks_link.specs.Descent.{IsOnWay}

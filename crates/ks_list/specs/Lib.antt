@@ -1,3 +1,2 @@
 pub mod Listed
-pub mod Pairs
-pub mod Fits
+pub mod Laws

@@ -5,12 +5,6 @@ pub mod Room
 pub mod Effect
 pub mod Asks
 pub mod Sound
-pub mod Ascend
-pub mod Cuts
-pub mod Starts
-pub mod Keep
-pub mod Within
 pub mod Spans
 pub mod Wrapped
-pub mod Ways
-pub mod Puts
+pub mod Laws

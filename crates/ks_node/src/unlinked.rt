@@ -1,6 +1,6 @@
 //! Nodes with no link to the right: what splits, grows and merges make of them.
 
-ghost use Rattle.std.specs.Prelude.{◌≡◌, ℕ, ◌<◌, ◌-◌, ◌^◌, Bool, Option, IsTrue, IsSome, Some, None, true, false, length, nat_eq, ◌||◌, ◌⊎◌};
+ghost use Rattle.std.specs.Prelude.{◌≢◌, ◌≡◌, ℕ, ◌<◌, ◌-◌, ◌^◌, Bool, Option, IsTrue, IsSome, Some, None, true, false, length, nat_eq, ◌||◌, ◌⊎◌};
 ghost use Rattle.ks_node.specs.Body.{Body, content_of, is_branch, IsBlank, only_child_of, first_node};
 ghost use Rattle.ks_node.specs.Room.{is_full, fit_together};
 ghost use Rattle.ks_node.specs.Effect.{split_left, split_right, reached, grown, absorbed, forgot, collapsed, emptied};
@@ -45,7 +45,7 @@ pub trait Unlinked: Node {
     /// Drops the edge of a branch that leads to a node; the edge before it reaches to its end.
     fn forget(&mut self, id: u32)
         requires branch { IsTrue (is_branch (Self.body self.old)) }
-        requires later { first_node (Self.body self.old).starts ≡ Some id → ⊥ }
+        requires later { first_node (Self.body self.old).starts ≢ Some id }
         ensures { Self.body self.new ≡ forgot id (Self.body self.old) };
 
     /// Becomes what its only child is, which becomes blank.

@@ -13,7 +13,7 @@ use Rattle.ks_bodies.specs.Stands.{IsPlain, Stands}
 use Rattle.ks_arena.specs.declared.held.Held.{Held as Hand}
 use Rattle.ks_arena.specs.Sound.{Sort, blank_of}
 use Rattle.ks_arena.specs.Clauses.{Matches}
-use Rattle.ks_shape.specs.Single.{shown, record_is}
+use Rattle.ks_shape.specs.Laws.Single.{shown, record_is}
 
 -- a live node in hand stands in the graph
 pub stands_now : {N : Type 0} (sort : Sort) (shows : N → Body) (h : List Event) (x : Hand N) → x.live ≡ true → Matches sort shows h x → IsPlain (shows x.body) → Stands (graph_after h) (frame_after (blank_of sort) h) x.node (shows x.body)

@@ -5,11 +5,12 @@ use Rattle.ks_history.specs.declared.Event.{Event}
 use Rattle.ks_history.specs.declared.Op.TheVariants.{Put}
 use Rattle.ks_history.specs.Done.{coupling}
 use Rattle.ks_history.specs.Due.{NoneFree}
-use Rattle.ks_history.specs.Dues.{none_free_earlier, none_free_later}
+use Rattle.ks_history.specs.Laws.Dues.{none_free_earlier, none_free_later}
 use Rattle.ks_history.specs.Passes.{NoCallBy}
 use Rattle.ks_history.specs.Trace.{◌⊑◌}
 use Rattle.ks_history.specs.Underway.{Underway}
-use Rattle.ks_shape.specs.Stretches.{Stretches, stretches_begins}
+use Rattle.ks_shape.specs.Stretches.{Stretches}
+use Rattle.ks_shape.specs.Laws.Stretches.{stretches_begins}
 
 pub on_was : (layout : Layout) (n p a b : ℕ) (s h k : List Event) → b ≡ a → Stretches a h k → NoneFree layout n a p s h → NoneFree layout n b p s k
 on_was layout n p a b s h k same so was = subst (λ (z : ℕ). NoneFree layout n z p s k) (sym same) (none_free_later layout n a p s h k (stretches_begins a h k so) was)

@@ -14,23 +14,24 @@ use Rattle.ks_history.specs.declared.Event.{Event}
 use Rattle.ks_history.specs.declared.Event.TheVariants.{Give}
 use Rattle.ks_history.specs.Trace.{hand, drop_one, held, graph_after, turn_after}
 use Rattle.ks_history.specs.Passes.{Has, GrowsWith}
-use Rattle.ks_history.specs.Stays.{cond_here, cond_else}
-use Rattle.ks_history.specs.Hand.{AreOnce, is_hand}
+use Rattle.ks_history.specs.Laws.Stays.{cond_here, cond_else}
+use Rattle.ks_history.specs.Hand.{AreOnce}
+use Rattle.ks_history.specs.Laws.Hand.{is_hand}
 use Rattle.ks_flow.specs.Discipline.{BeginsTree, TreeStep, SameInset}
 use Rattle.ks_history.specs.Due.{HoldsLive, MayGrow}
-use Rattle.ks_history.specs.Dues.{holds_one, holds_others}
+use Rattle.ks_history.specs.Laws.Dues.{holds_one, holds_others}
 use Rattle.ks_node.specs.Body.{Body, is_branch_kind}
 use Rattle.ks_node.specs.Edges.{record_of, edges_of}
 use Rattle.ks_node.specs.Room.{is_full, is_full_at, load, may_grow}
-use Rattle.ks_shape.specs.Single.{record_is}
-use Rattle.ks_shape.specs.Beside.{KeepsBeside}
+use Rattle.ks_shape.specs.Laws.Single.{record_is}
+use Rattle.ks_shape.specs.Laws.Beside.{KeepsBeside}
 use Rattle.ks_arena.specs.declared.held.Held.{Held as Hand}
 use Rattle.ks_arena.specs.Sound.{Sort, Sound}
 use Rattle.ks_arena.specs.Clauses.{Matches, StillMatch, StillMatchBut, Kept}
 use Rattle.ks_put.specs.declared.path.Path.{Path}
 use Rattle.ks_put.specs.OnPath.{IsUnder, IsOnPath, numbers}
 use Rattle.ks_put.specs.Parts.{IsPart}
-use Rattle.ks_put.specs.Laws.{Laws}
+use Rattle.ks_put.specs.Laws.Search.{Laws}
 use Rattle.ks_put.proofs.Quiet.{quiet_insets}
 
 pub drop_first : (i : ℕ) (xs : List ℕ) → drop_one i (i ∷ xs) ≡ xs

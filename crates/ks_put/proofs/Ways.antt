@@ -9,14 +9,16 @@ use Rattle.ks_history.specs.declared.Event.{Event}
 use Rattle.ks_history.specs.declared.Event.TheVariants.{Take, Give}
 use Rattle.ks_history.specs.Trace.{hand, drop_one, held, graph_after, turn_after}
 use Rattle.ks_history.specs.Passes.{Has, GrowsWith}
-use Rattle.ks_history.specs.Stays.{cond_here, cond_else}
-use Rattle.ks_history.specs.Hand.{AreOnce, is_hand}
-use Rattle.ks_history.specs.Begins.{with_others}
+use Rattle.ks_history.specs.Laws.Stays.{cond_here, cond_else}
+use Rattle.ks_history.specs.Hand.{AreOnce}
+use Rattle.ks_history.specs.Laws.Hand.{is_hand}
+use Rattle.ks_history.specs.Laws.Begins.{with_others}
 use Rattle.ks_history.specs.declared.Op.{Op}
 use Rattle.ks_history.specs.declared.Op.TheVariants.{Get, Put, Del, Add, Swap}
-use Rattle.ks_history.specs.Stays.{AreInTurn}
+use Rattle.ks_history.specs.Laws.Stays.{AreInTurn}
 use Rattle.ks_history.specs.Done.{Template, coupling, from_above, most_held, MayTake}
-use Rattle.ks_history.specs.Underway.{Underway, may_take_later, underway_with}
+use Rattle.ks_history.specs.Underway.{Underway}
+use Rattle.ks_history.specs.Laws.Underway.{may_take_later, underway_with}
 use Rattle.ks_flow.specs.Tree.{edges_to}
 use Rattle.ks_flow.specs.Discipline.{BeginsTree, TreeStep}
 use Rattle.ks_node.specs.Body.{Body}
@@ -24,11 +26,12 @@ use Rattle.ks_node.specs.Edges.{record_of}
 use Rattle.ks_arena.specs.declared.held.Held.{Held as Hand}
 use Rattle.ks_arena.specs.Sound.{Sort, Sound}
 use Rattle.ks_arena.specs.Clauses.{Matches, HasTaken, StillMatchBut}
-use Rattle.ks_shape.specs.Single.{led_live, record_is}
+use Rattle.ks_shape.specs.Laws.Single.{led_live, record_is}
 use Rattle.ks_shape.specs.OnWay.{IsOnWay}
-use Rattle.ks_shape.specs.Stretches.{Stretches, stretches_give, stretches_take}
+use Rattle.ks_shape.specs.Stretches.{Stretches}
+use Rattle.ks_shape.specs.Laws.Stretches.{stretches_give, stretches_take}
 use Rattle.ks_put.specs.OnPath.{IsOnPath}
-use Rattle.ks_put.specs.Laws.{Laws}
+use Rattle.ks_put.specs.Laws.Search.{Laws}
 use Rattle.ks_put.proofs.Quiet.{quiet_insets}
 
 -- an edge that leads to the node is among those that are counted

@@ -1,7 +1,7 @@
 //! What sound traces tell of a search. The function computes nothing: its contract is a law.
 ghost use Rattle.std.specs.Prelude.{ℕ};
 ghost use Rattle.ks_arena.specs.Sound.{Sort};
-ghost use Rattle.ks_put.specs.Laws.{Laws};
+ghost use Rattle.ks_put.specs.Laws.Search.{Laws};
 
 use ks_flow::laws::walks_law;
 use ks_flow::{Discipline, Tree};

@@ -1,6 +1,6 @@
 //! The parts of a printed run, taken off the front of a text.
 
-ghost use Rattle.std.specs.Prelude.{ℕ, ◌≡◌, ◌+◌, ◌*◌, ◌≤◌, ◌<◌, ◌^◌, ◌∷◌, ◌++◌, length, map, codes, IfOk, IfSome, IfNone, Err};
+ghost use Rattle.std.specs.Prelude.{◌≢◌, ℕ, ◌≡◌, ◌+◌, ◌*◌, ◌≤◌, ◌<◌, ◌^◌, ◌∷◌, ◌++◌, length, map, codes, IfOk, IfSome, IfNone, Err};
 ghost use Rattle.std.specs.Fmt.{decimal};
 ghost use Rattle.ks_history.specs.declared.Reply.{Reply};
 ghost use Rattle.ks_script.specs.Lines.{lines_of};
@@ -42,7 +42,7 @@ fn after_caller(bytes: &[u8], caller: u64) -> Option<&[u8]>
 // The number and the reply that the line spells.
 fn reply_of(line: &[u8]) -> Option<(u64, Reply)>
     ensures some { IfSome result (λ x. IsAnswered x × (line.now ≡ reply_line x)) }
-    ensures none { IfNone result ((x : ℕ × Reply) → IsAnswered x → line.now ≡ reply_line x → ⊥) }
+    ensures none { IfNone result ((x : ℕ × Reply) → IsAnswered x → line.now ≢ reply_line x) }
 {
     let (first, word) = cut(line, b' ')?;
     let number_of_call = number(first)?;

@@ -1,6 +1,6 @@
 //! The line of a call, read.
 
-ghost use Rattle.std.specs.Prelude.{ℕ, ◌≡◌, ◌<◌, ◌^◌, ◌++◌, codes, IfSome, IfNone};
+ghost use Rattle.std.specs.Prelude.{◌≢◌, ℕ, ◌≡◌, ◌<◌, ◌^◌, ◌++◌, codes, IfSome, IfNone};
 ghost use Rattle.std.specs.Fmt.{decimal};
 ghost use Rattle.ks_history.specs.declared.Op.{Op};
 ghost use Rattle.ks_script.specs.Version.{value_limit};
@@ -16,7 +16,7 @@ fn entry_of(version: Version, bytes: &[u8]) -> Option<(u64, u128)>
     ensures some { IfSome result (λ x. bytes.now ≡ pair_line x) }
     ensures fits { IfSome result (λ x. (x.0 < 2 ^ 64) × (x.1 < value_limit version)) }
     ensures none { IfNone result ((k v : ℕ) → k < 2 ^ 64 → v < value_limit version →
-        bytes.now ≡ pair_line (k, v) → ⊥) }
+        bytes.now ≢ pair_line (k, v)) }
 {
     let (key, value) = key_and_value(bytes)?;
     if !version.has_value(value) {
@@ -30,7 +30,7 @@ fn exchange_of(bytes: &[u8]) -> Option<(u64, u128, u128)>
     ensures some { IfSome result (λ x. bytes.now ≡ decimal x.0 ++ codes " " ++ decimal x.1 ++ codes " " ++ decimal x.2) }
     ensures fits { IfSome result (λ x. (x.0 < 2 ^ 64) × (x.1 < 2 ^ 128) × (x.2 < 2 ^ 128)) }
     ensures none { IfNone result ((k v w : ℕ) → k < 2 ^ 64 → v < 2 ^ 128 → w < 2 ^ 128 →
-        bytes.now ≡ decimal k ++ codes " " ++ decimal v ++ codes " " ++ decimal w → ⊥) }
+        bytes.now ≢ decimal k ++ codes " " ++ decimal v ++ codes " " ++ decimal w) }
 {
     let (first, values) = cut(bytes, b' ')?;
     let key = number(first)?;
@@ -41,7 +41,7 @@ fn exchange_of(bytes: &[u8]) -> Option<(u64, u128, u128)>
 /// The call of the version that the line spells.
 pub fn call_of(version: Version, line: &[u8]) -> Option<Op>
     ensures some { IfSome result (λ op. IsCall version op × (line.now ≡ call_line op)) }
-    ensures none { IfNone result ((op : Op) → IsCall version op → line.now ≡ call_line op → ⊥) }
+    ensures none { IfNone result ((op : Op) → IsCall version op → line.now ≢ call_line op) }
 {
     if let Some(key) = after(line, b"get ") {
         return Some(Op::Get(number(key)?));

@@ -1,13 +1,13 @@
 //! Lines and words, taken off the front of bytes.
 
-ghost use Rattle.std.specs.Prelude.{ℕ, ◌≡◌, ◌≤◌, ◌<◌, ◌^◌, List, [], ◌∷◌, ◌++◌, length, slice_index, codes, IfSome, IfNone};
+ghost use Rattle.std.specs.Prelude.{◌≢◌, ℕ, ◌≡◌, ◌≤◌, ◌<◌, ◌^◌, List, [], ◌∷◌, ◌++◌, length, slice_index, codes, IfSome, IfNone};
 ghost use Rattle.std.specs.Fmt.{decimal};
 ghost use Rattle.ks_script.specs.Lines.{Lacks, lines_of};
 
 // The place of the first such byte, or how many bytes there are.
 fn place_of(bytes: &[u8], byte: u8) -> usize
     ensures within { result ≤ length bytes.now }
-    ensures before { (k : ℕ) → k < result → slice_index bytes.now k ≡ byte → ⊥ }
+    ensures before { (k : ℕ) → k < result → slice_index bytes.now k ≢ byte }
     ensures found { result < length bytes.now → slice_index bytes.now result ≡ byte }
 {
     bytes.iter().position(|b| *b == byte).unwrap_or(bytes.len())
@@ -44,7 +44,7 @@ pub fn first_line(bytes: &[u8]) -> Option<(&[u8], &[u8])>
 /// What follows the word.
 pub fn after<'a>(bytes: &'a [u8], word: &[u8]) -> Option<&'a [u8]>
     ensures some { IfSome result (λ rest. bytes.now ≡ word.now ++ rest.now) }
-    ensures none { IfNone result ((rest : List ℕ) → bytes.now ≡ word.now ++ rest → ⊥) }
+    ensures none { IfNone result ((rest : List ℕ) → bytes.now ≢ word.now ++ rest) }
 {
     bytes.strip_prefix(word)
 }
@@ -52,7 +52,7 @@ pub fn after<'a>(bytes: &'a [u8], word: &[u8]) -> Option<&'a [u8]>
 /// The number below 2^128 that the bytes are the digits of.
 pub fn wide_number(bytes: &[u8]) -> Option<u128>
     ensures some { IfSome result (λ n. bytes.now ≡ decimal n) }
-    ensures none { IfNone result ((n : ℕ) → n < 2 ^ 128 → bytes.now ≡ decimal n → ⊥) }
+    ensures none { IfNone result ((n : ℕ) → n < 2 ^ 128 → bytes.now ≢ decimal n) }
 {
     if bytes.is_empty() {
         return None;
@@ -75,7 +75,7 @@ pub fn wide_number(bytes: &[u8]) -> Option<u128>
 /// The number below 2^64 that the bytes are the digits of.
 pub fn number(bytes: &[u8]) -> Option<u64>
     ensures some { IfSome result (λ n. bytes.now ≡ decimal n) }
-    ensures none { IfNone result ((n : ℕ) → n < 2 ^ 64 → bytes.now ≡ decimal n → ⊥) }
+    ensures none { IfNone result ((n : ℕ) → n < 2 ^ 64 → bytes.now ≢ decimal n) }
 {
     let number = wide_number(bytes)?;
     if number > u64::MAX as u128 {
@@ -89,7 +89,7 @@ pub fn key_and_value(bytes: &[u8]) -> Option<(u64, u128)>
     ensures some { IfSome result (λ x. bytes.now ≡ decimal x.0 ++ codes " " ++ decimal x.1) }
     ensures fits { IfSome result (λ x. (x.0 < 2 ^ 64) × (x.1 < 2 ^ 128)) }
     ensures none { IfNone result ((m n : ℕ) → m < 2 ^ 64 → n < 2 ^ 128 →
-        bytes.now ≡ decimal m ++ codes " " ++ decimal n → ⊥) }
+        bytes.now ≢ decimal m ++ codes " " ++ decimal n) }
 {
     let (first, second) = cut(bytes, b' ')?;
     Some((number(first)?, wide_number(second)?))
@@ -100,7 +100,7 @@ pub fn two_values(bytes: &[u8]) -> Option<(u128, u128)>
     ensures some { IfSome result (λ x. bytes.now ≡ decimal x.0 ++ codes " " ++ decimal x.1) }
     ensures fits { IfSome result (λ x. (x.0 < 2 ^ 128) × (x.1 < 2 ^ 128)) }
     ensures none { IfNone result ((m n : ℕ) → m < 2 ^ 128 → n < 2 ^ 128 →
-        bytes.now ≡ decimal m ++ codes " " ++ decimal n → ⊥) }
+        bytes.now ≢ decimal m ++ codes " " ++ decimal n) }
 {
     let (first, second) = cut(bytes, b' ')?;
     Some((wide_number(first)?, wide_number(second)?))

@@ -9,19 +9,21 @@ use Rattle.ks_history.specs.declared.Event.{Event}
 use Rattle.ks_history.specs.declared.Event.TheVariants.{Claim, Give}
 use Rattle.ks_history.specs.Trace.{◌⊑◌, hand, drop_one, held, graph_after, turn_after}
 use Rattle.ks_history.specs.Passes.{Has, GrowsByOthers, GrowsWith}
-use Rattle.ks_history.specs.Stays.{StaysHeld, cond_here}
-use Rattle.ks_history.specs.Hand.{is_hand, held_in_hand}
-use Rattle.ks_history.specs.Begins.{begins_self, by_others_keeps, by_others_turn, claim_hand}
+use Rattle.ks_history.specs.Stays.{StaysHeld}
+use Rattle.ks_history.specs.Laws.Stays.{cond_here}
+use Rattle.ks_history.specs.Laws.Hand.{is_hand, held_in_hand}
+use Rattle.ks_history.specs.Laws.Begins.{begins_self, by_others_keeps, by_others_turn, claim_hand}
 use Rattle.ks_history.specs.Done.{Template}
 use Rattle.ks_history.specs.Due.{HoldsLive, HoldsLiveBut, MayGrow, NoneFree}
-use Rattle.ks_history.specs.Dues.{none_free_by, none_free_but, none_free_later, none_free_earlier, may_grow_along, between_by_others}
-use Rattle.ks_history.specs.Stretch.{Stretch, stretch_both, stretch_claim, stretch_give, stretch_others, stretch_begins}
+use Rattle.ks_history.specs.Laws.Dues.{none_free_by, none_free_but, none_free_later, none_free_earlier, may_grow_along, between_by_others}
+use Rattle.ks_history.specs.Stretch.{Stretch}
+use Rattle.ks_history.specs.Laws.Stretch.{stretch_both, stretch_claim, stretch_give, stretch_others, stretch_begins}
 use Rattle.ks_flow.specs.Discipline.{SameKeyset}
 use Rattle.ks_node.specs.Body.{Body}
 use Rattle.ks_arena.specs.declared.held.Held.{Held as Hand}
 use Rattle.ks_arena.specs.Sound.{Sort, Sound}
 use Rattle.ks_arena.specs.Clauses.{HasLooked, HasClaimed, WasTaken, Kept, KeptBut}
-use Rattle.ks_shape.specs.Beside.{KeepsBeside, StaysBeside, beside_others, beside_with}
+use Rattle.ks_shape.specs.Laws.Beside.{KeepsBeside, StaysBeside, beside_others, beside_with}
 use Rattle.ks_shape.specs.Claims.{HoldsForClaim, GotOne}
 
 -- a node was claimed

@@ -11,13 +11,15 @@ use Rattle.ks_history.specs.Map.{Touches}
 use Rattle.ks_history.specs.Trace.{hand, drop_one, frame_after, graph_after, held, turn_after}
 use Rattle.ks_history.specs.Passes.{GrowsWith}
 use Rattle.ks_history.specs.Due.{NoneFree, FullDue}
-use Rattle.ks_history.specs.Dues.{full_due_later}
+use Rattle.ks_history.specs.Laws.Dues.{full_due_later}
 use Rattle.ks_history.specs.Done.{Template, DoneAt}
-use Rattle.ks_history.specs.Stays.{AreInTurn, StaysHeld}
-use Rattle.ks_history.specs.Begins.{begins_append, by_others_keeps, with_others}
-use Rattle.ks_history.specs.Underway.{Underway, underway_call, decided_with, done_of}
+use Rattle.ks_history.specs.Stays.{StaysHeld}
+use Rattle.ks_history.specs.Laws.Stays.{AreInTurn}
+use Rattle.ks_history.specs.Laws.Begins.{begins_append, by_others_keeps, with_others}
+use Rattle.ks_history.specs.Underway.{Underway}
+use Rattle.ks_history.specs.Laws.Underway.{underway_call, decided_with, done_of}
 use Rattle.ks_arena.specs.Clauses.{Numbered}
-use Rattle.ks_shape.specs.Single.{one_may, gave_last}
+use Rattle.ks_shape.specs.Laws.Single.{one_may, gave_last}
 
 -- the call of c is decided at the one node that it holds, whose frame is this one, and which is then given
 module _ (layout : Layout) (template : Template) (n c i number : ℕ) (op : Op) (reply : Reply) (blank frame : Frame) (s0 h h₁ h₂ : List Event) (are : AreInTurn h₁) (mine : turn_after h i ≡ held c) (framed : frame_after blank h i ≡ frame) (alone : hand c h ≡ i ∷ [])

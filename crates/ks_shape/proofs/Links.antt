@@ -15,9 +15,10 @@ use Rattle.ks_history.specs.declared.Event.{Event}
 use Rattle.ks_history.specs.Trace.{hand, graph_after, frame_after}
 use Rattle.ks_history.specs.Lawful.{Lawful}
 use Rattle.ks_history.specs.Passes.{Has, GrowsByOthers}
-use Rattle.ks_history.specs.Hand.{is_hand}
-use Rattle.ks_history.specs.Begins.{by_others_keeps}
-use Rattle.ks_history.specs.Stays.{StaysHeld, lawful_in_turn}
+use Rattle.ks_history.specs.Laws.Hand.{is_hand}
+use Rattle.ks_history.specs.Laws.Begins.{by_others_keeps}
+use Rattle.ks_history.specs.Stays.{StaysHeld}
+use Rattle.ks_history.specs.Laws.Stays.{lawful_in_turn}
 use Rattle.ks_node.specs.Body.{Body, content_of, last_of}
 use Rattle.ks_node.specs.Sound.{Sound as InOrder, Framed}
 use Rattle.ks_bodies.specs.Links.{IsLinked, StandsLinked, StandsUnder}

@@ -1,13 +1,12 @@
 pub mod InHand
-pub mod Single
 pub mod SearchEnd
 pub mod OnWay
 pub mod Answers
 pub mod Idle
 pub mod Tries
-pub mod Beside
 pub mod Stretches
 pub mod Claims
 pub mod Makes
 pub mod Of
 pub mod Places
+pub mod Laws

@@ -1,23 +1,12 @@
 -- Searches on their way under trees.
-use Rattle.std.proofs.Common.{◌≡◌, ℕ, ◌≤◌, true, false, List, [], ◌∷◌, ap, arith}
-use Rattle.std.specs.Prelude.{Option, Some, None}
-use Rattle.ks_keysets.specs.declared.Frame.{Frame}
-use Rattle.ks_keysets.specs.declared.Span.{Span}
-use Rattle.ks_keysets.specs.Record.{top}
+use Rattle.std.proofs.Common.{◌≡◌, ℕ, true, List, [], ◌∷◌}
 use Rattle.ks_keysets.specs.Keyset.{InInset}
 use Rattle.ks_history.specs.declared.Event.{Event}
-use Rattle.ks_history.specs.Trace.{hand, graph_after, frame_after}
-use Rattle.ks_flow.specs.Tree.{Tree}
-use Rattle.ks_node.specs.declared.start.Next.TheVariants.{Here}
-use Rattle.ks_node.specs.Body.{Body, content_of, first_of, is_branch, last_of, next_at}
-use Rattle.ks_node.specs.Edges.{record_of}
-use Rattle.ks_node.specs.Sound.{Sound as InOrder}
+use Rattle.ks_history.specs.Trace.{hand, graph_after}
+use Rattle.ks_node.specs.Body.{Body}
 use Rattle.ks_arena.specs.declared.held.Held.{Held as Hand}
-use Rattle.ks_arena.specs.Sound.{Sort, blank_of}
+use Rattle.ks_arena.specs.Sound.{Sort}
 use Rattle.ks_arena.specs.Clauses.{Matches}
-use Rattle.ks_arena.specs.Writes.{ends_at_no_branch}
-use Rattle.ks_shape.specs.SearchEnd.{IsEnd}
-use Rattle.ks_shape.specs.Single.{shown, record_is}
 
 -- after h, c, which searches for the place, holds this live node alone, and the place is in its inset
 pub record IsOnWay {N : Type 0} (sort : Sort) (shows : N → Body) (c place : ℕ) (h : List Event) (x : Hand N) : Type 0 where
@@ -25,20 +14,3 @@ pub record IsOnWay {N : Type 0} (sort : Sort) (shows : N → Body) (c place : �
   pub live : x.live ≡ true
   pub matches : Matches sort shows h x
   pub inside : InInset (graph_after h) x.node place
-
-module _ {N : Type 0} (sort : Sort) (shows : N → Body) where
-  -- where a search on its way ends, the place is in the range of the node: its range, if it has one, is its inset
-  module _ (c p : ℕ) (h : List Event) (x : Hand N) (way : IsOnWay sort shows c p h x) (facts : Tree (graph_after h) (frame_after (blank_of sort) h)) (place : p ≤ top) where
-    held_in : (o : Option Span) → (frame_after (blank_of sort) h x.node).range ≡ o → (first_of o ≤ p) × (p ≤ last_of o)
-    held_in None e = (omega arith, omega (arith, place))
-    held_in (Some r) e = (facts.range x.node r (record_of (shows x.body), record_is sort shows h x way.live way.matches) e).forth p way.inside
-
-    ranged : (first_of (shows x.body).range ≤ p) × (p ≤ last_of (shows x.body).range)
-    ranged = held_in (shows x.body).range (ap (λ (f : Frame). f.range) (shown sort shows h x way.live way.matches).1)
-
-    pub ends_here : next_at (shows x.body) p ≡ Here → IsEnd sort shows c p h x
-    ends_here here = record { alone = way.alone; live = way.live; matches = way.matches; inside = way.inside; within = ranged; here = here }
-
-    -- so it is no branch
-    pub ends_unbranched : InOrder (content_of (shows x.body)) → next_at (shows x.body) p ≡ Here → is_branch (shows x.body) ≡ false
-    ends_unbranched order here = ends_at_no_branch (shows x.body) p order ranged.0 ranged.1 here

@@ -7,6 +7,3 @@ use Rattle.ks_keysets.specs.Keyset.{InInset, InKeyset}
 pub record HasPlacesOf (g k : ℕ → NodeState) (n m : ℕ) : Type 0 where
   pub inset : (p : ℕ) → InInset g n p → InInset k m p
   pub keyset : (p : ℕ) → InKeyset g n p → InKeyset k m p
-
-pub places_both : (g h k : ℕ → NodeState) (n m l : ℕ) → HasPlacesOf g h n m → HasPlacesOf h k m l → HasPlacesOf g k n l
-places_both g h k n m l a b = record { inset = λ p i. b.inset p (a.inset p i); keyset = λ p i. b.keyset p (a.keyset p i) }

@@ -15,7 +15,6 @@ use Rattle.ks_node.specs.Sound.{Sound as InOrder}
 use Rattle.ks_arena.specs.declared.held.Held.{Held as Hand}
 use Rattle.ks_arena.specs.Sound.{Sort}
 use Rattle.ks_arena.specs.Clauses.{Matches}
-use Rattle.ks_arena.specs.Writes.{ends_at_no_branch, ends_below_own}
 
 -- the operation puts or adds the value at the place
 abbrev pub Fills : ℕ → ℕ → Op → Type 0
@@ -38,14 +37,6 @@ module _ {N : Type 0} (sort : Sort) (shows : N → Body) where
     pub inside : InInset (graph_after h) x.node place
     pub within : (first_of (shows x.body).range ≤ place) × (place ≤ last_of (shows x.body).range)
     pub here : next_at (shows x.body) place ≡ Here
-
-  -- such a node is no branch, and each edge of its own begins past the place
-  module _ (c place : ℕ) (h : List Event) (x : Hand N) (at : IsEnd c place h x) (order : InOrder (content_of (shows x.body))) where
-    pub unbranched : is_branch (shows x.body) ≡ false
-    unbranched = ends_at_no_branch (shows x.body) place order at.within.0 at.within.1 at.here
-
-    pub below_own : IsBelowOwn (shows x.body) place
-    below_own = ends_below_own (shows x.body) place order at.within.0 at.within.1 at.here
 
   -- it has the place, or room for it
   pub record HasRoom (c place : ℕ) (h : List Event) (x : Hand N) : Type 0 where

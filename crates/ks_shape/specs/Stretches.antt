@@ -1,76 +1,8 @@
 -- Stretches of a call that are such by every template: what a search does under trees, which begins at the root.
-use Rattle.std.proofs.Common.{◌≡◌, ℕ, ◌≤◌, List, [], ◌∷◌, ◌++◌, length, sym, refl, ◌∙◌, subst, ap, arith}
-use Rattle.ks_keysets.specs.declared.Change.{Change}
+use Rattle.std.proofs.Common.{ℕ, List, []}
 use Rattle.ks_history.specs.declared.Event.{Event}
-use Rattle.ks_history.specs.declared.Event.TheVariants.{Take, Give, Shape}
-use Rattle.ks_history.specs.declared.Op.{Op}
-use Rattle.ks_history.specs.declared.Op.TheVariants.{Put, Add}
-use Rattle.ks_history.specs.Trace.{◌⊑◌, hand}
-use Rattle.ks_history.specs.Passes.{GrowsByOthers, GrowsWith}
-use Rattle.ks_history.specs.Done.{Template, coupling, give_up, link_move, MayBegin, MayTake, most_held}
-use Rattle.ks_history.specs.Stretch.{Stretch, stretch_both, stretch_here, stretch_others, stretch_give, stretch_shape, stretch_take, stretch_first, stretch_begins}
-use Rattle.ks_history.specs.Underway.{Underway, underway_both}
+use Rattle.ks_history.specs.Done.{Template}
+use Rattle.ks_history.specs.Stretch.{Stretch}
 
 abbrev pub Stretches : ℕ → List Event → List Event → Type 0
 Stretches c h k = (template : Template) → Stretch template c h k
-
-pub stretches_both : (c : ℕ) (g h k : List Event) → Stretches c g h → Stretches c h k → Stretches c g k
-stretches_both c g h k a b = λ template. stretch_both template c g h k (a template) (b template)
-
-pub stretches_here : (c : ℕ) (h : List Event) → length (hand c h) ≤ 3 → Stretches c h h
-stretches_here c h few = λ template. stretch_here template c h h few
-
-pub stretches_others : (c : ℕ) (h k : List Event) → length (hand c h) ≤ 3 → GrowsByOthers c h k → Stretches c h k
-stretches_others c h k few grows = λ template. stretch_others template c h k few grows
-
-pub stretches_begins : (c : ℕ) (h k : List Event) → Stretches c h k → h ⊑ k
-stretches_begins c h k so = stretch_begins coupling c h k (so coupling)
-
--- one event of its own
-
-pub stretches_give : (c i : ℕ) (h k : List Event) → length (hand c h) ≤ 3 → GrowsWith c (Give c i) h k → Stretches c h k
-stretches_give c i h k few gave = λ template. stretch_give template c h k i few gave
-
-pub stretches_take : (c i : ℕ) (h k : List Event) → length (hand c h) ≤ 3 → length (hand c k) ≤ 3 → (so : GrowsWith c (Take c i) h k) → ((template : Template) (op : Op) → MayTake template op (so.rest ++ h) c i) → Stretches c h k
-stretches_take c i h k few after so may = λ template. stretch_take template c h k i few after so (may template)
-
--- every template may begin at the root
-pub root_begins : (template : Template) → MayBegin template 0
-root_begins coupling = refl
-root_begins give_up = tt
-root_begins link_move = tt
-
-pub stretches_root : (c : ℕ) (h k : List Event) → hand c h ≡ [] → length (hand c k) ≤ 3 → GrowsWith c (Take c 0) h k → Stretches c h k
-stretches_root c h k empty after so = λ template. stretch_first template c h k 0 (root_begins template) empty after so
-
--- of a caller whose number is told in another way
-
-pub stretches_as : (c d : ℕ) (h k : List Event) → d ≡ c → Stretches d h k → Stretches c h k
-stretches_as c d h k same so = subst (λ (z : ℕ). Stretches z h k) same so
-
-pub stretches_on : (a b : ℕ) (s h k : List Event) → b ≡ a → Stretches a s h → Stretches a h k → Stretches b s k
-stretches_on a b s h k same so on = stretches_as b a s k (sym same) (stretches_both a s h k so on)
-
-pub stretches_shape : (me c d : ℕ) {changes : List Change} (h k : List Event) → c ≡ me → d ≡ c → length (hand me h) ≤ 3 → hand d k ≡ hand c h → GrowsWith c (Shape c changes) h k → Stretches me h k
-stretches_shape me c d {changes} h k same same' few hands shaped = λ template.
-    let kept : hand me k ≡ hand me h = subst (λ (z : ℕ). hand z k ≡ hand me h) (same' ∙ same) (subst (λ (z : ℕ). hand d k ≡ hand z h) same hands) in
-    let grows : GrowsWith me (Shape me changes) h k = subst (λ (z : ℕ). GrowsWith z (Shape z changes) h k) same shaped in
-    stretch_shape template me h k changes few (omega (arith, few, ap length kept)) grows
-
--- a put and an add go on by them
-
-three_to_put : (template : Template) (p v : ℕ) → 3 ≤ most_held template (Put p v)
-three_to_put coupling p v = omega arith
-three_to_put give_up p v = omega arith
-three_to_put link_move p v = omega arith
-
-three_to_add : (template : Template) (p v : ℕ) → 3 ≤ most_held template (Add p v)
-three_to_add coupling p v = omega arith
-three_to_add give_up p v = omega arith
-three_to_add link_move p v = omega arith
-
-pub put_goes_on : (template : Template) (c p v : ℕ) (s h k : List Event) → Underway template c (Put p v) s h → Stretches c h k → Underway template c (Put p v) s k
-put_goes_on template c p v s h k under so = underway_both template c (Put p v) s h k under (so template (Put p v) (three_to_put template p v))
-
-pub add_goes_on : (template : Template) (c p v : ℕ) (s h k : List Event) → Underway template c (Add p v) s h → Stretches c h k → Underway template c (Add p v) s k
-add_goes_on template c p v s h k under so = underway_both template c (Add p v) s h k under (so template (Add p v) (three_to_add template p v))

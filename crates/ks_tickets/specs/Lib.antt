@@ -1,4 +1,4 @@
 pub mod Rule
 pub mod Plays
 pub mod Clauses
-pub mod Ended
+pub mod Laws

@@ -5,19 +5,20 @@ use Rattle.ks_keysets.specs.Record.{LeadsTo}
 use Rattle.ks_history.specs.declared.Event.{Event}
 use Rattle.ks_history.specs.Trace.{hand, drop_one, held, graph_after, turn_after}
 use Rattle.ks_history.specs.Passes.{Has, GrowsWith}
-use Rattle.ks_history.specs.Stays.{cond_here, cond_else}
-use Rattle.ks_history.specs.Hand.{AreOnce, is_hand}
+use Rattle.ks_history.specs.Laws.Stays.{cond_here, cond_else}
+use Rattle.ks_history.specs.Hand.{AreOnce}
+use Rattle.ks_history.specs.Laws.Hand.{is_hand}
 use Rattle.ks_flow.specs.Discipline.{BeginsTree, TreeStep, SameInset, SameKeyset}
 use Rattle.ks_node.specs.Body.{Body}
 use Rattle.ks_node.specs.Edges.{record_of}
 use Rattle.ks_arena.specs.declared.held.Held.{Held as Hand}
-use Rattle.ks_arena.specs.FromSound.{IsPlain}
+use Rattle.ks_arena.specs.Laws.FromSound.{IsPlain}
 use Rattle.ks_arena.specs.Sound.{Sort, Sound}
 use Rattle.ks_arena.specs.Clauses.{Matches}
-use Rattle.ks_shape.specs.Beside.{beside_with}
+use Rattle.ks_shape.specs.Laws.Beside.{beside_with}
 use Rattle.ks_shape.specs.Places.{HasPlacesOf}
 use Rattle.ks_put.specs.OnPath.{IsUnder, numbers}
-use Rattle.ks_put.specs.Laws.{Laws}
+use Rattle.ks_put.specs.Laws.Search.{Laws}
 
 pub drop_first : (i : ℕ) (xs : List ℕ) → drop_one i (i ∷ xs) ≡ xs
 drop_first i xs = cond_here i i xs (i ∷ drop_one i xs) refl

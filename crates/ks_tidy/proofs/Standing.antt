@@ -19,14 +19,14 @@ use Rattle.ks_flow.specs.Tree.{Tree}
 use Rattle.ks_node.specs.declared.start.Next.TheVariants.{Here}
 use Rattle.ks_node.specs.Body.{Body, content_of, first_of, is_branch, last_of, next_at}
 use Rattle.ks_node.specs.Edges.{record_of}
-use Rattle.ks_node.specs.Ways.{here_stays}
+use Rattle.ks_node.specs.Laws.Ways.{here_stays}
 use Rattle.ks_node.specs.Sound.{Sound as InOrder, Framed}
 use Rattle.ks_bodies.specs.Stands.{IsPlain, Stands}
 use Rattle.ks_arena.specs.declared.held.Held.{Held as Hand}
 use Rattle.ks_arena.specs.Sound.{Sort, blank_of}
 use Rattle.ks_arena.specs.Clauses.{Matches}
-use Rattle.ks_arena.specs.Writes.{ends_at_no_branch}
-use Rattle.ks_shape.specs.Single.{shown, record_is}
+use Rattle.ks_arena.specs.Laws.Writes.{ends_at_no_branch}
+use Rattle.ks_shape.specs.Laws.Single.{shown, record_is}
 
 pub plain : (b : Body) → InOrder (content_of b) → ForSome b.range (λ r. Framed r b) → b.link ≡ None → IsPlain b
 plain b sound framed no_link = record { sound = sound; framed = framed; no_link = no_link }

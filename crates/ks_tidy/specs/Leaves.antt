@@ -1,16 +1,10 @@
 -- What a call leaves that is no call of the history and may hold three nodes.
-use Rattle.std.proofs.Common.{◌≡◌, ℕ, ◌≤◌, List, []}
+use Rattle.std.proofs.Common.{ℕ, ◌≤◌, List, []}
 use Rattle.ks_history.specs.declared.Event.{Event}
 use Rattle.ks_history.specs.declared.Op.{Op}
 use Rattle.ks_history.specs.Done.{Template, Left, most_held}
-use Rattle.ks_history.specs.Trace.{hand}
-use Rattle.ks_history.specs.Underway.{left_of}
-use Rattle.ks_shape.specs.Stretches.{Stretches}
 
 -- from s0 to s1 c made no call, took nodes as the template may, held three at most, and gave all back: so it has left as
 -- each operation may that holds three nodes
 abbrev pub HasLeft : Template → ℕ → List Event → List Event → Type 0
 HasLeft template c s0 s1 = (op : Op) → 3 ≤ most_held template op → Left template c op s0 s1
-
-pub has_left : (template : Template) (c : ℕ) (s0 s1 : List Event) → Stretches c s0 s1 → hand c s1 ≡ [] → HasLeft template c s0 s1
-has_left template c s0 s1 so empty = λ op three. left_of template c op s0 s1 (so template op three) empty

@@ -1,7 +1,7 @@
 pub mod Frees
 pub mod Leaves
 pub mod Pair
-pub mod Deciding
 pub mod Of
 pub mod Walking
 pub mod Compacts
+pub mod Laws

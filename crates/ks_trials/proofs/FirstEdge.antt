@@ -10,7 +10,7 @@ use Rattle.ks_node.specs.declared.start.Start.{Start}
 use Rattle.ks_node.specs.declared.start.Next.TheVariants.{Go}
 use Rattle.ks_node.specs.Body.{Body, starts_below, first_node, led_to, next_at}
 use Rattle.ks_node.specs.Sound.{Framed, starts_at_zero}
-use Rattle.ks_node.specs.Starts.{differ}
+use Rattle.ks_node.specs.Laws.Starts.{differ}
 
 -- one more element of which a fact holds
 pub one_more : {X : Type 0} (P : X → Type 0) (xs : List X) (n : ℕ) (x : X) → n < length xs → x ≡ get_or xs n x → P x →

@@ -1,6 +1,6 @@
 //! Calls on nodes, each after a test of what it asks, as the program runs.
 
-ghost use Rattle.std.specs.Prelude.{◌≡◌, ◌≤◌, IsTrue, Some, All, false};
+ghost use Rattle.std.specs.Prelude.{◌≢◌, ◌≡◌, ◌≤◌, IsTrue, Some, All, false};
 ghost use Rattle.ks_node.specs.declared.start.Next.TheVariants.{Here};
 ghost use Rattle.ks_node.specs.Body.{content_of, is_branch, first_node, IsBlank, all_places, next_at};
 ghost use Rattle.ks_node.specs.Room.{is_full};
@@ -177,7 +177,7 @@ pub fn forget<N: Unlinked + Ranged>(rt: &impl Abort, node: &mut N, id: u32) {
 /// Whether the first edge of a branch leads to a node.
 fn leads_first<N: Ranged>(node: &N, id: u32) -> bool
     requires { IsTrue (is_branch (N.body node.now)) }
-    ensures { result ≡ false → first_node (N.body node.now).starts ≡ Some id → ⊥ }
+    ensures { result ≡ false → first_node (N.body node.now).starts ≢ Some id }
 {
     node_law(node);
     match node.next(node.range().low) {

@@ -1,3 +1,4 @@
 pub mod Down
 pub mod Next
 pub mod Of
+pub mod Laws

@@ -11,7 +11,7 @@ use Rattle.ks_history.specs.declared.Answered.{Answered}
 use Rattle.ks_history.specs.Trace.{NumberedCall, calls_of, calls_by, number_after}
 use Rattle.ks_history.specs.Calls.{numbered}
 use Rattle.ks_node.specs.Keyed.{Ascends}
-use Rattle.ks_node.specs.Ascend.{asc_nil, asc_cons, asc_append, asc_tail}
+use Rattle.ks_node.specs.Laws.Ascend.{asc_nil, asc_cons, asc_append, asc_tail}
 
 pub record Numbers (c : ℕ) (h : List Event) : Type 0 where
   pub below : All (λ x. x.number < length (calls_of h)) (calls_by c h)

@@ -17,20 +17,21 @@ use Rattle.ks_history.specs.Map.{told}
 use Rattle.ks_history.specs.Trace.{graph_after, frame_after, calls_by}
 use Rattle.ks_history.specs.Due.{IsFullFor, Sometime}
 use Rattle.ks_history.specs.Passes.{GrowsWith}
-use Rattle.ks_history.specs.Begins.{none_no_call}
-use Rattle.ks_history.specs.Calls.{numbered, calls_kept, calls_more}
+use Rattle.ks_history.specs.Laws.Begins.{none_no_call}
+use Rattle.ks_history.specs.Calls.{numbered}
+use Rattle.ks_history.specs.Laws.Calls.{calls_kept, calls_more}
 use Rattle.ks_node.specs.declared.start.Next.TheVariants.{Here, Go}
 use Rattle.ks_node.specs.Body.{Body, content_of, first_of, last_of, frame_of, next_at, value_at, is_branch, is_branch_kind}
 use Rattle.ks_node.specs.Edges.{record_of}
 use Rattle.ks_node.specs.Room.{is_full, is_full_at}
 use Rattle.ks_node.specs.Asks.{IsBelowOwn}
 use Rattle.ks_node.specs.Sound.{Sound as InOrder}
-use Rattle.ks_node.specs.Puts.{value_first}
-use Rattle.ks_node.specs.Ways.{next_leads}
+use Rattle.ks_node.specs.Laws.Puts.{value_first}
+use Rattle.ks_node.specs.Laws.Ways.{next_leads}
 use Rattle.ks_arena.specs.declared.held.Held.{Held as Hand}
 use Rattle.ks_arena.specs.Sound.{Sort, blank_of}
 use Rattle.ks_arena.specs.Clauses.{Matches, MatchesIf, Numbered, HasTaken}
-use Rattle.ks_arena.specs.Writes.{ends_below_own as below_own_where, ends_at_no_branch as no_branch_where}
+use Rattle.ks_arena.specs.Laws.Writes.{ends_below_own as below_own_where, ends_at_no_branch as no_branch_where}
 
 -- a body without a range at which a search ends is no branch, and the place is below its own edge
 module _ (b : Body) (p : ℕ) (s : InOrder (content_of b)) (none : b.range ≡ None) (place : p ≤ top) (here : next_at b p ≡ Here) where

@@ -4,7 +4,7 @@ use Rattle.ks_history.specs.declared.Event.{Event}
 use Rattle.ks_history.specs.Trace.{◌⊑◌}
 use Rattle.ks_history.specs.Due.{Sometime}
 use Rattle.ks_history.specs.Passes.{GrowsWith}
-use Rattle.ks_history.specs.Begins.{begins_both}
+use Rattle.ks_history.specs.Laws.Begins.{begins_both}
 
 pub wider : {d : ℕ} {f : Event} {h k l g : List Event} {P : List Event → Type 0} → h ⊑ k → Sometime k l P → GrowsWith d f l g → Sometime h g P
 wider {d} {f} {h} {k} {l} {g} {P} before so after = record {

@@ -1,4 +1,4 @@
-use Rattle.ks_arena.specs.Tells.{claimed_begins}
+use Rattle.ks_arena.specs.Laws.Tells.{claimed_begins}
 use Rattle.ks_turns.proofs.Wider.{wider}
 use Rattle.ks_turns.proofs.claim_two.Goals as goal
 

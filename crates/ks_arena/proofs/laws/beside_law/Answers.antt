@@ -1,4 +1,4 @@
-use Rattle.ks_arena.specs.Aside.{keysets_beside, live_below}
+use Rattle.ks_arena.specs.Laws.Aside.{keysets_beside, live_below}
 use Rattle.ks_arena.proofs.laws.beside_law.Goals as goal
 
 pub returns-clause-keysets : goal.returns-clause-keysets

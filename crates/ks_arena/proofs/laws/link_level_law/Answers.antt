@@ -1,4 +1,4 @@
-use Rattle.ks_history.specs.Begins.{good_now}
+use Rattle.ks_history.specs.Laws.Begins.{good_now}
 use Rattle.ks_history.specs.Trace.{graph_after, frame_after}
 use Rattle.ks_arena.specs.Sound.{blank_of}
 use Rattle.ks_arena.proofs.laws.link_level_law.Goals as goal

@@ -1,5 +1,5 @@
-use Rattle.ks_history.specs.Stays.{lawful_in_turn}
-use Rattle.ks_arena.specs.FromSound.{live_not_free}
+use Rattle.ks_history.specs.Laws.Stays.{lawful_in_turn}
+use Rattle.ks_arena.specs.Laws.FromSound.{live_not_free}
 use Rattle.ks_arena.proofs.laws.link_live_law.Goals as goal
 
 pub returns : goal.returns

@@ -1,4 +1,4 @@
-use Rattle.ks_arena.specs.FromSound.{fine, sound_begins, fulls_due, lasts_from, unshaped}
+use Rattle.ks_arena.specs.Laws.FromSound.{fine, sound_begins, fulls_due, lasts_from, unshaped}
 use Rattle.ks_arena.proofs.laws.sound_law.Goals as goal
 
 pub returns-clause-lawful : goal.returns-clause-lawful

@@ -1,6 +1,6 @@
-use Rattle.ks_history.specs.Stays.{lawful_in_turn}
-use Rattle.ks_history.specs.Begins.{good_now}
-use Rattle.ks_arena.specs.FromSound.{live_not_free, target_live}
+use Rattle.ks_history.specs.Laws.Stays.{lawful_in_turn}
+use Rattle.ks_history.specs.Laws.Begins.{good_now}
+use Rattle.ks_arena.specs.Laws.FromSound.{live_not_free, target_live}
 use Rattle.ks_arena.proofs.laws.target_law.Goals as goal
 
 pub returns : goal.returns

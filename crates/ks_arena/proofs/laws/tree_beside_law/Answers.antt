@@ -1,4 +1,4 @@
-use Rattle.ks_arena.specs.Aside.{insets_beside}
+use Rattle.ks_arena.specs.Laws.Aside.{insets_beside}
 use Rattle.ks_arena.proofs.laws.tree_beside_law.Goals as goal
 
 pub returns-clause-insets : goal.returns-clause-insets

@@ -1,5 +1,5 @@
 use Rattle.std.proofs.Common.{rules, arith, ◌≡◌, ℕ, ◌≤◌, [], sym, ap, ◌∙◌, subst, refl}
-use Rattle.ks_history.specs.Stays.{cond_else}
+use Rattle.ks_history.specs.Laws.Stays.{cond_else}
 use Rattle.ks_arena.specs.declared.held.Pass.{Pass}
 use Rattle.ks_arena.specs.Sound.{sort_of}
 use Rattle.ks_arena.specs.Clauses.{IsNewCrew}

@@ -1,6 +1,6 @@
 use Rattle.std.proofs.Common.{◌∙◌, ap}
 use Rattle.ks_history.specs.Done.{coupling}
-use Rattle.ks_history.specs.Underway.{underway_first}
+use Rattle.ks_history.specs.Laws.Underway.{underway_first}
 use Rattle.ks_history.specs.declared.Op.TheVariants.{Add}
 use Rattle.ks_arena.specs.Clauses.{seen_of}
 use Rattle.ks_coupling.proofs.calls.add.Goals as goal

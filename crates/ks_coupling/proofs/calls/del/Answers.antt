@@ -1,13 +1,14 @@
 use Rattle.std.proofs.Common.{◌≡◌, ℕ, arith, sym, subst}
 use Rattle.ks_history.specs.declared.Op.{Op}
 use Rattle.ks_history.specs.declared.Op.TheVariants.{Del}
-use Rattle.ks_history.specs.Alone.{ActsAlone, alone_then}
+use Rattle.ks_history.specs.Alone.{ActsAlone}
+use Rattle.ks_history.specs.Laws.Alone.{alone_then}
 use Rattle.ks_history.specs.Done.{Done, coupling}
 use Rattle.ks_history.specs.Map.{told}
 use Rattle.ks_history.specs.Underway.{Underway}
 use Rattle.ks_arena.specs.Sound.{sort_of}
 use Rattle.ks_arena.specs.Clauses.{seen_of}
-use Rattle.ks_shape.specs.Stretches.{stretches_begins}
+use Rattle.ks_shape.specs.Laws.Stretches.{stretches_begins}
 use Rattle.ks_tidy.specs.Pair.{IsPair}
 use Rattle.ks_coupling.proofs.calls.del.Goals as goal
 

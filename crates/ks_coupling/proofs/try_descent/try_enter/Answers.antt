@@ -1,10 +1,11 @@
 use Rattle.std.proofs.Common.{ℕ, sym, subst}
 use Rattle.ks_history.specs.Done.{coupling}
-use Rattle.ks_history.specs.Underway.{underway_first, underway_others}
-use Rattle.ks_history.specs.Descent.{took_none}
+use Rattle.ks_history.specs.Laws.Underway.{underway_first, underway_others}
+use Rattle.ks_history.specs.Laws.Descent.{took_none}
 use Rattle.ks_arena.specs.Sound.{sort_of}
 use Rattle.ks_arena.specs.Clauses.{seen_of}
-use Rattle.ks_try.specs.Down.{IsDown, down_root}
+use Rattle.ks_try.specs.Down.{IsDown}
+use Rattle.ks_try.specs.Laws.Down.{down_root}
 use Rattle.ks_coupling.proofs.Ways.{enters, enters_under}
 use Rattle.ks_coupling.proofs.try_descent.try_enter.Goals as goal
 

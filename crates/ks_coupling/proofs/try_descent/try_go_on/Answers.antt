@@ -3,16 +3,18 @@ use Rattle.ks_history.specs.declared.Event.{Event}
 use Rattle.ks_history.specs.declared.Event.TheVariants.{Give}
 use Rattle.ks_history.specs.Trace.{hand, drop_one}
 use Rattle.ks_history.specs.Passes.{Has, GrowsWith}
-use Rattle.ks_history.specs.Stays.{AreInTurn, lawful_in_turn}
-use Rattle.ks_history.specs.Hand.{is_hand}
-use Rattle.ks_history.specs.Begins.{good_now, by_others_begins, with_begins}
-use Rattle.ks_history.specs.Descent.{busy_later}
+use Rattle.ks_history.specs.Laws.Stays.{AreInTurn, lawful_in_turn}
+use Rattle.ks_history.specs.Laws.Hand.{is_hand}
+use Rattle.ks_history.specs.Laws.Begins.{good_now, by_others_begins, with_begins}
+use Rattle.ks_history.specs.Laws.Descent.{busy_later}
 use Rattle.ks_history.specs.Done.{coupling}
-use Rattle.ks_history.specs.Underway.{Underway, underway_others}
+use Rattle.ks_history.specs.Underway.{Underway}
+use Rattle.ks_history.specs.Laws.Underway.{underway_others}
 use Rattle.ks_flow.specs.Discipline.{BeginsTree, TreeStep}
 use Rattle.ks_arena.specs.Sound.{sort_of, Sound}
 use Rattle.ks_arena.specs.Clauses.{seen_of}
-use Rattle.ks_try.specs.Down.{IsDown, down_edge, down_take, down_give, busy_since}
+use Rattle.ks_try.specs.Down.{IsDown}
+use Rattle.ks_try.specs.Laws.Down.{down_edge, down_take, down_give, busy_since}
 use Rattle.ks_coupling.proofs.Ways.{goes_on, goes_under}
 use Rattle.ks_coupling.proofs.try_descent.try_go_on.Given.{Over}
 use Rattle.ks_coupling.proofs.try_descent.try_go_on.Goals as goal

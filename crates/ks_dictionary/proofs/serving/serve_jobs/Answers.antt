@@ -4,7 +4,7 @@ use Rattle.ks_history.specs.declared.Op.{Op}
 use Rattle.ks_arena.specs.Sound.{sort_of}
 use Rattle.ks_shape.specs.Idle.{Site}
 use Rattle.ks_tickets.specs.Clauses.{EachAs, HaveEndedAt, IsFreeAt}
-use Rattle.ks_tickets.specs.Ended.{all_free, each_ended}
+use Rattle.ks_tickets.specs.Laws.Ended.{all_free, each_ended}
 use Rattle.ks_dictionary.specs.Crew.{site_with}
 use Rattle.ks_dictionary.specs.declared.job.Job.{Job}
 use Rattle.ks_dictionary.specs.Ended.{history}

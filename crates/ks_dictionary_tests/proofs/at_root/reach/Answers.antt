@@ -1,5 +1,5 @@
 use Rattle.ks_history.specs.Done.{coupling}
-use Rattle.ks_history.specs.Underway.{underway_first}
+use Rattle.ks_history.specs.Laws.Underway.{underway_first}
 use Rattle.ks_arena.specs.Clauses.{seen_of}
 use Rattle.ks_dictionary_tests.proofs.at_root.reach.Goals as goal
 

@@ -1,7 +1,8 @@
 use Rattle.std.proofs.Common.{◌≡◌, ◌≤◌, ℕ, length, ap, sym, subst, arith}
 use Rattle.ks_history.specs.declared.Op.{Op}
 use Rattle.ks_history.specs.declared.Op.TheVariants.{Del}
-use Rattle.ks_history.specs.Alone.{ActsAlone, alone_then}
+use Rattle.ks_history.specs.Alone.{ActsAlone}
+use Rattle.ks_history.specs.Laws.Alone.{alone_then}
 use Rattle.ks_history.specs.Done.{Done, give_up}
 use Rattle.ks_history.specs.Map.{told}
 use Rattle.ks_history.specs.Trace.{◌⊑◌}

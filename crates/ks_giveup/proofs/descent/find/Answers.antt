@@ -1,7 +1,8 @@
 use Rattle.std.proofs.Common.{rules, ◌≡◌, ◌∙◌, ℕ, [], inl, refl, sym, subst, arith}
 use Rattle.ks_history.specs.Trace.{hand}
 use Rattle.ks_history.specs.Done.{give_up}
-use Rattle.ks_history.specs.Underway.{Underway, underway_first}
+use Rattle.ks_history.specs.Underway.{Underway}
+use Rattle.ks_history.specs.Laws.Underway.{underway_first}
 use Rattle.ks_arena.specs.Clauses.{seen_of}
 use Rattle.ks_giveup.specs.Goes.{Goes, at_first}
 use Rattle.ks_giveup.proofs.Way.{goes_both}

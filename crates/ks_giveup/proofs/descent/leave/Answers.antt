@@ -1,18 +1,18 @@
 use Rattle.std.proofs.Common.{rules, ◌≡◌, ℕ, ◌<◌, List, refl, sym, inl, inr, subst, arith}
 use Rattle.ks_keysets.specs.Record.{LeadsTo}
 use Rattle.ks_history.specs.declared.Event.TheVariants.{Give}
-use Rattle.ks_history.specs.Begins.{good_now}
-use Rattle.ks_history.specs.Hand.{is_hand}
+use Rattle.ks_history.specs.Laws.Begins.{good_now}
+use Rattle.ks_history.specs.Laws.Hand.{is_hand}
 use Rattle.ks_history.specs.Passes.{Has}
-use Rattle.ks_history.specs.Stays.{lawful_in_turn}
+use Rattle.ks_history.specs.Laws.Stays.{lawful_in_turn}
 use Rattle.ks_history.specs.Trace.{held, graph_after, turn_after}
 use Rattle.ks_history.specs.Done.{give_up}
 use Rattle.ks_flow.specs.Discipline.{BeginsTree, TreeStep}
 use Rattle.ks_node.specs.Edges.{record_of}
-use Rattle.ks_node.specs.Ways.{next_leads}
+use Rattle.ks_node.specs.Laws.Ways.{next_leads}
 use Rattle.ks_arena.specs.Sound.{sort_of}
 use Rattle.ks_arena.specs.Clauses.{seen_of}
-use Rattle.ks_shape.specs.Single.{is_near, led_live, record_is}
+use Rattle.ks_shape.specs.Laws.Single.{is_near, led_live, record_is}
 use Rattle.ks_giveup.specs.Goes.{MayVisit, at_first}
 use Rattle.ks_giveup.proofs.Way.{goes_with, hints}
 use Rattle.ks_giveup.proofs.descent.leave.Given.{Over}

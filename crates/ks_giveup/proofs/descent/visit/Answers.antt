@@ -3,14 +3,15 @@ use Rattle.ks_history.specs.declared.Event.{Event}
 use Rattle.ks_history.specs.declared.Event.TheVariants.{Give, Take}
 use Rattle.ks_history.specs.Trace.{hand}
 use Rattle.ks_history.specs.Done.{give_up, first_taken}
-use Rattle.ks_history.specs.Begins.{with_others}
+use Rattle.ks_history.specs.Laws.Begins.{with_others}
 use Rattle.ks_history.specs.Passes.{GrowsWith}
-use Rattle.ks_history.specs.Underway.{Underway, underway_others}
+use Rattle.ks_history.specs.Underway.{Underway}
+use Rattle.ks_history.specs.Laws.Underway.{underway_others}
 use Rattle.ks_node.specs.Body.{Body}
 use Rattle.ks_arena.specs.declared.held.Held.{Held as Hand}
 use Rattle.ks_arena.specs.Sound.{Sort, sort_of}
 use Rattle.ks_arena.specs.Clauses.{HasTaken, seen_of}
-use Rattle.ks_shape.specs.Single.{takes}
+use Rattle.ks_shape.specs.Laws.Single.{takes}
 use Rattle.ks_giveup.specs.Goes.{MayVisit, Goes, at_first}
 use Rattle.ks_giveup.proofs.Way.{goes_others, goes_with, may_later}
 use Rattle.ks_giveup.proofs.descent.visit.Goals as goal

@@ -1,7 +1,7 @@
 use Rattle.std.proofs.Common.{refl}
 use Rattle.ks_history.specs.declared.Op.TheVariants.{Get}
 use Rattle.ks_history.specs.Done.{give_up}
-use Rattle.ks_history.specs.Underway.{left_of}
+use Rattle.ks_history.specs.Laws.Underway.{left_of}
 use Rattle.ks_arena.specs.Clauses.{seen_of}
 use Rattle.ks_giveup.proofs.tries.try_get.Goals as goal
 

@@ -1,7 +1,7 @@
 use Rattle.std.proofs.Common.{refl}
 use Rattle.ks_history.specs.declared.Op.TheVariants.{Swap}
 use Rattle.ks_history.specs.Done.{give_up}
-use Rattle.ks_history.specs.Underway.{left_of}
+use Rattle.ks_history.specs.Laws.Underway.{left_of}
 use Rattle.ks_arena.specs.Clauses.{seen_of}
 use Rattle.ks_giveup.proofs.tries.try_swap.Goals as goal
 

@@ -1,9 +1,9 @@
 use Rattle.std.proofs.Common.{◌≡◌, ℕ, inl, refl, arith}
-use Rattle.ks_history.specs.Begins.{begins_self, good_now}
-use Rattle.ks_history.specs.Beside.{root_on_way}
+use Rattle.ks_history.specs.Laws.Begins.{begins_self, good_now}
+use Rattle.ks_history.specs.Laws.Beside.{root_on_way}
 use Rattle.ks_history.specs.Done.{give_up}
 use Rattle.ks_history.specs.Trace.{graph_after}
-use Rattle.ks_history.specs.Underway.{underway_first}
+use Rattle.ks_history.specs.Laws.Underway.{underway_first}
 use Rattle.ks_arena.specs.Sound.{sort_of}
 use Rattle.ks_arena.specs.Clauses.{seen_of}
 use Rattle.ks_giveup.specs.Tries.{WasOnWay}

@@ -1,13 +1,14 @@
 use Rattle.std.proofs.Common.{ℕ, suc, inr, subst}
 use Rattle.ks_history.specs.declared.Event.TheVariants.{Give}
-use Rattle.ks_history.specs.Stays.{lawful_in_turn}
-use Rattle.ks_history.specs.Begins.{with_begins}
-use Rattle.ks_history.specs.Beside.{spare_others, quiet_spares}
+use Rattle.ks_history.specs.Laws.Stays.{lawful_in_turn}
+use Rattle.ks_history.specs.Laws.Begins.{with_begins}
+use Rattle.ks_history.specs.Laws.Beside.{spare_others, quiet_spares}
 use Rattle.ks_history.specs.Done.{give_up}
 use Rattle.ks_history.specs.Underway.{Underway}
 use Rattle.ks_arena.specs.Sound.{sort_of}
 use Rattle.ks_arena.specs.Clauses.{seen_of}
-use Rattle.ks_try.specs.Down.{IsDown, down_edge, down_give}
+use Rattle.ks_try.specs.Down.{IsDown}
+use Rattle.ks_try.specs.Laws.Down.{down_edge, down_give}
 use Rattle.ks_giveup.specs.Tries.{WasOnWay, Visited}
 use Rattle.ks_giveup.proofs.Visits.{went_on}
 use Rattle.ks_giveup.proofs.try_descent.try_go_on.Goals as goal

@@ -2,24 +2,25 @@ use Rattle.std.proofs.Common.{◌≡◌, ◌≤◌, ◌∙◌, ℕ, List, [], �
 use Rattle.std.proofs.lemmas.Bool.Decides.{not_from_Decides}
 use Rattle.ks_keysets.specs.declared.Frame.{Frame}
 use Rattle.ks_keysets.specs.Keyset.{InInset}
-use Rattle.ks_keysets.specs.Found.{reached_live}
+use Rattle.ks_keysets.specs.Laws.Found.{reached_live}
 use Rattle.ks_history.specs.declared.Event.TheVariants.{Give, Take}
 use Rattle.ks_history.specs.Trace.{hand, graph_after, frame_after}
 use Rattle.ks_history.specs.Passes.{GrowsWith}
-use Rattle.ks_history.specs.Stays.{lawful_in_turn}
-use Rattle.ks_history.specs.Turns.{live_not_free}
-use Rattle.ks_history.specs.Begins.{begins_self, begins_both, by_others_begins, with_begins}
-use Rattle.ks_history.specs.Beside.{spare_others, quiet_spares}
+use Rattle.ks_history.specs.Laws.Stays.{lawful_in_turn}
+use Rattle.ks_history.specs.Laws.Turns.{live_not_free}
+use Rattle.ks_history.specs.Laws.Begins.{begins_self, begins_both, by_others_begins, with_begins}
+use Rattle.ks_history.specs.Laws.Beside.{spare_others, quiet_spares}
 use Rattle.ks_history.specs.Done.{give_up, first_taken}
-use Rattle.ks_history.specs.Underway.{Underway, underway_others}
+use Rattle.ks_history.specs.Underway.{Underway}
+use Rattle.ks_history.specs.Laws.Underway.{underway_others}
 use Rattle.ks_flow.specs.Tree.{IsInset}
 use Rattle.ks_node.specs.Body.{Body, first_of, last_of}
 use Rattle.ks_node.specs.Edges.{record_of}
 use Rattle.ks_arena.specs.Sound.{sort_of, blank_of}
 use Rattle.ks_arena.specs.Clauses.{seen_of}
-use Rattle.ks_shape.specs.Single.{takes, shown, record_is}
-use Rattle.ks_try.specs.Down.{busy_since}
-use Rattle.ks_giveup.specs.Tries.{was_later, was_moved}
+use Rattle.ks_shape.specs.Laws.Single.{takes, shown, record_is}
+use Rattle.ks_try.specs.Laws.Down.{busy_since}
+use Rattle.ks_giveup.specs.Laws.Tries.{was_later, was_moved}
 use Rattle.ks_giveup.proofs.Visits.{ranged_inset}
 use Rattle.ks_giveup.proofs.try_descent.try_visit.Goals as goal
 

@@ -1,6 +1,6 @@
 use Rattle.std.proofs.Common.{arith, ap, ◌∙◌, ◌≡◌, ◌/◌, length}
 use Rattle.ks_hash.specs.Slices.{starts_of, width_of, run_led}
-use Rattle.ks_hash.specs.Joined.{run_length}
+use Rattle.ks_hash.specs.Laws.Joined.{run_length}
 use Rattle.ks_hash.proofs.Steps.{slices_adopted, refill_same}
 use Rattle.ks_hash.proofs.slices.adopt_slice.Goals as goal
 

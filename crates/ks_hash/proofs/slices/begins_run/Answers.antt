@@ -1,7 +1,7 @@
 use Rattle.std.specs.Prelude.{not, get_or}
 use Rattle.std.proofs.Common.{◌≡◌, ◌∙◌, ◌/◌, ◌%◌, ap, sym, arith}
 use Rattle.ks_hash.specs.Slices.{repeats, before_at}
-use Rattle.ks_hash.specs.Joined.{begins_run, begins_no_slice}
+use Rattle.ks_hash.specs.Laws.Joined.{begins_run, begins_no_slice}
 use Rattle.ks_hash.proofs.slices.begins_run.Goals as goal
 
 pub returns-then-place-width-ne0 : goal.returns-then-place-width-ne0

@@ -1,5 +1,5 @@
 use Rattle.std.proofs.Common.{◌∙◌, ◌/◌, ap, sym, Some, get_or, arith}
-use Rattle.ks_hash.specs.Joined.{led_slice}
+use Rattle.ks_hash.specs.Laws.Joined.{led_slice}
 use Rattle.ks_hash.proofs.slices.child_at.Goals as goal
 
 pub returns : goal.returns

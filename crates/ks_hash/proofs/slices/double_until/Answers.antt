@@ -1,5 +1,5 @@
 use Rattle.std.proofs.Common.{arith, ◌∙◌, sym, subst, length, ◌≤◌, ◌-◌, ◌<◌}
-use Rattle.ks_hash.specs.Joined.{starts_doubled, doubled_size, doubled_length}
+use Rattle.ks_hash.specs.Laws.Joined.{starts_doubled, doubled_size, doubled_length}
 use Rattle.ks_hash.proofs.Steps.{halves_left, fewer_left}
 use Rattle.ks_hash.proofs.slices.double_until.Goals as goal
 

@@ -1,6 +1,6 @@
 use Rattle.std.proofs.Common.{ap, ◌∙◌, ◌≡◌, sym, length, position, nat_eq, Some, get_or, ◌-◌}
 use Rattle.ks_hash.specs.Slices.{starts_of, run_led}
-use Rattle.ks_hash.specs.Joined.{starts_forgot, starts_unforgot, run_length}
+use Rattle.ks_hash.specs.Laws.Joined.{starts_forgot, starts_unforgot, run_length}
 use Rattle.ks_hash.proofs.Steps.{first_slice, refill_same}
 use Rattle.ks_hash.proofs.slices.forget_child.Goals as goal
 

@@ -1,7 +1,7 @@
 use Rattle.std.proofs.Common.{arith, ap, ◌∙◌, sym, length}
 use Rattle.ks_node.specs.Effect.{runs}
 use Rattle.ks_hash.specs.Slices.{slice_starts}
-use Rattle.ks_hash.specs.Joined.{runs_is}
+use Rattle.ks_hash.specs.Laws.Joined.{runs_is}
 use Rattle.ks_hash.proofs.Steps.{runs_same, runs_new, runs_all}
 use Rattle.ks_hash.proofs.slices.runs_of.Goals as goal
 use Rattle.ks_hash.proofs.slices.runs_of.Goals.{then-not-is_same, else-not-is_same}

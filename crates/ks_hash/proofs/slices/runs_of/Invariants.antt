@@ -1,6 +1,6 @@
 use Rattle.std.proofs.Common.{◌≡◌, ◌≤◌, ◌*◌, ◌++◌, drop, length, None}
 use Rattle.ks_hash.specs.Slices.{slice_starts}
-use Rattle.ks_hash.specs.Joined.{joined_after}
+use Rattle.ks_hash.specs.Laws.Joined.{joined_after}
 use Rattle.ks_hash.proofs.slices.runs_of.Given as goal
 
 abbrev pub invariant-loop-i : goal.invariant-loop-i

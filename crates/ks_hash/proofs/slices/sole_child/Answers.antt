@@ -1,6 +1,6 @@
 use Rattle.std.specs.Prelude.{cond, get_or}
 use Rattle.std.proofs.Common.{arith, ap, ◌∙◌, sym, Some, None}
-use Rattle.ks_hash.specs.Joined.{sole_starts}
+use Rattle.ks_hash.specs.Laws.Joined.{sole_starts}
 use Rattle.ks_hash.proofs.slices.sole_child.Goals as goal
 
 pub returns-then-all_lead_to : goal.returns-then-all_lead_to

@@ -1,4 +1,4 @@
-use Rattle.ks_history.specs.Alone.{holds_alone_still, never_busy, never_moved, never_far}
+use Rattle.ks_history.specs.Laws.Alone.{holds_alone_still, never_busy, never_moved, never_far}
 use Rattle.ks_history.proofs.laws.alone_law.Goals as goal
 
 pub returns-clause-holds : goal.returns-clause-holds

@@ -1,6 +1,6 @@
 use Rattle.std.proofs.Common.{◌++◌}
-use Rattle.ks_history.specs.Stays.{lawful_in_turn}
-use Rattle.ks_history.specs.Beside.{inset_stays, keyset_stays, moved_due}
+use Rattle.ks_history.specs.Laws.Stays.{lawful_in_turn}
+use Rattle.ks_history.specs.Laws.Beside.{inset_stays, keyset_stays, moved_due}
 use Rattle.ks_history.proofs.laws.moved_law.Goals as goal
 
 pub returns-clause-inset : goal.returns-clause-inset

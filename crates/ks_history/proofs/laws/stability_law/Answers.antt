@@ -1,5 +1,5 @@
-use Rattle.ks_history.specs.Stays.{lawful_in_turn}
-use Rattle.ks_history.specs.Begins.{by_others_keeps, by_others_turn, by_others_hand, by_others_mine}
+use Rattle.ks_history.specs.Laws.Stays.{lawful_in_turn}
+use Rattle.ks_history.specs.Laws.Begins.{by_others_keeps, by_others_turn, by_others_hand, by_others_mine}
 use Rattle.ks_history.proofs.laws.stability_law.Goals as goal
 
 pub returns-clause-held : goal.returns-clause-held

@@ -1,6 +1,6 @@
-use Rattle.ks_history.specs.Stays.{lawful_in_turn}
-use Rattle.ks_history.specs.Hand.{is_hand, held_in_hand}
-use Rattle.ks_history.specs.Turns.{idle_live, live_not_free}
+use Rattle.ks_history.specs.Laws.Stays.{lawful_in_turn}
+use Rattle.ks_history.specs.Laws.Hand.{is_hand, held_in_hand}
+use Rattle.ks_history.specs.Laws.Turns.{idle_live, live_not_free}
 use Rattle.ks_history.proofs.laws.turn_law.Goals as goal
 
 pub returns-clause-held : goal.returns-clause-held

@@ -1,4 +1,4 @@
-use Rattle.ks_history.specs.Quiet.{no_turns, alone_looks, alone_turns, turns_same}
+use Rattle.ks_history.specs.Laws.Quiet.{no_turns, alone_looks, alone_turns, turns_same}
 use Rattle.ks_history.proofs.laws.turns_law.Goals as goal
 
 pub returns-clause-none : goal.returns-clause-none

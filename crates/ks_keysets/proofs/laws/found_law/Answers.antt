@@ -1,4 +1,4 @@
-use Rattle.ks_keysets.specs.Found.{found_one, found_here}
+use Rattle.ks_keysets.specs.Laws.Found.{found_one, found_here}
 use Rattle.ks_keysets.proofs.Opening.{opening_good}
 use Rattle.ks_keysets.proofs.laws.found_law.Goals as goal
 

@@ -1,13 +1,16 @@
 use Rattle.std.proofs.Common.{ℕ, [], ◌∷◌, inl, inr, sym, refl, ap, ◌∙◌, length, subst, arith}
 use Rattle.std.specs.Prelude.{IsTrue, Option}
-use Rattle.ks_history.specs.Alone.{ActsAlone, alone_first, alone_then}
-use Rattle.ks_history.specs.Stays.{lawful_in_turn}
+use Rattle.ks_history.specs.Alone.{ActsAlone}
+use Rattle.ks_history.specs.Laws.Alone.{alone_first, alone_then}
+use Rattle.ks_history.specs.Laws.Stays.{lawful_in_turn}
 use Rattle.ks_history.specs.Trace.{◌⊑◌}
 use Rattle.ks_history.specs.Done.{link_move}
-use Rattle.ks_history.specs.Stretch.{Stretch, stretch_begins, stretch_both, stretch_here}
+use Rattle.ks_history.specs.Stretch.{Stretch}
+use Rattle.ks_history.specs.Laws.Stretch.{stretch_begins, stretch_both, stretch_here}
 use Rattle.ks_arena.specs.Sound.{sort_of}
 use Rattle.ks_arena.specs.Clauses.{seen_of}
-use Rattle.ks_shape.specs.Makes.{TwoFree, two_before}
+use Rattle.ks_shape.specs.Makes.{TwoFree}
+use Rattle.ks_shape.specs.Laws.Makes.{two_before}
 use Rattle.ks_link.specs.declared.parts.Waiting.{Waiting}
 use Rattle.ks_link.specs.Leads.{IsLedAfter, LedBut, waits_if}
 use Rattle.ks_link.proofs.Leading.{holds_none, led_both}

@@ -2,17 +2,20 @@ use Rattle.std.proofs.Common.{◌≡◌, ℕ, List, [], ◌∷◌, inl, sym, ap,
 use Rattle.ks_flow.specs.Discipline.{BeginsLink, LinkStep}
 use Rattle.ks_history.specs.declared.Event.{Event}
 use Rattle.ks_history.specs.declared.Event.TheVariants.{Give}
-use Rattle.ks_history.specs.Alone.{ActsAlone, alone_first, alone_then}
-use Rattle.ks_history.specs.Begins.{begins_both, with_begins}
-use Rattle.ks_history.specs.Dues.{holds_one}
-use Rattle.ks_history.specs.Stays.{lawful_in_turn}
+use Rattle.ks_history.specs.Alone.{ActsAlone}
+use Rattle.ks_history.specs.Laws.Alone.{alone_first, alone_then}
+use Rattle.ks_history.specs.Laws.Begins.{begins_both, with_begins}
+use Rattle.ks_history.specs.Laws.Dues.{holds_one}
+use Rattle.ks_history.specs.Laws.Stays.{lawful_in_turn}
 use Rattle.ks_history.specs.Trace.{◌⊑◌, hand}
 use Rattle.ks_history.specs.Passes.{GrowsWith}
 use Rattle.ks_history.specs.Done.{link_move}
-use Rattle.ks_history.specs.Stretch.{Stretch, stretch_both, stretch_give, stretch_begins}
+use Rattle.ks_history.specs.Stretch.{Stretch}
+use Rattle.ks_history.specs.Laws.Stretch.{stretch_both, stretch_give, stretch_begins}
 use Rattle.ks_arena.specs.Sound.{Sort, Sound, sort_of}
 use Rattle.ks_arena.specs.Clauses.{seen_of}
-use Rattle.ks_shape.specs.Makes.{MakesNone, TwoFree, makes_both, makes_with, two_before}
+use Rattle.ks_shape.specs.Makes.{MakesNone, TwoFree}
+use Rattle.ks_shape.specs.Laws.Makes.{makes_both, makes_with, two_before}
 use Rattle.ks_link.specs.Descent.{IsOnWay}
 use Rattle.ks_link.specs.Leads.{LedBut, waits_if}
 use Rattle.ks_link.proofs.Leading.{Lasts, led_none, led_then}

@@ -3,11 +3,13 @@ use Rattle.ks_keysets.specs.declared.Frame.{Frame}
 use Rattle.ks_history.specs.Trace.{frame_after}
 use Rattle.ks_arena.specs.Sound.{sort_of, blank_of}
 use Rattle.ks_arena.specs.Clauses.{seen_of}
-use Rattle.ks_shape.specs.Single.{shown}
-use Rattle.ks_shape.specs.Makes.{MakesNone, makes_both}
+use Rattle.ks_shape.specs.Laws.Single.{shown}
+use Rattle.ks_shape.specs.Makes.{MakesNone}
+use Rattle.ks_shape.specs.Laws.Makes.{makes_both}
 use Rattle.ks_link.specs.Descent.{IsOnWay}
 use Rattle.ks_history.specs.Done.{link_move}
-use Rattle.ks_history.specs.Stretch.{Stretch, stretch_both, stretch_begins}
+use Rattle.ks_history.specs.Stretch.{Stretch}
+use Rattle.ks_history.specs.Laws.Stretch.{stretch_both, stretch_begins}
 use Rattle.ks_link.proofs.Parting.{split_off_later}
 use Rattle.ks_link.proofs.attaches.find_above.Goals as goal
 

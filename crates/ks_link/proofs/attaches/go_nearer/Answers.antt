@@ -1,5 +1,5 @@
 use Rattle.std.proofs.Common.{◌≡◌, ℕ, ◌+◌, ◌<◌, ◌≤◌, sym, ap, ◌∙◌, length, arith}
-use Rattle.ks_history.specs.Underway.{underway_here}
+use Rattle.ks_history.specs.Laws.Underway.{underway_here}
 use Rattle.std.specs.Prelude.{Some}
 use Rattle.ks_keysets.specs.declared.Frame.{Frame}
 use Rattle.ks_keysets.specs.declared.Record.{Record}
@@ -7,16 +7,17 @@ use Rattle.ks_keysets.specs.declared.Span.{Span}
 use Rattle.ks_keysets.specs.Record.{LeadsTo}
 use Rattle.ks_keysets.specs.Keyset.{IsLive}
 use Rattle.ks_history.specs.Trace.{graph_after, frame_after}
-use Rattle.ks_history.specs.Begins.{good_now}
+use Rattle.ks_history.specs.Laws.Begins.{good_now}
 use Rattle.ks_history.specs.Done.{link_move}
 use Rattle.ks_flow.specs.Link.{IsRange}
 use Rattle.ks_node.specs.Body.{Body, last_of}
 use Rattle.ks_node.specs.Edges.{record_of}
-use Rattle.ks_node.specs.Ways.{here_stays, next_leads}
+use Rattle.ks_node.specs.Laws.Ways.{here_stays, next_leads}
 use Rattle.ks_arena.specs.Sound.{sort_of, blank_of}
 use Rattle.ks_arena.specs.Clauses.{seen_of}
-use Rattle.ks_shape.specs.Single.{led_live, record_is, shown}
-use Rattle.ks_history.specs.Stretch.{Stretch, stretch_begins}
+use Rattle.ks_shape.specs.Laws.Single.{led_live, record_is, shown}
+use Rattle.ks_history.specs.Stretch.{Stretch}
+use Rattle.ks_history.specs.Laws.Stretch.{stretch_begins}
 use Rattle.ks_link.proofs.Nearer.{no_root, nearer}
 use Rattle.ks_link.proofs.attaches.go_nearer.Goals as goal
 

@@ -4,7 +4,7 @@ use Rattle.std.proofs.lemmas.Bool.{cases_lt}
 use Rattle.ks_keysets.specs.declared.Frame.{Frame}
 use Rattle.ks_keysets.specs.Keyset.{IsLive}
 use Rattle.ks_history.specs.Trace.{hand, graph_after, frame_after}
-use Rattle.ks_history.specs.Begins.{good_now}
+use Rattle.ks_history.specs.Laws.Begins.{good_now}
 use Rattle.ks_node.specs.Asks.{IsCut}
 use Rattle.ks_node.specs.Body.{Body, begins, is_branch, last_of}
 use Rattle.ks_node.specs.Edges.{record_of}
@@ -12,9 +12,9 @@ use Rattle.ks_node.specs.Room.{is_full}
 use Rattle.ks_bodies.specs.Links.{IsLinked, StandsUnder, attach}
 use Rattle.ks_arena.specs.Sound.{sort_of, blank_of}
 use Rattle.ks_arena.specs.Clauses.{hand_of, seen_of}
-use Rattle.ks_shape.specs.Single.{shown}
+use Rattle.ks_shape.specs.Laws.Single.{shown}
 use Rattle.ks_history.specs.Done.{link_move}
-use Rattle.ks_history.specs.Stretch.{stretch_here, stretch_shape}
+use Rattle.ks_history.specs.Laws.Stretch.{stretch_here, stretch_shape}
 use Rattle.ks_link.specs.Leads.{CanLead}
 use Rattle.ks_link.proofs.Leading.{shape_live}
 use Rattle.ks_link.proofs.Nearer.{branch_above}

@@ -1,14 +1,14 @@
 use Rattle.std.proofs.Common.{ℕ, inl, inr, ap, length, arith}
 use Rattle.std.specs.Prelude.{IsTrue}
 use Rattle.ks_history.specs.Done.{link_move}
-use Rattle.ks_history.specs.Stays.{lawful_in_turn}
-use Rattle.ks_history.specs.Stretch.{stretch_here}
+use Rattle.ks_history.specs.Laws.Stays.{lawful_in_turn}
+use Rattle.ks_history.specs.Laws.Stretch.{stretch_here}
 use Rattle.ks_history.specs.Trace.{graph_after, frame_after}
 use Rattle.ks_node.specs.Body.{is_branch}
 use Rattle.ks_arena.specs.Sound.{sort_of, blank_of}
 use Rattle.ks_arena.specs.Clauses.{seen_of}
-use Rattle.ks_shape.specs.Makes.{never_refused}
-use Rattle.ks_shape.specs.Single.{record_is, shown}
+use Rattle.ks_shape.specs.Laws.Makes.{never_refused}
+use Rattle.ks_shape.specs.Laws.Single.{record_is, shown}
 use Rattle.ks_link.proofs.Nearer.{branch_above}
 use Rattle.ks_link.proofs.attaches.ready.Given.{Over}
 use Rattle.ks_link.proofs.attaches.ready.Goals as goal

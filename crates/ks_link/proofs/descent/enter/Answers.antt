@@ -1,5 +1,5 @@
 use Rattle.ks_history.specs.Done.{link_move}
-use Rattle.ks_history.specs.Underway.{underway_first}
+use Rattle.ks_history.specs.Laws.Underway.{underway_first}
 use Rattle.ks_arena.specs.Sound.{sort_of}
 use Rattle.ks_arena.specs.Clauses.{seen_of}
 use Rattle.ks_link.proofs.Ways.{root_arrives}

@@ -2,10 +2,12 @@ use Rattle.std.proofs.Common.{ℕ, sym, ◌∙◌, ap, length, subst, arith}
 use Rattle.ks_history.specs.declared.Op.TheVariants.{Put}
 use Rattle.ks_history.specs.Done.{link_move}
 use Rattle.ks_history.specs.Trace.{◌⊑◌}
-use Rattle.ks_history.specs.Underway.{Underway, underway_here}
+use Rattle.ks_history.specs.Underway.{Underway}
+use Rattle.ks_history.specs.Laws.Underway.{underway_here}
 use Rattle.ks_arena.specs.Sound.{sort_of}
 use Rattle.ks_arena.specs.Clauses.{seen_of}
-use Rattle.ks_shape.specs.Makes.{MakesNone, makes_both}
+use Rattle.ks_shape.specs.Makes.{MakesNone}
+use Rattle.ks_shape.specs.Laws.Makes.{makes_both}
 use Rattle.ks_link.specs.Descent.{IsOnWay}
 use Rattle.ks_link.proofs.descent.find.Goals as goal
 

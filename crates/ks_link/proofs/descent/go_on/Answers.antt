@@ -6,16 +6,16 @@ use Rattle.ks_history.specs.declared.Event.{Event}
 use Rattle.ks_history.specs.declared.Event.TheVariants.{Give}
 use Rattle.ks_history.specs.Trace.{◌⊑◌, hand, graph_after, frame_after}
 use Rattle.ks_history.specs.Passes.{GrowsWith}
-use Rattle.ks_history.specs.Begins.{begins_both, by_others_begins, good_now, with_begins}
+use Rattle.ks_history.specs.Laws.Begins.{begins_both, by_others_begins, good_now, with_begins}
 use Rattle.ks_flow.specs.Discipline.{BeginsLink, LinkStep}
 use Rattle.ks_node.specs.Edges.{record_of}
-use Rattle.ks_node.specs.Ways.{next_leads}
+use Rattle.ks_node.specs.Laws.Ways.{next_leads}
 use Rattle.ks_arena.specs.Sound.{Sort, sort_of, blank_of}
 use Rattle.ks_arena.specs.Clauses.{HasTaken, seen_of}
 use Rattle.ks_link.proofs.Places.{step_low}
 use Rattle.ks_history.specs.Done.{link_move, first_taken}
-use Rattle.ks_shape.specs.Single.{is_near, led_live, record_is, takes}
-use Rattle.ks_shape.specs.Makes.{makes_both, makes_with}
+use Rattle.ks_shape.specs.Laws.Single.{is_near, led_live, record_is, takes}
+use Rattle.ks_shape.specs.Laws.Makes.{makes_both, makes_with}
 use Rattle.ks_link.proofs.Ways.{arrives}
 use Rattle.ks_link.proofs.descent.go_on.Given.{Over}
 use Rattle.ks_link.proofs.descent.go_on.Goals as goal

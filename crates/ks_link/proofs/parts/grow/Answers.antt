@@ -4,8 +4,8 @@ use Rattle.ks_history.specs.declared.Event.TheVariants.{Give}
 use Rattle.ks_history.specs.Trace.{◌⊑◌, hand, drop_one, graph_after, frame_after}
 use Rattle.ks_history.specs.Passes.{Has, GrowsWith}
 use Rattle.ks_keysets.specs.Keyset.{IsLive as IsLiveIn}
-use Rattle.ks_history.specs.Begins.{begins_both, good_now, with_begins}
-use Rattle.ks_history.specs.Alone.{alone_first, alone_then}
+use Rattle.ks_history.specs.Laws.Begins.{begins_both, good_now, with_begins}
+use Rattle.ks_history.specs.Laws.Alone.{alone_first, alone_then}
 use Rattle.ks_flow.specs.Discipline.{BeginsLink, LinkStep}
 use Rattle.ks_node.specs.Body.{Body, all_places, last_of}
 use Rattle.ks_node.specs.Asks.{Suits}
@@ -14,16 +14,18 @@ use Rattle.ks_arena.specs.declared.held.Held.{Held as Hand}
 use Rattle.ks_arena.specs.Sound.{sort_of, blank_of}
 use Rattle.ks_arena.specs.Clauses.{hand_of, seen_of}
 use Rattle.ks_shape.specs.InHand.{IsLive, BecomesLive}
-use Rattle.ks_shape.specs.Single.{is_near}
+use Rattle.ks_shape.specs.Laws.Single.{is_near}
 use Rattle.ks_node.specs.Room.{is_full}
-use Rattle.ks_shape.specs.Makes.{MakesNone, makes_both, makes_with}
+use Rattle.ks_shape.specs.Makes.{MakesNone}
+use Rattle.ks_shape.specs.Laws.Makes.{makes_both, makes_with}
 use Rattle.ks_link.specs.Leads.{IsLedAfter}
 use Rattle.ks_link.specs.Parts.{reach_of}
 use Rattle.ks_link.proofs.Narrowing.{left_less, right_less}
 use Rattle.ks_link.proofs.Leading.{shape_live}
 use Rattle.ks_link.specs.Descent.{IsOnWay}
 use Rattle.ks_history.specs.Done.{link_move}
-use Rattle.ks_history.specs.Stretch.{Stretch, stretch_begins, stretch_both, stretch_give, stretch_shape}
+use Rattle.ks_history.specs.Stretch.{Stretch}
+use Rattle.ks_history.specs.Laws.Stretch.{stretch_begins, stretch_both, stretch_give, stretch_shape}
 use Rattle.ks_link.proofs.Parting.{live_in, ends_left, ends_right, drop_third, suits_all, stands_now}
 use Rattle.ks_link.proofs.parts.grow.Given.{Over}
 use Rattle.ks_link.proofs.parts.grow.Goals as goal

@@ -1,8 +1,8 @@
 use Rattle.std.proofs.Common.{ap, length, arith}
 use Rattle.ks_arena.specs.Clauses.{seen_of}
 use Rattle.ks_history.specs.Done.{link_move}
-use Rattle.ks_history.specs.Stretch.{stretch_give}
-use Rattle.ks_shape.specs.Makes.{makes_with}
+use Rattle.ks_history.specs.Laws.Stretch.{stretch_give}
+use Rattle.ks_shape.specs.Laws.Makes.{makes_with}
 use Rattle.ks_link.proofs.parts.keep_half.Goals as goal
 
 pub returns-then-place-cut-clause-stretch : goal.returns-then-place-cut-clause-stretch

@@ -6,22 +6,24 @@ use Rattle.ks_keysets.specs.declared.Span.{Span}
 use Rattle.ks_keysets.specs.Record.{top}
 use Rattle.ks_history.specs.Trace.{◌⊑◌, hand, held, graph_after, frame_after, turn_after}
 use Rattle.ks_history.specs.Passes.{Has}
-use Rattle.ks_history.specs.Stays.{lawful_in_turn}
-use Rattle.ks_history.specs.Hand.{is_hand}
-use Rattle.ks_history.specs.Begins.{good_now}
-use Rattle.ks_history.specs.Alone.{ActsAlone, alone_first, alone_then}
+use Rattle.ks_history.specs.Laws.Stays.{lawful_in_turn}
+use Rattle.ks_history.specs.Laws.Hand.{is_hand}
+use Rattle.ks_history.specs.Laws.Begins.{good_now}
+use Rattle.ks_history.specs.Alone.{ActsAlone}
+use Rattle.ks_history.specs.Laws.Alone.{alone_first, alone_then}
 use Rattle.ks_history.specs.Due.{HoldsLive, MayGrow}
-use Rattle.ks_history.specs.Dues.{holds_one}
+use Rattle.ks_history.specs.Laws.Dues.{holds_one}
 use Rattle.ks_history.specs.Done.{link_move}
-use Rattle.ks_history.specs.Stretch.{Stretch, stretch_begins, stretch_both}
+use Rattle.ks_history.specs.Stretch.{Stretch}
+use Rattle.ks_history.specs.Laws.Stretch.{stretch_begins, stretch_both}
 use Rattle.ks_arena.specs.declared.held.Held.{Held as Hand}
 use Rattle.ks_arena.specs.Sound.{sort_of, blank_of}
 use Rattle.ks_arena.specs.Clauses.{seen_of, hand_of, Matches}
 use Rattle.ks_node.specs.Body.{Body, all_places, last_of}
-use Rattle.ks_node.specs.Spans.{length_edges}
+use Rattle.ks_node.specs.Laws.Spans.{length_edges}
 use Rattle.ks_bodies.specs.Links.{IsLinked, StandsLinked}
-use Rattle.ks_shape.specs.Claims.{may_grow_root}
-use Rattle.ks_shape.specs.Single.{record_is}
+use Rattle.ks_shape.specs.Laws.Claims.{may_grow_root}
+use Rattle.ks_shape.specs.Laws.Single.{record_is}
 use Rattle.ks_shape.specs.InHand.{IsFree}
 use Rattle.ks_link.specs.Parts.{IsAlone}
 use Rattle.ks_link.specs.Leads.{LedBut, waits_if}

@@ -2,8 +2,8 @@ use Rattle.std.proofs.Common.{◌≡◌, ◌<◌, ◌≤◌, ℕ, inl, inr, sym,
 use Rattle.std.specs.Prelude.{Some, None}
 use Rattle.ks_history.specs.Trace.{◌⊑◌, hand, graph_after, frame_after}
 use Rattle.ks_keysets.specs.Keyset.{IsLive as IsLiveIn}
-use Rattle.ks_history.specs.Begins.{good_now, with_begins}
-use Rattle.ks_history.specs.Alone.{alone_first, alone_then}
+use Rattle.ks_history.specs.Laws.Begins.{good_now, with_begins}
+use Rattle.ks_history.specs.Laws.Alone.{alone_first, alone_then}
 use Rattle.ks_node.specs.Body.{Body, last_of}
 use Rattle.ks_bodies.specs.Links.{IsLinked, split_to_right}
 use Rattle.ks_arena.specs.declared.held.Held.{Held as Hand}
@@ -18,7 +18,8 @@ use Rattle.ks_link.proofs.Leading.{shape_live}
 use Rattle.ks_link.specs.Descent.{IsOnWay}
 use Rattle.ks_link.specs.Parts.{IsSplitOff}
 use Rattle.ks_history.specs.Done.{link_move}
-use Rattle.ks_history.specs.Stretch.{Stretch, stretch_both, stretch_shape, stretch_begins}
+use Rattle.ks_history.specs.Stretch.{Stretch}
+use Rattle.ks_history.specs.Laws.Stretch.{stretch_both, stretch_shape, stretch_begins}
 use Rattle.ks_link.proofs.Parting.{live_in, ends_left, ends_right, stands_now, spare_no_root, split_off, split_off_later}
 use Rattle.ks_link.proofs.parts.split.Given.{Over}
 use Rattle.ks_link.proofs.parts.split.Goals as goal

@@ -7,18 +7,21 @@ use Rattle.ks_history.specs.Due.{NoneFree}
 use Rattle.ks_history.specs.Map.{told}
 use Rattle.ks_history.specs.Passes.{NoCallBy}
 use Rattle.ks_history.specs.Trace.{◌⊑◌, hand}
-use Rattle.ks_history.specs.Alone.{ActsAlone, alone_first, alone_then}
-use Rattle.ks_history.specs.Begins.{begins_both}
-use Rattle.ks_history.specs.Dues.{holds_one}
-use Rattle.ks_history.specs.Stays.{lawful_in_turn}
-use Rattle.ks_history.specs.Stretch.{stretch_begins}
+use Rattle.ks_history.specs.Alone.{ActsAlone}
+use Rattle.ks_history.specs.Laws.Alone.{alone_first, alone_then}
+use Rattle.ks_history.specs.Laws.Begins.{begins_both}
+use Rattle.ks_history.specs.Laws.Dues.{holds_one}
+use Rattle.ks_history.specs.Laws.Stays.{lawful_in_turn}
+use Rattle.ks_history.specs.Laws.Stretch.{stretch_begins}
 use Rattle.ks_history.specs.Done.{Done, link_move}
-use Rattle.ks_history.specs.Underway.{Underway, done_on}
+use Rattle.ks_history.specs.Underway.{Underway}
+use Rattle.ks_history.specs.Laws.Underway.{done_on}
 use Rattle.ks_arena.specs.Sound.{sort_of}
 use Rattle.ks_arena.specs.Clauses.{seen_of}
 use Rattle.ks_link.specs.declared.parts.Waiting.{Waiting}
 use Rattle.ks_link.specs.Parts.{IsSplitOff}
-use Rattle.ks_shape.specs.Makes.{MakesNone, never_refused, two_before}
+use Rattle.ks_shape.specs.Makes.{MakesNone}
+use Rattle.ks_shape.specs.Laws.Makes.{never_refused, two_before}
 use Rattle.ks_link.specs.Leads.{Waits}
 use Rattle.ks_link.proofs.Leading.{are_led, led_both, led_none}
 use Rattle.ks_link.proofs.Parting.{live_in}

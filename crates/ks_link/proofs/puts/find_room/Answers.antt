@@ -1,11 +1,13 @@
 use Rattle.std.proofs.Common.{◌≡◌, ℕ, Bool, true, false, List, [], inl, inr, sym, ◌∙◌, subst}
 use Rattle.std.specs.Prelude.{◌⊎◌, IsTrue, None, All}
 use Rattle.std.proofs.lemmas.List.Elements.{All-nil}
-use Rattle.ks_history.specs.Alone.{ActsAlone, alone_first, alone_then}
+use Rattle.ks_history.specs.Alone.{ActsAlone}
+use Rattle.ks_history.specs.Laws.Alone.{alone_first, alone_then}
 use Rattle.ks_history.specs.Due.{NoneFree}
-use Rattle.ks_history.specs.Dues.{none_free_earlier}
+use Rattle.ks_history.specs.Laws.Dues.{none_free_earlier}
 use Rattle.ks_history.specs.Done.{link_move}
-use Rattle.ks_history.specs.Stretch.{Stretch, stretch_both, stretch_begins}
+use Rattle.ks_history.specs.Stretch.{Stretch}
+use Rattle.ks_history.specs.Laws.Stretch.{stretch_both, stretch_begins}
 use Rattle.ks_arena.specs.declared.held.Held.{Held as Hand}
 use Rattle.ks_node.specs.declared.start.Next.TheVariants.{Here}
 use Rattle.ks_node.specs.Body.{next_at, value_at}

@@ -1,11 +1,11 @@
 use Rattle.std.proofs.Common.{◌≡◌, ◌≤◌, ℕ, List, false, sym, ap, subst, length, arith}
 use Rattle.ks_keysets.specs.declared.Frame.{Frame}
 use Rattle.ks_history.specs.Done.{link_move}
-use Rattle.ks_history.specs.Stretch.{stretch_begins}
+use Rattle.ks_history.specs.Laws.Stretch.{stretch_begins}
 use Rattle.ks_node.specs.Body.{is_branch}
 use Rattle.ks_arena.specs.Sound.{sort_of}
 use Rattle.ks_arena.specs.Clauses.{seen_of}
-use Rattle.ks_shape.specs.Single.{shown}
+use Rattle.ks_shape.specs.Laws.Single.{shown}
 use Rattle.ks_link.specs.declared.parts.Waiting.{Waiting}
 use Rattle.ks_link.specs.Leads.{LedBut}
 use Rattle.ks_link.proofs.Rooms.{bare_grows, all_later, all_wait, waits_are}

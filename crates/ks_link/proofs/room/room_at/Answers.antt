@@ -1,10 +1,11 @@
 use Rattle.std.proofs.Common.{ℕ, List, refl, sym, ap, ◌∙◌, length, subst, arith}
 use Rattle.std.specs.Prelude.{All, Err}
 use Rattle.std.proofs.lemmas.List.Elements.{All-nil}
-use Rattle.ks_history.specs.Begins.{good_now}
-use Rattle.ks_history.specs.Dues.{none_free_earlier}
+use Rattle.ks_history.specs.Laws.Begins.{good_now}
+use Rattle.ks_history.specs.Laws.Dues.{none_free_earlier}
 use Rattle.ks_history.specs.Done.{link_move}
-use Rattle.ks_history.specs.Stretch.{Stretch, stretch_both, stretch_begins, stretch_here}
+use Rattle.ks_history.specs.Stretch.{Stretch}
+use Rattle.ks_history.specs.Laws.Stretch.{stretch_both, stretch_begins, stretch_here}
 use Rattle.ks_arena.specs.declared.held.Held.{Held as Hand}
 use Rattle.ks_arena.specs.Sound.{sort_of}
 use Rattle.ks_arena.specs.Clauses.{seen_of}

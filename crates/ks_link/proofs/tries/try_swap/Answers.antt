@@ -3,7 +3,8 @@ use Rattle.ks_history.specs.declared.Op.{Op}
 use Rattle.ks_history.specs.declared.Op.TheVariants.{Swap}
 use Rattle.ks_history.specs.Done.{Done, link_move}
 use Rattle.ks_history.specs.Map.{told}
-use Rattle.ks_history.specs.Underway.{Underway, left_of}
+use Rattle.ks_history.specs.Underway.{Underway}
+use Rattle.ks_history.specs.Laws.Underway.{left_of}
 use Rattle.ks_arena.specs.Sound.{sort_of}
 use Rattle.ks_arena.specs.Clauses.{seen_of}
 use Rattle.ks_shape.specs.SearchEnd.{IsEnd}

@@ -1,6 +1,7 @@
 use Rattle.std.proofs.Common.{ℕ, refl, sym, ap, ◌∙◌, length, subst, arith}
 use Rattle.ks_history.specs.Done.{link_move}
-use Rattle.ks_history.specs.Stretch.{Stretch, stretch_both, stretch_here, stretch_begins}
+use Rattle.ks_history.specs.Stretch.{Stretch}
+use Rattle.ks_history.specs.Laws.Stretch.{stretch_both, stretch_here, stretch_begins}
 use Rattle.ks_arena.specs.Sound.{sort_of}
 use Rattle.ks_arena.specs.Clauses.{seen_of}
 use Rattle.ks_link.proofs.Rooms.{all_later}

@@ -3,12 +3,12 @@ use Rattle.ks_keysets.specs.Keyset.{record_at, IsLive}
 use Rattle.ks_history.specs.declared.Event.TheVariants.{Take}
 use Rattle.ks_history.specs.Trace.{graph_after, frame_after}
 use Rattle.ks_history.specs.Done.{link_move, first_taken}
-use Rattle.ks_history.specs.Underway.{underway_first, underway_others}
+use Rattle.ks_history.specs.Laws.Underway.{underway_first, underway_others}
 use Rattle.ks_node.specs.Edges.{record_of}
 use Rattle.ks_arena.specs.Sound.{sort_of, blank_of}
 use Rattle.ks_arena.specs.Clauses.{seen_of}
-use Rattle.ks_shape.specs.Single.{record_is, takes}
-use Rattle.ks_shape.specs.Makes.{makes_others, makes_with}
+use Rattle.ks_shape.specs.Laws.Single.{record_is, takes}
+use Rattle.ks_shape.specs.Laws.Makes.{makes_others, makes_with}
 use Rattle.ks_link.proofs.Places.{root_low}
 use Rattle.ks_link.proofs.Ways.{arrives}
 use Rattle.ks_link.proofs.try_descent.try_enter.Goals as goal

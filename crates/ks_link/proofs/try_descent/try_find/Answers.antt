@@ -2,13 +2,15 @@ use Rattle.std.proofs.Common.{◌≡◌, ℕ, List, [], sym, ◌∙◌, ap, leng
 use Rattle.ks_history.specs.declared.Event.{Event}
 use Rattle.ks_history.specs.declared.Op.{Op}
 use Rattle.ks_history.specs.declared.Op.TheVariants.{Put}
-use Rattle.ks_history.specs.Begins.{good_now}
+use Rattle.ks_history.specs.Laws.Begins.{good_now}
 use Rattle.ks_history.specs.Done.{link_move}
 use Rattle.ks_history.specs.Trace.{◌⊑◌, hand}
-use Rattle.ks_history.specs.Underway.{Underway, underway_here}
+use Rattle.ks_history.specs.Underway.{Underway}
+use Rattle.ks_history.specs.Laws.Underway.{underway_here}
 use Rattle.ks_arena.specs.Sound.{sort_of}
 use Rattle.ks_arena.specs.Clauses.{seen_of}
-use Rattle.ks_shape.specs.Makes.{MakesNone, makes_both}
+use Rattle.ks_shape.specs.Makes.{MakesNone}
+use Rattle.ks_shape.specs.Laws.Makes.{makes_both}
 use Rattle.ks_shape.specs.Tries.{IsCause}
 use Rattle.ks_link.specs.Descent.{IsOnWay}
 use Rattle.ks_link.proofs.Trying.{cause_since, less_left}

@@ -4,12 +4,13 @@ use Rattle.ks_history.specs.declared.Op.{Op}
 use Rattle.ks_history.specs.declared.Op.TheVariants.{Put}
 use Rattle.ks_history.specs.declared.Reply.TheVariants.{Full}
 use Rattle.ks_history.specs.Due.{NoneFree}
-use Rattle.ks_history.specs.Dues.{none_free_earlier}
+use Rattle.ks_history.specs.Laws.Dues.{none_free_earlier}
 use Rattle.ks_history.specs.Map.{told}
 use Rattle.ks_history.specs.Passes.{NoCallBy}
 use Rattle.ks_history.specs.Trace.{hand}
 use Rattle.ks_history.specs.Done.{Done, link_move}
-use Rattle.ks_history.specs.Underway.{Underway, done_on, underway_both}
+use Rattle.ks_history.specs.Underway.{Underway}
+use Rattle.ks_history.specs.Laws.Underway.{done_on, underway_both}
 use Rattle.ks_arena.specs.Sound.{sort_of}
 use Rattle.ks_arena.specs.Clauses.{seen_of}
 use Rattle.ks_shape.specs.SearchEnd.{HasRoom, IsCrowded}

@@ -2,7 +2,8 @@ use Rattle.std.proofs.Common.{ℕ, refl, sym, subst}
 use Rattle.ks_history.specs.declared.Op.{Op}
 use Rattle.ks_history.specs.declared.Op.TheVariants.{Put}
 use Rattle.ks_history.specs.Done.{link_move}
-use Rattle.ks_history.specs.Underway.{Underway, left_of}
+use Rattle.ks_history.specs.Underway.{Underway}
+use Rattle.ks_history.specs.Laws.Underway.{left_of}
 use Rattle.ks_arena.specs.Sound.{sort_of}
 use Rattle.ks_arena.specs.Clauses.{seen_of}
 use Rattle.ks_shape.specs.Tries.{TriedPut}

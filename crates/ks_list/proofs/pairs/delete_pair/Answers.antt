@@ -1,6 +1,6 @@
 use Rattle.std.proofs.Common.{◌∙◌, ap}
 use Rattle.ks_list.specs.Listed.{pairs_of}
-use Rattle.ks_list.specs.Pairs.{value_found, del_found}
+use Rattle.ks_list.specs.Laws.Pairs.{value_found, del_found}
 use Rattle.ks_list.proofs.pairs.delete_pair.Goals as goal
 
 pub returns-in-Ok-clause-pairs : goal.returns-in-Ok-clause-pairs

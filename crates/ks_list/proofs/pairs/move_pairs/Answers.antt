@@ -1,6 +1,6 @@
 use Rattle.std.proofs.Common.{◌∙◌, ap, sym}
 use Rattle.std.proofs.lemmas.List.{take-map, drop-map}
-use Rattle.ks_node.specs.Cuts.{below_is_take, from_is_drop}
+use Rattle.ks_node.specs.Laws.Cuts.{below_is_take, from_is_drop}
 use Rattle.ks_list.specs.Listed.{pair_of, pairs_of}
 use Rattle.ks_list.proofs.pairs.move_pairs.Goals as goal
 

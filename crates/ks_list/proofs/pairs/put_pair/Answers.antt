@@ -2,7 +2,7 @@ use Rattle.std.proofs.Common.{◌∙◌, ap, arith}
 use Rattle.std.proofs.lemmas.List.{length-set}
 use Rattle.std.specs.Prelude.{slice_index_or}
 use Rattle.ks_list.specs.Listed.{pairs_of}
-use Rattle.ks_list.specs.Pairs.{value_found, put_found, put_missing}
+use Rattle.ks_list.specs.Laws.Pairs.{value_found, put_found, put_missing}
 use Rattle.ks_list.proofs.pairs.put_pair.Goals as goal
 
 pub returns-in-Ok-clause-pairs : goal.returns-in-Ok-clause-pairs

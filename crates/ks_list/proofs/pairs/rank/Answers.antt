@@ -1,7 +1,7 @@
 use Rattle.std.proofs.Common.{arith}
-use Rattle.ks_node.specs.Cuts.{later, below_more_keys}
+use Rattle.ks_node.specs.Laws.Cuts.{later, below_more_keys}
 use Rattle.ks_list.specs.Listed.{pair_of, pairs_of}
-use Rattle.ks_list.specs.Pairs.{pair_read, pairs_length}
+use Rattle.ks_list.specs.Laws.Pairs.{pair_read, pairs_length}
 use Rattle.ks_list.proofs.pairs.rank.Goals as goal
 
 pub returns-then-place-at : goal.returns-then-place-at

@@ -1,7 +1,7 @@
 use Rattle.std.proofs.Common.{◌∙◌, arith, ap}
-use Rattle.ks_node.specs.Cuts.{found, missing}
+use Rattle.ks_node.specs.Laws.Cuts.{found, missing}
 use Rattle.ks_list.specs.Listed.{pair_of, pairs_of}
-use Rattle.ks_list.specs.Pairs.{pair_read, pairs_length}
+use Rattle.ks_list.specs.Laws.Pairs.{pair_read, pairs_length}
 use Rattle.ks_list.proofs.pairs.seek.Goals as goal
 
 pub returns-then-i-len : goal.returns-then-i-len

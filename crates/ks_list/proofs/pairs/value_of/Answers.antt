@@ -1,4 +1,4 @@
-use Rattle.ks_list.specs.Pairs.{value_found}
+use Rattle.ks_list.specs.Laws.Pairs.{value_found}
 use Rattle.ks_list.proofs.pairs.value_of.Goals as goal
 
 pub returns-in-Ok : goal.returns-in-Ok

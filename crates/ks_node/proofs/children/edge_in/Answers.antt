@@ -1,5 +1,5 @@
 use Rattle.std.proofs.Common.{sym, arith}
-use Rattle.ks_node.specs.Spans.{edge_last, edge_inner}
+use Rattle.ks_node.specs.Laws.Spans.{edge_last, edge_inner}
 use Rattle.ks_node.proofs.children.edge_in.Goals as goal
 
 pub returns-then-n-starts : goal.returns-then-n-starts

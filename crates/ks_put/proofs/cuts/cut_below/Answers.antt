@@ -6,7 +6,7 @@ use Rattle.ks_history.specs.Trace.{graph_after, frame_after}
 use Rattle.ks_node.specs.Asks.{CanSplitAt, IsGoodCut}
 use Rattle.ks_node.specs.Body.{Body, content_of, is_branch}
 use Rattle.ks_node.specs.Edges.{edges_of}
-use Rattle.ks_node.specs.Spans.{length_edges}
+use Rattle.ks_node.specs.Laws.Spans.{length_edges}
 use Rattle.ks_bodies.specs.Shapes.{CanAdopt}
 use Rattle.ks_flow.specs.Tree.{IsInset}
 use Rattle.ks_bodies.specs.Stands.{Stands}

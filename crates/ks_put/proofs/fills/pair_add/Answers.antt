@@ -5,9 +5,9 @@ use Rattle.ks_history.specs.Done.{Done}
 use Rattle.ks_history.specs.Map.{told}
 use Rattle.ks_history.specs.Underway.{Underway}
 use Rattle.ks_history.specs.Due.{NoneFree}
-use Rattle.ks_history.specs.Dues.{none_free_earlier}
+use Rattle.ks_history.specs.Laws.Dues.{none_free_earlier}
 use Rattle.ks_arena.specs.Clauses.{seen_of}
-use Rattle.ks_shape.specs.Stretches.{add_goes_on}
+use Rattle.ks_shape.specs.Laws.Stretches.{add_goes_on}
 use Rattle.ks_put.proofs.Going.{refused_since}
 use Rattle.ks_put.proofs.fills.pair_add.Goals as goal
 

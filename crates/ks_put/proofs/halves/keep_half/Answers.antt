@@ -3,8 +3,8 @@ use Rattle.ks_history.specs.Trace.{hand, drop_one}
 use Rattle.ks_history.specs.Passes.{Has}
 use Rattle.ks_arena.specs.Sound.{sort_of}
 use Rattle.ks_arena.specs.Clauses.{seen_of}
-use Rattle.ks_shape.specs.Stretches.{stretches_give}
-use Rattle.ks_put.specs.Laws.{Laws}
+use Rattle.ks_shape.specs.Laws.Stretches.{stretches_give}
+use Rattle.ks_put.specs.Laws.Search.{Laws}
 use Rattle.ks_put.proofs.Keeping.{once, drop_first, drop_later, half_kept}
 use Rattle.ks_put.proofs.halves.keep_half.Given.{Over}
 use Rattle.ks_put.proofs.halves.keep_half.Goals as goal

@@ -6,8 +6,8 @@ use Rattle.ks_arena.specs.declared.held.Held.{Held as Hand}
 use Rattle.ks_arena.specs.Sound.{sort_of}
 use Rattle.ks_arena.specs.Clauses.{seen_of}
 use Rattle.ks_put.specs.OnPath.{numbers}
-use Rattle.ks_shape.specs.Stretches.{stretches_give}
-use Rattle.ks_put.specs.Laws.{Laws}
+use Rattle.ks_shape.specs.Laws.Stretches.{stretches_give}
+use Rattle.ks_put.specs.Laws.Search.{Laws}
 use Rattle.ks_put.proofs.Keeping.{once, drop_first, path_kept}
 use Rattle.ks_put.proofs.halves.keep_left.Given.{Over}
 use Rattle.ks_put.proofs.halves.keep_left.Goals as goal

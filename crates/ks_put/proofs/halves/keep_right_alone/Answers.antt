@@ -4,16 +4,17 @@ use Rattle.ks_history.specs.declared.Event.{Event}
 use Rattle.ks_history.specs.declared.Event.TheVariants.{Give}
 use Rattle.ks_history.specs.Trace.{hand, drop_one}
 use Rattle.ks_history.specs.Passes.{Has}
-use Rattle.ks_history.specs.Hand.{AreOnce, is_hand}
+use Rattle.ks_history.specs.Hand.{AreOnce}
+use Rattle.ks_history.specs.Laws.Hand.{is_hand}
 use Rattle.ks_node.specs.Body.{Body}
 use Rattle.ks_node.specs.Room.{is_full}
 use Rattle.ks_arena.specs.declared.held.Held.{Held as Hand}
 use Rattle.ks_arena.specs.Sound.{Sort, sort_of}
 use Rattle.ks_arena.specs.Clauses.{seen_of, hand_of, Matches}
 use Rattle.ks_shape.specs.OnWay.{IsOnWay}
-use Rattle.ks_shape.specs.Stretches.{stretches_as, stretches_both, stretches_give}
+use Rattle.ks_shape.specs.Laws.Stretches.{stretches_as, stretches_both, stretches_give}
 use Rattle.ks_put.specs.OnPath.{IsUnder, numbers}
-use Rattle.ks_put.specs.Laws.{Laws}
+use Rattle.ks_put.specs.Laws.Search.{Laws}
 use Rattle.ks_put.proofs.Quiet.{quiet_insets}
 use Rattle.ks_put.proofs.Keeping.{drop_first, drop_later}
 use Rattle.ks_put.proofs.halves.keep_right_alone.Given.{Over}

@@ -1,4 +1,4 @@
-use Rattle.ks_put.specs.Laws.{laws_of}
+use Rattle.ks_put.specs.Laws.Search.{laws_of}
 use Rattle.ks_put.proofs.laws.search_law.Goals as goal
 
 pub returns : goal.returns

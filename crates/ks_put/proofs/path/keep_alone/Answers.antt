@@ -4,8 +4,8 @@ use Rattle.ks_history.specs.Trace.{hand, drop_one}
 use Rattle.ks_arena.specs.declared.held.Held.{Held as Hand}
 use Rattle.ks_arena.specs.Sound.{sort_of}
 use Rattle.ks_arena.specs.Clauses.{seen_of, hand_of}
-use Rattle.ks_put.specs.Laws.{Laws}
-use Rattle.ks_shape.specs.Stretches.{stretches_here}
+use Rattle.ks_put.specs.Laws.Search.{Laws}
+use Rattle.ks_shape.specs.Laws.Stretches.{stretches_here}
 use Rattle.ks_put.specs.OnPath.{numbers}
 use Rattle.ks_put.proofs.Ways.{goes_alone, alone_stretch, alone_under}
 use Rattle.ks_put.proofs.path.keep_alone.Given.{Over}

@@ -3,7 +3,7 @@ use Rattle.std.specs.Prelude.{Option, Some, None}
 use Rattle.ks_node.specs.Room.{is_full}
 use Rattle.ks_arena.specs.declared.held.Held.{Held as Hand}
 use Rattle.ks_arena.specs.Clauses.{seen_of, hand_of}
-use Rattle.ks_shape.specs.Stretches.{stretches_here}
+use Rattle.ks_shape.specs.Laws.Stretches.{stretches_here}
 use Rattle.ks_put.specs.OnPath.{numbers}
 use Rattle.ks_put.proofs.path.settle.Goals as goal
 

@@ -3,15 +3,15 @@ use Rattle.ks_keysets.specs.declared.Record.{Record}
 use Rattle.ks_keysets.specs.Record.{LeadsTo}
 use Rattle.ks_history.specs.Trace.{held, turn_after, graph_after, frame_after}
 use Rattle.ks_history.specs.Passes.{Has}
-use Rattle.ks_history.specs.Hand.{is_hand}
+use Rattle.ks_history.specs.Laws.Hand.{is_hand}
 use Rattle.ks_flow.specs.Discipline.{BeginsTree, TreeStep}
 use Rattle.ks_node.specs.Edges.{record_of}
-use Rattle.ks_node.specs.Ways.{next_leads}
+use Rattle.ks_node.specs.Laws.Ways.{next_leads}
 use Rattle.ks_arena.specs.Sound.{blank_of}
-use Rattle.ks_shape.specs.Single.{is_near, led_live, record_is}
+use Rattle.ks_shape.specs.Laws.Single.{is_near, led_live, record_is}
 use Rattle.ks_arena.specs.Sound.{sort_of}
 use Rattle.ks_arena.specs.Clauses.{seen_of}
-use Rattle.ks_put.specs.Laws.{Laws}
+use Rattle.ks_put.specs.Laws.Search.{Laws}
 use Rattle.ks_put.proofs.Ways.{counted, goes_down, down_stretch, down_under}
 use Rattle.ks_put.proofs.path.step_down.Given.{Over}
 use Rattle.ks_put.proofs.path.step_down.Goals as goal

@@ -1,6 +1,7 @@
 use Rattle.std.proofs.Common.{ℕ, refl}
 use Rattle.ks_arena.specs.Clauses.{seen_of}
-use Rattle.ks_shape.specs.Stretches.{Stretches, stretches_as, stretches_both}
+use Rattle.ks_shape.specs.Stretches.{Stretches}
+use Rattle.ks_shape.specs.Laws.Stretches.{stretches_as, stretches_both}
 use Rattle.ks_put.proofs.Going.{on_was}
 use Rattle.ks_put.proofs.room.go_on.Goals as goal
 

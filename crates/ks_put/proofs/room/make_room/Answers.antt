@@ -3,7 +3,7 @@ use Rattle.std.specs.Prelude.{None, IsTrue}
 use Rattle.ks_keysets.specs.Layout.{Layout}
 use Rattle.ks_arena.specs.Sound.{sort_of}
 use Rattle.ks_arena.specs.Clauses.{seen_of}
-use Rattle.ks_shape.specs.Stretches.{stretches_as, stretches_both, stretches_on}
+use Rattle.ks_shape.specs.Laws.Stretches.{stretches_as, stretches_both, stretches_on}
 use Rattle.ks_node.specs.Body.{value_at}
 use Rattle.ks_node.specs.Room.{is_full}
 use Rattle.ks_put.specs.declared.path.Path.{Path}

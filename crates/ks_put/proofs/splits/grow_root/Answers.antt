@@ -5,17 +5,17 @@ use Rattle.ks_keysets.specs.Keyset.{InInset}
 use Rattle.ks_history.specs.Trace.{held, graph_after, turn_after}
 use Rattle.ks_node.specs.Body.{Body}
 use Rattle.ks_node.specs.Edges.{record_of}
-use Rattle.ks_node.specs.Spans.{length_edges}
+use Rattle.ks_node.specs.Laws.Spans.{length_edges}
 use Rattle.ks_node.specs.Effect.{grown}
 use Rattle.ks_arena.specs.declared.held.Held.{Held as Hand}
 use Rattle.ks_arena.specs.Sound.{sort_of}
 use Rattle.ks_arena.specs.Clauses.{seen_of}
-use Rattle.ks_shape.specs.Single.{record_is}
+use Rattle.ks_shape.specs.Laws.Single.{record_is}
 use Rattle.ks_put.specs.OnPath.{numbers}
-use Rattle.ks_shape.specs.Stretches.{stretches_as, stretches_both, stretches_shape}
+use Rattle.ks_shape.specs.Laws.Stretches.{stretches_as, stretches_both, stretches_shape}
 use Rattle.ks_put.specs.Parts.{IsPart}
-use Rattle.ks_put.specs.Laws.{Laws}
-use Rattle.ks_shape.specs.Claims.{may_grow_root}
+use Rattle.ks_put.specs.Laws.Search.{Laws}
+use Rattle.ks_shape.specs.Laws.Claims.{may_grow_root}
 use Rattle.ks_put.proofs.Keeping.{path_turn, path_stays, path_live, full_is_root}
 use Rattle.ks_put.proofs.splits.grow_root.Given.{Over}
 use Rattle.ks_put.proofs.splits.grow_root.Goals as goal

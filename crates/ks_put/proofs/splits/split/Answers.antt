@@ -1,7 +1,7 @@
 use Rattle.std.proofs.Common.{ℕ, subst}
 use Rattle.ks_arena.specs.Sound.{sort_of}
 use Rattle.ks_arena.specs.Clauses.{seen_of}
-use Rattle.ks_shape.specs.Stretches.{stretches_as, stretches_both}
+use Rattle.ks_shape.specs.Laws.Stretches.{stretches_as, stretches_both}
 use Rattle.ks_put.specs.OnPath.{IsOnPath}
 use Rattle.ks_put.proofs.splits.split.Goals as goal
 

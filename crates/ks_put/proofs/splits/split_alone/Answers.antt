@@ -4,7 +4,8 @@ use Rattle.ks_keysets.specs.Record.{LeadsTo}
 use Rattle.ks_keysets.specs.Keyset.{InInset}
 use Rattle.ks_history.specs.Trace.{hand, held, graph_after, turn_after}
 use Rattle.ks_history.specs.Passes.{Has}
-use Rattle.ks_history.specs.Hand.{AreOnce, is_hand}
+use Rattle.ks_history.specs.Hand.{AreOnce}
+use Rattle.ks_history.specs.Laws.Hand.{is_hand}
 use Rattle.ks_node.specs.Body.{Body}
 use Rattle.ks_node.specs.Edges.{record_of}
 use Rattle.ks_bodies.specs.Shapes.{split_on}
@@ -12,8 +13,8 @@ use Rattle.ks_arena.specs.declared.held.Held.{Held as Hand}
 use Rattle.ks_arena.specs.Sound.{sort_of}
 use Rattle.ks_arena.specs.Clauses.{seen_of, hand_of}
 use Rattle.ks_put.specs.OnPath.{IsUnder, numbers}
-use Rattle.ks_shape.specs.Stretches.{stretches_as, stretches_both, stretches_shape}
-use Rattle.ks_put.specs.Laws.{Laws}
+use Rattle.ks_shape.specs.Laws.Stretches.{stretches_as, stretches_both, stretches_shape}
+use Rattle.ks_put.specs.Laws.Search.{Laws}
 use Rattle.ks_put.proofs.Keeping.{path_turn, path_stays, path_live, parent_has, parent_apart, under_later}
 use Rattle.ks_put.proofs.splits.split_alone.Given.{Over}
 use Rattle.ks_put.proofs.splits.split_alone.Goals as goal

@@ -3,7 +3,8 @@ use Rattle.std.specs.Prelude.{Option, Some, None}
 use Rattle.ks_keysets.specs.Record.{LeadsTo}
 use Rattle.ks_keysets.specs.Keyset.{InInset}
 use Rattle.ks_history.specs.Trace.{held, graph_after, turn_after}
-use Rattle.ks_history.specs.Hand.{AreOnce, is_hand}
+use Rattle.ks_history.specs.Hand.{AreOnce}
+use Rattle.ks_history.specs.Laws.Hand.{is_hand}
 use Rattle.ks_node.specs.Body.{Body}
 use Rattle.ks_node.specs.Edges.{record_of}
 use Rattle.ks_node.specs.Effect.{adopted}
@@ -11,9 +12,9 @@ use Rattle.ks_arena.specs.declared.held.Held.{Held as Hand}
 use Rattle.ks_arena.specs.Sound.{sort_of}
 use Rattle.ks_arena.specs.Clauses.{seen_of}
 use Rattle.ks_put.specs.OnPath.{numbers}
-use Rattle.ks_shape.specs.Stretches.{stretches_as, stretches_both, stretches_shape}
+use Rattle.ks_shape.specs.Laws.Stretches.{stretches_as, stretches_both, stretches_shape}
 use Rattle.ks_put.specs.Parts.{IsPart}
-use Rattle.ks_put.specs.Laws.{Laws}
+use Rattle.ks_put.specs.Laws.Search.{Laws}
 use Rattle.ks_put.proofs.Keeping.{path_turn, path_stays, path_live}
 use Rattle.ks_put.proofs.splits.split_below.Given.{Over}
 use Rattle.ks_put.proofs.splits.split_below.Goals as goal

@@ -1,6 +1,6 @@
 use Rattle.std.proofs.Common.{length, arith, ap}
 use Rattle.ks_arena.specs.Clauses.{seen_of}
-use Rattle.ks_shape.specs.Stretches.{stretches_here}
+use Rattle.ks_shape.specs.Laws.Stretches.{stretches_here}
 use Rattle.ks_put.proofs.splits.split_child.Goals as goal
 
 pub returns-then-is_branch-2-clause-stretch : goal.returns-then-is_branch-2-clause-stretch

@@ -1,6 +1,6 @@
 use Rattle.std.proofs.Common.{length, arith, ap}
 use Rattle.ks_arena.specs.Clauses.{seen_of}
-use Rattle.ks_shape.specs.Stretches.{stretches_here}
+use Rattle.ks_shape.specs.Laws.Stretches.{stretches_here}
 use Rattle.ks_arena.specs.Sound.{sort_of}
 use Rattle.ks_put.proofs.Keeping.{full_is_root}
 use Rattle.ks_put.proofs.splits.split_root.Goals as goal

@@ -6,14 +6,16 @@ use Rattle.ks_history.specs.Passes.{Has, GrowsWith}
 use Rattle.ks_history.specs.declared.Event.{Event}
 use Rattle.ks_history.specs.Done.{Template, coupling}
 use Rattle.ks_history.specs.Due.{NoneFree}
-use Rattle.ks_history.specs.Stretch.{Stretch, stretch_both, stretch_begins}
-use Rattle.ks_history.specs.Begins.{begins_both, with_begins}
+use Rattle.ks_history.specs.Stretch.{Stretch}
+use Rattle.ks_history.specs.Laws.Stretch.{stretch_both, stretch_begins}
+use Rattle.ks_history.specs.Laws.Begins.{begins_both, with_begins}
 use Rattle.ks_flow.specs.Discipline.{SameKeyset}
 use Rattle.ks_arena.specs.Sound.{sort_of}
 use Rattle.ks_arena.specs.Clauses.{seen_of, hand_of, Kept, KeptBut}
-use Rattle.ks_shape.specs.Beside.{KeepsBeside, StaysBeside, beside_with, beside_both, stays_beside, keyset_beside}
+use Rattle.ks_shape.specs.Laws.Beside.{KeepsBeside, StaysBeside, beside_with, beside_both, stays_beside, keyset_beside}
 use Rattle.ks_shape.specs.Claims.{HoldsForClaim}
-use Rattle.ks_shape.specs.Makes.{MakesNone, makes_both, makes_with}
+use Rattle.ks_shape.specs.Makes.{MakesNone}
+use Rattle.ks_shape.specs.Laws.Makes.{makes_both, makes_with}
 use Rattle.ks_shape.proofs.Claiming.{still_for_claim, back_hand, back_stretch, back_refused, back_kept}
 use Rattle.ks_shape.proofs.claims.claim_two.Given.{Over}
 use Rattle.ks_shape.proofs.claims.claim_two.Goals as goal

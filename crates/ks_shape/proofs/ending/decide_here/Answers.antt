@@ -3,13 +3,13 @@ use Rattle.ks_history.specs.declared.Event.{Event}
 use Rattle.ks_history.specs.declared.Event.TheVariants.{Give}
 use Rattle.ks_history.specs.Trace.{hand, drop_one}
 use Rattle.ks_history.specs.Passes.{GrowsWith}
-use Rattle.ks_history.specs.Begins.{begins_both, with_begins}
+use Rattle.ks_history.specs.Laws.Begins.{begins_both, with_begins}
 use Rattle.ks_history.specs.Due.{last_call}
-use Rattle.ks_history.specs.Stays.{lawful_in_turn}
+use Rattle.ks_history.specs.Laws.Stays.{lawful_in_turn}
 use Rattle.ks_node.specs.Body.{frame_of}
 use Rattle.ks_arena.specs.Sound.{blank_of, sort_of}
 use Rattle.ks_arena.specs.Clauses.{seen_of}
-use Rattle.ks_shape.specs.Makes.{makes_both, makes_with}
+use Rattle.ks_shape.specs.Laws.Makes.{makes_both, makes_with}
 use Rattle.ks_shape.proofs.Concludes.{concluded}
 use Rattle.ks_shape.proofs.ending.decide_here.Goals as goal
 

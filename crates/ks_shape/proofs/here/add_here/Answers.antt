@@ -2,7 +2,7 @@ use Rattle.std.proofs.Common.{refl, sym, ◌∙◌}
 use Rattle.ks_arena.specs.declared.held.Held.{Held as Hand}
 use Rattle.ks_arena.specs.Sound.{sort_of}
 use Rattle.ks_arena.specs.Clauses.{seen_of}
-use Rattle.ks_shape.specs.SearchEnd.{unbranched, below_own}
+use Rattle.ks_shape.specs.Laws.SearchEnd.{unbranched, below_own}
 use Rattle.ks_shape.proofs.here.add_here.Goals as goal
 
 pub put-requires-clause-no_branch : goal.put-requires-clause-no_branch

@@ -4,7 +4,7 @@ use Rattle.ks_history.specs.Map.{told}
 use Rattle.ks_arena.specs.declared.held.Held.{Held as Hand}
 use Rattle.ks_arena.specs.Sound.{sort_of}
 use Rattle.ks_arena.specs.Clauses.{IsReady, seen_of}
-use Rattle.ks_shape.specs.SearchEnd.{unbranched, below_own}
+use Rattle.ks_shape.specs.Laws.SearchEnd.{unbranched, below_own}
 use Rattle.ks_shape.proofs.here.put_here.Goals as goal
 
 pub put-found-requires-clause-no_branch : goal.put-found-requires-clause-no_branch

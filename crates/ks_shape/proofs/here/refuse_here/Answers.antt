@@ -5,7 +5,8 @@ use Rattle.ks_history.specs.declared.Reply.TheVariants.{Full}
 use Rattle.ks_history.specs.Map.{Touches}
 use Rattle.ks_arena.specs.Sound.{sort_of}
 use Rattle.ks_arena.specs.Clauses.{IsReady, seen_of}
-use Rattle.ks_shape.specs.SearchEnd.{Fills, unbranched}
+use Rattle.ks_shape.specs.SearchEnd.{Fills}
+use Rattle.ks_shape.specs.Laws.SearchEnd.{unbranched}
 use Rattle.ks_shape.proofs.here.refuse_here.Goals as goal
 
 pub full_law-requires-clause-no_branch : goal.full_law-requires-clause-no_branch

@@ -6,7 +6,7 @@ use Rattle.ks_node.specs.Body.{value_at}
 use Rattle.ks_arena.specs.declared.held.Held.{Held as Hand}
 use Rattle.ks_arena.specs.Sound.{sort_of}
 use Rattle.ks_arena.specs.Clauses.{IsReady, seen_of}
-use Rattle.ks_shape.specs.SearchEnd.{unbranched, below_own}
+use Rattle.ks_shape.specs.Laws.SearchEnd.{unbranched, below_own}
 use Rattle.ks_shape.proofs.here.swap_here.Goals as goal
 
 pub put-requires-clause-no_branch : goal.put-requires-clause-no_branch

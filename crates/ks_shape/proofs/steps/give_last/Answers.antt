@@ -2,9 +2,9 @@ use Rattle.std.proofs.Common.{◌≡◌, ◌≤◌, ℕ, List, [], ◌∷◌, le
 use Rattle.ks_history.specs.declared.Event.TheVariants.{Give}
 use Rattle.ks_history.specs.Trace.{hand, drop_one}
 use Rattle.ks_arena.specs.Clauses.{seen_of}
-use Rattle.ks_shape.specs.Makes.{makes_with}
-use Rattle.ks_shape.specs.Single.{gave_last, gives}
-use Rattle.ks_shape.specs.Stretches.{stretches_give}
+use Rattle.ks_shape.specs.Laws.Makes.{makes_with}
+use Rattle.ks_shape.specs.Laws.Single.{gave_last, gives}
+use Rattle.ks_shape.specs.Laws.Stretches.{stretches_give}
 use Rattle.ks_shape.proofs.steps.give_last.Given.{Over}
 use Rattle.ks_shape.proofs.steps.give_last.Goals as goal
 use Rattle.ks_shape.proofs.steps.give_last.Goals.{After-give}

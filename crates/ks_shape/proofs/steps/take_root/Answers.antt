@@ -3,9 +3,9 @@ use Rattle.ks_history.specs.declared.Event.TheVariants.{Take}
 use Rattle.ks_history.specs.Done.{first_taken}
 use Rattle.ks_arena.specs.Sound.{sort_of}
 use Rattle.ks_arena.specs.Clauses.{seen_of}
-use Rattle.ks_shape.specs.Makes.{makes_with}
-use Rattle.ks_shape.specs.Single.{takes}
-use Rattle.ks_shape.specs.Stretches.{root_begins, stretches_root}
+use Rattle.ks_shape.specs.Laws.Makes.{makes_with}
+use Rattle.ks_shape.specs.Laws.Single.{takes}
+use Rattle.ks_shape.specs.Laws.Stretches.{root_begins, stretches_root}
 use Rattle.ks_shape.proofs.steps.take_root.Goals as goal
 
 pub returns-clause-way : goal.returns-clause-way

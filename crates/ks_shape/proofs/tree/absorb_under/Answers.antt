@@ -11,7 +11,7 @@ use Rattle.ks_keysets.specs.declared.Frame.{Frame}
 use Rattle.ks_history.specs.declared.Event.{Event}
 use Rattle.ks_history.specs.Trace.{graph_after, frame_after}
 use Rattle.ks_history.specs.Passes.{GrowsByOthers}
-use Rattle.ks_history.specs.Begins.{good_now, by_others_none}
+use Rattle.ks_history.specs.Laws.Begins.{good_now, by_others_none}
 use Rattle.ks_node.specs.Body.{Body}
 use Rattle.ks_node.specs.Effect.{absorbed, forgot}
 use Rattle.ks_flow.specs.Discipline.{BeginsTree, TreeStep}
@@ -25,7 +25,7 @@ use Rattle.ks_flow.specs.Discipline.{SameInset, SameKeyset}
 use Rattle.ks_keysets.specs.declared.Record.{Record}
 use Rattle.ks_keysets.specs.Keyset.{record_at}
 use Rattle.ks_node.specs.Edges.{record_of}
-use Rattle.ks_shape.specs.Single.{record_is}
+use Rattle.ks_shape.specs.Laws.Single.{record_is}
 use Rattle.ks_shape.proofs.Standing.{plain, stands, stays, changed_to}
 use Rattle.ks_shape.proofs.tree.absorb_under.Given.{Over}
 use Rattle.ks_shape.proofs.tree.absorb_under.Goals as goal

@@ -10,7 +10,7 @@ use Rattle.ks_keysets.specs.declared.Frame.{Frame}
 use Rattle.ks_history.specs.declared.Event.{Event}
 use Rattle.ks_history.specs.Trace.{graph_after, frame_after}
 use Rattle.ks_history.specs.Passes.{GrowsByOthers}
-use Rattle.ks_history.specs.Begins.{good_now, by_others_none}
+use Rattle.ks_history.specs.Laws.Begins.{good_now, by_others_none}
 use Rattle.ks_node.specs.Body.{Body}
 use Rattle.ks_node.specs.Effect.{collapsed}
 use Rattle.ks_flow.specs.Discipline.{BeginsTree, TreeStep}

@@ -4,7 +4,8 @@ use Rattle.std.specs.Result.{is_ok}
 use Rattle.ks_keysets.specs.Layout.{Layout}
 use Rattle.ks_history.specs.declared.Event.{Event}
 use Rattle.ks_history.specs.declared.Op.{Op}
-use Rattle.ks_history.specs.Alone.{ActsAlone, HoldsAlone, never_busy, never_moved, never_far}
+use Rattle.ks_history.specs.Alone.{ActsAlone, HoldsAlone}
+use Rattle.ks_history.specs.Laws.Alone.{never_busy, never_moved, never_far}
 use Rattle.ks_history.specs.Done.{Template}
 use Rattle.ks_shape.specs.declared.answers.Numbered.{Numbered}
 use Rattle.ks_shape.specs.declared.answers.Later.{Later}

@@ -1,7 +1,8 @@
 use Rattle.std.proofs.Common.{◌≡◌, ◌≢◌, ◌∙◌, ℕ, List, [], ◌∷◌, length, arith, refl, sym, ap, subst, inl, inr}
 use Rattle.std.specs.Prelude.{Option, Some, None}
-use Rattle.ks_history.specs.Alone.{ActsAlone, alone_then}
-use Rattle.ks_history.specs.Begins.{begins_both}
+use Rattle.ks_history.specs.Alone.{ActsAlone}
+use Rattle.ks_history.specs.Laws.Alone.{alone_then}
+use Rattle.ks_history.specs.Laws.Begins.{begins_both}
 use Rattle.ks_history.specs.Hand.{AreOnce}
 use Rattle.ks_history.specs.Passes.{Has}
 use Rattle.ks_history.specs.Trace.{hand, graph_after}
@@ -13,10 +14,10 @@ use Rattle.ks_keysets.specs.Keyset.{InInset, InKeyset}
 use Rattle.ks_arena.specs.declared.held.Held.{Held as Hand}
 use Rattle.ks_arena.specs.Sound.{sort_of}
 use Rattle.ks_arena.specs.Clauses.{hand_of, seen_of}
-use Rattle.ks_put.specs.Laws.{Laws}
+use Rattle.ks_put.specs.Laws.Search.{Laws}
 use Rattle.ks_put.specs.OnPath.{IsOnPath, numbers}
-use Rattle.ks_shape.specs.Stretches.{stretches_as, stretches_begins}
-use Rattle.ks_tidy.specs.Deciding.{decided_on}
+use Rattle.ks_shape.specs.Laws.Stretches.{stretches_as, stretches_begins}
+use Rattle.ks_tidy.specs.Laws.Deciding.{decided_on}
 use Rattle.ks_tidy.specs.Pair.{IsPair}
 use Rattle.ks_tidy.proofs.Keeping.{few_on, once_in, parent_apart, parent_has, under_with}
 use Rattle.ks_tidy.proofs.deletes.del_on.Given.{Over}

@@ -3,16 +3,17 @@ use Rattle.ks_history.specs.declared.Event.TheVariants.{Call}
 use Rattle.ks_history.specs.declared.Op.TheVariants.{Del}
 use Rattle.ks_history.specs.declared.Reply.{Reply}
 use Rattle.ks_history.specs.declared.Reply.TheVariants.{Full}
-use Rattle.ks_history.specs.Begins.{with_begins}
+use Rattle.ks_history.specs.Laws.Begins.{with_begins}
 use Rattle.ks_history.specs.Done.{most_held}
 use Rattle.ks_history.specs.Map.{told}
 use Rattle.ks_history.specs.Passes.{Has}
 use Rattle.ks_history.specs.Trace.{hand, graph_after}
-use Rattle.ks_history.specs.Underway.{Decided, underway_call}
+use Rattle.ks_history.specs.Underway.{Decided}
+use Rattle.ks_history.specs.Laws.Underway.{underway_call}
 use Rattle.ks_arena.specs.declared.held.Held.{Held as Hand}
 use Rattle.ks_arena.specs.Sound.{sort_of}
 use Rattle.ks_arena.specs.Clauses.{IsReady, hand_of, seen_of}
-use Rattle.ks_put.specs.Laws.{Laws}
+use Rattle.ks_put.specs.Laws.Search.{Laws}
 use Rattle.ks_tidy.proofs.Keeping.{places_kept}
 use Rattle.ks_tidy.proofs.Standing.{keyset_here, no_branch}
 use Rattle.ks_tidy.proofs.deletes.delete.Goals as goal

@@ -1,9 +1,10 @@
 use Rattle.std.proofs.Common.{◌≡◌, ◌∙◌, ℕ, sym, ap, subst}
-use Rattle.ks_history.specs.Alone.{ActsAlone, alone_then}
+use Rattle.ks_history.specs.Alone.{ActsAlone}
+use Rattle.ks_history.specs.Laws.Alone.{alone_then}
 use Rattle.ks_arena.specs.Sound.{sort_of}
 use Rattle.ks_arena.specs.Clauses.{seen_of}
-use Rattle.ks_shape.specs.Stretches.{stretches_as, stretches_begins, stretches_both}
-use Rattle.ks_tidy.specs.Frees.{counts_as, counts_both}
+use Rattle.ks_shape.specs.Laws.Stretches.{stretches_as, stretches_begins, stretches_both}
+use Rattle.ks_tidy.specs.Laws.Frees.{counts_as, counts_both}
 use Rattle.ks_tidy.specs.Pair.{IsPair}
 use Rattle.ks_tidy.proofs.Standing.{keyset_here}
 use Rattle.ks_tidy.proofs.descent.pair_tidy.Goals as goal

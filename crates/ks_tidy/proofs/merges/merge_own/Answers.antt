@@ -5,8 +5,9 @@ use Rattle.ks_keysets.specs.declared.Frame.{Frame}
 use Rattle.ks_keysets.specs.declared.NodeState.{NodeState}
 use Rattle.ks_keysets.specs.Keyset.{InInset}
 use Rattle.ks_keysets.specs.Layout.{FitsNoRight}
-use Rattle.ks_history.specs.Alone.{ActsAlone, alone_then}
-use Rattle.ks_history.specs.Begins.{with_begins}
+use Rattle.ks_history.specs.Alone.{ActsAlone}
+use Rattle.ks_history.specs.Laws.Alone.{alone_then}
+use Rattle.ks_history.specs.Laws.Begins.{with_begins}
 use Rattle.ks_history.specs.Hand.{AreOnce}
 use Rattle.ks_history.specs.Trace.{hand, graph_after, frame_after}
 use Rattle.ks_history.specs.Passes.{Has, GrowsWith}
@@ -17,13 +18,14 @@ use Rattle.ks_node.specs.Edges.{record_of, edges_of}
 use Rattle.ks_arena.specs.declared.held.Held.{Held as Hand}
 use Rattle.ks_arena.specs.Sound.{blank_of, sort_of}
 use Rattle.ks_arena.specs.Clauses.{Matches, seen_of}
-use Rattle.ks_shape.specs.Places.{HasPlacesOf, places_both}
-use Rattle.ks_shape.specs.Single.{record_is}
-use Rattle.ks_shape.specs.Stretches.{stretches_as, stretches_both, stretches_shape}
+use Rattle.ks_shape.specs.Places.{HasPlacesOf}
+use Rattle.ks_shape.specs.Laws.Places.{places_both}
+use Rattle.ks_shape.specs.Laws.Single.{record_is}
+use Rattle.ks_shape.specs.Laws.Stretches.{stretches_as, stretches_both, stretches_shape}
 use Rattle.ks_put.specs.declared.path.Path.{Path}
-use Rattle.ks_put.specs.Laws.{Laws}
+use Rattle.ks_put.specs.Laws.Search.{Laws}
 use Rattle.ks_put.specs.OnPath.{IsOnPath, numbers}
-use Rattle.ks_tidy.specs.Frees.{frees_as, frees_begins, frees_both, frees_give, frees_shape, frees_take, undisturbed_same}
+use Rattle.ks_tidy.specs.Laws.Frees.{frees_as, frees_begins, frees_both, frees_give, frees_shape, frees_take, undisturbed_same}
 use Rattle.ks_tidy.proofs.Keeping.{few_on, once_in, parent_apart, parent_has, places_kept, under_with}
 use Rattle.ks_tidy.proofs.Standing.{fits_along, plain, stands_now}
 use Rattle.ks_tidy.proofs.Beside.{any_counted}

@@ -1,18 +1,18 @@
 use Rattle.std.proofs.Common.{◌≡◌, ◌<◌, ◌≤◌, ◌++◌, ℕ, List, ◌∷◌, length, Some, arith, ap, subst}
 use Rattle.ks_keysets.specs.Keyset.{record_at}
 use Rattle.ks_history.specs.Trace.{held, turn_after, graph_after}
-use Rattle.ks_history.specs.Hand.{is_hand}
-use Rattle.ks_history.specs.Begins.{with_others}
+use Rattle.ks_history.specs.Laws.Hand.{is_hand}
+use Rattle.ks_history.specs.Laws.Begins.{with_others}
 use Rattle.ks_history.specs.Done.{from_above}
-use Rattle.ks_history.specs.Underway.{may_take_later}
+use Rattle.ks_history.specs.Laws.Underway.{may_take_later}
 use Rattle.ks_history.specs.declared.Event.TheVariants.{Take}
 use Rattle.ks_flow.specs.Discipline.{BeginsTree, TreeStep}
 use Rattle.ks_node.specs.Edges.{record_of}
 use Rattle.ks_arena.specs.Sound.{sort_of, Sound}
 use Rattle.ks_arena.specs.Clauses.{seen_of}
-use Rattle.ks_shape.specs.Single.{is_near, record_is}
-use Rattle.ks_shape.specs.Stretches.{stretches_take}
-use Rattle.ks_put.specs.Laws.{Laws}
+use Rattle.ks_shape.specs.Laws.Single.{is_near, record_is}
+use Rattle.ks_shape.specs.Laws.Stretches.{stretches_take}
+use Rattle.ks_put.specs.Laws.Search.{Laws}
 use Rattle.ks_tidy.proofs.Standing.{edge_live}
 use Rattle.ks_tidy.proofs.takes.take_led.Given.{Over}
 use Rattle.ks_tidy.proofs.takes.take_led.Goals as goal

@@ -1,6 +1,6 @@
 use Rattle.std.proofs.Common.{sym, ◌∙◌}
 use Rattle.std.proofs.lemmas.Bool.{eq-eqb}
-use Rattle.ks_node.specs.Starts.{differ}
+use Rattle.ks_node.specs.Laws.Starts.{differ}
 use Rattle.ks_trials.proofs.FirstEdge.{next_first, same_target}
 use Rattle.ks_trials.proofs.asked.leads_first.Goals as goal
 

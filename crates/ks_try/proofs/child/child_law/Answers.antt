@@ -7,14 +7,14 @@ use Rattle.ks_keysets.specs.Keyset.{record_at, IsLive, along}
 use Rattle.ks_history.specs.declared.Event.{Event}
 use Rattle.ks_history.specs.Trace.{held, turn_after, graph_after, frame_after}
 use Rattle.ks_history.specs.Passes.{Has}
-use Rattle.ks_history.specs.Stays.{lawful_in_turn}
-use Rattle.ks_history.specs.Hand.{is_hand}
-use Rattle.ks_history.specs.Begins.{good_now}
+use Rattle.ks_history.specs.Laws.Stays.{lawful_in_turn}
+use Rattle.ks_history.specs.Laws.Hand.{is_hand}
+use Rattle.ks_history.specs.Laws.Begins.{good_now}
 use Rattle.ks_node.specs.Edges.{record_of}
-use Rattle.ks_node.specs.Ways.{next_leads}
+use Rattle.ks_node.specs.Laws.Ways.{next_leads}
 use Rattle.ks_arena.specs.Sound.{sort_of, blank_of}
 use Rattle.ks_arena.specs.Clauses.{seen_of}
-use Rattle.ks_shape.specs.Single.{led_live, record_is}
+use Rattle.ks_shape.specs.Laws.Single.{led_live, record_is}
 use Rattle.ks_try.proofs.Counted.{counted}
 use Rattle.ks_try.proofs.child.child_law.Goals as goal
 

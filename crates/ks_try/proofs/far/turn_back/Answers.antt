@@ -1,8 +1,8 @@
 use Rattle.std.proofs.Common.{ℕ, suc, ◌∷◌, arith}
 use Rattle.ks_history.specs.declared.Event.TheVariants.{Give}
-use Rattle.ks_history.specs.Descent.{far_later}
+use Rattle.ks_history.specs.Laws.Descent.{far_later}
 use Rattle.ks_arena.specs.Clauses.{seen_of}
-use Rattle.ks_try.specs.Down.{down_far, gave_no_take}
+use Rattle.ks_try.specs.Laws.Down.{down_far, gave_no_take}
 use Rattle.ks_try.proofs.far.turn_back.Goals as goal
 
 pub returns-clause-far : goal.returns-clause-far

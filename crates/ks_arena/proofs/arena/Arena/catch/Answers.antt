@@ -5,9 +5,9 @@ use Rattle.ks_history.specs.declared.Event.{Event}
 use Rattle.ks_history.specs.declared.Event.TheVariants.{Claim}
 use Rattle.ks_history.specs.Trace.{graph_after, hand, mine}
 use Rattle.ks_history.specs.Passes.{GrowsWith}
-use Rattle.ks_history.specs.Begins.{claim_hand, by_others_none}
+use Rattle.ks_history.specs.Laws.Begins.{claim_hand, by_others_none}
 use Rattle.ks_keysets.specs.Keyset.{live_record}
-use Rattle.ks_history.specs.Stays.{cond_here, cond_else}
+use Rattle.ks_history.specs.Laws.Stays.{cond_here, cond_else}
 use Rattle.ks_arena.specs.declared.view.Mark.TheVariants.{Quiet, Claiming}
 use Rattle.ks_arena.specs.declared.view.View.{View}
 use Rattle.ks_node.specs.Body.{blank_body}

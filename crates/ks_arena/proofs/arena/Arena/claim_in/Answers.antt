@@ -2,11 +2,11 @@ use Rattle.std.proofs.Common.{rules, arith, ◌≡◌, ◌≢◌, ℕ, ◌+◌, 
 use Rattle.std.specs.Prelude.{Some, None}
 use Rattle.std.specs.Int.{bit_at, trailing_zeros}
 use Rattle.std.proofs.lemmas.Nat.Bits.{bit_at-trailing_zeros, bit_at-zero}
-use Rattle.ks_history.specs.Alone.{alone_first}
-use Rattle.ks_history.specs.Begins.{by_others_begins}
+use Rattle.ks_history.specs.Laws.Alone.{alone_first}
+use Rattle.ks_history.specs.Laws.Begins.{by_others_begins}
 use Rattle.ks_arena.specs.Sound.{sort_of}
 use Rattle.ks_arena.specs.Clauses.{seen_of, Kept, TryClaimed}
-use Rattle.ks_arena.specs.Tells.{claimed_begins}
+use Rattle.ks_arena.specs.Laws.Tells.{claimed_begins}
 use Rattle.ks_arena.proofs.Tries.{told_word, missed, missed_not_alone, without_less, claimed_in}
 use Rattle.ks_arena.proofs.arena.Arena.claim_in.Goals as goal
 use Rattle.ks_arena.proofs.arena.Arena.claim_in.Goals.{After-try_claim}

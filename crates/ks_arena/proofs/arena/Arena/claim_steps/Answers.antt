@@ -3,15 +3,15 @@ use Rattle.std.specs.Prelude.{Some, None}
 use Rattle.ks_history.specs.declared.Event.{Event}
 use Rattle.ks_history.specs.Trace.{◌⊑◌, free, turn_after}
 use Rattle.ks_history.specs.Alone.{ActsAlone, HoldsAlone}
-use Rattle.ks_history.specs.Begins.{by_others_begins}
+use Rattle.ks_history.specs.Laws.Begins.{by_others_begins}
 use Rattle.ks_arena.specs.Sound.{sort_of, Sound}
 use Rattle.atomic_table.specs.Seated.{TableId}
 use Rattle.ks_history.specs.Passes.{CallersBelow}
-use Rattle.ks_history.specs.Stays.{cond_here}
+use Rattle.ks_history.specs.Laws.Stays.{cond_here}
 use Rattle.ks_arena.specs.declared.held.Pass.{Pass}
 use Rattle.ks_arena.proofs.Words.{one_alone}
 use Rattle.ks_arena.specs.Clauses.{IsPass, seen_of, Kept, DidClaimIn}
-use Rattle.ks_arena.specs.Tells.{kept_both, claimed_begins}
+use Rattle.ks_arena.specs.Laws.Tells.{kept_both, claimed_begins}
 use Rattle.ks_arena.proofs.Tries.{tried_more, root_taken, did_claim, alone_next}
 use Rattle.ks_arena.proofs.After.{still}
 use Rattle.ks_arena.proofs.arena.Arena.claim_steps.Given.{Over}

@@ -16,7 +16,7 @@ use Rattle.ks_arena.specs.declared.view.View.{View}
 use Rattle.ks_arena.specs.Sound.{sort_of, blank_of, Sound}
 use Rattle.ks_arena.specs.Named.{AllNamedBelow}
 use Rattle.ks_arena.specs.Rule.{Running, Closes, Ends, seen_first, turn_word}
-use Rattle.ks_arena.specs.Beyond.{free_beyond, named_below}
+use Rattle.ks_arena.specs.Laws.Beyond.{free_beyond, named_below}
 use Rattle.ks_arena.proofs.Crew.{joins_ok, gathers_ok, notes_ok, closes, closes_below}
 use Rattle.ks_arena.proofs.Closing.{begins_joining, takes_in, emptied, Ended, ended, next_in}
 use Rattle.ks_arena.proofs.arena.Arena.close.Given.{Over}

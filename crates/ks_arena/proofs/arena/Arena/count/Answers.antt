@@ -6,7 +6,8 @@ use Rattle.ks_history.specs.declared.Event.TheVariants.{Call}
 use Rattle.ks_history.specs.Trace.{graph_after, state_with}
 use Rattle.ks_history.specs.Write.{written}
 use Rattle.ks_history.specs.Due.{IsDue}
-use Rattle.ks_history.specs.Stays.{StaysHeld, cond_here, cond_else}
+use Rattle.ks_history.specs.Stays.{StaysHeld}
+use Rattle.ks_history.specs.Laws.Stays.{cond_here, cond_else}
 use Rattle.ks_arena.specs.Sound.{sort_of, blank_of}
 use Rattle.ks_arena.specs.Clauses.{Matches}
 use Rattle.ks_arena.specs.Plays.{decided}

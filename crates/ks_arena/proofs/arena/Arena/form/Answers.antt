@@ -6,11 +6,11 @@ use Rattle.ks_history.specs.declared.Event.{Event}
 use Rattle.ks_history.specs.declared.Event.TheVariants.{Shape}
 use Rattle.ks_history.specs.Trace.{hand, graph_after, frame_after}
 use Rattle.ks_history.specs.Stays.{StaysHeld}
-use Rattle.ks_history.specs.Begins.{by_others_keeps}
+use Rattle.ks_history.specs.Laws.Begins.{by_others_keeps}
 use Rattle.ks_arena.specs.Sound.{sort_of, Sound}
 use Rattle.ks_arena.specs.Plays.{formed}
 use Rattle.ks_arena.specs.Clauses.{changes_of, AreShaped}
-use Rattle.ks_arena.specs.Beyond.{are_in_turn}
+use Rattle.ks_arena.specs.Laws.Beyond.{are_in_turn}
 use Rattle.ks_arena.proofs.Moves.{forms_ok}
 use Rattle.ks_arena.proofs.Hold.{holds_it}
 use Rattle.ks_arena.proofs.After.{still, all_held, each_once, are_shaped, shaped_not, reframed_not, pass_again, Counted, counted, stays_then}

@@ -1,7 +1,7 @@
 use Rattle.ks_history.specs.Trace.{graph_after}
-use Rattle.ks_history.specs.Stays.{lawful_in_turn}
-use Rattle.ks_history.specs.Begins.{by_others_keeps}
-use Rattle.ks_history.specs.Hand.{is_hand}
+use Rattle.ks_history.specs.Laws.Stays.{lawful_in_turn}
+use Rattle.ks_history.specs.Laws.Begins.{by_others_keeps}
+use Rattle.ks_history.specs.Laws.Hand.{is_hand}
 use Rattle.ks_arena.specs.Sound.{sort_of}
 use Rattle.ks_arena.specs.Clauses.{seen_of}
 use Rattle.ks_arena.proofs.Calling.{put_full, add_full, full_at}

@@ -2,7 +2,7 @@ use Rattle.std.proofs.Common.{ℕ, ◌∙◌, subst, refl}
 use Rattle.ks_arena.specs.Sound.{sort_of}
 use Rattle.ks_arena.specs.declared.held.Taken.TheVariants.{Held, Busy, Gone}
 use Rattle.ks_arena.specs.Clauses.{seen_of, Kept, TryTook}
-use Rattle.ks_arena.specs.Tells.{looked_none, looked_both, kept_both, taken_later}
+use Rattle.ks_arena.specs.Laws.Tells.{looked_none, looked_both, kept_both, taken_later}
 use Rattle.ks_arena.proofs.After.{still}
 use Rattle.ks_arena.proofs.arena.Arena.take.Goals as goal
 

@@ -4,7 +4,7 @@ use Rattle.ks_history.specs.Trace.{hand, held, turn_after}
 use Rattle.ks_arena.specs.Sound.{sort_of}
 use Rattle.ks_arena.specs.Clauses.{HasLooked, Kept, seen_of, hand_of}
 use Rattle.ks_arena.proofs.Hold.{holds_it}
-use Rattle.ks_arena.specs.Tells.{claimed_then}
+use Rattle.ks_arena.specs.Laws.Tells.{claimed_then}
 use Rattle.ks_arena.proofs.arena.Arena.try_claim.Goals as goal
 
 pub returns-clause-claimed : goal.returns-clause-claimed

@@ -4,7 +4,7 @@ use Rattle.ks_keysets.specs.declared.NodeState.TheVariants.{Live}
 use Rattle.ks_history.specs.declared.Event.TheVariants.{Take}
 use Rattle.ks_history.specs.Trace.{graph_after, turn_after, frame_after, hand, held, mine}
 use Rattle.ks_history.specs.Passes.{GrowsWith}
-use Rattle.ks_history.specs.Begins.{take_hand, by_others_turn}
+use Rattle.ks_history.specs.Laws.Begins.{take_hand, by_others_turn}
 use Rattle.ks_arena.specs.declared.view.View.{View}
 use Rattle.ks_node.specs.Body.{frame_of}
 use Rattle.ks_node.specs.Edges.{record_of}

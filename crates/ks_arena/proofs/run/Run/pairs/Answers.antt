@@ -3,7 +3,7 @@ use Rattle.std.proofs.Common.{rules, ℕ, ◌≤◌, List, length, subst}
 use Rattle.std.specs.Slots.{slots_items}
 use Rattle.std.specs.List.Sorted.{IsPermutation}
 use Rattle.std.proofs.lemmas.List.Sorted.{IsNonDecreasingBy-from_sort_by_key}
-use Rattle.ks_history.specs.Begins.{good_now}
+use Rattle.ks_history.specs.Laws.Begins.{good_now}
 use Rattle.ks_history.specs.Trace.{graph_after}
 use Rattle.ks_arena.specs.Clauses.{trace_of}
 use Rattle.ks_arena.specs.Ended.{AreFound}

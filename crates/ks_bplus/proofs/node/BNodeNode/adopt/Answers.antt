@@ -1,5 +1,5 @@
 use Rattle.std.proofs.Common.{arith}
-use Rattle.ks_bplus.specs.Fits.{fit_adopt}
+use Rattle.ks_bplus.specs.Laws.Fits.{fit_adopt}
 use Rattle.ks_bplus.proofs.node.BNodeNode.adopt.Goals as goal
 
 pub invariant_of-self : goal.invariant_of-self

@@ -1,4 +1,4 @@
-use Rattle.ks_bplus.specs.Fits.{fit_cut_inner, fit_cut_leaf, fit_halves_inner, fit_halves_leaf}
+use Rattle.ks_bplus.specs.Laws.Fits.{fit_cut_inner, fit_cut_leaf, fit_halves_inner, fit_halves_leaf}
 use Rattle.ks_bplus.proofs.node.BNodeNode.cut.Goals as goal
 
 pub returns-then-self-clause-good : goal.returns-then-self-clause-good

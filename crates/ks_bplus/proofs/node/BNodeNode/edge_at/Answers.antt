@@ -1,4 +1,4 @@
-use Rattle.ks_bplus.specs.Fits.{fit_edges, fit_edge_count}
+use Rattle.ks_bplus.specs.Laws.Fits.{fit_edges, fit_edge_count}
 use Rattle.ks_bplus.proofs.node.BNodeNode.edge_at.Goals as goal
 
 pub edge_in-requires-clause-within : goal.edge_in-requires-clause-within

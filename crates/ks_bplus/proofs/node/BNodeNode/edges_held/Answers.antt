@@ -1,6 +1,6 @@
 use Rattle.std.proofs.Common.{sym, ◌∙◌, ap}
 use Rattle.std.specs.Prelude.{length}
-use Rattle.ks_bplus.specs.Fits.{fit_edge_count}
+use Rattle.ks_bplus.specs.Laws.Fits.{fit_edge_count}
 use Rattle.ks_bplus.proofs.node.BNodeNode.edges_held.Goals as goal
 
 pub returns : goal.returns

@@ -1,5 +1,5 @@
 use Rattle.std.proofs.Common.{arith}
-use Rattle.ks_bplus.specs.Fits.{fit_absorb}
+use Rattle.ks_bplus.specs.Laws.Fits.{fit_absorb}
 use Rattle.ks_bplus.proofs.node.BNodeUnlinked.absorb.Goals as goal
 
 pub invariant_of-self : goal.invariant_of-self

@@ -1,4 +1,4 @@
-use Rattle.ks_hash.specs.Fits.{fit_slices}
+use Rattle.ks_hash.specs.Laws.Fits.{fit_slices}
 use Rattle.ks_hash.proofs.node.HNodeNode.adopt.Goals as goal
 
 pub invariant_of-self : goal.invariant_of-self

@@ -1,4 +1,4 @@
-use Rattle.ks_hash.specs.Fits.{fit_cuts}
+use Rattle.ks_hash.specs.Laws.Fits.{fit_cuts}
 use Rattle.ks_hash.proofs.node.HNodeNode.cut.Goals as goal
 
 pub returns-in-Some-clause-good : goal.returns-in-Some-clause-good

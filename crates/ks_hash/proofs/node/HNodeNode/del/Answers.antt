@@ -1,4 +1,4 @@
-use Rattle.ks_hash.specs.Fits.{fit_del}
+use Rattle.ks_hash.specs.Laws.Fits.{fit_del}
 use Rattle.ks_hash.proofs.node.HNodeNode.del.Goals as goal
 
 pub invariant_of-self : goal.invariant_of-self

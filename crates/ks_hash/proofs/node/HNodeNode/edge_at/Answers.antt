@@ -1,4 +1,4 @@
-use Rattle.ks_hash.specs.Fits.{fit_edges, fit_edge_count}
+use Rattle.ks_hash.specs.Laws.Fits.{fit_edges, fit_edge_count}
 use Rattle.ks_hash.proofs.node.HNodeNode.edge_at.Goals as goal
 
 pub edge_in-requires-clause-within : goal.edge_in-requires-clause-within

@@ -1,4 +1,4 @@
-use Rattle.ks_hash.specs.Fits.{fit_within}
+use Rattle.ks_hash.specs.Laws.Fits.{fit_within}
 use Rattle.ks_hash.proofs.node.HNodeNode.span_for.Goals as goal
 
 pub span_in-requires : goal.span_in-requires

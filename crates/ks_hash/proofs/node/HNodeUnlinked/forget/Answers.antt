@@ -1,4 +1,4 @@
-use Rattle.ks_hash.specs.Fits.{fit_slices, is_directory}
+use Rattle.ks_hash.specs.Laws.Fits.{fit_slices, is_directory}
 use Rattle.ks_hash.proofs.node.HNodeUnlinked.forget.Goals as goal
 
 pub invariant_of-self : goal.invariant_of-self

@@ -1,5 +1,5 @@
 use Rattle.std.proofs.Common.{arith}
-use Rattle.ks_hash.specs.Fits.{fit_left, fit_right, full_bucket, blank_bucket, split_above}
+use Rattle.ks_hash.specs.Laws.Fits.{fit_left, fit_right, full_bucket, blank_bucket, split_above}
 use Rattle.ks_hash.proofs.node.HNodeUnlinked.grow.Goals as goal
 
 pub invariant_of-left : goal.invariant_of-left

@@ -1,7 +1,7 @@
 use Rattle.std.proofs.Common.{arith, refl, sym}
 use Rattle.std.proofs.lemmas.Bool.{lt-ltb}
-use Rattle.ks_node.specs.Within.{framed_left, framed_right}
-use Rattle.ks_linked.specs.Link.{same_ends, same_begins}
+use Rattle.ks_node.specs.Laws.Within.{framed_left, framed_right}
+use Rattle.ks_linked.specs.Laws.Link.{same_ends, same_begins}
 use Rattle.ks_linked.proofs.with_link.WithLinkLinked.split_link.Goals as goal
 
 pub invariant_of-right : goal.invariant_of-right

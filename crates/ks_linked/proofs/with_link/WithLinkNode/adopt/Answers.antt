@@ -1,5 +1,5 @@
 use Rattle.std.proofs.Common.{arith, refl}
-use Rattle.ks_node.specs.Within.{framed_adopted}
+use Rattle.ks_node.specs.Laws.Within.{framed_adopted}
 use Rattle.ks_linked.proofs.with_link.WithLinkNode.adopt.Goals as goal
 
 pub invariant_of-self : goal.invariant_of-self

@@ -1,4 +1,4 @@
-use Rattle.ks_linked.specs.Link.{suits_plain, own_range, good_linked, all_inside}
+use Rattle.ks_linked.specs.Laws.Link.{suits_plain, own_range, good_linked, all_inside}
 use Rattle.ks_linked.proofs.with_link.WithLinkNode.cut.Goals as goal
 
 pub returns-clause-good : goal.returns-clause-good

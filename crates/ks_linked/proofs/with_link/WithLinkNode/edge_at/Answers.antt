@@ -1,6 +1,6 @@
 use Rattle.std.proofs.Common.{arith, ◌∙◌, ap, ◌+◌, ◌≡◌, nat_eq, refl}
 use Rattle.ks_node.specs.Spans.{cut_one}
-use Rattle.ks_linked.specs.Link.{link_count, count_linked, own_linked, last_linked}
+use Rattle.ks_linked.specs.Laws.Link.{link_count, count_linked, own_linked, last_linked}
 use Rattle.ks_linked.proofs.with_link.WithLinkNode.edge_at.Goals as goal
 
 pub returns-then-n-own : goal.returns-then-n-own

@@ -1,8 +1,8 @@
 use Rattle.std.proofs.Common.{arith, sym, ◌∙◌, ap, ◌≡◌, ◌+◌}
 use Rattle.std.specs.Prelude.{length}
 use Rattle.ks_node.specs.Edges.{edges_of}
-use Rattle.ks_node.specs.Spans.{length_edges}
-use Rattle.ks_linked.specs.Link.{count_linked, link_count}
+use Rattle.ks_node.specs.Laws.Spans.{length_edges}
+use Rattle.ks_linked.specs.Laws.Link.{count_linked, link_count}
 use Rattle.ks_linked.proofs.with_link.WithLinkNode.edges_held.Goals as goal
 
 pub overflow_add-result : goal.overflow_add-result

@@ -1,4 +1,4 @@
-use Rattle.ks_list.specs.Fits.{fit_cut, fit_halves_read}
+use Rattle.ks_list.specs.Laws.Fits.{fit_cut, fit_halves_read}
 use Rattle.ks_list.proofs.node.ListNodeNode.cut.Goals as goal
 
 pub returns-clause-good : goal.returns-clause-good

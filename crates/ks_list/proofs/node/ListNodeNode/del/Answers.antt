@@ -1,4 +1,4 @@
-use Rattle.ks_list.specs.Fits.{fit_del}
+use Rattle.ks_list.specs.Laws.Fits.{fit_del}
 use Rattle.ks_list.proofs.node.ListNodeNode.del.Goals as goal
 
 pub invariant_of-self : goal.invariant_of-self

@@ -1,4 +1,4 @@
-use Rattle.ks_list.specs.Fits.{fit_put}
+use Rattle.ks_list.specs.Laws.Fits.{fit_put}
 use Rattle.ks_list.proofs.node.ListNodeNode.put.Goals as goal
 
 pub invariant_of-self : goal.invariant_of-self

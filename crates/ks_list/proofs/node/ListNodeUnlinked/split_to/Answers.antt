@@ -1,5 +1,5 @@
 use Rattle.std.proofs.Common.{◌∙◌, refl}
-use Rattle.ks_list.specs.Fits.{fit_left, fit_right}
+use Rattle.ks_list.specs.Laws.Fits.{fit_left, fit_right}
 use Rattle.ks_list.proofs.node.ListNodeUnlinked.split_to.Goals as goal
 
 pub invariant_of-right : goal.invariant_of-right

@@ -1,4 +1,4 @@
-use Rattle.ks_node.specs.Wrapped.{suits_inside, good_outside}
+use Rattle.ks_node.specs.Laws.Wrapped.{suits_inside, good_outside}
 use Rattle.ks_node.proofs.with_range.WithRangeNode.cut.Goals as goal
 
 pub returns-clause-good : goal.returns-clause-good

@@ -1,5 +1,6 @@
 use Rattle.std.proofs.Common.{◌∙◌, arith, subst, ◌<◌, ◌+◌, sym, ap, nat_eq}
-use Rattle.ks_node.specs.Spans.{same_count, edge_cut, cut_one}
+use Rattle.ks_node.specs.Spans.{cut_one}
+use Rattle.ks_node.specs.Laws.Spans.{same_count, edge_cut}
 use Rattle.ks_node.proofs.with_range.WithRangeNode.edge_at.Goals as goal
 
 pub edge_at-requires : goal.edge_at-requires

@@ -1,5 +1,5 @@
 use Rattle.std.proofs.Common.{◌∙◌}
-use Rattle.ks_node.specs.Spans.{same_count}
+use Rattle.ks_node.specs.Laws.Spans.{same_count}
 use Rattle.ks_node.proofs.with_range.WithRangeNode.edges_held.Goals as goal
 
 pub returns : goal.returns

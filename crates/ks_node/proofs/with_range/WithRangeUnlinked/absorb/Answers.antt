@@ -1,5 +1,5 @@
-use Rattle.ks_node.specs.Room.{same_kinds}
-use Rattle.ks_node.specs.Within.{framed_absorbed}
+use Rattle.ks_node.specs.Laws.Room.{same_kinds}
+use Rattle.ks_node.specs.Laws.Within.{framed_absorbed}
 use Rattle.ks_node.proofs.with_range.WithRangeUnlinked.absorb.Goals as goal
 
 pub invariant_of-self-clause-framed : goal.invariant_of-self-clause-framed

@@ -1,4 +1,4 @@
-use Rattle.ks_node.specs.Within.{framed_forgot}
+use Rattle.ks_node.specs.Laws.Within.{framed_forgot}
 use Rattle.ks_node.proofs.with_range.WithRangeUnlinked.forget.Goals as goal
 
 pub invariant_of-self-clause-framed : goal.invariant_of-self-clause-framed

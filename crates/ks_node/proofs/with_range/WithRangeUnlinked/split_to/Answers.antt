@@ -1,5 +1,5 @@
 use Rattle.std.proofs.Common.{arith, refl}
-use Rattle.ks_node.specs.Within.{framed_left, framed_right}
+use Rattle.ks_node.specs.Laws.Within.{framed_left, framed_right}
 use Rattle.ks_node.proofs.with_range.WithRangeUnlinked.split_to.Goals as goal
 
 pub invariant_of-self-clause-framed : goal.invariant_of-self-clause-framed

@@ -1,0 +1,6 @@
+-- Laws: nothing here is said by a clause of a call; proofs of this crate and of those above it cite them.
+pub mod Aside
+pub mod Beyond
+pub mod FromSound
+pub mod Tells
+pub mod Writes

@@ -1,0 +1,6 @@
+-- Laws: nothing here is said by a clause of a call; proofs of this crate and of those above it cite them.
+pub mod Deep
+pub mod Descents
+pub mod Found
+pub mod Next
+pub mod Pigeons

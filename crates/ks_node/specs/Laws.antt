@@ -1,0 +1,11 @@
+-- Laws: nothing here is said by a clause of a call; proofs of this crate and of those above it cite them.
+pub mod Ascend
+pub mod Cuts
+pub mod Keep
+pub mod Puts
+pub mod Room
+pub mod Spans
+pub mod Starts
+pub mod Ways
+pub mod Within
+pub mod Wrapped
