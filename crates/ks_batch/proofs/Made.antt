@@ -3,7 +3,7 @@ use Rattle.std.proofs.Common.{ℕ, zero, suc, ◌≡◌, ◌≤◌, ◌+◌, Lis
 use Rattle.std.proofs.lemmas.List.{length-map}
 use Rattle.ks_history.specs.declared.Op.{Op}
 use Rattle.ks_batch.specs.declared.words.Draft.{Draft}
-use Rattle.ks_made.specs.Made.{callers_made, made, after_calls}
+use Rattle.ks_generator.specs.Made.{callers_made, made, after_calls}
 
 made_length : (callers n c k x : ℕ) → length (callers_made callers n c k x) ≡ k
 made_length callers n c zero x = omega arith

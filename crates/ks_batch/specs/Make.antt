@@ -4,8 +4,8 @@ use Rattle.ks_history.specs.declared.Event.{Event}
 use Rattle.ks_history.specs.Served.{Served}
 use Rattle.ks_script.specs.Run.{Run}
 use Rattle.ks_script.specs.Outside.{Grew, GrewByFront}
-use Rattle.ks_made.specs.Made.{made}
-use Rattle.ks_made.specs.Summary.{summary_text}
+use Rattle.ks_generator.specs.Made.{made}
+use Rattle.ks_generator.specs.Summary.{summary_text}
 use Rattle.ks_batch.specs.declared.pairings.Pairing.{Pairing}
 use Rattle.ks_batch.specs.declared.words.Draft.{Draft}
 use Rattle.ks_batch.specs.declared.words.Asked.TheVariants.{Make}

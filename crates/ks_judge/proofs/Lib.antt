@@ -2,3 +2,7 @@ pub mod Notes
 pub mod Numbered
 pub mod Listing
 pub mod Judgments
+pub mod Tables
+pub mod Stand
+pub mod Placed
+pub mod Agrees

@@ -1,3 +1,4 @@
 pub mod Judgment
 pub mod Slots
 pub mod Verdict
+pub mod Keys

@@ -24,7 +24,7 @@ use Rattle.ks_node.specs.Body.{Body, is_branch_kind}
 use Rattle.ks_node.specs.Edges.{record_of, edges_of}
 use Rattle.ks_node.specs.Room.{is_full, is_full_at, load, may_grow}
 use Rattle.ks_shape.specs.Laws.Single.{record_is}
-use Rattle.ks_shape.specs.Laws.Beside.{KeepsBeside}
+use Rattle.ks_shape.specs.Beside.{KeepsBeside}
 use Rattle.ks_arena.specs.declared.held.Held.{Held as Hand}
 use Rattle.ks_arena.specs.Sound.{Sort, Sound}
 use Rattle.ks_arena.specs.Clauses.{Matches, StillMatch, StillMatchBut, Kept}

@@ -23,7 +23,8 @@ use Rattle.ks_node.specs.Body.{Body}
 use Rattle.ks_arena.specs.declared.held.Held.{Held as Hand}
 use Rattle.ks_arena.specs.Sound.{Sort, Sound}
 use Rattle.ks_arena.specs.Clauses.{HasLooked, HasClaimed, WasTaken, Kept, KeptBut}
-use Rattle.ks_shape.specs.Laws.Beside.{KeepsBeside, StaysBeside, beside_others, beside_with}
+use Rattle.ks_shape.specs.Beside.{KeepsBeside}
+use Rattle.ks_shape.specs.Laws.Beside.{StaysBeside, beside_others, beside_with}
 use Rattle.ks_shape.specs.Claims.{HoldsForClaim, GotOne}
 
 -- a node was claimed

@@ -1,3 +1,4 @@
+pub mod Beside
 pub mod InHand
 pub mod SearchEnd
 pub mod OnWay

@@ -15,12 +15,9 @@ use Rattle.ks_flow.specs.Tree.{SameEdges}
 use Rattle.ks_arena.specs.Sound.{Sort, Sound}
 use Rattle.ks_arena.specs.Laws.FromSound.{IsPlain, plain_edges, fine, sound_begins, unshaped}
 use Rattle.ks_arena.specs.Clauses.{Kept}
+use Rattle.ks_shape.specs.Beside.{KeepsBeside}
 
 module _ (beside : ℕ → (ℕ → NodeState) → (ℕ → NodeState) → Type 0) where
-  -- so it stays at each node that c holds at both moments
-  abbrev pub KeepsBeside : ℕ → List Event → List Event → Type 0
-  KeepsBeside c h k = (i : ℕ) → turn_after h i ≡ held c → turn_after k i ≡ held c → beside i (graph_after h) (graph_after k)
-
   -- the laws by which it stays in sound traces
   module _ (sort : Sort) (begins : Frame → Type 0) (asks : (ℕ → NodeState) → (ℕ → Frame) → List Change → Type 0) (n : ℕ) where
     pub record StaysBeside : Type 0 where
@@ -31,11 +28,11 @@ module _ (beside : ℕ → (ℕ → NodeState) → (ℕ → NodeState) → Type 
       pub on : (g k l : ℕ → NodeState) (i : ℕ) → beside i g k → beside i k l → beside i g l
 
     module _ (laws : StaysBeside) (c : ℕ) where
-      pub beside_others : (h k : List Event) → GrowsByOthers c h k → Sound sort begins asks n k → KeepsBeside c h k
+      pub beside_others : (h k : List Event) → GrowsByOthers c h k → Sound sort begins asks n k → KeepsBeside beside c h k
       beside_others h k grows sound i before after = laws.others c i h k grows after sound
 
       -- one event of its own that is no Shape
-      pub beside_with : (e : Event) (h k : List Event) → IsPlain e → GrowsWith c e h k → Sound sort begins asks n k → KeepsBeside c h k
+      pub beside_with : (e : Event) (h k : List Event) → IsPlain e → GrowsWith c e h k → Sound sort begins asks n k → KeepsBeside beside c h k
       beside_with e h k plain grows sound i before after =
           let later : List Event = grows.rest ++ h in
           let all : Sound sort begins asks n (e ∷ later) = subst (Sound sort begins asks n) grows.is sound in
@@ -47,7 +44,7 @@ module _ (beside : ℕ → (ℕ → NodeState) → (ℕ → NodeState) → Type 
           (laws.others c i h later alone kept.turn so)
           (laws.along (graph_after later) (graph_after (e ∷ later)) i (plain_edges later e plain (laws.turns later so) (laws.turns (e ∷ later) all).1)))
 
-      pub beside_both : (g h k : List Event) → Kept c g h → KeepsBeside c g h → KeepsBeside c h k → KeepsBeside c g k
+      pub beside_both : (g h k : List Event) → Kept c g h → KeepsBeside beside c g h → KeepsBeside beside c h k → KeepsBeside beside c g k
       beside_both g h k kept a b i before after = laws.on (graph_after g) (graph_after h) (graph_after k) i (a i before (kept i before).turn) (b i (kept i before).turn after)
 
 -- what a discipline keeps at a node stays so, and its keyset does

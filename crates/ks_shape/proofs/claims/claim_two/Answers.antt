@@ -12,7 +12,8 @@ use Rattle.ks_history.specs.Laws.Begins.{begins_both, with_begins}
 use Rattle.ks_flow.specs.Discipline.{SameKeyset}
 use Rattle.ks_arena.specs.Sound.{sort_of}
 use Rattle.ks_arena.specs.Clauses.{seen_of, hand_of, Kept, KeptBut}
-use Rattle.ks_shape.specs.Laws.Beside.{KeepsBeside, StaysBeside, beside_with, beside_both, stays_beside, keyset_beside}
+use Rattle.ks_shape.specs.Beside.{KeepsBeside}
+use Rattle.ks_shape.specs.Laws.Beside.{StaysBeside, beside_with, beside_both, stays_beside, keyset_beside}
 use Rattle.ks_shape.specs.Claims.{HoldsForClaim}
 use Rattle.ks_shape.specs.Makes.{MakesNone}
 use Rattle.ks_shape.specs.Laws.Makes.{makes_both, makes_with}

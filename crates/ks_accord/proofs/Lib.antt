@@ -1,4 +1,0 @@
-pub mod Tables
-pub mod Stand
-pub mod Placed
-pub mod Agrees

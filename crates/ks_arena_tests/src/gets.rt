@@ -1,0 +1,111 @@
+//! The least that decides: a get at node 0. It needs no proof by hand.
+ghost use Rattle.std.specs.Prelude.{◌≡◌, ◌++◌};
+ghost use Rattle.ks_history.specs.Map.{told};
+ghost use Rattle.ks_arena.specs.Clauses.{mine_of};
+ghost use Rattle.ks_arena_tests.specs.Gets.{get_events};
+ghost use Rattle.ks_arena.specs.Of.{IsEmptyPassOf};
+
+use ks_arena::laws::root_stays_law;
+use ks_arena::{Arena, Pass, root_law};
+use ks_flow::{Discipline, Tree};
+use ks_history::{Op, Reply};
+use ks_list::ListNode;
+use ks_node::{Next, Node};
+use std::sync::Wait;
+use std::thread::{Threads, join};
+
+/// What a get at node 0 came to.
+#[derive(Clone, Copy, Debug, PartialEq, Eq)]
+pub enum GetOutcome {
+    /// It is the call of that number, and found that value.
+    Decided { number: u64, found: Option<u128> },
+    /// An edge of the node carries the place.
+    Elsewhere,
+}
+
+/// The reply that tells what stood there.
+fn reply_of(found: Option<u128>) -> Reply
+    ensures { result ≡ told found }
+{
+    match found {
+        Some(value) => Reply::Value(value),
+        None => Reply::Nothing,
+    }
+}
+
+/// Takes node 0 once nobody else holds it, gets the value at the place as one call, and gives the node back.
+pub fn get_at_root<N: Node, D: Discipline, R: Wait>(
+    rt: &R,
+    arena: &Arena<N, D>,
+    pass: &mut Pass<N, D>,
+    place: u64,
+) -> GetOutcome
+    requires pass { IsEmptyPassOf arena.now pass.old }
+    ensures pass { IsEmptyPassOf arena.now pass.new }
+    ensures caller { pass.new.caller ≡ pass.old.caller }
+    ensures mine { mine_of pass.new ≡ get_events pass.old.caller place result ++ mine_of pass.old }
+{
+    root_stays_law::<D>();
+    let Some(held) = arena.take(rt, pass, 0) else {
+        unreachable!()
+    };
+    if let Next::Go(_) = held.body.next(place) {
+        arena.give(pass, held);
+        return GetOutcome::Elsewhere;
+    }
+    let found = held.body.get(place);
+    let reply = reply_of(found);
+    root_law(&held, place);
+    arena.get_law(pass, &held, place, &reply);
+    let number = arena.decide(pass, &held, Op::Get(place), reply);
+    arena.give(pass, held);
+    GetOutcome::Decided { number, found }
+}
+
+/// Gets the place at node 0, and gives the pass back with what it came to.
+pub fn look_up<N: Node, D: Discipline, R: Wait>(
+    rt: &R,
+    arena: &Arena<N, D>,
+    mut pass: Pass<N, D>,
+    place: u64,
+) -> (Pass<N, D>, GetOutcome)
+    requires { IsEmptyPassOf arena.now pass }
+    ensures pass { IsEmptyPassOf arena.now result.0 × (result.0.caller ≡ pass.caller) }
+    ensures mine { mine_of result.0 ≡ get_events pass.caller place result.1 ++ mine_of pass }
+{
+    let outcome = get_at_root(rt, arena, &mut pass, place);
+    (pass, outcome)
+}
+
+/// Both callers get the place at node 0 at once.
+pub fn both_get<R: Threads + Wait + Sync>(
+    rt: &R,
+    arena: &Arena<ListNode, Tree>,
+    one: Pass<ListNode, Tree>,
+    two: Pass<ListNode, Tree>,
+    place: u64,
+) -> (
+    (Pass<ListNode, Tree>, GetOutcome),
+    (Pass<ListNode, Tree>, GetOutcome),
+)
+    requires one { IsEmptyPassOf arena.now one }
+    requires two { IsEmptyPassOf arena.now two }
+    ensures one { IsEmptyPassOf arena.now result.0.0 × (result.0.0.caller ≡ one.caller) }
+    ensures two { IsEmptyPassOf arena.now result.1.0 × (result.1.0.caller ≡ two.caller) }
+    ensures events_of_one { mine_of result.0.0 ≡ get_events one.caller place result.0.1 ++ mine_of one }
+    ensures events_of_two { mine_of result.1.0 ≡ get_events two.caller place result.1.1 ++ mine_of two }
+{
+    join(
+        rt,
+        move || -> (Pass<ListNode, Tree>, GetOutcome)
+            requires { IsEmptyPassOf arena.now one }
+            ensures pass { IsEmptyPassOf arena.entry.now result.0 × (result.0.caller ≡ one.caller) }
+            ensures mine { mine_of result.0 ≡ get_events one.caller place result.1 ++ mine_of one }
+        { look_up(rt, arena, one, place) },
+        move || -> (Pass<ListNode, Tree>, GetOutcome)
+            requires { IsEmptyPassOf arena.now two }
+            ensures pass { IsEmptyPassOf arena.entry.now result.0 × (result.0.caller ≡ two.caller) }
+            ensures mine { mine_of result.0 ≡ get_events two.caller place result.1 ++ mine_of two }
+        { look_up(rt, arena, two, place) },
+    )
+}

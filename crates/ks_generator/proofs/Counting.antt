@@ -1,0 +1,62 @@
+-- Counts and sums with one list, and with one pair, more.
+use Rattle.std.proofs.Common.{ℕ, zero, suc, ◌≡◌, ◌<◌, ◌≤◌, ◌+◌, ◌*◌, ◌%◌, ◌^◌, List, [], ◌∷◌, ◌++◌, length, take, get_or, map, refl, sym, ◌∙◌, ap, subst, arith}
+use Rattle.std.specs.Prelude.{count_by}
+use Rattle.std.proofs.Math.Nat.{add-mod, mul_comm}
+use Rattle.std.proofs.lemmas.Nat.{mul-mod_first}
+use Rattle.std.proofs.lemmas.List.{map_more, take_more}
+use Rattle.ks_history.specs.declared.Op.{Op}
+use Rattle.ks_history.specs.declared.Reply.{Reply}
+use Rattle.ks_script.specs.Script.{calls_in}
+use Rattle.ks_generator.specs.declared.summing.Kind.{Kind}
+use Rattle.ks_generator.specs.Summary.{is_of, replies_of, sum_of}
+
+replies-append : (k : Kind) (xs ys : List (List (ℕ × Reply))) → replies_of k (xs ++ ys) ≡ replies_of k xs + replies_of k ys
+replies-append k [] ys = omega arith
+replies-append k (x ∷ xs) ys = let e = replies-append k xs ys in omega (arith, e)
+
+calls-append : (xs ys : List (List Op)) → calls_in (xs ++ ys) ≡ calls_in xs + calls_in ys
+calls-append [] ys = omega arith
+calls-append (x ∷ xs) ys = let e = calls-append xs ys in omega (arith, e)
+
+sum-append : (xs ys : List (ℕ × ℕ)) → sum_of (xs ++ ys) ≡ sum_of xs + sum_of ys
+sum-append [] ys = omega arith
+sum-append (x ∷ xs) ys = let e = sum-append xs ys in omega (arith, e)
+
+pub replies_more : {X : Type 0} (items : X → List (ℕ × Reply)) (k : Kind) (xs : List X) (i total n : ℕ) (d : X) → i < length xs → d ≡ get_or xs i d → n ≡ count_by (λ x. is_of k x.1) (items d) → total ≡ replies_of k (map items (take i xs)) → total + n ≡ replies_of k (map items (take (i + 1) xs))
+replies_more items k xs i total n d lt is is_n so_far =
+    let last : List (ℕ × Reply) = items (get_or xs i d) in
+    let e : replies_of k (map items (take (i + 1) xs)) ≡ replies_of k (map items (take i xs)) + replies_of k (last ∷ []) = ap (replies_of k) (map_more items xs i d lt) ∙ replies-append k (map items (take i xs)) (last ∷ []) in
+    let f : n ≡ replies_of k (last ∷ []) = is_n ∙ ap (λ x. count_by (λ (y : ℕ × Reply). is_of k y.1) (items x)) is ∙ plus_none (count_by (λ (y : ℕ × Reply). is_of k y.1) last) in
+    omega (arith, e, f, so_far)
+  where
+    plus_none : (n : ℕ) → n ≡ n + 0
+    plus_none n = omega arith
+
+pub calls_more : {X : Type 0} (items : X → List Op) (xs : List X) (i total n : ℕ) (d : X) → i < length xs → d ≡ get_or xs i d → n ≡ length (items d) → total ≡ calls_in (map items (take i xs)) → total + n ≡ calls_in (map items (take (i + 1) xs))
+calls_more items xs i total n d lt is is_n so_far =
+    let last : List Op = items (get_or xs i d) in
+    let e : calls_in (map items (take (i + 1) xs)) ≡ calls_in (map items (take i xs)) + calls_in (last ∷ []) = ap calls_in (map_more items xs i d lt) ∙ calls-append (map items (take i xs)) (last ∷ []) in
+    let f : n ≡ calls_in (last ∷ []) = is_n ∙ ap (λ x. length (items x)) is ∙ plus_none (length last) in
+    omega (arith, e, f, so_far)
+  where
+    plus_none : (n : ℕ) → n ≡ n + 0
+    plus_none n = omega arith
+
+mod_product : (a b : ℕ) → (a * (b % 2 ^ 64)) % 2 ^ 64 ≡ (a * b) % 2 ^ 64
+mod_product a b = ap (λ (n : ℕ). n % 2 ^ 64) (mul_comm a (b % 2 ^ 64)) ∙ mul-mod_first b a (2 ^ 64) ∙ ap (λ (n : ℕ). n % 2 ^ 64) (mul_comm b a)
+
+pub sum_more : (xs : List (ℕ × ℕ)) (i sum new : ℕ) → i < length xs → new ≡ (sum + ((get_or xs i (0, 0)).0 * ((get_or xs i (0, 0)).1 % 2 ^ 64)) % 2 ^ 64) % 2 ^ 64 → sum ≡ sum_of (take i xs) % 2 ^ 64 → new ≡ sum_of (take (i + 1) xs) % 2 ^ 64
+sum_more xs i sum new lt is so_far =
+    let a : ℕ = (get_or xs i (0, 0)).0 in
+    let b : ℕ = (get_or xs i (0, 0)).1 in
+    let s : ℕ = sum_of (take i xs) in
+    let whole : sum_of (take (i + 1) xs) ≡ s + (a * b + 0) = ap sum_of (take_more xs i (0, 0) lt) ∙ sum-append (take i xs) (get_or xs i (0, 0) ∷ []) in
+    is
+    ∙ ap (λ (n : ℕ). (n + (a * (b % 2 ^ 64)) % 2 ^ 64) % 2 ^ 64) so_far
+    ∙ ap (λ (n : ℕ). (s % 2 ^ 64 + n) % 2 ^ 64) (mod_product a b)
+    ∙ sym (add-mod s (a * b) (2 ^ 64))
+    ∙ ap (λ (n : ℕ). (s + n) % 2 ^ 64) (plus_none (a * b))
+    ∙ ap (λ (n : ℕ). n % 2 ^ 64) (sym whole)
+  where
+    plus_none : (n : ℕ) → n ≡ n + 0
+    plus_none n = omega arith

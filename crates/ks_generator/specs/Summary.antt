@@ -1,0 +1,50 @@
+-- The summary of a run.
+use Rattle.std.specs.Prelude.{ℕ, ◌≡◌, ◌+◌, ◌*◌, ◌%◌, ◌^◌, List, [], ◌∷◌, ◌++◌, length, Bool, true, false, count_by, codes}
+use Rattle.std.specs.Fmt.{decimal}
+use Rattle.ks_history.specs.declared.Op.{Op}
+use Rattle.ks_history.specs.declared.Reply.{Reply}
+use Rattle.ks_history.specs.declared.Reply.TheVariants.{Nothing, Value, Full}
+use Rattle.ks_script.specs.Script.{calls_in}
+use Rattle.ks_script.specs.Run.{Run}
+use Rattle.ks_generator.specs.declared.summing.Size.{Size}
+use Rattle.ks_generator.specs.declared.summing.Kind as kind
+use Rattle.ks_generator.specs.declared.summing.Kind.TheVariants as kinds
+
+-- the reply is of the kind
+abbrev pub is_of : kind.Kind → Reply → Bool
+is_of kinds.Found Nothing = false
+is_of kinds.Found (Value v) = true
+is_of kinds.Found Full = false
+is_of kinds.Missing Nothing = true
+is_of kinds.Missing (Value v) = false
+is_of kinds.Missing Full = false
+is_of kinds.NoRoom Nothing = false
+is_of kinds.NoRoom (Value v) = false
+is_of kinds.NoRoom Full = true
+
+-- how many replies of the kind the callers were given
+abbrev pub replies_of : kind.Kind → List (List (ℕ × Reply)) → ℕ
+replies_of k [] = 0
+replies_of k (lines ∷ rest) = count_by (λ x. is_of k x.1) lines + replies_of k rest
+
+-- the sum of each key times its value
+abbrev pub sum_of : List (ℕ × ℕ) → ℕ
+sum_of [] = 0
+sum_of (x ∷ xs) = x.0 * x.1 + sum_of xs
+
+-- seven lines of a word and a number
+abbrev pub lines_of_summary : (callers calls found none full pairs sum : ℕ) → List ℕ
+lines_of_summary callers calls found none full pairs sum =
+    codes "callers " ++ (decimal callers ++ (codes "\ncalls " ++ (decimal calls ++ (codes "\nfound " ++ (decimal found ++ (codes "\nnone " ++ (decimal none
+    ++ (codes "\nfull " ++ (decimal full ++ (codes "\npairs " ++ (decimal pairs ++ (codes "\nsum " ++ (decimal sum ++ codes "\n")))))))))))))
+
+-- the script has so many callers, and so many calls
+pub record IsSize (size : Size) (script : List (List Op)) : Type 0 where
+  pub callers : size.callers ≡ length script
+  pub calls : size.calls ≡ calls_in script
+
+-- the summary of a run of a script
+abbrev pub summary_text : List (List Op) → Run → List ℕ
+summary_text script run =
+    lines_of_summary (length script) (calls_in script) (replies_of kinds.Found run.callers) (replies_of kinds.Missing run.callers) (replies_of kinds.NoRoom run.callers)
+    (length run.pairs) (sum_of run.pairs % 2 ^ 64)

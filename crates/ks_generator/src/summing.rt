@@ -1,0 +1,152 @@
+//! The summary of a run: how many replies of each kind, and what the map came to.
+
+ghost use Rattle.std.specs.Prelude.{◌≡◌, ◌%◌, ◌^◌, List, length, ◌++◌, map, count_by, IfOk, OnOk};
+ghost use Rattle.std.specs.Fmt.{decimal};
+ghost use Rattle.ks_script.specs.Script.{calls_in};
+ghost use Rattle.ks_history.specs.declared.Op.{Op};
+ghost use Rattle.ks_generator.specs.Summary.{IsSize, is_of, replies_of, sum_of, summary_text, lines_of_summary};
+ghost use Rattle.ks_generator.specs.declared.summing.Kind.TheVariants as kinds;
+
+use itoa::Buffer;
+use ks_history::{Op, Reply};
+use ks_script::{Printed, Script};
+use std::alloc::{AllocError, Global};
+
+/// A kind of reply: a value, nothing, or that no node was free.
+#[derive(Clone, Copy, Debug, PartialEq, Eq)]
+pub enum Kind {
+    Found,
+    Missing,
+    NoRoom,
+}
+
+fn is_of(kind: Kind, reply: &Reply) -> bool
+    ensures { result ≡ is_of kind reply.now }
+{
+    match reply {
+        Reply::Nothing => kind == Kind::Missing,
+        Reply::Value(_) => kind == Kind::Found,
+        Reply::Full => kind == Kind::NoRoom,
+    }
+}
+
+fn replies_in(kind: Kind, lines: &[(u64, Reply)]) -> usize
+    ensures { result ≡ count_by (λ x. is_of kind x.1) lines.now }
+{
+    lines.iter().filter(|line| is_of(kind, &line.1)).count()
+}
+
+/// How many replies of the kind the callers were given.
+fn replies(kind: Kind, callers: &[Vec<(u64, Reply)>]) -> u128
+    ensures { result ≡ replies_of kind (map (λ v. v.items) callers.now) }
+{
+    let mut total = 0;
+    for lines in callers {
+        total += replies_in(kind, lines) as u128;
+    }
+    total
+}
+
+/// How many calls the callers have together.
+fn calls(callers: &[Vec<Op>]) -> u128
+    ensures { result ≡ calls_in (map (λ v. v.items) callers.now) }
+{
+    let mut total = 0;
+    for ops in callers {
+        total += ops.len() as u128;
+    }
+    total
+}
+
+/// The sum of each key times its value, by its lower 64 bits.
+fn sum(pairs: &[(u64, u128)]) -> u64
+    ensures { result ≡ sum_of pairs.now % 2 ^ 64 }
+{
+    let mut sum: u64 = 0;
+    for pair in pairs {
+        let value = (pair.1 % 18446744073709551616) as u64;
+        sum = sum.wrapping_add(pair.0.wrapping_mul(value));
+    }
+    sum
+}
+
+/// The numbers of a summary.
+#[derive(Clone, Copy, Debug)]
+struct Counts {
+    callers: usize,
+    calls: u128,
+    found: u128,
+    none: u128,
+    full: u128,
+    pairs: usize,
+    sum: u64,
+}
+
+/// Appends a word and a number.
+fn put(text: &mut Vec<u8>, word: &[u8], number: u128) -> Result<(), AllocError>
+    ensures { OnOk result (text.new.items ≡ text.old.items ++ (word.now ++ decimal number)) }
+{
+    text.extend_from_slice(word)?;
+    text.extend_from_slice(Buffer::new().format(number).as_bytes())
+}
+
+fn text(alloc: Global, counts: &Counts) -> Result<Vec<u8>, AllocError>
+    ensures { IfOk result (λ text. text.items ≡ lines_of_summary counts.now.callers counts.now.calls counts.now.found counts.now.none counts.now.full counts.now.pairs counts.now.sum) }
+{
+    let mut text = Vec::new(alloc);
+    put(&mut text, b"callers ", counts.callers as u128)?;
+    put(&mut text, b"\ncalls ", counts.calls)?;
+    put(&mut text, b"\nfound ", counts.found)?;
+    put(&mut text, b"\nnone ", counts.none)?;
+    put(&mut text, b"\nfull ", counts.full)?;
+    put(&mut text, b"\npairs ", counts.pairs as u128)?;
+    put(&mut text, b"\nsum ", u128::from(counts.sum))?;
+    text.extend_from_slice(b"\n")?;
+    Ok(text)
+}
+
+/// How many callers a script has, and how many calls they have together.
+#[derive(Clone, Copy, Debug, PartialEq, Eq)]
+pub struct Size {
+    callers: usize,
+    calls: u128,
+}
+
+impl Size {
+    pub fn of(script: &Script) -> Size
+        ensures { IsSize result script.now }
+    {
+        Size {
+            callers: script.callers.len(),
+            calls: calls(&script.callers),
+        }
+    }
+}
+
+/// The text of the summary of a run, of a script of this size.
+pub fn summary(alloc: Global, size: Size, printed: &Printed) -> Result<Vec<u8>, AllocError>
+    ensures { (script : List (List Op)) → IsSize size script → IfOk result (λ text. text.items ≡ summary_text script printed.now) }
+{
+    let summary = count(size, &printed.callers, &printed.pairs);
+    text(alloc, &summary)
+}
+
+fn count(size: Size, lines: &[Vec<(u64, Reply)>], pairs: &[(u64, u128)]) -> Counts
+    ensures callers { result.callers ≡ size.callers }
+    ensures calls { result.calls ≡ size.calls }
+    ensures found { result.found ≡ replies_of kinds.Found (map (λ v. v.items) lines.now) }
+    ensures none { result.none ≡ replies_of kinds.Missing (map (λ v. v.items) lines.now) }
+    ensures full { result.full ≡ replies_of kinds.NoRoom (map (λ v. v.items) lines.now) }
+    ensures pairs { result.pairs ≡ length pairs.now }
+    ensures sum { result.sum ≡ sum_of pairs.now % 2 ^ 64 }
+{
+    Counts {
+        callers: size.callers,
+        calls: size.calls,
+        found: replies(Kind::Found, lines),
+        none: replies(Kind::Missing, lines),
+        full: replies(Kind::NoRoom, lines),
+        pairs: pairs.len(),
+        sum: sum(pairs),
+    }
+}

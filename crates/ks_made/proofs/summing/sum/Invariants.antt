@@ -1,6 +1,0 @@
-use Rattle.std.proofs.Common.{◌≡◌, ◌%◌, ◌^◌, take}
-use Rattle.ks_made.specs.Summary.{sum_of}
-use Rattle.ks_made.proofs.summing.sum.Given as goal
-
-abbrev pub invariant-loop-pair : goal.invariant-loop-pair
-invariant-loop-pair l = l.sum ≡ sum_of (take l.pair-index l.pairs) % 2 ^ 64
