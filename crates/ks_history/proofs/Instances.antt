@@ -38,8 +38,8 @@ use Rattle.ks_history.specs.Laws.Begins.{begins_self, begins_append, begins_both
 use Rattle.ks_history.specs.Laws.Calls.{done_calls, left_calls}
 use Rattle.ks_history.specs.Laws.Dues.{none_free_by, none_free_but, full_due_earlier, full_due_later}
 use Rattle.ks_history.specs.Laws.Beside.{spare_others, moved_due}
-use Rattle.ks_history.specs.Descent.{IsDeep, the_node, target}
-use Rattle.ks_history.specs.Laws.Descent.{HeldUnder, deep_at_root, deep_freeing}
+use Rattle.ks_history.specs.Descent.{IsDeep}
+use Rattle.ks_history.specs.Laws.Descent.{HeldUnder, the_node, target, deep_at_root, deep_freeing}
 use Rattle.ks_history.specs.Laws.Stays.{AreInTurn, cond_here, cond_else}
 
 -- a Full with one node free all the while is refused

@@ -12,8 +12,8 @@ use Rattle.ks_keysets.specs.declared.Change.{Change}
 use Rattle.ks_keysets.specs.Keyset.{live_record, record_at, IsLive}
 use Rattle.ks_keysets.specs.Laws.Found.{KeepsEdges}
 use Rattle.ks_keysets.specs.Walk.{OneParent}
-use Rattle.ks_keysets.specs.Deep.{Deep, absent, itself, onward}
-use Rattle.ks_keysets.specs.Laws.Deep.{Under, KeptAbove, deep_root, deep_next, deep_fewer, deep_along, deep_above, deep_freed, deep_bound}
+use Rattle.ks_keysets.specs.Deep.{Deep}
+use Rattle.ks_keysets.specs.Laws.Deep.{Under, absent, itself, onward, KeptAbove, deep_root, deep_next, deep_fewer, deep_along, deep_above, deep_freed, deep_bound}
 use Rattle.ks_history.specs.declared.Op.{Op}
 use Rattle.ks_history.specs.declared.Event.{Event}
 use Rattle.ks_history.specs.declared.Event.TheVariants.{Take, Give, Claim, Shape, Call}
