@@ -57,7 +57,7 @@ impl Node for BNode {
     ghost use Rattle.ks_keysets.specs.declared.Kind.TheVariants.{Inner};
     ghost use Rattle.ks_node.specs.Body.{Body};
     ghost use Rattle.ks_bplus.specs.Bplus.{bplus_body, bplus_can_adopt, bplus_cut};
-    ghost use Rattle.ks_bplus.specs.Fits.{fit_held, fit_adopting, no_range};
+    ghost use Rattle.ks_bplus.specs.Laws.Fits.{fit_held, fit_adopting, no_range};
 
     type Places = Plain;
 
@@ -284,7 +284,7 @@ impl Unlinked for BNode {
 
 impl Growing for BNode {
     ghost use Rattle.std.specs.Prelude.{refl};
-    ghost use Rattle.ks_bplus.specs.Fits.{fit_few};
+    ghost use Rattle.ks_bplus.specs.Laws.Fits.{fit_few};
 
     ghost grows_where = { λ n h. refl };
 

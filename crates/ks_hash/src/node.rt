@@ -2,7 +2,7 @@
 //!
 //! A bucket may have an edge of its own, to the node that took over its upper places. A directory has no pair: its
 //! slices cover all places. Pairs, own edge and the room for 64 slices lie behind one allocation that `blank` makes, so
-//! a body moves by a few words, and turning a bucket into a directory or back allocates nothing.
+//! a body moves by a few words, and turning a bucket into a directory or back needs no allocator.
 
 ghost use Rattle.std.proofs.Props.{props};
 ghost use Rattle.ks_hash.specs.Hash.{Fit};
@@ -65,8 +65,8 @@ impl Node for HNode {
     ghost use Rattle.ks_keysets.specs.declared.Kind.TheVariants.{Directory};
     ghost use Rattle.ks_node.specs.Body.{Body};
     ghost use Rattle.ks_hash.specs.Hash.{hash_body, hash_can_adopt, hash_grows, hash_can_grow, hash_cut, hash_span};
-    ghost use Rattle.ks_hash.specs.Fits.{fit_held, no_range};
-    ghost use Rattle.ks_node.specs.Starts.{differ};
+    ghost use Rattle.ks_hash.specs.Laws.Fits.{fit_held, no_range};
+    ghost use Rattle.ks_node.specs.Laws.Starts.{differ};
 
     type Places = Golden;
 
@@ -256,7 +256,7 @@ impl Node for HNode {
 impl Unlinked for HNode {
     ghost use Rattle.std.specs.Prelude.{refl};
     ghost use Rattle.std.proofs.Common.{inl};
-    ghost use Rattle.ks_hash.specs.Fits.{fit_adopts};
+    ghost use Rattle.ks_hash.specs.Laws.Fits.{fit_adopts};
 
     ghost no_link = { λ n. refl };
 
@@ -308,7 +308,7 @@ impl Unlinked for HNode {
 }
 
 impl Growing for HNode {
-    ghost use Rattle.ks_hash.specs.Fits.{fit_grows, fit_few};
+    ghost use Rattle.ks_hash.specs.Laws.Fits.{fit_grows, fit_few};
 
     ghost grows_where = { λ n h. fit_grows n.fit h };
 

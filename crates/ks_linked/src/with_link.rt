@@ -29,7 +29,8 @@ pub struct WithLink<N: Growing> {
 impl<N: Growing> Node for WithLink<N> {
     ghost use Rattle.std.specs.Prelude.{Some, true, false, refl};
     ghost use Rattle.ks_node.specs.Body.{Body, content_of};
-    ghost use Rattle.ks_linked.specs.Link.{linked, adopts_linked, branches_linked, framed_linked};
+    ghost use Rattle.ks_linked.specs.Link.{linked, adopts_linked};
+    ghost use Rattle.ks_linked.specs.Laws.Link.{branches_linked, framed_linked};
 
     type Places = N::Places;
 

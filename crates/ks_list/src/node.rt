@@ -27,7 +27,7 @@ impl Node for ListNode {
     ghost use Rattle.ks_keysets.specs.declared.Kind.TheVariants.{Inner};
     ghost use Rattle.ks_keysets.specs.Layout.{list_layout};
     ghost use Rattle.ks_list.specs.Listed.{list_body, list_can_adopt, list_cut};
-    ghost use Rattle.ks_list.specs.Fits.{fit_held, no_range, differ};
+    ghost use Rattle.ks_list.specs.Laws.Fits.{fit_held, no_range, differ};
 
     type Places = Plain;
 
@@ -194,7 +194,7 @@ impl Node for ListNode {
 impl Unlinked for ListNode {
     ghost use Rattle.std.specs.Prelude.{◌≡◌, refl};
     ghost use Rattle.std.proofs.Common.{inl};
-    ghost use Rattle.ks_list.specs.Fits.{fit_adopts};
+    ghost use Rattle.ks_list.specs.Laws.Fits.{fit_adopts};
 
     ghost no_link = { λ n. refl };
 

@@ -35,8 +35,9 @@ impl<N: Unlinked> Node for WithRange<N> {
     ghost use Rattle.std.specs.Prelude.{Some, true, false, refl};
     ghost use Rattle.ks_node.specs.Body.{Body, content_of};
     ghost use Rattle.ks_node.specs.Effect.{with_range};
-    ghost use Rattle.ks_node.specs.Within.{framed_with};
-    ghost use Rattle.ks_node.specs.Wrapped.{adopts_ranged, adopts_inner, branches_inside};
+    ghost use Rattle.ks_node.specs.Laws.Within.{framed_with};
+    ghost use Rattle.ks_node.specs.Wrapped.{adopts_ranged};
+    ghost use Rattle.ks_node.specs.Laws.Wrapped.{adopts_inner, branches_inside};
 
     type Places = N::Places;
 
@@ -186,7 +187,7 @@ impl<N: Unlinked> Node for WithRange<N> {
 impl<N: Unlinked> Unlinked for WithRange<N> {
     ghost use Rattle.std.specs.Prelude.{refl};
     ghost use Rattle.std.proofs.Common.{inl, inr};
-    ghost use Rattle.ks_node.specs.Wrapped.{adopts_its_cut};
+    ghost use Rattle.ks_node.specs.Laws.Wrapped.{adopts_its_cut};
 
     ghost no_link = { λ s. N.no_link s.node };
 

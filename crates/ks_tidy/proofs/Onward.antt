@@ -23,7 +23,7 @@ use Rattle.ks_arena.specs.declared.held.Held.{Held as Hand}
 use Rattle.ks_arena.specs.Sound.{Sort, blank_of}
 use Rattle.ks_arena.specs.Clauses.{Matches}
 use Rattle.ks_shape.specs.Laws.Single.{record_is, shown}
-use Rattle.ks_shape.specs.OnWay.{ends_unbranched}
+use Rattle.ks_shape.specs.Laws.OnWay.{ends_unbranched}
 use Rattle.ks_put.specs.declared.path.Path.{Path}
 use Rattle.ks_put.specs.OnPath.{IsUnder, numbers}
 use Rattle.ks_tidy.specs.Frees.{Frees, Counts, Undisturbed}

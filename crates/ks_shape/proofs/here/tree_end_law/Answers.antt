@@ -1,7 +1,7 @@
 use Rattle.std.proofs.Common.{arith}
 use Rattle.ks_arena.specs.Sound.{sort_of}
 use Rattle.ks_arena.specs.Clauses.{seen_of}
-use Rattle.ks_shape.specs.OnWay.{ends_here}
+use Rattle.ks_shape.specs.Laws.OnWay.{ends_here}
 use Rattle.ks_shape.proofs.here.tree_end_law.Goals as goal
 
 pub returns : goal.returns
