@@ -37,9 +37,32 @@ pub(crate) fn two_callers<N: Node, T: Ruled + Template<N, Arena<N, <T as Ruled>:
     Ok((dictionary, one, two))
 }
 
-/// Puts the keys below `many` as their own value. Tells whether none had a value, and the numbers went from 0 up.
-pub(crate) fn put_below<N: Node, T: Ruled + Template<N, Arena<N, <T as Ruled>::Rule>>, R: Wait>(
+/// Puts `many` keys from `first` on as their own value. Tells whether none had a value, and the numbers went up from `number`.
+pub(crate) fn put_each<N: Node, T: Ruled + Template<N, Arena<N, <T as Ruled>::Rule>>, R: Wait>(
     rt: &R,
+    dictionary: &Dictionary<N, T>,
+    pass: &mut Pass<N, T::Rule>,
+    number: u64,
+    first: u64,
+    many: u64,
+) -> bool
+    requires pass { IsIdle (⟦<Dictionary<N, T> as Shelf>⟧.site dictionary.now) pass.old }
+    ensures pass { IsIdle (⟦<Dictionary<N, T> as Shelf>⟧.site dictionary.now) pass.new }
+    ensures caller { pass.new.caller ≡ pass.old.caller }
+{
+    let mut right = true;
+    for count in 0..many {
+        let key = first.wrapping_add(count);
+        right = match dictionary.put(rt, pass, &NoGate, key, u128::from(key)) {
+            Ok(told) => right && told.found.is_none() && told.number == number.wrapping_add(count),
+            Err(_) => false,
+        };
+    }
+    right
+}
+
+/// Deletes the keys below `many`, which have themselves as their value, by tries. Tells whether none was put off.
+pub(crate) fn try_del_below<N: Node, T: Ruled + Template<N, Arena<N, <T as Ruled>::Rule>>>(
     dictionary: &Dictionary<N, T>,
     pass: &mut Pass<N, T::Rule>,
     many: u64,
@@ -50,8 +73,8 @@ pub(crate) fn put_below<N: Node, T: Ruled + Template<N, Arena<N, <T as Ruled>::R
 {
     let mut right = true;
     for key in 0..many {
-        right = match dictionary.put(rt, pass, &NoGate, key, u128::from(key)) {
-            Ok(told) => right && told.found.is_none() && told.number == key,
+        right = match dictionary.try_del(pass, &NoGate, key) {
+            Ok(told) => right && told.found == Some(u128::from(key)),
             Err(_) => false,
         };
     }

@@ -2,7 +2,7 @@
 ghost use Rattle.ks_arena.specs.Of.{IsEmptyPassOf};
 ghost use Rattle.ks_shape.specs.Idle.{IsIdle};
 
-use crate::crews::{LONG, put_below, told, two_callers};
+use crate::crews::{LONG, put_each, told, two_callers};
 use ks_arena::Pass;
 use ks_bplus::BNode;
 use ks_coupling::Coupling;
@@ -62,7 +62,7 @@ fn get_beside<R: Threads + Wait + Sync>(
 #[test]
 fn a_leaf_that_another_caller_holds_is_busy(rt: HostRuntime) -> Result<(), Fail> {
     let (dictionary, mut one, two) = two_callers::<BNode, Coupling>(rt.alloc(), 64)?;
-    assert!(rt; put_below(&rt, &dictionary, &mut one, 17));
+    assert!(rt; put_each(&rt, &dictionary, &mut one, 0, 0, 17));
     let gate = Meet::of(0, 0, Point::Given(0), 1, LONG);
     let (got, (mut two, tried)) = get_beside(&rt, &dictionary, &gate, one, two);
     assert!(rt; !gate.failed());
@@ -119,7 +119,7 @@ fn put_beside<R: Threads + Wait + Sync>(
 #[test]
 fn a_leaf_that_another_caller_splits_has_moved(rt: HostRuntime) -> Result<(), Fail> {
     let (dictionary, mut one, two) = two_callers::<WithRange<BNode>, GiveUp>(rt.alloc(), 64)?;
-    assert!(rt; put_below(&rt, &dictionary, &mut one, 24));
+    assert!(rt; put_each(&rt, &dictionary, &mut one, 0, 0, 24));
     let gate = Meet::of(1, 0, Point::Given(0), 0, LONG);
     let (put, (mut two, tried)) = put_beside(&rt, &dictionary, &gate, one, two);
     assert!(rt; !gate.failed());

@@ -1,5 +1,5 @@
 //! Calls that wait for nobody, of one caller alone: none is put off.
-use crate::crews::{put_below, told, two_callers};
+use crate::crews::{put_each, told, try_del_below, two_callers};
 use ks_bplus::BNode;
 use ks_coupling::Coupling;
 use ks_gate::NoGate;
@@ -12,7 +12,7 @@ use std::test::Fail;
 #[test]
 fn one_caller_is_never_put_off_by_lock_coupling(rt: HostRuntime) -> Result<(), Fail> {
     let (dictionary, mut pass, _) = two_callers::<BNode, Coupling>(rt.alloc(), 4)?;
-    assert!(rt; put_below(&rt, &dictionary, &mut pass, 32));
+    assert!(rt; put_each(&rt, &dictionary, &mut pass, 0, 0, 32));
     assert!(rt; dictionary.try_get(&mut pass, &NoGate, 31) == told(32, Some(31)));
     assert!(rt; dictionary.try_swap(&mut pass, &NoGate, 31, 31, 1) == told(33, Some(31)));
     assert!(rt; dictionary.try_swap(&mut pass, &NoGate, 31, 31, 2) == told(34, Some(1)));
@@ -24,7 +24,7 @@ fn one_caller_is_never_put_off_by_lock_coupling(rt: HostRuntime) -> Result<(), F
 #[test]
 fn one_caller_is_never_put_off_by_giving_up(rt: HostRuntime) -> Result<(), Fail> {
     let (dictionary, mut pass, _) = two_callers::<WithRange<BNode>, GiveUp>(rt.alloc(), 4)?;
-    assert!(rt; put_below(&rt, &dictionary, &mut pass, 32));
+    assert!(rt; put_each(&rt, &dictionary, &mut pass, 0, 0, 32));
     assert!(rt; dictionary.try_get(&mut pass, &NoGate, 31) == told(32, Some(31)));
     assert!(rt; dictionary.try_swap(&mut pass, &NoGate, 31, 31, 1) == told(33, Some(31)));
     assert!(rt; dictionary.try_del(&mut pass, &NoGate, 31) == told(34, Some(1)));
@@ -34,9 +34,28 @@ fn one_caller_is_never_put_off_by_giving_up(rt: HostRuntime) -> Result<(), Fail>
 #[test]
 fn one_caller_is_never_put_off_along_links(rt: HostRuntime) -> Result<(), Fail> {
     let (dictionary, mut pass, _) = two_callers::<WithLink<BNode>, LinkMove>(rt.alloc(), 4)?;
-    assert!(rt; put_below(&rt, &dictionary, &mut pass, 32));
+    assert!(rt; put_each(&rt, &dictionary, &mut pass, 0, 0, 32));
     assert!(rt; dictionary.try_get(&mut pass, &NoGate, 31) == told(32, Some(31)));
     assert!(rt; dictionary.try_swap(&mut pass, &NoGate, 31, 31, 1) == told(33, Some(31)));
     assert!(rt; dictionary.try_del(&mut pass, &NoGate, 31) == told(34, Some(1)));
+    Ok(())
+}
+
+/// Dels by tries merge nodes: what they made free is claimed again.
+#[test]
+fn four_nodes_are_used_again_by_lock_coupling(rt: HostRuntime) -> Result<(), Fail> {
+    let (dictionary, mut pass, _) = two_callers::<BNode, Coupling>(rt.alloc(), 4)?;
+    assert!(rt; put_each(&rt, &dictionary, &mut pass, 0, 0, 32));
+    assert!(rt; try_del_below(&dictionary, &mut pass, 32));
+    assert!(rt; put_each(&rt, &dictionary, &mut pass, 64, 100, 32));
+    Ok(())
+}
+
+#[test]
+fn four_nodes_are_used_again_by_giving_up(rt: HostRuntime) -> Result<(), Fail> {
+    let (dictionary, mut pass, _) = two_callers::<WithRange<BNode>, GiveUp>(rt.alloc(), 4)?;
+    assert!(rt; put_each(&rt, &dictionary, &mut pass, 0, 0, 32));
+    assert!(rt; try_del_below(&dictionary, &mut pass, 32));
+    assert!(rt; put_each(&rt, &dictionary, &mut pass, 64, 100, 32));
     Ok(())
 }
