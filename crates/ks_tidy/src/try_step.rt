@@ -95,19 +95,21 @@ fn try_merge_child<N: Unlinked, G: Gate>(
     ensures stretch { IsStretch pass.old pass.new }
     ensures frees { MakesFree (count_in result) pass.old pass.new }
 {
-    if let Some(right) = node.body.chained() {
-        let path = Path {
-            parent: Some(parent),
-            node,
-        };
-        return try_merge_own(arena, pass, gate, place, path, right);
-    }
-    match parent.body.right_of(place) {
-        Some(right) => try_merge_beside(arena, pass, gate, place, parent, node, right),
-        None => Step::Rests(Path {
-            parent: Some(parent),
-            node,
-        }),
+    match node.body.chained() {
+        Some(right) => {
+            let path = Path {
+                parent: Some(parent),
+                node,
+            };
+            try_merge_own(arena, pass, gate, place, path, right)
+        }
+        None => match parent.body.right_of(place) {
+            Some(right) => try_merge_beside(arena, pass, gate, place, parent, node, right),
+            None => Step::Rests(Path {
+                parent: Some(parent),
+                node,
+            }),
+        },
     }
 }
 
@@ -134,8 +136,13 @@ fn try_tidy_root<N: Unlinked, G: Gate>(
         node: root,
     };
     match right {
-        Some(right) if low => try_merge_own(arena, pass, gate, place, path, right),
-        _ => Step::Rests(path),
+        Some(right) => {
+            if low {
+                return try_merge_own(arena, pass, gate, place, path, right);
+            }
+            Step::Rests(path)
+        }
+        None => Step::Rests(path),
     }
 }
 
