@@ -1,13 +1,12 @@
 -- How a search that keeps the parent goes down by a try.
-use Rattle.std.proofs.Common.{◌≡◌, ◌∙◌, ◌≤◌, ◌++◌, ℕ, List, [], ◌∷◌, length, arith, refl, sym, ap, subst, inl, inr}
+use Rattle.std.proofs.Common.{◌≡◌, ◌∙◌, ◌++◌, ℕ, List, [], ◌∷◌, length, arith, refl, sym, ap, subst, inl, inr}
 use Rattle.std.specs.Prelude.{Some}
 use Rattle.ks_keysets.specs.declared.Record.{Record}
 use Rattle.ks_keysets.specs.Record.{LeadsTo}
 use Rattle.ks_keysets.specs.Keyset.{record_at, InInset, along}
 use Rattle.ks_history.specs.declared.Event.{Event}
 use Rattle.ks_history.specs.declared.Event.TheVariants.{Take}
-use Rattle.ks_history.specs.declared.Op.{Op}
-use Rattle.ks_history.specs.Done.{Template, from_above, MayTake}
+use Rattle.ks_history.specs.Done.{from_above}
 use Rattle.ks_history.specs.Laws.Begins.{with_others}
 use Rattle.ks_history.specs.Laws.Hand.{is_hand}
 use Rattle.ks_history.specs.Laws.Stays.{AreInTurn}

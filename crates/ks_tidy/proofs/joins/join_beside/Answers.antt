@@ -1,7 +1,5 @@
-use Rattle.std.proofs.Common.{◌≡◌, ◌≢◌, ◌∙◌, ℕ, suc, List, [], ◌∷◌, length, arith, refl, sym, ap, subst, inl, inr}
+use Rattle.std.proofs.Common.{◌≡◌, ◌∙◌, ℕ, suc, List, [], ◌∷◌, length, arith, refl, sym, ap, subst, inl, inr}
 use Rattle.std.specs.Prelude.{Some, None}
-use Rattle.ks_keysets.specs.declared.Frame.{Frame}
-use Rattle.ks_keysets.specs.declared.NodeState.{NodeState}
 use Rattle.ks_keysets.specs.Keyset.{InInset}
 use Rattle.ks_keysets.specs.Record.{LeadsTo}
 use Rattle.ks_keysets.specs.Layout.{FitsNoRight}

@@ -1,11 +1,12 @@
-use Rattle.std.proofs.Common.{◌≡◌, ◌∙◌, ℕ, true, List, length, arith, refl, sym, ap, subst, inl, inr}
-use Rattle.std.specs.Prelude.{Some, None}
-use Rattle.ks_history.specs.Trace.{hand, graph_after}
+use Rattle.std.proofs.Common.{◌∙◌, ℕ, true, List, length, arith, refl, sym, ap, subst, inl, inr}
+use Rattle.std.specs.Prelude.{Some}
+use Rattle.ks_history.specs.Trace.{graph_after}
 use Rattle.ks_history.specs.Passes.{Has}
 use Rattle.ks_arena.specs.Sound.{sort_of}
 use Rattle.ks_arena.specs.Clauses.{seen_of}
 use Rattle.ks_shape.specs.Laws.Places.{places_both}
 use Rattle.ks_shape.specs.Laws.Stretches.{stretches_as, stretches_both}
+use Rattle.ks_put.specs.declared.path.Path.{Path}
 use Rattle.ks_put.specs.Laws.Search.{Laws}
 use Rattle.ks_tidy.specs.Laws.Frees.{frees_take}
 use Rattle.ks_tidy.specs.Pair.{DidStep, IsPair, IsTrio, path_in}
@@ -45,6 +46,6 @@ returns-clause-stretch g c = let me : ℕ = c.args.pass.now.caller in let h = se
     stretches_both me h h₁ k c.take_led-right.ensures.stretch (stretches_as me c.take_led-right.new.pass.caller h₁ k c.take_led-right.ensures.caller c.join_beside.ensures.stretch)
 
 pub returns-clause-step : goal.returns-clause-step
-returns-clause-step g c = let sort = sort_of g.N.Node.layout g.N.Node.ranged in let me : ℕ = c.args.pass.now.caller in let h = seen_of c.args.pass.now in let h₁ = seen_of c.take_led-right.new.pass in let k = seen_of c.join_beside.new.pass in let path = record { parent = Some c.args.parent; node = c.args.node } in let r = c.join_beside.result in
+returns-clause-step g c = let sort = sort_of g.N.Node.layout g.N.Node.ranged in let me : ℕ = c.args.pass.now.caller in let h = seen_of c.args.pass.now in let h₁ = seen_of c.take_led-right.new.pass in let k = seen_of c.join_beside.new.pass in let path : Path g.row.N.Denot = record { parent = Some c.args.parent; node = c.args.node } in let r = c.join_beside.result in
     did_after sort g.N.Node.body me h h₁ k path r (frees_take me c.args.target h h₁ c.take_led-right.ensures.took.grows)
     (subst (λ (z : ℕ). DidStep sort g.N.Node.body z h₁ k true path r) c.take_led-right.ensures.caller c.join_beside.ensures.step)

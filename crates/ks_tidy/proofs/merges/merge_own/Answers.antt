@@ -1,6 +1,6 @@
-use Rattle.std.proofs.Common.{◌≡◌, ◌∙◌, ℕ, true, List, refl, sym, ap, subst, inl, inr}
-use Rattle.std.specs.Prelude.{Some, None}
-use Rattle.ks_history.specs.Trace.{hand, graph_after}
+use Rattle.std.proofs.Common.{◌∙◌, ℕ, true, List, refl, sym, ap, subst, inl}
+use Rattle.std.specs.Prelude.{Some}
+use Rattle.ks_history.specs.Trace.{graph_after}
 use Rattle.ks_history.specs.Passes.{Has}
 use Rattle.ks_arena.specs.Sound.{sort_of}
 use Rattle.ks_arena.specs.Clauses.{hand_of, seen_of}

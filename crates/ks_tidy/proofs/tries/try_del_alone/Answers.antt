@@ -1,22 +1,16 @@
-use Rattle.std.proofs.Common.{◌≡◌, ◌≢◌, ◌∙◌, ℕ, true, false, List, [], ◌∷◌, length, arith, refl, sym, ap, subst, inl}
-use Rattle.ks_history.specs.Alone.{ActsAlone}
-use Rattle.ks_history.specs.Laws.Alone.{alone_first, alone_then}
-use Rattle.ks_history.specs.Laws.Begins.{begins_both, with_begins}
+use Rattle.std.proofs.Common.{◌≡◌, ◌∙◌, ℕ, List, [], ◌∷◌, length, arith, refl, sym, ap, subst, inl}
+use Rattle.ks_history.specs.Laws.Begins.{begins_both}
 use Rattle.ks_history.specs.Passes.{Has, GrowsWith}
-use Rattle.ks_history.specs.Trace.{hand, drop_one, graph_after, frame_after}
+use Rattle.ks_history.specs.Trace.{hand}
 use Rattle.ks_history.specs.declared.Event.TheVariants.{Give}
 use Rattle.ks_history.specs.declared.Op.{Op}
 use Rattle.ks_history.specs.declared.Op.TheVariants.{Del}
 use Rattle.ks_history.specs.Map.{told}
-use Rattle.ks_keysets.specs.Keyset.{InKeyset}
-use Rattle.ks_arena.specs.Sound.{blank_of, sort_of}
 use Rattle.ks_arena.specs.Clauses.{seen_of}
 use Rattle.ks_shape.specs.Laws.Single.{gave_last}
 use Rattle.ks_shape.specs.Stretches.{Stretches}
 use Rattle.ks_shape.specs.Laws.Stretches.{stretches_as, stretches_both, stretches_begins, stretches_give}
 use Rattle.ks_tidy.specs.Laws.Deciding.{decided_on}
-use Rattle.ks_tidy.specs.Laws.Frees.{frees_give, undisturbed_same}
-use Rattle.ks_tidy.proofs.Standing.{plain, stands_now}
 use Rattle.ks_tidy.proofs.tries.try_del_alone.Given.{Over}
 use Rattle.ks_tidy.proofs.tries.try_del_alone.Goals as goal
 use Rattle.ks_tidy.proofs.tries.try_del_alone.Goals.{After-give}

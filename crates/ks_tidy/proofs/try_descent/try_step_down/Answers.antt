@@ -1,4 +1,4 @@
-use Rattle.std.proofs.Common.{◌≡◌, ◌∙◌, ℕ, List, length, arith, refl, sym, ap, subst, inl}
+use Rattle.std.proofs.Common.{ℕ, List, length, arith, refl, sym, ap, subst, inl}
 use Rattle.ks_history.specs.Passes.{Has, GrowsWith}
 use Rattle.ks_history.specs.declared.Event.TheVariants.{Give}
 use Rattle.ks_arena.specs.Sound.{sort_of}

@@ -1,6 +1,5 @@
-use Rattle.std.proofs.Common.{◌≡◌, ◌∙◌, ℕ, true, List, length, arith, refl, sym, ap, subst, inl, inr}
-use Rattle.std.specs.Prelude.{Some, None}
-use Rattle.ks_history.specs.Trace.{hand}
+use Rattle.std.proofs.Common.{◌∙◌, ℕ, true, List, length, arith, refl, sym, ap, subst, inl, inr}
+use Rattle.std.specs.Prelude.{Some}
 use Rattle.ks_history.specs.Passes.{Has}
 use Rattle.ks_arena.specs.Sound.{sort_of}
 use Rattle.ks_arena.specs.Clauses.{seen_of}

@@ -1,4 +1,4 @@
-use Rattle.std.proofs.Common.{◌≡◌, ◌∙◌, ℕ, length, arith, sym, ap}
+use Rattle.std.proofs.Common.{◌∙◌, ℕ, length, arith, ap}
 use Rattle.std.specs.Prelude.{Some}
 use Rattle.ks_history.specs.Trace.{graph_after, frame_after}
 use Rattle.ks_arena.specs.Sound.{blank_of, sort_of}

@@ -4,11 +4,11 @@ use Rattle.ks_shape.specs.Laws.Stretches.{stretches_here}
 use Rattle.ks_tidy.specs.Laws.Frees.{frees_here}
 use Rattle.ks_tidy.proofs.try_step.try_tidy_root.Goals as goal
 
-pub returns-in-Some-clause-stretch : goal.returns-in-Some-clause-stretch
-returns-in-Some-clause-stretch g c = stretches_here c.args.pass.now.caller (seen_of c.args.pass.now) (omega (arith, ap length c.requires.pair.path.hands))
+pub returns-else-low-clause-stretch : goal.returns-else-low-clause-stretch
+returns-else-low-clause-stretch g c = stretches_here c.args.pass.now.caller (seen_of c.args.pass.now) (omega (arith, ap length c.requires.pair.path.hands))
 
-pub returns-in-Some-clause-frees : goal.returns-in-Some-clause-frees
-returns-in-Some-clause-frees g c = frees_here c.args.pass.now.caller (seen_of c.args.pass.now)
+pub returns-else-low-clause-frees : goal.returns-else-low-clause-frees
+returns-else-low-clause-frees g c = frees_here c.args.pass.now.caller (seen_of c.args.pass.now)
 
 pub returns-in-None-clause-stretch : goal.returns-in-None-clause-stretch
 returns-in-None-clause-stretch g c = stretches_here c.args.pass.now.caller (seen_of c.args.pass.now) (omega (arith, ap length c.requires.pair.path.hands))
