@@ -104,6 +104,20 @@ module _ {N D P : Type 0} {n : NodeGhosts N P} {q : PlacingGhosts P} {d : Discip
   abbrev pub StayCurrentBesides : Arena N D P n q d → List Change → Pass N D → Pass N D → Type 0
   StayCurrentBesides a changes p p' = StillMatchBesides (sort_of n.layout n.ranged) n.body changes (hand_of p) (seen_of p) (seen_of p')
 
+  -- the rest is as it was: what the pass holds stays, and bodies in hand that were current still are; all but node i; all
+  -- but the nodes that the changes name
+  pub record RestStays (a : Arena N D P n q d) (p p' : Pass N D) : Type 0 where
+    pub kept : Keeps p p'
+    pub still : StayCurrent a p p'
+
+  pub record RestStaysBut (a : Arena N D P n q d) (i : ℕ) (p p' : Pass N D) : Type 0 where
+    pub kept : KeepsBut i p p'
+    pub still : StayCurrentBut a i p p'
+
+  pub record RestStaysBesides (a : Arena N D P n q d) (changes : List Change) (p p' : Pass N D) : Type 0 where
+    pub kept : KeepsBesides changes p p'
+    pub still : StayCurrentBesides a changes p p'
+
   -- what a try to take node i tells; what a take tells, which waits; and what a claim tells
   abbrev pub TriedToTake : Arena N D P n q d → ℕ → Pass N D → Pass N D → Taken N → Type 0
   TriedToTake a i p p' taken = TryTook (sort_of n.layout n.ranged) n.body p.caller i (seen_of p) (seen_of p') taken

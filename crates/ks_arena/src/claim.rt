@@ -5,7 +5,7 @@ ghost use Rattle.ks_arena.specs.Rule.{free_words};
 ghost use Rattle.ks_arena.specs.Plays.{TellsFree};
 ghost use Rattle.ks_arena.specs.declared.view.Mark.TheVariants.{Claiming};
 ghost use Rattle.ks_arena.specs.Clauses.{seen_of, TryClaimed, claim_mark, try_steps, DidClaimIn, word_steps, steps_alone};
-ghost use Rattle.ks_arena.specs.Of.{Holds, Looks, Keeps, WasAlone, HeldAlone, IsPassOf, IsMarkedPassOf, StayCurrent, HasTakenFrom, HasClaimedFrom};
+ghost use Rattle.ks_arena.specs.Of.{Holds, Looks, Keeps, WasAlone, HeldAlone, IsPassOf, IsMarkedPassOf, HasTakenFrom, HasClaimedFrom, RestStays};
 
 use crate::arena::Arena;
 use crate::held::{Held, Pass, Taken};
@@ -28,8 +28,7 @@ impl<N: Node, D: Discipline> Arena<N, D> {
         ensures pass { IsPassOf self.now pass.new }
         ensures caller { pass.new.caller ≡ pass.old.caller }
         ensures took { HasTakenFrom self.now node pass.old pass.new result }
-        ensures kept { Keeps pass.old pass.new }
-        ensures still { StayCurrent self.now pass.old pass.new }
+        ensures rest { RestStays self.now pass.old pass.new }
     {
         let backoff = Backoff::new();
         for _ in rt.forever() {
@@ -48,8 +47,7 @@ impl<N: Node, D: Discipline> Arena<N, D> {
         ensures pass { IsPassOf self.now pass.new }
         ensures caller { pass.new.caller ≡ pass.old.caller }
         ensures claimed { HasClaimedFrom self.now pass.old pass.new result }
-        ensures kept { Keeps pass.old pass.new }
-        ensures still { StayCurrent self.now pass.old pass.new }
+        ensures rest { RestStays self.now pass.old pass.new }
     {
         self.claim_counted::<Brand>(pass, Blank::new(1))
     }
@@ -62,8 +60,7 @@ impl<N: Node, D: Discipline> Arena<N, D> {
         ensures pass { IsPassOf self.now pass.new }
         ensures caller { pass.new.caller ≡ pass.old.caller }
         ensures claimed { HasClaimedFrom self.now pass.old pass.new result }
-        ensures kept { Keeps pass.old pass.new }
-        ensures still { StayCurrent self.now pass.old pass.new }
+        ensures rest { RestStays self.now pass.old pass.new }
     {
         self.claim_steps(pass, &mut Steps::<L>::start(blank))
     }
@@ -80,8 +77,7 @@ impl<N: Node, D: Discipline> Arena<N, D> {
         ensures pass { IsPassOf self.now pass.new }
         ensures caller { pass.new.caller ≡ pass.old.caller }
         ensures claimed { HasClaimedFrom self.now pass.old pass.new result }
-        ensures kept { Keeps pass.old pass.new }
-        ensures still { StayCurrent self.now pass.old pass.new }
+        ensures rest { RestStays self.now pass.old pass.new }
         ensures cost { WasAlone pass.old pass.new → HeldAlone pass.old → steps.new ≡ steps.old + steps_alone self.now.nodes result }
         ensures bound { WasAlone pass.old pass.new → HeldAlone pass.old → steps.new ≤ steps.old + free_words self.now.nodes + 2 }
         ensures one { self.now.callers ≡ 1 → pass.old.caller ≡ 0 → steps.new ≡ steps.old + steps_alone self.now.nodes result }
@@ -200,8 +196,7 @@ impl<N: Node, D: Discipline> Arena<N, D> {
         ensures pass { IsPassOf self.now pass.new }
         ensures caller { pass.new.caller ≡ pass.old.caller }
         ensures looked { Looks pass.old pass.new }
-        ensures kept { Keeps pass.old pass.new }
-        ensures still { StayCurrent self.now pass.old pass.new }
+        ensures rest { RestStays self.now pass.old pass.new }
         ensures cost { steps.new ≡ steps.old + 1 }
     {
         steps.tick();

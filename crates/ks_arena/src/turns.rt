@@ -4,7 +4,7 @@ ghost use Rattle.ks_arena.specs.declared.view.Mark.TheVariants.{Freeing};
 ghost use Rattle.ks_history.specs.Trace.{drop_one};
 ghost use Rattle.ks_history.specs.declared.Event.TheVariants.{Call, Give, Shape};
 ghost use Rattle.ks_arena.specs.Clauses.{give_mark, hand_of, mine_of, AllAmong, EachOnce, changes_of};
-ghost use Rattle.ks_arena.specs.Of.{Holds, Adds, AddsCall, Looks, Keeps, KeepsBut, KeepsBesides, IsPassOf, IsMarkedPassOf, IsCurrent, StayCurrent, StayCurrentBut, StayCurrentBesides, TriedToTake, IsReadyAt, AreCurrent, MayBecome};
+ghost use Rattle.ks_arena.specs.Of.{Holds, Adds, AddsCall, Looks, KeepsBut, IsPassOf, IsMarkedPassOf, IsCurrent, TriedToTake, IsReadyAt, AreCurrent, MayBecome, RestStays, RestStaysBut, RestStaysBesides};
 
 use crate::arena::Arena;
 use crate::held::{Held, Pass, Taken};
@@ -31,8 +31,7 @@ impl<N: Node, D: Discipline> Arena<N, D> {
         ensures pass { IsPassOf self.now pass.new }
         ensures caller { pass.new.caller ≡ pass.old.caller }
         ensures took { TriedToTake self.now node pass.old pass.new result }
-        ensures kept { Keeps pass.old pass.new }
-        ensures still { StayCurrent self.now pass.old pass.new }
+        ensures rest { RestStays self.now pass.old pass.new }
     {
         let at = node as usize;
         let shared = &self.table.shared;
@@ -68,8 +67,7 @@ impl<N: Node, D: Discipline> Arena<N, D> {
         ensures gave { Adds (Give pass.old.caller held.node) pass.old pass.new }
         ensures hand { hand_of pass.new ≡ drop_one held.node (hand_of pass.old) }
         ensures mine { mine_of pass.new ≡ Give pass.old.caller held.node ∷ mine_of pass.old }
-        ensures kept { KeepsBut held.node pass.old pass.new }
-        ensures still { StayCurrentBut self.now held.node pass.old pass.new }
+        ensures rest { RestStaysBut self.now held.node pass.old pass.new }
     {
         if held.live {
             self.put_back(pass, held);
@@ -86,8 +84,7 @@ impl<N: Node, D: Discipline> Arena<N, D> {
         ensures pass { IsMarkedPassOf self.now (Freeing node) pass.new }
         ensures caller { pass.new.caller ≡ pass.old.caller }
         ensures looked { Looks pass.old pass.new }
-        ensures kept { Keeps pass.old pass.new }
-        ensures still { StayCurrent self.now pass.old pass.new }
+        ensures rest { RestStays self.now pass.old pass.new }
     {
         let word = self.nodes as usize + 2 + node as usize / 64;
         self.table
@@ -130,8 +127,7 @@ impl<N: Node, D: Discipline> Arena<N, D> {
         ensures hand { hand_of pass.new ≡ hand_of pass.old }
         ensures mine { mine_of pass.new ≡ Call pass.old.caller held.now.node op reply ∷ mine_of pass.old }
         ensures body { IsCurrent self.now pass.new held.now }
-        ensures kept { KeepsBut held.now.node pass.old pass.new }
-        ensures still { StayCurrentBut self.now held.now.node pass.old pass.new }
+        ensures rest { RestStaysBut self.now held.now.node pass.old pass.new }
     {
         self.count::<Brand>(pass, held, op, reply)
     }
@@ -147,8 +143,7 @@ impl<N: Node, D: Discipline> Arena<N, D> {
         ensures hand { hand_of pass.new ≡ hand_of pass.old }
         ensures mine { mine_of pass.new ≡ Call pass.old.caller held.now.node op reply ∷ mine_of pass.old }
         ensures body { IsCurrent self.now pass.new held.now }
-        ensures kept { KeepsBut held.now.node pass.old pass.new }
-        ensures still { StayCurrentBut self.now held.now.node pass.old pass.new }
+        ensures rest { RestStaysBut self.now held.now.node pass.old pass.new }
     {
         D::laws();
         walks_law();
@@ -175,8 +170,7 @@ impl<N: Node, D: Discipline> Arena<N, D> {
         ensures hand { hand_of pass.new ≡ hand_of pass.old }
         ensures mine { mine_of pass.new ≡ Shape pass.old.caller (changes_of N.body first.now second.entry third.entry) ∷ mine_of pass.old }
         ensures bodies { AreCurrent self.now pass.new first.now second.entry third.entry }
-        ensures kept { KeepsBesides (changes_of N.body first.now second.entry third.entry) pass.old pass.new }
-        ensures still { StayCurrentBesides self.now (changes_of N.body first.now second.entry third.entry) pass.old pass.new }
+        ensures rest { RestStaysBesides self.now (changes_of N.body first.now second.entry third.entry) pass.old pass.new }
     {
         self.form::<Brand>(pass, first, second, third);
     }
@@ -199,8 +193,7 @@ impl<N: Node, D: Discipline> Arena<N, D> {
         ensures hand { hand_of pass.new ≡ hand_of pass.old }
         ensures mine { mine_of pass.new ≡ Shape pass.old.caller (changes_of N.body first.now second.entry third.entry) ∷ mine_of pass.old }
         ensures bodies { AreCurrent self.now pass.new first.now second.entry third.entry }
-        ensures kept { KeepsBesides (changes_of N.body first.now second.entry third.entry) pass.old pass.new }
-        ensures still { StayCurrentBesides self.now (changes_of N.body first.now second.entry third.entry) pass.old pass.new }
+        ensures rest { RestStaysBesides self.now (changes_of N.body first.now second.entry third.entry) pass.old pass.new }
     {
         self.table
             .shared

@@ -1,6 +1,6 @@
 //! A claim in an arena of several free words, with its steps counted.
 ghost use Rattle.std.specs.Prelude.{◌≡◌, ◌+◌, ◌≤◌, None};
-ghost use Rattle.ks_arena.specs.Of.{Keeps, IsPassOf, StayCurrent, HasClaimedFrom};
+ghost use Rattle.ks_arena.specs.Of.{IsPassOf, HasClaimedFrom, RestStays};
 
 use ks_arena::{Arena, Held, Pass, Steps};
 use ks_flow::Discipline;
@@ -20,8 +20,7 @@ pub fn claim_of_many<N: Node, D: Discipline, L: Ledger>(
     ensures pass { IsPassOf arena.now pass.new }
     ensures caller { pass.new.caller ≡ pass.old.caller }
     ensures claimed { HasClaimedFrom arena.now pass.old pass.new result }
-    ensures kept { Keeps pass.old pass.new }
-    ensures still { StayCurrent arena.now pass.old pass.new }
+    ensures rest { RestStays arena.now pass.old pass.new }
     ensures cost { steps.new ≤ steps.old + 6 }
     ensures none { result ≡ None → steps.new ≡ steps.old + 4 }
 {

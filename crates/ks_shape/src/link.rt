@@ -9,7 +9,7 @@ ghost use Rattle.ks_node.specs.Asks.{CanSplitAt, IsCut};
 ghost use Rattle.ks_bodies.specs.Links as shapes;
 ghost use Rattle.ks_arena.specs.Sound.{sort_of, blank_of};
 ghost use Rattle.ks_arena.specs.Clauses.{hand_of, mine_of, seen_of};
-ghost use Rattle.ks_arena.specs.Of.{Adds, KeepsBesides, IsPassOf, StayCurrentBesides};
+ghost use Rattle.ks_arena.specs.Of.{Adds, IsPassOf, RestStaysBesides};
 ghost use Rattle.ks_shape.specs.Of.{IsLiveInHand, IsFreeInHand, HasBecome, IsLedTo, splits_right, grows_right, attaches_to};
 
 use ks_arena::laws::sound_law;
@@ -40,8 +40,7 @@ pub fn split_right<N: Linked>(
     ensures mine { mine_of pass.new ≡ Shape pass.old.caller (splits_right arena.now node.old right.old cut) ∷ mine_of pass.old }
     ensures node { HasBecome arena.now pass.new (shapes.split_linked cut right.old.node (N.body node.old.body)) node.old node.new }
     ensures right { HasBecome arena.now pass.new (right_part cut (N.body node.old.body)) right.old right.new }
-    ensures kept { KeepsBesides (splits_right arena.now node.old right.old cut) pass.old pass.new }
-    ensures still { StayCurrentBesides arena.now (splits_right arena.now node.old right.old cut) pass.old pass.new }
+    ensures rest { RestStaysBesides arena.now (splits_right arena.now node.old right.old cut) pass.old pass.new }
 {
     sound_law::<Link>();
     link_steps_law();
@@ -83,8 +82,7 @@ pub fn grow_right<N: Linked>(
     ensures left { HasBecome arena.now pass.new (shapes.split_linked cut right.old.node (N.body node.old.body)) left.old left.new }
     ensures right { HasBecome arena.now pass.new (with_link None (right_part cut (N.body node.old.body))) right.old right.new }
     ensures led { IsLedTo arena.now pass.new left.old.node × IsLedTo arena.now pass.new right.old.node }
-    ensures kept { KeepsBesides (grows_right arena.now node.old left.old right.old cut) pass.old pass.new }
-    ensures still { StayCurrentBesides arena.now (grows_right arena.now node.old left.old right.old cut) pass.old pass.new }
+    ensures rest { RestStaysBesides arena.now (grows_right arena.now node.old left.old right.old cut) pass.old pass.new }
 {
     sound_law::<Link>();
     link_asks_law();
@@ -123,8 +121,7 @@ pub fn attach<N: Linked>(
     ensures mine { mine_of pass.new ≡ Shape pass.old.caller (attaches_to arena.now node.old id cut) ∷ mine_of pass.old }
     ensures node { HasBecome arena.now pass.new (adopted cut id (N.body node.old.body)) node.old node.new }
     ensures led { IsLedTo arena.now pass.new id }
-    ensures kept { KeepsBesides (attaches_to arena.now node.old id cut) pass.old pass.new }
-    ensures still { StayCurrentBesides arena.now (attaches_to arena.now node.old id cut) pass.old pass.new }
+    ensures rest { RestStaysBesides arena.now (attaches_to arena.now node.old id cut) pass.old pass.new }
 {
     sound_law::<Link>();
     link_asks_law();

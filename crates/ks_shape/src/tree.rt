@@ -9,7 +9,7 @@ ghost use Rattle.ks_node.specs.Effect.{split_left, split_right, grown, adopted, 
 ghost use Rattle.ks_node.specs.Asks.{CanSplitAt};
 ghost use Rattle.ks_bodies.specs.Shapes as shapes;
 ghost use Rattle.ks_arena.specs.Clauses.{hand_of, mine_of};
-ghost use Rattle.ks_arena.specs.Of.{IsInside, Adds, KeepsBesides, IsPassOf, StayCurrentBesides};
+ghost use Rattle.ks_arena.specs.Of.{IsInside, Adds, IsPassOf, RestStaysBesides};
 ghost use Rattle.ks_shape.specs.Of.{IsLiveInHand, IsFreeInHand, HasBecome, HasBecomeFree, splits_own, splits_under, grows_to, HasPlaces, absorbs_own, absorbs_under, collapses_to};
 
 use ks_arena::laws::sound_law;
@@ -41,8 +41,7 @@ pub fn split_own<N: Unlinked>(
     ensures right { HasBecome arena.now pass.new (split_right cut (N.body node.old.body)) right.old right.new }
     ensures parts { (p : ℕ) → IsInside pass.old node.old.node p →
         IsInside pass.new node.old.node p × (cut ≤ p → LeadsTo (record_of (shapes.split_on cut right.old.node (N.body node.old.body))) p right.old.node × IsInside pass.new right.old.node p) }
-    ensures kept { KeepsBesides (splits_own arena.now node.old right.old cut) pass.old pass.new }
-    ensures still { StayCurrentBesides arena.now (splits_own arena.now node.old right.old cut) pass.old pass.new }
+    ensures rest { RestStaysBesides arena.now (splits_own arena.now node.old right.old cut) pass.old pass.new }
 {
     sound_law::<Tree>();
     tree_asks_law();
@@ -89,8 +88,7 @@ pub fn split_under<N: Unlinked>(
     ensures parts { (p : ℕ) → IsInside pass.old node.old.node p →
         (p < cut → LeadsTo (record_of (adopted cut right.old.node (N.body parent.old.body))) p node.old.node × IsInside pass.new node.old.node p)
         × (cut ≤ p → LeadsTo (record_of (adopted cut right.old.node (N.body parent.old.body))) p right.old.node × IsInside pass.new right.old.node p) }
-    ensures kept { KeepsBesides (splits_under arena.now parent.old node.old right.old cut) pass.old pass.new }
-    ensures still { StayCurrentBesides arena.now (splits_under arena.now parent.old node.old right.old cut) pass.old pass.new }
+    ensures rest { RestStaysBesides arena.now (splits_under arena.now parent.old node.old right.old cut) pass.old pass.new }
 {
     sound_law::<Tree>();
     tree_asks_law();
@@ -136,8 +134,7 @@ pub fn grow<N: Unlinked>(
     ensures parts { (p : ℕ) → IsInside pass.old node.old.node p →
         (p < cut → LeadsTo (record_of (grown N.branch_kind cut left.old.node right.old.node (N.body node.old.body))) p left.old.node × IsInside pass.new left.old.node p)
         × (cut ≤ p → LeadsTo (record_of (grown N.branch_kind cut left.old.node right.old.node (N.body node.old.body))) p right.old.node × IsInside pass.new right.old.node p) }
-    ensures kept { KeepsBesides (grows_to arena.now node.old left.old right.old cut) pass.old pass.new }
-    ensures still { StayCurrentBesides arena.now (grows_to arena.now node.old left.old right.old cut) pass.old pass.new }
+    ensures rest { RestStaysBesides arena.now (grows_to arena.now node.old left.old right.old cut) pass.old pass.new }
 {
     sound_law::<Tree>();
     tree_asks_law();
@@ -174,8 +171,7 @@ pub fn absorb_own<N: Unlinked>(
     ensures mine { mine_of pass.new ≡ Shape pass.old.caller (absorbs_own arena.now node.old right.old) ∷ mine_of pass.old }
     ensures node { HasBecome arena.now pass.new (absorbed (N.body node.old.body) (N.body right.old.body)) node.old node.new }
     ensures right { HasBecomeFree arena.now pass.new right.old right.new }
-    ensures kept { KeepsBesides (absorbs_own arena.now node.old right.old) pass.old pass.new }
-    ensures still { StayCurrentBesides arena.now (absorbs_own arena.now node.old right.old) pass.old pass.new }
+    ensures rest { RestStaysBesides arena.now (absorbs_own arena.now node.old right.old) pass.old pass.new }
     ensures places { HasPlaces node.old.node node.old.node pass.old pass.new }
 {
     sound_law::<Tree>();
@@ -216,8 +212,7 @@ pub fn absorb_under<N: Unlinked>(
     ensures parent { HasBecome arena.now pass.new (forgot right.old.node (N.body parent.old.body)) parent.old parent.new }
     ensures node { HasBecome arena.now pass.new (absorbed (N.body node.old.body) (N.body right.old.body)) node.old node.new }
     ensures right { HasBecomeFree arena.now pass.new right.old right.new }
-    ensures kept { KeepsBesides (absorbs_under arena.now parent.old node.old right.old) pass.old pass.new }
-    ensures still { StayCurrentBesides arena.now (absorbs_under arena.now parent.old node.old right.old) pass.old pass.new }
+    ensures rest { RestStaysBesides arena.now (absorbs_under arena.now parent.old node.old right.old) pass.old pass.new }
     ensures places { HasPlaces node.old.node node.old.node pass.old pass.new }
     ensures leads { (p : ℕ) → IsInside pass.old node.old.node p → LeadsTo (record_of (forgot right.old.node (N.body parent.old.body))) p node.old.node }
 {
@@ -256,8 +251,7 @@ pub fn collapse<N: Unlinked>(
     ensures mine { mine_of pass.new ≡ Shape pass.old.caller (collapses_to arena.now node.old child.old) ∷ mine_of pass.old }
     ensures node { HasBecome arena.now pass.new (collapsed (N.body node.old.body) (N.body child.old.body)) node.old node.new }
     ensures child { HasBecomeFree arena.now pass.new child.old child.new }
-    ensures kept { KeepsBesides (collapses_to arena.now node.old child.old) pass.old pass.new }
-    ensures still { StayCurrentBesides arena.now (collapses_to arena.now node.old child.old) pass.old pass.new }
+    ensures rest { RestStaysBesides arena.now (collapses_to arena.now node.old child.old) pass.old pass.new }
     ensures places { HasPlaces child.old.node node.old.node pass.old pass.new }
 {
     sound_law::<Tree>();

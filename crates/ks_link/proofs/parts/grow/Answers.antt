@@ -75,7 +75,7 @@ module _ (g : Over) (c : After-give g) where
   stays x y b is other has has' = record {
     has = subst (λ (z : ℕ). Has (hand_of c.give.new.pass) z) (sym is.node) (subst (λ (z : List ℕ). Has z x.node) (sym hand_is) has');
     live = is.live;
-    matches = c.give.ensures.still y (λ e. other (sym is.node ∙ e ∙ c.grow_right.ensures.node.node)) (subst (λ (z : ℕ). Has (hand_of c.grow_right.new.pass) z) (sym is.node) (subst (λ (z : List ℕ). Has z x.node) (sym (c.grow_right.ensures.hand ∙ c.requires.hand.0)) has)) is.matches;
+    matches = c.give.ensures.rest.still y (λ e. other (sym is.node ∙ e ∙ c.grow_right.ensures.node.node)) (subst (λ (z : ℕ). Has (hand_of c.grow_right.new.pass) z) (sym is.node) (subst (λ (z : List ℕ). Has z x.node) (sym (c.grow_right.ensures.hand ∙ c.requires.hand.0)) has)) is.matches;
   }
 
 pub keep_half-half-requires-clause-left : goal.keep_half-half-requires-clause-left

@@ -86,11 +86,11 @@ places_took g c law = let me : ℕ = c.args.pass.now.caller in let i : ℕ = c.a
     (subst (λ (z : List ℕ). Has z i) (sym c.requires.pair.path.hands) (inl refl)) (subst (λ (z : List ℕ). Has z i) (sym (took_hands g c)) (inr (inl refl)))
 
 still_took : (g : Over) (c : After-take_led-right g) → Matches (sort_of g.N.Node.layout g.N.Node.ranged) g.N.Node.body (seen_of c.take_led-right.new.pass) c.args.node
-still_took g c = let path = c.requires.pair.path in c.take_led-right.ensures.still c.args.node (subst (λ (z : List ℕ). Has z c.args.node.node) (sym path.hands) (inl refl)) path.matches
+still_took g c = let path = c.requires.pair.path in c.take_led-right.ensures.rest.still c.args.node (subst (λ (z : List ℕ). Has z c.args.node.node) (sym path.hands) (inl refl)) path.matches
 
 -- the parent shows what it did
 parent_took : (g : Over) (c : After-take_led-right g) → Matches (sort_of g.N.Node.layout g.N.Node.ranged) g.N.Node.body (seen_of c.take_led-right.new.pass) c.args.parent
-parent_took g c = let path = c.requires.pair.path in c.take_led-right.ensures.still c.args.parent (subst (λ (z : List ℕ). Has z c.args.parent.node) (sym path.hands) (inr (inl refl))) path.under.matches
+parent_took g c = let path = c.requires.pair.path in c.take_led-right.ensures.rest.still c.args.parent (subst (λ (z : List ℕ). Has z c.args.parent.node) (sym path.hands) (inr (inl refl))) path.under.matches
 
 -- both fit
 
@@ -202,8 +202,8 @@ returns-clause-stretch g c = let me : ℕ = c.args.pass.now.caller in let h = se
 fits_none : (g : Over) (c : After-keep_left-2 g) → Laws (sort_of g.N.Node.layout g.N.Node.ranged) c.args.arena.now.table.shared.table_id.slots → FitsNoRight g.N.Node.layout (graph_after (seen_of c.take_led-right.new.pass)) (frame_after (blank_of (sort_of g.N.Node.layout g.N.Node.ranged)) (seen_of c.take_led-right.new.pass)) c.args.node.node
 fits_none g c law = let sort = sort_of g.N.Node.layout g.N.Node.ranged in let h₁ = seen_of c.take_led-right.new.pass in let x = c.args.node in let right = c.take_led-right.result in let e = c.take_led-right.ensures in let path = c.requires.pair.path in
     let g₁ : ℕ → NodeState = graph_after h₁ in let f₁ : ℕ → Frame = frame_after (blank_of sort) h₁ in let no_link = c.unlinked_law.ensures.no_link in
-    let u : Body = g.N.Node.body c.args.parent.body in let above_still = e.still c.args.parent (subst (λ (z : List ℕ). Has z c.args.parent.node) (sym path.hands) (inr (inl refl))) path.under.matches in
-    let still = e.still x (subst (λ (z : List ℕ). Has z x.node) (sym path.hands) (inl refl)) path.matches in
+    let u : Body = g.N.Node.body c.args.parent.body in let above_still = e.rest.still c.args.parent (subst (λ (z : List ℕ). Has z c.args.parent.node) (sym path.hands) (inr (inl refl))) path.under.matches in
+    let still = e.rest.still x (subst (λ (z : List ℕ). Has z x.node) (sym path.hands) (inl refl)) path.matches in
     c.alone_law.ensures.beside g.N.Node.layout g₁ f₁ c.args.parent.node x.node right.node c.args.place u (g.N.Node.body x.body) (g.N.Node.body right.body) (law.facts h₁ e.pass.sound)
     (stands_now sort g.N.Node.body h₁ c.args.parent path.under.live above_still (plain u c.node_law.ensures.sound c.node_law.ensures.framed (no_link c.args.parent.body)))
     (stands_now sort g.N.Node.body h₁ x path.live still (plain (g.N.Node.body x.body) c.node_law-2.ensures.sound c.node_law-2.ensures.framed (no_link x.body)))

@@ -72,11 +72,11 @@ places_took g c law = let me : ℕ = c.args.pass.now.caller in let i : ℕ = c.a
     (subst (λ (z : List ℕ). Has z i) (sym c.requires.pair.path.hands) (inl refl)) (subst (λ (z : List ℕ). Has z i) (sym (took_hands g c)) (inr (inl refl)))
 
 still_took : (g : Over) (c : After-take_led-next g) → Matches (sort_of g.N.Node.layout g.N.Node.ranged) g.N.Node.body (seen_of c.take_led-next.new.pass) c.args.path.node
-still_took g c = let path = c.requires.pair.path in c.take_led-next.ensures.still c.args.path.node (subst (λ (z : List ℕ). Has z c.args.path.node.node) (sym path.hands) (inl refl)) path.matches
+still_took g c = let path = c.requires.pair.path in c.take_led-next.ensures.rest.still c.args.path.node (subst (λ (z : List ℕ). Has z c.args.path.node.node) (sym path.hands) (inl refl)) path.matches
 
 -- the parent shows what it did
 parent_took : (g : Over) (c : After-take_led-next g) (y : Hand g.row.N.Denot) → c.args.path.parent ≡ Some y → Matches (sort_of g.N.Node.layout g.N.Node.ranged) g.N.Node.body (seen_of c.args.pass.now) y → Matches (sort_of g.N.Node.layout g.N.Node.ranged) g.N.Node.body (seen_of c.take_led-next.new.pass) y
-parent_took g c y e m = c.take_led-next.ensures.still y (parent_has c.args.path.node.node c.args.path.parent (hand c.args.pass.now.caller (seen_of c.args.pass.now)) c.requires.pair.path.hands y e) m
+parent_took g c y e m = c.take_led-next.ensures.rest.still y (parent_has c.args.path.node.node c.args.path.parent (hand c.args.pass.now.caller (seen_of c.args.pass.now)) c.requires.pair.path.hands y e) m
 
 -- both fit
 
@@ -95,7 +95,7 @@ keep_left-requires-clause-under g c = let at = goal.at.keep_left-requires-clause
     let once : AreOnce (j ∷ numbers o) = once_in sort n me (laws g at.After-node_law) h (j ∷ numbers o) c.requires.pass.sound c.requires.pair.path.hands in
     let has : (y : Hand g.row.N.Denot) → o ≡ Some y → Has (hand me h) y.node = parent_has j o (hand me h) c.requires.pair.path.hands in
     under_with sort g.N.Node.body c.args.place c.args.path.node c.absorb_own.new.node h (seen_of c.absorb_own.new.pass) o e.node.node c.requires.pair.rooted
-    (λ y is m. e.still y (parent_apart j o once y is, ((λ same. took.fresh (subst (Has (hand me h)) (same ∙ took.node) (has y is))), tt))
+    (λ y is m. e.rest.still y (parent_apart j o once y is, ((λ same. took.fresh (subst (Has (hand me h)) (same ∙ took.node) (has y is))), tt))
     (subst (λ (z : ℕ). Has (hand z h₁) y.node) (sym c.take_led-next.ensures.caller) (subst (λ (z : List ℕ). Has z y.node) (sym took.hand) (inr (has y is)))) (parent_took g at.After-take_led-next y is m))
     c.requires.pair.path.under
 
@@ -183,7 +183,7 @@ returns-clause-stretch g c = let me : ℕ = c.args.pass.now.caller in let h = se
 fits_none : (g : Over) (c : After-keep_left-2 g) → Laws (sort_of g.N.Node.layout g.N.Node.ranged) c.args.arena.now.table.shared.table_id.slots → FitsNoRight g.N.Node.layout (graph_after (seen_of c.take_led-next.new.pass)) (frame_after (blank_of (sort_of g.N.Node.layout g.N.Node.ranged)) (seen_of c.take_led-next.new.pass)) c.args.path.node.node
 fits_none g c law = let sort = sort_of g.N.Node.layout g.N.Node.ranged in let h₁ = seen_of c.take_led-next.new.pass in let x = c.args.path.node in let right = c.take_led-next.result in let e = c.take_led-next.ensures in let path = c.requires.pair.path in
     let g₁ : ℕ → NodeState = graph_after h₁ in let f₁ : ℕ → Frame = frame_after (blank_of sort) h₁ in let no_link = c.unlinked_law.ensures.no_link in
-    let still = e.still x (subst (λ (z : List ℕ). Has z x.node) (sym path.hands) (inl refl)) path.matches in
+    let still = e.rest.still x (subst (λ (z : List ℕ). Has z x.node) (sym path.hands) (inl refl)) path.matches in
     c.alone_law.ensures.own g.N.Node.layout g₁ f₁ x.node right.node (g.N.Node.body x.body) (g.N.Node.body right.body)
     (stands_now sort g.N.Node.body h₁ x path.live still (plain (g.N.Node.body x.body) c.node_law.ensures.sound c.node_law.ensures.framed (no_link x.body)))
     (stands_now sort g.N.Node.body h₁ right e.took.live e.took.matches (plain (g.N.Node.body right.body) c.node_law-2.ensures.sound c.node_law-2.ensures.framed (no_link right.body)))

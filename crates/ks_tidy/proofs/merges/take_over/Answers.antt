@@ -54,7 +54,7 @@ give-requires-clause-holds g c κs within = let h₁ = seen_of c.collapse.new.pa
 pub returns-clause-pair : goal.returns-clause-pair
 returns-clause-pair g c = let at = goal.at.returns-clause-pair g c in let me : ℕ = c.args.pass.now.caller in let h₁ = seen_of c.collapse.new.pass in let k = seen_of c.give.new.pass in let e = c.collapse.ensures in let sort = sort_of g.N.Node.layout g.N.Node.ranged in
     let zero : c.collapse.new.node.node ≡ 0 = e.node.node ∙ c.requires.root in
-    let still = c.give.ensures.still c.collapse.new.node (λ same. apart g at.After-search_law (sym e.node.node ∙ same ∙ e.child.node))
+    let still = c.give.ensures.rest.still c.collapse.new.node (λ same. apart g at.After-search_law (sym e.node.node ∙ same ∙ e.child.node))
     (subst (λ (z : List ℕ). Has z c.collapse.new.node.node) (sym (c.collapse.ensures.hand ∙ c.requires.pair.path.hands)) (inr (inl (sym e.node.node)))) e.node.matches in
     record {
       path = record {

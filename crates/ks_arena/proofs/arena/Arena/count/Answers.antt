@@ -14,7 +14,8 @@ use Rattle.ks_arena.specs.Plays.{decided}
 use Rattle.ks_arena.proofs.Moves.{decides_ok}
 use Rattle.ks_arena.proofs.Ready.{may_call}
 use Rattle.ks_arena.proofs.Hold.{holds_it, makes_grows}
-use Rattle.ks_arena.proofs.After.{still, matches_live, pass_again, Counted, counted, stays_then}
+use Rattle.ks_arena.proofs.After.{matches_live, pass_again, Counted, counted, stays_then}
+use Rattle.ks_arena.proofs.Rest.{rest_but}
 use Rattle.ks_arena.proofs.arena.Arena.count.Given.{Over}
 use Rattle.ks_arena.proofs.arena.Arena.count.Goals as goal
 use Rattle.ks_arena.proofs.arena.Arena.count.Goals.{After-fetch_add}
@@ -57,9 +58,6 @@ returns-clause-body g c = let a = after g c in let i : ℕ = c.args.held.now.nod
           (cond_here i i (state_with (written o y) (graph_after h i)) (graph_after h i) refl ∙ ap (state_with (written o y)) k.state ∙ c.requires.ready.state) (k.frame (blank_of (sort_of g.N.Node.layout g.N.Node.ranged)) ∙ c.requires.ready.frame);
     }
 
-pub returns-clause-kept : goal.returns-clause-kept
-returns-clause-kept g c = λ j ne x. let a = after g c in let i : ℕ = c.args.held.now.node in let h : List Event = a.grows.rest ++ c.args.pass.now.seat.me.0.seen in let k = a.before j x in
-    subst (StaysHeld c.args.pass.now.caller j c.args.pass.now.seat.me.0.seen) (sym a.grows.is) (stays_then c.args.pass.now.caller (event g c) c.args.pass.now.seat.me.0.seen h j k k.turn (cond_else j i (state_with (written c.args.op c.args.reply) (graph_after h i)) (graph_after h j) ne) (λ blank. refl))
-
-pub returns-clause-still : goal.returns-clause-still
-returns-clause-still g c = λ x ne has m. still (sort_of g.N.Node.layout g.N.Node.ranged) g.D.Discipline.begins g.D.Discipline.step g.N.Node.body _ _ c.args.pass.now _ x c.requires.pass has (λ t. returns-clause-kept g c x.node ne t) m
+pub returns-clause-rest : goal.returns-clause-rest
+returns-clause-rest g c = rest_but c.args.self.now c.args.pass.now _ c.requires.pass c.args.held.now.node (λ j ne x. let a = after g c in let i : ℕ = c.args.held.now.node in let h : List Event = a.grows.rest ++ c.args.pass.now.seat.me.0.seen in let k = a.before j x in
+    subst (StaysHeld c.args.pass.now.caller j c.args.pass.now.seat.me.0.seen) (sym a.grows.is) (stays_then c.args.pass.now.caller (event g c) c.args.pass.now.seat.me.0.seen h j k k.turn (cond_else j i (state_with (written c.args.op c.args.reply) (graph_after h i)) (graph_after h j) ne) (λ blank. refl)))
