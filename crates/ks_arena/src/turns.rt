@@ -1,10 +1,10 @@
 //! Taking nodes, giving them back, and what is decided and shaped meanwhile.
-ghost use Rattle.std.specs.Prelude.{◌≡◌, ◌+◌, ◌%◌, ◌<◌, ◌∷◌};
+ghost use Rattle.std.specs.Prelude.{◌≡◌, ◌+◌, ◌%◌, ◌∷◌};
 ghost use Rattle.ks_arena.specs.declared.view.Mark.TheVariants.{Freeing};
 ghost use Rattle.ks_history.specs.Trace.{drop_one};
 ghost use Rattle.ks_history.specs.declared.Event.TheVariants.{Call, Give, Shape};
 ghost use Rattle.ks_arena.specs.Clauses.{give_mark, hand_of, mine_of, AllAmong, EachOnce, changes_of};
-ghost use Rattle.ks_arena.specs.Of.{Holds, Adds, AddsCall, Looks, KeepsBut, IsPassOf, IsMarkedPassOf, IsCurrent, TriedToTake, IsReadyAt, AreCurrent, MayBecome, RestStays, RestStaysBut, RestStaysBesides};
+ghost use Rattle.ks_arena.specs.Of.{Holds, Adds, HasDecided, HasShaped, Looks, KeepsBut, IsPassOf, IsMarkedPassOf, IsCurrent, TriedToTake, IsReadyAt, AreCurrent, MayBecome, nodes_of, IsNodeOf, RestStays, RestStaysBut};
 
 use crate::arena::Arena;
 use crate::held::{Held, Pass, Taken};
@@ -18,7 +18,7 @@ use std::marker::Brand;
 impl<N: Node, D: Discipline> Arena<N, D> {
     /// How many nodes there are.
     pub fn nodes(&self) -> u32
-        ensures { result ≡ self.now.nodes }
+        ensures { result ≡ nodes_of self.now }
     {
         self.nodes
     }
@@ -26,7 +26,7 @@ impl<N: Node, D: Discipline> Arena<N, D> {
     /// Tries once to take the node.
     pub fn try_take(&self, pass: &mut Pass<N, D>, node: u32) -> Taken<N>
         requires pass { IsPassOf self.now pass.old }
-        requires node { node < self.now.nodes }
+        requires node { IsNodeOf self.now node }
         requires fresh { ¬ Holds pass.old node }
         ensures pass { IsPassOf self.now pass.new }
         ensures caller { pass.new.caller ≡ pass.old.caller }
@@ -123,11 +123,8 @@ impl<N: Node, D: Discipline> Arena<N, D> {
         requires ready { IsReadyAt self.now pass.old held.now op reply }
         ensures pass { IsPassOf self.now pass.new }
         ensures caller { pass.new.caller ≡ pass.old.caller }
-        ensures decided { AddsCall (Call pass.old.caller held.now.node op reply) pass.old pass.new result }
-        ensures hand { hand_of pass.new ≡ hand_of pass.old }
-        ensures mine { mine_of pass.new ≡ Call pass.old.caller held.now.node op reply ∷ mine_of pass.old }
+        ensures decided { HasDecided self.now held.now op reply pass.old pass.new result }
         ensures body { IsCurrent self.now pass.new held.now }
-        ensures rest { RestStaysBut self.now held.now.node pass.old pass.new }
     {
         self.count::<Brand>(pass, held, op, reply)
     }
@@ -139,11 +136,8 @@ impl<N: Node, D: Discipline> Arena<N, D> {
         requires ready { IsReadyAt self.now pass.old held.now op reply }
         ensures pass { IsPassOf self.now pass.new }
         ensures caller { pass.new.caller ≡ pass.old.caller }
-        ensures decided { AddsCall (Call pass.old.caller held.now.node op reply) pass.old pass.new result }
-        ensures hand { hand_of pass.new ≡ hand_of pass.old }
-        ensures mine { mine_of pass.new ≡ Call pass.old.caller held.now.node op reply ∷ mine_of pass.old }
+        ensures decided { HasDecided self.now held.now op reply pass.old pass.new result }
         ensures body { IsCurrent self.now pass.new held.now }
-        ensures rest { RestStaysBut self.now held.now.node pass.old pass.new }
     {
         D::laws();
         walks_law();
@@ -166,11 +160,8 @@ impl<N: Node, D: Discipline> Arena<N, D> {
         requires may { MayBecome self.now pass.old (changes_of N.body first.now second third) }
         ensures pass { IsPassOf self.now pass.new }
         ensures caller { pass.new.caller ≡ pass.old.caller }
-        ensures shaped { Adds (Shape pass.old.caller (changes_of N.body first.now second.entry third.entry)) pass.old pass.new }
-        ensures hand { hand_of pass.new ≡ hand_of pass.old }
-        ensures mine { mine_of pass.new ≡ Shape pass.old.caller (changes_of N.body first.now second.entry third.entry) ∷ mine_of pass.old }
+        ensures shaped { HasShaped self.now (changes_of N.body first.now second.entry third.entry) pass.old pass.new }
         ensures bodies { AreCurrent self.now pass.new first.now second.entry third.entry }
-        ensures rest { RestStaysBesides self.now (changes_of N.body first.now second.entry third.entry) pass.old pass.new }
     {
         self.form::<Brand>(pass, first, second, third);
     }
@@ -189,11 +180,8 @@ impl<N: Node, D: Discipline> Arena<N, D> {
         requires may { MayBecome self.now pass.old (changes_of N.body first.now second third) }
         ensures pass { IsPassOf self.now pass.new }
         ensures caller { pass.new.caller ≡ pass.old.caller }
-        ensures shaped { Adds (Shape pass.old.caller (changes_of N.body first.now second.entry third.entry)) pass.old pass.new }
-        ensures hand { hand_of pass.new ≡ hand_of pass.old }
-        ensures mine { mine_of pass.new ≡ Shape pass.old.caller (changes_of N.body first.now second.entry third.entry) ∷ mine_of pass.old }
+        ensures shaped { HasShaped self.now (changes_of N.body first.now second.entry third.entry) pass.old pass.new }
         ensures bodies { AreCurrent self.now pass.new first.now second.entry third.entry }
-        ensures rest { RestStaysBesides self.now (changes_of N.body first.now second.entry third.entry) pass.old pass.new }
     {
         self.table
             .shared
