@@ -65,5 +65,5 @@ keep_half-requires-clause-from g c = λ le. let at = goal.at.keep_half-requires-
 pub returns-clause-stretch : goal.returns-clause-stretch
 returns-clause-stretch g c = let me : ℕ = c.args.pass.now.caller in let h = seen_of c.args.pass.now in let h₁ = seen_of c.claim_two.new.pass in let h₂ = seen_of c.grow.new.pass in let h₃ = seen_of c.keep_half.new.pass in let one = c.claim_two.ensures.caller in let two = c.grow.ensures.caller in
     stretches_both me h h₁ h₃ c.claim_two.ensures.stretch (stretches_both me h₁ h₂ h₃
-    (stretches_shape me c.claim_two.new.pass.caller c.grow.new.pass.caller h₁ h₂ one two (omega (arith, ap length c.in-Some.ensures.claimed.hands, ap length c.requires.path.hands)) c.grow.ensures.hand c.grow.ensures.shaped)
+    (stretches_shape me c.claim_two.new.pass.caller c.grow.new.pass.caller h₁ h₂ one two (omega (arith, ap length c.in-Some.ensures.claimed.hands, ap length c.requires.path.hands)) c.grow.ensures.shaped.hand c.grow.ensures.shaped.adds)
     (stretches_as me c.grow.new.pass.caller h₂ h₃ (two ∙ one) c.keep_half.ensures.stretch))

@@ -48,7 +48,7 @@ under g c law = let sort = sort_of g.N.Node.layout g.N.Node.ranged in let n : �
     let has : (y : Hand g.row.N.Denot) → o ≡ Some y → Has (hand me h) y.node = parent_has sort g.N.Node.body n me law j o (hand me h) c.requires.path.hands in
     let once : AreOnce (j ∷ numbers o) = subst AreOnce c.requires.path.hands (is_hand h me (law.turns h c.requires.pass.sound)).once in
     under_later sort g.N.Node.body n me law c.args.place c.args.path.node c.split_own.new.node h h₁ (seen_of c.split_own.new.pass) o c.split_own.ensures.node.node c.requires.full c.claim_one.ensures.rest.still has
-    (λ y e m. c.split_own.ensures.rest.still y (parent_apart sort g.N.Node.body n me law j o once y e, (λ same. got.fresh (subst (Has (hand me h)) same (has y e)), tt)) (subst (λ (z : ℕ). Has (hand z h₁) y.node) (sym c.claim_one.ensures.caller) (subst (λ (z : List ℕ). Has z y.node) (sym got.hands) (inr (has y e)))) m)
+    (λ y e m. c.split_own.ensures.shaped.still y (parent_apart sort g.N.Node.body n me law j o once y e, (λ same. got.fresh (subst (Has (hand me h)) same (has y e)), tt)) (subst (λ (z : ℕ). Has (hand z h₁) y.node) (sym c.claim_one.ensures.caller) (subst (λ (z : List ℕ). Has z y.node) (sym got.hands) (inr (has y e)))) m)
     c.requires.path.under
 
 pub keep_left-requires-clause-under : goal.keep_left-requires-clause-under
@@ -73,17 +73,17 @@ keep_right-requires-clause-part g c = let at = goal.at.keep_right-requires-claus
 pub returns-then-place-cut-clause-stretch : goal.returns-then-place-cut-clause-stretch
 returns-then-place-cut-clause-stretch g c = let me : ℕ = c.args.pass.now.caller in let h = seen_of c.args.pass.now in let h₁ = seen_of c.claim_one.new.pass in let h₂ = seen_of c.split_own.new.pass in let h₃ = seen_of c.keep_left.new.pass in let one = c.claim_one.ensures.caller in let two = c.split_own.ensures.caller in
     stretches_both me h h₁ h₃ c.claim_one.ensures.stretch (stretches_both me h₁ h₂ h₃
-    (stretches_shape me c.claim_one.new.pass.caller c.split_own.new.pass.caller h₁ h₂ one two (omega (arith, ap length c.in-Some.ensures.claimed.hands, few c.args.path.parent (hand_of c.args.pass.now) c.args.path.node.node c.requires.path.hands)) c.split_own.ensures.hand c.split_own.ensures.shaped)
+    (stretches_shape me c.claim_one.new.pass.caller c.split_own.new.pass.caller h₁ h₂ one two (omega (arith, ap length c.in-Some.ensures.claimed.hands, few c.args.path.parent (hand_of c.args.pass.now) c.args.path.node.node c.requires.path.hands)) c.split_own.ensures.shaped.hand c.split_own.ensures.shaped.adds)
     (stretches_as me c.split_own.new.pass.caller h₂ h₃ (two ∙ one) c.keep_left.ensures.stretch))
 
 pub returns-then-is_full-clause-stretch : goal.returns-then-is_full-clause-stretch
 returns-then-is_full-clause-stretch g c = let me : ℕ = c.args.pass.now.caller in let h = seen_of c.args.pass.now in let h₁ = seen_of c.claim_one.new.pass in let h₂ = seen_of c.split_own.new.pass in let h₃ = seen_of c.keep_right.new.pass in let one = c.claim_one.ensures.caller in let two = c.split_own.ensures.caller in
     stretches_both me h h₁ h₃ c.claim_one.ensures.stretch (stretches_both me h₁ h₂ h₃
-    (stretches_shape me c.claim_one.new.pass.caller c.split_own.new.pass.caller h₁ h₂ one two (omega (arith, ap length c.in-Some.ensures.claimed.hands, few c.args.path.parent (hand_of c.args.pass.now) c.args.path.node.node c.requires.path.hands)) c.split_own.ensures.hand c.split_own.ensures.shaped)
+    (stretches_shape me c.claim_one.new.pass.caller c.split_own.new.pass.caller h₁ h₂ one two (omega (arith, ap length c.in-Some.ensures.claimed.hands, few c.args.path.parent (hand_of c.args.pass.now) c.args.path.node.node c.requires.path.hands)) c.split_own.ensures.shaped.hand c.split_own.ensures.shaped.adds)
     (stretches_as me c.split_own.new.pass.caller h₂ h₃ (two ∙ one) c.keep_right.ensures.stretch))
 
 pub returns-clause-stretch : goal.returns-clause-stretch
 returns-clause-stretch g c = let me : ℕ = c.args.pass.now.caller in let h = seen_of c.args.pass.now in let h₁ = seen_of c.claim_one.new.pass in let h₂ = seen_of c.split_own.new.pass in let h₃ = seen_of c.keep_right_alone.new.pass in let one = c.claim_one.ensures.caller in let two = c.split_own.ensures.caller in
     stretches_both me h h₁ h₃ c.claim_one.ensures.stretch (stretches_both me h₁ h₂ h₃
-    (stretches_shape me c.claim_one.new.pass.caller c.split_own.new.pass.caller h₁ h₂ one two (omega (arith, ap length c.in-Some.ensures.claimed.hands, few c.args.path.parent (hand_of c.args.pass.now) c.args.path.node.node c.requires.path.hands)) c.split_own.ensures.hand c.split_own.ensures.shaped)
+    (stretches_shape me c.claim_one.new.pass.caller c.split_own.new.pass.caller h₁ h₂ one two (omega (arith, ap length c.in-Some.ensures.claimed.hands, few c.args.path.parent (hand_of c.args.pass.now) c.args.path.node.node c.requires.path.hands)) c.split_own.ensures.shaped.hand c.split_own.ensures.shaped.adds)
     (stretches_as me c.split_own.new.pass.caller h₂ h₃ (two ∙ one) c.keep_right_alone.ensures.stretch))

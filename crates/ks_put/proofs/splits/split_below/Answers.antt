@@ -59,5 +59,5 @@ keep_half-requires-clause-from g c = λ le. let at = goal.at.keep_half-requires-
 pub returns-clause-stretch : goal.returns-clause-stretch
 returns-clause-stretch g c = let me : ℕ = c.args.pass.now.caller in let h = seen_of c.args.pass.now in let h₁ = seen_of c.claim_one.new.pass in let h₂ = seen_of c.split_under.new.pass in let h₃ = seen_of c.keep_half.new.pass in let one = c.claim_one.ensures.caller in let two = c.split_under.ensures.caller in
     stretches_both me h h₁ h₃ c.claim_one.ensures.stretch (stretches_both me h₁ h₂ h₃
-    (stretches_shape me c.claim_one.new.pass.caller c.split_under.new.pass.caller h₁ h₂ one two (omega (arith, ap length c.in-Some.ensures.claimed.hands, ap length c.requires.path.hands)) c.split_under.ensures.hand c.split_under.ensures.shaped)
+    (stretches_shape me c.claim_one.new.pass.caller c.split_under.new.pass.caller h₁ h₂ one two (omega (arith, ap length c.in-Some.ensures.claimed.hands, ap length c.requires.path.hands)) c.split_under.ensures.shaped.hand c.split_under.ensures.shaped.adds)
     (stretches_as me c.split_under.new.pass.caller h₂ h₃ (two ∙ one) c.keep_half.ensures.stretch))

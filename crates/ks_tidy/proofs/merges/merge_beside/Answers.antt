@@ -98,7 +98,7 @@ now : (g : Over) (c : After-absorb_under g) → c.absorb_under.new.pass.caller �
 now g c = c.absorb_under.ensures.caller ∙ c.take_led-right.ensures.caller
 
 absorbed_hands : (g : Over) (c : After-absorb_under g) → hand c.absorb_under.new.pass.caller (seen_of c.absorb_under.new.pass) ≡ c.args.target ∷ c.args.node.node ∷ c.args.parent.node ∷ []
-absorbed_hands g c = c.absorb_under.ensures.hand ∙ ap (λ (z : ℕ). hand z (seen_of c.take_led-right.new.pass)) c.take_led-right.ensures.caller ∙ c.take_led-right.ensures.took.hand ∙ ap (λ (z : List ℕ). c.args.target ∷ z) c.requires.pair.path.hands
+absorbed_hands g c = c.absorb_under.ensures.shaped.hand ∙ ap (λ (z : ℕ). hand z (seen_of c.take_led-right.new.pass)) c.take_led-right.ensures.caller ∙ c.take_led-right.ensures.took.hand ∙ ap (λ (z : List ℕ). c.args.target ∷ z) c.requires.pair.path.hands
 
 pub absorb_under-requires-clause-apart : goal.absorb_under-requires-clause-apart
 absorb_under-requires-clause-apart g c = let at = goal.at.absorb_under-requires-clause-apart g c in let right : c.take_led-right.result.node ≡ c.args.target = c.take_led-right.ensures.took.node in
@@ -149,13 +149,13 @@ returns-then-fits-clause-places g c = let at = goal.at.returns-then-fits-clause-
 pub returns-then-fits-clause-stretch : goal.returns-then-fits-clause-stretch
 returns-then-fits-clause-stretch g c = let me : ℕ = c.args.pass.now.caller in let h = seen_of c.args.pass.now in let h₁ = seen_of c.take_led-right.new.pass in let h₂ = seen_of c.absorb_under.new.pass in let k = seen_of c.keep_left.new.pass in let one = c.take_led-right.ensures.caller in let two = c.absorb_under.ensures.caller in
     stretches_both me h h₁ k c.take_led-right.ensures.stretch (stretches_both me h₁ h₂ k
-    (stretches_shape me c.take_led-right.new.pass.caller c.absorb_under.new.pass.caller h₁ h₂ one two (omega (arith, ap length c.take_led-right.ensures.took.hand, ap length c.requires.pair.path.hands)) c.absorb_under.ensures.hand c.absorb_under.ensures.shaped)
+    (stretches_shape me c.take_led-right.new.pass.caller c.absorb_under.new.pass.caller h₁ h₂ one two (omega (arith, ap length c.take_led-right.ensures.took.hand, ap length c.requires.pair.path.hands)) c.absorb_under.ensures.shaped.hand c.absorb_under.ensures.shaped.adds)
     (stretches_as me c.absorb_under.new.pass.caller h₂ k (two ∙ one) c.keep_left.ensures.stretch))
 
 pub returns-then-fits-clause-step : goal.returns-then-fits-clause-step
 returns-then-fits-clause-step g c = let at = goal.at.returns-then-fits-clause-step g c in let me : ℕ = c.args.pass.now.caller in let h = seen_of c.args.pass.now in let h₁ = seen_of c.take_led-right.new.pass in let h₂ = seen_of c.absorb_under.new.pass in let k = seen_of c.keep_left.new.pass in
     frees_both me 0 1 h h₁ k (frees_take me c.args.target h h₁ c.take_led-right.ensures.took.grows)
-    (frees_both me 1 0 h₁ h₂ k (frees_as me c.take_led-right.new.pass.caller h₁ h₂ c.take_led-right.ensures.caller (frees_shape c.take_led-right.new.pass.caller h₁ h₂ (omega arith) c.absorb_under.ensures.shaped)) (frees_give me c.absorb_under.new.right.node h₂ k (gave g at.After-keep_left)))
+    (frees_both me 1 0 h₁ h₂ k (frees_as me c.take_led-right.new.pass.caller h₁ h₂ c.take_led-right.ensures.caller (frees_shape c.take_led-right.new.pass.caller h₁ h₂ (omega arith) c.absorb_under.ensures.shaped.adds)) (frees_give me c.absorb_under.new.right.node h₂ k (gave g at.After-keep_left)))
 
 -- they do not fit
 

@@ -84,7 +84,7 @@ now : (g : Over) (c : After-absorb_own g) → c.absorb_own.new.pass.caller ≡ c
 now g c = c.absorb_own.ensures.caller ∙ c.take_led-next.ensures.caller
 
 absorbed_hands : (g : Over) (c : After-absorb_own g) → hand c.absorb_own.new.pass.caller (seen_of c.absorb_own.new.pass) ≡ c.args.target ∷ c.args.path.node.node ∷ numbers c.args.path.parent
-absorbed_hands g c = c.absorb_own.ensures.hand ∙ ap (λ (z : ℕ). hand z (seen_of c.take_led-next.new.pass)) c.take_led-next.ensures.caller ∙ c.take_led-next.ensures.took.hand ∙ ap (λ (z : List ℕ). c.args.target ∷ z) c.requires.pair.path.hands
+absorbed_hands g c = c.absorb_own.ensures.shaped.hand ∙ ap (λ (z : ℕ). hand z (seen_of c.take_led-next.new.pass)) c.take_led-next.ensures.caller ∙ c.take_led-next.ensures.took.hand ∙ ap (λ (z : List ℕ). c.args.target ∷ z) c.requires.pair.path.hands
 
 pub keep_left-requires-clause-hands : goal.keep_left-requires-clause-hands
 keep_left-requires-clause-hands g c = let e = c.absorb_own.ensures in absorbed_hands g (goal.at.keep_left-requires-clause-hands g c).After-absorb_own
@@ -95,7 +95,7 @@ keep_left-requires-clause-under g c = let at = goal.at.keep_left-requires-clause
     let once : AreOnce (j ∷ numbers o) = once_in sort n me (laws g at.After-node_law) h (j ∷ numbers o) c.requires.pass.sound c.requires.pair.path.hands in
     let has : (y : Hand g.row.N.Denot) → o ≡ Some y → Has (hand me h) y.node = parent_has j o (hand me h) c.requires.pair.path.hands in
     under_with sort g.N.Node.body c.args.place c.args.path.node c.absorb_own.new.node h (seen_of c.absorb_own.new.pass) o e.node.node c.requires.pair.rooted
-    (λ y is m. e.rest.still y (parent_apart j o once y is, ((λ same. took.fresh (subst (Has (hand me h)) (same ∙ took.node) (has y is))), tt))
+    (λ y is m. e.shaped.still y (parent_apart j o once y is, ((λ same. took.fresh (subst (Has (hand me h)) (same ∙ took.node) (has y is))), tt))
     (subst (λ (z : ℕ). Has (hand z h₁) y.node) (sym c.take_led-next.ensures.caller) (subst (λ (z : List ℕ). Has z y.node) (sym took.hand) (inr (has y is)))) (parent_took g at.After-take_led-next y is m))
     c.requires.pair.path.under
 
@@ -130,13 +130,13 @@ returns-then-fits-clause-places g c = let at = goal.at.returns-then-fits-clause-
 pub returns-then-fits-clause-stretch : goal.returns-then-fits-clause-stretch
 returns-then-fits-clause-stretch g c = let me : ℕ = c.args.pass.now.caller in let h = seen_of c.args.pass.now in let h₁ = seen_of c.take_led-next.new.pass in let h₂ = seen_of c.absorb_own.new.pass in let k = seen_of c.keep_left.new.pass in let one = c.take_led-next.ensures.caller in let two = c.absorb_own.ensures.caller in
     stretches_both me h h₁ k c.take_led-next.ensures.stretch (stretches_both me h₁ h₂ k
-    (stretches_shape me c.take_led-next.new.pass.caller c.absorb_own.new.pass.caller h₁ h₂ one two (omega (arith, ap length c.take_led-next.ensures.took.hand, few_on c.args.path.parent (hand me h) c.args.path.node.node c.requires.pair.path.hands)) c.absorb_own.ensures.hand c.absorb_own.ensures.shaped)
+    (stretches_shape me c.take_led-next.new.pass.caller c.absorb_own.new.pass.caller h₁ h₂ one two (omega (arith, ap length c.take_led-next.ensures.took.hand, few_on c.args.path.parent (hand me h) c.args.path.node.node c.requires.pair.path.hands)) c.absorb_own.ensures.shaped.hand c.absorb_own.ensures.shaped.adds)
     (stretches_as me c.absorb_own.new.pass.caller h₂ k (two ∙ one) c.keep_left.ensures.stretch))
 
 pub returns-then-fits-clause-step : goal.returns-then-fits-clause-step
 returns-then-fits-clause-step g c = let at = goal.at.returns-then-fits-clause-step g c in let me : ℕ = c.args.pass.now.caller in let h = seen_of c.args.pass.now in let h₁ = seen_of c.take_led-next.new.pass in let h₂ = seen_of c.absorb_own.new.pass in let k = seen_of c.keep_left.new.pass in
     frees_both me 0 1 h h₁ k (frees_take me c.args.target h h₁ c.take_led-next.ensures.took.grows)
-    (frees_both me 1 0 h₁ h₂ k (frees_as me c.take_led-next.new.pass.caller h₁ h₂ c.take_led-next.ensures.caller (frees_shape c.take_led-next.new.pass.caller h₁ h₂ (omega arith) c.absorb_own.ensures.shaped)) (frees_give me c.absorb_own.new.right.node h₂ k (gave g at.After-keep_left)))
+    (frees_both me 1 0 h₁ h₂ k (frees_as me c.take_led-next.new.pass.caller h₁ h₂ c.take_led-next.ensures.caller (frees_shape c.take_led-next.new.pass.caller h₁ h₂ (omega arith) c.absorb_own.ensures.shaped.adds)) (frees_give me c.absorb_own.new.right.node h₂ k (gave g at.After-keep_left)))
 
 -- they do not fit
 
