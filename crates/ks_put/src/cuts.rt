@@ -57,7 +57,8 @@ pub(crate) fn cut_below<N: Unlinked>(
     ensures cut { IsInside pass.now node.now.node result × CanSplitAt (N.body node.now.body) result }
     ensures open { N.in_place ≡ false → is_branch (N.body node.now.body) ≡ false →
         is_full N.layout (N.body parent.now.body) ≡ false →
-        CanAt N.can_adopt_at (N.body node.now.body) result ⊎ BranchCanAt N.can_adopt_at (N.body parent.now.body) result }
+        CanAt N.can_adopt_at (N.body node.now.body) result
+        ⊎ BranchCanAt N.can_adopt_at (N.body parent.now.body) result }
     ensures adopts { HalfAdopts N.can_adopt_at (N.body node.now.body) result }
 {
     search_law();

@@ -7,7 +7,7 @@ ghost use Rattle.ks_node.specs.Asks.{CanSplitAt};
 ghost use Rattle.ks_put.specs.Parts.{CanAt, Grows, HasRoomAbove, IsShut};
 ghost use Rattle.ks_arena.specs.Of.{IsInside, IsPassOf};
 ghost use Rattle.ks_shape.specs.Of.{IsStretch};
-ghost use Rattle.ks_put.specs.Of.{IsOnPathOf, HasParted};
+ghost use Rattle.ks_put.specs.Of.{IsOnPathOf, TriedToSplit};
 
 use crate::cuts::{cut_below, cut_of_root};
 use crate::halves::{Part, keep_half, keep_left, keep_right, keep_right_alone};
@@ -35,7 +35,7 @@ pub(crate) fn grow_root<N: Unlinked, G: Gate>(
     requires grows { Grows N.grows_at (N.body root.body) × CanAt N.can_grow_at (N.body root.body) cut }
     ensures pass { IsPassOf arena.now pass.new }
     ensures caller { pass.new.caller ≡ pass.old.caller }
-    ensures part { HasParted arena.now place pass.old pass.new (record { parent = None; node = root }) result }
+    ensures part { TriedToSplit arena.now place pass.old pass.new (record { parent = None; node = root }) result }
     ensures tried { ¬ IsShut result }
     ensures stretch { IsStretch pass.old pass.new }
 {
@@ -71,7 +71,8 @@ pub(crate) fn split_below<N: Unlinked, G: Gate>(
     requires adopts { CanAt N.can_adopt_at (N.body parent.body) cut }
     ensures pass { IsPassOf arena.now pass.new }
     ensures caller { pass.new.caller ≡ pass.old.caller }
-    ensures part { HasParted arena.now place pass.old pass.new (record { parent = Some parent; node = node }) result }
+    ensures part { TriedToSplit arena.now place pass.old pass.new
+        (record { parent = Some parent; node = node }) result }
     ensures tried { ¬ IsShut result }
     ensures stretch { IsStretch pass.old pass.new }
 {
@@ -104,7 +105,7 @@ pub(crate) fn split_alone<N: Unlinked, G: Gate>(
     requires adopts { CanAt N.can_adopt_at (split_left cut (N.body path.node.body)) cut }
     ensures pass { IsPassOf arena.now pass.new }
     ensures caller { pass.new.caller ≡ pass.old.caller }
-    ensures part { HasParted arena.now place pass.old pass.new path result }
+    ensures part { TriedToSplit arena.now place pass.old pass.new path result }
     ensures tried { ¬ IsShut result }
     ensures stretch { IsStretch pass.old pass.new }
 {
@@ -138,7 +139,7 @@ pub(crate) fn split_root<N: Unlinked, G: Gate>(
     requires full { IsTrue (is_full N.layout (N.body root.body)) }
     ensures pass { IsPassOf arena.now pass.new }
     ensures caller { pass.new.caller ≡ pass.old.caller }
-    ensures part { HasParted arena.now place pass.old pass.new (record { parent = None; node = root }) result }
+    ensures part { TriedToSplit arena.now place pass.old pass.new (record { parent = None; node = root }) result }
     ensures open { N.in_place ≡ false → is_branch (N.body root.body) ≡ false → ¬ IsShut result }
     ensures stretch { IsStretch pass.old pass.new }
 {
@@ -174,7 +175,8 @@ pub(crate) fn split_child<N: Unlinked, G: Gate>(
     requires full { IsTrue (is_full N.layout (N.body node.body)) }
     ensures pass { IsPassOf arena.now pass.new }
     ensures caller { pass.new.caller ≡ pass.old.caller }
-    ensures part { HasParted arena.now place pass.old pass.new (record { parent = Some parent; node = node }) result }
+    ensures part { TriedToSplit arena.now place pass.old pass.new
+        (record { parent = Some parent; node = node }) result }
     ensures open { N.in_place ≡ false → is_branch (N.body node.body) ≡ false →
         is_full N.layout (N.body parent.body) ≡ false → ¬ IsShut result }
     ensures stretch { IsStretch pass.old pass.new }
@@ -209,7 +211,7 @@ fn split_whole<N: Unlinked, G: Gate>(
     requires full { IsTrue (is_full N.layout (N.body path.node.body)) }
     ensures pass { IsPassOf arena.now pass.new }
     ensures caller { pass.new.caller ≡ pass.old.caller }
-    ensures part { HasParted arena.now place pass.old pass.new path result }
+    ensures part { TriedToSplit arena.now place pass.old pass.new path result }
     ensures open { N.in_place ≡ false → is_branch (N.body path.node.body) ≡ false →
         HasRoomAbove N.layout N.body path.parent → ¬ IsShut result }
     ensures stretch { IsStretch pass.old pass.new }
@@ -235,7 +237,7 @@ pub(crate) fn split<N: Unlinked, G: Gate>(
     requires full { IsTrue (is_full N.layout (N.body path.node.body)) }
     ensures pass { IsPassOf arena.now pass.new }
     ensures caller { pass.new.caller ≡ pass.old.caller }
-    ensures part { HasParted arena.now place pass.old pass.new path result }
+    ensures part { TriedToSplit arena.now place pass.old pass.new path result }
     ensures open { N.in_place ≡ false → is_branch (N.body path.node.body) ≡ false →
         HasRoomAbove N.layout N.body path.parent → ¬ IsShut result }
     ensures stretch { IsStretch pass.old pass.new }

@@ -17,10 +17,13 @@ use ks_history::alone_law;
 /// or an add `Ok`, or `Full` as due. By giving up alone a node is told to have moved, and along links never that the way is
 /// long. It computes nothing.
 pub fn tries_law()
-    ensures never { (template : Template) (n c : ℕ) (op : Operation) (s0 s1 : List Happening) (later : Later) → ActsAlone c s0 s1 → HoldsAlone c s0 → ¬ IsPutOff template n c op s0 s1 later }
-    ensures ok { (layout : Layout) (template : Template) (n c : ℕ) (op : Operation) (s0 s1 : List Happening) (answer : Result Numbered Later) → ActsAlone c s0 s1 → HoldsAlone c s0 →
+    ensures never { (template : Template) (n c : ℕ) (op : Operation) (s0 s1 : List Happening) (later : Later) →
+        ActsAlone c s0 s1 → HoldsAlone c s0 → ¬ IsPutOff template n c op s0 s1 later }
+    ensures ok { (layout : Layout) (template : Template) (n c : ℕ) (op : Operation) (s0 s1 : List Happening)
+        (answer : Result Numbered Later) → ActsAlone c s0 s1 → HoldsAlone c s0 →
         Tried layout template n c op s0 s1 answer → IsTrue (is_ok answer) }
-    ensures put { (layout : Layout) (template : Template) (n c : ℕ) (op : Operation) (s0 s1 : List Happening) (answer : Result Numbered PutLater) → ActsAlone c s0 s1 → HoldsAlone c s0 →
+    ensures put { (layout : Layout) (template : Template) (n c : ℕ) (op : Operation) (s0 s1 : List Happening)
+        (answer : Result Numbered PutLater) → ActsAlone c s0 s1 → HoldsAlone c s0 →
         TriedPut layout template n c op s0 s1 answer → IsDoneIn answer }
     ensures told { (layout : Layout) (template : Template) (n c : ℕ) (op : Operation) (s0 s1 : List Happening) (answer : Result Numbered Later) →
         Tried layout template n c op s0 s1 answer → MayTell template answer }

@@ -2,7 +2,7 @@
 ghost use Rattle.std.specs.Prelude.{◌≡◌, ◌≤◌, length, Any};
 ghost use Rattle.ks_node.specs.Edges.{edges_of};
 ghost use Rattle.ks_arena.specs.Clauses.{hand_of};
-ghost use Rattle.ks_arena.specs.Of.{Holds, IsPassOf, Keeps, StayCurrent};
+ghost use Rattle.ks_arena.specs.Of.{Holds, IsPassOf, RestStays};
 ghost use Rattle.ks_shape.specs.Of.{IsLiveInHand, IsStretch};
 ghost use Rattle.ks_tidy.specs.Of.{HasTakenIfIdle, HasTakenNode};
 
@@ -31,8 +31,7 @@ pub(crate) fn take_led<N: Unlinked, R: Wait, G: Gate>(
     ensures pass { IsPassOf arena.now pass.new }
     ensures caller { pass.new.caller ≡ pass.old.caller }
     ensures took { HasTakenNode arena.now target pass.old pass.new result }
-    ensures kept { Keeps pass.old pass.new }
-    ensures still { StayCurrent arena.now pass.old pass.new }
+    ensures rest { RestStays arena.now pass.old pass.new }
     ensures stretch { IsStretch pass.old pass.new }
 {
     search_law();
@@ -60,8 +59,7 @@ pub(crate) fn try_take_led<N: Unlinked, G: Gate>(
     ensures pass { IsPassOf arena.now pass.new }
     ensures caller { pass.new.caller ≡ pass.old.caller }
     ensures took { HasTakenIfIdle arena.now target pass.old pass.new result }
-    ensures kept { Keeps pass.old pass.new }
-    ensures still { StayCurrent arena.now pass.old pass.new }
+    ensures rest { RestStays arena.now pass.old pass.new }
     ensures stretch { IsStretch pass.old pass.new }
 {
     search_law();

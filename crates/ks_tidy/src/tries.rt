@@ -2,9 +2,7 @@
 ghost use Rattle.std.specs.Prelude.{◌≡◌};
 ghost use Rattle.ks_history.specs.declared.Op.TheVariants.{Del};
 ghost use Rattle.ks_history.specs.Map.{told};
-ghost use Rattle.ks_history.specs.Trace.{◌⊑◌};
-ghost use Rattle.ks_arena.specs.Clauses.{seen_of};
-ghost use Rattle.ks_arena.specs.Of.{IsEmptyPassOf, IsPassOf};
+ghost use Rattle.ks_arena.specs.Of.{IsEmptyPassOf, IsPassOf, SeesOn};
 ghost use Rattle.ks_shape.specs.Of.{FinishesAny, IsStretch, SearchEndsAt};
 ghost use Rattle.ks_tidy.specs.Of.{CountsFree, IsPairOf};
 
@@ -131,7 +129,7 @@ pub fn try_del_alone<N: Unlinked, G: Gate>(
     requires ends { SearchEndsAt arena.now place pass.old held }
     ensures pass { IsEmptyPassOf arena.now pass.new }
     ensures caller { pass.new.caller ≡ pass.old.caller }
-    ensures begins { seen_of pass.old ⊑ seen_of pass.new }
+    ensures begins { SeesOn pass.old pass.new }
     ensures done { FinishesAny arena.now (Del place) pass.old pass.new (told result.found) result.number }
 {
     search_law();

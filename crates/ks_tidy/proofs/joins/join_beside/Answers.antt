@@ -48,7 +48,7 @@ pub absorb_under-requires-clause-apart : goal.absorb_under-requires-clause-apart
 absorb_under-requires-clause-apart g c = let apart = once g (goal.at.absorb_under-requires-clause-apart g c).After-node_law-3 in ((λ same. apart.1.0 (inl same)), (λ same. apart.0 (inr (inl same))), (λ same. apart.0 (inl same)))
 
 absorbed_hands : (g : Over) (c : After-absorb_under g) → hand c.absorb_under.new.pass.caller (seen_of c.absorb_under.new.pass) ≡ c.args.right.node ∷ c.args.node.node ∷ c.args.parent.node ∷ []
-absorbed_hands g c = c.absorb_under.ensures.hand ∙ c.requires.trio.hands
+absorbed_hands g c = c.absorb_under.ensures.shaped.hand ∙ c.requires.trio.hands
 
 pub keep_left-requires-clause-hands : goal.keep_left-requires-clause-hands
 keep_left-requires-clause-hands g c = let e = c.absorb_under.ensures in absorbed_hands g (goal.at.keep_left-requires-clause-hands g c).After-absorb_under
@@ -93,12 +93,12 @@ returns-then-fits-clause-places g c = let at = goal.at.returns-then-fits-clause-
 pub returns-then-fits-clause-stretch : goal.returns-then-fits-clause-stretch
 returns-then-fits-clause-stretch g c = let me : ℕ = c.args.pass.now.caller in let h = seen_of c.args.pass.now in let h₁ = seen_of c.absorb_under.new.pass in let k = seen_of c.keep_left.new.pass in let one = c.absorb_under.ensures.caller in
     stretches_both me h h₁ k
-    (stretches_shape me me c.absorb_under.new.pass.caller h h₁ refl one (omega (arith, ap length c.requires.trio.hands)) c.absorb_under.ensures.hand c.absorb_under.ensures.shaped)
+    (stretches_shape me me c.absorb_under.new.pass.caller h h₁ refl one (omega (arith, ap length c.requires.trio.hands)) c.absorb_under.ensures.shaped.hand c.absorb_under.ensures.shaped.adds)
     (stretches_as me c.absorb_under.new.pass.caller h₁ k one c.keep_left.ensures.stretch)
 
 pub returns-then-fits-clause-step : goal.returns-then-fits-clause-step
 returns-then-fits-clause-step g c = let at = goal.at.returns-then-fits-clause-step g c in let me : ℕ = c.args.pass.now.caller in let h = seen_of c.args.pass.now in let h₁ = seen_of c.absorb_under.new.pass in let k = seen_of c.keep_left.new.pass in
-    frees_both me 1 0 h h₁ k (frees_shape me h h₁ (omega arith) c.absorb_under.ensures.shaped) (frees_give me c.absorb_under.new.right.node h₁ k (gave g at.After-keep_left))
+    frees_both me 1 0 h h₁ k (frees_shape me h h₁ (omega arith) c.absorb_under.ensures.shaped.adds) (frees_give me c.absorb_under.new.right.node h₁ k (gave g at.After-keep_left))
 
 -- they do not fit
 

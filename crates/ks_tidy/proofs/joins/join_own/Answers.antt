@@ -39,7 +39,7 @@ pub absorb_own-requires-clause-apart : goal.absorb_own-requires-clause-apart
 absorb_own-requires-clause-apart g c = λ same. (once g (goal.at.absorb_own-requires-clause-apart g c).After-node_law-2).0 (inl same)
 
 absorbed_hands : (g : Over) (c : After-absorb_own g) → hand c.absorb_own.new.pass.caller (seen_of c.absorb_own.new.pass) ≡ c.args.next.node ∷ c.args.path.node.node ∷ numbers c.args.path.parent
-absorbed_hands g c = c.absorb_own.ensures.hand ∙ c.requires.trio.hands
+absorbed_hands g c = c.absorb_own.ensures.shaped.hand ∙ c.requires.trio.hands
 
 pub keep_left-requires-clause-hands : goal.keep_left-requires-clause-hands
 keep_left-requires-clause-hands g c = let e = c.absorb_own.ensures in absorbed_hands g (goal.at.keep_left-requires-clause-hands g c).After-absorb_own
@@ -50,7 +50,7 @@ keep_left-requires-clause-under g c = let at = goal.at.keep_left-requires-clause
     let apart : AreOnce (c.args.next.node ∷ j ∷ numbers o) = once g at.After-node_law-2 in
     under_with (sort_of g.N.Node.layout g.N.Node.ranged) g.N.Node.body c.args.place c.args.path.node c.absorb_own.new.node h (seen_of c.absorb_own.new.pass) o e.node.node trio.rooted
     (λ y is m. let has : Has (j ∷ numbers o) y.node = parent_has j o (j ∷ numbers o) refl y is in
-    e.still y (parent_apart j o apart.1 y is, ((λ same. apart.0 (subst (Has (j ∷ numbers o)) same has)), tt)) (subst (λ (z : List ℕ). Has z y.node) (sym trio.hands) (inr has)) m)
+    e.shaped.still y (parent_apart j o apart.1 y is, ((λ same. apart.0 (subst (Has (j ∷ numbers o)) same has)), tt)) (subst (λ (z : List ℕ). Has z y.node) (sym trio.hands) (inr has)) m)
     trio.under
 
 pub keep_left-requires-clause-inside : goal.keep_left-requires-clause-inside
@@ -83,12 +83,12 @@ returns-then-fits-clause-places g c = let at = goal.at.returns-then-fits-clause-
 pub returns-then-fits-clause-stretch : goal.returns-then-fits-clause-stretch
 returns-then-fits-clause-stretch g c = let me : ℕ = c.args.pass.now.caller in let h = seen_of c.args.pass.now in let h₁ = seen_of c.absorb_own.new.pass in let k = seen_of c.keep_left.new.pass in let one = c.absorb_own.ensures.caller in
     stretches_both me h h₁ k
-    (stretches_shape me me c.absorb_own.new.pass.caller h h₁ refl one (few_right c.args.path.parent (hand me h) c.args.next.node c.args.path.node.node c.requires.trio.hands) c.absorb_own.ensures.hand c.absorb_own.ensures.shaped)
+    (stretches_shape me me c.absorb_own.new.pass.caller h h₁ refl one (few_right c.args.path.parent (hand me h) c.args.next.node c.args.path.node.node c.requires.trio.hands) c.absorb_own.ensures.shaped.hand c.absorb_own.ensures.shaped.adds)
     (stretches_as me c.absorb_own.new.pass.caller h₁ k one c.keep_left.ensures.stretch)
 
 pub returns-then-fits-clause-step : goal.returns-then-fits-clause-step
 returns-then-fits-clause-step g c = let at = goal.at.returns-then-fits-clause-step g c in let me : ℕ = c.args.pass.now.caller in let h = seen_of c.args.pass.now in let h₁ = seen_of c.absorb_own.new.pass in let k = seen_of c.keep_left.new.pass in
-    frees_both me 1 0 h h₁ k (frees_shape me h h₁ (omega arith) c.absorb_own.ensures.shaped) (frees_give me c.absorb_own.new.right.node h₁ k (gave g at.After-keep_left))
+    frees_both me 1 0 h h₁ k (frees_shape me h h₁ (omega arith) c.absorb_own.ensures.shaped.adds) (frees_give me c.absorb_own.new.right.node h₁ k (gave g at.After-keep_left))
 
 -- they do not fit
 

@@ -27,7 +27,7 @@ take_led-right-requires-clause-few g c = omega (arith, ap length c.requires.pair
 pub join_beside-requires-clause-trio : goal.join_beside-requires-clause-trio
 join_beside-requires-clause-trio g c = let at = (goal.at.join_beside-requires-clause-trio g c).After-take_led-right in let sort = sort_of g.N.Node.layout g.N.Node.ranged in let me : ℕ = c.args.pass.now.caller in let h = seen_of c.args.pass.now in let k = seen_of c.take_led-right.new.pass in let e = c.take_led-right.ensures in
     subst (λ (z : ℕ). IsTrio sort g.N.Node.body z c.args.place k (record { parent = Some c.args.parent; node = c.args.node }) c.take_led-right.result) (sym e.caller)
-    (trio_took sort g.N.Node.body c.args.arena.now.table.shared.table_id.slots me c.args.place c.args.target (laws g at) h k (record { parent = Some c.args.parent; node = c.args.node }) c.take_led-right.result c.requires.pass.sound e.pass.sound c.requires.pair e.took e.still)
+    (trio_took sort g.N.Node.body c.args.arena.now.table.shared.table_id.slots me c.args.place c.args.target (laws g at) h k (record { parent = Some c.args.parent; node = c.args.node }) c.take_led-right.result c.requires.pass.sound e.pass.sound c.requires.pair e.took e.rest.still)
 
 pub join_beside-requires-clause-beside : goal.join_beside-requires-clause-beside
 join_beside-requires-clause-beside g c = c.requires.beside ∙ ap (λ (z : ℕ). Some z) (sym c.take_led-right.ensures.took.node)

@@ -27,7 +27,7 @@ take_led-next-requires-clause-few g c = few_on c.args.path.parent (hand_of c.arg
 pub join_own-requires-clause-trio : goal.join_own-requires-clause-trio
 join_own-requires-clause-trio g c = let at = (goal.at.join_own-requires-clause-trio g c).After-take_led-next in let sort = sort_of g.N.Node.layout g.N.Node.ranged in let me : ℕ = c.args.pass.now.caller in let h = seen_of c.args.pass.now in let k = seen_of c.take_led-next.new.pass in let e = c.take_led-next.ensures in
     subst (λ (z : ℕ). IsTrio sort g.N.Node.body z c.args.place k c.args.path c.take_led-next.result) (sym e.caller)
-    (trio_took sort g.N.Node.body c.args.arena.now.table.shared.table_id.slots me c.args.place c.args.target (laws g at) h k c.args.path c.take_led-next.result c.requires.pass.sound e.pass.sound c.requires.pair e.took e.still)
+    (trio_took sort g.N.Node.body c.args.arena.now.table.shared.table_id.slots me c.args.place c.args.target (laws g at) h k c.args.path c.take_led-next.result c.requires.pass.sound e.pass.sound c.requires.pair e.took e.rest.still)
 
 pub join_own-requires-clause-chained : goal.join_own-requires-clause-chained
 join_own-requires-clause-chained g c = c.requires.chained ∙ ap (λ (z : ℕ). Some z) (sym c.take_led-next.ensures.took.node)

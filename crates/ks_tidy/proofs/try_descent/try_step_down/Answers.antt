@@ -17,7 +17,7 @@ laws g c = c.search_law.ensures (sort_of g.N.Node.layout g.N.Node.ranged) c.args
 pub returns-in-Held-clause-came : goal.returns-in-Held-clause-came
 returns-in-Held-clause-came g c = let at = (goal.at.returns-in-Held-clause-came g c).After-child_law in let e = c.in-Held.ensures in let way = c.requires.way in let x = c.args.held in
     down_pair (sort_of g.N.Node.layout g.N.Node.ranged) g.N.Node.body c.args.arena.now.table.shared.table_id.slots c.args.arena.now.nodes c.args.pass.now.caller c.args.place c.args.child (laws g at) (seen_of c.args.pass.now) (seen_of c.try_take.new.pass) x c.in-Held.below c.requires.pass.sound e.pass.sound way c.child_law.ensures e.took
-    (e.still x (subst (λ (z : List ℕ). Has z x.node) (sym way.alone) (inl refl)) way.matches)
+    (e.rest.still x (subst (λ (z : List ℕ). Has z x.node) (sym way.alone) (inl refl)) way.matches)
 
 pub returns-in-Held-clause-stretch : goal.returns-in-Held-clause-stretch
 returns-in-Held-clause-stretch g c = let at = (goal.at.returns-in-Held-clause-stretch g c).After-child_law in let e = c.in-Held.ensures in

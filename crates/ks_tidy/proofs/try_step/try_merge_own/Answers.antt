@@ -25,7 +25,7 @@ try_take_led-requires-clause-few g c = few_on c.args.path.parent (hand_of c.args
 pub join_own-requires-clause-trio : goal.join_own-requires-clause-trio
 join_own-requires-clause-trio g c = let at = (goal.at.join_own-requires-clause-trio g c).After-try_take_led in let sort = sort_of g.N.Node.layout g.N.Node.ranged in let me : ℕ = c.args.pass.now.caller in let h = seen_of c.args.pass.now in let k = seen_of c.try_take_led.new.pass in let e = c.try_take_led.ensures in let took = c.in-Some.ensures.took in
     subst (λ (z : ℕ). IsTrio sort g.N.Node.body z c.args.place k c.args.path c.in-Some.next) (sym e.caller)
-    (trio_took sort g.N.Node.body c.args.arena.now.table.shared.table_id.slots me c.args.place c.args.target (laws g at) h k c.args.path c.in-Some.next c.requires.pass.sound e.pass.sound c.requires.pair took e.still)
+    (trio_took sort g.N.Node.body c.args.arena.now.table.shared.table_id.slots me c.args.place c.args.target (laws g at) h k c.args.path c.in-Some.next c.requires.pass.sound e.pass.sound c.requires.pair took e.rest.still)
 
 pub join_own-requires-clause-chained : goal.join_own-requires-clause-chained
 join_own-requires-clause-chained g c = c.requires.chained ∙ ap (λ (z : ℕ). Some z) (sym c.in-Some.ensures.took.node)
@@ -44,7 +44,7 @@ returns-in-Some-clause-frees g c = let sort = sort_of g.N.Node.layout g.N.Node.r
 
 pub returns-in-None-clause-pair : goal.returns-in-None-clause-pair
 returns-in-None-clause-pair g c = let at = (goal.at.returns-in-None-clause-pair g c).After-try_take_led in let e = c.try_take_led.ensures in
-    pair_stays (sort_of g.N.Node.layout g.N.Node.ranged) g.N.Node.body c.args.arena.now.table.shared.table_id.slots c.args.pass.now.caller c.args.place (laws g at) (seen_of c.args.pass.now) (seen_of c.try_take_led.new.pass) c.args.path c.requires.pass.sound e.pass.sound c.requires.pair c.in-None.ensures.took e.still
+    pair_stays (sort_of g.N.Node.layout g.N.Node.ranged) g.N.Node.body c.args.arena.now.table.shared.table_id.slots c.args.pass.now.caller c.args.place (laws g at) (seen_of c.args.pass.now) (seen_of c.try_take_led.new.pass) c.args.path c.requires.pass.sound e.pass.sound c.requires.pair c.in-None.ensures.took e.rest.still
 
 pub returns-in-None-clause-frees : goal.returns-in-None-clause-frees
 returns-in-None-clause-frees g c = frees_others c.args.pass.now.caller (seen_of c.args.pass.now) (seen_of c.try_take_led.new.pass) c.in-None.ensures.took.grows

@@ -3,7 +3,7 @@ use Rattle.ks_arena.specs.Sound.{sort_of}
 use Rattle.ks_arena.specs.declared.held.Taken.TheVariants.{Held, Busy, Gone}
 use Rattle.ks_arena.specs.Clauses.{seen_of, Kept, TryTook}
 use Rattle.ks_arena.specs.Laws.Tells.{looked_none, looked_both, kept_both, taken_later}
-use Rattle.ks_arena.proofs.After.{still}
+use Rattle.ks_arena.proofs.Rest.{rest_of}
 use Rattle.ks_arena.proofs.arena.Arena.take.Goals as goal
 
 pub loop-init : goal.loop-init
@@ -19,15 +19,17 @@ returns-in-Gone-clause-took g c = let inv = c.loop.invariant in let told = subst
 
 pub loop-preserved : goal.loop-preserved
 loop-preserved g c = let inv = c.loop.invariant in let told = subst (λ (z : ℕ). TryTook (sort_of g.N.Node.layout g.N.Node.ranged) g.N.Node.body z c.args.node (seen_of c.loop.pass) (seen_of c.try_take.new.pass) (Busy c.in-Busy.holder)) inv.1 c.in-Busy.ensures.took in
-    let kept = subst (λ (z : ℕ). Kept z (seen_of c.loop.pass) (seen_of c.try_take.new.pass)) inv.1 c.in-Busy.ensures.kept in (
+    let kept = subst (λ (z : ℕ). Kept z (seen_of c.loop.pass) (seen_of c.try_take.new.pass)) inv.1 c.in-Busy.ensures.rest.kept in (
       c.in-Busy.ensures.pass,
       c.in-Busy.ensures.caller ∙ inv.1,
       looked_both c.args.pass.now.caller (seen_of c.args.pass.now) (seen_of c.loop.pass) (seen_of c.try_take.new.pass) inv.2 told.0,
       kept_both c.args.pass.now.caller (seen_of c.args.pass.now) (seen_of c.loop.pass) (seen_of c.try_take.new.pass) inv.3 kept,
     )
 
-pub returns-in-Held-clause-still : goal.returns-in-Held-clause-still
-returns-in-Held-clause-still g c = let inv = c.loop.invariant in let me : ℕ = c.args.pass.now.caller in let kept = subst (λ (z : ℕ). Kept z (seen_of c.loop.pass) (seen_of c.try_take.new.pass)) inv.1 c.in-Held.ensures.kept in λ x has m. still (sort_of g.N.Node.layout g.N.Node.ranged) g.D.Discipline.begins g.D.Discipline.step g.N.Node.body _ _ c.args.pass.now _ x c.requires.pass has (λ t. kept_both me (seen_of c.args.pass.now) (seen_of c.loop.pass) (seen_of c.try_take.new.pass) inv.3 kept x.node t) m
+pub returns-in-Held-clause-rest : goal.returns-in-Held-clause-rest
+returns-in-Held-clause-rest g c = let inv = c.loop.invariant in let kept = subst (λ (z : ℕ). Kept z (seen_of c.loop.pass) (seen_of c.try_take.new.pass)) inv.1 c.in-Held.ensures.rest.kept in
+    rest_of c.args.self.now c.args.pass.now _ c.requires.pass (kept_both c.args.pass.now.caller (seen_of c.args.pass.now) (seen_of c.loop.pass) (seen_of c.try_take.new.pass) inv.3 kept)
 
-pub returns-in-Gone-clause-still : goal.returns-in-Gone-clause-still
-returns-in-Gone-clause-still g c = let inv = c.loop.invariant in let me : ℕ = c.args.pass.now.caller in let kept = subst (λ (z : ℕ). Kept z (seen_of c.loop.pass) (seen_of c.try_take.new.pass)) inv.1 c.in-Gone.ensures.kept in λ x has m. still (sort_of g.N.Node.layout g.N.Node.ranged) g.D.Discipline.begins g.D.Discipline.step g.N.Node.body _ _ c.args.pass.now _ x c.requires.pass has (λ t. kept_both me (seen_of c.args.pass.now) (seen_of c.loop.pass) (seen_of c.try_take.new.pass) inv.3 kept x.node t) m
+pub returns-in-Gone-clause-rest : goal.returns-in-Gone-clause-rest
+returns-in-Gone-clause-rest g c = let inv = c.loop.invariant in let kept = subst (λ (z : ℕ). Kept z (seen_of c.loop.pass) (seen_of c.try_take.new.pass)) inv.1 c.in-Gone.ensures.rest.kept in
+    rest_of c.args.self.now c.args.pass.now _ c.requires.pass (kept_both c.args.pass.now.caller (seen_of c.args.pass.now) (seen_of c.loop.pass) (seen_of c.try_take.new.pass) inv.3 kept)

@@ -14,7 +14,8 @@ use Rattle.ks_arena.specs.Clauses.{Kept}
 use Rattle.ks_arena.proofs.Words.{word_free, word_other}
 use Rattle.ks_arena.proofs.Moves.{takes_ok}
 use Rattle.ks_arena.proofs.Hold.{top_rest, top_same, out_of, holds_not, makes_grows}
-use Rattle.ks_arena.proofs.After.{still, pass_again, Looked, looked, Gained, gained}
+use Rattle.ks_arena.proofs.After.{pass_again, Looked, looked, Gained, gained}
+use Rattle.ks_arena.proofs.Rest.{rest_of}
 use Rattle.ks_arena.proofs.arena.Arena.try_take.Given.{Over}
 use Rattle.ks_arena.proofs.arena.Arena.try_take.Goals as goal
 use Rattle.ks_arena.proofs.arena.Arena.try_take.Goals.{After-unwrap-body, Then-found-eq0, Else-found-eq0}
@@ -68,8 +69,8 @@ returns-then-found-eq1-clause-took g c = let told = (hit g c).0 c.if-found-eq1.t
       mine = ap (λ (z : View). mine c.args.pass.now.caller z.seen) v ∙ a.mine_is;
     }
 
-pub returns-then-found-eq1-clause-kept : goal.returns-then-found-eq1-clause-kept
-returns-then-found-eq1-clause-kept g c = subst (λ (z : Seated g.row.N.Denot). Kept c.args.pass.now.caller c.args.pass.now.seat.me.0.seen z.0.seen) (sym (final g c)) (got g c).kept
+pub returns-then-found-eq1-clause-rest : goal.returns-then-found-eq1-clause-rest
+returns-then-found-eq1-clause-rest g c = rest_of c.args.self.now c.args.pass.now _ c.requires.pass (subst (λ (z : Seated g.row.N.Denot). Kept c.args.pass.now.caller c.args.pass.now.seat.me.0.seen z.0.seen) (sym (final g c)) (got g c).kept)
 
 then_missed : (g : Over) (c : Then-found-eq0 g) → Looked (sort_of g.N.Node.layout g.N.Node.ranged) g.D.Discipline.begins g.D.Discipline.step c.args.self.now.table.shared.table_id.slots c.args.pass.now.caller c.args.pass.now.seat.me c.compare_exchange-found.new.seat.me
 then_missed g c = let told = (c.compare_exchange-found.ensures.2 c.args.pass.now.caller c.args.node c.requires.pass.own refl).1 c.if-found-eq1.false in let p = c.requires.pass in looked _ _ _ _ c.args.pass.now.caller c.args.pass.now.seat.me c.compare_exchange-found.new.seat.me p.own p.carries p.slots told.1 told.0
@@ -80,8 +81,8 @@ returns-then-found-eq0-clause-pass g c = let a = then_missed g c in pass_again _
 pub returns-then-found-eq0-clause-took : goal.returns-then-found-eq0-clause-took
 returns-then-found-eq0-clause-took g c = let a = then_missed g c in let told = (c.compare_exchange-found.ensures.2 c.args.pass.now.caller c.args.node c.requires.pass.own refl).1 c.if-found-eq1.false in (record { grows = a.grows; hand = a.hand_is; mine = a.mine_is }, word_free _ (sym told.2 ∙ c.if-found-eq0.true))
 
-pub returns-then-found-eq0-clause-kept : goal.returns-then-found-eq0-clause-kept
-returns-then-found-eq0-clause-kept g c = (then_missed g c).kept
+pub returns-then-found-eq0-clause-rest : goal.returns-then-found-eq0-clause-rest
+returns-then-found-eq0-clause-rest g c = rest_of c.args.self.now c.args.pass.now _ c.requires.pass ((then_missed g c).kept)
 
 else_missed : (g : Over) (c : Else-found-eq0 g) → Looked (sort_of g.N.Node.layout g.N.Node.ranged) g.D.Discipline.begins g.D.Discipline.step c.args.self.now.table.shared.table_id.slots c.args.pass.now.caller c.args.pass.now.seat.me c.compare_exchange-found.new.seat.me
 else_missed g c = let told = (c.compare_exchange-found.ensures.2 c.args.pass.now.caller c.args.node c.requires.pass.own refl).1 c.if-found-eq1.false in let p = c.requires.pass in looked _ _ _ _ c.args.pass.now.caller c.args.pass.now.seat.me c.compare_exchange-found.new.seat.me p.own p.carries p.slots told.1 told.0
@@ -98,14 +99,5 @@ returns-else-found-eq0-clause-took g c = let a = else_missed g c in let p = c.re
           (by_others_turn me i seat.0.seen seen a.grows (word_other (turn_after seen i) c.compare_exchange-found.result told.2 c.if-found-eq1.false c.if-found-eq0.false ∙ ap held same)),
     )
 
-pub returns-else-found-eq0-clause-kept : goal.returns-else-found-eq0-clause-kept
-returns-else-found-eq0-clause-kept g c = (else_missed g c).kept
-
-pub returns-then-found-eq1-clause-still : goal.returns-then-found-eq1-clause-still
-returns-then-found-eq1-clause-still g c = λ x has m. still (sort_of g.N.Node.layout g.N.Node.ranged) g.D.Discipline.begins g.D.Discipline.step g.N.Node.body _ _ c.args.pass.now _ x c.requires.pass has (λ t. returns-then-found-eq1-clause-kept g c x.node t) m
-
-pub returns-then-found-eq0-clause-still : goal.returns-then-found-eq0-clause-still
-returns-then-found-eq0-clause-still g c = λ x has m. still (sort_of g.N.Node.layout g.N.Node.ranged) g.D.Discipline.begins g.D.Discipline.step g.N.Node.body _ _ c.args.pass.now _ x c.requires.pass has (λ t. returns-then-found-eq0-clause-kept g c x.node t) m
-
-pub returns-else-found-eq0-clause-still : goal.returns-else-found-eq0-clause-still
-returns-else-found-eq0-clause-still g c = λ x has m. still (sort_of g.N.Node.layout g.N.Node.ranged) g.D.Discipline.begins g.D.Discipline.step g.N.Node.body _ _ c.args.pass.now _ x c.requires.pass has (λ t. returns-else-found-eq0-clause-kept g c x.node t) m
+pub returns-else-found-eq0-clause-rest : goal.returns-else-found-eq0-clause-rest
+returns-else-found-eq0-clause-rest g c = rest_of c.args.self.now c.args.pass.now _ c.requires.pass ((else_missed g c).kept)
