@@ -6,9 +6,9 @@ ghost use Rattle.ks_arena.specs.Clauses.{claim_mark, try_steps, word_steps, step
 ghost use Rattle.ks_arena.specs.Of.{Holds, Looks, Keeps, WasAlone, HeldAlone, nodes_of, callers_of, IsNodeOf, IsPassOf, IsMarkedPassOf, HasTakenFrom, HasClaimedFrom, HasClaimedIn, TriedToClaim, TellsFreeOf, RestStays};
 
 use crate::arena::Arena;
-use crate::held::{Held, Pass, Taken};
+use crate::held::{Held, Pass};
 use crate::laws::sound_law;
-use crate::plays::{Claims, ClearsBit, Scans};
+use crate::plays::{Claims, ClearsBit, Scans, Takes};
 use crate::steps::Steps;
 use crossbeam_utils::Backoff;
 use ks_flow::Discipline;
@@ -28,15 +28,42 @@ impl<N: Node, D: Discipline> Arena<N, D> {
         ensures took { HasTakenFrom self.now node pass.old pass.new result }
         ensures rest { RestStays self.now pass.old pass.new }
     {
-        let backoff = Backoff::new();
+        let at = node as usize;
+        let shared = &self.table.shared;
         for _ in rt.forever() {
-            match self.try_take(pass, node) {
-                Taken::Held(held) => return Some(held),
-                Taken::Gone => return None,
-                Taken::Busy { holder: _ } => backoff.snooze(),
+            let found = shared.compare_exchange::<Takes<D>>(
+                &mut pass.seat,
+                at + 2,
+                1,
+                pass.caller as u64 + 2,
+            );
+            if found == 1 {
+                let body = shared.exchange(&mut pass.seat, at, None).unwrap();
+                return Some(Held {
+                    node,
+                    live: true,
+                    body,
+                });
             }
+            if found == 0 {
+                return None;
+            }
+            self.watch(rt, node);
         }
         unreachable!()
+    }
+
+    /// Looks at the turn of a node until nobody has it.
+    fn watch<R: Wait>(&self, rt: &R, node: u32)
+        requires { node < self.now.nodes }
+    {
+        let backoff = Backoff::new();
+        for _ in rt.forever() {
+            if self.table.shared.peek(node as usize + 2) <= 1 {
+                return;
+            }
+            backoff.snooze();
+        }
     }
 
     /// Claims the first node, from node 1 upward, that it finds free. `None`: none was found free.
