@@ -25,9 +25,11 @@ pub fn tries_law()
     ensures put { (layout : Layout) (template : Template) (n c : ℕ) (op : Operation) (s0 s1 : List Happening)
         (answer : Result Numbered PutLater) → ActsAlone c s0 s1 → HoldsAlone c s0 →
         TriedPut layout template n c op s0 s1 answer → IsDoneIn answer }
-    ensures told { (layout : Layout) (template : Template) (n c : ℕ) (op : Operation) (s0 s1 : List Happening) (answer : Result Numbered Later) →
+    ensures told { (layout : Layout) (template : Template) (n c : ℕ) (op : Operation)
+        (s0 s1 : List Happening) (answer : Result Numbered Later) →
         Tried layout template n c op s0 s1 answer → MayTell template answer }
-    ensures put_told { (layout : Layout) (template : Template) (n c : ℕ) (op : Operation) (s0 s1 : List Happening) (answer : Result Numbered PutLater) →
+    ensures put_told { (layout : Layout) (template : Template) (n c : ℕ) (op : Operation)
+        (s0 s1 : List Happening) (answer : Result Numbered PutLater) →
         TriedPut layout template n c op s0 s1 answer → PutMayTell template answer }
 {
     alone_law();

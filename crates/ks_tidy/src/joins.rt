@@ -64,7 +64,8 @@ pub(crate) fn join_beside<N: Unlinked, G: Gate>(
     mut right: Held<N>,
 ) -> Step<N>
     requires pass { IsPassOf arena.now pass.old }
-    requires trio { IsTrioOf arena.now pass.old.caller place pass.old (record { parent = Some parent; node = node }) right }
+    requires trio { IsTrioOf arena.now pass.old.caller place pass.old
+        (record { parent = Some parent; node = node }) right }
     requires unchained { chained_of (N.body node.body) ≡ None }
     requires beside { right_child (N.body parent.body) place ≡ Some right.node }
     requires no_sole { HasNoSole arena.now (Some parent) }

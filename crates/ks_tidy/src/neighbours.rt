@@ -43,7 +43,8 @@ pub(crate) fn next_law<N: Unlinked>(
     target: u32,
 )
     requires pass { IsPassOf arena.now pass.now }
-    requires pair { IsPairOf arena.now pass.now.caller place pass.now (record { parent = Some parent.now; node = node.now }) }
+    requires pair { IsPairOf arena.now pass.now.caller place pass.now
+        (record { parent = Some parent.now; node = node.now }) }
     requires unchained { chained_of (N.body node.now.body) ≡ None }
     requires beside { right_child (N.body parent.now.body) place ≡ Some target }
     ensures edge { Any (λ e. e.node ≡ target) (edges_of (N.body parent.now.body)) }
