@@ -19,6 +19,7 @@ use std::sync::ledger::{Blank, Ledger};
 
 impl<N: Node, D: Discipline> Arena<N, D> {
     /// Takes the node once nobody else holds it. `None`: it is free.
+    #[inline(always)]
     pub fn take<R: Wait>(&self, rt: &R, pass: &mut Pass<N, D>, node: u32) -> Option<Held<N>>
         requires pass { IsPassOf self.now pass.old }
         requires node { IsNodeOf self.now node }
@@ -54,6 +55,8 @@ impl<N: Node, D: Discipline> Arena<N, D> {
     }
 
     /// Looks at the turn of a node until nobody has it.
+    #[cold]
+    #[inline(never)]
     fn watch<R: Wait>(&self, rt: &R, node: u32)
         requires { node < self.now.nodes }
     {

@@ -58,6 +58,7 @@ impl<N: Node, D: Discipline> Arena<N, D> {
     }
 
     /// Gives a node back: a live one to whoever takes it next, any other one to be claimed.
+    #[inline(always)]
     pub fn give(&self, pass: &mut Pass<N, D>, held: Held<N>)
         requires pass { IsPassOf self.now pass.old }
         requires holds { Holds pass.old held.node }
@@ -78,6 +79,8 @@ impl<N: Node, D: Discipline> Arena<N, D> {
     }
 
     /// Sets the bit of a node that is about to be given free.
+    #[cold]
+    #[inline(never)]
     fn set_bit(&self, pass: &mut Pass<N, D>, node: u32)
         requires pass { IsPassOf self.now pass.old }
         requires holds { Holds pass.old node }
@@ -93,6 +96,7 @@ impl<N: Node, D: Discipline> Arena<N, D> {
     }
 
     /// Puts the body back into its slot and gives the turn away. The bit of a node that is not live is set.
+    #[inline(always)]
     fn put_back(&self, pass: &mut Pass<N, D>, held: Held<N>)
         requires pass { IsMarkedPassOf self.now (give_mark held.live held.node) pass.old }
         requires holds { Holds pass.old held.node }
