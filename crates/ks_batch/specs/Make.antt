@@ -11,6 +11,7 @@ use Rattle.ks_batch.specs.declared.words.Draft.{Draft}
 use Rattle.ks_batch.specs.declared.words.Asked.TheVariants.{Make}
 use Rattle.ks_batch.specs.Pairings.{row_of}
 use Rattle.ks_batch.specs.Words.{Spells}
+use Rattle.ks_batch.specs.declared.status.TheConstants.{DONE, OUTPUT_FAILED, NO_MEMORY}
 
 -- the trace h served the script that is made, with these places for keys, and of the summary of the run that tells it
 -- Took holds
@@ -29,7 +30,7 @@ pub record MakesOutcome (words : List (List ℕ)) (old new : Option (List ℕ)) 
   pub arena : ℕ
   pub draft : Draft
   pub spells : Spells words (Make pairing arena draft)
-  pub known : (status ≡ 0) ⊎ ((status ≡ 4) ⊎ (status ≡ 5))
-  pub ran : IsSome run ↔ ((status ≡ 0) ⊎ (status ≡ 4))
-  pub done : status ≡ 0 → IfSome run (λ h. Sums (row_of pairing).place draft h (λ t. Grew old new t))
-  pub cut : status ≡ 4 → IfSome run (λ h. Sums (row_of pairing).place draft h (λ t. GrewByFront old new t))
+  pub known : (status ≡ DONE) ⊎ ((status ≡ OUTPUT_FAILED) ⊎ (status ≡ NO_MEMORY))
+  pub ran : IsSome run ↔ ((status ≡ DONE) ⊎ (status ≡ OUTPUT_FAILED))
+  pub done : status ≡ DONE → IfSome run (λ h. Sums (row_of pairing).place draft h (λ t. Grew old new t))
+  pub cut : status ≡ OUTPUT_FAILED → IfSome run (λ h. Sums (row_of pairing).place draft h (λ t. GrewByFront old new t))

@@ -13,6 +13,7 @@ use Rattle.ks_judge.specs.declared.judging.Judged.TheVariants.{Legal, Wrong}
 use Rattle.ks_judge.specs.Verdict.{IsJudged}
 use Rattle.ks_batch.specs.declared.words.Text.{Text}
 use Rattle.ks_batch.specs.declared.words.Text.TheVariants.{Script, Checked}
+use Rattle.ks_batch.specs.declared.status.TheConstants.{DONE, OUTPUT_FAILED, WRONG}
 
 -- how many bytes a text may have
 abbrev pub limit_of : Text → ℕ
@@ -70,6 +71,6 @@ judged_line (Wrong number) = codes "wrong " ++ decimal number ++ codes "\n"
 
 -- what a check leaves: with status 0 or 6 its line on the output, and with status 4 first bytes of it
 pub record IsCheck (left old new : Option (List ℕ)) (status number : ℕ) : Type 0 where
-  pub legal : status ≡ 0 → IfSome left (λ bytes. (calls : ℕ) × Judges bytes (Legal calls) × Grew old new (judged_line (Legal calls)))
-  pub wrong : status ≡ 6 → IfSome left (λ bytes. Judges bytes (Wrong number) × Grew old new (judged_line (Wrong number)))
-  pub cut : status ≡ 4 → IfSome left (λ bytes. (judged : Judged) × Judges bytes judged × GrewByFront old new (judged_line judged))
+  pub legal : status ≡ DONE → IfSome left (λ bytes. (calls : ℕ) × Judges bytes (Legal calls) × Grew old new (judged_line (Legal calls)))
+  pub wrong : status ≡ WRONG → IfSome left (λ bytes. Judges bytes (Wrong number) × Grew old new (judged_line (Wrong number)))
+  pub cut : status ≡ OUTPUT_FAILED → IfSome left (λ bytes. (judged : Judged) × Judges bytes judged × GrewByFront old new (judged_line judged))

@@ -9,6 +9,7 @@ mod input;
 mod message;
 mod pairings;
 mod serving;
+pub mod status;
 mod words;
 
 pub use input::Stop;

@@ -4,6 +4,7 @@ ghost use Rattle.std.specs.Prelude.{OnOk, OnErr};
 ghost use Rattle.ks_script.specs.Outside.{Rose, Grew, GrewByFront};
 ghost use Rattle.ks_batch.specs.Message.{status_text};
 
+use crate::status::{NO_COMMAND, NO_MEMORY, OUTPUT_FAILED, REFUSED, SOURCE_FAILED};
 use ks_script::{Failed, Sink, send, send_line};
 
 const USAGE: &[u8] =
@@ -16,17 +17,17 @@ fn say<E: Sink>(err: &mut E, status: u8, line: u64) -> Result<(), Failed>
     ensures cause { OnErr result (Rose (E.faults err.old) (E.faults err.new)) }
 {
     match status {
-        1 => send(err, USAGE),
-        2 => {
+        NO_COMMAND => send(err, USAGE),
+        REFUSED => {
             if line == 0 {
                 send(err, b"too many bytes\n")
             } else {
                 send_line(err, b"line ", line, b" refused\n")
             }
         }
-        3 => send(err, b"read fault\n"),
-        4 => send(err, b"write fault\n"),
-        5 => send(err, b"no memory\n"),
+        SOURCE_FAILED => send(err, b"read fault\n"),
+        OUTPUT_FAILED => send(err, b"write fault\n"),
+        NO_MEMORY => send(err, b"no memory\n"),
         _ => send(err, b""),
     }
 }

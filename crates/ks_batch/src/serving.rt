@@ -19,6 +19,7 @@ ghost use Rattle.ks_batch.specs.Stop.{IsCause};
 use crate::input::{Stop, load, load_checked};
 use crate::message::tell;
 use crate::pairings::{Pairing, serve_by};
+use crate::status::{DONE, NO_COMMAND, NO_MEMORY, OUTPUT_FAILED, REFUSED, SOURCE_FAILED, WRONG};
 use crate::words::{Asked, Draft, MOST_WORKERS, command};
 use ks_arena::RunTrace;
 use ks_dictionary::Told;
@@ -33,8 +34,8 @@ use std::thread::Threads;
 /// How the program ended.
 #[derive(Drop)]
 pub struct Outcome {
-    /// 0: done; 1: the words are no command; 2: the input is refused; 3: the source failed; 4: the output failed;
-    /// 5: memory was wanting; 6: the checked run is wrong.
+    /// One of the statuses: 0, done; 1, the words are no command; 2, the input is refused; 3, the source failed; 4, the
+    /// output failed; 5, memory was wanting; 6, the checked run is wrong.
     pub status: u8,
     /// The line at which the input is refused, counted from 1; 0 where it is too long, and with any other status.
     pub line: u64,
@@ -122,27 +123,27 @@ fn serve_script<R: Threads + Wait + Sync, S: Source, K: Sink, G: Gate + Sync>(
     ensures lawful { IfSome result.run Lawful }
     ensures good { IfSome result.run GoodThroughout }
     ensures due { IfSome result.run (FullsDue (row_of pairing).layout arena) }
-    ensures ran { IsSome result.run ↔ ((result.status ≡ 0) ⊎ (result.status ≡ 4)) }
-    ensures status { (result.status ≢ 1) × (result.status ≤ 5) }
-    ensures line { result.status ≢ 2 → result.line ≡ 0 }
+    ensures ran { IsSome result.run ↔ ((result.status ≡ DONE) ⊎ (result.status ≡ OUTPUT_FAILED)) }
+    ensures status { (result.status ≢ NO_COMMAND) × (result.status ≤ NO_MEMORY) }
+    ensures line { result.status ≢ REFUSED → result.line ≡ 0 }
     ensures number { result.number ≡ 0 }
-    ensures done { result.status ≡ 0 →
+    ensures done { result.status ≡ DONE →
         PrintsRun (row_of pairing).place (S.left source.old) result.run (Grew (K.taken out.old) (K.taken out.new)) }
-    ensures cut { result.status ≡ 4 →
+    ensures cut { result.status ≡ OUTPUT_FAILED →
         PrintsRun (row_of pairing).place (S.left source.old) result.run
         (GrewByFront (K.taken out.old) (K.taken out.new)) }
     ensures end { IsSome result.run → IfSome (S.left source.old) (λ _. S.left source.new ≡ Some []) }
-    ensures untouched { result.status ≢ 0 → result.status ≢ 4 → K.taken out.new ≡ K.taken out.old }
-    ensures refused { result.status ≡ 2 →
+    ensures untouched { result.status ≢ DONE → result.status ≢ OUTPUT_FAILED → K.taken out.new ≡ K.taken out.old }
+    ensures refused { result.status ≡ REFUSED →
         IfSome (S.left source.old) (λ bytes. RefusedAt text.Script bytes result.line) }
-    ensures source { result.status ≡ 3 → Rose (S.faults source.old) (S.faults source.new) }
-    ensures output { result.status ≡ 4 → Rose (K.faults out.old) (K.faults out.new) }
+    ensures source { result.status ≡ SOURCE_FAILED → Rose (S.faults source.old) (S.faults source.new) }
+    ensures output { result.status ≡ OUTPUT_FAILED → Rose (K.faults out.old) (K.faults out.new) }
 {
     match prepare(rt, alloc, pairing, arena, workers, source, gate) {
         Ok(ready) => {
             let status = match write_run(out, &ready.printed) {
-                Ok(()) => 0,
-                Err(_) => 4,
+                Ok(()) => DONE,
+                Err(_) => OUTPUT_FAILED,
             };
             Outcome {
                 status,
@@ -151,9 +152,9 @@ fn serve_script<R: Threads + Wait + Sync, S: Source, K: Sink, G: Gate + Sync>(
                 run: Some(ready.trace),
             }
         }
-        Err(Stop::Refused { line }) => Outcome::without_run(2, line),
-        Err(Stop::Source) => Outcome::without_run(3, 0),
-        Err(Stop::Memory) => Outcome::without_run(5, 0),
+        Err(Stop::Refused { line }) => Outcome::without_run(REFUSED, line),
+        Err(Stop::Source) => Outcome::without_run(SOURCE_FAILED, 0),
+        Err(Stop::Memory) => Outcome::without_run(NO_MEMORY, 0),
     }
 }
 
@@ -186,33 +187,33 @@ fn say_judged<K: Sink>(out: &mut K, judged: Judged) -> Result<(), Failed>
 /// The command `check`: judges the script and the run on the source, and writes what they are judged to be.
 fn check_run<S: Source, K: Sink>(alloc: Global, source: &mut S, out: &mut K) -> Outcome
     ensures run { IsNone result.run }
-    ensures status { (result.status ≢ 1) × (result.status ≤ 6) }
-    ensures line { result.status ≢ 2 → result.line ≡ 0 }
-    ensures number { result.status ≢ 6 → result.number ≡ 0 }
+    ensures status { (result.status ≢ NO_COMMAND) × (result.status ≤ WRONG) }
+    ensures line { result.status ≢ REFUSED → result.line ≡ 0 }
+    ensures number { result.status ≢ WRONG → result.number ≡ 0 }
     ensures checked { IsCheck (S.left source.old) (K.taken out.old) (K.taken out.new) result.status result.number }
-    ensures untouched { result.status ≢ 0 → result.status ≢ 4 → result.status ≢ 6 →
+    ensures untouched { result.status ≢ DONE → result.status ≢ OUTPUT_FAILED → result.status ≢ WRONG →
         K.taken out.new ≡ K.taken out.old }
-    ensures refused { result.status ≡ 2 →
+    ensures refused { result.status ≡ REFUSED →
         IfSome (S.left source.old) (λ bytes. RefusedAt text.Checked bytes result.line) }
-    ensures source { result.status ≡ 3 → Rose (S.faults source.old) (S.faults source.new) }
-    ensures output { result.status ≡ 4 → Rose (K.faults out.old) (K.faults out.new) }
+    ensures source { result.status ≡ SOURCE_FAILED → Rose (S.faults source.old) (S.faults source.new) }
+    ensures output { result.status ≡ OUTPUT_FAILED → Rose (K.faults out.old) (K.faults out.new) }
 {
     match judged(alloc, source) {
         Ok(judged) => match say_judged(out, judged) {
             Ok(()) => match judged {
-                Judged::Legal { .. } => Outcome::without_run(0, 0),
+                Judged::Legal { .. } => Outcome::without_run(DONE, 0),
                 Judged::Wrong { number } => Outcome {
-                    status: 6,
+                    status: WRONG,
                     line: 0,
                     number,
                     run: None,
                 },
             },
-            Err(_) => Outcome::without_run(4, 0),
+            Err(_) => Outcome::without_run(OUTPUT_FAILED, 0),
         },
-        Err(Stop::Refused { line }) => Outcome::without_run(2, line),
-        Err(Stop::Source) => Outcome::without_run(3, 0),
-        Err(Stop::Memory) => Outcome::without_run(5, 0),
+        Err(Stop::Refused { line }) => Outcome::without_run(REFUSED, line),
+        Err(Stop::Source) => Outcome::without_run(SOURCE_FAILED, 0),
+        Err(Stop::Memory) => Outcome::without_run(NO_MEMORY, 0),
     }
 }
 
@@ -267,22 +268,22 @@ fn make_run<R: Threads + Wait + Sync, K: Sink, G: Gate + Sync>(
     ensures lawful { IfSome result.run Lawful }
     ensures good { IfSome result.run GoodThroughout }
     ensures due { IfSome result.run (FullsDue (row_of pairing).layout arena) }
-    ensures ran { IsSome result.run ↔ ((result.status ≡ 0) ⊎ (result.status ≡ 4)) }
-    ensures status { (result.status ≡ 0) ⊎ ((result.status ≡ 4) ⊎ (result.status ≡ 5)) }
+    ensures ran { IsSome result.run ↔ ((result.status ≡ DONE) ⊎ (result.status ≡ OUTPUT_FAILED)) }
+    ensures status { (result.status ≡ DONE) ⊎ ((result.status ≡ OUTPUT_FAILED) ⊎ (result.status ≡ NO_MEMORY)) }
     ensures line { result.line ≡ 0 }
     ensures number { result.number ≡ 0 }
-    ensures done { result.status ≡ 0 →
+    ensures done { result.status ≡ DONE →
         IfSome result.run (λ h. Sums (row_of pairing).place draft h (Grew (K.taken out.old) (K.taken out.new))) }
-    ensures cut { result.status ≡ 4 →
+    ensures cut { result.status ≡ OUTPUT_FAILED →
         IfSome result.run (λ h. Sums (row_of pairing).place draft h (GrewByFront (K.taken out.old) (K.taken out.new))) }
-    ensures untouched { result.status ≢ 0 → result.status ≢ 4 → K.taken out.new ≡ K.taken out.old }
-    ensures output { result.status ≡ 4 → Rose (K.faults out.old) (K.faults out.new) }
+    ensures untouched { result.status ≢ DONE → result.status ≢ OUTPUT_FAILED → K.taken out.new ≡ K.taken out.old }
+    ensures output { result.status ≡ OUTPUT_FAILED → Rose (K.faults out.old) (K.faults out.new) }
 {
     match make(rt, alloc, pairing, arena, draft, MOST_WORKERS, gate) {
         Ok(made) => {
             let status = match send(out, &made.text) {
-                Ok(()) => 0,
-                Err(_) => 4,
+                Ok(()) => DONE,
+                Err(_) => OUTPUT_FAILED,
             };
             Outcome {
                 status,
@@ -291,7 +292,7 @@ fn make_run<R: Threads + Wait + Sync, K: Sink, G: Gate + Sync>(
                 run: Some(made.trace),
             }
         }
-        Err(_) => Outcome::without_run(5, 0),
+        Err(_) => Outcome::without_run(NO_MEMORY, 0),
     }
 }
 
@@ -318,15 +319,15 @@ pub fn serve<R: Threads + Wait + Sync, S: Source, K: Sink, E: Sink, G: Gate + Sy
     ensures due { (pairing : Pairing) (nodes : ℕ) → AskToServe (bytes_of words.now) pairing nodes →
         IfSome result.run (FullsDue (row_of pairing).layout nodes) }
     ensures ran { Asks (bytes_of words.now) text.Script →
-        (IsSome result.run ↔ ((result.status ≡ 0) ⊎ (result.status ≡ 4))) }
+        (IsSome result.run ↔ ((result.status ≡ DONE) ⊎ (result.status ≡ OUTPUT_FAILED))) }
     ensures not_ran { Asks (bytes_of words.now) text.Checked → IsNone result.run }
 
     // What is written is the text of a run that this served, or, where the output failed, first bytes of it.
     ensures done { (pairing : Pairing) (nodes : ℕ) →
-        AsksToRun (bytes_of words.now) pairing nodes → result.status ≡ 0 →
+        AsksToRun (bytes_of words.now) pairing nodes → result.status ≡ DONE →
         PrintsRun (row_of pairing).place (S.left source.old) result.run (Grew (K.taken out.old) (K.taken out.new)) }
     ensures cut { (pairing : Pairing) (nodes : ℕ) →
-        AsksToRun (bytes_of words.now) pairing nodes → result.status ≡ 4 →
+        AsksToRun (bytes_of words.now) pairing nodes → result.status ≡ OUTPUT_FAILED →
         PrintsRun (row_of pairing).place (S.left source.old) result.run
         (GrewByFront (K.taken out.old) (K.taken out.new)) }
     ensures end { Asks (bytes_of words.now) text.Script → IsSome result.run →
@@ -335,34 +336,35 @@ pub fn serve<R: Threads + Wait + Sync, S: Source, K: Sink, E: Sink, G: Gate + Sy
     // Or it is the line of the judgment of the run that was read.
     ensures checked { Asks (bytes_of words.now) text.Checked →
         IsCheck (S.left source.old) (K.taken out.old) (K.taken out.new) result.status result.number }
-    ensures untouched { result.status ≢ 0 → result.status ≢ 4 → result.status ≢ 6 →
+    ensures untouched { result.status ≢ DONE → result.status ≢ OUTPUT_FAILED → result.status ≢ WRONG →
         K.taken out.new ≡ K.taken out.old }
 
     // When each status comes.
-    ensures usage { (result.status ≡ 1) ↔ ¬ IsCommand (bytes_of words.now) }
+    ensures usage { (result.status ≡ NO_COMMAND) ↔ ¬ IsCommand (bytes_of words.now) }
     ensures made { IsMake (bytes_of words.now) →
         MakesOutcome (bytes_of words.now) (K.taken out.old) (K.taken out.new) result.status result.run }
-    ensures unread { (result.status ≡ 1) ⊎ IsMake (bytes_of words.now) →
+    ensures unread { (result.status ≡ NO_COMMAND) ⊎ IsMake (bytes_of words.now) →
         S.left source.new ≡ S.left source.old }
-    ensures refused { (t : Text) → Asks (bytes_of words.now) t → result.status ≡ 2 →
+    ensures refused { (t : Text) → Asks (bytes_of words.now) t → result.status ≡ REFUSED →
         IfSome (S.left source.old) (λ bytes. RefusedAt t bytes result.line) }
     ensures refusal_due { (t : Text) → Asks (bytes_of words.now) t →
         ¬ Rose (S.faults source.old) (S.faults source.new) →
         IfSome (S.left source.old) (λ bytes. (n : ℕ) → RefusedAt t bytes n →
-        ((result.status ≡ 2) × (result.line ≡ n)) ⊎ (result.status ≡ 5)) }
-    ensures source { result.status ≡ 3 → Rose (S.faults source.old) (S.faults source.new) }
-    ensures output { result.status ≡ 4 → Rose (K.faults out.old) (K.faults out.new) }
-    ensures judgment { result.status ≡ 6 → Asks (bytes_of words.now) text.Checked }
+        ((result.status ≡ REFUSED) × (result.line ≡ n)) ⊎ (result.status ≡ NO_MEMORY)) }
+    ensures source { result.status ≡ SOURCE_FAILED → Rose (S.faults source.old) (S.faults source.new) }
+    ensures output { result.status ≡ OUTPUT_FAILED → Rose (K.faults out.old) (K.faults out.new) }
+    ensures judgment { result.status ≡ WRONG → Asks (bytes_of words.now) text.Checked }
     ensures done_due { Asks (bytes_of words.now) text.Script →
         ¬ Rose (S.faults source.old) (S.faults source.new) → ¬ Rose (K.faults out.old) (K.faults out.new) →
         IfSome (S.left source.old) (λ bytes. (script : List (List Op)) → Accepts bytes script →
-        (result.status ≡ 0) ⊎ (result.status ≡ 5)) }
+        (result.status ≡ DONE) ⊎ (result.status ≡ NO_MEMORY)) }
     ensures judged_due { Asks (bytes_of words.now) text.Checked →
         ¬ Rose (S.faults source.old) (S.faults source.new) → ¬ Rose (K.faults out.old) (K.faults out.new) →
         IfSome (S.left source.old) (λ bytes. (script : List (List Op)) (run : printed_run.Run) →
-        AcceptsChecked bytes script run → (result.status ≡ 0) ⊎ ((result.status ≡ 6) ⊎ (result.status ≡ 5))) }
-    ensures line { result.status ≢ 2 → result.line ≡ 0 }
-    ensures number { result.status ≢ 6 → result.number ≡ 0 }
+        AcceptsChecked bytes script run →
+        (result.status ≡ DONE) ⊎ ((result.status ≡ WRONG) ⊎ (result.status ≡ NO_MEMORY))) }
+    ensures line { result.status ≢ REFUSED → result.line ≡ 0 }
+    ensures number { result.status ≢ WRONG → result.number ≡ 0 }
 
     // What is said on the error output: the text of the status, whole if it did not fail.
     ensures said { ¬ Rose (E.faults err.old) (E.faults err.new) →
@@ -385,7 +387,7 @@ pub fn serve<R: Threads + Wait + Sync, S: Source, K: Sink, E: Sink, G: Gate + Sy
             },
         ) => make_run(rt, alloc, pairing, arena, draft, out, gate),
         Some(Asked::Check) => check_run(alloc, source, out),
-        None => Outcome::without_run(1, 0),
+        None => Outcome::without_run(NO_COMMAND, 0),
     };
     tell(err, outcome.status, outcome.line);
     outcome
