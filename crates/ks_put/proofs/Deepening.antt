@@ -1,11 +1,9 @@
 -- How deep a search stands after its caller claimed, split and gave nodes.
-use Rattle.std.proofs.Common.{◌≡◌, ℕ, zero, suc, ◌≤◌, Bool, true, false, cond, length, List, [], ◌∷◌, ◌++◌, sym, refl, ap, subst, inl, inr, arith}
-use Rattle.std.specs.Prelude.{All, Any, Option, Some, None}
+use Rattle.std.proofs.Common.{◌≡◌, ℕ, zero, suc, ◌≤◌, Bool, true, false, cond, length, List, [], ◌∷◌, ◌++◌, sym, refl, ap, subst, inl, arith}
+use Rattle.std.specs.Prelude.{All, Option, Some, None}
 use Rattle.ks_keysets.specs.declared.Change.{Change}
-use Rattle.ks_keysets.specs.declared.Edge.{Edge}
 use Rattle.ks_keysets.specs.declared.Kind.{Kind}
 use Rattle.ks_keysets.specs.Keyset.{record_at}
-use Rattle.ks_keysets.specs.Walk.{OneParent}
 use Rattle.ks_history.specs.declared.Event.{Event}
 use Rattle.ks_history.specs.declared.Event.TheVariants.{Give, Shape}
 use Rattle.ks_history.specs.Due.{takes_by}

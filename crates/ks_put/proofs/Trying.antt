@@ -9,6 +9,12 @@ use Rattle.ks_flow.specs.Tree.{Tree}
 use Rattle.ks_node.specs.declared.start.Next.TheVariants.{Here}
 use Rattle.ks_node.specs.Sound.{Sound as InOrder}
 use Rattle.ks_arena.specs.Sound.{Sort, blank_of}
+use Rattle.ks_arena.specs.Clauses.{seen_of}
+use Rattle.ks_arena.specs.declared.held.Pass.{Pass}
+use Rattle.ks_history.specs.Descent.{TookSince}
+use Rattle.ks_history.specs.Due.{NoneFree}
+use Rattle.ks_shape.specs.Stretches.{Stretches}
+use Rattle.ks_put.specs.Deeper.{IsDownPath}
 use Rattle.ks_arena.specs.Laws.Writes.{ends_at_no_branch}
 use Rattle.ks_shape.specs.Laws.Single.{shown, record_is}
 use Rattle.ks_put.specs.OnPath.{IsOnPath}
@@ -20,7 +26,7 @@ use Rattle.ks_node.specs.Room.{is_full}
 use Rattle.ks_arena.specs.declared.held.Held.{Held as Hand}
 use Rattle.ks_history.specs.declared.Event.{Event}
 use Rattle.ks_history.specs.declared.Op.{Op}
-use Rattle.ks_history.specs.Done.{Template, coupling, give_up, link_move, Left}
+use Rattle.ks_history.specs.Done.{Template, coupling, Left}
 use Rattle.ks_shape.specs.declared.answers.Later.{Later}
 use Rattle.ks_shape.specs.declared.answers.Later.TheVariants.{Busy, Moved, Far}
 use Rattle.ks_shape.specs.declared.answers.PutLater.TheVariants.{Later as Otherwise}
@@ -33,7 +39,7 @@ use Rattle.ks_try.specs.Of.{IsCauseAt}
 use Rattle.ks_put.specs.Tries.{WentDown, WasRefused, IsEasedBut, IsEasedStep, IsNearer, IsPutOffBy}
 
 pub refused_before : {N : Type 0} (x : Hand N) (depth : ℕ) (refused : Bool) (None_free : Type 0) (result : Result (Step N) Later) → WentDown x depth refused result → WasRefused refused None_free result
-refused_before x depth refused None_free (Ok step) went = λ t. inl (subst (λ (b : Bool). IsTrue b) went.2.2 t)
+refused_before x depth refused None_free (Ok step) went = λ t. inl (subst (λ (b : Bool). IsTrue b) went.2 t)
 refused_before x depth refused None_free (Err later) went = tt
 
 pub refused_now : {N : Type 0} (x : Hand N) (depth : ℕ) (refused : Bool) (None_free : Type 0) (result : Result (Step N) Later) → None_free → WentDown x depth true result → WasRefused refused None_free result
@@ -42,7 +48,7 @@ refused_now x depth refused None_free (Err later) none went = tt
 
 module _ {N : Type 0} (layout : Layout) (shows : N → Body) where
   pub eased_down : (x : Hand N) (depth : ℕ) (refused : Bool) (Grow : Type 0) (result : Result (Step N) Later) → WentDown x depth refused result → IsEasedBut layout shows Grow refused (Some x) → IsEasedStep layout shows Grow result
-  eased_down x depth refused Grow (Ok step) went room = λ r grow. subst (λ (o : Option (Hand N)). HasRoomAbove layout shows o) (sym went.0) (room (sym went.2.2 ∙ r) grow)
+  eased_down x depth refused Grow (Ok step) went room = λ r grow. subst (λ (o : Option (Hand N)). HasRoomAbove layout shows o) (sym went.0) (room (sym went.2 ∙ r) grow)
   eased_down x depth refused Grow (Err later) went room = tt
 
   pub nearer_down : (x : Hand N) (depth : ℕ) (refused : Bool) (path : Path N) (result : Result (Step N) Later) → WentDown x depth refused result → IsNearer layout shows depth path result
@@ -104,3 +110,20 @@ but_far n c op s h Far so = so.0
 
 pub put_off : (even : Type 0) (n c place : ℕ) (s h : List Event) (later : Later) → IsCauseAt coupling n c place s h later → IsPutOffBy even n c place s h later
 put_off even n c place s h later so = λ op touched. (but_far n c op s h later (so op touched), λ e. so op touched)
+
+-- where a search stands at the start of a turn
+module _ {N D : Type 0} (sort : Sort) (shows : N → Body) (even Grow : Type 0) (Fit : Pass N D → Type 0) (nodes me place turn : ℕ) (s : List Event) where
+  abbrev pub TurnAt : Pass N D → Path N → ℕ → Bool → Type 0
+  TurnAt p x d r =
+      Fit p
+      × (p.caller ≡ me)
+      × IsOnPath sort shows p.caller place (seen_of p) x
+      × Stretches p.caller s (seen_of p)
+      × (IsTrue r → NoneFree sort.layout nodes p.caller place s (seen_of p))
+      × ((start : List Event) → TookSince p.caller start s 0 1 → IsDownPath nodes p.caller start (seen_of p) (suc d) 2 d x)
+      × (d < nodes)
+      × (even → IsEasedBut sort.layout shows Grow r x.parent × AreTurns sort.layout shows x d turn)
+
+  pub turn_as : (p q : Pass N D) (x y : Path N) (d e : ℕ) (r b : Bool) → q ≡ p → y ≡ x → e ≡ d → b ≡ r → TurnAt p x d r → TurnAt q y e b
+  turn_as p q x y d e r b one two three four so =
+      subst (λ (z : Pass N D). TurnAt z y e b) (sym one) (subst (λ (z : Path N). TurnAt p z e b) (sym two) (subst (λ (z : ℕ). TurnAt p x z b) (sym three) (subst (λ (z : Bool). TurnAt p x d z) (sym four) so)))

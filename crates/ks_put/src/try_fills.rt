@@ -34,14 +34,16 @@ pub fn try_pair_put<N: Unlinked, G: Gate>(
     ensures tried { FinishesTry arena.now (Put place value) pass.old pass.new result }
 {
     match try_make_room(arena, pass, gate, place) {
-        Ok(Room::Found(held)) => Ok(put_here(arena, pass, gate, place, value, held)),
-        Ok(Room::Refused(held)) => {
-            let op = Op::Put(place, value);
-            let full = refuse_here(arena, pass, gate, place, value, held, op);
-            Err(PutLater::Full {
-                number: full.number,
-            })
-        }
+        Ok(room) => match room {
+            Room::Found(held) => Ok(put_here(arena, pass, gate, place, value, held)),
+            Room::Refused(held) => {
+                let op = Op::Put(place, value);
+                let full = refuse_here(arena, pass, gate, place, value, held, op);
+                Err(PutLater::Full {
+                    number: full.number,
+                })
+            }
+        },
         Err(later) => Err(PutLater::Later(later)),
     }
 }
@@ -65,14 +67,16 @@ pub fn try_pair_add<N: Unlinked, G: Gate>(
     ensures tried { FinishesTry arena.now (Add place value) pass.old pass.new result }
 {
     match try_make_room(arena, pass, gate, place) {
-        Ok(Room::Found(held)) => Ok(add_here(arena, pass, gate, place, value, held)),
-        Ok(Room::Refused(held)) => {
-            let op = Op::Add(place, value);
-            let full = refuse_here(arena, pass, gate, place, value, held, op);
-            Err(PutLater::Full {
-                number: full.number,
-            })
-        }
+        Ok(room) => match room {
+            Room::Found(held) => Ok(add_here(arena, pass, gate, place, value, held)),
+            Room::Refused(held) => {
+                let op = Op::Add(place, value);
+                let full = refuse_here(arena, pass, gate, place, value, held, op);
+                Err(PutLater::Full {
+                    number: full.number,
+                })
+            }
+        },
         Err(later) => Err(PutLater::Later(later)),
     }
 }

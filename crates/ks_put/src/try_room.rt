@@ -230,11 +230,13 @@ pub(crate) fn try_make_room<N: Unlinked, G: Gate>(
         match path.node.body.next(place) {
             Next::Go(child) => {
                 match try_go_on(arena, pass, gate, place, path, child, depth, refused) {
-                    Ok(Step {
-                        path: next,
-                        depth: deeper,
-                        refused: was,
-                    }) => {
+                    Ok(
+                        Step {
+                            path: next,
+                            depth: deeper,
+                            refused: was,
+                        },
+                    ) => {
                         path = next;
                         depth = deeper;
                         refused = was;

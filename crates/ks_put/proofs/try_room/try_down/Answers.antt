@@ -1,4 +1,4 @@
-use Rattle.std.proofs.Common.{◌≡◌, ◌+◌, ◌≤◌, ℕ, suc, List, ◌∷◌, refl, sym, subst, arith}
+use Rattle.std.proofs.Common.{◌≡◌, ◌+◌, ◌≤◌, ℕ, suc, List, ◌∷◌, sym, subst, arith}
 use Rattle.ks_history.specs.declared.Event.{Event}
 use Rattle.ks_history.specs.declared.Event.TheVariants.{Give}
 use Rattle.ks_history.specs.Done.{coupling}
@@ -27,9 +27,11 @@ stands g c start down = let sort = sort_of g.N.Node.layout g.N.Node.ranged in le
 pub returns-then-depth-nodes-clause-down : goal.returns-then-depth-nodes-clause-down
 returns-then-depth-nodes-clause-down g c = λ start down op touched. let at = (goal.at.returns-then-depth-nodes-clause-down g c).After-let_go-held in let n : ℕ = c.args.arena.now.nodes in let me : ℕ = c.args.pass.now.caller in let h₁ = seen_of c.let_go-held.new.pass in let k = seen_of c.give_last.new.pass in let i : ℕ = c.let_go-held.result.node in let depth : ℕ = c.args.depth in let next = c.child_law.ensures in
     let gave : GrowsWith me (Give me i) h₁ k = subst (λ (z : ℕ). GrowsWith z (Give z i) h₁ k) c.let_go-held.ensures.caller c.give_last.ensures.gave in
-    let all : n ≤ suc depth = omega (arith, c.if-depth-nodes.true) in
-    (tt, far_later n me start h₁ k (record { rest = Give me i ∷ gave.rest; is = gave.is }) (gave_no_take me i h₁ k gave)
-    (down_far n me start h₁ (suc depth) 2 depth i c.args.child next.node (omega arith) all (omega arith) next.parents next.few next.is next.among next.live (stands g at start down)))
+    let all : n ≤ suc depth = omega (arith, c.if-depth-nodes.true) in (
+      tt,
+      far_later n me start h₁ k (record { rest = Give me i ∷ gave.rest; is = gave.is }) (gave_no_take me i h₁ k gave)
+          (down_far n me start h₁ (suc depth) 2 depth i c.args.child next.node (omega arith) all (omega arith) next.parents next.few next.is next.among next.live (stands g at start down)),
+    )
 
 pub returns-in-Ok-clause-down : goal.returns-in-Ok-clause-down
 returns-in-Ok-clause-down g c = λ start down. let at = (goal.at.returns-in-Ok-clause-down g c).After-let_go-held in let n : ℕ = c.args.arena.now.nodes in let me : ℕ = c.args.pass.now.caller in let h₁ = seen_of c.let_go-held.new.pass in let k = seen_of c.try_child.new.pass in let e = c.let_go-held.ensures.caller in let depth : ℕ = c.args.depth in let more : suc depth ≡ depth + 1 = omega arith in

@@ -1,19 +1,18 @@
-use Rattle.std.proofs.Common.{◌≡◌, ◌∙◌, ℕ, suc, true, false, Bool, refl, sym, ap, subst, inl, inr, arith}
-use Rattle.std.specs.Prelude.{Option, Some, None, IsTrue}
+use Rattle.std.proofs.Common.{◌∙◌, ℕ, suc, true, refl, sym, subst, inr, arith}
+use Rattle.std.specs.Prelude.{Option}
 use Rattle.ks_history.specs.Due.{NoneFree}
 use Rattle.ks_node.specs.Body.{Body}
 use Rattle.ks_node.specs.Laws.Spans.{length_edges}
 use Rattle.ks_node.specs.Laws.Ways.{next_leads}
-use Rattle.ks_node.specs.Room.{is_full}
 use Rattle.ks_arena.specs.declared.held.Held.{Held as Hand}
 use Rattle.ks_arena.specs.Clauses.{seen_of}
-use Rattle.ks_shape.specs.Laws.Stretches.{Stretches, stretches_as, stretches_both}
+use Rattle.ks_shape.specs.Stretches.{Stretches}
+use Rattle.ks_shape.specs.Laws.Stretches.{stretches_as, stretches_both}
 use Rattle.ks_put.specs.Deeper.{IsDownPath}
 use Rattle.ks_put.specs.Parts.{GrowAll, HasRoomAbove}
 use Rattle.ks_put.specs.Tries.{StepOrCause}
 use Rattle.ks_put.proofs.Going.{on_was}
 use Rattle.ks_put.proofs.Trying.{refused_before, refused_now, eased_down, nearer_down, no_leaf}
-use Rattle.ks_put.proofs.try_room.try_go_on.Given.{Over}
 use Rattle.ks_put.proofs.try_room.try_go_on.Goals as goal
 
 pub returns-in-Split-clause-down : goal.returns-in-Split-clause-down
@@ -51,8 +50,8 @@ pub returns-then-not-is_branch-clause-eased : goal.returns-then-not-is_branch-cl
 returns-then-not-is_branch-clause-eased g c = λ even eased. let b : Body = g.N.Node.body c.args.path.node.body in
     eased_down g.N.Node.layout g.N.Node.body c.args.path.node c.args.depth c.args.refused (GrowAll g.N.Node.grows_at g.N.Node.body g.N.Node.branches_adopt g.N.Node.halves_have_room) c.try_down.result c.try_down.ensures.went
     (λ r grow. absurd (no_leaf b c.args.place c.args.child (next_leads b c.args.place c.args.child c.node_law.ensures.sound (omega (arith, c.ranges.place)) c.requires.goes)
-        (length_edges b c.node_law.ensures.sound c.node_law.ensures.framed (c.unlinked_law.ensures.no_link c.args.path.node.body))
-        ((c.unlinked_law.ensures.adopting grow.1 c.args.path.node.body).bare (sym c.is_branch.ensures ∙ c.if-not-is_branch.true))))
+    (length_edges b c.node_law.ensures.sound c.node_law.ensures.framed (c.unlinked_law.ensures.no_link c.args.path.node.body))
+    ((c.unlinked_law.ensures.adopting grow.1 c.args.path.node.body).bare (sym c.is_branch.ensures ∙ c.if-not-is_branch.true))))
 
 pub returns-then-not-is_branch-clause-nearer : goal.returns-then-not-is_branch-clause-nearer
 returns-then-not-is_branch-clause-nearer g c = λ even. nearer_down g.N.Node.layout g.N.Node.body c.args.path.node c.args.depth c.args.refused c.args.path c.try_down.result c.try_down.ensures.went

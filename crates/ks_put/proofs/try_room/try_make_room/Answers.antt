@@ -1,18 +1,16 @@
-use Rattle.std.proofs.Common.{◌≡◌, ◌∙◌, ◌≤◌, ◌<◌, ◌+◌, ◌*◌, ℕ, suc, true, false, List, [], refl, sym, subst, inl, inr, arith}
-use Rattle.std.specs.Prelude.{Option, Some, None, IsTrue, Ok, Err}
+use Rattle.std.proofs.Common.{◌≡◌, ◌∙◌, ◌+◌, ℕ, suc, true, false, [], refl, sym, subst, inl, inr, arith}
+use Rattle.std.specs.Prelude.{Option, None, IsTrue}
 use Rattle.ks_keysets.specs.Layout.{Layout}
-use Rattle.ks_history.specs.declared.Event.{Event}
 use Rattle.ks_history.specs.Descent.{TookSince}
-use Rattle.ks_history.specs.Done.{coupling}
 use Rattle.ks_history.specs.Trace.{hand}
 use Rattle.ks_node.specs.Body.{value_at}
 use Rattle.ks_node.specs.Room.{is_full}
 use Rattle.ks_arena.specs.declared.held.Held.{Held as Hand}
 use Rattle.ks_arena.specs.Sound.{sort_of}
-use Rattle.ks_arena.specs.Clauses.{seen_of}
+use Rattle.ks_arena.specs.Clauses.{IsPass, seen_of}
+use Rattle.ks_flow.specs.Discipline.{BeginsTree, TreeStep}
 use Rattle.ks_shape.specs.Laws.Stretches.{stretches_as, stretches_both, stretches_on}
 use Rattle.ks_shape.specs.Ends.{SplitsEvenly}
-use Rattle.ks_try.specs.Of.{IsCauseAt}
 use Rattle.ks_put.specs.declared.path.Path.{Path}
 use Rattle.ks_put.specs.Deeper.{IsDownPath}
 use Rattle.ks_put.specs.OnPath.{IsOnPath}
@@ -20,35 +18,42 @@ use Rattle.ks_put.specs.Parts.{HasRoomAbove}
 use Rattle.ks_put.specs.Room.{CameTo}
 use Rattle.ks_put.specs.Tries.{IsPutOffBy}
 use Rattle.ks_put.proofs.Going.{on_was, new_was}
-use Rattle.ks_put.proofs.Trying.{turn_on, turn_split, path_leaf, put_off}
+use Rattle.ks_put.specs.Parts.{GrowAll}
+use Rattle.ks_put.proofs.Trying.{turn_as, turn_on, turn_split, path_leaf, put_off}
 use Rattle.ks_put.proofs.try_room.try_make_room.Goals as goal
+use Rattle.ks_put.proofs.try_room.try_make_room.Goals.{in-Go+in-Ok-try_go_on, in-Here+else-has_room+in-Split}
 
-pub loop-turn-preserved-in-Ok-try_go_on : goal.loop-turn-preserved-in-Ok-try_go_on
-loop-turn-preserved-in-Ok-try_go_on g c = let layout : Layout = g.N.Node.layout in let n : ℕ = c.args.arena.now.nodes in let a : ℕ = c.loop-turn.pass.caller in let s = seen_of c.args.pass.now in let h = seen_of c.loop-turn.pass in let inv = c.loop-turn.invariant in let e = c.in-Ok-try_go_on.ensures in let b : ℕ = c.try_go_on.new.pass.caller in let k = seen_of c.try_go_on.new.pass in let x = c.in-Ok-try_go_on.next in let deeper : ℕ = c.in-Ok-try_go_on.deeper in (
-  e.pass,
-  e.caller ∙ inv.1,
-  subst (λ (z : ℕ). IsOnPath (sort_of layout g.N.Node.ranged) g.N.Node.body z c.args.place k x) (sym e.caller) e.path,
-  stretches_on a b s h k e.caller inv.3 e.stretch,
-  λ t. elim (e.refused t) [ inl old ↦ on_was layout n c.args.place a b s h k e.caller e.stretch (inv.4 old) | inr new ↦ new_was layout n c.args.place a b s h k e.caller inv.3 new ],
-  λ start took. subst (λ (z : ℕ). IsDownPath n z start k (suc deeper) 2 deeper x) (sym e.caller) (e.down start (inv.5 start (subst (λ (z : ℕ). TookSince z start s 0 1) e.caller took))),
-  e.near,
-  λ even. let turn = inv.7 even in (e.eased even turn.0, turn_on layout g.N.Node.body c.loop-turn.path x c.loop-turn.depth deeper c.loop-turn._turn turn.1 (e.nearer even.1)),
-)
-
-pub loop-turn-preserved-in-Split : goal.loop-turn-preserved-in-Split
-loop-turn-preserved-in-Split g c = let layout : Layout = g.N.Node.layout in let n : ℕ = c.args.arena.now.nodes in let a : ℕ = c.loop-turn.pass.caller in let s = seen_of c.args.pass.now in let h = seen_of c.loop-turn.pass in let inv = c.loop-turn.invariant in let e = c.split.ensures in let b : ℕ = c.split.new.pass.caller in let k = seen_of c.split.new.pass in let x = c.in-Split.half in let depth : ℕ = c.loop-turn.depth in (
-  e.pass,
-  e.caller ∙ inv.1,
-  subst (λ (z : ℕ). IsOnPath (sort_of layout g.N.Node.ranged) g.N.Node.body z c.args.place k x) (sym e.caller) c.in-Split.ensures.part,
-  stretches_on a b s h k e.caller inv.3 e.stretch,
-  λ t. on_was layout n c.args.place a b s h k e.caller e.stretch (inv.4 t),
-  λ start took. subst (λ (z : ℕ). IsDownPath n z start k (suc depth) 2 depth x) (sym e.caller) (c.in-Split.ensures.down start (suc depth) 2 depth (inv.5 start (subst (λ (z : ℕ). TookSince z start s 0 1) e.caller took))),
-  inv.6,
-  λ even. let eased = c.in-Split.ensures.halves even.1 in (
-    (λ r grow. subst (λ (o : Option (Hand g.row.N.Denot)). HasRoomAbove layout g.N.Node.body o) (sym eased.1) tt),
-    turn_split layout g.N.Node.body c.loop-turn.path x depth depth c.loop-turn._turn (inv.7 even).1 refl (c.has_room.ensures.none c.if-has_room.false).1 eased.0,
-  ),
-)
+pub loop-turn-preserved : goal.loop-turn-preserved
+loop-turn-preserved g c = let layout : Layout = g.N.Node.layout in let n : ℕ = c.args.arena.now.nodes in let place : ℕ = c.args.place in let me : ℕ = c.args.pass.now.caller in let a : ℕ = c.loop-turn.pass.caller in let s = seen_of c.args.pass.now in let h = seen_of c.loop-turn.pass in let inv = c.loop-turn.invariant in let x = c.loop-turn.path in let depth : ℕ = c.loop-turn.depth in let turn : ℕ = c.loop-turn._turn in let m = c.match-next in
+    elim c.match-next.branch [
+      | in-Go+in-Ok-try_go_on w ↦ (
+          let e = w.in-Ok-try_go_on.ensures in let q = w.try_go_on.new.pass in let b : ℕ = q.caller in let k = seen_of q in let y = w.in-Ok-try_go_on.field-0.path in let deeper : ℕ = w.in-Ok-try_go_on.field-0.depth in
+          turn_as (sort_of layout g.N.Node.ranged) g.N.Node.body (SplitsEvenly g.N.Node.in_place g.N.Node.halves_have_room) (GrowAll g.N.Node.grows_at g.N.Node.body g.N.Node.branches_adopt g.N.Node.halves_have_room) (λ p. IsPass (sort_of layout g.N.Node.ranged) BeginsTree TreeStep c.args.arena.now.table.shared.table_id c.args.arena.now.callers p) n me place (turn + 1) s q m.pass y m.path deeper m.depth w.in-Ok-try_go_on.field-0.refused m.refused w.pass-is w.path-is w.depth-is w.refused-is (
+            e.pass,
+            e.caller ∙ inv.1,
+            subst (λ (z : ℕ). IsOnPath (sort_of layout g.N.Node.ranged) g.N.Node.body z place k y) (sym e.caller) e.path,
+            stretches_on a b s h k e.caller inv.3 e.stretch,
+            λ told. elim (e.refused told) [ inl old ↦ on_was layout n place a b s h k e.caller e.stretch (inv.4 old) | inr new ↦ new_was layout n place a b s h k e.caller inv.3 new ],
+            λ start took. subst (λ (z : ℕ). IsDownPath n z start k (suc deeper) 2 deeper y) (sym e.caller) (e.down start (inv.5 start (subst (λ (z : ℕ). TookSince z start s 0 1) e.caller took))),
+            e.near,
+            λ even. let now = inv.7 even in (e.eased even now.0, turn_on layout g.N.Node.body x y depth deeper turn now.1 (e.nearer even.1)),
+          ))
+      | in-Here+else-has_room+in-Split w ↦ (
+          let e = w.split.ensures in let q = w.split.new.pass in let b : ℕ = q.caller in let k = seen_of q in let y = w.in-Split.half in
+          turn_as (sort_of layout g.N.Node.ranged) g.N.Node.body (SplitsEvenly g.N.Node.in_place g.N.Node.halves_have_room) (GrowAll g.N.Node.grows_at g.N.Node.body g.N.Node.branches_adopt g.N.Node.halves_have_room) (λ p. IsPass (sort_of layout g.N.Node.ranged) BeginsTree TreeStep c.args.arena.now.table.shared.table_id c.args.arena.now.callers p) n me place (turn + 1) s q m.pass y m.path depth m.depth c.loop-turn.refused m.refused w.pass-is w.path-is w.depth-is w.refused-is (
+            e.pass,
+            e.caller ∙ inv.1,
+            subst (λ (z : ℕ). IsOnPath (sort_of layout g.N.Node.ranged) g.N.Node.body z place k y) (sym e.caller) w.in-Split.ensures.part,
+            stretches_on a b s h k e.caller inv.3 e.stretch,
+            λ told. on_was layout n place a b s h k e.caller e.stretch (inv.4 told),
+            λ start took. subst (λ (z : ℕ). IsDownPath n z start k (suc depth) 2 depth y) (sym e.caller) (w.in-Split.ensures.down start (suc depth) 2 depth (inv.5 start (subst (λ (z : ℕ). TookSince z start s 0 1) e.caller took))),
+            inv.6,
+            λ even. let eased = w.in-Split.ensures.halves even.1 in (
+              (λ r grow. subst (λ (o : Option (Hand g.row.N.Denot)). HasRoomAbove layout g.N.Node.body o) (sym eased.1) tt),
+              turn_split layout g.N.Node.body x y depth depth turn (inv.7 even).1 refl (w.has_room.ensures.none w.if-has_room.false).1 eased.0,
+            ),
+          ))
+    ]
 
 -- put off
 
@@ -115,3 +120,18 @@ come_to_full-requires-then-refused-clause-full g c = subst (λ (x : Path g.row.N
 
 pub come_to_room-requires-clause-room : goal.come_to_room-requires-clause-room
 come_to_room-requires-clause-room g c = c.has_room.ensures.room c.if-has_room.true
+
+-- no way is left to split the node, though no claim was refused
+
+pub returns-in-Shut-clause-cause : goal.returns-in-Shut-clause-cause
+returns-in-Shut-clause-cause g c = λ start took op touched. let sort = sort_of g.N.Node.layout g.N.Node.ranged in let slots : ℕ = c.args.arena.now.table.shared.table_id.slots in let h = seen_of c.loop-turn.pass in let inv = c.loop-turn.invariant in
+    let leaf = path_leaf sort g.N.Node.body c.loop-turn.pass.caller c.args.place h c.loop-turn.path inv.2 ((c.search_law.ensures sort slots).facts h inv.0.sound) (omega (arith, c.ranges.place)) c.node_law.ensures.sound (sym c.next.ensures ∙ c.in-Here.is) in
+    (tt, λ even. absurd (c.in-Shut.ensures.open even.0 (λ branch. absurd (let q : true ≡ false = sym branch ∙ leaf in let z : ⊥ = cc in z)) (λ grow. (inv.7 even).0 c.if-refused.false grow) tt))
+
+pub returns-in-Shut-clause-stretch : goal.returns-in-Shut-clause-stretch
+returns-in-Shut-clause-stretch g c = let me : ℕ = c.args.pass.now.caller in let a : ℕ = c.loop-turn.pass.caller in let s = seen_of c.args.pass.now in let h = seen_of c.loop-turn.pass in let inv = c.loop-turn.invariant in let e = c.split.ensures in let b : ℕ = c.split.new.pass.caller in let m = seen_of c.split.new.pass in let k = seen_of c.let_all_go.new.pass in
+    stretches_as me b s k (e.caller ∙ inv.1) (stretches_both b s m k (stretches_on a b s h m e.caller inv.3 e.stretch) c.let_all_go.ensures.stretch)
+
+pub returns-clause-stretch : goal.returns-clause-stretch
+returns-clause-stretch g c = let me : ℕ = c.args.pass.now.caller in let a : ℕ = c.loop-turn.pass.caller in let s = seen_of c.args.pass.now in let h = seen_of c.loop-turn.pass in let k = seen_of c.let_all_go-2.new.pass in let inv = c.loop-turn.invariant in
+    stretches_as me a s k inv.1 (stretches_both a s h k inv.3 c.let_all_go-2.ensures.stretch)

@@ -1,29 +1,12 @@
-use Rattle.std.proofs.Common.{◌≡◌, ◌<◌, suc, List}
-use Rattle.std.specs.Prelude.{IsTrue}
-use Rattle.ks_flow.specs.Discipline.{BeginsTree, TreeStep}
-use Rattle.ks_history.specs.declared.Event.{Event}
-use Rattle.ks_history.specs.Descent.{TookSince}
-use Rattle.ks_history.specs.Due.{NoneFree}
 use Rattle.ks_arena.specs.Sound.{sort_of}
 use Rattle.ks_arena.specs.Clauses.{IsPass, seen_of}
+use Rattle.ks_flow.specs.Discipline.{BeginsTree, TreeStep}
 use Rattle.ks_shape.specs.Ends.{SplitsEvenly}
-use Rattle.ks_shape.specs.Stretches.{Stretches}
-use Rattle.ks_put.specs.Deeper.{IsDownPath}
-use Rattle.ks_put.specs.OnPath.{IsOnPath}
 use Rattle.ks_put.specs.Parts.{GrowAll}
-use Rattle.ks_put.specs.Tries.{IsEasedBut}
-use Rattle.ks_put.proofs.Trying.{AreTurns}
+use Rattle.ks_put.proofs.Trying.{TurnAt}
 use Rattle.ks_put.proofs.try_room.try_make_room.Given as goal
 
 abbrev pub invariant-loop-turn : goal.invariant-loop-turn
 invariant-loop-turn g l =
-    IsPass (sort_of g.N.Node.layout g.N.Node.ranged) BeginsTree TreeStep l.arena.table.shared.table_id l.arena.callers l.pass
-    × (l.pass.caller ≡ l.fn.pass.caller)
-    × IsOnPath (sort_of g.N.Node.layout g.N.Node.ranged) g.N.Node.body l.pass.caller l.place (seen_of l.pass) l.path
-    × Stretches l.pass.caller (seen_of l.fn.pass) (seen_of l.pass)
-    × (IsTrue l.refused → NoneFree g.N.Node.layout l.arena.nodes l.pass.caller l.place (seen_of l.fn.pass) (seen_of l.pass))
-    × ((start : List Event) → TookSince l.pass.caller start (seen_of l.fn.pass) 0 1 → IsDownPath l.arena.nodes l.pass.caller start (seen_of l.pass) (suc l.depth) 2 l.depth l.path)
-    × (l.depth < l.arena.nodes)
-    × (SplitsEvenly g.N.Node.in_place g.N.Node.halves_have_room →
-        IsEasedBut g.N.Node.layout g.N.Node.body (GrowAll g.N.Node.grows_at g.N.Node.body g.N.Node.branches_adopt g.N.Node.halves_have_room) l.refused l.path.parent
-        × AreTurns g.N.Node.layout g.N.Node.body l.path l.depth l._turn)
+    TurnAt (sort_of g.N.Node.layout g.N.Node.ranged) g.N.Node.body (SplitsEvenly g.N.Node.in_place g.N.Node.halves_have_room) (GrowAll g.N.Node.grows_at g.N.Node.body g.N.Node.branches_adopt g.N.Node.halves_have_room)
+    (λ p. IsPass (sort_of g.N.Node.layout g.N.Node.ranged) BeginsTree TreeStep l.arena.table.shared.table_id l.arena.callers p) l.arena.nodes l.fn.pass.caller l.place l._turn (seen_of l.fn.pass) l.pass l.path l.depth l.refused
