@@ -14,26 +14,34 @@ LAYOUTS = ("list", "bplus", "hash")
 TEMPLATES = ("coupling", "giveup", "link")
 FIRST = 7
 NODES_FOR_EACH_CALLER = 1024
+NODES_FOR_SCRIPTS = 262144
 
 
 @dataclass(frozen=True)
 class Contender:
-    """A command that serves generated calls and prints their summary."""
+    """A command that serves generated calls and prints their summary, or serves a script and prints the run."""
 
     name: str
     words: tuple
     layout: str = ""
+    template: str = ""
+    is_numbered: bool = True
 
     def command(self, callers, calls):
-        """The command that serves so many callers, each with so many calls."""
-        arena = [str(callers * NODES_FOR_EACH_CALLER)] if self.layout else []
-        return [*self.words, *arena, str(callers), str(calls), str(FIRST)]
+        """The command that serves so many callers, each with so many generated calls."""
+        pairing = ["make", self.layout, self.template, str(callers * NODES_FOR_EACH_CALLER)] if self.layout else []
+        return [*self.words, *pairing, str(callers), str(calls), str(FIRST)]
+
+    def serving(self, workers):
+        """The command that serves the script on standard input by so many workers."""
+        pairing = ["run", self.layout, self.template, str(NODES_FOR_SCRIPTS)] if self.layout else ["script"]
+        return [*self.words, *pairing, str(workers)]
 
 
 MUTEX = Contender("Mutex<BTreeMap>", (os.path.join(BUILT, "ordered_maps"), "mutex"))
 RWLOCK = Contender("RwLock<BTreeMap>", (os.path.join(BUILT, "ordered_maps"), "rwlock"))
-HASH_MAP = Contender("TBB concurrent_hash_map, no numbers", (os.path.join(BUILT, "hash_map"),))
-SKIP_LIST = Contender("Java ConcurrentSkipListMap, no numbers", ("java", "-cp", BUILT, "SkipList"))
+HASH_MAP = Contender("TBB concurrent_hash_map, no numbers", (os.path.join(BUILT, "hash_map"),), is_numbered=False)
+SKIP_LIST = Contender("Java ConcurrentSkipListMap, no numbers", ("java", "-cp", BUILT, "SkipList"), is_numbered=False)
 
 
 def build_program():
@@ -56,7 +64,7 @@ def pairings():
     for layout in LAYOUTS:
         for template in TEMPLATES:
             if is_admitted(layout, template):
-                admitted.append(Contender(f"{layout} {template}", (PROGRAM, "make", layout, template), layout))
+                admitted.append(Contender(f"{layout} {template}", (PROGRAM,), layout, template))
             else:
                 print(f"skipped: {layout} {template}, which the program does not admit")
     return admitted

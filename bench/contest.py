@@ -1,40 +1,92 @@
-"""Contenders in turn over the same generated calls, round by round."""
+"""Contenders in turn over the same calls, round by round."""
 
+import os
 import statistics
 import subprocess
+import tempfile
 import time
 
 import contenders
+import scripts
 from tables import print_table, shown
 
-CALLERS = (1, 4, 64)
+COLUMNS = (1, 4, 64)
 SECONDS = 120
 
 
 class Failed(Exception):
-    """A command did not end, ended with another status than 0, or printed another summary than it should."""
+    """A command did not end, ended with another status than 0, or printed something else than it should."""
 
 
-def named(callers):
-    """The number of callers in words."""
-    return "1 caller" if callers == 1 else f"{callers} callers"
+def on_one_line(text):
+    words = " ".join(text[:200].split())
+    return words if len(text) <= 200 else f"{words} .."
 
 
-def on_one_line(summary):
-    return " ".join(summary.split())
+def timed(command, text=os.devnull):
+    """The seconds that the command took over a text on its standard input, and what it printed."""
+    with open(text, "rb") as given, tempfile.TemporaryFile() as printed:
+        start = time.perf_counter()
+        try:
+            ended = subprocess.run(command, stdin=given, stdout=printed, stderr=subprocess.PIPE, timeout=SECONDS)
+        except subprocess.TimeoutExpired:
+            raise Failed(f"did not end in {SECONDS} seconds")
+        passed = time.perf_counter() - start
+        if ended.returncode != 0:
+            raise Failed(f"ended with {ended.returncode}: {ended.stderr.decode(errors='replace').strip()}")
+        printed.seek(0)
+        return passed, printed.read().decode()
 
 
-def timed(command):
-    """The seconds that the command took, and what it printed."""
-    start = time.perf_counter()
-    try:
-        ended = subprocess.run(command, stdin=subprocess.DEVNULL, capture_output=True, text=True, timeout=SECONDS)
-    except subprocess.TimeoutExpired:
-        raise Failed(f"did not end in {SECONDS} seconds")
-    passed = time.perf_counter() - start
-    if ended.returncode != 0:
-        raise Failed(f"ended with {ended.returncode}: {ended.stderr.strip()}")
-    return passed, ended.stdout
+class Generated:
+    """Generated calls, so many of each caller; a column is a number of callers."""
+
+    def __init__(self, calls):
+        self.calls = calls
+
+    def named(self, column):
+        return "1 caller" if column == 1 else f"{column} callers"
+
+    def calls_in(self, column):
+        return column * self.calls
+
+    def busy(self, entrant, column):
+        return timed(entrant.command(column, self.calls))
+
+    def idle(self, entrant, column):
+        return timed(entrant.command(column, 0))
+
+    def is_same(self, entrant, column):
+        """Whether the entrant prints what the first one does."""
+        return True
+
+
+class Scripted:
+    """A script of 64 callers, who fill the map and make so many calls; a column is a number of workers. Reading and
+    printing the calls is in the times."""
+
+    def __init__(self, workload, calls, folder):
+        self.calls = calls
+        self.filled = os.path.join(folder, "filled")
+        self.whole = os.path.join(folder, "whole")
+        for path, count in ((self.filled, 0), (self.whole, calls)):
+            with open(path, "w") as file:
+                file.write(scripts.script(workload, count))
+
+    def named(self, column):
+        return "1 worker" if column == 1 else f"{column} workers"
+
+    def calls_in(self, column):
+        return scripts.CALLERS * self.calls
+
+    def busy(self, entrant, column):
+        return timed(entrant.serving(column), self.whole)
+
+    def idle(self, entrant, column):
+        return timed(entrant.serving(column), self.filled)
+
+    def is_same(self, entrant, column):
+        return column == 1 and entrant.is_numbered
 
 
 class Times:
@@ -51,63 +103,64 @@ class Times:
 
 
 class Contest:
-    """Contenders, the calls of each caller, and what the commands took."""
+    """Contenders, the calls that all serve, and what the commands took."""
 
     def __init__(self, entrants, calls):
         self.entrants = entrants
         self.calls = calls
-        self.summaries = {}
-        self.times = {(entrant, callers): Times() for entrant in entrants for callers in CALLERS}
+        self.printed = {}
+        self.times = {(entrant, column): Times() for entrant in entrants for column in COLUMNS}
         self.failures = {}
 
-    def compare(self, entrant, callers, summary):
-        """Fails where the summary is not the first that was printed for these calls, which is the program's."""
-        first, wanted = self.summaries.setdefault(callers, (entrant, summary))
-        if summary != wanted:
-            raise Failed(f"printed {on_one_line(summary)!r}, where {first.name} printed {on_one_line(wanted)!r}")
+    def compare(self, entrant, column, printed):
+        """Fails where the text is not the first that was printed for these calls, which is the program's."""
+        if self.calls.is_same(entrant, column):
+            first, wanted = self.printed.setdefault(column, (entrant, printed))
+            if printed != wanted:
+                raise Failed(f"printed {on_one_line(printed)!r}, where {first.name} printed {on_one_line(wanted)!r}")
 
-    def measure(self, entrant, callers):
+    def measure(self, entrant, column):
         """Runs the entrant with calls, and without."""
-        busy, summary = timed(entrant.command(callers, self.calls))
-        self.compare(entrant, callers, summary)
-        idle, _summary = timed(entrant.command(callers, 0))
-        self.times[entrant, callers].busy.append(busy)
-        self.times[entrant, callers].idle.append(idle)
+        busy, printed = self.calls.busy(entrant, column)
+        self.compare(entrant, column, printed)
+        idle, _printed = self.calls.idle(entrant, column)
+        self.times[entrant, column].busy.append(busy)
+        self.times[entrant, column].idle.append(idle)
 
-    def take_turn(self, entrant, callers, repeats):
-        """Measures so many times in a row, until the entrant fails with so many callers."""
+    def take_turn(self, entrant, column, repeats):
+        """Measures so many times in a row, until the entrant fails in this column."""
         for _ in range(repeats):
-            if (entrant, callers) not in self.failures:
+            if (entrant, column) not in self.failures:
                 try:
-                    self.measure(entrant, callers)
+                    self.measure(entrant, column)
                 except Failed as failure:
-                    self.failures[entrant, callers] = failure
+                    self.failures[entrant, column] = failure
 
     def run(self, rounds, repeats):
-        """Gives each entrant its turn in each round. One caller is measured so many times a turn, more callers less often."""
+        """Gives each entrant its turn in each round. The first column is measured so many times a turn, others less often."""
         for _ in range(rounds):
             for entrant in self.entrants:
-                for callers in CALLERS:
-                    self.take_turn(entrant, callers, max(1, repeats // callers))
+                for column in COLUMNS:
+                    self.take_turn(entrant, column, max(1, repeats // column))
 
-    def nanoseconds(self, entrant, callers):
+    def nanoseconds(self, entrant, column):
         """The nanoseconds of a call; None where the entrant failed, or was too quick to tell, or took no part."""
-        times = self.times.get((entrant, callers))
-        seconds = times.serving() if times and (entrant, callers) not in self.failures else None
-        return seconds and seconds * 1e9 / (callers * self.calls)
+        times = self.times.get((entrant, column))
+        seconds = times.serving() if times and (entrant, column) not in self.failures else None
+        return seconds and seconds * 1e9 / self.calls.calls_in(column)
 
-    def ratio(self, entrant, callers):
+    def ratio(self, entrant, column):
         """The ratio of a call to that of the mutex."""
-        own, mutex = self.nanoseconds(entrant, callers), self.nanoseconds(contenders.MUTEX, callers)
+        own, mutex = self.nanoseconds(entrant, column), self.nanoseconds(contenders.MUTEX, column)
         return own and mutex and own / mutex
 
     def print(self):
         """Prints nanoseconds and ratios, and what failed."""
-        rows = [["", *map(named, CALLERS), *(f"ratio {callers}" for callers in CALLERS)]]
+        rows = [["", *map(self.calls.named, COLUMNS), *(f"ratio {column}" for column in COLUMNS)]]
         for entrant in self.entrants:
-            times = [shown(self.nanoseconds(entrant, callers), 0) for callers in CALLERS]
-            ratios = [shown(self.ratio(entrant, callers), 2) for callers in CALLERS]
+            times = [shown(self.nanoseconds(entrant, column), 0) for column in COLUMNS]
+            ratios = [shown(self.ratio(entrant, column), 2) for column in COLUMNS]
             rows.append([entrant.name, *times, *ratios])
         print_table(rows)
-        for (entrant, callers), failure in self.failures.items():
-            print(f"\nFAILED: {entrant.name} with {named(callers)} {failure}")
+        for (entrant, column), failure in self.failures.items():
+            print(f"\nFAILED: {entrant.name} with {self.calls.named(column)} {failure}")

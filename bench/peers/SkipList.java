@@ -1,15 +1,20 @@
+import java.io.BufferedReader;
+import java.io.IOException;
+import java.io.InputStreamReader;
 import java.util.ArrayList;
 import java.util.List;
 import java.util.Map;
 import java.util.concurrent.ConcurrentSkipListMap;
+import java.util.concurrent.atomic.AtomicInteger;
 
 /**
- * The generated calls over Java's ConcurrentSkipListMap.
+ * The generated calls, or those of a script on standard input, over Java's ConcurrentSkipListMap.
  *
- * <p>usage: java SkipList CALLERS CALLS FIRST
+ * <p>usage: java SkipList CALLERS CALLS FIRST, or java SkipList script WORKERS
  *
- * <p>Each caller has a thread. The map gives no order of all calls, so calls have no numbers. Other calls are served
- * over another map first, so that what is measured is compiled.
+ * <p>Workers draw callers; for generated calls each caller has one. The map gives no order of all calls, so calls have
+ * no numbers, and a run has 0 in their place. Other calls are served over another map first, so that what is measured is
+ * compiled.
  */
 public final class SkipList {
     private enum Kind { PUT, GET, DEL }
@@ -58,28 +63,61 @@ public final class SkipList {
         };
     }
 
-    private static Thread caller(Map<Long, Long> map, Call[] calls, Long[] answers) {
+    private static Thread worker(Map<Long, Long> map, Call[][] script, Long[][] answers, AtomicInteger next) {
         Thread thread = new Thread(() -> {
-            for (int at = 0; at < calls.length; at++) {
-                answers[at] = serve(map, calls[at]);
+            for (int caller = next.getAndIncrement(); caller < script.length; caller = next.getAndIncrement()) {
+                Long[] told = new Long[script[caller].length];
+                for (int at = 0; at < told.length; at++) {
+                    told[at] = serve(map, script[caller][at]);
+                }
+                answers[caller] = told;
             }
         });
         thread.start();
         return thread;
     }
 
-    /** Gives the answers to each caller's calls. */
-    private static Long[][] serve(Map<Long, Long> map, Call[][] script) throws InterruptedException {
+    /** Gives the answers to each caller's calls, by so many workers that draw callers. */
+    private static Long[][] serve(Map<Long, Long> map, Call[][] script, int workers) throws InterruptedException {
         Long[][] answers = new Long[script.length][];
+        AtomicInteger next = new AtomicInteger();
         List<Thread> threads = new ArrayList<>();
-        for (int caller = 0; caller < script.length; caller++) {
-            answers[caller] = new Long[script[caller].length];
-            threads.add(caller(map, script[caller], answers[caller]));
+        for (int at = 0; at < workers; at++) {
+            threads.add(worker(map, script, answers, next));
         }
         for (Thread thread : threads) {
             thread.join();
         }
         return answers;
+    }
+
+    private static Call[][] readScript() throws IOException {
+        List<List<Call>> script = new ArrayList<>();
+        BufferedReader text = new BufferedReader(new InputStreamReader(System.in));
+        for (String line = text.readLine(); line != null; line = text.readLine()) {
+            String[] words = line.split(" ");
+            if (words[0].equals("caller")) {
+                script.add(new ArrayList<>());
+                continue;
+            }
+            Kind kind = Kind.valueOf(words[0].toUpperCase());
+            Long value = kind == Kind.PUT ? Long.parseLong(words[2]) : 0L;
+            script.get(script.size() - 1).add(new Call(kind, Long.parseLong(words[1]), value));
+        }
+        return script.stream().map(calls -> calls.toArray(Call[]::new)).toArray(Call[][]::new);
+    }
+
+    private static void printRun(Map<Long, Long> map, Long[][] answers) {
+        StringBuilder text = new StringBuilder();
+        for (int caller = 0; caller < answers.length; caller++) {
+            text.append("caller ").append(caller).append('\n');
+            for (Long answer : answers[caller]) {
+                text.append("0 ").append(answer == null ? "none" : answer.toString()).append('\n');
+            }
+        }
+        text.append("map\n");
+        map.forEach((key, value) -> text.append(key).append(' ').append(value).append('\n'));
+        System.out.print(text.append("end\n"));
     }
 
     private static void printSummary(Map<Long, Long> map, Long[][] answers) {
@@ -99,16 +137,20 @@ public final class SkipList {
                 + "\nfull 0\npairs " + map.size() + "\nsum " + Long.toUnsignedString(sum) + "\n");
     }
 
-    public static void main(String[] words) throws InterruptedException {
-        if (words.length != 3) {
-            System.err.println("usage: java SkipList CALLERS CALLS FIRST");
+    public static void main(String[] words) throws InterruptedException, IOException {
+        boolean isScript = words.length == 2 && words[0].equals("script");
+        if (words.length != 3 && !isScript) {
+            System.err.println("usage: java SkipList CALLERS CALLS FIRST, or java SkipList script WORKERS");
             System.exit(1);
         }
-        int callers = Integer.parseInt(words[0]);
-        int calls = Integer.parseInt(words[1]);
-        serve(new ConcurrentSkipListMap<>(), madeScript(8, 16384, 1));
-        Call[][] script = madeScript(callers, calls, Long.parseUnsignedLong(words[2]));
+        serve(new ConcurrentSkipListMap<>(), madeScript(8, 16384, 1), 8);
         Map<Long, Long> map = new ConcurrentSkipListMap<>();
-        printSummary(map, serve(map, script));
+        if (isScript) {
+            printRun(map, serve(map, readScript(), Integer.parseInt(words[1])));
+            return;
+        }
+        int callers = Integer.parseInt(words[0]);
+        Call[][] script = madeScript(callers, Integer.parseInt(words[1]), Long.parseUnsignedLong(words[2]));
+        printSummary(map, serve(map, script, callers));
     }
 }

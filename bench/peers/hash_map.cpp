@@ -1,13 +1,17 @@
-// The generated calls over the concurrent_hash_map of oneTBB.
+// The generated calls, or those of a script on standard input, over the concurrent_hash_map of oneTBB.
 //
 // usage: hash_map CALLERS CALLS FIRST
+//        hash_map script WORKERS
 //
-// Each caller has a thread. The map gives no order of all calls, so calls have no numbers.
+// Workers draw callers; for generated calls each caller has one. The map gives no order of all calls, so calls have no
+// numbers, and a run has 0 in their place.
 
 #include <tbb/concurrent_hash_map.h>
 
+#include <atomic>
 #include <cstdint>
 #include <iostream>
+#include <map>
 #include <optional>
 #include <string>
 #include <thread>
@@ -15,6 +19,7 @@
 
 using Map = tbb::concurrent_hash_map<uint64_t, uint64_t>;
 using Answer = std::optional<uint64_t>;
+using Answers = std::vector<std::vector<Answer>>;
 
 enum class Kind { put, get, del };
 
@@ -86,26 +91,72 @@ void serve(Map& map, const std::vector<Call>& calls, std::vector<Answer>& answer
     }
 }
 
-int main(int count, char** words) {
-    if (count != 4) {
-        std::cerr << "usage: hash_map CALLERS CALLS FIRST\n";
-        return 1;
+// The answers to each caller's calls, by so many workers that draw callers.
+Answers serve_all(Map& map, const std::vector<std::vector<Call>>& script, size_t workers) {
+    Answers answers(script.size());
+    std::atomic<size_t> next{0};
+    std::vector<std::thread> threads;
+    for (size_t worker = 0; worker < workers; ++worker) {
+        threads.emplace_back([&] {
+            for (size_t caller = next++; caller < script.size(); caller = next++) serve(map, script[caller], answers[caller]);
+        });
     }
-    const auto script = made_script(std::stoull(words[1]), std::stoull(words[2]), std::stoull(words[3]));
-    Map map;
-    std::vector<std::vector<Answer>> answers(script.size());
-    std::vector<std::thread> callers;
-    for (size_t caller = 0; caller < script.size(); ++caller) {
-        callers.emplace_back([&, caller] { serve(map, script[caller], answers[caller]); });
-    }
-    for (std::thread& caller : callers) caller.join();
+    for (std::thread& thread : threads) thread.join();
+    return answers;
+}
 
+std::vector<std::vector<Call>> read_script() {
+    std::ios::sync_with_stdio(false);
+    std::vector<std::vector<Call>> script;
+    std::string word;
+    while (std::cin >> word) {
+        if (word == "caller") {
+            script.emplace_back();
+            continue;
+        }
+        Call call{word == "put" ? Kind::put : word == "get" ? Kind::get : Kind::del, 0, 0};
+        std::cin >> call.key;
+        if (call.kind == Kind::put) std::cin >> call.value;
+        script.back().push_back(call);
+    }
+    return script;
+}
+
+void print_run(const Map& map, const Answers& answers) {
+    for (size_t caller = 0; caller < answers.size(); ++caller) {
+        std::cout << "caller " << caller << '\n';
+        for (const Answer& answer : answers[caller]) {
+            if (answer) std::cout << "0 " << *answer << '\n';
+            else std::cout << "0 none\n";
+        }
+    }
+    std::cout << "map\n";
+    for (const auto& [key, value] : std::map<uint64_t, uint64_t>(map.begin(), map.end())) std::cout << key << ' ' << value << '\n';
+    std::cout << "end\n";
+}
+
+void print_summary(const Map& map, const Answers& answers) {
     uint64_t calls = 0, found = 0, sum = 0;
     for (const auto& of_caller : answers) {
         calls += of_caller.size();
         for (const Answer& answer : of_caller) found += answer.has_value();
     }
     for (const auto& [key, value] : map) sum += key * value;
-    std::cout << "callers " << script.size() << "\ncalls " << calls << "\nfound " << found << "\nnone " << calls - found
+    std::cout << "callers " << answers.size() << "\ncalls " << calls << "\nfound " << found << "\nnone " << calls - found
               << "\nfull 0\npairs " << map.size() << "\nsum " << sum << "\n";
+}
+
+int main(int count, char** words) {
+    Map map;
+    if (count == 3 && std::string(words[1]) == "script") {
+        const auto script = read_script();
+        print_run(map, serve_all(map, script, std::stoull(words[2])));
+        return 0;
+    }
+    if (count != 4) {
+        std::cerr << "usage: hash_map CALLERS CALLS FIRST, or hash_map script WORKERS\n";
+        return 1;
+    }
+    const auto script = made_script(std::stoull(words[1]), std::stoull(words[2]), std::stoull(words[3]));
+    print_summary(map, serve_all(map, script, script.size()));
 }

@@ -1,12 +1,15 @@
-//! The generated calls over a `BTreeMap` of the standard library behind one lock.
+//! The generated calls, or those of a script on standard input, over a `BTreeMap` of the standard library behind one lock.
 //!
 //! usage: ordered_maps mutex|rwlock CALLERS CALLS FIRST
+//!        ordered_maps mutex|rwlock script WORKERS
 //!
-//! Each caller has a thread. A call draws its number while it holds the lock, so that all calls stand in one order, as
-//! the program's do.
+//! Workers draw callers; for generated calls each caller has one. A call draws its number while it holds the lock, so that
+//! all calls stand in one order, as the program's do.
 
 use std::collections::BTreeMap;
-use std::sync::atomic::{AtomicU64, Ordering};
+use std::fmt::Write;
+use std::io::Read;
+use std::sync::atomic::{AtomicU64, AtomicUsize, Ordering};
 use std::sync::{Mutex, RwLock};
 
 #[derive(Clone, Copy)]
@@ -17,8 +20,8 @@ enum Op {
 }
 
 struct Answer {
-    /// The call's number in the one order of all calls. It is kept as the program keeps it; the summary has no use for it.
-    _number: u64,
+    /// The call's number in the one order of all calls. The summary has no use for it.
+    number: u64,
     found: Option<u64>,
 }
 
@@ -44,7 +47,7 @@ impl Numbered for Mutex<Locked> {
             Op::Get(key) => locked.pairs.get(&key).copied(),
             Op::Del(key) => locked.pairs.remove(&key),
         };
-        Answer { _number: number, found }
+        Answer { number, found }
     }
 
     fn into_pairs(self) -> BTreeMap<u64, u64> {
@@ -70,15 +73,15 @@ impl Numbered for Shared {
         match op {
             Op::Put(key, value) => {
                 let mut pairs = self.pairs.write().unwrap();
-                Answer { _number: self.number(), found: pairs.insert(key, value) }
+                Answer { number: self.number(), found: pairs.insert(key, value) }
             }
             Op::Get(key) => {
                 let pairs = self.pairs.read().unwrap();
-                Answer { _number: self.number(), found: pairs.get(&key).copied() }
+                Answer { number: self.number(), found: pairs.get(&key).copied() }
             }
             Op::Del(key) => {
                 let mut pairs = self.pairs.write().unwrap();
-                Answer { _number: self.number(), found: pairs.remove(&key) }
+                Answer { number: self.number(), found: pairs.remove(&key) }
             }
         }
     }
@@ -114,19 +117,71 @@ fn made_script(callers: u64, calls: u64, first: u64) -> Vec<Vec<Op>> {
         .collect()
 }
 
-/// The answers to each caller's calls, each caller on a thread of its own.
-fn serve<M: Numbered>(map: &M, script: &[Vec<Op>]) -> Vec<Vec<Answer>> {
-    std::thread::scope(|scope| {
-        let callers: Vec<_> = script
-            .iter()
-            .map(|calls| scope.spawn(move || calls.iter().map(|op| map.call(*op)).collect()))
-            .collect();
-        callers.into_iter().map(|caller| caller.join().unwrap()).collect()
-    })
+/// The callers of a script that fits: the program says what does not.
+fn read_script() -> Vec<Vec<Op>> {
+    let mut text = String::new();
+    std::io::stdin().read_to_string(&mut text).expect("a text");
+    let mut script: Vec<Vec<Op>> = Vec::new();
+    for line in text.lines() {
+        let mut words = line.split(' ');
+        let kind = words.next().expect("a word");
+        let mut number = || words.next().expect("a number").parse().expect("a number");
+        let op = match kind {
+            "put" => Op::Put(number(), number()),
+            "get" => Op::Get(number()),
+            "del" => Op::Del(number()),
+            _ => {
+                script.push(Vec::new());
+                continue;
+            }
+        };
+        script.last_mut().expect("a caller").push(op);
+    }
+    script
+}
+
+/// The answers to each caller's calls, by so many workers that draw callers.
+fn serve<M: Numbered>(map: &M, script: &[Vec<Op>], workers: usize) -> Vec<Vec<Answer>> {
+    let next = AtomicUsize::new(0);
+    let draw = || Some(next.fetch_add(1, Ordering::Relaxed)).filter(|caller| *caller < script.len());
+    let work = || {
+        let mut served = Vec::new();
+        while let Some(caller) = draw() {
+            let answers: Vec<Answer> = script[caller].iter().map(|op| map.call(*op)).collect();
+            served.push((caller, answers));
+        }
+        served
+    };
+    let mut served: Vec<(usize, Vec<Answer>)> = std::thread::scope(|scope| {
+        let workers: Vec<_> = (0..workers).map(|_| scope.spawn(work)).collect();
+        workers.into_iter().flat_map(|worker| worker.join().unwrap()).collect()
+    });
+    served.sort_by_key(|(caller, _)| *caller);
+    served.into_iter().map(|(_, answers)| answers).collect()
+}
+
+/// Prints what the program prints of a run.
+fn print_run<M: Numbered>(map: M, script: &[Vec<Op>], workers: usize) {
+    let answers = serve(&map, script, workers);
+    let mut text = String::new();
+    for (caller, answers) in answers.iter().enumerate() {
+        writeln!(text, "caller {caller}").unwrap();
+        for Answer { number, found } in answers {
+            match found {
+                Some(value) => writeln!(text, "{number} {value}").unwrap(),
+                None => writeln!(text, "{number} none").unwrap(),
+            }
+        }
+    }
+    text.push_str("map\n");
+    for (key, value) in map.into_pairs() {
+        writeln!(text, "{key} {value}").unwrap();
+    }
+    print!("{text}end\n");
 }
 
 fn print_summary<M: Numbered>(map: M, script: &[Vec<Op>]) {
-    let answers = serve(&map, script);
+    let answers = serve(&map, script, script.len());
     let calls: usize = answers.iter().map(Vec::len).sum();
     let found = answers.iter().flatten().filter(|answer| answer.found.is_some()).count();
     let pairs = map.into_pairs();
@@ -137,14 +192,19 @@ fn print_summary<M: Numbered>(map: M, script: &[Vec<Op>]) {
 
 fn main() {
     let words: Vec<String> = std::env::args().skip(1).collect();
-    let [kind, callers, calls, first] = &words[..] else {
-        panic!("usage: ordered_maps mutex|rwlock CALLERS CALLS FIRST");
-    };
-    let number = |word: &String| word.parse().expect("a number");
-    let script = made_script(number(callers), number(calls), number(first));
-    match kind.as_str() {
-        "mutex" => print_summary(Mutex::<Locked>::default(), &script),
-        "rwlock" => print_summary(Shared::default(), &script),
-        _ => panic!("the map is mutex or rwlock"),
+    let words: Vec<&str> = words.iter().map(String::as_str).collect();
+    let number = |word: &str| word.parse().expect("a number");
+    match words[..] {
+        ["mutex", "script", workers] => print_run(Mutex::<Locked>::default(), &read_script(), number(workers) as usize),
+        ["rwlock", "script", workers] => print_run(Shared::default(), &read_script(), number(workers) as usize),
+        [kind, callers, calls, first] => {
+            let script = made_script(number(callers), number(calls), number(first));
+            match kind {
+                "mutex" => print_summary(Mutex::<Locked>::default(), &script),
+                "rwlock" => print_summary(Shared::default(), &script),
+                _ => panic!("the map is mutex or rwlock"),
+            }
+        }
+        _ => panic!("usage: ordered_maps mutex|rwlock CALLERS CALLS FIRST, or mutex|rwlock script WORKERS"),
     }
 }

@@ -5,6 +5,8 @@ pub mod Stepping
 pub mod Moves
 pub mod Hold
 pub mod After
+pub mod Rest
+pub mod Taking
 pub mod Ready
 pub mod Crew
 pub mod Closing

@@ -285,6 +285,10 @@ module _ (sort : Sort) (begins : Frame → Type 0) (asks : (ℕ → NodeState) �
 abbrev pub trace_of : {N : Type 0} → Run N → List Event
 trace_of r = r.trace
 
+-- how many nodes a run that has ended is over
+abbrev pub nodes_in : {N : Type 0} → Run N → ℕ
+nodes_in r = length (slots_items r.remains.closed.slots)
+
 -- a run over so many nodes that has ended: its trace is lawful, with a good graph throughout, each Full was due, the
 -- words and bodies are those after the trace, and no other node was ever named or used
 module _ {N : Type 0} (sort : Sort) (shows : N → Body) where

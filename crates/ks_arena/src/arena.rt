@@ -17,5 +17,6 @@ pub struct Arena<N: Node, D: Discipline> {
     pub(crate) nodes: u32,
     pub(crate) callers: u32,
     pub(crate) kin: Kin<N, D>,
-    ghost sized: { (table.shared.table_id.words ≡ nodes + 2 + free_words nodes) × (table.shared.table_id.slots ≡ nodes) × (0 < nodes) × (0 < callers) },
+    ghost sized: { (table.shared.table_id.words ≡ nodes + 2 + free_words nodes) × (table.shared.table_id.slots ≡ nodes)
+        × (0 < nodes) × (0 < callers) },
 }

@@ -4,17 +4,15 @@ ghost use Rattle.ks_keysets.specs.Keyset.{InInset};
 ghost use Rattle.ks_history.specs.declared.Event.{Event as Happening};
 ghost use Rattle.ks_history.specs.declared.Op.TheVariants.{Add, Del, Get, Put, Swap};
 ghost use Rattle.ks_history.specs.declared.Reply.TheVariants.{Full, Nothing, Value};
-ghost use Rattle.ks_history.specs.Due.{IsFullFor};
 ghost use Rattle.ks_history.specs.Map.{told};
-ghost use Rattle.ks_history.specs.Passes.{GrowsByOthers};
 ghost use Rattle.ks_history.specs.Trace.{graph_after};
 ghost use Rattle.ks_node.specs.declared.start.Next.TheVariants.{Here};
 ghost use Rattle.ks_node.specs.Body.{is_branch, next_at, value_at};
 ghost use Rattle.ks_node.specs.Effect.{pairs_del, pairs_put};
 ghost use Rattle.ks_node.specs.Room.{is_full};
-ghost use Rattle.ks_arena.specs.Sound.{sort_of, Sound};
-ghost use Rattle.ks_arena.specs.Clauses.{seen_of, Matches};
-ghost use Rattle.ks_arena.specs.Of.{Holds, IsInside, IsPassOf, IsLiveAndCurrent, IsReadyAt, IsReadyOnce, WasRefusedAt};
+ghost use Rattle.ks_arena.specs.Sound.{sort_of};
+ghost use Rattle.ks_arena.specs.Clauses.{Matches};
+ghost use Rattle.ks_arena.specs.Of.{Holds, IsInside, IsPassOf, IsLiveAndCurrent, IsReadyAt, IsReadyOnce, StaysFullFor, WasRefusedAt};
 
 use crate::arena::Arena;
 use crate::held::{Held, Pass};
@@ -26,7 +24,8 @@ use ks_node::{Node, node_law};
 /// The inset of the root has every place.
 pub fn root_law<N: Node>(root: &Held<N>, place: u64)
     requires { root.now.node ≡ 0 }
-    ensures { (h : List Happening) → root.now.live ≡ true → Matches (sort_of N.layout N.ranged) N.body h root.now → InInset (graph_after h) root.now.node place }
+    ensures { (h : List Happening) → root.now.live ≡ true → Matches (sort_of N.layout N.ranged) N.body h root.now →
+        InInset (graph_after h) root.now.node place }
 {}
 
 impl<N: Node, D: Discipline> Arena<N, D> {
@@ -53,7 +52,9 @@ impl<N: Node, D: Discipline> Arena<N, D> {
         requires body { IsLiveAndCurrent self.now pass.now held.now }
         requires inside { IsInside pass.now held.now.node place }
         requires here { next_at (N.body held.now.body) place ≡ Here }
-        ensures { IsReadyOnce self.now pass.now held.now (pairs_put place value (N.body held.now.body).pairs) (Put place value) (told (value_at (N.body held.now.body).pairs place)) }
+        ensures { let pairs = (N.body held.now.body).pairs in
+            IsReadyOnce self.now pass.now held.now (pairs_put place value pairs) (Put place value)
+            (told (value_at pairs place)) }
     {
         sound_law::<D>();
         node_law(&held.body);
@@ -67,7 +68,8 @@ impl<N: Node, D: Discipline> Arena<N, D> {
         requires body { IsLiveAndCurrent self.now pass.now held.now }
         requires inside { IsInside pass.now held.now.node place }
         requires here { next_at (N.body held.now.body) place ≡ Here }
-        ensures { IsReadyOnce self.now pass.now held.now (pairs_del place (N.body held.now.body).pairs) (Del place) (told (value_at (N.body held.now.body).pairs place)) }
+        ensures { let pairs = (N.body held.now.body).pairs in
+            IsReadyOnce self.now pass.now held.now (pairs_del place pairs) (Del place) (told (value_at pairs place)) }
     {
         sound_law::<D>();
         node_law(&held.body);
@@ -81,8 +83,10 @@ impl<N: Node, D: Discipline> Arena<N, D> {
         requires body { IsLiveAndCurrent self.now pass.now held.now }
         requires inside { IsInside pass.now held.now.node place }
         requires here { next_at (N.body held.now.body) place ≡ Here }
-        ensures stays { (found : ℕ) → value_at (N.body held.now.body).pairs place ≡ Some found → IsReadyAt self.now pass.now held.now (Add place value) (Value found) }
-        ensures adds { value_at (N.body held.now.body).pairs place ≡ None → IsReadyOnce self.now pass.now held.now (pairs_put place value (N.body held.now.body).pairs) (Add place value) Nothing }
+        ensures stays { (found : ℕ) → value_at (N.body held.now.body).pairs place ≡ Some found →
+            IsReadyAt self.now pass.now held.now (Add place value) (Value found) }
+        ensures adds { let pairs = (N.body held.now.body).pairs in value_at pairs place ≡ None →
+            IsReadyOnce self.now pass.now held.now (pairs_put place value pairs) (Add place value) Nothing }
     {
         sound_law::<D>();
         node_law(&held.body);
@@ -96,8 +100,10 @@ impl<N: Node, D: Discipline> Arena<N, D> {
         requires body { IsLiveAndCurrent self.now pass.now held.now }
         requires inside { IsInside pass.now held.now.node place }
         requires here { next_at (N.body held.now.body) place ≡ Here }
-        ensures swaps { value_at (N.body held.now.body).pairs place ≡ Some old → IsReadyOnce self.now pass.now held.now (pairs_put place new (N.body held.now.body).pairs) (Swap place old new) (Value old) }
-        ensures stays { value_at (N.body held.now.body).pairs place ≢ Some old → IsReadyAt self.now pass.now held.now (Swap place old new) (told (value_at (N.body held.now.body).pairs place)) }
+        ensures swaps { let pairs = (N.body held.now.body).pairs in value_at pairs place ≡ Some old →
+            IsReadyOnce self.now pass.now held.now (pairs_put place new pairs) (Swap place old new) (Value old) }
+        ensures stays { let pairs = (N.body held.now.body).pairs in value_at pairs place ≢ Some old →
+            IsReadyAt self.now pass.now held.now (Swap place old new) (told (value_at pairs place)) }
     {
         sound_law::<D>();
         node_law(&held.body);
@@ -118,7 +124,7 @@ impl<N: Node, D: Discipline> Arena<N, D> {
         requires none_free { WasRefusedAt self.now pass.now place }
         ensures put { IsReadyAt self.now pass.now held.now (Put place value) Full }
         ensures add { IsReadyAt self.now pass.now held.now (Add place value) Full }
-        ensures still { (h : List Happening) → GrowsByOthers pass.now.caller (seen_of pass.now) h → Sound (sort_of N.layout N.ranged) D.begins D.step self.now.table.shared.table_id.slots h → IsFullFor N.layout (graph_after h) held.now.node place }
+        ensures still { StaysFullFor self.now pass.now held.now.node place }
     {
         sound_law::<D>();
         node_law(&held.body);

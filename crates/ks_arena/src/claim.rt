@@ -1,16 +1,14 @@
 //! How callers claim free nodes, and how they wait for nodes that others hold.
 ghost use Rattle.std.specs.Prelude.{◌≡◌, ◌+◌, ◌<◌, ◌≤◌};
-ghost use Rattle.ks_arena.specs.Sound.{sort_of};
 ghost use Rattle.ks_arena.specs.Rule.{free_words};
-ghost use Rattle.ks_arena.specs.Plays.{TellsFree};
 ghost use Rattle.ks_arena.specs.declared.view.Mark.TheVariants.{Claiming};
-ghost use Rattle.ks_arena.specs.Clauses.{seen_of, TryClaimed, claim_mark, try_steps, DidClaimIn, word_steps, steps_alone};
-ghost use Rattle.ks_arena.specs.Of.{Holds, Looks, Keeps, WasAlone, HeldAlone, IsPassOf, IsMarkedPassOf, StayCurrent, HasTakenFrom, HasClaimedFrom};
+ghost use Rattle.ks_arena.specs.Clauses.{claim_mark, try_steps, word_steps, steps_alone};
+ghost use Rattle.ks_arena.specs.Of.{Holds, Looks, Keeps, WasAlone, HeldAlone, nodes_of, callers_of, IsNodeOf, IsPassOf, IsMarkedPassOf, HasTakenFrom, HasClaimedFrom, HasClaimedIn, TriedToClaim, TellsFreeOf, RestStays};
 
 use crate::arena::Arena;
-use crate::held::{Held, Pass, Taken};
+use crate::held::{Held, Pass};
 use crate::laws::sound_law;
-use crate::plays::{Claims, ClearsBit, Scans};
+use crate::plays::{Claims, ClearsBit, Scans, Takes};
 use crate::steps::Steps;
 use crossbeam_utils::Backoff;
 use ks_flow::Discipline;
@@ -23,23 +21,49 @@ impl<N: Node, D: Discipline> Arena<N, D> {
     /// Takes the node once nobody else holds it. `None`: it is free.
     pub fn take<R: Wait>(&self, rt: &R, pass: &mut Pass<N, D>, node: u32) -> Option<Held<N>>
         requires pass { IsPassOf self.now pass.old }
-        requires node { node < self.now.nodes }
+        requires node { IsNodeOf self.now node }
         requires fresh { ¬ Holds pass.old node }
         ensures pass { IsPassOf self.now pass.new }
         ensures caller { pass.new.caller ≡ pass.old.caller }
         ensures took { HasTakenFrom self.now node pass.old pass.new result }
-        ensures kept { Keeps pass.old pass.new }
-        ensures still { StayCurrent self.now pass.old pass.new }
+        ensures rest { RestStays self.now pass.old pass.new }
+    {
+        let at = node as usize;
+        let shared = &self.table.shared;
+        for _ in rt.forever() {
+            let found = shared.compare_exchange::<Takes<D>>(
+                &mut pass.seat,
+                at + 2,
+                1,
+                pass.caller as u64 + 2,
+            );
+            if found == 1 {
+                let body = shared.exchange(&mut pass.seat, at, None).unwrap();
+                return Some(Held {
+                    node,
+                    live: true,
+                    body,
+                });
+            }
+            if found == 0 {
+                return None;
+            }
+            self.watch(rt, node);
+        }
+        unreachable!()
+    }
+
+    /// Looks at the turn of a node until nobody has it.
+    fn watch<R: Wait>(&self, rt: &R, node: u32)
+        requires { node < self.now.nodes }
     {
         let backoff = Backoff::new();
         for _ in rt.forever() {
-            match self.try_take(pass, node) {
-                Taken::Held(held) => return Some(held),
-                Taken::Gone => return None,
-                Taken::Busy { holder: _ } => backoff.snooze(),
+            if self.table.shared.peek(node as usize + 2) <= 1 {
+                return;
             }
+            backoff.snooze();
         }
-        unreachable!()
     }
 
     /// Claims the first node, from node 1 upward, that it finds free. `None`: none was found free.
@@ -48,8 +72,7 @@ impl<N: Node, D: Discipline> Arena<N, D> {
         ensures pass { IsPassOf self.now pass.new }
         ensures caller { pass.new.caller ≡ pass.old.caller }
         ensures claimed { HasClaimedFrom self.now pass.old pass.new result }
-        ensures kept { Keeps pass.old pass.new }
-        ensures still { StayCurrent self.now pass.old pass.new }
+        ensures rest { RestStays self.now pass.old pass.new }
     {
         self.claim_counted::<Brand>(pass, Blank::new(1))
     }
@@ -62,8 +85,7 @@ impl<N: Node, D: Discipline> Arena<N, D> {
         ensures pass { IsPassOf self.now pass.new }
         ensures caller { pass.new.caller ≡ pass.old.caller }
         ensures claimed { HasClaimedFrom self.now pass.old pass.new result }
-        ensures kept { Keeps pass.old pass.new }
-        ensures still { StayCurrent self.now pass.old pass.new }
+        ensures rest { RestStays self.now pass.old pass.new }
     {
         self.claim_steps(pass, &mut Steps::<L>::start(blank))
     }
@@ -80,11 +102,13 @@ impl<N: Node, D: Discipline> Arena<N, D> {
         ensures pass { IsPassOf self.now pass.new }
         ensures caller { pass.new.caller ≡ pass.old.caller }
         ensures claimed { HasClaimedFrom self.now pass.old pass.new result }
-        ensures kept { Keeps pass.old pass.new }
-        ensures still { StayCurrent self.now pass.old pass.new }
-        ensures cost { WasAlone pass.old pass.new → HeldAlone pass.old → steps.new ≡ steps.old + steps_alone self.now.nodes result }
-        ensures bound { WasAlone pass.old pass.new → HeldAlone pass.old → steps.new ≤ steps.old + free_words self.now.nodes + 2 }
-        ensures one { self.now.callers ≡ 1 → pass.old.caller ≡ 0 → steps.new ≡ steps.old + steps_alone self.now.nodes result }
+        ensures rest { RestStays self.now pass.old pass.new }
+        ensures cost { WasAlone pass.old pass.new → HeldAlone pass.old →
+            steps.new ≡ steps.old + steps_alone (nodes_of self.now) result }
+        ensures bound { WasAlone pass.old pass.new → HeldAlone pass.old →
+            steps.new ≤ steps.old + free_words (nodes_of self.now) + 2 }
+        ensures one { callers_of self.now ≡ 1 → pass.old.caller ≡ 0 →
+            steps.new ≡ steps.old + steps_alone (nodes_of self.now) result }
     {
         sound_law::<D>();
         for index in 0..self.nodes.div_ceil(64) {
@@ -103,10 +127,10 @@ impl<N: Node, D: Discipline> Arena<N, D> {
         steps: &mut Steps<L>,
     ) -> Option<Held<N>>
         requires pass { IsPassOf self.now pass.old }
-        requires index { index < free_words self.now.nodes }
+        requires index { index < free_words (nodes_of self.now) }
         ensures pass { IsPassOf self.now pass.new }
         ensures caller { pass.new.caller ≡ pass.old.caller }
-        ensures claimed { DidClaimIn (sort_of N.layout N.ranged) N.body self.now.nodes index pass.old.caller (seen_of pass.old) (seen_of pass.new) result }
+        ensures claimed { HasClaimedIn self.now index pass.old pass.new result }
         ensures kept { Keeps pass.old pass.new }
         ensures cost { WasAlone pass.old pass.new → HeldAlone pass.old → steps.new ≡ steps.old + word_steps result }
     {
@@ -124,11 +148,11 @@ impl<N: Node, D: Discipline> Arena<N, D> {
     /// Reads a free word: a bit for each node that may be free.
     fn scan<L: Ledger>(&self, pass: &mut Pass<N, D>, index: u32, steps: &mut Steps<L>) -> u64
         requires pass { IsPassOf self.now pass.old }
-        requires index { index < free_words self.now.nodes }
+        requires index { index < free_words (nodes_of self.now) }
         ensures pass { IsPassOf self.now pass.new }
         ensures caller { pass.new.caller ≡ pass.old.caller }
         ensures looked { Looks pass.old pass.new }
-        ensures told { TellsFree self.now.nodes index pass.old.caller (seen_of pass.new) result }
+        ensures told { TellsFreeOf self.now index pass.old pass.new result }
         ensures kept { Keeps pass.old pass.new }
         ensures cost { steps.new ≡ steps.old + 1 }
     {
@@ -145,10 +169,10 @@ impl<N: Node, D: Discipline> Arena<N, D> {
         steps: &mut Steps<L>,
     ) -> Option<Held<N>>
         requires pass { IsPassOf self.now pass.old }
-        requires node { node < self.now.nodes }
+        requires node { IsNodeOf self.now node }
         ensures pass { IsPassOf self.now pass.new }
         ensures caller { pass.new.caller ≡ pass.old.caller }
-        ensures claimed { TryClaimed (sort_of N.layout N.ranged) N.body pass.old.caller node (seen_of pass.old) (seen_of pass.new) result }
+        ensures claimed { TriedToClaim self.now node pass.old pass.new result }
         ensures kept { Keeps pass.old pass.new }
         ensures cost { steps.new ≡ steps.old + try_steps result }
     {
@@ -165,10 +189,10 @@ impl<N: Node, D: Discipline> Arena<N, D> {
         steps: &mut Steps<L>,
     ) -> Option<Held<N>>
         requires pass { IsPassOf self.now pass.old }
-        requires node { node < self.now.nodes }
+        requires node { IsNodeOf self.now node }
         ensures pass { IsMarkedPassOf self.now (claim_mark result) pass.new }
         ensures caller { pass.new.caller ≡ pass.old.caller }
-        ensures claimed { TryClaimed (sort_of N.layout N.ranged) N.body pass.old.caller node (seen_of pass.old) (seen_of pass.new) result }
+        ensures claimed { TriedToClaim self.now node pass.old pass.new result }
         ensures kept { Keeps pass.old pass.new }
         ensures cost { steps.new ≡ steps.old + 1 }
     {
@@ -200,8 +224,7 @@ impl<N: Node, D: Discipline> Arena<N, D> {
         ensures pass { IsPassOf self.now pass.new }
         ensures caller { pass.new.caller ≡ pass.old.caller }
         ensures looked { Looks pass.old pass.new }
-        ensures kept { Keeps pass.old pass.new }
-        ensures still { StayCurrent self.now pass.old pass.new }
+        ensures rest { RestStays self.now pass.old pass.new }
         ensures cost { steps.new ≡ steps.old + 1 }
     {
         steps.tick();

@@ -1,13 +1,12 @@
 //! The pairs and the graph of an arena that has ended.
 ghost use Rattle.std.specs.Prelude.{◌≡◌, ℕ, ◌<◌, ◌++◌, map, length, IfOk, OnOk};
-ghost use Rattle.std.specs.Slots.{slots_items};
 ghost use Rattle.ks_keysets.specs.Listed.{graph_of};
 ghost use Rattle.ks_node.specs.Edges.{edges_of};
 ghost use Rattle.ks_history.specs.Map.{map_after};
 ghost use Rattle.ks_history.specs.Served.{IsListing};
 ghost use Rattle.ks_history.specs.Trace.{calls_of, graph_after};
 ghost use Rattle.ks_arena.specs.Sound.{sort_of};
-ghost use Rattle.ks_arena.specs.Clauses.{IsRun, trace_of};
+ghost use Rattle.ks_arena.specs.Clauses.{IsRun, nodes_in, trace_of};
 ghost use Rattle.ks_arena.specs.Ended.{AreFound, IsReadAs, entries_below, entry_of};
 
 use crate::run::Run;
@@ -55,7 +54,7 @@ impl<N: Node> Run<N> {
     /// The body of a node, if that is live.
     fn live(&self, node: usize) -> Option<&N>
         requires run { (nodes : ℕ) × IsRun (sort_of N.layout N.ranged) N.body nodes self.now }
-        requires node { node < length (slots_items self.now.remains.closed.slots) }
+        requires node { node < nodes_in self.now }
         ensures { IsReadAs N.body (graph_after (trace_of self.now) node) result }
     {
         if self.remains.closed.word(node + 2) == 0 {
@@ -67,7 +66,8 @@ impl<N: Node> Run<N> {
     /// The places and values of all pairs, node after node.
     fn entries(&self, alloc: Global) -> Result<Vec<(u64, u128)>, AllocError>
         requires { (nodes : ℕ) × IsRun (sort_of N.layout N.ranged) N.body nodes self.now }
-        ensures { IfOk result (λ entries. entries.items ≡ entries_below (graph_after (trace_of self.now)) (length (slots_items self.now.remains.closed.slots))) }
+        ensures { IfOk result
+            (λ entries. entries.items ≡ entries_below (graph_after (trace_of self.now)) (nodes_in self.now)) }
     {
         let mut entries = Vec::new(alloc);
         for node in 0..self.remains.closed.slot_count() {
@@ -95,7 +95,7 @@ impl<N: Node> Run<N> {
     /// The state of a node.
     fn state(&self, alloc: Global, node: usize) -> Result<NodeState, AllocError>
         requires run { (nodes : ℕ) × IsRun (sort_of N.layout N.ranged) N.body nodes self.now }
-        requires node { node < length (slots_items self.now.remains.closed.slots) }
+        requires node { node < nodes_in self.now }
         ensures { IfOk result (λ state. state ≡ graph_after (trace_of self.now) node) }
     {
         match self.live(node) {
@@ -110,8 +110,10 @@ impl<N: Node> Run<N> {
     /// The graph at the end, with as many nodes as the arena had. Memory is the only want.
     pub fn graph(&self, alloc: Global) -> Result<Graph, AllocError>
         requires { (nodes : ℕ) × IsRun (sort_of N.layout N.ranged) N.body nodes self.now }
-        ensures nodes { (nodes : ℕ) → IsRun (sort_of N.layout N.ranged) N.body nodes self.now → IfOk result (λ graph. length graph ≡ nodes) }
-        ensures states { IfOk result (λ graph. (node : ℕ) → graph_of graph node ≡ graph_after (trace_of self.now) node) }
+        ensures nodes { (nodes : ℕ) → IsRun (sort_of N.layout N.ranged) N.body nodes self.now →
+            IfOk result (λ graph. length graph ≡ nodes) }
+        ensures states { IfOk result
+            (λ graph. (node : ℕ) → graph_of graph node ≡ graph_after (trace_of self.now) node) }
     {
         let count = self.remains.closed.slot_count();
         let mut nodes = Vec::with_capacity(alloc, count)?;

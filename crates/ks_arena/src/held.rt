@@ -30,9 +30,10 @@ pub struct Note<N, D> {
 }
 
 /// A node in the hand of its holder. A node that is not live becomes free when it is given back.
+// The body stands first: a move then copies it in whole words.
 pub struct Held<N> {
-    pub node: u32,
     pub body: N,
+    pub node: u32,
     pub live: bool,
 }
 

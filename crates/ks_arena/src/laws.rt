@@ -21,13 +21,20 @@ use ks_flow::{Discipline, Link, Tree};
 /// caller holds keeps its keyset, and what the discipline keeps at a node that no Shape names.
 pub fn sound_law<D: Discipline>()
     ensures lawful { (sort : Sort) (nodes : ℕ) (h : List Happening) → Sound sort D.begins D.step nodes h → Lawful h }
-    ensures good { (sort : Sort) (nodes : ℕ) (h : List Happening) → Sound sort D.begins D.step nodes h → GoodThroughout h }
-    ensures facts { (sort : Sort) (nodes : ℕ) (h : List Happening) → Sound sort D.begins D.step nodes h → D.facts (graph_after h) (frame_after (blank_of sort) h) }
-    ensures begins { (sort : Sort) (nodes : ℕ) (k h : List Happening) → k ⊑ h → Sound sort D.begins D.step nodes h → Sound sort D.begins D.step nodes k }
-    ensures due { (sort : Sort) (nodes : ℕ) (h : List Happening) → Sound sort D.begins D.step nodes h → FullsDue sort.layout nodes h }
-    ensures lasts { (sort : Sort) (nodes : ℕ) (k h : List Happening) → k ⊑ h → Sound sort D.begins D.step nodes h → D.lasts (graph_after k) (frame_after (blank_of sort) k) (graph_after h) (frame_after (blank_of sort) h) }
-    ensures keyset { (sort : Sort) (nodes c i : ℕ) (k h : List Happening) → GrowsByOthers c k h → turn_after h i ≡ held c → Sound sort D.begins D.step nodes h → SameKeyset i (graph_after k) (graph_after h) }
-    ensures beside { (sort : Sort) (nodes c i : ℕ) (k h : List Happening) → GrowsByOthers c k h → turn_after h i ≡ held c → Sound sort D.begins D.step nodes h → D.beside i (graph_after k) (graph_after h) }
+    ensures good { (sort : Sort) (nodes : ℕ) (h : List Happening) → Sound sort D.begins D.step nodes h →
+        GoodThroughout h }
+    ensures facts { (sort : Sort) (nodes : ℕ) (h : List Happening) → Sound sort D.begins D.step nodes h →
+        D.facts (graph_after h) (frame_after (blank_of sort) h) }
+    ensures begins { (sort : Sort) (nodes : ℕ) (k h : List Happening) → k ⊑ h → Sound sort D.begins D.step nodes h →
+        Sound sort D.begins D.step nodes k }
+    ensures due { (sort : Sort) (nodes : ℕ) (h : List Happening) → Sound sort D.begins D.step nodes h →
+        FullsDue sort.layout nodes h }
+    ensures lasts { (sort : Sort) (nodes : ℕ) (k h : List Happening) → k ⊑ h → Sound sort D.begins D.step nodes h →
+        D.lasts (graph_after k) (frame_after (blank_of sort) k) (graph_after h) (frame_after (blank_of sort) h) }
+    ensures keyset { (sort : Sort) (nodes c i : ℕ) (k h : List Happening) → GrowsByOthers c k h →
+        turn_after h i ≡ held c → Sound sort D.begins D.step nodes h → SameKeyset i (graph_after k) (graph_after h) }
+    ensures beside { (sort : Sort) (nodes c i : ℕ) (k h : List Happening) → GrowsByOthers c k h →
+        turn_after h i ≡ held c → Sound sort D.begins D.step nodes h → D.beside i (graph_after k) (graph_after h) }
 {
     D::laws();
     walks_law();
@@ -35,7 +42,8 @@ pub fn sound_law<D: Discipline>()
 
 /// The target of an edge of a node that a caller holds is never found free, whatever others do.
 pub fn target_law<D: Discipline>()
-    ensures { (sort : Sort) (nodes c above i : ℕ) (seen h : List Happening) (r : Record) → GrowsByOthers c seen h → Sound sort D.begins D.step nodes h → turn_after seen above ≡ held c →
+    ensures { (sort : Sort) (nodes c above i : ℕ) (seen h : List Happening) (r : Record) → GrowsByOthers c seen h →
+        Sound sort D.begins D.step nodes h → turn_after seen above ≡ held c →
         record_at (graph_after seen) above ≡ Some r → Any (λ e. e.node ≡ i) r.edges → turn_after h i ≢ free }
 {
     sound_law::<D>();
@@ -43,14 +51,16 @@ pub fn target_law<D: Discipline>()
 
 /// Under links, a node that was live is never found free later.
 pub fn link_live_law()
-    ensures { (sort : Sort) (nodes i : ℕ) (k h : List Happening) → k ⊑ h → Sound sort BeginsLink LinkStep nodes h → IsLive (graph_after k) i → turn_after h i ≢ free }
+    ensures { (sort : Sort) (nodes i : ℕ) (k h : List Happening) → k ⊑ h → Sound sort BeginsLink LinkStep nodes h →
+        IsLive (graph_after k) i → turn_after h i ≢ free }
 {
     sound_law::<Link>();
 }
 
 /// Under links the level of the root is below the number of live nodes.
 pub fn link_level_law()
-    ensures { (sort : Sort) (nodes : ℕ) (h : List Happening) → 0 < nodes → Sound sort BeginsLink LinkStep nodes h → (frame_after (blank_of sort) h 0).level < lives_below (graph_after h) nodes }
+    ensures { (sort : Sort) (nodes : ℕ) (h : List Happening) → 0 < nodes → Sound sort BeginsLink LinkStep nodes h →
+        (frame_after (blank_of sort) h 0).level < lives_below (graph_after h) nodes }
 {
     sound_law::<Link>();
     beside_law::<Link>();
@@ -59,7 +69,8 @@ pub fn link_level_law()
 
 /// The root is never found free.
 pub fn root_stays_law<D: Discipline>()
-    ensures { (sort : Sort) (nodes : ℕ) (h : List Happening) → Sound sort D.begins D.step nodes h → turn_after h 0 ≢ free }
+    ensures { (sort : Sort) (nodes : ℕ) (h : List Happening) → Sound sort D.begins D.step nodes h →
+        turn_after h 0 ≢ free }
 {
     sound_law::<D>();
 }
@@ -67,8 +78,10 @@ pub fn root_stays_law<D: Discipline>()
 /// In a sound trace each Shape leaves the keysets of the nodes that it does not name, and live nodes are nodes of the
 /// arena.
 pub fn beside_law<D: Discipline>()
-    ensures keysets { (sort : Sort) (nodes : ℕ) (h : List Happening) → Sound sort D.begins D.step nodes h → AreBeside InKeyset h }
-    ensures live { (sort : Sort) (nodes m : ℕ) (h : List Happening) → 0 < nodes → Sound sort D.begins D.step nodes h → IsLive (graph_after h) m → m < nodes }
+    ensures keysets { (sort : Sort) (nodes : ℕ) (h : List Happening) → Sound sort D.begins D.step nodes h →
+        AreBeside InKeyset h }
+    ensures live { (sort : Sort) (nodes m : ℕ) (h : List Happening) → 0 < nodes → Sound sort D.begins D.step nodes h →
+        IsLive (graph_after h) m → m < nodes }
 {
     D::laws();
     walks_law();
@@ -77,8 +90,10 @@ pub fn beside_law<D: Discipline>()
 /// Under trees each Shape leaves the insets of the nodes that it does not name, and edges lead to a node from one node at
 /// most, and none to the root.
 pub fn tree_beside_law()
-    ensures insets { (sort : Sort) (nodes : ℕ) (h : List Happening) → Sound sort BeginsTree TreeStep nodes h → AreBeside InInset h }
-    ensures parents { (sort : Sort) (nodes : ℕ) (h : List Happening) → Sound sort BeginsTree TreeStep nodes h → OneParent (graph_after h) }
+    ensures insets { (sort : Sort) (nodes : ℕ) (h : List Happening) → Sound sort BeginsTree TreeStep nodes h →
+        AreBeside InInset h }
+    ensures parents { (sort : Sort) (nodes : ℕ) (h : List Happening) → Sound sort BeginsTree TreeStep nodes h →
+        OneParent (graph_after h) }
 {
     sound_law::<Tree>();
     Tree::laws();

@@ -4,7 +4,7 @@ ghost use Rattle.ks_history.specs.Passes.{CallersBelow};
 ghost use Rattle.ks_arena.specs.Sound.{sort_of, blank_of, Sound};
 ghost use Rattle.ks_arena.specs.Rule.{AllBlank, first_view, free_words, FirstBits};
 ghost use Rattle.ks_arena.specs.Clauses.{IsNewCrew, EndsAll, IsRun, trace_of};
-ghost use Rattle.ks_arena.specs.Of.{AreAllPassesOf};
+ghost use Rattle.ks_arena.specs.Of.{AreAllPassesOf, IsStart, callers_of, nodes_of};
 
 use crate::arena::Arena;
 use crate::held::Pass;
@@ -55,9 +55,11 @@ fn crew<N: Node, D: Discipline>(
     mut first: Seat<Option<N>, View>,
     callers: u32,
 ) -> Result<Vec<Pass<N, D>>, AllocError>
-    requires seat { (first.table_id ≡ shared.now.table_id) × (first.me ≡ (first_view, [])) × (0 < callers) × (0 < shared.now.table_id.words) }
+    requires seat { (first.table_id ≡ shared.now.table_id) × (first.me ≡ (first_view, [])) × (0 < callers)
+        × (0 < shared.now.table_id.words) }
     requires fits { D.begins (blank_of (sort_of N.layout N.ranged)) }
-    ensures { IfOk result (λ v. IsNewCrew (sort_of N.layout N.ranged) D.begins D.step shared.now.table_id callers v.items) }
+    ensures { IfOk result
+        (λ v. IsNewCrew (sort_of N.layout N.ranged) D.begins D.step shared.now.table_id callers v.items) }
 {
     let mut passes = Vec::with_capacity(alloc, callers as usize)?;
     for caller in 1..callers {
@@ -89,7 +91,7 @@ impl<N: Node, D: Discipline> Arena<N, D> {
         requires nodes { (4 ≤ nodes) × (nodes ≤ 1048576) }
         requires callers { (1 ≤ callers) × (callers ≤ 1024) }
         requires fits { D.begins (blank_of (sort_of N.layout N.ranged)) }
-        ensures { IfOk result (λ r. (r.0.nodes ≡ nodes) × (r.0.callers ≡ callers) × IsNewCrew (sort_of N.layout N.ranged) D.begins D.step r.0.table.shared.table_id callers r.1.items) }
+        ensures { IfOk result (λ r. IsStart r.0 nodes callers r.1.items) }
     {
         let words = first_words(alloc, nodes as usize)?;
         let slots = blanks::<N>(alloc, nodes as usize)?;
@@ -109,10 +111,10 @@ impl<N: Node, D: Discipline> Arena<N, D> {
     /// Ends the arena. The passes are all that `start` gave, and hold no node.
     pub fn close(self, mut passes: Vec<Pass<N, D>>) -> Run<N>
         requires { AreAllPassesOf self passes.items }
-        ensures run { IsRun (sort_of N.layout N.ranged) N.body self.nodes result }
-        ensures sound { Sound (sort_of N.layout N.ranged) D.begins D.step self.nodes (trace_of result) }
+        ensures run { IsRun (sort_of N.layout N.ranged) N.body (nodes_of self) result }
+        ensures sound { Sound (sort_of N.layout N.ranged) D.begins D.step (nodes_of self) (trace_of result) }
         ensures seen { EndsAll (trace_of result) passes.items }
-        ensures callers { CallersBelow self.callers (trace_of result) }
+        ensures callers { CallersBelow (callers_of self) (trace_of result) }
     {
         sound_law::<D>();
         let mut base = match passes.pop() {

@@ -2,7 +2,7 @@
 ghost use Rattle.std.specs.Prelude.{◌≡◌};
 ghost use Rattle.ks_history.specs.Trace.{◌⊑◌};
 ghost use Rattle.ks_arena.specs.Clauses.{noted, seen_of};
-ghost use Rattle.ks_arena.specs.Of.{Looks, Keeps, IsPassOf, IsNoteFrom, StayCurrent};
+ghost use Rattle.ks_arena.specs.Of.{Looks, IsPassOf, IsNoteFrom, RestStays};
 
 use crate::arena::Arena;
 use crate::held::{Note, Pass};
@@ -36,8 +36,7 @@ impl<N: Node, D: Discipline> Arena<N, D> {
         ensures caller { pass.new.caller ≡ pass.old.caller }
         ensures looked { Looks pass.old pass.new }
         ensures noted { noted note ⊑ seen_of pass.new }
-        ensures kept { Keeps pass.old pass.new }
-        ensures still { StayCurrent self.now pass.old pass.new }
+        ensures rest { RestStays self.now pass.old pass.new }
     {
         self.table
             .shared

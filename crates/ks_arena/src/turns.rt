@@ -1,10 +1,10 @@
 //! Taking nodes, giving them back, and what is decided and shaped meanwhile.
-ghost use Rattle.std.specs.Prelude.{◌≡◌, ◌+◌, ◌%◌, ◌<◌, ◌∷◌};
+ghost use Rattle.std.specs.Prelude.{◌≡◌, ◌+◌, ◌%◌, ◌∷◌};
 ghost use Rattle.ks_arena.specs.declared.view.Mark.TheVariants.{Freeing};
 ghost use Rattle.ks_history.specs.Trace.{drop_one};
 ghost use Rattle.ks_history.specs.declared.Event.TheVariants.{Call, Give, Shape};
 ghost use Rattle.ks_arena.specs.Clauses.{give_mark, hand_of, mine_of, AllAmong, EachOnce, changes_of};
-ghost use Rattle.ks_arena.specs.Of.{Holds, Adds, AddsCall, Looks, Keeps, KeepsBut, KeepsBesides, IsPassOf, IsMarkedPassOf, IsCurrent, StayCurrent, StayCurrentBut, StayCurrentBesides, TriedToTake, IsReadyAt, AreCurrent, MayBecome};
+ghost use Rattle.ks_arena.specs.Of.{Holds, Adds, HasDecided, HasShaped, Looks, KeepsBut, IsPassOf, IsMarkedPassOf, IsCurrent, TriedToTake, IsReadyAt, AreCurrent, MayBecome, nodes_of, IsNodeOf, RestStays, RestStaysBut};
 
 use crate::arena::Arena;
 use crate::held::{Held, Pass, Taken};
@@ -18,7 +18,7 @@ use std::marker::Brand;
 impl<N: Node, D: Discipline> Arena<N, D> {
     /// How many nodes there are.
     pub fn nodes(&self) -> u32
-        ensures { result ≡ self.now.nodes }
+        ensures { result ≡ nodes_of self.now }
     {
         self.nodes
     }
@@ -26,13 +26,12 @@ impl<N: Node, D: Discipline> Arena<N, D> {
     /// Tries once to take the node.
     pub fn try_take(&self, pass: &mut Pass<N, D>, node: u32) -> Taken<N>
         requires pass { IsPassOf self.now pass.old }
-        requires node { node < self.now.nodes }
+        requires node { IsNodeOf self.now node }
         requires fresh { ¬ Holds pass.old node }
         ensures pass { IsPassOf self.now pass.new }
         ensures caller { pass.new.caller ≡ pass.old.caller }
         ensures took { TriedToTake self.now node pass.old pass.new result }
-        ensures kept { Keeps pass.old pass.new }
-        ensures still { StayCurrent self.now pass.old pass.new }
+        ensures rest { RestStays self.now pass.old pass.new }
     {
         let at = node as usize;
         let shared = &self.table.shared;
@@ -68,8 +67,7 @@ impl<N: Node, D: Discipline> Arena<N, D> {
         ensures gave { Adds (Give pass.old.caller held.node) pass.old pass.new }
         ensures hand { hand_of pass.new ≡ drop_one held.node (hand_of pass.old) }
         ensures mine { mine_of pass.new ≡ Give pass.old.caller held.node ∷ mine_of pass.old }
-        ensures kept { KeepsBut held.node pass.old pass.new }
-        ensures still { StayCurrentBut self.now held.node pass.old pass.new }
+        ensures rest { RestStaysBut self.now held.node pass.old pass.new }
     {
         if held.live {
             self.put_back(pass, held);
@@ -86,8 +84,7 @@ impl<N: Node, D: Discipline> Arena<N, D> {
         ensures pass { IsMarkedPassOf self.now (Freeing node) pass.new }
         ensures caller { pass.new.caller ≡ pass.old.caller }
         ensures looked { Looks pass.old pass.new }
-        ensures kept { Keeps pass.old pass.new }
-        ensures still { StayCurrent self.now pass.old pass.new }
+        ensures rest { RestStays self.now pass.old pass.new }
     {
         let word = self.nodes as usize + 2 + node as usize / 64;
         self.table
@@ -126,12 +123,8 @@ impl<N: Node, D: Discipline> Arena<N, D> {
         requires ready { IsReadyAt self.now pass.old held.now op reply }
         ensures pass { IsPassOf self.now pass.new }
         ensures caller { pass.new.caller ≡ pass.old.caller }
-        ensures decided { AddsCall (Call pass.old.caller held.now.node op reply) pass.old pass.new result }
-        ensures hand { hand_of pass.new ≡ hand_of pass.old }
-        ensures mine { mine_of pass.new ≡ Call pass.old.caller held.now.node op reply ∷ mine_of pass.old }
+        ensures decided { HasDecided self.now held.now op reply pass.old pass.new result }
         ensures body { IsCurrent self.now pass.new held.now }
-        ensures kept { KeepsBut held.now.node pass.old pass.new }
-        ensures still { StayCurrentBut self.now held.now.node pass.old pass.new }
     {
         self.count::<Brand>(pass, held, op, reply)
     }
@@ -143,12 +136,8 @@ impl<N: Node, D: Discipline> Arena<N, D> {
         requires ready { IsReadyAt self.now pass.old held.now op reply }
         ensures pass { IsPassOf self.now pass.new }
         ensures caller { pass.new.caller ≡ pass.old.caller }
-        ensures decided { AddsCall (Call pass.old.caller held.now.node op reply) pass.old pass.new result }
-        ensures hand { hand_of pass.new ≡ hand_of pass.old }
-        ensures mine { mine_of pass.new ≡ Call pass.old.caller held.now.node op reply ∷ mine_of pass.old }
+        ensures decided { HasDecided self.now held.now op reply pass.old pass.new result }
         ensures body { IsCurrent self.now pass.new held.now }
-        ensures kept { KeepsBut held.now.node pass.old pass.new }
-        ensures still { StayCurrentBut self.now held.now.node pass.old pass.new }
     {
         D::laws();
         walks_law();
@@ -171,12 +160,8 @@ impl<N: Node, D: Discipline> Arena<N, D> {
         requires may { MayBecome self.now pass.old (changes_of N.body first.now second third) }
         ensures pass { IsPassOf self.now pass.new }
         ensures caller { pass.new.caller ≡ pass.old.caller }
-        ensures shaped { Adds (Shape pass.old.caller (changes_of N.body first.now second.entry third.entry)) pass.old pass.new }
-        ensures hand { hand_of pass.new ≡ hand_of pass.old }
-        ensures mine { mine_of pass.new ≡ Shape pass.old.caller (changes_of N.body first.now second.entry third.entry) ∷ mine_of pass.old }
+        ensures shaped { HasShaped self.now (changes_of N.body first.now second.entry third.entry) pass.old pass.new }
         ensures bodies { AreCurrent self.now pass.new first.now second.entry third.entry }
-        ensures kept { KeepsBesides (changes_of N.body first.now second.entry third.entry) pass.old pass.new }
-        ensures still { StayCurrentBesides self.now (changes_of N.body first.now second.entry third.entry) pass.old pass.new }
     {
         self.form::<Brand>(pass, first, second, third);
     }
@@ -195,12 +180,8 @@ impl<N: Node, D: Discipline> Arena<N, D> {
         requires may { MayBecome self.now pass.old (changes_of N.body first.now second third) }
         ensures pass { IsPassOf self.now pass.new }
         ensures caller { pass.new.caller ≡ pass.old.caller }
-        ensures shaped { Adds (Shape pass.old.caller (changes_of N.body first.now second.entry third.entry)) pass.old pass.new }
-        ensures hand { hand_of pass.new ≡ hand_of pass.old }
-        ensures mine { mine_of pass.new ≡ Shape pass.old.caller (changes_of N.body first.now second.entry third.entry) ∷ mine_of pass.old }
+        ensures shaped { HasShaped self.now (changes_of N.body first.now second.entry third.entry) pass.old pass.new }
         ensures bodies { AreCurrent self.now pass.new first.now second.entry third.entry }
-        ensures kept { KeepsBesides (changes_of N.body first.now second.entry third.entry) pass.old pass.new }
-        ensures still { StayCurrentBesides self.now (changes_of N.body first.now second.entry third.entry) pass.old pass.new }
     {
         self.table
             .shared

@@ -1,11 +1,11 @@
 //! The least layer above an arena: callers take, claim and give nodes, by the clauses of the arena alone.
 #![tactic(auto)]
 
-ghost use Rattle.std.specs.Prelude.{◌≡◌, ◌<◌, ◌∷◌, ◌++◌};
+ghost use Rattle.std.specs.Prelude.{◌≡◌, ◌∷◌, ◌++◌};
 ghost use Rattle.ks_history.specs.declared.Event.TheVariants.{Take, Give};
 ghost use Rattle.ks_arena.specs.Clauses.{hand_of, mine_of, seen_of};
 ghost use Rattle.ks_arena_tests.specs.Turns.{met_events, IsMetDue, claim_events, IsClaimDue};
-ghost use Rattle.ks_arena.specs.Of.{Holds, IsPassOf, IsEmptyPassOf};
+ghost use Rattle.ks_arena.specs.Of.{Holds, IsPassOf, IsEmptyPassOf, IsNodeOf, nodes_of};
 
 mod gets;
 mod many;
@@ -36,7 +36,7 @@ pub fn claim_two<N: Node, D: Discipline>(arena: &Arena<N, D>, pass: &mut Pass<N,
     ensures pass { IsEmptyPassOf arena.now pass.new }
     ensures caller { pass.new.caller ≡ pass.old.caller }
     ensures mine { mine_of pass.new ≡ claim_events pass.old.caller result ++ mine_of pass.old }
-    ensures due { IsClaimDue arena.now.nodes (seen_of pass.old) (seen_of pass.new) result }
+    ensures due { IsClaimDue (nodes_of arena.now) (seen_of pass.old) (seen_of pass.new) result }
 {
     let Some(first) = arena.claim(pass) else {
         return Claimed::Nil;
@@ -63,7 +63,7 @@ pub enum Met {
 /// Tries to take the node, and gives it back at once.
 pub fn meet<N: Node, D: Discipline>(arena: &Arena<N, D>, pass: &mut Pass<N, D>, node: u32) -> Met
     requires pass { IsPassOf arena.now pass.old }
-    requires node { node < arena.now.nodes }
+    requires node { IsNodeOf arena.now node }
     requires fresh { ¬ Holds pass.old node }
     ensures pass { IsPassOf arena.now pass.new }
     ensures caller { pass.new.caller ≡ pass.old.caller }

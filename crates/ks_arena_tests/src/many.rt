@@ -1,6 +1,6 @@
 //! A claim in an arena of several free words, with its steps counted.
 ghost use Rattle.std.specs.Prelude.{◌≡◌, ◌+◌, ◌≤◌, None};
-ghost use Rattle.ks_arena.specs.Of.{Keeps, IsPassOf, StayCurrent, HasClaimedFrom};
+ghost use Rattle.ks_arena.specs.Of.{IsPassOf, HasClaimedFrom, RestStays, callers_of, nodes_of};
 
 use ks_arena::{Arena, Held, Pass, Steps};
 use ks_flow::Discipline;
@@ -15,13 +15,12 @@ pub fn claim_of_many<N: Node, D: Discipline, L: Ledger>(
     steps: &mut Steps<L>,
 ) -> Option<Held<N>>
     requires pass { IsPassOf arena.now pass.old }
-    requires size { arena.now.nodes ≡ 200 }
-    requires alone { (arena.now.callers ≡ 1) × (pass.old.caller ≡ 0) }
+    requires size { nodes_of arena.now ≡ 200 }
+    requires alone { (callers_of arena.now ≡ 1) × (pass.old.caller ≡ 0) }
     ensures pass { IsPassOf arena.now pass.new }
     ensures caller { pass.new.caller ≡ pass.old.caller }
     ensures claimed { HasClaimedFrom arena.now pass.old pass.new result }
-    ensures kept { Keeps pass.old pass.new }
-    ensures still { StayCurrent arena.now pass.old pass.new }
+    ensures rest { RestStays arena.now pass.old pass.new }
     ensures cost { steps.new ≤ steps.old + 6 }
     ensures none { result ≡ None → steps.new ≡ steps.old + 4 }
 {

@@ -42,7 +42,8 @@ fn input<S: Source>(alloc: Global, source: &mut S, text: Text) -> Result<Vec<u8>
     ensures ok { IfOk result (λ read. IfSome (S.left source.old) (λ bytes. read.items ≡ bytes)) }
     ensures within { IfOk result (λ read. length read.items ≤ limit_of text) }
     ensures end { OnOk result (IfSome (S.left source.old) (λ _. S.left source.new ≡ Some [])) }
-    ensures cause { IfErr result (λ stop. IsCause stop text (S.left source.old) (Rose (S.faults source.old) (S.faults source.new))) }
+    ensures cause { IfErr result
+        (λ stop. IsCause stop text (S.left source.old) (Rose (S.faults source.old) (S.faults source.new))) }
 {
     match read_all(alloc, source, limit(text)) {
         Ok(bytes) => Ok(bytes),
@@ -81,7 +82,8 @@ pub fn load<S: Source>(alloc: Global, source: &mut S) -> Result<Script, Stop>
     ensures ok { IfOk result (λ script. IfSome (S.left source.old) (λ bytes. Accepts bytes script)) }
     ensures callers { IfOk result (λ script. length script ≤ 1024) }
     ensures end { OnOk result (IfSome (S.left source.old) (λ _. S.left source.new ≡ Some [])) }
-    ensures cause { IfErr result (λ stop. IsCause stop text.Script (S.left source.old) (Rose (S.faults source.old) (S.faults source.new))) }
+    ensures cause { IfErr result
+        (λ stop. IsCause stop text.Script (S.left source.old) (Rose (S.faults source.old) (S.faults source.new))) }
 {
     let bytes = input(alloc, source, Text::Script)?;
     script(alloc, &bytes)
@@ -93,7 +95,8 @@ pub fn load_checked<S: Source>(alloc: Global, source: &mut S) -> Result<(Script,
     ensures shape { IfOk result (λ x. SameShape x.0 x.1.callers) }
     ensures few { IfOk result (λ x. calls_in x.0 ≤ 1048576) }
     ensures end { OnOk result (IfSome (S.left source.old) (λ _. S.left source.new ≡ Some [])) }
-    ensures cause { IfErr result (λ stop. IsCause stop text.Checked (S.left source.old) (Rose (S.faults source.old) (S.faults source.new))) }
+    ensures cause { IfErr result
+        (λ stop. IsCause stop text.Checked (S.left source.old) (Rose (S.faults source.old) (S.faults source.new))) }
 {
     let bytes = input(alloc, source, Text::Checked)?;
     checked(alloc, &bytes)

@@ -55,7 +55,9 @@ pub fn serve_by<R: Threads + Wait + Sync, G: Gate + Sync>(
     requires nodes { (4 ≤ nodes) × (nodes ≤ 1048576) }
     requires callers { length callers.items ≤ 1024 }
     requires workers { (1 ≤ workers) × (workers ≤ 64) }
-    ensures served { IfOk result (λ told. Served (row_of pairing).place (map (λ v. v.items) callers.items) (map (λ v. v.items) told.lines.items) told.pairs.items told.trace) }
+    ensures served { IfOk result
+        (λ told. Served (row_of pairing).place (map (λ v. v.items) callers.items) (map (λ v. v.items) told.lines.items)
+        told.pairs.items told.trace) }
     ensures lawful { IfOk result (λ told. Lawful told.trace) }
     ensures good { IfOk result (λ told. GoodThroughout told.trace) }
     ensures due { IfOk result (λ told. FullsDue (row_of pairing).layout nodes told.trace) }

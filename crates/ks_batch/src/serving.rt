@@ -93,9 +93,11 @@ fn prepare<R: Threads + Wait + Sync, S: Source, G: Gate + Sync>(
     ensures lawful { IfOk result (λ ready. Lawful ready.trace) }
     ensures good { IfOk result (λ ready. GoodThroughout ready.trace) }
     ensures due { IfOk result (λ ready. FullsDue (row_of pairing).layout arena ready.trace) }
-    ensures tells { IfOk result (λ ready. IfSome (S.left source.old) (λ bytes. Tells (row_of pairing).place bytes ready.trace ready.printed)) }
+    ensures tells { IfOk result
+        (λ ready. IfSome (S.left source.old) (λ bytes. Tells (row_of pairing).place bytes ready.trace ready.printed)) }
     ensures end { OnOk result (IfSome (S.left source.old) (λ _. S.left source.new ≡ Some [])) }
-    ensures cause { IfErr result (λ stop. IsCause stop text.Script (S.left source.old) (Rose (S.faults source.old) (S.faults source.new))) }
+    ensures cause { IfErr result
+        (λ stop. IsCause stop text.Script (S.left source.old) (Rose (S.faults source.old) (S.faults source.new))) }
 {
     let script = load(alloc, source)?;
     match serve_by(rt, alloc, pairing, arena, script.callers, workers, gate) {
@@ -127,7 +129,8 @@ fn serve_script<R: Threads + Wait + Sync, S: Source, K: Sink, G: Gate + Sync>(
     ensures done { result.status ≡ 0 →
         PrintsRun (row_of pairing).place (S.left source.old) result.run (Grew (K.taken out.old) (K.taken out.new)) }
     ensures cut { result.status ≡ 4 →
-        PrintsRun (row_of pairing).place (S.left source.old) result.run (GrewByFront (K.taken out.old) (K.taken out.new)) }
+        PrintsRun (row_of pairing).place (S.left source.old) result.run
+        (GrewByFront (K.taken out.old) (K.taken out.new)) }
     ensures end { IsSome result.run → IfSome (S.left source.old) (λ _. S.left source.new ≡ Some []) }
     ensures untouched { result.status ≢ 0 → result.status ≢ 4 → K.taken out.new ≡ K.taken out.old }
     ensures refused { result.status ≡ 2 →
@@ -158,7 +161,8 @@ fn serve_script<R: Threads + Wait + Sync, S: Source, K: Sink, G: Gate + Sync>(
 fn judged<S: Source>(alloc: Global, source: &mut S) -> Result<Judged, Stop>
     ensures ok { IfOk result (λ judged. IfSome (S.left source.old) (λ bytes. Judges bytes judged)) }
     ensures end { OnOk result (IfSome (S.left source.old) (λ _. S.left source.new ≡ Some [])) }
-    ensures cause { IfErr result (λ stop. IsCause stop text.Checked (S.left source.old) (Rose (S.faults source.old) (S.faults source.new))) }
+    ensures cause { IfErr result
+        (λ stop. IsCause stop text.Checked (S.left source.old) (Rose (S.faults source.old) (S.faults source.new))) }
 {
     let (script, printed) = load_checked(alloc, source)?;
     match judge(alloc, &script, &printed) {
@@ -323,7 +327,8 @@ pub fn serve<R: Threads + Wait + Sync, S: Source, K: Sink, E: Sink, G: Gate + Sy
         PrintsRun (row_of pairing).place (S.left source.old) result.run (Grew (K.taken out.old) (K.taken out.new)) }
     ensures cut { (pairing : Pairing) (nodes : ℕ) →
         AsksToRun (bytes_of words.now) pairing nodes → result.status ≡ 4 →
-        PrintsRun (row_of pairing).place (S.left source.old) result.run (GrewByFront (K.taken out.old) (K.taken out.new)) }
+        PrintsRun (row_of pairing).place (S.left source.old) result.run
+        (GrewByFront (K.taken out.old) (K.taken out.new)) }
     ensures end { Asks (bytes_of words.now) text.Script → IsSome result.run →
         IfSome (S.left source.old) (λ _. S.left source.new ≡ Some []) }
 

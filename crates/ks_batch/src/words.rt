@@ -71,7 +71,8 @@ fn number(word: &String, least: u64, most: u64) -> Option<u64>
 /// The pairing with these words.
 fn named(nodes: &String, template: &String) -> Option<Pairing>
     ensures some { IfSome result (λ pairing. Names (string_bytes nodes.now) (string_bytes template.now) pairing) }
-    ensures none { IfNone result ((pairing : Pairing) → ¬ Names (string_bytes nodes.now) (string_bytes template.now) pairing) }
+    ensures none { IfNone result
+        ((pairing : Pairing) → ¬ Names (string_bytes nodes.now) (string_bytes template.now) pairing) }
 {
     match (nodes.as_str(), template.as_str()) {
         ("list", "coupling") => Some(Pairing::ListCoupling),
@@ -104,7 +105,8 @@ fn arena_named(nodes: &String, template: &String, arena: &String) -> Option<(Pai
 
 /// The command to serve a script, if the words after the first are those of one that does not say the number of workers.
 fn run_words(nodes: &String, template: &String, arena: &String) -> Option<Asked>
-    ensures some { IfSome result (λ asked. Spells (codes "run" ∷ bytes_of (nodes.now ∷ template.now ∷ arena.now ∷ [])) asked) }
+    ensures some { IfSome result
+        (λ asked. Spells (codes "run" ∷ bytes_of (nodes.now ∷ template.now ∷ arena.now ∷ [])) asked) }
     ensures none { IfNone result (¬ IsCommand (codes "run" ∷ bytes_of (nodes.now ∷ template.now ∷ arena.now ∷ []))) }
 {
     let Some((pairing, arena)) = arena_named(nodes, template, arena) else {

@@ -2,7 +2,7 @@
 #![tactic(auto)]
 
 mod node;
-mod pairs;
+mod parts;
 mod starts;
 
 pub use node::BNode;

@@ -1,54 +1,26 @@
-//! The B+ node: two arrays and a flag.
+//! The B+ node: a leaf or an inner node.
 //!
-//! A leaf has pairs and no child, an inner node has children and no pair. Both arrays lie behind one allocation that
-//! `blank` makes, so a body moves by a few words, and turning a leaf into an inner node or back allocates nothing.
+//! A leaf has pairs and no child, an inner node has children and no pair. Either lies behind one allocation that
+//! `blank` makes, with room for both, so a body moves by two words, and turning a leaf into an inner node or back
+//! allocates nothing.
 
 ghost use Rattle.std.proofs.Props.{props};
 ghost use Rattle.ks_bplus.specs.Bplus.{Fit};
+ghost use Rattle.ks_bplus.specs.Parts.{is_inner, pairs_of, starts_of};
 
-use crate::pairs::{Pairs, append_pairs, delete_pair, move_pairs, put_pair};
-use crate::starts::{Starts, add_start, append_starts, move_starts, remove_node};
+use crate::parts::Parts;
 use ks_keysets::{Edge, Pair, Span};
-use ks_node::{
-    Growing, Next, Node, Start, Unlinked, begins_at, child_after, edge_in, next_in, only_in,
-    value_in,
-};
+use ks_node::{Growing, Next, Node, Unlinked, begins_at, child_after, edge_in, next_in, only_in};
 use ks_places::Plain;
 use std::alloc::{AllocError, Global};
 use std::mem;
-
-/// The two lists of a node: a leaf has pairs and an inner node has starts of children.
-#[derive(Drop)]
-pub(crate) struct Parts {
-    pub(crate) pairs: Pairs,
-    pub(crate) starts: Starts,
-}
 
 /// A leaf or an inner node of a B+ tree.
 #[derive(Drop)]
 pub struct BNode {
     low: u64,
-    is_inner: bool,
     parts: Box<Parts>,
-    ghost fit: { Fit low is_inner parts.value.pairs.items parts.value.starts.items } by { Prim.hlevel props },
-}
-
-impl BNode {
-    ghost use Rattle.ks_node.specs.Room.{load};
-    ghost use Rattle.ks_bplus.specs.Bplus.{bplus_body};
-    ghost use Rattle.std.specs.Prelude.{◌≡◌, ◌≤◌};
-
-    /// Children of an inner node, pairs of a leaf.
-    fn load(&self) -> usize
-        ensures is { result ≡ load (bplus_body self.now.low self.now.is_inner self.now.parts.value.pairs.items self.now.parts.value.starts.items) }
-        ensures fits { result ≤ 16 }
-    {
-        if self.is_inner {
-            self.parts.starts.len()
-        } else {
-            self.parts.pairs.len()
-        }
-    }
+    ghost fit: { Fit low (is_inner parts.value) (pairs_of parts.value) (starts_of parts.value) } by { Prim.hlevel props },
 }
 
 impl Node for BNode {
@@ -56,7 +28,8 @@ impl Node for BNode {
     ghost use Rattle.ks_keysets.specs.Layout.{bplus_layout};
     ghost use Rattle.ks_keysets.specs.declared.Kind.TheVariants.{Inner};
     ghost use Rattle.ks_node.specs.Body.{Body};
-    ghost use Rattle.ks_bplus.specs.Bplus.{bplus_body, bplus_can_adopt, bplus_cut};
+    ghost use Rattle.ks_bplus.specs.Bplus.{bplus_can_adopt, bplus_cut};
+    ghost use Rattle.ks_bplus.specs.Parts.{body_of};
     ghost use Rattle.ks_bplus.specs.Laws.Fits.{fit_held, fit_adopting, no_range};
 
     type Places = Plain;
@@ -65,7 +38,7 @@ impl Node for BNode {
 
     ghost ROOM = { 16 };
 
-    ghost body = { λ n. bplus_body n.low n.is_inner n.parts.value.pairs.items n.parts.value.starts.items };
+    ghost body = { λ n. body_of n.low n.parts.value };
 
     ghost ranged = { false };
 
@@ -108,62 +81,44 @@ impl Node for BNode {
     ghost becomes_branch = { refl };
 
     fn blank(alloc: Global) -> Result<Self, AllocError> {
-        let parts = Box::new(
-            alloc,
-            Parts {
-                pairs: Pairs::new(),
-                starts: Starts::new(),
-            },
-        )?;
-        Ok(BNode {
-            low: 0,
-            is_inner: false,
-            parts,
-        })
+        let parts = Box::new(alloc, Parts::blank())?;
+        Ok(BNode { low: 0, parts })
     }
 
     fn next(&self, place: u64) -> Next {
-        next_in(self.parts.starts.as_slice(), place)
+        next_in(self.parts.starts(), place)
     }
 
     fn get(&self, place: u64) -> Option<u128> {
-        value_in(self.parts.pairs.as_slice(), place)
+        self.parts.get(place)
     }
 
     fn put(&mut self, place: u64, value: u128) -> Option<u128> {
-        put_pair(&mut self.parts.pairs, place, value)
+        self.parts.put(place, value)
     }
 
     fn del(&mut self, place: u64) -> Option<u128> {
-        delete_pair(&mut self.parts.pairs, place)
+        self.parts.del(place)
     }
 
     fn is_full(&self) -> bool {
-        if self.is_inner {
-            self.parts.starts.len() == 16
-        } else {
-            self.parts.pairs.len() == 16
-        }
+        self.parts.load() == 16
     }
 
     fn is_low(&self) -> bool {
-        if self.is_inner {
-            self.parts.starts.len() <= 8
-        } else {
-            self.parts.pairs.len() <= 8
-        }
+        self.parts.load() <= 8
     }
 
     fn is_branch(&self) -> bool {
-        self.is_inner
+        self.parts.is_inner()
     }
 
     fn pairs_held(&self) -> u32 {
-        self.parts.pairs.len() as u32
+        self.parts.pairs_held() as u32
     }
 
     fn pair_at(&self, n: u32) -> Pair {
-        self.parts.pairs.as_slice()[n as usize]
+        self.parts.pair(n as usize)
     }
 
     fn grows(&self) -> bool {
@@ -171,7 +126,7 @@ impl Node for BNode {
     }
 
     fn only_child(&self) -> Option<u32> {
-        only_in(self.parts.starts.as_slice())
+        only_in(self.parts.starts())
     }
 
     fn grows_in_place() -> bool {
@@ -187,37 +142,34 @@ impl Node for BNode {
     }
 
     fn can_adopt(&self, cut: u64) -> bool {
-        self.is_inner
-            && !begins_at(self.parts.starts.as_slice(), cut)
-            && self.parts.starts.len() < 16
+        self.parts.is_inner()
+            && !begins_at(self.parts.starts(), cut)
+            && self.parts.starts().len() < 16
     }
 
     fn adopt(&mut self, cut: u64, id: u32) {
-        add_start(&mut self.parts.starts, cut, id);
+        self.parts.add(cut, id);
     }
 
     fn edges_held(&self) -> u32 {
-        self.parts.starts.len() as u32
+        self.parts.starts().len() as u32
     }
 
     fn edge_at(&self, n: u32) -> Edge {
-        edge_in(self.parts.starts.as_slice(), n as usize)
+        edge_in(self.parts.starts(), n as usize)
     }
 
     fn cut(&self, span: Option<Span>) -> u64 {
-        if self.is_inner {
-            self.parts.starts.as_slice()[8].low
-        } else {
-            self.parts.pairs.as_slice()[8].place
-        }
+        self.parts.cut()
     }
 
     fn fits(&self, right: &Self) -> bool {
-        self.is_inner == right.is_inner && self.load() + right.load() <= 16
+        self.parts.is_inner() == right.parts.is_inner()
+            && self.parts.load() + right.parts.load() <= 16
     }
 
     fn right_of(&self, place: u64) -> Option<u32> {
-        child_after(self.parts.starts.as_slice(), place)
+        child_after(self.parts.starts(), place)
     }
 }
 
@@ -235,50 +187,33 @@ impl Unlinked for BNode {
 
     fn split_to(&mut self, right: &mut Self, cut: u64) {
         right.low = cut;
-        right.is_inner = self.is_inner;
-        move_pairs(&mut self.parts.pairs, &mut right.parts.pairs, cut);
-        move_starts(&mut self.parts.starts, &mut right.parts.starts, cut);
+        self.parts.split_to(&mut right.parts, cut);
     }
 
     fn reach(&mut self, right: &Self) {}
 
     fn grow(&mut self, left: &mut Self, right: &mut Self, left_id: u32, right_id: u32, cut: u64) {
         mem::swap(&mut self.parts, &mut left.parts);
-        left.is_inner = self.is_inner;
         left.low = self.low;
-        right.is_inner = self.is_inner;
         right.low = cut;
-        move_pairs(&mut left.parts.pairs, &mut right.parts.pairs, cut);
-        move_starts(&mut left.parts.starts, &mut right.parts.starts, cut);
-        self.is_inner = true;
-        self.parts.starts.push(Start {
-            low: 0,
-            node: left_id,
-        });
-        self.parts.starts.push(Start {
-            low: cut,
-            node: right_id,
-        });
+        left.parts.split_to(&mut right.parts, cut);
+        *self.parts = Parts::over(left_id, cut, right_id);
     }
 
     fn absorb(&mut self, right: &mut Self) {
-        append_pairs(&mut self.parts.pairs, &mut right.parts.pairs);
-        append_starts(&mut self.parts.starts, &mut right.parts.starts, right.low);
+        self.parts.append(&mut right.parts, right.low);
         right.low = 0;
-        right.is_inner = false;
     }
 
     fn forget(&mut self, id: u32) {
-        remove_node(&mut self.parts.starts, id);
+        self.parts.remove(id);
     }
 
     fn collapse(&mut self, child: &mut Self) {
         mem::swap(&mut self.parts, &mut child.parts);
         self.low = child.low;
-        self.is_inner = child.is_inner;
-        child.parts.starts.clear();
+        *child.parts = Parts::blank();
         child.low = 0;
-        child.is_inner = false;
     }
 }
 

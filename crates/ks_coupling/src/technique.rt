@@ -1,12 +1,12 @@
 //! Lock coupling as a technique of dictionaries.
 ghost use Rattle.ks_history.specs.Done.{coupling};
 
-use crate::calls;
+use crate::{calls, tries};
 use ks_arena::{Arena, Pass};
 use ks_flow::Tree;
 use ks_gate::Gate;
 use ks_node::Unlinked;
-use ks_shape::{Full, Numbered, Ruled, Template};
+use ks_shape::{Full, Later, Numbered, Ruled, Template};
 use std::sync::Wait;
 
 /// Lock coupling, over any nodes without links.
@@ -73,5 +73,34 @@ impl<N: Unlinked> Template<N, Arena<N, Tree>> for Coupling {
         place: u64,
     ) -> Numbered {
         calls::del(rt, arena, pass, gate, place)
+    }
+
+    fn try_get<G: Gate>(
+        arena: &Arena<N, Tree>,
+        pass: &mut Pass<N, Tree>,
+        gate: &G,
+        place: u64,
+    ) -> Result<Numbered, Later> {
+        tries::try_get(arena, pass, gate, place)
+    }
+
+    fn try_swap<G: Gate>(
+        arena: &Arena<N, Tree>,
+        pass: &mut Pass<N, Tree>,
+        gate: &G,
+        place: u64,
+        old: u128,
+        new: u128,
+    ) -> Result<Numbered, Later> {
+        tries::try_swap(arena, pass, gate, place, old, new)
+    }
+
+    fn try_del<G: Gate>(
+        arena: &Arena<N, Tree>,
+        pass: &mut Pass<N, Tree>,
+        gate: &G,
+        place: u64,
+    ) -> Result<Numbered, Later> {
+        tries::try_del(arena, pass, gate, place)
     }
 }

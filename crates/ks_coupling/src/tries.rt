@@ -10,7 +10,8 @@ use ks_arena::{Arena, Pass};
 use ks_flow::Tree;
 use ks_gate::Gate;
 use ks_node::Unlinked;
-use ks_shape::{Later, Numbered, del_here, get_here, swap_here};
+use ks_shape::{Later, Numbered, get_here, swap_here};
+use ks_tidy::try_del_alone;
 
 /// Answers the value at a place, and the number of the call. It holds two nodes at most, and waits for none.
 ///
@@ -60,8 +61,9 @@ pub fn try_swap<N: Unlinked, G: Gate>(
     }
 }
 
-/// Deletes what stands at a place; answers the value that stood there, and the number of the call. It holds two nodes at
-/// most, waits for none, and merges none.
+/// Deletes what stands at a place; answers the value that stood there, and the number of the call. It waits for no node. If it
+/// removed a pair and the node is low, it comes to the place again and merges, as `del` does, as far as no other caller
+/// holds what it needs. It holds three nodes at most.
 ///
 /// # Errors
 ///
@@ -78,7 +80,7 @@ pub fn try_del<N: Unlinked, G: Gate>(
     ensures tried { TriedOf arena.now coupling (Del place) pass.old pass.new result }
 {
     match try_find(arena, pass, gate, place) {
-        Ok(held) => Ok(del_here(arena, pass, gate, place, held)),
+        Ok(held) => Ok(try_del_alone(arena, pass, gate, place, held)),
         Err(later) => Err(later),
     }
 }

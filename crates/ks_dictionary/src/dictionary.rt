@@ -1,13 +1,16 @@
 //! A dictionary: an arena, a technique, and keys for places.
-ghost use Rattle.std.specs.Prelude.{◌≡◌, ◌≤◌, IfOk};
+ghost use Rattle.std.specs.Prelude.{◌≡◌, ◌≤◌, IfOk, IsTrue};
+ghost use Rattle.std.specs.Result.{is_ok};
 ghost use Rattle.ks_history.specs.declared.Op.TheVariants.{Add, Del, Get, Put, Swap};
 ghost use Rattle.ks_history.specs.Map.{told};
 ghost use Rattle.ks_history.specs.Trace.{◌⊑◌};
 ghost use Rattle.ks_history.specs.Passes.{CallersBelow, GrowsByOthers};
 ghost use Rattle.ks_arena.specs.Sound.{sort_of, Sound};
 ghost use Rattle.ks_arena.specs.Clauses.{EndsAll, noted, seen_of};
+ghost use Rattle.ks_arena.specs.Of.{HeldAlone, WasAlone};
 ghost use Rattle.ks_shape.specs.Answers.{number_in, reply_in};
 ghost use Rattle.ks_shape.specs.Idle.{IsDone, IsIdle};
+ghost use Rattle.ks_shape.specs.Tries.{HasTried, MayTell};
 ghost use Rattle.ks_dictionary.specs.Crew.{AreAll, AreNew, IsNoteOf};
 ghost use Rattle.ks_dictionary.specs.Ended.{HasEndedWith, history};
 
@@ -16,7 +19,7 @@ use ks_arena::{Arena, Note, Pass};
 use ks_gate::Gate;
 use ks_node::Node;
 use ks_places::Placing;
-use ks_shape::{Full, Numbered, Ruled, Shelf, Template};
+use ks_shape::{Full, Later, Numbered, Ruled, Shelf, Template, tries_law};
 use std::alloc::{AllocError, Global};
 use std::sync::Wait;
 
@@ -153,6 +156,82 @@ impl<N: Node, T: Ruled + Template<N, Arena<N, <T as Ruled>::Rule>>> Dictionary<N
             (Del (N.Places.place_of key)) pass.old pass.new (told result.found) result.number }
     {
         T::del(rt, &self.arena, pass, gate, N::Places::place(key))
+    }
+
+    /// Answers the value of a key, and waits for nobody.
+    ///
+    /// # Errors
+    ///
+    /// `Busy` names a node on the way of the key, and the other caller that held it; `Moved` a node that was on the way,
+    /// until another caller changed it, and comes by giving up alone; `Far` comes only where the call took as many nodes as
+    /// the dictionary has while another caller changed some, and never along links. Then the call is none of the history:
+    /// it changed nothing in the map, and has no number. None comes where no other caller does anything during the call, or
+    /// holds a node when it begins.
+    pub fn try_get<G: Gate>(
+        &self,
+        pass: &mut Pass<N, T::Rule>,
+        gate: &G,
+        key: u64,
+    ) -> Result<Numbered, Later>
+        requires pass { IsIdle (⟦<Dictionary<N, T> as Shelf>⟧.site self.now) pass.old }
+        ensures pass { IsIdle (⟦<Dictionary<N, T> as Shelf>⟧.site self.now) pass.new }
+        ensures caller { pass.new.caller ≡ pass.old.caller }
+        ensures tried { HasTried N.layout T.technique (⟦<Dictionary<N, T> as Shelf>⟧.site self.now)
+            (Get (N.Places.place_of key)) pass.old pass.new result }
+        ensures never { MayTell T.technique result }
+        ensures alone { WasAlone pass.old pass.new → HeldAlone pass.old → IsTrue (is_ok result) }
+    {
+        tries_law();
+        T::try_get(&self.arena, pass, gate, N::Places::place(key))
+    }
+
+    /// Sets the value of a key from `old` to `new`, as `swap`, and waits for nobody.
+    ///
+    /// # Errors
+    ///
+    /// As for `try_get`.
+    pub fn try_swap<G: Gate>(
+        &self,
+        pass: &mut Pass<N, T::Rule>,
+        gate: &G,
+        key: u64,
+        old: u128,
+        new: u128,
+    ) -> Result<Numbered, Later>
+        requires pass { IsIdle (⟦<Dictionary<N, T> as Shelf>⟧.site self.now) pass.old }
+        ensures pass { IsIdle (⟦<Dictionary<N, T> as Shelf>⟧.site self.now) pass.new }
+        ensures caller { pass.new.caller ≡ pass.old.caller }
+        ensures tried { HasTried N.layout T.technique (⟦<Dictionary<N, T> as Shelf>⟧.site self.now)
+            (Swap (N.Places.place_of key) old new) pass.old pass.new result }
+        ensures never { MayTell T.technique result }
+        ensures alone { WasAlone pass.old pass.new → HeldAlone pass.old → IsTrue (is_ok result) }
+    {
+        tries_law();
+        T::try_swap(&self.arena, pass, gate, N::Places::place(key), old, new)
+    }
+
+    /// Deletes a key, and answers the value that it had; it waits for nobody. Once the call is decided, a node that another
+    /// caller holds ends its merging, and no more.
+    ///
+    /// # Errors
+    ///
+    /// As for `try_get`.
+    pub fn try_del<G: Gate>(
+        &self,
+        pass: &mut Pass<N, T::Rule>,
+        gate: &G,
+        key: u64,
+    ) -> Result<Numbered, Later>
+        requires pass { IsIdle (⟦<Dictionary<N, T> as Shelf>⟧.site self.now) pass.old }
+        ensures pass { IsIdle (⟦<Dictionary<N, T> as Shelf>⟧.site self.now) pass.new }
+        ensures caller { pass.new.caller ≡ pass.old.caller }
+        ensures tried { HasTried N.layout T.technique (⟦<Dictionary<N, T> as Shelf>⟧.site self.now)
+            (Del (N.Places.place_of key)) pass.old pass.new result }
+        ensures never { MayTell T.technique result }
+        ensures alone { WasAlone pass.old pass.new → HeldAlone pass.old → IsTrue (is_ok result) }
+    {
+        tries_law();
+        T::try_del(&self.arena, pass, gate, N::Places::place(key))
     }
 
     /// A note of what the pass has seen, for another caller to learn. It makes no event.

@@ -1,8 +1,13 @@
-//! Tests of dictionaries: callers on threads, by a technique for tests whose calls are all made at the root.
+//! Tests of dictionaries: callers on threads, notes, and calls that wait for nobody.
 #![tactic(auto)]
 
-mod at_root;
+#[cfg(test)]
+mod crews;
+#[cfg(test)]
+mod meets;
+#[cfg(test)]
+mod notes;
 #[cfg(test)]
 mod tests;
-
-pub use at_root::AtRoot;
+#[cfg(test)]
+mod tries;

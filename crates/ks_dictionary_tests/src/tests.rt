@@ -1,14 +1,11 @@
 ghost use Rattle.std.specs.Prelude.{length, ◌≤◌, IfOk};
-ghost use Rattle.ks_shape.specs.Idle.{IsIdle};
 
-use crate::AtRoot;
-use ks_arena::Pass;
-use ks_dictionary::{Dictionary, serve_callers};
-use ks_flow::Tree;
+use crate::crews::LONG;
+use ks_coupling::Coupling;
+use ks_dictionary::serve_callers;
 use ks_gate::{Meet, NoGate, Point};
 use ks_history::{Op, Reply};
 use ks_list::ListNode;
-use ks_shape::Shelf;
 use std::alloc::{AllocError, Global};
 use std::test::Fail;
 
@@ -60,7 +57,7 @@ fn ascend(seen: &mut [bool; 32], lines: &[(u64, Reply)]) -> bool {
 fn four_callers_are_served_at_once(rt: HostRuntime) -> Result<(), Fail> {
     let alloc = rt.alloc();
     let scripts = four(alloc)?;
-    let told = serve_callers::<ListNode, AtRoot, HostRuntime, NoGate>(
+    let told = serve_callers::<ListNode, Coupling, HostRuntime, NoGate>(
         &rt, alloc, 4, scripts, 64, &NoGate,
     )?;
     assert!(rt; told.lines.len() == 4);
@@ -84,7 +81,7 @@ fn four_callers_are_served_at_once(rt: HostRuntime) -> Result<(), Fail> {
 #[test]
 fn nobody_is_served(rt: HostRuntime) -> Result<(), Fail> {
     let alloc = rt.alloc();
-    let told = serve_callers::<ListNode, AtRoot, HostRuntime, NoGate>(
+    let told = serve_callers::<ListNode, Coupling, HostRuntime, NoGate>(
         &rt,
         alloc,
         4,
@@ -112,46 +109,14 @@ fn one_get(alloc: Global, key: u64) -> Result<Vec<Op>, AllocError> {
 #[test]
 fn callers_run_beside_each_other(rt: HostRuntime) -> Result<(), Fail> {
     let alloc = rt.alloc();
-    let gate = Meet::of(0, 0, Point::Given(0), 1, 50_000_000);
+    let gate = Meet::of(0, 0, Point::Given(0), 1, LONG);
     let scripts = two(alloc)?;
-    let told = serve_callers::<ListNode, AtRoot, HostRuntime, Meet>(
+    let told = serve_callers::<ListNode, Coupling, HostRuntime, Meet>(
         &rt, alloc, 4, scripts, 2, &gate,
     )?;
     assert!(rt; !gate.failed());
     assert!(rt; told.lines.len() == 2);
     assert!(rt; told.lines[0].len() == 1 && told.lines[1].len() == 1);
     assert!(rt; told.lines[0][0].0 == 0 && told.lines[1][0].0 == 1);
-    Ok(())
-}
-
-type Lists = Dictionary<ListNode, AtRoot>;
-
-type Caller = Pass<ListNode, Tree>;
-
-/// A dictionary of four list nodes, and the passes of callers 0 and 1.
-fn two_callers(alloc: Global) -> Result<(Lists, Caller, Caller), AllocError>
-    ensures one { IfOk result (λ x. IsIdle (⟦<Dictionary<ListNode, AtRoot> as Shelf>⟧.site x.0) x.1) }
-    ensures two { IfOk result (λ x. IsIdle (⟦<Dictionary<ListNode, AtRoot> as Shelf>⟧.site x.0) x.2) }
-{
-    let (dictionary, mut passes) = Lists::start(alloc, 4, 2)?;
-    let Some(two) = passes.pop() else {
-        return Err(AllocError);
-    };
-    let Some(one) = passes.pop() else {
-        return Err(AllocError);
-    };
-    Ok((dictionary, one, two))
-}
-
-/// Caller 0 puts a value and notes what it has seen; caller 1 learns that, and finds the value.
-#[test]
-fn a_note_is_learnt(rt: HostRuntime) -> Result<(), Fail> {
-    let (dictionary, mut one, mut two) = two_callers(rt.alloc())?;
-    let put = dictionary.put(&rt, &mut one, &NoGate, 5, 50);
-    assert!(rt; matches!(put, Ok(told) if told.number == 0 && told.found.is_none()));
-    let note = dictionary.note(&mut one);
-    dictionary.learn(&mut two, note);
-    let got = dictionary.get(&rt, &mut two, &NoGate, 5);
-    assert!(rt; got.number == 1 && got.found == Some(50));
     Ok(())
 }

@@ -1,5 +1,5 @@
 //! The way from the root to the node where a search ends, which begins again where it was led astray.
-ghost use Rattle.std.specs.Prelude.{◌≡◌, ◌<◌};
+ghost use Rattle.std.specs.Prelude.{◌≡◌};
 ghost use Rattle.ks_history.specs.Done.{give_up};
 ghost use Rattle.ks_node.specs.declared.start.Next.TheVariants.{Go};
 ghost use Rattle.ks_node.specs.Body.{next_at};
@@ -7,7 +7,7 @@ ghost use Rattle.ks_arena.specs.Sound.{sort_of};
 ghost use Rattle.ks_arena.specs.Clauses.{seen_of};
 ghost use Rattle.ks_giveup.specs.Descent.{Came, CameToRoom};
 ghost use Rattle.ks_giveup.specs.Goes.{GoesTowards, MayVisitNext};
-ghost use Rattle.ks_arena.specs.Of.{IsPassOf, IsEmptyPassOf};
+ghost use Rattle.ks_arena.specs.Of.{IsPassOf, IsEmptyPassOf, IsNodeOf};
 ghost use Rattle.ks_shape.specs.Of.{IsUnderway, StaysUnderway, IsOnWayOf, SearchEndsAt};
 
 use ks_arena::laws::sound_law;
@@ -28,7 +28,7 @@ fn visit<N: Ranged + Unlinked, R: Wait, G: Gate>(
     node: u32,
 ) -> Option<Held<N>>
     requires pass { IsEmptyPassOf arena.now pass.old }
-    requires node { node < arena.now.nodes }
+    requires node { IsNodeOf arena.now node }
     requires next { MayVisitNext place node pass.old }
     ensures pass { IsPassOf arena.now pass.new }
     ensures caller { pass.new.caller ≡ pass.old.caller }
@@ -63,7 +63,7 @@ fn leave<N: Ranged + Unlinked, G: Gate>(
     requires goes { next_at (N.body held.body) place ≡ Go child }
     ensures pass { IsEmptyPassOf arena.now pass.new }
     ensures caller { pass.new.caller ≡ pass.old.caller }
-    ensures near { child < arena.now.nodes }
+    ensures near { IsNodeOf arena.now child }
     ensures next { MayVisitNext place child pass.new }
     ensures goes { GoesTowards place pass.old pass.new }
     ensures under { StaysUnderway give_up pass.old pass.new }

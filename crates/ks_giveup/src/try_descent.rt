@@ -1,9 +1,9 @@
 //! The way from the root to the node where a search ends, by takes that wait for nobody; it never begins again.
-ghost use Rattle.std.specs.Prelude.{◌≡◌, ◌<◌, Decides, IsTrue, is_some};
+ghost use Rattle.std.specs.Prelude.{◌≡◌, Decides, IsTrue, is_some};
 ghost use Rattle.ks_history.specs.Done.{give_up};
 ghost use Rattle.ks_node.specs.declared.start.Next.TheVariants.{Go};
 ghost use Rattle.ks_node.specs.Body.{next_at};
-ghost use Rattle.ks_arena.specs.Of.{IsPassOf, IsEmptyPassOf};
+ghost use Rattle.ks_arena.specs.Of.{IsPassOf, IsEmptyPassOf, IsNodeOf};
 ghost use Rattle.ks_shape.specs.Of.{IsUnderway, StaysUnderway, IsOnWayOf};
 ghost use Rattle.ks_try.specs.Of.{StandsAtRoot, GoesDownFrom, CameToEnd};
 ghost use Rattle.ks_giveup.specs.Once.{TookRootOnce};
@@ -35,7 +35,7 @@ fn try_visit<N: Ranged + Unlinked, G: Gate>(
     node: u32,
 ) -> Result<Held<N>, Later>
     requires pass { IsEmptyPassOf arena.now pass.old }
-    requires node { node < arena.now.nodes }
+    requires node { IsNodeOf arena.now node }
     ensures pass { IsPassOf arena.now pass.new }
     ensures caller { pass.new.caller ≡ pass.old.caller }
     ensures came { ComesTo arena.now place pass.old pass.new node result }

@@ -1,3 +1,4 @@
 pub mod Slices
 pub mod Hash
+pub mod Parts
 pub mod Laws

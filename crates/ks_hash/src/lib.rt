@@ -2,7 +2,7 @@
 #![tactic(auto)]
 
 mod node;
-mod pairs;
+mod parts;
 mod slices;
 mod spans;
 

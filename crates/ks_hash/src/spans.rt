@@ -50,18 +50,6 @@ pub(crate) fn own_above(own: Option<Start>, place: u64) -> bool
     }
 }
 
-/// Whether all edges start above a place.
-fn all_above(starts: &[Start], place: u64) -> bool
-    ensures { result ≡ list_all (λ s. nat_lt place s.low) starts.now }
-{
-    for start in starts {
-        if start.low <= place {
-            return false;
-        }
-    }
-    true
-}
-
 /// How many edges start at a place or below.
 fn count_upto(starts: &[Start], place: u64) -> usize
     requires { Ascends (λ s. s.low) starts.now }
@@ -108,13 +96,14 @@ pub(crate) fn middle_in(span: &Span) -> Option<u64>
     Some((span.low / SMALLEST + slices / 2) * SMALLEST)
 }
 
-/// The middle of a span of whole smallest slices where all edges start above it, else the other place.
-pub(crate) fn cut_by(span: &Span, starts: &[Start], other: u64) -> u64
-    ensures { result ≡ cond (is_whole span.now && list_all (λ s. nat_lt (middle_of span.now) s.low) starts.now) (middle_of span.now) other }
+/// The middle of a span of whole smallest slices where a bucket's own edge does not start there or below, else the
+/// other place.
+pub(crate) fn cut_by(span: &Span, own: Option<Start>, other: u64) -> u64
+    ensures { result ≡ cond (is_whole span.now && list_all (λ s. nat_lt (middle_of span.now) s.low) (own_starts own)) (middle_of span.now) other }
 {
     match middle_in(span) {
         Some(middle) => {
-            if all_above(starts, middle) {
+            if own_above(own, middle) {
                 middle
             } else {
                 other

@@ -37,8 +37,8 @@ module _ {N D : Type 0} where
 
 module _ {N D P : Type 0} {n : NodeGhosts N P} {q : PlacingGhosts P} {d : DisciplineGhosts D} where
   -- caller c, which searches for the place, holds this live node alone, and the place is not below it
-  abbrev pub IsOnWayOf : Arena N D P n q d → ℕ → ℕ → Pass N D → Hand N → Type 0
-  IsOnWayOf a c place p x = IsOnWay (sort_of n.layout n.ranged) n.body c place (seen_of p) x
+  abbrev pub SearchIsAt : Arena N D P n q d → ℕ → ℕ → Pass N D → Hand N → Type 0
+  SearchIsAt a c place p x = IsOnWay (sort_of n.layout n.ranged) n.body c place (seen_of p) x
 
   -- the node that waits for an edge was split off: it is live, not the root, on its level, and begins at its cut
   abbrev pub WasSplitOff : Arena N D P n q d → Pass N D → Waiting → Type 0
@@ -84,14 +84,14 @@ module _ {N D P : Type 0} {n : NodeGhosts N P} {q : PlacingGhosts P} {d : Discip
   LeadsEach a waiting p p' = ((i : ℕ) → Waits waiting i → IsLedTo a p' i) × LeadsAllBut a [] p p'
 
   -- a search that waits for nobody holds the root; it has gone on from node x to node i; it has ended. Or it was put off between p and p'
-  abbrev pub EntersOr : Arena N D P n q d → ℕ → Pass N D → Pass N D → Result (Hand N) Later → Type 0
-  EntersOr a place p p' found = Enters (sort_of n.layout n.ranged) n.body a.nodes p.caller place (seen_of p) (seen_of p') found
+  abbrev pub TriedToEnter : Arena N D P n q d → ℕ → Pass N D → Pass N D → Result (Hand N) Later → Type 0
+  TriedToEnter a place p p' found = Enters (sort_of n.layout n.ranged) n.body a.nodes p.caller place (seen_of p) (seen_of p') found
 
-  abbrev pub GoesOnOr : Arena N D P n q d → ℕ → Pass N D → Pass N D → Hand N → ℕ → Result (Hand N) Later → Type 0
-  GoesOnOr a place p p' x i found = GoesOn (sort_of n.layout n.ranged) n.body (n.body x.body) i a.nodes p.caller place (seen_of p) (seen_of p') found
+  abbrev pub TriedToGoOn : Arena N D P n q d → ℕ → Pass N D → Pass N D → Hand N → ℕ → Result (Hand N) Later → Type 0
+  TriedToGoOn a place p p' x i found = GoesOn (sort_of n.layout n.ranged) n.body (n.body x.body) i a.nodes p.caller place (seen_of p) (seen_of p') found
 
-  abbrev pub FindsOr : Arena N D P n q d → ℕ → Pass N D → Pass N D → Result (Hand N) Later → Type 0
-  FindsOr a place p p' found = Finds (sort_of n.layout n.ranged) n.body a.nodes p.caller place (seen_of p) (seen_of p') found
+  abbrev pub TriedToFind : Arena N D P n q d → ℕ → Pass N D → Pass N D → Result (Hand N) Later → Type 0
+  TriedToFind a place p p' found = Finds (sort_of n.layout n.ranged) n.body a.nodes p.caller place (seen_of p) (seen_of p') found
 
   -- the search has come to room for the place since p, or no node was found free
   abbrev pub HasComeToRoom : Arena N D P n q d → ℕ → Pass N D → Pass N D → Result (Hand N) (Hand N) → Type 0

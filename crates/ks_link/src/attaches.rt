@@ -7,7 +7,7 @@ ghost use Rattle.ks_link.specs.Leads.{CanLead, TakesEdge, waits_if};
 ghost use Rattle.ks_history.specs.Done.{link_move};
 ghost use Rattle.ks_arena.specs.Of.{WasAlone, IsPassOf, IsEmptyPassOf};
 ghost use Rattle.ks_shape.specs.Of.{IsStretchBy, MakesNoneLive, IsLedTo};
-ghost use Rattle.ks_link.specs.Of.{HasParted, HoldsAloneOf, IfAloneWithRoom, IsOnWayOf, LeadsAllBut, LeadsEach, LeadsOne, WasSplitOff};
+ghost use Rattle.ks_link.specs.Of.{HasParted, HoldsAloneOf, IfAloneWithRoom, SearchIsAt, LeadsAllBut, LeadsEach, LeadsOne, WasSplitOff};
 
 use crate::descent::{enter, go_on};
 use crate::parts::{Parted, Waiting, part};
@@ -49,12 +49,12 @@ fn go_nearer<N: Linked, R: Wait, G: Gate>(
     held: Held<N>,
 ) -> Held<N>
     requires pass { IsPassOf arena.now pass.old }
-    requires way { IsOnWayOf arena.now pass.old.caller cut pass.old held }
+    requires way { SearchIsAt arena.now pass.old.caller cut pass.old held }
     requires above { level < (N.body held.body).level }
     requires away { (N.body held.body).level ≡ level + 1 → last_of (N.body held.body).range < cut }
     ensures pass { IsPassOf arena.now pass.new }
     ensures caller { pass.new.caller ≡ pass.old.caller }
-    ensures way { IsOnWayOf arena.now pass.old.caller cut pass.new result }
+    ensures way { SearchIsAt arena.now pass.old.caller cut pass.new result }
     ensures above { level < (N.body result.body).level }
     ensures stretch { IsStretchBy link_move pass.old pass.new }
     ensures makes { MakesNoneLive pass.old pass.new }
@@ -79,7 +79,7 @@ fn find_above<N: Linked, R: Wait, G: Gate>(
     requires off { WasSplitOff arena.now pass.old to }
     ensures pass { IsPassOf arena.now pass.new }
     ensures caller { pass.new.caller ≡ pass.old.caller }
-    ensures way { IsOnWayOf arena.now pass.old.caller to.cut pass.new result }
+    ensures way { SearchIsAt arena.now pass.old.caller to.cut pass.new result }
     ensures level { (N.body result.body).level ≡ to.level + 1 }
     ensures within { to.cut ≤ last_of (N.body result.body).range }
     ensures stretch { IsStretchBy link_move pass.old pass.new }
@@ -106,7 +106,7 @@ pub(crate) fn ready<N: Linked, G: Gate>(
     held: Held<N>,
 ) -> Parted<N>
     requires pass { IsPassOf arena.now pass.old }
-    requires way { IsOnWayOf arena.now pass.old.caller cut pass.old held }
+    requires way { SearchIsAt arena.now pass.old.caller cut pass.old held }
     requires above { 0 < (N.body held.body).level }
     requires within { cut ≤ last_of (N.body held.body).range }
     ensures pass { IsPassOf arena.now pass.new }

@@ -5,7 +5,7 @@ ghost use Rattle.ks_node.specs.declared.start.Next.TheVariants.{Go, Here};
 ghost use Rattle.ks_node.specs.Body.{next_at};
 ghost use Rattle.ks_arena.specs.Of.{IsPassOf, IsEmptyPassOf};
 ghost use Rattle.ks_shape.specs.Of.{IsUnderway, StaysUnderway, MakesNoneLive, SearchEndsAt};
-ghost use Rattle.ks_link.specs.Of.{IsOnWayOf};
+ghost use Rattle.ks_link.specs.Of.{SearchIsAt};
 
 use ks_arena::laws::{link_live_law, sound_law};
 use ks_arena::{Arena, Held, Pass};
@@ -26,7 +26,7 @@ pub(crate) fn enter<N: Linked, R: Wait, G: Gate>(
     requires pass { IsEmptyPassOf arena.now pass.old }
     ensures pass { IsPassOf arena.now pass.new }
     ensures caller { pass.new.caller ≡ pass.old.caller }
-    ensures way { IsOnWayOf arena.now pass.old.caller place pass.new result }
+    ensures way { SearchIsAt arena.now pass.old.caller place pass.new result }
     ensures root { result.node ≡ 0 }
     ensures under { IsUnderway link_move pass.old pass.new }
     ensures makes { MakesNoneLive pass.old pass.new }
@@ -46,12 +46,12 @@ pub(crate) fn go_on<N: Linked, R: Wait, G: Gate>(
     next: u32,
 ) -> Held<N>
     requires pass { IsPassOf arena.now pass.old }
-    requires way { IsOnWayOf arena.now pass.old.caller place pass.old held }
+    requires way { SearchIsAt arena.now pass.old.caller place pass.old held }
     requires goes { next_at (N.body held.body) place ≡ Go next }
     ensures pass { IsPassOf arena.now pass.new }
     ensures caller { pass.new.caller ≡ pass.old.caller }
     ensures node { result.node ≡ next }
-    ensures way { IsOnWayOf arena.now pass.old.caller place pass.new result }
+    ensures way { SearchIsAt arena.now pass.old.caller place pass.new result }
     ensures under { StaysUnderway link_move pass.old pass.new }
     ensures makes { MakesNoneLive pass.old pass.new }
 {
@@ -74,7 +74,7 @@ pub(crate) fn end_law<N: Linked>(
     place: u64,
 )
     requires pass { IsPassOf arena.now pass.now }
-    requires way { IsOnWayOf arena.now pass.now.caller place pass.now held.now }
+    requires way { SearchIsAt arena.now pass.now.caller place pass.now held.now }
     requires here { next_at (N.body held.now.body) place ≡ Here }
     ensures { SearchEndsAt arena.now place pass.now held.now }
 {
@@ -93,7 +93,7 @@ pub(crate) fn find<N: Linked, R: Wait, G: Gate>(
     requires pass { IsEmptyPassOf arena.now pass.old }
     ensures pass { IsPassOf arena.now pass.new }
     ensures caller { pass.new.caller ≡ pass.old.caller }
-    ensures way { IsOnWayOf arena.now pass.old.caller place pass.new result }
+    ensures way { SearchIsAt arena.now pass.old.caller place pass.new result }
     ensures ends { SearchEndsAt arena.now place pass.new result }
     ensures under { IsUnderway link_move pass.old pass.new }
     ensures makes { MakesNoneLive pass.old pass.new }

@@ -7,7 +7,7 @@ ghost use Rattle.ks_link.specs.Parts.{HalfReachesLess};
 ghost use Rattle.ks_history.specs.Done.{link_move};
 ghost use Rattle.ks_arena.specs.Of.{WasAlone, IsPassOf};
 ghost use Rattle.ks_shape.specs.Of.{IsStretchBy, MakesNoneLive, IsLiveInHand, IsFreeInHand};
-ghost use Rattle.ks_link.specs.Of.{HoldsThree, HoldsTwo, IsOnWayOf, HasParted, LeadsParts};
+ghost use Rattle.ks_link.specs.Of.{HoldsThree, HoldsTwo, SearchIsAt, HasParted, LeadsParts};
 
 use ks_arena::laws::sound_law;
 use ks_arena::{Arena, Held, Pass};
@@ -50,7 +50,7 @@ fn keep_half<N: Linked, G: Gate>(
     requires cut { (N.body right.body).low ≡ cut }
     ensures pass { IsPassOf arena.now pass.new }
     ensures caller { pass.new.caller ≡ pass.old.caller }
-    ensures way { IsOnWayOf arena.now pass.old.caller place pass.new result }
+    ensures way { SearchIsAt arena.now pass.old.caller place pass.new result }
     ensures half { ((result ≡ left) × (place < cut)) ⊎ (result ≡ right) }
     ensures stretch { IsStretchBy link_move pass.old pass.new }
     ensures makes { MakesNoneLive pass.old pass.new }
@@ -163,7 +163,7 @@ pub(crate) fn part<N: Linked, G: Gate>(
     held: Held<N>,
 ) -> Result<Parted<N>, Held<N>>
     requires pass { IsPassOf arena.now pass.old }
-    requires way { IsOnWayOf arena.now pass.old.caller place pass.old held }
+    requires way { SearchIsAt arena.now pass.old.caller place pass.old held }
     requires full { IsTrue (is_full N.layout (N.body held.body)) }
     requires grows { held.node ≡ 0 → IsTrue (N.grows_at (content_of (N.body held.body))) }
     ensures pass { IsPassOf arena.now pass.new }

@@ -11,7 +11,7 @@ ghost use Rattle.ks_link.specs.Parts.{ReachesLess};
 ghost use Rattle.ks_link.specs.Puts.{WaitsFor};
 ghost use Rattle.ks_arena.specs.Of.{WasAlone, IsPassOf, IsEmptyPassOf};
 ghost use Rattle.ks_shape.specs.Of.{IsStretchBy, DoneOf};
-ghost use Rattle.ks_link.specs.Of.{IfAloneWithRoom, IsOnWayOf, WasSplitOff, HasMadeRoom, HasFoundRoom, LeadsAllBut, LeadsAll};
+ghost use Rattle.ks_link.specs.Of.{IfAloneWithRoom, SearchIsAt, WasSplitOff, HasMadeRoom, HasFoundRoom, LeadsAllBut, LeadsAll};
 
 use crate::attaches::attach_all;
 use crate::descent::{end_law, find};
@@ -46,7 +46,7 @@ pub(crate) fn make_room<N: Linked, G: Gate>(
     waiting: &mut ArrayVec<Waiting, 7>,
 ) -> Result<Held<N>, Held<N>>
     requires pass { IsPassOf arena.now pass.old }
-    requires way { IsOnWayOf arena.now pass.old.caller place pass.old held }
+    requires way { SearchIsAt arena.now pass.old.caller place pass.old held }
     requires ends { next_at (N.body held.body) place ≡ Here }
     requires full { IsTrue (is_full N.layout (N.body held.body)) }
     requires waiting { All (λ w. WasSplitOff arena.now pass.old w) waiting.old.items }

@@ -6,7 +6,7 @@ ghost use Rattle.ks_node.specs.declared.start.Next.TheVariants.{Here};
 ghost use Rattle.ks_node.specs.Body.{next_at};
 ghost use Rattle.ks_arena.specs.Of.{IsPassOf};
 ghost use Rattle.ks_shape.specs.Of.{IsStretchBy};
-ghost use Rattle.ks_link.specs.Of.{IsOnWayOf, WasSplitOff, HasComeToRoom};
+ghost use Rattle.ks_link.specs.Of.{SearchIsAt, WasSplitOff, HasComeToRoom};
 
 use crate::parts::Waiting;
 use crate::puts::make_room;
@@ -29,7 +29,7 @@ pub(crate) fn room_at<N: Linked, G: Gate>(
     waiting: &mut ArrayVec<Waiting, 7>,
 ) -> Result<Held<N>, Held<N>>
     requires pass { IsPassOf arena.now pass.old }
-    requires way { IsOnWayOf arena.now pass.old.caller place pass.old held }
+    requires way { SearchIsAt arena.now pass.old.caller place pass.old held }
     requires ends { next_at (N.body held.body) place ≡ Here }
     requires waiting { waiting.old.items ≡ [] }
     ensures pass { IsPassOf arena.now pass.new }

@@ -5,7 +5,7 @@ use ks_arena::{Arena, Pass};
 use ks_flow::Link;
 use ks_gate::Gate;
 use ks_node::{Linked, linked_law};
-use ks_shape::{Full, Numbered, Ruled, Template};
+use ks_shape::{Full, Later, Numbered, Ruled, Template};
 use std::sync::Wait;
 
 /// Callers move along links, over any linked node.
@@ -74,5 +74,34 @@ impl<N: Linked> Template<N, Arena<N, Link>> for LinkMove {
         place: u64,
     ) -> Numbered {
         crate::calls::del(rt, arena, pass, gate, place)
+    }
+
+    fn try_get<G: Gate>(
+        arena: &Arena<N, Link>,
+        pass: &mut Pass<N, Link>,
+        gate: &G,
+        place: u64,
+    ) -> Result<Numbered, Later> {
+        crate::tries::try_get(arena, pass, gate, place)
+    }
+
+    fn try_swap<G: Gate>(
+        arena: &Arena<N, Link>,
+        pass: &mut Pass<N, Link>,
+        gate: &G,
+        place: u64,
+        old: u128,
+        new: u128,
+    ) -> Result<Numbered, Later> {
+        crate::tries::try_swap(arena, pass, gate, place, old, new)
+    }
+
+    fn try_del<G: Gate>(
+        arena: &Arena<N, Link>,
+        pass: &mut Pass<N, Link>,
+        gate: &G,
+        place: u64,
+    ) -> Result<Numbered, Later> {
+        crate::tries::try_del(arena, pass, gate, place)
     }
 }

@@ -20,7 +20,8 @@ use ks_node::{Linked, Next, node_law};
 /// Whether a node above the level of what was split off is one level above it, with a range that reaches the cut.
 fn is_over<N: Linked>(node: &N, to: Waiting) -> bool
     requires above { to.level < (N.body node.now).level }
-    ensures yes { result ≡ true → ((N.body node.now).level ≡ to.level + 1) × (to.cut ≤ last_of (N.body node.now).range) }
+    ensures yes { result ≡ true →
+        ((N.body node.now).level ≡ to.level + 1) × (to.cut ≤ last_of (N.body node.now).range) }
     ensures no { result ≡ false → (N.body node.now).level ≡ to.level + 1 → last_of (N.body node.now).range < to.cut }
 {
     node_law(node);

@@ -6,7 +6,7 @@ ghost use Rattle.ks_node.specs.declared.start.Next.TheVariants.{Go};
 ghost use Rattle.ks_node.specs.Body.{next_at};
 ghost use Rattle.ks_arena.specs.Of.{IsPassOf, IsEmptyPassOf};
 ghost use Rattle.ks_shape.specs.Of.{IsUnderway, StaysUnderway, MakesNoneLive};
-ghost use Rattle.ks_link.specs.Of.{IsOnWayOf, EntersOr, GoesOnOr, FindsOr};
+ghost use Rattle.ks_link.specs.Of.{SearchIsAt, TriedToEnter, TriedToGoOn, TriedToFind};
 
 use ks_arena::laws::{link_live_law, root_stays_law, sound_law};
 use ks_arena::{Arena, Held, Pass, Taken};
@@ -25,7 +25,7 @@ pub(crate) fn try_enter<N: Linked, G: Gate>(
     requires pass { IsEmptyPassOf arena.now pass.old }
     ensures pass { IsPassOf arena.now pass.new }
     ensures caller { pass.new.caller ≡ pass.old.caller }
-    ensures entered { EntersOr arena.now place pass.old pass.new result }
+    ensures entered { TriedToEnter arena.now place pass.old pass.new result }
     ensures under { IsUnderway link_move pass.old pass.new }
     ensures makes { MakesNoneLive pass.old pass.new }
 {
@@ -52,11 +52,11 @@ pub(crate) fn try_go_on<N: Linked, G: Gate>(
     next: u32,
 ) -> Result<Held<N>, Later>
     requires pass { IsPassOf arena.now pass.old }
-    requires way { IsOnWayOf arena.now pass.old.caller place pass.old held }
+    requires way { SearchIsAt arena.now pass.old.caller place pass.old held }
     requires goes { next_at (N.body held.body) place ≡ Go next }
     ensures pass { IsPassOf arena.now pass.new }
     ensures caller { pass.new.caller ≡ pass.old.caller }
-    ensures went { GoesOnOr arena.now place pass.old pass.new held next result }
+    ensures went { TriedToGoOn arena.now place pass.old pass.new held next result }
     ensures under { StaysUnderway link_move pass.old pass.new }
     ensures makes { MakesNoneLive pass.old pass.new }
 {
@@ -87,7 +87,7 @@ pub(crate) fn try_find<N: Linked, G: Gate>(
     requires pass { IsEmptyPassOf arena.now pass.old }
     ensures pass { IsPassOf arena.now pass.new }
     ensures caller { pass.new.caller ≡ pass.old.caller }
-    ensures found { FindsOr arena.now place pass.old pass.new result }
+    ensures found { TriedToFind arena.now place pass.old pass.new result }
     ensures under { IsUnderway link_move pass.old pass.new }
     ensures makes { MakesNoneLive pass.old pass.new }
 {

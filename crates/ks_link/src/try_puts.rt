@@ -6,7 +6,7 @@ ghost use Rattle.ks_node.specs.declared.start.Next.TheVariants.{Here};
 ghost use Rattle.ks_node.specs.Body.{next_at};
 ghost use Rattle.ks_arena.specs.Of.{IsPassOf, IsEmptyPassOf};
 ghost use Rattle.ks_shape.specs.Of.{TriedPutOf};
-ghost use Rattle.ks_link.specs.Of.{IsOnWayOf, FinishesTry};
+ghost use Rattle.ks_link.specs.Of.{SearchIsAt, FinishesTry};
 
 use crate::room::room_at;
 use crate::try_attaches::try_attach_all;
@@ -31,7 +31,7 @@ fn put_from<N: Linked, G: Gate>(
     held: Held<N>,
 ) -> Result<Numbered, PutLater>
     requires pass { IsPassOf arena.now pass.old }
-    requires way { IsOnWayOf arena.now pass.old.caller place pass.old held }
+    requires way { SearchIsAt arena.now pass.old.caller place pass.old held }
     requires ends { next_at (N.body held.body) place ≡ Here }
     ensures pass { IsEmptyPassOf arena.now pass.new }
     ensures caller { pass.new.caller ≡ pass.old.caller }
@@ -92,7 +92,7 @@ fn add_from<N: Linked, G: Gate>(
     held: Held<N>,
 ) -> Result<Numbered, PutLater>
     requires pass { IsPassOf arena.now pass.old }
-    requires way { IsOnWayOf arena.now pass.old.caller place pass.old held }
+    requires way { SearchIsAt arena.now pass.old.caller place pass.old held }
     requires ends { next_at (N.body held.body) place ≡ Here }
     ensures pass { IsEmptyPassOf arena.now pass.new }
     ensures caller { pass.new.caller ≡ pass.old.caller }

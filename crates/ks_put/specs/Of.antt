@@ -41,8 +41,8 @@ module _ {N D P : Type 0} {n : NodeGhosts N P} {q : PlacingGhosts P} {d : Discip
   IsPartOf a place p above x = IsPart (sort_of n.layout n.ranged) n.body place (seen_of p) above x
 
   -- what a try to split the node of a path tells
-  abbrev pub HasParted : Arena N D P n q d → ℕ → Pass N D → Pass N D → Path N → Part N → Type 0
-  HasParted a place p p' path part = DidPart (sort_of n.layout n.ranged) n.body a.nodes p.caller place (seen_of p) (seen_of p') path part
+  abbrev pub TriedToSplit : Arena N D P n q d → ℕ → Pass N D → Pass N D → Path N → Part N → Type 0
+  TriedToSplit a place p p' path part = DidPart (sort_of n.layout n.ranged) n.body a.nodes p.caller place (seen_of p) (seen_of p') path part
 
   -- each node of the type grows, branches adopt, and neither half of a full node is full
   abbrev pub AllGrow : Arena N D P n q d → Type 0

@@ -142,7 +142,8 @@ pub(crate) fn come_to_full<N: Unlinked, G: Gate>(
     requires full { IsTrue (is_full N.layout (N.body path.node.body)) }
     ensures pass { IsPassOf arena.now pass.new }
     ensures caller { pass.new.caller ≡ pass.old.caller }
-    ensures came { (n : ℕ) (start : List Happening) → NoneFree N.layout n pass.old.caller place start (seen_of pass.old) →
+    ensures came { (n : ℕ) (start : List Happening) →
+        NoneFree N.layout n pass.old.caller place start (seen_of pass.old) →
         CameToRoomSince arena.now place start pass.old pass.new n result }
     ensures stretch { IsStretch pass.old pass.new }
 {

@@ -7,7 +7,7 @@ ghost use Rattle.ks_node.specs.Asks.{CanSplitAt, HalvesHaveRoom};
 ghost use Rattle.ks_put.specs.Parts.{CanAt, Grows, HasRoomAbove, IsEased, IsRoomy, IsShut};
 ghost use Rattle.ks_arena.specs.Of.{IsInside, IsPassOf};
 ghost use Rattle.ks_shape.specs.Of.{IsStretch};
-ghost use Rattle.ks_put.specs.Of.{AllGrow, IsOnPathOf, HasParted, PartsDown};
+ghost use Rattle.ks_put.specs.Of.{AllGrow, IsOnPathOf, TriedToSplit, PartsDown};
 
 use crate::cuts::{cut_below, cut_of_root};
 use crate::halves::{Part, keep_half, keep_left, keep_right, keep_right_alone};
@@ -36,7 +36,7 @@ pub(crate) fn grow_root<N: Unlinked, G: Gate>(
     requires halves { IsTrue N.halves_have_room → HalvesHaveRoom N.layout cut (N.body root.body) }
     ensures pass { IsPassOf arena.now pass.new }
     ensures caller { pass.new.caller ≡ pass.old.caller }
-    ensures part { HasParted arena.now place pass.old pass.new (record { parent = None; node = root }) result }
+    ensures part { TriedToSplit arena.now place pass.old pass.new (record { parent = None; node = root }) result }
     ensures tried { ¬ IsShut result }
     ensures stretch { IsStretch pass.old pass.new }
     ensures down { PartsDown arena.now pass.old pass.new (record { parent = None; node = root }) result }
@@ -75,7 +75,8 @@ pub(crate) fn split_below<N: Unlinked, G: Gate>(
     requires halves { IsTrue N.halves_have_room → HalvesHaveRoom N.layout cut (N.body node.body) }
     ensures pass { IsPassOf arena.now pass.new }
     ensures caller { pass.new.caller ≡ pass.old.caller }
-    ensures part { HasParted arena.now place pass.old pass.new (record { parent = Some parent; node = node }) result }
+    ensures part { TriedToSplit arena.now place pass.old pass.new
+        (record { parent = Some parent; node = node }) result }
     ensures tried { ¬ IsShut result }
     ensures stretch { IsStretch pass.old pass.new }
     ensures down { PartsDown arena.now pass.old pass.new (record { parent = Some parent; node = node }) result }
@@ -112,7 +113,7 @@ pub(crate) fn split_alone<N: Unlinked, G: Gate>(
     requires halves { IsTrue N.halves_have_room → HalvesHaveRoom N.layout cut (N.body path.node.body) }
     ensures pass { IsPassOf arena.now pass.new }
     ensures caller { pass.new.caller ≡ pass.old.caller }
-    ensures part { HasParted arena.now place pass.old pass.new path result }
+    ensures part { TriedToSplit arena.now place pass.old pass.new path result }
     ensures tried { ¬ IsShut result }
     ensures stretch { IsStretch pass.old pass.new }
     ensures down { PartsDown arena.now pass.old pass.new path result }
@@ -148,7 +149,7 @@ pub(crate) fn split_root<N: Unlinked, G: Gate>(
     requires full { IsTrue (is_full N.layout (N.body root.body)) }
     ensures pass { IsPassOf arena.now pass.new }
     ensures caller { pass.new.caller ≡ pass.old.caller }
-    ensures part { HasParted arena.now place pass.old pass.new (record { parent = None; node = root }) result }
+    ensures part { TriedToSplit arena.now place pass.old pass.new (record { parent = None; node = root }) result }
     ensures open { N.in_place ≡ false → (IsTrue (is_branch (N.body root.body)) → AllGrow arena.now) → ¬ IsShut result }
     ensures stretch { IsStretch pass.old pass.new }
     ensures down { PartsDown arena.now pass.old pass.new (record { parent = None; node = root }) result }
@@ -186,7 +187,7 @@ pub(crate) fn split_child<N: Unlinked, G: Gate>(
     requires full { IsTrue (is_full N.layout (N.body node.body)) }
     ensures pass { IsPassOf arena.now pass.new }
     ensures caller { pass.new.caller ≡ pass.old.caller }
-    ensures part { HasParted arena.now place pass.old pass.new (record { parent = Some parent; node = node }) result }
+    ensures part { TriedToSplit arena.now place pass.old pass.new (record { parent = Some parent; node = node }) result }
     ensures open { N.in_place ≡ false → (IsTrue (is_branch (N.body node.body)) → AllGrow arena.now) →
         (AllGrow arena.now → is_full N.layout (N.body parent.body) ≡ false) → ¬ IsShut result }
     ensures stretch { IsStretch pass.old pass.new }
@@ -223,7 +224,7 @@ fn split_whole<N: Unlinked, G: Gate>(
     requires full { IsTrue (is_full N.layout (N.body path.node.body)) }
     ensures pass { IsPassOf arena.now pass.new }
     ensures caller { pass.new.caller ≡ pass.old.caller }
-    ensures part { HasParted arena.now place pass.old pass.new path result }
+    ensures part { TriedToSplit arena.now place pass.old pass.new path result }
     ensures open { N.in_place ≡ false → (IsTrue (is_branch (N.body path.node.body)) → AllGrow arena.now) →
         (AllGrow arena.now → HasRoomAbove N.layout N.body path.parent) → ¬ IsShut result }
     ensures stretch { IsStretch pass.old pass.new }
@@ -251,7 +252,7 @@ pub(crate) fn split<N: Unlinked, G: Gate>(
     requires full { IsTrue (is_full N.layout (N.body path.node.body)) }
     ensures pass { IsPassOf arena.now pass.new }
     ensures caller { pass.new.caller ≡ pass.old.caller }
-    ensures part { HasParted arena.now place pass.old pass.new path result }
+    ensures part { TriedToSplit arena.now place pass.old pass.new path result }
     ensures open { N.in_place ≡ false → (IsTrue (is_branch (N.body path.node.body)) → AllGrow arena.now) →
         (AllGrow arena.now → HasRoomAbove N.layout N.body path.parent) → ¬ IsShut result }
     ensures stretch { IsStretch pass.old pass.new }

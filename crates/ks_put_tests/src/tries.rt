@@ -2,7 +2,7 @@
 ghost use Rattle.std.specs.Prelude.{◌≡◌, ◌≤◌, ◌<◌, IfOk};
 ghost use Rattle.ks_flow.specs.Discipline.{BeginsTree};
 ghost use Rattle.ks_arena.specs.Sound.{blank_of, sort_of};
-ghost use Rattle.ks_arena.specs.Of.{IsEmptyPassOf};
+ghost use Rattle.ks_arena.specs.Of.{IsEmptyPassOf, nodes_of};
 
 use crate::puts::{one_caller, put_each};
 use ks_arena::{Arena, Pass, Taken};
@@ -72,7 +72,7 @@ fn beside_a_holder<N: Unlinked>(
     one: &mut Pass<N, Tree>,
     two: &mut Pass<N, Tree>,
 ) -> Option<[Result<Numbered, Later>; 2]>
-    requires nodes { 1 < arena.now.nodes }
+    requires nodes { 1 < nodes_of arena.now }
     requires one { IsEmptyPassOf arena.now one.old }
     requires two { IsEmptyPassOf arena.now two.old }
     ensures one { IsEmptyPassOf arena.now one.new }

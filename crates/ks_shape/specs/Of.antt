@@ -2,6 +2,7 @@
 use Rattle.std.specs.Prelude.{ℕ, ◌≡◌, List, [], ◌∷◌, Option, Result}
 use Rattle.ks_keysets.specs.declared.Change.{Change}
 use Rattle.ks_keysets.specs.declared.NodeState.{NodeState}
+use Rattle.ks_keysets.specs.Record.{LeadsTo}
 use Rattle.ks_node.specs.declared.node.Node.{Ghosts as NodeGhosts}
 use Rattle.ks_node.below.ks_places.specs.declared.Placing.{Ghosts as PlacingGhosts}
 use Rattle.ks_flow.specs.declared.discipline.Discipline.{Ghosts as DisciplineGhosts}
@@ -16,6 +17,7 @@ use Rattle.ks_history.specs.Due.{NoneFree}
 use Rattle.ks_history.specs.Stretch.{Stretch}
 use Rattle.ks_history.specs.Underway.{Underway}
 use Rattle.ks_node.specs.Body.{Body, frame_of}
+use Rattle.ks_node.specs.Edges.{record_of}
 use Rattle.ks_flow.specs.Link.{IsLed}
 use Rattle.ks_bodies.specs.Shapes as Trees
 use Rattle.ks_bodies.specs.Links as Linked
@@ -24,6 +26,7 @@ use Rattle.ks_arena.specs.declared.held.Pass.{Pass}
 use Rattle.ks_arena.specs.declared.held.Held.{Held as Hand}
 use Rattle.ks_arena.specs.Sound.{sort_of, blank_of}
 use Rattle.ks_arena.specs.Clauses.{hand_of, seen_of}
+use Rattle.ks_arena.specs.Of.{IsInside}
 use Rattle.ks_shape.specs.Beside.{KeepsBeside}
 use Rattle.ks_shape.specs.Claims.{DidClaimOne, DidClaimTwo}
 use Rattle.ks_shape.specs.InHand.{IsLive, IsFree, BecomesLive, BecomesFree}
@@ -77,6 +80,10 @@ module _ {N D : Type 0} where
   -- at q node j has each place that node i had at p, in its inset and in its keyset
   abbrev pub HasPlaces : ℕ → ℕ → Pass N D → Pass N D → Type 0
   HasPlaces i j p q = HasPlacesOf (graph_after (seen_of p)) (graph_after (seen_of q)) i j
+
+  -- a node with this body leads at the place to node i, whose inset has the place
+  abbrev pub LeadsInto : Pass N D → Body → ℕ → ℕ → Type 0
+  LeadsInto p b place i = LeadsTo (record_of b) place i × IsInside p i place
 
 module _ {N D P : Type 0} {n : NodeGhosts N P} {q : PlacingGhosts P} {d : DisciplineGhosts D} where
   -- the pass holds the node, which is live, or is not, and whose body is current
@@ -132,6 +139,10 @@ module _ {N D P : Type 0} {n : NodeGhosts N P} {q : PlacingGhosts P} {d : Discip
   abbrev pub FinishesAt : Arena N D P n q d → Hand N → Op → Pass N D → Pass N D → Reply → ℕ → Type 0
   FinishesAt a x op p p' reply number = (template : Template) (start : List Event) → Underway template p.caller op start (seen_of p) → DoneAt n.layout template a.nodes p.caller op start (seen_of p') reply number x.node (blank_of (sort_of n.layout n.ranged)) (frame_of (n.body x.body))
 
+  -- so it is, if a reply Full is due: no node was free for its place since it began
+  abbrev pub FinishesIfDue : Arena N D P n q d → Hand N → Op → Pass N D → Pass N D → Reply → ℕ → Type 0
+  FinishesIfDue a x op p p' reply number = (template : Template) (start : List Event) → (reply ≡ Full → (place : ℕ) × Touches op place × NoneFree n.layout a.nodes p.caller place start (seen_of p)) → Underway template p.caller op start (seen_of p) → DoneAt n.layout template a.nodes p.caller op start (seen_of p') reply number x.node (blank_of (sort_of n.layout n.ranged)) (frame_of (n.body x.body))
+
   -- so it is with the reply Full, if no node was free since it began
   abbrev pub FinishesFull : Arena N D P n q d → Hand N → Op → Pass N D → Pass N D → ℕ → Type 0
   FinishesFull a x op p p' number = (template : Template) (start : List Event) (place : ℕ) → Touches op place → NoneFree n.layout a.nodes p.caller place start (seen_of p) → Underway template p.caller op start (seen_of p) → DoneAt n.layout template a.nodes p.caller op start (seen_of p') Full number x.node (blank_of (sort_of n.layout n.ranged)) (frame_of (n.body x.body))
@@ -150,6 +161,10 @@ module _ {N D P : Type 0} {n : NodeGhosts N P} {q : PlacingGhosts P} {d : Discip
   -- an edge of a live node one level above leads to node i
   abbrev pub IsLedTo : Arena N D P n q d → Pass N D → ℕ → Type 0
   IsLedTo a p i = IsLed (graph_after (seen_of p)) (frame_after (blank_of (sort_of n.layout n.ranged)) (seen_of p)) i
+
+  -- node i is live, one level below this one, and begins at the cut
+  abbrev pub StandsUnderAt : Arena N D P n q d → Pass N D → ℕ → ℕ → ℕ → Type 0
+  StandsUnderAt a p i level cut = Linked.StandsUnder (graph_after (seen_of p)) (frame_after (blank_of (sort_of n.layout n.ranged)) (seen_of p)) i level cut
 
   -- the changes of each shape of trees, from the nodes in hand before it: x is split at the cut, and y gets what lies from
   -- there on, x or u leading to it; the root x grows, and y and z get its halves; x absorbs y; x gets all of its only child y

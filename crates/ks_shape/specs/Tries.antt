@@ -56,6 +56,18 @@ IsDoneIn (Ok answer) = Unit {0}
 IsDoneIn (Err (Full number)) = Unit {0}
 IsDoneIn (Err (Otherwise later)) = ⊥
 
+-- what a call may tell that goes by the technique: that a node moved, giving up alone; that the way is long, unless along links
+abbrev pub MayTell : Template → Result Numbered Later → Type 0
+MayTell template (Ok answer) = Unit {0}
+MayTell template (Err (Busy node holder)) = Unit {0}
+MayTell template (Err (Moved node)) = FindsMoved template
+MayTell template (Err Far) = FindsFar template
+
+abbrev pub PutMayTell : Template → Result Numbered PutLater → Type 0
+PutMayTell template (Ok answer) = Unit {0}
+PutMayTell template (Err (Full number)) = Unit {0}
+PutMayTell template (Err (Otherwise later)) = MayTell template (Err later)
+
 module _ {N D : Type 0} where
   -- what such a call tells of an arena, between p and q; and what a put or an add tells
   abbrev pub HasTried : Layout → Template → Site → Op → Pass N D → Pass N D → Result Numbered Later → Type 0

@@ -2,7 +2,7 @@
 ghost use Rattle.std.specs.Prelude.{◌≡◌, ◌≤◌, length};
 ghost use Rattle.ks_flow.specs.Discipline.{SameKeyset};
 ghost use Rattle.ks_arena.specs.Clauses.{hand_of};
-ghost use Rattle.ks_arena.specs.Of.{Keeps, IsPassOf, StayCurrent};
+ghost use Rattle.ks_arena.specs.Of.{IsPassOf, RestStays};
 ghost use Rattle.ks_shape.specs.Quiet.{KeepsQuiet};
 ghost use Rattle.ks_shape.specs.Of.{IsStretch, MakesNoneLive, KeepsAside, HasClaimedOne, HasClaimedTwo};
 
@@ -28,8 +28,7 @@ pub fn claim_one<N: Node, D: Discipline, G: Gate>(
     ensures beside { KeepsAside D.beside pass.old pass.new }
     ensures keysets { KeepsAside SameKeyset pass.old pass.new }
     ensures quiet { KeepsQuiet pass.old pass.new }
-    ensures kept { Keeps pass.old pass.new }
-    ensures still { StayCurrent arena.now pass.old pass.new }
+    ensures rest { RestStays arena.now pass.old pass.new }
 {
     D::laws();
     walks_law();
@@ -57,8 +56,7 @@ pub fn claim_two<N: Node, D: Discipline, G: Gate>(
     ensures beside { KeepsAside D.beside pass.old pass.new }
     ensures keysets { KeepsAside SameKeyset pass.old pass.new }
     ensures quiet { KeepsQuiet pass.old pass.new }
-    ensures kept { Keeps pass.old pass.new }
-    ensures still { StayCurrent arena.now pass.old pass.new }
+    ensures rest { RestStays arena.now pass.old pass.new }
 {
     D::laws();
     walks_law();

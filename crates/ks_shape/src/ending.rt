@@ -1,18 +1,11 @@
 //! The end of a call of a dictionary: it is decided at the one node in hand, which is then given. By whatever template
 //! the call came to the node, it is done.
-ghost use Rattle.std.specs.Prelude.{ℕ, ◌≡◌, ◌≢◌, ◌∷◌, [], List};
-ghost use Rattle.ks_history.specs.declared.Event.{Event as Happening};
+ghost use Rattle.std.specs.Prelude.{◌≡◌, ◌≢◌, ◌∷◌, []};
 ghost use Rattle.ks_history.specs.declared.Reply.TheVariants.{Full as full_reply};
-ghost use Rattle.ks_history.specs.Map.{Touches, told};
-ghost use Rattle.ks_history.specs.Trace.{◌⊑◌};
-ghost use Rattle.ks_history.specs.Due.{NoneFree};
-ghost use Rattle.ks_history.specs.Done.{DoneAt, Template};
-ghost use Rattle.ks_history.specs.Underway.{Underway};
-ghost use Rattle.ks_node.specs.Body.{frame_of};
-ghost use Rattle.ks_arena.specs.Sound.{blank_of, sort_of};
-ghost use Rattle.ks_arena.specs.Clauses.{hand_of, seen_of};
-ghost use Rattle.ks_arena.specs.Of.{IsPassOf, IsEmptyPassOf, IsReadyAt};
-ghost use Rattle.ks_shape.specs.Of.{MakesNoneLive, FinishesAny, FinishesAt, FinishesFull};
+ghost use Rattle.ks_history.specs.Map.{told};
+ghost use Rattle.ks_arena.specs.Clauses.{hand_of};
+ghost use Rattle.ks_arena.specs.Of.{IsPassOf, IsEmptyPassOf, IsReadyAt, SeesOn};
+ghost use Rattle.ks_shape.specs.Of.{MakesNoneLive, FinishesAny, FinishesAt, FinishesFull, FinishesIfDue};
 
 use crate::answers::Full;
 use ks_arena::laws::sound_law;
@@ -48,12 +41,9 @@ fn decide_here<N: Node, D: Discipline, G: Gate>(
     requires ready { IsReadyAt arena.now pass.old held op reply }
     ensures pass { IsEmptyPassOf arena.now pass.new }
     ensures caller { pass.new.caller ≡ pass.old.caller }
-    ensures begins { seen_of pass.old ⊑ seen_of pass.new }
+    ensures begins { SeesOn pass.old pass.new }
     ensures makes { MakesNoneLive pass.old pass.new }
-    ensures done { (template : Template) (start : List Happening) →
-        (reply ≡ full_reply → (place : ℕ) × Touches op place × NoneFree N.layout arena.now.nodes pass.old.caller place start (seen_of pass.old)) →
-        Underway template pass.old.caller op start (seen_of pass.old) →
-        DoneAt N.layout template arena.now.nodes pass.old.caller op start (seen_of pass.new) reply result held.node (blank_of (sort_of N.layout N.ranged)) (frame_of (N.body held.body)) }
+    ensures done { FinishesIfDue arena.now held op pass.old pass.new reply result }
 {
     sound_law::<D>();
     let number = arena.decide(pass, &held, op, reply);
@@ -79,7 +69,7 @@ pub fn conclude<N: Node, D: Discipline, G: Gate>(
     requires some { reply ≢ full_reply }
     ensures pass { IsEmptyPassOf arena.now pass.new }
     ensures caller { pass.new.caller ≡ pass.old.caller }
-    ensures begins { seen_of pass.old ⊑ seen_of pass.new }
+    ensures begins { SeesOn pass.old pass.new }
     ensures makes { MakesNoneLive pass.old pass.new }
     ensures done { FinishesAny arena.now op pass.old pass.new reply result }
     ensures at { FinishesAt arena.now held op pass.old pass.new reply result }
@@ -101,7 +91,7 @@ pub fn refuse<N: Node, D: Discipline, G: Gate>(
     requires ready { IsReadyAt arena.now pass.old held op full_reply }
     ensures pass { IsEmptyPassOf arena.now pass.new }
     ensures caller { pass.new.caller ≡ pass.old.caller }
-    ensures begins { seen_of pass.old ⊑ seen_of pass.new }
+    ensures begins { SeesOn pass.old pass.new }
     ensures makes { MakesNoneLive pass.old pass.new }
     ensures done { FinishesFull arena.now held op pass.old pass.new result.number }
 {

@@ -2,11 +2,9 @@
 ghost use Rattle.std.specs.Prelude.{◌≡◌, false, true};
 ghost use Rattle.ks_history.specs.declared.Op.TheVariants.{Add, Del, Get, Put, Swap};
 ghost use Rattle.ks_history.specs.Map.{told};
-ghost use Rattle.ks_history.specs.Trace.{◌⊑◌};
 ghost use Rattle.ks_node.specs.declared.start.Next.TheVariants.{Here};
 ghost use Rattle.ks_node.specs.Body.{next_at};
-ghost use Rattle.ks_arena.specs.Clauses.{seen_of};
-ghost use Rattle.ks_arena.specs.Of.{IsPassOf, IsEmptyPassOf, WasRefusedAt};
+ghost use Rattle.ks_arena.specs.Of.{IsPassOf, IsEmptyPassOf, WasRefusedAt, SeesOn};
 ghost use Rattle.ks_shape.specs.SearchEnd.{Fills, LacksPlace, TakesPlace};
 ghost use Rattle.ks_shape.specs.Of.{IsOnWayOf, MakesNoneLive, FinishesAny, FinishesCrowded, SearchEndsAt, HasRoomAt, IsCrowdedAt};
 
@@ -55,7 +53,7 @@ pub fn get_here<N: Node, D: Discipline, G: Gate>(
     requires ends { SearchEndsAt arena.now place pass.old held }
     ensures pass { IsEmptyPassOf arena.now pass.new }
     ensures caller { pass.new.caller ≡ pass.old.caller }
-    ensures begins { seen_of pass.old ⊑ seen_of pass.new }
+    ensures begins { SeesOn pass.old pass.new }
     ensures makes { MakesNoneLive pass.old pass.new }
     ensures done { FinishesAny arena.now (Get place) pass.old pass.new (told result.found) result.number }
 {
@@ -79,7 +77,7 @@ pub fn put_here<N: Node, D: Discipline, G: Gate>(
     requires room { HasRoomAt arena.now place pass.old held }
     ensures pass { IsEmptyPassOf arena.now pass.new }
     ensures caller { pass.new.caller ≡ pass.old.caller }
-    ensures begins { seen_of pass.old ⊑ seen_of pass.new }
+    ensures begins { SeesOn pass.old pass.new }
     ensures makes { MakesNoneLive pass.old pass.new }
     ensures done { FinishesAny arena.now (Put place value) pass.old pass.new (told result.found) result.number }
 {
@@ -106,7 +104,7 @@ pub fn add_here<N: Node, D: Discipline, G: Gate>(
     requires room { HasRoomAt arena.now place pass.old held }
     ensures pass { IsEmptyPassOf arena.now pass.new }
     ensures caller { pass.new.caller ≡ pass.old.caller }
-    ensures begins { seen_of pass.old ⊑ seen_of pass.new }
+    ensures begins { SeesOn pass.old pass.new }
     ensures makes { MakesNoneLive pass.old pass.new }
     ensures done { FinishesAny arena.now (Add place value) pass.old pass.new (told result.found) result.number }
 {
@@ -143,7 +141,7 @@ pub fn swap_here<N: Node, D: Discipline, G: Gate>(
     requires ends { SearchEndsAt arena.now place pass.old held }
     ensures pass { IsEmptyPassOf arena.now pass.new }
     ensures caller { pass.new.caller ≡ pass.old.caller }
-    ensures begins { seen_of pass.old ⊑ seen_of pass.new }
+    ensures begins { SeesOn pass.old pass.new }
     ensures makes { MakesNoneLive pass.old pass.new }
     ensures done { FinishesAny arena.now (Swap place old new) pass.old pass.new (told result.found) result.number }
 {
@@ -185,7 +183,7 @@ pub fn del_here<N: Node, D: Discipline, G: Gate>(
     requires ends { SearchEndsAt arena.now place pass.old held }
     ensures pass { IsEmptyPassOf arena.now pass.new }
     ensures caller { pass.new.caller ≡ pass.old.caller }
-    ensures begins { seen_of pass.old ⊑ seen_of pass.new }
+    ensures begins { SeesOn pass.old pass.new }
     ensures makes { MakesNoneLive pass.old pass.new }
     ensures done { FinishesAny arena.now (Del place) pass.old pass.new (told result.found) result.number }
 {
@@ -214,7 +212,7 @@ pub fn refuse_here<N: Node, D: Discipline, G: Gate>(
     requires fills { Fills place value op }
     ensures pass { IsEmptyPassOf arena.now pass.new }
     ensures caller { pass.new.caller ≡ pass.old.caller }
-    ensures begins { seen_of pass.old ⊑ seen_of pass.new }
+    ensures begins { SeesOn pass.old pass.new }
     ensures makes { MakesNoneLive pass.old pass.new }
     ensures done { FinishesCrowded arena.now op place pass.old pass.new result.number }
 {

@@ -1,16 +1,12 @@
 //! Shapes under links. Each asks that the pass holds its nodes with the bodies of the graph, and tells what they became.
-ghost use Rattle.std.specs.Prelude.{◌≡◌, ◌≢◌, ◌<◌, IsTrue, None, ◌∷◌};
-ghost use Rattle.ks_history.specs.declared.Event.TheVariants.{Shape};
-ghost use Rattle.ks_history.specs.Trace.{graph_after, frame_after};
+ghost use Rattle.std.specs.Prelude.{◌≡◌, ◌≢◌, ◌<◌, IsTrue, None};
 ghost use Rattle.ks_node.specs.Body.{content_of, is_branch};
 ghost use Rattle.ks_node.specs.Room.{is_full};
 ghost use Rattle.ks_node.specs.Effect.{split_right as right_part, adopted, with_link};
 ghost use Rattle.ks_node.specs.Asks.{CanSplitAt, IsCut};
 ghost use Rattle.ks_bodies.specs.Links as shapes;
-ghost use Rattle.ks_arena.specs.Sound.{sort_of, blank_of};
-ghost use Rattle.ks_arena.specs.Clauses.{hand_of, mine_of, seen_of};
-ghost use Rattle.ks_arena.specs.Of.{Adds, KeepsBesides, IsPassOf, StayCurrentBesides};
-ghost use Rattle.ks_shape.specs.Of.{IsLiveInHand, IsFreeInHand, HasBecome, IsLedTo, splits_right, grows_right, attaches_to};
+ghost use Rattle.ks_arena.specs.Of.{IsPassOf, HasShaped};
+ghost use Rattle.ks_shape.specs.Of.{IsLiveInHand, IsFreeInHand, HasBecome, IsLedTo, StandsUnderAt, splits_right, grows_right, attaches_to};
 
 use ks_arena::laws::sound_law;
 use ks_arena::{Arena, Held, Pass};
@@ -35,13 +31,10 @@ pub fn split_right<N: Linked>(
     requires cut { CanSplitAt (N.body node.old.body) cut }
     ensures pass { IsPassOf arena.now pass.new }
     ensures caller { pass.new.caller ≡ pass.old.caller }
-    ensures shaped { Adds (Shape pass.old.caller (splits_right arena.now node.old right.old cut)) pass.old pass.new }
-    ensures hand { hand_of pass.new ≡ hand_of pass.old }
-    ensures mine { mine_of pass.new ≡ Shape pass.old.caller (splits_right arena.now node.old right.old cut) ∷ mine_of pass.old }
-    ensures node { HasBecome arena.now pass.new (shapes.split_linked cut right.old.node (N.body node.old.body)) node.old node.new }
+    ensures shaped { HasShaped arena.now (splits_right arena.now node.old right.old cut) pass.old pass.new }
+    ensures node { HasBecome arena.now pass.new
+        (shapes.split_linked cut right.old.node (N.body node.old.body)) node.old node.new }
     ensures right { HasBecome arena.now pass.new (right_part cut (N.body node.old.body)) right.old right.new }
-    ensures kept { KeepsBesides (splits_right arena.now node.old right.old cut) pass.old pass.new }
-    ensures still { StayCurrentBesides arena.now (splits_right arena.now node.old right.old cut) pass.old pass.new }
 {
     sound_law::<Link>();
     link_steps_law();
@@ -72,19 +65,19 @@ pub fn grow_right<N: Linked>(
     requires apart { left.old.node ≢ right.old.node }
     requires full { IsTrue (is_full N.layout (N.body node.old.body)) }
     requires cut { CanSplitAt (N.body node.old.body) cut }
-    requires grows { IsTrue (N.grows_at (content_of (N.body node.old.body))) × IsTrue (N.can_grow_at (content_of (N.body node.old.body)) cut) }
+    requires grows { IsTrue (N.grows_at (content_of (N.body node.old.body)))
+        × IsTrue (N.can_grow_at (content_of (N.body node.old.body)) cut) }
     requires level { (N.body node.old.body).level < 4294967295 }
     ensures pass { IsPassOf arena.now pass.new }
     ensures caller { pass.new.caller ≡ pass.old.caller }
-    ensures shaped { Adds (Shape pass.old.caller (grows_right arena.now node.old left.old right.old cut)) pass.old pass.new }
-    ensures hand { hand_of pass.new ≡ hand_of pass.old }
-    ensures mine { mine_of pass.new ≡ Shape pass.old.caller (grows_right arena.now node.old left.old right.old cut) ∷ mine_of pass.old }
-    ensures node { HasBecome arena.now pass.new (shapes.grown_higher N.branch_kind cut left.old.node right.old.node (N.body node.old.body)) node.old node.new }
-    ensures left { HasBecome arena.now pass.new (shapes.split_linked cut right.old.node (N.body node.old.body)) left.old left.new }
-    ensures right { HasBecome arena.now pass.new (with_link None (right_part cut (N.body node.old.body))) right.old right.new }
+    ensures shaped { HasShaped arena.now (grows_right arena.now node.old left.old right.old cut) pass.old pass.new }
+    ensures node { HasBecome arena.now pass.new
+        (shapes.grown_higher N.branch_kind cut left.old.node right.old.node (N.body node.old.body)) node.old node.new }
+    ensures left { HasBecome arena.now pass.new
+        (shapes.split_linked cut right.old.node (N.body node.old.body)) left.old left.new }
+    ensures right { HasBecome arena.now pass.new
+        (with_link None (right_part cut (N.body node.old.body))) right.old right.new }
     ensures led { IsLedTo arena.now pass.new left.old.node × IsLedTo arena.now pass.new right.old.node }
-    ensures kept { KeepsBesides (grows_right arena.now node.old left.old right.old cut) pass.old pass.new }
-    ensures still { StayCurrentBesides arena.now (grows_right arena.now node.old left.old right.old cut) pass.old pass.new }
 {
     sound_law::<Link>();
     link_asks_law();
@@ -115,16 +108,12 @@ pub fn attach<N: Linked>(
     requires branch { IsTrue (is_branch (N.body node.old.body)) }
     requires cut { IsCut (N.body node.old.body) cut }
     requires adopts { IsTrue (N.can_adopt_at (content_of (N.body node.old.body)) cut) }
-    requires under { shapes.StandsUnder (graph_after (seen_of pass.old)) (frame_after (blank_of (sort_of N.layout N.ranged)) (seen_of pass.old)) id (N.body node.old.body).level cut }
+    requires under { StandsUnderAt arena.now pass.old id (N.body node.old.body).level cut }
     ensures pass { IsPassOf arena.now pass.new }
     ensures caller { pass.new.caller ≡ pass.old.caller }
-    ensures shaped { Adds (Shape pass.old.caller (attaches_to arena.now node.old id cut)) pass.old pass.new }
-    ensures hand { hand_of pass.new ≡ hand_of pass.old }
-    ensures mine { mine_of pass.new ≡ Shape pass.old.caller (attaches_to arena.now node.old id cut) ∷ mine_of pass.old }
+    ensures shaped { HasShaped arena.now (attaches_to arena.now node.old id cut) pass.old pass.new }
     ensures node { HasBecome arena.now pass.new (adopted cut id (N.body node.old.body)) node.old node.new }
     ensures led { IsLedTo arena.now pass.new id }
-    ensures kept { KeepsBesides (attaches_to arena.now node.old id cut) pass.old pass.new }
-    ensures still { StayCurrentBesides arena.now (attaches_to arena.now node.old id cut) pass.old pass.new }
 {
     sound_law::<Link>();
     link_asks_law();

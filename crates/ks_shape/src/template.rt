@@ -1,4 +1,5 @@
-//! What a technique of concurrency offers: five calls, each of which stands once in the one history of all calls.
+//! What a technique of concurrency offers: five calls, each of which stands once in the one history of all calls; and such
+//! as wait for nobody, which stand there once, or are put off.
 ghost use Rattle.std.specs.Prelude.{◌≡◌};
 ghost use Rattle.ks_history.specs.declared.Op.TheVariants.{Add, Del, Get, Put, Swap};
 ghost use Rattle.ks_history.specs.Map.{told};
@@ -6,8 +7,9 @@ ghost use Rattle.ks_history.specs.Done.{Template as Technique};
 ghost use Rattle.ks_arena.specs.Sound.{sort_of, blank_of};
 ghost use Rattle.ks_shape.specs.Answers.{number_in, reply_in};
 ghost use Rattle.ks_shape.specs.Idle.{IsDone, IsIdle, Site};
+ghost use Rattle.ks_shape.specs.Tries.{HasTried};
 
-use crate::answers::{Full, Numbered};
+use crate::answers::{Full, Later, Numbered};
 use ks_arena::{Arena, Pass};
 use ks_flow::Discipline;
 use ks_gate::Gate;
@@ -40,9 +42,10 @@ pub trait Ruled: Send + Sync {
     ghost technique: { Technique };
 }
 
-/// A technique by which callers come from node to node, over one type of nodes. Each call waits for nodes that others
-/// hold. Its pass holds no node before it, and none after it. The call stands once in the one history of all calls, after
-/// all that its pass had seen, and has its number there; the answer tells what the map held at the place just before it.
+/// A technique by which callers come from node to node, over one type of nodes. A call waits for nodes that others hold,
+/// unless its name begins with `try`. Its pass holds no node before it, and none after it. The call stands once in the one
+/// history of all calls, after all that its pass had seen, and has its number there; the answer tells what the map held at
+/// the place just before it. A call that waits for nobody may be put off: then it does not stand there.
 pub trait Template<N: Node, A: Shelf>: Ruled {
     /// The frame of a blank node is as the rule asks. It computes nothing.
     fn fits()
@@ -132,4 +135,61 @@ pub trait Template<N: Node, A: Shelf>: Ruled {
         ensures caller { pass.new.caller ≡ pass.old.caller }
         ensures done { IsDone N.layout Self.technique (A.site arena.now) (Del place)
             pass.old pass.new (told result.found) result.number };
+
+    /// Answers the value at a place, and waits for nobody.
+    ///
+    /// # Errors
+    ///
+    /// `Busy` names a node on the way of the place, and the other caller that held it; `Moved` a node that was on the way,
+    /// until another caller changed it, and comes by giving up alone; `Far` comes only where the call took as many nodes as
+    /// there are while another caller changed some, and never along links. Then the call is none of the history: it
+    /// changed nothing in the map, and has no number.
+    fn try_get<G: Gate>(
+        arena: &A,
+        pass: &mut Pass<N, Self::Rule>,
+        gate: &G,
+        place: u64,
+    ) -> Result<Numbered, Later>
+        requires pass { IsIdle (A.site arena.now) pass.old }
+        ensures pass { IsIdle (A.site arena.now) pass.new }
+        ensures caller { pass.new.caller ≡ pass.old.caller }
+        ensures tried { HasTried N.layout Self.technique (A.site arena.now) (Get place)
+            pass.old pass.new result };
+
+    /// Sets the value at a place to `new` where `old` stands, as `swap`, and waits for nobody.
+    ///
+    /// # Errors
+    ///
+    /// As for `try_get`.
+    fn try_swap<G: Gate>(
+        arena: &A,
+        pass: &mut Pass<N, Self::Rule>,
+        gate: &G,
+        place: u64,
+        old: u128,
+        new: u128,
+    ) -> Result<Numbered, Later>
+        requires pass { IsIdle (A.site arena.now) pass.old }
+        ensures pass { IsIdle (A.site arena.now) pass.new }
+        ensures caller { pass.new.caller ≡ pass.old.caller }
+        ensures tried { HasTried N.layout Self.technique (A.site arena.now) (Swap place old new)
+            pass.old pass.new result };
+
+    /// Deletes what stands at a place, and answers it; it waits for nobody. Once the call is decided, a node that another
+    /// holds ends its merging, and no more.
+    ///
+    /// # Errors
+    ///
+    /// As for `try_get`.
+    fn try_del<G: Gate>(
+        arena: &A,
+        pass: &mut Pass<N, Self::Rule>,
+        gate: &G,
+        place: u64,
+    ) -> Result<Numbered, Later>
+        requires pass { IsIdle (A.site arena.now) pass.old }
+        ensures pass { IsIdle (A.site arena.now) pass.new }
+        ensures caller { pass.new.caller ≡ pass.old.caller }
+        ensures tried { HasTried N.layout Self.technique (A.site arena.now) (Del place)
+            pass.old pass.new result };
 }

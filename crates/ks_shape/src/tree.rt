@@ -1,16 +1,14 @@
 //! Shapes of trees. Each asks that the pass holds its nodes with the bodies of the graph, and tells what they became.
-ghost use Rattle.std.specs.Prelude.{◌≡◌, ◌≢◌, ℕ, ◌<◌, ◌≤◌, IsTrue, Some, None, ◌∷◌, true, false};
+ghost use Rattle.std.specs.Prelude.{◌≡◌, ◌≢◌, ℕ, ◌<◌, ◌≤◌, IsTrue, Some, None, true, false};
 ghost use Rattle.ks_keysets.specs.Record.{LeadsTo};
-ghost use Rattle.ks_history.specs.declared.Event.TheVariants.{Shape};
 ghost use Rattle.ks_node.specs.Body.{content_of, is_branch, chained_of, only_child_of, right_child};
 ghost use Rattle.ks_node.specs.Edges.{record_of};
 ghost use Rattle.ks_node.specs.Room.{is_full, fit_together};
 ghost use Rattle.ks_node.specs.Effect.{split_left, split_right, grown, adopted, absorbed, forgot, collapsed};
 ghost use Rattle.ks_node.specs.Asks.{CanSplitAt};
 ghost use Rattle.ks_bodies.specs.Shapes as shapes;
-ghost use Rattle.ks_arena.specs.Clauses.{hand_of, mine_of};
-ghost use Rattle.ks_arena.specs.Of.{IsInside, Adds, KeepsBesides, IsPassOf, StayCurrentBesides};
-ghost use Rattle.ks_shape.specs.Of.{IsLiveInHand, IsFreeInHand, HasBecome, HasBecomeFree, splits_own, splits_under, grows_to, HasPlaces, absorbs_own, absorbs_under, collapses_to};
+ghost use Rattle.ks_arena.specs.Of.{IsInside, IsPassOf, HasShaped};
+ghost use Rattle.ks_shape.specs.Of.{IsLiveInHand, IsFreeInHand, LeadsInto, HasBecome, HasBecomeFree, splits_own, splits_under, grows_to, HasPlaces, absorbs_own, absorbs_under, collapses_to};
 
 use ks_arena::laws::sound_law;
 use ks_arena::{Arena, Held, Pass};
@@ -34,15 +32,13 @@ pub fn split_own<N: Unlinked>(
     requires adopts { IsTrue (N.can_adopt_at (content_of (split_left cut (N.body node.old.body))) cut) }
     ensures pass { IsPassOf arena.now pass.new }
     ensures caller { pass.new.caller ≡ pass.old.caller }
-    ensures shaped { Adds (Shape pass.old.caller (splits_own arena.now node.old right.old cut)) pass.old pass.new }
-    ensures hand { hand_of pass.new ≡ hand_of pass.old }
-    ensures mine { mine_of pass.new ≡ Shape pass.old.caller (splits_own arena.now node.old right.old cut) ∷ mine_of pass.old }
-    ensures node { HasBecome arena.now pass.new (shapes.split_on cut right.old.node (N.body node.old.body)) node.old node.new }
+    ensures shaped { HasShaped arena.now (splits_own arena.now node.old right.old cut) pass.old pass.new }
+    ensures node { HasBecome arena.now pass.new
+        (shapes.split_on cut right.old.node (N.body node.old.body)) node.old node.new }
     ensures right { HasBecome arena.now pass.new (split_right cut (N.body node.old.body)) right.old right.new }
     ensures parts { (p : ℕ) → IsInside pass.old node.old.node p →
-        IsInside pass.new node.old.node p × (cut ≤ p → LeadsTo (record_of (shapes.split_on cut right.old.node (N.body node.old.body))) p right.old.node × IsInside pass.new right.old.node p) }
-    ensures kept { KeepsBesides (splits_own arena.now node.old right.old cut) pass.old pass.new }
-    ensures still { StayCurrentBesides arena.now (splits_own arena.now node.old right.old cut) pass.old pass.new }
+        IsInside pass.new node.old.node p × (cut ≤ p →
+            LeadsInto pass.new (shapes.split_on cut right.old.node (N.body node.old.body)) p right.old.node) }
 {
     sound_law::<Tree>();
     tree_asks_law();
@@ -80,17 +76,14 @@ pub fn split_under<N: Unlinked>(
     requires adopts { IsTrue (N.can_adopt_at (content_of (N.body parent.old.body)) cut) }
     ensures pass { IsPassOf arena.now pass.new }
     ensures caller { pass.new.caller ≡ pass.old.caller }
-    ensures shaped { Adds (Shape pass.old.caller (splits_under arena.now parent.old node.old right.old cut)) pass.old pass.new }
-    ensures hand { hand_of pass.new ≡ hand_of pass.old }
-    ensures mine { mine_of pass.new ≡ Shape pass.old.caller (splits_under arena.now parent.old node.old right.old cut) ∷ mine_of pass.old }
-    ensures parent { HasBecome arena.now pass.new (adopted cut right.old.node (N.body parent.old.body)) parent.old parent.new }
+    ensures shaped { HasShaped arena.now (splits_under arena.now parent.old node.old right.old cut) pass.old pass.new }
+    ensures parent { HasBecome arena.now pass.new
+        (adopted cut right.old.node (N.body parent.old.body)) parent.old parent.new }
     ensures node { HasBecome arena.now pass.new (split_left cut (N.body node.old.body)) node.old node.new }
     ensures right { HasBecome arena.now pass.new (split_right cut (N.body node.old.body)) right.old right.new }
     ensures parts { (p : ℕ) → IsInside pass.old node.old.node p →
-        (p < cut → LeadsTo (record_of (adopted cut right.old.node (N.body parent.old.body))) p node.old.node × IsInside pass.new node.old.node p)
-        × (cut ≤ p → LeadsTo (record_of (adopted cut right.old.node (N.body parent.old.body))) p right.old.node × IsInside pass.new right.old.node p) }
-    ensures kept { KeepsBesides (splits_under arena.now parent.old node.old right.old cut) pass.old pass.new }
-    ensures still { StayCurrentBesides arena.now (splits_under arena.now parent.old node.old right.old cut) pass.old pass.new }
+        (p < cut → LeadsInto pass.new (adopted cut right.old.node (N.body parent.old.body)) p node.old.node)
+        × (cut ≤ p → LeadsInto pass.new (adopted cut right.old.node (N.body parent.old.body)) p right.old.node) }
 {
     sound_law::<Tree>();
     tree_asks_law();
@@ -124,20 +117,18 @@ pub fn grow<N: Unlinked>(
     requires apart { left.old.node ≢ right.old.node }
     requires full { IsTrue (is_full N.layout (N.body node.old.body)) }
     requires cut { IsInside pass.old node.old.node cut × CanSplitAt (N.body node.old.body) cut }
-    requires grows { IsTrue (N.grows_at (content_of (N.body node.old.body))) × IsTrue (N.can_grow_at (content_of (N.body node.old.body)) cut) }
+    requires grows { IsTrue (N.grows_at (content_of (N.body node.old.body)))
+        × IsTrue (N.can_grow_at (content_of (N.body node.old.body)) cut) }
     ensures pass { IsPassOf arena.now pass.new }
     ensures caller { pass.new.caller ≡ pass.old.caller }
-    ensures shaped { Adds (Shape pass.old.caller (grows_to arena.now node.old left.old right.old cut)) pass.old pass.new }
-    ensures hand { hand_of pass.new ≡ hand_of pass.old }
-    ensures mine { mine_of pass.new ≡ Shape pass.old.caller (grows_to arena.now node.old left.old right.old cut) ∷ mine_of pass.old }
-    ensures node { HasBecome arena.now pass.new (grown N.branch_kind cut left.old.node right.old.node (N.body node.old.body)) node.old node.new }
+    ensures shaped { HasShaped arena.now (grows_to arena.now node.old left.old right.old cut) pass.old pass.new }
+    ensures node { HasBecome arena.now pass.new
+        (grown N.branch_kind cut left.old.node right.old.node (N.body node.old.body)) node.old node.new }
     ensures left { HasBecome arena.now pass.new (split_left cut (N.body node.old.body)) left.old left.new }
     ensures right { HasBecome arena.now pass.new (split_right cut (N.body node.old.body)) right.old right.new }
-    ensures parts { (p : ℕ) → IsInside pass.old node.old.node p →
-        (p < cut → LeadsTo (record_of (grown N.branch_kind cut left.old.node right.old.node (N.body node.old.body))) p left.old.node × IsInside pass.new left.old.node p)
-        × (cut ≤ p → LeadsTo (record_of (grown N.branch_kind cut left.old.node right.old.node (N.body node.old.body))) p right.old.node × IsInside pass.new right.old.node p) }
-    ensures kept { KeepsBesides (grows_to arena.now node.old left.old right.old cut) pass.old pass.new }
-    ensures still { StayCurrentBesides arena.now (grows_to arena.now node.old left.old right.old cut) pass.old pass.new }
+    ensures parts { let branch = grown N.branch_kind cut left.old.node right.old.node (N.body node.old.body) in
+        (p : ℕ) → IsInside pass.old node.old.node p → (p < cut → LeadsInto pass.new branch p left.old.node)
+        × (cut ≤ p → LeadsInto pass.new branch p right.old.node) }
 {
     sound_law::<Tree>();
     tree_asks_law();
@@ -169,13 +160,10 @@ pub fn absorb_own<N: Unlinked>(
     requires fits { IsTrue (fit_together N.layout (N.body node.old.body) (N.body right.old.body)) }
     ensures pass { IsPassOf arena.now pass.new }
     ensures caller { pass.new.caller ≡ pass.old.caller }
-    ensures shaped { Adds (Shape pass.old.caller (absorbs_own arena.now node.old right.old)) pass.old pass.new }
-    ensures hand { hand_of pass.new ≡ hand_of pass.old }
-    ensures mine { mine_of pass.new ≡ Shape pass.old.caller (absorbs_own arena.now node.old right.old) ∷ mine_of pass.old }
-    ensures node { HasBecome arena.now pass.new (absorbed (N.body node.old.body) (N.body right.old.body)) node.old node.new }
+    ensures shaped { HasShaped arena.now (absorbs_own arena.now node.old right.old) pass.old pass.new }
+    ensures node { HasBecome arena.now pass.new
+        (absorbed (N.body node.old.body) (N.body right.old.body)) node.old node.new }
     ensures right { HasBecomeFree arena.now pass.new right.old right.new }
-    ensures kept { KeepsBesides (absorbs_own arena.now node.old right.old) pass.old pass.new }
-    ensures still { StayCurrentBesides arena.now (absorbs_own arena.now node.old right.old) pass.old pass.new }
     ensures places { HasPlaces node.old.node node.old.node pass.old pass.new }
 {
     sound_law::<Tree>();
@@ -204,22 +192,23 @@ pub fn absorb_under<N: Unlinked>(
     requires node { IsLiveInHand arena.now pass.old node.old }
     requires right { IsLiveInHand arena.now pass.old right.old }
     requires branch { IsTrue (is_branch (N.body parent.old.body)) }
-    requires leads { (place : ℕ) × LeadsTo (record_of (N.body parent.old.body)) place node.old.node × (right_child (N.body parent.old.body) place ≡ Some right.old.node) }
+    requires leads { (place : ℕ) × LeadsTo (record_of (N.body parent.old.body)) place node.old.node
+        × (right_child (N.body parent.old.body) place ≡ Some right.old.node) }
     requires unchained { chained_of (N.body node.old.body) ≡ None }
-    requires apart { (parent.old.node ≢ node.old.node) × (parent.old.node ≢ right.old.node) × (node.old.node ≢ right.old.node) }
+    requires apart { (parent.old.node ≢ node.old.node) × (parent.old.node ≢ right.old.node)
+        × (node.old.node ≢ right.old.node) }
     requires fits { IsTrue (fit_together N.layout (N.body node.old.body) (N.body right.old.body)) }
     ensures pass { IsPassOf arena.now pass.new }
     ensures caller { pass.new.caller ≡ pass.old.caller }
-    ensures shaped { Adds (Shape pass.old.caller (absorbs_under arena.now parent.old node.old right.old)) pass.old pass.new }
-    ensures hand { hand_of pass.new ≡ hand_of pass.old }
-    ensures mine { mine_of pass.new ≡ Shape pass.old.caller (absorbs_under arena.now parent.old node.old right.old) ∷ mine_of pass.old }
-    ensures parent { HasBecome arena.now pass.new (forgot right.old.node (N.body parent.old.body)) parent.old parent.new }
-    ensures node { HasBecome arena.now pass.new (absorbed (N.body node.old.body) (N.body right.old.body)) node.old node.new }
+    ensures shaped { HasShaped arena.now (absorbs_under arena.now parent.old node.old right.old) pass.old pass.new }
+    ensures parent { HasBecome arena.now pass.new
+        (forgot right.old.node (N.body parent.old.body)) parent.old parent.new }
+    ensures node { HasBecome arena.now pass.new
+        (absorbed (N.body node.old.body) (N.body right.old.body)) node.old node.new }
     ensures right { HasBecomeFree arena.now pass.new right.old right.new }
-    ensures kept { KeepsBesides (absorbs_under arena.now parent.old node.old right.old) pass.old pass.new }
-    ensures still { StayCurrentBesides arena.now (absorbs_under arena.now parent.old node.old right.old) pass.old pass.new }
     ensures places { HasPlaces node.old.node node.old.node pass.old pass.new }
-    ensures leads { (p : ℕ) → IsInside pass.old node.old.node p → LeadsTo (record_of (forgot right.old.node (N.body parent.old.body))) p node.old.node }
+    ensures leads { (p : ℕ) → IsInside pass.old node.old.node p →
+        LeadsTo (record_of (forgot right.old.node (N.body parent.old.body))) p node.old.node }
 {
     sound_law::<Tree>();
     tree_asks_law();
@@ -251,13 +240,10 @@ pub fn collapse<N: Unlinked>(
     requires apart { node.old.node ≢ child.old.node }
     ensures pass { IsPassOf arena.now pass.new }
     ensures caller { pass.new.caller ≡ pass.old.caller }
-    ensures shaped { Adds (Shape pass.old.caller (collapses_to arena.now node.old child.old)) pass.old pass.new }
-    ensures hand { hand_of pass.new ≡ hand_of pass.old }
-    ensures mine { mine_of pass.new ≡ Shape pass.old.caller (collapses_to arena.now node.old child.old) ∷ mine_of pass.old }
-    ensures node { HasBecome arena.now pass.new (collapsed (N.body node.old.body) (N.body child.old.body)) node.old node.new }
+    ensures shaped { HasShaped arena.now (collapses_to arena.now node.old child.old) pass.old pass.new }
+    ensures node { HasBecome arena.now pass.new
+        (collapsed (N.body node.old.body) (N.body child.old.body)) node.old node.new }
     ensures child { HasBecomeFree arena.now pass.new child.old child.new }
-    ensures kept { KeepsBesides (collapses_to arena.now node.old child.old) pass.old pass.new }
-    ensures still { StayCurrentBesides arena.now (collapses_to arena.now node.old child.old) pass.old pass.new }
     ensures places { HasPlaces child.old.node node.old.node pass.old pass.new }
 {
     sound_law::<Tree>();

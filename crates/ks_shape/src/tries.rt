@@ -9,18 +9,28 @@ ghost use Rattle.ks_history.specs.Done.{Template};
 ghost use Rattle.ks_shape.specs.declared.answers.Numbered.{Numbered};
 ghost use Rattle.ks_shape.specs.declared.answers.Later.{Later};
 ghost use Rattle.ks_shape.specs.declared.answers.PutLater.{PutLater};
-ghost use Rattle.ks_shape.specs.Tries.{IsPutOff, Tried, TriedPut, IsDoneIn};
+ghost use Rattle.ks_shape.specs.Tries.{IsPutOff, Tried, TriedPut, IsDoneIn, MayTell, PutMayTell};
 
 use ks_history::alone_law;
 
 /// Whoever acts alone, from a moment at which no other caller holds a node, is never put off: its call answers `Ok`; a put
-/// or an add `Ok`, or `Full` as due. It computes nothing.
+/// or an add `Ok`, or `Full` as due. By giving up alone a node is told to have moved, and along links never that the way is
+/// long. It computes nothing.
 pub fn tries_law()
-    ensures never { (template : Template) (n c : ℕ) (op : Operation) (s0 s1 : List Happening) (later : Later) → ActsAlone c s0 s1 → HoldsAlone c s0 → ¬ IsPutOff template n c op s0 s1 later }
-    ensures ok { (layout : Layout) (template : Template) (n c : ℕ) (op : Operation) (s0 s1 : List Happening) (answer : Result Numbered Later) → ActsAlone c s0 s1 → HoldsAlone c s0 →
+    ensures never { (template : Template) (n c : ℕ) (op : Operation) (s0 s1 : List Happening) (later : Later) →
+        ActsAlone c s0 s1 → HoldsAlone c s0 → ¬ IsPutOff template n c op s0 s1 later }
+    ensures ok { (layout : Layout) (template : Template) (n c : ℕ) (op : Operation) (s0 s1 : List Happening)
+        (answer : Result Numbered Later) → ActsAlone c s0 s1 → HoldsAlone c s0 →
         Tried layout template n c op s0 s1 answer → IsTrue (is_ok answer) }
-    ensures put { (layout : Layout) (template : Template) (n c : ℕ) (op : Operation) (s0 s1 : List Happening) (answer : Result Numbered PutLater) → ActsAlone c s0 s1 → HoldsAlone c s0 →
+    ensures put { (layout : Layout) (template : Template) (n c : ℕ) (op : Operation) (s0 s1 : List Happening)
+        (answer : Result Numbered PutLater) → ActsAlone c s0 s1 → HoldsAlone c s0 →
         TriedPut layout template n c op s0 s1 answer → IsDoneIn answer }
+    ensures told { (layout : Layout) (template : Template) (n c : ℕ) (op : Operation)
+        (s0 s1 : List Happening) (answer : Result Numbered Later) →
+        Tried layout template n c op s0 s1 answer → MayTell template answer }
+    ensures put_told { (layout : Layout) (template : Template) (n c : ℕ) (op : Operation)
+        (s0 s1 : List Happening) (answer : Result Numbered PutLater) →
+        TriedPut layout template n c op s0 s1 answer → PutMayTell template answer }
 {
     alone_law();
 }

@@ -1,7 +1,9 @@
 pub mod Keeping
+pub mod Trio
 pub mod Standing
 pub mod Beside
 pub mod Fresh
 pub mod Steps
 pub mod Going
 pub mod Onward
+pub mod Down

@@ -1,5 +1,5 @@
 -- What merging asks and tells, said of an arena and of a pass before and after.
-use Rattle.std.specs.Prelude.{ℕ, Bool, List, Option}
+use Rattle.std.specs.Prelude.{◌≡◌, ℕ, Bool, List, [], Option, Some, None}
 use Rattle.ks_keysets.specs.Keyset.{InKeyset}
 use Rattle.ks_node.specs.declared.node.Node.{Ghosts as NodeGhosts}
 use Rattle.ks_node.below.ks_places.specs.declared.Placing.{Ghosts as PlacingGhosts}
@@ -14,11 +14,11 @@ use Rattle.ks_arena.specs.declared.arena.Arena.{Arena}
 use Rattle.ks_arena.specs.declared.held.Pass.{Pass}
 use Rattle.ks_arena.specs.declared.held.Held.{Held as Hand}
 use Rattle.ks_arena.specs.Sound.{blank_of, sort_of}
-use Rattle.ks_arena.specs.Clauses.{HasTaken, seen_of}
+use Rattle.ks_arena.specs.Clauses.{HasLooked, HasTaken, hand_of, seen_of}
 use Rattle.ks_put.specs.declared.path.Path.{Path}
 use Rattle.ks_tidy.specs.declared.step.Step.{Step}
 use Rattle.ks_tidy.specs.Frees.{Counts, Frees, Undisturbed}
-use Rattle.ks_tidy.specs.Pair.{DidStep, FitsAlone, IsNoSole, IsPair}
+use Rattle.ks_tidy.specs.Pair.{DidStep, FitsAlone, IsNoSole, IsPair, IsTrio}
 
 module _ {N D : Type 0} where
   -- from p to q the Shapes of the caller made so many nodes free, and it claimed none and made no call
@@ -42,6 +42,15 @@ module _ {N D P : Type 0} {n : NodeGhosts N P} {q : PlacingGhosts P} {d : Discip
   abbrev pub IsPairOf : Arena N D P n q d → ℕ → ℕ → Pass N D → Path N → Type 0
   IsPairOf a c place p path = IsPair (sort_of n.layout n.ranged) n.body c place (seen_of p) path
 
+  -- and it holds this live node beside
+  abbrev pub IsTrioOf : Arena N D P n q d → ℕ → ℕ → Pass N D → Path N → Hand N → Type 0
+  IsTrioOf a c place p path right = IsTrio (sort_of n.layout n.ranged) n.body c place (seen_of p) path right
+
+  -- the search stands at such a path; or the caller holds nothing
+  abbrev pub StandsOrLeft : Arena N D P n q d → ℕ → ℕ → Pass N D → Option (Path N) → Type 0
+  StandsOrLeft a c place p None = hand_of p ≡ []
+  StandsOrLeft a c place p (Some path) = IsPairOf a c place p path
+
   -- if this node above is the root, it is no branch over one child
   abbrev pub HasNoSole : Arena N D P n q d → Option (Hand N) → Type 0
   HasNoSole a parent = IsNoSole (sort_of n.layout n.ranged) n.body parent
@@ -58,6 +67,11 @@ module _ {N D P : Type 0} {n : NodeGhosts N P} {q : PlacingGhosts P} {d : Discip
   -- the caller took node i, and has it in hand
   abbrev pub HasTakenNode : Arena N D P n q d → ℕ → Pass N D → Pass N D → Hand N → Type 0
   HasTakenNode a i p p' x = HasTaken (sort_of n.layout n.ranged) n.body p.caller i (seen_of p) (seen_of p') x
+
+  -- the caller took node i, and has it in hand; or another held it, and the caller did nothing
+  abbrev pub HasTakenIfIdle : Arena N D P n q d → ℕ → Pass N D → Pass N D → Option (Hand N) → Type 0
+  HasTakenIfIdle a i p p' None = HasLooked p.caller (seen_of p) (seen_of p')
+  HasTakenIfIdle a i p p' (Some x) = HasTakenNode a i p p' x
 
   -- the node whose keyset holds the place is not low, or fits with no right neighbour
   abbrev pub IsTidyOf : Arena N D P n q d → Pass N D → ℕ → Type 0

@@ -1,15 +1,17 @@
 -- How a caller stands that merges nodes, and what a try to merge comes to.
-use Rattle.std.specs.Prelude.{◌≡◌, ◌⊎◌, ℕ, Bool, IsTrue, List, Option, Some, None}
+use Rattle.std.specs.Prelude.{◌≡◌, ◌⊎◌, ℕ, Bool, true, IsTrue, List, ◌∷◌, Option, Some, None}
+use Rattle.ks_keysets.specs.Keyset.{InInset}
 use Rattle.ks_keysets.specs.Layout.{FitsNoRight}
 use Rattle.ks_history.specs.declared.Event.{Event}
 use Rattle.ks_history.specs.Alone.{ActsAlone}
-use Rattle.ks_history.specs.Trace.{graph_after, frame_after}
+use Rattle.ks_history.specs.Trace.{hand, graph_after, frame_after}
 use Rattle.ks_node.specs.Body.{Body, only_child_of}
 use Rattle.ks_node.specs.Room.{is_low}
 use Rattle.ks_arena.specs.declared.held.Held.{Held as Hand}
 use Rattle.ks_arena.specs.Sound.{Sort, blank_of}
+use Rattle.ks_arena.specs.Clauses.{Matches}
 use Rattle.ks_put.specs.declared.path.Path.{Path}
-use Rattle.ks_put.specs.OnPath.{IsOnPath}
+use Rattle.ks_put.specs.OnPath.{IsOnPath, IsUnder, numbers}
 use Rattle.ks_tidy.specs.declared.step.Step.{Step}
 use Rattle.ks_tidy.specs.declared.step.Step.TheVariants.{Freed, Rests}
 use Rattle.ks_tidy.specs.Frees.{Frees}
@@ -19,11 +21,28 @@ abbrev pub path_in : {N : Type 0} → Step N → Path N
 path_in (Freed x) = x
 path_in (Rests x) = x
 
+-- how many nodes it made free
+abbrev pub count_in : {N : Type 0} → Step N → ℕ
+count_in (Freed x) = 1
+count_in (Rests x) = 0
+
 module _ {N : Type 0} (sort : Sort) (shows : N → Body) where
   -- after h, c, which searches for the place, holds a node on the way, and the node that leads to it unless it is the root
   pub record IsPair (c place : ℕ) (h : List Event) (x : Path N) : Type 0 where
     pub path : IsOnPath sort shows c place h x
     pub rooted : x.parent ≡ None → x.node.node ≡ 0
+
+  -- after h, c, which searches for the place, holds the node of a path, its parent unless it is the root, and one live node
+  -- beside
+  pub record IsTrio (c place : ℕ) (h : List Event) (x : Path N) (right : Hand N) : Type 0 where
+    pub hands : hand c h ≡ right.node ∷ x.node.node ∷ numbers x.parent
+    pub live : x.node.live ≡ true
+    pub matches : Matches sort shows h x.node
+    pub inside : InInset (graph_after h) x.node.node place
+    pub under : IsUnder sort shows place x.node h x.parent
+    pub rooted : x.parent ≡ None → x.node.node ≡ 0
+    pub right_live : right.live ≡ true
+    pub right_matches : Matches sort shows h right
 
   -- if this node above is the root, it is no branch all of whose edges lead to one child
   abbrev pub IsNoSole : Option (Hand N) → Type 0

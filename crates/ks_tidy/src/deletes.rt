@@ -2,12 +2,10 @@
 ghost use Rattle.std.specs.Prelude.{◌≡◌, ◌≢◌, ◌≤◌, length, None, true};
 ghost use Rattle.ks_history.specs.declared.Op.TheVariants.{Del};
 ghost use Rattle.ks_history.specs.Map.{told};
-ghost use Rattle.ks_history.specs.Trace.{◌⊑◌};
 ghost use Rattle.ks_node.specs.declared.start.Next.TheVariants.{Here};
 ghost use Rattle.ks_node.specs.Body.{next_at};
-ghost use Rattle.ks_arena.specs.Clauses.{hand_of, seen_of};
-ghost use Rattle.ks_arena.specs.Of.{Holds, IsCurrent, IsLiveAndCurrent, StayCurrentBut};
-ghost use Rattle.ks_arena.specs.Of.{IsEmptyPassOf, IsInside, IsPassOf, WasAlone};
+ghost use Rattle.ks_arena.specs.Clauses.{hand_of};
+ghost use Rattle.ks_arena.specs.Of.{Holds, IsCurrent, IsEmptyPassOf, IsInside, IsLiveAndCurrent, IsPassOf, SeesOn, StayCurrentBut, WasAlone};
 ghost use Rattle.ks_shape.specs.Of.{FinishesAny, SearchEndsAt};
 ghost use Rattle.ks_tidy.specs.Of.{DecidesAny, IsKeptAt, IsPairOf, IsTidyOf};
 
@@ -39,7 +37,7 @@ pub(crate) fn delete<N: Unlinked, G: Gate>(
     requires ends { next_at (N.body held.old.body) place ≡ Here }
     ensures pass { IsPassOf arena.now pass.new }
     ensures caller { pass.new.caller ≡ pass.old.caller }
-    ensures begins { seen_of pass.old ⊑ seen_of pass.new }
+    ensures begins { SeesOn pass.old pass.new }
     ensures hand { hand_of pass.new ≡ hand_of pass.old }
     ensures node { (held.new.node ≡ held.old.node) × (held.new.live ≡ true) }
     ensures body { IsCurrent arena.now pass.new held.new }
@@ -71,7 +69,7 @@ pub fn del_on<N: Unlinked, R: Wait, G: Gate>(
     requires ends { next_at (N.body path.node.body) place ≡ Here }
     ensures pass { IsEmptyPassOf arena.now pass.new }
     ensures caller { pass.new.caller ≡ pass.old.caller }
-    ensures begins { seen_of pass.old ⊑ seen_of pass.new }
+    ensures begins { SeesOn pass.old pass.new }
     ensures done { FinishesAny arena.now (Del place) pass.old pass.new (told result.found) result.number }
     ensures tidy { result.found ≢ None → WasAlone pass.old pass.new → IsTidyOf arena.now pass.new place }
 {
@@ -101,7 +99,7 @@ pub fn del_alone<N: Unlinked, R: Wait, G: Gate>(
     requires ends { SearchEndsAt arena.now place pass.old held }
     ensures pass { IsEmptyPassOf arena.now pass.new }
     ensures caller { pass.new.caller ≡ pass.old.caller }
-    ensures begins { seen_of pass.old ⊑ seen_of pass.new }
+    ensures begins { SeesOn pass.old pass.new }
     ensures done { FinishesAny arena.now (Del place) pass.old pass.new (told result.found) result.number }
     ensures tidy { result.found ≢ None → WasAlone pass.old pass.new → IsTidyOf arena.now pass.new place }
 {

@@ -6,16 +6,16 @@ ghost use Rattle.ks_arena.specs.Of.{IsPassOf};
 ghost use Rattle.ks_shape.specs.Of.{HasPlaces, IsStretch};
 ghost use Rattle.ks_tidy.specs.Of.{HasNoSole, HasTried, IsPairOf, MakesFree};
 
+use crate::joins::{join_beside, join_own};
+use crate::neighbours::{chained_law, next_law};
 use crate::step::Step;
 use crate::takes::take_led;
 use ks_arena::{Arena, Held, Pass, root_law};
-use ks_bodies::{alone_law, rights_law, tests_law};
 use ks_flow::Tree;
-use ks_flow::laws::tree_facts_law;
 use ks_gate::{Gate, Point};
-use ks_node::{Unlinked, node_law, unlinked_law};
-use ks_put::{Path, keep_left, search_law};
-use ks_shape::{absorb_own, absorb_under, collapse};
+use ks_node::Unlinked;
+use ks_put::{Path, search_law};
+use ks_shape::collapse;
 use std::sync::Wait;
 
 /// The root takes over its only child, which is given free.
@@ -74,21 +74,9 @@ pub(crate) fn merge_own<N: Unlinked, R: Wait, G: Gate>(
     ensures step { HasTried arena.now true pass.old pass.new path result }
 {
     search_law();
-    tree_facts_law();
-    tests_law();
-    alone_law();
-    unlinked_law::<N>();
-    let Path { parent, mut node } = path;
-    node_law(&node.body);
-    let mut next = take_led(rt, arena, pass, gate, &node, target);
-    node_law(&next.body);
-    if node.body.fits(&next.body) {
-        absorb_own(arena, pass, &mut node, &mut next);
-        let path = Path { parent, node };
-        return Step::Freed(keep_left(arena, pass, gate, place, path, next));
-    }
-    let path = Path { parent, node };
-    Step::Rests(keep_left(arena, pass, gate, place, path, next))
+    chained_law(arena, pass, place, &path, target);
+    let next = take_led(rt, arena, pass, gate, &path.node, target);
+    join_own(arena, pass, gate, place, path, next)
 }
 
 /// The node below a branch absorbs the node to which the branch leads next, if both fit. That one is given back, or
@@ -116,28 +104,7 @@ pub(crate) fn merge_beside<N: Unlinked, R: Wait, G: Gate>(
     ensures step { HasTried arena.now true pass.old pass.new (record { parent = Some parent; node = node }) result }
 {
     search_law();
-    tree_facts_law();
-    tests_law();
-    rights_law();
-    alone_law();
-    unlinked_law::<N>();
-    let mut parent = parent;
-    let mut node = node;
-    node_law(&parent.body);
-    node_law(&node.body);
-    let mut right = take_led(rt, arena, pass, gate, &parent, target);
-    node_law(&right.body);
-    if node.body.fits(&right.body) {
-        absorb_under(arena, pass, &mut parent, &mut node, &mut right);
-        let path = Path {
-            parent: Some(parent),
-            node,
-        };
-        return Step::Freed(keep_left(arena, pass, gate, place, path, right));
-    }
-    let path = Path {
-        parent: Some(parent),
-        node,
-    };
-    Step::Rests(keep_left(arena, pass, gate, place, path, right))
+    next_law(arena, pass, place, &parent, &node, target);
+    let right = take_led(rt, arena, pass, gate, &parent, target);
+    join_beside(arena, pass, gate, place, parent, node, right)
 }

@@ -156,7 +156,7 @@ fn tidy_root<N: Unlinked, R: Wait, G: Gate>(
 }
 
 /// Whether the node is the root, and a branch over one child.
-fn has_sole<N: Node>(parent: &Held<N>) -> bool
+pub(crate) fn has_sole<N: Node>(parent: &Held<N>) -> bool
     ensures root { IsTrue result → parent.now.node ≡ 0 }
     ensures sole { IsTrue result → (m : ℕ) × (only_child_of (N.body parent.now.body) ≡ Some m) }
     ensures none { result ≡ false → parent.now.node ≡ 0 → only_child_of (N.body parent.now.body) ≡ None }

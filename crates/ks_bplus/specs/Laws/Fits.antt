@@ -20,6 +20,8 @@ use Rattle.ks_node.specs.Laws.Starts.{differ, filter_le}
 use Rattle.ks_node.specs.Laws.Keep.{sound_blank, sound_put, sound_del, sound_adopt, sound_left, sound_right, sound_grown, sound_absorb, sound_forget}
 use Rattle.ks_node.specs.Spans.{plain_edges, AreWithin}
 use Rattle.ks_node.specs.Laws.Spans.{begins_start, within_all, edges_are, length_edges}
+use Rattle.ks_bplus.specs.declared.parts.Parts.{Parts}
+use Rattle.ks_bplus.specs.Parts.{is_inner, pairs_of, starts_of, body_of}
 use Rattle.ks_bplus.specs.Bplus.{bplus_body, bplus_content, bplus_can_adopt, bplus_cut, kind_of, Fit}
 
 pub none_left : {X : Type 0} (xs : List X) → length xs ≡ 0 → xs ≡ []
@@ -187,6 +189,9 @@ pub full_is : (low : ℕ) (b : Bool) (ps : List Pair) (ss : List Start) → IsTr
 full_is low true ps ss h = eqb-true (length ss) 16 h
 full_is low false ps ss h = eqb-true (length ps) 16 h
 
+pub full_load : (low : ℕ) (parts : Parts) → IsTrue (is_full bplus_layout (body_of low parts)) → load (body_of low parts) ≡ 16
+full_load low parts h = full_is low (is_inner parts) (pairs_of parts) (starts_of parts) h
+
 pub fit_cuts : {low : ℕ} {b : Bool} {ps : List Pair} {ss : List Start} → Fit low b ps ss → (span : Span) (o : Option Span) →
     load (bplus_body low b ps ss) ≡ 16 → Suits (bplus_body low b ps ss) span → IsGoodCut (bplus_body low b ps ss) span (bplus_cut (bplus_content low b ps ss) o)
 fit_cuts {b = true} {ss = ss} f span o full suits =
@@ -242,25 +247,3 @@ fit_edge_count low b ps ss f = length_edges (bplus_body low b ps ss) f.sound (λ
 
 pub fit_within : (low : ℕ) (b : Bool) (ps : List Pair) (ss : List Start) → Fit low b ps ss → AreWithin 0 top ss
 fit_within low b ps ss f = within_all (bplus_body low b ps ss) f.sound
-
--- where a full node is cut
-
-pub fit_cut_inner : (low : ℕ) (b : Bool) (ps : List Pair) (ss : List Start) → b ≡ true → Fit low b ps ss → IsTrue (is_full bplus_layout (bplus_body low b ps ss)) → (span : Span) →
-    Suits (bplus_body low b ps ss) span → IsGoodCut (bplus_body low b ps ss) span (get_or ss 8 (record { low = 0; node = 0 })).low
-fit_cut_inner low true ps ss e f full span suits = fit_cuts f span None (full_is low true ps ss full) suits
-fit_cut_inner low false ps ss e f full span suits = absurd (differ refl e)
-
-pub fit_cut_leaf : (low : ℕ) (b : Bool) (ps : List Pair) (ss : List Start) → b ≡ false → Fit low b ps ss → IsTrue (is_full bplus_layout (bplus_body low b ps ss)) → (span : Span) →
-    Suits (bplus_body low b ps ss) span → IsGoodCut (bplus_body low b ps ss) span (get_or ps 8 (record { place = 0; value = 0 })).place
-fit_cut_leaf low true ps ss e f full span suits = absurd (differ e refl)
-fit_cut_leaf low false ps ss e f full span suits = fit_cuts f span None (full_is low false ps ss full) suits
-
-pub fit_halves_inner : (low : ℕ) (b : Bool) (ps : List Pair) (ss : List Start) → b ≡ true → Fit low b ps ss → IsTrue (is_full bplus_layout (bplus_body low b ps ss)) →
-    HalvesHaveRoom bplus_layout (get_or ss 8 (record { low = 0; node = 0 })).low (bplus_body low b ps ss)
-fit_halves_inner low true ps ss e f full = fit_halves f (full_is low true ps ss full) None
-fit_halves_inner low false ps ss e f full = absurd (differ refl e)
-
-pub fit_halves_leaf : (low : ℕ) (b : Bool) (ps : List Pair) (ss : List Start) → b ≡ false → Fit low b ps ss → IsTrue (is_full bplus_layout (bplus_body low b ps ss)) →
-    HalvesHaveRoom bplus_layout (get_or ps 8 (record { place = 0; value = 0 })).place (bplus_body low b ps ss)
-fit_halves_leaf low true ps ss e f full = absurd (differ e refl)
-fit_halves_leaf low false ps ss e f full = fit_halves f (full_is low false ps ss full) None

@@ -1,6 +1,6 @@
 ghost use Rattle.std.specs.Prelude.{◌≡◌, IsTrue, false};
 ghost use Rattle.ks_node.specs.Body.{blank_body};
-ghost use Rattle.ks_bplus.specs.Bplus.{bplus_body};
+ghost use Rattle.ks_bplus.specs.Parts.{body_of};
 
 use super::BNode;
 use ks_node::{Next, Node, Unlinked};
@@ -12,18 +12,18 @@ fn blank(rt: &impl Abort, alloc: Global) -> BNode {
 }
 
 fn is_blank(node: &BNode) -> bool
-    ensures { IsTrue result → bplus_body node.now.low node.now.is_inner node.now.parts.value.pairs.items node.now.parts.value.starts.items ≡ blank_body false }
+    ensures { IsTrue result → body_of node.now.low node.now.parts.value ≡ blank_body false }
 {
     node.low == 0
-        && !node.is_inner
-        && node.parts.pairs.as_slice().is_empty()
-        && node.parts.starts.as_slice().is_empty()
+        && !node.parts.is_inner()
+        && node.parts.pairs_held() == 0
+        && node.parts.starts().is_empty()
 }
 
 /// Puts each place below the end as its own value.
 fn fill(rt: &impl Abort, node: &mut BNode, end: u64) {
     for place in 0..end {
-        assert!(rt; !node.is_inner && node.parts.pairs.len() < 16);
+        assert!(rt; !node.is_branch() && node.pairs_held() < 16);
         assert_eq!(rt; node.put(place, place as u128), None);
     }
 }
@@ -50,7 +50,7 @@ fn target(node: &BNode, place: u64) -> u32 {
 #[test]
 fn a_blank_node_holds_what_is_put(rt: HostRuntime) {
     let mut node = blank(&rt, rt.alloc());
-    assert!(rt; !node.is_inner && node.parts.pairs.len() < 16);
+    assert!(rt; !node.is_branch() && node.pairs_held() < 16);
     assert_eq!(rt; node.put(3, 30), None);
     assert_eq!(rt; node.get(3), Some(30));
     assert_eq!(rt; node.get(4), None);
@@ -61,7 +61,7 @@ fn a_leaf_splits_and_absorbs(rt: HostRuntime) {
     let mut node = blank(&rt, rt.alloc());
     let mut right = blank(&rt, rt.alloc());
     fill(&rt, &mut node, 16);
-    assert!(rt; node.is_full() && !node.is_inner && node.low == 0 && is_blank(&right));
+    assert!(rt; node.is_full() && !node.is_branch() && node.low == 0 && is_blank(&right));
     assert_eq!(rt; node.cut(None), 8);
     node.split_to(&mut right, 8);
     has(&rt, &node, 0, 8);
@@ -75,7 +75,7 @@ fn a_full_leaf_grows_forgets_and_collapses(rt: HostRuntime) {
     let mut right = blank(&rt, rt.alloc());
     fill(&rt, &mut node, 16);
     assert!(rt;
-        node.is_full() && !node.is_inner && node.low == 0 && is_blank(&left) && is_blank(&right)
+        node.is_full() && !node.is_branch() && node.low == 0 && is_blank(&left) && is_blank(&right)
     );
     node.grow(&mut left, &mut right, 1, 2, 8);
     has(&rt, &node, 0, 0);
@@ -84,7 +84,7 @@ fn a_full_leaf_grows_forgets_and_collapses(rt: HostRuntime) {
     assert_eq!(rt; target(&node, 7), 1);
     assert_eq!(rt; target(&node, 8), 2);
     assert_eq!(rt; node.right_of(7), Some(2));
-    assert!(rt; node.is_inner && node.parts.starts.as_slice()[0].node != 2);
+    assert!(rt; node.is_branch() && node.parts.starts()[0].node != 2);
     node.forget(2);
     assert_eq!(rt; target(&node, 8), 1);
     assert_eq!(rt; node.only_child(), Some(1));

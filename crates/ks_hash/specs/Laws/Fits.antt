@@ -1,7 +1,8 @@
 -- What each change of a hash node keeps, and what its cuts are.
-use Rattle.std.specs.Prelude.{◌≡◌, ℕ, suc, ◌%◌, ◌-◌, ◌^◌, ◌<◌, ◌≤◌, Bool, true, false, cond, ◌&&◌, ◌||◌, nat_eq, nat_lt, nat_le, IsTrue, List, [], ◌∷◌, length, All, Option, None, Some, refl}
+use Rattle.std.specs.Prelude.{◌≡◌, ℕ, suc, ◌%◌, ◌-◌, ◌^◌, ◌<◌, ◌≤◌, Bool, true, false, cond, ◌&&◌, ◌||◌, nat_eq, nat_lt, nat_le, IsTrue, List, [], ◌∷◌, length, All, Option, None, Some, get_or, refl}
 use Rattle.std.specs.List.{list_all}
 use Rattle.std.proofs.Common.{arith, ap, sym, subst}
+use Rattle.std.proofs.lemmas.List.{get_or_read}
 use Rattle.std.proofs.lemmas.List.Elements.{All-nil, All-cons, All-head, All-tail, All-weaker}
 use Rattle.std.proofs.lemmas.Bool.{ltb-true, leb-true, eqb-true, ne_eqb}
 use Rattle.ks_keysets.specs.declared.Pair.{Pair}
@@ -217,6 +218,20 @@ fit_cuts {low} {b = false} {ps} {own} {ss} f full o span suits is =
         subst (λ q. (span.low < hash_cut (hash_content low false ps own ss) (Some q)) × (hash_cut (hash_content low false ps own ss) (Some q) ≤ span.last)) (sym (is given refl))
         (chosen (λ n. (span.low < n) × (n ≤ span.last)) (is_whole span && list_all (λ s. nat_lt (middle_of span) s.low) (own_starts own)) (middle_of span) (fifth ps)
         (λ e. middle_inside span (and_first _ _ e)) (by_fifth eight))
+
+-- what is read for a cut: the fifth pair, and the edge of a bucket's own
+
+pub fifth_is : {low : ℕ} {b : Bool} {ps : List Pair} {own : Option Start} {ss : List ℕ} → Fit low b ps own ss → IsTrue (is_full hash_layout (hash_body low b ps own ss)) → (x : Pair) → x ≡ get_or ps 4 x → x.place ≡ fifth ps
+fifth_is {b = true} f full x is = absurd (differ refl full)
+fifth_is {b = false} {ps = ps} f full x is =
+    let eight : length ps ≡ 8 = eqb-true _ _ full in
+    ap (λ y. y.place) (get_or_read ps 4 x (omega arith) is (record { place = 0; value = 0 }))
+
+pub fit_cut_by : {low : ℕ} {b : Bool} {ps : List Pair} {own : Option Start} {ss : List ℕ} → Fit low b ps own ss → IsTrue (is_full hash_layout (hash_body low b ps own ss)) → (given span : Span) →
+    Suits (hash_body low b ps own ss) span → IsNoneOr (Some given) span →
+    IsGoodCut (hash_body low b ps own ss) span (cond (is_whole given && list_all (λ s. nat_lt (middle_of given) s.low) (own_starts own)) (middle_of given) (fifth ps))
+fit_cut_by {b = true} f full given span suits is = absurd (differ refl full)
+fit_cut_by {b = false} f full given span suits is = fit_cuts f full (Some given) span suits is
 
 pub fit_grows : {low : ℕ} {b : Bool} {ps : List Pair} {own : Option Start} {ss : List ℕ} → Fit low b ps own ss → IsTrue (is_branch (hash_body low b ps own ss) || nat_eq (length (hash_starts b own ss)) 0) → IsTrue (hash_grows (hash_content low b ps own ss))
 fit_grows {b = true} f h = refl

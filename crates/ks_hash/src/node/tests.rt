@@ -1,9 +1,9 @@
 ghost use Rattle.std.specs.Prelude.{◌≡◌, ◌<◌, All, IsTrue, false};
 ghost use Rattle.ks_node.specs.Body.{blank_body};
-ghost use Rattle.ks_hash.specs.Hash.{hash_body};
+ghost use Rattle.ks_hash.specs.Parts.{body_of, pairs_of};
 
 use super::HNode;
-use ks_keysets::{Pair, Span};
+use ks_keysets::Span;
 use ks_node::{Growing, Next, Node, Unlinked, WithRange};
 use ks_places::{Golden, Placing};
 use std::alloc::Global;
@@ -19,24 +19,26 @@ fn blank(rt: &impl Abort, alloc: Global) -> HNode {
 }
 
 fn is_blank(node: &HNode) -> bool
-    ensures { IsTrue result → hash_body node.now.low node.now.is_directory node.now.parts.value.pairs.items node.now.parts.value.own node.now.parts.value.slices.items ≡ blank_body false }
+    ensures { IsTrue result → body_of node.now.low node.now.parts.value ≡ blank_body false }
 {
-    node.low == 0
-        && !node.is_directory
-        && node.parts.pairs.as_slice().is_empty()
-        && node.parts.own.is_none()
+    node.low == 0 && !node.is_branch() && node.parts.pairs_held() == 0 && node.parts.own().is_none()
 }
 
 /// Whether all pairs lie below a cut.
-fn all_below(pairs: &[Pair], cut: u64) -> bool
-    ensures { IsTrue result → All (λ x. x.place < cut) pairs.now }
+fn all_below(node: &HNode, cut: u64) -> bool
+    ensures { IsTrue result → All (λ x. x.place < cut) (pairs_of node.now.parts.value) }
 {
-    pairs.iter().all(|x| x.place < cut)
+    for n in 0..node.parts.pairs_held() {
+        if node.parts.pair(n).place >= cut {
+            return false;
+        }
+    }
+    true
 }
 
 /// Puts a value at a place of a bucket with no own edge.
 fn put(rt: &impl Abort, node: &mut HNode, place: u64, value: u128) {
-    assert!(rt; !node.is_directory && node.parts.own.is_none() && node.parts.pairs.len() < 8);
+    assert!(rt; !node.is_branch() && node.parts.own().is_none() && node.parts.pairs_held() < 8);
     assert_eq!(rt; node.put(place, value), None);
 }
 
@@ -75,8 +77,8 @@ fn halves(rt: &impl Abort, alloc: Global, root: &mut HNode) -> (HNode, HNode) {
     assert!(rt;
         root.is_full()
             && root.grows()
-            && !root.is_directory
-            && root.parts.own.is_none()
+            && !root.is_branch()
+            && root.parts.own().is_none()
             && root.low == 0
     );
     assert!(rt; is_blank(&left) && is_blank(&right));
@@ -99,16 +101,14 @@ fn split(
     assert!(rt; bucket.is_full());
     assert_eq!(rt; bucket.cut(root.span_for(9)), cut);
     assert!(rt;
-        !bucket.is_directory && bucket.parts.own.is_none() && bucket.low < cut && is_blank(&right)
+        !bucket.is_branch() && bucket.parts.own().is_none() && bucket.low < cut && is_blank(&right)
     );
     bucket.split_to(&mut right, cut);
     assert_eq!(rt; bucket.pairs_held(), 8);
     assert_eq!(rt; right.pairs_held(), 0);
-    assert!(rt;
-        root.can_adopt(cut) && all_below(root.parts.pairs.as_slice(), cut) && root.low < cut
-    );
+    assert!(rt; root.can_adopt(cut) && all_below(root, cut) && root.low < cut);
     root.adopt(cut, id);
-    assert_eq!(rt; root.parts.slices.len(), slices);
+    assert_eq!(rt; root.parts.slices().len(), slices);
     assert_eq!(rt; target(root, cut - 1), 1);
     assert_eq!(rt; target(root, cut), id);
 }
@@ -118,14 +118,14 @@ fn chain(rt: &impl Abort, alloc: Global, bucket: &mut HNode) {
     let mut right = blank(rt, alloc);
     assert!(rt;
         bucket.is_full()
-            && !bucket.is_directory
-            && bucket.parts.own.is_none()
+            && !bucket.is_branch()
+            && bucket.parts.own().is_none()
             && bucket.low < 5
             && is_blank(&right)
     );
     bucket.split_to(&mut right, 5);
     assert_eq!(rt; bucket.pairs_held(), 4);
-    assert!(rt; bucket.can_adopt(5) && all_below(bucket.parts.pairs.as_slice(), 5));
+    assert!(rt; bucket.can_adopt(5) && all_below(bucket, 5));
     bucket.adopt(5, 8);
     assert_eq!(rt; target(bucket, 4), 99);
     assert_eq!(rt; target(bucket, 5), 8);
@@ -155,9 +155,7 @@ fn a_slice_is_halved_where_a_child_begins_in_it(rt: HostRuntime) {
     fill(&rt, &mut root);
     let _ = halves(&rt, rt.alloc(), &mut root);
     let cut = 4611686018427387904;
-    assert!(rt;
-        root.can_adopt(cut) && all_below(root.parts.pairs.as_slice(), cut) && root.low < cut
-    );
+    assert!(rt; root.can_adopt(cut) && all_below(&root, cut) && root.low < cut);
     root.adopt(cut, 5);
     assert_eq!(rt; target(&root, 4611686018427387903), 1);
     assert_eq!(rt; target(&root, 4611686018427387904), 5);
@@ -171,7 +169,7 @@ fn nine_keys_of_one_smallest_slice_split_down_to_it(rt: HostRuntime) {
     fill(&rt, &mut root);
     let (mut bucket, right) = halves(&rt, rt.alloc(), &mut root);
     assert_eq!(rt; right.pairs_held(), 0);
-    assert_eq!(rt; root.parts.slices.as_slice(), [1, 2].as_slice());
+    assert_eq!(rt; root.parts.slices(), [1, 2].as_slice());
     split(&rt, rt.alloc(), &mut root, &mut bucket, 1 << 62, 3, 4);
     split(&rt, rt.alloc(), &mut root, &mut bucket, 1 << 61, 4, 8);
     split(&rt, rt.alloc(), &mut root, &mut bucket, 1 << 60, 5, 16);

@@ -33,4 +33,4 @@ decide-number-requires-clause-ready g c κs within = let x : Hand g.row.N.Denot 
     (c.put_law.ensures x refl c.in-Some.ensures.took.live c.put.ensures.body)
 
 pub returns-clause-calls : goal.returns-clause-calls
-returns-clause-calls g c = one_call c.get-old.result c.in-Some.ensures.took c.decide-number.ensures.decided c.give-2.ensures.gave c.take.ensures.caller c.decide-number.ensures.caller c.reply_of.ensures
+returns-clause-calls g c = one_call c.get-old.result c.in-Some.ensures.took c.decide-number.ensures.decided.adds c.give-2.ensures.gave c.take.ensures.caller c.decide-number.ensures.caller c.reply_of.ensures

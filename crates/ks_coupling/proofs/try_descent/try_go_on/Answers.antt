@@ -33,9 +33,9 @@ returns-in-Held-clause-came g c = λ start steps down. let after = (goal.at.retu
     let hand₁ = is_hand h₁ me (turns h₁ e.pass.sound) in let child = hand₁.held j (subst (λ (z : List ℕ). Has z j) (sym took.hand) (inl refl)) in (
       goes_on sort g.N.Node.body slots me c.args.place j h h₁ h₂ x y next.node (λ k so. good_now (law.good sort slots k so)) turns (λ j k k' grows holds so. law.beside sort slots me j k k' grows holds so)
           e.pass.sound c.give.ensures.pass.sound next.mine next.is next.leads next.apart took (gave_of g after) way (hands_of g after)
-          (e.still x (subst (λ (z : List ℕ). Has z x.node) (sym way.alone) (inl refl)) way.matches)
-          (c.give.ensures.still y (λ same. next.apart (sym same ∙ took.node)) (subst (λ (z : List ℕ). Has z y.node) (sym (ap (λ (z : ℕ). hand z h₁) e.caller ∙ took.hand)) (inl (sym took.node))) took.matches)
-          (e.kept x.node next.mine).turn child,
+          (e.rest.still x (subst (λ (z : List ℕ). Has z x.node) (sym way.alone) (inl refl)) way.matches)
+          (c.give.ensures.rest.still y (λ same. next.apart (sym same ∙ took.node)) (subst (λ (z : List ℕ). Has z y.node) (sym (ap (λ (z : ℕ). hand z h₁) e.caller ∙ took.hand)) (inl (sym took.node))) took.matches)
+          (e.rest.kept x.node next.mine).turn child,
       subst (λ (z : ℕ). IsDown n me start h₂ (suc (suc steps)) 1 (suc steps) z) (sym took.node)
           (down_give n me start h₁ h₂ (suc (suc steps)) 1 (suc steps) j x.node (gave_of g after) (turns h₂ c.give.ensures.pass.sound)
           (down_take n me start h h₁ (suc steps) 1 (suc steps) j j next.below took.grows (turns h₁ e.pass.sound)

@@ -23,15 +23,15 @@ use Rattle.ks_link.proofs.attaches.lead.Goals as goal
 
 pub returns-then-can_lead-clause-stretch : goal.returns-then-can_lead-clause-stretch
 returns-then-can_lead-clause-stretch g c = let me : ℕ = c.args.pass.now.caller in let h = seen_of c.args.pass.now in let k = seen_of c.attach.new.pass in let few = ap length c.requires.held.alone in
-    let same = subst (λ (z : ℕ). hand z k ≡ hand_of c.args.pass.now) c.attach.ensures.caller c.attach.ensures.hand in
-    stretch_shape link_move me h k (attach c.args.held.now.node c.args.to.node c.args.to.cut (g.N.Node.body c.args.held.now.body)) (omega (arith, few)) (omega (arith, few, ap length same)) c.attach.ensures.shaped
+    let same = subst (λ (z : ℕ). hand z k ≡ hand_of c.args.pass.now) c.attach.ensures.caller c.attach.ensures.shaped.hand in
+    stretch_shape link_move me h k (attach c.args.held.now.node c.args.to.node c.args.to.cut (g.N.Node.body c.args.held.now.body)) (omega (arith, few)) (omega (arith, few, ap length same)) c.attach.ensures.shaped.adds
 
 pub returns-else-can_lead-clause-stretch : goal.returns-else-can_lead-clause-stretch
 returns-else-can_lead-clause-stretch g c = let h = seen_of c.args.pass.now in stretch_here link_move c.args.pass.now.caller h h (omega (arith, ap length c.requires.held.alone))
 
 pub returns-then-can_lead-clause-makes : goal.returns-then-can_lead-clause-makes
 returns-then-can_lead-clause-makes g c = λ alone i live. let me : ℕ = c.args.pass.now.caller in let sort = sort_of g.N.Node.layout g.N.Node.ranged in let h = seen_of c.args.pass.now in let k = seen_of c.attach.new.pass in let x = c.args.held.now in
-    elim (shape_live me (attach x.node c.args.to.node c.args.to.cut (g.N.Node.body x.body)) h k c.attach.ensures.shaped alone i live) [
+    elim (shape_live me (attach x.node c.args.to.node c.args.to.cut (g.N.Node.body x.body)) h k c.attach.ensures.shaped.adds alone i live) [
       | inl named ↦ elim named [ inl node ↦ subst (IsLive (graph_after h)) node (live_in sort g.N.Node.body h x c.requires.held.live c.requires.held.matches) | inr none ↦ absurd none ]
       | inr was ↦ was
     ]

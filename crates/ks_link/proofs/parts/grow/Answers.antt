@@ -67,7 +67,7 @@ module _ (g : Over) (c : After-give g) where
   -- the hand once the root was given
   hand_is : hand_of c.give.new.pass ≡ c.args.right.node ∷ c.args.left.node ∷ []
   hand_is = let root : ℕ = c.args.root.node in
-      c.give.ensures.hand ∙ ap (λ (i : ℕ). drop_one i (hand_of c.grow_right.new.pass)) c.grow_right.ensures.node.node ∙ ap (drop_one root) (c.grow_right.ensures.hand ∙ c.requires.hand.0)
+      c.give.ensures.hand ∙ ap (λ (i : ℕ). drop_one i (hand_of c.grow_right.new.pass)) c.grow_right.ensures.node.node ∙ ap (drop_one root) (c.grow_right.ensures.shaped.hand ∙ c.requires.hand.0)
       ∙ drop_third root c.args.right.node c.args.left.node c.requires.hand.2 c.requires.hand.1
 
   stays : (x y : Hand g.row.N.Denot) (b : Body) → BecomesLive (sort_of g.N.Node.layout g.N.Node.ranged) g.N.Node.body b (seen_of c.grow_right.new.pass) x y → x.node ≢ c.args.root.node → Has (c.args.right.node ∷ c.args.left.node ∷ c.args.root.node ∷ []) x.node → Has (c.args.right.node ∷ c.args.left.node ∷ []) x.node
@@ -75,7 +75,7 @@ module _ (g : Over) (c : After-give g) where
   stays x y b is other has has' = record {
     has = subst (λ (z : ℕ). Has (hand_of c.give.new.pass) z) (sym is.node) (subst (λ (z : List ℕ). Has z x.node) (sym hand_is) has');
     live = is.live;
-    matches = c.give.ensures.still y (λ e. other (sym is.node ∙ e ∙ c.grow_right.ensures.node.node)) (subst (λ (z : ℕ). Has (hand_of c.grow_right.new.pass) z) (sym is.node) (subst (λ (z : List ℕ). Has z x.node) (sym (c.grow_right.ensures.hand ∙ c.requires.hand.0)) has)) is.matches;
+    matches = c.give.ensures.rest.still y (λ e. other (sym is.node ∙ e ∙ c.grow_right.ensures.node.node)) (subst (λ (z : ℕ). Has (hand_of c.grow_right.new.pass) z) (sym is.node) (subst (λ (z : List ℕ). Has z x.node) (sym (c.grow_right.ensures.shaped.hand ∙ c.requires.hand.0)) has)) is.matches;
   }
 
 pub keep_half-half-requires-clause-left : goal.keep_half-half-requires-clause-left
@@ -104,10 +104,10 @@ returns-clause-parted g c = let sort = sort_of g.N.Node.layout g.N.Node.ranged i
 pub returns-clause-stretch : goal.returns-clause-stretch
 returns-clause-stretch g c = let me : ℕ = c.args.pass.now.caller in let h = seen_of c.args.pass.now in let k = seen_of c.grow_right.new.pass in let l = seen_of c.give.new.pass in let m = seen_of c.keep_half-half.new.pass in
     let few = ap length c.requires.hand.0 in let caller = c.grow_right.ensures.caller in
-    let same = subst (λ (z : ℕ). hand z k ≡ hand_of c.args.pass.now) caller c.grow_right.ensures.hand in
+    let same = subst (λ (z : ℕ). hand z k ≡ hand_of c.args.pass.now) caller c.grow_right.ensures.shaped.hand in
     let gave = subst (λ (z : ℕ). GrowsWith z (Give z c.grow_right.new.node.node) k l) caller c.give.ensures.gave in
     let kept = subst (λ (z : ℕ). Stretch link_move z l m) (c.give.ensures.caller ∙ caller) c.keep_half-half.ensures.stretch in
-    stretch_both link_move me h k m (stretch_shape link_move me h k (grow_right g.N.Node.branch_kind c.args.root.node c.args.left.node c.args.right.node c.cut-cut.result (g.N.Node.body c.args.root.body)) (omega (arith, few)) (omega (arith, few, ap length same)) c.grow_right.ensures.shaped)
+    stretch_both link_move me h k m (stretch_shape link_move me h k (grow_right g.N.Node.branch_kind c.args.root.node c.args.left.node c.args.right.node c.cut-cut.result (g.N.Node.body c.args.root.body)) (omega (arith, few)) (omega (arith, few, ap length same)) c.grow_right.ensures.shaped.adds)
     (stretch_both link_move me k l m (stretch_give link_move me k l c.grow_right.new.node.node (omega (arith, few, ap length same)) gave) kept)
 
 pub returns-clause-room : goal.returns-clause-room
@@ -121,10 +121,10 @@ returns-clause-led g c = λ alone i live. let me : ℕ = c.args.pass.now.caller 
     let gave = subst (λ (z : ℕ). GrowsWith z (Give z c.grow_right.new.node.node) k l) e.caller c.give.ensures.gave in
     let kept = subst (λ (z : ℕ). MakesNone z l m) (c.give.ensures.caller ∙ e.caller) c.keep_half-half.ensures.makes in
     let stretch = subst (λ (z : ℕ). Stretch link_move z l m) (c.give.ensures.caller ∙ e.caller) c.keep_half-half.ensures.stretch in
-    let till : h ⊑ k = with_begins me _ h k e.shaped in let then : k ⊑ l = with_begins me _ k l gave in let on : l ⊑ m = stretch_begins link_move me l m stretch in let after = begins_both k l m then on in
+    let till : h ⊑ k = with_begins me _ h k e.shaped.adds in let then : k ⊑ l = with_begins me _ k l gave in let on : l ⊑ m = stretch_begins link_move me l m stretch in let after = begins_both k l m then on in
     let before = makes_both me k l m then on (makes_with me _ k l tt gave) kept (alone_then me h k m till after alone) i live in
     let lasts = c.sound_law.ensures.lasts sort n k m after c.keep_half-half.ensures.pass.sound in
-    elim (shape_live me (grow_right g.N.Node.branch_kind c.args.root.node c.args.left.node c.args.right.node c.cut-cut.result (g.N.Node.body c.args.root.body)) h k e.shaped (alone_first me h k m till after alone) i before) [
+    elim (shape_live me (grow_right g.N.Node.branch_kind c.args.root.node c.args.left.node c.args.right.node c.cut-cut.result (g.N.Node.body c.args.root.body)) h k e.shaped.adds (alone_first me h k m till after alone) i before) [
       | inl named ↦ elim named [
         | inl node ↦ inl (subst (IsLiveIn (graph_after h)) node (live_in sort g.N.Node.body h c.args.root c.requires.node.live c.requires.node.matches))
         | inr rest ↦ elim rest [

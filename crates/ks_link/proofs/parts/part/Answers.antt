@@ -72,11 +72,11 @@ grows g c root = let sort = sort_of g.N.Node.layout g.N.Node.ranged in let n : �
 
 pub returns-in-None-clause-parted : goal.returns-in-None-clause-parted
 returns-in-None-clause-parted g c = let at = (goal.at.returns-in-None-clause-parted g c).After-node_law in let told = rw c.in-None.is at c.claim_two.ensures.claimed in
-    (refl, still_alone g at (seen_of c.claim_two.new.pass) told.0 (c.claim_two.ensures.still c.args.held (in_hand g at) c.requires.way.matches), told.1 c.args.held.node c.args.place (live_before g at) (held_before g at) (grows g at c.if-held-eq0.true))
+    (refl, still_alone g at (seen_of c.claim_two.new.pass) told.0 (c.claim_two.ensures.rest.still c.args.held (in_hand g at) c.requires.way.matches), told.1 c.args.held.node c.args.place (live_before g at) (held_before g at) (grows g at c.if-held-eq0.true))
 
 pub returns-in-None-claim_one-clause-parted : goal.returns-in-None-claim_one-clause-parted
 returns-in-None-claim_one-clause-parted g c = let at = (goal.at.returns-in-None-claim_one-clause-parted g c).After-node_law in let told = rw c.in-None-claim_one.is at c.claim_one.ensures.claimed in
-    (refl, still_alone g at (seen_of c.claim_one.new.pass) told.0 (c.claim_one.ensures.still c.args.held (in_hand g at) c.requires.way.matches), told.1 c.args.place (inl (live_before g at)))
+    (refl, still_alone g at (seen_of c.claim_one.new.pass) told.0 (c.claim_one.ensures.rest.still c.args.held (in_hand g at) c.requires.way.matches), told.1 c.args.place (inl (live_before g at)))
 
 pub returns-in-None-clause-stretch : goal.returns-in-None-clause-stretch
 returns-in-None-clause-stretch g c = c.claim_two.ensures.stretch link_move
@@ -98,7 +98,7 @@ pub grow-requires-clause-node : goal.grow-requires-clause-node
 grow-requires-clause-node g c = let at = (goal.at.grow-requires-clause-node g c).After-node_law in record {
   has = subst (λ (z : List ℕ). Has z c.args.held.node) (sym (two g at (seen_of c.claim_two.new.pass) c.claim_two.new.pass.caller c.in-Some.left.node c.in-Some.right.node c.claim_two.ensures.caller c.in-Some.ensures.claimed.hands)) (inr (inr (inl refl)));
   live = c.requires.way.live;
-  matches = c.claim_two.ensures.still c.args.held (in_hand g at) c.requires.way.matches;
+  matches = c.claim_two.ensures.rest.still c.args.held (in_hand g at) c.requires.way.matches;
 }
 
 pub grow-requires-clause-hand : goal.grow-requires-clause-hand
@@ -111,7 +111,7 @@ pub split-requires-clause-node : goal.split-requires-clause-node
 split-requires-clause-node g c = let at = (goal.at.split-requires-clause-node g c).After-node_law in record {
   has = subst (λ (z : List ℕ). Has z c.args.held.node) (sym (one g at (seen_of c.claim_one.new.pass) c.claim_one.new.pass.caller c.in-Some-claim_one.right.node c.claim_one.ensures.caller c.in-Some-claim_one.ensures.claimed.hands)) (inr (inl refl));
   live = c.requires.way.live;
-  matches = c.claim_one.ensures.still c.args.held (in_hand g at) c.requires.way.matches;
+  matches = c.claim_one.ensures.rest.still c.args.held (in_hand g at) c.requires.way.matches;
 }
 
 pub split-requires-clause-hand : goal.split-requires-clause-hand

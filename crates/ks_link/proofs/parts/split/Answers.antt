@@ -60,8 +60,8 @@ returns-clause-parted g c = let sort = sort_of g.N.Node.layout g.N.Node.ranged i
 pub returns-clause-stretch : goal.returns-clause-stretch
 returns-clause-stretch g c = let me : ℕ = c.args.pass.now.caller in let h = seen_of c.args.pass.now in let k = seen_of c.split_right.new.pass in let l = seen_of c.keep_half-half.new.pass in
     let few = ap length c.requires.hand.0 in
-    let same = subst (λ (z : ℕ). hand z k ≡ hand_of c.args.pass.now) c.split_right.ensures.caller c.split_right.ensures.hand in
-    stretch_both link_move me h k l (stretch_shape link_move me h k (split_to_right c.args.held.node c.args.right.node c.cut-cut.result (g.N.Node.body c.args.held.body)) (omega (arith, few)) (omega (arith, few, ap length same)) c.split_right.ensures.shaped) (subst (λ (z : ℕ). Stretch link_move z k l) c.split_right.ensures.caller c.keep_half-half.ensures.stretch)
+    let same = subst (λ (z : ℕ). hand z k ≡ hand_of c.args.pass.now) c.split_right.ensures.caller c.split_right.ensures.shaped.hand in
+    stretch_both link_move me h k l (stretch_shape link_move me h k (split_to_right c.args.held.node c.args.right.node c.cut-cut.result (g.N.Node.body c.args.held.body)) (omega (arith, few)) (omega (arith, few, ap length same)) c.split_right.ensures.shaped.adds) (subst (λ (z : ℕ). Stretch link_move z k l) c.split_right.ensures.caller c.keep_half-half.ensures.stretch)
 
 pub returns-clause-room : goal.returns-clause-room
 returns-clause-room g c = λ promise. let halves = c.cut-cut.ensures.halves promise in let shows = g.N.Node.body in let layout = g.N.Node.layout in elim c.keep_half-half.ensures.half [
@@ -72,9 +72,9 @@ returns-clause-room g c = λ promise. let halves = c.cut-cut.ensures.halves prom
 pub returns-clause-led : goal.returns-clause-led
 returns-clause-led g c = λ alone i live. let me : ℕ = c.args.pass.now.caller in let sort = sort_of g.N.Node.layout g.N.Node.ranged in let h = seen_of c.args.pass.now in let k = seen_of c.split_right.new.pass in let l = seen_of c.keep_half-half.new.pass in let e = c.split_right.ensures in
     let stretch = subst (λ (z : ℕ). Stretch link_move z k l) e.caller c.keep_half-half.ensures.stretch in
-    let till : h ⊑ k = with_begins me _ h k e.shaped in let on : k ⊑ l = stretch_begins link_move me k l stretch in
+    let till : h ⊑ k = with_begins me _ h k e.shaped.adds in let on : k ⊑ l = stretch_begins link_move me k l stretch in
     let before = subst (λ (z : ℕ). MakesNone z k l) e.caller c.keep_half-half.ensures.makes (alone_then me h k l till on alone) i live in
-    elim (shape_live me (split_to_right c.args.held.node c.args.right.node c.cut-cut.result (g.N.Node.body c.args.held.body)) h k e.shaped (alone_first me h k l till on alone) i before) [
+    elim (shape_live me (split_to_right c.args.held.node c.args.right.node c.cut-cut.result (g.N.Node.body c.args.held.body)) h k e.shaped.adds (alone_first me h k l till on alone) i before) [
       | inl named ↦ elim named [
         | inl node ↦ inl (subst (IsLiveIn (graph_after h)) node (live_in sort g.N.Node.body h c.args.held c.requires.node.live c.requires.node.matches))
         | inr rest ↦ elim rest [ inl right ↦ inr (inr (inl (e.right.node ∙ right))) | inr none ↦ absurd none ]

@@ -34,8 +34,8 @@ returns-clause-path g c = let at = (goal.at.returns-clause-path g c).After-searc
     let gone : hand me k ≡ drop_one i (hand me h) = subst (λ (z : ℕ). hand z k ≡ drop_one i (hand me h)) e.caller e.hand in
     let x : ℕ = c.args.path.node.node in let o = c.args.path.parent in
     let hands : hand me k ≡ x ∷ numbers o = gone ∙ ap (drop_one i) c.requires.hands ∙ drop_first i (x ∷ numbers o) in
-    let all = once sort shows n me (laws g at) h k i c.requires.pass.sound e.pass.sound e.gave e.still (i ∷ x ∷ numbers o) c.requires.hands in
-    path_kept sort shows n me (laws g at) h k i c.requires.pass.sound e.pass.sound e.gave e.still c.args.place c.args.path.node o hands (subst (λ (z : List ℕ). Has z x) (sym c.requires.hands) (inr (inl refl))) (λ same. all.0 (inl same)) (parent_in i x o (hand me h) c.requires.hands all.0) c.requires.node c.requires.inside c.requires.under
+    let all = once sort shows n me (laws g at) h k i c.requires.pass.sound e.pass.sound e.gave e.rest.still (i ∷ x ∷ numbers o) c.requires.hands in
+    path_kept sort shows n me (laws g at) h k i c.requires.pass.sound e.pass.sound e.gave e.rest.still c.args.place c.args.path.node o hands (subst (λ (z : List ℕ). Has z x) (sym c.requires.hands) (inr (inl refl))) (λ same. all.0 (inl same)) (parent_in i x o (hand me h) c.requires.hands all.0) c.requires.node c.requires.inside c.requires.under
 
 pub returns-clause-stretch : goal.returns-clause-stretch
 returns-clause-stretch g c = let at = (goal.at.returns-clause-stretch g c).After-search_law in let sort = sort_of g.N.Node.layout g.N.Node.ranged in let shows = g.N.Node.body in let n : ℕ = c.args.arena.now.table.shared.table_id.slots in let me : ℕ = c.args.pass.now.caller in let h = seen_of c.args.pass.now in let k = seen_of c.give.new.pass in let i : ℕ = c.args.right.node in let e = c.give.ensures in

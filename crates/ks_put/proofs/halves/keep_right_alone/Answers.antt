@@ -40,7 +40,7 @@ gone g c law = let me : ℕ = c.args.pass.now.caller in let h = seen_of c.args.p
 
 -- a node in hand that is not given still matches
 still : (g : Over) (c : After-give g) (y : Hand g.row.N.Denot) → Has (c.args.right.node ∷ c.args.path.node.node ∷ numbers c.args.path.parent) y.node → y.node ≢ c.args.path.node.node → Matches (sort_of g.N.Node.layout g.N.Node.ranged) g.N.Node.body (seen_of c.args.pass.now) y → Matches (sort_of g.N.Node.layout g.N.Node.ranged) g.N.Node.body (seen_of c.give.new.pass) y
-still g c y has ne matches = c.give.ensures.still y ne (subst (λ (z : List ℕ). Has z y.node) (sym c.requires.hands) has) matches
+still g c y has ne matches = c.give.ensures.rest.still y ne (subst (λ (z : List ℕ). Has z y.node) (sym c.requires.hands) has) matches
 
 parent_still : {N : Type 0} (i r : ℕ) (sort : Sort) (shows : N → Body) (place : ℕ) (x : Hand N) (h k : List Event) (o : Option (Hand N)) → AreOnce (r ∷ i ∷ numbers o) → IsUnder sort shows place x h o → ((y : Hand N) → Has (r ∷ i ∷ numbers o) y.node → y.node ≢ i → Matches sort shows h y → Matches sort shows k y) → (y : Hand N) → o ≡ Some y → Matches sort shows k y
 parent_still i r sort shows place x h k None once under keep y e = absurd (let q : ⊥ = cc in q)

@@ -22,7 +22,7 @@ hands : (g : Over) (c : After-at g) → hand c.args.pass.now.caller (seen_of c.g
 hands g c = subst (λ (z : ℕ). hand z (seen_of c.give.new.pass) ≡ drop_one c.in-Some.other.node (hand c.args.pass.now.caller (seen_of c.args.pass.now))) c.give.ensures.caller c.give.ensures.hand
 
 pub returns-in-Some-clause-way : goal.returns-in-Some-clause-way
-returns-in-Some-clause-way g c = goes_alone (sort_of g.N.Node.layout g.N.Node.ranged) g.N.Node.body c.args.arena.now.table.shared.table_id.slots c.args.pass.now.caller c.args.place (laws g c) (seen_of c.args.pass.now) (seen_of c.give.new.pass) c.args.node c.in-Some.other c.requires.pass.sound c.give.ensures.pass.sound (both g c) c.requires.node c.requires.inside c.give.ensures.gave (hands g c) c.give.ensures.still
+returns-in-Some-clause-way g c = goes_alone (sort_of g.N.Node.layout g.N.Node.ranged) g.N.Node.body c.args.arena.now.table.shared.table_id.slots c.args.pass.now.caller c.args.place (laws g c) (seen_of c.args.pass.now) (seen_of c.give.new.pass) c.args.node c.in-Some.other c.requires.pass.sound c.give.ensures.pass.sound (both g c) c.requires.node c.requires.inside c.give.ensures.gave (hands g c) c.give.ensures.rest.still
 
 pub returns-in-Some-clause-stretch : goal.returns-in-Some-clause-stretch
 returns-in-Some-clause-stretch g c = alone_stretch (sort_of g.N.Node.layout g.N.Node.ranged) g.N.Node.body c.args.arena.now.table.shared.table_id.slots c.args.pass.now.caller c.args.place (laws g c) (seen_of c.args.pass.now) (seen_of c.give.new.pass) c.args.node c.in-Some.other c.requires.pass.sound c.give.ensures.pass.sound (both g c) c.requires.node c.requires.inside c.give.ensures.gave (hands g c)

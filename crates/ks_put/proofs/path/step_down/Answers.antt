@@ -46,7 +46,7 @@ unreachable-requires g c = let at = (goal.at.unreachable-requires g c).After-nod
 pub returns-clause-path : goal.returns-clause-path
 returns-clause-path g c = let at = (goal.at.returns-clause-path g c).After-node_law in let e = c.in-Some.ensures in let way = c.requires.way in
     goes_down (sort_of g.N.Node.layout g.N.Node.ranged) g.N.Node.body c.args.arena.now.table.shared.table_id.slots c.args.pass.now.caller c.args.place c.args.child (laws g at) (seen_of c.args.pass.now) (seen_of c.take.new.pass) c.args.held c.in-Some.below c.requires.pass.sound e.pass.sound way (leads g at) e.took
-    (e.still c.args.held (subst (λ (z : List ℕ). Has z c.args.held.node) (sym way.alone) (inl refl)) way.matches)
+    (e.rest.still c.args.held (subst (λ (z : List ℕ). Has z c.args.held.node) (sym way.alone) (inl refl)) way.matches)
 
 pub returns-clause-stretch : goal.returns-clause-stretch
 returns-clause-stretch g c = let at = (goal.at.returns-clause-stretch g c).After-node_law in let e = c.in-Some.ensures in let way = c.requires.way in

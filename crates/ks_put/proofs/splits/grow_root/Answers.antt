@@ -40,7 +40,7 @@ mine g c = path_turn (sort_of g.N.Node.layout g.N.Node.ranged) g.N.Node.body c.a
 
 -- what is in its inset stays there as nodes are claimed
 inset : (g : Over) (c : After-claim_two g) (p : ℕ) → InInset (graph_after (seen_of c.args.pass.now)) c.args.root.node p → turn_after (seen_of c.args.pass.now) c.args.root.node ≡ held c.args.pass.now.caller → InInset (graph_after (seen_of c.claim_two.new.pass)) c.args.root.node p
-inset g c p inside mine = (c.claim_two.ensures.beside c.args.root.node mine (c.claim_two.ensures.kept c.args.root.node mine).turn).forth p inside
+inset g c p inside mine = (c.claim_two.ensures.beside c.args.root.node mine (c.claim_two.ensures.rest.kept c.args.root.node mine).turn).forth p inside
 
 few : {N : Type 0} (o : Option (Hand N)) (hs : List ℕ) (i : ℕ) → hs ≡ i ∷ numbers o → length hs ≤ 2
 few None hs i is = omega (arith, ap length is)
@@ -52,7 +52,7 @@ claim_two-requires-clause-few g c κs within = omega (arith, ap length c.require
 pub returns-in_default-clause-part : goal.returns-in_default-clause-part
 returns-in_default-clause-part g c = let at = (goal.at.returns-in_default-clause-part g c).After-search_law in let told = rw c.in_default.is at c.claim_two.ensures.claimed in let sort = sort_of g.N.Node.layout g.N.Node.ranged in let n : ℕ = c.args.arena.now.table.shared.table_id.slots in let me : ℕ = c.args.pass.now.caller in let h = seen_of c.args.pass.now in let k = seen_of c.claim_two.new.pass in (
   refl,
-  path_stays sort g.N.Node.body n me (laws g at) c.args.place h k (record { parent = None; node = c.args.root }) c.requires.pass.sound told.0 c.claim_two.ensures.kept c.claim_two.ensures.beside c.claim_two.ensures.still c.requires.path,
+  path_stays sort g.N.Node.body n me (laws g at) c.args.place h k (record { parent = None; node = c.args.root }) c.requires.pass.sound told.0 c.claim_two.ensures.rest.kept c.claim_two.ensures.beside c.claim_two.ensures.rest.still c.requires.path,
   told.1 c.args.root.node c.args.place (path_live sort g.N.Node.body n me (laws g at) c.args.place h (record { parent = None; node = c.args.root }) c.requires.path) (mine g at)
       (may_grow_root g.N.Node.layout (graph_after h) c.args.root.node c.args.place (g.N.Node.body c.args.root.body) (record_is sort g.N.Node.body h c.args.root c.requires.path.live c.requires.path.matches) (full_is_root sort g.N.Node.body c.args.root c.requires.full c.requires.path.under) c.requires.full (c.node_law.ensures.grows_as c.requires.grows.0)
       (length_edges (g.N.Node.body c.args.root.body) c.node_law.ensures.sound c.node_law.ensures.framed (c.unlinked_law.ensures.no_link c.args.root.body))),
@@ -75,7 +75,7 @@ keep_half-requires-clause-from g c = λ le. let at = goal.at.keep_half-requires-
 pub returns-clause-stretch : goal.returns-clause-stretch
 returns-clause-stretch g c = let me : ℕ = c.args.pass.now.caller in let h = seen_of c.args.pass.now in let h₁ = seen_of c.claim_two.new.pass in let h₂ = seen_of c.grow.new.pass in let h₃ = seen_of c.keep_half.new.pass in let one = c.claim_two.ensures.caller in let two = c.grow.ensures.caller in
     stretches_both me h h₁ h₃ c.claim_two.ensures.stretch (stretches_both me h₁ h₂ h₃
-    (stretches_shape me c.claim_two.new.pass.caller c.grow.new.pass.caller h₁ h₂ one two (omega (arith, ap length c.in-Some.ensures.claimed.hands, ap length c.requires.path.hands)) c.grow.ensures.hand c.grow.ensures.shaped)
+    (stretches_shape me c.claim_two.new.pass.caller c.grow.new.pass.caller h₁ h₂ one two (omega (arith, ap length c.in-Some.ensures.claimed.hands, ap length c.requires.path.hands)) c.grow.ensures.shaped.hand c.grow.ensures.shaped.adds)
     (stretches_as me c.grow.new.pass.caller h₂ h₃ (two ∙ one) c.keep_half.ensures.stretch))
 
 -- how deep the search stands
@@ -90,7 +90,7 @@ returns-clause-down g c = λ start taken roots steps down. let law = laws g (goa
     let i : ℕ = c.args.root.node in let x = c.in-Some.left in let y = c.in-Some.right in let got = c.in-Some.ensures.claimed in let sound₁ = c.claim_two.ensures.pass.sound in let held₁ = is_hand h₁ me (law.turns h₁ sound₁) in
     let changes = grow_to g.N.Node.branch_kind i x.node y.node c.args.cut (shows c.args.root.body) in
     let d₁ = down_quiet n me start h h₁ taken roots steps i c.claim_two.ensures.quiet (law.turns h₁ sound₁) down in
-    let d₂ = down_shaped sort shows slots me law n changes start h₁ h₂ taken roots steps i c.grow.ensures.pass.sound (subst (λ (z : ℕ). GrowsWith z (Shape z changes) h₁ h₂) one c.grow.ensures.shaped)
+    let d₂ = down_shaped sort shows slots me law n changes start h₁ h₂ taken roots steps i c.grow.ensures.pass.sound (subst (λ (z : ℕ). GrowsWith z (Shape z changes) h₁ h₂) one c.grow.ensures.shaped.adds)
     (grow_held (HeldUnder h₁ me i) g.N.Node.branch_kind i x.node y.node c.args.cut (shows c.args.root.body) the_node
     (claimed (held₁.held x.node got.left.has) (free_none sort shows h₁ x got.left.free got.left.matches)) (claimed (held₁.held y.node got.right.has) (free_none sort shows h₁ y got.right.free got.right.matches))) d₁ in
     let d₃ = down_quiet n me start h₂ h₃ taken roots steps i (subst (λ (z : ℕ). IsQuiet z h₂ h₃) (two ∙ one) c.keep_half.ensures.quiet) (law.turns h₃ c.keep_half.ensures.pass.sound) d₂ in

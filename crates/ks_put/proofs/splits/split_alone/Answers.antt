@@ -46,7 +46,7 @@ mine g c = path_turn (sort_of g.N.Node.layout g.N.Node.ranged) g.N.Node.body c.a
 
 -- what is in its inset stays there as nodes are claimed
 inset : (g : Over) (c : After-claim_one g) (p : ℕ) → InInset (graph_after (seen_of c.args.pass.now)) c.args.path.node.node p → turn_after (seen_of c.args.pass.now) c.args.path.node.node ≡ held c.args.pass.now.caller → InInset (graph_after (seen_of c.claim_one.new.pass)) c.args.path.node.node p
-inset g c p inside mine = (c.claim_one.ensures.beside c.args.path.node.node mine (c.claim_one.ensures.kept c.args.path.node.node mine).turn).forth p inside
+inset g c p inside mine = (c.claim_one.ensures.beside c.args.path.node.node mine (c.claim_one.ensures.rest.kept c.args.path.node.node mine).turn).forth p inside
 
 few : {N : Type 0} (o : Option (Hand N)) (hs : List ℕ) (i : ℕ) → hs ≡ i ∷ numbers o → length hs ≤ 2
 few None hs i is = omega (arith, ap length is)
@@ -54,7 +54,7 @@ few (Some y) hs i is = omega (arith, ap length is)
 
 pub returns-in_default-clause-part : goal.returns-in_default-clause-part
 returns-in_default-clause-part g c = let at = (goal.at.returns-in_default-clause-part g c).After-search_law in let told = rw c.in_default.is at c.claim_one.ensures.claimed in let sort = sort_of g.N.Node.layout g.N.Node.ranged in let n : ℕ = c.args.arena.now.table.shared.table_id.slots in let me : ℕ = c.args.pass.now.caller in let h = seen_of c.args.pass.now in let k = seen_of c.claim_one.new.pass in
-    (refl, path_stays sort g.N.Node.body n me (laws g at) c.args.place h k c.args.path c.requires.pass.sound told.0 c.claim_one.ensures.kept c.claim_one.ensures.beside c.claim_one.ensures.still c.requires.path, told.1 c.args.place (inl (path_live sort g.N.Node.body n me (laws g at) c.args.place h c.args.path c.requires.path)))
+    (refl, path_stays sort g.N.Node.body n me (laws g at) c.args.place h k c.args.path c.requires.pass.sound told.0 c.claim_one.ensures.rest.kept c.claim_one.ensures.beside c.claim_one.ensures.rest.still c.requires.path, told.1 c.args.place (inl (path_live sort g.N.Node.body n me (laws g at) c.args.place h c.args.path c.requires.path)))
 
 pub split_own-requires-clause-cut : goal.split_own-requires-clause-cut
 split_own-requires-clause-cut g c = (inset g (goal.at.split_own-requires-clause-cut g c).After-claim_one c.args.cut c.requires.cut.0 (mine g (goal.at.split_own-requires-clause-cut g c).After-search_law), c.requires.cut.1)
@@ -64,8 +64,8 @@ under : (g : Over) (c : After-split_own g) → Laws (sort_of g.N.Node.layout g.N
 under g c law = let sort = sort_of g.N.Node.layout g.N.Node.ranged in let n : ℕ = c.args.arena.now.table.shared.table_id.slots in let me : ℕ = c.args.pass.now.caller in let h = seen_of c.args.pass.now in let h₁ = seen_of c.claim_one.new.pass in let j : ℕ = c.args.path.node.node in let o = c.args.path.parent in let got = c.in-Some.ensures.claimed in
     let has : (y : Hand g.row.N.Denot) → o ≡ Some y → Has (hand me h) y.node = parent_has sort g.N.Node.body n me law j o (hand me h) c.requires.path.hands in
     let once : AreOnce (j ∷ numbers o) = subst AreOnce c.requires.path.hands (is_hand h me (law.turns h c.requires.pass.sound)).once in
-    under_later sort g.N.Node.body n me law c.args.place c.args.path.node c.split_own.new.node h h₁ (seen_of c.split_own.new.pass) o c.split_own.ensures.node.node c.requires.full c.claim_one.ensures.still has
-    (λ y e m. c.split_own.ensures.still y (parent_apart sort g.N.Node.body n me law j o once y e, (λ same. got.fresh (subst (Has (hand me h)) same (has y e)), tt)) (subst (λ (z : ℕ). Has (hand z h₁) y.node) (sym c.claim_one.ensures.caller) (subst (λ (z : List ℕ). Has z y.node) (sym got.hands) (inr (has y e)))) m)
+    under_later sort g.N.Node.body n me law c.args.place c.args.path.node c.split_own.new.node h h₁ (seen_of c.split_own.new.pass) o c.split_own.ensures.node.node c.requires.full c.claim_one.ensures.rest.still has
+    (λ y e m. c.split_own.ensures.shaped.still y (parent_apart sort g.N.Node.body n me law j o once y e, (λ same. got.fresh (subst (Has (hand me h)) same (has y e)), tt)) (subst (λ (z : ℕ). Has (hand z h₁) y.node) (sym c.claim_one.ensures.caller) (subst (λ (z : List ℕ). Has z y.node) (sym got.hands) (inr (has y e)))) m)
     c.requires.path.under
 
 pub keep_left-requires-clause-under : goal.keep_left-requires-clause-under
@@ -90,19 +90,19 @@ keep_right-requires-clause-part g c = let at = goal.at.keep_right-requires-claus
 pub returns-then-place-cut-clause-stretch : goal.returns-then-place-cut-clause-stretch
 returns-then-place-cut-clause-stretch g c = let me : ℕ = c.args.pass.now.caller in let h = seen_of c.args.pass.now in let h₁ = seen_of c.claim_one.new.pass in let h₂ = seen_of c.split_own.new.pass in let h₃ = seen_of c.keep_left.new.pass in let one = c.claim_one.ensures.caller in let two = c.split_own.ensures.caller in
     stretches_both me h h₁ h₃ c.claim_one.ensures.stretch (stretches_both me h₁ h₂ h₃
-    (stretches_shape me c.claim_one.new.pass.caller c.split_own.new.pass.caller h₁ h₂ one two (omega (arith, ap length c.in-Some.ensures.claimed.hands, few c.args.path.parent (hand_of c.args.pass.now) c.args.path.node.node c.requires.path.hands)) c.split_own.ensures.hand c.split_own.ensures.shaped)
+    (stretches_shape me c.claim_one.new.pass.caller c.split_own.new.pass.caller h₁ h₂ one two (omega (arith, ap length c.in-Some.ensures.claimed.hands, few c.args.path.parent (hand_of c.args.pass.now) c.args.path.node.node c.requires.path.hands)) c.split_own.ensures.shaped.hand c.split_own.ensures.shaped.adds)
     (stretches_as me c.split_own.new.pass.caller h₂ h₃ (two ∙ one) c.keep_left.ensures.stretch))
 
 pub returns-then-is_full-clause-stretch : goal.returns-then-is_full-clause-stretch
 returns-then-is_full-clause-stretch g c = let me : ℕ = c.args.pass.now.caller in let h = seen_of c.args.pass.now in let h₁ = seen_of c.claim_one.new.pass in let h₂ = seen_of c.split_own.new.pass in let h₃ = seen_of c.keep_right.new.pass in let one = c.claim_one.ensures.caller in let two = c.split_own.ensures.caller in
     stretches_both me h h₁ h₃ c.claim_one.ensures.stretch (stretches_both me h₁ h₂ h₃
-    (stretches_shape me c.claim_one.new.pass.caller c.split_own.new.pass.caller h₁ h₂ one two (omega (arith, ap length c.in-Some.ensures.claimed.hands, few c.args.path.parent (hand_of c.args.pass.now) c.args.path.node.node c.requires.path.hands)) c.split_own.ensures.hand c.split_own.ensures.shaped)
+    (stretches_shape me c.claim_one.new.pass.caller c.split_own.new.pass.caller h₁ h₂ one two (omega (arith, ap length c.in-Some.ensures.claimed.hands, few c.args.path.parent (hand_of c.args.pass.now) c.args.path.node.node c.requires.path.hands)) c.split_own.ensures.shaped.hand c.split_own.ensures.shaped.adds)
     (stretches_as me c.split_own.new.pass.caller h₂ h₃ (two ∙ one) c.keep_right.ensures.stretch))
 
 pub returns-clause-stretch : goal.returns-clause-stretch
 returns-clause-stretch g c = let me : ℕ = c.args.pass.now.caller in let h = seen_of c.args.pass.now in let h₁ = seen_of c.claim_one.new.pass in let h₂ = seen_of c.split_own.new.pass in let h₃ = seen_of c.keep_right_alone.new.pass in let one = c.claim_one.ensures.caller in let two = c.split_own.ensures.caller in
     stretches_both me h h₁ h₃ c.claim_one.ensures.stretch (stretches_both me h₁ h₂ h₃
-    (stretches_shape me c.claim_one.new.pass.caller c.split_own.new.pass.caller h₁ h₂ one two (omega (arith, ap length c.in-Some.ensures.claimed.hands, few c.args.path.parent (hand_of c.args.pass.now) c.args.path.node.node c.requires.path.hands)) c.split_own.ensures.hand c.split_own.ensures.shaped)
+    (stretches_shape me c.claim_one.new.pass.caller c.split_own.new.pass.caller h₁ h₂ one two (omega (arith, ap length c.in-Some.ensures.claimed.hands, few c.args.path.parent (hand_of c.args.pass.now) c.args.path.node.node c.requires.path.hands)) c.split_own.ensures.shaped.hand c.split_own.ensures.shaped.adds)
     (stretches_as me c.split_own.new.pass.caller h₂ h₃ (two ∙ one) c.keep_right_alone.ensures.stretch))
 
 -- how deep the search stands
@@ -137,7 +137,7 @@ module _ (g : Over) (c : After-split_own g) (law : Laws (sort_of g.N.Node.layout
 
   through : (n i : ℕ) (start : List Event) (taken roots steps : ℕ) → HeldUnder h₁ me i c.args.path.node.node → IsDown n me start (seen_of c.args.pass.now) taken roots steps i → IsDown n me start h₂ taken roots steps i
   through n i start taken roots steps under down = down_shaped sort g.N.Node.body slots me law n changes start h₁ h₂ taken roots steps i c.split_own.ensures.pass.sound
-      (subst (λ (z : ℕ). GrowsWith z (Shape z changes) h₁ h₂) c.claim_one.ensures.caller c.split_own.ensures.shaped)
+      (subst (λ (z : ℕ). GrowsWith z (Shape z changes) h₁ h₂) c.claim_one.ensures.caller c.split_own.ensures.shaped.adds)
       (own_held (HeldUnder h₁ me i) c.args.path.node.node c.in-Some.right.node c.args.cut (g.N.Node.body c.args.path.node.body) under (right_under i))
       (down_quiet n me start (seen_of c.args.pass.now) h₁ taken roots steps i c.claim_one.ensures.quiet (law.turns h₁ c.claim_one.ensures.pass.sound) down)
 
@@ -153,7 +153,7 @@ module _ (g : Over) (c : After-split_own g) (law : Laws (sort_of g.N.Node.layout
       let same : z ≡ y = cc in let to = under.leads in let got = c.in-Some.ensures.claimed in
       let has : Has (hand me (seen_of c.args.pass.now)) z.node = parent_has sort g.N.Node.body slots me law c.args.path.node.node c.args.path.parent (hand me (seen_of c.args.pass.now)) c.requires.path.hands z is in
       let mine₁ : turn_after h₁ z.node ≡ held me = (is_hand h₁ me (law.turns h₁ c.claim_one.ensures.pass.sound)).held z.node (subst (λ (w : List ℕ). Has w z.node) (sym got.hands) (inr has)) in
-      let is₁ = record_is sort g.N.Node.body h₁ z under.live (c.claim_one.ensures.still z has under.matches) in
+      let is₁ = record_is sort g.N.Node.body h₁ z under.live (c.claim_one.ensures.rest.still z has under.matches) in
       subst (λ (w : Hand g.row.N.Denot). HeldUnder h₁ me w.node c.args.path.node.node) same (target (record_of (g.N.Node.body z.body)) the_node mine₁ is₁ (to.0, to.1, to.2, to.3, to.4.1))
 
   whole_down : (n : ℕ) (start : List Event) (taken roots steps : ℕ) (x : Hand g.row.N.Denot) (o : Option (Hand g.row.N.Denot)) → x.node ≡ c.args.path.node.node → ((y : Hand g.row.N.Denot) → o ≡ Some y → HeldUnder h₁ me y.node c.args.path.node.node) → StandsDown n me start (seen_of c.args.pass.now) taken roots steps c.args.path.node o → StandsDown n me start h₂ taken roots steps x o

@@ -39,7 +39,7 @@ mine g c = path_turn (sort_of g.N.Node.layout g.N.Node.ranged) g.N.Node.body c.a
 
 -- what is in its inset stays there as nodes are claimed
 inset : (g : Over) (c : After-claim_one g) (p : ℕ) → InInset (graph_after (seen_of c.args.pass.now)) c.args.node.node p → turn_after (seen_of c.args.pass.now) c.args.node.node ≡ held c.args.pass.now.caller → InInset (graph_after (seen_of c.claim_one.new.pass)) c.args.node.node p
-inset g c p inside mine = (c.claim_one.ensures.beside c.args.node.node mine (c.claim_one.ensures.kept c.args.node.node mine).turn).forth p inside
+inset g c p inside mine = (c.claim_one.ensures.beside c.args.node.node mine (c.claim_one.ensures.rest.kept c.args.node.node mine).turn).forth p inside
 
 few : {N : Type 0} (o : Option (Hand N)) (hs : List ℕ) (i : ℕ) → hs ≡ i ∷ numbers o → length hs ≤ 2
 few None hs i is = omega (arith, ap length is)
@@ -47,7 +47,7 @@ few (Some y) hs i is = omega (arith, ap length is)
 
 pub returns-in_default-clause-part : goal.returns-in_default-clause-part
 returns-in_default-clause-part g c = let at = (goal.at.returns-in_default-clause-part g c).After-search_law in let told = rw c.in_default.is at c.claim_one.ensures.claimed in let sort = sort_of g.N.Node.layout g.N.Node.ranged in let n : ℕ = c.args.arena.now.table.shared.table_id.slots in let me : ℕ = c.args.pass.now.caller in let h = seen_of c.args.pass.now in let k = seen_of c.claim_one.new.pass in
-    (refl, path_stays sort g.N.Node.body n me (laws g at) c.args.place h k (record { parent = Some c.args.parent; node = c.args.node }) c.requires.pass.sound told.0 c.claim_one.ensures.kept c.claim_one.ensures.beside c.claim_one.ensures.still c.requires.path, told.1 c.args.place (inl (path_live sort g.N.Node.body n me (laws g at) c.args.place h (record { parent = Some c.args.parent; node = c.args.node }) c.requires.path)))
+    (refl, path_stays sort g.N.Node.body n me (laws g at) c.args.place h k (record { parent = Some c.args.parent; node = c.args.node }) c.requires.pass.sound told.0 c.claim_one.ensures.rest.kept c.claim_one.ensures.beside c.claim_one.ensures.rest.still c.requires.path, told.1 c.args.place (inl (path_live sort g.N.Node.body n me (laws g at) c.args.place h (record { parent = Some c.args.parent; node = c.args.node }) c.requires.path)))
 
 pub split_under-requires-clause-apart : goal.split_under-requires-clause-apart
 split_under-requires-clause-apart g c = λ same. (subst AreOnce c.requires.path.hands (is_hand (seen_of c.args.pass.now) c.args.pass.now.caller ((laws g (goal.at.split_under-requires-clause-apart g c).After-search_law).turns (seen_of c.args.pass.now) c.requires.pass.sound)).once).0 (inl same)
@@ -69,7 +69,7 @@ keep_half-requires-clause-from g c = λ le. let at = goal.at.keep_half-requires-
 pub returns-clause-stretch : goal.returns-clause-stretch
 returns-clause-stretch g c = let me : ℕ = c.args.pass.now.caller in let h = seen_of c.args.pass.now in let h₁ = seen_of c.claim_one.new.pass in let h₂ = seen_of c.split_under.new.pass in let h₃ = seen_of c.keep_half.new.pass in let one = c.claim_one.ensures.caller in let two = c.split_under.ensures.caller in
     stretches_both me h h₁ h₃ c.claim_one.ensures.stretch (stretches_both me h₁ h₂ h₃
-    (stretches_shape me c.claim_one.new.pass.caller c.split_under.new.pass.caller h₁ h₂ one two (omega (arith, ap length c.in-Some.ensures.claimed.hands, ap length c.requires.path.hands)) c.split_under.ensures.hand c.split_under.ensures.shaped)
+    (stretches_shape me c.claim_one.new.pass.caller c.split_under.new.pass.caller h₁ h₂ one two (omega (arith, ap length c.in-Some.ensures.claimed.hands, ap length c.requires.path.hands)) c.split_under.ensures.shaped.hand c.split_under.ensures.shaped.adds)
     (stretches_as me c.split_under.new.pass.caller h₂ h₃ (two ∙ one) c.keep_half.ensures.stretch))
 
 -- how deep the search stands
@@ -85,10 +85,10 @@ returns-clause-down g c = λ start taken roots steps down. let law = laws g (goa
     let path = c.requires.path in let above : ℕ = down.0 in let to = path.under.leads in
     let has : Has (hand me h) i = subst (λ (z : List ℕ). Has z i) (sym path.hands) (inr (inl refl)) in
     let mine₁ : turn_after h₁ i ≡ held me = held₁.held i (subst (λ (z : List ℕ). Has z i) (sym got.hands) (inr has)) in
-    let is₁ = record_is sort shows h₁ u path.under.live (c.claim_one.ensures.still u has path.under.matches) in
+    let is₁ = record_is sort shows h₁ u path.under.live (c.claim_one.ensures.rest.still u has path.under.matches) in
     let changes = under_to i x.node y.node c.args.cut (shows u.body) (shows x.body) in
     let d₁ = down_quiet n me start h h₁ taken roots above i c.claim_one.ensures.quiet (law.turns h₁ sound₁) down.2 in
-    let d₂ = down_shaped sort shows slots me law n changes start h₁ h₂ taken roots above i c.split_under.ensures.pass.sound (subst (λ (z : ℕ). GrowsWith z (Shape z changes) h₁ h₂) one c.split_under.ensures.shaped)
+    let d₂ = down_shaped sort shows slots me law n changes start h₁ h₂ taken roots above i c.split_under.ensures.pass.sound (subst (λ (z : ℕ). GrowsWith z (Shape z changes) h₁ h₂) one c.split_under.ensures.shaped.adds)
     (under_held (HeldUnder h₁ me i) i x.node y.node c.args.cut (shows u.body) (shows x.body) the_node
     (target (record_of (shows u.body)) the_node mine₁ is₁ (to.0, to.1, to.2, to.3, to.4.1)) (claimed (held₁.held y.node got.free.has) (free_none sort shows h₁ y got.free.free got.free.matches))) d₁ in
     let d₃ = down_quiet n me start h₂ h₃ taken roots above i (subst (λ (z : ℕ). IsQuiet z h₂ h₃) (two ∙ one) c.keep_half.ensures.quiet) (law.turns h₃ c.keep_half.ensures.pass.sound) d₂ in

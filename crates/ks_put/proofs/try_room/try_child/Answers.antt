@@ -26,7 +26,7 @@ leads g c = next_leads (g.N.Node.body c.args.held.body) c.args.place c.args.chil
 pub returns-in-Held-clause-path : goal.returns-in-Held-clause-path
 returns-in-Held-clause-path g c = let at = (goal.at.returns-in-Held-clause-path g c).After-try_take in let e = c.in-Held.ensures in let way = c.requires.way in
     goes_down (sort_of g.N.Node.layout g.N.Node.ranged) g.N.Node.body c.args.arena.now.table.shared.table_id.slots c.args.pass.now.caller c.args.place c.args.child (laws g at) (seen_of c.args.pass.now) (seen_of c.try_take.new.pass) c.args.held c.in-Held.below c.requires.pass.sound e.pass.sound way (leads g at) e.took
-    (e.still c.args.held (subst (λ (z : List ℕ). Has z c.args.held.node) (sym way.alone) (inl refl)) way.matches)
+    (e.rest.still c.args.held (subst (λ (z : List ℕ). Has z c.args.held.node) (sym way.alone) (inl refl)) way.matches)
 
 pub returns-in-Held-clause-down : goal.returns-in-Held-clause-down
 returns-in-Held-clause-down g c = λ start steps down. let at = (goal.at.returns-in-Held-clause-down g c).After-try_take in let n : ℕ = c.args.arena.now.nodes in let me : ℕ = c.args.pass.now.caller in let h = seen_of c.args.pass.now in let k = seen_of c.try_take.new.pass in let e = c.in-Held.ensures in

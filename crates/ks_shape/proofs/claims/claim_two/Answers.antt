@@ -43,12 +43,12 @@ returns-in-Some-claim_one-clause-stretch g c = λ template. let e = c.claim_one.
 
 pub returns-in-Some-claim_one-clause-beside : goal.returns-in-Some-claim_one-clause-beside
 returns-in-Some-claim_one-clause-beside g c = let at = (goal.at.returns-in-Some-claim_one-clause-beside g c).After-walks_law in let me : ℕ = c.args.pass.now.caller in let h₁ = seen_of c.claim_one.new.pass in let h₂ = seen_of c.claim_one-2.new.pass in
-    beside_both g.D.Discipline.beside (sort_of g.N.Node.layout g.N.Node.ranged) g.D.Discipline.begins g.D.Discipline.step c.args.arena.now.table.shared.table_id.slots (besides g at) me (seen_of c.args.pass.now) h₁ h₂ c.claim_one.ensures.kept c.claim_one.ensures.beside
+    beside_both g.D.Discipline.beside (sort_of g.N.Node.layout g.N.Node.ranged) g.D.Discipline.begins g.D.Discipline.step c.args.arena.now.table.shared.table_id.slots (besides g at) me (seen_of c.args.pass.now) h₁ h₂ c.claim_one.ensures.rest.kept c.claim_one.ensures.beside
     (subst (λ (z : ℕ). KeepsBeside g.D.Discipline.beside z h₁ h₂) c.claim_one.ensures.caller c.claim_one-2.ensures.beside)
 
 pub returns-in-Some-claim_one-clause-keysets : goal.returns-in-Some-claim_one-clause-keysets
 returns-in-Some-claim_one-clause-keysets g c = let at = (goal.at.returns-in-Some-claim_one-clause-keysets g c).After-walks_law in let me : ℕ = c.args.pass.now.caller in let h₁ = seen_of c.claim_one.new.pass in let h₂ = seen_of c.claim_one-2.new.pass in
-    beside_both SameKeyset (sort_of g.N.Node.layout g.N.Node.ranged) g.D.Discipline.begins g.D.Discipline.step c.args.arena.now.table.shared.table_id.slots (keysets g at) me (seen_of c.args.pass.now) h₁ h₂ c.claim_one.ensures.kept c.claim_one.ensures.keysets
+    beside_both SameKeyset (sort_of g.N.Node.layout g.N.Node.ranged) g.D.Discipline.begins g.D.Discipline.step c.args.arena.now.table.shared.table_id.slots (keysets g at) me (seen_of c.args.pass.now) h₁ h₂ c.claim_one.ensures.rest.kept c.claim_one.ensures.keysets
     (subst (λ (z : ℕ). KeepsBeside SameKeyset z h₁ h₂) c.claim_one.ensures.caller c.claim_one-2.ensures.keysets)
 
 -- the second was refused, and the first is given back
@@ -69,17 +69,17 @@ hands g c = let h₂ = seen_of c.claim_one-2.new.pass in let h₃ = seen_of c.gi
     subst (λ (z : ℕ). hand z h₃ ≡ drop_one i (hand c.args.pass.now.caller h₂)) (c.give.ensures.caller ∙ own g c) (subst (λ (z : ℕ). hand c.give.new.pass.caller h₃ ≡ drop_one i (hand z h₂)) (own g c) c.give.ensures.hand)
 
 kept₂ : (g : Over) (c : After-give g) → Kept c.args.pass.now.caller (seen_of c.claim_one.new.pass) (seen_of c.claim_one-2.new.pass)
-kept₂ g c = subst (λ (z : ℕ). Kept z (seen_of c.claim_one.new.pass) (seen_of c.claim_one-2.new.pass)) c.claim_one.ensures.caller c.claim_one-2.ensures.kept
+kept₂ g c = subst (λ (z : ℕ). Kept z (seen_of c.claim_one.new.pass) (seen_of c.claim_one-2.new.pass)) c.claim_one.ensures.caller c.claim_one-2.ensures.rest.kept
 
 kept₃ : (g : Over) (c : After-give g) → KeptBut c.in-Some.left.node c.args.pass.now.caller (seen_of c.claim_one-2.new.pass) (seen_of c.give.new.pass)
-kept₃ g c = subst (λ (z : ℕ). KeptBut c.in-Some.left.node z (seen_of c.claim_one-2.new.pass) (seen_of c.give.new.pass)) (own g c) c.give.ensures.kept
+kept₃ g c = subst (λ (z : ℕ). KeptBut c.in-Some.left.node z (seen_of c.claim_one-2.new.pass) (seen_of c.give.new.pass)) (own g c) c.give.ensures.rest.kept
 
 pub returns-in-None-clause-claimed : goal.returns-in-None-clause-claimed
 returns-in-None-clause-claimed g c = let at = goal.at.returns-in-None-clause-claimed g c in let gv = at.After-give in let me : ℕ = c.args.pass.now.caller in let h = seen_of c.args.pass.now in let h₁ = seen_of c.claim_one.new.pass in let h₂ = seen_of c.claim_one-2.new.pass in let h₃ = seen_of c.give.new.pass in let two = second g gv in let got = c.in-Some.ensures.claimed in let shows = g.N.Node.body in let sort = sort_of g.N.Node.layout g.N.Node.ranged in let n : ℕ = c.args.arena.now.table.shared.table_id.slots in (
   back_hand sort shows me h h₁ c.in-Some.left got h₂ h₃ two.0 (gave g gv) (hands g gv),
   λ node place live holds grows.
       back_refused sort shows me h h₁ c.in-Some.left got h₂ h₃ two.0 (gave g gv) (hands g gv) coupling g.N.Node.layout c.args.arena.now.nodes place c.requires.few (c.claim_one.ensures.stretch coupling)
-      (two.1 place (still_for_claim sort shows me h h₁ c.in-Some.left got g.D.Discipline.begins g.D.Discipline.step n (keysets g at.After-walks_law) c.requires.pass.sound c.claim_one.ensures.pass.sound c.claim_one.ensures.kept c.claim_one.ensures.keysets node place live holds grows)),
+      (two.1 place (still_for_claim sort shows me h h₁ c.in-Some.left got g.D.Discipline.begins g.D.Discipline.step n (keysets g at.After-walks_law) c.requires.pass.sound c.claim_one.ensures.pass.sound c.claim_one.ensures.rest.kept c.claim_one.ensures.keysets node place live holds grows)),
 )
 
 pub returns-in-None-clause-stretch : goal.returns-in-None-clause-stretch
@@ -91,7 +91,7 @@ returns-in-None-clause-stretch g c = λ template. let gv = (goal.at.returns-in-N
 module _ (beside : ℕ → (ℕ → NodeState) → (ℕ → NodeState) → Type 0) where
   through : (g : Over) (c : After-give g) → StaysBeside beside (sort_of g.N.Node.layout g.N.Node.ranged) g.D.Discipline.begins g.D.Discipline.step c.args.arena.now.table.shared.table_id.slots → KeepsBeside beside c.args.pass.now.caller (seen_of c.args.pass.now) (seen_of c.claim_one.new.pass) → KeepsBeside beside c.claim_one.new.pass.caller (seen_of c.claim_one.new.pass) (seen_of c.claim_one-2.new.pass) → KeepsBeside beside c.args.pass.now.caller (seen_of c.args.pass.now) (seen_of c.give.new.pass)
   through g c laws one two = let sort = sort_of g.N.Node.layout g.N.Node.ranged in let n : ℕ = c.args.arena.now.table.shared.table_id.slots in let me : ℕ = c.args.pass.now.caller in let h = seen_of c.args.pass.now in let h₁ = seen_of c.claim_one.new.pass in let h₂ = seen_of c.claim_one-2.new.pass in let h₃ = seen_of c.give.new.pass in
-      beside_both beside sort g.D.Discipline.begins g.D.Discipline.step n laws me h h₁ h₃ c.claim_one.ensures.kept one
+      beside_both beside sort g.D.Discipline.begins g.D.Discipline.step n laws me h h₁ h₃ c.claim_one.ensures.rest.kept one
       (beside_both beside sort g.D.Discipline.begins g.D.Discipline.step n laws me h₁ h₂ h₃ (kept₂ g c) (subst (λ (z : ℕ). KeepsBeside beside z h₁ h₂) c.claim_one.ensures.caller two)
       (beside_with beside sort g.D.Discipline.begins g.D.Discipline.step n laws me (Give me c.in-Some.left.node) h₂ h₃ tt (gave g c) c.give.ensures.pass.sound))
 
@@ -101,16 +101,15 @@ returns-in-None-clause-beside g c = let at = goal.at.returns-in-None-clause-besi
 pub returns-in-None-clause-keysets : goal.returns-in-None-clause-keysets
 returns-in-None-clause-keysets g c = let at = goal.at.returns-in-None-clause-keysets g c in through SameKeyset g at.After-give (keysets g at.After-walks_law) c.claim_one.ensures.keysets c.claim_one-2.ensures.keysets
 
-pub returns-in-None-clause-kept : goal.returns-in-None-clause-kept
-returns-in-None-clause-kept g c = let gv = (goal.at.returns-in-None-clause-kept g c).After-give in let h₁ = seen_of c.claim_one.new.pass in let h₂ = seen_of c.claim_one-2.new.pass in
-    back_kept (sort_of g.N.Node.layout g.N.Node.ranged) g.N.Node.body c.args.pass.now.caller (seen_of c.args.pass.now) h₁ c.in-Some.left c.in-Some.ensures.claimed h₂ (seen_of c.give.new.pass) (second g gv).0 (gave g gv) (hands g gv) c.claim_one.ensures.kept (kept₂ g gv) (kept₃ g gv)
-
-pub returns-in-None-clause-still : goal.returns-in-None-clause-still
-returns-in-None-clause-still g c = λ x has matches. let got = c.in-Some.ensures.claimed in let me : ℕ = c.args.pass.now.caller in let h₁ = seen_of c.claim_one.new.pass in let gv = (goal.at.returns-in-None-clause-still g c).After-give in
-    let in₁ : Has (hand me h₁) x.node = subst (λ (z : List ℕ). Has z x.node) (sym got.hands) (inr has) in
-    let in₂ : Has (hand me (seen_of c.claim_one-2.new.pass)) x.node = subst (λ (z : List ℕ). Has z x.node) (sym (second g gv).0) in₁ in
-    c.give.ensures.still x (λ e. got.fresh (subst (Has (hand_of c.args.pass.now)) e has)) (subst (λ (z : ℕ). Has (hand z (seen_of c.claim_one-2.new.pass)) x.node) (sym (own g gv)) in₂)
-    (c.claim_one-2.ensures.still x (subst (λ (z : ℕ). Has (hand z h₁) x.node) (sym c.claim_one.ensures.caller) in₁) (c.claim_one.ensures.still x has matches))
+pub returns-in-None-clause-rest : goal.returns-in-None-clause-rest
+returns-in-None-clause-rest g c = let gv = (goal.at.returns-in-None-clause-rest g c).After-give in let h₁ = seen_of c.claim_one.new.pass in let h₂ = seen_of c.claim_one-2.new.pass in let me : ℕ = c.args.pass.now.caller in let got = c.in-Some.ensures.claimed in record {
+  kept = back_kept (sort_of g.N.Node.layout g.N.Node.ranged) g.N.Node.body me (seen_of c.args.pass.now) h₁ c.in-Some.left got h₂ (seen_of c.give.new.pass) (second g gv).0 (gave g gv) (hands g gv) c.claim_one.ensures.rest.kept (kept₂ g gv) (kept₃ g gv);
+  still = λ x has matches.
+      let in₁ : Has (hand me h₁) x.node = subst (λ (z : List ℕ). Has z x.node) (sym got.hands) (inr has) in
+      let in₂ : Has (hand me h₂) x.node = subst (λ (z : List ℕ). Has z x.node) (sym (second g gv).0) in₁ in
+      c.give.ensures.rest.still x (λ e. got.fresh (subst (Has (hand_of c.args.pass.now)) e has)) (subst (λ (z : ℕ). Has (hand z h₂) x.node) (sym (own g gv)) in₂)
+      (c.claim_one-2.ensures.rest.still x (subst (λ (z : ℕ). Has (hand z h₁) x.node) (sym c.claim_one.ensures.caller) in₁) (c.claim_one.ensures.rest.still x has matches));
+}
 
 -- no node is made live
 

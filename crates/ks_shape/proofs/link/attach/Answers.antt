@@ -50,5 +50,5 @@ returns-clause-led g c = let sort = sort_of g.N.Node.layout g.N.Node.ranged in l
     let here = stands g at seen (by_others_none me seen) r.pass.sound in
     let after = linked (g.N.Node.body c.adopt.new.self) c.node_law-2.ensures.sound (c.node_law-2.ensures.has_range ∙ c.linked_law.ensures.is_ranged) c.node_law-2.ensures.framed (c.linked_law.ensures.link_where c.adopt.new.self) in
     let leads = c.link_leads_law.ensures.attach (graph_after seen) (frame_after (blank_of sort) seen) c.args.node.now.node i cut b (good_now (law.good sort n seen r.pass.sound)) facts (can g at seen (by_others_none me seen) r.pass.sound) (subst IsLinked is after) in
-    let under = under_later (graph_after seen) (graph_after k) (frame_after (blank_of sort) seen) (frame_after (blank_of sort) k) c.args.node.now.node i cut b facts (law.lasts sort n seen k (with_begins me _ seen k c.shape.ensures.shaped) c.shape.ensures.pass.sound) here r.under in
+    let under = under_later (graph_after seen) (graph_after k) (frame_after (blank_of sort) seen) (frame_after (blank_of sort) k) c.args.node.now.node i cut b facts (law.lasts sort n seen k (with_begins me _ seen k c.shape.ensures.shaped.adds) c.shape.ensures.pass.sound) here r.under in
     shown_led sort g.N.Node.body k (record { node = c.args.node.now.node; body = c.adopt.new.self; live = c.args.node.now.live }) (adopted cut i b) i cut r.node.live is (c.shape.ensures.bodies.0 (λ dead. let clash : true ≡ false = sym r.node.live ∙ dead in cc)) leads (sym under.level)

@@ -53,7 +53,7 @@ shape-requires-clause-may g c κs within = λ h grows sound. let sort = sort_of 
 
 pub returns-clause-places : goal.returns-clause-places
 returns-clause-places g c = let sort = sort_of g.N.Node.layout g.N.Node.ranged in let shows = g.N.Node.body in let n : ℕ = c.args.arena.now.table.shared.table_id.slots in let me : ℕ = c.args.pass.now.caller in let seen = seen_of c.args.pass.now in
-    let at = (goal.at.returns-clause-places g c).After-node_law-3 in let shaped = c.shape.ensures.shaped in let h : List Event = shaped.rest ++ seen in let so = (subst (Sound sort BeginsTree TreeStep n) shaped.is c.shape.ensures.pass.sound).0 in let grows : GrowsByOthers me seen h = record { rest = shaped.rest; is = refl; others = shaped.others } in
+    let at = (goal.at.returns-clause-places g c).After-node_law-3 in let shaped = c.shape.ensures.shaped.adds in let h : List Event = shaped.rest ++ seen in let so = (subst (Sound sort BeginsTree TreeStep n) shaped.is c.shape.ensures.pass.sound).0 in let grows : GrowsByOthers me seen h = record { rest = shaped.rest; is = refl; others = shaped.others } in
     let good = good_now (c.sound_law.ensures.good sort n h so) in let facts = c.sound_law.ensures.facts sort n h so in let g₁ : ℕ → NodeState = graph_after h in let f₁ : ℕ → Frame = frame_after (blank_of sort) h in let no_link = c.unlinked_law.ensures.no_link in
     let o : ℕ = c.args.parent.now.node in let i : ℕ = c.args.node.now.node in let j : ℕ = c.args.right.now.node in let u : Body = shows c.args.parent.now.body in let b : Body = shows c.args.node.now.body in let q : Body = shows c.args.right.now.body in let left = c.absorb.ensures.left in let above = c.forget.ensures in
     let mine = (stays sort n me seen h (λ k sound. c.sound_law.ensures.lawful sort n k sound) grows c.requires.pass.sound so i c.requires.node.has).turn in
@@ -65,7 +65,7 @@ returns-clause-places g c = let sort = sort_of g.N.Node.layout g.N.Node.ranged i
 
 pub returns-clause-leads : goal.returns-clause-leads
 returns-clause-leads g c = let sort = sort_of g.N.Node.layout g.N.Node.ranged in let shows = g.N.Node.body in let n : ℕ = c.args.arena.now.table.shared.table_id.slots in let me : ℕ = c.args.pass.now.caller in let seen = seen_of c.args.pass.now in
-    let at = (goal.at.returns-clause-leads g c).After-node_law-3 in let shaped = c.shape.ensures.shaped in let h : List Event = shaped.rest ++ seen in let so = (subst (Sound sort BeginsTree TreeStep n) shaped.is c.shape.ensures.pass.sound).0 in let grows : GrowsByOthers me seen h = record { rest = shaped.rest; is = refl; others = shaped.others } in
+    let at = (goal.at.returns-clause-leads g c).After-node_law-3 in let shaped = c.shape.ensures.shaped.adds in let h : List Event = shaped.rest ++ seen in let so = (subst (Sound sort BeginsTree TreeStep n) shaped.is c.shape.ensures.pass.sound).0 in let grows : GrowsByOthers me seen h = record { rest = shaped.rest; is = refl; others = shaped.others } in
     let good = good_now (c.sound_law.ensures.good sort n h so) in let facts = c.sound_law.ensures.facts sort n h so in let g₁ : ℕ → NodeState = graph_after h in let f₁ : ℕ → Frame = frame_after (blank_of sort) h in let no_link = c.unlinked_law.ensures.no_link in
     let o : ℕ = c.args.parent.now.node in let i : ℕ = c.args.node.now.node in let j : ℕ = c.args.right.now.node in let u : Body = shows c.args.parent.now.body in let b : Body = shows c.args.node.now.body in let q : Body = shows c.args.right.now.body in let left = c.absorb.ensures.left in let above = c.forget.ensures in
     let mine = (stays sort n me seen h (λ k sound. c.sound_law.ensures.lawful sort n k sound) grows c.requires.pass.sound so i c.requires.node.has).turn in

@@ -42,7 +42,7 @@ shape-requires-clause-may g c κs within = λ h grows sound. let sort = sort_of 
 
 pub returns-clause-places : goal.returns-clause-places
 returns-clause-places g c = let sort = sort_of g.N.Node.layout g.N.Node.ranged in let shows = g.N.Node.body in let n : ℕ = c.args.arena.now.table.shared.table_id.slots in let me : ℕ = c.args.pass.now.caller in let seen = seen_of c.args.pass.now in
-    let at = (goal.at.returns-clause-places g c).After-node_law-2 in let shaped = c.shape.ensures.shaped in let h : List Event = shaped.rest ++ seen in let so = (subst (Sound sort BeginsTree TreeStep n) shaped.is c.shape.ensures.pass.sound).0 in let grows : GrowsByOthers me seen h = record { rest = shaped.rest; is = refl; others = shaped.others } in
+    let at = (goal.at.returns-clause-places g c).After-node_law-2 in let shaped = c.shape.ensures.shaped.adds in let h : List Event = shaped.rest ++ seen in let so = (subst (Sound sort BeginsTree TreeStep n) shaped.is c.shape.ensures.pass.sound).0 in let grows : GrowsByOthers me seen h = record { rest = shaped.rest; is = refl; others = shaped.others } in
     let good = good_now (c.sound_law.ensures.good sort n h so) in let facts = c.sound_law.ensures.facts sort n h so in let g₁ : ℕ → NodeState = graph_after h in let f₁ : ℕ → Frame = frame_after (blank_of sort) h in let no_link = c.unlinked_law.ensures.no_link in
     let i : ℕ = c.args.node.now.node in let j : ℕ = c.args.child.now.node in let b : Body = shows c.args.node.now.body in let q : Body = shows c.args.child.now.body in let left = c.collapse.ensures.parent in
     let mine = (stays sort n me seen h (λ k sound. c.sound_law.ensures.lawful sort n k sound) grows c.requires.pass.sound so j c.requires.child.has).turn in

@@ -42,7 +42,7 @@ shape-requires-clause-may g c κs within = λ h grows sound. let sort = sort_of 
 
 pub returns-clause-parts : goal.returns-clause-parts
 returns-clause-parts g c = λ p inside. let sort = sort_of g.N.Node.layout g.N.Node.ranged in let n : ℕ = c.args.arena.now.table.shared.table_id.slots in let me : ℕ = c.args.pass.now.caller in let seen = seen_of c.args.pass.now in
-    let at = (goal.at.returns-clause-parts g c).After-reach in let shaped = c.shape.ensures.shaped in let h : List Event = shaped.rest ++ seen in let so = (subst (Sound sort BeginsTree TreeStep n) shaped.is c.shape.ensures.pass.sound).0 in let grows : GrowsByOthers me seen h = record { rest = shaped.rest; is = refl; others = shaped.others } in
+    let at = (goal.at.returns-clause-parts g c).After-reach in let shaped = c.shape.ensures.shaped.adds in let h : List Event = shaped.rest ++ seen in let so = (subst (Sound sort BeginsTree TreeStep n) shaped.is c.shape.ensures.pass.sound).0 in let grows : GrowsByOthers me seen h = record { rest = shaped.rest; is = refl; others = shaped.others } in
     let good = good_now (c.sound_law.ensures.good sort n h so) in let facts = c.sound_law.ensures.facts sort n h so in let g₁ : ℕ → NodeState = graph_after h in let f₁ : ℕ → Frame = frame_after (blank_of sort) h in let no_link = c.unlinked_law.ensures.no_link in
     let keep = stays sort n me seen h (λ k sound. c.sound_law.ensures.lawful sort n k sound) grows c.requires.pass.sound so in
     let there : InInset g₁ c.args.node.now.node p = (c.sound_law.ensures.beside sort n me c.args.node.now.node seen h grows (keep c.args.node.now.node c.requires.node.has).turn so).forth p inside in

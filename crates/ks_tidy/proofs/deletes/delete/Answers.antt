@@ -29,15 +29,15 @@ decide-number-requires-clause-ready g c κs within = let x : Hand g.row.N.Denot 
 
 pub returns-clause-keyset : goal.returns-clause-keyset
 returns-clause-keyset g c = let sort = sort_of g.N.Node.layout g.N.Node.ranged in let n : ℕ = c.args.arena.now.table.shared.table_id.slots in let me : ℕ = c.args.pass.now.caller in let h = seen_of c.args.pass.now in let k = seen_of c.decide-number.new.pass in let x = c.args.held.now in let e = c.decide-number.ensures in
-    let hands : hand me k ≡ hand me h = subst (λ (z : ℕ). hand z k ≡ hand me h) e.caller e.hand in
-    (places_kept sort n me (c.search_law.ensures sort n) (Call me x.node (Del c.args.place) c.reply_of.result) h k x.node tt e.decided.grows c.requires.pass.sound e.pass.sound c.requires.holds (subst (λ l. Has l x.node) (sym hands) c.requires.holds)).keyset c.args.place
+    let hands : hand me k ≡ hand me h = subst (λ (z : ℕ). hand z k ≡ hand me h) e.caller e.decided.hand in
+    (places_kept sort n me (c.search_law.ensures sort n) (Call me x.node (Del c.args.place) c.reply_of.result) h k x.node tt e.decided.adds.grows c.requires.pass.sound e.pass.sound c.requires.holds (subst (λ l. Has l x.node) (sym hands) c.requires.holds)).keyset c.args.place
     (keyset_here sort g.N.Node.body c.args.place h x c.requires.body.0 c.requires.body.1 c.node_law.ensures.sound c.requires.inside c.requires.ends)
 
 pub returns-clause-decided : goal.returns-clause-decided
 returns-clause-decided g c = λ template start under. let me : ℕ = c.args.pass.now.caller in let h = seen_of c.args.pass.now in let k = seen_of c.decide-number.new.pass in let e = c.decide-number.ensures in let op = Del c.args.place in
-    let hands : hand me k ≡ hand me h = subst (λ (z : ℕ). hand z k ≡ hand me h) e.caller e.hand in
+    let hands : hand me k ≡ hand me h = subst (λ (z : ℕ). hand z k ≡ hand me h) e.caller e.decided.hand in
     subst (λ (r : Reply). Decided g.N.Node.layout template c.args.arena.now.nodes me op start k r c.decide-number.result) c.reply_of.ensures.told
-    (underway_call g.N.Node.layout template c.args.arena.now.nodes me c.args.held.now.node op c.reply_of.result c.decide-number.result start h k e.decided.grows (omega (arith, ap length hands, c.requires.few)) e.decided.number (λ full. absurd (c.reply_of.ensures.some full)) under)
+    (underway_call g.N.Node.layout template c.args.arena.now.nodes me c.args.held.now.node op c.reply_of.result c.decide-number.result start h k e.decided.adds.grows (omega (arith, ap length hands, c.requires.few)) e.decided.adds.number (λ full. absurd (c.reply_of.ensures.some full)) under)
 
 pub returns-clause-begins : goal.returns-clause-begins
-returns-clause-begins g c = with_begins c.args.pass.now.caller (Call c.args.pass.now.caller c.args.held.now.node (Del c.args.place) c.reply_of.result) (seen_of c.args.pass.now) (seen_of c.decide-number.new.pass) c.decide-number.ensures.decided.grows
+returns-clause-begins g c = with_begins c.args.pass.now.caller (Call c.args.pass.now.caller c.args.held.now.node (Del c.args.place) c.reply_of.result) (seen_of c.args.pass.now) (seen_of c.decide-number.new.pass) c.decide-number.ensures.decided.adds.grows

@@ -37,7 +37,7 @@ collapse-requires-clause-apart g c = apart g (goal.at.collapse-requires-clause-a
 
 -- the hands after the shape, and after the give
 shaped_hands : (g : Over) (c : After-give g) → hand c.args.pass.now.caller (seen_of c.collapse.new.pass) ≡ c.args.child.node ∷ c.args.root.node ∷ []
-shaped_hands g c = let h₁ = seen_of c.collapse.new.pass in subst (λ (z : ℕ). hand z h₁ ≡ c.args.child.node ∷ c.args.root.node ∷ []) c.collapse.ensures.caller (c.collapse.ensures.hand ∙ c.requires.pair.path.hands)
+shaped_hands g c = let h₁ = seen_of c.collapse.new.pass in subst (λ (z : ℕ). hand z h₁ ≡ c.args.child.node ∷ c.args.root.node ∷ []) c.collapse.ensures.caller (c.collapse.ensures.shaped.hand ∙ c.requires.pair.path.hands)
 
 gave_hands : (g : Over) (c : After-give g) → hand c.args.pass.now.caller (seen_of c.give.new.pass) ≡ c.args.root.node ∷ []
 gave_hands g c = let me : ℕ = c.args.pass.now.caller in let h₁ = seen_of c.collapse.new.pass in let k = seen_of c.give.new.pass in let i : ℕ = c.args.child.node in let j : ℕ = c.collapse.new.child.node in
@@ -49,13 +49,13 @@ gave g c = subst (λ (z : ℕ). GrowsWith z (Give z c.collapse.new.child.node) (
 
 pub give-requires-clause-holds : goal.give-requires-clause-holds
 give-requires-clause-holds g c κs within = let h₁ = seen_of c.collapse.new.pass in
-    subst (λ (z : List ℕ). Has z c.collapse.new.child.node) (sym (c.collapse.ensures.hand ∙ c.requires.pair.path.hands)) (inl (sym c.collapse.ensures.child.node))
+    subst (λ (z : List ℕ). Has z c.collapse.new.child.node) (sym (c.collapse.ensures.shaped.hand ∙ c.requires.pair.path.hands)) (inl (sym c.collapse.ensures.child.node))
 
 pub returns-clause-pair : goal.returns-clause-pair
 returns-clause-pair g c = let at = goal.at.returns-clause-pair g c in let me : ℕ = c.args.pass.now.caller in let h₁ = seen_of c.collapse.new.pass in let k = seen_of c.give.new.pass in let e = c.collapse.ensures in let sort = sort_of g.N.Node.layout g.N.Node.ranged in
     let zero : c.collapse.new.node.node ≡ 0 = e.node.node ∙ c.requires.root in
-    let still = c.give.ensures.still c.collapse.new.node (λ same. apart g at.After-search_law (sym e.node.node ∙ same ∙ e.child.node))
-    (subst (λ (z : List ℕ). Has z c.collapse.new.node.node) (sym (c.collapse.ensures.hand ∙ c.requires.pair.path.hands)) (inr (inl (sym e.node.node)))) e.node.matches in
+    let still = c.give.ensures.rest.still c.collapse.new.node (λ same. apart g at.After-search_law (sym e.node.node ∙ same ∙ e.child.node))
+    (subst (λ (z : List ℕ). Has z c.collapse.new.node.node) (sym (c.collapse.ensures.shaped.hand ∙ c.requires.pair.path.hands)) (inr (inl (sym e.node.node)))) e.node.matches in
     record {
       path = record {
         hands = gave_hands g at.After-give ∙ ap (λ (z : ℕ). z ∷ []) (sym e.node.node);
@@ -78,9 +78,9 @@ returns-clause-places g c = let at = goal.at.returns-clause-places g c in let me
 pub returns-clause-stretch : goal.returns-clause-stretch
 returns-clause-stretch g c = let at = goal.at.returns-clause-stretch g c in let me : ℕ = c.args.pass.now.caller in let h = seen_of c.args.pass.now in let h₁ = seen_of c.collapse.new.pass in let k = seen_of c.give.new.pass in
     stretches_both me h h₁ k
-    (stretches_shape me me c.collapse.new.pass.caller h h₁ refl c.collapse.ensures.caller (omega (arith, ap length c.requires.pair.path.hands)) c.collapse.ensures.hand c.collapse.ensures.shaped)
+    (stretches_shape me me c.collapse.new.pass.caller h h₁ refl c.collapse.ensures.caller (omega (arith, ap length c.requires.pair.path.hands)) c.collapse.ensures.shaped.hand c.collapse.ensures.shaped.adds)
     (stretches_give me c.collapse.new.child.node h₁ k (omega (arith, ap length (shaped_hands g at.After-give))) (gave g at.After-give))
 
 pub returns-clause-frees : goal.returns-clause-frees
 returns-clause-frees g c = let at = goal.at.returns-clause-frees g c in let me : ℕ = c.args.pass.now.caller in let h = seen_of c.args.pass.now in let h₁ = seen_of c.collapse.new.pass in let k = seen_of c.give.new.pass in
-    frees_both me 1 0 h h₁ k (frees_shape me h h₁ (omega arith) c.collapse.ensures.shaped) (frees_give me c.collapse.new.child.node h₁ k (gave g at.After-give))
+    frees_both me 1 0 h h₁ k (frees_shape me h h₁ (omega arith) c.collapse.ensures.shaped.adds) (frees_give me c.collapse.new.child.node h₁ k (gave g at.After-give))

@@ -13,7 +13,7 @@ use Rattle.ks_arena.proofs.Words.{one_alone}
 use Rattle.ks_arena.specs.Clauses.{IsPass, seen_of, Kept, DidClaimIn}
 use Rattle.ks_arena.specs.Laws.Tells.{kept_both, claimed_begins}
 use Rattle.ks_arena.proofs.Tries.{tried_more, root_taken, did_claim, alone_next}
-use Rattle.ks_arena.proofs.After.{still}
+use Rattle.ks_arena.proofs.Rest.{rest_of}
 use Rattle.ks_arena.proofs.arena.Arena.claim_steps.Given.{Over}
 use Rattle.ks_arena.proofs.arena.Arena.claim_steps.Goals as goal
 use Rattle.ks_arena.proofs.arena.Arena.claim_steps.Goals.{In-Some, In_default}
@@ -29,9 +29,9 @@ not_root g c = λ z. let so = (told g c).0 in let me : ℕ = c.args.pass.now.cal
 pub returns-in-Some-clause-claimed : goal.returns-in-Some-clause-claimed
 returns-in-Some-clause-claimed g c = did_claim (sort_of g.N.Node.layout g.N.Node.ranged) g.N.Node.body c.args.self.now.nodes c.loop-index.index c.args.pass.now.caller (seen_of c.args.pass.now) (seen_of c.loop-index.pass) (seen_of c.claim_in.new.pass) c.in-Some.held c.loop-index.invariant.2 (told g c) (not_root g c)
 
-pub returns-in-Some-clause-still : goal.returns-in-Some-clause-still
-returns-in-Some-clause-still g c = let inv = c.loop-index.invariant in let me : ℕ = c.args.pass.now.caller in let kept = subst (λ (z : ℕ). Kept z (seen_of c.loop-index.pass) (seen_of c.claim_in.new.pass)) inv.1 c.in-Some.ensures.kept in
-    λ x has m. still (sort_of g.N.Node.layout g.N.Node.ranged) g.D.Discipline.begins g.D.Discipline.step g.N.Node.body _ _ c.args.pass.now _ x c.requires has (λ t. kept_both me (seen_of c.args.pass.now) (seen_of c.loop-index.pass) (seen_of c.claim_in.new.pass) inv.2.kept kept x.node t) m
+pub returns-in-Some-clause-rest : goal.returns-in-Some-clause-rest
+returns-in-Some-clause-rest g c = let inv = c.loop-index.invariant in let me : ℕ = c.args.pass.now.caller in let kept = subst (λ (z : ℕ). Kept z (seen_of c.loop-index.pass) (seen_of c.claim_in.new.pass)) inv.1 c.in-Some.ensures.kept in
+    rest_of c.args.self.now c.args.pass.now _ c.requires (kept_both me (seen_of c.args.pass.now) (seen_of c.loop-index.pass) (seen_of c.claim_in.new.pass) inv.2.kept kept)
 
 pub returns-in-Some-clause-cost : goal.returns-in-Some-clause-cost
 returns-in-Some-clause-cost g c = λ alone holds. let inv = c.loop-index.invariant in let me : ℕ = c.args.pass.now.caller in let t = told g c in
@@ -53,8 +53,8 @@ loop-index-preserved g c = let inv = c.loop-index.invariant in let me : ℕ = c.
           let before = inv.3 parts.0 holds in let cost = e.cost (subst (λ (z : ℕ). ActsAlone z (seen_of c.loop-index.pass) (seen_of c.claim_in.new.pass)) (sym same) parts.1) (subst (λ (z : ℕ). HoldsAlone z (seen_of c.loop-index.pass)) (sym same) parts.2) in omega arith,
     )
 
-pub returns-clause-still : goal.returns-clause-still
-returns-clause-still g c = λ x has m. still (sort_of g.N.Node.layout g.N.Node.ranged) g.D.Discipline.begins g.D.Discipline.step g.N.Node.body _ _ c.args.pass.now _ x c.requires has (λ t. c.loop-index.invariant.2.kept x.node t) m
+pub returns-clause-rest : goal.returns-clause-rest
+returns-clause-rest g c = rest_of c.args.self.now c.args.pass.now _ c.requires c.loop-index.invariant.2.kept
 
 -- the pass of the only caller knows that nobody else acts
 lone : (g : Over) (callers : ℕ) (p : Pass g.row.N.Denot g.row.D.Denot) (t : TableId) (h : List Event) → IsPass (sort_of g.N.Node.layout g.N.Node.ranged) g.D.Discipline.begins g.D.Discipline.step t callers p → callers ≡ 1 → p.caller ≡ 0 → h ⊑ seen_of p → ActsAlone 0 h (seen_of p) × HoldsAlone 0 h

@@ -9,12 +9,13 @@ use Rattle.ks_history.specs.Due.{IsDue}
 use Rattle.ks_history.specs.Stays.{StaysHeld}
 use Rattle.ks_history.specs.Laws.Stays.{cond_here, cond_else}
 use Rattle.ks_arena.specs.Sound.{sort_of, blank_of}
-use Rattle.ks_arena.specs.Clauses.{Matches}
+use Rattle.ks_arena.specs.Clauses.{Matches, KeptBut}
 use Rattle.ks_arena.specs.Plays.{decided}
 use Rattle.ks_arena.proofs.Moves.{decides_ok}
 use Rattle.ks_arena.proofs.Ready.{may_call}
 use Rattle.ks_arena.proofs.Hold.{holds_it, makes_grows}
-use Rattle.ks_arena.proofs.After.{still, matches_live, pass_again, Counted, counted, stays_then}
+use Rattle.ks_arena.proofs.After.{matches_live, pass_again, Counted, counted, stays_then}
+use Rattle.ks_arena.proofs.Rest.{decided_of}
 use Rattle.ks_arena.proofs.arena.Arena.count.Given.{Over}
 use Rattle.ks_arena.proofs.arena.Arena.count.Goals as goal
 use Rattle.ks_arena.proofs.arena.Arena.count.Goals.{After-fetch_add}
@@ -40,14 +41,13 @@ after g c = let r = c.requires.pass in counted (sort_of g.N.Node.layout g.N.Node
 pub returns-clause-pass : goal.returns-clause-pass
 returns-clause-pass g c = let a = after g c in pass_again (sort_of g.N.Node.layout g.N.Node.ranged) g.D.Discipline.begins g.D.Discipline.step _ _ c.args.pass.now _ c.fetch_add.new.seat.me c.requires.pass refl c.fetch_add.ensures.0 refl a.follows a.carries a.slots a.sounds a.knows
 
-pub returns-clause-hand : goal.returns-clause-hand
-returns-clause-hand g c = (after g c).hand_is
-
-pub returns-clause-mine : goal.returns-clause-mine
-returns-clause-mine g c = (after g c).mine_is
+kept : (g : Over) (c : After-fetch_add g) → KeptBut c.args.held.now.node c.args.pass.now.caller c.args.pass.now.seat.me.0.seen c.fetch_add.new.seat.me.0.seen
+kept g c = λ j ne x. let a = after g c in let i : ℕ = c.args.held.now.node in let h : List Event = a.grows.rest ++ c.args.pass.now.seat.me.0.seen in let k = a.before j x in
+    subst (StaysHeld c.args.pass.now.caller j c.args.pass.now.seat.me.0.seen) (sym a.grows.is) (stays_then c.args.pass.now.caller (event g c) c.args.pass.now.seat.me.0.seen h j k k.turn (cond_else j i (state_with (written c.args.op c.args.reply) (graph_after h i)) (graph_after h j) ne) (λ blank. refl))
 
 pub returns-clause-decided : goal.returns-clause-decided
-returns-clause-decided g c = record { grows = makes_grows _ _ _ _ c.args.pass.now.caller c.requires.pass.own (told g c).0; number = (told g c).2 }
+returns-clause-decided g c = let a = after g c in decided_of c.args.self.now c.args.pass.now _ c.requires.pass c.args.held.now c.args.op c.args.reply _
+    (record { grows = makes_grows _ _ _ _ c.args.pass.now.caller c.requires.pass.own (told g c).0; number = (told g c).2 }) a.hand_is a.mine_is (kept g c)
 
 pub returns-clause-body : goal.returns-clause-body
 returns-clause-body g c = let a = after g c in let i : ℕ = c.args.held.now.node in let h : List Event = a.grows.rest ++ c.args.pass.now.seat.me.0.seen in let o = c.args.op in let y = c.args.reply in let r = c.requires.pass in
@@ -56,10 +56,3 @@ returns-clause-body g c = let a = after g c in let i : ℕ = c.args.held.now.nod
       is = matches_live (sort_of g.N.Node.layout g.N.Node.ranged) g.N.Node.body c.args.held.now.live _ _ c.args.held.now.body c.requires.ready.live
           (cond_here i i (state_with (written o y) (graph_after h i)) (graph_after h i) refl ∙ ap (state_with (written o y)) k.state ∙ c.requires.ready.state) (k.frame (blank_of (sort_of g.N.Node.layout g.N.Node.ranged)) ∙ c.requires.ready.frame);
     }
-
-pub returns-clause-kept : goal.returns-clause-kept
-returns-clause-kept g c = λ j ne x. let a = after g c in let i : ℕ = c.args.held.now.node in let h : List Event = a.grows.rest ++ c.args.pass.now.seat.me.0.seen in let k = a.before j x in
-    subst (StaysHeld c.args.pass.now.caller j c.args.pass.now.seat.me.0.seen) (sym a.grows.is) (stays_then c.args.pass.now.caller (event g c) c.args.pass.now.seat.me.0.seen h j k k.turn (cond_else j i (state_with (written c.args.op c.args.reply) (graph_after h i)) (graph_after h j) ne) (λ blank. refl))
-
-pub returns-clause-still : goal.returns-clause-still
-returns-clause-still g c = λ x ne has m. still (sort_of g.N.Node.layout g.N.Node.ranged) g.D.Discipline.begins g.D.Discipline.step g.N.Node.body _ _ c.args.pass.now _ x c.requires.pass has (λ t. returns-clause-kept g c x.node ne t) m

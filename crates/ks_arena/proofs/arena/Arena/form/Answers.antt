@@ -9,11 +9,12 @@ use Rattle.ks_history.specs.Stays.{StaysHeld}
 use Rattle.ks_history.specs.Laws.Begins.{by_others_keeps}
 use Rattle.ks_arena.specs.Sound.{sort_of, Sound}
 use Rattle.ks_arena.specs.Plays.{formed}
-use Rattle.ks_arena.specs.Clauses.{changes_of, AreShaped}
+use Rattle.ks_arena.specs.Clauses.{changes_of, AreShaped, KeptBesides}
 use Rattle.ks_arena.specs.Laws.Beyond.{are_in_turn}
 use Rattle.ks_arena.proofs.Moves.{forms_ok}
 use Rattle.ks_arena.proofs.Hold.{holds_it}
-use Rattle.ks_arena.proofs.After.{still, all_held, each_once, are_shaped, shaped_not, reframed_not, pass_again, Counted, counted, stays_then}
+use Rattle.ks_arena.proofs.After.{all_held, each_once, are_shaped, shaped_not, reframed_not, pass_again, Counted, counted, stays_then}
+use Rattle.ks_arena.proofs.Rest.{shaped_of}
 use Rattle.ks_arena.proofs.arena.Arena.form.Given.{Over}
 use Rattle.ks_arena.proofs.arena.Arena.form.Goals as goal
 use Rattle.ks_arena.proofs.arena.Arena.form.Goals.{After-fetch_add}
@@ -45,21 +46,12 @@ after g c = let r = c.requires.pass in counted (sort_of g.N.Node.layout g.N.Node
 pub returns-clause-pass : goal.returns-clause-pass
 returns-clause-pass g c = let a = after g c in pass_again (sort_of g.N.Node.layout g.N.Node.ranged) g.D.Discipline.begins g.D.Discipline.step _ _ c.args.pass.now _ c.fetch_add.new.seat.me c.requires.pass refl c.fetch_add.ensures.0 refl a.follows a.carries a.slots a.sounds a.knows
 
+kept : (g : Over) (c : After-fetch_add g) → KeptBesides (changes g c) c.args.pass.now.caller c.args.pass.now.seat.me.0.seen c.fetch_add.new.seat.me.0.seen
+kept g c = λ j ne x. let a = after g c in let h : List Event = a.grows.rest ++ c.args.pass.now.seat.me.0.seen in let k = a.before j x in
+    subst (StaysHeld c.args.pass.now.caller j c.args.pass.now.seat.me.0.seen) (sym a.grows.is) (stays_then c.args.pass.now.caller (event g c) c.args.pass.now.seat.me.0.seen h j k k.turn (shaped_not (changes g c) j (graph_after h j) ne) (λ blank. reframed_not (changes g c) j (frame_after blank h j) ne))
+
 pub returns-clause-shaped : goal.returns-clause-shaped
-returns-clause-shaped g c = (after g c).grows
-
-pub returns-clause-hand : goal.returns-clause-hand
-returns-clause-hand g c = (after g c).hand_is
-
-pub returns-clause-mine : goal.returns-clause-mine
-returns-clause-mine g c = (after g c).mine_is
+returns-clause-shaped g c = let a = after g c in shaped_of c.args.self.now c.args.pass.now _ c.requires.pass (changes g c) a.grows a.hand_is a.mine_is (kept g c)
 
 pub returns-clause-bodies : goal.returns-clause-bodies
 returns-clause-bodies g c = let a = after g c in subst (λ (z : List Event). AreShaped (sort_of g.N.Node.layout g.N.Node.ranged) g.N.Node.body z c.args.first.now c.args.second c.args.third) (sym a.grows.is) (are_shaped (sort_of g.N.Node.layout g.N.Node.ranged) g.N.Node.body (a.grows.rest ++ c.args.pass.now.seat.me.0.seen) c.args.pass.now.caller c.args.first.now c.args.second c.args.third c.requires.once)
-
-pub returns-clause-kept : goal.returns-clause-kept
-returns-clause-kept g c = λ j ne x. let a = after g c in let h : List Event = a.grows.rest ++ c.args.pass.now.seat.me.0.seen in let k = a.before j x in
-    subst (StaysHeld c.args.pass.now.caller j c.args.pass.now.seat.me.0.seen) (sym a.grows.is) (stays_then c.args.pass.now.caller (event g c) c.args.pass.now.seat.me.0.seen h j k k.turn (shaped_not (changes g c) j (graph_after h j) ne) (λ blank. reframed_not (changes g c) j (frame_after blank h j) ne))
-
-pub returns-clause-still : goal.returns-clause-still
-returns-clause-still g c = λ x ne has m. still (sort_of g.N.Node.layout g.N.Node.ranged) g.D.Discipline.begins g.D.Discipline.step g.N.Node.body _ _ c.args.pass.now _ x c.requires.pass has (λ t. returns-clause-kept g c x.node ne t) m

@@ -3,7 +3,8 @@ use mathlib.Core.Option.{none}
 use Rattle.atomic_table.specs.Table.{step}
 use Rattle.ks_arena.specs.Sound.{sort_of}
 use Rattle.ks_arena.proofs.Crew.{joins_ok, gathers_ok}
-use Rattle.ks_arena.proofs.After.{still, pass_again}
+use Rattle.ks_arena.proofs.After.{pass_again}
+use Rattle.ks_arena.proofs.Rest.{rest_of}
 use Rattle.ks_arena.proofs.Learning.{Learned, learned}
 use Rattle.ks_arena.proofs.arena.Arena.learn.Given.{Over}
 use Rattle.ks_arena.proofs.arena.Arena.learn.Goals as goal
@@ -27,8 +28,5 @@ returns-clause-looked g c = (after g c).looked
 pub returns-clause-noted : goal.returns-clause-noted
 returns-clause-noted g c = (after g c).told
 
-pub returns-clause-kept : goal.returns-clause-kept
-returns-clause-kept g c = (after g c).kept
-
-pub returns-clause-still : goal.returns-clause-still
-returns-clause-still g c = λ x has m. still (sort_of g.N.Node.layout g.N.Node.ranged) g.D.Discipline.begins g.D.Discipline.step g.N.Node.body _ _ c.args.pass.now _ x c.requires.pass has (λ t. returns-clause-kept g c x.node t) m
+pub returns-clause-rest : goal.returns-clause-rest
+returns-clause-rest g c = rest_of c.args.self.now c.args.pass.now _ c.requires.pass ((after g c).kept)

@@ -8,7 +8,8 @@ use Rattle.ks_arena.specs.Rule.{Running}
 use Rattle.ks_arena.specs.Plays.{marked, bit_was_set}
 use Rattle.ks_arena.proofs.Moves.{sets_bit_ok}
 use Rattle.ks_arena.proofs.Hold.{hand_near, holds_it}
-use Rattle.ks_arena.proofs.After.{still, pass_marked, Looked, looked}
+use Rattle.ks_arena.proofs.After.{pass_marked, Looked, looked}
+use Rattle.ks_arena.proofs.Rest.{rest_of}
 use Rattle.ks_arena.proofs.arena.Arena.set_bit.Given.{Over}
 use Rattle.ks_arena.proofs.arena.Arena.set_bit.Goals as goal
 use Rattle.ks_arena.proofs.arena.Arena.set_bit.Goals.{After-fetch_or}
@@ -33,8 +34,5 @@ returns-clause-pass g c = let a = after g c in pass_marked _ _ _ Quiet (Freeing 
 pub returns-clause-looked : goal.returns-clause-looked
 returns-clause-looked g c = let a = after g c in record { grows = a.grows; hand = a.hand_is; mine = a.mine_is }
 
-pub returns-clause-kept : goal.returns-clause-kept
-returns-clause-kept g c = (after g c).kept
-
-pub returns-clause-still : goal.returns-clause-still
-returns-clause-still g c = λ x has m. still (sort_of g.N.Node.layout g.N.Node.ranged) g.D.Discipline.begins g.D.Discipline.step g.N.Node.body _ _ c.args.pass.now _ x c.requires.pass has (λ t. returns-clause-kept g c x.node t) m
+pub returns-clause-rest : goal.returns-clause-rest
+returns-clause-rest g c = rest_of c.args.self.now c.args.pass.now _ c.requires.pass ((after g c).kept)

@@ -1,33 +1,54 @@
-use Rattle.std.proofs.Common.{ℕ, ◌∙◌, subst, refl}
+use Rattle.std.proofs.Common.{◌∙◌, sym, subst, refl, arith}
+use Rattle.std.specs.Prelude.{IsSome, Some, true}
 use Rattle.ks_arena.specs.Sound.{sort_of}
-use Rattle.ks_arena.specs.declared.held.Taken.TheVariants.{Held, Busy, Gone}
-use Rattle.ks_arena.specs.Clauses.{seen_of, Kept, TryTook}
-use Rattle.ks_arena.specs.Laws.Tells.{looked_none, looked_both, kept_both, taken_later}
-use Rattle.ks_arena.proofs.After.{still}
+use Rattle.ks_arena.proofs.Words.{word_free}
+use Rattle.ks_arena.proofs.Moves.{takes_ok}
+use Rattle.ks_arena.proofs.Hold.{top_rest, top_same}
+use Rattle.ks_arena.proofs.Rest.{rest_of}
+use Rattle.ks_arena.proofs.Taking.{Caught, Waited, waited_none, caught, missed}
+use Rattle.ks_arena.proofs.arena.Arena.take.Given.{Over}
 use Rattle.ks_arena.proofs.arena.Arena.take.Goals as goal
+use Rattle.ks_arena.proofs.arena.Arena.take.Goals.{After-drop-iterator, After-drop-iterator-then-found-eq0}
 
 pub loop-init : goal.loop-init
-loop-init g c = (c.requires.pass, refl, looked_none _ _, λ j x. record { turn = x; state = refl; frame = λ blank. refl })
+loop-init g c = waited_none (sort_of g.N.Node.layout g.N.Node.ranged) g.D.Discipline.begins g.D.Discipline.step c.args.self.now.table.shared.table_id c.args.self.now.callers c.args.pass.now c.requires.pass
 
-pub returns-in-Held-clause-took : goal.returns-in-Held-clause-took
-returns-in-Held-clause-took g c = let inv = c.loop.invariant in let told = subst (λ (z : ℕ). TryTook (sort_of g.N.Node.layout g.N.Node.ranged) g.N.Node.body z c.args.node (seen_of c.loop.pass) (seen_of c.try_take.new.pass) (Held c.in-Held.held)) inv.1 c.in-Held.ensures.took in
-    taken_later (sort_of g.N.Node.layout g.N.Node.ranged) g.N.Node.body c.args.pass.now.caller c.args.node (seen_of c.args.pass.now) (seen_of c.loop.pass) (seen_of c.try_take.new.pass) c.in-Held.held inv.2 told
+pub compare_exchange-found-requires : goal.compare_exchange-found-requires
+compare_exchange-found-requires g c = let is = c.loop.invariant.pass in (is.table, omega arith, takes_ok (sort_of g.N.Node.layout g.N.Node.ranged) g.D.Discipline.begins g.D.Discipline.step g.N.Node.body _ _ c.loop.pass.seat.me c.loop.pass.caller c.args.node is.own is.bare is.mark is.few (omega arith))
 
-pub returns-in-Gone-clause-took : goal.returns-in-Gone-clause-took
-returns-in-Gone-clause-took g c = let inv = c.loop.invariant in let told = subst (λ (z : ℕ). TryTook (sort_of g.N.Node.layout g.N.Node.ranged) g.N.Node.body z c.args.node (seen_of c.loop.pass) (seen_of c.try_take.new.pass) Gone) inv.1 c.in-Gone.ensures.took in
-    (looked_both c.args.pass.now.caller (seen_of c.args.pass.now) (seen_of c.loop.pass) (seen_of c.try_take.new.pass) inv.2 told.0, told.1)
+pub exchange-requires : goal.exchange-requires
+exchange-requires g c = let is = c.loop.invariant.pass in let told = (c.compare_exchange-found.ensures.2 c.loop.pass.caller c.args.node is.own refl).0 c.if-found-eq1.true in (c.compare_exchange-found.ensures.0 ∙ is.table, (Some told.1.0, top_rest _ _ _ told.1.1))
+
+pub unwrap-body-requires : goal.unwrap-body-requires
+unwrap-body-requires g c = let told = (c.compare_exchange-found.ensures.2 c.loop.pass.caller c.args.node c.loop.invariant.pass.own refl).0 c.if-found-eq1.true in
+    let e = top_same c.args.node (Some told.1.0) c.exchange.result c.compare_exchange-found.new.seat.me.1 _ _ told.1.1 c.exchange.ensures.2 in subst IsSome e.0 refl
+
+hit : (g : Over) (c : After-drop-iterator g) → Caught (sort_of g.N.Node.layout g.N.Node.ranged) g.D.Discipline.begins g.D.Discipline.step c.args.self.now.table.shared.table_id c.args.self.now.callers g.N.Node.body c.args.node c.args.pass.now (record { seat = c.exchange.new.seat; caller = c.loop.pass.caller; marker = c.loop.pass.marker }) (record { node = c.args.node; live = true; body = c.unwrap-body.result })
+hit g c = caught (sort_of g.N.Node.layout g.N.Node.ranged) g.D.Discipline.begins g.D.Discipline.step c.args.self.now.table.shared.table_id c.args.self.now.callers g.N.Node.body c.args.node c.compare_exchange-found.result c.args.pass.now c.loop.pass (record { seat = c.exchange.new.seat; caller = c.loop.pass.caller; marker = c.loop.pass.marker }) c.compare_exchange-found.new.seat.me c.exchange.result c.unwrap-body.result c.loop.invariant (omega arith) c.requires.fresh
+    (c.compare_exchange-found.ensures.2 c.loop.pass.caller c.args.node c.loop.invariant.pass.own refl) c.if-found-eq1.true c.exchange.ensures.2 c.unwrap-body.ensures refl (c.exchange.ensures.0 ∙ c.compare_exchange-found.ensures.0) c.exchange.ensures.3
+
+pub returns-then-found-eq1-clause-pass : goal.returns-then-found-eq1-clause-pass
+returns-then-found-eq1-clause-pass g c = (hit g c).pass
+
+pub returns-then-found-eq1-clause-took : goal.returns-then-found-eq1-clause-took
+returns-then-found-eq1-clause-took g c = (hit g c).took
+
+pub returns-then-found-eq1-clause-rest : goal.returns-then-found-eq1-clause-rest
+returns-then-found-eq1-clause-rest g c = rest_of c.args.self.now c.args.pass.now _ c.requires.pass ((hit g c).kept)
+
+then_missed : (g : Over) (c : After-drop-iterator-then-found-eq0 g) → Waited (sort_of g.N.Node.layout g.N.Node.ranged) g.D.Discipline.begins g.D.Discipline.step c.args.self.now.table.shared.table_id c.args.self.now.callers c.args.pass.now (record { seat = c.compare_exchange-found.new.seat; caller = c.loop.pass.caller; marker = c.loop.pass.marker })
+then_missed g c = missed (sort_of g.N.Node.layout g.N.Node.ranged) g.D.Discipline.begins g.D.Discipline.step c.args.self.now.table.shared.table_id c.args.self.now.callers g.N.Node.body c.args.node c.compare_exchange-found.result c.args.pass.now c.loop.pass (record { seat = c.compare_exchange-found.new.seat; caller = c.loop.pass.caller; marker = c.loop.pass.marker }) c.loop.invariant
+    (c.compare_exchange-found.ensures.2 c.loop.pass.caller c.args.node c.loop.invariant.pass.own refl) c.if-found-eq1.false refl c.compare_exchange-found.ensures.0
+
+pub returns-then-found-eq0-clause-pass : goal.returns-then-found-eq0-clause-pass
+returns-then-found-eq0-clause-pass g c = (then_missed g c).pass
+
+pub returns-then-found-eq0-clause-took : goal.returns-then-found-eq0-clause-took
+returns-then-found-eq0-clause-took g c = let told = (c.compare_exchange-found.ensures.2 c.loop.pass.caller c.args.node c.loop.invariant.pass.own refl).1 c.if-found-eq1.false in ((then_missed g c).looked, word_free _ (sym told.2 ∙ c.if-found-eq0.true))
+
+pub returns-then-found-eq0-clause-rest : goal.returns-then-found-eq0-clause-rest
+returns-then-found-eq0-clause-rest g c = rest_of c.args.self.now c.args.pass.now _ c.requires.pass ((then_missed g c).kept)
 
 pub loop-preserved : goal.loop-preserved
-loop-preserved g c = let inv = c.loop.invariant in let told = subst (λ (z : ℕ). TryTook (sort_of g.N.Node.layout g.N.Node.ranged) g.N.Node.body z c.args.node (seen_of c.loop.pass) (seen_of c.try_take.new.pass) (Busy c.in-Busy.holder)) inv.1 c.in-Busy.ensures.took in
-    let kept = subst (λ (z : ℕ). Kept z (seen_of c.loop.pass) (seen_of c.try_take.new.pass)) inv.1 c.in-Busy.ensures.kept in (
-      c.in-Busy.ensures.pass,
-      c.in-Busy.ensures.caller ∙ inv.1,
-      looked_both c.args.pass.now.caller (seen_of c.args.pass.now) (seen_of c.loop.pass) (seen_of c.try_take.new.pass) inv.2 told.0,
-      kept_both c.args.pass.now.caller (seen_of c.args.pass.now) (seen_of c.loop.pass) (seen_of c.try_take.new.pass) inv.3 kept,
-    )
-
-pub returns-in-Held-clause-still : goal.returns-in-Held-clause-still
-returns-in-Held-clause-still g c = let inv = c.loop.invariant in let me : ℕ = c.args.pass.now.caller in let kept = subst (λ (z : ℕ). Kept z (seen_of c.loop.pass) (seen_of c.try_take.new.pass)) inv.1 c.in-Held.ensures.kept in λ x has m. still (sort_of g.N.Node.layout g.N.Node.ranged) g.D.Discipline.begins g.D.Discipline.step g.N.Node.body _ _ c.args.pass.now _ x c.requires.pass has (λ t. kept_both me (seen_of c.args.pass.now) (seen_of c.loop.pass) (seen_of c.try_take.new.pass) inv.3 kept x.node t) m
-
-pub returns-in-Gone-clause-still : goal.returns-in-Gone-clause-still
-returns-in-Gone-clause-still g c = let inv = c.loop.invariant in let me : ℕ = c.args.pass.now.caller in let kept = subst (λ (z : ℕ). Kept z (seen_of c.loop.pass) (seen_of c.try_take.new.pass)) inv.1 c.in-Gone.ensures.kept in λ x has m. still (sort_of g.N.Node.layout g.N.Node.ranged) g.D.Discipline.begins g.D.Discipline.step g.N.Node.body _ _ c.args.pass.now _ x c.requires.pass has (λ t. kept_both me (seen_of c.args.pass.now) (seen_of c.loop.pass) (seen_of c.try_take.new.pass) inv.3 kept x.node t) m
+loop-preserved g c = missed (sort_of g.N.Node.layout g.N.Node.ranged) g.D.Discipline.begins g.D.Discipline.step c.args.self.now.table.shared.table_id c.args.self.now.callers g.N.Node.body c.args.node c.compare_exchange-found.result c.args.pass.now c.loop.pass (record { seat = c.compare_exchange-found.new.seat; caller = c.loop.pass.caller; marker = c.loop.pass.marker }) c.loop.invariant
+    (c.compare_exchange-found.ensures.2 c.loop.pass.caller c.args.node c.loop.invariant.pass.own refl) c.if-found-eq1.false refl c.compare_exchange-found.ensures.0

@@ -1,7 +1,6 @@
-use Rattle.std.proofs.Common.{sym, ◌∙◌, ap}
-use Rattle.std.specs.Prelude.{length}
+use Rattle.std.proofs.Common.{sym}
 use Rattle.ks_bplus.specs.Laws.Fits.{fit_edge_count}
 use Rattle.ks_bplus.proofs.node.BNodeNode.edges_held.Goals as goal
 
 pub returns : goal.returns
-returns c = c.len.ensures.value ∙ ap (λ x. length x.starts.items) c.deref.ensures ∙ sym (fit_edge_count _ _ _ _ c.args.self.now.fit)
+returns c = rw (c.starts.ensures, c.deref.ensures) (sym (fit_edge_count _ _ _ _ c.args.self.now.fit))

@@ -3,5 +3,9 @@ use Rattle.ks_hash.proofs.node.HNodeNode.put.Goals as goal
 
 pub invariant_of-self : goal.invariant_of-self
 invariant_of-self c =
-    let long = c.put_pair.ensures.fits in
-    record { fit = rw (c.put_pair.ensures.items, c.deref_mut.ensures.value) (fit_put c.args.self.now.fit c.args.place c.args.value c.requires.no_branch c.requires.below_own (rw (← c.deref_mut.ensures.value, ← c.put_pair.ensures.items) long)) }
+    let done = c.put.ensures in
+    record {
+      fit =
+          rw (done.kind, done.pairs, done.own, done.slices, c.deref_mut.ensures.value)
+          (fit_put c.args.self.now.fit c.args.place c.args.value c.requires.no_branch c.requires.below_own (rw (← c.deref_mut.ensures.value, ← done.pairs) done.fits));
+    }

@@ -1,23 +1,23 @@
-use Rattle.std.proofs.Common.{arith}
-use Rattle.ks_hash.specs.Laws.Fits.{fit_left, fit_right, full_bucket, blank_bucket, split_above}
+use Rattle.std.proofs.Common.{arith, refl, false, []}
+use Rattle.ks_hash.specs.Laws.Fits.{fit_left, fit_right, full_bucket, split_above}
 use Rattle.ks_hash.proofs.node.HNodeUnlinked.grow.Goals as goal
 
 pub invariant_of-left : goal.invariant_of-left
 invariant_of-left c =
+    let done = c.split_to.ensures in
     let bucket = full_bucket c.args.self.now.fit c.requires.full in
-    let blank = blank_bucket c.args.left.now.fit c.requires.left_blank in
     record {
       fit =
-          rw (c.deref_mut-4.ensures.value, c.move_pairs.ensures.left, c.deref_mut.ensures.value, c.swap.ensures.y_after)
-          (fit_left c.args.self.now.fit bucket c.args.self.now.low c.args.left.now.is_directory c.args.cut _ blank);
+          rw (done.kind, done.pairs, done.own, done.slices, c.deref_mut.ensures.value, c.swap.ensures.y_after)
+          (fit_left c.args.self.now.fit bucket c.args.self.now.low false c.args.cut [] refl);
     }
 
 pub invariant_of-right : goal.invariant_of-right
 invariant_of-right c =
+    let done = c.split_to.ensures in
     let bucket = full_bucket c.args.self.now.fit c.requires.full in
-    let blank = blank_bucket c.args.right.now.fit c.requires.right_blank in
     record {
       fit =
-          rw (c.deref_mut-3.ensures.value, c.move_pairs.ensures.right, c.deref.ensures, c.deref_mut.ensures.value, c.swap.ensures.y_after)
-          (fit_right c.args.self.now.fit bucket c.args.right.now.is_directory c.args.cut _ blank (omega arith) (split_above c.args.self.now.fit c.args.cut bucket c.requires.cut));
+          rw (done.right_kind, done.right_pairs, done.right_own, done.right_slices, c.deref_mut.ensures.value, c.swap.ensures.y_after)
+          (fit_right c.args.self.now.fit bucket false c.args.cut [] refl (omega arith) (split_above c.args.self.now.fit c.args.cut bucket c.requires.cut));
     }

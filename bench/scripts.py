@@ -1,0 +1,89 @@
+"""Scripts of calls for the command `run`, and the same calls for the peers, which read the same text."""
+
+from dataclasses import dataclass
+
+CALLERS = 64
+MULTIPLIER = 6364136223846793005
+INCREMENT = 1442695040888963407
+WORD = 2 ** 64
+MOST_FILLED = 2 ** 18
+
+
+@dataclass(frozen=True)
+class Mix:
+    """Of four calls so many put, get and delete."""
+
+    name: str
+    kinds: tuple
+
+
+GETS = Mix("gets alone", ("get", "get", "get", "get"))
+HALF_PUTS = Mix("half puts", ("put", "put", "get", "get"))
+GENERATED = Mix("the generator's", ("put", "put", "get", "del"))
+
+
+@dataclass(frozen=True)
+class Workload:
+    """Calls of 64 callers over a map that was filled before: what they do, over how many keys, and in which order."""
+
+    mix: Mix
+    keys: int
+    sequential: bool
+
+    @property
+    def name(self):
+        order = "in sequence" if self.sequential else "at random"
+        return f"{self.mix.name}, {self.keys:,} keys {order}"
+
+
+# One thing is varied at a time.
+WORKLOADS = (
+    Workload(HALF_PUTS, 100_000, False),
+    Workload(GETS, 100_000, False),
+    Workload(GENERATED, 100_000, False),
+    Workload(HALF_PUTS, 100_000, True),
+    Workload(HALF_PUTS, 1_000, False),
+    Workload(HALF_PUTS, 10_000, False),
+    Workload(HALF_PUTS, 1_000_000, False),
+)
+
+
+class Drawn:
+    """Numbers drawn as the program's generator draws them."""
+
+    def __init__(self, first):
+        self.state = first
+
+    def draw(self):
+        self.state = (self.state * MULTIPLIER + INCREMENT) % WORD
+        return self.state >> 33
+
+
+def line_of(kind, key, value):
+    return f"put {key} {value}" if kind == "put" else f"{kind} {key}"
+
+
+def fill_of(workload, caller):
+    """The puts by which a caller fills its part of the map: every other key of the space, or fewer of a great one."""
+    stride = max(2, workload.keys // MOST_FILLED)
+    return [f"put {key} {key}" for key in range(caller * stride, workload.keys, CALLERS * stride)]
+
+
+def calls_of(workload, caller, calls, drawn):
+    """A caller's calls; in sequence it begins at a key of its own."""
+    begin = caller * (workload.keys // CALLERS)
+    lines = []
+    for at in range(calls):
+        kind = workload.mix.kinds[drawn.draw() % 4]
+        key = (begin + at if workload.sequential else drawn.draw()) % workload.keys
+        lines.append(line_of(kind, key, drawn.draw()))
+    return lines
+
+
+def script(workload, calls):
+    """The text of the fill and of so many calls of each caller."""
+    drawn = Drawn(7)
+    lines = []
+    for caller in range(CALLERS):
+        lines += ["caller", *fill_of(workload, caller), *calls_of(workload, caller, calls, drawn)]
+    return "\n".join(lines) + "\n"

@@ -1,0 +1,132 @@
+//! Notes: what one caller has seen, another learns.
+ghost use Rattle.ks_arena.specs.Clauses.{IsNote};
+ghost use Rattle.ks_arena.specs.Of.{IsEmptyPassOf};
+ghost use Rattle.ks_shape.specs.Idle.{IsIdle};
+ghost use Rattle.ks_dictionary.specs.Crew.{IsNoteOf};
+
+use crate::crews::two_callers;
+use ks_arena::{Note, Pass};
+use ks_coupling::Coupling;
+use ks_dictionary::Dictionary;
+use ks_flow::Tree;
+use ks_gate::NoGate;
+use ks_list::ListNode;
+use ks_shape::Shelf;
+use std::sync::Wait;
+use std::test::Fail;
+use std::thread::{Threads, join};
+
+type Lists = Dictionary<ListNode, Coupling>;
+
+type Caller = Pass<ListNode, Tree>;
+
+type News = Note<ListNode, Tree>;
+
+/// Caller 0 puts a value and notes what it has seen; caller 1 learns that, and finds the value.
+#[test]
+fn a_note_is_learnt(rt: HostRuntime) -> Result<(), Fail> {
+    let (dictionary, mut one, mut two) = two_callers::<ListNode, Coupling>(rt.alloc(), 4)?;
+    let put = dictionary.put(&rt, &mut one, &NoGate, 5, 50);
+    assert!(rt; matches!(put, Ok(told) if told.number == 0 && told.found.is_none()));
+    let note = dictionary.note(&mut one);
+    dictionary.learn(&mut two, note);
+    let got = dictionary.get(&rt, &mut two, &NoGate, 5);
+    assert!(rt; got.number == 1 && got.found == Some(50));
+    Ok(())
+}
+
+/// Puts a value of ten times the key, and notes it.
+fn put_and_note<R: Wait>(
+    rt: &R,
+    dictionary: &Lists,
+    mut pass: Caller,
+    key: u64,
+) -> (Caller, News)
+    requires { IsIdle (⟦<Dictionary<ListNode, Coupling> as Shelf>⟧.site dictionary.now) pass }
+    ensures pass { IsIdle (⟦<Dictionary<ListNode, Coupling> as Shelf>⟧.site dictionary.now) result.0 }
+    ensures note { IsNoteOf (⟦<Dictionary<ListNode, Coupling> as Shelf>⟧.site dictionary.now) result.1 }
+{
+    let _told = dictionary.put(rt, &mut pass, &NoGate, key, u128::from(key) * 10);
+    let note = dictionary.note(&mut pass);
+    (pass, note)
+}
+
+/// Learns a note, and gets a key.
+fn learn_and_get<R: Wait>(
+    rt: &R,
+    dictionary: &Lists,
+    mut pass: Caller,
+    note: News,
+    key: u64,
+) -> Option<u128>
+    requires pass { IsIdle (⟦<Dictionary<ListNode, Coupling> as Shelf>⟧.site dictionary.now) pass }
+    requires note { IsNoteOf (⟦<Dictionary<ListNode, Coupling> as Shelf>⟧.site dictionary.now) note }
+{
+    dictionary.learn(&mut pass, note);
+    dictionary.get(rt, &mut pass, &NoGate, key).found
+}
+
+/// Both callers put and note at once.
+fn both_put<R: Threads + Wait + Sync>(
+    rt: &R,
+    dictionary: &Lists,
+    one: Caller,
+    two: Caller,
+) -> ((Caller, News), (Caller, News))
+    requires one { IsIdle (⟦<Dictionary<ListNode, Coupling> as Shelf>⟧.site dictionary.now) one }
+    requires two { IsIdle (⟦<Dictionary<ListNode, Coupling> as Shelf>⟧.site dictionary.now) two }
+    ensures one { IsIdle (⟦<Dictionary<ListNode, Coupling> as Shelf>⟧.site dictionary.now) result.0.0 }
+    ensures two { IsIdle (⟦<Dictionary<ListNode, Coupling> as Shelf>⟧.site dictionary.now) result.1.0 }
+    ensures of_one { IsNoteOf (⟦<Dictionary<ListNode, Coupling> as Shelf>⟧.site dictionary.now) result.0.1 }
+    ensures of_two { IsNoteOf (⟦<Dictionary<ListNode, Coupling> as Shelf>⟧.site dictionary.now) result.1.1 }
+{
+    join(
+        rt,
+        move || -> (Caller, News)
+            requires { IsEmptyPassOf dictionary.now.arena one }
+            ensures pass { IsEmptyPassOf dictionary.entry.now.arena result.0 }
+            ensures note { IsNote dictionary.entry.now.arena.table.shared.table_id result.1 }
+        { put_and_note(rt, dictionary, one, 5) },
+        move || -> (Caller, News)
+            requires { IsEmptyPassOf dictionary.now.arena two }
+            ensures pass { IsEmptyPassOf dictionary.entry.now.arena result.0 }
+            ensures note { IsNote dictionary.entry.now.arena.table.shared.table_id result.1 }
+        { put_and_note(rt, dictionary, two, 6) },
+    )
+}
+
+/// Each learns the other's note, and gets what the other put, at once.
+fn both_learn<R: Threads + Wait + Sync>(
+    rt: &R,
+    dictionary: &Lists,
+    one: (Caller, News),
+    two: (Caller, News),
+) -> (Option<u128>, Option<u128>)
+    requires one { IsIdle (⟦<Dictionary<ListNode, Coupling> as Shelf>⟧.site dictionary.now) one.0 }
+    requires two { IsIdle (⟦<Dictionary<ListNode, Coupling> as Shelf>⟧.site dictionary.now) two.0 }
+    requires of_one { IsNoteOf (⟦<Dictionary<ListNode, Coupling> as Shelf>⟧.site dictionary.now) one.1 }
+    requires of_two { IsNoteOf (⟦<Dictionary<ListNode, Coupling> as Shelf>⟧.site dictionary.now) two.1 }
+{
+    let (one, of_one) = one;
+    let (two, of_two) = two;
+    join(
+        rt,
+        move || -> Option<u128>
+            requires pass { IsEmptyPassOf dictionary.now.arena one }
+            requires note { IsNote dictionary.now.arena.table.shared.table_id of_two }
+        { learn_and_get(rt, dictionary, one, of_two, 6) },
+        move || -> Option<u128>
+            requires pass { IsEmptyPassOf dictionary.now.arena two }
+            requires note { IsNote dictionary.now.arena.table.shared.table_id of_one }
+        { learn_and_get(rt, dictionary, two, of_one, 5) },
+    )
+}
+
+/// Two callers put at once, each on a thread of its own; the notes that they bring are learnt on other threads.
+#[test]
+fn notes_go_from_thread_to_thread(rt: HostRuntime) -> Result<(), Fail> {
+    let (dictionary, one, two) = two_callers::<ListNode, Coupling>(rt.alloc(), 4)?;
+    let (one, two) = both_put(&rt, &dictionary, one, two);
+    assert!(rt; both_learn(&rt, &dictionary, one, two) == (Some(60), Some(50)));
+    Ok(())
+}

@@ -1,0 +1,89 @@
+use Rattle.std.proofs.Common.{◌≡◌, ◌∙◌, ℕ, List, [], ◌∷◌, length, arith, refl, sym, ap, subst, inl}
+use Rattle.ks_history.specs.Laws.Begins.{begins_both}
+use Rattle.ks_history.specs.Passes.{Has, GrowsWith}
+use Rattle.ks_history.specs.Trace.{hand}
+use Rattle.ks_history.specs.declared.Event.TheVariants.{Give}
+use Rattle.ks_history.specs.declared.Op.{Op}
+use Rattle.ks_history.specs.declared.Op.TheVariants.{Del}
+use Rattle.ks_history.specs.Map.{told}
+use Rattle.ks_arena.specs.Clauses.{seen_of}
+use Rattle.ks_shape.specs.Laws.Single.{gave_last}
+use Rattle.ks_shape.specs.Stretches.{Stretches}
+use Rattle.ks_shape.specs.Laws.Stretches.{stretches_as, stretches_both, stretches_begins, stretches_give}
+use Rattle.ks_tidy.specs.Laws.Deciding.{decided_on}
+use Rattle.ks_tidy.proofs.tries.try_del_alone.Given.{Over}
+use Rattle.ks_tidy.proofs.tries.try_del_alone.Goals as goal
+use Rattle.ks_tidy.proofs.tries.try_del_alone.Goals.{After-give}
+
+pub delete-answer-requires-clause-holds : goal.delete-answer-requires-clause-holds
+delete-answer-requires-clause-holds g c = subst (λ (z : List ℕ). Has z c.args.held.node) (sym c.requires.ends.alone) (inl refl)
+
+pub delete-answer-requires-clause-few : goal.delete-answer-requires-clause-few
+delete-answer-requires-clause-few g c = omega (arith, ap length c.requires.ends.alone)
+
+pub delete-answer-requires-clause-body : goal.delete-answer-requires-clause-body
+delete-answer-requires-clause-body g c = (c.requires.ends.live, c.requires.ends.matches)
+
+pub delete-answer-requires-clause-inside : goal.delete-answer-requires-clause-inside
+delete-answer-requires-clause-inside g c = c.requires.ends.inside
+
+pub delete-answer-requires-clause-ends : goal.delete-answer-requires-clause-ends
+delete-answer-requires-clause-ends g c = c.requires.ends.here
+
+pub give-requires-clause-holds : goal.give-requires-clause-holds
+give-requires-clause-holds g c κs within = let e = c.delete-answer.ensures in subst (λ (z : List ℕ). Has z c.delete-answer.new.held.node) (sym (e.hand ∙ c.requires.ends.alone)) (inl (sym e.node.0))
+
+-- the caller after the Call, and its hand
+now : (g : Over) (c : After-give g) → c.give.new.pass.caller ≡ c.args.pass.now.caller
+now g c = c.give.ensures.caller ∙ c.delete-answer.ensures.caller
+
+one : (g : Over) (c : After-give g) → hand c.delete-answer.new.pass.caller (seen_of c.delete-answer.new.pass) ≡ c.delete-answer.new.held.node ∷ []
+one g c = c.delete-answer.ensures.hand ∙ c.requires.ends.alone ∙ ap (λ (z : ℕ). z ∷ []) (sym c.delete-answer.ensures.node.0)
+
+none : (g : Over) (c : After-give g) → hand c.give.new.pass.caller (seen_of c.give.new.pass) ≡ []
+none g c = let k = seen_of c.give.new.pass in ap (λ (z : ℕ). hand z k) c.give.ensures.caller ∙ gave_last c.delete-answer.new.pass.caller c.delete-answer.new.held.node (seen_of c.delete-answer.new.pass) k (one g c) (ap (λ (z : ℕ). hand z k) (sym c.give.ensures.caller) ∙ c.give.ensures.hand)
+
+gave : (g : Over) (c : After-give g) → GrowsWith c.args.pass.now.caller (Give c.args.pass.now.caller c.delete-answer.new.held.node) (seen_of c.delete-answer.new.pass) (seen_of c.give.new.pass)
+gave g c = subst (λ (z : ℕ). GrowsWith z (Give z c.delete-answer.new.held.node) (seen_of c.delete-answer.new.pass) (seen_of c.give.new.pass)) c.delete-answer.ensures.caller c.give.ensures.gave
+
+gives : (g : Over) (c : After-give g) → Stretches c.args.pass.now.caller (seen_of c.delete-answer.new.pass) (seen_of c.give.new.pass)
+gives g c = let me : ℕ = c.args.pass.now.caller in let h₁ = seen_of c.delete-answer.new.pass in
+    stretches_give me c.delete-answer.new.held.node h₁ (seen_of c.give.new.pass) (omega (arith, ap length (ap (λ (z : ℕ). hand z h₁) (sym c.delete-answer.ensures.caller) ∙ one g c))) (gave g c)
+
+pub returns-then-is_none-clause-pass : goal.returns-then-is_none-clause-pass
+returns-then-is_none-clause-pass g c = (c.give.ensures.pass, none g (goal.at.returns-then-is_none-clause-pass g c).After-give)
+
+pub returns-then-is_none-clause-done : goal.returns-then-is_none-clause-done
+returns-then-is_none-clause-done g c = λ template start under. let at = (goal.at.returns-then-is_none-clause-done g c).After-give in let me : ℕ = c.args.pass.now.caller in let h₁ = seen_of c.delete-answer.new.pass in let k = seen_of c.give.new.pass in let op : Op = Del c.args.place in
+    decided_on g.N.Node.layout template c.args.arena.now.nodes me op start h₁ k (told c.delete-answer.result.found) c.delete-answer.result.number (c.delete-answer.ensures.decided template start under)
+    (gives g at template op (omega arith)) (ap (λ (z : ℕ). hand z k) (sym (now g at)) ∙ none g at)
+
+pub try_pair_tidy-requires : goal.try_pair_tidy-requires
+try_pair_tidy-requires g c = record { pass = (c.give.ensures.pass, none g (goal.at.try_pair_tidy-requires g c).After-give) }
+
+pub returns-then-low-clause-done : goal.returns-then-low-clause-done
+returns-then-low-clause-done g c = λ template start under. let at = (goal.at.returns-then-low-clause-done g c).After-give in let me : ℕ = c.args.pass.now.caller in let h₁ = seen_of c.delete-answer.new.pass in let h₂ = seen_of c.give.new.pass in let k = seen_of c.try_pair_tidy.new.pass in let op : Op = Del c.args.place in
+    decided_on g.N.Node.layout template c.args.arena.now.nodes me op start h₁ k (told c.delete-answer.result.found) c.delete-answer.result.number (c.delete-answer.ensures.decided template start under)
+    (stretches_both me h₁ h₂ k (gives g at) (stretches_as me c.give.new.pass.caller h₂ k (now g at) c.try_pair_tidy.ensures.stretch) template op (omega arith))
+    (ap (λ (z : ℕ). hand z k) (sym (c.try_pair_tidy.ensures.caller ∙ now g at)) ∙ c.try_pair_tidy.ensures.pass.1)
+
+pub returns-clause-pass : goal.returns-clause-pass
+returns-clause-pass g c = (c.give.ensures.pass, none g (goal.at.returns-clause-pass g c).After-give)
+
+pub returns-clause-done : goal.returns-clause-done
+returns-clause-done g c = λ template start under. let at = (goal.at.returns-clause-done g c).After-give in let me : ℕ = c.args.pass.now.caller in let h₁ = seen_of c.delete-answer.new.pass in let k = seen_of c.give.new.pass in let op : Op = Del c.args.place in
+    decided_on g.N.Node.layout template c.args.arena.now.nodes me op start h₁ k (told c.delete-answer.result.found) c.delete-answer.result.number (c.delete-answer.ensures.decided template start under)
+    (gives g at template op (omega arith)) (ap (λ (z : ℕ). hand z k) (sym (now g at)) ∙ none g at)
+
+pub returns-then-is_none-clause-begins : goal.returns-then-is_none-clause-begins
+returns-then-is_none-clause-begins g c = let at = (goal.at.returns-then-is_none-clause-begins g c).After-give in let h₁ = seen_of c.delete-answer.new.pass in let k = seen_of c.give.new.pass in
+    begins_both (seen_of c.args.pass.now) h₁ k c.delete-answer.ensures.begins (stretches_begins c.args.pass.now.caller h₁ k (gives g at))
+
+pub returns-clause-begins : goal.returns-clause-begins
+returns-clause-begins g c = let at = (goal.at.returns-clause-begins g c).After-give in let h₁ = seen_of c.delete-answer.new.pass in let k = seen_of c.give.new.pass in
+    begins_both (seen_of c.args.pass.now) h₁ k c.delete-answer.ensures.begins (stretches_begins c.args.pass.now.caller h₁ k (gives g at))
+
+pub returns-then-low-clause-begins : goal.returns-then-low-clause-begins
+returns-then-low-clause-begins g c = let at = (goal.at.returns-then-low-clause-begins g c).After-give in let h₁ = seen_of c.delete-answer.new.pass in let h₂ = seen_of c.give.new.pass in let k = seen_of c.try_pair_tidy.new.pass in
+    begins_both (seen_of c.args.pass.now) h₁ k c.delete-answer.ensures.begins
+    (begins_both h₁ h₂ k (stretches_begins c.args.pass.now.caller h₁ h₂ (gives g at)) (stretches_begins c.give.new.pass.caller h₂ k c.try_pair_tidy.ensures.stretch))

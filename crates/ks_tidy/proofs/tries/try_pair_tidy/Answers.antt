@@ -1,0 +1,86 @@
+use Rattle.std.proofs.Common.{◌≡◌, ◌∙◌, ◌+◌, ◌%◌, ◌^◌, ℕ, arith, sym, subst}
+use Rattle.ks_arena.specs.Sound.{sort_of}
+use Rattle.ks_arena.specs.Clauses.{seen_of}
+use Rattle.ks_shape.specs.Stretches.{Stretches}
+use Rattle.ks_shape.specs.Laws.Stretches.{stretches_as, stretches_both}
+use Rattle.ks_tidy.specs.Frees.{Counts}
+use Rattle.ks_tidy.specs.Laws.Frees.{counts_as, counts_both, counts_of, counts_on, frees_as}
+use Rattle.ks_tidy.specs.Pair.{IsPair}
+use Rattle.ks_tidy.proofs.tries.try_pair_tidy.Given.{Over}
+use Rattle.ks_tidy.proofs.tries.try_pair_tidy.Goals as goal
+use Rattle.ks_tidy.proofs.tries.try_pair_tidy.Goals.{After-try_tidy_at-tidied}
+
+pub returns-in-None-clause-counts : goal.returns-in-None-clause-counts
+returns-in-None-clause-counts g c = let me : ℕ = c.args.pass.now.caller in counts_of me 0 (seen_of c.args.pass.now) (seen_of c.try_enter.new.pass) (omega arith) c.try_enter.ensures.frees
+
+pub returns-in-None-clause-pass : goal.returns-in-None-clause-pass
+returns-in-None-clause-pass g c = (c.try_enter.ensures.pass, c.in-None.ensures.came)
+
+pub loop-steps-init : goal.loop-steps-init
+loop-steps-init g c = let me : ℕ = c.args.pass.now.caller in let h = seen_of c.args.pass.now in let k = seen_of c.try_enter.new.pass in let e = c.try_enter.ensures in
+    (e.pass, e.caller, c.in-Some.ensures.came, e.stretch, counts_of me 0 h k (omega arith) e.frees)
+
+-- where the search stands after it tidied
+now : (g : Over) (c : After-try_tidy_at-tidied g) → c.try_tidy_at-tidied.new.pass.caller ≡ c.args.pass.now.caller
+now g c = c.try_tidy_at-tidied.ensures.caller ∙ c.loop-steps.invariant.1
+
+pair : (g : Over) (c : After-try_tidy_at-tidied g) → IsPair (sort_of g.N.Node.layout g.N.Node.ranged) g.N.Node.body c.args.pass.now.caller c.args.place (seen_of c.try_tidy_at-tidied.new.pass) c.try_tidy_at-tidied.result.path
+pair g c = subst (λ (z : ℕ). IsPair (sort_of g.N.Node.layout g.N.Node.ranged) g.N.Node.body z c.args.place (seen_of c.try_tidy_at-tidied.new.pass) c.try_tidy_at-tidied.result.path) c.loop-steps.invariant.1 c.try_tidy_at-tidied.ensures.pair
+
+pair_now : (g : Over) (c : After-try_tidy_at-tidied g) → IsPair (sort_of g.N.Node.layout g.N.Node.ranged) g.N.Node.body c.try_tidy_at-tidied.new.pass.caller c.args.place (seen_of c.try_tidy_at-tidied.new.pass) c.try_tidy_at-tidied.result.path
+pair_now g c = subst (λ (z : ℕ). IsPair (sort_of g.N.Node.layout g.N.Node.ranged) g.N.Node.body z c.args.place (seen_of c.try_tidy_at-tidied.new.pass) c.try_tidy_at-tidied.result.path) (sym c.try_tidy_at-tidied.ensures.caller) c.try_tidy_at-tidied.ensures.pair
+
+stretch : (g : Over) (c : After-try_tidy_at-tidied g) → Stretches c.args.pass.now.caller (seen_of c.args.pass.now) (seen_of c.try_tidy_at-tidied.new.pass)
+stretch g c = let me : ℕ = c.args.pass.now.caller in let h = seen_of c.loop-steps.pass in let k = seen_of c.try_tidy_at-tidied.new.pass in
+    stretches_both me (seen_of c.args.pass.now) h k c.loop-steps.invariant.3 (stretches_as me c.loop-steps.pass.caller h k c.loop-steps.invariant.1 c.try_tidy_at-tidied.ensures.stretch)
+
+counts : (g : Over) (c : After-try_tidy_at-tidied g) → Counts c.args.pass.now.caller (seen_of c.args.pass.now) (seen_of c.try_tidy_at-tidied.new.pass) ((c.loop-steps.freed + c.try_tidy_at-tidied.result.freed) % 2 ^ 32)
+counts g c = let me : ℕ = c.args.pass.now.caller in let h = seen_of c.loop-steps.pass in let k = seen_of c.try_tidy_at-tidied.new.pass in
+    counts_both me c.loop-steps.freed c.try_tidy_at-tidied.result.freed (seen_of c.args.pass.now) h k c.loop-steps.invariant.4 (counts_as me c.loop-steps.pass.caller c.try_tidy_at-tidied.result.freed h k c.loop-steps.invariant.1 c.try_tidy_at-tidied.ensures.counts)
+
+pub leave-requires-clause-pair : goal.leave-requires-clause-pair
+leave-requires-clause-pair g c = pair_now g (goal.at.leave-requires-clause-pair g c).After-try_tidy_at-tidied
+
+pub try_go_down-requires-clause-pair : goal.try_go_down-requires-clause-pair
+try_go_down-requires-clause-pair g c = pair_now g (goal.at.try_go_down-requires-clause-pair g c).After-try_tidy_at-tidied
+
+pub loop-steps-preserved : goal.loop-steps-preserved
+loop-steps-preserved g c = let at = (goal.at.loop-steps-preserved g c).After-try_tidy_at-tidied in let me : ℕ = c.args.pass.now.caller in let s = seen_of c.args.pass.now in let h₁ = seen_of c.try_tidy_at-tidied.new.pass in let b : ℕ = c.try_tidy_at-tidied.new.pass.caller in let k = seen_of c.try_go_down.new.pass in let e = c.try_go_down.ensures in (
+  e.pass,
+  e.caller ∙ now g at,
+  subst (λ (z : ℕ). IsPair (sort_of g.N.Node.layout g.N.Node.ranged) g.N.Node.body z c.args.place k c.in-Some-try_go_down.below) (now g at) c.in-Some-try_go_down.ensures.came,
+  stretches_both me s h₁ k (stretch g at) (stretches_as me b h₁ k (now g at) e.stretch),
+  counts_on me ((c.loop-steps.freed + c.try_tidy_at-tidied.result.freed) % 2 ^ 32) s h₁ k (counts g at) (frees_as me b h₁ k (now g at) e.frees),
+)
+
+pub returns-in-None-try_go_down-clause-pass : goal.returns-in-None-try_go_down-clause-pass
+returns-in-None-try_go_down-clause-pass g c = (c.try_go_down.ensures.pass, c.in-None-try_go_down.ensures.came)
+
+pub returns-in-None-try_go_down-clause-stretch : goal.returns-in-None-try_go_down-clause-stretch
+returns-in-None-try_go_down-clause-stretch g c = let at = (goal.at.returns-in-None-try_go_down-clause-stretch g c).After-try_tidy_at-tidied in let me : ℕ = c.args.pass.now.caller in let h₁ = seen_of c.try_tidy_at-tidied.new.pass in let k = seen_of c.try_go_down.new.pass in
+    stretches_both me (seen_of c.args.pass.now) h₁ k (stretch g at) (stretches_as me c.try_tidy_at-tidied.new.pass.caller h₁ k (now g at) c.try_go_down.ensures.stretch)
+
+pub returns-in-None-try_go_down-clause-counts : goal.returns-in-None-try_go_down-clause-counts
+returns-in-None-try_go_down-clause-counts g c = let at = (goal.at.returns-in-None-try_go_down-clause-counts g c).After-try_tidy_at-tidied in let me : ℕ = c.args.pass.now.caller in let h₁ = seen_of c.try_tidy_at-tidied.new.pass in let k = seen_of c.try_go_down.new.pass in
+    counts_on me ((c.loop-steps.freed + c.try_tidy_at-tidied.result.freed) % 2 ^ 32) (seen_of c.args.pass.now) h₁ k (counts g at) (frees_as me c.try_tidy_at-tidied.new.pass.caller h₁ k (now g at) c.try_go_down.ensures.frees)
+
+pub returns-in-Here-clause-stretch : goal.returns-in-Here-clause-stretch
+returns-in-Here-clause-stretch g c = let at = (goal.at.returns-in-Here-clause-stretch g c).After-try_tidy_at-tidied in let me : ℕ = c.args.pass.now.caller in let h₁ = seen_of c.try_tidy_at-tidied.new.pass in let k = seen_of c.leave.new.pass in
+    stretches_both me (seen_of c.args.pass.now) h₁ k (stretch g at) (stretches_as me c.try_tidy_at-tidied.new.pass.caller h₁ k (now g at) c.leave.ensures.stretch)
+
+pub returns-in-Here-clause-counts : goal.returns-in-Here-clause-counts
+returns-in-Here-clause-counts g c = let at = (goal.at.returns-in-Here-clause-counts g c).After-try_tidy_at-tidied in let me : ℕ = c.args.pass.now.caller in let h₁ = seen_of c.try_tidy_at-tidied.new.pass in let k = seen_of c.leave.new.pass in
+    counts_on me ((c.loop-steps.freed + c.try_tidy_at-tidied.result.freed) % 2 ^ 32) (seen_of c.args.pass.now) h₁ k (counts g at) (frees_as me c.try_tidy_at-tidied.new.pass.caller h₁ k (now g at) c.leave.ensures.frees)
+
+-- as many nodes were taken as there are
+
+pub leave-requires-2-clause-pair : goal.leave-requires-2-clause-pair
+leave-requires-2-clause-pair g c = subst (λ (z : ℕ). IsPair (sort_of g.N.Node.layout g.N.Node.ranged) g.N.Node.body z c.args.place (seen_of c.loop-steps.pass) c.loop-steps.path) (sym c.loop-steps.invariant.1) c.loop-steps.invariant.2
+
+pub returns-clause-stretch : goal.returns-clause-stretch
+returns-clause-stretch g c = let me : ℕ = c.args.pass.now.caller in let inv = c.loop-steps.invariant in let h₁ = seen_of c.loop-steps.pass in let k = seen_of c.leave-2.new.pass in
+    stretches_both me (seen_of c.args.pass.now) h₁ k inv.3 (stretches_as me c.loop-steps.pass.caller h₁ k inv.1 c.leave-2.ensures.stretch)
+
+pub returns-clause-counts : goal.returns-clause-counts
+returns-clause-counts g c = let me : ℕ = c.args.pass.now.caller in let inv = c.loop-steps.invariant in let h₁ = seen_of c.loop-steps.pass in let k = seen_of c.leave-2.new.pass in
+    counts_on me c.loop-steps.freed (seen_of c.args.pass.now) h₁ k inv.4 (frees_as me c.loop-steps.pass.caller h₁ k inv.1 c.leave-2.ensures.frees)

@@ -1,0 +1,23 @@
+use Rattle.std.proofs.Common.{◌∙◌, ℕ, length, arith, ap}
+use Rattle.std.specs.Prelude.{Some}
+use Rattle.ks_history.specs.Trace.{graph_after, frame_after}
+use Rattle.ks_arena.specs.Sound.{blank_of, sort_of}
+use Rattle.ks_arena.specs.Clauses.{seen_of}
+use Rattle.ks_shape.specs.Laws.Stretches.{stretches_here}
+use Rattle.ks_tidy.specs.Laws.Frees.{frees_here}
+use Rattle.ks_tidy.proofs.Standing.{plain, stands_now}
+use Rattle.ks_tidy.proofs.Steps.{sole_is}
+use Rattle.ks_tidy.proofs.try_step.try_tidy_child.Goals as goal
+
+pub take_over-requires-clause-sole : goal.take_over-requires-clause-sole
+take_over-requires-clause-sole g c = let sort = sort_of g.N.Node.layout g.N.Node.ranged in let h = seen_of c.args.pass.now in let y = c.args.parent in let under = c.requires.pair.path.under in let u = g.N.Node.body y.body in
+    let sole = c.has_sole.ensures.sole c.if-has_sole.true in
+    let stands = stands_now sort g.N.Node.body h y under.live under.matches (plain u c.node_law.ensures.sound c.node_law.ensures.framed (c.unlinked_law.ensures.no_link y.body)) in
+    let all = ((c.tests_law.ensures.only_child (graph_after h) (frame_after (blank_of sort) h) y.node sole.0 u stands).0 sole.1).1 in
+    sole.1 ∙ ap (λ (z : ℕ). Some z) (sole_is u c.args.place c.args.node.node sole.0 all under.leads)
+
+pub returns-clause-stretch : goal.returns-clause-stretch
+returns-clause-stretch g c = stretches_here c.args.pass.now.caller (seen_of c.args.pass.now) (omega (arith, ap length c.requires.pair.path.hands))
+
+pub returns-clause-frees : goal.returns-clause-frees
+returns-clause-frees g c = frees_here c.args.pass.now.caller (seen_of c.args.pass.now)

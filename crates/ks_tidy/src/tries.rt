@@ -1,0 +1,149 @@
+//! Merging by callers that wait for nobody: it goes as far as no node that it needs is held by another.
+ghost use Rattle.std.specs.Prelude.{◌≡◌};
+ghost use Rattle.ks_history.specs.declared.Op.TheVariants.{Del};
+ghost use Rattle.ks_history.specs.Map.{told};
+ghost use Rattle.ks_arena.specs.Of.{IsEmptyPassOf, IsPassOf, SeesOn};
+ghost use Rattle.ks_shape.specs.Of.{FinishesAny, IsStretch, SearchEndsAt};
+ghost use Rattle.ks_tidy.specs.Of.{CountsFree, IsPairOf};
+
+use crate::deletes::delete;
+use crate::descent::leave;
+use crate::node::Tidied;
+use crate::step::Step;
+use crate::try_descent::{try_enter, try_go_down};
+use crate::try_step::try_tidy_once;
+use ks_arena::{Arena, Held, Pass};
+use ks_flow::Tree;
+use ks_gate::{Gate, Point};
+use ks_node::{Next, Unlinked};
+use ks_put::{Path, search_law};
+use ks_shape::Numbered;
+
+/// Merges at the node of a path while it is low, by tries: at most as often as the arena has nodes. What the node had has
+/// the node of the path then.
+fn try_tidy_node<N: Unlinked, G: Gate>(
+    arena: &Arena<N, Tree>,
+    pass: &mut Pass<N, Tree>,
+    gate: &G,
+    place: u64,
+    path: Path<N>,
+) -> Tidied<N>
+    requires pass { IsPassOf arena.now pass.old }
+    requires pair { IsPairOf arena.now pass.old.caller place pass.old path }
+    ensures pass { IsPassOf arena.now pass.new }
+    ensures caller { pass.new.caller ≡ pass.old.caller }
+    ensures pair { IsPairOf arena.now pass.old.caller place pass.new result.path }
+    ensures stretch { IsStretch pass.old pass.new }
+    ensures counts { CountsFree result.freed pass.old pass.new }
+{
+    let mut path = path;
+    let mut freed: u32 = 0;
+    for _tries in 0..arena.nodes() {
+        match try_tidy_once(arena, pass, gate, place, path) {
+            Step::Freed(next) => {
+                path = next;
+                freed = freed.wrapping_add(1);
+            }
+            Step::Rests(rest) => return Tidied { path: rest, freed },
+        }
+    }
+    Tidied { path, freed }
+}
+
+/// Merges at the node of a path, if it is a branch, or the search ends there.
+fn try_tidy_at<N: Unlinked, G: Gate>(
+    arena: &Arena<N, Tree>,
+    pass: &mut Pass<N, Tree>,
+    gate: &G,
+    place: u64,
+    path: Path<N>,
+) -> Tidied<N>
+    requires pass { IsPassOf arena.now pass.old }
+    requires pair { IsPairOf arena.now pass.old.caller place pass.old path }
+    ensures pass { IsPassOf arena.now pass.new }
+    ensures caller { pass.new.caller ≡ pass.old.caller }
+    ensures pair { IsPairOf arena.now pass.old.caller place pass.new result.path }
+    ensures stretch { IsStretch pass.old pass.new }
+    ensures counts { CountsFree result.freed pass.old pass.new }
+{
+    if path.node.body.is_branch() {
+        return try_tidy_node(arena, pass, gate, place, path);
+    }
+    match path.node.body.next(place) {
+        Next::Here => try_tidy_node(arena, pass, gate, place, path),
+        Next::Go(_) => Tidied { path, freed: 0 },
+    }
+}
+
+/// Merges for a place, as `pair_tidy` does, but waits for nobody: a right neighbour that another caller holds is left as it
+/// is, and a node on the way that another holds ends it. It takes at most as many nodes on its way as the arena has. Answers
+/// how many nodes it made free, modulo 2^32. It makes no call of the history, and does not tell the gate that one begins.
+pub fn try_pair_tidy<N: Unlinked, G: Gate>(
+    arena: &Arena<N, Tree>,
+    pass: &mut Pass<N, Tree>,
+    gate: &G,
+    place: u64,
+) -> u32
+    requires pass { IsEmptyPassOf arena.now pass.old }
+    ensures pass { IsEmptyPassOf arena.now pass.new }
+    ensures caller { pass.new.caller ≡ pass.old.caller }
+    ensures stretch { IsStretch pass.old pass.new }
+    ensures counts { CountsFree result pass.old pass.new }
+{
+    let mut path = match try_enter(arena, pass, gate, place) {
+        Some(root) => root,
+        None => return 0,
+    };
+    let mut freed: u32 = 0;
+    for _steps in 1..arena.nodes() {
+        let Tidied {
+            path: tidied,
+            freed: more,
+        } = try_tidy_at(arena, pass, gate, place, path);
+        freed = freed.wrapping_add(more);
+        match tidied.node.body.next(place) {
+            Next::Here => {
+                leave(arena, pass, gate, place, tidied);
+                return freed;
+            }
+            Next::Go(child) => match try_go_down(arena, pass, gate, place, tidied, child) {
+                Some(below) => path = below,
+                None => return freed,
+            },
+        }
+    }
+    leave(arena, pass, gate, place, path);
+    freed
+}
+
+/// Deletes what stands at a place, as `del_alone` does, but waits for nobody: the merging after the call goes as far as no
+/// node that it needs is held by another caller.
+pub fn try_del_alone<N: Unlinked, G: Gate>(
+    arena: &Arena<N, Tree>,
+    pass: &mut Pass<N, Tree>,
+    gate: &G,
+    place: u64,
+    mut held: Held<N>,
+) -> Numbered
+    requires pass { IsPassOf arena.now pass.old }
+    requires ends { SearchEndsAt arena.now place pass.old held }
+    ensures pass { IsEmptyPassOf arena.now pass.new }
+    ensures caller { pass.new.caller ≡ pass.old.caller }
+    ensures begins { SeesOn pass.old pass.new }
+    ensures done { FinishesAny arena.now (Del place) pass.old pass.new (told result.found) result.number }
+{
+    search_law();
+    let answer = delete(arena, pass, gate, place, &mut held);
+    let low = held.body.is_low();
+    let node = held.node;
+    arena.give(pass, held);
+    gate.at(pass.caller(), Point::Given(node));
+    if answer.found.is_none() {
+        return answer;
+    }
+    if low {
+        try_pair_tidy(arena, pass, gate, place);
+        return answer;
+    }
+    answer
+}
