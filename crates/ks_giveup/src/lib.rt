@@ -14,8 +14,10 @@ mod merging;
 mod technique;
 mod tries;
 mod try_descent;
+mod try_puts;
 
 pub use calls::{add, del, get, put, swap};
 pub use merging::compact;
 pub use technique::GiveUp;
 pub use tries::{try_del, try_get, try_swap};
+pub use try_puts::{try_add, try_put};

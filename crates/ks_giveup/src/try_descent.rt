@@ -6,6 +6,7 @@ ghost use Rattle.ks_node.specs.Body.{next_at};
 ghost use Rattle.ks_arena.specs.Of.{IsPassOf, IsEmptyPassOf, IsNodeOf};
 ghost use Rattle.ks_shape.specs.Of.{IsUnderway, StaysUnderway, IsOnWayOf};
 ghost use Rattle.ks_try.specs.Of.{StandsAtRoot, GoesDownFrom, CameToEnd};
+ghost use Rattle.ks_giveup.specs.Once.{TookRootOnce};
 ghost use Rattle.ks_giveup.specs.Tries.{ComesTo, IsWithin};
 
 use ks_arena::laws::{sound_law, tree_beside_law};
@@ -108,6 +109,7 @@ pub(crate) fn try_find<N: Ranged + Unlinked, G: Gate>(
     ensures pass { IsPassOf arena.now pass.new }
     ensures caller { pass.new.caller ≡ pass.old.caller }
     ensures came { CameToEnd arena.now give_up place pass.old pass.new result }
+    ensures once { TookRootOnce pass.old pass.new result }
     ensures under { IsUnderway give_up pass.old pass.new }
 {
     let mut held = match try_enter(arena, pass, gate, place) {

@@ -1,15 +1,10 @@
 -- How a search stands after it gave one of the nodes in hand.
-use Rattle.std.proofs.Common.{◌≡◌, ◌≢◌, ℕ, ◌⊎◌, true, false, cond, List, [], ◌∷◌, length, sym, refl, ap, ◌∙◌, subst, inl, inr}
-use Rattle.std.specs.Prelude.{Option, Some, None, IsTrue, nat_eq}
-use Rattle.std.proofs.lemmas.Bool.Decides.{eqb_tells}
+use Rattle.std.proofs.Common.{◌≡◌, ◌≢◌, ℕ, ◌⊎◌, true, false, List, [], ◌∷◌, sym, refl, ap, ◌∙◌, subst, inl, inr}
+use Rattle.std.specs.Prelude.{Option, Some, None, IsTrue}
 use mathlib.Core.Logic.{dite}
 use native.Mathlib.Decide.{ℕ_discrete}
-use Rattle.ks_keysets.specs.declared.Kind.{Kind}
-use Rattle.ks_keysets.specs.declared.Kind.TheVariants.{NoBranch, Inner, Directory}
-use Rattle.ks_keysets.specs.Layout.{Layout, list_layout, bplus_layout, hash_layout, capacity}
-use Rattle.ks_keysets.specs.declared.NodeState.{NodeState}
 use Rattle.ks_keysets.specs.Record.{LeadsTo}
-use Rattle.ks_keysets.specs.Keyset.{record_at, InInset, IsLive}
+use Rattle.ks_keysets.specs.Keyset.{InInset, IsLive}
 use Rattle.ks_history.specs.declared.Event.{Event}
 use Rattle.ks_history.specs.declared.Event.TheVariants.{Give}
 use Rattle.ks_history.specs.Trace.{hand, drop_one, held, graph_after, turn_after}
@@ -18,11 +13,11 @@ use Rattle.ks_history.specs.Laws.Stays.{cond_here, cond_else}
 use Rattle.ks_history.specs.Hand.{AreOnce}
 use Rattle.ks_history.specs.Laws.Hand.{is_hand}
 use Rattle.ks_flow.specs.Discipline.{BeginsTree, TreeStep, SameInset}
-use Rattle.ks_history.specs.Due.{HoldsLive, MayGrow}
+use Rattle.ks_history.specs.Due.{HoldsLive}
 use Rattle.ks_history.specs.Laws.Dues.{holds_one, holds_others}
-use Rattle.ks_node.specs.Body.{Body, is_branch_kind}
-use Rattle.ks_node.specs.Edges.{record_of, edges_of}
-use Rattle.ks_node.specs.Room.{is_full, is_full_at, load, may_grow}
+use Rattle.ks_node.specs.Body.{Body}
+use Rattle.ks_node.specs.Edges.{record_of}
+use Rattle.ks_node.specs.Room.{is_full}
 use Rattle.ks_shape.specs.Laws.Single.{record_is}
 use Rattle.ks_shape.specs.Beside.{KeepsBeside}
 use Rattle.ks_arena.specs.declared.held.Held.{Held as Hand}

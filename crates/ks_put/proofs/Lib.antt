@@ -1,5 +1,7 @@
 pub mod Quiet
 pub mod Ways
 pub mod Keeping
+pub mod Deepening
+pub mod Trying
 pub mod Cutting
 pub mod Going

@@ -1,5 +1,7 @@
 pub mod Laws
 pub mod OnPath
 pub mod Parts
+pub mod Deeper
 pub mod Room
 pub mod Of
+pub mod Tries

@@ -13,7 +13,8 @@ use Rattle.ks_put.specs.declared.halves.Part.{Part}
 use Rattle.ks_put.specs.declared.path.Path.{Path}
 use Rattle.ks_put.specs.declared.room.Room.{Room}
 use Rattle.ks_put.specs.OnPath.{GaveIf, IsAbove, IsUnder, IsOnPath}
-use Rattle.ks_put.specs.Parts.{IsPart, DidPart}
+use Rattle.ks_put.specs.Parts.{IsPart, DidPart, GrowAll}
+use Rattle.ks_put.specs.Deeper.{IsDownPath, IsDownPart}
 use Rattle.ks_put.specs.Room.{CameTo}
 
 module _ {N D : Type 0} where
@@ -42,6 +43,17 @@ module _ {N D P : Type 0} {n : NodeGhosts N P} {q : PlacingGhosts P} {d : Discip
   -- what a try to split the node of a path tells
   abbrev pub TriedToSplit : Arena N D P n q d → ℕ → Pass N D → Pass N D → Path N → Part N → Type 0
   TriedToSplit a place p p' path part = DidPart (sort_of n.layout n.ranged) n.body a.nodes p.caller place (seen_of p) (seen_of p') path part
+
+  -- each node of the type grows, branches adopt, and neither half of a full node is full
+  abbrev pub AllGrow : Arena N D P n q d → Type 0
+  AllGrow a = GrowAll n.grows_at n.body n.branches_adopt n.halves_have_room
+
+  -- as deep as a search stood on its path at p, by so many takes, it stands on the other at p'; so after a try to split
+  abbrev pub KeepsDown : Arena N D P n q d → Pass N D → Pass N D → Path N → Path N → Type 0
+  KeepsDown a p p' path path' = (start : List Event) (taken roots steps : ℕ) → IsDownPath a.nodes p.caller start (seen_of p) taken roots steps path → IsDownPath a.nodes p.caller start (seen_of p') taken roots steps path'
+
+  abbrev pub PartsDown : Arena N D P n q d → Pass N D → Pass N D → Path N → Part N → Type 0
+  PartsDown a p p' path part = (start : List Event) (taken roots steps : ℕ) → IsDownPath a.nodes p.caller start (seen_of p) taken roots steps path → IsDownPart a.nodes p.caller start (seen_of p') taken roots steps part
 
   -- what a search for room between p and p' came to; if a claim was refused, it was so at some moment since the start
   abbrev pub CameToRoom : Arena N D P n q d → ℕ → Pass N D → Pass N D → Room N → Type 0

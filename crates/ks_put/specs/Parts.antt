@@ -22,9 +22,12 @@ use Rattle.ks_put.specs.OnPath.{IsOnPath}
 abbrev pub Grows : (Content → Bool) → Body → Type 0
 Grows can b = IsTrue (can (content_of b))
 
--- a node of this body can do so at the cut, as its type says; and it is a branch
+-- a node of this body can do so at the cut, as its type says; and it is no branch, or is one
 abbrev pub CanAt : (Content → ℕ → Bool) → Body → ℕ → Type 0
 CanAt can b cut = IsTrue (can (content_of b) cut)
+
+abbrev pub LeafCanAt : (Content → ℕ → Bool) → Body → ℕ → Type 0
+LeafCanAt can b cut = (is_branch b ≡ false) × CanAt can b cut
 
 abbrev pub BranchCanAt : (Content → ℕ → Bool) → Body → ℕ → Type 0
 BranchCanAt can b cut = IsTrue (is_branch b) × CanAt can b cut
@@ -38,6 +41,21 @@ abbrev pub IsShut : {N : Type 0} → Part N → Type 0
 IsShut (Split x) = ⊥
 IsShut (Refused x) = ⊥
 IsShut (Shut x) = Unit {0}
+
+-- the second of the two sorts of types: each node grows, branches adopt, and neither half of a full node is full
+abbrev pub GrowAll : {N : Type 0} → (Content → Bool) → (N → Body) → Bool → Bool → Type 0
+GrowAll grows shows adopt halves = ((s : _) → IsTrue (grows (content_of (shows s)))) × IsTrue adopt × IsTrue halves
+
+-- the half that is kept is not full; so it is, and needs no parent
+abbrev pub IsRoomy : {N : Type 0} → Layout → (N → Body) → Part N → Type 0
+IsRoomy layout shows (Split x) = is_full layout (shows x.node.body) ≡ false
+IsRoomy layout shows (Refused x) = Unit {0}
+IsRoomy layout shows (Shut x) = Unit {0}
+
+abbrev pub IsEased : {N : Type 0} → Layout → (N → Body) → Part N → Type 0
+IsEased layout shows (Split x) = (is_full layout (shows x.node.body) ≡ false) × (x.parent ≡ None)
+IsEased layout shows (Refused x) = Unit {0}
+IsEased layout shows (Shut x) = Unit {0}
 
 -- the parent, if there is one, is not full
 abbrev pub HasRoomAbove : {N : Type 0} → Layout → (N → Body) → Option (Hand N) → Type 0

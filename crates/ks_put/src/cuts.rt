@@ -2,10 +2,10 @@
 ghost use Rattle.std.specs.Prelude.{◌≡◌, ◌⊎◌, IsTrue, false};
 ghost use Rattle.ks_node.specs.Body.{is_branch};
 ghost use Rattle.ks_node.specs.Room.{is_full};
-ghost use Rattle.ks_node.specs.Asks.{CanSplitAt};
+ghost use Rattle.ks_node.specs.Asks.{CanSplitAt, HalvesHaveRoom};
 ghost use Rattle.ks_arena.specs.Of.{IsInside, IsPassOf, IsLiveAndCurrent};
-ghost use Rattle.ks_put.specs.Of.{LeadsDown};
-ghost use Rattle.ks_put.specs.Parts.{Grows, CanAt, BranchCanAt, HalfAdopts};
+ghost use Rattle.ks_put.specs.Of.{AllGrow, LeadsDown};
+ghost use Rattle.ks_put.specs.Parts.{Grows, CanAt, LeafCanAt, BranchCanAt, HalfAdopts};
 
 use crate::laws::search_law;
 use ks_arena::{Arena, Held, Pass};
@@ -14,7 +14,8 @@ use ks_flow::Tree;
 use ks_keysets::Span;
 use ks_node::{Unlinked, node_law, unlinked_law};
 
-/// The cut of a full root. A root that is no branch grows, or can adopt it, if no node of the type grows in place.
+/// The cut of a full root. If no node of the type grows in place, the root grows, or is no branch and can adopt it; a branch
+/// grows, if all nodes do.
 pub(crate) fn cut_of_root<N: Unlinked>(
     arena: &Arena<N, Tree>,
     pass: &Pass<N, Tree>,
@@ -26,8 +27,9 @@ pub(crate) fn cut_of_root<N: Unlinked>(
     requires full { IsTrue (is_full N.layout (N.body root.now.body)) }
     ensures cut { IsInside pass.now root.now.node result × CanSplitAt (N.body root.now.body) result }
     ensures grows { Grows N.grows_at (N.body root.now.body) → CanAt N.can_grow_at (N.body root.now.body) result }
-    ensures open { N.in_place ≡ false → is_branch (N.body root.now.body) ≡ false →
-        Grows N.grows_at (N.body root.now.body) ⊎ CanAt N.can_adopt_at (N.body root.now.body) result }
+    ensures open { N.in_place ≡ false → (IsTrue (is_branch (N.body root.now.body)) → AllGrow arena.now) →
+        Grows N.grows_at (N.body root.now.body) ⊎ LeafCanAt N.can_adopt_at (N.body root.now.body) result }
+    ensures halves { IsTrue N.halves_have_room → HalvesHaveRoom N.layout result (N.body root.now.body) }
     ensures adopts { HalfAdopts N.can_adopt_at (N.body root.now.body) result }
 {
     search_law();
@@ -41,8 +43,8 @@ pub(crate) fn cut_of_root<N: Unlinked>(
     root.body.cut(Some(all))
 }
 
-/// The cut of a full node below its parent, which leads to it at the place. If the node is no branch and no node of the
-/// type grows in place, the node can adopt it, or the parent, a branch, can, unless the parent is full.
+/// The cut of a full node below its parent, which leads to it at the place. If no node of the type grows in place, the node
+/// can adopt it and is no branch, or the parent, a branch, can: it can where all nodes grow, unless it is full.
 pub(crate) fn cut_below<N: Unlinked>(
     arena: &Arena<N, Tree>,
     pass: &Pass<N, Tree>,
@@ -55,10 +57,10 @@ pub(crate) fn cut_below<N: Unlinked>(
     requires node { IsLiveAndCurrent arena.now pass.now node.now }
     requires full { IsTrue (is_full N.layout (N.body node.now.body)) }
     ensures cut { IsInside pass.now node.now.node result × CanSplitAt (N.body node.now.body) result }
-    ensures open { N.in_place ≡ false → is_branch (N.body node.now.body) ≡ false →
-        is_full N.layout (N.body parent.now.body) ≡ false →
-        CanAt N.can_adopt_at (N.body node.now.body) result
-        ⊎ BranchCanAt N.can_adopt_at (N.body parent.now.body) result }
+    ensures open { N.in_place ≡ false → (IsTrue (is_branch (N.body node.now.body)) → AllGrow arena.now) →
+        (AllGrow arena.now → is_full N.layout (N.body parent.now.body) ≡ false) →
+        LeafCanAt N.can_adopt_at (N.body node.now.body) result ⊎ BranchCanAt N.can_adopt_at (N.body parent.now.body) result }
+    ensures halves { IsTrue N.halves_have_room → HalvesHaveRoom N.layout result (N.body node.now.body) }
     ensures adopts { HalfAdopts N.can_adopt_at (N.body node.now.body) result }
 {
     search_law();

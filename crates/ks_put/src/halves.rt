@@ -1,11 +1,12 @@
 //! What is kept of a node that was split: the half that holds the place, and the node that leads to it.
-ghost use Rattle.std.specs.Prelude.{◌≡◌, ◌<◌, ◌≤◌, ◌∷◌, [], false};
+ghost use Rattle.std.specs.Prelude.{◌≡◌, ◌<◌, ◌≤◌, ◌∷◌, [], None, Some, false};
 ghost use Rattle.ks_history.specs.declared.Event.TheVariants.{Give};
 ghost use Rattle.ks_node.specs.Room.{is_full};
 ghost use Rattle.ks_arena.specs.Clauses.{hand_of};
 ghost use Rattle.ks_put.specs.OnPath.{numbers};
 ghost use Rattle.ks_arena.specs.Of.{Adds, IsInside, IsPassOf, IsCurrent, IsLiveAndCurrent};
 ghost use Rattle.ks_shape.specs.Of.{IsStretch};
+ghost use Rattle.ks_shape.specs.Quiet.{KeepsQuiet};
 ghost use Rattle.ks_put.specs.Of.{IsOnPathOf, IsUnderParent, IsPartOf};
 
 use crate::laws::search_law;
@@ -47,6 +48,10 @@ pub(crate) fn keep_half<N: Unlinked, G: Gate>(
     ensures caller { pass.new.caller ≡ pass.old.caller }
     ensures path { IsOnPathOf arena.now pass.old.caller place pass.new result }
     ensures stretch { IsStretch pass.old pass.new }
+    ensures quiet { KeepsQuiet pass.old pass.new }
+    ensures parent { result.parent ≡ Some parent }
+    ensures room { is_full N.layout (N.body left.body) ≡ false → is_full N.layout (N.body right.body) ≡ false →
+        is_full N.layout (N.body result.node.body) ≡ false }
 {
     search_law();
     if place < cut {
@@ -116,6 +121,9 @@ pub(crate) fn keep_right<N: Unlinked, G: Gate>(
     ensures caller { pass.new.caller ≡ pass.old.caller }
     ensures path { IsOnPathOf arena.now pass.old.caller place pass.new result }
     ensures stretch { IsStretch pass.old pass.new }
+    ensures quiet { KeepsQuiet pass.old pass.new }
+    ensures parent { result.parent ≡ Some path.node }
+    ensures node { result.node ≡ right }
 {
     search_law();
     let Path { parent, node } = path;
@@ -154,6 +162,9 @@ pub(crate) fn keep_right_alone<N: Unlinked, G: Gate>(
     ensures caller { pass.new.caller ≡ pass.old.caller }
     ensures path { IsOnPathOf arena.now pass.old.caller place pass.new result }
     ensures stretch { IsStretch pass.old pass.new }
+    ensures quiet { KeepsQuiet pass.old pass.new }
+    ensures parent { result.parent ≡ None }
+    ensures node { result.node ≡ right }
 {
     search_law();
     let Path { parent, node } = path;

@@ -8,9 +8,12 @@ mod laws;
 mod path;
 mod room;
 mod splits;
+mod try_fills;
+mod try_room;
 
 pub use fills::{pair_add, pair_put};
 pub use halves::keep_left;
 pub use laws::search_law;
 pub use path::{Path, enter, let_go, step_down};
 pub use room::{Room, make_room};
+pub use try_fills::{try_pair_add, try_pair_put};

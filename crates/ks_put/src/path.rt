@@ -1,15 +1,16 @@
 //! A search that keeps the parent of its node.
-ghost use Rattle.std.specs.Prelude.{◌≡◌, ◌∷◌, None, Some};
+ghost use Rattle.std.specs.Prelude.{◌≡◌, ◌∷◌, None, Some, false};
 ghost use Rattle.std.specs.Option.{ForSome};
 ghost use Rattle.ks_history.specs.declared.Event.TheVariants.{Take};
 ghost use Rattle.ks_history.specs.Done.{coupling};
 ghost use Rattle.ks_node.specs.declared.start.Next.TheVariants.{Go};
 ghost use Rattle.ks_node.specs.Body.{next_at};
+ghost use Rattle.ks_node.specs.Room.{is_full};
 ghost use Rattle.ks_arena.specs.Clauses.{hand_of};
 ghost use Rattle.ks_put.specs.OnPath.{numbers};
 ghost use Rattle.ks_arena.specs.Of.{Adds, IsInside, IsPassOf, IsEmptyPassOf, IsCurrent, IsLiveAndCurrent};
 ghost use Rattle.ks_shape.specs.Of.{IsStretch, IsOnWayOf, StaysUnderway};
-ghost use Rattle.ks_put.specs.Of.{AddsGive, IsOnPathOf};
+ghost use Rattle.ks_put.specs.Of.{AddsGive, IsOnPathOf, KeepsDown};
 
 use crate::laws::search_law;
 use ks_arena::laws::target_law;
@@ -115,7 +116,11 @@ pub(crate) fn settle<N: Unlinked, G: Gate>(
     ensures caller { pass.new.caller ≡ pass.old.caller }
     ensures path { IsOnPathOf arena.now pass.old.caller place pass.new result }
     ensures stretch { IsStretch pass.old pass.new }
+    ensures down { KeepsDown arena.now pass.old pass.new path result }
+    ensures node { result.node ≡ path.node }
+    ensures alone { is_full N.layout (N.body path.node.body) ≡ false → result.parent ≡ None }
 {
+    search_law();
     if path.node.body.is_full() {
         return path;
     }

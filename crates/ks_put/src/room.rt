@@ -106,7 +106,7 @@ fn begin_again<N: Unlinked, R: Wait, G: Gate>(
 }
 
 /// Gives the parent of a node that has the place, or room for it.
-fn come_to_room<N: Unlinked, G: Gate>(
+pub(crate) fn come_to_room<N: Unlinked, G: Gate>(
     arena: &Arena<N, Tree>,
     pass: &mut Pass<N, Tree>,
     gate: &G,
@@ -128,7 +128,7 @@ fn come_to_room<N: Unlinked, G: Gate>(
 }
 
 /// Gives the parent of a full node that has not the place.
-fn come_to_full<N: Unlinked, G: Gate>(
+pub(crate) fn come_to_full<N: Unlinked, G: Gate>(
     arena: &Arena<N, Tree>,
     pass: &mut Pass<N, Tree>,
     gate: &G,

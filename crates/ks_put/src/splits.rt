@@ -3,11 +3,11 @@ ghost use Rattle.std.specs.Prelude.{◌≡◌, IsTrue, Some, None, false};
 ghost use Rattle.ks_node.specs.Body.{is_branch};
 ghost use Rattle.ks_node.specs.Room.{is_full};
 ghost use Rattle.ks_node.specs.Effect.{split_left};
-ghost use Rattle.ks_node.specs.Asks.{CanSplitAt};
-ghost use Rattle.ks_put.specs.Parts.{CanAt, Grows, HasRoomAbove, IsShut};
+ghost use Rattle.ks_node.specs.Asks.{CanSplitAt, HalvesHaveRoom};
+ghost use Rattle.ks_put.specs.Parts.{CanAt, Grows, HasRoomAbove, IsEased, IsRoomy, IsShut};
 ghost use Rattle.ks_arena.specs.Of.{IsInside, IsPassOf};
 ghost use Rattle.ks_shape.specs.Of.{IsStretch};
-ghost use Rattle.ks_put.specs.Of.{IsOnPathOf, TriedToSplit};
+ghost use Rattle.ks_put.specs.Of.{AllGrow, IsOnPathOf, TriedToSplit, PartsDown};
 
 use crate::cuts::{cut_below, cut_of_root};
 use crate::halves::{Part, keep_half, keep_left, keep_right, keep_right_alone};
@@ -33,11 +33,14 @@ pub(crate) fn grow_root<N: Unlinked, G: Gate>(
     requires full { IsTrue (is_full N.layout (N.body root.body)) }
     requires cut { IsInside pass.old root.node cut × CanSplitAt (N.body root.body) cut }
     requires grows { Grows N.grows_at (N.body root.body) × CanAt N.can_grow_at (N.body root.body) cut }
+    requires halves { IsTrue N.halves_have_room → HalvesHaveRoom N.layout cut (N.body root.body) }
     ensures pass { IsPassOf arena.now pass.new }
     ensures caller { pass.new.caller ≡ pass.old.caller }
     ensures part { TriedToSplit arena.now place pass.old pass.new (record { parent = None; node = root }) result }
     ensures tried { ¬ IsShut result }
     ensures stretch { IsStretch pass.old pass.new }
+    ensures down { PartsDown arena.now pass.old pass.new (record { parent = None; node = root }) result }
+    ensures halves { IsTrue N.halves_have_room → IsRoomy N.layout N.body result }
 {
     search_law();
     unlinked_law::<N>();
@@ -69,12 +72,15 @@ pub(crate) fn split_below<N: Unlinked, G: Gate>(
     requires full { IsTrue (is_full N.layout (N.body node.body)) }
     requires cut { IsInside pass.old node.node cut × CanSplitAt (N.body node.body) cut }
     requires adopts { CanAt N.can_adopt_at (N.body parent.body) cut }
+    requires halves { IsTrue N.halves_have_room → HalvesHaveRoom N.layout cut (N.body node.body) }
     ensures pass { IsPassOf arena.now pass.new }
     ensures caller { pass.new.caller ≡ pass.old.caller }
     ensures part { TriedToSplit arena.now place pass.old pass.new
         (record { parent = Some parent; node = node }) result }
     ensures tried { ¬ IsShut result }
     ensures stretch { IsStretch pass.old pass.new }
+    ensures down { PartsDown arena.now pass.old pass.new (record { parent = Some parent; node = node }) result }
+    ensures halves { IsTrue N.halves_have_room → IsRoomy N.layout N.body result }
 {
     search_law();
     let mut parent = parent;
@@ -103,11 +109,15 @@ pub(crate) fn split_alone<N: Unlinked, G: Gate>(
     requires full { IsTrue (is_full N.layout (N.body path.node.body)) }
     requires cut { IsInside pass.old path.node.node cut × CanSplitAt (N.body path.node.body) cut }
     requires adopts { CanAt N.can_adopt_at (split_left cut (N.body path.node.body)) cut }
+    requires leaf { is_branch (N.body path.node.body) ≡ false }
+    requires halves { IsTrue N.halves_have_room → HalvesHaveRoom N.layout cut (N.body path.node.body) }
     ensures pass { IsPassOf arena.now pass.new }
     ensures caller { pass.new.caller ≡ pass.old.caller }
     ensures part { TriedToSplit arena.now place pass.old pass.new path result }
     ensures tried { ¬ IsShut result }
     ensures stretch { IsStretch pass.old pass.new }
+    ensures down { PartsDown arena.now pass.old pass.new path result }
+    ensures halves { IsTrue N.halves_have_room → IsRoomy N.layout N.body result }
 {
     search_law();
     let Some(mut right) = claim_one(arena, pass, gate) else {
@@ -125,8 +135,8 @@ pub(crate) fn split_alone<N: Unlinked, G: Gate>(
     Part::Split(keep_right_alone(arena, pass, gate, place, path, right))
 }
 
-/// Splits the full root: it grows, or leads to its right half itself. One of the two can be, if it is no branch and no node
-/// of the type grows in place.
+/// Splits the full root: it grows, or leads to its right half itself. One of the two can be, if no node of the type grows in
+/// place, and all nodes grow if it is a branch.
 pub(crate) fn split_root<N: Unlinked, G: Gate>(
     arena: &Arena<N, Tree>,
     pass: &mut Pass<N, Tree>,
@@ -140,8 +150,10 @@ pub(crate) fn split_root<N: Unlinked, G: Gate>(
     ensures pass { IsPassOf arena.now pass.new }
     ensures caller { pass.new.caller ≡ pass.old.caller }
     ensures part { TriedToSplit arena.now place pass.old pass.new (record { parent = None; node = root }) result }
-    ensures open { N.in_place ≡ false → is_branch (N.body root.body) ≡ false → ¬ IsShut result }
+    ensures open { N.in_place ≡ false → (IsTrue (is_branch (N.body root.body)) → AllGrow arena.now) → ¬ IsShut result }
     ensures stretch { IsStretch pass.old pass.new }
+    ensures down { PartsDown arena.now pass.old pass.new (record { parent = None; node = root }) result }
+    ensures halves { IsTrue N.halves_have_room → IsRoomy N.layout N.body result }
 {
     let cut = cut_of_root(arena, pass, &root);
     if root.body.grows() {
@@ -160,8 +172,8 @@ pub(crate) fn split_root<N: Unlinked, G: Gate>(
     split_alone(arena, pass, gate, place, cut, path)
 }
 
-/// Splits the full node under its parent, or by itself. One of the two can be, if it is no branch, its parent is not full
-/// and no node of the type grows in place.
+/// Splits the full node under its parent, or by itself. One of the two can be, if no node of the type grows in place, all
+/// nodes grow if it is a branch, and the parent is not full if all nodes grow.
 pub(crate) fn split_child<N: Unlinked, G: Gate>(
     arena: &Arena<N, Tree>,
     pass: &mut Pass<N, Tree>,
@@ -175,11 +187,12 @@ pub(crate) fn split_child<N: Unlinked, G: Gate>(
     requires full { IsTrue (is_full N.layout (N.body node.body)) }
     ensures pass { IsPassOf arena.now pass.new }
     ensures caller { pass.new.caller ≡ pass.old.caller }
-    ensures part { TriedToSplit arena.now place pass.old pass.new
-        (record { parent = Some parent; node = node }) result }
-    ensures open { N.in_place ≡ false → is_branch (N.body node.body) ≡ false →
-        is_full N.layout (N.body parent.body) ≡ false → ¬ IsShut result }
+    ensures part { TriedToSplit arena.now place pass.old pass.new (record { parent = Some parent; node = node }) result }
+    ensures open { N.in_place ≡ false → (IsTrue (is_branch (N.body node.body)) → AllGrow arena.now) →
+        (AllGrow arena.now → is_full N.layout (N.body parent.body) ≡ false) → ¬ IsShut result }
     ensures stretch { IsStretch pass.old pass.new }
+    ensures down { PartsDown arena.now pass.old pass.new (record { parent = Some parent; node = node }) result }
+    ensures halves { IsTrue N.halves_have_room → IsRoomy N.layout N.body result }
 {
     let cut = cut_below(arena, pass, place, &parent, &node);
     if parent.body.is_branch() && parent.body.can_adopt(cut) {
@@ -212,9 +225,11 @@ fn split_whole<N: Unlinked, G: Gate>(
     ensures pass { IsPassOf arena.now pass.new }
     ensures caller { pass.new.caller ≡ pass.old.caller }
     ensures part { TriedToSplit arena.now place pass.old pass.new path result }
-    ensures open { N.in_place ≡ false → is_branch (N.body path.node.body) ≡ false →
-        HasRoomAbove N.layout N.body path.parent → ¬ IsShut result }
+    ensures open { N.in_place ≡ false → (IsTrue (is_branch (N.body path.node.body)) → AllGrow arena.now) →
+        (AllGrow arena.now → HasRoomAbove N.layout N.body path.parent) → ¬ IsShut result }
     ensures stretch { IsStretch pass.old pass.new }
+    ensures down { PartsDown arena.now pass.old pass.new path result }
+    ensures halves { IsTrue N.halves_have_room → IsRoomy N.layout N.body result }
 {
     let Path { parent, node } = path;
     match parent {
@@ -238,9 +253,11 @@ pub(crate) fn split<N: Unlinked, G: Gate>(
     ensures pass { IsPassOf arena.now pass.new }
     ensures caller { pass.new.caller ≡ pass.old.caller }
     ensures part { TriedToSplit arena.now place pass.old pass.new path result }
-    ensures open { N.in_place ≡ false → is_branch (N.body path.node.body) ≡ false →
-        HasRoomAbove N.layout N.body path.parent → ¬ IsShut result }
+    ensures open { N.in_place ≡ false → (IsTrue (is_branch (N.body path.node.body)) → AllGrow arena.now) →
+        (AllGrow arena.now → HasRoomAbove N.layout N.body path.parent) → ¬ IsShut result }
     ensures stretch { IsStretch pass.old pass.new }
+    ensures down { PartsDown arena.now pass.old pass.new path result }
+    ensures halves { IsTrue N.halves_have_room → IsEased N.layout N.body result }
 {
     match split_whole(arena, pass, gate, place, path) {
         Part::Split(half) => Part::Split(settle(arena, pass, gate, place, half)),

@@ -9,3 +9,5 @@ mod puts;
 mod tests;
 #[cfg(test)]
 mod tries;
+#[cfg(test)]
+mod try_puts;

@@ -46,7 +46,7 @@ fn one_caller_is_never_put_off_by_giving_up(rt: HostRuntime) -> Result<(), Fail>
 }
 
 /// An arena of two callers, and the passes of callers 0 and 1.
-fn two_callers<N: Unlinked>(
+pub(crate) fn two_callers<N: Unlinked>(
     alloc: Global,
     nodes: u32,
 ) -> Result<(Arena<N, Tree>, Pass<N, Tree>, Pass<N, Tree>), AllocError>

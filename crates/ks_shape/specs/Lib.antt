@@ -5,8 +5,10 @@ pub mod OnWay
 pub mod Answers
 pub mod Idle
 pub mod Tries
+pub mod Ends
 pub mod Stretches
 pub mod Claims
+pub mod Quiet
 pub mod Makes
 pub mod Of
 pub mod Places

@@ -3,6 +3,7 @@ ghost use Rattle.std.specs.Prelude.{◌≡◌, ◌≤◌, length};
 ghost use Rattle.ks_flow.specs.Discipline.{SameKeyset};
 ghost use Rattle.ks_arena.specs.Clauses.{hand_of};
 ghost use Rattle.ks_arena.specs.Of.{IsPassOf, RestStays};
+ghost use Rattle.ks_shape.specs.Quiet.{KeepsQuiet};
 ghost use Rattle.ks_shape.specs.Of.{IsStretch, MakesNoneLive, KeepsAside, HasClaimedOne, HasClaimedTwo};
 
 use ks_arena::{Arena, Held, Pass};
@@ -26,6 +27,7 @@ pub fn claim_one<N: Node, D: Discipline, G: Gate>(
     ensures makes { MakesNoneLive pass.old pass.new }
     ensures beside { KeepsAside D.beside pass.old pass.new }
     ensures keysets { KeepsAside SameKeyset pass.old pass.new }
+    ensures quiet { KeepsQuiet pass.old pass.new }
     ensures rest { RestStays arena.now pass.old pass.new }
 {
     D::laws();
@@ -53,6 +55,7 @@ pub fn claim_two<N: Node, D: Discipline, G: Gate>(
     ensures makes { MakesNoneLive pass.old pass.new }
     ensures beside { KeepsAside D.beside pass.old pass.new }
     ensures keysets { KeepsAside SameKeyset pass.old pass.new }
+    ensures quiet { KeepsQuiet pass.old pass.new }
     ensures rest { RestStays arena.now pass.old pass.new }
 {
     D::laws();

@@ -1,6 +1,7 @@
 -- What sound traces tell of a search under trees.
 use Rattle.std.proofs.Common.{ℕ, List}
 use Rattle.ks_keysets.specs.Keyset.{opening, Good}
+use Rattle.ks_keysets.specs.Walk.{OneParent}
 use Rattle.ks_history.specs.declared.Event.{Event}
 use Rattle.ks_history.specs.Trace.{graph_after, frame_after}
 use Rattle.ks_history.specs.Laws.Stays.{AreInTurn}
@@ -15,14 +16,16 @@ pub record Laws (sort : Sort) (n : ℕ) : Type 0 where
   pub turns : (h : List Event) → Sound sort BeginsTree TreeStep n h → AreInTurn h
   pub good : (h : List Event) → Sound sort BeginsTree TreeStep n h → Good (graph_after h)
   pub facts : (h : List Event) → Sound sort BeginsTree TreeStep n h → Tree (graph_after h) (frame_after (blank_of sort) h)
+  pub parents : (h : List Event) → Sound sort BeginsTree TreeStep n h → OneParent (graph_after h)
   pub insets : StaysBeside SameInset sort BeginsTree TreeStep n
   pub keysets : StaysBeside SameKeyset sort BeginsTree TreeStep n
 
-pub laws_of : IsDiscipline BeginsTree Tree TreeStep LastsUnderTree SameInset → Good opening → (sort : Sort) (n : ℕ) → Laws sort n
-laws_of laws good_opening sort n = record {
+pub laws_of : IsDiscipline BeginsTree Tree TreeStep LastsUnderTree SameInset → Good opening → (sort : Sort) (n : ℕ) → ((h : List Event) → Sound sort BeginsTree TreeStep n h → OneParent (graph_after h)) → Laws sort n
+laws_of laws good_opening sort n parents = record {
   turns = λ h so. (fine sort laws good_opening n h so).turns;
   good = λ h so. good_now (fine sort laws good_opening n h so).good;
   facts = λ h so. (fine sort laws good_opening n h so).facts_now;
+  parents = parents;
   insets = stays_beside sort laws good_opening n;
   keysets = keyset_beside sort laws good_opening n;
 }

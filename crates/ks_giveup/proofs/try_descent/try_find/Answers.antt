@@ -1,4 +1,6 @@
-use Rattle.std.proofs.Common.{◌≡◌, ◌≤◌, ◌+◌, ◌∙◌, ℕ, suc, [], sym, subst, arith}
+use Rattle.std.proofs.Common.{◌≡◌, ◌≤◌, ◌+◌, ◌∙◌, ℕ, suc, List, [], sym, subst, arith}
+use Rattle.ks_history.specs.declared.Event.{Event}
+use Rattle.ks_history.specs.Descent.{TookSince}
 use Rattle.ks_history.specs.Done.{give_up}
 use Rattle.ks_history.specs.Due.{FarDue}
 use Rattle.ks_history.specs.Trace.{hand}
@@ -23,3 +25,16 @@ pub returns-in-Go-next-clause-came : goal.returns-in-Go-next-clause-came
 returns-in-Go-next-clause-came g c = let n : ℕ = c.args.arena.now.nodes in let s = seen_of c.args.pass.now in let k = seen_of c.turn_back.new.pass in let steps : ℕ = c.loop-steps._steps in let inv = c.loop-steps.invariant in let e = c.turn_back.ensures in
     let all : n ≤ suc steps = omega arith in
     (subst (λ (z : ℕ). hand z k ≡ []) (e.caller ∙ inv.1) e.pass.1, λ op touched. (tt, subst (λ (z : ℕ). FarDue n z s k) inv.1 (e.far s steps all inv.4)))
+
+-- the root was taken once
+
+once : (n c : ℕ) (s h : List Event) (steps i : ℕ) → IsDown n c s h (suc steps) 1 steps i → TookSince c s h 0 1
+once n c s h steps i down = let took = down.took in record { grows = took.grows; many = omega arith; root = took.root }
+
+pub returns-in-Here-clause-once : goal.returns-in-Here-clause-once
+returns-in-Here-clause-once g c = let inv = c.loop-steps.invariant in let s = seen_of c.args.pass.now in let k = seen_of c.loop-steps.pass in
+    subst (λ (z : ℕ). TookSince z s k 0 1) inv.1 (once c.args.arena.now.nodes c.loop-steps.pass.caller s k c.loop-steps._steps c.loop-steps.held.node inv.4)
+
+pub returns-in-Here-next-clause-once : goal.returns-in-Here-next-clause-once
+returns-in-Here-next-clause-once g c = let inv = c.loop-steps.invariant in let s = seen_of c.args.pass.now in let k = seen_of c.loop-steps.pass in
+    subst (λ (z : ℕ). TookSince z s k 0 1) inv.1 (once c.args.arena.now.nodes c.loop-steps.pass.caller s k c.loop-steps._steps c.loop-steps.held.node inv.4)

@@ -1,4 +1,4 @@
-use Rattle.std.proofs.Common.{◌≡◌, ◌<◌, ℕ, Bool, true, false, cond, length, refl, sym, ap, ◌∙◌, subst, inl, inr, ⊎_elim, arith}
+use Rattle.std.proofs.Common.{◌≡◌, ◌⊎◌, ◌<◌, ℕ, Bool, true, false, cond, length, refl, sym, ap, ◌∙◌, subst, inl, inr, ⊎_elim, arith}
 use Rattle.std.specs.Prelude.{Option, Some, None, IsTrue}
 use Rattle.ks_keysets.specs.declared.Span.{Span}
 use Rattle.ks_keysets.specs.Keyset.{InInset}
@@ -12,6 +12,7 @@ use Rattle.ks_flow.specs.Tree.{IsInset}
 use Rattle.ks_bodies.specs.Stands.{Stands}
 use Rattle.ks_arena.specs.Sound.{sort_of, blank_of}
 use Rattle.ks_arena.specs.Clauses.{seen_of}
+use Rattle.ks_put.specs.Parts.{BranchCanAt, GrowAll}
 use Rattle.ks_put.proofs.Cutting.{stands_now, cut_inside, Whole, whole_of}
 use Rattle.ks_put.proofs.cuts.cut_below.Given.{Over}
 use Rattle.ks_put.proofs.cuts.cut_below.Goals as goal
@@ -53,13 +54,21 @@ branch_is : (t : Bool) (u : Body) → is_branch u ≡ t → (is_branch u ≡ fal
 branch_is true u e none same some = e
 branch_is false u e none same some = absurd (omega (arith, none e, same, some))
 
+leaf_or : (t : Bool) (b : Body) → is_branch b ≡ t → (is_branch b ≡ false) ⊎ IsTrue (is_branch b)
+leaf_or true b e = inr e
+leaf_or false b e = inl e
+
 pub returns-clause-open : goal.returns-clause-open
-returns-clause-open g c = λ no_place leaf room. let sort = sort_of g.N.Node.layout g.N.Node.ranged in let n : ℕ = c.args.arena.now.table.shared.table_id.slots in let h = seen_of c.args.pass.now in let sound = c.requires.pass.sound in let good = ((c.search_law.ensures sort n).good h sound) in let facts = (c.search_law.ensures sort n).facts h sound in
+returns-clause-open g c = λ no_place branchy room. let sort = sort_of g.N.Node.layout g.N.Node.ranged in let n : ℕ = c.args.arena.now.table.shared.table_id.slots in let h = seen_of c.args.pass.now in let sound = c.requires.pass.sound in let good = ((c.search_law.ensures sort n).good h sound) in let facts = (c.search_law.ensures sort n).facts h sound in
     let b : Body = g.N.Node.body c.args.node.now.body in let u : Body = g.N.Node.body c.args.parent.now.body in let i : ℕ = c.args.node.now.node in let p : ℕ = c.args.parent.now.node in let same = is_cut g c in let w = span_is g c in let at = within g c in
-    ⊎_elim
-    (λ first. inl (subst (λ (z : ℕ). IsTrue (g.N.Node.can_adopt_at (content_of b) z)) (sym same) (first c.args.node.now.body w.span c.if-parent-eq0.span c.requires.full w.suits w.given (subst (IsGoodCut b w.span) same (good_cut g c)))))
-    (λ second. let t = c.unlinked_law.ensures.adopting second.1 c.args.parent.now.body in let to = c.requires.above.leads in
+    let above_can : GrowAll g.N.Node.grows_at g.N.Node.body g.N.Node.branches_adopt g.N.Node.halves_have_room → BranchCanAt g.N.Node.can_adopt_at u c.cut.result = λ second. (let t = c.unlinked_law.ensures.adopting second.1 c.args.parent.now.body in let to = c.requires.above.leads in
     let branch : IsTrue (is_branch u) = branch_is (is_branch u) u refl t.bare (length_edges u c.node_law.ensures.sound c.node_law.ensures.framed (c.unlinked_law.ensures.no_link c.args.parent.now.body)) (omega (arith, to.1)) in
     let can : CanAdopt (graph_after h) (frame_after (blank_of sort) h) p i u = record { stands = above g c; branch = branch; place = c.args.place; leads = to } in
-    inr (branch, t.inside c.cut.result branch room (c.tree_asks_law.ensures.adopt (graph_after h) (frame_after (blank_of sort) h) p i c.cut.result u b good facts can (at_node g c) at.0 at.1.0.0).0 (c.tree_asks_law.ensures.adopt_free (graph_after h) (frame_after (blank_of sort) h) p i c.cut.result u b good facts can (at_node g c) at.0 at.1.0.0)))
+    (branch, t.inside c.cut.result branch (room second) (c.tree_asks_law.ensures.adopt (graph_after h) (frame_after (blank_of sort) h) p i c.cut.result u b good facts can (at_node g c) at.0 at.1.0.0).0 (c.tree_asks_law.ensures.adopt_free (graph_after h) (frame_after (blank_of sort) h) p i c.cut.result u b good facts can (at_node g c) at.0 at.1.0.0))) in
+    ⊎_elim
+    (λ first. ⊎_elim
+    (λ leaf. inl (leaf, subst (λ (z : ℕ). IsTrue (g.N.Node.can_adopt_at (content_of b) z)) (sym same) (first c.args.node.now.body w.span c.if-parent-eq0.span c.requires.full w.suits w.given (subst (IsGoodCut b w.span) same (good_cut g c)))))
+    (λ branch. inr (above_can (branchy branch)))
+    (leaf_or (is_branch b) b refl))
+    (λ second. inr (above_can second))
     (c.unlinked_law.ensures.sort no_place)

@@ -1,9 +1,9 @@
-use Rattle.std.proofs.Common.{◌≡◌, ◌∙◌, ℕ, cond, Bool, refl, sym, ap, subst, inl, inr, ⊎_elim}
+use Rattle.std.proofs.Common.{◌≡◌, ◌⊎◌, ◌∙◌, ℕ, cond, Bool, true, false, refl, sym, ap, subst, inl, inr, ⊎_elim}
 use Rattle.std.specs.Prelude.{Some, IsTrue}
 use Rattle.ks_keysets.specs.declared.Span.{Span}
 use Rattle.ks_keysets.specs.Keyset.{InInset}
 use Rattle.ks_history.specs.Trace.{graph_after, frame_after}
-use Rattle.ks_node.specs.Body.{Body, all_places, content_of}
+use Rattle.ks_node.specs.Body.{Body, all_places, content_of, is_branch}
 use Rattle.ks_node.specs.Asks.{CanSplitAt, IsGoodCut, Suits}
 use Rattle.ks_flow.specs.Tree.{IsInset}
 use Rattle.ks_bodies.specs.Stands.{Stands}
@@ -40,9 +40,16 @@ returns-clause-grows g c = λ grows. let at = (goal.at.returns-clause-grows g c)
 is_cut : (g : Over) (c : After-cut g) → c.cut.result ≡ g.N.Node.cut_at (content_of (g.N.Node.body c.args.root.now.body)) (Some all_places)
 is_cut g c = c.cut.ensures.is ∙ ap (λ (t : Bool). g.N.Node.cut_at (content_of (g.N.Node.body c.args.root.now.body)) (cond t (g.N.Node.body c.args.root.now.body).range (Some all_places))) c.unlinked_law.ensures.by_span
 
+leaf_or : (t : Bool) (b : Body) → is_branch b ≡ t → (is_branch b ≡ false) ⊎ IsTrue (is_branch b)
+leaf_or true b e = inr e
+leaf_or false b e = inl e
+
 pub returns-clause-open : goal.returns-clause-open
-returns-clause-open g c = λ no_place leaf. let at = (goal.at.returns-clause-open g c).After-node_law in let b : Body = g.N.Node.body c.args.root.now.body in let same = is_cut g c in
+returns-clause-open g c = λ no_place branchy. let at = (goal.at.returns-clause-open g c).After-node_law in let b : Body = g.N.Node.body c.args.root.now.body in let same = is_cut g c in
     ⊎_elim
-    (λ first. inr (subst (λ (z : ℕ). IsTrue (g.N.Node.can_adopt_at (content_of b) z)) (sym same) (first c.args.root.now.body all_places (Some all_places) c.requires.full (suits g at) (λ r e. same_span all_places r e) (subst (IsGoodCut b all_places) same (c.cut.ensures.good all_places (suits g at) (λ r e. same_span all_places r e))))))
+    (λ first. ⊎_elim
+    (λ leaf. inr (leaf, subst (λ (z : ℕ). IsTrue (g.N.Node.can_adopt_at (content_of b) z)) (sym same) (first c.args.root.now.body all_places (Some all_places) c.requires.full (suits g at) (λ r e. same_span all_places r e) (subst (IsGoodCut b all_places) same (c.cut.ensures.good all_places (suits g at) (λ r e. same_span all_places r e))))))
+    (λ branch. inl ((branchy branch).0 c.args.root.now.body))
+    (leaf_or (is_branch b) b refl))
     (λ second. inl (second.0 c.args.root.now.body))
     (c.unlinked_law.ensures.sort no_place)

@@ -4,6 +4,7 @@ use Rattle.ks_history.specs.Passes.{Has}
 use Rattle.ks_arena.specs.Sound.{sort_of}
 use Rattle.ks_arena.specs.Clauses.{seen_of}
 use Rattle.ks_shape.specs.Laws.Stretches.{stretches_give}
+use Rattle.ks_shape.specs.Laws.Quiet.{quiet_give}
 use Rattle.ks_put.specs.Laws.Search.{Laws}
 use Rattle.ks_put.proofs.Keeping.{once, drop_first, drop_later, half_kept}
 use Rattle.ks_put.proofs.halves.keep_half.Given.{Over}
@@ -42,3 +43,9 @@ returns-else-place-cut-clause-stretch g c = let at = (goal.at.returns-else-place
     let r : ℕ = c.args.right.node in let l : ℕ = c.args.left.node in let p : ℕ = c.args.parent.node in let all = once sort shows n me (laws g at) h k i c.requires.pass.sound e.pass.sound e.gave e.rest.still (r ∷ l ∷ p ∷ []) c.requires.hands in
     let hands : hand me k ≡ r ∷ p ∷ [] = gone ∙ ap (drop_one l) c.requires.hands ∙ drop_later r l (l ∷ p ∷ []) (λ same. all.0 (inl (sym same))) ∙ ap (λ (z : List ℕ). r ∷ z) (drop_first l (p ∷ [])) in
     stretches_give me i h k (omega (arith, ap length c.requires.hands)) e.gave
+
+pub returns-then-place-cut-clause-quiet : goal.returns-then-place-cut-clause-quiet
+returns-then-place-cut-clause-quiet g c = quiet_give c.args.pass.now.caller c.args.right.node (seen_of c.args.pass.now) (seen_of c.give.new.pass) c.give.ensures.gave
+
+pub returns-else-place-cut-clause-quiet : goal.returns-else-place-cut-clause-quiet
+returns-else-place-cut-clause-quiet g c = quiet_give c.args.pass.now.caller c.args.left.node (seen_of c.args.pass.now) (seen_of c.give-else-place-cut.new.pass) c.give-else-place-cut.ensures.gave

@@ -7,6 +7,8 @@ use Rattle.ks_arena.specs.Sound.{sort_of}
 use Rattle.ks_arena.specs.Clauses.{seen_of, hand_of}
 use Rattle.ks_put.specs.OnPath.{numbers}
 use Rattle.ks_shape.specs.Laws.Stretches.{stretches_give, stretches_here}
+use Rattle.ks_shape.specs.Laws.Quiet.{quiet_give}
+use Rattle.ks_put.proofs.Deepening.{quiet_here}
 use Rattle.ks_put.specs.Laws.Search.{Laws}
 use Rattle.ks_put.proofs.Keeping.{once, drop_first, drop_later, half_kept}
 use Rattle.ks_put.proofs.halves.keep_right.Given.{Over}
@@ -49,3 +51,9 @@ returns-in_default-clause-path g c = record {
 
 pub returns-in_default-clause-stretch : goal.returns-in_default-clause-stretch
 returns-in_default-clause-stretch g c = stretches_here c.args.pass.now.caller (seen_of c.args.pass.now) (few c.args.path.parent (hand_of c.args.pass.now) c.args.right.node c.args.path.node.node c.requires.hands)
+
+pub returns-clause-quiet : goal.returns-clause-quiet
+returns-clause-quiet g c = quiet_give c.args.pass.now.caller c.in-Some.parent.node (seen_of c.args.pass.now) (seen_of c.give.new.pass) c.give.ensures.gave
+
+pub returns-in_default-clause-quiet : goal.returns-in_default-clause-quiet
+returns-in_default-clause-quiet g c = quiet_here c.args.pass.now.caller (seen_of c.args.pass.now)

@@ -17,6 +17,8 @@ use Rattle.ks_put.specs.OnPath.{IsUnder, numbers}
 use Rattle.ks_put.specs.Laws.Search.{Laws}
 use Rattle.ks_put.proofs.Quiet.{quiet_insets}
 use Rattle.ks_put.proofs.Keeping.{drop_first, drop_later}
+use Rattle.ks_shape.specs.Laws.Quiet.{quiet_give, quiet_on}
+use Rattle.ks_put.proofs.Deepening.{quiet_gave}
 use Rattle.ks_put.proofs.halves.keep_right_alone.Given.{Over}
 use Rattle.ks_put.proofs.halves.keep_right_alone.Goals as goal
 use Rattle.ks_put.proofs.halves.keep_right_alone.Goals.{After-search_law, After-give}
@@ -75,3 +77,7 @@ pub returns-clause-stretch : goal.returns-clause-stretch
 returns-clause-stretch g c = let me : ℕ = c.args.pass.now.caller in let h = seen_of c.args.pass.now in let h₁ = seen_of c.give.new.pass in let h₂ = seen_of c.keep_alone-node.new.pass in
     stretches_both me h h₁ h₂ (stretches_give me c.args.path.node.node h h₁ (few c.args.path.parent (hand_of c.args.pass.now) c.args.right.node c.args.path.node.node c.requires.hands) c.give.ensures.gave)
     (stretches_as me c.give.new.pass.caller h₁ h₂ c.give.ensures.caller c.keep_alone-node.ensures.stretch)
+
+pub returns-clause-quiet : goal.returns-clause-quiet
+returns-clause-quiet g c = let me : ℕ = c.args.pass.now.caller in let h = seen_of c.args.pass.now in let h₁ = seen_of c.give.new.pass in let h₂ = seen_of c.keep_alone-node.new.pass in
+    quiet_on me c.give.new.pass.caller h h₁ h₂ c.give.ensures.caller (quiet_give me c.args.path.node.node h h₁ c.give.ensures.gave) (quiet_gave c.give.new.pass.caller c.args.path.parent h₁ h₂ c.keep_alone-node.ensures.gave)

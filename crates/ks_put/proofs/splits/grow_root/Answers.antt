@@ -17,6 +17,16 @@ use Rattle.ks_put.specs.Parts.{IsPart}
 use Rattle.ks_put.specs.Laws.Search.{Laws}
 use Rattle.ks_shape.specs.Laws.Claims.{may_grow_root}
 use Rattle.ks_put.proofs.Keeping.{path_turn, path_stays, path_live, full_is_root}
+use Rattle.ks_history.specs.declared.Event.TheVariants.{Shape}
+use Rattle.ks_history.specs.Passes.{GrowsWith}
+use Rattle.ks_history.specs.Laws.Descent.{HeldUnder, the_node, claimed}
+use Rattle.ks_history.specs.Laws.Hand.{is_hand}
+use Rattle.ks_node.specs.Room.{is_full}
+use Rattle.ks_bodies.specs.Shapes.{grow as grow_to}
+use Rattle.ks_shape.specs.Quiet.{IsQuiet}
+use Rattle.ks_try.specs.Down.{IsDown}
+use Rattle.ks_put.specs.Deeper.{StandsDown}
+use Rattle.ks_put.proofs.Deepening.{down_quiet, down_shaped, free_none, grow_held}
 use Rattle.ks_put.proofs.splits.grow_root.Given.{Over}
 use Rattle.ks_put.proofs.splits.grow_root.Goals as goal
 use Rattle.ks_put.proofs.splits.grow_root.Goals.{After-search_law, After-claim_two, After-grow}
@@ -67,3 +77,28 @@ returns-clause-stretch g c = let me : ℕ = c.args.pass.now.caller in let h = se
     stretches_both me h h₁ h₃ c.claim_two.ensures.stretch (stretches_both me h₁ h₂ h₃
     (stretches_shape me c.claim_two.new.pass.caller c.grow.new.pass.caller h₁ h₂ one two (omega (arith, ap length c.in-Some.ensures.claimed.hands, ap length c.requires.path.hands)) c.grow.ensures.shaped.hand c.grow.ensures.shaped.adds)
     (stretches_as me c.grow.new.pass.caller h₂ h₃ (two ∙ one) c.keep_half.ensures.stretch))
+
+-- how deep the search stands
+
+pub returns-in_default-clause-down : goal.returns-in_default-clause-down
+returns-in_default-clause-down g c = λ start taken roots steps down. let law = laws g (goal.at.returns-in_default-clause-down g c).After-search_law in let k = seen_of c.claim_two.new.pass in
+    down_quiet c.args.arena.now.nodes c.args.pass.now.caller start (seen_of c.args.pass.now) k taken roots steps c.args.root.node c.claim_two.ensures.quiet (law.turns k c.claim_two.ensures.pass.sound) down
+
+pub returns-clause-down : goal.returns-clause-down
+returns-clause-down g c = λ start taken roots steps down. let law = laws g (goal.at.returns-clause-down g c).After-search_law in let sort = sort_of g.N.Node.layout g.N.Node.ranged in let shows = g.N.Node.body in let slots : ℕ = c.args.arena.now.table.shared.table_id.slots in let n : ℕ = c.args.arena.now.nodes in
+    let me : ℕ = c.args.pass.now.caller in let h = seen_of c.args.pass.now in let h₁ = seen_of c.claim_two.new.pass in let h₂ = seen_of c.grow.new.pass in let h₃ = seen_of c.keep_half.new.pass in let one = c.claim_two.ensures.caller in let two = c.grow.ensures.caller in
+    let i : ℕ = c.args.root.node in let x = c.in-Some.left in let y = c.in-Some.right in let got = c.in-Some.ensures.claimed in let sound₁ = c.claim_two.ensures.pass.sound in let held₁ = is_hand h₁ me (law.turns h₁ sound₁) in
+    let changes = grow_to g.N.Node.branch_kind i x.node y.node c.args.cut (shows c.args.root.body) in
+    let d₁ = down_quiet n me start h h₁ taken roots steps i c.claim_two.ensures.quiet (law.turns h₁ sound₁) down in
+    let d₂ = down_shaped sort shows slots me law n changes start h₁ h₂ taken roots steps i c.grow.ensures.pass.sound (subst (λ (z : ℕ). GrowsWith z (Shape z changes) h₁ h₂) one c.grow.ensures.shaped.adds)
+    (grow_held (HeldUnder h₁ me i) g.N.Node.branch_kind i x.node y.node c.args.cut (shows c.args.root.body) the_node
+    (claimed (held₁.held x.node got.left.has) (free_none sort shows h₁ x got.left.free got.left.matches)) (claimed (held₁.held y.node got.right.has) (free_none sort shows h₁ y got.right.free got.right.matches))) d₁ in
+    let d₃ = down_quiet n me start h₂ h₃ taken roots steps i (subst (λ (z : ℕ). IsQuiet z h₂ h₃) (two ∙ one) c.keep_half.ensures.quiet) (law.turns h₃ c.keep_half.ensures.pass.sound) d₂ in
+    subst (λ (o : Option (Hand g.row.N.Denot)). StandsDown n me start h₃ taken roots steps c.keep_half.result.node o) (sym c.keep_half.ensures.parent)
+    (steps, omega arith, subst (λ (z : ℕ). IsDown n me start h₃ taken roots steps z) (sym c.grow.ensures.node.node) d₃)
+
+-- neither half is full, if halves have room
+
+pub returns-clause-halves : goal.returns-clause-halves
+returns-clause-halves g c = λ even. let room = c.requires.halves even in
+    c.keep_half.ensures.room (ap (is_full g.N.Node.layout) c.grow.ensures.left.body ∙ room.0) (ap (is_full g.N.Node.layout) c.grow.ensures.right.body ∙ room.1)

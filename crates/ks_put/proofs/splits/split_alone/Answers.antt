@@ -1,4 +1,4 @@
-use Rattle.std.proofs.Common.{◌≡◌, ◌≤◌, ◌∙◌, ℕ, List, ◌∷◌, length, arith, refl, sym, ap, subst, inl, inr}
+use Rattle.std.proofs.Common.{◌≡◌, ◌≤◌, ◌∙◌, ℕ, suc, false, List, ◌∷◌, length, arith, refl, sym, ap, subst, inl, inr}
 use Rattle.std.specs.Prelude.{Option, Some, None}
 use Rattle.ks_keysets.specs.Record.{LeadsTo}
 use Rattle.ks_keysets.specs.Keyset.{InInset}
@@ -16,6 +16,23 @@ use Rattle.ks_put.specs.OnPath.{IsUnder, numbers}
 use Rattle.ks_shape.specs.Laws.Stretches.{stretches_as, stretches_both, stretches_shape}
 use Rattle.ks_put.specs.Laws.Search.{Laws}
 use Rattle.ks_put.proofs.Keeping.{path_turn, path_stays, path_live, parent_has, parent_apart, under_later}
+use Rattle.ks_keysets.specs.declared.Change.{Change}
+use Rattle.ks_keysets.specs.Keyset.{record_at}
+use Rattle.ks_history.specs.declared.Event.{Event}
+use Rattle.ks_history.specs.declared.Event.TheVariants.{Shape}
+use Rattle.ks_history.specs.Passes.{GrowsWith}
+use Rattle.ks_history.specs.Laws.Descent.{HeldUnder, the_node, claimed, target}
+use Rattle.ks_node.specs.Room.{is_full}
+use Rattle.ks_bodies.specs.Shapes.{split_own as own_to}
+use Rattle.ks_arena.specs.Sound.{Sort}
+use Rattle.ks_shape.specs.Quiet.{IsQuiet}
+use Rattle.ks_shape.specs.Laws.Quiet.{quiet_give}
+use Rattle.ks_shape.specs.Laws.Single.{record_is}
+use Rattle.ks_try.specs.Down.{IsDown}
+use Rattle.ks_try.specs.Laws.Down.{down_edge}
+use Rattle.ks_put.specs.declared.path.Path.{Path}
+use Rattle.ks_put.specs.Deeper.{StandsDown}
+use Rattle.ks_put.proofs.Deepening.{down_quiet, down_fewer, down_shaped, free_none, own_full, own_held, path_down, stands_quiet}
 use Rattle.ks_put.proofs.splits.split_alone.Given.{Over}
 use Rattle.ks_put.proofs.splits.split_alone.Goals as goal
 use Rattle.ks_put.proofs.splits.split_alone.Goals.{After-search_law, After-claim_one, After-split_own}
@@ -87,3 +104,99 @@ returns-clause-stretch g c = let me : ℕ = c.args.pass.now.caller in let h = se
     stretches_both me h h₁ h₃ c.claim_one.ensures.stretch (stretches_both me h₁ h₂ h₃
     (stretches_shape me c.claim_one.new.pass.caller c.split_own.new.pass.caller h₁ h₂ one two (omega (arith, ap length c.in-Some.ensures.claimed.hands, few c.args.path.parent (hand_of c.args.pass.now) c.args.path.node.node c.requires.path.hands)) c.split_own.ensures.shaped.hand c.split_own.ensures.shaped.adds)
     (stretches_as me c.split_own.new.pass.caller h₂ h₃ (two ∙ one) c.keep_right_alone.ensures.stretch))
+
+-- how deep the search stands
+
+pub returns-in_default-clause-down : goal.returns-in_default-clause-down
+returns-in_default-clause-down g c = λ start taken roots steps down. let law = laws g (goal.at.returns-in_default-clause-down g c).After-search_law in let k = seen_of c.claim_one.new.pass in
+    stands_quiet (sort_of g.N.Node.layout g.N.Node.ranged) g.N.Node.body c.args.arena.now.table.shared.table_id.slots c.args.pass.now.caller law c.args.arena.now.nodes start (seen_of c.args.pass.now) k taken roots steps c.args.path.node c.args.path.parent c.claim_one.ensures.pass.sound c.claim_one.ensures.quiet down
+
+-- a node under which the node lies, through the claim and the Shape
+module _ (g : Over) (c : After-split_own g) (law : Laws (sort_of g.N.Node.layout g.N.Node.ranged) c.args.arena.now.table.shared.table_id.slots) where
+  abbrev sort : Sort
+  sort = sort_of g.N.Node.layout g.N.Node.ranged
+
+  abbrev slots : ℕ
+  slots = c.args.arena.now.table.shared.table_id.slots
+
+  abbrev me : ℕ
+  me = c.args.pass.now.caller
+
+  abbrev h₁ : List Event
+  h₁ = seen_of c.claim_one.new.pass
+
+  abbrev h₂ : List Event
+  h₂ = seen_of c.split_own.new.pass
+
+  abbrev changes : List Change
+  changes = own_to c.args.path.node.node c.in-Some.right.node c.args.cut (g.N.Node.body c.args.path.node.body)
+
+  right_under : (i : ℕ) → HeldUnder h₁ me i c.in-Some.right.node
+  right_under i = let got = c.in-Some.ensures.claimed in
+      claimed ((is_hand h₁ me (law.turns h₁ c.claim_one.ensures.pass.sound)).held c.in-Some.right.node got.free.has) (free_none sort g.N.Node.body h₁ c.in-Some.right got.free.free got.free.matches)
+
+  through : (n i : ℕ) (start : List Event) (taken roots steps : ℕ) → HeldUnder h₁ me i c.args.path.node.node → IsDown n me start (seen_of c.args.pass.now) taken roots steps i → IsDown n me start h₂ taken roots steps i
+  through n i start taken roots steps under down = down_shaped sort g.N.Node.body slots me law n changes start h₁ h₂ taken roots steps i c.split_own.ensures.pass.sound
+      (subst (λ (z : ℕ). GrowsWith z (Shape z changes) h₁ h₂) c.claim_one.ensures.caller c.split_own.ensures.shaped.adds)
+      (own_held (HeldUnder h₁ me i) c.args.path.node.node c.in-Some.right.node c.args.cut (g.N.Node.body c.args.path.node.body) under (right_under i))
+      (down_quiet n me start (seen_of c.args.pass.now) h₁ taken roots steps i c.claim_one.ensures.quiet (law.turns h₁ c.claim_one.ensures.pass.sound) down)
+
+  -- the node itself
+  node_down : (n : ℕ) (start : List Event) (taken roots steps : ℕ) → StandsDown n me start (seen_of c.args.pass.now) taken roots steps c.args.path.node c.args.path.parent → IsDown n me start h₂ taken roots steps c.args.path.node.node
+  node_down n start taken roots steps down = through n c.args.path.node.node start taken roots steps the_node
+      (path_down sort g.N.Node.body slots me law n c.args.place start (seen_of c.args.pass.now) taken roots steps c.args.path.node c.args.path.parent c.requires.path.under down)
+
+  -- the path
+  above_under : (o : Option (Hand g.row.N.Denot)) → c.args.path.parent ≡ o → IsUnder sort g.N.Node.body c.args.place c.args.path.node (seen_of c.args.pass.now) o → (y : Hand g.row.N.Denot) → o ≡ Some y → HeldUnder h₁ me y.node c.args.path.node.node
+  above_under None is under y e = absurd (let q : ⊥ = cc in q)
+  above_under (Some z) is under y e =
+      let same : z ≡ y = cc in let to = under.leads in let got = c.in-Some.ensures.claimed in
+      let has : Has (hand me (seen_of c.args.pass.now)) z.node = parent_has sort g.N.Node.body slots me law c.args.path.node.node c.args.path.parent (hand me (seen_of c.args.pass.now)) c.requires.path.hands z is in
+      let mine₁ : turn_after h₁ z.node ≡ held me = (is_hand h₁ me (law.turns h₁ c.claim_one.ensures.pass.sound)).held z.node (subst (λ (w : List ℕ). Has w z.node) (sym got.hands) (inr has)) in
+      let is₁ = record_is sort g.N.Node.body h₁ z under.live (c.claim_one.ensures.rest.still z has under.matches) in
+      subst (λ (w : Hand g.row.N.Denot). HeldUnder h₁ me w.node c.args.path.node.node) same (target (record_of (g.N.Node.body z.body)) the_node mine₁ is₁ (to.0, to.1, to.2, to.3, to.4.1))
+
+  whole_down : (n : ℕ) (start : List Event) (taken roots steps : ℕ) (x : Hand g.row.N.Denot) (o : Option (Hand g.row.N.Denot)) → x.node ≡ c.args.path.node.node → ((y : Hand g.row.N.Denot) → o ≡ Some y → HeldUnder h₁ me y.node c.args.path.node.node) → StandsDown n me start (seen_of c.args.pass.now) taken roots steps c.args.path.node o → StandsDown n me start h₂ taken roots steps x o
+  whole_down n start taken roots steps x None same under down = subst (λ (z : ℕ). IsDown n me start h₂ taken roots steps z) (sym same) (through n c.args.path.node.node start taken roots steps the_node down)
+  whole_down n start taken roots steps x (Some y) same under down = (down.0, down.1, through n y.node start taken roots down.0 (under y refl) down.2)
+
+pub returns-then-place-cut-clause-down : goal.returns-then-place-cut-clause-down
+returns-then-place-cut-clause-down g c = λ start taken roots steps down. let at = goal.at.returns-then-place-cut-clause-down g c in let law = laws g at.After-search_law in let s = at.After-split_own in let n : ℕ = c.args.arena.now.nodes in let me : ℕ = c.args.pass.now.caller in
+    let h₂ = seen_of c.split_own.new.pass in let h₃ = seen_of c.keep_left.new.pass in let x = c.split_own.new.node in let o = c.args.path.parent in
+    let d₂ = whole_down g s law n start taken roots steps x o c.split_own.ensures.node.node (above_under g s law o refl c.requires.path.under) down in
+    let q : IsQuiet me h₂ h₃ = subst (λ (z : ℕ). IsQuiet z h₂ h₃) (c.split_own.ensures.caller ∙ c.claim_one.ensures.caller) (quiet_give c.split_own.new.pass.caller c.split_own.new.right.node h₂ h₃ c.keep_left.ensures.gave) in
+    subst (λ (z : Path g.row.N.Denot). StandsDown n me start h₃ taken roots steps z.node z.parent) (sym c.keep_left.ensures.same)
+    (stands_quiet (sort_of g.N.Node.layout g.N.Node.ranged) g.N.Node.body c.args.arena.now.table.shared.table_id.slots me law n start h₂ h₃ taken roots steps x o c.keep_left.ensures.pass.sound q d₂)
+
+pub returns-then-is_full-clause-down : goal.returns-then-is_full-clause-down
+returns-then-is_full-clause-down g c = λ start taken roots steps down. let at = goal.at.returns-then-is_full-clause-down g c in let law = laws g at.After-search_law in let s = at.After-split_own in let n : ℕ = c.args.arena.now.nodes in let me : ℕ = c.args.pass.now.caller in
+    let h₂ = seen_of c.split_own.new.pass in let h₃ = seen_of c.keep_right.new.pass in
+    let d₂ = node_down g s law n start taken roots steps down in
+    let d₃ = down_quiet n me start h₂ h₃ taken roots steps c.args.path.node.node (subst (λ (z : ℕ). IsQuiet z h₂ h₃) (c.split_own.ensures.caller ∙ c.claim_one.ensures.caller) c.keep_right.ensures.quiet) (law.turns h₃ c.keep_right.ensures.pass.sound) d₂ in
+    subst (λ (o : Option (Hand g.row.N.Denot)). StandsDown n me start h₃ taken roots steps c.keep_right.result.node o) (sym c.keep_right.ensures.parent)
+    (steps, omega arith, subst (λ (z : ℕ). IsDown n me start h₃ taken roots steps z) (sym c.split_own.ensures.node.node) d₃)
+
+pub returns-clause-down : goal.returns-clause-down
+returns-clause-down g c = λ start taken roots steps down. let at = goal.at.returns-clause-down g c in let law = laws g at.After-search_law in let s = at.After-split_own in let n : ℕ = c.args.arena.now.nodes in let me : ℕ = c.args.pass.now.caller in let sort = sort_of g.N.Node.layout g.N.Node.ranged in
+    let h₂ = seen_of c.split_own.new.pass in let h₃ = seen_of c.keep_right_alone.new.pass in let x = c.split_own.new.node in let y = c.split_own.new.right in
+    let z = (c.split_own.ensures.parts c.args.place (inset g at.After-claim_one c.args.place c.requires.path.inside (mine g at.After-search_law))).1 (omega (arith, c.if-place-cut.false)) in let to = z.0 in
+    let b : Body = split_on c.args.cut c.in-Some.right.node (g.N.Node.body c.args.path.node.body) in
+    let is₂ : record_at (graph_after h₂) c.args.path.node.node ≡ Some (record_of b) = subst (λ (w : ℕ). record_at (graph_after h₂) w ≡ Some (record_of b)) c.split_own.ensures.node.node (subst (λ (w : Body). record_at (graph_after h₂) x.node ≡ Some (record_of w)) c.split_own.ensures.node.body (record_is sort g.N.Node.body h₂ x c.split_own.ensures.node.live c.split_own.ensures.node.matches)) in
+    let d₂ = down_fewer n me start h₂ taken roots steps (suc steps) c.in-Some.right.node (omega arith) (down_edge n me start h₂ taken roots steps c.args.path.node.node c.in-Some.right.node (record_of b) is₂ (to.0, to.1, to.2, to.3, to.4.1) (node_down g s law n start taken roots steps down)) in
+    let d₃ = down_quiet n me start h₂ h₃ taken roots steps c.in-Some.right.node (subst (λ (w : ℕ). IsQuiet w h₂ h₃) (c.split_own.ensures.caller ∙ c.claim_one.ensures.caller) c.keep_right_alone.ensures.quiet) (law.turns h₃ c.keep_right_alone.ensures.pass.sound) d₂ in
+    subst (λ (o : Option (Hand g.row.N.Denot)). StandsDown n me start h₃ taken roots steps c.keep_right_alone.result.node o) (sym c.keep_right_alone.ensures.parent)
+    (subst (λ (w : Hand g.row.N.Denot). IsDown n me start h₃ taken roots steps w.node) (sym c.keep_right_alone.ensures.node) (subst (λ (w : ℕ). IsDown n me start h₃ taken roots steps w) (sym c.split_own.ensures.right.node) d₃))
+
+-- neither half is full, if halves have room
+
+pub returns-then-place-cut-clause-halves : goal.returns-then-place-cut-clause-halves
+returns-then-place-cut-clause-halves g c = λ even. let room = c.requires.halves even in
+    subst (λ (z : Path g.row.N.Denot). is_full g.N.Node.layout (g.N.Node.body z.node.body) ≡ false) (sym c.keep_left.ensures.same) (ap (is_full g.N.Node.layout) c.split_own.ensures.node.body ∙ own_full g.N.Node.layout c.args.cut c.in-Some.right.node (g.N.Node.body c.args.path.node.body) c.requires.leaf ∙ room.0)
+
+pub returns-then-is_full-clause-halves : goal.returns-then-is_full-clause-halves
+returns-then-is_full-clause-halves g c = λ even. let room = c.requires.halves even in let full : is_full g.N.Node.layout (g.N.Node.body c.split_own.new.right.body) ≡ false = ap (is_full g.N.Node.layout) c.split_own.ensures.right.body ∙ room.1 in
+    subst (λ (x : Hand g.row.N.Denot). is_full g.N.Node.layout (g.N.Node.body x.body) ≡ false) (sym c.keep_right.ensures.node) full
+
+pub returns-clause-halves : goal.returns-clause-halves
+returns-clause-halves g c = λ even. let room = c.requires.halves even in
+    subst (λ (x : Hand g.row.N.Denot). is_full g.N.Node.layout (g.N.Node.body x.body) ≡ false) (sym c.keep_right_alone.ensures.node) (ap (is_full g.N.Node.layout) c.split_own.ensures.right.body ∙ room.1)

@@ -1,8 +1,8 @@
-use Rattle.std.proofs.Common.{◌≡◌, ◌≤◌, ◌∙◌, ℕ, List, ◌∷◌, length, arith, refl, sym, ap, subst, inl}
+use Rattle.std.proofs.Common.{◌≡◌, ◌≤◌, ◌∙◌, ℕ, List, ◌∷◌, length, arith, refl, sym, ap, subst, inl, inr}
 use Rattle.std.specs.Prelude.{Option, Some, None}
 use Rattle.ks_keysets.specs.Record.{LeadsTo}
 use Rattle.ks_keysets.specs.Keyset.{InInset}
-use Rattle.ks_history.specs.Trace.{held, graph_after, turn_after}
+use Rattle.ks_history.specs.Trace.{hand, held, graph_after, turn_after}
 use Rattle.ks_history.specs.Hand.{AreOnce}
 use Rattle.ks_history.specs.Laws.Hand.{is_hand}
 use Rattle.ks_node.specs.Body.{Body}
@@ -16,6 +16,16 @@ use Rattle.ks_shape.specs.Laws.Stretches.{stretches_as, stretches_both, stretche
 use Rattle.ks_put.specs.Parts.{IsPart}
 use Rattle.ks_put.specs.Laws.Search.{Laws}
 use Rattle.ks_put.proofs.Keeping.{path_turn, path_stays, path_live}
+use Rattle.ks_history.specs.declared.Event.TheVariants.{Shape}
+use Rattle.ks_history.specs.Passes.{Has, GrowsWith}
+use Rattle.ks_history.specs.Laws.Descent.{HeldUnder, the_node, claimed, target}
+use Rattle.ks_node.specs.Room.{is_full}
+use Rattle.ks_bodies.specs.Shapes.{split_under as under_to}
+use Rattle.ks_shape.specs.Quiet.{IsQuiet}
+use Rattle.ks_shape.specs.Laws.Single.{record_is}
+use Rattle.ks_try.specs.Down.{IsDown}
+use Rattle.ks_put.specs.Deeper.{StandsDown}
+use Rattle.ks_put.proofs.Deepening.{down_quiet, down_shaped, free_none, stands_quiet, under_held}
 use Rattle.ks_put.proofs.splits.split_below.Given.{Over}
 use Rattle.ks_put.proofs.splits.split_below.Goals as goal
 use Rattle.ks_put.proofs.splits.split_below.Goals.{After-search_law, After-claim_one, After-split_under}
@@ -61,3 +71,32 @@ returns-clause-stretch g c = let me : ℕ = c.args.pass.now.caller in let h = se
     stretches_both me h h₁ h₃ c.claim_one.ensures.stretch (stretches_both me h₁ h₂ h₃
     (stretches_shape me c.claim_one.new.pass.caller c.split_under.new.pass.caller h₁ h₂ one two (omega (arith, ap length c.in-Some.ensures.claimed.hands, ap length c.requires.path.hands)) c.split_under.ensures.shaped.hand c.split_under.ensures.shaped.adds)
     (stretches_as me c.split_under.new.pass.caller h₂ h₃ (two ∙ one) c.keep_half.ensures.stretch))
+
+-- how deep the search stands
+
+pub returns-in_default-clause-down : goal.returns-in_default-clause-down
+returns-in_default-clause-down g c = λ start taken roots steps down. let law = laws g (goal.at.returns-in_default-clause-down g c).After-search_law in let k = seen_of c.claim_one.new.pass in
+    stands_quiet (sort_of g.N.Node.layout g.N.Node.ranged) g.N.Node.body c.args.arena.now.table.shared.table_id.slots c.args.pass.now.caller law c.args.arena.now.nodes start (seen_of c.args.pass.now) k taken roots steps c.args.node (Some c.args.parent) c.claim_one.ensures.pass.sound c.claim_one.ensures.quiet down
+
+pub returns-clause-down : goal.returns-clause-down
+returns-clause-down g c = λ start taken roots steps down. let law = laws g (goal.at.returns-clause-down g c).After-search_law in let sort = sort_of g.N.Node.layout g.N.Node.ranged in let shows = g.N.Node.body in let slots : ℕ = c.args.arena.now.table.shared.table_id.slots in let n : ℕ = c.args.arena.now.nodes in
+    let me : ℕ = c.args.pass.now.caller in let h = seen_of c.args.pass.now in let h₁ = seen_of c.claim_one.new.pass in let h₂ = seen_of c.split_under.new.pass in let h₃ = seen_of c.keep_half.new.pass in let one = c.claim_one.ensures.caller in let two = c.split_under.ensures.caller in
+    let u = c.args.parent in let i : ℕ = u.node in let x = c.args.node in let y = c.in-Some.right in let got = c.in-Some.ensures.claimed in let sound₁ = c.claim_one.ensures.pass.sound in let held₁ = is_hand h₁ me (law.turns h₁ sound₁) in
+    let path = c.requires.path in let above : ℕ = down.0 in let to = path.under.leads in
+    let has : Has (hand me h) i = subst (λ (z : List ℕ). Has z i) (sym path.hands) (inr (inl refl)) in
+    let mine₁ : turn_after h₁ i ≡ held me = held₁.held i (subst (λ (z : List ℕ). Has z i) (sym got.hands) (inr has)) in
+    let is₁ = record_is sort shows h₁ u path.under.live (c.claim_one.ensures.rest.still u has path.under.matches) in
+    let changes = under_to i x.node y.node c.args.cut (shows u.body) (shows x.body) in
+    let d₁ = down_quiet n me start h h₁ taken roots above i c.claim_one.ensures.quiet (law.turns h₁ sound₁) down.2 in
+    let d₂ = down_shaped sort shows slots me law n changes start h₁ h₂ taken roots above i c.split_under.ensures.pass.sound (subst (λ (z : ℕ). GrowsWith z (Shape z changes) h₁ h₂) one c.split_under.ensures.shaped.adds)
+    (under_held (HeldUnder h₁ me i) i x.node y.node c.args.cut (shows u.body) (shows x.body) the_node
+    (target (record_of (shows u.body)) the_node mine₁ is₁ (to.0, to.1, to.2, to.3, to.4.1)) (claimed (held₁.held y.node got.free.has) (free_none sort shows h₁ y got.free.free got.free.matches))) d₁ in
+    let d₃ = down_quiet n me start h₂ h₃ taken roots above i (subst (λ (z : ℕ). IsQuiet z h₂ h₃) (two ∙ one) c.keep_half.ensures.quiet) (law.turns h₃ c.keep_half.ensures.pass.sound) d₂ in
+    subst (λ (o : Option (Hand g.row.N.Denot)). StandsDown n me start h₃ taken roots steps c.keep_half.result.node o) (sym c.keep_half.ensures.parent)
+    (above, down.1, subst (λ (z : ℕ). IsDown n me start h₃ taken roots above z) (sym c.split_under.ensures.parent.node) d₃)
+
+-- neither half is full, if halves have room
+
+pub returns-clause-halves : goal.returns-clause-halves
+returns-clause-halves g c = λ even. let room = c.requires.halves even in
+    c.keep_half.ensures.room (ap (is_full g.N.Node.layout) c.split_under.ensures.node.body ∙ room.0) (ap (is_full g.N.Node.layout) c.split_under.ensures.right.body ∙ room.1)

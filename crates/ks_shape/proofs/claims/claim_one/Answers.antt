@@ -7,6 +7,7 @@ use Rattle.ks_arena.specs.Sound.{sort_of}
 use Rattle.ks_arena.specs.Clauses.{seen_of, hand_of}
 use Rattle.ks_shape.specs.Laws.Beside.{StaysBeside, beside_others, stays_beside, keyset_beside}
 use Rattle.ks_shape.specs.Laws.Makes.{makes_both, makes_others, makes_with}
+use Rattle.ks_shape.specs.Laws.Quiet.{quiet_others, quiet_claim, quiet_both}
 use Rattle.ks_shape.proofs.Claiming.{claimed_stretch, claimed_beside, refused}
 use Rattle.ks_shape.proofs.claims.claim_one.Given.{Over}
 use Rattle.ks_shape.proofs.claims.claim_one.Goals as goal
@@ -50,3 +51,10 @@ returns-in_default-clause-makes g c = let told = rw c.in_default.is at c.claim.e
 pub returns-clause-makes : goal.returns-clause-makes
 returns-clause-makes g c = let me : ℕ = c.args.pass.now.caller in let h = seen_of c.args.pass.now in let k = seen_of c.claim.new.pass in let got = c.in-Some.ensures.claimed.0 in let e = Claim me c.in-Some.claimed.node in
     makes_both me h got.moment k (with_begins me e h got.moment got.grows) (by_others_begins me got.moment k got.since) (makes_with me e h got.moment tt got.grows) (makes_others me got.moment k got.since)
+
+pub returns-in_default-clause-quiet : goal.returns-in_default-clause-quiet
+returns-in_default-clause-quiet g c = let told = rw c.in_default.is at c.claim.ensures.claimed in quiet_others c.args.pass.now.caller (seen_of c.args.pass.now) (seen_of c.claim.new.pass) told.0.grows
+
+pub returns-clause-quiet : goal.returns-clause-quiet
+returns-clause-quiet g c = let me : ℕ = c.args.pass.now.caller in let h = seen_of c.args.pass.now in let k = seen_of c.claim.new.pass in let got = c.in-Some.ensures.claimed.0 in
+    quiet_both me h got.moment k (quiet_claim me c.in-Some.claimed.node h got.moment got.grows) (quiet_others me got.moment k got.since)

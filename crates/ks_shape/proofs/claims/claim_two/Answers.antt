@@ -17,6 +17,7 @@ use Rattle.ks_shape.specs.Laws.Beside.{StaysBeside, beside_with, beside_both, st
 use Rattle.ks_shape.specs.Claims.{HoldsForClaim}
 use Rattle.ks_shape.specs.Makes.{MakesNone}
 use Rattle.ks_shape.specs.Laws.Makes.{makes_both, makes_with}
+use Rattle.ks_shape.specs.Laws.Quiet.{quiet_give, quiet_both, quiet_on}
 use Rattle.ks_shape.proofs.Claiming.{still_for_claim, back_hand, back_stretch, back_refused, back_kept}
 use Rattle.ks_shape.proofs.claims.claim_two.Given.{Over}
 use Rattle.ks_shape.proofs.claims.claim_two.Goals as goal
@@ -124,3 +125,13 @@ returns-in-None-clause-makes g c = let gv = (goal.at.returns-in-None-clause-make
     let last = with_begins me _ h₂ h₃ (gave g gv) in let till = begins_both h₁ h₂ h₃ (stretch_begins coupling c.claim_one.new.pass.caller h₁ h₂ (two.stretch coupling)) last in
     makes_both me h h₁ h₃ (stretch_begins coupling me h h₁ (one.stretch coupling)) till one.makes
     (makes_both me h₁ h₂ h₃ (stretch_begins coupling c.claim_one.new.pass.caller h₁ h₂ (two.stretch coupling)) last (subst (λ (z : ℕ). MakesNone z h₁ h₂) one.caller two.makes) (makes_with me _ h₂ h₃ tt (gave g gv)))
+
+-- no node is taken, and no Shape made
+
+pub returns-in-Some-claim_one-clause-quiet : goal.returns-in-Some-claim_one-clause-quiet
+returns-in-Some-claim_one-clause-quiet g c = let one = c.claim_one.ensures in
+    quiet_on c.args.pass.now.caller c.claim_one.new.pass.caller (seen_of c.args.pass.now) (seen_of c.claim_one.new.pass) (seen_of c.claim_one-2.new.pass) one.caller one.quiet c.claim_one-2.ensures.quiet
+
+pub returns-in-None-clause-quiet : goal.returns-in-None-clause-quiet
+returns-in-None-clause-quiet g c = let gv = (goal.at.returns-in-None-clause-quiet g c).After-give in let me : ℕ = c.args.pass.now.caller in let h = seen_of c.args.pass.now in let h₁ = seen_of c.claim_one.new.pass in let h₂ = seen_of c.claim_one-2.new.pass in let one = c.claim_one.ensures in
+    quiet_both me h h₂ (seen_of c.give.new.pass) (quiet_on me c.claim_one.new.pass.caller h h₁ h₂ one.caller one.quiet c.claim_one-2.ensures.quiet) (quiet_give me c.in-Some.left.node h₂ (seen_of c.give.new.pass) (gave g gv))

@@ -1,0 +1,65 @@
+//! Puts and adds by lock coupling that wait for nobody.
+ghost use Rattle.std.specs.Prelude.{◌≡◌};
+ghost use Rattle.ks_history.specs.declared.Op.TheVariants.{Add, Put};
+ghost use Rattle.ks_history.specs.Done.{coupling};
+ghost use Rattle.ks_arena.specs.Of.{IsEmptyPassOf};
+ghost use Rattle.ks_shape.specs.Ends.{EndsPutOf, SplitsEvenly};
+ghost use Rattle.ks_shape.specs.Of.{TriedPutOf};
+
+use ks_arena::{Arena, Pass};
+use ks_flow::Tree;
+use ks_gate::{Gate, Point};
+use ks_node::Unlinked;
+use ks_put::{try_pair_add, try_pair_put};
+use ks_shape::{Numbered, PutLater};
+
+/// Sets the value at a place; answers the value that stood there, and the number of the call. It splits full nodes on its way
+/// and at its end, holds three nodes at most, and waits for none.
+///
+/// # Errors
+///
+/// `Full` where the node has no room, no value stands at the place, and no node was found free: the call has its number, and
+/// splits that it made before stay. `Busy` where another caller holds the next node on the way, which was not waited for;
+/// `Far` where as many nodes were taken as there are, while another caller changed some. Then the call is none of the history;
+/// splits that it made on its way stay.
+pub fn try_put<N: Unlinked, G: Gate>(
+    arena: &Arena<N, Tree>,
+    pass: &mut Pass<N, Tree>,
+    gate: &G,
+    place: u64,
+    value: u128,
+) -> Result<Numbered, PutLater>
+    requires pass { IsEmptyPassOf arena.now pass.old }
+    ensures pass { IsEmptyPassOf arena.now pass.new }
+    ensures caller { pass.new.caller ≡ pass.old.caller }
+    ensures ends { EndsPutOf arena.now coupling (Put place value) pass.old pass.new result }
+    ensures tried { SplitsEvenly N.in_place N.halves_have_room →
+        TriedPutOf arena.now coupling (Put place value) pass.old pass.new result }
+{
+    gate.at(pass.caller(), Point::Begin);
+    try_pair_put(arena, pass, gate, place, value)
+}
+
+/// Sets the value at a place where none stands; answers the value that stood there, which then stays, and the number of the
+/// call. It goes as `try_put`.
+///
+/// # Errors
+///
+/// As for `try_put`.
+pub fn try_add<N: Unlinked, G: Gate>(
+    arena: &Arena<N, Tree>,
+    pass: &mut Pass<N, Tree>,
+    gate: &G,
+    place: u64,
+    value: u128,
+) -> Result<Numbered, PutLater>
+    requires pass { IsEmptyPassOf arena.now pass.old }
+    ensures pass { IsEmptyPassOf arena.now pass.new }
+    ensures caller { pass.new.caller ≡ pass.old.caller }
+    ensures ends { EndsPutOf arena.now coupling (Add place value) pass.old pass.new result }
+    ensures tried { SplitsEvenly N.in_place N.halves_have_room →
+        TriedPutOf arena.now coupling (Add place value) pass.old pass.new result }
+{
+    gate.at(pass.caller(), Point::Begin);
+    try_pair_add(arena, pass, gate, place, value)
+}

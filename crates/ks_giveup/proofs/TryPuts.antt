@@ -1,0 +1,24 @@
+-- How a put or an add that waits for nobody ends where its first search does.
+use Rattle.std.proofs.Common.{◌≡◌, ℕ, List, [], ◌∷◌}
+use Rattle.ks_history.specs.declared.Event.{Event}
+use Rattle.ks_history.specs.declared.Event.TheVariants.{Give}
+use Rattle.ks_history.specs.declared.Op.{Op}
+use Rattle.ks_history.specs.Descent.{TookSince}
+use Rattle.ks_history.specs.Done.{give_up}
+use Rattle.ks_history.specs.Map.{Touches}
+use Rattle.ks_history.specs.Passes.{GrowsWith}
+use Rattle.ks_history.specs.Trace.{hand}
+use Rattle.ks_history.specs.Underway.{Underway}
+use Rattle.ks_history.specs.Laws.Descent.{took_while}
+use Rattle.ks_history.specs.Laws.Underway.{left_of}
+use Rattle.ks_shape.specs.declared.answers.Later.{Later}
+use Rattle.ks_shape.specs.Tries.{IsPutOff}
+use Rattle.ks_try.specs.Of.{IsCauseAt}
+use Rattle.ks_try.specs.Laws.Down.{gave_no_take}
+
+pub put_off : (n c place : ℕ) (op : Op) (s h : List Event) (later : Later) → Touches op place → Underway give_up c op s h → (hand c h ≡ []) × IsCauseAt give_up n c place s h later → IsPutOff give_up n c op s h later
+put_off n c place op s h later touched under so = record { left = left_of give_up c op s h under so.0; cause = so.1 op touched }
+
+-- a give takes no root
+pub once_later : (c i : ℕ) (s h k : List Event) → GrowsWith c (Give c i) h k → TookSince c s h 0 1 → TookSince c s k 0 1
+once_later c i s h k gave took = took_while c s h k 0 1 (record { rest = Give c i ∷ gave.rest; is = gave.is }) (gave_no_take c i h k gave) took

@@ -1,0 +1,83 @@
+//! Puts and adds by giving up that wait for nobody.
+ghost use Rattle.std.specs.Prelude.{◌≡◌};
+ghost use Rattle.ks_history.specs.declared.Op.TheVariants.{Add, Put};
+ghost use Rattle.ks_history.specs.Done.{give_up};
+ghost use Rattle.ks_arena.specs.Of.{IsEmptyPassOf};
+ghost use Rattle.ks_shape.specs.Ends.{EndsPutOf, SplitsEvenly};
+ghost use Rattle.ks_shape.specs.Of.{TriedPutOf};
+
+use crate::try_descent::try_find;
+use ks_arena::{Arena, Pass};
+use ks_flow::Tree;
+use ks_gate::Gate;
+use ks_node::{Ranged, Unlinked};
+use ks_put::{try_pair_add, try_pair_put};
+use ks_shape::{Numbered, PutLater, add_here, give_last, has_room, put_here};
+
+/// Sets the value at a place; answers the value that stood there, and the number of the call. It holds one node at a time,
+/// and waits for none; where the node has no room it goes on by lock coupling, from the root, and splits full nodes.
+///
+/// # Errors
+///
+/// `Full` where the node has no room, no value stands at the place, and no node was found free: the call has its number, and
+/// splits that it made before stay. `Busy` where another caller holds the next node on the way, which was not waited for;
+/// `Moved` where a node that was on the way is so no longer, as another caller changed it; `Far` where as many nodes were
+/// taken as there are, while another caller changed some. Then the call is none of the history; splits that it made on its
+/// way stay.
+pub fn try_put<N: Ranged + Unlinked, G: Gate>(
+    arena: &Arena<N, Tree>,
+    pass: &mut Pass<N, Tree>,
+    gate: &G,
+    place: u64,
+    value: u128,
+) -> Result<Numbered, PutLater>
+    requires pass { IsEmptyPassOf arena.now pass.old }
+    ensures pass { IsEmptyPassOf arena.now pass.new }
+    ensures caller { pass.new.caller ≡ pass.old.caller }
+    ensures ends { EndsPutOf arena.now give_up (Put place value) pass.old pass.new result }
+    ensures tried { SplitsEvenly N.in_place N.halves_have_room →
+        TriedPutOf arena.now give_up (Put place value) pass.old pass.new result }
+{
+    match try_find(arena, pass, gate, place) {
+        Ok(held) => {
+            if has_room(&held, place) {
+                return Ok(put_here(arena, pass, gate, place, value, held));
+            }
+            give_last(arena, pass, gate, held);
+            try_pair_put(arena, pass, gate, place, value)
+        }
+        Err(later) => Err(PutLater::Later(later)),
+    }
+}
+
+/// Sets the value at a place where none stands; answers the value that stood there, which then stays, and the number of the
+/// call. It goes as `try_put`.
+///
+/// # Errors
+///
+/// As for `try_put`.
+pub fn try_add<N: Ranged + Unlinked, G: Gate>(
+    arena: &Arena<N, Tree>,
+    pass: &mut Pass<N, Tree>,
+    gate: &G,
+    place: u64,
+    value: u128,
+) -> Result<Numbered, PutLater>
+    requires pass { IsEmptyPassOf arena.now pass.old }
+    ensures pass { IsEmptyPassOf arena.now pass.new }
+    ensures caller { pass.new.caller ≡ pass.old.caller }
+    ensures ends { EndsPutOf arena.now give_up (Add place value) pass.old pass.new result }
+    ensures tried { SplitsEvenly N.in_place N.halves_have_room →
+        TriedPutOf arena.now give_up (Add place value) pass.old pass.new result }
+{
+    match try_find(arena, pass, gate, place) {
+        Ok(held) => {
+            if has_room(&held, place) {
+                return Ok(add_here(arena, pass, gate, place, value, held));
+            }
+            give_last(arena, pass, gate, held);
+            try_pair_add(arena, pass, gate, place, value)
+        }
+        Err(later) => Err(PutLater::Later(later)),
+    }
+}

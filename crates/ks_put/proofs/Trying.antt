@@ -1,0 +1,129 @@
+-- What a step of a search that waits for nobody tells, by the step down that it made.
+use Rattle.std.proofs.Common.{◌≡◌, ◌⊎◌, ℕ, suc, ◌<◌, ◌≤◌, ◌+◌, ◌*◌, Bool, true, false, List, sym, ap, ◌∙◌, subst, inl, inr, arith}
+use Rattle.std.specs.Prelude.{Option, Some, None, IsTrue, Result, Ok, Err, length}
+use Rattle.ks_keysets.specs.declared.Frame.{Frame}
+use Rattle.ks_keysets.specs.declared.Span.{Span}
+use Rattle.ks_keysets.specs.Record.{top}
+use Rattle.ks_history.specs.Trace.{graph_after, frame_after}
+use Rattle.ks_flow.specs.Tree.{Tree}
+use Rattle.ks_node.specs.declared.start.Next.TheVariants.{Here}
+use Rattle.ks_node.specs.Sound.{Sound as InOrder}
+use Rattle.ks_arena.specs.Sound.{Sort, blank_of}
+use Rattle.ks_arena.specs.Clauses.{seen_of}
+use Rattle.ks_arena.specs.declared.held.Pass.{Pass}
+use Rattle.ks_history.specs.Descent.{TookSince}
+use Rattle.ks_history.specs.Due.{NoneFree}
+use Rattle.ks_shape.specs.Stretches.{Stretches}
+use Rattle.ks_put.specs.Deeper.{IsDownPath}
+use Rattle.ks_arena.specs.Laws.Writes.{ends_at_no_branch}
+use Rattle.ks_shape.specs.Laws.Single.{shown, record_is}
+use Rattle.ks_put.specs.OnPath.{IsOnPath}
+use Rattle.ks_keysets.specs.Layout.{Layout}
+use Rattle.ks_keysets.specs.Record.{LeadsTo}
+use Rattle.ks_node.specs.Body.{Body, content_of, first_of, is_branch, last_of, next_at}
+use Rattle.ks_node.specs.Edges.{record_of, edges_of}
+use Rattle.ks_node.specs.Room.{is_full}
+use Rattle.ks_arena.specs.declared.held.Held.{Held as Hand}
+use Rattle.ks_history.specs.declared.Event.{Event}
+use Rattle.ks_history.specs.declared.Op.{Op}
+use Rattle.ks_history.specs.Done.{Template, coupling, Left}
+use Rattle.ks_shape.specs.declared.answers.Later.{Later}
+use Rattle.ks_shape.specs.declared.answers.Later.TheVariants.{Busy, Moved, Far}
+use Rattle.ks_shape.specs.declared.answers.PutLater.TheVariants.{Later as Otherwise}
+use Rattle.ks_shape.specs.Ends.{EndsPut, IsCauseButFar, IsFarDue}
+use Rattle.ks_shape.specs.Tries.{FindsFar, IsCause}
+use Rattle.ks_put.specs.declared.path.Path.{Path}
+use Rattle.ks_put.specs.declared.try_room.Step.{Step}
+use Rattle.ks_put.specs.Parts.{HasRoomAbove}
+use Rattle.ks_try.specs.Of.{IsCauseAt}
+use Rattle.ks_put.specs.Tries.{WentDown, WasRefused, IsEasedBut, IsEasedStep, IsNearer, IsPutOffBy}
+
+pub refused_before : {N : Type 0} (x : Hand N) (depth : ℕ) (refused : Bool) (None_free : Type 0) (result : Result (Step N) Later) → WentDown x depth refused result → WasRefused refused None_free result
+refused_before x depth refused None_free (Ok step) went = λ t. inl (subst (λ (b : Bool). IsTrue b) went.2 t)
+refused_before x depth refused None_free (Err later) went = tt
+
+pub refused_now : {N : Type 0} (x : Hand N) (depth : ℕ) (refused : Bool) (None_free : Type 0) (result : Result (Step N) Later) → None_free → WentDown x depth true result → WasRefused refused None_free result
+refused_now x depth refused None_free (Ok step) none went = λ t. inr none
+refused_now x depth refused None_free (Err later) none went = tt
+
+module _ {N : Type 0} (layout : Layout) (shows : N → Body) where
+  pub eased_down : (x : Hand N) (depth : ℕ) (refused : Bool) (Grow : Type 0) (result : Result (Step N) Later) → WentDown x depth refused result → IsEasedBut layout shows Grow refused (Some x) → IsEasedStep layout shows Grow result
+  eased_down x depth refused Grow (Ok step) went room = λ r grow. subst (λ (o : Option (Hand N)). HasRoomAbove layout shows o) (sym went.0) (room (sym went.2 ∙ r) grow)
+  eased_down x depth refused Grow (Err later) went room = tt
+
+  pub nearer_down : (x : Hand N) (depth : ℕ) (refused : Bool) (path : Path N) (result : Result (Step N) Later) → WentDown x depth refused result → IsNearer layout shows depth path result
+  nearer_down x depth refused path (Ok step) went = inl went.1
+  nearer_down x depth refused path (Err later) went = tt
+
+-- a node that leads on has an edge to start, so it is a branch, if those alone have edges
+pub no_leaf : (b : Body) (p m : ℕ) → LeadsTo (record_of b) p m → length (edges_of b) ≡ length b.starts → length b.starts ≡ 0 → ⊥
+no_leaf b p m to same none = let some = to.1 in omega (arith, some, same, none)
+
+-- what put off an operation by coupling puts it off by any technique that may find the way long
+
+cause_as : (template : Template) (c : ℕ) (op : Op) (s h : List Event) (later : Later) → FindsFar template → IsCauseButFar coupling c op s h later → IsCauseButFar template c op s h later
+cause_as template c op s h (Busy node holder) finds so = so
+cause_as template c op s h (Moved node) finds so = absurd so.0
+cause_as template c op s h Far finds so = finds
+
+pub ends_later : (layout : Layout) (template : Template) (n c : ℕ) (op : Op) (s h : List Event) (later : Later) → FindsFar template → Left template c op s h → IsCauseButFar coupling c op s h later → EndsPut layout template n c op s h (Err (Otherwise later))
+ends_later layout template n c op s h later finds left so = (left, cause_as template c op s h later finds so)
+
+pub far_later : (n c : ℕ) (op : Op) (s h : List Event) (later : Later) → IsCause coupling n c op s h later → IsFarDue n c s h (Err (Otherwise later))
+far_later n c op s h (Busy node holder) so = tt
+far_later n c op s h (Moved node) so = tt
+far_later n c op s h Far so = so.1
+
+-- the turns of a search, of which each goes down or splits a full node: no more than two for each node
+module _ {N : Type 0} (layout : Layout) (shows : N → Body) where
+  abbrev pub AreTurns : Path N → ℕ → ℕ → Type 0
+  AreTurns path depth turn = (IsTrue (is_full layout (shows path.node.body)) → turn ≤ 2 * depth) × (turn ≤ 2 * depth + 1)
+
+  pub turn_down : (path next : Path N) (depth deeper turn : ℕ) → AreTurns path depth turn → deeper ≡ suc depth → AreTurns next deeper (turn + 1)
+  turn_down path next depth deeper turn so down = let less = so.1 in ((λ full. omega (arith, less, down)), omega (arith, less, down))
+
+  pub turn_split : (path next : Path N) (depth deeper turn : ℕ) → AreTurns path depth turn → deeper ≡ depth → IsTrue (is_full layout (shows path.node.body)) → is_full layout (shows next.node.body) ≡ false → AreTurns next deeper (turn + 1)
+  turn_split path next depth deeper turn so same full room = let less = so.0 full in
+      ((λ again. absurd (let q : true ≡ false = sym again ∙ room in let z : ⊥ = cc in z)), omega (arith, less, same))
+
+  pub turn_on : (path next : Path N) (depth deeper turn : ℕ) → AreTurns path depth turn → (deeper ≡ suc depth) ⊎ ((deeper ≡ depth) × IsTrue (is_full layout (shows path.node.body)) × (is_full layout (shows next.node.body) ≡ false)) → AreTurns next deeper (turn + 1)
+  turn_on path next depth deeper turn so (inl down) = turn_down path next depth deeper turn so down
+  turn_on path next depth deeper turn so (inr split) = turn_split path next depth deeper turn so split.0 split.1 split.2
+
+-- where the search of a path ends, its node is no branch
+module _ {N : Type 0} (sort : Sort) (shows : N → Body) (c p : ℕ) (h : List Event) (x : Path N) (path : IsOnPath sort shows c p h x) (facts : Tree (graph_after h) (frame_after (blank_of sort) h)) (place : p ≤ top) where
+  held_in : (o : Option Span) → (frame_after (blank_of sort) h x.node.node).range ≡ o → (first_of o ≤ p) × (p ≤ last_of o)
+  held_in None e = (omega arith, omega (arith, place))
+  held_in (Some r) e = (facts.range x.node.node r (record_of (shows x.node.body), record_is sort shows h x.node path.live path.matches) e).forth p path.inside
+
+  ranged : (first_of (shows x.node.body).range ≤ p) × (p ≤ last_of (shows x.node.body).range)
+  ranged = held_in (shows x.node.body).range (ap (λ (f : Frame). f.range) (shown sort shows h x.node path.live path.matches).1)
+
+  pub path_leaf : InOrder (content_of (shows x.node.body)) → next_at (shows x.node.body) p ≡ Here → is_branch (shows x.node.body) ≡ false
+  path_leaf order here = ends_at_no_branch (shows x.node.body) p order ranged.0 ranged.1 here
+
+-- what is so of coupling is so but for Far
+pub but_far : (n c : ℕ) (op : Op) (s h : List Event) (later : Later) → IsCause coupling n c op s h later → IsCauseButFar coupling c op s h later
+but_far n c op s h (Busy node holder) so = so
+but_far n c op s h (Moved node) so = so
+but_far n c op s h Far so = so.0
+
+pub put_off : (even : Type 0) (n c place : ℕ) (s h : List Event) (later : Later) → IsCauseAt coupling n c place s h later → IsPutOffBy even n c place s h later
+put_off even n c place s h later so = λ op touched. (but_far n c op s h later (so op touched), λ e. so op touched)
+
+-- where a search stands at the start of a turn
+module _ {N D : Type 0} (sort : Sort) (shows : N → Body) (even Grow : Type 0) (Fit : Pass N D → Type 0) (nodes me place turn : ℕ) (s : List Event) where
+  abbrev pub TurnAt : Pass N D → Path N → ℕ → Bool → Type 0
+  TurnAt p x d r =
+      Fit p
+      × (p.caller ≡ me)
+      × IsOnPath sort shows p.caller place (seen_of p) x
+      × Stretches p.caller s (seen_of p)
+      × (IsTrue r → NoneFree sort.layout nodes p.caller place s (seen_of p))
+      × ((start : List Event) → TookSince p.caller start s 0 1 → IsDownPath nodes p.caller start (seen_of p) (suc d) 2 d x)
+      × (d < nodes)
+      × (even → IsEasedBut sort.layout shows Grow r x.parent × AreTurns sort.layout shows x d turn)
+
+  pub turn_as : (p q : Pass N D) (x y : Path N) (d e : ℕ) (r b : Bool) → q ≡ p → y ≡ x → e ≡ d → b ≡ r → TurnAt p x d r → TurnAt q y e b
+  turn_as p q x y d e r b one two three four so =
+      subst (λ (z : Pass N D). TurnAt z y e b) (sym one) (subst (λ (z : Path N). TurnAt p z e b) (sym two) (subst (λ (z : ℕ). TurnAt p x z b) (sym three) (subst (λ (z : Bool). TurnAt p x d z) (sym four) so)))

@@ -1,0 +1,140 @@
+-- What a search for room comes to that waits for nobody.
+use Rattle.std.specs.Prelude.{ℕ, ◌≡◌, ◌<◌, ◌⊎◌, suc, Bool, false, IsTrue, List, [], Option, Some, None, Result, Ok, Err}
+use Rattle.ks_keysets.specs.Layout.{Layout}
+use Rattle.ks_node.specs.declared.node.Node.{Ghosts as NodeGhosts}
+use Rattle.ks_node.below.ks_places.specs.declared.Placing.{Ghosts as PlacingGhosts}
+use Rattle.ks_flow.specs.declared.discipline.Discipline.{Ghosts as DisciplineGhosts}
+use Rattle.ks_history.specs.declared.Event.{Event}
+use Rattle.ks_history.specs.declared.Op.{Op}
+use Rattle.ks_history.specs.Descent.{TookSince}
+use Rattle.ks_history.specs.Done.{Template, coupling}
+use Rattle.ks_history.specs.Map.{Touches}
+use Rattle.ks_history.specs.Trace.{hand}
+use Rattle.ks_history.specs.Underway.{Underway}
+use Rattle.ks_node.specs.Body.{Body}
+use Rattle.ks_node.specs.Room.{is_full}
+use Rattle.ks_arena.specs.declared.arena.Arena.{Arena}
+use Rattle.ks_arena.specs.declared.held.Pass.{Pass}
+use Rattle.ks_arena.specs.declared.held.Held.{Held as Hand}
+use Rattle.ks_arena.specs.Sound.{Sort, sort_of}
+use Rattle.ks_arena.specs.Clauses.{seen_of}
+use Rattle.ks_shape.specs.declared.answers.Later.{Later}
+use Rattle.ks_shape.specs.declared.answers.Numbered.{Numbered}
+use Rattle.ks_shape.specs.declared.answers.PutLater.{PutLater}
+use Rattle.ks_shape.specs.Ends.{EndsPut, IsCauseButFar, IsFarDue, SplitsEvenly}
+use Rattle.ks_shape.specs.Tries.{FindsFar, IsCause}
+use Rattle.ks_try.specs.Down.{IsDown}
+use Rattle.ks_try.specs.Of.{IsCauseAt}
+use Rattle.ks_put.specs.declared.path.Path.{Path}
+use Rattle.ks_put.specs.declared.room.Room.{Room}
+use Rattle.ks_put.specs.declared.try_room.Step.{Step}
+use Rattle.ks_put.specs.Deeper.{IsDownPath}
+use Rattle.ks_put.specs.OnPath.{IsOnPath}
+use Rattle.ks_put.specs.Parts.{HasRoomAbove}
+use Rattle.ks_put.specs.Room.{CameTo}
+
+module _ {N : Type 0} (sort : Sort) (shows : N → Body) where
+  -- c, which searches for the place, stands on the path; or it holds nothing
+  abbrev pub PathOrNone : ℕ → ℕ → List Event → Result (Path N) Later → Type 0
+  PathOrNone c place h (Ok path) = IsOnPath sort shows c place h path
+  PathOrNone c place h (Err later) = hand c h ≡ []
+
+  abbrev pub StepOrNone : ℕ → ℕ → List Event → Result (Step N) Later → Type 0
+  StepOrNone c place h (Ok step) = IsOnPath sort shows c place h step.path
+  StepOrNone c place h (Err later) = hand c h ≡ []
+
+module _ {N : Type 0} (n c place : ℕ) (s0 h : List Event) where
+  -- since s0 c took so many nodes and one more, the root twice at most, and stands so many steps deep on its path; or what put
+  -- it off is so
+  abbrev pub PathOrCause : ℕ → Result (Path N) Later → Type 0
+  PathOrCause steps (Ok path) = IsDownPath n c s0 h (suc steps) 2 steps path
+  PathOrCause steps (Err later) = IsCauseAt coupling n c place s0 h later
+
+  -- so after a step
+  abbrev pub StepOrCause : Result (Step N) Later → Type 0
+  StepOrCause (Ok step) = IsDownPath n c s0 h (suc step.depth) 2 step.depth step.path
+  StepOrCause (Err later) = IsCauseAt coupling n c place s0 h later
+
+-- what put off the operation at the place is so; that Far is, if nodes split evenly
+abbrev pub IsPutOffBy : Type 0 → ℕ → ℕ → ℕ → List Event → List Event → Later → Type 0
+IsPutOffBy even n c place s0 h later = (op : Op) → Touches op place → IsCauseButFar coupling c op s0 h later × (even → IsCause coupling n c op s0 h later)
+
+-- c came to the node where its search ends, as it tells; or it holds nothing
+abbrev pub RoomOrNone : {N : Type 0} → Sort → (N → Body) → ℕ → ℕ → ℕ → List Event → List Event → Result (Room N) Later → Type 0
+RoomOrNone sort shows n c place h k (Ok room) = CameTo sort shows n c place h k room
+RoomOrNone sort shows n c place h k (Err later) = hand c k ≡ []
+
+-- or what put it off is so
+abbrev pub RoomOrCause : {N : Type 0} → Type 0 → ℕ → ℕ → ℕ → List Event → List Event → Result (Room N) Later → Type 0
+RoomOrCause even n c place s0 h (Ok room) = Unit {0}
+RoomOrCause even n c place s0 h (Err later) = IsPutOffBy even n c place s0 h later
+
+-- the path stands at the root; or hangs from this node; or the search was put off
+abbrev pub IsAtRoot : {N : Type 0} → Result (Path N) Later → Type 0
+IsAtRoot (Ok path) = path.parent ≡ None
+IsAtRoot (Err later) = Unit {0}
+
+abbrev pub HangsFrom : {N : Type 0} → Hand N → Result (Path N) Later → Type 0
+HangsFrom x (Ok path) = path.parent ≡ Some x
+HangsFrom x (Err later) = Unit {0}
+
+-- the step went down from the node x, at this depth, and no claim or none but before was refused; or the search was put off
+abbrev pub WentDown : {N : Type 0} → Hand N → ℕ → Bool → Result (Step N) Later → Type 0
+WentDown x depth refused (Ok step) = (step.path.parent ≡ Some x) × (step.depth ≡ suc depth) × (step.refused ≡ refused)
+WentDown x depth refused (Err later) = Unit {0}
+
+-- the step stands above the depth that no way passes
+abbrev pub IsNear : {N : Type 0} → ℕ → Result (Step N) Later → Type 0
+IsNear n (Ok step) = step.depth < n
+IsNear n (Err later) = Unit {0}
+
+-- if a claim was refused before the step, it was before this one or within it
+abbrev pub WasRefused : {N : Type 0} → Bool → Type 0 → Result (Step N) Later → Type 0
+WasRefused refused None_free (Ok step) = IsTrue step.refused → IsTrue refused ⊎ None_free
+WasRefused refused None_free (Err later) = Unit {0}
+
+module _ {N : Type 0} (layout : Layout) (shows : N → Body) where
+  -- unless a claim was refused, the parent has room, if all nodes grow
+  abbrev pub IsEasedBut : Type 0 → Bool → Option (Hand N) → Type 0
+  IsEasedBut Grow refused parent = refused ≡ false → Grow → HasRoomAbove layout shows parent
+
+  abbrev pub IsEasedStep : Type 0 → Result (Step N) Later → Type 0
+  IsEasedStep Grow (Ok step) = IsEasedBut Grow step.refused step.path.parent
+  IsEasedStep Grow (Err later) = Unit {0}
+
+  -- the step goes down; or it splits a full node, and stands at a half that is not full
+  abbrev pub IsNearer : ℕ → Path N → Result (Step N) Later → Type 0
+  IsNearer depth path (Ok step) = (step.depth ≡ suc depth) ⊎ ((step.depth ≡ depth) × IsTrue (is_full layout (shows path.node.body)) × (is_full layout (shows step.path.node.body) ≡ false))
+  IsNearer depth path (Err later) = Unit {0}
+
+module _ {N D P : Type 0} {n : NodeGhosts N P} {q : PlacingGhosts P} {d : DisciplineGhosts D} where
+  abbrev pub StandsOrNone : Arena N D P n q d → ℕ → ℕ → Pass N D → Result (Path N) Later → Type 0
+  StandsOrNone a c place p result = PathOrNone (sort_of n.layout n.ranged) n.body c place (seen_of p) result
+
+  abbrev pub StepsOrNone : Arena N D P n q d → ℕ → ℕ → Pass N D → Result (Step N) Later → Type 0
+  StepsOrNone a c place p result = StepOrNone (sort_of n.layout n.ranged) n.body c place (seen_of p) result
+
+  -- a search that began at some moment, since when the caller took the root once at most and nothing counts, has taken the root
+  -- between p and p'; or what put it off is so
+  abbrev pub BeginsOrCause : Arena N D P n q d → ℕ → Pass N D → Pass N D → Result (Path N) Later → Type 0
+  BeginsOrCause a place p p' result = (start : List Event) → TookSince p.caller start (seen_of p) 0 1 → PathOrCause a.nodes p.caller place start (seen_of p') 0 result
+
+  -- one that came down to the node x at p stands a step deeper at p'; or so
+  abbrev pub DeeperOrCause : Arena N D P n q d → ℕ → Pass N D → Pass N D → Hand N → Result (Path N) Later → Type 0
+  DeeperOrCause a place p p' x result = (start : List Event) (steps : ℕ) → IsDown a.nodes p.caller start (seen_of p) (suc steps) 2 steps x.node → PathOrCause a.nodes p.caller place start (seen_of p') (suc steps) result
+
+  -- one that stands on the path at p, at this depth, stands as its step tells at p'; or so
+  abbrev pub OnOrCause : Arena N D P n q d → ℕ → Pass N D → Pass N D → ℕ → Path N → Result (Step N) Later → Type 0
+  OnOrCause a place p p' depth path result = (start : List Event) → IsDownPath a.nodes p.caller start (seen_of p) (suc depth) 2 depth path → StepOrCause a.nodes p.caller place start (seen_of p') result
+
+  -- what a search for room between p and p' came to that waits for nobody; what put it off, since whatever moment
+  abbrev pub TriesRoom : Arena N D P n q d → ℕ → Pass N D → Pass N D → Result (Room N) Later → Type 0
+  TriesRoom a place p p' result = RoomOrNone (sort_of n.layout n.ranged) n.body a.nodes p.caller place (seen_of p) (seen_of p') result
+
+  abbrev pub TriesRoomSince : Arena N D P n q d → ℕ → Pass N D → Pass N D → Result (Room N) Later → Type 0
+  TriesRoomSince a place p p' result = (start : List Event) → TookSince p.caller start (seen_of p) 0 1 → RoomOrCause (SplitsEvenly n.in_place n.halves_have_room) a.nodes p.caller place start (seen_of p') result
+
+  -- a put or an add that is under way at p, by coupling or by giving up, and took the root once at most, is done at p', or put off
+  abbrev pub FinishesTry : Arena N D P n q d → Op → Pass N D → Pass N D → Result Numbered PutLater → Type 0
+  FinishesTry a op p p' answer = (template : Template) (start : List Event) → FindsFar template → TookSince p.caller start (seen_of p) 0 1 → Underway template p.caller op start (seen_of p) →
+      EndsPut n.layout template a.nodes p.caller op start (seen_of p') answer × (SplitsEvenly n.in_place n.halves_have_room → IsFarDue a.nodes p.caller start (seen_of p') answer)

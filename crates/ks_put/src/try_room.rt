@@ -1,0 +1,270 @@
+//! The search for room for a place that waits for nobody. A take that finds a node busy puts it off, and so does a way as
+//! long as there are nodes; its own splits make no way longer.
+ghost use Rattle.std.specs.Prelude.{◌≡◌, ◌<◌, IsTrue};
+ghost use Rattle.ks_node.specs.declared.start.Next.TheVariants.{Go};
+ghost use Rattle.ks_node.specs.Body.{next_at};
+ghost use Rattle.ks_arena.specs.Of.{IsPassOf, IsEmptyPassOf};
+ghost use Rattle.ks_shape.specs.Ends.{SplitsEvenly};
+ghost use Rattle.ks_shape.specs.Of.{IsStretch, IsOnWayOf, NoneWasFree};
+ghost use Rattle.ks_put.specs.Of.{AllGrow, IsOnPathOf};
+ghost use Rattle.ks_put.specs.Tries.{BeginsOrCause, DeeperOrCause, HangsFrom, IsAtRoot, IsEasedBut, IsEasedStep, IsNear, IsNearer, OnOrCause, StandsOrNone, StepsOrNone, TriesRoom, TriesRoomSince, WasRefused, WentDown};
+
+use crate::halves::Part;
+use crate::laws::search_law;
+use crate::path::{Path, let_go};
+use crate::room::{Room, come_to_full, come_to_room};
+use crate::splits::split;
+use ks_arena::laws::root_stays_law;
+use ks_arena::{Arena, Held, Pass, Taken, root_law};
+use ks_flow::Tree;
+use ks_gate::{Gate, Point};
+use ks_node::{Next, Unlinked, node_law, unlinked_law};
+use ks_shape::{Later, give_last, has_room};
+use ks_try::child_law;
+
+/// Where a search stands after a step: on its path, so many nodes below the root, after a claim was refused or not.
+pub(crate) struct Step<N> {
+    path: Path<N>,
+    depth: u32,
+    refused: bool,
+}
+
+/// Takes the root, unless another caller holds it. It does not tell the gate that a call begins.
+fn try_enter<N: Unlinked, G: Gate>(
+    arena: &Arena<N, Tree>,
+    pass: &mut Pass<N, Tree>,
+    gate: &G,
+    place: u64,
+) -> Result<Path<N>, Later>
+    requires pass { IsEmptyPassOf arena.now pass.old }
+    ensures pass { IsPassOf arena.now pass.new }
+    ensures caller { pass.new.caller ≡ pass.old.caller }
+    ensures path { StandsOrNone arena.now pass.old.caller place pass.new result }
+    ensures root { IsAtRoot result }
+    ensures down { BeginsOrCause arena.now place pass.old pass.new result }
+    ensures stretch { IsStretch pass.old pass.new }
+{
+    root_stays_law::<Tree>();
+    match arena.try_take(pass, 0) {
+        Taken::Held(node) => {
+            root_law(&node, place);
+            gate.at(pass.caller(), Point::Taken(0));
+            Ok(Path { parent: None, node })
+        }
+        Taken::Busy { holder } => Err(Later::Busy { node: 0, holder }),
+        Taken::Gone => unreachable!(),
+    }
+}
+
+/// Takes the child to which the search goes on, and keeps the node as its parent; or gives the node, if another caller holds
+/// the child.
+fn try_child<N: Unlinked, G: Gate>(
+    arena: &Arena<N, Tree>,
+    pass: &mut Pass<N, Tree>,
+    gate: &G,
+    place: u64,
+    held: Held<N>,
+    child: u32,
+) -> Result<Path<N>, Later>
+    requires pass { IsPassOf arena.now pass.old }
+    requires way { IsOnWayOf arena.now pass.old.caller place pass.old held }
+    requires goes { next_at (N.body held.body) place ≡ Go child }
+    ensures pass { IsPassOf arena.now pass.new }
+    ensures caller { pass.new.caller ≡ pass.old.caller }
+    ensures path { StandsOrNone arena.now pass.old.caller place pass.new result }
+    ensures parent { HangsFrom held result }
+    ensures down { DeeperOrCause arena.now place pass.old pass.new held result }
+    ensures stretch { IsStretch pass.old pass.new }
+{
+    search_law();
+    node_law(&held.body);
+    child_law(arena, pass, place, &held, child);
+    match arena.try_take(pass, child) {
+        Taken::Held(below) => {
+            gate.at(pass.caller(), Point::Taken(child));
+            Ok(Path {
+                parent: Some(held),
+                node: below,
+            })
+        }
+        Taken::Busy { holder } => {
+            give_last(arena, pass, gate, held);
+            Err(Later::Busy {
+                node: child,
+                holder,
+            })
+        }
+        Taken::Gone => unreachable!(),
+    }
+}
+
+/// Gives all that is held.
+fn let_all_go<N: Unlinked, G: Gate>(
+    arena: &Arena<N, Tree>,
+    pass: &mut Pass<N, Tree>,
+    gate: &G,
+    place: u64,
+    path: Path<N>,
+)
+    requires pass { IsPassOf arena.now pass.old }
+    requires path { IsOnPathOf arena.now pass.old.caller place pass.old path }
+    ensures pass { IsEmptyPassOf arena.now pass.new }
+    ensures caller { pass.new.caller ≡ pass.old.caller }
+    ensures stretch { IsStretch pass.old pass.new }
+{
+    let held = let_go(arena, pass, gate, place, path);
+    give_last(arena, pass, gate, held);
+}
+
+/// Gives the parent, and takes the child, unless another caller holds it, or as many nodes were taken as there are.
+fn try_down<N: Unlinked, G: Gate>(
+    arena: &Arena<N, Tree>,
+    pass: &mut Pass<N, Tree>,
+    gate: &G,
+    place: u64,
+    path: Path<N>,
+    child: u32,
+    depth: u32,
+    refused: bool,
+) -> Result<Step<N>, Later>
+    requires pass { IsPassOf arena.now pass.old }
+    requires path { IsOnPathOf arena.now pass.old.caller place pass.old path }
+    requires goes { next_at (N.body path.node.body) place ≡ Go child }
+    requires near { depth < arena.now.nodes }
+    ensures pass { IsPassOf arena.now pass.new }
+    ensures caller { pass.new.caller ≡ pass.old.caller }
+    ensures path { StepsOrNone arena.now pass.old.caller place pass.new result }
+    ensures went { WentDown path.node depth refused result }
+    ensures near { IsNear arena.now.nodes result }
+    ensures down { OnOrCause arena.now place pass.old pass.new depth path result }
+    ensures stretch { IsStretch pass.old pass.new }
+{
+    search_law();
+    let held = let_go(arena, pass, gate, place, path);
+    let nodes = arena.nodes();
+    if depth + 1 == nodes {
+        child_law(arena, pass, place, &held, child);
+        give_last(arena, pass, gate, held);
+        return Err(Later::Far);
+    }
+    match try_child(arena, pass, gate, place, held, child) {
+        Ok(path) => Ok(Step {
+            path,
+            depth: depth + 1,
+            refused,
+        }),
+        Err(later) => Err(later),
+    }
+}
+
+/// Goes on to the child. A full branch is split before, if there is a way and a claim is not refused: then the search looks
+/// again.
+fn try_go_on<N: Unlinked, G: Gate>(
+    arena: &Arena<N, Tree>,
+    pass: &mut Pass<N, Tree>,
+    gate: &G,
+    place: u64,
+    path: Path<N>,
+    child: u32,
+    depth: u32,
+    refused: bool,
+) -> Result<Step<N>, Later>
+    requires pass { IsPassOf arena.now pass.old }
+    requires path { IsOnPathOf arena.now pass.old.caller place pass.old path }
+    requires goes { next_at (N.body path.node.body) place ≡ Go child }
+    requires near { depth < arena.now.nodes }
+    ensures pass { IsPassOf arena.now pass.new }
+    ensures caller { pass.new.caller ≡ pass.old.caller }
+    ensures path { StepsOrNone arena.now pass.old.caller place pass.new result }
+    ensures refused { WasRefused refused (NoneWasFree arena.now place pass.old pass.new) result }
+    ensures eased { SplitsEvenly N.in_place N.halves_have_room → IsEasedBut N.layout N.body (AllGrow arena.now) refused path.parent →
+        IsEasedStep N.layout N.body (AllGrow arena.now) result }
+    ensures nearer { IsTrue N.halves_have_room → IsNearer N.layout N.body depth path result }
+    ensures near { IsNear arena.now.nodes result }
+    ensures down { OnOrCause arena.now place pass.old pass.new depth path result }
+    ensures stretch { IsStretch pass.old pass.new }
+{
+    unlinked_law::<N>();
+    node_law(&path.node.body);
+    if !path.node.body.is_branch() {
+        return try_down(arena, pass, gate, place, path, child, depth, refused);
+    }
+    if !path.node.body.is_full() {
+        return try_down(arena, pass, gate, place, path, child, depth, refused);
+    }
+    match split(arena, pass, gate, place, path) {
+        Part::Split(half) => Ok(Step {
+            path: half,
+            depth,
+            refused,
+        }),
+        Part::Refused(whole) => try_down(arena, pass, gate, place, whole, child, depth, true),
+        Part::Shut(whole) => try_down(arena, pass, gate, place, whole, child, depth, refused),
+    }
+}
+
+/// Takes the node at which the search for a place ends, and holds it alone, as `make_room` does, but waits for nobody: or it
+/// holds nothing. Its turns are bounded, since each goes a node down or splits one; where nodes split evenly, none is left
+/// over, and where they do not, a way on which they run out is told as far.
+pub(crate) fn try_make_room<N: Unlinked, G: Gate>(
+    arena: &Arena<N, Tree>,
+    pass: &mut Pass<N, Tree>,
+    gate: &G,
+    place: u64,
+) -> Result<Room<N>, Later>
+    requires pass { IsEmptyPassOf arena.now pass.old }
+    ensures pass { IsPassOf arena.now pass.new }
+    ensures caller { pass.new.caller ≡ pass.old.caller }
+    ensures room { TriesRoom arena.now place pass.old pass.new result }
+    ensures cause { TriesRoomSince arena.now place pass.old pass.new result }
+    ensures stretch { IsStretch pass.old pass.new }
+{
+    search_law();
+    let mut path = match try_enter(arena, pass, gate, place) {
+        Ok(root) => root,
+        Err(later) => return Err(later),
+    };
+    let mut depth = 0;
+    let mut refused = false;
+    for _turn in 0..2 * u64::from(arena.nodes()) {
+        match path.node.body.next(place) {
+            Next::Go(child) => {
+                match try_go_on(arena, pass, gate, place, path, child, depth, refused) {
+                    Ok(
+                        Step {
+                            path: next,
+                            depth: deeper,
+                            refused: was,
+                        },
+                    ) => {
+                        path = next;
+                        depth = deeper;
+                        refused = was;
+                    }
+                    Err(later) => return Err(later),
+                }
+            }
+            Next::Here => {
+                node_law(&path.node.body);
+                if has_room(&path.node, place) {
+                    return Ok(come_to_room(arena, pass, gate, place, path));
+                }
+                match split(arena, pass, gate, place, path) {
+                    Part::Split(half) => path = half,
+                    Part::Refused(whole) => {
+                        return Ok(come_to_full(arena, pass, gate, place, whole));
+                    }
+                    Part::Shut(whole) => {
+                        if refused {
+                            return Ok(come_to_full(arena, pass, gate, place, whole));
+                        }
+                        let_all_go(arena, pass, gate, place, whole);
+                        return Err(Later::Far);
+                    }
+                }
+            }
+        }
+    }
+    let_all_go(arena, pass, gate, place, path);
+    Err(Later::Far)
+}
