@@ -16,8 +16,10 @@ use ks_places::Placing;
 /// Whatever places keys have: a run that tells what a trace served has no wrong number, and every judgment of it is legal.
 /// It computes nothing.
 pub fn served_is_legal<P: Placing>()
-    ensures legal { (script : List (List Op)) (run : Run) (h : List Event) → calls_in script ≤ 1048576 → AreKeys script →
+    ensures legal { (script : List (List Op)) (run : Run) (h : List Event) → calls_in script ≤ 1048576 →
+        AreKeys script →
         Served P.place_of script run.callers run.pairs h → IsLegalRun script run.callers run.pairs }
-    ensures judged { (script : List (List Op)) (run : Run) (h : List Event) (j : Judged) → calls_in script ≤ 1048576 → AreKeys script →
+    ensures judged { (script : List (List Op)) (run : Run) (h : List Event) (j : Judged) → calls_in script ≤ 1048576 →
+        AreKeys script →
         Served P.place_of script run.callers run.pairs h → IsJudged script run j → j ≡ verdict.Legal (calls_in script) }
 {}

@@ -56,10 +56,15 @@ fn in_order(
 ) -> Result<Vec<Answered>, AllocError>
     requires shape { SameShape (map (λ v. v.items) callers.now) (map (λ v. v.items) lines.now) }
     requires noted { let ls = map (λ v. v.items) lines.now in Notes ls slots.now (carriers ls) }
-    ensures calls { IfOk result (λ calls. calls.items ≡ calls_below (map (λ v. v.items) callers.now) (map (λ v. v.items) lines.now) (length calls.items)) }
-    ensures placed { IfOk result (λ calls. (n : ℕ) → n < length calls.items → IsPlaced (map (λ v. v.items) lines.now) n) }
+    ensures calls { IfOk result
+        (λ calls. calls.items
+        ≡ calls_below (map (λ v. v.items) callers.now) (map (λ v. v.items) lines.now) (length calls.items)) }
+    ensures placed { IfOk result
+        (λ calls. (n : ℕ) → n < length calls.items → IsPlaced (map (λ v. v.items) lines.now) n) }
     ensures within { IfOk result (λ calls. length calls.items ≤ length slots.now) }
-    ensures stop { IfOk result (λ calls. length calls.items < length slots.now → ¬ IsPlaced (map (λ v. v.items) lines.now) (length calls.items)) }
+    ensures stop { IfOk result
+        (λ calls. length calls.items < length slots.now →
+        ¬ IsPlaced (map (λ v. v.items) lines.now) (length calls.items)) }
 {
     let mut calls = Vec::with_capacity(alloc, slots.len())?;
     for slot in slots {
@@ -131,7 +136,9 @@ fn judge_lines(
 ) -> Result<Judged, AllocError>
     requires shape { SameShape (map (λ v. v.items) callers.now) (map (λ v. v.items) lines.now) }
     requires few { calls_in (map (λ v. v.items) callers.now) ≤ 1048576 }
-    ensures { IfOk result (λ judged. IsJudged (map (λ v. v.items) callers.now) (record { callers = map (λ v. v.items) lines.now; pairs = pairs.now }) judged) }
+    ensures { IfOk result
+        (λ judged. IsJudged (map (λ v. v.items) callers.now)
+        (record { callers = map (λ v. v.items) lines.now; pairs = pairs.now }) judged) }
 {
     let count = total(callers);
     let slots = slots(alloc, lines, count)?;

@@ -36,7 +36,8 @@ fn noted(slot: Slot, caller: usize, place: usize, in_order: bool) -> Slot
 
 /// Notes a line in the slot of its number, if there is one.
 fn note(slots: &mut [Slot], number: u64, caller: usize, place: usize, in_order: bool)
-    ensures { (lines : Lines) (P : ℕ → List (ℕ × ℕ)) → TellsOrder lines caller place number in_order → Notes lines slots.old P → Notes lines slots.new (λ n. P n ++ if_carries number n (caller, place)) }
+    ensures { (lines : Lines) (P : ℕ → List (ℕ × ℕ)) → TellsOrder lines caller place number in_order →
+        Notes lines slots.old P → Notes lines slots.new (λ n. P n ++ if_carries number n (caller, place)) }
 {
     if number < slots.len() as u64 {
         let at = number as usize;
@@ -64,7 +65,8 @@ pub fn slots(
     count: usize,
 ) -> Result<Vec<Slot>, AllocError>
     ensures count { IfOk result (λ v. length v.items ≡ count) }
-    ensures noted { IfOk result (λ v. let lines = map (λ v. v.items) callers.now in Notes lines v.items (carriers lines)) }
+    ensures noted { IfOk result
+        (λ v. let lines = map (λ v. v.items) callers.now in Notes lines v.items (carriers lines)) }
 {
     let mut slots = vec![in alloc; Slot::Empty; count]?;
     for caller in 0..callers.len() {

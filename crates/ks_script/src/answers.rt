@@ -28,7 +28,8 @@ pub fn after_line<'a>(bytes: &'a [u8], line: &[u8]) -> Option<&'a [u8]>
 
 // What follows the line of the caller with this number.
 fn after_caller(bytes: &[u8], caller: u64) -> Option<&[u8]>
-    ensures some { IfSome result (λ rest. lines_of bytes.now ≡ (codes "caller " ++ decimal caller) ∷ lines_of rest.now) }
+    ensures some { IfSome result
+        (λ rest. lines_of bytes.now ≡ (codes "caller " ++ decimal caller) ∷ lines_of rest.now) }
     ensures none { IfNone result (NotFirst (codes "caller " ++ decimal caller) (lines_of bytes.now)) }
     ensures shorter { IfSome result (λ rest. length rest.now < length bytes.now) }
 {
@@ -110,9 +111,11 @@ pub fn read_answers<'a>(
     line: u64,
 ) -> Result<(Vec<Vec<(u64, Reply)>>, &'a [u8], u64), TextFault>
     requires { line + length bytes.now < 2 ^ 64 }
-    ensures ok { IfOk result (λ x. AnswersThen bytes.now (map (λ v. length v.items) script.now) (map (λ v. v.items) x.0.items) x.1.now) }
+    ensures ok { IfOk result
+        (λ x. AnswersThen bytes.now (map (λ v. length v.items) script.now) (map (λ v. v.items) x.0.items) x.1.now) }
     ensures line { IfOk result (λ x. x.2 ≡ line + length (callers_from 0 (map (λ v. v.items) x.0.items))) }
-    ensures refused { (n : ℕ) → result ≡ Err (TextFault.Refused n) → RefusedFrom line (SpellAnswers 0 (map (λ v. length v.items) script.now)) (lines_of bytes.now) n }
+    ensures refused { (n : ℕ) → result ≡ Err (TextFault.Refused n) →
+        RefusedFrom line (SpellAnswers 0 (map (λ v. length v.items) script.now)) (lines_of bytes.now) n }
 {
     let mut callers = Vec::new(alloc);
     let mut at = line;

@@ -27,7 +27,8 @@ fn entry_of(version: Version, bytes: &[u8]) -> Option<(u64, u128)>
 
 // The key and the two values whose digits the bytes are, with spaces between them.
 fn exchange_of(bytes: &[u8]) -> Option<(u64, u128, u128)>
-    ensures some { IfSome result (λ x. bytes.now ≡ decimal x.0 ++ codes " " ++ decimal x.1 ++ codes " " ++ decimal x.2) }
+    ensures some { IfSome result
+        (λ x. bytes.now ≡ decimal x.0 ++ codes " " ++ decimal x.1 ++ codes " " ++ decimal x.2) }
     ensures fits { IfSome result (λ x. (x.0 < 2 ^ 64) × (x.1 < 2 ^ 128) × (x.2 < 2 ^ 128)) }
     ensures none { IfNone result ((k v w : ℕ) → k < 2 ^ 64 → v < 2 ^ 128 → w < 2 ^ 128 →
         bytes.now ≢ decimal k ++ codes " " ++ decimal v ++ codes " " ++ decimal w) }

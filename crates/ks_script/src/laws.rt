@@ -22,5 +22,6 @@ pub fn one_spelling()
 /// The text of a script in a version, `run` and the text of a run of it are read back as these two.
 pub fn written_is_read()
     ensures { (version : Version) (script : List (List Op)) (run : Run) → IsScript version script → IsRunOf script run →
-        CheckedIn version (text_of (version_line version ++ (script_lines script ++ codes "run" ∷ run_lines run))) script run }
+        CheckedIn version (text_of (version_line version ++ (script_lines script ++ codes "run" ∷ run_lines run)))
+        script run }
 {}

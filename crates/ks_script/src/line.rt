@@ -12,7 +12,8 @@ use arrayvec::ArrayVec;
 /// another writer comes between. After an error the sink has taken its first bytes.
 pub fn send_line<K: Sink>(out: &mut K, word: &[u8], number: u64, end: &[u8]) -> Result<(), Failed>
     ensures ok { OnOk result (Grew (K.taken out.old) (K.taken out.new) (word.now ++ (decimal number ++ end.now))) }
-    ensures front { OnErr result (GrewByFront (K.taken out.old) (K.taken out.new) (word.now ++ (decimal number ++ end.now))) }
+    ensures front { OnErr result
+        (GrewByFront (K.taken out.old) (K.taken out.new) (word.now ++ (decimal number ++ end.now))) }
     ensures cause { OnErr result (Rose (K.faults out.old) (K.faults out.new)) }
     ensures count { K.faults out.old ≤ K.faults out.new }
 {

@@ -26,7 +26,14 @@ impl Model for MemSource {
 
     ghost Value = { End };
 
-    ghost view = { λ s. record { bytes = drop s.at s.bytes.items; room = 0; most = s.most; failing = s.failing.items; calls = s.calls; faults = s.faults } };
+    ghost view = { λ s. record {
+      bytes = drop s.at s.bytes.items;
+      room = 0;
+      most = s.most;
+      failing = s.failing.items;
+      calls = s.calls;
+      faults = s.faults;
+    } };
 
     ghost invariant = { λ s. (s.at ≤ length s.bytes.items) × (0 < s.most) };
 }
@@ -138,7 +145,14 @@ impl Model for MemSink {
 
     ghost Value = { End };
 
-    ghost view = { λ s. record { bytes = s.bytes.items; room = s.room; most = s.most; failing = s.failing.items; calls = s.calls; faults = s.faults } };
+    ghost view = { λ s. record {
+      bytes = s.bytes.items;
+      room = s.room;
+      most = s.most;
+      failing = s.failing.items;
+      calls = s.calls;
+      faults = s.faults;
+    } };
 
     ghost invariant = { λ s. (length s.bytes.items ≤ s.room) × (s.room ≤ vec_capacity s.bytes) × (0 < s.most) };
 }

@@ -68,8 +68,10 @@ fn put_number<K: Sink>(
     piece: &mut ArrayVec<u8, PIECE>,
     number: u128,
 ) -> Result<(), Failed>
-    ensures ok { OnOk result (Passes (K.taken out.old) piece.old.items (decimal number) (K.taken out.new) piece.new.items) }
-    ensures front { OnErr result (GrewByFront (K.taken out.old) (K.taken out.new) (piece.old.items ++ (decimal number))) }
+    ensures ok { OnOk result
+        (Passes (K.taken out.old) piece.old.items (decimal number) (K.taken out.new) piece.new.items) }
+    ensures front { OnErr result
+        (GrewByFront (K.taken out.old) (K.taken out.new) (piece.old.items ++ (decimal number))) }
     ensures cause { OnErr result (Rose (K.faults out.old) (K.faults out.new)) }
     ensures count { K.faults out.old ≤ K.faults out.new }
 {
@@ -83,8 +85,10 @@ pub fn put_word<K: Sink>(
     number: u64,
     word: &[u8],
 ) -> Result<(), Failed>
-    ensures ok { OnOk result (Passes (K.taken out.old) piece.old.items (decimal number ++ word.now) (K.taken out.new) piece.new.items) }
-    ensures front { OnErr result (GrewByFront (K.taken out.old) (K.taken out.new) (piece.old.items ++ (decimal number ++ word.now))) }
+    ensures ok { OnOk result
+        (Passes (K.taken out.old) piece.old.items (decimal number ++ word.now) (K.taken out.new) piece.new.items) }
+    ensures front { OnErr result
+        (GrewByFront (K.taken out.old) (K.taken out.new) (piece.old.items ++ (decimal number ++ word.now))) }
     ensures cause { OnErr result (Rose (K.faults out.old) (K.faults out.new)) }
     ensures count { K.faults out.old ≤ K.faults out.new }
 {
@@ -99,8 +103,10 @@ fn put_pair<K: Sink>(
     key: u64,
     value: u128,
 ) -> Result<(), Failed>
-    ensures ok { OnOk result (Passes (K.taken out.old) piece.old.items (ended (pair_line (key, value))) (K.taken out.new) piece.new.items) }
-    ensures front { OnErr result (GrewByFront (K.taken out.old) (K.taken out.new) (piece.old.items ++ (ended (pair_line (key, value))))) }
+    ensures ok { OnOk result
+        (Passes (K.taken out.old) piece.old.items (ended (pair_line (key, value))) (K.taken out.new) piece.new.items) }
+    ensures front { OnErr result
+        (GrewByFront (K.taken out.old) (K.taken out.new) (piece.old.items ++ (ended (pair_line (key, value))))) }
     ensures cause { OnErr result (Rose (K.faults out.old) (K.faults out.new)) }
     ensures count { K.faults out.old ≤ K.faults out.new }
 {
@@ -115,8 +121,10 @@ fn put_reply<K: Sink>(
     piece: &mut ArrayVec<u8, PIECE>,
     line: &(u64, Reply),
 ) -> Result<(), Failed>
-    ensures ok { OnOk result (Passes (K.taken out.old) piece.old.items (ended (reply_line line.now)) (K.taken out.new) piece.new.items) }
-    ensures front { OnErr result (GrewByFront (K.taken out.old) (K.taken out.new) (piece.old.items ++ (ended (reply_line line.now)))) }
+    ensures ok { OnOk result
+        (Passes (K.taken out.old) piece.old.items (ended (reply_line line.now)) (K.taken out.new) piece.new.items) }
+    ensures front { OnErr result
+        (GrewByFront (K.taken out.old) (K.taken out.new) (piece.old.items ++ (ended (reply_line line.now)))) }
     ensures cause { OnErr result (Rose (K.faults out.old) (K.faults out.new)) }
     ensures count { K.faults out.old ≤ K.faults out.new }
 {
@@ -134,8 +142,12 @@ fn put_caller<K: Sink>(
     number: u64,
     calls: &[(u64, Reply)],
 ) -> Result<(), Failed>
-    ensures ok { OnOk result (Passes (K.taken out.old) piece.old.items (text_of ((codes "caller " ++ decimal number) ∷ map reply_line calls.now)) (K.taken out.new) piece.new.items) }
-    ensures front { OnErr result (GrewByFront (K.taken out.old) (K.taken out.new) (piece.old.items ++ (text_of ((codes "caller " ++ decimal number) ∷ map reply_line calls.now)))) }
+    ensures ok { OnOk result
+        (Passes (K.taken out.old) piece.old.items
+        (text_of ((codes "caller " ++ decimal number) ∷ map reply_line calls.now)) (K.taken out.new) piece.new.items) }
+    ensures front { OnErr result
+        (GrewByFront (K.taken out.old) (K.taken out.new)
+        (piece.old.items ++ (text_of ((codes "caller " ++ decimal number) ∷ map reply_line calls.now)))) }
     ensures cause { OnErr result (Rose (K.faults out.old) (K.faults out.new)) }
     ensures count { K.faults out.old ≤ K.faults out.new }
 {
@@ -153,8 +165,12 @@ pub fn put_callers<K: Sink>(
     piece: &mut ArrayVec<u8, PIECE>,
     callers: &[Vec<(u64, Reply)>],
 ) -> Result<(), Failed>
-    ensures ok { OnOk result (Passes (K.taken out.old) piece.old.items (text_of (callers_from 0 (map (λ v. v.items) callers.now))) (K.taken out.new) piece.new.items) }
-    ensures front { OnErr result (GrewByFront (K.taken out.old) (K.taken out.new) (piece.old.items ++ (text_of (callers_from 0 (map (λ v. v.items) callers.now))))) }
+    ensures ok { OnOk result
+        (Passes (K.taken out.old) piece.old.items (text_of (callers_from 0 (map (λ v. v.items) callers.now)))
+        (K.taken out.new) piece.new.items) }
+    ensures front { OnErr result
+        (GrewByFront (K.taken out.old) (K.taken out.new)
+        (piece.old.items ++ (text_of (callers_from 0 (map (λ v. v.items) callers.now))))) }
     ensures cause { OnErr result (Rose (K.faults out.old) (K.faults out.new)) }
     ensures count { K.faults out.old ≤ K.faults out.new }
 {
@@ -170,8 +186,10 @@ pub fn put_map<K: Sink>(
     piece: &mut ArrayVec<u8, PIECE>,
     pairs: &[(u64, u128)],
 ) -> Result<(), Failed>
-    ensures ok { OnOk result (Passes (K.taken out.old) piece.old.items (text_of (map_lines pairs.now)) (K.taken out.new) piece.new.items) }
-    ensures front { OnErr result (GrewByFront (K.taken out.old) (K.taken out.new) (piece.old.items ++ (text_of (map_lines pairs.now)))) }
+    ensures ok { OnOk result
+        (Passes (K.taken out.old) piece.old.items (text_of (map_lines pairs.now)) (K.taken out.new) piece.new.items) }
+    ensures front { OnErr result
+        (GrewByFront (K.taken out.old) (K.taken out.new) (piece.old.items ++ (text_of (map_lines pairs.now)))) }
     ensures cause { OnErr result (Rose (K.faults out.old) (K.faults out.new)) }
     ensures count { K.faults out.old ≤ K.faults out.new }
 {

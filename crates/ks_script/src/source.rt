@@ -16,7 +16,8 @@ pub fn read_all<S: Source>(alloc: Global, source: &mut S, limit: u64) -> Result<
     ensures long { IsErrOf result ReadFault.TooLong → IfSome (S.left source.old) (λ bytes. limit < length bytes) }
     ensures failed { IsErrOf result ReadFault.Failed → Rose (S.faults source.old) (S.faults source.new) }
     ensures count { S.faults source.old ≤ S.faults source.new }
-    ensures stops { (front : List ℕ) × Gone (S.left source.old) (S.left source.new) front × (length front ≤ limit + 4096) }
+    ensures stops { (front : List ℕ) × Gone (S.left source.old) (S.left source.new) front
+        × (length front ≤ limit + 4096) }
 {
     let mut bytes = Vec::new(alloc);
     let mut buffer = [0; PIECE];
