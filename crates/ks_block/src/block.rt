@@ -9,7 +9,7 @@ use std::marker::Model;
 
 /// A list of pairs of a place and a value, in memory that is taken once and has room for a fixed number of them.
 ///
-/// Only `make` takes memory. A drop gives it back.
+/// `make` alone can be refused memory. A drop gives it back.
 pub struct Block<S: Source = Global> {
     memory: Memory,
     len: usize,

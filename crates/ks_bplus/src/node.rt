@@ -2,7 +2,7 @@
 //!
 //! A leaf has pairs and no child, an inner node has children and no pair. Either lies behind one allocation that
 //! `blank` makes, with room for both, so a body moves by two words, and turning a leaf into an inner node or back
-//! allocates nothing.
+//! needs no allocator.
 
 ghost use Rattle.std.proofs.Props.{props};
 ghost use Rattle.ks_bplus.specs.Bplus.{Fit};

@@ -4,8 +4,7 @@
 //! stands once, with its number, in one history of a map. `serve_callers` runs a script for each of many callers, by workers
 //! that draw whole callers, and gives what they were answered and the map at the end.
 //!
-//! Memory is taken before the callers run and after they have ended, and at no moment between: the functions that run
-//! them take no allocator.
+//! The calls of a dictionary, and `work`, which runs the callers, are given no allocator and answer no want of memory.
 #![tactic(auto)]
 
 mod about;

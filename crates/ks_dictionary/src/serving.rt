@@ -104,8 +104,7 @@ fn workers_for(callers: usize, workers: u32) -> u32
     }
 }
 
-/// Serves all callers by so many workers, at most one for each, and ends the dictionary. Memory is taken only before the
-/// workers begin and once they have ended.
+/// Serves all callers by so many workers, at most one for each, and ends the dictionary.
 fn serve_jobs<
     N: Node + Send,
     T: Ruled + Template<N, Arena<N, <T as Ruled>::Rule>>,
@@ -191,8 +190,7 @@ where
 
 /// Serves all callers over a dictionary that begins empty, each in its order: so many workers run beside each other, or
 /// one for each caller where there are fewer, and each draws a caller and serves it whole until none is left. What the
-/// callers did is one legal history of a map, the graph was good at each moment of it, and each Full was due. Memory is
-/// taken before the first call and after the last alone.
+/// callers did is one legal history of a map, the graph was good at each moment of it, and each Full was due.
 ///
 /// # Errors
 ///

@@ -1,5 +1,5 @@
-//! The work of the callers, by workers that draw whole callers. It takes no memory: each job has a line for each of its
-//! calls from the start.
+//! The work of the callers, by workers that draw whole callers. Each job has a line for each of its calls from the start,
+//! so no worker is given an allocator.
 ghost use Rattle.std.specs.Prelude.{◌≡◌, ℕ, ◌<◌, ◌++◌, ◌∷◌, [], map, length, All, slice_index_or};
 ghost use Rattle.ks_history.specs.Map.{told};
 ghost use Rattle.ks_history.specs.Trace.{calls_by};

@@ -4,6 +4,8 @@
 #[cfg(test)]
 mod dels;
 #[cfg(test)]
+mod merged_away;
+#[cfg(test)]
 mod puts;
 #[cfg(test)]
 mod tests;
