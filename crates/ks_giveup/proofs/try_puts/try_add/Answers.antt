@@ -33,7 +33,7 @@ returns-in-Err-clause-tried g c = λ even. let op : Op = Add c.args.place c.args
 -- done where it ended
 
 pub add_here-requires-clause-room : goal.add_here-requires-clause-room
-add_here-requires-clause-room g c = record {
+add_here-requires-clause-room g c κs within = record {
   ends = subst (λ (z : ℕ). IsEnd (sort_of g.N.Node.layout g.N.Node.ranged) g.N.Node.body z c.args.place (seen_of c.try_find.new.pass) c.in-Ok.held) (sym c.try_find.ensures.caller) c.in-Ok.ensures.came;
   room = c.has_room.ensures.room c.if-has_room.true;
 }
@@ -57,12 +57,12 @@ so g c = let op : Op = Add c.args.place c.args.value in let me : ℕ = c.args.pa
     let under : Underway give_up c.try_find.new.pass.caller op h l = c.give_last.ensures.under give_up op h (subst (λ (z : ℕ). Underway give_up z op h k) (sym e.caller) (e.under op)) in
     c.try_pair_add.ensures.tried give_up h tt (subst (λ (z : ℕ). TookSince z h l 0 1) (sym (own g c)) took) (subst (λ (z : ℕ). Underway give_up z op h l) (sym two) under)
 
-pub returns-in-Ok-clause-ends : goal.returns-in-Ok-clause-ends
-returns-in-Ok-clause-ends g c = let at = (goal.at.returns-in-Ok-clause-ends g c).After-try_pair_add in
+pub returns-else-has_room-clause-ends : goal.returns-else-has_room-clause-ends
+returns-else-has_room-clause-ends g c = let at = (goal.at.returns-else-has_room-clause-ends g c).After-try_pair_add in
     subst (λ (z : ℕ). EndsPut g.N.Node.layout give_up c.args.arena.now.nodes z (Add c.args.place c.args.value) (seen_of c.args.pass.now) (seen_of c.try_pair_add.new.pass) c.try_pair_add.result) (own g at) (so g at).0
 
-pub returns-in-Ok-clause-tried : goal.returns-in-Ok-clause-tried
-returns-in-Ok-clause-tried g c = λ even. let at = (goal.at.returns-in-Ok-clause-tried g c).After-try_pair_add in let n : ℕ = c.args.arena.now.nodes in let h = seen_of c.args.pass.now in let l = seen_of c.try_pair_add.new.pass in let op : Op = Add c.args.place c.args.value in
+pub returns-else-has_room-clause-tried : goal.returns-else-has_room-clause-tried
+returns-else-has_room-clause-tried g c = λ even. let at = (goal.at.returns-else-has_room-clause-tried g c).After-try_pair_add in let n : ℕ = c.args.arena.now.nodes in let h = seen_of c.args.pass.now in let l = seen_of c.try_pair_add.new.pass in let op : Op = Add c.args.place c.args.value in
     tried_of g.N.Node.layout give_up n c.args.pass.now.caller op h l c.try_pair_add.result
     (subst (λ (z : ℕ). EndsPut g.N.Node.layout give_up n z op h l c.try_pair_add.result) (own g at) (so g at).0)
     (subst (λ (z : ℕ). IsFarDue n z h l c.try_pair_add.result) (own g at) ((so g at).1 even))
