@@ -4,6 +4,8 @@
 #[cfg(test)]
 mod crews;
 #[cfg(test)]
+mod dropped;
+#[cfg(test)]
 mod meets;
 #[cfg(test)]
 mod notes;
