@@ -1,4 +1,6 @@
 pub mod Called
 pub mod Crew
 pub mod Ended
+pub mod Kept
+pub mod Laws
 pub mod Work

@@ -1,0 +1,56 @@
+//! Laws that callers of a dictionary cite. Each function here computes nothing: its contract is a law.
+ghost use Rattle.std.specs.Prelude.{ℕ, List, Option};
+ghost use Rattle.ks_keysets.specs.Layout.{Layout};
+ghost use Rattle.ks_history.specs.declared.Answered.{Answered};
+ghost use Rattle.ks_history.specs.declared.Event.{Event};
+ghost use Rattle.ks_history.specs.declared.Op.TheVariants.{Get, Put};
+ghost use Rattle.ks_history.specs.Done.{Template as Technique, Done};
+ghost use Rattle.ks_history.specs.Map.{Legal, told};
+ghost use Rattle.ks_history.specs.Trace.{◌⊑◌, calls_of};
+ghost use Rattle.ks_arena.specs.Sound.{sort_of};
+ghost use Rattle.ks_arena.specs.Clauses.{seen_of};
+ghost use Rattle.ks_shape.specs.Idle.{IsIdle};
+ghost use Rattle.ks_dictionary.specs.Ended.{HasEnded, history};
+ghost use Rattle.ks_dictionary.specs.Kept.{AddedOnce, FindsPut};
+
+use crate::closed::Closed;
+use crate::dictionary::Dictionary;
+use ks_arena::Pass;
+use ks_arena::laws::sound_law;
+use ks_history::keyset_theorem;
+use ks_node::Node;
+use ks_shape::{Ruled, Shelf};
+
+impl<N: Node, T: Ruled> Dictionary<N, T> {
+    /// What a pass has seen is a legal history of a map.
+    pub fn seen_law(&self, pass: &Pass<N, T::Rule>)
+        requires { IsIdle (⟦<Dictionary<N, T> as Shelf>⟧.site self.now) pass.now }
+        ensures { Legal (calls_of (seen_of pass.now)) }
+    {
+        sound_law::<T::Rule>();
+        keyset_theorem();
+    }
+}
+
+impl<N: Node> Closed<N> {
+    /// What happened in a dictionary that has ended is a legal history of a map.
+    pub fn history_law(&self)
+        requires { HasEnded (sort_of N.layout N.ranged) N.body self.now }
+        ensures { Legal (calls_of (history self.now)) }
+    {
+        keyset_theorem();
+    }
+}
+
+/// What one caller put another finds that has seen all that the first had, unless a call between the two wrote at the
+/// place.
+pub fn kept_law()
+    ensures { (layout : Layout) (technique : Technique) (nodes c d p v : ℕ) (s t k l : List Event)
+        (had found : Option ℕ) (m n : ℕ) → Done layout technique nodes c (Put p v) s t (told had) m → t ⊑ k →
+        Done layout technique nodes d (Get p) k l (told found) n → Legal (calls_of l) → FindsPut p v found (calls_of l) }
+{}
+
+/// In a legal history of a map an add finds nothing at most once at a place, until a call removes what it added.
+pub fn once_law()
+    ensures { (calls : List Answered) → Legal calls → AddedOnce calls }
+{}
