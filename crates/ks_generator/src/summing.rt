@@ -91,7 +91,10 @@ fn put(text: &mut Vec<u8>, word: &[u8], number: u128) -> Result<(), AllocError>
 }
 
 fn text(alloc: Global, counts: &Counts) -> Result<Vec<u8>, AllocError>
-    ensures { IfOk result (λ text. text.items ≡ lines_of_summary counts.now.callers counts.now.calls counts.now.found counts.now.none counts.now.full counts.now.pairs counts.now.sum) }
+    ensures { IfOk result
+        (λ text. text.items
+        ≡ lines_of_summary counts.now.callers counts.now.calls counts.now.found counts.now.none counts.now.full
+        counts.now.pairs counts.now.sum) }
 {
     let mut text = Vec::new(alloc);
     put(&mut text, b"callers ", counts.callers as u128)?;
@@ -125,7 +128,8 @@ impl Size {
 
 /// The text of the summary of a run, of a script of this size.
 pub fn summary(alloc: Global, size: Size, printed: &Printed) -> Result<Vec<u8>, AllocError>
-    ensures { (script : List (List Op)) → IsSize size script → IfOk result (λ text. text.items ≡ summary_text script printed.now) }
+    ensures { (script : List (List Op)) → IsSize size script →
+        IfOk result (λ text. text.items ≡ summary_text script printed.now) }
 {
     let summary = count(size, &printed.callers, &printed.pairs);
     text(alloc, &summary)
