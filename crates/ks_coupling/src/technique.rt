@@ -6,7 +6,7 @@ use ks_arena::{Arena, Pass};
 use ks_flow::Tree;
 use ks_gate::Gate;
 use ks_node::Unlinked;
-use ks_shape::{Full, Later, Numbered, Ruled, Template};
+use ks_shape::{Full, Later, Numbered, PutLater, Ruled, Template};
 use std::sync::Wait;
 
 /// Lock coupling, over any nodes without links.
@@ -82,6 +82,26 @@ impl<N: Unlinked> Template<N, Arena<N, Tree>> for Coupling {
         place: u64,
     ) -> Result<Numbered, Later> {
         tries::try_get(arena, pass, gate, place)
+    }
+
+    fn try_put<G: Gate>(
+        arena: &Arena<N, Tree>,
+        pass: &mut Pass<N, Tree>,
+        gate: &G,
+        place: u64,
+        value: u128,
+    ) -> Result<Numbered, PutLater> {
+        crate::try_put(arena, pass, gate, place, value)
+    }
+
+    fn try_add<G: Gate>(
+        arena: &Arena<N, Tree>,
+        pass: &mut Pass<N, Tree>,
+        gate: &G,
+        place: u64,
+        value: u128,
+    ) -> Result<Numbered, PutLater> {
+        crate::try_add(arena, pass, gate, place, value)
     }
 
     fn try_swap<G: Gate>(

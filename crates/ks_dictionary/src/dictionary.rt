@@ -10,7 +10,8 @@ ghost use Rattle.ks_arena.specs.Clauses.{EndsAll, noted, seen_of};
 ghost use Rattle.ks_arena.specs.Of.{HeldAlone, WasAlone};
 ghost use Rattle.ks_shape.specs.Answers.{number_in, reply_in};
 ghost use Rattle.ks_shape.specs.Idle.{IsDone, IsIdle};
-ghost use Rattle.ks_shape.specs.Tries.{HasTried, MayTell};
+ghost use Rattle.ks_shape.specs.Tries.{HasTried, HasTriedPut, IsDoneIn, MayTell, PutMayTell};
+ghost use Rattle.ks_shape.specs.Ends.{HasEndedPut, SplitsEvenly};
 ghost use Rattle.ks_dictionary.specs.Crew.{AreAll, AreNew, IsNoteOf};
 ghost use Rattle.ks_dictionary.specs.Ended.{HasEndedWith, history};
 
@@ -19,7 +20,7 @@ use ks_arena::{Arena, Note, Pass};
 use ks_gate::Gate;
 use ks_node::Node;
 use ks_places::Placing;
-use ks_shape::{Full, Later, Numbered, Ruled, Shelf, Template, tries_law};
+use ks_shape::{Full, Later, Numbered, PutLater, Ruled, Shelf, Template, tries_law};
 use std::alloc::{AllocError, Global};
 use std::sync::Wait;
 
@@ -183,6 +184,65 @@ impl<N: Node, T: Ruled + Template<N, Arena<N, <T as Ruled>::Rule>>> Dictionary<N
     {
         tries_law();
         T::try_get(&self.arena, pass, gate, N::Places::place(key))
+    }
+
+    /// Sets the value of a key, and answers the one that it had; it waits for nobody. Splits that it made stay, also where it is
+    /// put off.
+    ///
+    /// # Errors
+    ///
+    /// `Full` as for `put`, with the number of the call; else it is put off, as `try_get`. That another caller changed some
+    /// nodes where the answer is `Far`, and that a caller which acts alone is not put off, is promised of nodes that split
+    /// evenly: lists and B+ nodes.
+    pub fn try_put<G: Gate>(
+        &self,
+        pass: &mut Pass<N, T::Rule>,
+        gate: &G,
+        key: u64,
+        value: u128,
+    ) -> Result<Numbered, PutLater>
+        requires pass { IsIdle (⟦<Dictionary<N, T> as Shelf>⟧.site self.now) pass.old }
+        ensures pass { IsIdle (⟦<Dictionary<N, T> as Shelf>⟧.site self.now) pass.new }
+        ensures caller { pass.new.caller ≡ pass.old.caller }
+        ensures ends { HasEndedPut N.layout T.technique (⟦<Dictionary<N, T> as Shelf>⟧.site self.now)
+            (Put (N.Places.place_of key) value) pass.old pass.new result }
+        ensures tried { SplitsEvenly N.in_place N.halves_have_room →
+            HasTriedPut N.layout T.technique (⟦<Dictionary<N, T> as Shelf>⟧.site self.now)
+            (Put (N.Places.place_of key) value) pass.old pass.new result }
+        ensures never { PutMayTell T.technique result }
+        ensures alone { SplitsEvenly N.in_place N.halves_have_room →
+            WasAlone pass.old pass.new → HeldAlone pass.old → IsDoneIn result }
+    {
+        tries_law();
+        T::try_put(&self.arena, pass, gate, N::Places::place(key), value)
+    }
+
+    /// Sets the value of a key that has none, and answers the one that it had, which then stays; it waits for nobody.
+    ///
+    /// # Errors
+    ///
+    /// As for `try_put`.
+    pub fn try_add<G: Gate>(
+        &self,
+        pass: &mut Pass<N, T::Rule>,
+        gate: &G,
+        key: u64,
+        value: u128,
+    ) -> Result<Numbered, PutLater>
+        requires pass { IsIdle (⟦<Dictionary<N, T> as Shelf>⟧.site self.now) pass.old }
+        ensures pass { IsIdle (⟦<Dictionary<N, T> as Shelf>⟧.site self.now) pass.new }
+        ensures caller { pass.new.caller ≡ pass.old.caller }
+        ensures ends { HasEndedPut N.layout T.technique (⟦<Dictionary<N, T> as Shelf>⟧.site self.now)
+            (Add (N.Places.place_of key) value) pass.old pass.new result }
+        ensures tried { SplitsEvenly N.in_place N.halves_have_room →
+            HasTriedPut N.layout T.technique (⟦<Dictionary<N, T> as Shelf>⟧.site self.now)
+            (Add (N.Places.place_of key) value) pass.old pass.new result }
+        ensures never { PutMayTell T.technique result }
+        ensures alone { SplitsEvenly N.in_place N.halves_have_room →
+            WasAlone pass.old pass.new → HeldAlone pass.old → IsDoneIn result }
+    {
+        tries_law();
+        T::try_add(&self.arena, pass, gate, N::Places::place(key), value)
     }
 
     /// Sets the value of a key from `old` to `new`, as `swap`, and waits for nobody.

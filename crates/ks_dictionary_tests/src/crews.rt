@@ -6,7 +6,7 @@ use ks_arena::{Arena, Pass};
 use ks_dictionary::Dictionary;
 use ks_gate::NoGate;
 use ks_node::Node;
-use ks_shape::{Later, Numbered, Ruled, Shelf, Template};
+use ks_shape::{Later, Numbered, PutLater, Ruled, Shelf, Template};
 use std::alloc::{AllocError, Global};
 use std::sync::Wait;
 
@@ -15,6 +15,11 @@ pub(crate) const LONG: u64 = 50_000_000;
 
 /// The answer of a call that was not put off.
 pub(crate) fn told(number: u64, found: Option<u128>) -> Result<Numbered, Later> {
+    Ok(Numbered { number, found })
+}
+
+/// The answer of a put or an add that was not put off.
+pub(crate) fn put_told(number: u64, found: Option<u128>) -> Result<Numbered, PutLater> {
     Ok(Numbered { number, found })
 }
 

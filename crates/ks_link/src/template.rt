@@ -5,7 +5,7 @@ use ks_arena::{Arena, Pass};
 use ks_flow::Link;
 use ks_gate::Gate;
 use ks_node::{Linked, linked_law};
-use ks_shape::{Full, Later, Numbered, Ruled, Template};
+use ks_shape::{Full, Later, Numbered, PutLater, Ruled, Template};
 use std::sync::Wait;
 
 /// Callers move along links, over any linked node.
@@ -83,6 +83,26 @@ impl<N: Linked> Template<N, Arena<N, Link>> for LinkMove {
         place: u64,
     ) -> Result<Numbered, Later> {
         crate::tries::try_get(arena, pass, gate, place)
+    }
+
+    fn try_put<G: Gate>(
+        arena: &Arena<N, Link>,
+        pass: &mut Pass<N, Link>,
+        gate: &G,
+        place: u64,
+        value: u128,
+    ) -> Result<Numbered, PutLater> {
+        crate::try_puts::try_put(arena, pass, gate, place, value)
+    }
+
+    fn try_add<G: Gate>(
+        arena: &Arena<N, Link>,
+        pass: &mut Pass<N, Link>,
+        gate: &G,
+        place: u64,
+        value: u128,
+    ) -> Result<Numbered, PutLater> {
+        crate::try_puts::try_add(arena, pass, gate, place, value)
     }
 
     fn try_swap<G: Gate>(

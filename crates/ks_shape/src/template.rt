@@ -7,9 +7,10 @@ ghost use Rattle.ks_history.specs.Done.{Template as Technique};
 ghost use Rattle.ks_arena.specs.Sound.{sort_of, blank_of};
 ghost use Rattle.ks_shape.specs.Answers.{number_in, reply_in};
 ghost use Rattle.ks_shape.specs.Idle.{IsDone, IsIdle, Site};
-ghost use Rattle.ks_shape.specs.Tries.{HasTried};
+ghost use Rattle.ks_shape.specs.Tries.{HasTried, HasTriedPut};
+ghost use Rattle.ks_shape.specs.Ends.{HasEndedPut, SplitsEvenly};
 
-use crate::answers::{Full, Later, Numbered};
+use crate::answers::{Full, Later, Numbered, PutLater};
 use ks_arena::{Arena, Pass};
 use ks_flow::Discipline;
 use ks_gate::Gate;
@@ -154,6 +155,51 @@ pub trait Template<N: Node, A: Shelf>: Ruled {
         ensures pass { IsIdle (A.site arena.now) pass.new }
         ensures caller { pass.new.caller ≡ pass.old.caller }
         ensures tried { HasTried N.layout Self.technique (A.site arena.now) (Get place)
+            pass.old pass.new result };
+
+    /// Sets the value at a place, and answers the one that stood there; it waits for nobody. Splits that it made stay, also
+    /// where it is put off.
+    ///
+    /// # Errors
+    ///
+    /// `Full` as for `put`, with the number of the call; else it is put off, as `try_get`. That another caller changed some
+    /// nodes where the answer is `Far` is promised of nodes that split evenly.
+    fn try_put<G: Gate>(
+        arena: &A,
+        pass: &mut Pass<N, Self::Rule>,
+        gate: &G,
+        place: u64,
+        value: u128,
+    ) -> Result<Numbered, PutLater>
+        requires pass { IsIdle (A.site arena.now) pass.old }
+        ensures pass { IsIdle (A.site arena.now) pass.new }
+        ensures caller { pass.new.caller ≡ pass.old.caller }
+        ensures ends { HasEndedPut N.layout Self.technique (A.site arena.now) (Put place value)
+            pass.old pass.new result }
+        ensures tried { SplitsEvenly N.in_place N.halves_have_room →
+            HasTriedPut N.layout Self.technique (A.site arena.now) (Put place value)
+            pass.old pass.new result };
+
+    /// Sets the value at a place where none stands, and answers the one that stood there, which then stays; it waits for
+    /// nobody.
+    ///
+    /// # Errors
+    ///
+    /// As for `try_put`.
+    fn try_add<G: Gate>(
+        arena: &A,
+        pass: &mut Pass<N, Self::Rule>,
+        gate: &G,
+        place: u64,
+        value: u128,
+    ) -> Result<Numbered, PutLater>
+        requires pass { IsIdle (A.site arena.now) pass.old }
+        ensures pass { IsIdle (A.site arena.now) pass.new }
+        ensures caller { pass.new.caller ≡ pass.old.caller }
+        ensures ends { HasEndedPut N.layout Self.technique (A.site arena.now) (Add place value)
+            pass.old pass.new result }
+        ensures tried { SplitsEvenly N.in_place N.halves_have_room →
+            HasTriedPut N.layout Self.technique (A.site arena.now) (Add place value)
             pass.old pass.new result };
 
     /// Sets the value at a place to `new` where `old` stands, as `swap`, and waits for nobody.

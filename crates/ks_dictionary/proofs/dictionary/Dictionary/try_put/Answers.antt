@@ -1,0 +1,7 @@
+use Rattle.ks_dictionary.proofs.dictionary.Dictionary.try_put.Goals as goal
+
+pub returns-clause-never : goal.returns-clause-never
+returns-clause-never g c = c.tries_law.ensures.put_told _ _ _ _ _ _ _ _ c.try_put.ensures.ends
+
+pub returns-clause-alone : goal.returns-clause-alone
+returns-clause-alone g c = λ even alone holds. c.tries_law.ensures.put _ _ _ _ _ _ _ _ alone holds (c.try_put.ensures.tried even)
