@@ -59,7 +59,8 @@ pub(crate) fn allocate<T, A: Allocator>(
     len: usize,
 ) -> Result<(Cells<T>, Deed<T, A>), AllocError>
     requires { FitsInBlock T.row len }
-    ensures { IfOk result (λ r. (r.0.slots ≡ replicate len None) × (r.1.at ≡ r.0.base) × (r.1.len ≡ len) × (r.1.alloc ≡ alloc.now)) }
+    ensures { IfOk result
+        (λ r. (r.0.slots ≡ replicate len None) × (r.1.at ≡ r.0.base) × (r.1.len ≡ len) × (r.1.alloc ≡ alloc.now)) }
 {
     match alloc.allocate(len * size_of::<T>(), align_of::<T>()) {
         Ok(block) => {
@@ -95,7 +96,8 @@ impl<T> Cells<T> {
     /// Moves the value at `at` out, which leaves the place empty.
     pub(crate) fn read(&mut self, at: usize) -> T
         requires { IsFilled self.old.slots at }
-        ensures { (get_or self.old.slots at None ≡ Some result) × Becomes self.old self.new (slice_set self.old.slots at None) }
+        ensures { (get_or self.old.slots at None ≡ Some result)
+            × Becomes self.old self.new (slice_set self.old.slots at None) }
     {
         unsafe { self.base.add(at).read() }
     }
@@ -111,7 +113,8 @@ impl<T> Cells<T> {
     /// Moves the `count` values from `at` on up by one place, which leaves the place `at` empty.
     pub(crate) fn raise(&mut self, at: usize, count: usize)
         requires whole { IsWhole T.row self.old.base }
-        requires run { IsRun self.old.slots at count × (at + count < length self.old.slots) × (get_or self.old.slots (at + count) None ≡ None) }
+        requires run { IsRun self.old.slots at count × (at + count < length self.old.slots)
+            × (get_or self.old.slots (at + count) None ≡ None) }
         ensures { Becomes self.old self.new (raised self.old.slots at count) }
     {
         unsafe { ptr::copy(self.base.add(at), self.base.add(at + 1), count) }

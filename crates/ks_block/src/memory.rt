@@ -27,7 +27,8 @@ impl Model for Memory {
 
     ghost view = { λ m. m.cells.slots };
 
-    ghost invariant = { λ m. (m.deed.at ≡ m.cells.base) × (m.deed.len ≡ m.room) × (length m.cells.slots ≡ m.room) × (m.room ≤ 1024) × (count_of m.cells.base ≡ 0) };
+    ghost invariant = { λ m. (m.deed.at ≡ m.cells.base) × (m.deed.len ≡ m.room) × (length m.cells.slots ≡ m.room)
+        × (m.room ≤ 1024) × (count_of m.cells.base ≡ 0) };
 }
 
 /// Where blocks take their memory: `Global` in programs, others in tests.
@@ -92,7 +93,8 @@ impl Memory {
 
     /// Moves the `count` pairs from `at` on up by one place, which leaves the place `at` empty.
     pub(crate) fn raise(&mut self, at: usize, count: usize)
-        requires { IsRun self.old at count × (at + count < length self.old) × (get_or self.old (at + count) None ≡ None) }
+        requires { IsRun self.old at count × (at + count < length self.old)
+            × (get_or self.old (at + count) None ≡ None) }
         ensures { self.new ≡ raised self.old at count }
     {
         self.cells.raise(at, count);

@@ -22,9 +22,12 @@ use ks_flow::laws::{changes_law, link_law, link_shapes_law};
 /// level of the root is below each bound on the numbers of live nodes, as `grow_link` asks; and a branch has no pairs, as
 /// `adopt` asks.
 pub fn link_asks_law()
-    ensures suits { (g : ℕ → NodeState) (f : ℕ → Frame) (n : ℕ) (b : Body) → Good g → Link g f → StandsLinked g f n b → (range : Span) × (b.range ≡ Some range) × Suits b range }
-    ensures root { (g : ℕ → NodeState) (f : ℕ → Frame) (b : Body) → Link g f → StandsLinked g f 0 b → b.range ≡ Some all_places }
-    ensures level { (g : ℕ → NodeState) (f : ℕ → Frame) (b : Body) (bound : ℕ) → Good g → Link g f → StandsLinked g f 0 b → ((n : ℕ) → IsLive g n → n < bound) → b.level < bound }
+    ensures suits { (g : ℕ → NodeState) (f : ℕ → Frame) (n : ℕ) (b : Body) → Good g → Link g f → StandsLinked g f n b →
+        (range : Span) × (b.range ≡ Some range) × Suits b range }
+    ensures root { (g : ℕ → NodeState) (f : ℕ → Frame) (b : Body) → Link g f → StandsLinked g f 0 b →
+        b.range ≡ Some all_places }
+    ensures level { (g : ℕ → NodeState) (f : ℕ → Frame) (b : Body) (bound : ℕ) → Good g → Link g f →
+        StandsLinked g f 0 b → ((n : ℕ) → IsLive g n → n < bound) → b.level < bound }
     ensures adopt { (b : Body) (cut : ℕ) → IsLinked b → IsTrue (is_branch b) → All (λ x. x.place < cut) b.pairs }
 {
     link_law();
@@ -33,9 +36,13 @@ pub fn link_asks_law()
 /// The changes of bodies that each shape under links makes are a step of the discipline of links.
 pub fn link_steps_law()
     ensures split_right { (g : ℕ → NodeState) (f : ℕ → Frame) (node right cut : ℕ) (b : Body) → Good g → Link g f →
-        CanSplitRight g f node right cut b → IsLinked (split_linked cut right b) → IsLinked (split_right cut b) → LinkStep g f (split_to_right node right cut b) }
-    ensures grow_right { (g : ℕ → NodeState) (f : ℕ → Frame) (kind : Kind) (left right cut : ℕ) (b : Body) → Good g → Link g f →
-        CanGrowRight g f left right cut b → IsLinked (grown_higher kind cut left right b) → IsLinked (split_linked cut right b) → IsLinked (with_link None (split_right cut b)) → LinkStep g f (grow_right kind 0 left right cut b) }
+        CanSplitRight g f node right cut b → IsLinked (split_linked cut right b) → IsLinked (split_right cut b) →
+        LinkStep g f (split_to_right node right cut b) }
+    ensures grow_right { (g : ℕ → NodeState) (f : ℕ → Frame) (kind : Kind) (left right cut : ℕ) (b : Body) → Good g →
+        Link g f →
+        CanGrowRight g f left right cut b → IsLinked (grown_higher kind cut left right b) →
+        IsLinked (split_linked cut right b) → IsLinked (with_link None (split_right cut b)) →
+        LinkStep g f (grow_right kind 0 left right cut b) }
     ensures attach { (g : ℕ → NodeState) (f : ℕ → Frame) (node id cut : ℕ) (b : Body) → Good g → Link g f →
         CanAttach g f node id cut b → IsLinked (adopted cut id b) → LinkStep g f (attach node id cut b) }
 {
@@ -46,13 +53,17 @@ pub fn link_steps_law()
 /// What a shape under links makes live is led to from the level above: both halves of a root that grows; and so is what
 /// is attached, and what stands under the begin of an edge.
 pub fn link_leads_law()
-    ensures grow_right { (g : ℕ → NodeState) (f : ℕ → Frame) (kind : Kind) (left right cut : ℕ) (b : Body) → Good g → Link g f →
-        CanGrowRight g f left right cut b → IsLinked (grown_higher kind cut left right b) → IsLinked (split_linked cut right b) → IsLinked (with_link None (split_right cut b)) →
-        LeadsTo (record_of (grown_higher kind cut left right b)) 0 left × LeadsTo (record_of (grown_higher kind cut left right b)) cut right }
+    ensures grow_right { (g : ℕ → NodeState) (f : ℕ → Frame) (kind : Kind) (left right cut : ℕ) (b : Body) → Good g →
+        Link g f →
+        CanGrowRight g f left right cut b → IsLinked (grown_higher kind cut left right b) →
+        IsLinked (split_linked cut right b) → IsLinked (with_link None (split_right cut b)) →
+        LeadsTo (record_of (grown_higher kind cut left right b)) 0 left
+        × LeadsTo (record_of (grown_higher kind cut left right b)) cut right }
     ensures attach { (g : ℕ → NodeState) (f : ℕ → Frame) (node id cut : ℕ) (b : Body) → Good g → Link g f →
         CanAttach g f node id cut b → IsLinked (adopted cut id b) → LeadsTo (record_of (adopted cut id b)) cut id }
     ensures begun { (g : ℕ → NodeState) (f : ℕ → Frame) (node id cut : ℕ) (b : Body) → Good g → Link g f →
-        StandsLinked g f node b → StandsUnder g f id b.level cut → b.low ≤ cut → cut ≤ last_of b.range → (b.low ≡ cut) ⊎ IsTrue (begins cut b.starts) → LeadsTo (record_of b) cut id }
+        StandsLinked g f node b → StandsUnder g f id b.level cut → b.low ≤ cut → cut ≤ last_of b.range →
+        (b.low ≡ cut) ⊎ IsTrue (begins cut b.starts) → LeadsTo (record_of b) cut id }
 {
     changes_law();
 }

@@ -101,7 +101,8 @@ impl Parts {
     /// The place of the ninth pair, or the start of the ninth child.
     pub(crate) fn cut(&self) -> u64
         requires { load (body_of 0 self.now) ≡ 16 }
-        ensures { result ≡ bplus_cut (bplus_content 0 (is_inner self.now) (pairs_of self.now) (starts_of self.now)) None }
+        ensures { result ≡ bplus_cut (bplus_content 0 (is_inner self.now) (pairs_of self.now) (starts_of self.now))
+            None }
     {
         match self {
             Parts::Leaf(pairs) => pairs.pair(8).place,
@@ -160,7 +161,9 @@ impl Parts {
         requires room { length (starts_of self.old) < 16 }
         ensures inner { is_inner self.new ≡ is_inner self.old }
         ensures pairs { pairs_of self.new ≡ pairs_of self.old }
-        ensures starts { starts_of self.new ≡ starts_below low (starts_of self.old) ++ record { low = low; node = node } ∷ starts_from low (starts_of self.old) }
+        ensures starts { starts_of self.new
+            ≡ starts_below low (starts_of self.old) ++ record { low = low; node = node }
+            ∷ starts_from low (starts_of self.old) }
         ensures fits { length (starts_of self.new) ≤ 16 }
     {
         match self {

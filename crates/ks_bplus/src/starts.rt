@@ -55,7 +55,8 @@ pub(crate) fn add_start(starts: &mut Starts, low: u64, node: u32)
     requires ascend { Ascends (λ s. s.low) starts.old.items }
     requires room { array_vec_len starts.old < 16 }
     ensures fits { array_vec_len starts.new ≤ 16 }
-    ensures items { starts.new.items ≡ starts_below low starts.old.items ++ record { low = low; node = node } ∷ starts_from low starts.old.items }
+    ensures items { starts.new.items
+        ≡ starts_below low starts.old.items ++ record { low = low; node = node } ∷ starts_from low starts.old.items }
 {
     let i = rank(starts.as_slice(), low);
     starts.insert(i, Start { low, node });

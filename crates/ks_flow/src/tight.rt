@@ -20,23 +20,35 @@ ghost use Rattle.ks_flow.specs.Tight.{IsTightBelow, EndsRun, ComesTo};
 /// over one child.
 pub fn tight_law()
     ensures opens { (layout : Layout) (g : ℕ → NodeState) (f : ℕ → Frame) → IsTightBelow layout g f 0 }
-    ensures begins { (layout : Layout) (g : ℕ → NodeState) (f : ℕ → Frame) (p : ℕ) → Good g → Tree g f → IsPlace p → ComesTo layout g f p top 0 }
-    ensures goes_down { (layout : Layout) (g : ℕ → NodeState) (f : ℕ → Frame) (p last end n m : ℕ) (r : Record) → Good g → Tree g f → ComesTo layout g f p last n →
-        record_at g n ≡ Some r → FitsNoRight layout g f n → LeadsTo r p m → EndsRun r p last end → ComesTo layout g f p end m }
-    ensures ends { (layout : Layout) (g : ℕ → NodeState) (f : ℕ → Frame) (p last end n : ℕ) (r : Record) → Good g → Tree g f → ComesTo layout g f p last n →
-        record_at g n ≡ Some r → FitsNoRight layout g f n → ¬ LeadsOn r p → EndsRun r p last end → IsTightBelow layout g f p → IsTightBelow layout g f (suc end) }
-    ensures span { (layout : Layout) (g : ℕ → NodeState) (f : ℕ → Frame) (p last end n : ℕ) (r : Record) → Good g → Tree g f → ComesTo layout g f p last n →
+    ensures begins { (layout : Layout) (g : ℕ → NodeState) (f : ℕ → Frame) (p : ℕ) → Good g → Tree g f → IsPlace p →
+        ComesTo layout g f p top 0 }
+    ensures goes_down { (layout : Layout) (g : ℕ → NodeState) (f : ℕ → Frame) (p last end n m : ℕ) (r : Record) →
+        Good g → Tree g f → ComesTo layout g f p last n →
+        record_at g n ≡ Some r → FitsNoRight layout g f n → LeadsTo r p m → EndsRun r p last end →
+        ComesTo layout g f p end m }
+    ensures ends { (layout : Layout) (g : ℕ → NodeState) (f : ℕ → Frame) (p last end n : ℕ) (r : Record) → Good g →
+        Tree g f → ComesTo layout g f p last n →
+        record_at g n ≡ Some r → FitsNoRight layout g f n → ¬ LeadsOn r p → EndsRun r p last end →
+        IsTightBelow layout g f p → IsTightBelow layout g f (suc end) }
+    ensures span { (layout : Layout) (g : ℕ → NodeState) (f : ℕ → Frame) (p last end n : ℕ) (r : Record) → Good g →
+        Tree g f → ComesTo layout g f p last n →
         record_at g n ≡ Some r → ¬ LeadsOn r p → EndsRun r p last end → (q : ℕ) → p ≤ q → q ≤ end → InKeyset g n q }
-    ensures span_ends { (layout : Layout) (g : ℕ → NodeState) (f : ℕ → Frame) (p last end n : ℕ) (r : Record) → Good g → Tree g f → ComesTo layout g f p last n →
+    ensures span_ends { (layout : Layout) (g : ℕ → NodeState) (f : ℕ → Frame) (p last end n : ℕ) (r : Record) →
+        Good g → Tree g f → ComesTo layout g f p last n →
         record_at g n ≡ Some r → ¬ LeadsOn r p → EndsRun r p last end → end < top → ¬ InKeyset g n (suc end) }
-    ensures all { (layout : Layout) (g : ℕ → NodeState) (f : ℕ → Frame) → Good g → Tree g f → IsTightBelow layout g f (suc top) →
-        ((r : Record) (m : ℕ) → record_at g 0 ≡ Some r → (f 0).kind ≢ NoBranch → ¬ All (λ e. e.node ≡ m) r.edges) → IsTight layout g f }
-    ensures along { (layout : Layout) (g k : ℕ → NodeState) (f h : ℕ → Frame) → SameNodes g f k h → IsTight layout g f → IsTight layout k h }
+    ensures all { (layout : Layout) (g : ℕ → NodeState) (f : ℕ → Frame) → Good g → Tree g f →
+        IsTightBelow layout g f (suc top) →
+        ((r : Record) (m : ℕ) → record_at g 0 ≡ Some r → (f 0).kind ≢ NoBranch → ¬ All (λ e. e.node ≡ m) r.edges) →
+        IsTight layout g f }
+    ensures along { (layout : Layout) (g k : ℕ → NodeState) (f h : ℕ → Frame) → SameNodes g f k h →
+        IsTight layout g f → IsTight layout k h }
 {}
 
 /// A place is tidy where the node whose keyset holds it is not low, or fits with no right neighbour.
 pub fn tidy_law()
-    ensures here { (layout : Layout) (g : ℕ → NodeState) (f : ℕ → Frame) (n p : ℕ) (r : Record) → Good g → InKeyset g n p → record_at g n ≡ Some r →
+    ensures here { (layout : Layout) (g : ℕ → NodeState) (f : ℕ → Frame) (n p : ℕ) (r : Record) → Good g →
+        InKeyset g n p → record_at g n ≡ Some r →
         (IsLow layout (f n).kind r → FitsNoRight layout g f n) → IsTidyAt layout g f p }
-    ensures along { (layout : Layout) (g k : ℕ → NodeState) (f h : ℕ → Frame) (p : ℕ) → SameNodes g f k h → IsTidyAt layout g f p → IsTidyAt layout k h p }
+    ensures along { (layout : Layout) (g k : ℕ → NodeState) (f h : ℕ → Frame) (p : ℕ) → SameNodes g f k h →
+        IsTidyAt layout g f p → IsTidyAt layout k h p }
 {}

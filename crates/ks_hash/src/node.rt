@@ -22,7 +22,8 @@ use std::mem;
 pub struct HNode {
     low: u64,
     parts: Box<Parts>,
-    ghost fit: { Fit low (is_directory parts.value) (pairs_of parts.value) (own_of parts.value) (slices_of parts.value) } by { Prim.hlevel props },
+    ghost fit: { Fit low (is_directory parts.value) (pairs_of parts.value) (own_of parts.value)
+        (slices_of parts.value) } by { Prim.hlevel props },
 }
 
 /// The middle of all places.

@@ -164,7 +164,9 @@ impl Parts {
         ensures kind { is_directory self.new ≡ is_directory self.old }
         ensures pairs { pairs_of self.new ≡ pairs_of self.old }
         ensures own { own_of self.new ≡ own_of self.old }
-        ensures starts { starts_of (slices_of self.new) ≡ runs (starts_below cut (starts_of (slices_of self.old)) ++ record { low = cut; node = id } ∷ starts_from cut (starts_of (slices_of self.old))) }
+        ensures starts { starts_of (slices_of self.new)
+            ≡ runs (starts_below cut (starts_of (slices_of self.old)) ++ record { low = cut; node = id }
+            ∷ starts_from cut (starts_of (slices_of self.old))) }
         ensures size { IsTrue (is_size (length (slices_of self.new))) }
     {
         match self {

@@ -160,7 +160,9 @@ pub(crate) fn adopt_slice(slices: &mut Slices, cut: u64, id: u32)
     requires whole { cut % smallest ≡ 0 }
     requires above { 0 < cut }
     requires free { begins cut (starts_of slices.old.items) ≡ false }
-    ensures starts { starts_of slices.new.items ≡ runs (starts_below cut (starts_of slices.old.items) ++ record { low = cut; node = id } ∷ starts_from cut (starts_of slices.old.items)) }
+    ensures starts { starts_of slices.new.items
+        ≡ runs (starts_below cut (starts_of slices.old.items) ++ record { low = cut; node = id }
+        ∷ starts_from cut (starts_of slices.old.items)) }
     ensures size { IsTrue (is_size (length slices.new.items)) }
 {
     double_until(slices, cut);

@@ -99,7 +99,8 @@ pub(crate) fn middle_in(span: &Span) -> Option<u64>
 /// The middle of a span of whole smallest slices where a bucket's own edge does not start there or below, else the
 /// other place.
 pub(crate) fn cut_by(span: &Span, own: Option<Start>, other: u64) -> u64
-    ensures { result ≡ cond (is_whole span.now && list_all (λ s. nat_lt (middle_of span.now) s.low) (own_starts own)) (middle_of span.now) other }
+    ensures { result ≡ cond (is_whole span.now && list_all (λ s. nat_lt (middle_of span.now) s.low) (own_starts own))
+        (middle_of span.now) other }
 {
     match middle_in(span) {
         Some(middle) => {

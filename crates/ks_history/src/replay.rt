@@ -32,7 +32,8 @@ pub fn map_after(alloc: Global, calls: &[Answered]) -> Result<BTreeMap<u64, u128
 
 /// Writes what the call with this reply writes.
 fn make(map: &mut BTreeMap<u64, u128>, call: &Answered) -> Result<(), AllocError>
-    ensures ok { OnOk result ((p : ℕ) → get nat_cmp map.new p ≡ map_with (get nat_cmp map.old) (written call.now.op call.now.reply) p) }
+    ensures ok { OnOk result
+        ((p : ℕ) → get nat_cmp map.new p ≡ map_with (get nat_cmp map.old) (written call.now.op call.now.reply) p) }
 {
     match call.op {
         Op::Get(_) => {}

@@ -145,7 +145,8 @@ pub fn edge_cut(edge: &Edge, place: u64, last: u64) -> u64
     ensures above { place ≤ result }
     ensures below { result ≤ last }
     ensures same { (q : ℕ) → place ≤ q → q ≤ result → CarriesAlike edge.now place q }
-    ensures turns { edge.now.span.low ≤ edge.now.span.last → result < last → ¬ CarriesAlike edge.now place (suc result) }
+    ensures turns { edge.now.span.low ≤ edge.now.span.last → result < last →
+        ¬ CarriesAlike edge.now place (suc result) }
 {
     if place < edge.span.low {
         last.min(edge.span.low - 1)
@@ -161,7 +162,8 @@ fn node_cut(graph: &Graph, node: usize, place: u64, last: u64) -> u64
     requires { place ≤ last }
     ensures above { place ≤ result }
     ensures below { result ≤ last }
-    ensures same { (q : ℕ) (r : Record) → place ≤ q → q ≤ result → record_at (graph_of graph.now) node ≡ Some r → AllCarryAlike r place q }
+    ensures same { (q : ℕ) (r : Record) → place ≤ q → q ≤ result → record_at (graph_of graph.now) node ≡ Some r →
+        AllCarryAlike r place q }
 {
     match record_of(graph, node) {
         Some(record) => edges_cut(&record.edges, place, last),
@@ -172,7 +174,8 @@ fn node_cut(graph: &Graph, node: usize, place: u64, last: u64) -> u64
 /// The last place up to which each edge of the graph carries all places from `place` on or none.
 fn graph_cut(graph: &Graph, place: u64) -> u64
     ensures above { place ≤ result }
-    ensures same { (q n : ℕ) (r : Record) → place ≤ q → q ≤ result → record_at (graph_of graph.now) n ≡ Some r → AllCarryAlike r place q }
+    ensures same { (q n : ℕ) (r : Record) → place ≤ q → q ≤ result → record_at (graph_of graph.now) n ≡ Some r →
+        AllCarryAlike r place q }
 {
     let mut cut = u64::MAX;
     for node in 0..node_count(graph) {

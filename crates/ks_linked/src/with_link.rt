@@ -72,7 +72,8 @@ impl<N: Growing> Node for WithLink<N> {
 
     ghost has_range = { λ s. refl };
 
-    ghost adopting = { λ promised s. branches_linked (N.body s.node) s.range s.level s.link s.same_range N.can_adopt_at N.layout (N.adopting promised s.node) };
+    ghost adopting = { λ promised s. branches_linked (N.body s.node) s.range s.level s.link s.same_range N.can_adopt_at
+        N.layout (N.adopting promised s.node) };
 
     ghost room_is = { N.room_is };
 

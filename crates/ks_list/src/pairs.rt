@@ -28,7 +28,8 @@ fn rank(pairs: &Block, place: u64) -> usize
 /// Where the pair of a place stands, or where it would stand.
 fn seek(pairs: &Block, place: u64) -> Result<usize, usize>
     requires { Ascends (λ x. x.place) (pairs_of pairs.now.pairs) }
-    ensures { MatchResult result (IsFound (λ x. x.place) place (pairs_of pairs.now.pairs)) (IsMissing (λ x. x.place) place (pairs_of pairs.now.pairs)) }
+    ensures { MatchResult result (IsFound (λ x. x.place) place (pairs_of pairs.now.pairs))
+        (IsMissing (λ x. x.place) place (pairs_of pairs.now.pairs)) }
 {
     let i = rank(pairs, place);
     if i >= pairs.len() {

@@ -27,7 +27,9 @@ pub fn node_law<N: Node>(node: &N)
 
 /// A branch that is not full adopts a cut in its range at which no edge starts, if the type promises it.
 pub fn adopt_law<N: Node>(node: &N, cut: u64)
-    ensures { IsTrue N.branches_adopt → IsTrue (is_branch (N.body node.now)) → is_full N.layout (N.body node.now) ≡ false → IsCut (N.body node.now) cut → begins cut (N.body node.now).starts ≡ false → IsTrue (N.can_adopt_at (content_of (N.body node.now)) cut) }
+    ensures { IsTrue N.branches_adopt → IsTrue (is_branch (N.body node.now)) →
+        is_full N.layout (N.body node.now) ≡ false → IsCut (N.body node.now) cut →
+        begins cut (N.body node.now).starts ≡ false → IsTrue (N.can_adopt_at (content_of (N.body node.now)) cut) }
 {}
 
 /// The laws of a node type without links: neither link nor level, how it is cut, which of its nodes adopt or grow.
@@ -36,12 +38,16 @@ pub fn unlinked_law<N: Unlinked>()
     ensures no_level { (s : N) → (N.body s).level ≡ 0 }
     ensures by_span { N.cuts_by_range ≡ false }
     ensures adopting { IsTrue N.branches_adopt → (s : N) → BranchesAdopt N.can_adopt_at N.layout (N.body s) }
-    ensures sort { N.in_place ≡ false → ((s : N) → AdoptsItsCut N.can_adopt_at N.cut_at N.layout (N.body s)) ⊎ (((s : N) → IsTrue (N.grows_at (content_of (N.body s)))) × IsTrue N.branches_adopt × IsTrue N.halves_have_room) }
+    ensures sort { N.in_place ≡ false →
+        ((s : N) → AdoptsItsCut N.can_adopt_at N.cut_at N.layout (N.body s))
+        ⊎ (((s : N) → IsTrue (N.grows_at (content_of (N.body s)))) × IsTrue N.branches_adopt
+        × IsTrue N.halves_have_room) }
 {}
 
 /// The laws of a node type whose branches grow, and its nodes with no edge.
 pub fn growing_law<N: Growing>()
-    ensures grows_where { (s : N) → IsTrue (is_branch (N.body s) || nat_eq (length (N.body s).starts) 0) → IsTrue (N.grows_at (content_of (N.body s))) }
+    ensures grows_where { (s : N) → IsTrue (is_branch (N.body s) || nat_eq (length (N.body s).starts) 0) →
+        IsTrue (N.grows_at (content_of (N.body s))) }
     ensures few_edges { (s : N) → length (N.body s).starts < 2 ^ 32 - 1 }
 {}
 
@@ -52,5 +58,6 @@ pub fn linked_law<N: Linked>()
     ensures link_where { (s : N) → is_some (N.body s).link ≡ nat_lt (last_of (N.body s).range) top }
     ensures by_range { N.cuts_by_range ≡ true }
     ensures adopting { IsTrue N.branches_adopt → (s : N) → BranchesAdopt N.can_adopt_at N.layout (N.body s) }
-    ensures grows_where { (s : N) → IsTrue (is_branch (N.body s) || nat_eq (length (N.body s).starts) 0) → IsTrue (N.grows_at (content_of (N.body s))) }
+    ensures grows_where { (s : N) → IsTrue (is_branch (N.body s) || nat_eq (length (N.body s).starts) 0) →
+        IsTrue (N.grows_at (content_of (N.body s))) }
 {}

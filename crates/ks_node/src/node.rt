@@ -153,9 +153,14 @@ pub trait Node: Drop {
     fn cut(&self, span: Option<Span>) -> u64
         requires { IsTrue (is_full layout (body self.now)) }
         ensures is { result ≡ cut_at (content_of (body self.now)) (cond cuts_by_range (body self.now).range span) }
-        ensures good { (whole : Span) → Suits (body self.now) whole → IsNoneOr span whole → IsGoodCut (body self.now) whole result }
-        ensures grows { (whole : Span) → Suits (body self.now) whole → IsNoneOr span whole → IsTrue (grows_at (content_of (body self.now))) → (in_place ≡ false → span ≡ Some all_places) → IsTrue (can_grow_at (content_of (body self.now)) result) }
-        ensures adopts { is_branch (body self.now) ≡ false → IsTrue (can_adopt_at (content_of (body self.now)) result) → IsTrue (can_adopt_at (content_of (split_left result (body self.now))) result) }
+        ensures good { (whole : Span) → Suits (body self.now) whole → IsNoneOr span whole →
+            IsGoodCut (body self.now) whole result }
+        ensures grows { (whole : Span) → Suits (body self.now) whole → IsNoneOr span whole →
+            IsTrue (grows_at (content_of (body self.now))) → (in_place ≡ false → span ≡ Some all_places) →
+            IsTrue (can_grow_at (content_of (body self.now)) result) }
+        ensures adopts { is_branch (body self.now) ≡ false →
+            IsTrue (can_adopt_at (content_of (body self.now)) result) →
+            IsTrue (can_adopt_at (content_of (split_left result (body self.now))) result) }
         ensures halves { IsTrue halves_have_room → HalvesHaveRoom layout result (body self.now) };
 
     /// Whether an edge from the cut on can be added.

@@ -56,7 +56,9 @@ pub trait Linked: Ranged {
         requires at { IsTrue (Self.can_grow_at (content_of (Self.body self.old)) cut) }
         requires ends { last_of (Self.body self.old).range ≡ top }
         requires level { (Self.body self.old).level < 4294967295 }
-        ensures branch { Self.body self.new ≡ with_level ((Self.body self.old).level + 1) (grown Self.branch_kind cut left_id right_id (Self.body self.old)) }
+        ensures branch { Self.body self.new
+            ≡ with_level ((Self.body self.old).level + 1)
+            (grown Self.branch_kind cut left_id right_id (Self.body self.old)) }
         ensures left { Self.body left.new ≡ with_link (Some right_id) (split_left cut (Self.body self.old)) }
         ensures right { Self.body right.new ≡ with_link None (split_right cut (Self.body self.old)) };
 
@@ -67,5 +69,6 @@ pub trait Linked: Ranged {
     ghost by_range: { Self.cuts_by_range ≡ true };
 
     /// A branch grows, and so does a node with no edge but its link.
-    ghost grows_where: { (s : Self) → IsTrue (is_branch (Self.body s) || nat_eq (length (Self.body s).starts) 0) → IsTrue (Self.grows_at (content_of (Self.body s))) };
+    ghost grows_where: { (s : Self) → IsTrue (is_branch (Self.body s) || nat_eq (length (Self.body s).starts) 0) →
+        IsTrue (Self.grows_at (content_of (Self.body s))) };
 }

@@ -66,13 +66,17 @@ pub trait Unlinked: Node {
 
     /// Where it does not grow in place: either each full node can adopt its cut, or each node grows, branches adopt, and
     /// neither half of a full node is full.
-    ghost sort: { Self.in_place ≡ false → ((s : Self) → AdoptsItsCut Self.can_adopt_at Self.cut_at Self.layout (Self.body s)) ⊎ (((s : Self) → IsTrue (Self.grows_at (content_of (Self.body s)))) × IsTrue Self.branches_adopt × IsTrue Self.halves_have_room) };
+    ghost sort: { Self.in_place ≡ false →
+        ((s : Self) → AdoptsItsCut Self.can_adopt_at Self.cut_at Self.layout (Self.body s))
+        ⊎ (((s : Self) → IsTrue (Self.grows_at (content_of (Self.body s)))) × IsTrue Self.branches_adopt
+        × IsTrue Self.halves_have_room) };
 }
 
 /// A node that grows where it is a branch or has no edge.
 pub trait Growing: Unlinked {
     /// A branch grows, and so does a node with no edge.
-    ghost grows_where: { (s : Self) → IsTrue (is_branch (Self.body s) || nat_eq (length (Self.body s).starts) 0) → IsTrue (Self.grows_at (content_of (Self.body s))) };
+    ghost grows_where: { (s : Self) → IsTrue (is_branch (Self.body s) || nat_eq (length (Self.body s).starts) 0) →
+        IsTrue (Self.grows_at (content_of (Self.body s))) };
 
     /// Its edges and one more can be counted.
     ghost few_edges: { (s : Self) → length (Self.body s).starts < 2 ^ 32 - 1 };

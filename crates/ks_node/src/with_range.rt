@@ -79,7 +79,8 @@ impl<N: Unlinked> Node for WithRange<N> {
 
     ghost has_range = { λ s. refl };
 
-    ghost adopting = { λ promised s. branches_inside (N.body s.node) s.range s.same_range N.can_adopt_at N.layout (N.adopting promised s.node) };
+    ghost adopting = { λ promised s. branches_inside (N.body s.node) s.range s.same_range N.can_adopt_at N.layout
+        (N.adopting promised s.node) };
 
     ghost room_is = { N.room_is };
 

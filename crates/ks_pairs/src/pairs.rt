@@ -69,7 +69,8 @@ impl<const N: usize> Pairs<N> {
     /// Where the pair of a place stands, or where it would stand.
     fn seek(&self, place: u64) -> Result<usize, usize>
         requires { Ascends (λ x. x.place) self.now.items }
-        ensures { MatchResult result (IsFound (λ x. x.place) place self.now.items) (IsMissing (λ x. x.place) place self.now.items) }
+        ensures { MatchResult result (IsFound (λ x. x.place) place self.now.items)
+            (IsMissing (λ x. x.place) place self.now.items) }
     {
         let at = self.rank(place);
         if at >= self.places.len() {
