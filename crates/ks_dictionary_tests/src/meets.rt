@@ -66,7 +66,12 @@ fn a_leaf_that_another_caller_holds_is_busy(rt: HostRuntime) -> Result<(), Fail>
     let gate = Meet::of(0, 0, Point::Given(0), 1, LONG);
     let (got, (mut two, tried)) = get_beside(&rt, &dictionary, &gate, one, two);
     assert!(rt; !gate.failed());
-    assert!(rt; got == Numbered { number: 18, found: Some(0) });
+    assert!(rt;
+        got == Numbered {
+            number: 18,
+            found: Some(0)
+        }
+    );
     let busy = Err(Later::Busy { node: 1, holder: 0 });
     assert!(rt; tried == [busy, told(17, Some(16))]);
     assert!(rt; dictionary.try_get(&mut two, &NoGate, 0) == told(19, Some(0)));
@@ -78,11 +83,7 @@ type GivenUp = Dictionary<WithRange<BNode>, GiveUp>;
 type Walk = Pass<WithRange<BNode>, Tree>;
 
 /// Tries to get key 23.
-fn try_last(
-    dictionary: &GivenUp,
-    gate: &Meet,
-    mut pass: Walk,
-) -> (Walk, Result<Numbered, Later>)
+fn try_last(dictionary: &GivenUp, gate: &Meet, mut pass: Walk) -> (Walk, Result<Numbered, Later>)
     requires { IsIdle (⟦<Dictionary<WithRange<BNode>, GiveUp> as Shelf>⟧.site dictionary.now) pass }
     ensures { IsIdle (⟦<Dictionary<WithRange<BNode>, GiveUp> as Shelf>⟧.site dictionary.now) result.0 }
 {
@@ -123,7 +124,12 @@ fn a_leaf_that_another_caller_splits_has_moved(rt: HostRuntime) -> Result<(), Fa
     let gate = Meet::of(1, 0, Point::Given(0), 0, LONG);
     let (put, (mut two, tried)) = put_beside(&rt, &dictionary, &gate, one, two);
     assert!(rt; !gate.failed());
-    assert!(rt; put == Ok(Numbered { number: 24, found: None }));
+    assert!(rt;
+        put == Ok(Numbered {
+            number: 24,
+            found: None
+        })
+    );
     assert!(rt; tried == Err(Later::Moved { node: 2 }));
     assert!(rt; dictionary.try_get(&mut two, &NoGate, 23) == told(25, Some(23)));
     Ok(())

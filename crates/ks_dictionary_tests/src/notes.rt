@@ -36,12 +36,7 @@ fn a_note_is_learnt(rt: HostRuntime) -> Result<(), Fail> {
 }
 
 /// Puts a value of ten times the key, and notes it.
-fn put_and_note<R: Wait>(
-    rt: &R,
-    dictionary: &Lists,
-    mut pass: Caller,
-    key: u64,
-) -> (Caller, News)
+fn put_and_note<R: Wait>(rt: &R, dictionary: &Lists, mut pass: Caller, key: u64) -> (Caller, News)
     requires { IsIdle (⟦<Dictionary<ListNode, Coupling> as Shelf>⟧.site dictionary.now) pass }
     ensures pass { IsIdle (⟦<Dictionary<ListNode, Coupling> as Shelf>⟧.site dictionary.now) result.0 }
     ensures note { IsNoteOf (⟦<Dictionary<ListNode, Coupling> as Shelf>⟧.site dictionary.now) result.1 }

@@ -65,7 +65,9 @@ fn try_add_each<N: Ranged + Unlinked>(
         let told = giveup::try_put(arena, pass, &NoGate, place, value);
         let again = giveup::try_add(arena, pass, &NoGate, place, 7);
         let number = count.wrapping_mul(2);
-        right = right && told == put(number, None) && again == put(number.wrapping_add(1), Some(value));
+        right = right
+            && told == put(number, None)
+            && again == put(number.wrapping_add(1), Some(value));
     }
     right
 }

@@ -38,7 +38,7 @@ pub fn split_own<N: Unlinked>(
     ensures right { HasBecome arena.now pass.new (split_right cut (N.body node.old.body)) right.old right.new }
     ensures parts { (p : ℕ) → IsInside pass.old node.old.node p →
         IsInside pass.new node.old.node p × (cut ≤ p →
-            LeadsInto pass.new (shapes.split_on cut right.old.node (N.body node.old.body)) p right.old.node) }
+        LeadsInto pass.new (shapes.split_on cut right.old.node (N.body node.old.body)) p right.old.node) }
 {
     sound_law::<Tree>();
     tree_asks_law();
