@@ -1,0 +1,15 @@
+use Rattle.std.proofs.Common.{ap, sym, subst, ◌∙◌, Some}
+use Rattle.ks_history.specs.declared.Op.TheVariants.{Put}
+use Rattle.ks_c.specs.Calls.{HasTriedPut}
+use Rattle.ks_c.specs.Tells.{whole}
+use Rattle.ks_c.proofs.ks_c_put.Goals as goal
+
+pub returns-in-Some : goal.returns-in-Some
+returns-in-Some c =
+    let before = ap (λ h. h.inside) (sym c.replace.ensures.value) ∙ c.in-Some.ensures ∙ ap Some (sym c.deref_mut.ensures.value) in
+    subst (λ o. HasTriedPut (Put c.args.key (whole c.args.low c.args.high)) o c.of.result.inside c.tell_put.result c.tell_put.new.out) (sym before)
+    (subst (λ v. HasTriedPut (Put c.args.key v) (Some c.deref_mut.result.now) c.of.result.inside c.tell_put.result c.tell_put.new.out) c.value_of.ensures (
+      c.put-answer.new.self,
+      c.of.ensures,
+      record { ready = c.put-answer.ensures.ready; same = c.put-answer.ensures.same; answer = c.put-answer.result; tried = c.put-answer.ensures.tried; tells = c.tell_put.ensures },
+    ))

@@ -1,0 +1,103 @@
+//! What C is told.
+ghost use Rattle.std.specs.Prelude.{◌≡◌};
+ghost use Rattle.ks_c.specs.Tells.{Tells, TellsFound, TellsLater, TellsPut, whole};
+
+use ks_shape::{Later, Numbered, PutLater};
+
+/// Nothing stood at the key.
+pub const NOTHING: u32 = 0;
+/// A value stood at the key.
+pub const VALUE: u32 = 1;
+/// No room for the key, and no free node.
+pub const FULL: u32 = 2;
+/// Another caller holds a node on the way.
+pub const BUSY: u32 = 3;
+/// The call was put off for another cause. It never comes along links.
+pub const LATER: u32 = 4;
+/// The handle is not open.
+pub const CLOSED: u32 = 16;
+/// No such number of nodes or callers.
+pub const BAD_SIZE: u32 = 17;
+/// Memory is wanting.
+pub const NO_MEMORY: u32 = 18;
+/// A handle that is to be opened is open.
+pub const IN_USE: u32 = 19;
+
+/// What a call tells beside its code.
+#[repr(C)]
+#[derive(Drop)]
+pub struct Answer {
+    /// The number of the call in the one history of all calls.
+    pub number: u64,
+    /// The two halves of the value that stood at the key.
+    pub low: u64,
+    pub high: u64,
+    /// The node that another caller held, and that caller.
+    pub node: u32,
+    pub holder: u32,
+}
+
+/// A value of 128 bits from its halves.
+pub fn value_of(low: u64, high: u64) -> u128
+    ensures { result ≡ whole low high }
+{
+    high as u128 * 18446744073709551616 + low as u128
+}
+
+fn tell_found(found: Option<u128>, out: &mut Answer) -> u32
+    ensures found { TellsFound found result out.new }
+    ensures number { out.new.number ≡ out.old.number }
+{
+    match found {
+        None => NOTHING,
+        Some(value) => {
+            out.low = (value % 18446744073709551616) as u64;
+            out.high = (value / 18446744073709551616) as u64;
+            VALUE
+        }
+    }
+}
+
+fn tell_later(later: Later, out: &mut Answer) -> u32
+    ensures { TellsLater later result out.new }
+{
+    match later {
+        Later::Busy { node, holder } => {
+            out.node = node;
+            out.holder = holder;
+            BUSY
+        }
+        Later::Moved { node: _ } => LATER,
+        Later::Far => LATER,
+    }
+}
+
+/// Tells what a get, a swap or a del answered.
+pub fn tell(answer: Result<Numbered, Later>, out: &mut Answer) -> u32
+    ensures { Tells answer result out.new }
+{
+    match answer {
+        Ok(done) => {
+            out.number = done.number;
+            tell_found(done.found, out)
+        }
+        Err(later) => tell_later(later, out),
+    }
+}
+
+/// Tells what a put or an add answered.
+pub fn tell_put(answer: Result<Numbered, PutLater>, out: &mut Answer) -> u32
+    ensures { TellsPut answer result out.new }
+{
+    match answer {
+        Ok(done) => {
+            out.number = done.number;
+            tell_found(done.found, out)
+        }
+        Err(PutLater::Full { number }) => {
+            out.number = number;
+            FULL
+        }
+        Err(PutLater::Later(later)) => tell_later(later, out),
+    }
+}
