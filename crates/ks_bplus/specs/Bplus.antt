@@ -1,11 +1,11 @@
 -- What the two lists of a B+ node mean.
-use Rattle.std.specs.Prelude.{◌≡◌, ℕ, ◌≤◌, Bool, true, false, not, cond, ◌&&◌, nat_lt, List, length, Option, None, slice_index_or}
+use Rattle.std.specs.Prelude.{◌≡◌, ℕ, ◌≤◌, Bool, true, false, not, cond, ◌&&◌, nat_lt, List, length, Option, None, slice_index_or, [], ◌∷◌, ◌++◌}
 use Rattle.ks_keysets.specs.declared.Pair.{Pair}
 use Rattle.ks_keysets.specs.declared.Span.{Span}
 use Rattle.ks_keysets.specs.declared.Kind.{Kind}
 use Rattle.ks_keysets.specs.declared.Kind.TheVariants.{NoBranch, Inner}
 use Rattle.ks_node.specs.declared.start.Start.{Start}
-use Rattle.ks_node.specs.Body.{Body, Content, begins, is_branch_kind}
+use Rattle.ks_node.specs.Body.{Body, Content, begins, is_branch_kind, starts_below, starts_from}
 use Rattle.ks_node.specs.Sound.{Sound}
 
 -- an inner node is a branch, a leaf is none
@@ -35,6 +35,13 @@ bplus_can_adopt c cut = is_branch_kind c.kind && (not (begins cut c.starts) && n
 -- the place of the ninth pair, or the start of the ninth child
 abbrev pub bplus_cut : Content → Option Span → ℕ
 bplus_cut c span = cond (is_branch_kind c.kind) (slice_index_or c.starts 8 (record { low = 0; node = 0 })).low (slice_index_or c.pairs 8 (record { place = 0; value = 0 })).place
+
+-- two children, and a child that begins at a place among others
+abbrev pub two_children : ℕ → ℕ → ℕ → List Start
+two_children left cut right = record { low = 0; node = left } ∷ record { low = cut; node = right } ∷ []
+
+abbrev pub with_child : ℕ → ℕ → List Start → List Start
+with_child low node ss = starts_below low ss ++ record { low = low; node = node } ∷ starts_from low ss
 
 -- the order, the shape and the room of a node
 pub record Fit (low : ℕ) (is_inner : Bool) (pairs : List Pair) (starts : List Start) : Type 0 where

@@ -1,12 +1,11 @@
 -- What is read from the parts of a node: a leaf's pairs, an inner node's starts.
-use Rattle.std.specs.Prelude.{Bool, true, false, List, []}
+use Rattle.std.specs.Prelude.{ℕ, Bool, true, false, List, [], None}
 use Rattle.ks_keysets.specs.declared.Pair.{Pair}
 use Rattle.ks_node.specs.declared.start.Start.{Start}
 use Rattle.ks_node.specs.Body.{Body}
 use Rattle.ks_bplus.specs.declared.parts.Parts.{Parts}
 use Rattle.ks_bplus.specs.declared.parts.Parts.TheVariants.{Leaf, Inner}
-use Rattle.ks_bplus.specs.Bplus.{bplus_body}
-use Rattle.std.specs.Prelude.{ℕ}
+use Rattle.ks_bplus.specs.Bplus.{bplus_body, bplus_content, bplus_cut}
 
 abbrev pub is_inner : Parts → Bool
 is_inner (Leaf ps) = false
@@ -23,3 +22,7 @@ starts_of (Inner ss) = ss.items
 -- the meaning of a node of a low and these parts
 abbrev pub body_of : ℕ → Parts → Body
 body_of low parts = bplus_body low (is_inner parts) (pairs_of parts) (starts_of parts)
+
+-- where a node with these parts is cut when full
+abbrev pub cut_of : Parts → ℕ
+cut_of parts = bplus_cut (bplus_content 0 (is_inner parts) (pairs_of parts) (starts_of parts)) None

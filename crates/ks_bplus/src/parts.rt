@@ -5,8 +5,8 @@ ghost use Rattle.ks_node.specs.Keyed.{Ascends};
 ghost use Rattle.ks_node.specs.Body.{value_at, pairs_below, pairs_from, starts_below, starts_from};
 ghost use Rattle.ks_node.specs.Effect.{pairs_put, pairs_del, first_from, without};
 ghost use Rattle.ks_node.specs.Room.{load};
-ghost use Rattle.ks_bplus.specs.Bplus.{bplus_content, bplus_cut};
-ghost use Rattle.ks_bplus.specs.Parts.{is_inner, pairs_of, starts_of, body_of};
+ghost use Rattle.ks_bplus.specs.Bplus.{two_children, with_child};
+ghost use Rattle.ks_bplus.specs.Parts.{is_inner, pairs_of, starts_of, body_of, cut_of};
 
 use crate::starts::{Starts, add_start, append_starts, move_starts, remove_node};
 use ks_keysets::Pair;
@@ -34,7 +34,7 @@ impl Parts {
     pub(crate) fn over(left: u32, cut: u64, right: u32) -> Self
         ensures inner { is_inner result ≡ true }
         ensures pairs { pairs_of result ≡ [] }
-        ensures starts { starts_of result ≡ record { low = 0; node = left } ∷ record { low = cut; node = right } ∷ [] }
+        ensures starts { starts_of result ≡ two_children left cut right }
     {
         let mut starts = Starts::new();
         starts.push(Start { low: 0, node: left });
@@ -101,8 +101,7 @@ impl Parts {
     /// The place of the ninth pair, or the start of the ninth child.
     pub(crate) fn cut(&self) -> u64
         requires { load (body_of 0 self.now) ≡ 16 }
-        ensures { result ≡ bplus_cut (bplus_content 0 (is_inner self.now) (pairs_of self.now) (starts_of self.now))
-            None }
+        ensures { result ≡ cut_of self.now }
     {
         match self {
             Parts::Leaf(pairs) => pairs.pair(8).place,
@@ -161,9 +160,7 @@ impl Parts {
         requires room { length (starts_of self.old) < 16 }
         ensures inner { is_inner self.new ≡ is_inner self.old }
         ensures pairs { pairs_of self.new ≡ pairs_of self.old }
-        ensures starts { starts_of self.new
-            ≡ starts_below low (starts_of self.old) ++ record { low = low; node = node }
-            ∷ starts_from low (starts_of self.old) }
+        ensures starts { starts_of self.new ≡ with_child low node (starts_of self.old) }
         ensures fits { length (starts_of self.new) ≤ 16 }
     {
         match self {

@@ -7,6 +7,7 @@ ghost use Rattle.ks_node.specs.Body.{starts_below, starts_from, led_to, go_to, b
 ghost use Rattle.ks_node.specs.Effect.{first_from, without};
 ghost use Rattle.ks_node.specs.Spans.{plain_edges, AreWithin};
 ghost use Rattle.ks_keysets.specs.Record.{top};
+ghost use Rattle.ks_bplus.specs.Bplus.{with_child};
 
 use arrayvec::ArrayVec;
 use ks_keysets::{Edge, Span};
@@ -55,8 +56,7 @@ pub(crate) fn add_start(starts: &mut Starts, low: u64, node: u32)
     requires ascend { Ascends (λ s. s.low) starts.old.items }
     requires room { array_vec_len starts.old < 16 }
     ensures fits { array_vec_len starts.new ≤ 16 }
-    ensures items { starts.new.items
-        ≡ starts_below low starts.old.items ++ record { low = low; node = node } ∷ starts_from low starts.old.items }
+    ensures items { starts.new.items ≡ with_child low node starts.old.items }
 {
     let i = rank(starts.as_slice(), low);
     starts.insert(i, Start { low, node });

@@ -88,6 +88,10 @@ last_before (s ∷ ss) = s.low - 1
 abbrev pub run_span : List Start → ℕ → Option Span
 run_span ss p = option_map (λ s. record { low = s.low; last = last_before (starts_from (suc p) ss) }) (slice_get (starts_below (suc p) ss) (length (starts_below (suc p) ss) - 1))
 
+-- the middle of a span where an own edge does not start there or below, else the other place
+abbrev pub cut_above : Span → Option Start → ℕ → ℕ
+cut_above span own other = cond (is_whole span && list_all (λ s. nat_lt (middle_of span) s.low) (own_starts own)) (middle_of span) other
+
 -- the run of slices of the place's child in a directory
 abbrev pub hash_span : Content → ℕ → Option Span
 hash_span c p = cond (is_branch_kind c.kind) (run_span c.starts p) None

@@ -1,6 +1,7 @@
 -- The slices of a directory: equal parts of all places, each with the child that it leads to.
 use Rattle.std.specs.Prelude.{ℕ, ◌+◌, ◌-◌, ◌/◌, ◌^◌, ◌||◌, Bool, false, cond, nat_eq, List, [], ◌∷◌, ◌++◌, length, get_or, take, drop, Option, None, Some}
 use Rattle.ks_node.specs.declared.start.Start.{Start}
+use Rattle.ks_node.specs.Body.{starts_below, starts_from}
 use Rattle.ks_node.specs.Effect.{runs}
 
 -- how many slices a directory may have
@@ -46,3 +47,7 @@ led_over child to (c ∷ cs) = cond (nat_eq c child) (to ∷ led_over child to c
 -- the slices from a position to the end of its run led to another child
 abbrev pub run_led : ℕ → ℕ → List ℕ → List ℕ
 run_led i to cs = take i cs ++ led_over (get_or cs i 0) to (drop i cs)
+
+-- the edges of a directory with a run from a cut on that leads to a node
+abbrev pub with_run : ℕ → ℕ → List Start → List Start
+with_run cut id ss = runs (starts_below cut ss ++ record { low = cut; node = id } ∷ starts_from cut ss)

@@ -4,7 +4,7 @@ ghost use Rattle.std.specs.Prelude.{◌≡◌, ◌+◌, ◌%◌, ◌<◌, ◌≤
 ghost use Rattle.ks_node.specs.Keyed.{Ascends};
 ghost use Rattle.ks_node.specs.Body.{value_at, pairs_below, pairs_from, starts_below, starts_from, begins, first_node};
 ghost use Rattle.ks_node.specs.Effect.{pairs_put, pairs_del, runs, without};
-ghost use Rattle.ks_hash.specs.Slices.{is_size, smallest, starts_of};
+ghost use Rattle.ks_hash.specs.Slices.{is_size, smallest, starts_of, with_run};
 ghost use Rattle.ks_hash.specs.Parts.{is_directory, pairs_of, own_of, slices_of};
 
 use crate::slices::{Slices, adopt_slice, forget_child, halve};
@@ -164,9 +164,7 @@ impl Parts {
         ensures kind { is_directory self.new ≡ is_directory self.old }
         ensures pairs { pairs_of self.new ≡ pairs_of self.old }
         ensures own { own_of self.new ≡ own_of self.old }
-        ensures starts { starts_of (slices_of self.new)
-            ≡ runs (starts_below cut (starts_of (slices_of self.old)) ++ record { low = cut; node = id }
-            ∷ starts_from cut (starts_of (slices_of self.old))) }
+        ensures starts { starts_of (slices_of self.new) ≡ with_run cut id (starts_of (slices_of self.old)) }
         ensures size { IsTrue (is_size (length (slices_of self.new))) }
     {
         match self {

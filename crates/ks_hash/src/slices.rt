@@ -8,7 +8,7 @@ ghost use Rattle.std.specs.Prelude.{◌≢◌, ◌≡◌, ℕ, ◌+◌, ◌%◌,
 ghost use Rattle.std.specs.List.{list_all};
 ghost use Rattle.ks_node.specs.Body.{starts_below, starts_from, led_to, begins, first_node, sole};
 ghost use Rattle.ks_node.specs.Effect.{runs, without};
-ghost use Rattle.ks_hash.specs.Slices.{is_size, width_of, smallest, starts_of, repeats, before_at, doubled, run_led};
+ghost use Rattle.ks_hash.specs.Slices.{is_size, width_of, smallest, starts_of, repeats, before_at, doubled, run_led, with_run};
 
 use arrayvec::ArrayVec;
 use ks_node::Start;
@@ -160,9 +160,7 @@ pub(crate) fn adopt_slice(slices: &mut Slices, cut: u64, id: u32)
     requires whole { cut % smallest ≡ 0 }
     requires above { 0 < cut }
     requires free { begins cut (starts_of slices.old.items) ≡ false }
-    ensures starts { starts_of slices.new.items
-        ≡ runs (starts_below cut (starts_of slices.old.items) ++ record { low = cut; node = id }
-        ∷ starts_from cut (starts_of slices.old.items)) }
+    ensures starts { starts_of slices.new.items ≡ with_run cut id (starts_of slices.old.items) }
     ensures size { IsTrue (is_size (length slices.new.items)) }
 {
     double_until(slices, cut);

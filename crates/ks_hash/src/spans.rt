@@ -8,7 +8,7 @@ ghost use Rattle.ks_node.specs.Keyed.{Ascends};
 ghost use Rattle.ks_node.specs.Body.{begins, starts_below, starts_from, go_to, led_to};
 ghost use Rattle.ks_node.specs.Asks.{IsSpanOf};
 ghost use Rattle.ks_node.specs.Spans.{AreWithin};
-ghost use Rattle.ks_hash.specs.Hash.{own_starts, is_whole, middle_of, run_span};
+ghost use Rattle.ks_hash.specs.Hash.{own_starts, is_whole, middle_of, run_span, cut_above};
 
 use crate::slices::SMALLEST;
 use ks_keysets::Span;
@@ -99,8 +99,7 @@ pub(crate) fn middle_in(span: &Span) -> Option<u64>
 /// The middle of a span of whole smallest slices where a bucket's own edge does not start there or below, else the
 /// other place.
 pub(crate) fn cut_by(span: &Span, own: Option<Start>, other: u64) -> u64
-    ensures { result ≡ cond (is_whole span.now && list_all (λ s. nat_lt (middle_of span.now) s.low) (own_starts own))
-        (middle_of span.now) other }
+    ensures { result ≡ cut_above span.now own other }
 {
     match middle_in(span) {
         Some(middle) => {

@@ -1,7 +1,8 @@
 //! `Pairs`, and what a put, a del, a split and a merge make of them.
 
-ghost use Rattle.std.specs.Prelude.{◌≡◌, ◌+◌, ◌<◌, ◌≤◌, ◌++◌, [], None, length, slice_index_or, MatchResult};
-ghost use Rattle.ks_node.specs.Keyed.{Ascends, IsRank, IsFound, IsMissing};
+ghost use Rattle.std.specs.Prelude.{◌≡◌, ◌+◌, ◌<◌, ◌≤◌, ◌++◌, [], None, length, slice_index_or};
+ghost use Rattle.ks_node.specs.Keyed.{Ascends, IsRank};
+ghost use Rattle.ks_pairs.specs.Paired.{Stands};
 ghost use Rattle.ks_node.specs.Body.{value_at, pairs_below, pairs_from};
 ghost use Rattle.ks_node.specs.Effect.{pairs_put, pairs_del};
 
@@ -69,8 +70,7 @@ impl<const N: usize> Pairs<N> {
     /// Where the pair of a place stands, or where it would stand.
     fn seek(&self, place: u64) -> Result<usize, usize>
         requires { Ascends (λ x. x.place) self.now.items }
-        ensures { MatchResult result (IsFound (λ x. x.place) place self.now.items)
-            (IsMissing (λ x. x.place) place self.now.items) }
+        ensures { Stands place self.now.items result }
     {
         let at = self.rank(place);
         if at >= self.places.len() {
