@@ -339,7 +339,8 @@ pub fn serve<R: Threads + Wait + Sync, S: Source, K: Sink, E: Sink, G: Gate + Sy
     ensures untouched { result.status ≢ DONE → result.status ≢ OUTPUT_FAILED → result.status ≢ WRONG →
         K.taken out.new ≡ K.taken out.old }
 
-    // When each status comes.
+    // When each status comes. There is no other.
+    ensures status { result.status ≤ WRONG }
     ensures usage { (result.status ≡ NO_COMMAND) ↔ ¬ IsCommand (bytes_of words.now) }
     ensures made { IsMake (bytes_of words.now) →
         MakesOutcome (bytes_of words.now) (K.taken out.old) (K.taken out.new) result.status result.run }
