@@ -1,6 +1,6 @@
 //! Tests of puts and adds that wait for nobody, by lock coupling and by giving up.
 ghost use Rattle.std.specs.Prelude.{◌≡◌, ◌<◌};
-ghost use Rattle.ks_arena.specs.Of.{IsEmptyPassOf};
+ghost use Rattle.ks_arena.specs.Of.{IsEmptyPassOf, nodes_of};
 
 use crate::puts::{one_caller, put_each};
 use crate::tries::two_callers;
@@ -142,7 +142,7 @@ fn put_beside_a_holder<N: Unlinked>(
     one: &mut Pass<N, Tree>,
     two: &mut Pass<N, Tree>,
 ) -> Option<Result<Numbered, PutLater>>
-    requires nodes { 1 < arena.now.nodes }
+    requires nodes { 1 < nodes_of arena.now }
     requires one { IsEmptyPassOf arena.now one.old }
     requires two { IsEmptyPassOf arena.now two.old }
     ensures one { IsEmptyPassOf arena.now one.new }
