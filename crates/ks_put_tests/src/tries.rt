@@ -52,7 +52,7 @@ pub(crate) fn two_callers<N: Unlinked>(
 ) -> Result<(Arena<N, Tree>, Pass<N, Tree>, Pass<N, Tree>), AllocError>
     requires fits { BeginsTree (blank_of (sort_of N.layout N.ranged)) }
     requires nodes { (4 ≤ nodes) × (nodes ≤ 1048576) }
-    ensures nodes { IfOk result (λ x. x.0.nodes ≡ nodes) }
+    ensures nodes { IfOk result (λ x. nodes_of x.0 ≡ nodes) }
     ensures one { IfOk result (λ x. IsEmptyPassOf x.0 x.1) }
     ensures two { IfOk result (λ x. IsEmptyPassOf x.0 x.2) }
 {
