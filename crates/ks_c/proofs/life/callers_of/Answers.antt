@@ -15,7 +15,7 @@ loop-init c =
     let all = new_all _ _ _ _ _ c.in_ok-arena.passes.items start.2 in
     record {
       ready = All-same (λ b. IsReady b.value) c.in_ok-boxes.boxes.items [] c.in_ok-boxes.ensures.items (All-nil (λ b. IsReady b.value));
-      left = subst (λ a. All (λ p. IsEmptyPassOf a p) c.in_ok-arena.passes.items) (sym c.in-Ok.ensures.ok) (rw (sym start.1) at all);
+      left = subst (λ a. All (λ p. IsEmptyPassOf a p) c.in_ok-arena.passes.items) (sym c.in-Ok.ensures.ok) all;
       count = ap length c.in_ok-boxes.ensures.items;
     }
 
