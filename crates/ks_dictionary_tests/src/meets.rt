@@ -64,7 +64,8 @@ fn a_leaf_that_another_caller_holds_is_busy(rt: HostRuntime) -> Result<(), Fail>
     let (dictionary, mut one, two) = two_callers::<BNode, Coupling>(rt.alloc(), 64)?;
     assert!(rt; put_each(&rt, &dictionary, &mut one, 0, 0, 17));
     let gate = Meet::of(0, 0, Point::Given(0), 1, LONG);
-    let (got, (mut two, tried)) = get_beside(&rt, &dictionary, &gate, one, two);
+    let (got, beside) = get_beside(&rt, &dictionary, &gate, one, two);
+    let (mut two, tried) = beside;
     assert!(rt; !gate.failed());
     assert!(rt;
         got == Numbered {
@@ -122,7 +123,8 @@ fn a_leaf_that_another_caller_splits_has_moved(rt: HostRuntime) -> Result<(), Fa
     let (dictionary, mut one, two) = two_callers::<WithRange<BNode>, GiveUp>(rt.alloc(), 64)?;
     assert!(rt; put_each(&rt, &dictionary, &mut one, 0, 0, 24));
     let gate = Meet::of(1, 0, Point::Given(0), 0, LONG);
-    let (put, (mut two, tried)) = put_beside(&rt, &dictionary, &gate, one, two);
+    let (put, beside) = put_beside(&rt, &dictionary, &gate, one, two);
+    let (mut two, tried) = beside;
     assert!(rt; !gate.failed());
     assert!(rt;
         put == Ok(Numbered {
