@@ -1,5 +1,5 @@
 -- The one element of a list that a pop leaves empty.
-use Rattle.std.proofs.Common.{◌≡◌, List, [], ◌∷◌, ◌++◌, length, ◌∙◌, ap, arith}
+use Rattle.std.proofs.Common.{◌≡◌, List, [], ◌∷◌, ◌++◌, length, ap, arith}
 use Rattle.std.proofs.lemmas.List.{length-append}
 use mathlib.Core.Option.{some}
 use lib.ListN.{get_elem?}

@@ -5,12 +5,14 @@ use Rattle.ks_arena_tests.proofs.claims.one_caller_claims_each_of_200_nodes_in_o
 
 pub claim_all-requires-clause-pass : goal.claim_all-requires-clause-pass
 claim_all-requires-clause-pass g c κs =
-    let crew = c.in_ok-arena.ensures.2 in
+    let start = c.in_ok-arena.ensures in
+    let crew = start.2 in
     let last = c.pop.ensures.items ∙ ap (λ o. c.pop.new.self.items ++ option_to_list o) c.in-Some.is in
-    rw c.in_ok-arena.ensures.1 (crew.each 0 c.in-Some.pass (one_of c.in_ok-arena.passes.items c.pop.new.self.items c.in-Some.pass crew.long last)).pass
+    (crew.each 0 c.in-Some.pass (one_of c.in_ok-arena.passes.items c.pop.new.self.items c.in-Some.pass (crew.long ∙ start.1) last)).pass
 
 pub claim_all-requires-clause-alone : goal.claim_all-requires-clause-alone
 claim_all-requires-clause-alone g c κs =
-    let crew = c.in_ok-arena.ensures.2 in
+    let start = c.in_ok-arena.ensures in
+    let crew = start.2 in
     let last = c.pop.ensures.items ∙ ap (λ o. c.pop.new.self.items ++ option_to_list o) c.in-Some.is in
-    (c.in_ok-arena.ensures.1, (crew.each 0 c.in-Some.pass (one_of c.in_ok-arena.passes.items c.pop.new.self.items c.in-Some.pass crew.long last)).caller)
+    (start.1, (crew.each 0 c.in-Some.pass (one_of c.in_ok-arena.passes.items c.pop.new.self.items c.in-Some.pass (crew.long ∙ start.1) last)).caller)

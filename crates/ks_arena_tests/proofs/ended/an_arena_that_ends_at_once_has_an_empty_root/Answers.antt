@@ -1,4 +1,4 @@
-use Rattle.std.proofs.Common.{ℕ, ◌<◌, ◌∙◌, sym, ap, subst}
+use Rattle.std.proofs.Common.{ℕ, ◌<◌, sym, ap, subst}
 use Rattle.ks_history.specs.Trace.{hand}
 use Rattle.ks_arena_tests.proofs.Ends.{there}
 use Rattle.ks_arena_tests.proofs.ended.an_arena_that_ends_at_once_has_an_empty_root.Goals as goal
@@ -9,6 +9,6 @@ close-run-requires-after_bounds g c κs =
     let new = start.2 in
     let passes = c.in_ok-arena.passes.items in
     record {
-      each = λ j p at. let one = new.each j p at in (rw start.1 one.pass, ap (hand p.caller) one.seen);
-      all = λ k lt. let p = there passes k (subst (λ (n : ℕ). k < n) (start.1 ∙ sym new.long) lt) in (k, p.0, p.1, (new.each k p.0 p.1).caller);
+      each = λ j p at. let one = new.each j p at in (one.pass, ap (hand p.caller) one.seen);
+      all = λ k lt. let p = there passes k (subst (λ (n : ℕ). k < n) (sym new.long) lt) in (k, p.0, p.1, (new.each k p.0 p.1).caller);
     }

@@ -6,7 +6,8 @@ use Rattle.ks_link_tests.proofs.calls.one_caller.Goals as goal
 
 pub returns : goal.returns
 returns g c =
-    let crew = c.in_ok-arena.ensures.2 in
+    let start = c.in_ok-arena.ensures in
+    let crew = start.2 in
     let last = c.pop.ensures.items ∙ ap (λ o. c.pop.new.self.items ++ option_to_list o) c.in-Some.is in
-    let new = crew.each 0 c.in-Some.pass (one_of c.in_ok-arena.passes.items c.pop.new.self.items c.in-Some.pass crew.long last) in
-    (rw c.in_ok-arena.ensures.1 new.pass, ap (hand c.in-Some.pass.caller) new.seen)
+    let new = crew.each 0 c.in-Some.pass (one_of c.in_ok-arena.passes.items c.pop.new.self.items c.in-Some.pass (crew.long ∙ start.1) last) in
+    (new.pass, ap (hand c.in-Some.pass.caller) new.seen)
