@@ -8,7 +8,7 @@
 
 #include "ks.h"
 
-enum { CALLERS = 4, CALLS = 2000, KEYS = 96, NODES = 256, MANY = 1025 };
+enum { CALLERS = 4, CALLS = 25000, KEYS = 96, NODES = 256, MANY = 1025 };
 
 enum kind { PUT, GET, DEL, ADD, SWAP };
 

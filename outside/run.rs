@@ -118,7 +118,7 @@ mod ks {
 use ks::{Caller, Reply};
 
 const CALLERS: usize = 4;
-const CALLS: usize = 2000;
+const CALLS: usize = 25000;
 const KEYS: u64 = 96;
 const NODES: u32 = 256;
 
