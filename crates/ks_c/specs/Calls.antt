@@ -1,5 +1,5 @@
 -- What the functions that C calls ask and tell of a handle.
-use Rattle.std.specs.Prelude.{ℕ, ◌≡◌, List, All, Option, Some, None, Result}
+use Rattle.std.specs.Prelude.{ℕ, ◌≡◌, ◌≢◌, ◌≤◌, List, All, Any, Option, Some, None, Result, slice_index_or}
 use Rattle.std_alloc.specs.Arc.{arc_value}
 use Rattle.ks_history.specs.declared.Op.{Op}
 use Rattle.ks_history.specs.Done.{link_move}
@@ -61,3 +61,15 @@ AreOpen hs = All (λ h. IsOpen h.inside) hs
 abbrev pub HasClosed : Option Caller → ℕ → Type 0
 HasClosed None code = code ≡ 16
 HasClosed (Some c) code = code ≡ 0
+
+-- so many nodes and callers a dictionary may have
+abbrev pub IsSize : ℕ → ℕ → Type 0
+IsSize nodes callers = (4 ≤ nodes) × (nodes ≤ 1048576) × (1 ≤ callers) × (callers ≤ 1024)
+
+-- one of the handles is open
+abbrev pub IsAnyOpen : List Handle → Type 0
+IsAnyOpen hs = Any (λ h. h.inside ≢ None) hs
+
+-- behind each handle is what was behind it before
+abbrev pub AreAsBefore : List Handle → List Handle → Type 0
+AreAsBefore hs ks = (i : ℕ) (d : Handle) → (slice_index_or ks i d).inside ≡ (slice_index_or hs i d).inside

@@ -1,6 +1,6 @@
 //! How a dictionary is opened for C, and how it ends.
-ghost use Rattle.std.specs.Prelude.{◌≡◌, ◌≤◌, length, All, IfOk, None};
-ghost use Rattle.ks_c.specs.Calls.{AreHandles, AreOpen, HasClosed, IsReady};
+ghost use Rattle.std.specs.Prelude.{◌≡◌, ◌≢◌, ◌↔◌, ◌≤◌, length, All, IfOk, None, true, false};
+ghost use Rattle.ks_c.specs.Calls.{AreAsBefore, AreHandles, AreOpen, HasClosed, IsAnyOpen, IsReady, IsSize};
 
 use crate::answers::{BAD_SIZE, CLOSED, IN_USE, NO_MEMORY, NOTHING};
 use crate::caller::{Caller, Nodes};
@@ -15,6 +15,8 @@ use std::sync::Arc;
 /// Whether a handle is open.
 fn is_open(alloc: Global, handle: &mut Handle) -> bool
     ensures same { handle.new.inside ≡ handle.old.inside }
+    ensures open { result ≡ true → handle.old.inside ≢ None }
+    ensures closed { result ≡ false → handle.old.inside ≡ None }
 {
     match mem::replace(handle, Handle::none()).into_box(alloc) {
         None => false,
@@ -30,6 +32,8 @@ fn is_any_open(alloc: Global, handles: &mut [Handle]) -> bool
     requires { AreHandles handles.old }
     ensures handles { AreHandles handles.new }
     ensures count { length handles.new ≡ length handles.old }
+    ensures open { (result ≡ true) ↔ IsAnyOpen handles.old }
+    ensures same { AreAsBefore handles.old handles.new }
 {
     for at in 0..handles.len() {
         if is_open(alloc, &mut handles[at]) {
@@ -83,7 +87,10 @@ fn hand_out(handles: &mut [Handle], mut boxes: Vec<Box<Caller>>)
 pub extern "C" fn ks_c_open(alloc: Global, nodes: u32, callers: &mut [Handle]) -> u32
     requires { AreHandles callers.old }
     ensures handles { AreHandles callers.new }
-    ensures opened { result ≡ 0 → AreOpen callers.new × (4 ≤ nodes) × (nodes ≤ 1048576) }
+    ensures opened { result ≡ NOTHING → AreOpen callers.new × (4 ≤ nodes) × (nodes ≤ 1048576) }
+    ensures in_use { (result ≡ IN_USE) ↔ (IsSize nodes (length callers.old) × IsAnyOpen callers.old) }
+    ensures same { result ≢ NOTHING → AreAsBefore callers.old callers.new }
+    ensures size { (result ≡ BAD_SIZE) ↔ ¬ IsSize nodes (length callers.old) }
 {
     let count = callers.len();
     if nodes < 4 || nodes > 1048576 || count < 1 || count > 1024 {
