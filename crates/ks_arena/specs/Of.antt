@@ -28,6 +28,13 @@ use Rattle.ks_arena.specs.Plays.{TellsFree}
 use Rattle.ks_arena.specs.Clauses.{AreShaped, Numbered, IsPass, IsPassWith, IsNote, IsNewCrew, IsCrew, IsReady, Matches, MayShape, Kept, KeptBut, KeptBesides, StillMatch, StillMatchBut, StillMatchBesides, HasLooked, TryTook, Took, TryClaimed, DidClaimIn, DidClaim, hand_of, mine_of, seen_of}
 
 module _ {N D : Type 0} where
+  -- whose pass it is; and of two passes, that both are of one caller
+  abbrev pub caller_of : Pass N D → ℕ
+  caller_of p = p.caller
+
+  abbrev pub SameCaller : Pass N D → Pass N D → Type 0
+  SameCaller p q = caller_of q ≡ caller_of p
+
   -- the pass holds the node
   abbrev pub Holds : Pass N D → ℕ → Type 0
   Holds p i = Has (hand_of p) i

@@ -3,7 +3,7 @@ ghost use Rattle.std.specs.Prelude.{◌≡◌, ◌+◌, ◌<◌, ◌≤◌};
 ghost use Rattle.ks_arena.specs.Rule.{free_words};
 ghost use Rattle.ks_arena.specs.declared.view.Mark.TheVariants.{Claiming};
 ghost use Rattle.ks_arena.specs.Clauses.{claim_mark, try_steps, word_steps, steps_alone};
-ghost use Rattle.ks_arena.specs.Of.{Holds, Looks, Keeps, WasAlone, HeldAlone, nodes_of, callers_of, IsNodeOf, IsPassOf, IsMarkedPassOf, HasTakenFrom, HasClaimedFrom, HasClaimedIn, TriedToClaim, TellsFreeOf, RestStays};
+ghost use Rattle.ks_arena.specs.Of.{Holds, Looks, Keeps, WasAlone, HeldAlone, nodes_of, callers_of, IsNodeOf, IsPassOf, IsMarkedPassOf, HasTakenFrom, HasClaimedFrom, HasClaimedIn, TriedToClaim, TellsFreeOf, RestStays, SameCaller, caller_of};
 
 use crate::arena::Arena;
 use crate::held::{Held, Pass};
@@ -25,7 +25,7 @@ impl<N: Node, D: Discipline> Arena<N, D> {
         requires node { IsNodeOf self.now node }
         requires fresh { ¬ Holds pass.old node }
         ensures pass { IsPassOf self.now pass.new }
-        ensures caller { pass.new.caller ≡ pass.old.caller }
+        ensures caller { SameCaller pass.old pass.new }
         ensures took { HasTakenFrom self.now node pass.old pass.new result }
         ensures rest { RestStays self.now pass.old pass.new }
     {
@@ -73,7 +73,7 @@ impl<N: Node, D: Discipline> Arena<N, D> {
     pub fn claim(&self, pass: &mut Pass<N, D>) -> Option<Held<N>>
         requires { IsPassOf self.now pass.old }
         ensures pass { IsPassOf self.now pass.new }
-        ensures caller { pass.new.caller ≡ pass.old.caller }
+        ensures caller { SameCaller pass.old pass.new }
         ensures claimed { HasClaimedFrom self.now pass.old pass.new result }
         ensures rest { RestStays self.now pass.old pass.new }
     {
@@ -86,7 +86,7 @@ impl<N: Node, D: Discipline> Arena<N, D> {
         requires parts { blank.parts ≡ L.parts }
         requires some { 0 < blank.parts }
         ensures pass { IsPassOf self.now pass.new }
-        ensures caller { pass.new.caller ≡ pass.old.caller }
+        ensures caller { SameCaller pass.old pass.new }
         ensures claimed { HasClaimedFrom self.now pass.old pass.new result }
         ensures rest { RestStays self.now pass.old pass.new }
     {
@@ -103,14 +103,14 @@ impl<N: Node, D: Discipline> Arena<N, D> {
     ) -> Option<Held<N>>
         requires { IsPassOf self.now pass.old }
         ensures pass { IsPassOf self.now pass.new }
-        ensures caller { pass.new.caller ≡ pass.old.caller }
+        ensures caller { SameCaller pass.old pass.new }
         ensures claimed { HasClaimedFrom self.now pass.old pass.new result }
         ensures rest { RestStays self.now pass.old pass.new }
         ensures cost { WasAlone pass.old pass.new → HeldAlone pass.old →
             steps.new ≡ steps.old + steps_alone (nodes_of self.now) result }
         ensures bound { WasAlone pass.old pass.new → HeldAlone pass.old →
             steps.new ≤ steps.old + free_words (nodes_of self.now) + 2 }
-        ensures one { callers_of self.now ≡ 1 → pass.old.caller ≡ 0 →
+        ensures one { callers_of self.now ≡ 1 → caller_of pass.old ≡ 0 →
             steps.new ≡ steps.old + steps_alone (nodes_of self.now) result }
     {
         sound_law::<D>();
@@ -132,7 +132,7 @@ impl<N: Node, D: Discipline> Arena<N, D> {
         requires pass { IsPassOf self.now pass.old }
         requires index { index < free_words (nodes_of self.now) }
         ensures pass { IsPassOf self.now pass.new }
-        ensures caller { pass.new.caller ≡ pass.old.caller }
+        ensures caller { SameCaller pass.old pass.new }
         ensures claimed { HasClaimedIn self.now index pass.old pass.new result }
         ensures kept { Keeps pass.old pass.new }
         ensures cost { WasAlone pass.old pass.new → HeldAlone pass.old → steps.new ≡ steps.old + word_steps result }
@@ -153,7 +153,7 @@ impl<N: Node, D: Discipline> Arena<N, D> {
         requires pass { IsPassOf self.now pass.old }
         requires index { index < free_words (nodes_of self.now) }
         ensures pass { IsPassOf self.now pass.new }
-        ensures caller { pass.new.caller ≡ pass.old.caller }
+        ensures caller { SameCaller pass.old pass.new }
         ensures looked { Looks pass.old pass.new }
         ensures told { TellsFreeOf self.now index pass.old pass.new result }
         ensures kept { Keeps pass.old pass.new }
@@ -174,7 +174,7 @@ impl<N: Node, D: Discipline> Arena<N, D> {
         requires pass { IsPassOf self.now pass.old }
         requires node { IsNodeOf self.now node }
         ensures pass { IsPassOf self.now pass.new }
-        ensures caller { pass.new.caller ≡ pass.old.caller }
+        ensures caller { SameCaller pass.old pass.new }
         ensures claimed { TriedToClaim self.now node pass.old pass.new result }
         ensures kept { Keeps pass.old pass.new }
         ensures cost { steps.new ≡ steps.old + try_steps result }
@@ -194,7 +194,7 @@ impl<N: Node, D: Discipline> Arena<N, D> {
         requires pass { IsPassOf self.now pass.old }
         requires node { IsNodeOf self.now node }
         ensures pass { IsMarkedPassOf self.now (claim_mark result) pass.new }
-        ensures caller { pass.new.caller ≡ pass.old.caller }
+        ensures caller { SameCaller pass.old pass.new }
         ensures claimed { TriedToClaim self.now node pass.old pass.new result }
         ensures kept { Keeps pass.old pass.new }
         ensures cost { steps.new ≡ steps.old + 1 }
@@ -225,7 +225,7 @@ impl<N: Node, D: Discipline> Arena<N, D> {
         requires pass { IsMarkedPassOf self.now (Claiming node) pass.old }
         requires holds { Holds pass.old node }
         ensures pass { IsPassOf self.now pass.new }
-        ensures caller { pass.new.caller ≡ pass.old.caller }
+        ensures caller { SameCaller pass.old pass.new }
         ensures looked { Looks pass.old pass.new }
         ensures rest { RestStays self.now pass.old pass.new }
         ensures cost { steps.new ≡ steps.old + 1 }

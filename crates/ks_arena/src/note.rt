@@ -2,7 +2,7 @@
 ghost use Rattle.std.specs.Prelude.{◌≡◌};
 ghost use Rattle.ks_history.specs.Trace.{◌⊑◌};
 ghost use Rattle.ks_arena.specs.Clauses.{noted, seen_of};
-ghost use Rattle.ks_arena.specs.Of.{Looks, IsPassOf, IsNoteFrom, RestStays};
+ghost use Rattle.ks_arena.specs.Of.{Looks, IsPassOf, IsNoteFrom, RestStays, SameCaller};
 
 use crate::arena::Arena;
 use crate::held::{Note, Pass};
@@ -16,7 +16,7 @@ impl<N: Node, D: Discipline> Arena<N, D> {
     pub fn note(&self, pass: &mut Pass<N, D>) -> Note<N, D>
         requires { IsPassOf self.now pass.old }
         ensures pass { IsPassOf self.now pass.new }
-        ensures caller { pass.new.caller ≡ pass.old.caller }
+        ensures caller { SameCaller pass.old pass.new }
         ensures seen { seen_of pass.new ≡ seen_of pass.old }
         ensures note { IsNoteFrom self.now result }
         ensures noted { noted result ≡ seen_of pass.old }
@@ -33,7 +33,7 @@ impl<N: Node, D: Discipline> Arena<N, D> {
         requires pass { IsPassOf self.now pass.old }
         requires note { IsNoteFrom self.now note }
         ensures pass { IsPassOf self.now pass.new }
-        ensures caller { pass.new.caller ≡ pass.old.caller }
+        ensures caller { SameCaller pass.old pass.new }
         ensures looked { Looks pass.old pass.new }
         ensures noted { noted note ⊑ seen_of pass.new }
         ensures rest { RestStays self.now pass.old pass.new }

@@ -4,7 +4,7 @@ ghost use Rattle.ks_arena.specs.declared.view.Mark.TheVariants.{Freeing};
 ghost use Rattle.ks_history.specs.Trace.{drop_one};
 ghost use Rattle.ks_history.specs.declared.Event.TheVariants.{Call, Give, Shape};
 ghost use Rattle.ks_arena.specs.Clauses.{give_mark, hand_of, mine_of, AllAmong, EachOnce, changes_of};
-ghost use Rattle.ks_arena.specs.Of.{Holds, Adds, HasDecided, HasShaped, Looks, KeepsBut, IsPassOf, IsMarkedPassOf, IsCurrent, TriedToTake, IsReadyAt, AreCurrent, MayBecome, nodes_of, IsNodeOf, RestStays, RestStaysBut};
+ghost use Rattle.ks_arena.specs.Of.{Holds, Adds, HasDecided, HasShaped, Looks, KeepsBut, IsPassOf, IsMarkedPassOf, IsCurrent, TriedToTake, IsReadyAt, AreCurrent, MayBecome, nodes_of, IsNodeOf, RestStays, RestStaysBut, SameCaller, caller_of};
 
 use crate::arena::Arena;
 use crate::held::{Held, Pass, Taken};
@@ -29,7 +29,7 @@ impl<N: Node, D: Discipline> Arena<N, D> {
         requires node { IsNodeOf self.now node }
         requires fresh { ¬ Holds pass.old node }
         ensures pass { IsPassOf self.now pass.new }
-        ensures caller { pass.new.caller ≡ pass.old.caller }
+        ensures caller { SameCaller pass.old pass.new }
         ensures took { TriedToTake self.now node pass.old pass.new result }
         ensures rest { RestStays self.now pass.old pass.new }
     {
@@ -64,10 +64,10 @@ impl<N: Node, D: Discipline> Arena<N, D> {
         requires holds { Holds pass.old held.node }
         requires body { IsCurrent self.now pass.old held }
         ensures pass { IsPassOf self.now pass.new }
-        ensures caller { pass.new.caller ≡ pass.old.caller }
-        ensures gave { Adds (Give pass.old.caller held.node) pass.old pass.new }
+        ensures caller { SameCaller pass.old pass.new }
+        ensures gave { Adds (Give (caller_of pass.old) held.node) pass.old pass.new }
         ensures hand { hand_of pass.new ≡ drop_one held.node (hand_of pass.old) }
-        ensures mine { mine_of pass.new ≡ Give pass.old.caller held.node ∷ mine_of pass.old }
+        ensures mine { mine_of pass.new ≡ Give (caller_of pass.old) held.node ∷ mine_of pass.old }
         ensures rest { RestStaysBut self.now held.node pass.old pass.new }
     {
         if held.live {
@@ -85,7 +85,7 @@ impl<N: Node, D: Discipline> Arena<N, D> {
         requires pass { IsPassOf self.now pass.old }
         requires holds { Holds pass.old node }
         ensures pass { IsMarkedPassOf self.now (Freeing node) pass.new }
-        ensures caller { pass.new.caller ≡ pass.old.caller }
+        ensures caller { SameCaller pass.old pass.new }
         ensures looked { Looks pass.old pass.new }
         ensures rest { RestStays self.now pass.old pass.new }
     {
@@ -102,10 +102,10 @@ impl<N: Node, D: Discipline> Arena<N, D> {
         requires holds { Holds pass.old held.node }
         requires body { IsCurrent self.now pass.old held }
         ensures pass { IsPassOf self.now pass.new }
-        ensures caller { pass.new.caller ≡ pass.old.caller }
-        ensures gave { Adds (Give pass.old.caller held.node) pass.old pass.new }
+        ensures caller { SameCaller pass.old pass.new }
+        ensures gave { Adds (Give (caller_of pass.old) held.node) pass.old pass.new }
         ensures hand { hand_of pass.new ≡ drop_one held.node (hand_of pass.old) }
-        ensures mine { mine_of pass.new ≡ Give pass.old.caller held.node ∷ mine_of pass.old }
+        ensures mine { mine_of pass.new ≡ Give (caller_of pass.old) held.node ∷ mine_of pass.old }
         ensures kept { KeepsBut held.node pass.old pass.new }
     {
         let Held { node, body, live } = held;
@@ -126,7 +126,7 @@ impl<N: Node, D: Discipline> Arena<N, D> {
         requires holds { Holds pass.old held.now.node }
         requires ready { IsReadyAt self.now pass.old held.now op reply }
         ensures pass { IsPassOf self.now pass.new }
-        ensures caller { pass.new.caller ≡ pass.old.caller }
+        ensures caller { SameCaller pass.old pass.new }
         ensures decided { HasDecided self.now held.now op reply pass.old pass.new result }
         ensures body { IsCurrent self.now pass.new held.now }
     {
@@ -134,12 +134,12 @@ impl<N: Node, D: Discipline> Arena<N, D> {
     }
 
     fn count<W: Said>(&self, pass: &mut Pass<N, D>, held: &Held<N>, op: Op, reply: Reply) -> u64
-        requires said { W.event ≡ Call pass.old.caller held.now.node op reply }
+        requires said { W.event ≡ Call (caller_of pass.old) held.now.node op reply }
         requires pass { IsPassOf self.now pass.old }
         requires holds { Holds pass.old held.now.node }
         requires ready { IsReadyAt self.now pass.old held.now op reply }
         ensures pass { IsPassOf self.now pass.new }
-        ensures caller { pass.new.caller ≡ pass.old.caller }
+        ensures caller { SameCaller pass.old pass.new }
         ensures decided { HasDecided self.now held.now op reply pass.old pass.new result }
         ensures body { IsCurrent self.now pass.new held.now }
     {
@@ -163,7 +163,7 @@ impl<N: Node, D: Discipline> Arena<N, D> {
         requires once { EachOnce (changes_of N.body first.now second third) }
         requires may { MayBecome self.now pass.old (changes_of N.body first.now second third) }
         ensures pass { IsPassOf self.now pass.new }
-        ensures caller { pass.new.caller ≡ pass.old.caller }
+        ensures caller { SameCaller pass.old pass.new }
         ensures shaped { HasShaped self.now (changes_of N.body first.now second.entry third.entry) pass.old pass.new }
         ensures bodies { AreCurrent self.now pass.new first.now second.entry third.entry }
     {
@@ -177,13 +177,13 @@ impl<N: Node, D: Discipline> Arena<N, D> {
         second: Option<&'a Held<N>>,
         third: Option<&'a Held<N>>,
     )
-        requires said { W.event ≡ Shape pass.old.caller (changes_of N.body first.now second third) }
+        requires said { W.event ≡ Shape (caller_of pass.old) (changes_of N.body first.now second third) }
         requires pass { IsPassOf self.now pass.old }
         requires holds { AllAmong (hand_of pass.old) (changes_of N.body first.now second third) }
         requires once { EachOnce (changes_of N.body first.now second third) }
         requires may { MayBecome self.now pass.old (changes_of N.body first.now second third) }
         ensures pass { IsPassOf self.now pass.new }
-        ensures caller { pass.new.caller ≡ pass.old.caller }
+        ensures caller { SameCaller pass.old pass.new }
         ensures shaped { HasShaped self.now (changes_of N.body first.now second.entry third.entry) pass.old pass.new }
         ensures bodies { AreCurrent self.now pass.new first.now second.entry third.entry }
     {

@@ -1,7 +1,7 @@
 //! All nodes of an arena of several free words are claimed.
 ghost use Rattle.std.specs.Prelude.{◌≡◌, ◌<◌, ◌≤◌};
 ghost use Rattle.ks_arena.specs.Clauses.{hand_of};
-ghost use Rattle.ks_arena.specs.Of.{IsPassOf, StayCurrent, callers_of, nodes_of};
+ghost use Rattle.ks_arena.specs.Of.{IsPassOf, StayCurrent, callers_of, nodes_of, SameCaller, caller_of};
 
 use crate::claim_of_many;
 use ks_arena::{Arena, Pass, Steps};
@@ -22,10 +22,10 @@ fn claim_from<N: Node, D: Discipline, L: Ledger>(
 ) -> bool
     requires pass { IsPassOf arena.now pass.old }
     requires size { nodes_of arena.now ≡ 200 }
-    requires alone { (callers_of arena.now ≡ 1) × (pass.old.caller ≡ 0) }
+    requires alone { (callers_of arena.now ≡ 1) × (caller_of pass.old ≡ 0) }
     requires next { next ≤ 200 }
     ensures pass { IsPassOf arena.now pass.new }
-    ensures caller { pass.new.caller ≡ pass.old.caller }
+    ensures caller { SameCaller pass.old pass.new }
     ensures hand { hand_of pass.new ≡ hand_of pass.old }
     ensures still { StayCurrent arena.now pass.old pass.new }
 {
@@ -45,7 +45,7 @@ fn claim_all<N: Node, D: Discipline, L: Ledger>(
 ) -> bool
     requires pass { IsPassOf arena.now pass.old }
     requires size { nodes_of arena.now ≡ 200 }
-    requires alone { (callers_of arena.now ≡ 1) × (pass.old.caller ≡ 0) }
+    requires alone { (callers_of arena.now ≡ 1) × (caller_of pass.old ≡ 0) }
     requires name { blank.name ≡ L.name }
     requires parts { blank.parts ≡ L.parts }
     requires some { 0 < blank.parts }

@@ -3,7 +3,7 @@ ghost use Rattle.std.specs.Prelude.{◌≡◌, ◌++◌};
 ghost use Rattle.ks_history.specs.Map.{told};
 ghost use Rattle.ks_arena.specs.Clauses.{mine_of};
 ghost use Rattle.ks_arena_tests.specs.Gets.{get_events};
-ghost use Rattle.ks_arena.specs.Of.{IsEmptyPassOf};
+ghost use Rattle.ks_arena.specs.Of.{IsEmptyPassOf, SameCaller, caller_of};
 
 use ks_arena::laws::root_stays_law;
 use ks_arena::{Arena, Pass, root_law};
@@ -42,8 +42,8 @@ pub fn get_at_root<N: Node, D: Discipline, R: Wait>(
 ) -> GetOutcome
     requires pass { IsEmptyPassOf arena.now pass.old }
     ensures pass { IsEmptyPassOf arena.now pass.new }
-    ensures caller { pass.new.caller ≡ pass.old.caller }
-    ensures mine { mine_of pass.new ≡ get_events pass.old.caller place result ++ mine_of pass.old }
+    ensures caller { SameCaller pass.old pass.new }
+    ensures mine { mine_of pass.new ≡ get_events (caller_of pass.old) place result ++ mine_of pass.old }
 {
     root_stays_law::<D>();
     let Some(held) = arena.take(rt, pass, 0) else {
@@ -70,8 +70,8 @@ pub fn look_up<N: Node, D: Discipline, R: Wait>(
     place: u64,
 ) -> (Pass<N, D>, GetOutcome)
     requires { IsEmptyPassOf arena.now pass }
-    ensures pass { IsEmptyPassOf arena.now result.0 × (result.0.caller ≡ pass.caller) }
-    ensures mine { mine_of result.0 ≡ get_events pass.caller place result.1 ++ mine_of pass }
+    ensures pass { IsEmptyPassOf arena.now result.0 × SameCaller pass result.0 }
+    ensures mine { mine_of result.0 ≡ get_events (caller_of pass) place result.1 ++ mine_of pass }
 {
     let outcome = get_at_root(rt, arena, &mut pass, place);
     (pass, outcome)
@@ -90,22 +90,22 @@ pub fn both_get<R: Threads + Wait + Sync>(
 )
     requires one { IsEmptyPassOf arena.now one }
     requires two { IsEmptyPassOf arena.now two }
-    ensures one { IsEmptyPassOf arena.now result.0.0 × (result.0.0.caller ≡ one.caller) }
-    ensures two { IsEmptyPassOf arena.now result.1.0 × (result.1.0.caller ≡ two.caller) }
-    ensures events_of_one { mine_of result.0.0 ≡ get_events one.caller place result.0.1 ++ mine_of one }
-    ensures events_of_two { mine_of result.1.0 ≡ get_events two.caller place result.1.1 ++ mine_of two }
+    ensures one { IsEmptyPassOf arena.now result.0.0 × SameCaller one result.0.0 }
+    ensures two { IsEmptyPassOf arena.now result.1.0 × SameCaller two result.1.0 }
+    ensures events_of_one { mine_of result.0.0 ≡ get_events (caller_of one) place result.0.1 ++ mine_of one }
+    ensures events_of_two { mine_of result.1.0 ≡ get_events (caller_of two) place result.1.1 ++ mine_of two }
 {
     join(
         rt,
         move || -> (Pass<ListNode, Tree>, GetOutcome)
             requires { IsEmptyPassOf arena.now one }
-            ensures pass { IsEmptyPassOf arena.entry.now result.0 × (result.0.caller ≡ one.caller) }
-            ensures mine { mine_of result.0 ≡ get_events one.caller place result.1 ++ mine_of one }
+            ensures pass { IsEmptyPassOf arena.entry.now result.0 × SameCaller one result.0 }
+            ensures mine { mine_of result.0 ≡ get_events (caller_of one) place result.1 ++ mine_of one }
         { look_up(rt, arena, one, place) },
         move || -> (Pass<ListNode, Tree>, GetOutcome)
             requires { IsEmptyPassOf arena.now two }
-            ensures pass { IsEmptyPassOf arena.entry.now result.0 × (result.0.caller ≡ two.caller) }
-            ensures mine { mine_of result.0 ≡ get_events two.caller place result.1 ++ mine_of two }
+            ensures pass { IsEmptyPassOf arena.entry.now result.0 × SameCaller two result.0 }
+            ensures mine { mine_of result.0 ≡ get_events (caller_of two) place result.1 ++ mine_of two }
         { look_up(rt, arena, two, place) },
     )
 }

@@ -5,7 +5,7 @@ ghost use Rattle.std.specs.Prelude.{◌≡◌, ◌∷◌, ◌++◌};
 ghost use Rattle.ks_history.specs.declared.Event.TheVariants.{Take, Give};
 ghost use Rattle.ks_arena.specs.Clauses.{hand_of, mine_of, seen_of};
 ghost use Rattle.ks_arena_tests.specs.Turns.{met_events, IsMetDue, claim_events, IsClaimDue};
-ghost use Rattle.ks_arena.specs.Of.{Holds, IsPassOf, IsEmptyPassOf, IsNodeOf, nodes_of};
+ghost use Rattle.ks_arena.specs.Of.{Holds, IsPassOf, IsEmptyPassOf, IsNodeOf, nodes_of, SameCaller, caller_of};
 
 mod gets;
 mod many;
@@ -34,8 +34,8 @@ pub enum Claimed {
 pub fn claim_two<N: Node, D: Discipline>(arena: &Arena<N, D>, pass: &mut Pass<N, D>) -> Claimed
     requires { IsEmptyPassOf arena.now pass.old }
     ensures pass { IsEmptyPassOf arena.now pass.new }
-    ensures caller { pass.new.caller ≡ pass.old.caller }
-    ensures mine { mine_of pass.new ≡ claim_events pass.old.caller result ++ mine_of pass.old }
+    ensures caller { SameCaller pass.old pass.new }
+    ensures mine { mine_of pass.new ≡ claim_events (caller_of pass.old) result ++ mine_of pass.old }
     ensures due { IsClaimDue (nodes_of arena.now) (seen_of pass.old) (seen_of pass.new) result }
 {
     let Some(first) = arena.claim(pass) else {
@@ -66,9 +66,9 @@ pub fn meet<N: Node, D: Discipline>(arena: &Arena<N, D>, pass: &mut Pass<N, D>, 
     requires node { IsNodeOf arena.now node }
     requires fresh { ¬ Holds pass.old node }
     ensures pass { IsPassOf arena.now pass.new }
-    ensures caller { pass.new.caller ≡ pass.old.caller }
+    ensures caller { SameCaller pass.old pass.new }
     ensures hand { hand_of pass.new ≡ hand_of pass.old }
-    ensures mine { mine_of pass.new ≡ met_events pass.old.caller node result ++ mine_of pass.old }
+    ensures mine { mine_of pass.new ≡ met_events (caller_of pass.old) node result ++ mine_of pass.old }
     ensures due { IsMetDue node (seen_of pass.new) result }
 {
     match arena.try_take(pass, node) {
@@ -89,8 +89,8 @@ pub fn pass_through<N: Node, D: Discipline, R: Wait>(
 )
     requires { IsEmptyPassOf arena.now pass.old }
     ensures pass { IsEmptyPassOf arena.now pass.new }
-    ensures caller { pass.new.caller ≡ pass.old.caller }
-    ensures mine { mine_of pass.new ≡ Give pass.old.caller 0 ∷ Take pass.old.caller 0 ∷ mine_of pass.old }
+    ensures caller { SameCaller pass.old pass.new }
+    ensures mine { mine_of pass.new ≡ Give (caller_of pass.old) 0 ∷ Take (caller_of pass.old) 0 ∷ mine_of pass.old }
 {
     root_stays_law::<D>();
     match arena.take(rt, pass, 0) {
@@ -106,8 +106,8 @@ pub fn visit<N: Node, D: Discipline, R: Wait>(
     mut pass: Pass<N, D>,
 ) -> Pass<N, D>
     requires { IsEmptyPassOf arena.now pass }
-    ensures pass { IsEmptyPassOf arena.now result × (result.caller ≡ pass.caller) }
-    ensures mine { mine_of result ≡ Give pass.caller 0 ∷ Take pass.caller 0 ∷ mine_of pass }
+    ensures pass { IsEmptyPassOf arena.now result × SameCaller pass result }
+    ensures mine { mine_of result ≡ Give (caller_of pass) 0 ∷ Take (caller_of pass) 0 ∷ mine_of pass }
 {
     pass_through(rt, arena, &mut pass);
     pass
@@ -122,22 +122,22 @@ pub fn both<R: Threads + Wait + Sync>(
 ) -> (Pass<ListNode, Tree>, Pass<ListNode, Tree>)
     requires one { IsEmptyPassOf arena.now one }
     requires two { IsEmptyPassOf arena.now two }
-    ensures one { IsEmptyPassOf arena.now result.0 × (result.0.caller ≡ one.caller) }
-    ensures two { IsEmptyPassOf arena.now result.1 × (result.1.caller ≡ two.caller) }
-    ensures events_of_one { mine_of result.0 ≡ Give one.caller 0 ∷ Take one.caller 0 ∷ mine_of one }
-    ensures events_of_two { mine_of result.1 ≡ Give two.caller 0 ∷ Take two.caller 0 ∷ mine_of two }
+    ensures one { IsEmptyPassOf arena.now result.0 × SameCaller one result.0 }
+    ensures two { IsEmptyPassOf arena.now result.1 × SameCaller two result.1 }
+    ensures events_of_one { mine_of result.0 ≡ Give (caller_of one) 0 ∷ Take (caller_of one) 0 ∷ mine_of one }
+    ensures events_of_two { mine_of result.1 ≡ Give (caller_of two) 0 ∷ Take (caller_of two) 0 ∷ mine_of two }
 {
     join(
         rt,
         move || -> Pass<ListNode, Tree>
             requires { IsEmptyPassOf arena.now one }
-            ensures pass { IsEmptyPassOf arena.entry.now result × (result.caller ≡ one.caller) }
-            ensures mine { mine_of result ≡ Give one.caller 0 ∷ Take one.caller 0 ∷ mine_of one }
+            ensures pass { IsEmptyPassOf arena.entry.now result × SameCaller one result }
+            ensures mine { mine_of result ≡ Give (caller_of one) 0 ∷ Take (caller_of one) 0 ∷ mine_of one }
         { visit(rt, arena, one) },
         move || -> Pass<ListNode, Tree>
             requires { IsEmptyPassOf arena.now two }
-            ensures pass { IsEmptyPassOf arena.entry.now result × (result.caller ≡ two.caller) }
-            ensures mine { mine_of result ≡ Give two.caller 0 ∷ Take two.caller 0 ∷ mine_of two }
+            ensures pass { IsEmptyPassOf arena.entry.now result × SameCaller two result }
+            ensures mine { mine_of result ≡ Give (caller_of two) 0 ∷ Take (caller_of two) 0 ∷ mine_of two }
         { visit(rt, arena, two) },
     )
 }

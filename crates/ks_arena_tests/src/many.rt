@@ -1,6 +1,6 @@
 //! A claim in an arena of several free words, with its steps counted.
 ghost use Rattle.std.specs.Prelude.{◌≡◌, ◌+◌, ◌≤◌, None};
-ghost use Rattle.ks_arena.specs.Of.{IsPassOf, HasClaimedFrom, RestStays, callers_of, nodes_of};
+ghost use Rattle.ks_arena.specs.Of.{IsPassOf, HasClaimedFrom, RestStays, callers_of, nodes_of, SameCaller, caller_of};
 
 use ks_arena::{Arena, Held, Pass, Steps};
 use ks_flow::Discipline;
@@ -16,9 +16,9 @@ pub fn claim_of_many<N: Node, D: Discipline, L: Ledger>(
 ) -> Option<Held<N>>
     requires pass { IsPassOf arena.now pass.old }
     requires size { nodes_of arena.now ≡ 200 }
-    requires alone { (callers_of arena.now ≡ 1) × (pass.old.caller ≡ 0) }
+    requires alone { (callers_of arena.now ≡ 1) × (caller_of pass.old ≡ 0) }
     ensures pass { IsPassOf arena.now pass.new }
-    ensures caller { pass.new.caller ≡ pass.old.caller }
+    ensures caller { SameCaller pass.old pass.new }
     ensures claimed { HasClaimedFrom arena.now pass.old pass.new result }
     ensures rest { RestStays arena.now pass.old pass.new }
     ensures cost { steps.new ≤ steps.old + 6 }

@@ -5,7 +5,7 @@ ghost use Rattle.ks_history.specs.Trace.{calls_by, calls_of};
 ghost use Rattle.ks_node.specs.Keyed.{Ascends};
 ghost use Rattle.ks_arena.specs.Clauses.{mine_of, seen_of};
 ghost use Rattle.ks_arena_tests.specs.Puts.{put_events, put_calls, IsPutDue, calls_from};
-ghost use Rattle.ks_arena.specs.Of.{IsEmptyPassOf};
+ghost use Rattle.ks_arena.specs.Of.{IsEmptyPassOf, SameCaller, caller_of};
 
 use ks_arena::laws::root_stays_law;
 use ks_arena::{Arena, Pass, root_law};
@@ -48,10 +48,10 @@ pub fn put_at_root<N: Node, D: Discipline, R: Wait>(
     requires unranged { N.ranged ≡ false }
     requires pass { IsEmptyPassOf arena.now pass.old }
     ensures pass { IsEmptyPassOf arena.now pass.new }
-    ensures caller { pass.new.caller ≡ pass.old.caller }
-    ensures mine { mine_of pass.new ≡ put_events pass.old.caller place value result ++ mine_of pass.old }
-    ensures calls { calls_by pass.old.caller (seen_of pass.new)
-        ≡ calls_by pass.old.caller (seen_of pass.old) ++ put_calls place value result }
+    ensures caller { SameCaller pass.old pass.new }
+    ensures mine { mine_of pass.new ≡ put_events (caller_of pass.old) place value result ++ mine_of pass.old }
+    ensures calls { calls_by (caller_of pass.old) (seen_of pass.new)
+        ≡ calls_by (caller_of pass.old) (seen_of pass.old) ++ put_calls place value result }
     ensures due { IsPutDue N.layout place (seen_of pass.old) (seen_of pass.new) result }
 {
     root_stays_law::<D>();
@@ -84,9 +84,9 @@ pub fn put_four<R: Wait>(
 ) -> [PutOutcome; 4]
     requires { IsEmptyPassOf arena.now pass.old }
     ensures pass { IsEmptyPassOf arena.now pass.new }
-    ensures caller { pass.new.caller ≡ pass.old.caller }
-    ensures calls { calls_by pass.old.caller (seen_of pass.new)
-        ≡ calls_by pass.old.caller (seen_of pass.old) ++ calls_from pass.old.caller result }
+    ensures caller { SameCaller pass.old pass.new }
+    ensures calls { calls_by (caller_of pass.old) (seen_of pass.new)
+        ≡ calls_by (caller_of pass.old) (seen_of pass.old) ++ calls_from (caller_of pass.old) result }
 {
     let at = u64::from(pass.caller());
     let first = put_at_root(rt, arena, pass, at, u128::from(at));
@@ -105,11 +105,11 @@ pub fn work<R: Wait>(
 ) -> (Pass<ListNode, Tree>, [PutOutcome; 4])
     requires { IsEmptyPassOf arena.now pass }
     ensures pass { IsEmptyPassOf arena.now result.0 }
-    ensures caller { result.0.caller ≡ pass.caller }
-    ensures calls { calls_by pass.caller (seen_of result.0)
-        ≡ calls_by pass.caller (seen_of pass) ++ calls_from pass.caller result.1 }
+    ensures caller { SameCaller pass result.0 }
+    ensures calls { calls_by (caller_of pass) (seen_of result.0)
+        ≡ calls_by (caller_of pass) (seen_of pass) ++ calls_from (caller_of pass) result.1 }
     ensures ascend { length (calls_of (seen_of result.0)) < 2 ^ 64 →
-        Ascends (λ x. x.number) (calls_from pass.caller result.1) }
+        Ascends (λ x. x.number) (calls_from (caller_of pass) result.1) }
 {
     let outcomes = put_four(rt, arena, &mut pass);
     (pass, outcomes)
@@ -127,34 +127,34 @@ pub fn both_put<R: Threads + Wait + Sync>(
 )
     requires one { IsEmptyPassOf arena.now one }
     requires two { IsEmptyPassOf arena.now two }
-    ensures one { IsEmptyPassOf arena.now result.0.0 × (result.0.0.caller ≡ one.caller) }
-    ensures two { IsEmptyPassOf arena.now result.1.0 × (result.1.0.caller ≡ two.caller) }
-    ensures calls_of_one { calls_by one.caller (seen_of result.0.0)
-        ≡ calls_by one.caller (seen_of one) ++ calls_from one.caller result.0.1 }
-    ensures calls_of_two { calls_by two.caller (seen_of result.1.0)
-        ≡ calls_by two.caller (seen_of two) ++ calls_from two.caller result.1.1 }
+    ensures one { IsEmptyPassOf arena.now result.0.0 × SameCaller one result.0.0 }
+    ensures two { IsEmptyPassOf arena.now result.1.0 × SameCaller two result.1.0 }
+    ensures calls_of_one { calls_by (caller_of one) (seen_of result.0.0)
+        ≡ calls_by (caller_of one) (seen_of one) ++ calls_from (caller_of one) result.0.1 }
+    ensures calls_of_two { calls_by (caller_of two) (seen_of result.1.0)
+        ≡ calls_by (caller_of two) (seen_of two) ++ calls_from (caller_of two) result.1.1 }
     ensures one_ascends { length (calls_of (seen_of result.0.0)) < 2 ^ 64 →
-        Ascends (λ x. x.number) (calls_from one.caller result.0.1) }
+        Ascends (λ x. x.number) (calls_from (caller_of one) result.0.1) }
     ensures two_ascends { length (calls_of (seen_of result.1.0)) < 2 ^ 64 →
-        Ascends (λ x. x.number) (calls_from two.caller result.1.1) }
+        Ascends (λ x. x.number) (calls_from (caller_of two) result.1.1) }
 {
     join(
         rt,
         move || -> (Pass<ListNode, Tree>, [PutOutcome; 4])
             requires { IsEmptyPassOf arena.now one }
-            ensures pass { IsEmptyPassOf arena.entry.now result.0 × (result.0.caller ≡ one.caller) }
-            ensures calls { calls_by one.caller (seen_of result.0)
-                ≡ calls_by one.caller (seen_of one) ++ calls_from one.caller result.1 }
+            ensures pass { IsEmptyPassOf arena.entry.now result.0 × SameCaller one result.0 }
+            ensures calls { calls_by (caller_of one) (seen_of result.0)
+                ≡ calls_by (caller_of one) (seen_of one) ++ calls_from (caller_of one) result.1 }
             ensures ascend { length (calls_of (seen_of result.0)) < 2 ^ 64 →
-                Ascends (λ x. x.number) (calls_from one.caller result.1) }
+                Ascends (λ x. x.number) (calls_from (caller_of one) result.1) }
         { work(rt, arena, one) },
         move || -> (Pass<ListNode, Tree>, [PutOutcome; 4])
             requires { IsEmptyPassOf arena.now two }
-            ensures pass { IsEmptyPassOf arena.entry.now result.0 × (result.0.caller ≡ two.caller) }
-            ensures calls { calls_by two.caller (seen_of result.0)
-                ≡ calls_by two.caller (seen_of two) ++ calls_from two.caller result.1 }
+            ensures pass { IsEmptyPassOf arena.entry.now result.0 × SameCaller two result.0 }
+            ensures calls { calls_by (caller_of two) (seen_of result.0)
+                ≡ calls_by (caller_of two) (seen_of two) ++ calls_from (caller_of two) result.1 }
             ensures ascend { length (calls_of (seen_of result.0)) < 2 ^ 64 →
-                Ascends (λ x. x.number) (calls_from two.caller result.1) }
+                Ascends (λ x. x.number) (calls_from (caller_of two) result.1) }
         { work(rt, arena, two) },
     )
 }

@@ -1,5 +1,5 @@
 ghost use Rattle.std.specs.Prelude.{◌≡◌, [], ◌∷◌, IfOk, false};
-ghost use Rattle.ks_arena.specs.Of.{IsEmptyPassOf, callers_of, nodes_of};
+ghost use Rattle.ks_arena.specs.Of.{IsEmptyPassOf, callers_of, nodes_of, caller_of};
 
 use crate::{GetOutcome, Met, PutOutcome, both, both_get, both_put, meet, put_at_root};
 use ks_arena::{Arena, Pass};
@@ -15,8 +15,8 @@ type Caller = Pass<ListNode, Tree>;
 /// An arena of four list nodes, and the passes of callers 0 and 1.
 fn two_callers(alloc: Global) -> Result<(Lists, Caller, Caller), AllocError>
     ensures nodes { IfOk result (λ x. (nodes_of x.0 ≡ 4) × (callers_of x.0 ≡ 2)) }
-    ensures one { IfOk result (λ x. IsEmptyPassOf x.0 x.1 × (x.1.caller ≡ 0)) }
-    ensures two { IfOk result (λ x. IsEmptyPassOf x.0 x.2 × (x.2.caller ≡ 1)) }
+    ensures one { IfOk result (λ x. IsEmptyPassOf x.0 x.1 × (caller_of x.1 ≡ 0)) }
+    ensures two { IfOk result (λ x. IsEmptyPassOf x.0 x.2 × (caller_of x.2 ≡ 1)) }
 {
     let (arena, mut passes) = Lists::start(alloc, 4, 2)?;
     let Some(two) = passes.pop() else {

@@ -4,7 +4,7 @@ ghost use Rattle.ks_history.specs.declared.Op.TheVariants.{Add, Del, Get, Put, S
 ghost use Rattle.ks_history.specs.Map.{told};
 ghost use Rattle.ks_history.specs.Done.{coupling};
 ghost use Rattle.ks_shape.specs.Answers.{number_in, reply_in};
-ghost use Rattle.ks_arena.specs.Of.{IsEmptyPassOf, WasAlone};
+ghost use Rattle.ks_arena.specs.Of.{IsEmptyPassOf, WasAlone, SameCaller};
 ghost use Rattle.ks_shape.specs.Of.{DoneOf};
 ghost use Rattle.ks_tidy.specs.Of.{IsTidyOf};
 
@@ -28,7 +28,7 @@ pub fn get<N: Unlinked, R: Wait, G: Gate>(
 ) -> Numbered
     requires pass { IsEmptyPassOf arena.now pass.old }
     ensures pass { IsEmptyPassOf arena.now pass.new }
-    ensures caller { pass.new.caller ≡ pass.old.caller }
+    ensures caller { SameCaller pass.old pass.new }
     ensures done { DoneOf arena.now coupling (Get place) pass.old pass.new (told result.found) result.number }
 {
     let held = find(rt, arena, pass, gate, place);
@@ -51,7 +51,7 @@ pub fn put<N: Unlinked, R: Wait, G: Gate>(
 ) -> Result<Numbered, Full>
     requires pass { IsEmptyPassOf arena.now pass.old }
     ensures pass { IsEmptyPassOf arena.now pass.new }
-    ensures caller { pass.new.caller ≡ pass.old.caller }
+    ensures caller { SameCaller pass.old pass.new }
     ensures done { DoneOf arena.now coupling (Put place value) pass.old pass.new (reply_in result) (number_in result) }
 {
     gate.at(pass.caller(), Point::Begin);
@@ -74,7 +74,7 @@ pub fn add<N: Unlinked, R: Wait, G: Gate>(
 ) -> Result<Numbered, Full>
     requires pass { IsEmptyPassOf arena.now pass.old }
     ensures pass { IsEmptyPassOf arena.now pass.new }
-    ensures caller { pass.new.caller ≡ pass.old.caller }
+    ensures caller { SameCaller pass.old pass.new }
     ensures done { DoneOf arena.now coupling (Add place value) pass.old pass.new (reply_in result) (number_in result) }
 {
     gate.at(pass.caller(), Point::Begin);
@@ -94,7 +94,7 @@ pub fn swap<N: Unlinked, R: Wait, G: Gate>(
 ) -> Numbered
     requires pass { IsEmptyPassOf arena.now pass.old }
     ensures pass { IsEmptyPassOf arena.now pass.new }
-    ensures caller { pass.new.caller ≡ pass.old.caller }
+    ensures caller { SameCaller pass.old pass.new }
     ensures done { DoneOf arena.now coupling (Swap place old new) pass.old pass.new (told result.found) result.number }
 {
     let held = find(rt, arena, pass, gate, place);
@@ -112,7 +112,7 @@ pub fn del<N: Unlinked, R: Wait, G: Gate>(
 ) -> Numbered
     requires pass { IsEmptyPassOf arena.now pass.old }
     ensures pass { IsEmptyPassOf arena.now pass.new }
-    ensures caller { pass.new.caller ≡ pass.old.caller }
+    ensures caller { SameCaller pass.old pass.new }
     ensures done { DoneOf arena.now coupling (Del place) pass.old pass.new (told result.found) result.number }
     ensures tidy { result.found ≢ None → WasAlone pass.old pass.new → IsTidyOf arena.now pass.new place }
 {

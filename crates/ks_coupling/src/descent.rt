@@ -3,7 +3,7 @@ ghost use Rattle.std.specs.Prelude.{◌≡◌};
 ghost use Rattle.ks_history.specs.Done.{coupling};
 ghost use Rattle.ks_node.specs.declared.start.Next.TheVariants.{Go};
 ghost use Rattle.ks_node.specs.Body.{next_at};
-ghost use Rattle.ks_arena.specs.Of.{IsPassOf, IsEmptyPassOf};
+ghost use Rattle.ks_arena.specs.Of.{IsPassOf, IsEmptyPassOf, SameCaller, caller_of};
 ghost use Rattle.ks_shape.specs.Of.{IsUnderway, StaysUnderway, IsOnWayOf, SearchEndsAt};
 
 use ks_arena::{Arena, Held, Pass};
@@ -25,11 +25,11 @@ fn go_on<N: Unlinked, R: Wait, G: Gate>(
     child: u32,
 ) -> Held<N>
     requires pass { IsPassOf arena.now pass.old }
-    requires way { IsOnWayOf arena.now pass.old.caller place pass.old held }
+    requires way { IsOnWayOf arena.now (caller_of pass.old) place pass.old held }
     requires goes { next_at (N.body held.body) place ≡ Go child }
     ensures pass { IsPassOf arena.now pass.new }
-    ensures caller { pass.new.caller ≡ pass.old.caller }
-    ensures way { IsOnWayOf arena.now pass.old.caller place pass.new result }
+    ensures caller { SameCaller pass.old pass.new }
+    ensures way { IsOnWayOf arena.now (caller_of pass.old) place pass.new result }
     ensures under { StaysUnderway coupling pass.old pass.new }
 {
     let path = step_down(rt, arena, pass, gate, place, held, child);
@@ -46,7 +46,7 @@ pub(crate) fn find<N: Unlinked, R: Wait, G: Gate>(
 ) -> Held<N>
     requires pass { IsEmptyPassOf arena.now pass.old }
     ensures pass { IsPassOf arena.now pass.new }
-    ensures caller { pass.new.caller ≡ pass.old.caller }
+    ensures caller { SameCaller pass.old pass.new }
     ensures ends { SearchEndsAt arena.now place pass.new result }
     ensures under { IsUnderway coupling pass.old pass.new }
 {

@@ -1,7 +1,7 @@
 //! Compaction by lock coupling.
 ghost use Rattle.std.specs.Prelude.{◌≡◌};
 ghost use Rattle.ks_history.specs.Done.{coupling};
-ghost use Rattle.ks_arena.specs.Of.{IsEmptyPassOf};
+ghost use Rattle.ks_arena.specs.Of.{IsEmptyPassOf, SameCaller};
 ghost use Rattle.ks_tidy.specs.Compacts.{HasFreed, HasLeftBy, IsTightOf, WasUndisturbed};
 
 use crate::technique::Coupling;
@@ -21,7 +21,7 @@ pub fn compact<N: Unlinked, R: Wait, G: Gate>(
 ) -> u32
     requires pass { IsEmptyPassOf arena.now pass.old }
     ensures pass { IsEmptyPassOf arena.now pass.new }
-    ensures caller { pass.new.caller ≡ pass.old.caller }
+    ensures caller { SameCaller pass.old pass.new }
     ensures left { HasLeftBy coupling pass.old pass.new }
     ensures frees { HasFreed pass.old pass.new result }
     ensures tight { WasUndisturbed pass.old pass.new → IsTightOf arena.now pass.new }

@@ -2,7 +2,7 @@
 ghost use Rattle.std.specs.Prelude.{◌≡◌};
 ghost use Rattle.ks_history.specs.declared.Op.TheVariants.{Del, Get, Swap};
 ghost use Rattle.ks_history.specs.Done.{coupling};
-ghost use Rattle.ks_arena.specs.Of.{IsEmptyPassOf};
+ghost use Rattle.ks_arena.specs.Of.{IsEmptyPassOf, SameCaller};
 ghost use Rattle.ks_shape.specs.Of.{TriedOf};
 
 use crate::try_descent::try_find;
@@ -27,7 +27,7 @@ pub fn try_get<N: Unlinked, G: Gate>(
 ) -> Result<Numbered, Later>
     requires pass { IsEmptyPassOf arena.now pass.old }
     ensures pass { IsEmptyPassOf arena.now pass.new }
-    ensures caller { pass.new.caller ≡ pass.old.caller }
+    ensures caller { SameCaller pass.old pass.new }
     ensures tried { TriedOf arena.now coupling (Get place) pass.old pass.new result }
 {
     match try_find(arena, pass, gate, place) {
@@ -52,7 +52,7 @@ pub fn try_swap<N: Unlinked, G: Gate>(
 ) -> Result<Numbered, Later>
     requires pass { IsEmptyPassOf arena.now pass.old }
     ensures pass { IsEmptyPassOf arena.now pass.new }
-    ensures caller { pass.new.caller ≡ pass.old.caller }
+    ensures caller { SameCaller pass.old pass.new }
     ensures tried { TriedOf arena.now coupling (Swap place old new) pass.old pass.new result }
 {
     match try_find(arena, pass, gate, place) {
@@ -76,7 +76,7 @@ pub fn try_del<N: Unlinked, G: Gate>(
 ) -> Result<Numbered, Later>
     requires pass { IsEmptyPassOf arena.now pass.old }
     ensures pass { IsEmptyPassOf arena.now pass.new }
-    ensures caller { pass.new.caller ≡ pass.old.caller }
+    ensures caller { SameCaller pass.old pass.new }
     ensures tried { TriedOf arena.now coupling (Del place) pass.old pass.new result }
 {
     match try_find(arena, pass, gate, place) {

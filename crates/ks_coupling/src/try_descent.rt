@@ -3,7 +3,7 @@ ghost use Rattle.std.specs.Prelude.{◌≡◌};
 ghost use Rattle.ks_history.specs.Done.{coupling};
 ghost use Rattle.ks_node.specs.declared.start.Next.TheVariants.{Go};
 ghost use Rattle.ks_node.specs.Body.{next_at};
-ghost use Rattle.ks_arena.specs.Of.{IsPassOf, IsEmptyPassOf};
+ghost use Rattle.ks_arena.specs.Of.{IsPassOf, IsEmptyPassOf, SameCaller, caller_of};
 ghost use Rattle.ks_shape.specs.Of.{IsUnderway, StaysUnderway, IsOnWayOf};
 ghost use Rattle.ks_try.specs.Of.{StandsAtRoot, GoesDownFrom, CameToEnd};
 
@@ -24,7 +24,7 @@ fn try_enter<N: Unlinked, G: Gate>(
 ) -> Result<Held<N>, Later>
     requires pass { IsEmptyPassOf arena.now pass.old }
     ensures pass { IsPassOf arena.now pass.new }
-    ensures caller { pass.new.caller ≡ pass.old.caller }
+    ensures caller { SameCaller pass.old pass.new }
     ensures came { StandsAtRoot arena.now coupling place pass.old pass.new result }
     ensures under { IsUnderway coupling pass.old pass.new }
 {
@@ -51,10 +51,10 @@ fn try_go_on<N: Unlinked, G: Gate>(
     child: u32,
 ) -> Result<Held<N>, Later>
     requires pass { IsPassOf arena.now pass.old }
-    requires way { IsOnWayOf arena.now pass.old.caller place pass.old held }
+    requires way { IsOnWayOf arena.now (caller_of pass.old) place pass.old held }
     requires goes { next_at (N.body held.body) place ≡ Go child }
     ensures pass { IsPassOf arena.now pass.new }
-    ensures caller { pass.new.caller ≡ pass.old.caller }
+    ensures caller { SameCaller pass.old pass.new }
     ensures came { GoesDownFrom arena.now coupling place pass.old pass.new held result }
     ensures under { StaysUnderway coupling pass.old pass.new }
 {
@@ -88,7 +88,7 @@ pub(crate) fn try_find<N: Unlinked, G: Gate>(
 ) -> Result<Held<N>, Later>
     requires pass { IsEmptyPassOf arena.now pass.old }
     ensures pass { IsPassOf arena.now pass.new }
-    ensures caller { pass.new.caller ≡ pass.old.caller }
+    ensures caller { SameCaller pass.old pass.new }
     ensures came { CameToEnd arena.now coupling place pass.old pass.new result }
     ensures under { IsUnderway coupling pass.old pass.new }
 {

@@ -2,7 +2,7 @@
 ghost use Rattle.std.specs.Prelude.{◌≡◌};
 ghost use Rattle.ks_history.specs.declared.Op.TheVariants.{Add, Put};
 ghost use Rattle.ks_history.specs.Done.{coupling};
-ghost use Rattle.ks_arena.specs.Of.{IsEmptyPassOf};
+ghost use Rattle.ks_arena.specs.Of.{IsEmptyPassOf, SameCaller};
 ghost use Rattle.ks_shape.specs.Ends.{EndsPutOf, SplitsEvenly};
 ghost use Rattle.ks_shape.specs.Of.{TriedPutOf};
 
@@ -31,7 +31,7 @@ pub fn try_put<N: Unlinked, G: Gate>(
 ) -> Result<Numbered, PutLater>
     requires pass { IsEmptyPassOf arena.now pass.old }
     ensures pass { IsEmptyPassOf arena.now pass.new }
-    ensures caller { pass.new.caller ≡ pass.old.caller }
+    ensures caller { SameCaller pass.old pass.new }
     ensures ends { EndsPutOf arena.now coupling (Put place value) pass.old pass.new result }
     ensures tried { SplitsEvenly N.in_place N.halves_have_room →
         TriedPutOf arena.now coupling (Put place value) pass.old pass.new result }
@@ -55,7 +55,7 @@ pub fn try_add<N: Unlinked, G: Gate>(
 ) -> Result<Numbered, PutLater>
     requires pass { IsEmptyPassOf arena.now pass.old }
     ensures pass { IsEmptyPassOf arena.now pass.new }
-    ensures caller { pass.new.caller ≡ pass.old.caller }
+    ensures caller { SameCaller pass.old pass.new }
     ensures ends { EndsPutOf arena.now coupling (Add place value) pass.old pass.new result }
     ensures tried { SplitsEvenly N.in_place N.halves_have_room →
         TriedPutOf arena.now coupling (Add place value) pass.old pass.new result }

@@ -7,7 +7,7 @@ ghost use Rattle.ks_history.specs.Trace.{◌⊑◌};
 ghost use Rattle.ks_history.specs.Passes.{CallersBelow, GrowsByOthers};
 ghost use Rattle.ks_arena.specs.Sound.{sort_of, Sound};
 ghost use Rattle.ks_arena.specs.Clauses.{EndsAll, noted, seen_of};
-ghost use Rattle.ks_arena.specs.Of.{HeldAlone, WasAlone};
+ghost use Rattle.ks_arena.specs.Of.{HeldAlone, WasAlone, SameCaller, caller_of};
 ghost use Rattle.ks_shape.specs.Answers.{number_in, reply_in};
 ghost use Rattle.ks_shape.specs.Idle.{IsDone, IsIdle};
 ghost use Rattle.ks_shape.specs.Tries.{HasTried, HasTriedPut, IsDoneIn, MayTell, PutMayTell};
@@ -69,7 +69,7 @@ impl<N: Node, T: Ruled + Template<N, Arena<N, <T as Ruled>::Rule>>> Dictionary<N
     ) -> Numbered
         requires pass { IsIdle (⟦<Dictionary<N, T> as Shelf>⟧.site self.now) pass.old }
         ensures pass { IsIdle (⟦<Dictionary<N, T> as Shelf>⟧.site self.now) pass.new }
-        ensures caller { pass.new.caller ≡ pass.old.caller }
+        ensures caller { SameCaller pass.old pass.new }
         ensures done { IsDone N.layout T.technique (⟦<Dictionary<N, T> as Shelf>⟧.site self.now)
             (Get (N.Places.place_of key)) pass.old pass.new (told result.found) result.number }
     {
@@ -93,7 +93,7 @@ impl<N: Node, T: Ruled + Template<N, Arena<N, <T as Ruled>::Rule>>> Dictionary<N
     ) -> Result<Numbered, Full>
         requires pass { IsIdle (⟦<Dictionary<N, T> as Shelf>⟧.site self.now) pass.old }
         ensures pass { IsIdle (⟦<Dictionary<N, T> as Shelf>⟧.site self.now) pass.new }
-        ensures caller { pass.new.caller ≡ pass.old.caller }
+        ensures caller { SameCaller pass.old pass.new }
         ensures done { IsDone N.layout T.technique (⟦<Dictionary<N, T> as Shelf>⟧.site self.now)
             (Put (N.Places.place_of key) value) pass.old pass.new (reply_in result) (number_in result) }
     {
@@ -115,7 +115,7 @@ impl<N: Node, T: Ruled + Template<N, Arena<N, <T as Ruled>::Rule>>> Dictionary<N
     ) -> Result<Numbered, Full>
         requires pass { IsIdle (⟦<Dictionary<N, T> as Shelf>⟧.site self.now) pass.old }
         ensures pass { IsIdle (⟦<Dictionary<N, T> as Shelf>⟧.site self.now) pass.new }
-        ensures caller { pass.new.caller ≡ pass.old.caller }
+        ensures caller { SameCaller pass.old pass.new }
         ensures done { IsDone N.layout T.technique (⟦<Dictionary<N, T> as Shelf>⟧.site self.now)
             (Add (N.Places.place_of key) value) pass.old pass.new (reply_in result) (number_in result) }
     {
@@ -135,7 +135,7 @@ impl<N: Node, T: Ruled + Template<N, Arena<N, <T as Ruled>::Rule>>> Dictionary<N
     ) -> Numbered
         requires pass { IsIdle (⟦<Dictionary<N, T> as Shelf>⟧.site self.now) pass.old }
         ensures pass { IsIdle (⟦<Dictionary<N, T> as Shelf>⟧.site self.now) pass.new }
-        ensures caller { pass.new.caller ≡ pass.old.caller }
+        ensures caller { SameCaller pass.old pass.new }
         ensures done { IsDone N.layout T.technique (⟦<Dictionary<N, T> as Shelf>⟧.site self.now)
             (Swap (N.Places.place_of key) old new) pass.old pass.new (told result.found) result.number }
     {
@@ -152,7 +152,7 @@ impl<N: Node, T: Ruled + Template<N, Arena<N, <T as Ruled>::Rule>>> Dictionary<N
     ) -> Numbered
         requires pass { IsIdle (⟦<Dictionary<N, T> as Shelf>⟧.site self.now) pass.old }
         ensures pass { IsIdle (⟦<Dictionary<N, T> as Shelf>⟧.site self.now) pass.new }
-        ensures caller { pass.new.caller ≡ pass.old.caller }
+        ensures caller { SameCaller pass.old pass.new }
         ensures done { IsDone N.layout T.technique (⟦<Dictionary<N, T> as Shelf>⟧.site self.now)
             (Del (N.Places.place_of key)) pass.old pass.new (told result.found) result.number }
     {
@@ -176,7 +176,7 @@ impl<N: Node, T: Ruled + Template<N, Arena<N, <T as Ruled>::Rule>>> Dictionary<N
     ) -> Result<Numbered, Later>
         requires pass { IsIdle (⟦<Dictionary<N, T> as Shelf>⟧.site self.now) pass.old }
         ensures pass { IsIdle (⟦<Dictionary<N, T> as Shelf>⟧.site self.now) pass.new }
-        ensures caller { pass.new.caller ≡ pass.old.caller }
+        ensures caller { SameCaller pass.old pass.new }
         ensures tried { HasTried N.layout T.technique (⟦<Dictionary<N, T> as Shelf>⟧.site self.now)
             (Get (N.Places.place_of key)) pass.old pass.new result }
         ensures never { MayTell T.technique result }
@@ -203,7 +203,7 @@ impl<N: Node, T: Ruled + Template<N, Arena<N, <T as Ruled>::Rule>>> Dictionary<N
     ) -> Result<Numbered, PutLater>
         requires pass { IsIdle (⟦<Dictionary<N, T> as Shelf>⟧.site self.now) pass.old }
         ensures pass { IsIdle (⟦<Dictionary<N, T> as Shelf>⟧.site self.now) pass.new }
-        ensures caller { pass.new.caller ≡ pass.old.caller }
+        ensures caller { SameCaller pass.old pass.new }
         ensures ends { HasEndedPut N.layout T.technique (⟦<Dictionary<N, T> as Shelf>⟧.site self.now)
             (Put (N.Places.place_of key) value) pass.old pass.new result }
         ensures tried { SplitsEvenly N.in_place N.halves_have_room →
@@ -231,7 +231,7 @@ impl<N: Node, T: Ruled + Template<N, Arena<N, <T as Ruled>::Rule>>> Dictionary<N
     ) -> Result<Numbered, PutLater>
         requires pass { IsIdle (⟦<Dictionary<N, T> as Shelf>⟧.site self.now) pass.old }
         ensures pass { IsIdle (⟦<Dictionary<N, T> as Shelf>⟧.site self.now) pass.new }
-        ensures caller { pass.new.caller ≡ pass.old.caller }
+        ensures caller { SameCaller pass.old pass.new }
         ensures ends { HasEndedPut N.layout T.technique (⟦<Dictionary<N, T> as Shelf>⟧.site self.now)
             (Add (N.Places.place_of key) value) pass.old pass.new result }
         ensures tried { SplitsEvenly N.in_place N.halves_have_room →
@@ -260,7 +260,7 @@ impl<N: Node, T: Ruled + Template<N, Arena<N, <T as Ruled>::Rule>>> Dictionary<N
     ) -> Result<Numbered, Later>
         requires pass { IsIdle (⟦<Dictionary<N, T> as Shelf>⟧.site self.now) pass.old }
         ensures pass { IsIdle (⟦<Dictionary<N, T> as Shelf>⟧.site self.now) pass.new }
-        ensures caller { pass.new.caller ≡ pass.old.caller }
+        ensures caller { SameCaller pass.old pass.new }
         ensures tried { HasTried N.layout T.technique (⟦<Dictionary<N, T> as Shelf>⟧.site self.now)
             (Swap (N.Places.place_of key) old new) pass.old pass.new result }
         ensures never { MayTell T.technique result }
@@ -284,7 +284,7 @@ impl<N: Node, T: Ruled + Template<N, Arena<N, <T as Ruled>::Rule>>> Dictionary<N
     ) -> Result<Numbered, Later>
         requires pass { IsIdle (⟦<Dictionary<N, T> as Shelf>⟧.site self.now) pass.old }
         ensures pass { IsIdle (⟦<Dictionary<N, T> as Shelf>⟧.site self.now) pass.new }
-        ensures caller { pass.new.caller ≡ pass.old.caller }
+        ensures caller { SameCaller pass.old pass.new }
         ensures tried { HasTried N.layout T.technique (⟦<Dictionary<N, T> as Shelf>⟧.site self.now)
             (Del (N.Places.place_of key)) pass.old pass.new result }
         ensures never { MayTell T.technique result }
@@ -298,7 +298,7 @@ impl<N: Node, T: Ruled + Template<N, Arena<N, <T as Ruled>::Rule>>> Dictionary<N
     pub fn note(&self, pass: &mut Pass<N, T::Rule>) -> Note<N, T::Rule>
         requires { IsIdle (⟦<Dictionary<N, T> as Shelf>⟧.site self.now) pass.old }
         ensures pass { IsIdle (⟦<Dictionary<N, T> as Shelf>⟧.site self.now) pass.new }
-        ensures caller { pass.new.caller ≡ pass.old.caller }
+        ensures caller { SameCaller pass.old pass.new }
         ensures seen { seen_of pass.new ≡ seen_of pass.old }
         ensures note { IsNoteOf (⟦<Dictionary<N, T> as Shelf>⟧.site self.now) result }
         ensures noted { noted result ≡ seen_of pass.old }
@@ -312,9 +312,9 @@ impl<N: Node, T: Ruled + Template<N, Arena<N, <T as Ruled>::Rule>>> Dictionary<N
         requires pass { IsIdle (⟦<Dictionary<N, T> as Shelf>⟧.site self.now) pass.old }
         requires note { IsNoteOf (⟦<Dictionary<N, T> as Shelf>⟧.site self.now) note }
         ensures pass { IsIdle (⟦<Dictionary<N, T> as Shelf>⟧.site self.now) pass.new }
-        ensures caller { pass.new.caller ≡ pass.old.caller }
+        ensures caller { SameCaller pass.old pass.new }
         ensures noted { noted note ⊑ seen_of pass.new }
-        ensures own { GrowsByOthers pass.old.caller (seen_of pass.old) (seen_of pass.new) }
+        ensures own { GrowsByOthers (caller_of pass.old) (seen_of pass.old) (seen_of pass.new) }
     {
         self.arena.learn(pass, note);
     }

@@ -2,6 +2,7 @@
 ghost use Rattle.std.specs.Prelude.{◌≡◌};
 ghost use Rattle.ks_shape.specs.Idle.{IsIdle};
 ghost use Rattle.ks_tidy.specs.Compacts.{HasFreed, HasLeftBy, IsTightIn, WasUndisturbed};
+ghost use Rattle.ks_arena.specs.Of.{SameCaller};
 
 use crate::dictionary::Dictionary;
 use ks_arena::{Arena, Pass};
@@ -19,7 +20,7 @@ impl<N: Node, T: Ruled + Compacting<N, Arena<N, <T as Ruled>::Rule>>> Dictionary
     pub fn compact<R: Wait, G: Gate>(&self, rt: &R, pass: &mut Pass<N, T::Rule>, gate: &G) -> u32
         requires pass { IsIdle (⟦<Dictionary<N, T> as Shelf>⟧.site self.now) pass.old }
         ensures pass { IsIdle (⟦<Dictionary<N, T> as Shelf>⟧.site self.now) pass.new }
-        ensures caller { pass.new.caller ≡ pass.old.caller }
+        ensures caller { SameCaller pass.old pass.new }
         ensures left { HasLeftBy T.technique pass.old pass.new }
         ensures frees { HasFreed pass.old pass.new result }
         ensures tight { WasUndisturbed pass.old pass.new →

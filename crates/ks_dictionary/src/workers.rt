@@ -12,6 +12,7 @@ ghost use Rattle.ks_shape.specs.Idle.{IsIdle};
 ghost use Rattle.ks_dictionary.specs.Crew.{site_with};
 ghost use Rattle.ks_dictionary.specs.Work.{AreAbout, HasAnswered, HasAsked, HasRun, IsReadyJob};
 ghost use Rattle.ks_tickets.specs.Clauses.{HasEnded, IsFree, IsSameDesk};
+ghost use Rattle.ks_arena.specs.Of.{SameCaller, caller_of};
 
 use crate::about::About;
 use crate::dictionary::Dictionary;
@@ -53,9 +54,9 @@ fn call<N: Node, T: Ruled + Template<N, Arena<N, <T as Ruled>::Rule>>, R: Wait, 
 ) -> (u64, Reply)
     requires { IsIdle (⟦<Dictionary<N, T> as Shelf>⟧.site dictionary.now) pass.old }
     ensures pass { IsIdle (⟦<Dictionary<N, T> as Shelf>⟧.site dictionary.now) pass.new }
-    ensures caller { pass.new.caller ≡ pass.old.caller }
-    ensures calls { calls_by pass.old.caller (seen_of pass.new)
-        ≡ calls_by pass.old.caller (seen_of pass.old) ++ numbered result.0 (at_place N.Places.place_of op) result.1 ∷ [] }
+    ensures caller { SameCaller pass.old pass.new }
+    ensures calls { calls_by (caller_of pass.old) (seen_of pass.new)
+        ≡ calls_by (caller_of pass.old) (seen_of pass.old) ++ numbered result.0 (at_place N.Places.place_of op) result.1 ∷ [] }
 {
     match op {
         Op::Get(key) => line_of(dictionary.get(rt, pass, gate, key)),
@@ -78,9 +79,9 @@ fn call_each<N: Node, T: Ruled + Template<N, Arena<N, <T as Ruled>::Rule>>, R: W
     requires pass { IsIdle (⟦<Dictionary<N, T> as Shelf>⟧.site dictionary.now) pass.old }
     requires room { length lines.old ≡ length ops.now }
     ensures pass { IsIdle (⟦<Dictionary<N, T> as Shelf>⟧.site dictionary.now) pass.new }
-    ensures caller { pass.new.caller ≡ pass.old.caller }
-    ensures asked { HasAsked pass.old.caller (seen_of pass.old) (seen_of pass.new) (map (at_place N.Places.place_of) ops.now) }
-    ensures told { HasAnswered pass.old.caller (seen_of pass.old) (seen_of pass.new) lines.new }
+    ensures caller { SameCaller pass.old pass.new }
+    ensures asked { HasAsked (caller_of pass.old) (seen_of pass.old) (seen_of pass.new) (map (at_place N.Places.place_of) ops.now) }
+    ensures told { HasAnswered (caller_of pass.old) (seen_of pass.old) (seen_of pass.new) lines.new }
 {
     for at in 0..ops.len() {
         lines[at] = call(rt, dictionary, gate, pass, ops[at]);

@@ -1,6 +1,7 @@
 //! Dictionaries of two callers, and what one of them puts.
 ghost use Rattle.std.specs.Prelude.{◌≡◌, ◌≤◌, IfOk};
 ghost use Rattle.ks_shape.specs.Idle.{IsIdle};
+ghost use Rattle.ks_arena.specs.Of.{SameCaller};
 
 use ks_arena::{Arena, Pass};
 use ks_dictionary::Dictionary;
@@ -53,7 +54,7 @@ pub(crate) fn put_each<N: Node, T: Ruled + Template<N, Arena<N, <T as Ruled>::Ru
 ) -> bool
     requires pass { IsIdle (⟦<Dictionary<N, T> as Shelf>⟧.site dictionary.now) pass.old }
     ensures pass { IsIdle (⟦<Dictionary<N, T> as Shelf>⟧.site dictionary.now) pass.new }
-    ensures caller { pass.new.caller ≡ pass.old.caller }
+    ensures caller { SameCaller pass.old pass.new }
 {
     let mut right = true;
     for count in 0..many {
@@ -74,7 +75,7 @@ pub(crate) fn try_del_below<N: Node, T: Ruled + Template<N, Arena<N, <T as Ruled
 ) -> bool
     requires pass { IsIdle (⟦<Dictionary<N, T> as Shelf>⟧.site dictionary.now) pass.old }
     ensures pass { IsIdle (⟦<Dictionary<N, T> as Shelf>⟧.site dictionary.now) pass.new }
-    ensures caller { pass.new.caller ≡ pass.old.caller }
+    ensures caller { SameCaller pass.old pass.new }
 {
     let mut right = true;
     for key in 0..many {

@@ -7,6 +7,7 @@ ghost use Rattle.ks_shape.specs.Idle.{IsIdle};
 ghost use Rattle.ks_dictionary.specs.Crew.{AreAll, AreNew, site_with};
 ghost use Rattle.ks_dictionary.specs.Ended.{HasEnded, history};
 ghost use Rattle.ks_dictionary.specs.Kept.{AddedOnce, FindsPut};
+ghost use Rattle.ks_arena.specs.Of.{SameCaller};
 
 use ks_arena::{Arena, Pass};
 use ks_dictionary::{Closed, Dictionary, kept_law, once_law};
@@ -58,7 +59,7 @@ fn attend<N: Node, T: Ruled + Compacting<N, Arena<N, <T as Ruled>::Rule>>, R: Wa
     requires pass { IsIdle (⟦<Dictionary<N, T> as Shelf>⟧.site catalogue.now) pass.old }
     requires number { number < 100 }
     ensures pass { IsIdle (⟦<Dictionary<N, T> as Shelf>⟧.site catalogue.now) pass.new }
-    ensures caller { pass.new.caller ≡ pass.old.caller }
+    ensures caller { SameCaller pass.old pass.new }
 {
     let caller = pass.caller();
     if caller < 3 {
@@ -96,7 +97,7 @@ fn work<N: Node, T: Ruled + Compacting<N, Arena<N, <T as Ruled>::Rule>>, R: Wait
 )
     requires { IsIdle (⟦<Dictionary<N, T> as Shelf>⟧.site catalogue.now) pass.old }
     ensures pass { IsIdle (⟦<Dictionary<N, T> as Shelf>⟧.site catalogue.now) pass.new }
-    ensures caller { pass.new.caller ≡ pass.old.caller }
+    ensures caller { SameCaller pass.old pass.new }
 {
     for number in 0..NUMBERS {
         attend(rt, catalogue, counts, pass, number);
@@ -124,7 +125,7 @@ pub fn tell<N: Node, T: Ruled + Compacting<N, Arena<N, <T as Ruled>::Rule>>, R: 
     requires reader { IsIdle (⟦<Dictionary<N, T> as Shelf>⟧.site catalogue.now) reader.old }
     ensures clerk { IsIdle (⟦<Dictionary<N, T> as Shelf>⟧.site catalogue.now) clerk.new }
     ensures reader { IsIdle (⟦<Dictionary<N, T> as Shelf>⟧.site catalogue.now) reader.new }
-    ensures callers { (clerk.new.caller ≡ clerk.old.caller) × (reader.new.caller ≡ reader.old.caller) }
+    ensures callers { SameCaller clerk.old clerk.new × SameCaller reader.old reader.new }
     ensures finds { IfOk result (λ found. FindsPut (N.Places.place_of number) entry found (calls_of (seen_of reader.new))) }
 {
     kept_law();
@@ -154,7 +155,7 @@ where
     ensures idle { (i : ℕ) (d : _) → i < length passes.old →
         IsIdle (⟦<Dictionary<N, T> as Shelf>⟧.site catalogue.now) (slice_index_or passes.new i d) }
     ensures same { (i : ℕ) (d : _) → i < length passes.old →
-        (slice_index_or passes.new i d).caller ≡ (slice_index_or passes.old i d).caller }
+        SameCaller (slice_index_or passes.old i d) (slice_index_or passes.new i d) }
 {
     for_each_mut(
         rt,
@@ -166,7 +167,7 @@ where
             ensures pass { IsIdle (site_with (sort_of N.layout N.ranged) T.Rule.begins T.Rule.step
                 catalogue.entry.now.arena.table.shared.table_id catalogue.entry.now.arena.callers
                 catalogue.entry.now.arena.nodes) pass.new }
-            ensures caller { pass.new.caller ≡ pass.old.caller }
+            ensures caller { SameCaller pass.old pass.new }
         { work(rt, catalogue, counts, pass) },
     );
 }
@@ -184,7 +185,7 @@ fn tell_one<N: Node, T: Ruled + Compacting<N, Arena<N, <T as Ruled>::Rule>>, R: 
     ensures idle { (i : ℕ) (d : _) → i < length passes.old →
         IsIdle (⟦<Dictionary<N, T> as Shelf>⟧.site catalogue.now) (slice_index_or passes.new i d) }
     ensures same { (i : ℕ) (d : _) → i < length passes.old →
-        (slice_index_or passes.new i d).caller ≡ (slice_index_or passes.old i d).caller }
+        SameCaller (slice_index_or passes.old i d) (slice_index_or passes.new i d) }
 {
     let (clerks, readers) = passes.split_at_mut(3);
     tell(rt, catalogue, &mut clerks[0], &mut readers[0], 0, 100)

@@ -4,7 +4,7 @@ ghost use Rattle.ks_history.specs.declared.Op.TheVariants.{Add, Del, Get, Put, S
 ghost use Rattle.ks_history.specs.Map.{told};
 ghost use Rattle.ks_history.specs.Done.{give_up};
 ghost use Rattle.ks_shape.specs.Answers.{number_in, reply_in};
-ghost use Rattle.ks_arena.specs.Of.{IsEmptyPassOf, WasAlone};
+ghost use Rattle.ks_arena.specs.Of.{IsEmptyPassOf, WasAlone, SameCaller};
 ghost use Rattle.ks_shape.specs.Of.{DoneOf};
 ghost use Rattle.ks_giveup.specs.Goes.{GoesTowards};
 ghost use Rattle.ks_tidy.specs.Of.{IsTidyOf};
@@ -30,7 +30,7 @@ pub fn get<N: Ranged + Unlinked, R: Wait, G: Gate>(
 ) -> Numbered
     requires pass { IsEmptyPassOf arena.now pass.old }
     ensures pass { IsEmptyPassOf arena.now pass.new }
-    ensures caller { pass.new.caller ≡ pass.old.caller }
+    ensures caller { SameCaller pass.old pass.new }
     ensures done { DoneOf arena.now give_up (Get place) pass.old pass.new (told result.found) result.number }
     ensures goes { GoesTowards place pass.old pass.new }
 {
@@ -54,7 +54,7 @@ pub fn put<N: Ranged + Unlinked, R: Wait, G: Gate>(
 ) -> Result<Numbered, Full>
     requires pass { IsEmptyPassOf arena.now pass.old }
     ensures pass { IsEmptyPassOf arena.now pass.new }
-    ensures caller { pass.new.caller ≡ pass.old.caller }
+    ensures caller { SameCaller pass.old pass.new }
     ensures done { DoneOf arena.now give_up (Put place value) pass.old pass.new (reply_in result) (number_in result) }
     ensures goes { GoesTowards place pass.old pass.new }
 {
@@ -80,7 +80,7 @@ pub fn add<N: Ranged + Unlinked, R: Wait, G: Gate>(
 ) -> Result<Numbered, Full>
     requires pass { IsEmptyPassOf arena.now pass.old }
     ensures pass { IsEmptyPassOf arena.now pass.new }
-    ensures caller { pass.new.caller ≡ pass.old.caller }
+    ensures caller { SameCaller pass.old pass.new }
     ensures done { DoneOf arena.now give_up (Add place value) pass.old pass.new (reply_in result) (number_in result) }
     ensures goes { GoesTowards place pass.old pass.new }
 {
@@ -103,7 +103,7 @@ pub fn swap<N: Ranged + Unlinked, R: Wait, G: Gate>(
 ) -> Numbered
     requires pass { IsEmptyPassOf arena.now pass.old }
     ensures pass { IsEmptyPassOf arena.now pass.new }
-    ensures caller { pass.new.caller ≡ pass.old.caller }
+    ensures caller { SameCaller pass.old pass.new }
     ensures done { DoneOf arena.now give_up (Swap place old new) pass.old pass.new (told result.found) result.number }
     ensures goes { GoesTowards place pass.old pass.new }
 {
@@ -123,7 +123,7 @@ pub fn del<N: Ranged + Unlinked, R: Wait, G: Gate>(
 ) -> Numbered
     requires pass { IsEmptyPassOf arena.now pass.old }
     ensures pass { IsEmptyPassOf arena.now pass.new }
-    ensures caller { pass.new.caller ≡ pass.old.caller }
+    ensures caller { SameCaller pass.old pass.new }
     ensures done { DoneOf arena.now give_up (Del place) pass.old pass.new (told result.found) result.number }
     ensures goes { GoesTowards place pass.old pass.new }
     ensures tidy { result.found ≢ None → WasAlone pass.old pass.new → IsTidyOf arena.now pass.new place }

@@ -7,7 +7,7 @@ ghost use Rattle.ks_arena.specs.Sound.{sort_of};
 ghost use Rattle.ks_arena.specs.Clauses.{seen_of};
 ghost use Rattle.ks_giveup.specs.Descent.{Came, CameToRoom};
 ghost use Rattle.ks_giveup.specs.Goes.{GoesTowards, MayVisitNext};
-ghost use Rattle.ks_arena.specs.Of.{IsPassOf, IsEmptyPassOf, IsNodeOf};
+ghost use Rattle.ks_arena.specs.Of.{IsPassOf, IsEmptyPassOf, IsNodeOf, SameCaller, caller_of};
 ghost use Rattle.ks_shape.specs.Of.{IsUnderway, StaysUnderway, IsOnWayOf, SearchEndsAt};
 
 use ks_arena::laws::sound_law;
@@ -31,8 +31,8 @@ fn visit<N: Ranged + Unlinked, R: Wait, G: Gate>(
     requires node { IsNodeOf arena.now node }
     requires next { MayVisitNext place node pass.old }
     ensures pass { IsPassOf arena.now pass.new }
-    ensures caller { pass.new.caller ≡ pass.old.caller }
-    ensures came { Came (sort_of N.layout N.ranged) N.body pass.old.caller place (seen_of pass.new) result }
+    ensures caller { SameCaller pass.old pass.new }
+    ensures came { Came (sort_of N.layout N.ranged) N.body (caller_of pass.old) place (seen_of pass.new) result }
     ensures goes { GoesTowards place pass.old pass.new }
     ensures under { StaysUnderway give_up pass.old pass.new }
 {
@@ -59,10 +59,10 @@ fn leave<N: Ranged + Unlinked, G: Gate>(
     child: u32,
 )
     requires pass { IsPassOf arena.now pass.old }
-    requires way { IsOnWayOf arena.now pass.old.caller place pass.old held }
+    requires way { IsOnWayOf arena.now (caller_of pass.old) place pass.old held }
     requires goes { next_at (N.body held.body) place ≡ Go child }
     ensures pass { IsEmptyPassOf arena.now pass.new }
-    ensures caller { pass.new.caller ≡ pass.old.caller }
+    ensures caller { SameCaller pass.old pass.new }
     ensures near { IsNodeOf arena.now child }
     ensures next { MayVisitNext place child pass.new }
     ensures goes { GoesTowards place pass.old pass.new }
@@ -83,7 +83,7 @@ pub(crate) fn find<N: Ranged + Unlinked, R: Wait, G: Gate>(
 ) -> Held<N>
     requires pass { IsEmptyPassOf arena.now pass.old }
     ensures pass { IsPassOf arena.now pass.new }
-    ensures caller { pass.new.caller ≡ pass.old.caller }
+    ensures caller { SameCaller pass.old pass.new }
     ensures ends { SearchEndsAt arena.now place pass.new result }
     ensures goes { GoesTowards place pass.old pass.new }
     ensures under { IsUnderway give_up pass.old pass.new }
@@ -120,8 +120,8 @@ pub(crate) fn find_room<N: Ranged + Unlinked, R: Wait, G: Gate>(
 ) -> Option<Held<N>>
     requires pass { IsEmptyPassOf arena.now pass.old }
     ensures pass { IsPassOf arena.now pass.new }
-    ensures caller { pass.new.caller ≡ pass.old.caller }
-    ensures came { CameToRoom (sort_of N.layout N.ranged) N.body pass.new.caller place (seen_of pass.new) result }
+    ensures caller { SameCaller pass.old pass.new }
+    ensures came { CameToRoom (sort_of N.layout N.ranged) N.body (caller_of pass.new) place (seen_of pass.new) result }
     ensures goes { GoesTowards place pass.old pass.new }
     ensures under { IsUnderway give_up pass.old pass.new }
 {

@@ -1,7 +1,7 @@
 //! Compaction by the technique of giving up, which holds pairs of nodes meanwhile.
 ghost use Rattle.std.specs.Prelude.{◌≡◌};
 ghost use Rattle.ks_history.specs.Done.{give_up};
-ghost use Rattle.ks_arena.specs.Of.{IsEmptyPassOf};
+ghost use Rattle.ks_arena.specs.Of.{IsEmptyPassOf, SameCaller};
 ghost use Rattle.ks_tidy.specs.Compacts.{HasFreed, HasLeftBy, IsTightOf, WasUndisturbed};
 
 use crate::technique::GiveUp;
@@ -22,7 +22,7 @@ pub fn compact<N: Ranged + Unlinked, R: Wait, G: Gate>(
 ) -> u32
     requires pass { IsEmptyPassOf arena.now pass.old }
     ensures pass { IsEmptyPassOf arena.now pass.new }
-    ensures caller { pass.new.caller ≡ pass.old.caller }
+    ensures caller { SameCaller pass.old pass.new }
     ensures left { HasLeftBy give_up pass.old pass.new }
     ensures frees { HasFreed pass.old pass.new result }
     ensures tight { WasUndisturbed pass.old pass.new → IsTightOf arena.now pass.new }

@@ -2,7 +2,7 @@
 ghost use Rattle.std.specs.Prelude.{◌≡◌};
 ghost use Rattle.ks_history.specs.declared.Op.TheVariants.{Del, Get, Swap};
 ghost use Rattle.ks_history.specs.Done.{give_up};
-ghost use Rattle.ks_arena.specs.Of.{IsEmptyPassOf};
+ghost use Rattle.ks_arena.specs.Of.{IsEmptyPassOf, SameCaller};
 ghost use Rattle.ks_shape.specs.Of.{TriedOf};
 
 use crate::try_descent::try_find;
@@ -28,7 +28,7 @@ pub fn try_get<N: Ranged + Unlinked, G: Gate>(
 ) -> Result<Numbered, Later>
     requires pass { IsEmptyPassOf arena.now pass.old }
     ensures pass { IsEmptyPassOf arena.now pass.new }
-    ensures caller { pass.new.caller ≡ pass.old.caller }
+    ensures caller { SameCaller pass.old pass.new }
     ensures tried { TriedOf arena.now give_up (Get place) pass.old pass.new result }
 {
     match try_find(arena, pass, gate, place) {
@@ -53,7 +53,7 @@ pub fn try_swap<N: Ranged + Unlinked, G: Gate>(
 ) -> Result<Numbered, Later>
     requires pass { IsEmptyPassOf arena.now pass.old }
     ensures pass { IsEmptyPassOf arena.now pass.new }
-    ensures caller { pass.new.caller ≡ pass.old.caller }
+    ensures caller { SameCaller pass.old pass.new }
     ensures tried { TriedOf arena.now give_up (Swap place old new) pass.old pass.new result }
 {
     match try_find(arena, pass, gate, place) {
@@ -77,7 +77,7 @@ pub fn try_del<N: Ranged + Unlinked, G: Gate>(
 ) -> Result<Numbered, Later>
     requires pass { IsEmptyPassOf arena.now pass.old }
     ensures pass { IsEmptyPassOf arena.now pass.new }
-    ensures caller { pass.new.caller ≡ pass.old.caller }
+    ensures caller { SameCaller pass.old pass.new }
     ensures tried { TriedOf arena.now give_up (Del place) pass.old pass.new result }
 {
     match try_find(arena, pass, gate, place) {

@@ -3,7 +3,7 @@ ghost use Rattle.std.specs.Prelude.{◌≡◌, Decides, IsTrue, is_some};
 ghost use Rattle.ks_history.specs.Done.{give_up};
 ghost use Rattle.ks_node.specs.declared.start.Next.TheVariants.{Go};
 ghost use Rattle.ks_node.specs.Body.{next_at};
-ghost use Rattle.ks_arena.specs.Of.{IsPassOf, IsEmptyPassOf, IsNodeOf};
+ghost use Rattle.ks_arena.specs.Of.{IsPassOf, IsEmptyPassOf, IsNodeOf, SameCaller, caller_of};
 ghost use Rattle.ks_shape.specs.Of.{IsUnderway, StaysUnderway, IsOnWayOf};
 ghost use Rattle.ks_try.specs.Of.{StandsAtRoot, GoesDownFrom, CameToEnd};
 ghost use Rattle.ks_giveup.specs.Once.{TookRootOnce};
@@ -37,7 +37,7 @@ fn try_visit<N: Ranged + Unlinked, G: Gate>(
     requires pass { IsEmptyPassOf arena.now pass.old }
     requires node { IsNodeOf arena.now node }
     ensures pass { IsPassOf arena.now pass.new }
-    ensures caller { pass.new.caller ≡ pass.old.caller }
+    ensures caller { SameCaller pass.old pass.new }
     ensures came { ComesTo arena.now place pass.old pass.new node result }
     ensures under { StaysUnderway give_up pass.old pass.new }
 {
@@ -66,7 +66,7 @@ fn try_enter<N: Ranged + Unlinked, G: Gate>(
 ) -> Result<Held<N>, Later>
     requires pass { IsEmptyPassOf arena.now pass.old }
     ensures pass { IsPassOf arena.now pass.new }
-    ensures caller { pass.new.caller ≡ pass.old.caller }
+    ensures caller { SameCaller pass.old pass.new }
     ensures came { StandsAtRoot arena.now give_up place pass.old pass.new result }
     ensures under { IsUnderway give_up pass.old pass.new }
 {
@@ -85,10 +85,10 @@ fn try_go_on<N: Ranged + Unlinked, G: Gate>(
     child: u32,
 ) -> Result<Held<N>, Later>
     requires pass { IsPassOf arena.now pass.old }
-    requires way { IsOnWayOf arena.now pass.old.caller place pass.old held }
+    requires way { IsOnWayOf arena.now (caller_of pass.old) place pass.old held }
     requires goes { next_at (N.body held.body) place ≡ Go child }
     ensures pass { IsPassOf arena.now pass.new }
-    ensures caller { pass.new.caller ≡ pass.old.caller }
+    ensures caller { SameCaller pass.old pass.new }
     ensures came { GoesDownFrom arena.now give_up place pass.old pass.new held result }
     ensures under { StaysUnderway give_up pass.old pass.new }
 {
@@ -107,7 +107,7 @@ pub(crate) fn try_find<N: Ranged + Unlinked, G: Gate>(
 ) -> Result<Held<N>, Later>
     requires pass { IsEmptyPassOf arena.now pass.old }
     ensures pass { IsPassOf arena.now pass.new }
-    ensures caller { pass.new.caller ≡ pass.old.caller }
+    ensures caller { SameCaller pass.old pass.new }
     ensures came { CameToEnd arena.now give_up place pass.old pass.new result }
     ensures once { TookRootOnce pass.old pass.new result }
     ensures under { IsUnderway give_up pass.old pass.new }

@@ -2,7 +2,7 @@
 ghost use Rattle.std.specs.Prelude.{◌≡◌};
 ghost use Rattle.ks_history.specs.declared.Op.TheVariants.{Add, Put};
 ghost use Rattle.ks_history.specs.Done.{give_up};
-ghost use Rattle.ks_arena.specs.Of.{IsEmptyPassOf};
+ghost use Rattle.ks_arena.specs.Of.{IsEmptyPassOf, SameCaller};
 ghost use Rattle.ks_shape.specs.Ends.{EndsPutOf, SplitsEvenly};
 ghost use Rattle.ks_shape.specs.Of.{TriedPutOf};
 
@@ -33,7 +33,7 @@ pub fn try_put<N: Ranged + Unlinked, G: Gate>(
 ) -> Result<Numbered, PutLater>
     requires pass { IsEmptyPassOf arena.now pass.old }
     ensures pass { IsEmptyPassOf arena.now pass.new }
-    ensures caller { pass.new.caller ≡ pass.old.caller }
+    ensures caller { SameCaller pass.old pass.new }
     ensures ends { EndsPutOf arena.now give_up (Put place value) pass.old pass.new result }
     ensures tried { SplitsEvenly N.in_place N.halves_have_room →
         TriedPutOf arena.now give_up (Put place value) pass.old pass.new result }
@@ -65,7 +65,7 @@ pub fn try_add<N: Ranged + Unlinked, G: Gate>(
 ) -> Result<Numbered, PutLater>
     requires pass { IsEmptyPassOf arena.now pass.old }
     ensures pass { IsEmptyPassOf arena.now pass.new }
-    ensures caller { pass.new.caller ≡ pass.old.caller }
+    ensures caller { SameCaller pass.old pass.new }
     ensures ends { EndsPutOf arena.now give_up (Add place value) pass.old pass.new result }
     ensures tried { SplitsEvenly N.in_place N.halves_have_room →
         TriedPutOf arena.now give_up (Add place value) pass.old pass.new result }

@@ -1,5 +1,5 @@
 -- Laws of traces: which calls of a caller stand in a trace as it goes on, and after a call that is done or left.
-use Rattle.std.proofs.Common.{ℕ, []}
+use Rattle.std.proofs.Common.{ℕ}
 use Rattle.ks_history.specs.declared.Op.{Op}
 use Rattle.ks_history.specs.declared.Reply.{Reply}
 use Rattle.ks_history.specs.Trace.{NumberedCall}

@@ -1,10 +1,9 @@
 -- Laws of descents: a caller that goes down along edges from the root stands ever deeper, whatever its own Shapes do below
 -- it, unless another makes a Shape. So one that took as many nodes as there are, and would take one more, may say Far.
-use Rattle.std.proofs.Common.{ℕ, ◌==◌, ◌≤◌, ◌⊎◌, List, [], length}
+use Rattle.std.proofs.Common.{ℕ, ◌==◌, ◌≤◌, ◌⊎◌, List, length}
 use Rattle.std.specs.Prelude.{Any, count_by}
 use Rattle.ks_keysets.specs.Deep.{Deep}
 use Rattle.ks_history.specs.declared.Event.{Event}
-use Rattle.ks_history.specs.declared.Event.TheVariants.{Shape}
 use Rattle.ks_history.specs.Trace.{◌⊑◌, graph_after}
 use Rattle.ks_history.specs.Due.{ShapesBesides, takes_by}
 

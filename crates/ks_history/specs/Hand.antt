@@ -1,6 +1,5 @@
 -- Laws of traces: the hand of a caller and its own events, while others act and after its own event.
 use Rattle.std.proofs.Common.{ℕ, List, [], ◌∷◌}
-use Rattle.ks_history.specs.Trace.{hand}
 use Rattle.ks_history.specs.Passes.{Has}
 
 -- the hand of c is the nodes whose turn is its own, each once

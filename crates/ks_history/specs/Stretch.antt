@@ -1,5 +1,5 @@
 -- Stretches of a call: what its caller does from one moment to a later one, where it makes no call.
-use Rattle.std.proofs.Common.{ℕ, ◌≤◌, List, []}
+use Rattle.std.proofs.Common.{ℕ, ◌≤◌, List}
 use Rattle.ks_history.specs.declared.Op.{Op}
 use Rattle.ks_history.specs.declared.Event.{Event}
 use Rattle.ks_history.specs.Done.{Template, most_held}

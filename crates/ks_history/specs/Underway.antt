@@ -1,11 +1,10 @@
 -- Calls under way: what holds between their steps, and how it becomes Done or Left. One law for each kind of step.
-use Rattle.std.proofs.Common.{◌≡◌, ℕ, List, [], ◌∷◌, ◌++◌, Some}
+use Rattle.std.proofs.Common.{◌≡◌, ℕ, List, ◌∷◌, ◌++◌, Some}
 use Rattle.ks_keysets.specs.Layout.{Layout}
 use Rattle.ks_history.specs.declared.Op.{Op}
 use Rattle.ks_history.specs.declared.Reply.{Reply}
 use Rattle.ks_history.specs.declared.Reply.TheVariants.{Full}
 use Rattle.ks_history.specs.declared.Event.{Event}
-use Rattle.ks_history.specs.declared.Event.TheVariants.{Call}
 use Rattle.ks_history.specs.Trace.{called, call_in, number_after}
 use Rattle.ks_history.specs.Passes.{NoCallBy}
 use Rattle.ks_history.specs.Due.{FullDue}

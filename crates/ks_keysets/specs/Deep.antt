@@ -1,5 +1,5 @@
 -- How deep a node lies below the root, where nodes have one parent at most and the root none, and what keeps it there.
-use Rattle.std.proofs.Common.{ℕ, ◌≡◌, ◌<◌, ◌≤◌, ◌+◌, ◌-◌, List, [], length, None}
+use Rattle.std.proofs.Common.{ℕ, ◌≡◌, ◌<◌, ◌≤◌, ◌+◌, List, length, None}
 use Rattle.std.specs.Prelude.{All, AllPairs}
 use Rattle.ks_keysets.specs.declared.NodeState.{NodeState}
 use Rattle.ks_keysets.specs.Keyset.{record_at}

@@ -5,7 +5,7 @@ ghost use Rattle.ks_node.specs.Room.{is_full};
 ghost use Rattle.ks_node.specs.Body.{is_branch, last_of};
 ghost use Rattle.ks_link.specs.Leads.{CanLead, TakesEdge, waits_if};
 ghost use Rattle.ks_history.specs.Done.{link_move};
-ghost use Rattle.ks_arena.specs.Of.{WasAlone, IsPassOf, IsEmptyPassOf};
+ghost use Rattle.ks_arena.specs.Of.{WasAlone, IsPassOf, IsEmptyPassOf, SameCaller, caller_of};
 ghost use Rattle.ks_shape.specs.Of.{IsStretchBy, MakesNoneLive, IsLedTo};
 ghost use Rattle.ks_link.specs.Of.{HasParted, HoldsAloneOf, IfAloneWithRoom, SearchIsAt, LeadsAllBut, LeadsEach, LeadsOne, WasSplitOff};
 
@@ -49,12 +49,12 @@ fn go_nearer<N: Linked, R: Wait, G: Gate>(
     held: Held<N>,
 ) -> Held<N>
     requires pass { IsPassOf arena.now pass.old }
-    requires way { SearchIsAt arena.now pass.old.caller cut pass.old held }
+    requires way { SearchIsAt arena.now (caller_of pass.old) cut pass.old held }
     requires above { level < (N.body held.body).level }
     requires away { (N.body held.body).level ≡ level + 1 → last_of (N.body held.body).range < cut }
     ensures pass { IsPassOf arena.now pass.new }
-    ensures caller { pass.new.caller ≡ pass.old.caller }
-    ensures way { SearchIsAt arena.now pass.old.caller cut pass.new result }
+    ensures caller { SameCaller pass.old pass.new }
+    ensures way { SearchIsAt arena.now (caller_of pass.old) cut pass.new result }
     ensures above { level < (N.body result.body).level }
     ensures stretch { IsStretchBy link_move pass.old pass.new }
     ensures makes { MakesNoneLive pass.old pass.new }
@@ -78,8 +78,8 @@ fn find_above<N: Linked, R: Wait, G: Gate>(
     requires pass { IsEmptyPassOf arena.now pass.old }
     requires off { WasSplitOff arena.now pass.old to }
     ensures pass { IsPassOf arena.now pass.new }
-    ensures caller { pass.new.caller ≡ pass.old.caller }
-    ensures way { SearchIsAt arena.now pass.old.caller to.cut pass.new result }
+    ensures caller { SameCaller pass.old pass.new }
+    ensures way { SearchIsAt arena.now (caller_of pass.old) to.cut pass.new result }
     ensures level { (N.body result.body).level ≡ to.level + 1 }
     ensures within { to.cut ≤ last_of (N.body result.body).range }
     ensures stretch { IsStretchBy link_move pass.old pass.new }
@@ -106,11 +106,11 @@ pub(crate) fn ready<N: Linked, G: Gate>(
     held: Held<N>,
 ) -> Parted<N>
     requires pass { IsPassOf arena.now pass.old }
-    requires way { SearchIsAt arena.now pass.old.caller cut pass.old held }
+    requires way { SearchIsAt arena.now (caller_of pass.old) cut pass.old held }
     requires above { 0 < (N.body held.body).level }
     requires within { cut ≤ last_of (N.body held.body).range }
     ensures pass { IsPassOf arena.now pass.new }
-    ensures caller { pass.new.caller ≡ pass.old.caller }
+    ensures caller { SameCaller pass.old pass.new }
     ensures parted { HasParted arena.now cut pass.old pass.new held (Ok result) }
     ensures stretch { IsStretchBy link_move pass.old pass.new }
     ensures led { WasAlone pass.old pass.new → LeadsAllBut arena.now (waits_if result.new) pass.old pass.new }
@@ -144,14 +144,14 @@ pub(crate) fn lead<N: Linked>(
     held: &mut Held<N>,
 )
     requires pass { IsPassOf arena.now pass.old }
-    requires held { HoldsAloneOf arena.now pass.old.caller pass.old held.old }
+    requires held { HoldsAloneOf arena.now (caller_of pass.old) pass.old held.old }
     requires off { WasSplitOff arena.now pass.old to }
     requires level { (N.body held.old.body).level ≡ to.level + 1 }
     requires low { (N.body held.old.body).low ≤ to.cut }
     requires within { to.cut ≤ last_of (N.body held.old.body).range }
     ensures pass { IsPassOf arena.now pass.new }
-    ensures caller { pass.new.caller ≡ pass.old.caller }
-    ensures held { HoldsAloneOf arena.now pass.old.caller pass.new held.new }
+    ensures caller { SameCaller pass.old pass.new }
+    ensures held { HoldsAloneOf arena.now (caller_of pass.old) pass.new held.new }
     ensures led { IsTrue N.branches_adopt → TakesEdge N.layout N.can_adopt_at (N.body held.old.body) to.cut →
         IsLedTo arena.now pass.new to.node }
     ensures stretch { IsStretchBy link_move pass.old pass.new }
@@ -177,7 +177,7 @@ fn attach_one<N: Linked, R: Wait, G: Gate>(
     requires pass { IsEmptyPassOf arena.now pass.old }
     requires off { WasSplitOff arena.now pass.old to }
     ensures pass { IsEmptyPassOf arena.now pass.new }
-    ensures caller { pass.new.caller ≡ pass.old.caller }
+    ensures caller { SameCaller pass.old pass.new }
     ensures off { ForSome result (λ w. WasSplitOff arena.now pass.new w) }
     ensures stretch { IsStretchBy link_move pass.old pass.new }
     ensures led { WasAlone pass.old pass.new → LeadsAllBut arena.now (waits_if result) pass.old pass.new }
@@ -205,7 +205,7 @@ fn attach_on<N: Linked, R: Wait, G: Gate>(
     requires pass { IsEmptyPassOf arena.now pass.old }
     requires off { WasSplitOff arena.now pass.old to }
     ensures pass { IsEmptyPassOf arena.now pass.new }
-    ensures caller { pass.new.caller ≡ pass.old.caller }
+    ensures caller { SameCaller pass.old pass.new }
     ensures stretch { IsStretchBy link_move pass.old pass.new }
     ensures leads { IsTrue N.branches_adopt → IsTrue N.halves_have_room →
         IfAloneWithRoom arena.now pass.old pass.new (LeadsOne arena.now to.node pass.old pass.new) }
@@ -231,7 +231,7 @@ pub(crate) fn attach_all<N: Linked, R: Wait, G: Gate>(
     requires pass { IsEmptyPassOf arena.now pass.old }
     requires off { All (λ w. WasSplitOff arena.now pass.old w) waiting.now }
     ensures pass { IsEmptyPassOf arena.now pass.new }
-    ensures caller { pass.new.caller ≡ pass.old.caller }
+    ensures caller { SameCaller pass.old pass.new }
     ensures stretch { IsStretchBy link_move pass.old pass.new }
     ensures leads { IsTrue N.branches_adopt → IsTrue N.halves_have_room →
         IfAloneWithRoom arena.now pass.old pass.new (LeadsEach arena.now waiting.now pass.old pass.new) }

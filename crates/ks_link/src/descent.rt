@@ -3,7 +3,7 @@ ghost use Rattle.std.specs.Prelude.{◌≡◌};
 ghost use Rattle.ks_history.specs.Done.{link_move};
 ghost use Rattle.ks_node.specs.declared.start.Next.TheVariants.{Go, Here};
 ghost use Rattle.ks_node.specs.Body.{next_at};
-ghost use Rattle.ks_arena.specs.Of.{IsPassOf, IsEmptyPassOf};
+ghost use Rattle.ks_arena.specs.Of.{IsPassOf, IsEmptyPassOf, SameCaller, caller_of};
 ghost use Rattle.ks_shape.specs.Of.{IsUnderway, StaysUnderway, MakesNoneLive, SearchEndsAt};
 ghost use Rattle.ks_link.specs.Of.{SearchIsAt};
 
@@ -25,8 +25,8 @@ pub(crate) fn enter<N: Linked, R: Wait, G: Gate>(
 ) -> Held<N>
     requires pass { IsEmptyPassOf arena.now pass.old }
     ensures pass { IsPassOf arena.now pass.new }
-    ensures caller { pass.new.caller ≡ pass.old.caller }
-    ensures way { SearchIsAt arena.now pass.old.caller place pass.new result }
+    ensures caller { SameCaller pass.old pass.new }
+    ensures way { SearchIsAt arena.now (caller_of pass.old) place pass.new result }
     ensures root { result.node ≡ 0 }
     ensures under { IsUnderway link_move pass.old pass.new }
     ensures makes { MakesNoneLive pass.old pass.new }
@@ -46,12 +46,12 @@ pub(crate) fn go_on<N: Linked, R: Wait, G: Gate>(
     next: u32,
 ) -> Held<N>
     requires pass { IsPassOf arena.now pass.old }
-    requires way { SearchIsAt arena.now pass.old.caller place pass.old held }
+    requires way { SearchIsAt arena.now (caller_of pass.old) place pass.old held }
     requires goes { next_at (N.body held.body) place ≡ Go next }
     ensures pass { IsPassOf arena.now pass.new }
-    ensures caller { pass.new.caller ≡ pass.old.caller }
+    ensures caller { SameCaller pass.old pass.new }
     ensures node { result.node ≡ next }
-    ensures way { SearchIsAt arena.now pass.old.caller place pass.new result }
+    ensures way { SearchIsAt arena.now (caller_of pass.old) place pass.new result }
     ensures under { StaysUnderway link_move pass.old pass.new }
     ensures makes { MakesNoneLive pass.old pass.new }
 {
@@ -74,7 +74,7 @@ pub(crate) fn end_law<N: Linked>(
     place: u64,
 )
     requires pass { IsPassOf arena.now pass.now }
-    requires way { SearchIsAt arena.now pass.now.caller place pass.now held.now }
+    requires way { SearchIsAt arena.now (caller_of pass.now) place pass.now held.now }
     requires here { next_at (N.body held.now.body) place ≡ Here }
     ensures { SearchEndsAt arena.now place pass.now held.now }
 {
@@ -92,8 +92,8 @@ pub(crate) fn find<N: Linked, R: Wait, G: Gate>(
 ) -> Held<N>
     requires pass { IsEmptyPassOf arena.now pass.old }
     ensures pass { IsPassOf arena.now pass.new }
-    ensures caller { pass.new.caller ≡ pass.old.caller }
-    ensures way { SearchIsAt arena.now pass.old.caller place pass.new result }
+    ensures caller { SameCaller pass.old pass.new }
+    ensures way { SearchIsAt arena.now (caller_of pass.old) place pass.new result }
     ensures ends { SearchEndsAt arena.now place pass.new result }
     ensures under { IsUnderway link_move pass.old pass.new }
     ensures makes { MakesNoneLive pass.old pass.new }

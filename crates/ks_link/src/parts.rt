@@ -5,7 +5,7 @@ ghost use Rattle.ks_node.specs.Room.{is_full};
 ghost use Rattle.ks_link.specs.Leads.{HalfHasRoom};
 ghost use Rattle.ks_link.specs.Parts.{HalfReachesLess};
 ghost use Rattle.ks_history.specs.Done.{link_move};
-ghost use Rattle.ks_arena.specs.Of.{WasAlone, IsPassOf};
+ghost use Rattle.ks_arena.specs.Of.{WasAlone, IsPassOf, SameCaller, caller_of};
 ghost use Rattle.ks_shape.specs.Of.{IsStretchBy, MakesNoneLive, IsLiveInHand, IsFreeInHand};
 ghost use Rattle.ks_link.specs.Of.{HoldsThree, HoldsTwo, SearchIsAt, HasParted, LeadsParts};
 
@@ -49,8 +49,8 @@ fn keep_half<N: Linked, G: Gate>(
     requires low { (N.body left.body).low ≤ place }
     requires cut { (N.body right.body).low ≡ cut }
     ensures pass { IsPassOf arena.now pass.new }
-    ensures caller { pass.new.caller ≡ pass.old.caller }
-    ensures way { SearchIsAt arena.now pass.old.caller place pass.new result }
+    ensures caller { SameCaller pass.old pass.new }
+    ensures way { SearchIsAt arena.now (caller_of pass.old) place pass.new result }
     ensures half { ((result ≡ left) × (place < cut)) ⊎ (result ≡ right) }
     ensures stretch { IsStretchBy link_move pass.old pass.new }
     ensures makes { MakesNoneLive pass.old pass.new }
@@ -85,7 +85,7 @@ fn split<N: Linked, G: Gate>(
     requires full { IsTrue (is_full N.layout (N.body held.body)) }
     requires low { (N.body held.body).low ≤ place }
     ensures pass { IsPassOf arena.now pass.new }
-    ensures caller { pass.new.caller ≡ pass.old.caller }
+    ensures caller { SameCaller pass.old pass.new }
     ensures parted { HasParted arena.now place pass.old pass.new held (Ok result) }
     ensures narrower { HalfReachesLess N.body (N.body held.body) (Ok result) }
     ensures stretch { IsStretchBy link_move pass.old pass.new }
@@ -130,7 +130,7 @@ fn grow<N: Linked, G: Gate>(
     requires grows { IsTrue (N.grows_at (content_of (N.body root.body))) }
     requires low { (N.body root.body).low ≤ place }
     ensures pass { IsPassOf arena.now pass.new }
-    ensures caller { pass.new.caller ≡ pass.old.caller }
+    ensures caller { SameCaller pass.old pass.new }
     ensures parted { HasParted arena.now place pass.old pass.new root (Ok result) }
     ensures narrower { HalfReachesLess N.body (N.body root.body) (Ok result) }
     ensures stretch { IsStretchBy link_move pass.old pass.new }
@@ -163,11 +163,11 @@ pub(crate) fn part<N: Linked, G: Gate>(
     held: Held<N>,
 ) -> Result<Parted<N>, Held<N>>
     requires pass { IsPassOf arena.now pass.old }
-    requires way { SearchIsAt arena.now pass.old.caller place pass.old held }
+    requires way { SearchIsAt arena.now (caller_of pass.old) place pass.old held }
     requires full { IsTrue (is_full N.layout (N.body held.body)) }
     requires grows { held.node ≡ 0 → IsTrue (N.grows_at (content_of (N.body held.body))) }
     ensures pass { IsPassOf arena.now pass.new }
-    ensures caller { pass.new.caller ≡ pass.old.caller }
+    ensures caller { SameCaller pass.old pass.new }
     ensures parted { HasParted arena.now place pass.old pass.new held result }
     ensures narrower { HalfReachesLess N.body (N.body held.body) result }
     ensures stretch { IsStretchBy link_move pass.old pass.new }

@@ -9,7 +9,7 @@ ghost use Rattle.ks_shape.specs.Answers.{number_in, reply_in};
 ghost use Rattle.ks_link.specs.Leads.{LeavesRoom};
 ghost use Rattle.ks_link.specs.Parts.{ReachesLess};
 ghost use Rattle.ks_link.specs.Puts.{WaitsFor};
-ghost use Rattle.ks_arena.specs.Of.{WasAlone, IsPassOf, IsEmptyPassOf};
+ghost use Rattle.ks_arena.specs.Of.{WasAlone, IsPassOf, IsEmptyPassOf, SameCaller, caller_of};
 ghost use Rattle.ks_shape.specs.Of.{IsStretchBy, DoneOf};
 ghost use Rattle.ks_link.specs.Of.{IfAloneWithRoom, SearchIsAt, WasSplitOff, HasMadeRoom, HasFoundRoom, LeadsAllBut, LeadsAll};
 
@@ -46,12 +46,12 @@ pub(crate) fn make_room<N: Linked, G: Gate>(
     waiting: &mut ArrayVec<Waiting, 7>,
 ) -> Result<Held<N>, Held<N>>
     requires pass { IsPassOf arena.now pass.old }
-    requires way { SearchIsAt arena.now pass.old.caller place pass.old held }
+    requires way { SearchIsAt arena.now (caller_of pass.old) place pass.old held }
     requires ends { next_at (N.body held.body) place ≡ Here }
     requires full { IsTrue (is_full N.layout (N.body held.body)) }
     requires waiting { All (λ w. WasSplitOff arena.now pass.old w) waiting.old.items }
     ensures pass { IsPassOf arena.now pass.new }
-    ensures caller { pass.new.caller ≡ pass.old.caller }
+    ensures caller { SameCaller pass.old pass.new }
     ensures made { HasMadeRoom arena.now place pass.old pass.new held result }
     ensures narrower { ReachesLess N.body (N.body held.body) result }
     ensures waiting { All (λ w. WasSplitOff arena.now pass.new w) waiting.new.items }
@@ -86,7 +86,7 @@ fn find_room<N: Linked, R: Wait, G: Gate>(
     requires pass { IsEmptyPassOf arena.now pass.old }
     requires waiting { waiting.old.items ≡ [] }
     ensures pass { IsPassOf arena.now pass.new }
-    ensures caller { pass.new.caller ≡ pass.old.caller }
+    ensures caller { SameCaller pass.old pass.new }
     ensures found { HasFoundRoom arena.now place pass.old pass.new result }
     ensures waiting { All (λ w. WasSplitOff arena.now pass.new w) waiting.new.items }
     ensures stretch { IsStretchBy link_move pass.old pass.new }
@@ -128,7 +128,7 @@ pub fn put<N: Linked, R: Wait, G: Gate>(
 ) -> Result<Numbered, Full>
     requires pass { IsEmptyPassOf arena.now pass.old }
     ensures pass { IsEmptyPassOf arena.now pass.new }
-    ensures caller { pass.new.caller ≡ pass.old.caller }
+    ensures caller { SameCaller pass.old pass.new }
     ensures done { DoneOf arena.now link_move (Put place value) pass.old pass.new (reply_in result) (number_in result) }
     ensures led { IsTrue N.branches_adopt → IsTrue N.halves_have_room →
         IfAloneWithRoom arena.now pass.old pass.new (LeadsAll arena.now pass.old pass.new) }
@@ -166,7 +166,7 @@ pub fn add<N: Linked, R: Wait, G: Gate>(
 ) -> Result<Numbered, Full>
     requires pass { IsEmptyPassOf arena.now pass.old }
     ensures pass { IsEmptyPassOf arena.now pass.new }
-    ensures caller { pass.new.caller ≡ pass.old.caller }
+    ensures caller { SameCaller pass.old pass.new }
     ensures done { DoneOf arena.now link_move (Add place value) pass.old pass.new (reply_in result) (number_in result) }
     ensures led { IsTrue N.branches_adopt → IsTrue N.halves_have_room →
         IfAloneWithRoom arena.now pass.old pass.new (LeadsAll arena.now pass.old pass.new) }

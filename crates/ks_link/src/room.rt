@@ -4,7 +4,7 @@ ghost use Rattle.std.specs.Prelude.{◌≡◌, All, []};
 ghost use Rattle.ks_history.specs.Done.{link_move};
 ghost use Rattle.ks_node.specs.declared.start.Next.TheVariants.{Here};
 ghost use Rattle.ks_node.specs.Body.{next_at};
-ghost use Rattle.ks_arena.specs.Of.{IsPassOf};
+ghost use Rattle.ks_arena.specs.Of.{IsPassOf, SameCaller, caller_of};
 ghost use Rattle.ks_shape.specs.Of.{IsStretchBy};
 ghost use Rattle.ks_link.specs.Of.{SearchIsAt, WasSplitOff, HasComeToRoom};
 
@@ -29,11 +29,11 @@ pub(crate) fn room_at<N: Linked, G: Gate>(
     waiting: &mut ArrayVec<Waiting, 7>,
 ) -> Result<Held<N>, Held<N>>
     requires pass { IsPassOf arena.now pass.old }
-    requires way { SearchIsAt arena.now pass.old.caller place pass.old held }
+    requires way { SearchIsAt arena.now (caller_of pass.old) place pass.old held }
     requires ends { next_at (N.body held.body) place ≡ Here }
     requires waiting { waiting.old.items ≡ [] }
     ensures pass { IsPassOf arena.now pass.new }
-    ensures caller { pass.new.caller ≡ pass.old.caller }
+    ensures caller { SameCaller pass.old pass.new }
     ensures found { HasComeToRoom arena.now place pass.old pass.new result }
     ensures waiting { All (λ w. WasSplitOff arena.now pass.new w) waiting.new.items }
     ensures stretch { IsStretchBy link_move pass.old pass.new }

@@ -5,7 +5,7 @@
 ghost use Rattle.std.specs.Prelude.{◌≡◌};
 ghost use Rattle.ks_history.specs.declared.Op.TheVariants.{Del, Get, Swap};
 ghost use Rattle.ks_history.specs.Done.{link_move};
-ghost use Rattle.ks_arena.specs.Of.{IsEmptyPassOf};
+ghost use Rattle.ks_arena.specs.Of.{IsEmptyPassOf, SameCaller};
 ghost use Rattle.ks_shape.specs.Of.{TriedOf};
 
 use crate::try_descent::try_find;
@@ -28,7 +28,7 @@ pub fn try_get<N: Linked, G: Gate>(
 ) -> Result<Numbered, Later>
     requires pass { IsEmptyPassOf arena.now pass.old }
     ensures pass { IsEmptyPassOf arena.now pass.new }
-    ensures caller { pass.new.caller ≡ pass.old.caller }
+    ensures caller { SameCaller pass.old pass.new }
     ensures tried { TriedOf arena.now link_move (Get place) pass.old pass.new result }
 {
     match try_find(arena, pass, gate, place) {
@@ -51,7 +51,7 @@ pub fn try_del<N: Linked, G: Gate>(
 ) -> Result<Numbered, Later>
     requires pass { IsEmptyPassOf arena.now pass.old }
     ensures pass { IsEmptyPassOf arena.now pass.new }
-    ensures caller { pass.new.caller ≡ pass.old.caller }
+    ensures caller { SameCaller pass.old pass.new }
     ensures tried { TriedOf arena.now link_move (Del place) pass.old pass.new result }
 {
     match try_find(arena, pass, gate, place) {
@@ -76,7 +76,7 @@ pub fn try_swap<N: Linked, G: Gate>(
 ) -> Result<Numbered, Later>
     requires pass { IsEmptyPassOf arena.now pass.old }
     ensures pass { IsEmptyPassOf arena.now pass.new }
-    ensures caller { pass.new.caller ≡ pass.old.caller }
+    ensures caller { SameCaller pass.old pass.new }
     ensures tried { TriedOf arena.now link_move (Swap place old new) pass.old pass.new result }
 {
     match try_find(arena, pass, gate, place) {

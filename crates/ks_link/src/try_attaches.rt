@@ -4,7 +4,7 @@ ghost use Rattle.std.specs.Prelude.{◌≡◌, ◌+◌, ◌<◌, ◌≤◌, All,
 ghost use Rattle.std.specs.Option.{ForSome};
 ghost use Rattle.ks_history.specs.Done.{link_move};
 ghost use Rattle.ks_node.specs.Body.{last_of};
-ghost use Rattle.ks_arena.specs.Of.{IsPassOf, IsEmptyPassOf};
+ghost use Rattle.ks_arena.specs.Of.{IsPassOf, IsEmptyPassOf, SameCaller};
 ghost use Rattle.ks_shape.specs.Of.{IsStretchBy};
 ghost use Rattle.ks_link.specs.Of.{WasSplitOff, HoldsAbove};
 
@@ -40,7 +40,7 @@ fn try_find_above<N: Linked, G: Gate>(
     requires pass { IsEmptyPassOf arena.now pass.old }
     requires off { WasSplitOff arena.now pass.old to }
     ensures pass { IsPassOf arena.now pass.new }
-    ensures caller { pass.new.caller ≡ pass.old.caller }
+    ensures caller { SameCaller pass.old pass.new }
     ensures above { HoldsAbove arena.now to pass.new result }
     ensures stretch { IsStretchBy link_move pass.old pass.new }
 {
@@ -75,7 +75,7 @@ fn try_attach_one<N: Linked, G: Gate>(
     requires pass { IsEmptyPassOf arena.now pass.old }
     requires off { WasSplitOff arena.now pass.old to }
     ensures pass { IsEmptyPassOf arena.now pass.new }
-    ensures caller { pass.new.caller ≡ pass.old.caller }
+    ensures caller { SameCaller pass.old pass.new }
     ensures off { ForSome result (λ w. WasSplitOff arena.now pass.new w) }
     ensures higher { ForSome result (λ w. w.level ≡ to.level + 1) }
     ensures stretch { IsStretchBy link_move pass.old pass.new }
@@ -103,7 +103,7 @@ fn try_attach_on<N: Linked, G: Gate>(
     requires pass { IsEmptyPassOf arena.now pass.old }
     requires off { WasSplitOff arena.now pass.old to }
     ensures pass { IsEmptyPassOf arena.now pass.new }
-    ensures caller { pass.new.caller ≡ pass.old.caller }
+    ensures caller { SameCaller pass.old pass.new }
     ensures stretch { IsStretchBy link_move pass.old pass.new }
 {
     sound_law::<Link>();
@@ -126,7 +126,7 @@ pub(crate) fn try_attach_all<N: Linked, G: Gate>(
     requires pass { IsEmptyPassOf arena.now pass.old }
     requires off { All (λ w. WasSplitOff arena.now pass.old w) waiting.now }
     ensures pass { IsEmptyPassOf arena.now pass.new }
-    ensures caller { pass.new.caller ≡ pass.old.caller }
+    ensures caller { SameCaller pass.old pass.new }
     ensures stretch { IsStretchBy link_move pass.old pass.new }
 {
     sound_law::<Link>();

@@ -4,7 +4,7 @@ ghost use Rattle.std.specs.Prelude.{◌≡◌};
 ghost use Rattle.ks_history.specs.Done.{link_move};
 ghost use Rattle.ks_node.specs.declared.start.Next.TheVariants.{Go};
 ghost use Rattle.ks_node.specs.Body.{next_at};
-ghost use Rattle.ks_arena.specs.Of.{IsPassOf, IsEmptyPassOf};
+ghost use Rattle.ks_arena.specs.Of.{IsPassOf, IsEmptyPassOf, SameCaller, caller_of};
 ghost use Rattle.ks_shape.specs.Of.{IsUnderway, StaysUnderway, MakesNoneLive};
 ghost use Rattle.ks_link.specs.Of.{SearchIsAt, TriedToEnter, TriedToGoOn, TriedToFind};
 
@@ -24,7 +24,7 @@ pub(crate) fn try_enter<N: Linked, G: Gate>(
 ) -> Result<Held<N>, Later>
     requires pass { IsEmptyPassOf arena.now pass.old }
     ensures pass { IsPassOf arena.now pass.new }
-    ensures caller { pass.new.caller ≡ pass.old.caller }
+    ensures caller { SameCaller pass.old pass.new }
     ensures entered { TriedToEnter arena.now place pass.old pass.new result }
     ensures under { IsUnderway link_move pass.old pass.new }
     ensures makes { MakesNoneLive pass.old pass.new }
@@ -52,10 +52,10 @@ pub(crate) fn try_go_on<N: Linked, G: Gate>(
     next: u32,
 ) -> Result<Held<N>, Later>
     requires pass { IsPassOf arena.now pass.old }
-    requires way { SearchIsAt arena.now pass.old.caller place pass.old held }
+    requires way { SearchIsAt arena.now (caller_of pass.old) place pass.old held }
     requires goes { next_at (N.body held.body) place ≡ Go next }
     ensures pass { IsPassOf arena.now pass.new }
-    ensures caller { pass.new.caller ≡ pass.old.caller }
+    ensures caller { SameCaller pass.old pass.new }
     ensures went { TriedToGoOn arena.now place pass.old pass.new held next result }
     ensures under { StaysUnderway link_move pass.old pass.new }
     ensures makes { MakesNoneLive pass.old pass.new }
@@ -86,7 +86,7 @@ pub(crate) fn try_find<N: Linked, G: Gate>(
 ) -> Result<Held<N>, Later>
     requires pass { IsEmptyPassOf arena.now pass.old }
     ensures pass { IsPassOf arena.now pass.new }
-    ensures caller { pass.new.caller ≡ pass.old.caller }
+    ensures caller { SameCaller pass.old pass.new }
     ensures found { TriedToFind arena.now place pass.old pass.new result }
     ensures under { IsUnderway link_move pass.old pass.new }
     ensures makes { MakesNoneLive pass.old pass.new }

@@ -4,7 +4,7 @@ ghost use Rattle.ks_history.specs.declared.Op.TheVariants.{Add, Put};
 ghost use Rattle.ks_history.specs.Done.{link_move};
 ghost use Rattle.ks_node.specs.declared.start.Next.TheVariants.{Here};
 ghost use Rattle.ks_node.specs.Body.{next_at};
-ghost use Rattle.ks_arena.specs.Of.{IsPassOf, IsEmptyPassOf};
+ghost use Rattle.ks_arena.specs.Of.{IsPassOf, IsEmptyPassOf, SameCaller, caller_of};
 ghost use Rattle.ks_shape.specs.Of.{TriedPutOf};
 ghost use Rattle.ks_link.specs.Of.{SearchIsAt, FinishesTry};
 
@@ -31,10 +31,10 @@ fn put_from<N: Linked, G: Gate>(
     held: Held<N>,
 ) -> Result<Numbered, PutLater>
     requires pass { IsPassOf arena.now pass.old }
-    requires way { SearchIsAt arena.now pass.old.caller place pass.old held }
+    requires way { SearchIsAt arena.now (caller_of pass.old) place pass.old held }
     requires ends { next_at (N.body held.body) place ≡ Here }
     ensures pass { IsEmptyPassOf arena.now pass.new }
-    ensures caller { pass.new.caller ≡ pass.old.caller }
+    ensures caller { SameCaller pass.old pass.new }
     ensures tried { FinishesTry arena.now (Put place value) pass.old pass.new result }
 {
     sound_law::<Link>();
@@ -73,7 +73,7 @@ pub fn try_put<N: Linked, G: Gate>(
 ) -> Result<Numbered, PutLater>
     requires pass { IsEmptyPassOf arena.now pass.old }
     ensures pass { IsEmptyPassOf arena.now pass.new }
-    ensures caller { pass.new.caller ≡ pass.old.caller }
+    ensures caller { SameCaller pass.old pass.new }
     ensures tried { TriedPutOf arena.now link_move (Put place value) pass.old pass.new result }
 {
     match try_find(arena, pass, gate, place) {
@@ -92,10 +92,10 @@ fn add_from<N: Linked, G: Gate>(
     held: Held<N>,
 ) -> Result<Numbered, PutLater>
     requires pass { IsPassOf arena.now pass.old }
-    requires way { SearchIsAt arena.now pass.old.caller place pass.old held }
+    requires way { SearchIsAt arena.now (caller_of pass.old) place pass.old held }
     requires ends { next_at (N.body held.body) place ≡ Here }
     ensures pass { IsEmptyPassOf arena.now pass.new }
-    ensures caller { pass.new.caller ≡ pass.old.caller }
+    ensures caller { SameCaller pass.old pass.new }
     ensures tried { FinishesTry arena.now (Add place value) pass.old pass.new result }
 {
     sound_law::<Link>();
@@ -132,7 +132,7 @@ pub fn try_add<N: Linked, G: Gate>(
 ) -> Result<Numbered, PutLater>
     requires pass { IsEmptyPassOf arena.now pass.old }
     ensures pass { IsEmptyPassOf arena.now pass.new }
-    ensures caller { pass.new.caller ≡ pass.old.caller }
+    ensures caller { SameCaller pass.old pass.new }
     ensures tried { TriedPutOf arena.now link_move (Add place value) pass.old pass.new result }
 {
     match try_find(arena, pass, gate, place) {

@@ -2,7 +2,7 @@
 ghost use Rattle.std.specs.Prelude.{◌≡◌, ◌≤◌, IfOk};
 ghost use Rattle.ks_flow.specs.Discipline.{BeginsLink};
 ghost use Rattle.ks_arena.specs.Sound.{blank_of, sort_of};
-ghost use Rattle.ks_arena.specs.Of.{IsEmptyPassOf};
+ghost use Rattle.ks_arena.specs.Of.{IsEmptyPassOf, SameCaller};
 
 use ks_arena::{Arena, Pass};
 use ks_flow::Link;
@@ -41,7 +41,7 @@ pub(crate) fn put_each<N: Linked, R: Wait>(
 ) -> bool
     requires pass { IsEmptyPassOf arena.now pass.old }
     ensures pass { IsEmptyPassOf arena.now pass.new }
-    ensures caller { pass.new.caller ≡ pass.old.caller }
+    ensures caller { SameCaller pass.old pass.new }
 {
     let mut right = true;
     for count in 0..many {
@@ -68,7 +68,7 @@ pub(crate) fn get_each<N: Linked, R: Wait>(
 ) -> bool
     requires pass { IsEmptyPassOf arena.now pass.old }
     ensures pass { IsEmptyPassOf arena.now pass.new }
-    ensures caller { pass.new.caller ≡ pass.old.caller }
+    ensures caller { SameCaller pass.old pass.new }
 {
     let mut right = true;
     for count in 0..many {

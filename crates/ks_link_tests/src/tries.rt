@@ -1,6 +1,6 @@
 //! Tests of calls along links that wait for nobody.
 ghost use Rattle.std.specs.Prelude.{◌≡◌};
-ghost use Rattle.ks_arena.specs.Of.{IsEmptyPassOf};
+ghost use Rattle.ks_arena.specs.Of.{IsEmptyPassOf, SameCaller};
 
 use crate::calls::{one_caller, put_each};
 use ks_arena::{Arena, Pass};
@@ -43,7 +43,7 @@ fn one_caller_is_never_put_off(rt: HostRuntime) -> Result<(), Fail> {
 fn try_each<N: Linked>(arena: &Arena<N, Link>, pass: &mut Pass<N, Link>, many: u64) -> bool
     requires pass { IsEmptyPassOf arena.now pass.old }
     ensures pass { IsEmptyPassOf arena.now pass.new }
-    ensures caller { pass.new.caller ≡ pass.old.caller }
+    ensures caller { SameCaller pass.old pass.new }
 {
     let mut right = true;
     for count in 0..many {

@@ -4,7 +4,6 @@ use Rattle.ks_keysets.specs.declared.Span.{Span}
 use Rattle.ks_keysets.specs.declared.Edge.{Edge}
 use Rattle.ks_node.specs.declared.start.Start.{Start}
 use Rattle.ks_node.specs.Keyed.{Ascends}
-use Rattle.ks_node.specs.Body.{begins}
 
 -- the edges as they are where the cut to the places from the first to the last leaves each of them
 abbrev pub plain_edges : ℕ → ℕ → List Start → List Edge

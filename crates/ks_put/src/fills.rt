@@ -2,7 +2,7 @@
 ghost use Rattle.std.specs.Prelude.{◌≡◌};
 ghost use Rattle.ks_history.specs.declared.Op.TheVariants.{Add, Put};
 ghost use Rattle.ks_shape.specs.Answers.{number_in, reply_in};
-ghost use Rattle.ks_arena.specs.Of.{IsEmptyPassOf};
+ghost use Rattle.ks_arena.specs.Of.{IsEmptyPassOf, SameCaller};
 ghost use Rattle.ks_shape.specs.Of.{FinishesAny};
 
 use crate::room::{Room, make_room};
@@ -26,7 +26,7 @@ pub fn pair_put<N: Unlinked, R: Wait, G: Gate>(
 ) -> Result<Numbered, Full>
     requires pass { IsEmptyPassOf arena.now pass.old }
     ensures pass { IsEmptyPassOf arena.now pass.new }
-    ensures caller { pass.new.caller ≡ pass.old.caller }
+    ensures caller { SameCaller pass.old pass.new }
     ensures done { FinishesAny arena.now (Put place value) pass.old pass.new (reply_in result) (number_in result) }
 {
     match make_room(rt, arena, pass, gate, place) {
@@ -50,7 +50,7 @@ pub fn pair_add<N: Unlinked, R: Wait, G: Gate>(
 ) -> Result<Numbered, Full>
     requires pass { IsEmptyPassOf arena.now pass.old }
     ensures pass { IsEmptyPassOf arena.now pass.new }
-    ensures caller { pass.new.caller ≡ pass.old.caller }
+    ensures caller { SameCaller pass.old pass.new }
     ensures done { FinishesAny arena.now (Add place value) pass.old pass.new (reply_in result) (number_in result) }
 {
     match make_room(rt, arena, pass, gate, place) {

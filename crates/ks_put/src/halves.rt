@@ -4,7 +4,7 @@ ghost use Rattle.ks_history.specs.declared.Event.TheVariants.{Give};
 ghost use Rattle.ks_node.specs.Room.{is_full};
 ghost use Rattle.ks_arena.specs.Clauses.{hand_of};
 ghost use Rattle.ks_put.specs.OnPath.{numbers};
-ghost use Rattle.ks_arena.specs.Of.{Adds, IsInside, IsPassOf, IsCurrent, IsLiveAndCurrent};
+ghost use Rattle.ks_arena.specs.Of.{Adds, IsInside, IsPassOf, IsCurrent, IsLiveAndCurrent, SameCaller, caller_of};
 ghost use Rattle.ks_shape.specs.Of.{IsStretch};
 ghost use Rattle.ks_shape.specs.Quiet.{KeepsQuiet};
 ghost use Rattle.ks_put.specs.Of.{IsOnPathOf, IsUnderParent, IsPartOf};
@@ -45,8 +45,8 @@ pub(crate) fn keep_half<N: Unlinked, G: Gate>(
     requires below { place < cut → IsPartOf arena.now place pass.old parent left }
     requires from { cut ≤ place → IsPartOf arena.now place pass.old parent right }
     ensures pass { IsPassOf arena.now pass.new }
-    ensures caller { pass.new.caller ≡ pass.old.caller }
-    ensures path { IsOnPathOf arena.now pass.old.caller place pass.new result }
+    ensures caller { SameCaller pass.old pass.new }
+    ensures path { IsOnPathOf arena.now (caller_of pass.old) place pass.new result }
     ensures stretch { IsStretch pass.old pass.new }
     ensures quiet { KeepsQuiet pass.old pass.new }
     ensures parent { result.parent ≡ Some parent }
@@ -89,11 +89,11 @@ pub fn keep_left<N: Unlinked, G: Gate>(
     requires right { IsCurrent arena.now pass.old right }
     requires inside { IsInside pass.old path.node.node place }
     ensures pass { IsPassOf arena.now pass.new }
-    ensures caller { pass.new.caller ≡ pass.old.caller }
-    ensures path { IsOnPathOf arena.now pass.old.caller place pass.new result }
+    ensures caller { SameCaller pass.old pass.new }
+    ensures path { IsOnPathOf arena.now (caller_of pass.old) place pass.new result }
     ensures stretch { IsStretch pass.old pass.new }
     ensures same { result ≡ path }
-    ensures gave { Adds (Give pass.old.caller right.node) pass.old pass.new }
+    ensures gave { Adds (Give (caller_of pass.old) right.node) pass.old pass.new }
 {
     search_law();
     let number = right.node;
@@ -118,8 +118,8 @@ pub(crate) fn keep_right<N: Unlinked, G: Gate>(
     requires right { IsLiveAndCurrent arena.now pass.old right }
     requires part { IsPartOf arena.now place pass.old path.node right }
     ensures pass { IsPassOf arena.now pass.new }
-    ensures caller { pass.new.caller ≡ pass.old.caller }
-    ensures path { IsOnPathOf arena.now pass.old.caller place pass.new result }
+    ensures caller { SameCaller pass.old pass.new }
+    ensures path { IsOnPathOf arena.now (caller_of pass.old) place pass.new result }
     ensures stretch { IsStretch pass.old pass.new }
     ensures quiet { KeepsQuiet pass.old pass.new }
     ensures parent { result.parent ≡ Some path.node }
@@ -159,8 +159,8 @@ pub(crate) fn keep_right_alone<N: Unlinked, G: Gate>(
     requires inside { IsInside pass.old right.node place }
     requires room { is_full N.layout (N.body right.body) ≡ false }
     ensures pass { IsPassOf arena.now pass.new }
-    ensures caller { pass.new.caller ≡ pass.old.caller }
-    ensures path { IsOnPathOf arena.now pass.old.caller place pass.new result }
+    ensures caller { SameCaller pass.old pass.new }
+    ensures path { IsOnPathOf arena.now (caller_of pass.old) place pass.new result }
     ensures stretch { IsStretch pass.old pass.new }
     ensures quiet { KeepsQuiet pass.old pass.new }
     ensures parent { result.parent ≡ None }

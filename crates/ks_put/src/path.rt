@@ -8,7 +8,7 @@ ghost use Rattle.ks_node.specs.Body.{next_at};
 ghost use Rattle.ks_node.specs.Room.{is_full};
 ghost use Rattle.ks_arena.specs.Clauses.{hand_of};
 ghost use Rattle.ks_put.specs.OnPath.{numbers};
-ghost use Rattle.ks_arena.specs.Of.{Adds, IsInside, IsPassOf, IsEmptyPassOf, IsCurrent, IsLiveAndCurrent};
+ghost use Rattle.ks_arena.specs.Of.{Adds, IsInside, IsPassOf, IsEmptyPassOf, IsCurrent, IsLiveAndCurrent, SameCaller, caller_of};
 ghost use Rattle.ks_shape.specs.Of.{IsStretch, IsOnWayOf, StaysUnderway};
 ghost use Rattle.ks_put.specs.Of.{AddsGive, IsOnPathOf, KeepsDown};
 
@@ -39,11 +39,11 @@ pub fn enter<N: Unlinked, R: Wait, G: Gate>(
 ) -> Path<N>
     requires pass { IsEmptyPassOf arena.now pass.old }
     ensures pass { IsPassOf arena.now pass.new }
-    ensures caller { pass.new.caller ≡ pass.old.caller }
-    ensures path { IsOnPathOf arena.now pass.old.caller place pass.new result }
+    ensures caller { SameCaller pass.old pass.new }
+    ensures path { IsOnPathOf arena.now (caller_of pass.old) place pass.new result }
     ensures stretch { IsStretch pass.old pass.new }
     ensures root { (result.parent ≡ None) × (result.node.node ≡ 0) }
-    ensures took { Adds (Take pass.old.caller 0) pass.old pass.new }
+    ensures took { Adds (Take (caller_of pass.old) 0) pass.old pass.new }
 {
     let node = take_root(rt, arena, pass, gate, place);
     Path { parent: None, node }
@@ -64,9 +64,9 @@ pub(crate) fn keep_alone<N: Unlinked, G: Gate>(
     requires node { IsLiveAndCurrent arena.now pass.old node }
     requires inside { IsInside pass.old node.node place }
     ensures pass { IsPassOf arena.now pass.new }
-    ensures caller { pass.new.caller ≡ pass.old.caller }
+    ensures caller { SameCaller pass.old pass.new }
     ensures node { result ≡ node }
-    ensures way { IsOnWayOf arena.now pass.old.caller place pass.new result }
+    ensures way { IsOnWayOf arena.now (caller_of pass.old) place pass.new result }
     ensures under { StaysUnderway coupling pass.old pass.new }
     ensures stretch { IsStretch pass.old pass.new }
     ensures gave { AddsGive other pass.old pass.new }
@@ -89,11 +89,11 @@ pub fn let_go<N: Unlinked, G: Gate>(
     path: Path<N>,
 ) -> Held<N>
     requires pass { IsPassOf arena.now pass.old }
-    requires path { IsOnPathOf arena.now pass.old.caller place pass.old path }
+    requires path { IsOnPathOf arena.now (caller_of pass.old) place pass.old path }
     ensures pass { IsPassOf arena.now pass.new }
-    ensures caller { pass.new.caller ≡ pass.old.caller }
+    ensures caller { SameCaller pass.old pass.new }
     ensures node { result ≡ path.node }
-    ensures way { IsOnWayOf arena.now pass.old.caller place pass.new result }
+    ensures way { IsOnWayOf arena.now (caller_of pass.old) place pass.new result }
     ensures under { StaysUnderway coupling pass.old pass.new }
     ensures stretch { IsStretch pass.old pass.new }
     ensures gave { AddsGive path.parent pass.old pass.new }
@@ -111,10 +111,10 @@ pub(crate) fn settle<N: Unlinked, G: Gate>(
     path: Path<N>,
 ) -> Path<N>
     requires pass { IsPassOf arena.now pass.old }
-    requires path { IsOnPathOf arena.now pass.old.caller place pass.old path }
+    requires path { IsOnPathOf arena.now (caller_of pass.old) place pass.old path }
     ensures pass { IsPassOf arena.now pass.new }
-    ensures caller { pass.new.caller ≡ pass.old.caller }
-    ensures path { IsOnPathOf arena.now pass.old.caller place pass.new result }
+    ensures caller { SameCaller pass.old pass.new }
+    ensures path { IsOnPathOf arena.now (caller_of pass.old) place pass.new result }
     ensures stretch { IsStretch pass.old pass.new }
     ensures down { KeepsDown arena.now pass.old pass.new path result }
     ensures node { result.node ≡ path.node }
@@ -139,16 +139,16 @@ pub fn step_down<N: Unlinked, R: Wait, G: Gate>(
     child: u32,
 ) -> Path<N>
     requires pass { IsPassOf arena.now pass.old }
-    requires way { IsOnWayOf arena.now pass.old.caller place pass.old held }
+    requires way { IsOnWayOf arena.now (caller_of pass.old) place pass.old held }
     requires goes { next_at (N.body held.body) place ≡ Go child }
     ensures pass { IsPassOf arena.now pass.new }
-    ensures caller { pass.new.caller ≡ pass.old.caller }
-    ensures path { IsOnPathOf arena.now pass.old.caller place pass.new result }
+    ensures caller { SameCaller pass.old pass.new }
+    ensures path { IsOnPathOf arena.now (caller_of pass.old) place pass.new result }
     ensures under { StaysUnderway coupling pass.old pass.new }
     ensures stretch { IsStretch pass.old pass.new }
     ensures parent { result.parent ≡ Some held }
     ensures child { result.node.node ≡ child }
-    ensures took { Adds (Take pass.old.caller child) pass.old pass.new }
+    ensures took { Adds (Take (caller_of pass.old) child) pass.old pass.new }
 {
     search_law();
     target_law::<Tree>();

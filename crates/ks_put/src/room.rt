@@ -6,7 +6,7 @@ ghost use Rattle.ks_node.specs.declared.start.Next.TheVariants.{Go, Here};
 ghost use Rattle.ks_node.specs.Body.{next_at, value_at};
 ghost use Rattle.ks_node.specs.Room.{is_full};
 ghost use Rattle.ks_arena.specs.Clauses.{seen_of};
-ghost use Rattle.ks_arena.specs.Of.{IsPassOf, IsEmptyPassOf};
+ghost use Rattle.ks_arena.specs.Of.{IsPassOf, IsEmptyPassOf, SameCaller, caller_of};
 ghost use Rattle.ks_shape.specs.SearchEnd.{TakesPlace};
 ghost use Rattle.ks_shape.specs.Of.{IsStretch, NoneWasFree};
 ghost use Rattle.ks_put.specs.Of.{IsOnPathOf, CameToRoom, CameToRoomSince};
@@ -40,11 +40,11 @@ fn down<N: Unlinked, R: Wait, G: Gate>(
     child: u32,
 ) -> Path<N>
     requires pass { IsPassOf arena.now pass.old }
-    requires path { IsOnPathOf arena.now pass.old.caller place pass.old path }
+    requires path { IsOnPathOf arena.now (caller_of pass.old) place pass.old path }
     requires goes { next_at (N.body path.node.body) place ≡ Go child }
     ensures pass { IsPassOf arena.now pass.new }
-    ensures caller { pass.new.caller ≡ pass.old.caller }
-    ensures path { IsOnPathOf arena.now pass.old.caller place pass.new result }
+    ensures caller { SameCaller pass.old pass.new }
+    ensures path { IsOnPathOf arena.now (caller_of pass.old) place pass.new result }
     ensures stretch { IsStretch pass.old pass.new }
 {
     let held = let_go(arena, pass, gate, place, path);
@@ -63,11 +63,11 @@ fn go_on<N: Unlinked, R: Wait, G: Gate>(
     child: u32,
 ) -> (Path<N>, bool)
     requires pass { IsPassOf arena.now pass.old }
-    requires path { IsOnPathOf arena.now pass.old.caller place pass.old path }
+    requires path { IsOnPathOf arena.now (caller_of pass.old) place pass.old path }
     requires goes { next_at (N.body path.node.body) place ≡ Go child }
     ensures pass { IsPassOf arena.now pass.new }
-    ensures caller { pass.new.caller ≡ pass.old.caller }
-    ensures path { IsOnPathOf arena.now pass.old.caller place pass.new result.0 }
+    ensures caller { SameCaller pass.old pass.new }
+    ensures path { IsOnPathOf arena.now (caller_of pass.old) place pass.new result.0 }
     ensures stretch { IsStretch pass.old pass.new }
     ensures refused { IsTrue result.1 → NoneWasFree arena.now place pass.old pass.new }
 {
@@ -94,10 +94,10 @@ fn begin_again<N: Unlinked, R: Wait, G: Gate>(
     path: Path<N>,
 ) -> Path<N>
     requires pass { IsPassOf arena.now pass.old }
-    requires path { IsOnPathOf arena.now pass.old.caller place pass.old path }
+    requires path { IsOnPathOf arena.now (caller_of pass.old) place pass.old path }
     ensures pass { IsPassOf arena.now pass.new }
-    ensures caller { pass.new.caller ≡ pass.old.caller }
-    ensures path { IsOnPathOf arena.now pass.old.caller place pass.new result }
+    ensures caller { SameCaller pass.old pass.new }
+    ensures path { IsOnPathOf arena.now (caller_of pass.old) place pass.new result }
     ensures stretch { IsStretch pass.old pass.new }
 {
     let held = let_go(arena, pass, gate, place, path);
@@ -114,11 +114,11 @@ pub(crate) fn come_to_room<N: Unlinked, G: Gate>(
     path: Path<N>,
 ) -> Room<N>
     requires pass { IsPassOf arena.now pass.old }
-    requires path { IsOnPathOf arena.now pass.old.caller place pass.old path }
+    requires path { IsOnPathOf arena.now (caller_of pass.old) place pass.old path }
     requires here { next_at (N.body path.node.body) place ≡ Here }
     requires room { TakesPlace N.layout (N.body path.node.body) place }
     ensures pass { IsPassOf arena.now pass.new }
-    ensures caller { pass.new.caller ≡ pass.old.caller }
+    ensures caller { SameCaller pass.old pass.new }
     ensures came { (n : ℕ) (start : List Happening) → CameToRoomSince arena.now place start pass.old pass.new n result }
     ensures stretch { IsStretch pass.old pass.new }
 {
@@ -136,14 +136,14 @@ pub(crate) fn come_to_full<N: Unlinked, G: Gate>(
     path: Path<N>,
 ) -> Room<N>
     requires pass { IsPassOf arena.now pass.old }
-    requires path { IsOnPathOf arena.now pass.old.caller place pass.old path }
+    requires path { IsOnPathOf arena.now (caller_of pass.old) place pass.old path }
     requires here { next_at (N.body path.node.body) place ≡ Here }
     requires absent { value_at (N.body path.node.body).pairs place ≡ None }
     requires full { IsTrue (is_full N.layout (N.body path.node.body)) }
     ensures pass { IsPassOf arena.now pass.new }
-    ensures caller { pass.new.caller ≡ pass.old.caller }
+    ensures caller { SameCaller pass.old pass.new }
     ensures came { (n : ℕ) (start : List Happening) →
-        NoneFree N.layout n pass.old.caller place start (seen_of pass.old) →
+        NoneFree N.layout n (caller_of pass.old) place start (seen_of pass.old) →
         CameToRoomSince arena.now place start pass.old pass.new n result }
     ensures stretch { IsStretch pass.old pass.new }
 {
@@ -163,7 +163,7 @@ pub fn make_room<N: Unlinked, R: Wait, G: Gate>(
 ) -> Room<N>
     requires pass { IsEmptyPassOf arena.now pass.old }
     ensures pass { IsPassOf arena.now pass.new }
-    ensures caller { pass.new.caller ≡ pass.old.caller }
+    ensures caller { SameCaller pass.old pass.new }
     ensures room { CameToRoom arena.now place pass.old pass.new result }
     ensures stretch { IsStretch pass.old pass.new }
 {

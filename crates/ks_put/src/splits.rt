@@ -5,7 +5,7 @@ ghost use Rattle.ks_node.specs.Room.{is_full};
 ghost use Rattle.ks_node.specs.Effect.{split_left};
 ghost use Rattle.ks_node.specs.Asks.{CanSplitAt, HalvesHaveRoom};
 ghost use Rattle.ks_put.specs.Parts.{CanAt, Grows, HasRoomAbove, IsEased, IsRoomy, IsShut};
-ghost use Rattle.ks_arena.specs.Of.{IsInside, IsPassOf};
+ghost use Rattle.ks_arena.specs.Of.{IsInside, IsPassOf, SameCaller, caller_of};
 ghost use Rattle.ks_shape.specs.Of.{IsStretch};
 ghost use Rattle.ks_put.specs.Of.{AllGrow, IsOnPathOf, TriedToSplit, PartsDown};
 
@@ -29,13 +29,13 @@ pub(crate) fn grow_root<N: Unlinked, G: Gate>(
     root: Held<N>,
 ) -> Part<N>
     requires pass { IsPassOf arena.now pass.old }
-    requires path { IsOnPathOf arena.now pass.old.caller place pass.old (record { parent = None; node = root }) }
+    requires path { IsOnPathOf arena.now (caller_of pass.old) place pass.old (record { parent = None; node = root }) }
     requires full { IsTrue (is_full N.layout (N.body root.body)) }
     requires cut { IsInside pass.old root.node cut × CanSplitAt (N.body root.body) cut }
     requires grows { Grows N.grows_at (N.body root.body) × CanAt N.can_grow_at (N.body root.body) cut }
     requires halves { IsTrue N.halves_have_room → HalvesHaveRoom N.layout cut (N.body root.body) }
     ensures pass { IsPassOf arena.now pass.new }
-    ensures caller { pass.new.caller ≡ pass.old.caller }
+    ensures caller { SameCaller pass.old pass.new }
     ensures part { TriedToSplit arena.now place pass.old pass.new (record { parent = None; node = root }) result }
     ensures tried { ¬ IsShut result }
     ensures stretch { IsStretch pass.old pass.new }
@@ -67,14 +67,14 @@ pub(crate) fn split_below<N: Unlinked, G: Gate>(
     node: Held<N>,
 ) -> Part<N>
     requires pass { IsPassOf arena.now pass.old }
-    requires path { IsOnPathOf arena.now pass.old.caller place pass.old (record { parent = Some parent; node = node }) }
+    requires path { IsOnPathOf arena.now (caller_of pass.old) place pass.old (record { parent = Some parent; node = node }) }
     requires branch { IsTrue (is_branch (N.body parent.body)) }
     requires full { IsTrue (is_full N.layout (N.body node.body)) }
     requires cut { IsInside pass.old node.node cut × CanSplitAt (N.body node.body) cut }
     requires adopts { CanAt N.can_adopt_at (N.body parent.body) cut }
     requires halves { IsTrue N.halves_have_room → HalvesHaveRoom N.layout cut (N.body node.body) }
     ensures pass { IsPassOf arena.now pass.new }
-    ensures caller { pass.new.caller ≡ pass.old.caller }
+    ensures caller { SameCaller pass.old pass.new }
     ensures part { TriedToSplit arena.now place pass.old pass.new
         (record { parent = Some parent; node = node }) result }
     ensures tried { ¬ IsShut result }
@@ -105,14 +105,14 @@ pub(crate) fn split_alone<N: Unlinked, G: Gate>(
     path: Path<N>,
 ) -> Part<N>
     requires pass { IsPassOf arena.now pass.old }
-    requires path { IsOnPathOf arena.now pass.old.caller place pass.old path }
+    requires path { IsOnPathOf arena.now (caller_of pass.old) place pass.old path }
     requires full { IsTrue (is_full N.layout (N.body path.node.body)) }
     requires cut { IsInside pass.old path.node.node cut × CanSplitAt (N.body path.node.body) cut }
     requires adopts { CanAt N.can_adopt_at (split_left cut (N.body path.node.body)) cut }
     requires leaf { is_branch (N.body path.node.body) ≡ false }
     requires halves { IsTrue N.halves_have_room → HalvesHaveRoom N.layout cut (N.body path.node.body) }
     ensures pass { IsPassOf arena.now pass.new }
-    ensures caller { pass.new.caller ≡ pass.old.caller }
+    ensures caller { SameCaller pass.old pass.new }
     ensures part { TriedToSplit arena.now place pass.old pass.new path result }
     ensures tried { ¬ IsShut result }
     ensures stretch { IsStretch pass.old pass.new }
@@ -145,10 +145,10 @@ pub(crate) fn split_root<N: Unlinked, G: Gate>(
     root: Held<N>,
 ) -> Part<N>
     requires pass { IsPassOf arena.now pass.old }
-    requires path { IsOnPathOf arena.now pass.old.caller place pass.old (record { parent = None; node = root }) }
+    requires path { IsOnPathOf arena.now (caller_of pass.old) place pass.old (record { parent = None; node = root }) }
     requires full { IsTrue (is_full N.layout (N.body root.body)) }
     ensures pass { IsPassOf arena.now pass.new }
-    ensures caller { pass.new.caller ≡ pass.old.caller }
+    ensures caller { SameCaller pass.old pass.new }
     ensures part { TriedToSplit arena.now place pass.old pass.new (record { parent = None; node = root }) result }
     ensures open { N.in_place ≡ false → (IsTrue (is_branch (N.body root.body)) → AllGrow arena.now) → ¬ IsShut result }
     ensures stretch { IsStretch pass.old pass.new }
@@ -183,10 +183,10 @@ pub(crate) fn split_child<N: Unlinked, G: Gate>(
     node: Held<N>,
 ) -> Part<N>
     requires pass { IsPassOf arena.now pass.old }
-    requires path { IsOnPathOf arena.now pass.old.caller place pass.old (record { parent = Some parent; node = node }) }
+    requires path { IsOnPathOf arena.now (caller_of pass.old) place pass.old (record { parent = Some parent; node = node }) }
     requires full { IsTrue (is_full N.layout (N.body node.body)) }
     ensures pass { IsPassOf arena.now pass.new }
-    ensures caller { pass.new.caller ≡ pass.old.caller }
+    ensures caller { SameCaller pass.old pass.new }
     ensures part { TriedToSplit arena.now place pass.old pass.new (record { parent = Some parent; node = node }) result }
     ensures open { N.in_place ≡ false → (IsTrue (is_branch (N.body node.body)) → AllGrow arena.now) →
         (AllGrow arena.now → is_full N.layout (N.body parent.body) ≡ false) → ¬ IsShut result }
@@ -220,10 +220,10 @@ fn split_whole<N: Unlinked, G: Gate>(
     path: Path<N>,
 ) -> Part<N>
     requires pass { IsPassOf arena.now pass.old }
-    requires path { IsOnPathOf arena.now pass.old.caller place pass.old path }
+    requires path { IsOnPathOf arena.now (caller_of pass.old) place pass.old path }
     requires full { IsTrue (is_full N.layout (N.body path.node.body)) }
     ensures pass { IsPassOf arena.now pass.new }
-    ensures caller { pass.new.caller ≡ pass.old.caller }
+    ensures caller { SameCaller pass.old pass.new }
     ensures part { TriedToSplit arena.now place pass.old pass.new path result }
     ensures open { N.in_place ≡ false → (IsTrue (is_branch (N.body path.node.body)) → AllGrow arena.now) →
         (AllGrow arena.now → HasRoomAbove N.layout N.body path.parent) → ¬ IsShut result }
@@ -248,10 +248,10 @@ pub(crate) fn split<N: Unlinked, G: Gate>(
     path: Path<N>,
 ) -> Part<N>
     requires pass { IsPassOf arena.now pass.old }
-    requires path { IsOnPathOf arena.now pass.old.caller place pass.old path }
+    requires path { IsOnPathOf arena.now (caller_of pass.old) place pass.old path }
     requires full { IsTrue (is_full N.layout (N.body path.node.body)) }
     ensures pass { IsPassOf arena.now pass.new }
-    ensures caller { pass.new.caller ≡ pass.old.caller }
+    ensures caller { SameCaller pass.old pass.new }
     ensures part { TriedToSplit arena.now place pass.old pass.new path result }
     ensures open { N.in_place ≡ false → (IsTrue (is_branch (N.body path.node.body)) → AllGrow arena.now) →
         (AllGrow arena.now → HasRoomAbove N.layout N.body path.parent) → ¬ IsShut result }

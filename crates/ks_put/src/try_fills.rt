@@ -1,7 +1,7 @@
 //! Puts and adds that wait for nobody: a search for room, and then the Call.
 ghost use Rattle.std.specs.Prelude.{◌≡◌};
 ghost use Rattle.ks_history.specs.declared.Op.TheVariants.{Add, Put};
-ghost use Rattle.ks_arena.specs.Of.{IsEmptyPassOf};
+ghost use Rattle.ks_arena.specs.Of.{IsEmptyPassOf, SameCaller};
 ghost use Rattle.ks_put.specs.Tries.{FinishesTry};
 
 use crate::room::Room;
@@ -30,7 +30,7 @@ pub fn try_pair_put<N: Unlinked, G: Gate>(
 ) -> Result<Numbered, PutLater>
     requires pass { IsEmptyPassOf arena.now pass.old }
     ensures pass { IsEmptyPassOf arena.now pass.new }
-    ensures caller { pass.new.caller ≡ pass.old.caller }
+    ensures caller { SameCaller pass.old pass.new }
     ensures tried { FinishesTry arena.now (Put place value) pass.old pass.new result }
 {
     match try_make_room(arena, pass, gate, place) {
@@ -63,7 +63,7 @@ pub fn try_pair_add<N: Unlinked, G: Gate>(
 ) -> Result<Numbered, PutLater>
     requires pass { IsEmptyPassOf arena.now pass.old }
     ensures pass { IsEmptyPassOf arena.now pass.new }
-    ensures caller { pass.new.caller ≡ pass.old.caller }
+    ensures caller { SameCaller pass.old pass.new }
     ensures tried { FinishesTry arena.now (Add place value) pass.old pass.new result }
 {
     match try_make_room(arena, pass, gate, place) {

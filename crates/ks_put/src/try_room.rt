@@ -3,7 +3,7 @@
 ghost use Rattle.std.specs.Prelude.{◌≡◌, ◌<◌, IsTrue};
 ghost use Rattle.ks_node.specs.declared.start.Next.TheVariants.{Go};
 ghost use Rattle.ks_node.specs.Body.{next_at};
-ghost use Rattle.ks_arena.specs.Of.{IsPassOf, IsEmptyPassOf};
+ghost use Rattle.ks_arena.specs.Of.{IsPassOf, IsEmptyPassOf, SameCaller, caller_of};
 ghost use Rattle.ks_shape.specs.Ends.{SplitsEvenly};
 ghost use Rattle.ks_shape.specs.Of.{IsStretch, IsOnWayOf, NoneWasFree};
 ghost use Rattle.ks_put.specs.Of.{AllGrow, IsOnPathOf};
@@ -38,8 +38,8 @@ fn try_enter<N: Unlinked, G: Gate>(
 ) -> Result<Path<N>, Later>
     requires pass { IsEmptyPassOf arena.now pass.old }
     ensures pass { IsPassOf arena.now pass.new }
-    ensures caller { pass.new.caller ≡ pass.old.caller }
-    ensures path { StandsOrNone arena.now pass.old.caller place pass.new result }
+    ensures caller { SameCaller pass.old pass.new }
+    ensures path { StandsOrNone arena.now (caller_of pass.old) place pass.new result }
     ensures root { IsAtRoot result }
     ensures down { BeginsOrCause arena.now place pass.old pass.new result }
     ensures stretch { IsStretch pass.old pass.new }
@@ -67,11 +67,11 @@ fn try_child<N: Unlinked, G: Gate>(
     child: u32,
 ) -> Result<Path<N>, Later>
     requires pass { IsPassOf arena.now pass.old }
-    requires way { IsOnWayOf arena.now pass.old.caller place pass.old held }
+    requires way { IsOnWayOf arena.now (caller_of pass.old) place pass.old held }
     requires goes { next_at (N.body held.body) place ≡ Go child }
     ensures pass { IsPassOf arena.now pass.new }
-    ensures caller { pass.new.caller ≡ pass.old.caller }
-    ensures path { StandsOrNone arena.now pass.old.caller place pass.new result }
+    ensures caller { SameCaller pass.old pass.new }
+    ensures path { StandsOrNone arena.now (caller_of pass.old) place pass.new result }
     ensures parent { HangsFrom held result }
     ensures down { DeeperOrCause arena.now place pass.old pass.new held result }
     ensures stretch { IsStretch pass.old pass.new }
@@ -107,9 +107,9 @@ fn let_all_go<N: Unlinked, G: Gate>(
     path: Path<N>,
 )
     requires pass { IsPassOf arena.now pass.old }
-    requires path { IsOnPathOf arena.now pass.old.caller place pass.old path }
+    requires path { IsOnPathOf arena.now (caller_of pass.old) place pass.old path }
     ensures pass { IsEmptyPassOf arena.now pass.new }
-    ensures caller { pass.new.caller ≡ pass.old.caller }
+    ensures caller { SameCaller pass.old pass.new }
     ensures stretch { IsStretch pass.old pass.new }
 {
     let held = let_go(arena, pass, gate, place, path);
@@ -128,12 +128,12 @@ fn try_down<N: Unlinked, G: Gate>(
     refused: bool,
 ) -> Result<Step<N>, Later>
     requires pass { IsPassOf arena.now pass.old }
-    requires path { IsOnPathOf arena.now pass.old.caller place pass.old path }
+    requires path { IsOnPathOf arena.now (caller_of pass.old) place pass.old path }
     requires goes { next_at (N.body path.node.body) place ≡ Go child }
     requires near { depth < arena.now.nodes }
     ensures pass { IsPassOf arena.now pass.new }
-    ensures caller { pass.new.caller ≡ pass.old.caller }
-    ensures path { StepsOrNone arena.now pass.old.caller place pass.new result }
+    ensures caller { SameCaller pass.old pass.new }
+    ensures path { StepsOrNone arena.now (caller_of pass.old) place pass.new result }
     ensures went { WentDown path.node depth refused result }
     ensures near { IsNear arena.now.nodes result }
     ensures down { OnOrCause arena.now place pass.old pass.new depth path result }
@@ -170,12 +170,12 @@ fn try_go_on<N: Unlinked, G: Gate>(
     refused: bool,
 ) -> Result<Step<N>, Later>
     requires pass { IsPassOf arena.now pass.old }
-    requires path { IsOnPathOf arena.now pass.old.caller place pass.old path }
+    requires path { IsOnPathOf arena.now (caller_of pass.old) place pass.old path }
     requires goes { next_at (N.body path.node.body) place ≡ Go child }
     requires near { depth < arena.now.nodes }
     ensures pass { IsPassOf arena.now pass.new }
-    ensures caller { pass.new.caller ≡ pass.old.caller }
-    ensures path { StepsOrNone arena.now pass.old.caller place pass.new result }
+    ensures caller { SameCaller pass.old pass.new }
+    ensures path { StepsOrNone arena.now (caller_of pass.old) place pass.new result }
     ensures refused { WasRefused refused (NoneWasFree arena.now place pass.old pass.new) result }
     ensures eased { SplitsEvenly N.in_place N.halves_have_room → IsEasedBut N.layout N.body (AllGrow arena.now) refused path.parent →
         IsEasedStep N.layout N.body (AllGrow arena.now) result }
@@ -214,7 +214,7 @@ pub(crate) fn try_make_room<N: Unlinked, G: Gate>(
 ) -> Result<Room<N>, Later>
     requires pass { IsEmptyPassOf arena.now pass.old }
     ensures pass { IsPassOf arena.now pass.new }
-    ensures caller { pass.new.caller ≡ pass.old.caller }
+    ensures caller { SameCaller pass.old pass.new }
     ensures room { TriesRoom arena.now place pass.old pass.new result }
     ensures cause { TriesRoomSince arena.now place pass.old pass.new result }
     ensures stretch { IsStretch pass.old pass.new }

@@ -1,6 +1,6 @@
 //! Runs of dels by one caller, and of puts after them.
 ghost use Rattle.std.specs.Prelude.{◌≡◌};
-ghost use Rattle.ks_arena.specs.Of.{IsEmptyPassOf};
+ghost use Rattle.ks_arena.specs.Of.{IsEmptyPassOf, SameCaller};
 
 use ks_arena::{Arena, Pass};
 use ks_flow::Tree;
@@ -24,7 +24,7 @@ pub(crate) fn del_each<N: Unlinked, R: Wait>(
 ) -> bool
     requires pass { IsEmptyPassOf arena.now pass.old }
     ensures pass { IsEmptyPassOf arena.now pass.new }
-    ensures caller { pass.new.caller ≡ pass.old.caller }
+    ensures caller { SameCaller pass.old pass.new }
 {
     let mut right = true;
     for count in 0..many {
@@ -52,7 +52,7 @@ pub(crate) fn del_each_ranged<N: Ranged + Unlinked, R: Wait>(
 ) -> bool
     requires pass { IsEmptyPassOf arena.now pass.old }
     ensures pass { IsEmptyPassOf arena.now pass.new }
-    ensures caller { pass.new.caller ≡ pass.old.caller }
+    ensures caller { SameCaller pass.old pass.new }
 {
     let mut right = true;
     for count in 0..many {
@@ -81,7 +81,7 @@ pub(crate) fn put_each_from<N: Unlinked, R: Wait>(
 ) -> bool
     requires pass { IsEmptyPassOf arena.now pass.old }
     ensures pass { IsEmptyPassOf arena.now pass.new }
-    ensures caller { pass.new.caller ≡ pass.old.caller }
+    ensures caller { SameCaller pass.old pass.new }
 {
     let mut right = true;
     for count in 0..many {

@@ -2,7 +2,7 @@
 ghost use Rattle.std.specs.Prelude.{◌≡◌, ◌≤◌, length};
 ghost use Rattle.ks_flow.specs.Discipline.{SameKeyset};
 ghost use Rattle.ks_arena.specs.Clauses.{hand_of};
-ghost use Rattle.ks_arena.specs.Of.{IsPassOf, RestStays};
+ghost use Rattle.ks_arena.specs.Of.{IsPassOf, RestStays, SameCaller};
 ghost use Rattle.ks_shape.specs.Quiet.{KeepsQuiet};
 ghost use Rattle.ks_shape.specs.Of.{IsStretch, MakesNoneLive, KeepsAside, HasClaimedOne, HasClaimedTwo};
 
@@ -21,7 +21,7 @@ pub fn claim_one<N: Node, D: Discipline, G: Gate>(
     requires pass { IsPassOf arena.now pass.old }
     requires few { length (hand_of pass.old) ≤ 2 }
     ensures pass { IsPassOf arena.now pass.new }
-    ensures caller { pass.new.caller ≡ pass.old.caller }
+    ensures caller { SameCaller pass.old pass.new }
     ensures claimed { HasClaimedOne arena.now pass.old pass.new result }
     ensures stretch { IsStretch pass.old pass.new }
     ensures makes { MakesNoneLive pass.old pass.new }
@@ -49,7 +49,7 @@ pub fn claim_two<N: Node, D: Discipline, G: Gate>(
     requires pass { IsPassOf arena.now pass.old }
     requires few { length (hand_of pass.old) ≤ 1 }
     ensures pass { IsPassOf arena.now pass.new }
-    ensures caller { pass.new.caller ≡ pass.old.caller }
+    ensures caller { SameCaller pass.old pass.new }
     ensures claimed { HasClaimedTwo arena.now pass.old pass.new result }
     ensures stretch { IsStretch pass.old pass.new }
     ensures makes { MakesNoneLive pass.old pass.new }

@@ -4,7 +4,7 @@ ghost use Rattle.std.specs.Prelude.{◌≡◌, ◌≢◌, ◌∷◌, []};
 ghost use Rattle.ks_history.specs.declared.Reply.TheVariants.{Full as full_reply};
 ghost use Rattle.ks_history.specs.Map.{told};
 ghost use Rattle.ks_arena.specs.Clauses.{hand_of};
-ghost use Rattle.ks_arena.specs.Of.{IsPassOf, IsEmptyPassOf, IsReadyAt, SeesOn};
+ghost use Rattle.ks_arena.specs.Of.{IsPassOf, IsEmptyPassOf, IsReadyAt, SeesOn, SameCaller};
 ghost use Rattle.ks_shape.specs.Of.{MakesNoneLive, FinishesAny, FinishesAt, FinishesFull, FinishesIfDue};
 
 use crate::answers::Full;
@@ -40,7 +40,7 @@ fn decide_here<N: Node, D: Discipline, G: Gate>(
     requires alone { hand_of pass.old ≡ held.node ∷ [] }
     requires ready { IsReadyAt arena.now pass.old held op reply }
     ensures pass { IsEmptyPassOf arena.now pass.new }
-    ensures caller { pass.new.caller ≡ pass.old.caller }
+    ensures caller { SameCaller pass.old pass.new }
     ensures begins { SeesOn pass.old pass.new }
     ensures makes { MakesNoneLive pass.old pass.new }
     ensures done { FinishesIfDue arena.now held op pass.old pass.new reply result }
@@ -68,7 +68,7 @@ pub fn conclude<N: Node, D: Discipline, G: Gate>(
     requires ready { IsReadyAt arena.now pass.old held op reply }
     requires some { reply ≢ full_reply }
     ensures pass { IsEmptyPassOf arena.now pass.new }
-    ensures caller { pass.new.caller ≡ pass.old.caller }
+    ensures caller { SameCaller pass.old pass.new }
     ensures begins { SeesOn pass.old pass.new }
     ensures makes { MakesNoneLive pass.old pass.new }
     ensures done { FinishesAny arena.now op pass.old pass.new reply result }
@@ -90,7 +90,7 @@ pub fn refuse<N: Node, D: Discipline, G: Gate>(
     requires alone { hand_of pass.old ≡ held.node ∷ [] }
     requires ready { IsReadyAt arena.now pass.old held op full_reply }
     ensures pass { IsEmptyPassOf arena.now pass.new }
-    ensures caller { pass.new.caller ≡ pass.old.caller }
+    ensures caller { SameCaller pass.old pass.new }
     ensures begins { SeesOn pass.old pass.new }
     ensures makes { MakesNoneLive pass.old pass.new }
     ensures done { FinishesFull arena.now held op pass.old pass.new result.number }

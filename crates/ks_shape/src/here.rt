@@ -4,7 +4,7 @@ ghost use Rattle.ks_history.specs.declared.Op.TheVariants.{Add, Del, Get, Put, S
 ghost use Rattle.ks_history.specs.Map.{told};
 ghost use Rattle.ks_node.specs.declared.start.Next.TheVariants.{Here};
 ghost use Rattle.ks_node.specs.Body.{next_at};
-ghost use Rattle.ks_arena.specs.Of.{IsPassOf, IsEmptyPassOf, WasRefusedAt, SeesOn};
+ghost use Rattle.ks_arena.specs.Of.{IsPassOf, IsEmptyPassOf, WasRefusedAt, SeesOn, SameCaller, caller_of};
 ghost use Rattle.ks_shape.specs.SearchEnd.{Fills, LacksPlace, TakesPlace};
 ghost use Rattle.ks_shape.specs.Of.{IsOnWayOf, MakesNoneLive, FinishesAny, FinishesCrowded, SearchEndsAt, HasRoomAt, IsCrowdedAt};
 
@@ -26,7 +26,7 @@ pub fn tree_end_law<N: Node>(
     place: u64,
 )
     requires pass { IsPassOf arena.now pass.now }
-    requires way { IsOnWayOf arena.now pass.now.caller place pass.now held.now }
+    requires way { IsOnWayOf arena.now (caller_of pass.now) place pass.now held.now }
     requires here { next_at (N.body held.now.body) place ≡ Here }
     ensures { SearchEndsAt arena.now place pass.now held.now }
 {
@@ -52,7 +52,7 @@ pub fn get_here<N: Node, D: Discipline, G: Gate>(
     requires pass { IsPassOf arena.now pass.old }
     requires ends { SearchEndsAt arena.now place pass.old held }
     ensures pass { IsEmptyPassOf arena.now pass.new }
-    ensures caller { pass.new.caller ≡ pass.old.caller }
+    ensures caller { SameCaller pass.old pass.new }
     ensures begins { SeesOn pass.old pass.new }
     ensures makes { MakesNoneLive pass.old pass.new }
     ensures done { FinishesAny arena.now (Get place) pass.old pass.new (told result.found) result.number }
@@ -76,7 +76,7 @@ pub fn put_here<N: Node, D: Discipline, G: Gate>(
     requires pass { IsPassOf arena.now pass.old }
     requires room { HasRoomAt arena.now place pass.old held }
     ensures pass { IsEmptyPassOf arena.now pass.new }
-    ensures caller { pass.new.caller ≡ pass.old.caller }
+    ensures caller { SameCaller pass.old pass.new }
     ensures begins { SeesOn pass.old pass.new }
     ensures makes { MakesNoneLive pass.old pass.new }
     ensures done { FinishesAny arena.now (Put place value) pass.old pass.new (told result.found) result.number }
@@ -103,7 +103,7 @@ pub fn add_here<N: Node, D: Discipline, G: Gate>(
     requires pass { IsPassOf arena.now pass.old }
     requires room { HasRoomAt arena.now place pass.old held }
     ensures pass { IsEmptyPassOf arena.now pass.new }
-    ensures caller { pass.new.caller ≡ pass.old.caller }
+    ensures caller { SameCaller pass.old pass.new }
     ensures begins { SeesOn pass.old pass.new }
     ensures makes { MakesNoneLive pass.old pass.new }
     ensures done { FinishesAny arena.now (Add place value) pass.old pass.new (told result.found) result.number }
@@ -140,7 +140,7 @@ pub fn swap_here<N: Node, D: Discipline, G: Gate>(
     requires pass { IsPassOf arena.now pass.old }
     requires ends { SearchEndsAt arena.now place pass.old held }
     ensures pass { IsEmptyPassOf arena.now pass.new }
-    ensures caller { pass.new.caller ≡ pass.old.caller }
+    ensures caller { SameCaller pass.old pass.new }
     ensures begins { SeesOn pass.old pass.new }
     ensures makes { MakesNoneLive pass.old pass.new }
     ensures done { FinishesAny arena.now (Swap place old new) pass.old pass.new (told result.found) result.number }
@@ -182,7 +182,7 @@ pub fn del_here<N: Node, D: Discipline, G: Gate>(
     requires pass { IsPassOf arena.now pass.old }
     requires ends { SearchEndsAt arena.now place pass.old held }
     ensures pass { IsEmptyPassOf arena.now pass.new }
-    ensures caller { pass.new.caller ≡ pass.old.caller }
+    ensures caller { SameCaller pass.old pass.new }
     ensures begins { SeesOn pass.old pass.new }
     ensures makes { MakesNoneLive pass.old pass.new }
     ensures done { FinishesAny arena.now (Del place) pass.old pass.new (told result.found) result.number }
@@ -211,7 +211,7 @@ pub fn refuse_here<N: Node, D: Discipline, G: Gate>(
     requires refused { WasRefusedAt arena.now pass.old place }
     requires fills { Fills place value op }
     ensures pass { IsEmptyPassOf arena.now pass.new }
-    ensures caller { pass.new.caller ≡ pass.old.caller }
+    ensures caller { SameCaller pass.old pass.new }
     ensures begins { SeesOn pass.old pass.new }
     ensures makes { MakesNoneLive pass.old pass.new }
     ensures done { FinishesCrowded arena.now op place pass.old pass.new result.number }

@@ -5,7 +5,7 @@ ghost use Rattle.ks_node.specs.Room.{is_full};
 ghost use Rattle.ks_node.specs.Effect.{split_right as right_part, adopted, with_link};
 ghost use Rattle.ks_node.specs.Asks.{CanSplitAt, IsCut};
 ghost use Rattle.ks_bodies.specs.Links as shapes;
-ghost use Rattle.ks_arena.specs.Of.{IsPassOf, HasShaped};
+ghost use Rattle.ks_arena.specs.Of.{IsPassOf, HasShaped, SameCaller};
 ghost use Rattle.ks_shape.specs.Of.{IsLiveInHand, IsFreeInHand, HasBecome, IsLedTo, StandsUnderAt, splits_right, grows_right, attaches_to};
 
 use ks_arena::laws::sound_law;
@@ -30,7 +30,7 @@ pub fn split_right<N: Linked>(
     requires full { IsTrue (is_full N.layout (N.body node.old.body)) }
     requires cut { CanSplitAt (N.body node.old.body) cut }
     ensures pass { IsPassOf arena.now pass.new }
-    ensures caller { pass.new.caller ≡ pass.old.caller }
+    ensures caller { SameCaller pass.old pass.new }
     ensures shaped { HasShaped arena.now (splits_right arena.now node.old right.old cut) pass.old pass.new }
     ensures node { HasBecome arena.now pass.new
         (shapes.split_linked cut right.old.node (N.body node.old.body)) node.old node.new }
@@ -69,7 +69,7 @@ pub fn grow_right<N: Linked>(
         × IsTrue (N.can_grow_at (content_of (N.body node.old.body)) cut) }
     requires level { (N.body node.old.body).level < 4294967295 }
     ensures pass { IsPassOf arena.now pass.new }
-    ensures caller { pass.new.caller ≡ pass.old.caller }
+    ensures caller { SameCaller pass.old pass.new }
     ensures shaped { HasShaped arena.now (grows_right arena.now node.old left.old right.old cut) pass.old pass.new }
     ensures node { HasBecome arena.now pass.new
         (shapes.grown_higher N.branch_kind cut left.old.node right.old.node (N.body node.old.body)) node.old node.new }
@@ -110,7 +110,7 @@ pub fn attach<N: Linked>(
     requires adopts { IsTrue (N.can_adopt_at (content_of (N.body node.old.body)) cut) }
     requires under { StandsUnderAt arena.now pass.old id (N.body node.old.body).level cut }
     ensures pass { IsPassOf arena.now pass.new }
-    ensures caller { pass.new.caller ≡ pass.old.caller }
+    ensures caller { SameCaller pass.old pass.new }
     ensures shaped { HasShaped arena.now (attaches_to arena.now node.old id cut) pass.old pass.new }
     ensures node { HasBecome arena.now pass.new (adopted cut id (N.body node.old.body)) node.old node.new }
     ensures led { IsLedTo arena.now pass.new id }

@@ -1,7 +1,7 @@
 //! Steps of a call under way, each with its gate: by whatever technique the call goes, it stays under way.
 ghost use Rattle.std.specs.Prelude.{◌≡◌};
 ghost use Rattle.ks_history.specs.declared.Event.TheVariants.{Give, Take};
-ghost use Rattle.ks_arena.specs.Of.{Adds, IsPassOf, IsEmptyPassOf, IsCurrent};
+ghost use Rattle.ks_arena.specs.Of.{Adds, IsPassOf, IsEmptyPassOf, IsCurrent, SameCaller, caller_of};
 ghost use Rattle.ks_shape.specs.Of.{HoldsOnly, IsOnWayOf, IsStretch, MakesNoneLive, StaysUnderwayAny};
 
 use ks_arena::laws::root_stays_law;
@@ -21,10 +21,10 @@ pub fn take_root<N: Node, D: Discipline, R: Wait, G: Gate>(
 ) -> Held<N>
     requires pass { IsEmptyPassOf arena.now pass.old }
     ensures pass { IsPassOf arena.now pass.new }
-    ensures caller { pass.new.caller ≡ pass.old.caller }
-    ensures took { Adds (Take pass.old.caller 0) pass.old pass.new }
+    ensures caller { SameCaller pass.old pass.new }
+    ensures took { Adds (Take (caller_of pass.old) 0) pass.old pass.new }
     ensures root { result.node ≡ 0 }
-    ensures way { IsOnWayOf arena.now pass.old.caller place pass.new result }
+    ensures way { IsOnWayOf arena.now (caller_of pass.old) place pass.new result }
     ensures under { StaysUnderwayAny pass.old pass.new }
     ensures stretch { IsStretch pass.old pass.new }
     ensures makes { MakesNoneLive pass.old pass.new }
@@ -49,8 +49,8 @@ pub fn give_last<N: Node, D: Discipline, G: Gate>(
     requires alone { HoldsOnly pass.old held }
     requires body { IsCurrent arena.now pass.old held }
     ensures pass { IsEmptyPassOf arena.now pass.new }
-    ensures caller { pass.new.caller ≡ pass.old.caller }
-    ensures gave { Adds (Give pass.old.caller held.node) pass.old pass.new }
+    ensures caller { SameCaller pass.old pass.new }
+    ensures gave { Adds (Give (caller_of pass.old) held.node) pass.old pass.new }
     ensures under { StaysUnderwayAny pass.old pass.new }
     ensures stretch { IsStretch pass.old pass.new }
     ensures makes { MakesNoneLive pass.old pass.new }

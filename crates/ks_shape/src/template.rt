@@ -9,6 +9,7 @@ ghost use Rattle.ks_shape.specs.Answers.{number_in, reply_in};
 ghost use Rattle.ks_shape.specs.Idle.{IsDone, IsIdle, Site};
 ghost use Rattle.ks_shape.specs.Tries.{HasTried, HasTriedPut};
 ghost use Rattle.ks_shape.specs.Ends.{HasEndedPut, SplitsEvenly};
+ghost use Rattle.ks_arena.specs.Of.{SameCaller};
 
 use crate::answers::{Full, Later, Numbered, PutLater};
 use ks_arena::{Arena, Pass};
@@ -62,7 +63,7 @@ pub trait Template<N: Node, A: Shelf>: Ruled {
     ) -> Numbered
         requires pass { IsIdle (A.site arena.now) pass.old }
         ensures pass { IsIdle (A.site arena.now) pass.new }
-        ensures caller { pass.new.caller ≡ pass.old.caller }
+        ensures caller { SameCaller pass.old pass.new }
         ensures done { IsDone N.layout Self.technique (A.site arena.now) (Get place)
             pass.old pass.new (told result.found) result.number };
 
@@ -83,7 +84,7 @@ pub trait Template<N: Node, A: Shelf>: Ruled {
     ) -> Result<Numbered, Full>
         requires pass { IsIdle (A.site arena.now) pass.old }
         ensures pass { IsIdle (A.site arena.now) pass.new }
-        ensures caller { pass.new.caller ≡ pass.old.caller }
+        ensures caller { SameCaller pass.old pass.new }
         ensures done { IsDone N.layout Self.technique (A.site arena.now) (Put place value)
             pass.old pass.new (reply_in result) (number_in result) };
 
@@ -102,7 +103,7 @@ pub trait Template<N: Node, A: Shelf>: Ruled {
     ) -> Result<Numbered, Full>
         requires pass { IsIdle (A.site arena.now) pass.old }
         ensures pass { IsIdle (A.site arena.now) pass.new }
-        ensures caller { pass.new.caller ≡ pass.old.caller }
+        ensures caller { SameCaller pass.old pass.new }
         ensures done { IsDone N.layout Self.technique (A.site arena.now) (Add place value)
             pass.old pass.new (reply_in result) (number_in result) };
 
@@ -119,7 +120,7 @@ pub trait Template<N: Node, A: Shelf>: Ruled {
     ) -> Numbered
         requires pass { IsIdle (A.site arena.now) pass.old }
         ensures pass { IsIdle (A.site arena.now) pass.new }
-        ensures caller { pass.new.caller ≡ pass.old.caller }
+        ensures caller { SameCaller pass.old pass.new }
         ensures done { IsDone N.layout Self.technique (A.site arena.now) (Swap place old new)
             pass.old pass.new (told result.found) result.number };
 
@@ -133,7 +134,7 @@ pub trait Template<N: Node, A: Shelf>: Ruled {
     ) -> Numbered
         requires pass { IsIdle (A.site arena.now) pass.old }
         ensures pass { IsIdle (A.site arena.now) pass.new }
-        ensures caller { pass.new.caller ≡ pass.old.caller }
+        ensures caller { SameCaller pass.old pass.new }
         ensures done { IsDone N.layout Self.technique (A.site arena.now) (Del place)
             pass.old pass.new (told result.found) result.number };
 
@@ -153,7 +154,7 @@ pub trait Template<N: Node, A: Shelf>: Ruled {
     ) -> Result<Numbered, Later>
         requires pass { IsIdle (A.site arena.now) pass.old }
         ensures pass { IsIdle (A.site arena.now) pass.new }
-        ensures caller { pass.new.caller ≡ pass.old.caller }
+        ensures caller { SameCaller pass.old pass.new }
         ensures tried { HasTried N.layout Self.technique (A.site arena.now) (Get place)
             pass.old pass.new result };
 
@@ -173,7 +174,7 @@ pub trait Template<N: Node, A: Shelf>: Ruled {
     ) -> Result<Numbered, PutLater>
         requires pass { IsIdle (A.site arena.now) pass.old }
         ensures pass { IsIdle (A.site arena.now) pass.new }
-        ensures caller { pass.new.caller ≡ pass.old.caller }
+        ensures caller { SameCaller pass.old pass.new }
         ensures ends { HasEndedPut N.layout Self.technique (A.site arena.now) (Put place value)
             pass.old pass.new result }
         ensures tried { SplitsEvenly N.in_place N.halves_have_room →
@@ -195,7 +196,7 @@ pub trait Template<N: Node, A: Shelf>: Ruled {
     ) -> Result<Numbered, PutLater>
         requires pass { IsIdle (A.site arena.now) pass.old }
         ensures pass { IsIdle (A.site arena.now) pass.new }
-        ensures caller { pass.new.caller ≡ pass.old.caller }
+        ensures caller { SameCaller pass.old pass.new }
         ensures ends { HasEndedPut N.layout Self.technique (A.site arena.now) (Add place value)
             pass.old pass.new result }
         ensures tried { SplitsEvenly N.in_place N.halves_have_room →
@@ -217,7 +218,7 @@ pub trait Template<N: Node, A: Shelf>: Ruled {
     ) -> Result<Numbered, Later>
         requires pass { IsIdle (A.site arena.now) pass.old }
         ensures pass { IsIdle (A.site arena.now) pass.new }
-        ensures caller { pass.new.caller ≡ pass.old.caller }
+        ensures caller { SameCaller pass.old pass.new }
         ensures tried { HasTried N.layout Self.technique (A.site arena.now) (Swap place old new)
             pass.old pass.new result };
 
@@ -235,7 +236,7 @@ pub trait Template<N: Node, A: Shelf>: Ruled {
     ) -> Result<Numbered, Later>
         requires pass { IsIdle (A.site arena.now) pass.old }
         ensures pass { IsIdle (A.site arena.now) pass.new }
-        ensures caller { pass.new.caller ≡ pass.old.caller }
+        ensures caller { SameCaller pass.old pass.new }
         ensures tried { HasTried N.layout Self.technique (A.site arena.now) (Del place)
             pass.old pass.new result };
 }

@@ -7,7 +7,7 @@ ghost use Rattle.ks_node.specs.Room.{is_full, fit_together};
 ghost use Rattle.ks_node.specs.Effect.{split_left, split_right, grown, adopted, absorbed, forgot, collapsed};
 ghost use Rattle.ks_node.specs.Asks.{CanSplitAt};
 ghost use Rattle.ks_bodies.specs.Shapes as shapes;
-ghost use Rattle.ks_arena.specs.Of.{IsInside, IsPassOf, HasShaped};
+ghost use Rattle.ks_arena.specs.Of.{IsInside, IsPassOf, HasShaped, SameCaller};
 ghost use Rattle.ks_shape.specs.Of.{IsLiveInHand, IsFreeInHand, LeadsInto, HasBecome, HasBecomeFree, splits_own, splits_under, grows_to, HasPlaces, absorbs_own, absorbs_under, collapses_to};
 
 use ks_arena::laws::sound_law;
@@ -31,7 +31,7 @@ pub fn split_own<N: Unlinked>(
     requires cut { IsInside pass.old node.old.node cut × CanSplitAt (N.body node.old.body) cut }
     requires adopts { IsTrue (N.can_adopt_at (content_of (split_left cut (N.body node.old.body))) cut) }
     ensures pass { IsPassOf arena.now pass.new }
-    ensures caller { pass.new.caller ≡ pass.old.caller }
+    ensures caller { SameCaller pass.old pass.new }
     ensures shaped { HasShaped arena.now (splits_own arena.now node.old right.old cut) pass.old pass.new }
     ensures node { HasBecome arena.now pass.new
         (shapes.split_on cut right.old.node (N.body node.old.body)) node.old node.new }
@@ -75,7 +75,7 @@ pub fn split_under<N: Unlinked>(
     requires cut { IsInside pass.old node.old.node cut × CanSplitAt (N.body node.old.body) cut }
     requires adopts { IsTrue (N.can_adopt_at (content_of (N.body parent.old.body)) cut) }
     ensures pass { IsPassOf arena.now pass.new }
-    ensures caller { pass.new.caller ≡ pass.old.caller }
+    ensures caller { SameCaller pass.old pass.new }
     ensures shaped { HasShaped arena.now (splits_under arena.now parent.old node.old right.old cut) pass.old pass.new }
     ensures parent { HasBecome arena.now pass.new
         (adopted cut right.old.node (N.body parent.old.body)) parent.old parent.new }
@@ -120,7 +120,7 @@ pub fn grow<N: Unlinked>(
     requires grows { IsTrue (N.grows_at (content_of (N.body node.old.body)))
         × IsTrue (N.can_grow_at (content_of (N.body node.old.body)) cut) }
     ensures pass { IsPassOf arena.now pass.new }
-    ensures caller { pass.new.caller ≡ pass.old.caller }
+    ensures caller { SameCaller pass.old pass.new }
     ensures shaped { HasShaped arena.now (grows_to arena.now node.old left.old right.old cut) pass.old pass.new }
     ensures node { HasBecome arena.now pass.new
         (grown N.branch_kind cut left.old.node right.old.node (N.body node.old.body)) node.old node.new }
@@ -159,7 +159,7 @@ pub fn absorb_own<N: Unlinked>(
     requires apart { node.old.node ≢ right.old.node }
     requires fits { IsTrue (fit_together N.layout (N.body node.old.body) (N.body right.old.body)) }
     ensures pass { IsPassOf arena.now pass.new }
-    ensures caller { pass.new.caller ≡ pass.old.caller }
+    ensures caller { SameCaller pass.old pass.new }
     ensures shaped { HasShaped arena.now (absorbs_own arena.now node.old right.old) pass.old pass.new }
     ensures node { HasBecome arena.now pass.new
         (absorbed (N.body node.old.body) (N.body right.old.body)) node.old node.new }
@@ -199,7 +199,7 @@ pub fn absorb_under<N: Unlinked>(
         × (node.old.node ≢ right.old.node) }
     requires fits { IsTrue (fit_together N.layout (N.body node.old.body) (N.body right.old.body)) }
     ensures pass { IsPassOf arena.now pass.new }
-    ensures caller { pass.new.caller ≡ pass.old.caller }
+    ensures caller { SameCaller pass.old pass.new }
     ensures shaped { HasShaped arena.now (absorbs_under arena.now parent.old node.old right.old) pass.old pass.new }
     ensures parent { HasBecome arena.now pass.new
         (forgot right.old.node (N.body parent.old.body)) parent.old parent.new }
@@ -239,7 +239,7 @@ pub fn collapse<N: Unlinked>(
     requires sole { only_child_of (N.body node.old.body) ≡ Some child.old.node }
     requires apart { node.old.node ≢ child.old.node }
     ensures pass { IsPassOf arena.now pass.new }
-    ensures caller { pass.new.caller ≡ pass.old.caller }
+    ensures caller { SameCaller pass.old pass.new }
     ensures shaped { HasShaped arena.now (collapses_to arena.now node.old child.old) pass.old pass.new }
     ensures node { HasBecome arena.now pass.new
         (collapsed (N.body node.old.body) (N.body child.old.body)) node.old node.new }

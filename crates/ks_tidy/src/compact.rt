@@ -3,7 +3,7 @@ ghost use Rattle.std.specs.Prelude.{◌≡◌, ◌≤◌, suc};
 ghost use Rattle.ks_flow.specs.Tight.{EndsRun};
 ghost use Rattle.ks_history.specs.Done.{Template};
 ghost use Rattle.ks_node.specs.Edges.{record_of};
-ghost use Rattle.ks_arena.specs.Of.{IsEmptyPassOf, IsPassOf};
+ghost use Rattle.ks_arena.specs.Of.{IsEmptyPassOf, IsPassOf, SameCaller, caller_of};
 ghost use Rattle.ks_shape.specs.Of.{IsStretch};
 ghost use Rattle.ks_tidy.specs.Compacts.{FitsNone, HasFreed, HasLeftBy, IsNotSole, IsPairOf, IsTightBefore, IsTightOf, WasUndisturbed};
 
@@ -44,11 +44,11 @@ fn visit<N: Unlinked, R: Wait, G: Gate>(
     path: Path<N>,
 ) -> Visited<N>
     requires pass { IsPassOf arena.now pass.old }
-    requires pair { IsPairOf arena.now pass.old.caller place pass.old path }
+    requires pair { IsPairOf arena.now (caller_of pass.old) place pass.old path }
     requires upto { place ≤ last }
     ensures pass { IsPassOf arena.now pass.new }
-    ensures caller { pass.new.caller ≡ pass.old.caller }
-    ensures pair { IsPairOf arena.now pass.old.caller place pass.new result.path }
+    ensures caller { SameCaller pass.old pass.new }
+    ensures pair { IsPairOf arena.now (caller_of pass.old) place pass.new result.path }
     ensures stretch { IsStretch pass.old pass.new }
     ensures counts { HasFreed pass.old pass.new result.freed }
     ensures same { WasUndisturbed pass.old pass.new → result.path ≡ path }
@@ -71,7 +71,7 @@ fn walk<N: Unlinked, R: Wait, G: Gate>(
 ) -> Walked
     requires pass { IsEmptyPassOf arena.now pass.old }
     ensures pass { IsEmptyPassOf arena.now pass.new }
-    ensures caller { pass.new.caller ≡ pass.old.caller }
+    ensures caller { SameCaller pass.old pass.new }
     ensures stretch { IsStretch pass.old pass.new }
     ensures counts { HasFreed pass.old pass.new result.freed }
     ensures upto { place ≤ result.end }
@@ -117,7 +117,7 @@ pub fn pair_compact<N: Unlinked, R: Wait, G: Gate>(
 ) -> u32
     requires pass { IsEmptyPassOf arena.now pass.old }
     ensures pass { IsEmptyPassOf arena.now pass.new }
-    ensures caller { pass.new.caller ≡ pass.old.caller }
+    ensures caller { SameCaller pass.old pass.new }
     ensures left { (template : Template) → HasLeftBy template pass.old pass.new }
     ensures frees { HasFreed pass.old pass.new result }
     ensures tight { WasUndisturbed pass.old pass.new → IsTightOf arena.now pass.new }

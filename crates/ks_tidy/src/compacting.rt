@@ -2,6 +2,7 @@
 ghost use Rattle.std.specs.Prelude.{◌≡◌};
 ghost use Rattle.ks_shape.specs.Idle.{IsIdle, Site};
 ghost use Rattle.ks_tidy.specs.Compacts.{HasFreed, HasLeftBy, IsTightIn, WasUndisturbed};
+ghost use Rattle.ks_arena.specs.Of.{SameCaller};
 
 use ks_arena::Pass;
 use ks_gate::Gate;
@@ -18,7 +19,7 @@ pub trait Compacting<N: Node, A: Shelf>: Template<N, A> {
     fn compact<R: Wait, G: Gate>(rt: &R, arena: &A, pass: &mut Pass<N, Self::Rule>, gate: &G) -> u32
         requires pass { IsIdle (A.site arena.now) pass.old }
         ensures pass { IsIdle (A.site arena.now) pass.new }
-        ensures caller { pass.new.caller ≡ pass.old.caller }
+        ensures caller { SameCaller pass.old pass.new }
         ensures left { HasLeftBy Self.technique pass.old pass.new }
         ensures frees { HasFreed pass.old pass.new result }
         ensures tight { WasUndisturbed pass.old pass.new → IsTightIn (A.site arena.now) pass.new };

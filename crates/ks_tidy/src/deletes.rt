@@ -5,7 +5,7 @@ ghost use Rattle.ks_history.specs.Map.{told};
 ghost use Rattle.ks_node.specs.declared.start.Next.TheVariants.{Here};
 ghost use Rattle.ks_node.specs.Body.{next_at};
 ghost use Rattle.ks_arena.specs.Clauses.{hand_of};
-ghost use Rattle.ks_arena.specs.Of.{Holds, IsCurrent, IsEmptyPassOf, IsInside, IsLiveAndCurrent, IsPassOf, SeesOn, StayCurrentBut, WasAlone};
+ghost use Rattle.ks_arena.specs.Of.{Holds, IsCurrent, IsEmptyPassOf, IsInside, IsLiveAndCurrent, IsPassOf, SeesOn, StayCurrentBut, WasAlone, SameCaller, caller_of};
 ghost use Rattle.ks_shape.specs.Of.{FinishesAny, SearchEndsAt};
 ghost use Rattle.ks_tidy.specs.Of.{DecidesAny, IsKeptAt, IsPairOf, IsTidyOf};
 
@@ -36,7 +36,7 @@ pub(crate) fn delete<N: Unlinked, G: Gate>(
     requires inside { IsInside pass.old held.old.node place }
     requires ends { next_at (N.body held.old.body) place ≡ Here }
     ensures pass { IsPassOf arena.now pass.new }
-    ensures caller { pass.new.caller ≡ pass.old.caller }
+    ensures caller { SameCaller pass.old pass.new }
     ensures begins { SeesOn pass.old pass.new }
     ensures hand { hand_of pass.new ≡ hand_of pass.old }
     ensures node { (held.new.node ≡ held.old.node) × (held.new.live ≡ true) }
@@ -65,10 +65,10 @@ pub fn del_on<N: Unlinked, R: Wait, G: Gate>(
     path: Path<N>,
 ) -> Numbered
     requires pass { IsPassOf arena.now pass.old }
-    requires pair { IsPairOf arena.now pass.old.caller place pass.old path }
+    requires pair { IsPairOf arena.now (caller_of pass.old) place pass.old path }
     requires ends { next_at (N.body path.node.body) place ≡ Here }
     ensures pass { IsEmptyPassOf arena.now pass.new }
-    ensures caller { pass.new.caller ≡ pass.old.caller }
+    ensures caller { SameCaller pass.old pass.new }
     ensures begins { SeesOn pass.old pass.new }
     ensures done { FinishesAny arena.now (Del place) pass.old pass.new (told result.found) result.number }
     ensures tidy { result.found ≢ None → WasAlone pass.old pass.new → IsTidyOf arena.now pass.new place }
@@ -98,7 +98,7 @@ pub fn del_alone<N: Unlinked, R: Wait, G: Gate>(
     requires pass { IsPassOf arena.now pass.old }
     requires ends { SearchEndsAt arena.now place pass.old held }
     ensures pass { IsEmptyPassOf arena.now pass.new }
-    ensures caller { pass.new.caller ≡ pass.old.caller }
+    ensures caller { SameCaller pass.old pass.new }
     ensures begins { SeesOn pass.old pass.new }
     ensures done { FinishesAny arena.now (Del place) pass.old pass.new (told result.found) result.number }
     ensures tidy { result.found ≢ None → WasAlone pass.old pass.new → IsTidyOf arena.now pass.new place }

@@ -2,7 +2,7 @@
 ghost use Rattle.std.specs.Prelude.{◌≡◌, Some};
 ghost use Rattle.ks_node.specs.declared.start.Next.TheVariants.{Go, Here};
 ghost use Rattle.ks_node.specs.Body.{next_at};
-ghost use Rattle.ks_arena.specs.Of.{IsEmptyPassOf, IsPassOf, WasAlone};
+ghost use Rattle.ks_arena.specs.Of.{IsEmptyPassOf, IsPassOf, WasAlone, SameCaller, caller_of};
 ghost use Rattle.ks_shape.specs.Of.{IsStretch};
 ghost use Rattle.ks_tidy.specs.Of.{CountsFree, IsKeptAt, IsPairOf, IsTidyOf, MakesFree};
 
@@ -26,11 +26,11 @@ pub fn go_down<N: Unlinked, R: Wait, G: Gate>(
     child: u32,
 ) -> Path<N>
     requires pass { IsPassOf arena.now pass.old }
-    requires pair { IsPairOf arena.now pass.old.caller place pass.old path }
+    requires pair { IsPairOf arena.now (caller_of pass.old) place pass.old path }
     requires goes { next_at (N.body path.node.body) place ≡ Go child }
     ensures pass { IsPassOf arena.now pass.new }
-    ensures caller { pass.new.caller ≡ pass.old.caller }
-    ensures pair { IsPairOf arena.now pass.old.caller place pass.new result }
+    ensures caller { SameCaller pass.old pass.new }
+    ensures pair { IsPairOf arena.now (caller_of pass.old) place pass.new result }
     ensures parent { result.parent ≡ Some path.node }
     ensures child { result.node.node ≡ child }
     ensures stretch { IsStretch pass.old pass.new }
@@ -49,9 +49,9 @@ pub fn leave<N: Unlinked, G: Gate>(
     path: Path<N>,
 )
     requires pass { IsPassOf arena.now pass.old }
-    requires pair { IsPairOf arena.now pass.old.caller place pass.old path }
+    requires pair { IsPairOf arena.now (caller_of pass.old) place pass.old path }
     ensures pass { IsEmptyPassOf arena.now pass.new }
-    ensures caller { pass.new.caller ≡ pass.old.caller }
+    ensures caller { SameCaller pass.old pass.new }
     ensures stretch { IsStretch pass.old pass.new }
     ensures frees { MakesFree 0 pass.old pass.new }
 {
@@ -72,10 +72,10 @@ fn tidy_branch<N: Unlinked, R: Wait, G: Gate>(
     path: Path<N>,
 ) -> Tidied<N>
     requires pass { IsPassOf arena.now pass.old }
-    requires pair { IsPairOf arena.now pass.old.caller place pass.old path }
+    requires pair { IsPairOf arena.now (caller_of pass.old) place pass.old path }
     ensures pass { IsPassOf arena.now pass.new }
-    ensures caller { pass.new.caller ≡ pass.old.caller }
-    ensures pair { IsPairOf arena.now pass.old.caller place pass.new result.path }
+    ensures caller { SameCaller pass.old pass.new }
+    ensures pair { IsPairOf arena.now (caller_of pass.old) place pass.new result.path }
     ensures stretch { IsStretch pass.old pass.new }
     ensures counts { CountsFree result.freed pass.old pass.new }
 {
@@ -96,8 +96,8 @@ pub fn come_down<N: Unlinked, R: Wait, G: Gate>(
 ) -> Tidied<N>
     requires pass { IsEmptyPassOf arena.now pass.old }
     ensures pass { IsPassOf arena.now pass.new }
-    ensures caller { pass.new.caller ≡ pass.old.caller }
-    ensures pair { IsPairOf arena.now pass.old.caller place pass.new result.path }
+    ensures caller { SameCaller pass.old pass.new }
+    ensures pair { IsPairOf arena.now (caller_of pass.old) place pass.new result.path }
     ensures ends { next_at (N.body result.path.node.body) place ≡ Here }
     ensures stretch { IsStretch pass.old pass.new }
     ensures counts { CountsFree result.freed pass.old pass.new }
@@ -129,10 +129,10 @@ pub fn tidy_end<N: Unlinked, R: Wait, G: Gate>(
     path: Path<N>,
 ) -> u32
     requires pass { IsPassOf arena.now pass.old }
-    requires pair { IsPairOf arena.now pass.old.caller place pass.old path }
+    requires pair { IsPairOf arena.now (caller_of pass.old) place pass.old path }
     requires ends { IsKeptAt pass.old path.node.node place }
     ensures pass { IsEmptyPassOf arena.now pass.new }
-    ensures caller { pass.new.caller ≡ pass.old.caller }
+    ensures caller { SameCaller pass.old pass.new }
     ensures stretch { IsStretch pass.old pass.new }
     ensures counts { CountsFree result pass.old pass.new }
     ensures tidy { WasAlone pass.old pass.new → IsTidyOf arena.now pass.new place }
@@ -159,7 +159,7 @@ pub fn pair_tidy<N: Unlinked, R: Wait, G: Gate>(
 ) -> u32
     requires pass { IsEmptyPassOf arena.now pass.old }
     ensures pass { IsEmptyPassOf arena.now pass.new }
-    ensures caller { pass.new.caller ≡ pass.old.caller }
+    ensures caller { SameCaller pass.old pass.new }
     ensures stretch { IsStretch pass.old pass.new }
     ensures counts { CountsFree result pass.old pass.new }
     ensures tidy { WasAlone pass.old pass.new → IsTidyOf arena.now pass.new place }

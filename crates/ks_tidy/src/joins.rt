@@ -3,7 +3,7 @@
 ghost use Rattle.std.specs.Prelude.{◌≡◌, None, Some, true};
 ghost use Rattle.ks_node.specs.Body.{chained_of, right_child};
 ghost use Rattle.ks_tidy.specs.Pair.{path_in};
-ghost use Rattle.ks_arena.specs.Of.{IsPassOf};
+ghost use Rattle.ks_arena.specs.Of.{IsPassOf, SameCaller, caller_of};
 ghost use Rattle.ks_shape.specs.Of.{HasPlaces, IsStretch};
 ghost use Rattle.ks_tidy.specs.Of.{HasNoSole, HasTried, IsPairOf, IsTrioOf};
 
@@ -27,12 +27,12 @@ pub(crate) fn join_own<N: Unlinked, G: Gate>(
     mut next: Held<N>,
 ) -> Step<N>
     requires pass { IsPassOf arena.now pass.old }
-    requires trio { IsTrioOf arena.now pass.old.caller place pass.old path next }
+    requires trio { IsTrioOf arena.now (caller_of pass.old) place pass.old path next }
     requires chained { chained_of (N.body path.node.body) ≡ Some next.node }
     requires no_sole { HasNoSole arena.now path.parent }
     ensures pass { IsPassOf arena.now pass.new }
-    ensures caller { pass.new.caller ≡ pass.old.caller }
-    ensures pair { IsPairOf arena.now pass.old.caller place pass.new (path_in result) }
+    ensures caller { SameCaller pass.old pass.new }
+    ensures pair { IsPairOf arena.now (caller_of pass.old) place pass.new (path_in result) }
     ensures places { HasPlaces path.node.node (path_in result).node.node pass.old pass.new }
     ensures stretch { IsStretch pass.old pass.new }
     ensures step { HasTried arena.now true pass.old pass.new path result }
@@ -64,14 +64,14 @@ pub(crate) fn join_beside<N: Unlinked, G: Gate>(
     mut right: Held<N>,
 ) -> Step<N>
     requires pass { IsPassOf arena.now pass.old }
-    requires trio { IsTrioOf arena.now pass.old.caller place pass.old
+    requires trio { IsTrioOf arena.now (caller_of pass.old) place pass.old
         (record { parent = Some parent; node = node }) right }
     requires unchained { chained_of (N.body node.body) ≡ None }
     requires beside { right_child (N.body parent.body) place ≡ Some right.node }
     requires no_sole { HasNoSole arena.now (Some parent) }
     ensures pass { IsPassOf arena.now pass.new }
-    ensures caller { pass.new.caller ≡ pass.old.caller }
-    ensures pair { IsPairOf arena.now pass.old.caller place pass.new (path_in result) }
+    ensures caller { SameCaller pass.old pass.new }
+    ensures pair { IsPairOf arena.now (caller_of pass.old) place pass.new (path_in result) }
     ensures places { HasPlaces node.node (path_in result).node.node pass.old pass.new }
     ensures stretch { IsStretch pass.old pass.new }
     ensures step { HasTried arena.now true pass.old pass.new (record { parent = Some parent; node = node }) result }

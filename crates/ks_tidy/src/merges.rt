@@ -2,7 +2,7 @@
 ghost use Rattle.std.specs.Prelude.{◌≡◌, Some, None, true};
 ghost use Rattle.ks_node.specs.Body.{chained_of, only_child_of, right_child};
 ghost use Rattle.ks_tidy.specs.Pair.{path_in};
-ghost use Rattle.ks_arena.specs.Of.{IsPassOf};
+ghost use Rattle.ks_arena.specs.Of.{IsPassOf, SameCaller, caller_of};
 ghost use Rattle.ks_shape.specs.Of.{HasPlaces, IsStretch};
 ghost use Rattle.ks_tidy.specs.Of.{HasNoSole, HasTried, IsPairOf, MakesFree};
 
@@ -28,12 +28,12 @@ pub(crate) fn take_over<N: Unlinked, G: Gate>(
     child: Held<N>,
 ) -> Path<N>
     requires pass { IsPassOf arena.now pass.old }
-    requires pair { IsPairOf arena.now pass.old.caller place pass.old (record { parent = Some root; node = child }) }
+    requires pair { IsPairOf arena.now (caller_of pass.old) place pass.old (record { parent = Some root; node = child }) }
     requires root { root.node ≡ 0 }
     requires sole { only_child_of (N.body root.body) ≡ Some child.node }
     ensures pass { IsPassOf arena.now pass.new }
-    ensures caller { pass.new.caller ≡ pass.old.caller }
-    ensures pair { IsPairOf arena.now pass.old.caller place pass.new result }
+    ensures caller { SameCaller pass.old pass.new }
+    ensures pair { IsPairOf arena.now (caller_of pass.old) place pass.new result }
     ensures places { HasPlaces child.node result.node.node pass.old pass.new }
     ensures stretch { IsStretch pass.old pass.new }
     ensures frees { MakesFree 1 pass.old pass.new }
@@ -63,12 +63,12 @@ pub(crate) fn merge_own<N: Unlinked, R: Wait, G: Gate>(
     target: u32,
 ) -> Step<N>
     requires pass { IsPassOf arena.now pass.old }
-    requires pair { IsPairOf arena.now pass.old.caller place pass.old path }
+    requires pair { IsPairOf arena.now (caller_of pass.old) place pass.old path }
     requires chained { chained_of (N.body path.node.body) ≡ Some target }
     requires no_sole { HasNoSole arena.now path.parent }
     ensures pass { IsPassOf arena.now pass.new }
-    ensures caller { pass.new.caller ≡ pass.old.caller }
-    ensures pair { IsPairOf arena.now pass.old.caller place pass.new (path_in result) }
+    ensures caller { SameCaller pass.old pass.new }
+    ensures pair { IsPairOf arena.now (caller_of pass.old) place pass.new (path_in result) }
     ensures places { HasPlaces path.node.node (path_in result).node.node pass.old pass.new }
     ensures stretch { IsStretch pass.old pass.new }
     ensures step { HasTried arena.now true pass.old pass.new path result }
@@ -92,13 +92,13 @@ pub(crate) fn merge_beside<N: Unlinked, R: Wait, G: Gate>(
     target: u32,
 ) -> Step<N>
     requires pass { IsPassOf arena.now pass.old }
-    requires pair { IsPairOf arena.now pass.old.caller place pass.old (record { parent = Some parent; node = node }) }
+    requires pair { IsPairOf arena.now (caller_of pass.old) place pass.old (record { parent = Some parent; node = node }) }
     requires unchained { chained_of (N.body node.body) ≡ None }
     requires beside { right_child (N.body parent.body) place ≡ Some target }
     requires no_sole { HasNoSole arena.now (Some parent) }
     ensures pass { IsPassOf arena.now pass.new }
-    ensures caller { pass.new.caller ≡ pass.old.caller }
-    ensures pair { IsPairOf arena.now pass.old.caller place pass.new (path_in result) }
+    ensures caller { SameCaller pass.old pass.new }
+    ensures pair { IsPairOf arena.now (caller_of pass.old) place pass.new (path_in result) }
     ensures places { HasPlaces node.node (path_in result).node.node pass.old pass.new }
     ensures stretch { IsStretch pass.old pass.new }
     ensures step { HasTried arena.now true pass.old pass.new (record { parent = Some parent; node = node }) result }

@@ -2,7 +2,7 @@
 ghost use Rattle.std.specs.Prelude.{◌≡◌, None, Some, Any};
 ghost use Rattle.ks_node.specs.Body.{chained_of, right_child};
 ghost use Rattle.ks_node.specs.Edges.{edges_of};
-ghost use Rattle.ks_arena.specs.Of.{Holds, IsPassOf};
+ghost use Rattle.ks_arena.specs.Of.{Holds, IsPassOf, caller_of};
 ghost use Rattle.ks_tidy.specs.Of.{IsPairOf};
 
 use ks_arena::{Arena, Held, Pass};
@@ -21,7 +21,7 @@ pub(crate) fn chained_law<N: Unlinked>(
     target: u32,
 )
     requires pass { IsPassOf arena.now pass.now }
-    requires pair { IsPairOf arena.now pass.now.caller place pass.now path.now }
+    requires pair { IsPairOf arena.now (caller_of pass.now) place pass.now path.now }
     requires chained { chained_of (N.body path.now.node.body) ≡ Some target }
     ensures edge { Any (λ e. e.node ≡ target) (edges_of (N.body path.now.node.body)) }
     ensures fresh { ¬ Holds pass.now target }
@@ -43,7 +43,7 @@ pub(crate) fn next_law<N: Unlinked>(
     target: u32,
 )
     requires pass { IsPassOf arena.now pass.now }
-    requires pair { IsPairOf arena.now pass.now.caller place pass.now
+    requires pair { IsPairOf arena.now (caller_of pass.now) place pass.now
         (record { parent = Some parent.now; node = node.now }) }
     requires unchained { chained_of (N.body node.now.body) ≡ None }
     requires beside { right_child (N.body parent.now.body) place ≡ Some target }

@@ -1,7 +1,7 @@
 //! Merging at one node until nothing is left to merge.
 ghost use Rattle.std.specs.Prelude.{◌≡◌, ◌⊎◌, IsTrue};
 ghost use Rattle.ks_node.specs.Room.{is_low};
-ghost use Rattle.ks_arena.specs.Of.{IsPassOf};
+ghost use Rattle.ks_arena.specs.Of.{IsPassOf, SameCaller, caller_of};
 ghost use Rattle.ks_shape.specs.Of.{HasPlaces, IsStretch};
 ghost use Rattle.ks_tidy.specs.Of.{CountsFree, FitsNoneAlone, HasNoSole, IsPairOf, WasUndisturbed};
 
@@ -31,10 +31,10 @@ pub fn tidy_node<N: Unlinked, R: Wait, G: Gate>(
     path: Path<N>,
 ) -> Tidied<N>
     requires pass { IsPassOf arena.now pass.old }
-    requires pair { IsPairOf arena.now pass.old.caller place pass.old path }
+    requires pair { IsPairOf arena.now (caller_of pass.old) place pass.old path }
     ensures pass { IsPassOf arena.now pass.new }
-    ensures caller { pass.new.caller ≡ pass.old.caller }
-    ensures pair { IsPairOf arena.now pass.old.caller place pass.new result.path }
+    ensures caller { SameCaller pass.old pass.new }
+    ensures pair { IsPairOf arena.now (caller_of pass.old) place pass.new result.path }
     ensures places { HasPlaces path.node.node result.path.node.node pass.old pass.new }
     ensures stretch { IsStretch pass.old pass.new }
     ensures counts { CountsFree result.freed pass.old pass.new }

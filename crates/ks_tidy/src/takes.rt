@@ -2,7 +2,7 @@
 ghost use Rattle.std.specs.Prelude.{◌≡◌, ◌≤◌, length, Any};
 ghost use Rattle.ks_node.specs.Edges.{edges_of};
 ghost use Rattle.ks_arena.specs.Clauses.{hand_of};
-ghost use Rattle.ks_arena.specs.Of.{Holds, IsPassOf, RestStays};
+ghost use Rattle.ks_arena.specs.Of.{Holds, IsPassOf, RestStays, SameCaller};
 ghost use Rattle.ks_shape.specs.Of.{IsLiveInHand, IsStretch};
 ghost use Rattle.ks_tidy.specs.Of.{HasTakenIfIdle, HasTakenNode};
 
@@ -29,7 +29,7 @@ pub(crate) fn take_led<N: Unlinked, R: Wait, G: Gate>(
     requires fresh { ¬ Holds pass.old target }
     requires few { length (hand_of pass.old) ≤ 2 }
     ensures pass { IsPassOf arena.now pass.new }
-    ensures caller { pass.new.caller ≡ pass.old.caller }
+    ensures caller { SameCaller pass.old pass.new }
     ensures took { HasTakenNode arena.now target pass.old pass.new result }
     ensures rest { RestStays arena.now pass.old pass.new }
     ensures stretch { IsStretch pass.old pass.new }
@@ -57,7 +57,7 @@ pub(crate) fn try_take_led<N: Unlinked, G: Gate>(
     requires fresh { ¬ Holds pass.old target }
     requires few { length (hand_of pass.old) ≤ 2 }
     ensures pass { IsPassOf arena.now pass.new }
-    ensures caller { pass.new.caller ≡ pass.old.caller }
+    ensures caller { SameCaller pass.old pass.new }
     ensures took { HasTakenIfIdle arena.now target pass.old pass.new result }
     ensures rest { RestStays arena.now pass.old pass.new }
     ensures stretch { IsStretch pass.old pass.new }

@@ -2,7 +2,7 @@
 ghost use Rattle.std.specs.Prelude.{◌≡◌};
 ghost use Rattle.ks_node.specs.declared.start.Next.TheVariants.{Go};
 ghost use Rattle.ks_node.specs.Body.{next_at};
-ghost use Rattle.ks_arena.specs.Of.{IsEmptyPassOf, IsPassOf};
+ghost use Rattle.ks_arena.specs.Of.{IsEmptyPassOf, IsPassOf, SameCaller, caller_of};
 ghost use Rattle.ks_shape.specs.Of.{IsOnWayOf, IsStretch};
 ghost use Rattle.ks_tidy.specs.Of.{IsPairOf, MakesFree, StandsOrLeft};
 
@@ -24,8 +24,8 @@ pub(crate) fn try_enter<N: Unlinked, G: Gate>(
 ) -> Option<Path<N>>
     requires pass { IsEmptyPassOf arena.now pass.old }
     ensures pass { IsPassOf arena.now pass.new }
-    ensures caller { pass.new.caller ≡ pass.old.caller }
-    ensures came { StandsOrLeft arena.now pass.old.caller place pass.new result }
+    ensures caller { SameCaller pass.old pass.new }
+    ensures came { StandsOrLeft arena.now (caller_of pass.old) place pass.new result }
     ensures stretch { IsStretch pass.old pass.new }
     ensures frees { MakesFree 0 pass.old pass.new }
 {
@@ -55,11 +55,11 @@ fn try_step_down<N: Unlinked, G: Gate>(
     child: u32,
 ) -> Option<Path<N>>
     requires pass { IsPassOf arena.now pass.old }
-    requires way { IsOnWayOf arena.now pass.old.caller place pass.old held }
+    requires way { IsOnWayOf arena.now (caller_of pass.old) place pass.old held }
     requires goes { next_at (N.body held.body) place ≡ Go child }
     ensures pass { IsPassOf arena.now pass.new }
-    ensures caller { pass.new.caller ≡ pass.old.caller }
-    ensures came { StandsOrLeft arena.now pass.old.caller place pass.new result }
+    ensures caller { SameCaller pass.old pass.new }
+    ensures came { StandsOrLeft arena.now (caller_of pass.old) place pass.new result }
     ensures stretch { IsStretch pass.old pass.new }
     ensures frees { MakesFree 0 pass.old pass.new }
 {
@@ -93,11 +93,11 @@ pub(crate) fn try_go_down<N: Unlinked, G: Gate>(
     child: u32,
 ) -> Option<Path<N>>
     requires pass { IsPassOf arena.now pass.old }
-    requires pair { IsPairOf arena.now pass.old.caller place pass.old path }
+    requires pair { IsPairOf arena.now (caller_of pass.old) place pass.old path }
     requires goes { next_at (N.body path.node.body) place ≡ Go child }
     ensures pass { IsPassOf arena.now pass.new }
-    ensures caller { pass.new.caller ≡ pass.old.caller }
-    ensures came { StandsOrLeft arena.now pass.old.caller place pass.new result }
+    ensures caller { SameCaller pass.old pass.new }
+    ensures came { StandsOrLeft arena.now (caller_of pass.old) place pass.new result }
     ensures stretch { IsStretch pass.old pass.new }
     ensures frees { MakesFree 0 pass.old pass.new }
 {

@@ -2,7 +2,7 @@
 ghost use Rattle.std.specs.Prelude.{◌≡◌, None, Some};
 ghost use Rattle.ks_node.specs.Body.{chained_of, right_child};
 ghost use Rattle.ks_tidy.specs.Pair.{count_in, path_in};
-ghost use Rattle.ks_arena.specs.Of.{IsPassOf};
+ghost use Rattle.ks_arena.specs.Of.{IsPassOf, SameCaller, caller_of};
 ghost use Rattle.ks_shape.specs.Of.{IsStretch};
 ghost use Rattle.ks_tidy.specs.Of.{HasNoSole, IsPairOf, MakesFree};
 
@@ -28,12 +28,12 @@ fn try_merge_own<N: Unlinked, G: Gate>(
     target: u32,
 ) -> Step<N>
     requires pass { IsPassOf arena.now pass.old }
-    requires pair { IsPairOf arena.now pass.old.caller place pass.old path }
+    requires pair { IsPairOf arena.now (caller_of pass.old) place pass.old path }
     requires chained { chained_of (N.body path.node.body) ≡ Some target }
     requires no_sole { HasNoSole arena.now path.parent }
     ensures pass { IsPassOf arena.now pass.new }
-    ensures caller { pass.new.caller ≡ pass.old.caller }
-    ensures pair { IsPairOf arena.now pass.old.caller place pass.new (path_in result) }
+    ensures caller { SameCaller pass.old pass.new }
+    ensures pair { IsPairOf arena.now (caller_of pass.old) place pass.new (path_in result) }
     ensures stretch { IsStretch pass.old pass.new }
     ensures frees { MakesFree (count_in result) pass.old pass.new }
 {
@@ -56,13 +56,13 @@ fn try_merge_beside<N: Unlinked, G: Gate>(
     target: u32,
 ) -> Step<N>
     requires pass { IsPassOf arena.now pass.old }
-    requires pair { IsPairOf arena.now pass.old.caller place pass.old (record { parent = Some parent; node = node }) }
+    requires pair { IsPairOf arena.now (caller_of pass.old) place pass.old (record { parent = Some parent; node = node }) }
     requires unchained { chained_of (N.body node.body) ≡ None }
     requires beside { right_child (N.body parent.body) place ≡ Some target }
     requires no_sole { HasNoSole arena.now (Some parent) }
     ensures pass { IsPassOf arena.now pass.new }
-    ensures caller { pass.new.caller ≡ pass.old.caller }
-    ensures pair { IsPairOf arena.now pass.old.caller place pass.new (path_in result) }
+    ensures caller { SameCaller pass.old pass.new }
+    ensures pair { IsPairOf arena.now (caller_of pass.old) place pass.new (path_in result) }
     ensures stretch { IsStretch pass.old pass.new }
     ensures frees { MakesFree (count_in result) pass.old pass.new }
 {
@@ -87,11 +87,11 @@ fn try_merge_child<N: Unlinked, G: Gate>(
     node: Held<N>,
 ) -> Step<N>
     requires pass { IsPassOf arena.now pass.old }
-    requires pair { IsPairOf arena.now pass.old.caller place pass.old (record { parent = Some parent; node = node }) }
+    requires pair { IsPairOf arena.now (caller_of pass.old) place pass.old (record { parent = Some parent; node = node }) }
     requires no_sole { HasNoSole arena.now (Some parent) }
     ensures pass { IsPassOf arena.now pass.new }
-    ensures caller { pass.new.caller ≡ pass.old.caller }
-    ensures pair { IsPairOf arena.now pass.old.caller place pass.new (path_in result) }
+    ensures caller { SameCaller pass.old pass.new }
+    ensures pair { IsPairOf arena.now (caller_of pass.old) place pass.new (path_in result) }
     ensures stretch { IsStretch pass.old pass.new }
     ensures frees { MakesFree (count_in result) pass.old pass.new }
 {
@@ -122,10 +122,10 @@ fn try_tidy_root<N: Unlinked, G: Gate>(
     root: Held<N>,
 ) -> Step<N>
     requires pass { IsPassOf arena.now pass.old }
-    requires pair { IsPairOf arena.now pass.old.caller place pass.old (record { parent = None; node = root }) }
+    requires pair { IsPairOf arena.now (caller_of pass.old) place pass.old (record { parent = None; node = root }) }
     ensures pass { IsPassOf arena.now pass.new }
-    ensures caller { pass.new.caller ≡ pass.old.caller }
-    ensures pair { IsPairOf arena.now pass.old.caller place pass.new (path_in result) }
+    ensures caller { SameCaller pass.old pass.new }
+    ensures pair { IsPairOf arena.now (caller_of pass.old) place pass.new (path_in result) }
     ensures stretch { IsStretch pass.old pass.new }
     ensures frees { MakesFree (count_in result) pass.old pass.new }
 {
@@ -156,10 +156,10 @@ fn try_tidy_child<N: Unlinked, G: Gate>(
     node: Held<N>,
 ) -> Step<N>
     requires pass { IsPassOf arena.now pass.old }
-    requires pair { IsPairOf arena.now pass.old.caller place pass.old (record { parent = Some parent; node = node }) }
+    requires pair { IsPairOf arena.now (caller_of pass.old) place pass.old (record { parent = Some parent; node = node }) }
     ensures pass { IsPassOf arena.now pass.new }
-    ensures caller { pass.new.caller ≡ pass.old.caller }
-    ensures pair { IsPairOf arena.now pass.old.caller place pass.new (path_in result) }
+    ensures caller { SameCaller pass.old pass.new }
+    ensures pair { IsPairOf arena.now (caller_of pass.old) place pass.new (path_in result) }
     ensures stretch { IsStretch pass.old pass.new }
     ensures frees { MakesFree (count_in result) pass.old pass.new }
 {
@@ -188,10 +188,10 @@ pub(crate) fn try_tidy_once<N: Unlinked, G: Gate>(
     path: Path<N>,
 ) -> Step<N>
     requires pass { IsPassOf arena.now pass.old }
-    requires pair { IsPairOf arena.now pass.old.caller place pass.old path }
+    requires pair { IsPairOf arena.now (caller_of pass.old) place pass.old path }
     ensures pass { IsPassOf arena.now pass.new }
-    ensures caller { pass.new.caller ≡ pass.old.caller }
-    ensures pair { IsPairOf arena.now pass.old.caller place pass.new (path_in result) }
+    ensures caller { SameCaller pass.old pass.new }
+    ensures pair { IsPairOf arena.now (caller_of pass.old) place pass.new (path_in result) }
     ensures stretch { IsStretch pass.old pass.new }
     ensures frees { MakesFree (count_in result) pass.old pass.new }
 {

@@ -2,7 +2,7 @@
 ghost use Rattle.std.specs.Prelude.{◌≡◌};
 ghost use Rattle.ks_node.specs.declared.start.Next.TheVariants.{Go};
 ghost use Rattle.ks_node.specs.Body.{next_at};
-ghost use Rattle.ks_arena.specs.Of.{IsPassOf};
+ghost use Rattle.ks_arena.specs.Of.{IsPassOf, caller_of};
 ghost use Rattle.ks_shape.specs.Of.{IsOnWayOf};
 ghost use Rattle.ks_try.specs.Of.{LeadsOnFrom};
 
@@ -22,7 +22,7 @@ pub fn child_law<N: Unlinked>(
     child: u32,
 )
     requires pass { IsPassOf arena.now pass.now }
-    requires way { IsOnWayOf arena.now pass.now.caller place pass.now held.now }
+    requires way { IsOnWayOf arena.now (caller_of pass.now) place pass.now held.now }
     requires goes { next_at (N.body held.now.body) place ≡ Go child }
     ensures { LeadsOnFrom arena.now pass.now held.now place child }
 {

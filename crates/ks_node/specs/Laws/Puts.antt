@@ -1,13 +1,12 @@
 -- What a put and a del make of ascending pairs, pair by pair, and the value at a place as a record has it.
-use Rattle.std.specs.Prelude.{◌≡◌, ℕ, suc, ◌<◌, ◌≤◌, ◌==◌, Bool, true, false, cond, nat_lt, nat_le, nat_eq, List, [], ◌∷◌, ◌++◌, All, filter, refl, Option, Some, None, if◌then◌else◌}
-use Rattle.std.specs.Option.{option_map}
-use Rattle.std.proofs.Common.{arith, ap, ◌∙◌, sym, inl, inr}
+use Rattle.std.specs.Prelude.{◌≡◌, ℕ, suc, ◌<◌, ◌≤◌, true, false, nat_lt, nat_le, List, [], ◌∷◌, All, refl}
+use Rattle.std.proofs.Common.{arith, ap, inl, inr}
 use Rattle.std.proofs.lemmas.Bool.{lt-ltb, le-ltb, le-leb, lt-leb}
-use Rattle.std.proofs.lemmas.Bool.Decides.{leb_tells, eqb_tells}
+use Rattle.std.proofs.lemmas.Bool.Decides.{eqb_tells}
 use Rattle.ks_keysets.specs.declared.Pair.{Pair}
 use Rattle.ks_keysets.specs.Record.{first_value}
 use Rattle.ks_node.specs.Keyed.{Ascends}
-use Rattle.ks_node.specs.Laws.Ascend.{asc_head, asc_tail}
+use Rattle.ks_node.specs.Laws.Ascend.{asc_head}
 use Rattle.ks_node.specs.Body.{pairs_below, pairs_from, value_at}
 use Rattle.ks_node.specs.Effect.{pairs_put, pairs_del}
 
