@@ -174,14 +174,18 @@ impl Node for BNode {
 }
 
 impl Unlinked for BNode {
-    ghost use Rattle.std.specs.Prelude.{refl};
+    ghost use Rattle.std.specs.Prelude.{refl, length, nat_lt};
     ghost use Rattle.std.proofs.Common.{inr};
+    ghost use Rattle.ks_node.specs.Body.{begins, is_branch_kind};
+    ghost use Rattle.ks_node.specs.Laws.Adopts.{not_that};
 
     ghost no_link = { λ n. refl };
 
     ghost no_level = { λ n. refl };
 
     ghost by_span = { refl };
+
+    ghost none_starts = { λ c cut can. not_that (is_branch_kind c.kind) (begins cut c.starts) (nat_lt (length c.starts) 16) can };
 
     ghost sort = { λ _. inr (λ n. refl, refl, refl) };
 

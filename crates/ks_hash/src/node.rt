@@ -234,8 +234,11 @@ impl Node for HNode {
 }
 
 impl Unlinked for HNode {
-    ghost use Rattle.std.specs.Prelude.{refl};
+    ghost use Rattle.std.specs.Prelude.{refl, not, nat_eq, ◌%◌, ◌||◌};
     ghost use Rattle.std.proofs.Common.{inl};
+    ghost use Rattle.ks_node.specs.Body.{begins, is_branch_kind};
+    ghost use Rattle.ks_node.specs.Laws.Adopts.{not_this};
+    ghost use Rattle.ks_hash.specs.Slices.{smallest};
     ghost use Rattle.ks_hash.specs.Laws.Fits.{fit_adopts};
 
     ghost no_link = { λ n. refl };
@@ -243,6 +246,8 @@ impl Unlinked for HNode {
     ghost no_level = { λ n. refl };
 
     ghost by_span = { refl };
+
+    ghost none_starts = { λ c cut can. not_this (begins cut c.starts) (not (is_branch_kind c.kind) || nat_eq (cut % smallest) 0) can };
 
     ghost sort = { λ _. inl (λ n span o full suits is good. fit_adopts n.fit span o full suits) };
 

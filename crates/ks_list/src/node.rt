@@ -194,6 +194,8 @@ impl Node for ListNode {
 impl Unlinked for ListNode {
     ghost use Rattle.std.specs.Prelude.{◌≡◌, refl};
     ghost use Rattle.std.proofs.Common.{inl};
+    ghost use Rattle.std.proofs.lemmas.Bool.{not-true};
+    ghost use Rattle.ks_node.specs.Body.{begins};
     ghost use Rattle.ks_list.specs.Laws.Fits.{fit_adopts};
 
     ghost no_link = { λ n. refl };
@@ -201,6 +203,8 @@ impl Unlinked for ListNode {
     ghost no_level = { λ n. refl };
 
     ghost by_span = { refl };
+
+    ghost none_starts = { λ c cut can. not-true (begins cut c.starts) can };
 
     ghost sort = { λ e. inl (λ n span o full suits is good. fit_adopts n.fit o full) };
 

@@ -1,4 +1,5 @@
 -- Laws: nothing here is said by a clause of a call; proofs of this crate and of those above it cite them.
+pub mod Adopts
 pub mod Ascend
 pub mod Cuts
 pub mod Keep

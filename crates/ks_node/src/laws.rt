@@ -1,10 +1,10 @@
 //! What holds of every node, as calls that do nothing: generic code cites their clauses.
 
-ghost use Rattle.std.specs.Prelude.{◌≡◌, ◌<◌, ◌-◌, ◌^◌, ◌||◌, ◌⊎◌, Option, IsTrue, Some, None, true, false, length, nat_eq, nat_lt, is_some};
+ghost use Rattle.std.specs.Prelude.{◌≡◌, ℕ, ◌<◌, ◌-◌, ◌^◌, ◌||◌, ◌⊎◌, Option, IsTrue, Some, None, true, false, length, nat_eq, nat_lt, is_some};
 ghost use Rattle.std.specs.Option.{ForSome};
 ghost use Rattle.ks_keysets.specs.Layout.{room};
 ghost use Rattle.ks_keysets.specs.Record.{top};
-ghost use Rattle.ks_node.specs.Body.{begins, content_of, is_branch, is_branch_kind, last_of};
+ghost use Rattle.ks_node.specs.Body.{Content, begins, content_of, is_branch, is_branch_kind, last_of};
 ghost use Rattle.ks_node.specs.Room.{IsHeld, is_full, may_grow};
 ghost use Rattle.ks_node.specs.Asks.{IsCut, AdoptsItsCut, BranchesAdopt};
 ghost use Rattle.ks_node.specs.Sound.{Sound, Framed};
@@ -32,11 +32,12 @@ pub fn adopt_law<N: Node>(node: &N, cut: u64)
         begins cut (N.body node.now).starts ≡ false → IsTrue (N.can_adopt_at (content_of (N.body node.now)) cut) }
 {}
 
-/// The laws of a node type without links: neither link nor level, how it is cut, which of its nodes adopt or grow.
+/// The laws of a node type without links: neither link nor level, how it is cut, where and which of its nodes adopt or grow.
 pub fn unlinked_law<N: Unlinked>()
     ensures no_link { (s : N) → (N.body s).link ≡ None }
     ensures no_level { (s : N) → (N.body s).level ≡ 0 }
     ensures by_span { N.cuts_by_range ≡ false }
+    ensures none_starts { (c : Content) (cut : ℕ) → IsTrue (N.can_adopt_at c cut) → begins cut c.starts ≡ false }
     ensures adopting { IsTrue N.branches_adopt → (s : N) → BranchesAdopt N.can_adopt_at N.layout (N.body s) }
     ensures sort { N.in_place ≡ false →
         ((s : N) → AdoptsItsCut N.can_adopt_at N.cut_at N.layout (N.body s))

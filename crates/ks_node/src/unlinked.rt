@@ -1,7 +1,7 @@
 //! Nodes with no link to the right: what splits, grows and merges make of them.
 
 ghost use Rattle.std.specs.Prelude.{◌≢◌, ◌≡◌, ℕ, ◌<◌, ◌-◌, ◌^◌, Bool, Option, IsTrue, IsSome, Some, None, true, false, length, nat_eq, ◌||◌, ◌⊎◌};
-ghost use Rattle.ks_node.specs.Body.{Body, content_of, is_branch, IsBlank, only_child_of, first_node};
+ghost use Rattle.ks_node.specs.Body.{Body, Content, begins, content_of, is_branch, IsBlank, only_child_of, first_node};
 ghost use Rattle.ks_node.specs.Room.{is_full, fit_together};
 ghost use Rattle.ks_node.specs.Effect.{split_left, split_right, reached, grown, absorbed, forgot, collapsed, emptied};
 ghost use Rattle.ks_node.specs.Asks.{CanSplitAt, AreNext, Absorbs, AdoptsItsCut};
@@ -63,6 +63,9 @@ pub trait Unlinked: Node {
 
     /// A cut goes by the span that is handed in.
     ghost by_span: { Self.cuts_by_range ≡ false };
+
+    /// An edge is added only where none starts.
+    ghost none_starts: { (c : Content) (cut : ℕ) → IsTrue (Self.can_adopt_at c cut) → begins cut c.starts ≡ false };
 
     /// Where it does not grow in place: either each full node can adopt its cut, or each node grows, branches adopt, and
     /// neither half of a full node is full.

@@ -188,13 +188,15 @@ impl<N: Unlinked> Node for WithRange<N> {
 impl<N: Unlinked> Unlinked for WithRange<N> {
     ghost use Rattle.std.specs.Prelude.{refl};
     ghost use Rattle.std.proofs.Common.{inl, inr};
-    ghost use Rattle.ks_node.specs.Laws.Wrapped.{adopts_its_cut};
+    ghost use Rattle.ks_node.specs.Laws.Wrapped.{adopts_inner, adopts_its_cut};
 
     ghost no_link = { λ s. N.no_link s.node };
 
     ghost no_level = { λ s. N.no_level s.node };
 
     ghost by_span = { refl };
+
+    ghost none_starts = { λ c cut can. N.none_starts c cut (adopts_inner N.can_adopt_at c cut can) };
 
     ghost sort = { λ e. elim (N.sort e) [
       | inl adopts ↦ inl (λ s. adopts_its_cut (N.body s.node) s.range s.same_range N.can_adopt_at N.cut_at N.layout (adopts s.node))
