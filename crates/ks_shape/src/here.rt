@@ -38,7 +38,7 @@ pub fn has_room<N: Node>(held: &Held<N>, place: u64) -> bool
     ensures room { result ≡ true → TakesPlace N.layout (N.body held.now.body) place }
     ensures none { result ≡ false → LacksPlace N.layout (N.body held.now.body) place }
 {
-    held.body.get(place).is_some() || !held.body.is_full()
+    !held.body.is_full() || held.body.get(place).is_some()
 }
 
 /// Decides a get where the search for its place has ended.
