@@ -9,10 +9,10 @@ ghost use Rattle.ks_hash.specs.Hash.{Fit};
 ghost use Rattle.ks_hash.specs.Parts.{is_directory, pairs_of, own_of, slices_of};
 
 use crate::parts::Parts;
-use crate::slices::{SMALLEST, Starts, begins_run, child_at, runs_of, sole_child};
+use crate::slices::{SMALLEST, Starts, begins_run, child_at, child_past, runs_of, sole_child};
 use crate::spans::{begins_own, cut_by, next_by, own_above, span_in};
 use ks_keysets::{Edge, Pair, Span};
-use ks_node::{Growing, Next, Node, Unlinked, child_after, edge_in};
+use ks_node::{Growing, Next, Node, Unlinked, edge_in};
 use ks_places::Golden;
 use std::alloc::{AllocError, Global};
 use std::mem;
@@ -220,7 +220,7 @@ impl Node for HNode {
 
     fn right_of(&self, place: u64) -> Option<u32> {
         if self.parts.is_directory() {
-            child_after(self.starts().as_slice(), place)
+            child_past(self.parts.slices(), place)
         } else {
             None
         }

@@ -1,10 +1,10 @@
 //! The slices of a directory: equal parts of all places, each with the child that it leads to.
 //!
-//! A directory has a power of two of slices, so the slice of a place is found by a division. Neighbouring slices with
+//! A directory has a power of two of slices, so the slice of a place is found without looking at them. Neighbouring slices with
 //! the same child are one edge of the record. A slice that is to be cut is halved with all others, which changes no
 //! edge; then the slices from the cut to the end of the run get the new child.
 
-ghost use Rattle.std.specs.Prelude.{◌≢◌, ◌≡◌, ℕ, ◌+◌, ◌%◌, ◌<◌, ◌≤◌, ◌++◌, ◌∷◌, [], IsTrue, Some, false, length, Option, position, nat_eq};
+ghost use Rattle.std.specs.Prelude.{◌≢◌, ◌≡◌, ℕ, suc, ◌+◌, ◌/◌, ◌%◌, ◌<◌, ◌≤◌, ◌++◌, ◌∷◌, [], IsTrue, Some, false, not, length, Option, find, position, nat_eq};
 ghost use Rattle.std.specs.List.{list_all};
 ghost use Rattle.ks_node.specs.Body.{starts_below, starts_from, led_to, begins, first_node, sole};
 ghost use Rattle.ks_node.specs.Effect.{runs, without};
@@ -22,6 +22,9 @@ pub(crate) type Starts = ArrayVec<Start, 64>;
 /// The places of a smallest slice: one of 64.
 pub(crate) const SMALLEST: u64 = 0x400_0000_0000_0000;
 
+/// How many places there are.
+const PLACES: u128 = 0x1_0000_0000_0000_0000;
+
 /// The places of each slice.
 fn width(slices: &[u32]) -> u64
     requires { IsTrue (is_size (length slices.now)) }
@@ -30,12 +33,44 @@ fn width(slices: &[u32]) -> u64
     u64::MAX / slices.len() as u64 + 1
 }
 
+/// The slice in which a place lies, by a product: a division takes many times as long.
+fn slice_of(slices: &[u32], place: u64) -> usize
+    requires { IsTrue (is_size (length slices.now)) }
+    ensures is { result ≡ place / width_of slices.now }
+    ensures within { result < length slices.now }
+{
+    (place as u128 * slices.len() as u128 / PLACES) as usize
+}
+
 /// The child of the slice in which a place lies.
 pub(crate) fn child_at(slices: &[u32], place: u64) -> u32
     requires { IsTrue (is_size (length slices.now)) }
     ensures { led_to (starts_of slices.now) place ≡ Some result }
 {
-    slices[(place / width(slices)) as usize]
+    slices[slice_of(slices, place)]
+}
+
+/// The first child that is not this one.
+fn other_child(slices: &[u32], child: u32) -> Option<u32>
+    ensures { result ≡ find (λ c. not (nat_eq c child)) slices.now }
+{
+    for slice in slices {
+        if *slice != child {
+            return Some(*slice);
+        }
+    }
+    None
+}
+
+/// The child of the run after the one in which a place lies.
+pub(crate) fn child_past(slices: &[u32], place: u64) -> Option<u32>
+    requires { IsTrue (is_size (length slices.now)) }
+    ensures { result ≡ first_node (starts_from (suc place) (starts_of slices.now)) }
+{
+    let at = slice_of(slices, place);
+    let child = slices[at];
+    let (_, later) = slices.split_at(at + 1);
+    other_child(later, child)
 }
 
 /// Whether the slice before leads to the child too.

@@ -1,5 +1,5 @@
 -- Starts of slices, joined where neighbours lead to the same child.
-use Rattle.std.specs.Prelude.{◌≡◌, ℕ, zero, suc, ◌+◌, ◌-◌, ◌*◌, ◌/◌, ◌%◌, ◌^◌, ◌<◌, ◌≤◌, Bool, true, false, not, cond, ◌||◌, nat_eq, nat_lt, IsTrue, List, [], ◌∷◌, ◌++◌, length, get_or, take, drop, position, slice_get, is_some, Option, None, Some, All, refl}
+use Rattle.std.specs.Prelude.{◌≡◌, ℕ, zero, suc, ◌+◌, ◌-◌, ◌*◌, ◌/◌, ◌%◌, ◌^◌, ◌<◌, ◌≤◌, Bool, true, false, not, cond, ◌||◌, nat_eq, nat_lt, IsTrue, List, [], ◌∷◌, ◌++◌, length, get_or, take, drop, position, slice_get, is_some, Option, None, Some, All, find, refl}
 use Rattle.std.specs.Option.{option_map}
 use Rattle.std.proofs.Common.{arith, drop-cons, ap, ◌∙◌, sym, subst, inl, inr, ◌⊎◌}
 use Rattle.std.proofs.lemmas.Bool.{lt-ltb, le-ltb, le-leb, lt-leb, eqb-true, eq-eqb, ne_eqb}
@@ -16,7 +16,7 @@ use Rattle.ks_keysets.specs.Record.{top}
 use Rattle.ks_node.specs.declared.start.Start.{Start}
 use Rattle.ks_node.specs.Keyed.{Ascends}
 use Rattle.ks_node.specs.Laws.Ascend.{asc_nil, asc_tail, asc_head, asc_cons}
-use Rattle.ks_node.specs.Body.{last_node, led_to, starts_below, starts_from, begins, sole}
+use Rattle.ks_node.specs.Body.{first_node, last_node, led_to, starts_below, starts_from, begins, sole}
 use Rattle.ks_node.specs.Effect.{runs, runs_after, without, without_at}
 use Rattle.ks_node.specs.Sound.{starts_at_zero}
 use Rattle.ks_hash.specs.Slices.{is_size, width_of, slice_starts, repeats, before_at, starts_of, doubled, led_over, run_led}
@@ -653,3 +653,93 @@ starts_places cs size =
     let all : length cs * width_of cs ≡ 2 ^ 64 = mul_comm (length cs) (width_of cs) ∙ width_whole (length cs) size in
     subst (All (λ s. s.low ≤ top)) (runs_is _) (all_joined (λ s. s.low ≤ top) None _
     (All-weaker (λ s. s.low < 0 + length cs * width_of cs) (λ s. s.low ≤ top) (λ s l. omega arith) _ (slices_below (width_of cs) 0 cs (width_pos (length cs) size))))
+
+-- the runs up to the slice of a place, and those past it
+
+slices_upto : (width low n : ℕ) (cs : List ℕ) → length cs ≤ suc n → All (λ s. s.low ≤ low + n * width) (slice_starts width low cs)
+slices_upto width low n [] h = All-nil (λ s. s.low ≤ low + n * width)
+slices_upto width low zero (c ∷ []) h =
+    All-cons (λ s. s.low ≤ low + 0 * width) (record { low = low; node = c }) [] (omega arith) (All-nil (λ s. s.low ≤ low + 0 * width))
+slices_upto width low zero (c ∷ d ∷ cs) h = absurd (omega arith)
+slices_upto width low (suc n) (c ∷ cs) h =
+    All-cons (λ s. s.low ≤ low + suc n * width) (record { low = low; node = c }) (slice_starts width (low + width) cs) (here low width n)
+    (All-weaker (λ s. s.low ≤ low + width + n * width) (λ s. s.low ≤ low + suc n * width) (λ s l. further s.low low width n l) _ (slices_upto width (low + width) n cs (omega arith)))
+  where
+    here : (low width n : ℕ) → low ≤ low + suc n * width
+    here low width n = omega arith
+
+    further : (p low width n : ℕ) → p ≤ low + width + n * width → p ≤ low + suc n * width
+    further p low width n h = omega arith
+
+module _ (cs : List ℕ) (p : ℕ) (size : IsTrue (is_size (length cs))) (h : p < 2 ^ 64) where
+  abbrev slice_at : ℕ
+  slice_at = p / width_of cs
+
+  abbrev runs_front : List Start
+  runs_front = joined_after None (slice_starts (width_of cs) 0 (take (suc slice_at) cs))
+
+  abbrev runs_back : List Start
+  runs_back = joined_after (Some (get_or cs slice_at 0)) (slice_starts (width_of cs) (suc slice_at * width_of cs) (drop (suc slice_at) cs))
+
+  slice_lies : slice_at < length cs
+  slice_lies = slice_within (length cs) size p h
+
+  front_long : length (take (suc slice_at) cs) ≡ suc slice_at
+  front_long = length-take-le (suc slice_at) cs slice_lies
+
+  runs_split : starts_of cs ≡ runs_front ++ runs_back
+  runs_split =
+      let w : ℕ = width_of cs in
+      let front : List ℕ = take (suc slice_at) cs in
+      let ds : List ℕ = drop (suc slice_at) cs in
+      let last : last_or None (slice_starts w 0 front) ≡ Some (get_or cs slice_at 0) = last_slice None w 0 cs slice_at 0 slice_lies in
+      starts_joined cs
+      ∙ ap (λ l. joined_after None (slice_starts w 0 l)) (sym (take-append-drop (suc slice_at) cs))
+      ∙ joined_parts w front ds
+      ∙ ap (λ o. runs_front ++ joined_after o (slice_starts w (length front * w) ds)) last
+      ∙ ap (λ n. runs_front ++ joined_after (Some (get_or cs slice_at 0)) (slice_starts w (n * w) ds)) front_long
+
+  front_upto : All (λ s. s.low < suc p) runs_front
+  front_upto =
+      let w : ℕ = width_of cs in
+      all_joined (λ s. s.low < suc p) None _
+      (All-weaker (λ s. s.low ≤ 0 + slice_at * w) (λ s. s.low < suc p) (λ s l. upto s.low p w (width_pos (length cs) size) l) _
+      (slices_upto w 0 slice_at (take (suc slice_at) cs) (omega (arith, front_long))))
+    where
+      upto : (n p w : ℕ) → 0 < w → n ≤ 0 + (p / w) * w → n < suc p
+      upto n p w pos l = omega arith
+
+  back_past : All (λ s. suc p ≤ s.low) runs_back
+  back_past =
+      let w : ℕ = width_of cs in
+      all_joined (λ s. suc p ≤ s.low) (Some (get_or cs slice_at 0)) _
+      (All-weaker (λ s. suc slice_at * w ≤ s.low) (λ s. suc p ≤ s.low) (λ s l. past s.low p w (width_pos (length cs) size) l) _
+      (slices_from w (suc slice_at * w) (drop (suc slice_at) cs)))
+    where
+      past : (n p w : ℕ) → 0 < w → suc (p / w) * w ≤ n → suc p ≤ n
+      past n p w pos l = omega arith
+
+  pub runs_upto : starts_below (suc p) (starts_of cs) ≡ runs_front
+  runs_upto = ap (starts_below (suc p)) runs_split ∙ below_parts (suc p) runs_front runs_back front_upto back_past
+
+  pub runs_past : starts_from (suc p) (starts_of cs) ≡ runs_back
+  runs_past = ap (starts_from (suc p)) runs_split ∙ from_parts (suc p) runs_front runs_back front_upto back_past
+
+-- the first run after one leads to the first other child
+other_first : (c width low : ℕ) (ds : List ℕ) → first_node (joined_after (Some c) (slice_starts width low ds)) ≡ find (λ d. not (nat_eq d c)) ds
+other_first c width low [] = refl
+other_first c width low (d ∷ ds) = elim (bool_cases (nat_eq d c)) [
+  | inl e ↦ rw e (other_first c width (low + width) ds)
+  | inr e ↦ rw e refl
+]
+
+pub run_past : (cs : List ℕ) (p : ℕ) → IsTrue (is_size (length cs)) → p < 2 ^ 64 →
+    first_node (starts_from (suc p) (starts_of cs)) ≡ find (λ d. not (nat_eq d (get_or cs (p / width_of cs) 0))) (drop (suc (p / width_of cs)) cs)
+run_past cs p size h =
+    ap first_node (runs_past cs p size h)
+    ∙ other_first (get_or cs (p / width_of cs) 0) (width_of cs) (suc (p / width_of cs) * width_of cs) (drop (suc (p / width_of cs)) cs)
+
+-- the slice of a place by a product
+pub slice_product : (n : ℕ) → IsTrue (is_size n) → (p : ℕ) → p < 2 ^ 64 → p * n / 2 ^ 64 ≡ p / (2 ^ 64 / n)
+slice_product n h = by_size (λ n. (p : ℕ) → p < 2 ^ 64 → p * n / 2 ^ 64 ≡ p / (2 ^ 64 / n))
+    (λ p h. omega arith) (λ p h. omega arith) (λ p h. omega arith) (λ p h. omega arith) (λ p h. omega arith) (λ p h. omega arith) n h
