@@ -1,22 +1,21 @@
 -- What a body leads to at a cut at which an edge begins: the node one level below that begins there.
-use Rattle.std.proofs.Common.{ℕ, suc, ◌≡◌, ◌<◌, ◌≤◌, ◌⊎◌, inl, inr, true, List, [], ◌∷◌, Option, Some, None, refl, sym, ◌∙◌, ap, subst, arith}
+use Rattle.std.proofs.Common.{ℕ, suc, ◌≡◌, ◌<◌, ◌≤◌, ◌⊎◌, inl, inr, true, List, ◌∷◌, Option, Some, refl, ◌∙◌, ap, subst, arith}
 use Rattle.std.specs.Prelude.{All, max, nat_le}
 use Rattle.std.proofs.lemmas.Bool.{le-leb}
 use Rattle.std.proofs.lemmas.List.Elements.{All-filter}
 use Rattle.ks_keysets.specs.declared.Edge.{Edge}
 use Rattle.ks_keysets.specs.declared.Frame.{Frame}
-use Rattle.ks_keysets.specs.declared.Record.{Record}
 use Rattle.ks_keysets.specs.declared.Span.{Span}
 use Rattle.ks_keysets.specs.declared.NodeState.{NodeState}
 use Rattle.ks_keysets.specs.Record.{LeadsTo}
-use Rattle.ks_keysets.specs.Keyset.{IsLive, Good, record_at}
+use Rattle.ks_keysets.specs.Keyset.{IsLive, Good}
 use Rattle.ks_node.specs.declared.start.Start.{Start}
-use Rattle.ks_node.specs.Body.{Body, first_of, last_of, starts_below, starts_from, begins}
+use Rattle.ks_node.specs.Body.{Body, first_of, last_of, starts_from, begins}
 use Rattle.ks_node.specs.Edges.{edges_from, edges_of, link_edge, record_of}
 use Rattle.ks_node.specs.Sound.{Framed}
-use Rattle.ks_flow.specs.Link.{Link, IsRange, IsLinkEdge, IsChildEdge}
-use Rattle.ks_bodies.specs.Links.{IsLinked, StandsLinked, StandsUnder}
-use Rattle.ks_bodies.proofs.Led.{led, led_none, led_parts, AllAbove, Ascend, begins_from}
+use Rattle.ks_flow.specs.Link.{Link, IsLinkEdge, IsChildEdge}
+use Rattle.ks_bodies.specs.Links.{StandsLinked, StandsUnder}
+use Rattle.ks_bodies.proofs.Led.{led, led_none, led_parts, Ascend, begins_from}
 use Rattle.ks_bodies.proofs.LinkRecords.{range_of, linked_ascend, goes_inside, goes_leads}
 use Rattle.ks_bodies.proofs.LinkEdges.{edges_full}
 use Rattle.ks_bodies.proofs.LinkStanding.{linked_framed, linked_range}

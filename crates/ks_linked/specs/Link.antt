@@ -1,5 +1,5 @@
 -- A body with a range, a level and a link, in place of a body that has neither level nor link.
-use Rattle.std.specs.Prelude.{ℕ, Bool, ◌&&◌, [], Option, Some}
+use Rattle.std.specs.Prelude.{ℕ, Bool, ◌&&◌, Option, Some}
 use Rattle.ks_keysets.specs.declared.Span.{Span}
 use Rattle.ks_node.specs.Body.{Body, Content, is_branch_kind}
 use Rattle.ks_node.specs.Wrapped.{adopts_ranged}

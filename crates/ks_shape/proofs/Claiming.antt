@@ -1,5 +1,5 @@
 -- What claims leave of what a caller holds, and when they were refused.
-use Rattle.std.proofs.Common.{◌≡◌, ◌≢◌, ℕ, ◌≤◌, ◌<◌, List, [], ◌∷◌, length, sym, refl, ap, ◌∙◌, subst, inl, inr, ⊎_elim, arith}
+use Rattle.std.proofs.Common.{◌≡◌, ◌≢◌, ℕ, ◌≤◌, ◌<◌, List, ◌∷◌, length, sym, refl, ap, ◌∙◌, subst, inl, inr, ⊎_elim, arith}
 use Rattle.ks_keysets.specs.declared.Change.{Change}
 use Rattle.ks_keysets.specs.declared.Frame.{Frame}
 use Rattle.ks_keysets.specs.declared.NodeState.{NodeState}
@@ -14,7 +14,7 @@ use Rattle.ks_history.specs.Laws.Stays.{cond_here}
 use Rattle.ks_history.specs.Laws.Hand.{is_hand, held_in_hand}
 use Rattle.ks_history.specs.Laws.Begins.{begins_self, by_others_keeps, by_others_turn, claim_hand}
 use Rattle.ks_history.specs.Done.{Template}
-use Rattle.ks_history.specs.Due.{HoldsLive, HoldsLiveBut, MayGrow, NoneFree}
+use Rattle.ks_history.specs.Due.{HoldsLive, MayGrow, NoneFree}
 use Rattle.ks_history.specs.Laws.Dues.{none_free_by, none_free_but, none_free_later, none_free_earlier, may_grow_along, between_by_others}
 use Rattle.ks_history.specs.Stretch.{Stretch}
 use Rattle.ks_history.specs.Laws.Stretch.{stretch_both, stretch_claim, stretch_give, stretch_others, stretch_begins}

@@ -1,5 +1,5 @@
 -- How a call under way is done.
-use Rattle.std.proofs.Common.{◌≡◌, ℕ, ◌≤◌, List, [], ◌∷◌, ◌++◌, length, append_assoc, ap, sym, subst, ◌∙◌, refl, arith}
+use Rattle.std.proofs.Common.{◌≡◌, ℕ, List, [], ◌∷◌, ◌++◌, length, append_assoc, ap, sym, subst, ◌∙◌, refl, arith}
 use Rattle.ks_keysets.specs.declared.Frame.{Frame}
 use Rattle.ks_keysets.specs.Layout.{Layout}
 use Rattle.ks_history.specs.declared.Event.{Event}
@@ -8,7 +8,7 @@ use Rattle.ks_history.specs.declared.Op.{Op}
 use Rattle.ks_history.specs.declared.Reply.{Reply}
 use Rattle.ks_history.specs.declared.Reply.TheVariants.{Full}
 use Rattle.ks_history.specs.Map.{Touches}
-use Rattle.ks_history.specs.Trace.{hand, drop_one, frame_after, graph_after, held, turn_after}
+use Rattle.ks_history.specs.Trace.{hand, drop_one, frame_after, held, turn_after}
 use Rattle.ks_history.specs.Passes.{GrowsWith}
 use Rattle.ks_history.specs.Due.{NoneFree, FullDue}
 use Rattle.ks_history.specs.Laws.Dues.{full_due_later}

@@ -8,10 +8,8 @@ use Rattle.ks_history.specs.declared.Op.{Op}
 use Rattle.ks_history.specs.declared.Op.TheVariants.{Add, Put}
 use Rattle.ks_history.specs.Trace.{hand, graph_after}
 use Rattle.ks_node.specs.declared.start.Next.TheVariants.{Here}
-use Rattle.ks_node.specs.Asks.{IsBelowOwn}
-use Rattle.ks_node.specs.Body.{Body, content_of, first_of, is_branch, last_of, next_at, value_at}
+use Rattle.ks_node.specs.Body.{Body, first_of, last_of, next_at, value_at}
 use Rattle.ks_node.specs.Room.{is_full}
-use Rattle.ks_node.specs.Sound.{Sound as InOrder}
 use Rattle.ks_arena.specs.declared.held.Held.{Held as Hand}
 use Rattle.ks_arena.specs.Sound.{Sort}
 use Rattle.ks_arena.specs.Clauses.{Matches}

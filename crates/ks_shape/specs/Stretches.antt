@@ -1,5 +1,5 @@
 -- Stretches of a call that are such by every template: what a search does under trees, which begins at the root.
-use Rattle.std.proofs.Common.{ℕ, List, []}
+use Rattle.std.proofs.Common.{ℕ, List}
 use Rattle.ks_history.specs.declared.Event.{Event}
 use Rattle.ks_history.specs.Done.{Template}
 use Rattle.ks_history.specs.Stretch.{Stretch}

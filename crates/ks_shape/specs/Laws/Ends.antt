@@ -5,7 +5,6 @@ use Rattle.ks_history.specs.declared.Event.{Event}
 use Rattle.ks_history.specs.declared.Op.{Op}
 use Rattle.ks_history.specs.Done.{Template}
 use Rattle.ks_shape.specs.declared.answers.Numbered.{Numbered}
-use Rattle.ks_shape.specs.declared.answers.Later.{Later}
 use Rattle.ks_shape.specs.declared.answers.Later.TheVariants.{Busy, Moved, Far}
 use Rattle.ks_shape.specs.declared.answers.PutLater.{PutLater}
 use Rattle.ks_shape.specs.declared.answers.PutLater.TheVariants.{Full, Later as Otherwise}

@@ -5,9 +5,7 @@ use native.Mathlib.Decide.{ℕ_discrete}
 use Rattle.ks_history.specs.declared.Event.{Event}
 use Rattle.ks_history.specs.declared.Event.TheVariants.{Take, Give, Claim, Shape, Call}
 use Rattle.ks_history.specs.Due.{takes_by}
-use Rattle.ks_history.specs.Laws.Far.{IsNoShape}
 use Rattle.ks_history.specs.Passes.{NoneBy, GrowsByOthers, GrowsWith}
-use Rattle.ks_history.specs.Trace.{◌⊑◌}
 use Rattle.ks_history.specs.Laws.Begins.{begins_both}
 use Rattle.ks_history.specs.Laws.Stays.{cond_here, cond_else}
 use Rattle.ks_history.specs.Laws.Descent.{OwnQuiet}

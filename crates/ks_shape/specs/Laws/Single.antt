@@ -1,6 +1,6 @@
 -- Calls that hold one node at a time, and what is known of a live node in hand.
 use Rattle.std.proofs.Common.{◌≡◌, ℕ, ◌<◌, ◌≤◌, Bool, true, false, List, [], ◌∷◌, ◌++◌, length, sym, refl, ap, ◌∙◌, subst, ⊎_elim, arith}
-use Rattle.std.specs.Prelude.{Option, Some, None}
+use Rattle.std.specs.Prelude.{Some, None}
 use Rattle.std.proofs.lemmas.Bool.{cases_lt}
 use Rattle.ks_keysets.specs.declared.Edge.{Edge}
 use Rattle.ks_keysets.specs.declared.Frame.{Frame}
@@ -14,7 +14,7 @@ use Rattle.ks_history.specs.declared.Event.TheVariants.{Take, Give}
 use Rattle.ks_history.specs.declared.Op.{Op}
 use Rattle.ks_history.specs.declared.Op.TheVariants.{Get, Put, Del, Add, Swap}
 use Rattle.ks_history.specs.Trace.{hand, drop_one, graph_after, frame_after}
-use Rattle.ks_history.specs.Passes.{GrowsByOthers, GrowsWith}
+use Rattle.ks_history.specs.Passes.{GrowsWith}
 use Rattle.ks_history.specs.Laws.Stays.{cond_here}
 use Rattle.ks_history.specs.Laws.Begins.{by_others_hand, with_others}
 use Rattle.ks_history.specs.Done.{Template, coupling, give_up, link_move, MayTake, most_held}

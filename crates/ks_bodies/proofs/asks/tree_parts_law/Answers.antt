@@ -1,13 +1,13 @@
-use Rattle.std.proofs.Common.{ℕ, suc, ◌≡◌, ◌<◌, ◌≤◌, [], ◌∷◌, Option, Some, None, refl, sym, ◌∙◌, ap, subst, arith}
+use Rattle.std.proofs.Common.{ℕ, suc, ◌≡◌, [], ◌∷◌, Some, arith}
 use Rattle.ks_keysets.specs.declared.Record.{Record}
 use Rattle.ks_keysets.specs.Record.{LeadsTo}
 use Rattle.ks_keysets.specs.Keyset.{record_at, Reaches, along, InInset}
-use Rattle.ks_node.specs.Edges.{record_of, edges_of}
+use Rattle.ks_node.specs.Edges.{record_of}
 use Rattle.ks_node.specs.Effect.{split_left, split_right, grown, adopted}
 use Rattle.ks_keysets.specs.Walk.{further}
 use Rattle.ks_keysets.specs.Laws.Descents.{meets_once}
 use Rattle.ks_flow.specs.Changes.{NamedOnce, graph_with}
-use Rattle.ks_bodies.specs.Stands.{live_as, free_as}
+use Rattle.ks_bodies.specs.Stands.{live_as}
 use Rattle.ks_bodies.specs.Shapes.{split_on, split_own, split_under, grow}
 use Rattle.ks_bodies.proofs.Standing.{Made, fresh_apart}
 use Rattle.ks_bodies.proofs.Records.{leads_edge}

@@ -1,5 +1,5 @@
 use Rattle.std.specs.Prelude.{not, get_or}
-use Rattle.std.proofs.Common.{◌≡◌, ◌∙◌, ◌/◌, ◌%◌, ap, sym, arith}
+use Rattle.std.proofs.Common.{◌∙◌, ◌/◌, ◌%◌, ap, sym, arith}
 use Rattle.ks_hash.specs.Slices.{repeats, before_at}
 use Rattle.ks_hash.specs.Laws.Joined.{begins_run, begins_no_slice}
 use Rattle.ks_hash.proofs.slices.begins_run.Goals as goal

@@ -1,5 +1,5 @@
 use Rattle.std.specs.Prelude.{cond, get_or}
-use Rattle.std.proofs.Common.{arith, ap, ◌∙◌, sym, Some, None}
+use Rattle.std.proofs.Common.{ap, ◌∙◌, sym, Some, None}
 use Rattle.ks_hash.specs.Laws.Joined.{sole_starts}
 use Rattle.ks_hash.proofs.slices.sole_child.Goals as goal
 

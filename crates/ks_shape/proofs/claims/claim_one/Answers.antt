@@ -1,10 +1,10 @@
-use Rattle.std.proofs.Common.{ℕ, refl, arith}
+use Rattle.std.proofs.Common.{ℕ, arith}
 use Rattle.ks_flow.specs.Discipline.{SameKeyset}
 use Rattle.ks_history.specs.declared.Event.TheVariants.{Claim}
 use Rattle.ks_history.specs.Laws.Begins.{by_others_begins, with_begins}
 use Rattle.ks_history.specs.Laws.Stretch.{stretch_others}
 use Rattle.ks_arena.specs.Sound.{sort_of}
-use Rattle.ks_arena.specs.Clauses.{seen_of, hand_of}
+use Rattle.ks_arena.specs.Clauses.{seen_of}
 use Rattle.ks_shape.specs.Laws.Beside.{StaysBeside, beside_others, stays_beside, keyset_beside}
 use Rattle.ks_shape.specs.Laws.Makes.{makes_both, makes_others, makes_with}
 use Rattle.ks_shape.specs.Laws.Quiet.{quiet_others, quiet_claim, quiet_both}

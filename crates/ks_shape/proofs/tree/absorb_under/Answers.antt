@@ -21,8 +21,6 @@ use Rattle.ks_arena.specs.Sound.{sort_of, blank_of, Sound}
 use Rattle.ks_arena.specs.Clauses.{seen_of, hand_of, change_of}
 use Rattle.ks_shape.proofs.Places.{under_places, under_leads}
 use Rattle.ks_flow.specs.Insets.{AbsorbsInsetUnder}
-use Rattle.ks_flow.specs.Discipline.{SameInset, SameKeyset}
-use Rattle.ks_keysets.specs.declared.Record.{Record}
 use Rattle.ks_keysets.specs.Keyset.{record_at}
 use Rattle.ks_node.specs.Edges.{record_of}
 use Rattle.ks_shape.specs.Laws.Single.{record_is}
