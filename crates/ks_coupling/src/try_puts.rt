@@ -1,9 +1,9 @@
 //! Puts and adds by lock coupling that wait for nobody.
-ghost use Rattle.std.specs.Prelude.{◌≡◌};
+ghost use Rattle.std.specs.Prelude.{◌≡◌, false};
 ghost use Rattle.ks_history.specs.declared.Op.TheVariants.{Add, Put};
 ghost use Rattle.ks_history.specs.Done.{coupling};
 ghost use Rattle.ks_arena.specs.Of.{IsEmptyPassOf, SameCaller};
-ghost use Rattle.ks_shape.specs.Ends.{EndsPutOf, SplitsEvenly};
+ghost use Rattle.ks_shape.specs.Ends.{EndsPutOf};
 ghost use Rattle.ks_shape.specs.Of.{TriedPutOf};
 
 use ks_arena::{Arena, Pass};
@@ -33,7 +33,7 @@ pub fn try_put<N: Unlinked, G: Gate>(
     ensures pass { IsEmptyPassOf arena.now pass.new }
     ensures caller { SameCaller pass.old pass.new }
     ensures ends { EndsPutOf arena.now coupling (Put place value) pass.old pass.new result }
-    ensures tried { SplitsEvenly N.in_place N.halves_have_room →
+    ensures tried { N.in_place ≡ false →
         TriedPutOf arena.now coupling (Put place value) pass.old pass.new result }
 {
     gate.at(pass.caller(), Point::Begin);
@@ -57,7 +57,7 @@ pub fn try_add<N: Unlinked, G: Gate>(
     ensures pass { IsEmptyPassOf arena.now pass.new }
     ensures caller { SameCaller pass.old pass.new }
     ensures ends { EndsPutOf arena.now coupling (Add place value) pass.old pass.new result }
-    ensures tried { SplitsEvenly N.in_place N.halves_have_room →
+    ensures tried { N.in_place ≡ false →
         TriedPutOf arena.now coupling (Add place value) pass.old pass.new result }
 {
     gate.at(pass.caller(), Point::Begin);

@@ -1,5 +1,5 @@
 //! A dictionary: an arena, a technique, and keys for places.
-ghost use Rattle.std.specs.Prelude.{◌≡◌, ◌≤◌, IfOk, IsTrue};
+ghost use Rattle.std.specs.Prelude.{◌≡◌, ◌≤◌, IfOk, IsTrue, false};
 ghost use Rattle.std.specs.Result.{is_ok};
 ghost use Rattle.ks_history.specs.declared.Op.TheVariants.{Add, Del, Get, Put, Swap};
 ghost use Rattle.ks_history.specs.Map.{told};
@@ -11,7 +11,7 @@ ghost use Rattle.ks_arena.specs.Of.{HeldAlone, WasAlone, SameCaller, caller_of};
 ghost use Rattle.ks_shape.specs.Answers.{number_in, reply_in};
 ghost use Rattle.ks_shape.specs.Idle.{IsDone, IsIdle};
 ghost use Rattle.ks_shape.specs.Tries.{HasTried, HasTriedPut, IsDoneIn, MayTell, PutMayTell};
-ghost use Rattle.ks_shape.specs.Ends.{HasEndedPut, SplitsEvenly};
+ghost use Rattle.ks_shape.specs.Ends.{HasEndedPut};
 ghost use Rattle.ks_dictionary.specs.Crew.{AreAll, AreNew, IsNoteOf};
 ghost use Rattle.ks_dictionary.specs.Ended.{HasEndedWith, history};
 
@@ -192,8 +192,8 @@ impl<N: Node, T: Ruled + Template<N, Arena<N, <T as Ruled>::Rule>>> Dictionary<N
     /// # Errors
     ///
     /// `Full` as for `put`, with the number of the call; else it is put off, as `try_get`. That another caller changed some
-    /// nodes where the answer is `Far`, and that a caller which acts alone is not put off, is promised of nodes that split
-    /// evenly: lists and B+ nodes.
+    /// nodes where the answer is `Far`, and that a caller which acts alone is not put off, is promised where no full node
+    /// grows in place: no list, B+ or hash node does.
     pub fn try_put<G: Gate>(
         &self,
         pass: &mut Pass<N, T::Rule>,
@@ -206,11 +206,11 @@ impl<N: Node, T: Ruled + Template<N, Arena<N, <T as Ruled>::Rule>>> Dictionary<N
         ensures caller { SameCaller pass.old pass.new }
         ensures ends { HasEndedPut N.layout T.technique (⟦<Dictionary<N, T> as Shelf>⟧.site self.now)
             (Put (N.Places.place_of key) value) pass.old pass.new result }
-        ensures tried { SplitsEvenly N.in_place N.halves_have_room →
+        ensures tried { N.in_place ≡ false →
             HasTriedPut N.layout T.technique (⟦<Dictionary<N, T> as Shelf>⟧.site self.now)
             (Put (N.Places.place_of key) value) pass.old pass.new result }
         ensures never { PutMayTell T.technique result }
-        ensures alone { SplitsEvenly N.in_place N.halves_have_room →
+        ensures alone { N.in_place ≡ false →
             WasAlone pass.old pass.new → HeldAlone pass.old → IsDoneIn result }
     {
         tries_law();
@@ -234,11 +234,11 @@ impl<N: Node, T: Ruled + Template<N, Arena<N, <T as Ruled>::Rule>>> Dictionary<N
         ensures caller { SameCaller pass.old pass.new }
         ensures ends { HasEndedPut N.layout T.technique (⟦<Dictionary<N, T> as Shelf>⟧.site self.now)
             (Add (N.Places.place_of key) value) pass.old pass.new result }
-        ensures tried { SplitsEvenly N.in_place N.halves_have_room →
+        ensures tried { N.in_place ≡ false →
             HasTriedPut N.layout T.technique (⟦<Dictionary<N, T> as Shelf>⟧.site self.now)
             (Add (N.Places.place_of key) value) pass.old pass.new result }
         ensures never { PutMayTell T.technique result }
-        ensures alone { SplitsEvenly N.in_place N.halves_have_room →
+        ensures alone { N.in_place ≡ false →
             WasAlone pass.old pass.new → HeldAlone pass.old → IsDoneIn result }
     {
         tries_law();

@@ -1,9 +1,9 @@
 //! Puts and adds by giving up that wait for nobody.
-ghost use Rattle.std.specs.Prelude.{◌≡◌};
+ghost use Rattle.std.specs.Prelude.{◌≡◌, false};
 ghost use Rattle.ks_history.specs.declared.Op.TheVariants.{Add, Put};
 ghost use Rattle.ks_history.specs.Done.{give_up};
 ghost use Rattle.ks_arena.specs.Of.{IsEmptyPassOf, SameCaller};
-ghost use Rattle.ks_shape.specs.Ends.{EndsPutOf, SplitsEvenly};
+ghost use Rattle.ks_shape.specs.Ends.{EndsPutOf};
 ghost use Rattle.ks_shape.specs.Of.{TriedPutOf};
 
 use crate::try_descent::try_find;
@@ -35,7 +35,7 @@ pub fn try_put<N: Ranged + Unlinked, G: Gate>(
     ensures pass { IsEmptyPassOf arena.now pass.new }
     ensures caller { SameCaller pass.old pass.new }
     ensures ends { EndsPutOf arena.now give_up (Put place value) pass.old pass.new result }
-    ensures tried { SplitsEvenly N.in_place N.halves_have_room →
+    ensures tried { N.in_place ≡ false →
         TriedPutOf arena.now give_up (Put place value) pass.old pass.new result }
 {
     match try_find(arena, pass, gate, place) {
@@ -67,7 +67,7 @@ pub fn try_add<N: Ranged + Unlinked, G: Gate>(
     ensures pass { IsEmptyPassOf arena.now pass.new }
     ensures caller { SameCaller pass.old pass.new }
     ensures ends { EndsPutOf arena.now give_up (Add place value) pass.old pass.new result }
-    ensures tried { SplitsEvenly N.in_place N.halves_have_room →
+    ensures tried { N.in_place ≡ false →
         TriedPutOf arena.now give_up (Add place value) pass.old pass.new result }
 {
     match try_find(arena, pass, gate, place) {

@@ -2,6 +2,7 @@ pub mod Quiet
 pub mod Ways
 pub mod Keeping
 pub mod Deepening
+pub mod Narrowing
 pub mod Trying
 pub mod Cutting
 pub mod Going

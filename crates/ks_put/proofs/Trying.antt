@@ -1,5 +1,5 @@
 -- What a step of a search that waits for nobody tells, by the step down that it made.
-use Rattle.std.proofs.Common.{◌≡◌, ◌⊎◌, ℕ, suc, ◌<◌, ◌≤◌, ◌+◌, ◌*◌, Bool, true, false, List, sym, ap, ◌∙◌, subst, inl, inr, arith}
+use Rattle.std.proofs.Common.{◌≡◌, ℕ, suc, ◌<◌, ◌≤◌, Bool, true, false, List, sym, ap, ◌∙◌, subst, inl, inr, arith}
 use Rattle.std.specs.Prelude.{Option, Some, None, IsTrue, Result, Ok, Err, length}
 use Rattle.ks_keysets.specs.declared.Frame.{Frame}
 use Rattle.ks_keysets.specs.declared.Span.{Span}
@@ -22,7 +22,6 @@ use Rattle.ks_keysets.specs.Layout.{Layout}
 use Rattle.ks_keysets.specs.Record.{LeadsTo}
 use Rattle.ks_node.specs.Body.{Body, content_of, first_of, is_branch, last_of, next_at}
 use Rattle.ks_node.specs.Edges.{record_of, edges_of}
-use Rattle.ks_node.specs.Room.{is_full}
 use Rattle.ks_arena.specs.declared.held.Held.{Held as Hand}
 use Rattle.ks_history.specs.declared.Event.{Event}
 use Rattle.ks_history.specs.declared.Op.{Op}
@@ -51,9 +50,9 @@ module _ {N : Type 0} (layout : Layout) (shows : N → Body) where
   eased_down x depth refused Grow (Ok step) went room = λ r grow. subst (λ (o : Option (Hand N)). HasRoomAbove layout shows o) (sym went.0) (room (sym went.2 ∙ r) grow)
   eased_down x depth refused Grow (Err later) went room = tt
 
-  pub nearer_down : (x : Hand N) (depth : ℕ) (refused : Bool) (path : Path N) (result : Result (Step N) Later) → WentDown x depth refused result → IsNearer layout shows depth path result
-  nearer_down x depth refused path (Ok step) went = inl went.1
-  nearer_down x depth refused path (Err later) went = tt
+  pub nearer_down : (place : ℕ) (x : Hand N) (depth : ℕ) (refused : Bool) (path : Path N) (result : Result (Step N) Later) → WentDown x depth refused result → IsNearer layout shows place depth path result
+  nearer_down place x depth refused path (Ok step) went = inl went.1
+  nearer_down place x depth refused path (Err later) went = tt
 
 -- a node that leads on has an edge to start, so it is a branch, if those alone have edges
 pub no_leaf : (b : Body) (p m : ℕ) → LeadsTo (record_of b) p m → length (edges_of b) ≡ length b.starts → length b.starts ≡ 0 → ⊥
@@ -74,22 +73,6 @@ far_later n c op s h (Busy node holder) so = tt
 far_later n c op s h (Moved node) so = tt
 far_later n c op s h Far so = so.1
 
--- the turns of a search, of which each goes down or splits a full node: no more than two for each node
-module _ {N : Type 0} (layout : Layout) (shows : N → Body) where
-  abbrev pub AreTurns : Path N → ℕ → ℕ → Type 0
-  AreTurns path depth turn = (IsTrue (is_full layout (shows path.node.body)) → turn ≤ 2 * depth) × (turn ≤ 2 * depth + 1)
-
-  pub turn_down : (path next : Path N) (depth deeper turn : ℕ) → AreTurns path depth turn → deeper ≡ suc depth → AreTurns next deeper (turn + 1)
-  turn_down path next depth deeper turn so down = let less = so.1 in ((λ full. omega (arith, less, down)), omega (arith, less, down))
-
-  pub turn_split : (path next : Path N) (depth deeper turn : ℕ) → AreTurns path depth turn → deeper ≡ depth → IsTrue (is_full layout (shows path.node.body)) → is_full layout (shows next.node.body) ≡ false → AreTurns next deeper (turn + 1)
-  turn_split path next depth deeper turn so same full room = let less = so.0 full in
-      ((λ again. absurd (let q : true ≡ false = sym again ∙ room in let z : ⊥ = cc in z)), omega (arith, less, same))
-
-  pub turn_on : (path next : Path N) (depth deeper turn : ℕ) → AreTurns path depth turn → (deeper ≡ suc depth) ⊎ ((deeper ≡ depth) × IsTrue (is_full layout (shows path.node.body)) × (is_full layout (shows next.node.body) ≡ false)) → AreTurns next deeper (turn + 1)
-  turn_on path next depth deeper turn so (inl down) = turn_down path next depth deeper turn so down
-  turn_on path next depth deeper turn so (inr split) = turn_split path next depth deeper turn so split.0 split.1 split.2
-
 -- where the search of a path ends, its node is no branch
 module _ {N : Type 0} (sort : Sort) (shows : N → Body) (c p : ℕ) (h : List Event) (x : Path N) (path : IsOnPath sort shows c p h x) (facts : Tree (graph_after h) (frame_after (blank_of sort) h)) (place : p ≤ top) where
   held_in : (o : Option Span) → (frame_after (blank_of sort) h x.node.node).range ≡ o → (first_of o ≤ p) × (p ≤ last_of o)
@@ -108,11 +91,11 @@ but_far n c op s h (Busy node holder) so = so
 but_far n c op s h (Moved node) so = so
 but_far n c op s h Far so = so.0
 
-pub put_off : (even : Type 0) (n c place : ℕ) (s h : List Event) (later : Later) → IsCauseAt coupling n c place s h later → IsPutOffBy even n c place s h later
-put_off even n c place s h later so = λ op touched. (but_far n c op s h later (so op touched), λ e. so op touched)
+pub put_off : (ways : Type 0) (n c place : ℕ) (s h : List Event) (later : Later) → IsCauseAt coupling n c place s h later → IsPutOffBy ways n c place s h later
+put_off ways n c place s h later so = λ op touched. (but_far n c op s h later (so op touched), λ e. so op touched)
 
 -- where a search stands at the start of a turn
-module _ {N D : Type 0} (sort : Sort) (shows : N → Body) (even Grow : Type 0) (Fit : Pass N D → Type 0) (nodes me place turn : ℕ) (s : List Event) where
+module _ {N D : Type 0} (sort : Sort) (shows : N → Body) (Open Grow : Type 0) (Fit : Pass N D → Type 0) (nodes me place : ℕ) (s : List Event) where
   abbrev pub TurnAt : Pass N D → Path N → ℕ → Bool → Type 0
   TurnAt p x d r =
       Fit p
@@ -122,8 +105,4 @@ module _ {N D : Type 0} (sort : Sort) (shows : N → Body) (even Grow : Type 0) 
       × (IsTrue r → NoneFree sort.layout nodes p.caller place s (seen_of p))
       × ((start : List Event) → TookSince p.caller start s 0 1 → IsDownPath nodes p.caller start (seen_of p) (suc d) 2 d x)
       × (d < nodes)
-      × (even → IsEasedBut sort.layout shows Grow r x.parent × AreTurns sort.layout shows x d turn)
-
-  pub turn_as : (p q : Pass N D) (x y : Path N) (d e : ℕ) (r b : Bool) → q ≡ p → y ≡ x → e ≡ d → b ≡ r → TurnAt p x d r → TurnAt q y e b
-  turn_as p q x y d e r b one two three four so =
-      subst (λ (z : Pass N D). TurnAt z y e b) (sym one) (subst (λ (z : Path N). TurnAt p z e b) (sym two) (subst (λ (z : ℕ). TurnAt p x z b) (sym three) (subst (λ (z : Bool). TurnAt p x d z) (sym four) so)))
+      × (Open → IsEasedBut sort.layout shows Grow r x.parent)

@@ -35,7 +35,7 @@ use Rattle.ks_put.specs.Laws.Search.{Laws}
 use Rattle.ks_put.proofs.Quiet.{quiet_insets}
 
 -- an edge that leads to the node is among those that are counted
-positive : (es : List Edge) (k m : ℕ) (x : Edge) → k < length es → get_or es k x ≡ x → x.node ≡ m → 0 < edges_to es m
+pub positive : (es : List Edge) (k m : ℕ) (x : Edge) → k < length es → get_or es k x ≡ x → x.node ≡ m → 0 < edges_to es m
 positive [] k m x near is to = absurd (omega arith)
 positive (e ∷ es) zero m x near is to = let t : (e.node == m) ≡ true = eq-eqb e.node m (ap (λ (z : Edge). z.node) is ∙ to) in rw t (omega arith)
 positive (e ∷ es) (suc k) m x near is to = omega (arith, positive es k m x (omega arith) is to)

@@ -2,6 +2,7 @@ pub mod Laws
 pub mod OnPath
 pub mod Parts
 pub mod Deeper
+pub mod Narrows
 pub mod Room
 pub mod Of
 pub mod Tries

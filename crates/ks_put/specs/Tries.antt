@@ -12,7 +12,6 @@ use Rattle.ks_history.specs.Map.{Touches}
 use Rattle.ks_history.specs.Trace.{hand}
 use Rattle.ks_history.specs.Underway.{Underway}
 use Rattle.ks_node.specs.Body.{Body}
-use Rattle.ks_node.specs.Room.{is_full}
 use Rattle.ks_arena.specs.declared.arena.Arena.{Arena}
 use Rattle.ks_arena.specs.declared.held.Pass.{Pass}
 use Rattle.ks_arena.specs.declared.held.Held.{Held as Hand}
@@ -21,7 +20,7 @@ use Rattle.ks_arena.specs.Clauses.{seen_of}
 use Rattle.ks_shape.specs.declared.answers.Later.{Later}
 use Rattle.ks_shape.specs.declared.answers.Numbered.{Numbered}
 use Rattle.ks_shape.specs.declared.answers.PutLater.{PutLater}
-use Rattle.ks_shape.specs.Ends.{EndsPut, IsCauseButFar, IsFarDue, SplitsEvenly}
+use Rattle.ks_shape.specs.Ends.{EndsPut, IsCauseButFar, IsFarDue}
 use Rattle.ks_shape.specs.Tries.{FindsFar, IsCause}
 use Rattle.ks_try.specs.Down.{IsDown}
 use Rattle.ks_try.specs.Of.{IsCauseAt}
@@ -29,6 +28,7 @@ use Rattle.ks_put.specs.declared.path.Path.{Path}
 use Rattle.ks_put.specs.declared.room.Room.{Room}
 use Rattle.ks_put.specs.declared.try_room.Step.{Step}
 use Rattle.ks_put.specs.Deeper.{IsDownPath}
+use Rattle.ks_put.specs.Narrows.{cuts_left}
 use Rattle.ks_put.specs.OnPath.{IsOnPath}
 use Rattle.ks_put.specs.Parts.{HasRoomAbove}
 use Rattle.ks_put.specs.Room.{CameTo}
@@ -55,9 +55,9 @@ module _ {N : Type 0} (n c place : ℕ) (s0 h : List Event) where
   StepOrCause (Ok step) = IsDownPath n c s0 h (suc step.depth) 2 step.depth step.path
   StepOrCause (Err later) = IsCauseAt coupling n c place s0 h later
 
--- what put off the operation at the place is so; that Far is, if nodes split evenly
+-- what put off the operation at the place is so; that Far is, if a way was open to split each full node
 abbrev pub IsPutOffBy : Type 0 → ℕ → ℕ → ℕ → List Event → List Event → Later → Type 0
-IsPutOffBy even n c place s0 h later = (op : Op) → Touches op place → IsCauseButFar coupling c op s0 h later × (even → IsCause coupling n c op s0 h later)
+IsPutOffBy ways n c place s0 h later = (op : Op) → Touches op place → IsCauseButFar coupling c op s0 h later × (ways → IsCause coupling n c op s0 h later)
 
 -- c came to the node where its search ends, as it tells; or it holds nothing
 abbrev pub RoomOrNone : {N : Type 0} → Sort → (N → Body) → ℕ → ℕ → ℕ → List Event → List Event → Result (Room N) Later → Type 0
@@ -66,8 +66,8 @@ RoomOrNone sort shows n c place h k (Err later) = hand c k ≡ []
 
 -- or what put it off is so
 abbrev pub RoomOrCause : {N : Type 0} → Type 0 → ℕ → ℕ → ℕ → List Event → List Event → Result (Room N) Later → Type 0
-RoomOrCause even n c place s0 h (Ok room) = Unit {0}
-RoomOrCause even n c place s0 h (Err later) = IsPutOffBy even n c place s0 h later
+RoomOrCause ways n c place s0 h (Ok room) = Unit {0}
+RoomOrCause ways n c place s0 h (Err later) = IsPutOffBy ways n c place s0 h later
 
 -- the path stands at the root; or hangs from this node; or the search was put off
 abbrev pub IsAtRoot : {N : Type 0} → Result (Path N) Later → Type 0
@@ -102,10 +102,10 @@ module _ {N : Type 0} (layout : Layout) (shows : N → Body) where
   IsEasedStep Grow (Ok step) = IsEasedBut Grow step.refused step.path.parent
   IsEasedStep Grow (Err later) = Unit {0}
 
-  -- the step goes down; or it splits a full node, and stands at a half that is not full
-  abbrev pub IsNearer : ℕ → Path N → Result (Step N) Later → Type 0
-  IsNearer depth path (Ok step) = (step.depth ≡ suc depth) ⊎ ((step.depth ≡ depth) × IsTrue (is_full layout (shows path.node.body)) × (is_full layout (shows step.path.node.body) ≡ false))
-  IsNearer depth path (Err later) = Unit {0}
+  -- the step goes down; or it splits the node, and so narrows the search
+  abbrev pub IsNearer : ℕ → ℕ → Path N → Result (Step N) Later → Type 0
+  IsNearer place depth path (Ok step) = (step.depth ≡ suc depth) ⊎ ((step.depth ≡ depth) × (cuts_left layout shows place step.path < cuts_left layout shows place path))
+  IsNearer place depth path (Err later) = Unit {0}
 
 module _ {N D P : Type 0} {n : NodeGhosts N P} {q : PlacingGhosts P} {d : DisciplineGhosts D} where
   abbrev pub StandsOrNone : Arena N D P n q d → ℕ → ℕ → Pass N D → Result (Path N) Later → Type 0
@@ -132,9 +132,9 @@ module _ {N D P : Type 0} {n : NodeGhosts N P} {q : PlacingGhosts P} {d : Discip
   TriesRoom a place p p' result = RoomOrNone (sort_of n.layout n.ranged) n.body a.nodes p.caller place (seen_of p) (seen_of p') result
 
   abbrev pub TriesRoomSince : Arena N D P n q d → ℕ → Pass N D → Pass N D → Result (Room N) Later → Type 0
-  TriesRoomSince a place p p' result = (start : List Event) → TookSince p.caller start (seen_of p) 0 1 → RoomOrCause (SplitsEvenly n.in_place n.halves_have_room) a.nodes p.caller place start (seen_of p') result
+  TriesRoomSince a place p p' result = (start : List Event) → TookSince p.caller start (seen_of p) 0 1 → RoomOrCause (n.in_place ≡ false) a.nodes p.caller place start (seen_of p') result
 
   -- a put or an add that is under way at p, by coupling or by giving up, and took the root once at most, is done at p', or put off
   abbrev pub FinishesTry : Arena N D P n q d → Op → Pass N D → Pass N D → Result Numbered PutLater → Type 0
   FinishesTry a op p p' answer = (template : Template) (start : List Event) → FindsFar template → TookSince p.caller start (seen_of p) 0 1 → Underway template p.caller op start (seen_of p) →
-      EndsPut n.layout template a.nodes p.caller op start (seen_of p') answer × (SplitsEvenly n.in_place n.halves_have_room → IsFarDue a.nodes p.caller start (seen_of p') answer)
+      EndsPut n.layout template a.nodes p.caller op start (seen_of p') answer × (n.in_place ≡ false → IsFarDue a.nodes p.caller start (seen_of p') answer)

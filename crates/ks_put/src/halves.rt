@@ -50,6 +50,7 @@ pub(crate) fn keep_half<N: Unlinked, G: Gate>(
     ensures stretch { IsStretch pass.old pass.new }
     ensures quiet { KeepsQuiet pass.old pass.new }
     ensures parent { result.parent ≡ Some parent }
+    ensures kept { (place < cut → result.node ≡ left) × (cut ≤ place → result.node ≡ right) }
     ensures room { is_full N.layout (N.body left.body) ≡ false → is_full N.layout (N.body right.body) ≡ false →
         is_full N.layout (N.body result.node.body) ≡ false }
 {

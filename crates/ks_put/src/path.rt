@@ -1,5 +1,5 @@
 //! A search that keeps the parent of its node.
-ghost use Rattle.std.specs.Prelude.{◌≡◌, ◌∷◌, None, Some, false};
+ghost use Rattle.std.specs.Prelude.{◌≡◌, ◌≤◌, ◌∷◌, None, Some, false};
 ghost use Rattle.std.specs.Option.{ForSome};
 ghost use Rattle.ks_history.specs.declared.Event.TheVariants.{Take};
 ghost use Rattle.ks_history.specs.Done.{coupling};
@@ -10,6 +10,7 @@ ghost use Rattle.ks_arena.specs.Clauses.{hand_of};
 ghost use Rattle.ks_put.specs.OnPath.{numbers};
 ghost use Rattle.ks_arena.specs.Of.{Adds, IsInside, IsPassOf, IsEmptyPassOf, IsCurrent, IsLiveAndCurrent, SameCaller, caller_of};
 ghost use Rattle.ks_shape.specs.Of.{IsStretch, IsOnWayOf, StaysUnderway};
+ghost use Rattle.ks_put.specs.Narrows.{cuts_left};
 ghost use Rattle.ks_put.specs.Of.{AddsGive, IsOnPathOf, KeepsDown};
 
 use crate::laws::search_law;
@@ -118,6 +119,7 @@ pub(crate) fn settle<N: Unlinked, G: Gate>(
     ensures stretch { IsStretch pass.old pass.new }
     ensures down { KeepsDown arena.now pass.old pass.new path result }
     ensures node { result.node ≡ path.node }
+    ensures narrows { cuts_left N.layout N.body place result ≤ cuts_left N.layout N.body place path }
     ensures alone { is_full N.layout (N.body path.node.body) ≡ false → result.parent ≡ None }
 {
     search_law();

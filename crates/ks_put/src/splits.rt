@@ -1,12 +1,13 @@
 //! The splits of a full node: where its cut goes.
 ghost use Rattle.std.specs.Prelude.{◌≡◌, IsTrue, Some, None, false};
-ghost use Rattle.ks_node.specs.Body.{is_branch};
+ghost use Rattle.ks_node.specs.Body.{begins, is_branch};
 ghost use Rattle.ks_node.specs.Room.{is_full};
 ghost use Rattle.ks_node.specs.Effect.{split_left};
 ghost use Rattle.ks_node.specs.Asks.{CanSplitAt, HalvesHaveRoom};
 ghost use Rattle.ks_put.specs.Parts.{CanAt, Grows, HasRoomAbove, IsEased, IsRoomy, IsShut};
 ghost use Rattle.ks_arena.specs.Of.{IsInside, IsPassOf, SameCaller, caller_of};
 ghost use Rattle.ks_shape.specs.Of.{IsStretch};
+ghost use Rattle.ks_put.specs.Narrows.{IsNarrower};
 ghost use Rattle.ks_put.specs.Of.{AllGrow, IsOnPathOf, TriedToSplit, PartsDown};
 
 use crate::cuts::{cut_below, cut_of_root};
@@ -15,6 +16,7 @@ use crate::laws::search_law;
 use crate::path::{Path, settle};
 use ks_arena::{Arena, Held, Pass};
 use ks_flow::Tree;
+use ks_flow::laws::tree_facts_law;
 use ks_gate::Gate;
 use ks_node::{Unlinked, node_law, unlinked_law};
 use ks_shape::{claim_one, claim_two, grow, split_own, split_under};
@@ -41,6 +43,7 @@ pub(crate) fn grow_root<N: Unlinked, G: Gate>(
     ensures stretch { IsStretch pass.old pass.new }
     ensures down { PartsDown arena.now pass.old pass.new (record { parent = None; node = root }) result }
     ensures halves { IsTrue N.halves_have_room → IsRoomy N.layout N.body result }
+    ensures narrows { IsNarrower N.layout N.body place (record { parent = None; node = root }) result }
 {
     search_law();
     unlinked_law::<N>();
@@ -81,8 +84,10 @@ pub(crate) fn split_below<N: Unlinked, G: Gate>(
     ensures stretch { IsStretch pass.old pass.new }
     ensures down { PartsDown arena.now pass.old pass.new (record { parent = Some parent; node = node }) result }
     ensures halves { IsTrue N.halves_have_room → IsRoomy N.layout N.body result }
+    ensures narrows { IsNarrower N.layout N.body place (record { parent = Some parent; node = node }) result }
 {
     search_law();
+    tree_facts_law();
     let mut parent = parent;
     let mut node = node;
     let Some(mut right) = claim_one(arena, pass, gate) else {
@@ -110,6 +115,7 @@ pub(crate) fn split_alone<N: Unlinked, G: Gate>(
     requires cut { IsInside pass.old path.node.node cut × CanSplitAt (N.body path.node.body) cut }
     requires adopts { CanAt N.can_adopt_at (split_left cut (N.body path.node.body)) cut }
     requires leaf { is_branch (N.body path.node.body) ≡ false }
+    requires none_starts { begins cut (N.body path.node.body).starts ≡ false }
     requires halves { IsTrue N.halves_have_room → HalvesHaveRoom N.layout cut (N.body path.node.body) }
     ensures pass { IsPassOf arena.now pass.new }
     ensures caller { SameCaller pass.old pass.new }
@@ -118,8 +124,10 @@ pub(crate) fn split_alone<N: Unlinked, G: Gate>(
     ensures stretch { IsStretch pass.old pass.new }
     ensures down { PartsDown arena.now pass.old pass.new path result }
     ensures halves { IsTrue N.halves_have_room → IsRoomy N.layout N.body result }
+    ensures narrows { IsNarrower N.layout N.body place path result }
 {
     search_law();
+    tree_facts_law();
     let Some(mut right) = claim_one(arena, pass, gate) else {
         return Part::Refused(path);
     };
@@ -154,7 +162,9 @@ pub(crate) fn split_root<N: Unlinked, G: Gate>(
     ensures stretch { IsStretch pass.old pass.new }
     ensures down { PartsDown arena.now pass.old pass.new (record { parent = None; node = root }) result }
     ensures halves { IsTrue N.halves_have_room → IsRoomy N.layout N.body result }
+    ensures narrows { IsNarrower N.layout N.body place (record { parent = None; node = root }) result }
 {
+    unlinked_law::<N>();
     let cut = cut_of_root(arena, pass, &root);
     if root.body.grows() {
         return grow_root(arena, pass, gate, place, cut, root);
@@ -193,7 +203,9 @@ pub(crate) fn split_child<N: Unlinked, G: Gate>(
     ensures stretch { IsStretch pass.old pass.new }
     ensures down { PartsDown arena.now pass.old pass.new (record { parent = Some parent; node = node }) result }
     ensures halves { IsTrue N.halves_have_room → IsRoomy N.layout N.body result }
+    ensures narrows { IsNarrower N.layout N.body place (record { parent = Some parent; node = node }) result }
 {
+    unlinked_law::<N>();
     let cut = cut_below(arena, pass, place, &parent, &node);
     if parent.body.is_branch() && parent.body.can_adopt(cut) {
         return split_below(arena, pass, gate, place, cut, parent, node);
@@ -230,6 +242,7 @@ fn split_whole<N: Unlinked, G: Gate>(
     ensures stretch { IsStretch pass.old pass.new }
     ensures down { PartsDown arena.now pass.old pass.new path result }
     ensures halves { IsTrue N.halves_have_room → IsRoomy N.layout N.body result }
+    ensures narrows { IsNarrower N.layout N.body place path result }
 {
     let Path { parent, node } = path;
     match parent {
@@ -258,6 +271,7 @@ pub(crate) fn split<N: Unlinked, G: Gate>(
     ensures stretch { IsStretch pass.old pass.new }
     ensures down { PartsDown arena.now pass.old pass.new path result }
     ensures halves { IsTrue N.halves_have_room → IsEased N.layout N.body result }
+    ensures narrows { IsNarrower N.layout N.body place path result }
 {
     match split_whole(arena, pass, gate, place, path) {
         Part::Split(half) => Part::Split(settle(arena, pass, gate, place, half)),

@@ -1,10 +1,9 @@
 //! The search for room for a place that waits for nobody. A take that finds a node busy puts it off, and so does a way as
 //! long as there are nodes; its own splits make no way longer.
-ghost use Rattle.std.specs.Prelude.{◌≡◌, ◌<◌, IsTrue};
+ghost use Rattle.std.specs.Prelude.{◌≡◌, ◌<◌, false};
 ghost use Rattle.ks_node.specs.declared.start.Next.TheVariants.{Go};
 ghost use Rattle.ks_node.specs.Body.{next_at};
 ghost use Rattle.ks_arena.specs.Of.{IsPassOf, IsEmptyPassOf, SameCaller, caller_of};
-ghost use Rattle.ks_shape.specs.Ends.{SplitsEvenly};
 ghost use Rattle.ks_shape.specs.Of.{IsStretch, IsOnWayOf, NoneWasFree};
 ghost use Rattle.ks_put.specs.Of.{AllGrow, IsOnPathOf};
 ghost use Rattle.ks_put.specs.Tries.{BeginsOrCause, DeeperOrCause, HangsFrom, IsAtRoot, IsEasedBut, IsEasedStep, IsNear, IsNearer, OnOrCause, StandsOrNone, StepsOrNone, TriesRoom, TriesRoomSince, WasRefused, WentDown};
@@ -177,9 +176,9 @@ fn try_go_on<N: Unlinked, G: Gate>(
     ensures caller { SameCaller pass.old pass.new }
     ensures path { StepsOrNone arena.now (caller_of pass.old) place pass.new result }
     ensures refused { WasRefused refused (NoneWasFree arena.now place pass.old pass.new) result }
-    ensures eased { SplitsEvenly N.in_place N.halves_have_room → IsEasedBut N.layout N.body (AllGrow arena.now) refused path.parent →
+    ensures eased { N.in_place ≡ false → IsEasedBut N.layout N.body (AllGrow arena.now) refused path.parent →
         IsEasedStep N.layout N.body (AllGrow arena.now) result }
-    ensures nearer { IsTrue N.halves_have_room → IsNearer N.layout N.body depth path result }
+    ensures nearer { IsNearer N.layout N.body place depth path result }
     ensures near { IsNear arena.now.nodes result }
     ensures down { OnOrCause arena.now place pass.old pass.new depth path result }
     ensures stretch { IsStretch pass.old pass.new }
@@ -204,8 +203,8 @@ fn try_go_on<N: Unlinked, G: Gate>(
 }
 
 /// Takes the node at which the search for a place ends, and holds it alone, as `make_room` does, but waits for nobody: or it
-/// holds nothing. Its turns are bounded, since each goes a node down or splits one; where nodes split evenly, none is left
-/// over, and where they do not, a way on which they run out is told as far.
+/// holds nothing. It ends without a count of turns: each goes a node down, of as many as there are, or splits one, and so
+/// narrows what may lie at it.
 pub(crate) fn try_make_room<N: Unlinked, G: Gate>(
     arena: &Arena<N, Tree>,
     pass: &mut Pass<N, Tree>,
@@ -226,7 +225,7 @@ pub(crate) fn try_make_room<N: Unlinked, G: Gate>(
     };
     let mut depth = 0;
     let mut refused = false;
-    for _turn in 0..2 * u64::from(arena.nodes()) {
+    loop {
         match path.node.body.next(place) {
             Next::Go(child) => {
                 match try_go_on(arena, pass, gate, place, path, child, depth, refused) {
@@ -265,6 +264,4 @@ pub(crate) fn try_make_room<N: Unlinked, G: Gate>(
             }
         }
     }
-    let_all_go(arena, pass, gate, place, path);
-    Err(Later::Far)
 }

@@ -1,5 +1,5 @@
 -- What a put or an add that waits for nobody tells, whatever its nodes: as `TriedPut`, but for the cause of Far.
-use Rattle.std.specs.Prelude.{ℕ, ◌≡◌, Bool, false, IsTrue, List, Result, Ok, Err}
+use Rattle.std.specs.Prelude.{ℕ, List, Result, Ok, Err}
 use Rattle.ks_keysets.specs.Layout.{Layout}
 use Rattle.ks_node.specs.declared.node.Node.{Ghosts as NodeGhosts}
 use Rattle.ks_node.below.ks_places.specs.declared.Placing.{Ghosts as PlacingGhosts}
@@ -20,10 +20,6 @@ use Rattle.ks_shape.specs.declared.answers.PutLater.{PutLater}
 use Rattle.ks_shape.specs.declared.answers.PutLater.TheVariants.{Full, Later as Otherwise}
 use Rattle.ks_shape.specs.Idle.{Site}
 use Rattle.ks_shape.specs.Tries.{FindsMoved, FindsFar}
-
--- a type whose nodes split evenly: none grows in place, and neither half of a full node is full
-abbrev pub SplitsEvenly : Bool → Bool → Type 0
-SplitsEvenly in_place halves_have_room = (in_place ≡ false) × IsTrue halves_have_room
 
 -- what put off the operation of c between s0 and s1 was so; of Far this tells that the technique may find it
 abbrev pub IsCauseButFar : Template → ℕ → Op → List Event → List Event → Later → Type 0

@@ -1,6 +1,6 @@
 //! What a technique of concurrency offers: five calls, each of which stands once in the one history of all calls; and such
 //! as wait for nobody, which stand there once, or are put off.
-ghost use Rattle.std.specs.Prelude.{◌≡◌};
+ghost use Rattle.std.specs.Prelude.{◌≡◌, false};
 ghost use Rattle.ks_history.specs.declared.Op.TheVariants.{Add, Del, Get, Put, Swap};
 ghost use Rattle.ks_history.specs.Map.{told};
 ghost use Rattle.ks_history.specs.Done.{Template as Technique};
@@ -8,7 +8,7 @@ ghost use Rattle.ks_arena.specs.Sound.{sort_of, blank_of};
 ghost use Rattle.ks_shape.specs.Answers.{number_in, reply_in};
 ghost use Rattle.ks_shape.specs.Idle.{IsDone, IsIdle, Site};
 ghost use Rattle.ks_shape.specs.Tries.{HasTried, HasTriedPut};
-ghost use Rattle.ks_shape.specs.Ends.{HasEndedPut, SplitsEvenly};
+ghost use Rattle.ks_shape.specs.Ends.{HasEndedPut};
 ghost use Rattle.ks_arena.specs.Of.{SameCaller};
 
 use crate::answers::{Full, Later, Numbered, PutLater};
@@ -164,7 +164,7 @@ pub trait Template<N: Node, A: Shelf>: Ruled {
     /// # Errors
     ///
     /// `Full` as for `put`, with the number of the call; else it is put off, as `try_get`. That another caller changed some
-    /// nodes where the answer is `Far` is promised of nodes that split evenly.
+    /// nodes where the answer is `Far` is promised where no full node grows in place.
     fn try_put<G: Gate>(
         arena: &A,
         pass: &mut Pass<N, Self::Rule>,
@@ -177,7 +177,7 @@ pub trait Template<N: Node, A: Shelf>: Ruled {
         ensures caller { SameCaller pass.old pass.new }
         ensures ends { HasEndedPut N.layout Self.technique (A.site arena.now) (Put place value)
             pass.old pass.new result }
-        ensures tried { SplitsEvenly N.in_place N.halves_have_room →
+        ensures tried { N.in_place ≡ false →
             HasTriedPut N.layout Self.technique (A.site arena.now) (Put place value)
             pass.old pass.new result };
 
@@ -199,7 +199,7 @@ pub trait Template<N: Node, A: Shelf>: Ruled {
         ensures caller { SameCaller pass.old pass.new }
         ensures ends { HasEndedPut N.layout Self.technique (A.site arena.now) (Add place value)
             pass.old pass.new result }
-        ensures tried { SplitsEvenly N.in_place N.halves_have_room →
+        ensures tried { N.in_place ≡ false →
             HasTriedPut N.layout Self.technique (A.site arena.now) (Add place value)
             pass.old pass.new result };
 

@@ -18,6 +18,6 @@ returns-clause-ends g c = let me : ℕ = c.args.pass.now.caller in let h = seen_
     (c.try_pair_add.ensures.tried coupling h tt (once me h) (underway_first coupling me (Add c.args.place c.args.value) h c.requires.pass.1)).0
 
 pub returns-clause-tried : goal.returns-clause-tried
-returns-clause-tried g c = λ even. let me : ℕ = c.args.pass.now.caller in let h = seen_of c.args.pass.now in
+returns-clause-tried g c = λ ways. let me : ℕ = c.args.pass.now.caller in let h = seen_of c.args.pass.now in
     let so = c.try_pair_add.ensures.tried coupling h tt (once me h) (underway_first coupling me (Add c.args.place c.args.value) h c.requires.pass.1) in
-    tried_of g.N.Node.layout coupling c.args.arena.now.nodes me (Add c.args.place c.args.value) h (seen_of c.try_pair_add.new.pass) c.try_pair_add.result so.0 (so.1 even)
+    tried_of g.N.Node.layout coupling c.args.arena.now.nodes me (Add c.args.place c.args.value) h (seen_of c.try_pair_add.new.pass) c.try_pair_add.result so.0 (so.1 ways)

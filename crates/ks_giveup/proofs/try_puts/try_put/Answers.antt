@@ -1,4 +1,4 @@
-use Rattle.std.proofs.Common.{◌≡◌, ◌∙◌, ℕ, refl, sym, subst}
+use Rattle.std.proofs.Common.{◌≡◌, ◌∙◌, ℕ, false, refl, sym, subst}
 use Rattle.ks_history.specs.declared.Event.TheVariants.{Give}
 use Rattle.ks_history.specs.declared.Op.{Op}
 use Rattle.ks_history.specs.declared.Op.TheVariants.{Put}
@@ -11,7 +11,7 @@ use Rattle.ks_history.specs.Underway.{Underway}
 use Rattle.ks_arena.specs.Sound.{sort_of}
 use Rattle.ks_arena.specs.Clauses.{seen_of}
 use Rattle.ks_shape.specs.SearchEnd.{IsEnd}
-use Rattle.ks_shape.specs.Ends.{EndsPut, IsFarDue, SplitsEvenly}
+use Rattle.ks_shape.specs.Ends.{EndsPut, IsFarDue}
 use Rattle.ks_shape.specs.Laws.Ends.{ends_of, tried_of}
 use Rattle.ks_shape.specs.Tries.{IsPutOff}
 use Rattle.ks_shape.specs.declared.answers.PutLater.TheVariants.{Later as Otherwise}
@@ -27,7 +27,7 @@ returns-in-Err-clause-ends g c = let op : Op = Put c.args.place c.args.value in 
     ends_of g.N.Node.layout give_up n me op h k (Err (Otherwise c.in-Err.later)) (put_off n me c.args.place op h k c.in-Err.later refl (e.under op) e.came)
 
 pub returns-in-Err-clause-tried : goal.returns-in-Err-clause-tried
-returns-in-Err-clause-tried g c = λ even. let op : Op = Put c.args.place c.args.value in let e = c.in-Err.ensures in
+returns-in-Err-clause-tried g c = λ ways. let op : Op = Put c.args.place c.args.value in let e = c.in-Err.ensures in
     put_off c.args.arena.now.nodes c.args.pass.now.caller c.args.place op (seen_of c.args.pass.now) (seen_of c.try_find.new.pass) c.in-Err.later refl (e.under op) e.came
 
 -- done where it ended
@@ -43,7 +43,7 @@ returns-then-has_room-clause-ends g c = let op : Op = Put c.args.place c.args.va
     subst (λ (z : ℕ). Underway give_up z op h k → Done g.N.Node.layout give_up c.args.arena.now.nodes z op h (seen_of c.put_here.new.pass) (told c.put_here.result.found) c.put_here.result.number) e.caller (c.put_here.ensures.done give_up h) (e.under op)
 
 pub returns-then-has_room-clause-tried : goal.returns-then-has_room-clause-tried
-returns-then-has_room-clause-tried g c = λ even. let op : Op = Put c.args.place c.args.value in let h = seen_of c.args.pass.now in let k = seen_of c.try_find.new.pass in let e = c.in-Ok.ensures in
+returns-then-has_room-clause-tried g c = λ ways. let op : Op = Put c.args.place c.args.value in let h = seen_of c.args.pass.now in let k = seen_of c.try_find.new.pass in let e = c.in-Ok.ensures in
     subst (λ (z : ℕ). Underway give_up z op h k → Done g.N.Node.layout give_up c.args.arena.now.nodes z op h (seen_of c.put_here.new.pass) (told c.put_here.result.found) c.put_here.result.number) e.caller (c.put_here.ensures.done give_up h) (e.under op)
 
 -- or it goes on from the root
@@ -51,7 +51,7 @@ returns-then-has_room-clause-tried g c = λ even. let op : Op = Put c.args.place
 own : (g : Over) (c : After-try_pair_put g) → c.give_last.new.pass.caller ≡ c.args.pass.now.caller
 own g c = c.give_last.ensures.caller ∙ c.try_find.ensures.caller
 
-so : (g : Over) (c : After-try_pair_put g) → EndsPut g.N.Node.layout give_up c.args.arena.now.nodes c.give_last.new.pass.caller (Put c.args.place c.args.value) (seen_of c.args.pass.now) (seen_of c.try_pair_put.new.pass) c.try_pair_put.result × (SplitsEvenly g.N.Node.in_place g.N.Node.halves_have_room → IsFarDue c.args.arena.now.nodes c.give_last.new.pass.caller (seen_of c.args.pass.now) (seen_of c.try_pair_put.new.pass) c.try_pair_put.result)
+so : (g : Over) (c : After-try_pair_put g) → EndsPut g.N.Node.layout give_up c.args.arena.now.nodes c.give_last.new.pass.caller (Put c.args.place c.args.value) (seen_of c.args.pass.now) (seen_of c.try_pair_put.new.pass) c.try_pair_put.result × (g.N.Node.in_place ≡ false → IsFarDue c.args.arena.now.nodes c.give_last.new.pass.caller (seen_of c.args.pass.now) (seen_of c.try_pair_put.new.pass) c.try_pair_put.result)
 so g c = let op : Op = Put c.args.place c.args.value in let me : ℕ = c.args.pass.now.caller in let h = seen_of c.args.pass.now in let k = seen_of c.try_find.new.pass in let l = seen_of c.give_last.new.pass in let e = c.in-Ok.ensures in let i : ℕ = c.in-Ok.held.node in let two = c.give_last.ensures.caller in
     let took : TookSince me h l 0 1 = once_later me i h k l (subst (λ (z : ℕ). GrowsWith z (Give z i) k l) e.caller c.give_last.ensures.gave) e.once in
     let under : Underway give_up c.try_find.new.pass.caller op h l = c.give_last.ensures.under give_up op h (subst (λ (z : ℕ). Underway give_up z op h k) (sym e.caller) (e.under op)) in
@@ -62,7 +62,7 @@ returns-else-has_room-clause-ends g c = let at = (goal.at.returns-else-has_room-
     subst (λ (z : ℕ). EndsPut g.N.Node.layout give_up c.args.arena.now.nodes z (Put c.args.place c.args.value) (seen_of c.args.pass.now) (seen_of c.try_pair_put.new.pass) c.try_pair_put.result) (own g at) (so g at).0
 
 pub returns-else-has_room-clause-tried : goal.returns-else-has_room-clause-tried
-returns-else-has_room-clause-tried g c = λ even. let at = (goal.at.returns-else-has_room-clause-tried g c).After-try_pair_put in let n : ℕ = c.args.arena.now.nodes in let h = seen_of c.args.pass.now in let l = seen_of c.try_pair_put.new.pass in let op : Op = Put c.args.place c.args.value in
+returns-else-has_room-clause-tried g c = λ ways. let at = (goal.at.returns-else-has_room-clause-tried g c).After-try_pair_put in let n : ℕ = c.args.arena.now.nodes in let h = seen_of c.args.pass.now in let l = seen_of c.try_pair_put.new.pass in let op : Op = Put c.args.place c.args.value in
     tried_of g.N.Node.layout give_up n c.args.pass.now.caller op h l c.try_pair_put.result
     (subst (λ (z : ℕ). EndsPut g.N.Node.layout give_up n z op h l c.try_pair_put.result) (own g at) (so g at).0)
-    (subst (λ (z : ℕ). IsFarDue n z h l c.try_pair_put.result) (own g at) ((so g at).1 even))
+    (subst (λ (z : ℕ). IsFarDue n z h l c.try_pair_put.result) (own g at) ((so g at).1 ways))

@@ -49,3 +49,11 @@ returns-then-place-cut-clause-quiet g c = quiet_give c.args.pass.now.caller c.ar
 
 pub returns-else-place-cut-clause-quiet : goal.returns-else-place-cut-clause-quiet
 returns-else-place-cut-clause-quiet g c = quiet_give c.args.pass.now.caller c.args.left.node (seen_of c.args.pass.now) (seen_of c.give-else-place-cut.new.pass) c.give-else-place-cut.ensures.gave
+
+-- which half is kept
+
+pub returns-then-place-cut-clause-kept : goal.returns-then-place-cut-clause-kept
+returns-then-place-cut-clause-kept g c = ((λ lt. refl), λ le. absurd (omega (arith, le, c.if-place-cut.true)))
+
+pub returns-else-place-cut-clause-kept : goal.returns-else-place-cut-clause-kept
+returns-else-place-cut-clause-kept g c = ((λ lt. absurd (omega (arith, lt, c.if-place-cut.false))), λ le. refl)

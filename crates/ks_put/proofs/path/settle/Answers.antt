@@ -8,6 +8,9 @@ use Rattle.ks_put.specs.OnPath.{numbers}
 use Rattle.ks_arena.specs.Sound.{sort_of}
 use Rattle.ks_try.specs.Down.{IsDown}
 use Rattle.ks_put.proofs.Deepening.{down_quiet, path_down, quiet_gave}
+use Rattle.ks_put.specs.declared.path.Path.{Path}
+use Rattle.ks_put.specs.Narrows.{cuts_left}
+use Rattle.ks_put.proofs.Narrowing.{no_cuts}
 use Rattle.ks_put.proofs.path.settle.Goals as goal
 
 few : {N : Type 0} (o : Option (Hand N)) (hs : List ℕ) (i : ℕ) → hs ≡ i ∷ numbers o → length hs ≤ 3
@@ -37,3 +40,8 @@ returns-clause-down g c = λ start taken roots steps down. let sort = sort_of g.
     subst (λ (x : Hand g.row.N.Denot). IsDown n me start k taken roots steps x.node) (sym e.node)
     (down_quiet n me start h k taken roots steps c.args.path.node.node (quiet_gave me c.args.path.parent h k e.gave) (law.turns k e.pass.sound)
     (path_down sort g.N.Node.body slots me law n c.args.place start h taken roots steps c.args.path.node c.args.path.parent c.requires.path.under down))
+
+pub returns-clause-narrows : goal.returns-clause-narrows
+returns-clause-narrows g c = let y : Path g.row.N.Denot = record { parent = None; node = c.let_go-node.result } in
+    let room : is_full g.N.Node.layout (g.N.Node.body c.let_go-node.result.body) ≡ false = subst (λ (x : Hand g.row.N.Denot). is_full g.N.Node.layout (g.N.Node.body x.body) ≡ false) (sym c.let_go-node.ensures.node) (sym c.is_full.ensures ∙ c.if-is_full.false) in
+    let none : cuts_left g.N.Node.layout g.N.Node.body c.args.place y ≡ 0 = no_cuts g.N.Node.layout g.N.Node.body c.args.place y room in omega (arith, none)

@@ -1,4 +1,4 @@
-use Rattle.std.proofs.Common.{◌≡◌, ◌≤◌, ◌∙◌, ℕ, List, ◌∷◌, length, arith, refl, sym, ap, subst}
+use Rattle.std.proofs.Common.{◌≡◌, ◌≤◌, ◌∙◌, ℕ, List, ◌∷◌, length, arith, refl, sym, ap, subst, ◌<◌}
 use Rattle.std.specs.Prelude.{Option, Some, None}
 use Rattle.ks_keysets.specs.Record.{LeadsTo}
 use Rattle.ks_keysets.specs.Keyset.{InInset}
@@ -27,6 +27,10 @@ use Rattle.ks_shape.specs.Quiet.{IsQuiet}
 use Rattle.ks_try.specs.Down.{IsDown}
 use Rattle.ks_put.specs.Deeper.{StandsDown}
 use Rattle.ks_put.proofs.Deepening.{down_quiet, down_shaped, free_none, grow_held}
+use Rattle.ks_keysets.specs.Record.{top}
+use Rattle.ks_node.specs.Edges.{edges_of}
+use Rattle.ks_put.specs.Narrows.{end_at}
+use Rattle.ks_put.proofs.Narrowing.{end_below, half_narrower}
 use Rattle.ks_put.proofs.splits.grow_root.Given.{Over}
 use Rattle.ks_put.proofs.splits.grow_root.Goals as goal
 use Rattle.ks_put.proofs.splits.grow_root.Goals.{After-search_law, After-claim_two, After-grow}
@@ -102,3 +106,15 @@ returns-clause-down g c = λ start taken roots steps down. let law = laws g (goa
 pub returns-clause-halves : goal.returns-clause-halves
 returns-clause-halves g c = λ even. let room = c.requires.halves even in
     c.keep_half.ensures.room (ap (is_full g.N.Node.layout) c.grow.ensures.left.body ∙ room.0) (ap (is_full g.N.Node.layout) c.grow.ensures.right.body ∙ room.1)
+
+-- how it narrows the search
+
+pub returns-clause-narrows : goal.returns-clause-narrows
+returns-clause-narrows g c = let at = goal.at.returns-clause-narrows g c in let law = laws g at.After-search_law in let sort = sort_of g.N.Node.layout g.N.Node.ranged in let shows = g.N.Node.body in let cut : ℕ = c.args.cut in let place : ℕ = c.args.place in
+    let h₂ = seen_of c.grow.new.pass in let y = c.grow.new.node in let made = c.grow.ensures.node in let i : ℕ = c.in-Some.left.node in let j : ℕ = c.in-Some.right.node in let held = mine g at.After-search_law in
+    let low : cut ≤ top = omega (arith, c.ranges.cut) in
+    let leads : (p m : ℕ) → LeadsTo (record_of (grown g.N.Node.branch_kind cut i j (shows c.args.root.body))) p m → LeadsTo (record_of (shows y.body)) p m = λ p m to. subst (λ (w : Body). LeadsTo (record_of w) p m) (sym made.body) to in
+    let below : place < cut → end_at (edges_of (shows y.body)) place < cut = λ lt. end_below (record_of (shows y.body)) place cut i j ((law.good h₂ c.grow.ensures.pass.sound).apart y.node (record_of (shows y.body)) (record_is sort shows h₂ y made.live made.matches)) c.in-Some.ensures.claimed.apart lt
+    (leads place i ((c.grow.ensures.parts place (inset g at.After-claim_two place c.requires.path.inside held)).0 lt).0)
+    (leads cut j ((c.grow.ensures.parts cut (inset g at.After-claim_two cut c.requires.cut.0 held)).1 (omega arith)).0) in
+    half_narrower g.N.Node.layout shows place (record { parent = None; node = c.args.root }) c.keep_half.result y c.grow.new.left c.grow.new.right cut c.requires.full c.requires.cut.1 low low c.grow.ensures.left.body c.grow.ensures.right.body below c.keep_half.ensures.parent c.keep_half.ensures.kept.0 c.keep_half.ensures.kept.1

@@ -1,4 +1,4 @@
-use Rattle.std.proofs.Common.{◌≡◌, ℕ, false, sym, subst}
+use Rattle.std.proofs.Common.{◌≡◌, ℕ, false, sym, subst, arith}
 use Rattle.ks_arena.specs.Sound.{sort_of}
 use Rattle.ks_arena.specs.Clauses.{seen_of}
 use Rattle.ks_shape.specs.Laws.Stretches.{stretches_as, stretches_both}
@@ -23,3 +23,6 @@ returns-in-Split-clause-down g c = λ start taken roots steps down. let n : ℕ 
 pub returns-in-Split-clause-halves : goal.returns-in-Split-clause-halves
 returns-in-Split-clause-halves g c = λ even. let room = c.in-Split.ensures.halves even in
     (subst (λ (x : Hand g.row.N.Denot). is_full g.N.Node.layout (g.N.Node.body x.body) ≡ false) (sym c.settle.ensures.node) room, c.settle.ensures.alone room)
+
+pub returns-in-Split-clause-narrows : goal.returns-in-Split-clause-narrows
+returns-in-Split-clause-narrows g c = omega (arith, c.in-Split.ensures.narrows, c.settle.ensures.narrows)

@@ -1,4 +1,4 @@
-use Rattle.std.proofs.Common.{◌≡◌, ◌≤◌, ◌∙◌, ℕ, suc, false, List, ◌∷◌, length, arith, refl, sym, ap, subst, inl, inr}
+use Rattle.std.proofs.Common.{◌≡◌, ◌≤◌, ◌∙◌, ℕ, suc, false, List, ◌∷◌, length, arith, refl, sym, ap, subst, inl, inr, ◌<◌}
 use Rattle.std.specs.Prelude.{Option, Some, None}
 use Rattle.ks_keysets.specs.Record.{LeadsTo}
 use Rattle.ks_keysets.specs.Keyset.{InInset}
@@ -33,6 +33,11 @@ use Rattle.ks_try.specs.Laws.Down.{down_edge}
 use Rattle.ks_put.specs.declared.path.Path.{Path}
 use Rattle.ks_put.specs.Deeper.{StandsDown}
 use Rattle.ks_put.proofs.Deepening.{down_quiet, down_fewer, down_shaped, free_none, own_full, own_held, path_down, stands_quiet}
+use Rattle.ks_keysets.specs.Record.{top}
+use Rattle.ks_history.specs.Trace.{frame_after}
+use Rattle.ks_arena.specs.Sound.{blank_of}
+use Rattle.ks_put.specs.Narrows.{cuts_left, own_start}
+use Rattle.ks_put.proofs.Narrowing.{own_narrower, own_on, own_past, right_narrower, under_above}
 use Rattle.ks_put.proofs.splits.split_alone.Given.{Over}
 use Rattle.ks_put.proofs.splits.split_alone.Goals as goal
 use Rattle.ks_put.proofs.splits.split_alone.Goals.{After-search_law, After-claim_one, After-split_own}
@@ -200,3 +205,20 @@ returns-then-is_full-clause-halves g c = λ even. let room = c.requires.halves e
 pub returns-clause-halves : goal.returns-clause-halves
 returns-clause-halves g c = λ even. let room = c.requires.halves even in
     subst (λ (x : Hand g.row.N.Denot). is_full g.N.Node.layout (g.N.Node.body x.body) ≡ false) (sym c.keep_right_alone.ensures.node) (ap (is_full g.N.Node.layout) c.split_own.ensures.right.body ∙ room.1)
+
+-- how it narrows the search
+
+pub returns-then-place-cut-clause-narrows : goal.returns-then-place-cut-clause-narrows
+returns-then-place-cut-clause-narrows g c = let at = goal.at.returns-then-place-cut-clause-narrows g c in let law = laws g at.After-search_law in let sort = sort_of g.N.Node.layout g.N.Node.ranged in let shows = g.N.Node.body in let layout = g.N.Node.layout in let cut : ℕ = c.args.cut in let place : ℕ = c.args.place in
+    let h = seen_of c.args.pass.now in let x = c.args.path in let b : Body = shows x.node.body in let y : Path g.row.N.Denot = record { parent = x.parent; node = c.split_own.new.node } in let low : cut ≤ top = omega (arith, c.ranges.cut) in
+    let above = under_above (graph_after h) (frame_after (blank_of sort) h) (law.good h c.requires.pass.sound) (law.facts h c.requires.pass.sound) c.tree_facts_law.ensures.child sort layout shows place cut h x.node x.parent refl c.requires.path.under c.requires.cut.0 in
+    subst (λ (z : Path g.row.N.Denot). cuts_left layout shows place z < cuts_left layout shows place x) (sym c.keep_left.ensures.same)
+    (own_narrower layout shows place x y cut c.requires.full above (own_past b cut c.requires.leaf low c.requires.cut.1 c.requires.none_starts) refl (ap (λ (z : Body). z.low) c.split_own.ensures.node.body) (ap own_start c.split_own.ensures.node.body ∙ own_on b cut c.in-Some.right.node c.requires.leaf))
+
+pub returns-then-is_full-clause-narrows : goal.returns-then-is_full-clause-narrows
+returns-then-is_full-clause-narrows g c = let shows = g.N.Node.body in let cut : ℕ = c.args.cut in let low : cut ≤ top = omega (arith, c.ranges.cut) in
+    right_narrower g.N.Node.layout shows c.args.place c.args.path c.keep_right.result cut c.requires.full low c.requires.cut.1.0.0 (ap (λ (z : Hand g.row.N.Denot). (shows z.body).low) c.keep_right.ensures.node ∙ ap (λ (z : Body). z.low) c.split_own.ensures.right.body)
+
+pub returns-clause-narrows : goal.returns-clause-narrows
+returns-clause-narrows g c = let shows = g.N.Node.body in let cut : ℕ = c.args.cut in let low : cut ≤ top = omega (arith, c.ranges.cut) in
+    right_narrower g.N.Node.layout shows c.args.place c.args.path c.keep_right_alone.result cut c.requires.full low c.requires.cut.1.0.0 (ap (λ (z : Hand g.row.N.Denot). (shows z.body).low) c.keep_right_alone.ensures.node ∙ ap (λ (z : Body). z.low) c.split_own.ensures.right.body)

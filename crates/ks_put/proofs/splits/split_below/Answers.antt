@@ -1,15 +1,15 @@
-use Rattle.std.proofs.Common.{◌≡◌, ◌≤◌, ◌∙◌, ℕ, List, ◌∷◌, length, arith, refl, sym, ap, subst, inl, inr}
+use Rattle.std.proofs.Common.{◌≡◌, ◌≤◌, ◌∙◌, ℕ, List, ◌∷◌, length, arith, refl, sym, ap, subst, inl, inr, ◌<◌, ◌≢◌}
 use Rattle.std.specs.Prelude.{Option, Some, None}
 use Rattle.ks_keysets.specs.Record.{LeadsTo}
 use Rattle.ks_keysets.specs.Keyset.{InInset}
-use Rattle.ks_history.specs.Trace.{hand, held, graph_after, turn_after}
+use Rattle.ks_history.specs.Trace.{hand, held, frame_after, graph_after, turn_after}
 use Rattle.ks_history.specs.Hand.{AreOnce}
 use Rattle.ks_history.specs.Laws.Hand.{is_hand}
 use Rattle.ks_node.specs.Body.{Body}
 use Rattle.ks_node.specs.Edges.{record_of}
 use Rattle.ks_node.specs.Effect.{adopted}
 use Rattle.ks_arena.specs.declared.held.Held.{Held as Hand}
-use Rattle.ks_arena.specs.Sound.{sort_of}
+use Rattle.ks_arena.specs.Sound.{blank_of, sort_of}
 use Rattle.ks_arena.specs.Clauses.{seen_of}
 use Rattle.ks_put.specs.OnPath.{numbers}
 use Rattle.ks_shape.specs.Laws.Stretches.{stretches_as, stretches_both, stretches_shape}
@@ -26,6 +26,10 @@ use Rattle.ks_shape.specs.Laws.Single.{record_is}
 use Rattle.ks_try.specs.Down.{IsDown}
 use Rattle.ks_put.specs.Deeper.{StandsDown}
 use Rattle.ks_put.proofs.Deepening.{down_quiet, down_shaped, free_none, stands_quiet, under_held}
+use Rattle.ks_keysets.specs.Record.{top}
+use Rattle.ks_node.specs.Edges.{edges_of}
+use Rattle.ks_put.specs.Narrows.{end_at, end_under}
+use Rattle.ks_put.proofs.Narrowing.{end_below, half_narrower, under_above}
 use Rattle.ks_put.proofs.splits.split_below.Given.{Over}
 use Rattle.ks_put.proofs.splits.split_below.Goals as goal
 use Rattle.ks_put.proofs.splits.split_below.Goals.{After-search_law, After-claim_one, After-split_under}
@@ -100,3 +104,17 @@ returns-clause-down g c = λ start taken roots steps down. let law = laws g (goa
 pub returns-clause-halves : goal.returns-clause-halves
 returns-clause-halves g c = λ even. let room = c.requires.halves even in
     c.keep_half.ensures.room (ap (is_full g.N.Node.layout) c.split_under.ensures.node.body ∙ room.0) (ap (is_full g.N.Node.layout) c.split_under.ensures.right.body ∙ room.1)
+
+-- how it narrows the search
+
+pub returns-clause-narrows : goal.returns-clause-narrows
+returns-clause-narrows g c = let at = goal.at.returns-clause-narrows g c in let law = laws g at.After-search_law in let sort = sort_of g.N.Node.layout g.N.Node.ranged in let shows = g.N.Node.body in let cut : ℕ = c.args.cut in let place : ℕ = c.args.place in let me : ℕ = c.args.pass.now.caller in
+    let h = seen_of c.args.pass.now in let h₂ = seen_of c.split_under.new.pass in let y = c.split_under.new.parent in let made = c.split_under.ensures.parent in let i : ℕ = c.args.node.node in let j : ℕ = c.in-Some.right.node in let held = mine g at.After-search_law in
+    let low : cut ≤ top = omega (arith, c.ranges.cut) in
+    let above : cut ≤ end_under g.N.Node.layout shows place (Some c.args.parent) = under_above (graph_after h) (frame_after (blank_of sort) h) (law.good h c.requires.pass.sound) (law.facts h c.requires.pass.sound) c.tree_facts_law.ensures.child sort g.N.Node.layout shows place cut h c.args.node (Some c.args.parent) refl c.requires.path.under c.requires.cut.0 in
+    let other : i ≢ j = λ same. c.in-Some.ensures.claimed.fresh (subst (Has (hand me h)) same (subst (λ (z : List ℕ). Has z i) (sym c.requires.path.hands) (inl refl))) in
+    let leads : (p m : ℕ) → LeadsTo (record_of (adopted cut j (shows c.args.parent.body))) p m → LeadsTo (record_of (shows y.body)) p m = λ p m to. subst (λ (w : Body). LeadsTo (record_of w) p m) (sym made.body) to in
+    let below : place < cut → end_at (edges_of (shows y.body)) place < cut = λ lt. end_below (record_of (shows y.body)) place cut i j ((law.good h₂ c.split_under.ensures.pass.sound).apart y.node (record_of (shows y.body)) (record_is sort shows h₂ y made.live made.matches)) other lt
+    (leads place i ((c.split_under.ensures.parts place (inset g at.After-claim_one place c.requires.path.inside held)).0 lt).0)
+    (leads cut j ((c.split_under.ensures.parts cut (inset g at.After-claim_one cut c.requires.cut.0 held)).1 (omega arith)).0) in
+    half_narrower g.N.Node.layout shows place (record { parent = Some c.args.parent; node = c.args.node }) c.keep_half.result y c.split_under.new.node c.split_under.new.right cut c.requires.full c.requires.cut.1 low above c.split_under.ensures.node.body c.split_under.ensures.right.body below c.keep_half.ensures.parent c.keep_half.ensures.kept.0 c.keep_half.ensures.kept.1

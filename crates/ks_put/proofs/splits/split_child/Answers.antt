@@ -1,4 +1,5 @@
-use Rattle.std.proofs.Common.{length, arith, ap}
+use Rattle.std.proofs.Common.{◌∙◌, length, arith, ap, sym}
+use Rattle.ks_node.specs.Body.{content_of}
 use Rattle.ks_arena.specs.Clauses.{seen_of}
 use Rattle.ks_shape.specs.Laws.Stretches.{stretches_here}
 use Rattle.ks_put.proofs.splits.split_child.Goals as goal
@@ -8,3 +9,6 @@ returns-then-is_branch-2-clause-stretch g c = stretches_here c.args.pass.now.cal
 
 pub returns-then-not-can_adopt-clause-stretch : goal.returns-then-not-can_adopt-clause-stretch
 returns-then-not-can_adopt-clause-stretch g c = stretches_here c.args.pass.now.caller (seen_of c.args.pass.now) (omega (arith, ap length c.requires.path.hands))
+
+pub split_alone-requires-clause-none_starts : goal.split_alone-requires-clause-none_starts
+split_alone-requires-clause-none_starts g c = c.unlinked_law.ensures.none_starts (content_of (g.N.Node.body c.args.node.body)) c.cut_below-cut.result (sym c.can_adopt-2.ensures ∙ c.if-not-can_adopt.false)

@@ -1,4 +1,5 @@
-use Rattle.std.proofs.Common.{length, arith, ap}
+use Rattle.std.proofs.Common.{◌∙◌, length, arith, ap, sym}
+use Rattle.ks_node.specs.Body.{content_of}
 use Rattle.ks_arena.specs.Clauses.{seen_of}
 use Rattle.ks_shape.specs.Laws.Stretches.{stretches_here}
 use Rattle.ks_arena.specs.Sound.{sort_of}
@@ -13,3 +14,6 @@ returns-then-not-can_adopt-clause-stretch g c = stretches_here c.args.pass.now.c
 
 pub cut_of_root-cut-requires-clause-root : goal.cut_of_root-cut-requires-clause-root
 cut_of_root-cut-requires-clause-root g c = full_is_root (sort_of g.N.Node.layout g.N.Node.ranged) g.N.Node.body c.args.root c.requires.full c.requires.path.under
+
+pub split_alone-requires-clause-none_starts : goal.split_alone-requires-clause-none_starts
+split_alone-requires-clause-none_starts g c = c.unlinked_law.ensures.none_starts (content_of (g.N.Node.body c.args.root.body)) c.cut_of_root-cut.result (sym c.can_adopt.ensures ∙ c.if-not-can_adopt.false)

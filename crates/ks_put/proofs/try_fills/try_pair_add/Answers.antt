@@ -31,7 +31,7 @@ pub returns-in-Found-clause-tried : goal.returns-in-Found-clause-tried
 returns-in-Found-clause-tried g c = λ template start finds took under. let me : ℕ = c.args.pass.now.caller in let h = seen_of c.args.pass.now in let k = seen_of c.try_make_room.new.pass in let e = c.try_make_room.ensures in let op : Op = Add c.args.place c.args.value in (
   subst (λ (z : ℕ). Underway template z op start k → Done g.N.Node.layout template c.args.arena.now.nodes z op start (seen_of c.add_here.new.pass) (told c.add_here.result.found) c.add_here.result.number) e.caller (c.add_here.ensures.done template start)
       (add_goes_on template me c.args.place c.args.value start h k under e.stretch),
-  λ even. tt,
+  λ ways. tt,
 )
 
 pub returns-in-Refused-clause-tried : goal.returns-in-Refused-clause-tried
@@ -39,12 +39,12 @@ returns-in-Refused-clause-tried g c = λ template start finds took under. let me
   subst (λ (z : ℕ). Underway template z op start k → NoneFree g.N.Node.layout c.args.arena.now.nodes z c.args.place start k → Done g.N.Node.layout template c.args.arena.now.nodes z op start (seen_of c.refuse_here-full.new.pass) full_reply c.refuse_here-full.result.number) e.caller (c.refuse_here-full.ensures.done template start)
       (add_goes_on template me c.args.place c.args.value start h k under e.stretch)
       (none_free_earlier g.N.Node.layout c.args.arena.now.nodes me c.args.place start h k (record { rest = under.rest; is = under.is }) (none g (goal.at.returns-in-Refused-clause-tried g c).In-Refused)),
-  λ even. tt,
+  λ ways. tt,
 )
 
 pub returns-in-Err-clause-tried : goal.returns-in-Err-clause-tried
 returns-in-Err-clause-tried g c = λ template start finds took under. let me : ℕ = c.args.pass.now.caller in let n : ℕ = c.args.arena.now.nodes in let h = seen_of c.args.pass.now in let k = seen_of c.try_make_room.new.pass in let e = c.try_make_room.ensures in let op : Op = Add c.args.place c.args.value in
     let so = c.in-Err.ensures.cause start took op refl in (
       ends_later g.N.Node.layout template n me op start k c.in-Err.later finds (left_of template me op start k (add_goes_on template me c.args.place c.args.value start h k under e.stretch) c.in-Err.ensures.room) so.0,
-      λ even. far_later n me op start k c.in-Err.later (so.1 even),
+      λ ways. far_later n me op start k c.in-Err.later (so.1 ways),
     )
