@@ -1,7 +1,7 @@
 pub mod Notes
 pub mod Numbered
 pub mod Listing
-pub mod Judgments
+pub mod Replays
 pub mod Tables
 pub mod Stand
 pub mod Placed

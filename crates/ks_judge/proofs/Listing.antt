@@ -1,34 +1,13 @@
--- The entries of a map, in the order of the keys, are its only listing.
-use Rattle.std.proofs.Common.{ℕ, zero, suc, ◌≡◌, ◌<◌, ◌==◌, ◌⊎◌, ◌↔◌, inl, inr, Bool, true, false, cond, List, [], ◌∷◌, get_or, map, Option, Some, refl, sym, ◌∙◌, ap, subst, arith}
-use Rattle.std.specs.Prelude.{◌&&◌, All, AllPairs, Contains}
-use Rattle.ks_keysets.specs.Record.{IsPlace}
-use Rattle.std.specs.Bool.{Decides}
+-- Pairs that list a map, one pair after another.
+use Rattle.std.proofs.Common.{ℕ, zero, suc, ◌≡◌, ◌==◌, ◌<◌, ◌≤◌, ◌+◌, ◌⊎◌, inl, inr, Bool, true, false, cond, List, [], ◌∷◌, length, get_or, Option, Some, None, refl, sym, ◌∙◌, ap, subst, arith}
+use Rattle.std.specs.Prelude.{All, AllPairs, Contains, nat_eq, ◌↔◌}
 use Rattle.std.specs.Map.{lookup}
-use Rattle.std.specs.Ordering.{nat_cmp}
-use Rattle.std.specs.BTreeMap.{is_at}
+use Rattle.std.proofs.lemmas.List.{get_or_default}
+use Rattle.std.proofs.lemmas.Bool.{false≢true}
+use Rattle.ks_keysets.specs.Record.{IsPlace}
 use Rattle.std.proofs.lemmas.Bool.Decides.{nat_tests}
-use Rattle.std.specs.List.Sorted.{IsStrictlySortedBy}
-use Rattle.std.proofs.Math.ListN.{get_or-map}
-use Rattle.std.proofs.lemmas.List.{length-map}
-use Rattle.std.proofs.lemmas.List.Kept.{AllPairs-from_increasing}
-use Rattle.std.proofs.lemmas.Map.Keys.{IsStrictlyIncreasing-from_sorted}
+use Rattle.ks_history.specs.Write.{Map}
 use Rattle.ks_history.specs.Served.{IsListing}
-
-pub pairs_decided : (x y : ℕ × ℕ) → Decides (x.0 == y.0 && x.1 == y.1) (x ≡ y)
-pairs_decided x y = (λ e. both (by_and (x.0 == y.0) (x.1 == y.1) e), λ e. ap (λ (z : ℕ × ℕ). x.0 == z.0 && x.1 == z.1) (sym e) ∙ same)
-  where
-    by_and : (a b : Bool) → (a && b) ≡ true → (a ≡ true) × (b ≡ true)
-    by_and true b e = (refl, e)
-    by_and false b e = absurd (cc)
-
-    both : ((x.0 == y.0) ≡ true) × ((x.1 == y.1) ≡ true) → x ≡ y
-    both e =
-        let key : x.0 ≡ y.0 = let f = e.0 in grind (arith, nat_tests) in
-        let value : x.1 ≡ y.1 = let f = e.1 in grind (arith, nat_tests) in
-        ap (λ (a : ℕ). (a, x.1)) key ∙ ap (λ (a : ℕ). (y.0, a)) value
-
-    same : (x.0 == x.0 && x.1 == x.1) ≡ true
-    same = grind (arith, nat_tests)
 
 -- each key is below all later ones
 abbrev pub Ascends : List (ℕ × ℕ) → Type 0
@@ -39,6 +18,12 @@ ascends_tail x xs h i j d lt lt' = h (suc i) (suc j) d (omega arith) (omega arit
 
 above_head : (x z : ℕ × ℕ) (xs : List (ℕ × ℕ)) → Ascends (x ∷ xs) → Contains xs z → x.0 < z.0
 above_head x z xs up (k, lt, is) = subst (λ (y : ℕ × ℕ). x.0 < y.0) is (up 0 (suc k) z (omega arith) (omega arith))
+
+ascends_more : (x : ℕ × ℕ) (xs : List (ℕ × ℕ)) → Ascends xs → ((z : ℕ × ℕ) → Contains xs z → x.0 < z.0) → Ascends (x ∷ xs)
+ascends_more x xs up above zero zero d lt lt' = absurd (omega arith)
+ascends_more x xs up above (suc i) zero d lt lt' = absurd (omega arith)
+ascends_more x xs up above zero (suc j) d lt lt' = above (get_or xs j d) (j, omega arith, sym (get_or_default xs j d (get_or xs j d) (omega arith)))
+ascends_more x xs up above (suc i) (suc j) d lt lt' = up i j d (omega arith) (omega arith)
 
 later : (x z : ℕ × ℕ) (xs : List (ℕ × ℕ)) → Contains xs z → Contains (x ∷ xs) z
 later x z xs (k, lt, is) = (suc k, omega arith, is)
@@ -53,82 +38,20 @@ cases_of x z xs (suc k, lt, is) = inr (k, omega arith, is)
 nothing : (z : ℕ × ℕ) → Contains [] z → ⊥
 nothing z (k, lt, is) = omega arith
 
-same_head : (x y : ℕ × ℕ) (xs ys : List (ℕ × ℕ)) → Ascends (x ∷ xs) → Ascends (y ∷ ys) → (x ≡ y) ⊎ Contains xs y → (y ≡ x) ⊎ Contains ys x → x ≡ y
-same_head x y xs ys up up' (inl e) r = e
-same_head x y xs ys up up' (inr l) (inl e) = sym e
-same_head x y xs ys up up' (inr l) (inr r) = let a = above_head x y xs up l in let b = above_head y x ys up' r in absurd (omega arith)
+eq_same : (a q : ℕ) → a ≡ q → (a == q) ≡ true
+eq_same a q e = grind (arith, nat_tests)
 
--- lists that ascend and have the same pairs are the same
-pub same_lists : (xs ys : List (ℕ × ℕ)) → Ascends xs → Ascends ys → ((z : ℕ × ℕ) → Contains xs z → Contains ys z) → ((z : ℕ × ℕ) → Contains ys z → Contains xs z) → xs ≡ ys
-same_lists [] [] up up' there back = refl
-same_lists [] (y ∷ ys) up up' there back = absurd (nothing y (back y (first y ys)))
-same_lists (x ∷ xs) [] up up' there back = absurd (nothing x (there x (first x xs)))
-same_lists (x ∷ xs) (y ∷ ys) up up' there back =
-    let head : x ≡ y = same_head x y xs ys up up' (cases_of x y xs (back y (first y ys))) (cases_of y x ys (there x (first x xs))) in
-    ap (λ (z : ℕ × ℕ). z ∷ xs) head
-    ∙ ap (λ (zs : List (ℕ × ℕ)). y ∷ zs)
-    (same_lists xs ys (ascends_tail x xs up) (ascends_tail y ys up')
-    (λ z in'. tail x y xs ys up head z in' (cases_of y z ys (there z (later x z xs in'))))
-    (λ z in'. tail y x ys xs up' (sym head) z in' (cases_of x z xs (back z (later y z ys in')))))
-  where
-    tail : (x y : ℕ × ℕ) (xs ys : List (ℕ × ℕ)) → Ascends (x ∷ xs) → x ≡ y → (z : ℕ × ℕ) → Contains xs z → (y ≡ z) ⊎ Contains ys z → Contains ys z
-    tail x y xs ys up head z in' (inl e) = let a = above_head x z xs up in' in let b : x.0 ≡ z.0 = ap (λ (w : ℕ × ℕ). w.0) (head ∙ e) in absurd (omega arith)
-    tail x y xs ys up head z in' (inr c) = c
+eq_apart : (a q : ℕ) → a < q → (a == q) ≡ false
+eq_apart a q lt = grind (arith, nat_tests)
 
-is_at_same : (k x : ℕ) → is_at (nat_cmp k) x ≡ true → x ≡ k
-is_at_same k x e = grind (arith, nat_tests)
+eq_true : (a q : ℕ) → (a == q) ≡ true → a ≡ q
+eq_true a q e = grind (arith, nat_tests)
 
-is_at_self : (k : ℕ) → is_at (nat_cmp k) k ≡ true
-is_at_self k = grind (arith, nat_tests)
+same_value : (v w : ℕ) → Some v ≡ Some w → v ≡ w
+same_value v w e = cc
 
-is_at_apart : (k x : ℕ) → x < k → is_at (nat_cmp k) x ≡ false
-is_at_apart k x lt = grind (arith, nat_tests)
-
-found_stands : (xs : List (ℕ × ℕ)) (k v : ℕ) → lookup (is_at (nat_cmp k)) xs ≡ Some v → Contains xs (k, v)
-found_stands [] k v is = absurd (cc)
-found_stands (x ∷ xs) k v is = by_test (found_stands xs k v) (is_at (nat_cmp k) x.0) refl is
-  where
-    by_test : (lookup (is_at (nat_cmp k)) xs ≡ Some v → Contains xs (k, v)) → (b : Bool) → is_at (nat_cmp k) x.0 ≡ b → cond b (Some x.1) (lookup (is_at (nat_cmp k)) xs) ≡ Some v → Contains (x ∷ xs) (k, v)
-    by_test more true e is =
-        let key : x.0 ≡ k = is_at_same k x.0 e in
-        let value : x.1 ≡ v = cc in
-        (0, omega arith, (ap (λ (a : ℕ). (a, x.1)) key ∙ ap (λ (a : ℕ). (k, a)) value))
-    by_test more false e is = later x (k, v) xs (more is)
-
-stands_found : (xs : List (ℕ × ℕ)) (k v : ℕ) → Ascends xs → Contains xs (k, v) → lookup (is_at (nat_cmp k)) xs ≡ Some v
-stands_found [] k v up in' = absurd (nothing (k, v) in')
-stands_found (x ∷ xs) k v up in' = by_case (stands_found xs k v (ascends_tail x xs up)) (cases_of x (k, v) xs in')
-  where
-    by_case : (Contains xs (k, v) → lookup (is_at (nat_cmp k)) xs ≡ Some v) → (x ≡ (k, v)) ⊎ Contains xs (k, v) → cond (is_at (nat_cmp k) x.0) (Some x.1) (lookup (is_at (nat_cmp k)) xs) ≡ Some v
-    by_case more (inl e) = ap (λ (z : ℕ × ℕ). cond (is_at (nat_cmp k) z.0) (Some z.1) (lookup (is_at (nat_cmp k)) xs)) e ∙ ap (λ (b : Bool). cond b (Some v) (lookup (is_at (nat_cmp k)) xs)) (is_at_self k)
-    by_case more (inr c) = ap (λ (b : Bool). cond b (Some x.1) (lookup (is_at (nat_cmp k)) xs)) (is_at_apart k x.0 (above_head x (k, v) xs up c)) ∙ more c
-
--- the entries list what is looked up in them
-pub entries_listing : (es : List (ℕ × ℕ)) → All (λ e. IsPlace e.0) es → Ascends es → IsListing (λ k. lookup (is_at (nat_cmp k)) es) es
-entries_listing es keys up = record { exact = λ k v. (λ is. found_stands es k v is.1, λ in'. (key_of k v in', stands_found es k v up in')); ascend = up }
-  where
-    key_of : (k v : ℕ) → Contains es (k, v) → IsPlace k
-    key_of k v (i, lt, is) = subst (λ (e : ℕ × ℕ). IsPlace e.0) is (keys i (k, v) lt)
-
-pub listing_unique : (m : ℕ → Option ℕ) (xs ys : List (ℕ × ℕ)) → IsListing m xs → IsListing m ys → xs ≡ ys
-listing_unique m xs ys a b = same_lists xs ys a.ascend b.ascend (λ z in'. (b.exact z.0 z.1).0 ((a.exact z.0 z.1).1 in')) (λ z in'. (a.exact z.0 z.1).0 ((b.exact z.0 z.1).1 in'))
-
-pub ascends_entries : (es : List (ℕ × ℕ)) → IsStrictlySortedBy nat_cmp (map (λ e. e.0) es) → Ascends es
-ascends_entries es sorted i j d lt lt' =
-    let keys : List ℕ = map (λ (e : ℕ × ℕ). e.0) es in
-    let up : AllPairs (λ x y. x < y) keys = AllPairs-from_increasing keys (IsStrictlyIncreasing-from_sorted keys sorted) in
-    let at = up i j d.0 lt (subst (λ (n : ℕ). j < n) (sym (length-map es (λ (e : ℕ × ℕ). e.0))) lt') in
-    subst (λ (n : ℕ). n < (get_or es j d).0) (key_of i) (subst (λ (n : ℕ). get_or keys i d.0 < n) (key_of j) at)
-  where
-    key_of : (k : ℕ) → get_or (map (λ (e : ℕ × ℕ). e.0) es) k d.0 ≡ (get_or es k d).0
-    key_of k = get_or-map (λ (e : ℕ × ℕ). e.0) es k d
-
-pub listing_decided : (es pairs : List (ℕ × ℕ)) (r : Bool) → All (λ e. IsPlace e.0) es → IsStrictlySortedBy nat_cmp (map (λ e. e.0) es) → Decides r (es ≡ pairs) → (r ≡ true) ↔ IsListing (λ k. lookup (is_at (nat_cmp k)) es) pairs
-listing_decided es pairs r keys sorted d =
-    let of_entries : IsListing (λ k. lookup (is_at (nat_cmp k)) es) es = entries_listing es keys (ascends_entries es sorted) in (
-      λ yes'. subst (λ (xs : List (ℕ × ℕ)). IsListing (λ k. lookup (is_at (nat_cmp k)) es) xs) (d.0 yes') of_entries,
-      λ listing. d.1 (listing_unique (λ k. lookup (is_at (nat_cmp k)) es) es pairs of_entries listing),
-    )
+none_some : (v : ℕ) → None ≡ Some v → ⊥
+none_some v e = cc
 
 -- a listing of a map is one of each map that has the same
 pub listing_along : (m k : ℕ → Option ℕ) (xs : List (ℕ × ℕ)) → ((p : ℕ) → m p ≡ k p) → IsListing m xs → IsListing k xs
@@ -136,3 +59,82 @@ listing_along m k xs same listing = record {
   exact = λ p v. (λ is. (listing.exact p v).0 (is.0, same p ∙ is.1), λ in'. let is = (listing.exact p v).1 in' in (is.0, sym (same p) ∙ is.1));
   ascend = listing.ascend;
 }
+
+-- the pairs list the map, and no key is below `least`
+pub record Lists (least : ℕ) (m : Map) (pairs : List (ℕ × ℕ)) : Type 0 where
+  pub listing : IsListing m pairs
+  pub above : (z : ℕ × ℕ) → Contains pairs z → least ≤ z.0
+
+pub lists_all : (m : Map) (pairs : List (ℕ × ℕ)) → IsListing m pairs → Lists 0 m pairs
+lists_all m pairs listing = record { listing = listing; above = λ z c. omega arith }
+
+-- the map k is m with nothing at the key
+abbrev pub Without : ℕ → Map → Map → Type 0
+Without key m k = (q : ℕ) → k q ≡ cond (key == q) None (m q)
+
+-- the first of the pairs, and those after it
+
+pub lists_head : (least : ℕ) (m : Map) (x : ℕ × ℕ) (xs : List (ℕ × ℕ)) → Lists least m (x ∷ xs) → (least ≤ x.0) × (m x.0 ≡ Some x.1)
+lists_head least m x xs l = (l.above x (first x xs), ((l.listing.exact x.0 x.1).1 (first x xs)).1)
+
+pub lists_tail : (least : ℕ) (m k : Map) (x : ℕ × ℕ) (xs : List (ℕ × ℕ)) → Without x.0 m k → Lists least m (x ∷ xs) → Lists (x.0 + 1) k xs
+lists_tail least m k x xs gone l = record {
+  listing = record {
+    exact = λ q v. (λ is. by_test q v is.0 (x.0 == q) refl (sym (gone q) ∙ is.1), λ c. back q v c);
+    ascend = ascends_tail x xs l.listing.ascend;
+  };
+  above = λ z c. let lt = above_head x z xs l.listing.ascend c in omega arith;
+}
+  where
+    other : (q v : ℕ) → (x.0 == q) ≡ false → (x ≡ (q, v)) ⊎ Contains xs (q, v) → Contains xs (q, v)
+    other q v e (inl same) = absurd (false≢true (sym e ∙ eq_same x.0 q (ap (λ (z : ℕ × ℕ). z.0) same)))
+    other q v e (inr c) = c
+
+    by_test : (q v : ℕ) → IsPlace q → (b : Bool) → (x.0 == q) ≡ b → cond b None (m q) ≡ Some v → Contains xs (q, v)
+    by_test q v place true e is = absurd (none_some v is)
+    by_test q v place false e is = other q v e (cases_of x (q, v) xs ((l.listing.exact q v).0 (place, is)))
+
+    back : (q v : ℕ) → Contains xs (q, v) → IsPlace q × (k q ≡ Some v)
+    back q v c =
+        let y = (l.listing.exact q v).1 (later x (q, v) xs c) in
+        let lt : x.0 < q = above_head x (q, v) xs l.listing.ascend c in
+        (y.0, gone q ∙ ap (λ (b : Bool). cond b None (m q)) (eq_apart x.0 q lt) ∙ y.1)
+
+pub lists_more : (least : ℕ) (m k : Map) (x : ℕ × ℕ) (xs : List (ℕ × ℕ)) → Without x.0 m k → least ≤ x.0 → IsPlace x.0 → m x.0 ≡ Some x.1 → Lists (x.0 + 1) k xs → Lists least m (x ∷ xs)
+lists_more least m k x xs gone le place has l = record {
+  listing = record {
+    exact = λ q v. (λ is. by_test q v is.0 is.1 (x.0 == q) refl, λ c. back q v (cases_of x (q, v) xs c));
+    ascend = ascends_more x xs l.listing.ascend (λ z c. let le' = l.above z c in omega arith);
+  };
+  above = λ z c. from_least z (cases_of x z xs c);
+}
+  where
+    by_test : (q v : ℕ) → IsPlace q → m q ≡ Some v → (b : Bool) → (x.0 == q) ≡ b → Contains (x ∷ xs) (q, v)
+    by_test q v place' is true e =
+        let key : x.0 ≡ q = eq_true x.0 q e in
+        let value : x.1 ≡ v = same_value x.1 v (sym has ∙ ap m key ∙ is) in
+        (0, omega arith, (ap (λ (a : ℕ). (a, x.1)) key ∙ ap (λ (a : ℕ). (q, a)) value))
+    by_test q v place' is false e = later x (q, v) xs ((l.listing.exact q v).0 (place', (gone q ∙ ap (λ (b : Bool). cond b None (m q)) e) ∙ is))
+
+    back : (q v : ℕ) → (x ≡ (q, v)) ⊎ Contains xs (q, v) → IsPlace q × (m q ≡ Some v)
+    back q v (inl same) = subst (λ (z : ℕ × ℕ). IsPlace z.0 × (m z.0 ≡ Some z.1)) same (place, has)
+    back q v (inr c) =
+        let y = (l.listing.exact q v).1 c in
+        let lt : x.0 < q = let le' = l.above (q, v) c in omega arith in
+        (y.0, sym (gone q ∙ ap (λ (b : Bool). cond b None (m q)) (eq_apart x.0 q lt)) ∙ y.1)
+
+    from_least : (z : ℕ × ℕ) → (x ≡ z) ⊎ Contains xs z → least ≤ z.0
+    from_least z (inl same) = subst (λ (y : ℕ × ℕ). least ≤ y.0) same le
+    from_least z (inr c) = let le' = l.above z c in omega arith
+
+-- no pairs list the map that has nothing
+
+pub lists_none : (m : Map) → ((q : ℕ) → m q ≡ None) → IsListing m []
+lists_none m none = record { exact = λ q v. (λ is. absurd (none_some v (sym (none q) ∙ is.1)), λ c. absurd (nothing (q, v) c)); ascend = λ i j d lt lt'. absurd (omega arith) }
+
+pub none_decided : (es : List (ℕ × ℕ)) (r : Bool) → All (λ e. IsPlace e.0) es → r ≡ (length es == 0) → (r ≡ true) ↔ IsListing (λ q. lookup (nat_eq q) es) []
+none_decided [] r keys e = (λ is. lists_none (λ q. None) (λ q. refl), λ listing. e)
+none_decided (x ∷ es) r keys e = (
+  λ is. let none : length (x ∷ es) ≡ 0 = eq_true (length (x ∷ es)) 0 (sym e ∙ is) in absurd (omega (arith, none)),
+  λ listing. absurd (nothing x ((listing.exact x.0 x.1).0 (keys 0 x (omega arith), ap (λ (b : Bool). cond b (Some x.1) (lookup (nat_eq x.0) es)) (eq_same x.0 x.0 refl)))),
+)

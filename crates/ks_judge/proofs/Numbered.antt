@@ -72,25 +72,3 @@ pub below_more : (script : List (List Op)) (lines : Lines) (n c j : ℕ) → car
 below_more script lines n c j only =
     let e : n + 1 ≡ suc n = omega arith in
     ap (calls_below script lines) e ∙ ap (λ (ps : List (ℕ × ℕ)). calls_below script lines n ++ map (answered_at script lines) ps) only
-
--- one call more, as the program puts it after the others
-pub call_more : (script : List (List Op)) (lines : Lines) (n c j : ℕ) (ops : List Op) (ls : List (ℕ × Reply)) (op : Op) (line : ℕ × Reply) (calls calls' : List Answered) →
-    carriers lines n ≡ (c, j) ∷ [] → Stands lines c j → get_or script c [] ≡ ops → get_or lines c [] ≡ ls → j < length ops → op ≡ get_or ops j op → line ≡ get_or ls j line →
-    calls ≡ calls_below script lines n → calls' ≡ calls ++ record { op = op; reply = line.1 } ∷ [] → calls' ≡ calls_below script lines (n + 1)
-call_more script lines n c j ops ls op line calls calls' only stands is_ops is_ls lt is_op is_line is pushed =
-    let at_op : op ≡ op_at script c j = is_op ∙ get_or_default ops j op (Get 0) lt ∙ ap (λ (xs : List Op). get_or xs j (Get 0)) (sym is_ops) in
-    let within : j < length ls = subst (λ (xs : List (ℕ × Reply)). j < length xs) is_ls stands.1 in
-    let at_line : line ≡ line_at lines c j = is_line ∙ get_or_default ls j line (0, Nothing) within ∙ ap (λ (xs : List (ℕ × Reply)). get_or xs j (0, Nothing)) (sym is_ls) in
-    let answer : Answered = record { op = op; reply = line.1 } in
-    let same : answer ≡ answered_at script lines (c, j) = ap (λ (o : Op). record { op = o; reply = line.1 }) at_op ∙ ap (λ (l : ℕ × Reply). record { op = op_at script c j; reply = l.1 }) at_line in
-    pushed ∙ ap (λ (xs : List Answered). xs ++ answer ∷ []) is ∙ ap (λ (a : Answered). calls_below script lines n ++ a ∷ []) same ∙ sym (below_more script lines n c j only)
-
-pub placed_more : (lines : Lines) (n c j : ℕ) → carriers lines n ≡ (c, j) ∷ [] → IsInOrder lines c j n → ((k : ℕ) → k < n → IsPlaced lines k) → (k : ℕ) → k < n + 1 → IsPlaced lines k
-placed_more lines n c j only ordered before k lt = by_side (side k n lt)
-  where
-    side : (k n : ℕ) → k < n + 1 → (k < n) ⊎ (n ≡ k)
-    side k n lt = grind arith
-
-    by_side : (k < n) ⊎ (n ≡ k) → IsPlaced lines k
-    by_side (inl below) = before k below
-    by_side (inr e) = subst (λ (m : ℕ). IsPlaced lines m) e (record { caller = c; place = j; only = only; ordered = ordered })

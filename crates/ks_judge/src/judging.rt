@@ -1,20 +1,20 @@
 //! Judges a printed run of a script.
 
-ghost use Rattle.std.specs.Prelude.{ℕ, ◌≡◌, ◌↔◌, ◌<◌, ◌≤◌, ◌⊎◌, List, [], length, map, slice_index_or, All, IsTrue, IfOk};
-ghost use Rattle.std.specs.Ordering.{nat_cmp};
-ghost use Rattle.std.specs.BTreeMap.{get};
+ghost use Rattle.std.specs.Prelude.{ℕ, ◌≡◌, ◌↔◌, ◌≤◌, [], Some, map, nat_eq, All, IsTrue, IfOk};
+ghost use Rattle.std.specs.HashMap.{get};
 ghost use Rattle.ks_keysets.specs.Record.{IsPlace};
+ghost use Rattle.ks_history.specs.Write.{removes, map_with};
 ghost use Rattle.ks_history.specs.Served.{IsListing};
 ghost use Rattle.ks_script.specs.Script.{calls_in};
-ghost use Rattle.ks_judge.specs.Judgment.{SameShape, carriers, calls_below, op_at, IsPlaced};
-ghost use Rattle.ks_judge.specs.Slots.{Notes};
+ghost use Rattle.ks_judge.specs.Judgment.{SameShape};
 ghost use Rattle.ks_judge.specs.Verdict.{IsJudged};
 
-use crate::slots::{Slot, slots};
-use ks_history::{Answered, Op, Reply, Verdict, legal, map_after};
+use crate::replay::{Replayed, replay};
+use crate::slots::slots;
+use ks_history::{Op, Reply};
 use ks_script::{Printed, Script};
 use std::alloc::{AllocError, Global};
-use std::collections::BTreeMap;
+use std::collections::HashMap;
 
 /// What a printed run is judged to be.
 #[derive(Clone, Copy, Debug, PartialEq, Eq)]
@@ -23,16 +23,6 @@ pub enum Judged {
     Legal { calls: u64 },
     /// The least number that is wrong; the number of all calls where the map at the end is.
     Wrong { number: u64 },
-}
-
-fn copied(reply: &Reply) -> Reply
-    ensures { result ≡ reply.now }
-{
-    match reply {
-        Reply::Nothing => Reply::Nothing,
-        Reply::Value(value) => Reply::Value(*value),
-        Reply::Full => Reply::Full,
-    }
 }
 
 /// How many calls the callers have together.
@@ -45,47 +35,6 @@ fn total(callers: &[Vec<Op>]) -> usize
         total += ops.len();
     }
     total
-}
-
-/// The calls in the order of their numbers, up to the first number that not exactly one line carries in its order.
-fn in_order(
-    alloc: Global,
-    callers: &[Vec<Op>],
-    lines: &[Vec<(u64, Reply)>],
-    slots: &[Slot],
-) -> Result<Vec<Answered>, AllocError>
-    requires shape { SameShape (map (λ v. v.items) callers.now) (map (λ v. v.items) lines.now) }
-    requires noted { let ls = map (λ v. v.items) lines.now in Notes ls slots.now (carriers ls) }
-    ensures calls { IfOk result
-        (λ calls. calls.items
-        ≡ calls_below (map (λ v. v.items) callers.now) (map (λ v. v.items) lines.now) (length calls.items)) }
-    ensures placed { IfOk result
-        (λ calls. (n : ℕ) → n < length calls.items → IsPlaced (map (λ v. v.items) lines.now) n) }
-    ensures within { IfOk result (λ calls. length calls.items ≤ length slots.now) }
-    ensures stop { IfOk result
-        (λ calls. length calls.items < length slots.now →
-        ¬ IsPlaced (map (λ v. v.items) lines.now) (length calls.items)) }
-{
-    let mut calls = Vec::with_capacity(alloc, slots.len())?;
-    for slot in slots {
-        match *slot {
-            Slot::One {
-                caller,
-                place,
-                in_order,
-            } => {
-                if !in_order {
-                    return Ok(calls);
-                }
-                calls.push(Answered {
-                    op: callers[caller][place],
-                    reply: copied(&lines[caller][place].1),
-                })?;
-            }
-            _ => return Ok(calls),
-        }
-    }
-    Ok(calls)
 }
 
 /// A number of 64 bits can be a place. It computes nothing.
@@ -104,18 +53,45 @@ fn keys_can_be_places(entries: &[(u64, u128)])
     }
 }
 
-/// Whether the pairs are just the map, ascending by key.
+/// Whether the pairs are just the map, ascending by key. Each pair is taken out of the map.
 fn is_listing(
     alloc: Global,
-    map: BTreeMap<u64, u128>,
+    map: HashMap<u64, u128>,
     pairs: &[(u64, u128)],
 ) -> Result<bool, AllocError>
-    ensures { IfOk result (λ is. IsTrue is ↔ IsListing (get nat_cmp map) pairs.now) }
+    ensures { IfOk result (λ is. IsTrue is ↔ IsListing (get nat_eq map) pairs.now) }
+{
+    keys_can_be_places(pairs);
+    let mut rest = map;
+    let mut least: u128 = 0;
+    for pair in pairs {
+        if u128::from(pair.0) < least {
+            return Ok(false);
+        }
+        if !takes(&mut rest, pair.0, pair.1) {
+            return Ok(false);
+        }
+        least = u128::from(pair.0) + 1;
+    }
+    has_nothing(alloc, rest)
+}
+
+/// Takes out what is at the key, and tells whether it was the value.
+fn takes(map: &mut HashMap<u64, u128>, key: u64, value: u128) -> bool
+    ensures had { IsTrue result ↔ (get nat_eq map.old key ≡ Some value) }
+    ensures gone { (p : ℕ) → get nat_eq map.new p ≡ map_with (get nat_eq map.old) (removes key) p }
+{
+    map.remove(&key) == Some(value)
+}
+
+/// Whether the map has nothing at any key.
+fn has_nothing(alloc: Global, map: HashMap<u64, u128>) -> Result<bool, AllocError>
+    ensures { IfOk result (λ is. IsTrue is ↔ IsListing (get nat_eq map) []) }
 {
     let entries: Vec<(u64, u128)> = map.into_iter().collect(alloc)?;
     let listed = entries.as_slice();
     keys_can_be_places(listed);
-    Ok(listed == pairs)
+    Ok(listed.is_empty())
 }
 
 /// Judges a printed run of a script: whether its replies are those of one map in the order of their numbers, and the
@@ -142,15 +118,11 @@ fn judge_lines(
 {
     let count = total(callers);
     let slots = slots(alloc, lines, count)?;
-    let calls = in_order(alloc, callers, lines, &slots)?;
-    if let Verdict::Wrong { number } = legal(alloc, &calls)? {
+    let Replayed { right, map } = replay(alloc, callers, lines, &slots)?;
+    let number = right as u64;
+    if right < count {
         return Ok(Judged::Wrong { number });
     }
-    let number = calls.len() as u64;
-    if calls.len() < count {
-        return Ok(Judged::Wrong { number });
-    }
-    let map = map_after(alloc, &calls)?;
     if !is_listing(alloc, map, pairs)? {
         return Ok(Judged::Wrong { number });
     }

@@ -7,6 +7,7 @@
 
 mod accord;
 mod judging;
+mod replay;
 mod slots;
 
 pub use accord::served_is_legal;

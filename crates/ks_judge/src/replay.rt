@@ -1,0 +1,116 @@
+//! The calls of a run, made again in the order of their numbers on a map that begins empty.
+
+ghost use Rattle.std.specs.Prelude.{ℕ, ◌≡◌, ◌<◌, ◌≤◌, ◌↔◌, length, map, nat_eq, IsTrue, IfOk, OnOk};
+ghost use Rattle.std.specs.HashMap.{get};
+ghost use Rattle.ks_history.specs.Write.{sets, map_with, written};
+ghost use Rattle.ks_history.specs.Map.{told, IsAnswer, map_after};
+ghost use Rattle.ks_judge.specs.Judgment.{SameShape, carriers, calls_below, IsRight};
+ghost use Rattle.ks_judge.specs.Slots.{Notes};
+
+use crate::slots::Slot;
+use ks_history::{Op, Reply};
+use std::alloc::{AllocError, Global};
+use std::collections::HashMap;
+
+/// How many numbers from 0 on are right, and, if all are, the map after their calls.
+#[derive(Drop)]
+pub struct Replayed {
+    pub right: usize,
+    pub map: HashMap<u64, u128>,
+}
+
+/// The reply that tells what was there.
+fn told(value: Option<u128>) -> Reply
+    ensures { result ≡ told value }
+{
+    match value {
+        None => Reply::Nothing,
+        Some(value) => Reply::Value(value),
+    }
+}
+
+/// Writes the value, and tells whether the reply tells what was there.
+fn set(
+    map: &mut HashMap<u64, u128>,
+    key: u64,
+    value: u128,
+    reply: &Reply,
+) -> Result<bool, AllocError>
+    ensures answer { IfOk result (λ right. IsTrue right ↔ (reply.now ≡ told (get nat_eq map.old key))) }
+    ensures map { OnOk result
+        ((p : ℕ) → get nat_eq map.new p ≡ map_with (get nat_eq map.old) (sets key value) p) }
+{
+    let was = map.insert(key, value)?;
+    Ok(*reply == told(was))
+}
+
+/// Makes the call with this reply on the map, and tells whether the reply is the map's answer.
+fn make(map: &mut HashMap<u64, u128>, op: Op, reply: &Reply) -> Result<bool, AllocError>
+    ensures answer { IfOk result (λ right. IsTrue right ↔ IsAnswer (get nat_eq map.old) op reply.now) }
+    ensures map { OnOk result
+        ((p : ℕ) → get nat_eq map.new p ≡ map_with (get nat_eq map.old) (written op reply.now) p) }
+{
+    match op {
+        Op::Get(key) => Ok(*reply == told(map.get(&key).copied())),
+        Op::Put(key, value) => match reply {
+            Reply::Full => Ok(true),
+            _ => set(map, key, value, reply),
+        },
+        Op::Del(key) => {
+            let was = map.remove(&key);
+            Ok(*reply == told(was))
+        }
+        Op::Add(key, value) => match reply {
+            Reply::Full => Ok(true),
+            Reply::Nothing => set(map, key, value, reply),
+            Reply::Value(_) => Ok(*reply == told(map.get(&key).copied())),
+        },
+        Op::Swap(key, old, new) => match reply {
+            Reply::Value(found) if *found == old => set(map, key, new, reply),
+            _ => Ok(*reply == told(map.get(&key).copied())),
+        },
+    }
+}
+
+/// Makes the calls in the order of their numbers, up to the first number that is wrong.
+pub fn replay(
+    alloc: Global,
+    callers: &[Vec<Op>],
+    lines: &[Vec<(u64, Reply)>],
+    slots: &[Slot],
+) -> Result<Replayed, AllocError>
+    requires shape { SameShape (map (λ v. v.items) callers.now) (map (λ v. v.items) lines.now) }
+    requires noted { let ls = map (λ v. v.items) lines.now in Notes ls slots.now (carriers ls) }
+    ensures right { IfOk result
+        (λ r. (n : ℕ) → n < r.right → IsRight (map (λ v. v.items) callers.now) (map (λ v. v.items) lines.now) n) }
+    ensures within { IfOk result (λ r. r.right ≤ length slots.now) }
+    ensures stop { IfOk result
+        (λ r. r.right < length slots.now →
+        ¬ IsRight (map (λ v. v.items) callers.now) (map (λ v. v.items) lines.now) r.right) }
+    ensures map { IfOk result
+        (λ r. r.right ≡ length slots.now → (p : ℕ) → get nat_eq r.map p
+        ≡ map_after (calls_below (map (λ v. v.items) callers.now) (map (λ v. v.items) lines.now) r.right) p) }
+{
+    let mut map = HashMap::new(alloc);
+    for (number, slot) in slots.iter().enumerate() {
+        match *slot {
+            Slot::One {
+                caller,
+                place,
+                in_order,
+            } => {
+                if !in_order {
+                    return Ok(Replayed { right: number, map });
+                }
+                if !make(&mut map, callers[caller][place], &lines[caller][place].1)? {
+                    return Ok(Replayed { right: number, map });
+                }
+            }
+            _ => return Ok(Replayed { right: number, map }),
+        }
+    }
+    Ok(Replayed {
+        right: slots.len(),
+        map,
+    })
+}
