@@ -82,10 +82,13 @@ other_byte bytes b i h at odd same n l e =
     let there : all_ascii_digits (drop i bytes) ≡ false = ap all_ascii_digits (drop_more bytes i 0 h) ∙ ap (λ t. t && all_ascii_digits (drop (i + 1) bytes)) (ap is_ascii_digit (sym at) ∙ odd) in
     false≢true (sym there ∙ (same ∙ all_digits bytes n l e))
 
-pub too_great : (bytes : List ℕ) (m b i : ℕ) → i < length bytes → b ≡ get_or bytes i 0 → 2 ^ 128 ≤ 10 * m + (b - 48) → read_on m (drop i bytes) ≡ read_on 0 bytes → (n : ℕ) → n < 2 ^ 128 → bytes ≡ decimal n → ⊥
-too_great bytes m b i h at great same n l e =
+pub too_great_for : (limit : ℕ) (bytes : List ℕ) (m b i : ℕ) → i < length bytes → b ≡ get_or bytes i 0 → limit ≤ 10 * m + (b - 48) → read_on m (drop i bytes) ≡ read_on 0 bytes → ((n : ℕ) → n < limit → n < 2 ^ 128) → (n : ℕ) → n < limit → bytes ≡ decimal n → ⊥
+too_great_for limit bytes m b i h at great same small n l e =
     let step : read_on m (drop i bytes) ≡ read_on (10 * m + (b - 48)) (drop (i + 1) bytes) = ap (read_on m) (drop_more bytes i 0 h) ∙ ap (λ d. read_on (10 * m + (d - 48)) (drop (i + 1) bytes)) (sym at) in
-    omega (arith, step, same, value_small bytes n l e, read_on_least (10 * m + (b - 48)) (drop (i + 1) bytes))
+    omega (arith, step, same, value_small bytes n (small n l) e, read_on_least (10 * m + (b - 48)) (drop (i + 1) bytes))
+
+pub too_great : (bytes : List ℕ) (m b i : ℕ) → i < length bytes → b ≡ get_or bytes i 0 → 2 ^ 128 ≤ 10 * m + (b - 48) → read_on m (drop i bytes) ≡ read_on 0 bytes → (n : ℕ) → n < 2 ^ 128 → bytes ≡ decimal n → ⊥
+too_great bytes m b i h at great same = too_great_for (2 ^ 128) bytes m b i h at great same (λ n l. l)
 
 pub some_of : {A : Type 0} (o : Option A) (P : Type 0) (Q : A → Type 0) → MatchOption o P Q → IfSome o Q
 some_of None P Q h = tt

@@ -49,15 +49,49 @@ pub fn after<'a>(bytes: &'a [u8], word: &[u8]) -> Option<&'a [u8]>
     bytes.strip_prefix(word)
 }
 
-/// The number below 2^128 that the bytes are the digits of.
+/// The number below 2^64 that the bytes are the digits of.
+pub fn number(bytes: &[u8]) -> Option<u64>
+    ensures some { IfSome result (λ n. bytes.now ≡ decimal n) }
+    ensures none { IfNone result ((n : ℕ) → n < 2 ^ 64 → bytes.now ≢ decimal n) }
+{
+    if bytes.is_empty() {
+        return None;
+    }
+    if bytes[0] == b'0' && bytes.len() > 1 {
+        return None;
+    }
+    let mut number: u64 = 0;
+    for byte in bytes {
+        if !byte.is_ascii_digit() {
+            return None;
+        }
+        number = number
+            .checked_mul(10)?
+            .checked_add(u64::from(*byte - b'0'))?;
+    }
+    Some(number)
+}
+
+/// The number below 2^128 that the bytes are the digits of. Most are below 2^64, and those are read by words of 64 bits.
 pub fn wide_number(bytes: &[u8]) -> Option<u128>
+    ensures some { IfSome result (λ n. bytes.now ≡ decimal n) }
+    ensures none { IfNone result ((n : ℕ) → n < 2 ^ 128 → bytes.now ≢ decimal n) }
+{
+    match number(bytes) {
+        Some(number) => Some(u128::from(number)),
+        None => great_number(bytes),
+    }
+}
+
+// The number below 2^128 that the bytes are the digits of, read by words of 128 bits.
+fn great_number(bytes: &[u8]) -> Option<u128>
     ensures some { IfSome result (λ n. bytes.now ≡ decimal n) }
     ensures none { IfNone result ((n : ℕ) → n < 2 ^ 128 → bytes.now ≢ decimal n) }
 {
     if bytes.is_empty() {
         return None;
     }
-    if bytes[0] == b'0' && bytes.len() > 1 {
+    if bytes.len() > 1 && bytes[0] == b'0' {
         return None;
     }
     let mut number: u128 = 0;
@@ -70,18 +104,6 @@ pub fn wide_number(bytes: &[u8]) -> Option<u128>
             .checked_add(u128::from(*byte - b'0'))?;
     }
     Some(number)
-}
-
-/// The number below 2^64 that the bytes are the digits of.
-pub fn number(bytes: &[u8]) -> Option<u64>
-    ensures some { IfSome result (λ n. bytes.now ≡ decimal n) }
-    ensures none { IfNone result ((n : ℕ) → n < 2 ^ 64 → bytes.now ≢ decimal n) }
-{
-    let number = wide_number(bytes)?;
-    if number > u64::MAX as u128 {
-        return None;
-    }
-    Some(number as u64)
 }
 
 /// The number below 2^64 and the one below 2^128 whose digits the bytes are, with a space between them.

@@ -3,14 +3,14 @@ use Rattle.std.proofs.lemmas.List.{drop_all}
 use Rattle.std.specs.Str.{all_ascii_digits}
 use Rattle.ks_script.proofs.Numerals.{read_on}
 use Rattle.ks_script.proofs.Cuts.{digits_some, no_digits, zero_first, other_byte, too_great, if_none_any, is_empty_true, is_empty_false}
-use Rattle.ks_script.proofs.words.wide_number.Goals as goal
-use Rattle.ks_script.proofs.words.wide_number.Goals.{else-bytes-eq48-via-then-bytes-eq48+else-bytes-gt1, else-bytes-eq48-via-else-bytes-eq48}
+use Rattle.ks_script.proofs.words.great_number.Goals as goal
+use Rattle.ks_script.proofs.words.great_number.Goals.{else-bytes-gt1-via-then-bytes-gt1+else-bytes-eq48, else-bytes-gt1-via-else-bytes-gt1}
 
 pub returns-then-is_empty-clause-none : goal.returns-then-is_empty-clause-none
 returns-then-is_empty-clause-none c = no_digits c.args.bytes.now (is_empty_true (length c.args.bytes.now) c.is_empty.result c.is_empty.ensures c.if-is_empty.true)
 
-pub returns-then-bytes-gt1-clause-none : goal.returns-then-bytes-gt1-clause-none
-returns-then-bytes-gt1-clause-none c = zero_first c.args.bytes.now c.if-bytes-eq48.true c.if-bytes-gt1.true
+pub returns-then-bytes-eq48-clause-none : goal.returns-then-bytes-eq48-clause-none
+returns-then-bytes-eq48-clause-none c = zero_first c.args.bytes.now c.if-bytes-eq48.true c.if-bytes-gt1.true
 
 pub returns-then-not-is_ascii_digit-clause-none : goal.returns-then-not-is_ascii_digit-clause-none
 returns-then-not-is_ascii_digit-clause-none c =
@@ -37,9 +37,9 @@ returns-clause-some c =
     let bytes = c.args.bytes.now in
     let rest = drop_all i bytes c.loop-byte-test.false in
     digits_some bytes c.loop-byte.number (is_empty_false (length bytes) c.is_empty.result c.is_empty.ensures c.if-is_empty.false)
-    (elim c.else-bytes-eq48.branch [
-      | else-bytes-eq48-via-then-bytes-eq48+else-bytes-gt1 w ↦ (λ z. let full = is_empty_false (length bytes) c.is_empty.result c.is_empty.ensures c.if-is_empty.false in omega arith)
-      | else-bytes-eq48-via-else-bytes-eq48 w ↦ (λ z. absurd (w.if-bytes-eq48.false z))
+    (elim c.else-bytes-gt1.branch [
+      | else-bytes-gt1-via-then-bytes-gt1+else-bytes-eq48 w ↦ (λ z. absurd (w.if-bytes-eq48.false z))
+      | else-bytes-gt1-via-else-bytes-gt1 w ↦ (λ z. let full = is_empty_false (length bytes) c.is_empty.result c.is_empty.ensures c.if-is_empty.false in omega arith)
     ])
     (sym c.loop-byte.invariant.digits ∙ ap all_ascii_digits rest)
     (sym c.loop-byte.invariant.value ∙ ap (read_on c.loop-byte.number) rest)
