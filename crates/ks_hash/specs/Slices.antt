@@ -1,5 +1,5 @@
 -- The slices of a directory: equal parts of all places, each with the child that it leads to.
-use Rattle.std.specs.Prelude.{ℕ, ◌+◌, ◌-◌, ◌/◌, ◌^◌, ◌||◌, Bool, false, cond, nat_eq, List, [], ◌∷◌, ◌++◌, length, get_or, take, drop, Option, None, Some}
+use Rattle.std.specs.Prelude.{◌≡◌, ℕ, ◌+◌, ◌-◌, ◌/◌, ◌^◌, ◌≤◌, ◌||◌, Bool, false, cond, nat_eq, List, [], ◌∷◌, ◌++◌, length, get_or, take, drop, Option, None, Some}
 use Rattle.ks_node.specs.declared.start.Start.{Start}
 use Rattle.ks_node.specs.Body.{starts_below, starts_from}
 use Rattle.ks_node.specs.Effect.{runs}
@@ -24,6 +24,12 @@ repeats (Some k) m = nat_eq m k
 -- the child of the slice before a position
 abbrev pub before_at : ℕ → List ℕ → Option ℕ
 before_at i cs = cond (nat_eq i 0) None (Some (get_or cs (i - 1) 0))
+
+-- the slice at which the run begins in which a slice lies
+pub record IsRunBegin (cs : List ℕ) (at : ℕ) (begin : ℕ) : Type 0 where
+  pub within : begin ≤ at
+  pub same : (k : ℕ) → begin ≤ k → k ≤ at → get_or cs k 0 ≡ get_or cs at 0
+  pub other : repeats (before_at begin cs) (get_or cs at 0) ≡ false
 
 -- each slice as a start, the first of them at a place
 abbrev pub slice_starts : ℕ → ℕ → List ℕ → List Start

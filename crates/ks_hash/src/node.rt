@@ -9,8 +9,10 @@ ghost use Rattle.ks_hash.specs.Hash.{Fit};
 ghost use Rattle.ks_hash.specs.Parts.{is_directory, pairs_of, own_of, slices_of};
 
 use crate::parts::Parts;
-use crate::slices::{SMALLEST, Starts, begins_run, child_at, child_past, runs_of, sole_child};
-use crate::spans::{begins_own, cut_by, next_by, own_above, span_in};
+use crate::slices::{
+    SMALLEST, Starts, begins_run, child_at, child_past, run_around, runs_of, sole_child,
+};
+use crate::spans::{begins_own, cut_by, next_by, own_above};
 use ks_keysets::{Edge, Pair, Span};
 use ks_node::{Growing, Next, Node, Unlinked, edge_in};
 use ks_places::Golden;
@@ -188,7 +190,7 @@ impl Node for HNode {
 
     fn span_for(&self, place: u64) -> Option<Span> {
         if self.parts.is_directory() {
-            span_in(self.starts().as_slice(), place)
+            Some(run_around(self.parts.slices(), place))
         } else {
             None
         }

@@ -5,12 +5,15 @@
 //! edge; then the slices from the cut to the end of the run get the new child.
 
 ghost use Rattle.std.specs.Prelude.{◌≢◌, ◌≡◌, ℕ, suc, ◌+◌, ◌/◌, ◌%◌, ◌<◌, ◌≤◌, ◌++◌, ◌∷◌, [], IsTrue, Some, false, not, length, Option, find, position, nat_eq};
-ghost use Rattle.std.specs.List.{list_all};
+ghost use Rattle.std.specs.List.{list_all, prefix_len};
 ghost use Rattle.ks_node.specs.Body.{starts_below, starts_from, led_to, begins, first_node, sole};
 ghost use Rattle.ks_node.specs.Effect.{runs, without};
-ghost use Rattle.ks_hash.specs.Slices.{is_size, width_of, smallest, starts_of, repeats, before_at, doubled, run_led, with_run};
+ghost use Rattle.ks_node.specs.Asks.{IsSpanOf};
+ghost use Rattle.ks_hash.specs.Slices.{is_size, width_of, smallest, starts_of, repeats, before_at, IsRunBegin, doubled, run_led, with_run};
+ghost use Rattle.ks_hash.specs.Hash.{run_span};
 
 use arrayvec::ArrayVec;
+use ks_keysets::Span;
 use ks_node::Start;
 
 /// The child of each slice.
@@ -109,6 +112,52 @@ fn child_before(slices: &[u32], at: usize) -> Option<u32>
     ensures { result ≡ before_at at slices.now }
 {
     if at == 0 { None } else { Some(slices[at - 1]) }
+}
+
+/// Where the run begins in which a slice lies.
+fn run_begin(slices: &[u32], at: usize) -> usize
+    requires { at < length slices.now }
+    ensures { IsRunBegin slices.now at result }
+{
+    let child = slices[at];
+    let mut begin = at;
+    while begin > 0 {
+        if slices[begin - 1] != child {
+            return begin;
+        }
+        begin -= 1;
+    }
+    0
+}
+
+/// How many slices in front lead to a child.
+fn run_length(slices: &[u32], child: u32) -> usize
+    ensures { result ≡ prefix_len (λ c. nat_eq c child) slices.now }
+{
+    for (i, slice) in slices.iter().enumerate() {
+        if *slice != child {
+            return i;
+        }
+    }
+    slices.len()
+}
+
+/// The places of the run in which a place lies.
+pub(crate) fn run_around(slices: &[u32], place: u64) -> Span
+    requires { IsTrue (is_size (length slices.now)) }
+    ensures is { run_span (starts_of slices.now) place ≡ Some result }
+    ensures edge { IsSpanOf (starts_of slices.now) place result }
+{
+    let width = width(slices);
+    let at = slice_of(slices, place);
+    let child = slices[at];
+    let (_, later) = slices.split_at(at + 1);
+    let begin = run_begin(slices, at);
+    let last = at + run_length(later, child);
+    Span {
+        low: begin as u64 * width,
+        last: last as u64 * width + (width - 1),
+    }
 }
 
 /// Whether a run begins at a place.

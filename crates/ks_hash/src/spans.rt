@@ -1,18 +1,13 @@
-//! Spans: the one that an edge of a directory has, and the middle of one of whole smallest slices.
+//! A bucket's own edge, and the middle of a span of whole smallest slices.
 
-ghost use Rattle.std.specs.Prelude.{◌≡◌, suc, ◌≤◌, ◌&&◌, cond, nat_lt, length, take, drop, Some, None};
-ghost use Rattle.std.specs.Option.{ForSome};
+ghost use Rattle.std.specs.Prelude.{◌≡◌, cond, nat_lt, Some, None};
 ghost use Rattle.std.specs.List.{list_all};
-ghost use Rattle.ks_keysets.specs.Record.{top};
-ghost use Rattle.ks_node.specs.Keyed.{Ascends};
-ghost use Rattle.ks_node.specs.Body.{begins, starts_below, starts_from, go_to, led_to};
-ghost use Rattle.ks_node.specs.Asks.{IsSpanOf};
-ghost use Rattle.ks_node.specs.Spans.{AreWithin};
-ghost use Rattle.ks_hash.specs.Hash.{own_starts, is_whole, middle_of, run_span, cut_above};
+ghost use Rattle.ks_node.specs.Body.{begins, go_to, led_to};
+ghost use Rattle.ks_hash.specs.Hash.{own_starts, is_whole, middle_of, cut_above};
 
 use crate::slices::SMALLEST;
 use ks_keysets::Span;
-use ks_node::{Next, Start, edge_in, seek};
+use ks_node::{Next, Start};
 
 /// Where the search for a place goes on from a bucket.
 pub(crate) fn next_by(own: Option<Start>, place: u64) -> Next
@@ -48,32 +43,6 @@ pub(crate) fn own_above(own: Option<Start>, place: u64) -> bool
         Some(start) => place < start.low,
         None => true,
     }
-}
-
-/// How many edges start at a place or below.
-fn count_upto(starts: &[Start], place: u64) -> usize
-    requires { Ascends (λ s. s.low) starts.now }
-    ensures within { result ≤ length starts.now }
-    ensures lower { starts_below (suc place) starts.now ≡ take result starts.now }
-    ensures higher { starts_from (suc place) starts.now ≡ drop result starts.now }
-{
-    match seek(starts, place) {
-        Ok(i) => i + 1,
-        Err(i) => i,
-    }
-}
-
-/// The span of the edge that carries a place.
-pub(crate) fn span_in(starts: &[Start], place: u64) -> Option<Span>
-    requires { AreWithin 0 top starts.now }
-    ensures is { result ≡ run_span starts.now place }
-    ensures edge { ForSome result (IsSpanOf starts.now place) }
-{
-    let upto = count_upto(starts, place);
-    if upto == 0 {
-        return None;
-    }
-    Some(edge_in(starts, upto - 1).span)
 }
 
 /// Where the middle slice begins of a span of two or more whole smallest slices.

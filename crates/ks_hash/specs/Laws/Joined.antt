@@ -4,7 +4,7 @@ use Rattle.std.specs.Option.{option_map}
 use Rattle.std.proofs.Common.{arith, drop-cons, ap, ◌∙◌, sym, subst, inl, inr, ◌⊎◌}
 use Rattle.std.proofs.lemmas.Bool.{lt-ltb, le-ltb, le-leb, lt-leb, eqb-true, eq-eqb, ne_eqb}
 use Rattle.std.proofs.lemmas.Bool.Decides.{leb_tells, eqb_tells}
-use Rattle.std.proofs.lemmas.List.{length-append, length-take-le, take-append-drop, get_or_append_left, get_or-take, append-nil}
+use Rattle.std.proofs.lemmas.List.{length-append, length-take-le, length-drop, take-append-drop, get_or_append_left, get_or-take, get_or-drop, append-nil}
 use Rattle.std.proofs.lemmas.List.Sums.{position_or_len_is, fails_before_first}
 use Rattle.std.proofs.lemmas.List.Quantifiers.{position-Some}
 use Rattle.std.specs.List.{list_all, position_or_len}
@@ -19,7 +19,7 @@ use Rattle.ks_node.specs.Laws.Ascend.{asc_nil, asc_tail, asc_head, asc_cons}
 use Rattle.ks_node.specs.Body.{first_node, last_node, led_to, starts_below, starts_from, begins, sole}
 use Rattle.ks_node.specs.Effect.{runs, runs_after, without, without_at}
 use Rattle.ks_node.specs.Sound.{starts_at_zero}
-use Rattle.ks_hash.specs.Slices.{is_size, width_of, slice_starts, repeats, before_at, starts_of, doubled, led_over, run_led}
+use Rattle.ks_hash.specs.Slices.{is_size, width_of, slice_starts, repeats, before_at, IsRunBegin, starts_of, doubled, led_over, run_led}
 
 differ : {b : Bool} → b ≡ false → b ≡ true → ⊥
 differ e f = cc
@@ -672,22 +672,22 @@ slices_upto width low (suc n) (c ∷ cs) h =
     further p low width n h = omega arith
 
 module _ (cs : List ℕ) (p : ℕ) (size : IsTrue (is_size (length cs))) (h : p < 2 ^ 64) where
-  abbrev slice_at : ℕ
+  abbrev pub slice_at : ℕ
   slice_at = p / width_of cs
 
-  abbrev runs_front : List Start
+  abbrev pub runs_front : List Start
   runs_front = joined_after None (slice_starts (width_of cs) 0 (take (suc slice_at) cs))
 
-  abbrev runs_back : List Start
+  abbrev pub runs_back : List Start
   runs_back = joined_after (Some (get_or cs slice_at 0)) (slice_starts (width_of cs) (suc slice_at * width_of cs) (drop (suc slice_at) cs))
 
-  slice_lies : slice_at < length cs
+  pub slice_lies : slice_at < length cs
   slice_lies = slice_within (length cs) size p h
 
-  front_long : length (take (suc slice_at) cs) ≡ suc slice_at
+  pub front_long : length (take (suc slice_at) cs) ≡ suc slice_at
   front_long = length-take-le (suc slice_at) cs slice_lies
 
-  runs_split : starts_of cs ≡ runs_front ++ runs_back
+  pub runs_split : starts_of cs ≡ runs_front ++ runs_back
   runs_split =
       let w : ℕ = width_of cs in
       let front : List ℕ = take (suc slice_at) cs in
@@ -725,6 +725,49 @@ module _ (cs : List ℕ) (p : ℕ) (size : IsTrue (is_size (length cs))) (h : p 
   pub runs_past : starts_from (suc p) (starts_of cs) ≡ runs_back
   runs_past = ap (starts_from (suc p)) runs_split ∙ from_parts (suc p) runs_front runs_back front_upto back_past
 
+-- slices that lead to one child are one run, or go on with it
+joined_none : (c width low : ℕ) (ds : List ℕ) → ((k : ℕ) → k < length ds → get_or ds k 0 ≡ c) → joined_after (Some c) (slice_starts width low ds) ≡ []
+joined_none c width low [] same = refl
+joined_none c width low (d ∷ ds) same =
+    let here : nat_eq d c ≡ true = eq-eqb d c (same 0 (omega arith)) in
+    rw here (joined_none c width (low + width) ds (λ k h. same (suc k) (omega arith)))
+
+joined_one : (o : Option ℕ) (c width low : ℕ) (ds : List ℕ) → 0 < length ds → repeats o c ≡ false → ((k : ℕ) → k < length ds → get_or ds k 0 ≡ c) →
+    joined_after o (slice_starts width low ds) ≡ record { low = low; node = c } ∷ []
+joined_one o c width low [] h other same = absurd (omega arith)
+joined_one o c width low (d ∷ ds) h other same =
+    let here : d ≡ c = same 0 (omega arith) in
+    let new : repeats o d ≡ false = ap (repeats o) here ∙ other in
+    rw new (ap (λ l. record { low = low; node = d } ∷ l) (joined_none d width (low + width) ds (λ k h. same (suc k) (omega arith) ∙ sym here))
+    ∙ ap (λ n. record { low = low; node = n } ∷ []) here)
+
+last_front : (o : Option ℕ) (width : ℕ) (cs : List ℕ) (n b : ℕ) → b ≤ n → n ≤ length cs →
+    last_or None (slice_starts width 0 (take b (take n cs))) ≡ before_at b cs
+last_front o width cs n zero h l = refl
+last_front o width cs n (suc j) h l =
+    let step : suc j - 1 ≡ j = omega arith in
+    let later : nat_eq (suc j) 0 ≡ false = ne_eqb _ _ (λ q. omega arith) in
+    let long : length (take n cs) ≡ n = length-take-le n cs l in
+    last_slice None width 0 (take n cs) j 0 (omega arith) ∙ ap (λ m. Some m) (get_or-take n cs j 0 (omega arith)) ∙ sym (rw (later, step) refl)
+
+-- the run in which a slice lies is the last up to it
+pub front_run : (width : ℕ) (cs : List ℕ) (i b : ℕ) → i < length cs → IsRunBegin cs i b →
+    joined_after None (slice_starts width 0 (take (suc i) cs)) ≡
+    joined_after None (slice_starts width 0 (take b (take (suc i) cs))) ++ record { low = b * width; node = get_or cs i 0 } ∷ []
+front_run width cs i b h r =
+    let front : List ℕ = take (suc i) cs in
+    let long : length front ≡ suc i = length-take-le (suc i) cs h in
+    let few : length (take b front) ≡ b = length-take-le b front (omega (arith, r.within)) in
+    let rest : length (drop b front) ≡ length front - b = length-drop b front in
+    let before : last_or None (slice_starts width 0 (take b front)) ≡ before_at b cs = last_front None width cs (suc i) b (omega (arith, r.within)) (omega arith) in
+    ap (λ l. joined_after None (slice_starts width 0 l)) (sym (take-append-drop b front))
+    ∙ joined_parts width (take b front) (drop b front)
+    ∙ ap (λ o. joined_after None (slice_starts width 0 (take b front)) ++ joined_after o (slice_starts width (length (take b front) * width) (drop b front))) before
+    ∙ ap (λ n. joined_after None (slice_starts width 0 (take b front)) ++ joined_after (before_at b cs) (slice_starts width (n * width) (drop b front))) few
+    ∙ ap (λ l. joined_after None (slice_starts width 0 (take b front)) ++ l)
+    (joined_one (before_at b cs) (get_or cs i 0) width (b * width) (drop b front) (omega (arith, r.within)) r.other
+    (λ k l. get_or-drop b front k 0 ∙ get_or-take (suc i) cs (b + k) 0 (omega arith) ∙ r.same (b + k) (omega arith) (omega arith)))
+
 -- the first run after one leads to the first other child
 other_first : (c width low : ℕ) (ds : List ℕ) → first_node (joined_after (Some c) (slice_starts width low ds)) ≡ find (λ d. not (nat_eq d c)) ds
 other_first c width low [] = refl
@@ -743,3 +786,8 @@ run_past cs p size h =
 pub slice_product : (n : ℕ) → IsTrue (is_size n) → (p : ℕ) → p < 2 ^ 64 → p * n / 2 ^ 64 ≡ p / (2 ^ 64 / n)
 slice_product n h = by_size (λ n. (p : ℕ) → p < 2 ^ 64 → p * n / 2 ^ 64 ≡ p / (2 ^ 64 / n))
     (λ p h. omega arith) (λ p h. omega arith) (λ p h. omega arith) (λ p h. omega arith) (λ p h. omega arith) (λ p h. omega arith) n h
+
+-- the slices of whole runs fit
+pub slices_fit : (n : ℕ) → IsTrue (is_size n) → (k : ℕ) → k < n → k * (2 ^ 64 / n) + 2 ^ 64 / n ≤ 2 ^ 64
+slices_fit n h = by_size (λ n. (k : ℕ) → k < n → k * (2 ^ 64 / n) + 2 ^ 64 / n ≤ 2 ^ 64)
+    (λ k h. omega arith) (λ k h. omega arith) (λ k h. omega arith) (λ k h. omega arith) (λ k h. omega arith) (λ k h. omega arith) n h
