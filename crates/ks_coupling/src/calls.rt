@@ -13,8 +13,8 @@ use ks_arena::{Arena, Pass};
 use ks_flow::Tree;
 use ks_gate::{Gate, Point};
 use ks_node::Unlinked;
-use ks_put::{pair_add, pair_put};
-use ks_shape::{Full, Numbered, get_here, swap_here};
+use ks_put::pair_fill;
+use ks_shape::{Fill, Full, Numbered, get_here, swap_here};
 use ks_tidy::{Tidied, come_down, del_on};
 use std::sync::Wait;
 
@@ -55,7 +55,7 @@ pub fn put<N: Unlinked, R: Wait, G: Gate>(
     ensures done { DoneOf arena.now coupling (Put place value) pass.old pass.new (reply_in result) (number_in result) }
 {
     gate.at(pass.caller(), Point::Begin);
-    pair_put(rt, arena, pass, gate, place, value)
+    pair_fill(rt, arena, pass, gate, place, Fill::Put(value))
 }
 
 /// Puts a value at a place where none stands; answers the value that stood there, and the number of the call. It goes as
@@ -78,7 +78,7 @@ pub fn add<N: Unlinked, R: Wait, G: Gate>(
     ensures done { DoneOf arena.now coupling (Add place value) pass.old pass.new (reply_in result) (number_in result) }
 {
     gate.at(pass.caller(), Point::Begin);
-    pair_add(rt, arena, pass, gate, place, value)
+    pair_fill(rt, arena, pass, gate, place, Fill::Add(value))
 }
 
 /// Puts `new` at a place where `old` stands; answers the value that stood there, and the number of the call. It holds two

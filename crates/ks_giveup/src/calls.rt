@@ -14,8 +14,8 @@ use ks_arena::{Arena, Pass};
 use ks_flow::Tree;
 use ks_gate::Gate;
 use ks_node::{Ranged, Unlinked};
-use ks_put::{pair_add, pair_put};
-use ks_shape::{Full, Numbered, add_here, get_here, put_here, swap_here};
+use ks_put::pair_fill;
+use ks_shape::{Fill, Full, Numbered, add_here, get_here, put_here, swap_here};
 use ks_tidy::del_alone;
 use std::sync::Wait;
 
@@ -60,7 +60,7 @@ pub fn put<N: Ranged + Unlinked, R: Wait, G: Gate>(
 {
     match find_room(rt, arena, pass, gate, place) {
         Some(held) => Ok(put_here(arena, pass, gate, place, value, held)),
-        None => pair_put(rt, arena, pass, gate, place, value),
+        None => pair_fill(rt, arena, pass, gate, place, Fill::Put(value)),
     }
 }
 
@@ -86,7 +86,7 @@ pub fn add<N: Ranged + Unlinked, R: Wait, G: Gate>(
 {
     match find_room(rt, arena, pass, gate, place) {
         Some(held) => Ok(add_here(arena, pass, gate, place, value, held)),
-        None => pair_add(rt, arena, pass, gate, place, value),
+        None => pair_fill(rt, arena, pass, gate, place, Fill::Add(value)),
     }
 }
 

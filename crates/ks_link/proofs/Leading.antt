@@ -4,7 +4,6 @@ use Rattle.std.specs.Prelude.{◌⊎◌, Some, slice_index_or}
 use mathlib.Core.Logic.{dite}
 use native.Mathlib.Decide.{ℕ_discrete}
 use Rattle.ks_keysets.specs.declared.Change.{Change}
-use Rattle.ks_keysets.specs.declared.Frame.{Frame}
 use Rattle.ks_keysets.specs.declared.NodeState.{NodeState}
 use Rattle.ks_keysets.specs.declared.Record.{Record}
 use Rattle.ks_keysets.specs.Change.{shaped, new_state}

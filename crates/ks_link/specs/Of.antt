@@ -5,7 +5,7 @@ use Rattle.ks_node.below.ks_places.specs.declared.Placing.{Ghosts as PlacingGhos
 use Rattle.ks_flow.specs.declared.discipline.Discipline.{Ghosts as DisciplineGhosts}
 use Rattle.ks_history.specs.declared.Event.{Event}
 use Rattle.ks_history.specs.declared.Op.{Op}
-use Rattle.ks_history.specs.Done.{link_move}
+use Rattle.ks_history.specs.Done.{Done, link_move}
 use Rattle.ks_history.specs.Underway.{Underway}
 use Rattle.ks_arena.specs.declared.arena.Arena.{Arena}
 use Rattle.ks_arena.specs.declared.held.Pass.{Pass}
@@ -19,13 +19,14 @@ use Rattle.ks_link.specs.declared.parts.Parted.{Parted}
 use Rattle.ks_link.specs.declared.parts.Waiting.{Waiting}
 use Rattle.ks_link.specs.Descent.{IsOnWay}
 use Rattle.ks_link.specs.Leads.{LedBut, AreLed, PartsLed, Waits}
-use Rattle.ks_link.specs.Parts.{IsAlone, IsSplitOff, IsParted}
-use Rattle.ks_link.specs.Puts.{MadeRoom, FoundRoom}
-use Rattle.ks_link.specs.Tries.{Enters, GoesOn, Finds, ComesToRoom, IsHeldAbove}
+use Rattle.ks_link.specs.Parts.{IsAlone, IsSplitOff, HoldsHalf}
+use Rattle.ks_link.specs.Puts.{MadeRoom}
+use Rattle.ks_link.specs.Tries.{Enters, GoesOn, Finds, IsHeldAbove}
+use Rattle.ks_shape.specs.declared.answers.Full.{Full}
 use Rattle.ks_shape.specs.declared.answers.Later.{Later}
 use Rattle.ks_shape.specs.declared.answers.Numbered.{Numbered}
-use Rattle.ks_shape.specs.declared.answers.PutLater.{PutLater}
-use Rattle.ks_shape.specs.Tries.{TriedPut}
+use Rattle.ks_shape.specs.Answers.{number_in, reply_in}
+use Rattle.ks_shape.specs.Fills.{FoundRoom}
 
 module _ {N D : Type 0} where
   -- the pass holds these two nodes, the second taken last; these three
@@ -44,15 +45,17 @@ module _ {N D P : Type 0} {n : NodeGhosts N P} {q : PlacingGhosts P} {d : Discip
   abbrev pub WasSplitOff : Arena N D P n q d → Pass N D → Waiting → Type 0
   WasSplitOff a p w = IsSplitOff (sort_of n.layout n.ranged) (seen_of p) w
 
-  -- the full node x was parted, and the half in which the place lies is held alone; or no node was found free
-  abbrev pub HasParted : Arena N D P n q d → ℕ → Pass N D → Pass N D → Hand N → Result (Parted N) (Hand N) → Type 0
-  HasParted a place p p' x parted = IsParted (sort_of n.layout n.ranged) n.body a.nodes p.caller place (seen_of p) (seen_of p') x parted
+  -- the half of x in which the place lies, or x itself, is held alone, and what was split off waits; or x is, and no node was
+  -- found free to split it
+  abbrev pub HoldsHalfOf : Arena N D P n q d → ℕ → Pass N D → Pass N D → Hand N → Result (Parted N) (Hand N) → Type 0
+  HoldsHalfOf a place p p' x parted = HoldsHalf (sort_of n.layout n.ranged) n.body a.nodes p.caller place (seen_of p) (seen_of p') x parted
 
-  -- so it was, and the search has ended at the half; or as before, and no node was found free
+  -- so it is, and the search has ended at the half; or at x as before, and no node was found free
   abbrev pub HasMadeRoom : Arena N D P n q d → ℕ → Pass N D → Pass N D → Hand N → Result (Hand N) (Hand N) → Type 0
   HasMadeRoom a place p p' x made = MadeRoom (sort_of n.layout n.ranged) n.body a.nodes p.caller place (seen_of p) (seen_of p') x made
 
-  -- the search has ended at a node that has the place, or room for it; or at a full one without it, and none was found free
+  -- the search for room has ended since p at a node that has the place, or room for it; or at a full one without it, and none
+  -- was found free
   abbrev pub HasFoundRoom : Arena N D P n q d → ℕ → Pass N D → Pass N D → Result (Hand N) (Hand N) → Type 0
   HasFoundRoom a place p p' found = FoundRoom (sort_of n.layout n.ranged) n.body a.nodes p.caller place (seen_of p) (seen_of p') found
 
@@ -93,14 +96,10 @@ module _ {N D P : Type 0} {n : NodeGhosts N P} {q : PlacingGhosts P} {d : Discip
   abbrev pub TriedToFind : Arena N D P n q d → ℕ → Pass N D → Pass N D → Result (Hand N) Later → Type 0
   TriedToFind a place p p' found = Finds (sort_of n.layout n.ranged) n.body a.nodes p.caller place (seen_of p) (seen_of p') found
 
-  -- the search has come to room for the place since p, or no node was found free
-  abbrev pub HasComeToRoom : Arena N D P n q d → ℕ → Pass N D → Pass N D → Result (Hand N) (Hand N) → Type 0
-  HasComeToRoom a place p p' found = ComesToRoom (sort_of n.layout n.ranged) n.body a.nodes p.caller place (seen_of p) (seen_of p') found
-
   -- the node one level above what was split off, whose range reaches the cut, is held alone; or nothing is held
   abbrev pub HoldsAbove : Arena N D P n q d → Waiting → Pass N D → Option (Hand N) → Type 0
   HoldsAbove a w p found = IsHeldAbove (sort_of n.layout n.ranged) n.body p.caller w (seen_of p) found
 
-  -- a put or an add that is under way at p, since whatever moment, is tried at p'
-  abbrev pub FinishesTry : Arena N D P n q d → Op → Pass N D → Pass N D → Result Numbered PutLater → Type 0
-  FinishesTry a op p p' answer = (start : List Event) → Underway link_move p.caller op start (seen_of p) → TriedPut n.layout link_move a.nodes p.caller op start (seen_of p') answer
+  -- a put or an add that is under way at p, since whatever moment, is done at p'
+  abbrev pub Finishes : Arena N D P n q d → Op → Pass N D → Pass N D → Result Numbered Full → Type 0
+  Finishes a op p p' answer = (start : List Event) → Underway link_move p.caller op start (seen_of p) → Done n.layout link_move a.nodes p.caller op start (seen_of p') (reply_in answer) (number_in answer)

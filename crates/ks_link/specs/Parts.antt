@@ -27,14 +27,15 @@ module _ {N : Type 0} (sort : Sort) (shows : N → Body) where
     pub live : x.live ≡ true
     pub matches : Matches sort shows h x
 
-  -- the full node x was parted, and c holds the half alone in which the place lies; or no node was found free
-  abbrev pub IsParted : ℕ → ℕ → ℕ → List Event → List Event → Hand N → Result (Parted N) (Hand N) → Type 0
-  IsParted n c place h k x (Ok p) =
+  -- c holds alone the half of x in which the place lies, or x itself, and what was split off is so; or c holds x, and no node
+  -- was found free to split it
+  abbrev pub HoldsHalf : ℕ → ℕ → ℕ → List Event → List Event → Hand N → Result (Parted N) (Hand N) → Type 0
+  HoldsHalf n c place h k x (Ok p) =
       IsOnWay sort shows c place k p.half
       × ((shows p.half.body).level ≡ (shows x.body).level)
       × ForSome p.new (λ w. IsSplitOff sort k w × (w.level ≡ (shows x.body).level))
       × (place ≤ last_of (shows x.body).range → place ≤ last_of (shows p.half.body).range)
-  IsParted n c place h k x (Err y) =
+  HoldsHalf n c place h k x (Err y) =
       (y ≡ x)
       × IsAlone c k x
       × NoneFree sort.layout n c place h k

@@ -1,14 +1,12 @@
 -- What a put comes to.
-use Rattle.std.specs.Prelude.{ℕ, ◌≡◌, IsTrue, false, ◌⊎◌, List, [], ◌∷◌, ◌++◌, length, Option, Some, None, Result, Ok, Err}
+use Rattle.std.specs.Prelude.{ℕ, ◌≡◌, ◌⊎◌, List, [], ◌∷◌, ◌++◌, length, Option, Some, None, Result, Ok, Err}
 use Rattle.ks_history.specs.Due.{NoneFree}
 use Rattle.ks_history.specs.declared.Event.{Event}
 use Rattle.ks_node.specs.declared.start.Next.TheVariants.{Here}
-use Rattle.ks_node.specs.Body.{Body, next_at, value_at}
-use Rattle.ks_node.specs.Room.{is_full}
+use Rattle.ks_node.specs.Body.{Body, next_at}
 use Rattle.ks_arena.specs.declared.held.Held.{Held as Hand}
 use Rattle.ks_arena.specs.Sound.{Sort}
 use Rattle.ks_link.specs.declared.parts.Waiting.{Waiting}
-use Rattle.ks_shape.specs.SearchEnd.{HasRoom, IsCrowded}
 use Rattle.ks_link.specs.Descent.{IsOnWay}
 
 -- the new one waits after those that wait, unless seven do
@@ -21,8 +19,3 @@ module _ {N : Type 0} (sort : Sort) (shows : N → Body) where
   abbrev pub MadeRoom : ℕ → ℕ → ℕ → List Event → List Event → Hand N → Result (Hand N) (Hand N) → Type 0
   MadeRoom n c place h k x (Ok y) = IsOnWay sort shows c place k y × (next_at (shows y.body) place ≡ Here)
   MadeRoom n c place h k x (Err y) = (y ≡ x) × IsOnWay sort shows c place k x × NoneFree sort.layout n c place h k
-
-  -- the search has ended at a node that has the place, or room for it; or at a full one without it, and none was found free
-  abbrev pub FoundRoom : ℕ → ℕ → ℕ → List Event → List Event → Result (Hand N) (Hand N) → Type 0
-  FoundRoom n c place h k (Ok x) = HasRoom sort shows c place k x
-  FoundRoom n c place h k (Err x) = IsCrowded sort shows c place k x × NoneFree sort.layout n c place h k

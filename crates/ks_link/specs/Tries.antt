@@ -2,7 +2,6 @@
 use Rattle.std.specs.Prelude.{ℕ, ◌≡◌, ◌+◌, ◌<◌, ◌≤◌, ◌⊎◌, List, [], Option, Some, None, Result, Ok, Err}
 use Rattle.ks_history.specs.declared.Event.{Event}
 use Rattle.ks_history.specs.declared.Op.{Op}
-use Rattle.ks_history.specs.Due.{NoneFree}
 use Rattle.ks_history.specs.Map.{Touches}
 use Rattle.ks_history.specs.Trace.{hand}
 use Rattle.ks_history.specs.Done.{link_move}
@@ -10,7 +9,7 @@ use Rattle.ks_node.specs.Body.{Body, last_of}
 use Rattle.ks_arena.specs.declared.held.Held.{Held as Hand}
 use Rattle.ks_arena.specs.Sound.{Sort}
 use Rattle.ks_shape.specs.declared.answers.Later.{Later}
-use Rattle.ks_shape.specs.SearchEnd.{IsEnd, HasRoom, IsCrowded}
+use Rattle.ks_shape.specs.SearchEnd.{IsEnd}
 use Rattle.ks_shape.specs.Tries.{IsCause}
 use Rattle.ks_link.specs.declared.parts.Waiting.{Waiting}
 use Rattle.ks_link.specs.Descent.{IsOnWay}
@@ -38,11 +37,6 @@ module _ {N : Type 0} (sort : Sort) (shows : N → Body) where
   abbrev pub Finds : ℕ → ℕ → ℕ → List Event → List Event → Result (Hand N) Later → Type 0
   Finds n c place h k (Ok x) = IsOnWay sort shows c place k x × IsEnd sort shows c place k x
   Finds n c place h k (Err later) = IsPutOffAt n c place h k later
-
-  -- it has come to a node that has the place or room for it; or to a full one without it, after no node was found free
-  abbrev pub ComesToRoom : ℕ → ℕ → ℕ → List Event → List Event → Result (Hand N) (Hand N) → Type 0
-  ComesToRoom n c place h k (Ok x) = HasRoom sort shows c place k x
-  ComesToRoom n c place h k (Err x) = IsCrowded sort shows c place k x × NoneFree sort.layout n c place h k
 
   -- the node one level above what was split off, whose range reaches the cut, is held alone; or nothing is held
   abbrev pub IsHeldAbove : ℕ → Waiting → List Event → Option (Hand N) → Type 0

@@ -7,7 +7,7 @@ ghost use Rattle.ks_link.specs.Leads.{CanLead, TakesEdge, waits_if};
 ghost use Rattle.ks_history.specs.Done.{link_move};
 ghost use Rattle.ks_arena.specs.Of.{WasAlone, IsPassOf, IsEmptyPassOf, SameCaller, caller_of};
 ghost use Rattle.ks_shape.specs.Of.{IsStretchBy, MakesNoneLive, IsLedTo};
-ghost use Rattle.ks_link.specs.Of.{HasParted, HoldsAloneOf, IfAloneWithRoom, SearchIsAt, LeadsAllBut, LeadsEach, LeadsOne, WasSplitOff};
+ghost use Rattle.ks_link.specs.Of.{HoldsAloneOf, HoldsHalfOf, IfAloneWithRoom, SearchIsAt, LeadsAllBut, LeadsEach, LeadsOne, WasSplitOff};
 
 use crate::descent::{enter, go_on};
 use crate::parts::{Parted, Waiting, part};
@@ -111,7 +111,7 @@ pub(crate) fn ready<N: Linked, G: Gate>(
     requires within { cut ≤ last_of (N.body held.body).range }
     ensures pass { IsPassOf arena.now pass.new }
     ensures caller { SameCaller pass.old pass.new }
-    ensures parted { HasParted arena.now cut pass.old pass.new held (Ok result) }
+    ensures parted { HoldsHalfOf arena.now cut pass.old pass.new held (Ok result) }
     ensures stretch { IsStretchBy link_move pass.old pass.new }
     ensures led { WasAlone pass.old pass.new → LeadsAllBut arena.now (waits_if result.new) pass.old pass.new }
     ensures ready { IsTrue N.branches_adopt → IsTrue N.halves_have_room →

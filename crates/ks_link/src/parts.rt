@@ -7,7 +7,7 @@ ghost use Rattle.ks_link.specs.Parts.{HalfReachesLess};
 ghost use Rattle.ks_history.specs.Done.{link_move};
 ghost use Rattle.ks_arena.specs.Of.{WasAlone, IsPassOf, SameCaller, caller_of};
 ghost use Rattle.ks_shape.specs.Of.{IsStretchBy, MakesNoneLive, IsLiveInHand, IsFreeInHand};
-ghost use Rattle.ks_link.specs.Of.{HoldsThree, HoldsTwo, SearchIsAt, HasParted, LeadsParts};
+ghost use Rattle.ks_link.specs.Of.{HoldsHalfOf, HoldsThree, HoldsTwo, LeadsParts, SearchIsAt};
 
 use ks_arena::laws::sound_law;
 use ks_arena::{Arena, Held, Pass};
@@ -86,7 +86,7 @@ fn split<N: Linked, G: Gate>(
     requires low { (N.body held.body).low ≤ place }
     ensures pass { IsPassOf arena.now pass.new }
     ensures caller { SameCaller pass.old pass.new }
-    ensures parted { HasParted arena.now place pass.old pass.new held (Ok result) }
+    ensures parted { HoldsHalfOf arena.now place pass.old pass.new held (Ok result) }
     ensures narrower { HalfReachesLess N.body (N.body held.body) (Ok result) }
     ensures stretch { IsStretchBy link_move pass.old pass.new }
     ensures led { WasAlone pass.old pass.new → LeadsParts arena.now pass.old pass.new (Ok result) }
@@ -131,7 +131,7 @@ fn grow<N: Linked, G: Gate>(
     requires low { (N.body root.body).low ≤ place }
     ensures pass { IsPassOf arena.now pass.new }
     ensures caller { SameCaller pass.old pass.new }
-    ensures parted { HasParted arena.now place pass.old pass.new root (Ok result) }
+    ensures parted { HoldsHalfOf arena.now place pass.old pass.new root (Ok result) }
     ensures narrower { HalfReachesLess N.body (N.body root.body) (Ok result) }
     ensures stretch { IsStretchBy link_move pass.old pass.new }
     ensures led { WasAlone pass.old pass.new → LeadsParts arena.now pass.old pass.new (Ok result) }
@@ -168,7 +168,7 @@ pub(crate) fn part<N: Linked, G: Gate>(
     requires grows { held.node ≡ 0 → IsTrue (N.grows_at (content_of (N.body held.body))) }
     ensures pass { IsPassOf arena.now pass.new }
     ensures caller { SameCaller pass.old pass.new }
-    ensures parted { HasParted arena.now place pass.old pass.new held result }
+    ensures parted { HoldsHalfOf arena.now place pass.old pass.new held result }
     ensures narrower { HalfReachesLess N.body (N.body held.body) result }
     ensures stretch { IsStretchBy link_move pass.old pass.new }
     ensures led { WasAlone pass.old pass.new → LeadsParts arena.now pass.old pass.new result }

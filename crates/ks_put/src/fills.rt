@@ -1,7 +1,7 @@
 //! Puts and adds: a search for room, and then the Call.
 ghost use Rattle.std.specs.Prelude.{◌≡◌};
-ghost use Rattle.ks_history.specs.declared.Op.TheVariants.{Add, Put};
 ghost use Rattle.ks_shape.specs.Answers.{number_in, reply_in};
+ghost use Rattle.ks_shape.specs.Fills.{filling};
 ghost use Rattle.ks_arena.specs.Of.{IsEmptyPassOf, SameCaller};
 ghost use Rattle.ks_shape.specs.Of.{FinishesAny};
 
@@ -9,55 +9,27 @@ use crate::room::{Room, make_room};
 use ks_arena::{Arena, Pass};
 use ks_flow::Tree;
 use ks_gate::Gate;
-use ks_history::Op;
 use ks_node::Unlinked;
-use ks_shape::{Full, Numbered, add_here, put_here, refuse_here};
+use ks_shape::{Fill, Full, Numbered, fill_here, refuse_fill};
 use std::sync::Wait;
 
-/// Puts a value at a place. Answers the number of the call, and the value that stood there; or that the node is full
+/// Puts or adds a value at a place. Answers the number of the call, and the value that stood there; or that the node is full
 /// and none was found free. It ends a call by any template, and does not tell the gate that one begins.
-pub fn pair_put<N: Unlinked, R: Wait, G: Gate>(
+pub fn pair_fill<N: Unlinked, R: Wait, G: Gate>(
     rt: &R,
     arena: &Arena<N, Tree>,
     pass: &mut Pass<N, Tree>,
     gate: &G,
     place: u64,
-    value: u128,
+    fill: Fill,
 ) -> Result<Numbered, Full>
     requires pass { IsEmptyPassOf arena.now pass.old }
     ensures pass { IsEmptyPassOf arena.now pass.new }
     ensures caller { SameCaller pass.old pass.new }
-    ensures done { FinishesAny arena.now (Put place value) pass.old pass.new (reply_in result) (number_in result) }
+    ensures done { FinishesAny arena.now (filling place fill) pass.old pass.new (reply_in result) (number_in result) }
 {
     match make_room(rt, arena, pass, gate, place) {
-        Room::Found(held) => Ok(put_here(arena, pass, gate, place, value, held)),
-        Room::Refused(held) => {
-            let op = Op::Put(place, value);
-            Err(refuse_here(arena, pass, gate, place, value, held, op))
-        }
-    }
-}
-
-/// Puts a value at a place where none stands. Answers the number of the call, and the value that stands there; or that the
-/// node is full and none was found free. It ends a call by any template, and does not tell the gate that one begins.
-pub fn pair_add<N: Unlinked, R: Wait, G: Gate>(
-    rt: &R,
-    arena: &Arena<N, Tree>,
-    pass: &mut Pass<N, Tree>,
-    gate: &G,
-    place: u64,
-    value: u128,
-) -> Result<Numbered, Full>
-    requires pass { IsEmptyPassOf arena.now pass.old }
-    ensures pass { IsEmptyPassOf arena.now pass.new }
-    ensures caller { SameCaller pass.old pass.new }
-    ensures done { FinishesAny arena.now (Add place value) pass.old pass.new (reply_in result) (number_in result) }
-{
-    match make_room(rt, arena, pass, gate, place) {
-        Room::Found(held) => Ok(add_here(arena, pass, gate, place, value, held)),
-        Room::Refused(held) => {
-            let op = Op::Add(place, value);
-            Err(refuse_here(arena, pass, gate, place, value, held, op))
-        }
+        Room::Found(held) => Ok(fill_here(arena, pass, gate, place, fill, held)),
+        Room::Refused(held) => Err(refuse_fill(arena, pass, gate, place, fill, held)),
     }
 }

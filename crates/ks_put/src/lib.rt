@@ -11,7 +11,7 @@ mod splits;
 mod try_fills;
 mod try_room;
 
-pub use fills::{pair_add, pair_put};
+pub use fills::pair_fill;
 pub use halves::keep_left;
 pub use laws::search_law;
 pub use path::{Path, enter, let_go, step_down};

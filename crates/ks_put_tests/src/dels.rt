@@ -7,8 +7,8 @@ use ks_flow::Tree;
 use ks_gate::NoGate;
 use ks_giveup as giveup;
 use ks_node::{Ranged, Unlinked};
-use ks_put::pair_put;
-use ks_shape::Numbered;
+use ks_put::pair_fill;
+use ks_shape::{Fill, Numbered};
 use std::sync::Wait;
 
 /// Deletes `many` places from `first` on, a stride apart, by lock coupling. Tells whether each had its own value, and the
@@ -86,7 +86,14 @@ pub(crate) fn put_each_from<N: Unlinked, R: Wait>(
     let mut right = true;
     for count in 0..many {
         let place = count.wrapping_mul(stride).wrapping_add(first);
-        let told = pair_put(rt, arena, pass, &NoGate, place, u128::from(place));
+        let told = pair_fill(
+            rt,
+            arena,
+            pass,
+            &NoGate,
+            place,
+            Fill::Put(u128::from(place)),
+        );
         right = right
             && told
                 == Ok(Numbered {

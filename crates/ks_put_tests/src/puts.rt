@@ -8,8 +8,8 @@ use ks_arena::{Arena, Pass};
 use ks_flow::Tree;
 use ks_gate::NoGate;
 use ks_node::Unlinked;
-use ks_put::{pair_add, pair_put};
-use ks_shape::Numbered;
+use ks_put::pair_fill;
+use ks_shape::{Fill, Numbered};
 use std::alloc::{AllocError, Global};
 use std::sync::Wait;
 
@@ -45,7 +45,14 @@ pub(crate) fn put_each<N: Unlinked, R: Wait>(
     let mut right = true;
     for count in 0..many {
         let place = count.wrapping_mul(stride).wrapping_add(first);
-        let told = pair_put(rt, arena, pass, &NoGate, place, u128::from(place));
+        let told = pair_fill(
+            rt,
+            arena,
+            pass,
+            &NoGate,
+            place,
+            Fill::Put(u128::from(place)),
+        );
         right = right
             && told
                 == Ok(Numbered {
@@ -72,7 +79,14 @@ pub(crate) fn add_each<N: Unlinked, R: Wait>(
     let mut right = true;
     for count in 0..many {
         let place = count.wrapping_mul(stride).wrapping_add(first);
-        let told = pair_add(rt, arena, pass, &NoGate, place, u128::from(place));
+        let told = pair_fill(
+            rt,
+            arena,
+            pass,
+            &NoGate,
+            place,
+            Fill::Add(u128::from(place)),
+        );
         right = right
             && told
                 == Ok(Numbered {

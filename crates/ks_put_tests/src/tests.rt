@@ -7,8 +7,8 @@ use ks_giveup as giveup;
 use ks_hash::HNode;
 use ks_list::ListNode;
 use ks_node::WithRange;
-use ks_put::pair_put;
-use ks_shape::{Full, Numbered};
+use ks_put::pair_fill;
+use ks_shape::{Fill, Full, Numbered};
 use std::test::Fail;
 
 /// Multiples of it come in no order.
@@ -22,9 +22,9 @@ fn told(number: u64, found: Option<u128>) -> Numbered {
 fn a_list_of_four_nodes_fills(rt: HostRuntime) -> Result<(), Fail> {
     let (arena, mut pass) = one_caller::<ListNode>(rt.alloc(), 4)?;
     assert!(rt; put_each(&rt, &arena, &mut pass, 0, 20, 1));
-    let full = pair_put(&rt, &arena, &mut pass, &NoGate, 20, 20);
+    let full = pair_fill(&rt, &arena, &mut pass, &NoGate, 20, Fill::Put(20));
     assert!(rt; full == Err(Full { number: 20 }));
-    let put = pair_put(&rt, &arena, &mut pass, &NoGate, 3, 99);
+    let put = pair_fill(&rt, &arena, &mut pass, &NoGate, 3, Fill::Put(99));
     assert!(rt; put == Ok(told(21, Some(3))));
     Ok(())
 }
@@ -33,7 +33,7 @@ fn a_list_of_four_nodes_fills(rt: HostRuntime) -> Result<(), Fail> {
 fn a_tree_of_four_nodes_fills(rt: HostRuntime) -> Result<(), Fail> {
     let (arena, mut pass) = one_caller::<BNode>(rt.alloc(), 4)?;
     assert!(rt; put_each(&rt, &arena, &mut pass, 0, 32, 1));
-    let full = pair_put(&rt, &arena, &mut pass, &NoGate, 32, 32);
+    let full = pair_fill(&rt, &arena, &mut pass, &NoGate, 32, Fill::Put(32));
     assert!(rt; full == Err(Full { number: 32 }));
     Ok(())
 }

@@ -2,6 +2,7 @@
 pub mod Beside
 pub mod Claims
 pub mod Ends
+pub mod Fills
 pub mod Makes
 pub mod OnWay
 pub mod Places

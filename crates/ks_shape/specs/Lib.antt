@@ -3,6 +3,7 @@ pub mod InHand
 pub mod SearchEnd
 pub mod OnWay
 pub mod Answers
+pub mod Fills
 pub mod Idle
 pub mod Tries
 pub mod Ends

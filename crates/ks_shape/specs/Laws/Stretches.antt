@@ -4,13 +4,17 @@ use Rattle.ks_keysets.specs.declared.Change.{Change}
 use Rattle.ks_history.specs.declared.Event.{Event}
 use Rattle.ks_history.specs.declared.Event.TheVariants.{Take, Give, Shape}
 use Rattle.ks_history.specs.declared.Op.{Op}
-use Rattle.ks_history.specs.declared.Op.TheVariants.{Put, Add}
+use Rattle.ks_history.specs.declared.Op.TheVariants as ops
 use Rattle.ks_history.specs.Trace.{◌⊑◌, hand}
 use Rattle.ks_history.specs.Passes.{GrowsByOthers, GrowsWith}
-use Rattle.ks_history.specs.Done.{Template, coupling, give_up, link_move, MayBegin, MayTake, most_held}
+use Rattle.ks_history.specs.Done.{Template, coupling, give_up, link_move, MayBegin, MayTake}
 use Rattle.ks_history.specs.Laws.Stretch.{stretch_both, stretch_here, stretch_others, stretch_give, stretch_shape, stretch_take, stretch_first, stretch_begins}
 use Rattle.ks_history.specs.Underway.{Underway}
 use Rattle.ks_history.specs.Laws.Underway.{underway_both}
+use Rattle.ks_shape.specs.declared.fills.Fill.{Fill}
+use Rattle.ks_shape.specs.declared.fills.Fill.TheVariants.{Put, Add}
+use Rattle.ks_shape.specs.Fills.{filling}
+use Rattle.ks_shape.specs.Laws.Fills.{three_to_fill}
 use Rattle.ks_shape.specs.Stretches.{Stretches}
 
 pub stretches_both : (c : ℕ) (g h k : List Event) → Stretches c g h → Stretches c h k → Stretches c g k
@@ -55,18 +59,11 @@ stretches_shape me c d {changes} h k same same' few hands shaped = λ template.
     stretch_shape template me h k changes few (omega (arith, few, ap length kept)) grows
 
 -- a put and an add go on by them
-three_to_put : (template : Template) (p v : ℕ) → 3 ≤ most_held template (Put p v)
-three_to_put coupling p v = omega arith
-three_to_put give_up p v = omega arith
-three_to_put link_move p v = omega arith
+pub fill_goes_on : (template : Template) (c p : ℕ) (fill : Fill) (s h k : List Event) → Underway template c (filling p fill) s h → Stretches c h k → Underway template c (filling p fill) s k
+fill_goes_on template c p fill s h k under so = underway_both template c (filling p fill) s h k under (so template (filling p fill) (three_to_fill template p fill))
 
-three_to_add : (template : Template) (p v : ℕ) → 3 ≤ most_held template (Add p v)
-three_to_add coupling p v = omega arith
-three_to_add give_up p v = omega arith
-three_to_add link_move p v = omega arith
+pub put_goes_on : (template : Template) (c p v : ℕ) (s h k : List Event) → Underway template c (ops.Put p v) s h → Stretches c h k → Underway template c (ops.Put p v) s k
+put_goes_on template c p v s h k under so = fill_goes_on template c p (Put v) s h k under so
 
-pub put_goes_on : (template : Template) (c p v : ℕ) (s h k : List Event) → Underway template c (Put p v) s h → Stretches c h k → Underway template c (Put p v) s k
-put_goes_on template c p v s h k under so = underway_both template c (Put p v) s h k under (so template (Put p v) (three_to_put template p v))
-
-pub add_goes_on : (template : Template) (c p v : ℕ) (s h k : List Event) → Underway template c (Add p v) s h → Stretches c h k → Underway template c (Add p v) s k
-add_goes_on template c p v s h k under so = underway_both template c (Add p v) s h k under (so template (Add p v) (three_to_add template p v))
+pub add_goes_on : (template : Template) (c p v : ℕ) (s h k : List Event) → Underway template c (ops.Add p v) s h → Stretches c h k → Underway template c (ops.Add p v) s k
+add_goes_on template c p v s h k under so = fill_goes_on template c p (Add v) s h k under so

@@ -10,4 +10,4 @@ returns-in-Some-clause-goes g c = let e = c.find_room.ensures in
 
 pub returns-in-None-clause-goes : goal.returns-in-None-clause-goes
 returns-in-None-clause-goes g c = let e = c.find_room.ensures in
-    ends_goes c.args.pass.now.caller c.find_room.new.pass.caller c.args.place (Put c.args.place c.args.value) (seen_of c.args.pass.now) (seen_of c.find_room.new.pass) (seen_of c.pair_put.new.pass) e.caller (omega (arith, ap length c.in-None.ensures.came)) e.goes c.pair_put.ensures.done
+    ends_goes c.args.pass.now.caller c.find_room.new.pass.caller c.args.place (Put c.args.place c.args.value) (seen_of c.args.pass.now) (seen_of c.find_room.new.pass) (seen_of c.pair_fill.new.pass) e.caller (omega (arith, ap length c.in-None.ensures.came)) e.goes c.pair_fill.ensures.done

@@ -10,9 +10,9 @@ use Rattle.ks_link.specs.declared.parts.Waiting.{Waiting}
 use Rattle.ks_link.specs.Leads.{LedBut}
 use Rattle.ks_link.proofs.Rooms.{bare_grows, all_later, all_wait, waits_are}
 use Rattle.ks_link.proofs.Ways.{at_level, ends_unbranched, ends_bare, ends_within, leaf_ends}
-use Rattle.ks_link.proofs.puts.make_room.Given.{Over}
-use Rattle.ks_link.proofs.puts.make_room.Goals as goal
-use Rattle.ks_link.proofs.puts.make_room.Goals.{After-node_law}
+use Rattle.ks_link.proofs.room.make_room.Given.{Over}
+use Rattle.ks_link.proofs.room.make_room.Goals as goal
+use Rattle.ks_link.proofs.room.make_room.Goals.{After-node_law}
 
 unbranched : (g : Over) (c : After-node_law g) → is_branch (g.N.Node.body c.args.held.body) ≡ false
 unbranched g c = let sort = sort_of g.N.Node.layout g.N.Node.ranged in let n : ℕ = c.args.arena.now.table.shared.table_id.slots in let h = seen_of c.args.pass.now in
