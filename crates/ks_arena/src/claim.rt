@@ -10,12 +10,25 @@ use crate::held::{Held, Pass};
 use crate::laws::sound_law;
 use crate::plays::{Claims, ClearsBit, Scans, Takes};
 use crate::steps::Steps;
-use crossbeam_utils::Backoff;
 use ks_flow::Discipline;
 use ks_node::Node;
 use std::marker::Brand;
 use std::sync::Wait;
 use std::sync::ledger::{Blank, Ledger};
+use std::{hint, thread};
+
+/// So many pauses of the processor pass between the first two looks at a turn, and between any later two twice as many as
+/// before.
+const FIRST_PAUSES: u32 = 32;
+
+/// After so many looks a caller lets others have its processor in the place of pauses.
+const LOOKS_BEFORE_YIELDING: u32 = 7;
+
+fn pause(times: u32) {
+    for _ in 0..times {
+        hint::spin_loop();
+    }
+}
 
 impl<N: Node, D: Discipline> Arena<N, D> {
     /// Takes the node once nobody else holds it. `None`: it is free.
@@ -54,18 +67,23 @@ impl<N: Node, D: Discipline> Arena<N, D> {
         unreachable!()
     }
 
-    /// Looks at the turn of a node until nobody has it.
+    /// Looks at the turn of a node until nobody has it, ever more seldom: each look takes its cache line from the holder.
     #[cold]
     #[inline(never)]
     fn watch<R: Wait>(&self, rt: &R, node: u32)
         requires { node < self.now.nodes }
     {
-        let backoff = Backoff::new();
+        let mut looks = 0;
         for _ in rt.forever() {
             if self.table.shared.peek(node as usize + 2) <= 1 {
                 return;
             }
-            backoff.snooze();
+            if looks < LOOKS_BEFORE_YIELDING {
+                pause(FIRST_PAUSES << looks);
+                looks += 1;
+            } else {
+                thread::yield_now();
+            }
         }
     }
 
