@@ -3,4 +3,5 @@ pub mod Crew
 pub mod Ended
 pub mod Kept
 pub mod Laws
+pub mod Of
 pub mod Work

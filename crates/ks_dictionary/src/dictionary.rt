@@ -9,11 +9,21 @@ ghost use Rattle.ks_arena.specs.Sound.{sort_of, Sound};
 ghost use Rattle.ks_arena.specs.Clauses.{EndsAll, noted, seen_of};
 ghost use Rattle.ks_arena.specs.Of.{HeldAlone, WasAlone, SameCaller, caller_of};
 ghost use Rattle.ks_shape.specs.Answers.{number_in, reply_in};
-ghost use Rattle.ks_shape.specs.Idle.{IsDone, IsIdle};
-ghost use Rattle.ks_shape.specs.Tries.{HasTried, HasTriedPut, IsDoneIn, MayTell, PutMayTell};
-ghost use Rattle.ks_shape.specs.Ends.{HasEndedPut};
-ghost use Rattle.ks_dictionary.specs.Crew.{AreAll, AreNew, IsNoteOf};
+ghost use Rattle.ks_shape.specs.Tries.{IsDoneIn, MayTell, PutMayTell};
 ghost use Rattle.ks_dictionary.specs.Ended.{HasEndedWith, history};
+ghost use Rattle.ks_dictionary.specs.Of.{
+  AreAllPassesOf,
+  AreNewPassesOf,
+  AreOrderedPassesOf,
+  HasCalledIn,
+  HasEndedPutIn,
+  HasTriedIn,
+  HasTriedPutIn,
+  IsIdlePassOf,
+  IsNoteFrom,
+  callers_of,
+  nodes_of,
+};
 
 use crate::closed::Closed;
 use ks_arena::{Arena, Note, Pass};
@@ -50,9 +60,10 @@ impl<N: Node, T: Ruled + Template<N, Arena<N, <T as Ruled>::Rule>>> Dictionary<N
     ) -> Result<(Dictionary<N, T>, Vec<Pass<N, T::Rule>>), AllocError>
         requires nodes { (4 ≤ nodes) × (nodes ≤ 1048576) }
         requires callers { (1 ≤ callers) × (callers ≤ 1024) }
-        ensures nodes { IfOk result (λ r. (⟦<Dictionary<N, T> as Shelf>⟧.site r.0).nodes ≡ nodes) }
-        ensures callers { IfOk result (λ r. (⟦<Dictionary<N, T> as Shelf>⟧.site r.0).callers ≡ callers) }
-        ensures passes { IfOk result (λ r. AreNew (⟦<Dictionary<N, T> as Shelf>⟧.site r.0) r.1.items) }
+        ensures nodes { IfOk result (λ r. nodes_of r.0 ≡ nodes) }
+        ensures callers { IfOk result (λ r. callers_of r.0 ≡ callers) }
+        ensures passes { IfOk result (λ r. AreNewPassesOf r.0 r.1.items) }
+        ensures order { IfOk result (λ r. AreOrderedPassesOf r.0 r.1.items) }
     {
         T::fits();
         let (arena, passes) = Arena::<N, T::Rule>::start(alloc, nodes, callers)?;
@@ -67,11 +78,11 @@ impl<N: Node, T: Ruled + Template<N, Arena<N, <T as Ruled>::Rule>>> Dictionary<N
         gate: &G,
         key: u64,
     ) -> Numbered
-        requires pass { IsIdle (⟦<Dictionary<N, T> as Shelf>⟧.site self.now) pass.old }
-        ensures pass { IsIdle (⟦<Dictionary<N, T> as Shelf>⟧.site self.now) pass.new }
+        requires pass { IsIdlePassOf self.now pass.old }
+        ensures pass { IsIdlePassOf self.now pass.new }
         ensures caller { SameCaller pass.old pass.new }
-        ensures done { IsDone N.layout T.technique (⟦<Dictionary<N, T> as Shelf>⟧.site self.now)
-            (Get (N.Places.place_of key)) pass.old pass.new (told result.found) result.number }
+        ensures done { HasCalledIn self.now T.technique (Get (N.Places.place_of key))
+            pass.old pass.new (told result.found) result.number }
     {
         T::get(rt, &self.arena, pass, gate, N::Places::place(key))
     }
@@ -91,11 +102,11 @@ impl<N: Node, T: Ruled + Template<N, Arena<N, <T as Ruled>::Rule>>> Dictionary<N
         key: u64,
         value: u128,
     ) -> Result<Numbered, Full>
-        requires pass { IsIdle (⟦<Dictionary<N, T> as Shelf>⟧.site self.now) pass.old }
-        ensures pass { IsIdle (⟦<Dictionary<N, T> as Shelf>⟧.site self.now) pass.new }
+        requires pass { IsIdlePassOf self.now pass.old }
+        ensures pass { IsIdlePassOf self.now pass.new }
         ensures caller { SameCaller pass.old pass.new }
-        ensures done { IsDone N.layout T.technique (⟦<Dictionary<N, T> as Shelf>⟧.site self.now)
-            (Put (N.Places.place_of key) value) pass.old pass.new (reply_in result) (number_in result) }
+        ensures done { HasCalledIn self.now T.technique (Put (N.Places.place_of key) value)
+            pass.old pass.new (reply_in result) (number_in result) }
     {
         T::put(rt, &self.arena, pass, gate, N::Places::place(key), value)
     }
@@ -113,11 +124,11 @@ impl<N: Node, T: Ruled + Template<N, Arena<N, <T as Ruled>::Rule>>> Dictionary<N
         key: u64,
         value: u128,
     ) -> Result<Numbered, Full>
-        requires pass { IsIdle (⟦<Dictionary<N, T> as Shelf>⟧.site self.now) pass.old }
-        ensures pass { IsIdle (⟦<Dictionary<N, T> as Shelf>⟧.site self.now) pass.new }
+        requires pass { IsIdlePassOf self.now pass.old }
+        ensures pass { IsIdlePassOf self.now pass.new }
         ensures caller { SameCaller pass.old pass.new }
-        ensures done { IsDone N.layout T.technique (⟦<Dictionary<N, T> as Shelf>⟧.site self.now)
-            (Add (N.Places.place_of key) value) pass.old pass.new (reply_in result) (number_in result) }
+        ensures done { HasCalledIn self.now T.technique (Add (N.Places.place_of key) value)
+            pass.old pass.new (reply_in result) (number_in result) }
     {
         T::add(rt, &self.arena, pass, gate, N::Places::place(key), value)
     }
@@ -133,11 +144,11 @@ impl<N: Node, T: Ruled + Template<N, Arena<N, <T as Ruled>::Rule>>> Dictionary<N
         old: u128,
         new: u128,
     ) -> Numbered
-        requires pass { IsIdle (⟦<Dictionary<N, T> as Shelf>⟧.site self.now) pass.old }
-        ensures pass { IsIdle (⟦<Dictionary<N, T> as Shelf>⟧.site self.now) pass.new }
+        requires pass { IsIdlePassOf self.now pass.old }
+        ensures pass { IsIdlePassOf self.now pass.new }
         ensures caller { SameCaller pass.old pass.new }
-        ensures done { IsDone N.layout T.technique (⟦<Dictionary<N, T> as Shelf>⟧.site self.now)
-            (Swap (N.Places.place_of key) old new) pass.old pass.new (told result.found) result.number }
+        ensures done { HasCalledIn self.now T.technique (Swap (N.Places.place_of key) old new)
+            pass.old pass.new (told result.found) result.number }
     {
         T::swap(rt, &self.arena, pass, gate, N::Places::place(key), old, new)
     }
@@ -150,11 +161,11 @@ impl<N: Node, T: Ruled + Template<N, Arena<N, <T as Ruled>::Rule>>> Dictionary<N
         gate: &G,
         key: u64,
     ) -> Numbered
-        requires pass { IsIdle (⟦<Dictionary<N, T> as Shelf>⟧.site self.now) pass.old }
-        ensures pass { IsIdle (⟦<Dictionary<N, T> as Shelf>⟧.site self.now) pass.new }
+        requires pass { IsIdlePassOf self.now pass.old }
+        ensures pass { IsIdlePassOf self.now pass.new }
         ensures caller { SameCaller pass.old pass.new }
-        ensures done { IsDone N.layout T.technique (⟦<Dictionary<N, T> as Shelf>⟧.site self.now)
-            (Del (N.Places.place_of key)) pass.old pass.new (told result.found) result.number }
+        ensures done { HasCalledIn self.now T.technique (Del (N.Places.place_of key))
+            pass.old pass.new (told result.found) result.number }
     {
         T::del(rt, &self.arena, pass, gate, N::Places::place(key))
     }
@@ -174,11 +185,10 @@ impl<N: Node, T: Ruled + Template<N, Arena<N, <T as Ruled>::Rule>>> Dictionary<N
         gate: &G,
         key: u64,
     ) -> Result<Numbered, Later>
-        requires pass { IsIdle (⟦<Dictionary<N, T> as Shelf>⟧.site self.now) pass.old }
-        ensures pass { IsIdle (⟦<Dictionary<N, T> as Shelf>⟧.site self.now) pass.new }
+        requires pass { IsIdlePassOf self.now pass.old }
+        ensures pass { IsIdlePassOf self.now pass.new }
         ensures caller { SameCaller pass.old pass.new }
-        ensures tried { HasTried N.layout T.technique (⟦<Dictionary<N, T> as Shelf>⟧.site self.now)
-            (Get (N.Places.place_of key)) pass.old pass.new result }
+        ensures tried { HasTriedIn self.now T.technique (Get (N.Places.place_of key)) pass.old pass.new result }
         ensures never { MayTell T.technique result }
         ensures alone { WasAlone pass.old pass.new → HeldAlone pass.old → IsTrue (is_ok result) }
     {
@@ -201,14 +211,12 @@ impl<N: Node, T: Ruled + Template<N, Arena<N, <T as Ruled>::Rule>>> Dictionary<N
         key: u64,
         value: u128,
     ) -> Result<Numbered, PutLater>
-        requires pass { IsIdle (⟦<Dictionary<N, T> as Shelf>⟧.site self.now) pass.old }
-        ensures pass { IsIdle (⟦<Dictionary<N, T> as Shelf>⟧.site self.now) pass.new }
+        requires pass { IsIdlePassOf self.now pass.old }
+        ensures pass { IsIdlePassOf self.now pass.new }
         ensures caller { SameCaller pass.old pass.new }
-        ensures ends { HasEndedPut N.layout T.technique (⟦<Dictionary<N, T> as Shelf>⟧.site self.now)
-            (Put (N.Places.place_of key) value) pass.old pass.new result }
+        ensures ends { HasEndedPutIn self.now T.technique (Put (N.Places.place_of key) value) pass.old pass.new result }
         ensures tried { N.in_place ≡ false →
-            HasTriedPut N.layout T.technique (⟦<Dictionary<N, T> as Shelf>⟧.site self.now)
-            (Put (N.Places.place_of key) value) pass.old pass.new result }
+            HasTriedPutIn self.now T.technique (Put (N.Places.place_of key) value) pass.old pass.new result }
         ensures never { PutMayTell T.technique result }
         ensures alone { N.in_place ≡ false →
             WasAlone pass.old pass.new → HeldAlone pass.old → IsDoneIn result }
@@ -229,14 +237,12 @@ impl<N: Node, T: Ruled + Template<N, Arena<N, <T as Ruled>::Rule>>> Dictionary<N
         key: u64,
         value: u128,
     ) -> Result<Numbered, PutLater>
-        requires pass { IsIdle (⟦<Dictionary<N, T> as Shelf>⟧.site self.now) pass.old }
-        ensures pass { IsIdle (⟦<Dictionary<N, T> as Shelf>⟧.site self.now) pass.new }
+        requires pass { IsIdlePassOf self.now pass.old }
+        ensures pass { IsIdlePassOf self.now pass.new }
         ensures caller { SameCaller pass.old pass.new }
-        ensures ends { HasEndedPut N.layout T.technique (⟦<Dictionary<N, T> as Shelf>⟧.site self.now)
-            (Add (N.Places.place_of key) value) pass.old pass.new result }
+        ensures ends { HasEndedPutIn self.now T.technique (Add (N.Places.place_of key) value) pass.old pass.new result }
         ensures tried { N.in_place ≡ false →
-            HasTriedPut N.layout T.technique (⟦<Dictionary<N, T> as Shelf>⟧.site self.now)
-            (Add (N.Places.place_of key) value) pass.old pass.new result }
+            HasTriedPutIn self.now T.technique (Add (N.Places.place_of key) value) pass.old pass.new result }
         ensures never { PutMayTell T.technique result }
         ensures alone { N.in_place ≡ false →
             WasAlone pass.old pass.new → HeldAlone pass.old → IsDoneIn result }
@@ -258,11 +264,10 @@ impl<N: Node, T: Ruled + Template<N, Arena<N, <T as Ruled>::Rule>>> Dictionary<N
         old: u128,
         new: u128,
     ) -> Result<Numbered, Later>
-        requires pass { IsIdle (⟦<Dictionary<N, T> as Shelf>⟧.site self.now) pass.old }
-        ensures pass { IsIdle (⟦<Dictionary<N, T> as Shelf>⟧.site self.now) pass.new }
+        requires pass { IsIdlePassOf self.now pass.old }
+        ensures pass { IsIdlePassOf self.now pass.new }
         ensures caller { SameCaller pass.old pass.new }
-        ensures tried { HasTried N.layout T.technique (⟦<Dictionary<N, T> as Shelf>⟧.site self.now)
-            (Swap (N.Places.place_of key) old new) pass.old pass.new result }
+        ensures tried { HasTriedIn self.now T.technique (Swap (N.Places.place_of key) old new) pass.old pass.new result }
         ensures never { MayTell T.technique result }
         ensures alone { WasAlone pass.old pass.new → HeldAlone pass.old → IsTrue (is_ok result) }
     {
@@ -282,11 +287,10 @@ impl<N: Node, T: Ruled + Template<N, Arena<N, <T as Ruled>::Rule>>> Dictionary<N
         gate: &G,
         key: u64,
     ) -> Result<Numbered, Later>
-        requires pass { IsIdle (⟦<Dictionary<N, T> as Shelf>⟧.site self.now) pass.old }
-        ensures pass { IsIdle (⟦<Dictionary<N, T> as Shelf>⟧.site self.now) pass.new }
+        requires pass { IsIdlePassOf self.now pass.old }
+        ensures pass { IsIdlePassOf self.now pass.new }
         ensures caller { SameCaller pass.old pass.new }
-        ensures tried { HasTried N.layout T.technique (⟦<Dictionary<N, T> as Shelf>⟧.site self.now)
-            (Del (N.Places.place_of key)) pass.old pass.new result }
+        ensures tried { HasTriedIn self.now T.technique (Del (N.Places.place_of key)) pass.old pass.new result }
         ensures never { MayTell T.technique result }
         ensures alone { WasAlone pass.old pass.new → HeldAlone pass.old → IsTrue (is_ok result) }
     {
@@ -296,11 +300,11 @@ impl<N: Node, T: Ruled + Template<N, Arena<N, <T as Ruled>::Rule>>> Dictionary<N
 
     /// A note of what the pass has seen, for another caller to learn. It makes no event.
     pub fn note(&self, pass: &mut Pass<N, T::Rule>) -> Note<N, T::Rule>
-        requires { IsIdle (⟦<Dictionary<N, T> as Shelf>⟧.site self.now) pass.old }
-        ensures pass { IsIdle (⟦<Dictionary<N, T> as Shelf>⟧.site self.now) pass.new }
+        requires { IsIdlePassOf self.now pass.old }
+        ensures pass { IsIdlePassOf self.now pass.new }
         ensures caller { SameCaller pass.old pass.new }
         ensures seen { seen_of pass.new ≡ seen_of pass.old }
-        ensures note { IsNoteOf (⟦<Dictionary<N, T> as Shelf>⟧.site self.now) result }
+        ensures note { IsNoteFrom self.now result }
         ensures noted { noted result ≡ seen_of pass.old }
     {
         self.arena.note(pass)
@@ -309,9 +313,9 @@ impl<N: Node, T: Ruled + Template<N, Arena<N, <T as Ruled>::Rule>>> Dictionary<N
     /// From now on the pass has seen what the note has, beside what it had seen itself: a call that it makes now stands
     /// after both in the history. It makes no event.
     pub fn learn(&self, pass: &mut Pass<N, T::Rule>, note: Note<N, T::Rule>)
-        requires pass { IsIdle (⟦<Dictionary<N, T> as Shelf>⟧.site self.now) pass.old }
-        requires note { IsNoteOf (⟦<Dictionary<N, T> as Shelf>⟧.site self.now) note }
-        ensures pass { IsIdle (⟦<Dictionary<N, T> as Shelf>⟧.site self.now) pass.new }
+        requires pass { IsIdlePassOf self.now pass.old }
+        requires note { IsNoteFrom self.now note }
+        ensures pass { IsIdlePassOf self.now pass.new }
         ensures caller { SameCaller pass.old pass.new }
         ensures noted { noted note ⊑ seen_of pass.new }
         ensures own { GrowsByOthers (caller_of pass.old) (seen_of pass.old) (seen_of pass.new) }
@@ -321,13 +325,13 @@ impl<N: Node, T: Ruled + Template<N, Arena<N, <T as Ruled>::Rule>>> Dictionary<N
 
     /// Ends the dictionary. The passes are all that `start` gave, and hold no node.
     pub fn close(self, passes: Vec<Pass<N, T::Rule>>) -> Closed<N>
-        requires { AreAll (⟦<Dictionary<N, T> as Shelf>⟧.site self) passes.items }
+        requires { AreAllPassesOf self passes.items }
         ensures ended { HasEndedWith (sort_of N.layout N.ranged) N.body
-            (⟦<Dictionary<N, T> as Shelf>⟧.site self).nodes result }
+            (nodes_of self) result }
         ensures sound { Sound (sort_of N.layout N.ranged) T.Rule.begins T.Rule.step
-            (⟦<Dictionary<N, T> as Shelf>⟧.site self).nodes (history result) }
+            (nodes_of self) (history result) }
         ensures seen { EndsAll (history result) passes.items }
-        ensures callers { CallersBelow (⟦<Dictionary<N, T> as Shelf>⟧.site self).callers (history result) }
+        ensures callers { CallersBelow (callers_of self) (history result) }
     {
         let Dictionary { arena } = self;
         Closed {

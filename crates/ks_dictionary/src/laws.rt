@@ -9,9 +9,10 @@ ghost use Rattle.ks_history.specs.Map.{Legal, told};
 ghost use Rattle.ks_history.specs.Trace.{◌⊑◌, calls_of};
 ghost use Rattle.ks_arena.specs.Sound.{sort_of};
 ghost use Rattle.ks_arena.specs.Clauses.{seen_of};
-ghost use Rattle.ks_shape.specs.Idle.{IsIdle};
 ghost use Rattle.ks_dictionary.specs.Ended.{HasEnded, history};
 ghost use Rattle.ks_dictionary.specs.Kept.{AddedOnce, FindsPut};
+ghost use Rattle.ks_dictionary.specs.Crew.{AreReplaced};
+ghost use Rattle.ks_dictionary.specs.Of.{AreAllPassesOf, AreOrderedPassesOf, IsIdlePassOf, site_of};
 
 use crate::closed::Closed;
 use crate::dictionary::Dictionary;
@@ -19,17 +20,25 @@ use ks_arena::Pass;
 use ks_arena::laws::sound_law;
 use ks_history::keyset_theorem;
 use ks_node::Node;
-use ks_shape::{Ruled, Shelf};
+use ks_shape::Ruled;
 
 impl<N: Node, T: Ruled> Dictionary<N, T> {
     /// What a pass has seen is a legal history of a map.
     pub fn seen_law(&self, pass: &Pass<N, T::Rule>)
-        requires { IsIdle (⟦<Dictionary<N, T> as Shelf>⟧.site self.now) pass.now }
+        requires { IsIdlePassOf self.now pass.now }
         ensures { Legal (calls_of (seen_of pass.now)) }
     {
         sound_law::<T::Rule>();
         keyset_theorem();
     }
+
+    /// Passes in their order are those of all callers; and passes that were, in whose places idle passes of the same callers
+    /// stand, are so still.
+    pub fn passes_law(&self)
+        ensures ordered { (passes : List _) → AreOrderedPassesOf self.now passes → AreAllPassesOf self.now passes }
+        ensures replaced { (before after : List _) → AreAllPassesOf self.now before →
+            AreReplaced (site_of self.now) before after → AreAllPassesOf self.now after }
+    {}
 }
 
 impl<N: Node> Closed<N> {
@@ -39,6 +48,15 @@ impl<N: Node> Closed<N> {
         ensures { Legal (calls_of (history self.now)) }
     {
         keyset_theorem();
+    }
+
+    /// In a dictionary that has ended an add found nothing at most once at a place, until a call removed what it added.
+    pub fn once_law(&self)
+        requires { HasEnded (sort_of N.layout N.ranged) N.body self.now }
+        ensures { AddedOnce (calls_of (history self.now)) }
+    {
+        self.history_law();
+        once_law();
     }
 }
 

@@ -1,6 +1,6 @@
 //! Merging all over a dictionary.
 ghost use Rattle.std.specs.Prelude.{◌≡◌};
-ghost use Rattle.ks_shape.specs.Idle.{IsIdle};
+ghost use Rattle.ks_dictionary.specs.Of.{IsIdlePassOf, site_of};
 ghost use Rattle.ks_tidy.specs.Compacts.{HasFreed, HasLeftBy, IsTightIn, WasUndisturbed};
 ghost use Rattle.ks_arena.specs.Of.{SameCaller};
 
@@ -8,7 +8,7 @@ use crate::dictionary::Dictionary;
 use ks_arena::{Arena, Pass};
 use ks_gate::Gate;
 use ks_node::Node;
-use ks_shape::{Ruled, Shelf};
+use ks_shape::Ruled;
 use ks_tidy::Compacting;
 use std::sync::Wait;
 
@@ -18,13 +18,13 @@ impl<N: Node, T: Ruled + Compacting<N, Arena<N, <T as Ruled>::Rule>>> Dictionary
     /// anything meanwhile and it made none free, no node fits with its right neighbour, and the root is no branch over one
     /// child; so a caller that is alone repeats it until it answers 0.
     pub fn compact<R: Wait, G: Gate>(&self, rt: &R, pass: &mut Pass<N, T::Rule>, gate: &G) -> u32
-        requires pass { IsIdle (⟦<Dictionary<N, T> as Shelf>⟧.site self.now) pass.old }
-        ensures pass { IsIdle (⟦<Dictionary<N, T> as Shelf>⟧.site self.now) pass.new }
+        requires pass { IsIdlePassOf self.now pass.old }
+        ensures pass { IsIdlePassOf self.now pass.new }
         ensures caller { SameCaller pass.old pass.new }
         ensures left { HasLeftBy T.technique pass.old pass.new }
         ensures frees { HasFreed pass.old pass.new result }
         ensures tight { WasUndisturbed pass.old pass.new →
-            IsTightIn (⟦<Dictionary<N, T> as Shelf>⟧.site self.now) pass.new }
+            IsTightIn (site_of self.now) pass.new }
     {
         T::compact(rt, &self.arena, pass, gate)
     }

@@ -5,8 +5,8 @@ ghost use Rattle.ks_history.specs.Lawful.{Lawful, GoodThroughout};
 ghost use Rattle.ks_history.specs.Served.{Served};
 ghost use Rattle.ks_arena.specs.Sound.{sort_of};
 ghost use Rattle.ks_dictionary.specs.Called.{HaveCalled};
-ghost use Rattle.ks_dictionary.specs.Crew.{AreNew};
 ghost use Rattle.ks_dictionary.specs.Ended.{HasEndedWith, history};
+ghost use Rattle.ks_dictionary.specs.Of.{AreNewPassesOf, nodes_of, site_of};
 ghost use Rattle.ks_dictionary.specs.Work.{AreAbout};
 
 use crate::about::About;
@@ -18,7 +18,7 @@ use ks_arena::{Arena, Pass, RunTrace};
 use ks_gate::Gate;
 use ks_history::{Op, Reply, keyset_theorem};
 use ks_node::Node;
-use ks_shape::{Ruled, Shelf, Template};
+use ks_shape::{Ruled, Template};
 use ks_tickets::Tickets;
 use std::alloc::{AllocError, Global};
 use std::marker::{Brand, PhantomData};
@@ -122,15 +122,15 @@ fn serve_jobs<
 ) -> Result<(Closed<N>, Vec<Vec<(u64, Reply)>>), AllocError>
 where
     N::Places: Send + Sync,
-    requires about { AreAbout (⟦<Dictionary<N, T> as Shelf>⟧.site dictionary) W.table W.callers W.nodes }
+    requires about { AreAbout (site_of dictionary) W.table W.callers W.nodes }
     requires scripts { W.scripts ≡ map (λ v. v.items) scripts.items }
-    requires crew { AreNew (⟦<Dictionary<N, T> as Shelf>⟧.site dictionary) passes.items }
+    requires crew { AreNewPassesOf dictionary passes.items }
     requires even { length passes.items ≡ length scripts.items }
     requires some { 0 < length scripts.items }
     requires few { length scripts.items ≤ 1024 }
     requires workers { (1 ≤ workers) × (workers ≤ 64) }
     ensures ended { IfOk result (λ r. HasEndedWith (sort_of N.layout N.ranged) N.body
-        (⟦<Dictionary<N, T> as Shelf>⟧.site dictionary).nodes r.0) }
+        (nodes_of dictionary) r.0) }
     ensures called { IfOk result (λ r. HaveCalled N.Places.place_of (map (λ v. v.items) scripts.items)
         (map (λ v. v.items) r.1.items) (history r.0)) }
 {

@@ -5,11 +5,9 @@ ghost use Rattle.ks_history.specs.Map.{told};
 ghost use Rattle.ks_history.specs.Trace.{calls_by};
 ghost use Rattle.ks_history.specs.Calls.{numbered};
 ghost use Rattle.ks_history.specs.Served.{at_place};
-ghost use Rattle.ks_arena.specs.Sound.{sort_of};
 ghost use Rattle.ks_arena.specs.Clauses.{seen_of};
 ghost use Rattle.ks_shape.specs.Answers.{number_in, reply_in};
-ghost use Rattle.ks_shape.specs.Idle.{IsIdle};
-ghost use Rattle.ks_dictionary.specs.Crew.{site_with};
+ghost use Rattle.ks_dictionary.specs.Of.{IsIdlePassOf, site_of};
 ghost use Rattle.ks_dictionary.specs.Work.{AreAbout, HasAnswered, HasAsked, HasRun, IsReadyJob};
 ghost use Rattle.ks_tickets.specs.Clauses.{HasEnded, IsFree, IsSameDesk};
 ghost use Rattle.ks_arena.specs.Of.{SameCaller, caller_of};
@@ -21,7 +19,7 @@ use ks_arena::{Arena, Pass};
 use ks_gate::Gate;
 use ks_history::{Op, Reply};
 use ks_node::Node;
-use ks_shape::{Full, Numbered, Ruled, Shelf, Template, reply_of};
+use ks_shape::{Full, Numbered, Ruled, Template, reply_of};
 use ks_tickets::{Desk, Tickets};
 use std::sync::Wait;
 use std::thread::{Threads, for_each_mut};
@@ -52,8 +50,8 @@ fn call<N: Node, T: Ruled + Template<N, Arena<N, <T as Ruled>::Rule>>, R: Wait, 
     pass: &mut Pass<N, T::Rule>,
     op: Op,
 ) -> (u64, Reply)
-    requires { IsIdle (⟦<Dictionary<N, T> as Shelf>⟧.site dictionary.now) pass.old }
-    ensures pass { IsIdle (⟦<Dictionary<N, T> as Shelf>⟧.site dictionary.now) pass.new }
+    requires { IsIdlePassOf dictionary.now pass.old }
+    ensures pass { IsIdlePassOf dictionary.now pass.new }
     ensures caller { SameCaller pass.old pass.new }
     ensures calls { calls_by (caller_of pass.old) (seen_of pass.new)
         ≡ calls_by (caller_of pass.old) (seen_of pass.old) ++ numbered result.0 (at_place N.Places.place_of op) result.1 ∷ [] }
@@ -76,9 +74,9 @@ fn call_each<N: Node, T: Ruled + Template<N, Arena<N, <T as Ruled>::Rule>>, R: W
     ops: &[Op],
     lines: &mut [(u64, Reply)],
 )
-    requires pass { IsIdle (⟦<Dictionary<N, T> as Shelf>⟧.site dictionary.now) pass.old }
+    requires pass { IsIdlePassOf dictionary.now pass.old }
     requires room { length lines.old ≡ length ops.now }
-    ensures pass { IsIdle (⟦<Dictionary<N, T> as Shelf>⟧.site dictionary.now) pass.new }
+    ensures pass { IsIdlePassOf dictionary.now pass.new }
     ensures caller { SameCaller pass.old pass.new }
     ensures asked { HasAsked (caller_of pass.old) (seen_of pass.old) (seen_of pass.new) (map (at_place N.Places.place_of) ops.now) }
     ensures told { HasAnswered (caller_of pass.old) (seen_of pass.old) (seen_of pass.new) lines.new }
@@ -95,8 +93,8 @@ fn run_job<N: Node, T: Ruled + Template<N, Arena<N, <T as Ruled>::Rule>>, R: Wai
     gate: &G,
     job: &mut Job<N, T::Rule, W>,
 )
-    requires { IsReadyJob (⟦<Dictionary<N, T> as Shelf>⟧.site dictionary.now) job.old }
-    ensures { HasRun (⟦<Dictionary<N, T> as Shelf>⟧.site dictionary.now) N.Places.place_of job.old job.new }
+    requires { IsReadyJob (site_of dictionary.now) job.old }
+    ensures { HasRun (site_of dictionary.now) N.Places.place_of job.old job.new }
 {
     call_each(
         rt,
@@ -122,7 +120,7 @@ fn work_at<
     tickets: &Tickets<Job<N, T::Rule, W>>,
     desk: &mut Desk<Job<N, T::Rule, W>>,
 )
-    requires about { AreAbout (⟦<Dictionary<N, T> as Shelf>⟧.site dictionary.now) W.table W.callers W.nodes }
+    requires about { AreAbout (site_of dictionary.now) W.table W.callers W.nodes }
     requires desk { IsFree tickets.now desk.old }
     ensures ended { HasEnded tickets.now desk.new }
     ensures same { IsSameDesk desk.old desk.new }
@@ -151,7 +149,7 @@ pub fn work<
 where
     N::Places: Send + Sync,
     requires some { 0 < length desks.old }
-    requires about { AreAbout (⟦<Dictionary<N, T> as Shelf>⟧.site dictionary.now) W.table W.callers W.nodes }
+    requires about { AreAbout (site_of dictionary.now) W.table W.callers W.nodes }
     requires free { All (λ desk. IsFree tickets.now desk) desks.old }
     ensures count { length desks.new ≡ length desks.old }
     ensures ended { (i : ℕ) (d : _) → i < length desks.old → HasEnded tickets.now (slice_index_or desks.new i d) }
@@ -164,9 +162,7 @@ where
         desks,
         threads,
         &|_: usize, desk: &mut Desk<Job<N, T::Rule, W>>|
-            requires about { AreAbout (site_with (sort_of N.layout N.ranged) T.Rule.begins T.Rule.step
-                dictionary.now.arena.table.shared.table_id dictionary.now.arena.callers dictionary.now.arena.nodes)
-                W.table W.callers W.nodes }
+            requires about { AreAbout (site_of dictionary.now) W.table W.callers W.nodes }
             requires desk { IsFree tickets.now desk.old }
             ensures ended { HasEnded tickets.entry.now desk.new }
             ensures same { IsSameDesk desk.old desk.new }

@@ -8,6 +8,7 @@ use Rattle.ks_tickets.specs.Laws.Ended.{all_free, each_ended}
 use Rattle.ks_dictionary.specs.Crew.{site_with}
 use Rattle.ks_dictionary.specs.declared.job.Job.{Job}
 use Rattle.ks_dictionary.specs.Ended.{history}
+use Rattle.ks_dictionary.specs.Of.{site_of}
 use Rattle.ks_dictionary.specs.Work.{FinishedAs, WaitsAs}
 use Rattle.ks_dictionary.proofs.Joined.{all_wait, as_about, at_arena, is_crew, have_called, map_both, written}
 use Rattle.ks_dictionary.proofs.serving.serve_jobs.Goals as goal
@@ -15,7 +16,7 @@ use Rattle.ks_dictionary.proofs.serving.serve_jobs.Given.{Over}
 use Rattle.ks_dictionary.proofs.serving.serve_jobs.Goals.{In_ok-jobs}
 
 abbrev site : (g : Over) → In_ok-jobs g → Site
-site g c = site_with (sort_of g.N.Node.layout g.N.Node.ranged) g.T.Rule.Discipline.begins g.T.Rule.Discipline.step c.args.dictionary.arena.table.shared.table_id c.args.dictionary.arena.callers c.args.dictionary.arena.nodes
+site g c = site_of c.args.dictionary
 
 -- there is a job for each script
 many : (g : Over) (c : In_ok-jobs g) → length c.in_ok-jobs.jobs.items ≡ length c.args.scripts.items

@@ -1,13 +1,13 @@
-use Rattle.ks_arena.specs.Sound.{sort_of}
 use Rattle.ks_shape.specs.Idle.{Site}
 use Rattle.ks_dictionary.specs.Ended.{history}
+use Rattle.ks_dictionary.specs.Of.{site_of}
 use Rattle.ks_dictionary.proofs.Joined.{new_crew, nobody}
 use Rattle.ks_dictionary.proofs.serving.serve_nobody.Goals as goal
 use Rattle.ks_dictionary.proofs.serving.serve_nobody.Given.{Over}
 use Rattle.ks_dictionary.proofs.serving.serve_nobody.Goals.{In_ok-dictionary}
 
 abbrev site : (g : Over) → In_ok-dictionary g → Site
-site g c = record { sort = sort_of g.N.Node.layout g.N.Node.ranged; begins = g.T.Rule.Discipline.begins; step = g.T.Rule.Discipline.step; table = c.in_ok-dictionary.dictionary.arena.table.shared.table_id; callers = c.in_ok-dictionary.dictionary.arena.callers; nodes = c.in_ok-dictionary.dictionary.arena.nodes }
+site g c = site_of c.in_ok-dictionary.dictionary
 
 pub close-requires-after_bounds : goal.close-requires-after_bounds
 close-requires-after_bounds g c κs within = new_crew (site g c) c.in_ok-dictionary.passes.items c.in_ok-dictionary.ensures.passes

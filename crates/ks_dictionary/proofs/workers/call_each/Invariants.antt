@@ -1,21 +1,13 @@
 use Rattle.std.proofs.Common.{◌≡◌, map, take, length}
 use Rattle.ks_history.specs.Served.{at_place}
-use Rattle.ks_arena.specs.Sound.{sort_of}
 use Rattle.ks_arena.specs.Clauses.{seen_of}
-use Rattle.ks_shape.specs.Idle.{IsIdle}
+use Rattle.ks_dictionary.specs.Of.{IsIdlePassOf}
 use Rattle.ks_dictionary.specs.Work.{HasAnswered, HasAsked}
 use Rattle.ks_dictionary.proofs.workers.call_each.Given as goal
 
 abbrev pub invariant-loop-at : goal.invariant-loop-at
 invariant-loop-at g l = record {
-  pass : IsIdle (record {
-    sort = sort_of g.N.Node.layout g.N.Node.ranged;
-    begins = g.T.Rule.Discipline.begins;
-    step = g.T.Rule.Discipline.step;
-    table = l.dictionary.arena.table.shared.table_id;
-    callers = l.dictionary.arena.callers;
-    nodes = l.dictionary.arena.nodes;
-  }) l.pass;
+  pass : IsIdlePassOf l.dictionary l.pass;
   caller : l.pass.caller ≡ l.fn.pass.caller;
   long : length l.lines ≡ length l.ops;
   asked : HasAsked l.fn.pass.caller (seen_of l.fn.pass) (seen_of l.pass) (map (at_place g.N.Places.Placing.place_of) (take l.at l.ops));
