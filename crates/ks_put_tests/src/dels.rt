@@ -86,14 +86,8 @@ pub(crate) fn put_each_from<N: Unlinked, R: Wait>(
     let mut right = true;
     for count in 0..many {
         let place = count.wrapping_mul(stride).wrapping_add(first);
-        let told = pair_fill(
-            rt,
-            arena,
-            pass,
-            &NoGate,
-            place,
-            Fill::Put(u128::from(place)),
-        );
+        let fill = Fill::Put(u128::from(place));
+        let told = pair_fill(rt, arena, pass, &NoGate, place, fill);
         right = right
             && told
                 == Ok(Numbered {

@@ -45,14 +45,8 @@ pub(crate) fn put_each<N: Unlinked, R: Wait>(
     let mut right = true;
     for count in 0..many {
         let place = count.wrapping_mul(stride).wrapping_add(first);
-        let told = pair_fill(
-            rt,
-            arena,
-            pass,
-            &NoGate,
-            place,
-            Fill::Put(u128::from(place)),
-        );
+        let fill = Fill::Put(u128::from(place));
+        let told = pair_fill(rt, arena, pass, &NoGate, place, fill);
         right = right
             && told
                 == Ok(Numbered {
@@ -79,14 +73,8 @@ pub(crate) fn add_each<N: Unlinked, R: Wait>(
     let mut right = true;
     for count in 0..many {
         let place = count.wrapping_mul(stride).wrapping_add(first);
-        let told = pair_fill(
-            rt,
-            arena,
-            pass,
-            &NoGate,
-            place,
-            Fill::Add(u128::from(place)),
-        );
+        let fill = Fill::Add(u128::from(place));
+        let told = pair_fill(rt, arena, pass, &NoGate, place, fill);
         right = right
             && told
                 == Ok(Numbered {
