@@ -1,7 +1,6 @@
 -- Descents of calls that wait for nobody: how many nodes a caller took since its call began, and how deep it stands.
 use Rattle.std.proofs.Common.{ℕ, List, []}
 use Rattle.ks_history.specs.declared.Event.{Event}
-use Rattle.ks_history.specs.declared.Event.TheVariants.{Shape}
 use Rattle.ks_history.specs.Descent.{IsDeep, TookSince}
 
 -- since s0 caller c took so many nodes at least, the root so often at most, and node i lies so many steps deep, unless

@@ -1,5 +1,5 @@
 -- Puts and adds as one operation.
-use Rattle.std.proofs.Common.{◌≡◌, ◌≤◌, ℕ, List, refl, arith}
+use Rattle.std.proofs.Common.{◌≤◌, ℕ, List, refl, arith}
 use Rattle.std.specs.Prelude.{Result, Ok, Err}
 use Rattle.ks_keysets.specs.Layout.{Layout}
 use Rattle.ks_history.specs.declared.Event.{Event}
