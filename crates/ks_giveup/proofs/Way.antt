@@ -17,6 +17,10 @@ use Rattle.ks_history.specs.Laws.Stays.{AreInTurn}
 use Rattle.ks_history.specs.Done.{Template, coupling, HoldsAbove, MayTake, first_taken, from_above, TakesWell, Done, Hands, at_first as hands_first, and_on as hands_on}
 use Rattle.ks_history.specs.Underway.{Underway}
 use Rattle.ks_history.specs.Laws.Underway.{underway_here}
+use Rattle.ks_node.specs.Body.{Body}
+use Rattle.ks_arena.specs.declared.held.Held.{Held as Hand}
+use Rattle.ks_arena.specs.Sound.{Sort}
+use Rattle.ks_arena.specs.Clauses.{HasTaken}
 use Rattle.ks_shape.specs.Laws.Single.{one_may}
 use Rattle.ks_giveup.specs.Goes.{IsHinted, MayVisit, GoesWell, Goes, at_first, and_on}
 
@@ -74,6 +78,10 @@ may_later c p i g h so (inr x) = inr (record {
   had = x.had;
   leads = x.leads;
 })
+
+-- a node is taken as it may be visited
+pub visited : {N : Type 0} (sort : Sort) (shows : N → Body) (c p i : ℕ) (h k : List Event) (x : Hand N) → MayVisit c p i h → HasTaken sort shows c i h k x → Goes c p h k
+visited sort shows c p i h k x may took = goes_with c p (Take c i) h h k took.grows (λ same. inl (may_later c p i h (took.grows.rest ++ h) (with_others c (Take c i) h k took.grows) may)) at_first
 
 -- the node that is given hints at the one to which its edge leads
 pub hints : (c p i j : ℕ) (g h : List Event) (r : Record) → AreInTurn h → turn_after g j ≡ held c → record_at (graph_after g) j ≡ Some r → LeadsTo r p i → GrowsWith c (Give c j) g h → IsHinted c p i h

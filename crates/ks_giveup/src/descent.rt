@@ -1,5 +1,6 @@
 //! The way from the root to the node where a search ends, which begins again where it was led astray.
 ghost use Rattle.std.specs.Prelude.{◌≡◌};
+ghost use Rattle.ks_history.specs.declared.Event.TheVariants.{Give};
 ghost use Rattle.ks_history.specs.Done.{give_up};
 ghost use Rattle.ks_node.specs.declared.start.Next.TheVariants.{Go};
 ghost use Rattle.ks_node.specs.Body.{next_at};
@@ -7,7 +8,7 @@ ghost use Rattle.ks_arena.specs.Sound.{sort_of};
 ghost use Rattle.ks_arena.specs.Clauses.{seen_of};
 ghost use Rattle.ks_giveup.specs.Descent.{Came, CameToRoom};
 ghost use Rattle.ks_giveup.specs.Goes.{GoesTowards, MayVisitNext};
-ghost use Rattle.ks_arena.specs.Of.{IsPassOf, IsEmptyPassOf, IsNodeOf, SameCaller, caller_of};
+ghost use Rattle.ks_arena.specs.Of.{Adds, IsPassOf, IsEmptyPassOf, IsNodeOf, SameCaller, caller_of};
 ghost use Rattle.ks_shape.specs.Of.{IsUnderway, StaysUnderway, IsOnWayOf, SearchEndsAt};
 
 use ks_arena::laws::sound_law;
@@ -50,7 +51,7 @@ fn visit<N: Ranged + Unlinked, R: Wait, G: Gate>(
 }
 
 /// Gives the node, whose edge hints at the one to which the search goes on.
-fn leave<N: Ranged + Unlinked, G: Gate>(
+pub(crate) fn leave<N: Ranged + Unlinked, G: Gate>(
     arena: &Arena<N, Tree>,
     pass: &mut Pass<N, Tree>,
     gate: &G,
@@ -65,6 +66,7 @@ fn leave<N: Ranged + Unlinked, G: Gate>(
     ensures caller { SameCaller pass.old pass.new }
     ensures near { IsNodeOf arena.now child }
     ensures next { MayVisitNext place child pass.new }
+    ensures gave { Adds (Give (caller_of pass.old) held.node) pass.old pass.new }
     ensures goes { GoesTowards place pass.old pass.new }
     ensures under { StaysUnderway give_up pass.old pass.new }
 {

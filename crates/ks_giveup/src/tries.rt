@@ -4,6 +4,7 @@ ghost use Rattle.ks_history.specs.declared.Op.TheVariants.{Del, Get, Swap};
 ghost use Rattle.ks_history.specs.Done.{give_up};
 ghost use Rattle.ks_arena.specs.Of.{IsEmptyPassOf, SameCaller};
 ghost use Rattle.ks_shape.specs.Of.{TriedOf};
+ghost use Rattle.ks_giveup.specs.Goes.{GoesTowards};
 
 use crate::try_descent::try_find;
 use ks_arena::{Arena, Pass};
@@ -30,6 +31,7 @@ pub fn try_get<N: Ranged + Unlinked, G: Gate>(
     ensures pass { IsEmptyPassOf arena.now pass.new }
     ensures caller { SameCaller pass.old pass.new }
     ensures tried { TriedOf arena.now give_up (Get place) pass.old pass.new result }
+    ensures goes { GoesTowards place pass.old pass.new }
 {
     match try_find(arena, pass, gate, place) {
         Ok(held) => Ok(get_here(arena, pass, gate, place, held)),
@@ -55,6 +57,7 @@ pub fn try_swap<N: Ranged + Unlinked, G: Gate>(
     ensures pass { IsEmptyPassOf arena.now pass.new }
     ensures caller { SameCaller pass.old pass.new }
     ensures tried { TriedOf arena.now give_up (Swap place old new) pass.old pass.new result }
+    ensures goes { GoesTowards place pass.old pass.new }
 {
     match try_find(arena, pass, gate, place) {
         Ok(held) => Ok(swap_here(arena, pass, gate, place, old, new, held)),
@@ -79,6 +82,7 @@ pub fn try_del<N: Ranged + Unlinked, G: Gate>(
     ensures pass { IsEmptyPassOf arena.now pass.new }
     ensures caller { SameCaller pass.old pass.new }
     ensures tried { TriedOf arena.now give_up (Del place) pass.old pass.new result }
+    ensures goes { GoesTowards place pass.old pass.new }
 {
     match try_find(arena, pass, gate, place) {
         Ok(held) => Ok(try_del_alone(arena, pass, gate, place, held)),

@@ -6,9 +6,11 @@ ghost use Rattle.ks_node.specs.Body.{next_at};
 ghost use Rattle.ks_arena.specs.Of.{IsPassOf, IsEmptyPassOf, IsNodeOf, SameCaller, caller_of};
 ghost use Rattle.ks_shape.specs.Of.{IsUnderway, StaysUnderway, IsOnWayOf};
 ghost use Rattle.ks_try.specs.Of.{StandsAtRoot, GoesDownFrom, CameToEnd};
+ghost use Rattle.ks_giveup.specs.Goes.{GoesTowards, MayVisitNext};
 ghost use Rattle.ks_giveup.specs.Once.{TookRootOnce};
 ghost use Rattle.ks_giveup.specs.Tries.{ComesTo, IsWithin};
 
+use crate::descent::leave;
 use ks_arena::laws::{sound_law, tree_beside_law};
 use ks_arena::{Arena, Held, Pass, Taken};
 use ks_flow::Tree;
@@ -36,9 +38,11 @@ fn try_visit<N: Ranged + Unlinked, G: Gate>(
 ) -> Result<Held<N>, Later>
     requires pass { IsEmptyPassOf arena.now pass.old }
     requires node { IsNodeOf arena.now node }
+    requires next { MayVisitNext place node pass.old }
     ensures pass { IsPassOf arena.now pass.new }
     ensures caller { SameCaller pass.old pass.new }
     ensures came { ComesTo arena.now place pass.old pass.new node result }
+    ensures goes { GoesTowards place pass.old pass.new }
     ensures under { StaysUnderway give_up pass.old pass.new }
 {
     sound_law::<Tree>();
@@ -68,6 +72,7 @@ fn try_enter<N: Ranged + Unlinked, G: Gate>(
     ensures pass { IsPassOf arena.now pass.new }
     ensures caller { SameCaller pass.old pass.new }
     ensures came { StandsAtRoot arena.now give_up place pass.old pass.new result }
+    ensures goes { GoesTowards place pass.old pass.new }
     ensures under { IsUnderway give_up pass.old pass.new }
 {
     sound_law::<Tree>();
@@ -90,11 +95,12 @@ fn try_go_on<N: Ranged + Unlinked, G: Gate>(
     ensures pass { IsPassOf arena.now pass.new }
     ensures caller { SameCaller pass.old pass.new }
     ensures came { GoesDownFrom arena.now give_up place pass.old pass.new held result }
+    ensures goes { GoesTowards place pass.old pass.new }
     ensures under { StaysUnderway give_up pass.old pass.new }
 {
     sound_law::<Tree>();
     child_law(arena, pass, place, &held, child);
-    give_last(arena, pass, gate, held);
+    leave(arena, pass, gate, place, held, child);
     try_visit(arena, pass, gate, place, child)
 }
 
@@ -110,6 +116,7 @@ pub(crate) fn try_find<N: Ranged + Unlinked, G: Gate>(
     ensures caller { SameCaller pass.old pass.new }
     ensures came { CameToEnd arena.now give_up place pass.old pass.new result }
     ensures once { TookRootOnce pass.old pass.new result }
+    ensures goes { GoesTowards place pass.old pass.new }
     ensures under { IsUnderway give_up pass.old pass.new }
 {
     let mut held = match try_enter(arena, pass, gate, place) {

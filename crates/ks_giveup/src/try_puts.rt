@@ -5,6 +5,7 @@ ghost use Rattle.ks_history.specs.Done.{give_up};
 ghost use Rattle.ks_arena.specs.Of.{IsEmptyPassOf, SameCaller};
 ghost use Rattle.ks_shape.specs.Ends.{EndsPutOf};
 ghost use Rattle.ks_shape.specs.Of.{TriedPutOf};
+ghost use Rattle.ks_giveup.specs.Goes.{GoesTowards};
 
 use crate::try_descent::try_find;
 use ks_arena::{Arena, Pass};
@@ -37,6 +38,7 @@ pub fn try_put<N: Ranged + Unlinked, G: Gate>(
     ensures ends { EndsPutOf arena.now give_up (Put place value) pass.old pass.new result }
     ensures tried { N.in_place ≡ false →
         TriedPutOf arena.now give_up (Put place value) pass.old pass.new result }
+    ensures goes { GoesTowards place pass.old pass.new }
 {
     match try_find(arena, pass, gate, place) {
         Ok(held) => {
@@ -69,6 +71,7 @@ pub fn try_add<N: Ranged + Unlinked, G: Gate>(
     ensures ends { EndsPutOf arena.now give_up (Add place value) pass.old pass.new result }
     ensures tried { N.in_place ≡ false →
         TriedPutOf arena.now give_up (Add place value) pass.old pass.new result }
+    ensures goes { GoesTowards place pass.old pass.new }
 {
     match try_find(arena, pass, gate, place) {
         Ok(held) => {

@@ -38,3 +38,6 @@ returns-clause-goes g c = let me : ℕ = c.args.pass.now.caller in let h = seen_
 
 pub returns-clause-under : goal.returns-clause-under
 returns-clause-under g c = c.give_last.ensures.under give_up
+
+pub returns-clause-gave : goal.returns-clause-gave
+returns-clause-gave g c = c.give_last.ensures.gave

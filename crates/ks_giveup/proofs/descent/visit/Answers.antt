@@ -13,12 +13,8 @@ use Rattle.ks_arena.specs.Sound.{Sort, sort_of}
 use Rattle.ks_arena.specs.Clauses.{HasTaken, seen_of}
 use Rattle.ks_shape.specs.Laws.Single.{takes}
 use Rattle.ks_giveup.specs.Goes.{MayVisit, Goes, at_first}
-use Rattle.ks_giveup.proofs.Way.{goes_others, goes_with, may_later}
+use Rattle.ks_giveup.proofs.Way.{goes_others, goes_with, visited}
 use Rattle.ks_giveup.proofs.descent.visit.Goals as goal
-
--- the node is taken as it may be visited
-visited : {N : Type 0} (sort : Sort) (shows : N → Body) (c p i : ℕ) (h k : List Event) (x : Hand N) → MayVisit c p i h → HasTaken sort shows c i h k x → Goes c p h k
-visited sort shows c p i h k x may took = goes_with c p (Take c i) h h k took.grows (λ same. inl (may_later c p i h (took.grows.rest ++ h) (with_others c (Take c i) h k took.grows) may)) at_first
 
 pub give_last-requires-clause-alone : goal.give_last-requires-clause-alone
 give_last-requires-clause-alone g c κs within = let e = c.in-Some.ensures in let i : ℕ = c.in-Some.held.node in

@@ -1,4 +1,4 @@
-use Rattle.std.proofs.Common.{ℕ, refl, sym, subst}
+use Rattle.std.proofs.Common.{ℕ, refl, sym, subst, ◌≤◌, length, ap, arith}
 use Rattle.ks_history.specs.declared.Op.{Op}
 use Rattle.ks_history.specs.declared.Op.TheVariants.{Del}
 use Rattle.ks_history.specs.Done.{Done, give_up}
@@ -6,6 +6,8 @@ use Rattle.ks_history.specs.Map.{told}
 use Rattle.ks_history.specs.Underway.{Underway}
 use Rattle.ks_history.specs.Laws.Underway.{left_of}
 use Rattle.ks_arena.specs.Clauses.{seen_of}
+use Rattle.ks_history.specs.Trace.{hand}
+use Rattle.ks_giveup.proofs.Way.{ends_goes}
 use Rattle.ks_giveup.proofs.tries.try_del.Goals as goal
 
 pub returns-in-Err-clause-tried : goal.returns-in-Err-clause-tried
@@ -15,3 +17,10 @@ pub returns-in-Ok-clause-tried : goal.returns-in-Ok-clause-tried
 returns-in-Ok-clause-tried g c = let s = seen_of c.args.pass.now in let h = seen_of c.try_find.new.pass in let k = seen_of c.try_del_alone.new.pass in let op : Op = Del c.args.place in let e = c.in-Ok.ensures in let x = c.try_del_alone.result in
     let under : Underway give_up c.try_find.new.pass.caller op s h = subst (λ (z : ℕ). Underway give_up z op s h) (sym e.caller) (e.under op) in
     subst (λ (z : ℕ). Done g.N.Node.layout give_up c.args.arena.now.nodes z op s k (told x.found) x.number) e.caller (c.try_del_alone.ensures.done give_up s under)
+
+pub returns-in-Err-clause-goes : goal.returns-in-Err-clause-goes
+returns-in-Err-clause-goes g c = c.in-Err.ensures.goes
+
+pub returns-in-Ok-clause-goes : goal.returns-in-Ok-clause-goes
+returns-in-Ok-clause-goes g c = let e = c.in-Ok.ensures in let k = seen_of c.try_find.new.pass in
+    ends_goes c.args.pass.now.caller c.try_find.new.pass.caller c.args.place (Del c.args.place) (seen_of c.args.pass.now) k (seen_of c.try_del_alone.new.pass) e.caller (subst (λ (z : ℕ). length (hand z k) ≤ 1) (sym e.caller) (omega (arith, ap length e.came.alone))) e.goes c.try_del_alone.ensures.done

@@ -1,9 +1,18 @@
-use Rattle.std.proofs.Common.{refl}
+use Rattle.std.proofs.Common.{refl, ◌≤◌, ℕ, length, ap, arith, sym, subst}
 use Rattle.ks_history.specs.declared.Op.TheVariants.{Swap}
 use Rattle.ks_history.specs.Done.{give_up}
 use Rattle.ks_history.specs.Laws.Underway.{left_of}
 use Rattle.ks_arena.specs.Clauses.{seen_of}
+use Rattle.ks_history.specs.Trace.{hand}
+use Rattle.ks_giveup.proofs.Way.{ends_goes}
 use Rattle.ks_giveup.proofs.tries.try_swap.Goals as goal
 
 pub returns-in-Err-clause-tried : goal.returns-in-Err-clause-tried
 returns-in-Err-clause-tried g c = let e = c.in-Err.ensures in record { left = left_of give_up c.args.pass.now.caller (Swap c.args.place c.args.old c.args.new) (seen_of c.args.pass.now) (seen_of c.try_find.new.pass) (e.under (Swap c.args.place c.args.old c.args.new)) e.came.0; cause = e.came.1 (Swap c.args.place c.args.old c.args.new) refl }
+
+pub returns-in-Err-clause-goes : goal.returns-in-Err-clause-goes
+returns-in-Err-clause-goes g c = c.in-Err.ensures.goes
+
+pub returns-in-Ok-clause-goes : goal.returns-in-Ok-clause-goes
+returns-in-Ok-clause-goes g c = let e = c.in-Ok.ensures in let k = seen_of c.try_find.new.pass in
+    ends_goes c.args.pass.now.caller c.try_find.new.pass.caller c.args.place (Swap c.args.place c.args.old c.args.new) (seen_of c.args.pass.now) k (seen_of c.swap_here.new.pass) e.caller (subst (λ (z : ℕ). length (hand z k) ≤ 1) (sym e.caller) (omega (arith, ap length e.came.alone))) e.goes c.swap_here.ensures.done

@@ -17,3 +17,9 @@ returns-clause-came g c = let sort = sort_of g.N.Node.layout g.N.Node.ranged in 
 
 pub returns-clause-under : goal.returns-clause-under
 returns-clause-under g c = λ op. let me : ℕ = c.args.pass.now.caller in let h = seen_of c.args.pass.now in c.try_visit.ensures.under op h (underway_first give_up me op h c.requires.pass.1)
+
+pub try_visit-requires-clause-next : goal.try_visit-requires-clause-next
+try_visit-requires-clause-next g c = inl refl
+
+pub returns-clause-goes : goal.returns-clause-goes
+returns-clause-goes g c = c.try_visit.ensures.goes

@@ -10,17 +10,22 @@ use Rattle.ks_arena.specs.Clauses.{seen_of}
 use Rattle.ks_try.specs.Down.{IsDown}
 use Rattle.ks_try.specs.Laws.Down.{down_edge, down_give}
 use Rattle.ks_giveup.specs.Tries.{WasOnWay, Visited}
+use Rattle.ks_giveup.specs.Goes.{Goes}
 use Rattle.ks_giveup.proofs.Visits.{went_on}
+use Rattle.ks_giveup.proofs.Way.{goes_both}
 use Rattle.ks_giveup.proofs.try_descent.try_go_on.Goals as goal
 
 pub returns-clause-came : goal.returns-clause-came
 returns-clause-came g c = λ start steps down. let sort = sort_of g.N.Node.layout g.N.Node.ranged in let slots : ℕ = c.args.arena.now.table.shared.table_id.slots in let n : ℕ = c.args.arena.now.nodes in let me : ℕ = c.args.pass.now.caller in let i : ℕ = c.args.held.node in let j : ℕ = c.args.child in
-    let h = seen_of c.args.pass.now in let h₁ = seen_of c.give_last.new.pass in let h₂ = seen_of c.try_visit.new.pass in let next = c.child_law.ensures in let gave = c.give_last.ensures.gave in let law = c.sound_law.ensures in
+    let h = seen_of c.args.pass.now in let h₁ = seen_of c.leave.new.pass in let h₂ = seen_of c.try_visit.new.pass in let next = c.child_law.ensures in let gave = c.leave.ensures.gave in let law = c.sound_law.ensures in
     let sought : WasOnWay me c.args.place start h₁ j = record { moment = h; since = down.took.grows; later = with_begins me (Give me i) h h₁ gave; spare = ((λ own. quiet_spares j (Give me i) tt), spare_others me j gave.rest gave.others); on_way = inr (i, next.node, next.is, next.leads); inside = next.inside } in
-    let down₁ : IsDown n me start h₁ (suc steps) 1 (suc steps) j = down_give n me start h h₁ (suc steps) 1 (suc steps) j i gave (lawful_in_turn h₁ (law.lawful sort slots h₁ c.give_last.ensures.pass.0.sound)) (down_edge n me start h (suc steps) 1 steps i j next.node next.is next.among down) in
+    let down₁ : IsDown n me start h₁ (suc steps) 1 (suc steps) j = down_give n me start h h₁ (suc steps) 1 (suc steps) j i gave (lawful_in_turn h₁ (law.lawful sort slots h₁ c.leave.ensures.pass.0.sound)) (down_edge n me start h (suc steps) 1 steps i j next.node next.is next.among down) in
     went_on sort g.N.Node.body n me c.args.place j steps start h₁ h₂ c.try_visit.result next.below (lawful_in_turn h₂ (law.lawful sort slots h₂ c.try_visit.ensures.pass.sound)) down₁
-    (subst (λ (z : ℕ). WasOnWay z c.args.place start h₁ j → Visited sort g.N.Node.body n z c.args.place start h₁ h₂ j c.try_visit.result) c.give_last.ensures.caller (c.try_visit.ensures.came start) sought)
+    (subst (λ (z : ℕ). WasOnWay z c.args.place start h₁ j → Visited sort g.N.Node.body n z c.args.place start h₁ h₂ j c.try_visit.result) c.leave.ensures.caller (c.try_visit.ensures.came start) sought)
 
 pub returns-clause-under : goal.returns-clause-under
-returns-clause-under g c = λ op start under. let h₁ = seen_of c.give_last.new.pass in let h₂ = seen_of c.try_visit.new.pass in
-    subst (λ (z : ℕ). Underway give_up z op start h₁ → Underway give_up z op start h₂) c.give_last.ensures.caller (c.try_visit.ensures.under op start) (c.give_last.ensures.under give_up op start under)
+returns-clause-under g c = λ op start under. let h₁ = seen_of c.leave.new.pass in let h₂ = seen_of c.try_visit.new.pass in
+    subst (λ (z : ℕ). Underway give_up z op start h₁ → Underway give_up z op start h₂) c.leave.ensures.caller (c.try_visit.ensures.under op start) (c.leave.ensures.under op start under)
+
+pub returns-clause-goes : goal.returns-clause-goes
+returns-clause-goes g c = goes_both c.leave.ensures.goes (subst (λ (z : ℕ). Goes z c.args.place (seen_of c.leave.new.pass) (seen_of c.try_visit.new.pass)) c.leave.ensures.caller c.try_visit.ensures.goes)

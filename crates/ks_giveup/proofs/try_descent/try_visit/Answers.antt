@@ -22,6 +22,8 @@ use Rattle.ks_shape.specs.Laws.Single.{takes, shown, record_is}
 use Rattle.ks_try.specs.Laws.Down.{busy_since}
 use Rattle.ks_giveup.specs.Laws.Tries.{was_later, was_moved}
 use Rattle.ks_giveup.proofs.Visits.{ranged_inset}
+use Rattle.ks_giveup.specs.Goes.{at_first}
+use Rattle.ks_giveup.proofs.Way.{goes_others, goes_with, visited}
 use Rattle.ks_giveup.proofs.try_descent.try_visit.Goals as goal
 
 pub returns-in-Busy-clause-came : goal.returns-in-Busy-clause-came
@@ -83,3 +85,19 @@ pub returns-else-is_in_range-clause-under : goal.returns-else-is_in_range-clause
 returns-else-is_in_range-clause-under g c = λ op start under. let me : ℕ = c.args.pass.now.caller in let h = seen_of c.args.pass.now in let h₁ = seen_of c.try_take.new.pass in let h₂ = seen_of c.give_last.new.pass in let e = c.in-Held.ensures in
     subst (λ (z : ℕ). Underway give_up z op start h₁ → Underway give_up z op start h₂) e.caller (c.give_last.ensures.under give_up op start)
     (takes (sort_of g.N.Node.layout g.N.Node.ranged) g.N.Node.body give_up me c.args.node op start h h₁ c.in-Held.held (λ k q. first_taken q tt) c.requires.pass.1 e.took under)
+
+-- where it goes
+
+pub returns-in-Busy-clause-goes : goal.returns-in-Busy-clause-goes
+returns-in-Busy-clause-goes g c = let h = seen_of c.args.pass.now in goes_others c.args.pass.now.caller c.args.place h h (seen_of c.try_take.new.pass) c.in-Busy.ensures.took.0.grows at_first
+
+pub returns-in-Gone-clause-goes : goal.returns-in-Gone-clause-goes
+returns-in-Gone-clause-goes g c = let h = seen_of c.args.pass.now in goes_others c.args.pass.now.caller c.args.place h h (seen_of c.try_take.new.pass) c.in-Gone.ensures.took.0.grows at_first
+
+pub returns-then-is_in_range-clause-goes : goal.returns-then-is_in_range-clause-goes
+returns-then-is_in_range-clause-goes g c = visited (sort_of g.N.Node.layout g.N.Node.ranged) g.N.Node.body c.args.pass.now.caller c.args.place c.args.node (seen_of c.args.pass.now) (seen_of c.try_take.new.pass) c.in-Held.held c.requires.next c.in-Held.ensures.took
+
+pub returns-else-is_in_range-clause-goes : goal.returns-else-is_in_range-clause-goes
+returns-else-is_in_range-clause-goes g c = let me : ℕ = c.args.pass.now.caller in let h = seen_of c.args.pass.now in let h₁ = seen_of c.try_take.new.pass in let h₂ = seen_of c.give_last.new.pass in let e = c.in-Held.ensures in let i : ℕ = c.in-Held.held.node in
+    goes_with me c.args.place (Give me i) h h₁ h₂ (subst (λ (z : ℕ). GrowsWith z (Give z i) h₁ h₂) e.caller c.give_last.ensures.gave) tt
+    (visited (sort_of g.N.Node.layout g.N.Node.ranged) g.N.Node.body me c.args.place c.args.node h h₁ c.in-Held.held c.requires.next e.took)

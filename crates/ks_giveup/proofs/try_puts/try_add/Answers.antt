@@ -1,4 +1,4 @@
-use Rattle.std.proofs.Common.{◌≡◌, ◌∙◌, ℕ, false, refl, sym, subst}
+use Rattle.std.proofs.Common.{◌≡◌, ◌∙◌, ℕ, false, refl, sym, subst, ◌≤◌, length, ap, arith}
 use Rattle.ks_history.specs.declared.Event.TheVariants.{Give}
 use Rattle.ks_history.specs.declared.Op.{Op}
 use Rattle.ks_history.specs.declared.Op.TheVariants.{Add}
@@ -15,7 +15,12 @@ use Rattle.ks_shape.specs.Ends.{EndsPut, IsFarDue}
 use Rattle.ks_shape.specs.Laws.Ends.{ends_of, tried_of}
 use Rattle.ks_shape.specs.Tries.{IsPutOff}
 use Rattle.ks_shape.specs.declared.answers.PutLater.TheVariants.{Later as Otherwise}
-use Rattle.ks_giveup.proofs.TryPuts.{put_off, once_later}
+use Rattle.ks_history.specs.Done.{coupling}
+use Rattle.ks_history.specs.Trace.{hand}
+use Rattle.ks_history.specs.Laws.Underway.{underway_here}
+use Rattle.ks_giveup.specs.Goes.{Goes}
+use Rattle.ks_giveup.proofs.TryPuts.{put_off, once_here, once_later, ends_hands}
+use Rattle.ks_giveup.proofs.Way.{coupled_goes, ends_goes, goes_both, goes_with}
 use Rattle.ks_giveup.proofs.try_puts.try_add.Given.{Over}
 use Rattle.ks_giveup.proofs.try_puts.try_add.Goals as goal
 use Rattle.ks_giveup.proofs.try_puts.try_add.Goals.{After-try_pair_add}
@@ -66,3 +71,18 @@ returns-else-has_room-clause-tried g c = λ ways. let at = (goal.at.returns-else
     tried_of g.N.Node.layout give_up n c.args.pass.now.caller op h l c.try_pair_add.result
     (subst (λ (z : ℕ). EndsPut g.N.Node.layout give_up n z op h l c.try_pair_add.result) (own g at) (so g at).0)
     (subst (λ (z : ℕ). IsFarDue n z h l c.try_pair_add.result) (own g at) ((so g at).1 ways))
+
+-- where it goes
+
+pub returns-in-Err-clause-goes : goal.returns-in-Err-clause-goes
+returns-in-Err-clause-goes g c = c.in-Err.ensures.goes
+
+pub returns-then-has_room-clause-goes : goal.returns-then-has_room-clause-goes
+returns-then-has_room-clause-goes g c = let e = c.in-Ok.ensures in let k = seen_of c.try_find.new.pass in
+    ends_goes c.args.pass.now.caller c.try_find.new.pass.caller c.args.place (Add c.args.place c.args.value) (seen_of c.args.pass.now) k (seen_of c.add_here.new.pass) e.caller (subst (λ (z : ℕ). length (hand z k) ≤ 1) (sym e.caller) (omega (arith, ap length e.came.alone))) e.goes c.add_here.ensures.done
+
+pub returns-else-has_room-clause-goes : goal.returns-else-has_room-clause-goes
+returns-else-has_room-clause-goes g c = let at = (goal.at.returns-else-has_room-clause-goes g c).After-try_pair_add in let op : Op = Add c.args.place c.args.value in let me : ℕ = c.args.pass.now.caller in let b : ℕ = c.give_last.new.pass.caller in let h = seen_of c.args.pass.now in let k = seen_of c.try_find.new.pass in let l = seen_of c.give_last.new.pass in let m = seen_of c.try_pair_add.new.pass in let e = c.in-Ok.ensures in let i : ℕ = c.in-Ok.held.node in
+    let gone : Goes me c.args.place h l = goes_with me c.args.place (Give me i) h k l (subst (λ (z : ℕ). GrowsWith z (Give z i) k l) e.caller c.give_last.ensures.gave) tt e.goes in
+    let on = (c.try_pair_add.ensures.tried coupling l tt (once_here b l) (underway_here coupling b op l (omega (arith, ap length c.give_last.ensures.pass.1)))).0 in
+    goes_both gone (subst (λ (z : ℕ). Goes z c.args.place l m) (own g at) (coupled_goes c.args.place (ends_hands g.N.Node.layout coupling c.args.arena.now.nodes b op l m c.try_pair_add.result on)))
