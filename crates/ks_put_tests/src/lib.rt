@@ -7,6 +7,7 @@ mod dels;
 mod merged_away;
 #[cfg(test)]
 mod puts;
+pub mod tables;
 #[cfg(test)]
 mod tests;
 #[cfg(test)]
