@@ -1,6 +1,6 @@
 //! The summary of a run: how many replies of each kind, and what the map came to.
 
-ghost use Rattle.std.specs.Prelude.{◌≡◌, ◌%◌, ◌^◌, List, length, ◌++◌, map, count_by, IfOk, OnOk};
+ghost use Rattle.std.specs.Prelude.{◌≡◌, ◌<◌, ◌%◌, ◌^◌, List, length, ◌++◌, map, count_by, IfOk, OnOk};
 ghost use Rattle.std.specs.Fmt.{decimal};
 ghost use Rattle.ks_script.specs.Script.{calls_in};
 ghost use Rattle.ks_history.specs.declared.Op.{Op};
@@ -12,7 +12,7 @@ use ks_history::{Op, Reply};
 use ks_script::{Printed, Script};
 use std::alloc::{AllocError, Global};
 
-/// A kind of reply: a value, nothing, or that no node was free.
+/// A kind of reply: a value, nothing, or that no node was free. Clauses count replies by it.
 #[derive(Clone, Copy, Debug, PartialEq, Eq)]
 pub enum Kind {
     Found,
@@ -20,31 +20,54 @@ pub enum Kind {
     NoRoom,
 }
 
-fn is_of(kind: Kind, reply: &Reply) -> bool
-    ensures { result ≡ is_of kind reply.now }
+/// How many replies there are of each kind.
+#[derive(Clone, Copy, Debug)]
+struct Tally {
+    found: u128,
+    none: u128,
+    full: u128,
+}
+
+/// The replies in the lines of one caller.
+fn replies_in(lines: &[(u64, Reply)]) -> Tally
+    ensures found { result.found ≡ count_by (λ x. is_of kinds.Found x.1) lines.now }
+    ensures none { result.none ≡ count_by (λ x. is_of kinds.Missing x.1) lines.now }
+    ensures full { result.full ≡ count_by (λ x. is_of kinds.NoRoom x.1) lines.now }
+    ensures few { (result.found < 2 ^ 64) × ((result.none < 2 ^ 64) × (result.full < 2 ^ 64)) }
 {
-    match reply {
-        Reply::Nothing => kind == Kind::Missing,
-        Reply::Value(_) => kind == Kind::Found,
-        Reply::Full => kind == Kind::NoRoom,
+    let mut found: usize = 0;
+    let mut none: usize = 0;
+    let mut full: usize = 0;
+    for line in lines {
+        match line.1 {
+            Reply::Value(_) => found += 1,
+            Reply::Nothing => none += 1,
+            Reply::Full => full += 1,
+        }
+    }
+    Tally {
+        found: found as u128,
+        none: none as u128,
+        full: full as u128,
     }
 }
 
-fn replies_in(kind: Kind, lines: &[(u64, Reply)]) -> usize
-    ensures { result ≡ count_by (λ x. is_of kind x.1) lines.now }
+/// The replies that the callers were given.
+fn replies(callers: &[Vec<(u64, Reply)>]) -> Tally
+    ensures found { result.found ≡ replies_of kinds.Found (map (λ v. v.items) callers.now) }
+    ensures none { result.none ≡ replies_of kinds.Missing (map (λ v. v.items) callers.now) }
+    ensures full { result.full ≡ replies_of kinds.NoRoom (map (λ v. v.items) callers.now) }
 {
-    lines.iter().filter(|line| is_of(kind, &line.1)).count()
-}
-
-/// How many replies of the kind the callers were given.
-fn replies(kind: Kind, callers: &[Vec<(u64, Reply)>]) -> u128
-    ensures { result ≡ replies_of kind (map (λ v. v.items) callers.now) }
-{
-    let mut total = 0;
+    let mut found = 0;
+    let mut none = 0;
+    let mut full = 0;
     for lines in callers {
-        total += replies_in(kind, lines) as u128;
+        let more = replies_in(lines);
+        found += more.found;
+        none += more.none;
+        full += more.full;
     }
-    total
+    Tally { found, none, full }
 }
 
 /// How many calls the callers have together.
@@ -144,12 +167,13 @@ fn count(size: Size, lines: &[Vec<(u64, Reply)>], pairs: &[(u64, u128)]) -> Coun
     ensures pairs { result.pairs ≡ length pairs.now }
     ensures sum { result.sum ≡ sum_of pairs.now % 2 ^ 64 }
 {
+    let told = replies(lines);
     Counts {
         callers: size.callers,
         calls: size.calls,
-        found: replies(Kind::Found, lines),
-        none: replies(Kind::Missing, lines),
-        full: replies(Kind::NoRoom, lines),
+        found: told.found,
+        none: told.none,
+        full: told.full,
         pairs: pairs.len(),
         sum: sum(pairs),
     }
