@@ -3,6 +3,7 @@ pub mod Texts
 pub mod Sources
 pub mod Numerals
 pub mod Cuts
+pub mod Fronts
 pub mod Pairs
 pub mod CallLines
 pub mod Scripts

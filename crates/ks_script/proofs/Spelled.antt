@@ -57,7 +57,7 @@ spaced a b h k = lacks_append 10 (a ++ codes " ") b (lacks_append 10 a (codes " 
 keyed : (word : List ℕ) (k : ℕ) → stands 10 word ≡ false → k < 2 ^ 64 → Lacks 10 (word ++ decimal k)
 keyed word k none h = lacks_append 10 word (decimal k) (lacks_by 10 word none) (number k h)
 
-plain_call : (version : Version) (op : Op) → IsCall version op → Lacks 10 (call_line op)
+pub plain_call : (version : Version) (op : Op) → IsCall version op → Lacks 10 (call_line op)
 plain_call version (Get k) h = keyed (codes "get ") k refl h
 plain_call version (Del k) h = keyed (codes "del ") k refl h
 plain_call version (Put k v) h = spaced (codes "put " ++ decimal k) (decimal v) (keyed (codes "put ") k refl h.0) (value v (value_small version v h.1))
@@ -84,9 +84,12 @@ plain_word Nothing h = lacks_by 10 (codes "none") refl
 plain_word (Value v) h = value v h
 plain_word Full h = lacks_by 10 (codes "full") refl
 
+pub plain_reply : (x : ℕ × Reply) → IsAnswered x → Lacks 10 (reply_line x)
+plain_reply x h = spaced (decimal x.0) (reply_word x.1) (number x.0 h.0) (plain_word x.1 h.1)
+
 plain_replies : (rs : List (ℕ × Reply)) → AllByRecursion IsAnswered rs → Plain (map reply_line rs)
 plain_replies [] h = tt
-plain_replies (r ∷ rs) h = (spaced (decimal r.0) (reply_word r.1) (number r.0 h.0.0) (plain_word r.1 h.0.1), plain_replies rs h.1)
+plain_replies (r ∷ rs) h = (plain_reply r h.0, plain_replies rs h.1)
 
 plain_pairs : (n : ℕ) (ps : List (ℕ × ℕ)) → AscendFrom n ps → Plain (map pair_line ps)
 plain_pairs n [] h = tt

@@ -6,10 +6,12 @@ ghost use Rattle.ks_history.specs.declared.Reply.{Reply};
 ghost use Rattle.ks_script.specs.Lines.{lines_of};
 ghost use Rattle.ks_script.specs.Run.{reply_line, callers_from};
 ghost use Rattle.ks_script.specs.Checked.{IsAnswered};
-ghost use Rattle.ks_script.specs.Answers.{NotFirst, RepliesThen, PairsThen, SpellAnswers, AnswersThen, RefusedFrom};
+ghost use Rattle.ks_script.specs.Answers.{NotFirst, NoReply, RepliesThen, PairsThen, SpellAnswers, AnswersThen, RefusedFrom};
 
 use crate::TextFault;
-use crate::words::{after, cut, first_line, key_and_value, number, wide_number};
+use crate::words::{
+    after, after_byte, after_four, cut, first_line, key_and_value, leading, number, wide_number,
+};
 use ks_history::{Op, Reply};
 use std::alloc::{AllocError, Global};
 
@@ -56,6 +58,37 @@ fn reply_of(line: &[u8]) -> Option<(u64, Reply)>
     Some((number_of_call, Reply::Value(wide_number(word)?)))
 }
 
+// The number and the reply on the first line, if they are below 2^64 and not Full, and a byte 10 ends the line; and the
+// bytes after the line.
+fn plain_reply(bytes: &[u8]) -> Option<((u64, Reply), &[u8])>
+    ensures some { IfSome result (λ x. IsAnswered x.0 × (bytes.now ≡ reply_line x.0 ++ 10 ∷ x.1.now)) }
+{
+    let (number, word) = leading(bytes)?;
+    let word = after_byte(word, b' ')?;
+    if let Some(rest) = after_four(word, b'n', b'o', b'n', b'e') {
+        let rest = after_byte(rest, b'\n')?;
+        return Some(((number, Reply::Nothing), rest));
+    }
+    let (value, rest) = leading(word)?;
+    let rest = after_byte(rest, b'\n')?;
+    Some(((number, Reply::Value(u128::from(value))), rest))
+}
+
+// The number and the reply on the first line, and the bytes after the line. Most are plain, and are read in one pass.
+fn next_reply(bytes: &[u8]) -> Option<((u64, Reply), &[u8])>
+    ensures some { IfSome result
+        (λ x. IsAnswered x.0 × (lines_of bytes.now ≡ reply_line x.0 ∷ lines_of x.1.now)) }
+    ensures shorter { IfSome result (λ x. length x.1.now < length bytes.now) }
+    ensures none { IfNone result (NoReply (lines_of bytes.now)) }
+{
+    if let Some((reply, rest)) = plain_reply(bytes) {
+        return Some((reply, rest));
+    }
+    let (line, rest) = first_line(bytes)?;
+    let reply = reply_of(line)?;
+    Some((reply, rest))
+}
+
 // The replies at the front, as many as are wanted, and the bytes after them.
 fn read_replies(
     alloc: Global,
@@ -67,10 +100,7 @@ fn read_replies(
     let mut replies = Vec::new(alloc);
     let mut rest = bytes;
     'replies: while replies.len() < wanted {
-        let Some((line, more)) = first_line(rest) else {
-            return Ok((replies, rest));
-        };
-        let Some(reply) = reply_of(line) else {
+        let Some((reply, more)) = next_reply(rest) else {
             return Ok((replies, rest));
         };
         replies.push(reply)?;

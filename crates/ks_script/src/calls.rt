@@ -1,14 +1,19 @@
 //! The line of a call, read.
 
-ghost use Rattle.std.specs.Prelude.{◌≢◌, ℕ, ◌≡◌, ◌<◌, ◌^◌, ◌++◌, codes, IfSome, IfNone};
+ghost use Rattle.std.specs.Prelude.{◌≢◌, ℕ, ◌≡◌, ◌<◌, ◌^◌, ◌∷◌, ◌++◌, length, codes, IfSome, IfNone};
 ghost use Rattle.std.specs.Fmt.{decimal};
 ghost use Rattle.ks_history.specs.declared.Op.{Op};
+ghost use Rattle.ks_script.specs.Lines.{lines_of};
 ghost use Rattle.ks_script.specs.Version.{value_limit};
 ghost use Rattle.ks_script.specs.Script.{IsCall, call_line};
 ghost use Rattle.ks_script.specs.Run.{pair_line};
+ghost use Rattle.ks_script.specs.Front.{NoCall};
 
 use crate::version::Version;
-use crate::words::{after, cut, key_and_value, number, two_values};
+use crate::words::{
+    after, after_byte, after_four, cut, first_line, key_and_value, leading, leading_pair, number,
+    two_values,
+};
 use ks_history::Op;
 
 // The key and the value whose digits the bytes are, with a space between them.
@@ -39,8 +44,8 @@ fn exchange_of(bytes: &[u8]) -> Option<(u64, u128, u128)>
     Some((key, old, new))
 }
 
-/// The call of the version that the line spells.
-pub fn call_of(version: Version, line: &[u8]) -> Option<Op>
+// The call of the version that the line spells.
+fn call_of(version: Version, line: &[u8]) -> Option<Op>
     ensures some { IfSome result (λ op. IsCall version op × (line.now ≡ call_line op)) }
     ensures none { IfNone result ((op : Op) → IsCall version op → line.now ≢ call_line op) }
 {
@@ -63,4 +68,40 @@ pub fn call_of(version: Version, line: &[u8]) -> Option<Op>
     }
     let (key, old, new) = exchange_of(after(line, b"swap ")?)?;
     Some(Op::Swap(key, old, new))
+}
+
+// The call on the first line, if it is a Get, a Del or a Put of numbers below 2^64 and a byte 10 ends the line, and the
+// bytes after the line.
+fn plain_call(version: Version, bytes: &[u8]) -> Option<(Op, &[u8])>
+    ensures some { IfSome result (λ x. IsCall version x.0 × (bytes.now ≡ call_line x.0 ++ 10 ∷ x.1.now)) }
+{
+    if let Some(entry) = after_four(bytes, b'p', b'u', b't', b' ') {
+        let (key, value, rest) = leading_pair(entry)?;
+        return Some((Op::Put(key, u128::from(value)), rest));
+    }
+    if let Some(entry) = after_four(bytes, b'g', b'e', b't', b' ') {
+        let (key, rest) = leading(entry)?;
+        let rest = after_byte(rest, b'\n')?;
+        return Some((Op::Get(key), rest));
+    }
+    let entry = after_four(bytes, b'd', b'e', b'l', b' ')?;
+    let (key, rest) = leading(entry)?;
+    let rest = after_byte(rest, b'\n')?;
+    Some((Op::Del(key), rest))
+}
+
+/// The call of the version on the first line, and the bytes after the line. Most calls are plain, and are read in one
+/// pass over the bytes.
+pub fn next_call(version: Version, bytes: &[u8]) -> Option<(Op, &[u8])>
+    ensures some { IfSome result
+        (λ x. IsCall version x.0 × (lines_of bytes.now ≡ call_line x.0 ∷ lines_of x.1.now)) }
+    ensures shorter { IfSome result (λ x. length x.1.now < length bytes.now) }
+    ensures none { IfNone result (NoCall version (lines_of bytes.now)) }
+{
+    if let Some((op, rest)) = plain_call(version, bytes) {
+        return Some((op, rest));
+    }
+    let (line, rest) = first_line(bytes)?;
+    let op = call_of(version, line)?;
+    Some((op, rest))
 }

@@ -6,7 +6,7 @@ ghost use Rattle.ks_script.specs.Script.{calls_in};
 ghost use Rattle.ks_script.specs.Front.{CallsThen, VersionThen, ScriptThen};
 
 use crate::answers::after_line;
-use crate::calls::call_of;
+use crate::calls::next_call;
 use crate::version::Version;
 use crate::words::first_line;
 use ks_history::Op;
@@ -47,10 +47,7 @@ fn read_calls(
     let mut ops = Vec::new(alloc);
     let mut rest = bytes;
     'calls: while ops.len() < room {
-        let Some((line, more)) = first_line(rest) else {
-            return Ok((ops, rest));
-        };
-        let Some(op) = call_of(version, line) else {
+        let Some((op, more)) = next_call(version, rest) else {
             return Ok((ops, rest));
         };
         ops.push(op)?;

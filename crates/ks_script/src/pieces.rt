@@ -75,10 +75,6 @@ fn put_number<K: Sink>(
     ensures cause { OnErr result (Rose (K.faults out.old) (K.faults out.new)) }
     ensures count { K.faults out.old ≤ K.faults out.new }
 {
-    // Most numbers are below 2^64, and a division by words of 128 bits takes longer.
-    if number <= u64::MAX as u128 {
-        return put(out, piece, Buffer::new().format(number as u64).as_bytes());
-    }
     put(out, piece, Buffer::new().format(number).as_bytes())
 }
 

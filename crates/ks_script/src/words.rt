@@ -3,6 +3,7 @@
 ghost use Rattle.std.specs.Prelude.{◌≢◌, ℕ, ◌≡◌, ◌≤◌, ◌<◌, ◌^◌, List, [], ◌∷◌, ◌++◌, length, slice_index, codes, IfSome, IfNone};
 ghost use Rattle.std.specs.Fmt.{decimal};
 ghost use Rattle.ks_script.specs.Lines.{Lacks, lines_of};
+ghost use Rattle.ks_script.specs.Run.{pair_line};
 
 // The place of the first such byte, or how many bytes there are.
 fn place_of(bytes: &[u8], byte: u8) -> usize
@@ -72,6 +73,52 @@ pub fn number(bytes: &[u8]) -> Option<u64>
     Some(number)
 }
 
+/// What follows the byte, if the bytes begin with it.
+pub fn after_byte(bytes: &[u8], byte: u8) -> Option<&[u8]>
+    ensures some { IfSome result (λ rest. bytes.now ≡ byte ∷ rest.now) }
+{
+    if bytes.is_empty() {
+        return None;
+    }
+    if bytes[0] != byte {
+        return None;
+    }
+    Some(bytes.split_at(1).1)
+}
+
+/// What follows four bytes, if the bytes begin with them.
+pub fn after_four(bytes: &[u8], first: u8, second: u8, third: u8, fourth: u8) -> Option<&[u8]>
+    ensures some { IfSome result (λ rest. bytes.now ≡ first ∷ second ∷ third ∷ fourth ∷ rest.now) }
+{
+    let rest = after_byte(bytes, first)?;
+    let rest = after_byte(rest, second)?;
+    let rest = after_byte(rest, third)?;
+    after_byte(rest, fourth)
+}
+
+/// A number below 2^64 whose digits the bytes begin with, and the bytes after them. It is found where a byte that is no
+/// digit follows.
+pub fn leading(bytes: &[u8]) -> Option<(u64, &[u8])>
+    ensures some { IfSome result (λ x. bytes.now ≡ decimal x.0 ++ x.1.now) }
+{
+    let mut number: u64 = 0;
+    for (count, byte) in bytes.iter().enumerate() {
+        if !byte.is_ascii_digit() {
+            if count == 0 {
+                return None;
+            }
+            if bytes[0] == b'0' && count > 1 {
+                return None;
+            }
+            return Some((number, bytes.split_at(count).1));
+        }
+        number = number
+            .checked_mul(10)?
+            .checked_add(u64::from(*byte - b'0'))?;
+    }
+    None
+}
+
 /// The number below 2^128 that the bytes are the digits of. Most are below 2^64, and those are read by words of 64 bits.
 pub fn wide_number(bytes: &[u8]) -> Option<u128>
     ensures some { IfSome result (λ n. bytes.now ≡ decimal n) }
@@ -126,4 +173,15 @@ pub fn two_values(bytes: &[u8]) -> Option<(u128, u128)>
 {
     let (first, second) = cut(bytes, b' ')?;
     Some((wide_number(first)?, wide_number(second)?))
+}
+
+/// A key and a value below 2^64 whose digits are the first line, with a space between them, if a byte 10 ends it; and the
+/// bytes after the line.
+pub fn leading_pair(bytes: &[u8]) -> Option<(u64, u64, &[u8])>
+    ensures some { IfSome result (λ x. bytes.now ≡ pair_line (x.0, x.1) ++ 10 ∷ x.2.now) }
+{
+    let (key, rest) = leading(bytes)?;
+    let (value, rest) = leading(after_byte(rest, b' ')?)?;
+    let rest = after_byte(rest, b'\n')?;
+    Some((key, value, rest))
 }

@@ -1,0 +1,42 @@
+-- Numbers and calls that bytes begin with.
+use Rattle.std.proofs.Common.{ℕ, zero, suc, ◌≡◌, ◌+◌, ◌-◌, ◌*◌, ◌^◌, ◌<◌, ◌≤◌, Bool, true, false, ◌&&◌, List, [], ◌∷◌, ◌++◌, length, take, drop, get_or, refl, sym, ap, ◌∙◌, arith}
+use Rattle.std.proofs.lemmas.List.{take_more, take-append-drop, length-take-le}
+use Rattle.std.proofs.lemmas.Bool.{false≢true}
+use Rattle.std.specs.Fmt.{decimal}
+use Rattle.std.specs.Char.{is_ascii_digit}
+use Rattle.std.specs.Str.{all_ascii_digits}
+use Rattle.ks_script.proofs.Numerals.{read_on}
+use Rattle.ks_script.proofs.Cuts.{digits_some}
+
+digits_push : (ds : List ℕ) (c : ℕ) → all_ascii_digits ds ≡ true → is_ascii_digit c ≡ true → all_ascii_digits (ds ++ c ∷ []) ≡ true
+digits_push [] c all is = ap (λ b. b && true) is
+digits_push (d ∷ ds) c all is = by_test (is_ascii_digit d) all (λ rest. digits_push ds c rest is)
+  where
+    by_test : (b : Bool) → (b && all_ascii_digits ds) ≡ true → (all_ascii_digits ds ≡ true → all_ascii_digits (ds ++ c ∷ []) ≡ true) → (b && all_ascii_digits (ds ++ c ∷ [])) ≡ true
+    by_test true all more = more all
+    by_test false all more = absurd (false≢true all)
+
+read_push : (n : ℕ) (ds : List ℕ) (c : ℕ) → read_on n (ds ++ c ∷ []) ≡ 10 * read_on n ds + (c - 48)
+read_push n [] c = refl
+read_push n (d ∷ ds) c = read_push (10 * n + (d - 48)) ds c
+
+-- one digit more
+pub digit_more : (bytes : List ℕ) (i m n : ℕ) → i < length bytes → all_ascii_digits (take i bytes) ≡ true → read_on 0 (take i bytes) ≡ m → is_ascii_digit (get_or bytes i 0) ≡ true → n ≡ 10 * m + (get_or bytes i 0 - 48) →
+    (all_ascii_digits (take (i + 1) bytes) ≡ true) × (read_on 0 (take (i + 1) bytes) ≡ n)
+digit_more bytes i m n lt all value is next = (
+  ap all_ascii_digits (take_more bytes i 0 lt) ∙ digits_push (take i bytes) (get_or bytes i 0) all is,
+  ap (read_on 0) (take_more bytes i 0 lt) ∙ (read_push 0 (take i bytes) (get_or bytes i 0) ∙ (ap (λ (k : ℕ). 10 * k + (get_or bytes i 0 - 48)) value ∙ sym next)),
+)
+
+first_kept : (bytes : List ℕ) (n : ℕ) → 0 < n → get_or (take n bytes) 0 0 ≡ get_or bytes 0 0
+first_kept bytes zero some = absurd (omega arith)
+first_kept [] (suc n) some = refl
+first_kept (b ∷ bytes) (suc n) some = refl
+
+-- digits at the front spell their number
+pub front_spelled : (bytes : List ℕ) (count n : ℕ) → 0 < count → count ≤ length bytes → (get_or bytes 0 0 ≡ 48 → count ≡ 1) → all_ascii_digits (take count bytes) ≡ true → read_on 0 (take count bytes) ≡ n → n < 2 ^ 128 → bytes ≡ decimal n ++ drop count bytes
+front_spelled bytes count n some le lone all value small =
+    let len : length (take count bytes) ≡ count = length-take-le count bytes le in
+    let spelled : take count bytes ≡ decimal n =
+    digits_some (take count bytes) n (omega (arith, len)) (λ z. len ∙ lone (sym (first_kept bytes count some) ∙ z)) all value small in
+    sym (take-append-drop count bytes) ∙ ap (λ (x : List ℕ). x ++ drop count bytes) spelled
