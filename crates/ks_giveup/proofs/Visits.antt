@@ -1,5 +1,5 @@
 -- How a search by giving up that waits for nobody stands after a visit.
-use Rattle.std.proofs.Common.{◌≡◌, ◌≢◌, ◌≤◌, ℕ, suc, true, false, List, sym, ap, subst}
+use Rattle.std.proofs.Common.{◌≡◌, ◌≢◌, ℕ, suc, List, sym, subst}
 use Rattle.std.specs.Prelude.{Option, Some, None, IsTrue, is_some, Result, Ok, Err}
 use Rattle.ks_keysets.specs.declared.Frame.{Frame}
 use Rattle.ks_keysets.specs.declared.NodeState.{NodeState}

@@ -1,4 +1,4 @@
-use Rattle.std.proofs.Common.{◌≤◌, ℕ, length, ap, arith}
+use Rattle.std.proofs.Common.{length, ap, arith}
 use Rattle.ks_history.specs.declared.Op.TheVariants.{Get}
 use Rattle.ks_arena.specs.Clauses.{seen_of}
 use Rattle.ks_giveup.proofs.Way.{ends_goes}

@@ -1,4 +1,4 @@
-use Rattle.std.proofs.Common.{rules, ◌≡◌, ◌∙◌, ℕ, [], inl, refl, sym, subst, arith}
+use Rattle.std.proofs.Common.{◌≡◌, ◌∙◌, ℕ, [], inl, refl, sym, subst, arith}
 use Rattle.ks_history.specs.Trace.{hand}
 use Rattle.ks_history.specs.Done.{give_up}
 use Rattle.ks_history.specs.Underway.{Underway}

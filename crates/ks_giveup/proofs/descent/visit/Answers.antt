@@ -1,18 +1,14 @@
-use Rattle.std.proofs.Common.{rules, ◌≡◌, ℕ, List, [], ◌∷◌, ◌++◌, sym, ap, ◌∙◌, subst, inl}
-use Rattle.ks_history.specs.declared.Event.{Event}
-use Rattle.ks_history.specs.declared.Event.TheVariants.{Give, Take}
+use Rattle.std.proofs.Common.{◌≡◌, ℕ, List, [], ◌∷◌, sym, ap, ◌∙◌, subst}
+use Rattle.ks_history.specs.declared.Event.TheVariants.{Give}
 use Rattle.ks_history.specs.Trace.{hand}
 use Rattle.ks_history.specs.Done.{give_up, first_taken}
-use Rattle.ks_history.specs.Laws.Begins.{with_others}
 use Rattle.ks_history.specs.Passes.{GrowsWith}
 use Rattle.ks_history.specs.Underway.{Underway}
 use Rattle.ks_history.specs.Laws.Underway.{underway_others}
-use Rattle.ks_node.specs.Body.{Body}
-use Rattle.ks_arena.specs.declared.held.Held.{Held as Hand}
-use Rattle.ks_arena.specs.Sound.{Sort, sort_of}
-use Rattle.ks_arena.specs.Clauses.{HasTaken, seen_of}
+use Rattle.ks_arena.specs.Sound.{sort_of}
+use Rattle.ks_arena.specs.Clauses.{seen_of}
 use Rattle.ks_shape.specs.Laws.Single.{takes}
-use Rattle.ks_giveup.specs.Goes.{MayVisit, Goes, at_first}
+use Rattle.ks_giveup.specs.Goes.{at_first}
 use Rattle.ks_giveup.proofs.Way.{goes_others, goes_with, visited}
 use Rattle.ks_giveup.proofs.descent.visit.Goals as goal
 

@@ -1,4 +1,4 @@
-use Rattle.std.proofs.Common.{◌≡◌, ℕ, inl, refl, arith}
+use Rattle.std.proofs.Common.{ℕ, inl, refl, arith}
 use Rattle.ks_history.specs.Laws.Begins.{begins_self, good_now}
 use Rattle.ks_history.specs.Laws.Beside.{root_on_way}
 use Rattle.ks_history.specs.Done.{give_up}

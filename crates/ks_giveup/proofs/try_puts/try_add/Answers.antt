@@ -13,7 +13,6 @@ use Rattle.ks_arena.specs.Clauses.{seen_of}
 use Rattle.ks_shape.specs.SearchEnd.{IsEnd}
 use Rattle.ks_shape.specs.Ends.{EndsPut, IsFarDue}
 use Rattle.ks_shape.specs.Laws.Ends.{ends_of, tried_of}
-use Rattle.ks_shape.specs.Tries.{IsPutOff}
 use Rattle.ks_shape.specs.declared.answers.PutLater.TheVariants.{Later as Otherwise}
 use Rattle.ks_history.specs.Done.{coupling}
 use Rattle.ks_history.specs.Trace.{hand}
