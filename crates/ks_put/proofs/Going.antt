@@ -1,16 +1,26 @@
 -- How a refusal stays one as a search goes on, whose caller's number is told in another way after each step.
 use Rattle.std.proofs.Common.{◌≡◌, ℕ, List, sym, subst, arith}
+use Rattle.std.specs.Prelude.{Result}
 use Rattle.ks_keysets.specs.Layout.{Layout}
 use Rattle.ks_history.specs.declared.Event.{Event}
 use Rattle.ks_history.specs.declared.Op.TheVariants.{Put}
-use Rattle.ks_history.specs.Done.{coupling}
+use Rattle.ks_history.specs.Done.{Template, Done, coupling}
 use Rattle.ks_history.specs.Due.{NoneFree}
 use Rattle.ks_history.specs.Laws.Dues.{none_free_earlier, none_free_later}
 use Rattle.ks_history.specs.Passes.{NoCallBy}
 use Rattle.ks_history.specs.Trace.{◌⊑◌}
 use Rattle.ks_history.specs.Underway.{Underway}
+use Rattle.ks_node.specs.Body.{Body}
+use Rattle.ks_arena.specs.declared.held.Held.{Held as Hand}
+use Rattle.ks_arena.specs.Sound.{Sort}
+use Rattle.ks_shape.specs.declared.answers.Full.{Full}
+use Rattle.ks_shape.specs.declared.answers.Numbered.{Numbered}
+use Rattle.ks_shape.specs.declared.fills.Fill.{Fill}
+use Rattle.ks_shape.specs.Answers.{number_in, reply_in}
+use Rattle.ks_shape.specs.Fills.{filling, EndsForRoom, FoundRoom, FullIsDue}
 use Rattle.ks_shape.specs.Stretches.{Stretches}
-use Rattle.ks_shape.specs.Laws.Stretches.{stretches_begins}
+use Rattle.ks_shape.specs.Laws.Fills.{full_is_due}
+use Rattle.ks_shape.specs.Laws.Stretches.{fill_goes_on, stretches_begins}
 
 pub on_was : (layout : Layout) (n p a b : ℕ) (s h k : List Event) → b ≡ a → Stretches a h k → NoneFree layout n a p s h → NoneFree layout n b p s k
 on_was layout n p a b s h k same so was = subst (λ (z : ℕ). NoneFree layout n z p s k) (sym same) (none_free_later layout n a p s h k (stretches_begins a h k so) was)
@@ -23,3 +33,15 @@ pub refused_since : (layout : Layout) (n p a b : ℕ) (h k : List Event) → b �
 refused_since layout n p a b h k same so none =
     let under : Underway coupling a (Put 0 0) h k = so coupling (Put 0 0) (omega arith) in
     (h, record { rest = under.rest; is = under.is }, subst (λ (z : ℕ). NoCallBy z under.rest) (sym same) under.none, subst (λ (z : ℕ). NoneFree layout n z p h k) (sym same) none)
+
+-- so a search for room has ended, and what is decided there is done
+pub ended_since : {N : Type 0} (sort : Sort) (shows : N → Body) (n p a b : ℕ) (h k : List Event) (found : Result (Hand N) (Hand N)) → b ≡ a → Stretches a h k → FoundRoom sort shows n a p h k found → EndsForRoom sort shows n b p k found
+ended_since sort shows n p a b h k found same so room =
+    let under : Underway coupling a (Put 0 0) h k = so coupling (Put 0 0) (omega arith) in
+    (h, record { rest = under.rest; is = under.is }, subst (λ (z : ℕ). NoCallBy z under.rest) (sym same) under.none, subst (λ (z : ℕ). FoundRoom sort shows n z p h k found) (sym same) room)
+
+pub filled_since : {N : Type 0} (sort : Sort) (shows : N → Body) (template : Template) (n p a b : ℕ) (fill : Fill) (s h k l : List Event) (found : Result (Hand N) (Hand N)) (answer : Result Numbered Full) → b ≡ a → Stretches a h k → FoundRoom sort shows n a p h k found → Underway template a (filling p fill) s h → (Underway template b (filling p fill) s k → FullIsDue sort.layout n b p s k found → Done sort.layout template n b (filling p fill) s l (reply_in answer) (number_in answer)) → Done sort.layout template n a (filling p fill) s l (reply_in answer) (number_in answer)
+filled_since sort shows template n p a b fill s h k l found answer same so room under done =
+    subst (λ (z : ℕ). Underway template z (filling p fill) s k → FullIsDue sort.layout n z p s k found → Done sort.layout template n z (filling p fill) s l (reply_in answer) (number_in answer)) same done
+    (fill_goes_on template a p fill s h k under so)
+    (full_is_due sort shows n a p s h k found (record { rest = under.rest; is = under.is }) room)

@@ -10,7 +10,7 @@ use ks_arena::{Arena, Pass};
 use ks_flow::Tree;
 use ks_gate::Gate;
 use ks_node::Unlinked;
-use ks_shape::{Fill, Full, Numbered, fill_here, refuse_fill};
+use ks_shape::{Fill, Full, Numbered, fill_at};
 use std::sync::Wait;
 
 /// Puts or adds a value at a place. Answers the number of the call, and the value that stood there; or that the node is full
@@ -29,7 +29,7 @@ pub fn pair_fill<N: Unlinked, R: Wait, G: Gate>(
     ensures done { FinishesAny arena.now (filling place fill) pass.old pass.new (reply_in result) (number_in result) }
 {
     match make_room(rt, arena, pass, gate, place) {
-        Room::Found(held) => Ok(fill_here(arena, pass, gate, place, fill, held)),
-        Room::Refused(held) => Err(refuse_fill(arena, pass, gate, place, fill, held)),
+        Room::Found(held) => fill_at(arena, pass, gate, place, fill, Ok(held)),
+        Room::Refused(held) => fill_at(arena, pass, gate, place, fill, Err(held)),
     }
 }

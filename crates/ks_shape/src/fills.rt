@@ -1,9 +1,8 @@
 //! A put and an add as one operation with a value: where the search for its place ends, it is decided once for both.
 ghost use Rattle.std.specs.Prelude.{◌≡◌};
-ghost use Rattle.ks_history.specs.Map.{told};
-ghost use Rattle.ks_arena.specs.Of.{IsPassOf, IsEmptyPassOf, WasRefusedAt, SeesOn, SameCaller};
+ghost use Rattle.ks_arena.specs.Of.{IsPassOf, IsEmptyPassOf, SeesOn, SameCaller};
 ghost use Rattle.ks_shape.specs.Fills.{filling, not_later, EndsForRoomOf, FinishesFill};
-ghost use Rattle.ks_shape.specs.Of.{MakesNoneLive, FinishesAny, FinishesCrowded, HasRoomAt, IsCrowdedAt};
+ghost use Rattle.ks_shape.specs.Of.{MakesNoneLive};
 
 use crate::answers::{Full, Numbered, PutLater};
 use crate::here::{add_here, put_here, refuse_here};
@@ -20,59 +19,6 @@ pub enum Fill {
     Put(u128),
     /// The value, where none stands there.
     Add(u128),
-}
-
-/// Decides a put or an add where the search for its place has ended, at a node that has the place or room for it.
-pub fn fill_here<N: Node, D: Discipline, G: Gate>(
-    arena: &Arena<N, D>,
-    pass: &mut Pass<N, D>,
-    gate: &G,
-    place: u64,
-    fill: Fill,
-    held: Held<N>,
-) -> Numbered
-    requires pass { IsPassOf arena.now pass.old }
-    requires room { HasRoomAt arena.now place pass.old held }
-    ensures pass { IsEmptyPassOf arena.now pass.new }
-    ensures caller { SameCaller pass.old pass.new }
-    ensures begins { SeesOn pass.old pass.new }
-    ensures makes { MakesNoneLive pass.old pass.new }
-    ensures done { FinishesAny arena.now (filling place fill) pass.old pass.new (told result.found) result.number }
-{
-    match fill {
-        Fill::Put(value) => put_here(arena, pass, gate, place, value, held),
-        Fill::Add(value) => add_here(arena, pass, gate, place, value, held),
-    }
-}
-
-/// Decides a put or an add as full, as `refuse_here`.
-pub fn refuse_fill<N: Node, D: Discipline, G: Gate>(
-    arena: &Arena<N, D>,
-    pass: &mut Pass<N, D>,
-    gate: &G,
-    place: u64,
-    fill: Fill,
-    held: Held<N>,
-) -> Full
-    requires pass { IsPassOf arena.now pass.old }
-    requires crowded { IsCrowdedAt arena.now place pass.old held }
-    requires refused { WasRefusedAt arena.now pass.old place }
-    ensures pass { IsEmptyPassOf arena.now pass.new }
-    ensures caller { SameCaller pass.old pass.new }
-    ensures begins { SeesOn pass.old pass.new }
-    ensures makes { MakesNoneLive pass.old pass.new }
-    ensures done { FinishesCrowded arena.now (filling place fill) place pass.old pass.new result.number }
-{
-    match fill {
-        Fill::Put(value) => {
-            let op = Op::Put(place, value);
-            refuse_here(arena, pass, gate, place, value, held, op)
-        }
-        Fill::Add(value) => {
-            let op = Op::Add(place, value);
-            refuse_here(arena, pass, gate, place, value, held, op)
-        }
-    }
 }
 
 /// Decides a put or an add where a search for room has ended: at a node that has the place or room for it; or, `Err`, as full,
@@ -93,9 +39,17 @@ pub fn fill_at<N: Node, D: Discipline, G: Gate>(
     ensures makes { MakesNoneLive pass.old pass.new }
     ensures done { FinishesFill arena.now (filling place fill) place found pass.old pass.new result }
 {
-    match found {
-        Ok(held) => Ok(fill_here(arena, pass, gate, place, fill, held)),
-        Err(held) => Err(refuse_fill(arena, pass, gate, place, fill, held)),
+    match (fill, found) {
+        (Fill::Put(value), Ok(held)) => Ok(put_here(arena, pass, gate, place, value, held)),
+        (Fill::Add(value), Ok(held)) => Ok(add_here(arena, pass, gate, place, value, held)),
+        (Fill::Put(value), Err(held)) => {
+            let op = Op::Put(place, value);
+            Err(refuse_here(arena, pass, gate, place, value, held, op))
+        }
+        (Fill::Add(value), Err(held)) => {
+            let op = Op::Add(place, value);
+            Err(refuse_here(arena, pass, gate, place, value, held, op))
+        }
     }
 }
 

@@ -16,7 +16,7 @@ mod tries;
 pub use answers::{Full, Later, Numbered, PutLater};
 pub use claims::{claim_one, claim_two};
 pub use ending::{conclude, refuse, reply_of};
-pub use fills::{Fill, fill_at, fill_here, not_put_off, refuse_fill};
+pub use fills::{Fill, fill_at, not_put_off};
 pub use here::{
     add_here, del_here, get_here, has_room, put_here, refuse_here, swap_here, tree_end_law,
 };
