@@ -1,0 +1,13 @@
+use Rattle.std.proofs.Common.{rules, ◌≤◌, sym, ◌∙◌}
+use Rattle.std.specs.Prelude.{All}
+use Rattle.ks_node_times.proofs.Own.{suits_own, own_handed}
+use Rattle.ks_node_times.proofs.asked.cut_of.Goals as goal
+
+pub returns : goal.returns
+returns g c =
+    let b = g.N.Node.body c.args.node.now in
+    let r = c.range-range.result in
+    let inside : All (λ x. (r.low ≤ x.place) × (x.place ≤ r.last)) b.pairs = search rules in
+    let suits = suits_own b r c.range-range.ensures (c.node_law.ensures.framed r c.range-range.ensures) inside in
+    let cuts = c.cut.ensures.good r suits (own_handed r) in
+    (search rules, cuts.splits, λ all grows. c.cut.ensures.grows r suits (own_handed r) grows (λ _. sym c.range-range.ensures ∙ all))

@@ -1,0 +1,124 @@
+//! Calls on nodes, each after a test of what it asks, as the program runs.
+
+ghost use Rattle.std.specs.Prelude.{◌≡◌, ◌≤◌, IsTrue, IfSome, Some, All};
+ghost use Rattle.ks_node.specs.declared.start.Next.TheVariants.{Here};
+ghost use Rattle.ks_node.specs.Body.{content_of, all_places, next_at};
+ghost use Rattle.ks_node.specs.Room.{is_full};
+ghost use Rattle.ks_node.specs.Asks.{CanSplitAt};
+
+use ks_keysets::Span;
+use ks_node::{Next, Node, Ranged, Unlinked, node_law};
+use std::alloc::{AllocError, Global};
+
+/// Whether a search for the place ends at the node.
+fn is_here<N: Node>(node: &N, place: u64) -> bool
+    ensures { IsTrue result → next_at (N.body node.now) place ≡ Here }
+{
+    match node.next(place) {
+        Next::Here => true,
+        Next::Go(_) => false,
+    }
+}
+
+/// Whether all pairs lie in a span.
+fn lie_in<N: Node>(node: &N, span: &Span) -> bool
+    ensures { IsTrue result → All (λ x. (span.now.low ≤ x.place) × (x.place ≤ span.now.last)) (N.body node.now).pairs }
+{
+    for n in 0..node.pairs_held() {
+        let place = node.pair_at(n).place;
+        if place < span.low || span.last < place {
+            return false;
+        }
+    }
+    true
+}
+
+/// Puts a value at a place of the node's own, where there is room; answers whether it did.
+pub fn put<N: Ranged>(node: &mut N, place: u64, value: u128) -> bool {
+    let range = node.range();
+    if place < range.low || range.last < place || !is_here(node, place) {
+        return false;
+    }
+    if node.is_branch() || node.is_full() {
+        return false;
+    }
+    node_law(node);
+    node.put(place, value);
+    true
+}
+
+/// What `put` tests.
+pub fn can_put<N: Ranged>(node: &N, place: u64) -> bool {
+    let range = node.range();
+    if place < range.low || range.last < place || !is_here(node, place) {
+        return false;
+    }
+    !node.is_branch() && !node.is_full()
+}
+
+/// Deletes what stands at a place.
+pub fn del<N: Node>(node: &mut N, place: u64) -> Option<u128> {
+    if node.is_branch() {
+        return None;
+    }
+    node.del(place)
+}
+
+/// Where the node is cut, if it is full.
+pub fn cut<N: Node>(node: &N, span: Option<Span>) -> Option<u64> {
+    if node.is_full() {
+        Some(node.cut(span))
+    } else {
+        None
+    }
+}
+
+/// Where the node is cut, its range handed in, if it is full.
+fn cut_of<N: Ranged>(node: &N) -> Option<u64>
+    ensures { IfSome result (λ cut. IsTrue (is_full N.layout (N.body node.now)) × CanSplitAt (N.body node.now) cut
+        × ((N.body node.now).range ≡ Some all_places → IsTrue (N.grows_at (content_of (N.body node.now))) →
+        IsTrue (N.can_grow_at (content_of (N.body node.now)) cut))) }
+{
+    let range = node.range();
+    if !lie_in(node, &range) {
+        return None;
+    }
+    if !node.is_full() {
+        return None;
+    }
+    node_law(node);
+    Some(node.cut(Some(range)))
+}
+
+/// Becomes a branch over two new nodes, if it is full and can.
+pub fn grow<N: Unlinked + Ranged>(alloc: Global, node: &mut N) -> Result<(), AllocError> {
+    let mut left = N::blank(alloc)?;
+    let mut right = N::blank(alloc)?;
+    node_law(&left);
+    node_law(&right);
+    let range = node.range();
+    if range.low > 0 || range.last < u64::MAX || !node.grows() {
+        return Ok(());
+    }
+    if let Some(cut) = cut_of(node) {
+        node.grow(&mut left, &mut right, 1, 2, cut);
+    }
+    Ok(())
+}
+
+/// Adds an edge from the cut on, if it can be added.
+pub fn adopt<N: Ranged>(node: &mut N, cut: u64, id: u32) {
+    let range = node.range();
+    if cut <= range.low || range.last < cut || !node.can_adopt(cut) {
+        return;
+    }
+    let below = Span {
+        low: 0,
+        last: cut - 1,
+    };
+    if !lie_in(node, &below) {
+        return;
+    }
+    node_law(node);
+    node.adopt(cut, id);
+}
