@@ -161,7 +161,9 @@ fn span_for<N: Node>(nodes: &[N], times: u64) -> u64 {
     let mut sum = 0u64;
     for i in 0..times {
         if let Some(node) = nodes.get((i % 8) as usize) {
-            sum = sum.wrapping_add(node.span_for(place_of(i)).is_some() as u64);
+            if let Some(span) = node.span_for(place_of(i)) {
+                sum = sum.wrapping_add(span.low ^ span.last);
+            }
         }
     }
     sum
