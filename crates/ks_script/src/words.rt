@@ -119,11 +119,15 @@ pub fn leading(bytes: &[u8]) -> Option<(u64, &[u8])>
     None
 }
 
-/// The number below 2^128 that the bytes are the digits of. Most are below 2^64, and those are read by words of 64 bits.
+/// The number below 2^128 that the bytes are the digits of. Most are below 2^64, and those are read by words of 64 bits;
+/// they have 20 digits at most.
 pub fn wide_number(bytes: &[u8]) -> Option<u128>
     ensures some { IfSome result (λ n. bytes.now ≡ decimal n) }
     ensures none { IfNone result ((n : ℕ) → n < 2 ^ 128 → bytes.now ≢ decimal n) }
 {
+    if bytes.len() > 20 {
+        return great_number(bytes);
+    }
     match number(bytes) {
         Some(number) => Some(u128::from(number)),
         None => great_number(bytes),
