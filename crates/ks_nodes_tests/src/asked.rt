@@ -2,9 +2,10 @@
 
 ghost use Rattle.std.specs.Prelude.{◌≢◌, ◌≡◌, ◌≤◌, IsTrue, Some, All, false};
 ghost use Rattle.ks_node.specs.declared.start.Next.TheVariants.{Here};
-ghost use Rattle.ks_node.specs.Body.{content_of, is_branch, first_node, IsBlank, all_places, next_at};
+ghost use Rattle.ks_node.specs.Body.{is_branch, first_node, IsBlank, next_at};
 ghost use Rattle.ks_node.specs.Room.{is_full};
 ghost use Rattle.ks_node.specs.Asks.{CanSplitAt};
+ghost use Rattle.ks_nodes_tests.specs.Asked.{GrowsOverAll};
 
 use ks_keysets::Span;
 use ks_node::{Linked, Next, Node, Ranged, Unlinked, node_law};
@@ -72,7 +73,7 @@ pub fn del<N: Node>(rt: &impl Abort, node: &mut N, place: u64) -> Option<u128> {
 fn cut_of<N: Ranged>(rt: &impl Abort, node: &N) -> u64
     ensures full { IsTrue (is_full N.layout (N.body node.now)) }
     ensures splits { CanSplitAt (N.body node.now) result }
-    ensures grows { (N.body node.now).range ≡ Some all_places → IsTrue (N.grows_at (content_of (N.body node.now))) → IsTrue (N.can_grow_at (content_of (N.body node.now)) result) }
+    ensures grows { GrowsOverAll N.grows_at N.can_grow_at (N.body node.now) result }
 {
     let range = node.range();
     assert!(rt; lie_in(node, &range));
