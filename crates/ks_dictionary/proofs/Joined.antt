@@ -27,7 +27,7 @@ use Rattle.ks_arena.specs.Clauses.{EndsAll, seen_of}
 use Rattle.ks_shape.specs.Idle.{Site, IsIdle}
 use Rattle.ks_dictionary.specs.Crew.{AreNew, AreAll, site_with}
 use Rattle.ks_dictionary.specs.Called.{HaveCalled}
-use Rattle.ks_dictionary.specs.Work.{AreAbout, HasRun, WaitsAs, FinishedAs, asked_by, told_by}
+use Rattle.ks_dictionary.specs.Work.{AreAbout, HasRoom, HasRun, WaitsAs, FinishedAs, asked_by, told_by}
 use Rattle.ks_dictionary.specs.declared.job.Job.{Job}
 use Rattle.ks_tickets.specs.Clauses.{EachAs}
 
@@ -153,7 +153,7 @@ module _ (sort : Sort) (begins : Frame → Type 0) (step : (ℕ → NodeState) �
 
 module _ (a : Site) {N D W : Type 0} where
   -- new passes with scripts and room wait
-  pub all_wait : (js : List (Job N D W)) → AreNew a (map (λ j. j.pass) js) → All (λ j. length j.lines.items ≡ length j.ops.items) js
+  pub all_wait : (js : List (Job N D W)) → AreNew a (map (λ j. j.pass) js) → All HasRoom js
       → EachAs (WaitsAs a (map (λ j. j.ops.items) js)) js
   all_wait js crew room t near =
       let at = elem_at js t near in
@@ -165,7 +165,7 @@ module _ (a : Site) {N D W : Type 0} where
           ready = record {
             pass = (new.pass, ap (hand j.pass.caller) new.seen);
             fresh = ap (calls_by j.pass.caller) new.seen;
-            room = subst (λ (x : Job N D W). length x.lines.items ≡ length x.ops.items) (at_or js t j j at.1) (room t j near);
+            lines = subst (λ (x : Job N D W). HasRoom x) (at_or js t j j at.1) (room t j near);
           };
           caller = new.caller;
           script = at_map (λ x. x.ops.items) js t j at.1;

@@ -1,5 +1,5 @@
 -- What the work of a caller begins with and comes to.
-use Rattle.std.specs.Prelude.{ℕ, ◌≡◌, List, [], ◌++◌, map, length}
+use Rattle.std.specs.Prelude.{ℕ, ◌≡◌, ◌≤◌, List, [], ◌++◌, map, length, vec_capacity}
 use mathlib.Core.Option.{some}
 use lib.ListN.{get_elem?}
 use Rattle.atomic_table.specs.Seated.{TableId}
@@ -33,12 +33,18 @@ pub record AreAbout (a : Site) (table : TableId) (callers nodes : ℕ) : Type 0 
   pub callers_are : callers ≡ a.callers
   pub nodes_are : nodes ≡ a.nodes
 
+module _ {N D W : Type 0} where
+  -- no line is written, and there is room for one for each call
+  pub record HasRoom (job : Job N D W) : Type 0 where
+    pub blank : job.lines.items ≡ []
+    pub room : length job.ops.items ≤ vec_capacity job.lines
+
 module _ {N D W : Type 0} (a : Site) where
-  -- the caller holds nothing and has made no call, and there is a line for each of its calls
+  -- the caller holds nothing and has made no call, and there is room for a line for each of its calls
   pub record IsReadyJob (job : Job N D W) : Type 0 where
     pub pass : IsIdle a job.pass
     pub fresh : calls_by job.pass.caller (seen_of job.pass) ≡ []
-    pub room : length job.lines.items ≡ length job.ops.items
+    pub lines : HasRoom job
 
   -- the caller holds nothing, and has made the calls of its script, with places for keys, in order; its lines tell their
   -- numbers and replies

@@ -7,7 +7,7 @@ ghost use Rattle.ks_arena.specs.Sound.{sort_of};
 ghost use Rattle.ks_dictionary.specs.Called.{HaveCalled};
 ghost use Rattle.ks_dictionary.specs.Ended.{HasEndedWith, history};
 ghost use Rattle.ks_dictionary.specs.Of.{AreNewPassesOf, nodes_of, site_of};
-ghost use Rattle.ks_dictionary.specs.Work.{AreAbout};
+ghost use Rattle.ks_dictionary.specs.Work.{AreAbout, HasRoom};
 
 use crate::about::About;
 use crate::closed::Closed;
@@ -34,18 +34,7 @@ pub struct Told {
     pub trace: RunTrace,
 }
 
-/// Room for so many lines.
-fn blank_lines(alloc: Global, calls: usize) -> Result<Vec<(u64, Reply)>, AllocError>
-    ensures { IfOk result (λ lines. length lines.items ≡ calls) }
-{
-    let mut lines = Vec::with_capacity(alloc, calls)?;
-    for _ in 0..calls {
-        lines.push((0, Reply::Nothing))?;
-    }
-    Ok(lines)
-}
-
-/// Each pass with its script, and a line for each of its calls.
+/// Each pass with its script, and room for a line for each of its calls.
 fn jobs_of<N, D, W>(
     alloc: Global,
     passes: Vec<Pass<N, D>>,
@@ -54,11 +43,11 @@ fn jobs_of<N, D, W>(
     requires { length passes.items ≡ length scripts.items }
     ensures passes { IfOk result (λ jobs. map (λ job. job.pass) jobs.items ≡ passes.items) }
     ensures scripts { IfOk result (λ jobs. map (λ job. job.ops) jobs.items ≡ scripts.items) }
-    ensures room { IfOk result (λ jobs. All (λ job. length job.lines.items ≡ length job.ops.items) jobs.items) }
+    ensures room { IfOk result (λ jobs. All HasRoom jobs.items) }
 {
     let mut jobs = Vec::with_capacity(alloc, passes.len())?;
     for (pass, ops) in passes.into_iter().zip(scripts) {
-        let lines = blank_lines(alloc, ops.len())?;
+        let lines = Vec::with_capacity(alloc, ops.len())?;
         jobs.push(Job {
             pass,
             ops,

@@ -1,6 +1,6 @@
-//! The work of the callers, by workers that draw whole callers. Each job has a line for each of its calls from the start,
-//! so no worker is given an allocator.
-ghost use Rattle.std.specs.Prelude.{◌≡◌, ℕ, ◌<◌, ◌++◌, ◌∷◌, [], map, length, All, slice_index_or};
+//! The work of the callers, by workers that draw whole callers. Each job has room for a line for each of its calls from
+//! the start, so no worker is given an allocator.
+ghost use Rattle.std.specs.Prelude.{◌≡◌, ℕ, ◌<◌, ◌≤◌, ◌++◌, ◌∷◌, [], map, length, All, slice_index_or, vec_capacity};
 ghost use Rattle.ks_history.specs.Map.{told};
 ghost use Rattle.ks_history.specs.Trace.{calls_by};
 ghost use Rattle.ks_history.specs.Calls.{numbered};
@@ -72,17 +72,18 @@ fn call_each<N: Node, T: Ruled + Template<N, Arena<N, <T as Ruled>::Rule>>, R: W
     gate: &G,
     pass: &mut Pass<N, T::Rule>,
     ops: &[Op],
-    lines: &mut [(u64, Reply)],
+    lines: &mut Vec<(u64, Reply)>,
 )
     requires pass { IsIdlePassOf dictionary.now pass.old }
-    requires room { length lines.old ≡ length ops.now }
+    requires blank { lines.old.items ≡ [] }
+    requires room { length ops.now ≤ vec_capacity lines.old }
     ensures pass { IsIdlePassOf dictionary.now pass.new }
     ensures caller { SameCaller pass.old pass.new }
     ensures asked { HasAsked (caller_of pass.old) (seen_of pass.old) (seen_of pass.new) (map (at_place N.Places.place_of) ops.now) }
-    ensures told { HasAnswered (caller_of pass.old) (seen_of pass.old) (seen_of pass.new) lines.new }
+    ensures told { HasAnswered (caller_of pass.old) (seen_of pass.old) (seen_of pass.new) lines.new.items }
 {
     for at in 0..ops.len() {
-        lines[at] = call(rt, dictionary, gate, pass, ops[at]);
+        lines.push_reserved(call(rt, dictionary, gate, pass, ops[at]));
     }
 }
 
@@ -102,7 +103,7 @@ fn run_job<N: Node, T: Ruled + Template<N, Arena<N, <T as Ruled>::Rule>>, R: Wai
         gate,
         &mut job.pass,
         job.ops.as_slice(),
-        job.lines.as_mut_slice(),
+        &mut job.lines,
     );
 }
 
