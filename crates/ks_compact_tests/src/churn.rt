@@ -1,17 +1,16 @@
 //! A churn: many callers put and delete at once, each on a thread of its own where one can be had.
-ghost use Rattle.std.specs.Prelude.{◌≡◌, ℕ, ◌<◌, ◌≤◌, length, All, IfOk, slice_index_or};
+ghost use Rattle.std.specs.Prelude.{◌<◌, ◌≤◌, length, IfOk};
 ghost use Rattle.ks_arena.specs.Sound.{sort_of};
-ghost use Rattle.ks_shape.specs.Idle.{IsIdle};
-ghost use Rattle.ks_dictionary.specs.Crew.{site_with};
+ghost use Rattle.ks_arena.specs.Of.{SameCaller};
 ghost use Rattle.ks_dictionary.specs.Ended.{HasEnded};
-ghost use Rattle.ks_compact_tests.specs.Many.{AreInOrder, IsSameCaller};
+ghost use Rattle.ks_dictionary.specs.Of.{AreOrderedPassesOf, IsIdlePassOf};
 
 use crate::runs::compact_until_none;
 use ks_arena::{Arena, Pass};
 use ks_dictionary::{Closed, Dictionary};
 use ks_gate::NoGate;
 use ks_node::Node;
-use ks_shape::{Ruled, Shelf, Template};
+use ks_shape::{Ruled, Template};
 use ks_tidy::Compacting;
 use std::alloc::{AllocError, Global};
 use std::sync::Wait;
@@ -32,8 +31,9 @@ fn put_own<N: Node, T: Ruled + Template<N, Arena<N, <T as Ruled>::Rule>>, R: Wai
     dictionary: &Dictionary<N, T>,
     pass: &mut Pass<N, T::Rule>,
 )
-    requires { IsIdle (⟦<Dictionary<N, T> as Shelf>⟧.site dictionary.now) pass.old }
-    ensures { IsSameCaller (⟦<Dictionary<N, T> as Shelf>⟧.site dictionary.now) pass.old pass.new }
+    requires { IsIdlePassOf dictionary.now pass.old }
+    ensures pass { IsIdlePassOf dictionary.now pass.new }
+    ensures caller { SameCaller pass.old pass.new }
 {
     let first = u64::from(pass.caller());
     for count in 0..KEYS {
@@ -48,8 +48,9 @@ fn del_own<N: Node, T: Ruled + Template<N, Arena<N, <T as Ruled>::Rule>>, R: Wai
     dictionary: &Dictionary<N, T>,
     pass: &mut Pass<N, T::Rule>,
 )
-    requires { IsIdle (⟦<Dictionary<N, T> as Shelf>⟧.site dictionary.now) pass.old }
-    ensures { IsSameCaller (⟦<Dictionary<N, T> as Shelf>⟧.site dictionary.now) pass.old pass.new }
+    requires { IsIdlePassOf dictionary.now pass.old }
+    ensures pass { IsIdlePassOf dictionary.now pass.new }
+    ensures caller { SameCaller pass.old pass.new }
 {
     let first = u64::from(pass.caller());
     for count in 0..KEYS {
@@ -64,8 +65,9 @@ fn churn_one<N: Node, T: Ruled + Template<N, Arena<N, <T as Ruled>::Rule>>, R: W
     dictionary: &Dictionary<N, T>,
     pass: &mut Pass<N, T::Rule>,
 )
-    requires { IsIdle (⟦<Dictionary<N, T> as Shelf>⟧.site dictionary.now) pass.old }
-    ensures { IsSameCaller (⟦<Dictionary<N, T> as Shelf>⟧.site dictionary.now) pass.old pass.new }
+    requires { IsIdlePassOf dictionary.now pass.old }
+    ensures pass { IsIdlePassOf dictionary.now pass.new }
+    ensures caller { SameCaller pass.old pass.new }
 {
     for _ in 0..ROUNDS {
         put_own(rt, dictionary, pass);
@@ -82,11 +84,8 @@ fn churn_each<
 where
     N::Places: Send + Sync,
     requires some { 0 < length passes.old }
-    requires idle { All (λ pass. IsIdle (⟦<Dictionary<N, T> as Shelf>⟧.site dictionary.now) pass) passes.old }
-    ensures count { length passes.new ≡ length passes.old }
-    ensures same { (i : ℕ) (d : _) → i < length passes.old →
-        IsSameCaller (⟦<Dictionary<N, T> as Shelf>⟧.site dictionary.now)
-        (slice_index_or passes.old i d) (slice_index_or passes.new i d) }
+    requires passes { AreOrderedPassesOf dictionary.now passes.old }
+    ensures { AreOrderedPassesOf dictionary.now passes.new }
 {
     let threads = passes.len();
     for_each_mut(
@@ -94,12 +93,9 @@ where
         passes,
         threads,
         &|_: usize, pass: &mut Pass<N, T::Rule>|
-            requires { IsIdle (site_with (sort_of N.layout N.ranged) T.Rule.begins T.Rule.step
-                dictionary.now.arena.table.shared.table_id
-                dictionary.now.arena.callers dictionary.now.arena.nodes) pass.old }
-            ensures { IsSameCaller (site_with (sort_of N.layout N.ranged) T.Rule.begins T.Rule.step
-                dictionary.entry.now.arena.table.shared.table_id
-                dictionary.entry.now.arena.callers dictionary.entry.now.arena.nodes) pass.old pass.new }
+            requires { IsIdlePassOf dictionary.now pass.old }
+            ensures pass { IsIdlePassOf dictionary.entry.now pass.new }
+            ensures caller { SameCaller pass.old pass.new }
         { churn_one(rt, dictionary, pass) },
     );
 }
@@ -111,8 +107,8 @@ fn compact_by_first<N: Node, T: Ruled + Compacting<N, Arena<N, <T as Ruled>::Rul
     passes: &mut [Pass<N, T::Rule>],
 )
     requires some { 0 < length passes.old }
-    requires passes { AreInOrder (⟦<Dictionary<N, T> as Shelf>⟧.site dictionary.now) passes.old }
-    ensures { AreInOrder (⟦<Dictionary<N, T> as Shelf>⟧.site dictionary.now) passes.new }
+    requires passes { AreOrderedPassesOf dictionary.now passes.old }
+    ensures { AreOrderedPassesOf dictionary.now passes.new }
 {
     compact_until_none(rt, dictionary, &mut passes[0]);
 }
@@ -126,8 +122,8 @@ fn churn_and_compact<
 where
     N::Places: Send + Sync,
     requires some { 0 < length passes.old }
-    requires passes { AreInOrder (⟦<Dictionary<N, T> as Shelf>⟧.site dictionary.now) passes.old }
-    ensures { AreInOrder (⟦<Dictionary<N, T> as Shelf>⟧.site dictionary.now) passes.new }
+    requires passes { AreOrderedPassesOf dictionary.now passes.old }
+    ensures { AreOrderedPassesOf dictionary.now passes.new }
 {
     churn_each(rt, dictionary, passes);
     compact_by_first(rt, dictionary, passes);
@@ -146,5 +142,6 @@ where
 {
     let (dictionary, mut passes) = Dictionary::<N, T>::start(alloc, nodes, CALLERS)?;
     churn_and_compact(rt, &dictionary, passes.as_mut_slice());
+    dictionary.passes_law();
     Ok(dictionary.close(passes))
 }

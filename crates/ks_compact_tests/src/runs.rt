@@ -1,16 +1,16 @@
 //! Runs of one caller over a dictionary: puts, dels, and compaction.
 ghost use Rattle.std.specs.Prelude.{◌≡◌, ◌≤◌, ◌∷◌, [], IfOk};
 ghost use Rattle.ks_arena.specs.Sound.{sort_of};
-ghost use Rattle.ks_shape.specs.Idle.{IsIdle};
+ghost use Rattle.ks_arena.specs.Of.{SameCaller};
 ghost use Rattle.ks_dictionary.specs.Ended.{HasEnded};
-ghost use Rattle.ks_compact_tests.specs.Many.{IsSameCaller};
+ghost use Rattle.ks_dictionary.specs.Of.{IsIdlePassOf};
 ghost use Rattle.ks_compact_tests.specs.Only.{IsOnly};
 
 use ks_arena::{Arena, Pass};
 use ks_dictionary::{Closed, Dictionary};
 use ks_gate::NoGate;
 use ks_node::Node;
-use ks_shape::{Ruled, Shelf, Template};
+use ks_shape::{Ruled, Template};
 use ks_tidy::Compacting;
 use std::alloc::{AllocError, Global};
 use std::sync::Wait;
@@ -21,7 +21,7 @@ pub(crate) fn start_one<N: Node, T: Ruled + Template<N, Arena<N, <T as Ruled>::R
     nodes: u32,
 ) -> Result<(Dictionary<N, T>, Pass<N, T::Rule>), AllocError>
     requires nodes { (4 ≤ nodes) × (nodes ≤ 1048576) }
-    ensures { IfOk result (λ r. IsOnly (⟦<Dictionary<N, T> as Shelf>⟧.site r.0) r.1) }
+    ensures { IfOk result (λ r. IsOnly r.0 r.1) }
 {
     let (dictionary, mut passes) = Dictionary::<N, T>::start(alloc, nodes, 1)?;
     let Some(pass) = passes.pop() else {
@@ -39,8 +39,8 @@ pub(crate) fn put_each<N: Node, T: Ruled + Template<N, Arena<N, <T as Ruled>::Ru
     many: u64,
     stride: u64,
 ) -> bool
-    requires { IsOnly (⟦<Dictionary<N, T> as Shelf>⟧.site dictionary.now) pass.old }
-    ensures { IsOnly (⟦<Dictionary<N, T> as Shelf>⟧.site dictionary.now) pass.new }
+    requires { IsOnly dictionary.now pass.old }
+    ensures { IsOnly dictionary.now pass.new }
 {
     let mut right = true;
     for count in 0..many {
@@ -62,8 +62,8 @@ pub(crate) fn del_each<N: Node, T: Ruled + Template<N, Arena<N, <T as Ruled>::Ru
     many: u64,
     stride: u64,
 ) -> bool
-    requires { IsOnly (⟦<Dictionary<N, T> as Shelf>⟧.site dictionary.now) pass.old }
-    ensures { IsOnly (⟦<Dictionary<N, T> as Shelf>⟧.site dictionary.now) pass.new }
+    requires { IsOnly dictionary.now pass.old }
+    ensures { IsOnly dictionary.now pass.new }
 {
     let mut right = true;
     for count in 0..many {
@@ -80,8 +80,8 @@ pub(crate) fn compact_once<
     T: Ruled + Compacting<N, Arena<N, <T as Ruled>::Rule>>,
     R: Wait,
 >(rt: &R, dictionary: &Dictionary<N, T>, pass: &mut Pass<N, T::Rule>) -> u32
-    requires { IsOnly (⟦<Dictionary<N, T> as Shelf>⟧.site dictionary.now) pass.old }
-    ensures { IsOnly (⟦<Dictionary<N, T> as Shelf>⟧.site dictionary.now) pass.new }
+    requires { IsOnly dictionary.now pass.old }
+    ensures { IsOnly dictionary.now pass.new }
 {
     dictionary.compact(rt, pass, &NoGate)
 }
@@ -92,8 +92,9 @@ pub(crate) fn compact_until_none<
     T: Ruled + Compacting<N, Arena<N, <T as Ruled>::Rule>>,
     R: Wait,
 >(rt: &R, dictionary: &Dictionary<N, T>, pass: &mut Pass<N, T::Rule>)
-    requires { IsIdle (⟦<Dictionary<N, T> as Shelf>⟧.site dictionary.now) pass.old }
-    ensures { IsSameCaller (⟦<Dictionary<N, T> as Shelf>⟧.site dictionary.now) pass.old pass.new }
+    requires { IsIdlePassOf dictionary.now pass.old }
+    ensures pass { IsIdlePassOf dictionary.now pass.new }
+    ensures caller { SameCaller pass.old pass.new }
 {
     for _ in rt.forever() {
         if dictionary.compact(rt, pass, &NoGate) == 0 {
@@ -108,8 +109,8 @@ pub(crate) fn compact_all<N: Node, T: Ruled + Compacting<N, Arena<N, <T as Ruled
     dictionary: &Dictionary<N, T>,
     pass: &mut Pass<N, T::Rule>,
 )
-    requires { IsOnly (⟦<Dictionary<N, T> as Shelf>⟧.site dictionary.now) pass.old }
-    ensures { IsOnly (⟦<Dictionary<N, T> as Shelf>⟧.site dictionary.now) pass.new }
+    requires { IsOnly dictionary.now pass.old }
+    ensures { IsOnly dictionary.now pass.new }
 {
     compact_until_none(rt, dictionary, pass);
 }
@@ -129,7 +130,7 @@ pub(crate) fn end_one<N: Node, T: Ruled + Template<N, Arena<N, <T as Ruled>::Rul
     dictionary: Dictionary<N, T>,
     pass: Pass<N, T::Rule>,
 ) -> Result<Closed<N>, AllocError>
-    requires { IsOnly (⟦<Dictionary<N, T> as Shelf>⟧.site dictionary) pass }
+    requires { IsOnly dictionary pass }
     ensures { IfOk result (λ closed. HasEnded (sort_of N.layout N.ranged) N.body closed) }
 {
     let all = alone(alloc, pass)?;

@@ -1,13 +1,13 @@
 //! Dictionaries of two callers, and what one of them puts.
 ghost use Rattle.std.specs.Prelude.{◌≡◌, ◌≤◌, IfOk};
-ghost use Rattle.ks_shape.specs.Idle.{IsIdle};
 ghost use Rattle.ks_arena.specs.Of.{SameCaller};
+ghost use Rattle.ks_dictionary.specs.Of.{IsIdlePassOf};
 
 use ks_arena::{Arena, Pass};
 use ks_dictionary::Dictionary;
 use ks_gate::NoGate;
 use ks_node::Node;
-use ks_shape::{Later, Numbered, PutLater, Ruled, Shelf, Template};
+use ks_shape::{Later, Numbered, PutLater, Ruled, Template};
 use std::alloc::{AllocError, Global};
 use std::sync::Wait;
 
@@ -30,8 +30,8 @@ pub(crate) fn two_callers<N: Node, T: Ruled + Template<N, Arena<N, <T as Ruled>:
     nodes: u32,
 ) -> Result<(Dictionary<N, T>, Pass<N, T::Rule>, Pass<N, T::Rule>), AllocError>
     requires nodes { (4 ≤ nodes) × (nodes ≤ 1048576) }
-    ensures one { IfOk result (λ x. IsIdle (⟦<Dictionary<N, T> as Shelf>⟧.site x.0) x.1) }
-    ensures two { IfOk result (λ x. IsIdle (⟦<Dictionary<N, T> as Shelf>⟧.site x.0) x.2) }
+    ensures one { IfOk result (λ x. IsIdlePassOf x.0 x.1) }
+    ensures two { IfOk result (λ x. IsIdlePassOf x.0 x.2) }
 {
     let (dictionary, mut passes) = Dictionary::<N, T>::start(alloc, nodes, 2)?;
     let Some(two) = passes.pop() else {
@@ -52,8 +52,8 @@ pub(crate) fn put_each<N: Node, T: Ruled + Template<N, Arena<N, <T as Ruled>::Ru
     first: u64,
     many: u64,
 ) -> bool
-    requires pass { IsIdle (⟦<Dictionary<N, T> as Shelf>⟧.site dictionary.now) pass.old }
-    ensures pass { IsIdle (⟦<Dictionary<N, T> as Shelf>⟧.site dictionary.now) pass.new }
+    requires pass { IsIdlePassOf dictionary.now pass.old }
+    ensures pass { IsIdlePassOf dictionary.now pass.new }
     ensures caller { SameCaller pass.old pass.new }
 {
     let mut right = true;
@@ -73,8 +73,8 @@ pub(crate) fn try_del_below<N: Node, T: Ruled + Template<N, Arena<N, <T as Ruled
     pass: &mut Pass<N, T::Rule>,
     many: u64,
 ) -> bool
-    requires pass { IsIdle (⟦<Dictionary<N, T> as Shelf>⟧.site dictionary.now) pass.old }
-    ensures pass { IsIdle (⟦<Dictionary<N, T> as Shelf>⟧.site dictionary.now) pass.new }
+    requires pass { IsIdlePassOf dictionary.now pass.old }
+    ensures pass { IsIdlePassOf dictionary.now pass.new }
     ensures caller { SameCaller pass.old pass.new }
 {
     let mut right = true;

@@ -1,6 +1,5 @@
 //! Calls that wait for nobody beside another caller, each on a thread of its own.
-ghost use Rattle.ks_arena.specs.Of.{IsEmptyPassOf};
-ghost use Rattle.ks_shape.specs.Idle.{IsIdle};
+ghost use Rattle.ks_dictionary.specs.Of.{IsIdlePassOf};
 
 use crate::crews::{LONG, put_each, told, two_callers};
 use ks_arena::Pass;
@@ -11,7 +10,7 @@ use ks_flow::Tree;
 use ks_gate::{Meet, NoGate, Point};
 use ks_giveup::GiveUp;
 use ks_node::WithRange;
-use ks_shape::{Full, Later, Numbered, Shelf};
+use ks_shape::{Full, Later, Numbered};
 use std::sync::Wait;
 use std::test::Fail;
 use std::thread::{Threads, join};
@@ -25,8 +24,8 @@ type Both = [Result<Numbered, Later>; 2];
 
 /// Tries to get key 0, and then key 16.
 fn try_both(dictionary: &Coupled, gate: &Meet, mut pass: Walker) -> (Walker, Both)
-    requires { IsIdle (⟦<Dictionary<BNode, Coupling> as Shelf>⟧.site dictionary.now) pass }
-    ensures { IsIdle (⟦<Dictionary<BNode, Coupling> as Shelf>⟧.site dictionary.now) result.0 }
+    requires { IsIdlePassOf dictionary.now pass }
+    ensures { IsIdlePassOf dictionary.now result.0 }
 {
     let low = dictionary.try_get(&mut pass, gate, 0);
     let high = dictionary.try_get(&mut pass, gate, 16);
@@ -41,18 +40,18 @@ fn get_beside<R: Threads + Wait + Sync>(
     mut one: Walker,
     two: Walker,
 ) -> (Numbered, (Walker, Both))
-    requires one { IsIdle (⟦<Dictionary<BNode, Coupling> as Shelf>⟧.site dictionary.now) one }
-    requires two { IsIdle (⟦<Dictionary<BNode, Coupling> as Shelf>⟧.site dictionary.now) two }
-    ensures { IsIdle (⟦<Dictionary<BNode, Coupling> as Shelf>⟧.site dictionary.now) result.1.0 }
+    requires one { IsIdlePassOf dictionary.now one }
+    requires two { IsIdlePassOf dictionary.now two }
+    ensures { IsIdlePassOf dictionary.now result.1.0 }
 {
     join(
         rt,
         move || -> Numbered
-            requires { IsEmptyPassOf dictionary.now.arena one }
+            requires { IsIdlePassOf dictionary.now one }
         { dictionary.get(rt, &mut one, gate, 0) },
         move || -> (Walker, Both)
-            requires { IsEmptyPassOf dictionary.now.arena two }
-            ensures { IsEmptyPassOf dictionary.entry.now.arena result.0 }
+            requires { IsIdlePassOf dictionary.now two }
+            ensures { IsIdlePassOf dictionary.entry.now result.0 }
         { try_both(dictionary, gate, two) },
     )
 }
@@ -85,8 +84,8 @@ type Walk = Pass<WithRange<BNode>, Tree>;
 
 /// Tries to get key 23.
 fn try_last(dictionary: &GivenUp, gate: &Meet, mut pass: Walk) -> (Walk, Result<Numbered, Later>)
-    requires { IsIdle (⟦<Dictionary<WithRange<BNode>, GiveUp> as Shelf>⟧.site dictionary.now) pass }
-    ensures { IsIdle (⟦<Dictionary<WithRange<BNode>, GiveUp> as Shelf>⟧.site dictionary.now) result.0 }
+    requires { IsIdlePassOf dictionary.now pass }
+    ensures { IsIdlePassOf dictionary.now result.0 }
 {
     let answer = dictionary.try_get(&mut pass, gate, 23);
     (pass, answer)
@@ -100,18 +99,18 @@ fn put_beside<R: Threads + Wait + Sync>(
     mut one: Walk,
     two: Walk,
 ) -> (Result<Numbered, Full>, (Walk, Result<Numbered, Later>))
-    requires one { IsIdle (⟦<Dictionary<WithRange<BNode>, GiveUp> as Shelf>⟧.site dictionary.now) one }
-    requires two { IsIdle (⟦<Dictionary<WithRange<BNode>, GiveUp> as Shelf>⟧.site dictionary.now) two }
-    ensures { IsIdle (⟦<Dictionary<WithRange<BNode>, GiveUp> as Shelf>⟧.site dictionary.now) result.1.0 }
+    requires one { IsIdlePassOf dictionary.now one }
+    requires two { IsIdlePassOf dictionary.now two }
+    ensures { IsIdlePassOf dictionary.now result.1.0 }
 {
     join(
         rt,
         move || -> Result<Numbered, Full>
-            requires { IsEmptyPassOf dictionary.now.arena one }
+            requires { IsIdlePassOf dictionary.now one }
         { dictionary.put(rt, &mut one, gate, 24, 24) },
         move || -> (Walk, Result<Numbered, Later>)
-            requires { IsEmptyPassOf dictionary.now.arena two }
-            ensures { IsEmptyPassOf dictionary.entry.now.arena result.0 }
+            requires { IsIdlePassOf dictionary.now two }
+            ensures { IsIdlePassOf dictionary.entry.now result.0 }
         { try_last(dictionary, gate, two) },
     )
 }

@@ -1,8 +1,5 @@
 //! Notes: what one caller has seen, another learns.
-ghost use Rattle.ks_arena.specs.Clauses.{IsNote};
-ghost use Rattle.ks_arena.specs.Of.{IsEmptyPassOf};
-ghost use Rattle.ks_shape.specs.Idle.{IsIdle};
-ghost use Rattle.ks_dictionary.specs.Crew.{IsNoteOf};
+ghost use Rattle.ks_dictionary.specs.Of.{IsIdlePassOf, IsNoteFrom};
 
 use crate::crews::two_callers;
 use ks_arena::{Note, Pass};
@@ -11,7 +8,6 @@ use ks_dictionary::Dictionary;
 use ks_flow::Tree;
 use ks_gate::NoGate;
 use ks_list::ListNode;
-use ks_shape::Shelf;
 use std::sync::Wait;
 use std::test::Fail;
 use std::thread::{Threads, join};
@@ -37,9 +33,9 @@ fn a_note_is_learnt(rt: HostRuntime) -> Result<(), Fail> {
 
 /// Puts a value of ten times the key, and notes it.
 fn put_and_note<R: Wait>(rt: &R, dictionary: &Lists, mut pass: Caller, key: u64) -> (Caller, News)
-    requires { IsIdle (⟦<Dictionary<ListNode, Coupling> as Shelf>⟧.site dictionary.now) pass }
-    ensures pass { IsIdle (⟦<Dictionary<ListNode, Coupling> as Shelf>⟧.site dictionary.now) result.0 }
-    ensures note { IsNoteOf (⟦<Dictionary<ListNode, Coupling> as Shelf>⟧.site dictionary.now) result.1 }
+    requires { IsIdlePassOf dictionary.now pass }
+    ensures pass { IsIdlePassOf dictionary.now result.0 }
+    ensures note { IsNoteFrom dictionary.now result.1 }
 {
     let _told = dictionary.put(rt, &mut pass, &NoGate, key, u128::from(key) * 10);
     let note = dictionary.note(&mut pass);
@@ -54,8 +50,8 @@ fn learn_and_get<R: Wait>(
     note: News,
     key: u64,
 ) -> Option<u128>
-    requires pass { IsIdle (⟦<Dictionary<ListNode, Coupling> as Shelf>⟧.site dictionary.now) pass }
-    requires note { IsNoteOf (⟦<Dictionary<ListNode, Coupling> as Shelf>⟧.site dictionary.now) note }
+    requires pass { IsIdlePassOf dictionary.now pass }
+    requires note { IsNoteFrom dictionary.now note }
 {
     dictionary.learn(&mut pass, note);
     dictionary.get(rt, &mut pass, &NoGate, key).found
@@ -68,24 +64,24 @@ fn both_put<R: Threads + Wait + Sync>(
     one: Caller,
     two: Caller,
 ) -> ((Caller, News), (Caller, News))
-    requires one { IsIdle (⟦<Dictionary<ListNode, Coupling> as Shelf>⟧.site dictionary.now) one }
-    requires two { IsIdle (⟦<Dictionary<ListNode, Coupling> as Shelf>⟧.site dictionary.now) two }
-    ensures one { IsIdle (⟦<Dictionary<ListNode, Coupling> as Shelf>⟧.site dictionary.now) result.0.0 }
-    ensures two { IsIdle (⟦<Dictionary<ListNode, Coupling> as Shelf>⟧.site dictionary.now) result.1.0 }
-    ensures of_one { IsNoteOf (⟦<Dictionary<ListNode, Coupling> as Shelf>⟧.site dictionary.now) result.0.1 }
-    ensures of_two { IsNoteOf (⟦<Dictionary<ListNode, Coupling> as Shelf>⟧.site dictionary.now) result.1.1 }
+    requires one { IsIdlePassOf dictionary.now one }
+    requires two { IsIdlePassOf dictionary.now two }
+    ensures one { IsIdlePassOf dictionary.now result.0.0 }
+    ensures two { IsIdlePassOf dictionary.now result.1.0 }
+    ensures of_one { IsNoteFrom dictionary.now result.0.1 }
+    ensures of_two { IsNoteFrom dictionary.now result.1.1 }
 {
     join(
         rt,
         move || -> (Caller, News)
-            requires { IsEmptyPassOf dictionary.now.arena one }
-            ensures pass { IsEmptyPassOf dictionary.entry.now.arena result.0 }
-            ensures note { IsNote dictionary.entry.now.arena.table.shared.table_id result.1 }
+            requires { IsIdlePassOf dictionary.now one }
+            ensures pass { IsIdlePassOf dictionary.entry.now result.0 }
+            ensures note { IsNoteFrom dictionary.entry.now result.1 }
         { put_and_note(rt, dictionary, one, 5) },
         move || -> (Caller, News)
-            requires { IsEmptyPassOf dictionary.now.arena two }
-            ensures pass { IsEmptyPassOf dictionary.entry.now.arena result.0 }
-            ensures note { IsNote dictionary.entry.now.arena.table.shared.table_id result.1 }
+            requires { IsIdlePassOf dictionary.now two }
+            ensures pass { IsIdlePassOf dictionary.entry.now result.0 }
+            ensures note { IsNoteFrom dictionary.entry.now result.1 }
         { put_and_note(rt, dictionary, two, 6) },
     )
 }
@@ -97,22 +93,22 @@ fn both_learn<R: Threads + Wait + Sync>(
     one: (Caller, News),
     two: (Caller, News),
 ) -> (Option<u128>, Option<u128>)
-    requires one { IsIdle (⟦<Dictionary<ListNode, Coupling> as Shelf>⟧.site dictionary.now) one.0 }
-    requires two { IsIdle (⟦<Dictionary<ListNode, Coupling> as Shelf>⟧.site dictionary.now) two.0 }
-    requires of_one { IsNoteOf (⟦<Dictionary<ListNode, Coupling> as Shelf>⟧.site dictionary.now) one.1 }
-    requires of_two { IsNoteOf (⟦<Dictionary<ListNode, Coupling> as Shelf>⟧.site dictionary.now) two.1 }
+    requires one { IsIdlePassOf dictionary.now one.0 }
+    requires two { IsIdlePassOf dictionary.now two.0 }
+    requires of_one { IsNoteFrom dictionary.now one.1 }
+    requires of_two { IsNoteFrom dictionary.now two.1 }
 {
     let (one, of_one) = one;
     let (two, of_two) = two;
     join(
         rt,
         move || -> Option<u128>
-            requires pass { IsEmptyPassOf dictionary.now.arena one }
-            requires note { IsNote dictionary.now.arena.table.shared.table_id of_two }
+            requires pass { IsIdlePassOf dictionary.now one }
+            requires note { IsNoteFrom dictionary.now of_two }
         { learn_and_get(rt, dictionary, one, of_two, 6) },
         move || -> Option<u128>
-            requires pass { IsEmptyPassOf dictionary.now.arena two }
-            requires note { IsNote dictionary.now.arena.table.shared.table_id of_one }
+            requires pass { IsIdlePassOf dictionary.now two }
+            requires note { IsNoteFrom dictionary.now of_one }
         { learn_and_get(rt, dictionary, two, of_one, 5) },
     )
 }

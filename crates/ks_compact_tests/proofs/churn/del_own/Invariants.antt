@@ -1,6 +1,6 @@
-use Rattle.ks_arena.specs.Sound.{sort_of}
-use Rattle.ks_compact_tests.specs.Many.{IsSameCaller}
+use Rattle.ks_arena.specs.Of.{SameCaller}
+use Rattle.ks_dictionary.specs.Of.{IsIdlePassOf}
 use Rattle.ks_compact_tests.proofs.churn.del_own.Given as goal
 
 abbrev pub invariant-loop-count : goal.invariant-loop-count
-invariant-loop-count g l = IsSameCaller (record { sort = sort_of g.N.Node.layout g.N.Node.ranged; begins = g.T.Rule.Discipline.begins; step = g.T.Rule.Discipline.step; table = l.dictionary.arena.table.shared.table_id; callers = l.dictionary.arena.callers; nodes = l.dictionary.arena.nodes }) l.fn.pass l.pass
+invariant-loop-count g l = IsIdlePassOf l.dictionary l.pass × SameCaller l.fn.pass l.pass
