@@ -11,10 +11,12 @@ use Rattle.ks_history.specs.Passes.{Has}
 use Rattle.ks_arena.specs.declared.view.Mark.{Mark}
 use Rattle.ks_arena.specs.declared.view.Mark.TheVariants.{Quiet}
 use Rattle.ks_arena.specs.declared.view.View.{View}
+use Rattle.ks_arena.specs.Spots.{turn_at, free_at}
 use Rattle.ks_arena.specs.Rule.{FirstBits, callers_in, all_callers, Views, Marks, SomeMarks, free_bit, FreeBits}
 use Rattle.ks_arena.specs.Plays.{with_seen, marked}
 use Rattle.std.proofs.lemmas.Nat.Bits.{bit_at-lt, bit_at_set_same, bit_at_set_other}
 use Rattle.std.specs.Int.{bit_at}
+use Rattle.ks_arena.proofs.Apart.{frees_apart, turn_no_free}
 use Rattle.ks_arena.proofs.Seen.{has_left}
 
 pub inside : {A : Type 0} (l : List A) (i : ℕ) (a : A) → get_elem? l i ≡ some a → i < length l
@@ -26,7 +28,7 @@ pub bit_two : (x b : ℕ) → (bit_at x b ≡ 0) ⊎ (bit_at x b ≡ 1)
 bit_two x b = let low = bit_at-lt x b in dite (ℕ_discrete (bit_at x b) 0) (λ z. inl z) (λ z. inr (omega arith))
 
 -- other words and other traces with the same bits and turns
-pub bits_words : (h k : List Event) (vs : List View) (n : ℕ) (ws us : List ℕ) → ((w : ℕ) → get_or us (n + 2 + w) 0 ≡ get_or ws (n + 2 + w) 0) → ((i : ℕ) → turn_after k i ≡ turn_after h i) → FreeBits h vs n ws → FreeBits k vs n us
+pub bits_words : (h k : List Event) (vs : List View) (n : ℕ) (ws us : List ℕ) → ((w : ℕ) → get_or us (free_at n w) 0 ≡ get_or ws (free_at n w) 0) → ((i : ℕ) → turn_after k i ≡ turn_after h i) → FreeBits h vs n ws → FreeBits k vs n us
 bits_words h k vs n ws us words turns bits = record {
   sets = λ w b low on. let so = bits.sets w b low (ap (λ (z : ℕ). bit_at z b) (sym (words w)) ∙ on) in (so.0, ⊎_elim (λ e. inl (turns (64 * w + b) ∙ e)) (λ e. inr e) so.1);
   clears = λ w b low near off. let so = bits.clears w b low near (ap (λ (z : ℕ). bit_at z b) (sym (words w)) ∙ off) in ((λ e. so.0 (sym (turns (64 * w + b)) ∙ e)), so.1);
@@ -83,10 +85,10 @@ module _ (h : List Event) (vs : List View) (n : ℕ) (ws : List ℕ) (bits : Fre
       ne (views.apart j id c u v there at (subst (λ (z : ℕ). Has (all_callers u) z) same (has_left u.callers (callers_in u.absorbed) so.0 so.1)) (has_left v.callers (callers_in v.absorbed) c has))
 
   pub bit_off : (w b : ℕ) → b < 64 → 64 * w + b ≡ i → turn_after h i ≢ free → ¬ SomeMarks vs i → free_bit n ws w b ≡ 0
-  bit_off w b low is taken unmarked = ⊎_elim (λ z. z) (λ on. let so = bits.sets w b low on in absurd (⊎_elim (λ e. taken (ap (turn_after h) (sym is) ∙ e)) (λ m. unmarked (subst (SomeMarks vs) is m)) so.1)) (bit_two (get_or ws (n + 2 + w) 0) b)
+  bit_off w b low is taken unmarked = ⊎_elim (λ z. z) (λ on. let so = bits.sets w b low on in absurd (⊎_elim (λ e. taken (ap (turn_after h) (sym is) ∙ e)) (λ m. unmarked (subst (SomeMarks vs) is m)) so.1)) (bit_two (get_or ws (free_at n w) 0) b)
 
   pub bit_on : (w b : ℕ) → b < 64 → 64 * w + b ≡ i → i < n → (turn_after h i ≡ free) ⊎ SomeMarks vs i → free_bit n ws w b ≡ 1
-  bit_on w b low is near ready = ⊎_elim (λ off. let so = bits.clears w b low (omega arith) off in absurd (⊎_elim (λ e. so.0 (ap (turn_after h) is ∙ e)) (λ m. so.1 (subst (SomeMarks vs) (sym is) m)) ready)) (λ z. z) (bit_two (get_or ws (n + 2 + w) 0) b)
+  bit_on w b low is near ready = ⊎_elim (λ off. let so = bits.clears w b low (omega arith) off in absurd (⊎_elim (λ e. so.0 (ap (turn_after h) is ∙ e)) (λ m. so.1 (subst (SomeMarks vs) (sym is) m)) ready)) (λ z. z) (bit_two (get_or ws (free_at n w) 0) b)
 
 -- the bit, the turn and the mark of one node change
 module _ (h k : List Event) (vs : List View) (id : ℕ) (v x : View) (n : ℕ) (ws us : List ℕ) (i : ℕ) (bits : FreeBits h vs n ws) (at : get_elem? vs id ≡ some v)
@@ -149,17 +151,17 @@ module _ (h : List Event) (e : Event) (vs : List View) (id : ℕ) (v : View) (k 
     (was : (j : ℕ) → Marks v.mark j → j ≡ i) (is : (j : ℕ) → Marks k j → j ≡ i)
     (others : (j : ℕ) (u : View) → j ≢ id → get_elem? vs j ≡ some u → ¬ Marks u.mark i)
     (holds : Marks k i → (c : ℕ) × Has v.callers c × (turn_after (e ∷ h) i ≡ held c)) where
-  pub turn_bits : Lasting h e vs k i → FreeBits (e ∷ h) (set vs id (with_seen (marked k v) (e ∷ h))) n (set ws (i + 2) new)
-  turn_bits lasts = let same : (w : ℕ) → get_or (set ws (i + 2) new) (n + 2 + w) 0 ≡ get_or ws (n + 2 + w) 0 = λ w. get_or-set_other ws (i + 2) (n + 2 + w) new 0 (λ y. omega arith) in
-      bits_at h (e ∷ h) vs id v (with_seen (marked k v) (e ∷ h)) n ws (set ws (i + 2) new) i bits at (λ w b low ne. ap (λ (z : ℕ). bit_at z b) (same w)) turns was is others near
+  pub turn_bits : Lasting h e vs k i → FreeBits (e ∷ h) (set vs id (with_seen (marked k v) (e ∷ h))) n (set ws (turn_at i) new)
+  turn_bits lasts = let same : (w : ℕ) → get_or (set ws (turn_at i) new) (free_at n w) 0 ≡ get_or ws (free_at n w) 0 = λ w. get_or-set_other ws (turn_at i) (free_at n w) new 0 (λ y. turn_no_free i n w near (sym y)) in
+      bits_at h (e ∷ h) vs id v (with_seen (marked k v) (e ∷ h)) n ws (set ws (turn_at i) new) i bits at (λ w b low ne. ap (λ (z : ℕ). bit_at z b) (same w)) turns was is others near
       (λ w b low eq. ⊎_elim (λ t. inl (ap (λ (z : ℕ). bit_at z b) (same w) ∙ bit_on h vs n ws bits i w b low eq near t.0, t.1)) (λ t. inr (ap (λ (z : ℕ). bit_at z b) (same w) ∙ bit_off h vs n ws bits i w b low eq t.0 t.1, t.2, t.3)) lasts)
       holds
 
 -- a step on the free word of node i, which its caller holds
 module _ (h : List Event) (vs : List View) (id : ℕ) (v : View) (k : Mark) (n : ℕ) (ws : List ℕ) (i c new : ℕ) (views : Views h vs) (bits : FreeBits h vs n ws) (at : get_elem? vs id ≡ some v) (near : i < n)
     (own : Has v.callers c) (now : turn_after h i ≡ held c)
-    (was : (j : ℕ) → Marks v.mark j → j ≡ i) (is : (j : ℕ) → Marks k j → j ≡ i) (wide : n + 2 + i / 64 < length ws)
-    (rest : (b : ℕ) → b < 64 → b ≢ i % 64 → bit_at new b ≡ bit_at (get_or ws (n + 2 + i / 64) 0) b)
+    (was : (j : ℕ) → Marks v.mark j → j ≡ i) (is : (j : ℕ) → Marks k j → j ≡ i) (wide : free_at n (i / 64) < length ws)
+    (rest : (b : ℕ) → b < 64 → b ≢ i % 64 → bit_at new b ≡ bit_at (get_or ws (free_at n (i / 64)) 0) b)
     (here : ((bit_at new (i % 64) ≡ 1) × Marks k i) ⊎ ((bit_at new (i % 64) ≡ 0) × (¬ Marks k i))) where
   taken : turn_after h i ≢ free
   taken f = let e : held c ≡ free = sym now ∙ f in (cc)
@@ -167,25 +169,25 @@ module _ (h : List Event) (vs : List View) (id : ℕ) (v : View) (k : Mark) (n :
   here_at : (b : ℕ) → i % 64 ≡ b → ((bit_at new b ≡ 1) × Marks k i) ⊎ ((bit_at new b ≡ 0) × (¬ Marks k i))
   here_at b e = subst (λ (z : ℕ). ((bit_at new z ≡ 1) × Marks k i) ⊎ ((bit_at new z ≡ 0) × (¬ Marks k i))) e here
 
-  pub free_word_bits : FreeBits h (set vs id (with_seen (marked k v) h)) n (set ws (n + 2 + i / 64) new)
-  free_word_bits = let q : ℕ = i / 64 in let us : List ℕ = set ws (n + 2 + q) new in let there : get_or us (n + 2 + q) 0 ≡ new = get_or-set_same ws (n + 2 + q) new 0 wide in
+  pub free_word_bits : FreeBits h (set vs id (with_seen (marked k v) h)) n (set ws (free_at n (i / 64)) new)
+  free_word_bits = let q : ℕ = i / 64 in let us : List ℕ = set ws (free_at n q) new in let there : get_or us (free_at n q) 0 ≡ new = get_or-set_same ws (free_at n q) new 0 wide in
       bits_at h h vs id v (with_seen (marked k v) h) n ws us i bits at
       (λ w b low ne. dite (ℕ_discrete w q)
-      (λ e. ap (λ (z : ℕ). bit_at (get_or us (n + 2 + z) 0) b) e ∙ ap (λ (z : ℕ). bit_at z b) there ∙ rest b low (λ f. ne (omega arith)) ∙ ap (λ (z : ℕ). bit_at (get_or ws (n + 2 + z) 0) b) (sym e))
-      (λ d. ap (λ (z : ℕ). bit_at z b) (get_or-set_other ws (n + 2 + q) (n + 2 + w) new 0 (λ y. d (omega arith)))))
+      (λ e. ap (λ (z : ℕ). bit_at (get_or us (free_at n z) 0) b) e ∙ ap (λ (z : ℕ). bit_at z b) there ∙ rest b low (λ f. ne (omega arith)) ∙ ap (λ (z : ℕ). bit_at (get_or ws (free_at n z) 0) b) (sym e))
+      (λ d. ap (λ (z : ℕ). bit_at z b) (get_or-set_other ws (free_at n q) (free_at n w) new 0 (frees_apart n q w d))))
       (λ j ne. refl) was is (mark_own h vs n ws bits i views id c v at own now) near
-      (λ w b low eq. let word : w ≡ q = omega arith in let bit : i % 64 ≡ b = omega arith in let same : free_bit n us w b ≡ bit_at new b = ap (λ (z : ℕ). bit_at (get_or us (n + 2 + z) 0) b) word ∙ ap (λ (z : ℕ). bit_at z b) there in
+      (λ w b low eq. let word : w ≡ q = omega arith in let bit : i % 64 ≡ b = omega arith in let same : free_bit n us w b ≡ bit_at new b = ap (λ (z : ℕ). bit_at (get_or us (free_at n z) 0) b) word ∙ ap (λ (z : ℕ). bit_at z b) there in
       ⊎_elim (λ t. inl (same ∙ t.0, inr t.1)) (λ t. inr (same ∙ t.0, taken, t.1)) (here_at b bit))
       (λ m. (c, own, now))
 
 -- the bit of node m is set, when those of the nodes before it are
-pub first_more : (n m : ℕ) (ws : List ℕ) → 0 < m → n + 2 + m / 64 < length ws → FirstBits n m ws → FirstBits n (m + 1) (set ws (n + 2 + m / 64) (bit_or (get_or ws (n + 2 + m / 64) 0) (1 * 2 ^ (m % 64) % 2 ^ 64)))
-first_more n m ws pos wide bits = let q : ℕ = m / 64 in let a : ℕ = m % 64 in let low' : a < 64 = omega arith in let old : ℕ = get_or ws (n + 2 + q) 0 in let new : ℕ = bit_or old (1 * 2 ^ a % 2 ^ 64) in let us : List ℕ = set ws (n + 2 + q) new in
-    let there : get_or us (n + 2 + q) 0 ≡ new = get_or-set_same ws (n + 2 + q) new 0 wide in
-    let here : (w b : ℕ) → w ≡ q → free_bit n us w b ≡ bit_at new b = λ w b e. ap (λ (z : ℕ). bit_at (get_or us (n + 2 + z) 0) b) e ∙ ap (λ (z : ℕ). bit_at z b) there in
+pub first_more : (n m : ℕ) (ws : List ℕ) → 0 < m → free_at n (m / 64) < length ws → FirstBits n m ws → FirstBits n (m + 1) (set ws (free_at n (m / 64)) (bit_or (get_or ws (free_at n (m / 64)) 0) (1 * 2 ^ (m % 64) % 2 ^ 64)))
+first_more n m ws pos wide bits = let q : ℕ = m / 64 in let a : ℕ = m % 64 in let low' : a < 64 = omega arith in let old : ℕ = get_or ws (free_at n q) 0 in let new : ℕ = bit_or old (1 * 2 ^ a % 2 ^ 64) in let us : List ℕ = set ws (free_at n q) new in
+    let there : get_or us (free_at n q) 0 ≡ new = get_or-set_same ws (free_at n q) new 0 wide in
+    let here : (w b : ℕ) → w ≡ q → free_bit n us w b ≡ bit_at new b = λ w b e. ap (λ (z : ℕ). bit_at (get_or us (free_at n z) 0) b) e ∙ ap (λ (z : ℕ). bit_at z b) there in
     let other : (w b : ℕ) → b < 64 → 64 * w + b ≢ m → free_bit n us w b ≡ free_bit n ws w b = λ w b low ne. dite (ℕ_discrete w q)
-    (λ e. here w b e ∙ bit_at_set_other w64 old a low' b (λ f. ne (omega arith)) ∙ ap (λ (z : ℕ). bit_at (get_or ws (n + 2 + z) 0) b) (sym e))
-    (λ d. ap (λ (z : ℕ). bit_at z b) (get_or-set_other ws (n + 2 + q) (n + 2 + w) new 0 (λ y. d (omega arith)))) in record {
+    (λ e. here w b e ∙ bit_at_set_other w64 old a low' b (λ f. ne (omega arith)) ∙ ap (λ (z : ℕ). bit_at (get_or ws (free_at n z) 0) b) (sym e))
+    (λ d. ap (λ (z : ℕ). bit_at z b) (get_or-set_other ws (free_at n q) (free_at n w) new 0 (frees_apart n q w d))) in record {
       sets = λ w b low on. dite (ℕ_discrete (64 * w + b) m)
           (λ e. (omega arith, omega arith))
           (λ ne. let so = bits.sets w b low (sym (other w b low ne) ∙ on) in (so.0, omega (arith, so.1)));

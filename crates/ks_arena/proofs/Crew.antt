@@ -25,7 +25,8 @@ use Rattle.ks_arena.specs.declared.view.Mark.TheVariants.{Quiet}
 use Rattle.ks_arena.specs.declared.view.Part.{Part}
 use Rattle.ks_arena.specs.declared.view.View.{View}
 use Rattle.ks_arena.specs.Sound.{Sort, blank_of, Sound}
-use Rattle.ks_arena.specs.Rule.{free_words, Marks, SomeMarks, FreeBits, FirstBits, Fits, FitsAll, callers_in, all_callers, SomeWhole, IsWhole, AllBelow, Views, Rests, Running, turn_word, first_view, next_view, maker_view, note_view, part_of, both_views, spent_view, Ends, Closes, AllBlank}
+use Rattle.ks_arena.specs.Spots.{calls_at, shapes_at, turn_at, words_for}
+use Rattle.ks_arena.specs.Rule.{Marks, SomeMarks, FreeBits, FirstBits, Fits, FitsAll, callers_in, all_callers, SomeWhole, IsWhole, AllBelow, Views, Rests, Running, turn_word, first_view, next_view, maker_view, note_view, part_of, both_views, spent_view, Ends, Closes, AllBlank}
 use Rattle.ks_arena.specs.Plays.{Seated, gathered}
 use Rattle.ks_arena.proofs.Words.{held_below}
 use Rattle.ks_arena.proofs.Seen.{has_left, has_right, view_at, grows_to}
@@ -332,7 +333,7 @@ module _ {N : Type 0} (sort : Sort) (begins : Frame → Type 0) (asks : (ℕ →
     (refl, refl, f, r.views.parts id v at, subst (λ (z : ℕ). Sound sort begins asks z r.trace) long r.sound, r.views.known id v at),
   )
 
-  pub opens : (ws : List ℕ) (xs : List (Option N)) → begins (blank_of sort) → length ws ≡ length xs + 2 + free_words (length xs) → get_or ws 0 0 ≡ 0 → get_or ws 1 0 ≡ 0 → ((i : ℕ) → i < length xs → get_or ws (i + 2) 0 ≡ cond (eqb i 0) 1 0) → FirstBits (length xs) (length xs) ws → AllBlank sort shows xs
+  pub opens : (ws : List ℕ) (xs : List (Option N)) → begins (blank_of sort) → length ws ≡ words_for (length xs) → get_or ws calls_at 0 ≡ 0 → get_or ws shapes_at 0 ≡ 0 → ((i : ℕ) → i < length xs → get_or ws (turn_at i) 0 ≡ cond (eqb i 0) 1 0) → FirstBits (length xs) (length xs) ws → AllBlank sort shows xs
       → Running sort begins asks shows (opening ws xs first_view)
   opens ws xs fits wide e₀ e₁ words bits blanks = let far : length (map some xs) ≡ length xs = length-map xs some in record {
     trace = [];
@@ -350,7 +351,7 @@ module _ {N : Type 0} (sort : Sort) (begins : Frame → Type 0) (asks : (ℕ →
     };
     sound = fits;
     few = tt;
-    wide = wide ∙ ap (λ (z : ℕ). z + 2 + free_words z) (sym far);
+    wide = wide ∙ ap words_for (sym far);
     call_count = e₀;
     shape_count = e₁;
     turns = λ i near. words i (subst (λ (z : ℕ). i < z) far near) ∙ sym (first_word i);
@@ -378,8 +379,8 @@ module _ {N : Type 0} (sort : Sort) (begins : Frame → Type 0) (asks : (ℕ →
       let gone : f.rest ≡ [] = none_left n v.callers f.rest all (below_part n f.rest v.seen (subst (CallersBelow n) f.is known)) f.others in let whole : r.trace ≡ v.seen = f.is ∙ ap (λ (z : List Event). z ++ v.seen) gone in
       subst (λ (h : List Event). Closes sort begins asks shows h ws xs) whole record {
         sound = subst (λ (z : ℕ). Sound sort begins asks z r.trace) fin.3 r.sound;
-        count = ap (λ (z : List ℕ). get_or z 0 0) (sym fin.2) ∙ r.call_count;
-        turns = λ i near. ap (λ (z : List ℕ). get_or z (i + 2) 0) (sym fin.2) ∙ r.turns i (subst (λ (z : ℕ). i < z) (sym fin.3) near);
+        count = ap (λ (z : List ℕ). get_or z calls_at 0) (sym fin.2) ∙ r.call_count;
+        turns = λ i near. ap (λ (z : List ℕ). get_or z (turn_at i) 0) (sym fin.2) ∙ r.turns i (subst (λ (z : ℕ). i < z) (sym fin.3) near);
         ends = λ i near. ends_of i (graph_after r.trace i) (frame_after (blank_of sort) r.trace i) (turn_after r.trace i) s.homes xs fin.4
             (λ c now. quiet c i (held_below n r.trace i c known now) (subst (λ (z : List Event). turn_after z i ≡ held c) whole now))
             (r.homes i (subst (λ (z : ℕ). i < z) (sym fin.3) near));

@@ -1,3 +1,4 @@
+pub mod Apart
 pub mod Words
 pub mod Seen
 pub mod Bits

@@ -31,19 +31,21 @@ use Rattle.ks_arena.specs.declared.view.Mark.TheVariants.{Quiet, Claiming, Freei
 use Rattle.ks_arena.specs.declared.view.View.{View}
 use Rattle.ks_node.specs.Body.{Body}
 use Rattle.ks_arena.specs.Sound.{Sort, blank_of, Sound, StepsSoundly}
+use Rattle.ks_arena.specs.Spots.{calls_at, shapes_at, turn_at, free_at}
 use Rattle.ks_arena.specs.Rule.{Rests, Running, turn_word, Marks, SomeMarks, FreeBits, callers_in, all_callers}
 use Rattle.ks_history.specs.Stays.{StaysHeld}
 use Rattle.ks_history.specs.Laws.Stays.{cond_here, cond_else}
 use Rattle.ks_history.specs.Laws.Begins.{none_by, by_others_keeps}
 use Rattle.ks_arena.specs.Plays.{Seated, with_seen, marked, TellsFree, Looks, Makes, drop_slot, InHand, HasSlots, Shows, TookAt, took, ClaimedAt, claimed, gave, brought, bit_was_set, bit_was_cleared, scanned, decided, formed}
+use Rattle.ks_arena.proofs.Apart.{turn_back, free_back, count_inside, bit_inside}
 use Rattle.ks_arena.proofs.Words.{word_idle, word_free, word_below, held_below}
 use Rattle.ks_arena.specs.Laws.Beyond.{are_in_turn}
 use Rattle.ks_arena.proofs.Seen.{has_left}
 use Rattle.ks_arena.proofs.Bits.{inside, marks_held, mark_own, turn_bits, free_word_bits}
 use Rattle.ks_arena.proofs.Stepping.{has_one, looks, turns_at, frees_at, counts_at}
 
-same_pair : (cs : List ℕ) (c d i j : ℕ) → cs ≡ c ∷ [] → cs ≡ d ∷ [] → i + 2 ≡ j + 2 → (c ≡ d) × (i ≡ j)
-same_pair cs c d i j a b e = let x : c ∷ [] ≡ d ∷ [] = sym a ∙ b in ((cc), omega arith)
+same_pair : (cs : List ℕ) (c d i j : ℕ) → cs ≡ c ∷ [] → cs ≡ d ∷ [] → turn_at i ≡ turn_at j → (c ≡ d) × (i ≡ j)
+same_pair cs c d i j a b e = let x : c ∷ [] ≡ d ∷ [] = sym a ∙ b in ((cc), turn_back i j e)
 
 one_more : (a b x : ℕ) → b ≡ a + 1 → x ≡ a % 2 ^ 64 → (x + 1) % 2 ^ 64 ≡ b % 2 ^ 64
 one_more a b x more e = omega arith
@@ -52,8 +54,8 @@ a_call_more : (xs : List Answered) (x : Answered) → length (xs ++ x ∷ []) �
 a_call_more xs x = length-append xs (x ∷ [])
 
 -- a power of two and the word tell which bit it is
-opened_same : (i j n : ℕ) → n + 2 + i / 64 ≡ n + 2 + j / 64 → 2 ^ (i % 64) ≡ 2 ^ (j % 64) → i ≡ j
-opened_same i j n word bit = dite (ℕ_discrete (j % 64) (i % 64)) (λ e. omega arith) (λ ne. let one : bit_at (2 ^ (j % 64)) (j % 64) ≡ 1 = bit_at-pow_same (j % 64) in let none_set : bit_at (2 ^ (i % 64)) (j % 64) ≡ 0 = bit_at-pow_other (i % 64) (j % 64) ne in absurd (omega (arith, one, none_set, ap (λ (z : ℕ). bit_at z (j % 64)) bit)))
+opened_same : (i j n : ℕ) → free_at n (i / 64) ≡ free_at n (j / 64) → 2 ^ (i % 64) ≡ 2 ^ (j % 64) → i ≡ j
+opened_same i j n word bit = dite (ℕ_discrete (j % 64) (i % 64)) (λ e. let same : i / 64 ≡ j / 64 = free_back n (i / 64) (j / 64) word in omega arith) (λ ne. let one : bit_at (2 ^ (j % 64)) (j % 64) ≡ 1 = bit_at-pow_same (j % 64) in let none_set : bit_at (2 ^ (i % 64)) (j % 64) ≡ 0 = bit_at-pow_other (i % 64) (j % 64) ne in absurd (omega (arith, one, none_set, ap (λ (z : ℕ). bit_at z (j % 64)) bit)))
 
 -- what is given free has its bit set before, and what is given idle has not
 pub GivesMark : NodeState → ℕ → Mark → Type 0
@@ -111,10 +113,10 @@ module _ {N : Type 0} (sort : Sort) (begins : Frame → Type 0) (asks : (ℕ →
   free_unmarked : (s : State (Option N) View) (r : Rule s) (i : ℕ) → turn_after r.trace i ≡ free → ¬ SomeMarks s.views i
   free_unmarked s r i is m = let so = marks_held r.trace s.views (length s.homes) s.words r.bits i m in let x : free ≡ held so.0 = sym is ∙ so.1 in (cc)
 
-  pub takes_ok : (n id : ℕ) (me : Seated N) (c i : ℕ) → me.0.callers ≡ c ∷ [] → me.0.absorbed ≡ [] → me.0.mark ≡ Quiet → c < 2 ^ 32 → i < n → Allows Rule n id me (i + 2) (λ y. either (eqb y 1) (c + 2) y) (took sort begins asks shows (step n (i + 2) 1 (c + 2) none) me)
-  takes_ok n id me c i mine bare quiet small near s r long at _ = let h : List Event = r.trace in let near' : i < length s.homes = subst (λ (z : ℕ). i < z) (sym long) near in let y : ℕ = get_or s.words (i + 2) 0 in let word : y ≡ turn_word (turn_after h i) = r.turns i near' in
-      let told = took sort begins asks shows (step n (i + 2) 1 (c + 2) none) me in
-      exchanged y 1 (c + 2) (Goes s (i + 2) id me told)
+  takes_at : (n id : ℕ) (me : Seated N) (c i : ℕ) → me.0.callers ≡ c ∷ [] → me.0.absorbed ≡ [] → me.0.mark ≡ Quiet → c < 2 ^ 32 → i < n → Allows Rule n id me (turn_at i) (λ y. either (eqb y 1) (c + 2) y) (took sort begins asks shows (step n (turn_at i) 1 (c + 2) none) me)
+  takes_at n id me c i mine bare quiet small near s r long at _ = let h : List Event = r.trace in let near' : i < length s.homes = subst (λ (z : ℕ). i < z) (sym long) near in let y : ℕ = get_or s.words (turn_at i) 0 in let word : y ≡ turn_word (turn_after h i) = r.turns i near' in
+      let told = took sort begins asks shows (step n (turn_at i) 1 (c + 2) none) me in
+      exchanged y 1 (c + 2) (Goes s (turn_at i) id me told)
       (λ hit. let is : turn_after h i ≡ idle = word_idle (turn_after h i) (sym word ∙ hit) in let b = subst (λ (z : Turn). Rests sort shows (graph_after h i) (frame_after (blank_of sort) h i) z (get_elem? s.homes i)) is (r.homes i near') in
       let e : Event = Take c i in let here : turn_after (e ∷ h) i ≡ held c = cond_here i i (held c) (turn_after h i) refl in (
         with_seen me.0 (e ∷ h),
@@ -131,15 +133,19 @@ module _ {N : Type 0} (sort : Sort) (begins : Frame → Type 0) (asks : (ℕ →
         with_seen me.0 h,
         keeps,
         tt,
-        looks sort begins asks shows s r id (i + 2) me.0 at bare,
+        looks sort begins asks shows s r id (turn_at i) me.0 at bare,
         λ d j own at'. let p = same_pair me.0.callers c d i j mine own at' in subst (λ (z : ℕ × ℕ). TookAt sort begins asks shows n z.0 z.1 me y (with_seen me.0 h, me.1)) (λ k. (p.0 k, p.1 k))
             (λ hit. absurd (miss hit), λ _. (looks_all n s r id me.0 long at, refl, word, word_below (2 ^ 32) (turn_after h i) y word (λ d e. held_below (2 ^ 32) h i d r.few e))),
       ))
 
-  pub claims_ok : (n id : ℕ) (me : Seated N) (c i : ℕ) → me.0.callers ≡ c ∷ [] → me.0.absorbed ≡ [] → me.0.mark ≡ Quiet → c < 2 ^ 32 → i < n → Allows Rule n id me (i + 2) (λ y. either (eqb y 0) (c + 2) y) (claimed sort begins asks shows (step n (i + 2) 0 (c + 2) none) me)
-  claims_ok n id me c i mine bare quiet small near s r long at _ = let h : List Event = r.trace in let near' : i < length s.homes = subst (λ (z : ℕ). i < z) (sym long) near in let y : ℕ = get_or s.words (i + 2) 0 in let word : y ≡ turn_word (turn_after h i) = r.turns i near' in
-      let told = claimed sort begins asks shows (step n (i + 2) 0 (c + 2) none) me in
-      exchanged y 0 (c + 2) (Goes s (i + 2) id me told)
+  -- the same at a word that is that turn
+  pub takes_ok : (n id : ℕ) (me : Seated N) (c i z : ℕ) → z ≡ turn_at i → me.0.callers ≡ c ∷ [] → me.0.absorbed ≡ [] → me.0.mark ≡ Quiet → c < 2 ^ 32 → i < n → Allows Rule n id me z (λ y. either (eqb y 1) (c + 2) y) (took sort begins asks shows (step n z 1 (c + 2) none) me)
+  takes_ok n id me c i z is mine bare quiet small near = subst (λ (w : ℕ). Allows Rule n id me w (λ y. either (eqb y 1) (c + 2) y) (took sort begins asks shows (step n w 1 (c + 2) none) me)) (sym is) (takes_at n id me c i mine bare quiet small near)
+
+  claims_at : (n id : ℕ) (me : Seated N) (c i : ℕ) → me.0.callers ≡ c ∷ [] → me.0.absorbed ≡ [] → me.0.mark ≡ Quiet → c < 2 ^ 32 → i < n → Allows Rule n id me (turn_at i) (λ y. either (eqb y 0) (c + 2) y) (claimed sort begins asks shows (step n (turn_at i) 0 (c + 2) none) me)
+  claims_at n id me c i mine bare quiet small near s r long at _ = let h : List Event = r.trace in let near' : i < length s.homes = subst (λ (z : ℕ). i < z) (sym long) near in let y : ℕ = get_or s.words (turn_at i) 0 in let word : y ≡ turn_word (turn_after h i) = r.turns i near' in
+      let told = claimed sort begins asks shows (step n (turn_at i) 0 (c + 2) none) me in
+      exchanged y 0 (c + 2) (Goes s (turn_at i) id me told)
       (λ hit. let is : turn_after h i ≡ free = word_free (turn_after h i) (sym word ∙ hit) in let b = subst (λ (z : Turn). Rests sort shows (graph_after h i) (frame_after (blank_of sort) h i) z (get_elem? s.homes i)) is (r.homes i near') in
       let e : Event = Claim c i in let here : turn_after (e ∷ h) i ≡ held c = cond_here i i (held c) (turn_after h i) refl in (
         with_seen (marked (Claiming i) me.0) (e ∷ h),
@@ -155,10 +161,13 @@ module _ {N : Type 0} (sort : Sort) (begins : Frame → Type 0) (asks : (ℕ →
         with_seen me.0 h,
         keeps,
         tt,
-        looks sort begins asks shows s r id (i + 2) me.0 at bare,
+        looks sort begins asks shows s r id (turn_at i) me.0 at bare,
         λ d j own at'. let p = same_pair me.0.callers c d i j mine own at' in subst (λ (z : ℕ × ℕ). ClaimedAt sort begins asks shows n z.0 z.1 me y (with_seen me.0 h, me.1)) (λ k. (p.0 k, p.1 k))
             (λ hit. absurd (miss hit), λ _. (looks_all n s r id me.0 long at, refl, λ now. miss (word ∙ ap turn_word now))),
       ))
+
+  pub claims_ok : (n id : ℕ) (me : Seated N) (c i z : ℕ) → z ≡ turn_at i → me.0.callers ≡ c ∷ [] → me.0.absorbed ≡ [] → me.0.mark ≡ Quiet → c < 2 ^ 32 → i < n → Allows Rule n id me z (λ y. either (eqb y 0) (c + 2) y) (claimed sort begins asks shows (step n z 0 (c + 2) none) me)
+  claims_ok n id me c i z is mine bare quiet small near = subst (λ (w : ℕ). Allows Rule n id me w (λ y. either (eqb y 0) (c + 2) y) (claimed sort begins asks shows (step n w 0 (c + 2) none) me)) (sym is) (claims_at n id me c i mine bare quiet small near)
 
   rests_given : (t : NodeState) (f : Frame) (b : N) → Shows sort begins asks shows t f b → Rests sort shows (given t) f (turn_given t) (some (some (Some b)))
   rests_given Free f b so = (b, refl, so)
@@ -174,7 +183,7 @@ module _ {N : Type 0} (sort : Sort) (begins : Frame → Type 0) (asks : (ℕ →
   own_now s r id v c i at mine holds = by_others_keeps c i v.seen r.trace (others_now s r id v c at mine) (are_in_turn sort begins asks (length s.homes) r.trace r.sound) holds
 
   -- what a free word says of its nodes
-  reads_word : (s : State (Option N) View) (r : Rule s) (id : ℕ) (v : View) (c w : ℕ) → get_elem? s.views id ≡ some v → v.callers ≡ c ∷ [] → v.mark ≡ Quiet → TellsFree (length s.homes) w c r.trace (get_or s.words (length s.homes + 2 + w) 0)
+  reads_word : (s : State (Option N) View) (r : Rule s) (id : ℕ) (v : View) (c w : ℕ) → get_elem? s.views id ≡ some v → v.callers ≡ c ∷ [] → v.mark ≡ Quiet → TellsFree (length s.homes) w c r.trace (get_or s.words (free_at (length s.homes) w) 0)
   reads_word s r id v c w at mine quiet = record {
     sets = λ b low on. let so = r.bits.sets w b low on in (
       so.0,
@@ -243,15 +252,18 @@ module _ {N : Type 0} (sort : Sort) (begins : Frame → Type 0) (asks : (ℕ →
     hands_out s r id v c n xs long at mine hands.4,
   )
 
-  pub brings_ok : (n id : ℕ) (me : Seated N) (c i : ℕ) → me.0.callers ≡ c ∷ [] → me.0.absorbed ≡ [] → HasSlots n me.0.seen c me.1 → InHand me.1 i → Allows Rule n id me (i + 2) (λ y. y) (brought sort begins asks shows (step n (i + 2) 0 0 none) me)
+  brings_at : (n id : ℕ) (me : Seated N) (c i : ℕ) → me.0.callers ≡ c ∷ [] → me.0.absorbed ≡ [] → HasSlots n me.0.seen c me.1 → InHand me.1 i → Allows Rule n id me (turn_at i) (λ y. y) (brought sort begins asks shows (step n (turn_at i) 0 0 none) me)
   unfolding Lifts
-  brings_ok n id me c i mine bare hands has s r long at _ = let so = lifts s.homes me.1 i has (hands_out s r id me.0 c n me.1 long at mine hands) in let y : ℕ = get_or s.words (i + 2) 0 in let w : View = with_seen me.0 r.trace in (
+  brings_at n id me c i mine bare hands has s r long at _ = let so = lifts s.homes me.1 i has (hands_out s r id me.0 c n me.1 long at mine hands) in let y : ℕ = get_or s.words (turn_at i) 0 in let w : View = with_seen me.0 r.trace in (
     w,
     lift me.1 i has,
     so.0,
-    subst (λ (z : List (maybe.Option (Option N))). Rule record { words = set s.words (i + 2) y; homes = z; views = set s.views id w }) (sym so.1) (looks sort begins asks shows s r id (i + 2) me.0 at bare),
-    λ j at'. let p : i ≡ j = omega arith in (looks_all n s r id me.0 long at, subst (λ (z : ℕ). carried_after me.1 (lift me.1 i has) ≡ (z, None) ∷ drop_slot z me.1) p so.2),
+    subst (λ (z : List (maybe.Option (Option N))). Rule record { words = set s.words (turn_at i) y; homes = z; views = set s.views id w }) (sym so.1) (looks sort begins asks shows s r id (turn_at i) me.0 at bare),
+    λ j at'. let p : i ≡ j = turn_back i j at' in (looks_all n s r id me.0 long at, subst (λ (z : ℕ). carried_after me.1 (lift me.1 i has) ≡ (z, None) ∷ drop_slot z me.1) p so.2),
   )
+
+  pub brings_ok : (n id : ℕ) (me : Seated N) (c i z : ℕ) → z ≡ turn_at i → me.0.callers ≡ c ∷ [] → me.0.absorbed ≡ [] → HasSlots n me.0.seen c me.1 → InHand me.1 i → Allows Rule n id me z (λ y. y) (brought sort begins asks shows (step n z 0 0 none) me)
+  brings_ok n id me c i z is mine bare hands has = subst (λ (w : ℕ). Allows Rule n id me w (λ y. y) (brought sort begins asks shows (step n w 0 0 none) me)) (sym is) (brings_at n id me c i mine bare hands has)
 
   mark_named : (k : Mark) (t : NodeState) (i : ℕ) → GivesMark t i k → (j : ℕ) → Marks k j → j ≡ i
   unfolding GivesMark
@@ -259,7 +271,7 @@ module _ {N : Type 0} (sort : Sort) (begins : Frame → Type 0) (asks : (ℕ →
   mark_named k t i (inr so) j m = absurd (quiet_marks k so.1 j m)
 
   given_bits : (s : State (Option N) View) (r : Rule s) (id : ℕ) (v : View) (c i new : ℕ) → get_elem? s.views id ≡ some v → Has v.callers c → i < length s.homes → turn_after r.trace i ≡ held c → GivesMark (graph_after r.trace i) i v.mark
-      → FreeBits (Give c i ∷ r.trace) (set s.views id (with_seen (marked Quiet v) (Give c i ∷ r.trace))) (length s.homes) (set s.words (i + 2) new)
+      → FreeBits (Give c i ∷ r.trace) (set s.views id (with_seen (marked Quiet v) (Give c i ∷ r.trace))) (length s.homes) (set s.words (turn_at i) new)
   unfolding GivesMark
   given_bits s r id v c i new at own near now mark = let h : List Event = r.trace in let e : Event = Give c i in let t : NodeState = graph_after h i in let others = mark_own h s.views (length s.homes) s.words r.bits i r.views id c v at own now in
       let then : turn_after (e ∷ h) i ≡ turn_given t = cond_here i i (turn_given t) (turn_after h i) refl in
@@ -273,12 +285,12 @@ module _ {N : Type 0} (sort : Sort) (begins : Frame → Type 0) (asks : (ℕ →
         λ m. m,
       )) mark)
 
-  pub gives_ok : (n id : ℕ) (me : Seated N) (c i : ℕ) (b : N) (others : List (ℕ × Option N)) (new : ℕ) → me.0.callers ≡ c ∷ [] → me.0.absorbed ≡ [] → c < 2 ^ 32 → i < n → me.1 ≡ (i, Some b) ∷ others → turn_after me.0.seen i ≡ held c → Shows sort begins asks shows (graph_after me.0.seen i) (frame_after (blank_of sort) me.0.seen i) b
-      → new ≡ turn_word (turn_given (graph_after me.0.seen i)) → GivesMark (graph_after me.0.seen i) i me.0.mark → Allows Rule n id me (i + 2) (λ _. new) (λ _. gave sort begins asks shows (step n (i + 2) new 0 none) me new)
-  gives_ok n id me c i b others new mine bare small near has holds body word mark s r long at _ = let h : List Event = r.trace in let near' : i < length s.homes = subst (λ (z : ℕ). i < z) (sym long) near in let own = own_now s r id me.0 c i at mine holds in
+  gives_at : (n id : ℕ) (me : Seated N) (c i : ℕ) (b : N) (others : List (ℕ × Option N)) (new : ℕ) → me.0.callers ≡ c ∷ [] → me.0.absorbed ≡ [] → c < 2 ^ 32 → i < n → me.1 ≡ (i, Some b) ∷ others → turn_after me.0.seen i ≡ held c → Shows sort begins asks shows (graph_after me.0.seen i) (frame_after (blank_of sort) me.0.seen i) b
+      → new ≡ turn_word (turn_given (graph_after me.0.seen i)) → GivesMark (graph_after me.0.seen i) i me.0.mark → Allows Rule n id me (turn_at i) (λ _. new) (λ _. gave sort begins asks shows (step n (turn_at i) new 0 none) me new)
+  gives_at n id me c i b others new mine bare small near has holds body word mark s r long at _ = let h : List Event = r.trace in let near' : i < length s.homes = subst (λ (z : ℕ). i < z) (sym long) near in let own = own_now s r id me.0 c i at mine holds in
       let e : Event = Give c i in let t : NodeState = graph_after h i in let f : Frame = frame_after (blank_of sort) h i in let turns : turn_after (e ∷ h) i ≡ turn_given t = cond_here i i (turn_given t) (turn_after h i) refl in let states : graph_after (e ∷ h) i ≡ given t = cond_here i i (given t) t refl in
       let one = has_one me.0.callers c mine in
-      subst (λ (cs : List (ℕ × Option N)). Goes s (i + 2) id (me.0, cs) (λ _. gave sort begins asks shows (step n (i + 2) new 0 none) (me.0, cs) new) new) (sym has) (
+      subst (λ (cs : List (ℕ × Option N)). Goes s (turn_at i) id (me.0, cs) (λ _. gave sort begins asks shows (step n (turn_at i) new 0 none) (me.0, cs) new) new) (sym has) (
         with_seen (marked Quiet me.0) (e ∷ h),
         gives,
         tt,
@@ -289,20 +301,24 @@ module _ {N : Type 0} (sort : Sort) (begins : Frame → Type 0) (asks : (ℕ →
         λ d j x more own' at' has'. let p = same_pair me.0.callers c d i j mine own' at' in let q : others ≡ more = cc in (subst (λ (z : ℕ × ℕ). Makes (SoundTo n) (Give z.0 z.1) (marked Quiet me.0) (with_seen (marked Quiet me.0) (e ∷ h))) (λ k. (p.0 k, p.1 k)) (makes_marked n s r id me.0 Quiet e long at one own.turn), q),
       )
 
+  pub gives_ok : (n id : ℕ) (me : Seated N) (c i z : ℕ) (b : N) (others : List (ℕ × Option N)) (new : ℕ) → z ≡ turn_at i → me.0.callers ≡ c ∷ [] → me.0.absorbed ≡ [] → c < 2 ^ 32 → i < n → me.1 ≡ (i, Some b) ∷ others → turn_after me.0.seen i ≡ held c → Shows sort begins asks shows (graph_after me.0.seen i) (frame_after (blank_of sort) me.0.seen i) b
+      → new ≡ turn_word (turn_given (graph_after me.0.seen i)) → GivesMark (graph_after me.0.seen i) i me.0.mark → Allows Rule n id me z (λ _. new) (λ _. gave sort begins asks shows (step n z new 0 none) me new)
+  gives_ok n id me c i z b others new is mine bare small near has holds body word mark = subst (λ (w : ℕ). Allows Rule n id me w (λ _. new) (λ _. gave sort begins asks shows (step n w new 0 none) me new)) (sym is) (gives_at n id me c i b others new mine bare small near has holds body word mark)
+
   -- the bit of a node that c holds is set, or cleared
 
-  in_words : (s : State (Option N) View) (r : Rule s) (i : ℕ) → i < length s.homes → length s.homes + 2 + i / 64 < length s.words
-  in_words s r i near = let wide = r.wide in omega arith
+  in_words : (s : State (Option N) View) (r : Rule s) (i : ℕ) → i < length s.homes → free_at (length s.homes) (i / 64) < length s.words
+  in_words s r i near = subst (λ (z : ℕ). free_at (length s.homes) (i / 64) < z) (sym r.wide) (bit_inside i (length s.homes) near)
 
   pub sets_bit_ok : (n id : ℕ) (me : Seated N) (c i : ℕ) → me.0.callers ≡ c ∷ [] → me.0.absorbed ≡ [] → me.0.mark ≡ Quiet → i < n → turn_after me.0.seen i ≡ held c
-      → Allows Rule n id me (n + 2 + i / 64) (λ y. bit_or y (2 ^ (i % 64))) (λ _ m. bit_was_set sort begins asks shows (step n (n + 2 + i / 64) (2 ^ (i % 64)) 0 none) me m)
+      → Allows Rule n id me (free_at n (i / 64)) (λ y. bit_or y (2 ^ (i % 64))) (λ _ m. bit_was_set sort begins asks shows (step n (free_at n (i / 64)) (2 ^ (i % 64)) 0 none) me m)
   sets_bit_ok n id me c i mine bare quiet near holds s r long at _ = let q : ℕ = i / 64 in let b : ℕ = i % 64 in let near' : i < length s.homes = subst (λ (z : ℕ). i < z) (sym long) near in let own = own_now s r id me.0 c i at mine holds in
-      let y : ℕ = get_or s.words (n + 2 + q) 0 in let new : ℕ = bit_or y (2 ^ b) in let w : View = with_seen (marked (Freeing i) me.0) r.trace in (
+      let y : ℕ = get_or s.words (free_at n q) 0 in let new : ℕ = bit_or y (2 ^ b) in let w : View = with_seen (marked (Freeing i) me.0) r.trace in (
         w,
         keeps,
         tt,
-        subst (λ (z : ℕ). Rule record { words = set s.words (z + 2 + q) (bit_or (get_or s.words (z + 2 + q) 0) (2 ^ b)); homes = s.homes; views = set s.views id w }) long
-            (let x : ℕ = get_or s.words (length s.homes + 2 + q) 0 in frees_at sort begins asks shows s r id me.0 (Freeing i) q (bit_or x (2 ^ b)) at bare
+        subst (λ (z : ℕ). Rule record { words = set s.words (free_at z q) (bit_or (get_or s.words (free_at z q) 0) (2 ^ b)); homes = s.homes; views = set s.views id w }) long
+            (let x : ℕ = get_or s.words (free_at (length s.homes) q) 0 in frees_at sort begins asks shows s r id me.0 (Freeing i) q (bit_or x (2 ^ b)) at bare
             (free_word_bits r.trace s.views id me.0 (Freeing i) (length s.homes) s.words i c (bit_or x (2 ^ b)) r.views r.bits at near' (has_one me.0.callers c mine) own.turn (unnamed me.0.mark i quiet) (λ j m. sym m) (in_words s r i near')
             (λ a low ne. bit_at_or x (2 ^ b) a ∙ ap (max (bit_at x a)) (bit_at-pow_other b a ne) ∙ (let z : max (bit_at x a) 0 ≡ bit_at x a = omega arith in z))
             (inl (bit_at_or x (2 ^ b) b ∙ ap (max (bit_at x b)) (bit_at-pow_same b) ∙ (let low = bit_at-lt x b in let z : max (bit_at x b) 1 ≡ 1 = omega arith in z), refl)))),
@@ -310,14 +326,14 @@ module _ {N : Type 0} (sort : Sort) (begins : Frame → Type 0) (asks : (ℕ →
       )
 
   pub clears_bit_ok : (n id : ℕ) (me : Seated N) (c i : ℕ) → me.0.callers ≡ c ∷ [] → me.0.absorbed ≡ [] → me.0.mark ≡ Claiming i → i < n → turn_after me.0.seen i ≡ held c
-      → Allows Rule n id me (n + 2 + i / 64) (λ y. bit_and y (bit_not w64 (1 * 2 ^ (i % 64) % 2 ^ 64))) (λ _ m. bit_was_cleared sort begins asks shows (step n (n + 2 + i / 64) (bit_not w64 (1 * 2 ^ (i % 64) % 2 ^ 64)) 0 none) me m)
+      → Allows Rule n id me (free_at n (i / 64)) (λ y. bit_and y (bit_not w64 (1 * 2 ^ (i % 64) % 2 ^ 64))) (λ _ m. bit_was_cleared sort begins asks shows (step n (free_at n (i / 64)) (bit_not w64 (1 * 2 ^ (i % 64) % 2 ^ 64)) 0 none) me m)
   clears_bit_ok n id me c i mine bare claiming near holds s r long at _ = let q : ℕ = i / 64 in let b : ℕ = i % 64 in let near' : i < length s.homes = subst (λ (z : ℕ). i < z) (sym long) near in let own = own_now s r id me.0 c i at mine holds in
       let mask : ℕ = bit_not w64 (1 * 2 ^ b % 2 ^ 64) in let w : View = with_seen (marked Quiet me.0) r.trace in let low : b < 64 = omega arith in (
         w,
         keeps,
         tt,
-        subst (λ (z : ℕ). Rule record { words = set s.words (z + 2 + q) (bit_and (get_or s.words (z + 2 + q) 0) mask); homes = s.homes; views = set s.views id w }) long
-            (let x : ℕ = get_or s.words (length s.homes + 2 + q) 0 in frees_at sort begins asks shows s r id me.0 Quiet q (bit_and x mask) at bare
+        subst (λ (z : ℕ). Rule record { words = set s.words (free_at z q) (bit_and (get_or s.words (free_at z q) 0) mask); homes = s.homes; views = set s.views id w }) long
+            (let x : ℕ = get_or s.words (free_at (length s.homes) q) 0 in frees_at sort begins asks shows s r id me.0 Quiet q (bit_and x mask) at bare
             (free_word_bits r.trace s.views id me.0 Quiet (length s.homes) s.words i c (bit_and x mask) r.views r.bits at near' (has_one me.0.callers c mine) own.turn (λ j m. sym (subst (λ (z : Mark). Marks z j) claiming m)) (λ j m. absurd m) (in_words s r i near')
             (λ a low' ne. bit_at_clear_other w64 x b low a low' ne)
             (inr (bit_at_clear_same w64 x b low, λ m. m)))),
@@ -325,29 +341,32 @@ module _ {N : Type 0} (sort : Sort) (begins : Frame → Type 0) (asks : (ℕ →
       )
 
   -- a free word is read
-  pub scans_ok : (n id : ℕ) (me : Seated N) (w : ℕ) → me.0.absorbed ≡ [] → Allows Rule n id me (n + 2 + w) (λ y. y) (scanned sort begins asks shows (step n (n + 2 + w) 0 0 none) me)
-  scans_ok n id me w bare s r long at _ = let y : ℕ = get_or s.words (n + 2 + w) 0 in (
+  pub scans_ok : (n id : ℕ) (me : Seated N) (w : ℕ) → me.0.absorbed ≡ [] → Allows Rule n id me (free_at n w) (λ y. y) (scanned sort begins asks shows (step n (free_at n w) 0 0 none) me)
+  scans_ok n id me w bare s r long at _ = let y : ℕ = get_or s.words (free_at n w) 0 in (
     with_seen me.0 r.trace,
     keeps,
     tt,
-    looks sort begins asks shows s r id (n + 2 + w) me.0 at bare,
-    λ c u mine quiet at'. let e : w ≡ u = omega arith in (looks_all n s r id me.0 long at, refl, subst (λ (z : ℕ). TellsFree n z c r.trace y) e (subst (λ (z : ℕ). TellsFree z w c r.trace (get_or s.words (z + 2 + w) 0)) long (reads_word s r id me.0 c w at mine quiet))),
+    looks sort begins asks shows s r id (free_at n w) me.0 at bare,
+    λ c u mine quiet at'. let e : w ≡ u = free_back n w u at' in (looks_all n s r id me.0 long at, refl, subst (λ (z : ℕ). TellsFree n z c r.trace y) e (subst (λ (z : ℕ). TellsFree z w c r.trace (get_or s.words (free_at z w) 0)) long (reads_word s r id me.0 c w at mine quiet))),
   )
+
+  count_in : (s : State (Option N) View) (r : Rule s) (k : ℕ) → k < 2 → k < length s.words
+  count_in s r k low = subst (λ (z : ℕ). k < z) (sym r.wide) (count_inside k (length s.homes) low)
 
   now : (n : ℕ) (s : State (Option N) View) (r : Rule s) (id : ℕ) (v : View) (c : ℕ) (e : Event) → length s.homes ≡ n → get_elem? s.views id ≡ some v → v.callers ≡ c ∷ [] → May sort begins asks n c v.seen e → StepsSoundly sort begins asks (length s.homes) r.trace e
   now n s r id v c e long at mine may = subst (λ (z : ℕ). StepsSoundly sort begins asks z r.trace e) (sym long) (may r.trace (others_now s r id v c at mine) (subst (λ (z : ℕ). SoundTo z r.trace) long r.sound))
 
   pub decides_ok : (n id : ℕ) (me : Seated N) (c i : ℕ) (o : Op) (y : Reply) (e : Event) → e ≡ Call c i o y → me.0.callers ≡ c ∷ [] → me.0.absorbed ≡ [] → c < 2 ^ 32 → turn_after me.0.seen i ≡ held c → May sort begins asks n c me.0.seen (Call c i o y)
-      → Allows Rule n id me 0 (λ x. (x + 1) % 2 ^ 64) (decided sort begins asks shows (step n 0 1 0 none) e me)
-  decides_ok n id me c i o y said_ said mine bare small holds may = subst (λ (z : Event). Allows Rule n id me 0 (λ x. (x + 1) % 2 ^ 64) (decided sort begins asks shows (step n 0 1 0 none) z me)) (sym said) (λ s r long at _.
+      → Allows Rule n id me calls_at (λ x. (x + 1) % 2 ^ 64) (decided sort begins asks shows (step n calls_at 1 0 none) e me)
+  decides_ok n id me c i o y said_ said mine bare small holds may = subst (λ (z : Event). Allows Rule n id me calls_at (λ x. (x + 1) % 2 ^ 64) (decided sort begins asks shows (step n calls_at 1 0 none) z me)) (sym said) (λ s r long at _.
       let h : List Event = r.trace in let own = own_now s r id me.0 c i at mine holds in let e : Event = Call c i o y in let so = now n s r id me.0 c e long at mine may in
-      let count : get_or s.words 0 0 ≡ number_after h = r.call_count in let wide = r.wide in let x : ℕ = get_or s.words 0 0 in let f = r.views.each id me.0 at in (
+      let count : get_or s.words calls_at 0 ≡ number_after h = r.call_count in let x : ℕ = get_or s.words calls_at 0 in let f = r.views.each id me.0 at in (
         with_seen me.0 (e ∷ h),
         keeps,
         tt,
-        counts_at sort begins asks shows s r id me.0 e 0 ((x + 1) % 2 ^ 64) at bare (has_one me.0.callers c mine) small (omega arith) so (λ j. refl)
+        counts_at sort begins asks shows s r id me.0 e calls_at ((x + 1) % 2 ^ 64) at bare (has_one me.0.callers c mine) small (omega arith) so (λ j. refl)
             (λ j. dite (ℕ_discrete j i) (λ z. inr (c, ap (turn_after h) z ∙ own.turn)) (λ z. inl (cond_else j i (state_with (written o y) (graph_after h i)) (graph_after h j) z, refl)))
-            (get_or-set_same s.words 0 ((x + 1) % 2 ^ 64) 0 (omega arith) ∙ one_more (length (calls_of h)) (length (calls_of (e ∷ h))) x (a_call_more (calls_of h) record { op = o; reply = y }) count) (get_or-set_other s.words 0 1 ((x + 1) % 2 ^ 64) 0 (λ z. omega arith) ∙ r.shape_count),
+            (get_or-set_same s.words calls_at ((x + 1) % 2 ^ 64) 0 (count_in s r calls_at (omega arith)) ∙ one_more (length (calls_of h)) (length (calls_of (e ∷ h))) x (a_call_more (calls_of h) record { op = o; reply = y }) count) (get_or-set_other s.words calls_at shapes_at ((x + 1) % 2 ^ 64) 0 (λ z. omega arith) ∙ r.shape_count),
         (makes_one n s r id me.0 e long at (has_one me.0.callers c mine) so, refl, count ∙ ap number_after f.is),
       ))
 
@@ -356,14 +375,14 @@ module _ {N : Type 0} (sort : Sort) (begins : Frame → Type 0) (asks : (ℕ →
   shaped_or h c (x ∷ xs) i t f so = dite (ℕ_discrete i x.node) (λ e. inr (c, ap (turn_after h) e ∙ All-head (λ (y : Change). turn_after h y.node ≡ held c) x xs so))
       (λ ne. ⊎_elim (λ a. inl (cond_else i x.node (new_state x.state) (shaped xs i t) ne ∙ a.0, cond_else i x.node (new_frame x.state f) (reframed xs i f) ne ∙ a.1)) (λ a. inr a) (shaped_or h c xs i t f (All-tail (λ (y : Change). turn_after h y.node ≡ held c) x xs so)))
 
-  pub forms_ok : (n id : ℕ) (me : Seated N) (c : ℕ) (xs : List Change) (e : Event) → e ≡ Shape c xs → me.0.callers ≡ c ∷ [] → me.0.absorbed ≡ [] → c < 2 ^ 32 → May sort begins asks n c me.0.seen (Shape c xs) → Allows Rule n id me 1 (λ x. (x + 1) % 2 ^ 64) (λ _ m. formed sort begins asks shows (step n 1 1 0 none) e me m)
-  forms_ok n id me c xs said_ said mine bare small may = subst (λ (z : Event). Allows Rule n id me 1 (λ x. (x + 1) % 2 ^ 64) (λ _ m. formed sort begins asks shows (step n 1 1 0 none) z me m)) (sym said) (λ s r long at _.
+  pub forms_ok : (n id : ℕ) (me : Seated N) (c : ℕ) (xs : List Change) (e : Event) → e ≡ Shape c xs → me.0.callers ≡ c ∷ [] → me.0.absorbed ≡ [] → c < 2 ^ 32 → May sort begins asks n c me.0.seen (Shape c xs) → Allows Rule n id me shapes_at (λ x. (x + 1) % 2 ^ 64) (λ _ m. formed sort begins asks shows (step n shapes_at 1 0 none) e me m)
+  forms_ok n id me c xs said_ said mine bare small may = subst (λ (z : Event). Allows Rule n id me shapes_at (λ x. (x + 1) % 2 ^ 64) (λ _ m. formed sort begins asks shows (step n shapes_at 1 0 none) z me m)) (sym said) (λ s r long at _.
       let h : List Event = r.trace in let e : Event = Shape c xs in let so = now n s r id me.0 c e long at mine may in
-      let count : get_or s.words 1 0 ≡ shapes_in h % 2 ^ 64 = r.shape_count in let wide = r.wide in let x : ℕ = get_or s.words 1 0 in (
+      let count : get_or s.words shapes_at 0 ≡ shapes_in h % 2 ^ 64 = r.shape_count in let x : ℕ = get_or s.words shapes_at 0 in (
         with_seen me.0 (e ∷ h),
         keeps,
         tt,
-        counts_at sort begins asks shows s r id me.0 e 1 ((x + 1) % 2 ^ 64) at bare (has_one me.0.callers c mine) small (omega arith) so (λ j. refl) (λ j. shaped_or h c xs j (graph_after h j) (frame_after (blank_of sort) h j) so.0)
-            (get_or-set_other s.words 1 0 ((x + 1) % 2 ^ 64) 0 (λ z. omega arith) ∙ r.call_count) (get_or-set_same s.words 1 ((x + 1) % 2 ^ 64) 0 (omega arith) ∙ one_more (shapes_in h) (shapes_in (e ∷ h)) x refl count),
+        counts_at sort begins asks shows s r id me.0 e shapes_at ((x + 1) % 2 ^ 64) at bare (has_one me.0.callers c mine) small (omega arith) so (λ j. refl) (λ j. shaped_or h c xs j (graph_after h j) (frame_after (blank_of sort) h j) so.0)
+            (get_or-set_other s.words shapes_at calls_at ((x + 1) % 2 ^ 64) 0 (λ z. omega arith) ∙ r.call_count) (get_or-set_same s.words shapes_at ((x + 1) % 2 ^ 64) 0 (count_in s r shapes_at (omega arith)) ∙ one_more (shapes_in h) (shapes_in (e ∷ h)) x refl count),
         (makes_one n s r id me.0 e long at (has_one me.0.callers c mine) so, refl),
       ))

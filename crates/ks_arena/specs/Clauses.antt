@@ -34,7 +34,8 @@ use Rattle.ks_arena.specs.declared.view.View.{View}
 use Rattle.ks_node.specs.Body.{Body, frame_of, blank_body}
 use Rattle.ks_node.specs.Edges.{record_of}
 use Rattle.ks_arena.specs.Sound.{Sort, blank_of, Sound}
-use Rattle.ks_arena.specs.Rule.{turn_word, free_words, Ends}
+use Rattle.ks_arena.specs.Spots.{calls_at, turn_at, free_words}
+use Rattle.ks_arena.specs.Rule.{turn_word, Ends}
 use Rattle.ks_arena.specs.Plays.{Carries}
 use Rattle.ks_arena.specs.Named.{AllNamedBelow}
 
@@ -297,8 +298,8 @@ module _ {N : Type 0} (sort : Sort) (shows : N → Body) where
     pub good : GoodThroughout (trace_of r)
     pub due : FullsDue sort.layout nodes (trace_of r)
     pub sized : length (slots_items r.remains.closed.slots) ≡ nodes
-    pub count : slice_index (slots_items r.remains.closed.words) 0 ≡ number_after (trace_of r)
-    pub turns : (i : ℕ) → i < nodes → slice_index (slots_items r.remains.closed.words) (i + 2) ≡ turn_word (turn_after (trace_of r) i)
+    pub count : slice_index (slots_items r.remains.closed.words) calls_at ≡ number_after (trace_of r)
+    pub turns : (i : ℕ) → i < nodes → slice_index (slots_items r.remains.closed.words) (turn_at i) ≡ turn_word (turn_after (trace_of r) i)
     pub ends : (i : ℕ) → i < nodes → Ends sort shows (graph_after (trace_of r) i) (frame_after (blank_of sort) (trace_of r) i) (turn_after (trace_of r) i) (get_elem? (slots_items r.remains.closed.slots) i)
     pub named : AllNamedBelow nodes (trace_of r)
     pub beyond : (i : ℕ) → nodes ≤ i → graph_after (trace_of r) i ≡ Free

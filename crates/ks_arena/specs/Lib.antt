@@ -1,4 +1,5 @@
 pub mod Sound
+pub mod Spots
 pub mod Rule
 pub mod Named
 pub mod Plays

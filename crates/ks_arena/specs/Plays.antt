@@ -16,6 +16,7 @@ use Rattle.ks_arena.specs.declared.view.View.{View}
 use Rattle.ks_node.specs.Body.{Body, frame_of, blank_body}
 use Rattle.ks_node.specs.Edges.{record_of}
 use Rattle.ks_arena.specs.Sound.{Sort, blank_of, Sound}
+use Rattle.ks_arena.specs.Spots.{turn_at, free_at}
 use Rattle.ks_arena.specs.Rule.{Fits, FitsAll, all_callers, turn_word}
 
 -- the view once it has seen the trace h
@@ -86,7 +87,7 @@ module _ {N : Type 0} (sort : Sort) (begins : Frame → Type 0) (asks : (ℕ →
       × (r ≢ 1 → Looks (Sound sort begins asks n) m.0 m'.0 × (m'.1 ≡ m.1) × (r ≡ turn_word (turn_after m'.0.seen i)) × (r < 2 ^ 32 + 2))
 
   abbrev pub took : Step (Option N) → Seated N → ℕ → Seated N → Type 0
-  took st m r m' = (c i : ℕ) → m.0.callers ≡ c ∷ [] → st.word ≡ i + 2 → TookAt st.slots c i m r m'
+  took st m r m' = (c i : ℕ) → m.0.callers ≡ c ∷ [] → st.word ≡ turn_at i → TookAt st.slots c i m r m'
 
   -- caller c tried to claim node i, whose turn word was r
   abbrev pub ClaimedAt : ℕ → ℕ → ℕ → Seated N → ℕ → Seated N → Type 0
@@ -95,25 +96,25 @@ module _ {N : Type 0} (sort : Sort) (begins : Frame → Type 0) (asks : (ℕ →
       × (r ≢ 0 → Looks (Sound sort begins asks n) m.0 m'.0 × (m'.1 ≡ m.1) × (turn_after m'.0.seen i ≢ free))
 
   abbrev pub claimed : Step (Option N) → Seated N → ℕ → Seated N → Type 0
-  claimed st m r m' = (c i : ℕ) → m.0.callers ≡ c ∷ [] → st.word ≡ i + 2 → ClaimedAt st.slots c i m r m'
+  claimed st m r m' = (c i : ℕ) → m.0.callers ≡ c ∷ [] → st.word ≡ turn_at i → ClaimedAt st.slots c i m r m'
 
   abbrev pub gave : Step (Option N) → Seated N → ℕ → Seated N → Type 0
-  gave st m r m' = (c i : ℕ) (x : Option N) (others : List (ℕ × Option N)) → m.0.callers ≡ c ∷ [] → st.word ≡ i + 2 → m.1 ≡ (i, x) ∷ others
+  gave st m r m' = (c i : ℕ) (x : Option N) (others : List (ℕ × Option N)) → m.0.callers ≡ c ∷ [] → st.word ≡ turn_at i → m.1 ≡ (i, x) ∷ others
       → Makes (Sound sort begins asks st.slots) (Give c i) (marked Quiet m.0) m'.0 × (m'.1 ≡ others)
 
   abbrev pub brought : Step (Option N) → Seated N → ℕ → Seated N → Type 0
-  brought st m r m' = (i : ℕ) → st.word ≡ i + 2 → Looks (Sound sort begins asks st.slots) m.0 m'.0 × (m'.1 ≡ (i, None) ∷ drop_slot i m.1)
+  brought st m r m' = (i : ℕ) → st.word ≡ turn_at i → Looks (Sound sort begins asks st.slots) m.0 m'.0 × (m'.1 ≡ (i, None) ∷ drop_slot i m.1)
 
   -- the bit of node i was set; the bit of the marked node was cleared
   abbrev pub bit_was_set : Step (Option N) → Seated N → Seated N → Type 0
-  bit_was_set st m m' = (i : ℕ) → st.word ≡ st.slots + 2 + i / 64 → st.first ≡ 2 ^ (i % 64) → Looks (Sound sort begins asks st.slots) (marked (Freeing i) m.0) m'.0 × (m'.1 ≡ m.1)
+  bit_was_set st m m' = (i : ℕ) → st.word ≡ free_at st.slots (i / 64) → st.first ≡ 2 ^ (i % 64) → Looks (Sound sort begins asks st.slots) (marked (Freeing i) m.0) m'.0 × (m'.1 ≡ m.1)
 
   abbrev pub bit_was_cleared : Step (Option N) → Seated N → Seated N → Type 0
   bit_was_cleared st m m' = Looks (Sound sort begins asks st.slots) (marked Quiet m.0) m'.0 × (m'.1 ≡ m.1)
 
   -- caller c read free word w
   abbrev pub scanned : Step (Option N) → Seated N → ℕ → Seated N → Type 0
-  scanned st m r m' = (c w : ℕ) → m.0.callers ≡ c ∷ [] → m.0.mark ≡ Quiet → st.word ≡ st.slots + 2 + w → Looks (Sound sort begins asks st.slots) m.0 m'.0 × (m'.1 ≡ m.1) × TellsFree st.slots w c m'.0.seen r
+  scanned st m r m' = (c w : ℕ) → m.0.callers ≡ c ∷ [] → m.0.mark ≡ Quiet → st.word ≡ free_at st.slots w → Looks (Sound sort begins asks st.slots) m.0 m'.0 × (m'.1 ≡ m.1) × TellsFree st.slots w c m'.0.seen r
 
   abbrev pub decided : Step (Option N) → Event → Seated N → ℕ → Seated N → Type 0
   decided st e m r m' = (x : Makes (Sound sort begins asks st.slots) e m.0 m'.0) × (m'.1 ≡ m.1) × (r ≡ number_after (x.rest ++ m.0.seen))

@@ -1,6 +1,6 @@
 -- The running rule: what holds of the words, the bodies at home and the views between any two steps.
 use Rattle.std.specs.Prelude.{ℕ, ◌≡◌, ◌≢◌, ◌+◌, ◌*◌, ◌%◌, ◌^◌, ◌<◌, ◌⊎◌, max, List, [], ◌∷◌, ◌++◌, length, slice_index, Option, Some}
-use Rattle.std.specs.Int.{bit_at, div_ceil}
+use Rattle.std.specs.Int.{bit_at}
 use mathlib.Core.Option.{none, some}
 use mathlib.Core.Option as maybe
 use lib.ListN.{get_elem?}
@@ -19,6 +19,7 @@ use Rattle.ks_arena.specs.declared.view.View.{View}
 use Rattle.ks_node.specs.Body.{Body, frame_of, blank_body}
 use Rattle.ks_node.specs.Edges.{record_of}
 use Rattle.ks_arena.specs.Sound.{Sort, blank_of, Sound}
+use Rattle.ks_arena.specs.Spots.{calls_at, shapes_at, turn_at, free_at, words_for}
 
 -- h begins with what a seat had seen, and goes on by events of others than its callers
 pub record Fits (h : List Event) (callers : List ℕ) (seen : List Event) : Type 0 where
@@ -71,13 +72,9 @@ turn_word free = 0
 turn_word idle = 1
 turn_word (held c) = c + 2
 
--- how many free words stand after the turn words of n nodes
-abbrev pub free_words : ℕ → ℕ
-free_words n = div_ceil n 64
-
 -- bit b of free word w: that of node 64 w + b
 abbrev pub free_bit : ℕ → List ℕ → ℕ → ℕ → ℕ
-free_bit n words w b = bit_at (slice_index words (n + 2 + w)) b
+free_bit n words w b = bit_at (slice_index words (free_at n w)) b
 
 -- the mark says that the caller is about to change the bit of node i
 abbrev pub Marks : Mark → ℕ → Type 0
@@ -115,10 +112,10 @@ module _ {N : Type 0} (sort : Sort) (begins : Frame → Type 0) (asks : (ℕ →
     pub sound : Sound sort begins asks (length s.homes) trace
     pub few : CallersBelow (2 ^ 32) trace
     -- the words of the counts, of the turns and of the free bits
-    pub wide : length s.words ≡ length s.homes + 2 + free_words (length s.homes)
-    pub call_count : slice_index s.words 0 ≡ number_after trace
-    pub shape_count : slice_index s.words 1 ≡ shapes_in trace % 2 ^ 64
-    pub turns : (i : ℕ) → i < length s.homes → slice_index s.words (i + 2) ≡ turn_word (turn_after trace i)
+    pub wide : length s.words ≡ words_for (length s.homes)
+    pub call_count : slice_index s.words calls_at ≡ number_after trace
+    pub shape_count : slice_index s.words shapes_at ≡ shapes_in trace % 2 ^ 64
+    pub turns : (i : ℕ) → i < length s.homes → slice_index s.words (turn_at i) ≡ turn_word (turn_after trace i)
     pub bits : FreeBits trace s.views (length s.homes) s.words
     -- the bodies at home
     pub homes : (i : ℕ) → i < length s.homes → Rests sort shows (graph_after trace i) (frame_after (blank_of sort) trace i) (turn_after trace i) (get_elem? s.homes i)
@@ -167,6 +164,6 @@ module _ {N : Type 0} (sort : Sort) (begins : Frame → Type 0) (asks : (ℕ →
   -- the words and slots of a table that nobody uses any more, whose trace is h
   pub record Closes (h : List Event) (ws : List ℕ) (xs : List (Option N)) : Type 0 where
     pub sound : Sound sort begins asks (length xs) h
-    pub count : slice_index ws 0 ≡ number_after h
-    pub turns : (i : ℕ) → i < length xs → slice_index ws (i + 2) ≡ turn_word (turn_after h i)
+    pub count : slice_index ws calls_at ≡ number_after h
+    pub turns : (i : ℕ) → i < length xs → slice_index ws (turn_at i) ≡ turn_word (turn_after h i)
     pub ends : (i : ℕ) → i < length xs → Ends sort shows (graph_after h i) (frame_after (blank_of sort) h i) (turn_after h i) (get_elem? xs i)

@@ -1,6 +1,6 @@
 //! The arena.
-ghost use Rattle.std.specs.Prelude.{◌≡◌, ◌+◌, ◌<◌};
-ghost use Rattle.ks_arena.specs.Rule.{free_words};
+ghost use Rattle.std.specs.Prelude.{◌≡◌, ◌<◌};
+ghost use Rattle.ks_arena.specs.Spots.{words_for};
 
 use crate::kin::Kin;
 use crate::rule::Rule;
@@ -17,6 +17,6 @@ pub struct Arena<N: Node, D: Discipline> {
     pub(crate) nodes: u32,
     pub(crate) callers: u32,
     pub(crate) kin: Kin<N, D>,
-    ghost sized: { (table.shared.table_id.words ≡ nodes + 2 + free_words nodes) × (table.shared.table_id.slots ≡ nodes)
+    ghost sized: { (table.shared.table_id.words ≡ words_for nodes) × (table.shared.table_id.slots ≡ nodes)
         × (0 < nodes) × (0 < callers) },
 }

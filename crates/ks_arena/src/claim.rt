@@ -1,6 +1,6 @@
 //! How callers claim free nodes, and how they wait for nodes that others hold.
 ghost use Rattle.std.specs.Prelude.{◌≡◌, ◌+◌, ◌<◌, ◌≤◌};
-ghost use Rattle.ks_arena.specs.Rule.{free_words};
+ghost use Rattle.ks_arena.specs.Spots.{free_words};
 ghost use Rattle.ks_arena.specs.declared.view.Mark.TheVariants.{Claiming};
 ghost use Rattle.ks_arena.specs.Clauses.{claim_mark, try_steps, word_steps, steps_alone};
 ghost use Rattle.ks_arena.specs.Of.{Holds, Looks, Keeps, WasAlone, HeldAlone, nodes_of, callers_of, IsNodeOf, IsPassOf, IsMarkedPassOf, HasTakenFrom, HasClaimedFrom, HasClaimedIn, TriedToClaim, TellsFreeOf, RestStays, SameCaller, caller_of};
@@ -9,6 +9,7 @@ use crate::arena::Arena;
 use crate::held::{Held, Pass};
 use crate::laws::sound_law;
 use crate::plays::{Claims, ClearsBit, Scans, Takes};
+use crate::spots::{free_at, turn_at};
 use crate::steps::Steps;
 use ks_flow::Discipline;
 use ks_node::Node;
@@ -43,11 +44,12 @@ impl<N: Node, D: Discipline> Arena<N, D> {
         ensures rest { RestStays self.now pass.old pass.new }
     {
         let at = node as usize;
+        let turn = turn_at(at);
         let shared = &self.table.shared;
         for _ in rt.forever() {
             let found = shared.compare_exchange::<Takes<D>>(
                 &mut pass.seat,
-                at + 2,
+                turn,
                 1,
                 pass.caller as u64 + 2,
             );
@@ -75,7 +77,7 @@ impl<N: Node, D: Discipline> Arena<N, D> {
     {
         let mut looks = 0;
         for _ in rt.forever() {
-            if self.table.shared.peek(node as usize + 2) <= 1 {
+            if self.table.shared.peek(turn_at(node as usize)) <= 1 {
                 return;
             }
             if looks < LOOKS_BEFORE_YIELDING {
@@ -178,7 +180,7 @@ impl<N: Node, D: Discipline> Arena<N, D> {
         ensures cost { steps.new ≡ steps.old + 1 }
     {
         steps.tick();
-        let word = self.nodes as usize + 2 + index as usize;
+        let word = free_at(self.nodes as usize, index as usize);
         self.table.shared.load::<Scans<D>>(&mut pass.seat, word)
     }
 
@@ -218,11 +220,12 @@ impl<N: Node, D: Discipline> Arena<N, D> {
         ensures cost { steps.new ≡ steps.old + 1 }
     {
         let at = node as usize;
+        let turn = turn_at(at);
         let shared = &self.table.shared;
         steps.tick();
         let found = shared.compare_exchange::<Claims<D>>(
             &mut pass.seat,
-            at + 2,
+            turn,
             0,
             pass.caller as u64 + 2,
         );
@@ -249,7 +252,7 @@ impl<N: Node, D: Discipline> Arena<N, D> {
         ensures cost { steps.new ≡ steps.old + 1 }
     {
         steps.tick();
-        let word = self.nodes as usize + 2 + node as usize / 64;
+        let word = free_at(self.nodes as usize, node as usize / 64);
         self.table
             .shared
             .fetch_and::<ClearsBit<D>>(&mut pass.seat, word, !(1u64 << (node % 64)));

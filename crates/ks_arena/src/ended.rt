@@ -10,6 +10,7 @@ ghost use Rattle.ks_arena.specs.Clauses.{IsRun, nodes_in, trace_of};
 ghost use Rattle.ks_arena.specs.Ended.{AreFound, IsReadAs, entries_below, entry_of};
 
 use crate::run::Run;
+use crate::spots::turn_at;
 use ks_history::keyset_theorem;
 use ks_keysets::{Edge, Graph, NodeRecord, NodeState, Pair};
 use ks_node::Node;
@@ -57,7 +58,7 @@ impl<N: Node> Run<N> {
         requires node { node < nodes_in self.now }
         ensures { IsReadAs N.body (graph_after (trace_of self.now) node) result }
     {
-        if self.remains.closed.word(node + 2) == 0 {
+        if self.remains.closed.word(turn_at(node)) == 0 {
             return None;
         }
         self.remains.closed.get(node).as_ref()

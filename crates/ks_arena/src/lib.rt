@@ -20,6 +20,7 @@ mod remains;
 mod rule;
 mod run;
 mod send_closed;
+mod spots;
 mod steps;
 mod turns;
 mod view;

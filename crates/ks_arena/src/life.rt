@@ -2,7 +2,8 @@
 ghost use Rattle.std.specs.Prelude.{ℕ, ◌≡◌, ◌≤◌, ◌+◌, ◌<◌, ◌^◌, [], cond, eqb, length, slice_index, IfOk};
 ghost use Rattle.ks_history.specs.Passes.{CallersBelow};
 ghost use Rattle.ks_arena.specs.Sound.{sort_of, blank_of, Sound};
-ghost use Rattle.ks_arena.specs.Rule.{AllBlank, first_view, free_words, FirstBits};
+ghost use Rattle.ks_arena.specs.Rule.{AllBlank, first_view, FirstBits};
+ghost use Rattle.ks_arena.specs.Spots.{calls_at, shapes_at, turn_at, words_for};
 ghost use Rattle.ks_arena.specs.Clauses.{IsNewCrew, EndsAll, IsRun, trace_of};
 ghost use Rattle.ks_arena.specs.Of.{AreAllPassesOf, IsStart, callers_of, nodes_of};
 
@@ -15,6 +16,7 @@ use crate::remains::Remains;
 use crate::rule::Rule;
 use crate::run::{Run, RunTrace};
 use crate::send_closed::SendClosed;
+use crate::spots::{CALLS, free_at, turn_at};
 use crate::view::View;
 use atomic_table::{Seat, Shared, Table};
 use ks_flow::Discipline;
@@ -25,16 +27,16 @@ use std::marker::PhantomData;
 /// The words of an arena of which node 0 is live and idle, and the other nodes are free.
 fn first_words(alloc: Global, nodes: usize) -> Result<Vec<u64>, AllocError>
     requires { (0 < nodes) × (nodes < 2 ^ 32) }
-    ensures long { IfOk result (λ v. length v.items ≡ nodes + 2 + free_words nodes) }
-    ensures counts { IfOk result (λ v. (slice_index v.items 0 ≡ 0) × (slice_index v.items 1 ≡ 0)) }
-    ensures turns { IfOk result (λ v. (i : ℕ) → i < nodes → slice_index v.items (i + 2) ≡ cond (eqb i 0) 1 0) }
+    ensures long { IfOk result (λ v. length v.items ≡ words_for nodes) }
+    ensures counts { IfOk result (λ v. (slice_index v.items calls_at ≡ 0) × (slice_index v.items shapes_at ≡ 0)) }
+    ensures turns { IfOk result (λ v. (i : ℕ) → i < nodes → slice_index v.items (turn_at i) ≡ cond (eqb i 0) 1 0) }
     ensures bits { IfOk result (λ v. FirstBits nodes nodes v.items) }
 {
-    let mut words = Vec::from_elem(alloc, 0u64, nodes + 2 + nodes.div_ceil(64))?;
+    let mut words = Vec::from_elem(alloc, 0u64, free_at(nodes, nodes.div_ceil(64)))?;
     let row = words.as_mut_slice();
-    row[2] = 1;
+    row[turn_at(0)] = 1;
     for node in 1..nodes {
-        row[nodes + 2 + node / 64] |= 1u64 << (node % 64);
+        row[free_at(nodes, node / 64)] |= 1u64 << (node % 64);
     }
     Ok(words)
 }
@@ -125,7 +127,7 @@ impl<N: Node, D: Discipline> Arena<N, D> {
         while let Some(pass) = passes.pop() {
             table.shared.join_seat::<TakeIn>(&mut base, pass.seat);
         }
-        table.shared.load::<Gathers<D>>(&mut base, 0);
+        table.shared.load::<Gathers<D>>(&mut base, CALLS);
         let badge = table.shared.split_seat::<Tell>(&mut base).into_badge();
         Run {
             remains: Remains {

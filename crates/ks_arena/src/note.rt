@@ -7,6 +7,7 @@ ghost use Rattle.ks_arena.specs.Of.{Looks, IsPassOf, IsNoteFrom, RestStays, Same
 use crate::arena::Arena;
 use crate::held::{Note, Pass};
 use crate::plays::{Gathers, TakeIn, Tell};
+use crate::spots::CALLS;
 use ks_flow::Discipline;
 use ks_node::Node;
 use std::marker::PhantomData;
@@ -41,6 +42,6 @@ impl<N: Node, D: Discipline> Arena<N, D> {
         self.table
             .shared
             .join_seat::<TakeIn>(&mut pass.seat, note.seat);
-        self.table.shared.load::<Gathers<D>>(&mut pass.seat, 0);
+        self.table.shared.load::<Gathers<D>>(&mut pass.seat, CALLS);
     }
 }

@@ -5,6 +5,7 @@ ghost use Rattle.ks_history.specs.Trace.{number_after};
 ghost use Rattle.ks_arena.specs.Clauses.{IsRun, trace_of};
 
 use crate::remains::Remains;
+use crate::spots::CALLS;
 use crate::view::View;
 use atomic_table::Badge;
 use ks_node::Node;
@@ -39,7 +40,7 @@ impl<N: Node> Run<N> {
         requires { (nodes : ℕ) × IsRun (sort_of N.layout N.ranged) N.body nodes self.now }
         ensures { result ≡ number_after (trace_of self.now) }
     {
-        self.remains.closed.word(0)
+        self.remains.closed.word(CALLS)
     }
 
     /// Its trace.

@@ -9,6 +9,7 @@ ghost use Rattle.ks_arena.specs.Of.{Holds, Adds, HasDecided, HasShaped, Looks, K
 use crate::arena::Arena;
 use crate::held::{Held, Pass, Taken};
 use crate::plays::{Brings, Decides, Forms, Gives, Said, SetsBit, Takes};
+use crate::spots::{CALLS, SHAPES, free_at, turn_at};
 use ks_flow::Discipline;
 use ks_flow::laws::walks_law;
 use ks_history::{Op, Reply};
@@ -34,10 +35,11 @@ impl<N: Node, D: Discipline> Arena<N, D> {
         ensures rest { RestStays self.now pass.old pass.new }
     {
         let at = node as usize;
+        let turn = turn_at(at);
         let shared = &self.table.shared;
         let found = shared.compare_exchange::<Takes<D>>(
             &mut pass.seat,
-            at + 2,
+            turn,
             1,
             pass.caller as u64 + 2,
         );
@@ -89,7 +91,7 @@ impl<N: Node, D: Discipline> Arena<N, D> {
         ensures looked { Looks pass.old pass.new }
         ensures rest { RestStays self.now pass.old pass.new }
     {
-        let word = self.nodes as usize + 2 + node as usize / 64;
+        let word = free_at(self.nodes as usize, node as usize / 64);
         self.table
             .shared
             .fetch_or::<SetsBit<D>>(&mut pass.seat, word, 1u64 << (node % 64));
@@ -110,14 +112,15 @@ impl<N: Node, D: Discipline> Arena<N, D> {
     {
         let Held { node, body, live } = held;
         let at = node as usize;
+        let turn = turn_at(at);
         let shared = &self.table.shared;
-        shared.load::<Brings<D>>(&mut pass.seat, at + 2);
+        shared.load::<Brings<D>>(&mut pass.seat, turn);
         match shared.exchange(&mut pass.seat, at, Some(body)) {
             None => {}
             Some(_) => unreachable!(),
         }
-        let turn = if live { 1 } else { 0 };
-        shared.store::<Gives<D>>(&mut pass.seat, at + 2, turn);
+        let word = if live { 1 } else { 0 };
+        shared.store::<Gives<D>>(&mut pass.seat, turn, word);
     }
 
     /// Makes the operation a call of the history, at the node whose body it has changed. Gives its number.
@@ -147,7 +150,7 @@ impl<N: Node, D: Discipline> Arena<N, D> {
         walks_law();
         self.table
             .shared
-            .fetch_add::<Decides<D, W>>(&mut pass.seat, 0, 1)
+            .fetch_add::<Decides<D, W>>(&mut pass.seat, CALLS, 1)
     }
 
     /// Makes what the bodies have become one event. The pass holds the nodes, which are different ones.
@@ -189,6 +192,6 @@ impl<N: Node, D: Discipline> Arena<N, D> {
     {
         self.table
             .shared
-            .fetch_add::<Forms<D, W>>(&mut pass.seat, 1, 1);
+            .fetch_add::<Forms<D, W>>(&mut pass.seat, SHAPES, 1);
     }
 }

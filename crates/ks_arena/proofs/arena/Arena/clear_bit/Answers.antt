@@ -1,9 +1,10 @@
-use Rattle.std.proofs.Common.{◌≡◌, ℕ, ◌+◌, ◌*◌, ◌/◌, ◌%◌, ◌^◌, ◌<◌, bit_and, w64, refl, subst, arith}
+use Rattle.std.proofs.Common.{◌≡◌, ℕ, ◌*◌, ◌/◌, ◌%◌, ◌^◌, ◌<◌, bit_and, w64, ◌∙◌, ap, sym, refl, subst, arith}
 use Rattle.std.specs.Int.{bit_not}
 use mathlib.Core.Option.{none}
 use Rattle.atomic_table.specs.Table.{Allows, step}
 use Rattle.ks_arena.specs.declared.view.Mark.TheVariants.{Quiet, Claiming}
 use Rattle.ks_arena.specs.Sound.{sort_of}
+use Rattle.ks_arena.specs.Spots.{free_at}
 use Rattle.ks_arena.specs.Rule.{Running}
 use Rattle.ks_arena.specs.Plays.{marked, bit_was_cleared}
 use Rattle.ks_arena.proofs.Moves.{clears_bit_ok}
@@ -17,7 +18,7 @@ use Rattle.ks_arena.proofs.arena.Arena.clear_bit.Goals.{After-fetch_and}
 pub fetch_and-requires : goal.fetch_and-requires
 fetch_and-requires g c = let p = c.args.pass.now in let r = c.requires.pass in let i : ℕ = c.args.node in let n : ℕ = c.args.self.now.table.shared.table_id.slots in let sort = sort_of g.N.Node.layout g.N.Node.ranged in
     let mine = holds_it n p.seat.me.0.seen p.caller i p.seat.me.1 r.carries r.slots c.requires.holds in let near : i < n = hand_near n p.seat.me.0.seen p.caller p.seat.me.1 i r.carries.hands (r.carries.all i mine) in
-    let word : n + 2 + i / 64 ≡ c.args.self.now.nodes + 2 + i / 64 = omega arith in let mask : ℕ = bit_not w64 (1 * 2 ^ (i % 64) % 2 ^ 64) in (
+    let same : n ≡ c.args.self.now.nodes = omega arith in let word : free_at n (i / 64) ≡ c.free_at-word.result = ap (λ (z : ℕ). free_at z (i / 64)) same ∙ sym c.free_at-word.ensures in let mask : ℕ = bit_not w64 (1 * 2 ^ (i % 64) % 2 ^ 64) in (
       r.table,
       omega arith,
       subst (λ (z : ℕ). Allows (Running sort g.D.Discipline.begins g.D.Discipline.step g.N.Node.body) n p.seat.id p.seat.me z (λ y. bit_and y mask) (λ _ m. bit_was_cleared sort g.D.Discipline.begins g.D.Discipline.step g.N.Node.body (step n z mask 0 none) p.seat.me m)) word

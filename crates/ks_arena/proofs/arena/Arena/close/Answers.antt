@@ -1,4 +1,4 @@
-use Rattle.std.proofs.Common.{rules, arith, ◌≡◌, ℕ, ◌+◌, ◌<◌, ◌≤◌, List, length, sym, ap, ◌∙◌, subst}
+use Rattle.std.proofs.Common.{rules, arith, ◌≡◌, ℕ, ◌<◌, ◌≤◌, List, length, sym, ap, ◌∙◌, subst}
 use Rattle.std.specs.Prelude.{Option, slice_index}
 use Rattle.std.specs.Slots.{slots_items}
 use Rattle.std.specs.declared.alloc.Global.{Global}
@@ -15,6 +15,7 @@ use Rattle.ks_arena.specs.Clauses.{EndsAll}
 use Rattle.ks_arena.specs.declared.view.View.{View}
 use Rattle.ks_arena.specs.Sound.{sort_of, blank_of, Sound}
 use Rattle.ks_arena.specs.Named.{AllNamedBelow}
+use Rattle.ks_arena.specs.Spots.{calls_at, turn_at}
 use Rattle.ks_arena.specs.Rule.{Running, Closes, Ends, seen_first, turn_word}
 use Rattle.ks_arena.specs.Laws.Beyond.{free_beyond, named_below}
 use Rattle.ks_arena.proofs.Crew.{joins_ok, gathers_ok, notes_ok, closes, closes_below}
@@ -66,8 +67,8 @@ returns-clause-run g c = let e = ends g c in let k = kept g c in let v = c.load.
   good = subst GoodThroughout t (c.sound_law.ensures.good (sort_of g.N.Node.layout g.N.Node.ranged) n v e.sound);
   due = subst (λ (z : ℕ × List Event). FullsDue g.N.Node.layout z.0 z.1) (λ k. (same k, t k)) (c.sound_law.ensures.due (sort_of g.N.Node.layout g.N.Node.ranged) n v e.sound);
   sized = ap (λ (z : Rest g). length (slots_items z.slots)) k ∙ same;
-  count = ap (λ (z : Rest g). slice_index (slots_items z.words) 0) k ∙ e.count ∙ ap number_after t;
-  turns = λ i near. ap (λ (z : Rest g). slice_index (slots_items z.words) (i + 2)) k ∙ e.turns i (subst (λ (z : ℕ). i < z) (sym same) near) ∙ ap (λ (z : List Event). turn_word (turn_after z i)) t;
+  count = ap (λ (z : Rest g). slice_index (slots_items z.words) calls_at) k ∙ e.count ∙ ap number_after t;
+  turns = λ i near. ap (λ (z : Rest g). slice_index (slots_items z.words) (turn_at i)) k ∙ e.turns i (subst (λ (z : ℕ). i < z) (sym same) near) ∙ ap (λ (z : List Event). turn_word (turn_after z i)) t;
   ends = λ i near. subst (λ (z : List Event × Rest g). Ends (sort_of g.N.Node.layout g.N.Node.ranged) g.N.Node.body (graph_after z.0 i) (frame_after (blank_of (sort_of g.N.Node.layout g.N.Node.ranged)) z.0 i) (turn_after z.0 i) (get_elem? (slots_items z.1.slots) i)) (λ j. (t j, sym k j)) (e.ends i (subst (λ (z : ℕ). i < z) (sym same) near));
   named = let some : 0 < c.args.self.nodes = c.args.self.sized.2 in subst (λ (z : ℕ × List Event). AllNamedBelow z.0 z.1) (λ k. (same k, t k)) (named_below (sort_of g.N.Node.layout g.N.Node.ranged) g.D.Discipline.begins g.D.Discipline.step n (subst (λ (z : ℕ). 0 < z) (sym same) some) v e.sound);
   beyond = λ i far. let some : 0 < c.args.self.nodes = c.args.self.sized.2 in ap (λ (z : List Event). graph_after z i) (sym t) ∙ free_beyond (sort_of g.N.Node.layout g.N.Node.ranged) g.D.Discipline.begins g.D.Discipline.step n (subst (λ (z : ℕ). 0 < z) (sym same) some) v e.sound i (subst (λ (z : ℕ). z ≤ i) (sym same) far);

@@ -1,0 +1,27 @@
+//! Where the words of an arena's table stand.
+ghost use Rattle.std.specs.Prelude.{◌≡◌, ◌<◌, ◌^◌};
+ghost use Rattle.ks_arena.specs.Spots.{turn_at, free_at};
+
+/// The word that counts the calls.
+pub(crate) const CALLS: usize = 0;
+
+/// The word that counts the shapes.
+pub(crate) const SHAPES: usize = 1;
+
+/// The word of the turn of a node.
+#[inline(always)]
+pub(crate) fn turn_at(node: usize) -> usize
+    requires { turn_at node < 2 ^ 64 }
+    ensures { result ≡ turn_at node }
+{
+    node + 2
+}
+
+/// The free word of so many nodes that has this index.
+#[inline(always)]
+pub(crate) fn free_at(nodes: usize, index: usize) -> usize
+    requires { free_at nodes index < 2 ^ 64 }
+    ensures { result ≡ free_at nodes index }
+{
+    turn_at(nodes) + index
+}
