@@ -1,5 +1,6 @@
--- Where the words of a table stand.
-use Rattle.std.specs.Prelude.{ℕ, ◌+◌}
+-- Where the words of a table stand. What is written often stands 64 bytes from the next, so that no cache line has two
+-- of them: the count of calls, and each turn. Between them is room.
+use Rattle.std.specs.Prelude.{ℕ, ◌+◌, ◌*◌}
 use Rattle.std.specs.Int.{div_ceil}
 
 -- the word that counts the calls
@@ -12,7 +13,7 @@ shapes_at = 1
 
 -- the word of the turn of node i
 abbrev pub turn_at : ℕ → ℕ
-turn_at i = i + 2
+turn_at i = 8 * (i + 1)
 
 -- free word w of n nodes: it stands behind their turns
 abbrev pub free_at : ℕ → ℕ → ℕ

@@ -1,4 +1,4 @@
-//! Where the words of an arena's table stand.
+//! Where the words of an arena's table stand: no turn shares its cache line with another, nor with a count.
 ghost use Rattle.std.specs.Prelude.{◌≡◌, ◌<◌, ◌^◌};
 ghost use Rattle.ks_arena.specs.Spots.{turn_at, free_at};
 
@@ -14,7 +14,7 @@ pub(crate) fn turn_at(node: usize) -> usize
     requires { turn_at node < 2 ^ 64 }
     ensures { result ≡ turn_at node }
 {
-    node + 2
+    8 * (node + 1)
 }
 
 /// The free word of so many nodes that has this index.
