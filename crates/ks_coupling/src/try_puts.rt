@@ -4,14 +4,34 @@ ghost use Rattle.ks_history.specs.declared.Op.TheVariants.{Add, Put};
 ghost use Rattle.ks_history.specs.Done.{coupling};
 ghost use Rattle.ks_arena.specs.Of.{IsEmptyPassOf, SameCaller};
 ghost use Rattle.ks_shape.specs.Ends.{EndsPutOf};
+ghost use Rattle.ks_shape.specs.Fills.{filling};
 ghost use Rattle.ks_shape.specs.Of.{TriedPutOf};
 
 use ks_arena::{Arena, Pass};
 use ks_flow::Tree;
 use ks_gate::{Gate, Point};
 use ks_node::Unlinked;
-use ks_put::{try_pair_add, try_pair_put};
-use ks_shape::{Numbered, PutLater};
+use ks_put::try_pair_fill;
+use ks_shape::{Fill, Numbered, PutLater};
+
+/// Puts or adds a value at a place, and waits for nobody.
+fn try_fill<N: Unlinked, G: Gate>(
+    arena: &Arena<N, Tree>,
+    pass: &mut Pass<N, Tree>,
+    gate: &G,
+    place: u64,
+    fill: Fill,
+) -> Result<Numbered, PutLater>
+    requires pass { IsEmptyPassOf arena.now pass.old }
+    ensures pass { IsEmptyPassOf arena.now pass.new }
+    ensures caller { SameCaller pass.old pass.new }
+    ensures ends { EndsPutOf arena.now coupling (filling place fill) pass.old pass.new result }
+    ensures tried { N.in_place ≡ false →
+        TriedPutOf arena.now coupling (filling place fill) pass.old pass.new result }
+{
+    gate.at(pass.caller(), Point::Begin);
+    try_pair_fill(arena, pass, gate, place, fill)
+}
 
 /// Sets the value at a place; answers the value that stood there, and the number of the call. It splits full nodes on its way
 /// and at its end, holds three nodes at most, and waits for none.
@@ -36,8 +56,7 @@ pub fn try_put<N: Unlinked, G: Gate>(
     ensures tried { N.in_place ≡ false →
         TriedPutOf arena.now coupling (Put place value) pass.old pass.new result }
 {
-    gate.at(pass.caller(), Point::Begin);
-    try_pair_put(arena, pass, gate, place, value)
+    try_fill(arena, pass, gate, place, Fill::Put(value))
 }
 
 /// Sets the value at a place where none stands; answers the value that stood there, which then stays, and the number of the
@@ -60,6 +79,5 @@ pub fn try_add<N: Unlinked, G: Gate>(
     ensures tried { N.in_place ≡ false →
         TriedPutOf arena.now coupling (Add place value) pass.old pass.new result }
 {
-    gate.at(pass.caller(), Point::Begin);
-    try_pair_add(arena, pass, gate, place, value)
+    try_fill(arena, pass, gate, place, Fill::Add(value))
 }

@@ -4,6 +4,7 @@ ghost use Rattle.ks_history.specs.declared.Op.TheVariants.{Add, Put};
 ghost use Rattle.ks_history.specs.Done.{give_up};
 ghost use Rattle.ks_arena.specs.Of.{IsEmptyPassOf, SameCaller};
 ghost use Rattle.ks_shape.specs.Ends.{EndsPutOf};
+ghost use Rattle.ks_shape.specs.Fills.{filling};
 ghost use Rattle.ks_shape.specs.Of.{TriedPutOf};
 ghost use Rattle.ks_giveup.specs.Goes.{GoesTowards};
 
@@ -12,8 +13,36 @@ use ks_arena::{Arena, Pass};
 use ks_flow::Tree;
 use ks_gate::Gate;
 use ks_node::{Ranged, Unlinked};
-use ks_put::{try_pair_add, try_pair_put};
-use ks_shape::{Numbered, PutLater, add_here, give_last, has_room, put_here};
+use ks_put::try_pair_fill;
+use ks_shape::{Fill, Numbered, PutLater, fill_at, give_last, has_room, not_put_off};
+
+/// Puts or adds a value at a place, and waits for nobody.
+fn try_fill<N: Ranged + Unlinked, G: Gate>(
+    arena: &Arena<N, Tree>,
+    pass: &mut Pass<N, Tree>,
+    gate: &G,
+    place: u64,
+    fill: Fill,
+) -> Result<Numbered, PutLater>
+    requires pass { IsEmptyPassOf arena.now pass.old }
+    ensures pass { IsEmptyPassOf arena.now pass.new }
+    ensures caller { SameCaller pass.old pass.new }
+    ensures ends { EndsPutOf arena.now give_up (filling place fill) pass.old pass.new result }
+    ensures tried { N.in_place ≡ false →
+        TriedPutOf arena.now give_up (filling place fill) pass.old pass.new result }
+    ensures goes { GoesTowards place pass.old pass.new }
+{
+    match try_find(arena, pass, gate, place) {
+        Ok(held) => {
+            if has_room(&held, place) {
+                return not_put_off(fill_at(arena, pass, gate, place, fill, Ok(held)));
+            }
+            give_last(arena, pass, gate, held);
+            try_pair_fill(arena, pass, gate, place, fill)
+        }
+        Err(later) => Err(PutLater::Later(later)),
+    }
+}
 
 /// Sets the value at a place; answers the value that stood there, and the number of the call. It holds one node at a time,
 /// and waits for none; where the node has no room it goes on by lock coupling, from the root, and splits full nodes.
@@ -40,16 +69,7 @@ pub fn try_put<N: Ranged + Unlinked, G: Gate>(
         TriedPutOf arena.now give_up (Put place value) pass.old pass.new result }
     ensures goes { GoesTowards place pass.old pass.new }
 {
-    match try_find(arena, pass, gate, place) {
-        Ok(held) => {
-            if has_room(&held, place) {
-                return Ok(put_here(arena, pass, gate, place, value, held));
-            }
-            give_last(arena, pass, gate, held);
-            try_pair_put(arena, pass, gate, place, value)
-        }
-        Err(later) => Err(PutLater::Later(later)),
-    }
+    try_fill(arena, pass, gate, place, Fill::Put(value))
 }
 
 /// Sets the value at a place where none stands; answers the value that stood there, which then stays, and the number of the
@@ -73,14 +93,5 @@ pub fn try_add<N: Ranged + Unlinked, G: Gate>(
         TriedPutOf arena.now give_up (Add place value) pass.old pass.new result }
     ensures goes { GoesTowards place pass.old pass.new }
 {
-    match try_find(arena, pass, gate, place) {
-        Ok(held) => {
-            if has_room(&held, place) {
-                return Ok(add_here(arena, pass, gate, place, value, held));
-            }
-            give_last(arena, pass, gate, held);
-            try_pair_add(arena, pass, gate, place, value)
-        }
-        Err(later) => Err(PutLater::Later(later)),
-    }
+    try_fill(arena, pass, gate, place, Fill::Add(value))
 }

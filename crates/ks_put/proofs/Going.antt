@@ -1,6 +1,6 @@
 -- How a refusal stays one as a search goes on, whose caller's number is told in another way after each step.
 use Rattle.std.proofs.Common.{◌≡◌, ℕ, List, sym, subst, arith}
-use Rattle.std.specs.Prelude.{Result}
+use Rattle.std.specs.Prelude.{IsTrue, None, Result, Ok, Err}
 use Rattle.ks_keysets.specs.Layout.{Layout}
 use Rattle.ks_history.specs.declared.Event.{Event}
 use Rattle.ks_history.specs.declared.Op.TheVariants.{Put}
@@ -10,7 +10,8 @@ use Rattle.ks_history.specs.Laws.Dues.{none_free_earlier, none_free_later}
 use Rattle.ks_history.specs.Passes.{NoCallBy}
 use Rattle.ks_history.specs.Trace.{◌⊑◌}
 use Rattle.ks_history.specs.Underway.{Underway}
-use Rattle.ks_node.specs.Body.{Body}
+use Rattle.ks_node.specs.Body.{Body, value_at}
+use Rattle.ks_node.specs.Room.{is_full}
 use Rattle.ks_arena.specs.declared.held.Held.{Held as Hand}
 use Rattle.ks_arena.specs.Sound.{Sort}
 use Rattle.ks_shape.specs.declared.answers.Full.{Full}
@@ -18,6 +19,7 @@ use Rattle.ks_shape.specs.declared.answers.Numbered.{Numbered}
 use Rattle.ks_shape.specs.declared.fills.Fill.{Fill}
 use Rattle.ks_shape.specs.Answers.{number_in, reply_in}
 use Rattle.ks_shape.specs.Fills.{filling, EndsForRoom, FoundRoom, FullIsDue}
+use Rattle.ks_shape.specs.SearchEnd.{IsEnd, LacksPlace, TakesPlace}
 use Rattle.ks_shape.specs.Stretches.{Stretches}
 use Rattle.ks_shape.specs.Laws.Fills.{full_is_due}
 use Rattle.ks_shape.specs.Laws.Stretches.{fill_goes_on, stretches_begins}
@@ -28,13 +30,25 @@ on_was layout n p a b s h k same so was = subst (λ (z : ℕ). NoneFree layout n
 pub new_was : (layout : Layout) (n p a b : ℕ) (s h k : List Event) → b ≡ a → Stretches a s h → NoneFree layout n a p h k → NoneFree layout n b p s k
 new_was layout n p a b s h k same so was = subst (λ (z : ℕ). NoneFree layout n z p s k) (sym same) (none_free_earlier layout n a p s h k (stretches_begins a s h so) was)
 
--- a refusal since the beginning of a stretch
-pub refused_since : (layout : Layout) (n p a b : ℕ) (h k : List Event) → b ≡ a → Stretches a h k → NoneFree layout n a p h k → (start : List Event) × (since : start ⊑ k) × NoCallBy b since.rest × NoneFree layout n b p start k
-refused_since layout n p a b h k same so none =
-    let under : Underway coupling a (Put 0 0) h k = so coupling (Put 0 0) (omega arith) in
-    (h, record { rest = under.rest; is = under.is }, subst (λ (z : ℕ). NoCallBy z under.rest) (sym same) under.none, subst (λ (z : ℕ). NoneFree layout n z p h k) (sym same) none)
+-- where a search for room has ended at the node x
+module _ {N : Type 0} (sort : Sort) (shows : N → Body) (n p a b : ℕ) (s k : List Event) (x y : Hand N) (same : b ≡ a) (node : y ≡ x) (ends : IsEnd sort shows b p k y) where
+  pub found_room : TakesPlace sort.layout (shows x.body) p → FoundRoom sort shows n a p s k (Ok y)
+  found_room takes = record {
+    ends = subst (λ (z : ℕ). IsEnd sort shows z p k y) same ends;
+    room = subst (λ (z : Hand N). TakesPlace sort.layout (shows z.body) p) (sym node) takes;
+  }
 
--- so a search for room has ended, and what is decided there is done
+  pub found_none : LacksPlace sort.layout (shows x.body) p → NoneFree sort.layout n a p s k → FoundRoom sort shows n a p s k (Err y)
+  found_none lacks none = (
+    record {
+      ends = subst (λ (z : ℕ). IsEnd sort shows z p k y) same ends;
+      absent = subst (λ (z : Hand N). value_at (shows z.body).pairs p ≡ None) (sym node) lacks.0;
+      full = subst (λ (z : Hand N). IsTrue (is_full sort.layout (shows z.body))) (sym node) lacks.1;
+    },
+    none,
+  )
+
+-- so its search has ended, and what is decided there is done
 pub ended_since : {N : Type 0} (sort : Sort) (shows : N → Body) (n p a b : ℕ) (h k : List Event) (found : Result (Hand N) (Hand N)) → b ≡ a → Stretches a h k → FoundRoom sort shows n a p h k found → EndsForRoom sort shows n b p k found
 ended_since sort shows n p a b h k found same so room =
     let under : Underway coupling a (Put 0 0) h k = so coupling (Put 0 0) (omega arith) in

@@ -29,8 +29,8 @@ use Rattle.ks_history.specs.Done.{Template, coupling, Left}
 use Rattle.ks_shape.specs.declared.answers.Later.{Later}
 use Rattle.ks_shape.specs.declared.answers.Later.TheVariants.{Busy, Moved, Far}
 use Rattle.ks_shape.specs.declared.answers.PutLater.TheVariants.{Later as Otherwise}
-use Rattle.ks_shape.specs.Ends.{EndsPut, IsCauseButFar, IsFarDue}
-use Rattle.ks_shape.specs.Tries.{FindsFar, IsCause}
+use Rattle.ks_shape.specs.Ends.{EndsPut, IsCauseButFar}
+use Rattle.ks_shape.specs.Tries.{FindsFar, IsCause, IsPutOff}
 use Rattle.ks_put.specs.declared.path.Path.{Path}
 use Rattle.ks_put.specs.declared.try_room.Step.{Step}
 use Rattle.ks_put.specs.Parts.{HasRoomAbove}
@@ -68,10 +68,10 @@ cause_as template c op s h Far finds so = finds
 pub ends_later : (layout : Layout) (template : Template) (n c : ℕ) (op : Op) (s h : List Event) (later : Later) → FindsFar template → Left template c op s h → IsCauseButFar coupling c op s h later → EndsPut layout template n c op s h (Err (Otherwise later))
 ends_later layout template n c op s h later finds left so = (left, cause_as template c op s h later finds so)
 
-pub far_later : (n c : ℕ) (op : Op) (s h : List Event) (later : Later) → IsCause coupling n c op s h later → IsFarDue n c s h (Err (Otherwise later))
-far_later n c op s h (Busy node holder) so = tt
-far_later n c op s h (Moved node) so = tt
-far_later n c op s h Far so = so.1
+pub off_later : (template : Template) (n c : ℕ) (op : Op) (s h : List Event) (later : Later) → FindsFar template → Left template c op s h → IsCause coupling n c op s h later → IsPutOff template n c op s h later
+off_later template n c op s h (Busy node holder) finds left so = record { left = left; cause = so }
+off_later template n c op s h (Moved node) finds left so = absurd so.0
+off_later template n c op s h Far finds left so = record { left = left; cause = (finds, so.1) }
 
 -- where the search of a path ends, its node is no branch
 module _ {N : Type 0} (sort : Sort) (shows : N → Body) (c p : ℕ) (h : List Event) (x : Path N) (path : IsOnPath sort shows c p h x) (facts : Tree (graph_after h) (frame_after (blank_of sort) h)) (place : p ≤ top) where

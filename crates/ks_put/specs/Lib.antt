@@ -3,6 +3,5 @@ pub mod OnPath
 pub mod Parts
 pub mod Deeper
 pub mod Narrows
-pub mod Room
 pub mod Of
 pub mod Tries

@@ -1,5 +1,5 @@
 -- What a search that keeps the parent asks and tells, said of an arena and of a pass before and after.
-use Rattle.std.specs.Prelude.{ℕ, List, Option}
+use Rattle.std.specs.Prelude.{ℕ, List, Option, Result}
 use Rattle.ks_node.specs.declared.node.Node.{Ghosts as NodeGhosts}
 use Rattle.ks_node.below.ks_places.specs.declared.Placing.{Ghosts as PlacingGhosts}
 use Rattle.ks_flow.specs.declared.discipline.Discipline.{Ghosts as DisciplineGhosts}
@@ -9,13 +9,12 @@ use Rattle.ks_arena.specs.declared.held.Pass.{Pass}
 use Rattle.ks_arena.specs.declared.held.Held.{Held as Hand}
 use Rattle.ks_arena.specs.Sound.{sort_of}
 use Rattle.ks_arena.specs.Clauses.{seen_of}
+use Rattle.ks_shape.specs.Fills.{FoundRoom}
 use Rattle.ks_put.specs.declared.halves.Part.{Part}
 use Rattle.ks_put.specs.declared.path.Path.{Path}
-use Rattle.ks_put.specs.declared.room.Room.{Room}
 use Rattle.ks_put.specs.OnPath.{GaveIf, IsAbove, IsUnder, IsOnPath}
 use Rattle.ks_put.specs.Parts.{IsPart, DidPart, GrowAll}
 use Rattle.ks_put.specs.Deeper.{IsDownPath, IsDownPart}
-use Rattle.ks_put.specs.Room.{CameTo}
 
 module _ {N D : Type 0} where
   -- the pass has seen its caller give the one node, if there was one, and beside it what others did; else nothing
@@ -55,9 +54,7 @@ module _ {N D P : Type 0} {n : NodeGhosts N P} {q : PlacingGhosts P} {d : Discip
   abbrev pub PartsDown : Arena N D P n q d → Pass N D → Pass N D → Path N → Part N → Type 0
   PartsDown a p p' path part = (start : List Event) (taken roots steps : ℕ) → IsDownPath a.nodes p.caller start (seen_of p) taken roots steps path → IsDownPart a.nodes p.caller start (seen_of p') taken roots steps part
 
-  -- what a search for room between p and p' came to; if a claim was refused, it was so at some moment since the start
-  abbrev pub CameToRoom : Arena N D P n q d → ℕ → Pass N D → Pass N D → Room N → Type 0
-  CameToRoom a place p p' room = CameTo (sort_of n.layout n.ranged) n.body a.nodes p.caller place (seen_of p) (seen_of p') room
-
-  abbrev pub CameToRoomSince : Arena N D P n q d → ℕ → List Event → Pass N D → Pass N D → ℕ → Room N → Type 0
-  CameToRoomSince a place start p p' nodes room = CameTo (sort_of n.layout n.ranged) n.body nodes p.caller place start (seen_of p') room
+  -- what a search for room between p and p' came to: a node that has the place, or room for it; or a full one without it,
+  -- and no node was free
+  abbrev pub CameToRoom : Arena N D P n q d → ℕ → Pass N D → Pass N D → Result (Hand N) (Hand N) → Type 0
+  CameToRoom a place p p' found = FoundRoom (sort_of n.layout n.ranged) n.body a.nodes p.caller place (seen_of p) (seen_of p') found

@@ -20,18 +20,17 @@ use Rattle.ks_arena.specs.Clauses.{seen_of}
 use Rattle.ks_shape.specs.declared.answers.Later.{Later}
 use Rattle.ks_shape.specs.declared.answers.Numbered.{Numbered}
 use Rattle.ks_shape.specs.declared.answers.PutLater.{PutLater}
-use Rattle.ks_shape.specs.Ends.{EndsPut, IsCauseButFar, IsFarDue}
-use Rattle.ks_shape.specs.Tries.{FindsFar, IsCause}
+use Rattle.ks_shape.specs.Ends.{EndsPut, IsCauseButFar}
+use Rattle.ks_shape.specs.Fills.{FoundRoom}
+use Rattle.ks_shape.specs.Tries.{FindsFar, IsCause, TriedPut}
 use Rattle.ks_try.specs.Down.{IsDown}
 use Rattle.ks_try.specs.Of.{IsCauseAt}
 use Rattle.ks_put.specs.declared.path.Path.{Path}
-use Rattle.ks_put.specs.declared.room.Room.{Room}
 use Rattle.ks_put.specs.declared.try_room.Step.{Step}
 use Rattle.ks_put.specs.Deeper.{IsDownPath}
 use Rattle.ks_put.specs.Narrows.{cuts_left}
 use Rattle.ks_put.specs.OnPath.{IsOnPath}
 use Rattle.ks_put.specs.Parts.{HasRoomAbove}
-use Rattle.ks_put.specs.Room.{CameTo}
 
 module _ {N : Type 0} (sort : Sort) (shows : N → Body) where
   -- c, which searches for the place, stands on the path; or it holds nothing
@@ -60,13 +59,13 @@ abbrev pub IsPutOffBy : Type 0 → ℕ → ℕ → ℕ → List Event → List E
 IsPutOffBy ways n c place s0 h later = (op : Op) → Touches op place → IsCauseButFar coupling c op s0 h later × (ways → IsCause coupling n c op s0 h later)
 
 -- c came to the node where its search ends, as it tells; or it holds nothing
-abbrev pub RoomOrNone : {N : Type 0} → Sort → (N → Body) → ℕ → ℕ → ℕ → List Event → List Event → Result (Room N) Later → Type 0
-RoomOrNone sort shows n c place h k (Ok room) = CameTo sort shows n c place h k room
+abbrev pub RoomOrNone : {N : Type 0} → Sort → (N → Body) → ℕ → ℕ → ℕ → List Event → List Event → Result (Result (Hand N) (Hand N)) Later → Type 0
+RoomOrNone sort shows n c place h k (Ok found) = FoundRoom sort shows n c place h k found
 RoomOrNone sort shows n c place h k (Err later) = hand c k ≡ []
 
 -- or what put it off is so
-abbrev pub RoomOrCause : {N : Type 0} → Type 0 → ℕ → ℕ → ℕ → List Event → List Event → Result (Room N) Later → Type 0
-RoomOrCause ways n c place s0 h (Ok room) = Unit {0}
+abbrev pub RoomOrCause : {N : Type 0} → Type 0 → ℕ → ℕ → ℕ → List Event → List Event → Result (Result (Hand N) (Hand N)) Later → Type 0
+RoomOrCause ways n c place s0 h (Ok found) = Unit {0}
 RoomOrCause ways n c place s0 h (Err later) = IsPutOffBy ways n c place s0 h later
 
 -- the path stands at the root; or hangs from this node; or the search was put off
@@ -128,13 +127,18 @@ module _ {N D P : Type 0} {n : NodeGhosts N P} {q : PlacingGhosts P} {d : Discip
   OnOrCause a place p p' depth path result = (start : List Event) → IsDownPath a.nodes p.caller start (seen_of p) (suc depth) 2 depth path → StepOrCause a.nodes p.caller place start (seen_of p') result
 
   -- what a search for room between p and p' came to that waits for nobody; what put it off, since whatever moment
-  abbrev pub TriesRoom : Arena N D P n q d → ℕ → Pass N D → Pass N D → Result (Room N) Later → Type 0
+  abbrev pub TriesRoom : Arena N D P n q d → ℕ → Pass N D → Pass N D → Result (Result (Hand N) (Hand N)) Later → Type 0
   TriesRoom a place p p' result = RoomOrNone (sort_of n.layout n.ranged) n.body a.nodes p.caller place (seen_of p) (seen_of p') result
 
-  abbrev pub TriesRoomSince : Arena N D P n q d → ℕ → Pass N D → Pass N D → Result (Room N) Later → Type 0
+  abbrev pub TriesRoomSince : Arena N D P n q d → ℕ → Pass N D → Pass N D → Result (Result (Hand N) (Hand N)) Later → Type 0
   TriesRoomSince a place p p' result = (start : List Event) → TookSince p.caller start (seen_of p) 0 1 → RoomOrCause (n.in_place ≡ false) a.nodes p.caller place start (seen_of p') result
 
   -- a put or an add that is under way at p, by coupling or by giving up, and took the root once at most, is done at p', or put off
   abbrev pub FinishesTry : Arena N D P n q d → Op → Pass N D → Pass N D → Result Numbered PutLater → Type 0
   FinishesTry a op p p' answer = (template : Template) (start : List Event) → FindsFar template → TookSince p.caller start (seen_of p) 0 1 → Underway template p.caller op start (seen_of p) →
-      EndsPut n.layout template a.nodes p.caller op start (seen_of p') answer × (n.in_place ≡ false → IsFarDue a.nodes p.caller start (seen_of p') answer)
+      TriedPut n.layout template a.nodes p.caller op start (seen_of p') answer
+
+  -- so it is whatever its nodes, but for the cause of Far
+  abbrev pub EndsTry : Arena N D P n q d → Op → Pass N D → Pass N D → Result Numbered PutLater → Type 0
+  EndsTry a op p p' answer = (template : Template) (start : List Event) → FindsFar template → TookSince p.caller start (seen_of p) 0 1 → Underway template p.caller op start (seen_of p) →
+      EndsPut n.layout template a.nodes p.caller op start (seen_of p') answer

@@ -5,7 +5,7 @@ ghost use Rattle.ks_shape.specs.Fills.{filling};
 ghost use Rattle.ks_arena.specs.Of.{IsEmptyPassOf, SameCaller};
 ghost use Rattle.ks_shape.specs.Of.{FinishesAny};
 
-use crate::room::{Room, make_room};
+use crate::room::make_room;
 use ks_arena::{Arena, Pass};
 use ks_flow::Tree;
 use ks_gate::Gate;
@@ -28,8 +28,6 @@ pub fn pair_fill<N: Unlinked, R: Wait, G: Gate>(
     ensures caller { SameCaller pass.old pass.new }
     ensures done { FinishesAny arena.now (filling place fill) pass.old pass.new (reply_in result) (number_in result) }
 {
-    match make_room(rt, arena, pass, gate, place) {
-        Room::Found(held) => fill_at(arena, pass, gate, place, fill, Ok(held)),
-        Room::Refused(held) => fill_at(arena, pass, gate, place, fill, Err(held)),
-    }
+    let found = make_room(rt, arena, pass, gate, place);
+    fill_at(arena, pass, gate, place, fill, found)
 }

@@ -15,5 +15,5 @@ pub use fills::pair_fill;
 pub use halves::keep_left;
 pub use laws::search_law;
 pub use path::{Path, enter, let_go, step_down};
-pub use room::{Room, make_room};
-pub use try_fills::{try_pair_add, try_pair_put};
+pub use room::make_room;
+pub use try_fills::try_pair_fill;

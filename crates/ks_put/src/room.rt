@@ -1,15 +1,10 @@
 //! The search for room for a place, which keeps the parent of its node, so that a full node can be split under it.
-ghost use Rattle.std.specs.Prelude.{◌≡◌, ℕ, IsTrue, List, None, true, false};
-ghost use Rattle.ks_history.specs.declared.Event.{Event as Happening};
-ghost use Rattle.ks_history.specs.Due.{NoneFree};
+ghost use Rattle.std.specs.Prelude.{◌≡◌, IsTrue};
 ghost use Rattle.ks_node.specs.declared.start.Next.TheVariants.{Go, Here};
-ghost use Rattle.ks_node.specs.Body.{next_at, value_at};
-ghost use Rattle.ks_node.specs.Room.{is_full};
-ghost use Rattle.ks_arena.specs.Clauses.{seen_of};
+ghost use Rattle.ks_node.specs.Body.{next_at};
 ghost use Rattle.ks_arena.specs.Of.{IsPassOf, IsEmptyPassOf, SameCaller, caller_of};
-ghost use Rattle.ks_shape.specs.SearchEnd.{TakesPlace};
-ghost use Rattle.ks_shape.specs.Of.{IsStretch, NoneWasFree};
-ghost use Rattle.ks_put.specs.Of.{IsOnPathOf, CameToRoom, CameToRoomSince};
+ghost use Rattle.ks_shape.specs.Of.{IsStretch, NoneWasFree, SearchEndsAt};
+ghost use Rattle.ks_put.specs.Of.{IsOnPathOf, CameToRoom};
 
 use crate::halves::Part;
 use crate::path::{Path, enter, let_go, step_down};
@@ -20,14 +15,6 @@ use ks_gate::Gate;
 use ks_node::{Next, Unlinked};
 use ks_shape::{give_last, has_room, tree_end_law};
 use std::sync::Wait;
-
-/// What a search for room came to: the node where it ended, held alone.
-pub enum Room<N> {
-    /// It has the place, or room for it.
-    Found(Held<N>),
-    /// It is full and has not the place, and no node was found free.
-    Refused(Held<N>),
-}
 
 /// Gives the parent, and takes the child.
 fn down<N: Unlinked, R: Wait, G: Gate>(
@@ -105,62 +92,38 @@ fn begin_again<N: Unlinked, R: Wait, G: Gate>(
     enter(rt, arena, pass, gate, place)
 }
 
-/// Gives the parent of a node that has the place, or room for it.
-pub(crate) fn come_to_room<N: Unlinked, G: Gate>(
+/// Gives the parent of the node where the search ends.
+pub(crate) fn come_to_end<N: Unlinked, G: Gate>(
     arena: &Arena<N, Tree>,
     pass: &mut Pass<N, Tree>,
     gate: &G,
     place: u64,
     path: Path<N>,
-) -> Room<N>
+) -> Held<N>
     requires pass { IsPassOf arena.now pass.old }
     requires path { IsOnPathOf arena.now (caller_of pass.old) place pass.old path }
     requires here { next_at (N.body path.node.body) place ≡ Here }
-    requires room { TakesPlace N.layout (N.body path.node.body) place }
     ensures pass { IsPassOf arena.now pass.new }
     ensures caller { SameCaller pass.old pass.new }
-    ensures came { (n : ℕ) (start : List Happening) → CameToRoomSince arena.now place start pass.old pass.new n result }
+    ensures node { result ≡ path.node }
+    ensures ends { SearchEndsAt arena.now place pass.new result }
     ensures stretch { IsStretch pass.old pass.new }
 {
     let held = let_go(arena, pass, gate, place, path);
     tree_end_law(arena, pass, &held, place);
-    Room::Found(held)
+    held
 }
 
-/// Gives the parent of a full node that has not the place.
-pub(crate) fn come_to_full<N: Unlinked, G: Gate>(
-    arena: &Arena<N, Tree>,
-    pass: &mut Pass<N, Tree>,
-    gate: &G,
-    place: u64,
-    path: Path<N>,
-) -> Room<N>
-    requires pass { IsPassOf arena.now pass.old }
-    requires path { IsOnPathOf arena.now (caller_of pass.old) place pass.old path }
-    requires here { next_at (N.body path.node.body) place ≡ Here }
-    requires absent { value_at (N.body path.node.body).pairs place ≡ None }
-    requires full { IsTrue (is_full N.layout (N.body path.node.body)) }
-    ensures pass { IsPassOf arena.now pass.new }
-    ensures caller { SameCaller pass.old pass.new }
-    ensures came { (n : ℕ) (start : List Happening) →
-        NoneFree N.layout n (caller_of pass.old) place start (seen_of pass.old) →
-        CameToRoomSince arena.now place start pass.old pass.new n result }
-    ensures stretch { IsStretch pass.old pass.new }
-{
-    let held = let_go(arena, pass, gate, place, path);
-    tree_end_law(arena, pass, &held, place);
-    Room::Refused(held)
-}
-
-/// Takes the node at which the search for a place ends, and holds it alone. Full nodes are split on the way and at the end,
-/// by nodes found free. It does not tell the gate that a call begins.
+/// Takes the node at which the search for a place ends, and holds it alone: it has the place, or room for it. `Err`: it is full
+/// and has not the place, and no node was found free. Full nodes are split on the way and at the end. It does not tell the gate
+/// that a call begins.
 pub fn make_room<N: Unlinked, R: Wait, G: Gate>(
     rt: &R,
     arena: &Arena<N, Tree>,
     pass: &mut Pass<N, Tree>,
     gate: &G,
     place: u64,
-) -> Room<N>
+) -> Result<Held<N>, Held<N>>
     requires pass { IsEmptyPassOf arena.now pass.old }
     ensures pass { IsPassOf arena.now pass.new }
     ensures caller { SameCaller pass.old pass.new }
@@ -178,14 +141,16 @@ pub fn make_room<N: Unlinked, R: Wait, G: Gate>(
             }
             Next::Here => {
                 if has_room(&path.node, place) {
-                    return come_to_room(arena, pass, gate, place, path);
+                    return Ok(come_to_end(arena, pass, gate, place, path));
                 }
                 match split(arena, pass, gate, place, path) {
                     Part::Split(half) => path = half,
-                    Part::Refused(whole) => return come_to_full(arena, pass, gate, place, whole),
+                    Part::Refused(whole) => {
+                        return Err(come_to_end(arena, pass, gate, place, whole));
+                    }
                     Part::Shut(whole) => {
                         if refused {
-                            return come_to_full(arena, pass, gate, place, whole);
+                            return Err(come_to_end(arena, pass, gate, place, whole));
                         }
                         path = begin_again(rt, arena, pass, gate, place, whole);
                     }

@@ -11,7 +11,7 @@ ghost use Rattle.ks_put.specs.Tries.{BeginsOrCause, DeeperOrCause, HangsFrom, Is
 use crate::halves::Part;
 use crate::laws::search_law;
 use crate::path::{Path, let_go};
-use crate::room::{Room, come_to_full, come_to_room};
+use crate::room::come_to_end;
 use crate::splits::split;
 use ks_arena::laws::root_stays_law;
 use ks_arena::{Arena, Held, Pass, Taken, root_law};
@@ -210,7 +210,7 @@ pub(crate) fn try_make_room<N: Unlinked, G: Gate>(
     pass: &mut Pass<N, Tree>,
     gate: &G,
     place: u64,
-) -> Result<Room<N>, Later>
+) -> Result<Result<Held<N>, Held<N>>, Later>
     requires pass { IsEmptyPassOf arena.now pass.old }
     ensures pass { IsPassOf arena.now pass.new }
     ensures caller { SameCaller pass.old pass.new }
@@ -246,16 +246,16 @@ pub(crate) fn try_make_room<N: Unlinked, G: Gate>(
             Next::Here => {
                 node_law(&path.node.body);
                 if has_room(&path.node, place) {
-                    return Ok(come_to_room(arena, pass, gate, place, path));
+                    return Ok(Ok(come_to_end(arena, pass, gate, place, path)));
                 }
                 match split(arena, pass, gate, place, path) {
                     Part::Split(half) => path = half,
                     Part::Refused(whole) => {
-                        return Ok(come_to_full(arena, pass, gate, place, whole));
+                        return Ok(Err(come_to_end(arena, pass, gate, place, whole)));
                     }
                     Part::Shut(whole) => {
                         if refused {
-                            return Ok(come_to_full(arena, pass, gate, place, whole));
+                            return Ok(Err(come_to_end(arena, pass, gate, place, whole)));
                         }
                         let_all_go(arena, pass, gate, place, whole);
                         return Err(Later::Far);

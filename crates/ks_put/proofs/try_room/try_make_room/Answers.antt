@@ -1,10 +1,8 @@
-use Rattle.std.proofs.Common.{◌≡◌, ◌∙◌, ℕ, suc, true, false, [], refl, sym, subst, inl, inr, arith}
-use Rattle.std.specs.Prelude.{Option, None, IsTrue}
+use Rattle.std.proofs.Common.{◌≡◌, ◌∙◌, ℕ, suc, true, false, [], refl, sym, ap, subst, inl, inr, arith}
+use Rattle.std.specs.Prelude.{Option}
 use Rattle.ks_keysets.specs.Layout.{Layout}
 use Rattle.ks_history.specs.Descent.{TookSince}
 use Rattle.ks_history.specs.Trace.{hand}
-use Rattle.ks_node.specs.Body.{value_at}
-use Rattle.ks_node.specs.Room.{is_full}
 use Rattle.ks_arena.specs.declared.held.Held.{Held as Hand}
 use Rattle.ks_arena.specs.Sound.{sort_of}
 use Rattle.ks_arena.specs.Clauses.{seen_of}
@@ -13,9 +11,8 @@ use Rattle.ks_put.specs.declared.path.Path.{Path}
 use Rattle.ks_put.specs.Deeper.{IsDownPath}
 use Rattle.ks_put.specs.OnPath.{IsOnPath}
 use Rattle.ks_put.specs.Parts.{HasRoomAbove}
-use Rattle.ks_put.specs.Room.{CameTo}
 use Rattle.ks_put.specs.Tries.{IsPutOffBy}
-use Rattle.ks_put.proofs.Going.{on_was, new_was}
+use Rattle.ks_put.proofs.Going.{on_was, new_was, found_none, found_room}
 use Rattle.ks_put.specs.Narrows.{cuts_left}
 use Rattle.ks_put.proofs.Narrowing.{less_on, less_split}
 use Rattle.ks_put.proofs.Trying.{path_leaf, put_off}
@@ -74,50 +71,35 @@ returns-in-Err-try_go_on-clause-stretch g c = let me : ℕ = c.args.pass.now.cal
 -- where its search ends
 
 pub returns-then-has_room-clause-room : goal.returns-then-has_room-clause-room
-returns-then-has_room-clause-room g c = let n : ℕ = c.args.arena.now.nodes in let s = seen_of c.args.pass.now in
-    subst (λ (z : ℕ). CameTo (sort_of g.N.Node.layout g.N.Node.ranged) g.N.Node.body n z c.args.place s (seen_of c.come_to_room.new.pass) c.come_to_room.result) c.loop-child.invariant.1 (c.come_to_room.ensures.came n s)
+returns-then-has_room-clause-room g c = let n : ℕ = c.args.arena.now.nodes in let me : ℕ = c.args.pass.now.caller in let s = seen_of c.args.pass.now in let inv = c.loop-child.invariant in let e = c.come_to_end.ensures in
+    found_room (sort_of g.N.Node.layout g.N.Node.ranged) g.N.Node.body n c.args.place me c.come_to_end.new.pass.caller s (seen_of c.come_to_end.new.pass) c.loop-child.path.node c.come_to_end.result (e.caller ∙ inv.1) e.node e.ends (c.has_room.ensures.room c.if-has_room.true)
 
 pub returns-then-has_room-clause-stretch : goal.returns-then-has_room-clause-stretch
-returns-then-has_room-clause-stretch g c = let me : ℕ = c.args.pass.now.caller in let a : ℕ = c.loop-child.pass.caller in let s = seen_of c.args.pass.now in let h = seen_of c.loop-child.pass in let k = seen_of c.come_to_room.new.pass in let inv = c.loop-child.invariant in
-    stretches_as me a s k inv.1 (stretches_both a s h k inv.3 c.come_to_room.ensures.stretch)
+returns-then-has_room-clause-stretch g c = let me : ℕ = c.args.pass.now.caller in let a : ℕ = c.loop-child.pass.caller in let s = seen_of c.args.pass.now in let h = seen_of c.loop-child.pass in let k = seen_of c.come_to_end.new.pass in let inv = c.loop-child.invariant in
+    stretches_as me a s k inv.1 (stretches_both a s h k inv.3 c.come_to_end.ensures.stretch)
 
 pub returns-in-Refused-clause-room : goal.returns-in-Refused-clause-room
-returns-in-Refused-clause-room g c = let layout : Layout = g.N.Node.layout in let n : ℕ = c.args.arena.now.nodes in let a : ℕ = c.loop-child.pass.caller in let s = seen_of c.args.pass.now in let h = seen_of c.loop-child.pass in let inv = c.loop-child.invariant in let e = c.split.ensures in let b : ℕ = c.split.new.pass.caller in
-    subst (λ (z : ℕ). CameTo (sort_of layout g.N.Node.ranged) g.N.Node.body n z c.args.place s (seen_of c.come_to_full.new.pass) c.come_to_full.result) (e.caller ∙ inv.1)
-    (c.come_to_full.ensures.came n s (new_was layout n c.args.place a b s h (seen_of c.split.new.pass) e.caller inv.3 c.in-Refused.ensures.part.2))
+returns-in-Refused-clause-room g c = let layout : Layout = g.N.Node.layout in let n : ℕ = c.args.arena.now.nodes in let place : ℕ = c.args.place in let me : ℕ = c.args.pass.now.caller in let a : ℕ = c.loop-child.pass.caller in let s = seen_of c.args.pass.now in let h = seen_of c.loop-child.pass in let inv = c.loop-child.invariant in let e₁ = c.split.ensures in let b : ℕ = c.split.new.pass.caller in let m = seen_of c.split.new.pass in let e = c.come_to_end-in-Refused.ensures in let k = seen_of c.come_to_end-in-Refused.new.pass in
+    found_none (sort_of g.N.Node.layout g.N.Node.ranged) g.N.Node.body n place me c.come_to_end-in-Refused.new.pass.caller s k c.loop-child.path.node c.come_to_end-in-Refused.result (e.caller ∙ e₁.caller ∙ inv.1) (e.node ∙ ap (λ (x : Path g.row.N.Denot). x.node) c.in-Refused.ensures.part.0) e.ends (c.has_room.ensures.none c.if-has_room.false)
+    (on_was layout n place b me s m k (sym (e₁.caller ∙ inv.1)) e.stretch (new_was layout n place a b s h m e₁.caller inv.3 c.in-Refused.ensures.part.2))
 
 pub returns-in-Refused-clause-stretch : goal.returns-in-Refused-clause-stretch
-returns-in-Refused-clause-stretch g c = let me : ℕ = c.args.pass.now.caller in let a : ℕ = c.loop-child.pass.caller in let s = seen_of c.args.pass.now in let h = seen_of c.loop-child.pass in let inv = c.loop-child.invariant in let e = c.split.ensures in let b : ℕ = c.split.new.pass.caller in let m = seen_of c.split.new.pass in let k = seen_of c.come_to_full.new.pass in
-    stretches_as me b s k (e.caller ∙ inv.1) (stretches_both b s m k (stretches_on a b s h m e.caller inv.3 e.stretch) c.come_to_full.ensures.stretch)
+returns-in-Refused-clause-stretch g c = let me : ℕ = c.args.pass.now.caller in let a : ℕ = c.loop-child.pass.caller in let s = seen_of c.args.pass.now in let h = seen_of c.loop-child.pass in let inv = c.loop-child.invariant in let e = c.split.ensures in let b : ℕ = c.split.new.pass.caller in let m = seen_of c.split.new.pass in let k = seen_of c.come_to_end-in-Refused.new.pass in
+    stretches_as me b s k (e.caller ∙ inv.1) (stretches_both b s m k (stretches_on a b s h m e.caller inv.3 e.stretch) c.come_to_end-in-Refused.ensures.stretch)
 
 pub returns-then-refused-clause-room : goal.returns-then-refused-clause-room
-returns-then-refused-clause-room g c = let layout : Layout = g.N.Node.layout in let n : ℕ = c.args.arena.now.nodes in let a : ℕ = c.loop-child.pass.caller in let s = seen_of c.args.pass.now in let h = seen_of c.loop-child.pass in let inv = c.loop-child.invariant in let e = c.split.ensures in let b : ℕ = c.split.new.pass.caller in
-    subst (λ (z : ℕ). CameTo (sort_of layout g.N.Node.ranged) g.N.Node.body n z c.args.place s (seen_of c.come_to_full-then-refused.new.pass) c.come_to_full-then-refused.result) (e.caller ∙ inv.1)
-    (c.come_to_full-then-refused.ensures.came n s (on_was layout n c.args.place a b s h (seen_of c.split.new.pass) e.caller e.stretch (inv.4 c.if-refused.true)))
+returns-then-refused-clause-room g c = let layout : Layout = g.N.Node.layout in let n : ℕ = c.args.arena.now.nodes in let place : ℕ = c.args.place in let me : ℕ = c.args.pass.now.caller in let a : ℕ = c.loop-child.pass.caller in let s = seen_of c.args.pass.now in let h = seen_of c.loop-child.pass in let inv = c.loop-child.invariant in let e₁ = c.split.ensures in let b : ℕ = c.split.new.pass.caller in let m = seen_of c.split.new.pass in let e = c.come_to_end-then-refused.ensures in let k = seen_of c.come_to_end-then-refused.new.pass in
+    found_none (sort_of g.N.Node.layout g.N.Node.ranged) g.N.Node.body n place me c.come_to_end-then-refused.new.pass.caller s k c.loop-child.path.node c.come_to_end-then-refused.result (e.caller ∙ e₁.caller ∙ inv.1) (e.node ∙ ap (λ (x : Path g.row.N.Denot). x.node) c.in-Shut.ensures.part.0) e.ends (c.has_room.ensures.none c.if-has_room.false)
+    (on_was layout n place b me s m k (sym (e₁.caller ∙ inv.1)) e.stretch (on_was layout n place a b s h m e₁.caller e₁.stretch (inv.4 c.if-refused.true)))
 
 pub returns-then-refused-clause-stretch : goal.returns-then-refused-clause-stretch
-returns-then-refused-clause-stretch g c = let me : ℕ = c.args.pass.now.caller in let a : ℕ = c.loop-child.pass.caller in let s = seen_of c.args.pass.now in let h = seen_of c.loop-child.pass in let inv = c.loop-child.invariant in let e = c.split.ensures in let b : ℕ = c.split.new.pass.caller in let m = seen_of c.split.new.pass in let k = seen_of c.come_to_full-then-refused.new.pass in
-    stretches_as me b s k (e.caller ∙ inv.1) (stretches_both b s m k (stretches_on a b s h m e.caller inv.3 e.stretch) c.come_to_full-then-refused.ensures.stretch)
+returns-then-refused-clause-stretch g c = let me : ℕ = c.args.pass.now.caller in let a : ℕ = c.loop-child.pass.caller in let s = seen_of c.args.pass.now in let h = seen_of c.loop-child.pass in let inv = c.loop-child.invariant in let e = c.split.ensures in let b : ℕ = c.split.new.pass.caller in let m = seen_of c.split.new.pass in let k = seen_of c.come_to_end-then-refused.new.pass in
+    stretches_as me b s k (e.caller ∙ inv.1) (stretches_both b s m k (stretches_on a b s h m e.caller inv.3 e.stretch) c.come_to_end-then-refused.ensures.stretch)
 
--- a node with no room is full, and has not the place
+-- a node with no room is full
 
 pub split-requires-clause-full : goal.split-requires-clause-full
 split-requires-clause-full g c = (c.has_room.ensures.none c.if-has_room.false).1
-
-pub come_to_full-requires-clause-absent : goal.come_to_full-requires-clause-absent
-come_to_full-requires-clause-absent g c = subst (λ (x : Path g.row.N.Denot). value_at (g.N.Node.body x.node.body).pairs c.args.place ≡ None) (sym c.in-Refused.ensures.part.0) (c.has_room.ensures.none c.if-has_room.false).0
-
-pub come_to_full-requires-clause-full : goal.come_to_full-requires-clause-full
-come_to_full-requires-clause-full g c = subst (λ (x : Path g.row.N.Denot). IsTrue (is_full g.N.Node.layout (g.N.Node.body x.node.body))) (sym c.in-Refused.ensures.part.0) (c.has_room.ensures.none c.if-has_room.false).1
-
-pub come_to_full-requires-then-refused-clause-absent : goal.come_to_full-requires-then-refused-clause-absent
-come_to_full-requires-then-refused-clause-absent g c = subst (λ (x : Path g.row.N.Denot). value_at (g.N.Node.body x.node.body).pairs c.args.place ≡ None) (sym c.in-Shut.ensures.part.0) (c.has_room.ensures.none c.if-has_room.false).0
-
-pub come_to_full-requires-then-refused-clause-full : goal.come_to_full-requires-then-refused-clause-full
-come_to_full-requires-then-refused-clause-full g c = subst (λ (x : Path g.row.N.Denot). IsTrue (is_full g.N.Node.layout (g.N.Node.body x.node.body))) (sym c.in-Shut.ensures.part.0) (c.has_room.ensures.none c.if-has_room.false).1
-
-pub come_to_room-requires-clause-room : goal.come_to_room-requires-clause-room
-come_to_room-requires-clause-room g c = c.has_room.ensures.room c.if-has_room.true
 
 -- no way is left to split the node, though no claim was refused
 

@@ -1,13 +1,12 @@
 use Rattle.std.proofs.Common.{◌≤◌, ℕ, List, arith}
 use Rattle.ks_history.specs.declared.Event.{Event}
-use Rattle.ks_history.specs.declared.Op.TheVariants.{Add}
 use Rattle.ks_history.specs.Descent.{TookSince}
 use Rattle.ks_history.specs.Done.{coupling}
 use Rattle.ks_history.specs.Laws.Descent.{took_none}
 use Rattle.ks_history.specs.Laws.Underway.{underway_first}
 use Rattle.ks_arena.specs.Clauses.{seen_of}
-use Rattle.ks_shape.specs.Laws.Ends.{tried_of}
-use Rattle.ks_coupling.proofs.try_puts.try_add.Goals as goal
+use Rattle.ks_shape.specs.Fills.{filling}
+use Rattle.ks_coupling.proofs.try_puts.try_fill.Goals as goal
 
 -- at first the caller took no root
 once : (c : ℕ) (h : List Event) → TookSince c h h 0 1
@@ -15,9 +14,8 @@ once c h = let at = took_none c h in record { grows = at.grows; many = at.many; 
 
 pub returns-clause-ends : goal.returns-clause-ends
 returns-clause-ends g c = let me : ℕ = c.args.pass.now.caller in let h = seen_of c.args.pass.now in
-    (c.try_pair_add.ensures.tried coupling h tt (once me h) (underway_first coupling me (Add c.args.place c.args.value) h c.requires.pass.1)).0
+    c.try_pair_fill.ensures.ends coupling h tt (once me h) (underway_first coupling me (filling c.args.place c.args.fill) h c.requires.pass.1)
 
 pub returns-clause-tried : goal.returns-clause-tried
 returns-clause-tried g c = λ ways. let me : ℕ = c.args.pass.now.caller in let h = seen_of c.args.pass.now in
-    let so = c.try_pair_add.ensures.tried coupling h tt (once me h) (underway_first coupling me (Add c.args.place c.args.value) h c.requires.pass.1) in
-    tried_of g.N.Node.layout coupling c.args.arena.now.nodes me (Add c.args.place c.args.value) h (seen_of c.try_pair_add.new.pass) c.try_pair_add.result so.0 (so.1 ways)
+    c.try_pair_fill.ensures.tried ways coupling h tt (once me h) (underway_first coupling me (filling c.args.place c.args.fill) h c.requires.pass.1)
