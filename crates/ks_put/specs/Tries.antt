@@ -5,11 +5,13 @@ use Rattle.ks_node.specs.declared.node.Node.{Ghosts as NodeGhosts}
 use Rattle.ks_node.below.ks_places.specs.declared.Placing.{Ghosts as PlacingGhosts}
 use Rattle.ks_flow.specs.declared.discipline.Discipline.{Ghosts as DisciplineGhosts}
 use Rattle.ks_history.specs.declared.Event.{Event}
+use Rattle.ks_history.specs.declared.Event.TheVariants.{Give, Take}
 use Rattle.ks_history.specs.declared.Op.{Op}
 use Rattle.ks_history.specs.Descent.{TookSince}
 use Rattle.ks_history.specs.Done.{Template, coupling}
 use Rattle.ks_history.specs.Map.{Touches}
-use Rattle.ks_history.specs.Trace.{hand}
+use Rattle.ks_history.specs.Passes.{GrowsByOthers, GrowsWith}
+use Rattle.ks_history.specs.Trace.{◌⊑◌, hand}
 use Rattle.ks_history.specs.Underway.{Underway}
 use Rattle.ks_node.specs.Body.{Body}
 use Rattle.ks_arena.specs.declared.arena.Arena.{Arena}
@@ -23,7 +25,6 @@ use Rattle.ks_shape.specs.declared.answers.PutLater.{PutLater}
 use Rattle.ks_shape.specs.Ends.{EndsPut, IsCauseButFar}
 use Rattle.ks_shape.specs.Fills.{FoundRoom}
 use Rattle.ks_shape.specs.Tries.{FindsFar, IsCause, TriedPut}
-use Rattle.ks_try.specs.Down.{IsDown}
 use Rattle.ks_try.specs.Of.{IsCauseAt}
 use Rattle.ks_put.specs.declared.path.Path.{Path}
 use Rattle.ks_put.specs.declared.try_room.Step.{Step}
@@ -43,13 +44,12 @@ module _ {N : Type 0} (sort : Sort) (shows : N → Body) where
   StepOrNone c place h (Err later) = hand c h ≡ []
 
 module _ {N : Type 0} (n c place : ℕ) (s0 h : List Event) where
-  -- since s0 c took so many nodes and one more, the root twice at most, and stands so many steps deep on its path; or what put
-  -- it off is so
-  abbrev pub PathOrCause : ℕ → Result (Path N) Later → Type 0
-  PathOrCause steps (Ok path) = IsDownPath n c s0 h (suc steps) 2 steps path
-  PathOrCause steps (Err later) = IsCauseAt coupling n c place s0 h later
+  -- what put off c's search for the place since s0, if it was put off, is so
+  abbrev pub CauseIf : Result (Path N) Later → Type 0
+  CauseIf (Ok path) = Unit {0}
+  CauseIf (Err later) = IsCauseAt coupling n c place s0 h later
 
-  -- so after a step
+  -- since s0 c took so many nodes, the root twice at most, and stands as deep on its path as the step tells; or so
   abbrev pub StepOrCause : Result (Step N) Later → Type 0
   StepOrCause (Ok step) = IsDownPath n c s0 h (suc step.depth) 2 step.depth step.path
   StepOrCause (Err later) = IsCauseAt coupling n c place s0 h later
@@ -106,6 +106,17 @@ module _ {N : Type 0} (layout : Layout) (shows : N → Body) where
   IsNearer place depth path (Ok step) = (step.depth ≡ suc depth) ⊎ ((step.depth ≡ depth) × (cuts_left layout shows place step.path < cuts_left layout shows place path))
   IsNearer place depth path (Err later) = Unit {0}
 
+module _ {N D : Type 0} where
+  -- the caller took node i between p and p', now the node of its path, and did nothing else; or another held it, and the caller
+  -- did nothing, or gave the node x and did nothing else
+  abbrev pub TookOrLooked : ℕ → Pass N D → Pass N D → Result (Path N) Later → Type 0
+  TookOrLooked i p p' (Ok path) = (path.node.node ≡ i) × GrowsWith p.caller (Take p.caller i) (seen_of p) (seen_of p')
+  TookOrLooked i p p' (Err later) = GrowsByOthers p.caller (seen_of p) (seen_of p')
+
+  abbrev pub TookOrGave : ℕ → Hand N → Pass N D → Pass N D → Result (Path N) Later → Type 0
+  TookOrGave i x p p' (Ok path) = (path.node.node ≡ i) × GrowsWith p.caller (Take p.caller i) (seen_of p) (seen_of p')
+  TookOrGave i x p p' (Err later) = GrowsWith p.caller (Give p.caller x.node) (seen_of p) (seen_of p')
+
 module _ {N D P : Type 0} {n : NodeGhosts N P} {q : PlacingGhosts P} {d : DisciplineGhosts D} where
   abbrev pub StandsOrNone : Arena N D P n q d → ℕ → ℕ → Pass N D → Result (Path N) Later → Type 0
   StandsOrNone a c place p result = PathOrNone (sort_of n.layout n.ranged) n.body c place (seen_of p) result
@@ -113,16 +124,11 @@ module _ {N D P : Type 0} {n : NodeGhosts N P} {q : PlacingGhosts P} {d : Discip
   abbrev pub StepsOrNone : Arena N D P n q d → ℕ → ℕ → Pass N D → Result (Step N) Later → Type 0
   StepsOrNone a c place p result = StepOrNone (sort_of n.layout n.ranged) n.body c place (seen_of p) result
 
-  -- a search that began at some moment, since when the caller took the root once at most and nothing counts, has taken the root
-  -- between p and p'; or what put it off is so
-  abbrev pub BeginsOrCause : Arena N D P n q d → ℕ → Pass N D → Pass N D → Result (Path N) Later → Type 0
-  BeginsOrCause a place p p' result = (start : List Event) → TookSince p.caller start (seen_of p) 0 1 → PathOrCause a.nodes p.caller place start (seen_of p') 0 result
+  -- what put off a search for the place between p and p', since whatever moment it goes, is so
+  abbrev pub IsBusyDue : Arena N D P n q d → ℕ → Pass N D → Pass N D → Result (Path N) Later → Type 0
+  IsBusyDue a place p p' result = (start : List Event) → start ⊑ seen_of p → CauseIf a.nodes p.caller place start (seen_of p') result
 
-  -- one that came down to the node x at p stands a step deeper at p'; or so
-  abbrev pub DeeperOrCause : Arena N D P n q d → ℕ → Pass N D → Pass N D → Hand N → Result (Path N) Later → Type 0
-  DeeperOrCause a place p p' x result = (start : List Event) (steps : ℕ) → IsDown a.nodes p.caller start (seen_of p) (suc steps) 2 steps x.node → PathOrCause a.nodes p.caller place start (seen_of p') (suc steps) result
-
-  -- one that stands on the path at p, at this depth, stands as its step tells at p'; or so
+  -- a search that stands on the path at p, at this depth, stands as its step tells at p'; or what put it off is so
   abbrev pub OnOrCause : Arena N D P n q d → ℕ → Pass N D → Pass N D → ℕ → Path N → Result (Step N) Later → Type 0
   OnOrCause a place p p' depth path result = (start : List Event) → IsDownPath a.nodes p.caller start (seen_of p) (suc depth) 2 depth path → StepOrCause a.nodes p.caller place start (seen_of p') result
 

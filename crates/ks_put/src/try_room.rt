@@ -4,19 +4,19 @@ ghost use Rattle.std.specs.Prelude.{◌≡◌, ◌<◌, false};
 ghost use Rattle.ks_node.specs.declared.start.Next.TheVariants.{Go};
 ghost use Rattle.ks_node.specs.Body.{next_at};
 ghost use Rattle.ks_arena.specs.Of.{IsPassOf, IsEmptyPassOf, SameCaller, caller_of};
-ghost use Rattle.ks_shape.specs.Of.{IsStretch, IsOnWayOf, NoneWasFree};
+ghost use Rattle.ks_shape.specs.Of.{IsStretch, NoneWasFree};
 ghost use Rattle.ks_put.specs.Of.{AllGrow, IsOnPathOf};
-ghost use Rattle.ks_put.specs.Tries.{BeginsOrCause, DeeperOrCause, HangsFrom, IsAtRoot, IsEasedBut, IsEasedStep, IsNear, IsNearer, OnOrCause, StandsOrNone, StepsOrNone, TriesRoom, TriesRoomSince, WasRefused, WentDown};
+ghost use Rattle.ks_put.specs.Tries.{IsEasedBut, IsEasedStep, IsNear, IsNearer, OnOrCause, StepsOrNone, TriesRoom, TriesRoomSince, WasRefused, WentDown};
 
 use crate::halves::Part;
 use crate::laws::search_law;
 use crate::path::{Path, let_go};
 use crate::room::come_to_end;
 use crate::splits::split;
-use ks_arena::laws::root_stays_law;
-use ks_arena::{Arena, Held, Pass, Taken, root_law};
+use crate::try_path::{try_enter, try_step_down};
+use ks_arena::{Arena, Held, Pass};
 use ks_flow::Tree;
-use ks_gate::{Gate, Point};
+use ks_gate::Gate;
 use ks_node::{Next, Unlinked, node_law, unlinked_law};
 use ks_shape::{Later, give_last, has_room};
 use ks_try::child_law;
@@ -26,75 +26,6 @@ pub(crate) struct Step<N> {
     path: Path<N>,
     depth: u32,
     refused: bool,
-}
-
-/// Takes the root, unless another caller holds it. It does not tell the gate that a call begins.
-fn try_enter<N: Unlinked, G: Gate>(
-    arena: &Arena<N, Tree>,
-    pass: &mut Pass<N, Tree>,
-    gate: &G,
-    place: u64,
-) -> Result<Path<N>, Later>
-    requires pass { IsEmptyPassOf arena.now pass.old }
-    ensures pass { IsPassOf arena.now pass.new }
-    ensures caller { SameCaller pass.old pass.new }
-    ensures path { StandsOrNone arena.now (caller_of pass.old) place pass.new result }
-    ensures root { IsAtRoot result }
-    ensures down { BeginsOrCause arena.now place pass.old pass.new result }
-    ensures stretch { IsStretch pass.old pass.new }
-{
-    root_stays_law::<Tree>();
-    match arena.try_take(pass, 0) {
-        Taken::Held(node) => {
-            root_law(&node, place);
-            gate.at(pass.caller(), Point::Taken(0));
-            Ok(Path { parent: None, node })
-        }
-        Taken::Busy { holder } => Err(Later::Busy { node: 0, holder }),
-        Taken::Gone => unreachable!(),
-    }
-}
-
-/// Takes the child to which the search goes on, and keeps the node as its parent; or gives the node, if another caller holds
-/// the child.
-fn try_child<N: Unlinked, G: Gate>(
-    arena: &Arena<N, Tree>,
-    pass: &mut Pass<N, Tree>,
-    gate: &G,
-    place: u64,
-    held: Held<N>,
-    child: u32,
-) -> Result<Path<N>, Later>
-    requires pass { IsPassOf arena.now pass.old }
-    requires way { IsOnWayOf arena.now (caller_of pass.old) place pass.old held }
-    requires goes { next_at (N.body held.body) place ≡ Go child }
-    ensures pass { IsPassOf arena.now pass.new }
-    ensures caller { SameCaller pass.old pass.new }
-    ensures path { StandsOrNone arena.now (caller_of pass.old) place pass.new result }
-    ensures parent { HangsFrom held result }
-    ensures down { DeeperOrCause arena.now place pass.old pass.new held result }
-    ensures stretch { IsStretch pass.old pass.new }
-{
-    search_law();
-    node_law(&held.body);
-    child_law(arena, pass, place, &held, child);
-    match arena.try_take(pass, child) {
-        Taken::Held(below) => {
-            gate.at(pass.caller(), Point::Taken(child));
-            Ok(Path {
-                parent: Some(held),
-                node: below,
-            })
-        }
-        Taken::Busy { holder } => {
-            give_last(arena, pass, gate, held);
-            Err(Later::Busy {
-                node: child,
-                holder,
-            })
-        }
-        Taken::Gone => unreachable!(),
-    }
 }
 
 /// Gives all that is held.
@@ -140,13 +71,13 @@ fn try_down<N: Unlinked, G: Gate>(
 {
     search_law();
     let held = let_go(arena, pass, gate, place, path);
+    child_law(arena, pass, place, &held, child);
     let nodes = arena.nodes();
     if depth + 1 == nodes {
-        child_law(arena, pass, place, &held, child);
         give_last(arena, pass, gate, held);
         return Err(Later::Far);
     }
-    match try_child(arena, pass, gate, place, held, child) {
+    match try_step_down(arena, pass, gate, place, held, child) {
         Ok(path) => Ok(Step {
             path,
             depth: depth + 1,

@@ -6,4 +6,3 @@ pub mod Fresh
 pub mod Steps
 pub mod Going
 pub mod Onward
-pub mod Down

@@ -15,7 +15,6 @@ mod node;
 mod step;
 mod takes;
 mod tries;
-mod try_descent;
 mod try_step;
 
 pub use compact::pair_compact;

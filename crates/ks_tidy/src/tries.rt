@@ -2,21 +2,22 @@
 ghost use Rattle.std.specs.Prelude.{◌≡◌};
 ghost use Rattle.ks_history.specs.declared.Op.TheVariants.{Del};
 ghost use Rattle.ks_history.specs.Map.{told};
+ghost use Rattle.ks_node.specs.declared.start.Next.TheVariants.{Go};
+ghost use Rattle.ks_node.specs.Body.{next_at};
 ghost use Rattle.ks_arena.specs.Of.{IsEmptyPassOf, IsPassOf, SeesOn, SameCaller, caller_of};
 ghost use Rattle.ks_shape.specs.Of.{FinishesAny, IsStretch, SearchEndsAt};
-ghost use Rattle.ks_tidy.specs.Of.{CountsFree, IsPairOf};
+ghost use Rattle.ks_tidy.specs.Of.{CountsFree, IsPairOf, MakesFree, StandsOrLeft};
 
 use crate::deletes::delete;
 use crate::descent::leave;
 use crate::node::Tidied;
 use crate::step::Step;
-use crate::try_descent::{try_enter, try_go_down};
 use crate::try_step::try_tidy_once;
 use ks_arena::{Arena, Held, Pass};
 use ks_flow::Tree;
 use ks_gate::{Gate, Point};
 use ks_node::{Next, Unlinked};
-use ks_put::{Path, search_law};
+use ks_put::{Path, let_go, search_law, try_enter, try_step_down};
 use ks_shape::Numbered;
 
 /// Merges at the node of a path while it is low, by tries: at most as often as the arena has nodes. What the node had has
@@ -75,6 +76,32 @@ fn try_tidy_at<N: Unlinked, G: Gate>(
     }
 }
 
+/// Gives the parent, if there is one, and takes the child to which the search goes on; the node becomes its parent. Where
+/// another caller holds the child, all is given.
+fn try_go_down<N: Unlinked, G: Gate>(
+    arena: &Arena<N, Tree>,
+    pass: &mut Pass<N, Tree>,
+    gate: &G,
+    place: u64,
+    path: Path<N>,
+    child: u32,
+) -> Option<Path<N>>
+    requires pass { IsPassOf arena.now pass.old }
+    requires pair { IsPairOf arena.now (caller_of pass.old) place pass.old path }
+    requires goes { next_at (N.body path.node.body) place ≡ Go child }
+    ensures pass { IsPassOf arena.now pass.new }
+    ensures caller { SameCaller pass.old pass.new }
+    ensures came { StandsOrLeft arena.now (caller_of pass.old) place pass.new result }
+    ensures stretch { IsStretch pass.old pass.new }
+    ensures frees { MakesFree 0 pass.old pass.new }
+{
+    let node = let_go(arena, pass, gate, place, path);
+    match try_step_down(arena, pass, gate, place, node, child) {
+        Ok(below) => Some(below),
+        Err(_) => None,
+    }
+}
+
 /// Merges for a place, as `pair_tidy` does, but waits for nobody: a right neighbour that another caller holds is left as it
 /// is, and a node on the way that another holds ends it. It takes at most as many nodes on its way as the arena has. Answers
 /// how many nodes it made free, modulo 2^32. It makes no call of the history, and does not tell the gate that one begins.
@@ -91,8 +118,8 @@ pub fn try_pair_tidy<N: Unlinked, G: Gate>(
     ensures counts { CountsFree result pass.old pass.new }
 {
     let mut path = match try_enter(arena, pass, gate, place) {
-        Some(root) => root,
-        None => return 0,
+        Ok(root) => root,
+        Err(_) => return 0,
     };
     let mut freed: u32 = 0;
     for _steps in 1..arena.nodes() {

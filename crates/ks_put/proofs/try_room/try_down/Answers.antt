@@ -1,6 +1,7 @@
 use Rattle.std.proofs.Common.{◌≡◌, ◌+◌, ◌≤◌, ℕ, suc, List, ◌∷◌, sym, subst, arith}
+use Rattle.std.specs.Prelude.{Option}
 use Rattle.ks_history.specs.declared.Event.{Event}
-use Rattle.ks_history.specs.declared.Event.TheVariants.{Give}
+use Rattle.ks_history.specs.declared.Event.TheVariants.{Give, Take}
 use Rattle.ks_history.specs.Done.{coupling}
 use Rattle.ks_history.specs.Passes.{GrowsWith}
 use Rattle.ks_history.specs.Laws.Descent.{far_later}
@@ -9,9 +10,9 @@ use Rattle.ks_arena.specs.Sound.{sort_of}
 use Rattle.ks_arena.specs.Clauses.{seen_of}
 use Rattle.ks_shape.specs.Laws.Stretches.{stretches_as, stretches_both}
 use Rattle.ks_try.specs.Down.{IsDown}
-use Rattle.ks_try.specs.Laws.Down.{down_far, gave_no_take}
+use Rattle.ks_try.specs.Laws.Down.{down_far, down_take, gave_no_take}
 use Rattle.ks_try.specs.Of.{IsCauseAt}
-use Rattle.ks_put.specs.Deeper.{IsDownPath}
+use Rattle.ks_put.specs.Deeper.{IsDownPath, StandsDown}
 use Rattle.ks_put.proofs.Deepening.{down_quiet, path_down, quiet_gave}
 use Rattle.ks_put.proofs.try_room.try_down.Given.{Over}
 use Rattle.ks_put.proofs.try_room.try_down.Goals as goal
@@ -34,19 +35,21 @@ returns-then-depth-nodes-clause-down g c = λ start down op touched. let at = (g
     )
 
 pub returns-in-Ok-clause-down : goal.returns-in-Ok-clause-down
-returns-in-Ok-clause-down g c = λ start down. let at = (goal.at.returns-in-Ok-clause-down g c).After-let_go-held in let n : ℕ = c.args.arena.now.nodes in let me : ℕ = c.args.pass.now.caller in let h₁ = seen_of c.let_go-held.new.pass in let k = seen_of c.try_child.new.pass in let e = c.let_go-held.ensures.caller in let depth : ℕ = c.args.depth in let more : suc depth ≡ depth + 1 = omega arith in
-    subst (λ (z : ℕ). IsDownPath n me start k (suc z) 2 z c.in-Ok.path) more (subst (λ (z : ℕ). IsDownPath n z start k (suc (suc depth)) 2 (suc depth) c.in-Ok.path) e
-    (c.in-Ok.ensures.down start depth (subst (λ (z : ℕ). IsDown n z start h₁ (suc depth) 2 depth c.let_go-held.result.node) (sym e) (stands g at start down))))
+returns-in-Ok-clause-down g c = λ start down. let at = (goal.at.returns-in-Ok-clause-down g c).After-let_go-held in let slots : ℕ = c.args.arena.now.table.shared.table_id.slots in let n : ℕ = c.args.arena.now.nodes in let me : ℕ = c.args.pass.now.caller in let h₁ = seen_of c.let_go-held.new.pass in let k = seen_of c.try_step_down.new.pass in let e = c.let_go-held.ensures.caller in let o = c.in-Ok.ensures in let j : ℕ = c.args.child in let x = c.let_go-held.result in let depth : ℕ = c.args.depth in let more : suc depth ≡ depth + 1 = omega arith in
+    let took : GrowsWith me (Take me j) h₁ k = subst (λ (z : ℕ). GrowsWith z (Take z j) h₁ k) e o.took.1 in
+    let law = c.search_law.ensures (sort_of g.N.Node.layout g.N.Node.ranged) slots in
+    let below : IsDown n me start k (suc (suc depth)) 2 depth x.node = down_take n me start h₁ k (suc depth) 2 depth x.node j c.child_law.ensures.below took (law.turns k c.try_step_down.ensures.pass.sound) (stands g at start down) in
+    subst (λ (z : ℕ). IsDownPath n me start k (suc z) 2 z c.in-Ok.path) more
+    (subst (λ (y : Option (Hand g.row.N.Denot)). StandsDown n me start k (suc (suc depth)) 2 (suc depth) c.in-Ok.path.node y) (sym o.parent) (depth, omega arith, below))
 
 pub returns-in-Ok-clause-stretch : goal.returns-in-Ok-clause-stretch
-returns-in-Ok-clause-stretch g c = let me : ℕ = c.args.pass.now.caller in let h = seen_of c.args.pass.now in let h₁ = seen_of c.let_go-held.new.pass in let h₂ = seen_of c.try_child.new.pass in
-    stretches_both me h h₁ h₂ c.let_go-held.ensures.stretch (stretches_as me c.let_go-held.new.pass.caller h₁ h₂ c.let_go-held.ensures.caller c.try_child.ensures.stretch)
+returns-in-Ok-clause-stretch g c = let me : ℕ = c.args.pass.now.caller in let h = seen_of c.args.pass.now in let h₁ = seen_of c.let_go-held.new.pass in let h₂ = seen_of c.try_step_down.new.pass in
+    stretches_both me h h₁ h₂ c.let_go-held.ensures.stretch (stretches_as me c.let_go-held.new.pass.caller h₁ h₂ c.let_go-held.ensures.caller c.try_step_down.ensures.stretch)
 
 pub returns-in-Err-clause-down : goal.returns-in-Err-clause-down
-returns-in-Err-clause-down g c = λ start down. let at = (goal.at.returns-in-Err-clause-down g c).After-let_go-held in let n : ℕ = c.args.arena.now.nodes in let h₁ = seen_of c.let_go-held.new.pass in let k = seen_of c.try_child.new.pass in let e = c.let_go-held.ensures.caller in let depth : ℕ = c.args.depth in
-    subst (λ (z : ℕ). IsCauseAt coupling n z c.args.place start k c.in-Err.later) e
-    (c.in-Err.ensures.down start depth (subst (λ (z : ℕ). IsDown n z start h₁ (suc depth) 2 depth c.let_go-held.result.node) (sym e) (stands g at start down)))
+returns-in-Err-clause-down g c = λ start down. let at = (goal.at.returns-in-Err-clause-down g c).After-let_go-held in let n : ℕ = c.args.arena.now.nodes in let k = seen_of c.try_step_down.new.pass in
+    subst (λ (z : ℕ). IsCauseAt coupling n z c.args.place start k c.in-Err.later) c.let_go-held.ensures.caller (c.in-Err.ensures.busy start (stands g at start down).took.grows)
 
 pub returns-in-Err-clause-stretch : goal.returns-in-Err-clause-stretch
-returns-in-Err-clause-stretch g c = let me : ℕ = c.args.pass.now.caller in let h = seen_of c.args.pass.now in let h₁ = seen_of c.let_go-held.new.pass in let h₂ = seen_of c.try_child.new.pass in
-    stretches_both me h h₁ h₂ c.let_go-held.ensures.stretch (stretches_as me c.let_go-held.new.pass.caller h₁ h₂ c.let_go-held.ensures.caller c.try_child.ensures.stretch)
+returns-in-Err-clause-stretch g c = let me : ℕ = c.args.pass.now.caller in let h = seen_of c.args.pass.now in let h₁ = seen_of c.let_go-held.new.pass in let h₂ = seen_of c.try_step_down.new.pass in
+    stretches_both me h h₁ h₂ c.let_go-held.ensures.stretch (stretches_as me c.let_go-held.new.pass.caller h₁ h₂ c.let_go-held.ensures.caller c.try_step_down.ensures.stretch)

@@ -1,14 +1,19 @@
 use Rattle.std.proofs.Common.{◌≡◌, ◌∙◌, ℕ, suc, true, false, [], refl, sym, ap, subst, inl, inr, arith}
 use Rattle.std.specs.Prelude.{Option}
 use Rattle.ks_keysets.specs.Layout.{Layout}
+use Rattle.ks_history.specs.declared.Event.TheVariants.{Take}
 use Rattle.ks_history.specs.Descent.{TookSince}
+use Rattle.ks_history.specs.Passes.{GrowsWith}
 use Rattle.ks_history.specs.Trace.{hand}
 use Rattle.ks_arena.specs.declared.held.Held.{Held as Hand}
 use Rattle.ks_arena.specs.Sound.{sort_of}
 use Rattle.ks_arena.specs.Clauses.{seen_of}
 use Rattle.ks_shape.specs.Laws.Stretches.{stretches_as, stretches_both, stretches_on}
 use Rattle.ks_put.specs.declared.path.Path.{Path}
-use Rattle.ks_put.specs.Deeper.{IsDownPath}
+use Rattle.ks_shape.specs.Stretches.{Stretches}
+use Rattle.ks_try.specs.Down.{IsDown}
+use Rattle.ks_try.specs.Laws.Down.{down_root}
+use Rattle.ks_put.specs.Deeper.{IsDownPath, StandsDown}
 use Rattle.ks_put.specs.OnPath.{IsOnPath}
 use Rattle.ks_put.specs.Parts.{HasRoomAbove}
 use Rattle.ks_put.specs.Tries.{IsPutOffBy}
@@ -17,6 +22,19 @@ use Rattle.ks_put.specs.Narrows.{cuts_left}
 use Rattle.ks_put.proofs.Narrowing.{less_on, less_split}
 use Rattle.ks_put.proofs.Trying.{path_leaf, put_off}
 use Rattle.ks_put.proofs.try_room.try_make_room.Goals as goal
+
+pub loop-child-init : goal.loop-child-init
+loop-child-init g c = let sort = sort_of g.N.Node.layout g.N.Node.ranged in let n : ℕ = c.args.arena.now.nodes in let me : ℕ = c.args.pass.now.caller in let s = seen_of c.args.pass.now in let b : ℕ = c.try_enter.new.pass.caller in let k = seen_of c.try_enter.new.pass in let e = c.try_enter.ensures in let x = c.in-Ok.root in let o = c.in-Ok.ensures in (
+  e.pass,
+  e.caller,
+  subst (λ (z : ℕ). IsOnPath sort g.N.Node.body z c.args.place k x) (sym e.caller) o.path,
+  subst (λ (z : ℕ). Stretches z s k) (sym e.caller) e.stretch,
+  (λ told. absurd (let z : ⊥ = cc in z)),
+  (λ start took. subst (λ (y : Option (Hand g.row.N.Denot)). StandsDown n b start k 1 2 0 x.node y) (sym o.root) (subst (λ (i : ℕ). IsDown n b start k 1 2 0 i) (sym o.took.0)
+      (down_root n b start s k 1 (subst (λ (z : ℕ). GrowsWith z (Take z 0) s k) (sym e.caller) o.took.1) took))),
+  omega arith,
+  (λ ways r grow. subst (λ (y : Option (Hand g.row.N.Denot)). HasRoomAbove g.N.Node.layout g.N.Node.body y) (sym o.root) tt),
+)
 
 pub loop-child-preserved-in-Ok-try_go_on : goal.loop-child-preserved-in-Ok-try_go_on
 loop-child-preserved-in-Ok-try_go_on g c = let layout : Layout = g.N.Node.layout in let n : ℕ = c.args.arena.now.nodes in let place : ℕ = c.args.place in let a : ℕ = c.loop-child.pass.caller in let s = seen_of c.args.pass.now in let h = seen_of c.loop-child.pass in let inv = c.loop-child.invariant in
@@ -53,8 +71,7 @@ loop-child-smaller g c = less_split c.args.arena.now.nodes c.loop-child.depth c.
 -- put off
 
 pub returns-in-Err-clause-cause : goal.returns-in-Err-clause-cause
-returns-in-Err-clause-cause g c = λ start took. let n : ℕ = c.args.arena.now.nodes in let s = seen_of c.args.pass.now in let k = seen_of c.try_enter.new.pass in
-    put_off (g.N.Node.in_place ≡ false) n c.args.pass.now.caller c.args.place start k c.in-Err.later (c.in-Err.ensures.down start took)
+returns-in-Err-clause-cause g c = λ start took. put_off (g.N.Node.in_place ≡ false) c.args.arena.now.nodes c.args.pass.now.caller c.args.place start (seen_of c.try_enter.new.pass) c.in-Err.later (c.in-Err.ensures.busy start took.grows)
 
 pub returns-in-Err-try_go_on-clause-cause : goal.returns-in-Err-try_go_on-clause-cause
 returns-in-Err-try_go_on-clause-cause g c = λ start took. let n : ℕ = c.args.arena.now.nodes in let s = seen_of c.args.pass.now in let k = seen_of c.try_go_on.new.pass in let inv = c.loop-child.invariant in

@@ -1,24 +1,26 @@
-use Rattle.std.proofs.Common.{◌≡◌, ◌∙◌, ◌+◌, ◌%◌, ◌^◌, ℕ, arith, sym, subst}
+use Rattle.std.proofs.Common.{◌≡◌, ◌∙◌, ◌+◌, ◌%◌, ◌^◌, ℕ, [], arith, sym, subst}
+use Rattle.ks_history.specs.Trace.{hand}
 use Rattle.ks_arena.specs.Sound.{sort_of}
 use Rattle.ks_arena.specs.Clauses.{seen_of}
 use Rattle.ks_shape.specs.Stretches.{Stretches}
 use Rattle.ks_shape.specs.Laws.Stretches.{stretches_as, stretches_both}
 use Rattle.ks_tidy.specs.Frees.{Counts}
-use Rattle.ks_tidy.specs.Laws.Frees.{counts_as, counts_both, counts_of, counts_on, frees_as}
+use Rattle.ks_tidy.specs.Laws.Frees.{counts_as, counts_both, counts_of, counts_on, frees_as, frees_others, frees_take}
 use Rattle.ks_tidy.specs.Pair.{IsPair}
 use Rattle.ks_tidy.proofs.tries.try_pair_tidy.Given.{Over}
 use Rattle.ks_tidy.proofs.tries.try_pair_tidy.Goals as goal
 use Rattle.ks_tidy.proofs.tries.try_pair_tidy.Goals.{After-try_tidy_at-tidied}
 
-pub returns-in-None-clause-counts : goal.returns-in-None-clause-counts
-returns-in-None-clause-counts g c = let me : ℕ = c.args.pass.now.caller in counts_of me 0 (seen_of c.args.pass.now) (seen_of c.try_enter.new.pass) (omega arith) c.try_enter.ensures.frees
+pub returns-in-Err-clause-counts : goal.returns-in-Err-clause-counts
+returns-in-Err-clause-counts g c = let me : ℕ = c.args.pass.now.caller in let h = seen_of c.args.pass.now in let k = seen_of c.try_enter.new.pass in
+    counts_of me 0 h k (omega arith) (frees_others me h k c.in-Err.ensures.took)
 
-pub returns-in-None-clause-pass : goal.returns-in-None-clause-pass
-returns-in-None-clause-pass g c = (c.try_enter.ensures.pass, c.in-None.ensures.came)
+pub returns-in-Err-clause-pass : goal.returns-in-Err-clause-pass
+returns-in-Err-clause-pass g c = (c.try_enter.ensures.pass, subst (λ (z : ℕ). hand z (seen_of c.try_enter.new.pass) ≡ []) (sym c.try_enter.ensures.caller) c.in-Err.ensures.path)
 
 pub loop-steps-init : goal.loop-steps-init
-loop-steps-init g c = let me : ℕ = c.args.pass.now.caller in let h = seen_of c.args.pass.now in let k = seen_of c.try_enter.new.pass in let e = c.try_enter.ensures in
-    (e.pass, e.caller, c.in-Some.ensures.came, e.stretch, counts_of me 0 h k (omega arith) e.frees)
+loop-steps-init g c = let me : ℕ = c.args.pass.now.caller in let h = seen_of c.args.pass.now in let k = seen_of c.try_enter.new.pass in let e = c.try_enter.ensures in let o = c.in-Ok.ensures in
+    (e.pass, e.caller, record { path = o.path; rooted = λ none. o.took.0 }, e.stretch, counts_of me 0 h k (omega arith) (frees_take me 0 h k o.took.1))
 
 -- where the search stands after it tidied
 now : (g : Over) (c : After-try_tidy_at-tidied g) → c.try_tidy_at-tidied.new.pass.caller ≡ c.args.pass.now.caller
@@ -48,20 +50,20 @@ pub loop-steps-preserved : goal.loop-steps-preserved
 loop-steps-preserved g c = let at = (goal.at.loop-steps-preserved g c).After-try_tidy_at-tidied in let me : ℕ = c.args.pass.now.caller in let s = seen_of c.args.pass.now in let h₁ = seen_of c.try_tidy_at-tidied.new.pass in let b : ℕ = c.try_tidy_at-tidied.new.pass.caller in let k = seen_of c.try_go_down.new.pass in let e = c.try_go_down.ensures in (
   e.pass,
   e.caller ∙ now g at,
-  subst (λ (z : ℕ). IsPair (sort_of g.N.Node.layout g.N.Node.ranged) g.N.Node.body z c.args.place k c.in-Some-try_go_down.below) (now g at) c.in-Some-try_go_down.ensures.came,
+  subst (λ (z : ℕ). IsPair (sort_of g.N.Node.layout g.N.Node.ranged) g.N.Node.body z c.args.place k c.in-Some.below) (now g at) c.in-Some.ensures.came,
   stretches_both me s h₁ k (stretch g at) (stretches_as me b h₁ k (now g at) e.stretch),
   counts_on me ((c.loop-steps.freed + c.try_tidy_at-tidied.result.freed) % 2 ^ 32) s h₁ k (counts g at) (frees_as me b h₁ k (now g at) e.frees),
 )
 
-pub returns-in-None-try_go_down-clause-pass : goal.returns-in-None-try_go_down-clause-pass
-returns-in-None-try_go_down-clause-pass g c = (c.try_go_down.ensures.pass, c.in-None-try_go_down.ensures.came)
+pub returns-in-None-clause-pass : goal.returns-in-None-clause-pass
+returns-in-None-clause-pass g c = (c.try_go_down.ensures.pass, c.in-None.ensures.came)
 
-pub returns-in-None-try_go_down-clause-stretch : goal.returns-in-None-try_go_down-clause-stretch
-returns-in-None-try_go_down-clause-stretch g c = let at = (goal.at.returns-in-None-try_go_down-clause-stretch g c).After-try_tidy_at-tidied in let me : ℕ = c.args.pass.now.caller in let h₁ = seen_of c.try_tidy_at-tidied.new.pass in let k = seen_of c.try_go_down.new.pass in
+pub returns-in-None-clause-stretch : goal.returns-in-None-clause-stretch
+returns-in-None-clause-stretch g c = let at = (goal.at.returns-in-None-clause-stretch g c).After-try_tidy_at-tidied in let me : ℕ = c.args.pass.now.caller in let h₁ = seen_of c.try_tidy_at-tidied.new.pass in let k = seen_of c.try_go_down.new.pass in
     stretches_both me (seen_of c.args.pass.now) h₁ k (stretch g at) (stretches_as me c.try_tidy_at-tidied.new.pass.caller h₁ k (now g at) c.try_go_down.ensures.stretch)
 
-pub returns-in-None-try_go_down-clause-counts : goal.returns-in-None-try_go_down-clause-counts
-returns-in-None-try_go_down-clause-counts g c = let at = (goal.at.returns-in-None-try_go_down-clause-counts g c).After-try_tidy_at-tidied in let me : ℕ = c.args.pass.now.caller in let h₁ = seen_of c.try_tidy_at-tidied.new.pass in let k = seen_of c.try_go_down.new.pass in
+pub returns-in-None-clause-counts : goal.returns-in-None-clause-counts
+returns-in-None-clause-counts g c = let at = (goal.at.returns-in-None-clause-counts g c).After-try_tidy_at-tidied in let me : ℕ = c.args.pass.now.caller in let h₁ = seen_of c.try_tidy_at-tidied.new.pass in let k = seen_of c.try_go_down.new.pass in
     counts_on me ((c.loop-steps.freed + c.try_tidy_at-tidied.result.freed) % 2 ^ 32) (seen_of c.args.pass.now) h₁ k (counts g at) (frees_as me c.try_tidy_at-tidied.new.pass.caller h₁ k (now g at) c.try_go_down.ensures.frees)
 
 pub returns-in-Here-clause-stretch : goal.returns-in-Here-clause-stretch
