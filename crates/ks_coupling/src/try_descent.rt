@@ -7,16 +7,17 @@ ghost use Rattle.ks_arena.specs.Of.{IsPassOf, IsEmptyPassOf, SameCaller, caller_
 ghost use Rattle.ks_shape.specs.Of.{IsUnderway, StaysUnderway, IsOnWayOf};
 ghost use Rattle.ks_try.specs.Of.{StandsAtRoot, GoesDownFrom, CameToEnd};
 
-use ks_arena::laws::{root_stays_law, sound_law};
-use ks_arena::{Arena, Held, Pass, Taken, root_law};
+use ks_arena::laws::sound_law;
+use ks_arena::{Arena, Held, Pass};
 use ks_flow::Tree;
 use ks_gate::{Gate, Point};
 use ks_node::{Next, Unlinked};
-use ks_shape::{Later, give_last, tree_end_law};
+use ks_put::{let_go, try_enter, try_step_down};
+use ks_shape::{Later, tree_end_law};
 use ks_try::{child_law, turn_back};
 
-/// Tries to take the root.
-fn try_enter<N: Unlinked, G: Gate>(
+/// Begins a call, and tries to take the root.
+fn try_begin<N: Unlinked, G: Gate>(
     arena: &Arena<N, Tree>,
     pass: &mut Pass<N, Tree>,
     gate: &G,
@@ -28,16 +29,10 @@ fn try_enter<N: Unlinked, G: Gate>(
     ensures came { StandsAtRoot arena.now coupling place pass.old pass.new result }
     ensures under { IsUnderway coupling pass.old pass.new }
 {
-    root_stays_law::<Tree>();
     gate.at(pass.caller(), Point::Begin);
-    match arena.try_take(pass, 0) {
-        Taken::Held(root) => {
-            root_law(&root, place);
-            gate.at(pass.caller(), Point::Taken(0));
-            Ok(root)
-        }
-        Taken::Busy { holder } => Err(Later::Busy { node: 0, holder }),
-        Taken::Gone => unreachable!(),
+    match try_enter(arena, pass, gate, place) {
+        Ok(root) => Ok(let_go(arena, pass, gate, place, root)),
+        Err(later) => Err(later),
     }
 }
 
@@ -60,22 +55,9 @@ fn try_go_on<N: Unlinked, G: Gate>(
 {
     sound_law::<Tree>();
     child_law(arena, pass, place, &held, child);
-    match arena.try_take(pass, child) {
-        Taken::Held(below) => {
-            gate.at(pass.caller(), Point::Taken(child));
-            let node = held.node;
-            arena.give(pass, held);
-            gate.at(pass.caller(), Point::Given(node));
-            Ok(below)
-        }
-        Taken::Busy { holder } => {
-            give_last(arena, pass, gate, held);
-            Err(Later::Busy {
-                node: child,
-                holder,
-            })
-        }
-        Taken::Gone => unreachable!(),
+    match try_step_down(arena, pass, gate, place, held, child) {
+        Ok(path) => Ok(let_go(arena, pass, gate, place, path)),
+        Err(later) => Err(later),
     }
 }
 
@@ -92,7 +74,7 @@ pub(crate) fn try_find<N: Unlinked, G: Gate>(
     ensures came { CameToEnd arena.now coupling place pass.old pass.new result }
     ensures under { IsUnderway coupling pass.old pass.new }
 {
-    let mut held = match try_enter(arena, pass, gate, place) {
+    let mut held = match try_begin(arena, pass, gate, place) {
         Ok(root) => root,
         Err(later) => return Err(later),
     };
