@@ -1,37 +1,9 @@
 //! Calls on nodes, each after a test of what it asks, as the program runs.
 
-ghost use Rattle.std.specs.Prelude.{◌≡◌, ◌≤◌, IsTrue, IfSome, Some, All};
-ghost use Rattle.ks_node.specs.declared.start.Next.TheVariants.{Here};
-ghost use Rattle.ks_node.specs.Body.{content_of, all_places, next_at};
-ghost use Rattle.ks_node.specs.Room.{is_full};
-ghost use Rattle.ks_node.specs.Asks.{CanSplitAt};
-
+use ks_asked::{cut_of, is_here, lie_in};
 use ks_keysets::Span;
-use ks_node::{Next, Node, Ranged, Unlinked, node_law};
+use ks_node::{Node, Ranged, Unlinked, node_law};
 use std::alloc::{AllocError, Global};
-
-/// Whether a search for the place ends at the node.
-fn is_here<N: Node>(node: &N, place: u64) -> bool
-    ensures { IsTrue result → next_at (N.body node.now) place ≡ Here }
-{
-    match node.next(place) {
-        Next::Here => true,
-        Next::Go(_) => false,
-    }
-}
-
-/// Whether all pairs lie in a span.
-fn lie_in<N: Node>(node: &N, span: &Span) -> bool
-    ensures { IsTrue result → All (λ x. (span.now.low ≤ x.place) × (x.place ≤ span.now.last)) (N.body node.now).pairs }
-{
-    for n in 0..node.pairs_held() {
-        let place = node.pair_at(n).place;
-        if place < span.low || span.last < place {
-            return false;
-        }
-    }
-    true
-}
 
 /// Puts a value at a place of the node's own, where there is room; answers whether it did.
 pub fn put<N: Ranged>(node: &mut N, place: u64, value: u128) -> bool {
@@ -71,23 +43,6 @@ pub fn cut<N: Node>(node: &N, span: Option<Span>) -> Option<u64> {
     } else {
         None
     }
-}
-
-/// Where the node is cut, its range handed in, if it is full.
-fn cut_of<N: Ranged>(node: &N) -> Option<u64>
-    ensures { IfSome result (λ cut. IsTrue (is_full N.layout (N.body node.now)) × CanSplitAt (N.body node.now) cut
-        × ((N.body node.now).range ≡ Some all_places → IsTrue (N.grows_at (content_of (N.body node.now))) →
-        IsTrue (N.can_grow_at (content_of (N.body node.now)) cut))) }
-{
-    let range = node.range();
-    if !lie_in(node, &range) {
-        return None;
-    }
-    if !node.is_full() {
-        return None;
-    }
-    node_law(node);
-    Some(node.cut(Some(range)))
 }
 
 /// Becomes a branch over two new nodes, if it is full and can.

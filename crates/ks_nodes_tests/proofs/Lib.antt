@@ -1,2 +1,1 @@
 pub mod FirstEdge
-pub mod Own

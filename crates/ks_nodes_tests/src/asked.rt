@@ -1,12 +1,9 @@
 //! Calls on nodes, each after a test of what it asks, as the program runs.
 
-ghost use Rattle.std.specs.Prelude.{◌≢◌, ◌≡◌, ◌≤◌, IsTrue, Some, All, false};
-ghost use Rattle.ks_node.specs.declared.start.Next.TheVariants.{Here};
-ghost use Rattle.ks_node.specs.Body.{is_branch, first_node, IsBlank, next_at};
-ghost use Rattle.ks_node.specs.Room.{is_full};
-ghost use Rattle.ks_node.specs.Asks.{CanSplitAt};
-ghost use Rattle.ks_nodes_tests.specs.Asked.{GrowsOverAll};
+ghost use Rattle.std.specs.Prelude.{◌≢◌, ◌≡◌, IsTrue, Some, false};
+ghost use Rattle.ks_node.specs.Body.{is_branch, first_node, IsBlank};
 
+use ks_asked::{cut_of, is_here, lie_in};
 use ks_keysets::Span;
 use ks_node::{Linked, Next, Node, Ranged, Unlinked, node_law};
 use std::alloc::Global;
@@ -19,29 +16,6 @@ pub fn blank<N: Node>(rt: &impl Abort, alloc: Global) -> N
     let node = N::blank(alloc).expect(rt, "memory");
     node_law(&node);
     node
-}
-
-/// Whether a search for the place ends at the node.
-fn is_here<N: Node>(node: &N, place: u64) -> bool
-    ensures { IsTrue result → next_at (N.body node.now) place ≡ Here }
-{
-    match node.next(place) {
-        Next::Here => true,
-        Next::Go(_) => false,
-    }
-}
-
-/// Whether all pairs lie in a span.
-fn lie_in<N: Node>(node: &N, span: &Span) -> bool
-    ensures { IsTrue result → All (λ x. (span.now.low ≤ x.place) × (x.place ≤ span.now.last)) (N.body node.now).pairs }
-{
-    for n in 0..node.pairs_held() {
-        let place = node.pair_at(n).place;
-        if place < span.low || span.last < place {
-            return false;
-        }
-    }
-    true
 }
 
 /// Puts a value at a place of the node's own, where there is room.
@@ -69,23 +43,10 @@ pub fn del<N: Node>(rt: &impl Abort, node: &mut N, place: u64) -> Option<u128> {
     node.del(place)
 }
 
-/// Where the full node is cut, its range handed in.
-fn cut_of<N: Ranged>(rt: &impl Abort, node: &N) -> u64
-    ensures full { IsTrue (is_full N.layout (N.body node.now)) }
-    ensures splits { CanSplitAt (N.body node.now) result }
-    ensures grows { GrowsOverAll N.grows_at N.can_grow_at (N.body node.now) result }
-{
-    let range = node.range();
-    assert!(rt; lie_in(node, &range));
-    assert!(rt; node.is_full());
-    node_law(node);
-    node.cut(Some(range))
-}
-
 /// Splits a full node; the right one is new.
 pub fn split_to<N: Unlinked + Ranged>(rt: &impl Abort, alloc: Global, node: &mut N) -> N {
     let mut right = blank(rt, alloc);
-    let cut = cut_of(rt, node);
+    let cut = cut_of(node).expect(rt, "a full node");
     node.split_to(&mut right, cut);
     right
 }
@@ -93,7 +54,7 @@ pub fn split_to<N: Unlinked + Ranged>(rt: &impl Abort, alloc: Global, node: &mut
 /// Splits a full node and links it to the right one, which is new.
 pub fn split_link<N: Linked>(rt: &impl Abort, alloc: Global, node: &mut N, right_id: u32) -> N {
     let mut right = blank(rt, alloc);
-    let cut = cut_of(rt, node);
+    let cut = cut_of(node).expect(rt, "a full node");
     node.split_link(&mut right, right_id, cut);
     right
 }
@@ -110,7 +71,7 @@ pub fn grow<N: Unlinked + Ranged>(
     let range = node.range();
     assert!(rt; range.low == 0 && range.last == u64::MAX);
     assert!(rt; node.grows());
-    let cut = cut_of(rt, node);
+    let cut = cut_of(node).expect(rt, "a full node");
     node.grow(&mut left, &mut right, ids[0], ids[1], cut);
     (left, right)
 }
@@ -123,7 +84,7 @@ pub fn grow_link<N: Linked>(rt: &impl Abort, alloc: Global, node: &mut N, ids: [
     assert!(rt; range.low == 0 && range.last == u64::MAX);
     assert!(rt; node.grows());
     assert!(rt; node.level() < u32::MAX);
-    let cut = cut_of(rt, node);
+    let cut = cut_of(node).expect(rt, "a full node");
     node.grow_link(&mut left, &mut right, ids[0], ids[1], cut);
     (left, right)
 }

@@ -15,6 +15,19 @@ pub struct Trial<N: Drop> {
     pub plain: Plain,
 }
 
+/// Two nodes, and what they are to be.
+fn both<N: Drop>(nodes: (N, N), plains: (Plain, Plain)) -> (Trial<N>, Trial<N>) {
+    let left = Trial {
+        node: nodes.0,
+        plain: plains.0,
+    };
+    let right = Trial {
+        node: nodes.1,
+        plain: plains.1,
+    };
+    (left, right)
+}
+
 /// What a search for a place is told.
 fn told<N: Node>(node: &N, place: u64) -> Told {
     match node.next(place) {
@@ -142,15 +155,7 @@ impl<N: Unlinked + Ranged> Trial<N> {
         ids: [u32; 2],
     ) -> (Trial<N>, Trial<N>) {
         let nodes = asked::grow(rt, alloc, &mut self.node, ids);
-        let plains = self.plain.grow(cut, ids, false);
-        let left = Trial {
-            node: nodes.0,
-            plain: plains.0,
-        };
-        let right = Trial {
-            node: nodes.1,
-            plain: plains.1,
-        };
+        let (left, right) = both(nodes, self.plain.grow(cut, ids, false));
         self.agrees(rt);
         left.agrees(rt);
         right.agrees(rt);
@@ -218,15 +223,7 @@ impl<N: Linked> Trial<N> {
         ids: [u32; 2],
     ) -> (Trial<N>, Trial<N>) {
         let nodes = asked::grow_link(rt, alloc, &mut self.node, ids);
-        let plains = self.plain.grow(cut, ids, true);
-        let left = Trial {
-            node: nodes.0,
-            plain: plains.0,
-        };
-        let right = Trial {
-            node: nodes.1,
-            plain: plains.1,
-        };
+        let (left, right) = both(nodes, self.plain.grow(cut, ids, true));
         self.agrees_linked(rt);
         left.agrees_linked(rt);
         right.agrees_linked(rt);

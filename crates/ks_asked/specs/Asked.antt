@@ -1,4 +1,4 @@
--- What a test of a node's calls asks of a cut.
+-- What a cut of a full node is good for.
 use Rattle.std.specs.Prelude.{ℕ, ◌≡◌, Bool, IsTrue, Some}
 use Rattle.ks_node.specs.Body.{Body, Content, all_places, content_of}
 

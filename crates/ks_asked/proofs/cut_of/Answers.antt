@@ -1,7 +1,7 @@
 use Rattle.std.proofs.Common.{rules, ◌≤◌, sym, ◌∙◌}
 use Rattle.std.specs.Prelude.{All}
-use Rattle.ks_nodes_tests.proofs.Own.{suits_own, own_handed}
-use Rattle.ks_nodes_tests.proofs.asked.cut_of.Goals as goal
+use Rattle.ks_asked.proofs.Own.{suits_own, own_handed}
+use Rattle.ks_asked.proofs.cut_of.Goals as goal
 
 pub returns-clause-splits : goal.returns-clause-splits
 returns-clause-splits g c =
