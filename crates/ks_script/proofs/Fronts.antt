@@ -1,5 +1,5 @@
 -- Numbers and calls that bytes begin with.
-use Rattle.std.proofs.Common.{ℕ, zero, suc, ◌≡◌, ◌+◌, ◌-◌, ◌*◌, ◌^◌, ◌<◌, ◌≤◌, Bool, true, false, ◌&&◌, List, [], ◌∷◌, ◌++◌, length, take, drop, get_or, refl, sym, ap, ◌∙◌, arith}
+use Rattle.std.proofs.Common.{ℕ, zero, suc, ◌≡◌, ◌+◌, ◌-◌, ◌*◌, ◌^◌, ◌<◌, ◌≤◌, Bool, true, false, ◌&&◌, List, [], ◌∷◌, ◌++◌, length, take, drop, get_or, refl, sym, ap, subst, ◌∙◌, arith}
 use Rattle.std.proofs.lemmas.List.{take_more, take-append-drop, length-take-le}
 use Rattle.std.proofs.lemmas.Bool.{false≢true}
 use Rattle.std.specs.Fmt.{decimal}
@@ -27,6 +27,22 @@ digit_more bytes i m n lt all value is next = (
   ap all_ascii_digits (take_more bytes i 0 lt) ∙ digits_push (take i bytes) (get_or bytes i 0) all is,
   ap (read_on 0) (take_more bytes i 0 lt) ∙ (read_push 0 (take i bytes) (get_or bytes i 0) ∙ (ap (λ (k : ℕ). 10 * k + (get_or bytes i 0 - 48)) value ∙ sym next)),
 )
+
+-- four digits more
+pub four_more : (bytes : List ℕ) (i m n : ℕ) → i + 4 ≤ length bytes → all_ascii_digits (take i bytes) ≡ true → read_on 0 (take i bytes) ≡ m →
+    is_ascii_digit (get_or bytes i 0) ≡ true → is_ascii_digit (get_or bytes (i + 1) 0) ≡ true → is_ascii_digit (get_or bytes (i + 2) 0) ≡ true → is_ascii_digit (get_or bytes (i + 3) 0) ≡ true →
+    n ≡ 10000 * m + (1000 * (get_or bytes i 0 - 48) + 100 * (get_or bytes (i + 1) 0 - 48) + 10 * (get_or bytes (i + 2) 0 - 48) + (get_or bytes (i + 3) 0 - 48)) →
+    (all_ascii_digits (take (i + 4) bytes) ≡ true) × (read_on 0 (take (i + 4) bytes) ≡ n)
+four_more bytes i m n within all value is_0 is_1 is_2 is_3 is =
+    let d : ℕ → ℕ = λ k. get_or bytes k 0 - 48 in
+    let a = digit_more bytes i m (10 * m + d i) (omega arith) all value is_0 refl in
+    let b = next (i + 1) (i + 2) (10 * m + d i) (10 * (10 * m + d i) + d (i + 1)) (omega arith) (omega arith) a.0 a.1 is_1 refl in
+    let c = next (i + 2) (i + 3) (10 * (10 * m + d i) + d (i + 1)) (10 * (10 * (10 * m + d i) + d (i + 1)) + d (i + 2)) (omega arith) (omega arith) b.0 b.1 is_2 refl in
+    next (i + 3) (i + 4) (10 * (10 * (10 * m + d i) + d (i + 1)) + d (i + 2)) n (omega arith) (omega arith) c.0 c.1 is_3 (omega (arith, is))
+  where
+    next : (j k m n : ℕ) → k ≡ j + 1 → j < length bytes → all_ascii_digits (take j bytes) ≡ true → read_on 0 (take j bytes) ≡ m → is_ascii_digit (get_or bytes j 0) ≡ true → n ≡ 10 * m + (get_or bytes j 0 - 48) →
+        (all_ascii_digits (take k bytes) ≡ true) × (read_on 0 (take k bytes) ≡ n)
+    next j k m n e lt all value is_digit more = subst (λ (k : ℕ). (all_ascii_digits (take k bytes) ≡ true) × (read_on 0 (take k bytes) ≡ n)) (sym e) (digit_more bytes j m n lt all value is_digit more)
 
 first_kept : (bytes : List ℕ) (n : ℕ) → 0 < n → get_or (take n bytes) 0 0 ≡ get_or bytes 0 0
 first_kept bytes zero some = absurd (omega arith)

@@ -16,6 +16,10 @@ read_on n (c ∷ cs) = read_on (10 * n + (c - 48)) cs
 own : IsNumeralModel (λ ds. all_ascii_digits ds ≡ true) (read_on 0)
 own = numerals_by_fold _ (search rules) read_on (search rules)
 
+-- the value of digits is what they stand for
+pub value_read : (ds : List ℕ) → all_ascii_digits ds ≡ true → digits_value 10 ds ≡ read_on 0 ds
+value_read ds all = sym (own.same ds (own.to ds all))
+
 short : (n : ℕ) → n < 2 ^ 128 → n < 10 ^ 64
 short n h = omega arith
 

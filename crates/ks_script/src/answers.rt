@@ -97,7 +97,7 @@ fn read_replies(
 ) -> Result<(Vec<(u64, Reply)>, &[u8]), AllocError>
     ensures { IfOk result (λ x. RepliesThen bytes.now wanted x.0.items x.1.now) }
 {
-    let mut replies = Vec::new(alloc);
+    let mut replies = Vec::with_capacity(alloc, wanted)?;
     let mut rest = bytes;
     'replies: while replies.len() < wanted {
         let Some((reply, more)) = next_reply(rest) else {

@@ -1,9 +1,18 @@
 //! Lines and words, taken off the front of bytes.
 
-ghost use Rattle.std.specs.Prelude.{◌≢◌, ℕ, ◌≡◌, ◌≤◌, ◌<◌, ◌^◌, List, [], ◌∷◌, ◌++◌, length, slice_index, codes, IfSome, IfNone};
+ghost use Rattle.std.specs.Prelude.{◌≢◌, ℕ, ◌≡◌, ◌≤◌, ◌<◌, ◌+◌, ◌-◌, ◌*◌, ◌^◌, true, false, List, [], ◌∷◌, ◌++◌, length, take, slice_index, codes, IfSome, IfNone};
+ghost use Rattle.std.specs.Char.{is_ascii_digit};
 ghost use Rattle.std.specs.Fmt.{decimal};
+ghost use Rattle.std.specs.Str.{all_ascii_digits};
+ghost use Rattle.std.specs.Str.Parse.{digits_value};
 ghost use Rattle.ks_script.specs.Lines.{Lacks, lines_of};
 ghost use Rattle.ks_script.specs.Run.{pair_line};
+
+// A number behind which any four digits more are one below 2^64.
+const BEFORE_FOUR: u64 = 1_844_674_407_370_954;
+
+// A number behind which any digit more is one below 2^64.
+const BEFORE_ONE: u64 = 1_844_674_407_370_955_160;
 
 // The place of the first such byte, or how many bytes there are.
 fn place_of(bytes: &[u8], byte: u8) -> usize
@@ -96,14 +105,75 @@ pub fn after_four(bytes: &[u8], first: u8, second: u8, third: u8, fourth: u8) ->
     after_byte(rest, fourth)
 }
 
+// The number that the four bytes from a place on are the digits of.
+fn four_at(bytes: &[u8], at: usize) -> Option<u64>
+    requires { at ≤ length bytes.now }
+    ensures within { IfSome result (λ _. at + 4 ≤ length bytes.now) }
+    ensures digits { IfSome result (λ _. let is = λ (i : ℕ). is_ascii_digit (slice_index bytes.now i) ≡ true in
+        is at × is (at + 1) × is (at + 2) × is (at + 3)) }
+    ensures value { IfSome result (λ n. let digit = λ (i : ℕ). slice_index bytes.now i - 48 in
+        n ≡ 1000 * digit at + 100 * digit (at + 1) + 10 * digit (at + 2) + digit (at + 3)) }
+    ensures small { IfSome result (λ n. n < 10000) }
+{
+    if at + 4 > bytes.len() {
+        return None;
+    }
+    let thousands = worth(bytes[at]);
+    if thousands > 9 {
+        return None;
+    }
+    let hundreds = worth(bytes[at + 1]);
+    if hundreds > 9 {
+        return None;
+    }
+    let tens = worth(bytes[at + 2]);
+    if tens > 9 {
+        return None;
+    }
+    let ones = worth(bytes[at + 3]);
+    if ones > 9 {
+        return None;
+    }
+    Some((thousands * 10 + hundreds) * 100 + (tens * 10 + ones))
+}
+
+// What the byte is worth as a digit; more than 9 where it is none.
+fn worth(byte: u8) -> u64
+    ensures digit { result ≤ 9 → is_ascii_digit byte ≡ true }
+    ensures value { result ≤ 9 → result ≡ byte - 48 }
+    ensures other { 9 < result → is_ascii_digit byte ≡ false }
+{
+    u64::from(byte).wrapping_sub(48)
+}
+
+// As many digits as the bytes begin with, but for three at most, and of 16 to 19 of them not those of a number that four
+// more might not fit: the number that they are the digits of, and how many they are.
+fn fours(bytes: &[u8]) -> (u64, usize)
+    ensures within { result.1 ≤ length bytes.now }
+    ensures digits { all_ascii_digits (take result.1 bytes.now) ≡ true }
+    ensures value { digits_value 10 (take result.1 bytes.now) ≡ result.0 }
+{
+    let mut number = 0;
+    let mut count = 0;
+    'fours: while number <= BEFORE_FOUR {
+        let Some(four) = four_at(bytes, count) else {
+            return (number, count);
+        };
+        number = number * 10_000 + four;
+        count += 4;
+    }
+    (number, count)
+}
+
 /// A number below 2^64 whose digits the bytes begin with, and the bytes after them. It is found where a byte that is no
-/// digit follows.
+/// digit follows, if not for its first 19 digits it may be too great.
 pub fn leading(bytes: &[u8]) -> Option<(u64, &[u8])>
     ensures some { IfSome result (λ x. bytes.now ≡ decimal x.0 ++ x.1.now) }
 {
-    let mut number: u64 = 0;
-    for (count, byte) in bytes.iter().enumerate() {
-        if !byte.is_ascii_digit() {
+    let (mut number, mut count) = fours(bytes);
+    'digits: while count < bytes.len() {
+        let ones = worth(bytes[count]);
+        if ones > 9 {
             if count == 0 {
                 return None;
             }
@@ -112,9 +182,11 @@ pub fn leading(bytes: &[u8]) -> Option<(u64, &[u8])>
             }
             return Some((number, bytes.split_at(count).1));
         }
-        number = number
-            .checked_mul(10)?
-            .checked_add(u64::from(*byte - b'0'))?;
+        if number > BEFORE_ONE {
+            return None;
+        }
+        number = number * 10 + ones;
+        count += 1;
     }
     None
 }
