@@ -13,7 +13,7 @@ use itoa::Buffer;
 use ks_history::Reply;
 
 /// How many bytes are offered at a time.
-pub const PIECE: usize = 4096;
+const PIECE: usize = 4096;
 
 /// Offers the bytes until all are taken. What is taken in part is offered again from the first byte not taken.
 pub fn send<K: Sink>(out: &mut K, bytes: &[u8]) -> Result<(), Failed>

@@ -1,14 +1,29 @@
 //! Reading a source to its end.
 
-ghost use Rattle.std.specs.Prelude.{ℕ, ◌≡◌, ◌+◌, ◌<◌, ◌≤◌, List, [], Some, length, vec_len, IfOk, IfSome, OnOk, IsErrOf};
-ghost use Rattle.ks_script.specs.Outside.{Rose, Gone};
+ghost use Rattle.std.specs.Prelude.{ℕ, ◌≡◌, ◌+◌, ◌<◌, ◌≤◌, List, [], Some, length, vec_len, IfOk, IfSome, OnOk, OnErr, IsErrOf};
+ghost use Rattle.ks_script.specs.Outside.{Rose, Gone, Reads};
 
-use crate::pieces::PIECE;
-use crate::{ReadFault, Source};
+use crate::{Failed, ReadFault, Source};
 use std::alloc::Global;
 
-/// Reads to the end, and answers with all the bytes. It asks for at most 4,096 bytes at a time, and stops once more
-/// than `limit` bytes came. After an error some first bytes are gone, at most 4,096 more than the limit.
+// How many bytes are asked for at a time.
+const ASKED: usize = 65_536;
+
+// Reads so many bytes at most, to the front of the buffer.
+fn read_front<S: Source>(source: &mut S, buffer: &mut [u8], most: usize) -> Result<usize, Failed>
+    requires some { 0 < most }
+    requires fits { most ≤ length buffer.old }
+    ensures bound { IfOk result (λ n. n ≤ most) }
+    ensures room { length buffer.new ≡ length buffer.old }
+    ensures bytes { Reads (S.left source.old) (S.left source.new) buffer.new result }
+    ensures count { S.faults source.old ≤ S.faults source.new }
+    ensures cause { OnErr result (Rose (S.faults source.old) (S.faults source.new)) }
+{
+    source.read(&mut buffer[..most])
+}
+
+/// Reads to the end, and answers with all the bytes. It asks for at most 65,536 bytes at a time, and stops once more
+/// than `limit` bytes came. After an error some first bytes are gone, at most one more than the limit.
 pub fn read_all<S: Source>(alloc: Global, source: &mut S, limit: u64) -> Result<Vec<u8>, ReadFault>
     ensures bytes { IfOk result (λ v. IfSome (S.left source.old) (λ bytes. v.items ≡ bytes)) }
     ensures end { OnOk result (IfSome (S.left source.old) (λ _. S.left source.new ≡ Some [])) }
@@ -17,18 +32,20 @@ pub fn read_all<S: Source>(alloc: Global, source: &mut S, limit: u64) -> Result<
     ensures failed { IsErrOf result ReadFault.Failed → Rose (S.faults source.old) (S.faults source.new) }
     ensures count { S.faults source.old ≤ S.faults source.new }
     ensures stops { (front : List ℕ) × Gone (S.left source.old) (S.left source.new) front
-        × (length front ≤ limit + 4096) }
+        × (length front ≤ limit + 1) }
 {
     let mut bytes = Vec::new(alloc);
-    let mut buffer = [0; PIECE];
+    let mut buffer = [0; ASKED];
     loop {
-        let Ok(count) = source.read(&mut buffer) else {
+        let room = limit - bytes.len() as u64;
+        let most = room.min(ASKED as u64 - 1) as usize + 1;
+        let Ok(count) = read_front(source, &mut buffer, most) else {
             return Err(ReadFault::Failed);
         };
         if count == 0 {
             return Ok(bytes);
         }
-        if count as u64 > limit - bytes.len() as u64 {
+        if count as u64 > room {
             return Err(ReadFault::TooLong);
         }
         if bytes.extend_from_slice(&buffer[..count]).is_err() {

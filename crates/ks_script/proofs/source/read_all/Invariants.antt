@@ -6,7 +6,7 @@ abbrev pub invariant-loop-count : goal.invariant-loop-count
 invariant-loop-count g l = record {
   gone : Gone (g.S.Source.left l.fn.source) (g.S.Source.left l.source) l.bytes.items;
   within : vec_len l.bytes ≤ l.limit;
-  room : length l.buffer ≡ 4096;
+  room : length l.buffer ≡ 65536;
   count : g.S.Source.faults l.fn.source ≤ g.S.Source.faults l.source;
 }
 
