@@ -63,9 +63,9 @@ pub same_count : (script : List (List Op)) (lines : Lines) → SameShape script 
 same_count script lines shape = sym (length-map lines (λ x. length x)) ∙ ap length shape ∙ length-map script (λ x. length x)
 
 -- a slot that tells one line, in order
-pub one_tells : (lines : Lines) (n : ℕ) (slot : Slot) (c j : ℕ) (o : Bool) (places : List (ℕ × ℕ)) → slot ≡ One c j o → o ≡ true → TellsSlot lines n slot places → (places ≡ (c, j) ∷ []) × Stands lines c j × IsInOrder lines c j n
+pub one_tells : (lines : Lines) (n : ℕ) (slot : Slot) (c j : ℕ) (o : Bool) (places : List (ℕ × ℕ)) → slot ≡ One o c j → o ≡ true → TellsSlot lines n slot places → (places ≡ (c, j) ∷ []) × Stands lines c j × IsInOrder lines c j n
 one_tells lines n slot c j o places is holds tells =
-    let t : TellsSlot lines n (One c j true) places = subst (λ (s : Slot). TellsSlot lines n s places) (is ∙ ap (λ (b : Bool). One c j b) holds) tells in
+    let t : TellsSlot lines n (One true c j) places = subst (λ (s : Slot). TellsSlot lines n s places) (is ∙ ap (λ (b : Bool). One b c j) holds) tells in
     (t.0, t.1.0, t.1.1)
 
 pub below_more : (script : List (List Op)) (lines : Lines) (n c j : ℕ) → carriers lines n ≡ (c, j) ∷ [] → calls_below script lines (n + 1) ≡ calls_below script lines n ++ answered_at script lines (c, j) ∷ []

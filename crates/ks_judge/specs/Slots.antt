@@ -16,7 +16,7 @@ TellsOrder lines c j n false = Stands lines c j × (IsInOrder lines c j n → �
 -- the slot of the number n tells the places of the lines that carry it
 abbrev pub TellsSlot : Lines → ℕ → Slot → List (ℕ × ℕ) → Type 0
 TellsSlot lines n Empty places = places ≡ []
-TellsSlot lines n (One c j ordered) places = (places ≡ (c, j) ∷ []) × TellsOrder lines c j n ordered
+TellsSlot lines n (One ordered c j) places = (places ≡ (c, j) ∷ []) × TellsOrder lines c j n ordered
 TellsSlot lines n Many places = 2 ≤ length places
 
 -- each slot tells the places that P gives for its number
@@ -33,6 +33,6 @@ if_carries number n place = if number == n then place ∷ [] else []
 
 -- a slot with one line more
 abbrev pub noted_slot : Slot → ℕ → ℕ → Bool → Slot
-noted_slot Empty c j ordered = One c j ordered
-noted_slot (One d i o) c j ordered = Many
+noted_slot Empty c j ordered = One ordered c j
+noted_slot (One o d i) c j ordered = Many
 noted_slot Many c j ordered = Many

@@ -12,10 +12,10 @@ use std::alloc::{AllocError, Global};
 pub enum Slot {
     Empty,
     One {
+        /// No earlier line of the caller carries a greater number. It stands first, beside the tag: a slot is 24 bytes so.
+        in_order: bool,
         caller: usize,
         place: usize,
-        /// No earlier line of the caller carries a greater number.
-        in_order: bool,
     },
     Many,
 }
