@@ -9,21 +9,29 @@ use crate::arena::Arena;
 use crate::held::{Held, Pass};
 use crate::laws::sound_law;
 use crate::plays::{Claims, ClearsBit, Scans, Takes};
-use crate::spots::{free_at, turn_at};
+use crate::spots::{ROOM, free_at, turn_at};
 use crate::steps::Steps;
 use ks_flow::Discipline;
 use ks_node::Node;
 use std::marker::Brand;
 use std::sync::Wait;
 use std::sync::ledger::{Blank, Ledger};
+use std::time::Duration;
 use std::{hint, thread};
 
 /// So many pauses of the processor pass between the first two looks at a turn, and between any later two twice as many as
 /// before.
 const FIRST_PAUSES: u32 = 32;
 
-/// After so many looks a caller lets others have its processor in the place of pauses.
-const LOOKS_BEFORE_YIELDING: u32 = 7;
+/// After so many looks at a node a caller lets others have its processor in the place of pauses.
+const LOOKS_AT_A_NODE: u32 = 7;
+
+/// After so many looks at the root it sleeps. Each call takes the root, so all who wait for it keep the one who has it from
+/// going on; and who waits for the root holds no node, so that nobody waits for a sleeper.
+const LOOKS_AT_THE_ROOT: u32 = 2;
+
+/// Microseconds of a sleep.
+const ROOT_SLEEP: u64 = 1_000;
 
 fn pause(times: u32) {
     for _ in 0..times {
@@ -69,24 +77,47 @@ impl<N: Node, D: Discipline> Arena<N, D> {
         unreachable!()
     }
 
+    /// Whether nobody had the node just now.
+    fn is_given(&self, node: u32) -> bool
+        requires { node < self.now.nodes }
+    {
+        self.table.shared.peek(turn_at(node as usize)) <= 1
+    }
+
     /// Looks at the turn of a node until nobody has it, ever more seldom: each look takes its cache line from the holder.
     #[cold]
     #[inline(never)]
     fn watch<R: Wait>(&self, rt: &R, node: u32)
         requires { node < self.now.nodes }
     {
-        let mut looks = 0;
-        for _ in rt.forever() {
-            if self.table.shared.peek(turn_at(node as usize)) <= 1 {
+        let looks = if node == 0 {
+            LOOKS_AT_THE_ROOT
+        } else {
+            LOOKS_AT_A_NODE
+        };
+        for look in 0..looks {
+            if self.is_given(node) {
                 return;
             }
-            if looks < LOOKS_BEFORE_YIELDING {
-                pause(FIRST_PAUSES << looks);
-                looks += 1;
+            pause(FIRST_PAUSES << look);
+        }
+        for _ in rt.forever() {
+            if self.is_given(node) {
+                return;
+            }
+            if node == 0 {
+                self.sleep(rt);
             } else {
                 thread::yield_now();
             }
         }
+    }
+
+    /// Sleeps for `ROOT_SLEEP`: on a word that nobody writes, so that nothing ends it sooner.
+    fn sleep<R: Wait>(&self, rt: &R) {
+        self.table
+            .shared
+            .park_timeout(rt, ROOM, 0, Duration::from_micros(ROOT_SLEEP));
     }
 
     /// Claims the first node, from node 1 upward, that it finds free. `None`: none was found free.
