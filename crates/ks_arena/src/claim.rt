@@ -26,12 +26,14 @@ const FIRST_PAUSES: u32 = 32;
 /// After so many looks at a node a caller lets others have its processor in the place of pauses.
 const LOOKS_AT_A_NODE: u32 = 7;
 
-/// After so many looks at the root it sleeps. Each call takes the root, so all who wait for it keep the one who has it from
-/// going on; and who waits for the root holds no node, so that nobody waits for a sleeper.
+/// After so many looks at the root it does so.
 const LOOKS_AT_THE_ROOT: u32 = 2;
 
+/// After so many times more it sleeps.
+const YIELDS_AT_THE_ROOT: u32 = 3;
+
 /// Microseconds of a sleep.
-const ROOT_SLEEP: u64 = 1_000;
+const ROOT_SLEEP: u64 = 500;
 
 fn pause(times: u32) {
     for _ in 0..times {
@@ -84,32 +86,65 @@ impl<N: Node, D: Discipline> Arena<N, D> {
         self.table.shared.peek(turn_at(node as usize)) <= 1
     }
 
-    /// Looks at the turn of a node until nobody has it, ever more seldom: each look takes its cache line from the holder.
+    /// Looks so many times at the turn of a node, ever more seldom: each look takes its cache line from the holder. Whether
+    /// nobody had the node at one of them.
+    fn comes_free(&self, node: u32, looks: u32) -> bool
+        requires node { node < self.now.nodes }
+        requires looks { looks < 32 }
+    {
+        for look in 0..looks {
+            if self.is_given(node) {
+                return true;
+            }
+            pause(FIRST_PAUSES << look);
+        }
+        false
+    }
+
+    /// Looks at the turn of a node until nobody has it.
     #[cold]
     #[inline(never)]
     fn watch<R: Wait>(&self, rt: &R, node: u32)
         requires { node < self.now.nodes }
     {
-        let looks = if node == 0 {
-            LOOKS_AT_THE_ROOT
+        if node == 0 {
+            self.watch_root(rt);
         } else {
-            LOOKS_AT_A_NODE
-        };
-        for look in 0..looks {
-            if self.is_given(node) {
-                return;
-            }
-            pause(FIRST_PAUSES << look);
+            self.watch_node(rt, node);
+        }
+    }
+
+    fn watch_node<R: Wait>(&self, rt: &R, node: u32)
+        requires { node < self.now.nodes }
+    {
+        if self.comes_free(node, LOOKS_AT_A_NODE) {
+            return;
         }
         for _ in rt.forever() {
             if self.is_given(node) {
                 return;
             }
-            if node == 0 {
-                self.sleep(rt);
-            } else {
-                thread::yield_now();
+            thread::yield_now();
+        }
+    }
+
+    /// Looks at the turn of the root until nobody has it, and soon sleeps: each call takes the root, so all who look keep the
+    /// one who has it from going on. Who waits for the root holds no node, so nobody waits for a sleeper.
+    fn watch_root<R: Wait>(&self, rt: &R) {
+        if self.comes_free(0, LOOKS_AT_THE_ROOT) {
+            return;
+        }
+        for _ in 0..YIELDS_AT_THE_ROOT {
+            if self.is_given(0) {
+                return;
             }
+            thread::yield_now();
+        }
+        for _ in rt.forever() {
+            if self.is_given(0) {
+                return;
+            }
+            self.sleep(rt);
         }
     }
 
