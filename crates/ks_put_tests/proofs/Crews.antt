@@ -1,14 +1,8 @@
--- The elements of a list that one pop, or two, leave empty.
+-- The elements of a list that two pops leave empty.
 use Rattle.std.proofs.Common.{◌≡◌, List, [], ◌∷◌, ◌++◌, length, ◌∙◌, ap, arith}
 use Rattle.std.proofs.lemmas.List.{length-append}
 use mathlib.Core.Option.{some}
 use lib.ListN.{get_elem?}
-
-pub one_of : {X : Type 0} (ps one : List X) (a : X) → length ps ≡ 1 → ps ≡ one ++ a ∷ [] → get_elem? ps 0 ≡ some a
-one_of ps [] a long last = ap (λ l. get_elem? l 0) last
-one_of ps (x ∷ xs) a long last =
-    let n : length ps ≡ length ((x ∷ xs) ++ a ∷ []) = ap length last in
-    absurd (omega (arith, long, n, length-append (x ∷ xs) (a ∷ [])))
 
 pub two_of : {X : Type 0} (ps one two : List X) (a b : X) → length ps ≡ 2 → ps ≡ one ++ b ∷ [] → one ≡ two ++ a ∷ [] → ps ≡ a ∷ b ∷ []
 two_of ps one [] a b long last first = last ∙ ap (λ l. l ++ b ∷ []) first

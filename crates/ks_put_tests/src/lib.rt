@@ -2,11 +2,7 @@
 #![tactic(auto)]
 
 #[cfg(test)]
-mod dels;
-#[cfg(test)]
 mod merged_away;
-#[cfg(test)]
-mod puts;
 pub mod tables;
 #[cfg(test)]
 mod tests;

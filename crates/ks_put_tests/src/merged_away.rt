@@ -1,14 +1,14 @@
 //! A try that comes to a node which another caller merges away meanwhile: two callers on threads, where one stands.
 ghost use Rattle.ks_arena.specs.Of.{IsEmptyPassOf};
 
-use crate::puts::put_each;
 use crate::tries::two_callers;
 use ks_arena::{Arena, Pass};
 use ks_bplus::BNode;
 use ks_flow::Tree;
 use ks_gate::{Point, Stand};
-use ks_giveup::{del, get, put, try_get};
+use ks_giveup::{GiveUp, del, get, put, try_get};
 use ks_node::WithRange;
+use ks_runs::{Run, each};
 use ks_shape::{Full, Later, Numbered};
 use std::sync::Wait;
 use std::test::Fail;
@@ -118,7 +118,7 @@ fn told(number: u64, found: Option<u128>) -> Numbered {
 #[test]
 fn a_node_that_was_merged_away_has_moved(rt: HostRuntime) -> Result<(), Fail> {
     let (arena, mut one, two) = two_callers::<Leaf>(rt.alloc(), 64)?;
-    assert!(rt; put_each(&rt, &arena, &mut one, 0, 17, 1));
+    assert!(rt; each::<GiveUp, _, _, _>(&rt, &arena, &mut one, Run::puts(0, 17, 1)));
     let gate = stand_for(2);
     let (calls, tried) = merge_meanwhile(&rt, &arena, one, two, &gate);
     assert!(rt; tried == Err(Later::Moved { node: 2 }));
@@ -131,7 +131,7 @@ fn a_node_that_was_merged_away_has_moved(rt: HostRuntime) -> Result<(), Fail> {
 #[test]
 fn a_node_that_is_used_again_has_moved(rt: HostRuntime) -> Result<(), Fail> {
     let (arena, mut one, two) = two_callers::<Leaf>(rt.alloc(), 64)?;
-    assert!(rt; put_each(&rt, &arena, &mut one, 0, 17, 1));
+    assert!(rt; each::<GiveUp, _, _, _>(&rt, &arena, &mut one, Run::puts(0, 17, 1)));
     let gate = stand_for(3);
     let (calls, put, tried) = use_again_meanwhile(&rt, &arena, one, two, &gate);
     assert!(rt; tried == Err(Later::Moved { node: 2 }));

@@ -1,13 +1,14 @@
-use crate::dels::{del_each, del_each_ranged, put_each_from};
-use crate::puts::{add_each, one_caller, put_each};
 use ks_bplus::BNode;
-use ks_coupling::{add, get, put, swap};
+use ks_coupling::{Coupling, add, get, put, swap};
+use ks_flow::Tree;
 use ks_gate::NoGate;
 use ks_giveup as giveup;
+use ks_giveup::GiveUp;
 use ks_hash::HNode;
 use ks_list::ListNode;
 use ks_node::WithRange;
 use ks_put::pair_fill;
+use ks_runs::{Run, each, one_caller};
 use ks_shape::{Fill, Full, Numbered};
 use std::test::Fail;
 
@@ -20,8 +21,8 @@ fn told(number: u64, found: Option<u128>) -> Numbered {
 
 #[test]
 fn a_list_of_four_nodes_fills(rt: HostRuntime) -> Result<(), Fail> {
-    let (arena, mut pass) = one_caller::<ListNode>(rt.alloc(), 4)?;
-    assert!(rt; put_each(&rt, &arena, &mut pass, 0, 20, 1));
+    let (arena, mut pass) = one_caller::<ListNode, Tree>(rt.alloc(), 4)?;
+    assert!(rt; each::<Coupling, _, _, _>(&rt, &arena, &mut pass, Run::puts(0, 20, 1)));
     let full = pair_fill(&rt, &arena, &mut pass, &NoGate, 20, Fill::Put(20));
     assert!(rt; full == Err(Full { number: 20 }));
     let put = pair_fill(&rt, &arena, &mut pass, &NoGate, 3, Fill::Put(99));
@@ -31,8 +32,8 @@ fn a_list_of_four_nodes_fills(rt: HostRuntime) -> Result<(), Fail> {
 
 #[test]
 fn a_tree_of_four_nodes_fills(rt: HostRuntime) -> Result<(), Fail> {
-    let (arena, mut pass) = one_caller::<BNode>(rt.alloc(), 4)?;
-    assert!(rt; put_each(&rt, &arena, &mut pass, 0, 32, 1));
+    let (arena, mut pass) = one_caller::<BNode, Tree>(rt.alloc(), 4)?;
+    assert!(rt; each::<Coupling, _, _, _>(&rt, &arena, &mut pass, Run::puts(0, 32, 1)));
     let full = pair_fill(&rt, &arena, &mut pass, &NoGate, 32, Fill::Put(32));
     assert!(rt; full == Err(Full { number: 32 }));
     Ok(())
@@ -40,37 +41,37 @@ fn a_tree_of_four_nodes_fills(rt: HostRuntime) -> Result<(), Fail> {
 
 #[test]
 fn a_tree_of_many_nodes_splits_its_branches(rt: HostRuntime) -> Result<(), Fail> {
-    let (arena, mut pass) = one_caller::<BNode>(rt.alloc(), 400)?;
-    assert!(rt; put_each(&rt, &arena, &mut pass, 0, 2000, STRIDE));
+    let (arena, mut pass) = one_caller::<BNode, Tree>(rt.alloc(), 400)?;
+    assert!(rt; each::<Coupling, _, _, _>(&rt, &arena, &mut pass, Run::puts(0, 2000, STRIDE)));
     Ok(())
 }
 
 #[test]
 fn a_tree_with_ranges_splits_its_branches(rt: HostRuntime) -> Result<(), Fail> {
-    let (arena, mut pass) = one_caller::<WithRange<BNode>>(rt.alloc(), 400)?;
-    assert!(rt; put_each(&rt, &arena, &mut pass, 0, 2000, STRIDE));
+    let (arena, mut pass) = one_caller::<WithRange<BNode>, Tree>(rt.alloc(), 400)?;
+    assert!(rt; each::<GiveUp, _, _, _>(&rt, &arena, &mut pass, Run::puts(0, 2000, STRIDE)));
     Ok(())
 }
 
 #[test]
 fn a_table_of_many_nodes_splits(rt: HostRuntime) -> Result<(), Fail> {
-    let (arena, mut pass) = one_caller::<HNode>(rt.alloc(), 200)?;
-    assert!(rt; put_each(&rt, &arena, &mut pass, 0, 300, STRIDE));
+    let (arena, mut pass) = one_caller::<HNode, Tree>(rt.alloc(), 200)?;
+    assert!(rt; each::<Coupling, _, _, _>(&rt, &arena, &mut pass, Run::puts(0, 300, STRIDE)));
     Ok(())
 }
 
 #[test]
 fn nine_places_of_one_slice_take_nine_nodes(rt: HostRuntime) -> Result<(), Fail> {
-    let (arena, mut pass) = one_caller::<HNode>(rt.alloc(), 9)?;
-    assert!(rt; put_each(&rt, &arena, &mut pass, 1, 9, 1));
+    let (arena, mut pass) = one_caller::<HNode, Tree>(rt.alloc(), 9)?;
+    assert!(rt; each::<Coupling, _, _, _>(&rt, &arena, &mut pass, Run::puts(1, 9, 1)));
     assert!(rt; get(&rt, &arena, &mut pass, &NoGate, 9) == told(9, Some(9)));
     Ok(())
 }
 
 #[test]
 fn nine_places_of_one_slice_fill_eight_nodes(rt: HostRuntime) -> Result<(), Fail> {
-    let (arena, mut pass) = one_caller::<HNode>(rt.alloc(), 8)?;
-    assert!(rt; put_each(&rt, &arena, &mut pass, 1, 8, 1));
+    let (arena, mut pass) = one_caller::<HNode, Tree>(rt.alloc(), 8)?;
+    assert!(rt; each::<Coupling, _, _, _>(&rt, &arena, &mut pass, Run::puts(1, 8, 1)));
     let full = put(&rt, &arena, &mut pass, &NoGate, 9, 9);
     assert!(rt; full == Err(Full { number: 8 }));
     let again = put(&rt, &arena, &mut pass, &NoGate, 3, 99);
@@ -80,8 +81,8 @@ fn nine_places_of_one_slice_fill_eight_nodes(rt: HostRuntime) -> Result<(), Fail
 
 #[test]
 fn nine_places_of_one_slice_fill_eight_nodes_with_ranges(rt: HostRuntime) -> Result<(), Fail> {
-    let (arena, mut pass) = one_caller::<WithRange<HNode>>(rt.alloc(), 8)?;
-    assert!(rt; put_each(&rt, &arena, &mut pass, 1, 8, 1));
+    let (arena, mut pass) = one_caller::<WithRange<HNode>, Tree>(rt.alloc(), 8)?;
+    assert!(rt; each::<GiveUp, _, _, _>(&rt, &arena, &mut pass, Run::puts(1, 8, 1)));
     let full = giveup::put(&rt, &arena, &mut pass, &NoGate, 9, 9);
     assert!(rt; full == Err(Full { number: 8 }));
     assert!(rt; giveup::get(&rt, &arena, &mut pass, &NoGate, 7) == told(9, Some(7)));
@@ -90,8 +91,8 @@ fn nine_places_of_one_slice_fill_eight_nodes_with_ranges(rt: HostRuntime) -> Res
 
 #[test]
 fn a_list_of_four_nodes_fills_by_adds(rt: HostRuntime) -> Result<(), Fail> {
-    let (arena, mut pass) = one_caller::<ListNode>(rt.alloc(), 4)?;
-    assert!(rt; add_each(&rt, &arena, &mut pass, 0, 20, 1));
+    let (arena, mut pass) = one_caller::<ListNode, Tree>(rt.alloc(), 4)?;
+    assert!(rt; each::<Coupling, _, _, _>(&rt, &arena, &mut pass, Run::adds(0, 20, 1)));
     let full = add(&rt, &arena, &mut pass, &NoGate, 20, 20);
     assert!(rt; full == Err(Full { number: 20 }));
     let present = add(&rt, &arena, &mut pass, &NoGate, 3, 99);
@@ -102,7 +103,7 @@ fn a_list_of_four_nodes_fills_by_adds(rt: HostRuntime) -> Result<(), Fail> {
 
 #[test]
 fn a_swap_sets_where_the_old_value_stands(rt: HostRuntime) -> Result<(), Fail> {
-    let (arena, mut pass) = one_caller::<ListNode>(rt.alloc(), 4)?;
+    let (arena, mut pass) = one_caller::<ListNode, Tree>(rt.alloc(), 4)?;
     let added = add(&rt, &arena, &mut pass, &NoGate, 1, 5);
     assert!(rt; added == Ok(told(0, None)));
     assert!(rt; swap(&rt, &arena, &mut pass, &NoGate, 1, 5, u128::MAX) == told(1, Some(5)));
@@ -115,7 +116,7 @@ fn a_swap_sets_where_the_old_value_stands(rt: HostRuntime) -> Result<(), Fail> {
 
 #[test]
 fn a_swap_by_giving_up_sets_where_the_old_value_stands(rt: HostRuntime) -> Result<(), Fail> {
-    let (arena, mut pass) = one_caller::<WithRange<BNode>>(rt.alloc(), 4)?;
+    let (arena, mut pass) = one_caller::<WithRange<BNode>, Tree>(rt.alloc(), 4)?;
     let added = giveup::add(&rt, &arena, &mut pass, &NoGate, 1, 5);
     assert!(rt; added == Ok(told(0, None)));
     let present = giveup::add(&rt, &arena, &mut pass, &NoGate, 1, 6);
@@ -128,8 +129,8 @@ fn a_swap_by_giving_up_sets_where_the_old_value_stands(rt: HostRuntime) -> Resul
 
 #[test]
 fn what_is_put_by_lock_coupling_is_got(rt: HostRuntime) -> Result<(), Fail> {
-    let (arena, mut pass) = one_caller::<BNode>(rt.alloc(), 100)?;
-    assert!(rt; put_each(&rt, &arena, &mut pass, 0, 300, STRIDE));
+    let (arena, mut pass) = one_caller::<BNode, Tree>(rt.alloc(), 100)?;
+    assert!(rt; each::<Coupling, _, _, _>(&rt, &arena, &mut pass, Run::puts(0, 300, STRIDE)));
     let again = put(&rt, &arena, &mut pass, &NoGate, STRIDE, 7);
     assert!(rt; again == Ok(told(300, Some(u128::from(STRIDE)))));
     assert!(rt; get(&rt, &arena, &mut pass, &NoGate, STRIDE) == told(301, Some(7)));
@@ -138,8 +139,8 @@ fn what_is_put_by_lock_coupling_is_got(rt: HostRuntime) -> Result<(), Fail> {
 
 #[test]
 fn what_is_put_by_giving_up_is_got(rt: HostRuntime) -> Result<(), Fail> {
-    let (arena, mut pass) = one_caller::<WithRange<BNode>>(rt.alloc(), 4)?;
-    assert!(rt; put_each(&rt, &arena, &mut pass, 0, 32, 1));
+    let (arena, mut pass) = one_caller::<WithRange<BNode>, Tree>(rt.alloc(), 4)?;
+    assert!(rt; each::<GiveUp, _, _, _>(&rt, &arena, &mut pass, Run::puts(0, 32, 1)));
     let full = giveup::put(&rt, &arena, &mut pass, &NoGate, 32, 32);
     assert!(rt; full == Err(Full { number: 32 }));
     let again = giveup::put(&rt, &arena, &mut pass, &NoGate, 3, 99);
@@ -150,55 +151,59 @@ fn what_is_put_by_giving_up_is_got(rt: HostRuntime) -> Result<(), Fail> {
 
 #[test]
 fn a_list_of_four_nodes_is_used_again(rt: HostRuntime) -> Result<(), Fail> {
-    let (arena, mut pass) = one_caller::<ListNode>(rt.alloc(), 4)?;
-    assert!(rt; put_each(&rt, &arena, &mut pass, 0, 20, 1));
-    assert!(rt; del_each(&rt, &arena, &mut pass, 20, 0, 20, 1));
-    assert!(rt; put_each_from(&rt, &arena, &mut pass, 40, 100, 20, 1));
+    let (arena, mut pass) = one_caller::<ListNode, Tree>(rt.alloc(), 4)?;
+    assert!(rt; each::<Coupling, _, _, _>(&rt, &arena, &mut pass, Run::puts(0, 20, 1)));
+    assert!(rt; each::<Coupling, _, _, _>(&rt, &arena, &mut pass, Run::dels(0, 20, 1).from(20)));
+    assert!(rt; each::<Coupling, _, _, _>(&rt, &arena, &mut pass, Run::puts(100, 20, 1).from(40)));
     assert!(rt; get(&rt, &arena, &mut pass, &NoGate, 119) == told(60, Some(119)));
     Ok(())
 }
 
 #[test]
 fn a_tree_of_four_nodes_is_used_again(rt: HostRuntime) -> Result<(), Fail> {
-    let (arena, mut pass) = one_caller::<BNode>(rt.alloc(), 4)?;
-    assert!(rt; put_each(&rt, &arena, &mut pass, 0, 32, 1));
-    assert!(rt; del_each(&rt, &arena, &mut pass, 32, 0, 32, 1));
-    assert!(rt; put_each_from(&rt, &arena, &mut pass, 64, 100, 32, 1));
+    let (arena, mut pass) = one_caller::<BNode, Tree>(rt.alloc(), 4)?;
+    assert!(rt; each::<Coupling, _, _, _>(&rt, &arena, &mut pass, Run::puts(0, 32, 1)));
+    assert!(rt; each::<Coupling, _, _, _>(&rt, &arena, &mut pass, Run::dels(0, 32, 1).from(32)));
+    assert!(rt; each::<Coupling, _, _, _>(&rt, &arena, &mut pass, Run::puts(100, 32, 1).from(64)));
     Ok(())
 }
 
 #[test]
 fn a_tree_with_ranges_is_used_again(rt: HostRuntime) -> Result<(), Fail> {
-    let (arena, mut pass) = one_caller::<WithRange<BNode>>(rt.alloc(), 4)?;
-    assert!(rt; put_each(&rt, &arena, &mut pass, 0, 32, 1));
-    assert!(rt; del_each_ranged(&rt, &arena, &mut pass, 32, 0, 32, 1));
-    assert!(rt; put_each_from(&rt, &arena, &mut pass, 64, 100, 32, 1));
+    let (arena, mut pass) = one_caller::<WithRange<BNode>, Tree>(rt.alloc(), 4)?;
+    assert!(rt; each::<GiveUp, _, _, _>(&rt, &arena, &mut pass, Run::puts(0, 32, 1)));
+    assert!(rt; each::<GiveUp, _, _, _>(&rt, &arena, &mut pass, Run::dels(0, 32, 1).from(32)));
+    assert!(rt; each::<GiveUp, _, _, _>(&rt, &arena, &mut pass, Run::puts(100, 32, 1).from(64)));
     Ok(())
 }
 
 #[test]
 fn nine_nodes_of_one_slice_are_used_again(rt: HostRuntime) -> Result<(), Fail> {
-    let (arena, mut pass) = one_caller::<HNode>(rt.alloc(), 9)?;
-    assert!(rt; put_each(&rt, &arena, &mut pass, 1, 9, 1));
-    assert!(rt; del_each(&rt, &arena, &mut pass, 9, 1, 9, 1));
-    assert!(rt; put_each_from(&rt, &arena, &mut pass, 18, 1, 9, 1));
+    let (arena, mut pass) = one_caller::<HNode, Tree>(rt.alloc(), 9)?;
+    assert!(rt; each::<Coupling, _, _, _>(&rt, &arena, &mut pass, Run::puts(1, 9, 1)));
+    assert!(rt; each::<Coupling, _, _, _>(&rt, &arena, &mut pass, Run::dels(1, 9, 1).from(9)));
+    assert!(rt; each::<Coupling, _, _, _>(&rt, &arena, &mut pass, Run::puts(1, 9, 1).from(18)));
     Ok(())
 }
 
 #[test]
 fn a_tree_of_many_nodes_shrinks_and_grows_again(rt: HostRuntime) -> Result<(), Fail> {
-    let (arena, mut pass) = one_caller::<BNode>(rt.alloc(), 300)?;
-    assert!(rt; put_each(&rt, &arena, &mut pass, 0, 2000, STRIDE));
-    assert!(rt; del_each(&rt, &arena, &mut pass, 2000, 0, 2000, STRIDE));
-    assert!(rt; put_each_from(&rt, &arena, &mut pass, 4000, 0, 2000, STRIDE));
+    let (arena, mut pass) = one_caller::<BNode, Tree>(rt.alloc(), 300)?;
+    assert!(rt; each::<Coupling, _, _, _>(&rt, &arena, &mut pass, Run::puts(0, 2000, STRIDE)));
+    let dels = Run::dels(0, 2000, STRIDE).from(2000);
+    assert!(rt; each::<Coupling, _, _, _>(&rt, &arena, &mut pass, dels));
+    let again = Run::puts(0, 2000, STRIDE).from(4000);
+    assert!(rt; each::<Coupling, _, _, _>(&rt, &arena, &mut pass, again));
     Ok(())
 }
 
 #[test]
 fn a_tree_with_ranges_shrinks_and_grows_again(rt: HostRuntime) -> Result<(), Fail> {
-    let (arena, mut pass) = one_caller::<WithRange<BNode>>(rt.alloc(), 300)?;
-    assert!(rt; put_each(&rt, &arena, &mut pass, 0, 2000, STRIDE));
-    assert!(rt; del_each_ranged(&rt, &arena, &mut pass, 2000, 0, 2000, STRIDE));
-    assert!(rt; put_each_from(&rt, &arena, &mut pass, 4000, 0, 2000, STRIDE));
+    let (arena, mut pass) = one_caller::<WithRange<BNode>, Tree>(rt.alloc(), 300)?;
+    assert!(rt; each::<GiveUp, _, _, _>(&rt, &arena, &mut pass, Run::puts(0, 2000, STRIDE)));
+    let dels = Run::dels(0, 2000, STRIDE).from(2000);
+    assert!(rt; each::<GiveUp, _, _, _>(&rt, &arena, &mut pass, dels));
+    let again = Run::puts(0, 2000, STRIDE).from(4000);
+    assert!(rt; each::<GiveUp, _, _, _>(&rt, &arena, &mut pass, again));
     Ok(())
 }

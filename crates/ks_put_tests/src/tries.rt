@@ -4,15 +4,16 @@ ghost use Rattle.ks_flow.specs.Discipline.{BeginsTree};
 ghost use Rattle.ks_arena.specs.Sound.{blank_of, sort_of};
 ghost use Rattle.ks_arena.specs.Of.{IsEmptyPassOf, nodes_of};
 
-use crate::puts::{one_caller, put_each};
 use ks_arena::{Arena, Pass, Taken};
 use ks_bplus::BNode;
-use ks_coupling::{try_del, try_get, try_swap};
+use ks_coupling::{Coupling, try_del, try_get, try_swap};
 use ks_flow::Tree;
 use ks_gate::NoGate;
 use ks_giveup as giveup;
+use ks_giveup::GiveUp;
 use ks_list::ListNode;
 use ks_node::{Unlinked, WithRange};
+use ks_runs::{Run, each, one_caller};
 use ks_shape::{Later, Numbered, give_last};
 use std::alloc::{AllocError, Global};
 use std::test::Fail;
@@ -23,8 +24,8 @@ fn told(number: u64, found: Option<u128>) -> Result<Numbered, Later> {
 
 #[test]
 fn one_caller_is_never_put_off_by_lock_coupling(rt: HostRuntime) -> Result<(), Fail> {
-    let (arena, mut pass) = one_caller::<ListNode>(rt.alloc(), 4)?;
-    assert!(rt; put_each(&rt, &arena, &mut pass, 5, 1, 1));
+    let (arena, mut pass) = one_caller::<ListNode, Tree>(rt.alloc(), 4)?;
+    assert!(rt; each::<Coupling, _, _, _>(&rt, &arena, &mut pass, Run::puts(5, 1, 1)));
     assert!(rt; try_swap(&arena, &mut pass, &NoGate, 5, 5, 6) == told(1, Some(5)));
     assert!(rt; try_swap(&arena, &mut pass, &NoGate, 5, 5, 7) == told(2, Some(6)));
     assert!(rt; try_get(&arena, &mut pass, &NoGate, 5) == told(3, Some(6)));
@@ -36,8 +37,8 @@ fn one_caller_is_never_put_off_by_lock_coupling(rt: HostRuntime) -> Result<(), F
 
 #[test]
 fn one_caller_is_never_put_off_by_giving_up(rt: HostRuntime) -> Result<(), Fail> {
-    let (arena, mut pass) = one_caller::<WithRange<BNode>>(rt.alloc(), 400)?;
-    assert!(rt; put_each(&rt, &arena, &mut pass, 0, 1000, 1));
+    let (arena, mut pass) = one_caller::<WithRange<BNode>, Tree>(rt.alloc(), 400)?;
+    assert!(rt; each::<GiveUp, _, _, _>(&rt, &arena, &mut pass, Run::puts(0, 1000, 1)));
     assert!(rt; giveup::try_get(&arena, &mut pass, &NoGate, 999) == told(1000, Some(999)));
     assert!(rt; giveup::try_swap(&arena, &mut pass, &NoGate, 500, 500, 7) == told(1001, Some(500)));
     assert!(rt; giveup::try_del(&arena, &mut pass, &NoGate, 500) == told(1002, Some(7)));
@@ -94,7 +95,7 @@ fn beside_a_holder<N: Unlinked>(
 #[test]
 fn a_node_that_another_holds_is_busy_by_lock_coupling(rt: HostRuntime) -> Result<(), Fail> {
     let (arena, mut one, mut two) = two_callers::<BNode>(rt.alloc(), 64)?;
-    assert!(rt; put_each(&rt, &arena, &mut one, 0, 17, 1));
+    assert!(rt; each::<Coupling, _, _, _>(&rt, &arena, &mut one, Run::puts(0, 17, 1)));
     let busy = Err(Later::Busy { node: 1, holder: 0 });
     assert!(rt; beside_a_holder(&arena, &mut one, &mut two) == Some([busy, told(17, Some(16))]));
     assert!(rt; try_get(&arena, &mut two, &NoGate, 0) == told(18, Some(0)));

@@ -2,17 +2,18 @@
 ghost use Rattle.std.specs.Prelude.{◌≡◌, ◌<◌};
 ghost use Rattle.ks_arena.specs.Of.{IsEmptyPassOf, nodes_of};
 
-use crate::puts::{one_caller, put_each};
 use crate::tries::two_callers;
 use ks_arena::{Arena, Pass, Taken};
 use ks_bplus::BNode;
-use ks_coupling::{get, try_add, try_del, try_get, try_put, try_swap};
+use ks_coupling::{Coupling, get, try_add, try_del, try_get, try_put, try_swap};
 use ks_flow::Tree;
 use ks_gate::NoGate;
 use ks_giveup as giveup;
+use ks_giveup::GiveUp;
 use ks_hash::HNode;
 use ks_list::ListNode;
 use ks_node::{Ranged, Unlinked, WithRange};
+use ks_runs::{Run, each, one_caller, try_each};
 use ks_shape::{Later, Numbered, PutLater, give_last};
 use std::test::Fail;
 
@@ -27,55 +28,10 @@ fn put(number: u64, found: Option<u128>) -> Result<Numbered, PutLater> {
     Ok(Numbered { number, found })
 }
 
-/// Puts `many` places from `first` on as their own value by lock coupling, a stride apart, and waits for nobody. Tells whether
-/// nothing stood there, and the numbers went from 0 up.
-fn try_put_each<N: Unlinked>(
-    arena: &Arena<N, Tree>,
-    pass: &mut Pass<N, Tree>,
-    first: u64,
-    many: u64,
-    stride: u64,
-) -> bool
-    requires pass { IsEmptyPassOf arena.now pass.old }
-    ensures pass { IsEmptyPassOf arena.now pass.new }
-{
-    let mut right = true;
-    for count in 0..many {
-        let place = count.wrapping_mul(stride).wrapping_add(first);
-        let told = try_put(arena, pass, &NoGate, place, u128::from(place));
-        right = right && told == put(count, None);
-    }
-    right
-}
-
-/// So it does by giving up, and adds each value a second time, which changes nothing.
-fn try_add_each<N: Ranged + Unlinked>(
-    arena: &Arena<N, Tree>,
-    pass: &mut Pass<N, Tree>,
-    many: u64,
-    stride: u64,
-) -> bool
-    requires pass { IsEmptyPassOf arena.now pass.old }
-    ensures pass { IsEmptyPassOf arena.now pass.new }
-{
-    let mut right = true;
-    for count in 0..many {
-        let place = count.wrapping_mul(stride);
-        let value = u128::from(place);
-        let told = giveup::try_put(arena, pass, &NoGate, place, value);
-        let again = giveup::try_add(arena, pass, &NoGate, place, 7);
-        let number = count.wrapping_mul(2);
-        right = right
-            && told == put(number, None)
-            && again == put(number.wrapping_add(1), Some(value));
-    }
-    right
-}
-
 #[test]
 fn a_tree_of_four_nodes_is_full_at_once(rt: HostRuntime) -> Result<(), Fail> {
-    let (arena, mut pass) = one_caller::<BNode>(rt.alloc(), 4)?;
-    assert!(rt; put_each(&rt, &arena, &mut pass, 0, 32, 1));
+    let (arena, mut pass) = one_caller::<BNode, Tree>(rt.alloc(), 4)?;
+    assert!(rt; each::<Coupling, _, _, _>(&rt, &arena, &mut pass, Run::puts(0, 32, 1)));
     let full = try_put(&arena, &mut pass, &NoGate, 32, 32);
     assert!(rt; full == Err(PutLater::Full { number: 32 }));
     assert!(rt; try_put(&arena, &mut pass, &NoGate, 31, 1) == put(33, Some(31)));
@@ -85,7 +41,7 @@ fn a_tree_of_four_nodes_is_full_at_once(rt: HostRuntime) -> Result<(), Fail> {
 
 #[test]
 fn what_is_added_at_once_is_swapped(rt: HostRuntime) -> Result<(), Fail> {
-    let (arena, mut pass) = one_caller::<ListNode>(rt.alloc(), 4)?;
+    let (arena, mut pass) = one_caller::<ListNode, Tree>(rt.alloc(), 4)?;
     assert!(rt; try_add(&arena, &mut pass, &NoGate, 1, 5) == put(0, None));
     assert!(rt; try_swap(&arena, &mut pass, &NoGate, 1, 5, 6) == told(1, Some(5)));
     assert!(rt; try_add(&arena, &mut pass, &NoGate, 1, 7) == put(2, Some(6)));
@@ -95,32 +51,32 @@ fn what_is_added_at_once_is_swapped(rt: HostRuntime) -> Result<(), Fail> {
 
 #[test]
 fn nodes_are_split_at_once(rt: HostRuntime) -> Result<(), Fail> {
-    let (arena, mut pass) = one_caller::<BNode>(rt.alloc(), 400)?;
-    assert!(rt; try_put_each(&arena, &mut pass, 0, 2000, STRIDE));
+    let (arena, mut pass) = one_caller::<BNode, Tree>(rt.alloc(), 400)?;
+    assert!(rt; try_each::<Coupling, _, _>(&arena, &mut pass, Run::puts(0, 2000, STRIDE)));
     Ok(())
 }
 
 #[test]
 fn nodes_are_split_at_once_by_giving_up(rt: HostRuntime) -> Result<(), Fail> {
-    let (arena, mut pass) = one_caller::<WithRange<BNode>>(rt.alloc(), 400)?;
-    assert!(rt; try_add_each(&arena, &mut pass, 1000, STRIDE));
+    let (arena, mut pass) = one_caller::<WithRange<BNode>, Tree>(rt.alloc(), 400)?;
+    assert!(rt; try_each::<GiveUp, _, _>(&arena, &mut pass, Run::puts(0, 1000, STRIDE)));
     Ok(())
 }
 
 #[test]
 fn lists_are_split_at_once(rt: HostRuntime) -> Result<(), Fail> {
-    let (arena, mut pass) = one_caller::<ListNode>(rt.alloc(), 4)?;
-    assert!(rt; try_put_each(&arena, &mut pass, 0, 20, 1));
+    let (arena, mut pass) = one_caller::<ListNode, Tree>(rt.alloc(), 4)?;
+    assert!(rt; try_each::<Coupling, _, _>(&arena, &mut pass, Run::puts(0, 20, 1)));
     let full = try_add(&arena, &mut pass, &NoGate, 20, 20);
-    assert!(rt; full == Err(PutLater::Full { number: 20 }));
+    assert!(rt; full == Err(PutLater::Full { number: 60 }));
     Ok(())
 }
 
 /// The ninth place of one slice splits its bucket seven times.
 #[test]
 fn nine_places_of_one_slice_take_nine_nodes_at_once(rt: HostRuntime) -> Result<(), Fail> {
-    let (arena, mut pass) = one_caller::<HNode>(rt.alloc(), 9)?;
-    assert!(rt; try_put_each(&arena, &mut pass, 1, 9, 1));
+    let (arena, mut pass) = one_caller::<HNode, Tree>(rt.alloc(), 9)?;
+    assert!(rt; try_each::<Coupling, _, _>(&arena, &mut pass, Run::puts(1, 9, 1)));
     let found = get(&rt, &arena, &mut pass, &NoGate, 9);
     assert!(rt; found.found == Some(9));
     Ok(())
@@ -128,11 +84,11 @@ fn nine_places_of_one_slice_take_nine_nodes_at_once(rt: HostRuntime) -> Result<(
 
 #[test]
 fn nine_places_of_one_slice_fill_eight_nodes_at_once(rt: HostRuntime) -> Result<(), Fail> {
-    let (arena, mut pass) = one_caller::<WithRange<HNode>>(rt.alloc(), 8)?;
-    assert!(rt; try_put_each(&arena, &mut pass, 1, 8, 1));
+    let (arena, mut pass) = one_caller::<WithRange<HNode>, Tree>(rt.alloc(), 8)?;
+    assert!(rt; try_each::<GiveUp, _, _>(&arena, &mut pass, Run::puts(1, 8, 1)));
     let full = giveup::try_put(&arena, &mut pass, &NoGate, 9, 9);
-    assert!(rt; full == Err(PutLater::Full { number: 8 }));
-    assert!(rt; giveup::try_get(&arena, &mut pass, &NoGate, 7) == told(9, Some(7)));
+    assert!(rt; full == Err(PutLater::Full { number: 24 }));
+    assert!(rt; giveup::try_get(&arena, &mut pass, &NoGate, 7) == told(25, Some(7)));
     Ok(())
 }
 
@@ -163,7 +119,7 @@ fn put_beside_a_holder<N: Unlinked>(
 #[test]
 fn a_put_at_a_node_that_another_holds_is_put_off(rt: HostRuntime) -> Result<(), Fail> {
     let (arena, mut one, mut two) = two_callers::<BNode>(rt.alloc(), 64)?;
-    assert!(rt; put_each(&rt, &arena, &mut one, 0, 17, 1));
+    assert!(rt; each::<Coupling, _, _, _>(&rt, &arena, &mut one, Run::puts(0, 17, 1)));
     let busy = PutLater::Later(Later::Busy { node: 1, holder: 0 });
     assert!(rt; put_beside_a_holder(&arena, &mut one, &mut two) == Some(Err(busy)));
     assert!(rt; try_put(&arena, &mut two, &NoGate, 0, 5) == put(17, Some(0)));

@@ -1,8 +1,8 @@
 use Rattle.std.proofs.Common.{ap, ◌∙◌, ◌++◌}
 use Rattle.std.specs.Prelude.{option_to_list}
 use Rattle.ks_history.specs.Trace.{hand}
-use Rattle.ks_put_tests.proofs.Crews.{one_of}
-use Rattle.ks_put_tests.proofs.puts.one_caller.Goals as goal
+use Rattle.ks_runs.proofs.Crews.{one_of}
+use Rattle.ks_runs.proofs.arenas.one_caller.Goals as goal
 
 pub returns : goal.returns
 returns g c =
