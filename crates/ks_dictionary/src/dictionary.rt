@@ -267,7 +267,8 @@ impl<N: Node, T: Ruled + Template<N, Arena<N, <T as Ruled>::Rule>>> Dictionary<N
         requires pass { IsIdlePassOf self.now pass.old }
         ensures pass { IsIdlePassOf self.now pass.new }
         ensures caller { SameCaller pass.old pass.new }
-        ensures tried { HasTriedIn self.now T.technique (Swap (N.Places.place_of key) old new) pass.old pass.new result }
+        ensures tried { HasTriedIn self.now T.technique (Swap (N.Places.place_of key) old new)
+            pass.old pass.new result }
         ensures never { MayTell T.technique result }
         ensures alone { WasAlone pass.old pass.new → HeldAlone pass.old → IsTrue (is_ok result) }
     {

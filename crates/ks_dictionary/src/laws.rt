@@ -65,7 +65,8 @@ impl<N: Node> Closed<N> {
 pub fn kept_law()
     ensures { (layout : Layout) (technique : Technique) (nodes c d p v : ℕ) (s t k l : List Event)
         (had found : Option ℕ) (m n : ℕ) → Done layout technique nodes c (Put p v) s t (told had) m → t ⊑ k →
-        Done layout technique nodes d (Get p) k l (told found) n → Legal (calls_of l) → FindsPut p v found (calls_of l) }
+        Done layout technique nodes d (Get p) k l (told found) n → Legal (calls_of l) →
+        FindsPut p v found (calls_of l) }
 {}
 
 /// In a legal history of a map an add finds nothing at most once at a place, until a call removes what it added.

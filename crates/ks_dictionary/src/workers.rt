@@ -54,7 +54,8 @@ fn call<N: Node, T: Ruled + Template<N, Arena<N, <T as Ruled>::Rule>>, R: Wait, 
     ensures pass { IsIdlePassOf dictionary.now pass.new }
     ensures caller { SameCaller pass.old pass.new }
     ensures calls { calls_by (caller_of pass.old) (seen_of pass.new)
-        ≡ calls_by (caller_of pass.old) (seen_of pass.old) ++ numbered result.0 (at_place N.Places.place_of op) result.1 ∷ [] }
+        ≡ calls_by (caller_of pass.old) (seen_of pass.old)
+        ++ numbered result.0 (at_place N.Places.place_of op) result.1 ∷ [] }
 {
     match op {
         Op::Get(key) => line_of(dictionary.get(rt, pass, gate, key)),
@@ -79,7 +80,8 @@ fn call_each<N: Node, T: Ruled + Template<N, Arena<N, <T as Ruled>::Rule>>, R: W
     requires room { length ops.now ≤ vec_capacity lines.old }
     ensures pass { IsIdlePassOf dictionary.now pass.new }
     ensures caller { SameCaller pass.old pass.new }
-    ensures asked { HasAsked (caller_of pass.old) (seen_of pass.old) (seen_of pass.new) (map (at_place N.Places.place_of) ops.now) }
+    ensures asked { HasAsked (caller_of pass.old) (seen_of pass.old) (seen_of pass.new)
+        (map (at_place N.Places.place_of) ops.now) }
     ensures told { HasAnswered (caller_of pass.old) (seen_of pass.old) (seen_of pass.new) lines.new.items }
 {
     for at in 0..ops.len() {
