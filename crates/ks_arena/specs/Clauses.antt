@@ -39,6 +39,7 @@ use Rattle.ks_arena.specs.Rule.{turn_word, Ends}
 use Rattle.ks_arena.specs.Plays.{Carries}
 use Rattle.ks_arena.specs.Named.{AllNamedBelow}
 
+-- what is known of a pass: whose it is, what it has seen of the trace, and the bit that it is about to change
 abbrev pub view_of : {N D : Type 0} → Pass N D → View
 view_of p = p.seat.me.0
 
@@ -240,6 +241,7 @@ abbrev pub EndsAll : {N D : Type 0} → List Event → List (Pass N D) → Type 
 EndsAll {N} {D} h ps = (j : ℕ) (p : Pass N D) → get_elem? ps j ≡ some p → GrowsByOthers p.caller (seen_of p) h
 
 module _ {N : Type 0} (shows : N → Body) where
+  -- the state that a change gives to a node of this body: live with its record and frame, or free
   abbrev pub new_state_of : Bool → N → NewState
   new_state_of true b = BecomesLive (record_of (shows b)) (frame_of (shows b))
   new_state_of false b = BecomesFree

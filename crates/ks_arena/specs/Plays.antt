@@ -32,6 +32,7 @@ abbrev pub drop_slot : {S : Type 0} → ℕ → List (ℕ × S) → List (ℕ ×
 drop_slot i [] = []
 drop_slot i (x ∷ xs) = if x.0 == i then xs else x ∷ drop_slot i xs
 
+-- the slot of node i is in hand
 abbrev pub InHand : {S : Type 0} → List (ℕ × S) → ℕ → Type 0
 InHand [] i = ⊥
 InHand (x ∷ xs) i = (x.0 ≡ i) ⊎ InHand xs i
@@ -52,6 +53,7 @@ pub record TellsFree (n w c : ℕ) (h : List Event) (word : ℕ) : Type 0 where
   pub sets : (b : ℕ) → b < 64 → bit_at word b ≡ 1 → (64 * w + b < n) × ((turn_after h (64 * w + b) ≡ free) ⊎ ((d : ℕ) × (d ≢ c) × (turn_after h (64 * w + b) ≡ held d)))
   pub clears : (b : ℕ) → b < 64 → 64 * w + b < n → bit_at word b ≡ 0 → turn_after h (64 * w + b) ≢ free
 
+-- a pass as a step finds or leaves it: what is known of it, and the slots in its hands
 abbrev pub Seated : Type 0 → Type 0
 Seated N = Me (Option N) View
 

@@ -66,11 +66,14 @@ split_linked cut right b = with_link (Some right) (split_left cut b)
 abbrev pub grown_higher : Kind → ℕ → ℕ → ℕ → Body → Body
 grown_higher kind cut left right b = with_level (b.level + 1) (grown kind cut left right b)
 
+-- the changes of a split to the right
 abbrev pub split_to_right : ℕ → ℕ → ℕ → Body → List Change
 split_to_right node right cut b = live_as node (split_linked cut right b) ∷ live_as right (split_right cut b) ∷ []
 
+-- those of a root that grows, with linked halves
 abbrev pub grow_right : Kind → ℕ → ℕ → ℕ → ℕ → Body → List Change
 grow_right kind node left right cut b = live_as node (grown_higher kind cut left right b) ∷ live_as left (split_linked cut right b) ∷ live_as right (with_link None (split_right cut b)) ∷ []
 
+-- that of a node which gets an edge from the cut on
 abbrev pub attach : ℕ → ℕ → ℕ → Body → List Change
 attach node id cut b = live_as node (adopted cut id b) ∷ []

@@ -60,20 +60,26 @@ pub record CanCollapse (g : ℕ → NodeState) (f : ℕ → Frame) (node child :
 abbrev pub split_on : ℕ → ℕ → Body → Body
 split_on cut right b = adopted cut right (reached (split_left cut b) (split_right cut b))
 
+-- the changes of a split whose node leads to its right half itself
 abbrev pub split_own : ℕ → ℕ → ℕ → Body → List Change
 split_own node right cut b = live_as node (split_on cut right b) ∷ live_as right (split_right cut b) ∷ []
 
+-- those of a split under a parent, which leads to both halves
 abbrev pub split_under : ℕ → ℕ → ℕ → ℕ → Body → Body → List Change
 split_under parent node right cut u b = live_as parent (adopted cut right u) ∷ live_as node (split_left cut b) ∷ live_as right (split_right cut b) ∷ []
 
+-- those of a root that grows
 abbrev pub grow : Kind → ℕ → ℕ → ℕ → ℕ → Body → List Change
 grow kind node left right cut b = live_as node (grown kind cut left right b) ∷ live_as left (split_left cut b) ∷ live_as right (split_right cut b) ∷ []
 
+-- those of a node that absorbs the one to which its own edge leads
 abbrev pub absorb_own : ℕ → ℕ → Body → Body → List Change
 absorb_own node right b q = live_as node (absorbed b q) ∷ free_as right ∷ []
 
+-- those of a node that absorbs its right neighbour under a parent
 abbrev pub absorb_under : ℕ → ℕ → ℕ → Body → Body → Body → List Change
 absorb_under parent node right u b q = live_as parent (forgot right u) ∷ live_as node (absorbed b q) ∷ free_as right ∷ []
 
+-- those of a root that takes over its only child
 abbrev pub collapse : ℕ → ℕ → Body → Body → List Change
 collapse node child b q = live_as node (collapsed b q) ∷ free_as child ∷ []

@@ -7,14 +7,17 @@ use Rattle.ks_bplus.specs.declared.parts.Parts.{Parts}
 use Rattle.ks_bplus.specs.declared.parts.Parts.TheVariants.{Leaf, Inner}
 use Rattle.ks_bplus.specs.Bplus.{bplus_body, bplus_content, bplus_cut}
 
+-- an inner node, and no leaf
 abbrev pub is_inner : Parts → Bool
 is_inner (Leaf ps) = false
 is_inner (Inner ss) = true
 
+-- the pairs of a leaf; an inner node has none
 abbrev pub pairs_of : Parts → List Pair
 pairs_of (Leaf ps) = ps.items
 pairs_of (Inner ss) = []
 
+-- the separators of an inner node, each with the child that it leads to; a leaf has none
 abbrev pub starts_of : Parts → List Start
 starts_of (Leaf ps) = []
 starts_of (Inner ss) = ss.items

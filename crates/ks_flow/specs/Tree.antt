@@ -33,6 +33,7 @@ pub record OneEdge (g : ℕ → NodeState) : Type 0 where
   pub one : (m n l : ℕ) → (n ≡ l → ⊥) → edges_between g n m + edges_between g l m ≤ 1
   pub none : (n : ℕ) → edges_between g n 0 ≡ 0
 
+-- the facts of trees: at most one parent, none of the root, insets that are spans, and ranges that are insets
 pub record Tree (g : ℕ → NodeState) (frames : ℕ → Frame) : Type 0 where
   pub edges : OneEdge g
   -- the inset of each live node is a span whose least place is the node's low

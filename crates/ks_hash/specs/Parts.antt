@@ -7,10 +7,12 @@ use Rattle.ks_hash.specs.declared.parts.Parts.{Parts}
 use Rattle.ks_hash.specs.declared.parts.Parts.TheVariants.{Bucket, Directory}
 use Rattle.ks_hash.specs.Hash.{hash_body, hash_starts}
 
+-- a directory, and no bucket
 abbrev pub is_directory : Parts → Bool
 is_directory (Bucket ps own) = false
 is_directory (Directory ss) = true
 
+-- the pairs of a bucket; a directory has none
 abbrev pub pairs_of : Parts → List Pair
 pairs_of (Bucket ps own) = ps.items
 pairs_of (Directory ss) = []
@@ -20,6 +22,7 @@ abbrev pub own_of : Parts → Option Start
 own_of (Bucket ps own) = own
 own_of (Directory ss) = None
 
+-- the child of each slice of a directory; a bucket has none
 abbrev pub slices_of : Parts → List ℕ
 slices_of (Bucket ps own) = []
 slices_of (Directory ss) = ss.items

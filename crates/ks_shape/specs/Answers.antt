@@ -6,10 +6,12 @@ use Rattle.ks_history.specs.Map.{told}
 use Rattle.ks_shape.specs.declared.answers.Numbered.{Numbered}
 use Rattle.ks_shape.specs.declared.answers.Full.{Full}
 
+-- the reply that such an answer tells, in the words of the history
 abbrev pub reply_in : Result Numbered Full → Reply
 reply_in (Ok answer) = told answer.found
 reply_in (Err full) = full_reply
 
+-- the number of the call, its place in the linearization order, also where it is full
 abbrev pub number_in : Result Numbered Full → ℕ
 number_in (Ok answer) = answer.number
 number_in (Err full) = full.number

@@ -4,5 +4,6 @@ use Rattle.ks_history.specs.declared.Event.{Event}
 use Rattle.ks_history.specs.Done.{Template}
 use Rattle.ks_history.specs.Stretch.{Stretch}
 
+-- between two moments the caller went as a call may by every technique
 abbrev pub Stretches : ℕ → List Event → List Event → Type 0
 Stretches c h k = (template : Template) → Stretch template c h k

@@ -13,9 +13,11 @@ module _ {J : Type 0} where
   abbrev pub jobs_of : Tickets J → ℕ
   jobs_of tickets = tickets.jobs
 
+  -- the table of words and slots on which they stand
   abbrev pub table_of : Tickets J → TableId
   table_of tickets = tickets.table.shared.table_id
 
+  -- what is known of a desk
   abbrev pub view_of : Desk J → View
   view_of d = d.seat.me.0
 
@@ -57,6 +59,7 @@ module _ {J : Type 0} where
     pub closed : (view_of d).held ≡ []
     pub bare : d.seat.me.1 ≡ []
 
+  -- so it is with each desk of a list
   abbrev pub Each : (Desk J → Type 0) → List (Desk J) → Type 0
   Each P ds = (i : ℕ) (d : Desk J) → get_elem? ds i ≡ some d → P d
 
