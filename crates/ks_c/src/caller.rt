@@ -41,7 +41,8 @@ impl Caller {
         requires { IsEmptyPassOf (arc_value self.old.arena) self.old.pass }
         ensures ready { IsEmptyPassOf (arc_value self.new.arena) self.new.pass }
         ensures same { arc_value self.new.arena ≡ arc_value self.old.arena }
-        ensures tried { TriedPutOf (arc_value self.old.arena) link_move (Put key value) self.old.pass self.new.pass result }
+        ensures tried { TriedPutOf (arc_value self.old.arena) link_move (Put key value)
+            self.old.pass self.new.pass result }
     {
         ks_link::try_put(&self.arena, &mut self.pass, &NoGate, key, value)
     }
@@ -51,7 +52,8 @@ impl Caller {
         requires { IsEmptyPassOf (arc_value self.old.arena) self.old.pass }
         ensures ready { IsEmptyPassOf (arc_value self.new.arena) self.new.pass }
         ensures same { arc_value self.new.arena ≡ arc_value self.old.arena }
-        ensures tried { TriedPutOf (arc_value self.old.arena) link_move (Add key value) self.old.pass self.new.pass result }
+        ensures tried { TriedPutOf (arc_value self.old.arena) link_move (Add key value)
+            self.old.pass self.new.pass result }
     {
         ks_link::try_add(&self.arena, &mut self.pass, &NoGate, key, value)
     }
@@ -61,7 +63,8 @@ impl Caller {
         requires { IsEmptyPassOf (arc_value self.old.arena) self.old.pass }
         ensures ready { IsEmptyPassOf (arc_value self.new.arena) self.new.pass }
         ensures same { arc_value self.new.arena ≡ arc_value self.old.arena }
-        ensures tried { TriedOf (arc_value self.old.arena) link_move (Swap key old new) self.old.pass self.new.pass result }
+        ensures tried { TriedOf (arc_value self.old.arena) link_move (Swap key old new)
+            self.old.pass self.new.pass result }
     {
         ks_link::try_swap(&self.arena, &mut self.pass, &NoGate, key, old, new)
     }

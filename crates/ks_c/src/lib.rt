@@ -98,7 +98,8 @@ pub extern "C" fn ks_c_swap(
     out: &mut Answer,
 ) -> u32
     requires { IsHandle caller.old.inside }
-    ensures { HasTried (Swap key (whole old_low old_high) (whole new_low new_high)) caller.old.inside caller.new.inside result out.new }
+    ensures { HasTried (Swap key (whole old_low old_high) (whole new_low new_high))
+        caller.old.inside caller.new.inside result out.new }
 {
     match mem::replace(caller, Handle::none()).into_box(alloc) {
         None => CLOSED,

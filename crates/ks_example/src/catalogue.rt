@@ -155,7 +155,8 @@ fn tell_one<R: Wait>(
     requires passes { AreOrderedPassesOf catalogue.now callers.old }
     requires some { 3 < length callers.old }
     ensures count { length callers.new ≡ length callers.old }
-    ensures idle { (i : ℕ) (d : _) → i < length callers.old → IsIdlePassOf catalogue.now (slice_index_or callers.new i d) }
+    ensures idle { (i : ℕ) (d : _) → i < length callers.old →
+        IsIdlePassOf catalogue.now (slice_index_or callers.new i d) }
     ensures same { (i : ℕ) (d : _) → i < length callers.old →
         SameCaller (slice_index_or callers.old i d) (slice_index_or callers.new i d) }
 {

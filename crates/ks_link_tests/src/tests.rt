@@ -1,9 +1,10 @@
-use crate::calls::{get_each, one_caller, put_each};
 use ks_bplus::BNode;
+use ks_flow::Link;
 use ks_gate::NoGate;
 use ks_hash::HNode;
-use ks_link::{add, del, get, put, swap};
+use ks_link::{LinkMove, add, del, get, put, swap};
 use ks_linked::WithLink;
+use ks_runs::{Run, each, one_caller};
 use ks_shape::{Full, Numbered};
 use std::test::Fail;
 
@@ -17,8 +18,8 @@ fn numbered(number: u64, found: Option<u128>) -> Numbered {
 
 #[test]
 fn a_tree_of_four_nodes_fills(rt: HostRuntime) -> Result<(), Fail> {
-    let (arena, mut pass) = one_caller::<WithLink<BNode>>(rt.alloc(), 4)?;
-    assert!(rt; put_each(&rt, &arena, &mut pass, 32, 0, 1));
+    let (arena, mut pass) = one_caller::<WithLink<BNode>, Link>(rt.alloc(), 4)?;
+    assert!(rt; each::<LinkMove, _, _, _>(&rt, &arena, &mut pass, Run::puts(0, 32, 1)));
     let full = put(&rt, &arena, &mut pass, &NoGate, 32, 32);
     assert!(rt; full == Err(Full { number: 32 }));
     let there = put(&rt, &arena, &mut pass, &NoGate, 31, 1);
@@ -30,8 +31,8 @@ fn a_tree_of_four_nodes_fills(rt: HostRuntime) -> Result<(), Fail> {
 
 #[test]
 fn an_add_leaves_what_stands(rt: HostRuntime) -> Result<(), Fail> {
-    let (arena, mut pass) = one_caller::<WithLink<BNode>>(rt.alloc(), 4)?;
-    assert!(rt; put_each(&rt, &arena, &mut pass, 31, 0, 1));
+    let (arena, mut pass) = one_caller::<WithLink<BNode>, Link>(rt.alloc(), 4)?;
+    assert!(rt; each::<LinkMove, _, _, _>(&rt, &arena, &mut pass, Run::puts(0, 31, 1)));
     let new = add(&rt, &arena, &mut pass, &NoGate, 31, 7);
     assert!(rt; new == Ok(numbered(31, None)));
     let there = add(&rt, &arena, &mut pass, &NoGate, 31, 8);
@@ -45,8 +46,8 @@ fn an_add_leaves_what_stands(rt: HostRuntime) -> Result<(), Fail> {
 
 #[test]
 fn a_swap_sets_where_the_old_value_stands(rt: HostRuntime) -> Result<(), Fail> {
-    let (arena, mut pass) = one_caller::<WithLink<BNode>>(rt.alloc(), 64)?;
-    assert!(rt; put_each(&rt, &arena, &mut pass, 40, 0, 1));
+    let (arena, mut pass) = one_caller::<WithLink<BNode>, Link>(rt.alloc(), 64)?;
+    assert!(rt; each::<LinkMove, _, _, _>(&rt, &arena, &mut pass, Run::puts(0, 40, 1)));
     let done = swap(&rt, &arena, &mut pass, &NoGate, 39, 39, 7);
     assert!(rt; done == numbered(40, Some(39)));
     let other = swap(&rt, &arena, &mut pass, &NoGate, 39, 39, 8);
@@ -62,9 +63,9 @@ fn a_swap_sets_where_the_old_value_stands(rt: HostRuntime) -> Result<(), Fail> {
 
 #[test]
 fn places_are_put_deleted_and_put_again(rt: HostRuntime) -> Result<(), Fail> {
-    let (arena, mut pass) = one_caller::<WithLink<BNode>>(rt.alloc(), 64)?;
-    assert!(rt; put_each(&rt, &arena, &mut pass, 40, 0, 1));
-    assert!(rt; get_each(&rt, &arena, &mut pass, 40, 0, 1));
+    let (arena, mut pass) = one_caller::<WithLink<BNode>, Link>(rt.alloc(), 64)?;
+    assert!(rt; each::<LinkMove, _, _, _>(&rt, &arena, &mut pass, Run::puts(0, 40, 1)));
+    assert!(rt; each::<LinkMove, _, _, _>(&rt, &arena, &mut pass, Run::gets(0, 40, 1).from(40)));
     let gone = del(&rt, &arena, &mut pass, &NoGate, 39);
     assert!(rt; gone == numbered(80, Some(39)));
     let again = put(&rt, &arena, &mut pass, &NoGate, 39, 7);
@@ -76,32 +77,35 @@ fn places_are_put_deleted_and_put_again(rt: HostRuntime) -> Result<(), Fail> {
 
 #[test]
 fn a_tree_of_many_nodes_splits_its_branches(rt: HostRuntime) -> Result<(), Fail> {
-    let (arena, mut pass) = one_caller::<WithLink<BNode>>(rt.alloc(), 400)?;
-    assert!(rt; put_each(&rt, &arena, &mut pass, 2000, 0, STRIDE));
-    assert!(rt; get_each(&rt, &arena, &mut pass, 2000, 0, STRIDE));
+    let (arena, mut pass) = one_caller::<WithLink<BNode>, Link>(rt.alloc(), 400)?;
+    assert!(rt; each::<LinkMove, _, _, _>(&rt, &arena, &mut pass, Run::puts(0, 2000, STRIDE)));
+    let gets = Run::gets(0, 2000, STRIDE).from(2000);
+    assert!(rt; each::<LinkMove, _, _, _>(&rt, &arena, &mut pass, gets));
     Ok(())
 }
 
 #[test]
 fn a_table_of_many_nodes_splits(rt: HostRuntime) -> Result<(), Fail> {
-    let (arena, mut pass) = one_caller::<WithLink<HNode>>(rt.alloc(), 200)?;
-    assert!(rt; put_each(&rt, &arena, &mut pass, 300, 0, STRIDE));
-    assert!(rt; get_each(&rt, &arena, &mut pass, 300, 0, STRIDE));
+    let (arena, mut pass) = one_caller::<WithLink<HNode>, Link>(rt.alloc(), 200)?;
+    assert!(rt; each::<LinkMove, _, _, _>(&rt, &arena, &mut pass, Run::puts(0, 300, STRIDE)));
+    assert!(rt;
+        each::<LinkMove, _, _, _>(&rt, &arena, &mut pass, Run::gets(0, 300, STRIDE).from(300))
+    );
     Ok(())
 }
 
 #[test]
 fn nine_places_of_one_slice_need_nine_nodes(rt: HostRuntime) -> Result<(), Fail> {
-    let (arena, mut pass) = one_caller::<WithLink<HNode>>(rt.alloc(), 9)?;
-    assert!(rt; put_each(&rt, &arena, &mut pass, 9, 1, 1));
-    assert!(rt; get_each(&rt, &arena, &mut pass, 9, 1, 1));
+    let (arena, mut pass) = one_caller::<WithLink<HNode>, Link>(rt.alloc(), 9)?;
+    assert!(rt; each::<LinkMove, _, _, _>(&rt, &arena, &mut pass, Run::puts(1, 9, 1)));
+    assert!(rt; each::<LinkMove, _, _, _>(&rt, &arena, &mut pass, Run::gets(1, 9, 1).from(9)));
     Ok(())
 }
 
 #[test]
 fn eight_nodes_are_too_few_for_nine_places_of_one_slice(rt: HostRuntime) -> Result<(), Fail> {
-    let (arena, mut pass) = one_caller::<WithLink<HNode>>(rt.alloc(), 8)?;
-    assert!(rt; put_each(&rt, &arena, &mut pass, 8, 1, 1));
+    let (arena, mut pass) = one_caller::<WithLink<HNode>, Link>(rt.alloc(), 8)?;
+    assert!(rt; each::<LinkMove, _, _, _>(&rt, &arena, &mut pass, Run::puts(1, 8, 1)));
     let full = put(&rt, &arena, &mut pass, &NoGate, 9, 9);
     assert!(rt; full == Err(Full { number: 8 }));
     let first = get(&rt, &arena, &mut pass, &NoGate, 1);

@@ -1,8 +1,0 @@
-use Rattle.std.proofs.Common.{◌≡◌, []}
-use Rattle.ks_flow.specs.Discipline.{BeginsLink, LinkStep}
-use Rattle.ks_arena.specs.Sound.{sort_of}
-use Rattle.ks_arena.specs.Clauses.{IsPass, hand_of}
-use Rattle.ks_link_tests.proofs.tries.try_each.Given as goal
-
-abbrev pub invariant-loop-count : goal.invariant-loop-count
-invariant-loop-count g l = IsPass (sort_of g.N.Node.layout g.N.Node.ranged) BeginsLink LinkStep l.arena.table.shared.table_id l.arena.callers l.pass × (hand_of l.pass ≡ []) × (l.pass.caller ≡ l.fn.pass.caller)
