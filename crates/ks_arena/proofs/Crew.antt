@@ -46,9 +46,6 @@ kinds : (vs : List View) (id : ℕ) (v : View) (j : ℕ) (x : View) → get_elem
 kinds vs id v j x e = ⊎_elim (λ old. ⊎_elim (λ (t : (j ≡ id) × (maker_view v ≡ x)). inl (t.0, sym t.1)) (λ (t : (j ≢ id) × (get_elem? vs j ≡ some x)). inr (inl t)) (at_set vs id j (maker_view v) x old))
     (λ (t : (j ≡ length (set vs id (maker_view v))) × (next_view v ≡ x)). inr (inr (t.0 ∙ length-set vs id (maker_view v), sym t.1))) (at_end (set vs id (maker_view v)) (next_view v) x j e)
 
-not_zero : (n : ℕ) → n + 1 ≢ 0
-not_zero n e = omega arith
-
 below_next : (n : ℕ) (es : List Event) → CallersBelow n es → CallersBelow (n + 1) es
 below_next n [] b = tt
 below_next n (e ∷ es) b = let x = b.0 in (omega arith, below_next n es b.1)

@@ -21,7 +21,7 @@ use Rattle.ks_arena.specs.declared.held.Held.{Held as Hand}
 use Rattle.ks_arena.specs.Sound.{Sort}
 use Rattle.ks_arena.specs.Laws.FromSound.{rested}
 use Rattle.ks_arena.specs.Plays.{TellsFree}
-use Rattle.ks_arena.specs.Laws.Tells.{looked_none, looked_both, kept_none, kept_both, taken_within, claimed_later, claimed_begins}
+use Rattle.ks_arena.specs.Laws.Tells.{looked_both, kept_both, taken_within, claimed_later, claimed_begins}
 use Rattle.ks_arena.specs.Clauses.{Kept, HasLooked, WasTaken, HasClaimed, DidClaimIn, DidClaim}
 
 -- the free words before the one of index w were tried: their nodes were found taken
@@ -29,9 +29,6 @@ pub record Tried (n c w : ℕ) (h k : List Event) : Type 0 where
   pub looked : HasLooked c h k
   pub kept : Kept c h k
   pub taken : (j : ℕ) → j < n → j < 64 * w → WasTaken h k j
-
-pub tried_none : (n c : ℕ) (h : List Event) → Tried n c 0 h h
-tried_none n c h = record { looked = looked_none c h; kept = kept_none c h; taken = λ j near low. absurd (omega arith) }
 
 -- node j is one of the 64 of this word
 in_word : (w j : ℕ) → j < 64 * (w + 1) → 64 * w ≤ j → (j - 64 * w < 64) × (64 * w + (j - 64 * w) ≡ j)

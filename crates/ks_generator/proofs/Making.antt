@@ -43,6 +43,3 @@ caller_more {X} items callers n c x x' scripts scripts' script whole lt pushed i
     ∙ ap (λ (y : ℕ). map items scripts ++ calls_made callers c n x ∷ callers_made callers n (c + 1) m y) after
     ∙ sym (ap (λ (k : ℕ). map items scripts ++ callers_made callers n c k x) (left_one callers c lt))
     ∙ so_far
-
-pub callers_all : (callers n c x : ℕ) (scripts whole : List (List Op)) → callers ≤ c → scripts ++ callers_made callers n c (callers - c) x ≡ whole → scripts ≡ whole
-callers_all callers n c x scripts whole le so_far = sym (append-nil scripts) ∙ sym (ap (λ (k : ℕ). scripts ++ callers_made callers n c k x) (left_none callers c le)) ∙ so_far

@@ -65,9 +65,6 @@ pub record Lists (least : ℕ) (m : Map) (pairs : List (ℕ × ℕ)) : Type 0 wh
   pub listing : IsListing m pairs
   pub above : (z : ℕ × ℕ) → Contains pairs z → least ≤ z.0
 
-pub lists_all : (m : Map) (pairs : List (ℕ × ℕ)) → IsListing m pairs → Lists 0 m pairs
-lists_all m pairs listing = record { listing = listing; above = λ z c. omega arith }
-
 -- the map k is m with nothing at the key
 abbrev pub Without : ℕ → Map → Map → Type 0
 Without key m k = (q : ℕ) → k q ≡ cond (key == q) None (m q)

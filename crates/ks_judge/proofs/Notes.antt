@@ -72,9 +72,6 @@ shown f [] i d lt is = absurd (omega arith)
 shown f (x ∷ xs) zero d lt is = ap f (sym is)
 shown f (x ∷ xs) (suc i) d lt is = shown f xs i d (omega arith) is
 
-pub greatest_first : (lines : Lines) (c : ℕ) → IsGreatest lines c 0 0
-greatest_first lines c = record { above = λ i lt. absurd (omega arith); one_of = inl refl }
-
 pub greatest_more : (lines : Lines) (c j greatest new : ℕ) → new ≡ max greatest (line_at lines c j).0 → IsGreatest lines c j greatest → IsGreatest lines c (j + 1) new
 greatest_more lines c j greatest new is g = record { above = above; one_of = by_side (side greatest (line_at lines c j).0) }
   where

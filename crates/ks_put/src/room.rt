@@ -114,9 +114,9 @@ pub(crate) fn come_to_end<N: Unlinked, G: Gate>(
     held
 }
 
-/// Takes the node at which the search for a place ends, and holds it alone: it has the place, or room for it. `Err`: it is full
-/// and has not the place, and no node was found free. Full nodes are split on the way and at the end. It does not tell the gate
-/// that a call begins.
+/// Takes the node at which the search for a place ends, and holds it alone: it has the place, or room for it. `Err`: it is
+/// full and has not the place, and no node was found free. Full nodes are split on the way and at the end. It does not tell
+/// the gate that a call begins.
 pub fn make_room<N: Unlinked, R: Wait, G: Gate>(
     rt: &R,
     arena: &Arena<N, Tree>,

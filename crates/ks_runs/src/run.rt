@@ -33,6 +33,7 @@ impl Run {
         }
     }
 
+    /// The first calls of an arena are so many adds.
     pub fn adds(first: u64, many: u64, stride: u64) -> Run {
         Run {
             call: Call::Add,
@@ -40,6 +41,7 @@ impl Run {
         }
     }
 
+    /// The first calls of an arena are so many gets.
     pub fn gets(first: u64, many: u64, stride: u64) -> Run {
         Run {
             call: Call::Get,
@@ -47,6 +49,7 @@ impl Run {
         }
     }
 
+    /// The first calls of an arena are so many dels.
     pub fn dels(first: u64, many: u64, stride: u64) -> Run {
         Run {
             call: Call::Del,

@@ -1,11 +1,7 @@
 -- Sinks that take texts piece by piece.
-use Rattle.std.proofs.Common.{ℕ, ◌≡◌, ◌≤◌, List, [], ◌++◌, take, drop, Option, Some, None, Result, Ok, Err, OnOk, OnErr, refl, sym, ap, subst, ◌∙◌, append_assoc, inl, inr, arith}
+use Rattle.std.proofs.Common.{ℕ, ◌≡◌, List, [], ◌++◌, take, drop, Option, Some, None, Result, Ok, Err, OnOk, OnErr, sym, ap, subst, ◌∙◌, append_assoc}
 use Rattle.std.proofs.lemmas.List.{append-nil, take-append-drop}
-use Rattle.ks_script.specs.Outside.{Rose, Writes, Grew, GrewByFront, Passes}
-
--- a count that rises later has risen
-pub rose_on : (a b c : ℕ) → a ≤ b → Rose b c → Rose a c
-rose_on a b c le r = elim r [ inl lt ↦ inl (omega arith) | inr top ↦ inr top ]
+use Rattle.ks_script.specs.Outside.{Writes, Grew, GrewByFront, Passes}
 
 pub grew_none : (o : Option (List ℕ)) → Grew o o []
 grew_none None = tt
@@ -22,16 +18,9 @@ pub grew_written : (E : Type 0) (o n : Option (List ℕ)) (piece : List ℕ) (k 
 grew_written E None n piece k w = tt
 grew_written E (Some bytes) n piece k w = w
 
-pub grew_failed : (E : Type 0) (o n : Option (List ℕ)) (piece : List ℕ) (e : E) → Writes {E = E} o n piece (Err e) → Grew o n []
-grew_failed E None n piece e w = tt
-grew_failed E (Some bytes) n piece e w = w ∙ ap Some (sym (append-nil bytes))
-
 -- at first all waits
 pub passes_none : (o : Option (List ℕ)) (p : List ℕ) → Passes o p [] o p
 passes_none o p = record { sent = []; split = append-nil p; grew = grew_none o }
-
-pub passes_start : (o : Option (List ℕ)) (p text : List ℕ) → Passes o p text o (p ++ text)
-passes_start o p text = record { sent = []; split = refl; grew = grew_none o }
 
 -- and then the first bytes of what waits are taken
 pub passes_sent : (o n m : Option (List ℕ)) (p text q : List ℕ) (k : ℕ) → Passes o p text n q → Grew n m (take k q) → Passes o p text m (drop k q)
@@ -51,9 +40,6 @@ passes_on o n m p a q b r h k = record {
 
 pub passes_all : (o n m : Option (List ℕ)) (p a q : List ℕ) → Passes o p a n q → Grew n m q → Grew o m (p ++ a)
 passes_all o n m p a q h g = subst (λ (x : List ℕ). Grew o m x) (sym h.split) (grew_on o n m h.sent q h.grew g)
-
-pub front_none : (o m : Option (List ℕ)) (text : List ℕ) → Grew o m [] → GrewByFront o m text
-front_none o m text g = record { front = []; rest = text; split = refl; grew = g }
 
 -- where the second text fails
 pub passes_front : (o n m : Option (List ℕ)) (p a q b : List ℕ) → Passes o p a n q → GrewByFront n m (q ++ b) → GrewByFront o m (p ++ (a ++ b))

@@ -165,8 +165,8 @@ fn fours(bytes: &[u8]) -> (u64, usize)
     (number, count)
 }
 
-/// A number below 2^64 whose digits the bytes begin with, and the bytes after them. It is found where a byte that is no
-/// digit follows, if not for its first 19 digits it may be too great.
+/// The number that the bytes begin with, as it is spelled, and the bytes after it. `None`: none stands there, no byte follows
+/// it, or it could be 2^64 or more.
 pub fn leading(bytes: &[u8]) -> Option<(u64, &[u8])>
     ensures some { IfSome result (λ x. bytes.now ≡ decimal x.0 ++ x.1.now) }
 {

@@ -9,7 +9,7 @@ use Rattle.ks_history.specs.declared.Op.{Op}
 use Rattle.ks_history.specs.declared.Reply.TheVariants.{Full as full_reply}
 use Rattle.ks_history.specs.Map.{told}
 use Rattle.ks_history.specs.Done.{Template, Done, Left}
-use Rattle.ks_history.specs.Due.{BusyDue, MovedDue, FarDue}
+use Rattle.ks_history.specs.Due.{BusyDue, MovedDue}
 use Rattle.ks_arena.specs.declared.arena.Arena.{Arena}
 use Rattle.ks_arena.specs.declared.held.Pass.{Pass}
 use Rattle.ks_arena.specs.Clauses.{seen_of}
@@ -32,14 +32,6 @@ abbrev pub EndsPut : Layout → Template → ℕ → ℕ → Op → List Event �
 EndsPut layout template n c op s0 s1 (Ok answer) = Done layout template n c op s0 s1 (told answer.found) answer.number
 EndsPut layout template n c op s0 s1 (Err (Full number)) = Done layout template n c op s0 s1 full_reply number
 EndsPut layout template n c op s0 s1 (Err (Otherwise later)) = Left template c op s0 s1 × IsCauseButFar template c op s0 s1 later
-
--- if the answer is Far, c has taken as many nodes as there are, and another caller has changed some
-abbrev pub IsFarDue : ℕ → ℕ → List Event → List Event → Result Numbered PutLater → Type 0
-IsFarDue n c s0 s1 (Ok answer) = Unit {0}
-IsFarDue n c s0 s1 (Err (Full number)) = Unit {0}
-IsFarDue n c s0 s1 (Err (Otherwise (Busy node holder))) = Unit {0}
-IsFarDue n c s0 s1 (Err (Otherwise (Moved node))) = Unit {0}
-IsFarDue n c s0 s1 (Err (Otherwise Far)) = FarDue n c s0 s1
 
 module _ {N D : Type 0} where
   -- what it tells of an arena, between p and q

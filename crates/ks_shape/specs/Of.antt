@@ -12,7 +12,7 @@ use Rattle.ks_history.specs.declared.Reply.{Reply}
 use Rattle.ks_history.specs.declared.Reply.TheVariants.{Full}
 use Rattle.ks_history.specs.Map.{Touches}
 use Rattle.ks_history.specs.Trace.{graph_after, frame_after}
-use Rattle.ks_history.specs.Done.{Template, Done, DoneAt, Left}
+use Rattle.ks_history.specs.Done.{Template, Done, DoneAt}
 use Rattle.ks_history.specs.Due.{NoneFree}
 use Rattle.ks_history.specs.Stretch.{Stretch}
 use Rattle.ks_history.specs.Underway.{Underway}
@@ -68,10 +68,6 @@ module _ {N D : Type 0} where
   -- if the caller acts alone from p to q, it makes no node live
   abbrev pub MakesNoneLive : Pass N D → Pass N D → Type 0
   MakesNoneLive p q = MakesNone p.caller (seen_of p) (seen_of q)
-
-  -- the call between p and q made no event that is a call, and gave all back
-  abbrev pub IsLeft : Template → Op → Pass N D → Pass N D → Type 0
-  IsLeft template op p q = Left template p.caller op (seen_of p) (seen_of q)
 
   -- others, and the caller's events meanwhile, leave what this says of nodes that they do not name
   abbrev pub KeepsAside : (ℕ → (ℕ → NodeState) → (ℕ → NodeState) → Type 0) → Pass N D → Pass N D → Type 0

@@ -88,10 +88,6 @@ rested (Call c j op reply ∷ h) are i = dite (ℕ_discrete i j) (λ s. rested_h
 
 -- events that are no Shape
 
--- each node has the record that it had
-pub SameRecords : (g k : ℕ → NodeState) → Type 0
-SameRecords g k = (n : ℕ) → record_at k n ≡ record_at g n
-
 same_edges : (g k : ℕ → NodeState) → ((n : ℕ) → record_at k n ≡ record_at g n) → SameEdges g k
 same_edges g k same = record { forth = λ n r is. (r, same n ∙ is, refl); back = λ n s is. (s, sym (same n) ∙ is, refl) }
 

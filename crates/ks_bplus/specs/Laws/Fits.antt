@@ -17,7 +17,7 @@ use Rattle.ks_node.specs.Asks.{Absorbs, Suits, IsGoodCut, AdoptsInside, Branches
 use Rattle.ks_node.specs.Sound.{Sound}
 use Rattle.ks_node.specs.Laws.Cuts.{length-below, length-from}
 use Rattle.ks_node.specs.Laws.Starts.{differ, filter_le}
-use Rattle.ks_node.specs.Laws.Keep.{sound_blank, sound_put, sound_del, sound_adopt, sound_left, sound_right, sound_grown, sound_absorb, sound_forget}
+use Rattle.ks_node.specs.Laws.Keep.{sound_blank, sound_put, sound_del, sound_adopt, sound_left, sound_right, sound_absorb, sound_forget}
 use Rattle.ks_node.specs.Spans.{plain_edges, AreWithin}
 use Rattle.ks_node.specs.Laws.Spans.{begins_start, within_all, edges_are, length_edges}
 use Rattle.ks_bplus.specs.declared.parts.Parts.{Parts}
@@ -49,10 +49,6 @@ and_second false b h = absurd (differ refl h)
 not_true : (a : Bool) → not a ≡ true → a ≡ false
 not_true true h = absurd (differ refl h)
 not_true false h = refl
-
-leaf_or_branch : (b : Bool) → b ≡ false → IsTrue (is_branch_kind (kind_of b)) → ⊥
-leaf_or_branch true e h = differ e refl
-leaf_or_branch false e h = differ refl h
 
 kinds_differ : NoBranch ≡ Inner → ⊥
 kinds_differ e = cc
@@ -122,14 +118,6 @@ fit_right {low} {b = false} {ps} {ss} f cut h at_start = record {
   leaf = λ e. first_length 0 (starts_from cut ss) ∙ none_kept _ ss (f.leaf e);
   pairs_fit = omega (arith, filter_le (λ x. nat_le cut x.place) ps, f.pairs_fit);
   starts_fit = omega (arith, first_length 0 (starts_from cut ss), filter_le (λ x. nat_le cut x.low) ss, f.starts_fit);
-}
-
-pub fit_grown : (low cut left right : ℕ) → 0 < cut → cut ≤ top → Fit low true [] (record { low = 0; node = left } ∷ record { low = cut; node = right } ∷ [])
-fit_grown low cut left right h l = record {
-  sound = sound_grown Inner low cut left right refl h l;
-  leaf = λ e. absurd (differ e refl);
-  pairs_fit = omega arith;
-  starts_fit = omega arith;
 }
 
 pub fit_absorb : {low right_low : ℕ} {b c : Bool} {ps qs : List Pair} {ss ts : List Start} → Fit low b ps ss → Fit right_low c qs ts →

@@ -13,7 +13,7 @@ use Rattle.ks_keysets.specs.Record.{top}
 use Rattle.ks_node.specs.declared.start.Start.{Start}
 use Rattle.ks_node.specs.Keyed.{Ascends}
 use Rattle.ks_node.specs.Laws.Ascend.{asc_nil, asc_filter}
-use Rattle.ks_node.specs.Body.{IsBlank, pairs_below, pairs_from, begins, is_branch_kind, is_branch}
+use Rattle.ks_node.specs.Body.{pairs_below, pairs_from, begins, is_branch_kind, is_branch}
 use Rattle.ks_node.specs.Room.{is_full, IsHeld}
 use Rattle.ks_node.specs.Effect.{pairs_put, pairs_del}
 use Rattle.ks_node.specs.Edges.{edges_of}
@@ -74,14 +74,6 @@ sound_slices low ps own ss up none size =
 pub full_bucket : {low : ℕ} {b : Bool} {ps : List Pair} {own : Option Start} {ss : List ℕ} → Fit low b ps own ss → IsTrue (is_full hash_layout (hash_body low b ps own ss)) → b ≡ false
 full_bucket {b = true} f h = absurd (differ refl h)
 full_bucket {b = false} f h = refl
-
--- a blank body is a bucket
-pub blank_bucket : {low : ℕ} {b : Bool} {ps : List Pair} {own : Option Start} {ss : List ℕ} → Fit low b ps own ss → IsBlank (hash_body low b ps own ss) → b ≡ false
-blank_bucket {b = b} f h = not_directory b (ap (λ x. x.kind) h)
-  where
-    not_directory : (b : Bool) → kind_of b ≡ NoBranch → b ≡ false
-    not_directory true e = cc
-    not_directory false e = refl
 
 -- a branch is a directory
 pub is_directory : (b : Bool) → IsTrue (is_branch_kind (kind_of b)) → b ≡ true

@@ -782,11 +782,6 @@ run_past cs p size h =
     ap first_node (runs_past cs p size h)
     ∙ other_first (get_or cs (p / width_of cs) 0) (width_of cs) (suc (p / width_of cs) * width_of cs) (drop (suc (p / width_of cs)) cs)
 
--- the slice of a place by a product
-pub slice_product : (n : ℕ) → IsTrue (is_size n) → (p : ℕ) → p < 2 ^ 64 → p * n / 2 ^ 64 ≡ p / (2 ^ 64 / n)
-slice_product n h = by_size (λ n. (p : ℕ) → p < 2 ^ 64 → p * n / 2 ^ 64 ≡ p / (2 ^ 64 / n))
-    (λ p h. omega arith) (λ p h. omega arith) (λ p h. omega arith) (λ p h. omega arith) (λ p h. omega arith) (λ p h. omega arith) n h
-
 -- the slices of whole runs fit
 pub slices_fit : (n : ℕ) → IsTrue (is_size n) → (k : ℕ) → k < n → k * (2 ^ 64 / n) + 2 ^ 64 / n ≤ 2 ^ 64
 slices_fit n h = by_size (λ n. (k : ℕ) → k < n → k * (2 ^ 64 / n) + 2 ^ 64 / n ≤ 2 ^ 64)

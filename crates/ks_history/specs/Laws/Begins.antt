@@ -88,9 +88,6 @@ lawful_older (e ∷ es) h lawful = lawful_older es h lawful.0
 pub in_turn_begins : (g h : List Event) → g ⊑ h → AreInTurn h → AreInTurn g
 in_turn_begins g h begins are = in_turn_older begins.rest g (subst AreInTurn begins.is are)
 
-pub lawful_begins : (g h : List Event) → g ⊑ h → Lawful h → Lawful g
-lawful_begins g h begins lawful = lawful_older begins.rest g (subst Lawful begins.is lawful)
-
 pub good_now : {h : List Event} → GoodThroughout h → Good (graph_after h)
 good_now (at_opening good) = good
 good_now (and_then before good) = good
@@ -101,9 +98,6 @@ good_earlier (and_then before good) = before
 good_older : (rest h : List Event) → GoodThroughout (rest ++ h) → GoodThroughout h
 good_older [] h good = good
 good_older (e ∷ es) h good = good_older es h (good_earlier good)
-
-pub good_begins : (g h : List Event) → g ⊑ h → GoodThroughout h → GoodThroughout g
-good_begins g h begins good = good_older begins.rest g (subst GoodThroughout begins.is good)
 
 -- what a caller sees of the trace adds up
 
@@ -124,10 +118,6 @@ by_others_with c e g h k a b = record {
   is = b.is ∙ ap (λ (z : List Event). e ∷ z) (ap (λ (z : List Event). b.rest ++ z) a.is ∙ sym (append_assoc b.rest a.rest g));
   others = none_by_both c b.rest a.rest b.others a.others;
 }
-
--- the trace just before the one event
-abbrev pub before_it : {c : ℕ} {e : Event} {g h : List Event} → GrowsWith c e g h → List Event
-before_it {g = g} so = so.rest ++ g
 
 abbrev pub with_others : (c : ℕ) (e : Event) (g h : List Event) (so : GrowsWith c e g h) → GrowsByOthers c g (so.rest ++ g)
 with_others c e g h so = record { rest = so.rest; is = refl; others = so.others }

@@ -7,10 +7,8 @@ use native.Mathlib.Decide.{ℕ_discrete}
 use Rattle.ks_keysets.specs.declared.NodeState.{NodeState}
 use Rattle.ks_keysets.specs.declared.NodeState.TheVariants.{Claimed}
 use Rattle.ks_keysets.specs.declared.Change.{Change}
-use Rattle.ks_keysets.specs.declared.Edge.{Edge}
-use Rattle.ks_keysets.specs.declared.Record.{Record}
-use Rattle.ks_keysets.specs.Record.{IsPlace, LeadsTo}
-use Rattle.ks_keysets.specs.Keyset.{live_record, record_at, IsLive, at_root, along, InInset, InKeyset, Good}
+use Rattle.ks_keysets.specs.Record.{IsPlace}
+use Rattle.ks_keysets.specs.Keyset.{live_record, record_at, at_root, along, InInset, InKeyset, Good}
 use Rattle.ks_keysets.specs.Laws.Found.{KeepsEdges, reaches_along, keyset_along}
 use Rattle.ks_history.specs.declared.Op.{Op}
 use Rattle.ks_history.specs.declared.Event.{Event}
@@ -140,11 +138,6 @@ shaped_or_spared c i (e ∷ es) spare = elim (for_or_not c i e spare.0) [
 -- and has it in its inset
 pub root_on_way : (g : ℕ → NodeState) (p : ℕ) → Good g → IsPlace p → IsOnWay g p 0 × InInset g 0 p
 root_on_way g p good place = (inl refl, (place, at_root good.root))
-
-pub target_on_way : (g : ℕ → NodeState) (p i j : ℕ) (r : Record) → Good g → InInset g i p → record_at g i ≡ Some r → LeadsTo r p j → IsOnWay g p j × InInset g j p
-target_on_way g p i j r good inset is leads =
-    let live : IsLive g j = subst (IsLive g) (ap (λ (e : Edge). e.node) leads.3 ∙ leads.4.1) (good.leads i r is leads.0 leads.1 leads.2) in
-    (inr (i, r, is, leads), (inset.0, along r inset.1 is leads live))
 
 -- the first of some events after a trace, if there is one
 first_after : (rest before : List Event) → (rest ≡ []) ⊎ ((next : Event) × next ∷ before ⊑ rest ++ before)

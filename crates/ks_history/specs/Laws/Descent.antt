@@ -19,7 +19,7 @@ use Rattle.ks_history.specs.declared.Event.{Event}
 use Rattle.ks_history.specs.declared.Event.TheVariants.{Take, Give, Claim, Shape, Call}
 use Rattle.ks_history.specs.Trace.{◌⊑◌, caller_of, held, graph_after, turn_after}
 use Rattle.ks_history.specs.Passes.{NoneBy, GrowsByOthers, GrowsWith}
-use Rattle.ks_history.specs.Due.{IsOnWay, ShapesFor, ShapesBesides, takes_by, BusyDue, MovedDue, FarDue}
+use Rattle.ks_history.specs.Due.{IsOnWay, ShapesBesides, takes_by, BusyDue, FarDue}
 use Rattle.ks_history.specs.Stays.{StaysHeld}
 use Rattle.ks_history.specs.Laws.Stays.{AreInTurn, cond_here, cond_else, shaped_else}
 use Rattle.ks_history.specs.Laws.Begins.{begins_self, begins_both, by_others_keeps, by_others_turn}
@@ -232,15 +232,6 @@ took_while c s0 g h taken roots grows none so =
       root = subst (λ (xs : List ℕ). count_by (λ i. i == 0) xs ≤ roots) (sym same) so.root;
     }
 
--- nor in events of others
-pub took_others : (c : ℕ) (s0 g h : List Event) (taken roots : ℕ) → GrowsByOthers c g h → TookSince c s0 g taken roots → TookSince c s0 h taken roots
-took_others c s0 g h taken roots so took =
-    let same : takes_by c (so.rest ++ took.grows.rest) ≡ takes_by c took.grows.rest = takes_none c so.rest took.grows.rest so.others in record {
-      grows = begins_both s0 g h took.grows (record { rest = so.rest; is = so.is });
-      many = subst (λ (xs : List ℕ). taken ≤ length xs) (sym same) took.many;
-      root = subst (λ (xs : List ℕ). count_by (λ i. i == 0) xs ≤ roots) (sym same) took.root;
-    }
-
 -- a Take of c counts, and one of the root as such
 takes_more : (c i : ℕ) (es fs : List Event) → NoneBy c es → takes_by c (Take c i ∷ (es ++ fs)) ≡ i ∷ takes_by c fs
 takes_more c i es fs none = cond_here c c (i ∷ takes_by c (es ++ fs)) (takes_by c (es ++ fs)) refl ∙ ap (λ (xs : List ℕ). i ∷ xs) (takes_none c es fs none)
@@ -272,10 +263,6 @@ took_node c i s0 g h taken roots apart so took =
       root = subst (λ (xs : List ℕ). count_by (λ i. i == 0) xs ≤ roots) (sym more) (let e = count_else i (takes_by c took.grows.rest) apart in omega (arith, root, e));
     }
 
--- it need not be counted
-pub took_fewer : (c : ℕ) (s0 h : List Event) (fewer taken roots : ℕ) → fewer ≤ taken → TookSince c s0 h taken roots → TookSince c s0 h fewer roots
-took_fewer c s0 h fewer taken roots less took = record { grows = took.grows; many = (let many = took.many in omega (arith, many, less)); root = took.root }
-
 -- Far is due where c took as many nodes as there are, each one step deeper than the one before, and would go down to one
 -- more
 pub far_due : (n c : ℕ) (gone : List ℕ) (s0 h : List Event) (taken roots steps i j : ℕ) (r : Record) → TookSince c s0 h taken roots → roots ≤ 2 → n ≤ taken → IsDeep n c gone s0 h steps i → taken ≤ suc steps → OneParent (graph_after h) → ((m : ℕ) → IsLive (graph_after h) m → m < n)
@@ -304,23 +291,6 @@ far_later n c s0 h k grows none due =
       root = subst (λ (xs : List ℕ). count_by (λ i. i == 0) xs ≤ 2) (sym same) due.root;
       shaped = any_older (ShapesBesides c) grows.rest due.grows.rest due.shaped;
     }
-
--- Moved
-pub moved_later : (c i : ℕ) (op : Op) (s0 h k : List Event) → h ⊑ k → MovedDue c op s0 h i → MovedDue c op s0 k i
-moved_later c i op s0 h k begins due = record {
-  place = due.place;
-  touched = due.touched;
-  before = due.before;
-  next = due.next;
-  after = due.after;
-  since = due.since;
-  later = due.later;
-  until = begins_both due.after h k due.until begins;
-  on_way = due.on_way;
-  gone = due.gone;
-  grows = begins_both s0 h k due.grows begins;
-  shaped = any_older (ShapesFor c i) begins.rest due.grows.rest due.shaped;
-}
 
 -- Busy
 pub busy_later : (c node holder : ℕ) (op : Op) (s0 h k : List Event) → h ⊑ k → BusyDue c op s0 h node holder → BusyDue c op s0 k node holder

@@ -27,11 +27,6 @@ given_kept Free = refl
 given_kept (Claimed c) = refl
 given_kept (Live r) = refl
 
-pub state_unwritten : (w : Write) (s : NodeState) → live_record s ≡ None → live_record (state_with w s) ≡ None
-state_unwritten w Free none = refl
-state_unwritten w (Claimed c) none = refl
-state_unwritten w (Live r) none = absurd (cc)
-
 pub state_written : (w : Write) (s : NodeState) (r : Record) → live_record s ≡ Some r → live_record (state_with w s) ≡ Some (record_with w r)
 state_written w Free r is = absurd (cc)
 state_written w (Claimed c) r is = absurd (cc)

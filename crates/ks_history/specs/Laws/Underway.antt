@@ -7,7 +7,7 @@ use Rattle.ks_history.specs.declared.Reply.{Reply}
 use Rattle.ks_history.specs.declared.Reply.TheVariants.{Full}
 use Rattle.ks_history.specs.declared.Event.{Event}
 use Rattle.ks_history.specs.declared.Event.TheVariants.{Take, Give, Claim, Shape, Call}
-use Rattle.ks_history.specs.Trace.{◌⊑◌, caller_of, called, call_in, number_after, hand}
+use Rattle.ks_history.specs.Trace.{caller_of, called, call_in, number_after, hand}
 use Rattle.ks_history.specs.Passes.{NoneBy, NoCallBy, GrowsByOthers, GrowsWith}
 use Rattle.ks_history.specs.Due.{FullDue}
 use Rattle.ks_history.specs.Done.{Template, HoldsAbove, MayTake, first_taken, from_above, TakesWell, most_held, Hands, at_first, and_on, Done, Left}
@@ -125,21 +125,6 @@ abbrev pub underway_call : (layout : Layout) (template : Template) (n c i : ℕ)
     → (reply ≡ Full → FullDue layout n s0 (so.rest ++ g) (Call c i op reply)) → Underway template c op s0 g → Decided layout template n c op s0 h reply number
 underway_call layout template n c i op reply number s0 g h so few numbered full under = underway_calls layout template n c op reply number (Call c i op reply) s0 g h refl so tt few numbered full under
 
--- steps after it
-abbrev pub decided_others : (layout : Layout) (template : Template) (n c : ℕ) (op : Op) (reply : Reply) (number : ℕ) (s0 g h : List Event) → GrowsByOthers c g h → Decided layout template n c op s0 g reply number → Decided layout template n c op s0 h reply number
-decided_others layout template n c op reply number s0 g h so was = record {
-  before = was.before;
-  event = was.event;
-  after = so.rest ++ was.after;
-  is = so.is ∙ ap (λ (z : List Event). so.rest ++ z) was.is ∙ sym (append_assoc so.rest was.after (was.event ∷ (was.before ++ s0)));
-  call = was.call;
-  none_before = was.none_before;
-  none_after = no_call_both c so.rest was.after (none_no_call c so.rest so.others) was.none_after;
-  numbered = was.numbered;
-  hands = hands_others template c op s0 g h so was.hands;
-  full = was.full;
-}
-
 abbrev pub decided_with : (layout : Layout) (template : Template) (n c : ℕ) (op : Op) (reply : Reply) (number : ℕ) (e : Event) (s0 g h : List Event) → IsNoCall e → (so : GrowsWith c e g h) → TakesWell template c op (so.rest ++ g) e → length (hand c h) ≤ most_held template op → Decided layout template n c op s0 g reply number → Decided layout template n c op s0 h reply number
 decided_with layout template n c op reply number e s0 g h quiet so well few was = record {
   before = was.before;
@@ -185,7 +170,3 @@ done_on layout template n c op s0 h k reply number was b empty = record {
   hands = hands_both was.hands b.hands;
   full = was.full;
 }
-
--- it stands after its start
-pub done_begins : (layout : Layout) (template : Template) (n c : ℕ) (op : Op) (s0 s1 : List Event) (reply : Reply) (number : ℕ) → Done layout template n c op s0 s1 reply number → s0 ⊑ s1
-done_begins layout template n c op s0 s1 reply number so = record { rest = so.after ++ so.event ∷ so.before; is = so.is ∙ sym (append_assoc so.after (so.event ∷ so.before) s0) }

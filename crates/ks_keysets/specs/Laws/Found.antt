@@ -4,7 +4,7 @@ use Rattle.std.specs.Prelude.{Any}
 use Rattle.ks_keysets.specs.declared.Edge.{Edge}
 use Rattle.ks_keysets.specs.declared.NodeState.{NodeState}
 use Rattle.ks_keysets.specs.declared.Record.{Record}
-use Rattle.ks_keysets.specs.Record.{IsPlace, Carries}
+use Rattle.ks_keysets.specs.Record.{Carries}
 use Rattle.ks_keysets.specs.Keyset.{record_at, IsLive, Reaches, at_root, along, InOutset, InKeyset, value_at, IsFound, here, nowhere, Good}
 
 -- a live node of g is live in k, with the same edges
@@ -65,11 +65,3 @@ found_here g n p good h = here n h (λ m lt other. absurd (below m lt (good.one 
 pub reached_live : {g : ℕ → NodeState} {p n : ℕ} → Reaches g p n → IsLive g n
 reached_live (at_root l) = l
 reached_live (along r w is leads live) = live
-
--- from a good graph it is enough that what is found stays
-pub found_back : (g k : ℕ → NodeState) → Good g → ((p : ℕ) (v : Option ℕ) → IsPlace p → IsFound g p v → IsFound k p v) → (p : ℕ) (v : Option ℕ) → IsPlace p → IsFound k p v → IsFound g p v
-found_back g k good stays p v place found =
-    let some = good.some p place in
-    let w : Option ℕ = value_at g some.0 p in
-    let old : IsFound g p w = found_here g some.0 p good some.1 in
-    subst (λ (o : Option ℕ). IsFound g p o) (found_one k p w v (stays p w place old) found) old

@@ -1,5 +1,5 @@
 -- A body with a range, a level and a link, in place of a body that has neither level nor link.
-use Rattle.std.specs.Prelude.{◌≡◌, ℕ, suc, ◌+◌, ◌<◌, Bool, true, false, ◌&&◌, nat_eq, IsTrue, [], ◌++◌, length, Option, Some, None, get_or, refl}
+use Rattle.std.specs.Prelude.{◌≡◌, ℕ, suc, ◌+◌, ◌<◌, Bool, true, ◌&&◌, nat_eq, [], ◌++◌, length, Option, Some, None, get_or, refl}
 use Rattle.std.specs.Option.{ForSome}
 use Rattle.std.proofs.Common.{arith, ap, ◌∙◌, sym, subst, add-one}
 use Rattle.std.proofs.lemmas.List.{append-nil, length-append, get_or_append_left}
@@ -18,9 +18,6 @@ use Rattle.ks_node.specs.Laws.Spans.{same_count, edge_cut}
 use Rattle.ks_node.specs.Wrapped.{adopts_ranged}
 use Rattle.ks_node.specs.Laws.Wrapped.{branches_inside, suits_inside, good_outside}
 use Rattle.ks_linked.specs.Link.{linked, adopts_linked}
-
-pub no_leaf_adopts : (can : Content → ℕ → Bool) (c : Content) (cut : ℕ) → is_branch_kind c.kind ≡ false → IsTrue (adopts_linked can c cut) → ⊥
-no_leaf_adopts can c cut leaf h = let none : adopts_linked can c cut ≡ false = rw leaf refl in cc
 
 both : (a x : Bool) → a ≡ true → x ≡ true → (a && x) ≡ true
 both a x e h = rw (e, h) refl

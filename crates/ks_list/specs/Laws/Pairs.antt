@@ -4,7 +4,7 @@ use Rattle.std.specs.Option.{option_map}
 use Rattle.std.specs.List.{insert, remove}
 use Rattle.std.proofs.Common.{ap, ◌∙◌, sym, subst, inl, inr}
 use Rattle.std.proofs.lemmas.Bool.Decides.{eqb_tells}
-use Rattle.std.proofs.lemmas.List.{take-append-drop, take-map, drop-map, map-append, get_or-map, length-map, set_split}
+use Rattle.std.proofs.lemmas.List.{take-map, drop-map, map-append, get_or-map, length-map, set_split}
 use Rattle.ks_keysets.specs.declared.Pair.{Pair}
 use Rattle.ks_node.specs.Keyed.{IsFound, IsMissing, at}
 use Rattle.ks_node.specs.Body.{value_at}
@@ -44,6 +44,3 @@ module _ (p v : ℕ) (xs : List (ℕ × ℕ)) (i : ℕ) where
 
   pub del_found : IsFound (λ x. x.place) p (pairs_of xs) i → pairs_of (remove xs i) ≡ pairs_del p (pairs_of xs)
   del_found f = map-append pair_of (take i xs) (drop (suc i) xs) ∙ rw (f.lower, f.higher, take-map pair_of i xs, drop-map pair_of (suc i) xs) refl
-
-  pub del_missing : IsMissing (λ x. x.place) p (pairs_of xs) i → pairs_of xs ≡ pairs_del p (pairs_of xs)
-  del_missing f = rw (f.lower, f.higher) (sym (take-append-drop i (pairs_of xs)))

@@ -3,7 +3,6 @@ use Rattle.std.specs.Prelude.{◌≡◌, ℕ, suc, ◌<◌, ◌≤◌, Bool, tru
 use Rattle.std.proofs.Common.{arith, subst}
 use Rattle.std.proofs.lemmas.List.{append-nil, length-append}
 use Rattle.std.proofs.lemmas.List.Elements.{All-filter, All-weaker, All-cons, All-append, All-nil, All-drop}
-use Rattle.ks_keysets.specs.declared.Kind.{Kind}
 use Rattle.ks_keysets.specs.declared.Kind.TheVariants.{NoBranch}
 use Rattle.ks_keysets.specs.declared.Pair.{Pair}
 use Rattle.ks_keysets.specs.Record.{top}
@@ -123,22 +122,6 @@ sound_right c cut h at_start s =
       own_alone = λ e. rw e (omega (arith, filter_le (λ s. nat_le cut s.low) c.starts, s.own_alone e));
       own_low = λ e. rw e high;
       own_pairs = λ e. rw e (All-filter _ (λ s. All (λ x. x.place < s.low) (pairs_from cut c.pairs)) c.starts (λ k d l. All-filter _ (λ x. x.place < (get_or c.starts k d).low) c.pairs (s.own_pairs e k d l)));
-    }
-
-pub sound_grown : (kind : Kind) (low cut left right : ℕ) → IsTrue (is_branch_kind kind) → 0 < cut → cut ≤ top →
-    Sound (record { starts = settled kind (record { low = 0; node = left } ∷ record { low = cut; node = right } ∷ []); pairs = []; low = low; kind = kind })
-sound_grown kind low cut left right b h l =
-    let one : Start = record { low = 0; node = left } in
-    let two : Start = record { low = cut; node = right } in
-    record {
-      starts_ascend = asc_settled kind (one ∷ two ∷ []) (asc_cons (λ s. s.low) one (two ∷ []) (All-cons (λ s. 0 < s.low) two [] h (All-nil (λ s. 0 < s.low))) (asc_cons (λ s. s.low) two [] (All-nil (λ s. cut < s.low)) (asc_nil (λ s. s.low))));
-      starts_are_places = all_settled (λ s. s.low ≤ top) kind (one ∷ two ∷ []) (All-cons (λ s. s.low ≤ top) one (two ∷ []) (omega arith) (All-cons (λ s. s.low ≤ top) two [] l (All-nil (λ s. s.low ≤ top))));
-      pairs_ascend = asc_nil (λ x. x.place);
-      branch_no_pairs = λ e. refl;
-      branch_covers = λ e. zero_settled kind (one ∷ two ∷ []) refl;
-      own_alone = λ e. absurd (differ e b);
-      own_low = λ e. absurd (differ e b);
-      own_pairs = λ e. absurd (differ e b);
     }
 
 pub sound_absorb : (b r : Content) → b.kind ≡ r.kind → Sound b → Sound r → b.low ≤ r.low →

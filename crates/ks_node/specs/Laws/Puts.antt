@@ -79,6 +79,3 @@ module _ (p v : ℕ) (x : Pair) (xs : List Pair) where
       let b : nat_lt x.place p ≡ true = lt-ltb _ _ h in
       let c : nat_le (suc p) x.place ≡ false = lt-leb _ _ (omega arith) in
       rw (b, c) refl
-
-pub put_none : (p v : ℕ) → pairs_put p v [] ≡ record { place = p; value = v } ∷ []
-put_none p v = refl

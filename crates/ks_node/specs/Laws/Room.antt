@@ -1,13 +1,10 @@
--- How much a body holds, and how much it may hold. A kind with no capacity is never full and never low.
-use Rattle.std.specs.Prelude.{◌≡◌, IsTrue, refl, ℕ, ◌+◌, ◌<◌, ◌≤◌, Bool, false, true, ◌&&◌, nat_eq, Some}
-use Rattle.std.proofs.Common.{arith, subst, sym, ◌∙◌, inl, inr}
-use Rattle.std.proofs.lemmas.Bool.{leb-true}
-use Rattle.std.proofs.lemmas.Bool.Decides.{eqb_tells}
+-- Bodies that fit into one.
+use Rattle.std.specs.Prelude.{◌≡◌, IsTrue, refl, Bool, false, true, ◌&&◌}
 use Rattle.ks_keysets.specs.declared.Kind.{Kind}
 use Rattle.ks_keysets.specs.declared.Kind.TheVariants.{NoBranch, Inner, Directory}
-use Rattle.ks_keysets.specs.Layout.{Layout, capacity}
+use Rattle.ks_keysets.specs.Layout.{Layout}
 use Rattle.ks_node.specs.Body.{Body}
-use Rattle.ks_node.specs.Room.{load, is_full_at, is_room_for, is_full, IsHeld, fit_kinds, fit_together}
+use Rattle.ks_node.specs.Room.{fit_kinds, fit_together}
 
 no : false ≡ true → ⊥
 no e = cc
@@ -28,20 +25,3 @@ same_kinds layout b right t = fitted b.kind right.kind (first _ _ t)
     fitted Inner Inner e = refl
     fitted Inner Directory e = absurd (no e)
     fitted Directory k e = absurd (no e)
-
--- a body that is full is at the bound of its kind, and one that is held and not full is below it
-pub below_bound : (layout : Layout) (b : Body) (c : ℕ) → capacity layout b.kind ≡ Some c → IsHeld layout b → is_full layout b ≡ false → load b < c
-below_bound layout b c e h f =
-    let held : load b ≤ c = h c e in
-    let other : nat_eq (load b) c ≡ false = subst (λ o. is_full_at o (load b) ≡ false) e f in
-    elim (eqb_tells (load b) c) [ inl q ↦ absurd (no (sym other ∙ q.0)) | inr q ↦ omega (arith, q.1) ]
-
--- two bodies that fit hold together no more than the bound
-pub joint_load : (layout : Layout) (b right : Body) (c : ℕ) → capacity layout b.kind ≡ Some c → IsTrue (fit_together layout b right) → load b + load right ≤ c
-joint_load layout b right c e t =
-    let room : is_room_for (capacity layout b.kind) (load b + load right) ≡ true = second _ _ t in
-    leb-true _ _ (subst (λ o. is_room_for o (load b + load right) ≡ true) e room)
-  where
-    second : (x y : Bool) → (x && y) ≡ true → y ≡ true
-    second true y h = h
-    second false y h = absurd (no h)

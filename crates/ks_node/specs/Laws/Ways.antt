@@ -172,9 +172,6 @@ go_some : (o : Option ℕ) (m : ℕ) → go_to o ≡ Go m → o ≡ Some m
 go_some None m e = cc
 go_some (Some n) m e = cc
 
-go_none : (o : Option ℕ) (m : ℕ) → go_to o ≡ Here → o ≡ Some m → ⊥
-go_none o m e is = let other : go_to (Some m) ≡ Here = subst (λ q. go_to q ≡ Here) is e in cc
-
 -- the target of the search: by the starts in the range, by the link above it
 abbrev target : Body → ℕ → Option ℕ
 target b p = cond (holds b.range p) (led_to b.starts p) (cond (nat_lt (last_of b.range) p) b.link None)

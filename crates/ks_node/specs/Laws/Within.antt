@@ -8,7 +8,7 @@ use Rattle.ks_keysets.specs.Record.{top}
 use Rattle.ks_node.specs.declared.start.Start.{Start}
 use Rattle.ks_node.specs.Keyed.{Ascends}
 use Rattle.ks_node.specs.Laws.Ascend.{asc_filter, all_below, all_from}
-use Rattle.ks_node.specs.Body.{Body, is_branch, starts_below, starts_from, all_places, blank_body}
+use Rattle.ks_node.specs.Body.{Body, is_branch, starts_below, starts_from}
 use Rattle.ks_node.specs.Effect.{first_from, without, split_left, split_right, grown, adopted, absorbed, forgot, reached, with_range}
 use Rattle.ks_node.specs.Sound.{Framed, starts_at_zero}
 use Rattle.ks_node.specs.Laws.Starts.{differ, tail_filter, tail_append, tail_first, all_first, all_without, tail_without, all_settled, tail_settled, tail_insert, all_insert, tail_above}
@@ -117,9 +117,6 @@ module _ {r : Span} {b : Body} (f : Framed r b) where
             (all_first (λ s. r.low < s.low) c.low c.starts (λ s k. omega arith) high))
             (λ e. high);
       }
-
-pub framed_blank : (ranged : Bool) → Framed all_places (blank_body ranged)
-framed_blank ranged = record { low_is = refl; ordered = omega arith; ends = omega arith; upto = All-nil (λ s. s.low ≤ top); above = All-nil (λ s. 0 < s.low) }
 
 -- the body with the range is in step with it where the body inside is
 pub framed_with : {q r : Span} {b : Body} → Framed q b → Some q ≡ Some r → Framed r (with_range q b)

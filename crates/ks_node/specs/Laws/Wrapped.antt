@@ -1,5 +1,5 @@
 -- A body with a range in place of the one of the body inside, or of none.
-use Rattle.std.specs.Prelude.{◌≡◌, ℕ, ◌<◌, ◌≤◌, Bool, true, false, cond, not, ◌&&◌, nat_eq, IsTrue, Option, Some, refl}
+use Rattle.std.specs.Prelude.{◌≡◌, ℕ, ◌<◌, ◌≤◌, Bool, true, false, not, ◌&&◌, nat_eq, IsTrue, Option, Some, refl}
 use Rattle.std.specs.Option.{ForSome}
 use Rattle.std.proofs.Common.{arith, ap, ◌∙◌, sym, subst}
 use Rattle.std.proofs.lemmas.Bool.{ne_eqb}
@@ -23,9 +23,6 @@ second false x h = cc
 
 pub adopts_above : (can : Content → ℕ → Bool) (c : Content) (cut : ℕ) → c.low < cut → IsTrue (can c cut) → IsTrue (adopts_ranged can c cut)
 adopts_above can c cut h t = not_both (is_branch_kind c.kind) (nat_eq cut c.low) (can c cut) (ne_eqb _ _ (λ e. omega arith)) t
-
-pub adopts_leaf : (can : Content → ℕ → Bool) (c : Content) (cut : ℕ) → is_branch_kind c.kind ≡ false → IsTrue (can c cut) → IsTrue (adopts_ranged can c cut)
-adopts_leaf can c cut leaf t = not_first (is_branch_kind c.kind) (nat_eq cut c.low) (can c cut) leaf t
 
 pub adopts_inner : (can : Content → ℕ → Bool) (c : Content) (cut : ℕ) → IsTrue (adopts_ranged can c cut) → IsTrue (can c cut)
 adopts_inner can c cut t = second _ (can c cut) t
@@ -70,7 +67,3 @@ module _ (b : Body) (r : Span) (same : ForSome b.range (λ q. q ≡ r)) where
   adopts_its_cut can cut_at layout a span o full suits is good =
       let cut : ℕ = cut_at (content_of b) o in
       adopts_above can (content_of b) cut good.splits.0.0 (a span o full (suits_inside suits) is (good_inside cut good))
-
--- a node that does not go by its own range is cut by the span that is handed in
-pub by_span_cut : {by_range : Bool} → by_range ≡ false → (cut_at : Option Span → ℕ) (range o : Option Span) (n : ℕ) → n ≡ cut_at (cond by_range range o) → n ≡ cut_at o
-by_span_cut e cut_at range o n h = subst (λ l. n ≡ cut_at (cond l range o)) e h

@@ -1,4 +1,4 @@
--- A put or an add that waits for nobody is tried, if the cause of Far is so too; and then what it tells whatever its nodes.
+-- What a put or an add that waits for nobody tells whatever its nodes, it tells where it is tried.
 use Rattle.std.specs.Prelude.{ℕ, List, Result, Ok, Err}
 use Rattle.ks_keysets.specs.Layout.{Layout}
 use Rattle.ks_history.specs.declared.Event.{Event}
@@ -9,7 +9,7 @@ use Rattle.ks_shape.specs.declared.answers.Later.TheVariants.{Busy, Moved, Far}
 use Rattle.ks_shape.specs.declared.answers.PutLater.{PutLater}
 use Rattle.ks_shape.specs.declared.answers.PutLater.TheVariants.{Full, Later as Otherwise}
 use Rattle.ks_shape.specs.Tries.{TriedPut}
-use Rattle.ks_shape.specs.Ends.{EndsPut, IsFarDue}
+use Rattle.ks_shape.specs.Ends.{EndsPut}
 
 pub ends_of : (layout : Layout) (template : Template) (n c : ℕ) (op : Op) (s0 s1 : List Event) (answer : Result Numbered PutLater) → TriedPut layout template n c op s0 s1 answer → EndsPut layout template n c op s0 s1 answer
 ends_of layout template n c op s0 s1 (Ok answer) so = so
@@ -17,10 +17,3 @@ ends_of layout template n c op s0 s1 (Err (Full number)) so = so
 ends_of layout template n c op s0 s1 (Err (Otherwise (Busy node holder))) so = (so.left, so.cause)
 ends_of layout template n c op s0 s1 (Err (Otherwise (Moved node))) so = (so.left, so.cause)
 ends_of layout template n c op s0 s1 (Err (Otherwise Far)) so = (so.left, so.cause.0)
-
-pub tried_of : (layout : Layout) (template : Template) (n c : ℕ) (op : Op) (s0 s1 : List Event) (answer : Result Numbered PutLater) → EndsPut layout template n c op s0 s1 answer → IsFarDue n c s0 s1 answer → TriedPut layout template n c op s0 s1 answer
-tried_of layout template n c op s0 s1 (Ok answer) so far = so
-tried_of layout template n c op s0 s1 (Err (Full number)) so far = so
-tried_of layout template n c op s0 s1 (Err (Otherwise (Busy node holder))) so far = record { left = so.0; cause = so.1 }
-tried_of layout template n c op s0 s1 (Err (Otherwise (Moved node))) so far = record { left = so.0; cause = so.1 }
-tried_of layout template n c op s0 s1 (Err (Otherwise Far)) so far = record { left = so.0; cause = (so.1, far) }

@@ -18,9 +18,6 @@ use Rattle.ks_history.specs.Alone.{AllBy, ActsAlone}
 use Rattle.ks_history.specs.Laws.Alone.{alone_still, alone_first, alone_then}
 use Rattle.ks_shape.specs.Makes.{MakesNone, TwoFree}
 
-pub makes_here : (c : ℕ) (h : List Event) → MakesNone c h h
-makes_here c h alone i live = live
-
 pub makes_both : (c : ℕ) (g h k : List Event) → g ⊑ h → h ⊑ k → MakesNone c g h → MakesNone c h k → MakesNone c g k
 makes_both c g h k a b one two alone i live = one (alone_first c g h k a b alone) i (two (alone_then c g h k a b alone) i live)
 

@@ -12,7 +12,6 @@ use Rattle.ks_history.specs.Laws.Stretch.{stretch_both, stretch_here, stretch_ot
 use Rattle.ks_history.specs.Underway.{Underway}
 use Rattle.ks_history.specs.Laws.Underway.{underway_both}
 use Rattle.ks_shape.specs.declared.fills.Fill.{Fill}
-use Rattle.ks_shape.specs.declared.fills.Fill.TheVariants.{Put, Add}
 use Rattle.ks_shape.specs.Fills.{filling}
 use Rattle.ks_shape.specs.Laws.Fills.{three_to_fill}
 use Rattle.ks_shape.specs.Stretches.{Stretches}
@@ -61,9 +60,3 @@ stretches_shape me c d {changes} h k same same' few hands shaped = λ template.
 -- a put and an add go on by them
 pub fill_goes_on : (template : Template) (c p : ℕ) (fill : Fill) (s h k : List Event) → Underway template c (filling p fill) s h → Stretches c h k → Underway template c (filling p fill) s k
 fill_goes_on template c p fill s h k under so = underway_both template c (filling p fill) s h k under (so template (filling p fill) (three_to_fill template p fill))
-
-pub put_goes_on : (template : Template) (c p v : ℕ) (s h k : List Event) → Underway template c (ops.Put p v) s h → Stretches c h k → Underway template c (ops.Put p v) s k
-put_goes_on template c p v s h k under so = fill_goes_on template c p (Put v) s h k under so
-
-pub add_goes_on : (template : Template) (c p v : ℕ) (s h k : List Event) → Underway template c (ops.Add p v) s h → Stretches c h k → Underway template c (ops.Add p v) s k
-add_goes_on template c p v s h k under so = fill_goes_on template c p (Add v) s h k under so

@@ -109,9 +109,6 @@ counts_more c a count g h k x y = record { count = x.count + count; frees = free
 pub counts_on : (c a : ℕ) (g h k : List Event) → Counts c g h a → Frees c h k 0 → Counts c g k a
 counts_on c a g h k x y = record { count = x.count + 0; frees = frees_both c x.count 0 g h k x.frees y; is = omega (arith, x.is) }
 
-pub counts_after : (c a : ℕ) (g h k : List Event) → Frees c g h 0 → Counts c h k a → Counts c g k a
-counts_after c a g h k x y = record { count = 0 + y.count; frees = frees_both c 0 y.count g h k x y.frees; is = omega (arith, y.is) }
-
 pub counts_as : (c d a : ℕ) (h k : List Event) → d ≡ c → Counts d h k a → Counts c h k a
 counts_as c d a h k same so = subst (λ (z : ℕ). Counts z h k a) same so
 

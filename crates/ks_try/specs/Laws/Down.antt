@@ -9,12 +9,12 @@ use Rattle.ks_history.specs.declared.Event.TheVariants.{Take, Give, Claim, Shape
 use Rattle.ks_history.specs.declared.Op.{Op}
 use Rattle.ks_history.specs.Map.{Touches}
 use Rattle.ks_history.specs.Trace.{◌⊑◌, held, graph_after, turn_after}
-use Rattle.ks_history.specs.Passes.{NoneBy, GrowsByOthers, GrowsWith}
+use Rattle.ks_history.specs.Passes.{NoneBy, GrowsWith}
 use Rattle.ks_history.specs.Laws.Stays.{AreInTurn, cond_else}
 use Rattle.ks_history.specs.Laws.Begins.{begins_both}
 use Rattle.ks_history.specs.Due.{IsOnWay, takes_by, BusyDue, FarDue}
 use Rattle.ks_history.specs.Descent.{TookSince}
-use Rattle.ks_history.specs.Laws.Descent.{NoTakeBy, took_root, took_node, took_while, took_others, deep_at_root, deep_down, deep_with, deep_others, far_due}
+use Rattle.ks_history.specs.Laws.Descent.{NoTakeBy, took_root, took_node, took_while, deep_at_root, deep_down, deep_with, far_due}
 use Rattle.ks_try.specs.Down.{IsDown}
 
 no_takes : (c : ℕ) (es : List Event) → NoneBy c es → NoTakeBy c es
@@ -49,13 +49,6 @@ pub down_give : (n c : ℕ) (s0 h k : List Event) (taken roots steps i j : ℕ) 
 down_give n c s0 h k taken roots steps i j gave are so = record {
   took = took_while c s0 h k taken roots (record { rest = Give c j ∷ gave.rest; is = gave.is }) (gave_no_take c j h k gave) so.took;
   deep = deep_with n c (Give c j) [] s0 h k steps i tt gave are so.deep;
-}
-
--- others act
-pub down_others : (n c : ℕ) (s0 h k : List Event) (taken roots steps i : ℕ) → GrowsByOthers c h k → AreInTurn k → IsDown n c s0 h taken roots steps i → IsDown n c s0 k taken roots steps i
-down_others n c s0 h k taken roots steps i grows are so = record {
-  took = took_others c s0 h k taken roots grows so.took;
-  deep = deep_others n c [] s0 h k steps i grows are so.deep;
 }
 
 -- Far is due where c took as many nodes as there are, and an edge leads on to one more
