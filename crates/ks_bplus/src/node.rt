@@ -1,8 +1,8 @@
 //! The B+ node: a leaf or an inner node.
 //!
 //! A leaf has pairs and no child, an inner node has children and no pair. Either lies behind one allocation that
-//! `blank` makes, with room for both, so a body moves by two words, and turning a leaf into an inner node or back
-//! needs no allocator.
+//! `blank` makes, with room for the greater of the two, so a body moves by two words, and turning a leaf into an inner
+//! node or back needs no allocator.
 
 ghost use Rattle.std.proofs.Props.{props};
 ghost use Rattle.ks_bplus.specs.Bplus.{Fit};

@@ -1,8 +1,8 @@
 //! The hash node: a bucket of pairs, or a directory of equal slices.
 //!
 //! A bucket may have an edge of its own, to the node that took over its upper places. A directory has no pair: its
-//! slices cover all places. Either lies behind one allocation that `blank` makes, with room for both, so a body moves by
-//! two words, and turning a bucket into a directory or back needs no allocator.
+//! slices cover all places. Either lies behind one allocation that `blank` makes, with room for the greater of the two, so
+//! a body moves by two words, and turning a bucket into a directory or back needs no allocator.
 
 ghost use Rattle.std.proofs.Props.{props};
 ghost use Rattle.ks_hash.specs.Hash.{Fit};

@@ -63,7 +63,8 @@ fn fill<N: Linked, R: Wait, G: Gate>(
     requires pass { IsEmptyPassOf arena.now pass.old }
     ensures pass { IsEmptyPassOf arena.now pass.new }
     ensures caller { SameCaller pass.old pass.new }
-    ensures done { DoneOf arena.now link_move (filling place fill) pass.old pass.new (reply_in result) (number_in result) }
+    ensures done { DoneOf arena.now link_move (filling place fill)
+        pass.old pass.new (reply_in result) (number_in result) }
     ensures led { IsTrue N.branches_adopt → IsTrue N.halves_have_room →
         IfAloneWithRoom arena.now pass.old pass.new (LeadsAll arena.now pass.old pass.new) }
 {

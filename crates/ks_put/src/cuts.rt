@@ -59,7 +59,8 @@ pub(crate) fn cut_below<N: Unlinked>(
     ensures cut { IsInside pass.now node.now.node result × CanSplitAt (N.body node.now.body) result }
     ensures open { N.in_place ≡ false → (IsTrue (is_branch (N.body node.now.body)) → AllGrow arena.now) →
         (AllGrow arena.now → is_full N.layout (N.body parent.now.body) ≡ false) →
-        LeafCanAt N.can_adopt_at (N.body node.now.body) result ⊎ BranchCanAt N.can_adopt_at (N.body parent.now.body) result }
+        LeafCanAt N.can_adopt_at (N.body node.now.body) result ⊎
+        BranchCanAt N.can_adopt_at (N.body parent.now.body) result }
     ensures halves { IsTrue N.halves_have_room → HalvesHaveRoom N.layout result (N.body node.now.body) }
     ensures adopts { HalfAdopts N.can_adopt_at (N.body node.now.body) result }
 {

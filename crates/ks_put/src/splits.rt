@@ -70,7 +70,8 @@ pub(crate) fn split_below<N: Unlinked, G: Gate>(
     node: Held<N>,
 ) -> Part<N>
     requires pass { IsPassOf arena.now pass.old }
-    requires path { IsOnPathOf arena.now (caller_of pass.old) place pass.old (record { parent = Some parent; node = node }) }
+    requires path { IsOnPathOf arena.now (caller_of pass.old) place pass.old
+        (record { parent = Some parent; node = node }) }
     requires branch { IsTrue (is_branch (N.body parent.body)) }
     requires full { IsTrue (is_full N.layout (N.body node.body)) }
     requires cut { IsInside pass.old node.node cut × CanSplitAt (N.body node.body) cut }
@@ -193,11 +194,13 @@ pub(crate) fn split_child<N: Unlinked, G: Gate>(
     node: Held<N>,
 ) -> Part<N>
     requires pass { IsPassOf arena.now pass.old }
-    requires path { IsOnPathOf arena.now (caller_of pass.old) place pass.old (record { parent = Some parent; node = node }) }
+    requires path { IsOnPathOf arena.now (caller_of pass.old) place pass.old
+        (record { parent = Some parent; node = node }) }
     requires full { IsTrue (is_full N.layout (N.body node.body)) }
     ensures pass { IsPassOf arena.now pass.new }
     ensures caller { SameCaller pass.old pass.new }
-    ensures part { TriedToSplit arena.now place pass.old pass.new (record { parent = Some parent; node = node }) result }
+    ensures part { TriedToSplit arena.now place pass.old pass.new
+        (record { parent = Some parent; node = node }) result }
     ensures open { N.in_place ≡ false → (IsTrue (is_branch (N.body node.body)) → AllGrow arena.now) →
         (AllGrow arena.now → is_full N.layout (N.body parent.body) ≡ false) → ¬ IsShut result }
     ensures stretch { IsStretch pass.old pass.new }

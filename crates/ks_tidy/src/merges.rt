@@ -28,7 +28,8 @@ pub(crate) fn take_over<N: Unlinked, G: Gate>(
     child: Held<N>,
 ) -> Path<N>
     requires pass { IsPassOf arena.now pass.old }
-    requires pair { IsPairOf arena.now (caller_of pass.old) place pass.old (record { parent = Some root; node = child }) }
+    requires pair { IsPairOf arena.now (caller_of pass.old) place pass.old
+        (record { parent = Some root; node = child }) }
     requires root { root.node ≡ 0 }
     requires sole { only_child_of (N.body root.body) ≡ Some child.node }
     ensures pass { IsPassOf arena.now pass.new }
@@ -92,7 +93,8 @@ pub(crate) fn merge_beside<N: Unlinked, R: Wait, G: Gate>(
     target: u32,
 ) -> Step<N>
     requires pass { IsPassOf arena.now pass.old }
-    requires pair { IsPairOf arena.now (caller_of pass.old) place pass.old (record { parent = Some parent; node = node }) }
+    requires pair { IsPairOf arena.now (caller_of pass.old) place pass.old
+        (record { parent = Some parent; node = node }) }
     requires unchained { chained_of (N.body node.body) ≡ None }
     requires beside { right_child (N.body parent.body) place ≡ Some target }
     requires no_sole { HasNoSole arena.now (Some parent) }

@@ -68,7 +68,8 @@ fn merge_next<N: Unlinked, R: Wait, G: Gate>(
     node: Held<N>,
 ) -> Step<N>
     requires pass { IsPassOf arena.now pass.old }
-    requires pair { IsPairOf arena.now (caller_of pass.old) place pass.old (record { parent = Some parent; node = node }) }
+    requires pair { IsPairOf arena.now (caller_of pass.old) place pass.old
+        (record { parent = Some parent; node = node }) }
     requires unchained { chained_of (N.body node.body) ≡ None }
     requires no_sole { HasNoSole arena.now (Some parent) }
     ensures pass { IsPassOf arena.now pass.new }
@@ -103,7 +104,8 @@ fn merge_child<N: Unlinked, R: Wait, G: Gate>(
     node: Held<N>,
 ) -> Step<N>
     requires pass { IsPassOf arena.now pass.old }
-    requires pair { IsPairOf arena.now (caller_of pass.old) place pass.old (record { parent = Some parent; node = node }) }
+    requires pair { IsPairOf arena.now (caller_of pass.old) place pass.old
+        (record { parent = Some parent; node = node }) }
     requires no_sole { HasNoSole arena.now (Some parent) }
     ensures pass { IsPassOf arena.now pass.new }
     ensures caller { SameCaller pass.old pass.new }
@@ -180,7 +182,8 @@ fn tidy_child<N: Unlinked, R: Wait, G: Gate>(
     node: Held<N>,
 ) -> Step<N>
     requires pass { IsPassOf arena.now pass.old }
-    requires pair { IsPairOf arena.now (caller_of pass.old) place pass.old (record { parent = Some parent; node = node }) }
+    requires pair { IsPairOf arena.now (caller_of pass.old) place pass.old
+        (record { parent = Some parent; node = node }) }
     ensures pass { IsPassOf arena.now pass.new }
     ensures caller { SameCaller pass.old pass.new }
     ensures pair { IsPairOf arena.now (caller_of pass.old) place pass.new (path_in result) }

@@ -56,7 +56,8 @@ fn try_merge_beside<N: Unlinked, G: Gate>(
     target: u32,
 ) -> Step<N>
     requires pass { IsPassOf arena.now pass.old }
-    requires pair { IsPairOf arena.now (caller_of pass.old) place pass.old (record { parent = Some parent; node = node }) }
+    requires pair { IsPairOf arena.now (caller_of pass.old) place pass.old
+        (record { parent = Some parent; node = node }) }
     requires unchained { chained_of (N.body node.body) ≡ None }
     requires beside { right_child (N.body parent.body) place ≡ Some target }
     requires no_sole { HasNoSole arena.now (Some parent) }
@@ -87,7 +88,8 @@ fn try_merge_child<N: Unlinked, G: Gate>(
     node: Held<N>,
 ) -> Step<N>
     requires pass { IsPassOf arena.now pass.old }
-    requires pair { IsPairOf arena.now (caller_of pass.old) place pass.old (record { parent = Some parent; node = node }) }
+    requires pair { IsPairOf arena.now (caller_of pass.old) place pass.old
+        (record { parent = Some parent; node = node }) }
     requires no_sole { HasNoSole arena.now (Some parent) }
     ensures pass { IsPassOf arena.now pass.new }
     ensures caller { SameCaller pass.old pass.new }
@@ -156,7 +158,8 @@ fn try_tidy_child<N: Unlinked, G: Gate>(
     node: Held<N>,
 ) -> Step<N>
     requires pass { IsPassOf arena.now pass.old }
-    requires pair { IsPairOf arena.now (caller_of pass.old) place pass.old (record { parent = Some parent; node = node }) }
+    requires pair { IsPairOf arena.now (caller_of pass.old) place pass.old
+        (record { parent = Some parent; node = node }) }
     ensures pass { IsPassOf arena.now pass.new }
     ensures caller { SameCaller pass.old pass.new }
     ensures pair { IsPairOf arena.now (caller_of pass.old) place pass.new (path_in result) }
