@@ -6,6 +6,7 @@ ghost use Rattle.ks_history.specs.Lawful.{Lawful, GoodThroughout};
 ghost use Rattle.ks_history.specs.Served.{Served};
 ghost use Rattle.ks_batch.specs.Pairings.{row_of};
 
+use ks_boxed::Boxed;
 use ks_bplus::BNode;
 use ks_coupling::Coupling;
 use ks_dictionary::{Told, serve_callers};
@@ -72,19 +73,19 @@ pub fn serve_by<R: Threads + Wait + Sync, G: Gate + Sync>(
         Pairing::HashCoupling => serve_callers::<HNode, Coupling, R, G>(
             rt, alloc, nodes, callers, workers, gate,
         ),
-        Pairing::ListGiveUp => serve_callers::<WithRange<ListNode>, GiveUp, R, G>(
+        Pairing::ListGiveUp => serve_callers::<Boxed<WithRange<ListNode>>, GiveUp, R, G>(
             rt, alloc, nodes, callers, workers, gate,
         ),
-        Pairing::BplusGiveUp => serve_callers::<WithRange<BNode>, GiveUp, R, G>(
+        Pairing::BplusGiveUp => serve_callers::<Boxed<WithRange<BNode>>, GiveUp, R, G>(
             rt, alloc, nodes, callers, workers, gate,
         ),
-        Pairing::HashGiveUp => serve_callers::<WithRange<HNode>, GiveUp, R, G>(
+        Pairing::HashGiveUp => serve_callers::<Boxed<WithRange<HNode>>, GiveUp, R, G>(
             rt, alloc, nodes, callers, workers, gate,
         ),
-        Pairing::BplusLink => serve_callers::<WithLink<BNode>, LinkMove, R, G>(
+        Pairing::BplusLink => serve_callers::<Boxed<WithLink<BNode>>, LinkMove, R, G>(
             rt, alloc, nodes, callers, workers, gate,
         ),
-        Pairing::HashLink => serve_callers::<WithLink<HNode>, LinkMove, R, G>(
+        Pairing::HashLink => serve_callers::<Boxed<WithLink<HNode>>, LinkMove, R, G>(
             rt, alloc, nodes, callers, workers, gate,
         ),
     }
