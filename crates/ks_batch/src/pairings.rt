@@ -67,10 +67,10 @@ pub fn serve_by<R: Threads + Wait + Sync, G: Gate + Sync>(
         Pairing::ListCoupling => serve_callers::<ListNode, Coupling, R, G>(
             rt, alloc, nodes, callers, workers, gate,
         ),
-        Pairing::BplusCoupling => serve_callers::<BNode, Coupling, R, G>(
+        Pairing::BplusCoupling => serve_callers::<Boxed<BNode>, Coupling, R, G>(
             rt, alloc, nodes, callers, workers, gate,
         ),
-        Pairing::HashCoupling => serve_callers::<HNode, Coupling, R, G>(
+        Pairing::HashCoupling => serve_callers::<Boxed<HNode>, Coupling, R, G>(
             rt, alloc, nodes, callers, workers, gate,
         ),
         Pairing::ListGiveUp => serve_callers::<Boxed<WithRange<ListNode>>, GiveUp, R, G>(

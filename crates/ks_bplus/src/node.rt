@@ -1,8 +1,8 @@
 //! The B+ node: a leaf or an inner node.
 //!
-//! A leaf has pairs and no child, an inner node has children and no pair. Either lies behind one allocation that
-//! `blank` makes, with room for the greater of the two, so a body moves by two words, and turning a leaf into an inner
-//! node or back needs no allocator.
+//! A leaf has pairs and no child, an inner node has children and no pair. Either lies in the node itself, which has room
+//! for the greater of the two, so turning a leaf into an inner node or back needs no allocator. A node is 440 bytes: where
+//! callers move it, it should lie behind a box (`ks_boxed`).
 
 ghost use Rattle.std.proofs.Props.{props};
 ghost use Rattle.ks_bplus.specs.Bplus.{Fit};
@@ -19,8 +19,8 @@ use std::mem;
 #[derive(Drop)]
 pub struct BNode {
     low: u64,
-    parts: Box<Parts>,
-    ghost fit: { Fit low (is_inner parts.value) (pairs_of parts.value) (starts_of parts.value) } by { Prim.hlevel props },
+    parts: Parts,
+    ghost fit: { Fit low (is_inner parts) (pairs_of parts) (starts_of parts) } by { Prim.hlevel props },
 }
 
 impl Node for BNode {
@@ -38,7 +38,7 @@ impl Node for BNode {
 
     ghost ROOM = { 16 };
 
-    ghost body = { λ n. body_of n.low n.parts.value };
+    ghost body = { λ n. body_of n.low n.parts };
 
     ghost ranged = { false };
 
@@ -80,9 +80,11 @@ impl Node for BNode {
 
     ghost becomes_branch = { refl };
 
-    fn blank(alloc: Global) -> Result<Self, AllocError> {
-        let parts = Box::new(alloc, Parts::blank())?;
-        Ok(BNode { low: 0, parts })
+    fn blank(_alloc: Global) -> Result<Self, AllocError> {
+        Ok(BNode {
+            low: 0,
+            parts: Parts::blank(),
+        })
     }
 
     fn next(&self, place: u64) -> Next {
@@ -201,7 +203,7 @@ impl Unlinked for BNode {
         left.low = self.low;
         right.low = cut;
         left.parts.split_to(&mut right.parts, cut);
-        *self.parts = Parts::over(left_id, cut, right_id);
+        self.parts = Parts::over(left_id, cut, right_id);
     }
 
     fn absorb(&mut self, right: &mut Self) {
@@ -216,7 +218,7 @@ impl Unlinked for BNode {
     fn collapse(&mut self, child: &mut Self) {
         mem::swap(&mut self.parts, &mut child.parts);
         self.low = child.low;
-        *child.parts = Parts::blank();
+        child.parts = Parts::blank();
         child.low = 0;
     }
 }

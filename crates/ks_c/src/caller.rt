@@ -7,6 +7,7 @@ ghost use Rattle.ks_arena.specs.Of.{IsEmptyPassOf};
 ghost use Rattle.ks_shape.specs.Of.{TriedOf, TriedPutOf};
 
 use ks_arena::{Arena, Pass};
+use ks_boxed::Boxed;
 use ks_bplus::BNode;
 use ks_flow::Link;
 use ks_gate::NoGate;
@@ -16,7 +17,7 @@ use std::alloc::Global;
 use std::sync::Arc;
 
 /// The nodes of the dictionaries that C opens: those of a B-link tree.
-pub type Nodes = WithLink<BNode>;
+pub type Nodes = Boxed<WithLink<BNode>>;
 
 /// One caller of a dictionary: the dictionary, which it shares with the other callers, and its pass.
 #[derive(Drop)]

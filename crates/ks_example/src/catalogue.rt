@@ -8,6 +8,8 @@ ghost use Rattle.ks_dictionary.specs.Kept.{AddedOnce, FindsPut};
 ghost use Rattle.ks_dictionary.specs.Of.{AreOrderedPassesOf, IsIdlePassOf, place_in};
 
 use ks_arena::Pass;
+use ks_boxed::Boxed;
+use ks_bplus::BNode;
 use ks_dictionary::{Closed, Dictionary, kept_law};
 use ks_gate::NoGate;
 use ks_shape::{Full, Ruled};
@@ -18,8 +20,8 @@ use std::sync::atomic::Ordering::SeqCst;
 use std::thread::{Threads, for_each_mut};
 
 /// What the catalogue is made of: the type of its nodes, and the technique by which callers come from one to the next.
-/// Two other words make another structure of the same catalogue, as ks_hash::HNode a hash table.
-pub type Nodes = ks_bplus::BNode;
+/// Two other words make another structure of the same catalogue, as HNode in place of BNode a hash table.
+pub type Nodes = Boxed<BNode>;
 
 pub type Technique = ks_coupling::Coupling;
 

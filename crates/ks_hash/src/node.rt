@@ -1,8 +1,9 @@
 //! The hash node: a bucket of pairs, or a directory of equal slices.
 //!
 //! A bucket may have an edge of its own, to the node that took over its upper places. A directory has no pair: its
-//! slices cover all places. Either lies behind one allocation that `blank` makes, with room for the greater of the two, so
-//! a body moves by two words, and turning a bucket into a directory or back needs no allocator.
+//! slices cover all places. Either lies in the node itself, which has room for the greater of the two, so turning a bucket
+//! into a directory or back needs no allocator. A node is 296 bytes: where callers
+//! move it, it should lie behind a box (`ks_boxed`).
 
 ghost use Rattle.std.proofs.Props.{props};
 ghost use Rattle.ks_hash.specs.Hash.{Fit};
@@ -23,9 +24,9 @@ use std::mem;
 #[derive(Drop)]
 pub struct HNode {
     low: u64,
-    parts: Box<Parts>,
-    ghost fit: { Fit low (is_directory parts.value) (pairs_of parts.value) (own_of parts.value)
-        (slices_of parts.value) } by { Prim.hlevel props },
+    parts: Parts,
+    ghost fit: { Fit low (is_directory parts) (pairs_of parts) (own_of parts)
+        (slices_of parts) } by { Prim.hlevel props },
 }
 
 /// The middle of all places.
@@ -37,7 +38,7 @@ impl HNode {
 
     /// The edges by where they start.
     fn starts(&self) -> Starts
-        ensures { result.items ≡ parts_starts self.now.parts.value }
+        ensures { result.items ≡ parts_starts self.now.parts }
     {
         if self.parts.is_directory() {
             runs_of(self.parts.slices())
@@ -67,7 +68,7 @@ impl Node for HNode {
 
     ghost ROOM = { 8 };
 
-    ghost body = { λ n. body_of n.low n.parts.value };
+    ghost body = { λ n. body_of n.low n.parts };
 
     ghost ranged = { false };
 
@@ -109,9 +110,11 @@ impl Node for HNode {
 
     ghost becomes_branch = { refl };
 
-    fn blank(alloc: Global) -> Result<Self, AllocError> {
-        let parts = Box::new(alloc, Parts::blank())?;
-        Ok(HNode { low: 0, parts })
+    fn blank(_alloc: Global) -> Result<Self, AllocError> {
+        Ok(HNode {
+            low: 0,
+            parts: Parts::blank(),
+        })
     }
 
     fn next(&self, place: u64) -> Next {
@@ -265,7 +268,7 @@ impl Unlinked for HNode {
         left.low = self.low;
         right.low = cut;
         left.parts.split_to(&mut right.parts, cut);
-        *self.parts = Parts::over(left_id, right_id);
+        self.parts = Parts::over(left_id, right_id);
     }
 
     fn absorb(&mut self, right: &mut Self) {
@@ -280,7 +283,7 @@ impl Unlinked for HNode {
     fn collapse(&mut self, child: &mut Self) {
         mem::swap(&mut self.parts, &mut child.parts);
         self.low = child.low;
-        *child.parts = Parts::blank();
+        child.parts = Parts::blank();
         child.low = 0;
     }
 }

@@ -1,9 +1,9 @@
 -- What each change of a hash node keeps, and what its cuts are.
-use Rattle.std.specs.Prelude.{◌≡◌, ℕ, suc, ◌%◌, ◌-◌, ◌^◌, ◌<◌, ◌≤◌, Bool, true, false, cond, ◌&&◌, ◌||◌, nat_eq, nat_lt, nat_le, IsTrue, List, [], ◌∷◌, length, All, Option, None, Some, get_or, refl}
+use Rattle.std.specs.Prelude.{◌≡◌, ℕ, suc, ◌%◌, ◌-◌, ◌^◌, ◌<◌, ◌≤◌, Bool, true, false, cond, ◌&&◌, ◌||◌, nat_eq, nat_lt, nat_le, IsTrue, List, [], ◌∷◌, ◌++◌, length, All, Option, None, Some, get_or, refl}
 use Rattle.std.specs.List.{list_all}
 use Rattle.std.proofs.Common.{arith, ap, sym, subst}
 use Rattle.std.proofs.lemmas.List.{get_or_read}
-use Rattle.std.proofs.lemmas.List.Elements.{All-nil, All-cons, All-head, All-tail, All-weaker}
+use Rattle.std.proofs.lemmas.List.Elements.{All-nil, All-cons, All-head, All-tail, All-append, All-weaker}
 use Rattle.std.proofs.lemmas.Bool.{ltb-true, leb-true, eqb-true, ne_eqb}
 use Rattle.ks_keysets.specs.declared.Pair.{Pair}
 use Rattle.ks_keysets.specs.declared.Span.{Span}
@@ -12,12 +12,12 @@ use Rattle.ks_keysets.specs.Layout.{hash_layout}
 use Rattle.ks_keysets.specs.Record.{top}
 use Rattle.ks_node.specs.declared.start.Start.{Start}
 use Rattle.ks_node.specs.Keyed.{Ascends}
-use Rattle.ks_node.specs.Laws.Ascend.{asc_nil, asc_filter}
+use Rattle.ks_node.specs.Laws.Ascend.{asc_nil, asc_filter, asc_join}
 use Rattle.ks_node.specs.Body.{pairs_below, pairs_from, begins, is_branch_kind, is_branch}
-use Rattle.ks_node.specs.Room.{is_full, IsHeld}
+use Rattle.ks_node.specs.Room.{is_full, IsHeld, fit_together}
 use Rattle.ks_node.specs.Effect.{pairs_put, pairs_del}
 use Rattle.ks_node.specs.Edges.{edges_of}
-use Rattle.ks_node.specs.Asks.{CanSplitAt, Suits, IsNoneOr, IsGoodCut}
+use Rattle.ks_node.specs.Asks.{CanSplitAt, Suits, IsNoneOr, IsGoodCut, Absorbs}
 use Rattle.ks_node.specs.Sound.{Sound}
 use Rattle.ks_node.specs.Laws.Starts.{differ, filter_le}
 use Rattle.ks_node.specs.Laws.Keep.{sound_put, sound_del, sound_right}
@@ -128,6 +128,31 @@ fit_right {low} {b = false} {ps} {own} {ss} f e c cut ts d h above =
       pairs_fit = omega (arith, filter_le (λ x. nat_le cut x.place) ps, f.pairs_fit);
     })
 
+pub fit_absorb : {low right_low : ℕ} {b c : Bool} {ps qs : List Pair} {own right_own : Option Start} {ss ts : List ℕ} → Fit low b ps own ss → Fit right_low c qs right_own ts →
+    IsTrue (fit_together hash_layout (hash_body low b ps own ss) (hash_body right_low c qs right_own ts)) → Absorbs (hash_body low b ps own ss) (hash_body right_low c qs right_own ts) →
+    length (ps ++ qs) ≤ 8 → (d : Bool) (us : List ℕ) → d ≡ false → Fit low d (ps ++ qs) right_own us
+fit_absorb {b = true} f g fits meets long d us e = absurd (differ refl fits)
+fit_absorb {b = false} {c = true} f g fits meets long d us e = absurd (differ refl fits)
+fit_absorb {low} {right_low} {b = false} {c = false} {ps} {qs} {own} {right_own} {ss} {ts} f g fits meets long d us e =
+    subst (λ k. Fit low k (ps ++ qs) right_own us) (sym e) (record {
+      sound = record {
+        starts_ascend = g.sound.starts_ascend;
+        starts_are_places = g.sound.starts_are_places;
+        pairs_ascend = asc_join (λ x. x.place) right_low ps qs f.sound.pairs_ascend g.sound.pairs_ascend meets.above_pairs meets.right_pairs;
+        branch_no_pairs = λ branch. absurd (differ refl branch);
+        branch_covers = λ branch. absurd (differ refl branch);
+        own_alone = g.sound.own_alone;
+        own_low = λ _. All-weaker (λ s. right_low ≤ s.low) (λ s. low ≤ s.low) (λ s q. omega (arith, meets.lows)) (own_starts right_own) (g.sound.own_low refl);
+        own_pairs = λ _ k x q.
+            let first : right_low ≤ (get_or (own_starts right_own) k x).low = g.sound.own_low refl k x q in
+            All-append (λ y. y.place < (get_or (own_starts right_own) k x).low) ps qs
+            (All-weaker (λ y. y.place < right_low) (λ y. y.place < (get_or (own_starts right_own) k x).low) (λ y w. omega (arith, first, w)) ps meets.above_pairs)
+            (g.sound.own_pairs refl k x q);
+      };
+      size = λ directory. absurd (differ refl directory);
+      pairs_fit = long;
+    })
+
 -- edges
 
 pub fit_edges : {low : ℕ} {b : Bool} {ps : List Pair} {own : Option Start} {ss : List ℕ} → Fit low b ps own ss → edges_of (hash_body low b ps own ss) ≡ plain_edges 0 top (hash_starts b own ss)
@@ -218,6 +243,11 @@ fifth_is {b = true} f full x is = absurd (differ refl full)
 fifth_is {b = false} {ps = ps} f full x is =
     let eight : length ps ≡ 8 = eqb-true _ _ full in
     ap (λ y. y.place) (get_or_read ps 4 x (omega arith) is (record { place = 0; value = 0 }))
+
+pub cut_is : {low : ℕ} {b : Bool} {ps : List Pair} {own : Option Start} {ss : List ℕ} → Fit low b ps own ss → IsTrue (is_full hash_layout (hash_body low b ps own ss)) → (given : Span) →
+    cond (is_whole given && list_all (λ s. nat_lt (middle_of given) s.low) (own_starts own)) (middle_of given) (fifth ps) ≡ hash_cut (hash_content low b ps own ss) (Some given)
+cut_is {b = true} f full given = absurd (differ refl full)
+cut_is {b = false} f full given = refl
 
 pub fit_cut_by : {low : ℕ} {b : Bool} {ps : List Pair} {own : Option Start} {ss : List ℕ} → Fit low b ps own ss → IsTrue (is_full hash_layout (hash_body low b ps own ss)) → (given span : Span) →
     Suits (hash_body low b ps own ss) span → IsNoneOr (Some given) span →

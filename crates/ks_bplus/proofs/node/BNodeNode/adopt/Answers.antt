@@ -7,6 +7,6 @@ invariant_of-self c =
     let done = c.add.ensures in
     record {
       fit =
-          rw (done.inner, done.pairs, done.starts, c.deref_mut.ensures.value)
-          (fit_adopt c.args.self.now.fit c.args.cut c.args.id c.requires.can c.requires.cut.0 (omega arith) (rw (← c.deref_mut.ensures.value, ← done.starts) done.fits) c.requires.pairs);
+          rw (done.inner, done.pairs, done.starts)
+          (fit_adopt c.args.self.now.fit c.args.cut c.args.id c.requires.can c.requires.cut.0 (omega arith) (rw (← done.starts) done.fits) c.requires.pairs);
     }

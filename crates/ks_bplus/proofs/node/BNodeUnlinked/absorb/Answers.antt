@@ -7,8 +7,8 @@ invariant_of-self c =
     let done = c.append.ensures in
     record {
       fit =
-          rw (done.kind, done.pairs, done.starts, c.deref_mut.ensures.value, c.deref_mut-2.ensures.value)
+          rw (done.kind, done.pairs, done.starts)
           (fit_absorb c.args.self.now.fit c.args.right.now.fit c.requires.fits c.requires.meets (omega arith)
-          (rw (← c.deref_mut.ensures.value, ← c.deref_mut-2.ensures.value, ← done.pairs) done.pairs_fit)
-          (rw (← c.deref_mut.ensures.value, ← c.deref_mut-2.ensures.value, ← done.starts) done.starts_fit));
+          (rw (← done.pairs) done.pairs_fit)
+          (rw (← done.starts) done.starts_fit));
     }

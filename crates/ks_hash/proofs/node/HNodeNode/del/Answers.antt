@@ -6,6 +6,6 @@ invariant_of-self c =
     let done = c.del.ensures in
     record {
       fit =
-          rw (done.kind, done.pairs, done.own, done.slices, c.deref_mut.ensures.value)
-          (fit_del c.args.self.now.fit c.args.place c.requires (rw (← c.deref_mut.ensures.value, ← done.pairs) done.fits));
+          rw (done.kind, done.pairs, done.own, done.slices)
+          (fit_del c.args.self.now.fit c.args.place c.requires (rw (← done.pairs) done.fits));
     }

@@ -6,6 +6,6 @@ invariant_of-self c =
     let done = c.put.ensures in
     record {
       fit =
-          rw (done.kind, done.pairs, done.own, done.slices, c.deref_mut.ensures.value)
-          (fit_put c.args.self.now.fit c.args.place c.args.value c.requires.no_branch c.requires.below_own (rw (← c.deref_mut.ensures.value, ← done.pairs) done.fits));
+          rw (done.kind, done.pairs, done.own, done.slices)
+          (fit_put c.args.self.now.fit c.args.place c.args.value c.requires.no_branch c.requires.below_own (rw (← done.pairs) done.fits));
     }

@@ -8,7 +8,7 @@ invariant_of-left c =
     let bucket = full_bucket c.args.self.now.fit c.requires.full in
     record {
       fit =
-          rw (done.kind, done.pairs, done.own, done.slices, c.deref_mut.ensures.value, c.swap.ensures.y_after)
+          rw (done.kind, done.pairs, done.own, done.slices, c.swap.ensures.y_after)
           (fit_left c.args.self.now.fit bucket c.args.self.now.low false c.args.cut [] refl);
     }
 
@@ -18,6 +18,6 @@ invariant_of-right c =
     let bucket = full_bucket c.args.self.now.fit c.requires.full in
     record {
       fit =
-          rw (done.right_kind, done.right_pairs, done.right_own, done.right_slices, c.deref_mut.ensures.value, c.swap.ensures.y_after)
+          rw (done.right_kind, done.right_pairs, done.right_own, done.right_slices, c.swap.ensures.y_after)
           (fit_right c.args.self.now.fit bucket false c.args.cut [] refl (omega arith) (split_above c.args.self.now.fit c.args.cut bucket c.requires.cut));
     }

@@ -6,7 +6,7 @@ pub invariant_of-self : goal.invariant_of-self
 invariant_of-self c =
     let done = c.split_to.ensures in
     let bucket = full_bucket c.args.self.now.fit c.requires.full in
-    record { fit = rw (done.kind, done.pairs, done.own, done.slices, c.deref_mut.ensures.value) (fit_left c.args.self.now.fit bucket c.args.self.now.low false c.args.cut [] refl) }
+    record { fit = rw (done.kind, done.pairs, done.own, done.slices) (fit_left c.args.self.now.fit bucket c.args.self.now.low false c.args.cut [] refl) }
 
 pub invariant_of-right : goal.invariant_of-right
 invariant_of-right c =
@@ -14,6 +14,6 @@ invariant_of-right c =
     let bucket = full_bucket c.args.self.now.fit c.requires.full in
     record {
       fit =
-          rw (done.right_kind, done.right_pairs, done.right_own, done.right_slices, c.deref_mut.ensures.value)
+          rw (done.right_kind, done.right_pairs, done.right_own, done.right_slices)
           (fit_right c.args.self.now.fit bucket false c.args.cut [] refl (omega arith) (split_above c.args.self.now.fit c.args.cut bucket c.requires.cut));
     }

@@ -5,4 +5,4 @@ use Rattle.ks_hash.specs.Parts.{pairs_of}
 use Rattle.ks_hash.proofs.node.tests.all_below.Given as goal
 
 abbrev pub invariant-loop-n : goal.invariant-loop-n
-invariant-loop-n l = (k : ℕ) (d : Pair) → k < l.n → (get_or (pairs_of l.node.parts.value) k d).place < l.cut
+invariant-loop-n l = (k : ℕ) (d : Pair) → k < l.n → (get_or (pairs_of l.node.parts) k d).place < l.cut
