@@ -4,6 +4,7 @@ pub mod Sources
 pub mod Numerals
 pub mod Cuts
 pub mod Fronts
+pub mod Eights
 pub mod Pairs
 pub mod CallLines
 pub mod Scripts

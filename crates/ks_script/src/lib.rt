@@ -8,6 +8,7 @@
 mod answers;
 mod calls;
 mod checked;
+mod eight;
 mod fault;
 mod front;
 mod laws;

@@ -8,6 +8,11 @@ ghost use Rattle.std.specs.Str.Parse.{digits_value};
 ghost use Rattle.ks_script.specs.Lines.{Lacks, lines_of};
 ghost use Rattle.ks_script.specs.Run.{pair_line};
 
+use crate::eight::eight_at;
+
+// A number behind which any eight digits more are one below 2^64.
+const BEFORE_EIGHT: u64 = 184_467_440_736;
+
 // A number behind which any four digits more are one below 2^64.
 const BEFORE_FOUR: u64 = 1_844_674_407_370_954;
 
@@ -146,23 +151,39 @@ fn worth(byte: u8) -> u64
     u64::from(byte).wrapping_sub(48)
 }
 
-// As many digits as the bytes begin with, but for three at most, and of 16 to 19 of them not those of a number that four
-// more might not fit: the number that they are the digits of, and how many they are.
-fn fours(bytes: &[u8]) -> (u64, usize)
+// The digits that the bytes begin with, as long as eight more stand there and are sure to fit: the number that they are
+// the digits of, and how many they are.
+fn eights(bytes: &[u8]) -> (u64, usize)
     ensures within { result.1 ≤ length bytes.now }
     ensures digits { all_ascii_digits (take result.1 bytes.now) ≡ true }
     ensures value { digits_value 10 (take result.1 bytes.now) ≡ result.0 }
 {
     let mut number = 0;
     let mut count = 0;
-    'fours: while number <= BEFORE_FOUR {
-        let Some(four) = four_at(bytes, count) else {
+    'eights: while number <= BEFORE_EIGHT {
+        let Some(eight) = eight_at(bytes, count) else {
             return (number, count);
         };
-        number = number * 10_000 + four;
-        count += 4;
+        number = number * 100_000_000 + eight;
+        count += 8;
     }
     (number, count)
+}
+
+// The same, and four digits more where they stand there and fit.
+fn fours(bytes: &[u8]) -> (u64, usize)
+    ensures within { result.1 ≤ length bytes.now }
+    ensures digits { all_ascii_digits (take result.1 bytes.now) ≡ true }
+    ensures value { digits_value 10 (take result.1 bytes.now) ≡ result.0 }
+{
+    let (number, count) = eights(bytes);
+    if number > BEFORE_FOUR {
+        return (number, count);
+    }
+    let Some(four) = four_at(bytes, count) else {
+        return (number, count);
+    };
+    (number * 10_000 + four, count + 4)
 }
 
 /// The number that the bytes begin with, as it is spelled, and the bytes after it. `None`: none stands there, no byte follows

@@ -1,4 +1,4 @@
-use Rattle.std.proofs.Common.{◌++◌, ◌≡◌, ◌*◌, ◌+◌, ◌-◌, List, ℕ, sym, ap, ◌∙◌, take, arith, get_or}
+use Rattle.std.proofs.Common.{◌++◌, ◌*◌, ◌+◌, List, ℕ, sym, ap, ◌∙◌, take, arith}
 use Rattle.std.specs.Fmt.{decimal}
 use Rattle.ks_script.proofs.Numerals.{wide, value_read}
 use Rattle.ks_script.proofs.Fronts.{digit_more, front_spelled}

@@ -1,4 +1,4 @@
-use Rattle.std.proofs.Common.{◌≡◌, ◌≤◌, ◌<◌, ◌-◌, ◌^◌, true, take, length}
+use Rattle.std.proofs.Common.{◌≡◌, ◌≤◌, ◌-◌, true, take, length}
 use Rattle.std.specs.Str.{all_ascii_digits}
 use Rattle.ks_script.proofs.Numerals.{read_on}
 use Rattle.ks_script.proofs.words.leading.Given as goal
