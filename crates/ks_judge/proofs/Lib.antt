@@ -2,6 +2,7 @@ pub mod Notes
 pub mod Numbered
 pub mod Listing
 pub mod Replays
+pub mod Turns
 pub mod Tables
 pub mod Stand
 pub mod Placed

@@ -1,14 +1,12 @@
 -- The places of the lines that carry a number, with one line and with one caller more.
 use Rattle.std.proofs.Common.{ℕ, zero, suc, ◌≡◌, ◌<◌, ◌≤◌, ◌+◌, ◌==◌, ◌⊎◌, inl, inr, cond, Bool, true, false, List, [], ◌∷◌, ◌++◌, length, take, get_or, map, max, refl, sym, ◌∙◌, ap, subst, arith, append_assoc}
-use lib.Dec.{leb}
-use Rattle.std.proofs.lemmas.Bool.Decides.{nat_tests}
 use Rattle.std.proofs.lemmas.List.{append-nil, take_more, take_all, length-take-le}
 use Rattle.ks_history.specs.declared.Reply.{Reply}
 use Rattle.ks_history.specs.declared.Reply.TheVariants.{Nothing}
 use Rattle.ks_judge.specs.declared.slots.Slot.{Slot}
 use Rattle.ks_judge.specs.declared.slots.Slot.TheVariants.{Empty}
-use Rattle.ks_judge.specs.Judgment.{Lines, line_at, IsInOrder, carriers, carriers_from, carriers_in}
-use Rattle.ks_judge.specs.Slots.{Stands, TellsOrder, TellsSlot, Notes, carriers_to, if_carries}
+use Rattle.ks_judge.specs.Judgment.{Lines, line_at, carriers, carriers_from, carriers_in}
+use Rattle.ks_judge.specs.Slots.{Carries, TellsSlot, Notes, carriers_to, if_carries}
 
 carriers_in-append : (n c j : ℕ) (xs ys : List (ℕ × Reply)) → carriers_in n c j (xs ++ ys) ≡ carriers_in n c j xs ++ carriers_in n c (j + length xs) ys
 carriers_in-append n c j [] ys = ap (λ k. carriers_in n c k ys) (omega arith)
@@ -53,64 +51,20 @@ carriers_to-all lines c n le = append-nil (carriers_from n 0 (take c lines)) ∙
 pub notes_along : (lines : Lines) (slots : List Slot) (P Q : ℕ → List (ℕ × ℕ)) → ((n : ℕ) → P n ≡ Q n) → Notes lines slots P → Notes lines slots Q
 notes_along lines slots P Q same notes n lt = subst (λ (ps : List (ℕ × ℕ)). TellsSlot lines n (get_or slots n Empty) ps) (same n) (notes n lt)
 
--- the greatest of the numbers on the lines of caller c before line j; 0 where there are none
-pub record IsGreatest (lines : Lines) (c j greatest : ℕ) : Type 0 where
-  pub above : (i : ℕ) → i < j → (line_at lines c i).0 ≤ greatest
-  pub one_of : (greatest ≡ 0) ⊎ ((i : ℕ) × (i < j) × ((line_at lines c i).0 ≡ greatest))
-
-pub tells_order : (lines : Lines) (c j greatest n : ℕ) (b : Bool) → Stands lines c j → (b ≡ true → greatest ≤ n) → (b ≡ false → n < greatest) → IsGreatest lines c j greatest → TellsOrder lines c j n b
-tells_order lines c j greatest n true stands if_true if_false is = (stands, λ i lt. let a = is.above i lt in let b = if_true refl in omega arith)
-tells_order lines c j greatest n false stands if_true if_false is = (stands, λ order. by_side order is.one_of)
-  where
-    by_side : IsInOrder lines c j n → (greatest ≡ 0) ⊎ ((i : ℕ) × (i < j) × ((line_at lines c i).0 ≡ greatest)) → ⊥
-    by_side order (inl e) = let a = if_false refl in omega arith
-    by_side order (inr (i, lt, e)) = let a = if_false refl in let b = order i lt in omega arith
-
 -- the list of the element at an index
 pub shown : {X Y : Type 0} (f : X → List Y) (xs : List X) (i : ℕ) (d : X) → i < length xs → d ≡ get_or xs i d → get_or (map f xs) i [] ≡ f d
 shown f [] i d lt is = absurd (omega arith)
 shown f (x ∷ xs) zero d lt is = ap f (sym is)
 shown f (x ∷ xs) (suc i) d lt is = shown f xs i d (omega arith) is
 
-pub greatest_more : (lines : Lines) (c j greatest new : ℕ) → new ≡ max greatest (line_at lines c j).0 → IsGreatest lines c j greatest → IsGreatest lines c (j + 1) new
-greatest_more lines c j greatest new is g = record { above = above; one_of = by_side (side greatest (line_at lines c j).0) }
-  where
-    above : (i : ℕ) → i < j + 1 → (line_at lines c i).0 ≤ new
-    above i lt = at (last i j lt)
-      where
-        last : (i j : ℕ) → i < j + 1 → (i < j) ⊎ (i ≡ j)
-        last i j lt = grind arith
-
-        at : (i < j) ⊎ (i ≡ j) → (line_at lines c i).0 ≤ new
-        at (inl below) = let a = g.above i below in omega arith
-        at (inr e) = subst (λ (k : ℕ). (line_at lines c k).0 ≤ new) (sym e) (omega arith)
-
-    side : (a b : ℕ) → (max a b ≡ a) ⊎ (max a b ≡ b)
-    side a b = grind arith
-
-    by_side : (max greatest (line_at lines c j).0 ≡ greatest) ⊎ (max greatest (line_at lines c j).0 ≡ (line_at lines c j).0) → (new ≡ 0) ⊎ ((i : ℕ) × (i < j + 1) × ((line_at lines c i).0 ≡ new))
-    by_side (inl e) = old g.one_of
-      where
-        old : (greatest ≡ 0) ⊎ ((i : ℕ) × (i < j) × ((line_at lines c i).0 ≡ greatest)) → (new ≡ 0) ⊎ ((i : ℕ) × (i < j + 1) × ((line_at lines c i).0 ≡ new))
-        old (inl z) = inl (is ∙ e ∙ z)
-        old (inr (i, lt, s)) = inr (i, omega arith, s ∙ sym (is ∙ e))
-    by_side (inr e) = inr (j, omega arith, sym (is ∙ e))
-
 -- a line noted, as the program notes it: xs are the lines of caller c
-pub line_noted : (lines : Lines) (c j greatest : ℕ) (xs : List (ℕ × Reply)) (slots slots' : List Slot) → get_or lines c [] ≡ xs → c < length lines → j < length xs → IsGreatest lines c j greatest →
-    ((ls : Lines) (P : ℕ → List (ℕ × ℕ)) → TellsOrder ls c j (get_or xs j (0, Nothing)).0 (leb greatest (get_or xs j (0, Nothing)).0) → Notes ls slots P → Notes ls slots' (λ n. P n ++ if_carries (get_or xs j (0, Nothing)).0 n (c, j))) →
+pub line_noted : (lines : Lines) (c j : ℕ) (xs : List (ℕ × Reply)) (slots slots' : List Slot) → get_or lines c [] ≡ xs → c < length lines → j < length xs →
+    ((ls : Lines) (i : ℕ) (P : ℕ → List (ℕ × ℕ)) → Carries ls c i (get_or xs j (0, Nothing)).0 → Notes ls slots P → Notes ls slots' (λ n. P n ++ if_carries (get_or xs j (0, Nothing)).0 n (c, i))) →
     Notes lines slots (carriers_to lines c j) → Notes lines slots' (carriers_to lines c (j + 1))
-line_noted lines c j greatest xs slots slots' is there lt g noted notes =
+line_noted lines c j xs slots slots' is there lt noted notes =
     let number : ℕ = (get_or xs j (0, Nothing)).0 in
     let same : (line_at lines c j).0 ≡ number = ap (λ (ys : List (ℕ × Reply)). (get_or ys j (0, Nothing)).0) is in
     let within : j < length (get_or lines c []) = subst (λ (ys : List (ℕ × Reply)). j < length ys) (sym is) lt in
-    let order : TellsOrder lines c j number (leb greatest number) = tells_order lines c j greatest number (leb greatest number) (there, within) (λ e. leb_true greatest number e) (λ e. leb_false greatest number e) g in
     notes_along lines slots' (λ n. carriers_to lines c j n ++ if_carries number n (c, j)) (carriers_to lines c (j + 1))
     (λ n. ap (λ (k : ℕ). carriers_to lines c j n ++ if_carries k n (c, j)) (sym same) ∙ sym (carriers_to-line lines c j n within))
-    (noted lines (carriers_to lines c j) order notes)
-  where
-    leb_true : (a b : ℕ) → leb a b ≡ true → a ≤ b
-    leb_true a b e = grind (arith, nat_tests)
-
-    leb_false : (a b : ℕ) → leb a b ≡ false → b < a
-    leb_false a b e = grind (arith, nat_tests)
+    (noted lines j (carriers_to lines c j) ((there, within), same) notes)

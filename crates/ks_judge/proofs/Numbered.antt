@@ -10,7 +10,7 @@ use Rattle.ks_script.specs.Script.{calls_in}
 use Rattle.ks_judge.specs.declared.slots.Slot.{Slot}
 use Rattle.ks_judge.specs.declared.slots.Slot.TheVariants.{One}
 use Rattle.ks_judge.specs.Judgment.{Lines, SameShape, line_at, op_at, answered_at, IsInOrder, IsPlaced, carriers, calls_below}
-use Rattle.ks_judge.specs.Slots.{Stands, TellsSlot}
+use Rattle.ks_judge.specs.Slots.{Carries, TellsSlot}
 
 -- how many calls some first callers have
 
@@ -62,11 +62,9 @@ same_length script lines shape c = sym (length_at lines c) ∙ ap (λ (ns : List
 pub same_count : (script : List (List Op)) (lines : Lines) → SameShape script lines → length lines ≡ length script
 same_count script lines shape = sym (length-map lines (λ x. length x)) ∙ ap length shape ∙ length-map script (λ x. length x)
 
--- a slot that tells one line, in order
-pub one_tells : (lines : Lines) (n : ℕ) (slot : Slot) (c j : ℕ) (o : Bool) (places : List (ℕ × ℕ)) → slot ≡ One o c j → o ≡ true → TellsSlot lines n slot places → (places ≡ (c, j) ∷ []) × Stands lines c j × IsInOrder lines c j n
-one_tells lines n slot c j o places is holds tells =
-    let t : TellsSlot lines n (One true c j) places = subst (λ (s : Slot). TellsSlot lines n s places) (is ∙ ap (λ (b : Bool). One b c j) holds) tells in
-    (t.0, t.1.0, t.1.1)
+-- a slot that tells one line
+pub one_tells : (lines : Lines) (n : ℕ) (slot : Slot) (c : ℕ) (places : List (ℕ × ℕ)) → slot ≡ One c → TellsSlot lines n slot places → (j : ℕ) × (places ≡ (c, j) ∷ []) × Carries lines c j n
+one_tells lines n slot c places is tells = subst (λ (s : Slot). TellsSlot lines n s places) is tells
 
 pub below_more : (script : List (List Op)) (lines : Lines) (n c j : ℕ) → carriers lines n ≡ (c, j) ∷ [] → calls_below script lines (n + 1) ≡ calls_below script lines n ++ answered_at script lines (c, j) ∷ []
 below_more script lines n c j only =

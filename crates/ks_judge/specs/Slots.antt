@@ -1,22 +1,21 @@
 -- What is noted of the lines that carry a number.
-use Rattle.std.specs.Prelude.{ℕ, ◌≡◌, ◌==◌, ◌<◌, ◌≤◌, List, [], ◌∷◌, ◌++◌, length, take, slice_index_or, Bool, true, false, if◌then◌else◌}
+use Rattle.std.specs.Prelude.{ℕ, ◌≡◌, ◌==◌, ◌<◌, ◌≤◌, ◌+◌, List, [], ◌∷◌, ◌++◌, length, take, slice_index_or, if◌then◌else◌}
 use Rattle.ks_judge.specs.declared.slots.Slot.{Slot}
 use Rattle.ks_judge.specs.declared.slots.Slot.TheVariants.{Empty, One, Many}
-use Rattle.ks_judge.specs.Judgment.{Lines, IsInOrder, carriers_in, carriers_from}
+use Rattle.ks_judge.specs.Judgment.{Lines, line_at, carriers_in, carriers_from}
 
 -- line j of caller c is there
 abbrev pub Stands : Lines → ℕ → ℕ → Type 0
 Stands lines c j = (c < length lines) × (j < length (slice_index_or lines c []))
 
--- whether a line is in order
-abbrev pub TellsOrder : Lines → ℕ → ℕ → ℕ → Bool → Type 0
-TellsOrder lines c j n true = Stands lines c j × IsInOrder lines c j n
-TellsOrder lines c j n false = Stands lines c j × (IsInOrder lines c j n → ⊥)
+-- and it carries n
+abbrev pub Carries : Lines → ℕ → ℕ → ℕ → Type 0
+Carries lines c j n = Stands lines c j × ((line_at lines c j).0 ≡ n)
 
--- the slot of the number n tells the places of the lines that carry it
+-- the slot of the number n tells whose lines carry it, where the places of these lines are given
 abbrev pub TellsSlot : Lines → ℕ → Slot → List (ℕ × ℕ) → Type 0
 TellsSlot lines n Empty places = places ≡ []
-TellsSlot lines n (One ordered c j) places = (places ≡ (c, j) ∷ []) × TellsOrder lines c j n ordered
+TellsSlot lines n (One c) places = (j : ℕ) × (places ≡ (c, j) ∷ []) × Carries lines c j n
 TellsSlot lines n Many places = 2 ≤ length places
 
 -- each slot tells the places that P gives for its number
@@ -31,8 +30,8 @@ carriers_to lines c j n = carriers_from n 0 (take c lines) ++ carriers_in n c 0 
 abbrev pub if_carries : ℕ → ℕ → ℕ × ℕ → List (ℕ × ℕ)
 if_carries number n place = if number == n then place ∷ [] else []
 
--- a slot with one line more
-abbrev pub noted_slot : Slot → ℕ → ℕ → Bool → Slot
-noted_slot Empty c j ordered = One ordered c j
-noted_slot (One o d i) c j ordered = Many
-noted_slot Many c j ordered = Many
+-- a slot with one line of caller c more
+abbrev pub noted_slot : Slot → ℕ → Slot
+noted_slot Empty c = One c
+noted_slot (One d) c = Many
+noted_slot Many c = Many

@@ -72,7 +72,8 @@ fn make(map: &mut HashMap<u64, u128>, op: Op, reply: &Reply) -> Result<bool, All
     }
 }
 
-/// Makes the calls in the order of their numbers, up to the first number that is wrong.
+/// Makes the calls in the order of their numbers, up to the first number that is wrong. As long as all are right, the
+/// callers' lines are read in turn: the one that carries a number is the next of its caller, or not in order.
 pub fn replay(
     alloc: Global,
     callers: &[Vec<Op>],
@@ -92,19 +93,20 @@ pub fn replay(
         ≡ map_after (calls_below (map (λ v. v.items) callers.now) (map (λ v. v.items) lines.now) r.right) p) }
 {
     let mut map = HashMap::new(alloc);
+    // For each caller the place of its next line.
+    let mut places = vec![in alloc; 0; callers.len()]?;
     for (number, slot) in slots.iter().enumerate() {
         match *slot {
-            Slot::One {
-                caller,
-                place,
-                in_order,
-            } => {
-                if !in_order {
+            Slot::One { caller } => {
+                let caller = caller as usize;
+                let place: usize = places[caller];
+                if lines[caller][place].0 != number as u64 {
                     return Ok(Replayed { right: number, map });
                 }
                 if !make(&mut map, callers[caller][place], &lines[caller][place].1)? {
                     return Ok(Replayed { right: number, map });
                 }
+                places[caller] = place + 1;
             }
             _ => return Ok(Replayed { right: number, map }),
         }

@@ -2,6 +2,7 @@ use Rattle.std.proofs.Common.{◌≡◌, ◌<◌, length, map}
 use Rattle.std.specs.Prelude.{nat_eq}
 use Rattle.std.specs.HashMap.{get}
 use Rattle.ks_judge.proofs.Replays.{After, RightBelow}
+use Rattle.ks_judge.proofs.Turns.{Turns}
 use Rattle.ks_judge.proofs.replay.replay.Given as goal
 
 abbrev pub invariant-loop-number : goal.invariant-loop-number
@@ -11,4 +12,5 @@ invariant-loop-number l =
     record {
       right : RightBelow script lines l.number;
       after : After script lines l.number (get nat_eq l.map);
+      turns : Turns lines l.number l.places.items;
     }
