@@ -8,7 +8,7 @@ use Rattle.ks_judge.specs.Judgment.{Lines, line_at, carriers_in, carriers_from}
 abbrev pub Stands : Lines → ℕ → ℕ → Type 0
 Stands lines c j = (c < length lines) × (j < length (slice_index_or lines c []))
 
--- and it carries n
+-- line j of caller c is there, and carries n
 abbrev pub Carries : Lines → ℕ → ℕ → ℕ → Type 0
 Carries lines c j n = Stands lines c j × ((line_at lines c j).0 ≡ n)
 

@@ -47,7 +47,7 @@ fn note_caller(slots: &mut [Slot], callers: &[Vec<(u64, Reply)>], caller: u32)
     }
 }
 
-/// For each number below `count` the lines that carry it. Callers are numbered by 32 bits: more of them than that take
+/// For each number below `count` whose lines carry it. Callers are numbered by 32 bits: more of them than that take
 /// a hundred gigabytes, and are answered as if there was no memory.
 pub fn slots(
     alloc: Global,
