@@ -1,15 +1,11 @@
 -- Calls in the order of their numbers.
-use Rattle.std.proofs.Common.{ℕ, zero, suc, ◌≡◌, ◌<◌, ◌≤◌, ◌+◌, ◌⊎◌, inl, inr, Bool, true, List, [], ◌∷◌, ◌++◌, length, take, drop, get_or, map, refl, sym, ◌∙◌, ap, subst, arith}
-use Rattle.std.proofs.lemmas.List.{map_more, map-append, take-append-drop, get_or_default, length-map}
+use Rattle.std.proofs.Common.{ℕ, zero, suc, ◌≡◌, ◌<◌, ◌≤◌, ◌+◌, List, [], ◌∷◌, ◌++◌, length, take, drop, get_or, map, refl, sym, ◌∙◌, ap, subst, arith}
+use Rattle.std.proofs.lemmas.List.{map_more, map-append, take-append-drop, length-map}
 use Rattle.ks_history.specs.declared.Op.{Op}
-use Rattle.ks_history.specs.declared.Op.TheVariants.{Get}
-use Rattle.ks_history.specs.declared.Reply.{Reply}
-use Rattle.ks_history.specs.declared.Reply.TheVariants.{Nothing}
-use Rattle.ks_history.specs.declared.Answered.{Answered}
 use Rattle.ks_script.specs.Script.{calls_in}
 use Rattle.ks_judge.specs.declared.slots.Slot.{Slot}
 use Rattle.ks_judge.specs.declared.slots.Slot.TheVariants.{One}
-use Rattle.ks_judge.specs.Judgment.{Lines, SameShape, line_at, op_at, answered_at, IsInOrder, IsPlaced, carriers, calls_below}
+use Rattle.ks_judge.specs.Judgment.{Lines, SameShape, answered_at, carriers, calls_below}
 use Rattle.ks_judge.specs.Slots.{Carries, TellsSlot}
 
 -- how many calls some first callers have

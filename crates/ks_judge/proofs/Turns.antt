@@ -8,7 +8,6 @@ use Rattle.std.proofs.lemmas.List.{get_or-set_same, get_or-set_other, length-set
 use Rattle.ks_history.specs.declared.Op.{Op}
 use Rattle.ks_history.specs.declared.Reply.{Reply}
 use Rattle.ks_history.specs.declared.Reply.TheVariants.{Nothing}
-use Rattle.ks_history.specs.declared.Answered.{Answered}
 use Rattle.ks_judge.specs.Judgment.{Lines, line_at, IsInOrder, IsRight, carriers, carriers_from, carriers_in}
 use Rattle.ks_judge.specs.Slots.{Stands, Carries}
 use Rattle.ks_judge.proofs.Replays.{RightBelow, IsCallOf, call_read}

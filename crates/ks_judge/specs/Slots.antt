@@ -1,5 +1,5 @@
 -- What is noted of the lines that carry a number.
-use Rattle.std.specs.Prelude.{ℕ, ◌≡◌, ◌==◌, ◌<◌, ◌≤◌, ◌+◌, List, [], ◌∷◌, ◌++◌, length, take, slice_index_or, if◌then◌else◌}
+use Rattle.std.specs.Prelude.{ℕ, ◌≡◌, ◌==◌, ◌<◌, ◌≤◌, List, [], ◌∷◌, ◌++◌, length, take, slice_index_or, if◌then◌else◌}
 use Rattle.ks_judge.specs.declared.slots.Slot.{Slot}
 use Rattle.ks_judge.specs.declared.slots.Slot.TheVariants.{Empty, One, Many}
 use Rattle.ks_judge.specs.Judgment.{Lines, line_at, carriers_in, carriers_from}

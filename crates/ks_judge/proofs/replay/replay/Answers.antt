@@ -1,4 +1,4 @@
-use Rattle.std.proofs.Common.{ℕ, sym, ◌≡◌, ◌<◌, ◌+◌, List, map, length, ap, ◌∙◌, subst, arith, set}
+use Rattle.std.proofs.Common.{ℕ, sym, ◌<◌, List, map, length, ap, ◌∙◌, subst, arith}
 use Rattle.std.specs.Prelude.{nat_eq}
 use Rattle.std.specs.HashMap.{get}
 use Rattle.std.proofs.lemmas.Bool.{false≢true}
@@ -9,7 +9,7 @@ use Rattle.ks_judge.specs.Judgment.{line_at, carriers}
 use Rattle.ks_judge.proofs.Notes.{shown}
 use Rattle.ks_judge.proofs.Numbered.{same_length, same_count, one_tells}
 use Rattle.ks_judge.proofs.Replays.{IsCallOf, right_if, only_if, after_more, right_more}
-use Rattle.ks_judge.proofs.Turns.{Turns, out_of_turn, turns_read, line_read, call_here}
+use Rattle.ks_judge.proofs.Turns.{out_of_turn, turns_read, line_read, call_here}
 use Rattle.ks_judge.proofs.replay.replay.Goals as goal
 
 pub returns-then-index-number-clause-stop : goal.returns-then-index-number-clause-stop
