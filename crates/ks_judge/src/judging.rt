@@ -95,8 +95,7 @@ fn has_nothing(alloc: Global, map: HashMap<u64, u128>) -> Result<bool, AllocErro
 }
 
 /// Judges a printed run of a script: whether its replies are those of one map in the order of their numbers, and the
-/// pairs that map at the end, and else which number is the least that is wrong. More than 4,294,967,295 callers are
-/// answered as if there was no memory.
+/// pairs that map at the end, and else which number is the least that is wrong.
 pub fn judge(alloc: Global, script: &Script, printed: &Printed) -> Result<Judged, AllocError>
     requires shape { SameShape script.now printed.now.callers }
     requires few { calls_in script.now ≤ 1048576 }

@@ -98,7 +98,6 @@ pub fn replay(
     for (number, slot) in slots.iter().enumerate() {
         match *slot {
             Slot::One { caller } => {
-                let caller = caller as usize;
                 let place: usize = places[caller];
                 if lines[caller][place].0 != number as u64 {
                     return Ok(Replayed { right: number, map });

@@ -11,12 +11,12 @@ use std::alloc::{AllocError, Global};
 #[derive(Clone, Copy, Debug, PartialEq, Eq)]
 pub enum Slot {
     Empty,
-    One { caller: u32 },
+    One { caller: usize },
     Many,
 }
 
 /// The slot when one line more carries its number.
-fn noted(slot: Slot, caller: u32) -> Slot
+fn noted(slot: Slot, caller: usize) -> Slot
     ensures { result ≡ noted_slot slot caller }
 {
     match slot {
@@ -26,7 +26,7 @@ fn noted(slot: Slot, caller: u32) -> Slot
 }
 
 /// Notes a line of the caller in the slot of its number, if there is one.
-fn note(slots: &mut [Slot], number: u64, caller: u32)
+fn note(slots: &mut [Slot], number: u64, caller: usize)
     ensures { (lines : Lines) (j : ℕ) (P : ℕ → List (ℕ × ℕ)) → Carries lines caller j number →
         Notes lines slots.old P → Notes lines slots.new (λ n. P n ++ if_carries number n (caller, j)) }
 {
@@ -37,18 +37,17 @@ fn note(slots: &mut [Slot], number: u64, caller: u32)
 }
 
 /// Notes the lines of one caller.
-fn note_caller(slots: &mut [Slot], callers: &[Vec<(u64, Reply)>], caller: u32)
+fn note_caller(slots: &mut [Slot], callers: &[Vec<(u64, Reply)>], caller: usize)
     requires which { caller < length callers.now }
     requires noted { let lines = map (λ v. v.items) callers.now in Notes lines slots.old (carriers_to lines caller 0) }
     ensures { let lines = map (λ v. v.items) callers.now in Notes lines slots.new (carriers_to lines (caller + 1) 0) }
 {
-    for line in callers[caller as usize].iter() {
+    for line in callers[caller].iter() {
         note(slots, line.0, caller);
     }
 }
 
-/// For each number below `count` whose lines carry it. Callers are numbered by 32 bits: more of them than that take
-/// a hundred gigabytes, and are answered as if there was no memory.
+/// For each number below `count` whose lines carry it.
 pub fn slots(
     alloc: Global,
     callers: &[Vec<(u64, Reply)>],
@@ -58,11 +57,8 @@ pub fn slots(
     ensures noted { IfOk result
         (λ v. let lines = map (λ v. v.items) callers.now in Notes lines v.items (carriers lines)) }
 {
-    let Ok(end) = u32::try_from(callers.len()) else {
-        return Err(AllocError);
-    };
     let mut slots = vec![in alloc; Slot::Empty; count]?;
-    for caller in 0..end {
+    for caller in 0..callers.len() {
         note_caller(&mut slots, callers, caller);
     }
     Ok(slots)
