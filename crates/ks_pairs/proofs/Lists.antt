@@ -73,7 +73,7 @@ on_ok (Ok x) P h p = p
 on_ok (Err e) P h p = absurd (no h)
 
 -- a list written over by one as long
-pub refill_same : (n : ℕ) (xs ws : List ℕ) → length ws ≡ n → refill n xs ws ≡ ws
+pub refill_same : {X : Type 0} (n : ℕ) (xs ws : List X) → length ws ≡ n → refill n xs ws ≡ ws
 refill_same n xs ws e = ap (λ m. take m (ws ++ drop (length ws) xs)) (sym e) ∙ take-append_seam ws (drop (length ws) xs)
 
 -- what is found passes

@@ -6,7 +6,7 @@ ghost use Rattle.ks_pairs.specs.Paired.{Stands};
 ghost use Rattle.ks_node.specs.Body.{value_at, pairs_below, pairs_from};
 ghost use Rattle.ks_node.specs.Effect.{pairs_put, pairs_del};
 
-use crate::slices::{count_below, item, set_item};
+use crate::slices::{count_below, insert_at, item, remove_at, set_item};
 use arrayvec::ArrayVec;
 use ks_keysets::Pair;
 use std::marker::Model;
@@ -109,8 +109,8 @@ impl<const N: usize> Pairs<N> {
                 Some(old)
             }
             Err(at) => {
-                self.places.insert(at, place);
-                self.values.insert(at, value);
+                insert_at(&mut self.places, at, place);
+                insert_at(&mut self.values, at, value);
                 None
             }
         }
@@ -125,8 +125,10 @@ impl<const N: usize> Pairs<N> {
     {
         match self.seek(place) {
             Ok(at) => {
-                self.places.remove(at);
-                Some(self.values.remove(at))
+                let removed = item(self.values.as_slice(), at);
+                remove_at(&mut self.places, at);
+                remove_at(&mut self.values, at);
+                Some(removed)
             }
             Err(_) => None,
         }

@@ -1,5 +1,6 @@
-use Rattle.std.proofs.Common.{rules, arith, length, ap, sym, set, ◌≡◌, ◌∙◌}
+use Rattle.std.proofs.Common.{rules, arith, length, ap, sym, set, ◌≡◌, ◌+◌, ◌∙◌}
 use Rattle.std.proofs.lemmas.List.{length-set}
+use Rattle.std.proofs.lemmas.List.Edits.{length-insert}
 use Rattle.ks_pairs.proofs.Lists.{places_length, values_length, value_found, put_found, put_missing, missing_value, length-paired, refill_same}
 use Rattle.ks_pairs.proofs.pairs.Pairs.put.Goals as goal
 
@@ -9,13 +10,13 @@ item-old-requires g c = omega (arith, c.in-Ok.ensures.within, values_length _ _ 
 pub set_item-requires : goal.set_item-requires
 set_item-requires g c = omega (arith, c.in-Ok.ensures.within, values_length _ _ c.self.invariant.0 (ap (λ s. s.items) c.self.view_is), ap length c.as_mut_slice.ensures.value)
 
-pub insert-requires : goal.insert-requires
-insert-requires g c =
+pub insert_at-requires : goal.insert_at-requires
+insert_at-requires g c =
     let long = places_length _ _ c.self.invariant.0 (ap (λ s. s.items) c.self.view_is) in
     (search rules, (omega (arith, c.in-Err.ensures.within), omega (arith, c.requires.room (missing_value c.in-Err.ensures))))
 
-pub insert-requires-in-Err : goal.insert-requires-in-Err
-insert-requires-in-Err g c =
+pub insert_at-requires-in-Err : goal.insert_at-requires-in-Err
+insert_at-requires-in-Err g c =
     let long = values_length _ _ c.self.invariant.0 (ap (λ s. s.items) c.self.view_is) in
     (search rules, (omega (arith, c.in-Err.ensures.within), omega (arith, c.requires.room (missing_value c.in-Err.ensures))))
 
@@ -37,13 +38,19 @@ returns-in-Ok-clause-fits g c =
     (omega (arith, length-paired ps (set vs c.in-Ok.at c.args.value) (c.self.invariant.0 ∙ sym (length-set vs c.in-Ok.at c.args.value)), c.self.invariant.1))
 
 pub returns-in-Err-clause-items : goal.returns-in-Err-clause-items
-returns-in-Err-clause-items g c = rw (c.insert.ensures.items, c.insert-in-Err.ensures.items) (put_missing _ _ c.self.invariant.0 (ap (λ s. s.items) c.self.view_is) c.in-Err.ensures c.args.value)
-
-pub returns-in-Err-clause-fits : goal.returns-in-Err-clause-fits
-returns-in-Err-clause-fits g c =
-    omega (arith, length-paired c.insert.new.self.items c.insert-in-Err.new.self.items (omega (arith, c.insert.ensures.len, c.insert-in-Err.ensures.len, c.self.invariant.0)), c.insert.ensures.len, c.requires.room (missing_value c.in-Err.ensures), places_length _ _ c.self.invariant.0 (ap (λ s. s.items) c.self.view_is))
+returns-in-Err-clause-items g c = rw (c.insert_at.ensures, c.insert_at-in-Err.ensures) (put_missing _ _ c.self.invariant.0 (ap (λ s. s.items) c.self.view_is) c.in-Err.ensures c.args.value)
 
 pub invariant_of-self-in-Err : goal.invariant_of-self-in-Err
 invariant_of-self-in-Err g c =
+    let ps = c.self.inside.places.items in
+    let vs = c.self.inside.values.items in
+    let at = c.in-Err.at in
     let long = places_length _ _ c.self.invariant.0 (ap (λ s. s.items) c.self.view_is) in
-    (omega (arith, c.insert.ensures.len, c.insert-in-Err.ensures.len, c.self.invariant.0), omega (arith, c.insert.ensures.len, c.requires.room (missing_value c.in-Err.ensures)))
+    let places : length c.insert_at.new.items.items ≡ length ps + 1 = ap length c.insert_at.ensures ∙ length-insert ps at c.args.place (omega (arith, c.in-Err.ensures.within)) in
+    let values : length c.insert_at-in-Err.new.items.items ≡ length vs + 1 = ap length c.insert_at-in-Err.ensures ∙ length-insert vs at c.args.value (omega (arith, c.self.invariant.0, c.in-Err.ensures.within)) in
+    (omega (arith, c.self.invariant.0), omega (arith, c.requires.room (missing_value c.in-Err.ensures)))
+
+pub returns-in-Err-clause-fits : goal.returns-in-Err-clause-fits
+returns-in-Err-clause-fits g c =
+    let kept = invariant_of-self-in-Err g c in
+    omega (arith, length-paired c.insert_at.new.items.items c.insert_at-in-Err.new.items.items kept.0, kept.1)
