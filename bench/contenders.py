@@ -26,21 +26,29 @@ class Contender:
     layout: str = ""
     template: str = ""
     is_numbered: bool = True
+    wants_nodes: bool = False
+
+    def pairing(self, verb, nodes):
+        """The words that say over what it serves."""
+        if self.layout:
+            return [verb, self.layout, self.template, str(nodes)]
+        return [str(nodes)] if self.wants_nodes else []
 
     def command(self, callers, calls):
         """The command that serves so many callers, each with so many generated calls."""
-        pairing = ["make", self.layout, self.template, str(callers * NODES_FOR_EACH_CALLER)] if self.layout else []
-        return [*self.words, *pairing, str(callers), str(calls), str(FIRST)]
+        return [*self.words, *self.pairing("make", callers * NODES_FOR_EACH_CALLER), str(callers), str(calls), str(FIRST)]
 
     def serving(self, workers):
         """The command that serves the script on standard input by so many workers."""
-        pairing = ["run", self.layout, self.template, str(NODES_FOR_SCRIPTS)] if self.layout else ["script"]
-        return [*self.words, *pairing, str(workers)]
+        verb = [] if self.layout else ["script"]
+        return [*self.words, *self.pairing("run", NODES_FOR_SCRIPTS), *verb, str(workers)]
 
 
 MUTEX = Contender("Mutex<BTreeMap>", (os.path.join(BUILT, "ordered_maps"), "mutex"))
 RWLOCK = Contender("RwLock<BTreeMap>", (os.path.join(BUILT, "ordered_maps"), "rwlock"))
 HASH_MAP = Contender("TBB concurrent_hash_map, no numbers", (os.path.join(BUILT, "hash_map"),), is_numbered=False)
+PLAIN_TREES = tuple(Contender(f"plain bplus {template}, unproved", (os.path.join(BUILT, "plain_trees"), template), wants_nodes=True)
+                    for template in TEMPLATES)
 SKIP_LIST = Contender("Java ConcurrentSkipListMap, no numbers", ("java", "-cp", BUILT, "SkipList"), is_numbered=False)
 
 
@@ -82,11 +90,22 @@ def is_built(what, compiler):
     return built.returncode == 0
 
 
+def rustc(program, source):
+    """How a peer in Rust is built."""
+    return ["rustc", "-O", "--edition", "2021", "-o", program, source]
+
+
+def models():
+    """The plain models of the design, where this machine can build them, with a line where it cannot."""
+    os.makedirs(BUILT, exist_ok=True)
+    return list(PLAIN_TREES) if is_built("the plain trees", rustc(PLAIN_TREES[0].words[0], "plain_trees.rs")) else []
+
+
 def peers():
     """The peers that this machine can build, with a line for each that it cannot."""
     os.makedirs(BUILT, exist_ok=True)
     built = []
-    if is_built("the maps of Rust", ["rustc", "-O", "--edition", "2021", "-o", MUTEX.words[0], "ordered_maps.rs"]):
+    if is_built("the maps of Rust", rustc(MUTEX.words[0], "ordered_maps.rs")):
         built += [MUTEX, RWLOCK]
     if is_built("the hash map of TBB", ["g++", "-O2", "-std=c++17", "-o", HASH_MAP.words[0], "hash_map.cpp", "-ltbb"]):
         built.append(HASH_MAP)

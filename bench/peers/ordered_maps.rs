@@ -1,35 +1,16 @@
-//! The generated calls, or those of a script on standard input, over a `BTreeMap` of the standard library behind one lock.
+//! The calls over a `BTreeMap` of the standard library behind one lock.
 //!
 //! usage: ordered_maps mutex|rwlock CALLERS CALLS FIRST
 //!        ordered_maps mutex|rwlock script WORKERS
 //!
-//! Workers draw callers; for generated calls each caller has one. A call draws its number while it holds the lock, so that
-//! all calls stand in one order, as the program's do.
+//! Workers draw callers; for generated calls each caller has one. A call draws its number while it holds the lock.
 
+mod serving;
+
+use serving::{Answer, Numbered, Op};
 use std::collections::BTreeMap;
-use std::fmt::Write;
-use std::io::Read;
-use std::sync::atomic::{AtomicU64, AtomicUsize, Ordering};
+use std::sync::atomic::{AtomicU64, Ordering};
 use std::sync::{Mutex, RwLock};
-
-#[derive(Clone, Copy)]
-enum Op {
-    Put(u64, u64),
-    Get(u64),
-    Del(u64),
-}
-
-struct Answer {
-    /// The call's number in the one order of all calls. The summary has no use for it.
-    number: u64,
-    found: Option<u64>,
-}
-
-/// A map that numbers its calls.
-trait Numbered: Sync {
-    fn call(&self, op: Op) -> Answer;
-    fn into_pairs(self) -> BTreeMap<u64, u64>;
-}
 
 #[derive(Default)]
 struct Locked {
@@ -38,7 +19,7 @@ struct Locked {
 }
 
 impl Numbered for Mutex<Locked> {
-    fn call(&self, op: Op) -> Answer {
+    fn call(&self, _caller: usize, op: Op) -> Answer {
         let mut locked = self.lock().unwrap();
         let number = locked.calls;
         locked.calls += 1;
@@ -69,7 +50,7 @@ impl Shared {
 }
 
 impl Numbered for Shared {
-    fn call(&self, op: Op) -> Answer {
+    fn call(&self, _caller: usize, op: Op) -> Answer {
         match op {
             Op::Put(key, value) => {
                 let mut pairs = self.pairs.write().unwrap();
@@ -91,120 +72,13 @@ impl Numbered for Shared {
     }
 }
 
-struct Generator(u64);
-
-impl Generator {
-    fn draw(&mut self) -> u64 {
-        self.0 = self.0.wrapping_mul(6364136223846793005).wrapping_add(1442695040888963407);
-        self.0 >> 33
-    }
-
-    fn call(&mut self, caller: u64, callers: u64) -> Op {
-        let kind = self.draw() % 4;
-        let key = caller + callers * (self.draw() % 256);
-        match kind {
-            0 | 1 => Op::Put(key, self.draw()),
-            2 => Op::Get(key),
-            _ => Op::Del(key),
-        }
-    }
-}
-
-fn made_script(callers: u64, calls: u64, first: u64) -> Vec<Vec<Op>> {
-    let mut generator = Generator(first);
-    (0..callers)
-        .map(|caller| (0..calls).map(|_| generator.call(caller, callers)).collect())
-        .collect()
-}
-
-/// The callers of a script that fits: the program says what does not.
-fn read_script() -> Vec<Vec<Op>> {
-    let mut text = String::new();
-    std::io::stdin().read_to_string(&mut text).expect("a text");
-    let mut script: Vec<Vec<Op>> = Vec::new();
-    for line in text.lines() {
-        let mut words = line.split(' ');
-        let kind = words.next().expect("a word");
-        let mut number = || words.next().expect("a number").parse().expect("a number");
-        let op = match kind {
-            "put" => Op::Put(number(), number()),
-            "get" => Op::Get(number()),
-            "del" => Op::Del(number()),
-            _ => {
-                script.push(Vec::new());
-                continue;
-            }
-        };
-        script.last_mut().expect("a caller").push(op);
-    }
-    script
-}
-
-/// The answers to each caller's calls, by so many workers that draw callers.
-fn serve<M: Numbered>(map: &M, script: &[Vec<Op>], workers: usize) -> Vec<Vec<Answer>> {
-    let next = AtomicUsize::new(0);
-    let draw = || Some(next.fetch_add(1, Ordering::Relaxed)).filter(|caller| *caller < script.len());
-    let work = || {
-        let mut served = Vec::new();
-        while let Some(caller) = draw() {
-            let answers: Vec<Answer> = script[caller].iter().map(|op| map.call(*op)).collect();
-            served.push((caller, answers));
-        }
-        served
-    };
-    let mut served: Vec<(usize, Vec<Answer>)> = std::thread::scope(|scope| {
-        let workers: Vec<_> = (0..workers).map(|_| scope.spawn(work)).collect();
-        workers.into_iter().flat_map(|worker| worker.join().unwrap()).collect()
-    });
-    served.sort_by_key(|(caller, _)| *caller);
-    served.into_iter().map(|(_, answers)| answers).collect()
-}
-
-/// Prints what the program prints of a run.
-fn print_run<M: Numbered>(map: M, script: &[Vec<Op>], workers: usize) {
-    let answers = serve(&map, script, workers);
-    let mut text = String::new();
-    for (caller, answers) in answers.iter().enumerate() {
-        writeln!(text, "caller {caller}").unwrap();
-        for Answer { number, found } in answers {
-            match found {
-                Some(value) => writeln!(text, "{number} {value}").unwrap(),
-                None => writeln!(text, "{number} none").unwrap(),
-            }
-        }
-    }
-    text.push_str("map\n");
-    for (key, value) in map.into_pairs() {
-        writeln!(text, "{key} {value}").unwrap();
-    }
-    print!("{text}end\n");
-}
-
-fn print_summary<M: Numbered>(map: M, script: &[Vec<Op>]) {
-    let answers = serve(&map, script, script.len());
-    let calls: usize = answers.iter().map(Vec::len).sum();
-    let found = answers.iter().flatten().filter(|answer| answer.found.is_some()).count();
-    let pairs = map.into_pairs();
-    let sum = pairs.iter().fold(0u64, |sum, (key, value)| sum.wrapping_add(key.wrapping_mul(*value)));
-    println!("callers {}\ncalls {calls}\nfound {found}\nnone {}", script.len(), calls - found);
-    println!("full 0\npairs {}\nsum {sum}", pairs.len());
-}
-
 fn main() {
     let words: Vec<String> = std::env::args().skip(1).collect();
     let words: Vec<&str> = words.iter().map(String::as_str).collect();
-    let number = |word: &str| word.parse().expect("a number");
-    match words[..] {
-        ["mutex", "script", workers] => print_run(Mutex::<Locked>::default(), &read_script(), number(workers) as usize),
-        ["rwlock", "script", workers] => print_run(Shared::default(), &read_script(), number(workers) as usize),
-        [kind, callers, calls, first] => {
-            let script = made_script(number(callers), number(calls), number(first));
-            match kind {
-                "mutex" => print_summary(Mutex::<Locked>::default(), &script),
-                "rwlock" => print_summary(Shared::default(), &script),
-                _ => panic!("the map is mutex or rwlock"),
-            }
-        }
-        _ => panic!("usage: ordered_maps mutex|rwlock CALLERS CALLS FIRST, or mutex|rwlock script WORKERS"),
-    }
+    let is_served = match words[..] {
+        ["mutex", ref calls @ ..] => serving::run(Mutex::<Locked>::default(), calls),
+        ["rwlock", ref calls @ ..] => serving::run(Shared::default(), calls),
+        _ => false,
+    };
+    assert!(is_served, "usage: ordered_maps mutex|rwlock CALLERS CALLS FIRST, or mutex|rwlock script WORKERS");
 }
