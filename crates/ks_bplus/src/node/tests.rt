@@ -12,7 +12,7 @@ fn blank(rt: &impl Abort, alloc: Global) -> BNode {
 }
 
 fn is_blank(node: &BNode) -> bool
-    ensures { IsTrue result → body_of node.now.low node.now.parts.value ≡ blank_body false }
+    ensures { IsTrue result → body_of node.now.low node.now.parts ≡ blank_body false }
 {
     node.low == 0
         && !node.parts.is_inner()

@@ -19,14 +19,14 @@ fn blank(rt: &impl Abort, alloc: Global) -> HNode {
 }
 
 fn is_blank(node: &HNode) -> bool
-    ensures { IsTrue result → body_of node.now.low node.now.parts.value ≡ blank_body false }
+    ensures { IsTrue result → body_of node.now.low node.now.parts ≡ blank_body false }
 {
     node.low == 0 && !node.is_branch() && node.parts.pairs_held() == 0 && node.parts.own().is_none()
 }
 
 /// Whether all pairs lie below a cut.
 fn all_below(node: &HNode, cut: u64) -> bool
-    ensures { IsTrue result → All (λ x. x.place < cut) (pairs_of node.now.parts.value) }
+    ensures { IsTrue result → All (λ x. x.place < cut) (pairs_of node.now.parts) }
 {
     for n in 0..node.parts.pairs_held() {
         if node.parts.pair(n).place >= cut {
