@@ -4,10 +4,7 @@ use Rattle.std.specs.Int.RustNames.{bit_and}
 use Rattle.std.specs.Char.{is_ascii_digit}
 use Rattle.std.proofs.lemmas.Nat.{and_block}
 use Rattle.std.proofs.lemmas.Nat.Bits.{and_high}
-
--- the word of eight bytes, the lowest first
-abbrev pub word_of : (ℕ → ℕ) → ℕ
-word_of byte = byte 0 + 2 ^ 8 * byte 1 + 2 ^ 16 * byte 2 + 2 ^ 24 * byte 3 + 2 ^ 32 * byte 4 + 2 ^ 40 * byte 5 + 2 ^ 48 * byte 6 + 2 ^ 56 * byte 7
+use Rattle.ks_script.specs.Eight.{word_of}
 
 abbrev pub Eight : (ℕ → Type 0) → Type 0
 Eight is = is 0 × is 1 × is 2 × is 3 × is 4 × is 5 × is 6 × is 7

@@ -9,3 +9,4 @@ pub mod Memory
 pub mod Front
 pub mod Answers
 pub mod RunParts
+pub mod Eight

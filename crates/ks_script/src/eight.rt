@@ -1,7 +1,7 @@
 //! Eight digits, read in one word.
 
-ghost use Rattle.std.specs.Prelude.{ℕ, ◌≡◌, ◌≤◌, ◌<◌, ◌+◌, ◌-◌, ◌*◌, ◌^◌, true, length, slice_index, IfSome};
-ghost use Rattle.std.specs.Char.{is_ascii_digit};
+ghost use Rattle.std.specs.Prelude.{ℕ, ◌≡◌, ◌≤◌, ◌<◌, ◌+◌, length, slice_index, IfSome};
+ghost use Rattle.ks_script.specs.Eight.{AreDigits, spelled, word_of};
 
 // The bytes of eight digits 0.
 const ZEROS: u64 = 0x3030_3030_3030_3030;
@@ -15,16 +15,9 @@ const UPPER: u64 = 0xF0F0_F0F0_F0F0_F0F0;
 // The number that the bytes of the word, the lowest first, are the digits of.
 fn number_in(word: u64) -> Option<u64>
     ensures digits { IfSome result (λ _. (byte : ℕ → ℕ) → ((i : ℕ) → byte i < 256) →
-        word ≡ byte 0 + 2 ^ 8 * byte 1 + 2 ^ 16 * byte 2 + 2 ^ 24 * byte 3
-        + 2 ^ 32 * byte 4 + 2 ^ 40 * byte 5 + 2 ^ 48 * byte 6 + 2 ^ 56 * byte 7 →
-        let is = λ (i : ℕ). is_ascii_digit (byte i) ≡ true in
-        is 0 × is 1 × is 2 × is 3 × is 4 × is 5 × is 6 × is 7) }
+        word ≡ word_of byte → AreDigits byte) }
     ensures value { IfSome result (λ n. (byte : ℕ → ℕ) → ((i : ℕ) → byte i < 256) →
-        word ≡ byte 0 + 2 ^ 8 * byte 1 + 2 ^ 16 * byte 2 + 2 ^ 24 * byte 3
-        + 2 ^ 32 * byte 4 + 2 ^ 40 * byte 5 + 2 ^ 48 * byte 6 + 2 ^ 56 * byte 7 →
-        let digit = λ (i : ℕ). byte i - 48 in
-        n ≡ 10000 * (1000 * digit 0 + 100 * digit 1 + 10 * digit 2 + digit 3)
-        + (1000 * digit 4 + 100 * digit 5 + 10 * digit 6 + digit 7)) }
+        word ≡ word_of byte → n ≡ spelled byte) }
 {
     if word & UPPER != ZEROS {
         return None;
@@ -43,11 +36,8 @@ fn number_in(word: u64) -> Option<u64>
 pub fn eight_at(bytes: &[u8], at: usize) -> Option<u64>
     requires { at ≤ length bytes.now }
     ensures within { IfSome result (λ _. at + 8 ≤ length bytes.now) }
-    ensures digits { IfSome result (λ _. let is = λ (i : ℕ). is_ascii_digit (slice_index bytes.now (at + i)) ≡ true in
-        is 0 × is 1 × is 2 × is 3 × is 4 × is 5 × is 6 × is 7) }
-    ensures value { IfSome result (λ n. let digit = λ (i : ℕ). slice_index bytes.now (at + i) - 48 in
-        n ≡ 10000 * (1000 * digit 0 + 100 * digit 1 + 10 * digit 2 + digit 3)
-        + (1000 * digit 4 + 100 * digit 5 + 10 * digit 6 + digit 7)) }
+    ensures digits { IfSome result (λ _. AreDigits (λ (i : ℕ). slice_index bytes.now (at + i))) }
+    ensures value { IfSome result (λ n. n ≡ spelled (λ (i : ℕ). slice_index bytes.now (at + i))) }
     ensures small { IfSome result (λ n. n < 100000000) }
 {
     if at + 8 > bytes.len() {
@@ -60,9 +50,7 @@ pub fn eight_at(bytes: &[u8], at: usize) -> Option<u64>
 // The eight bytes from a place on as a word, the first of them lowest.
 fn word_at(bytes: &[u8], at: usize) -> u64
     requires { at + 8 ≤ length bytes.now }
-    ensures value { let byte = λ (i : ℕ). slice_index bytes.now (at + i) in
-        result ≡ byte 0 + 2 ^ 8 * byte 1 + 2 ^ 16 * byte 2 + 2 ^ 24 * byte 3
-        + 2 ^ 32 * byte 4 + 2 ^ 40 * byte 5 + 2 ^ 48 * byte 6 + 2 ^ 56 * byte 7 }
+    ensures value { result ≡ word_of (λ (i : ℕ). slice_index bytes.now (at + i)) }
     ensures bytes { (i : ℕ) → slice_index bytes.now i < 256 }
 {
     let word = &bytes[at..at + 8];
