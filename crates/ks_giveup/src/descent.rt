@@ -20,6 +20,7 @@ use ks_shape::{give_last, has_room, tree_end_law};
 use std::sync::Wait;
 
 /// Takes a node, and keeps it where it is live and its range holds the place.
+#[inline(always)]
 fn visit<N: Ranged + Unlinked, R: Wait, G: Gate>(
     rt: &R,
     arena: &Arena<N, Tree>,
@@ -51,6 +52,7 @@ fn visit<N: Ranged + Unlinked, R: Wait, G: Gate>(
 }
 
 /// Gives the node, whose edge hints at the one to which the search goes on.
+#[inline(always)]
 pub(crate) fn leave<N: Ranged + Unlinked, G: Gate>(
     arena: &Arena<N, Tree>,
     pass: &mut Pass<N, Tree>,

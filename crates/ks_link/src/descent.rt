@@ -16,6 +16,7 @@ use ks_shape::{give_last, take_root};
 use std::sync::Wait;
 
 /// Takes the root.
+#[inline(always)]
 pub(crate) fn enter<N: Linked, R: Wait, G: Gate>(
     rt: &R,
     arena: &Arena<N, Link>,
@@ -36,6 +37,7 @@ pub(crate) fn enter<N: Linked, R: Wait, G: Gate>(
 }
 
 /// Gives the node, and takes the one to which the search goes on: a child, or the node right of it.
+#[inline(always)]
 pub(crate) fn go_on<N: Linked, R: Wait, G: Gate>(
     rt: &R,
     arena: &Arena<N, Link>,

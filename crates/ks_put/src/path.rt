@@ -31,6 +31,7 @@ pub struct Path<N> {
 }
 
 /// Takes the root. It does not tell the gate that a call begins.
+#[inline(always)]
 pub fn enter<N: Unlinked, R: Wait, G: Gate>(
     rt: &R,
     arena: &Arena<N, Tree>,
@@ -51,6 +52,7 @@ pub fn enter<N: Unlinked, R: Wait, G: Gate>(
 }
 
 /// Gives the other node in hand, if there is one, and keeps the node.
+#[inline(always)]
 pub(crate) fn keep_alone<N: Unlinked, G: Gate>(
     arena: &Arena<N, Tree>,
     pass: &mut Pass<N, Tree>,
@@ -82,6 +84,7 @@ pub(crate) fn keep_alone<N: Unlinked, G: Gate>(
 }
 
 /// Gives the parent, and keeps the node.
+#[inline(always)]
 pub fn let_go<N: Unlinked, G: Gate>(
     arena: &Arena<N, Tree>,
     pass: &mut Pass<N, Tree>,
@@ -104,6 +107,7 @@ pub fn let_go<N: Unlinked, G: Gate>(
 }
 
 /// Gives the parent of a node that is not full: it has no need of it.
+#[inline(always)]
 pub(crate) fn settle<N: Unlinked, G: Gate>(
     arena: &Arena<N, Tree>,
     pass: &mut Pass<N, Tree>,
@@ -131,6 +135,7 @@ pub(crate) fn settle<N: Unlinked, G: Gate>(
 }
 
 /// Takes the child to which the search goes on; the node becomes its parent.
+#[inline(always)]
 pub fn step_down<N: Unlinked, R: Wait, G: Gate>(
     rt: &R,
     arena: &Arena<N, Tree>,

@@ -7,7 +7,7 @@ ghost use Rattle.ks_shape.specs.Of.{IsStretch, NoneWasFree, SearchEndsAt};
 ghost use Rattle.ks_put.specs.Of.{IsOnPathOf, CameToRoom};
 
 use crate::halves::Part;
-use crate::path::{Path, enter, let_go, step_down};
+use crate::path::{Path, enter, let_go, settle, step_down};
 use crate::splits::split;
 use ks_arena::{Arena, Held, Pass};
 use ks_flow::Tree;
@@ -16,7 +16,9 @@ use ks_node::{Next, Unlinked};
 use ks_shape::{give_last, has_room, tree_end_law};
 use std::sync::Wait;
 
-/// Gives the parent, and takes the child.
+/// Gives the parent, and takes the child, whose parent then is the node, unless the child is not full and needs none: so the
+/// root is held no longer than it takes to see that.
+#[inline(always)]
 fn down<N: Unlinked, R: Wait, G: Gate>(
     rt: &R,
     arena: &Arena<N, Tree>,
@@ -35,11 +37,13 @@ fn down<N: Unlinked, R: Wait, G: Gate>(
     ensures stretch { IsStretch pass.old pass.new }
 {
     let held = let_go(arena, pass, gate, place, path);
-    step_down(rt, arena, pass, gate, place, held, child)
+    let below = step_down(rt, arena, pass, gate, place, held, child);
+    settle(arena, pass, gate, place, below)
 }
 
 /// Goes on to the child. A full branch is split before, if there is a way and a claim is not refused: then the search looks
 /// again. Tells whether no node was free.
+#[inline(always)]
 fn go_on<N: Unlinked, R: Wait, G: Gate>(
     rt: &R,
     arena: &Arena<N, Tree>,
@@ -72,6 +76,7 @@ fn go_on<N: Unlinked, R: Wait, G: Gate>(
 }
 
 /// Gives what is held, and takes the root again.
+#[inline(never)]
 fn begin_again<N: Unlinked, R: Wait, G: Gate>(
     rt: &R,
     arena: &Arena<N, Tree>,
@@ -93,6 +98,7 @@ fn begin_again<N: Unlinked, R: Wait, G: Gate>(
 }
 
 /// Gives the parent of the node where the search ends.
+#[inline(always)]
 pub(crate) fn come_to_end<N: Unlinked, G: Gate>(
     arena: &Arena<N, Tree>,
     pass: &mut Pass<N, Tree>,

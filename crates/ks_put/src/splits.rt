@@ -256,6 +256,7 @@ fn split_whole<N: Unlinked, G: Gate>(
 
 /// Splits the full node of a path, if there is a way and a claim is not refused. The half that has not the place is given,
 /// and the parent once the kept half is not full.
+#[inline(never)]
 pub(crate) fn split<N: Unlinked, G: Gate>(
     arena: &Arena<N, Tree>,
     pass: &mut Pass<N, Tree>,

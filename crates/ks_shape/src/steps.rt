@@ -12,6 +12,7 @@ use ks_node::Node;
 use std::sync::Wait;
 
 /// Takes the root, for a call that holds nothing: it is on its way to whatever place.
+#[inline(always)]
 pub fn take_root<N: Node, D: Discipline, R: Wait, G: Gate>(
     rt: &R,
     arena: &Arena<N, D>,
@@ -39,6 +40,7 @@ pub fn take_root<N: Node, D: Discipline, R: Wait, G: Gate>(
 }
 
 /// Gives the one node in hand.
+#[inline(always)]
 pub fn give_last<N: Node, D: Discipline, G: Gate>(
     arena: &Arena<N, D>,
     pass: &mut Pass<N, D>,

@@ -16,6 +16,7 @@ use ks_put::{Path, enter, let_go, search_law, step_down};
 use std::sync::Wait;
 
 /// Gives the parent, if there is one, and takes the child to which the search goes on; the node becomes its parent.
+#[inline(always)]
 pub fn go_down<N: Unlinked, R: Wait, G: Gate>(
     rt: &R,
     arena: &Arena<N, Tree>,
@@ -41,6 +42,7 @@ pub fn go_down<N: Unlinked, R: Wait, G: Gate>(
 }
 
 /// Gives the node of a path, and its parent.
+#[inline(always)]
 pub fn leave<N: Unlinked, G: Gate>(
     arena: &Arena<N, Tree>,
     pass: &mut Pass<N, Tree>,
@@ -63,6 +65,7 @@ pub fn leave<N: Unlinked, G: Gate>(
 }
 
 /// Merges at the node of a path, if it is a branch.
+#[inline(always)]
 fn tidy_branch<N: Unlinked, R: Wait, G: Gate>(
     rt: &R,
     arena: &Arena<N, Tree>,

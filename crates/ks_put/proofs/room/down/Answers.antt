@@ -4,5 +4,7 @@ use Rattle.ks_shape.specs.Laws.Stretches.{stretches_as, stretches_both}
 use Rattle.ks_put.proofs.room.down.Goals as goal
 
 pub returns-clause-stretch : goal.returns-clause-stretch
-returns-clause-stretch g c = let me : ℕ = c.args.pass.now.caller in let h = seen_of c.args.pass.now in let h₁ = seen_of c.let_go-held.new.pass in let h₂ = seen_of c.step_down.new.pass in
-    stretches_both me h h₁ h₂ c.let_go-held.ensures.stretch (stretches_as me c.let_go-held.new.pass.caller h₁ h₂ c.let_go-held.ensures.caller c.step_down.ensures.stretch)
+returns-clause-stretch g c = let me : ℕ = c.args.pass.now.caller in let h = seen_of c.args.pass.now in let h₁ = seen_of c.let_go-held.new.pass in let h₂ = seen_of c.step_down-below.new.pass in let h₃ = seen_of c.settle.new.pass in
+    let same₁ = c.let_go-held.new.pass.caller in let same₂ = c.step_down-below.new.pass.caller in
+    stretches_both me h h₁ h₃ c.let_go-held.ensures.stretch (stretches_as me same₁ h₁ h₃ c.let_go-held.ensures.caller
+    (stretches_both same₁ h₁ h₂ h₃ c.step_down-below.ensures.stretch (stretches_as same₁ same₂ h₂ h₃ c.step_down-below.ensures.caller c.settle.ensures.stretch)))
