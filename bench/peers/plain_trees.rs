@@ -210,7 +210,7 @@ impl Tree {
                 return;
             }
             if id == ROOT && turn >= 3 {
-                thread::sleep(Duration::from_micros(500));
+                thread::sleep(Duration::from_micros(1_000));
             } else {
                 thread::yield_now();
             }

@@ -33,7 +33,7 @@ const LOOKS_AT_THE_ROOT: u32 = 2;
 const YIELDS_AT_THE_ROOT: u32 = 3;
 
 /// Microseconds of a sleep.
-const ROOT_SLEEP: u64 = 500;
+const ROOT_SLEEP: u64 = 1_000;
 
 fn pause(times: u32) {
     for _ in 0..times {

@@ -1,4 +1,4 @@
-//! Where the words of an arena's table stand: no turn shares its cache line with another, nor with a count.
+//! Where the words of an arena's table stand: no turn shares its cache line with another, nor with the count of calls.
 ghost use Rattle.std.specs.Prelude.{◌≡◌, ◌<◌, ◌^◌};
 ghost use Rattle.ks_arena.specs.Spots.{turn_at, free_at};
 

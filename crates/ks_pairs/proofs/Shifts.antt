@@ -1,4 +1,4 @@
--- What one move of memory makes of a list: a place made in it, or closed.
+-- What a shift by one place makes of a list: room for an element, or one element less.
 use Rattle.std.specs.Prelude.{◌≡◌, ℕ, zero, suc, ◌+◌, ◌-◌, ◌<◌, ◌≤◌, List, [], ◌∷◌, ◌++◌, length, take, drop, refl}
 use Rattle.std.specs.List.{insert, remove, refill, copy_within}
 use Rattle.std.proofs.Common.{arith, ap, ◌∙◌, set, append-nil, length-append, length-drop}
