@@ -76,7 +76,7 @@ turn_word (held c) = c + 2
 abbrev pub free_bit : ℕ → List ℕ → ℕ → ℕ → ℕ
 free_bit n words w b = bit_at (slice_index words (free_at n w)) b
 
--- the mark says that the caller is about to change the bit of node i
+-- the mark says that the caller is about to clear the bit of node i, or has set it and is about to give the node free
 abbrev pub Marks : Mark → ℕ → Type 0
 Marks Quiet i = ⊥
 Marks (Claiming j) i = j ≡ i
@@ -85,8 +85,8 @@ Marks (Freeing j) i = j ≡ i
 abbrev pub SomeMarks : List View → ℕ → Type 0
 SomeMarks vs i = (j : ℕ) × (v : View) × (get_elem? vs j ≡ some v) × Marks v.mark i
 
--- the bit of a node is set exactly where the node is free or its holder is about to change the bit; bits of no node are
--- clear; and a mark is of a node that a caller of its view holds
+-- the bit of a node is set exactly where the node is free or a mark of its holder names it; bits of no node are clear; and
+-- a mark is of a node that a caller of its view holds
 pub record FreeBits (h : List Event) (vs : List View) (n : ℕ) (words : List ℕ) : Type 0 where
   pub sets : (w b : ℕ) → b < 64 → free_bit n words w b ≡ 1 → (64 * w + b < n) × ((turn_after h (64 * w + b) ≡ free) ⊎ SomeMarks vs (64 * w + b))
   pub clears : (w b : ℕ) → b < 64 → 64 * w + b < n → free_bit n words w b ≡ 0 → (turn_after h (64 * w + b) ≢ free) × (¬ SomeMarks vs (64 * w + b))

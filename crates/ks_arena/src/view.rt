@@ -7,7 +7,7 @@ pub struct Part {
     pub seen: [Event; 0],
 }
 
-/// Which bit of the free words a caller is about to change.
+/// Which bit of the free words does not yet, or no longer, tell the turn of its node.
 pub enum Mark {
     Quiet,
     /// The node was claimed, and its bit is still set.

@@ -1,7 +1,7 @@
 //! The B+ node: a leaf or an inner node.
 //!
 //! A leaf has pairs and no child, an inner node has children and no pair. Either lies in the node itself, which has room
-//! for the greater of the two, so turning a leaf into an inner node or back needs no allocator. A node is 440 bytes: where
+//! for the greater of the two, so turning a leaf into an inner node or back needs no allocator. A node is 448 bytes: where
 //! callers move it, it should lie behind a box (`ks_boxed`).
 
 ghost use Rattle.std.proofs.Props.{props};

@@ -88,9 +88,11 @@ pub record Called : Type 0 where
   pub op : Op
   pub reply : Reply
 
+-- the call of a caller, by what it asked and what it was answered
 abbrev pub called : ℕ → Op → Reply → Called
 called c op reply = record { caller = c; op = op; reply = reply }
 
+-- a call without its caller
 abbrev pub answered : Called → Answered
 answered call = record { op = call.op; reply = call.reply }
 
