@@ -4,6 +4,7 @@ import os
 import statistics
 import subprocess
 import tempfile
+import threading
 import time
 
 import contenders
@@ -25,16 +26,21 @@ def on_one_line(text):
 
 def timed(command, text=os.devnull):
     """The seconds that the command took over a text on its standard input, and what it printed."""
-    with open(text, "rb") as given, tempfile.TemporaryFile() as printed:
+    with open(text, "rb") as given, tempfile.TemporaryFile() as printed, tempfile.TemporaryFile() as said:
         start = time.perf_counter()
-        try:
-            ended = subprocess.run(command, stdin=given, stdout=printed, stderr=subprocess.PIPE, timeout=SECONDS)
-        except subprocess.TimeoutExpired:
-            raise Failed(f"did not end in {SECONDS} seconds")
+        begun = subprocess.Popen(command, stdin=given, stdout=printed, stderr=said)
+        limit = threading.Timer(SECONDS, begun.kill)
+        limit.start()
+        # (told of no limit, it sleeps until the command has ended; else it would look every half a millisecond and more)
+        status = begun.wait()
         passed = time.perf_counter() - start
-        if ended.returncode != 0:
-            raise Failed(f"ended with {ended.returncode}: {ended.stderr.decode(errors='replace').strip()}")
+        limit.cancel()
+        if passed >= SECONDS:
+            raise Failed(f"did not end in {SECONDS} seconds")
         printed.seek(0)
+        said.seek(0)
+        if status != 0:
+            raise Failed(f"ended with {status}: {said.read().decode(errors='replace').strip()}")
         return passed, printed.read().decode()
 
 
@@ -127,21 +133,21 @@ class Contest:
         self.times[entrant, column].busy.append(busy)
         self.times[entrant, column].idle.append(idle)
 
-    def take_turn(self, entrant, column, repeats):
-        """Measures so many times in a row, until the entrant fails in this column."""
-        for _ in range(repeats):
-            if (entrant, column) not in self.failures:
-                try:
-                    self.measure(entrant, column)
-                except Failed as failure:
-                    self.failures[entrant, column] = failure
+    def take_turn(self, entrant, column):
+        """Measures the entrant once, unless it failed in this column."""
+        if (entrant, column) not in self.failures:
+            try:
+                self.measure(entrant, column)
+            except Failed as failure:
+                self.failures[entrant, column] = failure
 
     def run(self, rounds, repeats):
-        """Gives each entrant its turn in each round. The first column is measured so many times a turn, others less often."""
+        """Gives each entrant its turns in each round: so many in the first column, fewer in others, all entrants one after another."""
         for _ in range(rounds):
-            for entrant in self.entrants:
-                for column in COLUMNS:
-                    self.take_turn(entrant, column, max(1, repeats // column))
+            for column in COLUMNS:
+                for _ in range(max(1, repeats // column)):
+                    for entrant in self.entrants:
+                        self.take_turn(entrant, column)
 
     def nanoseconds(self, entrant, column):
         """The nanoseconds of a call; None where the entrant failed, or was too quick to tell, or took no part."""
