@@ -255,7 +255,7 @@ fn split_whole<N: Unlinked, G: Gate>(
 }
 
 /// Splits the full node of a path, if there is a way and a claim is not refused. The half that has not the place is given,
-/// and the parent once the kept half is not full.
+/// and the parent once the kept half is not full; a node that leads to its full right half itself stays as the parent of it.
 #[inline(never)]
 pub(crate) fn split<N: Unlinked, G: Gate>(
     arena: &Arena<N, Tree>,
