@@ -24,8 +24,8 @@ record_at g n = live_record (g n)
 abbrev pub IsLive : (ℕ → NodeState) → ℕ → Type 0
 IsLive g n = (r : Record) × (record_at g n ≡ Some r)
 
--- there is a way for the place from the root
--- to the node, along live nodes, each of which has an edge that carries the place to the next
+-- there is a way for the place from the root to the node, along live nodes, each of which has an edge that carries the place
+-- to the next
 pub data Reaches (g : ℕ → NodeState) (p : ℕ) : ℕ → Type 0 where
   at_root : IsLive g 0 → Reaches g p 0
   along : {n m : ℕ} (r : Record) → Reaches g p n → record_at g n ≡ Some r → LeadsTo r p m → IsLive g m → Reaches g p m
