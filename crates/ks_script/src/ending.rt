@@ -1,0 +1,110 @@
+//! A line spelled from its last byte to its first, so that its digits are written where they stay.
+
+ghost use Rattle.std.specs.Prelude.{ℕ, ◌≡◌, ◌+◌, ◌^◌, ◌<◌, ◌≤◌, ◌∷◌, ◌++◌, length};
+ghost use Rattle.std.specs.Fmt.{decimal};
+ghost use Rattle.ks_script.specs.Digits.{padded};
+
+use itoa::write_digits;
+use std::marker::Model;
+
+/// How many bytes a line may have: 61 are the longest line of a pair.
+pub const ROOM: usize = 64;
+
+/// What 19 digits count up to, the most digits of which 64 bits hold any number.
+const NINETEEN: u128 = 10_000_000_000_000_000_000;
+
+/// The last bytes of a line.
+#[derive(Drop)]
+pub struct Ending {
+    bytes: [u8; ROOM],
+    start: usize,
+}
+
+impl Model for Ending {
+    ghost use Rattle.std.specs.Prelude.{ℕ, ◌≡◌, ◌≤◌, List, length, drop};
+
+    ghost Value = { List ℕ };
+
+    ghost view = { λ e. drop e.start e.bytes };
+
+    ghost invariant = { λ e. e.start ≤ length e.bytes };
+}
+
+impl Ending {
+    /// These bytes.
+    #[inline(always)]
+    pub fn new(end: &[u8]) -> Ending
+        requires { length end.now ≤ 64 }
+        ensures { result ≡ end.now }
+    {
+        let mut bytes = [0; ROOM];
+        let start = ROOM - end.len();
+        bytes[start..].copy_from_slice(end);
+        Ending { bytes, start }
+    }
+
+    /// The bytes.
+    #[inline(always)]
+    pub fn bytes(&self) -> &[u8]
+        ensures { result.now ≡ self.now }
+    {
+        &self.bytes[self.start..]
+    }
+
+    /// A byte before them.
+    #[inline(always)]
+    pub fn byte(&mut self, byte: u8)
+        requires { length self.old < 64 }
+        ensures { self.new ≡ byte ∷ self.old }
+    {
+        self.start -= 1;
+        self.bytes[self.start] = byte;
+    }
+
+    /// The digits of a number before them.
+    #[inline(always)]
+    pub fn number(&mut self, number: u64)
+        requires { 20 + length self.old ≤ 64 }
+        ensures digits { self.new ≡ decimal number ++ self.old }
+        ensures long { length self.new ≤ 20 + length self.old }
+    {
+        self.digits(number);
+    }
+
+    /// The digits of a value before them: 19 at a time, as long as it has more than 64 bits.
+    #[inline(always)]
+    pub fn value(&mut self, value: u128)
+        requires { 39 + length self.old ≤ 64 }
+        ensures digits { self.new ≡ decimal value ++ self.old }
+        ensures long { length self.new ≤ 39 + length self.old }
+    {
+        let mut left = value;
+        while left > u64::MAX as u128 {
+            self.nineteen((left % NINETEEN) as u64);
+            left /= NINETEEN;
+        }
+        self.digits(left as u64);
+    }
+
+    // The digits of a number before them, for which there is room.
+    #[inline(always)]
+    fn digits(&mut self, number: u64)
+        requires { length (decimal number) + length self.old ≤ 64 }
+        ensures { self.new ≡ decimal number ++ self.old }
+    {
+        self.start = write_digits(number, &mut self.bytes, self.start);
+    }
+
+    // Just 19 digits of a number before them, the first ones 0 where it has fewer.
+    fn nineteen(&mut self, number: u64)
+        requires small { number < 10 ^ 19 }
+        requires room { 19 + length self.old ≤ 64 }
+        ensures { self.new ≡ padded 19 number ++ self.old }
+    {
+        let end = self.start;
+        let start = end - 19;
+        self.bytes[start..end].copy_from_slice(b"0000000000000000000");
+        write_digits(number, &mut self.bytes, end);
+        self.start = start;
+    }
+}
