@@ -1,6 +1,6 @@
 //! A line spelled from its last byte to its first, so that its digits are written where they stay.
 
-ghost use Rattle.std.specs.Prelude.{ℕ, ◌≡◌, ◌+◌, ◌^◌, ◌<◌, ◌≤◌, ◌∷◌, ◌++◌, length};
+ghost use Rattle.std.specs.Prelude.{ℕ, ◌≡◌, ◌+◌, ◌^◌, ◌<◌, ◌≤◌, [], ◌++◌, length};
 ghost use Rattle.std.specs.Fmt.{decimal};
 ghost use Rattle.ks_script.specs.Digits.{padded};
 
@@ -31,16 +31,15 @@ impl Model for Ending {
 }
 
 impl Ending {
-    /// These bytes.
+    /// No bytes.
     #[inline(always)]
-    pub fn new(end: &[u8]) -> Ending
-        requires { length end.now ≤ 64 }
-        ensures { result ≡ end.now }
+    pub fn new() -> Ending
+        ensures { result ≡ [] }
     {
-        let mut bytes = [0; ROOM];
-        let start = ROOM - end.len();
-        bytes[start..].copy_from_slice(end);
-        Ending { bytes, start }
+        Ending {
+            bytes: [0; ROOM],
+            start: ROOM,
+        }
     }
 
     /// The bytes.
@@ -51,14 +50,16 @@ impl Ending {
         &self.bytes[self.start..]
     }
 
-    /// A byte before them.
+    /// A word before them.
     #[inline(always)]
-    pub fn byte(&mut self, byte: u8)
-        requires { length self.old < 64 }
-        ensures { self.new ≡ byte ∷ self.old }
+    pub fn word(&mut self, word: &[u8])
+        requires { length word.now + length self.old ≤ 64 }
+        ensures { self.new ≡ word.now ++ self.old }
     {
-        self.start -= 1;
-        self.bytes[self.start] = byte;
+        let end = self.start;
+        let start = end - word.len();
+        self.bytes[start..end].copy_from_slice(word);
+        self.start = start;
     }
 
     /// The digits of a number before them.

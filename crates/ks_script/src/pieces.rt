@@ -131,9 +131,10 @@ fn put_pair<K: Sink>(
     ensures cause { OnErr result (Rose (K.faults out.old) (K.faults out.new)) }
     ensures count { K.faults out.old ≤ K.faults out.new }
 {
-    let mut line = Ending::new(b"\n");
+    let mut line = Ending::new();
+    line.word(b"\n");
     line.value(value);
-    line.byte(b' ');
+    line.word(b" ");
     line.number(key);
     put(out, piece, line.bytes())
 }
@@ -154,7 +155,8 @@ fn put_told<K: Sink>(
     ensures cause { OnErr result (Rose (K.faults out.old) (K.faults out.new)) }
     ensures count { K.faults out.old ≤ K.faults out.new }
 {
-    let mut line = Ending::new(word);
+    let mut line = Ending::new();
+    line.word(word);
     line.number(number);
     put(out, piece, line.bytes())
 }
