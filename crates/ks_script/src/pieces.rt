@@ -245,3 +245,6 @@ pub fn put_map<K: Sink>(
     }
     put(out, piece, b"end\n")
 }
+
+#[cfg(test)]
+mod tests;
