@@ -1,4 +1,4 @@
--- Digits of a number, just so many.
+-- Numbers that are spelled 19 digits at a time.
 use Rattle.std.proofs.Common.{ℕ, zero, suc, ◌≡◌, ◌+◌, ◌-◌, ◌*◌, ◌/◌, ◌%◌, ◌^◌, ◌<◌, ◌≤◌, List, [], ◌∷◌, ◌++◌, length, take, drop, refl, sym, ap, ◌∙◌, append_assoc, append-nil, length-append, arith, replicate}
 use Rattle.std.proofs.lemmas.List.{replicate_more, take-replicate, length-replicate, take-take, drop_at, length-take-le, take-append-drop}
 use Rattle.std.proofs.lemmas.Slice.{take-put_mid, drop-put_mid}
@@ -49,6 +49,7 @@ last_decimal (suc k) h l some small fits =
     ∙ (ap (λ (x : List ℕ). x ++ ((48 + l % 10) ∷ [])) (last_decimal k h (l / 10) some (omega arith) less)
     ∙ append_assoc (decimal h) (last k (l / 10)) ((48 + l % 10) ∷ [])))
 
+-- how many digits there are at most
 pub length_few : (n : ℕ) → n < 10 ^ 19 → length (decimal n) ≤ 19
 length_few n h = length-decimal-le_wide 19 n (omega arith) (omega arith) (omega arith)
 
@@ -62,7 +63,7 @@ length-last : (k n : ℕ) → length (last k n) ≡ k
 length-last zero n = refl
 length-last (suc k) n = omega (arith, length-append (last k (n / 10)) ((48 + n % 10) ∷ []), length-last k (n / 10))
 
--- digits 0, and then those of the number
+-- the last digits are those of the number, and digits 0 before them where it has fewer
 zeros : (k : ℕ) → last k 0 ≡ replicate k 48
 zeros zero = refl
 zeros (suc k) = ap (λ (x : List ℕ). x ++ (48 ∷ [])) (zeros k) ∙ (replicate_more k 48 ∙ ap (λ (j : ℕ). replicate j 48) (let e : k + 1 ≡ suc k = omega arith in e))
@@ -87,20 +88,17 @@ filled_on n ds many h (suc (suc k)) some small =
     ap (λ (x : List ℕ). x ++ ((48 + n % 10) ∷ [])) (h (suc k) (omega arith) (omega arith))
     ∙ (append_assoc (replicate (suc k - length ds) 48) ds ((48 + n % 10) ∷ []) ∙ ap (λ (j : ℕ). replicate j 48 ++ (ds ++ (48 + n % 10) ∷ [])) left)
 
-last_filled : (k n : ℕ) → 0 < k → n < 10 ^ k → n < 10 ^ 64 → last k n ≡ replicate (k - length (decimal n)) 48 ++ decimal n
-last_filled k n some small fits =
-    decimal_by_steps_wide Filled (λ m l. filled_digit m l) (λ m ds l h. filled_on m ds l h) n fits k some small
-
 last_padded : (k n : ℕ) → 0 < k → n < 10 ^ k → n < 10 ^ 64 → last k n ≡ padded k n
-last_padded k n some small fits = last_filled k n some small fits
+last_padded k n some small fits =
+    decimal_by_steps_wide Filled (λ m l. filled_digit m l) (λ m ds l h. filled_on m ds l h) n fits k some small
 
 pub length_padded : (k n : ℕ) → 0 < k → n < 10 ^ k → n < 10 ^ 64 → length (padded k n) ≡ k
 length_padded k n some small fits = ap length (sym (last_padded k n some small fits)) ∙ length-last k n
 
--- a number of 64 bits and more is spelled by the digits before the last 19, and these
 cut : (k h l : ℕ) → 0 < k → 0 < h → l < 10 ^ k → l < 10 ^ 64 → h * 10 ^ k + l < 10 ^ 64 → decimal (h * 10 ^ k + l) ≡ decimal h ++ padded k l
 cut k h l a some small less fits = last_decimal k h l some small fits ∙ ap (λ (x : List ℕ). decimal h ++ x) (last_padded k l a small less)
 
+-- a number of 20 digits and more is spelled by the digits before the last 19, and these
 pub cut_nineteen : (n : ℕ) → 10 ^ 19 ≤ n → n < 2 ^ 128 → decimal n ≡ decimal (n / 10 ^ 19) ++ padded 19 (n % 10 ^ 19)
 cut_nineteen n many small =
     let same : n ≡ (n / 10 ^ 19) * 10 ^ 19 + n % 10 ^ 19 = omega arith in

@@ -7,13 +7,13 @@ ghost use Rattle.ks_script.specs.Digits.{padded};
 use itoa::write_digits;
 use std::marker::Model;
 
-/// How many bytes a line may have: 61 are the longest line of a pair.
-pub const ROOM: usize = 64;
+/// How many bytes a line may have. The longest is that of a pair, of 20 and 39 digits: 61.
+const ROOM: usize = 64;
 
-/// What 19 digits count up to, the most digits of which 64 bits hold any number.
-const NINETEEN: u128 = 10_000_000_000_000_000_000;
+/// How many numbers 19 digits spell: each of them has 64 bits at most.
+const NINETEEN_DIGITS: u128 = 10_000_000_000_000_000_000;
 
-/// The last bytes of a line.
+/// The last bytes of a line: what comes before them is added.
 #[derive(Drop)]
 pub struct Ending {
     bytes: [u8; ROOM],
@@ -81,8 +81,8 @@ impl Ending {
     {
         let mut left = value;
         while left > u64::MAX as u128 {
-            self.nineteen((left % NINETEEN) as u64);
-            left /= NINETEEN;
+            self.nineteen((left % NINETEEN_DIGITS) as u64);
+            left /= NINETEEN_DIGITS;
         }
         self.digits(left as u64);
     }
@@ -96,7 +96,7 @@ impl Ending {
         self.start = write_digits(number, &mut self.bytes, self.start);
     }
 
-    // Just 19 digits of a number before them, the first ones 0 where it has fewer.
+    // The digits of a number before them, and digits 0 before these, so that they are 19.
     fn nineteen(&mut self, number: u64)
         requires small { number < 10 ^ 19 }
         requires room { 19 + length self.old ≤ 64 }

@@ -32,7 +32,7 @@ pub fn send<K: Sink>(out: &mut K, bytes: &[u8]) -> Result<(), Failed>
     Ok(())
 }
 
-// These bytes wait behind those that waited, all of them: there is room.
+// The bytes wait behind those that waited: there is room for all of them.
 #[inline(always)]
 fn append(piece: &mut ArrayVec<u8, PIECE>, bytes: &[u8])
     requires { array_vec_len piece.old + length bytes.now ≤ 4096 }
@@ -42,6 +42,7 @@ fn append(piece: &mut ArrayVec<u8, PIECE>, bytes: &[u8])
 }
 
 // As `put`, where there is no room for all of the bytes: as many as there is room for wait, and then the piece is sent.
+#[inline(never)]
 fn put_over<K: Sink>(
     out: &mut K,
     piece: &mut ArrayVec<u8, PIECE>,
