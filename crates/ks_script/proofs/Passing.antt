@@ -41,6 +41,14 @@ passes_on o n m p a q b r h k = record {
 pub passes_all : (o n m : Option (List ℕ)) (p a q : List ℕ) → Passes o p a n q → Grew n m q → Grew o m (p ++ a)
 passes_all o n m p a q h g = subst (λ (x : List ℕ). Grew o m x) (sym h.split) (grew_on o n m h.sent q h.grew g)
 
+-- the first bytes of what waits are taken
+pub passes_through : (o n m : Option (List ℕ)) (p a q s t : List ℕ) → Passes o p a n q → q ≡ s ++ t → Grew n m s → Passes o p a m t
+passes_through o n m p a q s t h e g = record {
+  sent = h.sent ++ s;
+  split = h.split ∙ (ap (λ (x : List ℕ). h.sent ++ x) e ∙ sym (append_assoc h.sent s t));
+  grew = grew_on o n m h.sent s h.grew g;
+}
+
 -- where the second text fails
 pub passes_front : (o n m : Option (List ℕ)) (p a q b : List ℕ) → Passes o p a n q → GrewByFront n m (q ++ b) → GrewByFront o m (p ++ (a ++ b))
 passes_front o n m p a q b h f = record {

@@ -5,6 +5,7 @@ pub mod Script
 pub mod Run
 pub mod Reading
 pub mod Checked
+pub mod Digits
 pub mod Memory
 pub mod Front
 pub mod Answers

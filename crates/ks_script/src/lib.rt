@@ -9,6 +9,7 @@ mod answers;
 mod calls;
 mod checked;
 mod eight;
+mod ending;
 mod fault;
 mod front;
 mod laws;

@@ -1,12 +1,14 @@
 //! Writing in pieces: bytes wait in a piece until it is full, and then it goes to the sink.
 
-ghost use Rattle.std.specs.Prelude.{ℕ, ◌≡◌, ◌≤◌, ◌<◌, [], ◌∷◌, ◌++◌, OnOk, OnErr, codes, map, length};
+ghost use Rattle.std.specs.Prelude.{ℕ, ◌≡◌, ◌+◌, ◌≤◌, ◌<◌, [], ◌∷◌, ◌++◌, OnOk, OnErr, codes, map, length};
 ghost use Rattle.std.specs.Fmt.{decimal};
+ghost use Rattle.arrayvec.specs.ArrayVec.{array_vec_len};
 ghost use Rattle.ks_history.specs.declared.Reply.{Reply};
 ghost use Rattle.ks_script.specs.Lines.{ended, text_of};
 ghost use Rattle.ks_script.specs.Run.{reply_line, pair_line, callers_from, map_lines};
 ghost use Rattle.ks_script.specs.Outside.{Rose, Grew, GrewByFront, Passes};
 
+use crate::ending::Ending;
 use crate::{Failed, Sink};
 use arrayvec::ArrayVec;
 use itoa::Buffer;
@@ -30,22 +32,41 @@ pub fn send<K: Sink>(out: &mut K, bytes: &[u8]) -> Result<(), Failed>
     Ok(())
 }
 
-// One byte more waits. A full piece is sent first.
-fn put_byte<K: Sink>(out: &mut K, piece: &mut ArrayVec<u8, PIECE>, byte: u8) -> Result<(), Failed>
-    ensures ok { OnOk result (Passes (K.taken out.old) piece.old.items (byte ∷ []) (K.taken out.new) piece.new.items) }
-    ensures front { OnErr result (GrewByFront (K.taken out.old) (K.taken out.new) (piece.old.items ++ byte ∷ [])) }
+// The bytes wait behind those that waited: there is room for all of them.
+#[inline(always)]
+fn append(piece: &mut ArrayVec<u8, PIECE>, bytes: &[u8])
+    requires { array_vec_len piece.old + length bytes.now ≤ 4096 }
+    ensures { piece.new.items ≡ piece.old.items ++ bytes.now }
+{
+    let _ = piece.try_extend_from_slice(bytes);
+}
+
+// As `put`, where there is no room for all of the bytes: as many as there is room for wait, and then the piece is sent.
+#[inline(never)]
+fn put_over<K: Sink>(
+    out: &mut K,
+    piece: &mut ArrayVec<u8, PIECE>,
+    bytes: &[u8],
+) -> Result<(), Failed>
+    ensures ok { OnOk result (Passes (K.taken out.old) piece.old.items bytes.now (K.taken out.new) piece.new.items) }
+    ensures front { OnErr result (GrewByFront (K.taken out.old) (K.taken out.new) (piece.old.items ++ bytes.now)) }
     ensures cause { OnErr result (Rose (K.faults out.old) (K.faults out.new)) }
     ensures count { K.faults out.old ≤ K.faults out.new }
 {
-    if piece.is_full() {
+    let mut rest = bytes;
+    while rest.len() > piece.remaining_capacity() {
+        let (front, back) = rest.split_at(piece.remaining_capacity());
+        append(piece, front);
         send(out, piece.as_slice())?;
         piece.clear();
+        rest = back;
     }
-    piece.push(byte);
+    append(piece, rest);
     Ok(())
 }
 
-/// The bytes wait behind those that waited, and each piece that is full by them is sent.
+/// The bytes wait behind those that waited, and each piece that is full, with more bytes to come, is sent.
+#[inline(always)]
 pub fn put<K: Sink>(
     out: &mut K,
     piece: &mut ArrayVec<u8, PIECE>,
@@ -56,9 +77,10 @@ pub fn put<K: Sink>(
     ensures cause { OnErr result (Rose (K.faults out.old) (K.faults out.new)) }
     ensures count { K.faults out.old ≤ K.faults out.new }
 {
-    for byte in bytes {
-        put_byte(out, piece, *byte)?;
+    if bytes.len() > piece.remaining_capacity() {
+        return put_over(out, piece, bytes);
     }
+    append(piece, bytes);
     Ok(())
 }
 
@@ -66,7 +88,7 @@ pub fn put<K: Sink>(
 fn put_number<K: Sink>(
     out: &mut K,
     piece: &mut ArrayVec<u8, PIECE>,
-    number: u128,
+    number: u64,
 ) -> Result<(), Failed>
     ensures ok { OnOk result
         (Passes (K.taken out.old) piece.old.items (decimal number) (K.taken out.new) piece.new.items) }
@@ -92,7 +114,7 @@ pub fn put_word<K: Sink>(
     ensures cause { OnErr result (Rose (K.faults out.old) (K.faults out.new)) }
     ensures count { K.faults out.old ≤ K.faults out.new }
 {
-    put_number(out, piece, number as u128)?;
+    put_number(out, piece, number)?;
     put(out, piece, word)
 }
 
@@ -110,9 +132,34 @@ fn put_pair<K: Sink>(
     ensures cause { OnErr result (Rose (K.faults out.old) (K.faults out.new)) }
     ensures count { K.faults out.old ≤ K.faults out.new }
 {
-    put_word(out, piece, key, b" ")?;
-    put_number(out, piece, value)?;
-    put(out, piece, b"\n")
+    let mut line = Ending::new();
+    line.word(b"\n");
+    line.value(value);
+    line.word(b" ");
+    line.number(key);
+    put(out, piece, line.bytes())
+}
+
+// The line of a call whose reply is a word: a number, and the rest of the line.
+#[inline(always)]
+fn put_told<K: Sink>(
+    out: &mut K,
+    piece: &mut ArrayVec<u8, PIECE>,
+    number: u64,
+    word: &[u8],
+) -> Result<(), Failed>
+    requires { length word.now ≤ 8 }
+    ensures ok { OnOk result
+        (Passes (K.taken out.old) piece.old.items (decimal number ++ word.now) (K.taken out.new) piece.new.items) }
+    ensures front { OnErr result
+        (GrewByFront (K.taken out.old) (K.taken out.new) (piece.old.items ++ (decimal number ++ word.now))) }
+    ensures cause { OnErr result (Rose (K.faults out.old) (K.faults out.new)) }
+    ensures count { K.faults out.old ≤ K.faults out.new }
+{
+    let mut line = Ending::new();
+    line.word(word);
+    line.number(number);
+    put(out, piece, line.bytes())
 }
 
 // The line of a call.
@@ -129,9 +176,9 @@ fn put_reply<K: Sink>(
     ensures count { K.faults out.old ≤ K.faults out.new }
 {
     match &line.1 {
-        Reply::Nothing => put_word(out, piece, line.0, b" none\n"),
+        Reply::Nothing => put_told(out, piece, line.0, b" none\n"),
         Reply::Value(value) => put_pair(out, piece, line.0, *value),
-        Reply::Full => put_word(out, piece, line.0, b" full\n"),
+        Reply::Full => put_told(out, piece, line.0, b" full\n"),
     }
 }
 
@@ -199,3 +246,6 @@ pub fn put_map<K: Sink>(
     }
     put(out, piece, b"end\n")
 }
+
+#[cfg(test)]
+mod tests;
