@@ -14,6 +14,7 @@ mod front;
 mod laws;
 mod line;
 mod memory;
+mod numeral;
 mod outside;
 mod pieces;
 mod printed;
