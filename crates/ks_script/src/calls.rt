@@ -4,7 +4,7 @@ ghost use Rattle.std.specs.Prelude.{◌≢◌, ℕ, ◌≡◌, ◌<◌, ◌^◌,
 ghost use Rattle.std.specs.Fmt.{decimal};
 ghost use Rattle.ks_history.specs.declared.Op.{Op};
 ghost use Rattle.ks_script.specs.Lines.{lines_of};
-ghost use Rattle.ks_script.specs.Version.{value_limit};
+ghost use Rattle.ks_script.specs.Version.{value_limit, AddsAndSwaps};
 ghost use Rattle.ks_script.specs.Script.{IsCall, call_line};
 ghost use Rattle.ks_script.specs.Run.{pair_line};
 ghost use Rattle.ks_script.specs.Front.{NoCall};
@@ -75,11 +75,11 @@ fn plain_entry(version: Version, bytes: &[u8]) -> Option<((u64, u128), &[u8])>
     ensures some { IfSome result (λ x. bytes.now ≡ pair_line x.0 ++ 10 ∷ x.1.now) }
     ensures fits { IfSome result (λ x. (x.0.0 < 2 ^ 64) × (x.0.1 < value_limit version)) }
 {
-    let ((key, value), rest) = leading_pair(bytes)?;
-    if !version.has_value(value) {
+    let (entry, rest) = leading_pair(bytes)?;
+    if !version.has_value(entry.1) {
         return None;
     }
-    Some(((key, value), rest))
+    Some((entry, rest))
 }
 
 // The key on the first line, if a byte 10 ends the line, and the bytes after the line.
@@ -102,6 +102,20 @@ fn plain_exchange(bytes: &[u8]) -> Option<(u64, u128, u128, &[u8])>
     Some((key, old, new, after_byte(rest, b'\n')?))
 }
 
+// The Add or the Swap on the first line, if a byte 10 ends the line, and the bytes after the line.
+fn plain_add_or_swap(version: Version, bytes: &[u8]) -> Option<(Op, &[u8])>
+    requires { AddsAndSwaps version }
+    ensures some { IfSome result (λ x. IsCall version x.0 × (bytes.now ≡ call_line x.0 ++ 10 ∷ x.1.now)) }
+{
+    if let Some(entry) = after_four(bytes, b'a', b'd', b'd', b' ') {
+        let ((key, value), rest) = plain_entry(version, entry)?;
+        return Some((Op::Add(key, value), rest));
+    }
+    let exchange = after_byte(after_four(bytes, b's', b'w', b'a', b'p')?, b' ')?;
+    let (key, old, new, rest) = plain_exchange(exchange)?;
+    Some((Op::Swap(key, old, new), rest))
+}
+
 /// The call of the version on the first line, if a byte 10 ends the line, and the bytes after the line.
 pub(crate) fn plain_call(version: Version, bytes: &[u8]) -> Option<(Op, &[u8])>
     ensures some { IfSome result (λ x. IsCall version x.0 × (bytes.now ≡ call_line x.0 ++ 10 ∷ x.1.now)) }
@@ -118,16 +132,10 @@ pub(crate) fn plain_call(version: Version, bytes: &[u8]) -> Option<(Op, &[u8])>
         let (key, rest) = plain_key(entry)?;
         return Some((Op::Del(key), rest));
     }
-    if !version.adds_and_swaps() {
-        return None;
+    if version.adds_and_swaps() {
+        return plain_add_or_swap(version, bytes);
     }
-    if let Some(entry) = after_four(bytes, b'a', b'd', b'd', b' ') {
-        let ((key, value), rest) = plain_entry(version, entry)?;
-        return Some((Op::Add(key, value), rest));
-    }
-    let exchange = after_byte(after_four(bytes, b's', b'w', b'a', b'p')?, b' ')?;
-    let (key, old, new, rest) = plain_exchange(exchange)?;
-    Some((Op::Swap(key, old, new), rest))
+    None
 }
 
 /// The call of the version on the first line, and the bytes after the line. The call is read in one pass
