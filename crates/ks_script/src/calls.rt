@@ -71,6 +71,7 @@ fn call_of(version: Version, line: &[u8]) -> Option<Op>
 }
 
 // The key and the value on the first line, if the version has them and a byte 10 ends the line, and the bytes after the line.
+#[inline(always)]
 fn plain_entry(version: Version, bytes: &[u8]) -> Option<((u64, u128), &[u8])>
     ensures some { IfSome result (λ x. bytes.now ≡ pair_line x.0 ++ 10 ∷ x.1.now) }
     ensures fits { IfSome result (λ x. (x.0.0 < 2 ^ 64) × (x.0.1 < value_limit version)) }
@@ -83,6 +84,7 @@ fn plain_entry(version: Version, bytes: &[u8]) -> Option<((u64, u128), &[u8])>
 }
 
 // The key on the first line, if a byte 10 ends the line, and the bytes after the line.
+#[inline(always)]
 fn plain_key(bytes: &[u8]) -> Option<(u64, &[u8])>
     ensures some { IfSome result (λ x. bytes.now ≡ decimal x.0 ++ 10 ∷ x.1.now) }
 {

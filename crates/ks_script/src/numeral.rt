@@ -100,7 +100,7 @@ fn spells(bytes: &[u8], count: usize) -> bool
 }
 
 // What sixteen digits and the next ones spell, if it is below 2^64, and the bytes after them.
-#[inline(never)]
+#[inline(always)]
 fn beyond(front: u64, bytes: &[u8]) -> Option<(u64, &[u8])>
     ensures some { IfSome result (λ x. ReadOn front bytes.now x.0 x.1.now) }
     ensures fits { IfSome result (λ x. x.0 < 2 ^ 64) }
@@ -111,7 +111,7 @@ fn beyond(front: u64, bytes: &[u8]) -> Option<(u64, &[u8])>
 }
 
 // The same below 2^128, where up to thirty-two digits more are read.
-#[inline(never)]
+#[inline(always)]
 fn value_beyond(front: u64, bytes: &[u8]) -> Option<(u128, &[u8])>
     requires { front < 10000000000000000 }
     ensures some { IfSome result (λ x. ReadOn front bytes.now x.0 x.1.now) }
@@ -167,6 +167,7 @@ pub fn leading_value(bytes: &[u8]) -> Option<(u128, &[u8])>
 
 /// A key below 2^64 and a value below 2^128 whose digits are the first line, with a space between them, if a byte 10 ends
 /// it; and the bytes after the line.
+#[inline(always)]
 pub fn leading_pair(bytes: &[u8]) -> Option<((u64, u128), &[u8])>
     ensures some { IfSome result (λ x. bytes.now ≡ pair_line x.0 ++ 10 ∷ x.1.now) }
     ensures fits { IfSome result (λ x. (x.0.0 < 2 ^ 64) × (x.0.1 < 2 ^ 128)) }
