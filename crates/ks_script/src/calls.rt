@@ -70,7 +70,8 @@ fn call_of(version: Version, line: &[u8]) -> Option<Op>
     Some(Op::Swap(key, old, new))
 }
 
-// The key and the value on the first line, if the version has them and a byte 10 ends the line, and the bytes after the line.
+// The key and the value on the first line, if the version has them and a byte 10 ends the line, and the bytes after the
+// line.
 #[inline(always)]
 fn plain_entry(version: Version, bytes: &[u8]) -> Option<((u64, u128), &[u8])>
     ensures some { IfSome result (λ x. bytes.now ≡ pair_line x.0 ++ 10 ∷ x.1.now) }

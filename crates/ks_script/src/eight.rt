@@ -44,7 +44,8 @@ fn first_word(bytes: &[u8]) -> u64
     ])
 }
 
-// The number that the first `count` bytes are the digits of. The others are shifted out, and zeros stand before the digits.
+// The number that the first `count` bytes are the digits of. The others are shifted out, so that zeros stand before the
+// digits.
 #[inline(always)]
 pub fn eight(bytes: &[u8], count: usize) -> u64
     requires room { 8 ≤ length bytes.now }

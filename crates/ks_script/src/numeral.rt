@@ -63,7 +63,8 @@ fn one_by_one(bytes: &[u8]) -> (u64, usize)
     (number, count)
 }
 
-// The number that the digits spell with which the bytes begin, and how many they are; of more than sixteen the first ones.
+// The number that the digits spell with which the bytes begin, and how many they are; of more than sixteen the first
+// ones.
 #[inline(always)]
 fn sixteen(bytes: &[u8]) -> (u64, usize)
     ensures within { result.1 ≤ length bytes.now }
@@ -130,8 +131,8 @@ fn value_beyond(front: u64, bytes: &[u8]) -> Option<(u128, &[u8])>
     Some((number, rest.split_at(more).1))
 }
 
-/// The number that the bytes begin with, as it is spelled, and the bytes after it. `None`: none stands there, or it is 2^64
-/// or more.
+/// The number that the bytes begin with, as it is spelled, and the bytes after it. `None`: none stands there, or it is
+/// 2^64 or more.
 #[inline(always)]
 pub fn leading(bytes: &[u8]) -> Option<(u64, &[u8])>
     ensures some { IfSome result (λ x. bytes.now ≡ decimal x.0 ++ x.1.now) }
