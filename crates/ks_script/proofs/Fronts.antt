@@ -1,13 +1,19 @@
 -- Numbers and calls that bytes begin with.
-use Rattle.std.proofs.Common.{ℕ, zero, suc, ◌≡◌, ◌+◌, ◌-◌, ◌*◌, ◌^◌, ◌<◌, ◌≤◌, Bool, true, false, ◌&&◌, List, [], ◌∷◌, ◌++◌, length, take, drop, get_or, refl, sym, ap, subst, ◌∙◌, arith}
-use Rattle.std.proofs.lemmas.List.{take_more, take-append-drop, length-take-le}
+use Rattle.std.proofs.Common.{ℕ, zero, suc, ◌≡◌, ◌+◌, ◌-◌, ◌*◌, ◌^◌, ◌<◌, ◌≤◌, Bool, true, false, ◌&&◌, List, [], ◌∷◌, ◌++◌, length, take, drop, get_or, refl, sym, ap, ◌∙◌, arith, rules}
+use Rattle.std.proofs.lemmas.List.{take_more, take-append-drop, length-take-le, length-take, length-drop}
 use Rattle.std.proofs.lemmas.Bool.{false≢true}
 use Rattle.std.specs.Fmt.{decimal}
 use Rattle.std.specs.Char.{is_ascii_digit}
 use Rattle.std.specs.Str.{all_ascii_digits}
 use Rattle.ks_script.proofs.Numerals.{read_on}
 use Rattle.ks_script.proofs.Cuts.{digits_some}
-use Rattle.ks_script.proofs.Eights.{Eight}
+use Rattle.ks_script.proofs.Eights.{worth}
+use Rattle.std.proofs.Math.Seq.{take-suc, take-add}
+use Rattle.std.proofs.Math.Nat.{pow-succ', mul-le-mul_right, pow-le-pow_right}
+
+both : (a b : Bool) → (a && b) ≡ true → (a ≡ true) × (b ≡ true)
+both true b h = (refl, h)
+both false b h = absurd (false≢true h)
 
 digits_push : (ds : List ℕ) (c : ℕ) → all_ascii_digits ds ≡ true → is_ascii_digit c ≡ true → all_ascii_digits (ds ++ c ∷ []) ≡ true
 digits_push [] c all is = ap (λ b. b && true) is
@@ -29,44 +35,80 @@ digit_more bytes i m n lt all value is next = (
   ap (read_on 0) (take_more bytes i 0 lt) ∙ (read_push 0 (take i bytes) (get_or bytes i 0) ∙ (ap (λ (k : ℕ). 10 * k + (get_or bytes i 0 - 48)) value ∙ sym next)),
 )
 
-next : (bytes : List ℕ) (j k m n : ℕ) → k ≡ j + 1 → j < length bytes → all_ascii_digits (take j bytes) ≡ true → read_on 0 (take j bytes) ≡ m → is_ascii_digit (get_or bytes j 0) ≡ true → n ≡ 10 * m + (get_or bytes j 0 - 48) →
-    (all_ascii_digits (take k bytes) ≡ true) × (read_on 0 (take k bytes) ≡ n)
-next bytes j k m n e lt all value is_digit more = subst (λ (k : ℕ). (all_ascii_digits (take k bytes) ≡ true) × (read_on 0 (take k bytes) ≡ n)) (sym e) (digit_more bytes j m n lt all value is_digit more)
+-- each of the digits is one
+pub digit_at : (bytes : List ℕ) (k i : ℕ) → all_ascii_digits (take k bytes) ≡ true → k ≤ length bytes → i < k → is_ascii_digit (get_or bytes i 0) ≡ true
+digit_at bytes zero i all le lt = absurd (omega arith)
+digit_at [] (suc k) i all le lt = absurd (omega arith)
+digit_at (b ∷ bytes) (suc k) zero all le lt = (both (is_ascii_digit b) (all_ascii_digits (take k bytes)) all).0
+digit_at (b ∷ bytes) (suc k) (suc i) all le lt = digit_at bytes k i (both (is_ascii_digit b) (all_ascii_digits (take k bytes)) all).1 (omega arith) (omega arith)
 
--- four digits more
-pub four_more : (bytes : List ℕ) (i m n : ℕ) → i + 4 ≤ length bytes → all_ascii_digits (take i bytes) ≡ true → read_on 0 (take i bytes) ≡ m →
-    is_ascii_digit (get_or bytes i 0) ≡ true → is_ascii_digit (get_or bytes (i + 1) 0) ≡ true → is_ascii_digit (get_or bytes (i + 2) 0) ≡ true → is_ascii_digit (get_or bytes (i + 3) 0) ≡ true →
-    n ≡ 10000 * m + (1000 * (get_or bytes i 0 - 48) + 100 * (get_or bytes (i + 1) 0 - 48) + 10 * (get_or bytes (i + 2) 0 - 48) + (get_or bytes (i + 3) 0 - 48)) →
-    (all_ascii_digits (take (i + 4) bytes) ≡ true) × (read_on 0 (take (i + 4) bytes) ≡ n)
-four_more bytes i m n within all value is_0 is_1 is_2 is_3 is =
-    let d : ℕ → ℕ = λ k. get_or bytes k 0 - 48 in
-    let a = digit_more bytes i m (10 * m + d i) (omega arith) all value is_0 refl in
-    let b = next bytes (i + 1) (i + 2) (10 * m + d i) (10 * (10 * m + d i) + d (i + 1)) (omega arith) (omega arith) a.0 a.1 is_1 refl in
-    let c = next bytes (i + 2) (i + 3) (10 * (10 * m + d i) + d (i + 1)) (10 * (10 * (10 * m + d i) + d (i + 1)) + d (i + 2)) (omega arith) (omega arith) b.0 b.1 is_2 refl in
-    next bytes (i + 3) (i + 4) (10 * (10 * (10 * m + d i) + d (i + 1)) + d (i + 2)) n (omega arith) (omega arith) c.0 c.1 is_3 (omega (arith, is))
+-- so many digits are worth what their bytes are
+pub worth_read : (bytes : List ℕ) (k : ℕ) → k ≤ length bytes → read_on 0 (take k bytes) ≡ worth (λ i. get_or bytes i 0) k
+worth_read bytes zero le = refl
+worth_read bytes (suc k) le =
+    ap (read_on 0) (take-suc bytes k 0 (omega arith)) ∙ (read_push 0 (take k bytes) (get_or bytes k 0) ∙ ap (λ (n : ℕ). 10 * n + (get_or bytes k 0 - 48)) (worth_read bytes k (omega arith)))
 
--- eight digits more
-pub eight_more : (bytes : List ℕ) (i m n : ℕ) → i + 8 ≤ length bytes → all_ascii_digits (take i bytes) ≡ true → read_on 0 (take i bytes) ≡ m →
-    Eight (λ k. is_ascii_digit (get_or bytes (i + k) 0) ≡ true) →
-    n ≡ 100000000 * m + (10000 * (1000 * (get_or bytes (i + 0) 0 - 48) + 100 * (get_or bytes (i + 1) 0 - 48) + 10 * (get_or bytes (i + 2) 0 - 48) + (get_or bytes (i + 3) 0 - 48))
-    + (1000 * (get_or bytes (i + 4) 0 - 48) + 100 * (get_or bytes (i + 5) 0 - 48) + 10 * (get_or bytes (i + 6) 0 - 48) + (get_or bytes (i + 7) 0 - 48))) →
-    (all_ascii_digits (take (i + 8) bytes) ≡ true) × (read_on 0 (take (i + 8) bytes) ≡ n)
-eight_more bytes i m n within all value are is =
-    let d : ℕ → ℕ = λ k. get_or bytes (i + k) 0 - 48 in
-    let same : i + 0 ≡ i = omega arith in
-    let is_0 : is_ascii_digit (get_or bytes i 0) ≡ true = subst (λ (k : ℕ). is_ascii_digit (get_or bytes k 0) ≡ true) same are.0 in
-    let first : d 0 ≡ get_or bytes i 0 - 48 = ap (λ (k : ℕ). get_or bytes k 0 - 48) same in
-    let four : ℕ = 10000 * m + (1000 * d 0 + 100 * d 1 + 10 * d 2 + d 3) in
-    let a = four_more bytes i m four (omega arith) all value is_0 are.1 are.2 are.3 (ap (λ (k : ℕ). 10000 * m + (1000 * k + 100 * d 1 + 10 * d 2 + d 3)) first) in
-    let b = next bytes (i + 4) (i + 5) four (10 * four + d 4) (omega arith) (omega arith) a.0 a.1 are.4 refl in
-    let c = next bytes (i + 5) (i + 6) (10 * four + d 4) (10 * (10 * four + d 4) + d 5) (omega arith) (omega arith) b.0 b.1 are.5 refl in
-    let e = next bytes (i + 6) (i + 7) (10 * (10 * four + d 4) + d 5) (10 * (10 * (10 * four + d 4) + d 5) + d 6) (omega arith) (omega arith) c.0 c.1 are.6 refl in
-    next bytes (i + 7) (i + 8) (10 * (10 * (10 * four + d 4) + d 5) + d 6) n (omega arith) (omega arith) e.0 e.1 are.7 (is ∙ sums m (d 0) (d 1) (d 2) (d 3) (d 4) (d 5) (d 6) (d 7))
+-- digits after digits
+pub all_append : (a b : List ℕ) → all_ascii_digits a ≡ true → all_ascii_digits b ≡ true → all_ascii_digits (a ++ b) ≡ true
+all_append [] b h k = k
+all_append (c ∷ a) b h k =
+    let parts = both (is_ascii_digit c) (all_ascii_digits a) h in
+    ap (λ t. t && all_ascii_digits (a ++ b)) parts.0 ∙ all_append a b parts.1 k
+
+read_append : (n : ℕ) (a b : List ℕ) → read_on n (a ++ b) ≡ read_on (read_on n a) b
+read_append n [] b = refl
+read_append n (c ∷ a) b = read_append (10 * n + (c - 48)) a b
+
+read_sum : (m n : ℕ) (ds : List ℕ) → read_on (m + n) ds ≡ m * 10 ^ length ds + read_on n ds
+read_sum m n [] = omega arith
+read_sum m n (c ∷ ds) =
+    ap (λ (k : ℕ). read_on k ds) (omega arith)
+    ∙ (read_sum (10 * m) (10 * n + (c - 48)) ds
+    ∙ ap (λ (k : ℕ). k + read_on (10 * n + (c - 48)) ds) (shift m (10 ^ length ds) ∙ ap (λ (k : ℕ). m * k) (sym (pow-succ' 10 (length ds)))))
   where
-    sums : (m a b c d e f g i : ℕ) → 100000000 * m + (10000 * (1000 * a + 100 * b + 10 * c + d) + (1000 * e + 100 * f + 10 * g + i)) ≡ 10 * (10 * (10 * (10 * (10000 * m + (1000 * a + 100 * b + 10 * c + d)) + e) + f) + g) + i
-    sums m a b c d e f g i = omega arith
+    shift : (m p : ℕ) → (10 * m) * p ≡ m * (10 * p)
+    shift m p = omega arith
 
-first_kept : (bytes : List ℕ) (n : ℕ) → 0 < n → get_or (take n bytes) 0 0 ≡ get_or bytes 0 0
+pub joined : (a b : List ℕ) → read_on 0 (a ++ b) ≡ read_on 0 a * 10 ^ length b + read_on 0 b
+joined a b = read_append 0 a b ∙ (ap (λ (k : ℕ). read_on k b) (omega arith) ∙ read_sum (read_on 0 a) 0 b)
+
+-- so many digits make a number below the power of ten
+pub below_power : (ds : List ℕ) → all_ascii_digits ds ≡ true → read_on 0 ds < 10 ^ length ds
+below_power [] h = omega arith
+below_power (c ∷ ds) h =
+    let parts = both (is_ascii_digit c) (all_ascii_digits ds) h in
+    let le : c - 48 ≤ 9 = nine c parts.0 in
+    let step : read_on 0 (c ∷ ds) ≡ (c - 48) * 10 ^ length ds + read_on 0 ds = ap (λ (k : ℕ). read_on k ds) (omega arith) ∙ read_sum (c - 48) 0 ds in
+    omega (arith, pow-succ' 10 (length ds), below_power ds parts.1, step, mul-le-mul_right (10 ^ length ds) le)
+  where
+    nine : (b : ℕ) → is_ascii_digit b ≡ true → b - 48 ≤ 9
+    nine b is = search rules
+
+pub small_read : (most : ℕ) (bytes : List ℕ) (k : ℕ) → k ≤ most → all_ascii_digits (take k bytes) ≡ true → read_on 0 (take k bytes) < 10 ^ most
+small_read most bytes k le all = omega (arith, below_power (take k bytes) all, pow-le-pow_right {n = 10} (omega arith) (let e : length (take k bytes) ≤ most = omega (arith, length-take k bytes) in e))
+
+all_split : (a b : List ℕ) → all_ascii_digits (a ++ b) ≡ true → (all_ascii_digits a ≡ true) × (all_ascii_digits b ≡ true)
+all_split [] b h = (refl, h)
+all_split (c ∷ a) b h =
+    let parts = both (is_ascii_digit c) (all_ascii_digits (a ++ b)) h in
+    let rest = all_split a b parts.1 in
+    (ap (λ t. t && all_ascii_digits a) parts.0 ∙ rest.0, rest.1)
+
+-- so many digits, and then some more
+pub digits_parts : (bytes : List ℕ) (i j count : ℕ) → count ≡ i + j → all_ascii_digits (take count bytes) ≡ true → (all_ascii_digits (take i bytes) ≡ true) × (all_ascii_digits (take j (drop i bytes)) ≡ true)
+digits_parts bytes i j count e all = all_split (take i bytes) (take j (drop i bytes)) (ap all_ascii_digits (sym (take-add i j bytes) ∙ ap (λ (k : ℕ). take k bytes) (sym e)) ∙ all)
+
+pub value_parts : (bytes : List ℕ) (i j count : ℕ) → count ≡ i + j → count ≤ length bytes → (a b p : ℕ) → read_on 0 (take i bytes) ≡ a → read_on 0 (take j (drop i bytes)) ≡ b → p ≡ 10 ^ j → read_on 0 (take count bytes) ≡ a * p + b
+value_parts bytes i j count e le a b p front back power =
+    ap (λ (k : ℕ). read_on 0 (take k bytes)) e
+    ∙ (ap (read_on 0) (take-add i j bytes)
+    ∙ (joined (take i bytes) (take j (drop i bytes))
+    ∙ sum_of front back (ap (λ (k : ℕ). 10 ^ k) (length-take-le j (drop i bytes) (omega (arith, length-drop i bytes))) ∙ sym power)))
+  where
+    sum_of : {x y z : ℕ} → x ≡ a → y ≡ b → z ≡ p → x * z + y ≡ a * p + b
+    sum_of h k l = cc
+
+pub first_kept : (bytes : List ℕ) (n : ℕ) → 0 < n → get_or (take n bytes) 0 0 ≡ get_or bytes 0 0
 first_kept bytes zero some = absurd (omega arith)
 first_kept [] (suc n) some = refl
 first_kept (b ∷ bytes) (suc n) some = refl

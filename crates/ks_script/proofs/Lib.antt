@@ -4,7 +4,9 @@ pub mod Sources
 pub mod Numerals
 pub mod Cuts
 pub mod Fronts
+pub mod Onward
 pub mod Eights
+pub mod Lanes
 pub mod Pairs
 pub mod CallLines
 pub mod Scripts

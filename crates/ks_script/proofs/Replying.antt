@@ -34,6 +34,11 @@ small_key bound key value l lines more e f small k v =
     let first : key ≡ x.0 = ap (λ (p : ℕ × ℕ). p.0) same in
     omega arith)
 
+-- no pair at all, so none with a greater key
+pub no_greater : (bound : ℕ) (lines : Lines) → NoPair 0 lines → NoPair bound lines
+no_greater bound [] h = tt
+no_greater bound (l ∷ lines) h = λ x least k v e. h x (omega arith) k v e
+
 abbrev pub Calls : Type 0
 Calls = Vec Op Global
 

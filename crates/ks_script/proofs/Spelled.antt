@@ -87,13 +87,16 @@ plain_word Full h = lacks_by 10 (codes "full") refl
 pub plain_reply : (x : ℕ × Reply) → IsAnswered x → Lacks 10 (reply_line x)
 plain_reply x h = spaced (decimal x.0) (reply_word x.1) (number x.0 h.0) (plain_word x.1 h.1)
 
+pub plain_pair : (x : ℕ × ℕ) → x.0 < 2 ^ 64 → x.1 < 2 ^ 128 → Lacks 10 (pair_line x)
+plain_pair x k v = spaced (decimal x.0) (decimal x.1) (number x.0 k) (value x.1 v)
+
 plain_replies : (rs : List (ℕ × Reply)) → AllByRecursion IsAnswered rs → Plain (map reply_line rs)
 plain_replies [] h = tt
 plain_replies (r ∷ rs) h = (plain_reply r h.0, plain_replies rs h.1)
 
 plain_pairs : (n : ℕ) (ps : List (ℕ × ℕ)) → AscendFrom n ps → Plain (map pair_line ps)
 plain_pairs n [] h = tt
-plain_pairs n (p ∷ ps) h = (spaced (decimal p.0) (decimal p.1) (number p.0 h.1) (value p.1 h.2), plain_pairs (p.0 + 1) ps h.3)
+plain_pairs n (p ∷ ps) h = (plain_pair p h.1 h.2, plain_pairs (p.0 + 1) ps h.3)
 
 plain_callers : (n : ℕ) (cs : List (List (ℕ × Reply))) → n + length cs ≤ 1024 → AllByRecursion (AllByRecursion IsAnswered) cs → Plain (callers_from n cs)
 plain_callers n [] few h = tt

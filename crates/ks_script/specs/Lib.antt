@@ -11,3 +11,4 @@ pub mod Front
 pub mod Answers
 pub mod RunParts
 pub mod Eight
+pub mod Numeral

@@ -4,13 +4,14 @@ ghost use Rattle.std.specs.Prelude.{◌≢◌, ℕ, ◌≡◌, ◌+◌, ◌*◌,
 ghost use Rattle.std.specs.Fmt.{decimal};
 ghost use Rattle.ks_history.specs.declared.Reply.{Reply};
 ghost use Rattle.ks_script.specs.Lines.{lines_of};
-ghost use Rattle.ks_script.specs.Run.{reply_line, callers_from};
+ghost use Rattle.ks_script.specs.Run.{reply_line, pair_line, callers_from};
 ghost use Rattle.ks_script.specs.Checked.{IsAnswered};
-ghost use Rattle.ks_script.specs.Answers.{NotFirst, NoReply, RepliesThen, PairsThen, SpellAnswers, AnswersThen, RefusedFrom};
+ghost use Rattle.ks_script.specs.Answers.{NotFirst, NoReply, NoPair, RepliesThen, PairsThen, SpellAnswers, AnswersThen, RefusedFrom};
 
 use crate::TextFault;
+use crate::numeral::{leading, leading_pair, leading_value};
 use crate::words::{
-    after, after_byte, after_four, cut, first_line, key_and_value, leading, number, wide_number,
+    after, after_byte, after_four, cut, first_line, key_and_value, number, wide_number,
 };
 use ks_history::{Op, Reply};
 use std::alloc::{AllocError, Global};
@@ -58,9 +59,8 @@ fn reply_of(line: &[u8]) -> Option<(u64, Reply)>
     Some((number_of_call, Reply::Value(wide_number(word)?)))
 }
 
-// The number and the reply on the first line, if they are below 2^64 and not Full, and a byte 10 ends the line; and the
-// bytes after the line.
-fn plain_reply(bytes: &[u8]) -> Option<((u64, Reply), &[u8])>
+/// The number and the reply on the first line, if a byte 10 ends the line, and the bytes after the line.
+pub(crate) fn plain_reply(bytes: &[u8]) -> Option<((u64, Reply), &[u8])>
     ensures some { IfSome result (λ x. IsAnswered x.0 × (bytes.now ≡ reply_line x.0 ++ 10 ∷ x.1.now)) }
 {
     let (number, word) = leading(bytes)?;
@@ -69,12 +69,17 @@ fn plain_reply(bytes: &[u8]) -> Option<((u64, Reply), &[u8])>
         let rest = after_byte(rest, b'\n')?;
         return Some(((number, Reply::Nothing), rest));
     }
-    let (value, rest) = leading(word)?;
+    if let Some(rest) = after_four(word, b'f', b'u', b'l', b'l') {
+        let rest = after_byte(rest, b'\n')?;
+        return Some(((number, Reply::Full), rest));
+    }
+    let (value, rest) = leading_value(word)?;
     let rest = after_byte(rest, b'\n')?;
-    Some(((number, Reply::Value(u128::from(value))), rest))
+    Some(((number, Reply::Value(value)), rest))
 }
 
-// The number and the reply on the first line, and the bytes after the line. Most are plain, and are read in one pass.
+// The number and the reply on the first line, and the bytes after the line. A last line that no byte 10 ends is read by
+// its parts.
 fn next_reply(bytes: &[u8]) -> Option<((u64, Reply), &[u8])>
     ensures some { IfSome result
         (λ x. IsAnswered x.0 × (lines_of bytes.now ≡ reply_line x.0 ∷ lines_of x.1.now)) }
@@ -109,6 +114,22 @@ fn read_replies(
     Ok((replies, rest))
 }
 
+// The key and the value on the first line, and the bytes after the line. A last line that no byte 10 ends is read by its
+// parts.
+fn next_pair(bytes: &[u8]) -> Option<((u64, u128), &[u8])>
+    ensures some { IfSome result (λ x. lines_of bytes.now ≡ pair_line x.0 ∷ lines_of x.1.now) }
+    ensures fits { IfSome result (λ x. (x.0.0 < 2 ^ 64) × (x.0.1 < 2 ^ 128)) }
+    ensures shorter { IfSome result (λ x. length x.1.now < length bytes.now) }
+    ensures none { IfNone result (NoPair 0 (lines_of bytes.now)) }
+{
+    if let Some((pair, rest)) = leading_pair(bytes) {
+        return Some((pair, rest));
+    }
+    let (line, rest) = first_line(bytes)?;
+    let pair = key_and_value(line)?;
+    Some((pair, rest))
+}
+
 /// The pairs at the front, as long as each key is greater than the one before, and the bytes after them.
 pub fn read_pairs(alloc: Global, bytes: &[u8]) -> Result<(Vec<(u64, u128)>, &[u8]), AllocError>
     ensures { IfOk result (λ x. PairsThen bytes.now x.0.items x.1.now) }
@@ -117,10 +138,7 @@ pub fn read_pairs(alloc: Global, bytes: &[u8]) -> Result<(Vec<(u64, u128)>, &[u8
     let mut least: u128 = 0;
     let mut rest = bytes;
     'pairs: loop {
-        let Some((line, more)) = first_line(rest) else {
-            return Ok((pairs, rest));
-        };
-        let Some((key, value)) = key_and_value(line) else {
+        let Some(((key, value), more)) = next_pair(rest) else {
             return Ok((pairs, rest));
         };
         if (key as u128) < least {

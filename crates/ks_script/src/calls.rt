@@ -4,15 +4,15 @@ ghost use Rattle.std.specs.Prelude.{◌≢◌, ℕ, ◌≡◌, ◌<◌, ◌^◌,
 ghost use Rattle.std.specs.Fmt.{decimal};
 ghost use Rattle.ks_history.specs.declared.Op.{Op};
 ghost use Rattle.ks_script.specs.Lines.{lines_of};
-ghost use Rattle.ks_script.specs.Version.{value_limit};
+ghost use Rattle.ks_script.specs.Version.{value_limit, AddsAndSwaps};
 ghost use Rattle.ks_script.specs.Script.{IsCall, call_line};
 ghost use Rattle.ks_script.specs.Run.{pair_line};
 ghost use Rattle.ks_script.specs.Front.{NoCall};
 
+use crate::numeral::{leading, leading_pair, leading_value};
 use crate::version::Version;
 use crate::words::{
-    after, after_byte, after_four, cut, first_line, key_and_value, leading, leading_pair, number,
-    two_values,
+    after, after_byte, after_four, cut, first_line, key_and_value, number, two_values,
 };
 use ks_history::Op;
 
@@ -70,28 +70,79 @@ fn call_of(version: Version, line: &[u8]) -> Option<Op>
     Some(Op::Swap(key, old, new))
 }
 
-// The call on the first line, if it is a Get, a Del or a Put of numbers below 2^64 and a byte 10 ends the line, and the
-// bytes after the line.
-fn plain_call(version: Version, bytes: &[u8]) -> Option<(Op, &[u8])>
+// The key and the value on the first line, if the version has them and a byte 10 ends the line, and the bytes after the
+// line.
+#[inline(always)]
+fn plain_entry(version: Version, bytes: &[u8]) -> Option<((u64, u128), &[u8])>
+    ensures some { IfSome result (λ x. bytes.now ≡ pair_line x.0 ++ 10 ∷ x.1.now) }
+    ensures fits { IfSome result (λ x. (x.0.0 < 2 ^ 64) × (x.0.1 < value_limit version)) }
+{
+    let (entry, rest) = leading_pair(bytes)?;
+    if !version.has_value(entry.1) {
+        return None;
+    }
+    Some((entry, rest))
+}
+
+// The key on the first line, if a byte 10 ends the line, and the bytes after the line.
+#[inline(always)]
+fn plain_key(bytes: &[u8]) -> Option<(u64, &[u8])>
+    ensures some { IfSome result (λ x. bytes.now ≡ decimal x.0 ++ 10 ∷ x.1.now) }
+{
+    let (key, rest) = leading(bytes)?;
+    Some((key, after_byte(rest, b'\n')?))
+}
+
+// The key and the two values on the first line, if a byte 10 ends the line, and the bytes after the line.
+fn plain_exchange(bytes: &[u8]) -> Option<(u64, u128, u128, &[u8])>
+    ensures some { IfSome result (λ x.
+        bytes.now ≡ (decimal x.0 ++ codes " " ++ decimal x.1 ++ codes " " ++ decimal x.2) ++ 10 ∷ x.3.now) }
+    ensures fits { IfSome result (λ x. (x.0 < 2 ^ 64) × (x.1 < 2 ^ 128) × (x.2 < 2 ^ 128)) }
+{
+    let (key, rest) = leading(bytes)?;
+    let (old, rest) = leading_value(after_byte(rest, b' ')?)?;
+    let (new, rest) = leading_value(after_byte(rest, b' ')?)?;
+    Some((key, old, new, after_byte(rest, b'\n')?))
+}
+
+// The Add or the Swap on the first line, if a byte 10 ends the line, and the bytes after the line.
+fn plain_add_or_swap(version: Version, bytes: &[u8]) -> Option<(Op, &[u8])>
+    requires { AddsAndSwaps version }
+    ensures some { IfSome result (λ x. IsCall version x.0 × (bytes.now ≡ call_line x.0 ++ 10 ∷ x.1.now)) }
+{
+    if let Some(entry) = after_four(bytes, b'a', b'd', b'd', b' ') {
+        let ((key, value), rest) = plain_entry(version, entry)?;
+        return Some((Op::Add(key, value), rest));
+    }
+    let exchange = after_byte(after_four(bytes, b's', b'w', b'a', b'p')?, b' ')?;
+    let (key, old, new, rest) = plain_exchange(exchange)?;
+    Some((Op::Swap(key, old, new), rest))
+}
+
+/// The call of the version on the first line, if a byte 10 ends the line, and the bytes after the line.
+pub(crate) fn plain_call(version: Version, bytes: &[u8]) -> Option<(Op, &[u8])>
     ensures some { IfSome result (λ x. IsCall version x.0 × (bytes.now ≡ call_line x.0 ++ 10 ∷ x.1.now)) }
 {
     if let Some(entry) = after_four(bytes, b'p', b'u', b't', b' ') {
-        let (key, value, rest) = leading_pair(entry)?;
-        return Some((Op::Put(key, u128::from(value)), rest));
+        let ((key, value), rest) = plain_entry(version, entry)?;
+        return Some((Op::Put(key, value), rest));
     }
     if let Some(entry) = after_four(bytes, b'g', b'e', b't', b' ') {
-        let (key, rest) = leading(entry)?;
-        let rest = after_byte(rest, b'\n')?;
+        let (key, rest) = plain_key(entry)?;
         return Some((Op::Get(key), rest));
     }
-    let entry = after_four(bytes, b'd', b'e', b'l', b' ')?;
-    let (key, rest) = leading(entry)?;
-    let rest = after_byte(rest, b'\n')?;
-    Some((Op::Del(key), rest))
+    if let Some(entry) = after_four(bytes, b'd', b'e', b'l', b' ') {
+        let (key, rest) = plain_key(entry)?;
+        return Some((Op::Del(key), rest));
+    }
+    if version.adds_and_swaps() {
+        return plain_add_or_swap(version, bytes);
+    }
+    None
 }
 
-/// The call of the version on the first line, and the bytes after the line. Most calls are plain, and are read in one
-/// pass over the bytes.
+/// The call of the version on the first line, and the bytes after the line. The call is read in one pass
+/// over the bytes, and only where it is none, or the last line, which no byte 10 ends, by its parts.
 pub fn next_call(version: Version, bytes: &[u8]) -> Option<(Op, &[u8])>
     ensures some { IfSome result
         (λ x. IsCall version x.0 × (lines_of bytes.now ≡ call_line x.0 ∷ lines_of x.1.now)) }

@@ -1,60 +1,63 @@
-//! Eight digits, read in one word.
+//! Up to sixteen digits, found in one vector and read in two words.
 
-ghost use Rattle.std.specs.Prelude.{ℕ, ◌≡◌, ◌≤◌, ◌<◌, ◌+◌, length, slice_index, IfSome};
-ghost use Rattle.ks_script.specs.Eight.{AreDigits, spelled, word_of};
+ghost use Rattle.std.specs.Prelude.{ℕ, ◌≡◌, ◌≤◌, ◌<◌, ◌+◌, true, length, take, slice_index};
+ghost use Rattle.std.specs.Str.{all_ascii_digits};
+ghost use Rattle.std.specs.Str.Parse.{digits_value};
+ghost use Rattle.ks_script.specs.Eight.{word_of};
+
+use std::simd::prelude::*;
 
 // The bytes of eight digits 0.
 const ZEROS: u64 = 0x3030_3030_3030_3030;
 
-// Six in each byte: of the bytes from 48 to 63, digits alone stay below 64 with it.
-const SIXES: u64 = 0x0606_0606_0606_0606;
+// What brings the first and the third pair of eight digits to their places above bit 32, where the halves of a word are
+// these pairs.
+const ODD: u64 = (1_000_000 << 32) + 100;
 
-// The upper half of each byte.
-const UPPER: u64 = 0xF0F0_F0F0_F0F0_F0F0;
+// The same for the second and the fourth pair.
+const EVEN: u64 = (10_000 << 32) + 1;
 
-// The number that the bytes of the word, the lowest first, are the digits of.
-fn number_in(word: u64) -> Option<u64>
-    ensures digits { IfSome result (λ _. (byte : ℕ → ℕ) → ((i : ℕ) → byte i < 256) →
-        word ≡ word_of byte → AreDigits byte) }
-    ensures value { IfSome result (λ n. (byte : ℕ → ℕ) → ((i : ℕ) → byte i < 256) →
-        word ≡ word_of byte → n ≡ spelled byte) }
+// How many digits the bytes begin with, or sixteen if they are more.
+#[inline(always)]
+pub fn digits_in(bytes: &[u8]) -> usize
+    requires { 16 ≤ length bytes.now }
+    ensures most { result ≤ 16 }
+    ensures digits { all_ascii_digits (take result bytes.now) ≡ true }
 {
-    if word & UPPER != ZEROS {
-        return None;
+    let worths = u8x16::from_slice(bytes) - u8x16::splat(b'0');
+    let others = worths.simd_gt(u8x16::splat(9)).to_bitmask();
+    if others == 0 {
+        return 16;
     }
-    if word.wrapping_add(SIXES) & UPPER != ZEROS {
-        return None;
-    }
-    let digits = word.wrapping_sub(ZEROS);
-    let pairs = digits.wrapping_mul(10).wrapping_add(digits >> 8);
-    let front = (pairs % 256) * 100 + (pairs >> 16) % 256;
-    let back = ((pairs >> 32) % 256) * 100 + (pairs >> 48) % 256;
-    Some(front * 10_000 + back)
+    others.trailing_zeros() as usize
 }
 
-/// The number that the eight bytes from a place on are the digits of.
-pub fn eight_at(bytes: &[u8], at: usize) -> Option<u64>
-    requires { at ≤ length bytes.now }
-    ensures within { IfSome result (λ _. at + 8 ≤ length bytes.now) }
-    ensures digits { IfSome result (λ _. AreDigits (λ (i : ℕ). slice_index bytes.now (at + i))) }
-    ensures value { IfSome result (λ n. n ≡ spelled (λ (i : ℕ). slice_index bytes.now (at + i))) }
-    ensures small { IfSome result (λ n. n < 100000000) }
-{
-    if at + 8 > bytes.len() {
-        return None;
-    }
-    let number = number_in(word_at(bytes, at))?;
-    Some(number)
-}
-
-// The eight bytes from a place on as a word, the first of them lowest.
-fn word_at(bytes: &[u8], at: usize) -> u64
-    requires { at + 8 ≤ length bytes.now }
-    ensures value { result ≡ word_of (λ (i : ℕ). slice_index bytes.now (at + i)) }
+// The first eight bytes as a word, the first of them lowest.
+#[inline(always)]
+fn first_word(bytes: &[u8]) -> u64
+    requires { 8 ≤ length bytes.now }
+    ensures value { result ≡ word_of (λ (i : ℕ). slice_index bytes.now i) }
     ensures bytes { (i : ℕ) → slice_index bytes.now i < 256 }
 {
-    let word = &bytes[at..at + 8];
     u64::from_le_bytes([
-        word[0], word[1], word[2], word[3], word[4], word[5], word[6], word[7],
+        bytes[0], bytes[1], bytes[2], bytes[3], bytes[4], bytes[5], bytes[6], bytes[7],
     ])
+}
+
+// The number that the first `count` bytes are the digits of. The others are shifted out, so that zeros stand before the
+// digits.
+#[inline(always)]
+pub fn eight(bytes: &[u8], count: usize) -> u64
+    requires room { 8 ≤ length bytes.now }
+    requires some { 0 < count }
+    requires most { count ≤ 8 }
+    requires digits { all_ascii_digits (take count bytes.now) ≡ true }
+    ensures value { digits_value 10 (take count bytes.now) ≡ result }
+    ensures small { result < 100000000 }
+{
+    let digits = first_word(bytes).wrapping_sub(ZEROS) << (64 - 8 * count);
+    let pairs = digits.wrapping_mul(10).wrapping_add(digits >> 8);
+    let odd = pairs % 256 + ((pairs >> 32) % 256 << 32);
+    let even = (pairs >> 16) % 256 + ((pairs >> 48) % 256 << 32);
+    odd.wrapping_mul(ODD).wrapping_add(even.wrapping_mul(EVEN)) >> 32
 }

@@ -15,6 +15,7 @@ mod front;
 mod laws;
 mod line;
 mod memory;
+mod numeral;
 mod outside;
 mod pieces;
 mod printed;

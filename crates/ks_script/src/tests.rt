@@ -76,6 +76,78 @@ fn a_script_of_the_second_version_is_read(rt: HostRuntime) -> Result<(), Fail> {
     Ok(())
 }
 
+// Numbers of 1, 8, 9, 16, 17, 20, 32 and 39 digits, the greatest ones among them, and a last line that no byte 10 ends.
+#[test]
+fn numbers_of_all_lengths_are_read(rt: HostRuntime) -> Result<(), Fail> {
+    let text = b"script 2
+caller
+put 18446744073709551615 340282366920938463463374607431768211455
+put 9999999999999999 99999999999999999999999999999999
+add 12345678 123456789
+swap 0 10000000000000000 18446744073709551616
+del 18446744073709551615";
+    let script = read_script(rt.alloc(), text).ok().ok_or("it is a script")?;
+    let calls = [
+        Op::Put(
+            18446744073709551615,
+            340282366920938463463374607431768211455,
+        ),
+        Op::Put(9999999999999999, 99999999999999999999999999999999),
+        Op::Add(12345678, 123456789),
+        Op::Swap(0, 10000000000000000, 18446744073709551616),
+        Op::Del(18446744073709551615),
+    ];
+    assert_eq!(rt; script.callers.len(), 1);
+    for ops in &script.callers {
+        assert_eq!(rt; ops.as_slice(), calls.as_slice());
+    }
+    Ok(())
+}
+
+// Sixteen bytes follow each number, so that it is read by words.
+#[test]
+fn numbers_that_are_none_are_refused_before_other_lines(rt: HostRuntime) {
+    let alloc = rt.alloc();
+    is_refused(
+        &rt,
+        alloc,
+        b"caller\nget 18446744073709551616\ncaller\ncaller\ncaller\n",
+        2,
+    );
+    is_refused(
+        &rt,
+        alloc,
+        b"caller\nget 00000000000000001\ncaller\ncaller\ncaller\n",
+        2,
+    );
+    is_refused(&rt, alloc, b"caller\nput 1 00\ncaller\ncaller\ncaller\n", 2);
+    is_refused(&rt, alloc, b"caller\nget 123:\ncaller\ncaller\ncaller\n", 2);
+    is_refused(
+        &rt,
+        alloc,
+        b"caller\nput 1 18446744073709551616\ncaller\ncaller\ncaller\n",
+        2,
+    );
+    is_refused(
+        &rt,
+        alloc,
+        b"caller\nswap 1 2 3\ncaller\ncaller\ncaller\n",
+        2,
+    );
+    is_refused(
+        &rt,
+        alloc,
+        b"script 2\ncaller\nput 1 340282366920938463463374607431768211456\ncaller\ncaller\n",
+        3,
+    );
+    is_refused(
+        &rt,
+        alloc,
+        b"script 2\ncaller\nput 1 1000000000000000000000000000000000000000\ncaller\ncaller\n",
+        3,
+    );
+}
+
 #[test]
 fn lines_of_another_version_are_refused(rt: HostRuntime) {
     let alloc = rt.alloc();
@@ -156,6 +228,32 @@ fn a_script_of_the_second_version_and_its_run_are_read(rt: HostRuntime) -> Resul
         rt.alloc(),
         b"run\nmap\n1 340282366920938463463374607431768211456\nend\n",
         3,
+    );
+    Ok(())
+}
+
+#[test]
+fn replies_full_and_wide_are_read(rt: HostRuntime) -> Result<(), Fail> {
+    let text =
+        b"caller\nget 1\nget 2\nrun\ncaller 0\n0 full\n1 340282366920938463463374607431768211455\nmap\n18446744073709551615 340282366920938463463374607431768211455\nend\n";
+    let (_, printed) = read_checked(rt.alloc(), text)
+        .ok()
+        .ok_or("it is a script and a run")?;
+    let replies = [
+        (0, Reply::Full),
+        (1, Reply::Value(340282366920938463463374607431768211455)),
+    ];
+    assert_eq!(rt; printed.callers.len(), 1);
+    for calls in &printed.callers {
+        assert_eq!(rt; calls.as_slice(), replies.as_slice());
+    }
+    assert_eq!(rt;
+        printed.pairs.as_slice(),
+        [(
+            18446744073709551615,
+            340282366920938463463374607431768211455
+        )]
+        .as_slice()
     );
     Ok(())
 }

@@ -8,17 +8,6 @@ ghost use Rattle.std.specs.Str.Parse.{digits_value};
 ghost use Rattle.ks_script.specs.Lines.{Lacks, lines_of};
 ghost use Rattle.ks_script.specs.Run.{pair_line};
 
-use crate::eight::eight_at;
-
-// A number behind which any eight digits more are one below 2^64.
-const BEFORE_EIGHT: u64 = 184_467_440_736;
-
-// A number behind which any four digits more are one below 2^64.
-const BEFORE_FOUR: u64 = 1_844_674_407_370_954;
-
-// A number behind which any digit more is one below 2^64.
-const BEFORE_ONE: u64 = 1_844_674_407_370_955_160;
-
 // The place of the first such byte, or how many bytes there are.
 fn place_of(bytes: &[u8], byte: u8) -> usize
     ensures within { result ≤ length bytes.now }
@@ -88,6 +77,7 @@ pub fn number(bytes: &[u8]) -> Option<u64>
 }
 
 /// What follows the byte, if the bytes begin with it.
+#[inline(always)]
 pub fn after_byte(bytes: &[u8], byte: u8) -> Option<&[u8]>
     ensures some { IfSome result (λ rest. bytes.now ≡ byte ∷ rest.now) }
 {
@@ -101,115 +91,18 @@ pub fn after_byte(bytes: &[u8], byte: u8) -> Option<&[u8]>
 }
 
 /// What follows four bytes, if the bytes begin with them.
+#[inline(always)]
 pub fn after_four(bytes: &[u8], first: u8, second: u8, third: u8, fourth: u8) -> Option<&[u8]>
     ensures some { IfSome result (λ rest. bytes.now ≡ first ∷ second ∷ third ∷ fourth ∷ rest.now) }
 {
-    let rest = after_byte(bytes, first)?;
-    let rest = after_byte(rest, second)?;
-    let rest = after_byte(rest, third)?;
-    after_byte(rest, fourth)
-}
-
-// The number that the four bytes from a place on are the digits of.
-fn four_at(bytes: &[u8], at: usize) -> Option<u64>
-    requires { at ≤ length bytes.now }
-    ensures within { IfSome result (λ _. at + 4 ≤ length bytes.now) }
-    ensures digits { IfSome result (λ _. let is = λ (i : ℕ). is_ascii_digit (slice_index bytes.now i) ≡ true in
-        is at × is (at + 1) × is (at + 2) × is (at + 3)) }
-    ensures value { IfSome result (λ n. let digit = λ (i : ℕ). slice_index bytes.now i - 48 in
-        n ≡ 1000 * digit at + 100 * digit (at + 1) + 10 * digit (at + 2) + digit (at + 3)) }
-    ensures small { IfSome result (λ n. n < 10000) }
-{
-    if at + 4 > bytes.len() {
+    if bytes.len() < 4 {
         return None;
     }
-    let thousands = worth(bytes[at]);
-    if thousands > 9 {
+    let word = u32::from_le_bytes([bytes[0], bytes[1], bytes[2], bytes[3]]);
+    if word != u32::from_le_bytes([first, second, third, fourth]) {
         return None;
     }
-    let hundreds = worth(bytes[at + 1]);
-    if hundreds > 9 {
-        return None;
-    }
-    let tens = worth(bytes[at + 2]);
-    if tens > 9 {
-        return None;
-    }
-    let ones = worth(bytes[at + 3]);
-    if ones > 9 {
-        return None;
-    }
-    Some((thousands * 10 + hundreds) * 100 + (tens * 10 + ones))
-}
-
-// What the byte is worth as a digit; more than 9 where it is none.
-fn worth(byte: u8) -> u64
-    ensures digit { result ≤ 9 → is_ascii_digit byte ≡ true }
-    ensures value { result ≤ 9 → result ≡ byte - 48 }
-    ensures other { 9 < result → is_ascii_digit byte ≡ false }
-{
-    u64::from(byte).wrapping_sub(48)
-}
-
-// The digits that the bytes begin with, as long as eight more stand there and are sure to fit: the number that they are
-// the digits of, and how many they are.
-fn eights(bytes: &[u8]) -> (u64, usize)
-    ensures within { result.1 ≤ length bytes.now }
-    ensures digits { all_ascii_digits (take result.1 bytes.now) ≡ true }
-    ensures value { digits_value 10 (take result.1 bytes.now) ≡ result.0 }
-{
-    let mut number = 0;
-    let mut count = 0;
-    'eights: while number <= BEFORE_EIGHT {
-        let Some(eight) = eight_at(bytes, count) else {
-            return (number, count);
-        };
-        number = number * 100_000_000 + eight;
-        count += 8;
-    }
-    (number, count)
-}
-
-// The same, and four digits more where they stand there and fit.
-fn fours(bytes: &[u8]) -> (u64, usize)
-    ensures within { result.1 ≤ length bytes.now }
-    ensures digits { all_ascii_digits (take result.1 bytes.now) ≡ true }
-    ensures value { digits_value 10 (take result.1 bytes.now) ≡ result.0 }
-{
-    let (number, count) = eights(bytes);
-    if number > BEFORE_FOUR {
-        return (number, count);
-    }
-    let Some(four) = four_at(bytes, count) else {
-        return (number, count);
-    };
-    (number * 10_000 + four, count + 4)
-}
-
-/// The number that the bytes begin with, as it is spelled, and the bytes after it. `None`: none stands there, no byte follows
-/// it, or it could be 2^64 or more.
-pub fn leading(bytes: &[u8]) -> Option<(u64, &[u8])>
-    ensures some { IfSome result (λ x. bytes.now ≡ decimal x.0 ++ x.1.now) }
-{
-    let (mut number, mut count) = fours(bytes);
-    'digits: while count < bytes.len() {
-        let ones = worth(bytes[count]);
-        if ones > 9 {
-            if count == 0 {
-                return None;
-            }
-            if bytes[0] == b'0' && count > 1 {
-                return None;
-            }
-            return Some((number, bytes.split_at(count).1));
-        }
-        if number > BEFORE_ONE {
-            return None;
-        }
-        number = number * 10 + ones;
-        count += 1;
-    }
-    None
+    Some(bytes.split_at(4).1)
 }
 
 /// The number below 2^128 that the bytes are the digits of. Most are below 2^64, and those are read by words of 64 bits;
@@ -270,15 +163,4 @@ pub fn two_values(bytes: &[u8]) -> Option<(u128, u128)>
 {
     let (first, second) = cut(bytes, b' ')?;
     Some((wide_number(first)?, wide_number(second)?))
-}
-
-/// A key and a value below 2^64 whose digits are the first line, with a space between them, if a byte 10 ends it; and the
-/// bytes after the line.
-pub fn leading_pair(bytes: &[u8]) -> Option<(u64, u64, &[u8])>
-    ensures some { IfSome result (λ x. bytes.now ≡ pair_line (x.0, x.1) ++ 10 ∷ x.2.now) }
-{
-    let (key, rest) = leading(bytes)?;
-    let (value, rest) = leading(after_byte(rest, b' ')?)?;
-    let rest = after_byte(rest, b'\n')?;
-    Some((key, value, rest))
 }

@@ -1,14 +1,14 @@
 use Rattle.std.proofs.Common.{◌≡◌, ◌≤◌, ◌-◌, true, take, length}
 use Rattle.std.specs.Str.{all_ascii_digits}
 use Rattle.ks_script.proofs.Numerals.{read_on}
-use Rattle.ks_script.proofs.words.eights.Given as goal
+use Rattle.ks_script.proofs.numeral.one_by_one.Given as goal
 
-abbrev pub invariant-eights : goal.invariant-eights
-invariant-eights l = record {
+abbrev pub invariant-digits : goal.invariant-digits
+invariant-digits l = record {
   within : l.count ≤ length l.bytes;
   digits : all_ascii_digits (take l.count l.bytes) ≡ true;
   value : read_on 0 (take l.count l.bytes) ≡ l.number;
 }
 
-abbrev pub decreases-eights : goal.decreases-eights
-decreases-eights l = length l.bytes - l.count
+abbrev pub decreases-digits : goal.decreases-digits
+decreases-digits l = length l.bytes - l.count

@@ -1,0 +1,11 @@
+-- What digits make of a number that stands before them.
+use Rattle.std.specs.Prelude.{ℕ, ◌≡◌, ◌+◌, ◌*◌, ◌^◌, true, List, ◌++◌, length}
+use Rattle.std.specs.Str.{all_ascii_digits}
+use Rattle.std.specs.Str.Parse.{digits_value}
+
+-- the bytes are digits and then the rest, and the number is what the digits make of the one in front
+pub record ReadOn (front : ℕ) (bytes : List ℕ) (number : ℕ) (rest : List ℕ) : Type 0 where
+  pub digits : List ℕ
+  pub are_digits : all_ascii_digits digits ≡ true
+  pub parts : bytes ≡ digits ++ rest
+  pub value : number ≡ front * 10 ^ length digits + digits_value 10 digits
