@@ -16,3 +16,4 @@ pub mod RunLines
 pub mod Replying
 pub mod Checking
 pub mod Spelled
+pub mod Packing

@@ -10,3 +10,5 @@ pub mod Front
 pub mod Answers
 pub mod RunParts
 pub mod Eight
+pub mod PackedCalls
+pub mod PackedLines
