@@ -1,7 +1,7 @@
 //! The calls of one caller in little room: one of numbers below 2^64 takes 24 bytes, and of the rest each has its place
 //! in a list of their own.
 
-ghost use Rattle.std.specs.Prelude.{ℕ, ◌≡◌, ◌==◌, ◌<◌, List, [], ◌∷◌, ◌++◌, length, slice_index_or, IfSome, OnOk, OnErr};
+ghost use Rattle.std.specs.Prelude.{ℕ, ◌≡◌, ◌==◌, ◌<◌, List, [], ◌∷◌, ◌++◌, length, slice_index_or, IfOk, IfSome, OnOk, OnErr};
 ghost use Rattle.ks_history.specs.declared.Op.{Op};
 ghost use Rattle.ks_history.specs.declared.Op.TheVariants.{Get};
 ghost use Rattle.ks_script.specs.PackedCalls.{call_in, IsCallIn};
@@ -65,6 +65,17 @@ impl Calls {
             small: Vec::new(alloc),
             others: Vec::new(alloc),
         }
+    }
+
+    /// These calls, packed.
+    pub fn from_ops(alloc: Global, ops: &[Op]) -> Result<Calls, AllocError>
+        ensures { IfOk result (λ calls. calls ≡ ops.now) }
+    {
+        let mut calls = Calls::new(alloc);
+        for op in ops {
+            calls.push(*op)?;
+        }
+        Ok(calls)
     }
 
     /// Puts a call behind the others. Where memory is wanting all stays as it was.

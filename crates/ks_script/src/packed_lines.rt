@@ -95,6 +95,17 @@ impl Lines {
         })
     }
 
+    /// These lines, packed.
+    pub fn from_lines(alloc: Global, lines: &[(u64, Reply)]) -> Result<Lines, AllocError>
+        ensures { IfOk result (λ packed. packed ≡ lines.now) }
+    {
+        let mut packed = Lines::with_capacity(alloc, lines.len())?;
+        for line in lines {
+            packed.push(line.0, again(&line.1))?;
+        }
+        Ok(packed)
+    }
+
     /// Puts a line behind the others. Where memory is wanting all stays as it was.
     #[inline(always)]
     pub fn push(&mut self, number: u64, reply: Reply) -> Result<(), AllocError>
