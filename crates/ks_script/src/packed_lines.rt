@@ -1,7 +1,7 @@
 //! The lines of one caller in little room: one of numbers that are not great takes 16 bytes, and of the rest each has its
 //! place in a list of their own.
 
-ghost use Rattle.std.specs.Prelude.{ℕ, ◌≡◌, ◌==◌, ◌↔◌, ◌<◌, List, [], ◌∷◌, ◌++◌, length, slice_index_or, IsTrue, IfOk, IfSome, OnOk, OnErr};
+ghost use Rattle.std.specs.Prelude.{ℕ, ◌≡◌, ◌==◌, ◌^◌, ◌<◌, List, [], ◌∷◌, ◌++◌, length, slice_index_or, IfOk, IfSome, OnOk, OnErr};
 ghost use Rattle.ks_history.specs.declared.Reply.{Reply};
 ghost use Rattle.ks_history.specs.declared.Reply.TheVariants.{Nothing};
 ghost use Rattle.ks_script.specs.PackedLines.{line_in, IsLineIn};
@@ -164,7 +164,8 @@ impl Lines {
     #[inline(always)]
     pub fn get(&self, at: usize) -> (u64, Reply)
         requires { at < length self.now }
-        ensures { result ≡ slice_index_or self.now at (0, Nothing) }
+        ensures line { result ≡ slice_index_or self.now at (0, Nothing) }
+        ensures few { length self.now < 2 ^ 64 }
     {
         match self.small[at] {
             SmallLine::Nothing { number } => (u64::from(number), Reply::Nothing),
