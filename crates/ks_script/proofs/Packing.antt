@@ -1,7 +1,7 @@
--- Small entries that stand for entries beside a list of others.
-use Rattle.std.proofs.Common.{ℕ, ◌≡◌, ◌++◌, List, [], ◌∷◌, map, length, refl, sym, ◌∙◌, ap}
+-- Small entries that stand for entries beside a list of great values and a list of others.
+use Rattle.std.proofs.Common.{ℕ, ◌≡◌, ◌<◌, ◌++◌, List, [], ◌∷◌, map, length, get_or, refl, sym, ◌∙◌, ap}
 use Rattle.std.specs.Prelude.{All}
-use Rattle.std.proofs.lemmas.List.{map_push, get_or_append_left, get_or_push}
+use Rattle.std.proofs.lemmas.List.{map_push, get_or_append_left, get_or_push, append-nil}
 use Rattle.std.proofs.lemmas.List.Elements.{All-head, All-tail}
 use Rattle.ks_history.specs.declared.Op.{Op}
 use Rattle.ks_history.specs.declared.Op.TheVariants as op
@@ -20,40 +20,54 @@ read_along f g P [] same fit = refl
 read_along f g P (x ∷ xs) same fit =
     ap (λ y. y ∷ map f xs) (same x (All-head P x xs fit)) ∙ ap (λ ys. g x ∷ ys) (read_along f g P xs same (All-tail P x xs fit))
 
--- one of the others more changes no call
-call_along : (others : List Op) (more : Op) (small : SmallCall) → IsCallIn others small → call_in (others ++ more ∷ []) small ≡ call_in others small
-call_along others more (call.Get key) fits = refl
-call_along others more (call.Put key value) fits = refl
-call_along others more (call.Del key) fits = refl
-call_along others more (call.Other place) fits = get_or_append_left others (more ∷ []) (op.Get 0) place fits
+-- a place of a list that grows
+stays : {X : Type 0} (xs ys zs : List X) (i : ℕ) (d : X) → zs ≡ xs ++ ys → i < length xs → get_or zs i d ≡ get_or xs i d
+stays xs ys zs i d is lt = ap (λ l. get_or l i d) is ∙ get_or_append_left xs ys d i lt
 
--- nor a line
-line_along : (others : List (ℕ × Reply)) (more : ℕ × Reply) (small : SmallLine) → IsLineIn others small → line_in (others ++ more ∷ []) small ≡ line_in others small
-line_along others more (line.Nothing number) fits = refl
-line_along others more (line.Value number value) fits = refl
-line_along others more (line.Full number) fits = refl
-line_along others more (line.Other at) fits = get_or_append_left others (more ∷ []) (0, reply.Nothing) at fits
+-- what is behind it
+pub at_end : {X : Type 0} (xs zs : List X) (x d : X) (i : ℕ) → zs ≡ xs ++ x ∷ [] → i ≡ length xs → get_or zs i d ≡ x
+at_end xs zs x d i is at = ap (λ l. get_or l i d) is ∙ get_or_push xs x d i (sym at)
 
--- so with all calls
-pub calls_kept : (others others' : List Op) (more : Op) (small : List SmallCall) → All (IsCallIn others) small → others' ≡ others ++ more ∷ [] → map (call_in others') small ≡ map (call_in others) small
-calls_kept others others' more small fit is =
-    ap (λ os. map (call_in os) small) is ∙ read_along (call_in (others ++ more ∷ [])) (call_in others) (IsCallIn others) small (call_along others more) fit
+-- one that does not grow
+pub same : {X : Type 0} (xs : List X) → xs ≡ xs ++ []
+same xs = sym (append-nil xs)
 
-pub lines_kept : (others others' : List (ℕ × Reply)) (more : ℕ × Reply) (small : List SmallLine) → All (IsLineIn others) small → others' ≡ others ++ more ∷ [] → map (line_in others') small ≡ map (line_in others) small
-lines_kept others others' more small fit is =
-    ap (λ os. map (line_in os) small) is ∙ read_along (line_in (others ++ more ∷ [])) (line_in others) (IsLineIn others) small (line_along others more) fit
+module _ (greats greats' gs : List ℕ) (others others' os : List Op) (more : greats' ≡ greats ++ gs) (more' : others' ≡ others ++ os) where
+  call_along : (s : SmallCall) → IsCallIn greats others s → call_in greats' others' s ≡ call_in greats others s
+  call_along (call.Get key) fits = refl
+  call_along (call.Put key value) fits = refl
+  call_along (call.Del key) fits = refl
+  call_along (call.GreatPut key place) fits = ap (op.Put key) (stays greats gs greats' place 0 more fits)
+  call_along (call.Other place) fits = stays others os others' place (op.Get 0) more' fits
 
--- a call among the others, and its place
-pub call_pushed : (others others' : List Op) (more : Op) (small small' : List SmallCall) (place : ℕ) → All (IsCallIn others) small → others' ≡ others ++ more ∷ [] → place ≡ length others → small' ≡ small ++ call.Other place ∷ [] →
-    map (call_in others') small' ≡ map (call_in others) small ++ more ∷ []
-call_pushed others others' more small small' place fit is at pushed =
-    ap (map (call_in others')) pushed ∙ map_push (call_in others') small (call.Other place)
-    ∙ ap (λ ys. ys ++ call_in others' (call.Other place) ∷ []) (calls_kept others others' more small fit is)
-    ∙ ap (λ y. map (call_in others) small ++ y ∷ []) (ap (λ os. call_in os (call.Other place)) is ∙ get_or_push others more (op.Get 0) place (sym at))
+  -- growing lists change nothing
+  pub calls_kept : (small : List SmallCall) → All (IsCallIn greats others) small → map (call_in greats' others') small ≡ map (call_in greats others) small
+  calls_kept small fit = read_along (call_in greats' others') (call_in greats others) (IsCallIn greats others) small call_along fit
 
-pub line_pushed : (others others' : List (ℕ × Reply)) (more : ℕ × Reply) (small small' : List SmallLine) (at : ℕ) → All (IsLineIn others) small → others' ≡ others ++ more ∷ [] → at ≡ length others → small' ≡ small ++ line.Other at ∷ [] →
-    map (line_in others') small' ≡ map (line_in others) small ++ more ∷ []
-line_pushed others others' more small small' at fit is place pushed =
-    ap (map (line_in others')) pushed ∙ map_push (line_in others') small (line.Other at)
-    ∙ ap (λ ys. ys ++ line_in others' (line.Other at) ∷ []) (lines_kept others others' more small fit is)
-    ∙ ap (λ y. map (line_in others) small ++ y ∷ []) (ap (λ os. line_in os (line.Other at)) is ∙ get_or_push others more (0, reply.Nothing) at (sym place))
+  -- and one more is behind
+  pub call_pushed : (small small' : List SmallCall) (s : SmallCall) (it : Op) → All (IsCallIn greats others) small → small' ≡ small ++ s ∷ [] → call_in greats' others' s ≡ it →
+      map (call_in greats' others') small' ≡ map (call_in greats others) small ++ it ∷ []
+  call_pushed small small' s it fit pushed is =
+      ap (map (call_in greats' others')) pushed ∙ map_push (call_in greats' others') small s
+      ∙ ap (λ ys. ys ++ call_in greats' others' s ∷ []) (calls_kept small fit)
+      ∙ ap (λ y. map (call_in greats others) small ++ y ∷ []) is
+
+module _ (greats greats' gs : List ℕ) (others others' os : List (ℕ × Reply)) (more : greats' ≡ greats ++ gs) (more' : others' ≡ others ++ os) where
+  line_along : (s : SmallLine) → IsLineIn greats others s → line_in greats' others' s ≡ line_in greats others s
+  line_along (line.Nothing number) fits = refl
+  line_along (line.Value number value) fits = refl
+  line_along (line.Full number) fits = refl
+  line_along (line.Great number at) fits = ap (λ (v : ℕ). (number, reply.Value v)) (stays greats gs greats' at 0 more fits)
+  line_along (line.Other at) fits = stays others os others' at (0, reply.Nothing) more' fits
+
+  -- growing lists change nothing
+  pub lines_kept : (small : List SmallLine) → All (IsLineIn greats others) small → map (line_in greats' others') small ≡ map (line_in greats others) small
+  lines_kept small fit = read_along (line_in greats' others') (line_in greats others) (IsLineIn greats others) small line_along fit
+
+  -- and one more is behind
+  pub line_pushed : (small small' : List SmallLine) (s : SmallLine) (it : ℕ × Reply) → All (IsLineIn greats others) small → small' ≡ small ++ s ∷ [] → line_in greats' others' s ≡ it →
+      map (line_in greats' others') small' ≡ map (line_in greats others) small ++ it ∷ []
+  line_pushed small small' s it fit pushed is =
+      ap (map (line_in greats' others')) pushed ∙ map_push (line_in greats' others') small s
+      ∙ ap (λ ys. ys ++ line_in greats' others' s ∷ []) (lines_kept small fit)
+      ∙ ap (λ y. map (line_in greats others) small ++ y ∷ []) is

@@ -1,5 +1,5 @@
-//! The calls of one caller in little room: one of numbers below 2^64 takes 24 bytes, and of the rest each has its place
-//! in a list of their own.
+//! The calls of one caller in little room: most take 24 bytes, a Put of a greater value 16 more, and an Add or a Swap, of
+//! which there are few, has its place in a list of their own.
 
 ghost use Rattle.std.specs.Prelude.{ℕ, ◌≡◌, ◌==◌, ◌<◌, List, [], ◌∷◌, ◌++◌, length, slice_index_or, IfOk, IfSome, OnOk, OnErr};
 ghost use Rattle.ks_history.specs.declared.Op.{Op};
@@ -10,12 +10,13 @@ use ks_history::Op;
 use std::alloc::{AllocError, Global};
 use std::marker::Model;
 
-/// A call of numbers below 2^64 that is no Add and no Swap, or the place of another call among the others.
+/// A Get, a Del, a Put of a value below 2^64, a Put of the great value at a place, or the other call at a place.
 #[derive(Clone, Copy, Debug, PartialEq, Eq)]
 pub enum SmallCall {
     Get(u64),
     Put(u64, u64),
     Del(u64),
+    GreatPut(u64, usize),
     Other(usize),
 }
 
@@ -23,6 +24,7 @@ pub enum SmallCall {
 #[derive(Drop)]
 pub struct Calls {
     small: Vec<SmallCall>,
+    greats: Vec<u128>,
     others: Vec<Op>,
 }
 
@@ -33,16 +35,16 @@ impl Model for Calls {
 
     ghost Value = { List Op };
 
-    ghost view = { λ c. map (call_in c.others.items) c.small.items };
+    ghost view = { λ c. map (call_in c.greats.items c.others.items) c.small.items };
 
-    ghost invariant = { λ c. All (IsCallIn c.others.items) c.small.items };
+    ghost invariant = { λ c. All (IsCallIn c.greats.items c.others.items) c.small.items };
 }
 
-// The small call that stands for a call, if it needs no place among the others.
+// The small call that stands for a call, if it needs no place among the great values or the others.
 #[inline(always)]
 fn small_of(op: Op) -> Option<SmallCall>
-    ensures stands { IfSome result (λ s. (others : List Op) → call_in others s ≡ op) }
-    ensures fits { IfSome result (λ s. (others : List Op) → IsCallIn others s) }
+    ensures stands { IfSome result (λ s. (greats : List ℕ) (others : List Op) → call_in greats others s ≡ op) }
+    ensures fits { IfSome result (λ s. (greats : List ℕ) (others : List Op) → IsCallIn greats others s) }
 {
     match op {
         Op::Get(key) => Some(SmallCall::Get(key)),
@@ -63,6 +65,7 @@ impl Calls {
     {
         Calls {
             small: Vec::new(alloc),
+            greats: Vec::new(alloc),
             others: Vec::new(alloc),
         }
     }
@@ -89,8 +92,22 @@ impl Calls {
                 self.small.push(small)?;
                 Ok(())
             }
-            None => self.push_other(op),
+            None => self.push_great(op),
         }
+    }
+
+    // Puts a call behind the others, with its value behind the great ones if it is a Put.
+    fn push_great(&mut self, op: Op) -> Result<(), AllocError>
+        ensures ok { OnOk result (self.new ≡ self.old ++ op ∷ []) }
+        ensures err { OnErr result (self.new ≡ self.old) }
+    {
+        let Op::Put(key, value) = op else {
+            return self.push_other(op);
+        };
+        let place = self.greats.len();
+        self.greats.push(value)?;
+        self.small.push(SmallCall::GreatPut(key, place))?;
+        Ok(())
     }
 
     // Puts a call behind the others, and its place behind the small calls.
@@ -128,6 +145,7 @@ impl Calls {
             SmallCall::Get(key) => Op::Get(key),
             SmallCall::Put(key, value) => Op::Put(key, u128::from(value)),
             SmallCall::Del(key) => Op::Del(key),
+            SmallCall::GreatPut(key, place) => Op::Put(key, self.greats[place]),
             SmallCall::Other(place) => self.others[place],
         }
     }

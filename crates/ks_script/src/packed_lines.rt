@@ -1,5 +1,5 @@
-//! The lines of one caller in little room: one of numbers that are not great takes 16 bytes, and of the rest each has its
-//! place in a list of their own.
+//! The lines of one caller in little room: most take 16 bytes, one of a greater value 16 more, and one of a number from
+//! 2^32 on has its place in a list of their own.
 
 ghost use Rattle.std.specs.Prelude.{ℕ, ◌≡◌, ◌==◌, ◌^◌, ◌<◌, List, [], ◌∷◌, ◌++◌, length, slice_index_or, IfOk, IfSome, OnOk, OnErr};
 ghost use Rattle.ks_history.specs.declared.Reply.{Reply};
@@ -10,12 +10,14 @@ use ks_history::Reply;
 use std::alloc::{AllocError, Global};
 use std::marker::Model;
 
-/// A line of a number below 2^32 and a value below 2^64, or the place of another line among the others.
+/// A line of a number below 2^32, with a value below 2^64, the great value at a place or none; or the other line at a
+/// place.
 #[derive(Clone, Copy, Debug, PartialEq, Eq)]
 pub enum SmallLine {
     Nothing { number: u32 },
     Value { number: u32, value: u64 },
     Full { number: u32 },
+    Great { number: u32, at: usize },
     Other { at: usize },
 }
 
@@ -23,6 +25,7 @@ pub enum SmallLine {
 #[derive(Drop)]
 pub struct Lines {
     small: Vec<SmallLine>,
+    greats: Vec<u128>,
     others: Vec<(u64, Reply)>,
 }
 
@@ -33,16 +36,17 @@ impl Model for Lines {
 
     ghost Value = { List (ℕ × Reply) };
 
-    ghost view = { λ l. map (line_in l.others.items) l.small.items };
+    ghost view = { λ l. map (line_in l.greats.items l.others.items) l.small.items };
 
-    ghost invariant = { λ l. All (IsLineIn l.others.items) l.small.items };
+    ghost invariant = { λ l. All (IsLineIn l.greats.items l.others.items) l.small.items };
 }
 
-// The small line that stands for a line, if it needs no place among the others.
+// The small line that stands for a line, if it needs no place among the great values or the others.
 #[inline(always)]
 fn small_of(number: u64, reply: &Reply) -> Option<SmallLine>
-    ensures stands { IfSome result (λ s. (others : List (ℕ × Reply)) → line_in others s ≡ (number, reply.now)) }
-    ensures fits { IfSome result (λ s. (others : List (ℕ × Reply)) → IsLineIn others s) }
+    ensures stands { IfSome result
+        (λ s. (greats : List ℕ) (others : List (ℕ × Reply)) → line_in greats others s ≡ (number, reply.now)) }
+    ensures fits { IfSome result (λ s. (greats : List ℕ) (others : List (ℕ × Reply)) → IsLineIn greats others s) }
 {
     if number > u64::from(u32::MAX) {
         return None;
@@ -81,6 +85,7 @@ impl Lines {
     {
         Lines {
             small: Vec::new(alloc),
+            greats: Vec::new(alloc),
             others: Vec::new(alloc),
         }
     }
@@ -91,6 +96,7 @@ impl Lines {
     {
         Ok(Lines {
             small: Vec::with_capacity(alloc, count)?,
+            greats: Vec::new(alloc),
             others: Vec::new(alloc),
         })
     }
@@ -117,8 +123,26 @@ impl Lines {
                 self.small.push(small)?;
                 Ok(())
             }
-            None => self.push_other(number, reply),
+            None => self.push_great(number, reply),
         }
+    }
+
+    // Puts a line behind the others, with its value behind the great ones if its number is below 2^32.
+    fn push_great(&mut self, number: u64, reply: Reply) -> Result<(), AllocError>
+        ensures ok { OnOk result (self.new ≡ self.old ++ (number, reply) ∷ []) }
+        ensures err { OnErr result (self.new ≡ self.old) }
+    {
+        if number > u64::from(u32::MAX) {
+            return self.push_other(number, reply);
+        }
+        let Reply::Value(value) = reply else {
+            return self.push_other(number, reply);
+        };
+        let number = number as u32;
+        let at = self.greats.len();
+        self.greats.push(value)?;
+        self.small.push(SmallLine::Great { number, at })?;
+        Ok(())
     }
 
     // Puts a line behind the others, and its place behind the small lines.
@@ -155,7 +179,8 @@ impl Lines {
         match self.small[at] {
             SmallLine::Nothing { number }
             | SmallLine::Value { number, .. }
-            | SmallLine::Full { number } => u64::from(number),
+            | SmallLine::Full { number }
+            | SmallLine::Great { number, .. } => u64::from(number),
             SmallLine::Other { at } => self.others[at].0,
         }
     }
@@ -173,6 +198,7 @@ impl Lines {
                 (u64::from(number), Reply::Value(u128::from(value)))
             }
             SmallLine::Full { number } => (u64::from(number), Reply::Full),
+            SmallLine::Great { number, at } => (u64::from(number), Reply::Value(self.greats[at])),
             SmallLine::Other { at } => {
                 let line = &self.others[at];
                 (line.0, again(&line.1))
