@@ -45,12 +45,12 @@ module _ (greats greats' gs : List ℕ) (others others' os : List Op) (more : gr
   calls_kept small fit = read_along (call_in greats' others') (call_in greats others) (IsCallIn greats others) small call_along fit
 
   -- and one more is behind
-  pub call_pushed : (small small' : List SmallCall) (s : SmallCall) (it : Op) → All (IsCallIn greats others) small → small' ≡ small ++ s ∷ [] → call_in greats' others' s ≡ it →
-      map (call_in greats' others') small' ≡ map (call_in greats others) small ++ it ∷ []
-  call_pushed small small' s it fit pushed is =
+  pub call_pushed : (small small' : List SmallCall) (s : SmallCall) (it : Op) (all : List Op) → All (IsCallIn greats others) small → map (call_in greats others) small ≡ all → small' ≡ small ++ s ∷ [] → call_in greats' others' s ≡ it →
+      map (call_in greats' others') small' ≡ all ++ it ∷ []
+  call_pushed small small' s it all fit view pushed is =
       ap (map (call_in greats' others')) pushed ∙ map_push (call_in greats' others') small s
-      ∙ ap (λ ys. ys ++ call_in greats' others' s ∷ []) (calls_kept small fit)
-      ∙ ap (λ y. map (call_in greats others) small ++ y ∷ []) is
+      ∙ ap (λ ys. ys ++ call_in greats' others' s ∷ []) (calls_kept small fit ∙ view)
+      ∙ ap (λ y. all ++ y ∷ []) is
 
 module _ (greats greats' gs : List ℕ) (others others' os : List (ℕ × Reply)) (more : greats' ≡ greats ++ gs) (more' : others' ≡ others ++ os) where
   line_along : (s : SmallLine) → IsLineIn greats others s → line_in greats' others' s ≡ line_in greats others s
@@ -65,9 +65,13 @@ module _ (greats greats' gs : List ℕ) (others others' os : List (ℕ × Reply)
   lines_kept small fit = read_along (line_in greats' others') (line_in greats others) (IsLineIn greats others) small line_along fit
 
   -- and one more is behind
-  pub line_pushed : (small small' : List SmallLine) (s : SmallLine) (it : ℕ × Reply) → All (IsLineIn greats others) small → small' ≡ small ++ s ∷ [] → line_in greats' others' s ≡ it →
-      map (line_in greats' others') small' ≡ map (line_in greats others) small ++ it ∷ []
-  line_pushed small small' s it fit pushed is =
+  pub line_pushed : (small small' : List SmallLine) (s : SmallLine) (it : ℕ × Reply) (all : List (ℕ × Reply)) → All (IsLineIn greats others) small → map (line_in greats others) small ≡ all → small' ≡ small ++ s ∷ [] → line_in greats' others' s ≡ it →
+      map (line_in greats' others') small' ≡ all ++ it ∷ []
+  line_pushed small small' s it all fit view pushed is =
       ap (map (line_in greats' others')) pushed ∙ map_push (line_in greats' others') small s
-      ∙ ap (λ ys. ys ++ line_in greats' others' s ∷ []) (lines_kept small fit)
-      ∙ ap (λ y. map (line_in greats others) small ++ y ∷ []) is
+      ∙ ap (λ ys. ys ++ line_in greats' others' s ∷ []) (lines_kept small fit ∙ view)
+      ∙ ap (λ y. all ++ y ∷ []) is
+
+-- a line of a great value
+pub great_line : (number found value : ℕ) (r : Reply) → found ≡ value → r ≡ reply.Value value → ◌≡◌ {A = ℕ × Reply} (number, reply.Value found) (number, r)
+great_line number found value r is told = ap (λ (v : ℕ). (number, reply.Value v)) is ∙ ap (λ (r : Reply). (number, r)) (sym told)

@@ -1,4 +1,4 @@
-use Rattle.std.proofs.Common.{[], ◌∷◌, ◌++◌, ◌∙◌, sym, ap, map, ◌≡◌, length, arith}
+use Rattle.std.proofs.Common.{[], ◌∷◌, ◌∙◌, sym, ap, map, ◌≡◌, length, arith}
 use Rattle.ks_history.specs.declared.Op.TheVariants as op
 use Rattle.ks_script.proofs.Passing.{on_err}
 use Rattle.ks_script.proofs.Packing.{calls_kept, call_pushed, same, at_end}
@@ -19,6 +19,5 @@ returns-clause-ok c =
     let greats = c.self.inside.greats.items in
     let others = c.self.inside.others.items in
     let at : c.len-place.result ≡ length greats = omega arith in
-    call_pushed greats _ (c.in-Put.value ∷ []) others others [] c.in_ok-push.ensures.items (same others) c.self.inside.small.items _ _ c.args.op c.self.invariant c.in_ok-push-2.ensures.items
+    call_pushed greats _ (c.in-Put.value ∷ []) others others [] c.in_ok-push.ensures.items (same others) c.self.inside.small.items _ _ c.args.op c.args.self.now c.self.invariant c.self.view_is c.in_ok-push-2.ensures.items
     (ap (op.Put c.in-Put.key) (at_end greats _ c.in-Put.value 0 c.len-place.result c.in_ok-push.ensures.items at) ∙ sym c.in-Put.is)
-    ∙ ap (λ all. all ++ c.args.op ∷ []) c.self.view_is

@@ -1,4 +1,4 @@
-use Rattle.std.proofs.Common.{[], ◌∷◌, ◌++◌, ◌∙◌, ap, map, ◌≡◌, length, arith}
+use Rattle.std.proofs.Common.{[], ◌∷◌, ◌∙◌, ap, map, ◌≡◌, length, arith}
 use Rattle.ks_history.specs.declared.Op.TheVariants as op
 use Rattle.ks_script.proofs.Passing.{on_err}
 use Rattle.ks_script.proofs.Packing.{calls_kept, call_pushed, same, at_end}
@@ -19,6 +19,5 @@ returns-clause-ok c =
     let greats = c.self.inside.greats.items in
     let others = c.self.inside.others.items in
     let at : c.len-place.result ≡ length others = omega arith in
-    call_pushed greats greats [] others _ (c.args.op ∷ []) (same greats) c.in_ok-push.ensures.items c.self.inside.small.items _ _ c.args.op c.self.invariant c.in_ok-push-2.ensures.items
+    call_pushed greats greats [] others _ (c.args.op ∷ []) (same greats) c.in_ok-push.ensures.items c.self.inside.small.items _ _ c.args.op c.args.self.now c.self.invariant c.self.view_is c.in_ok-push-2.ensures.items
     (at_end others _ c.args.op (op.Get 0) c.len-place.result c.in_ok-push.ensures.items at)
-    ∙ ap (λ all. all ++ c.args.op ∷ []) c.self.view_is

@@ -1,4 +1,4 @@
-use Rattle.std.proofs.Common.{[], ◌∷◌, ◌++◌, ◌∙◌, ap, map, ◌≡◌, length, arith}
+use Rattle.std.proofs.Common.{[], ◌∷◌, ◌∙◌, ap, map, ◌≡◌, length, arith}
 use Rattle.ks_history.specs.declared.Reply.TheVariants.{Nothing}
 use Rattle.ks_script.proofs.Passing.{on_err}
 use Rattle.ks_script.proofs.Packing.{lines_kept, line_pushed, same, at_end}
@@ -19,6 +19,5 @@ returns-clause-ok c =
     let greats = c.self.inside.greats.items in
     let others = c.self.inside.others.items in
     let at : c.len-at.result ≡ length others = omega arith in
-    line_pushed greats greats [] others _ ((c.args.number, c.args.reply) ∷ []) (same greats) c.in_ok-push.ensures.items c.self.inside.small.items _ _ (c.args.number, c.args.reply) c.self.invariant c.in_ok-push-2.ensures.items
+    line_pushed greats greats [] others _ ((c.args.number, c.args.reply) ∷ []) (same greats) c.in_ok-push.ensures.items c.self.inside.small.items _ _ (c.args.number, c.args.reply) c.args.self.now c.self.invariant c.self.view_is c.in_ok-push-2.ensures.items
     (at_end others _ (c.args.number, c.args.reply) (0, Nothing) c.len-at.result c.in_ok-push.ensures.items at)
-    ∙ ap (λ all. all ++ (c.args.number, c.args.reply) ∷ []) c.self.view_is
