@@ -1,5 +1,5 @@
 -- The places of the lines that carry a number, with one line and with one caller more.
-use Rattle.std.proofs.Common.{ℕ, zero, suc, ◌≡◌, ◌<◌, ◌≤◌, ◌+◌, ◌==◌, cond, Bool, true, false, List, [], ◌∷◌, ◌++◌, length, take, get_or, map, sym, ◌∙◌, ap, subst, arith, append_assoc}
+use Rattle.std.proofs.Common.{ℕ, ◌≡◌, ◌<◌, ◌≤◌, ◌+◌, ◌==◌, cond, Bool, true, false, List, [], ◌∷◌, ◌++◌, length, take, get_or, sym, ◌∙◌, ap, subst, arith, append_assoc}
 use Rattle.std.proofs.lemmas.List.{append-nil, take_more, take_all, length-take-le}
 use Rattle.ks_history.specs.declared.Reply.{Reply}
 use Rattle.ks_history.specs.declared.Reply.TheVariants.{Nothing}
@@ -51,19 +51,12 @@ carriers_to-all lines c n le = append-nil (carriers_from n 0 (take c lines)) ∙
 pub notes_along : (lines : Lines) (slots : List Slot) (P Q : ℕ → List (ℕ × ℕ)) → ((n : ℕ) → P n ≡ Q n) → Notes lines slots P → Notes lines slots Q
 notes_along lines slots P Q same notes n lt = subst (λ (ps : List (ℕ × ℕ)). TellsSlot lines n (get_or slots n Empty) ps) (same n) (notes n lt)
 
--- the list of the element at an index
-pub shown : {X Y : Type 0} (f : X → List Y) (xs : List X) (i : ℕ) (d : X) → i < length xs → d ≡ get_or xs i d → get_or (map f xs) i [] ≡ f d
-shown f [] i d lt is = absurd (omega arith)
-shown f (x ∷ xs) zero d lt is = ap f (sym is)
-shown f (x ∷ xs) (suc i) d lt is = shown f xs i d (omega arith) is
-
 -- a line noted, as the program notes it: xs are the lines of caller c
-pub line_noted : (lines : Lines) (c j : ℕ) (xs : List (ℕ × Reply)) (slots slots' : List Slot) → get_or lines c [] ≡ xs → c < length lines → j < length xs →
-    ((ls : Lines) (i : ℕ) (P : ℕ → List (ℕ × ℕ)) → Carries ls c i (get_or xs j (0, Nothing)).0 → Notes ls slots P → Notes ls slots' (λ n. P n ++ if_carries (get_or xs j (0, Nothing)).0 n (c, i))) →
+pub line_noted : (lines : Lines) (c j number : ℕ) (xs : List (ℕ × Reply)) (slots slots' : List Slot) → get_or lines c [] ≡ xs → c < length lines → j < length xs → number ≡ (get_or xs j (0, Nothing)).0 →
+    ((ls : Lines) (i : ℕ) (P : ℕ → List (ℕ × ℕ)) → Carries ls c i number → Notes ls slots P → Notes ls slots' (λ n. P n ++ if_carries number n (c, i))) →
     Notes lines slots (carriers_to lines c j) → Notes lines slots' (carriers_to lines c (j + 1))
-line_noted lines c j xs slots slots' is there lt noted notes =
-    let number : ℕ = (get_or xs j (0, Nothing)).0 in
-    let same : (line_at lines c j).0 ≡ number = ap (λ (ys : List (ℕ × Reply)). (get_or ys j (0, Nothing)).0) is in
+line_noted lines c j number xs slots slots' is there lt carried noted notes =
+    let same : (line_at lines c j).0 ≡ number = ap (λ (ys : List (ℕ × Reply)). (get_or ys j (0, Nothing)).0) is ∙ sym carried in
     let within : j < length (get_or lines c []) = subst (λ (ys : List (ℕ × Reply)). j < length ys) (sym is) lt in
     notes_along lines slots' (λ n. carriers_to lines c j n ++ if_carries number n (c, j)) (carriers_to lines c (j + 1))
     (λ n. ap (λ (k : ℕ). carriers_to lines c j n ++ if_carries k n (c, j)) (sym same) ∙ sym (carriers_to-line lines c j n within))

@@ -1,6 +1,6 @@
 -- Calls in the order of their numbers.
 use Rattle.std.proofs.Common.{ℕ, zero, suc, ◌≡◌, ◌<◌, ◌≤◌, ◌+◌, List, [], ◌∷◌, ◌++◌, length, take, drop, get_or, map, refl, sym, ◌∙◌, ap, subst, arith}
-use Rattle.std.proofs.lemmas.List.{map_more, map-append, take-append-drop, length-map}
+use Rattle.std.proofs.lemmas.List.{take_more, take-append-drop, length-map}
 use Rattle.ks_history.specs.declared.Op.{Op}
 use Rattle.ks_script.specs.Script.{calls_in}
 use Rattle.ks_judge.specs.declared.slots.Slot.{Slot}
@@ -17,30 +17,28 @@ calls-append (x ∷ xs) ys = let e = calls-append xs ys in omega (arith, e)
 calls-one : (ops : List Op) → calls_in (ops ∷ []) ≡ length ops
 calls-one ops = omega arith
 
-pub calls_more : {X : Type 0} (items : X → List Op) (xs : List X) (i : ℕ) (d : X) → i < length xs → calls_in (map items (take (i + 1) xs)) ≡ calls_in (map items (take i xs)) + length (items (get_or xs i d))
-calls_more items xs i d lt =
-    let a : calls_in (map items (take (i + 1) xs)) ≡ calls_in (map items (take i xs) ++ items (get_or xs i d) ∷ []) = ap calls_in (map_more items xs i d lt) in
-    let b : calls_in (map items (take i xs) ++ items (get_or xs i d) ∷ []) ≡ calls_in (map items (take i xs)) + calls_in (items (get_or xs i d) ∷ []) = calls-append (map items (take i xs)) (items (get_or xs i d) ∷ []) in
-    let e : calls_in (items (get_or xs i d) ∷ []) ≡ length (items (get_or xs i d)) = calls-one (items (get_or xs i d)) in
+calls_more : (xs : List (List Op)) (i : ℕ) (d : List Op) → i < length xs → calls_in (take (i + 1) xs) ≡ calls_in (take i xs) + length (get_or xs i d)
+calls_more xs i d lt =
+    let a : calls_in (take (i + 1) xs) ≡ calls_in (take i xs ++ get_or xs i d ∷ []) = ap calls_in (take_more xs i d lt) in
+    let b : calls_in (take i xs ++ get_or xs i d ∷ []) ≡ calls_in (take i xs) + calls_in (get_or xs i d ∷ []) = calls-append (take i xs) (get_or xs i d ∷ []) in
+    let e : calls_in (get_or xs i d ∷ []) ≡ length (get_or xs i d) = calls-one (get_or xs i d) in
     rw (a, b, e) refl
 
-pub calls_first : {X : Type 0} (items : X → List Op) (xs : List X) (i : ℕ) → calls_in (map items (take i xs)) ≤ calls_in (map items xs)
-calls_first items xs i =
-    let a : calls_in (map items (take i xs ++ drop i xs)) ≡ calls_in (map items xs) = ap (λ ys. calls_in (map items ys)) (take-append-drop i xs) in
-    let b : calls_in (map items (take i xs ++ drop i xs)) ≡ calls_in (map items (take i xs) ++ map items (drop i xs)) = ap calls_in (map-append items (take i xs) (drop i xs)) in
-    let e : calls_in (map items (take i xs) ++ map items (drop i xs)) ≡ calls_in (map items (take i xs)) + calls_in (map items (drop i xs)) = calls-append (map items (take i xs)) (map items (drop i xs)) in
-    at_most (calls_in (map items (take i xs))) (calls_in (map items (drop i xs))) (calls_in (map items xs)) (sym a ∙ b ∙ e)
+calls_first : (xs : List (List Op)) (i : ℕ) → calls_in (take i xs) ≤ calls_in xs
+calls_first xs i =
+    let a : calls_in (take i xs ++ drop i xs) ≡ calls_in xs = ap calls_in (take-append-drop i xs) in
+    at_most (calls_in (take i xs)) (calls_in (drop i xs)) (calls_in xs) (sym a ∙ calls-append (take i xs) (drop i xs))
   where
     at_most : (n k m : ℕ) → m ≡ n + k → n ≤ m
     at_most n k m e = omega arith
 
 -- one caller more, as the program counts
-pub total_more : {X : Type 0} (items : X → List Op) (xs : List X) (i total len : ℕ) (d : X) → i < length xs → d ≡ get_or xs i d → len ≡ length (items d) → calls_in (map items xs) ≤ 1048576 → total ≡ calls_in (map items (take i xs)) →
-    (total + len ≡ calls_in (map items (take (i + 1) xs))) × (total + len ≤ 1048576)
-total_more {X = X} items xs i total len d lt is is_len few so_far =
-    let more : calls_in (map items (take (i + 1) xs)) ≡ calls_in (map items (take i xs)) + length (items (get_or xs i d)) = calls_more items xs i d lt in
-    let same : total + len ≡ calls_in (map items (take (i + 1) xs)) = ap (λ (n : ℕ). n + len) so_far ∙ ap (λ (n : ℕ). calls_in (map items (take i xs)) + n) (is_len ∙ ap (λ (x : X). length (items x)) is) ∙ sym more in
-    (same, at_most (total + len) (calls_in (map items (take (i + 1) xs))) (calls_in (map items xs)) same (calls_first items xs (i + 1)) few)
+pub total_more : (xs : List (List Op)) (i total len : ℕ) (d : List Op) → i < length xs → d ≡ get_or xs i d → len ≡ length d → calls_in xs ≤ 1048576 → total ≡ calls_in (take i xs) →
+    (total + len ≡ calls_in (take (i + 1) xs)) × (total + len ≤ 1048576)
+total_more xs i total len d lt is is_len few so_far =
+    let more : calls_in (take (i + 1) xs) ≡ calls_in (take i xs) + length (get_or xs i d) = calls_more xs i d lt in
+    let same : total + len ≡ calls_in (take (i + 1) xs) = ap (λ (n : ℕ). n + len) so_far ∙ ap (λ (n : ℕ). calls_in (take i xs) + n) (is_len ∙ ap (λ (ops : List Op). length ops) is) ∙ sym more in
+    (same, at_most (total + len) (calls_in (take (i + 1) xs)) (calls_in xs) same (calls_first xs (i + 1)) few)
   where
     at_most : (n k m : ℕ) → n ≡ k → k ≤ m → m ≤ 1048576 → n ≤ 1048576
     at_most n k m e le le' = omega arith

@@ -1,6 +1,5 @@
 -- Numbers that are right, one after another, and what they make of a run.
-use Rattle.std.proofs.Common.{ℕ, zero, suc, ◌≡◌, ◌==◌, ◌<◌, ◌≤◌, ◌+◌, ◌⊎◌, inl, inr, cond, List, [], ◌∷◌, ◌++◌, length, get_or, Option, Some, None, refl, sym, ◌∙◌, ap, subst, arith}
-use Rattle.std.proofs.lemmas.List.{get_or_default}
+use Rattle.std.proofs.Common.{ℕ, ◌≡◌, ◌==◌, ◌<◌, ◌+◌, ◌⊎◌, inl, inr, cond, List, [], ◌∷◌, ◌++◌, get_or, Some, None, sym, ◌∙◌, ap, subst, arith}
 use Rattle.std.proofs.lemmas.List.Sums.{fold-append}
 use Rattle.ks_history.specs.declared.Op.{Op}
 use Rattle.ks_history.specs.declared.Op.TheVariants.{Get, Put, Del, Add, Swap}
@@ -11,8 +10,7 @@ use Rattle.ks_history.specs.Write.{Map, Write, keeps, sets, removes, map_with, w
 use Rattle.ks_history.specs.Map.{told, IsAnswer, map_then, map_after}
 use Rattle.ks_history.specs.Served.{IsListing}
 use Rattle.ks_script.specs.Script.{calls_in}
-use Rattle.ks_judge.specs.Judgment.{Lines, line_at, op_at, answered_at, IsInOrder, IsPlaced, IsRight, IsLegalRun, at_call, at_map, IsLeastWrong, carriers, calls_below}
-use Rattle.ks_judge.specs.Slots.{Stands}
+use Rattle.ks_judge.specs.Judgment.{Lines, line_at, op_at, answered_at, IsInOrder, IsRight, IsLegalRun, at_call, at_map, IsLeastWrong, carriers, calls_below}
 use Rattle.ks_judge.proofs.Numbered.{below_more}
 use Rattle.ks_judge.proofs.Listing.{listing_along}
 
@@ -42,12 +40,11 @@ RightBelow script lines n = (k : ℕ) → k < n → IsRight script lines k
 
 -- the call at a place, as the program reads it
 pub call_read : (script : List (List Op)) (lines : Lines) (c j : ℕ) (ops : List Op) (ls : List (ℕ × Reply)) (op : Op) (line : ℕ × Reply) →
-    Stands lines c j → get_or script c [] ≡ ops → get_or lines c [] ≡ ls → j < length ops → op ≡ get_or ops j op → line ≡ get_or ls j line →
+    get_or script c [] ≡ ops → get_or lines c [] ≡ ls → op ≡ get_or ops j (Get 0) → line ≡ get_or ls j (0, Nothing) →
     answered_at script lines (c, j) ≡ record { op = op; reply = line.1 }
-call_read script lines c j ops ls op line stands is_ops is_ls lt is_op is_line =
-    let at_op : op ≡ op_at script c j = is_op ∙ get_or_default ops j op (Get 0) lt ∙ ap (λ (xs : List Op). get_or xs j (Get 0)) (sym is_ops) in
-    let within : j < length ls = subst (λ (xs : List (ℕ × Reply)). j < length xs) is_ls stands.1 in
-    let at_line : line ≡ line_at lines c j = is_line ∙ get_or_default ls j line (0, Nothing) within ∙ ap (λ (xs : List (ℕ × Reply)). get_or xs j (0, Nothing)) (sym is_ls) in
+call_read script lines c j ops ls op line is_ops is_ls is_op is_line =
+    let at_op : op ≡ op_at script c j = is_op ∙ ap (λ (xs : List Op). get_or xs j (Get 0)) (sym is_ops) in
+    let at_line : line ≡ line_at lines c j = is_line ∙ ap (λ (xs : List (ℕ × Reply)). get_or xs j (0, Nothing)) (sym is_ls) in
     ap (λ (o : Op). record { op = o; reply = (line_at lines c j).1 }) (sym at_op) ∙ ap (λ (l : ℕ × Reply). record { op = op; reply = l.1 }) (sym at_line)
 
 module _ (script : List (List Op)) (lines : Lines) where

@@ -1,6 +1,6 @@
 //! Judges a printed run of a script.
 
-ghost use Rattle.std.specs.Prelude.{ℕ, ◌≡◌, ◌↔◌, ◌≤◌, [], Some, map, nat_eq, All, IsTrue, IfOk};
+ghost use Rattle.std.specs.Prelude.{ℕ, ◌≡◌, ◌↔◌, ◌≤◌, [], Some, nat_eq, All, IsTrue, IfOk};
 ghost use Rattle.std.specs.HashMap.{get};
 ghost use Rattle.ks_keysets.specs.Record.{IsPlace};
 ghost use Rattle.ks_history.specs.Write.{removes, map_with};
@@ -9,10 +9,10 @@ ghost use Rattle.ks_script.specs.Script.{calls_in};
 ghost use Rattle.ks_judge.specs.Judgment.{SameShape};
 ghost use Rattle.ks_judge.specs.Verdict.{IsJudged};
 
+use crate::packing::{pack_calls, pack_lines};
 use crate::replay::{Replayed, replay};
 use crate::slots::slots;
-use ks_history::{Op, Reply};
-use ks_script::{Printed, Script};
+use ks_script::{Calls, Lines, Printed, Script};
 use std::alloc::{AllocError, Global};
 use std::collections::HashMap;
 
@@ -26,13 +26,13 @@ pub enum Judged {
 }
 
 /// How many calls the callers have together.
-fn total(callers: &[Vec<Op>]) -> usize
-    requires { calls_in (map (λ v. v.items) callers.now) ≤ 1048576 }
-    ensures { result ≡ calls_in (map (λ v. v.items) callers.now) }
+fn total(callers: &[Calls]) -> usize
+    requires { calls_in callers.now ≤ 1048576 }
+    ensures { result ≡ calls_in callers.now }
 {
     let mut total = 0;
-    for ops in callers {
-        total += ops.len();
+    for calls in callers {
+        total += calls.len();
     }
     total
 }
@@ -101,20 +101,22 @@ pub fn judge(alloc: Global, script: &Script, printed: &Printed) -> Result<Judged
     requires few { calls_in script.now ≤ 1048576 }
     ensures { IfOk result (λ judged. IsJudged script.now printed.now judged) }
 {
-    judge_lines(alloc, &script.callers, &printed.callers, &printed.pairs)
+    let callers = pack_calls(alloc, &script.callers)?;
+    let lines = pack_lines(alloc, &printed.callers)?;
+    judge_packed(alloc, &callers, &lines, &printed.pairs)
 }
 
-fn judge_lines(
+/// The same of a script and a run that are packed, with the pairs of the map at the end.
+pub fn judge_packed(
     alloc: Global,
-    callers: &[Vec<Op>],
-    lines: &[Vec<(u64, Reply)>],
+    callers: &[Calls],
+    lines: &[Lines],
     pairs: &[(u64, u128)],
 ) -> Result<Judged, AllocError>
-    requires shape { SameShape (map (λ v. v.items) callers.now) (map (λ v. v.items) lines.now) }
-    requires few { calls_in (map (λ v. v.items) callers.now) ≤ 1048576 }
+    requires shape { SameShape callers.now lines.now }
+    requires few { calls_in callers.now ≤ 1048576 }
     ensures { IfOk result
-        (λ judged. IsJudged (map (λ v. v.items) callers.now)
-        (record { callers = map (λ v. v.items) lines.now; pairs = pairs.now }) judged) }
+        (λ judged. IsJudged callers.now (record { callers = lines.now; pairs = pairs.now }) judged) }
 {
     let count = total(callers);
     let slots = slots(alloc, lines, count)?;

@@ -7,11 +7,12 @@
 
 mod accord;
 mod judging;
+mod packing;
 mod replay;
 mod slots;
 
 pub use accord::served_is_legal;
-pub use judging::{Judged, judge};
+pub use judging::{Judged, judge, judge_packed};
 pub use slots::Slot;
 
 #[cfg(test)]

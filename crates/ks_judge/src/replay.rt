@@ -1,6 +1,6 @@
 //! The calls of a run, made again in the order of their numbers on a map that begins empty.
 
-ghost use Rattle.std.specs.Prelude.{ℕ, ◌≡◌, ◌<◌, ◌≤◌, ◌↔◌, length, map, nat_eq, IsTrue, IfOk, OnOk};
+ghost use Rattle.std.specs.Prelude.{ℕ, ◌≡◌, ◌<◌, ◌≤◌, ◌↔◌, length, nat_eq, IsTrue, IfOk, OnOk};
 ghost use Rattle.std.specs.HashMap.{get};
 ghost use Rattle.ks_history.specs.Write.{sets, map_with, written};
 ghost use Rattle.ks_history.specs.Map.{told, IsAnswer, map_after};
@@ -9,6 +9,7 @@ ghost use Rattle.ks_judge.specs.Slots.{Notes};
 
 use crate::slots::Slot;
 use ks_history::{Op, Reply};
+use ks_script::{Calls, Lines};
 use std::alloc::{AllocError, Global};
 use std::collections::HashMap;
 
@@ -76,21 +77,18 @@ fn make(map: &mut HashMap<u64, u128>, op: Op, reply: &Reply) -> Result<bool, All
 /// callers' lines are read in turn: the one that carries a number is the next of its caller, or not in order.
 pub fn replay(
     alloc: Global,
-    callers: &[Vec<Op>],
-    lines: &[Vec<(u64, Reply)>],
+    callers: &[Calls],
+    lines: &[Lines],
     slots: &[Slot],
 ) -> Result<Replayed, AllocError>
-    requires shape { SameShape (map (λ v. v.items) callers.now) (map (λ v. v.items) lines.now) }
-    requires noted { let ls = map (λ v. v.items) lines.now in Notes ls slots.now (carriers ls) }
-    ensures right { IfOk result
-        (λ r. (n : ℕ) → n < r.right → IsRight (map (λ v. v.items) callers.now) (map (λ v. v.items) lines.now) n) }
+    requires shape { SameShape callers.now lines.now }
+    requires noted { Notes lines.now slots.now (carriers lines.now) }
+    ensures right { IfOk result (λ r. (n : ℕ) → n < r.right → IsRight callers.now lines.now n) }
     ensures within { IfOk result (λ r. r.right ≤ length slots.now) }
-    ensures stop { IfOk result
-        (λ r. r.right < length slots.now →
-        ¬ IsRight (map (λ v. v.items) callers.now) (map (λ v. v.items) lines.now) r.right) }
+    ensures stop { IfOk result (λ r. r.right < length slots.now → ¬ IsRight callers.now lines.now r.right) }
     ensures map { IfOk result
         (λ r. r.right ≡ length slots.now → (p : ℕ) → get nat_eq r.map p
-        ≡ map_after (calls_below (map (λ v. v.items) callers.now) (map (λ v. v.items) lines.now) r.right) p) }
+        ≡ map_after (calls_below callers.now lines.now r.right) p) }
 {
     let mut map = HashMap::new(alloc);
     // For each caller the place of its next line.
@@ -98,11 +96,13 @@ pub fn replay(
     for (number, slot) in slots.iter().enumerate() {
         match *slot {
             Slot::One { caller } => {
+                let caller = caller as usize;
                 let place: usize = places[caller];
-                if lines[caller][place].0 != number as u64 {
+                let (carried, reply) = lines[caller].get(place);
+                if carried != number as u64 {
                     return Ok(Replayed { right: number, map });
                 }
-                if !make(&mut map, callers[caller][place], &lines[caller][place].1)? {
+                if !make(&mut map, callers[caller].get(place), &reply)? {
                     return Ok(Replayed { right: number, map });
                 }
                 places[caller] = place + 1;

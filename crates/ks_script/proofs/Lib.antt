@@ -19,3 +19,4 @@ pub mod Replying
 pub mod Checking
 pub mod Spelled
 pub mod Padding
+pub mod Packing

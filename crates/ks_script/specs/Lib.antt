@@ -12,3 +12,5 @@ pub mod Answers
 pub mod RunParts
 pub mod Eight
 pub mod Numeral
+pub mod PackedCalls
+pub mod PackedLines

@@ -320,3 +320,43 @@ fn a_write_that_fails_leaves_the_front(rt: HostRuntime) -> Result<(), Fail> {
     assert_eq!(rt; sink.faults(), 1);
     Ok(())
 }
+
+#[test]
+fn packed_calls_and_lines_are_read_again(rt: HostRuntime) -> Result<(), Fail> {
+    let great = u128::MAX;
+    let ops = [
+        Op::Get(1),
+        Op::Put(2, 3),
+        Op::Put(2, great),
+        Op::Del(4),
+        Op::Add(5, 6),
+        Op::Swap(7, 8, great),
+    ];
+    let mut calls = Calls::new(rt.alloc());
+    for op in ops {
+        calls.push(op)?;
+    }
+    for (at, op) in ops.iter().enumerate() {
+        if at < calls.len() {
+            assert_eq!(rt; calls.get(at), *op);
+        }
+    }
+    let mut lines = Lines::with_capacity(rt.alloc(), 4)?;
+    lines.push(0, Reply::Full)?;
+    lines.push(u64::MAX, Reply::Nothing)?;
+    lines.push(1, Reply::Value(great))?;
+    lines.push(2, Reply::Value(9))?;
+    assert!(rt; lines.get(0) == (0, Reply::Full));
+    assert!(rt; lines.get(1) == (u64::MAX, Reply::Nothing));
+    assert!(rt; lines.get(2) == (1, Reply::Value(great)));
+    assert!(rt; lines.get(3) == (2, Reply::Value(9)));
+    assert_eq!(rt; lines.number_at(1), u64::MAX);
+    assert_eq!(rt; calls.len(), 6);
+    Ok(())
+}
+
+#[test]
+fn small_calls_and_lines_take_little_room(rt: HostRuntime) {
+    assert_eq!(rt; size_of::<crate::packed_calls::SmallCall>(), 24);
+    assert_eq!(rt; size_of::<crate::packed_lines::SmallLine>(), 16);
+}

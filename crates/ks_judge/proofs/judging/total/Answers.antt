@@ -4,10 +4,10 @@ use Rattle.ks_judge.proofs.judging.total.Goals as goal
 
 pub overflow_add-total : goal.overflow_add-total
 overflow_add-total c =
-    let m = total_more (λ v. v.items) c.args.callers.now c.loop-ops.ops-index c.loop-ops.total c.len-total.result c.ops-item.result c.loop-ops-test.true c.ops-item.is (omega arith) c.requires c.loop-ops.invariant in
+    let m = total_more c.args.callers.now c.loop-calls.calls-index c.loop-calls.total c.len-total.result c.calls-item.result c.loop-calls-test.true c.calls-item.is c.len-total.ensures c.requires c.loop-calls.invariant in
     omega (arith, m.1)
 
-pub loop-ops-preserved : goal.loop-ops-preserved
-loop-ops-preserved c =
-    let m = total_more (λ v. v.items) c.args.callers.now c.loop-ops.ops-index c.loop-ops.total c.len-total.result c.ops-item.result c.loop-ops-test.true c.ops-item.is (omega arith) c.requires c.loop-ops.invariant in
+pub loop-calls-preserved : goal.loop-calls-preserved
+loop-calls-preserved c =
+    let m = total_more c.args.callers.now c.loop-calls.calls-index c.loop-calls.total c.len-total.result c.calls-item.result c.loop-calls-test.true c.calls-item.is c.len-total.ensures c.requires c.loop-calls.invariant in
     m.0

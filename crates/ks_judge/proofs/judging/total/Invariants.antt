@@ -1,6 +1,6 @@
-use Rattle.std.proofs.Common.{◌≡◌, take, map}
+use Rattle.std.proofs.Common.{◌≡◌, take}
 use Rattle.ks_script.specs.Script.{calls_in}
 use Rattle.ks_judge.proofs.judging.total.Given as goal
 
-abbrev pub invariant-loop-ops : goal.invariant-loop-ops
-invariant-loop-ops l = l.total ≡ calls_in (map (λ v. v.items) (take l.ops-index l.callers))
+abbrev pub invariant-loop-calls : goal.invariant-loop-calls
+invariant-loop-calls l = l.total ≡ calls_in (take l.calls-index l.callers)

@@ -1,4 +1,3 @@
-use Rattle.std.proofs.Common.{map}
 use Rattle.std.specs.Prelude.{nat_eq}
 use Rattle.std.specs.HashMap.{get}
 use Rattle.ks_judge.proofs.Replays.{After, RightBelow}
@@ -6,11 +5,8 @@ use Rattle.ks_judge.proofs.Turns.{Turns}
 use Rattle.ks_judge.proofs.replay.replay.Given as goal
 
 abbrev pub invariant-loop-number : goal.invariant-loop-number
-invariant-loop-number l =
-    let script = map (λ v. v.items) l.callers in
-    let lines = map (λ v. v.items) l.lines in
-    record {
-      right : RightBelow script lines l.number;
-      after : After script lines l.number (get nat_eq l.map);
-      turns : Turns lines l.number l.places.items;
-    }
+invariant-loop-number l = record {
+  right : RightBelow l.callers l.lines l.number;
+  after : After l.callers l.lines l.number (get nat_eq l.map);
+  turns : Turns l.lines l.number l.places.items;
+}

@@ -1,16 +1,16 @@
-use Rattle.std.proofs.Common.{ℕ, ◌≡◌, ◌<◌, ◌≤◌, map, length, sym, ◌∙◌, ap, subst, arith}
+use Rattle.std.proofs.Common.{ℕ, ◌≡◌, ◌<◌, length, sym, ◌∙◌, ap, subst, arith}
 use Rattle.std.specs.Prelude.{nat_eq}
 use Rattle.std.specs.HashMap.{get}
 use Rattle.std.proofs.lemmas.Bool.{false≢true}
 use Rattle.ks_script.specs.Script.{calls_in}
 use Rattle.ks_judge.specs.Judgment.{IsLeastWrong}
 use Rattle.ks_judge.proofs.Replays.{After, RightBelow, wrong_call, wrong_map, all_right}
-use Rattle.ks_judge.proofs.judging.judge_lines.Goals as goal
+use Rattle.ks_judge.proofs.judging.judge_packed.Goals as goal
 
 pub returns-then-right-count : goal.returns-then-right-count
 returns-then-right-count c =
-    let script = map (λ v. v.items) c.args.callers.now in
-    let lines = map (λ v. v.items) c.args.lines.now in
+    let script = c.args.callers.now in
+    let lines = c.args.lines.now in
     let r = c.in_ok-right.field-0 in
     let e = c.in_ok-right.ensures in
     let slots : length c.deref.result.now ≡ calls_in script = ap length c.deref.ensures.value ∙ c.in_ok-slots.ensures.count ∙ c.total-count.ensures in
@@ -19,8 +19,8 @@ returns-then-right-count c =
 
 pub returns-then-not-branch : goal.returns-then-not-branch
 returns-then-not-branch c =
-    let script = map (λ v. v.items) c.args.callers.now in
-    let lines = map (λ v. v.items) c.args.lines.now in
+    let script = c.args.callers.now in
+    let lines = c.args.lines.now in
     let r = c.in_ok-right.field-0 in
     let e = c.in_ok-right.ensures in
     let slots : length c.deref.result.now ≡ calls_in script = ap length c.deref.ensures.value ∙ c.in_ok-slots.ensures.count ∙ c.total-count.ensures in
@@ -32,8 +32,8 @@ returns-then-not-branch c =
 
 pub returns : goal.returns
 returns c =
-    let script = map (λ v. v.items) c.args.callers.now in
-    let lines = map (λ v. v.items) c.args.lines.now in
+    let script = c.args.callers.now in
+    let lines = c.args.lines.now in
     let r = c.in_ok-right.field-0 in
     let e = c.in_ok-right.ensures in
     let slots : length c.deref.result.now ≡ calls_in script = ap length c.deref.ensures.value ∙ c.in_ok-slots.ensures.count ∙ c.total-count.ensures in
