@@ -3,6 +3,8 @@
 from dataclasses import dataclass
 
 CALLERS = 64
+KEYS_OF_CALLER = 256
+FIRST = 7
 MULTIPLIER = 6364136223846793005
 INCREMENT = 1442695040888963407
 WORD = 2 ** 64
@@ -82,8 +84,24 @@ def calls_of(workload, caller, calls, drawn):
 
 def script(workload, calls):
     """The text of the fill and of so many calls of each caller."""
-    drawn = Drawn(7)
+    drawn = Drawn(FIRST)
     lines = []
     for caller in range(CALLERS):
         lines += ["caller", *fill_of(workload, caller), *calls_of(workload, caller, calls, drawn)]
+    return "\n".join(lines) + "\n"
+
+
+def generated_call(caller, drawn):
+    """A call as `make` draws it."""
+    kind = GENERATED.kinds[drawn.draw() % 4]
+    key = caller + CALLERS * (drawn.draw() % KEYS_OF_CALLER)
+    return f"put {key} {drawn.draw()}" if kind == "put" else f"{kind} {key}"
+
+
+def generated(calls):
+    """The text of the calls that `make` draws for 64 callers, so many of each."""
+    drawn = Drawn(FIRST)
+    lines = []
+    for caller in range(CALLERS):
+        lines += ["caller", *(generated_call(caller, drawn) for _ in range(calls))]
     return "\n".join(lines) + "\n"
