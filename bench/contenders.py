@@ -9,9 +9,11 @@ from scripts import FIRST
 
 TOP = os.path.dirname(os.path.dirname(os.path.abspath(__file__)))
 PROGRAM = os.path.join(TOP, "crates", "ks_main", "out", "ks_main")
+TEXT_TIMES = os.path.join(TOP, "crates", "ks_text_times", "out", "ks_text_times")
 PEERS = os.path.join(TOP, "bench", "peers")
 BUILT = os.path.join(TOP, "bench", "out")
 SPAN = os.path.join(BUILT, "span.so")
+PLAIN_CHECK = os.path.join(BUILT, "plain_check")
 
 LAYOUTS = ("list", "bplus", "hash")
 TEMPLATES = ("coupling", "giveup", "link")
@@ -68,6 +70,14 @@ def build_program():
         raise SystemExit(status)
 
 
+def build_text_times():
+    """Proves and builds what reads and writes a text many times; ends with its status where that fails."""
+    crate = os.path.dirname(os.path.dirname(TEXT_TIMES))
+    status = subprocess.run(["rt", "run", "--", "read", "0"], cwd=crate, stdin=subprocess.DEVNULL, stdout=subprocess.DEVNULL).returncode
+    if status != 0:
+        raise SystemExit(status)
+
+
 def is_admitted(layout, template):
     """Whether the program serves this pairing: it is asked with an empty script."""
     return subprocess.run([PROGRAM, "run", layout, template, "4"], stdin=subprocess.DEVNULL,
@@ -107,6 +117,12 @@ def is_span_built():
 def rustc(program, source):
     """How a peer in Rust is built."""
     return ["rustc", "-O", "--edition", "2021", "-o", program, source]
+
+
+def is_plain_check_built():
+    """Whether this machine can build the plain judge of runs, with a line where it cannot."""
+    os.makedirs(BUILT, exist_ok=True)
+    return is_built("the plain check", rustc(PLAIN_CHECK, "plain_check.rs"))
 
 
 def models():

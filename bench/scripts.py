@@ -1,5 +1,6 @@
 """Scripts of calls for the command `run`, and the same calls for the peers, which read the same text."""
 
+import random
 from dataclasses import dataclass
 
 CALLERS = 64
@@ -104,4 +105,41 @@ def generated(calls):
     lines = []
     for caller in range(CALLERS):
         lines += ["caller", *(generated_call(caller, drawn) for _ in range(calls))]
+    return "\n".join(lines) + "\n"
+
+
+@dataclass(frozen=True)
+class Text:
+    """A script of 64 callers at random, by a fixed seed, over 16,384 keys: all below that number, or any of 64 bits."""
+
+    name: str
+    calls: int
+    has_long_keys: bool
+    value_bits: int
+    version: int
+
+
+TEXTS = (
+    Text("keys and values of 64 bits", 480_000, True, 64, 1),
+    Text("keys below 16,384, values of 31 bits", 1_000_000, False, 31, 1),
+    Text("keys of 64 bits, values of 128", 280_000, True, 128, 2),
+)
+TEXT_KEYS = 16384
+SEED = 5
+
+
+def random_call(text, keys, drawn):
+    """A call of the generator's mix."""
+    key = keys[drawn.randrange(TEXT_KEYS)]
+    kind = GENERATED.kinds[drawn.randrange(4)]
+    return f"put {key} {drawn.getrandbits(text.value_bits)}" if kind == "put" else f"{kind} {key}"
+
+
+def script_of(text):
+    """The script."""
+    drawn = random.Random(SEED)
+    keys = [drawn.getrandbits(64) for _ in range(TEXT_KEYS)] if text.has_long_keys else range(TEXT_KEYS)
+    lines = ["script 2"] if text.version == 2 else []
+    for _ in range(CALLERS):
+        lines += ["caller", *(random_call(text, keys, drawn) for _ in range(text.calls // CALLERS))]
     return "\n".join(lines) + "\n"
