@@ -65,4 +65,4 @@ def draw(contest, title):
 
 
 def title_of(machine):
-    return f"Time of a call as a ratio to {contenders.MUTEX.name}: to the left quicker, to the right slower ({machine})"
+    return f"A call of 64 callers as a ratio to {contenders.MUTEX.name}: to the left quicker, to the right slower ({machine})"

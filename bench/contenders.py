@@ -5,16 +5,21 @@ import shutil
 import subprocess
 from dataclasses import dataclass
 
+from scripts import FIRST
+
 TOP = os.path.dirname(os.path.dirname(os.path.abspath(__file__)))
 PROGRAM = os.path.join(TOP, "crates", "ks_main", "out", "ks_main")
+TEXT_TIMES = os.path.join(TOP, "crates", "ks_text_times", "out", "ks_text_times")
 PEERS = os.path.join(TOP, "bench", "peers")
 BUILT = os.path.join(TOP, "bench", "out")
+SPAN = os.path.join(BUILT, "span.so")
+PLAIN_CHECK = os.path.join(BUILT, "plain_check")
 
 LAYOUTS = ("list", "bplus", "hash")
 TEMPLATES = ("coupling", "giveup", "link")
-FIRST = 7
 NODES_FOR_EACH_CALLER = 1024
 NODES_FOR_SCRIPTS = 262144
+NODES_FOR_GENERATED = 65536
 
 
 @dataclass(frozen=True)
@@ -28,6 +33,11 @@ class Contender:
     is_numbered: bool = True
     wants_nodes: bool = False
 
+    @property
+    def is_worker(self):
+        """Whether the command's own thread is one of the workers: it is the program's."""
+        return bool(self.layout)
+
     def pairing(self, verb, nodes):
         """The words that say over what it serves."""
         if self.layout:
@@ -38,10 +48,10 @@ class Contender:
         """The command that serves so many callers, each with so many generated calls."""
         return [*self.words, *self.pairing("make", callers * NODES_FOR_EACH_CALLER), str(callers), str(calls), str(FIRST)]
 
-    def serving(self, workers):
-        """The command that serves the script on standard input by so many workers."""
+    def serving(self, workers, nodes):
+        """The command that serves the script on standard input by so many workers, over an arena of so many nodes."""
         verb = [] if self.layout else ["script"]
-        return [*self.words, *self.pairing("run", NODES_FOR_SCRIPTS), *verb, str(workers)]
+        return [*self.words, *self.pairing("run", nodes), *verb, str(workers)]
 
 
 MUTEX = Contender("Mutex<BTreeMap>", (os.path.join(BUILT, "ordered_maps"), "mutex"))
@@ -56,6 +66,14 @@ def build_program():
     """Proves and builds the program where it is missing or old; ends with its status where that fails."""
     status = subprocess.run([os.path.join(TOP, "ks"), "run", "bplus", "coupling", "4"],
                             stdin=subprocess.DEVNULL, stdout=subprocess.DEVNULL).returncode
+    if status != 0:
+        raise SystemExit(status)
+
+
+def build_text_times():
+    """Proves and builds what reads and writes a text many times; ends with its status where that fails."""
+    crate = os.path.dirname(os.path.dirname(TEXT_TIMES))
+    status = subprocess.run(["rt", "run", "--", "read", "0"], cwd=crate, stdin=subprocess.DEVNULL, stdout=subprocess.DEVNULL).returncode
     if status != 0:
         raise SystemExit(status)
 
@@ -90,9 +108,21 @@ def is_built(what, compiler):
     return built.returncode == 0
 
 
+def is_span_built():
+    """Whether this machine can build what measures the span of threads, with a line where it cannot."""
+    os.makedirs(BUILT, exist_ok=True)
+    return is_built("calls by workers", ["cc", "-O2", "-shared", "-fPIC", "-o", SPAN, "../span.c", "-ldl"])
+
+
 def rustc(program, source):
     """How a peer in Rust is built."""
     return ["rustc", "-O", "--edition", "2021", "-o", program, source]
+
+
+def is_plain_check_built():
+    """Whether this machine can build the plain judge of runs, with a line where it cannot."""
+    os.makedirs(BUILT, exist_ok=True)
+    return is_built("the plain check", rustc(PLAIN_CHECK, "plain_check.rs"))
 
 
 def models():

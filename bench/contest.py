@@ -3,9 +3,11 @@
 import os
 import statistics
 import subprocess
+import sys
 import tempfile
 import threading
 import time
+from dataclasses import dataclass
 
 import contenders
 import scripts
@@ -24,11 +26,12 @@ def on_one_line(text):
     return words if len(text) <= 200 else f"{words} .."
 
 
-def timed(command, text=os.devnull):
-    """The seconds that the command took over a text on its standard input, and what it printed."""
+def timed(command, text=os.devnull, **variables):
+    """The seconds that the command took over a text on its standard input, and what it printed; the variables are added to
+    its environment."""
     with open(text, "rb") as given, tempfile.TemporaryFile() as printed, tempfile.TemporaryFile() as said:
         start = time.perf_counter()
-        begun = subprocess.Popen(command, stdin=given, stdout=printed, stderr=said)
+        begun = subprocess.Popen(command, stdin=given, stdout=printed, stderr=said, env={**os.environ, **variables})
         limit = threading.Timer(SECONDS, begun.kill)
         limit.start()
         # (told of no limit, it sleeps until the command has ended; else it would look every half a millisecond and more)
@@ -44,7 +47,22 @@ def timed(command, text=os.devnull):
         return passed, printed.read().decode()
 
 
-class Generated:
+class Subtracted:
+    """Calls whose serving is a command with them, less the same command without."""
+
+    def measure(self, entrant, column):
+        """The seconds of both commands, and what the one with calls printed."""
+        busy, printed = self.busy(entrant, column)
+        idle, _printed = self.idle(entrant, column)
+        return (busy, idle), printed
+
+    def seconds(self, samples, column):
+        """The seconds of serving alone, by medians of what an entrant took."""
+        busy, idle = zip(*samples[column])
+        return statistics.median(busy) - statistics.median(idle)
+
+
+class Generated(Subtracted):
     """Generated calls, so many of each caller; a column is a number of callers."""
 
     def __init__(self, calls):
@@ -67,17 +85,11 @@ class Generated:
         return True
 
 
-class Scripted:
-    """A script of 64 callers, who fill the map and make so many calls; a column is a number of workers. Reading and
-    printing the calls is in the times."""
+class ByWorkers:
+    """A script of 64 callers, with so many calls of each beside what fills the map; a column is a number of workers."""
 
-    def __init__(self, workload, calls, folder):
+    def __init__(self, calls):
         self.calls = calls
-        self.filled = os.path.join(folder, "filled")
-        self.whole = os.path.join(folder, "whole")
-        for path, count in ((self.filled, 0), (self.whole, calls)):
-            with open(path, "w") as file:
-                file.write(scripts.script(workload, count))
 
     def named(self, column):
         return "1 worker" if column == 1 else f"{column} workers"
@@ -85,27 +97,78 @@ class Scripted:
     def calls_in(self, column):
         return scripts.CALLERS * self.calls
 
-    def busy(self, entrant, column):
-        return timed(entrant.serving(column), self.whole)
-
-    def idle(self, entrant, column):
-        return timed(entrant.serving(column), self.filled)
-
     def is_same(self, entrant, column):
+        """Whether the entrant prints what the first one does: by one worker, where its calls have numbers."""
         return column == 1 and entrant.is_numbered
 
 
-class Times:
-    """The seconds of a command with calls, and of the same command without."""
+class Scripted(ByWorkers, Subtracted):
+    """A script whose callers fill the map first. Reading and printing the calls is in the times."""
 
-    def __init__(self):
-        self.busy = []
-        self.idle = []
+    def __init__(self, workload, calls, folder):
+        super().__init__(calls)
+        self.filled = os.path.join(folder, "filled")
+        self.whole = os.path.join(folder, "whole")
+        for path, count in ((self.filled, 0), (self.whole, calls)):
+            with open(path, "w") as file:
+                file.write(scripts.script(workload, count))
 
-    def serving(self):
-        """The seconds of serving alone, by medians; None where the two commands cannot be told apart, or never ran."""
-        seconds = statistics.median(self.busy) - statistics.median(self.idle) if self.idle else 0
-        return seconds if seconds > 0 else None
+    def busy(self, entrant, column):
+        return timed(entrant.serving(column, contenders.NODES_FOR_SCRIPTS), self.whole)
+
+    def idle(self, entrant, column):
+        return timed(entrant.serving(column, contenders.NODES_FOR_SCRIPTS), self.filled)
+
+
+@dataclass(frozen=True)
+class Served:
+    """The seconds of a whole command, and those from the start of the first thread to the last join."""
+
+    whole: float
+    span: float
+
+
+class Spanned(ByWorkers):
+    """The generated calls of 64 callers as a script. Reading and printing are in no times: what is told is the span of the
+    threads. The program works on its own thread too and starts none for one worker, so its span by one worker is that of
+    two, of whom the second is held until the first has served all."""
+
+    def __init__(self, calls, folder):
+        super().__init__(calls)
+        self.script = os.path.join(folder, "calls")
+        self.span = os.path.join(folder, "span")
+        with open(self.script, "w") as file:
+            file.write(scripts.generated(calls))
+
+    def spanned(self, entrant, workers, **variables):
+        """The seconds of the command and of its threads, and what it printed."""
+        command = entrant.serving(workers, contenders.NODES_FOR_GENERATED)
+        open(self.span, "wb").close()
+        whole, printed = timed(command, self.script, LD_PRELOAD=contenders.SPAN, SPAN=self.span, **variables)
+        with open(self.span, "rb") as file:
+            return Served(whole, int.from_bytes(file.read(), sys.byteorder) / 1e9), printed
+
+    def measure(self, entrant, column):
+        """The seconds of the command and of its threads, and what it printed."""
+        served, printed = self.spanned(entrant, column)
+        if column == 1 and entrant.is_worker:
+            held, printed_held = self.spanned(entrant, 2, HELD="1")
+            if printed_held != printed:
+                raise Failed("printed another run where the second of two workers was held")
+            served = Served(served.whole, held.span)
+        if served.span <= 0:
+            raise Failed("started no thread")
+        return served, printed
+
+    def seconds(self, samples, column):
+        """The seconds of serving alone, by the median of what an entrant took."""
+        return statistics.median(served.span for served in samples[column])
+
+    def derived(self, samples):
+        """The seconds of serving by one worker, derived in each round from the whole command by one worker and what the
+        command by four does around its threads; None where it cannot be told."""
+        rounds = [one.whole - (four.whole - four.span) for one, four in zip(samples[1], samples[4])]
+        return statistics.median(rounds) if rounds else None
 
 
 class Contest:
@@ -115,7 +178,7 @@ class Contest:
         self.entrants = entrants
         self.calls = calls
         self.printed = {}
-        self.times = {(entrant, column): Times() for entrant in entrants for column in COLUMNS}
+        self.samples = {entrant: {column: [] for column in COLUMNS} for entrant in entrants}
         self.failures = {}
 
     def compare(self, entrant, column, printed):
@@ -126,12 +189,10 @@ class Contest:
                 raise Failed(f"printed {on_one_line(printed)!r}, where {first.name} printed {on_one_line(wanted)!r}")
 
     def measure(self, entrant, column):
-        """Runs the entrant with calls, and without."""
-        busy, printed = self.calls.busy(entrant, column)
+        """Runs the entrant once, and keeps what it took."""
+        sample, printed = self.calls.measure(entrant, column)
         self.compare(entrant, column, printed)
-        idle, _printed = self.calls.idle(entrant, column)
-        self.times[entrant, column].busy.append(busy)
-        self.times[entrant, column].idle.append(idle)
+        self.samples[entrant][column].append(sample)
 
     def take_turn(self, entrant, column):
         """Measures the entrant once, unless it failed in this column."""
@@ -151,9 +212,11 @@ class Contest:
 
     def nanoseconds(self, entrant, column):
         """The nanoseconds of a call; None where the entrant failed, or was too quick to tell, or took no part."""
-        times = self.times.get((entrant, column))
-        seconds = times.serving() if times and (entrant, column) not in self.failures else None
-        return seconds and seconds * 1e9 / self.calls.calls_in(column)
+        samples = self.samples.get(entrant)
+        if not samples or not samples[column] or (entrant, column) in self.failures:
+            return None
+        seconds = self.calls.seconds(samples, column)
+        return seconds * 1e9 / self.calls.calls_in(column) if seconds > 0 else None
 
     def ratio(self, entrant, column):
         """The ratio of a call to that of the mutex."""

@@ -1,8 +1,11 @@
 """Scripts of calls for the command `run`, and the same calls for the peers, which read the same text."""
 
+import random
 from dataclasses import dataclass
 
 CALLERS = 64
+KEYS_OF_CALLER = 256
+FIRST = 7
 MULTIPLIER = 6364136223846793005
 INCREMENT = 1442695040888963407
 WORD = 2 ** 64
@@ -82,8 +85,61 @@ def calls_of(workload, caller, calls, drawn):
 
 def script(workload, calls):
     """The text of the fill and of so many calls of each caller."""
-    drawn = Drawn(7)
+    drawn = Drawn(FIRST)
     lines = []
     for caller in range(CALLERS):
         lines += ["caller", *fill_of(workload, caller), *calls_of(workload, caller, calls, drawn)]
+    return "\n".join(lines) + "\n"
+
+
+def generated_call(caller, drawn):
+    """A call as `make` draws it."""
+    kind = GENERATED.kinds[drawn.draw() % 4]
+    key = caller + CALLERS * (drawn.draw() % KEYS_OF_CALLER)
+    return f"put {key} {drawn.draw()}" if kind == "put" else f"{kind} {key}"
+
+
+def generated(calls):
+    """The text of the calls that `make` draws for 64 callers, so many of each."""
+    drawn = Drawn(FIRST)
+    lines = []
+    for caller in range(CALLERS):
+        lines += ["caller", *(generated_call(caller, drawn) for _ in range(calls))]
+    return "\n".join(lines) + "\n"
+
+
+@dataclass(frozen=True)
+class Text:
+    """A script of 64 callers at random, by a fixed seed, over 16,384 keys: all below that number, or any of 64 bits."""
+
+    name: str
+    calls: int
+    has_long_keys: bool
+    value_bits: int
+    version: int
+
+
+TEXTS = (
+    Text("keys and values of 64 bits", 480_000, True, 64, 1),
+    Text("keys below 16,384, values of 31 bits", 1_000_000, False, 31, 1),
+    Text("keys of 64 bits, values of 128", 280_000, True, 128, 2),
+)
+TEXT_KEYS = 16384
+SEED = 5
+
+
+def random_call(text, keys, drawn):
+    """A call of the generator's mix."""
+    key = keys[drawn.randrange(TEXT_KEYS)]
+    kind = GENERATED.kinds[drawn.randrange(4)]
+    return f"put {key} {drawn.getrandbits(text.value_bits)}" if kind == "put" else f"{kind} {key}"
+
+
+def script_of(text):
+    """The script."""
+    drawn = random.Random(SEED)
+    keys = [drawn.getrandbits(64) for _ in range(TEXT_KEYS)] if text.has_long_keys else range(TEXT_KEYS)
+    lines = ["script 2"] if text.version == 2 else []
+    for _ in range(CALLERS):
+        lines += ["caller", *(random_call(text, keys, drawn) for _ in range(text.calls // CALLERS))]
     return "\n".join(lines) + "\n"
