@@ -6,6 +6,7 @@
 #![tactic(auto)]
 
 mod input;
+mod judgment;
 mod message;
 mod pairings;
 mod serving;

@@ -16,7 +16,8 @@ ghost use Rattle.ks_batch.specs.Serve.{RefusedAt, Accepts, AcceptsChecked, Tells
 ghost use Rattle.ks_batch.specs.Make.{SumsUp, Sums, MakesOutcome};
 ghost use Rattle.ks_batch.specs.Stop.{IsCause};
 
-use crate::input::{Stop, load, load_checked};
+use crate::input::{Stop, load};
+use crate::judgment::judged;
 use crate::message::tell;
 use crate::pairings::{Pairing, serve_by};
 use crate::status::{DONE, NO_COMMAND, NO_MEMORY, OUTPUT_FAILED, REFUSED, SOURCE_FAILED, WRONG};
@@ -25,7 +26,7 @@ use ks_arena::RunTrace;
 use ks_dictionary::Told;
 use ks_gate::Gate;
 use ks_generator::{Size, made_script, summary};
-use ks_judge::{Judged, judge};
+use ks_judge::Judged;
 use ks_script::{Failed, Printed, Sink, Source, send, send_line, write_run};
 use std::alloc::{AllocError, Global};
 use std::sync::Wait;
@@ -155,20 +156,6 @@ fn serve_script<R: Threads + Wait + Sync, S: Source, K: Sink, G: Gate + Sync>(
         Err(Stop::Refused { line }) => Outcome::without_run(REFUSED, line),
         Err(Stop::Source) => Outcome::without_run(SOURCE_FAILED, 0),
         Err(Stop::Memory) => Outcome::without_run(NO_MEMORY, 0),
-    }
-}
-
-/// The judgment of the script and the run on the source.
-fn judged<S: Source>(alloc: Global, source: &mut S) -> Result<Judged, Stop>
-    ensures ok { IfOk result (λ judged. IfSome (S.left source.old) (λ bytes. Judges bytes judged)) }
-    ensures end { OnOk result (IfSome (S.left source.old) (λ _. S.left source.new ≡ Some [])) }
-    ensures cause { IfErr result
-        (λ stop. IsCause stop text.Checked (S.left source.old) (Rose (S.faults source.old) (S.faults source.new))) }
-{
-    let (script, printed) = load_checked(alloc, source)?;
-    match judge(alloc, &script, &printed) {
-        Ok(judged) => Ok(judged),
-        Err(_) => Err(Stop::Memory),
     }
 }
 

@@ -18,5 +18,9 @@ pub mod RunLines
 pub mod Replying
 pub mod Checking
 pub mod Spelled
-pub mod Padding
+pub mod Streaming
 pub mod Packing
+pub mod TakenLines
+pub mod Drafted
+pub mod Quickly
+pub mod Padding

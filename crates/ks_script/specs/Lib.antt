@@ -11,6 +11,9 @@ pub mod Front
 pub mod Answers
 pub mod RunParts
 pub mod Eight
-pub mod Numeral
+pub mod Streams
 pub mod PackedCalls
 pub mod PackedLines
+pub mod Drafts
+pub mod Quick
+pub mod Numeral

@@ -13,7 +13,7 @@ use ks_history::Op;
 use std::alloc::{AllocError, Global};
 
 /// How many calls a script may have.
-const MOST_CALLS: usize = 1_048_576;
+pub(crate) const MOST_CALLS: usize = 1_048_576;
 
 /// The script at the front of a text: its version, its callers, how many lines it takes, and the bytes after it.
 #[derive(Drop)]

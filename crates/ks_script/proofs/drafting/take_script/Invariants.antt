@@ -1,0 +1,18 @@
+use Rattle.std.proofs.Common.{◌≡◌, ◌≤◌, ◌-◌, length}
+use Rattle.ks_script.specs.Lines.{text_of}
+use Rattle.ks_script.specs.Version.{callers_limit}
+use Rattle.ks_script.specs.Script.{IsScript, script_lines, calls_in}
+use Rattle.ks_script.specs.Streams.{TookOut}
+use Rattle.ks_script.proofs.drafting.take_script.Given as goal
+
+abbrev pub invariant-callers : goal.invariant-callers
+invariant-callers g l = record {
+  is : IsScript l.version l.callers.items;
+  calls : l.count ≡ calls_in l.callers.items;
+  text : TookOut (g.S.Source.left l.fn.source) l.fn.window (g.S.Source.left l.source) l.window (text_of (script_lines l.callers.items));
+  most : l.window.most ≡ l.fn.window.most;
+  faults : g.S.Source.faults l.fn.source ≤ g.S.Source.faults l.source;
+}
+
+abbrev pub decreases-callers : goal.decreases-callers
+decreases-callers g l = callers_limit l.version - length l.callers.items

@@ -1,0 +1,175 @@
+//! Reads a script and a run of it through a window, as far as each line stands there whole and fits.
+
+ghost use Rattle.std.specs.Prelude.{ℕ, ◌≡◌, ◌≤◌, List, length, map, IfOk, IsErrOf, IsTrue};
+ghost use Rattle.std.specs.List.{AllByRecursion};
+ghost use Rattle.ks_history.specs.declared.Op.{Op};
+ghost use Rattle.ks_history.specs.declared.Reply.{Reply};
+ghost use Rattle.ks_script.specs.Lines.{text_of};
+ghost use Rattle.ks_script.specs.Version.{version_line};
+ghost use Rattle.ks_script.specs.Script.{IsScript, script_lines};
+ghost use Rattle.ks_script.specs.Run.{callers_from};
+ghost use Rattle.ks_script.specs.Checked.{IsAnswered, IsRunOf};
+ghost use Rattle.ks_script.specs.Outside.{Rose};
+ghost use Rattle.ks_script.specs.Streams.{TookOut};
+ghost use Rattle.ks_script.specs.Drafts.{draft_lines};
+ghost use Rattle.ks_script.specs.declared.draft.Reached.TheVariants.{End};
+
+use crate::draft::{Draft, Reached};
+use crate::front::MOST_CALLS;
+use crate::stream::{take_caller, take_calls, take_pairs, take_replies, take_word};
+use crate::version::Version;
+use crate::window::Window;
+use crate::{Calls, Halt, Lines, Source};
+use std::alloc::Global;
+
+// Takes the line out that tells the version, where there is one.
+fn take_version<S: Source>(window: &mut Window, source: &mut S) -> Result<Version, Halt>
+    ensures text { IfOk result (λ version.
+        TookOut (S.left source.old) window.old (S.left source.new) window.new (text_of (version_line version))) }
+    ensures most { window.new.most ≡ window.old.most }
+    ensures failed { IsErrOf result Halt.Failed → Rose (S.faults source.old) (S.faults source.new) }
+    ensures count { S.faults source.old ≤ S.faults source.new }
+{
+    if take_word(window, source, b"script 2\n")? {
+        return Ok(Version::Second);
+    }
+    Ok(Version::First)
+}
+
+// Takes the callers of a script out.
+fn take_script<S: Source>(
+    alloc: Global,
+    window: &mut Window,
+    source: &mut S,
+    version: Version,
+) -> Result<Vec<Calls>, Halt>
+    ensures is { IfOk result (λ callers. IsScript version callers.items) }
+    ensures text { IfOk result (λ callers.
+        TookOut (S.left source.old) window.old (S.left source.new) window.new (text_of (script_lines callers.items))) }
+    ensures most { window.new.most ≡ window.old.most }
+    ensures failed { IsErrOf result Halt.Failed → Rose (S.faults source.old) (S.faults source.new) }
+    ensures count { S.faults source.old ≤ S.faults source.new }
+{
+    let most = version.most_callers();
+    let mut callers = Vec::new(alloc);
+    let mut count = 0;
+    'callers: while callers.len() < most {
+        if !take_word(window, source, b"caller\n")? {
+            return Ok(callers);
+        }
+        let calls = take_calls(alloc, window, source, version, MOST_CALLS - count)?;
+        count += calls.len();
+        let Ok(()) = callers.push(calls) else {
+            return Err(Halt::Memory);
+        };
+    }
+    Ok(callers)
+}
+
+// Takes the lines of callers out, as far as they come in turn.
+fn take_answers<S: Source>(
+    alloc: Global,
+    window: &mut Window,
+    source: &mut S,
+    callers: &[Calls],
+) -> Result<Vec<Lines>, Halt>
+    ensures each { IfOk result (λ lines. AllByRecursion (AllByRecursion IsAnswered) lines.items) }
+    ensures text { IfOk result (λ lines.
+        TookOut (S.left source.old) window.old (S.left source.new) window.new (text_of (callers_from 0 lines.items))) }
+    ensures most { window.new.most ≡ window.old.most }
+    ensures failed { IsErrOf result Halt.Failed → Rose (S.faults source.old) (S.faults source.new) }
+    ensures count { S.faults source.old ≤ S.faults source.new }
+{
+    let mut lines = Vec::new(alloc);
+    'callers: for (number, calls) in callers.iter().enumerate() {
+        if !take_caller(window, source, number as u64)? {
+            return Ok(lines);
+        }
+        let replies = take_replies(alloc, window, source, calls.len())?;
+        let Ok(()) = lines.push(replies) else {
+            return Err(Halt::Memory);
+        };
+    }
+    Ok(lines)
+}
+
+// Whether each caller has a line for each of its calls.
+fn are_answered(callers: &[Calls], lines: &[Lines]) -> bool
+    ensures { IsTrue result → map (λ (x : List (ℕ × Reply)). length x) lines.now ≡ map (λ (x : List Op). length x) callers.now }
+{
+    if lines.len() != callers.len() {
+        return false;
+    }
+    'callers: for number in 0..callers.len() {
+        if lines[number].len() != callers[number].len() {
+            return false;
+        }
+    }
+    true
+}
+
+/// Takes a script and a run of it out of the window, as far as they go.
+pub(crate) fn take_draft<S: Source>(
+    alloc: Global,
+    window: &mut Window,
+    source: &mut S,
+) -> Result<Draft, Halt>
+    ensures script { IfOk result (λ draft. IsScript draft.version draft.callers.items) }
+    ensures run { IfOk result (λ draft. draft.reached ≡ End →
+        IsRunOf draft.callers.items (record { callers = draft.lines.items; pairs = draft.pairs.items })) }
+    ensures text { IfOk result (λ draft.
+        TookOut (S.left source.old) window.old (S.left source.new) window.new (text_of (draft_lines draft))) }
+    ensures most { window.new.most ≡ window.old.most }
+    ensures failed { IsErrOf result Halt.Failed → Rose (S.faults source.old) (S.faults source.new) }
+    ensures count { S.faults source.old ≤ S.faults source.new }
+{
+    let version = take_version(window, source)?;
+    let callers = take_script(alloc, window, source, version)?;
+    if !take_word(window, source, b"run\n")? {
+        return Ok(Draft {
+            version,
+            callers,
+            lines: Vec::new(alloc),
+            pairs: Vec::new(alloc),
+            reached: Reached::Script,
+        });
+    }
+    let lines = take_answers(alloc, window, source, &callers)?;
+    let answered = are_answered(&callers, &lines);
+    if !answered {
+        return Ok(Draft {
+            version,
+            callers,
+            lines,
+            pairs: Vec::new(alloc),
+            reached: Reached::Run,
+        });
+    }
+    if !take_word(window, source, b"map\n")? {
+        return Ok(Draft {
+            version,
+            callers,
+            lines,
+            pairs: Vec::new(alloc),
+            reached: Reached::Run,
+        });
+    }
+    let pairs = take_pairs(alloc, window, source)?;
+    let ended = take_word(window, source, b"end\n")?;
+    if !ended {
+        return Ok(Draft {
+            version,
+            callers,
+            lines,
+            pairs,
+            reached: Reached::Map,
+        });
+    }
+    Ok(Draft {
+        version,
+        callers,
+        lines,
+        pairs,
+        reached: Reached::End,
+    })
+}

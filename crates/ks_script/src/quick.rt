@@ -1,0 +1,18 @@
+//! A script and a run of it, in little room.
+
+use crate::{Calls, Lines};
+
+/// A script and a run of it, in little room.
+#[derive(Drop)]
+pub struct Packed {
+    pub callers: Vec<Calls>,
+    pub lines: Vec<Lines>,
+    pub pairs: Vec<(u64, u128)>,
+}
+
+/// What was read: a script with a run of it; or the bytes that were read, where not every line stood there whole and fitted.
+#[derive(Drop)]
+pub enum Quick {
+    Whole(Packed),
+    Bytes(Vec<u8>),
+}
