@@ -54,8 +54,10 @@ class Contender:
         return [*self.words, *self.pairing("run", nodes), *verb, str(workers)]
 
 
-MUTEX = Contender("Mutex<BTreeMap>", (os.path.join(BUILT, "ordered_maps"), "mutex"))
-RWLOCK = Contender("RwLock<BTreeMap>", (os.path.join(BUILT, "ordered_maps"), "rwlock"))
+ORDERED_MAPS = os.path.join(BUILT, "ordered_maps")
+MUTEX = Contender("Mutex<BTreeMap>", (ORDERED_MAPS, "mutex"))
+MUTEX_64 = Contender("Mutex<BTreeMap>, 64-bit values", (ORDERED_MAPS, "mutex64"))
+RWLOCK = Contender("RwLock<BTreeMap>", (ORDERED_MAPS, "rwlock"))
 HASH_MAP = Contender("TBB concurrent_hash_map, no numbers", (os.path.join(BUILT, "hash_map"),), is_numbered=False)
 PLAIN_TREES = tuple(Contender(f"plain bplus {template}, unproved", (os.path.join(BUILT, "plain_trees"), template), wants_nodes=True)
                     for template in TEMPLATES)
@@ -135,8 +137,8 @@ def peers():
     """The peers that this machine can build, with a line for each that it cannot."""
     os.makedirs(BUILT, exist_ok=True)
     built = []
-    if is_built("the maps of Rust", rustc(MUTEX.words[0], "ordered_maps.rs")):
-        built += [MUTEX, RWLOCK]
+    if is_built("the maps of Rust", rustc(ORDERED_MAPS, "ordered_maps.rs")):
+        built += [MUTEX, MUTEX_64, RWLOCK]
     if is_built("the hash map of TBB", ["g++", "-O2", "-std=c++17", "-o", HASH_MAP.words[0], "hash_map.cpp", "-ltbb"]):
         built.append(HASH_MAP)
     if is_built("the skip list of Java", ["javac", "-d", BUILT, "SkipList.java"]):

@@ -1,25 +1,28 @@
 //! The calls over a `BTreeMap` of the standard library behind one lock.
 //!
-//! usage: ordered_maps mutex|rwlock CALLERS CALLS FIRST
-//!        ordered_maps mutex|rwlock script WORKERS
+//! usage: ordered_maps mutex|mutex64|rwlock CALLERS CALLS FIRST
+//!        ordered_maps mutex|mutex64|rwlock script WORKERS
 //!
-//! Workers draw callers; for generated calls each caller has one. A call draws its number while it holds the lock.
+//! Workers draw callers; for generated calls each caller has one. A call draws its number while it holds the lock. Values
+//! have 128 bits, as the program's have; of `mutex64` they have 64.
 
 mod serving;
 
-use serving::{Answer, Numbered, Op};
+use serving::{Answer, Numbered, Op, Value};
 use std::collections::BTreeMap;
 use std::sync::atomic::{AtomicU64, Ordering};
 use std::sync::{Mutex, RwLock};
 
 #[derive(Default)]
-struct Locked {
-    pairs: BTreeMap<u64, u64>,
+struct Locked<V> {
+    pairs: BTreeMap<u64, V>,
     calls: u64,
 }
 
-impl Numbered for Mutex<Locked> {
-    fn call(&self, _caller: usize, op: Op) -> Answer {
+impl<V: Value> Numbered for Mutex<Locked<V>> {
+    type Value = V;
+
+    fn call(&self, _caller: usize, op: Op<V>) -> Answer<V> {
         let mut locked = self.lock().unwrap();
         let number = locked.calls;
         locked.calls += 1;
@@ -31,26 +34,28 @@ impl Numbered for Mutex<Locked> {
         Answer { number, found }
     }
 
-    fn into_pairs(self) -> BTreeMap<u64, u64> {
+    fn into_pairs(self) -> BTreeMap<u64, V> {
         self.into_inner().unwrap().pairs
     }
 }
 
 #[derive(Default)]
-struct Shared {
-    pairs: RwLock<BTreeMap<u64, u64>>,
+struct Shared<V> {
+    pairs: RwLock<BTreeMap<u64, V>>,
     calls: AtomicU64,
 }
 
-impl Shared {
+impl<V> Shared<V> {
     /// The next number, drawn while the lock is held.
     fn number(&self) -> u64 {
         self.calls.fetch_add(1, Ordering::Relaxed)
     }
 }
 
-impl Numbered for Shared {
-    fn call(&self, _caller: usize, op: Op) -> Answer {
+impl<V: Value> Numbered for Shared<V> {
+    type Value = V;
+
+    fn call(&self, _caller: usize, op: Op<V>) -> Answer<V> {
         match op {
             Op::Put(key, value) => {
                 let mut pairs = self.pairs.write().unwrap();
@@ -67,7 +72,7 @@ impl Numbered for Shared {
         }
     }
 
-    fn into_pairs(self) -> BTreeMap<u64, u64> {
+    fn into_pairs(self) -> BTreeMap<u64, V> {
         self.pairs.into_inner().unwrap()
     }
 }
@@ -76,9 +81,10 @@ fn main() {
     let words: Vec<String> = std::env::args().skip(1).collect();
     let words: Vec<&str> = words.iter().map(String::as_str).collect();
     let is_served = match words[..] {
-        ["mutex", ref calls @ ..] => serving::run(Mutex::<Locked>::default(), calls),
-        ["rwlock", ref calls @ ..] => serving::run(Shared::default(), calls),
+        ["mutex", ref calls @ ..] => serving::run(Mutex::<Locked<u128>>::default(), calls),
+        ["mutex64", ref calls @ ..] => serving::run(Mutex::<Locked<u64>>::default(), calls),
+        ["rwlock", ref calls @ ..] => serving::run(Shared::<u128>::default(), calls),
         _ => false,
     };
-    assert!(is_served, "usage: ordered_maps mutex|rwlock CALLERS CALLS FIRST, or mutex|rwlock script WORKERS");
+    assert!(is_served, "usage: ordered_maps mutex|mutex64|rwlock CALLERS CALLS FIRST, or mutex|mutex64|rwlock script WORKERS");
 }

@@ -7,7 +7,7 @@
 
 mod serving;
 
-use serving::{Answer, Numbered, Op};
+use serving::Numbered;
 use std::cell::UnsafeCell;
 use std::collections::BTreeMap;
 use std::hint::spin_loop;
@@ -15,6 +15,9 @@ use std::mem;
 use std::sync::atomic::{AtomicU32, AtomicU64, Ordering::SeqCst};
 use std::thread;
 use std::time::Duration;
+
+type Op = serving::Op<u128>;
+type Answer = serving::Answer<u128>;
 
 /// The most pairs of a leaf, and children of an inner node.
 const ROOM: usize = 16;
@@ -77,16 +80,16 @@ impl Node {
     }
 
     /// Makes the call in a leaf, and answers what was there.
-    fn act(&mut self, op: Op) -> Option<u64> {
+    fn act(&mut self, op: Op) -> Option<u128> {
         let at = self.rank(key_of(op));
         let is_there = self.has_at(at, key_of(op));
         let Body::Leaf(values) = &mut self.body else { unreachable!("a call at an inner node") };
-        let found = is_there.then(|| values[at] as u64);
+        let found = is_there.then(|| values[at]);
         match op {
             Op::Get(_) => {}
-            Op::Put(_, value) if is_there => values[at] = value.into(),
+            Op::Put(_, value) if is_there => values[at] = value,
             Op::Put(key, value) => {
-                insert(values, self.count, at, value.into());
+                insert(values, self.count, at, value);
                 insert(&mut self.keys, self.count, at, key);
                 self.count += 1;
             }
@@ -360,6 +363,8 @@ impl Tree {
 }
 
 impl Numbered for Tree {
+    type Value = u128;
+
     fn call(&self, caller: usize, op: Op) -> Answer {
         match (&self.technique, op) {
             (Technique::Coupling, Op::Put(..)) => self.put_by_coupling(caller, op),
@@ -369,11 +374,11 @@ impl Numbered for Tree {
         }
     }
 
-    fn into_pairs(self) -> BTreeMap<u64, u64> {
+    fn into_pairs(self) -> BTreeMap<u64, u128> {
         let mut pairs = BTreeMap::new();
         for node in self.slots.into_iter().filter_map(UnsafeCell::into_inner) {
             if let Body::Leaf(values) = node.body {
-                pairs.extend((0..node.count).map(|at| (node.keys[at], values[at] as u64)));
+                pairs.extend((0..node.count).map(|at| (node.keys[at], values[at])));
             }
         }
         pairs

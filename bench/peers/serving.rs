@@ -3,27 +3,47 @@
 //! as the program's do.
 
 use std::collections::BTreeMap;
-use std::fmt::Write;
+use std::fmt::{Debug, Display, Write};
 use std::io::Read;
+use std::str::FromStr;
 use std::sync::atomic::{AtomicUsize, Ordering};
 
+/// What a key leads to: 128 bits, as in the program, or 64.
+pub trait Value: Copy + Display + From<u64> + FromStr<Err: Debug> + Send + Sync {
+    /// The lower 64 bits.
+    fn low(self) -> u64;
+}
+
+impl Value for u128 {
+    fn low(self) -> u64 {
+        self as u64
+    }
+}
+
+impl Value for u64 {
+    fn low(self) -> u64 {
+        self
+    }
+}
+
 #[derive(Clone, Copy)]
-pub enum Op {
-    Put(u64, u64),
+pub enum Op<V> {
+    Put(u64, V),
     Get(u64),
     Del(u64),
 }
 
-pub struct Answer {
+pub struct Answer<V> {
     /// The call's number in the one order of all calls. The summary has no use for it.
     pub number: u64,
-    pub found: Option<u64>,
+    pub found: Option<V>,
 }
 
 /// A map that numbers its calls.
 pub trait Numbered: Sync {
-    fn call(&self, caller: usize, op: Op) -> Answer;
-    fn into_pairs(self) -> BTreeMap<u64, u64>;
+    type Value: Value;
+    fn call(&self, caller: usize, op: Op<Self::Value>) -> Answer<Self::Value>;
+    fn into_pairs(self) -> BTreeMap<u64, Self::Value>;
 }
 
 struct Generator(u64);
@@ -34,37 +54,40 @@ impl Generator {
         self.0 >> 33
     }
 
-    fn call(&mut self, caller: u64, callers: u64) -> Op {
+    fn call<V: Value>(&mut self, caller: u64, callers: u64) -> Op<V> {
         let kind = self.draw() % 4;
         let key = caller + callers * (self.draw() % 256);
         match kind {
-            0 | 1 => Op::Put(key, self.draw()),
+            0 | 1 => Op::Put(key, self.draw().into()),
             2 => Op::Get(key),
             _ => Op::Del(key),
         }
     }
 }
 
-fn made_script(callers: u64, calls: u64, first: u64) -> Vec<Vec<Op>> {
+fn made_script<V: Value>(callers: u64, calls: u64, first: u64) -> Vec<Vec<Op<V>>> {
     let mut generator = Generator(first);
     (0..callers)
         .map(|caller| (0..calls).map(|_| generator.call(caller, callers)).collect())
         .collect()
 }
 
+fn number<T: FromStr<Err: Debug>>(word: &str) -> T {
+    word.parse().expect("a number")
+}
+
 /// The callers of a script that fits: the program says what does not.
-fn read_script() -> Vec<Vec<Op>> {
+fn read_script<V: Value>() -> Vec<Vec<Op<V>>> {
     let mut text = String::new();
     std::io::stdin().read_to_string(&mut text).expect("a text");
-    let mut script: Vec<Vec<Op>> = Vec::new();
+    let mut script: Vec<Vec<Op<V>>> = Vec::new();
     for line in text.lines() {
         let mut words = line.split(' ');
-        let kind = words.next().expect("a word");
-        let mut number = || words.next().expect("a number").parse().expect("a number");
-        let op = match kind {
-            "put" => Op::Put(number(), number()),
-            "get" => Op::Get(number()),
-            "del" => Op::Del(number()),
+        let mut word = || words.next().expect("a word");
+        let op = match word() {
+            "put" => Op::Put(number(word()), number(word())),
+            "get" => Op::Get(number(word())),
+            "del" => Op::Del(number(word())),
             _ => {
                 script.push(Vec::new());
                 continue;
@@ -76,18 +99,18 @@ fn read_script() -> Vec<Vec<Op>> {
 }
 
 /// The answers to each caller's calls, by so many workers that draw callers.
-fn serve<M: Numbered>(map: &M, script: &[Vec<Op>], workers: usize) -> Vec<Vec<Answer>> {
+fn serve<M: Numbered>(map: &M, script: &[Vec<Op<M::Value>>], workers: usize) -> Vec<Vec<Answer<M::Value>>> {
     let next = AtomicUsize::new(0);
     let draw = || Some(next.fetch_add(1, Ordering::Relaxed)).filter(|caller| *caller < script.len());
     let work = || {
         let mut served = Vec::new();
         while let Some(caller) = draw() {
-            let answers: Vec<Answer> = script[caller].iter().map(|op| map.call(caller, *op)).collect();
+            let answers: Vec<_> = script[caller].iter().map(|op| map.call(caller, *op)).collect();
             served.push((caller, answers));
         }
         served
     };
-    let mut served: Vec<(usize, Vec<Answer>)> = std::thread::scope(|scope| {
+    let mut served: Vec<(usize, Vec<_>)> = std::thread::scope(|scope| {
         let workers: Vec<_> = (0..workers).map(|_| scope.spawn(work)).collect();
         workers.into_iter().flat_map(|worker| worker.join().unwrap()).collect()
     });
@@ -96,7 +119,7 @@ fn serve<M: Numbered>(map: &M, script: &[Vec<Op>], workers: usize) -> Vec<Vec<An
 }
 
 /// Prints what the program prints of a run.
-fn print_run<M: Numbered>(map: M, script: &[Vec<Op>], workers: usize) {
+fn print_run<M: Numbered>(map: M, script: &[Vec<Op<M::Value>>], workers: usize) {
     let answers = serve(&map, script, workers);
     let mut text = String::new();
     for (caller, answers) in answers.iter().enumerate() {
@@ -115,21 +138,20 @@ fn print_run<M: Numbered>(map: M, script: &[Vec<Op>], workers: usize) {
     print!("{text}end\n");
 }
 
-fn print_summary<M: Numbered>(map: M, script: &[Vec<Op>]) {
+fn print_summary<M: Numbered>(map: M, script: &[Vec<Op<M::Value>>]) {
     let answers = serve(&map, script, script.len());
     let calls: usize = answers.iter().map(Vec::len).sum();
     let found = answers.iter().flatten().filter(|answer| answer.found.is_some()).count();
     let pairs = map.into_pairs();
-    let sum = pairs.iter().fold(0u64, |sum, (key, value)| sum.wrapping_add(key.wrapping_mul(*value)));
+    let sum = pairs.iter().fold(0u64, |sum, (key, value)| sum.wrapping_add(key.wrapping_mul(value.low())));
     println!("callers {}\ncalls {calls}\nfound {found}\nnone {}", script.len(), calls - found);
     println!("full 0\npairs {}\nsum {sum}", pairs.len());
 }
 
 /// Serves what the words ask for, CALLERS CALLS FIRST or `script WORKERS`, over the map: false, where they ask for neither.
 pub fn run<M: Numbered>(map: M, words: &[&str]) -> bool {
-    let number = |word: &str| word.parse().expect("a number");
     match *words {
-        ["script", workers] => print_run(map, &read_script(), number(workers) as usize),
+        ["script", workers] => print_run(map, &read_script(), number(workers)),
         [callers, calls, first] => print_summary(map, &made_script(number(callers), number(calls), number(first))),
         _ => return false,
     }
