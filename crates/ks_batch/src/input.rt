@@ -4,7 +4,7 @@ ghost use Rattle.std.specs.Prelude.{ℕ, ◌≡◌, ◌≤◌, ◌+◌, List, Op
 ghost use Rattle.ks_script.specs.Outside.{Rose, Gone};
 ghost use Rattle.ks_script.specs.Script.{ScriptOf};
 ghost use Rattle.ks_script.specs.Checked.{CheckedOf};
-ghost use Rattle.ks_script.specs.Quick.{Fits, HasRead};
+ghost use Rattle.ks_script.specs.OnePass.{ScriptOrBytes, HasRead};
 ghost use Rattle.ks_script.specs.Script.{calls_in};
 ghost use Rattle.ks_judge.specs.Judgment.{SameShape};
 ghost use Rattle.ks_batch.specs.Serve.{limit_of, Accepts, AcceptsChecked};
@@ -13,7 +13,7 @@ ghost use Rattle.ks_batch.specs.declared.words.Text.TheVariants as text;
 
 use crate::words::Text;
 use ks_script::{
-    Halt, Printed, Quick, ReadFault, Script, Source, TextFault, read_all, read_checked,
+    Halt, InOnePass, Printed, ReadFault, Script, Source, TextFault, read_all, read_checked,
     read_packed, read_rest, read_script,
 };
 use std::alloc::Global;
@@ -93,15 +93,15 @@ pub fn load<S: Source>(alloc: Global, source: &mut S) -> Result<Script, Stop>
 
 /// Reads a script and a run of it from the source, in little room; or the bytes that were read, where not every line
 /// stood there whole and fitted.
-pub fn load_packed<S: Source>(alloc: Global, source: &mut S) -> Result<Quick, Stop>
-    ensures fits { IfOk result (Fits (limit_of text.Checked)) }
+pub fn load_packed<S: Source>(alloc: Global, source: &mut S) -> Result<InOnePass, Stop>
+    ensures fits { IfOk result (ScriptOrBytes (limit_of text.Checked)) }
     ensures read { IfOk result (HasRead (S.left source.old) (S.left source.new) (limit_of text.Checked)) }
     ensures count { S.faults source.old ≤ S.faults source.new }
     ensures cause { IfErr result
         (λ stop. IsCause stop text.Checked (S.left source.old) (Rose (S.faults source.old) (S.faults source.new))) }
 {
     match read_packed(alloc, source, limit(Text::Checked)) {
-        Ok(quick) => Ok(quick),
+        Ok(read) => Ok(read),
         Err(Halt::Failed) => Err(Stop::Source),
         Err(Halt::Memory) => Err(Stop::Memory),
     }

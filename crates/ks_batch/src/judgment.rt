@@ -8,7 +8,7 @@ ghost use Rattle.ks_batch.specs.Stop.{IsCause};
 
 use crate::input::{Stop, load_checked, load_packed};
 use ks_judge::{Judged, judge, judge_packed};
-use ks_script::{Quick, Source};
+use ks_script::{InOnePass, Source};
 use std::alloc::Global;
 
 // The judgment of what is on a source of which these bytes were read before.
@@ -37,12 +37,12 @@ pub fn judged<S: Source>(alloc: Global, source: &mut S) -> Result<Judged, Stop>
         (λ stop. IsCause stop text.Checked (S.left source.old) (Rose (S.faults source.old) (S.faults source.new))) }
 {
     match load_packed(alloc, source)? {
-        Quick::Whole(packed) => {
+        InOnePass::Whole(packed) => {
             match judge_packed(alloc, &packed.callers, &packed.lines, &packed.pairs) {
                 Ok(judged) => Ok(judged),
                 Err(_) => Err(Stop::Memory),
             }
         }
-        Quick::Bytes(bytes) => rest_judged(alloc, source, bytes),
+        InOnePass::Bytes(bytes) => rest_judged(alloc, source, bytes),
     }
 }

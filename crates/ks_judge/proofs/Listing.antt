@@ -1,8 +1,8 @@
 -- Pairs that list a map, one pair after another.
 use Rattle.std.proofs.Common.{ℕ, zero, suc, ◌≡◌, ◌==◌, ◌<◌, ◌≤◌, ◌+◌, ◌⊎◌, inl, inr, Bool, true, false, cond, List, [], ◌∷◌, length, get_or, Option, Some, None, refl, sym, ◌∙◌, ap, subst, arith}
-use Rattle.std.specs.Prelude.{All, AllPairs, Contains, nat_eq, ◌↔◌}
+use Rattle.std.specs.Prelude.{All, AllPairs, Contains, nat_eq, nat_lt, ◌↔◌}
 use Rattle.std.specs.Map.{lookup}
-use Rattle.std.proofs.lemmas.List.{get_or_default}
+use Rattle.std.proofs.lemmas.List.{get_or_default, get_or_past}
 use Rattle.std.proofs.lemmas.Bool.{false≢true}
 use Rattle.ks_keysets.specs.Record.{IsPlace}
 use Rattle.std.proofs.lemmas.Bool.Decides.{nat_tests}
@@ -46,6 +46,12 @@ eq_apart a q lt = grind (arith, nat_tests)
 
 eq_true : (a q : ℕ) → (a == q) ≡ true → a ≡ q
 eq_true a q e = grind (arith, nat_tests)
+
+lt_true : (a b : ℕ) → nat_lt a b ≡ true → a < b
+lt_true a b e = grind (arith, nat_tests)
+
+lt_false : (a b : ℕ) → nat_lt a b ≡ false → b ≤ a
+lt_false a b e = grind (arith, nat_tests)
 
 same_value : (v w : ℕ) → Some v ≡ Some w → v ≡ w
 same_value v w e = cc
@@ -135,3 +141,32 @@ none_decided (x ∷ es) r keys e = (
   λ is. let none : length (x ∷ es) ≡ 0 = eq_true (length (x ∷ es)) 0 (sym e ∙ is) in absurd (omega (arith, none)),
   λ listing. absurd (nothing x ((listing.exact x.0 x.1).0 (keys 0 x (omega arith), ap (λ (b : Bool). cond b (Some x.1) (lookup (nat_eq x.0) es)) (eq_same x.0 x.0 refl)))),
 )
+
+-- a map that has a value at a key is not the one of no pairs
+not_listed : (m : Map) (k v : ℕ) → IsPlace k → m k ≡ Some v → IsListing m [] → ⊥
+not_listed m k v place is listing = nothing (k, v) ((listing.exact k v).0 (place, is))
+
+-- the map f has at keys below the length of a list what is there, and at others what the map m has
+module _ (low : List (Option ℕ)) (m f : Map) (is : (k : ℕ) → f k ≡ cond (nat_lt k (length low)) (get_or low k None) (m k)) where
+  by_place : (k : ℕ) (b : Bool) → nat_lt k (length low) ≡ b → f k ≡ cond b (get_or low k None) (m k)
+  by_place k b e = is k ∙ ap (λ (b : Bool). cond b (get_or low k None) (m k)) e
+
+  -- where the list has nothing, it is the map m
+  pub nothing_low : ((at : ℕ) → get_or low at None ≡ None) → ((k : ℕ) → k < length low → m k ≡ None) → (k : ℕ) → f k ≡ m k
+  nothing_low none apart k = by_test (nat_lt k (length low)) refl
+    where
+      by_test : (b : Bool) → nat_lt k (length low) ≡ b → f k ≡ m k
+      by_test true e = by_place k true e ∙ none k ∙ sym (apart k (lt_true k (length low) e))
+      by_test false e = by_place k false e
+
+  -- where it has no pairs, the list has nothing
+  pub none_low : ((at : ℕ) → at < length low → IsPlace at) → IsListing f [] → (at : ℕ) → get_or low at None ≡ None
+  none_low places listing at = by_value (get_or low at None) refl
+    where
+      by_test : (v : ℕ) → get_or low at None ≡ Some v → (b : Bool) → nat_lt at (length low) ≡ b → ⊥
+      by_test v e true t = not_listed f at v (places at (lt_true at (length low) t)) (by_place at true t ∙ e) listing
+      by_test v e false t = none_some v (sym (get_or_past low at None (lt_false at (length low) t)) ∙ e)
+
+      by_value : (o : Option ℕ) → get_or low at None ≡ o → get_or low at None ≡ None
+      by_value None e = e
+      by_value (Some v) e = absurd (by_test v e (nat_lt at (length low)) refl)

@@ -3,10 +3,9 @@ use Rattle.std.proofs.Common.{ℕ, ◌≡◌, ◌<◌, ◌≤◌, ◌+◌, ◌==
 use Rattle.std.proofs.lemmas.List.{append-nil, take_more, take_all, length-take-le}
 use Rattle.ks_history.specs.declared.Reply.{Reply}
 use Rattle.ks_history.specs.declared.Reply.TheVariants.{Nothing}
-use Rattle.ks_judge.specs.declared.slots.Slot.{Slot}
-use Rattle.ks_judge.specs.declared.slots.Slot.TheVariants.{Empty}
+use Rattle.ks_judge.specs.declared.slots.PackedSlot.{PackedSlot}
 use Rattle.ks_judge.specs.Judgment.{Lines, line_at, carriers, carriers_from, carriers_in}
-use Rattle.ks_judge.specs.Slots.{Carries, TellsSlot, Notes, carriers_to, if_carries}
+use Rattle.ks_judge.specs.Slots.{Carries, TellsSlot, Notes, slot_in, carriers_to, if_carries}
 
 carriers_in-append : (n c j : ℕ) (xs ys : List (ℕ × Reply)) → carriers_in n c j (xs ++ ys) ≡ carriers_in n c j xs ++ carriers_in n c (j + length xs) ys
 carriers_in-append n c j [] ys = ap (λ k. carriers_in n c k ys) (omega arith)
@@ -48,11 +47,11 @@ carriers_to-caller lines c n lt =
 pub carriers_to-all : (lines : Lines) (c n : ℕ) → length lines ≤ c → carriers_to lines c 0 n ≡ carriers lines n
 carriers_to-all lines c n le = append-nil (carriers_from n 0 (take c lines)) ∙ ap (carriers_from n 0) (take_all c lines le)
 
-pub notes_along : (lines : Lines) (slots : List Slot) (P Q : ℕ → List (ℕ × ℕ)) → ((n : ℕ) → P n ≡ Q n) → Notes lines slots P → Notes lines slots Q
-notes_along lines slots P Q same notes n lt = subst (λ (ps : List (ℕ × ℕ)). TellsSlot lines n (get_or slots n Empty) ps) (same n) (notes n lt)
+pub notes_along : (lines : Lines) (slots : List PackedSlot) (P Q : ℕ → List (ℕ × ℕ)) → ((n : ℕ) → P n ≡ Q n) → Notes lines slots P → Notes lines slots Q
+notes_along lines slots P Q same notes n lt = subst (λ (ps : List (ℕ × ℕ)). TellsSlot lines n (slot_in (get_or slots n (record { code = 0 }))) ps) (same n) (notes n lt)
 
 -- a line noted, as the program notes it: xs are the lines of caller c
-pub line_noted : (lines : Lines) (c j number : ℕ) (xs : List (ℕ × Reply)) (slots slots' : List Slot) → get_or lines c [] ≡ xs → c < length lines → j < length xs → number ≡ (get_or xs j (0, Nothing)).0 →
+pub line_noted : (lines : Lines) (c j number : ℕ) (xs : List (ℕ × Reply)) (slots slots' : List PackedSlot) → get_or lines c [] ≡ xs → c < length lines → j < length xs → number ≡ (get_or xs j (0, Nothing)).0 →
     ((ls : Lines) (i : ℕ) (P : ℕ → List (ℕ × ℕ)) → Carries ls c i number → Notes ls slots P → Notes ls slots' (λ n. P n ++ if_carries number n (c, i))) →
     Notes lines slots (carriers_to lines c j) → Notes lines slots' (carriers_to lines c (j + 1))
 line_noted lines c j number xs slots slots' is there lt carried noted notes =

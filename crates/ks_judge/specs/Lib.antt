@@ -2,3 +2,4 @@ pub mod Judgment
 pub mod Slots
 pub mod Verdict
 pub mod Keys
+pub mod Table

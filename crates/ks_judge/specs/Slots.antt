@@ -1,5 +1,6 @@
 -- What is noted of the lines that carry a number.
-use Rattle.std.specs.Prelude.{ℕ, ◌≡◌, ◌==◌, ◌<◌, ◌≤◌, List, [], ◌∷◌, ◌++◌, length, take, slice_index_or, if◌then◌else◌}
+use Rattle.std.specs.Prelude.{ℕ, ◌≡◌, ◌==◌, ◌<◌, ◌≤◌, ◌-◌, List, [], ◌∷◌, ◌++◌, length, take, slice_index_or, if◌then◌else◌}
+use Rattle.ks_judge.specs.declared.slots.PackedSlot.{PackedSlot}
 use Rattle.ks_judge.specs.declared.slots.Slot.{Slot}
 use Rattle.ks_judge.specs.declared.slots.Slot.TheVariants.{Empty, One, Many}
 use Rattle.ks_judge.specs.Judgment.{Lines, line_at, carriers_in, carriers_from}
@@ -18,9 +19,13 @@ TellsSlot lines n Empty places = places ≡ []
 TellsSlot lines n (One c) places = (j : ℕ) × (places ≡ (c, j) ∷ []) × Carries lines c j n
 TellsSlot lines n Many places = 2 ≤ length places
 
+-- what a slot in 4 bytes tells
+abbrev pub slot_in : PackedSlot → Slot
+slot_in s = if s.code == 0 then Empty else if s.code == 4294967295 then Many else One (s.code - 1)
+
 -- each slot tells the places that P gives for its number
-abbrev pub Notes : Lines → List Slot → (ℕ → List (ℕ × ℕ)) → Type 0
-Notes lines slots P = (n : ℕ) → n < length slots → TellsSlot lines n (slice_index_or slots n Empty) (P n)
+abbrev pub Notes : Lines → List PackedSlot → (ℕ → List (ℕ × ℕ)) → Type 0
+Notes lines slots P = (n : ℕ) → n < length slots → TellsSlot lines n (slot_in (slice_index_or slots n (record { code = 0 }))) (P n)
 
 -- the places of the lines that carry n: those of the callers before c, and of caller c the first j
 abbrev pub carriers_to : Lines → ℕ → ℕ → ℕ → List (ℕ × ℕ)

@@ -1,20 +1,19 @@
 //! Judges a printed run of a script.
 
-ghost use Rattle.std.specs.Prelude.{ℕ, ◌≡◌, ◌↔◌, ◌≤◌, [], Some, nat_eq, All, IsTrue, IfOk};
-ghost use Rattle.std.specs.HashMap.{get};
-ghost use Rattle.ks_keysets.specs.Record.{IsPlace};
+ghost use Rattle.std.specs.Prelude.{ℕ, ◌≡◌, ◌↔◌, ◌≤◌, Some, IsTrue, IfOk};
 ghost use Rattle.ks_history.specs.Write.{removes, map_with};
 ghost use Rattle.ks_history.specs.Served.{IsListing};
 ghost use Rattle.ks_script.specs.Script.{calls_in};
 ghost use Rattle.ks_judge.specs.Judgment.{SameShape};
+ghost use Rattle.ks_judge.specs.Table.{found};
 ghost use Rattle.ks_judge.specs.Verdict.{IsJudged};
 
 use crate::packing::{pack_calls, pack_lines};
 use crate::replay::{Replayed, replay};
 use crate::slots::slots;
+use crate::table::{Table, keys_can_be_places};
 use ks_script::{Calls, Lines, Printed, Script};
 use std::alloc::{AllocError, Global};
-use std::collections::HashMap;
 
 /// What a printed run is judged to be.
 #[derive(Clone, Copy, Debug, PartialEq, Eq)]
@@ -37,29 +36,9 @@ fn total(callers: &[Calls]) -> usize
     total
 }
 
-/// A number of 64 bits can be a place. It computes nothing.
-fn can_be_place(key: u64)
-    ensures { IsPlace key }
-{
-    let _key = key;
-}
-
-/// The keys of all entries can be places. It changes nothing.
-fn keys_can_be_places(entries: &[(u64, u128)])
-    ensures { All (λ e. IsPlace e.0) entries.now }
-{
-    for entry in entries {
-        can_be_place(entry.0);
-    }
-}
-
 /// Whether the pairs are just the map, ascending by key. Each pair is taken out of the map.
-fn is_listing(
-    alloc: Global,
-    map: HashMap<u64, u128>,
-    pairs: &[(u64, u128)],
-) -> Result<bool, AllocError>
-    ensures { IfOk result (λ is. IsTrue is ↔ IsListing (get nat_eq map) pairs.now) }
+fn is_listing(alloc: Global, map: Table, pairs: &[(u64, u128)]) -> Result<bool, AllocError>
+    ensures { IfOk result (λ is. IsTrue is ↔ IsListing (found map) pairs.now) }
 {
     keys_can_be_places(pairs);
     let mut rest = map;
@@ -73,25 +52,15 @@ fn is_listing(
         }
         least = u128::from(pair.0) + 1;
     }
-    has_nothing(alloc, rest)
+    rest.has_nothing(alloc)
 }
 
 /// Takes out what is at the key, and tells whether it was the value.
-fn takes(map: &mut HashMap<u64, u128>, key: u64, value: u128) -> bool
-    ensures had { IsTrue result ↔ (get nat_eq map.old key ≡ Some value) }
-    ensures gone { (p : ℕ) → get nat_eq map.new p ≡ map_with (get nat_eq map.old) (removes key) p }
+fn takes(map: &mut Table, key: u64, value: u128) -> bool
+    ensures had { IsTrue result ↔ (found map.old key ≡ Some value) }
+    ensures gone { (p : ℕ) → found map.new p ≡ map_with (found map.old) (removes key) p }
 {
-    map.remove(&key) == Some(value)
-}
-
-/// Whether the map has nothing at any key.
-fn has_nothing(alloc: Global, map: HashMap<u64, u128>) -> Result<bool, AllocError>
-    ensures { IfOk result (λ is. IsTrue is ↔ IsListing (get nat_eq map) []) }
-{
-    let entries: Vec<(u64, u128)> = map.into_iter().collect(alloc)?;
-    let listed = entries.as_slice();
-    keys_can_be_places(listed);
-    Ok(listed.is_empty())
+    map.remove(key) == Some(value)
 }
 
 /// Judges a printed run of a script: whether its replies are those of one map in the order of their numbers, and the

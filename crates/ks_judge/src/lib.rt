@@ -10,10 +10,11 @@ mod judging;
 mod packing;
 mod replay;
 mod slots;
+mod table;
 
 pub use accord::served_is_legal;
 pub use judging::{Judged, judge, judge_packed};
-pub use slots::Slot;
+pub use slots::{PackedSlot, Slot};
 
 #[cfg(test)]
 mod tests;

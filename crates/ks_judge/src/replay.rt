@@ -1,23 +1,26 @@
 //! The calls of a run, made again in the order of their numbers on a map that begins empty.
 
-ghost use Rattle.std.specs.Prelude.{ℕ, ◌≡◌, ◌<◌, ◌≤◌, ◌↔◌, length, nat_eq, IsTrue, IfOk, OnOk};
-ghost use Rattle.std.specs.HashMap.{get};
+ghost use Rattle.std.specs.Prelude.{ℕ, ◌≡◌, ◌<◌, ◌≤◌, ◌↔◌, length, IsTrue, IfOk, OnOk};
 ghost use Rattle.ks_history.specs.Write.{sets, map_with, written};
 ghost use Rattle.ks_history.specs.Map.{told, IsAnswer, map_after};
 ghost use Rattle.ks_judge.specs.Judgment.{SameShape, carriers, calls_below, IsRight};
 ghost use Rattle.ks_judge.specs.Slots.{Notes};
+ghost use Rattle.ks_judge.specs.Table.{found};
 
-use crate::slots::Slot;
+use crate::slots::{PackedSlot, Slot, told_by};
+use crate::table::Table;
 use ks_history::{Op, Reply};
 use ks_script::{Calls, Lines};
 use std::alloc::{AllocError, Global};
-use std::collections::HashMap;
+
+// Keys below so many have places of their own, if there are as many calls.
+const LOW_KEYS: usize = 32_768;
 
 /// How many numbers from 0 on are right, and, if all are, the map after their calls.
 #[derive(Drop)]
 pub struct Replayed {
     pub right: usize,
-    pub map: HashMap<u64, u128>,
+    pub map: Table,
 }
 
 /// The reply that tells what was there.
@@ -31,44 +34,40 @@ fn told(value: Option<u128>) -> Reply
 }
 
 /// Writes the value, and tells whether the reply tells what was there.
-fn set(
-    map: &mut HashMap<u64, u128>,
-    key: u64,
-    value: u128,
-    reply: &Reply,
-) -> Result<bool, AllocError>
-    ensures answer { IfOk result (λ right. IsTrue right ↔ (reply.now ≡ told (get nat_eq map.old key))) }
+#[inline(always)]
+fn set(map: &mut Table, key: u64, value: u128, reply: &Reply) -> Result<bool, AllocError>
+    ensures answer { IfOk result (λ right. IsTrue right ↔ (reply.now ≡ told (found map.old key))) }
     ensures map { OnOk result
-        ((p : ℕ) → get nat_eq map.new p ≡ map_with (get nat_eq map.old) (sets key value) p) }
+        ((p : ℕ) → found map.new p ≡ map_with (found map.old) (sets key value) p) }
 {
     let was = map.insert(key, value)?;
     Ok(*reply == told(was))
 }
 
 /// Makes the call with this reply on the map, and tells whether the reply is the map's answer.
-fn make(map: &mut HashMap<u64, u128>, op: Op, reply: &Reply) -> Result<bool, AllocError>
-    ensures answer { IfOk result (λ right. IsTrue right ↔ IsAnswer (get nat_eq map.old) op reply.now) }
+fn make(map: &mut Table, op: Op, reply: &Reply) -> Result<bool, AllocError>
+    ensures answer { IfOk result (λ right. IsTrue right ↔ IsAnswer (found map.old) op reply.now) }
     ensures map { OnOk result
-        ((p : ℕ) → get nat_eq map.new p ≡ map_with (get nat_eq map.old) (written op reply.now) p) }
+        ((p : ℕ) → found map.new p ≡ map_with (found map.old) (written op reply.now) p) }
 {
     match op {
-        Op::Get(key) => Ok(*reply == told(map.get(&key).copied())),
+        Op::Get(key) => Ok(*reply == told(map.get(key))),
         Op::Put(key, value) => match reply {
             Reply::Full => Ok(true),
             _ => set(map, key, value, reply),
         },
         Op::Del(key) => {
-            let was = map.remove(&key);
+            let was = map.remove(key);
             Ok(*reply == told(was))
         }
         Op::Add(key, value) => match reply {
             Reply::Full => Ok(true),
             Reply::Nothing => set(map, key, value, reply),
-            Reply::Value(_) => Ok(*reply == told(map.get(&key).copied())),
+            Reply::Value(_) => Ok(*reply == told(map.get(key))),
         },
         Op::Swap(key, old, new) => match reply {
             Reply::Value(found) if *found == old => set(map, key, new, reply),
-            _ => Ok(*reply == told(map.get(&key).copied())),
+            _ => Ok(*reply == told(map.get(key))),
         },
     }
 }
@@ -79,7 +78,7 @@ pub fn replay(
     alloc: Global,
     callers: &[Calls],
     lines: &[Lines],
-    slots: &[Slot],
+    slots: &[PackedSlot],
 ) -> Result<Replayed, AllocError>
     requires shape { SameShape callers.now lines.now }
     requires noted { Notes lines.now slots.now (carriers lines.now) }
@@ -87,14 +86,14 @@ pub fn replay(
     ensures within { IfOk result (λ r. r.right ≤ length slots.now) }
     ensures stop { IfOk result (λ r. r.right < length slots.now → ¬ IsRight callers.now lines.now r.right) }
     ensures map { IfOk result
-        (λ r. r.right ≡ length slots.now → (p : ℕ) → get nat_eq r.map p
+        (λ r. r.right ≡ length slots.now → (p : ℕ) → found r.map p
         ≡ map_after (calls_below callers.now lines.now r.right) p) }
 {
-    let mut map = HashMap::new(alloc);
+    let mut map = Table::new(alloc, slots.len().min(LOW_KEYS))?;
     // For each caller the place of its next line.
     let mut places = vec![in alloc; 0; callers.len()]?;
     for (number, slot) in slots.iter().enumerate() {
-        match *slot {
+        match told_by(*slot) {
             Slot::One { caller } => {
                 let caller = caller as usize;
                 let place: usize = places[caller];

@@ -3,7 +3,7 @@
 ghost use Rattle.std.specs.Prelude.{ℕ, ◌≡◌, ◌<◌, ◌≤◌, ◌+◌, ◌^◌, ◌++◌, List, length, IfOk};
 ghost use Rattle.ks_history.specs.declared.Reply.{Reply};
 ghost use Rattle.ks_judge.specs.Judgment.{carriers};
-ghost use Rattle.ks_judge.specs.Slots.{Carries, Notes, carriers_to, if_carries, noted_slot};
+ghost use Rattle.ks_judge.specs.Slots.{Carries, Notes, slot_in, carriers_to, if_carries, noted_slot};
 
 use ks_script::Lines;
 use std::alloc::{AllocError, Global};
@@ -16,19 +16,43 @@ pub enum Slot {
     Many,
 }
 
-/// The slot when one line more carries its number.
-fn noted(slot: Slot, caller: u32) -> Slot
-    ensures { result ≡ noted_slot slot caller }
+/// A slot in 4 bytes: 0 for none, the greatest number for more than one, and else the caller's number and 1.
+#[derive(Clone, Copy, Debug, PartialEq, Eq)]
+pub struct PackedSlot {
+    code: u32,
+}
+
+// More than one line.
+const MANY: u32 = u32::MAX;
+
+/// What the slot tells.
+#[inline(always)]
+pub fn told_by(slot: PackedSlot) -> Slot
+    ensures { result ≡ slot_in slot }
 {
-    match slot {
-        Slot::Empty => Slot::One { caller },
-        Slot::One { .. } | Slot::Many => Slot::Many,
+    match slot.code {
+        0 => Slot::Empty,
+        MANY => Slot::Many,
+        code => Slot::One { caller: code - 1 },
     }
+}
+
+/// The slot when one line more carries its number.
+#[inline(always)]
+fn noted(slot: PackedSlot, caller: u32) -> PackedSlot
+    requires { caller < 4294967294 }
+    ensures { slot_in result ≡ noted_slot (slot_in slot) caller }
+{
+    if slot.code == 0 {
+        return PackedSlot { code: caller + 1 };
+    }
+    PackedSlot { code: MANY }
 }
 
 /// Notes a line of the caller in the slot of its number, if there is one.
 #[inline(always)]
-fn note(slots: &mut [Slot], number: u64, caller: u32)
+fn note(slots: &mut [PackedSlot], number: u64, caller: u32)
+    requires { caller < 4294967294 }
     ensures { (lines : List (List (ℕ × Reply))) (j : ℕ) (P : ℕ → List (ℕ × ℕ)) → Carries lines caller j number →
         Notes lines slots.old P → Notes lines slots.new (λ n. P n ++ if_carries number n (caller, j)) }
 {
@@ -39,8 +63,9 @@ fn note(slots: &mut [Slot], number: u64, caller: u32)
 }
 
 /// Notes the lines of one caller.
-fn note_caller(slots: &mut [Slot], callers: &[Lines], caller: u32)
+fn note_caller(slots: &mut [PackedSlot], callers: &[Lines], caller: u32)
     requires which { caller < length callers.now }
+    requires small { caller < 4294967294 }
     requires noted { Notes callers.now slots.old (carriers_to callers.now caller 0) }
     ensures { Notes callers.now slots.new (carriers_to callers.now (caller + 1) 0) }
 {
@@ -52,15 +77,18 @@ fn note_caller(slots: &mut [Slot], callers: &[Lines], caller: u32)
 
 /// For each number below `count` whose lines carry it. So many callers that their numbers pass 32 bits take more memory
 /// than there is.
-pub fn slots(alloc: Global, callers: &[Lines], count: usize) -> Result<Vec<Slot>, AllocError>
+pub fn slots(alloc: Global, callers: &[Lines], count: usize) -> Result<Vec<PackedSlot>, AllocError>
     ensures count { IfOk result (λ v. length v.items ≡ count) }
     ensures noted { IfOk result (λ v. Notes callers.now v.items (carriers callers.now)) }
 {
-    let mut slots = vec![in alloc; Slot::Empty; count]?;
+    let mut slots = vec![in alloc; PackedSlot { code: 0 }; count]?;
     for caller in 0..callers.len() {
         let Ok(number) = u32::try_from(caller) else {
             return Err(AllocError);
         };
+        if number >= MANY - 1 {
+            return Err(AllocError);
+        }
         note_caller(&mut slots, callers, number);
     }
     Ok(slots)

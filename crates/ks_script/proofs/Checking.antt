@@ -36,11 +36,11 @@ run_ends version ls = record { plain = λ e. omega (arith, ap (λ (l : List ℕ)
     run_no_call (Swap k v w) h e = omega (arith, ap (λ (l : List ℕ). get_or l 0 0) e)
 
 -- after the script and `run` come the answers
-abbrev run_front : Version → List (List Op) → Lines
+abbrev pub run_front : Version → List (List Op) → Lines
 run_front v s = front_lines v s ++ codes "run" ∷ []
 
 -- what follows the script stands behind it
-behind : (v : Version) (s : List (List Op)) (ls : Lines) → run_front v s ++ ls ≡ version_line v ++ (script_lines s ++ codes "run" ∷ ls)
+pub behind : (v : Version) (s : List (List Op)) (ls : Lines) → run_front v s ++ ls ≡ version_line v ++ (script_lines s ++ codes "run" ∷ ls)
 behind v s ls = append_assoc (front_lines v s) (codes "run" ∷ []) ls ∙ append_assoc (version_line v) (script_lines s) (codes "run" ∷ ls)
 
 run_into : (v : Version) (s : List (List Op)) (ls : Lines) → IsScript v s → SpellAnswers 0 (shape_of s) ls → AreChecked (run_front v s ++ ls)
@@ -67,7 +67,7 @@ run_only v w s t run ls is h =
       lines_are = ap (λ (xs : Lines). drop 1 xs) told.2;
     }
 
-run_leads : (v : Version) (s : List (List Op)) → IsScript v s → Leads AreChecked (SpellAnswers 0 (shape_of s)) (run_front v s)
+pub run_leads : (v : Version) (s : List (List Op)) → IsScript v s → Leads AreChecked (SpellAnswers 0 (shape_of s)) (run_front v s)
 run_leads v s is = record {
   into = λ ls h. run_into v s ls is h;
   only = λ ls h. run_only v h.0 s h.1 h.2 ls is h.3;
@@ -104,7 +104,7 @@ no_answer bytes run rest v s first n h f place bad =
     (leads_bad AreChecked (SpellAnswers 0 (shape_of s)) (lines_of bytes) (run_front v s) (lines_of run) bad.0 (run_leads v s h.is) (after_run bytes run v s rest h.lines_are f) bad.2)
 
 -- the lines of the callers come after `run`, then the map
-abbrev callers_front : Version → List (List Op) → List Replies → Lines
+abbrev pub callers_front : Version → List (List Op) → List Replies → Lines
 callers_front v s cs = run_front v s ++ callers_from 0 cs
 
 callers_front_leads : (v : Version) (s : List (List Op)) (cs : List Replies) → IsScript v s → counts cs ≡ shape_of s → GoodReplies cs → Leads AreChecked (SpellAnswers (0 + length cs) []) (callers_front v s cs)
@@ -137,7 +137,7 @@ no_map bytes rest v s cs line h odd =
     subst (FirstBadOfChecked bytes) (sym h.place)
     (leads_bad AreChecked (SpellAnswers (0 + length cs) []) (lines_of bytes) (callers_front v s cs) (lines_of rest) 1 (callers_front_leads v s cs h.is h.has_shape h.each) h.lines_are (bad_map (0 + length cs) (lines_of rest) odd))
 
-abbrev pairs_front : Version → List (List Op) → List Replies → List (ℕ × ℕ) → Lines
+abbrev pub pairs_front : Version → List (List Op) → List Replies → List (ℕ × ℕ) → Lines
 pairs_front v s cs ps = (callers_front v s cs ++ codes "map" ∷ []) ++ map pair_line ps
 
 pub record AtEnd (bytes rest : List ℕ) (v : Version) (s : List (List Op)) (cs : List Replies) (ps : List (ℕ × ℕ)) (line : ℕ) : Type 0 where

@@ -1,5 +1,5 @@
 -- A script and a run of it, part by part.
-use Rattle.std.proofs.Common.{ℕ, ◌≡◌, ◌+◌, ◌-◌, ◌<◌, ◌≤◌, Bool, true, false, if◌then◌else◌, List, [], ◌∷◌, ◌++◌, length, map, take, get_or, refl, sym, ap, subst, ◌∙◌, append_assoc, arith, codes, Option, length-append}
+use Rattle.std.proofs.Common.{ℕ, ◌≡◌, ◌+◌, ◌-◌, ◌<◌, ◌≤◌, Bool, true, false, if◌then◌else◌, List, [], ◌∷◌, ◌++◌, length, map, take, get_or, refl, sym, ap, ◌∙◌, append_assoc, arith, codes, Option, length-append}
 use Rattle.std.proofs.lemmas.List.{append-nil, length-take-le}
 use Rattle.std.proofs.lemmas.Bool.{false≢true}
 use Rattle.std.specs.Fmt.{decimal}
@@ -9,15 +9,15 @@ use Rattle.ks_history.specs.declared.Reply.{Reply}
 use Rattle.ks_script.specs.declared.version.Version.{Version}
 use Rattle.ks_script.specs.declared.window.Window.{Window}
 use Rattle.ks_script.specs.Lines.{ended, text_of}
-use Rattle.ks_script.specs.Version.{version_line, callers_limit}
+use Rattle.ks_script.specs.Version.{callers_limit}
 use Rattle.ks_script.specs.Script.{IsCall, IsScript, call_line, caller_lines, script_lines, calls_in}
-use Rattle.ks_script.specs.Run.{reply_line, pair_line, callers_from, map_lines, run_lines}
+use Rattle.ks_script.specs.Run.{reply_line, pair_line, callers_from, map_lines}
 use Rattle.ks_script.specs.Checked.{IsAnswered}
 use Rattle.ks_script.specs.Streams.{TookOut}
 use Rattle.ks_script.specs.Drafts.{lines_behind}
 use Rattle.ks_script.specs.declared.draft.Reached.TheVariants as reached
 use Rattle.ks_script.proofs.Scripts.{lines_push, calls_push, good_push}
-use Rattle.ks_script.proofs.Texts.{text_append, text_push, callers_append, one_caller, map_text, taken_with}
+use Rattle.ks_script.proofs.Texts.{text_append, callers_append, one_caller, map_text, taken_with}
 
 -- a caller more is a script still
 pub script_grown : (version : Version) (s : List (List Op)) (ops : List Op) (count : ℕ) → IsScript version s → length s < callers_limit version → count ≡ calls_in s → length ops ≤ 1048576 - count → AllByRecursion (IsCall version) ops → IsScript version (s ++ ops ∷ [])

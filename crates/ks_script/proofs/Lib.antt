@@ -17,10 +17,14 @@ pub mod Leading
 pub mod RunLines
 pub mod Replying
 pub mod Checking
+pub mod Entire
 pub mod Spelled
+pub mod Standing
 pub mod Streaming
 pub mod Packing
+pub mod Stopping
+pub mod Losing
 pub mod TakenLines
 pub mod Drafted
-pub mod Quickly
+pub mod WholeRead
 pub mod Padding

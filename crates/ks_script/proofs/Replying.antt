@@ -68,7 +68,7 @@ head_refused script i x cs lines rest line at n h here shape good e odd place is
     )
 
 -- some replies of a caller, and a line that is none
-reply_missing : (n wanted : ℕ) (rs : Replies) (back : List ℕ) (lines : Lines) → length rs < wanted → AllByRecursion IsAnswered rs → NoReply lines → FirstBad (SpellAnswers n (wanted ∷ back)) (one_caller n rs ++ lines) (length (one_caller n rs) + 1)
+pub reply_missing : (n wanted : ℕ) (rs : Replies) (back : List ℕ) (lines : Lines) → length rs < wanted → AllByRecursion IsAnswered rs → NoReply lines → FirstBad (SpellAnswers n (wanted ∷ back)) (one_caller n rs ++ lines) (length (one_caller n rs) + 1)
 reply_missing n wanted rs back lines lt good odd =
     let left : length rs + suc (wanted - length rs - 1) ≡ wanted = omega arith in
     subst (λ (k : ℕ). FirstBad (SpellAnswers n (k ∷ back)) (one_caller n rs ++ lines) (length (one_caller n rs) + 1)) left
@@ -104,7 +104,7 @@ good_push : (cs : List Replies) (rs : Replies) → GoodReplies cs → AllByRecur
 good_push [] rs g h = (h, tt)
 good_push (c ∷ cs) rs g h = (g.0, good_push cs rs g.1 h)
 
-callers_push : (cs : List Replies) (rs : Replies) → callers_from 0 (cs ++ rs ∷ []) ≡ callers_from 0 cs ++ one_caller (0 + length cs) rs
+pub callers_push : (cs : List Replies) (rs : Replies) → callers_from 0 (cs ++ rs ∷ []) ≡ callers_from 0 cs ++ one_caller (0 + length cs) rs
 callers_push cs rs = callers_append 0 cs (rs ∷ []) ∙ ap (λ ls. callers_from 0 cs ++ ls) (append-nil (one_caller (0 + length cs) rs))
 
 pub next_caller : (script : List Calls) (i : ℕ) (x : Calls) (cs : List Replies) (rs : Replies) (bytes rest more left : List ℕ) (line at : ℕ) → i < length script → x ≡ get_or script i x → counts cs ≡ map size (take i script) → GoodReplies cs → lines_of bytes ≡ callers_from 0 cs ++ lines_of rest → lines_of rest ≡ (codes "caller " ++ decimal i) ∷ lines_of more → length more < length rest → RepliesThen more (size x) rs left → size x ≤ length rs → at ≡ line + length (callers_from 0 cs) → length rest + length (callers_from 0 cs) ≤ length bytes → NextCaller bytes left (map size (take (i + 1) script)) (cs ++ rs ∷ []) line (at + (1 + size x))

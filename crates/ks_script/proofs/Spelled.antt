@@ -21,11 +21,11 @@ use Rattle.ks_script.proofs.Cuts.{lines_first, decimal_lacks}
 use Rattle.ks_script.proofs.Pairs.{value_small}
 
 -- whether the byte stands there
-abbrev stands : ℕ → List ℕ → Bool
+abbrev pub stands : ℕ → List ℕ → Bool
 stands c [] = false
 stands c (b ∷ bytes) = eqb b c || stands c bytes
 
-lacks_by : (c : ℕ) (bytes : List ℕ) → stands c bytes ≡ false → Lacks c bytes
+pub lacks_by : (c : ℕ) (bytes : List ℕ) → stands c bytes ≡ false → Lacks c bytes
 lacks_by c [] h = tt
 lacks_by c (b ∷ bytes) h = let parts = neither (eqb b c) (stands c bytes) h in ((λ e. false≢true (sym parts.0 ∙ eq-eqb b c e)), lacks_by c bytes parts.1)
   where
@@ -37,10 +37,10 @@ lacks_append : (c : ℕ) (a b : List ℕ) → Lacks c a → Lacks c b → Lacks 
 lacks_append c [] b h k = k
 lacks_append c (x ∷ a) b h k = (h.0, lacks_append c a b h.1 k)
 
-abbrev Plain : List (List ℕ) → Type 0
+abbrev pub Plain : List (List ℕ) → Type 0
 Plain ls = AllByRecursion (Lacks 10) ls
 
-plain_append : (a b : List (List ℕ)) → Plain a → Plain b → Plain (a ++ b)
+pub plain_append : (a b : List (List ℕ)) → Plain a → Plain b → Plain (a ++ b)
 plain_append [] b h k = k
 plain_append (l ∷ a) b h k = (h.0, plain_append a b h.1 k)
 
@@ -57,6 +57,9 @@ spaced a b h k = lacks_append 10 (a ++ codes " ") b (lacks_append 10 a (codes " 
 keyed : (word : List ℕ) (k : ℕ) → stands 10 word ≡ false → k < 2 ^ 64 → Lacks 10 (word ++ decimal k)
 keyed word k none h = lacks_append 10 word (decimal k) (lacks_by 10 word none) (number k h)
 
+pub plain_caller : (n : ℕ) → n < 2 ^ 64 → Lacks 10 (codes "caller " ++ decimal n)
+plain_caller n h = keyed (codes "caller ") n refl h
+
 pub plain_call : (version : Version) (op : Op) → IsCall version op → Lacks 10 (call_line op)
 plain_call version (Get k) h = keyed (codes "get ") k refl h
 plain_call version (Del k) h = keyed (codes "del ") k refl h
@@ -67,15 +70,15 @@ plain_call version (Swap k v w) h =
     (spaced (codes "swap " ++ decimal k) (decimal v) (keyed (codes "swap ") k refl h.1) (value v (value_small version v h.2)))
     (value w (value_small version w h.3))
 
-plain_calls : (version : Version) (ops : List Op) → AllByRecursion (IsCall version) ops → Plain (map call_line ops)
+pub plain_calls : (version : Version) (ops : List Op) → AllByRecursion (IsCall version) ops → Plain (map call_line ops)
 plain_calls version [] h = tt
 plain_calls version (op ∷ ops) h = (plain_call version op h.0, plain_calls version ops h.1)
 
-plain_script : (version : Version) (s : List (List Op)) → AllByRecursion (AllByRecursion (IsCall version)) s → Plain (script_lines s)
+pub plain_script : (version : Version) (s : List (List Op)) → AllByRecursion (AllByRecursion (IsCall version)) s → Plain (script_lines s)
 plain_script version [] h = tt
 plain_script version (ops ∷ s) h = (lacks_by 10 (codes "caller") refl, plain_append (map call_line ops) (script_lines s) (plain_calls version ops h.0) (plain_script version s h.1))
 
-plain_version : (version : Version) → Plain (version_line version)
+pub plain_version : (version : Version) → Plain (version_line version)
 plain_version First = tt
 plain_version Second = (lacks_by 10 (codes "script 2") refl, tt)
 
@@ -90,22 +93,22 @@ plain_reply x h = spaced (decimal x.0) (reply_word x.1) (number x.0 h.0) (plain_
 pub plain_pair : (x : ℕ × ℕ) → x.0 < 2 ^ 64 → x.1 < 2 ^ 128 → Lacks 10 (pair_line x)
 plain_pair x k v = spaced (decimal x.0) (decimal x.1) (number x.0 k) (value x.1 v)
 
-plain_replies : (rs : List (ℕ × Reply)) → AllByRecursion IsAnswered rs → Plain (map reply_line rs)
+pub plain_replies : (rs : List (ℕ × Reply)) → AllByRecursion IsAnswered rs → Plain (map reply_line rs)
 plain_replies [] h = tt
 plain_replies (r ∷ rs) h = (plain_reply r h.0, plain_replies rs h.1)
 
-plain_pairs : (n : ℕ) (ps : List (ℕ × ℕ)) → AscendFrom n ps → Plain (map pair_line ps)
+pub plain_pairs : (n : ℕ) (ps : List (ℕ × ℕ)) → AscendFrom n ps → Plain (map pair_line ps)
 plain_pairs n [] h = tt
 plain_pairs n (p ∷ ps) h = (plain_pair p h.1 h.2, plain_pairs (p.0 + 1) ps h.3)
 
-plain_callers : (n : ℕ) (cs : List (List (ℕ × Reply))) → n + length cs ≤ 1024 → AllByRecursion (AllByRecursion IsAnswered) cs → Plain (callers_from n cs)
+pub plain_callers : (n : ℕ) (cs : List (List (ℕ × Reply))) → n + length cs ≤ 1024 → AllByRecursion (AllByRecursion IsAnswered) cs → Plain (callers_from n cs)
 plain_callers n [] few h = tt
 plain_callers n (c ∷ cs) few h = (
   lacks_append 10 (codes "caller ") (decimal n) (lacks_by 10 (codes "caller ") refl) (number n (omega arith)),
   plain_append (map reply_line c) (callers_from (n + 1) cs) (plain_replies c h.0) (plain_callers (n + 1) cs (omega arith) h.1),
 )
 
-plain_map : (ps : List (ℕ × ℕ)) → AscendFrom 0 ps → Plain (map_lines ps)
+pub plain_map : (ps : List (ℕ × ℕ)) → AscendFrom 0 ps → Plain (map_lines ps)
 plain_map ps h = (lacks_by 10 (codes "map") refl, plain_append (map pair_line ps) (codes "end" ∷ []) (plain_pairs 0 ps h) (lacks_by 10 (codes "end") refl, tt))
 
 -- the lines of a text of lines
@@ -113,22 +116,24 @@ pub lines_again : (ls : List (List ℕ)) → Plain ls → lines_of (text_of ls) 
 lines_again [] h = refl
 lines_again (l ∷ ls) h = ap lines_of (append_assoc l (10 ∷ []) (text_of ls)) ∙ (lines_first l (text_of ls) h.0 ∙ ap (λ ms. l ∷ ms) (lines_again ls h.1))
 
-few_callers : (version : Version) (n : ℕ) → n ≤ callers_limit version → n ≤ 1024
+pub few_callers : (version : Version) (n : ℕ) → n ≤ callers_limit version → n ≤ 1024
 few_callers First n h = omega arith
 few_callers Second n h = h
 
-pub written_read : (version : Version) (s : List (List Op)) (run : Run) → IsScript version s → IsRunOf s run → CheckedIn version (text_of (version_line version ++ (script_lines s ++ codes "run" ∷ run_lines run))) s run
-written_read version s run is of =
+pub plain_whole : (version : Version) (s : List (List Op)) (run : Run) → IsScript version s → IsRunOf s run → Plain (version_line version ++ (script_lines s ++ codes "run" ∷ run_lines run))
+plain_whole version s run is of =
     let many : length run.callers ≡ length s = sym (length-map run.callers (λ (ls : List (ℕ × Reply)). length ls)) ∙ (ap (λ (ns : List ℕ). length ns) of.shape ∙ length-map s (λ (ops : List Op). length ops)) in
     let few : 0 + length run.callers ≤ 1024 = (let m = few_callers version (length s) is.callers in omega arith) in
-    record {
-      is_script = is;
-      is_run = of;
-      lines_are = lines_again (version_line version ++ (script_lines s ++ codes "run" ∷ run_lines run))
-          (plain_append (version_line version) (script_lines s ++ codes "run" ∷ run_lines run) (plain_version version)
-          (plain_append (script_lines s) (codes "run" ∷ run_lines run) (plain_script version s is.each)
-          (lacks_by 10 (codes "run") refl, plain_append (callers_from 0 run.callers) (map_lines run.pairs) (plain_callers 0 run.callers few of.each) (plain_map run.pairs of.ascend))));
-    }
+    plain_append (version_line version) (script_lines s ++ codes "run" ∷ run_lines run) (plain_version version)
+    (plain_append (script_lines s) (codes "run" ∷ run_lines run) (plain_script version s is.each)
+    (lacks_by 10 (codes "run") refl, plain_append (callers_from 0 run.callers) (map_lines run.pairs) (plain_callers 0 run.callers few of.each) (plain_map run.pairs of.ascend)))
+
+pub written_read : (version : Version) (s : List (List Op)) (run : Run) → IsScript version s → IsRunOf s run → CheckedIn version (text_of (version_line version ++ (script_lines s ++ codes "run" ∷ run_lines run))) s run
+written_read version s run is of = record {
+  is_script = is;
+  is_run = of;
+  lines_are = lines_again (version_line version ++ (script_lines s ++ codes "run" ∷ run_lines run)) (plain_whole version s run is of);
+}
 
 -- the text of the lines of a text is that text, with a byte 10 at its end
 abbrev Whole : List ℕ → List ℕ → Type 0

@@ -1,6 +1,6 @@
 -- Lines at the front of bytes, and how many bytes they take.
-use Rattle.std.proofs.Common.{ℕ, zero, suc, ◌≡◌, ◌+◌, ◌-◌, ◌<◌, ◌≤◌, List, [], ◌∷◌, ◌++◌, take, drop, length, map, get_or, refl, sym, ap, subst, ◌∙◌, append_assoc, arith, length-append, length-drop}
-use Rattle.std.proofs.lemmas.List.{append-nil, take-append-drop, take_at, length-take-le}
+use Rattle.std.proofs.Common.{ℕ, suc, ◌≡◌, ◌+◌, ◌-◌, ◌<◌, ◌≤◌, List, [], ◌∷◌, ◌++◌, take, drop, length, map, get_or, refl, sym, ap, ◌∙◌, append_assoc, arith, length-append, length-drop}
+use Rattle.std.proofs.lemmas.List.{take-append-drop, take_at, drop_at}
 use Rattle.ks_script.specs.Lines.{ended, text_of}
 use Rattle.ks_script.specs.Answers.{next_key}
 use Rattle.ks_script.proofs.Texts.{text_map_push}
@@ -37,3 +37,13 @@ next_last n (x ∷ y ∷ xs) d h =
     let here : length (x ∷ y ∷ xs) - 1 ≡ suc (length xs) = omega arith in
     let below : length (y ∷ xs) - 1 ≡ length xs = omega arith in
     next_last (x.0 + 1) (y ∷ xs) d (omega arith) ∙ (ap (λ k. (get_or (y ∷ xs) k d).0 + 1) below ∙ ap (λ k. (get_or (x ∷ y ∷ xs) k d).0 + 1) (sym here))
+
+-- lists that are equal, less as much in front
+pub same_back : (a x y : List ℕ) → a ++ x ≡ a ++ y → x ≡ y
+same_back a x y e = sym (drop_at a x (length a) refl) ∙ (ap (drop (length a)) e ∙ drop_at a y (length a) refl)
+
+-- and the rest comes behind the first bytes
+pub took_behind : (old new bytes rest : List ℕ) (n : ℕ) → old ++ bytes ≡ new ++ rest → length rest ≤ length bytes → n ≡ length bytes - length rest → rest ≡ drop n bytes
+took_behind old new bytes rest n e h count =
+    same_back new rest (drop n bytes)
+    (sym e ∙ (ap (λ (x : List ℕ). old ++ x) (sym (take-append-drop n bytes)) ∙ (sym (append_assoc old (take n bytes) (drop n bytes)) ∙ ap (λ (x : List ℕ). x ++ drop n bytes) (took_front old new bytes rest n e h count))))

@@ -26,6 +26,10 @@ abbrev pub next_key : ℕ → List (ℕ × ℕ) → ℕ
 next_key n [] = n
 next_key n (x ∷ xs) = next_key (x.0 + 1) xs
 
+-- the key is n at least, and the key has 64 bits and the value 128
+abbrev pub IsPairFrom : ℕ → ℕ × ℕ → Type 0
+IsPairFrom n x = (n ≤ x.0) × (x.0 < 2 ^ 64) × (x.1 < 2 ^ 128)
+
 -- the text is these replies, as many as are wanted, and then the rest, which does not go on with one
 pub record RepliesThen (bytes : List ℕ) (wanted : ℕ) (replies : List (ℕ × Reply)) (rest : List ℕ) : Type 0 where
   pub each : AllByRecursion IsAnswered replies

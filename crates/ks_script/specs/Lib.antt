@@ -12,8 +12,9 @@ pub mod Answers
 pub mod RunParts
 pub mod Eight
 pub mod Streams
+pub mod Parts
 pub mod PackedCalls
 pub mod PackedLines
 pub mod Drafts
-pub mod Quick
+pub mod OnePass
 pub mod Numeral

@@ -1,22 +1,34 @@
 -- What the small calls of a caller stand for.
-use Rattle.std.specs.Prelude.{ℕ, ◌<◌, List, length, slice_index_or, ⊤}
+use Rattle.std.specs.Prelude.{◌≡◌, ◌<◌, length, slice_index_or, ⊤}
 use Rattle.ks_history.specs.declared.Op.{Op}
 use Rattle.ks_history.specs.declared.Op.TheVariants as op
+use Rattle.ks_script.specs.declared.packed_calls.LongCalls.{LongCalls}
 use Rattle.ks_script.specs.declared.packed_calls.SmallCall.{SmallCall}
-use Rattle.ks_script.specs.declared.packed_calls.SmallCall.TheVariants.{Get, Put, Del, GreatPut, Other}
+use Rattle.ks_script.specs.declared.packed_calls.SmallCall.TheVariants.{Get, Put, Del, LongGet, LongPut, LongDel, WidePut, Other}
+use Rattle.ks_script.specs.Parts.{joined}
 
--- the call that a small one stands for, beside the great values and the others
-abbrev pub call_in : List ℕ → List Op → SmallCall → Op
-call_in greats others (Get key) = op.Get key
-call_in greats others (Put key value) = op.Put key value
-call_in greats others (Del key) = op.Del key
-call_in greats others (GreatPut key place) = op.Put key (slice_index_or greats place 0)
-call_in greats others (Other place) = slice_index_or others place (op.Get 0)
+-- the call that a small one stands for, beside the longer ones
+abbrev pub call_in : LongCalls → SmallCall → Op
+call_in long (Get key) = op.Get key
+call_in long (Put high low value) = op.Put (joined high low) value
+call_in long (Del key) = op.Del key
+call_in long (LongGet at) = op.Get (slice_index_or long.pairs.items at (0, 0)).0
+call_in long (LongPut at) = op.Put (slice_index_or long.pairs.items at (0, 0)).0 (slice_index_or long.pairs.items at (0, 0)).1
+call_in long (LongDel at) = op.Del (slice_index_or long.pairs.items at (0, 0)).0
+call_in long (WidePut at) = op.Put (slice_index_or long.wides.items at (0, 0)).0 (slice_index_or long.wides.items at (0, 0)).1
+call_in long (Other at) = slice_index_or long.others.items at (op.Get 0)
 
--- where it names a place, a value or a call is there
-abbrev pub IsCallIn : List ℕ → List Op → SmallCall → Type 0
-IsCallIn greats others (Get key) = ⊤
-IsCallIn greats others (Put key value) = ⊤
-IsCallIn greats others (Del key) = ⊤
-IsCallIn greats others (GreatPut key place) = place < length greats
-IsCallIn greats others (Other place) = place < length others
+-- where it names a place, a call is there
+abbrev pub IsCallIn : LongCalls → SmallCall → Type 0
+IsCallIn long (Get key) = ⊤
+IsCallIn long (Put high low value) = ⊤
+IsCallIn long (Del key) = ⊤
+IsCallIn long (LongGet at) = at < length long.pairs.items
+IsCallIn long (LongPut at) = at < length long.pairs.items
+IsCallIn long (LongDel at) = at < length long.pairs.items
+IsCallIn long (WidePut at) = at < length long.wides.items
+IsCallIn long (Other at) = at < length long.others.items
+
+-- what stood for a call stands for it still
+abbrev pub KeepsCalls : LongCalls → LongCalls → Type 0
+KeepsCalls old new = (s : SmallCall) → IsCallIn old s → IsCallIn new s × (call_in new s ≡ call_in old s)

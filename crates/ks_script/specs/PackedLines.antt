@@ -1,22 +1,30 @@
 -- What the small lines of a caller stand for.
-use Rattle.std.specs.Prelude.{ℕ, ◌<◌, List, length, slice_index_or, ⊤}
+use Rattle.std.specs.Prelude.{ℕ, ◌≡◌, ◌<◌, length, slice_index_or, ⊤}
 use Rattle.ks_history.specs.declared.Reply.{Reply}
 use Rattle.ks_history.specs.declared.Reply.TheVariants as reply
+use Rattle.ks_script.specs.declared.packed_lines.LongLines.{LongLines}
 use Rattle.ks_script.specs.declared.packed_lines.SmallLine.{SmallLine}
-use Rattle.ks_script.specs.declared.packed_lines.SmallLine.TheVariants.{Nothing, Value, Full, Great, Other}
+use Rattle.ks_script.specs.declared.packed_lines.SmallLine.TheVariants.{Nothing, Value, Full, LongValue, WideValue, Other}
+use Rattle.ks_script.specs.Parts.{joined}
 
--- the line that a small one stands for, beside the great values and the others
-abbrev pub line_in : List ℕ → List (ℕ × Reply) → SmallLine → ℕ × Reply
-line_in greats others (Nothing number) = (number, reply.Nothing)
-line_in greats others (Value number value) = (number, reply.Value value)
-line_in greats others (Full number) = (number, reply.Full)
-line_in greats others (Great number at) = (number, reply.Value (slice_index_or greats at 0))
-line_in greats others (Other at) = slice_index_or others at (0, reply.Nothing)
+-- the line that a small one stands for, beside what the longer ones tell
+abbrev pub line_in : LongLines → SmallLine → ℕ × Reply
+line_in long (Nothing number) = (number, reply.Nothing)
+line_in long (Value high low value) = (joined high low, reply.Value value)
+line_in long (Full number) = (number, reply.Full)
+line_in long (LongValue high low at) = (joined high low, reply.Value (slice_index_or long.values.items at 0))
+line_in long (WideValue high low at) = (joined high low, reply.Value (slice_index_or long.wides.items at 0))
+line_in long (Other at) = slice_index_or long.others.items at (0, reply.Nothing)
 
 -- where it names a place, a value or a line is there
-abbrev pub IsLineIn : List ℕ → List (ℕ × Reply) → SmallLine → Type 0
-IsLineIn greats others (Nothing number) = ⊤
-IsLineIn greats others (Value number value) = ⊤
-IsLineIn greats others (Full number) = ⊤
-IsLineIn greats others (Great number at) = at < length greats
-IsLineIn greats others (Other at) = at < length others
+abbrev pub IsLineIn : LongLines → SmallLine → Type 0
+IsLineIn long (Nothing number) = ⊤
+IsLineIn long (Value high low value) = ⊤
+IsLineIn long (Full number) = ⊤
+IsLineIn long (LongValue high low at) = at < length long.values.items
+IsLineIn long (WideValue high low at) = at < length long.wides.items
+IsLineIn long (Other at) = at < length long.others.items
+
+-- what stood for a line stands for it still
+abbrev pub KeepsLines : LongLines → LongLines → Type 0
+KeepsLines old new = (s : SmallLine) → IsLineIn old s → IsLineIn new s × (line_in new s ≡ line_in old s)

@@ -3,10 +3,10 @@
 ghost use Rattle.std.specs.Prelude.{◌≢◌, ℕ, ◌≡◌, ◌+◌, ◌*◌, ◌≤◌, ◌<◌, ◌^◌, ◌∷◌, ◌++◌, length, map, codes, IfOk, IfSome, IfNone, Err};
 ghost use Rattle.std.specs.Fmt.{decimal};
 ghost use Rattle.ks_history.specs.declared.Reply.{Reply};
-ghost use Rattle.ks_script.specs.Lines.{lines_of};
+ghost use Rattle.ks_script.specs.Lines.{lines_of, NoLine};
 ghost use Rattle.ks_script.specs.Run.{reply_line, pair_line, callers_from};
 ghost use Rattle.ks_script.specs.Checked.{IsAnswered};
-ghost use Rattle.ks_script.specs.Answers.{NotFirst, NoReply, NoPair, RepliesThen, PairsThen, SpellAnswers, AnswersThen, RefusedFrom};
+ghost use Rattle.ks_script.specs.Answers.{NotFirst, NoReply, NoPair, IsPairFrom, RepliesThen, PairsThen, SpellAnswers, AnswersThen, RefusedFrom};
 
 use crate::TextFault;
 use crate::numeral::{leading, leading_pair, leading_value};
@@ -60,6 +60,7 @@ fn reply_of(line: &[u8]) -> Option<(u64, Reply)>
 }
 
 /// The number and the reply on the first line, if a byte 10 ends the line, and the bytes after the line.
+#[inline(always)]
 pub(crate) fn plain_reply(bytes: &[u8]) -> Option<((u64, Reply), &[u8])>
     ensures some { IfSome result (λ x. IsAnswered x.0 × (bytes.now ≡ reply_line x.0 ++ 10 ∷ x.1.now)) }
 {
@@ -76,6 +77,18 @@ pub(crate) fn plain_reply(bytes: &[u8]) -> Option<((u64, Reply), &[u8])>
     let (value, rest) = leading_value(word)?;
     let rest = after_byte(rest, b'\n')?;
     Some(((number, Reply::Value(value)), rest))
+}
+
+// The same, cut out and read by its parts.
+#[cold]
+#[inline(never)]
+pub(crate) fn reply_by_parts(bytes: &[u8]) -> Option<((u64, Reply), &[u8])>
+    ensures some { IfSome result (λ x. IsAnswered x.0 × (bytes.now ≡ reply_line x.0 ++ 10 ∷ x.1.now)) }
+    ensures none { IfNone result (NoLine IsAnswered reply_line bytes.now) }
+{
+    let (line, rest) = cut(bytes, b'\n')?;
+    let reply = reply_of(line)?;
+    Some((reply, rest))
 }
 
 // The number and the reply on the first line, and the bytes after the line. A last line that no byte 10 ends is read by
@@ -112,6 +125,33 @@ fn read_replies(
         rest = more;
     }
     Ok((replies, rest))
+}
+
+// The key and the value on the first line, which is cut out and read by its parts, if a byte 10 ends it; and the bytes
+// after the line.
+#[cold]
+#[inline(never)]
+fn pair_by_parts(bytes: &[u8]) -> Option<((u64, u128), &[u8])>
+    ensures some { IfSome result (λ x. bytes.now ≡ pair_line x.0 ++ 10 ∷ x.1.now) }
+    ensures fits { IfSome result (λ x. (x.0.0 < 2 ^ 64) × (x.0.1 < 2 ^ 128)) }
+    ensures none { IfNone result (NoLine (IsPairFrom 0) pair_line bytes.now) }
+{
+    let (line, rest) = cut(bytes, b'\n')?;
+    let pair = key_and_value(line)?;
+    Some((pair, rest))
+}
+
+/// The same, read in one pass, and by its parts only where that gives none.
+#[inline(always)]
+pub(crate) fn ended_pair(bytes: &[u8]) -> Option<((u64, u128), &[u8])>
+    ensures some { IfSome result (λ x. bytes.now ≡ pair_line x.0 ++ 10 ∷ x.1.now) }
+    ensures fits { IfSome result (λ x. (x.0.0 < 2 ^ 64) × (x.0.1 < 2 ^ 128)) }
+    ensures none { IfNone result (NoLine (IsPairFrom 0) pair_line bytes.now) }
+{
+    if let Some((pair, rest)) = leading_pair(bytes) {
+        return Some((pair, rest));
+    }
+    pair_by_parts(bytes)
 }
 
 // The key and the value on the first line, and the bytes after the line. A last line that no byte 10 ends is read by its

@@ -3,7 +3,7 @@
 ghost use Rattle.std.specs.Prelude.{◌≢◌, ℕ, ◌≡◌, ◌<◌, ◌^◌, ◌∷◌, ◌++◌, length, codes, IfSome, IfNone};
 ghost use Rattle.std.specs.Fmt.{decimal};
 ghost use Rattle.ks_history.specs.declared.Op.{Op};
-ghost use Rattle.ks_script.specs.Lines.{lines_of};
+ghost use Rattle.ks_script.specs.Lines.{lines_of, NoLine};
 ghost use Rattle.ks_script.specs.Version.{value_limit, AddsAndSwaps};
 ghost use Rattle.ks_script.specs.Script.{IsCall, call_line};
 ghost use Rattle.ks_script.specs.Run.{pair_line};
@@ -120,6 +120,7 @@ fn plain_add_or_swap(version: Version, bytes: &[u8]) -> Option<(Op, &[u8])>
 }
 
 /// The call of the version on the first line, if a byte 10 ends the line, and the bytes after the line.
+#[inline(always)]
 pub(crate) fn plain_call(version: Version, bytes: &[u8]) -> Option<(Op, &[u8])>
     ensures some { IfSome result (λ x. IsCall version x.0 × (bytes.now ≡ call_line x.0 ++ 10 ∷ x.1.now)) }
 {
@@ -139,6 +140,19 @@ pub(crate) fn plain_call(version: Version, bytes: &[u8]) -> Option<(Op, &[u8])>
         return plain_add_or_swap(version, bytes);
     }
     None
+}
+
+// The call of the version on the first line, which is cut out and read by its parts, if a byte 10 ends it; and the bytes
+// after the line.
+#[cold]
+#[inline(never)]
+pub(crate) fn call_by_parts(version: Version, bytes: &[u8]) -> Option<(Op, &[u8])>
+    ensures some { IfSome result (λ x. IsCall version x.0 × (bytes.now ≡ call_line x.0 ++ 10 ∷ x.1.now)) }
+    ensures none { IfNone result (NoLine (IsCall version) call_line bytes.now) }
+{
+    let (line, rest) = cut(bytes, b'\n')?;
+    let op = call_of(version, line)?;
+    Some((op, rest))
 }
 
 /// The call of the version on the first line, and the bytes after the line. The call is read in one pass

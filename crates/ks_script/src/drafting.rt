@@ -1,17 +1,16 @@
 //! Reads a script and a run of it through a window, as far as each line stands there whole and fits.
 
-ghost use Rattle.std.specs.Prelude.{ℕ, ◌≡◌, ◌≤◌, List, length, map, IfOk, IsErrOf, IsTrue};
+ghost use Rattle.std.specs.Prelude.{ℕ, ◌≡◌, ◌≤◌, ◌⊎◌, ◌↔◌, List, [], length, codes, IfOk, OnErr, IsErrOf, IsTrue};
 ghost use Rattle.std.specs.List.{AllByRecursion};
-ghost use Rattle.ks_history.specs.declared.Op.{Op};
-ghost use Rattle.ks_history.specs.declared.Reply.{Reply};
-ghost use Rattle.ks_script.specs.Lines.{text_of};
+ghost use Rattle.ks_script.specs.declared.version.Version.TheVariants.{First};
+ghost use Rattle.ks_script.specs.Lines.{text_of, NoFront};
 ghost use Rattle.ks_script.specs.Version.{version_line};
 ghost use Rattle.ks_script.specs.Script.{IsScript, script_lines};
 ghost use Rattle.ks_script.specs.Run.{callers_from};
-ghost use Rattle.ks_script.specs.Checked.{IsAnswered, IsRunOf};
+ghost use Rattle.ks_script.specs.Checked.{IsAnswered, IsRunOf, AreWritten};
 ghost use Rattle.ks_script.specs.Outside.{Rose};
-ghost use Rattle.ks_script.specs.Streams.{TookOut};
-ghost use Rattle.ks_script.specs.Drafts.{draft_lines};
+ghost use Rattle.ks_script.specs.Streams.{may_come, TookOut, HasEnough, Behind, AreAhead, GoneWithin};
+ghost use Rattle.ks_script.specs.Drafts.{draft_lines, NoMore, NoAnswers, counts};
 ghost use Rattle.ks_script.specs.declared.draft.Reached.TheVariants.{End};
 
 use crate::draft::{Draft, Reached};
@@ -26,7 +25,10 @@ use std::alloc::Global;
 fn take_version<S: Source>(window: &mut Window, source: &mut S) -> Result<Version, Halt>
     ensures text { IfOk result (λ version.
         TookOut (S.left source.old) window.old (S.left source.new) window.new (text_of (version_line version))) }
-    ensures most { window.new.most ≡ window.old.most }
+    ensures first { IfOk result (λ version. version ≡ First →
+        Behind (S.left source.old) window.old [] (NoFront (codes "script 2\n"))) }
+    ensures most { may_come window.new ≡ may_come window.old }
+    ensures gone { OnErr result (GoneWithin (S.left source.old) window.old (S.left source.new)) }
     ensures failed { IsErrOf result Halt.Failed → Rose (S.faults source.old) (S.faults source.new) }
     ensures count { S.faults source.old ≤ S.faults source.new }
 {
@@ -46,7 +48,10 @@ fn take_script<S: Source>(
     ensures is { IfOk result (λ callers. IsScript version callers.items) }
     ensures text { IfOk result (λ callers.
         TookOut (S.left source.old) window.old (S.left source.new) window.new (text_of (script_lines callers.items))) }
-    ensures most { window.new.most ≡ window.old.most }
+    ensures stops { IfOk result (λ callers.
+        Behind (S.left source.old) window.old (text_of (script_lines callers.items)) (NoMore version callers.items)) }
+    ensures most { may_come window.new ≡ may_come window.old }
+    ensures gone { OnErr result (GoneWithin (S.left source.old) window.old (S.left source.new)) }
     ensures failed { IsErrOf result Halt.Failed → Rose (S.faults source.old) (S.faults source.new) }
     ensures count { S.faults source.old ≤ S.faults source.new }
 {
@@ -66,7 +71,7 @@ fn take_script<S: Source>(
     Ok(callers)
 }
 
-// Takes the lines of callers out, as far as they come in turn.
+// Takes the lines of callers out, as long as they come in turn and each call has its line.
 fn take_answers<S: Source>(
     alloc: Global,
     window: &mut Window,
@@ -76,7 +81,12 @@ fn take_answers<S: Source>(
     ensures each { IfOk result (λ lines. AllByRecursion (AllByRecursion IsAnswered) lines.items) }
     ensures text { IfOk result (λ lines.
         TookOut (S.left source.old) window.old (S.left source.new) window.new (text_of (callers_from 0 lines.items))) }
-    ensures most { window.new.most ≡ window.old.most }
+    ensures many { IfOk result (λ lines. length lines.items ≤ length callers.now) }
+    ensures stops { IfOk result (λ lines. (counts lines.items ≡ counts callers.now) ⊎
+        Behind (S.left source.old) window.old (text_of (callers_from 0 lines.items))
+        (NoAnswers (counts callers.now) lines.items)) }
+    ensures most { may_come window.new ≡ may_come window.old }
+    ensures gone { OnErr result (GoneWithin (S.left source.old) window.old (S.left source.new)) }
     ensures failed { IsErrOf result Halt.Failed → Rose (S.faults source.old) (S.faults source.new) }
     ensures count { S.faults source.old ≤ S.faults source.new }
 {
@@ -86,16 +96,20 @@ fn take_answers<S: Source>(
             return Ok(lines);
         }
         let replies = take_replies(alloc, window, source, calls.len())?;
+        let few = replies.len() < calls.len();
         let Ok(()) = lines.push(replies) else {
             return Err(Halt::Memory);
         };
+        if few {
+            return Ok(lines);
+        }
     }
     Ok(lines)
 }
 
 // Whether each caller has a line for each of its calls.
 fn are_answered(callers: &[Calls], lines: &[Lines]) -> bool
-    ensures { IsTrue result → map (λ (x : List (ℕ × Reply)). length x) lines.now ≡ map (λ (x : List Op). length x) callers.now }
+    ensures { IsTrue result ↔ (counts lines.now ≡ counts callers.now) }
 {
     if lines.len() != callers.len() {
         return false;
@@ -119,7 +133,11 @@ pub(crate) fn take_draft<S: Source>(
         IsRunOf draft.callers.items (record { callers = draft.lines.items; pairs = draft.pairs.items })) }
     ensures text { IfOk result (λ draft.
         TookOut (S.left source.old) window.old (S.left source.new) window.new (text_of (draft_lines draft))) }
-    ensures most { window.new.most ≡ window.old.most }
+    ensures whole { IfOk result (λ draft. (bytes : List ℕ) →
+        AreAhead bytes (S.left source.old) window.old → AreWritten bytes → draft.reached ≡ End) }
+    ensures enough { IfOk result (λ draft. draft.reached ≡ End → HasEnough 4 window.new) }
+    ensures most { may_come window.new ≡ may_come window.old }
+    ensures gone { OnErr result (GoneWithin (S.left source.old) window.old (S.left source.new)) }
     ensures failed { IsErrOf result Halt.Failed → Rose (S.faults source.old) (S.faults source.new) }
     ensures count { S.faults source.old ≤ S.faults source.new }
 {

@@ -6,6 +6,7 @@
 #![tactic(auto)]
 
 mod answers;
+mod appending;
 mod calls;
 mod checked;
 mod draft;
@@ -20,12 +21,13 @@ mod memory;
 mod numeral;
 mod one_pass;
 mod outside;
+mod packed;
 mod packed_calls;
 mod packed_lines;
+mod parts;
 mod pieces;
 mod plain;
 mod printed;
-mod quick;
 mod respell;
 mod script;
 mod source;
@@ -41,11 +43,11 @@ pub use line::send_line;
 pub use memory::{CleanSink, CleanSource, MemSink, MemSource};
 pub use one_pass::read_packed;
 pub use outside::{Sink, Source};
+pub use packed::{InOnePass, Packed};
 pub use packed_calls::Calls;
 pub use packed_lines::Lines;
 pub use pieces::send;
 pub use printed::{Printed, write_run};
-pub use quick::{Packed, Quick};
 pub use script::{Script, read_script};
 pub use source::{read_all, read_rest};
 pub use version::Version;

@@ -1,31 +1,45 @@
-//! The calls of one caller in little room: most take 24 bytes, a Put of a greater value 16 more, and an Add or a Swap, of
-//! which there are few, has its place in a list of their own.
+//! The calls of one caller in little room: 8 bytes for a Get or a Del of a key below 2^32, and for a Put of a key below 2^24
+//! and a value below 2^32; of others 8 bytes tell where they stand in a list of their kind.
 
 ghost use Rattle.std.specs.Prelude.{ℕ, ◌≡◌, ◌==◌, ◌<◌, List, [], ◌∷◌, ◌++◌, length, slice_index_or, IfOk, IfSome, OnOk, OnErr};
-ghost use Rattle.ks_history.specs.declared.Op.{Op};
 ghost use Rattle.ks_history.specs.declared.Op.TheVariants.{Get};
-ghost use Rattle.ks_script.specs.PackedCalls.{call_in, IsCallIn};
+ghost use Rattle.ks_script.specs.PackedCalls.{call_in, IsCallIn, KeepsCalls};
 
+use crate::appending::appended_at;
+use crate::parts::{joined, parts};
 use ks_history::Op;
 use std::alloc::{AllocError, Global};
 use std::marker::Model;
 
-/// A Get, a Del, a Put of a value below 2^64, a Put of the great value at a place, or the other call at a place.
+/// A short call, or the place of a longer one in the list of its kind.
 #[derive(Clone, Copy, Debug, PartialEq, Eq)]
 pub enum SmallCall {
-    Get(u64),
-    Put(u64, u64),
-    Del(u64),
-    GreatPut(u64, usize),
-    Other(usize),
+    Get { key: u32 },
+    Put { high: u8, low: u16, value: u32 },
+    Del { key: u32 },
+    LongGet { at: u32 },
+    LongPut { at: u32 },
+    LongDel { at: u32 },
+    WidePut { at: u32 },
+    Other { at: u32 },
+}
+
+/// The longer calls of one caller, by kinds.
+#[derive(Drop)]
+pub struct LongCalls {
+    /// The key and the value of a Put; the key of a Get or a Del.
+    pairs: Vec<(u64, u64)>,
+    /// The key and the value of a Put of a value from 2^64 on.
+    wides: Vec<(u64, u128)>,
+    /// Calls of all other kinds.
+    others: Vec<Op>,
 }
 
 /// The calls of one caller, in their order.
 #[derive(Drop)]
 pub struct Calls {
     small: Vec<SmallCall>,
-    greats: Vec<u128>,
-    others: Vec<Op>,
+    long: LongCalls,
 }
 
 impl Model for Calls {
@@ -35,27 +49,78 @@ impl Model for Calls {
 
     ghost Value = { List Op };
 
-    ghost view = { λ c. map (call_in c.greats.items c.others.items) c.small.items };
+    ghost view = { λ c. map (call_in c.long) c.small.items };
 
-    ghost invariant = { λ c. All (IsCallIn c.greats.items c.others.items) c.small.items };
+    ghost invariant = { λ c. All (IsCallIn c.long) c.small.items };
 }
 
-// The small call that stands for a call, if it needs no place among the great values or the others.
+// The small call that is this one, if it is short.
 #[inline(always)]
 fn small_of(op: Op) -> Option<SmallCall>
-    ensures stands { IfSome result (λ s. (greats : List ℕ) (others : List Op) → call_in greats others s ≡ op) }
-    ensures fits { IfSome result (λ s. (greats : List ℕ) (others : List Op) → IsCallIn greats others s) }
+    ensures stands { IfSome result (λ s. (long : LongCalls) → call_in long s ≡ op) }
+    ensures fits { IfSome result (λ s. (long : LongCalls) → IsCallIn long s) }
 {
     match op {
-        Op::Get(key) => Some(SmallCall::Get(key)),
+        Op::Get(key) => Some(SmallCall::Get {
+            key: u32::try_from(key).ok()?,
+        }),
         Op::Put(key, value) => {
-            if value > u128::from(u64::MAX) {
-                return None;
-            }
-            Some(SmallCall::Put(key, value as u64))
+            let (high, low) = parts(key)?;
+            Some(SmallCall::Put {
+                high,
+                low,
+                value: u32::try_from(value).ok()?,
+            })
         }
-        Op::Del(key) => Some(SmallCall::Del(key)),
+        Op::Del(key) => Some(SmallCall::Del {
+            key: u32::try_from(key).ok()?,
+        }),
         Op::Add(..) | Op::Swap(..) => None,
+    }
+}
+
+impl LongCalls {
+    ghost use Rattle.ks_script.specs.declared.packed_calls.LongCalls.{LongCalls};
+
+    fn new(alloc: Global) -> LongCalls {
+        LongCalls {
+            pairs: Vec::new(alloc),
+            wides: Vec::new(alloc),
+            others: Vec::new(alloc),
+        }
+    }
+
+    // Keeps a call, and answers with the small one that stands for it.
+    #[inline(always)]
+    fn keep(&mut self, op: Op) -> Result<SmallCall, AllocError>
+        ensures stands { IfOk result (λ s. call_in self.new s ≡ op) }
+        ensures fits { IfOk result (IsCallIn self.new) }
+        ensures others { KeepsCalls self.old self.new }
+    {
+        match op {
+            Op::Get(key) => {
+                let at = appended_at(&mut self.pairs, (key, 0))?;
+                Ok(SmallCall::LongGet { at })
+            }
+            Op::Put(key, value) => match u64::try_from(value) {
+                Ok(value) => {
+                    let at = appended_at(&mut self.pairs, (key, value))?;
+                    Ok(SmallCall::LongPut { at })
+                }
+                Err(_) => {
+                    let at = appended_at(&mut self.wides, (key, value))?;
+                    Ok(SmallCall::WidePut { at })
+                }
+            },
+            Op::Del(key) => {
+                let at = appended_at(&mut self.pairs, (key, 0))?;
+                Ok(SmallCall::LongDel { at })
+            }
+            Op::Add(..) | Op::Swap(..) => {
+                let at = appended_at(&mut self.others, op)?;
+                Ok(SmallCall::Other { at })
+            }
+        }
     }
 }
 
@@ -65,8 +130,7 @@ impl Calls {
     {
         Calls {
             small: Vec::new(alloc),
-            greats: Vec::new(alloc),
-            others: Vec::new(alloc),
+            long: LongCalls::new(alloc),
         }
     }
 
@@ -92,32 +156,18 @@ impl Calls {
                 self.small.push(small)?;
                 Ok(())
             }
-            None => self.push_great(op),
+            None => self.push_long(op),
         }
     }
 
-    // Puts a call behind the others, with its value behind the great ones if it is a Put.
-    fn push_great(&mut self, op: Op) -> Result<(), AllocError>
+    // Puts a longer call behind the others.
+    #[inline(always)]
+    fn push_long(&mut self, op: Op) -> Result<(), AllocError>
         ensures ok { OnOk result (self.new ≡ self.old ++ op ∷ []) }
         ensures err { OnErr result (self.new ≡ self.old) }
     {
-        let Op::Put(key, value) = op else {
-            return self.push_other(op);
-        };
-        let place = self.greats.len();
-        self.greats.push(value)?;
-        self.small.push(SmallCall::GreatPut(key, place))?;
-        Ok(())
-    }
-
-    // Puts a call behind the others, and its place behind the small calls.
-    fn push_other(&mut self, op: Op) -> Result<(), AllocError>
-        ensures ok { OnOk result (self.new ≡ self.old ++ op ∷ []) }
-        ensures err { OnErr result (self.new ≡ self.old) }
-    {
-        let place = self.others.len();
-        self.others.push(op)?;
-        self.small.push(SmallCall::Other(place))?;
+        let small = self.long.keep(op)?;
+        self.small.push(small)?;
         Ok(())
     }
 
@@ -142,11 +192,20 @@ impl Calls {
         ensures { result ≡ slice_index_or self.now at (Get 0) }
     {
         match self.small[at] {
-            SmallCall::Get(key) => Op::Get(key),
-            SmallCall::Put(key, value) => Op::Put(key, u128::from(value)),
-            SmallCall::Del(key) => Op::Del(key),
-            SmallCall::GreatPut(key, place) => Op::Put(key, self.greats[place]),
-            SmallCall::Other(place) => self.others[place],
+            SmallCall::Get { key } => Op::Get(u64::from(key)),
+            SmallCall::Put { high, low, value } => Op::Put(joined(high, low), u128::from(value)),
+            SmallCall::Del { key } => Op::Del(u64::from(key)),
+            SmallCall::LongGet { at } => Op::Get(self.long.pairs[at as usize].0),
+            SmallCall::LongPut { at } => {
+                let (key, value) = self.long.pairs[at as usize];
+                Op::Put(key, u128::from(value))
+            }
+            SmallCall::LongDel { at } => Op::Del(self.long.pairs[at as usize].0),
+            SmallCall::WidePut { at } => {
+                let (key, value) = self.long.wides[at as usize];
+                Op::Put(key, value)
+            }
+            SmallCall::Other { at } => self.long.others[at as usize],
         }
     }
 }

@@ -1,32 +1,44 @@
-//! The lines of one caller in little room: most take 16 bytes, one of a greater value 16 more, and one of a number from
-//! 2^32 on has its place in a list of their own.
+//! The lines of one caller in little room: 8 bytes for a line without a value of a number below 2^32, and for one of a
+//! number below 2^24 with a value below 2^32; others take 8 bytes beside a longer value, or beside the line itself.
 
-ghost use Rattle.std.specs.Prelude.{ℕ, ◌≡◌, ◌==◌, ◌^◌, ◌<◌, List, [], ◌∷◌, ◌++◌, length, slice_index_or, IfOk, IfSome, OnOk, OnErr};
-ghost use Rattle.ks_history.specs.declared.Reply.{Reply};
-ghost use Rattle.ks_history.specs.declared.Reply.TheVariants.{Nothing};
-ghost use Rattle.ks_script.specs.PackedLines.{line_in, IsLineIn};
+ghost use Rattle.std.specs.Prelude.{ℕ, ◌≡◌, ◌==◌, ◌^◌, ◌<◌, [], ◌∷◌, ◌++◌, length, slice_index_or, IfOk, IfSome, OnOk, OnErr};
+ghost use Rattle.ks_history.specs.declared.Reply.TheVariants.{Nothing, Value};
+ghost use Rattle.ks_script.specs.Parts.{joined};
+ghost use Rattle.ks_script.specs.PackedLines.{line_in, IsLineIn, KeepsLines};
 
+use crate::appending::appended_at;
+use crate::parts::{joined, parts};
 use ks_history::Reply;
 use std::alloc::{AllocError, Global};
 use std::marker::Model;
 
-/// A line of a number below 2^32, with a value below 2^64, the great value at a place or none; or the other line at a
-/// place.
+/// A short line, or the number of a line and the place of its longer value, or the place of a line of another kind.
 #[derive(Clone, Copy, Debug, PartialEq, Eq)]
 pub enum SmallLine {
     Nothing { number: u32 },
-    Value { number: u32, value: u64 },
+    Value { high: u8, low: u16, value: u32 },
     Full { number: u32 },
-    Great { number: u32, at: usize },
-    Other { at: usize },
+    LongValue { high: u8, low: u16, at: u32 },
+    WideValue { high: u8, low: u16, at: u32 },
+    Other { at: u32 },
+}
+
+/// What the longer lines of one caller tell, by kinds.
+#[derive(Drop)]
+pub struct LongLines {
+    /// Values below 2^64.
+    values: Vec<u64>,
+    /// Values from 2^64 on.
+    wides: Vec<u128>,
+    /// Lines of all other kinds.
+    others: Vec<(u64, Reply)>,
 }
 
 /// The lines of one caller, in their order: a number and a reply each.
 #[derive(Drop)]
 pub struct Lines {
     small: Vec<SmallLine>,
-    greats: Vec<u128>,
-    others: Vec<(u64, Reply)>,
+    long: LongLines,
 }
 
 impl Model for Lines {
@@ -36,34 +48,32 @@ impl Model for Lines {
 
     ghost Value = { List (ℕ × Reply) };
 
-    ghost view = { λ l. map (line_in l.greats.items l.others.items) l.small.items };
+    ghost view = { λ l. map (line_in l.long) l.small.items };
 
-    ghost invariant = { λ l. All (IsLineIn l.greats.items l.others.items) l.small.items };
+    ghost invariant = { λ l. All (IsLineIn l.long) l.small.items };
 }
 
-// The small line that stands for a line, if it needs no place among the great values or the others.
+// The small line that is this one, if it is short.
 #[inline(always)]
 fn small_of(number: u64, reply: &Reply) -> Option<SmallLine>
-    ensures stands { IfSome result
-        (λ s. (greats : List ℕ) (others : List (ℕ × Reply)) → line_in greats others s ≡ (number, reply.now)) }
-    ensures fits { IfSome result (λ s. (greats : List ℕ) (others : List (ℕ × Reply)) → IsLineIn greats others s) }
+    ensures stands { IfSome result (λ s. (long : LongLines) → line_in long s ≡ (number, reply.now)) }
+    ensures fits { IfSome result (λ s. (long : LongLines) → IsLineIn long s) }
 {
-    if number > u64::from(u32::MAX) {
-        return None;
-    }
-    let number = number as u32;
     match reply {
-        Reply::Nothing => Some(SmallLine::Nothing { number }),
+        Reply::Nothing => Some(SmallLine::Nothing {
+            number: u32::try_from(number).ok()?,
+        }),
         Reply::Value(value) => {
-            if *value > u128::from(u64::MAX) {
-                return None;
-            }
+            let (high, low) = parts(number)?;
             Some(SmallLine::Value {
-                number,
-                value: *value as u64,
+                high,
+                low,
+                value: u32::try_from(*value).ok()?,
             })
         }
-        Reply::Full => Some(SmallLine::Full { number }),
+        Reply::Full => Some(SmallLine::Full {
+            number: u32::try_from(number).ok()?,
+        }),
     }
 }
 
@@ -79,25 +89,66 @@ fn again(reply: &Reply) -> Reply
     }
 }
 
+impl LongLines {
+    fn new(alloc: Global) -> LongLines {
+        LongLines {
+            values: Vec::new(alloc),
+            wides: Vec::new(alloc),
+            others: Vec::new(alloc),
+        }
+    }
+
+    // Keeps a value that is not short, and answers with the small line of it.
+    #[inline(always)]
+    fn keep_value(&mut self, high: u8, low: u16, value: u128) -> Result<SmallLine, AllocError>
+        ensures stands { IfOk result (λ s. line_in self.new s ≡ (joined high low, Value value)) }
+        ensures fits { IfOk result (IsLineIn self.new) }
+        ensures others { KeepsLines self.old self.new }
+    {
+        match u64::try_from(value) {
+            Ok(value) => {
+                let at = appended_at(&mut self.values, value)?;
+                Ok(SmallLine::LongValue { high, low, at })
+            }
+            Err(_) => {
+                let at = appended_at(&mut self.wides, value)?;
+                Ok(SmallLine::WideValue { high, low, at })
+            }
+        }
+    }
+
+    // Keeps a line, and answers with the small one that stands for it.
+    #[inline(always)]
+    fn keep(&mut self, number: u64, reply: Reply) -> Result<SmallLine, AllocError>
+        ensures stands { IfOk result (λ s. line_in self.new s ≡ (number, reply)) }
+        ensures fits { IfOk result (IsLineIn self.new) }
+        ensures others { KeepsLines self.old self.new }
+    {
+        if let (Some((high, low)), Reply::Value(value)) = (parts(number), &reply) {
+            return self.keep_value(high, low, *value);
+        }
+        let at = appended_at(&mut self.others, (number, reply))?;
+        Ok(SmallLine::Other { at })
+    }
+}
+
 impl Lines {
     pub fn new(alloc: Global) -> Lines
         ensures { result ≡ [] }
     {
         Lines {
             small: Vec::new(alloc),
-            greats: Vec::new(alloc),
-            others: Vec::new(alloc),
+            long: LongLines::new(alloc),
         }
     }
 
-    /// With room for so many lines of numbers that are not great.
+    /// With room for so many lines.
     pub fn with_capacity(alloc: Global, count: usize) -> Result<Lines, AllocError>
         ensures { IfOk result (λ lines. lines ≡ []) }
     {
         Ok(Lines {
             small: Vec::with_capacity(alloc, count)?,
-            greats: Vec::new(alloc),
-            others: Vec::new(alloc),
+            long: LongLines::new(alloc),
         })
     }
 
@@ -123,36 +174,18 @@ impl Lines {
                 self.small.push(small)?;
                 Ok(())
             }
-            None => self.push_great(number, reply),
+            None => self.push_long(number, reply),
         }
     }
 
-    // Puts a line behind the others, with its value behind the great ones if its number is below 2^32.
-    fn push_great(&mut self, number: u64, reply: Reply) -> Result<(), AllocError>
+    // Puts a longer line behind the others.
+    #[inline(always)]
+    fn push_long(&mut self, number: u64, reply: Reply) -> Result<(), AllocError>
         ensures ok { OnOk result (self.new ≡ self.old ++ (number, reply) ∷ []) }
         ensures err { OnErr result (self.new ≡ self.old) }
     {
-        if number > u64::from(u32::MAX) {
-            return self.push_other(number, reply);
-        }
-        let Reply::Value(value) = reply else {
-            return self.push_other(number, reply);
-        };
-        let number = number as u32;
-        let at = self.greats.len();
-        self.greats.push(value)?;
-        self.small.push(SmallLine::Great { number, at })?;
-        Ok(())
-    }
-
-    // Puts a line behind the others, and its place behind the small lines.
-    fn push_other(&mut self, number: u64, reply: Reply) -> Result<(), AllocError>
-        ensures ok { OnOk result (self.new ≡ self.old ++ (number, reply) ∷ []) }
-        ensures err { OnErr result (self.new ≡ self.old) }
-    {
-        let at = self.others.len();
-        self.others.push((number, reply))?;
-        self.small.push(SmallLine::Other { at })?;
+        let small = self.long.keep(number, reply)?;
+        self.small.push(small)?;
         Ok(())
     }
 
@@ -177,11 +210,11 @@ impl Lines {
         ensures { result ≡ (slice_index_or self.now at (0, Nothing)).0 }
     {
         match self.small[at] {
-            SmallLine::Nothing { number }
-            | SmallLine::Value { number, .. }
-            | SmallLine::Full { number }
-            | SmallLine::Great { number, .. } => u64::from(number),
-            SmallLine::Other { at } => self.others[at].0,
+            SmallLine::Nothing { number } | SmallLine::Full { number } => u64::from(number),
+            SmallLine::Value { high, low, .. }
+            | SmallLine::LongValue { high, low, .. }
+            | SmallLine::WideValue { high, low, .. } => joined(high, low),
+            SmallLine::Other { at } => self.long.others[at as usize].0,
         }
     }
 
@@ -194,13 +227,22 @@ impl Lines {
     {
         match self.small[at] {
             SmallLine::Nothing { number } => (u64::from(number), Reply::Nothing),
-            SmallLine::Value { number, value } => {
-                (u64::from(number), Reply::Value(u128::from(value)))
+            SmallLine::Value { high, low, value } => {
+                (joined(high, low), Reply::Value(u128::from(value)))
             }
             SmallLine::Full { number } => (u64::from(number), Reply::Full),
-            SmallLine::Great { number, at } => (u64::from(number), Reply::Value(self.greats[at])),
+            SmallLine::LongValue { high, low, at } => {
+                let value = self.long.values[at as usize];
+                (joined(high, low), Reply::Value(u128::from(value)))
+            }
+            SmallLine::WideValue { high, low, at } => {
+                (
+                    joined(high, low),
+                    Reply::Value(self.long.wides[at as usize]),
+                )
+            }
             SmallLine::Other { at } => {
-                let line = &self.others[at];
+                let line = &self.long.others[at as usize];
                 (line.0, again(&line.1))
             }
         }

@@ -1,19 +1,19 @@
-//! Lines that stand in a window whole, each with its byte 10: as many as there are of one kind, and how many bytes they take.
+//! Lines that stand in a window whole, each with its byte 10: as many as there are of one kind, and how many bytes they
+//! take.
 
-ghost use Rattle.std.specs.Prelude.{◌≡◌, ◌≤◌, ◌<◌, ◌^◌, [], ◌∷◌, ◌++◌, length, map, take, codes, IfOk, IfSome, OnOk, IsTrue};
+ghost use Rattle.std.specs.Prelude.{◌≡◌, ◌≤◌, ◌<◌, ◌↔◌, [], ◌∷◌, ◌++◌, length, map, take, drop, codes, IfOk, IfSome, IfNone, OnOk, IsTrue};
 ghost use Rattle.std.specs.List.{AllByRecursion};
 ghost use Rattle.std.specs.Fmt.{decimal};
-ghost use Rattle.ks_script.specs.Lines.{ended, text_of};
+ghost use Rattle.ks_script.specs.Lines.{ended, text_of, NoFront, NoLine};
 ghost use Rattle.ks_script.specs.Script.{IsCall, call_line};
 ghost use Rattle.ks_script.specs.Run.{reply_line, pair_line};
 ghost use Rattle.ks_script.specs.Checked.{IsAnswered, AscendFrom};
-ghost use Rattle.ks_script.specs.Answers.{next_key};
+ghost use Rattle.ks_script.specs.Answers.{next_key, IsPairFrom};
 
-use crate::answers::plain_reply;
-use crate::calls::plain_call;
-use crate::numeral::{leading, leading_pair};
+use crate::answers::{ended_pair, plain_reply, reply_by_parts};
+use crate::calls::{call_by_parts, plain_call};
 use crate::version::Version;
-use crate::words::{after, after_byte};
+use crate::words::{after, cut, number};
 use crate::{Calls, Lines};
 use std::alloc::AllocError;
 
@@ -30,10 +30,16 @@ pub(crate) fn plain_calls(
     ensures each { OnOk result (AllByRecursion (IsCall version) calls.old → AllByRecursion (IsCall version) calls.new) }
     ensures text { IfOk result
         (λ n. text_of (map call_line calls.old) ++ take n bytes.now ≡ text_of (map call_line calls.new)) }
+    ensures stops { IfOk result (λ n. length calls.new < room → NoLine (IsCall version) call_line (drop n bytes.now)) }
 {
     let mut rest = bytes;
     'calls: while calls.len() < room {
-        let Some((op, more)) = plain_call(version, rest) else {
+        if let Some((op, more)) = plain_call(version, rest) {
+            calls.push(op)?;
+            rest = more;
+            continue;
+        }
+        let Some((op, more)) = call_by_parts(version, rest) else {
             return Ok(bytes.len() - rest.len());
         };
         calls.push(op)?;
@@ -54,10 +60,16 @@ pub(crate) fn plain_replies(
     ensures each { OnOk result (AllByRecursion IsAnswered lines.old → AllByRecursion IsAnswered lines.new) }
     ensures text { IfOk result
         (λ n. text_of (map reply_line lines.old) ++ take n bytes.now ≡ text_of (map reply_line lines.new)) }
+    ensures stops { IfOk result (λ n. length lines.new < wanted → NoLine IsAnswered reply_line (drop n bytes.now)) }
 {
     let mut rest = bytes;
     'replies: while lines.len() < wanted {
-        let Some(((number, reply), more)) = plain_reply(rest) else {
+        if let Some(((number, reply), more)) = plain_reply(rest) {
+            lines.push(number, reply)?;
+            rest = more;
+            continue;
+        }
+        let Some(((number, reply), more)) = reply_by_parts(rest) else {
             return Ok(bytes.len() - rest.len());
         };
         lines.push(number, reply)?;
@@ -68,7 +80,7 @@ pub(crate) fn plain_replies(
 
 // Whether a key may follow the pairs.
 fn follows(pairs: &[(u64, u128)], key: u64) -> bool
-    ensures { IsTrue result → next_key 0 pairs.now ≤ key }
+    ensures { IsTrue result ↔ (next_key 0 pairs.now ≤ key) }
 {
     if pairs.is_empty() {
         return true;
@@ -82,10 +94,12 @@ pub(crate) fn plain_pairs(bytes: &[u8], pairs: &mut Vec<(u64, u128)>) -> Result<
     ensures ascend { OnOk result (AscendFrom 0 pairs.old.items → AscendFrom 0 pairs.new.items) }
     ensures text { IfOk result
         (λ n. text_of (map pair_line pairs.old.items) ++ take n bytes.now ≡ text_of (map pair_line pairs.new.items)) }
+    ensures stops { IfOk result
+        (λ n. NoLine (IsPairFrom (next_key 0 pairs.new.items)) pair_line (drop n bytes.now)) }
 {
     let mut rest = bytes;
     'pairs: loop {
-        let Some(((key, value), more)) = leading_pair(rest) else {
+        let Some(((key, value), more)) = ended_pair(rest) else {
             return Ok(bytes.len() - rest.len());
         };
         if !follows(pairs, key) {
@@ -97,15 +111,14 @@ pub(crate) fn plain_pairs(bytes: &[u8], pairs: &mut Vec<(u64, u128)>) -> Result<
 }
 
 /// How many bytes the line of the caller with this number takes, if the bytes begin with it.
-pub(crate) fn plain_caller(bytes: &[u8], number: u64) -> Option<usize>
+pub(crate) fn plain_caller(bytes: &[u8], caller: u64) -> Option<usize>
     ensures within { IfSome result (λ n. n ≤ length bytes.now) }
-    ensures text { IfSome result (λ n. take n bytes.now ≡ ended (codes "caller " ++ decimal number)) }
+    ensures text { IfSome result (λ n. take n bytes.now ≡ ended (codes "caller " ++ decimal caller)) }
+    ensures none { IfNone result (NoFront (ended (codes "caller " ++ decimal caller)) bytes.now) }
 {
-    let word = after(bytes, b"caller ")?;
-    let (told, rest) = leading(word)?;
-    if told != number {
+    let (line, rest) = cut(bytes, b'\n')?;
+    if number(after(line, b"caller ")?)? != caller {
         return None;
     }
-    let rest = after_byte(rest, b'\n')?;
     Some(bytes.len() - rest.len())
 }

@@ -1,14 +1,15 @@
 //! A text that is read through a window: words, calls, replies and pairs are taken out of it, as many as stand there.
 
-ghost use Rattle.std.specs.Prelude.{ℕ, ◌≡◌, ◌≤◌, [], ◌++◌, length, map, IfOk, OnOk, IsErrOf, if◌then◌else◌, codes};
+ghost use Rattle.std.specs.Prelude.{ℕ, ◌≡◌, ◌≤◌, ◌<◌, true, false, [], ◌++◌, length, map, IfOk, OnOk, OnErr, IsErrOf, if◌then◌else◌, codes};
 ghost use Rattle.std.specs.List.{AllByRecursion};
 ghost use Rattle.std.specs.Fmt.{decimal};
-ghost use Rattle.ks_script.specs.Lines.{ended, text_of};
+ghost use Rattle.ks_script.specs.Lines.{ended, text_of, NoFront, NoLine};
 ghost use Rattle.ks_script.specs.Script.{IsCall, call_line};
 ghost use Rattle.ks_script.specs.Run.{reply_line, pair_line};
 ghost use Rattle.ks_script.specs.Checked.{IsAnswered, AscendFrom};
 ghost use Rattle.ks_script.specs.Outside.{Rose};
-ghost use Rattle.ks_script.specs.Streams.{TookOut};
+ghost use Rattle.ks_script.specs.Streams.{may_come, TookOut, HasEnough, Behind, GoneWithin};
+ghost use Rattle.ks_script.specs.Answers.{next_key, IsPairFrom};
 
 use crate::plain::{plain_caller, plain_calls, plain_pairs, plain_replies};
 use crate::version::Version;
@@ -20,7 +21,9 @@ use std::alloc::Global;
 // Reads on until any line that fits stands in the window whole, or the source has ended.
 fn fill<S: Source>(window: &mut Window, source: &mut S) -> Result<(), Halt>
     ensures reading { OnOk result (TookOut (S.left source.old) window.old (S.left source.new) window.new []) }
-    ensures most { window.new.most ≡ window.old.most }
+    ensures enough { OnOk result (HasEnough 0 window.new) }
+    ensures most { may_come window.new ≡ may_come window.old }
+    ensures gone { OnErr result (GoneWithin (S.left source.old) window.old (S.left source.new)) }
     ensures failed { IsErrOf result Halt.Failed → Rose (S.faults source.old) (S.faults source.new) }
     ensures count { S.faults source.old ≤ S.faults source.new }
 {
@@ -40,7 +43,11 @@ pub(crate) fn take_word<S: Source>(
 ) -> Result<bool, Halt>
     ensures text { IfOk result (λ took. TookOut (S.left source.old) window.old (S.left source.new) window.new
         (if took then word.now else [])) }
-    ensures most { window.new.most ≡ window.old.most }
+    ensures stops { IfOk result (λ took. took ≡ false → length word.now ≤ 4096 →
+        Behind (S.left source.old) window.old [] (NoFront word.now)) }
+    ensures enough { IfOk result (λ took. took ≡ true → HasEnough (length word.now) window.new) }
+    ensures most { may_come window.new ≡ may_come window.old }
+    ensures gone { OnErr result (GoneWithin (S.left source.old) window.old (S.left source.new)) }
     ensures failed { IsErrOf result Halt.Failed → Rose (S.faults source.old) (S.faults source.new) }
     ensures count { S.faults source.old ≤ S.faults source.new }
 {
@@ -60,7 +67,10 @@ pub(crate) fn take_caller<S: Source>(
 ) -> Result<bool, Halt>
     ensures text { IfOk result (λ took. TookOut (S.left source.old) window.old (S.left source.new) window.new
         (if took then ended (codes "caller " ++ decimal number) else [])) }
-    ensures most { window.new.most ≡ window.old.most }
+    ensures stops { IfOk result (λ took. took ≡ false →
+        Behind (S.left source.old) window.old [] (NoFront (ended (codes "caller " ++ decimal number)))) }
+    ensures most { may_come window.new ≡ may_come window.old }
+    ensures gone { OnErr result (GoneWithin (S.left source.old) window.old (S.left source.new)) }
     ensures failed { IsErrOf result Halt.Failed → Rose (S.faults source.old) (S.faults source.new) }
     ensures count { S.faults source.old ≤ S.faults source.new }
 {
@@ -82,9 +92,12 @@ pub(crate) fn take_calls<S: Source>(
 ) -> Result<Calls, Halt>
     ensures each { IfOk result (λ calls. AllByRecursion (IsCall version) calls) }
     ensures room { IfOk result (λ calls. length calls ≤ room) }
-    ensures text { IfOk result
-        (λ calls. TookOut (S.left source.old) window.old (S.left source.new) window.new (text_of (map call_line calls))) }
-    ensures most { window.new.most ≡ window.old.most }
+    ensures text { IfOk result (λ calls.
+        TookOut (S.left source.old) window.old (S.left source.new) window.new (text_of (map call_line calls))) }
+    ensures stops { IfOk result (λ calls. length calls < room →
+        Behind (S.left source.old) window.old (text_of (map call_line calls)) (NoLine (IsCall version) call_line)) }
+    ensures most { may_come window.new ≡ may_come window.old }
+    ensures gone { OnErr result (GoneWithin (S.left source.old) window.old (S.left source.new)) }
     ensures failed { IsErrOf result Halt.Failed → Rose (S.faults source.old) (S.faults source.new) }
     ensures count { S.faults source.old ≤ S.faults source.new }
 {
@@ -112,9 +125,12 @@ pub(crate) fn take_replies<S: Source>(
 ) -> Result<Lines, Halt>
     ensures each { IfOk result (λ lines. AllByRecursion IsAnswered lines) }
     ensures wanted { IfOk result (λ lines. length lines ≤ wanted) }
-    ensures text { IfOk result
-        (λ lines. TookOut (S.left source.old) window.old (S.left source.new) window.new (text_of (map reply_line lines))) }
-    ensures most { window.new.most ≡ window.old.most }
+    ensures text { IfOk result (λ lines.
+        TookOut (S.left source.old) window.old (S.left source.new) window.new (text_of (map reply_line lines))) }
+    ensures stops { IfOk result (λ lines. length lines < wanted →
+        Behind (S.left source.old) window.old (text_of (map reply_line lines)) (NoLine IsAnswered reply_line)) }
+    ensures most { may_come window.new ≡ may_come window.old }
+    ensures gone { OnErr result (GoneWithin (S.left source.old) window.old (S.left source.new)) }
     ensures failed { IsErrOf result Halt.Failed → Rose (S.faults source.old) (S.faults source.new) }
     ensures count { S.faults source.old ≤ S.faults source.new }
 {
@@ -142,9 +158,12 @@ pub(crate) fn take_pairs<S: Source>(
     source: &mut S,
 ) -> Result<Vec<(u64, u128)>, Halt>
     ensures ascend { IfOk result (λ pairs. AscendFrom 0 pairs.items) }
-    ensures text { IfOk result
-        (λ pairs. TookOut (S.left source.old) window.old (S.left source.new) window.new (text_of (map pair_line pairs.items))) }
-    ensures most { window.new.most ≡ window.old.most }
+    ensures text { IfOk result (λ pairs.
+        TookOut (S.left source.old) window.old (S.left source.new) window.new (text_of (map pair_line pairs.items))) }
+    ensures stops { IfOk result (λ pairs. Behind (S.left source.old) window.old (text_of (map pair_line pairs.items))
+        (NoLine (IsPairFrom (next_key 0 pairs.items)) pair_line)) }
+    ensures most { may_come window.new ≡ may_come window.old }
+    ensures gone { OnErr result (GoneWithin (S.left source.old) window.old (S.left source.new)) }
     ensures failed { IsErrOf result Halt.Failed → Rose (S.faults source.old) (S.faults source.new) }
     ensures count { S.faults source.old ≤ S.faults source.new }
 {

@@ -357,6 +357,6 @@ fn packed_calls_and_lines_are_read_again(rt: HostRuntime) -> Result<(), Fail> {
 
 #[test]
 fn small_calls_and_lines_take_little_room(rt: HostRuntime) {
-    assert_eq!(rt; size_of::<crate::packed_calls::SmallCall>(), 24);
-    assert_eq!(rt; size_of::<crate::packed_lines::SmallLine>(), 16);
+    assert_eq!(rt; size_of::<crate::packed_calls::SmallCall>(), 8);
+    assert_eq!(rt; size_of::<crate::packed_lines::SmallLine>(), 8);
 }

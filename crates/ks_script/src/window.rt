@@ -32,17 +32,17 @@ pub(crate) struct Window {
 }
 
 impl Window {
-    ghost use Rattle.std.specs.Prelude.{ℕ, ◌<◌, List, [], true, false, drop, IfOk, OnOk, IsErrOf, IsTrue};
+    ghost use Rattle.std.specs.Prelude.{ℕ, ◌<◌, List, [], true, false, drop, IfOk, OnOk, OnErr, IsErrOf, IsTrue};
     ghost use Rattle.ks_script.specs.Outside.{Rose};
-    ghost use Rattle.ks_script.specs.Streams.{waiting, TookOut};
+    ghost use Rattle.ks_script.specs.Streams.{waiting, has_come, may_come, has_ended, TookOut, HasEnough, GoneWithin};
 
     /// A window in which nothing waits.
     pub(crate) fn new(alloc: Global, most: u64) -> Result<Window, AllocError>
         requires { most ≤ 4294967296 }
         ensures waiting { IfOk result (λ w. waiting w ≡ []) }
-        ensures came { IfOk result (λ w. w.came ≡ 0) }
-        ensures ended { IfOk result (λ w. w.ended ≡ false) }
-        ensures most { IfOk result (λ w. w.most ≡ most) }
+        ensures came { IfOk result (λ w. has_come w ≡ 0) }
+        ensures ended { IfOk result (λ w. has_ended w ≡ false) }
+        ensures most { IfOk result (λ w. may_come w ≡ most) }
     {
         let bytes = Vec::with_capacity(alloc, PIECE + ENOUGH)?;
         let piece = vec![in alloc; 0; PIECE]?;
@@ -67,9 +67,9 @@ impl Window {
     pub(crate) fn pass(&mut self, count: usize)
         requires { count ≤ length (waiting self.old) }
         ensures waiting { waiting self.new ≡ drop count (waiting self.old) }
-        ensures came { self.new.came ≡ self.old.came }
-        ensures most { self.new.most ≡ self.old.most }
-        ensures ended { self.new.ended ≡ self.old.ended }
+        ensures came { has_come self.new ≡ has_come self.old }
+        ensures most { may_come self.new ≡ may_come self.old }
+        ensures ended { has_ended self.new ≡ has_ended self.old }
     {
         self.from += count;
     }
@@ -77,9 +77,9 @@ impl Window {
     // The bytes that wait stand at the front.
     fn move_to_front(&mut self)
         ensures waiting { waiting self.new ≡ waiting self.old }
-        ensures came { self.new.came ≡ self.old.came }
-        ensures most { self.new.most ≡ self.old.most }
-        ensures ended { self.new.ended ≡ self.old.ended }
+        ensures came { has_come self.new ≡ has_come self.old }
+        ensures most { may_come self.new ≡ may_come self.old }
+        ensures ended { has_ended self.new ≡ has_ended self.old }
     {
         let count = self.bytes.len() - self.from;
         self.bytes.copy_within(self.from.., 0);
@@ -90,8 +90,11 @@ impl Window {
     /// Reads a piece more, and tells whether there was one. There is none at the end, nor once more than the most came.
     pub(crate) fn read_more<S: Source>(&mut self, source: &mut S) -> Result<bool, Halt>
         ensures reading { OnOk result (TookOut (S.left source.old) self.old (S.left source.new) self.new []) }
-        ensures more { IfOk result (λ more. IsTrue more → self.old.came < self.new.came) }
-        ensures most { self.new.most ≡ self.old.most }
+        ensures more { IfOk result (λ more. IsTrue more → has_come self.old < has_come self.new) }
+        ensures last { IfOk result (λ more. more ≡ false → HasEnough 0 self.new) }
+        ensures kept { IfOk result (λ more. more ≡ false → waiting self.new ≡ waiting self.old) }
+        ensures most { may_come self.new ≡ may_come self.old }
+        ensures gone { OnErr result (GoneWithin (S.left source.old) self.old (S.left source.new)) }
         ensures failed { IsErrOf result Halt.Failed → Rose (S.faults source.old) (S.faults source.new) }
         ensures count { S.faults source.old ≤ S.faults source.new }
     {

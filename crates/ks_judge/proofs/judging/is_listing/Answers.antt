@@ -1,6 +1,5 @@
 use Rattle.std.proofs.Common.{ℕ, ◌≡◌, ◌≤◌, ◌+◌, ◌∷◌, List, drop, get_or, sym, ◌∙◌, subst, arith}
-use Rattle.std.specs.Prelude.{nat_eq}
-use Rattle.std.specs.HashMap.{get}
+use Rattle.ks_judge.specs.Table.{found}
 use Rattle.std.proofs.lemmas.Bool.{false≢true}
 use Rattle.std.proofs.lemmas.List.{drop_more}
 use Rattle.ks_judge.proofs.Listing.{Lists, lists_head, lists_tail, lists_more}
@@ -10,7 +9,7 @@ pub returns-then-from-least : goal.returns-then-from-least
 returns-then-from-least c =
     let i = c.loop-pair.pair-index in
     let pairs = c.args.pairs.now in
-    let m = get nat_eq c.loop-pair.rest in
+    let m = found c.loop-pair.rest in
     let x : ℕ × ℕ = get_or pairs i (0, 0) in (
       λ t. absurd (false≢true t),
       λ listing.
@@ -23,7 +22,7 @@ pub returns-then-not-takes : goal.returns-then-not-takes
 returns-then-not-takes c =
     let i = c.loop-pair.pair-index in
     let pairs = c.args.pairs.now in
-    let m = get nat_eq c.loop-pair.rest in
+    let m = found c.loop-pair.rest in
     let x : ℕ × ℕ = get_or pairs i (0, 0) in (
       λ t. absurd (false≢true t),
       λ listing.
@@ -37,8 +36,8 @@ loop-pair-preserved c =
     let i = c.loop-pair.pair-index in
     let pairs = c.args.pairs.now in
     let least = c.loop-pair.least in
-    let m = get nat_eq c.loop-pair.rest in
-    let k = get nat_eq c.takes.new.map in
+    let m = found c.loop-pair.rest in
+    let k = found c.takes.new.map in
     let x : ℕ × ℕ = get_or pairs i (0, 0) in
     let rest : List (ℕ × ℕ) = drop (i + 1) pairs in
     let cut : drop i pairs ≡ x ∷ rest = drop_more pairs i (0, 0) c.loop-pair-test.true in

@@ -1,6 +1,5 @@
 use Rattle.std.proofs.Common.{ℕ, ◌≡◌, ◌<◌, length, sym, ◌∙◌, ap, subst, arith}
-use Rattle.std.specs.Prelude.{nat_eq}
-use Rattle.std.specs.HashMap.{get}
+use Rattle.ks_judge.specs.Table.{found}
 use Rattle.std.proofs.lemmas.Bool.{false≢true}
 use Rattle.ks_script.specs.Script.{calls_in}
 use Rattle.ks_judge.specs.Judgment.{IsLeastWrong}
@@ -26,9 +25,9 @@ returns-then-not-branch c =
     let slots : length c.deref.result.now ≡ calls_in script = ap length c.deref.ensures.value ∙ c.in_ok-slots.ensures.count ∙ c.total-count.ensures in
     let all : r.right ≡ calls_in script = omega (arith, c.total-count.ensures, slots, e.within) in
     let before : RightBelow script lines (calls_in script) = subst (RightBelow script lines) all e.right in
-    let after : After script lines (calls_in script) (get nat_eq r.map) = subst (λ (n : ℕ). After script lines n (get nat_eq r.map)) all (e.map (all ∙ sym slots)) in
+    let after : After script lines (calls_in script) (found r.map) = subst (λ (n : ℕ). After script lines n (found r.map)) all (e.map (all ∙ sym slots)) in
     subst (λ (n : ℕ). IsLeastWrong script lines c.args.pairs.now n) (sym all)
-    (wrong_map script lines c.args.pairs.now (get nat_eq r.map) after before (λ listing. false≢true (sym c.if-not-branch.true ∙ c.in_ok-is_listing.ensures.1 listing)))
+    (wrong_map script lines c.args.pairs.now (found r.map) after before (λ listing. false≢true (sym c.if-not-branch.true ∙ c.in_ok-is_listing.ensures.1 listing)))
 
 pub returns : goal.returns
 returns c =
@@ -39,5 +38,5 @@ returns c =
     let slots : length c.deref.result.now ≡ calls_in script = ap length c.deref.ensures.value ∙ c.in_ok-slots.ensures.count ∙ c.total-count.ensures in
     let all : r.right ≡ calls_in script = omega (arith, c.total-count.ensures, slots, e.within) in
     let before : RightBelow script lines (calls_in script) = subst (RightBelow script lines) all e.right in
-    let after : After script lines (calls_in script) (get nat_eq r.map) = subst (λ (n : ℕ). After script lines n (get nat_eq r.map)) all (e.map (all ∙ sym slots)) in
-    (all, all_right script lines c.args.pairs.now (get nat_eq r.map) after before (c.in_ok-is_listing.ensures.0 c.if-not-branch.false))
+    let after : After script lines (calls_in script) (found r.map) = subst (λ (n : ℕ). After script lines n (found r.map)) all (e.map (all ∙ sym slots)) in
+    (all, all_right script lines c.args.pairs.now (found r.map) after before (c.in_ok-is_listing.ensures.0 c.if-not-branch.false))

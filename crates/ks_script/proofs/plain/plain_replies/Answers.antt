@@ -1,9 +1,16 @@
-use Rattle.std.proofs.Common.{arith}
-use Rattle.ks_script.proofs.TakenLines.{took_front}
+use Rattle.std.proofs.Common.{subst, arith}
+use Rattle.ks_script.specs.Lines.{NoLine}
+use Rattle.ks_script.specs.Run.{reply_line}
+use Rattle.ks_script.specs.Checked.{IsAnswered}
+use Rattle.ks_script.proofs.TakenLines.{took_front, took_behind}
 use Rattle.ks_script.proofs.plain.plain_replies.Goals as goal
 
-pub returns-in_default-clause-text : goal.returns-in_default-clause-text
-returns-in_default-clause-text c = took_front _ _ c.args.bytes.now c.replies.rest.now _ c.replies.invariant.text c.replies.invariant.shorter (omega arith)
+pub returns-in_default-reply_by_parts-clause-text : goal.returns-in_default-reply_by_parts-clause-text
+returns-in_default-reply_by_parts-clause-text c = took_front _ _ c.args.bytes.now c.replies.rest.now _ c.replies.invariant.text c.replies.invariant.shorter (omega arith)
 
 pub returns-clause-text : goal.returns-clause-text
 returns-clause-text c = took_front _ _ c.args.bytes.now c.replies.rest.now _ c.replies.invariant.text c.replies.invariant.shorter (omega arith)
+
+pub returns-in_default-reply_by_parts-clause-stops : goal.returns-in_default-reply_by_parts-clause-stops
+returns-in_default-reply_by_parts-clause-stops c = λ less.
+    subst (NoLine IsAnswered reply_line) (took_behind _ _ c.args.bytes.now c.replies.rest.now _ c.replies.invariant.text c.replies.invariant.shorter (omega arith)) c.in_default-reply_by_parts.ensures.none

@@ -1,6 +1,6 @@
-use Rattle.std.proofs.Common.{◌≡◌, ◌∷◌, ◌++◌, ◌+◌, [], List, ℕ, take, map, codes, sym, ap, ◌∙◌, append_assoc, arith}
+use Rattle.std.proofs.Common.{◌∷◌, ◌++◌, [], List, ℕ, take, map, codes, ap, ◌∙◌, arith}
 use Rattle.std.specs.Fmt.{decimal}
-use Rattle.ks_script.specs.Lines.{ended, text_of}
+use Rattle.ks_script.specs.Lines.{text_of}
 use Rattle.ks_script.specs.Run.{reply_line, callers_from}
 use Rattle.ks_script.proofs.Drafted.{answers_taken, three_behind}
 use Rattle.ks_script.proofs.respell.spell_answers.Goals as goal

@@ -1,7 +1,6 @@
 use Rattle.std.proofs.Common.{◌≡◌, ◌++◌, take, map}
 use Rattle.ks_script.specs.Lines.{text_of}
-use Rattle.ks_script.specs.Script.{call_line}
-use Rattle.ks_script.specs.Run.{reply_line, pair_line}
+use Rattle.ks_script.specs.Run.{pair_line}
 use Rattle.ks_script.proofs.respell.spell_pairs.Given as goal
 
 abbrev pub invariant-pairs : goal.invariant-pairs

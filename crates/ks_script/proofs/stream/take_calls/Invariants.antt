@@ -2,8 +2,6 @@ use Rattle.std.proofs.Common.{◌≡◌, ◌≤◌, ◌+◌, ◌-◌, length, ma
 use Rattle.std.specs.List.{AllByRecursion}
 use Rattle.ks_script.specs.Lines.{text_of}
 use Rattle.ks_script.specs.Script.{IsCall, call_line}
-use Rattle.ks_script.specs.Run.{reply_line, pair_line}
-use Rattle.ks_script.specs.Checked.{IsAnswered, AscendFrom}
 use Rattle.ks_script.specs.Streams.{TookOut}
 use Rattle.ks_script.proofs.stream.take_calls.Given as goal
 

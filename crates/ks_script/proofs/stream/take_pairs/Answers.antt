@@ -1,5 +1,11 @@
-use Rattle.std.proofs.Common.{◌∙◌, arith}
+use Rattle.std.proofs.Common.{◌∙◌, List, ℕ, length, drop, inl, sym, ap, subst, arith}
+use Rattle.ks_script.specs.Lines.{NoLine}
+use Rattle.ks_script.specs.Run.{pair_line}
+use Rattle.ks_script.specs.Answers.{next_key, IsPairFrom}
 use Rattle.ks_script.proofs.Streaming.{took_first, took_none}
+use Rattle.ks_script.proofs.Stopping.{stopped_lines, short_pair}
+use Rattle.ks_script.proofs.Passing.{on_err}
+use Rattle.ks_script.proofs.Losing.{gone_here, gone_after}
 use Rattle.ks_script.proofs.stream.take_pairs.Goals as goal
 
 pub returns-then-rest-ge-ENOUGH-clause-text : goal.returns-then-rest-ge-ENOUGH-clause-text
@@ -24,3 +30,31 @@ pieces-preserved g c = record {
   most = c.read_more.ensures.most ∙ (c.pass.ensures.most ∙ c.pieces.invariant.most);
   count = omega (arith, c.read_more.ensures.count, c.pieces.invariant.count);
 }
+
+pub returns-then-rest-ge-ENOUGH-clause-stops : goal.returns-then-rest-ge-ENOUGH-clause-stops
+returns-then-rest-ge-ENOUGH-clause-stops g c = stopped_lines (IsPairFrom (next_key 0 c.plain_pairs.new.pairs.items)) pair_line _ _ c.args.window.now c.pass.new.self _
+    (took_first _ _ c.args.window.now c.pieces.window c.pass.new.self c.rest.result.now _ _ c.in-Ok.count c.pieces.invariant.text c.rest.ensures
+    c.in-Ok.ensures.within c.pass.ensures.waiting c.pass.ensures.came c.pass.ensures.ended c.in-Ok.ensures.text)
+    (c.pass.ensures.most ∙ c.pieces.invariant.most) (inl (omega (arith, ap length c.rest-in-pieces.ensures))) (short_pair (next_key 0 c.plain_pairs.new.pairs.items))
+    (subst (NoLine (IsPairFrom (next_key 0 c.plain_pairs.new.pairs.items)) pair_line) (ap (λ (x : List ℕ). drop c.in-Ok.count x) c.rest.ensures ∙ sym c.pass.ensures.waiting) (c.in-Ok.ensures.stops))
+
+pub returns-then-not-branch-clause-stops : goal.returns-then-not-branch-clause-stops
+returns-then-not-branch-clause-stops g c = stopped_lines (IsPairFrom (next_key 0 c.plain_pairs.new.pairs.items)) pair_line _ _ c.args.window.now c.read_more.new.self _
+    (took_none _ _ _ c.args.window.now c.pass.new.self c.read_more.new.self _
+    (took_first _ _ c.args.window.now c.pieces.window c.pass.new.self c.rest.result.now _ _ c.in-Ok.count c.pieces.invariant.text c.rest.ensures
+    c.in-Ok.ensures.within c.pass.ensures.waiting c.pass.ensures.came c.pass.ensures.ended c.in-Ok.ensures.text)
+    c.in_ok-read_more.ensures.reading)
+    (c.read_more.ensures.most ∙ (c.pass.ensures.most ∙ c.pieces.invariant.most)) (c.in_ok-read_more.ensures.last c.if-not-branch.true) (short_pair (next_key 0 c.plain_pairs.new.pairs.items))
+    (subst (NoLine (IsPairFrom (next_key 0 c.plain_pairs.new.pairs.items)) pair_line) (sym (c.in_ok-read_more.ensures.kept c.if-not-branch.true))
+    (subst (NoLine (IsPairFrom (next_key 0 c.plain_pairs.new.pairs.items)) pair_line) (ap (λ (x : List ℕ). drop c.in-Ok.count x) c.rest.ensures ∙ sym c.pass.ensures.waiting) (c.in-Ok.ensures.stops)))
+
+pub returns-in_default-clause-gone : goal.returns-in_default-clause-gone
+returns-in_default-clause-gone g c = gone_here _ _ c.args.window.now c.pieces.window _ c.pieces.invariant.text c.pieces.invariant.most
+
+pub returns-in_err-read_more-clause-gone : goal.returns-in_err-read_more-clause-gone
+returns-in_err-read_more-clause-gone g c =
+    on_err c.from_residual.result
+    (gone_after _ _ _ c.args.window.now c.pass.new.self _
+    (took_first _ _ c.args.window.now c.pieces.window c.pass.new.self c.rest.result.now _ _ c.in-Ok.count c.pieces.invariant.text c.rest.ensures
+    c.in-Ok.ensures.within c.pass.ensures.waiting c.pass.ensures.came c.pass.ensures.ended c.in-Ok.ensures.text)
+    (c.pass.ensures.most ∙ c.pieces.invariant.most) c.in_err-read_more.ensures.gone)

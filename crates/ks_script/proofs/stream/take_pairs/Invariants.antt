@@ -1,9 +1,7 @@
-use Rattle.std.proofs.Common.{◌≡◌, ◌≤◌, ◌+◌, ◌-◌, length, map}
-use Rattle.std.specs.List.{AllByRecursion}
+use Rattle.std.proofs.Common.{◌≡◌, ◌≤◌, ◌+◌, ◌-◌, map}
 use Rattle.ks_script.specs.Lines.{text_of}
-use Rattle.ks_script.specs.Script.{IsCall, call_line}
-use Rattle.ks_script.specs.Run.{reply_line, pair_line}
-use Rattle.ks_script.specs.Checked.{IsAnswered, AscendFrom}
+use Rattle.ks_script.specs.Run.{pair_line}
+use Rattle.ks_script.specs.Checked.{AscendFrom}
 use Rattle.ks_script.specs.Streams.{TookOut}
 use Rattle.ks_script.proofs.stream.take_pairs.Given as goal
 

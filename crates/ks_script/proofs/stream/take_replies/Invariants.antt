@@ -1,9 +1,8 @@
 use Rattle.std.proofs.Common.{◌≡◌, ◌≤◌, ◌+◌, ◌-◌, length, map}
 use Rattle.std.specs.List.{AllByRecursion}
 use Rattle.ks_script.specs.Lines.{text_of}
-use Rattle.ks_script.specs.Script.{IsCall, call_line}
-use Rattle.ks_script.specs.Run.{reply_line, pair_line}
-use Rattle.ks_script.specs.Checked.{IsAnswered, AscendFrom}
+use Rattle.ks_script.specs.Run.{reply_line}
+use Rattle.ks_script.specs.Checked.{IsAnswered}
 use Rattle.ks_script.specs.Streams.{TookOut}
 use Rattle.ks_script.proofs.stream.take_replies.Given as goal
 

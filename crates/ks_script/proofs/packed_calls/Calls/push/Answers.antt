@@ -4,6 +4,5 @@ use Rattle.ks_script.proofs.packed_calls.Calls.push.Goals as goal
 
 pub invariant_of-self-in-Some : goal.invariant_of-self-in-Some
 invariant_of-self-in-Some c =
-    let greats = c.self.inside.greats.items in
-    let others = c.self.inside.others.items in
-    All-same (IsCallIn greats others) _ _ c.in_ok-push-in-Some.ensures.items (All-push (IsCallIn greats others) _ _ c.self.invariant (c.in-Some.ensures.fits greats others))
+    let long = c.self.inside.long in
+    All-same (IsCallIn long) _ _ c.in_ok-push-in-Some.ensures.items (All-push (IsCallIn long) _ _ c.self.invariant (c.in-Some.ensures.fits long))

@@ -10,9 +10,10 @@ pub struct Packed {
     pub pairs: Vec<(u64, u128)>,
 }
 
-/// What was read: a script with a run of it; or the bytes that were read, where not every line stood there whole and fitted.
+/// What was read in one pass: a script with a run of it; or bytes alone, where not every line stood there whole and
+/// fitted.
 #[derive(Drop)]
-pub enum Quick {
+pub enum InOnePass {
     Whole(Packed),
     Bytes(Vec<u8>),
 }

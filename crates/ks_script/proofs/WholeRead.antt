@@ -1,5 +1,5 @@
 -- A text that was read through a window to its end.
-use Rattle.std.proofs.Common.{ℕ, ◌≡◌, ◌+◌, ◌≤◌, true, false, List, [], ◌∷◌, ◌++◌, length, Option, Some, None, IfSome, refl, sym, ap, subst, ◌∙◌, append_assoc, arith, length-append}
+use Rattle.std.proofs.Common.{ℕ, ◌≡◌, ◌≤◌, true, false, List, [], ◌∷◌, ◌++◌, length, Option, Some, None, IfSome, refl, sym, ap, subst, ◌∙◌, arith, length-append}
 use Rattle.std.proofs.lemmas.List.{append-nil}
 use Rattle.std.proofs.lemmas.Bool.{false≢true}
 use Rattle.ks_script.specs.declared.window.Window.{Window}
@@ -9,14 +9,15 @@ use Rattle.ks_script.specs.declared.draft.Reached.TheVariants.{End}
 use Rattle.ks_script.specs.Lines.{text_of}
 use Rattle.ks_script.specs.Version.{version_line}
 use Rattle.ks_script.specs.Script.{IsScript, script_lines}
-use Rattle.ks_script.specs.Checked.{IsRunOf, CheckedIn, CheckedOf}
+use Rattle.ks_script.specs.Checked.{IsRunOf, CheckedIn, CheckedOf, AreWritten}
 use Rattle.ks_script.specs.Outside.{Gone}
 use Rattle.ks_script.specs.Streams.{waiting, Reading}
 use Rattle.ks_script.specs.Drafts.{draft_lines, lines_behind}
 use Rattle.ks_script.proofs.Spelled.{written_read}
+use Rattle.ks_script.proofs.Entire.{nothing_behind}
 
 -- at first nothing is gone
-none_gone : (all : Option (List ℕ)) → Gone all all []
+pub none_gone : (all : Option (List ℕ)) → Gone all all []
 none_gone None = tt
 none_gone (Some bytes) = (bytes, refl, refl)
 
@@ -64,3 +65,9 @@ draft_read None new d w limit r ended empty within reached is of = tt
 draft_read (Some bytes) new d w limit r ended empty within reached is of =
     let whole = whole_read (Some bytes) new (text_of (draft_lines d)) w limit r ended empty within in
     (whole.1, draft_checked d bytes reached is of whole.0, whole.2)
+
+-- and nothing comes behind it
+pub draft_ends : (d : Draft) (bytes rest : List ℕ) → d.reached ≡ End → AreWritten bytes → IsScript d.version d.callers.items → IsRunOf d.callers.items (record { callers = d.lines.items; pairs = d.pairs.items }) → bytes ≡ text_of (draft_lines d) ++ rest → rest ≡ []
+draft_ends d bytes rest reached written is of e =
+    nothing_behind d.version d.callers.items d.lines.items d.pairs.items bytes rest written is of
+    (e ∙ ap (λ (r : Reached). text_of (version_line d.version ++ (script_lines d.callers.items ++ lines_behind r d.lines.items d.pairs.items)) ++ rest) reached)
