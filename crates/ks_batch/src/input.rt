@@ -4,7 +4,8 @@ ghost use Rattle.std.specs.Prelude.{ℕ, ◌≡◌, ◌≤◌, ◌+◌, List, Op
 ghost use Rattle.ks_script.specs.Outside.{Rose, Gone};
 ghost use Rattle.ks_script.specs.Script.{ScriptOf};
 ghost use Rattle.ks_script.specs.Checked.{CheckedOf};
-ghost use Rattle.ks_script.specs.OnePass.{ScriptOrBytes, HasRead};
+ghost use Rattle.ks_script.specs.Written.{AreWritten};
+ghost use Rattle.ks_script.specs.OnePass.{ScriptOrBytes, HasRead, IsWhole};
 ghost use Rattle.ks_script.specs.Script.{calls_in};
 ghost use Rattle.ks_judge.specs.Judgment.{SameShape};
 ghost use Rattle.ks_batch.specs.Serve.{limit_of, Accepts, AcceptsChecked};
@@ -96,6 +97,8 @@ pub fn load<S: Source>(alloc: Global, source: &mut S) -> Result<Script, Stop>
 pub fn load_packed<S: Source>(alloc: Global, source: &mut S) -> Result<InOnePass, Stop>
     ensures fits { IfOk result (ScriptOrBytes (limit_of text.Checked)) }
     ensures read { IfOk result (HasRead (S.left source.old) (S.left source.new) (limit_of text.Checked)) }
+    ensures whole { IfOk result (λ read. (bytes : List ℕ) → S.left source.old ≡ Some bytes →
+        length bytes ≤ limit_of text.Checked → AreWritten bytes → IsWhole read) }
     ensures count { S.faults source.old ≤ S.faults source.new }
     ensures cause { IfErr result
         (λ stop. IsCause stop text.Checked (S.left source.old) (Rose (S.faults source.old) (S.faults source.new))) }

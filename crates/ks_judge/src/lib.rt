@@ -14,7 +14,6 @@ mod table;
 
 pub use accord::served_is_legal;
 pub use judging::{Judged, judge, judge_packed};
-pub use slots::{PackedSlot, Slot};
 
 #[cfg(test)]
 mod tests;

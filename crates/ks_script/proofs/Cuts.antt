@@ -8,7 +8,8 @@ use Rattle.std.specs.Fmt.{decimal}
 use Rattle.std.specs.Char.{is_ascii_digit}
 use Rattle.std.specs.Str.{all_ascii_digits}
 use Rattle.std.specs.List.{onto_first}
-use Rattle.ks_script.specs.Lines.{Lacks, lines_of}
+use Rattle.ks_script.specs.Lines.{lines_of}
+use Rattle.ks_script.specs.Ahead.{Lacks}
 use Rattle.ks_script.proofs.Numerals.{read_on, digits_of_number, value_of_digits, some_digits, no_zero_first, digits_spelled}
 
 -- a byte that stands at none of the first places

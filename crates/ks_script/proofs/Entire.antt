@@ -6,11 +6,13 @@ use Rattle.std.specs.List.{AllByRecursion}
 use Rattle.ks_history.specs.declared.Op.{Op}
 use Rattle.ks_script.specs.declared.version.Version.{Version}
 use Rattle.ks_script.specs.declared.version.Version.TheVariants.{First, Second}
-use Rattle.ks_script.specs.Lines.{lines_of, ended, text_of, NoFront, NoLine}
+use Rattle.ks_script.specs.Lines.{lines_of, ended, text_of}
+use Rattle.ks_script.specs.Ahead.{NoFront, NoLine}
 use Rattle.ks_script.specs.Version.{version_line}
 use Rattle.ks_script.specs.Script.{IsCall, IsScript, call_line, script_lines, calls_in}
 use Rattle.ks_script.specs.Run.{reply_line, pair_line, callers_from, run_lines}
-use Rattle.ks_script.specs.Checked.{IsAnswered, AscendFrom, IsRunOf, SpellsChecked, AreChecked, AreWritten}
+use Rattle.ks_script.specs.Checked.{IsAnswered, AscendFrom, IsRunOf, SpellsChecked, AreChecked}
+use Rattle.ks_script.specs.Written.{AreWritten}
 use Rattle.ks_script.specs.Answers.{NotFirst, NoReply, NoPair, IsPairFrom, next_key, SpellAnswers}
 use Rattle.ks_script.specs.Front.{HasBegun, NoCaller, NoCall, Stuck}
 use Rattle.ks_script.specs.Drafts.{NoMore, NoAnswers, counts}

@@ -4,7 +4,7 @@ use Rattle.std.specs.Fmt.{decimal}
 use Rattle.ks_script.specs.declared.version.Version.{Version}
 use Rattle.ks_script.specs.declared.version.Version.TheVariants.{First, Second}
 use Rattle.ks_script.specs.Version.{value_limit}
-use Rattle.ks_script.specs.Lines.{Lacks}
+use Rattle.ks_script.specs.Ahead.{Lacks}
 use Rattle.ks_script.specs.Run.{pair_line}
 use Rattle.ks_script.proofs.Numerals.{wide, one_number}
 use Rattle.ks_script.proofs.Cuts.{one_cut, lacks_not, decimal_lacks}

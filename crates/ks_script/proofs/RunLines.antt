@@ -7,7 +7,8 @@ use Rattle.std.specs.Str.{all_ascii_digits}
 use Rattle.std.specs.List.{AllByRecursion}
 use Rattle.ks_history.specs.declared.Reply.{Reply}
 use Rattle.ks_history.specs.declared.Reply.TheVariants.{Nothing, Value, Full}
-use Rattle.ks_script.specs.Lines.{Lacks, Begins, FirstBad}
+use Rattle.ks_script.specs.Lines.{Begins, FirstBad}
+use Rattle.ks_script.specs.Ahead.{Lacks}
 use Rattle.ks_script.specs.Run.{Run, reply_word, reply_line, pair_line, callers_from, map_lines, run_lines}
 use Rattle.ks_script.specs.Checked.{IsReply, IsAnswered, AscendFrom}
 use Rattle.ks_script.specs.Answers.{NotFirst, NoReply, NoPair, next_key, SpellAnswers}

@@ -11,7 +11,8 @@ use Rattle.ks_history.specs.declared.Reply.{Reply}
 use Rattle.ks_history.specs.declared.Reply.TheVariants.{Nothing, Value, Full}
 use Rattle.ks_script.specs.declared.version.Version.{Version}
 use Rattle.ks_script.specs.declared.version.Version.TheVariants.{First, Second}
-use Rattle.ks_script.specs.Lines.{Lacks, lines_of, text_of}
+use Rattle.ks_script.specs.Lines.{lines_of, text_of}
+use Rattle.ks_script.specs.Ahead.{Lacks}
 use Rattle.ks_script.specs.Version.{version_line, callers_limit}
 use Rattle.ks_script.specs.Script.{IsCall, IsScript, call_line, script_lines}
 use Rattle.ks_script.specs.Run.{Run, reply_word, reply_line, pair_line, callers_from, map_lines, run_lines}

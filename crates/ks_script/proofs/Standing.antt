@@ -1,6 +1,8 @@
 -- Lines that stand at the front of bytes whole, each with its byte 10.
 use Rattle.std.proofs.Common.{ℕ, ◌≡◌, ◌^◌, ◌<◌, ◌≤◌, List, [], ◌∷◌, ◌++◌, sym, ap, subst, ◌∙◌, append_assoc, arith}
-use Rattle.ks_script.specs.Lines.{Lacks, ended, NoLine}
+use Rattle.ks_script.specs.Lines.{ended}
+use Rattle.ks_script.specs.Ahead.{Lacks}
+use Rattle.ks_script.specs.Ahead.{NoLine}
 use Rattle.ks_script.specs.Run.{pair_line}
 use Rattle.ks_script.specs.Answers.{IsPairFrom}
 use Rattle.ks_script.proofs.Cuts.{one_cut, lacks_not}

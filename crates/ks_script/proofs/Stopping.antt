@@ -8,7 +8,8 @@ use Rattle.ks_history.specs.declared.Reply.{Reply}
 use Rattle.ks_history.specs.declared.Reply.TheVariants.{Nothing, Value, Full}
 use Rattle.ks_script.specs.declared.version.Version.{Version}
 use Rattle.ks_script.specs.declared.window.Window.{Window}
-use Rattle.ks_script.specs.Lines.{ended, text_of, NoFront, NoLine}
+use Rattle.ks_script.specs.Lines.{ended, text_of}
+use Rattle.ks_script.specs.Ahead.{NoFront, NoLine}
 use Rattle.ks_script.specs.Script.{IsCall, call_line}
 use Rattle.ks_script.specs.Run.{reply_word, reply_line, pair_line}
 use Rattle.ks_script.specs.Checked.{IsReply, IsAnswered}

@@ -9,7 +9,8 @@ use Rattle.ks_script.specs.declared.draft.Reached.TheVariants.{End}
 use Rattle.ks_script.specs.Lines.{text_of}
 use Rattle.ks_script.specs.Version.{version_line}
 use Rattle.ks_script.specs.Script.{IsScript, script_lines}
-use Rattle.ks_script.specs.Checked.{IsRunOf, CheckedIn, CheckedOf, AreWritten}
+use Rattle.ks_script.specs.Checked.{IsRunOf, CheckedIn, CheckedOf}
+use Rattle.ks_script.specs.Written.{AreWritten}
 use Rattle.ks_script.specs.Outside.{Gone}
 use Rattle.ks_script.specs.Streams.{waiting, Reading}
 use Rattle.ks_script.specs.Drafts.{draft_lines, lines_behind}

@@ -6,7 +6,8 @@ use Rattle.ks_script.specs.declared.draft.Draft.{Draft}
 use Rattle.ks_script.specs.declared.draft.Reached.{Reached}
 use Rattle.ks_script.specs.declared.draft.Reached.TheVariants.{Script, Run, Map, End}
 use Rattle.ks_script.specs.declared.version.Version.{Version}
-use Rattle.ks_script.specs.Lines.{text_of, NoFront, NoLine}
+use Rattle.ks_script.specs.Lines.{text_of}
+use Rattle.ks_script.specs.Ahead.{NoFront, NoLine}
 use Rattle.ks_script.specs.Version.{version_line, callers_limit}
 use Rattle.ks_script.specs.Script.{IsCall, call_line, script_lines, calls_in}
 use Rattle.ks_script.specs.Answers.{SpellAnswers}

@@ -1,10 +1,12 @@
 pub mod Outside
 pub mod Lines
+pub mod Ahead
 pub mod Version
 pub mod Script
 pub mod Run
 pub mod Reading
 pub mod Checked
+pub mod Written
 pub mod Digits
 pub mod Memory
 pub mod Front

@@ -26,16 +26,3 @@ pub record FirstBad (IsText : List (List ℕ) → Type 0) (lines : List (List �
   pub before : Begins IsText (take (n - 1) lines)
   pub refused : ((n ≤ length lines) × (Begins IsText (take n lines) → ⊥))
       ⊎ ((n ≡ length lines + 1) × (IsText lines → ⊥))
-
--- the byte c does not stand among the bytes
-abbrev pub Lacks : ℕ → List ℕ → Type 0
-Lacks c [] = Unit {0}
-Lacks c (b ∷ bytes) = (b ≡ c → ⊥) × Lacks c bytes
-
--- the bytes do not begin with these
-abbrev pub NoFront : List ℕ → List ℕ → Type 0
-NoFront front bytes = (rest : List ℕ) → bytes ≡ front ++ rest → ⊥
-
--- the bytes do not begin with the line of such a thing, with its byte 10
-abbrev pub NoLine : {X : Type 0} → (X → Type 0) → (X → List ℕ) → List ℕ → Type 0
-NoLine {X = X} Is line bytes = (x : X) → Is x → NoFront (ended (line x)) bytes

@@ -3,7 +3,8 @@
 ghost use Rattle.std.specs.Prelude.{◌≢◌, ℕ, ◌≡◌, ◌+◌, ◌*◌, ◌≤◌, ◌<◌, ◌^◌, ◌∷◌, ◌++◌, length, map, codes, IfOk, IfSome, IfNone, Err};
 ghost use Rattle.std.specs.Fmt.{decimal};
 ghost use Rattle.ks_history.specs.declared.Reply.{Reply};
-ghost use Rattle.ks_script.specs.Lines.{lines_of, NoLine};
+ghost use Rattle.ks_script.specs.Lines.{lines_of};
+ghost use Rattle.ks_script.specs.Ahead.{NoLine};
 ghost use Rattle.ks_script.specs.Run.{reply_line, pair_line, callers_from};
 ghost use Rattle.ks_script.specs.Checked.{IsAnswered};
 ghost use Rattle.ks_script.specs.Answers.{NotFirst, NoReply, NoPair, IsPairFrom, RepliesThen, PairsThen, SpellAnswers, AnswersThen, RefusedFrom};

@@ -1,4 +1,4 @@
-//! A list to which only its places are kept.
+//! Appending to a list whose items are named by their places.
 
 ghost use Rattle.std.specs.Prelude.{◌≡◌, ◌++◌, [], ◌∷◌, length, IfOk, OnOk, OnErr};
 

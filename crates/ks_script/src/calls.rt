@@ -3,7 +3,8 @@
 ghost use Rattle.std.specs.Prelude.{◌≢◌, ℕ, ◌≡◌, ◌<◌, ◌^◌, ◌∷◌, ◌++◌, length, codes, IfSome, IfNone};
 ghost use Rattle.std.specs.Fmt.{decimal};
 ghost use Rattle.ks_history.specs.declared.Op.{Op};
-ghost use Rattle.ks_script.specs.Lines.{lines_of, NoLine};
+ghost use Rattle.ks_script.specs.Lines.{lines_of};
+ghost use Rattle.ks_script.specs.Ahead.{NoLine};
 ghost use Rattle.ks_script.specs.Version.{value_limit, AddsAndSwaps};
 ghost use Rattle.ks_script.specs.Script.{IsCall, call_line};
 ghost use Rattle.ks_script.specs.Run.{pair_line};

@@ -3,11 +3,13 @@
 ghost use Rattle.std.specs.Prelude.{ℕ, ◌≡◌, ◌≤◌, ◌⊎◌, ◌↔◌, List, [], length, codes, IfOk, OnErr, IsErrOf, IsTrue};
 ghost use Rattle.std.specs.List.{AllByRecursion};
 ghost use Rattle.ks_script.specs.declared.version.Version.TheVariants.{First};
-ghost use Rattle.ks_script.specs.Lines.{text_of, NoFront};
+ghost use Rattle.ks_script.specs.Lines.{text_of};
+ghost use Rattle.ks_script.specs.Ahead.{NoFront};
 ghost use Rattle.ks_script.specs.Version.{version_line};
 ghost use Rattle.ks_script.specs.Script.{IsScript, script_lines};
 ghost use Rattle.ks_script.specs.Run.{callers_from};
-ghost use Rattle.ks_script.specs.Checked.{IsAnswered, IsRunOf, AreWritten};
+ghost use Rattle.ks_script.specs.Checked.{IsAnswered, IsRunOf};
+ghost use Rattle.ks_script.specs.Written.{AreWritten};
 ghost use Rattle.ks_script.specs.Outside.{Rose};
 ghost use Rattle.ks_script.specs.Streams.{may_come, TookOut, HasEnough, Behind, AreAhead, GoneWithin};
 ghost use Rattle.ks_script.specs.Drafts.{draft_lines, NoMore, NoAnswers, counts};
@@ -142,52 +144,29 @@ pub(crate) fn take_draft<S: Source>(
     ensures count { S.faults source.old ≤ S.faults source.new }
 {
     let version = take_version(window, source)?;
-    let callers = take_script(alloc, window, source, version)?;
+    let mut draft = Draft {
+        version,
+        callers: take_script(alloc, window, source, version)?,
+        lines: Vec::new(alloc),
+        pairs: Vec::new(alloc),
+        reached: Reached::Script,
+    };
     if !take_word(window, source, b"run\n")? {
-        return Ok(Draft {
-            version,
-            callers,
-            lines: Vec::new(alloc),
-            pairs: Vec::new(alloc),
-            reached: Reached::Script,
-        });
+        return Ok(draft);
     }
-    let lines = take_answers(alloc, window, source, &callers)?;
-    let answered = are_answered(&callers, &lines);
-    if !answered {
-        return Ok(Draft {
-            version,
-            callers,
-            lines,
-            pairs: Vec::new(alloc),
-            reached: Reached::Run,
-        });
+    draft.lines = take_answers(alloc, window, source, &draft.callers)?;
+    draft.reached = Reached::Run;
+    if !are_answered(&draft.callers, &draft.lines) {
+        return Ok(draft);
     }
     if !take_word(window, source, b"map\n")? {
-        return Ok(Draft {
-            version,
-            callers,
-            lines,
-            pairs: Vec::new(alloc),
-            reached: Reached::Run,
-        });
+        return Ok(draft);
     }
-    let pairs = take_pairs(alloc, window, source)?;
-    let ended = take_word(window, source, b"end\n")?;
-    if !ended {
-        return Ok(Draft {
-            version,
-            callers,
-            lines,
-            pairs,
-            reached: Reached::Map,
-        });
+    draft.pairs = take_pairs(alloc, window, source)?;
+    draft.reached = Reached::Map;
+    if !take_word(window, source, b"end\n")? {
+        return Ok(draft);
     }
-    Ok(Draft {
-        version,
-        callers,
-        lines,
-        pairs,
-        reached: Reached::End,
-    })
+    draft.reached = Reached::End;
+    Ok(draft)
 }

@@ -2,7 +2,7 @@
 
 ghost use Rattle.std.specs.Prelude.{ℕ, ◌≡◌, ◌≤◌, ◌+◌, ◌++◌, List, [], true, length, Some, IfOk, OnErr, IsErrOf, IsTrue};
 ghost use Rattle.ks_script.specs.Lines.{text_of};
-ghost use Rattle.ks_script.specs.Checked.{AreWritten};
+ghost use Rattle.ks_script.specs.Written.{AreWritten};
 ghost use Rattle.ks_script.specs.Outside.{Rose, Gone};
 ghost use Rattle.ks_script.specs.Streams.{waiting, has_come, may_come, has_ended};
 ghost use Rattle.ks_script.specs.Drafts.{draft_lines};

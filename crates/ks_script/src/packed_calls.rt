@@ -90,13 +90,16 @@ impl LongCalls {
         }
     }
 
-    // Keeps a call, and answers with the small one that stands for it.
+    // The small call that stands for this one, which is kept if it is longer.
     #[inline(always)]
-    fn keep(&mut self, op: Op) -> Result<SmallCall, AllocError>
+    fn small_for(&mut self, op: Op) -> Result<SmallCall, AllocError>
         ensures stands { IfOk result (λ s. call_in self.new s ≡ op) }
         ensures fits { IfOk result (IsCallIn self.new) }
         ensures others { KeepsCalls self.old self.new }
     {
+        if let Some(small) = small_of(op) {
+            return Ok(small);
+        }
         match op {
             Op::Get(key) => {
                 let at = appended_at(&mut self.pairs, (key, 0))?;
@@ -151,22 +154,7 @@ impl Calls {
         ensures ok { OnOk result (self.new ≡ self.old ++ op ∷ []) }
         ensures err { OnErr result (self.new ≡ self.old) }
     {
-        match small_of(op) {
-            Some(small) => {
-                self.small.push(small)?;
-                Ok(())
-            }
-            None => self.push_long(op),
-        }
-    }
-
-    // Puts a longer call behind the others.
-    #[inline(always)]
-    fn push_long(&mut self, op: Op) -> Result<(), AllocError>
-        ensures ok { OnOk result (self.new ≡ self.old ++ op ∷ []) }
-        ensures err { OnErr result (self.new ≡ self.old) }
-    {
-        let small = self.long.keep(op)?;
+        let small = self.long.small_for(op)?;
         self.small.push(small)?;
         Ok(())
     }

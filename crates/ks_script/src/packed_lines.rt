@@ -117,13 +117,16 @@ impl LongLines {
         }
     }
 
-    // Keeps a line, and answers with the small one that stands for it.
+    // The small line that stands for this one, which is kept if it is longer.
     #[inline(always)]
-    fn keep(&mut self, number: u64, reply: Reply) -> Result<SmallLine, AllocError>
+    fn small_for(&mut self, number: u64, reply: Reply) -> Result<SmallLine, AllocError>
         ensures stands { IfOk result (λ s. line_in self.new s ≡ (number, reply)) }
         ensures fits { IfOk result (IsLineIn self.new) }
         ensures others { KeepsLines self.old self.new }
     {
+        if let Some(small) = small_of(number, &reply) {
+            return Ok(small);
+        }
         if let (Some((high, low)), Reply::Value(value)) = (parts(number), &reply) {
             return self.keep_value(high, low, *value);
         }
@@ -169,22 +172,7 @@ impl Lines {
         ensures ok { OnOk result (self.new ≡ self.old ++ (number, reply) ∷ []) }
         ensures err { OnErr result (self.new ≡ self.old) }
     {
-        match small_of(number, &reply) {
-            Some(small) => {
-                self.small.push(small)?;
-                Ok(())
-            }
-            None => self.push_long(number, reply),
-        }
-    }
-
-    // Puts a longer line behind the others.
-    #[inline(always)]
-    fn push_long(&mut self, number: u64, reply: Reply) -> Result<(), AllocError>
-        ensures ok { OnOk result (self.new ≡ self.old ++ (number, reply) ∷ []) }
-        ensures err { OnErr result (self.new ≡ self.old) }
-    {
-        let small = self.long.keep(number, reply)?;
+        let small = self.long.small_for(number, reply)?;
         self.small.push(small)?;
         Ok(())
     }

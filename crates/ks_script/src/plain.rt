@@ -4,7 +4,8 @@
 ghost use Rattle.std.specs.Prelude.{◌≡◌, ◌≤◌, ◌<◌, ◌↔◌, [], ◌∷◌, ◌++◌, length, map, take, drop, codes, IfOk, IfSome, IfNone, OnOk, IsTrue};
 ghost use Rattle.std.specs.List.{AllByRecursion};
 ghost use Rattle.std.specs.Fmt.{decimal};
-ghost use Rattle.ks_script.specs.Lines.{ended, text_of, NoFront, NoLine};
+ghost use Rattle.ks_script.specs.Lines.{ended, text_of};
+ghost use Rattle.ks_script.specs.Ahead.{NoFront, NoLine};
 ghost use Rattle.ks_script.specs.Script.{IsCall, call_line};
 ghost use Rattle.ks_script.specs.Run.{reply_line, pair_line};
 ghost use Rattle.ks_script.specs.Checked.{IsAnswered, AscendFrom};

@@ -5,7 +5,8 @@ ghost use Rattle.std.specs.Char.{is_ascii_digit};
 ghost use Rattle.std.specs.Fmt.{decimal};
 ghost use Rattle.std.specs.Str.{all_ascii_digits};
 ghost use Rattle.std.specs.Str.Parse.{digits_value};
-ghost use Rattle.ks_script.specs.Lines.{Lacks, lines_of};
+ghost use Rattle.ks_script.specs.Lines.{lines_of};
+ghost use Rattle.ks_script.specs.Ahead.{Lacks};
 ghost use Rattle.ks_script.specs.Run.{pair_line};
 
 // The place of the first such byte, or how many bytes there are.

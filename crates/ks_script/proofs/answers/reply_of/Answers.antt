@@ -2,7 +2,7 @@ use Rattle.std.proofs.Common.{◌≡◌, ◌∷◌, ◌++◌, ◌^◌, ◌<◌, 
 use Rattle.std.specs.Fmt.{decimal}
 use Rattle.ks_history.specs.declared.Reply.{Reply}
 use Rattle.ks_history.specs.declared.Reply.TheVariants.{Nothing, Value, Full}
-use Rattle.ks_script.specs.Lines.{Lacks}
+use Rattle.ks_script.specs.Ahead.{Lacks}
 use Rattle.ks_script.specs.Run.{reply_word, reply_line}
 use Rattle.ks_script.specs.Checked.{IsAnswered}
 use Rattle.ks_script.proofs.Numerals.{wide}

@@ -1,7 +1,8 @@
 use Rattle.std.proofs.Common.{◌≡◌, ◌<◌, ◌∷◌, ◌++◌, ◌+◌, [], length, map, inr, sym, ap, subst, ◌∙◌, arith, codes, length-append}
 use Rattle.std.specs.Fmt.{decimal}
 use Rattle.std.specs.List.{AllByRecursion}
-use Rattle.ks_script.specs.Lines.{ended, text_of, NoFront, NoLine}
+use Rattle.ks_script.specs.Lines.{ended, text_of}
+use Rattle.ks_script.specs.Ahead.{NoFront, NoLine}
 use Rattle.ks_script.specs.Run.{reply_line, callers_from}
 use Rattle.ks_script.specs.Checked.{IsAnswered}
 use Rattle.ks_script.specs.Streams.{TookOut, Behind}

@@ -1,5 +1,6 @@
 use Rattle.std.proofs.Common.{◌≡◌, ◌∷◌, ◌++◌, [], map, sym, ap, subst, ◌∙◌, arith, codes}
-use Rattle.ks_script.specs.Lines.{text_of, NoFront, NoLine}
+use Rattle.ks_script.specs.Lines.{text_of}
+use Rattle.ks_script.specs.Ahead.{NoFront, NoLine}
 use Rattle.ks_script.specs.Script.{IsScript, IsCall, call_line, script_lines, calls_in}
 use Rattle.ks_script.specs.Streams.{TookOut, Behind}
 use Rattle.ks_script.proofs.Scripts.{calls_push}

@@ -1,5 +1,6 @@
 use Rattle.std.proofs.Common.{◌≡◌, ◌≤◌, ◌<◌, ◌-◌, length}
-use Rattle.ks_script.specs.Lines.{text_of, NoLine}
+use Rattle.ks_script.specs.Lines.{text_of}
+use Rattle.ks_script.specs.Ahead.{NoLine}
 use Rattle.ks_script.specs.Version.{callers_limit}
 use Rattle.ks_script.specs.Script.{IsScript, IsCall, call_line, script_lines, calls_in}
 use Rattle.ks_script.specs.Streams.{TookOut, Behind}

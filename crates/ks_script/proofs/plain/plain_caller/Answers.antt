@@ -1,7 +1,8 @@
 use Rattle.std.proofs.Common.{◌≡◌, ◌++◌, ◌∷◌, ◌<◌, ◌^◌, [], ℕ, List, length, drop, ap, sym, ◌∙◌, append_assoc, arith, rules, codes, length-append}
 use Rattle.std.proofs.lemmas.Fmt.{decimal_injective}
 use Rattle.std.specs.Fmt.{decimal}
-use Rattle.ks_script.specs.Lines.{Lacks, ended}
+use Rattle.ks_script.specs.Lines.{ended}
+use Rattle.ks_script.specs.Ahead.{Lacks}
 use Rattle.ks_script.proofs.Cuts.{if_none_any}
 use Rattle.ks_script.proofs.Spelled.{plain_caller}
 use Rattle.ks_script.proofs.TakenLines.{took_front}

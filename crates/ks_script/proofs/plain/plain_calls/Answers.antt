@@ -1,5 +1,5 @@
 use Rattle.std.proofs.Common.{subst, arith}
-use Rattle.ks_script.specs.Lines.{NoLine}
+use Rattle.ks_script.specs.Ahead.{NoLine}
 use Rattle.ks_script.specs.Script.{IsCall, call_line}
 use Rattle.ks_script.proofs.TakenLines.{took_front, took_behind}
 use Rattle.ks_script.proofs.plain.plain_calls.Goals as goal

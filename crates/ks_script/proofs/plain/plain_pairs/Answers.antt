@@ -1,6 +1,6 @@
 use Rattle.std.proofs.Common.{ℕ, ◌≡◌, ◌≤◌, ◌++◌, ◌∷◌, [], sym, subst, arith, rules}
 use Rattle.std.proofs.lemmas.Bool.{false≢true}
-use Rattle.ks_script.specs.Lines.{NoLine}
+use Rattle.ks_script.specs.Ahead.{NoLine}
 use Rattle.ks_script.specs.Run.{pair_line}
 use Rattle.ks_script.specs.Checked.{AscendFrom}
 use Rattle.ks_script.specs.Answers.{next_key, IsPairFrom}

@@ -1,5 +1,5 @@
 use Rattle.std.proofs.Common.{subst, arith}
-use Rattle.ks_script.specs.Lines.{NoLine}
+use Rattle.ks_script.specs.Ahead.{NoLine}
 use Rattle.ks_script.specs.Run.{reply_line}
 use Rattle.ks_script.specs.Checked.{IsAnswered}
 use Rattle.ks_script.proofs.TakenLines.{took_front, took_behind}

@@ -1,6 +1,7 @@
 use Rattle.std.proofs.Common.{[], ◌++◌, codes, subst, arith}
 use Rattle.std.specs.Fmt.{decimal}
-use Rattle.ks_script.specs.Lines.{ended, NoFront}
+use Rattle.ks_script.specs.Lines.{ended}
+use Rattle.ks_script.specs.Ahead.{NoFront}
 use Rattle.ks_script.proofs.Streaming.{took_first}
 use Rattle.ks_script.proofs.Stopping.{stopped, short_caller}
 use Rattle.ks_script.proofs.stream.take_caller.Goals as goal

@@ -1,5 +1,5 @@
 use Rattle.std.proofs.Common.{◌∙◌, List, ℕ, length, drop, inl, sym, ap, subst, arith}
-use Rattle.ks_script.specs.Lines.{NoLine}
+use Rattle.ks_script.specs.Ahead.{NoLine}
 use Rattle.ks_script.specs.Script.{IsCall, call_line}
 use Rattle.ks_script.proofs.Streaming.{took_first, took_none}
 use Rattle.ks_script.proofs.Stopping.{stopped_lines, short_call}

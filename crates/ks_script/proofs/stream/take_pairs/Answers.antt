@@ -1,5 +1,5 @@
 use Rattle.std.proofs.Common.{◌∙◌, List, ℕ, length, drop, inl, sym, ap, subst, arith}
-use Rattle.ks_script.specs.Lines.{NoLine}
+use Rattle.ks_script.specs.Ahead.{NoLine}
 use Rattle.ks_script.specs.Run.{pair_line}
 use Rattle.ks_script.specs.Answers.{next_key, IsPairFrom}
 use Rattle.ks_script.proofs.Streaming.{took_first, took_none}

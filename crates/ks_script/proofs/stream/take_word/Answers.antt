@@ -1,7 +1,7 @@
 use Rattle.std.proofs.Common.{List, ℕ, [], take, length, refl, ap, subst, ◌∙◌, arith, length-append}
 use Rattle.std.proofs.lemmas.List.{take_at}
 use Rattle.ks_script.proofs.Streaming.{took_first}
-use Rattle.ks_script.specs.Lines.{NoFront}
+use Rattle.ks_script.specs.Ahead.{NoFront}
 use Rattle.ks_script.proofs.Stopping.{stopped, enough_left}
 use Rattle.ks_script.proofs.stream.take_word.Goals as goal
 

@@ -1,5 +1,5 @@
 use Rattle.std.proofs.Common.{◌∷◌, ◌++◌, drop, sym, ap, ◌∙◌, subst, arith, List, ℕ}
-use Rattle.ks_script.specs.Lines.{Lacks}
+use Rattle.ks_script.specs.Ahead.{Lacks}
 use Rattle.ks_script.proofs.Cuts.{lacks_all, lacks_front, cut_front}
 use Rattle.ks_script.proofs.words.cut.Goals as goal
 

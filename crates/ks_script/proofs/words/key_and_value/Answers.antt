@@ -1,6 +1,6 @@
 use Rattle.std.proofs.Common.{sym, ◌∙◌, subst, append_assoc, codes, refl}
 use Rattle.std.specs.Fmt.{decimal}
-use Rattle.ks_script.specs.Lines.{Lacks}
+use Rattle.ks_script.specs.Ahead.{Lacks}
 use Rattle.ks_script.proofs.Numerals.{wide}
 use Rattle.ks_script.proofs.Cuts.{if_none_any, one_cut, lacks_not, decimal_lacks}
 use Rattle.ks_script.proofs.words.key_and_value.Goals as goal
