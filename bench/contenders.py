@@ -10,6 +10,7 @@ from scripts import FIRST
 TOP = os.path.dirname(os.path.dirname(os.path.abspath(__file__)))
 PROGRAM = os.path.join(TOP, "crates", "ks_main", "out", "ks_main")
 TEXT_TIMES = os.path.join(TOP, "crates", "ks_text_times", "out", "ks_text_times")
+CALL_TIMES = os.path.join(TOP, "crates", "ks_call_times", "out", "ks_call_times")
 PEERS = os.path.join(TOP, "bench", "peers")
 BUILT = os.path.join(TOP, "bench", "out")
 SPAN = os.path.join(BUILT, "span.so")
@@ -72,12 +73,22 @@ def build_program():
         raise SystemExit(status)
 
 
-def build_text_times():
-    """Proves and builds what reads and writes a text many times; ends with its status where that fails."""
-    crate = os.path.dirname(os.path.dirname(TEXT_TIMES))
-    status = subprocess.run(["rt", "run", "--", "read", "0"], cwd=crate, stdin=subprocess.DEVNULL, stdout=subprocess.DEVNULL).returncode
+def build_beside(program, words):
+    """Proves and builds a program for measuring, and runs it with the words; ends with its status where that fails."""
+    crate = os.path.dirname(os.path.dirname(program))
+    status = subprocess.run(["rt", "run", "--", *words], cwd=crate, stdin=subprocess.DEVNULL, stdout=subprocess.DEVNULL).returncode
     if status != 0:
         raise SystemExit(status)
+
+
+def build_text_times():
+    """Proves and builds what reads and writes a text many times; ends with its status where that fails."""
+    build_beside(TEXT_TIMES, ["read", "0"])
+
+
+def build_call_times():
+    """Proves and builds what takes the time of each call; ends with its status where that fails."""
+    build_beside(CALL_TIMES, ["link", "1", "0"])
 
 
 def is_admitted(layout, template):
@@ -133,12 +144,15 @@ def models():
     return list(PLAIN_TREES) if is_built("the plain trees", rustc(PLAIN_TREES[0].words[0], "plain_trees.rs")) else []
 
 
+def maps():
+    """The maps of Rust, where this machine can build them, with a line where it cannot."""
+    os.makedirs(BUILT, exist_ok=True)
+    return [MUTEX, MUTEX_64, RWLOCK] if is_built("the maps of Rust", rustc(ORDERED_MAPS, "ordered_maps.rs")) else []
+
+
 def peers():
     """The peers that this machine can build, with a line for each that it cannot."""
-    os.makedirs(BUILT, exist_ok=True)
-    built = []
-    if is_built("the maps of Rust", rustc(ORDERED_MAPS, "ordered_maps.rs")):
-        built += [MUTEX, MUTEX_64, RWLOCK]
+    built = maps()
     if is_built("the hash map of TBB", ["g++", "-O2", "-std=c++17", "-o", HASH_MAP.words[0], "hash_map.cpp", "-ltbb"]):
         built.append(HASH_MAP)
     if is_built("the skip list of Java", ["javac", "-d", BUILT, "SkipList.java"]):

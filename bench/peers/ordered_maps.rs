@@ -1,6 +1,6 @@
 //! The calls over a `BTreeMap` of the standard library behind one lock.
 //!
-//! usage: ordered_maps mutex|mutex64|rwlock CALLERS CALLS FIRST
+//! usage: ordered_maps mutex|mutex64|rwlock [times] CALLERS CALLS FIRST
 //!        ordered_maps mutex|mutex64|rwlock script WORKERS
 //!
 //! Workers draw callers; for generated calls each caller has one. A call draws its number while it holds the lock. Values
@@ -86,5 +86,5 @@ fn main() {
         ["rwlock", ref calls @ ..] => serving::run(Shared::<u128>::default(), calls),
         _ => false,
     };
-    assert!(is_served, "usage: ordered_maps mutex|mutex64|rwlock CALLERS CALLS FIRST, or mutex|mutex64|rwlock script WORKERS");
+    assert!(is_served, "usage: ordered_maps mutex|mutex64|rwlock [times] CALLERS CALLS FIRST, or mutex|mutex64|rwlock script WORKERS");
 }

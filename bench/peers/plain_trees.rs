@@ -2,7 +2,7 @@
 //! in and out of slots, a word for each node that tells who has it, one fetch-and-add a call; callers wait as the program's do.
 //! What it takes is what the design takes.
 //!
-//! usage: plain_trees coupling|giveup|link NODES CALLERS CALLS FIRST
+//! usage: plain_trees coupling|giveup|link NODES [times] CALLERS CALLS FIRST
 //!        plain_trees coupling|giveup|link NODES script WORKERS
 
 mod serving;
@@ -399,5 +399,5 @@ fn main() {
         }
         _ => false,
     };
-    assert!(is_served, "usage: plain_trees coupling|giveup|link NODES CALLERS CALLS FIRST, or .. NODES script WORKERS");
+    assert!(is_served, "usage: plain_trees coupling|giveup|link NODES [times] CALLERS CALLS FIRST, or .. NODES script WORKERS");
 }

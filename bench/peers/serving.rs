@@ -2,6 +2,9 @@
 //! draw callers, and what is printed of it. A call draws its number where it is decided, so that all calls stand in one order,
 //! as the program's do.
 
+#[path = "call_times.rs"]
+mod call_times;
+
 use std::collections::BTreeMap;
 use std::fmt::{Debug, Display, Write};
 use std::io::Read;
@@ -148,11 +151,13 @@ fn print_summary<M: Numbered>(map: M, script: &[Vec<Op<M::Value>>]) {
     println!("full 0\npairs {}\nsum {sum}", pairs.len());
 }
 
-/// Serves what the words ask for, CALLERS CALLS FIRST or `script WORKERS`, over the map: false, where they ask for neither.
+/// Serves what the words ask for, CALLERS CALLS FIRST, `times` before them, or `script WORKERS`, over the map: false, where
+/// they ask for nothing of these.
 pub fn run<M: Numbered>(map: M, words: &[&str]) -> bool {
     match *words {
         ["script", workers] => print_run(map, &read_script(), number(workers)),
         [callers, calls, first] => print_summary(map, &made_script(number(callers), number(calls), number(first))),
+        ["times", callers, calls, first] => call_times::print(map, &made_script(number(callers), number(calls), number(first))),
         _ => return false,
     }
     true
