@@ -1,8 +1,9 @@
-// Refuses one request for memory, or all from one on, or none and counts them: preloaded by tools/memory.
+// Refuses one request for memory, or all from one on, or none, and counts: preloaded by tools/memory.
 //
-// REFUSE is the number of the request, counted from 1, with '+' behind it where all that follow are refused too. Requests of the program count, those of the C library and of the
-// loader for themselves do not: the address to which the request returns tells them apart. How many there were so far stands
-// in the file that COUNTED names, in 8 bytes, the lowest first.
+// REFUSE is the number of the request, counted from 1, with '+' behind it where all that follow are refused too. Requests of
+// the program count, those of the C library and of the loader for themselves do not: the return address of the call says
+// which it is. The file that COUNTED names has two numbers of 8 bytes, the lowest byte first: the requests made so far, and,
+// once the program has ended, how many blocks it was granted and has not freed.
 
 typedef unsigned long size_t;
 struct Where {
@@ -16,6 +17,7 @@ extern void *__libc_malloc(size_t);
 extern void *__libc_calloc(size_t, size_t);
 extern void *__libc_realloc(void *, size_t);
 extern void *__libc_memalign(size_t, size_t);
+extern void __libc_free(void *);
 extern char *getenv(const char *);
 extern unsigned long getauxval(unsigned long);
 extern int dladdr(const void *, struct Where *);
@@ -23,6 +25,7 @@ extern int open(const char *, int, ...);
 extern long pwrite(int, const void *, size_t, long);
 
 static long requests;
+static long blocks;
 static long refused;
 static int and_all_after;
 static int counted = -1;
@@ -43,40 +46,65 @@ __attribute__((constructor)) static void begin(void) {
         program = where.base;
 }
 
-static int refuses(void *from) {
+__attribute__((destructor)) static void end(void) {
+    if (pwrite(counted, &blocks, sizeof blocks, 8) < 0)
+        blocks = 0;
+}
+
+static int is_programs(void *from) {
     struct Where where;
-    if (!program || !dladdr(from, &where) || where.base != program)
-        return 0;
+    return program && dladdr(from, &where) && where.base == program;
+}
+
+static int refuses(void) {
     long number = __atomic_add_fetch(&requests, 1, __ATOMIC_SEQ_CST);
     if (pwrite(counted, &number, sizeof number, 0) < 0)
         return 0;
     return number == refused || (and_all_after && number > refused);
 }
 
+static void *granted(void *block) {
+    if (block)
+        __atomic_add_fetch(&blocks, 1, __ATOMIC_SEQ_CST);
+    return block;
+}
+
+// What a request gives: of the program's own it may be nothing, and it is counted.
+#define ANSWER(block)                                                                                                     \
+    (!is_programs(__builtin_return_address(0)) ? (block) : refuses() ? 0 : granted(block))
+
 void *malloc(size_t size) {
-    return refuses(__builtin_return_address(0)) ? 0 : __libc_malloc(size);
+    return ANSWER(__libc_malloc(size));
 }
 
 void *calloc(size_t many, size_t size) {
-    return refuses(__builtin_return_address(0)) ? 0 : __libc_calloc(many, size);
+    return ANSWER(__libc_calloc(many, size));
 }
 
 void *realloc(void *old, size_t size) {
-    return refuses(__builtin_return_address(0)) ? 0 : __libc_realloc(old, size);
+    if (!old)
+        return ANSWER(__libc_malloc(size));
+    return is_programs(__builtin_return_address(0)) && refuses() ? 0 : __libc_realloc(old, size);
 }
 
 void *memalign(size_t to, size_t size) {
-    return refuses(__builtin_return_address(0)) ? 0 : __libc_memalign(to, size);
+    return ANSWER(__libc_memalign(to, size));
 }
 
 void *aligned_alloc(size_t to, size_t size) {
-    return refuses(__builtin_return_address(0)) ? 0 : __libc_memalign(to, size);
+    return ANSWER(__libc_memalign(to, size));
 }
 
 int posix_memalign(void **into, size_t to, size_t size) {
-    void *got = refuses(__builtin_return_address(0)) ? 0 : __libc_memalign(to, size);
+    void *got = ANSWER(__libc_memalign(to, size));
     if (!got)
         return 12;
     *into = got;
     return 0;
+}
+
+void free(void *block) {
+    if (block && is_programs(__builtin_return_address(0)))
+        __atomic_sub_fetch(&blocks, 1, __ATOMIC_SEQ_CST);
+    __libc_free(block);
 }

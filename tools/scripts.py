@@ -71,9 +71,9 @@ def line(draw, word, key, greatest):
     return f"{word} {key}\n"
 
 
-def task(draw, pairing, kind, callers, calls):
+def task(draw, pairing, kind, version, callers, calls):
     """A task of this kind: so many calls in all, over an arena that they fill, or that they fill half, or a wide one."""
-    new = draw.random() < 0.5
+    new = version == 2
     greatest = 2**128 - 1 if new else 2**64 - 1
     keys = draw.choice((40, 400, 4000))
     nodes = keys // ROOM[pairing.split()[0]]
