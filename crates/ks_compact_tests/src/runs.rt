@@ -10,8 +10,7 @@ use ks_arena::{Arena, Pass};
 use ks_dictionary::{Closed, Dictionary};
 use ks_gate::NoGate;
 use ks_node::Node;
-use ks_shape::{Ruled, Template};
-use ks_tidy::Compacting;
+use ks_shape::{Compacting, Ruled, Template};
 use std::alloc::{AllocError, Global};
 use std::sync::Wait;
 

@@ -10,8 +10,7 @@ use ks_arena::{Arena, Held, Pass};
 use ks_flow::Tree;
 use ks_gate::{Gate, Point};
 use ks_node::{Next, Unlinked};
-use ks_put::{let_go, step_down};
-use ks_shape::{take_root, tree_end_law};
+use ks_shape::{let_go, step_down, take_root, tree_end_law};
 use std::sync::Wait;
 
 /// Takes the child to which the search goes on, and gives the node.

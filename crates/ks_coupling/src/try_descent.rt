@@ -5,16 +5,14 @@ ghost use Rattle.ks_node.specs.declared.start.Next.TheVariants.{Go};
 ghost use Rattle.ks_node.specs.Body.{next_at};
 ghost use Rattle.ks_arena.specs.Of.{IsPassOf, IsEmptyPassOf, SameCaller, caller_of};
 ghost use Rattle.ks_shape.specs.Of.{IsUnderway, StaysUnderway, IsOnWayOf};
-ghost use Rattle.ks_try.specs.Of.{StandsAtRoot, GoesDownFrom, CameToEnd};
+ghost use Rattle.ks_shape.specs.Descents.{StandsAtRoot, GoesDownFrom, CameToEnd};
 
 use ks_arena::laws::sound_law;
 use ks_arena::{Arena, Held, Pass};
 use ks_flow::Tree;
 use ks_gate::{Gate, Point};
 use ks_node::{Next, Unlinked};
-use ks_put::{let_go, try_enter, try_step_down};
-use ks_shape::{Later, tree_end_law};
-use ks_try::{child_law, turn_back};
+use ks_shape::{Later, child_law, let_go, tree_end_law, try_enter, try_step_down, turn_back};
 
 /// Begins a call, and tries to take the root.
 fn try_begin<N: Unlinked, G: Gate>(

@@ -1,15 +1,14 @@
 //! Merging all over a dictionary.
 ghost use Rattle.std.specs.Prelude.{◌≡◌};
 ghost use Rattle.ks_dictionary.specs.Of.{IsIdlePassOf, site_of};
-ghost use Rattle.ks_tidy.specs.Compacts.{HasFreed, HasLeftBy, IsTightIn, WasUndisturbed};
+ghost use Rattle.ks_shape.specs.Compacts.{HasFreed, HasLeftBy, IsTightIn, WasUndisturbed};
 ghost use Rattle.ks_arena.specs.Of.{SameCaller};
 
 use crate::dictionary::Dictionary;
 use ks_arena::{Arena, Pass};
 use ks_gate::Gate;
 use ks_node::Node;
-use ks_shape::Ruled;
-use ks_tidy::Compacting;
+use ks_shape::{Compacting, Ruled};
 use std::sync::Wait;
 
 impl<N: Node, T: Ruled + Compacting<N, Arena<N, <T as Ruled>::Rule>>> Dictionary<N, T> {

@@ -19,8 +19,8 @@ use Rattle.ks_shape.specs.declared.answers.PutLater.{PutLater}
 use Rattle.ks_shape.specs.declared.answers.PutLater.TheVariants.{Full, Later as Otherwise}
 use Rattle.ks_shape.specs.Ends.{EndsPut}
 use Rattle.ks_shape.specs.Tries.{IsPutOff}
-use Rattle.ks_try.specs.Of.{IsCauseAt}
-use Rattle.ks_try.specs.Laws.Down.{gave_no_take}
+use Rattle.ks_shape.specs.Descents.{IsCauseAt}
+use Rattle.ks_shape.specs.Laws.Down.{gave_no_take}
 
 pub put_off : (n c place : ℕ) (op : Op) (s h : List Event) (later : Later) → Touches op place → Underway give_up c op s h → (hand c h ≡ []) × IsCauseAt give_up n c place s h later → IsPutOff give_up n c op s h later
 put_off n c place op s h later touched under so = record { left = left_of give_up c op s h under so.0; cause = so.1 op touched }

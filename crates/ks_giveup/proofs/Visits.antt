@@ -14,9 +14,9 @@ use Rattle.ks_node.specs.Body.{Body, first_of, last_of}
 use Rattle.ks_arena.specs.declared.held.Held.{Held as Hand}
 use Rattle.ks_arena.specs.Sound.{Sort}
 use Rattle.ks_shape.specs.declared.answers.Later.{Later}
-use Rattle.ks_try.specs.Down.{IsDown}
-use Rattle.ks_try.specs.Laws.Down.{down_root, down_take}
-use Rattle.ks_try.specs.Of.{IsAt}
+use Rattle.ks_shape.specs.Down.{IsDown}
+use Rattle.ks_shape.specs.Laws.Down.{down_root, down_take}
+use Rattle.ks_shape.specs.Descents.{IsAt}
 use Rattle.ks_giveup.specs.Tries.{Visited}
 
 -- a range is the inset

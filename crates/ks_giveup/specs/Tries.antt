@@ -20,7 +20,7 @@ use Rattle.ks_arena.specs.Sound.{Sort, sort_of}
 use Rattle.ks_arena.specs.Clauses.{seen_of}
 use Rattle.ks_shape.specs.declared.answers.Later.{Later}
 use Rattle.ks_shape.specs.OnWay.{IsOnWay}
-use Rattle.ks_try.specs.Of.{IsCauseAt}
+use Rattle.ks_shape.specs.Descents.{IsCauseAt}
 
 -- the place lies within the range of the body
 abbrev pub IsWithin : Body → ℕ → Type 0

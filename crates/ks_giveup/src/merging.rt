@@ -2,14 +2,15 @@
 ghost use Rattle.std.specs.Prelude.{◌≡◌};
 ghost use Rattle.ks_history.specs.Done.{give_up};
 ghost use Rattle.ks_arena.specs.Of.{IsEmptyPassOf, SameCaller};
-ghost use Rattle.ks_tidy.specs.Compacts.{HasFreed, HasLeftBy, IsTightOf, WasUndisturbed};
+ghost use Rattle.ks_shape.specs.Compacts.{HasFreed, HasLeftBy, IsTightOf, WasUndisturbed};
 
 use crate::technique::GiveUp;
 use ks_arena::{Arena, Pass};
 use ks_flow::Tree;
 use ks_gate::{Gate, Point};
 use ks_node::{Ranged, Unlinked};
-use ks_tidy::{Compacting, pair_compact};
+use ks_shape::Compacting;
+use ks_tidy::pair_compact;
 use std::sync::Wait;
 
 /// Merges what fits, node after node; answers how many nodes it made free, modulo 2^32. It goes by lock coupling from the

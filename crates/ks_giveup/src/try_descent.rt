@@ -5,7 +5,7 @@ ghost use Rattle.ks_node.specs.declared.start.Next.TheVariants.{Go};
 ghost use Rattle.ks_node.specs.Body.{next_at};
 ghost use Rattle.ks_arena.specs.Of.{IsPassOf, IsEmptyPassOf, IsNodeOf, SameCaller, caller_of};
 ghost use Rattle.ks_shape.specs.Of.{IsUnderway, StaysUnderway, IsOnWayOf};
-ghost use Rattle.ks_try.specs.Of.{StandsAtRoot, GoesDownFrom, CameToEnd};
+ghost use Rattle.ks_shape.specs.Descents.{StandsAtRoot, GoesDownFrom, CameToEnd};
 ghost use Rattle.ks_giveup.specs.Goes.{GoesTowards, MayVisitNext};
 ghost use Rattle.ks_giveup.specs.Once.{TookRootOnce};
 ghost use Rattle.ks_giveup.specs.Tries.{ComesTo, IsWithin};
@@ -16,8 +16,7 @@ use ks_arena::{Arena, Held, Pass, Taken};
 use ks_flow::Tree;
 use ks_gate::{Gate, Point};
 use ks_node::{Next, Ranged, Unlinked};
-use ks_shape::{Later, give_last, tree_end_law};
-use ks_try::{child_law, turn_back};
+use ks_shape::{Later, child_law, give_last, tree_end_law, turn_back};
 
 /// Whether the range of a node holds the place.
 fn is_in_range<N: Ranged + Unlinked>(held: &Held<N>, place: u64) -> bool

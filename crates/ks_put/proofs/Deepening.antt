@@ -8,7 +8,7 @@ use Rattle.ks_history.specs.declared.Event.{Event}
 use Rattle.ks_history.specs.declared.Event.TheVariants.{Give, Shape}
 use Rattle.ks_history.specs.Due.{takes_by}
 use Rattle.ks_history.specs.Passes.{NoneBy, GrowsWith}
-use Rattle.ks_history.specs.Trace.{graph_after}
+use Rattle.ks_history.specs.Trace.{graph_after, frame_after}
 use Rattle.ks_history.specs.Laws.Stays.{AreInTurn}
 use Rattle.ks_history.specs.Laws.Descent.{HeldUnder, deep_less, deep_while, deep_shaping, took_while}
 use Rattle.ks_flow.specs.Discipline.{BeginsTree, TreeStep}
@@ -19,18 +19,16 @@ use Rattle.ks_node.specs.Edges.{record_of}
 use Rattle.ks_node.specs.Effect.{split_left}
 use Rattle.ks_bodies.specs.Shapes.{split_on, split_own, split_under, grow}
 use Rattle.ks_arena.specs.declared.held.Held.{Held as Hand}
-use Rattle.ks_arena.specs.Sound.{Sort, Sound}
+use Rattle.ks_arena.specs.Sound.{Sort, Sound, blank_of}
 use Rattle.ks_arena.specs.Clauses.{Matches, MatchesIf}
-use Rattle.ks_arena.specs.Sound.{blank_of}
-use Rattle.ks_history.specs.Trace.{frame_after}
 use Rattle.ks_shape.specs.Laws.Single.{record_is}
 use Rattle.ks_shape.specs.Quiet.{IsQuiet}
 use Rattle.ks_shape.specs.Laws.Quiet.{own_quiet, quiet_give}
-use Rattle.ks_try.specs.Down.{IsDown}
-use Rattle.ks_try.specs.Laws.Down.{down_edge, gave_no_take}
+use Rattle.ks_shape.specs.Down.{IsDown}
+use Rattle.ks_shape.specs.Laws.Down.{down_edge, gave_no_take}
 use Rattle.ks_put.specs.Deeper.{StandsDown}
-use Rattle.ks_put.specs.OnPath.{GaveIf, IsUnder}
-use Rattle.ks_put.specs.Laws.Search.{Laws}
+use Rattle.ks_shape.specs.OnPath.{GaveIf, IsUnder}
+use Rattle.ks_shape.specs.Laws.Search.{Laws}
 
 -- while the caller takes none and makes no Shape
 pub down_quiet : (n c : ℕ) (s0 h k : List Event) (taken roots steps i : ℕ) → IsQuiet c h k → AreInTurn k → IsDown n c s0 h taken roots steps i → IsDown n c s0 k taken roots steps i

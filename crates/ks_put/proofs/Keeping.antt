@@ -4,12 +4,11 @@ use Rattle.std.specs.Prelude.{Option, Some, None, IsTrue}
 use mathlib.Core.Logic.{dite}
 use native.Mathlib.Decide.{ℕ_discrete}
 use Rattle.ks_keysets.specs.Record.{LeadsTo}
-use Rattle.ks_keysets.specs.Keyset.{InInset, IsLive}
+use Rattle.ks_keysets.specs.Keyset.{IsLive}
 use Rattle.ks_history.specs.declared.Event.{Event}
 use Rattle.ks_history.specs.declared.Event.TheVariants.{Give}
-use Rattle.ks_history.specs.Trace.{hand, drop_one, held, graph_after, turn_after}
+use Rattle.ks_history.specs.Trace.{hand, held, graph_after, turn_after}
 use Rattle.ks_history.specs.Passes.{Has, GrowsWith}
-use Rattle.ks_history.specs.Laws.Stays.{cond_here, cond_else}
 use Rattle.ks_history.specs.Hand.{AreOnce}
 use Rattle.ks_history.specs.Laws.Hand.{is_hand}
 use Rattle.ks_flow.specs.Discipline.{BeginsTree, TreeStep, SameInset}
@@ -23,27 +22,14 @@ use Rattle.ks_shape.specs.Beside.{KeepsBeside}
 use Rattle.ks_arena.specs.declared.held.Held.{Held as Hand}
 use Rattle.ks_arena.specs.Sound.{Sort, Sound}
 use Rattle.ks_arena.specs.Clauses.{Matches, StillMatch, StillMatchBut, Kept}
-use Rattle.ks_put.specs.declared.path.Path.{Path}
-use Rattle.ks_put.specs.OnPath.{IsUnder, IsOnPath, numbers}
+use Rattle.ks_shape.specs.declared.path.Path.{Path}
+use Rattle.ks_shape.specs.OnPath.{IsUnder, IsOnPath, numbers}
 use Rattle.ks_put.specs.Parts.{IsPart}
-use Rattle.ks_put.specs.Laws.Search.{Laws}
-use Rattle.ks_put.proofs.Quiet.{quiet_insets}
-
-pub drop_first : (i : ℕ) (xs : List ℕ) → drop_one i (i ∷ xs) ≡ xs
-drop_first i xs = cond_here i i xs (i ∷ drop_one i xs) refl
-
-pub drop_later : (x i : ℕ) (xs : List ℕ) → x ≢ i → drop_one i (x ∷ xs) ≡ x ∷ drop_one i xs
-drop_later x i xs ne = cond_else x i xs (x ∷ drop_one i xs) ne
+use Rattle.ks_shape.specs.Laws.Keeping.{inside}
+use Rattle.ks_shape.specs.Laws.Search.{Laws}
 
 module _ {N : Type 0} (sort : Sort) (shows : N → Body) (n c : ℕ) (laws : Laws sort n) (h k : List Event) (i : ℕ) (sound : Sound sort BeginsTree TreeStep n h) (sound' : Sound sort BeginsTree TreeStep n k)
     (gave : GrowsWith c (Give c i) h k) (still : StillMatchBut sort shows i (hand c h) h k) where
-  -- the hand has no node twice
-  pub once : (hs : List ℕ) → hand c h ≡ hs → AreOnce hs
-  once hs is = subst AreOnce is (is_hand h c (laws.turns h sound)).once
-
-  inside : (j p : ℕ) → Has (hand c h) j → Has (hand c k) j → InInset (graph_after h) j p → InInset (graph_after k) j p
-  inside j p has has' = quiet_insets sort n c laws (Give c i) h k tt gave sound' j p ((is_hand h c (laws.turns h sound)).held j has) ((is_hand k c (laws.turns k sound')).held j has')
-
   -- x and the node z that leads to it are kept
   pub half_kept : (p : ℕ) (x z : Hand N) → hand c k ≡ x.node ∷ z.node ∷ [] → Has (hand c h) x.node → Has (hand c h) z.node → x.node ≢ i → z.node ≢ i
       → (x.live ≡ true) × Matches sort shows h x → (z.live ≡ true) × Matches sort shows h z → IsPart sort shows p h z x → IsOnPath sort shows c p k (record { parent = Some z; node = x })
@@ -51,23 +37,8 @@ module _ {N : Type 0} (sort : Sort) (shows : N → Body) (n c : ℕ) (laws : Law
     hands = hands;
     live = is.0;
     matches = still x ne has is.1;
-    inside = inside x.node p has (subst (λ (l : List ℕ). Has l x.node) (sym hands) (inl refl)) part.1;
+    inside = inside sort shows n c laws h k i sound sound' gave still x.node p has (subst (λ (l : List ℕ). Has l x.node) (sym hands) (inl refl)) part.1;
     under = record { live = is_z.0; matches = still z ne_z has_z is_z.1; leads = part.0 };
-  }
-
-  -- the path is kept
-  under_kept : (p : ℕ) (x : Hand N) (o : Option (Hand N)) → ((y : Hand N) → o ≡ Some y → Has (hand c h) y.node × (y.node ≢ i)) → IsUnder sort shows p x h o → IsUnder sort shows p x k o
-  under_kept p x None has so = so
-  under_kept p x (Some y) has so = let t = has y refl in record { live = so.live; matches = still y t.1 t.0 so.matches; leads = so.leads }
-
-  pub path_kept : (p : ℕ) (x : Hand N) (o : Option (Hand N)) → hand c k ≡ x.node ∷ numbers o → Has (hand c h) x.node → x.node ≢ i → ((y : Hand N) → o ≡ Some y → Has (hand c h) y.node × (y.node ≢ i))
-      → (x.live ≡ true) × Matches sort shows h x → InInset (graph_after h) x.node p → IsUnder sort shows p x h o → IsOnPath sort shows c p k (record { parent = o; node = x })
-  path_kept p x o hands has ne has_o is inset under = record {
-    hands = hands;
-    live = is.0;
-    matches = still x ne has is.1;
-    inside = inside x.node p has (subst (λ (l : List ℕ). Has l x.node) (sym hands) (inl refl)) inset;
-    under = under_kept p x o has_o under;
   }
 
 module _ {N : Type 0} (sort : Sort) (shows : N → Body) (n c : ℕ) (laws : Laws sort n) where

@@ -1,5 +1,3 @@
-pub mod Quiet
-pub mod Ways
 pub mod Keeping
 pub mod Deepening
 pub mod Narrowing

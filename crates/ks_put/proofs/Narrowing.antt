@@ -28,10 +28,10 @@ use Rattle.ks_bodies.specs.Shapes.{split_on}
 use Rattle.ks_arena.specs.declared.held.Held.{Held as Hand}
 use Rattle.ks_arena.specs.Sound.{Sort}
 use Rattle.ks_shape.specs.Laws.Single.{record_is}
-use Rattle.ks_put.specs.declared.path.Path.{Path}
+use Rattle.ks_shape.specs.declared.path.Path.{Path}
 use Rattle.ks_put.specs.Narrows.{end_at, end_under, own_at, own_start, cuts_of, cuts_left}
-use Rattle.ks_put.specs.OnPath.{IsUnder}
-use Rattle.ks_put.proofs.Ways.{counted, positive}
+use Rattle.ks_shape.specs.OnPath.{IsUnder}
+use Rattle.ks_shape.specs.Laws.Counted.{counted, positive}
 
 -- edges that are disjoint
 abbrev pub Apart : List Edge → Type 0

@@ -3,7 +3,7 @@ use Rattle.std.proofs.Common.{◌≡◌, ℕ, suc, ◌<◌, ◌≤◌, Bool, tru
 use Rattle.std.specs.Prelude.{Option, Some, None, IsTrue, Result, Ok, Err, length}
 use Rattle.ks_keysets.specs.declared.Frame.{Frame}
 use Rattle.ks_keysets.specs.declared.Span.{Span}
-use Rattle.ks_keysets.specs.Record.{top}
+use Rattle.ks_keysets.specs.Record.{top, LeadsTo}
 use Rattle.ks_history.specs.Trace.{graph_after, frame_after}
 use Rattle.ks_flow.specs.Tree.{Tree}
 use Rattle.ks_node.specs.declared.start.Next.TheVariants.{Here}
@@ -17,9 +17,8 @@ use Rattle.ks_shape.specs.Stretches.{Stretches}
 use Rattle.ks_put.specs.Deeper.{IsDownPath}
 use Rattle.ks_arena.specs.Laws.Writes.{ends_at_no_branch}
 use Rattle.ks_shape.specs.Laws.Single.{shown, record_is}
-use Rattle.ks_put.specs.OnPath.{IsOnPath}
+use Rattle.ks_shape.specs.OnPath.{IsOnPath}
 use Rattle.ks_keysets.specs.Layout.{Layout}
-use Rattle.ks_keysets.specs.Record.{LeadsTo}
 use Rattle.ks_node.specs.Body.{Body, content_of, first_of, is_branch, last_of, next_at}
 use Rattle.ks_node.specs.Edges.{record_of, edges_of}
 use Rattle.ks_arena.specs.declared.held.Held.{Held as Hand}
@@ -31,10 +30,10 @@ use Rattle.ks_shape.specs.declared.answers.Later.TheVariants.{Busy, Moved, Far}
 use Rattle.ks_shape.specs.declared.answers.PutLater.TheVariants.{Later as Otherwise}
 use Rattle.ks_shape.specs.Ends.{EndsPut, IsCauseButFar}
 use Rattle.ks_shape.specs.Tries.{FindsFar, IsCause, IsPutOff}
-use Rattle.ks_put.specs.declared.path.Path.{Path}
+use Rattle.ks_shape.specs.declared.path.Path.{Path}
 use Rattle.ks_put.specs.declared.try_room.Step.{Step}
 use Rattle.ks_put.specs.Parts.{HasRoomAbove}
-use Rattle.ks_try.specs.Of.{IsCauseAt}
+use Rattle.ks_shape.specs.Descents.{IsCauseAt}
 use Rattle.ks_put.specs.Tries.{WentDown, WasRefused, IsEasedBut, IsEasedStep, IsNearer, IsPutOffBy}
 
 pub refused_before : {N : Type 0} (x : Hand N) (depth : ℕ) (refused : Bool) (None_free : Type 0) (result : Result (Step N) Later) → WentDown x depth refused result → WasRefused refused None_free result

@@ -2,10 +2,10 @@
 use Rattle.std.specs.Prelude.{ℕ, ◌≤◌, suc, List, Option, Some, None}
 use Rattle.ks_history.specs.declared.Event.{Event}
 use Rattle.ks_arena.specs.declared.held.Held.{Held as Hand}
-use Rattle.ks_put.specs.declared.path.Path.{Path}
+use Rattle.ks_shape.specs.declared.path.Path.{Path}
 use Rattle.ks_put.specs.declared.halves.Part.{Part}
 use Rattle.ks_put.specs.declared.halves.Part.TheVariants.{Split, Refused, Shut}
-use Rattle.ks_try.specs.Down.{IsDown}
+use Rattle.ks_shape.specs.Down.{IsDown}
 
 module _ {N : Type 0} (n c : ℕ) (s0 h : List Event) (taken roots steps : ℕ) where
   -- since s0 c took so many nodes, the root so often at most, and the node lies so many steps deep, as its parent tells if it

@@ -1,5 +1,3 @@
-pub mod Laws
-pub mod OnPath
 pub mod Parts
 pub mod Deeper
 pub mod Narrows

@@ -9,7 +9,7 @@ use Rattle.ks_node.specs.Body.{Body, is_branch}
 use Rattle.ks_node.specs.Edges.{edges_of}
 use Rattle.ks_node.specs.Room.{is_full}
 use Rattle.ks_arena.specs.declared.held.Held.{Held as Hand}
-use Rattle.ks_put.specs.declared.path.Path.{Path}
+use Rattle.ks_shape.specs.declared.path.Path.{Path}
 use Rattle.ks_put.specs.declared.halves.Part.{Part}
 use Rattle.ks_put.specs.declared.halves.Part.TheVariants.{Split, Refused, Shut}
 

@@ -13,10 +13,10 @@ use Rattle.ks_node.specs.Effect.{split_left}
 use Rattle.ks_node.specs.Edges.{record_of}
 use Rattle.ks_arena.specs.declared.held.Held.{Held as Hand}
 use Rattle.ks_arena.specs.Sound.{Sort}
-use Rattle.ks_put.specs.declared.path.Path.{Path}
+use Rattle.ks_shape.specs.declared.path.Path.{Path}
 use Rattle.ks_put.specs.declared.halves.Part.{Part}
 use Rattle.ks_put.specs.declared.halves.Part.TheVariants.{Split, Refused, Shut}
-use Rattle.ks_put.specs.OnPath.{IsOnPath}
+use Rattle.ks_shape.specs.OnPath.{IsOnPath}
 
 -- a root of this body may grow, as its type says
 abbrev pub Grows : (Content → Bool) → Body → Type 0

@@ -1,17 +1,15 @@
 -- What a search for room comes to that waits for nobody.
-use Rattle.std.specs.Prelude.{ℕ, ◌≡◌, ◌<◌, ◌⊎◌, suc, Bool, false, IsTrue, List, [], Option, Some, None, Result, Ok, Err}
+use Rattle.std.specs.Prelude.{ℕ, ◌≡◌, ◌<◌, ◌⊎◌, suc, Bool, false, IsTrue, List, [], Option, Some, Result, Ok, Err}
 use Rattle.ks_keysets.specs.Layout.{Layout}
 use Rattle.ks_node.specs.declared.node.Node.{Ghosts as NodeGhosts}
 use Rattle.ks_node.below.ks_places.specs.declared.Placing.{Ghosts as PlacingGhosts}
 use Rattle.ks_flow.specs.declared.discipline.Discipline.{Ghosts as DisciplineGhosts}
 use Rattle.ks_history.specs.declared.Event.{Event}
-use Rattle.ks_history.specs.declared.Event.TheVariants.{Give, Take}
 use Rattle.ks_history.specs.declared.Op.{Op}
 use Rattle.ks_history.specs.Descent.{TookSince}
 use Rattle.ks_history.specs.Done.{Template, coupling}
 use Rattle.ks_history.specs.Map.{Touches}
-use Rattle.ks_history.specs.Passes.{GrowsByOthers, GrowsWith}
-use Rattle.ks_history.specs.Trace.{◌⊑◌, hand}
+use Rattle.ks_history.specs.Trace.{hand}
 use Rattle.ks_history.specs.Underway.{Underway}
 use Rattle.ks_node.specs.Body.{Body}
 use Rattle.ks_arena.specs.declared.arena.Arena.{Arena}
@@ -25,30 +23,21 @@ use Rattle.ks_shape.specs.declared.answers.PutLater.{PutLater}
 use Rattle.ks_shape.specs.Ends.{EndsPut, IsCauseButFar}
 use Rattle.ks_shape.specs.Fills.{FoundRoom}
 use Rattle.ks_shape.specs.Tries.{FindsFar, IsCause, TriedPut}
-use Rattle.ks_try.specs.Of.{IsCauseAt}
-use Rattle.ks_put.specs.declared.path.Path.{Path}
+use Rattle.ks_shape.specs.Descents.{IsCauseAt}
+use Rattle.ks_shape.specs.declared.path.Path.{Path}
 use Rattle.ks_put.specs.declared.try_room.Step.{Step}
 use Rattle.ks_put.specs.Deeper.{IsDownPath}
 use Rattle.ks_put.specs.Narrows.{cuts_left}
-use Rattle.ks_put.specs.OnPath.{IsOnPath}
+use Rattle.ks_shape.specs.OnPath.{IsOnPath}
 use Rattle.ks_put.specs.Parts.{HasRoomAbove}
 
 module _ {N : Type 0} (sort : Sort) (shows : N → Body) where
-  -- c, which searches for the place, stands on the path; or it holds nothing
-  abbrev pub PathOrNone : ℕ → ℕ → List Event → Result (Path N) Later → Type 0
-  PathOrNone c place h (Ok path) = IsOnPath sort shows c place h path
-  PathOrNone c place h (Err later) = hand c h ≡ []
-
+  -- c, which searches for the place, stands on the path of the step; or it holds nothing
   abbrev pub StepOrNone : ℕ → ℕ → List Event → Result (Step N) Later → Type 0
   StepOrNone c place h (Ok step) = IsOnPath sort shows c place h step.path
   StepOrNone c place h (Err later) = hand c h ≡ []
 
 module _ {N : Type 0} (n c place : ℕ) (s0 h : List Event) where
-  -- what put off c's search for the place since s0, if it was put off, is so
-  abbrev pub CauseIf : Result (Path N) Later → Type 0
-  CauseIf (Ok path) = Unit {0}
-  CauseIf (Err later) = IsCauseAt coupling n c place s0 h later
-
   -- since s0 c took so many nodes, the root twice at most, and stands as deep on its path as the step tells; or so
   abbrev pub StepOrCause : Result (Step N) Later → Type 0
   StepOrCause (Ok step) = IsDownPath n c s0 h (suc step.depth) 2 step.depth step.path
@@ -67,15 +56,6 @@ RoomOrNone sort shows n c place h k (Err later) = hand c k ≡ []
 abbrev pub RoomOrCause : {N : Type 0} → Type 0 → ℕ → ℕ → ℕ → List Event → List Event → Result (Result (Hand N) (Hand N)) Later → Type 0
 RoomOrCause ways n c place s0 h (Ok found) = Unit {0}
 RoomOrCause ways n c place s0 h (Err later) = IsPutOffBy ways n c place s0 h later
-
--- the path stands at the root; or hangs from this node; or the search was put off
-abbrev pub IsAtRoot : {N : Type 0} → Result (Path N) Later → Type 0
-IsAtRoot (Ok path) = path.parent ≡ None
-IsAtRoot (Err later) = Unit {0}
-
-abbrev pub HangsFrom : {N : Type 0} → Hand N → Result (Path N) Later → Type 0
-HangsFrom x (Ok path) = path.parent ≡ Some x
-HangsFrom x (Err later) = Unit {0}
 
 -- the step went down from the node x, at this depth, and no claim or none but before was refused; or the search was put off
 abbrev pub WentDown : {N : Type 0} → Hand N → ℕ → Bool → Result (Step N) Later → Type 0
@@ -106,27 +86,9 @@ module _ {N : Type 0} (layout : Layout) (shows : N → Body) where
   IsNearer place depth path (Ok step) = (step.depth ≡ suc depth) ⊎ ((step.depth ≡ depth) × (cuts_left layout shows place step.path < cuts_left layout shows place path))
   IsNearer place depth path (Err later) = Unit {0}
 
-module _ {N D : Type 0} where
-  -- the caller took node i between p and p', now the node of its path, and did nothing else; or another held it, and the caller
-  -- did nothing, or gave the node x and did nothing else
-  abbrev pub TookOrLooked : ℕ → Pass N D → Pass N D → Result (Path N) Later → Type 0
-  TookOrLooked i p p' (Ok path) = (path.node.node ≡ i) × GrowsWith p.caller (Take p.caller i) (seen_of p) (seen_of p')
-  TookOrLooked i p p' (Err later) = GrowsByOthers p.caller (seen_of p) (seen_of p')
-
-  abbrev pub TookOrGave : ℕ → Hand N → Pass N D → Pass N D → Result (Path N) Later → Type 0
-  TookOrGave i x p p' (Ok path) = (path.node.node ≡ i) × GrowsWith p.caller (Take p.caller i) (seen_of p) (seen_of p')
-  TookOrGave i x p p' (Err later) = GrowsWith p.caller (Give p.caller x.node) (seen_of p) (seen_of p')
-
 module _ {N D P : Type 0} {n : NodeGhosts N P} {q : PlacingGhosts P} {d : DisciplineGhosts D} where
-  abbrev pub StandsOrNone : Arena N D P n q d → ℕ → ℕ → Pass N D → Result (Path N) Later → Type 0
-  StandsOrNone a c place p result = PathOrNone (sort_of n.layout n.ranged) n.body c place (seen_of p) result
-
   abbrev pub StepsOrNone : Arena N D P n q d → ℕ → ℕ → Pass N D → Result (Step N) Later → Type 0
   StepsOrNone a c place p result = StepOrNone (sort_of n.layout n.ranged) n.body c place (seen_of p) result
-
-  -- what put off a search for the place between p and p', since whatever moment it goes, is so
-  abbrev pub IsBusyDue : Arena N D P n q d → ℕ → Pass N D → Pass N D → Result (Path N) Later → Type 0
-  IsBusyDue a place p p' result = (start : List Event) → start ⊑ seen_of p → CauseIf a.nodes p.caller place start (seen_of p') result
 
   -- a search that stands on the path at p, at this depth, stands as its step tells at p'; or what put it off is so
   abbrev pub OnOrCause : Arena N D P n q d → ℕ → Pass N D → Pass N D → ℕ → Path N → Result (Step N) Later → Type 0

@@ -4,15 +4,16 @@ ghost use Rattle.ks_node.specs.Body.{is_branch};
 ghost use Rattle.ks_node.specs.Room.{is_full};
 ghost use Rattle.ks_node.specs.Asks.{CanSplitAt, HalvesHaveRoom};
 ghost use Rattle.ks_arena.specs.Of.{IsInside, IsPassOf, IsLiveAndCurrent};
-ghost use Rattle.ks_put.specs.Of.{AllGrow, LeadsDown};
+ghost use Rattle.ks_shape.specs.Paths.{LeadsDown};
+ghost use Rattle.ks_put.specs.Of.{AllGrow};
 ghost use Rattle.ks_put.specs.Parts.{Grows, CanAt, LeafCanAt, BranchCanAt, HalfAdopts};
 
-use crate::laws::search_law;
 use ks_arena::{Arena, Held, Pass};
 use ks_bodies::{tree_asks_law, tree_spans_law};
 use ks_flow::Tree;
 use ks_keysets::Span;
 use ks_node::{Unlinked, node_law, unlinked_law};
+use ks_shape::search_law;
 
 /// The cut of a full root. If no node of the type grows in place, the root grows, or is no branch and can adopt it; a branch
 /// grows, if all nodes do.

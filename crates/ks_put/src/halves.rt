@@ -1,20 +1,20 @@
 //! What is kept of a node that was split: the half that holds the place, and the node that leads to it.
 ghost use Rattle.std.specs.Prelude.{◌≡◌, ◌<◌, ◌≤◌, ◌∷◌, [], None, Some, false};
-ghost use Rattle.ks_history.specs.declared.Event.TheVariants.{Give};
 ghost use Rattle.ks_node.specs.Room.{is_full};
 ghost use Rattle.ks_arena.specs.Clauses.{hand_of};
-ghost use Rattle.ks_put.specs.OnPath.{numbers};
-ghost use Rattle.ks_arena.specs.Of.{Adds, IsInside, IsPassOf, IsCurrent, IsLiveAndCurrent, SameCaller, caller_of};
+ghost use Rattle.ks_shape.specs.OnPath.{numbers};
+ghost use Rattle.ks_arena.specs.Of.{IsInside, IsPassOf, IsCurrent, IsLiveAndCurrent, SameCaller, caller_of};
 ghost use Rattle.ks_shape.specs.Of.{IsStretch};
 ghost use Rattle.ks_shape.specs.Quiet.{KeepsQuiet};
-ghost use Rattle.ks_put.specs.Of.{IsOnPathOf, IsUnderParent, IsPartOf};
+ghost use Rattle.ks_shape.specs.Paths.{IsOnPathOf, IsUnderParent};
+ghost use Rattle.ks_put.specs.Narrows.{cuts_left};
+ghost use Rattle.ks_put.specs.Of.{IsPartOf, KeepsDown};
 
-use crate::laws::search_law;
-use crate::path::{Path, keep_alone};
 use ks_arena::{Arena, Held, Pass};
 use ks_flow::Tree;
 use ks_gate::{Gate, Point};
 use ks_node::Unlinked;
+use ks_shape::{Path, keep_alone, let_go, search_law};
 
 /// What a try to split the node of a path came to.
 pub(crate) enum Part<N> {
@@ -72,35 +72,6 @@ pub(crate) fn keep_half<N: Unlinked, G: Gate>(
             node: right,
         }
     }
-}
-
-/// Gives the node in hand that is right of a path, as the right half of its node, and keeps the path.
-pub fn keep_left<N: Unlinked, G: Gate>(
-    arena: &Arena<N, Tree>,
-    pass: &mut Pass<N, Tree>,
-    gate: &G,
-    place: u64,
-    path: Path<N>,
-    right: Held<N>,
-) -> Path<N>
-    requires pass { IsPassOf arena.now pass.old }
-    requires hands { hand_of pass.old ≡ right.node ∷ path.node.node ∷ numbers path.parent }
-    requires under { IsUnderParent arena.now place pass.old path.node path.parent }
-    requires node { IsLiveAndCurrent arena.now pass.old path.node }
-    requires right { IsCurrent arena.now pass.old right }
-    requires inside { IsInside pass.old path.node.node place }
-    ensures pass { IsPassOf arena.now pass.new }
-    ensures caller { SameCaller pass.old pass.new }
-    ensures path { IsOnPathOf arena.now (caller_of pass.old) place pass.new result }
-    ensures stretch { IsStretch pass.old pass.new }
-    ensures same { result ≡ path }
-    ensures gave { Adds (Give (caller_of pass.old) right.node) pass.old pass.new }
-{
-    search_law();
-    let number = right.node;
-    arena.give(pass, right);
-    gate.at(pass.caller(), Point::Given(number));
-    path
 }
 
 /// Keeps the full right half of a node that leads to it itself; the node is its parent, and the parent of the node is given.
@@ -173,5 +144,33 @@ pub(crate) fn keep_right_alone<N: Unlinked, G: Gate>(
     arena.give(pass, node);
     gate.at(pass.caller(), Point::Given(number));
     let node = keep_alone(arena, pass, gate, place, parent, right);
+    Path { parent: None, node }
+}
+
+/// Gives the parent of a node that is not full: it has no need of it.
+#[inline(always)]
+pub(crate) fn settle<N: Unlinked, G: Gate>(
+    arena: &Arena<N, Tree>,
+    pass: &mut Pass<N, Tree>,
+    gate: &G,
+    place: u64,
+    path: Path<N>,
+) -> Path<N>
+    requires pass { IsPassOf arena.now pass.old }
+    requires path { IsOnPathOf arena.now (caller_of pass.old) place pass.old path }
+    ensures pass { IsPassOf arena.now pass.new }
+    ensures caller { SameCaller pass.old pass.new }
+    ensures path { IsOnPathOf arena.now (caller_of pass.old) place pass.new result }
+    ensures stretch { IsStretch pass.old pass.new }
+    ensures down { KeepsDown arena.now pass.old pass.new path result }
+    ensures node { result.node ≡ path.node }
+    ensures narrows { cuts_left N.layout N.body place result ≤ cuts_left N.layout N.body place path }
+    ensures alone { is_full N.layout (N.body path.node.body) ≡ false → result.parent ≡ None }
+{
+    search_law();
+    if path.node.body.is_full() {
+        return path;
+    }
+    let node = let_go(arena, pass, gate, place, path);
     Path { parent: None, node }
 }

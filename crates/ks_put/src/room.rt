@@ -4,16 +4,16 @@ ghost use Rattle.ks_node.specs.declared.start.Next.TheVariants.{Go, Here};
 ghost use Rattle.ks_node.specs.Body.{next_at};
 ghost use Rattle.ks_arena.specs.Of.{IsPassOf, IsEmptyPassOf, SameCaller, caller_of};
 ghost use Rattle.ks_shape.specs.Of.{IsStretch, NoneWasFree, SearchEndsAt};
-ghost use Rattle.ks_put.specs.Of.{IsOnPathOf, CameToRoom};
+ghost use Rattle.ks_shape.specs.Paths.{IsOnPathOf};
+ghost use Rattle.ks_put.specs.Of.{CameToRoom};
 
-use crate::halves::Part;
-use crate::path::{Path, enter, let_go, settle, step_down};
+use crate::halves::{Part, settle};
 use crate::splits::split;
 use ks_arena::{Arena, Held, Pass};
 use ks_flow::Tree;
 use ks_gate::Gate;
 use ks_node::{Next, Unlinked};
-use ks_shape::{give_last, has_room, tree_end_law};
+use ks_shape::{Path, enter, give_last, has_room, let_go, step_down, tree_end_law};
 use std::sync::Wait;
 
 /// Gives the parent, and takes the child, whose parent then is the node, unless the child is not full and needs none: so the

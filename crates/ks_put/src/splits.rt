@@ -8,18 +8,17 @@ ghost use Rattle.ks_put.specs.Parts.{CanAt, Grows, HasRoomAbove, IsEased, IsRoom
 ghost use Rattle.ks_arena.specs.Of.{IsInside, IsPassOf, SameCaller, caller_of};
 ghost use Rattle.ks_shape.specs.Of.{IsStretch};
 ghost use Rattle.ks_put.specs.Narrows.{IsNarrower};
-ghost use Rattle.ks_put.specs.Of.{AllGrow, IsOnPathOf, TriedToSplit, PartsDown};
+ghost use Rattle.ks_shape.specs.Paths.{IsOnPathOf};
+ghost use Rattle.ks_put.specs.Of.{AllGrow, TriedToSplit, PartsDown};
 
 use crate::cuts::{cut_below, cut_of_root};
-use crate::halves::{Part, keep_half, keep_left, keep_right, keep_right_alone};
-use crate::laws::search_law;
-use crate::path::{Path, settle};
+use crate::halves::{Part, keep_half, keep_right, keep_right_alone, settle};
 use ks_arena::{Arena, Held, Pass};
 use ks_flow::Tree;
 use ks_flow::laws::tree_facts_law;
 use ks_gate::Gate;
 use ks_node::{Unlinked, node_law, unlinked_law};
-use ks_shape::{claim_one, claim_two, grow, split_own, split_under};
+use ks_shape::{Path, claim_one, claim_two, grow, keep_left, search_law, split_own, split_under};
 
 /// Lets the full root grow by two nodes.
 pub(crate) fn grow_root<N: Unlinked, G: Gate>(

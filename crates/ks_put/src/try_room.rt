@@ -5,21 +5,20 @@ ghost use Rattle.ks_node.specs.declared.start.Next.TheVariants.{Go};
 ghost use Rattle.ks_node.specs.Body.{next_at};
 ghost use Rattle.ks_arena.specs.Of.{IsPassOf, IsEmptyPassOf, SameCaller, caller_of};
 ghost use Rattle.ks_shape.specs.Of.{IsStretch, NoneWasFree};
-ghost use Rattle.ks_put.specs.Of.{AllGrow, IsOnPathOf};
+ghost use Rattle.ks_shape.specs.Paths.{IsOnPathOf};
+ghost use Rattle.ks_put.specs.Of.{AllGrow};
 ghost use Rattle.ks_put.specs.Tries.{IsEasedBut, IsEasedStep, IsNear, IsNearer, OnOrCause, StepsOrNone, TriesRoom, TriesRoomSince, WasRefused, WentDown};
 
 use crate::halves::Part;
-use crate::laws::search_law;
-use crate::path::{Path, let_go};
 use crate::room::come_to_end;
 use crate::splits::split;
-use crate::try_path::{try_enter, try_step_down};
 use ks_arena::{Arena, Held, Pass};
 use ks_flow::Tree;
 use ks_gate::Gate;
 use ks_node::{Next, Unlinked, node_law, unlinked_law};
-use ks_shape::{Later, give_last, has_room};
-use ks_try::child_law;
+use ks_shape::{
+    Later, Path, child_law, give_last, has_room, let_go, search_law, try_enter, try_step_down,
+};
 
 /// Where a search stands after a step: on its path, so many nodes below the root, after a claim was refused or not.
 pub(crate) struct Step<N> {

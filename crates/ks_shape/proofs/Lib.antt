@@ -3,3 +3,4 @@ pub mod Links
 pub mod Concludes
 pub mod Claiming
 pub mod Places
+pub mod Ways

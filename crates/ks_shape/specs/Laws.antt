@@ -10,3 +10,9 @@ pub mod Quiet
 pub mod SearchEnd
 pub mod Single
 pub mod Stretches
+pub mod Counted
+pub mod Down
+pub mod Frees
+pub mod Keeping
+pub mod Leaves
+pub mod Search

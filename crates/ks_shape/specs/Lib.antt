@@ -13,4 +13,13 @@ pub mod Quiet
 pub mod Makes
 pub mod Of
 pub mod Places
+pub mod Compacts
+pub mod Descents
+pub mod Down
+pub mod Frees
+pub mod Leaves
+pub mod Next
+pub mod OnPath
+pub mod Paths
+pub mod TryPaths
 pub mod Laws

@@ -3,25 +3,37 @@
 #![tactic(auto)]
 
 mod answers;
+mod child;
 mod claims;
+mod compacting;
 mod ending;
+mod far;
 mod fills;
 mod here;
+mod laws;
 mod link;
+mod path;
 mod steps;
 mod template;
 mod tree;
 mod tries;
+mod try_path;
 
 pub use answers::{Full, Later, Numbered, PutLater};
+pub use child::child_law;
 pub use claims::{claim_one, claim_two};
+pub use compacting::Compacting;
 pub use ending::{conclude, refuse, reply_of};
+pub use far::turn_back;
 pub use fills::{Fill, fill_at, not_put_off};
 pub use here::{
     add_here, del_here, get_here, has_room, put_here, refuse_here, swap_here, tree_end_law,
 };
+pub use laws::search_law;
 pub use link::{attach, grow_right, split_right};
+pub use path::{Path, enter, keep_alone, keep_left, let_go, step_down};
 pub use steps::{give_last, take_root};
 pub use template::{Ruled, Shelf, Template};
 pub use tree::{absorb_own, absorb_under, collapse, grow, split_own, split_under};
 pub use tries::tries_law;
+pub use try_path::{try_enter, try_step_down};

@@ -13,7 +13,7 @@ use Rattle.ks_arena.specs.declared.held.Held.{Held as Hand}
 use Rattle.ks_arena.specs.Sound.{Sort}
 use Rattle.ks_arena.specs.Clauses.{Matches}
 use Rattle.ks_shape.specs.Laws.Single.{record_is}
-use Rattle.ks_put.specs.OnPath.{IsUnder, numbers}
+use Rattle.ks_shape.specs.OnPath.{IsUnder, numbers}
 use Rattle.ks_tidy.proofs.Beside.{any_counted, leads_counted, between, cycle}
 
 -- what has an answer under a test passed it

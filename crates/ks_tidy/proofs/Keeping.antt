@@ -17,8 +17,8 @@ use Rattle.ks_arena.specs.Sound.{Sort, Sound}
 use Rattle.ks_arena.specs.Clauses.{Matches}
 use Rattle.ks_shape.specs.Laws.Beside.{beside_with}
 use Rattle.ks_shape.specs.Places.{HasPlacesOf}
-use Rattle.ks_put.specs.OnPath.{IsUnder, numbers}
-use Rattle.ks_put.specs.Laws.Search.{Laws}
+use Rattle.ks_shape.specs.OnPath.{IsUnder, numbers}
+use Rattle.ks_shape.specs.Laws.Search.{Laws}
 
 pub drop_first : (i : ℕ) (xs : List ℕ) → drop_one i (i ∷ xs) ≡ xs
 drop_first i xs = cond_here i i xs (i ∷ drop_one i xs) refl

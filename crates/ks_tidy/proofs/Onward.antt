@@ -24,10 +24,10 @@ use Rattle.ks_arena.specs.Sound.{Sort, blank_of}
 use Rattle.ks_arena.specs.Clauses.{Matches}
 use Rattle.ks_shape.specs.Laws.Single.{record_is, shown}
 use Rattle.ks_shape.specs.Laws.OnWay.{ends_unbranched}
-use Rattle.ks_put.specs.declared.path.Path.{Path}
-use Rattle.ks_put.specs.OnPath.{IsUnder, numbers}
-use Rattle.ks_tidy.specs.Frees.{Frees, Counts, Undisturbed}
-use Rattle.ks_tidy.specs.Laws.Frees.{frees_both, frees_as, counts_both, counts_on, counts_as, undisturbed_first, undisturbed_then, undisturbed_same}
+use Rattle.ks_shape.specs.declared.path.Path.{Path}
+use Rattle.ks_shape.specs.OnPath.{IsUnder, numbers}
+use Rattle.ks_shape.specs.Frees.{Frees, Counts, Undisturbed}
+use Rattle.ks_shape.specs.Laws.Frees.{frees_both, frees_as, counts_both, counts_on, counts_as, undisturbed_first, undisturbed_then, undisturbed_same}
 use Rattle.ks_tidy.specs.Pair.{IsPair, IsNoSole}
 use Rattle.ks_tidy.specs.Walking.{HasWideRoot, IsTightUpTo, TightUpTo}
 

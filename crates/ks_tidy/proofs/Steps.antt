@@ -9,7 +9,7 @@ use Rattle.ks_node.specs.Body.{Body}
 use Rattle.ks_node.specs.Edges.{record_of, edges_of}
 use Rattle.ks_arena.specs.declared.held.Held.{Held as Hand}
 use Rattle.ks_arena.specs.Sound.{Sort}
-use Rattle.ks_put.specs.declared.path.Path.{Path}
+use Rattle.ks_shape.specs.declared.path.Path.{Path}
 use Rattle.ks_shape.specs.Places.{HasPlacesOf}
 use Rattle.ks_tidy.specs.declared.step.Step.{Step}
 use Rattle.ks_tidy.specs.declared.step.Step.TheVariants.{Freed, Rests}

@@ -13,13 +13,13 @@ use Rattle.ks_arena.specs.Sound.{Sort, Sound}
 use Rattle.ks_arena.specs.Clauses.{HasLooked, HasTaken, StillMatch}
 use Rattle.ks_shape.specs.Laws.Beside.{beside_others}
 use Rattle.ks_shape.specs.Places.{HasPlacesOf}
-use Rattle.ks_put.specs.declared.path.Path.{Path}
-use Rattle.ks_put.specs.Laws.Search.{Laws}
-use Rattle.ks_put.specs.OnPath.{numbers}
+use Rattle.ks_shape.specs.declared.path.Path.{Path}
+use Rattle.ks_shape.specs.Laws.Search.{Laws}
+use Rattle.ks_shape.specs.OnPath.{numbers}
 use Rattle.ks_tidy.specs.declared.step.Step.{Step}
 use Rattle.ks_tidy.specs.declared.step.Step.TheVariants.{Freed, Rests}
-use Rattle.ks_tidy.specs.Frees.{Frees}
-use Rattle.ks_tidy.specs.Laws.Frees.{frees_begins, frees_both}
+use Rattle.ks_shape.specs.Frees.{Frees}
+use Rattle.ks_shape.specs.Laws.Frees.{frees_begins, frees_both}
 use Rattle.ks_tidy.specs.Pair.{DidStep, IsPair, IsTrio, count_in}
 use Rattle.ks_tidy.proofs.Keeping.{parent_has, places_kept, under_with}
 

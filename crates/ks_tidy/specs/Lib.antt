@@ -1,5 +1,3 @@
-pub mod Frees
-pub mod Leaves
 pub mod Pair
 pub mod Of
 pub mod Walking

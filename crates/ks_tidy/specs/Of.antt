@@ -15,9 +15,9 @@ use Rattle.ks_arena.specs.declared.held.Pass.{Pass}
 use Rattle.ks_arena.specs.declared.held.Held.{Held as Hand}
 use Rattle.ks_arena.specs.Sound.{blank_of, sort_of}
 use Rattle.ks_arena.specs.Clauses.{HasLooked, HasTaken, hand_of, seen_of}
-use Rattle.ks_put.specs.declared.path.Path.{Path}
+use Rattle.ks_shape.specs.declared.path.Path.{Path}
 use Rattle.ks_tidy.specs.declared.step.Step.{Step}
-use Rattle.ks_tidy.specs.Frees.{Counts, Frees, Undisturbed}
+use Rattle.ks_shape.specs.Frees.{Counts, Frees, Undisturbed}
 use Rattle.ks_tidy.specs.Pair.{DidStep, FitsAlone, IsNoSole, IsPair, IsTrio}
 
 module _ {N D : Type 0} where

@@ -10,11 +10,11 @@ use Rattle.ks_node.specs.Room.{is_low}
 use Rattle.ks_arena.specs.declared.held.Held.{Held as Hand}
 use Rattle.ks_arena.specs.Sound.{Sort, blank_of}
 use Rattle.ks_arena.specs.Clauses.{Matches}
-use Rattle.ks_put.specs.declared.path.Path.{Path}
-use Rattle.ks_put.specs.OnPath.{IsOnPath, IsUnder, numbers}
+use Rattle.ks_shape.specs.declared.path.Path.{Path}
+use Rattle.ks_shape.specs.OnPath.{IsOnPath, IsUnder, numbers}
 use Rattle.ks_tidy.specs.declared.step.Step.{Step}
 use Rattle.ks_tidy.specs.declared.step.Step.TheVariants.{Freed, Rests}
-use Rattle.ks_tidy.specs.Frees.{Frees}
+use Rattle.ks_shape.specs.Frees.{Frees}
 
 -- where the search stands after a try to merge
 abbrev pub path_in : {N : Type 0} → Step N → Path N

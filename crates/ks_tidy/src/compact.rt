@@ -5,7 +5,8 @@ ghost use Rattle.ks_history.specs.Done.{Template};
 ghost use Rattle.ks_node.specs.Edges.{record_of};
 ghost use Rattle.ks_arena.specs.Of.{IsEmptyPassOf, IsPassOf, SameCaller, caller_of};
 ghost use Rattle.ks_shape.specs.Of.{IsStretch};
-ghost use Rattle.ks_tidy.specs.Compacts.{FitsNone, HasFreed, HasLeftBy, IsNotSole, IsPairOf, IsTightBefore, IsTightOf, WasUndisturbed};
+ghost use Rattle.ks_shape.specs.Compacts.{HasFreed, HasLeftBy, IsTightOf, WasUndisturbed};
+ghost use Rattle.ks_tidy.specs.Compacts.{FitsNone, IsNotSole, IsPairOf, IsTightBefore};
 
 use crate::descent::{go_down, leave};
 use crate::node::{Tidied, tidy_node};
@@ -14,7 +15,7 @@ use ks_bodies::{run_end, tests_law};
 use ks_flow::{Tree, tight_law};
 use ks_gate::Gate;
 use ks_node::{Next, Unlinked, node_law, unlinked_law};
-use ks_put::{Path, enter, search_law};
+use ks_shape::{Path, enter, search_law};
 use std::sync::Wait;
 
 /// Where a walk stands after it merged at a node, how many nodes that made free, and the last place that goes the way of

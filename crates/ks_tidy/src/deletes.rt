@@ -16,8 +16,7 @@ use ks_flow::{Tree, tidy_law};
 use ks_gate::{Gate, Point};
 use ks_history::Op;
 use ks_node::{Unlinked, node_law, unlinked_law};
-use ks_put::{Path, search_law};
-use ks_shape::{Numbered, reply_of};
+use ks_shape::{Numbered, Path, reply_of, search_law};
 use std::sync::Wait;
 
 /// Deletes what stands at a place, at a node in hand where the search for the place ends, and keeps the node. Answers

@@ -12,7 +12,7 @@ use ks_bodies::tidied_law;
 use ks_flow::{Tree, tidy_law};
 use ks_gate::{Gate, Point};
 use ks_node::{Next, Unlinked, node_law, unlinked_law};
-use ks_put::{Path, enter, let_go, search_law, step_down};
+use ks_shape::{Path, enter, let_go, search_law, step_down};
 use std::sync::Wait;
 
 /// Gives the parent, if there is one, and takes the child to which the search goes on; the node becomes its parent.

@@ -13,8 +13,7 @@ use ks_bodies::alone_law;
 use ks_flow::Tree;
 use ks_gate::Gate;
 use ks_node::{Unlinked, node_law, unlinked_law};
-use ks_put::{Path, keep_left, search_law};
-use ks_shape::{absorb_own, absorb_under};
+use ks_shape::{Path, absorb_own, absorb_under, keep_left, search_law};
 
 /// The node of a path absorbs the node in hand to which it leads itself, if both fit. That one is given back, or given
 /// free.

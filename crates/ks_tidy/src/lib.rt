@@ -5,7 +5,6 @@
 #![tactic(auto)]
 
 mod compact;
-mod compacting;
 mod deletes;
 mod descent;
 mod joins;
@@ -18,7 +17,6 @@ mod tries;
 mod try_step;
 
 pub use compact::pair_compact;
-pub use compacting::Compacting;
 pub use deletes::{del_alone, del_on};
 pub use descent::{come_down, go_down, leave, pair_tidy, tidy_end};
 pub use node::{Tidied, tidy_node};

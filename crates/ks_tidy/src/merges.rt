@@ -14,8 +14,7 @@ use ks_arena::{Arena, Held, Pass, root_law};
 use ks_flow::Tree;
 use ks_gate::{Gate, Point};
 use ks_node::Unlinked;
-use ks_put::{Path, search_law};
-use ks_shape::collapse;
+use ks_shape::{Path, collapse, search_law};
 use std::sync::Wait;
 
 /// The root takes over its only child, which is given free.

@@ -10,7 +10,7 @@ use ks_bodies::{rights_law, tests_law};
 use ks_flow::Tree;
 use ks_flow::laws::tree_facts_law;
 use ks_node::{Unlinked, node_law, unlinked_law};
-use ks_put::{Path, search_law};
+use ks_shape::{Path, search_law};
 
 /// The node to which the node of a path leads itself is not in hand.
 pub(crate) fn chained_law<N: Unlinked>(

@@ -10,7 +10,7 @@ use ks_arena::{Arena, Pass};
 use ks_flow::Tree;
 use ks_gate::Gate;
 use ks_node::Unlinked;
-use ks_put::Path;
+use ks_shape::Path;
 use std::sync::Wait;
 
 /// Where a search stands after it merged nodes, and how many it made free, modulo 2^32.

@@ -12,7 +12,7 @@ use ks_bodies::{alone_law, tests_law};
 use ks_flow::Tree;
 use ks_gate::Gate;
 use ks_node::{Node, Unlinked, node_law, unlinked_law};
-use ks_put::{Path, search_law};
+use ks_shape::{Path, search_law};
 use std::sync::Wait;
 
 /// What a try to merge at the node of a path came to.

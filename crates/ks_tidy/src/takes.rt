@@ -11,7 +11,7 @@ use ks_arena::{Arena, Held, Pass, Taken};
 use ks_flow::Tree;
 use ks_gate::{Gate, Point};
 use ks_node::Unlinked;
-use ks_put::search_law;
+use ks_shape::search_law;
 use std::sync::Wait;
 
 /// Takes the node to which a node in hand has an edge.

@@ -17,8 +17,7 @@ use ks_arena::{Arena, Held, Pass};
 use ks_flow::Tree;
 use ks_gate::{Gate, Point};
 use ks_node::{Next, Unlinked};
-use ks_put::{Path, let_go, search_law, try_enter, try_step_down};
-use ks_shape::Numbered;
+use ks_shape::{Numbered, Path, let_go, search_law, try_enter, try_step_down};
 
 /// Merges at the node of a path while it is low, by tries: at most as often as the arena has nodes. What the node had has
 /// the node of the path then.

@@ -16,7 +16,7 @@ use ks_bodies::tests_law;
 use ks_flow::Tree;
 use ks_gate::Gate;
 use ks_node::{Unlinked, node_law, unlinked_law};
-use ks_put::{Path, search_law};
+use ks_shape::{Path, search_law};
 
 /// The node of a path absorbs the node to which it leads itself, if both fit and nobody else holds that one.
 fn try_merge_own<N: Unlinked, G: Gate>(

@@ -10,9 +10,9 @@ use Rattle.ks_arena.specs.declared.held.Held.{Held as Hand}
 use Rattle.ks_arena.specs.Sound.{sort_of}
 use Rattle.ks_arena.specs.Clauses.{seen_of}
 use Rattle.ks_shape.specs.OnWay.{IsOnWay}
-use Rattle.ks_put.specs.OnPath.{GaveIf, IsOnPath}
-use Rattle.ks_try.specs.Down.{IsDown}
-use Rattle.ks_try.specs.Laws.Down.{down_root}
+use Rattle.ks_shape.specs.OnPath.{GaveIf, IsOnPath}
+use Rattle.ks_shape.specs.Down.{IsDown}
+use Rattle.ks_shape.specs.Laws.Down.{down_root}
 use Rattle.ks_coupling.proofs.try_descent.try_begin.Goals as goal
 
 pub let_go-requires-clause-path : goal.let_go-requires-clause-path

@@ -6,8 +6,8 @@ use Rattle.ks_history.specs.Underway.{Underway}
 use Rattle.ks_arena.specs.Sound.{sort_of}
 use Rattle.ks_arena.specs.Clauses.{seen_of}
 use Rattle.ks_shape.specs.OnWay.{IsOnWay}
-use Rattle.ks_try.specs.Down.{IsDown}
-use Rattle.ks_try.specs.Of.{IsCauseAt}
+use Rattle.ks_shape.specs.Down.{IsDown}
+use Rattle.ks_shape.specs.Descents.{IsCauseAt}
 use Rattle.ks_coupling.proofs.try_descent.try_find.Goals as goal
 
 pub returns-in-Err-try_go_on-clause-came : goal.returns-in-Err-try_go_on-clause-came

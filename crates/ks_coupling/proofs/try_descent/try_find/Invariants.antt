@@ -6,7 +6,7 @@ use Rattle.ks_history.specs.Underway.{Underway}
 use Rattle.ks_arena.specs.Sound.{sort_of}
 use Rattle.ks_arena.specs.Clauses.{IsPass, seen_of}
 use Rattle.ks_shape.specs.OnWay.{IsOnWay}
-use Rattle.ks_try.specs.Down.{IsDown}
+use Rattle.ks_shape.specs.Down.{IsDown}
 use Rattle.ks_coupling.proofs.try_descent.try_find.Given as goal
 
 abbrev pub invariant-loop-steps : goal.invariant-loop-steps

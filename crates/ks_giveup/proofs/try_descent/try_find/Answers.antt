@@ -1,17 +1,16 @@
 use Rattle.std.proofs.Common.{◌≡◌, ◌≤◌, ◌+◌, ◌∙◌, ℕ, suc, List, [], length, ap, sym, subst, arith}
 use Rattle.ks_history.specs.declared.Event.{Event}
 use Rattle.ks_history.specs.Descent.{TookSince}
-use Rattle.ks_history.specs.Done.{give_up}
+use Rattle.ks_history.specs.Done.{give_up, coupling}
 use Rattle.ks_history.specs.Due.{FarDue}
 use Rattle.ks_history.specs.Trace.{hand}
 use Rattle.ks_history.specs.Underway.{Underway}
 use Rattle.ks_arena.specs.Sound.{sort_of}
 use Rattle.ks_arena.specs.Clauses.{seen_of}
 use Rattle.ks_shape.specs.OnWay.{IsOnWay}
-use Rattle.ks_try.specs.Down.{IsDown}
-use Rattle.ks_try.specs.Of.{IsCauseAt}
+use Rattle.ks_shape.specs.Down.{IsDown}
+use Rattle.ks_shape.specs.Descents.{IsCauseAt}
 use Rattle.ks_history.specs.declared.Op.TheVariants.{Put}
-use Rattle.ks_history.specs.Done.{coupling}
 use Rattle.ks_history.specs.Laws.Underway.{underway_here}
 use Rattle.ks_giveup.specs.Goes.{Goes}
 use Rattle.ks_giveup.proofs.Way.{coupled_goes, goes_both}

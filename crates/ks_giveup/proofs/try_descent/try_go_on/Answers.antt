@@ -7,8 +7,8 @@ use Rattle.ks_history.specs.Done.{give_up}
 use Rattle.ks_history.specs.Underway.{Underway}
 use Rattle.ks_arena.specs.Sound.{sort_of}
 use Rattle.ks_arena.specs.Clauses.{seen_of}
-use Rattle.ks_try.specs.Down.{IsDown}
-use Rattle.ks_try.specs.Laws.Down.{down_edge, down_give}
+use Rattle.ks_shape.specs.Down.{IsDown}
+use Rattle.ks_shape.specs.Laws.Down.{down_edge, down_give}
 use Rattle.ks_giveup.specs.Tries.{WasOnWay, Visited}
 use Rattle.ks_giveup.specs.Goes.{Goes}
 use Rattle.ks_giveup.proofs.Visits.{went_on}

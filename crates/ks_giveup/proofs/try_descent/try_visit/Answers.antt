@@ -19,7 +19,7 @@ use Rattle.ks_node.specs.Edges.{record_of}
 use Rattle.ks_arena.specs.Sound.{sort_of, blank_of}
 use Rattle.ks_arena.specs.Clauses.{seen_of}
 use Rattle.ks_shape.specs.Laws.Single.{takes, shown, record_is}
-use Rattle.ks_try.specs.Laws.Down.{busy_since}
+use Rattle.ks_shape.specs.Laws.Down.{busy_since}
 use Rattle.ks_giveup.specs.Laws.Tries.{was_later, was_moved}
 use Rattle.ks_giveup.proofs.Visits.{ranged_inset}
 use Rattle.ks_giveup.specs.Goes.{at_first}

@@ -5,8 +5,9 @@ use Rattle.ks_arena.specs.Sound.{sort_of}
 use Rattle.ks_arena.specs.Clauses.{seen_of}
 use Rattle.ks_shape.specs.Laws.Stretches.{stretches_give}
 use Rattle.ks_shape.specs.Laws.Quiet.{quiet_give}
-use Rattle.ks_put.specs.Laws.Search.{Laws}
-use Rattle.ks_put.proofs.Keeping.{once, drop_first, drop_later, half_kept}
+use Rattle.ks_shape.specs.Laws.Search.{Laws}
+use Rattle.ks_shape.specs.Laws.Keeping.{once, drop_first, drop_later}
+use Rattle.ks_put.proofs.Keeping.{half_kept}
 use Rattle.ks_put.proofs.halves.keep_half.Given.{Over}
 use Rattle.ks_put.proofs.halves.keep_half.Goals as goal
 use Rattle.ks_put.proofs.halves.keep_half.Goals.{After-search_law}

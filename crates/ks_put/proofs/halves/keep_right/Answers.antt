@@ -5,12 +5,13 @@ use Rattle.ks_history.specs.Passes.{Has}
 use Rattle.ks_arena.specs.declared.held.Held.{Held as Hand}
 use Rattle.ks_arena.specs.Sound.{sort_of}
 use Rattle.ks_arena.specs.Clauses.{seen_of, hand_of}
-use Rattle.ks_put.specs.OnPath.{numbers}
+use Rattle.ks_shape.specs.OnPath.{numbers}
 use Rattle.ks_shape.specs.Laws.Stretches.{stretches_give, stretches_here}
 use Rattle.ks_shape.specs.Laws.Quiet.{quiet_give}
 use Rattle.ks_put.proofs.Deepening.{quiet_here}
-use Rattle.ks_put.specs.Laws.Search.{Laws}
-use Rattle.ks_put.proofs.Keeping.{once, drop_first, drop_later, half_kept}
+use Rattle.ks_shape.specs.Laws.Search.{Laws}
+use Rattle.ks_shape.specs.Laws.Keeping.{once, drop_first, drop_later}
+use Rattle.ks_put.proofs.Keeping.{half_kept}
 use Rattle.ks_put.proofs.halves.keep_right.Given.{Over}
 use Rattle.ks_put.proofs.halves.keep_right.Goals as goal
 use Rattle.ks_put.proofs.halves.keep_right.Goals.{After-search_law}

@@ -13,10 +13,9 @@ use Rattle.ks_arena.specs.Sound.{Sort, sort_of}
 use Rattle.ks_arena.specs.Clauses.{seen_of, hand_of, Matches}
 use Rattle.ks_shape.specs.OnWay.{IsOnWay}
 use Rattle.ks_shape.specs.Laws.Stretches.{stretches_as, stretches_both, stretches_give}
-use Rattle.ks_put.specs.OnPath.{IsUnder, numbers}
-use Rattle.ks_put.specs.Laws.Search.{Laws}
-use Rattle.ks_put.proofs.Quiet.{quiet_insets}
-use Rattle.ks_put.proofs.Keeping.{drop_first, drop_later}
+use Rattle.ks_shape.specs.OnPath.{IsUnder, numbers}
+use Rattle.ks_shape.specs.Laws.Search.{Laws, quiet_insets}
+use Rattle.ks_shape.specs.Laws.Keeping.{drop_first, drop_later}
 use Rattle.ks_shape.specs.Laws.Quiet.{quiet_give, quiet_on}
 use Rattle.ks_put.proofs.Deepening.{quiet_gave}
 use Rattle.ks_put.proofs.halves.keep_right_alone.Given.{Over}

@@ -3,8 +3,8 @@ use Rattle.ks_keysets.specs.Layout.{Layout}
 use Rattle.ks_arena.specs.Sound.{sort_of}
 use Rattle.ks_arena.specs.Clauses.{seen_of}
 use Rattle.ks_shape.specs.Laws.Stretches.{stretches_as, stretches_both, stretches_on}
-use Rattle.ks_put.specs.declared.path.Path.{Path}
-use Rattle.ks_put.specs.OnPath.{IsOnPath}
+use Rattle.ks_shape.specs.declared.path.Path.{Path}
+use Rattle.ks_shape.specs.OnPath.{IsOnPath}
 use Rattle.ks_put.proofs.Going.{on_was, new_was, found_none, found_room}
 use Rattle.ks_put.proofs.room.make_room.Goals as goal
 

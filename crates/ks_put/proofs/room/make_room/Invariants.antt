@@ -5,7 +5,7 @@ use Rattle.ks_history.specs.Due.{NoneFree}
 use Rattle.ks_arena.specs.Sound.{sort_of}
 use Rattle.ks_arena.specs.Clauses.{IsPass, seen_of}
 use Rattle.ks_shape.specs.Stretches.{Stretches}
-use Rattle.ks_put.specs.OnPath.{IsOnPath}
+use Rattle.ks_shape.specs.OnPath.{IsOnPath}
 use Rattle.ks_put.proofs.room.make_room.Given as goal
 
 abbrev pub invariant-loop : goal.invariant-loop

@@ -1,20 +1,20 @@
 use Rattle.std.proofs.Common.{◌≡◌, ◌≤◌, ◌∙◌, ℕ, List, ◌∷◌, length, arith, refl, sym, ap, subst, ◌<◌}
 use Rattle.std.specs.Prelude.{Option, Some, None}
-use Rattle.ks_keysets.specs.Record.{LeadsTo}
+use Rattle.ks_keysets.specs.Record.{LeadsTo, top}
 use Rattle.ks_keysets.specs.Keyset.{InInset}
 use Rattle.ks_history.specs.Trace.{held, graph_after, turn_after}
 use Rattle.ks_node.specs.Body.{Body}
-use Rattle.ks_node.specs.Edges.{record_of}
+use Rattle.ks_node.specs.Edges.{record_of, edges_of}
 use Rattle.ks_node.specs.Laws.Spans.{length_edges}
 use Rattle.ks_node.specs.Effect.{grown}
 use Rattle.ks_arena.specs.declared.held.Held.{Held as Hand}
 use Rattle.ks_arena.specs.Sound.{sort_of}
 use Rattle.ks_arena.specs.Clauses.{seen_of}
 use Rattle.ks_shape.specs.Laws.Single.{record_is}
-use Rattle.ks_put.specs.OnPath.{numbers}
+use Rattle.ks_shape.specs.OnPath.{numbers}
 use Rattle.ks_shape.specs.Laws.Stretches.{stretches_as, stretches_both, stretches_shape}
 use Rattle.ks_put.specs.Parts.{IsPart}
-use Rattle.ks_put.specs.Laws.Search.{Laws}
+use Rattle.ks_shape.specs.Laws.Search.{Laws}
 use Rattle.ks_shape.specs.Laws.Claims.{may_grow_root}
 use Rattle.ks_put.proofs.Keeping.{path_turn, path_stays, path_live, full_is_root}
 use Rattle.ks_history.specs.declared.Event.TheVariants.{Shape}
@@ -24,11 +24,9 @@ use Rattle.ks_history.specs.Laws.Hand.{is_hand}
 use Rattle.ks_node.specs.Room.{is_full}
 use Rattle.ks_bodies.specs.Shapes.{grow as grow_to}
 use Rattle.ks_shape.specs.Quiet.{IsQuiet}
-use Rattle.ks_try.specs.Down.{IsDown}
+use Rattle.ks_shape.specs.Down.{IsDown}
 use Rattle.ks_put.specs.Deeper.{StandsDown}
 use Rattle.ks_put.proofs.Deepening.{down_quiet, down_shaped, free_none, grow_held}
-use Rattle.ks_keysets.specs.Record.{top}
-use Rattle.ks_node.specs.Edges.{edges_of}
 use Rattle.ks_put.specs.Narrows.{end_at}
 use Rattle.ks_put.proofs.Narrowing.{end_below, half_narrower}
 use Rattle.ks_put.proofs.splits.grow_root.Given.{Over}

@@ -2,7 +2,7 @@ use Rattle.std.proofs.Common.{◌≡◌, ℕ, false, sym, subst, arith}
 use Rattle.ks_arena.specs.Sound.{sort_of}
 use Rattle.ks_arena.specs.Clauses.{seen_of}
 use Rattle.ks_shape.specs.Laws.Stretches.{stretches_as, stretches_both}
-use Rattle.ks_put.specs.OnPath.{IsOnPath}
+use Rattle.ks_shape.specs.OnPath.{IsOnPath}
 use Rattle.ks_node.specs.Room.{is_full}
 use Rattle.ks_arena.specs.declared.held.Held.{Held as Hand}
 use Rattle.ks_put.specs.Deeper.{IsDownPath}

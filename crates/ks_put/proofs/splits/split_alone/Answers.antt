@@ -1,41 +1,34 @@
 use Rattle.std.proofs.Common.{◌≡◌, ◌≤◌, ◌∙◌, ℕ, suc, false, List, ◌∷◌, length, arith, refl, sym, ap, subst, inl, inr, ◌<◌}
 use Rattle.std.specs.Prelude.{Option, Some, None}
-use Rattle.ks_keysets.specs.Record.{LeadsTo}
-use Rattle.ks_keysets.specs.Keyset.{InInset}
-use Rattle.ks_history.specs.Trace.{hand, held, graph_after, turn_after}
-use Rattle.ks_history.specs.Passes.{Has}
+use Rattle.ks_keysets.specs.Record.{LeadsTo, top}
+use Rattle.ks_keysets.specs.Keyset.{InInset, record_at}
+use Rattle.ks_history.specs.Trace.{hand, held, graph_after, turn_after, frame_after}
+use Rattle.ks_history.specs.Passes.{Has, GrowsWith}
 use Rattle.ks_history.specs.Hand.{AreOnce}
 use Rattle.ks_history.specs.Laws.Hand.{is_hand}
 use Rattle.ks_node.specs.Body.{Body}
 use Rattle.ks_node.specs.Edges.{record_of}
-use Rattle.ks_bodies.specs.Shapes.{split_on}
+use Rattle.ks_bodies.specs.Shapes.{split_on, split_own as own_to}
 use Rattle.ks_arena.specs.declared.held.Held.{Held as Hand}
-use Rattle.ks_arena.specs.Sound.{sort_of}
+use Rattle.ks_arena.specs.Sound.{sort_of, Sort, blank_of}
 use Rattle.ks_arena.specs.Clauses.{seen_of, hand_of}
-use Rattle.ks_put.specs.OnPath.{IsUnder, numbers}
+use Rattle.ks_shape.specs.OnPath.{IsUnder, numbers}
 use Rattle.ks_shape.specs.Laws.Stretches.{stretches_as, stretches_both, stretches_shape}
-use Rattle.ks_put.specs.Laws.Search.{Laws}
+use Rattle.ks_shape.specs.Laws.Search.{Laws}
 use Rattle.ks_put.proofs.Keeping.{path_turn, path_stays, path_live, parent_has, parent_apart, under_later}
 use Rattle.ks_keysets.specs.declared.Change.{Change}
-use Rattle.ks_keysets.specs.Keyset.{record_at}
 use Rattle.ks_history.specs.declared.Event.{Event}
 use Rattle.ks_history.specs.declared.Event.TheVariants.{Shape}
-use Rattle.ks_history.specs.Passes.{GrowsWith}
 use Rattle.ks_history.specs.Laws.Descent.{HeldUnder, the_node, claimed, target}
 use Rattle.ks_node.specs.Room.{is_full}
-use Rattle.ks_bodies.specs.Shapes.{split_own as own_to}
-use Rattle.ks_arena.specs.Sound.{Sort}
 use Rattle.ks_shape.specs.Quiet.{IsQuiet}
 use Rattle.ks_shape.specs.Laws.Quiet.{quiet_give}
 use Rattle.ks_shape.specs.Laws.Single.{record_is}
-use Rattle.ks_try.specs.Down.{IsDown}
-use Rattle.ks_try.specs.Laws.Down.{down_edge}
-use Rattle.ks_put.specs.declared.path.Path.{Path}
+use Rattle.ks_shape.specs.Down.{IsDown}
+use Rattle.ks_shape.specs.Laws.Down.{down_edge}
+use Rattle.ks_shape.specs.declared.path.Path.{Path}
 use Rattle.ks_put.specs.Deeper.{StandsDown}
 use Rattle.ks_put.proofs.Deepening.{down_quiet, down_fewer, down_shaped, free_none, own_full, own_held, path_down, stands_quiet}
-use Rattle.ks_keysets.specs.Record.{top}
-use Rattle.ks_history.specs.Trace.{frame_after}
-use Rattle.ks_arena.specs.Sound.{blank_of}
 use Rattle.ks_put.specs.Narrows.{cuts_left, own_start}
 use Rattle.ks_put.proofs.Narrowing.{own_narrower, own_on, own_past, right_narrower, under_above}
 use Rattle.ks_put.proofs.splits.split_alone.Given.{Over}

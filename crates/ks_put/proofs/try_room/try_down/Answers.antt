@@ -9,9 +9,9 @@ use Rattle.ks_arena.specs.declared.held.Held.{Held as Hand}
 use Rattle.ks_arena.specs.Sound.{sort_of}
 use Rattle.ks_arena.specs.Clauses.{seen_of}
 use Rattle.ks_shape.specs.Laws.Stretches.{stretches_as, stretches_both}
-use Rattle.ks_try.specs.Down.{IsDown}
-use Rattle.ks_try.specs.Laws.Down.{down_far, down_take, gave_no_take}
-use Rattle.ks_try.specs.Of.{IsCauseAt}
+use Rattle.ks_shape.specs.Down.{IsDown}
+use Rattle.ks_shape.specs.Laws.Down.{down_far, down_take, gave_no_take}
+use Rattle.ks_shape.specs.Descents.{IsCauseAt}
 use Rattle.ks_put.specs.Deeper.{IsDownPath, StandsDown}
 use Rattle.ks_put.proofs.Deepening.{down_quiet, path_down, quiet_gave}
 use Rattle.ks_put.proofs.try_room.try_down.Given.{Over}

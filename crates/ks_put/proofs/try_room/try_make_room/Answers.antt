@@ -9,12 +9,12 @@ use Rattle.ks_arena.specs.declared.held.Held.{Held as Hand}
 use Rattle.ks_arena.specs.Sound.{sort_of}
 use Rattle.ks_arena.specs.Clauses.{seen_of}
 use Rattle.ks_shape.specs.Laws.Stretches.{stretches_as, stretches_both, stretches_on}
-use Rattle.ks_put.specs.declared.path.Path.{Path}
+use Rattle.ks_shape.specs.declared.path.Path.{Path}
 use Rattle.ks_shape.specs.Stretches.{Stretches}
-use Rattle.ks_try.specs.Down.{IsDown}
-use Rattle.ks_try.specs.Laws.Down.{down_root}
+use Rattle.ks_shape.specs.Down.{IsDown}
+use Rattle.ks_shape.specs.Laws.Down.{down_root}
 use Rattle.ks_put.specs.Deeper.{IsDownPath, StandsDown}
-use Rattle.ks_put.specs.OnPath.{IsOnPath}
+use Rattle.ks_shape.specs.OnPath.{IsOnPath}
 use Rattle.ks_put.specs.Parts.{HasRoomAbove}
 use Rattle.ks_put.specs.Tries.{IsPutOffBy}
 use Rattle.ks_put.proofs.Going.{on_was, new_was, found_none, found_room}

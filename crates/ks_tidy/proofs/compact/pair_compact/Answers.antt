@@ -5,9 +5,9 @@ use Rattle.ks_flow.specs.Tight.{IsTightBelow}
 use Rattle.ks_arena.specs.Sound.{sort_of, blank_of}
 use Rattle.ks_arena.specs.Clauses.{seen_of}
 use Rattle.ks_shape.specs.Laws.Stretches.{stretches_as, stretches_here, stretches_on}
-use Rattle.ks_tidy.specs.Frees.{Undisturbed}
-use Rattle.ks_tidy.specs.Laws.Frees.{counts_as, counts_both, counts_of, frees_here, undisturbed_as, undisturbed_first, undisturbed_then}
-use Rattle.ks_tidy.specs.Laws.Leaves.{has_left}
+use Rattle.ks_shape.specs.Frees.{Undisturbed}
+use Rattle.ks_shape.specs.Laws.Frees.{counts_as, counts_both, counts_of, frees_here, undisturbed_as, undisturbed_first, undisturbed_then}
+use Rattle.ks_shape.specs.Laws.Leaves.{has_left}
 use Rattle.ks_tidy.specs.Walking.{TightUpTo}
 use Rattle.ks_tidy.proofs.compact.pair_compact.Goals as goal
 use Rattle.ks_tidy.proofs.compact.pair_compact.Goals.{At-loop}

@@ -8,10 +8,10 @@ use Rattle.ks_node.specs.Edges.{record_of}
 use Rattle.ks_node.specs.Laws.Ways.{next_leads, here_stays}
 use Rattle.ks_arena.specs.Sound.{sort_of, blank_of}
 use Rattle.ks_arena.specs.Clauses.{seen_of}
-use Rattle.ks_put.specs.Laws.Search.{Laws}
+use Rattle.ks_shape.specs.Laws.Search.{Laws}
 use Rattle.ks_shape.specs.Laws.Stretches.{stretches_as, stretches_on}
-use Rattle.ks_tidy.specs.Frees.{Undisturbed}
-use Rattle.ks_tidy.specs.Laws.Frees.{frees_as, frees_take, counts_as, counts_of, undisturbed_as}
+use Rattle.ks_shape.specs.Frees.{Undisturbed}
+use Rattle.ks_shape.specs.Laws.Frees.{frees_as, frees_take, counts_as, counts_of, undisturbed_as}
 use Rattle.ks_tidy.specs.Pair.{IsPair}
 use Rattle.ks_tidy.proofs.Onward.{IsTested, counts_next, quiet_before, tight_on, visit_tests, walk_begins, walk_down, walk_ends}
 use Rattle.ks_tidy.proofs.compact.walk.Given.{Over}

@@ -15,7 +15,7 @@ use Rattle.ks_shape.specs.Laws.Single.{gave_last}
 use Rattle.ks_shape.specs.Stretches.{Stretches}
 use Rattle.ks_shape.specs.Laws.Stretches.{stretches_as, stretches_both, stretches_begins, stretches_give}
 use Rattle.ks_tidy.specs.Laws.Deciding.{decided_on}
-use Rattle.ks_tidy.specs.Laws.Frees.{frees_give, undisturbed_same}
+use Rattle.ks_shape.specs.Laws.Frees.{frees_give, undisturbed_same}
 use Rattle.ks_tidy.proofs.Standing.{plain, stands_now}
 use Rattle.ks_tidy.proofs.deletes.del_alone.Given.{Over}
 use Rattle.ks_tidy.proofs.deletes.del_alone.Goals as goal

@@ -14,8 +14,8 @@ use Rattle.ks_keysets.specs.Keyset.{InInset, InKeyset}
 use Rattle.ks_arena.specs.declared.held.Held.{Held as Hand}
 use Rattle.ks_arena.specs.Sound.{sort_of}
 use Rattle.ks_arena.specs.Clauses.{hand_of, seen_of}
-use Rattle.ks_put.specs.Laws.Search.{Laws}
-use Rattle.ks_put.specs.OnPath.{IsOnPath, numbers}
+use Rattle.ks_shape.specs.Laws.Search.{Laws}
+use Rattle.ks_shape.specs.OnPath.{IsOnPath, numbers}
 use Rattle.ks_shape.specs.Laws.Stretches.{stretches_as, stretches_begins}
 use Rattle.ks_tidy.specs.Laws.Deciding.{decided_on}
 use Rattle.ks_tidy.specs.Pair.{IsPair}

@@ -13,7 +13,7 @@ use Rattle.ks_history.specs.Laws.Underway.{underway_call}
 use Rattle.ks_arena.specs.declared.held.Held.{Held as Hand}
 use Rattle.ks_arena.specs.Sound.{sort_of}
 use Rattle.ks_arena.specs.Clauses.{IsReady, hand_of, seen_of}
-use Rattle.ks_put.specs.Laws.Search.{Laws}
+use Rattle.ks_shape.specs.Laws.Search.{Laws}
 use Rattle.ks_tidy.proofs.Keeping.{places_kept}
 use Rattle.ks_tidy.proofs.Standing.{keyset_here, no_branch}
 use Rattle.ks_tidy.proofs.deletes.delete.Goals as goal

@@ -1,11 +1,11 @@
 use Rattle.std.proofs.Common.{◌≡◌, ◌∙◌, ◌+◌, ◌%◌, ◌^◌, ℕ, arith, refl, sym, ap, subst}
 use Rattle.ks_arena.specs.Sound.{sort_of}
 use Rattle.ks_arena.specs.Clauses.{seen_of}
-use Rattle.ks_put.specs.declared.path.Path.{Path}
+use Rattle.ks_shape.specs.declared.path.Path.{Path}
 use Rattle.ks_shape.specs.Stretches.{Stretches}
 use Rattle.ks_shape.specs.Laws.Stretches.{stretches_as, stretches_both}
-use Rattle.ks_tidy.specs.Frees.{Counts}
-use Rattle.ks_tidy.specs.Laws.Frees.{counts_as, counts_both, counts_of, counts_on, frees_as, frees_take}
+use Rattle.ks_shape.specs.Frees.{Counts}
+use Rattle.ks_shape.specs.Laws.Frees.{counts_as, counts_both, counts_of, counts_on, frees_as, frees_take}
 use Rattle.ks_tidy.specs.Pair.{IsPair}
 use Rattle.ks_tidy.proofs.descent.come_down.Given.{Over}
 use Rattle.ks_tidy.proofs.descent.come_down.Goals as goal

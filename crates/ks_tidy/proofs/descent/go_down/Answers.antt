@@ -9,8 +9,8 @@ use Rattle.ks_arena.specs.Sound.{sort_of}
 use Rattle.ks_arena.specs.Clauses.{seen_of}
 use Rattle.ks_shape.specs.OnWay.{IsOnWay}
 use Rattle.ks_shape.specs.Laws.Stretches.{stretches_as, stretches_both}
-use Rattle.ks_put.specs.OnPath.{IsOnPath}
-use Rattle.ks_tidy.specs.Laws.Frees.{frees_both, frees_take}
+use Rattle.ks_shape.specs.OnPath.{IsOnPath}
+use Rattle.ks_shape.specs.Laws.Frees.{frees_both, frees_take}
 use Rattle.ks_tidy.proofs.Going.{frees_if}
 use Rattle.ks_tidy.proofs.descent.go_down.Goals as goal
 

@@ -5,7 +5,7 @@ use Rattle.ks_history.specs.declared.Event.TheVariants.{Give}
 use Rattle.ks_arena.specs.Clauses.{seen_of}
 use Rattle.ks_shape.specs.Laws.Single.{gave_last}
 use Rattle.ks_shape.specs.Laws.Stretches.{stretches_both, stretches_give}
-use Rattle.ks_tidy.specs.Laws.Frees.{frees_both, frees_give}
+use Rattle.ks_shape.specs.Laws.Frees.{frees_both, frees_give}
 use Rattle.ks_tidy.proofs.Going.{frees_if}
 use Rattle.ks_tidy.proofs.descent.leave.Given.{Over}
 use Rattle.ks_tidy.proofs.descent.leave.Goals as goal

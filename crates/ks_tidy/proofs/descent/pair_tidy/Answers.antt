@@ -4,7 +4,7 @@ use Rattle.ks_history.specs.Laws.Alone.{alone_then}
 use Rattle.ks_arena.specs.Sound.{sort_of}
 use Rattle.ks_arena.specs.Clauses.{seen_of}
 use Rattle.ks_shape.specs.Laws.Stretches.{stretches_as, stretches_begins, stretches_both}
-use Rattle.ks_tidy.specs.Laws.Frees.{counts_as, counts_both}
+use Rattle.ks_shape.specs.Laws.Frees.{counts_as, counts_both}
 use Rattle.ks_tidy.specs.Pair.{IsPair}
 use Rattle.ks_tidy.proofs.Standing.{keyset_here}
 use Rattle.ks_tidy.proofs.descent.pair_tidy.Goals as goal

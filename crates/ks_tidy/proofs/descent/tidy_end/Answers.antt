@@ -4,7 +4,7 @@ use Rattle.ks_history.specs.Trace.{graph_after, frame_after}
 use Rattle.ks_arena.specs.Sound.{blank_of, sort_of}
 use Rattle.ks_arena.specs.Clauses.{seen_of}
 use Rattle.ks_shape.specs.Laws.Stretches.{stretches_as, stretches_both}
-use Rattle.ks_tidy.specs.Laws.Frees.{counts_on, frees_as, frees_begins, undisturbed_same}
+use Rattle.ks_shape.specs.Laws.Frees.{counts_on, frees_as, frees_begins, undisturbed_same}
 use Rattle.ks_tidy.specs.Pair.{IsPair}
 use Rattle.ks_tidy.proofs.Standing.{plain, stands_now}
 use Rattle.ks_tidy.proofs.descent.tidy_end.Goals as goal

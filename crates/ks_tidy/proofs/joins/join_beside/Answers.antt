@@ -15,10 +15,10 @@ use Rattle.ks_arena.specs.Clauses.{seen_of}
 use Rattle.ks_shape.specs.Places.{HasPlacesOf}
 use Rattle.ks_shape.specs.Laws.Places.{places_both}
 use Rattle.ks_shape.specs.Laws.Stretches.{stretches_as, stretches_both, stretches_shape}
-use Rattle.ks_put.specs.declared.path.Path.{Path}
-use Rattle.ks_put.specs.Laws.Search.{Laws}
-use Rattle.ks_put.specs.OnPath.{IsOnPath}
-use Rattle.ks_tidy.specs.Laws.Frees.{frees_both, frees_give, frees_shape, undisturbed_same}
+use Rattle.ks_shape.specs.declared.path.Path.{Path}
+use Rattle.ks_shape.specs.Laws.Search.{Laws}
+use Rattle.ks_shape.specs.OnPath.{IsOnPath}
+use Rattle.ks_shape.specs.Laws.Frees.{frees_both, frees_give, frees_shape, undisturbed_same}
 use Rattle.ks_tidy.proofs.Keeping.{once_in, places_kept}
 use Rattle.ks_tidy.proofs.Fresh.{passed}
 use Rattle.ks_tidy.proofs.Standing.{fits_along, plain, stands_now}

@@ -10,10 +10,10 @@ use Rattle.ks_arena.specs.Clauses.{seen_of}
 use Rattle.ks_shape.specs.Places.{HasPlacesOf}
 use Rattle.ks_shape.specs.Laws.Places.{places_both}
 use Rattle.ks_shape.specs.Laws.Stretches.{stretches_as, stretches_both, stretches_shape}
-use Rattle.ks_put.specs.declared.path.Path.{Path}
-use Rattle.ks_put.specs.Laws.Search.{Laws}
-use Rattle.ks_put.specs.OnPath.{IsOnPath, numbers}
-use Rattle.ks_tidy.specs.Laws.Frees.{frees_both, frees_give, frees_shape, undisturbed_same}
+use Rattle.ks_shape.specs.declared.path.Path.{Path}
+use Rattle.ks_shape.specs.Laws.Search.{Laws}
+use Rattle.ks_shape.specs.OnPath.{IsOnPath, numbers}
+use Rattle.ks_shape.specs.Laws.Frees.{frees_both, frees_give, frees_shape, undisturbed_same}
 use Rattle.ks_tidy.proofs.Keeping.{few_right, once_in, parent_apart, parent_has, places_kept, under_with}
 use Rattle.ks_tidy.proofs.Standing.{fits_along, plain, stands_now}
 use Rattle.ks_tidy.proofs.joins.join_own.Given.{Over}

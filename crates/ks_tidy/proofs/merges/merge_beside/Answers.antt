@@ -6,9 +6,9 @@ use Rattle.ks_arena.specs.Sound.{sort_of}
 use Rattle.ks_arena.specs.Clauses.{seen_of}
 use Rattle.ks_shape.specs.Laws.Places.{places_both}
 use Rattle.ks_shape.specs.Laws.Stretches.{stretches_as, stretches_both}
-use Rattle.ks_put.specs.declared.path.Path.{Path}
-use Rattle.ks_put.specs.Laws.Search.{Laws}
-use Rattle.ks_tidy.specs.Laws.Frees.{frees_take}
+use Rattle.ks_shape.specs.declared.path.Path.{Path}
+use Rattle.ks_shape.specs.Laws.Search.{Laws}
+use Rattle.ks_shape.specs.Laws.Frees.{frees_take}
 use Rattle.ks_tidy.specs.Pair.{DidStep, IsPair, IsTrio, path_in}
 use Rattle.ks_tidy.proofs.Trio.{did_after, places_took, trio_took}
 use Rattle.ks_tidy.proofs.merges.merge_beside.Given.{Over}

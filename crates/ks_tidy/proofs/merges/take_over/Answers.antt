@@ -9,9 +9,9 @@ use Rattle.ks_bodies.specs.Shapes as shapes
 use Rattle.ks_shape.specs.Places.{HasPlacesOf}
 use Rattle.ks_shape.specs.Laws.Places.{places_both}
 use Rattle.ks_shape.specs.Laws.Stretches.{stretches_both, stretches_give, stretches_shape}
-use Rattle.ks_put.specs.Laws.Search.{Laws}
-use Rattle.ks_tidy.specs.Frees.{Frees}
-use Rattle.ks_tidy.specs.Laws.Frees.{frees_both, frees_give, frees_shape}
+use Rattle.ks_shape.specs.Laws.Search.{Laws}
+use Rattle.ks_shape.specs.Frees.{Frees}
+use Rattle.ks_shape.specs.Laws.Frees.{frees_both, frees_give, frees_shape}
 use Rattle.ks_tidy.proofs.Keeping.{drop_first, once_in, places_kept}
 use Rattle.ks_tidy.proofs.merges.take_over.Given.{Over}
 use Rattle.ks_tidy.proofs.merges.take_over.Goals as goal

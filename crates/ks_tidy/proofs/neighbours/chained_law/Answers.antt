@@ -8,7 +8,7 @@ use Rattle.ks_node.specs.Body.{Body}
 use Rattle.ks_node.specs.Edges.{record_of, edges_of}
 use Rattle.ks_arena.specs.Sound.{blank_of, sort_of}
 use Rattle.ks_arena.specs.Clauses.{seen_of}
-use Rattle.ks_put.specs.Laws.Search.{Laws}
+use Rattle.ks_shape.specs.Laws.Search.{Laws}
 use Rattle.ks_tidy.proofs.Standing.{plain, stands_now}
 use Rattle.ks_tidy.proofs.Beside.{any_counted}
 use Rattle.ks_tidy.proofs.Fresh.{fresh_own}

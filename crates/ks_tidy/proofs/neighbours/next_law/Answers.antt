@@ -11,7 +11,7 @@ use Rattle.ks_node.specs.Body.{Body, first_node, is_branch, starts_from}
 use Rattle.ks_node.specs.Edges.{record_of, edges_of}
 use Rattle.ks_arena.specs.Sound.{blank_of, sort_of}
 use Rattle.ks_arena.specs.Clauses.{seen_of}
-use Rattle.ks_put.specs.Laws.Search.{Laws}
+use Rattle.ks_shape.specs.Laws.Search.{Laws}
 use Rattle.ks_tidy.proofs.Standing.{plain, stands_now}
 use Rattle.ks_tidy.proofs.Beside.{any_counted, next_apart, next_edge, next_in}
 use Rattle.ks_tidy.proofs.Fresh.{fresh_two, passed}

@@ -6,12 +6,12 @@ use Rattle.ks_history.specs.Trace.{graph_after}
 use Rattle.ks_node.specs.Room.{is_low}
 use Rattle.ks_arena.specs.Sound.{sort_of}
 use Rattle.ks_arena.specs.Clauses.{hand_of, seen_of}
-use Rattle.ks_put.specs.declared.path.Path.{Path}
+use Rattle.ks_shape.specs.declared.path.Path.{Path}
 use Rattle.ks_shape.specs.Places.{HasPlacesOf}
 use Rattle.ks_shape.specs.Laws.Places.{places_both}
 use Rattle.ks_shape.specs.Laws.Stretches.{stretches_as, stretches_both, stretches_here}
-use Rattle.ks_tidy.specs.Frees.{Counts, Undisturbed}
-use Rattle.ks_tidy.specs.Laws.Frees.{counts_as, counts_more, counts_of, counts_on, frees_as, frees_begins, frees_both, frees_here, frees_same, undisturbed_first}
+use Rattle.ks_shape.specs.Frees.{Counts, Undisturbed}
+use Rattle.ks_shape.specs.Laws.Frees.{counts_as, counts_more, counts_of, counts_on, frees_as, frees_begins, frees_both, frees_here, frees_same, undisturbed_first}
 use Rattle.ks_tidy.specs.Pair.{FitsAlone, HasRested, IsNoSole, IsPair}
 use Rattle.ks_tidy.proofs.Keeping.{few_on}
 use Rattle.ks_tidy.proofs.Steps.{places_here}

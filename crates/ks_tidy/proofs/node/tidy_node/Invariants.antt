@@ -5,7 +5,7 @@ use Rattle.ks_arena.specs.Sound.{sort_of}
 use Rattle.ks_arena.specs.Clauses.{IsPass, seen_of}
 use Rattle.ks_shape.specs.Places.{HasPlacesOf}
 use Rattle.ks_shape.specs.Stretches.{Stretches}
-use Rattle.ks_tidy.specs.Frees.{Counts, Undisturbed}
+use Rattle.ks_shape.specs.Frees.{Counts, Undisturbed}
 use Rattle.ks_tidy.specs.Pair.{IsPair}
 use Rattle.ks_tidy.proofs.node.tidy_node.Given as goal
 

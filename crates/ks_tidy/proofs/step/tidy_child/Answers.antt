@@ -4,7 +4,7 @@ use Rattle.ks_history.specs.Trace.{graph_after, frame_after}
 use Rattle.ks_arena.specs.Sound.{blank_of, sort_of}
 use Rattle.ks_arena.specs.Clauses.{hand_of, seen_of}
 use Rattle.ks_shape.specs.Laws.Stretches.{stretches_here}
-use Rattle.ks_tidy.specs.Laws.Frees.{frees_here}
+use Rattle.ks_shape.specs.Laws.Frees.{frees_here}
 use Rattle.ks_tidy.proofs.Standing.{plain, stands_now}
 use Rattle.ks_tidy.proofs.Steps.{did_as, places_here, sole_is}
 use Rattle.ks_tidy.proofs.step.tidy_child.Goals as goal

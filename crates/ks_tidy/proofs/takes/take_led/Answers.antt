@@ -12,7 +12,7 @@ use Rattle.ks_arena.specs.Sound.{sort_of, Sound}
 use Rattle.ks_arena.specs.Clauses.{seen_of}
 use Rattle.ks_shape.specs.Laws.Single.{is_near, record_is}
 use Rattle.ks_shape.specs.Laws.Stretches.{stretches_take}
-use Rattle.ks_put.specs.Laws.Search.{Laws}
+use Rattle.ks_shape.specs.Laws.Search.{Laws}
 use Rattle.ks_tidy.proofs.Standing.{edge_live}
 use Rattle.ks_tidy.proofs.takes.take_led.Given.{Over}
 use Rattle.ks_tidy.proofs.takes.take_led.Goals as goal

@@ -8,8 +8,8 @@ use Rattle.ks_arena.specs.Sound.{sort_of}
 use Rattle.ks_arena.specs.Clauses.{seen_of}
 use Rattle.ks_shape.specs.OnWay.{IsOnWay}
 use Rattle.ks_shape.specs.Laws.Stretches.{stretches_as, stretches_both}
-use Rattle.ks_put.specs.OnPath.{IsOnPath}
-use Rattle.ks_tidy.specs.Laws.Frees.{frees_as, frees_both, frees_give, frees_take}
+use Rattle.ks_shape.specs.OnPath.{IsOnPath}
+use Rattle.ks_shape.specs.Laws.Frees.{frees_as, frees_both, frees_give, frees_take}
 use Rattle.ks_tidy.proofs.Going.{frees_if}
 use Rattle.ks_tidy.proofs.tries.try_go_down.Goals as goal
 

@@ -4,8 +4,8 @@ use Rattle.ks_arena.specs.Sound.{sort_of}
 use Rattle.ks_arena.specs.Clauses.{seen_of}
 use Rattle.ks_shape.specs.Stretches.{Stretches}
 use Rattle.ks_shape.specs.Laws.Stretches.{stretches_as, stretches_both}
-use Rattle.ks_tidy.specs.Frees.{Counts}
-use Rattle.ks_tidy.specs.Laws.Frees.{counts_as, counts_both, counts_of, counts_on, frees_as, frees_others, frees_take}
+use Rattle.ks_shape.specs.Frees.{Counts}
+use Rattle.ks_shape.specs.Laws.Frees.{counts_as, counts_both, counts_of, counts_on, frees_as, frees_others, frees_take}
 use Rattle.ks_tidy.specs.Pair.{IsPair}
 use Rattle.ks_tidy.proofs.tries.try_pair_tidy.Given.{Over}
 use Rattle.ks_tidy.proofs.tries.try_pair_tidy.Goals as goal

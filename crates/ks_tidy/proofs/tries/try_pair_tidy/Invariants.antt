@@ -3,7 +3,7 @@ use Rattle.ks_flow.specs.Discipline.{BeginsTree, TreeStep}
 use Rattle.ks_arena.specs.Sound.{sort_of}
 use Rattle.ks_arena.specs.Clauses.{IsPass, seen_of}
 use Rattle.ks_shape.specs.Stretches.{Stretches}
-use Rattle.ks_tidy.specs.Frees.{Counts}
+use Rattle.ks_shape.specs.Frees.{Counts}
 use Rattle.ks_tidy.specs.Pair.{IsPair}
 use Rattle.ks_tidy.proofs.tries.try_pair_tidy.Given as goal
 

@@ -1,7 +1,7 @@
 use Rattle.std.proofs.Common.{ℕ, arith}
 use Rattle.ks_arena.specs.Clauses.{hand_of, seen_of}
 use Rattle.ks_shape.specs.Laws.Stretches.{stretches_here}
-use Rattle.ks_tidy.specs.Laws.Frees.{counts_of, frees_here}
+use Rattle.ks_shape.specs.Laws.Frees.{counts_of, frees_here}
 use Rattle.ks_tidy.proofs.Keeping.{few_on}
 use Rattle.ks_tidy.proofs.tries.try_tidy_at.Goals as goal
 

@@ -2,7 +2,7 @@ use Rattle.std.proofs.Common.{◌∙◌, ℕ, arith, refl, subst}
 use Rattle.ks_arena.specs.Sound.{sort_of}
 use Rattle.ks_arena.specs.Clauses.{hand_of, seen_of}
 use Rattle.ks_shape.specs.Laws.Stretches.{stretches_as, stretches_both, stretches_here}
-use Rattle.ks_tidy.specs.Laws.Frees.{counts_more, counts_of, counts_on, frees_as, frees_here}
+use Rattle.ks_shape.specs.Laws.Frees.{counts_more, counts_of, counts_on, frees_as, frees_here}
 use Rattle.ks_tidy.specs.Pair.{IsPair}
 use Rattle.ks_tidy.proofs.Keeping.{few_on}
 use Rattle.ks_tidy.proofs.tries.try_tidy_node.Goals as goal

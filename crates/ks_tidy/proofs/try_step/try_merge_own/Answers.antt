@@ -4,8 +4,8 @@ use Rattle.ks_history.specs.Passes.{Has}
 use Rattle.ks_arena.specs.Sound.{sort_of}
 use Rattle.ks_arena.specs.Clauses.{hand_of, seen_of}
 use Rattle.ks_shape.specs.Laws.Stretches.{stretches_as, stretches_both}
-use Rattle.ks_put.specs.Laws.Search.{Laws}
-use Rattle.ks_tidy.specs.Laws.Frees.{frees_others, frees_take}
+use Rattle.ks_shape.specs.Laws.Search.{Laws}
+use Rattle.ks_shape.specs.Laws.Frees.{frees_others, frees_take}
 use Rattle.ks_tidy.specs.Pair.{DidStep, IsPair, IsTrio, path_in}
 use Rattle.ks_tidy.proofs.Keeping.{few_on}
 use Rattle.ks_tidy.proofs.Trio.{frees_after, pair_stays, trio_took}

@@ -1,7 +1,7 @@
 use Rattle.std.proofs.Common.{length, arith, ap}
 use Rattle.ks_arena.specs.Clauses.{seen_of}
 use Rattle.ks_shape.specs.Laws.Stretches.{stretches_here}
-use Rattle.ks_tidy.specs.Laws.Frees.{frees_here}
+use Rattle.ks_shape.specs.Laws.Frees.{frees_here}
 use Rattle.ks_tidy.proofs.try_step.try_tidy_root.Goals as goal
 
 pub returns-else-low-clause-stretch : goal.returns-else-low-clause-stretch

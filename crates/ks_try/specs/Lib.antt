@@ -1,4 +1,0 @@
-pub mod Down
-pub mod Next
-pub mod Of
-pub mod Laws
