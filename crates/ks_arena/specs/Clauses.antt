@@ -122,6 +122,12 @@ abbrev pub give_mark : Bool → ℕ → Mark
 give_mark true i = Quiet
 give_mark false i = Freeing i
 
+-- how many steps it takes to give a node back: one brings its slot to the front, and one gives its turn away; a node that is not
+-- live has its bit set before
+abbrev pub give_steps : Bool → ℕ
+give_steps true = 2
+give_steps false = 3
+
 module _ {N : Type 0} where
   -- the bit of a node just claimed is still set
   abbrev pub claim_mark : Option (Hand N) → Mark

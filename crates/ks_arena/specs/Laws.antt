@@ -2,5 +2,6 @@
 pub mod Aside
 pub mod Beyond
 pub mod FromSound
+pub mod Reuse
 pub mod Tells
 pub mod Writes

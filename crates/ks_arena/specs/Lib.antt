@@ -1,4 +1,5 @@
 pub mod Sound
+pub mod Reuse
 pub mod Spots
 pub mod Rule
 pub mod Named
@@ -6,4 +7,5 @@ pub mod Plays
 pub mod Clauses
 pub mod Ended
 pub mod Of
+pub mod Words
 pub mod Laws

@@ -35,6 +35,10 @@ module _ {N D : Type 0} where
   abbrev pub SameCaller : Pass N D → Pass N D → Type 0
   SameCaller p q = caller_of q ≡ caller_of p
 
+  -- how many steps on words its caller has made
+  abbrev pub steps_of : Pass N D → ℕ
+  steps_of p = p.steps.made
+
   -- the pass holds the node
   abbrev pub Holds : Pass N D → ℕ → Type 0
   Holds p i = Has (hand_of p) i

@@ -3,19 +3,16 @@ ghost use Rattle.std.specs.Prelude.{◌≡◌, ◌+◌, ◌<◌, ◌≤◌};
 ghost use Rattle.ks_arena.specs.Spots.{free_words};
 ghost use Rattle.ks_arena.specs.declared.view.Mark.TheVariants.{Claiming};
 ghost use Rattle.ks_arena.specs.Clauses.{claim_mark, try_steps, word_steps, steps_alone};
-ghost use Rattle.ks_arena.specs.Of.{Holds, Looks, Keeps, WasAlone, HeldAlone, nodes_of, callers_of, IsNodeOf, IsPassOf, IsMarkedPassOf, HasTakenFrom, HasClaimedFrom, HasClaimedIn, TriedToClaim, TellsFreeOf, RestStays, SameCaller, caller_of};
+ghost use Rattle.ks_arena.specs.Of.{Holds, Looks, Keeps, WasAlone, HeldAlone, nodes_of, callers_of, IsNodeOf, IsPassOf, IsMarkedPassOf, HasTakenFrom, HasClaimedFrom, HasClaimedIn, TriedToClaim, TellsFreeOf, RestStays, SameCaller, caller_of, steps_of};
 
-use crate::arena::Arena;
+use crate::arena::{Arena, Steps};
 use crate::held::{Held, Pass};
 use crate::laws::sound_law;
 use crate::plays::{Claims, ClearsBit, Scans, Takes};
 use crate::spots::{ROOM, free_at, turn_at};
-use crate::steps::Steps;
 use ks_flow::Discipline;
 use ks_node::Node;
-use std::marker::Brand;
 use std::sync::Wait;
-use std::sync::ledger::{Blank, Ledger};
 use std::time::Duration;
 use std::{hint, thread};
 
@@ -55,16 +52,16 @@ impl<N: Node, D: Discipline> Arena<N, D> {
     {
         let at = node as usize;
         let turn = turn_at(at);
-        let shared = &self.table.shared;
         for _ in rt.forever() {
-            let found = shared.compare_exchange::<Takes<D>>(
+            let found = self.compare_exchange::<Takes<D>>(
                 &mut pass.seat,
+                &mut pass.steps,
                 turn,
                 1,
                 pass.caller as u64 + 2,
             );
             if found == 1 {
-                let body = shared.exchange(&mut pass.seat, at, None).unwrap();
+                let body = self.exchange(&mut pass.seat, at, None).unwrap();
                 return Some(Held {
                     node,
                     live: true,
@@ -74,26 +71,26 @@ impl<N: Node, D: Discipline> Arena<N, D> {
             if found == 0 {
                 return None;
             }
-            self.watch(rt, node);
+            self.watch(rt, &mut pass.steps, node);
         }
         unreachable!()
     }
 
     /// Whether nobody had the node just now.
-    fn is_given(&self, node: u32) -> bool
+    fn is_given(&self, steps: &mut Steps, node: u32) -> bool
         requires { node < self.now.nodes }
     {
-        self.table.shared.peek(turn_at(node as usize)) <= 1
+        self.peek(steps, turn_at(node as usize)) <= 1
     }
 
     /// Looks so many times at the turn of a node, ever more seldom: each look takes its cache line from the holder. Whether
     /// nobody had the node at one of them.
-    fn comes_free(&self, node: u32, looks: u32) -> bool
+    fn comes_free(&self, steps: &mut Steps, node: u32, looks: u32) -> bool
         requires node { node < self.now.nodes }
         requires looks { looks < 32 }
     {
         for look in 0..looks {
-            if self.is_given(node) {
+            if self.is_given(steps, node) {
                 return true;
             }
             pause(FIRST_PAUSES << look);
@@ -104,24 +101,24 @@ impl<N: Node, D: Discipline> Arena<N, D> {
     /// Looks at the turn of a node until nobody has it.
     #[cold]
     #[inline(never)]
-    fn watch<R: Wait>(&self, rt: &R, node: u32)
+    fn watch<R: Wait>(&self, rt: &R, steps: &mut Steps, node: u32)
         requires { node < self.now.nodes }
     {
         if node == 0 {
-            self.watch_root(rt);
+            self.watch_root(rt, steps);
         } else {
-            self.watch_node(rt, node);
+            self.watch_node(rt, steps, node);
         }
     }
 
-    fn watch_node<R: Wait>(&self, rt: &R, node: u32)
+    fn watch_node<R: Wait>(&self, rt: &R, steps: &mut Steps, node: u32)
         requires { node < self.now.nodes }
     {
-        if self.comes_free(node, LOOKS_AT_A_NODE) {
+        if self.comes_free(steps, node, LOOKS_AT_A_NODE) {
             return;
         }
         for _ in rt.forever() {
-            if self.is_given(node) {
+            if self.is_given(steps, node) {
                 return;
             }
             thread::yield_now();
@@ -130,78 +127,49 @@ impl<N: Node, D: Discipline> Arena<N, D> {
 
     /// Looks at the turn of the root until nobody has it, and soon sleeps: each call takes the root, so all who look keep the
     /// one who has it from going on. Who waits for the root holds no node, so nobody waits for a sleeper.
-    fn watch_root<R: Wait>(&self, rt: &R) {
-        if self.comes_free(0, LOOKS_AT_THE_ROOT) {
+    fn watch_root<R: Wait>(&self, rt: &R, steps: &mut Steps) {
+        if self.comes_free(steps, 0, LOOKS_AT_THE_ROOT) {
             return;
         }
         for _ in 0..YIELDS_AT_THE_ROOT {
-            if self.is_given(0) {
+            if self.is_given(steps, 0) {
                 return;
             }
             thread::yield_now();
         }
         for _ in rt.forever() {
-            if self.is_given(0) {
+            if self.is_given(steps, 0) {
                 return;
             }
-            self.sleep(rt);
+            self.sleep(rt, steps);
         }
     }
 
     /// Sleeps for `ROOT_SLEEP`: on a word that nobody writes, so that nothing ends it sooner.
-    fn sleep<R: Wait>(&self, rt: &R) {
-        self.table
-            .shared
-            .park_timeout(rt, ROOM, 0, Duration::from_micros(ROOT_SLEEP));
+    fn sleep<R: Wait>(&self, rt: &R, steps: &mut Steps) {
+        self.park(rt, steps, ROOM, 0, Duration::from_micros(ROOT_SLEEP));
     }
 
-    /// Claims the first node, from node 1 upward, that it finds free. `None`: none was found free.
+    /// Claims the first node, from node 1 upward, that it finds free. `None`: none was found free. If nobody else acts
+    /// meanwhile, and nobody else holds a node at its start, then it loads the free words up to that of the node, takes the
+    /// turn of the node and clears its bit: at most `ceil(nodes / 64) + 2` steps on words. So it always is in an arena of
+    /// one caller.
     pub fn claim(&self, pass: &mut Pass<N, D>) -> Option<Held<N>>
         requires { IsPassOf self.now pass.old }
         ensures pass { IsPassOf self.now pass.new }
         ensures caller { SameCaller pass.old pass.new }
         ensures claimed { HasClaimedFrom self.now pass.old pass.new result }
         ensures rest { RestStays self.now pass.old pass.new }
-    {
-        self.claim_counted::<Brand>(pass, Blank::new(1))
-    }
-
-    fn claim_counted<L: Ledger>(&self, pass: &mut Pass<N, D>, blank: Blank) -> Option<Held<N>>
-        requires pass { IsPassOf self.now pass.old }
-        requires name { blank.name ≡ L.name }
-        requires parts { blank.parts ≡ L.parts }
-        requires some { 0 < blank.parts }
-        ensures pass { IsPassOf self.now pass.new }
-        ensures caller { SameCaller pass.old pass.new }
-        ensures claimed { HasClaimedFrom self.now pass.old pass.new result }
-        ensures rest { RestStays self.now pass.old pass.new }
-    {
-        self.claim_steps(pass, &mut Steps::<L>::start(blank))
-    }
-
-    /// The same, and each step on a word is counted. If nobody else acts meanwhile, and nobody else holds a node at its
-    /// start, then it loads the free words up to that of the node, takes the turn of the node and clears its bit: at most
-    /// `ceil(nodes / 64) + 2` steps. So it always is in an arena of one caller.
-    pub fn claim_steps<L: Ledger>(
-        &self,
-        pass: &mut Pass<N, D>,
-        steps: &mut Steps<L>,
-    ) -> Option<Held<N>>
-        requires { IsPassOf self.now pass.old }
-        ensures pass { IsPassOf self.now pass.new }
-        ensures caller { SameCaller pass.old pass.new }
-        ensures claimed { HasClaimedFrom self.now pass.old pass.new result }
-        ensures rest { RestStays self.now pass.old pass.new }
         ensures cost { WasAlone pass.old pass.new → HeldAlone pass.old →
-            steps.new ≡ steps.old + steps_alone (nodes_of self.now) result }
+            steps_of pass.new ≡ steps_of pass.old + steps_alone (nodes_of self.now) result }
         ensures bound { WasAlone pass.old pass.new → HeldAlone pass.old →
-            steps.new ≤ steps.old + free_words (nodes_of self.now) + 2 }
+            steps_of pass.new ≤ steps_of pass.old + free_words (nodes_of self.now) + 2 }
         ensures one { callers_of self.now ≡ 1 → caller_of pass.old ≡ 0 →
-            steps.new ≡ steps.old + steps_alone (nodes_of self.now) result }
+            steps_of pass.new ≡ steps_of pass.old + steps_alone (nodes_of self.now) result }
     {
         sound_law::<D>();
         for index in 0..self.nodes.div_ceil(64) {
-            if let Some(held) = self.claim_in(pass, index, steps) {
+            if let Some(held) = self.claim_in(pass, index) {
                 return Some(held);
             }
         }
@@ -209,24 +177,20 @@ impl<N: Node, D: Discipline> Arena<N, D> {
     }
 
     /// Claims the first node that it finds free among those of one free word.
-    fn claim_in<L: Ledger>(
-        &self,
-        pass: &mut Pass<N, D>,
-        index: u32,
-        steps: &mut Steps<L>,
-    ) -> Option<Held<N>>
+    fn claim_in(&self, pass: &mut Pass<N, D>, index: u32) -> Option<Held<N>>
         requires pass { IsPassOf self.now pass.old }
         requires index { index < free_words (nodes_of self.now) }
         ensures pass { IsPassOf self.now pass.new }
         ensures caller { SameCaller pass.old pass.new }
         ensures claimed { HasClaimedIn self.now index pass.old pass.new result }
         ensures kept { Keeps pass.old pass.new }
-        ensures cost { WasAlone pass.old pass.new → HeldAlone pass.old → steps.new ≡ steps.old + word_steps result }
+        ensures cost { WasAlone pass.old pass.new → HeldAlone pass.old →
+            steps_of pass.new ≡ steps_of pass.old + word_steps result }
     {
-        let mut left = self.scan(pass, index, steps);
+        let mut left = self.scan(pass, index);
         while left != 0 {
             let bit = left.trailing_zeros();
-            if let Some(held) = self.try_claim(pass, 64 * index + bit, steps) {
+            if let Some(held) = self.try_claim(pass, 64 * index + bit) {
                 return Some(held);
             }
             left &= !(1u64 << bit);
@@ -235,7 +199,7 @@ impl<N: Node, D: Discipline> Arena<N, D> {
     }
 
     /// Reads a free word: a bit for each node that may be free.
-    fn scan<L: Ledger>(&self, pass: &mut Pass<N, D>, index: u32, steps: &mut Steps<L>) -> u64
+    fn scan(&self, pass: &mut Pass<N, D>, index: u32) -> u64
         requires pass { IsPassOf self.now pass.old }
         requires index { index < free_words (nodes_of self.now) }
         ensures pass { IsPassOf self.now pass.new }
@@ -243,60 +207,48 @@ impl<N: Node, D: Discipline> Arena<N, D> {
         ensures looked { Looks pass.old pass.new }
         ensures told { TellsFreeOf self.now index pass.old pass.new result }
         ensures kept { Keeps pass.old pass.new }
-        ensures cost { steps.new ≡ steps.old + 1 }
+        ensures cost { steps_of pass.new ≡ steps_of pass.old + 1 }
     {
-        steps.tick();
         let word = free_at(self.nodes as usize, index as usize);
-        self.table.shared.load::<Scans<D>>(&mut pass.seat, word)
+        self.load::<Scans<D>>(&mut pass.seat, &mut pass.steps, word)
     }
 
     /// Claims the node if it is free, and clears its bit.
-    fn try_claim<L: Ledger>(
-        &self,
-        pass: &mut Pass<N, D>,
-        node: u32,
-        steps: &mut Steps<L>,
-    ) -> Option<Held<N>>
+    fn try_claim(&self, pass: &mut Pass<N, D>, node: u32) -> Option<Held<N>>
         requires pass { IsPassOf self.now pass.old }
         requires node { IsNodeOf self.now node }
         ensures pass { IsPassOf self.now pass.new }
         ensures caller { SameCaller pass.old pass.new }
         ensures claimed { TriedToClaim self.now node pass.old pass.new result }
         ensures kept { Keeps pass.old pass.new }
-        ensures cost { steps.new ≡ steps.old + try_steps result }
+        ensures cost { steps_of pass.new ≡ steps_of pass.old + try_steps result }
     {
-        let held = self.catch(pass, node, steps)?;
-        self.clear_bit(pass, node, steps);
+        let held = self.catch(pass, node)?;
+        self.clear_bit(pass, node);
         Some(held)
     }
 
     /// Takes the turn of the node if it is free. Its bit is still set.
-    fn catch<L: Ledger>(
-        &self,
-        pass: &mut Pass<N, D>,
-        node: u32,
-        steps: &mut Steps<L>,
-    ) -> Option<Held<N>>
+    fn catch(&self, pass: &mut Pass<N, D>, node: u32) -> Option<Held<N>>
         requires pass { IsPassOf self.now pass.old }
         requires node { IsNodeOf self.now node }
         ensures pass { IsMarkedPassOf self.now (claim_mark result) pass.new }
         ensures caller { SameCaller pass.old pass.new }
         ensures claimed { TriedToClaim self.now node pass.old pass.new result }
         ensures kept { Keeps pass.old pass.new }
-        ensures cost { steps.new ≡ steps.old + 1 }
+        ensures cost { steps_of pass.new ≡ steps_of pass.old + 1 }
     {
         let at = node as usize;
         let turn = turn_at(at);
-        let shared = &self.table.shared;
-        steps.tick();
-        let found = shared.compare_exchange::<Claims<D>>(
+        let found = self.compare_exchange::<Claims<D>>(
             &mut pass.seat,
+            &mut pass.steps,
             turn,
             0,
             pass.caller as u64 + 2,
         );
         if found == 0 {
-            let body = shared.exchange(&mut pass.seat, at, None).unwrap();
+            let body = self.exchange(&mut pass.seat, at, None).unwrap();
             Some(Held {
                 node,
                 body,
@@ -308,19 +260,21 @@ impl<N: Node, D: Discipline> Arena<N, D> {
     }
 
     /// Clears the bit of a node just claimed.
-    fn clear_bit<L: Ledger>(&self, pass: &mut Pass<N, D>, node: u32, steps: &mut Steps<L>)
+    fn clear_bit(&self, pass: &mut Pass<N, D>, node: u32)
         requires pass { IsMarkedPassOf self.now (Claiming node) pass.old }
         requires holds { Holds pass.old node }
         ensures pass { IsPassOf self.now pass.new }
         ensures caller { SameCaller pass.old pass.new }
         ensures looked { Looks pass.old pass.new }
         ensures rest { RestStays self.now pass.old pass.new }
-        ensures cost { steps.new ≡ steps.old + 1 }
+        ensures cost { steps_of pass.new ≡ steps_of pass.old + 1 }
     {
-        steps.tick();
         let word = free_at(self.nodes as usize, node as usize / 64);
-        self.table
-            .shared
-            .fetch_and::<ClearsBit<D>>(&mut pass.seat, word, !(1u64 << (node % 64)));
+        self.fetch_and::<ClearsBit<D>>(
+            &mut pass.seat,
+            &mut pass.steps,
+            word,
+            !(1u64 << (node % 64)),
+        );
     }
 }

@@ -1,6 +1,7 @@
 //! What a caller has in its hand.
 ghost use Rattle.std.specs.Prelude.{◌≡◌};
 
+use crate::arena::Steps;
 use crate::view::View;
 use atomic_table::Seat;
 use std::marker::PhantomData;
@@ -10,6 +11,8 @@ use std::marker::PhantomData;
 pub struct Pass<N, D> {
     pub(crate) seat: Seat<Option<N>, View>,
     pub(crate) caller: u32,
+    /// Each step on a word that its caller makes counts here.
+    pub(crate) steps: Steps,
     pub(crate) marker: PhantomData<D>,
 }
 

@@ -9,8 +9,9 @@ ghost use Rattle.ks_history.specs.Lawful.{Lawful, GoodThroughout};
 ghost use Rattle.ks_history.specs.Due.{FullsDue};
 ghost use Rattle.ks_history.specs.Passes.{GrowsByOthers};
 ghost use Rattle.ks_history.specs.Beside.{AreBeside};
-ghost use Rattle.ks_flow.specs.Link.{lives_below};
+ghost use Rattle.ks_flow.specs.Link.{lives_below, LastsUnderLink};
 ghost use Rattle.ks_flow.specs.Discipline.{SameKeyset, BeginsTree, TreeStep, BeginsLink, LinkStep};
+ghost use Rattle.ks_arena.specs.Reuse.{KeepsLive, ReusesSafely};
 ghost use Rattle.ks_arena.specs.Sound.{Sort, blank_of, Sound};
 
 use ks_flow::laws::{link_law, tree_facts_law, walks_law};
@@ -56,6 +57,19 @@ pub fn link_live_law()
 {
     sound_law::<Link>();
 }
+
+/// In a sound trace the reuse of nodes does no harm.
+pub fn reuse_law<D: Discipline>()
+    ensures { (sort : Sort) (nodes : ℕ) (k h : List Happening) → Sound sort D.begins D.step nodes h →
+        ReusesSafely D.lasts k h }
+{
+    sound_law::<D>();
+}
+
+/// Under links a live node stays live, so that none is used again.
+pub fn link_lasts_law()
+    ensures { KeepsLive LastsUnderLink }
+{}
 
 /// Under links the level of the root is below the number of live nodes.
 pub fn link_level_law()

@@ -1,8 +1,8 @@
 //! How a caller learns what another one has seen.
-ghost use Rattle.std.specs.Prelude.{◌≡◌};
+ghost use Rattle.std.specs.Prelude.{◌≡◌, ◌+◌};
 ghost use Rattle.ks_history.specs.Trace.{◌⊑◌};
 ghost use Rattle.ks_arena.specs.Clauses.{noted, seen_of};
-ghost use Rattle.ks_arena.specs.Of.{Looks, IsPassOf, IsNoteFrom, RestStays, SameCaller};
+ghost use Rattle.ks_arena.specs.Of.{Looks, IsPassOf, IsNoteFrom, RestStays, SameCaller, steps_of};
 
 use crate::arena::Arena;
 use crate::held::{Note, Pass};
@@ -21,8 +21,9 @@ impl<N: Node, D: Discipline> Arena<N, D> {
         ensures seen { seen_of pass.new ≡ seen_of pass.old }
         ensures note { IsNoteFrom self.now result }
         ensures noted { noted result ≡ seen_of pass.old }
+        ensures cost { steps_of pass.new ≡ steps_of pass.old + 1 }
     {
-        let seat = self.table.shared.split_seat::<Tell>(&mut pass.seat);
+        let seat = self.split_seat::<Tell>(&mut pass.seat, &mut pass.steps);
         Note {
             seat,
             marker: PhantomData,
@@ -38,10 +39,9 @@ impl<N: Node, D: Discipline> Arena<N, D> {
         ensures looked { Looks pass.old pass.new }
         ensures noted { noted note ⊑ seen_of pass.new }
         ensures rest { RestStays self.now pass.old pass.new }
+        ensures cost { steps_of pass.new ≡ steps_of pass.old + 2 }
     {
-        self.table
-            .shared
-            .join_seat::<TakeIn>(&mut pass.seat, note.seat);
-        self.table.shared.load::<Gathers<D>>(&mut pass.seat, CALLS);
+        self.join_seat::<TakeIn>(&mut pass.seat, &mut pass.steps, note.seat);
+        self.load::<Gathers<D>>(&mut pass.seat, &mut pass.steps, CALLS);
     }
 }

@@ -3,8 +3,8 @@ ghost use Rattle.std.specs.Prelude.{◌≡◌, ◌+◌, ◌%◌, ◌∷◌};
 ghost use Rattle.ks_arena.specs.declared.view.Mark.TheVariants.{Freeing};
 ghost use Rattle.ks_history.specs.Trace.{drop_one};
 ghost use Rattle.ks_history.specs.declared.Event.TheVariants.{Call, Give, Shape};
-ghost use Rattle.ks_arena.specs.Clauses.{give_mark, hand_of, mine_of, AllAmong, EachOnce, changes_of};
-ghost use Rattle.ks_arena.specs.Of.{Holds, Adds, HasDecided, HasShaped, Looks, KeepsBut, IsPassOf, IsMarkedPassOf, IsCurrent, TriedToTake, IsReadyAt, AreCurrent, MayBecome, nodes_of, IsNodeOf, RestStays, RestStaysBut, SameCaller, caller_of};
+ghost use Rattle.ks_arena.specs.Clauses.{give_mark, give_steps, hand_of, mine_of, AllAmong, EachOnce, changes_of};
+ghost use Rattle.ks_arena.specs.Of.{Holds, Adds, HasDecided, HasShaped, Looks, KeepsBut, IsPassOf, IsMarkedPassOf, IsCurrent, TriedToTake, IsReadyAt, AreCurrent, MayBecome, nodes_of, IsNodeOf, RestStays, RestStaysBut, SameCaller, caller_of, steps_of};
 
 use crate::arena::Arena;
 use crate::held::{Held, Pass, Taken};
@@ -33,18 +33,19 @@ impl<N: Node, D: Discipline> Arena<N, D> {
         ensures caller { SameCaller pass.old pass.new }
         ensures took { TriedToTake self.now node pass.old pass.new result }
         ensures rest { RestStays self.now pass.old pass.new }
+        ensures cost { steps_of pass.new ≡ steps_of pass.old + 1 }
     {
         let at = node as usize;
         let turn = turn_at(at);
-        let shared = &self.table.shared;
-        let found = shared.compare_exchange::<Takes<D>>(
+        let found = self.compare_exchange::<Takes<D>>(
             &mut pass.seat,
+            &mut pass.steps,
             turn,
             1,
             pass.caller as u64 + 2,
         );
         if found == 1 {
-            let body = shared.exchange(&mut pass.seat, at, None).unwrap();
+            let body = self.exchange(&mut pass.seat, at, None).unwrap();
             Taken::Held(Held {
                 node,
                 body,
@@ -71,6 +72,7 @@ impl<N: Node, D: Discipline> Arena<N, D> {
         ensures hand { hand_of pass.new ≡ drop_one held.node (hand_of pass.old) }
         ensures mine { mine_of pass.new ≡ Give (caller_of pass.old) held.node ∷ mine_of pass.old }
         ensures rest { RestStaysBut self.now held.node pass.old pass.new }
+        ensures cost { steps_of pass.new ≡ steps_of pass.old + give_steps held.live }
     {
         if held.live {
             self.put_back(pass, held);
@@ -90,11 +92,10 @@ impl<N: Node, D: Discipline> Arena<N, D> {
         ensures caller { SameCaller pass.old pass.new }
         ensures looked { Looks pass.old pass.new }
         ensures rest { RestStays self.now pass.old pass.new }
+        ensures cost { steps_of pass.new ≡ steps_of pass.old + 1 }
     {
         let word = free_at(self.nodes as usize, node as usize / 64);
-        self.table
-            .shared
-            .fetch_or::<SetsBit<D>>(&mut pass.seat, word, 1u64 << (node % 64));
+        self.fetch_or::<SetsBit<D>>(&mut pass.seat, &mut pass.steps, word, 1u64 << (node % 64));
     }
 
     /// Puts the body back into its slot and gives the turn away. The bit of a node that is not live is set.
@@ -109,18 +110,18 @@ impl<N: Node, D: Discipline> Arena<N, D> {
         ensures hand { hand_of pass.new ≡ drop_one held.node (hand_of pass.old) }
         ensures mine { mine_of pass.new ≡ Give (caller_of pass.old) held.node ∷ mine_of pass.old }
         ensures kept { KeepsBut held.node pass.old pass.new }
+        ensures cost { steps_of pass.new ≡ steps_of pass.old + 2 }
     {
         let Held { node, body, live } = held;
         let at = node as usize;
         let turn = turn_at(at);
-        let shared = &self.table.shared;
-        shared.load::<Brings<D>>(&mut pass.seat, turn);
-        match shared.exchange(&mut pass.seat, at, Some(body)) {
+        self.load::<Brings<D>>(&mut pass.seat, &mut pass.steps, turn);
+        match self.exchange(&mut pass.seat, at, Some(body)) {
             None => {}
             Some(_) => unreachable!(),
         }
         let word = if live { 1 } else { 0 };
-        shared.store::<Gives<D>>(&mut pass.seat, turn, word);
+        self.store::<Gives<D>>(&mut pass.seat, &mut pass.steps, turn, word);
     }
 
     /// Makes the operation a call of the history, at the node whose body it has changed. Gives its number.
@@ -132,6 +133,7 @@ impl<N: Node, D: Discipline> Arena<N, D> {
         ensures caller { SameCaller pass.old pass.new }
         ensures decided { HasDecided self.now held.now op reply pass.old pass.new result }
         ensures body { IsCurrent self.now pass.new held.now }
+        ensures cost { steps_of pass.new ≡ steps_of pass.old + 1 }
     {
         self.count::<Brand>(pass, held, op, reply)
     }
@@ -145,12 +147,11 @@ impl<N: Node, D: Discipline> Arena<N, D> {
         ensures caller { SameCaller pass.old pass.new }
         ensures decided { HasDecided self.now held.now op reply pass.old pass.new result }
         ensures body { IsCurrent self.now pass.new held.now }
+        ensures cost { steps_of pass.new ≡ steps_of pass.old + 1 }
     {
         D::laws();
         walks_law();
-        self.table
-            .shared
-            .fetch_add::<Decides<D, W>>(&mut pass.seat, CALLS, 1)
+        self.fetch_add::<Decides<D, W>>(&mut pass.seat, &mut pass.steps, CALLS, 1)
     }
 
     /// Makes what the bodies have become one event. The pass holds the nodes, which are different ones.
@@ -169,6 +170,7 @@ impl<N: Node, D: Discipline> Arena<N, D> {
         ensures caller { SameCaller pass.old pass.new }
         ensures shaped { HasShaped self.now (changes_of N.body first.now second.entry third.entry) pass.old pass.new }
         ensures bodies { AreCurrent self.now pass.new first.now second.entry third.entry }
+        ensures cost { steps_of pass.new ≡ steps_of pass.old + 1 }
     {
         self.form::<Brand>(pass, first, second, third);
     }
@@ -189,9 +191,8 @@ impl<N: Node, D: Discipline> Arena<N, D> {
         ensures caller { SameCaller pass.old pass.new }
         ensures shaped { HasShaped self.now (changes_of N.body first.now second.entry third.entry) pass.old pass.new }
         ensures bodies { AreCurrent self.now pass.new first.now second.entry third.entry }
+        ensures cost { steps_of pass.new ≡ steps_of pass.old + 1 }
     {
-        self.table
-            .shared
-            .fetch_add::<Forms<D, W>>(&mut pass.seat, SHAPES, 1);
+        self.fetch_add::<Forms<D, W>>(&mut pass.seat, &mut pass.steps, SHAPES, 1);
     }
 }

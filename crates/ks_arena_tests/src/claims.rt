@@ -4,20 +4,17 @@ ghost use Rattle.ks_arena.specs.Clauses.{hand_of};
 ghost use Rattle.ks_arena.specs.Of.{IsPassOf, StayCurrent, callers_of, nodes_of, SameCaller, caller_of};
 
 use crate::claim_of_many;
-use ks_arena::{Arena, Pass, Steps};
+use ks_arena::{Arena, Pass};
 use ks_flow::{Discipline, Tree};
 use ks_list::ListNode;
 use ks_node::Node;
-use std::marker::Brand;
-use std::sync::ledger::{Blank, Ledger};
 use std::test::Fail;
 
 /// Claims the nodes from `next` on until none is left, and gives them back. Tells whether they came in order, up to the
 /// last.
-fn claim_from<N: Node, D: Discipline, L: Ledger>(
+fn claim_from<N: Node, D: Discipline>(
     arena: &Arena<N, D>,
     pass: &mut Pass<N, D>,
-    steps: &mut Steps<L>,
     next: u32,
 ) -> bool
     requires pass { IsPassOf arena.now pass.old }
@@ -29,28 +26,12 @@ fn claim_from<N: Node, D: Discipline, L: Ledger>(
     ensures hand { hand_of pass.new ≡ hand_of pass.old }
     ensures still { StayCurrent arena.now pass.old pass.new }
 {
-    let Some(held) = claim_of_many(arena, pass, steps) else {
+    let Some(held) = claim_of_many(arena, pass) else {
         return next == 200;
     };
-    let in_order = held.node == next && claim_from(arena, pass, steps, next + 1);
+    let in_order = held.node == next && claim_from(arena, pass, next + 1);
     arena.give(pass, held);
     in_order
-}
-
-/// The same from node 1 on, with a new count of steps.
-fn claim_all<N: Node, D: Discipline, L: Ledger>(
-    arena: &Arena<N, D>,
-    pass: &mut Pass<N, D>,
-    blank: Blank,
-) -> bool
-    requires pass { IsPassOf arena.now pass.old }
-    requires size { nodes_of arena.now ≡ 200 }
-    requires alone { (callers_of arena.now ≡ 1) × (caller_of pass.old ≡ 0) }
-    requires name { blank.name ≡ L.name }
-    requires parts { blank.parts ≡ L.parts }
-    requires some { 0 < blank.parts }
-{
-    claim_from(arena, pass, &mut Steps::<L>::start(blank), 1)
 }
 
 #[test]
@@ -59,6 +40,6 @@ fn one_caller_claims_each_of_200_nodes_in_order_in_few_steps(rt: HostRuntime) ->
     let Some(mut pass) = passes.pop() else {
         panic!(rt; "no pass")
     };
-    assert!(rt; claim_all::<ListNode, Tree, Brand>(&arena, &mut pass, Blank::new(1)));
+    assert!(rt; claim_from(&arena, &mut pass, 1));
     Ok(())
 }

@@ -1,18 +1,16 @@
 //! A claim in an arena of several free words, with its steps counted.
 ghost use Rattle.std.specs.Prelude.{◌≡◌, ◌+◌, ◌≤◌, None};
-ghost use Rattle.ks_arena.specs.Of.{IsPassOf, HasClaimedFrom, RestStays, callers_of, nodes_of, SameCaller, caller_of};
+ghost use Rattle.ks_arena.specs.Of.{IsPassOf, HasClaimedFrom, RestStays, callers_of, nodes_of, SameCaller, caller_of, steps_of};
 
-use ks_arena::{Arena, Held, Pass, Steps};
+use ks_arena::{Arena, Held, Pass};
 use ks_flow::Discipline;
 use ks_node::Node;
-use std::sync::ledger::Ledger;
 
 /// Claims a node in an arena of 200 nodes and one caller. It takes at most 6 steps on words, and just 4, one for each
 /// free word, where every node is taken.
-pub fn claim_of_many<N: Node, D: Discipline, L: Ledger>(
+pub fn claim_of_many<N: Node, D: Discipline>(
     arena: &Arena<N, D>,
     pass: &mut Pass<N, D>,
-    steps: &mut Steps<L>,
 ) -> Option<Held<N>>
     requires pass { IsPassOf arena.now pass.old }
     requires size { nodes_of arena.now ≡ 200 }
@@ -21,8 +19,8 @@ pub fn claim_of_many<N: Node, D: Discipline, L: Ledger>(
     ensures caller { SameCaller pass.old pass.new }
     ensures claimed { HasClaimedFrom arena.now pass.old pass.new result }
     ensures rest { RestStays arena.now pass.old pass.new }
-    ensures cost { steps.new ≤ steps.old + 6 }
-    ensures none { result ≡ None → steps.new ≡ steps.old + 4 }
+    ensures cost { steps_of pass.new ≤ steps_of pass.old + 6 }
+    ensures none { result ≡ None → steps_of pass.new ≡ steps_of pass.old + 4 }
 {
-    arena.claim_steps(pass, steps)
+    arena.claim(pass)
 }

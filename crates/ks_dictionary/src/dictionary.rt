@@ -1,10 +1,11 @@
 //! A dictionary: an arena, a technique, and keys for places.
-ghost use Rattle.std.specs.Prelude.{◌≡◌, ◌≤◌, IfOk, IsTrue, false};
+ghost use Rattle.std.specs.Prelude.{◌≡◌, ◌≤◌, [], IfOk, IsTrue, false};
 ghost use Rattle.std.specs.Result.{is_ok};
 ghost use Rattle.ks_history.specs.declared.Op.TheVariants.{Add, Del, Get, Put, Swap};
 ghost use Rattle.ks_history.specs.Map.{told};
 ghost use Rattle.ks_history.specs.Trace.{◌⊑◌};
 ghost use Rattle.ks_history.specs.Passes.{CallersBelow, GrowsByOthers};
+ghost use Rattle.ks_arena.specs.Reuse.{ReusesSafely};
 ghost use Rattle.ks_arena.specs.Sound.{sort_of, Sound};
 ghost use Rattle.ks_arena.specs.Clauses.{EndsAll, noted, seen_of};
 ghost use Rattle.ks_arena.specs.Of.{HeldAlone, WasAlone, SameCaller, caller_of};
@@ -26,6 +27,7 @@ ghost use Rattle.ks_dictionary.specs.Of.{
 };
 
 use crate::closed::Closed;
+use ks_arena::laws::reuse_law;
 use ks_arena::{Arena, Note, Pass};
 use ks_gate::Gate;
 use ks_node::Node;
@@ -83,7 +85,9 @@ impl<N: Node, T: Ruled + Template<N, Arena<N, <T as Ruled>::Rule>>> Dictionary<N
         ensures caller { SameCaller pass.old pass.new }
         ensures done { HasCalledIn self.now T.technique (Get (N.Places.place_of key))
             pass.old pass.new (told result.found) result.number }
+        ensures reuse { ReusesSafely T.Rule.lasts (seen_of pass.old) (seen_of pass.new) }
     {
+        reuse_law::<T::Rule>();
         T::get(rt, &self.arena, pass, gate, N::Places::place(key))
     }
 
@@ -107,7 +111,9 @@ impl<N: Node, T: Ruled + Template<N, Arena<N, <T as Ruled>::Rule>>> Dictionary<N
         ensures caller { SameCaller pass.old pass.new }
         ensures done { HasCalledIn self.now T.technique (Put (N.Places.place_of key) value)
             pass.old pass.new (reply_in result) (number_in result) }
+        ensures reuse { ReusesSafely T.Rule.lasts (seen_of pass.old) (seen_of pass.new) }
     {
+        reuse_law::<T::Rule>();
         T::put(rt, &self.arena, pass, gate, N::Places::place(key), value)
     }
 
@@ -129,7 +135,9 @@ impl<N: Node, T: Ruled + Template<N, Arena<N, <T as Ruled>::Rule>>> Dictionary<N
         ensures caller { SameCaller pass.old pass.new }
         ensures done { HasCalledIn self.now T.technique (Add (N.Places.place_of key) value)
             pass.old pass.new (reply_in result) (number_in result) }
+        ensures reuse { ReusesSafely T.Rule.lasts (seen_of pass.old) (seen_of pass.new) }
     {
+        reuse_law::<T::Rule>();
         T::add(rt, &self.arena, pass, gate, N::Places::place(key), value)
     }
 
@@ -149,7 +157,9 @@ impl<N: Node, T: Ruled + Template<N, Arena<N, <T as Ruled>::Rule>>> Dictionary<N
         ensures caller { SameCaller pass.old pass.new }
         ensures done { HasCalledIn self.now T.technique (Swap (N.Places.place_of key) old new)
             pass.old pass.new (told result.found) result.number }
+        ensures reuse { ReusesSafely T.Rule.lasts (seen_of pass.old) (seen_of pass.new) }
     {
+        reuse_law::<T::Rule>();
         T::swap(rt, &self.arena, pass, gate, N::Places::place(key), old, new)
     }
 
@@ -166,7 +176,9 @@ impl<N: Node, T: Ruled + Template<N, Arena<N, <T as Ruled>::Rule>>> Dictionary<N
         ensures caller { SameCaller pass.old pass.new }
         ensures done { HasCalledIn self.now T.technique (Del (N.Places.place_of key))
             pass.old pass.new (told result.found) result.number }
+        ensures reuse { ReusesSafely T.Rule.lasts (seen_of pass.old) (seen_of pass.new) }
     {
+        reuse_law::<T::Rule>();
         T::del(rt, &self.arena, pass, gate, N::Places::place(key))
     }
 
@@ -191,7 +203,9 @@ impl<N: Node, T: Ruled + Template<N, Arena<N, <T as Ruled>::Rule>>> Dictionary<N
         ensures tried { HasTriedIn self.now T.technique (Get (N.Places.place_of key)) pass.old pass.new result }
         ensures never { MayTell T.technique result }
         ensures alone { WasAlone pass.old pass.new → HeldAlone pass.old → IsTrue (is_ok result) }
+        ensures reuse { ReusesSafely T.Rule.lasts (seen_of pass.old) (seen_of pass.new) }
     {
+        reuse_law::<T::Rule>();
         tries_law();
         T::try_get(&self.arena, pass, gate, N::Places::place(key))
     }
@@ -220,7 +234,9 @@ impl<N: Node, T: Ruled + Template<N, Arena<N, <T as Ruled>::Rule>>> Dictionary<N
         ensures never { PutMayTell T.technique result }
         ensures alone { N.in_place ≡ false →
             WasAlone pass.old pass.new → HeldAlone pass.old → IsDoneIn result }
+        ensures reuse { ReusesSafely T.Rule.lasts (seen_of pass.old) (seen_of pass.new) }
     {
+        reuse_law::<T::Rule>();
         tries_law();
         T::try_put(&self.arena, pass, gate, N::Places::place(key), value)
     }
@@ -246,7 +262,9 @@ impl<N: Node, T: Ruled + Template<N, Arena<N, <T as Ruled>::Rule>>> Dictionary<N
         ensures never { PutMayTell T.technique result }
         ensures alone { N.in_place ≡ false →
             WasAlone pass.old pass.new → HeldAlone pass.old → IsDoneIn result }
+        ensures reuse { ReusesSafely T.Rule.lasts (seen_of pass.old) (seen_of pass.new) }
     {
+        reuse_law::<T::Rule>();
         tries_law();
         T::try_add(&self.arena, pass, gate, N::Places::place(key), value)
     }
@@ -271,7 +289,9 @@ impl<N: Node, T: Ruled + Template<N, Arena<N, <T as Ruled>::Rule>>> Dictionary<N
             pass.old pass.new result }
         ensures never { MayTell T.technique result }
         ensures alone { WasAlone pass.old pass.new → HeldAlone pass.old → IsTrue (is_ok result) }
+        ensures reuse { ReusesSafely T.Rule.lasts (seen_of pass.old) (seen_of pass.new) }
     {
+        reuse_law::<T::Rule>();
         tries_law();
         T::try_swap(&self.arena, pass, gate, N::Places::place(key), old, new)
     }
@@ -294,7 +314,9 @@ impl<N: Node, T: Ruled + Template<N, Arena<N, <T as Ruled>::Rule>>> Dictionary<N
         ensures tried { HasTriedIn self.now T.technique (Del (N.Places.place_of key)) pass.old pass.new result }
         ensures never { MayTell T.technique result }
         ensures alone { WasAlone pass.old pass.new → HeldAlone pass.old → IsTrue (is_ok result) }
+        ensures reuse { ReusesSafely T.Rule.lasts (seen_of pass.old) (seen_of pass.new) }
     {
+        reuse_law::<T::Rule>();
         tries_law();
         T::try_del(&self.arena, pass, gate, N::Places::place(key))
     }
@@ -333,6 +355,7 @@ impl<N: Node, T: Ruled + Template<N, Arena<N, <T as Ruled>::Rule>>> Dictionary<N
             (nodes_of self) (history result) }
         ensures seen { EndsAll (history result) passes.items }
         ensures callers { CallersBelow (callers_of self) (history result) }
+        ensures reuse { ReusesSafely T.Rule.lasts [] (history result) }
     {
         let Dictionary { arena } = self;
         Closed {

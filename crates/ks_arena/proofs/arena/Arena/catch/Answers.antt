@@ -21,18 +21,18 @@ use Rattle.ks_arena.proofs.arena.Arena.catch.Given.{Over}
 use Rattle.ks_arena.proofs.arena.Arena.catch.Goals as goal
 use Rattle.ks_arena.proofs.arena.Arena.catch.Goals.{After-unwrap-body, Else-found-eq0}
 
-pub compare_exchange-found-requires : goal.compare_exchange-found-requires
-compare_exchange-found-requires g c = (c.requires.pass.table, omega arith, claims_ok (sort_of g.N.Node.layout g.N.Node.ranged) g.D.Discipline.begins g.D.Discipline.step g.N.Node.body _ _ c.args.pass.now.seat.me c.args.pass.now.caller c.args.node _ c.turn_at-turn.ensures c.requires.pass.own c.requires.pass.bare c.requires.pass.mark c.requires.pass.few (omega arith))
+pub compare_exchange-found-requires-clause-may : goal.compare_exchange-found-requires-clause-may
+compare_exchange-found-requires-clause-may g c κs within = (c.requires.pass.table, omega arith, claims_ok (sort_of g.N.Node.layout g.N.Node.ranged) g.D.Discipline.begins g.D.Discipline.step g.N.Node.body _ _ c.args.pass.now.seat.me c.args.pass.now.caller c.args.node _ c.turn_at-turn.ensures c.requires.pass.own c.requires.pass.bare c.requires.pass.mark c.requires.pass.few (omega arith))
 
-pub exchange-requires : goal.exchange-requires
-exchange-requires g c = let told = (c.compare_exchange-found.ensures.2 c.args.pass.now.caller c.args.node c.requires.pass.own c.turn_at-turn.ensures).0 c.if-found-eq0.true in (c.compare_exchange-found.ensures.0 ∙ c.requires.pass.table, (Some told.1.0, top_rest _ _ _ told.1.1))
+pub exchange-requires-clause-may : goal.exchange-requires-clause-may
+exchange-requires-clause-may g c κs within = let told = (c.compare_exchange-found.ensures.seat.2 c.args.pass.now.caller c.args.node c.requires.pass.own c.turn_at-turn.ensures).0 c.if-found-eq0.true in (c.compare_exchange-found.ensures.seat.0 ∙ c.requires.pass.table, (Some told.1.0, top_rest _ _ _ told.1.1))
 
 pub unwrap-body-requires : goal.unwrap-body-requires
-unwrap-body-requires g c = let told = (c.compare_exchange-found.ensures.2 c.args.pass.now.caller c.args.node c.requires.pass.own c.turn_at-turn.ensures).0 c.if-found-eq0.true in
+unwrap-body-requires g c = let told = (c.compare_exchange-found.ensures.seat.2 c.args.pass.now.caller c.args.node c.requires.pass.own c.turn_at-turn.ensures).0 c.if-found-eq0.true in
     let e = top_same c.args.node (Some told.1.0) c.exchange.result c.compare_exchange-found.new.seat.me.1 _ _ told.1.1 c.exchange.ensures.2 in subst IsSome e.0 refl
 
 abbrev hit : (g : Over) (c : After-unwrap-body g) → ClaimedAt (sort_of g.N.Node.layout g.N.Node.ranged) g.D.Discipline.begins g.D.Discipline.step g.N.Node.body c.args.self.now.table.shared.table_id.slots c.args.pass.now.caller c.args.node c.args.pass.now.seat.me c.compare_exchange-found.result c.compare_exchange-found.new.seat.me
-hit g c = c.compare_exchange-found.ensures.2 c.args.pass.now.caller c.args.node c.requires.pass.own c.turn_at-turn.ensures
+hit g c = c.compare_exchange-found.ensures.seat.2 c.args.pass.now.caller c.args.node c.requires.pass.own c.turn_at-turn.ensures
 
 final : (g : Over) (c : After-unwrap-body g) → c.exchange.new.seat.me ≡ (c.compare_exchange-found.new.seat.me.0, (c.args.node, None) ∷ c.args.pass.now.seat.me.1)
 final g c = let told = (hit g c).0 c.if-found-eq0.true in out_of c.args.node (Some told.1.0) c.args.pass.now.seat.me c.compare_exchange-found.new.seat.me c.exchange.new.seat.me told.1.1 c.exchange.ensures.3
@@ -52,7 +52,7 @@ got g c = let told = (hit g c).0 c.if-found-eq0.true in let p = c.requires.pass 
     p.own (claim_fresh (sort_of g.N.Node.layout g.N.Node.ranged) g.D.Discipline.begins g.D.Discipline.step n c.args.pass.now.caller c.args.node (ready g c) (after g c) p.own told.0) p.carries p.slots refl told.0
 
 pub returns-then-found-eq0-clause-pass : goal.returns-then-found-eq0-clause-pass
-returns-then-found-eq0-clause-pass g c = let a = got g c in pass_marked _ _ _ Quiet (Claiming c.args.node) _ _ c.args.pass.now _ (after g c) c.requires.pass refl (c.exchange.ensures.0 ∙ c.compare_exchange-found.ensures.0) (final g c) a.follows a.carries a.slots a.sounds a.knows
+returns-then-found-eq0-clause-pass g c = let a = got g c in pass_marked _ _ _ Quiet (Claiming c.args.node) _ _ c.args.pass.now _ (after g c) c.requires.pass refl (c.exchange.ensures.0 ∙ c.compare_exchange-found.ensures.seat.0) (final g c) a.follows a.carries a.slots a.sounds a.knows
 
 pub returns-then-found-eq0-clause-claimed : goal.returns-then-found-eq0-clause-claimed
 returns-then-found-eq0-clause-claimed g c = let told = (hit g c).0 c.if-found-eq0.true in let a = got g c in let v : c.exchange.new.seat.me.0 ≡ c.compare_exchange-found.new.seat.me.0 = ap (λ (z : Seated g.row.N.Denot). z.0) (final g c) in
@@ -78,13 +78,13 @@ pub returns-then-found-eq0-clause-kept : goal.returns-then-found-eq0-clause-kept
 returns-then-found-eq0-clause-kept g c = subst (λ (z : Seated g.row.N.Denot). Kept c.args.pass.now.caller c.args.pass.now.seat.me.0.seen z.0.seen) (sym (final g c)) (got g c).kept
 
 missed : (g : Over) (c : Else-found-eq0 g) → Looked (sort_of g.N.Node.layout g.N.Node.ranged) g.D.Discipline.begins g.D.Discipline.step c.args.self.now.table.shared.table_id.slots c.args.pass.now.caller c.args.pass.now.seat.me c.compare_exchange-found.new.seat.me
-missed g c = let told = (c.compare_exchange-found.ensures.2 c.args.pass.now.caller c.args.node c.requires.pass.own c.turn_at-turn.ensures).1 c.if-found-eq0.false in let p = c.requires.pass in looked _ _ _ _ c.args.pass.now.caller c.args.pass.now.seat.me c.compare_exchange-found.new.seat.me p.own p.carries p.slots told.1 told.0
+missed g c = let told = (c.compare_exchange-found.ensures.seat.2 c.args.pass.now.caller c.args.node c.requires.pass.own c.turn_at-turn.ensures).1 c.if-found-eq0.false in let p = c.requires.pass in looked _ _ _ _ c.args.pass.now.caller c.args.pass.now.seat.me c.compare_exchange-found.new.seat.me p.own p.carries p.slots told.1 told.0
 
 pub returns-else-found-eq0-clause-pass : goal.returns-else-found-eq0-clause-pass
-returns-else-found-eq0-clause-pass g c = let a = missed g c in pass_again _ _ _ _ _ c.args.pass.now _ c.compare_exchange-found.new.seat.me c.requires.pass refl c.compare_exchange-found.ensures.0 refl a.follows a.carries a.slots a.sounds a.knows
+returns-else-found-eq0-clause-pass g c = let a = missed g c in pass_again _ _ _ _ _ c.args.pass.now _ c.compare_exchange-found.new.seat.me c.requires.pass refl c.compare_exchange-found.ensures.seat.0 refl a.follows a.carries a.slots a.sounds a.knows
 
 pub returns-else-found-eq0-clause-claimed : goal.returns-else-found-eq0-clause-claimed
-returns-else-found-eq0-clause-claimed g c = let a = missed g c in let told = (c.compare_exchange-found.ensures.2 c.args.pass.now.caller c.args.node c.requires.pass.own c.turn_at-turn.ensures).1 c.if-found-eq0.false in (record { grows = a.grows; hand = a.hand_is; mine = a.mine_is }, told.2)
+returns-else-found-eq0-clause-claimed g c = let a = missed g c in let told = (c.compare_exchange-found.ensures.seat.2 c.args.pass.now.caller c.args.node c.requires.pass.own c.turn_at-turn.ensures).1 c.if-found-eq0.false in (record { grows = a.grows; hand = a.hand_is; mine = a.mine_is }, told.2)
 
 pub returns-else-found-eq0-clause-kept : goal.returns-else-found-eq0-clause-kept
 returns-else-found-eq0-clause-kept g c = (missed g c).kept

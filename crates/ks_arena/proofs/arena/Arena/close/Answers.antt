@@ -1,4 +1,4 @@
-use Rattle.std.proofs.Common.{rules, arith, ◌≡◌, ℕ, ◌<◌, ◌≤◌, List, length, sym, ap, ◌∙◌, subst}
+use Rattle.std.proofs.Common.{rules, arith, ◌≡◌, ℕ, ◌<◌, ◌≤◌, List, [], length, sym, ap, ◌∙◌, subst}
 use Rattle.std.specs.Prelude.{Option, slice_index}
 use Rattle.std.specs.Slots.{slots_items}
 use Rattle.std.specs.declared.alloc.Global.{Global}
@@ -20,6 +20,7 @@ use Rattle.ks_arena.specs.Rule.{Running, Closes, Ends, seen_first, turn_word}
 use Rattle.ks_arena.specs.Laws.Beyond.{free_beyond, named_below}
 use Rattle.ks_arena.proofs.Crew.{joins_ok, gathers_ok, notes_ok, closes, closes_below}
 use Rattle.ks_arena.proofs.Closing.{begins_joining, takes_in, emptied, Ended, ended, next_in}
+use Rattle.ks_arena.specs.Reuse.{ReusesSafely}
 use Rattle.ks_arena.proofs.arena.Arena.close.Given.{Over}
 use Rattle.ks_arena.proofs.arena.Arena.close.Goals as goal
 use Rattle.ks_arena.proofs.arena.Arena.close.Goals.{After-drop-passes}
@@ -82,3 +83,6 @@ returns-clause-seen g c = subst (λ (z : List Event). EndsAll z c.args.passes.it
 
 pub returns-clause-callers : goal.returns-clause-callers
 returns-clause-callers g c = let pos : 0 < c.args.self.callers = c.args.self.sized.3 in subst (CallersBelow c.args.self.callers) (sym (trace_is g c)) (closes_below (sort_of g.N.Node.layout g.N.Node.ranged) g.D.Discipline.begins g.D.Discipline.step g.N.Node.body c.split_seat.new.seat.id c.args.self.callers c.load.new.seat.me.0 (slots_items c.close_with.result.words) (slots_items c.close_with.result.slots) (joined g c).made (λ z. omega arith) (fin g c))
+
+pub returns-clause-reuse : goal.returns-clause-reuse
+returns-clause-reuse g c = subst (ReusesSafely g.D.Discipline.lasts []) (sym (trace_is g c)) (c.reuse_law.ensures (sort_of g.N.Node.layout g.N.Node.ranged) _ [] c.load.new.seat.me.0.seen (ends g c).sound)

@@ -20,8 +20,8 @@ use Rattle.ks_arena.proofs.arena.Arena.count.Given.{Over}
 use Rattle.ks_arena.proofs.arena.Arena.count.Goals as goal
 use Rattle.ks_arena.proofs.arena.Arena.count.Goals.{After-fetch_add}
 
-pub fetch_add-requires : goal.fetch_add-requires
-fetch_add-requires g c = let p = c.args.pass.now in let r = c.requires.pass in let n : ℕ = c.args.self.now.table.shared.table_id.slots in
+pub fetch_add-requires-clause-may : goal.fetch_add-requires-clause-may
+fetch_add-requires-clause-may g c κs within = let p = c.args.pass.now in let r = c.requires.pass in let n : ℕ = c.args.self.now.table.shared.table_id.slots in
     let same : c.args.self.now.nodes ≡ n = omega arith in (
       r.table,
       omega arith,
@@ -33,13 +33,13 @@ abbrev event : (g : Over) (c : After-fetch_add g) → Event
 event g c = Call c.args.pass.now.caller c.args.held.now.node c.args.op c.args.reply
 
 told : (g : Over) (c : After-fetch_add g) → decided (sort_of g.N.Node.layout g.N.Node.ranged) g.D.Discipline.begins g.D.Discipline.step g.N.Node.body (step c.args.self.now.table.shared.table_id.slots 0 1 0 none) (event g c) c.args.pass.now.seat.me c.fetch_add.result c.fetch_add.new.seat.me
-told g c = subst (λ (z : Event). decided (sort_of g.N.Node.layout g.N.Node.ranged) g.D.Discipline.begins g.D.Discipline.step g.N.Node.body (step c.args.self.now.table.shared.table_id.slots 0 1 0 none) z c.args.pass.now.seat.me c.fetch_add.result c.fetch_add.new.seat.me) c.requires.said c.fetch_add.ensures.2
+told g c = subst (λ (z : Event). decided (sort_of g.N.Node.layout g.N.Node.ranged) g.D.Discipline.begins g.D.Discipline.step g.N.Node.body (step c.args.self.now.table.shared.table_id.slots 0 1 0 none) z c.args.pass.now.seat.me c.fetch_add.result c.fetch_add.new.seat.me) c.requires.said c.fetch_add.ensures.seat.2
 
 after : (g : Over) (c : After-fetch_add g) → Counted (sort_of g.N.Node.layout g.N.Node.ranged) g.D.Discipline.begins g.D.Discipline.step c.args.self.now.table.shared.table_id.slots c.args.pass.now.caller (event g c) c.args.pass.now.seat.me c.fetch_add.new.seat.me
 after g c = let r = c.requires.pass in counted (sort_of g.N.Node.layout g.N.Node.ranged) g.D.Discipline.begins g.D.Discipline.step _ c.args.pass.now.caller (event g c) c.args.pass.now.seat.me c.fetch_add.new.seat.me refl (λ h j. refl) (λ h. refl) r.own r.carries r.slots (told g c).1 (told g c).0
 
 pub returns-clause-pass : goal.returns-clause-pass
-returns-clause-pass g c = let a = after g c in pass_again (sort_of g.N.Node.layout g.N.Node.ranged) g.D.Discipline.begins g.D.Discipline.step _ _ c.args.pass.now _ c.fetch_add.new.seat.me c.requires.pass refl c.fetch_add.ensures.0 refl a.follows a.carries a.slots a.sounds a.knows
+returns-clause-pass g c = let a = after g c in pass_again (sort_of g.N.Node.layout g.N.Node.ranged) g.D.Discipline.begins g.D.Discipline.step _ _ c.args.pass.now _ c.fetch_add.new.seat.me c.requires.pass refl c.fetch_add.ensures.seat.0 refl a.follows a.carries a.slots a.sounds a.knows
 
 kept : (g : Over) (c : After-fetch_add g) → KeptBut c.args.held.now.node c.args.pass.now.caller c.args.pass.now.seat.me.0.seen c.fetch_add.new.seat.me.0.seen
 kept g c = λ j ne x. let a = after g c in let i : ℕ = c.args.held.now.node in let h : List Event = a.grows.rest ++ c.args.pass.now.seat.me.0.seen in let k = a.before j x in

@@ -13,19 +13,19 @@ use Rattle.ks_arena.proofs.arena.Arena.take.Goals.{After-drop-iterator, After-dr
 pub loop-init : goal.loop-init
 loop-init g c = waited_none (sort_of g.N.Node.layout g.N.Node.ranged) g.D.Discipline.begins g.D.Discipline.step c.args.self.now.table.shared.table_id c.args.self.now.callers c.args.pass.now c.requires.pass
 
-pub compare_exchange-found-requires : goal.compare_exchange-found-requires
-compare_exchange-found-requires g c = let is = c.loop.invariant.pass in (is.table, omega arith, takes_ok (sort_of g.N.Node.layout g.N.Node.ranged) g.D.Discipline.begins g.D.Discipline.step g.N.Node.body _ _ c.loop.pass.seat.me c.loop.pass.caller c.args.node _ c.turn_at-turn.ensures is.own is.bare is.mark is.few (omega arith))
+pub compare_exchange-found-requires-clause-may : goal.compare_exchange-found-requires-clause-may
+compare_exchange-found-requires-clause-may g c κs within = let is = c.loop.invariant.pass in (is.table, omega arith, takes_ok (sort_of g.N.Node.layout g.N.Node.ranged) g.D.Discipline.begins g.D.Discipline.step g.N.Node.body _ _ c.loop.pass.seat.me c.loop.pass.caller c.args.node _ c.turn_at-turn.ensures is.own is.bare is.mark is.few (omega arith))
 
-pub exchange-requires : goal.exchange-requires
-exchange-requires g c = let is = c.loop.invariant.pass in let told = (c.compare_exchange-found.ensures.2 c.loop.pass.caller c.args.node is.own c.turn_at-turn.ensures).0 c.if-found-eq1.true in (c.compare_exchange-found.ensures.0 ∙ is.table, (Some told.1.0, top_rest _ _ _ told.1.1))
+pub exchange-requires-clause-may : goal.exchange-requires-clause-may
+exchange-requires-clause-may g c κs within = let is = c.loop.invariant.pass in let told = (c.compare_exchange-found.ensures.seat.2 c.loop.pass.caller c.args.node is.own c.turn_at-turn.ensures).0 c.if-found-eq1.true in (c.compare_exchange-found.ensures.seat.0 ∙ is.table, (Some told.1.0, top_rest _ _ _ told.1.1))
 
 pub unwrap-body-requires : goal.unwrap-body-requires
-unwrap-body-requires g c = let told = (c.compare_exchange-found.ensures.2 c.loop.pass.caller c.args.node c.loop.invariant.pass.own c.turn_at-turn.ensures).0 c.if-found-eq1.true in
+unwrap-body-requires g c = let told = (c.compare_exchange-found.ensures.seat.2 c.loop.pass.caller c.args.node c.loop.invariant.pass.own c.turn_at-turn.ensures).0 c.if-found-eq1.true in
     let e = top_same c.args.node (Some told.1.0) c.exchange.result c.compare_exchange-found.new.seat.me.1 _ _ told.1.1 c.exchange.ensures.2 in subst IsSome e.0 refl
 
-hit : (g : Over) (c : After-drop-iterator g) → Caught (sort_of g.N.Node.layout g.N.Node.ranged) g.D.Discipline.begins g.D.Discipline.step c.args.self.now.table.shared.table_id c.args.self.now.callers g.N.Node.body c.args.node c.args.pass.now (record { seat = c.exchange.new.seat; caller = c.loop.pass.caller; marker = c.loop.pass.marker }) (record { node = c.args.node; live = true; body = c.unwrap-body.result })
-hit g c = caught (sort_of g.N.Node.layout g.N.Node.ranged) g.D.Discipline.begins g.D.Discipline.step c.args.self.now.table.shared.table_id c.args.self.now.callers g.N.Node.body c.args.node c.compare_exchange-found.result c.args.pass.now c.loop.pass (record { seat = c.exchange.new.seat; caller = c.loop.pass.caller; marker = c.loop.pass.marker }) c.compare_exchange-found.new.seat.me c.exchange.result c.unwrap-body.result c.loop.invariant (omega arith) c.requires.fresh
-    (c.compare_exchange-found.ensures.2 c.loop.pass.caller c.args.node c.loop.invariant.pass.own c.turn_at-turn.ensures) c.if-found-eq1.true c.exchange.ensures.2 c.unwrap-body.ensures refl (c.exchange.ensures.0 ∙ c.compare_exchange-found.ensures.0) c.exchange.ensures.3
+hit : (g : Over) (c : After-drop-iterator g) → Caught (sort_of g.N.Node.layout g.N.Node.ranged) g.D.Discipline.begins g.D.Discipline.step c.args.self.now.table.shared.table_id c.args.self.now.callers g.N.Node.body c.args.node c.args.pass.now (record { seat = c.exchange.new.seat; steps = c.compare_exchange-found.new.steps; caller = c.loop.pass.caller; marker = c.loop.pass.marker }) (record { node = c.args.node; live = true; body = c.unwrap-body.result })
+hit g c = caught (sort_of g.N.Node.layout g.N.Node.ranged) g.D.Discipline.begins g.D.Discipline.step c.args.self.now.table.shared.table_id c.args.self.now.callers g.N.Node.body c.args.node c.compare_exchange-found.result c.args.pass.now c.loop.pass (record { seat = c.exchange.new.seat; steps = c.compare_exchange-found.new.steps; caller = c.loop.pass.caller; marker = c.loop.pass.marker }) c.compare_exchange-found.new.seat.me c.exchange.result c.unwrap-body.result c.loop.invariant (omega arith) c.requires.fresh
+    (c.compare_exchange-found.ensures.seat.2 c.loop.pass.caller c.args.node c.loop.invariant.pass.own c.turn_at-turn.ensures) c.if-found-eq1.true c.exchange.ensures.2 c.unwrap-body.ensures refl (c.exchange.ensures.0 ∙ c.compare_exchange-found.ensures.seat.0) c.exchange.ensures.3
 
 pub returns-then-found-eq1-clause-pass : goal.returns-then-found-eq1-clause-pass
 returns-then-found-eq1-clause-pass g c = (hit g c).pass
@@ -36,19 +36,19 @@ returns-then-found-eq1-clause-took g c = (hit g c).took
 pub returns-then-found-eq1-clause-rest : goal.returns-then-found-eq1-clause-rest
 returns-then-found-eq1-clause-rest g c = rest_of c.args.self.now c.args.pass.now _ c.requires.pass ((hit g c).kept)
 
-then_missed : (g : Over) (c : After-drop-iterator-then-found-eq0 g) → Waited (sort_of g.N.Node.layout g.N.Node.ranged) g.D.Discipline.begins g.D.Discipline.step c.args.self.now.table.shared.table_id c.args.self.now.callers c.args.pass.now (record { seat = c.compare_exchange-found.new.seat; caller = c.loop.pass.caller; marker = c.loop.pass.marker })
-then_missed g c = missed (sort_of g.N.Node.layout g.N.Node.ranged) g.D.Discipline.begins g.D.Discipline.step c.args.self.now.table.shared.table_id c.args.self.now.callers g.N.Node.body c.args.node c.compare_exchange-found.result c.args.pass.now c.loop.pass (record { seat = c.compare_exchange-found.new.seat; caller = c.loop.pass.caller; marker = c.loop.pass.marker }) c.loop.invariant
-    (c.compare_exchange-found.ensures.2 c.loop.pass.caller c.args.node c.loop.invariant.pass.own c.turn_at-turn.ensures) c.if-found-eq1.false refl c.compare_exchange-found.ensures.0
+then_missed : (g : Over) (c : After-drop-iterator-then-found-eq0 g) → Waited (sort_of g.N.Node.layout g.N.Node.ranged) g.D.Discipline.begins g.D.Discipline.step c.args.self.now.table.shared.table_id c.args.self.now.callers c.args.pass.now (record { seat = c.compare_exchange-found.new.seat; steps = c.compare_exchange-found.new.steps; caller = c.loop.pass.caller; marker = c.loop.pass.marker })
+then_missed g c = missed (sort_of g.N.Node.layout g.N.Node.ranged) g.D.Discipline.begins g.D.Discipline.step c.args.self.now.table.shared.table_id c.args.self.now.callers g.N.Node.body c.args.node c.compare_exchange-found.result c.args.pass.now c.loop.pass (record { seat = c.compare_exchange-found.new.seat; steps = c.compare_exchange-found.new.steps; caller = c.loop.pass.caller; marker = c.loop.pass.marker }) c.loop.invariant
+    (c.compare_exchange-found.ensures.seat.2 c.loop.pass.caller c.args.node c.loop.invariant.pass.own c.turn_at-turn.ensures) c.if-found-eq1.false refl c.compare_exchange-found.ensures.seat.0
 
 pub returns-then-found-eq0-clause-pass : goal.returns-then-found-eq0-clause-pass
 returns-then-found-eq0-clause-pass g c = (then_missed g c).pass
 
 pub returns-then-found-eq0-clause-took : goal.returns-then-found-eq0-clause-took
-returns-then-found-eq0-clause-took g c = let told = (c.compare_exchange-found.ensures.2 c.loop.pass.caller c.args.node c.loop.invariant.pass.own c.turn_at-turn.ensures).1 c.if-found-eq1.false in ((then_missed g c).looked, word_free _ (sym told.2 ∙ c.if-found-eq0.true))
+returns-then-found-eq0-clause-took g c = let told = (c.compare_exchange-found.ensures.seat.2 c.loop.pass.caller c.args.node c.loop.invariant.pass.own c.turn_at-turn.ensures).1 c.if-found-eq1.false in ((then_missed g c).looked, word_free _ (sym told.2 ∙ c.if-found-eq0.true))
 
 pub returns-then-found-eq0-clause-rest : goal.returns-then-found-eq0-clause-rest
 returns-then-found-eq0-clause-rest g c = rest_of c.args.self.now c.args.pass.now _ c.requires.pass ((then_missed g c).kept)
 
 pub loop-preserved : goal.loop-preserved
-loop-preserved g c = missed (sort_of g.N.Node.layout g.N.Node.ranged) g.D.Discipline.begins g.D.Discipline.step c.args.self.now.table.shared.table_id c.args.self.now.callers g.N.Node.body c.args.node c.compare_exchange-found.result c.args.pass.now c.loop.pass (record { seat = c.compare_exchange-found.new.seat; caller = c.loop.pass.caller; marker = c.loop.pass.marker }) c.loop.invariant
-    (c.compare_exchange-found.ensures.2 c.loop.pass.caller c.args.node c.loop.invariant.pass.own c.turn_at-turn.ensures) c.if-found-eq1.false refl c.compare_exchange-found.ensures.0
+loop-preserved g c = missed (sort_of g.N.Node.layout g.N.Node.ranged) g.D.Discipline.begins g.D.Discipline.step c.args.self.now.table.shared.table_id c.args.self.now.callers g.N.Node.body c.args.node c.compare_exchange-found.result c.args.pass.now c.loop.pass (record { seat = c.compare_exchange-found.new.seat; steps = c.watch.new.steps; caller = c.loop.pass.caller; marker = c.loop.pass.marker }) c.loop.invariant
+    (c.compare_exchange-found.ensures.seat.2 c.loop.pass.caller c.args.node c.loop.invariant.pass.own c.turn_at-turn.ensures) c.if-found-eq1.false refl c.compare_exchange-found.ensures.seat.0

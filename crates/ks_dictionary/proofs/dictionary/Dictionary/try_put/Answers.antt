@@ -5,3 +5,6 @@ returns-clause-never g c = c.tries_law.ensures.put_told _ _ _ _ _ _ _ _ c.try_pu
 
 pub returns-clause-alone : goal.returns-clause-alone
 returns-clause-alone g c = λ even alone holds. c.tries_law.ensures.put _ _ _ _ _ _ _ _ alone holds (c.try_put.ensures.tried even)
+
+pub returns-clause-reuse : goal.returns-clause-reuse
+returns-clause-reuse g c = c.reuse_law.ensures _ _ _ _ c.try_put.ensures.pass.0.sound

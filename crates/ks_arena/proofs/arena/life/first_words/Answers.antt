@@ -3,7 +3,7 @@ use Rattle.ks_arena.specs.Spots.{calls_at, shapes_at, turn_at, free_at, words_fo
 use Rattle.ks_arena.specs.Rule.{FirstBits}
 use Rattle.ks_arena.proofs.Apart.{count_no_free, turn_no_free, bit_inside}
 use Rattle.ks_arena.proofs.Bits.{first_more}
-use Rattle.ks_arena.proofs.life.first_words.Goals as goal
+use Rattle.ks_arena.proofs.arena.life.first_words.Goals as goal
 
 -- the words of n nodes, when the bits of those before node m are set
 abbrev Begun : ℕ → ℕ → List ℕ → Type 0

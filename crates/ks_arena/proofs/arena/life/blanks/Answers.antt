@@ -2,7 +2,7 @@ use Rattle.std.proofs.Common.{rules, sym, subst}
 use Rattle.ks_arena.specs.Sound.{sort_of}
 use Rattle.ks_arena.specs.Rule.{AllBlank}
 use Rattle.ks_arena.proofs.Closing.{more_blank, none_blank}
-use Rattle.ks_arena.proofs.life.blanks.Goals as goal
+use Rattle.ks_arena.proofs.arena.life.blanks.Goals as goal
 
 pub loop-i-init : goal.loop-i-init
 loop-i-init g c = (search rules, none_blank (sort_of g.N.Node.layout g.N.Node.ranged) g.N.Node.body _ c.in_ok-slots.ensures.items)

@@ -14,9 +14,9 @@ use Rattle.ks_arena.specs.Clauses.{IsPass, seen_of, Kept, DidClaimIn}
 use Rattle.ks_arena.specs.Laws.Tells.{kept_both, claimed_begins}
 use Rattle.ks_arena.proofs.Tries.{tried_more, root_taken, did_claim, alone_next}
 use Rattle.ks_arena.proofs.Rest.{rest_of}
-use Rattle.ks_arena.proofs.arena.Arena.claim_steps.Given.{Over}
-use Rattle.ks_arena.proofs.arena.Arena.claim_steps.Goals as goal
-use Rattle.ks_arena.proofs.arena.Arena.claim_steps.Goals.{In-Some, In_default}
+use Rattle.ks_arena.proofs.arena.Arena.claim.Given.{Over}
+use Rattle.ks_arena.proofs.arena.Arena.claim.Goals as goal
+use Rattle.ks_arena.proofs.arena.Arena.claim.Goals.{In-Some, In_default}
 
 told : (g : Over) (c : In-Some g) → DidClaimIn (sort_of g.N.Node.layout g.N.Node.ranged) g.N.Node.body c.args.self.now.nodes c.loop-index.index c.args.pass.now.caller (seen_of c.loop-index.pass) (seen_of c.claim_in.new.pass) (Some c.in-Some.held)
 told g c = subst (λ (z : ℕ). DidClaimIn (sort_of g.N.Node.layout g.N.Node.ranged) g.N.Node.body c.args.self.now.nodes c.loop-index.index z (seen_of c.loop-index.pass) (seen_of c.claim_in.new.pass) (Some c.in-Some.held)) c.loop-index.invariant.1 c.in-Some.ensures.claimed

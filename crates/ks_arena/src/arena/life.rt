@@ -5,12 +5,13 @@ ghost use Rattle.ks_arena.specs.Sound.{sort_of, blank_of, Sound};
 ghost use Rattle.ks_arena.specs.Rule.{AllBlank, first_view, FirstBits};
 ghost use Rattle.ks_arena.specs.Spots.{calls_at, shapes_at, turn_at, words_for};
 ghost use Rattle.ks_arena.specs.Clauses.{IsNewCrew, EndsAll, IsRun, trace_of};
+ghost use Rattle.ks_arena.specs.Reuse.{ReusesSafely};
 ghost use Rattle.ks_arena.specs.Of.{AreAllPassesOf, IsStart, callers_of, nodes_of};
 
-use crate::arena::Arena;
+use crate::arena::{Arena, Steps};
 use crate::held::Pass;
 use crate::kin::Kin;
-use crate::laws::sound_law;
+use crate::laws::{reuse_law, sound_law};
 use crate::plays::{Gathers, Next, TakeIn, Tell};
 use crate::remains::Remains;
 use crate::rule::Rule;
@@ -69,6 +70,7 @@ fn crew<N: Node, D: Discipline>(
         passes.push(Pass {
             seat,
             caller,
+            steps: Steps::start(),
             marker: PhantomData,
         })?;
     }
@@ -77,6 +79,7 @@ fn crew<N: Node, D: Discipline>(
         Pass {
             seat: first,
             caller: 0,
+            steps: Steps::start(),
             marker: PhantomData,
         },
     )?;
@@ -117,8 +120,10 @@ impl<N: Node, D: Discipline> Arena<N, D> {
         ensures sound { Sound (sort_of N.layout N.ranged) D.begins D.step (nodes_of self) (trace_of result) }
         ensures seen { EndsAll (trace_of result) passes.items }
         ensures callers { CallersBelow (callers_of self) (trace_of result) }
+        ensures reuse { ReusesSafely D.lasts [] (trace_of result) }
     {
         sound_law::<D>();
+        reuse_law::<D>();
         let mut base = match passes.pop() {
             Some(pass) => pass.seat,
             None => unreachable!(),

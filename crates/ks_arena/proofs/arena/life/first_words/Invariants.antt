@@ -1,7 +1,7 @@
 use Rattle.std.proofs.Common.{◌≡◌, ℕ, ◌<◌, length, get_or, cond, eqb}
 use Rattle.ks_arena.specs.Spots.{calls_at, shapes_at, turn_at, words_for}
 use Rattle.ks_arena.specs.Rule.{FirstBits}
-use Rattle.ks_arena.proofs.life.first_words.Given as goal
+use Rattle.ks_arena.proofs.arena.life.first_words.Given as goal
 
 abbrev pub invariant-loop-node : goal.invariant-loop-node
 invariant-loop-node l =
