@@ -2,6 +2,7 @@
 ghost use Rattle.std.specs.Prelude.{◌≡◌, ◌<◌};
 ghost use Rattle.ks_arena.specs.Spots.{words_for};
 
+use crate::bell::Bell;
 use crate::kin::Kin;
 use crate::rule::Rule;
 use crate::view::View;
@@ -16,6 +17,8 @@ pub struct Arena<N: Node, D: Discipline> {
     pub(crate) table: Table<Option<N>, View, (), Rule<N, D>, Global>,
     pub(crate) nodes: u32,
     pub(crate) callers: u32,
+    /// Whoever gives the root rings it.
+    pub(crate) bell: Bell,
     pub(crate) kin: Kin<N, D>,
     ghost sized: { (table.shared.table_id.words ≡ words_for nodes) × (table.shared.table_id.slots ≡ nodes)
         × (0 < nodes) × (0 < callers) },

@@ -8,6 +8,7 @@ ghost use Rattle.ks_arena.specs.Clauses.{IsNewCrew, EndsAll, IsRun, trace_of};
 ghost use Rattle.ks_arena.specs.Of.{AreAllPassesOf, IsStart, callers_of, nodes_of};
 
 use crate::arena::Arena;
+use crate::bell::Bell;
 use crate::held::Pass;
 use crate::kin::Kin;
 use crate::laws::sound_law;
@@ -105,6 +106,7 @@ impl<N: Node, D: Discipline> Arena<N, D> {
             table,
             nodes,
             callers,
+            bell: Bell::new(),
             kin: Kin::new(),
         };
         Ok((arena, passes))
