@@ -7,6 +7,7 @@ ghost use Rattle.ks_arena.specs.Spots.{words_for};
 
 mod life;
 
+use crate::bell::Bell;
 use crate::kin::Kin;
 use crate::rule::Rule;
 use crate::view::View;
@@ -15,8 +16,6 @@ use ks_flow::Discipline;
 use ks_node::Node;
 use std::alloc::Global;
 use std::marker::Model;
-use std::sync::Wait;
-use std::time::Duration;
 
 /// Nodes that callers take and give back.
 // Nothing outside this module reaches the table: each step on a word goes through a method below, which counts it.
@@ -25,6 +24,8 @@ pub struct Arena<N: Node, D: Discipline> {
     table: Table<Option<N>, View, (), Rule<N, D>, Global>,
     pub(crate) nodes: u32,
     pub(crate) callers: u32,
+    /// Whoever gives the root rings it.
+    pub(crate) bell: Bell,
     pub(crate) kin: Kin<N, D>,
     ghost sized: { (table.shared.table_id.words ≡ words_for nodes) × (table.shared.table_id.slots ≡ nodes)
         × (0 < nodes) × (0 < callers) },
@@ -178,22 +179,6 @@ impl<N: Node, D: Discipline> Arena<N, D> {
     {
         steps.tick();
         self.table.shared.peek(word)
-    }
-
-    /// Sleeps for so long if a word is what is expected.
-    pub(crate) fn park<R: Wait>(
-        &self,
-        rt: &R,
-        steps: &mut Steps,
-        word: usize,
-        expected: u32,
-        time: Duration,
-    )
-        requires { word < self.now.table.shared.table_id.words }
-        ensures { steps.new.made ≡ steps.old.made + 1 }
-    {
-        steps.tick();
-        self.table.shared.park_timeout(rt, word, expected, time);
     }
 
     /// What the seat knows is cut in two, and a new seat has the second part. It loads a word.

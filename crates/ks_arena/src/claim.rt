@@ -9,34 +9,11 @@ use crate::arena::{Arena, Steps};
 use crate::held::{Held, Pass};
 use crate::laws::sound_law;
 use crate::plays::{Claims, ClearsBit, Scans, Takes};
-use crate::spots::{ROOM, free_at, turn_at};
+use crate::spots::{ROOT, free_at, turn_at};
+use crossbeam_utils::Backoff;
 use ks_flow::Discipline;
 use ks_node::Node;
 use std::sync::Wait;
-use std::time::Duration;
-use std::{hint, thread};
-
-/// So many pauses of the processor pass between the first two looks at a turn, and between any later two twice as many as
-/// before.
-const FIRST_PAUSES: u32 = 32;
-
-/// After so many looks at a node a caller lets others have its processor in the place of pauses.
-const LOOKS_AT_A_NODE: u32 = 7;
-
-/// After so many looks at the root it does so.
-const LOOKS_AT_THE_ROOT: u32 = 2;
-
-/// After so many times more it sleeps.
-const YIELDS_AT_THE_ROOT: u32 = 3;
-
-/// Microseconds of a sleep.
-const ROOT_SLEEP: u64 = 1_000;
-
-fn pause(times: u32) {
-    for _ in 0..times {
-        hint::spin_loop();
-    }
-}
 
 impl<N: Node, D: Discipline> Arena<N, D> {
     /// Takes the node once nobody else holds it. `None`: it is free.
@@ -83,71 +60,33 @@ impl<N: Node, D: Discipline> Arena<N, D> {
         self.peek(steps, turn_at(node as usize)) <= 1
     }
 
-    /// Looks so many times at the turn of a node, ever more seldom: each look takes its cache line from the holder. Whether
-    /// nobody had the node at one of them.
-    fn comes_free(&self, steps: &mut Steps, node: u32, looks: u32) -> bool
-        requires node { node < self.now.nodes }
-        requires looks { looks < 32 }
-    {
-        for look in 0..looks {
-            if self.is_given(steps, node) {
-                return true;
-            }
-            pause(FIRST_PAUSES << look);
-        }
-        false
-    }
-
-    /// Looks at the turn of a node until nobody has it.
+    /// Waits until nobody has the node, at some moment: looks at its turn, ever more seldom, for each look takes its cache
+    /// line from the holder, and then lets others have its processor between looks. At the root it sleeps in the place of
+    /// that: who waits for the root holds no node, so nobody waits for a sleeper.
     #[cold]
     #[inline(never)]
     fn watch<R: Wait>(&self, rt: &R, steps: &mut Steps, node: u32)
         requires { node < self.now.nodes }
     {
-        if node == 0 {
-            self.watch_root(rt, steps);
-        } else {
-            self.watch_node(rt, steps, node);
-        }
-    }
-
-    fn watch_node<R: Wait>(&self, rt: &R, steps: &mut Steps, node: u32)
-        requires { node < self.now.nodes }
-    {
-        if self.comes_free(steps, node, LOOKS_AT_A_NODE) {
-            return;
-        }
+        let backoff = Backoff::new();
         for _ in rt.forever() {
             if self.is_given(steps, node) {
                 return;
             }
-            thread::yield_now();
+            if node == ROOT && backoff.is_completed() {
+                self.sleep(rt, steps);
+            } else {
+                backoff.snooze();
+            }
         }
     }
 
-    /// Looks at the turn of the root until nobody has it, and soon sleeps: each call takes the root, so all who look keep the
-    /// one who has it from going on. Who waits for the root holds no node, so nobody waits for a sleeper.
-    fn watch_root<R: Wait>(&self, rt: &R, steps: &mut Steps) {
-        if self.comes_free(steps, 0, LOOKS_AT_THE_ROOT) {
-            return;
-        }
-        for _ in 0..YIELDS_AT_THE_ROOT {
-            if self.is_given(steps, 0) {
-                return;
-            }
-            thread::yield_now();
-        }
-        for _ in rt.forever() {
-            if self.is_given(steps, 0) {
-                return;
-            }
-            self.sleep(rt, steps);
-        }
-    }
-
-    /// Sleeps for `ROOT_SLEEP`: on a word that nobody writes, so that nothing ends it sooner.
+    /// Sleeps until somebody gives the root; returns at once where nobody has it.
     fn sleep<R: Wait>(&self, rt: &R, steps: &mut Steps) {
-        self.park(rt, steps, ROOM, 0, Duration::from_micros(ROOT_SLEEP));
+        self.bell.await_ring();
+        if !self.is_given(steps, ROOT) {
+            self.bell.sleep(rt);
+        }
     }
 
     /// Claims the first node, from node 1 upward, that it finds free. `None`: none was found free. If nobody else acts

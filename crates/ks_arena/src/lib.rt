@@ -6,6 +6,7 @@
 #![tactic(auto)]
 
 mod arena;
+mod bell;
 mod calls;
 mod claim;
 mod ended;

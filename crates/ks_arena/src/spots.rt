@@ -8,8 +8,8 @@ pub(crate) const CALLS: usize = 0;
 /// The word that counts the shapes.
 pub(crate) const SHAPES: usize = 1;
 
-/// A word of the room between the counts and the turns, which nobody writes.
-pub(crate) const ROOM: usize = 2;
+/// The node at which each call begins.
+pub(crate) const ROOT: u32 = 0;
 
 /// The word of the turn of a node.
 #[inline(always)]

@@ -9,6 +9,7 @@ ghost use Rattle.ks_arena.specs.Reuse.{ReusesSafely};
 ghost use Rattle.ks_arena.specs.Of.{AreAllPassesOf, IsStart, callers_of, nodes_of};
 
 use crate::arena::{Arena, Steps};
+use crate::bell::Bell;
 use crate::held::Pass;
 use crate::kin::Kin;
 use crate::laws::{reuse_law, sound_law};
@@ -108,6 +109,7 @@ impl<N: Node, D: Discipline> Arena<N, D> {
             table,
             nodes,
             callers,
+            bell: Bell::new(),
             kin: Kin::new(),
         };
         Ok((arena, passes))

@@ -23,7 +23,7 @@ use Rattle.ks_arena.proofs.Closing.{begins_joining, takes_in, emptied, Ended, en
 use Rattle.ks_arena.specs.Reuse.{ReusesSafely}
 use Rattle.ks_arena.proofs.arena.Arena.close.Given.{Over}
 use Rattle.ks_arena.proofs.arena.Arena.close.Goals as goal
-use Rattle.ks_arena.proofs.arena.Arena.close.Goals.{After-drop-passes}
+use Rattle.ks_arena.proofs.arena.Arena.close.Goals.{After-drop-self}
 
 pub loop-pass-init : goal.loop-pass-init
 loop-pass-init g c = begins_joining (sort_of g.N.Node.layout g.N.Node.ranged) g.D.Discipline.begins g.D.Discipline.step _ _ _ _ _ c.requires c.in-Some.ensures.items
@@ -40,26 +40,26 @@ load-requires g c = (c.loop-pass.invariant.table, search rules, gathers_ok (sort
 pub split_seat-requires : goal.split_seat-requires
 split_seat-requires g c = (c.load.ensures.0 ∙ c.loop-pass.invariant.table, search rules, notes_ok (sort_of g.N.Node.layout g.N.Node.ranged) g.D.Discipline.begins g.D.Discipline.step g.N.Node.body _ c.load.new.seat.me.0)
 
-joined : (g : Over) (c : After-drop-passes g) → Ended (sort_of g.N.Node.layout g.N.Node.ranged) g.D.Discipline.begins g.D.Discipline.step c.args.self.callers 0 c.args.passes.items c.load.new.seat.me.0
+joined : (g : Over) (c : After-drop-self g) → Ended (sort_of g.N.Node.layout g.N.Node.ranged) g.D.Discipline.begins g.D.Discipline.step c.args.self.callers 0 c.args.passes.items c.load.new.seat.me.0
 joined g c = let pos : 0 < c.args.self.callers = c.args.self.sized.3 in let none_left : length c.loop-pass.passes.items ≡ 0 = search rules in
     ended (sort_of g.N.Node.layout g.N.Node.ranged) g.D.Discipline.begins g.D.Discipline.step g.N.Node.body (step c.args.self.table.shared.table_id.slots 0 0 0 none) _ c.args.self.callers 0 c.args.passes.items c.loop-pass.passes.items c.loop-pass.base c.load.new.seat.me pos c.requires c.loop-pass.invariant (emptied (sort_of g.N.Node.layout g.N.Node.ranged) g.D.Discipline.begins g.D.Discipline.step _ none_left) c.load.ensures.2
 
-fin : (g : Over) (c : After-drop-passes g) → Final (Seen (Running (sort_of g.N.Node.layout g.N.Node.ranged) g.D.Discipline.begins g.D.Discipline.step g.N.Node.body) c.split_seat.new.seat.id c.load.new.seat.me.0) (slots_items c.close_with.result.words) (slots_items c.close_with.result.slots)
+fin : (g : Over) (c : After-drop-self g) → Final (Seen (Running (sort_of g.N.Node.layout g.N.Node.ranged) g.D.Discipline.begins g.D.Discipline.step g.N.Node.body) c.split_seat.new.seat.id c.load.new.seat.me.0) (slots_items c.close_with.result.words) (slots_items c.close_with.result.slots)
 fin g c = let same : c.split_seat.new.seat.me.0 ≡ c.load.new.seat.me.0 = ap (λ m. m.0) c.split_seat.ensures.2 in subst (λ (z : View). Final (Seen (Running (sort_of g.N.Node.layout g.N.Node.ranged) g.D.Discipline.begins g.D.Discipline.step g.N.Node.body) c.split_seat.new.seat.id z) (slots_items c.close_with.result.words) (slots_items c.close_with.result.slots)) same c.close_with.ensures.values.2
 
-ends : (g : Over) (c : After-drop-passes g) → Closes (sort_of g.N.Node.layout g.N.Node.ranged) g.D.Discipline.begins g.D.Discipline.step g.N.Node.body c.load.new.seat.me.0.seen (slots_items c.close_with.result.words) (slots_items c.close_with.result.slots)
+ends : (g : Over) (c : After-drop-self g) → Closes (sort_of g.N.Node.layout g.N.Node.ranged) g.D.Discipline.begins g.D.Discipline.step g.N.Node.body c.load.new.seat.me.0.seen (slots_items c.close_with.result.words) (slots_items c.close_with.result.slots)
 ends g c = let pos : 0 < c.args.self.callers = c.args.self.sized.3 in let e = joined g c in closes (sort_of g.N.Node.layout g.N.Node.ranged) g.D.Discipline.begins g.D.Discipline.step g.N.Node.body c.split_seat.new.seat.id c.args.self.callers c.load.new.seat.me.0 (slots_items c.close_with.result.words) (slots_items c.close_with.result.slots) e.made (λ z. omega arith) e.all e.quiet (fin g c)
 
-trace_is : (g : Over) (c : After-drop-passes g) → seen_first c.into_badge-badge.result.views ≡ c.load.new.seat.me.0.seen
+trace_is : (g : Over) (c : After-drop-self g) → seen_first c.into_badge-badge.result.views ≡ c.load.new.seat.me.0.seen
 trace_is g c = ap seen_first c.into_badge-badge.ensures.2 ∙ ap (λ m. m.0.seen) c.split_seat.ensures.4
 
-slot_count : (g : Over) (c : After-drop-passes g) → length (slots_items c.close_with.result.slots) ≡ c.args.self.nodes
+slot_count : (g : Over) (c : After-drop-self g) → length (slots_items c.close_with.result.slots) ≡ c.args.self.nodes
 slot_count g c = let n = c.close_with.ensures.counts.1 in let m = c.close_with.result.slots.ok.0 in let k = c.args.self.sized.1 in sym m ∙ n ∙ k
 
 abbrev Rest : Over → Type 0
 Rest g = Closed (Option g.row.N.Denot) Global
 
-kept : (g : Over) (c : After-drop-passes g) → c.of.result ≡ c.close_with.result
+kept : (g : Over) (c : After-drop-self g) → c.of.result ≡ c.close_with.result
 kept g c = c.of.ensures
 
 pub returns-clause-run : goal.returns-clause-run
