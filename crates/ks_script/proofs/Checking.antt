@@ -18,7 +18,8 @@ use Rattle.ks_script.specs.Reading.{Answers, Gives}
 use Rattle.ks_script.proofs.Following.{Ends, one_versioned}
 use Rattle.ks_script.proofs.Refusals.{bad_at, bad_after, bad_no_text, one_bad, lines_cons}
 use Rattle.ks_script.proofs.Spelling.{front_lines, length-front_lines, stuck_behind, no_lines_end}
-use Rattle.ks_script.proofs.Leading.{Lines, Leads, leads_on, leads_bad}
+use Rattle.ks_script.specs.Reads.{Lines, Leads}
+use Rattle.ks_script.proofs.Leading.{leads_on, leads_bad}
 use Rattle.ks_script.proofs.RunLines.{counts, GoodReplies, Replies, some_answers, callers_lead, map_leads, pairs_lead, end_leads, AreNone, bad_map, bad_pair, bad_rest, one_run}
 
 -- how many calls each caller of a script makes

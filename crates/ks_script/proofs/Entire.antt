@@ -20,7 +20,7 @@ use Rattle.ks_script.proofs.Cuts.{lines_first}
 use Rattle.ks_script.proofs.Texts.{text_append, text_push, one_caller, cut_at, taken_with}
 use Rattle.ks_script.proofs.Refusals.{bad_no_text}
 use Rattle.ks_script.proofs.Spelling.{front_lines}
-use Rattle.ks_script.proofs.Leading.{Lines}
+use Rattle.ks_script.specs.Reads.{Lines}
 use Rattle.ks_script.proofs.RunLines.{Replies, GoodReplies, callers_lead, bad_head, end_apart}
 use Rattle.ks_script.proofs.Replying.{callers_push, reply_missing}
 use Rattle.ks_script.proofs.Spelled.{Plain, plain_append, plain_version, plain_script, plain_callers, plain_pairs, plain_whole, few_callers, lacks_by, written_read}

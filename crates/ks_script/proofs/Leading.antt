@@ -2,14 +2,7 @@
 use Rattle.std.proofs.Common.{ℕ, suc, ◌≡◌, ◌+◌, ◌-◌, List, [], ◌∷◌, ◌++◌, length, take, drop, refl, sym, ap, subst, ◌∙◌, append_assoc, arith, inl, inr, length-append}
 use Rattle.std.proofs.lemmas.List.{drop_at}
 use Rattle.ks_script.specs.Lines.{Begins, FirstBad}
-
-abbrev pub Lines : Type 0
-Lines = List (List ℕ)
-
--- texts of G that begin with the front go on with a text of H, and may go on with each
-pub record Leads (G H : Lines → Type 0) (front : Lines) : Type 0 where
-  pub into : (ls : Lines) → H ls → G (front ++ ls)
-  pub only : (ls : Lines) → G (front ++ ls) → H ls
+use Rattle.ks_script.specs.Reads.{Lines, Leads}
 
 pub leads_none : (G : Lines → Type 0) → Leads G G []
 leads_none G = record { into = λ ls h. h; only = λ ls h. h }

@@ -5,6 +5,8 @@ pub mod Numerals
 pub mod Cuts
 pub mod Fronts
 pub mod Onward
+pub mod Exact
+pub mod Lined
 pub mod Eights
 pub mod Lanes
 pub mod Pairs
@@ -14,11 +16,14 @@ pub mod Following
 pub mod Refusals
 pub mod Spelling
 pub mod Leading
+pub mod Steps
+pub mod ScriptRead
 pub mod RunLines
 pub mod Replying
 pub mod Checking
 pub mod Entire
 pub mod Spelled
+pub mod Rows
 pub mod Standing
 pub mod Streaming
 pub mod Packing

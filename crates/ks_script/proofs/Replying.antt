@@ -12,7 +12,8 @@ use Rattle.ks_script.specs.Answers.{NotFirst, NoReply, NoPair, SpellAnswers, Rep
 use Rattle.ks_script.specs.RunParts.{SpellReplies}
 use Rattle.ks_script.proofs.Texts.{one_caller, callers_append, taken_with, cut_at}
 use Rattle.ks_script.proofs.Pairs.{one_pair}
-use Rattle.ks_script.proofs.Leading.{Lines, leads_bad}
+use Rattle.ks_script.specs.Reads.{Lines}
+use Rattle.ks_script.proofs.Leading.{leads_bad}
 use Rattle.ks_script.proofs.RunLines.{Replies, counts, GoodReplies, callers_lead, part_leads, bad_head, bad_reply}
 
 -- a line more in front of others

@@ -17,7 +17,8 @@ use Rattle.ks_script.proofs.Numerals.{wide, one_number}
 use Rattle.ks_script.proofs.Cuts.{lacks_not, all_digits}
 use Rattle.ks_script.proofs.Pairs.{spaced, one_pair}
 use Rattle.ks_script.proofs.Texts.{one_caller}
-use Rattle.ks_script.proofs.Leading.{Lines, Leads, leads_on, leads_none, bad_first, strip}
+use Rattle.ks_script.specs.Reads.{Lines, Leads}
+use Rattle.ks_script.proofs.Leading.{leads_on, leads_none, bad_first, strip}
 
 abbrev pub Replies : Type 0
 Replies = List (ℕ × Reply)

@@ -20,3 +20,6 @@ pub mod PackedLines
 pub mod Drafts
 pub mod OnePass
 pub mod Numeral
+pub mod Reads
+pub mod Left
+pub mod Lined

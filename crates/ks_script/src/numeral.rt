@@ -1,10 +1,10 @@
 //! Numbers that bytes begin with.
 
-ghost use Rattle.std.specs.Prelude.{ℕ, ◌≡◌, ◌≤◌, ◌<◌, ◌+◌, ◌*◌, ◌^◌, ◌∷◌, ◌++◌, true, length, take, slice_index, IfSome};
+ghost use Rattle.std.specs.Prelude.{ℕ, ◌≡◌, ◌≤◌, ◌<◌, ◌+◌, ◌*◌, ◌^◌, ◌∷◌, ◌++◌, ◌⊎◌, true, false, length, take, drop, slice_index, IfSome};
 ghost use Rattle.std.specs.Fmt.{decimal};
 ghost use Rattle.std.specs.Str.{all_ascii_digits};
 ghost use Rattle.std.specs.Str.Parse.{digits_value};
-ghost use Rattle.ks_script.specs.Numeral.{ReadOn};
+ghost use Rattle.ks_script.specs.Numeral.{NoDigit, ReadOn};
 ghost use Rattle.ks_script.specs.Run.{pair_line};
 
 use crate::eight::{digits_in, eight};
@@ -33,7 +33,7 @@ const POWERS: [u64; 17] = [
 
 // The power of ten.
 #[inline(always)]
-fn power(of: usize) -> u64
+pub(crate) fn power(of: usize) -> u64
     requires { of ≤ 16 }
     ensures { result ≡ 10 ^ of }
 {
@@ -49,6 +49,7 @@ fn one_by_one(bytes: &[u8]) -> (u64, usize)
     ensures digits { all_ascii_digits (take result.1 bytes.now) ≡ true }
     ensures value { digits_value 10 (take result.1 bytes.now) ≡ result.0 }
     ensures small { result.0 < 10000000000000000 }
+    ensures stops { NoDigit (drop result.1 bytes.now) }
 {
     let mut number = 0;
     let mut count = 0;
@@ -66,12 +67,13 @@ fn one_by_one(bytes: &[u8]) -> (u64, usize)
 // The number that the digits spell with which the bytes begin, and how many they are; of more than sixteen the first
 // ones.
 #[inline(always)]
-fn sixteen(bytes: &[u8]) -> (u64, usize)
+pub(crate) fn sixteen(bytes: &[u8]) -> (u64, usize)
     ensures within { result.1 ≤ length bytes.now }
     ensures most { result.1 ≤ 16 }
     ensures digits { all_ascii_digits (take result.1 bytes.now) ≡ true }
     ensures value { digits_value 10 (take result.1 bytes.now) ≡ result.0 }
     ensures small { result.0 < 10000000000000000 }
+    ensures stops { result.1 < 16 → NoDigit (drop result.1 bytes.now) }
 {
     if bytes.len() < 16 {
         return one_by_one(bytes);
@@ -92,10 +94,11 @@ fn sixteen(bytes: &[u8]) -> (u64, usize)
 
 // Whether so many digits are those of a number: some, and none before them but the one of 0.
 #[inline(always)]
-fn spells(bytes: &[u8], count: usize) -> bool
+pub(crate) fn spells(bytes: &[u8], count: usize) -> bool
     requires { count ≤ length bytes.now }
     ensures some { result ≡ true → 0 < count }
     ensures lone { result ≡ true → slice_index bytes.now 0 ≡ 48 → count ≡ 1 }
+    ensures none { result ≡ false → (count ≡ 0) ⊎ ((slice_index bytes.now 0 ≡ 48) × (1 < count)) }
 {
     count > 0 && (count == 1 || bytes[0] != b'0')
 }
