@@ -75,8 +75,8 @@ pub fn judge(alloc: Global, script: &Script, printed: &Printed) -> Result<Judged
     judge_packed(alloc, &callers, &lines, &printed.pairs)
 }
 
-/// The same of a script and a run that are packed, with the pairs of the map at the end.
-pub fn judge_packed(
+// The same of a script and a run that are packed, with the pairs of the map at the end.
+fn judge_packed(
     alloc: Global,
     callers: &[Calls],
     lines: &[Lines],

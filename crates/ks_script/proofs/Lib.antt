@@ -21,15 +21,8 @@ pub mod ScriptRead
 pub mod RunLines
 pub mod Replying
 pub mod Checking
-pub mod Entire
 pub mod Spelled
 pub mod Rows
 pub mod Standing
-pub mod Streaming
 pub mod Packing
-pub mod Stopping
-pub mod Losing
-pub mod TakenLines
-pub mod Drafted
-pub mod WholeRead
 pub mod Padding

@@ -1,10 +1,10 @@
-use Rattle.std.proofs.Common.{ℕ, ◌≡◌, ◌≤◌, ◌-◌, List, Option, vec_len, length}
+use Rattle.std.proofs.Common.{◌≡◌, ◌≤◌, ◌-◌, vec_len, length}
 use Rattle.ks_script.specs.Outside.{Gone}
-use Rattle.ks_script.proofs.source.read_rest.Given as goal
+use Rattle.ks_script.proofs.source.read_all.Given as goal
 
 abbrev pub invariant-loop-count : goal.invariant-loop-count
 invariant-loop-count g l = record {
-  gone : (all : Option (List ℕ)) → Gone all (g.S.Source.left l.fn.source) l.fn.first.items → Gone all (g.S.Source.left l.source) l.bytes.items;
+  gone : Gone (g.S.Source.left l.fn.source) (g.S.Source.left l.source) l.bytes.items;
   within : vec_len l.bytes ≤ l.limit;
   room : length l.buffer ≡ 65536;
   count : g.S.Source.faults l.fn.source ≤ g.S.Source.faults l.source;
