@@ -7,7 +7,6 @@
 
 mod accord;
 mod judging;
-mod packing;
 mod replay;
 mod slots;
 mod table;

@@ -1,6 +1,6 @@
 -- Numbers that bytes begin with, told by their bytes: no digit follows them.
 use Rattle.std.proofs.Common.{ℕ, zero, suc, ◌≡◌, ◌+◌, ◌-◌, ◌*◌, ◌^◌, ◌<◌, ◌≤◌, ◌⊎◌, true, false, List, [], ◌∷◌, ◌++◌, length, take, drop, get_or, refl, sym, ap, subst, ◌∙◌, arith, rules, length-append, inl, inr}
-use Rattle.std.proofs.lemmas.List.{take-append-drop, length-take-le, drop_more}
+use Rattle.std.proofs.lemmas.List.{take-append-drop, length-take-le}
 use Rattle.std.proofs.lemmas.Bool.{false≢true}
 use Rattle.std.proofs.lemmas.Bool.Decides.{eqb_tells}
 use Rattle.std.proofs.lemmas.Nat.{pow-add}
@@ -14,10 +14,6 @@ use Rattle.ks_script.proofs.Numerals.{value_read, read_on, digits_of_number, val
 use Rattle.ks_script.proofs.Cuts.{zero_first, read_on_least}
 use Rattle.ks_script.proofs.Fronts.{both, read_sum, first_kept}
 use Rattle.ks_script.proofs.Onward.{value_joined, first_of}
-
--- the bytes from a byte that is no digit
-pub stops_at : (bytes : List ℕ) (i : ℕ) → i < length bytes → is_ascii_digit (get_or bytes i 0) ≡ false → NoDigit (drop i bytes)
-stops_at bytes i lt free = subst NoDigit (sym (drop_more bytes i 0 lt)) free
 
 -- digits with no digit after them, where other digits are the first ones: these are the first ones of those
 pub record GoesOn (a x b y : List ℕ) : Type 0 where

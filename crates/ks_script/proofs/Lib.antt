@@ -1,4 +1,4 @@
-pub mod Passing
+pub mod Putting
 pub mod Texts
 pub mod Sources
 pub mod Numerals
@@ -11,18 +11,14 @@ pub mod Eights
 pub mod Lanes
 pub mod Pairs
 pub mod CallLines
-pub mod Scripts
-pub mod Following
 pub mod Refusals
-pub mod Spelling
 pub mod Leading
 pub mod Steps
 pub mod ScriptRead
-pub mod RunLines
-pub mod Replying
-pub mod Checking
+pub mod RunSteps
+pub mod RunRead
+pub mod CheckedRead
 pub mod Spelled
 pub mod Rows
-pub mod Standing
 pub mod Packing
 pub mod Padding

@@ -10,7 +10,7 @@ use Rattle.ks_script.specs.Lines.{lines_of}
 use Rattle.ks_script.specs.Ahead.{Lacks}
 use Rattle.ks_script.specs.Numeral.{NoDigit}
 use Rattle.ks_script.specs.Lined.{EndsLine, Lined, NotLined}
-use Rattle.ks_script.specs.Reads.{Lines, NoneFirst}
+use Rattle.ks_script.specs.Reads.{Lines, NotFirst, NoneFirst}
 use Rattle.ks_script.proofs.Numerals.{digits_of_number, one_number}
 use Rattle.ks_script.proofs.Cuts.{lines_first, lines_last}
 use Rattle.ks_script.proofs.Fronts.{both}
@@ -109,3 +109,14 @@ none_first Is line bytes none = by_lines (lines_of bytes) refl
     by_lines : (ls : Lines) → lines_of bytes ≡ ls → NoneFirst Is line ls
     by_lines [] e = tt
     by_lines (l ∷ ls) e = λ x is same. let h = cut_first bytes l ls e in none x is h.0 h.1 (h.2 ∙ ap (λ (k : List ℕ). k ++ h.0) same)
+
+pub not_first : (word bytes : List ℕ) → NotLined word bytes → NotFirst word (lines_of bytes)
+not_first word bytes none = by_lines (lines_of bytes) refl
+  where
+    by_lines : (ls : Lines) → lines_of bytes ≡ ls → NotFirst word ls
+    by_lines [] e = tt
+    by_lines (l ∷ ls) e = λ same. let h = cut_first bytes l ls e in none h.0 h.1 (h.2 ∙ ap (λ (k : List ℕ). k ++ h.0) same)
+
+pub same_tail : (a b c : List ℕ) → a ++ b ≡ a ++ c → b ≡ c
+same_tail [] b c e = e
+same_tail (x ∷ a) b c e = same_tail a b c (ap (λ (k : List ℕ). drop 1 k) e)

@@ -5,9 +5,8 @@ use Rattle.ks_history.specs.declared.Op.{Op}
 use Rattle.ks_script.specs.declared.version.Version.{Version}
 use Rattle.ks_script.specs.Lines.{lines_of}
 use Rattle.ks_script.specs.declared.version.Version.TheVariants.{First, Second}
-use Rattle.ks_script.specs.Script.{IsCall, call_line, script_lines}
-use Rattle.ks_script.specs.Answers.{NotFirst}
-use Rattle.ks_script.specs.Reads.{Lines, NoneFirst, Leads, Reads}
+use Rattle.ks_script.specs.Script.{IsCall, call_line, script_lines, calls_in}
+use Rattle.ks_script.specs.Reads.{Lines, NotFirst, NoneFirst, Leads, Reads}
 use Rattle.ks_script.specs.Left.{TextLeft, ScriptLeft, CallsLeft, Told, CallersRead, none_read, some_read}
 use Rattle.ks_script.proofs.Leading.{leads_on, leads_none}
 use Rattle.ks_script.proofs.CallLines.{call_apart, one_call}
@@ -39,8 +38,14 @@ reads_line G H K bytes middle rest line m n r e step count = record {
   leads = leads_on G H K r.front (line ∷ []) r.leads step;
 }
 
-head : Lines → List ℕ
-head ls = get_or ls 0 []
+-- the same in other words
+pub reads_as : (G H K L : Lines → Type 0) (bytes rest : List ℕ) (n : ℕ) → ((ls : Lines) → G ls → K ls) → ((ls : Lines) → K ls → G ls) → ((ls : Lines) → H ls → L ls) → ((ls : Lines) → L ls → H ls) → Reads G H bytes rest n → Reads K L bytes rest n
+reads_as G H K L bytes rest n to from on back r = record {
+  front = r.front;
+  lines_are = r.lines_are;
+  counted = r.counted;
+  leads = record { into = λ ls h. to (r.front ++ ls) (r.leads.into ls (back ls h)); only = λ ls h. on ls (r.leads.only ls (from (r.front ++ ls) h)) };
+}
 
 pub all_right : {X : Type 0} (P : X → Type 0) (a b : List X) → AllByRecursion P (a ++ b) → AllByRecursion P b
 all_right P [] b h = h
@@ -49,6 +54,10 @@ all_right P (x ∷ a) b h = all_right P a b h.1
 pub all_push : {X : Type 0} (P : X → Type 0) (a : List X) (x : X) → AllByRecursion P a → P x → AllByRecursion P (a ++ x ∷ [])
 all_push P [] x h p = (p, tt)
 all_push P (y ∷ a) x h p = (h.0, all_push P a x h.1 p)
+
+pub calls_append : (a b : List (List Op)) → calls_in (a ++ b) ≡ calls_in a + calls_in b
+calls_append [] b = omega arith
+calls_append (ops ∷ a) b = omega (arith, calls_append a b)
 
 module _ (version : Version) where
   -- lines that begin with a call
@@ -151,13 +160,6 @@ module _ (version : Version) where
       by_more [] [] e f = e ∙ ap (λ (xs : List Op). callers ++ xs ∷ []) (append-nil ops)
       by_more [] (o ∷ others) e f = absurd (omega (arith, ap (λ (ls : Lines). length ls) f))
       by_more (m ∷ more) others e f = absurd (omega (arith, ap (λ (ls : Lines). length ls) f))
-
--- the same of some text
-pub leads_some : {X : Type 0} (G H : X → Lines → Type 0) (front : Lines) → ((x : X) → Leads (G x) (H x) front) → Leads (λ ls. (x : X) × G x ls) (λ ls. (x : X) × H x ls) front
-leads_some G H front leads = record {
-  into = λ ls h. (h.0, (leads h.0).into ls h.1);
-  only = λ ls h. (h.0, (leads h.0).only ls h.1);
-}
 
 -- the version: where no line tells it, the first `caller` does
 told_first : (script : List (List Op)) (behind ls : Lines) → NotFirst (codes "script 2") behind → codes "script 2" ∷ ls ≡ script_lines script ++ behind → ⊥

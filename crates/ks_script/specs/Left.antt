@@ -5,9 +5,12 @@ use Rattle.ks_script.specs.declared.version.Version.{Version}
 use Rattle.ks_script.specs.declared.version.Version.TheVariants.{First, Second}
 use Rattle.ks_script.specs.Version.{version_line, callers_limit}
 use Rattle.ks_script.specs.Script.{IsCall, IsScript, call_line, script_lines, calls_in}
-use Rattle.ks_script.specs.Answers.{NotFirst}
-use Rattle.ks_script.specs.Reads.{Lines, NoneFirst, Reads}
-use Rattle.ks_script.specs.Front.{HasBegun}
+use Rattle.ks_script.specs.Reads.{Lines, NotFirst, NoneFirst, Reads}
+
+-- the lines are those after the one that tells the version; of the first version, which has none, they begin with none
+abbrev pub HasBegun : Version → Lines → Type 0
+HasBegun First lines = NotFirst (codes "script 2") lines
+HasBegun Second lines = Unit {0}
 
 -- lines that go on with nothing of a script
 pub record Apart (version : Version) (behind : Lines) : Type 0 where

@@ -8,9 +8,6 @@ pub mod Reading
 pub mod Checked
 pub mod Digits
 pub mod Memory
-pub mod Front
-pub mod Answers
-pub mod RunParts
 pub mod Eight
 pub mod Parts
 pub mod PackedCalls
@@ -19,3 +16,5 @@ pub mod Numeral
 pub mod Reads
 pub mod Left
 pub mod Lined
+pub mod RunLeft
+pub mod Pieces

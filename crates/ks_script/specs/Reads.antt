@@ -1,9 +1,14 @@
 -- What a reader of lines tells of the texts of a grammar.
-use Rattle.std.specs.Prelude.{ℕ, ◌≡◌, List, [], ◌∷◌, ◌++◌, length}
-use Rattle.ks_script.specs.Lines.{lines_of}
+use Rattle.std.specs.Prelude.{ℕ, ◌≡◌, ◌+◌, List, [], ◌∷◌, ◌++◌, length}
+use Rattle.ks_script.specs.Lines.{lines_of, FirstBad}
 
 abbrev pub Lines : Type 0
 Lines = List (List ℕ)
+
+-- the first of the lines is not this one
+abbrev pub NotFirst : List ℕ → Lines → Type 0
+NotFirst word [] = Unit {0}
+NotFirst word (l ∷ ls) = l ≡ word → ⊥
 
 -- the first of the lines is that of no such thing
 abbrev pub NoneFirst : {X : Type 0} → (X → Type 0) → (X → List ℕ) → Lines → Type 0
@@ -22,3 +27,7 @@ pub record Reads (G H : Lines → Type 0) (bytes rest : List ℕ) (count : ℕ) 
   pub lines_are : lines_of bytes ≡ front ++ lines_of rest
   pub counted : length front ≡ count
   pub leads : Leads G H front
+
+-- behind so many lines, the one with the number n is the first that does not fit
+abbrev pub RefusedBehind : ℕ → (Lines → Type 0) → Lines → ℕ → Type 0
+RefusedBehind before IsText lines n = (k : ℕ) × (n ≡ before + k) × FirstBad IsText lines k

@@ -7,20 +7,7 @@ ghost use Rattle.ks_script.specs.Lined.{EndsLine};
 
 use crate::numeral::{power, sixteen, spells};
 
-// What sixteen digits and the next ones spell, if it is below 2^64, and the bytes after them.
-#[inline(always)]
-fn number_on(front: u64, bytes: &[u8]) -> Option<(u64, &[u8])>
-    requires { 1000000000000000 ≤ front }
-    ensures some { IfSome result (λ x. ReadOn front bytes.now x.0 x.1.now × NoDigit x.1.now) }
-    ensures fits { IfSome result (λ x. x.0 < 2 ^ 64) }
-    ensures none { IfNone result ((n : ℕ) (rest : List ℕ) → ReadOn front bytes.now n rest → NoDigit rest → 2 ^ 64 ≤ n) }
-{
-    let (back, count) = sixteen(bytes);
-    let number = front.checked_mul(power(count))?.checked_add(back)?;
-    Some((number, bytes.split_at(count).1))
-}
-
-// The same below 2^128, where up to thirty-two digits more are read.
+// What sixteen digits and up to thirty-two more spell, if it is below 2^128, and the bytes after them.
 #[inline(always)]
 fn value_on(front: u64, bytes: &[u8]) -> Option<(u128, &[u8])>
     requires least { 1000000000000000 ≤ front }
@@ -42,25 +29,6 @@ fn value_on(front: u64, bytes: &[u8]) -> Option<(u128, &[u8])>
     Some((number, rest.split_at(more).1))
 }
 
-/// The number below 2^64 that the bytes begin with, and the bytes after it.
-#[inline(always)]
-pub fn number(bytes: &[u8]) -> Option<(u64, &[u8])>
-    ensures some { IfSome result (λ x. (bytes.now ≡ decimal x.0 ++ x.1.now) × NoDigit x.1.now) }
-    ensures fits { IfSome result (λ x. x.0 < 2 ^ 64) }
-    ensures none { IfNone result ((n : ℕ) (rest : List ℕ) → n < 2 ^ 64 → NoDigit rest → bytes.now ≢ decimal n ++ rest) }
-{
-    let (front, count) = sixteen(bytes);
-    if !spells(bytes, count) {
-        return None;
-    }
-    let rest = bytes.split_at(count).1;
-    if count == 16 {
-        let (number, rest) = number_on(front, rest)?;
-        return Some((number, rest));
-    }
-    Some((front, rest))
-}
-
 /// The number below 2^128 that the bytes begin with, and the bytes after it.
 #[inline(always)]
 pub fn value(bytes: &[u8]) -> Option<(u128, &[u8])>
@@ -78,6 +46,20 @@ pub fn value(bytes: &[u8]) -> Option<(u128, &[u8])>
         return Some((number, rest));
     }
     Some((u128::from(front), rest))
+}
+
+/// The number below 2^64 that the bytes begin with, and the bytes after it.
+#[inline(always)]
+pub fn number(bytes: &[u8]) -> Option<(u64, &[u8])>
+    ensures some { IfSome result (λ x. (bytes.now ≡ decimal x.0 ++ x.1.now) × NoDigit x.1.now) }
+    ensures fits { IfSome result (λ x. x.0 < 2 ^ 64) }
+    ensures none { IfNone result ((n : ℕ) (rest : List ℕ) → n < 2 ^ 64 → NoDigit rest → bytes.now ≢ decimal n ++ rest) }
+{
+    let (value, rest) = value(bytes)?;
+    if value >= 18446744073709551616 {
+        return None;
+    }
+    Some((value as u64, rest))
 }
 
 /// What follows the word.

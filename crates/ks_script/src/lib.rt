@@ -5,14 +5,11 @@
 //! the first line that does not fit. `Source` and `Sink` are the outside: they may fail, and count it.
 #![tactic(auto)]
 
-mod answers;
 mod appending;
-mod calls;
 mod checked;
 mod eight;
 mod ending;
 mod fault;
-mod front;
 mod laws;
 mod lexer;
 mod line;
@@ -26,10 +23,10 @@ mod parts;
 mod pieces;
 mod printed;
 mod reader;
+mod runs;
 mod script;
 mod source;
 mod version;
-mod words;
 
 pub use checked::read_checked;
 pub use fault::{Failed, ReadFault, TextFault};

@@ -3,8 +3,9 @@
 ghost use Rattle.std.specs.Prelude.{◌≢◌, ℕ, ◌≡◌, ◌<◌, ◌^◌, ◌∷◌, ◌++◌, length, codes, IfSome, IfNone};
 ghost use Rattle.std.specs.Fmt.{decimal};
 ghost use Rattle.ks_script.specs.Lines.{lines_of};
+ghost use Rattle.ks_script.specs.Ahead.{Lacks};
 ghost use Rattle.ks_script.specs.Lined.{Lined, NotLined};
-ghost use Rattle.ks_script.specs.Reads.{NoneFirst};
+ghost use Rattle.ks_script.specs.Reads.{NotFirst, NoneFirst};
 ghost use Rattle.ks_script.specs.Version.{value_limit, AddsAndSwaps};
 ghost use Rattle.ks_history.specs.declared.Op.{Op};
 ghost use Rattle.ks_history.specs.declared.Op.TheVariants.{Add, Swap};
@@ -12,7 +13,7 @@ ghost use Rattle.ks_script.specs.Script.{IsCall, call_line};
 ghost use Rattle.ks_history.specs.declared.Reply.{Reply};
 ghost use Rattle.ks_script.specs.Run.{reply_word, reply_line, pair_line};
 ghost use Rattle.ks_script.specs.Checked.{IsReply, IsAnswered};
-ghost use Rattle.ks_script.specs.Answers.{IsPairFrom};
+ghost use Rattle.ks_script.specs.RunLeft.{IsPairFrom};
 
 use crate::lexer::{line_end, number, spaced, value, word};
 use crate::version::Version;
@@ -159,4 +160,33 @@ pub fn pair(bytes: &[u8]) -> Option<((u64, u128), &[u8])>
 {
     let (pair, rest) = entry(Version::Second, bytes)?;
     Some((pair, rest))
+}
+
+/// What follows the line, if the text begins with it.
+pub fn word_line<'a>(bytes: &'a [u8], line: &[u8]) -> Option<&'a [u8]>
+    requires plain { Lacks 10 line.now }
+    requires some { 0 < length line.now }
+    ensures some { IfSome result (λ rest. lines_of bytes.now ≡ line.now ∷ lines_of rest.now) }
+    ensures none { IfNone result (NotFirst line.now (lines_of bytes.now)) }
+    ensures shorter { IfSome result (λ rest. length rest.now < length bytes.now) }
+{
+    let tail = word(bytes, line)?;
+    let rest = line_end(tail)?;
+    Some(rest)
+}
+
+/// What follows the line of the caller with this number.
+pub fn caller(bytes: &[u8], of: u64) -> Option<&[u8]>
+    ensures some { IfSome result
+        (λ rest. lines_of bytes.now ≡ (codes "caller " ++ decimal of) ∷ lines_of rest.now) }
+    ensures none { IfNone result (NotFirst (codes "caller " ++ decimal of) (lines_of bytes.now)) }
+    ensures shorter { IfSome result (λ rest. length rest.now < length bytes.now) }
+{
+    let digits = word(bytes, b"caller ")?;
+    let (number, tail) = number(digits)?;
+    if number != of {
+        return None;
+    }
+    let rest = line_end(tail)?;
+    Some(rest)
 }

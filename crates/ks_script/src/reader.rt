@@ -1,22 +1,18 @@
-//! The parts of texts, read off the front: what is read, and what of a whole text may follow.
+//! The script at the front of a text: callers with their calls, as far as the lines go.
 
-ghost use Rattle.std.specs.Prelude.{ℕ, ◌≡◌, ◌≤◌, ◌<◌, ◌+◌, List, [], length, IfOk, Ok, Err};
+ghost use Rattle.std.specs.Prelude.{ℕ, ◌≡◌, ◌≤◌, ◌<◌, ◌+◌, List, [], length, IfOk};
 ghost use Rattle.std.specs.List.{AllByRecursion};
 ghost use Rattle.ks_history.specs.declared.Op.{Op};
 ghost use Rattle.ks_script.specs.Lines.{lines_of};
-ghost use Rattle.ks_script.specs.Script.{IsCall, IsScript, call_line, ScriptOf, FirstBadOfScript};
-ghost use Rattle.ks_script.specs.Reading.{Answers, Gives};
+ghost use Rattle.ks_script.specs.Script.{IsCall, IsScript, call_line};
 ghost use Rattle.ks_script.specs.Reads.{NoneFirst, Reads};
-ghost use Rattle.ks_script.specs.Left.{CallsLeft, TextLeft, Told, CallersRead, Stops};
-ghost use Rattle.ks_script.specs.Front.{HasBegun};
+ghost use Rattle.ks_script.specs.Left.{HasBegun, CallsLeft, TextLeft, Told, CallersRead, Stops};
 ghost use Rattle.ks_script.specs.declared.version.Version.{Version};
 
-use crate::answers::after_line;
-use crate::lines::call;
+use crate::Calls;
+use crate::lines::{call, word_line};
 use crate::version::Version;
-use crate::{Calls, TextFault};
 use std::alloc::{AllocError, Global};
-use std::marker::Model;
 
 /// The calls at the front, as many as there is room for, and the bytes after them.
 pub fn calls(
@@ -64,7 +60,7 @@ fn version_of(bytes: &[u8]) -> (Version, usize, &[u8])
     ensures begun { HasBegun result.0 (lines_of result.2.now) }
     ensures few { result.1 ≤ 1 }
 {
-    match after_line(bytes, b"script 2") {
+    match word_line(bytes, b"script 2") {
         Some(rest) => (Version::Second, 1, rest),
         None => (Version::First, 0, bytes),
     }
@@ -83,7 +79,7 @@ pub fn callers(alloc: Global, bytes: &[u8]) -> Result<Front<'_>, AllocError>
     let mut count = 0;
     let mut rest = body;
     'callers: while callers.len() < most {
-        let Some(more) = after_line(rest, b"caller") else {
+        let Some(more) = word_line(rest, b"caller") else {
             return Ok(ended(version, told, callers, count, rest));
         };
         let (ops, left) = calls(alloc, version, more, MOST_CALLS - count)?;
@@ -109,37 +105,4 @@ fn ended(version: Version, told: usize, callers: Vec<Calls>, calls: usize, rest:
         lines,
         rest,
     }
-}
-
-/// For each caller its calls.
-#[derive(Drop)]
-pub struct PackedScript {
-    pub callers: Vec<Calls>,
-}
-
-impl Model for PackedScript {
-    ghost use Rattle.std.specs.Prelude.{List};
-    ghost use Rattle.ks_history.specs.declared.Op.{Op};
-
-    ghost Value = { List (List Op) };
-
-    ghost view = { λ s. s.callers.items };
-}
-
-/// The script, of either version, that the bytes are the text of, or the first line that does not fit.
-pub fn script(alloc: Global, bytes: &[u8]) -> Result<PackedScript, TextFault>
-    ensures answer { Answers result (ScriptOf bytes.now) (FirstBadOfScript bytes.now) }
-    // What is a script is read, and a line that does not fit is refused, unless memory is wanting.
-    ensures script { (script : List (List Op)) → ScriptOf bytes.now script → Gives result (Ok script) }
-    ensures refused { (n : ℕ) → FirstBadOfScript bytes.now n → Gives result (Err (TextFault.Refused n)) }
-{
-    let front = callers(alloc, bytes)?;
-    if !front.rest.is_empty() {
-        return Err(TextFault::Refused {
-            line: front.lines + 1,
-        });
-    }
-    Ok(PackedScript {
-        callers: front.callers,
-    })
 }

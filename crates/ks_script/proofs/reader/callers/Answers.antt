@@ -1,10 +1,10 @@
 use Rattle.std.proofs.Common.{ℕ, ◌≡◌, ◌+◌, List, [], ◌∷◌, ◌++◌, length, sym, subst, ap, ◌∙◌, arith, length-append}
+use Rattle.std.specs.List.{AllByRecursion}
 use Rattle.ks_history.specs.declared.Op.{Op}
 use Rattle.ks_script.specs.declared.version.Version.{Version}
-use Rattle.ks_script.specs.Script.{IsScript, calls_in}
+use Rattle.ks_script.specs.Script.{IsCall, IsScript, calls_in}
 use Rattle.ks_script.specs.Left.{CallersRead}
-use Rattle.ks_script.proofs.Scripts.{calls_push, good_push}
-use Rattle.ks_script.proofs.Steps.{next_read}
+use Rattle.ks_script.proofs.Steps.{all_push, calls_append, next_read}
 use Rattle.ks_script.proofs.reader.callers.Goals as goal
 
 pub callers-preserved : goal.callers-preserved
@@ -18,13 +18,13 @@ callers-preserved c =
     let room = before.is.callers in
     let pushed : c.push.new.self.items ≡ all ++ ops ∷ [] = c.in_ok-push.ensures.items in
     let many : length (all ++ ops ∷ []) ≡ length all + 1 = length-append all (ops ∷ []) in
-    let sum : calls_in (all ++ ops ∷ []) ≡ calls_in all + length ops = calls_push all ops in
+    let sum : calls_in (all ++ ops ∷ []) ≡ calls_in all + length ops = omega (arith, calls_append all (ops ∷ [])) in
     let within = c.in_ok-ops.ensures.within in
     let each = c.in_ok-ops.ensures.each in
     let grown : IsScript version (all ++ ops ∷ []) = record {
       callers = omega arith;
       calls = omega arith;
-      each = good_push version all ops before.is.each each;
+      each = all_push (AllByRecursion (IsCall version)) all ops before.is.each each;
     } in
     record {
       is = subst (IsScript version) (sym pushed) grown;
