@@ -36,8 +36,3 @@ within Second n le = le
 pub few_read : (bytes : List ℕ) (r : Result (List (List Op)) Stop) → IfOk r (λ script. ScriptOf bytes script) → IfOk r (λ script. length script ≤ 1024)
 few_read bytes (Ok script) is = within is.0 (length script) is.1.is.callers
 few_read bytes (Err stop) is = tt
-
--- the same of a source of which first bytes were read before, whatever all its bytes are
-pub rest_cause : {X : Type 0} (text : Text) (Are : Option (List ℕ) → Type 0) (rose : Type 0) (v : List ℕ) (r : Result X Stop) → ((all : Option (List ℕ)) → Are all → IfSome all (λ bytes. v ≡ bytes)) → length v ≤ limit_of text → IfErr r (λ stop. IsRefusal stop text v) → IfErr r (λ stop. (all : Option (List ℕ)) → Are all → IsCause stop text all rose)
-rest_cause text Are rose v (Ok x) is le bad = tt
-rest_cause {X} text Are rose v (Err stop) is le bad = λ all are. load_cause {X = X} text all rose v (Err stop) (is all are) le bad

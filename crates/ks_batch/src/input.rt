@@ -1,12 +1,9 @@
 //! Reads what a command works on from its source.
 
-ghost use Rattle.std.specs.Prelude.{ℕ, ◌≡◌, ◌≤◌, ◌+◌, List, Option, length, vec_len, Some, [], IfOk, OnOk, IfErr, IfSome};
-ghost use Rattle.ks_script.specs.Outside.{Rose, Gone};
-ghost use Rattle.ks_script.specs.Script.{ScriptOf};
+ghost use Rattle.std.specs.Prelude.{ℕ, ◌≡◌, ◌≤◌, length, Some, [], IfOk, OnOk, IfErr, IfSome};
+ghost use Rattle.ks_script.specs.Outside.{Rose};
+ghost use Rattle.ks_script.specs.Script.{ScriptOf, calls_in};
 ghost use Rattle.ks_script.specs.Checked.{CheckedOf};
-ghost use Rattle.ks_script.specs.Written.{AreWritten};
-ghost use Rattle.ks_script.specs.OnePass.{ScriptOrBytes, HasRead, IsWhole};
-ghost use Rattle.ks_script.specs.Script.{calls_in};
 ghost use Rattle.ks_judge.specs.Judgment.{SameShape};
 ghost use Rattle.ks_batch.specs.Serve.{limit_of, Accepts, AcceptsChecked};
 ghost use Rattle.ks_batch.specs.Stop.{IsCause, IsRefusal};
@@ -14,8 +11,7 @@ ghost use Rattle.ks_batch.specs.declared.words.Text.TheVariants as text;
 
 use crate::words::Text;
 use ks_script::{
-    Halt, InOnePass, Printed, ReadFault, Script, Source, TextFault, read_all, read_checked,
-    read_packed, read_rest, read_script,
+    Printed, ReadFault, Script, Source, TextFault, read_all, read_checked, read_script,
 };
 use std::alloc::Global;
 
@@ -92,61 +88,15 @@ pub fn load<S: Source>(alloc: Global, source: &mut S) -> Result<Script, Stop>
     script(alloc, &bytes)
 }
 
-/// Reads a script and a run of it from the source, in little room; or the bytes that were read, where not every line
-/// stood there whole and fitted.
-pub fn load_packed<S: Source>(alloc: Global, source: &mut S) -> Result<InOnePass, Stop>
-    ensures fits { IfOk result (ScriptOrBytes (limit_of text.Checked)) }
-    ensures read { IfOk result (HasRead (S.left source.old) (S.left source.new) (limit_of text.Checked)) }
-    ensures whole { IfOk result (λ read. (bytes : List ℕ) → S.left source.old ≡ Some bytes →
-        length bytes ≤ limit_of text.Checked → AreWritten bytes → IsWhole read) }
-    ensures count { S.faults source.old ≤ S.faults source.new }
+/// Reads a script and a run of it from the source.
+pub fn load_checked<S: Source>(alloc: Global, source: &mut S) -> Result<(Script, Printed), Stop>
+    ensures ok { IfOk result (λ x. IfSome (S.left source.old) (λ bytes. AcceptsChecked bytes x.0 x.1)) }
+    ensures shape { IfOk result (λ x. SameShape x.0 x.1.callers) }
+    ensures few { IfOk result (λ x. calls_in x.0 ≤ 1048576) }
+    ensures end { OnOk result (IfSome (S.left source.old) (λ _. S.left source.new ≡ Some [])) }
     ensures cause { IfErr result
         (λ stop. IsCause stop text.Checked (S.left source.old) (Rose (S.faults source.old) (S.faults source.new))) }
 {
-    match read_packed(alloc, source, limit(Text::Checked)) {
-        Ok(read) => Ok(read),
-        Err(Halt::Failed) => Err(Stop::Source),
-        Err(Halt::Memory) => Err(Stop::Memory),
-    }
-}
-
-// All bytes of a source of which these were read before.
-fn rest<S: Source>(source: &mut S, first: Vec<u8>) -> Result<Vec<u8>, Stop>
-    requires { vec_len first ≤ limit_of text.Checked + 1 }
-    ensures ok { IfOk result (λ read. (all : Option (List ℕ)) → Gone all (S.left source.old) first.items →
-        IfSome all (λ bytes. read.items ≡ bytes)) }
-    ensures within { IfOk result (λ read. length read.items ≤ limit_of text.Checked) }
-    ensures end { OnOk result ((all : Option (List ℕ)) → Gone all (S.left source.old) first.items →
-        IfSome all (λ _. S.left source.new ≡ Some [])) }
-    ensures cause { IfErr result
-        (λ stop. (all : Option (List ℕ)) → Gone all (S.left source.old) first.items →
-        IsCause stop text.Checked all (Rose (S.faults source.old) (S.faults source.new))) }
-{
-    match read_rest(source, first, limit(Text::Checked)) {
-        Ok(bytes) => Ok(bytes),
-        Err(ReadFault::Failed) => Err(Stop::Source),
-        Err(ReadFault::TooLong) => Err(Stop::Refused { line: 0 }),
-        Err(ReadFault::Memory) => Err(Stop::Memory),
-    }
-}
-
-/// Reads a script and a run of it from a source of which these bytes were read before.
-pub fn load_checked<S: Source>(
-    alloc: Global,
-    source: &mut S,
-    first: Vec<u8>,
-) -> Result<(Script, Printed), Stop>
-    requires { vec_len first ≤ limit_of text.Checked + 1 }
-    ensures ok { IfOk result (λ x. (all : Option (List ℕ)) → Gone all (S.left source.old) first.items →
-        IfSome all (λ bytes. AcceptsChecked bytes x.0 x.1)) }
-    ensures shape { IfOk result (λ x. SameShape x.0 x.1.callers) }
-    ensures few { IfOk result (λ x. calls_in x.0 ≤ 1048576) }
-    ensures end { OnOk result ((all : Option (List ℕ)) → Gone all (S.left source.old) first.items →
-        IfSome all (λ _. S.left source.new ≡ Some [])) }
-    ensures cause { IfErr result
-        (λ stop. (all : Option (List ℕ)) → Gone all (S.left source.old) first.items →
-        IsCause stop text.Checked all (Rose (S.faults source.old) (S.faults source.new))) }
-{
-    let bytes = rest(source, first)?;
+    let bytes = input(alloc, source, Text::Checked)?;
     checked(alloc, &bytes)
 }

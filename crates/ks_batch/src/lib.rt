@@ -8,6 +8,7 @@
 mod input;
 mod judgment;
 mod message;
+mod packing;
 mod pairings;
 mod serving;
 pub mod status;

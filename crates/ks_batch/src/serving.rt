@@ -1,7 +1,8 @@
 //! What the program does: it serves a script, or judges a printed run, from bytes to bytes.
 
-ghost use Rattle.std.specs.Prelude.{ℕ, ◌≡◌, ◌≢◌, ◌≤◌, ◌⊎◌, ◌↔◌, map, Some, List, [], IfOk, OnOk, OnErr, IfErr, IfSome, IsSome, IsNone};
+ghost use Rattle.std.specs.Prelude.{ℕ, ◌≡◌, ◌≢◌, ◌≤◌, ◌⊎◌, ◌↔◌, length, map, Some, List, [], IfOk, OnOk, OnErr, IfErr, IfSome, IsSome, IsNone};
 ghost use Rattle.ks_history.specs.Due.{FullsDue};
+ghost use Rattle.ks_history.specs.Served.{Served};
 ghost use Rattle.ks_history.specs.Lawful.{Lawful, GoodThroughout};
 ghost use Rattle.ks_history.specs.declared.Op.{Op};
 ghost use Rattle.ks_script.specs.Outside.{Rose, Grew, GrewByFront};
@@ -19,6 +20,7 @@ ghost use Rattle.ks_batch.specs.Stop.{IsCause};
 use crate::input::{Stop, load};
 use crate::judgment::judged;
 use crate::message::tell;
+use crate::packing::{packed, unpacked};
 use crate::pairings::{Pairing, serve_by};
 use crate::status::{DONE, NO_COMMAND, NO_MEMORY, OUTPUT_FAILED, REFUSED, SOURCE_FAILED, WRONG};
 use crate::words::{Asked, Draft, MOST_WORKERS, command};
@@ -27,7 +29,7 @@ use ks_dictionary::Told;
 use ks_gate::Gate;
 use ks_generator::{Size, made_script, summary};
 use ks_judge::Judged;
-use ks_script::{Failed, Printed, Sink, Source, send, send_line, write_run};
+use ks_script::{Failed, Printed, Script, Sink, Source, send, send_line, write_run};
 use std::alloc::{AllocError, Global};
 use std::sync::Wait;
 use std::thread::Threads;
@@ -66,18 +68,44 @@ struct Ready {
     trace: RunTrace,
 }
 
-fn to_print(told: Told) -> Ready
-    ensures trace { result.trace ≡ told.trace }
-    ensures callers { result.printed.callers ≡ map (λ v. v.items) told.lines.items }
-    ensures pairs { result.printed.pairs ≡ told.pairs.items }
+fn to_print(alloc: Global, told: Told) -> Result<Ready, AllocError>
+    ensures trace { IfOk result (λ ready. ready.trace ≡ told.trace) }
+    ensures callers { IfOk result (λ ready. ready.printed.callers ≡ map (λ v. v.items) told.lines.items) }
+    ensures pairs { IfOk result (λ ready. ready.printed.pairs ≡ told.pairs.items) }
 {
-    Ready {
+    let callers = packed(alloc, &told.lines)?;
+    Ok(Ready {
         printed: Printed {
-            callers: told.lines,
+            callers,
             pairs: told.pairs,
         },
         trace: told.trace,
-    }
+    })
+}
+
+/// Serves a script by the pairing, over so many nodes, by so many workers.
+fn serve_packed<R: Threads + Wait + Sync, G: Gate + Sync>(
+    rt: &R,
+    alloc: Global,
+    pairing: Pairing,
+    arena: u32,
+    script: &Script,
+    workers: u32,
+    gate: &G,
+) -> Result<Ready, AllocError>
+    requires arena { (4 ≤ arena) × (arena ≤ 1048576) }
+    requires callers { length script.now ≤ 1024 }
+    requires workers { (1 ≤ workers) × (workers ≤ 64) }
+    ensures served { IfOk result
+        (λ ready. Served (row_of pairing).place script.now ready.printed.callers ready.printed.pairs ready.trace) }
+    ensures lawful { IfOk result (λ ready. Lawful ready.trace) }
+    ensures good { IfOk result (λ ready. GoodThroughout ready.trace) }
+    ensures due { IfOk result (λ ready. FullsDue (row_of pairing).layout arena ready.trace) }
+{
+    let callers = unpacked(alloc, script)?;
+    let told = serve_by(rt, alloc, pairing, arena, callers, workers, gate)?;
+    let ready = to_print(alloc, told)?;
+    Ok(ready)
 }
 
 /// Reads a script and serves it by the pairing, over so many nodes, by so many workers.
@@ -102,8 +130,8 @@ fn prepare<R: Threads + Wait + Sync, S: Source, G: Gate + Sync>(
         (λ stop. IsCause stop text.Script (S.left source.old) (Rose (S.faults source.old) (S.faults source.new))) }
 {
     let script = load(alloc, source)?;
-    match serve_by(rt, alloc, pairing, arena, script.callers, workers, gate) {
-        Ok(told) => Ok(to_print(told)),
+    match serve_packed(rt, alloc, pairing, arena, &script, workers, gate) {
+        Ok(ready) => Ok(ready),
         Err(_) => Err(Stop::Memory),
     }
 }
@@ -224,8 +252,7 @@ pub fn make<R: Threads + Wait + Sync, G: Gate + Sync>(
 {
     let script = made_script(alloc, draft.callers, draft.calls, draft.first)?;
     let size = Size::of(&script);
-    let told = serve_by(rt, alloc, pairing, arena, script.callers, workers, gate)?;
-    let ready = to_print(told);
+    let ready = serve_packed(rt, alloc, pairing, arena, &script, workers, gate)?;
     let text = summary(alloc, size, &ready.printed)?;
     Ok(Made {
         text,

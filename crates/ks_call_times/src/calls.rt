@@ -10,7 +10,6 @@ use ks_gate::NoGate;
 use ks_generator::made_script;
 use ks_history::Op;
 use ks_node::Node;
-use ks_script::Script;
 use ks_shape::{Ruled, Template};
 use std::alloc::Global;
 use std::io;
@@ -93,7 +92,11 @@ where
     N::Places: Send + Sync,
     requires { (1 ≤ callers) × (callers ≤ 64) }
 {
-    let Script { callers: scripts } = made_script(alloc, callers, calls, FIRST)?;
+    let script = made_script(alloc, callers, calls, FIRST)?;
+    let mut scripts = Vec::with_capacity(alloc, script.callers.len())?;
+    for calls in &script.callers {
+        scripts.push(calls.to_ops(alloc)?)?;
+    }
     let shared = Shared {
         alloc,
         scripts,

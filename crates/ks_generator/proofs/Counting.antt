@@ -1,9 +1,10 @@
 -- Counts and sums with one list, and with one pair, more.
-use Rattle.std.proofs.Common.{ℕ, zero, suc, ◌≡◌, ◌<◌, ◌≤◌, ◌+◌, ◌*◌, ◌%◌, ◌^◌, List, [], ◌∷◌, ◌++◌, length, take, get_or, map, refl, sym, ◌∙◌, ap, subst, arith}
+use Rattle.std.proofs.Common.{ℕ, zero, suc, ◌≡◌, ◌<◌, ◌≤◌, ◌+◌, ◌*◌, ◌%◌, ◌^◌, List, [], ◌∷◌, ◌++◌, length, take, get_or, Bool, true, false, refl, sym, ◌∙◌, ap, arith}
 use Rattle.std.specs.Prelude.{count_by}
 use Rattle.std.proofs.Math.Nat.{add-mod, mul_comm}
 use Rattle.std.proofs.lemmas.Nat.{mul-mod_first}
-use Rattle.std.proofs.lemmas.List.{map_more, take_more}
+use Rattle.std.proofs.lemmas.List.{take_more}
+use Rattle.std.proofs.lemmas.List.Sums.{count_by_more_yes, count_by_more_no}
 use Rattle.ks_history.specs.declared.Op.{Op}
 use Rattle.ks_history.specs.declared.Reply.{Reply}
 use Rattle.ks_script.specs.Script.{calls_in}
@@ -22,25 +23,29 @@ sum-append : (xs ys : List (ℕ × ℕ)) → sum_of (xs ++ ys) ≡ sum_of xs + s
 sum-append [] ys = omega arith
 sum-append (x ∷ xs) ys = let e = sum-append xs ys in omega (arith, e)
 
-pub replies_more : {X : Type 0} (items : X → List (ℕ × Reply)) (k : Kind) (xs : List X) (i total n : ℕ) (d : X) → i < length xs → d ≡ get_or xs i d → n ≡ count_by (λ x. is_of k x.1) (items d) → total ≡ replies_of k (map items (take i xs)) → total + n ≡ replies_of k (map items (take (i + 1) xs))
-replies_more items k xs i total n d lt is is_n so_far =
-    let last : List (ℕ × Reply) = items (get_or xs i d) in
-    let e : replies_of k (map items (take (i + 1) xs)) ≡ replies_of k (map items (take i xs)) + replies_of k (last ∷ []) = ap (replies_of k) (map_more items xs i d lt) ∙ replies-append k (map items (take i xs)) (last ∷ []) in
-    let f : n ≡ replies_of k (last ∷ []) = is_n ∙ ap (λ x. count_by (λ (y : ℕ × Reply). is_of k y.1) (items x)) is ∙ plus_none (count_by (λ (y : ℕ × Reply). is_of k y.1) last) in
-    omega (arith, e, f, so_far)
-  where
-    plus_none : (n : ℕ) → n ≡ n + 0
-    plus_none n = omega arith
+plus_none : (n : ℕ) → n ≡ n + 0
+plus_none n = omega arith
 
-pub calls_more : {X : Type 0} (items : X → List Op) (xs : List X) (i total n : ℕ) (d : X) → i < length xs → d ≡ get_or xs i d → n ≡ length (items d) → total ≡ calls_in (map items (take i xs)) → total + n ≡ calls_in (map items (take (i + 1) xs))
-calls_more items xs i total n d lt is is_n so_far =
-    let last : List Op = items (get_or xs i d) in
-    let e : calls_in (map items (take (i + 1) xs)) ≡ calls_in (map items (take i xs)) + calls_in (last ∷ []) = ap calls_in (map_more items xs i d lt) ∙ calls-append (map items (take i xs)) (last ∷ []) in
-    let f : n ≡ calls_in (last ∷ []) = is_n ∙ ap (λ x. length (items x)) is ∙ plus_none (length last) in
-    omega (arith, e, f, so_far)
+pub count_more : {X : Type 0} (p : X → Bool) (xs : List X) (i total n : ℕ) (x : X) → i < length xs → x ≡ get_or xs i x → (p x ≡ true → n ≡ 1) → (p x ≡ false → n ≡ 0) → total ≡ count_by p (take i xs) → total + n ≡ count_by p (take (i + 1) xs)
+count_more p xs i total n x lt is same other so_far = by_case (p x) refl
   where
-    plus_none : (n : ℕ) → n ≡ n + 0
-    plus_none n = omega arith
+    by_case : (b : Bool) → p x ≡ b → total + n ≡ count_by p (take (i + 1) xs)
+    by_case true e = omega (arith, same e, so_far, count_by_more_yes p xs i x lt (ap p (sym is) ∙ e))
+    by_case false e = omega (arith, other e, so_far, count_by_more_no p xs i x lt (ap p (sym is) ∙ e))
+
+pub replies_more : (k : Kind) (xs : List (List (ℕ × Reply))) (i total n : ℕ) (d : List (ℕ × Reply)) → i < length xs → d ≡ get_or xs i d → n ≡ count_by (λ x. is_of k x.1) d → total ≡ replies_of k (take i xs) → total + n ≡ replies_of k (take (i + 1) xs)
+replies_more k xs i total n d lt is is_n so_far =
+    let last : List (ℕ × Reply) = get_or xs i d in
+    let e : replies_of k (take (i + 1) xs) ≡ replies_of k (take i xs) + replies_of k (last ∷ []) = ap (replies_of k) (take_more xs i d lt) ∙ replies-append k (take i xs) (last ∷ []) in
+    let f : n ≡ replies_of k (last ∷ []) = is_n ∙ ap (λ x. count_by (λ (y : ℕ × Reply). is_of k y.1) x) is ∙ plus_none (count_by (λ (y : ℕ × Reply). is_of k y.1) last) in
+    omega (arith, e, f, so_far)
+
+pub calls_more : (xs : List (List Op)) (i total n : ℕ) (d : List Op) → i < length xs → d ≡ get_or xs i d → n ≡ length d → total ≡ calls_in (take i xs) → total + n ≡ calls_in (take (i + 1) xs)
+calls_more xs i total n d lt is is_n so_far =
+    let last : List Op = get_or xs i d in
+    let e : calls_in (take (i + 1) xs) ≡ calls_in (take i xs) + calls_in (last ∷ []) = ap calls_in (take_more xs i d lt) ∙ calls-append (take i xs) (last ∷ []) in
+    let f : n ≡ calls_in (last ∷ []) = is_n ∙ ap (λ (x : List Op). length x) is ∙ plus_none (length last) in
+    omega (arith, e, f, so_far)
 
 mod_product : (a b : ℕ) → (a * (b % 2 ^ 64)) % 2 ^ 64 ≡ (a * b) % 2 ^ 64
 mod_product a b = ap (λ (n : ℕ). n % 2 ^ 64) (mul_comm a (b % 2 ^ 64)) ∙ mul-mod_first b a (2 ^ 64) ∙ ap (λ (n : ℕ). n % 2 ^ 64) (mul_comm b a)
@@ -57,6 +62,3 @@ sum_more xs i sum new lt is so_far =
     ∙ sym (add-mod s (a * b) (2 ^ 64))
     ∙ ap (λ (n : ℕ). (s + n) % 2 ^ 64) (plus_none (a * b))
     ∙ ap (λ (n : ℕ). n % 2 ^ 64) (sym whole)
-  where
-    plus_none : (n : ℕ) → n ≡ n + 0
-    plus_none n = omega arith

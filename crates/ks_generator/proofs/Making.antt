@@ -1,6 +1,6 @@
 -- One call more and one caller more: what is made so far and what is left are the whole.
-use Rattle.std.proofs.Common.{ℕ, zero, suc, ◌≡◌, ◌<◌, ◌≤◌, ◌+◌, ◌-◌, List, [], ◌∷◌, ◌++◌, map, refl, sym, ◌∙◌, ap, subst, arith, append_assoc}
-use Rattle.std.proofs.lemmas.List.{append-nil, map-append}
+use Rattle.std.proofs.Common.{ℕ, zero, suc, ◌≡◌, ◌<◌, ◌≤◌, ◌+◌, ◌-◌, List, [], ◌∷◌, ◌++◌, refl, sym, ◌∙◌, ap, subst, arith, append_assoc}
+use Rattle.std.proofs.lemmas.List.{append-nil}
 use Rattle.ks_history.specs.declared.Op.{Op}
 use Rattle.ks_generator.specs.Made.{call_made, after_call, calls_made, after_calls, callers_made}
 
@@ -31,15 +31,14 @@ calls_all callers c n i x ops whole le so_far = sym (append-nil ops) ∙ sym (ap
 pub state_all : (n i x whole : ℕ) → n ≤ i → after_calls (n - i) x ≡ whole → x ≡ whole
 state_all n i x whole le so_far = sym (ap (λ (k : ℕ). after_calls k x) (left_none n i le)) ∙ so_far
 
-pub caller_more : {X : Type 0} (items : X → List Op) (callers n c x x' : ℕ) (scripts scripts' : List X) (script : X) (whole : List (List Op)) → c < callers → scripts' ≡ scripts ++ script ∷ [] → items script ≡ calls_made callers c n x → x' ≡ after_calls n x →
-    map items scripts ++ callers_made callers n c (callers - c) x ≡ whole → map items scripts' ++ callers_made callers n (c + 1) (callers - (c + 1)) x' ≡ whole
-caller_more {X} items callers n c x x' scripts scripts' script whole lt pushed is after so_far =
+pub caller_more : (callers n c x x' : ℕ) (scripts scripts' : List (List Op)) (script : List Op) (whole : List (List Op)) → c < callers → scripts' ≡ scripts ++ script ∷ [] → script ≡ calls_made callers c n x → x' ≡ after_calls n x →
+    scripts ++ callers_made callers n c (callers - c) x ≡ whole → scripts' ++ callers_made callers n (c + 1) (callers - (c + 1)) x' ≡ whole
+caller_more callers n c x x' scripts scripts' script whole lt pushed is after so_far =
     let m : ℕ = callers - (c + 1) in
     let rest : List (List Op) = callers_made callers n (c + 1) m x' in
-    ap (λ (xs : List X). map items xs ++ rest) pushed
-    ∙ ap (λ (xs : List (List Op)). xs ++ rest) (map-append items scripts (script ∷ []))
-    ∙ append_assoc (map items scripts) (items script ∷ []) rest
-    ∙ ap (λ (o : List Op). map items scripts ++ o ∷ rest) is
-    ∙ ap (λ (y : ℕ). map items scripts ++ calls_made callers c n x ∷ callers_made callers n (c + 1) m y) after
-    ∙ sym (ap (λ (k : ℕ). map items scripts ++ callers_made callers n c k x) (left_one callers c lt))
+    ap (λ (xs : List (List Op)). xs ++ rest) pushed
+    ∙ append_assoc scripts (script ∷ []) rest
+    ∙ ap (λ (o : List Op). scripts ++ o ∷ rest) is
+    ∙ ap (λ (y : ℕ). scripts ++ calls_made callers c n x ∷ callers_made callers n (c + 1) m y) after
+    ∙ sym (ap (λ (k : ℕ). scripts ++ callers_made callers n c k x) (left_one callers c lt))
     ∙ so_far

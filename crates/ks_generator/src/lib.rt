@@ -10,7 +10,7 @@ ghost use Rattle.std.specs.Prelude.{◌≡◌, IfOk, OnOk};
 ghost use Rattle.ks_generator.specs.Made.{draw, drawn, call_made, after_call, calls_made, after_calls, made};
 
 use ks_history::Op;
-use ks_script::Script;
+use ks_script::{Calls, Script};
 use std::alloc::{AllocError, Global};
 pub use summing::{Kind, Size, summary};
 
@@ -48,11 +48,11 @@ fn calls(
     callers: u32,
     caller: u32,
     count: u32,
-) -> Result<Vec<Op>, AllocError>
-    ensures calls { IfOk result (λ ops. ops.items ≡ calls_made callers caller count state.old) }
+) -> Result<Calls, AllocError>
+    ensures calls { IfOk result (λ ops. ops ≡ calls_made callers caller count state.old) }
     ensures state { OnOk result (state.new ≡ after_calls count state.old) }
 {
-    let mut ops = Vec::with_capacity(alloc, count as usize)?;
+    let mut ops = Calls::with_capacity(alloc, count as usize)?;
     for done in 0..count {
         ops.push(call(state, callers, caller))?;
     }
@@ -80,7 +80,7 @@ pub fn made_script(
 mod tests {
     use super::*;
     use ks_history::Reply;
-    use ks_script::Printed;
+    use ks_script::{Lines, Printed};
     use std::test::Fail;
 
     #[test]
@@ -88,9 +88,13 @@ mod tests {
         let script = made_script(rt.alloc(), 1, 2, 0)?;
         assert_eq!(rt; script.callers.len(), 1);
         assert!(rt;
-            script.callers[0].as_slice() == [Op::Del(8), Op::Put(116, 823830125)].as_slice()
+            script.callers[0].len() == 2
+                && script.callers[0].get(0) == Op::Del(8)
+                && script.callers[0].get(1) == Op::Put(116, 823830125)
         );
-        let lines = vec![in rt.alloc(); (0, Reply::Nothing), (1, Reply::Nothing)]?;
+        let mut lines = Lines::new(rt.alloc());
+        lines.push(0, Reply::Nothing)?;
+        lines.push(1, Reply::Nothing)?;
         let printed = Printed {
             callers: vec![in rt.alloc(); lines]?,
             pairs: vec![in rt.alloc(); (116, 823830125)]?,

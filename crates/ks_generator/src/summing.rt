@@ -1,6 +1,6 @@
 //! The summary of a run: how many replies of each kind, and what the map came to.
 
-ghost use Rattle.std.specs.Prelude.{◌≡◌, ◌<◌, ◌%◌, ◌^◌, List, length, ◌++◌, map, count_by, IfOk, OnOk};
+ghost use Rattle.std.specs.Prelude.{◌≡◌, ◌≤◌, ◌<◌, ◌%◌, ◌^◌, List, length, ◌++◌, true, false, count_by, IfOk, OnOk};
 ghost use Rattle.std.specs.Fmt.{decimal};
 ghost use Rattle.ks_script.specs.Script.{calls_in};
 ghost use Rattle.ks_history.specs.declared.Op.{Op};
@@ -8,8 +8,8 @@ ghost use Rattle.ks_generator.specs.Summary.{IsSize, is_of, replies_of, sum_of, 
 ghost use Rattle.ks_generator.specs.declared.summing.Kind.TheVariants as kinds;
 
 use itoa::Buffer;
-use ks_history::{Op, Reply};
-use ks_script::{Printed, Script};
+use ks_history::Reply;
+use ks_script::{Calls, Lines, Printed, Script};
 use std::alloc::{AllocError, Global};
 
 /// A kind of reply: a value, nothing, or that no node was free. Clauses count replies by it.
@@ -28,8 +28,23 @@ struct Tally {
     full: u128,
 }
 
+// 1 for a reply of the kind, and 0 for another.
+#[inline(always)]
+fn counted(reply: &Reply, kind: Kind) -> usize
+    ensures same { is_of kind reply.now ≡ true → result ≡ 1 }
+    ensures other { is_of kind reply.now ≡ false → result ≡ 0 }
+    ensures few { result ≤ 1 }
+{
+    match (reply, kind) {
+        (Reply::Value(_), Kind::Found) => 1,
+        (Reply::Nothing, Kind::Missing) => 1,
+        (Reply::Full, Kind::NoRoom) => 1,
+        _ => 0,
+    }
+}
+
 /// The replies in the lines of one caller.
-fn replies_in(lines: &[(u64, Reply)]) -> Tally
+fn replies_in(lines: &Lines) -> Tally
     ensures found { result.found ≡ count_by (λ x. is_of kinds.Found x.1) lines.now }
     ensures none { result.none ≡ count_by (λ x. is_of kinds.Missing x.1) lines.now }
     ensures full { result.full ≡ count_by (λ x. is_of kinds.NoRoom x.1) lines.now }
@@ -38,12 +53,11 @@ fn replies_in(lines: &[(u64, Reply)]) -> Tally
     let mut found: usize = 0;
     let mut none: usize = 0;
     let mut full: usize = 0;
-    for line in lines {
-        match line.1 {
-            Reply::Value(_) => found += 1,
-            Reply::Nothing => none += 1,
-            Reply::Full => full += 1,
-        }
+    for at in 0..lines.len() {
+        let reply = lines.get(at).1;
+        found += counted(&reply, Kind::Found);
+        none += counted(&reply, Kind::Missing);
+        full += counted(&reply, Kind::NoRoom);
     }
     Tally {
         found: found as u128,
@@ -53,10 +67,10 @@ fn replies_in(lines: &[(u64, Reply)]) -> Tally
 }
 
 /// The replies that the callers were given.
-fn replies(callers: &[Vec<(u64, Reply)>]) -> Tally
-    ensures found { result.found ≡ replies_of kinds.Found (map (λ v. v.items) callers.now) }
-    ensures none { result.none ≡ replies_of kinds.Missing (map (λ v. v.items) callers.now) }
-    ensures full { result.full ≡ replies_of kinds.NoRoom (map (λ v. v.items) callers.now) }
+fn replies(callers: &[Lines]) -> Tally
+    ensures found { result.found ≡ replies_of kinds.Found callers.now }
+    ensures none { result.none ≡ replies_of kinds.Missing callers.now }
+    ensures full { result.full ≡ replies_of kinds.NoRoom callers.now }
 {
     let mut found = 0;
     let mut none = 0;
@@ -71,8 +85,8 @@ fn replies(callers: &[Vec<(u64, Reply)>]) -> Tally
 }
 
 /// How many calls the callers have together.
-fn calls(callers: &[Vec<Op>]) -> u128
-    ensures { result ≡ calls_in (map (λ v. v.items) callers.now) }
+fn calls(callers: &[Calls]) -> u128
+    ensures { result ≡ calls_in callers.now }
 {
     let mut total = 0;
     for ops in callers {
@@ -158,12 +172,12 @@ pub fn summary(alloc: Global, size: Size, printed: &Printed) -> Result<Vec<u8>, 
     text(alloc, &summary)
 }
 
-fn count(size: Size, lines: &[Vec<(u64, Reply)>], pairs: &[(u64, u128)]) -> Counts
+fn count(size: Size, lines: &[Lines], pairs: &[(u64, u128)]) -> Counts
     ensures callers { result.callers ≡ size.callers }
     ensures calls { result.calls ≡ size.calls }
-    ensures found { result.found ≡ replies_of kinds.Found (map (λ v. v.items) lines.now) }
-    ensures none { result.none ≡ replies_of kinds.Missing (map (λ v. v.items) lines.now) }
-    ensures full { result.full ≡ replies_of kinds.NoRoom (map (λ v. v.items) lines.now) }
+    ensures found { result.found ≡ replies_of kinds.Found lines.now }
+    ensures none { result.none ≡ replies_of kinds.Missing lines.now }
+    ensures full { result.full ≡ replies_of kinds.NoRoom lines.now }
     ensures pairs { result.pairs ≡ length pairs.now }
     ensures sum { result.sum ≡ sum_of pairs.now % 2 ^ 64 }
 {

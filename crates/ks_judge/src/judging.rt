@@ -8,7 +8,6 @@ ghost use Rattle.ks_judge.specs.Judgment.{SameShape};
 ghost use Rattle.ks_judge.specs.Table.{found};
 ghost use Rattle.ks_judge.specs.Verdict.{IsJudged};
 
-use crate::packing::{pack_calls, pack_lines};
 use crate::replay::{Replayed, replay};
 use crate::slots::slots;
 use crate::table::{Table, keys_can_be_places};
@@ -70,13 +69,11 @@ pub fn judge(alloc: Global, script: &Script, printed: &Printed) -> Result<Judged
     requires few { calls_in script.now ≤ 1048576 }
     ensures { IfOk result (λ judged. IsJudged script.now printed.now judged) }
 {
-    let callers = pack_calls(alloc, &script.callers)?;
-    let lines = pack_lines(alloc, &printed.callers)?;
-    judge_packed(alloc, &callers, &lines, &printed.pairs)
+    judge_lists(alloc, &script.callers, &printed.callers, &printed.pairs)
 }
 
-/// The same of a script and a run that are packed, with the pairs of the map at the end.
-pub fn judge_packed(
+// The same of the callers' calls, of their lines, and of the pairs of the map at the end.
+fn judge_lists(
     alloc: Global,
     callers: &[Calls],
     lines: &[Lines],

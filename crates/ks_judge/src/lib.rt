@@ -7,13 +7,12 @@
 
 mod accord;
 mod judging;
-mod packing;
 mod replay;
 mod slots;
 mod table;
 
 pub use accord::served_is_legal;
-pub use judging::{Judged, judge, judge_packed};
+pub use judging::{Judged, judge};
 
 #[cfg(test)]
 mod tests;

@@ -1,6 +1,5 @@
 -- Bytes that are cut at a byte, and digits.
-use Rattle.std.proofs.Common.{ℕ, zero, suc, ◌≡◌, ◌+◌, ◌-◌, ◌*◌, ◌^◌, ◌<◌, ◌≤◌, Bool, true, false, ◌&&◌, cond, eqb, List, [], ◌∷◌, ◌++◌, length, take, drop, get_or, refl, sym, ap, subst, ◌∙◌, arith, inl, inr, Option, Some, None, MatchOption, IfSome, IfNone}
-use Rattle.std.proofs.lemmas.List.{drop_more, take-append-drop, take_all, drop-drop}
+use Rattle.std.proofs.Common.{ℕ, zero, suc, ◌≡◌, ◌+◌, ◌-◌, ◌*◌, ◌^◌, ◌<◌, ◌≤◌, Bool, true, false, ◌&&◌, cond, eqb, List, [], ◌∷◌, ◌++◌, length, get_or, refl, sym, ap, ◌∙◌, arith, inl, inr, Option, Some, None, MatchOption, IfSome, IfNone}
 use Rattle.std.proofs.lemmas.Bool.{false≢true, eqb-true}
 use Rattle.std.proofs.lemmas.Bool.Decides.{eqb_tells}
 use Rattle.std.proofs.lemmas.Fmt.{decimal_digit}
@@ -10,13 +9,7 @@ use Rattle.std.specs.Str.{all_ascii_digits}
 use Rattle.std.specs.List.{onto_first}
 use Rattle.ks_script.specs.Lines.{lines_of}
 use Rattle.ks_script.specs.Ahead.{Lacks}
-use Rattle.ks_script.proofs.Numerals.{read_on, digits_of_number, value_of_digits, some_digits, no_zero_first, digits_spelled}
-
--- a byte that stands at none of the first places
-pub lacks_front : (c : ℕ) (bytes : List ℕ) (n : ℕ) → n ≤ length bytes → ((k : ℕ) → k < n → get_or bytes k 0 ≡ c → ⊥) → Lacks c (take n bytes)
-lacks_front c bytes zero h f = tt
-lacks_front c [] (suc n) h f = tt
-lacks_front c (b ∷ bytes) (suc n) h f = (f 0 (omega arith), lacks_front c bytes n (omega arith) (λ k l. f (suc k) (omega arith)))
+use Rattle.ks_script.proofs.Numerals.{read_on, digits_of_number, value_of_digits, no_zero_first, digits_spelled}
 
 -- a line that ends, and the last line, which does not
 pub lines_first : (line rest : List ℕ) → Lacks 10 line → lines_of (line ++ 10 ∷ rest) ≡ line ∷ lines_of rest
@@ -48,25 +41,12 @@ pub lines_last : (bytes : List ℕ) → 0 < length bytes → Lacks 10 bytes → 
 lines_last [] h l = absurd (omega arith)
 lines_last (b ∷ line) h l = lines_rest (b ∷ line) l
 
--- where the byte does not stand in a front, and stands after it
-pub lacks_all : (c : ℕ) (bytes : List ℕ) (n : ℕ) → n ≡ length bytes → ((k : ℕ) → k < n → get_or bytes k 0 ≡ c → ⊥) → Lacks c bytes
-lacks_all c bytes n e f = subst (Lacks c) (take_all n bytes (omega arith)) (lacks_front c bytes n (omega arith) f)
-
-pub cut_front : (c : ℕ) (bytes : List ℕ) (n : ℕ) → n < length bytes → get_or bytes n 0 ≡ c → bytes ≡ take n bytes ++ c ∷ drop 1 (drop n bytes)
-cut_front c bytes n h e =
-    sym (take-append-drop n bytes)
-    ∙ ap (λ (x : List ℕ). take n bytes ++ x) (drop_more bytes n 0 h ∙ (ap (λ (x : ℕ). x ∷ drop (n + 1) bytes) e ∙ ap (λ (x : List ℕ). c ∷ x) (sym (drop-drop 1 n bytes))))
-
 pub read_on_least : (n : ℕ) (ds : List ℕ) → n ≤ read_on n ds
 read_on_least n [] = omega arith
 read_on_least n (c ∷ cs) = omega (arith, read_on_least (10 * n + (c - 48)) cs)
 
 pub digits_some : (bytes : List ℕ) (n : ℕ) → 0 < length bytes → (get_or bytes 0 0 ≡ 48 → length bytes ≡ 1) → all_ascii_digits bytes ≡ true → read_on 0 bytes ≡ n → n < 2 ^ 128 → bytes ≡ decimal n
 digits_some bytes n h z p e l = sym (digits_spelled bytes p h z (omega (arith, e))) ∙ ap decimal e
-
--- no number is spelled by no bytes, by a zero with digits after it, by a byte that is no digit, or by too many digits
-pub no_digits : (bytes : List ℕ) → length bytes ≡ 0 → (n : ℕ) → n < 2 ^ 128 → bytes ≡ decimal n → ⊥
-no_digits bytes h n l e = omega (arith, some_digits n l, ap length e)
 
 pub zero_first : (bytes : List ℕ) → get_or bytes 0 0 ≡ 48 → 1 < length bytes → (n : ℕ) → n < 2 ^ 128 → bytes ≡ decimal n → ⊥
 zero_first bytes z h zero l e = omega (arith, ap length (e ∙ decimal_digit 0 (omega arith)))
@@ -77,19 +57,6 @@ all_digits bytes n l e = ap all_ascii_digits e ∙ digits_of_number n l
 
 pub value_small : (bytes : List ℕ) (n : ℕ) → n < 2 ^ 128 → bytes ≡ decimal n → read_on 0 bytes ≡ n
 value_small bytes n l e = ap (read_on 0) e ∙ value_of_digits n l
-
-pub other_byte : (bytes : List ℕ) (b i : ℕ) → i < length bytes → b ≡ get_or bytes i 0 → is_ascii_digit b ≡ false → all_ascii_digits (drop i bytes) ≡ all_ascii_digits bytes → (n : ℕ) → n < 2 ^ 128 → bytes ≡ decimal n → ⊥
-other_byte bytes b i h at odd same n l e =
-    let there : all_ascii_digits (drop i bytes) ≡ false = ap all_ascii_digits (drop_more bytes i 0 h) ∙ ap (λ t. t && all_ascii_digits (drop (i + 1) bytes)) (ap is_ascii_digit (sym at) ∙ odd) in
-    false≢true (sym there ∙ (same ∙ all_digits bytes n l e))
-
-pub too_great_for : (limit : ℕ) (bytes : List ℕ) (m b i : ℕ) → i < length bytes → b ≡ get_or bytes i 0 → limit ≤ 10 * m + (b - 48) → read_on m (drop i bytes) ≡ read_on 0 bytes → ((n : ℕ) → n < limit → n < 2 ^ 128) → (n : ℕ) → n < limit → bytes ≡ decimal n → ⊥
-too_great_for limit bytes m b i h at great same small n l e =
-    let step : read_on m (drop i bytes) ≡ read_on (10 * m + (b - 48)) (drop (i + 1) bytes) = ap (read_on m) (drop_more bytes i 0 h) ∙ ap (λ d. read_on (10 * m + (d - 48)) (drop (i + 1) bytes)) (sym at) in
-    omega (arith, step, same, value_small bytes n (small n l) e, read_on_least (10 * m + (b - 48)) (drop (i + 1) bytes))
-
-pub too_great : (bytes : List ℕ) (m b i : ℕ) → i < length bytes → b ≡ get_or bytes i 0 → 2 ^ 128 ≤ 10 * m + (b - 48) → read_on m (drop i bytes) ≡ read_on 0 bytes → (n : ℕ) → n < 2 ^ 128 → bytes ≡ decimal n → ⊥
-too_great bytes m b i h at great same = too_great_for (2 ^ 128) bytes m b i h at great same (λ n l. l)
 
 pub some_of : {A : Type 0} (o : Option A) (P : Type 0) (Q : A → Type 0) → MatchOption o P Q → IfSome o Q
 some_of None P Q h = tt
@@ -133,8 +100,3 @@ one_cut c (d ∷ a) b (f ∷ x) y l m e =
     let h = one_cut c a b x y l.1 m.1 (let t : a ++ c ∷ b ≡ x ++ c ∷ y = cc in t) in
     let head : d ≡ f = cc in
     (ap (λ (z : List ℕ). d ∷ z) h.0 ∙ ap (λ (k : ℕ). k ∷ x) head, h.1)
-
--- where the byte stands it is not lacking
-pub lacks_not : (c : ℕ) (a b : List ℕ) → Lacks c (a ++ c ∷ b) → ⊥
-lacks_not c [] b l = l.0 refl
-lacks_not c (d ∷ a) b l = lacks_not c a b l.1

@@ -11,7 +11,7 @@ use Rattle.ks_script.proofs.Eights.{worth}
 use Rattle.std.proofs.Math.Seq.{take-suc, take-add}
 use Rattle.std.proofs.Math.Nat.{pow-succ', mul-le-mul_right, pow-le-pow_right}
 
-both : (a b : Bool) → (a && b) ≡ true → (a ≡ true) × (b ≡ true)
+pub both : (a b : Bool) → (a && b) ≡ true → (a ≡ true) × (b ≡ true)
 both true b h = (refl, h)
 both false b h = absurd (false≢true h)
 
@@ -55,11 +55,11 @@ all_append (c ∷ a) b h k =
     let parts = both (is_ascii_digit c) (all_ascii_digits a) h in
     ap (λ t. t && all_ascii_digits (a ++ b)) parts.0 ∙ all_append a b parts.1 k
 
-read_append : (n : ℕ) (a b : List ℕ) → read_on n (a ++ b) ≡ read_on (read_on n a) b
+pub read_append : (n : ℕ) (a b : List ℕ) → read_on n (a ++ b) ≡ read_on (read_on n a) b
 read_append n [] b = refl
 read_append n (c ∷ a) b = read_append (10 * n + (c - 48)) a b
 
-read_sum : (m n : ℕ) (ds : List ℕ) → read_on (m + n) ds ≡ m * 10 ^ length ds + read_on n ds
+pub read_sum : (m n : ℕ) (ds : List ℕ) → read_on (m + n) ds ≡ m * 10 ^ length ds + read_on n ds
 read_sum m n [] = omega arith
 read_sum m n (c ∷ ds) =
     ap (λ (k : ℕ). read_on k ds) (omega arith)

@@ -1,7 +1,7 @@
 -- Digits among sixteen bytes, found in one vector.
-use Rattle.std.proofs.Common.{ℕ, zero, suc, ◌≡◌, ◌≢◌, ◌%◌, ◌^◌, ◌<◌, ◌≤◌, Bool, true, not, ◌&&◌, List, [], ◌∷◌, map, length, take, get_or, replicate, Fits, w8, refl, sym, ap, ◌∙◌, arith}
-use Rattle.std.proofs.lemmas.Bool.{agree_below, agree_below_at, not-false}
-use Rattle.std.proofs.lemmas.Simd.{map-map, mask_l-mod, zip2_splat_left, leading_from_mask_l, trailing_mask_l, run_in_chunk_le, run_in_chunk_fails}
+use Rattle.std.proofs.Common.{ℕ, zero, suc, ◌≡◌, ◌≢◌, ◌+◌, ◌%◌, ◌^◌, ◌<◌, ◌≤◌, Bool, true, false, not, ◌&&◌, List, [], ◌∷◌, map, length, take, get_or, replicate, Fits, w8, refl, sym, ap, ◌∙◌, arith}
+use Rattle.std.proofs.lemmas.Bool.{agree_below, agree_below_at, not-false, not-true}
+use Rattle.std.proofs.lemmas.Simd.{map-map, mask_l-mod, zip2_splat_left, leading_from_mask_l, trailing_mask_l, run_in_chunk_le, run_in_chunk_fails, run_in_chunk_stops}
 use Rattle.std.proofs.lemmas.List.{length-map, length-take-le}
 use Rattle.std.specs.List.{prefix_len}
 use Rattle.std.specs.Char.{is_ascii_digit}
@@ -29,11 +29,12 @@ module _ (bytes : List ℕ) (room : 16 ≤ length bytes) (fits : (k : ℕ) → F
   mask : mask_l (map (top 7) z) % 2 ^ 64 ≡ mask_l (map stops (take 16 bytes))
   mask = ap (λ l. mask_l l % 2 ^ 64) (ap (map (top 7)) lanes ∙ map-map (top 7) f (take 16 bytes)) ∙ mask_l-mod (map stops (take 16 bytes)) 64 (omega (arith, length-map (take 16 bytes) stops, long))
 
-  digits : (r : ℕ) → r ≡ prefix_len (λ x. not (stops x)) (take 16 bytes) → (r ≤ 16) × (all_ascii_digits (take r bytes) ≡ true)
+  digits : (r : ℕ) → r ≡ prefix_len (λ x. not (stops x)) (take 16 bytes) → (r ≤ 16) × (all_ascii_digits (take r bytes) ≡ true) × (r < 16 → is_ascii_digit (get_or bytes r 0) ≡ false)
   digits r counted =
       let most = run_in_chunk_le stops bytes 0 16 r 0 room counted in (
         most,
         all_from bytes r (omega arith) (λ i lt. not-false _ (sym (agree_below_at stops (λ x. not (is_ascii_digit x)) 256 (get_or bytes i 0) agree (fits i).fits) ∙ run_in_chunk_fails stops bytes 0 16 r 0 room counted i (omega arith) (omega arith))),
+        (λ short. not-true _ (sym (agree_below_at stops (λ x. not (is_ascii_digit x)) 256 (get_or bytes r 0) agree (fits r).fits) ∙ (ap (λ k. stops (get_or bytes k 0)) (let e : r ≡ 0 + r = omega arith in e) ∙ run_in_chunk_stops stops bytes 0 16 r 0 room counted short))),
       )
 
   -- no lane stops
@@ -41,5 +42,5 @@ module _ (bytes : List ℕ) (room : 16 ≤ length bytes) (fits : (k : ℕ) → F
   all_sixteen none = (digits 16 (sym (leading_from_mask_l stops (take 16 bytes) (sym mask ∙ none) ∙ long))).1
 
   -- or a lane does
-  pub up_to_one : mask_l (map (top 7) z) % 2 ^ 64 ≢ 0 → let r : ℕ = count_trailing_zeros 64 (mask_l (map (top 7) z) % 2 ^ 64) in (r ≤ 16) × (all_ascii_digits (take r bytes) ≡ true)
+  pub up_to_one : mask_l (map (top 7) z) % 2 ^ 64 ≢ 0 → let r : ℕ = count_trailing_zeros 64 (mask_l (map (top 7) z) % 2 ^ 64) in (r ≤ 16) × (all_ascii_digits (take r bytes) ≡ true) × (r < 16 → is_ascii_digit (get_or bytes r 0) ≡ false)
   up_to_one some = digits _ (ap (count_trailing_zeros 64) mask ∙ trailing_mask_l stops 64 (take 16 bytes) (omega (arith, long)) (omega (arith, mask, some)))

@@ -1,15 +1,7 @@
 -- Grammars whose texts begin with certain lines, and what may come after these.
-use Rattle.std.proofs.Common.{ℕ, suc, ◌≡◌, ◌+◌, ◌-◌, List, [], ◌∷◌, ◌++◌, length, take, drop, refl, sym, ap, subst, ◌∙◌, append_assoc, arith, inl, inr, length-append}
-use Rattle.std.proofs.lemmas.List.{drop_at}
-use Rattle.ks_script.specs.Lines.{Begins, FirstBad}
-
-abbrev pub Lines : Type 0
-Lines = List (List ℕ)
-
--- texts of G that begin with the front go on with a text of H, and may go on with each
-pub record Leads (G H : Lines → Type 0) (front : Lines) : Type 0 where
-  pub into : (ls : Lines) → H ls → G (front ++ ls)
-  pub only : (ls : Lines) → G (front ++ ls) → H ls
+use Rattle.std.proofs.Common.{ℕ, zero, suc, ◌≡◌, ◌+◌, ◌-◌, List, [], ◌∷◌, ◌++◌, length, take, refl, sym, ap, subst, ◌∙◌, append_assoc, arith, inl, inr, length-append}
+use Rattle.ks_script.specs.Lines.{lines_of, Begins, FirstBad}
+use Rattle.ks_script.specs.Reads.{Lines, Leads, Reads}
 
 pub leads_none : (G : Lines → Type 0) → Leads G G []
 leads_none G = record { into = λ ls h. h; only = λ ls h. h }
@@ -60,6 +52,55 @@ bad_first G (l ∷ ls) b first missing = record {
   refused = inl (omega arith, (λ h. first l ls h.0 refl h.1));
 }
 
--- lists of lines that are equal, less as many lines
-pub strip : (xs ys a b : Lines) → length xs ≡ length ys → xs ++ a ≡ ys ++ b → a ≡ b
-strip xs ys a b n e = sym (drop_at xs a (length xs) refl) ∙ (ap (drop (length xs)) e ∙ drop_at ys b (length xs) (sym n))
+-- the same of some text
+pub leads_some : {X : Type 0} (G H : X → Lines → Type 0) (front : Lines) → ((x : X) → Leads (G x) (H x) front) → Leads (λ ls. (x : X) × G x ls) (λ ls. (x : X) × H x ls) front
+leads_some G H front leads = record {
+  into = λ ls h. (h.0, (leads h.0).into ls h.1);
+  only = λ ls h. (h.0, (leads h.0).only ls h.1);
+}
+
+-- the lines that were read are the first ones
+pub leads_taken : (G H : Lines → Type 0) (bytes rest : List ℕ) (n : ℕ) → Reads G H bytes rest n → Leads G H (take n (lines_of bytes)) × (lines_of bytes ≡ take n (lines_of bytes) ++ lines_of rest) × (length (take n (lines_of bytes)) ≡ n)
+leads_taken G H bytes rest n r =
+    let same : r.front ≡ take n (lines_of bytes) = sym (ap (take n) r.lines_are ∙ front_of r.front (lines_of rest) n r.counted) in (
+      subst (Leads G H) same r.leads,
+      r.lines_are ∙ ap (λ ls. ls ++ lines_of rest) same,
+      ap (λ (ls : Lines). length ls) (sym same) ∙ r.counted,
+    )
+  where
+    front_of : (a b : Lines) (n : ℕ) → length a ≡ n → take n (a ++ b) ≡ a
+    front_of [] b zero e = refl
+    front_of [] b (suc n) e = absurd (omega arith)
+    front_of (x ∷ a) b zero e = absurd (omega arith)
+    front_of (x ∷ a) b (suc n) e = ap (λ ls. x ∷ ls) (front_of a b n (omega arith))
+
+-- the same first bad line in the same texts
+pub bad_same : (G K : Lines → Type 0) (lines : Lines) (n : ℕ) → ((ls : Lines) → G ls → K ls) → ((ls : Lines) → K ls → G ls) → FirstBad G lines n → FirstBad K lines n
+bad_same G K lines n to from bad = record {
+  place = bad.place;
+  before = (bad.before.0, to (take (n - 1) lines ++ bad.before.0) bad.before.1);
+  refused =
+      elim bad.refused [
+        | inl there ↦ inl (there.0, (λ h. there.1 (h.0, from (take n lines ++ h.0) h.1)))
+        | inr end ↦ inr (end.0, (λ h. end.1 (from lines h)))
+      ];
+}
+
+-- where the first line of the rest cannot come next, and some lines can, it is the first bad one
+pub refused_at : {X : Type 0} (G H : X → Lines → Type 0) (bytes rest : List ℕ) (n : ℕ) → ((x : X) → Reads (G x) (H x) bytes rest n) → (x : X) (some : Lines) → H x some → ((x : X) (l : List ℕ) (ls more : Lines) → lines_of rest ≡ l ∷ ls → H x (l ∷ more) → ⊥) → (lines_of rest ≡ [] → (x : X) → H x [] → ⊥) → FirstBad (λ ls. (x : X) × G x ls) (lines_of bytes) (n + 1)
+refused_at {X = X} G H bytes rest n reads x some may stuck missing =
+    let front : Lines = take n (lines_of bytes) in
+    let parts = leads_taken (G x) (H x) bytes rest n (reads x) in
+    let leads = leads_some {X = X} G H front (λ y. (leads_taken (G y) (H y) bytes rest n (reads y)).0) in
+    let at = bad_first (λ ls. (y : X) × H y ls) (lines_of rest) (some, (x, may)) (λ l ls more e h. stuck h.0 l ls more e h.1) (λ e h. missing e h.0 h.1) in
+    subst (FirstBad (λ ls. (y : X) × G y ls) (lines_of bytes)) (let e : length front + 1 ≡ n + 1 = omega (arith, parts.2) in e)
+    (leads_bad (λ ls. (y : X) × G y ls) (λ ls. (y : X) × H y ls) (lines_of bytes) front (lines_of rest) 1 leads parts.1 at)
+
+-- what is first bad behind the lines that were read is first bad in all
+pub behind_bad : {X : Type 0} (G H : X → Lines → Type 0) (bytes rest : List ℕ) (n k : ℕ) → ((x : X) → Reads (G x) (H x) bytes rest n) → X → FirstBad (λ ls. (x : X) × H x ls) (lines_of rest) k → FirstBad (λ ls. (x : X) × G x ls) (lines_of bytes) (n + k)
+behind_bad {X = X} G H bytes rest n k reads x bad =
+    let front : Lines = take n (lines_of bytes) in
+    let parts = leads_taken (G x) (H x) bytes rest n (reads x) in
+    let leads = leads_some {X = X} G H front (λ y. (leads_taken (G y) (H y) bytes rest n (reads y)).0) in
+    subst (FirstBad (λ ls. (y : X) × G y ls) (lines_of bytes)) (let e : length front + k ≡ n + k = omega (arith, parts.2) in e)
+    (leads_bad (λ ls. (y : X) × G y ls) (λ ls. (y : X) × H y ls) (lines_of bytes) front (lines_of rest) k leads parts.1 bad)

@@ -21,7 +21,7 @@ one_part bytes rest front count back number p le all value power end sum = recor
     sum_of : {x y : ℕ} → p ≡ x → back ≡ y → front * p + back ≡ front * x + y
     sum_of h k = cc
 
-value_joined : (a b : List ℕ) → all_ascii_digits a ≡ true → all_ascii_digits b ≡ true → digits_value 10 (a ++ b) ≡ digits_value 10 a * 10 ^ length b + digits_value 10 b
+pub value_joined : (a b : List ℕ) → all_ascii_digits a ≡ true → all_ascii_digits b ≡ true → digits_value 10 (a ++ b) ≡ digits_value 10 a * 10 ^ length b + digits_value 10 b
 value_joined a b h k =
     value_read (a ++ b) (all_append a b h k)
     ∙ (joined a b ∙ sum_of (10 ^ length b) (sym (value_read a h)) (sym (value_read b k)))
@@ -45,6 +45,10 @@ two_parts front number last bytes middle rest a b = record {
     sum_of : {x y m n : ℕ} → x ≡ m → y ≡ n → front * x + y ≡ front * m + n
     sum_of e f = cc
 
+pub first_of : (a b : List ℕ) → 0 < length a → get_or (a ++ b) 0 0 ≡ get_or a 0 0
+first_of [] b h = absurd (omega arith)
+first_of (x ∷ a) b h = refl
+
 -- with digits before them they spell the number
 pub onward_spelled : (bytes middle rest : List ℕ) (count front number : ℕ) → 0 < count → count ≤ length bytes → (get_or bytes 0 0 ≡ 48 → count ≡ 1) → 1 < count → all_ascii_digits (take count bytes) ≡ true → digits_value 10 (take count bytes) ≡ front → middle ≡ drop count bytes → ReadOn front middle number rest → number < 2 ^ 128 → bytes ≡ decimal number ++ rest
 onward_spelled bytes middle rest count front number some le lone many all value end on small =
@@ -58,7 +62,3 @@ onward_spelled bytes middle rest count front number some le lone many all value 
     ∙ (ap (λ (x : List ℕ). take count bytes ++ x) (sym end ∙ on.parts)
     ∙ (sym (append_assoc (take count bytes) on.digits rest)
     ∙ ap (λ (x : List ℕ). x ++ rest) (sym spelled ∙ ap decimal is)))
-  where
-    first_of : (a b : List ℕ) → 0 < length a → get_or (a ++ b) 0 0 ≡ get_or a 0 0
-    first_of [] b h = absurd (omega arith)
-    first_of (x ∷ a) b h = refl

@@ -1,13 +1,12 @@
 -- Numbers with a space between them.
-use Rattle.std.proofs.Common.{ℕ, ◌≡◌, ◌^◌, ◌<◌, List, ◌∷◌, ◌++◌, refl, sym, ap, subst, ◌∙◌, append_assoc, codes}
+use Rattle.std.proofs.Common.{ℕ, ◌≡◌, ◌^◌, ◌<◌, List, ◌++◌, refl, sym, ap, ◌∙◌, append_assoc, codes}
 use Rattle.std.specs.Fmt.{decimal}
 use Rattle.ks_script.specs.declared.version.Version.{Version}
 use Rattle.ks_script.specs.declared.version.Version.TheVariants.{First, Second}
 use Rattle.ks_script.specs.Version.{value_limit}
-use Rattle.ks_script.specs.Ahead.{Lacks}
 use Rattle.ks_script.specs.Run.{pair_line}
 use Rattle.ks_script.proofs.Numerals.{wide, one_number}
-use Rattle.ks_script.proofs.Cuts.{one_cut, lacks_not, decimal_lacks}
+use Rattle.ks_script.proofs.Cuts.{one_cut, decimal_lacks}
 
 -- the values of a version have 128 bits
 pub value_small : (version : Version) (v : ℕ) → v < value_limit version → v < 2 ^ 128
@@ -40,15 +39,6 @@ three_told k m v w x y hk hm hv hw hx hy e =
     let parts = spaced k m (pair_line (v, x)) (pair_line (w, y)) (wide k hk) (wide m hm) (sym (three_parts k v x) ∙ (e ∙ three_parts m w y)) in
     let rest = spaced v w (decimal x) (decimal y) hv hw parts.1 in
     (parts.0, rest.0, one_number x y hx hy rest.1)
-
--- bytes that are cut at the first space are such numbers only if the parts are
-pub three_cut : (bytes front rest : List ℕ) (k v w : ℕ) → Lacks 32 front → bytes ≡ front ++ 32 ∷ rest → k < 2 ^ 64 → bytes ≡ three k v w → (front ≡ decimal k) × (rest ≡ pair_line (v, w))
-three_cut bytes front rest k v w lacks cut h e =
-    one_cut 32 front rest (decimal k) (pair_line (v, w)) lacks (decimal_lacks 32 refl k (wide k h)) (sym cut ∙ (e ∙ (three_parts k v w ∙ append_assoc (decimal k) (codes " ") (pair_line (v, w)))))
-
-pub three_uncut : (bytes : List ℕ) (k v w : ℕ) → Lacks 32 bytes → bytes ≡ three k v w → ⊥
-three_uncut bytes k v w lacks e =
-    lacks_not 32 (decimal k) (pair_line (v, w)) (subst (Lacks 32) (e ∙ (three_parts k v w ∙ append_assoc (decimal k) (codes " ") (pair_line (v, w)))) lacks)
 
 -- a line spells one pair
 pub one_pair : (x y : ℕ × ℕ) → x.0 < 2 ^ 64 → x.1 < 2 ^ 128 → y.0 < 2 ^ 64 → y.1 < 2 ^ 128 → pair_line x ≡ pair_line y → x ≡ y

@@ -1,25 +1,8 @@
 -- The first line that does not fit a grammar.
-use Rattle.std.proofs.Common.{ℕ, ◌≡◌, ◌+◌, ◌-◌, ◌<◌, ◌≤◌, List, [], ◌∷◌, ◌++◌, length, take, drop, cond, refl, sym, ap, subst, ◌∙◌, append_assoc, arith, inl, inr, length-append}
-use Rattle.std.proofs.lemmas.List.{take-append-drop, take-take, take_at, take_all}
-use Rattle.std.proofs.lemmas.Bool.Decides.{eqb_tells}
+use Rattle.std.proofs.Common.{ℕ, ◌≡◌, ◌+◌, ◌-◌, ◌<◌, ◌≤◌, List, ◌++◌, take, drop, sym, ap, subst, ◌∙◌, append_assoc, arith, inl, inr}
+use Rattle.std.proofs.lemmas.List.{take-append-drop, take-take}
 use Rattle.std.proofs.lemmas.Bool.{cases_lt}
-use Rattle.std.specs.List.{onto_first}
-use Rattle.ks_script.specs.Lines.{lines_of, Begins, FirstBad}
-
--- bytes have a first line
-pub lines_cons : (bytes : List ℕ) → 0 < length bytes → (l : List ℕ) × (ls : List (List ℕ)) × (lines_of bytes ≡ l ∷ ls)
-lines_cons [] h = absurd (omega arith)
-lines_cons (b ∷ bytes) h =
-    elim (eqb_tells b 10) [
-      | inl same ↦ ([], lines_of bytes, ap (λ t. cond t ([] ∷ lines_of bytes) (onto_first b (lines_of bytes))) same.0)
-      | inr other ↦
-          let rest = onto_cons b (lines_of bytes) in
-          (rest.0, rest.1, ap (λ t. cond t ([] ∷ lines_of bytes) (onto_first b (lines_of bytes))) other.0 ∙ rest.2)
-    ]
-  where
-    onto_cons : (b : ℕ) (ls : List (List ℕ)) → (l : List ℕ) × (ms : List (List ℕ)) × (onto_first b ls ≡ l ∷ ms)
-    onto_cons b [] = (b ∷ [], [], refl)
-    onto_cons b (l ∷ ls) = (b ∷ l, ls, refl)
+use Rattle.ks_script.specs.Lines.{Begins, FirstBad}
 
 -- what is a text has no line that does not fit
 pub bad_no_text : (IsText : List (List ℕ) → Type 0) (lines : List (List ℕ)) (n : ℕ) → FirstBad IsText lines n → IsText lines → ⊥
@@ -51,28 +34,3 @@ one_bad IsText lines m n p q =
         | inr ge ↦ omega arith
       ])
     ]
-
--- the line after the front that begins a text
-pub bad_at : (IsText : List (List ℕ) → Type 0) (lines front : List (List ℕ)) (l : List ℕ) (ls : List (List ℕ)) (n : ℕ) → n ≡ length front + 1 → lines ≡ front ++ l ∷ ls → Begins IsText front → ((more : List (List ℕ)) → IsText (front ++ l ∷ more) → ⊥) → FirstBad IsText lines n
-bad_at IsText lines front l ls n count e b refused =
-    let whole : lines ≡ (front ++ l ∷ []) ++ ls = e ∙ sym (append_assoc front (l ∷ []) ls) in
-    let before : take (n - 1) lines ≡ front = ap (take (n - 1)) e ∙ take_at front (l ∷ ls) (n - 1) (omega arith) in
-    let through : take n lines ≡ front ++ l ∷ [] = ap (take n) whole ∙ take_at (front ++ l ∷ []) ls n (omega (arith, length-append front (l ∷ []))) in
-    record {
-      place = omega arith;
-      before = subst (Begins IsText) (sym before) b;
-      refused =
-          inl (
-            omega (arith, ap length e, length-append front (l ∷ ls)),
-            (λ h. let at : Begins IsText (front ++ l ∷ []) = subst (Begins IsText) through h in
-                refused at.0 (subst IsText (append_assoc front (l ∷ []) at.0) at.1)),
-          );
-    }
-
--- the line after the last
-pub bad_after : (IsText : List (List ℕ) → Type 0) (lines : List (List ℕ)) (n : ℕ) → n ≡ length lines + 1 → Begins IsText lines → (IsText lines → ⊥) → FirstBad IsText lines n
-bad_after IsText lines n count b missing = record {
-  place = omega arith;
-  before = subst (Begins IsText) (sym (take_all (n - 1) lines (omega arith))) b;
-  refused = inr (count, missing);
-}

@@ -1,6 +1,6 @@
 -- Texts of lines, one after another.
 use Rattle.std.proofs.Common.{ℕ, ◌≡◌, ◌+◌, ◌<◌, List, [], ◌∷◌, ◌++◌, length, map, take, drop, get_or, refl, sym, ap, ◌∙◌, append_assoc, arith, codes}
-use Rattle.std.proofs.lemmas.List.{append-nil, take-append-drop, take_more, map-append, length-map, length-take-le}
+use Rattle.std.proofs.lemmas.List.{append-nil, take-append-drop, take_more, map-append, length-take-le}
 use Rattle.std.specs.Fmt.{decimal}
 use Rattle.ks_history.specs.declared.Reply.{Reply}
 use Rattle.ks_script.specs.Lines.{ended, text_of}
@@ -28,13 +28,6 @@ text_map_push f xs x = ap text_of (map-append f xs (x ∷ [])) ∙ text_push (ma
 pub text_map_taken : {X : Type 0} (f : X → List ℕ) (xs : List X) (i : ℕ) (x : X) → i < length xs → x ≡ get_or xs i x → text_of (map f (take i xs)) ++ ended (f x) ≡ text_of (map f (take (i + 1) xs))
 text_map_taken f xs i x h e = sym (ap (λ ys. text_of (map f ys)) (taken_with xs i x h e) ∙ text_map_push f (take i xs) x)
 
-pub text_map_cut : {X : Type 0} (f : X → List ℕ) (xs : List X) (i : ℕ) (x : X) → i < length xs → x ≡ get_or xs i x → (text_of (map f (take i xs)) ++ ended (f x)) ++ text_of (map f (drop (i + 1) xs)) ≡ text_of (map f xs)
-text_map_cut f xs i x h e =
-    ap (λ (t : List ℕ). t ++ text_of (map f (drop (i + 1) xs))) (sym (text_map_push f (take i xs) x))
-    ∙ (sym (text_append (map f (take i xs ++ x ∷ [])) (map f (drop (i + 1) xs)))
-    ∙ (ap text_of (sym (map-append f (take i xs ++ x ∷ []) (drop (i + 1) xs)))
-    ∙ ap (λ ys. text_of (map f ys)) (cut_at xs i x h e)))
-
 -- the lines of one caller
 abbrev pub one_caller : ℕ → List (ℕ × Reply) → List (List ℕ)
 one_caller n c = (codes "caller " ++ decimal n) ∷ map reply_line c
@@ -45,42 +38,21 @@ callers_append n (c ∷ cs) ds =
     ap (λ ls. one_caller n c ++ ls) (callers_append (n + 1) cs ds ∙ ap (λ k. callers_from (n + 1) cs ++ callers_from k ds) (omega arith))
     ∙ sym (append_assoc (one_caller n c) (callers_from (n + 1) cs) (callers_from (n + length (c ∷ cs)) ds))
 
-regroup : (f t e d b : List ℕ) → ((f ++ t) ++ e) ++ (d ++ b) ≡ f ++ (((t ++ e) ++ d) ++ b)
-regroup f t e d b = simp append_assoc
-
 -- between two texts: one line more, and all lines, cut at one
 pub lines_more : {X : Type 0} (front : List ℕ) (f : X → List ℕ) (xs : List X) (i : ℕ) (x : X) → i < length xs → x ≡ get_or xs i x → (front ++ text_of (map f (take i xs))) ++ ended (f x) ≡ front ++ text_of (map f (take (i + 1) xs))
 lines_more front f xs i x h e =
     append_assoc front (text_of (map f (take i xs))) (ended (f x)) ∙ ap (λ (t : List ℕ). front ++ t) (text_map_taken f xs i x h e)
 
-pub lines_cut : {X : Type 0} (front : List ℕ) (f : X → List ℕ) (xs : List X) (i : ℕ) (x : X) (back : List ℕ) → i < length xs → x ≡ get_or xs i x → ((front ++ text_of (map f (take i xs))) ++ ended (f x)) ++ (text_of (map f (drop (i + 1) xs)) ++ back) ≡ front ++ (text_of (map f xs) ++ back)
-lines_cut front f xs i x back h e =
-    regroup front (text_of (map f (take i xs))) (ended (f x)) (text_of (map f (drop (i + 1) xs))) back
-    ∙ ap (λ (t : List ℕ). front ++ (t ++ back)) (text_map_cut f xs i x h e)
-
 -- callers: one more, and all, cut at one
-pub callers_push : {X : Type 0} (f : X → List (ℕ × Reply)) (xs : List X) (x : X) → callers_from 0 (map f (xs ++ x ∷ [])) ≡ callers_from 0 (map f xs) ++ one_caller (length xs) (f x)
-callers_push f xs x =
-    ap (callers_from 0) (map-append f xs (x ∷ []))
-    ∙ (callers_append 0 (map f xs) (f x ∷ [])
-    ∙ ap (λ ls. callers_from 0 (map f xs) ++ ls) (append-nil (one_caller (0 + length (map f xs)) (f x)) ∙ ap (λ k. one_caller k (f x)) (omega (arith, length-map xs f))))
+callers_push : (cs : List (List (ℕ × Reply))) (c : List (ℕ × Reply)) → callers_from 0 (cs ++ c ∷ []) ≡ callers_from 0 cs ++ one_caller (length cs) c
+callers_push cs c = callers_append 0 cs (c ∷ []) ∙ ap (λ ls. callers_from 0 cs ++ ls) (append-nil (one_caller (0 + length cs) c) ∙ ap (λ k. one_caller k c) (omega arith))
 
-pub callers_taken : {X : Type 0} (f : X → List (ℕ × Reply)) (xs : List X) (i : ℕ) (x : X) → i < length xs → x ≡ get_or xs i x → text_of (callers_from 0 (map f (take i xs))) ++ text_of (one_caller i (f x)) ≡ text_of (callers_from 0 (map f (take (i + 1) xs)))
-callers_taken f xs i x h e =
-    sym (text_append (callers_from 0 (map f (take i xs))) (one_caller i (f x)))
-    ∙ (ap (λ k. text_of (callers_from 0 (map f (take i xs)) ++ one_caller k (f x))) (sym (length-take-le i xs (omega arith)))
-    ∙ (ap text_of (sym (callers_push f (take i xs) x))
-    ∙ ap (λ ys. text_of (callers_from 0 (map f ys))) (sym (taken_with xs i x h e))))
-
-pub callers_cut : {X : Type 0} (f : X → List (ℕ × Reply)) (xs : List X) (i : ℕ) (x : X) → i < length xs → x ≡ get_or xs i x → (text_of (callers_from 0 (map f (take i xs))) ++ text_of (one_caller i (f x))) ++ text_of (callers_from (0 + length (map f (take (i + 1) xs))) (map f (drop (i + 1) xs))) ≡ text_of (callers_from 0 (map f xs))
-callers_cut f xs i x h e =
-    let front = map f (take (i + 1) xs) in
-    let back = map f (drop (i + 1) xs) in
-    ap (λ (t : List ℕ). t ++ text_of (callers_from (0 + length front) back)) (callers_taken f xs i x h e)
-    ∙ (sym (text_append (callers_from 0 front) (callers_from (0 + length front) back))
-    ∙ (ap text_of (sym (callers_append 0 front back))
-    ∙ (ap (λ ys. text_of (callers_from 0 ys)) (sym (map-append f (take (i + 1) xs) (drop (i + 1) xs)))
-    ∙ ap (λ ys. text_of (callers_from 0 (map f ys))) (take-append-drop (i + 1) xs))))
+pub callers_taken : (cs : List (List (ℕ × Reply))) (i : ℕ) (c : List (ℕ × Reply)) → i < length cs → c ≡ get_or cs i c → text_of (callers_from 0 (take i cs)) ++ text_of (one_caller i c) ≡ text_of (callers_from 0 (take (i + 1) cs))
+callers_taken cs i c h e =
+    sym (text_append (callers_from 0 (take i cs)) (one_caller i c))
+    ∙ (ap (λ k. text_of (callers_from 0 (take i cs) ++ one_caller k c)) (sym (length-take-le i cs (omega arith)))
+    ∙ (ap text_of (sym (callers_push (take i cs) c))
+    ∙ ap (λ ys. text_of (callers_from 0 ys)) (sym (taken_with cs i c h e))))
 
 -- the text of the map
 pub map_text : (pairs : List (ℕ × ℕ)) → text_of (map_lines pairs) ≡ codes "map\n" ++ (text_of (map pair_line pairs) ++ codes "end\n")

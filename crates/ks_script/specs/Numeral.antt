@@ -1,7 +1,13 @@
 -- What digits make of a number that stands before them.
-use Rattle.std.specs.Prelude.{ℕ, ◌≡◌, ◌+◌, ◌*◌, ◌^◌, true, List, ◌++◌, length}
+use Rattle.std.specs.Prelude.{ℕ, ◌≡◌, ◌+◌, ◌*◌, ◌^◌, true, false, List, [], ◌∷◌, ◌++◌, length}
+use Rattle.std.specs.Char.{is_ascii_digit}
 use Rattle.std.specs.Str.{all_ascii_digits}
 use Rattle.std.specs.Str.Parse.{digits_value}
+
+-- the bytes begin with no digit
+abbrev pub NoDigit : List ℕ → Type 0
+NoDigit [] = Unit {0}
+NoDigit (b ∷ bytes) = is_ascii_digit b ≡ false
 
 -- the bytes are digits and then the rest, and the number is what the digits make of the one in front
 pub record ReadOn (front : ℕ) (bytes : List ℕ) (number : ℕ) (rest : List ℕ) : Type 0 where

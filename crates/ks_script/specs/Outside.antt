@@ -40,9 +40,3 @@ pub record GrewByFront (old new : Option (List ℕ)) (text : List ℕ) : Type 0 
 abbrev pub Gone : Option (List ℕ) → Option (List ℕ) → List ℕ → Type 0
 Gone None after front = Unit {0}
 Gone (Some bytes) after front = (rest : List ℕ) × (bytes ≡ front ++ rest) × (after ≡ Some rest)
-
--- of the bytes that waited and the text after them the sink took the first ones, and the rest waits
-pub record Passes (old : Option (List ℕ)) (waited text : List ℕ) (new : Option (List ℕ)) (waits : List ℕ) : Type 0 where
-  pub sent : List ℕ
-  pub split : waited ++ text ≡ sent ++ waits
-  pub grew : Grew old new sent

@@ -1,6 +1,7 @@
 //! Up to sixteen digits, found in one vector and read in two words.
 
-ghost use Rattle.std.specs.Prelude.{ℕ, ◌≡◌, ◌≤◌, ◌<◌, ◌+◌, true, length, take, slice_index};
+ghost use Rattle.std.specs.Prelude.{ℕ, ◌≡◌, ◌≤◌, ◌<◌, ◌+◌, true, false, length, take, slice_index};
+ghost use Rattle.std.specs.Char.{is_ascii_digit};
 ghost use Rattle.std.specs.Str.{all_ascii_digits};
 ghost use Rattle.std.specs.Str.Parse.{digits_value};
 ghost use Rattle.ks_script.specs.Eight.{word_of};
@@ -23,6 +24,7 @@ pub fn digits_in(bytes: &[u8]) -> usize
     requires { 16 ≤ length bytes.now }
     ensures most { result ≤ 16 }
     ensures digits { all_ascii_digits (take result bytes.now) ≡ true }
+    ensures stops { result < 16 → is_ascii_digit (slice_index bytes.now result) ≡ false }
 {
     let worths = u8x16::from_slice(bytes) - u8x16::splat(b'0');
     let others = worths.simd_gt(u8x16::splat(9)).to_bitmask();

@@ -20,15 +20,6 @@ pub enum ReadFault {
     Memory,
 }
 
-/// Why a source was not read on.
-#[derive(Clone, Copy, Debug, PartialEq, Eq)]
-pub enum Halt {
-    /// The source failed.
-    Failed,
-    /// Memory was wanting.
-    Memory,
-}
-
 /// Why a text was not read.
 #[derive(Clone, Copy, Debug, PartialEq, Eq)]
 pub enum TextFault {

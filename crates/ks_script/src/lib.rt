@@ -5,51 +5,41 @@
 //! the first line that does not fit. `Source` and `Sink` are the outside: they may fail, and count it.
 #![tactic(auto)]
 
-mod answers;
 mod appending;
-mod calls;
 mod checked;
-mod draft;
-mod drafting;
 mod eight;
 mod ending;
 mod fault;
-mod front;
 mod laws;
+mod lexer;
 mod line;
+mod lines;
 mod memory;
 mod numeral;
-mod one_pass;
 mod outside;
-mod packed;
 mod packed_calls;
 mod packed_lines;
 mod parts;
 mod pieces;
-mod plain;
 mod printed;
-mod respell;
+mod reader;
+mod runs;
 mod script;
 mod source;
-mod stream;
 mod version;
-mod window;
-mod words;
 
 pub use checked::read_checked;
-pub use fault::{Failed, Halt, ReadFault, TextFault};
+pub use fault::{Failed, ReadFault, TextFault};
 pub use laws::{one_spelling, written_is_read};
 pub use line::send_line;
 pub use memory::{CleanSink, CleanSource, MemSink, MemSource};
-pub use one_pass::read_packed;
 pub use outside::{Sink, Source};
-pub use packed::{InOnePass, Packed};
 pub use packed_calls::Calls;
 pub use packed_lines::Lines;
 pub use pieces::send;
 pub use printed::{Printed, write_run};
 pub use script::{Script, read_script};
-pub use source::{read_all, read_rest};
+pub use source::read_all;
 pub use version::Version;
 
 #[cfg(test)]

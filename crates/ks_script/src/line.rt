@@ -4,9 +4,8 @@ ghost use Rattle.std.specs.Prelude.{◌≤◌, ◌++◌, OnOk, OnErr};
 ghost use Rattle.std.specs.Fmt.{decimal};
 ghost use Rattle.ks_script.specs.Outside.{Rose, Grew, GrewByFront};
 
-use crate::pieces::{put, put_word, send};
+use crate::pieces::{Piece, finish, put, put_number};
 use crate::{Failed, Sink};
-use arrayvec::ArrayVec;
 
 /// Offers the word, the number and the end in one piece, if they fit one, so that where the sink takes it whole no text of
 /// another writer comes between. After an error the sink has taken its first bytes.
@@ -17,8 +16,9 @@ pub fn send_line<K: Sink>(out: &mut K, word: &[u8], number: u64, end: &[u8]) -> 
     ensures cause { OnErr result (Rose (K.faults out.old) (K.faults out.new)) }
     ensures count { K.faults out.old ≤ K.faults out.new }
 {
-    let mut line = ArrayVec::new();
-    put(out, &mut line, word)?;
-    put_word(out, &mut line, number, end)?;
-    send(out, line.as_slice())
+    let mut line = Piece::new();
+    put(out, &mut line, word);
+    put_number(out, &mut line, number);
+    put(out, &mut line, end);
+    finish(out, line)
 }

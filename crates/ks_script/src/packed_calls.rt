@@ -1,7 +1,7 @@
 //! The calls of one caller in little room: 8 bytes for a Get or a Del of a key below 2^32, and for a Put of a key below 2^24
 //! and a value below 2^32; of others 8 bytes tell where they stand in a list of their kind.
 
-ghost use Rattle.std.specs.Prelude.{ℕ, ◌≡◌, ◌==◌, ◌<◌, List, [], ◌∷◌, ◌++◌, length, slice_index_or, IfOk, IfSome, OnOk, OnErr};
+ghost use Rattle.std.specs.Prelude.{ℕ, ◌≡◌, ◌<◌, List, [], ◌∷◌, ◌++◌, length, slice_index_or, IfOk, IfSome, OnOk, OnErr};
 ghost use Rattle.ks_history.specs.declared.Op.TheVariants.{Get};
 ghost use Rattle.ks_script.specs.PackedCalls.{call_in, IsCallIn, KeepsCalls};
 
@@ -137,15 +137,14 @@ impl Calls {
         }
     }
 
-    /// These calls, packed.
-    pub fn from_ops(alloc: Global, ops: &[Op]) -> Result<Calls, AllocError>
-        ensures { IfOk result (λ calls. calls ≡ ops.now) }
+    /// With room for so many calls.
+    pub fn with_capacity(alloc: Global, count: usize) -> Result<Calls, AllocError>
+        ensures { IfOk result (λ calls. calls ≡ []) }
     {
-        let mut calls = Calls::new(alloc);
-        for op in ops {
-            calls.push(*op)?;
-        }
-        Ok(calls)
+        Ok(Calls {
+            small: Vec::with_capacity(alloc, count)?,
+            long: LongCalls::new(alloc),
+        })
     }
 
     /// Puts a call behind the others. Where memory is wanting all stays as it was.
@@ -166,11 +165,15 @@ impl Calls {
         self.small.len()
     }
 
-    #[inline(always)]
-    pub fn is_empty(&self) -> bool
-        ensures { result ≡ (length self.now == 0) }
+    /// These calls, each by itself.
+    pub fn to_ops(&self, alloc: Global) -> Result<Vec<Op>, AllocError>
+        ensures { IfOk result (λ ops. ops.items ≡ self.now) }
     {
-        self.small.is_empty()
+        let mut ops = Vec::with_capacity(alloc, self.len())?;
+        for at in 0..self.len() {
+            ops.push(self.get(at))?;
+        }
+        Ok(ops)
     }
 
     /// The call at a place.

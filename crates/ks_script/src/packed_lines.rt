@@ -1,7 +1,7 @@
 //! The lines of one caller in little room: 8 bytes for a line without a value of a number below 2^32, and for one of a
 //! number below 2^24 with a value below 2^32; others take 8 bytes beside a longer value, or beside the line itself.
 
-ghost use Rattle.std.specs.Prelude.{ℕ, ◌≡◌, ◌==◌, ◌^◌, ◌<◌, [], ◌∷◌, ◌++◌, length, slice_index_or, IfOk, IfSome, OnOk, OnErr};
+ghost use Rattle.std.specs.Prelude.{ℕ, ◌≡◌, ◌^◌, ◌<◌, [], ◌∷◌, ◌++◌, length, slice_index_or, IfOk, IfSome, OnOk, OnErr};
 ghost use Rattle.ks_history.specs.declared.Reply.TheVariants.{Nothing, Value};
 ghost use Rattle.ks_script.specs.Parts.{joined};
 ghost use Rattle.ks_script.specs.PackedLines.{line_in, IsLineIn, KeepsLines};
@@ -182,13 +182,6 @@ impl Lines {
         ensures { result ≡ length self.now }
     {
         self.small.len()
-    }
-
-    #[inline(always)]
-    pub fn is_empty(&self) -> bool
-        ensures { result ≡ (length self.now == 0) }
-    {
-        self.small.is_empty()
     }
 
     /// The number of the line at a place.

@@ -1,21 +1,39 @@
 //! Writing in pieces: bytes wait in a piece until it is full, and then it goes to the sink.
 
-ghost use Rattle.std.specs.Prelude.{ℕ, ◌≡◌, ◌+◌, ◌≤◌, ◌<◌, [], ◌∷◌, ◌++◌, OnOk, OnErr, codes, map, length};
+ghost use Rattle.std.specs.Prelude.{ℕ, ◌≡◌, ◌+◌, ◌≤◌, ◌<◌, [], false, Option, List, ◌∷◌, ◌++◌, OnOk, OnErr, codes, map, length};
 ghost use Rattle.std.specs.Fmt.{decimal};
 ghost use Rattle.arrayvec.specs.ArrayVec.{array_vec_len};
-ghost use Rattle.ks_history.specs.declared.Reply.{Reply};
 ghost use Rattle.ks_script.specs.Lines.{ended, text_of};
 ghost use Rattle.ks_script.specs.Run.{reply_line, pair_line, callers_from, map_lines};
-ghost use Rattle.ks_script.specs.Outside.{Rose, Grew, GrewByFront, Passes};
+ghost use Rattle.ks_script.specs.Outside.{Rose, Grew, GrewByFront};
+ghost use Rattle.ks_script.specs.Pieces.{Holds, Puts};
 
 use crate::ending::Ending;
-use crate::{Failed, Sink};
+use crate::{Failed, Lines, Sink};
 use arrayvec::ArrayVec;
 use itoa::Buffer;
 use ks_history::Reply;
 
 /// How many bytes are offered at a time.
 const PIECE: usize = 4096;
+
+/// Bytes that wait to be offered. Once the sink has failed nothing more is.
+#[derive(Drop)]
+pub struct Piece {
+    bytes: ArrayVec<u8, PIECE>,
+    failed: bool,
+}
+
+impl Piece {
+    pub fn new() -> Piece
+        ensures { (result.bytes.items ≡ []) × (result.failed ≡ false) }
+    {
+        Piece {
+            bytes: ArrayVec::new(),
+            failed: false,
+        }
+    }
+}
 
 /// Offers the bytes until all are taken. What is taken in part is offered again from the first byte not taken.
 pub fn send<K: Sink>(out: &mut K, bytes: &[u8]) -> Result<(), Failed>
@@ -34,146 +52,123 @@ pub fn send<K: Sink>(out: &mut K, bytes: &[u8]) -> Result<(), Failed>
 
 // The bytes wait behind those that waited: there is room for all of them.
 #[inline(always)]
-fn append(piece: &mut ArrayVec<u8, PIECE>, bytes: &[u8])
-    requires { array_vec_len piece.old + length bytes.now ≤ 4096 }
-    ensures { piece.new.items ≡ piece.old.items ++ bytes.now }
+fn append(piece: &mut Piece, bytes: &[u8])
+    requires { array_vec_len piece.old.bytes + length bytes.now ≤ 4096 }
+    ensures bytes { piece.new.bytes.items ≡ piece.old.bytes.items ++ bytes.now }
+    ensures failed { piece.new.failed ≡ piece.old.failed }
 {
-    let _ = piece.try_extend_from_slice(bytes);
+    let _ = piece.bytes.try_extend_from_slice(bytes);
 }
 
-// As `put`, where there is no room for all of the bytes: as many as there is room for wait, and then the piece is sent.
+// What waits is offered, unless the sink has failed.
 #[inline(never)]
-fn put_over<K: Sink>(
-    out: &mut K,
-    piece: &mut ArrayVec<u8, PIECE>,
-    bytes: &[u8],
-) -> Result<(), Failed>
-    ensures ok { OnOk result (Passes (K.taken out.old) piece.old.items bytes.now (K.taken out.new) piece.new.items) }
-    ensures front { OnErr result (GrewByFront (K.taken out.old) (K.taken out.new) (piece.old.items ++ bytes.now)) }
-    ensures cause { OnErr result (Rose (K.faults out.old) (K.faults out.new)) }
-    ensures count { K.faults out.old ≤ K.faults out.new }
+fn offer<K: Sink>(out: &mut K, piece: &mut Piece)
+    ensures none { piece.new.bytes.items ≡ [] }
+    ensures puts { Puts (K.taken out.old) (K.faults out.old) piece.old []
+        (K.taken out.new) (K.faults out.new) piece.new }
+{
+    let failed = piece.failed;
+    if failed {
+        piece.bytes.clear();
+        return;
+    }
+    match send(out, piece.bytes.as_slice()) {
+        Ok(()) => piece.bytes.clear(),
+        Err(_) => {
+            piece.failed = true;
+            piece.bytes.clear();
+        }
+    }
+}
+
+// As `put`, where there is no room for all of the bytes: as many as there is room for wait, and then the piece is offered.
+#[inline(never)]
+fn put_over<K: Sink>(out: &mut K, piece: &mut Piece, bytes: &[u8])
+    ensures { Puts (K.taken out.old) (K.faults out.old) piece.old bytes.now
+        (K.taken out.new) (K.faults out.new) piece.new }
 {
     let mut rest = bytes;
-    while rest.len() > piece.remaining_capacity() {
-        let (front, back) = rest.split_at(piece.remaining_capacity());
+    while rest.len() > piece.bytes.remaining_capacity() {
+        let (front, back) = rest.split_at(piece.bytes.remaining_capacity());
         append(piece, front);
-        send(out, piece.as_slice())?;
-        piece.clear();
+        offer(out, piece);
         rest = back;
     }
     append(piece, rest);
-    Ok(())
 }
 
-/// The bytes wait behind those that waited, and each piece that is full, with more bytes to come, is sent.
+/// The bytes wait behind those that waited, and each piece that is full, with more bytes to come, is offered.
 #[inline(always)]
-pub fn put<K: Sink>(
-    out: &mut K,
-    piece: &mut ArrayVec<u8, PIECE>,
-    bytes: &[u8],
-) -> Result<(), Failed>
-    ensures ok { OnOk result (Passes (K.taken out.old) piece.old.items bytes.now (K.taken out.new) piece.new.items) }
-    ensures front { OnErr result (GrewByFront (K.taken out.old) (K.taken out.new) (piece.old.items ++ bytes.now)) }
-    ensures cause { OnErr result (Rose (K.faults out.old) (K.faults out.new)) }
-    ensures count { K.faults out.old ≤ K.faults out.new }
+pub fn put<K: Sink>(out: &mut K, piece: &mut Piece, bytes: &[u8])
+    ensures { Puts (K.taken out.old) (K.faults out.old) piece.old bytes.now
+        (K.taken out.new) (K.faults out.new) piece.new }
 {
-    if bytes.len() > piece.remaining_capacity() {
-        return put_over(out, piece, bytes);
+    if bytes.len() > piece.bytes.remaining_capacity() {
+        put_over(out, piece, bytes);
+        return;
     }
     append(piece, bytes);
-    Ok(())
 }
 
-// The digits of a number.
-fn put_number<K: Sink>(
-    out: &mut K,
-    piece: &mut ArrayVec<u8, PIECE>,
-    number: u64,
-) -> Result<(), Failed>
-    ensures ok { OnOk result
-        (Passes (K.taken out.old) piece.old.items (decimal number) (K.taken out.new) piece.new.items) }
-    ensures front { OnErr result
-        (GrewByFront (K.taken out.old) (K.taken out.new) (piece.old.items ++ (decimal number))) }
-    ensures cause { OnErr result (Rose (K.faults out.old) (K.faults out.new)) }
-    ensures count { K.faults out.old ≤ K.faults out.new }
+/// What waits is offered, and no piece more. What was put is taken, or its first bytes are and the sink has failed.
+pub fn finish<K: Sink>(out: &mut K, piece: Piece) -> Result<(), Failed>
+    ensures ok { (start : Option (List ℕ)) (faults : ℕ) (text : List ℕ) →
+        Holds start faults text (K.taken out.old) (K.faults out.old) piece →
+        OnOk result (Grew start (K.taken out.new) text) }
+    ensures front { (start : Option (List ℕ)) (faults : ℕ) (text : List ℕ) →
+        Holds start faults text (K.taken out.old) (K.faults out.old) piece →
+        OnErr result (GrewByFront start (K.taken out.new) text) }
+    ensures cause { (start : Option (List ℕ)) (faults : ℕ) (text : List ℕ) →
+        Holds start faults text (K.taken out.old) (K.faults out.old) piece →
+        OnErr result (Rose faults (K.faults out.new)) }
+    ensures count { (start : Option (List ℕ)) (faults : ℕ) (text : List ℕ) →
+        Holds start faults text (K.taken out.old) (K.faults out.old) piece → faults ≤ K.faults out.new }
 {
-    put(out, piece, Buffer::new().format(number).as_bytes())
+    let failed = piece.failed;
+    if failed {
+        return Err(Failed);
+    }
+    send(out, piece.bytes.as_slice())
 }
 
-/// A number, and what follows it, wait behind what waited, as by `put`.
-pub fn put_word<K: Sink>(
-    out: &mut K,
-    piece: &mut ArrayVec<u8, PIECE>,
-    number: u64,
-    word: &[u8],
-) -> Result<(), Failed>
-    ensures ok { OnOk result
-        (Passes (K.taken out.old) piece.old.items (decimal number ++ word.now) (K.taken out.new) piece.new.items) }
-    ensures front { OnErr result
-        (GrewByFront (K.taken out.old) (K.taken out.new) (piece.old.items ++ (decimal number ++ word.now))) }
-    ensures cause { OnErr result (Rose (K.faults out.old) (K.faults out.new)) }
-    ensures count { K.faults out.old ≤ K.faults out.new }
+/// The digits of a number.
+pub fn put_number<K: Sink>(out: &mut K, piece: &mut Piece, number: u64)
+    ensures { Puts (K.taken out.old) (K.faults out.old) piece.old (decimal number)
+        (K.taken out.new) (K.faults out.new) piece.new }
 {
-    put_number(out, piece, number)?;
-    put(out, piece, word)
+    put(out, piece, Buffer::new().format(number).as_bytes());
 }
 
 // The line of a pair.
-fn put_pair<K: Sink>(
-    out: &mut K,
-    piece: &mut ArrayVec<u8, PIECE>,
-    key: u64,
-    value: u128,
-) -> Result<(), Failed>
-    ensures ok { OnOk result
-        (Passes (K.taken out.old) piece.old.items (ended (pair_line (key, value))) (K.taken out.new) piece.new.items) }
-    ensures front { OnErr result
-        (GrewByFront (K.taken out.old) (K.taken out.new) (piece.old.items ++ (ended (pair_line (key, value))))) }
-    ensures cause { OnErr result (Rose (K.faults out.old) (K.faults out.new)) }
-    ensures count { K.faults out.old ≤ K.faults out.new }
+fn put_pair<K: Sink>(out: &mut K, piece: &mut Piece, key: u64, value: u128)
+    ensures { Puts (K.taken out.old) (K.faults out.old) piece.old (ended (pair_line (key, value)))
+        (K.taken out.new) (K.faults out.new) piece.new }
 {
     let mut line = Ending::new();
     line.word(b"\n");
     line.value(value);
     line.word(b" ");
     line.number(key);
-    put(out, piece, line.bytes())
+    put(out, piece, line.bytes());
 }
 
 // The line of a call whose reply is a word: a number, and the rest of the line.
 #[inline(always)]
-fn put_told<K: Sink>(
-    out: &mut K,
-    piece: &mut ArrayVec<u8, PIECE>,
-    number: u64,
-    word: &[u8],
-) -> Result<(), Failed>
+fn put_told<K: Sink>(out: &mut K, piece: &mut Piece, number: u64, word: &[u8])
     requires { length word.now ≤ 8 }
-    ensures ok { OnOk result
-        (Passes (K.taken out.old) piece.old.items (decimal number ++ word.now) (K.taken out.new) piece.new.items) }
-    ensures front { OnErr result
-        (GrewByFront (K.taken out.old) (K.taken out.new) (piece.old.items ++ (decimal number ++ word.now))) }
-    ensures cause { OnErr result (Rose (K.faults out.old) (K.faults out.new)) }
-    ensures count { K.faults out.old ≤ K.faults out.new }
+    ensures { Puts (K.taken out.old) (K.faults out.old) piece.old (decimal number ++ word.now)
+        (K.taken out.new) (K.faults out.new) piece.new }
 {
     let mut line = Ending::new();
     line.word(word);
     line.number(number);
-    put(out, piece, line.bytes())
+    put(out, piece, line.bytes());
 }
 
 // The line of a call.
-fn put_reply<K: Sink>(
-    out: &mut K,
-    piece: &mut ArrayVec<u8, PIECE>,
-    line: &(u64, Reply),
-) -> Result<(), Failed>
-    ensures ok { OnOk result
-        (Passes (K.taken out.old) piece.old.items (ended (reply_line line.now)) (K.taken out.new) piece.new.items) }
-    ensures front { OnErr result
-        (GrewByFront (K.taken out.old) (K.taken out.new) (piece.old.items ++ (ended (reply_line line.now)))) }
-    ensures cause { OnErr result (Rose (K.faults out.old) (K.faults out.new)) }
-    ensures count { K.faults out.old ≤ K.faults out.new }
+fn put_reply<K: Sink>(out: &mut K, piece: &mut Piece, line: &(u64, Reply))
+    ensures { Puts (K.taken out.old) (K.faults out.old) piece.old (ended (reply_line line.now))
+        (K.taken out.new) (K.faults out.new) piece.new }
 {
     match &line.1 {
         Reply::Nothing => put_told(out, piece, line.0, b" none\n"),
@@ -183,68 +178,39 @@ fn put_reply<K: Sink>(
 }
 
 // The lines of a caller.
-fn put_caller<K: Sink>(
-    out: &mut K,
-    piece: &mut ArrayVec<u8, PIECE>,
-    number: u64,
-    calls: &[(u64, Reply)],
-) -> Result<(), Failed>
-    ensures ok { OnOk result
-        (Passes (K.taken out.old) piece.old.items
-        (text_of ((codes "caller " ++ decimal number) ∷ map reply_line calls.now)) (K.taken out.new) piece.new.items) }
-    ensures front { OnErr result
-        (GrewByFront (K.taken out.old) (K.taken out.new)
-        (piece.old.items ++ (text_of ((codes "caller " ++ decimal number) ∷ map reply_line calls.now)))) }
-    ensures cause { OnErr result (Rose (K.faults out.old) (K.faults out.new)) }
-    ensures count { K.faults out.old ≤ K.faults out.new }
+fn put_caller<K: Sink>(out: &mut K, piece: &mut Piece, number: u64, calls: &Lines)
+    ensures { Puts (K.taken out.old) (K.faults out.old) piece.old
+        (text_of ((codes "caller " ++ decimal number) ∷ map reply_line calls.now))
+        (K.taken out.new) (K.faults out.new) piece.new }
 {
-    put(out, piece, b"caller ")?;
-    put_word(out, piece, number, b"\n")?;
-    for line in calls {
-        put_reply(out, piece, line)?;
+    put(out, piece, b"caller ");
+    put_number(out, piece, number);
+    put(out, piece, b"\n");
+    for at in 0..calls.len() {
+        put_reply(out, piece, &calls.get(at));
     }
-    Ok(())
 }
 
 /// The lines of callers, numbered from 0.
-pub fn put_callers<K: Sink>(
-    out: &mut K,
-    piece: &mut ArrayVec<u8, PIECE>,
-    callers: &[Vec<(u64, Reply)>],
-) -> Result<(), Failed>
-    ensures ok { OnOk result
-        (Passes (K.taken out.old) piece.old.items (text_of (callers_from 0 (map (λ v. v.items) callers.now)))
-        (K.taken out.new) piece.new.items) }
-    ensures front { OnErr result
-        (GrewByFront (K.taken out.old) (K.taken out.new)
-        (piece.old.items ++ (text_of (callers_from 0 (map (λ v. v.items) callers.now))))) }
-    ensures cause { OnErr result (Rose (K.faults out.old) (K.faults out.new)) }
-    ensures count { K.faults out.old ≤ K.faults out.new }
+pub fn put_callers<K: Sink>(out: &mut K, piece: &mut Piece, callers: &[Lines])
+    ensures { Puts (K.taken out.old) (K.faults out.old) piece.old (text_of (callers_from 0 callers.now))
+        (K.taken out.new) (K.faults out.new) piece.new }
 {
     for (number, calls) in callers.iter().enumerate() {
-        put_caller(out, piece, number as u64, calls)?;
+        put_caller(out, piece, number as u64, calls);
     }
-    Ok(())
 }
 
 /// The lines of the map.
-pub fn put_map<K: Sink>(
-    out: &mut K,
-    piece: &mut ArrayVec<u8, PIECE>,
-    pairs: &[(u64, u128)],
-) -> Result<(), Failed>
-    ensures ok { OnOk result
-        (Passes (K.taken out.old) piece.old.items (text_of (map_lines pairs.now)) (K.taken out.new) piece.new.items) }
-    ensures front { OnErr result
-        (GrewByFront (K.taken out.old) (K.taken out.new) (piece.old.items ++ (text_of (map_lines pairs.now)))) }
-    ensures cause { OnErr result (Rose (K.faults out.old) (K.faults out.new)) }
-    ensures count { K.faults out.old ≤ K.faults out.new }
+pub fn put_map<K: Sink>(out: &mut K, piece: &mut Piece, pairs: &[(u64, u128)])
+    ensures { Puts (K.taken out.old) (K.faults out.old) piece.old (text_of (map_lines pairs.now))
+        (K.taken out.new) (K.faults out.new) piece.new }
 {
-    put(out, piece, b"map\n")?;
+    put(out, piece, b"map\n");
     for pair in pairs {
-        put_pair(out, piece, pair.0, pair.1)?;
+        put_pair(out, piece, pair.0, pair.1);
     }
-    put(out, piece, b"end\n")
+    put(out, piece, b"end\n");
 }
 
 #[cfg(test)]

@@ -4,26 +4,23 @@ ghost use Rattle.std.specs.Prelude.{◌≤◌, OnOk, OnErr};
 ghost use Rattle.ks_script.specs.Outside.{Rose, Grew, GrewByFront};
 ghost use Rattle.ks_script.specs.Run.{run_text};
 
-use crate::pieces::{put_callers, put_map, send};
-use crate::{Failed, Sink};
-use arrayvec::ArrayVec;
-use ks_history::Reply;
+use crate::pieces::{Piece, finish, put_callers, put_map};
+use crate::{Failed, Lines, Sink};
 use std::marker::Model;
 
 /// For each caller the number and the reply of each of its calls, and the keys and values of the map at the end.
-#[derive(Debug, Drop)]
+#[derive(Drop)]
 pub struct Printed {
-    pub callers: Vec<Vec<(u64, Reply)>>,
+    pub callers: Vec<Lines>,
     pub pairs: Vec<(u64, u128)>,
 }
 
 impl Model for Printed {
-    ghost use Rattle.std.specs.Prelude.{map};
     ghost use Rattle.ks_script.specs.Run.{Run};
 
     ghost Value = { Run };
 
-    ghost view = { λ p. record { callers = map (λ v. v.items) p.callers.items; pairs = p.pairs.items } };
+    ghost view = { λ p. record { callers = p.callers.items; pairs = p.pairs.items } };
 }
 
 /// Writes the text of the run, in pieces of 4,096 bytes, the last one shorter. After an error the sink has taken its
@@ -34,8 +31,8 @@ pub fn write_run<K: Sink>(out: &mut K, printed: &Printed) -> Result<(), Failed>
     ensures cause { OnErr result (Rose (K.faults out.old) (K.faults out.new)) }
     ensures count { K.faults out.old ≤ K.faults out.new }
 {
-    let mut piece = ArrayVec::new();
-    put_callers(out, &mut piece, &printed.callers)?;
-    put_map(out, &mut piece, &printed.pairs)?;
-    send(out, piece.as_slice())
+    let mut piece = Piece::new();
+    put_callers(out, &mut piece, &printed.callers);
+    put_map(out, &mut piece, &printed.pairs);
+    finish(out, piece)
 }

@@ -5,25 +5,24 @@ ghost use Rattle.ks_history.specs.declared.Op.{Op};
 ghost use Rattle.ks_script.specs.Script.{ScriptOf, FirstBadOfScript};
 ghost use Rattle.ks_script.specs.Reading.{Answers, Gives};
 
-use crate::TextFault;
-use crate::front::read_callers;
-use ks_history::Op;
+use crate::reader::callers;
+use crate::{Calls, TextFault};
 use std::alloc::Global;
 use std::marker::Model;
 
 /// For each caller its calls. The number of an operation is a key.
-#[derive(Debug, Drop)]
+#[derive(Drop)]
 pub struct Script {
-    pub callers: Vec<Vec<Op>>,
+    pub callers: Vec<Calls>,
 }
 
 impl Model for Script {
-    ghost use Rattle.std.specs.Prelude.{List, map};
+    ghost use Rattle.std.specs.Prelude.{List};
     ghost use Rattle.ks_history.specs.declared.Op.{Op};
 
     ghost Value = { List (List Op) };
 
-    ghost view = { λ s. map (λ v. v.items) s.callers.items };
+    ghost view = { λ s. s.callers.items };
 }
 
 /// The script, of either version, that the bytes are the text of, or the first line that does not fit.
@@ -33,7 +32,7 @@ pub fn read_script(alloc: Global, bytes: &[u8]) -> Result<Script, TextFault>
     ensures script { (script : List (List Op)) → ScriptOf bytes.now script → Gives result (Ok script) }
     ensures refused { (n : ℕ) → FirstBadOfScript bytes.now n → Gives result (Err (TextFault.Refused n)) }
 {
-    let front = read_callers(alloc, bytes)?;
+    let front = callers(alloc, bytes)?;
     if !front.rest.is_empty() {
         return Err(TextFault::Refused {
             line: front.lines + 1,

@@ -1,6 +1,6 @@
 //! Reading a source to its end.
 
-ghost use Rattle.std.specs.Prelude.{ℕ, ◌≡◌, ◌+◌, ◌<◌, ◌≤◌, List, [], Some, length, vec_len, Option, IfOk, IfSome, OnOk, OnErr, IsErrOf};
+ghost use Rattle.std.specs.Prelude.{ℕ, ◌≡◌, ◌+◌, ◌<◌, ◌≤◌, List, [], Some, length, vec_len, IfOk, IfSome, OnOk, OnErr, IsErrOf};
 ghost use Rattle.ks_script.specs.Outside.{Rose, Gone, Reads};
 
 use crate::{Failed, ReadFault, Source};
@@ -9,12 +9,8 @@ use std::alloc::Global;
 // How many bytes are asked for at a time.
 const ASKED: usize = 65_536;
 
-/// Reads so many bytes at most, to the front of the buffer.
-pub(crate) fn read_front<S: Source>(
-    source: &mut S,
-    buffer: &mut [u8],
-    most: usize,
-) -> Result<usize, Failed>
+// Reads so many bytes at most, to the front of the buffer.
+fn read_front<S: Source>(source: &mut S, buffer: &mut [u8], most: usize) -> Result<usize, Failed>
     requires some { 0 < most }
     requires fits { most ≤ length buffer.old }
     ensures bound { IfOk result (λ n. n ≤ most) }
@@ -38,33 +34,8 @@ pub fn read_all<S: Source>(alloc: Global, source: &mut S, limit: u64) -> Result<
     ensures stops { (front : List ℕ) × Gone (S.left source.old) (S.left source.new) front
         × (length front ≤ limit + 1) }
 {
-    read_rest(source, Vec::new(alloc), limit)
-}
-
-/// Reads to the end where these bytes were read before, and answers with all, else as `read_all`.
-pub fn read_rest<S: Source>(
-    source: &mut S,
-    first: Vec<u8>,
-    limit: u64,
-) -> Result<Vec<u8>, ReadFault>
-    requires { vec_len first ≤ limit + 1 }
-    ensures bytes { IfOk result (λ v. (all : Option (List ℕ)) → Gone all (S.left source.old) first.items →
-        IfSome all (λ bytes. v.items ≡ bytes)) }
-    ensures end { OnOk result ((all : Option (List ℕ)) → Gone all (S.left source.old) first.items →
-        IfSome all (λ _. S.left source.new ≡ Some [])) }
-    ensures within { IfOk result (λ v. vec_len v ≤ limit) }
-    ensures long { IsErrOf result ReadFault.TooLong → (all : Option (List ℕ)) →
-        Gone all (S.left source.old) first.items → IfSome all (λ bytes. limit < length bytes) }
-    ensures failed { IsErrOf result ReadFault.Failed → Rose (S.faults source.old) (S.faults source.new) }
-    ensures count { S.faults source.old ≤ S.faults source.new }
-    ensures stops { (front : List ℕ) × (length front ≤ limit + 1)
-        × ((all : Option (List ℕ)) → Gone all (S.left source.old) first.items → Gone all (S.left source.new) front) }
-{
-    let mut bytes = first;
+    let mut bytes = Vec::new(alloc);
     let mut buffer = [0; ASKED];
-    if bytes.len() as u64 > limit {
-        return Err(ReadFault::TooLong);
-    }
     loop {
         let room = limit - bytes.len() as u64;
         let most = room.min(ASKED as u64 - 1) as usize + 1;

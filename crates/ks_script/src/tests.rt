@@ -8,14 +8,24 @@ const RUN: &[u8] = b"caller 0\n0 none\n1 50\nmap\n5 50\nend\n";
 
 // The run that RUN is the text of.
 fn small_run(alloc: Global) -> Result<Printed, Fail> {
-    let mut calls = Vec::new(alloc);
-    calls.push((0, Reply::Nothing))?;
-    calls.push((1, Reply::Value(50)))?;
+    let mut calls = Lines::new(alloc);
+    calls.push(0, Reply::Nothing)?;
+    calls.push(1, Reply::Value(50))?;
     let mut callers = Vec::new(alloc);
     callers.push(calls)?;
     let mut pairs = Vec::new(alloc);
     pairs.push((5, 50))?;
     Ok(Printed { callers, pairs })
+}
+
+// Whether these are the calls.
+fn has_calls(calls: &Calls, ops: &[Op]) -> bool {
+    for (at, op) in ops.iter().enumerate() {
+        if at >= calls.len() || calls.get(at) != *op {
+            return false;
+        }
+    }
+    calls.len() == ops.len()
 }
 
 fn is_refused(rt: &impl Abort, alloc: Global, text: &[u8], line: u64) {
@@ -35,7 +45,7 @@ fn a_script_is_read_without_its_last_end(rt: HostRuntime) -> Result<(), Fail> {
         .ok_or("it is a script")?;
     assert_eq!(rt; script.callers.len(), 1);
     for calls in &script.callers {
-        assert_eq!(rt; calls.as_slice(), [Op::Get(1)].as_slice());
+        assert!(rt; has_calls(calls, [Op::Get(1)].as_slice()));
     }
     Ok(())
 }
@@ -67,7 +77,7 @@ fn a_script_of_the_second_version_is_read(rt: HostRuntime) -> Result<(), Fail> {
         Op::Put(1, 18446744073709551616),
     ];
     for ops in &script.callers {
-        assert_eq!(rt; ops.as_slice(), calls.as_slice());
+        assert!(rt; has_calls(ops, calls.as_slice()));
     }
     let empty = read_script(rt.alloc(), b"script 2")
         .ok()
@@ -99,7 +109,7 @@ del 18446744073709551615";
     ];
     assert_eq!(rt; script.callers.len(), 1);
     for ops in &script.callers {
-        assert_eq!(rt; ops.as_slice(), calls.as_slice());
+        assert!(rt; has_calls(ops, calls.as_slice()));
     }
     Ok(())
 }
@@ -244,8 +254,13 @@ fn replies_full_and_wide_are_read(rt: HostRuntime) -> Result<(), Fail> {
         (1, Reply::Value(340282366920938463463374607431768211455)),
     ];
     assert_eq!(rt; printed.callers.len(), 1);
-    for calls in &printed.callers {
-        assert_eq!(rt; calls.as_slice(), replies.as_slice());
+    for lines in &printed.callers {
+        assert_eq!(rt; lines.len(), 2);
+        for (at, reply) in replies.iter().enumerate() {
+            if at < lines.len() {
+                assert!(rt; lines.get(at) == *reply);
+            }
+        }
     }
     assert_eq!(rt;
         printed.pairs.as_slice(),

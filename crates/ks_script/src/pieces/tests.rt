@@ -1,7 +1,7 @@
 //! How the bytes of a run are offered.
 
 use super::PIECE;
-use crate::{Failed, Printed, Sink, write_run};
+use crate::{Failed, Lines, Printed, Sink, write_run};
 use ks_history::Reply;
 use std::alloc::Global;
 use std::test::Fail;
@@ -28,9 +28,9 @@ impl Sink for Sizes {
 
 // A run of one caller and so many calls, each answered with the greatest value: 41 bytes a line, and its number.
 fn run_of(alloc: Global, calls: u64) -> Result<Printed, Fail> {
-    let mut lines = Vec::new(alloc);
+    let mut lines = Lines::new(alloc);
     for number in 0..calls {
-        lines.push((number, Reply::Value(u128::MAX)))?;
+        lines.push(number, Reply::Value(u128::MAX))?;
     }
     let mut callers = Vec::new(alloc);
     callers.push(lines)?;

@@ -1,7 +1,6 @@
 use Rattle.ks_batch.specs.declared.words.Text.TheVariants.{Checked}
-use Rattle.ks_script.specs.Outside.{Gone}
-use Rattle.ks_batch.proofs.Loading.{rest_cause}
+use Rattle.ks_batch.proofs.Loading.{load_cause}
 use Rattle.ks_batch.proofs.input.load_checked.Goals as goal
 
 pub returns-clause-cause : goal.returns-clause-cause
-returns-clause-cause g c = rest_cause Checked (λ all. Gone all (g.S.Source.left c.args.source.now) c.args.first.items) _ c.in_ok-bytes.bytes.items c.checked.result c.in_ok-bytes.ensures.ok c.in_ok-bytes.ensures.within (rw c.deref.ensures.value at c.checked.ensures.refused)
+returns-clause-cause g c = load_cause Checked (g.S.Source.left c.args.source.now) _ c.in_ok-bytes.bytes.items c.checked.result c.in_ok-bytes.ensures.ok c.in_ok-bytes.ensures.within (rw c.deref.ensures.value at c.checked.ensures.refused)

@@ -4,6 +4,6 @@ use Rattle.ks_generator.proofs.summing.calls.Goals as goal
 
 pub loop-ops-preserved : goal.loop-ops-preserved
 loop-ops-preserved c = record {
-  total = calls_more (λ v. v.items) c.args.callers.now c.loop-ops.ops-index c.loop-ops.total c.len.result c.ops-item.result c.loop-ops-test.true c.ops-item.is (omega arith) c.loop-ops.invariant.total;
+  total = calls_more c.args.callers.now c.loop-ops.ops-index c.loop-ops.total c.len.result c.ops-item.result c.loop-ops-test.true c.ops-item.is (omega arith) c.loop-ops.invariant.total;
   bound = omega arith;
 }

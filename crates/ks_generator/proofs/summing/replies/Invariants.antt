@@ -1,13 +1,13 @@
-use Rattle.std.proofs.Common.{◌≡◌, ◌≤◌, ◌*◌, ◌^◌, take, map}
+use Rattle.std.proofs.Common.{◌≡◌, ◌≤◌, ◌*◌, ◌^◌, take}
 use Rattle.ks_generator.specs.Summary.{replies_of}
 use Rattle.ks_generator.specs.declared.summing.Kind.TheVariants.{Found, Missing, NoRoom}
 use Rattle.ks_generator.proofs.summing.replies.Given as goal
 
 abbrev pub invariant-loop-lines : goal.invariant-loop-lines
 invariant-loop-lines l = record {
-  found : l.found ≡ replies_of Found (map (λ v. v.items) (take l.lines-index l.callers));
-  none : l.none ≡ replies_of Missing (map (λ v. v.items) (take l.lines-index l.callers));
-  full : l.full ≡ replies_of NoRoom (map (λ v. v.items) (take l.lines-index l.callers));
+  found : l.found ≡ replies_of Found (take l.lines-index l.callers);
+  none : l.none ≡ replies_of Missing (take l.lines-index l.callers);
+  full : l.full ≡ replies_of NoRoom (take l.lines-index l.callers);
   few_found : l.found ≤ l.lines-index * 2 ^ 64;
   few_none : l.none ≤ l.lines-index * 2 ^ 64;
   few_full : l.full ≤ l.lines-index * 2 ^ 64;

@@ -24,3 +24,10 @@ returns-clause-digits c =
     let v = take 16 bytes in
     let long = length-take-le 16 bytes c.requires in
     (up_to_one bytes c.requires c.type_inv.bytes _ _ (over (λ (a b : ℕ). cond (ltb a b) 255 0) 9 _ v long (zip2_splat _ v 16 48 long)) refl c.if-others-eq0.false).1
+
+pub returns-clause-stops : goal.returns-clause-stops
+returns-clause-stops c =
+    let bytes = c.args.bytes.now in
+    let v = take 16 bytes in
+    let long = length-take-le 16 bytes c.requires in
+    (up_to_one bytes c.requires c.type_inv.bytes _ _ (over (λ (a b : ℕ). cond (ltb a b) 255 0) 9 _ v long (zip2_splat _ v 16 48 long)) refl c.if-others-eq0.false).2

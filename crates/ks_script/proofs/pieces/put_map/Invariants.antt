@@ -1,11 +1,8 @@
-use Rattle.std.proofs.Common.{◌≤◌, ◌∷◌, take, map, codes}
+use Rattle.std.proofs.Common.{◌++◌, take, map, codes}
 use Rattle.ks_script.specs.Lines.{text_of}
 use Rattle.ks_script.specs.Run.{pair_line}
-use Rattle.ks_script.specs.Outside.{Passes}
+use Rattle.ks_script.specs.Pieces.{Puts}
 use Rattle.ks_script.proofs.pieces.put_map.Given as goal
 
 abbrev pub invariant-loop-pair : goal.invariant-loop-pair
-invariant-loop-pair g l = record {
-  passed : Passes (g.K.Sink.taken l.fn.out) l.fn.piece.items (text_of (codes "map" ∷ map pair_line (take l.pair-index l.pairs))) (g.K.Sink.taken l.out) l.piece.items;
-  count : g.K.Sink.faults l.fn.out ≤ g.K.Sink.faults l.out;
-}
+invariant-loop-pair g l = Puts (g.K.Sink.taken l.fn.out) (g.K.Sink.faults l.fn.out) l.fn.piece (codes "map\n" ++ text_of (map pair_line (take l.pair-index l.pairs))) (g.K.Sink.taken l.out) (g.K.Sink.faults l.out) l.piece

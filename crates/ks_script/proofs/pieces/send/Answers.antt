@@ -1,6 +1,5 @@
 use Rattle.std.proofs.Common.{[], arith, subst, sym, List, ℕ}
-use Rattle.ks_script.specs.Outside.{Passes}
-use Rattle.ks_script.proofs.Passing.{passes_sent, grew_written}
+use Rattle.ks_script.proofs.Putting.{Passes, passes_sent, grew_written}
 use Rattle.ks_script.proofs.pieces.send.Goals as goal
 
 pub loop-rest-preserved : goal.loop-rest-preserved

@@ -1,5 +1,5 @@
 use Rattle.std.proofs.Common.{◌≤◌, [], length}
-use Rattle.ks_script.specs.Outside.{Passes}
+use Rattle.ks_script.proofs.Putting.{Passes}
 use Rattle.ks_script.proofs.pieces.send.Given as goal
 
 abbrev pub invariant-loop-rest : goal.invariant-loop-rest

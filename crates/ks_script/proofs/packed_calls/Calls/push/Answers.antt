@@ -1,7 +1,6 @@
 use Rattle.std.proofs.Common.{◌∙◌, ap, map}
 use Rattle.std.proofs.lemmas.List.Elements.{All-same, All-push, All-weaker}
-use Rattle.ks_script.proofs.Passing.{on_err}
-use Rattle.ks_script.proofs.Packing.{read_along, one_more}
+use Rattle.ks_script.proofs.Packing.{on_err, read_along, one_more}
 use Rattle.ks_script.specs.PackedCalls.{call_in, IsCallIn}
 use Rattle.ks_script.proofs.packed_calls.Calls.push.Goals as goal
 

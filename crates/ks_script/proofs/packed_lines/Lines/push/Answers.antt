@@ -1,7 +1,6 @@
 use Rattle.std.proofs.Common.{◌∙◌, ap, map}
 use Rattle.std.proofs.lemmas.List.Elements.{All-same, All-push, All-weaker}
-use Rattle.ks_script.proofs.Passing.{on_err}
-use Rattle.ks_script.proofs.Packing.{read_along, one_more}
+use Rattle.ks_script.proofs.Packing.{on_err, read_along, one_more}
 use Rattle.ks_script.specs.PackedLines.{line_in, IsLineIn}
 use Rattle.ks_script.proofs.packed_lines.Lines.push.Goals as goal
 

@@ -1,0 +1,37 @@
+//! Calls and replies between the texts, which hold them packed, and the dictionary, which holds each by itself.
+
+ghost use Rattle.std.specs.Prelude.{◌≡◌, length, map, IfOk};
+
+use ks_history::{Op, Reply};
+use ks_script::{Calls, Lines, Script};
+use std::alloc::{AllocError, Global};
+
+/// The calls of each caller of a script.
+pub fn unpacked(alloc: Global, script: &Script) -> Result<Vec<Vec<Op>>, AllocError>
+    ensures calls { IfOk result (λ callers. map (λ v. v.items) callers.items ≡ script.now) }
+    ensures count { IfOk result (λ callers. length callers.items ≡ length script.now) }
+{
+    each_caller(alloc, &script.callers)
+}
+
+fn each_caller(alloc: Global, script: &[Calls]) -> Result<Vec<Vec<Op>>, AllocError>
+    ensures calls { IfOk result (λ callers. map (λ v. v.items) callers.items ≡ script.now) }
+    ensures count { IfOk result (λ callers. length callers.items ≡ length script.now) }
+{
+    let mut callers = Vec::with_capacity(alloc, script.len())?;
+    for calls in script {
+        callers.push(calls.to_ops(alloc)?)?;
+    }
+    Ok(callers)
+}
+
+/// The replies to each caller, packed.
+pub fn packed(alloc: Global, callers: &[Vec<(u64, Reply)>]) -> Result<Vec<Lines>, AllocError>
+    ensures { IfOk result (λ packed. packed.items ≡ map (λ v. v.items) callers.now) }
+{
+    let mut packed = Vec::with_capacity(alloc, callers.len())?;
+    for lines in callers {
+        packed.push(Lines::from_lines(alloc, lines)?)?;
+    }
+    Ok(packed)
+}

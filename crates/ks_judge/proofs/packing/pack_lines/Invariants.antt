@@ -1,5 +1,0 @@
-use Rattle.std.proofs.Common.{◌≡◌, map, take}
-use Rattle.ks_judge.proofs.packing.pack_lines.Given as goal
-
-abbrev pub invariant-loop-lines : goal.invariant-loop-lines
-invariant-loop-lines l = l.packed.items ≡ map (λ v. v.items) (take l.lines-index l.callers)

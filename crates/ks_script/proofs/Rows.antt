@@ -1,0 +1,43 @@
+-- Calls and replies: what tells their lines apart.
+use Rattle.std.proofs.Common.{ℕ, ◌≡◌, ◌^◌, ◌<◌, List, ◌++◌, length, drop, get_or, codes, refl, sym, ap, subst, ◌∙◌, arith, length-append}
+use Rattle.std.specs.Fmt.{decimal}
+use Rattle.ks_history.specs.declared.Op.{Op}
+use Rattle.ks_history.specs.declared.Op.TheVariants.{Get, Put, Del, Add, Swap}
+use Rattle.ks_history.specs.declared.Reply.{Reply}
+use Rattle.ks_history.specs.declared.Reply.TheVariants.{Nothing, Value, Full}
+use Rattle.ks_script.specs.Script.{call_line}
+use Rattle.ks_script.specs.Run.{reply_word, reply_line, pair_line}
+use Rattle.ks_script.specs.Checked.{IsReply}
+use Rattle.ks_script.specs.Numeral.{NoDigit}
+use Rattle.ks_script.specs.Lined.{EndsLine, NotLined}
+use Rattle.ks_script.proofs.Exact.{no_number}
+use Rattle.ks_script.proofs.Lined.{number_told, end_free}
+
+pub some_bytes : (op : Op) → 0 < length (call_line op)
+some_bytes (Get k) = omega arith
+some_bytes (Put k v) = omega arith
+some_bytes (Del k) = omega arith
+some_bytes (Add k v) = omega arith
+some_bytes (Swap k v w) = omega arith
+
+pub some_reply : (x : ℕ × Reply) → 0 < length (reply_line x)
+some_reply x = omega (arith, length-append (decimal x.0 ++ codes " ") (reply_word x.1), length-append (decimal x.0) (codes " "))
+
+pub some_pair : (x : ℕ × ℕ) → 0 < length (pair_line x)
+some_pair x = omega (arith, length-append (decimal x.0 ++ codes " ") (decimal x.1), length-append (decimal x.0) (codes " "))
+
+-- bytes that begin as a reply, behind which no line ends
+pub not_none : (bytes rest : List ℕ) → bytes ≡ codes "none" ++ rest → (EndsLine rest → ⊥) → (r : Reply) → IsReply r → NotLined (reply_word r) bytes
+not_none bytes rest e bad Nothing is tail ends f = bad (subst EndsLine (sym (ap (λ (x : List ℕ). drop 4 x) (sym e ∙ f))) ends)
+not_none bytes rest e bad Full is tail ends f = omega (arith, ap (λ (x : List ℕ). get_or x 0 0) (sym e ∙ f))
+not_none bytes rest e bad (Value v) is tail ends f = no_number v (codes "none" ++ rest) tail is refl (sym e ∙ f)
+
+pub not_full : (bytes rest : List ℕ) → bytes ≡ codes "full" ++ rest → (EndsLine rest → ⊥) → (r : Reply) → IsReply r → NotLined (reply_word r) bytes
+not_full bytes rest e bad Full is tail ends f = bad (subst EndsLine (sym (ap (λ (x : List ℕ). drop 4 x) (sym e ∙ f))) ends)
+not_full bytes rest e bad Nothing is tail ends f = omega (arith, ap (λ (x : List ℕ). get_or x 0 0) (sym e ∙ f))
+not_full bytes rest e bad (Value v) is tail ends f = no_number v (codes "full" ++ rest) tail is refl (sym e ∙ f)
+
+pub not_value : (m : ℕ) (bytes rest : List ℕ) → m < 2 ^ 128 → NoDigit rest → bytes ≡ decimal m ++ rest → (EndsLine rest → ⊥) → (r : Reply) → IsReply r → NotLined (reply_word r) bytes
+not_value m bytes rest small free e bad Full is tail ends f = no_number m (codes "full" ++ tail) rest small refl (sym f ∙ e)
+not_value m bytes rest small free e bad Nothing is tail ends f = no_number m (codes "none" ++ tail) rest small refl (sym f ∙ e)
+not_value m bytes rest small free e bad (Value v) is tail ends f = bad (subst EndsLine (sym (number_told m v rest tail small is free (end_free tail ends) (sym e ∙ f)).1) ends)

@@ -1,0 +1,207 @@
+-- Lines that are read one after another.
+use Rattle.std.proofs.Common.{ℕ, ◌≡◌, ◌+◌, List, [], ◌∷◌, ◌++◌, map, get_or, drop, codes, length, append-nil, refl, sym, ap, subst, ◌∙◌, append_assoc, arith, length-append}
+use Rattle.std.specs.List.{AllByRecursion}
+use Rattle.ks_history.specs.declared.Op.{Op}
+use Rattle.ks_script.specs.declared.version.Version.{Version}
+use Rattle.ks_script.specs.Lines.{lines_of}
+use Rattle.ks_script.specs.declared.version.Version.TheVariants.{First, Second}
+use Rattle.ks_script.specs.Script.{IsCall, call_line, script_lines, calls_in}
+use Rattle.ks_script.specs.Reads.{Lines, NotFirst, NoneFirst, Leads, Reads}
+use Rattle.ks_script.specs.Left.{TextLeft, ScriptLeft, CallsLeft, Told, CallersRead, none_read, some_read}
+use Rattle.ks_script.proofs.Leading.{leads_on, leads_none}
+use Rattle.ks_script.proofs.CallLines.{call_apart, one_call}
+
+pub reads_none : (G : Lines → Type 0) (bytes : List ℕ) → Reads G G bytes bytes 0
+reads_none G bytes = record { front = []; lines_are = refl; counted = refl; leads = leads_none G }
+
+pub reads_on : (G H K : Lines → Type 0) (a b c : List ℕ) (m n k : ℕ) → Reads G H a b m → Reads H K b c n → k ≡ m + n → Reads G K a c k
+reads_on G H K a b c m n k r s sum = record {
+  front = r.front ++ s.front;
+  lines_are = r.lines_are ∙ (ap (λ ls. r.front ++ ls) s.lines_are ∙ sym (append_assoc r.front s.front (lines_of c)));
+  counted = omega (arith, length-append r.front s.front, r.counted, s.counted);
+  leads = leads_on G H K r.front s.front r.leads s.leads;
+}
+
+-- the same beside another fact
+pub leads_beside : (P : Type 0) (G H : Lines → Type 0) (front : Lines) → Leads G H front → Leads (λ ls. P × G ls) (λ ls. P × H ls) front
+leads_beside P G H front a = record { into = λ ls h. (h.0, a.into ls h.1); only = λ ls h. (h.0, a.only ls h.1) }
+
+pub reads_beside : (P : Type 0) (G H : Lines → Type 0) (a b : List ℕ) (n : ℕ) → Reads G H a b n → Reads (λ ls. P × G ls) (λ ls. P × H ls) a b n
+reads_beside P G H a b n r = record { front = r.front; lines_are = r.lines_are; counted = r.counted; leads = leads_beside P G H r.front r.leads }
+
+-- some lines, and then one more
+pub reads_line : (G H K : Lines → Type 0) (bytes middle rest line : List ℕ) (m n : ℕ) → Reads G H bytes middle m → lines_of middle ≡ line ∷ lines_of rest → Leads H K (line ∷ []) → n ≡ m + 1 → Reads G K bytes rest n
+reads_line G H K bytes middle rest line m n r e step count = record {
+  front = r.front ++ line ∷ [];
+  lines_are = r.lines_are ∙ (ap (λ ls. r.front ++ ls) e ∙ sym (append_assoc r.front (line ∷ []) (lines_of rest)));
+  counted = omega (arith, length-append r.front (line ∷ []), r.counted);
+  leads = leads_on G H K r.front (line ∷ []) r.leads step;
+}
+
+-- the same in other words
+pub reads_as : (G H K L : Lines → Type 0) (bytes rest : List ℕ) (n : ℕ) → ((ls : Lines) → G ls → K ls) → ((ls : Lines) → K ls → G ls) → ((ls : Lines) → H ls → L ls) → ((ls : Lines) → L ls → H ls) → Reads G H bytes rest n → Reads K L bytes rest n
+reads_as G H K L bytes rest n to from on back r = record {
+  front = r.front;
+  lines_are = r.lines_are;
+  counted = r.counted;
+  leads = record { into = λ ls h. to (r.front ++ ls) (r.leads.into ls (back ls h)); only = λ ls h. on ls (r.leads.only ls (from (r.front ++ ls) h)) };
+}
+
+pub all_right : {X : Type 0} (P : X → Type 0) (a b : List X) → AllByRecursion P (a ++ b) → AllByRecursion P b
+all_right P [] b h = h
+all_right P (x ∷ a) b h = all_right P a b h.1
+
+pub all_push : {X : Type 0} (P : X → Type 0) (a : List X) (x : X) → AllByRecursion P a → P x → AllByRecursion P (a ++ x ∷ [])
+all_push P [] x h p = (p, tt)
+all_push P (y ∷ a) x h p = (h.0, all_push P a x h.1 p)
+
+pub calls_append : (a b : List (List Op)) → calls_in (a ++ b) ≡ calls_in a + calls_in b
+calls_append [] b = omega arith
+calls_append (ops ∷ a) b = omega (arith, calls_append a b)
+
+module _ (version : Version) where
+  -- lines that begin with a call
+  record Going (op : Op) (more : List Op) (others : List (List Op)) (behind ls : Lines) : Type 0 where
+    rest : List Op
+    more_is : more ≡ op ∷ rest
+    lines_are : ls ≡ map call_line rest ++ (script_lines others ++ behind)
+
+  going : (op : Op) (more : List Op) (others : List (List Op)) (behind ls : Lines) → IsCall version op → AllByRecursion (IsCall version) more → NoneFirst (IsCall version) call_line behind → call_line op ∷ ls ≡ map call_line more ++ (script_lines others ++ behind) → Going op more others behind ls
+  going op [] [] behind ls is each none e = absurd (subst (NoneFirst (IsCall version) call_line) (sym e) none op is refl)
+  going op [] (o ∷ others) behind ls is each none e = absurd (call_apart version op is (ap (λ (ls : Lines). get_or ls 0 []) e))
+  going op (m ∷ more) others behind ls is each none e = record {
+    rest = more;
+    more_is = ap (λ (x : Op). x ∷ more) (one_call version m op each.0 is (sym (ap (λ (ls : Lines). get_or ls 0 []) e)));
+    lines_are = ap (λ (ls : Lines). drop 1 ls) e;
+  }
+
+  pub call_step : (callers : List (List Op)) (ops : List Op) (script : List (List Op)) (behind : Lines) (op : Op) → IsCall version op → Leads (CallsLeft version callers ops script behind) (CallsLeft version callers (ops ++ op ∷ []) script behind) (call_line op ∷ [])
+  call_step callers ops script behind op is = record {
+    into = λ ls h. record {
+      is = h.is;
+      apart = h.apart;
+      more = op ∷ h.more;
+      others = h.others;
+      script_is = h.script_is ∙ ap (λ (xs : List Op). callers ++ xs ∷ h.others) (append_assoc ops (op ∷ []) h.more);
+      lines_are = ap (λ (ls : Lines). call_line op ∷ ls) h.lines_are;
+    };
+    only = λ ls h.
+        let each = all_right (IsCall version) ops h.more (all_right (AllByRecursion (IsCall version)) callers ((ops ++ h.more) ∷ h.others) (subst (AllByRecursion (AllByRecursion (IsCall version))) h.script_is h.is.each)).0 in
+        let g = going op h.more h.others behind ls is each h.apart.no_call h.lines_are in
+        record {
+          is = h.is;
+          apart = h.apart;
+          more = g.rest;
+          others = h.others;
+          script_is = h.script_is ∙ ap (λ (xs : List Op). callers ++ xs ∷ h.others) (ap (λ (xs : List Op). ops ++ xs) g.more_is ∙ sym (append_assoc ops (op ∷ []) g.rest));
+          lines_are = g.lines_are;
+        };
+  }
+
+  -- lines that begin with `caller`
+  record Opening (more : List Op) (others : List (List Op)) (behind ls : Lines) : Type 0 where
+    next : List Op
+    rest : List (List Op)
+    none : more ≡ []
+    others_are : others ≡ next ∷ rest
+    lines_are : ls ≡ map call_line next ++ (script_lines rest ++ behind)
+
+  opening : (more : List Op) (others : List (List Op)) (behind ls : Lines) → AllByRecursion (IsCall version) more → NotFirst (codes "caller") behind → codes "caller" ∷ ls ≡ map call_line more ++ (script_lines others ++ behind) → Opening more others behind ls
+  opening [] [] behind ls each apart e = absurd (subst (NotFirst (codes "caller")) (sym e) apart refl)
+  opening [] (o ∷ others) behind ls each apart e = record {
+    next = o;
+    rest = others;
+    none = refl;
+    others_are = refl;
+    lines_are = ap (λ (ls : Lines). drop 1 ls) (e ∙ append_assoc (codes "caller" ∷ map call_line o) (script_lines others) behind);
+  }
+  opening (m ∷ more) others behind ls each apart e = absurd (call_apart version m each.0 (sym (ap (λ (ls : Lines). get_or ls 0 []) e)))
+
+  pub caller_step : (callers : List (List Op)) (ops : List Op) (script : List (List Op)) (behind : Lines) → Leads (CallsLeft version callers ops script behind) (CallsLeft version (callers ++ ops ∷ []) [] script behind) (codes "caller" ∷ [])
+  caller_step callers ops script behind = record {
+    into = λ ls h. record {
+      is = h.is;
+      apart = h.apart;
+      more = [];
+      others = h.more ∷ h.others;
+      script_is = h.script_is ∙ (append_assoc callers (ops ∷ []) (h.more ∷ h.others) ∙ ap (λ (xs : List Op). callers ++ xs ∷ h.more ∷ h.others) (sym (append-nil ops)));
+      lines_are = ap (λ (ls : Lines). codes "caller" ∷ ls) h.lines_are ∙ sym (append_assoc (codes "caller" ∷ map call_line h.more) (script_lines h.others) behind);
+    };
+    only = λ ls h.
+        let each = all_right (IsCall version) ops h.more (all_right (AllByRecursion (IsCall version)) callers ((ops ++ h.more) ∷ h.others) (subst (AllByRecursion (AllByRecursion (IsCall version))) h.script_is h.is.each)).0 in
+        let g = opening h.more h.others behind ls each h.apart.no_caller h.lines_are in
+        record {
+          is = h.is;
+          apart = h.apart;
+          more = g.next;
+          others = g.rest;
+          script_is = h.script_is ∙ (ap (λ (xs : List Op). callers ++ (ops ++ xs) ∷ h.others) g.none ∙ (ap (λ (xs : List Op). callers ++ xs ∷ h.others) (append-nil ops) ∙ (ap (λ (xs : List (List Op)). callers ++ ops ∷ xs) g.others_are ∙ sym (append_assoc callers (ops ∷ []) (g.next ∷ g.rest)))));
+          lines_are = g.lines_are;
+        };
+  }
+
+  pub first_caller : (script : List (List Op)) (behind : Lines) → Leads (ScriptLeft version script behind) (CallsLeft version [] [] script behind) (codes "caller" ∷ [])
+  first_caller script behind = record {
+    into = λ ls h. record {
+      is = h.is;
+      apart = h.apart;
+      lines_are = ap (λ (ls : Lines). codes "caller" ∷ ls) h.lines_are ∙ (sym (append_assoc (codes "caller" ∷ map call_line h.more) (script_lines h.others) behind) ∙ ap (λ (s : List (List Op)). script_lines s ++ behind) (sym h.script_is));
+    };
+    only = λ ls h.
+        let g = opening [] script behind ls tt h.apart.no_caller h.lines_are in
+        record { is = h.is; apart = h.apart; more = g.next; others = g.rest; script_is = g.others_are; lines_are = g.lines_are };
+  }
+
+  -- no lines are left: the script is what was read
+  pub all_read : (callers : List (List Op)) (ops : List Op) (script : List (List Op)) → CallsLeft version callers ops script [] [] → script ≡ callers ++ ops ∷ []
+  all_read callers ops script h = by_more h.more h.others h.script_is h.lines_are
+    where
+      by_more : (more : List Op) (others : List (List Op)) → script ≡ callers ++ (ops ++ more) ∷ others → [] ≡ map call_line more ++ (script_lines others ++ []) → script ≡ callers ++ ops ∷ []
+      by_more [] [] e f = e ∙ ap (λ (xs : List Op). callers ++ xs ∷ []) (append-nil ops)
+      by_more [] (o ∷ others) e f = absurd (omega (arith, ap (λ (ls : Lines). length ls) f))
+      by_more (m ∷ more) others e f = absurd (omega (arith, ap (λ (ls : Lines). length ls) f))
+
+-- the version: where no line tells it, the first `caller` does
+told_first : (script : List (List Op)) (behind ls : Lines) → NotFirst (codes "script 2") behind → codes "script 2" ∷ ls ≡ script_lines script ++ behind → ⊥
+told_first [] behind ls apart e = subst (NotFirst (codes "script 2")) (sym e) apart refl
+told_first (o ∷ script) behind ls apart e = omega (arith, ap (λ (ls : Lines). get_or (get_or ls 0 []) 0 0) e)
+
+pub version_step : (w : Version) (script : List (List Op)) (behind : Lines) → Leads (TextLeft w script behind) (λ ls. (w ≡ Second) × ScriptLeft Second script behind ls) (codes "script 2" ∷ [])
+version_step First script behind = record {
+  into = λ ls h. absurd (let apart : First ≡ Second = h.0 in let no_way : ⊥ = cc in no_way);
+  only = λ ls h. absurd (told_first script behind ls h.apart.no_version h.lines_are);
+}
+version_step Second script behind = record {
+  into = λ ls h. record { is = h.1.is; apart = h.1.apart; lines_are = ap (λ (ls : Lines). codes "script 2" ∷ ls) h.1.lines_are };
+  only = λ ls h. (refl, record { is = h.is; apart = h.apart; lines_are = ap (λ (ls : Lines). drop 1 ls) h.lines_are });
+}
+
+pub untold_step : (w : Version) (script : List (List Op)) (behind : Lines) → Leads (TextLeft w script behind) (λ ls. (w ≡ First) × CallsLeft First [] [] script behind ls) (codes "caller" ∷ [])
+untold_step First script behind = record {
+  into = λ ls h. let f = (first_caller First script behind).into ls h.1 in record { is = f.is; apart = f.apart; lines_are = f.lines_are };
+  only = λ ls h. (refl, (first_caller First script behind).only ls (record { is = h.is; apart = h.apart; lines_are = h.lines_are }));
+}
+untold_step Second script behind = record {
+  into = λ ls h. absurd (let apart : Second ≡ First = h.0 in let no_way : ⊥ = cc in no_way);
+  only = λ ls h. absurd (omega (arith, ap (λ (ls : Lines). get_or (get_or ls 0 []) 0 0) h.lines_are));
+}
+
+-- the first `caller`, whether a line told the version or not
+told_step : (v w : Version) (script : List (List Op)) (behind : Lines) → Leads (Told v w script behind) (λ ls. (w ≡ v) × CallsLeft v [] [] script behind ls) (codes "caller" ∷ [])
+told_step First w script behind = untold_step w script behind
+told_step Second w script behind = leads_beside (w ≡ Second) (ScriptLeft Second script behind) (CallsLeft Second [] [] script behind) (codes "caller" ∷ []) (first_caller Second script behind)
+
+-- one caller more
+pub next_read : (v : Version) (bytes rest more left : List ℕ) (all : List (List Op)) (ops : List Op) (n k : ℕ) → CallersRead v all bytes rest n → lines_of rest ≡ codes "caller" ∷ lines_of more → ((callers script : List (List Op)) (behind : Lines) → Reads (CallsLeft v callers [] script behind) (CallsLeft v callers ops script behind) more left (length ops)) → k ≡ n + 1 + length ops → CallersRead v (all ++ ops ∷ []) bytes left k
+next_read v bytes rest more left all ops n k (none_read none r) line calls sum =
+    some_read [] ops (ap (λ (xs : List (List Op)). xs ++ ops ∷ []) none) (λ w s b.
+    reads_on (TextLeft w s b) (λ ls. (w ≡ v) × CallsLeft v [] [] s b ls) (λ ls. (w ≡ v) × CallsLeft v [] ops s b ls) bytes more left (n + 1) (length ops) k
+    (reads_line (TextLeft w s b) (Told v w s b) (λ ls. (w ≡ v) × CallsLeft v [] [] s b ls) bytes rest more (codes "caller") n (n + 1) (r w s b) line (told_step v w s b) refl)
+    (reads_beside (w ≡ v) (CallsLeft v [] [] s b) (CallsLeft v [] ops s b) more left (length ops) (calls [] s b)) sum)
+next_read v bytes rest more left all ops n k (some_read callers last all_are r) line calls sum =
+    some_read all ops refl (λ w s b.
+    reads_on (TextLeft w s b) (λ ls. (w ≡ v) × CallsLeft v all [] s b ls) (λ ls. (w ≡ v) × CallsLeft v all ops s b ls) bytes more left (n + 1) (length ops) k
+    (reads_line (TextLeft w s b) (λ ls. (w ≡ v) × CallsLeft v callers last s b ls) (λ ls. (w ≡ v) × CallsLeft v all [] s b ls) bytes rest more (codes "caller") n (n + 1) (r w s b) line
+    (subst (λ (xs : List (List Op)). Leads (λ ls. (w ≡ v) × CallsLeft v callers last s b ls) (λ ls. (w ≡ v) × CallsLeft v xs [] s b ls) (codes "caller" ∷ [])) (sym all_are)
+    (leads_beside (w ≡ v) (CallsLeft v callers last s b) (CallsLeft v (callers ++ last ∷ []) [] s b) (codes "caller" ∷ []) (caller_step v callers last s b))) refl)
+    (reads_beside (w ≡ v) (CallsLeft v all [] s b) (CallsLeft v all ops s b) more left (length ops) (calls all s b)) sum)

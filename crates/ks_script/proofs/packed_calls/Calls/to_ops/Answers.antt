@@ -1,0 +1,13 @@
+use Rattle.std.proofs.Common.{ℕ, ◌+◌, ◌∷◌, ◌++◌, [], List, take, sym, ap, ◌∙◌, ◌<◌, subst}
+use Rattle.std.proofs.lemmas.List.{take_more}
+use Rattle.ks_history.specs.declared.Op.{Op}
+use Rattle.ks_history.specs.declared.Op.TheVariants.{Get}
+use Rattle.ks_script.proofs.packed_calls.Calls.to_ops.Goals as goal
+
+pub loop-at-preserved : goal.loop-at-preserved
+loop-at-preserved c =
+    let calls = c.args.self.now in
+    let i : ℕ = c.loop-at.at in
+    c.in_ok-push.ensures.items
+    ∙ (ap (λ (ops : List Op). ops ++ c.get.result ∷ []) c.loop-at.invariant
+    ∙ (ap (λ (op : Op). take i calls ++ op ∷ []) c.get.ensures ∙ sym (take_more calls i (Get 0) (subst (λ (n : ℕ). i < n) c.len-at-end.ensures c.loop-at-test.true))))

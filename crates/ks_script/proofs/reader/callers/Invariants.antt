@@ -1,0 +1,18 @@
+use Rattle.std.proofs.Common.{◌≡◌, ◌+◌, ◌<◌, length}
+use Rattle.ks_script.specs.Lines.{lines_of}
+use Rattle.ks_script.specs.Script.{IsCall, IsScript, call_line, calls_in}
+use Rattle.ks_script.specs.Reads.{NoneFirst}
+use Rattle.ks_script.specs.Left.{HasBegun, CallersRead}
+use Rattle.ks_script.proofs.reader.callers.Given as goal
+
+abbrev pub invariant-callers : goal.invariant-callers
+invariant-callers l = record {
+  is : IsScript l.version l.callers.items;
+  reads : CallersRead l.version l.callers.items l.bytes l.rest (l.told + length l.callers.items + l.count);
+  calls : l.count ≡ calls_in l.callers.items;
+  begun : length l.callers.items ≡ 0 → HasBegun l.version (lines_of l.rest);
+  call : 0 < length l.callers.items → calls_in l.callers.items < 1048576 → NoneFirst (IsCall l.version) call_line (lines_of l.rest);
+}
+
+abbrev pub decreases-callers : goal.decreases-callers
+decreases-callers l = length l.rest

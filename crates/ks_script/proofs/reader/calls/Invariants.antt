@@ -1,0 +1,18 @@
+use Rattle.std.proofs.Common.{ℕ, ◌≤◌, List, [], length}
+use Rattle.std.specs.List.{AllByRecursion}
+use Rattle.ks_history.specs.declared.Op.{Op}
+use Rattle.ks_script.specs.Script.{IsCall}
+use Rattle.ks_script.specs.Reads.{Reads}
+use Rattle.ks_script.specs.Left.{CallsLeft}
+use Rattle.ks_script.proofs.reader.calls.Given as goal
+
+abbrev pub invariant-calls : goal.invariant-calls
+invariant-calls l = record {
+  each : AllByRecursion (IsCall l.version) l.calls;
+  within : length l.calls ≤ l.room;
+  reads : (callers script : List (List Op)) (behind : List (List ℕ)) → Reads (CallsLeft l.version callers [] script behind) (CallsLeft l.version callers l.calls script behind) l.bytes l.rest (length l.calls);
+  shorter : length l.rest ≤ length l.bytes;
+}
+
+abbrev pub decreases-calls : goal.decreases-calls
+decreases-calls l = length l.rest

@@ -1,0 +1,19 @@
+use Rattle.std.proofs.Common.{◌≡◌, ◌≤◌, ◌+◌, ◌^◌, List, [], length}
+use Rattle.ks_history.specs.declared.Op.{Op}
+use Rattle.ks_script.specs.Run.{Run}
+use Rattle.ks_script.specs.Checked.{AscendFrom}
+use Rattle.ks_script.specs.Reads.{Reads}
+use Rattle.ks_script.specs.RunLeft.{Replies, PairsLeft, next_key}
+use Rattle.ks_script.proofs.runs.pairs.Given as goal
+
+abbrev pub invariant-pairs : goal.invariant-pairs
+invariant-pairs l = record {
+  ascend : AscendFrom 0 l.pairs.items;
+  reads : (script : List (List Op)) (callers : List Replies) (run : Run) → Reads (PairsLeft script callers [] run) (PairsLeft script callers l.pairs.items run) l.bytes l.rest (length l.pairs.items);
+  shorter : length l.rest + length l.pairs.items ≤ length l.bytes;
+  least : l.least ≡ next_key 0 l.pairs.items;
+  small : l.least ≤ 2 ^ 64;
+}
+
+abbrev pub decreases-pairs : goal.decreases-pairs
+decreases-pairs l = length l.rest

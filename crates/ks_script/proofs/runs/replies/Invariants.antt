@@ -1,0 +1,19 @@
+use Rattle.std.proofs.Common.{ℕ, ◌≤◌, ◌+◌, List, [], length}
+use Rattle.std.specs.List.{AllByRecursion}
+use Rattle.ks_history.specs.declared.Op.{Op}
+use Rattle.ks_script.specs.Run.{Run}
+use Rattle.ks_script.specs.Checked.{IsAnswered}
+use Rattle.ks_script.specs.Reads.{Reads}
+use Rattle.ks_script.specs.RunLeft.{Replies, RepliesLeft}
+use Rattle.ks_script.proofs.runs.replies.Given as goal
+
+abbrev pub invariant-replies : goal.invariant-replies
+invariant-replies l = record {
+  each : AllByRecursion IsAnswered l.lines;
+  within : length l.lines ≤ l.wanted;
+  reads : (script : List (List Op)) (n : ℕ) (callers : List Replies) (run : Run) → Reads (RepliesLeft script n callers [] run) (RepliesLeft script n callers l.lines run) l.bytes l.rest (length l.lines);
+  shorter : length l.rest + length l.lines ≤ length l.bytes;
+}
+
+abbrev pub decreases-replies : goal.decreases-replies
+decreases-replies l = length l.rest

@@ -1,0 +1,108 @@
+//! The script at the front of a text: callers with their calls, as far as the lines go.
+
+ghost use Rattle.std.specs.Prelude.{ℕ, ◌≡◌, ◌≤◌, ◌<◌, ◌+◌, List, [], length, IfOk};
+ghost use Rattle.std.specs.List.{AllByRecursion};
+ghost use Rattle.ks_history.specs.declared.Op.{Op};
+ghost use Rattle.ks_script.specs.Lines.{lines_of};
+ghost use Rattle.ks_script.specs.Script.{IsCall, IsScript, call_line};
+ghost use Rattle.ks_script.specs.Reads.{NoneFirst, Reads};
+ghost use Rattle.ks_script.specs.Left.{HasBegun, CallsLeft, TextLeft, Told, CallersRead, Stops};
+ghost use Rattle.ks_script.specs.declared.version.Version.{Version};
+
+use crate::Calls;
+use crate::lines::{call, word_line};
+use crate::version::Version;
+use std::alloc::{AllocError, Global};
+
+/// The calls at the front, as many as there is room for, and the bytes after them.
+pub fn calls(
+    alloc: Global,
+    version: Version,
+    bytes: &[u8],
+    room: usize,
+) -> Result<(Calls, &[u8]), AllocError>
+    ensures each { IfOk result (λ x. AllByRecursion (IsCall version) x.0) }
+    ensures within { IfOk result (λ x. length x.0 ≤ room) }
+    ensures reads { IfOk result (λ x. (callers script : List (List Op)) (behind : List (List ℕ)) →
+        Reads (CallsLeft version callers [] script behind) (CallsLeft version callers x.0 script behind)
+        bytes.now x.1.now (length x.0)) }
+    ensures stops { IfOk result (λ x. length x.0 < room → NoneFirst (IsCall version) call_line (lines_of x.1.now)) }
+    ensures shorter { IfOk result (λ x. length x.1.now ≤ length bytes.now) }
+{
+    let mut calls = Calls::new(alloc);
+    let mut rest = bytes;
+    'calls: while calls.len() < room {
+        let Some((op, more)) = call(version, rest) else {
+            return Ok((calls, rest));
+        };
+        calls.push(op)?;
+        rest = more;
+    }
+    Ok((calls, rest))
+}
+
+// How many calls a script may have.
+const MOST_CALLS: usize = 1_048_576;
+
+/// The script at the front of a text: its version, its callers, how many lines it takes, and the bytes after it.
+#[derive(Drop)]
+pub struct Front<'a> {
+    pub version: Version,
+    pub callers: Vec<Calls>,
+    pub lines: u64,
+    pub rest: &'a [u8],
+}
+
+// The version that the first line tells, how many lines do so, and the bytes after them.
+fn version_of(bytes: &[u8]) -> (Version, usize, &[u8])
+    ensures reads { (w : Version) (script : List (List Op)) (behind : List (List ℕ)) →
+        Reads (TextLeft w script behind) (Told result.0 w script behind) bytes.now result.2.now result.1 }
+    ensures begun { HasBegun result.0 (lines_of result.2.now) }
+    ensures few { result.1 ≤ 1 }
+{
+    match word_line(bytes, b"script 2") {
+        Some(rest) => (Version::Second, 1, rest),
+        None => (Version::First, 0, bytes),
+    }
+}
+
+/// The script at the front, as far as the lines go.
+pub fn callers(alloc: Global, bytes: &[u8]) -> Result<Front<'_>, AllocError>
+    ensures is { IfOk result (λ f. IsScript f.version f.callers.items) }
+    ensures reads { IfOk result (λ f. CallersRead f.version f.callers.items bytes.now f.rest.now f.lines) }
+    ensures stops { IfOk result (λ f. Stops f.version f.callers.items (lines_of f.rest.now)) }
+    ensures few { IfOk result (λ f. f.lines ≤ 1 + 1024 + 1048576) }
+{
+    let (version, told, body) = version_of(bytes);
+    let most = version.most_callers();
+    let mut callers = Vec::new(alloc);
+    let mut count = 0;
+    let mut rest = body;
+    'callers: while callers.len() < most {
+        let Some(more) = word_line(rest, b"caller") else {
+            return Ok(ended(version, told, callers, count, rest));
+        };
+        let (ops, left) = calls(alloc, version, more, MOST_CALLS - count)?;
+        count += ops.len();
+        callers.push(ops)?;
+        rest = left;
+    }
+    Ok(ended(version, told, callers, count, rest))
+}
+
+// The lines that told the version, one for each caller, and one for each of their calls.
+fn ended(version: Version, told: usize, callers: Vec<Calls>, calls: usize, rest: &[u8]) -> Front<'_>
+    requires { told + length callers.items + calls ≤ 1 + 1024 + 1048576 }
+    ensures version { result.version ≡ version }
+    ensures callers { result.callers.items ≡ callers.items }
+    ensures lines { result.lines ≡ told + length callers.items + calls }
+    ensures rest { result.rest.now ≡ rest.now }
+{
+    let lines = (told + callers.len() + calls) as u64;
+    Front {
+        version,
+        callers,
+        lines,
+        rest,
+    }
+}
