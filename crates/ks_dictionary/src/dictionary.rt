@@ -1,5 +1,5 @@
 //! A dictionary: an arena, a technique, and keys for places.
-ghost use Rattle.std.specs.Prelude.{◌≡◌, ◌≤◌, [], IfOk, IsTrue, false};
+ghost use Rattle.std.specs.Prelude.{◌≡◌, ◌≢◌, ◌≤◌, [], IfOk, IsTrue, None, false};
 ghost use Rattle.std.specs.Result.{is_ok};
 ghost use Rattle.ks_history.specs.declared.Op.TheVariants.{Add, Del, Get, Put, Swap};
 ghost use Rattle.ks_history.specs.Map.{told};
@@ -11,6 +11,7 @@ ghost use Rattle.ks_arena.specs.Clauses.{EndsAll, noted, seen_of};
 ghost use Rattle.ks_arena.specs.Of.{HeldAlone, WasAlone, SameCaller, caller_of};
 ghost use Rattle.ks_shape.specs.Answers.{number_in, reply_in};
 ghost use Rattle.ks_shape.specs.Tries.{IsDoneIn, MayTell, PutMayTell};
+ghost use Rattle.ks_shape.specs.Upkeep.{AreNewLed, HasTwoFree, IsTidyIn, LeadsNew, LeavesTidy};
 ghost use Rattle.ks_dictionary.specs.Ended.{HasEndedWith, history};
 ghost use Rattle.ks_dictionary.specs.Of.{
   AreAllPassesOf,
@@ -24,6 +25,7 @@ ghost use Rattle.ks_dictionary.specs.Of.{
   IsNoteFrom,
   callers_of,
   nodes_of,
+  site_of,
 };
 
 use crate::closed::Closed;
@@ -98,6 +100,10 @@ impl<N: Node, T: Ruled + Template<N, Arena<N, <T as Ruled>::Rule>>> Dictionary<N
     /// `Full` comes only where the key has no value, its node has no room, and each node was not free at some moment of
     /// the call. Then the map is as before the call, which has its number in the history; splits that it made before
     /// stay.
+    ///
+    /// Along links the edge to a node that was split off is added once the call has been decided. It is there in the end if
+    /// no other caller did anything meanwhile and two nodes are free then, over B+ nodes: their branches adopt any edge
+    /// while they are not full, and their halves have room.
     pub fn put<R: Wait, G: Gate>(
         &self,
         rt: &R,
@@ -112,6 +118,9 @@ impl<N: Node, T: Ruled + Template<N, Arena<N, <T as Ruled>::Rule>>> Dictionary<N
         ensures done { HasCalledIn self.now T.technique (Put (N.Places.place_of key) value)
             pass.old pass.new (reply_in result) (number_in result) }
         ensures reuse { ReusesSafely T.Rule.lasts (seen_of pass.old) (seen_of pass.new) }
+        ensures led { LeadsNew T.technique → IsTrue N.branches_adopt → IsTrue N.halves_have_room →
+            WasAlone pass.old pass.new → HasTwoFree (site_of self.now) pass.new →
+            AreNewLed (site_of self.now) pass.old pass.new }
     {
         reuse_law::<T::Rule>();
         T::put(rt, &self.arena, pass, gate, N::Places::place(key), value)
@@ -121,7 +130,7 @@ impl<N: Node, T: Ruled + Template<N, Arena<N, <T as Ruled>::Rule>>> Dictionary<N
     ///
     /// # Errors
     ///
-    /// `Full` comes, and leaves the map, as for `put`.
+    /// `Full` comes, and leaves the map, as for `put`; edges are there as after `put`.
     pub fn add<R: Wait, G: Gate>(
         &self,
         rt: &R,
@@ -136,6 +145,9 @@ impl<N: Node, T: Ruled + Template<N, Arena<N, <T as Ruled>::Rule>>> Dictionary<N
         ensures done { HasCalledIn self.now T.technique (Add (N.Places.place_of key) value)
             pass.old pass.new (reply_in result) (number_in result) }
         ensures reuse { ReusesSafely T.Rule.lasts (seen_of pass.old) (seen_of pass.new) }
+        ensures led { LeadsNew T.technique → IsTrue N.branches_adopt → IsTrue N.halves_have_room →
+            WasAlone pass.old pass.new → HasTwoFree (site_of self.now) pass.new →
+            AreNewLed (site_of self.now) pass.old pass.new }
     {
         reuse_law::<T::Rule>();
         T::add(rt, &self.arena, pass, gate, N::Places::place(key), value)
@@ -163,7 +175,9 @@ impl<N: Node, T: Ruled + Template<N, Arena<N, <T as Ruled>::Rule>>> Dictionary<N
         T::swap(rt, &self.arena, pass, gate, N::Places::place(key), old, new)
     }
 
-    /// Deletes a key, and answers the value that it had.
+    /// Deletes a key, and answers the value that it had. If it had one, and no other caller did anything meanwhile, the
+    /// node whose keyset has the key's place is then not low, or fits with no right neighbour: by lock coupling and by
+    /// giving up, as no nodes are merged along links.
     pub fn del<R: Wait, G: Gate>(
         &self,
         rt: &R,
@@ -177,6 +191,8 @@ impl<N: Node, T: Ruled + Template<N, Arena<N, <T as Ruled>::Rule>>> Dictionary<N
         ensures done { HasCalledIn self.now T.technique (Del (N.Places.place_of key))
             pass.old pass.new (told result.found) result.number }
         ensures reuse { ReusesSafely T.Rule.lasts (seen_of pass.old) (seen_of pass.new) }
+        ensures tidy { LeavesTidy T.technique → result.found ≢ None →
+            WasAlone pass.old pass.new → IsTidyIn (site_of self.now) pass.new (N.Places.place_of key) }
     {
         reuse_law::<T::Rule>();
         T::del(rt, &self.arena, pass, gate, N::Places::place(key))

@@ -13,3 +13,5 @@ mod notes;
 mod tests;
 #[cfg(test)]
 mod tries;
+#[cfg(test)]
+mod upkeep;

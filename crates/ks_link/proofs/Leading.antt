@@ -20,7 +20,8 @@ use Rattle.ks_flow.specs.Link.{LastsUnderLink}
 use Rattle.ks_arena.specs.Sound.{Sort, blank_of}
 use Rattle.ks_shape.specs.Laws.Makes.{alone_with}
 use Rattle.ks_link.specs.declared.parts.Waiting.{Waiting}
-use Rattle.ks_link.specs.Leads.{AreLed, IsLedAfter, LedBut, Waits}
+use Rattle.ks_shape.specs.Upkeep.{AreLed}
+use Rattle.ks_link.specs.Leads.{IsLedAfter, LedBut, Waits}
 
 -- the changes name node i
 abbrev pub Names : List Change → ℕ → Type 0

@@ -39,10 +39,6 @@ module _ (sort : Sort) where
   abbrev pub LedBut : List Waiting → List Event → List Event → Type 0
   LedBut ws h k = (i : ℕ) → IsLive (graph_after k) i → IsLive (graph_after h) i ⊎ IsLedAfter k i ⊎ Waits ws i
 
-  -- each node that is live after k was live after h, or is led to
-  abbrev pub AreLed : List Event → List Event → Type 0
-  AreLed h k = (i : ℕ) → IsLive (graph_after k) i → IsLive (graph_after h) i ⊎ IsLedAfter k i
-
   module _ {N : Type 0} where
     -- so it is of the parts of a node: what was split off waits
     abbrev pub PartsLed : List Event → List Event → Result (Parted N) (Hand N) → Type 0

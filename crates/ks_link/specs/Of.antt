@@ -18,7 +18,7 @@ use Rattle.ks_shape.specs.Of.{IsLedTo}
 use Rattle.ks_link.specs.declared.parts.Parted.{Parted}
 use Rattle.ks_link.specs.declared.parts.Waiting.{Waiting}
 use Rattle.ks_link.specs.Descent.{IsOnWay}
-use Rattle.ks_link.specs.Leads.{LedBut, AreLed, PartsLed, Waits}
+use Rattle.ks_link.specs.Leads.{LedBut, PartsLed, Waits}
 use Rattle.ks_link.specs.Parts.{IsAlone, IsSplitOff, HoldsHalf}
 use Rattle.ks_link.specs.Puts.{MadeRoom}
 use Rattle.ks_link.specs.Tries.{Enters, GoesOn, Finds, IsHeldAbove}
@@ -27,6 +27,7 @@ use Rattle.ks_shape.specs.declared.answers.Later.{Later}
 use Rattle.ks_shape.specs.declared.answers.Numbered.{Numbered}
 use Rattle.ks_shape.specs.Answers.{number_in, reply_in}
 use Rattle.ks_shape.specs.Fills.{FoundRoom}
+use Rattle.ks_shape.specs.Upkeep.{AreLed}
 
 module _ {N D : Type 0} where
   -- the pass holds these two nodes, the second taken last; these three

@@ -22,4 +22,5 @@ pub mod Next
 pub mod OnPath
 pub mod Paths
 pub mod TryPaths
+pub mod Upkeep
 pub mod Laws

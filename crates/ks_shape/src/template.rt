@@ -1,6 +1,6 @@
 //! What a technique of concurrency offers: five calls, each of which stands once in the one history of all calls; and such
 //! as wait for nobody, which stand there once, or are put off.
-ghost use Rattle.std.specs.Prelude.{◌≡◌, false};
+ghost use Rattle.std.specs.Prelude.{◌≡◌, ◌≢◌, IsTrue, None, false};
 ghost use Rattle.ks_history.specs.declared.Op.TheVariants.{Add, Del, Get, Put, Swap};
 ghost use Rattle.ks_history.specs.Map.{told};
 ghost use Rattle.ks_history.specs.Done.{Template as Technique};
@@ -9,7 +9,8 @@ ghost use Rattle.ks_shape.specs.Answers.{number_in, reply_in};
 ghost use Rattle.ks_shape.specs.Idle.{IsDone, IsIdle, Site};
 ghost use Rattle.ks_shape.specs.Tries.{HasTried, HasTriedPut};
 ghost use Rattle.ks_shape.specs.Ends.{HasEndedPut};
-ghost use Rattle.ks_arena.specs.Of.{SameCaller};
+ghost use Rattle.ks_shape.specs.Upkeep.{AreNewLed, HasTwoFree, IsTidyIn, LeadsNew, LeavesTidy};
+ghost use Rattle.ks_arena.specs.Of.{SameCaller, WasAlone};
 
 use crate::answers::{Full, Later, Numbered, PutLater};
 use ks_arena::{Arena, Pass};
@@ -74,6 +75,10 @@ pub trait Template<N: Node, A: Shelf>: Ruled {
     /// `Full` comes only where no value stands at the place, its node has no room, and each node was not free at some
     /// moment of the call. Then the map is as before the call, which has its number in the history; splits that it
     /// made before stay.
+    ///
+    /// Along links the edge to a node that was split off is added once the call has been decided. It is there in the end if
+    /// no other caller did anything meanwhile and two nodes are free then, over nodes whose branches adopt any edge while
+    /// they are not full, and whose halves have room.
     fn put<R: Wait, G: Gate>(
         rt: &R,
         arena: &A,
@@ -86,13 +91,16 @@ pub trait Template<N: Node, A: Shelf>: Ruled {
         ensures pass { IsIdle (A.site arena.now) pass.new }
         ensures caller { SameCaller pass.old pass.new }
         ensures done { IsDone N.layout Self.technique (A.site arena.now) (Put place value)
-            pass.old pass.new (reply_in result) (number_in result) };
+            pass.old pass.new (reply_in result) (number_in result) }
+        ensures led { LeadsNew Self.technique → IsTrue N.branches_adopt → IsTrue N.halves_have_room →
+            WasAlone pass.old pass.new → HasTwoFree (A.site arena.now) pass.new →
+            AreNewLed (A.site arena.now) pass.old pass.new };
 
     /// Sets the value at a place where none stands, and answers the one that stood there: where one did, it stays.
     ///
     /// # Errors
     ///
-    /// `Full` comes, and leaves the map, as for `put`.
+    /// `Full` comes, and leaves the map, as for `put`; edges are there as after `put`.
     fn add<R: Wait, G: Gate>(
         rt: &R,
         arena: &A,
@@ -105,7 +113,10 @@ pub trait Template<N: Node, A: Shelf>: Ruled {
         ensures pass { IsIdle (A.site arena.now) pass.new }
         ensures caller { SameCaller pass.old pass.new }
         ensures done { IsDone N.layout Self.technique (A.site arena.now) (Add place value)
-            pass.old pass.new (reply_in result) (number_in result) };
+            pass.old pass.new (reply_in result) (number_in result) }
+        ensures led { LeadsNew Self.technique → IsTrue N.branches_adopt → IsTrue N.halves_have_room →
+            WasAlone pass.old pass.new → HasTwoFree (A.site arena.now) pass.new →
+            AreNewLed (A.site arena.now) pass.old pass.new };
 
     /// Sets the value at a place to `new` where `old` stands, and answers the one that stood there: it was set exactly
     /// where that is `old`.
@@ -124,7 +135,9 @@ pub trait Template<N: Node, A: Shelf>: Ruled {
         ensures done { IsDone N.layout Self.technique (A.site arena.now) (Swap place old new)
             pass.old pass.new (told result.found) result.number };
 
-    /// Deletes what stands at a place, and answers it.
+    /// Deletes what stands at a place, and answers it. If it removed a pair while no other caller did anything, the node
+    /// whose keyset has the place is then not low, or fits with no right neighbour: under trees, as no nodes are merged
+    /// along links.
     fn del<R: Wait, G: Gate>(
         rt: &R,
         arena: &A,
@@ -136,7 +149,9 @@ pub trait Template<N: Node, A: Shelf>: Ruled {
         ensures pass { IsIdle (A.site arena.now) pass.new }
         ensures caller { SameCaller pass.old pass.new }
         ensures done { IsDone N.layout Self.technique (A.site arena.now) (Del place)
-            pass.old pass.new (told result.found) result.number };
+            pass.old pass.new (told result.found) result.number }
+        ensures tidy { LeavesTidy Self.technique → result.found ≢ None →
+            WasAlone pass.old pass.new → IsTidyIn (A.site arena.now) pass.new place };
 
     /// Answers the value at a place, and waits for nobody.
     ///
