@@ -10,6 +10,7 @@ ghost use Rattle.ks_arena.specs.Sound.{sort_of, Sound};
 ghost use Rattle.ks_arena.specs.Clauses.{EndsAll, noted, seen_of};
 ghost use Rattle.ks_arena.specs.Of.{HeldAlone, WasAlone, SameCaller, caller_of};
 ghost use Rattle.ks_shape.specs.Answers.{number_in, reply_in};
+ghost use Rattle.ks_shape.specs.Does.{OnlyDels, OnlyFills, OnlySearches};
 ghost use Rattle.ks_shape.specs.Tries.{IsDoneIn, MayTell, PutMayTell};
 ghost use Rattle.ks_dictionary.specs.Ended.{HasEndedWith, history};
 ghost use Rattle.ks_dictionary.specs.Of.{
@@ -83,6 +84,7 @@ impl<N: Node, T: Ruled + Template<N, Arena<N, <T as Ruled>::Rule>>> Dictionary<N
         requires pass { IsIdlePassOf self.now pass.old }
         ensures pass { IsIdlePassOf self.now pass.new }
         ensures caller { SameCaller pass.old pass.new }
+        ensures leaves { OnlySearches pass.old pass.new }
         ensures done { HasCalledIn self.now T.technique (Get (N.Places.place_of key))
             pass.old pass.new (told result.found) result.number }
         ensures reuse { ReusesSafely T.Rule.lasts (seen_of pass.old) (seen_of pass.new) }
@@ -109,6 +111,7 @@ impl<N: Node, T: Ruled + Template<N, Arena<N, <T as Ruled>::Rule>>> Dictionary<N
         requires pass { IsIdlePassOf self.now pass.old }
         ensures pass { IsIdlePassOf self.now pass.new }
         ensures caller { SameCaller pass.old pass.new }
+        ensures fills { OnlyFills N.layout N.ranged (N.Places.place_of key) pass.old pass.new }
         ensures done { HasCalledIn self.now T.technique (Put (N.Places.place_of key) value)
             pass.old pass.new (reply_in result) (number_in result) }
         ensures reuse { ReusesSafely T.Rule.lasts (seen_of pass.old) (seen_of pass.new) }
@@ -133,6 +136,7 @@ impl<N: Node, T: Ruled + Template<N, Arena<N, <T as Ruled>::Rule>>> Dictionary<N
         requires pass { IsIdlePassOf self.now pass.old }
         ensures pass { IsIdlePassOf self.now pass.new }
         ensures caller { SameCaller pass.old pass.new }
+        ensures fills { OnlyFills N.layout N.ranged (N.Places.place_of key) pass.old pass.new }
         ensures done { HasCalledIn self.now T.technique (Add (N.Places.place_of key) value)
             pass.old pass.new (reply_in result) (number_in result) }
         ensures reuse { ReusesSafely T.Rule.lasts (seen_of pass.old) (seen_of pass.new) }
@@ -155,6 +159,7 @@ impl<N: Node, T: Ruled + Template<N, Arena<N, <T as Ruled>::Rule>>> Dictionary<N
         requires pass { IsIdlePassOf self.now pass.old }
         ensures pass { IsIdlePassOf self.now pass.new }
         ensures caller { SameCaller pass.old pass.new }
+        ensures leaves { OnlySearches pass.old pass.new }
         ensures done { HasCalledIn self.now T.technique (Swap (N.Places.place_of key) old new)
             pass.old pass.new (told result.found) result.number }
         ensures reuse { ReusesSafely T.Rule.lasts (seen_of pass.old) (seen_of pass.new) }
@@ -174,6 +179,7 @@ impl<N: Node, T: Ruled + Template<N, Arena<N, <T as Ruled>::Rule>>> Dictionary<N
         requires pass { IsIdlePassOf self.now pass.old }
         ensures pass { IsIdlePassOf self.now pass.new }
         ensures caller { SameCaller pass.old pass.new }
+        ensures dels { OnlyDels N.layout N.ranged pass.old pass.new }
         ensures done { HasCalledIn self.now T.technique (Del (N.Places.place_of key))
             pass.old pass.new (told result.found) result.number }
         ensures reuse { ReusesSafely T.Rule.lasts (seen_of pass.old) (seen_of pass.new) }
@@ -200,6 +206,7 @@ impl<N: Node, T: Ruled + Template<N, Arena<N, <T as Ruled>::Rule>>> Dictionary<N
         requires pass { IsIdlePassOf self.now pass.old }
         ensures pass { IsIdlePassOf self.now pass.new }
         ensures caller { SameCaller pass.old pass.new }
+        ensures leaves { OnlySearches pass.old pass.new }
         ensures tried { HasTriedIn self.now T.technique (Get (N.Places.place_of key)) pass.old pass.new result }
         ensures never { MayTell T.technique result }
         ensures alone { WasAlone pass.old pass.new → HeldAlone pass.old → IsTrue (is_ok result) }
@@ -228,6 +235,7 @@ impl<N: Node, T: Ruled + Template<N, Arena<N, <T as Ruled>::Rule>>> Dictionary<N
         requires pass { IsIdlePassOf self.now pass.old }
         ensures pass { IsIdlePassOf self.now pass.new }
         ensures caller { SameCaller pass.old pass.new }
+        ensures fills { OnlyFills N.layout N.ranged (N.Places.place_of key) pass.old pass.new }
         ensures ends { HasEndedPutIn self.now T.technique (Put (N.Places.place_of key) value) pass.old pass.new result }
         ensures tried { N.in_place ≡ false →
             HasTriedPutIn self.now T.technique (Put (N.Places.place_of key) value) pass.old pass.new result }
@@ -256,6 +264,7 @@ impl<N: Node, T: Ruled + Template<N, Arena<N, <T as Ruled>::Rule>>> Dictionary<N
         requires pass { IsIdlePassOf self.now pass.old }
         ensures pass { IsIdlePassOf self.now pass.new }
         ensures caller { SameCaller pass.old pass.new }
+        ensures fills { OnlyFills N.layout N.ranged (N.Places.place_of key) pass.old pass.new }
         ensures ends { HasEndedPutIn self.now T.technique (Add (N.Places.place_of key) value) pass.old pass.new result }
         ensures tried { N.in_place ≡ false →
             HasTriedPutIn self.now T.technique (Add (N.Places.place_of key) value) pass.old pass.new result }
@@ -285,6 +294,7 @@ impl<N: Node, T: Ruled + Template<N, Arena<N, <T as Ruled>::Rule>>> Dictionary<N
         requires pass { IsIdlePassOf self.now pass.old }
         ensures pass { IsIdlePassOf self.now pass.new }
         ensures caller { SameCaller pass.old pass.new }
+        ensures leaves { OnlySearches pass.old pass.new }
         ensures tried { HasTriedIn self.now T.technique (Swap (N.Places.place_of key) old new)
             pass.old pass.new result }
         ensures never { MayTell T.technique result }
@@ -311,6 +321,7 @@ impl<N: Node, T: Ruled + Template<N, Arena<N, <T as Ruled>::Rule>>> Dictionary<N
         requires pass { IsIdlePassOf self.now pass.old }
         ensures pass { IsIdlePassOf self.now pass.new }
         ensures caller { SameCaller pass.old pass.new }
+        ensures dels { OnlyDels N.layout N.ranged pass.old pass.new }
         ensures tried { HasTriedIn self.now T.technique (Del (N.Places.place_of key)) pass.old pass.new result }
         ensures never { MayTell T.technique result }
         ensures alone { WasAlone pass.old pass.new → HeldAlone pass.old → IsTrue (is_ok result) }
