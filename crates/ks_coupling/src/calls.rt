@@ -7,6 +7,7 @@ ghost use Rattle.ks_shape.specs.Answers.{number_in, reply_in};
 ghost use Rattle.ks_arena.specs.Of.{IsEmptyPassOf, WasAlone, SameCaller};
 ghost use Rattle.ks_shape.specs.Of.{DoneOf};
 ghost use Rattle.ks_tidy.specs.Of.{IsTidyOf};
+ghost use Rattle.ks_shape.specs.Does.{OnlyDels, OnlyFills, OnlySearches};
 
 use crate::descent::find;
 use ks_arena::{Arena, Pass};
@@ -29,6 +30,7 @@ pub fn get<N: Unlinked, R: Wait, G: Gate>(
     requires pass { IsEmptyPassOf arena.now pass.old }
     ensures pass { IsEmptyPassOf arena.now pass.new }
     ensures caller { SameCaller pass.old pass.new }
+    ensures leaves { OnlySearches pass.old pass.new }
     ensures done { DoneOf arena.now coupling (Get place) pass.old pass.new (told result.found) result.number }
 {
     let held = find(rt, arena, pass, gate, place);
@@ -52,6 +54,7 @@ pub fn put<N: Unlinked, R: Wait, G: Gate>(
     requires pass { IsEmptyPassOf arena.now pass.old }
     ensures pass { IsEmptyPassOf arena.now pass.new }
     ensures caller { SameCaller pass.old pass.new }
+    ensures fills { OnlyFills N.layout N.ranged place pass.old pass.new }
     ensures done { DoneOf arena.now coupling (Put place value) pass.old pass.new (reply_in result) (number_in result) }
 {
     gate.at(pass.caller(), Point::Begin);
@@ -75,6 +78,7 @@ pub fn add<N: Unlinked, R: Wait, G: Gate>(
     requires pass { IsEmptyPassOf arena.now pass.old }
     ensures pass { IsEmptyPassOf arena.now pass.new }
     ensures caller { SameCaller pass.old pass.new }
+    ensures fills { OnlyFills N.layout N.ranged place pass.old pass.new }
     ensures done { DoneOf arena.now coupling (Add place value) pass.old pass.new (reply_in result) (number_in result) }
 {
     gate.at(pass.caller(), Point::Begin);
@@ -95,14 +99,16 @@ pub fn swap<N: Unlinked, R: Wait, G: Gate>(
     requires pass { IsEmptyPassOf arena.now pass.old }
     ensures pass { IsEmptyPassOf arena.now pass.new }
     ensures caller { SameCaller pass.old pass.new }
+    ensures leaves { OnlySearches pass.old pass.new }
     ensures done { DoneOf arena.now coupling (Swap place old new) pass.old pass.new (told result.found) result.number }
 {
     let held = find(rt, arena, pass, gate, place);
     swap_here(arena, pass, gate, place, old, new, held)
 }
 
-/// Deletes what stands at a place; answers the value that stood there, and the number of the call. On its way it merges low
-/// branches, and, if it removed a pair, at its end the node while that is low. It holds three nodes at most.
+/// Deletes what stands at a place; answers the value that stood there, and the number of the call. On its way it may merge
+/// low branches; if it removed a pair, it merges the node at its end while that is low. It claims no node and splits none.
+/// It holds three nodes at most.
 pub fn del<N: Unlinked, R: Wait, G: Gate>(
     rt: &R,
     arena: &Arena<N, Tree>,
@@ -113,6 +119,7 @@ pub fn del<N: Unlinked, R: Wait, G: Gate>(
     requires pass { IsEmptyPassOf arena.now pass.old }
     ensures pass { IsEmptyPassOf arena.now pass.new }
     ensures caller { SameCaller pass.old pass.new }
+    ensures dels { OnlyDels N.layout N.ranged pass.old pass.new }
     ensures done { DoneOf arena.now coupling (Del place) pass.old pass.new (told result.found) result.number }
     ensures tidy { result.found ≢ None → WasAlone pass.old pass.new → IsTidyOf arena.now pass.new place }
 {

@@ -5,6 +5,7 @@ ghost use Rattle.ks_node.specs.declared.start.Next.TheVariants.{Go};
 ghost use Rattle.ks_node.specs.Body.{next_at};
 ghost use Rattle.ks_arena.specs.Of.{IsPassOf, IsEmptyPassOf, SameCaller, caller_of};
 ghost use Rattle.ks_shape.specs.Of.{IsUnderway, StaysUnderway, IsOnWayOf, SearchEndsAt};
+ghost use Rattle.ks_shape.specs.Does.{OnlySearches};
 
 use ks_arena::{Arena, Held, Pass};
 use ks_flow::Tree;
@@ -28,6 +29,7 @@ fn go_on<N: Unlinked, R: Wait, G: Gate>(
     requires goes { next_at (N.body held.body) place ≡ Go child }
     ensures pass { IsPassOf arena.now pass.new }
     ensures caller { SameCaller pass.old pass.new }
+    ensures leaves { OnlySearches pass.old pass.new }
     ensures way { IsOnWayOf arena.now (caller_of pass.old) place pass.new result }
     ensures under { StaysUnderway coupling pass.old pass.new }
 {
@@ -46,6 +48,7 @@ pub(crate) fn find<N: Unlinked, R: Wait, G: Gate>(
     requires pass { IsEmptyPassOf arena.now pass.old }
     ensures pass { IsPassOf arena.now pass.new }
     ensures caller { SameCaller pass.old pass.new }
+    ensures leaves { OnlySearches pass.old pass.new }
     ensures ends { SearchEndsAt arena.now place pass.new result }
     ensures under { IsUnderway coupling pass.old pass.new }
 {

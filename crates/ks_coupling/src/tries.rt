@@ -4,6 +4,7 @@ ghost use Rattle.ks_history.specs.declared.Op.TheVariants.{Del, Get, Swap};
 ghost use Rattle.ks_history.specs.Done.{coupling};
 ghost use Rattle.ks_arena.specs.Of.{IsEmptyPassOf, SameCaller};
 ghost use Rattle.ks_shape.specs.Of.{TriedOf};
+ghost use Rattle.ks_shape.specs.Does.{OnlyDels, OnlySearches};
 
 use crate::try_descent::try_find;
 use ks_arena::{Arena, Pass};
@@ -28,6 +29,7 @@ pub fn try_get<N: Unlinked, G: Gate>(
     requires pass { IsEmptyPassOf arena.now pass.old }
     ensures pass { IsEmptyPassOf arena.now pass.new }
     ensures caller { SameCaller pass.old pass.new }
+    ensures leaves { OnlySearches pass.old pass.new }
     ensures tried { TriedOf arena.now coupling (Get place) pass.old pass.new result }
 {
     match try_find(arena, pass, gate, place) {
@@ -53,6 +55,7 @@ pub fn try_swap<N: Unlinked, G: Gate>(
     requires pass { IsEmptyPassOf arena.now pass.old }
     ensures pass { IsEmptyPassOf arena.now pass.new }
     ensures caller { SameCaller pass.old pass.new }
+    ensures leaves { OnlySearches pass.old pass.new }
     ensures tried { TriedOf arena.now coupling (Swap place old new) pass.old pass.new result }
 {
     match try_find(arena, pass, gate, place) {
@@ -77,6 +80,7 @@ pub fn try_del<N: Unlinked, G: Gate>(
     requires pass { IsEmptyPassOf arena.now pass.old }
     ensures pass { IsEmptyPassOf arena.now pass.new }
     ensures caller { SameCaller pass.old pass.new }
+    ensures dels { OnlyDels N.layout N.ranged pass.old pass.new }
     ensures tried { TriedOf arena.now coupling (Del place) pass.old pass.new result }
 {
     match try_find(arena, pass, gate, place) {

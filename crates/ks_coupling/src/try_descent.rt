@@ -6,6 +6,7 @@ ghost use Rattle.ks_node.specs.Body.{next_at};
 ghost use Rattle.ks_arena.specs.Of.{IsPassOf, IsEmptyPassOf, SameCaller, caller_of};
 ghost use Rattle.ks_shape.specs.Of.{IsUnderway, StaysUnderway, IsOnWayOf};
 ghost use Rattle.ks_shape.specs.Descents.{StandsAtRoot, GoesDownFrom, CameToEnd};
+ghost use Rattle.ks_shape.specs.Does.{OnlySearches};
 
 use ks_arena::laws::sound_law;
 use ks_arena::{Arena, Held, Pass};
@@ -24,6 +25,7 @@ fn try_begin<N: Unlinked, G: Gate>(
     requires pass { IsEmptyPassOf arena.now pass.old }
     ensures pass { IsPassOf arena.now pass.new }
     ensures caller { SameCaller pass.old pass.new }
+    ensures leaves { OnlySearches pass.old pass.new }
     ensures came { StandsAtRoot arena.now coupling place pass.old pass.new result }
     ensures under { IsUnderway coupling pass.old pass.new }
 {
@@ -48,6 +50,7 @@ fn try_go_on<N: Unlinked, G: Gate>(
     requires goes { next_at (N.body held.body) place ≡ Go child }
     ensures pass { IsPassOf arena.now pass.new }
     ensures caller { SameCaller pass.old pass.new }
+    ensures leaves { OnlySearches pass.old pass.new }
     ensures came { GoesDownFrom arena.now coupling place pass.old pass.new held result }
     ensures under { StaysUnderway coupling pass.old pass.new }
 {
@@ -69,6 +72,7 @@ pub(crate) fn try_find<N: Unlinked, G: Gate>(
     requires pass { IsEmptyPassOf arena.now pass.old }
     ensures pass { IsPassOf arena.now pass.new }
     ensures caller { SameCaller pass.old pass.new }
+    ensures leaves { OnlySearches pass.old pass.new }
     ensures came { CameToEnd arena.now coupling place pass.old pass.new result }
     ensures under { IsUnderway coupling pass.old pass.new }
 {

@@ -6,6 +6,7 @@ ghost use Rattle.ks_arena.specs.Of.{IsEmptyPassOf, SameCaller};
 ghost use Rattle.ks_shape.specs.Ends.{EndsPutOf};
 ghost use Rattle.ks_shape.specs.Fills.{filling};
 ghost use Rattle.ks_shape.specs.Of.{TriedPutOf};
+ghost use Rattle.ks_shape.specs.Does.{OnlyFills};
 
 use ks_arena::{Arena, Pass};
 use ks_flow::Tree;
@@ -25,6 +26,7 @@ fn try_fill<N: Unlinked, G: Gate>(
     requires pass { IsEmptyPassOf arena.now pass.old }
     ensures pass { IsEmptyPassOf arena.now pass.new }
     ensures caller { SameCaller pass.old pass.new }
+    ensures fills { OnlyFills N.layout N.ranged place pass.old pass.new }
     ensures ends { EndsPutOf arena.now coupling (filling place fill) pass.old pass.new result }
     ensures tried { N.in_place ≡ false →
         TriedPutOf arena.now coupling (filling place fill) pass.old pass.new result }
@@ -52,6 +54,7 @@ pub fn try_put<N: Unlinked, G: Gate>(
     requires pass { IsEmptyPassOf arena.now pass.old }
     ensures pass { IsEmptyPassOf arena.now pass.new }
     ensures caller { SameCaller pass.old pass.new }
+    ensures fills { OnlyFills N.layout N.ranged place pass.old pass.new }
     ensures ends { EndsPutOf arena.now coupling (Put place value) pass.old pass.new result }
     ensures tried { N.in_place ≡ false →
         TriedPutOf arena.now coupling (Put place value) pass.old pass.new result }
@@ -75,6 +78,7 @@ pub fn try_add<N: Unlinked, G: Gate>(
     requires pass { IsEmptyPassOf arena.now pass.old }
     ensures pass { IsEmptyPassOf arena.now pass.new }
     ensures caller { SameCaller pass.old pass.new }
+    ensures fills { OnlyFills N.layout N.ranged place pass.old pass.new }
     ensures ends { EndsPutOf arena.now coupling (Add place value) pass.old pass.new result }
     ensures tried { N.in_place ≡ false →
         TriedPutOf arena.now coupling (Add place value) pass.old pass.new result }

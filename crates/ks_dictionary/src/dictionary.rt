@@ -10,6 +10,7 @@ ghost use Rattle.ks_arena.specs.Sound.{sort_of, Sound};
 ghost use Rattle.ks_arena.specs.Clauses.{EndsAll, noted, seen_of};
 ghost use Rattle.ks_arena.specs.Of.{HeldAlone, WasAlone, SameCaller, caller_of};
 ghost use Rattle.ks_shape.specs.Answers.{number_in, reply_in};
+ghost use Rattle.ks_shape.specs.Does.{OnlyDels, OnlyFills, OnlySearches};
 ghost use Rattle.ks_shape.specs.Tries.{IsDoneIn, MayTell, PutMayTell};
 ghost use Rattle.ks_shape.specs.Upkeep.{AreNewLed, HasTwoFree, IsTidyIn, LeadsNew, LeavesTidy};
 ghost use Rattle.ks_dictionary.specs.Ended.{HasEndedWith, history};
@@ -85,6 +86,7 @@ impl<N: Node, T: Ruled + Template<N, Arena<N, <T as Ruled>::Rule>>> Dictionary<N
         requires pass { IsIdlePassOf self.now pass.old }
         ensures pass { IsIdlePassOf self.now pass.new }
         ensures caller { SameCaller pass.old pass.new }
+        ensures leaves { OnlySearches pass.old pass.new }
         ensures done { HasCalledIn self.now T.technique (Get (N.Places.place_of key))
             pass.old pass.new (told result.found) result.number }
         ensures reuse { ReusesSafely T.Rule.lasts (seen_of pass.old) (seen_of pass.new) }
@@ -115,6 +117,7 @@ impl<N: Node, T: Ruled + Template<N, Arena<N, <T as Ruled>::Rule>>> Dictionary<N
         requires pass { IsIdlePassOf self.now pass.old }
         ensures pass { IsIdlePassOf self.now pass.new }
         ensures caller { SameCaller pass.old pass.new }
+        ensures fills { OnlyFills N.layout N.ranged (N.Places.place_of key) pass.old pass.new }
         ensures done { HasCalledIn self.now T.technique (Put (N.Places.place_of key) value)
             pass.old pass.new (reply_in result) (number_in result) }
         ensures reuse { ReusesSafely T.Rule.lasts (seen_of pass.old) (seen_of pass.new) }
@@ -142,6 +145,7 @@ impl<N: Node, T: Ruled + Template<N, Arena<N, <T as Ruled>::Rule>>> Dictionary<N
         requires pass { IsIdlePassOf self.now pass.old }
         ensures pass { IsIdlePassOf self.now pass.new }
         ensures caller { SameCaller pass.old pass.new }
+        ensures fills { OnlyFills N.layout N.ranged (N.Places.place_of key) pass.old pass.new }
         ensures done { HasCalledIn self.now T.technique (Add (N.Places.place_of key) value)
             pass.old pass.new (reply_in result) (number_in result) }
         ensures reuse { ReusesSafely T.Rule.lasts (seen_of pass.old) (seen_of pass.new) }
@@ -167,6 +171,7 @@ impl<N: Node, T: Ruled + Template<N, Arena<N, <T as Ruled>::Rule>>> Dictionary<N
         requires pass { IsIdlePassOf self.now pass.old }
         ensures pass { IsIdlePassOf self.now pass.new }
         ensures caller { SameCaller pass.old pass.new }
+        ensures leaves { OnlySearches pass.old pass.new }
         ensures done { HasCalledIn self.now T.technique (Swap (N.Places.place_of key) old new)
             pass.old pass.new (told result.found) result.number }
         ensures reuse { ReusesSafely T.Rule.lasts (seen_of pass.old) (seen_of pass.new) }
@@ -188,6 +193,7 @@ impl<N: Node, T: Ruled + Template<N, Arena<N, <T as Ruled>::Rule>>> Dictionary<N
         requires pass { IsIdlePassOf self.now pass.old }
         ensures pass { IsIdlePassOf self.now pass.new }
         ensures caller { SameCaller pass.old pass.new }
+        ensures dels { OnlyDels N.layout N.ranged pass.old pass.new }
         ensures done { HasCalledIn self.now T.technique (Del (N.Places.place_of key))
             pass.old pass.new (told result.found) result.number }
         ensures reuse { ReusesSafely T.Rule.lasts (seen_of pass.old) (seen_of pass.new) }
@@ -216,6 +222,7 @@ impl<N: Node, T: Ruled + Template<N, Arena<N, <T as Ruled>::Rule>>> Dictionary<N
         requires pass { IsIdlePassOf self.now pass.old }
         ensures pass { IsIdlePassOf self.now pass.new }
         ensures caller { SameCaller pass.old pass.new }
+        ensures leaves { OnlySearches pass.old pass.new }
         ensures tried { HasTriedIn self.now T.technique (Get (N.Places.place_of key)) pass.old pass.new result }
         ensures never { MayTell T.technique result }
         ensures alone { WasAlone pass.old pass.new → HeldAlone pass.old → IsTrue (is_ok result) }
@@ -244,6 +251,7 @@ impl<N: Node, T: Ruled + Template<N, Arena<N, <T as Ruled>::Rule>>> Dictionary<N
         requires pass { IsIdlePassOf self.now pass.old }
         ensures pass { IsIdlePassOf self.now pass.new }
         ensures caller { SameCaller pass.old pass.new }
+        ensures fills { OnlyFills N.layout N.ranged (N.Places.place_of key) pass.old pass.new }
         ensures ends { HasEndedPutIn self.now T.technique (Put (N.Places.place_of key) value) pass.old pass.new result }
         ensures tried { N.in_place ≡ false →
             HasTriedPutIn self.now T.technique (Put (N.Places.place_of key) value) pass.old pass.new result }
@@ -272,6 +280,7 @@ impl<N: Node, T: Ruled + Template<N, Arena<N, <T as Ruled>::Rule>>> Dictionary<N
         requires pass { IsIdlePassOf self.now pass.old }
         ensures pass { IsIdlePassOf self.now pass.new }
         ensures caller { SameCaller pass.old pass.new }
+        ensures fills { OnlyFills N.layout N.ranged (N.Places.place_of key) pass.old pass.new }
         ensures ends { HasEndedPutIn self.now T.technique (Add (N.Places.place_of key) value) pass.old pass.new result }
         ensures tried { N.in_place ≡ false →
             HasTriedPutIn self.now T.technique (Add (N.Places.place_of key) value) pass.old pass.new result }
@@ -301,6 +310,7 @@ impl<N: Node, T: Ruled + Template<N, Arena<N, <T as Ruled>::Rule>>> Dictionary<N
         requires pass { IsIdlePassOf self.now pass.old }
         ensures pass { IsIdlePassOf self.now pass.new }
         ensures caller { SameCaller pass.old pass.new }
+        ensures leaves { OnlySearches pass.old pass.new }
         ensures tried { HasTriedIn self.now T.technique (Swap (N.Places.place_of key) old new)
             pass.old pass.new result }
         ensures never { MayTell T.technique result }
@@ -327,6 +337,7 @@ impl<N: Node, T: Ruled + Template<N, Arena<N, <T as Ruled>::Rule>>> Dictionary<N
         requires pass { IsIdlePassOf self.now pass.old }
         ensures pass { IsIdlePassOf self.now pass.new }
         ensures caller { SameCaller pass.old pass.new }
+        ensures dels { OnlyDels N.layout N.ranged pass.old pass.new }
         ensures tried { HasTriedIn self.now T.technique (Del (N.Places.place_of key)) pass.old pass.new result }
         ensures never { MayTell T.technique result }
         ensures alone { WasAlone pass.old pass.new → HeldAlone pass.old → IsTrue (is_ok result) }

@@ -8,6 +8,7 @@ ghost use Rattle.ks_arena.specs.Of.{IsEmptyPassOf, WasAlone, SameCaller};
 ghost use Rattle.ks_shape.specs.Of.{DoneOf};
 ghost use Rattle.ks_giveup.specs.Goes.{GoesTowards};
 ghost use Rattle.ks_tidy.specs.Of.{IsTidyOf};
+ghost use Rattle.ks_shape.specs.Does.{OnlyDels, OnlyFills, OnlySearches};
 
 use crate::descent::{find, find_room};
 use ks_arena::{Arena, Pass};
@@ -31,6 +32,7 @@ pub fn get<N: Ranged + Unlinked, R: Wait, G: Gate>(
     requires pass { IsEmptyPassOf arena.now pass.old }
     ensures pass { IsEmptyPassOf arena.now pass.new }
     ensures caller { SameCaller pass.old pass.new }
+    ensures leaves { OnlySearches pass.old pass.new }
     ensures done { DoneOf arena.now give_up (Get place) pass.old pass.new (told result.found) result.number }
     ensures goes { GoesTowards place pass.old pass.new }
 {
@@ -55,6 +57,7 @@ pub fn put<N: Ranged + Unlinked, R: Wait, G: Gate>(
     requires pass { IsEmptyPassOf arena.now pass.old }
     ensures pass { IsEmptyPassOf arena.now pass.new }
     ensures caller { SameCaller pass.old pass.new }
+    ensures fills { OnlyFills N.layout N.ranged place pass.old pass.new }
     ensures done { DoneOf arena.now give_up (Put place value) pass.old pass.new (reply_in result) (number_in result) }
     ensures goes { GoesTowards place pass.old pass.new }
 {
@@ -81,6 +84,7 @@ pub fn add<N: Ranged + Unlinked, R: Wait, G: Gate>(
     requires pass { IsEmptyPassOf arena.now pass.old }
     ensures pass { IsEmptyPassOf arena.now pass.new }
     ensures caller { SameCaller pass.old pass.new }
+    ensures fills { OnlyFills N.layout N.ranged place pass.old pass.new }
     ensures done { DoneOf arena.now give_up (Add place value) pass.old pass.new (reply_in result) (number_in result) }
     ensures goes { GoesTowards place pass.old pass.new }
 {
@@ -104,6 +108,7 @@ pub fn swap<N: Ranged + Unlinked, R: Wait, G: Gate>(
     requires pass { IsEmptyPassOf arena.now pass.old }
     ensures pass { IsEmptyPassOf arena.now pass.new }
     ensures caller { SameCaller pass.old pass.new }
+    ensures leaves { OnlySearches pass.old pass.new }
     ensures done { DoneOf arena.now give_up (Swap place old new) pass.old pass.new (told result.found) result.number }
     ensures goes { GoesTowards place pass.old pass.new }
 {
@@ -124,6 +129,7 @@ pub fn del<N: Ranged + Unlinked, R: Wait, G: Gate>(
     requires pass { IsEmptyPassOf arena.now pass.old }
     ensures pass { IsEmptyPassOf arena.now pass.new }
     ensures caller { SameCaller pass.old pass.new }
+    ensures dels { OnlyDels N.layout N.ranged pass.old pass.new }
     ensures done { DoneOf arena.now give_up (Del place) pass.old pass.new (told result.found) result.number }
     ensures goes { GoesTowards place pass.old pass.new }
     ensures tidy { result.found ≢ None → WasAlone pass.old pass.new → IsTidyOf arena.now pass.new place }

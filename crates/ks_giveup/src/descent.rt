@@ -10,6 +10,7 @@ ghost use Rattle.ks_giveup.specs.Descent.{Came, CameToRoom};
 ghost use Rattle.ks_giveup.specs.Goes.{GoesTowards, MayVisitNext};
 ghost use Rattle.ks_arena.specs.Of.{Adds, IsPassOf, IsEmptyPassOf, IsNodeOf, SameCaller, caller_of};
 ghost use Rattle.ks_shape.specs.Of.{IsUnderway, StaysUnderway, IsOnWayOf, SearchEndsAt};
+ghost use Rattle.ks_shape.specs.Does.{OnlySearches};
 
 use ks_arena::laws::sound_law;
 use ks_arena::{Arena, Held, Pass};
@@ -34,6 +35,7 @@ fn visit<N: Ranged + Unlinked, R: Wait, G: Gate>(
     requires next { MayVisitNext place node pass.old }
     ensures pass { IsPassOf arena.now pass.new }
     ensures caller { SameCaller pass.old pass.new }
+    ensures leaves { OnlySearches pass.old pass.new }
     ensures came { Came (sort_of N.layout N.ranged) N.body (caller_of pass.old) place (seen_of pass.new) result }
     ensures goes { GoesTowards place pass.old pass.new }
     ensures under { StaysUnderway give_up pass.old pass.new }
@@ -66,6 +68,7 @@ pub(crate) fn leave<N: Ranged + Unlinked, G: Gate>(
     requires goes { next_at (N.body held.body) place ≡ Go child }
     ensures pass { IsEmptyPassOf arena.now pass.new }
     ensures caller { SameCaller pass.old pass.new }
+    ensures leaves { OnlySearches pass.old pass.new }
     ensures near { IsNodeOf arena.now child }
     ensures next { MayVisitNext place child pass.new }
     ensures gave { Adds (Give (caller_of pass.old) held.node) pass.old pass.new }
@@ -88,6 +91,7 @@ pub(crate) fn find<N: Ranged + Unlinked, R: Wait, G: Gate>(
     requires pass { IsEmptyPassOf arena.now pass.old }
     ensures pass { IsPassOf arena.now pass.new }
     ensures caller { SameCaller pass.old pass.new }
+    ensures leaves { OnlySearches pass.old pass.new }
     ensures ends { SearchEndsAt arena.now place pass.new result }
     ensures goes { GoesTowards place pass.old pass.new }
     ensures under { IsUnderway give_up pass.old pass.new }
@@ -125,6 +129,7 @@ pub(crate) fn find_room<N: Ranged + Unlinked, R: Wait, G: Gate>(
     requires pass { IsEmptyPassOf arena.now pass.old }
     ensures pass { IsPassOf arena.now pass.new }
     ensures caller { SameCaller pass.old pass.new }
+    ensures leaves { OnlySearches pass.old pass.new }
     ensures came { CameToRoom (sort_of N.layout N.ranged) N.body (caller_of pass.new) place (seen_of pass.new) result }
     ensures goes { GoesTowards place pass.old pass.new }
     ensures under { IsUnderway give_up pass.old pass.new }

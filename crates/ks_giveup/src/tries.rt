@@ -5,6 +5,7 @@ ghost use Rattle.ks_history.specs.Done.{give_up};
 ghost use Rattle.ks_arena.specs.Of.{IsEmptyPassOf, SameCaller};
 ghost use Rattle.ks_shape.specs.Of.{TriedOf};
 ghost use Rattle.ks_giveup.specs.Goes.{GoesTowards};
+ghost use Rattle.ks_shape.specs.Does.{OnlyDels, OnlySearches};
 
 use crate::try_descent::try_find;
 use ks_arena::{Arena, Pass};
@@ -30,6 +31,7 @@ pub fn try_get<N: Ranged + Unlinked, G: Gate>(
     requires pass { IsEmptyPassOf arena.now pass.old }
     ensures pass { IsEmptyPassOf arena.now pass.new }
     ensures caller { SameCaller pass.old pass.new }
+    ensures leaves { OnlySearches pass.old pass.new }
     ensures tried { TriedOf arena.now give_up (Get place) pass.old pass.new result }
     ensures goes { GoesTowards place pass.old pass.new }
 {
@@ -56,6 +58,7 @@ pub fn try_swap<N: Ranged + Unlinked, G: Gate>(
     requires pass { IsEmptyPassOf arena.now pass.old }
     ensures pass { IsEmptyPassOf arena.now pass.new }
     ensures caller { SameCaller pass.old pass.new }
+    ensures leaves { OnlySearches pass.old pass.new }
     ensures tried { TriedOf arena.now give_up (Swap place old new) pass.old pass.new result }
     ensures goes { GoesTowards place pass.old pass.new }
 {
@@ -81,6 +84,7 @@ pub fn try_del<N: Ranged + Unlinked, G: Gate>(
     requires pass { IsEmptyPassOf arena.now pass.old }
     ensures pass { IsEmptyPassOf arena.now pass.new }
     ensures caller { SameCaller pass.old pass.new }
+    ensures dels { OnlyDels N.layout N.ranged pass.old pass.new }
     ensures tried { TriedOf arena.now give_up (Del place) pass.old pass.new result }
     ensures goes { GoesTowards place pass.old pass.new }
 {

@@ -9,6 +9,7 @@ ghost use Rattle.ks_shape.specs.Descents.{StandsAtRoot, GoesDownFrom, CameToEnd}
 ghost use Rattle.ks_giveup.specs.Goes.{GoesTowards, MayVisitNext};
 ghost use Rattle.ks_giveup.specs.Once.{TookRootOnce};
 ghost use Rattle.ks_giveup.specs.Tries.{ComesTo, IsWithin};
+ghost use Rattle.ks_shape.specs.Does.{OnlySearches};
 
 use crate::descent::leave;
 use ks_arena::laws::{sound_law, tree_beside_law};
@@ -40,6 +41,7 @@ fn try_visit<N: Ranged + Unlinked, G: Gate>(
     requires next { MayVisitNext place node pass.old }
     ensures pass { IsPassOf arena.now pass.new }
     ensures caller { SameCaller pass.old pass.new }
+    ensures leaves { OnlySearches pass.old pass.new }
     ensures came { ComesTo arena.now place pass.old pass.new node result }
     ensures goes { GoesTowards place pass.old pass.new }
     ensures under { StaysUnderway give_up pass.old pass.new }
@@ -70,6 +72,7 @@ fn try_enter<N: Ranged + Unlinked, G: Gate>(
     requires pass { IsEmptyPassOf arena.now pass.old }
     ensures pass { IsPassOf arena.now pass.new }
     ensures caller { SameCaller pass.old pass.new }
+    ensures leaves { OnlySearches pass.old pass.new }
     ensures came { StandsAtRoot arena.now give_up place pass.old pass.new result }
     ensures goes { GoesTowards place pass.old pass.new }
     ensures under { IsUnderway give_up pass.old pass.new }
@@ -93,6 +96,7 @@ fn try_go_on<N: Ranged + Unlinked, G: Gate>(
     requires goes { next_at (N.body held.body) place ≡ Go child }
     ensures pass { IsPassOf arena.now pass.new }
     ensures caller { SameCaller pass.old pass.new }
+    ensures leaves { OnlySearches pass.old pass.new }
     ensures came { GoesDownFrom arena.now give_up place pass.old pass.new held result }
     ensures goes { GoesTowards place pass.old pass.new }
     ensures under { StaysUnderway give_up pass.old pass.new }
@@ -113,6 +117,7 @@ pub(crate) fn try_find<N: Ranged + Unlinked, G: Gate>(
     requires pass { IsEmptyPassOf arena.now pass.old }
     ensures pass { IsPassOf arena.now pass.new }
     ensures caller { SameCaller pass.old pass.new }
+    ensures leaves { OnlySearches pass.old pass.new }
     ensures came { CameToEnd arena.now give_up place pass.old pass.new result }
     ensures once { TookRootOnce pass.old pass.new result }
     ensures goes { GoesTowards place pass.old pass.new }

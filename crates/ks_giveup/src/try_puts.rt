@@ -7,6 +7,7 @@ ghost use Rattle.ks_shape.specs.Ends.{EndsPutOf};
 ghost use Rattle.ks_shape.specs.Fills.{filling};
 ghost use Rattle.ks_shape.specs.Of.{TriedPutOf};
 ghost use Rattle.ks_giveup.specs.Goes.{GoesTowards};
+ghost use Rattle.ks_shape.specs.Does.{OnlyFills};
 
 use crate::try_descent::try_find;
 use ks_arena::{Arena, Pass};
@@ -27,6 +28,7 @@ fn try_fill<N: Ranged + Unlinked, G: Gate>(
     requires pass { IsEmptyPassOf arena.now pass.old }
     ensures pass { IsEmptyPassOf arena.now pass.new }
     ensures caller { SameCaller pass.old pass.new }
+    ensures fills { OnlyFills N.layout N.ranged place pass.old pass.new }
     ensures ends { EndsPutOf arena.now give_up (filling place fill) pass.old pass.new result }
     ensures tried { N.in_place ≡ false →
         TriedPutOf arena.now give_up (filling place fill) pass.old pass.new result }
@@ -64,6 +66,7 @@ pub fn try_put<N: Ranged + Unlinked, G: Gate>(
     requires pass { IsEmptyPassOf arena.now pass.old }
     ensures pass { IsEmptyPassOf arena.now pass.new }
     ensures caller { SameCaller pass.old pass.new }
+    ensures fills { OnlyFills N.layout N.ranged place pass.old pass.new }
     ensures ends { EndsPutOf arena.now give_up (Put place value) pass.old pass.new result }
     ensures tried { N.in_place ≡ false →
         TriedPutOf arena.now give_up (Put place value) pass.old pass.new result }
@@ -88,6 +91,7 @@ pub fn try_add<N: Ranged + Unlinked, G: Gate>(
     requires pass { IsEmptyPassOf arena.now pass.old }
     ensures pass { IsEmptyPassOf arena.now pass.new }
     ensures caller { SameCaller pass.old pass.new }
+    ensures fills { OnlyFills N.layout N.ranged place pass.old pass.new }
     ensures ends { EndsPutOf arena.now give_up (Add place value) pass.old pass.new result }
     ensures tried { N.in_place ≡ false →
         TriedPutOf arena.now give_up (Add place value) pass.old pass.new result }

@@ -1,5 +1,5 @@
 //! How a node that was split off gets an edge one level above it, after the call that split it off has been decided.
-ghost use Rattle.std.specs.Prelude.{◌≡◌, ◌+◌, ◌<◌, ◌≤◌, ◌↔◌, All, IsTrue, false};
+ghost use Rattle.std.specs.Prelude.{◌≡◌, ℕ, ◌+◌, ◌<◌, ◌≤◌, ◌↔◌, All, IsTrue, false};
 ghost use Rattle.std.specs.Option.{ForSome};
 ghost use Rattle.ks_node.specs.Room.{is_full};
 ghost use Rattle.ks_node.specs.Body.{is_branch, last_of};
@@ -8,6 +8,7 @@ ghost use Rattle.ks_history.specs.Done.{link_move};
 ghost use Rattle.ks_arena.specs.Of.{WasAlone, IsPassOf, IsEmptyPassOf, SameCaller, caller_of};
 ghost use Rattle.ks_shape.specs.Of.{IsStretchBy, MakesNoneLive, IsLedTo};
 ghost use Rattle.ks_link.specs.Of.{HoldsAloneOf, HoldsHalfOf, IfAloneWithRoom, SearchIsAt, LeadsAllBut, LeadsEach, LeadsOne, WasSplitOff};
+ghost use Rattle.ks_shape.specs.Does.{OnlyFills, OnlySearches};
 
 use crate::descent::{enter, go_on};
 use crate::parts::{Parted, Waiting, part};
@@ -54,6 +55,7 @@ fn go_nearer<N: Linked, R: Wait, G: Gate>(
     requires away { (N.body held.body).level ≡ level + 1 → last_of (N.body held.body).range < cut }
     ensures pass { IsPassOf arena.now pass.new }
     ensures caller { SameCaller pass.old pass.new }
+    ensures leaves { OnlySearches pass.old pass.new }
     ensures way { SearchIsAt arena.now (caller_of pass.old) cut pass.new result }
     ensures above { level < (N.body result.body).level }
     ensures stretch { IsStretchBy link_move pass.old pass.new }
@@ -79,6 +81,7 @@ fn find_above<N: Linked, R: Wait, G: Gate>(
     requires off { WasSplitOff arena.now pass.old to }
     ensures pass { IsPassOf arena.now pass.new }
     ensures caller { SameCaller pass.old pass.new }
+    ensures leaves { OnlySearches pass.old pass.new }
     ensures way { SearchIsAt arena.now (caller_of pass.old) to.cut pass.new result }
     ensures level { (N.body result.body).level ≡ to.level + 1 }
     ensures within { to.cut ≤ last_of (N.body result.body).range }
@@ -111,6 +114,7 @@ pub(crate) fn ready<N: Linked, G: Gate>(
     requires within { cut ≤ last_of (N.body held.body).range }
     ensures pass { IsPassOf arena.now pass.new }
     ensures caller { SameCaller pass.old pass.new }
+    ensures fills { (place : ℕ) → OnlyFills N.layout N.ranged place pass.old pass.new }
     ensures parted { HoldsHalfOf arena.now cut pass.old pass.new held (Ok result) }
     ensures stretch { IsStretchBy link_move pass.old pass.new }
     ensures led { WasAlone pass.old pass.new → LeadsAllBut arena.now (waits_if result.new) pass.old pass.new }
@@ -151,6 +155,7 @@ pub(crate) fn lead<N: Linked>(
     requires within { to.cut ≤ last_of (N.body held.old.body).range }
     ensures pass { IsPassOf arena.now pass.new }
     ensures caller { SameCaller pass.old pass.new }
+    ensures fills { (place : ℕ) → OnlyFills N.layout N.ranged place pass.old pass.new }
     ensures held { HoldsAloneOf arena.now (caller_of pass.old) pass.new held.new }
     ensures led { IsTrue N.branches_adopt → TakesEdge N.layout N.can_adopt_at (N.body held.old.body) to.cut →
         IsLedTo arena.now pass.new to.node }
@@ -178,6 +183,7 @@ fn attach_one<N: Linked, R: Wait, G: Gate>(
     requires off { WasSplitOff arena.now pass.old to }
     ensures pass { IsEmptyPassOf arena.now pass.new }
     ensures caller { SameCaller pass.old pass.new }
+    ensures fills { (place : ℕ) → OnlyFills N.layout N.ranged place pass.old pass.new }
     ensures off { ForSome result (λ w. WasSplitOff arena.now pass.new w) }
     ensures stretch { IsStretchBy link_move pass.old pass.new }
     ensures led { WasAlone pass.old pass.new → LeadsAllBut arena.now (waits_if result) pass.old pass.new }
@@ -206,6 +212,7 @@ fn attach_on<N: Linked, R: Wait, G: Gate>(
     requires off { WasSplitOff arena.now pass.old to }
     ensures pass { IsEmptyPassOf arena.now pass.new }
     ensures caller { SameCaller pass.old pass.new }
+    ensures fills { (place : ℕ) → OnlyFills N.layout N.ranged place pass.old pass.new }
     ensures stretch { IsStretchBy link_move pass.old pass.new }
     ensures leads { IsTrue N.branches_adopt → IsTrue N.halves_have_room →
         IfAloneWithRoom arena.now pass.old pass.new (LeadsOne arena.now to.node pass.old pass.new) }
@@ -232,6 +239,7 @@ pub(crate) fn attach_all<N: Linked, R: Wait, G: Gate>(
     requires off { All (λ w. WasSplitOff arena.now pass.old w) waiting.now }
     ensures pass { IsEmptyPassOf arena.now pass.new }
     ensures caller { SameCaller pass.old pass.new }
+    ensures fills { (place : ℕ) → OnlyFills N.layout N.ranged place pass.old pass.new }
     ensures stretch { IsStretchBy link_move pass.old pass.new }
     ensures leads { IsTrue N.branches_adopt → IsTrue N.halves_have_room →
         IfAloneWithRoom arena.now pass.old pass.new (LeadsEach arena.now waiting.now pass.old pass.new) }

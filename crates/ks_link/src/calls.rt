@@ -5,6 +5,7 @@ ghost use Rattle.ks_history.specs.Map.{told};
 ghost use Rattle.ks_history.specs.Done.{link_move};
 ghost use Rattle.ks_arena.specs.Of.{IsEmptyPassOf, SameCaller};
 ghost use Rattle.ks_shape.specs.Of.{DoneOf};
+ghost use Rattle.ks_shape.specs.Does.{OnlySearches};
 
 use crate::descent::find;
 use ks_arena::{Arena, Pass};
@@ -25,6 +26,7 @@ pub fn get<N: Linked, R: Wait, G: Gate>(
     requires pass { IsEmptyPassOf arena.now pass.old }
     ensures pass { IsEmptyPassOf arena.now pass.new }
     ensures caller { SameCaller pass.old pass.new }
+    ensures leaves { OnlySearches pass.old pass.new }
     ensures done { DoneOf arena.now link_move (Get place) pass.old pass.new (told result.found) result.number }
 {
     let held = find(rt, arena, pass, gate, place);
@@ -43,6 +45,7 @@ pub fn del<N: Linked, R: Wait, G: Gate>(
     requires pass { IsEmptyPassOf arena.now pass.old }
     ensures pass { IsEmptyPassOf arena.now pass.new }
     ensures caller { SameCaller pass.old pass.new }
+    ensures leaves { OnlySearches pass.old pass.new }
     ensures done { DoneOf arena.now link_move (Del place) pass.old pass.new (told result.found) result.number }
 {
     let held = find(rt, arena, pass, gate, place);
@@ -63,6 +66,7 @@ pub fn swap<N: Linked, R: Wait, G: Gate>(
     requires pass { IsEmptyPassOf arena.now pass.old }
     ensures pass { IsEmptyPassOf arena.now pass.new }
     ensures caller { SameCaller pass.old pass.new }
+    ensures leaves { OnlySearches pass.old pass.new }
     ensures done { DoneOf arena.now link_move (Swap place old new) pass.old pass.new (told result.found) result.number }
 {
     let held = find(rt, arena, pass, gate, place);

@@ -6,6 +6,7 @@ ghost use Rattle.ks_node.specs.Body.{next_at};
 ghost use Rattle.ks_arena.specs.Of.{IsPassOf, IsEmptyPassOf, SameCaller, caller_of};
 ghost use Rattle.ks_shape.specs.Of.{IsUnderway, StaysUnderway, MakesNoneLive, SearchEndsAt};
 ghost use Rattle.ks_link.specs.Of.{SearchIsAt};
+ghost use Rattle.ks_shape.specs.Does.{OnlySearches};
 
 use ks_arena::laws::{link_live_law, sound_law};
 use ks_arena::{Arena, Held, Pass};
@@ -27,6 +28,7 @@ pub(crate) fn enter<N: Linked, R: Wait, G: Gate>(
     requires pass { IsEmptyPassOf arena.now pass.old }
     ensures pass { IsPassOf arena.now pass.new }
     ensures caller { SameCaller pass.old pass.new }
+    ensures leaves { OnlySearches pass.old pass.new }
     ensures way { SearchIsAt arena.now (caller_of pass.old) place pass.new result }
     ensures root { result.node ≡ 0 }
     ensures under { IsUnderway link_move pass.old pass.new }
@@ -52,6 +54,7 @@ pub(crate) fn go_on<N: Linked, R: Wait, G: Gate>(
     requires goes { next_at (N.body held.body) place ≡ Go next }
     ensures pass { IsPassOf arena.now pass.new }
     ensures caller { SameCaller pass.old pass.new }
+    ensures leaves { OnlySearches pass.old pass.new }
     ensures node { result.node ≡ next }
     ensures way { SearchIsAt arena.now (caller_of pass.old) place pass.new result }
     ensures under { StaysUnderway link_move pass.old pass.new }
@@ -95,6 +98,7 @@ pub(crate) fn find<N: Linked, R: Wait, G: Gate>(
     requires pass { IsEmptyPassOf arena.now pass.old }
     ensures pass { IsPassOf arena.now pass.new }
     ensures caller { SameCaller pass.old pass.new }
+    ensures leaves { OnlySearches pass.old pass.new }
     ensures way { SearchIsAt arena.now (caller_of pass.old) place pass.new result }
     ensures ends { SearchEndsAt arena.now place pass.new result }
     ensures under { IsUnderway link_move pass.old pass.new }

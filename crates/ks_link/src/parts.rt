@@ -1,5 +1,5 @@
 //! How a full node is parted: the root grows, any other node splits to the right.
-ghost use Rattle.std.specs.Prelude.{◌≡◌, ◌≢◌, ◌<◌, ◌≤◌, ◌⊎◌, IsTrue};
+ghost use Rattle.std.specs.Prelude.{◌≡◌, ℕ, ◌≢◌, ◌<◌, ◌≤◌, ◌⊎◌, IsTrue};
 ghost use Rattle.ks_node.specs.Body.{content_of};
 ghost use Rattle.ks_node.specs.Room.{is_full};
 ghost use Rattle.ks_link.specs.Leads.{HalfHasRoom};
@@ -8,6 +8,7 @@ ghost use Rattle.ks_history.specs.Done.{link_move};
 ghost use Rattle.ks_arena.specs.Of.{WasAlone, IsPassOf, SameCaller, caller_of};
 ghost use Rattle.ks_shape.specs.Of.{IsStretchBy, MakesNoneLive, IsLiveInHand, IsFreeInHand};
 ghost use Rattle.ks_link.specs.Of.{HoldsHalfOf, HoldsThree, HoldsTwo, LeadsParts, SearchIsAt};
+ghost use Rattle.ks_shape.specs.Does.{MustSplit, OnlyFills, OnlySearches};
 
 use ks_arena::laws::sound_law;
 use ks_arena::{Arena, Held, Pass};
@@ -50,6 +51,7 @@ fn keep_half<N: Linked, G: Gate>(
     requires cut { (N.body right.body).low ≡ cut }
     ensures pass { IsPassOf arena.now pass.new }
     ensures caller { SameCaller pass.old pass.new }
+    ensures leaves { OnlySearches pass.old pass.new }
     ensures way { SearchIsAt arena.now (caller_of pass.old) place pass.new result }
     ensures half { ((result ≡ left) × (place < cut)) ⊎ (result ≡ right) }
     ensures stretch { IsStretchBy link_move pass.old pass.new }
@@ -86,6 +88,8 @@ fn split<N: Linked, G: Gate>(
     requires low { (N.body held.body).low ≤ place }
     ensures pass { IsPassOf arena.now pass.new }
     ensures caller { SameCaller pass.old pass.new }
+    ensures fills { (at : ℕ) → MustSplit N.layout at (N.body held.body) →
+        OnlyFills N.layout N.ranged at pass.old pass.new }
     ensures parted { HoldsHalfOf arena.now place pass.old pass.new held (Ok result) }
     ensures narrower { HalfReachesLess N.body (N.body held.body) (Ok result) }
     ensures stretch { IsStretchBy link_move pass.old pass.new }
@@ -131,6 +135,8 @@ fn grow<N: Linked, G: Gate>(
     requires low { (N.body root.body).low ≤ place }
     ensures pass { IsPassOf arena.now pass.new }
     ensures caller { SameCaller pass.old pass.new }
+    ensures fills { (at : ℕ) → MustSplit N.layout at (N.body root.body) →
+        OnlyFills N.layout N.ranged at pass.old pass.new }
     ensures parted { HoldsHalfOf arena.now place pass.old pass.new root (Ok result) }
     ensures narrower { HalfReachesLess N.body (N.body root.body) (Ok result) }
     ensures stretch { IsStretchBy link_move pass.old pass.new }
@@ -168,6 +174,8 @@ pub(crate) fn part<N: Linked, G: Gate>(
     requires grows { held.node ≡ 0 → IsTrue (N.grows_at (content_of (N.body held.body))) }
     ensures pass { IsPassOf arena.now pass.new }
     ensures caller { SameCaller pass.old pass.new }
+    ensures fills { (at : ℕ) → MustSplit N.layout at (N.body held.body) →
+        OnlyFills N.layout N.ranged at pass.old pass.new }
     ensures parted { HoldsHalfOf arena.now place pass.old pass.new held result }
     ensures narrower { HalfReachesLess N.body (N.body held.body) result }
     ensures stretch { IsStretchBy link_move pass.old pass.new }

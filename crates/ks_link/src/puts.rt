@@ -9,6 +9,7 @@ ghost use Rattle.ks_shape.specs.Answers.{number_in, reply_in};
 ghost use Rattle.ks_shape.specs.Fills.{filling};
 ghost use Rattle.ks_shape.specs.Of.{DoneOf};
 ghost use Rattle.ks_link.specs.Of.{Finishes, IfAloneWithRoom, SearchIsAt, WasSplitOff, LeadsAllBut, LeadsAll};
+ghost use Rattle.ks_shape.specs.Does.{OnlyFills};
 
 use crate::attaches::attach_all;
 use crate::descent::find;
@@ -40,6 +41,7 @@ pub(crate) fn fill_from<N: Linked, G: Gate>(
     requires waiting { waiting.old.items ≡ [] }
     ensures pass { IsEmptyPassOf arena.now pass.new }
     ensures caller { SameCaller pass.old pass.new }
+    ensures fills { OnlyFills N.layout N.ranged place pass.old pass.new }
     ensures begins { SeesOn pass.old pass.new }
     ensures done { Finishes arena.now (filling place fill) pass.old pass.new result }
     ensures waiting { All (λ w. WasSplitOff arena.now pass.new w) waiting.new.items }
@@ -63,6 +65,7 @@ fn fill<N: Linked, R: Wait, G: Gate>(
     requires pass { IsEmptyPassOf arena.now pass.old }
     ensures pass { IsEmptyPassOf arena.now pass.new }
     ensures caller { SameCaller pass.old pass.new }
+    ensures fills { OnlyFills N.layout N.ranged place pass.old pass.new }
     ensures done { DoneOf arena.now link_move (filling place fill)
         pass.old pass.new (reply_in result) (number_in result) }
     ensures led { IsTrue N.branches_adopt → IsTrue N.halves_have_room →
@@ -94,6 +97,7 @@ pub fn put<N: Linked, R: Wait, G: Gate>(
     requires pass { IsEmptyPassOf arena.now pass.old }
     ensures pass { IsEmptyPassOf arena.now pass.new }
     ensures caller { SameCaller pass.old pass.new }
+    ensures fills { OnlyFills N.layout N.ranged place pass.old pass.new }
     ensures done { DoneOf arena.now link_move (Put place value) pass.old pass.new (reply_in result) (number_in result) }
     ensures led { IsTrue N.branches_adopt → IsTrue N.halves_have_room →
         IfAloneWithRoom arena.now pass.old pass.new (LeadsAll arena.now pass.old pass.new) }
@@ -118,6 +122,7 @@ pub fn add<N: Linked, R: Wait, G: Gate>(
     requires pass { IsEmptyPassOf arena.now pass.old }
     ensures pass { IsEmptyPassOf arena.now pass.new }
     ensures caller { SameCaller pass.old pass.new }
+    ensures fills { OnlyFills N.layout N.ranged place pass.old pass.new }
     ensures done { DoneOf arena.now link_move (Add place value) pass.old pass.new (reply_in result) (number_in result) }
     ensures led { IsTrue N.branches_adopt → IsTrue N.halves_have_room →
         IfAloneWithRoom arena.now pass.old pass.new (LeadsAll arena.now pass.old pass.new) }

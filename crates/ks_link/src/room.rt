@@ -11,6 +11,7 @@ ghost use Rattle.ks_link.specs.Leads.{LeavesRoom};
 ghost use Rattle.ks_link.specs.Parts.{ReachesLess};
 ghost use Rattle.ks_link.specs.Puts.{WaitsFor};
 ghost use Rattle.ks_link.specs.Of.{SearchIsAt, WasSplitOff, HasMadeRoom, HasFoundRoom, LeadsAllBut};
+ghost use Rattle.ks_shape.specs.Does.{MustSplit, OnlyFills};
 
 use crate::parts::{Parted, Waiting, part};
 use arrayvec::ArrayVec;
@@ -47,6 +48,7 @@ fn make_room<N: Linked, G: Gate>(
     requires waiting { All (λ w. WasSplitOff arena.now pass.old w) waiting.old.items }
     ensures pass { IsPassOf arena.now pass.new }
     ensures caller { SameCaller pass.old pass.new }
+    ensures fills { MustSplit N.layout place (N.body held.body) → OnlyFills N.layout N.ranged place pass.old pass.new }
     ensures made { HasMadeRoom arena.now place pass.old pass.new held result }
     ensures narrower { ReachesLess N.body (N.body held.body) result }
     ensures waiting { All (λ w. WasSplitOff arena.now pass.new w) waiting.new.items }
@@ -84,6 +86,7 @@ pub(crate) fn room_at<N: Linked, G: Gate>(
     requires waiting { waiting.old.items ≡ [] }
     ensures pass { IsPassOf arena.now pass.new }
     ensures caller { SameCaller pass.old pass.new }
+    ensures fills { OnlyFills N.layout N.ranged place pass.old pass.new }
     ensures found { HasFoundRoom arena.now place pass.old pass.new result }
     ensures waiting { All (λ w. WasSplitOff arena.now pass.new w) waiting.new.items }
     ensures stretch { IsStretchBy link_move pass.old pass.new }

@@ -7,6 +7,7 @@ ghost use Rattle.ks_history.specs.declared.Op.TheVariants.{Del, Get, Swap};
 ghost use Rattle.ks_history.specs.Done.{link_move};
 ghost use Rattle.ks_arena.specs.Of.{IsEmptyPassOf, SameCaller};
 ghost use Rattle.ks_shape.specs.Of.{TriedOf};
+ghost use Rattle.ks_shape.specs.Does.{OnlySearches};
 
 use crate::try_descent::try_find;
 use ks_arena::{Arena, Pass};
@@ -29,6 +30,7 @@ pub fn try_get<N: Linked, G: Gate>(
     requires pass { IsEmptyPassOf arena.now pass.old }
     ensures pass { IsEmptyPassOf arena.now pass.new }
     ensures caller { SameCaller pass.old pass.new }
+    ensures leaves { OnlySearches pass.old pass.new }
     ensures tried { TriedOf arena.now link_move (Get place) pass.old pass.new result }
 {
     match try_find(arena, pass, gate, place) {
@@ -52,6 +54,7 @@ pub fn try_del<N: Linked, G: Gate>(
     requires pass { IsEmptyPassOf arena.now pass.old }
     ensures pass { IsEmptyPassOf arena.now pass.new }
     ensures caller { SameCaller pass.old pass.new }
+    ensures leaves { OnlySearches pass.old pass.new }
     ensures tried { TriedOf arena.now link_move (Del place) pass.old pass.new result }
 {
     match try_find(arena, pass, gate, place) {
@@ -77,6 +80,7 @@ pub fn try_swap<N: Linked, G: Gate>(
     requires pass { IsEmptyPassOf arena.now pass.old }
     ensures pass { IsEmptyPassOf arena.now pass.new }
     ensures caller { SameCaller pass.old pass.new }
+    ensures leaves { OnlySearches pass.old pass.new }
     ensures tried { TriedOf arena.now link_move (Swap place old new) pass.old pass.new result }
 {
     match try_find(arena, pass, gate, place) {

@@ -1,12 +1,13 @@
 //! How what was split off gets an edge after a call that waits for nobody: a busy node on the way leaves it without one for
 //! good, and it stays reached by its left neighbour's link.
-ghost use Rattle.std.specs.Prelude.{◌≡◌, ◌+◌, ◌<◌, ◌≤◌, All, false, true};
+ghost use Rattle.std.specs.Prelude.{◌≡◌, ℕ, ◌+◌, ◌<◌, ◌≤◌, All, false, true};
 ghost use Rattle.std.specs.Option.{ForSome};
 ghost use Rattle.ks_history.specs.Done.{link_move};
 ghost use Rattle.ks_node.specs.Body.{last_of};
 ghost use Rattle.ks_arena.specs.Of.{IsPassOf, IsEmptyPassOf, SameCaller};
 ghost use Rattle.ks_shape.specs.Of.{IsStretchBy};
 ghost use Rattle.ks_link.specs.Of.{WasSplitOff, HoldsAbove};
+ghost use Rattle.ks_shape.specs.Does.{OnlyFills, OnlySearches};
 
 use crate::attaches::{lead, ready};
 use crate::parts::{Parted, Waiting};
@@ -41,6 +42,7 @@ fn try_find_above<N: Linked, G: Gate>(
     requires off { WasSplitOff arena.now pass.old to }
     ensures pass { IsPassOf arena.now pass.new }
     ensures caller { SameCaller pass.old pass.new }
+    ensures leaves { OnlySearches pass.old pass.new }
     ensures above { HoldsAbove arena.now to pass.new result }
     ensures stretch { IsStretchBy link_move pass.old pass.new }
 {
@@ -76,6 +78,7 @@ fn try_attach_one<N: Linked, G: Gate>(
     requires off { WasSplitOff arena.now pass.old to }
     ensures pass { IsEmptyPassOf arena.now pass.new }
     ensures caller { SameCaller pass.old pass.new }
+    ensures fills { (place : ℕ) → OnlyFills N.layout N.ranged place pass.old pass.new }
     ensures off { ForSome result (λ w. WasSplitOff arena.now pass.new w) }
     ensures higher { ForSome result (λ w. w.level ≡ to.level + 1) }
     ensures stretch { IsStretchBy link_move pass.old pass.new }
@@ -104,6 +107,7 @@ fn try_attach_on<N: Linked, G: Gate>(
     requires off { WasSplitOff arena.now pass.old to }
     ensures pass { IsEmptyPassOf arena.now pass.new }
     ensures caller { SameCaller pass.old pass.new }
+    ensures fills { (place : ℕ) → OnlyFills N.layout N.ranged place pass.old pass.new }
     ensures stretch { IsStretchBy link_move pass.old pass.new }
 {
     sound_law::<Link>();
@@ -127,6 +131,7 @@ pub(crate) fn try_attach_all<N: Linked, G: Gate>(
     requires off { All (λ w. WasSplitOff arena.now pass.old w) waiting.now }
     ensures pass { IsEmptyPassOf arena.now pass.new }
     ensures caller { SameCaller pass.old pass.new }
+    ensures fills { (place : ℕ) → OnlyFills N.layout N.ranged place pass.old pass.new }
     ensures stretch { IsStretchBy link_move pass.old pass.new }
 {
     sound_law::<Link>();

@@ -7,6 +7,7 @@ ghost use Rattle.ks_node.specs.Body.{next_at};
 ghost use Rattle.ks_arena.specs.Of.{IsPassOf, IsEmptyPassOf, SameCaller, caller_of};
 ghost use Rattle.ks_shape.specs.Of.{IsUnderway, StaysUnderway, MakesNoneLive};
 ghost use Rattle.ks_link.specs.Of.{SearchIsAt, TriedToEnter, TriedToGoOn, TriedToFind};
+ghost use Rattle.ks_shape.specs.Does.{OnlySearches};
 
 use ks_arena::laws::{link_live_law, root_stays_law, sound_law};
 use ks_arena::{Arena, Held, Pass, Taken};
@@ -25,6 +26,7 @@ pub(crate) fn try_enter<N: Linked, G: Gate>(
     requires pass { IsEmptyPassOf arena.now pass.old }
     ensures pass { IsPassOf arena.now pass.new }
     ensures caller { SameCaller pass.old pass.new }
+    ensures leaves { OnlySearches pass.old pass.new }
     ensures entered { TriedToEnter arena.now place pass.old pass.new result }
     ensures under { IsUnderway link_move pass.old pass.new }
     ensures makes { MakesNoneLive pass.old pass.new }
@@ -56,6 +58,7 @@ pub(crate) fn try_go_on<N: Linked, G: Gate>(
     requires goes { next_at (N.body held.body) place ≡ Go next }
     ensures pass { IsPassOf arena.now pass.new }
     ensures caller { SameCaller pass.old pass.new }
+    ensures leaves { OnlySearches pass.old pass.new }
     ensures went { TriedToGoOn arena.now place pass.old pass.new held next result }
     ensures under { StaysUnderway link_move pass.old pass.new }
     ensures makes { MakesNoneLive pass.old pass.new }
@@ -87,6 +90,7 @@ pub(crate) fn try_find<N: Linked, G: Gate>(
     requires pass { IsEmptyPassOf arena.now pass.old }
     ensures pass { IsPassOf arena.now pass.new }
     ensures caller { SameCaller pass.old pass.new }
+    ensures leaves { OnlySearches pass.old pass.new }
     ensures found { TriedToFind arena.now place pass.old pass.new result }
     ensures under { IsUnderway link_move pass.old pass.new }
     ensures makes { MakesNoneLive pass.old pass.new }

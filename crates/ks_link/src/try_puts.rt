@@ -5,6 +5,7 @@ ghost use Rattle.ks_history.specs.Done.{link_move};
 ghost use Rattle.ks_arena.specs.Of.{IsEmptyPassOf, SameCaller};
 ghost use Rattle.ks_shape.specs.Fills.{filling};
 ghost use Rattle.ks_shape.specs.Of.{TriedPutOf};
+ghost use Rattle.ks_shape.specs.Does.{OnlyFills};
 
 use crate::puts::fill_from;
 use crate::try_attaches::try_attach_all;
@@ -28,6 +29,7 @@ fn try_fill<N: Linked, G: Gate>(
     requires pass { IsEmptyPassOf arena.now pass.old }
     ensures pass { IsEmptyPassOf arena.now pass.new }
     ensures caller { SameCaller pass.old pass.new }
+    ensures fills { OnlyFills N.layout N.ranged place pass.old pass.new }
     ensures tried { TriedPutOf arena.now link_move (filling place fill) pass.old pass.new result }
 {
     match try_find(arena, pass, gate, place) {
@@ -59,6 +61,7 @@ pub fn try_put<N: Linked, G: Gate>(
     requires pass { IsEmptyPassOf arena.now pass.old }
     ensures pass { IsEmptyPassOf arena.now pass.new }
     ensures caller { SameCaller pass.old pass.new }
+    ensures fills { OnlyFills N.layout N.ranged place pass.old pass.new }
     ensures tried { TriedPutOf arena.now link_move (Put place value) pass.old pass.new result }
 {
     try_fill(arena, pass, gate, place, Fill::Put(value))
@@ -80,6 +83,7 @@ pub fn try_add<N: Linked, G: Gate>(
     requires pass { IsEmptyPassOf arena.now pass.old }
     ensures pass { IsEmptyPassOf arena.now pass.new }
     ensures caller { SameCaller pass.old pass.new }
+    ensures fills { OnlyFills N.layout N.ranged place pass.old pass.new }
     ensures tried { TriedPutOf arena.now link_move (Add place value) pass.old pass.new result }
 {
     try_fill(arena, pass, gate, place, Fill::Add(value))

@@ -14,6 +14,7 @@ use Rattle.ks_arena.specs.declared.held.Pass.{Pass}
 use Rattle.ks_history.specs.Descent.{TookSince}
 use Rattle.ks_history.specs.Due.{NoneFree}
 use Rattle.ks_shape.specs.Stretches.{Stretches}
+use Rattle.ks_shape.specs.Does.{DoesOnly, MayFill}
 use Rattle.ks_put.specs.Deeper.{IsDownPath}
 use Rattle.ks_arena.specs.Laws.Writes.{ends_at_no_branch}
 use Rattle.ks_shape.specs.Laws.Single.{shown, record_is}
@@ -105,3 +106,4 @@ module _ {N D : Type 0} (sort : Sort) (shows : N → Body) (Open Grow : Type 0) 
       × ((start : List Event) → TookSince p.caller start s 0 1 → IsDownPath nodes p.caller start (seen_of p) (suc d) 2 d x)
       × (d < nodes)
       × (Open → IsEasedBut sort.layout shows Grow r x.parent)
+      × DoesOnly (MayFill sort place) p.caller s (seen_of p)

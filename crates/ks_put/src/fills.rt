@@ -4,6 +4,7 @@ ghost use Rattle.ks_shape.specs.Answers.{number_in, reply_in};
 ghost use Rattle.ks_shape.specs.Fills.{filling};
 ghost use Rattle.ks_arena.specs.Of.{IsEmptyPassOf, SameCaller};
 ghost use Rattle.ks_shape.specs.Of.{FinishesAny};
+ghost use Rattle.ks_shape.specs.Does.{OnlyFills};
 
 use crate::room::make_room;
 use ks_arena::{Arena, Pass};
@@ -26,6 +27,7 @@ pub fn pair_fill<N: Unlinked, R: Wait, G: Gate>(
     requires pass { IsEmptyPassOf arena.now pass.old }
     ensures pass { IsEmptyPassOf arena.now pass.new }
     ensures caller { SameCaller pass.old pass.new }
+    ensures fills { OnlyFills N.layout N.ranged place pass.old pass.new }
     ensures done { FinishesAny arena.now (filling place fill) pass.old pass.new (reply_in result) (number_in result) }
 {
     let found = make_room(rt, arena, pass, gate, place);

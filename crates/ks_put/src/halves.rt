@@ -9,6 +9,7 @@ ghost use Rattle.ks_shape.specs.Quiet.{KeepsQuiet};
 ghost use Rattle.ks_shape.specs.Paths.{IsOnPathOf, IsUnderParent};
 ghost use Rattle.ks_put.specs.Narrows.{cuts_left};
 ghost use Rattle.ks_put.specs.Of.{IsPartOf, KeepsDown};
+ghost use Rattle.ks_shape.specs.Does.{OnlySearches};
 
 use ks_arena::{Arena, Held, Pass};
 use ks_flow::Tree;
@@ -46,6 +47,7 @@ pub(crate) fn keep_half<N: Unlinked, G: Gate>(
     requires from { cut ≤ place → IsPartOf arena.now place pass.old parent right }
     ensures pass { IsPassOf arena.now pass.new }
     ensures caller { SameCaller pass.old pass.new }
+    ensures leaves { OnlySearches pass.old pass.new }
     ensures path { IsOnPathOf arena.now (caller_of pass.old) place pass.new result }
     ensures stretch { IsStretch pass.old pass.new }
     ensures quiet { KeepsQuiet pass.old pass.new }
@@ -91,6 +93,7 @@ pub(crate) fn keep_right<N: Unlinked, G: Gate>(
     requires part { IsPartOf arena.now place pass.old path.node right }
     ensures pass { IsPassOf arena.now pass.new }
     ensures caller { SameCaller pass.old pass.new }
+    ensures leaves { OnlySearches pass.old pass.new }
     ensures path { IsOnPathOf arena.now (caller_of pass.old) place pass.new result }
     ensures stretch { IsStretch pass.old pass.new }
     ensures quiet { KeepsQuiet pass.old pass.new }
@@ -132,6 +135,7 @@ pub(crate) fn keep_right_alone<N: Unlinked, G: Gate>(
     requires room { is_full N.layout (N.body right.body) ≡ false }
     ensures pass { IsPassOf arena.now pass.new }
     ensures caller { SameCaller pass.old pass.new }
+    ensures leaves { OnlySearches pass.old pass.new }
     ensures path { IsOnPathOf arena.now (caller_of pass.old) place pass.new result }
     ensures stretch { IsStretch pass.old pass.new }
     ensures quiet { KeepsQuiet pass.old pass.new }
@@ -160,6 +164,7 @@ pub(crate) fn settle<N: Unlinked, G: Gate>(
     requires path { IsOnPathOf arena.now (caller_of pass.old) place pass.old path }
     ensures pass { IsPassOf arena.now pass.new }
     ensures caller { SameCaller pass.old pass.new }
+    ensures leaves { OnlySearches pass.old pass.new }
     ensures path { IsOnPathOf arena.now (caller_of pass.old) place pass.new result }
     ensures stretch { IsStretch pass.old pass.new }
     ensures down { KeepsDown arena.now pass.old pass.new path result }

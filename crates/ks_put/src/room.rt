@@ -6,6 +6,7 @@ ghost use Rattle.ks_arena.specs.Of.{IsPassOf, IsEmptyPassOf, SameCaller, caller_
 ghost use Rattle.ks_shape.specs.Of.{IsStretch, NoneWasFree, SearchEndsAt};
 ghost use Rattle.ks_shape.specs.Paths.{IsOnPathOf};
 ghost use Rattle.ks_put.specs.Of.{CameToRoom};
+ghost use Rattle.ks_shape.specs.Does.{OnlyFills, OnlySearches};
 
 use crate::halves::{Part, settle};
 use crate::splits::split;
@@ -33,6 +34,7 @@ fn down<N: Unlinked, R: Wait, G: Gate>(
     requires goes { next_at (N.body path.node.body) place ≡ Go child }
     ensures pass { IsPassOf arena.now pass.new }
     ensures caller { SameCaller pass.old pass.new }
+    ensures leaves { OnlySearches pass.old pass.new }
     ensures path { IsOnPathOf arena.now (caller_of pass.old) place pass.new result }
     ensures stretch { IsStretch pass.old pass.new }
 {
@@ -58,6 +60,7 @@ fn go_on<N: Unlinked, R: Wait, G: Gate>(
     requires goes { next_at (N.body path.node.body) place ≡ Go child }
     ensures pass { IsPassOf arena.now pass.new }
     ensures caller { SameCaller pass.old pass.new }
+    ensures fills { OnlyFills N.layout N.ranged place pass.old pass.new }
     ensures path { IsOnPathOf arena.now (caller_of pass.old) place pass.new result.0 }
     ensures stretch { IsStretch pass.old pass.new }
     ensures refused { IsTrue result.1 → NoneWasFree arena.now place pass.old pass.new }
@@ -89,6 +92,7 @@ fn begin_again<N: Unlinked, R: Wait, G: Gate>(
     requires path { IsOnPathOf arena.now (caller_of pass.old) place pass.old path }
     ensures pass { IsPassOf arena.now pass.new }
     ensures caller { SameCaller pass.old pass.new }
+    ensures leaves { OnlySearches pass.old pass.new }
     ensures path { IsOnPathOf arena.now (caller_of pass.old) place pass.new result }
     ensures stretch { IsStretch pass.old pass.new }
 {
@@ -111,6 +115,7 @@ pub(crate) fn come_to_end<N: Unlinked, G: Gate>(
     requires here { next_at (N.body path.node.body) place ≡ Here }
     ensures pass { IsPassOf arena.now pass.new }
     ensures caller { SameCaller pass.old pass.new }
+    ensures leaves { OnlySearches pass.old pass.new }
     ensures node { result ≡ path.node }
     ensures ends { SearchEndsAt arena.now place pass.new result }
     ensures stretch { IsStretch pass.old pass.new }
@@ -133,6 +138,7 @@ pub fn make_room<N: Unlinked, R: Wait, G: Gate>(
     requires pass { IsEmptyPassOf arena.now pass.old }
     ensures pass { IsPassOf arena.now pass.new }
     ensures caller { SameCaller pass.old pass.new }
+    ensures fills { OnlyFills N.layout N.ranged place pass.old pass.new }
     ensures room { CameToRoom arena.now place pass.old pass.new result }
     ensures stretch { IsStretch pass.old pass.new }
 {

@@ -10,6 +10,7 @@ ghost use Rattle.ks_shape.specs.Of.{IsStretch};
 ghost use Rattle.ks_put.specs.Narrows.{IsNarrower};
 ghost use Rattle.ks_shape.specs.Paths.{IsOnPathOf};
 ghost use Rattle.ks_put.specs.Of.{AllGrow, TriedToSplit, PartsDown};
+ghost use Rattle.ks_shape.specs.Does.{MustSplit, OnlyFills};
 
 use crate::cuts::{cut_below, cut_of_root};
 use crate::halves::{Part, keep_half, keep_right, keep_right_alone, settle};
@@ -37,6 +38,7 @@ pub(crate) fn grow_root<N: Unlinked, G: Gate>(
     requires halves { IsTrue N.halves_have_room → HalvesHaveRoom N.layout cut (N.body root.body) }
     ensures pass { IsPassOf arena.now pass.new }
     ensures caller { SameCaller pass.old pass.new }
+    ensures fills { MustSplit N.layout place (N.body root.body) → OnlyFills N.layout N.ranged place pass.old pass.new }
     ensures part { TriedToSplit arena.now place pass.old pass.new (record { parent = None; node = root }) result }
     ensures tried { ¬ IsShut result }
     ensures stretch { IsStretch pass.old pass.new }
@@ -78,6 +80,7 @@ pub(crate) fn split_below<N: Unlinked, G: Gate>(
     requires halves { IsTrue N.halves_have_room → HalvesHaveRoom N.layout cut (N.body node.body) }
     ensures pass { IsPassOf arena.now pass.new }
     ensures caller { SameCaller pass.old pass.new }
+    ensures fills { MustSplit N.layout place (N.body node.body) → OnlyFills N.layout N.ranged place pass.old pass.new }
     ensures part { TriedToSplit arena.now place pass.old pass.new
         (record { parent = Some parent; node = node }) result }
     ensures tried { ¬ IsShut result }
@@ -119,6 +122,8 @@ pub(crate) fn split_alone<N: Unlinked, G: Gate>(
     requires halves { IsTrue N.halves_have_room → HalvesHaveRoom N.layout cut (N.body path.node.body) }
     ensures pass { IsPassOf arena.now pass.new }
     ensures caller { SameCaller pass.old pass.new }
+    ensures fills { MustSplit N.layout place (N.body path.node.body) →
+        OnlyFills N.layout N.ranged place pass.old pass.new }
     ensures part { TriedToSplit arena.now place pass.old pass.new path result }
     ensures tried { ¬ IsShut result }
     ensures stretch { IsStretch pass.old pass.new }
@@ -157,6 +162,7 @@ pub(crate) fn split_root<N: Unlinked, G: Gate>(
     requires full { IsTrue (is_full N.layout (N.body root.body)) }
     ensures pass { IsPassOf arena.now pass.new }
     ensures caller { SameCaller pass.old pass.new }
+    ensures fills { MustSplit N.layout place (N.body root.body) → OnlyFills N.layout N.ranged place pass.old pass.new }
     ensures part { TriedToSplit arena.now place pass.old pass.new (record { parent = None; node = root }) result }
     ensures open { N.in_place ≡ false → (IsTrue (is_branch (N.body root.body)) → AllGrow arena.now) → ¬ IsShut result }
     ensures stretch { IsStretch pass.old pass.new }
@@ -198,6 +204,7 @@ pub(crate) fn split_child<N: Unlinked, G: Gate>(
     requires full { IsTrue (is_full N.layout (N.body node.body)) }
     ensures pass { IsPassOf arena.now pass.new }
     ensures caller { SameCaller pass.old pass.new }
+    ensures fills { MustSplit N.layout place (N.body node.body) → OnlyFills N.layout N.ranged place pass.old pass.new }
     ensures part { TriedToSplit arena.now place pass.old pass.new
         (record { parent = Some parent; node = node }) result }
     ensures open { N.in_place ≡ false → (IsTrue (is_branch (N.body node.body)) → AllGrow arena.now) →
@@ -238,6 +245,8 @@ fn split_whole<N: Unlinked, G: Gate>(
     requires full { IsTrue (is_full N.layout (N.body path.node.body)) }
     ensures pass { IsPassOf arena.now pass.new }
     ensures caller { SameCaller pass.old pass.new }
+    ensures fills { MustSplit N.layout place (N.body path.node.body) →
+        OnlyFills N.layout N.ranged place pass.old pass.new }
     ensures part { TriedToSplit arena.now place pass.old pass.new path result }
     ensures open { N.in_place ≡ false → (IsTrue (is_branch (N.body path.node.body)) → AllGrow arena.now) →
         (AllGrow arena.now → HasRoomAbove N.layout N.body path.parent) → ¬ IsShut result }
@@ -268,6 +277,8 @@ pub(crate) fn split<N: Unlinked, G: Gate>(
     requires full { IsTrue (is_full N.layout (N.body path.node.body)) }
     ensures pass { IsPassOf arena.now pass.new }
     ensures caller { SameCaller pass.old pass.new }
+    ensures fills { MustSplit N.layout place (N.body path.node.body) →
+        OnlyFills N.layout N.ranged place pass.old pass.new }
     ensures part { TriedToSplit arena.now place pass.old pass.new path result }
     ensures open { N.in_place ≡ false → (IsTrue (is_branch (N.body path.node.body)) → AllGrow arena.now) →
         (AllGrow arena.now → HasRoomAbove N.layout N.body path.parent) → ¬ IsShut result }

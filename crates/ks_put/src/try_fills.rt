@@ -3,6 +3,7 @@ ghost use Rattle.std.specs.Prelude.{◌≡◌, false};
 ghost use Rattle.ks_arena.specs.Of.{IsEmptyPassOf, SameCaller};
 ghost use Rattle.ks_shape.specs.Fills.{filling};
 ghost use Rattle.ks_put.specs.Tries.{EndsTry, FinishesTry};
+ghost use Rattle.ks_shape.specs.Does.{OnlyFills};
 
 use crate::try_room::try_make_room;
 use ks_arena::{Arena, Pass};
@@ -29,6 +30,7 @@ pub fn try_pair_fill<N: Unlinked, G: Gate>(
     requires pass { IsEmptyPassOf arena.now pass.old }
     ensures pass { IsEmptyPassOf arena.now pass.new }
     ensures caller { SameCaller pass.old pass.new }
+    ensures fills { OnlyFills N.layout N.ranged place pass.old pass.new }
     ensures ends { EndsTry arena.now (filling place fill) pass.old pass.new result }
     ensures tried { N.in_place ≡ false → FinishesTry arena.now (filling place fill) pass.old pass.new result }
 {

@@ -8,6 +8,7 @@ ghost use Rattle.ks_shape.specs.Of.{IsStretch, NoneWasFree};
 ghost use Rattle.ks_shape.specs.Paths.{IsOnPathOf};
 ghost use Rattle.ks_put.specs.Of.{AllGrow};
 ghost use Rattle.ks_put.specs.Tries.{IsEasedBut, IsEasedStep, IsNear, IsNearer, OnOrCause, StepsOrNone, TriesRoom, TriesRoomSince, WasRefused, WentDown};
+ghost use Rattle.ks_shape.specs.Does.{OnlyFills, OnlySearches};
 
 use crate::halves::Part;
 use crate::room::come_to_end;
@@ -39,6 +40,7 @@ fn let_all_go<N: Unlinked, G: Gate>(
     requires path { IsOnPathOf arena.now (caller_of pass.old) place pass.old path }
     ensures pass { IsEmptyPassOf arena.now pass.new }
     ensures caller { SameCaller pass.old pass.new }
+    ensures leaves { OnlySearches pass.old pass.new }
     ensures stretch { IsStretch pass.old pass.new }
 {
     let held = let_go(arena, pass, gate, place, path);
@@ -62,6 +64,7 @@ fn try_down<N: Unlinked, G: Gate>(
     requires near { depth < arena.now.nodes }
     ensures pass { IsPassOf arena.now pass.new }
     ensures caller { SameCaller pass.old pass.new }
+    ensures leaves { OnlySearches pass.old pass.new }
     ensures path { StepsOrNone arena.now (caller_of pass.old) place pass.new result }
     ensures went { WentDown path.node depth refused result }
     ensures near { IsNear arena.now.nodes result }
@@ -104,6 +107,7 @@ fn try_go_on<N: Unlinked, G: Gate>(
     requires near { depth < arena.now.nodes }
     ensures pass { IsPassOf arena.now pass.new }
     ensures caller { SameCaller pass.old pass.new }
+    ensures fills { OnlyFills N.layout N.ranged place pass.old pass.new }
     ensures path { StepsOrNone arena.now (caller_of pass.old) place pass.new result }
     ensures refused { WasRefused refused (NoneWasFree arena.now place pass.old pass.new) result }
     ensures eased { N.in_place ≡ false → IsEasedBut N.layout N.body (AllGrow arena.now) refused path.parent →
@@ -144,6 +148,7 @@ pub(crate) fn try_make_room<N: Unlinked, G: Gate>(
     requires pass { IsEmptyPassOf arena.now pass.old }
     ensures pass { IsPassOf arena.now pass.new }
     ensures caller { SameCaller pass.old pass.new }
+    ensures fills { OnlyFills N.layout N.ranged place pass.old pass.new }
     ensures room { TriesRoom arena.now place pass.old pass.new result }
     ensures cause { TriesRoomSince arena.now place pass.old pass.new result }
     ensures stretch { IsStretch pass.old pass.new }

@@ -3,6 +3,7 @@ pub mod Beside
 pub mod Claims
 pub mod Ends
 pub mod Fills
+pub mod Does
 pub mod Makes
 pub mod OnWay
 pub mod Places

@@ -1,5 +1,6 @@
 pub mod Beside
 pub mod InHand
+pub mod Does
 pub mod SearchEnd
 pub mod OnWay
 pub mod Answers

@@ -1,10 +1,11 @@
 //! Claims of one node and of two. Where a claim is refused, no node was free.
-ghost use Rattle.std.specs.Prelude.{◌≡◌, ◌≤◌, length};
+ghost use Rattle.std.specs.Prelude.{◌≡◌, ℕ, ◌≤◌, length};
 ghost use Rattle.ks_flow.specs.Discipline.{SameKeyset};
 ghost use Rattle.ks_arena.specs.Clauses.{hand_of};
 ghost use Rattle.ks_arena.specs.Of.{IsPassOf, RestStays, SameCaller};
 ghost use Rattle.ks_shape.specs.Quiet.{KeepsQuiet};
 ghost use Rattle.ks_shape.specs.Of.{IsStretch, MakesNoneLive, KeepsAside, HasClaimedOne, HasClaimedTwo};
+ghost use Rattle.ks_shape.specs.Does.{OnlyFills};
 
 use ks_arena::{Arena, Held, Pass};
 use ks_flow::Discipline;
@@ -22,6 +23,7 @@ pub fn claim_one<N: Node, D: Discipline, G: Gate>(
     requires few { length (hand_of pass.old) ≤ 2 }
     ensures pass { IsPassOf arena.now pass.new }
     ensures caller { SameCaller pass.old pass.new }
+    ensures fills { (place : ℕ) → OnlyFills N.layout N.ranged place pass.old pass.new }
     ensures claimed { HasClaimedOne arena.now pass.old pass.new result }
     ensures stretch { IsStretch pass.old pass.new }
     ensures makes { MakesNoneLive pass.old pass.new }
@@ -50,6 +52,7 @@ pub fn claim_two<N: Node, D: Discipline, G: Gate>(
     requires few { length (hand_of pass.old) ≤ 1 }
     ensures pass { IsPassOf arena.now pass.new }
     ensures caller { SameCaller pass.old pass.new }
+    ensures fills { (place : ℕ) → OnlyFills N.layout N.ranged place pass.old pass.new }
     ensures claimed { HasClaimedTwo arena.now pass.old pass.new result }
     ensures stretch { IsStretch pass.old pass.new }
     ensures makes { MakesNoneLive pass.old pass.new }

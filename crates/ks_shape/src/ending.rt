@@ -6,6 +6,7 @@ ghost use Rattle.ks_history.specs.Map.{told};
 ghost use Rattle.ks_arena.specs.Clauses.{hand_of};
 ghost use Rattle.ks_arena.specs.Of.{IsPassOf, IsEmptyPassOf, IsReadyAt, SeesOn, SameCaller};
 ghost use Rattle.ks_shape.specs.Of.{MakesNoneLive, FinishesAny, FinishesAt, FinishesFull, FinishesIfDue};
+ghost use Rattle.ks_shape.specs.Does.{OnlySearches};
 
 use crate::answers::Full;
 use ks_arena::laws::sound_law;
@@ -41,6 +42,7 @@ fn decide_here<N: Node, D: Discipline, G: Gate>(
     requires ready { IsReadyAt arena.now pass.old held op reply }
     ensures pass { IsEmptyPassOf arena.now pass.new }
     ensures caller { SameCaller pass.old pass.new }
+    ensures leaves { OnlySearches pass.old pass.new }
     ensures begins { SeesOn pass.old pass.new }
     ensures makes { MakesNoneLive pass.old pass.new }
     ensures done { FinishesIfDue arena.now held op pass.old pass.new reply result }
@@ -69,6 +71,7 @@ pub fn conclude<N: Node, D: Discipline, G: Gate>(
     requires some { reply ≢ full_reply }
     ensures pass { IsEmptyPassOf arena.now pass.new }
     ensures caller { SameCaller pass.old pass.new }
+    ensures leaves { OnlySearches pass.old pass.new }
     ensures begins { SeesOn pass.old pass.new }
     ensures makes { MakesNoneLive pass.old pass.new }
     ensures done { FinishesAny arena.now op pass.old pass.new reply result }
@@ -91,6 +94,7 @@ pub fn refuse<N: Node, D: Discipline, G: Gate>(
     requires ready { IsReadyAt arena.now pass.old held op full_reply }
     ensures pass { IsEmptyPassOf arena.now pass.new }
     ensures caller { SameCaller pass.old pass.new }
+    ensures leaves { OnlySearches pass.old pass.new }
     ensures begins { SeesOn pass.old pass.new }
     ensures makes { MakesNoneLive pass.old pass.new }
     ensures done { FinishesFull arena.now held op pass.old pass.new result.number }

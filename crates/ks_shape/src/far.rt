@@ -5,6 +5,7 @@ ghost use Rattle.ks_node.specs.Body.{next_at};
 ghost use Rattle.ks_arena.specs.Of.{IsPassOf, IsEmptyPassOf, SameCaller, caller_of};
 ghost use Rattle.ks_shape.specs.Of.{StaysUnderwayAny, IsOnWayOf};
 ghost use Rattle.ks_shape.specs.Descents.{IsFarFrom};
+ghost use Rattle.ks_shape.specs.Does.{OnlySearches};
 
 use crate::child::child_law;
 use crate::steps::give_last;
@@ -28,6 +29,7 @@ pub fn turn_back<N: Unlinked, G: Gate>(
     requires goes { next_at (N.body held.body) place ≡ Go child }
     ensures pass { IsEmptyPassOf arena.now pass.new }
     ensures caller { SameCaller pass.old pass.new }
+    ensures leaves { OnlySearches pass.old pass.new }
     ensures far { IsFarFrom arena.now pass.old pass.new held }
     ensures under { StaysUnderwayAny pass.old pass.new }
 {

@@ -3,6 +3,7 @@ ghost use Rattle.std.specs.Prelude.{◌≡◌};
 ghost use Rattle.ks_arena.specs.Of.{IsPassOf, IsEmptyPassOf, SeesOn, SameCaller};
 ghost use Rattle.ks_shape.specs.Fills.{filling, not_later, EndsForRoomOf, FinishesFill};
 ghost use Rattle.ks_shape.specs.Of.{MakesNoneLive};
+ghost use Rattle.ks_shape.specs.Does.{OnlySearches};
 
 use crate::answers::{Full, Numbered, PutLater};
 use crate::here::{add_here, put_here, refuse_here};
@@ -35,6 +36,7 @@ pub fn fill_at<N: Node, D: Discipline, G: Gate>(
     requires found { EndsForRoomOf arena.now place pass.old found }
     ensures pass { IsEmptyPassOf arena.now pass.new }
     ensures caller { SameCaller pass.old pass.new }
+    ensures leaves { OnlySearches pass.old pass.new }
     ensures begins { SeesOn pass.old pass.new }
     ensures makes { MakesNoneLive pass.old pass.new }
     ensures done { FinishesFill arena.now (filling place fill) place found pass.old pass.new result }

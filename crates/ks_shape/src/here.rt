@@ -7,6 +7,7 @@ ghost use Rattle.ks_node.specs.Body.{next_at};
 ghost use Rattle.ks_arena.specs.Of.{IsPassOf, IsEmptyPassOf, WasRefusedAt, SeesOn, SameCaller, caller_of};
 ghost use Rattle.ks_shape.specs.SearchEnd.{Fills, LacksPlace, TakesPlace};
 ghost use Rattle.ks_shape.specs.Of.{IsOnWayOf, MakesNoneLive, FinishesAny, FinishesCrowded, SearchEndsAt, HasRoomAt, IsCrowdedAt};
+ghost use Rattle.ks_shape.specs.Does.{OnlySearches};
 
 use crate::answers::{Full, Numbered};
 use crate::ending::{conclude, refuse, reply_of};
@@ -53,6 +54,7 @@ pub fn get_here<N: Node, D: Discipline, G: Gate>(
     requires ends { SearchEndsAt arena.now place pass.old held }
     ensures pass { IsEmptyPassOf arena.now pass.new }
     ensures caller { SameCaller pass.old pass.new }
+    ensures leaves { OnlySearches pass.old pass.new }
     ensures begins { SeesOn pass.old pass.new }
     ensures makes { MakesNoneLive pass.old pass.new }
     ensures done { FinishesAny arena.now (Get place) pass.old pass.new (told result.found) result.number }
@@ -77,6 +79,7 @@ pub fn put_here<N: Node, D: Discipline, G: Gate>(
     requires room { HasRoomAt arena.now place pass.old held }
     ensures pass { IsEmptyPassOf arena.now pass.new }
     ensures caller { SameCaller pass.old pass.new }
+    ensures leaves { OnlySearches pass.old pass.new }
     ensures begins { SeesOn pass.old pass.new }
     ensures makes { MakesNoneLive pass.old pass.new }
     ensures done { FinishesAny arena.now (Put place value) pass.old pass.new (told result.found) result.number }
@@ -104,6 +107,7 @@ pub fn add_here<N: Node, D: Discipline, G: Gate>(
     requires room { HasRoomAt arena.now place pass.old held }
     ensures pass { IsEmptyPassOf arena.now pass.new }
     ensures caller { SameCaller pass.old pass.new }
+    ensures leaves { OnlySearches pass.old pass.new }
     ensures begins { SeesOn pass.old pass.new }
     ensures makes { MakesNoneLive pass.old pass.new }
     ensures done { FinishesAny arena.now (Add place value) pass.old pass.new (told result.found) result.number }
@@ -141,6 +145,7 @@ pub fn swap_here<N: Node, D: Discipline, G: Gate>(
     requires ends { SearchEndsAt arena.now place pass.old held }
     ensures pass { IsEmptyPassOf arena.now pass.new }
     ensures caller { SameCaller pass.old pass.new }
+    ensures leaves { OnlySearches pass.old pass.new }
     ensures begins { SeesOn pass.old pass.new }
     ensures makes { MakesNoneLive pass.old pass.new }
     ensures done { FinishesAny arena.now (Swap place old new) pass.old pass.new (told result.found) result.number }
@@ -183,6 +188,7 @@ pub fn del_here<N: Node, D: Discipline, G: Gate>(
     requires ends { SearchEndsAt arena.now place pass.old held }
     ensures pass { IsEmptyPassOf arena.now pass.new }
     ensures caller { SameCaller pass.old pass.new }
+    ensures leaves { OnlySearches pass.old pass.new }
     ensures begins { SeesOn pass.old pass.new }
     ensures makes { MakesNoneLive pass.old pass.new }
     ensures done { FinishesAny arena.now (Del place) pass.old pass.new (told result.found) result.number }
@@ -212,6 +218,7 @@ pub fn refuse_here<N: Node, D: Discipline, G: Gate>(
     requires fills { Fills place value op }
     ensures pass { IsEmptyPassOf arena.now pass.new }
     ensures caller { SameCaller pass.old pass.new }
+    ensures leaves { OnlySearches pass.old pass.new }
     ensures begins { SeesOn pass.old pass.new }
     ensures makes { MakesNoneLive pass.old pass.new }
     ensures done { FinishesCrowded arena.now op place pass.old pass.new result.number }

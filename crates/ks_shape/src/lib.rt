@@ -11,6 +11,7 @@ mod far;
 mod fills;
 mod here;
 mod laws;
+mod leaves;
 mod link;
 mod path;
 mod steps;
@@ -30,6 +31,7 @@ pub use here::{
     add_here, del_here, get_here, has_room, put_here, refuse_here, swap_here, tree_end_law,
 };
 pub use laws::search_law;
+pub use leaves::leaves_law;
 pub use link::{attach, grow_right, split_right};
 pub use path::{Path, enter, keep_alone, keep_left, let_go, step_down};
 pub use steps::{give_last, take_root};

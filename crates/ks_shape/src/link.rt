@@ -1,5 +1,5 @@
 //! Shapes under links. Each asks that the pass holds its nodes with the bodies of the graph, and tells what they became.
-ghost use Rattle.std.specs.Prelude.{◌≡◌, ◌≢◌, ◌<◌, IsTrue, None};
+ghost use Rattle.std.specs.Prelude.{◌≡◌, ◌≢◌, ℕ, ◌<◌, IsTrue, None};
 ghost use Rattle.ks_node.specs.Body.{content_of, is_branch};
 ghost use Rattle.ks_node.specs.Room.{is_full};
 ghost use Rattle.ks_node.specs.Effect.{split_right as right_part, adopted, with_link};
@@ -7,6 +7,7 @@ ghost use Rattle.ks_node.specs.Asks.{CanSplitAt, IsCut};
 ghost use Rattle.ks_bodies.specs.Links as shapes;
 ghost use Rattle.ks_arena.specs.Of.{IsPassOf, HasShaped, SameCaller};
 ghost use Rattle.ks_shape.specs.Of.{IsLiveInHand, IsFreeInHand, HasBecome, IsLedTo, StandsUnderAt, splits_right, grows_right, attaches_to};
+ghost use Rattle.ks_shape.specs.Does.{MustSplit, OnlyFills};
 
 use ks_arena::laws::sound_law;
 use ks_arena::{Arena, Held, Pass};
@@ -31,6 +32,8 @@ pub fn split_right<N: Linked>(
     requires cut { CanSplitAt (N.body node.old.body) cut }
     ensures pass { IsPassOf arena.now pass.new }
     ensures caller { SameCaller pass.old pass.new }
+    ensures fills { (place : ℕ) → MustSplit N.layout place (N.body node.old.body) →
+        OnlyFills N.layout N.ranged place pass.old pass.new }
     ensures shaped { HasShaped arena.now (splits_right arena.now node.old right.old cut) pass.old pass.new }
     ensures node { HasBecome arena.now pass.new
         (shapes.split_linked cut right.old.node (N.body node.old.body)) node.old node.new }
@@ -70,6 +73,8 @@ pub fn grow_right<N: Linked>(
     requires level { (N.body node.old.body).level < 4294967295 }
     ensures pass { IsPassOf arena.now pass.new }
     ensures caller { SameCaller pass.old pass.new }
+    ensures fills { (place : ℕ) → MustSplit N.layout place (N.body node.old.body) →
+        OnlyFills N.layout N.ranged place pass.old pass.new }
     ensures shaped { HasShaped arena.now (grows_right arena.now node.old left.old right.old cut) pass.old pass.new }
     ensures node { HasBecome arena.now pass.new
         (shapes.grown_higher N.branch_kind cut left.old.node right.old.node (N.body node.old.body)) node.old node.new }
@@ -111,6 +116,7 @@ pub fn attach<N: Linked>(
     requires under { StandsUnderAt arena.now pass.old id (N.body node.old.body).level cut }
     ensures pass { IsPassOf arena.now pass.new }
     ensures caller { SameCaller pass.old pass.new }
+    ensures fills { (place : ℕ) → OnlyFills N.layout N.ranged place pass.old pass.new }
     ensures shaped { HasShaped arena.now (attaches_to arena.now node.old id cut) pass.old pass.new }
     ensures node { HasBecome arena.now pass.new (adopted cut id (N.body node.old.body)) node.old node.new }
     ensures led { IsLedTo arena.now pass.new id }

@@ -10,6 +10,7 @@ ghost use Rattle.ks_shape.specs.OnPath.{numbers};
 ghost use Rattle.ks_arena.specs.Of.{Adds, IsInside, IsPassOf, IsEmptyPassOf, IsCurrent, IsLiveAndCurrent, SameCaller, caller_of};
 ghost use Rattle.ks_shape.specs.Of.{IsStretch, IsOnWayOf, StaysUnderway};
 ghost use Rattle.ks_shape.specs.Paths.{AddsGive, IsOnPathOf, IsUnderParent};
+ghost use Rattle.ks_shape.specs.Does.{OnlySearches};
 
 use crate::laws::search_law;
 use crate::steps::take_root;
@@ -40,6 +41,7 @@ pub fn enter<N: Unlinked, R: Wait, G: Gate>(
     requires pass { IsEmptyPassOf arena.now pass.old }
     ensures pass { IsPassOf arena.now pass.new }
     ensures caller { SameCaller pass.old pass.new }
+    ensures leaves { OnlySearches pass.old pass.new }
     ensures path { IsOnPathOf arena.now (caller_of pass.old) place pass.new result }
     ensures stretch { IsStretch pass.old pass.new }
     ensures root { (result.parent ≡ None) × (result.node.node ≡ 0) }
@@ -66,6 +68,7 @@ pub fn keep_alone<N: Unlinked, G: Gate>(
     requires inside { IsInside pass.old node.node place }
     ensures pass { IsPassOf arena.now pass.new }
     ensures caller { SameCaller pass.old pass.new }
+    ensures leaves { OnlySearches pass.old pass.new }
     ensures node { result ≡ node }
     ensures way { IsOnWayOf arena.now (caller_of pass.old) place pass.new result }
     ensures under { StaysUnderway coupling pass.old pass.new }
@@ -94,6 +97,7 @@ pub fn let_go<N: Unlinked, G: Gate>(
     requires path { IsOnPathOf arena.now (caller_of pass.old) place pass.old path }
     ensures pass { IsPassOf arena.now pass.new }
     ensures caller { SameCaller pass.old pass.new }
+    ensures leaves { OnlySearches pass.old pass.new }
     ensures node { result ≡ path.node }
     ensures way { IsOnWayOf arena.now (caller_of pass.old) place pass.new result }
     ensures under { StaysUnderway coupling pass.old pass.new }
@@ -120,6 +124,7 @@ pub fn step_down<N: Unlinked, R: Wait, G: Gate>(
     requires goes { next_at (N.body held.body) place ≡ Go child }
     ensures pass { IsPassOf arena.now pass.new }
     ensures caller { SameCaller pass.old pass.new }
+    ensures leaves { OnlySearches pass.old pass.new }
     ensures path { IsOnPathOf arena.now (caller_of pass.old) place pass.new result }
     ensures under { StaysUnderway coupling pass.old pass.new }
     ensures stretch { IsStretch pass.old pass.new }
@@ -158,6 +163,7 @@ pub fn keep_left<N: Unlinked, G: Gate>(
     requires inside { IsInside pass.old path.node.node place }
     ensures pass { IsPassOf arena.now pass.new }
     ensures caller { SameCaller pass.old pass.new }
+    ensures leaves { OnlySearches pass.old pass.new }
     ensures path { IsOnPathOf arena.now (caller_of pass.old) place pass.new result }
     ensures stretch { IsStretch pass.old pass.new }
     ensures same { result ≡ path }

@@ -3,6 +3,7 @@ ghost use Rattle.std.specs.Prelude.{◌≡◌};
 ghost use Rattle.ks_history.specs.declared.Event.TheVariants.{Give, Take};
 ghost use Rattle.ks_arena.specs.Of.{Adds, IsPassOf, IsEmptyPassOf, IsCurrent, SameCaller, caller_of};
 ghost use Rattle.ks_shape.specs.Of.{HoldsOnly, IsOnWayOf, IsStretch, MakesNoneLive, StaysUnderwayAny};
+ghost use Rattle.ks_shape.specs.Does.{OnlySearches};
 
 use ks_arena::laws::root_stays_law;
 use ks_arena::{Arena, Held, Pass, root_law};
@@ -23,6 +24,7 @@ pub fn take_root<N: Node, D: Discipline, R: Wait, G: Gate>(
     requires pass { IsEmptyPassOf arena.now pass.old }
     ensures pass { IsPassOf arena.now pass.new }
     ensures caller { SameCaller pass.old pass.new }
+    ensures leaves { OnlySearches pass.old pass.new }
     ensures took { Adds (Take (caller_of pass.old) 0) pass.old pass.new }
     ensures root { result.node ≡ 0 }
     ensures way { IsOnWayOf arena.now (caller_of pass.old) place pass.new result }
@@ -52,6 +54,7 @@ pub fn give_last<N: Node, D: Discipline, G: Gate>(
     requires body { IsCurrent arena.now pass.old held }
     ensures pass { IsEmptyPassOf arena.now pass.new }
     ensures caller { SameCaller pass.old pass.new }
+    ensures leaves { OnlySearches pass.old pass.new }
     ensures gave { Adds (Give (caller_of pass.old) held.node) pass.old pass.new }
     ensures under { StaysUnderwayAny pass.old pass.new }
     ensures stretch { IsStretch pass.old pass.new }

@@ -11,6 +11,7 @@ ghost use Rattle.ks_shape.specs.Tries.{HasTried, HasTriedPut};
 ghost use Rattle.ks_shape.specs.Ends.{HasEndedPut};
 ghost use Rattle.ks_shape.specs.Upkeep.{AreNewLed, HasTwoFree, IsTidyIn, LeadsNew, LeavesTidy};
 ghost use Rattle.ks_arena.specs.Of.{SameCaller, WasAlone};
+ghost use Rattle.ks_shape.specs.Does.{OnlyDels, OnlyFills, OnlySearches};
 
 use crate::answers::{Full, Later, Numbered, PutLater};
 use ks_arena::{Arena, Pass};
@@ -49,6 +50,10 @@ pub trait Ruled: Send + Sync {
 /// unless its name begins with `try`. Its pass holds no node before it, and none after it. The call stands once in the one
 /// history of all calls, after all that its pass had seen, and has its number there; the answer tells what the map held at
 /// the place just before it. A call that waits for nobody may be put off: then it does not stand there.
+///
+/// Nodes that a call has no need of it leaves alone: a get and a swap make no Shape and claim no node (`leaves`); a put and an
+/// add split only full nodes and merge none (`fills`); a del merges only low nodes, or a branch with its only child, and
+/// claims and splits none (`dels`).
 pub trait Template<N: Node, A: Shelf>: Ruled {
     /// The frame of a blank node is as the rule asks. It computes nothing.
     fn fits()
@@ -65,6 +70,7 @@ pub trait Template<N: Node, A: Shelf>: Ruled {
         requires pass { IsIdle (A.site arena.now) pass.old }
         ensures pass { IsIdle (A.site arena.now) pass.new }
         ensures caller { SameCaller pass.old pass.new }
+        ensures leaves { OnlySearches pass.old pass.new }
         ensures done { IsDone N.layout Self.technique (A.site arena.now) (Get place)
             pass.old pass.new (told result.found) result.number };
 
@@ -90,6 +96,7 @@ pub trait Template<N: Node, A: Shelf>: Ruled {
         requires pass { IsIdle (A.site arena.now) pass.old }
         ensures pass { IsIdle (A.site arena.now) pass.new }
         ensures caller { SameCaller pass.old pass.new }
+        ensures fills { OnlyFills N.layout N.ranged place pass.old pass.new }
         ensures done { IsDone N.layout Self.technique (A.site arena.now) (Put place value)
             pass.old pass.new (reply_in result) (number_in result) }
         ensures led { LeadsNew Self.technique → IsTrue N.branches_adopt → IsTrue N.halves_have_room →
@@ -112,6 +119,7 @@ pub trait Template<N: Node, A: Shelf>: Ruled {
         requires pass { IsIdle (A.site arena.now) pass.old }
         ensures pass { IsIdle (A.site arena.now) pass.new }
         ensures caller { SameCaller pass.old pass.new }
+        ensures fills { OnlyFills N.layout N.ranged place pass.old pass.new }
         ensures done { IsDone N.layout Self.technique (A.site arena.now) (Add place value)
             pass.old pass.new (reply_in result) (number_in result) }
         ensures led { LeadsNew Self.technique → IsTrue N.branches_adopt → IsTrue N.halves_have_room →
@@ -132,6 +140,7 @@ pub trait Template<N: Node, A: Shelf>: Ruled {
         requires pass { IsIdle (A.site arena.now) pass.old }
         ensures pass { IsIdle (A.site arena.now) pass.new }
         ensures caller { SameCaller pass.old pass.new }
+        ensures leaves { OnlySearches pass.old pass.new }
         ensures done { IsDone N.layout Self.technique (A.site arena.now) (Swap place old new)
             pass.old pass.new (told result.found) result.number };
 
@@ -148,6 +157,7 @@ pub trait Template<N: Node, A: Shelf>: Ruled {
         requires pass { IsIdle (A.site arena.now) pass.old }
         ensures pass { IsIdle (A.site arena.now) pass.new }
         ensures caller { SameCaller pass.old pass.new }
+        ensures dels { OnlyDels N.layout N.ranged pass.old pass.new }
         ensures done { IsDone N.layout Self.technique (A.site arena.now) (Del place)
             pass.old pass.new (told result.found) result.number }
         ensures tidy { LeavesTidy Self.technique → result.found ≢ None →
@@ -170,6 +180,7 @@ pub trait Template<N: Node, A: Shelf>: Ruled {
         requires pass { IsIdle (A.site arena.now) pass.old }
         ensures pass { IsIdle (A.site arena.now) pass.new }
         ensures caller { SameCaller pass.old pass.new }
+        ensures leaves { OnlySearches pass.old pass.new }
         ensures tried { HasTried N.layout Self.technique (A.site arena.now) (Get place)
             pass.old pass.new result };
 
@@ -190,6 +201,7 @@ pub trait Template<N: Node, A: Shelf>: Ruled {
         requires pass { IsIdle (A.site arena.now) pass.old }
         ensures pass { IsIdle (A.site arena.now) pass.new }
         ensures caller { SameCaller pass.old pass.new }
+        ensures fills { OnlyFills N.layout N.ranged place pass.old pass.new }
         ensures ends { HasEndedPut N.layout Self.technique (A.site arena.now) (Put place value)
             pass.old pass.new result }
         ensures tried { N.in_place ≡ false →
@@ -212,6 +224,7 @@ pub trait Template<N: Node, A: Shelf>: Ruled {
         requires pass { IsIdle (A.site arena.now) pass.old }
         ensures pass { IsIdle (A.site arena.now) pass.new }
         ensures caller { SameCaller pass.old pass.new }
+        ensures fills { OnlyFills N.layout N.ranged place pass.old pass.new }
         ensures ends { HasEndedPut N.layout Self.technique (A.site arena.now) (Add place value)
             pass.old pass.new result }
         ensures tried { N.in_place ≡ false →
@@ -234,6 +247,7 @@ pub trait Template<N: Node, A: Shelf>: Ruled {
         requires pass { IsIdle (A.site arena.now) pass.old }
         ensures pass { IsIdle (A.site arena.now) pass.new }
         ensures caller { SameCaller pass.old pass.new }
+        ensures leaves { OnlySearches pass.old pass.new }
         ensures tried { HasTried N.layout Self.technique (A.site arena.now) (Swap place old new)
             pass.old pass.new result };
 
@@ -252,6 +266,7 @@ pub trait Template<N: Node, A: Shelf>: Ruled {
         requires pass { IsIdle (A.site arena.now) pass.old }
         ensures pass { IsIdle (A.site arena.now) pass.new }
         ensures caller { SameCaller pass.old pass.new }
+        ensures dels { OnlyDels N.layout N.ranged pass.old pass.new }
         ensures tried { HasTried N.layout Self.technique (A.site arena.now) (Del place)
             pass.old pass.new result };
 }

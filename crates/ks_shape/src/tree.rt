@@ -3,12 +3,13 @@ ghost use Rattle.std.specs.Prelude.{◌≡◌, ◌≢◌, ℕ, ◌<◌, ◌≤�
 ghost use Rattle.ks_keysets.specs.Record.{LeadsTo};
 ghost use Rattle.ks_node.specs.Body.{content_of, is_branch, chained_of, only_child_of, right_child};
 ghost use Rattle.ks_node.specs.Edges.{record_of};
-ghost use Rattle.ks_node.specs.Room.{is_full, fit_together};
+ghost use Rattle.ks_node.specs.Room.{is_full, is_low, fit_together};
 ghost use Rattle.ks_node.specs.Effect.{split_left, split_right, grown, adopted, absorbed, forgot, collapsed};
 ghost use Rattle.ks_node.specs.Asks.{CanSplitAt};
 ghost use Rattle.ks_bodies.specs.Shapes as shapes;
 ghost use Rattle.ks_arena.specs.Of.{IsInside, IsPassOf, HasShaped, SameCaller};
 ghost use Rattle.ks_shape.specs.Of.{IsLiveInHand, IsFreeInHand, LeadsInto, HasBecome, HasBecomeFree, splits_own, splits_under, grows_to, HasPlaces, absorbs_own, absorbs_under, collapses_to};
+ghost use Rattle.ks_shape.specs.Does.{MustSplit, OnlyDels, OnlyFills};
 
 use ks_arena::laws::sound_law;
 use ks_arena::{Arena, Held, Pass};
@@ -32,6 +33,8 @@ pub fn split_own<N: Unlinked>(
     requires adopts { IsTrue (N.can_adopt_at (content_of (split_left cut (N.body node.old.body))) cut) }
     ensures pass { IsPassOf arena.now pass.new }
     ensures caller { SameCaller pass.old pass.new }
+    ensures fills { (place : ℕ) → MustSplit N.layout place (N.body node.old.body) →
+        OnlyFills N.layout N.ranged place pass.old pass.new }
     ensures shaped { HasShaped arena.now (splits_own arena.now node.old right.old cut) pass.old pass.new }
     ensures node { HasBecome arena.now pass.new
         (shapes.split_on cut right.old.node (N.body node.old.body)) node.old node.new }
@@ -76,6 +79,8 @@ pub fn split_under<N: Unlinked>(
     requires adopts { IsTrue (N.can_adopt_at (content_of (N.body parent.old.body)) cut) }
     ensures pass { IsPassOf arena.now pass.new }
     ensures caller { SameCaller pass.old pass.new }
+    ensures fills { (place : ℕ) → MustSplit N.layout place (N.body node.old.body) →
+        OnlyFills N.layout N.ranged place pass.old pass.new }
     ensures shaped { HasShaped arena.now (splits_under arena.now parent.old node.old right.old cut) pass.old pass.new }
     ensures parent { HasBecome arena.now pass.new
         (adopted cut right.old.node (N.body parent.old.body)) parent.old parent.new }
@@ -121,6 +126,8 @@ pub fn grow<N: Unlinked>(
         × IsTrue (N.can_grow_at (content_of (N.body node.old.body)) cut) }
     ensures pass { IsPassOf arena.now pass.new }
     ensures caller { SameCaller pass.old pass.new }
+    ensures fills { (place : ℕ) → MustSplit N.layout place (N.body node.old.body) →
+        OnlyFills N.layout N.ranged place pass.old pass.new }
     ensures shaped { HasShaped arena.now (grows_to arena.now node.old left.old right.old cut) pass.old pass.new }
     ensures node { HasBecome arena.now pass.new
         (grown N.branch_kind cut left.old.node right.old.node (N.body node.old.body)) node.old node.new }
@@ -160,6 +167,7 @@ pub fn absorb_own<N: Unlinked>(
     requires fits { IsTrue (fit_together N.layout (N.body node.old.body) (N.body right.old.body)) }
     ensures pass { IsPassOf arena.now pass.new }
     ensures caller { SameCaller pass.old pass.new }
+    ensures dels { IsTrue (is_low N.layout (N.body node.old.body)) → OnlyDels N.layout N.ranged pass.old pass.new }
     ensures shaped { HasShaped arena.now (absorbs_own arena.now node.old right.old) pass.old pass.new }
     ensures node { HasBecome arena.now pass.new
         (absorbed (N.body node.old.body) (N.body right.old.body)) node.old node.new }
@@ -200,6 +208,7 @@ pub fn absorb_under<N: Unlinked>(
     requires fits { IsTrue (fit_together N.layout (N.body node.old.body) (N.body right.old.body)) }
     ensures pass { IsPassOf arena.now pass.new }
     ensures caller { SameCaller pass.old pass.new }
+    ensures dels { IsTrue (is_low N.layout (N.body node.old.body)) → OnlyDels N.layout N.ranged pass.old pass.new }
     ensures shaped { HasShaped arena.now (absorbs_under arena.now parent.old node.old right.old) pass.old pass.new }
     ensures parent { HasBecome arena.now pass.new
         (forgot right.old.node (N.body parent.old.body)) parent.old parent.new }
@@ -240,6 +249,7 @@ pub fn collapse<N: Unlinked>(
     requires apart { node.old.node ≢ child.old.node }
     ensures pass { IsPassOf arena.now pass.new }
     ensures caller { SameCaller pass.old pass.new }
+    ensures dels { OnlyDels N.layout N.ranged pass.old pass.new }
     ensures shaped { HasShaped arena.now (collapses_to arena.now node.old child.old) pass.old pass.new }
     ensures node { HasBecome arena.now pass.new
         (collapsed (N.body node.old.body) (N.body child.old.body)) node.old node.new }

@@ -6,6 +6,7 @@ ghost use Rattle.ks_arena.specs.Of.{IsPassOf, IsEmptyPassOf, SameCaller, caller_
 ghost use Rattle.ks_shape.specs.Of.{IsStretch, IsOnWayOf, StaysUnderway, StaysUnderwayAny};
 ghost use Rattle.ks_history.specs.Done.{coupling};
 ghost use Rattle.ks_shape.specs.TryPaths.{HangsFrom, IsAtRoot, IsBusyDue, StandsOrNone, TookOrGave, TookOrLooked};
+ghost use Rattle.ks_shape.specs.Does.{OnlySearches};
 
 use crate::answers::Later;
 use crate::child::child_law;
@@ -28,6 +29,7 @@ pub fn try_enter<N: Unlinked, G: Gate>(
     requires pass { IsEmptyPassOf arena.now pass.old }
     ensures pass { IsPassOf arena.now pass.new }
     ensures caller { SameCaller pass.old pass.new }
+    ensures leaves { OnlySearches pass.old pass.new }
     ensures path { StandsOrNone arena.now (caller_of pass.old) place pass.new result }
     ensures root { IsAtRoot result }
     ensures took { TookOrLooked 0 pass.old pass.new result }
@@ -62,6 +64,7 @@ pub fn try_step_down<N: Unlinked, G: Gate>(
     requires goes { next_at (N.body held.body) place ≡ Go child }
     ensures pass { IsPassOf arena.now pass.new }
     ensures caller { SameCaller pass.old pass.new }
+    ensures leaves { OnlySearches pass.old pass.new }
     ensures path { StandsOrNone arena.now (caller_of pass.old) place pass.new result }
     ensures parent { HangsFrom held result }
     ensures took { TookOrGave child held pass.old pass.new result }

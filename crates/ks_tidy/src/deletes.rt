@@ -8,6 +8,7 @@ ghost use Rattle.ks_arena.specs.Clauses.{hand_of};
 ghost use Rattle.ks_arena.specs.Of.{Holds, IsCurrent, IsEmptyPassOf, IsInside, IsLiveAndCurrent, IsPassOf, SeesOn, StayCurrentBut, WasAlone, SameCaller, caller_of};
 ghost use Rattle.ks_shape.specs.Of.{FinishesAny, SearchEndsAt};
 ghost use Rattle.ks_tidy.specs.Of.{DecidesAny, IsKeptAt, IsPairOf, IsTidyOf};
+ghost use Rattle.ks_shape.specs.Does.{OnlyDels, OnlySearches};
 
 use crate::descent::{leave, pair_tidy, tidy_end};
 use ks_arena::{Arena, Held, Pass};
@@ -36,6 +37,7 @@ pub(crate) fn delete<N: Unlinked, G: Gate>(
     requires ends { next_at (N.body held.old.body) place ≡ Here }
     ensures pass { IsPassOf arena.now pass.new }
     ensures caller { SameCaller pass.old pass.new }
+    ensures leaves { OnlySearches pass.old pass.new }
     ensures begins { SeesOn pass.old pass.new }
     ensures hand { hand_of pass.new ≡ hand_of pass.old }
     ensures node { (held.new.node ≡ held.old.node) × (held.new.live ≡ true) }
@@ -68,6 +70,7 @@ pub fn del_on<N: Unlinked, R: Wait, G: Gate>(
     requires ends { next_at (N.body path.node.body) place ≡ Here }
     ensures pass { IsEmptyPassOf arena.now pass.new }
     ensures caller { SameCaller pass.old pass.new }
+    ensures dels { OnlyDels N.layout N.ranged pass.old pass.new }
     ensures begins { SeesOn pass.old pass.new }
     ensures done { FinishesAny arena.now (Del place) pass.old pass.new (told result.found) result.number }
     ensures tidy { result.found ≢ None → WasAlone pass.old pass.new → IsTidyOf arena.now pass.new place }
@@ -98,6 +101,7 @@ pub fn del_alone<N: Unlinked, R: Wait, G: Gate>(
     requires ends { SearchEndsAt arena.now place pass.old held }
     ensures pass { IsEmptyPassOf arena.now pass.new }
     ensures caller { SameCaller pass.old pass.new }
+    ensures dels { OnlyDels N.layout N.ranged pass.old pass.new }
     ensures begins { SeesOn pass.old pass.new }
     ensures done { FinishesAny arena.now (Del place) pass.old pass.new (told result.found) result.number }
     ensures tidy { result.found ≢ None → WasAlone pass.old pass.new → IsTidyOf arena.now pass.new place }

@@ -5,6 +5,7 @@ ghost use Rattle.ks_node.specs.Body.{next_at};
 ghost use Rattle.ks_arena.specs.Of.{IsEmptyPassOf, IsPassOf, WasAlone, SameCaller, caller_of};
 ghost use Rattle.ks_shape.specs.Of.{IsStretch};
 ghost use Rattle.ks_tidy.specs.Of.{CountsFree, IsKeptAt, IsPairOf, IsTidyOf, MakesFree};
+ghost use Rattle.ks_shape.specs.Does.{OnlyDels, OnlySearches};
 
 use crate::node::{Tidied, tidy_node};
 use ks_arena::{Arena, Pass};
@@ -31,6 +32,7 @@ pub fn go_down<N: Unlinked, R: Wait, G: Gate>(
     requires goes { next_at (N.body path.node.body) place ≡ Go child }
     ensures pass { IsPassOf arena.now pass.new }
     ensures caller { SameCaller pass.old pass.new }
+    ensures leaves { OnlySearches pass.old pass.new }
     ensures pair { IsPairOf arena.now (caller_of pass.old) place pass.new result }
     ensures parent { result.parent ≡ Some path.node }
     ensures child { result.node.node ≡ child }
@@ -54,6 +56,7 @@ pub fn leave<N: Unlinked, G: Gate>(
     requires pair { IsPairOf arena.now (caller_of pass.old) place pass.old path }
     ensures pass { IsEmptyPassOf arena.now pass.new }
     ensures caller { SameCaller pass.old pass.new }
+    ensures leaves { OnlySearches pass.old pass.new }
     ensures stretch { IsStretch pass.old pass.new }
     ensures frees { MakesFree 0 pass.old pass.new }
 {
@@ -78,6 +81,7 @@ fn tidy_branch<N: Unlinked, R: Wait, G: Gate>(
     requires pair { IsPairOf arena.now (caller_of pass.old) place pass.old path }
     ensures pass { IsPassOf arena.now pass.new }
     ensures caller { SameCaller pass.old pass.new }
+    ensures dels { OnlyDels N.layout N.ranged pass.old pass.new }
     ensures pair { IsPairOf arena.now (caller_of pass.old) place pass.new result.path }
     ensures stretch { IsStretch pass.old pass.new }
     ensures counts { CountsFree result.freed pass.old pass.new }
@@ -100,6 +104,7 @@ pub fn come_down<N: Unlinked, R: Wait, G: Gate>(
     requires pass { IsEmptyPassOf arena.now pass.old }
     ensures pass { IsPassOf arena.now pass.new }
     ensures caller { SameCaller pass.old pass.new }
+    ensures dels { OnlyDels N.layout N.ranged pass.old pass.new }
     ensures pair { IsPairOf arena.now (caller_of pass.old) place pass.new result.path }
     ensures ends { next_at (N.body result.path.node.body) place ≡ Here }
     ensures stretch { IsStretch pass.old pass.new }
@@ -136,6 +141,7 @@ pub fn tidy_end<N: Unlinked, R: Wait, G: Gate>(
     requires ends { IsKeptAt pass.old path.node.node place }
     ensures pass { IsEmptyPassOf arena.now pass.new }
     ensures caller { SameCaller pass.old pass.new }
+    ensures dels { OnlyDels N.layout N.ranged pass.old pass.new }
     ensures stretch { IsStretch pass.old pass.new }
     ensures counts { CountsFree result pass.old pass.new }
     ensures tidy { WasAlone pass.old pass.new → IsTidyOf arena.now pass.new place }
@@ -163,6 +169,7 @@ pub fn pair_tidy<N: Unlinked, R: Wait, G: Gate>(
     requires pass { IsEmptyPassOf arena.now pass.old }
     ensures pass { IsEmptyPassOf arena.now pass.new }
     ensures caller { SameCaller pass.old pass.new }
+    ensures dels { OnlyDels N.layout N.ranged pass.old pass.new }
     ensures stretch { IsStretch pass.old pass.new }
     ensures counts { CountsFree result pass.old pass.new }
     ensures tidy { WasAlone pass.old pass.new → IsTidyOf arena.now pass.new place }

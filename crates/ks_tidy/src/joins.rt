@@ -1,11 +1,13 @@
 //! A node absorbs its right neighbour, where a caller holds both: one to which it leads itself, or one beside it below the
 //! same parent.
-ghost use Rattle.std.specs.Prelude.{◌≡◌, None, Some, true};
+ghost use Rattle.std.specs.Prelude.{◌≡◌, None, Some, true, IsTrue};
+ghost use Rattle.ks_node.specs.Room.{is_low};
 ghost use Rattle.ks_node.specs.Body.{chained_of, right_child};
 ghost use Rattle.ks_tidy.specs.Pair.{path_in};
 ghost use Rattle.ks_arena.specs.Of.{IsPassOf, SameCaller, caller_of};
 ghost use Rattle.ks_shape.specs.Of.{HasPlaces, IsStretch};
 ghost use Rattle.ks_tidy.specs.Of.{HasNoSole, HasTried, IsPairOf, IsTrioOf};
+ghost use Rattle.ks_shape.specs.Does.{OnlyDels};
 
 use crate::step::Step;
 use ks_arena::{Arena, Held, Pass};
@@ -31,6 +33,7 @@ pub(crate) fn join_own<N: Unlinked, G: Gate>(
     requires no_sole { HasNoSole arena.now path.parent }
     ensures pass { IsPassOf arena.now pass.new }
     ensures caller { SameCaller pass.old pass.new }
+    ensures dels { IsTrue (is_low N.layout (N.body path.node.body)) → OnlyDels N.layout N.ranged pass.old pass.new }
     ensures pair { IsPairOf arena.now (caller_of pass.old) place pass.new (path_in result) }
     ensures places { HasPlaces path.node.node (path_in result).node.node pass.old pass.new }
     ensures stretch { IsStretch pass.old pass.new }
@@ -70,6 +73,7 @@ pub(crate) fn join_beside<N: Unlinked, G: Gate>(
     requires no_sole { HasNoSole arena.now (Some parent) }
     ensures pass { IsPassOf arena.now pass.new }
     ensures caller { SameCaller pass.old pass.new }
+    ensures dels { IsTrue (is_low N.layout (N.body node.body)) → OnlyDels N.layout N.ranged pass.old pass.new }
     ensures pair { IsPairOf arena.now (caller_of pass.old) place pass.new (path_in result) }
     ensures places { HasPlaces node.node (path_in result).node.node pass.old pass.new }
     ensures stretch { IsStretch pass.old pass.new }

@@ -1,10 +1,12 @@
 //! The three ways to make a node free: by its parent, by its left neighbour that leads to it, and by one beside it.
-ghost use Rattle.std.specs.Prelude.{◌≡◌, Some, None, true};
+ghost use Rattle.std.specs.Prelude.{◌≡◌, Some, None, true, IsTrue};
+ghost use Rattle.ks_node.specs.Room.{is_low};
 ghost use Rattle.ks_node.specs.Body.{chained_of, only_child_of, right_child};
 ghost use Rattle.ks_tidy.specs.Pair.{path_in};
 ghost use Rattle.ks_arena.specs.Of.{IsPassOf, SameCaller, caller_of};
 ghost use Rattle.ks_shape.specs.Of.{HasPlaces, IsStretch};
 ghost use Rattle.ks_tidy.specs.Of.{HasNoSole, HasTried, IsPairOf, MakesFree};
+ghost use Rattle.ks_shape.specs.Does.{OnlyDels};
 
 use crate::joins::{join_beside, join_own};
 use crate::neighbours::{chained_law, next_law};
@@ -33,6 +35,7 @@ pub(crate) fn take_over<N: Unlinked, G: Gate>(
     requires sole { only_child_of (N.body root.body) ≡ Some child.node }
     ensures pass { IsPassOf arena.now pass.new }
     ensures caller { SameCaller pass.old pass.new }
+    ensures dels { OnlyDels N.layout N.ranged pass.old pass.new }
     ensures pair { IsPairOf arena.now (caller_of pass.old) place pass.new result }
     ensures places { HasPlaces child.node result.node.node pass.old pass.new }
     ensures stretch { IsStretch pass.old pass.new }
@@ -68,6 +71,7 @@ pub(crate) fn merge_own<N: Unlinked, R: Wait, G: Gate>(
     requires no_sole { HasNoSole arena.now path.parent }
     ensures pass { IsPassOf arena.now pass.new }
     ensures caller { SameCaller pass.old pass.new }
+    ensures dels { IsTrue (is_low N.layout (N.body path.node.body)) → OnlyDels N.layout N.ranged pass.old pass.new }
     ensures pair { IsPairOf arena.now (caller_of pass.old) place pass.new (path_in result) }
     ensures places { HasPlaces path.node.node (path_in result).node.node pass.old pass.new }
     ensures stretch { IsStretch pass.old pass.new }
@@ -99,6 +103,7 @@ pub(crate) fn merge_beside<N: Unlinked, R: Wait, G: Gate>(
     requires no_sole { HasNoSole arena.now (Some parent) }
     ensures pass { IsPassOf arena.now pass.new }
     ensures caller { SameCaller pass.old pass.new }
+    ensures dels { IsTrue (is_low N.layout (N.body node.body)) → OnlyDels N.layout N.ranged pass.old pass.new }
     ensures pair { IsPairOf arena.now (caller_of pass.old) place pass.new (path_in result) }
     ensures places { HasPlaces node.node (path_in result).node.node pass.old pass.new }
     ensures stretch { IsStretch pass.old pass.new }

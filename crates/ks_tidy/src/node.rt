@@ -1,9 +1,10 @@
 //! Merging at one node until nothing is left to merge.
-ghost use Rattle.std.specs.Prelude.{◌≡◌, ◌⊎◌, IsTrue};
+ghost use Rattle.std.specs.Prelude.{◌≡◌, ◌⊎◌, IsTrue, false};
 ghost use Rattle.ks_node.specs.Room.{is_low};
 ghost use Rattle.ks_arena.specs.Of.{IsPassOf, SameCaller, caller_of};
 ghost use Rattle.ks_shape.specs.Of.{HasPlaces, IsStretch};
 ghost use Rattle.ks_tidy.specs.Of.{CountsFree, FitsNoneAlone, HasNoSole, IsPairOf, WasUndisturbed};
+ghost use Rattle.ks_shape.specs.Does.{OnlyDels};
 
 use crate::step::{Step, tidy_once};
 use ks_arena::{Arena, Pass};
@@ -34,6 +35,7 @@ pub fn tidy_node<N: Unlinked, R: Wait, G: Gate>(
     requires pair { IsPairOf arena.now (caller_of pass.old) place pass.old path }
     ensures pass { IsPassOf arena.now pass.new }
     ensures caller { SameCaller pass.old pass.new }
+    ensures dels { thorough ≡ false → OnlyDels N.layout N.ranged pass.old pass.new }
     ensures pair { IsPairOf arena.now (caller_of pass.old) place pass.new result.path }
     ensures places { HasPlaces path.node.node result.path.node.node pass.old pass.new }
     ensures stretch { IsStretch pass.old pass.new }

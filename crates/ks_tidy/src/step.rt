@@ -1,10 +1,12 @@
 //! One try to merge at a node.
 ghost use Rattle.std.specs.Prelude.{◌≡◌, ℕ, IsTrue, None, Some, true, false};
+ghost use Rattle.ks_node.specs.Room.{is_low};
 ghost use Rattle.ks_node.specs.Body.{chained_of, only_child_of};
 ghost use Rattle.ks_tidy.specs.Pair.{path_in};
 ghost use Rattle.ks_arena.specs.Of.{IsPassOf, SameCaller, caller_of};
 ghost use Rattle.ks_shape.specs.Of.{HasPlaces, IsStretch};
 ghost use Rattle.ks_tidy.specs.Of.{HasNoSole, HasTried, IsPairOf};
+ghost use Rattle.ks_shape.specs.Does.{OnlyDels};
 
 use crate::merges::{merge_beside, merge_own, take_over};
 use ks_arena::{Arena, Held, Pass};
@@ -36,6 +38,7 @@ fn merge_root<N: Unlinked, R: Wait, G: Gate>(
     requires pair { IsPairOf arena.now (caller_of pass.old) place pass.old (record { parent = None; node = root }) }
     ensures pass { IsPassOf arena.now pass.new }
     ensures caller { SameCaller pass.old pass.new }
+    ensures dels { IsTrue (is_low N.layout (N.body root.body)) → OnlyDels N.layout N.ranged pass.old pass.new }
     ensures pair { IsPairOf arena.now (caller_of pass.old) place pass.new (path_in result) }
     ensures places { HasPlaces root.node (path_in result).node.node pass.old pass.new }
     ensures stretch { IsStretch pass.old pass.new }
@@ -74,6 +77,7 @@ fn merge_next<N: Unlinked, R: Wait, G: Gate>(
     requires no_sole { HasNoSole arena.now (Some parent) }
     ensures pass { IsPassOf arena.now pass.new }
     ensures caller { SameCaller pass.old pass.new }
+    ensures dels { IsTrue (is_low N.layout (N.body node.body)) → OnlyDels N.layout N.ranged pass.old pass.new }
     ensures pair { IsPairOf arena.now (caller_of pass.old) place pass.new (path_in result) }
     ensures places { HasPlaces node.node (path_in result).node.node pass.old pass.new }
     ensures stretch { IsStretch pass.old pass.new }
@@ -109,6 +113,7 @@ fn merge_child<N: Unlinked, R: Wait, G: Gate>(
     requires no_sole { HasNoSole arena.now (Some parent) }
     ensures pass { IsPassOf arena.now pass.new }
     ensures caller { SameCaller pass.old pass.new }
+    ensures dels { IsTrue (is_low N.layout (N.body node.body)) → OnlyDels N.layout N.ranged pass.old pass.new }
     ensures pair { IsPairOf arena.now (caller_of pass.old) place pass.new (path_in result) }
     ensures places { HasPlaces node.node (path_in result).node.node pass.old pass.new }
     ensures stretch { IsStretch pass.old pass.new }
@@ -140,6 +145,7 @@ fn tidy_root<N: Unlinked, R: Wait, G: Gate>(
     requires pair { IsPairOf arena.now (caller_of pass.old) place pass.old (record { parent = None; node = root }) }
     ensures pass { IsPassOf arena.now pass.new }
     ensures caller { SameCaller pass.old pass.new }
+    ensures dels { thorough ≡ false → OnlyDels N.layout N.ranged pass.old pass.new }
     ensures pair { IsPairOf arena.now (caller_of pass.old) place pass.new (path_in result) }
     ensures places { HasPlaces root.node (path_in result).node.node pass.old pass.new }
     ensures stretch { IsStretch pass.old pass.new }
@@ -186,6 +192,7 @@ fn tidy_child<N: Unlinked, R: Wait, G: Gate>(
         (record { parent = Some parent; node = node }) }
     ensures pass { IsPassOf arena.now pass.new }
     ensures caller { SameCaller pass.old pass.new }
+    ensures dels { thorough ≡ false → OnlyDels N.layout N.ranged pass.old pass.new }
     ensures pair { IsPairOf arena.now (caller_of pass.old) place pass.new (path_in result) }
     ensures places { HasPlaces node.node (path_in result).node.node pass.old pass.new }
     ensures stretch { IsStretch pass.old pass.new }
@@ -225,6 +232,7 @@ pub fn tidy_once<N: Unlinked, R: Wait, G: Gate>(
     requires pair { IsPairOf arena.now (caller_of pass.old) place pass.old path }
     ensures pass { IsPassOf arena.now pass.new }
     ensures caller { SameCaller pass.old pass.new }
+    ensures dels { thorough ≡ false → OnlyDels N.layout N.ranged pass.old pass.new }
     ensures pair { IsPairOf arena.now (caller_of pass.old) place pass.new (path_in result) }
     ensures places { HasPlaces path.node.node (path_in result).node.node pass.old pass.new }
     ensures stretch { IsStretch pass.old pass.new }

@@ -5,6 +5,7 @@ ghost use Rattle.ks_arena.specs.Clauses.{hand_of};
 ghost use Rattle.ks_arena.specs.Of.{Holds, IsPassOf, RestStays, SameCaller};
 ghost use Rattle.ks_shape.specs.Of.{IsLiveInHand, IsStretch};
 ghost use Rattle.ks_tidy.specs.Of.{HasTakenIfIdle, HasTakenNode};
+ghost use Rattle.ks_shape.specs.Does.{OnlySearches};
 
 use ks_arena::laws::target_law;
 use ks_arena::{Arena, Held, Pass, Taken};
@@ -30,6 +31,7 @@ pub(crate) fn take_led<N: Unlinked, R: Wait, G: Gate>(
     requires few { length (hand_of pass.old) ≤ 2 }
     ensures pass { IsPassOf arena.now pass.new }
     ensures caller { SameCaller pass.old pass.new }
+    ensures leaves { OnlySearches pass.old pass.new }
     ensures took { HasTakenNode arena.now target pass.old pass.new result }
     ensures rest { RestStays arena.now pass.old pass.new }
     ensures stretch { IsStretch pass.old pass.new }
@@ -58,6 +60,7 @@ pub(crate) fn try_take_led<N: Unlinked, G: Gate>(
     requires few { length (hand_of pass.old) ≤ 2 }
     ensures pass { IsPassOf arena.now pass.new }
     ensures caller { SameCaller pass.old pass.new }
+    ensures leaves { OnlySearches pass.old pass.new }
     ensures took { HasTakenIfIdle arena.now target pass.old pass.new result }
     ensures rest { RestStays arena.now pass.old pass.new }
     ensures stretch { IsStretch pass.old pass.new }

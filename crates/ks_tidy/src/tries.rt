@@ -7,6 +7,7 @@ ghost use Rattle.ks_node.specs.Body.{next_at};
 ghost use Rattle.ks_arena.specs.Of.{IsEmptyPassOf, IsPassOf, SeesOn, SameCaller, caller_of};
 ghost use Rattle.ks_shape.specs.Of.{FinishesAny, IsStretch, SearchEndsAt};
 ghost use Rattle.ks_tidy.specs.Of.{CountsFree, IsPairOf, MakesFree, StandsOrLeft};
+ghost use Rattle.ks_shape.specs.Does.{OnlyDels, OnlySearches};
 
 use crate::deletes::delete;
 use crate::descent::leave;
@@ -32,6 +33,7 @@ fn try_tidy_node<N: Unlinked, G: Gate>(
     requires pair { IsPairOf arena.now (caller_of pass.old) place pass.old path }
     ensures pass { IsPassOf arena.now pass.new }
     ensures caller { SameCaller pass.old pass.new }
+    ensures dels { OnlyDels N.layout N.ranged pass.old pass.new }
     ensures pair { IsPairOf arena.now (caller_of pass.old) place pass.new result.path }
     ensures stretch { IsStretch pass.old pass.new }
     ensures counts { CountsFree result.freed pass.old pass.new }
@@ -62,6 +64,7 @@ fn try_tidy_at<N: Unlinked, G: Gate>(
     requires pair { IsPairOf arena.now (caller_of pass.old) place pass.old path }
     ensures pass { IsPassOf arena.now pass.new }
     ensures caller { SameCaller pass.old pass.new }
+    ensures dels { OnlyDels N.layout N.ranged pass.old pass.new }
     ensures pair { IsPairOf arena.now (caller_of pass.old) place pass.new result.path }
     ensures stretch { IsStretch pass.old pass.new }
     ensures counts { CountsFree result.freed pass.old pass.new }
@@ -90,6 +93,7 @@ fn try_go_down<N: Unlinked, G: Gate>(
     requires goes { next_at (N.body path.node.body) place ≡ Go child }
     ensures pass { IsPassOf arena.now pass.new }
     ensures caller { SameCaller pass.old pass.new }
+    ensures leaves { OnlySearches pass.old pass.new }
     ensures came { StandsOrLeft arena.now (caller_of pass.old) place pass.new result }
     ensures stretch { IsStretch pass.old pass.new }
     ensures frees { MakesFree 0 pass.old pass.new }
@@ -113,6 +117,7 @@ pub fn try_pair_tidy<N: Unlinked, G: Gate>(
     requires pass { IsEmptyPassOf arena.now pass.old }
     ensures pass { IsEmptyPassOf arena.now pass.new }
     ensures caller { SameCaller pass.old pass.new }
+    ensures dels { OnlyDels N.layout N.ranged pass.old pass.new }
     ensures stretch { IsStretch pass.old pass.new }
     ensures counts { CountsFree result pass.old pass.new }
 {
@@ -155,6 +160,7 @@ pub fn try_del_alone<N: Unlinked, G: Gate>(
     requires ends { SearchEndsAt arena.now place pass.old held }
     ensures pass { IsEmptyPassOf arena.now pass.new }
     ensures caller { SameCaller pass.old pass.new }
+    ensures dels { OnlyDels N.layout N.ranged pass.old pass.new }
     ensures begins { SeesOn pass.old pass.new }
     ensures done { FinishesAny arena.now (Del place) pass.old pass.new (told result.found) result.number }
 {

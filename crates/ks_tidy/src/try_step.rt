@@ -1,10 +1,12 @@
 //! One try to merge at a node, by a caller that waits for nobody: a right neighbour that another holds is left as it is.
-ghost use Rattle.std.specs.Prelude.{◌≡◌, None, Some};
+ghost use Rattle.std.specs.Prelude.{◌≡◌, None, Some, IsTrue};
+ghost use Rattle.ks_node.specs.Room.{is_low};
 ghost use Rattle.ks_node.specs.Body.{chained_of, right_child};
 ghost use Rattle.ks_tidy.specs.Pair.{count_in, path_in};
 ghost use Rattle.ks_arena.specs.Of.{IsPassOf, SameCaller, caller_of};
 ghost use Rattle.ks_shape.specs.Of.{IsStretch};
 ghost use Rattle.ks_tidy.specs.Of.{HasNoSole, IsPairOf, MakesFree};
+ghost use Rattle.ks_shape.specs.Does.{OnlyDels};
 
 use crate::joins::{join_beside, join_own};
 use crate::merges::take_over;
@@ -33,6 +35,7 @@ fn try_merge_own<N: Unlinked, G: Gate>(
     requires no_sole { HasNoSole arena.now path.parent }
     ensures pass { IsPassOf arena.now pass.new }
     ensures caller { SameCaller pass.old pass.new }
+    ensures dels { IsTrue (is_low N.layout (N.body path.node.body)) → OnlyDels N.layout N.ranged pass.old pass.new }
     ensures pair { IsPairOf arena.now (caller_of pass.old) place pass.new (path_in result) }
     ensures stretch { IsStretch pass.old pass.new }
     ensures frees { MakesFree (count_in result) pass.old pass.new }
@@ -63,6 +66,7 @@ fn try_merge_beside<N: Unlinked, G: Gate>(
     requires no_sole { HasNoSole arena.now (Some parent) }
     ensures pass { IsPassOf arena.now pass.new }
     ensures caller { SameCaller pass.old pass.new }
+    ensures dels { IsTrue (is_low N.layout (N.body node.body)) → OnlyDels N.layout N.ranged pass.old pass.new }
     ensures pair { IsPairOf arena.now (caller_of pass.old) place pass.new (path_in result) }
     ensures stretch { IsStretch pass.old pass.new }
     ensures frees { MakesFree (count_in result) pass.old pass.new }
@@ -93,6 +97,7 @@ fn try_merge_child<N: Unlinked, G: Gate>(
     requires no_sole { HasNoSole arena.now (Some parent) }
     ensures pass { IsPassOf arena.now pass.new }
     ensures caller { SameCaller pass.old pass.new }
+    ensures dels { IsTrue (is_low N.layout (N.body node.body)) → OnlyDels N.layout N.ranged pass.old pass.new }
     ensures pair { IsPairOf arena.now (caller_of pass.old) place pass.new (path_in result) }
     ensures stretch { IsStretch pass.old pass.new }
     ensures frees { MakesFree (count_in result) pass.old pass.new }
@@ -127,6 +132,7 @@ fn try_tidy_root<N: Unlinked, G: Gate>(
     requires pair { IsPairOf arena.now (caller_of pass.old) place pass.old (record { parent = None; node = root }) }
     ensures pass { IsPassOf arena.now pass.new }
     ensures caller { SameCaller pass.old pass.new }
+    ensures dels { OnlyDels N.layout N.ranged pass.old pass.new }
     ensures pair { IsPairOf arena.now (caller_of pass.old) place pass.new (path_in result) }
     ensures stretch { IsStretch pass.old pass.new }
     ensures frees { MakesFree (count_in result) pass.old pass.new }
@@ -162,6 +168,7 @@ fn try_tidy_child<N: Unlinked, G: Gate>(
         (record { parent = Some parent; node = node }) }
     ensures pass { IsPassOf arena.now pass.new }
     ensures caller { SameCaller pass.old pass.new }
+    ensures dels { OnlyDels N.layout N.ranged pass.old pass.new }
     ensures pair { IsPairOf arena.now (caller_of pass.old) place pass.new (path_in result) }
     ensures stretch { IsStretch pass.old pass.new }
     ensures frees { MakesFree (count_in result) pass.old pass.new }
@@ -194,6 +201,7 @@ pub(crate) fn try_tidy_once<N: Unlinked, G: Gate>(
     requires pair { IsPairOf arena.now (caller_of pass.old) place pass.old path }
     ensures pass { IsPassOf arena.now pass.new }
     ensures caller { SameCaller pass.old pass.new }
+    ensures dels { OnlyDels N.layout N.ranged pass.old pass.new }
     ensures pair { IsPairOf arena.now (caller_of pass.old) place pass.new (path_in result) }
     ensures stretch { IsStretch pass.old pass.new }
     ensures frees { MakesFree (count_in result) pass.old pass.new }

@@ -10,6 +10,8 @@ use Rattle.ks_arena.specs.Sound.{sort_of}
 use Rattle.ks_arena.specs.Clauses.{seen_of}
 use Rattle.ks_shape.specs.Laws.Stretches.{stretches_begins}
 use Rattle.ks_tidy.specs.Pair.{IsPair}
+use Rattle.ks_shape.specs.Laws.Does.{does_on}
+use Rattle.ks_shape.specs.Does.{MayDel}
 use Rattle.ks_coupling.proofs.calls.del.Goals as goal
 
 pub del_on-requires-clause-pair : goal.del_on-requires-clause-pair
@@ -24,3 +26,6 @@ pub returns-clause-tidy : goal.returns-clause-tidy
 returns-clause-tidy g c = λ removed alone. let me : ℕ = c.args.pass.now.caller in let s = seen_of c.args.pass.now in let h = seen_of c.come_down-path.new.pass in let k = seen_of c.del_on.new.pass in
     let then : ActsAlone me h k = alone_then me s h k (stretches_begins me s h c.come_down-path.ensures.stretch) c.del_on.ensures.begins alone in
     c.del_on.ensures.tidy removed (subst (λ (z : ℕ). ActsAlone z h k) (sym c.come_down-path.ensures.caller) then)
+
+pub returns-clause-dels : goal.returns-clause-dels
+returns-clause-dels g c = does_on (MayDel (sort_of g.N.Node.layout g.N.Node.ranged)) c.args.pass.now.caller c.come_down-path.new.pass.caller (seen_of c.args.pass.now) (seen_of c.come_down-path.new.pass) (seen_of c.del_on.new.pass) c.come_down-path.ensures.caller c.come_down-path.ensures.dels c.del_on.ensures.dels

@@ -7,3 +7,6 @@ use Rattle.ks_coupling.proofs.calls.put.Goals as goal
 
 pub returns-clause-done : goal.returns-clause-done
 returns-clause-done g c = let s = seen_of c.args.pass.now in c.pair_fill.ensures.done coupling s (underway_first coupling c.args.pass.now.caller (Put c.args.place c.args.value) s c.requires.pass.1)
+
+pub returns-clause-fills : goal.returns-clause-fills
+returns-clause-fills g c = c.pair_fill.ensures.fills

@@ -6,6 +6,7 @@ use Rattle.ks_history.specs.Underway.{Underway}
 use Rattle.ks_arena.specs.Sound.{sort_of}
 use Rattle.ks_arena.specs.Clauses.{IsPass, seen_of}
 use Rattle.ks_shape.specs.OnWay.{IsOnWay}
+use Rattle.ks_shape.specs.Does.{DoesOnly, MaySearch}
 use Rattle.ks_coupling.proofs.descent.find.Given as goal
 
 abbrev pub invariant-loop : goal.invariant-loop
@@ -14,3 +15,4 @@ invariant-loop g l =
     × (l.pass.caller ≡ l.fn.pass.caller)
     × IsOnWay (sort_of g.N.Node.layout g.N.Node.ranged) g.N.Node.body l.pass.caller l.place (seen_of l.pass) l.held
     × ((op : Op) → Underway coupling l.pass.caller op (seen_of l.fn.pass) (seen_of l.pass))
+    × DoesOnly MaySearch l.pass.caller (seen_of l.fn.pass) (seen_of l.pass)

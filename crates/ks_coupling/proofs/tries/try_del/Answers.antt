@@ -6,6 +6,8 @@ use Rattle.ks_history.specs.Map.{told}
 use Rattle.ks_history.specs.Underway.{Underway}
 use Rattle.ks_history.specs.Laws.Underway.{left_of}
 use Rattle.ks_arena.specs.Clauses.{seen_of}
+use Rattle.ks_arena.specs.Sound.{sort_of}
+use Rattle.ks_shape.specs.Laws.Does.{search_dels_on, searched_dels}
 use Rattle.ks_coupling.proofs.tries.try_del.Goals as goal
 
 pub returns-in-Err-clause-tried : goal.returns-in-Err-clause-tried
@@ -15,3 +17,9 @@ pub returns-in-Ok-clause-tried : goal.returns-in-Ok-clause-tried
 returns-in-Ok-clause-tried g c = let s = seen_of c.args.pass.now in let h = seen_of c.try_find.new.pass in let k = seen_of c.try_del_alone.new.pass in let op : Op = Del c.args.place in let e = c.in-Ok.ensures in let x = c.try_del_alone.result in
     let under : Underway coupling c.try_find.new.pass.caller op s h = subst (λ (z : ℕ). Underway coupling z op s h) (sym e.caller) (e.under op) in
     subst (λ (z : ℕ). Done g.N.Node.layout coupling c.args.arena.now.nodes z op s k (told x.found) x.number) e.caller (c.try_del_alone.ensures.done coupling s under)
+
+pub returns-in-Ok-clause-dels : goal.returns-in-Ok-clause-dels
+returns-in-Ok-clause-dels g c = search_dels_on (sort_of g.N.Node.layout g.N.Node.ranged) c.args.pass.now.caller c.try_find.new.pass.caller (seen_of c.args.pass.now) (seen_of c.try_find.new.pass) (seen_of c.try_del_alone.new.pass) c.try_find.ensures.caller c.try_find.ensures.leaves c.try_del_alone.ensures.dels
+
+pub returns-in-Err-clause-dels : goal.returns-in-Err-clause-dels
+returns-in-Err-clause-dels g c = searched_dels (sort_of g.N.Node.layout g.N.Node.ranged) c.args.pass.now.caller (seen_of c.args.pass.now) (seen_of c.try_find.new.pass) c.try_find.ensures.leaves

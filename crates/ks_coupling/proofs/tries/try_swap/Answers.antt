@@ -3,7 +3,12 @@ use Rattle.ks_history.specs.declared.Op.TheVariants.{Swap}
 use Rattle.ks_history.specs.Done.{coupling}
 use Rattle.ks_history.specs.Laws.Underway.{left_of}
 use Rattle.ks_arena.specs.Clauses.{seen_of}
+use Rattle.ks_shape.specs.Does.{MaySearch}
+use Rattle.ks_shape.specs.Laws.Does.{does_on}
 use Rattle.ks_coupling.proofs.tries.try_swap.Goals as goal
 
 pub returns-in-Err-clause-tried : goal.returns-in-Err-clause-tried
 returns-in-Err-clause-tried g c = let e = c.in-Err.ensures in record { left = left_of coupling c.args.pass.now.caller (Swap c.args.place c.args.old c.args.new) (seen_of c.args.pass.now) (seen_of c.try_find.new.pass) (e.under (Swap c.args.place c.args.old c.args.new)) e.came.0; cause = e.came.1 (Swap c.args.place c.args.old c.args.new) refl }
+
+pub returns-in-Ok-clause-leaves : goal.returns-in-Ok-clause-leaves
+returns-in-Ok-clause-leaves g c = does_on MaySearch c.args.pass.now.caller c.try_find.new.pass.caller (seen_of c.args.pass.now) (seen_of c.try_find.new.pass) (seen_of c.swap_here.new.pass) c.try_find.ensures.caller c.try_find.ensures.leaves c.swap_here.ensures.leaves

@@ -13,6 +13,8 @@ use Rattle.ks_shape.specs.OnWay.{IsOnWay}
 use Rattle.ks_shape.specs.OnPath.{GaveIf, IsOnPath}
 use Rattle.ks_shape.specs.Down.{IsDown}
 use Rattle.ks_shape.specs.Laws.Down.{down_root}
+use Rattle.ks_shape.specs.Does.{MaySearch}
+use Rattle.ks_shape.specs.Laws.Does.{does_on}
 use Rattle.ks_coupling.proofs.try_descent.try_begin.Goals as goal
 
 pub let_go-requires-clause-path : goal.let_go-requires-clause-path
@@ -35,3 +37,6 @@ returns-in-Err-clause-came g c = let h = seen_of c.args.pass.now in (c.in-Err.en
 
 pub returns-in-Err-clause-under : goal.returns-in-Err-clause-under
 returns-in-Err-clause-under g c = λ op. let h = seen_of c.args.pass.now in c.try_enter.ensures.under coupling op h (underway_first coupling c.args.pass.now.caller op h c.requires.pass.1)
+
+pub returns-in-Ok-clause-leaves : goal.returns-in-Ok-clause-leaves
+returns-in-Ok-clause-leaves g c = does_on MaySearch c.args.pass.now.caller c.try_enter.new.pass.caller (seen_of c.args.pass.now) (seen_of c.try_enter.new.pass) (seen_of c.let_go.new.pass) c.try_enter.ensures.caller c.try_enter.ensures.leaves c.let_go.ensures.leaves

@@ -8,6 +8,8 @@ use Rattle.ks_arena.specs.Clauses.{seen_of}
 use Rattle.ks_shape.specs.OnWay.{IsOnWay}
 use Rattle.ks_shape.specs.Down.{IsDown}
 use Rattle.ks_shape.specs.Descents.{IsCauseAt}
+use Rattle.ks_shape.specs.Does.{DoesOnly, MaySearch}
+use Rattle.ks_shape.specs.Laws.Does.{does_both, does_to}
 use Rattle.ks_coupling.proofs.try_descent.try_find.Goals as goal
 
 pub returns-in-Err-try_go_on-clause-came : goal.returns-in-Err-try_go_on-clause-came
@@ -17,9 +19,33 @@ returns-in-Err-try_go_on-clause-came g c = let s = seen_of c.args.pass.now in le
 pub loop-steps-preserved : goal.loop-steps-preserved
 loop-steps-preserved g c = let sort = sort_of g.N.Node.layout g.N.Node.ranged in let n : ℕ = c.args.arena.now.nodes in let s = seen_of c.args.pass.now in let k = seen_of c.try_go_on.new.pass in let steps : ℕ = c.loop-steps._steps in let inv = c.loop-steps.invariant in let e = c.in-Ok-try_go_on.ensures in let x = c.in-Ok-try_go_on.below in
     let came = e.came s steps inv.4 in let next : suc steps ≡ steps + 1 = omega arith in
-    (e.pass, e.caller ∙ inv.1, subst (λ (z : ℕ). IsOnWay sort g.N.Node.body z c.args.place k x) (sym e.caller) came.0, (λ op. subst (λ (z : ℕ). Underway coupling z op s k) (sym e.caller) (e.under op s (inv.3 op))), subst (λ (z : ℕ). IsDown n c.try_go_on.new.pass.caller s k (suc z) 1 z x.node) next (subst (λ (z : ℕ). IsDown n z s k (suc (suc steps)) 1 (suc steps) x.node) (sym e.caller) came.1))
+    (e.pass, e.caller ∙ inv.1, subst (λ (z : ℕ). IsOnWay sort g.N.Node.body z c.args.place k x) (sym e.caller) came.0, (λ op. subst (λ (z : ℕ). Underway coupling z op s k) (sym e.caller) (e.under op s (inv.3 op))), subst (λ (z : ℕ). IsDown n c.try_go_on.new.pass.caller s k (suc z) 1 z x.node) next (subst (λ (z : ℕ). IsDown n z s k (suc (suc steps)) 1 (suc steps) x.node) (sym e.caller) came.1), does_to MaySearch c.loop-steps.pass.caller c.try_go_on.new.pass.caller s (seen_of c.loop-steps.pass) k e.caller inv.5 e.leaves)
 
 pub returns-in-Go-next-clause-came : goal.returns-in-Go-next-clause-came
 returns-in-Go-next-clause-came g c = let n : ℕ = c.args.arena.now.nodes in let s = seen_of c.args.pass.now in let k = seen_of c.turn_back.new.pass in let steps : ℕ = c.loop-steps._steps in let inv = c.loop-steps.invariant in let e = c.turn_back.ensures in
     let all : n ≤ suc steps = omega arith in
     (subst (λ (z : ℕ). hand z k ≡ []) (e.caller ∙ inv.1) e.pass.1, λ op touched. (tt, subst (λ (z : ℕ). FarDue n z s k) inv.1 (e.far s steps all inv.4)))
+
+pub returns-in-Err-try_go_on-clause-leaves : goal.returns-in-Err-try_go_on-clause-leaves
+returns-in-Err-try_go_on-clause-leaves g c = let inv = c.loop-steps.invariant in let s = seen_of c.args.pass.now in let h = seen_of c.loop-steps.pass in let k = seen_of c.try_go_on.new.pass in
+    subst (λ (z : ℕ). DoesOnly MaySearch z s k) inv.1 (does_both MaySearch c.loop-steps.pass.caller s h k inv.5 c.try_go_on.ensures.leaves)
+
+pub returns-in-Here-clause-leaves : goal.returns-in-Here-clause-leaves
+returns-in-Here-clause-leaves g c = let inv = c.loop-steps.invariant in subst (λ (z : ℕ). DoesOnly MaySearch z (seen_of c.args.pass.now) (seen_of c.loop-steps.pass)) inv.1 inv.5
+
+pub returns-in-Here-next-clause-leaves : goal.returns-in-Here-next-clause-leaves
+returns-in-Here-next-clause-leaves g c = let inv = c.loop-steps.invariant in subst (λ (z : ℕ). DoesOnly MaySearch z (seen_of c.args.pass.now) (seen_of c.loop-steps.pass)) inv.1 inv.5
+
+pub returns-in-Go-next-clause-leaves : goal.returns-in-Go-next-clause-leaves
+returns-in-Go-next-clause-leaves g c = let inv = c.loop-steps.invariant in let s = seen_of c.args.pass.now in let h = seen_of c.loop-steps.pass in let k = seen_of c.turn_back.new.pass in
+    subst (λ (z : ℕ). DoesOnly MaySearch z s k) inv.1 (does_both MaySearch c.loop-steps.pass.caller s h k inv.5 c.turn_back.ensures.leaves)
+
+pub loop-steps-init : goal.loop-steps-init
+loop-steps-init g c = let sort = sort_of g.N.Node.layout g.N.Node.ranged in let n : ℕ = c.args.arena.now.nodes in let s = seen_of c.args.pass.now in let k = seen_of c.try_begin.new.pass in let e = c.in-Ok.ensures in let x = c.in-Ok.root in (
+  e.pass,
+  e.caller,
+  subst (λ (z : ℕ). IsOnWay sort g.N.Node.body z c.args.place k x) (sym e.caller) e.came.0,
+  (λ op. subst (λ (z : ℕ). Underway coupling z op s k) (sym e.caller) (e.under op)),
+  subst (λ (z : ℕ). IsDown n z s k 1 1 0 x.node) (sym e.caller) e.came.1,
+  subst (λ (z : ℕ). DoesOnly MaySearch z s k) (sym e.caller) e.leaves,
+)

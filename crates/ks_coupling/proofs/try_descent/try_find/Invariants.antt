@@ -7,6 +7,7 @@ use Rattle.ks_arena.specs.Sound.{sort_of}
 use Rattle.ks_arena.specs.Clauses.{IsPass, seen_of}
 use Rattle.ks_shape.specs.OnWay.{IsOnWay}
 use Rattle.ks_shape.specs.Down.{IsDown}
+use Rattle.ks_shape.specs.Does.{DoesOnly, MaySearch}
 use Rattle.ks_coupling.proofs.try_descent.try_find.Given as goal
 
 abbrev pub invariant-loop-steps : goal.invariant-loop-steps
@@ -16,3 +17,4 @@ invariant-loop-steps g l =
     × IsOnWay (sort_of g.N.Node.layout g.N.Node.ranged) g.N.Node.body l.pass.caller l.place (seen_of l.pass) l.held
     × ((op : Op) → Underway coupling l.pass.caller op (seen_of l.fn.pass) (seen_of l.pass))
     × IsDown l.arena.nodes l.pass.caller (seen_of l.fn.pass) (seen_of l.pass) (suc l._steps) 1 l._steps l.held.node
+    × DoesOnly MaySearch l.pass.caller (seen_of l.fn.pass) (seen_of l.pass)

@@ -12,6 +12,8 @@ use Rattle.ks_shape.specs.OnWay.{IsOnWay}
 use Rattle.ks_shape.specs.OnPath.{GaveIf, IsOnPath}
 use Rattle.ks_shape.specs.Down.{IsDown}
 use Rattle.ks_shape.specs.Laws.Down.{down_edge, down_give, down_take}
+use Rattle.ks_shape.specs.Does.{MaySearch}
+use Rattle.ks_shape.specs.Laws.Does.{does_on}
 use Rattle.ks_coupling.proofs.try_descent.try_go_on.Goals as goal
 
 pub let_go-requires-clause-path : goal.let_go-requires-clause-path
@@ -35,3 +37,6 @@ returns-in-Ok-clause-under g c = λ op start under. let k = seen_of c.try_step_d
 
 pub returns-in-Err-clause-came : goal.returns-in-Err-clause-came
 returns-in-Err-clause-came g c = λ start steps down. (c.in-Err.ensures.path, c.in-Err.ensures.busy start down.took.grows)
+
+pub returns-in-Ok-clause-leaves : goal.returns-in-Ok-clause-leaves
+returns-in-Ok-clause-leaves g c = does_on MaySearch c.args.pass.now.caller c.try_step_down.new.pass.caller (seen_of c.args.pass.now) (seen_of c.try_step_down.new.pass) (seen_of c.let_go.new.pass) c.try_step_down.ensures.caller c.try_step_down.ensures.leaves c.let_go.ensures.leaves

@@ -19,3 +19,6 @@ returns-clause-ends g c = let me : ℕ = c.args.pass.now.caller in let h = seen_
 pub returns-clause-tried : goal.returns-clause-tried
 returns-clause-tried g c = λ ways. let me : ℕ = c.args.pass.now.caller in let h = seen_of c.args.pass.now in
     c.try_pair_fill.ensures.tried ways coupling h tt (once me h) (underway_first coupling me (filling c.args.place c.args.fill) h c.requires.pass.1)
+
+pub returns-clause-fills : goal.returns-clause-fills
+returns-clause-fills g c = c.try_pair_fill.ensures.fills

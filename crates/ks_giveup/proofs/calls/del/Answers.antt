@@ -9,6 +9,8 @@ use Rattle.ks_history.specs.Trace.{◌⊑◌}
 use Rattle.ks_history.specs.Underway.{Underway}
 use Rattle.ks_arena.specs.Clauses.{seen_of}
 use Rattle.ks_giveup.proofs.Way.{ends_goes}
+use Rattle.ks_arena.specs.Sound.{sort_of}
+use Rattle.ks_shape.specs.Laws.Does.{search_dels_on}
 use Rattle.ks_giveup.proofs.calls.del.Goals as goal
 
 pub returns-clause-goes : goal.returns-clause-goes
@@ -25,3 +27,6 @@ returns-clause-tidy g c = λ removed alone. let me : ℕ = c.args.pass.now.calle
     let under = c.find-held.ensures.under (Del c.args.place) in let up : s ⊑ h = record { rest = under.rest; is = under.is } in
     let then : ActsAlone me h k = alone_then me s h k up c.del_alone.ensures.begins alone in
     c.del_alone.ensures.tidy removed (subst (λ (z : ℕ). ActsAlone z h k) (sym c.find-held.ensures.caller) then)
+
+pub returns-clause-dels : goal.returns-clause-dels
+returns-clause-dels g c = search_dels_on (sort_of g.N.Node.layout g.N.Node.ranged) c.args.pass.now.caller c.find-held.new.pass.caller (seen_of c.args.pass.now) (seen_of c.find-held.new.pass) (seen_of c.del_alone.new.pass) c.find-held.ensures.caller c.find-held.ensures.leaves c.del_alone.ensures.dels

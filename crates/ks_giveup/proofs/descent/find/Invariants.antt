@@ -6,6 +6,7 @@ use Rattle.ks_history.specs.Underway.{Underway}
 use Rattle.ks_arena.specs.Sound.{sort_of}
 use Rattle.ks_arena.specs.Clauses.{IsPass, hand_of, seen_of}
 use Rattle.ks_giveup.specs.Goes.{MayVisit, Goes}
+use Rattle.ks_shape.specs.Does.{DoesOnly, MaySearch}
 use Rattle.ks_giveup.proofs.descent.find.Given as goal
 
 abbrev pub invariant-loop : goal.invariant-loop
@@ -17,3 +18,4 @@ invariant-loop g l =
     × ((op : Op) → Underway give_up l.pass.caller op (seen_of l.fn.pass) (seen_of l.pass))
     × MayVisit l.pass.caller l.place l.node (seen_of l.pass)
     × Goes l.pass.caller l.place (seen_of l.fn.pass) (seen_of l.pass)
+    × DoesOnly MaySearch l.pass.caller (seen_of l.fn.pass) (seen_of l.pass)

@@ -5,6 +5,8 @@ use Rattle.ks_history.specs.Done.{give_up}
 use Rattle.ks_history.specs.Underway.{Underway}
 use Rattle.ks_arena.specs.Clauses.{seen_of}
 use Rattle.ks_giveup.proofs.Way.{goes_with}
+use Rattle.ks_shape.specs.Does.{MaySearch}
+use Rattle.ks_shape.specs.Laws.Does.{does_on}
 use Rattle.ks_giveup.proofs.descent.find_room.Goals as goal
 
 pub returns-then-has_room-clause-came : goal.returns-then-has_room-clause-came
@@ -17,3 +19,6 @@ returns-clause-goes g c = let e = c.find-held.ensures in let h₁ = seen_of c.fi
 pub returns-clause-under : goal.returns-clause-under
 returns-clause-under g c = λ op. let e = c.find-held.ensures in let s = seen_of c.args.pass.now in
     subst (λ (z : ℕ). Underway give_up z op s (seen_of c.give_last.new.pass)) e.caller (c.give_last.ensures.under give_up op s (subst (λ (z : ℕ). Underway give_up z op s (seen_of c.find-held.new.pass)) (sym e.caller) (e.under op)))
+
+pub returns-clause-leaves : goal.returns-clause-leaves
+returns-clause-leaves g c = does_on MaySearch c.args.pass.now.caller c.find-held.new.pass.caller (seen_of c.args.pass.now) (seen_of c.find-held.new.pass) (seen_of c.give_last.new.pass) c.find-held.ensures.caller c.find-held.ensures.leaves c.give_last.ensures.leaves

@@ -41,3 +41,6 @@ returns-clause-under g c = c.give_last.ensures.under give_up
 
 pub returns-clause-gave : goal.returns-clause-gave
 returns-clause-gave g c = c.give_last.ensures.gave
+
+pub returns-clause-leaves : goal.returns-clause-leaves
+returns-clause-leaves g c = c.give_last.ensures.leaves

@@ -10,6 +10,8 @@ use Rattle.ks_arena.specs.Clauses.{seen_of}
 use Rattle.ks_shape.specs.Laws.Single.{takes}
 use Rattle.ks_giveup.specs.Goes.{at_first}
 use Rattle.ks_giveup.proofs.Way.{goes_others, goes_with, visited}
+use Rattle.ks_shape.specs.Does.{MaySearch}
+use Rattle.ks_shape.specs.Laws.Does.{does_on, does_others, searches_take}
 use Rattle.ks_giveup.proofs.descent.visit.Goals as goal
 
 pub give_last-requires-clause-alone : goal.give_last-requires-clause-alone
@@ -38,3 +40,13 @@ pub returns-clause-under : goal.returns-clause-under
 returns-clause-under g c = λ op start under. let me : ℕ = c.args.pass.now.caller in let h₁ = seen_of c.take.new.pass in let e = c.in-Some.ensures in
     subst (λ (z : ℕ). Underway give_up z op start (seen_of c.give_last.new.pass)) e.caller (c.give_last.ensures.under give_up op start (subst (λ (z : ℕ). Underway give_up z op start h₁) (sym e.caller)
     (takes (sort_of g.N.Node.layout g.N.Node.ranged) g.N.Node.body give_up me c.args.node op start (seen_of c.args.pass.now) h₁ c.in-Some.held (λ k q. first_taken q tt) c.requires.pass.1 e.took under)))
+
+pub returns-in_default-clause-leaves : goal.returns-in_default-clause-leaves
+returns-in_default-clause-leaves g c = let told = rw c.in_default.is at c.take.ensures.took in does_others MaySearch c.args.pass.now.caller (seen_of c.args.pass.now) (seen_of c.take.new.pass) told.0.grows
+
+pub returns-then-place-range-clause-leaves : goal.returns-then-place-range-clause-leaves
+returns-then-place-range-clause-leaves g c = searches_take c.args.pass.now.caller c.args.node (seen_of c.args.pass.now) (seen_of c.take.new.pass) c.in-Some.ensures.took.grows
+
+pub returns-clause-leaves : goal.returns-clause-leaves
+returns-clause-leaves g c = let me : ℕ = c.args.pass.now.caller in let h = seen_of c.args.pass.now in let h₁ = seen_of c.take.new.pass in let e = c.in-Some.ensures in
+    does_on MaySearch me c.take.new.pass.caller h h₁ (seen_of c.give_last.new.pass) e.caller (searches_take me c.args.node h h₁ e.took.grows) c.give_last.ensures.leaves

@@ -23,3 +23,6 @@ try_visit-requires-clause-next g c = inl refl
 
 pub returns-clause-goes : goal.returns-clause-goes
 returns-clause-goes g c = c.try_visit.ensures.goes
+
+pub returns-clause-leaves : goal.returns-clause-leaves
+returns-clause-leaves g c = c.try_visit.ensures.leaves

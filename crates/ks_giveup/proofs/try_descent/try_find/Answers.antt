@@ -14,6 +14,8 @@ use Rattle.ks_history.specs.declared.Op.TheVariants.{Put}
 use Rattle.ks_history.specs.Laws.Underway.{underway_here}
 use Rattle.ks_giveup.specs.Goes.{Goes}
 use Rattle.ks_giveup.proofs.Way.{coupled_goes, goes_both}
+use Rattle.ks_shape.specs.Does.{DoesOnly, MaySearch}
+use Rattle.ks_shape.specs.Laws.Does.{does_both, does_to}
 use Rattle.ks_giveup.proofs.try_descent.try_find.Goals as goal
 
 pub returns-in-Err-try_go_on-clause-came : goal.returns-in-Err-try_go_on-clause-came
@@ -23,7 +25,7 @@ returns-in-Err-try_go_on-clause-came g c = let s = seen_of c.args.pass.now in le
 pub loop-steps-preserved : goal.loop-steps-preserved
 loop-steps-preserved g c = let sort = sort_of g.N.Node.layout g.N.Node.ranged in let n : ℕ = c.args.arena.now.nodes in let s = seen_of c.args.pass.now in let k = seen_of c.try_go_on.new.pass in let steps : ℕ = c.loop-steps._steps in let inv = c.loop-steps.invariant in let e = c.in-Ok-try_go_on.ensures in let x = c.in-Ok-try_go_on.below in
     let came = e.came s steps inv.4 in let next : suc steps ≡ steps + 1 = omega arith in
-    (e.pass, e.caller ∙ inv.1, subst (λ (z : ℕ). IsOnWay sort g.N.Node.body z c.args.place k x) (sym e.caller) came.0, (λ op. subst (λ (z : ℕ). Underway give_up z op s k) (sym e.caller) (e.under op s (inv.3 op))), subst (λ (z : ℕ). IsDown n c.try_go_on.new.pass.caller s k (suc z) 1 z x.node) next (subst (λ (z : ℕ). IsDown n z s k (suc (suc steps)) 1 (suc steps) x.node) (sym e.caller) came.1), subst (λ (z : ℕ). Goes z c.args.place s k) (sym e.caller) (goes_both inv.5 e.goes))
+    (e.pass, e.caller ∙ inv.1, subst (λ (z : ℕ). IsOnWay sort g.N.Node.body z c.args.place k x) (sym e.caller) came.0, (λ op. subst (λ (z : ℕ). Underway give_up z op s k) (sym e.caller) (e.under op s (inv.3 op))), subst (λ (z : ℕ). IsDown n c.try_go_on.new.pass.caller s k (suc z) 1 z x.node) next (subst (λ (z : ℕ). IsDown n z s k (suc (suc steps)) 1 (suc steps) x.node) (sym e.caller) came.1), subst (λ (z : ℕ). Goes z c.args.place s k) (sym e.caller) (goes_both inv.5 e.goes), does_to MaySearch c.loop-steps.pass.caller c.try_go_on.new.pass.caller s (seen_of c.loop-steps.pass) k e.caller inv.6 e.leaves)
 
 pub returns-in-Go-next-clause-came : goal.returns-in-Go-next-clause-came
 returns-in-Go-next-clause-came g c = let n : ℕ = c.args.arena.now.nodes in let s = seen_of c.args.pass.now in let k = seen_of c.turn_back.new.pass in let steps : ℕ = c.loop-steps._steps in let inv = c.loop-steps.invariant in let e = c.turn_back.ensures in
@@ -53,6 +55,7 @@ loop-steps-init g c = let sort = sort_of g.N.Node.layout g.N.Node.ranged in let 
   (λ op. subst (λ (z : ℕ). Underway give_up z op s k) (sym e.caller) (e.under op)),
   subst (λ (z : ℕ). IsDown n z s k 1 1 0 x.node) (sym e.caller) e.came.1,
   subst (λ (z : ℕ). Goes z c.args.place s k) (sym e.caller) e.goes,
+  subst (λ (z : ℕ). DoesOnly MaySearch z s k) (sym e.caller) e.leaves,
 )
 
 pub returns-in-Err-try_go_on-clause-goes : goal.returns-in-Err-try_go_on-clause-goes
@@ -68,3 +71,19 @@ pub returns-in-Go-next-clause-goes : goal.returns-in-Go-next-clause-goes
 returns-in-Go-next-clause-goes g c = let inv = c.loop-steps.invariant in let me : ℕ = c.loop-steps.pass.caller in let h = seen_of c.loop-steps.pass in
     subst (λ (z : ℕ). Goes z c.args.place (seen_of c.args.pass.now) (seen_of c.turn_back.new.pass)) inv.1
     (goes_both inv.5 (coupled_goes c.args.place (c.turn_back.ensures.under coupling (Put 0 0) h (underway_here coupling me (Put 0 0) h (omega (arith, ap length inv.2.alone)))).hands))
+
+-- what it does
+
+pub returns-in-Err-try_go_on-clause-leaves : goal.returns-in-Err-try_go_on-clause-leaves
+returns-in-Err-try_go_on-clause-leaves g c = let inv = c.loop-steps.invariant in let s = seen_of c.args.pass.now in let h = seen_of c.loop-steps.pass in let k = seen_of c.try_go_on.new.pass in
+    subst (λ (z : ℕ). DoesOnly MaySearch z s k) inv.1 (does_both MaySearch c.loop-steps.pass.caller s h k inv.6 c.try_go_on.ensures.leaves)
+
+pub returns-in-Here-clause-leaves : goal.returns-in-Here-clause-leaves
+returns-in-Here-clause-leaves g c = let inv = c.loop-steps.invariant in subst (λ (z : ℕ). DoesOnly MaySearch z (seen_of c.args.pass.now) (seen_of c.loop-steps.pass)) inv.1 inv.6
+
+pub returns-in-Here-next-clause-leaves : goal.returns-in-Here-next-clause-leaves
+returns-in-Here-next-clause-leaves g c = let inv = c.loop-steps.invariant in subst (λ (z : ℕ). DoesOnly MaySearch z (seen_of c.args.pass.now) (seen_of c.loop-steps.pass)) inv.1 inv.6
+
+pub returns-in-Go-next-clause-leaves : goal.returns-in-Go-next-clause-leaves
+returns-in-Go-next-clause-leaves g c = let inv = c.loop-steps.invariant in let s = seen_of c.args.pass.now in let h = seen_of c.loop-steps.pass in let k = seen_of c.turn_back.new.pass in
+    subst (λ (z : ℕ). DoesOnly MaySearch z s k) inv.1 (does_both MaySearch c.loop-steps.pass.caller s h k inv.6 c.turn_back.ensures.leaves)

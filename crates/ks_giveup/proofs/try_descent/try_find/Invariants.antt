@@ -8,6 +8,7 @@ use Rattle.ks_arena.specs.Clauses.{IsPass, seen_of}
 use Rattle.ks_shape.specs.OnWay.{IsOnWay}
 use Rattle.ks_shape.specs.Down.{IsDown}
 use Rattle.ks_giveup.specs.Goes.{Goes}
+use Rattle.ks_shape.specs.Does.{DoesOnly, MaySearch}
 use Rattle.ks_giveup.proofs.try_descent.try_find.Given as goal
 
 abbrev pub invariant-loop-steps : goal.invariant-loop-steps
@@ -18,3 +19,4 @@ invariant-loop-steps g l =
     × ((op : Op) → Underway give_up l.pass.caller op (seen_of l.fn.pass) (seen_of l.pass))
     × IsDown l.arena.nodes l.pass.caller (seen_of l.fn.pass) (seen_of l.pass) (suc l._steps) 1 l._steps l.held.node
     × Goes l.pass.caller l.place (seen_of l.fn.pass) (seen_of l.pass)
+    × DoesOnly MaySearch l.pass.caller (seen_of l.fn.pass) (seen_of l.pass)

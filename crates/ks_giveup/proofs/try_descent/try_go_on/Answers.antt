@@ -13,6 +13,8 @@ use Rattle.ks_giveup.specs.Tries.{WasOnWay, Visited}
 use Rattle.ks_giveup.specs.Goes.{Goes}
 use Rattle.ks_giveup.proofs.Visits.{went_on}
 use Rattle.ks_giveup.proofs.Way.{goes_both}
+use Rattle.ks_shape.specs.Does.{MaySearch}
+use Rattle.ks_shape.specs.Laws.Does.{does_on}
 use Rattle.ks_giveup.proofs.try_descent.try_go_on.Goals as goal
 
 pub returns-clause-came : goal.returns-clause-came
@@ -29,3 +31,6 @@ returns-clause-under g c = λ op start under. let h₁ = seen_of c.leave.new.pas
 
 pub returns-clause-goes : goal.returns-clause-goes
 returns-clause-goes g c = goes_both c.leave.ensures.goes (subst (λ (z : ℕ). Goes z c.args.place (seen_of c.leave.new.pass) (seen_of c.try_visit.new.pass)) c.leave.ensures.caller c.try_visit.ensures.goes)
+
+pub returns-clause-leaves : goal.returns-clause-leaves
+returns-clause-leaves g c = does_on MaySearch c.args.pass.now.caller c.leave.new.pass.caller (seen_of c.args.pass.now) (seen_of c.leave.new.pass) (seen_of c.try_visit.new.pass) c.leave.ensures.caller c.leave.ensures.leaves c.try_visit.ensures.leaves

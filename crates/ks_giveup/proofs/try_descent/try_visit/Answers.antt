@@ -24,6 +24,8 @@ use Rattle.ks_giveup.specs.Laws.Tries.{was_later, was_moved}
 use Rattle.ks_giveup.proofs.Visits.{ranged_inset}
 use Rattle.ks_giveup.specs.Goes.{at_first}
 use Rattle.ks_giveup.proofs.Way.{goes_others, goes_with, visited}
+use Rattle.ks_shape.specs.Does.{MaySearch}
+use Rattle.ks_shape.specs.Laws.Does.{does_on, does_others, searches_take}
 use Rattle.ks_giveup.proofs.try_descent.try_visit.Goals as goal
 
 pub returns-in-Busy-clause-came : goal.returns-in-Busy-clause-came
@@ -101,3 +103,18 @@ pub returns-else-is_in_range-clause-goes : goal.returns-else-is_in_range-clause-
 returns-else-is_in_range-clause-goes g c = let me : ℕ = c.args.pass.now.caller in let h = seen_of c.args.pass.now in let h₁ = seen_of c.try_take.new.pass in let h₂ = seen_of c.give_last.new.pass in let e = c.in-Held.ensures in let i : ℕ = c.in-Held.held.node in
     goes_with me c.args.place (Give me i) h h₁ h₂ (subst (λ (z : ℕ). GrowsWith z (Give z i) h₁ h₂) e.caller c.give_last.ensures.gave) tt
     (visited (sort_of g.N.Node.layout g.N.Node.ranged) g.N.Node.body me c.args.place c.args.node h h₁ c.in-Held.held c.requires.next e.took)
+
+-- what it does
+
+pub returns-in-Busy-clause-leaves : goal.returns-in-Busy-clause-leaves
+returns-in-Busy-clause-leaves g c = does_others MaySearch c.args.pass.now.caller (seen_of c.args.pass.now) (seen_of c.try_take.new.pass) c.in-Busy.ensures.took.0.grows
+
+pub returns-in-Gone-clause-leaves : goal.returns-in-Gone-clause-leaves
+returns-in-Gone-clause-leaves g c = does_others MaySearch c.args.pass.now.caller (seen_of c.args.pass.now) (seen_of c.try_take.new.pass) c.in-Gone.ensures.took.0.grows
+
+pub returns-then-is_in_range-clause-leaves : goal.returns-then-is_in_range-clause-leaves
+returns-then-is_in_range-clause-leaves g c = searches_take c.args.pass.now.caller c.args.node (seen_of c.args.pass.now) (seen_of c.try_take.new.pass) c.in-Held.ensures.took.grows
+
+pub returns-else-is_in_range-clause-leaves : goal.returns-else-is_in_range-clause-leaves
+returns-else-is_in_range-clause-leaves g c = let me : ℕ = c.args.pass.now.caller in let h = seen_of c.args.pass.now in let h₁ = seen_of c.try_take.new.pass in let e = c.in-Held.ensures in
+    does_on MaySearch me c.try_take.new.pass.caller h h₁ (seen_of c.give_last.new.pass) e.caller (searches_take me c.args.node h h₁ e.took.grows) c.give_last.ensures.leaves

@@ -24,6 +24,8 @@ use Rattle.ks_shape.specs.Laws.Fills.{done_is_tried, fill_touches}
 use Rattle.ks_giveup.specs.Goes.{Goes}
 use Rattle.ks_giveup.proofs.TryPuts.{put_off, once_here, once_later, ends_hands}
 use Rattle.ks_giveup.proofs.Way.{coupled_goes, ends_goes, goes_both, goes_with}
+use Rattle.ks_shape.specs.Does.{MaySearch}
+use Rattle.ks_shape.specs.Laws.Does.{does_on, search_fills_on, searched_fills}
 use Rattle.ks_giveup.proofs.try_puts.try_fill.Given.{Over}
 use Rattle.ks_giveup.proofs.try_puts.try_fill.Goals as goal
 use Rattle.ks_giveup.proofs.try_puts.try_fill.Goals.{After-give_last, After-not_put_off}
@@ -99,3 +101,16 @@ returns-else-has_room-clause-goes g c = let at = (goal.at.returns-else-has_room-
     let gone : Goes me c.args.place h l = goes_with me c.args.place (Give me i) h k l (subst (λ (z : ℕ). GrowsWith z (Give z i) k l) e.caller c.give_last.ensures.gave) tt e.goes in
     let on = c.try_pair_fill.ensures.ends coupling l tt (once_here b l) (underway_here coupling b op l (omega (arith, ap length c.give_last.ensures.pass.1))) in
     goes_both gone (subst (λ (z : ℕ). Goes z c.args.place l m) (own g at) (coupled_goes c.args.place (ends_hands g.N.Node.layout coupling c.args.arena.now.nodes b op l m c.try_pair_fill.result on)))
+
+-- what it does
+
+pub returns-in-Err-clause-fills : goal.returns-in-Err-clause-fills
+returns-in-Err-clause-fills g c = searched_fills (sort_of g.N.Node.layout g.N.Node.ranged) c.args.place c.args.pass.now.caller (seen_of c.args.pass.now) (seen_of c.try_find.new.pass) c.try_find.ensures.leaves
+
+pub returns-then-has_room-clause-fills : goal.returns-then-has_room-clause-fills
+returns-then-has_room-clause-fills g c = let e = c.try_find.ensures in let me : ℕ = c.args.pass.now.caller in let h = seen_of c.args.pass.now in let l = seen_of c.fill_at.new.pass in
+    searched_fills (sort_of g.N.Node.layout g.N.Node.ranged) c.args.place me h l (does_on MaySearch me c.try_find.new.pass.caller h (seen_of c.try_find.new.pass) l e.caller e.leaves c.fill_at.ensures.leaves)
+
+pub returns-else-has_room-clause-fills : goal.returns-else-has_room-clause-fills
+returns-else-has_room-clause-fills g c = let e = c.try_find.ensures in let me : ℕ = c.args.pass.now.caller in let h = seen_of c.args.pass.now in let l = seen_of c.give_last.new.pass in
+    search_fills_on (sort_of g.N.Node.layout g.N.Node.ranged) c.args.place me c.give_last.new.pass.caller h l (seen_of c.try_pair_fill.new.pass) (c.give_last.ensures.caller ∙ e.caller) (does_on MaySearch me c.try_find.new.pass.caller h (seen_of c.try_find.new.pass) l e.caller e.leaves c.give_last.ensures.leaves) c.try_pair_fill.ensures.fills

@@ -14,12 +14,14 @@ use Rattle.ks_shape.specs.Laws.Makes.{two_before}
 use Rattle.ks_link.specs.declared.parts.Waiting.{Waiting}
 use Rattle.ks_link.specs.Leads.{IsLedAfter, LedBut, waits_if}
 use Rattle.ks_link.proofs.Leading.{holds_none, led_both}
+use Rattle.ks_shape.specs.Does.{DoesOnly, MayFill}
+use Rattle.ks_shape.specs.Laws.Does.{does_none, fills_on}
 use Rattle.ks_link.proofs.attaches.attach_on.Given.{Over}
 use Rattle.ks_link.proofs.attaches.attach_on.Goals as goal
 use Rattle.ks_link.proofs.attaches.attach_on.Goals.{After-attach_one}
 
 pub loop-init : goal.loop-init
-loop-init g c = let h = seen_of c.args.pass.now in (c.requires.pass.0, c.requires.pass.1, refl, c.requires.off, stretch_here link_move c.args.pass.now.caller h h (omega (arith, ap length c.requires.pass.1)), λ adopts halves alone two. ((λ i live. inl live), inl refl))
+loop-init g c = let h = seen_of c.args.pass.now in (c.requires.pass.0, c.requires.pass.1, refl, c.requires.off, stretch_here link_move c.args.pass.now.caller h h (omega (arith, ap length c.requires.pass.1)), (λ adopts halves alone two. ((λ i live. inl live), inl refl)), λ place. does_none (MayFill (sort_of g.N.Node.layout g.N.Node.ranged) place) c.args.pass.now.caller h)
 
 -- one more was led to
 led_on : (g : Over) (c : After-attach_one g) → IsTrue g.N.Node.branches_adopt → IsTrue g.N.Node.halves_have_room → ActsAlone c.args.pass.now.caller (seen_of c.args.pass.now) (seen_of c.attach_one.new.pass) → TwoFree c.args.arena.now.nodes (seen_of c.attach_one.new.pass)
@@ -44,6 +46,7 @@ loop-preserved g c = let at = (goal.at.loop-preserved g c).After-attach_one in l
   subst (λ (z : ℕ). Stretch link_move z h l) (sym e.caller) (stretch_both link_move me h k l c.loop.invariant.4 e.stretch),
   (λ adopts halves alone two. let both = led_on g at adopts halves (subst (λ (z : ℕ). ActsAlone z h l) (e.caller ∙ c.loop.invariant.2) alone) two in
       (subst (λ (o : Option Waiting). LedBut sort (waits_if o) h l) c.in-Some-attach_one.is both.1, inr both.0)),
+  (λ place. fills_on (sort_of g.N.Node.layout g.N.Node.ranged) place me c.attach_one.new.pass.caller h k l e.caller (c.loop.invariant.6 place) (e.fills place)),
 )
 
 pub returns-in-None-attach_one-clause-stretch : goal.returns-in-None-attach_one-clause-stretch
@@ -53,3 +56,9 @@ returns-in-None-attach_one-clause-stretch g c = let e = c.attach_one.ensures in 
 pub returns-in-None-attach_one-clause-leads : goal.returns-in-None-attach_one-clause-leads
 returns-in-None-attach_one-clause-leads g c = λ adopts halves alone two. let at = (goal.at.returns-in-None-attach_one-clause-leads g c).After-attach_one in let sort = sort_of g.N.Node.layout g.N.Node.ranged in let h = seen_of c.args.pass.now in let l = seen_of c.attach_one.new.pass in
     let both = led_on g at adopts halves alone two in (both.0, subst (λ (o : Option Waiting). LedBut sort (waits_if o) h l) c.in-None-attach_one.is both.1)
+
+-- what it does
+
+pub returns-in-None-attach_one-clause-fills : goal.returns-in-None-attach_one-clause-fills
+returns-in-None-attach_one-clause-fills g c = λ place. let e = c.attach_one.ensures in let h = seen_of c.args.pass.now in let k = seen_of c.loop.pass in let l = seen_of c.attach_one.new.pass in let me : ℕ = c.loop.pass.caller in
+    subst (λ (z : ℕ). DoesOnly (MayFill (sort_of g.N.Node.layout g.N.Node.ranged) place) z h l) c.loop.invariant.2 (fills_on (sort_of g.N.Node.layout g.N.Node.ranged) place me me h k l refl (c.loop.invariant.6 place) (e.fills place))

@@ -1,4 +1,4 @@
-use Rattle.std.proofs.Common.{◌≡◌, [], ◌∷◌}
+use Rattle.std.proofs.Common.{◌≡◌, [], ◌∷◌, ℕ}
 use Rattle.std.specs.Prelude.{◌⊎◌, IsTrue}
 use Rattle.ks_history.specs.Alone.{ActsAlone}
 use Rattle.ks_flow.specs.Discipline.{BeginsLink, LinkStep}
@@ -9,6 +9,7 @@ use Rattle.ks_link.specs.Leads.{IsLedAfter, LedBut}
 use Rattle.ks_link.specs.Parts.{IsSplitOff}
 use Rattle.ks_history.specs.Done.{link_move}
 use Rattle.ks_history.specs.Stretch.{Stretch}
+use Rattle.ks_shape.specs.Does.{DoesOnly, MayFill}
 use Rattle.ks_link.proofs.attaches.attach_on.Given as goal
 
 abbrev pub invariant-loop : goal.invariant-loop
@@ -19,3 +20,4 @@ invariant-loop g l =
     × IsSplitOff (sort_of g.N.Node.layout g.N.Node.ranged) (seen_of l.pass) l.to
     × Stretch link_move l.pass.caller (seen_of l.fn.pass) (seen_of l.pass)
     × (IsTrue g.N.Node.branches_adopt → IsTrue g.N.Node.halves_have_room → ActsAlone l.pass.caller (seen_of l.fn.pass) (seen_of l.pass) → TwoFree l.arena.nodes (seen_of l.pass) → LedBut (sort_of g.N.Node.layout g.N.Node.ranged) (l.to ∷ []) (seen_of l.fn.pass) (seen_of l.pass) × ((l.to.node ≡ l.fn.to.node) ⊎ IsLedAfter (sort_of g.N.Node.layout g.N.Node.ranged) (seen_of l.pass) l.fn.to.node))
+    × ((place : ℕ) → DoesOnly (MayFill (sort_of g.N.Node.layout g.N.Node.ranged) place) l.pass.caller (seen_of l.fn.pass) (seen_of l.pass))

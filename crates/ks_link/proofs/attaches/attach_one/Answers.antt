@@ -20,6 +20,8 @@ use Rattle.ks_link.specs.Descent.{IsOnWay}
 use Rattle.ks_link.specs.Leads.{LedBut, waits_if}
 use Rattle.ks_link.proofs.Leading.{Lasts, led_none, led_then}
 use Rattle.ks_link.proofs.Parting.{live_in, split_off_later}
+use Rattle.ks_shape.specs.Does.{MayFill}
+use Rattle.ks_shape.specs.Laws.Does.{does_on, fills_search, search_fills_on, searches_give}
 use Rattle.ks_link.proofs.attaches.attach_one.Given.{Over}
 use Rattle.ks_link.proofs.attaches.attach_one.Goals as goal
 use Rattle.ks_link.proofs.attaches.attach_one.Goals.{After-ready-half, After-give}
@@ -133,3 +135,12 @@ returns-clause-leads g c = λ adopts halves alone two. let at = (goal.at.returns
     let part = subst (λ (z : ℕ). ActsAlone z (over g at) (prepared g at)) (sym c.find_above-held.ensures.caller) (alone_first (me g at) (over g at) (prepared g at) (last g at) (to_ready g at) (on_ready g at) then) in
     let which = c.ready-half.ensures.ready adopts halves part (two_ready g at alone two) in
     (lasts g at (led g at) (last g at) (to_last g at) c.give.ensures.pass.sound).led c.args.to.node (c.lead.ensures.led adopts which)
+
+-- what it does
+
+pub returns-clause-fills : goal.returns-clause-fills
+returns-clause-fills g c = λ place. let own : ℕ = c.args.pass.now.caller in let h = seen_of c.args.pass.now in let i = seen_of c.find_above-held.new.pass in let j = seen_of c.ready-half.new.pass in let k = seen_of c.lead.new.pass in let l = seen_of c.give.new.pass in
+    let one = c.find_above-held.ensures.caller in let two = c.ready-half.ensures.caller ∙ one in let three = c.lead.ensures.caller ∙ two in
+    let first = search_fills_on (sort_of g.N.Node.layout g.N.Node.ranged) place own c.find_above-held.new.pass.caller h i j one c.find_above-held.ensures.leaves (c.ready-half.ensures.fills place) in
+    let then = does_on (MayFill (sort_of g.N.Node.layout g.N.Node.ranged) place) own c.ready-half.new.pass.caller h j k two first (c.lead.ensures.fills place) in
+    fills_search (sort_of g.N.Node.layout g.N.Node.ranged) place own c.lead.new.pass.caller h k l three then (searches_give c.lead.new.pass.caller c.lead.new.held.node k l c.give.ensures.gave)

@@ -11,6 +11,8 @@ use Rattle.ks_history.specs.Done.{link_move}
 use Rattle.ks_history.specs.Stretch.{Stretch}
 use Rattle.ks_history.specs.Laws.Stretch.{stretch_both, stretch_begins}
 use Rattle.ks_link.proofs.Parting.{split_off_later}
+use Rattle.ks_shape.specs.Does.{DoesOnly, MaySearch}
+use Rattle.ks_shape.specs.Laws.Does.{does_to}
 use Rattle.ks_link.proofs.attaches.find_above.Goals as goal
 
 pub loop-init : goal.loop-init
@@ -26,6 +28,7 @@ loop-init g c = let sort = sort_of g.N.Node.layout g.N.Node.ranged in let n : �
       omega (arith, high, off.level, ap (λ (f : Frame). f.level) frame, ap (λ (i : ℕ). (frame_after (blank_of sort) k i).level) e.root),
       subst (λ (z : ℕ). Stretch link_move z h k) (sym e.caller) stretch,
       subst (λ (z : ℕ). MakesNone z h k) (sym e.caller) e.makes,
+      subst (λ (z : ℕ). DoesOnly MaySearch z h k) (sym e.caller) e.leaves,
     )
 
 pub loop-preserved : goal.loop-preserved
@@ -36,4 +39,5 @@ loop-preserved g c = let sort = sort_of g.N.Node.layout g.N.Node.ranged in let s
   e.above,
   subst (λ (z : ℕ). Stretch link_move z h l) (sym e.caller) (stretch_both link_move me h k l c.loop.invariant.4 e.stretch),
   subst (λ (z : ℕ). MakesNone z h l) (sym e.caller) (makes_both me h k l (stretch_begins link_move me h k c.loop.invariant.4) (stretch_begins link_move me k l e.stretch) c.loop.invariant.5 e.makes),
+  does_to MaySearch me c.go_nearer-held.new.pass.caller h k l e.caller c.loop.invariant.6 e.leaves,
 )

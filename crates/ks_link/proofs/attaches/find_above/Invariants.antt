@@ -6,6 +6,7 @@ use Rattle.ks_shape.specs.Makes.{MakesNone}
 use Rattle.ks_link.specs.Descent.{IsOnWay}
 use Rattle.ks_history.specs.Done.{link_move}
 use Rattle.ks_history.specs.Stretch.{Stretch}
+use Rattle.ks_shape.specs.Does.{DoesOnly, MaySearch}
 use Rattle.ks_link.proofs.attaches.find_above.Given as goal
 
 abbrev pub invariant-loop : goal.invariant-loop
@@ -16,3 +17,4 @@ invariant-loop g l =
     × (l.to.level < (g.N.Node.body l.held.body).level)
     × Stretch link_move l.pass.caller (seen_of l.fn.pass) (seen_of l.pass)
     × MakesNone l.pass.caller (seen_of l.fn.pass) (seen_of l.pass)
+    × DoesOnly MaySearch l.pass.caller (seen_of l.fn.pass) (seen_of l.pass)

@@ -47,3 +47,6 @@ returns-clause-above g c = let sort = sort_of g.N.Node.layout g.N.Node.ranged in
     let same = lasts.level next live (no_root (graph_after h) (frame_after (blank_of sort) h) facts x.node next cut r is leads place) in
     let after = (shown sort shows k y c.go_on.ensures.way.live c.go_on.ensures.way.matches).1 in
     omega (arith, up, same, ap (λ (f : Frame). f.level) after, ap (λ (i : ℕ). (frame_after (blank_of sort) k i).level) c.go_on.ensures.node)
+
+pub returns-clause-leaves : goal.returns-clause-leaves
+returns-clause-leaves g c = c.go_on.ensures.leaves

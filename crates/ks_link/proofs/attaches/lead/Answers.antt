@@ -19,6 +19,8 @@ use Rattle.ks_link.specs.Leads.{CanLead}
 use Rattle.ks_link.proofs.Leading.{shape_live}
 use Rattle.ks_link.proofs.Nearer.{branch_above}
 use Rattle.ks_link.proofs.Parting.{live_in, stands_now}
+use Rattle.ks_shape.specs.Does.{MayFill}
+use Rattle.ks_shape.specs.Laws.Does.{does_none}
 use Rattle.ks_link.proofs.attaches.lead.Goals as goal
 
 pub returns-then-can_lead-clause-stretch : goal.returns-then-can_lead-clause-stretch
@@ -58,3 +60,11 @@ returns-else-can_lead-clause-led g c = λ adopts which. let sort = sort_of g.N.N
     is_true : (t : Bool) → (t ≡ false → ⊥) → t ≡ true
     is_true true never = refl
     is_true false never = absurd (never refl)
+
+-- what it does
+
+pub returns-then-can_lead-clause-fills : goal.returns-then-can_lead-clause-fills
+returns-then-can_lead-clause-fills g c = λ place. c.attach.ensures.fills place
+
+pub returns-else-can_lead-clause-fills : goal.returns-else-can_lead-clause-fills
+returns-else-can_lead-clause-fills g c = λ place. does_none (MayFill (sort_of g.N.Node.layout g.N.Node.ranged) place) c.args.pass.now.caller (seen_of c.args.pass.now)

@@ -1,4 +1,4 @@
-use Rattle.std.proofs.Common.{ℕ, inl, inr, ap, length, arith}
+use Rattle.std.proofs.Common.{ℕ, inl, inr, ap, length, arith, ◌≡◌, ◌∙◌, true, false, sym}
 use Rattle.std.specs.Prelude.{IsTrue}
 use Rattle.ks_history.specs.Done.{link_move}
 use Rattle.ks_history.specs.Laws.Stays.{lawful_in_turn}
@@ -10,6 +10,8 @@ use Rattle.ks_arena.specs.Clauses.{seen_of}
 use Rattle.ks_shape.specs.Laws.Makes.{never_refused}
 use Rattle.ks_shape.specs.Laws.Single.{record_is, shown}
 use Rattle.ks_link.proofs.Nearer.{branch_above}
+use Rattle.ks_shape.specs.Does.{MayFill}
+use Rattle.ks_shape.specs.Laws.Does.{does_none}
 use Rattle.ks_link.proofs.attaches.ready.Given.{Over}
 use Rattle.ks_link.proofs.attaches.ready.Goals as goal
 use Rattle.ks_link.proofs.attaches.ready.Goals.{After-node_law}
@@ -34,3 +36,14 @@ returns-in-Ok-clause-ready g c = λ adopts halves alone two. inr (c.in-Ok.ensure
 pub returns-in-Err-clause-ready : goal.returns-in-Err-clause-ready
 returns-in-Err-clause-ready g c = λ adopts halves alone two. let sort = sort_of g.N.Node.layout g.N.Node.ranged in let n : ℕ = c.args.arena.now.table.shared.table_id.slots in let h = seen_of c.args.pass.now in let k = seen_of c.part.new.pass in let law = c.sound_law.ensures in
     absurd (never_refused g.N.Node.layout c.args.arena.now.nodes c.args.pass.now.caller c.args.cut h k alone (lawful_in_turn k (law.lawful sort n k c.part.ensures.pass.sound)) (λ m before i live. (law.lasts sort n m k before c.part.ensures.pass.sound).live i live) two c.in-Err.ensures.parted.2)
+
+-- what it does
+
+pub returns-then-not-must_part-clause-fills : goal.returns-then-not-must_part-clause-fills
+returns-then-not-must_part-clause-fills g c = λ place. does_none (MayFill (sort_of g.N.Node.layout g.N.Node.ranged) place) c.args.pass.now.caller (seen_of c.args.pass.now)
+
+pub returns-in-Ok-clause-fills : goal.returns-in-Ok-clause-fills
+returns-in-Ok-clause-fills g c = λ place. c.part.ensures.fills place (let full = c.must_part.ensures.full c.if-not-must_part.false in (full.1, λ leaf. absurd (let q : true ≡ false = sym full.0 ∙ leaf in let z : ⊥ = cc in z)))
+
+pub returns-in-Err-clause-fills : goal.returns-in-Err-clause-fills
+returns-in-Err-clause-fills g c = λ place. c.part.ensures.fills place (let full = c.must_part.ensures.full c.if-not-must_part.false in (full.1, λ leaf. absurd (let q : true ≡ false = sym full.0 ∙ leaf in let z : ⊥ = cc in z)))

@@ -7,6 +7,7 @@ use Rattle.ks_arena.specs.Sound.{sort_of}
 use Rattle.ks_arena.specs.Clauses.{IsPass, seen_of}
 use Rattle.ks_shape.specs.Makes.{MakesNone}
 use Rattle.ks_link.specs.Descent.{IsOnWay}
+use Rattle.ks_shape.specs.Does.{DoesOnly, MaySearch}
 use Rattle.ks_link.proofs.descent.find.Given as goal
 
 abbrev pub invariant-loop : goal.invariant-loop
@@ -16,3 +17,4 @@ invariant-loop g l =
     × IsOnWay (sort_of g.N.Node.layout g.N.Node.ranged) g.N.Node.body l.pass.caller l.place (seen_of l.pass) l.held
     × ((op : Op) → Underway link_move l.pass.caller op (seen_of l.fn.pass) (seen_of l.pass))
     × MakesNone l.pass.caller (seen_of l.fn.pass) (seen_of l.pass)
+    × DoesOnly MaySearch l.pass.caller (seen_of l.fn.pass) (seen_of l.pass)

@@ -17,6 +17,8 @@ use Rattle.ks_history.specs.Done.{link_move, first_taken}
 use Rattle.ks_shape.specs.Laws.Single.{is_near, led_live, record_is, takes}
 use Rattle.ks_shape.specs.Laws.Makes.{makes_both, makes_with}
 use Rattle.ks_link.proofs.Ways.{arrives}
+use Rattle.ks_shape.specs.Does.{MaySearch}
+use Rattle.ks_shape.specs.Laws.Does.{does_both, searches_take}
 use Rattle.ks_link.proofs.descent.go_on.Given.{Over}
 use Rattle.ks_link.proofs.descent.go_on.Goals as goal
 use Rattle.ks_link.proofs.descent.go_on.Goals.{After-give_last}
@@ -83,3 +85,8 @@ pub returns-clause-makes : goal.returns-clause-makes
 returns-clause-makes g c = let at = (goal.at.returns-clause-makes g c).After-give_last in let after = seen_of c.take.new.pass in
     let took = subst (λ (z : ℕ). HasTaken (sort g at) g.N.Node.body z c.args.next (given g at) after c.in-Some.taken) c.give_last.ensures.caller c.in-Some.ensures.took in
     makes_both (me g at) (seen g at) (given g at) after (begins g at) (with_begins (me g at) _ (given g at) after took.grows) c.give_last.ensures.makes (makes_with (me g at) _ (given g at) after tt took.grows)
+
+pub returns-clause-leaves : goal.returns-clause-leaves
+returns-clause-leaves g c = let at = (goal.at.returns-clause-leaves g c).After-give_last in let after = seen_of c.take.new.pass in
+    let took = subst (λ (z : ℕ). HasTaken (sort g at) g.N.Node.body z c.args.next (given g at) after c.in-Some.taken) c.give_last.ensures.caller c.in-Some.ensures.took in
+    does_both MaySearch (me g at) (seen g at) (given g at) after c.give_last.ensures.leaves (searches_take (me g at) c.args.next (given g at) after took.grows)

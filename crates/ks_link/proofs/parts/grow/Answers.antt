@@ -27,6 +27,8 @@ use Rattle.ks_history.specs.Done.{link_move}
 use Rattle.ks_history.specs.Stretch.{Stretch}
 use Rattle.ks_history.specs.Laws.Stretch.{stretch_begins, stretch_both, stretch_give, stretch_shape}
 use Rattle.ks_link.proofs.Parting.{live_in, ends_left, ends_right, drop_third, suits_all, stands_now}
+use Rattle.ks_shape.specs.Does.{MaySearch}
+use Rattle.ks_shape.specs.Laws.Does.{does_on, fills_search, searches_give}
 use Rattle.ks_link.proofs.parts.grow.Given.{Over}
 use Rattle.ks_link.proofs.parts.grow.Goals as goal
 use Rattle.ks_link.proofs.parts.grow.Goals.{After-node_law, After-give}
@@ -143,3 +145,10 @@ returns-clause-narrower g c = let at = (goal.at.returns-clause-narrower g c).Aft
       | inl is ↦ subst (λ (x : Hand g.row.N.Denot). reach_of (shows x.body) < reach_of b) (sym is.0) (subst (λ (z : Body). reach_of z < reach_of b) (sym c.grow_right.ensures.left.body) (left_less b.range b.low cut (is_linked g at).ranged splits.0.0 splits.0.1))
       | inr is ↦ subst (λ (x : Hand g.row.N.Denot). reach_of (shows x.body) < reach_of b) (sym is) (subst (λ (z : Body). reach_of z < reach_of b) (sym c.grow_right.ensures.right.body) (right_less b.range b.low cut (is_linked g at).ranged splits.0.0 splits.0.1))
     ]
+
+-- what it does
+
+pub returns-clause-fills : goal.returns-clause-fills
+returns-clause-fills g c = λ at must. let me : ℕ = c.args.pass.now.caller in let h = seen_of c.args.pass.now in let k = seen_of c.grow_right.new.pass in let l = seen_of c.give.new.pass in let m = seen_of c.keep_half-half.new.pass in let own : ℕ = c.grow_right.new.pass.caller in
+    fills_search (sort_of g.N.Node.layout g.N.Node.ranged) at me own h k m c.grow_right.ensures.caller (c.grow_right.ensures.fills at must)
+    (does_on MaySearch own c.give.new.pass.caller k l m c.give.ensures.caller (searches_give own c.grow_right.new.node.node k l c.give.ensures.gave) c.keep_half-half.ensures.leaves)

@@ -30,6 +30,8 @@ use Rattle.ks_link.specs.Leads.{LedBut, waits_if}
 use Rattle.ks_link.proofs.Leading.{led_then}
 use Rattle.ks_link.proofs.Rooms.{none_of}
 use Rattle.ks_link.proofs.Parting.{live_in, spare_no_root, stands_now}
+use Rattle.ks_shape.specs.Does.{MayFill}
+use Rattle.ks_shape.specs.Laws.Does.{does_on}
 use Rattle.ks_link.proofs.parts.part.Given.{Over}
 use Rattle.ks_link.proofs.parts.part.Goals as goal
 use Rattle.ks_link.proofs.parts.part.Goals.{After-node_law}
@@ -145,3 +147,17 @@ returns-in-Some-clause-narrower g c = c.grow.ensures.narrower
 
 pub returns-in-Some-claim_one-clause-narrower : goal.returns-in-Some-claim_one-clause-narrower
 returns-in-Some-claim_one-clause-narrower g c = c.split.ensures.narrower
+
+-- what it does
+
+pub returns-in-None-clause-fills : goal.returns-in-None-clause-fills
+returns-in-None-clause-fills g c = λ at must. c.claim_two.ensures.fills at
+
+pub returns-in-None-claim_one-clause-fills : goal.returns-in-None-claim_one-clause-fills
+returns-in-None-claim_one-clause-fills g c = λ at must. c.claim_one.ensures.fills at
+
+pub returns-in-Some-clause-fills : goal.returns-in-Some-clause-fills
+returns-in-Some-clause-fills g c = λ at must. does_on (MayFill (sort_of g.N.Node.layout g.N.Node.ranged) at) c.args.pass.now.caller c.claim_two.new.pass.caller (seen_of c.args.pass.now) (seen_of c.claim_two.new.pass) (seen_of c.grow.new.pass) c.claim_two.ensures.caller (c.claim_two.ensures.fills at) (c.grow.ensures.fills at must)
+
+pub returns-in-Some-claim_one-clause-fills : goal.returns-in-Some-claim_one-clause-fills
+returns-in-Some-claim_one-clause-fills g c = λ at must. does_on (MayFill (sort_of g.N.Node.layout g.N.Node.ranged) at) c.args.pass.now.caller c.claim_one.new.pass.caller (seen_of c.args.pass.now) (seen_of c.claim_one.new.pass) (seen_of c.split.new.pass) c.claim_one.ensures.caller (c.claim_one.ensures.fills at) (c.split.ensures.fills at must)

@@ -21,6 +21,7 @@ use Rattle.ks_history.specs.Done.{link_move}
 use Rattle.ks_history.specs.Stretch.{Stretch}
 use Rattle.ks_history.specs.Laws.Stretch.{stretch_both, stretch_shape, stretch_begins}
 use Rattle.ks_link.proofs.Parting.{live_in, ends_left, ends_right, stands_now, spare_no_root, split_off, split_off_later}
+use Rattle.ks_shape.specs.Laws.Does.{fills_search}
 use Rattle.ks_link.proofs.parts.split.Given.{Over}
 use Rattle.ks_link.proofs.parts.split.Goals as goal
 use Rattle.ks_link.proofs.parts.split.Goals.{After-node_law}
@@ -93,3 +94,8 @@ returns-clause-narrower g c = let at = (goal.at.returns-clause-narrower g c).Aft
       | inl is ↦ subst (λ (x : Hand g.row.N.Denot). reach_of (shows x.body) < reach_of b) (sym is.0) (subst (λ (z : Body). reach_of z < reach_of b) (sym c.split_right.ensures.node.body) (left_less b.range b.low cut (is_linked g at).ranged splits.0.0 splits.0.1))
       | inr is ↦ subst (λ (x : Hand g.row.N.Denot). reach_of (shows x.body) < reach_of b) (sym is) (subst (λ (z : Body). reach_of z < reach_of b) (sym c.split_right.ensures.right.body) (right_less b.range b.low cut (is_linked g at).ranged splits.0.0 splits.0.1))
     ]
+
+-- what it does
+
+pub returns-clause-fills : goal.returns-clause-fills
+returns-clause-fills g c = λ at must. fills_search (sort_of g.N.Node.layout g.N.Node.ranged) at c.args.pass.now.caller c.split_right.new.pass.caller (seen_of c.args.pass.now) (seen_of c.split_right.new.pass) (seen_of c.keep_half-half.new.pass) c.split_right.ensures.caller (c.split_right.ensures.fills at must) c.keep_half-half.ensures.leaves

@@ -19,6 +19,8 @@ use Rattle.ks_link.specs.Leads.{Waits}
 use Rattle.ks_link.specs.Descent.{IsOnWay}
 use Rattle.ks_link.specs.Parts.{IsSplitOff}
 use Rattle.ks_link.proofs.Leading.{are_led, led_both, led_then}
+use Rattle.ks_shape.specs.Does.{MayFill}
+use Rattle.ks_shape.specs.Laws.Does.{does_on, search_fills_on}
 use Rattle.ks_link.proofs.puts.fill.Goals as goal
 
 pub fill_from-answer-requires-clause-way : goal.fill_from-answer-requires-clause-way
@@ -49,3 +51,7 @@ returns-clause-led g c = λ adopts halves alone two. let me : ℕ = c.args.pass.
     let waits = led_then sort ws h k l (law.lasts sort n k l on wrote.pass.0.sound) (λ i live. inl (found.makes (alone_first me h k l till on first) i live)) (wrote.led halves (subst (λ (z : ℕ). ActsAlone z k l) (sym found.caller) (alone_then me h k l till on first))) in
     let leads = ends.leads adopts halves (subst (λ (z : ℕ). ActsAlone z l m) (sym e') (alone_then me h l m upto then alone)) two in
     are_led sort h m (led_both sort ws [] h l m (law.lasts sort n l m then ends.pass.0.sound) (λ i waits. leads.0 i (subst (λ (z : List Waiting). Waits z i) (sym c.as_slice.ensures.value) waits)) waits leads.1)
+
+pub returns-clause-fills : goal.returns-clause-fills
+returns-clause-fills g c = let me : ℕ = c.args.pass.now.caller in let h = seen_of c.args.pass.now in let k = seen_of c.find-held.new.pass in let l = seen_of c.fill_from-answer.new.pass in let e = c.find-held.ensures in let w = c.fill_from-answer.ensures in
+    does_on (MayFill (sort_of g.N.Node.layout g.N.Node.ranged) c.args.place) me c.fill_from-answer.new.pass.caller h l (seen_of c.attach_all.new.pass) (w.caller ∙ e.caller) (search_fills_on (sort_of g.N.Node.layout g.N.Node.ranged) c.args.place me c.find-held.new.pass.caller h k l e.caller e.leaves w.fills) (c.attach_all.ensures.fills c.args.place)

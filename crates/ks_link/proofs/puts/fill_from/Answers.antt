@@ -16,6 +16,7 @@ use Rattle.ks_shape.specs.Laws.Fills.{full_is_due, three_to_fill}
 use Rattle.ks_shape.specs.Makes.{MakesNone}
 use Rattle.ks_link.proofs.Leading.{led_none}
 use Rattle.ks_link.proofs.Rooms.{all_later}
+use Rattle.ks_shape.specs.Laws.Does.{fills_search}
 use Rattle.ks_link.proofs.puts.fill_from.Goals as goal
 
 pub fill_at-requires-clause-found : goal.fill_at-requires-clause-found
@@ -47,3 +48,6 @@ returns-clause-led g c = λ promise alone. let sort = sort_of g.N.Node.layout g.
     let till : h ⊑ k = stretch_begins link_move me h k room.stretch in
     led_none sort c.room_at-found.new.waiting.items h k l (c.sound_law.ensures.lasts sort n k l on c.fill_at.ensures.pass.0.sound) (room.led promise (alone_first me h k l till on alone))
     (subst (λ (z : ℕ). MakesNone z k l) room.caller c.fill_at.ensures.makes (alone_then me h k l till on alone))
+
+pub returns-clause-fills : goal.returns-clause-fills
+returns-clause-fills g c = let e = c.room_at-found.ensures in fills_search (sort_of g.N.Node.layout g.N.Node.ranged) c.args.place c.args.pass.now.caller c.room_at-found.new.pass.caller (seen_of c.args.pass.now) (seen_of c.room_at-found.new.pass) (seen_of c.fill_at.new.pass) e.caller e.fills c.fill_at.ensures.leaves

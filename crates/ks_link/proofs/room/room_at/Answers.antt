@@ -21,6 +21,8 @@ use Rattle.ks_link.specs.Parts.{IsSplitOff}
 use Rattle.ks_shape.specs.Fills.{FoundRoom}
 use Rattle.ks_link.proofs.Leading.{Lasts, led_then}
 use Rattle.ks_link.proofs.Ways.{ends_here}
+use Rattle.ks_shape.specs.Does.{DoesOnly, MayFill}
+use Rattle.ks_shape.specs.Laws.Does.{does_none, fills_on}
 use Rattle.ks_link.proofs.room.room_at.Goals as goal
 
 -- a full node is parted at first, before anything waits, where halves have room
@@ -42,6 +44,7 @@ loop-held-init g c = let sort = sort_of g.N.Node.layout g.N.Node.ranged in let h
   subst (λ (ws : List Waiting). All (λ w. IsSplitOff sort h w) ws) (sym c.requires.waiting) (All-nil (λ w. IsSplitOff sort h w)),
   (λ promise. inl c.requires.waiting),
   (λ promise alone i live. inl live),
+  does_none (MayFill (sort_of g.N.Node.layout g.N.Node.ranged) c.args.place) c.args.pass.now.caller h,
 )
 
 pub make_room-requires-clause-full : goal.make_room-requires-clause-full
@@ -61,6 +64,7 @@ loop-held-preserved g c = let sort = sort_of g.N.Node.layout g.N.Node.ranged in 
   (λ promise. inr (c.in-Ok.ensures.room promise)),
   (λ promise alone. led_on sort c.loop-held.waiting.items c.make_room.new.waiting.items me h k l (stretch_begins link_move me h k inv.4) (stretch_begins link_move me k l e.stretch) (c.sound_law.ensures.lasts sort n k l (stretch_begins link_move me k l e.stretch) e.pass.sound)
       (none_waits c.loop-held.waiting.items (is_full g.N.Node.layout (g.N.Node.body c.loop-held.held.body)) (inv.6 promise) (c.has_room.ensures.none c.if-has_room.false).1) (inv.7 promise) e.led (subst (λ (z : ℕ). ActsAlone z h l) e.caller alone)),
+  fills_on (sort_of g.N.Node.layout g.N.Node.ranged) c.args.place me c.make_room.new.pass.caller h k l e.caller inv.8 (e.fills (let none = c.has_room.ensures.none c.if-has_room.false in (none.1, λ leaf. none.0))),
 )
 
 pub returns-then-has_room-clause-found : goal.returns-then-has_room-clause-found
@@ -88,3 +92,12 @@ returns-in-Err-clause-led g c = λ promise alone. let sort = sort_of g.N.Node.la
     let h = seen_of c.args.pass.now in let k = seen_of c.loop-held.pass in let l = seen_of c.make_room.new.pass in let me : ℕ = c.loop-held.pass.caller in
     led_on sort c.loop-held.waiting.items c.make_room.new.waiting.items me h k l (stretch_begins link_move me h k inv.4) (stretch_begins link_move me k l e.stretch) (c.sound_law.ensures.lasts sort n k l (stretch_begins link_move me k l e.stretch) e.pass.sound)
     (none_waits c.loop-held.waiting.items (is_full g.N.Node.layout (g.N.Node.body c.loop-held.held.body)) (inv.6 promise) (c.has_room.ensures.none c.if-has_room.false).1) (inv.7 promise) e.led (subst (λ (z : ℕ). ActsAlone z h l) (sym inv.1) alone)
+
+-- what it does
+
+pub returns-then-has_room-clause-fills : goal.returns-then-has_room-clause-fills
+returns-then-has_room-clause-fills g c = let inv = c.loop-held.invariant in subst (λ (z : ℕ). DoesOnly (MayFill (sort_of g.N.Node.layout g.N.Node.ranged) c.args.place) z (seen_of c.args.pass.now) (seen_of c.loop-held.pass)) inv.1 inv.8
+
+pub returns-in-Err-clause-fills : goal.returns-in-Err-clause-fills
+returns-in-Err-clause-fills g c = let inv = c.loop-held.invariant in let me : ℕ = c.loop-held.pass.caller in let h = seen_of c.args.pass.now in let k = seen_of c.loop-held.pass in let l = seen_of c.make_room.new.pass in
+    subst (λ (z : ℕ). DoesOnly (MayFill (sort_of g.N.Node.layout g.N.Node.ranged) c.args.place) z h l) inv.1 (fills_on (sort_of g.N.Node.layout g.N.Node.ranged) c.args.place me me h k l refl inv.8 (c.make_room.ensures.fills (let none = c.has_room.ensures.none c.if-has_room.false in (none.1, λ leaf. none.0))))

@@ -12,6 +12,7 @@ use Rattle.ks_node.specs.Room.{is_full}
 use Rattle.ks_link.specs.Descent.{IsOnWay}
 use Rattle.ks_link.specs.Leads.{LedBut}
 use Rattle.ks_link.specs.Parts.{IsSplitOff, reach_of}
+use Rattle.ks_shape.specs.Does.{DoesOnly, MayFill}
 use Rattle.ks_link.proofs.room.room_at.Given as goal
 
 abbrev pub invariant-loop-held : goal.invariant-loop-held
@@ -24,6 +25,7 @@ invariant-loop-held g l =
     × All (λ w. IsSplitOff (sort_of g.N.Node.layout g.N.Node.ranged) (seen_of l.pass) w) l.waiting.items
     × (IsTrue g.N.Node.halves_have_room → (l.waiting.items ≡ []) ⊎ (is_full g.N.Node.layout (g.N.Node.body l.held.body) ≡ false))
     × (IsTrue g.N.Node.halves_have_room → ActsAlone l.pass.caller (seen_of l.fn.pass) (seen_of l.pass) → LedBut (sort_of g.N.Node.layout g.N.Node.ranged) l.waiting.items (seen_of l.fn.pass) (seen_of l.pass))
+    × DoesOnly (MayFill (sort_of g.N.Node.layout g.N.Node.ranged) l.place) l.pass.caller (seen_of l.fn.pass) (seen_of l.pass)
 
 abbrev pub decreases-loop-held : goal.decreases-loop-held
 decreases-loop-held g l = reach_of (g.N.Node.body l.held.body)

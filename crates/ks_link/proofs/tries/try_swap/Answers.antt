@@ -8,6 +8,8 @@ use Rattle.ks_history.specs.Laws.Underway.{left_of}
 use Rattle.ks_arena.specs.Sound.{sort_of}
 use Rattle.ks_arena.specs.Clauses.{seen_of}
 use Rattle.ks_shape.specs.SearchEnd.{IsEnd}
+use Rattle.ks_shape.specs.Does.{MaySearch}
+use Rattle.ks_shape.specs.Laws.Does.{does_on}
 use Rattle.ks_link.proofs.tries.try_swap.Goals as goal
 
 pub swap_here-requires-clause-ends : goal.swap_here-requires-clause-ends
@@ -21,3 +23,6 @@ returns-in-Ok-clause-tried g c = let op : Op = Swap c.args.place c.args.old c.ar
 pub returns-in-Err-clause-tried : goal.returns-in-Err-clause-tried
 returns-in-Err-clause-tried g c = let op : Op = Swap c.args.place c.args.old c.args.new in let e = c.in-Err.ensures in
     record { left = left_of link_move c.args.pass.now.caller op (seen_of c.args.pass.now) (seen_of c.try_find.new.pass) (e.under op) e.found.0; cause = e.found.1 op refl }
+
+pub returns-in-Ok-clause-leaves : goal.returns-in-Ok-clause-leaves
+returns-in-Ok-clause-leaves g c = does_on MaySearch c.args.pass.now.caller c.try_find.new.pass.caller (seen_of c.args.pass.now) (seen_of c.try_find.new.pass) (seen_of c.swap_here.new.pass) c.try_find.ensures.caller c.try_find.ensures.leaves c.swap_here.ensures.leaves

@@ -1,4 +1,4 @@
-use Rattle.std.proofs.Common.{◌≡◌, []}
+use Rattle.std.proofs.Common.{◌≡◌, [], ℕ}
 use Rattle.std.specs.Prelude.{All}
 use Rattle.ks_flow.specs.Discipline.{BeginsLink, LinkStep}
 use Rattle.ks_history.specs.Done.{link_move}
@@ -6,6 +6,7 @@ use Rattle.ks_history.specs.Stretch.{Stretch}
 use Rattle.ks_arena.specs.Sound.{sort_of}
 use Rattle.ks_arena.specs.Clauses.{IsPass, hand_of, seen_of}
 use Rattle.ks_link.specs.Parts.{IsSplitOff}
+use Rattle.ks_shape.specs.Does.{DoesOnly, MayFill}
 use Rattle.ks_link.proofs.try_attaches.try_attach_all.Given as goal
 
 abbrev pub invariant-loop-to : goal.invariant-loop-to
@@ -15,3 +16,4 @@ invariant-loop-to g l =
     × (l.pass.caller ≡ l.fn.pass.caller)
     × All (λ w. IsSplitOff (sort_of g.N.Node.layout g.N.Node.ranged) (seen_of l.pass) w) l.waiting
     × Stretch link_move l.pass.caller (seen_of l.fn.pass) (seen_of l.pass)
+    × ((place : ℕ) → DoesOnly (MayFill (sort_of g.N.Node.layout g.N.Node.ranged) place) l.pass.caller (seen_of l.fn.pass) (seen_of l.pass))

@@ -8,6 +8,8 @@ use Rattle.ks_history.specs.Laws.Stretch.{stretch_both, stretch_give, stretch_be
 use Rattle.ks_arena.specs.Sound.{sort_of}
 use Rattle.ks_arena.specs.Clauses.{seen_of}
 use Rattle.ks_link.proofs.Parting.{split_off_later}
+use Rattle.ks_shape.specs.Does.{MayFill}
+use Rattle.ks_shape.specs.Laws.Does.{does_on, fills_search, search_fills_on, searched_fills, searches_give}
 use Rattle.ks_link.proofs.try_attaches.try_attach_one.Given.{Over}
 use Rattle.ks_link.proofs.try_attaches.try_attach_one.Goals as goal
 use Rattle.ks_link.proofs.try_attaches.try_attach_one.Goals.{After-ready-half, After-give}
@@ -49,3 +51,15 @@ returns-clause-higher g c = λ w is. (c.ready-half.ensures.parted.2 w is).1 ∙ 
 pub returns-clause-stretch : goal.returns-clause-stretch
 returns-clause-stretch g c = let at = (goal.at.returns-clause-stretch g c).After-give in let before = (goal.at.returns-clause-stretch g c).After-ready-half in
     stretch_both link_move c.args.pass.now.caller (seen_of c.args.pass.now) (seen_of c.ready-half.new.pass) (seen_of c.give.new.pass) (stretch_ready g before) (stretch_on g at)
+
+-- what it does
+
+pub returns-clause-fills : goal.returns-clause-fills
+returns-clause-fills g c = λ place. let own : ℕ = c.args.pass.now.caller in let h = seen_of c.args.pass.now in let i = seen_of c.try_find_above.new.pass in let j = seen_of c.ready-half.new.pass in let k = seen_of c.lead.new.pass in let l = seen_of c.give.new.pass in
+    let one = c.try_find_above.ensures.caller in let two = c.ready-half.ensures.caller ∙ one in let three = c.lead.ensures.caller ∙ two in
+    let first = search_fills_on (sort_of g.N.Node.layout g.N.Node.ranged) place own c.try_find_above.new.pass.caller h i j one c.try_find_above.ensures.leaves (c.ready-half.ensures.fills place) in
+    let then = does_on (MayFill (sort_of g.N.Node.layout g.N.Node.ranged) place) own c.ready-half.new.pass.caller h j k two first (c.lead.ensures.fills place) in
+    fills_search (sort_of g.N.Node.layout g.N.Node.ranged) place own c.lead.new.pass.caller h k l three then (searches_give c.lead.new.pass.caller c.lead.new.held.node k l c.give.ensures.gave)
+
+pub returns-in_default-clause-fills : goal.returns-in_default-clause-fills
+returns-in_default-clause-fills g c = λ place. searched_fills (sort_of g.N.Node.layout g.N.Node.ranged) place c.args.pass.now.caller (seen_of c.args.pass.now) (seen_of c.try_find_above.new.pass) c.try_find_above.ensures.leaves

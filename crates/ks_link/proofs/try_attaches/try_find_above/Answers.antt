@@ -22,6 +22,8 @@ use Rattle.ks_link.specs.Descent.{IsOnWay}
 use Rattle.ks_link.proofs.Nearer.{no_root, nearer}
 use Rattle.ks_link.proofs.Parting.{split_off_later}
 use Rattle.ks_link.proofs.Trying.{less_left}
+use Rattle.ks_shape.specs.Does.{DoesOnly, MaySearch}
+use Rattle.ks_shape.specs.Laws.Does.{does_both, does_to}
 use Rattle.ks_link.proofs.try_attaches.try_find_above.Goals as goal
 use Rattle.ks_link.proofs.try_attaches.try_find_above.Given.{Over}
 use Rattle.ks_link.proofs.try_attaches.try_find_above.Goals.{After-sound_law, After-try_go_on}
@@ -49,6 +51,7 @@ loop-to-init g c = let sort = sort_of g.N.Node.layout g.N.Node.ranged in let n :
       subst (λ (z : ℕ). IsOnWay sort shows z c.args.to.cut k x) (sym e.caller) e.entered.0,
       omega (arith, high, off.level, ap (λ (f : Frame). f.level) frame, ap (λ (i : ℕ). (frame_after (blank_of sort) k i).level) e.entered.1),
       subst (λ (z : ℕ). Stretch link_move z h k) (sym e.caller) stretch,
+      subst (λ (z : ℕ). DoesOnly MaySearch z h k) (sym e.caller) e.leaves,
     )
 
 -- above the level each node leads on
@@ -89,6 +92,7 @@ loop-to-preserved g c = let at = (goal.at.loop-to-preserved g c).After-try_go_on
       subst (λ (z : ℕ). IsOnWay sort shows z cut l y) (sym e.caller) e.went.0,
       omega (arith, up, same, ap (λ (f : Frame). f.level) after, ap (λ (i : ℕ). (frame_after (blank_of sort) l i).level) e.went.2),
       subst (λ (z : ℕ). Stretch link_move z h l) (sym e.caller) (till g at),
+      does_to MaySearch me c.try_go_on.new.pass.caller h k l e.caller inv.5 e.leaves,
     )
 
 pub returns-in-Err-try_go_on-clause-caller : goal.returns-in-Err-try_go_on-clause-caller
@@ -102,3 +106,12 @@ returns-in-Err-try_go_on-clause-stretch g c = let at = (goal.at.returns-in-Err-t
 
 pub returns-then-is_over-clause-above : goal.returns-then-is_over-clause-above
 returns-then-is_over-clause-above g c = let told = c.is_over.ensures.yes c.if-is_over.true in (c.loop-to.invariant.2, told.0, told.1)
+
+-- what it does
+
+pub returns-in-Err-try_go_on-clause-leaves : goal.returns-in-Err-try_go_on-clause-leaves
+returns-in-Err-try_go_on-clause-leaves g c = let inv = c.loop-to.invariant in let h = seen_of c.args.pass.now in let k = seen_of c.loop-to.pass in let l = seen_of c.try_go_on.new.pass in
+    subst (λ (z : ℕ). DoesOnly MaySearch z h l) inv.1 (does_both MaySearch c.loop-to.pass.caller h k l inv.5 c.try_go_on.ensures.leaves)
+
+pub returns-then-is_over-clause-leaves : goal.returns-then-is_over-clause-leaves
+returns-then-is_over-clause-leaves g c = let inv = c.loop-to.invariant in subst (λ (z : ℕ). DoesOnly MaySearch z (seen_of c.args.pass.now) (seen_of c.loop-to.pass)) inv.1 inv.5

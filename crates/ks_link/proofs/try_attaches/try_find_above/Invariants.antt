@@ -6,6 +6,7 @@ use Rattle.ks_arena.specs.Sound.{sort_of}
 use Rattle.ks_arena.specs.Clauses.{IsPass, seen_of}
 use Rattle.ks_link.specs.Descent.{IsOnWay}
 use Rattle.ks_link.proofs.Trying.{way_left}
+use Rattle.ks_shape.specs.Does.{DoesOnly, MaySearch}
 use Rattle.ks_link.proofs.try_attaches.try_find_above.Given as goal
 
 abbrev pub invariant-loop-to : goal.invariant-loop-to
@@ -15,6 +16,7 @@ invariant-loop-to g l =
     × IsOnWay (sort_of g.N.Node.layout g.N.Node.ranged) g.N.Node.body l.pass.caller l.to.cut (seen_of l.pass) l.held
     × (l.to.level < (g.N.Node.body l.held.body).level)
     × Stretch link_move l.pass.caller (seen_of l.fn.pass) (seen_of l.pass)
+    × DoesOnly MaySearch l.pass.caller (seen_of l.fn.pass) (seen_of l.pass)
 
 abbrev pub decreases-loop-to : goal.decreases-loop-to
 decreases-loop-to g l = way_left (g.N.Node.body l.held.body)

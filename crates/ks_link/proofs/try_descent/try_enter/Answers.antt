@@ -11,6 +11,8 @@ use Rattle.ks_shape.specs.Laws.Single.{record_is, takes}
 use Rattle.ks_shape.specs.Laws.Makes.{makes_others, makes_with}
 use Rattle.ks_link.proofs.Places.{root_low}
 use Rattle.ks_link.proofs.Ways.{arrives}
+use Rattle.ks_shape.specs.Does.{MaySearch}
+use Rattle.ks_shape.specs.Laws.Does.{does_others, searches_take}
 use Rattle.ks_link.proofs.try_descent.try_enter.Goals as goal
 
 pub returns-in-Held-clause-entered : goal.returns-in-Held-clause-entered
@@ -32,3 +34,9 @@ returns-in-Busy-clause-under g c = λ op. let me : ℕ = c.args.pass.now.caller 
 
 pub returns-in-Busy-clause-makes : goal.returns-in-Busy-clause-makes
 returns-in-Busy-clause-makes g c = makes_others c.args.pass.now.caller (seen_of c.args.pass.now) (seen_of c.try_take.new.pass) c.in-Busy.ensures.took.0.grows
+
+pub returns-in-Held-clause-leaves : goal.returns-in-Held-clause-leaves
+returns-in-Held-clause-leaves g c = searches_take c.args.pass.now.caller 0 (seen_of c.args.pass.now) (seen_of c.try_take.new.pass) c.in-Held.ensures.took.grows
+
+pub returns-in-Busy-clause-leaves : goal.returns-in-Busy-clause-leaves
+returns-in-Busy-clause-leaves g c = does_others MaySearch c.args.pass.now.caller (seen_of c.args.pass.now) (seen_of c.try_take.new.pass) c.in-Busy.ensures.took.0.grows

@@ -15,6 +15,8 @@ use Rattle.ks_shape.specs.Tries.{IsCause}
 use Rattle.ks_link.specs.Descent.{IsOnWay}
 use Rattle.ks_link.proofs.Trying.{cause_since, less_left}
 use Rattle.ks_link.proofs.Ways.{ends_here}
+use Rattle.ks_shape.specs.Does.{DoesOnly, MaySearch}
+use Rattle.ks_shape.specs.Laws.Does.{does_both, does_to}
 use Rattle.ks_link.proofs.try_descent.try_find.Goals as goal
 
 -- a call that is under way goes on
@@ -28,6 +30,7 @@ loop-held-init g c = let sort = sort_of g.N.Node.layout g.N.Node.ranged in let e
   subst (λ (z : ℕ). IsOnWay sort g.N.Node.body z c.args.place k c.in-Ok.root) (sym e.caller) e.entered.0,
   (λ op. subst (λ (z : ℕ). Underway link_move z op h k) (sym e.caller) (e.under op)),
   subst (λ (z : ℕ). MakesNone z h k) (sym e.caller) e.makes,
+  subst (λ (z : ℕ). DoesOnly MaySearch z h k) (sym e.caller) e.leaves,
 )
 
 pub returns-in-Here-clause-found : goal.returns-in-Here-clause-found
@@ -46,6 +49,7 @@ loop-held-preserved g c = let sort = sort_of g.N.Node.layout g.N.Node.ranged in 
       subst (λ (z : ℕ). IsOnWay sort g.N.Node.body z c.args.place l c.in-Ok-try_go_on.taken) (sym e.caller) e.went.0,
       (λ op. subst (λ (z : ℕ). Underway link_move z op h l) (sym e.caller) (e.under op h (inv.3 op))),
       subst (λ (z : ℕ). MakesNone z h l) (sym e.caller) (makes_both me h k l (till me (Put 0 0) h k (inv.3 (Put 0 0))) (till me (Put 0 0) k l (e.under (Put 0 0) k here)) inv.4 e.makes),
+      does_to MaySearch me c.try_go_on.new.pass.caller h k l e.caller inv.5 e.leaves,
     )
 
 pub returns-in-Err-try_go_on-clause-caller : goal.returns-in-Err-try_go_on-clause-caller
@@ -65,3 +69,12 @@ pub returns-in-Err-try_go_on-clause-makes : goal.returns-in-Err-try_go_on-clause
 returns-in-Err-try_go_on-clause-makes g c = let e = c.try_go_on.ensures in let h = seen_of c.args.pass.now in let k = seen_of c.loop-held.pass in let l = seen_of c.try_go_on.new.pass in let me : ℕ = c.loop-held.pass.caller in let inv = c.loop-held.invariant in
     let here = underway_here link_move me (Put 0 0) k (omega (arith, ap length inv.2.alone)) in
     subst (λ (z : ℕ). MakesNone z h l) inv.1 (makes_both me h k l (till me (Put 0 0) h k (inv.3 (Put 0 0))) (till me (Put 0 0) k l (e.under (Put 0 0) k here)) inv.4 e.makes)
+
+-- what it does
+
+pub returns-in-Here-clause-leaves : goal.returns-in-Here-clause-leaves
+returns-in-Here-clause-leaves g c = let inv = c.loop-held.invariant in subst (λ (z : ℕ). DoesOnly MaySearch z (seen_of c.args.pass.now) (seen_of c.loop-held.pass)) inv.1 inv.5
+
+pub returns-in-Err-try_go_on-clause-leaves : goal.returns-in-Err-try_go_on-clause-leaves
+returns-in-Err-try_go_on-clause-leaves g c = let h = seen_of c.args.pass.now in let k = seen_of c.loop-held.pass in let l = seen_of c.try_go_on.new.pass in let inv = c.loop-held.invariant in
+    subst (λ (z : ℕ). DoesOnly MaySearch z h l) inv.1 (does_both MaySearch c.loop-held.pass.caller h k l inv.5 c.try_go_on.ensures.leaves)

@@ -21,6 +21,8 @@ use Rattle.ks_link.proofs.Nearer.{no_root, step_on}
 use Rattle.ks_link.proofs.Places.{step_low}
 use Rattle.ks_link.proofs.Trying.{met_busy, on_from}
 use Rattle.ks_link.proofs.Ways.{arrives}
+use Rattle.ks_shape.specs.Does.{MaySearch}
+use Rattle.ks_shape.specs.Laws.Does.{does_both, does_others, searches_give, searches_take}
 use Rattle.ks_link.proofs.try_descent.try_go_on.Given.{Over}
 use Rattle.ks_link.proofs.try_descent.try_go_on.Goals as goal
 use Rattle.ks_link.proofs.try_descent.try_go_on.Goals.{After-give}
@@ -120,3 +122,15 @@ pub returns-in-Busy-clause-makes : goal.returns-in-Busy-clause-makes
 returns-in-Busy-clause-makes g c = let at = (goal.at.returns-in-Busy-clause-makes g c).After-give in let after = seen_of c.try_take.new.pass in
     let grows = subst (λ (z : ℕ). GrowsByOthers z (given g at) after) c.give.ensures.caller c.in-Busy.ensures.took.0.grows in
     makes_both (me g at) (seen g at) (given g at) after (begins g at) (by_others_begins (me g at) (given g at) after grows) (makes_with (me g at) _ (seen g at) (given g at) tt (gave g at)) (makes_others (me g at) (given g at) after grows)
+
+-- what it does
+
+pub returns-in-Held-clause-leaves : goal.returns-in-Held-clause-leaves
+returns-in-Held-clause-leaves g c = let at = (goal.at.returns-in-Held-clause-leaves g c).After-give in let after = seen_of c.try_take.new.pass in
+    let took = subst (λ (z : ℕ). HasTaken (sort g at) g.N.Node.body z c.args.next (given g at) after c.in-Held.taken) c.give.ensures.caller c.in-Held.ensures.took in
+    does_both MaySearch (me g at) (seen g at) (given g at) after (searches_give (me g at) c.args.held.node (seen g at) (given g at) (gave g at)) (searches_take (me g at) c.args.next (given g at) after took.grows)
+
+pub returns-in-Busy-clause-leaves : goal.returns-in-Busy-clause-leaves
+returns-in-Busy-clause-leaves g c = let at = (goal.at.returns-in-Busy-clause-leaves g c).After-give in let after = seen_of c.try_take.new.pass in
+    let grows = subst (λ (z : ℕ). GrowsByOthers z (given g at) after) c.give.ensures.caller c.in-Busy.ensures.took.0.grows in
+    does_both MaySearch (me g at) (seen g at) (given g at) after (searches_give (me g at) c.args.held.node (seen g at) (given g at) (gave g at)) (does_others MaySearch (me g at) (given g at) after grows)

@@ -16,6 +16,8 @@ use Rattle.ks_shape.specs.Tries.{TriedPut}
 use Rattle.ks_link.specs.declared.parts.Waiting.{Waiting}
 use Rattle.ks_link.specs.Descent.{IsOnWay}
 use Rattle.ks_link.specs.Parts.{IsSplitOff}
+use Rattle.ks_shape.specs.Does.{MayFill}
+use Rattle.ks_shape.specs.Laws.Does.{does_on, search_fills_on, searched_fills}
 use Rattle.ks_link.proofs.try_puts.try_fill.Goals as goal
 
 pub fill_from-answer-requires-clause-way : goal.fill_from-answer-requires-clause-way
@@ -40,3 +42,10 @@ returns-in-Ok-clause-tried g c = let me : ℕ = c.args.pass.now.caller in let n 
 pub returns-in-Err-clause-tried : goal.returns-in-Err-clause-tried
 returns-in-Err-clause-tried g c = let op : Op = filling c.args.place c.args.fill in let e = c.in-Err.ensures in
     record { left = left_of link_move c.args.pass.now.caller op (seen_of c.args.pass.now) (seen_of c.try_find.new.pass) (e.under op) e.found.0; cause = e.found.1 op (fill_touches c.args.place c.args.fill) }
+
+pub returns-in-Ok-clause-fills : goal.returns-in-Ok-clause-fills
+returns-in-Ok-clause-fills g c = let me : ℕ = c.args.pass.now.caller in let h = seen_of c.args.pass.now in let k = seen_of c.try_find.new.pass in let l = seen_of c.fill_from-answer.new.pass in let e = c.try_find.ensures in let w = c.fill_from-answer.ensures in
+    does_on (MayFill (sort_of g.N.Node.layout g.N.Node.ranged) c.args.place) me c.fill_from-answer.new.pass.caller h l (seen_of c.try_attach_all.new.pass) (w.caller ∙ e.caller) (search_fills_on (sort_of g.N.Node.layout g.N.Node.ranged) c.args.place me c.try_find.new.pass.caller h k l e.caller e.leaves w.fills) (c.try_attach_all.ensures.fills c.args.place)
+
+pub returns-in-Err-clause-fills : goal.returns-in-Err-clause-fills
+returns-in-Err-clause-fills g c = searched_fills (sort_of g.N.Node.layout g.N.Node.ranged) c.args.place c.args.pass.now.caller (seen_of c.args.pass.now) (seen_of c.try_find.new.pass) c.try_find.ensures.leaves

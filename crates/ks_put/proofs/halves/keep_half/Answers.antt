@@ -8,6 +8,7 @@ use Rattle.ks_shape.specs.Laws.Quiet.{quiet_give}
 use Rattle.ks_shape.specs.Laws.Search.{Laws}
 use Rattle.ks_shape.specs.Laws.Keeping.{once, drop_first, drop_later}
 use Rattle.ks_put.proofs.Keeping.{half_kept}
+use Rattle.ks_shape.specs.Laws.Does.{searches_give}
 use Rattle.ks_put.proofs.halves.keep_half.Given.{Over}
 use Rattle.ks_put.proofs.halves.keep_half.Goals as goal
 use Rattle.ks_put.proofs.halves.keep_half.Goals.{After-search_law}
@@ -58,3 +59,11 @@ returns-then-place-cut-clause-kept g c = ((λ lt. refl), λ le. absurd (omega (a
 
 pub returns-else-place-cut-clause-kept : goal.returns-else-place-cut-clause-kept
 returns-else-place-cut-clause-kept g c = ((λ lt. absurd (omega (arith, lt, c.if-place-cut.false))), λ le. refl)
+
+-- what it does
+
+pub returns-then-place-cut-clause-leaves : goal.returns-then-place-cut-clause-leaves
+returns-then-place-cut-clause-leaves g c = searches_give c.args.pass.now.caller c.args.right.node (seen_of c.args.pass.now) (seen_of c.give.new.pass) c.give.ensures.gave
+
+pub returns-else-place-cut-clause-leaves : goal.returns-else-place-cut-clause-leaves
+returns-else-place-cut-clause-leaves g c = searches_give c.args.pass.now.caller c.args.left.node (seen_of c.args.pass.now) (seen_of c.give-else-place-cut.new.pass) c.give-else-place-cut.ensures.gave

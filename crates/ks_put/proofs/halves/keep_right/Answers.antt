@@ -12,6 +12,8 @@ use Rattle.ks_put.proofs.Deepening.{quiet_here}
 use Rattle.ks_shape.specs.Laws.Search.{Laws}
 use Rattle.ks_shape.specs.Laws.Keeping.{once, drop_first, drop_later}
 use Rattle.ks_put.proofs.Keeping.{half_kept}
+use Rattle.ks_shape.specs.Does.{MaySearch}
+use Rattle.ks_shape.specs.Laws.Does.{does_none, searches_give}
 use Rattle.ks_put.proofs.halves.keep_right.Given.{Over}
 use Rattle.ks_put.proofs.halves.keep_right.Goals as goal
 use Rattle.ks_put.proofs.halves.keep_right.Goals.{After-search_law}
@@ -58,3 +60,9 @@ returns-clause-quiet g c = quiet_give c.args.pass.now.caller c.in-Some.parent.no
 
 pub returns-in_default-clause-quiet : goal.returns-in_default-clause-quiet
 returns-in_default-clause-quiet g c = quiet_here c.args.pass.now.caller (seen_of c.args.pass.now)
+
+pub returns-clause-leaves : goal.returns-clause-leaves
+returns-clause-leaves g c = searches_give c.args.pass.now.caller c.in-Some.parent.node (seen_of c.args.pass.now) (seen_of c.give.new.pass) c.give.ensures.gave
+
+pub returns-in_default-clause-leaves : goal.returns-in_default-clause-leaves
+returns-in_default-clause-leaves g c = does_none MaySearch c.args.pass.now.caller (seen_of c.args.pass.now)

@@ -18,6 +18,8 @@ use Rattle.ks_shape.specs.Laws.Search.{Laws, quiet_insets}
 use Rattle.ks_shape.specs.Laws.Keeping.{drop_first, drop_later}
 use Rattle.ks_shape.specs.Laws.Quiet.{quiet_give, quiet_on}
 use Rattle.ks_put.proofs.Deepening.{quiet_gave}
+use Rattle.ks_shape.specs.Does.{MaySearch}
+use Rattle.ks_shape.specs.Laws.Does.{does_on, searches_give}
 use Rattle.ks_put.proofs.halves.keep_right_alone.Given.{Over}
 use Rattle.ks_put.proofs.halves.keep_right_alone.Goals as goal
 use Rattle.ks_put.proofs.halves.keep_right_alone.Goals.{After-search_law, After-give}
@@ -80,3 +82,7 @@ returns-clause-stretch g c = let me : ℕ = c.args.pass.now.caller in let h = se
 pub returns-clause-quiet : goal.returns-clause-quiet
 returns-clause-quiet g c = let me : ℕ = c.args.pass.now.caller in let h = seen_of c.args.pass.now in let h₁ = seen_of c.give.new.pass in let h₂ = seen_of c.keep_alone-node.new.pass in
     quiet_on me c.give.new.pass.caller h h₁ h₂ c.give.ensures.caller (quiet_give me c.args.path.node.node h h₁ c.give.ensures.gave) (quiet_gave c.give.new.pass.caller c.args.path.parent h₁ h₂ c.keep_alone-node.ensures.gave)
+
+pub returns-clause-leaves : goal.returns-clause-leaves
+returns-clause-leaves g c = let me : ℕ = c.args.pass.now.caller in let h = seen_of c.args.pass.now in let h₁ = seen_of c.give.new.pass in
+    does_on MaySearch me c.give.new.pass.caller h h₁ (seen_of c.keep_alone-node.new.pass) c.give.ensures.caller (searches_give me c.args.path.node.node h h₁ c.give.ensures.gave) c.keep_alone-node.ensures.leaves

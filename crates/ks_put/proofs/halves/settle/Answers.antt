@@ -12,6 +12,8 @@ use Rattle.ks_shape.specs.declared.path.Path.{Path}
 use Rattle.ks_put.specs.Narrows.{cuts_left}
 use Rattle.ks_put.proofs.Narrowing.{no_cuts}
 use Rattle.ks_put.proofs.halves.settle.Goals as goal
+use Rattle.ks_shape.specs.Does.{MaySearch}
+use Rattle.ks_shape.specs.Laws.Does.{does_none}
 
 few : {N : Type 0} (o : Option (Hand N)) (hs : List ℕ) (i : ℕ) → hs ≡ i ∷ numbers o → length hs ≤ 3
 few None hs i is = omega (arith, ap length is)
@@ -45,3 +47,6 @@ pub returns-clause-narrows : goal.returns-clause-narrows
 returns-clause-narrows g c = let y : Path g.row.N.Denot = record { parent = None; node = c.let_go-node.result } in
     let room : is_full g.N.Node.layout (g.N.Node.body c.let_go-node.result.body) ≡ false = subst (λ (x : Hand g.row.N.Denot). is_full g.N.Node.layout (g.N.Node.body x.body) ≡ false) (sym c.let_go-node.ensures.node) (sym c.is_full.ensures ∙ c.if-is_full.false) in
     let none : cuts_left g.N.Node.layout g.N.Node.body c.args.place y ≡ 0 = no_cuts g.N.Node.layout g.N.Node.body c.args.place y room in omega (arith, none)
+
+pub returns-then-is_full-clause-leaves : goal.returns-then-is_full-clause-leaves
+returns-then-is_full-clause-leaves g c = does_none MaySearch c.args.pass.now.caller (seen_of c.args.pass.now)

@@ -1,8 +1,11 @@
-use Rattle.std.proofs.Common.{ℕ, refl}
+use Rattle.std.proofs.Common.{ℕ, refl, ◌≡◌, ◌∙◌, true, false, sym}
 use Rattle.ks_arena.specs.Clauses.{seen_of}
 use Rattle.ks_shape.specs.Stretches.{Stretches}
 use Rattle.ks_shape.specs.Laws.Stretches.{stretches_as, stretches_both}
 use Rattle.ks_put.proofs.Going.{on_was}
+use Rattle.ks_arena.specs.Sound.{sort_of}
+use Rattle.ks_shape.specs.Does.{MayFill, MustSplit}
+use Rattle.ks_shape.specs.Laws.Does.{fills_search, searched_fills}
 use Rattle.ks_put.proofs.room.go_on.Goals as goal
 
 pub returns-in-Refused-clause-stretch : goal.returns-in-Refused-clause-stretch
@@ -17,3 +20,20 @@ returns-in-Refused-clause-refused g c = λ t. let me : ℕ = c.args.pass.now.cal
 pub returns-in-Shut-clause-stretch : goal.returns-in-Shut-clause-stretch
 returns-in-Shut-clause-stretch g c = let me : ℕ = c.args.pass.now.caller in let h = seen_of c.args.pass.now in let h₁ = seen_of c.split.new.pass in let h₂ = seen_of c.down-in-Shut.new.pass in
     stretches_both me h h₁ h₂ c.split.ensures.stretch (stretches_as me c.split.new.pass.caller h₁ h₂ c.split.ensures.caller c.down-in-Shut.ensures.stretch)
+
+-- what it does
+
+pub returns-then-not-is_branch-clause-fills : goal.returns-then-not-is_branch-clause-fills
+returns-then-not-is_branch-clause-fills g c = searched_fills (sort_of g.N.Node.layout g.N.Node.ranged) c.args.place c.args.pass.now.caller (seen_of c.args.pass.now) (seen_of c.down.new.pass) c.down.ensures.leaves
+
+pub returns-then-not-is_full-clause-fills : goal.returns-then-not-is_full-clause-fills
+returns-then-not-is_full-clause-fills g c = searched_fills (sort_of g.N.Node.layout g.N.Node.ranged) c.args.place c.args.pass.now.caller (seen_of c.args.pass.now) (seen_of c.down-then-not-is_full.new.pass) c.down-then-not-is_full.ensures.leaves
+
+pub returns-in-Split-clause-fills : goal.returns-in-Split-clause-fills
+returns-in-Split-clause-fills g c = c.split.ensures.fills (sym c.is_full.ensures ∙ c.if-not-is_full.false, λ leaf. absurd (let q : true ≡ false = sym (sym c.is_branch.ensures ∙ c.if-not-is_branch.false) ∙ leaf in let z : ⊥ = cc in z))
+
+pub returns-in-Refused-clause-fills : goal.returns-in-Refused-clause-fills
+returns-in-Refused-clause-fills g c = fills_search (sort_of g.N.Node.layout g.N.Node.ranged) c.args.place c.args.pass.now.caller c.split.new.pass.caller (seen_of c.args.pass.now) (seen_of c.split.new.pass) (seen_of c.down-in-Refused.new.pass) c.split.ensures.caller (c.split.ensures.fills (sym c.is_full.ensures ∙ c.if-not-is_full.false, λ leaf. absurd (let q : true ≡ false = sym (sym c.is_branch.ensures ∙ c.if-not-is_branch.false) ∙ leaf in let z : ⊥ = cc in z))) c.down-in-Refused.ensures.leaves
+
+pub returns-in-Shut-clause-fills : goal.returns-in-Shut-clause-fills
+returns-in-Shut-clause-fills g c = fills_search (sort_of g.N.Node.layout g.N.Node.ranged) c.args.place c.args.pass.now.caller c.split.new.pass.caller (seen_of c.args.pass.now) (seen_of c.split.new.pass) (seen_of c.down-in-Shut.new.pass) c.split.ensures.caller (c.split.ensures.fills (sym c.is_full.ensures ∙ c.if-not-is_full.false, λ leaf. absurd (let q : true ≡ false = sym (sym c.is_branch.ensures ∙ c.if-not-is_branch.false) ∙ leaf in let z : ⊥ = cc in z))) c.down-in-Shut.ensures.leaves

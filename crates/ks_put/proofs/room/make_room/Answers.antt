@@ -1,4 +1,4 @@
-use Rattle.std.proofs.Common.{◌∙◌, ℕ, ap, sym, subst}
+use Rattle.std.proofs.Common.{◌∙◌, ℕ, ap, sym, subst, ◌≡◌, refl}
 use Rattle.ks_keysets.specs.Layout.{Layout}
 use Rattle.ks_arena.specs.Sound.{sort_of}
 use Rattle.ks_arena.specs.Clauses.{seen_of}
@@ -6,19 +6,21 @@ use Rattle.ks_shape.specs.Laws.Stretches.{stretches_as, stretches_both, stretche
 use Rattle.ks_shape.specs.declared.path.Path.{Path}
 use Rattle.ks_shape.specs.OnPath.{IsOnPath}
 use Rattle.ks_put.proofs.Going.{on_was, new_was, found_none, found_room}
+use Rattle.ks_shape.specs.Does.{MayFill, DoesOnly}
+use Rattle.ks_shape.specs.Laws.Does.{fills_on, fills_search, fills_search_on, searched_fills}
 use Rattle.ks_put.proofs.room.make_room.Goals as goal
 
 pub loop-preserved-then-refused : goal.loop-preserved-then-refused
 loop-preserved-then-refused g c = let layout : Layout = g.N.Node.layout in let n : ℕ = c.args.arena.now.nodes in let a : ℕ = c.loop.pass.caller in let s = seen_of c.args.pass.now in let h = seen_of c.loop.pass in let inv = c.loop.invariant in let e = c.go_on-next.ensures in let b : ℕ = c.go_on-next.new.pass.caller in let k = seen_of c.go_on-next.new.pass in
-    (e.pass, e.caller ∙ inv.1, subst (λ (z : ℕ). IsOnPath (sort_of g.N.Node.layout g.N.Node.ranged) g.N.Node.body z c.args.place k c.go_on-next.result.0) (sym e.caller) e.path, stretches_on a b s h k e.caller inv.3 e.stretch, λ t. on_was layout n c.args.place a b s h k e.caller e.stretch (inv.4 c.if-refused.true))
+    (e.pass, e.caller ∙ inv.1, subst (λ (z : ℕ). IsOnPath (sort_of g.N.Node.layout g.N.Node.ranged) g.N.Node.body z c.args.place k c.go_on-next.result.0) (sym e.caller) e.path, stretches_on a b s h k e.caller inv.3 e.stretch, (λ t. on_was layout n c.args.place a b s h k e.caller e.stretch (inv.4 c.if-refused.true)), fills_on (sort_of g.N.Node.layout g.N.Node.ranged) c.args.place a b s h k e.caller inv.5 e.fills)
 
 pub loop-preserved-else-refused : goal.loop-preserved-else-refused
 loop-preserved-else-refused g c = let layout : Layout = g.N.Node.layout in let n : ℕ = c.args.arena.now.nodes in let a : ℕ = c.loop.pass.caller in let s = seen_of c.args.pass.now in let h = seen_of c.loop.pass in let inv = c.loop.invariant in let e = c.go_on-next.ensures in let b : ℕ = c.go_on-next.new.pass.caller in let k = seen_of c.go_on-next.new.pass in
-    (e.pass, e.caller ∙ inv.1, subst (λ (z : ℕ). IsOnPath (sort_of g.N.Node.layout g.N.Node.ranged) g.N.Node.body z c.args.place k c.go_on-next.result.0) (sym e.caller) e.path, stretches_on a b s h k e.caller inv.3 e.stretch, λ t. new_was layout n c.args.place a b s h k e.caller inv.3 (e.refused t))
+    (e.pass, e.caller ∙ inv.1, subst (λ (z : ℕ). IsOnPath (sort_of g.N.Node.layout g.N.Node.ranged) g.N.Node.body z c.args.place k c.go_on-next.result.0) (sym e.caller) e.path, stretches_on a b s h k e.caller inv.3 e.stretch, (λ t. new_was layout n c.args.place a b s h k e.caller inv.3 (e.refused t)), fills_on (sort_of g.N.Node.layout g.N.Node.ranged) c.args.place a b s h k e.caller inv.5 e.fills)
 
 pub loop-preserved-in-Split : goal.loop-preserved-in-Split
 loop-preserved-in-Split g c = let layout : Layout = g.N.Node.layout in let n : ℕ = c.args.arena.now.nodes in let a : ℕ = c.loop.pass.caller in let s = seen_of c.args.pass.now in let h = seen_of c.loop.pass in let inv = c.loop.invariant in let e = c.split.ensures in let b : ℕ = c.split.new.pass.caller in let k = seen_of c.split.new.pass in
-    (e.pass, e.caller ∙ inv.1, subst (λ (z : ℕ). IsOnPath (sort_of g.N.Node.layout g.N.Node.ranged) g.N.Node.body z c.args.place k c.in-Split.half) (sym e.caller) c.in-Split.ensures.part, stretches_on a b s h k e.caller inv.3 e.stretch, λ t. on_was layout n c.args.place a b s h k e.caller e.stretch (inv.4 t))
+    (e.pass, e.caller ∙ inv.1, subst (λ (z : ℕ). IsOnPath (sort_of g.N.Node.layout g.N.Node.ranged) g.N.Node.body z c.args.place k c.in-Split.half) (sym e.caller) c.in-Split.ensures.part, stretches_on a b s h k e.caller inv.3 e.stretch, (λ t. on_was layout n c.args.place a b s h k e.caller e.stretch (inv.4 t)), fills_on (sort_of g.N.Node.layout g.N.Node.ranged) c.args.place a b s h k e.caller inv.5 (e.fills (let none = c.has_room.ensures.none c.if-has_room.false in (none.1, λ leaf. none.0))))
 
 pub loop-preserved : goal.loop-preserved
 loop-preserved g c = let layout : Layout = g.N.Node.layout in let n : ℕ = c.args.arena.now.nodes in let a : ℕ = c.loop.pass.caller in let s = seen_of c.args.pass.now in let h = seen_of c.loop.pass in let inv = c.loop.invariant in let e₁ = c.split.ensures in let b₁ : ℕ = c.split.new.pass.caller in let k₁ = seen_of c.split.new.pass in let e = c.begin_again-path.ensures in let b : ℕ = c.begin_again-path.new.pass.caller in let k = seen_of c.begin_again-path.new.pass in (
@@ -26,7 +28,8 @@ loop-preserved g c = let layout : Layout = g.N.Node.layout in let n : ℕ = c.ar
   e.caller ∙ e₁.caller ∙ inv.1,
   subst (λ (z : ℕ). IsOnPath (sort_of g.N.Node.layout g.N.Node.ranged) g.N.Node.body z c.args.place k c.begin_again-path.result) (sym e.caller) e.path,
   stretches_on b₁ b s k₁ k e.caller (stretches_on a b₁ s h k₁ e₁.caller inv.3 e₁.stretch) e.stretch,
-  λ t. on_was layout n c.args.place b₁ b s k₁ k e.caller e.stretch (on_was layout n c.args.place a b₁ s h k₁ e₁.caller e₁.stretch (inv.4 t)),
+  (λ t. on_was layout n c.args.place b₁ b s k₁ k e.caller e.stretch (on_was layout n c.args.place a b₁ s h k₁ e₁.caller e₁.stretch (inv.4 t))),
+  fills_search_on (sort_of g.N.Node.layout g.N.Node.ranged) c.args.place b₁ b s k₁ k e.caller (fills_on (sort_of g.N.Node.layout g.N.Node.ranged) c.args.place a b₁ s h k₁ e₁.caller inv.5 (e₁.fills (let none = c.has_room.ensures.none c.if-has_room.false in (none.1, λ leaf. none.0)))) e.leaves,
 )
 
 -- how the search comes back
@@ -61,3 +64,27 @@ returns-then-refused-2-clause-stretch g c = let me : ℕ = c.args.pass.now.calle
 
 pub split-requires-clause-full : goal.split-requires-clause-full
 split-requires-clause-full g c = (c.has_room.ensures.none c.if-has_room.false).1
+
+-- what it does
+
+pub loop-init : goal.loop-init
+loop-init g c = let e = c.enter-path.ensures in let s = seen_of c.args.pass.now in let k = seen_of c.enter-path.new.pass in (
+  e.pass,
+  e.caller,
+  subst (λ (z : ℕ). IsOnPath (sort_of g.N.Node.layout g.N.Node.ranged) g.N.Node.body z c.args.place k c.enter-path.result) (sym e.caller) e.path,
+  stretches_as c.enter-path.new.pass.caller c.args.pass.now.caller s k (sym e.caller) e.stretch,
+  (λ told. absurd (let z : ⊥ = cc in z)),
+  subst (λ (z : ℕ). DoesOnly (MayFill (sort_of g.N.Node.layout g.N.Node.ranged) c.args.place) z s k) (sym e.caller) (searched_fills (sort_of g.N.Node.layout g.N.Node.ranged) c.args.place c.args.pass.now.caller s k e.leaves),
+)
+
+pub returns-then-has_room-clause-fills : goal.returns-then-has_room-clause-fills
+returns-then-has_room-clause-fills g c = let a : ℕ = c.loop.pass.caller in let s = seen_of c.args.pass.now in let h = seen_of c.loop.pass in let k = seen_of c.come_to_end.new.pass in let inv = c.loop.invariant in
+    subst (λ (z : ℕ). DoesOnly (MayFill (sort_of g.N.Node.layout g.N.Node.ranged) c.args.place) z s k) inv.1 (fills_search (sort_of g.N.Node.layout g.N.Node.ranged) c.args.place a a s h k refl inv.5 c.come_to_end.ensures.leaves)
+
+pub returns-in-Refused-clause-fills : goal.returns-in-Refused-clause-fills
+returns-in-Refused-clause-fills g c = let a : ℕ = c.loop.pass.caller in let s = seen_of c.args.pass.now in let h = seen_of c.loop.pass in let inv = c.loop.invariant in let e = c.split.ensures in let b : ℕ = c.split.new.pass.caller in let m = seen_of c.split.new.pass in let k = seen_of c.come_to_end-in-Refused.new.pass in
+    subst (λ (z : ℕ). DoesOnly (MayFill (sort_of g.N.Node.layout g.N.Node.ranged) c.args.place) z s k) (e.caller ∙ inv.1) (fills_search (sort_of g.N.Node.layout g.N.Node.ranged) c.args.place b b s m k refl (fills_on (sort_of g.N.Node.layout g.N.Node.ranged) c.args.place a b s h m e.caller inv.5 (e.fills (let none = c.has_room.ensures.none c.if-has_room.false in (none.1, λ leaf. none.0)))) c.come_to_end-in-Refused.ensures.leaves)
+
+pub returns-then-refused-2-clause-fills : goal.returns-then-refused-2-clause-fills
+returns-then-refused-2-clause-fills g c = let a : ℕ = c.loop.pass.caller in let s = seen_of c.args.pass.now in let h = seen_of c.loop.pass in let inv = c.loop.invariant in let e = c.split.ensures in let b : ℕ = c.split.new.pass.caller in let m = seen_of c.split.new.pass in let k = seen_of c.come_to_end-then-refused-2.new.pass in
+    subst (λ (z : ℕ). DoesOnly (MayFill (sort_of g.N.Node.layout g.N.Node.ranged) c.args.place) z s k) (e.caller ∙ inv.1) (fills_search (sort_of g.N.Node.layout g.N.Node.ranged) c.args.place b b s m k refl (fills_on (sort_of g.N.Node.layout g.N.Node.ranged) c.args.place a b s h m e.caller inv.5 (e.fills (let none = c.has_room.ensures.none c.if-has_room.false in (none.1, λ leaf. none.0)))) c.come_to_end-then-refused-2.ensures.leaves)

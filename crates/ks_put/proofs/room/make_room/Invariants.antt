@@ -6,6 +6,7 @@ use Rattle.ks_arena.specs.Sound.{sort_of}
 use Rattle.ks_arena.specs.Clauses.{IsPass, seen_of}
 use Rattle.ks_shape.specs.Stretches.{Stretches}
 use Rattle.ks_shape.specs.OnPath.{IsOnPath}
+use Rattle.ks_shape.specs.Does.{DoesOnly, MayFill}
 use Rattle.ks_put.proofs.room.make_room.Given as goal
 
 abbrev pub invariant-loop : goal.invariant-loop
@@ -15,3 +16,4 @@ invariant-loop g l =
     × IsOnPath (sort_of g.N.Node.layout g.N.Node.ranged) g.N.Node.body l.pass.caller l.place (seen_of l.pass) l.path
     × Stretches l.pass.caller (seen_of l.fn.pass) (seen_of l.pass)
     × (IsTrue l.refused → NoneFree g.N.Node.layout l.arena.nodes l.pass.caller l.place (seen_of l.fn.pass) (seen_of l.pass))
+    × DoesOnly (MayFill (sort_of g.N.Node.layout g.N.Node.ranged) l.place) l.pass.caller (seen_of l.fn.pass) (seen_of l.pass)

@@ -29,6 +29,8 @@ use Rattle.ks_put.specs.Deeper.{StandsDown}
 use Rattle.ks_put.proofs.Deepening.{down_quiet, down_shaped, free_none, grow_held}
 use Rattle.ks_put.specs.Narrows.{end_at}
 use Rattle.ks_put.proofs.Narrowing.{end_below, half_narrower}
+use Rattle.ks_shape.specs.Does.{MayFill}
+use Rattle.ks_shape.specs.Laws.Does.{does_on, fills_search}
 use Rattle.ks_put.proofs.splits.grow_root.Given.{Over}
 use Rattle.ks_put.proofs.splits.grow_root.Goals as goal
 use Rattle.ks_put.proofs.splits.grow_root.Goals.{After-search_law, After-claim_two, After-grow}
@@ -116,3 +118,12 @@ returns-clause-narrows g c = let at = goal.at.returns-clause-narrows g c in let 
     (leads place i ((c.grow.ensures.parts place (inset g at.After-claim_two place c.requires.path.inside held)).0 lt).0)
     (leads cut j ((c.grow.ensures.parts cut (inset g at.After-claim_two cut c.requires.cut.0 held)).1 (omega arith)).0) in
     half_narrower g.N.Node.layout shows place (record { parent = None; node = c.args.root }) c.keep_half.result y c.grow.new.left c.grow.new.right cut c.requires.full c.requires.cut.1 low low c.grow.ensures.left.body c.grow.ensures.right.body below c.keep_half.ensures.parent c.keep_half.ensures.kept.0 c.keep_half.ensures.kept.1
+
+-- what it does
+
+pub returns-in_default-clause-fills : goal.returns-in_default-clause-fills
+returns-in_default-clause-fills g c = λ must. c.claim_two.ensures.fills c.args.place
+
+pub returns-clause-fills : goal.returns-clause-fills
+returns-clause-fills g c = λ must. let me : ℕ = c.args.pass.now.caller in let h = seen_of c.args.pass.now in let h₁ = seen_of c.claim_two.new.pass in let h₂ = seen_of c.grow.new.pass in let h₃ = seen_of c.keep_half.new.pass in let one = c.claim_two.ensures.caller in let two = c.grow.ensures.caller in let may = MayFill (sort_of g.N.Node.layout g.N.Node.ranged) c.args.place in
+    fills_search (sort_of g.N.Node.layout g.N.Node.ranged) c.args.place me c.grow.new.pass.caller h h₂ h₃ (two ∙ one) (does_on may me c.claim_two.new.pass.caller h h₁ h₂ one (c.claim_two.ensures.fills c.args.place) (c.grow.ensures.fills c.args.place must)) c.keep_half.ensures.leaves

@@ -6,6 +6,8 @@ use Rattle.ks_shape.specs.OnPath.{IsOnPath}
 use Rattle.ks_node.specs.Room.{is_full}
 use Rattle.ks_arena.specs.declared.held.Held.{Held as Hand}
 use Rattle.ks_put.specs.Deeper.{IsDownPath}
+use Rattle.ks_shape.specs.Does.{MayFill}
+use Rattle.ks_shape.specs.Laws.Does.{fills_search}
 use Rattle.ks_put.proofs.splits.split.Goals as goal
 
 pub returns-in-Split-clause-part : goal.returns-in-Split-clause-part
@@ -26,3 +28,6 @@ returns-in-Split-clause-halves g c = λ even. let room = c.in-Split.ensures.halv
 
 pub returns-in-Split-clause-narrows : goal.returns-in-Split-clause-narrows
 returns-in-Split-clause-narrows g c = omega (arith, c.in-Split.ensures.narrows, c.settle.ensures.narrows)
+
+pub returns-in-Split-clause-fills : goal.returns-in-Split-clause-fills
+returns-in-Split-clause-fills g c = λ must. fills_search (sort_of g.N.Node.layout g.N.Node.ranged) c.args.place c.args.pass.now.caller c.split_whole.new.pass.caller (seen_of c.args.pass.now) (seen_of c.split_whole.new.pass) (seen_of c.settle.new.pass) c.split_whole.ensures.caller (c.split_whole.ensures.fills must) c.settle.ensures.leaves

@@ -31,6 +31,8 @@ use Rattle.ks_put.specs.Deeper.{StandsDown}
 use Rattle.ks_put.proofs.Deepening.{down_quiet, down_fewer, down_shaped, free_none, own_full, own_held, path_down, stands_quiet}
 use Rattle.ks_put.specs.Narrows.{cuts_left, own_start}
 use Rattle.ks_put.proofs.Narrowing.{own_narrower, own_on, own_past, right_narrower, under_above}
+use Rattle.ks_shape.specs.Does.{MayFill}
+use Rattle.ks_shape.specs.Laws.Does.{does_on, fills_search}
 use Rattle.ks_put.proofs.splits.split_alone.Given.{Over}
 use Rattle.ks_put.proofs.splits.split_alone.Goals as goal
 use Rattle.ks_put.proofs.splits.split_alone.Goals.{After-search_law, After-claim_one, After-split_own}
@@ -215,3 +217,20 @@ returns-then-is_full-clause-narrows g c = let shows = g.N.Node.body in let cut :
 pub returns-clause-narrows : goal.returns-clause-narrows
 returns-clause-narrows g c = let shows = g.N.Node.body in let cut : ℕ = c.args.cut in let low : cut ≤ top = omega (arith, c.ranges.cut) in
     right_narrower g.N.Node.layout shows c.args.place c.args.path c.keep_right_alone.result cut c.requires.full low c.requires.cut.1.0.0 (ap (λ (z : Hand g.row.N.Denot). (shows z.body).low) c.keep_right_alone.ensures.node ∙ ap (λ (z : Body). z.low) c.split_own.ensures.right.body)
+
+-- what it does
+
+pub returns-in_default-clause-fills : goal.returns-in_default-clause-fills
+returns-in_default-clause-fills g c = λ must. c.claim_one.ensures.fills c.args.place
+
+pub returns-then-place-cut-clause-fills : goal.returns-then-place-cut-clause-fills
+returns-then-place-cut-clause-fills g c = λ must. let me : ℕ = c.args.pass.now.caller in let h = seen_of c.args.pass.now in let h₁ = seen_of c.claim_one.new.pass in let h₂ = seen_of c.split_own.new.pass in let h₃ = seen_of c.keep_left.new.pass in let one = c.claim_one.ensures.caller in let two = c.split_own.ensures.caller in let may = MayFill (sort_of g.N.Node.layout g.N.Node.ranged) c.args.place in
+    fills_search (sort_of g.N.Node.layout g.N.Node.ranged) c.args.place me c.split_own.new.pass.caller h h₂ h₃ (two ∙ one) (does_on may me c.claim_one.new.pass.caller h h₁ h₂ one (c.claim_one.ensures.fills c.args.place) (c.split_own.ensures.fills c.args.place must)) c.keep_left.ensures.leaves
+
+pub returns-then-is_full-clause-fills : goal.returns-then-is_full-clause-fills
+returns-then-is_full-clause-fills g c = λ must. let me : ℕ = c.args.pass.now.caller in let h = seen_of c.args.pass.now in let h₁ = seen_of c.claim_one.new.pass in let h₂ = seen_of c.split_own.new.pass in let h₃ = seen_of c.keep_right.new.pass in let one = c.claim_one.ensures.caller in let two = c.split_own.ensures.caller in let may = MayFill (sort_of g.N.Node.layout g.N.Node.ranged) c.args.place in
+    fills_search (sort_of g.N.Node.layout g.N.Node.ranged) c.args.place me c.split_own.new.pass.caller h h₂ h₃ (two ∙ one) (does_on may me c.claim_one.new.pass.caller h h₁ h₂ one (c.claim_one.ensures.fills c.args.place) (c.split_own.ensures.fills c.args.place must)) c.keep_right.ensures.leaves
+
+pub returns-clause-fills : goal.returns-clause-fills
+returns-clause-fills g c = λ must. let me : ℕ = c.args.pass.now.caller in let h = seen_of c.args.pass.now in let h₁ = seen_of c.claim_one.new.pass in let h₂ = seen_of c.split_own.new.pass in let h₃ = seen_of c.keep_right_alone.new.pass in let one = c.claim_one.ensures.caller in let two = c.split_own.ensures.caller in let may = MayFill (sort_of g.N.Node.layout g.N.Node.ranged) c.args.place in
+    fills_search (sort_of g.N.Node.layout g.N.Node.ranged) c.args.place me c.split_own.new.pass.caller h h₂ h₃ (two ∙ one) (does_on may me c.claim_one.new.pass.caller h h₁ h₂ one (c.claim_one.ensures.fills c.args.place) (c.split_own.ensures.fills c.args.place must)) c.keep_right_alone.ensures.leaves

@@ -28,6 +28,8 @@ use Rattle.ks_put.specs.Deeper.{StandsDown}
 use Rattle.ks_put.proofs.Deepening.{down_quiet, down_shaped, free_none, stands_quiet, under_held}
 use Rattle.ks_put.specs.Narrows.{end_at, end_under}
 use Rattle.ks_put.proofs.Narrowing.{end_below, half_narrower, under_above}
+use Rattle.ks_shape.specs.Does.{MayFill}
+use Rattle.ks_shape.specs.Laws.Does.{does_on, fills_search}
 use Rattle.ks_put.proofs.splits.split_below.Given.{Over}
 use Rattle.ks_put.proofs.splits.split_below.Goals as goal
 use Rattle.ks_put.proofs.splits.split_below.Goals.{After-search_law, After-claim_one, After-split_under}
@@ -116,3 +118,12 @@ returns-clause-narrows g c = let at = goal.at.returns-clause-narrows g c in let 
     (leads place i ((c.split_under.ensures.parts place (inset g at.After-claim_one place c.requires.path.inside held)).0 lt).0)
     (leads cut j ((c.split_under.ensures.parts cut (inset g at.After-claim_one cut c.requires.cut.0 held)).1 (omega arith)).0) in
     half_narrower g.N.Node.layout shows place (record { parent = Some c.args.parent; node = c.args.node }) c.keep_half.result y c.split_under.new.node c.split_under.new.right cut c.requires.full c.requires.cut.1 low above c.split_under.ensures.node.body c.split_under.ensures.right.body below c.keep_half.ensures.parent c.keep_half.ensures.kept.0 c.keep_half.ensures.kept.1
+
+-- what it does
+
+pub returns-in_default-clause-fills : goal.returns-in_default-clause-fills
+returns-in_default-clause-fills g c = λ must. c.claim_one.ensures.fills c.args.place
+
+pub returns-clause-fills : goal.returns-clause-fills
+returns-clause-fills g c = λ must. let me : ℕ = c.args.pass.now.caller in let h = seen_of c.args.pass.now in let h₁ = seen_of c.claim_one.new.pass in let h₂ = seen_of c.split_under.new.pass in let h₃ = seen_of c.keep_half.new.pass in let one = c.claim_one.ensures.caller in let two = c.split_under.ensures.caller in let may = MayFill (sort_of g.N.Node.layout g.N.Node.ranged) c.args.place in
+    fills_search (sort_of g.N.Node.layout g.N.Node.ranged) c.args.place me c.split_under.new.pass.caller h h₂ h₃ (two ∙ one) (does_on may me c.claim_one.new.pass.caller h h₁ h₂ one (c.claim_one.ensures.fills c.args.place) (c.split_under.ensures.fills c.args.place must)) c.keep_half.ensures.leaves

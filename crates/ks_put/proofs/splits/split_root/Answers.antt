@@ -4,6 +4,8 @@ use Rattle.ks_arena.specs.Clauses.{seen_of}
 use Rattle.ks_shape.specs.Laws.Stretches.{stretches_here}
 use Rattle.ks_arena.specs.Sound.{sort_of}
 use Rattle.ks_put.proofs.Keeping.{full_is_root}
+use Rattle.ks_shape.specs.Does.{MayFill}
+use Rattle.ks_shape.specs.Laws.Does.{does_none}
 use Rattle.ks_put.proofs.splits.split_root.Goals as goal
 
 pub returns-then-is_branch-clause-stretch : goal.returns-then-is_branch-clause-stretch
@@ -17,3 +19,9 @@ cut_of_root-cut-requires-clause-root g c = full_is_root (sort_of g.N.Node.layout
 
 pub split_alone-requires-clause-none_starts : goal.split_alone-requires-clause-none_starts
 split_alone-requires-clause-none_starts g c = c.unlinked_law.ensures.none_starts (content_of (g.N.Node.body c.args.root.body)) c.cut_of_root-cut.result (sym c.can_adopt.ensures ∙ c.if-not-can_adopt.false)
+
+pub returns-then-is_branch-clause-fills : goal.returns-then-is_branch-clause-fills
+returns-then-is_branch-clause-fills g c = λ must. does_none (MayFill (sort_of g.N.Node.layout g.N.Node.ranged) c.args.place) c.args.pass.now.caller (seen_of c.args.pass.now)
+
+pub returns-then-not-can_adopt-clause-fills : goal.returns-then-not-can_adopt-clause-fills
+returns-then-not-can_adopt-clause-fills g c = λ must. does_none (MayFill (sort_of g.N.Node.layout g.N.Node.ranged) c.args.place) c.args.pass.now.caller (seen_of c.args.pass.now)

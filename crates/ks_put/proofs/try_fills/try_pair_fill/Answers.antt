@@ -16,6 +16,8 @@ use Rattle.ks_shape.specs.Laws.Stretches.{fill_goes_on}
 use Rattle.ks_shape.specs.Tries.{TriedPut}
 use Rattle.ks_put.proofs.Going.{ended_since, filled_since}
 use Rattle.ks_put.proofs.Trying.{ends_later, off_later}
+use Rattle.ks_shape.specs.Does.{MayFill}
+use Rattle.ks_shape.specs.Laws.Does.{fills_search}
 use Rattle.ks_put.proofs.try_fills.try_pair_fill.Given.{Over}
 use Rattle.ks_put.proofs.try_fills.try_pair_fill.Goals as goal
 use Rattle.ks_put.proofs.try_fills.try_pair_fill.Goals.{After-not_put_off, In-Err}
@@ -50,3 +52,8 @@ returns-in-Err-clause-tried g c = λ ways template start finds took under. let n
 pub returns-in-Err-clause-ends : goal.returns-in-Err-clause-ends
 returns-in-Err-clause-ends g c = λ template start finds took under. let n : ℕ = c.args.arena.now.nodes in let me : ℕ = c.args.pass.now.caller in let op : Op = filling c.args.place c.args.fill in
     ends_later g.N.Node.layout template n me op start (seen_of c.try_make_room.new.pass) c.in-Err.later finds (left g (goal.at.returns-in-Err-clause-ends g c).In-Err template start under) (c.in-Err.ensures.cause start took op (fill_touches c.args.place c.args.fill)).0
+
+-- what it does
+
+pub returns-in-Ok-clause-fills : goal.returns-in-Ok-clause-fills
+returns-in-Ok-clause-fills g c = let e = c.try_make_room.ensures in fills_search (sort_of g.N.Node.layout g.N.Node.ranged) c.args.place c.args.pass.now.caller c.try_make_room.new.pass.caller (seen_of c.args.pass.now) (seen_of c.try_make_room.new.pass) (seen_of c.fill_at.new.pass) e.caller e.fills c.fill_at.ensures.leaves

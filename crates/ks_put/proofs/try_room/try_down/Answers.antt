@@ -1,4 +1,4 @@
-use Rattle.std.proofs.Common.{◌≡◌, ◌+◌, ◌≤◌, ℕ, suc, List, ◌∷◌, sym, subst, arith}
+use Rattle.std.proofs.Common.{◌≡◌, ◌+◌, ◌≤◌, ℕ, suc, List, ◌∷◌, sym, subst, arith, ◌∙◌}
 use Rattle.std.specs.Prelude.{Option}
 use Rattle.ks_history.specs.declared.Event.{Event}
 use Rattle.ks_history.specs.declared.Event.TheVariants.{Give, Take}
@@ -14,6 +14,8 @@ use Rattle.ks_shape.specs.Laws.Down.{down_far, down_take, gave_no_take}
 use Rattle.ks_shape.specs.Descents.{IsCauseAt}
 use Rattle.ks_put.specs.Deeper.{IsDownPath, StandsDown}
 use Rattle.ks_put.proofs.Deepening.{down_quiet, path_down, quiet_gave}
+use Rattle.ks_shape.specs.Does.{MaySearch}
+use Rattle.ks_shape.specs.Laws.Does.{does_on}
 use Rattle.ks_put.proofs.try_room.try_down.Given.{Over}
 use Rattle.ks_put.proofs.try_room.try_down.Goals as goal
 use Rattle.ks_put.proofs.try_room.try_down.Goals.{After-let_go-held}
@@ -53,3 +55,12 @@ returns-in-Err-clause-down g c = λ start down. let at = (goal.at.returns-in-Err
 pub returns-in-Err-clause-stretch : goal.returns-in-Err-clause-stretch
 returns-in-Err-clause-stretch g c = let me : ℕ = c.args.pass.now.caller in let h = seen_of c.args.pass.now in let h₁ = seen_of c.let_go-held.new.pass in let h₂ = seen_of c.try_step_down.new.pass in
     stretches_both me h h₁ h₂ c.let_go-held.ensures.stretch (stretches_as me c.let_go-held.new.pass.caller h₁ h₂ c.let_go-held.ensures.caller c.try_step_down.ensures.stretch)
+
+pub returns-then-depth-nodes-clause-leaves : goal.returns-then-depth-nodes-clause-leaves
+returns-then-depth-nodes-clause-leaves g c = does_on MaySearch c.args.pass.now.caller c.let_go-held.new.pass.caller (seen_of c.args.pass.now) (seen_of c.let_go-held.new.pass) (seen_of c.give_last.new.pass) (c.let_go-held.ensures.caller) c.let_go-held.ensures.leaves c.give_last.ensures.leaves
+
+pub returns-in-Ok-clause-leaves : goal.returns-in-Ok-clause-leaves
+returns-in-Ok-clause-leaves g c = does_on MaySearch c.args.pass.now.caller c.let_go-held.new.pass.caller (seen_of c.args.pass.now) (seen_of c.let_go-held.new.pass) (seen_of c.try_step_down.new.pass) (c.let_go-held.ensures.caller) c.let_go-held.ensures.leaves c.try_step_down.ensures.leaves
+
+pub returns-in-Err-clause-leaves : goal.returns-in-Err-clause-leaves
+returns-in-Err-clause-leaves g c = does_on MaySearch c.args.pass.now.caller c.let_go-held.new.pass.caller (seen_of c.args.pass.now) (seen_of c.let_go-held.new.pass) (seen_of c.try_step_down.new.pass) (c.let_go-held.ensures.caller) c.let_go-held.ensures.leaves c.try_step_down.ensures.leaves

@@ -1,4 +1,4 @@
-use Rattle.std.proofs.Common.{◌∙◌, ℕ, suc, true, refl, sym, subst, inr, arith}
+use Rattle.std.proofs.Common.{◌∙◌, ℕ, suc, true, refl, sym, subst, inr, arith, ◌≡◌, false}
 use Rattle.std.specs.Prelude.{Option}
 use Rattle.ks_history.specs.Due.{NoneFree}
 use Rattle.ks_node.specs.Body.{Body}
@@ -13,6 +13,9 @@ use Rattle.ks_put.specs.Parts.{GrowAll, HasRoomAbove}
 use Rattle.ks_put.specs.Tries.{StepOrCause}
 use Rattle.ks_put.proofs.Going.{on_was}
 use Rattle.ks_put.proofs.Trying.{refused_before, refused_now, eased_down, nearer_down, no_leaf}
+use Rattle.ks_arena.specs.Sound.{sort_of}
+use Rattle.ks_shape.specs.Does.{MayFill, MustSplit}
+use Rattle.ks_shape.specs.Laws.Does.{fills_search, searched_fills}
 use Rattle.ks_put.proofs.try_room.try_go_on.Goals as goal
 
 pub returns-in-Split-clause-down : goal.returns-in-Split-clause-down
@@ -88,3 +91,20 @@ returns-in-Shut-clause-eased g c = λ ways eased. eased_down g.N.Node.layout g.N
 
 pub returns-in-Shut-clause-nearer : goal.returns-in-Shut-clause-nearer
 returns-in-Shut-clause-nearer g c = nearer_down g.N.Node.layout g.N.Node.body c.args.place c.in-Shut.whole.node c.args.depth c.args.refused c.args.path c.try_down-in-Shut.result c.try_down-in-Shut.ensures.went
+
+-- what it does
+
+pub returns-then-not-is_branch-clause-fills : goal.returns-then-not-is_branch-clause-fills
+returns-then-not-is_branch-clause-fills g c = searched_fills (sort_of g.N.Node.layout g.N.Node.ranged) c.args.place c.args.pass.now.caller (seen_of c.args.pass.now) (seen_of c.try_down.new.pass) c.try_down.ensures.leaves
+
+pub returns-then-not-is_full-clause-fills : goal.returns-then-not-is_full-clause-fills
+returns-then-not-is_full-clause-fills g c = searched_fills (sort_of g.N.Node.layout g.N.Node.ranged) c.args.place c.args.pass.now.caller (seen_of c.args.pass.now) (seen_of c.try_down-then-not-is_full.new.pass) c.try_down-then-not-is_full.ensures.leaves
+
+pub returns-in-Split-clause-fills : goal.returns-in-Split-clause-fills
+returns-in-Split-clause-fills g c = c.split.ensures.fills (sym c.is_full.ensures ∙ c.if-not-is_full.false, λ leaf. absurd (let q : true ≡ false = sym (sym c.is_branch.ensures ∙ c.if-not-is_branch.false) ∙ leaf in let z : ⊥ = cc in z))
+
+pub returns-in-Refused-clause-fills : goal.returns-in-Refused-clause-fills
+returns-in-Refused-clause-fills g c = fills_search (sort_of g.N.Node.layout g.N.Node.ranged) c.args.place c.args.pass.now.caller c.split.new.pass.caller (seen_of c.args.pass.now) (seen_of c.split.new.pass) (seen_of c.try_down-in-Refused.new.pass) c.split.ensures.caller (c.split.ensures.fills (sym c.is_full.ensures ∙ c.if-not-is_full.false, λ leaf. absurd (let q : true ≡ false = sym (sym c.is_branch.ensures ∙ c.if-not-is_branch.false) ∙ leaf in let z : ⊥ = cc in z))) c.try_down-in-Refused.ensures.leaves
+
+pub returns-in-Shut-clause-fills : goal.returns-in-Shut-clause-fills
+returns-in-Shut-clause-fills g c = fills_search (sort_of g.N.Node.layout g.N.Node.ranged) c.args.place c.args.pass.now.caller c.split.new.pass.caller (seen_of c.args.pass.now) (seen_of c.split.new.pass) (seen_of c.try_down-in-Shut.new.pass) c.split.ensures.caller (c.split.ensures.fills (sym c.is_full.ensures ∙ c.if-not-is_full.false, λ leaf. absurd (let q : true ≡ false = sym (sym c.is_branch.ensures ∙ c.if-not-is_branch.false) ∙ leaf in let z : ⊥ = cc in z))) c.try_down-in-Shut.ensures.leaves

@@ -21,6 +21,8 @@ use Rattle.ks_put.proofs.Going.{on_was, new_was, found_none, found_room}
 use Rattle.ks_put.specs.Narrows.{cuts_left}
 use Rattle.ks_put.proofs.Narrowing.{less_on, less_split}
 use Rattle.ks_put.proofs.Trying.{path_leaf, put_off}
+use Rattle.ks_shape.specs.Does.{DoesOnly, MayFill}
+use Rattle.ks_shape.specs.Laws.Does.{fills_on, fills_search, searched_fills}
 use Rattle.ks_put.proofs.try_room.try_make_room.Goals as goal
 
 pub loop-child-init : goal.loop-child-init
@@ -34,6 +36,7 @@ loop-child-init g c = let sort = sort_of g.N.Node.layout g.N.Node.ranged in let 
       (down_root n b start s k 1 (subst (λ (z : ℕ). GrowsWith z (Take z 0) s k) (sym e.caller) o.took.1) took))),
   omega arith,
   (λ ways r grow. subst (λ (y : Option (Hand g.row.N.Denot)). HasRoomAbove g.N.Node.layout g.N.Node.body y) (sym o.root) tt),
+  subst (λ (z : ℕ). DoesOnly (MayFill (sort_of g.N.Node.layout g.N.Node.ranged) c.args.place) z s k) (sym e.caller) (searched_fills (sort_of g.N.Node.layout g.N.Node.ranged) c.args.place me s k e.leaves),
 )
 
 pub loop-child-preserved-in-Ok-try_go_on : goal.loop-child-preserved-in-Ok-try_go_on
@@ -47,6 +50,7 @@ loop-child-preserved-in-Ok-try_go_on g c = let layout : Layout = g.N.Node.layout
       (λ start took. subst (λ (z : ℕ). IsDownPath n z start k (suc deeper) 2 deeper y) (sym e.caller) (e.down start (inv.5 start (subst (λ (z : ℕ). TookSince z start s 0 1) e.caller took)))),
       e.near,
       (λ ways. e.eased ways (inv.7 ways)),
+      fills_on (sort_of g.N.Node.layout g.N.Node.ranged) place a b s h k e.caller inv.8 e.fills,
     )
 
 pub loop-child-smaller-in-Ok-try_go_on : goal.loop-child-smaller-in-Ok-try_go_on
@@ -63,6 +67,7 @@ loop-child-preserved g c = let layout : Layout = g.N.Node.layout in let n : ℕ 
       (λ start took. subst (λ (z : ℕ). IsDownPath n z start k (suc depth) 2 depth y) (sym e.caller) (c.in-Split.ensures.down start (suc depth) 2 depth (inv.5 start (subst (λ (z : ℕ). TookSince z start s 0 1) e.caller took)))),
       inv.6,
       (λ ways r grow. subst (λ (o : Option (Hand g.row.N.Denot)). HasRoomAbove layout g.N.Node.body o) (sym (c.in-Split.ensures.halves grow.2).1) tt),
+      fills_on (sort_of g.N.Node.layout g.N.Node.ranged) place a b s h k e.caller inv.8 (e.fills (let none = c.has_room.ensures.none c.if-has_room.false in (none.1, λ leaf. none.0))),
     )
 
 pub loop-child-smaller : goal.loop-child-smaller
@@ -128,3 +133,28 @@ returns-in-Shut-clause-cause g c = λ start took op touched. let sort = sort_of 
 pub returns-in-Shut-clause-stretch : goal.returns-in-Shut-clause-stretch
 returns-in-Shut-clause-stretch g c = let me : ℕ = c.args.pass.now.caller in let a : ℕ = c.loop-child.pass.caller in let s = seen_of c.args.pass.now in let h = seen_of c.loop-child.pass in let inv = c.loop-child.invariant in let e = c.split.ensures in let b : ℕ = c.split.new.pass.caller in let m = seen_of c.split.new.pass in let k = seen_of c.let_all_go.new.pass in
     stretches_as me b s k (e.caller ∙ inv.1) (stretches_both b s m k (stretches_on a b s h m e.caller inv.3 e.stretch) c.let_all_go.ensures.stretch)
+
+-- what it does
+
+pub returns-in-Err-clause-fills : goal.returns-in-Err-clause-fills
+returns-in-Err-clause-fills g c = searched_fills (sort_of g.N.Node.layout g.N.Node.ranged) c.args.place c.args.pass.now.caller (seen_of c.args.pass.now) (seen_of c.try_enter.new.pass) c.try_enter.ensures.leaves
+
+pub returns-in-Err-try_go_on-clause-fills : goal.returns-in-Err-try_go_on-clause-fills
+returns-in-Err-try_go_on-clause-fills g c = let a : ℕ = c.loop-child.pass.caller in let s = seen_of c.args.pass.now in let h = seen_of c.loop-child.pass in let k = seen_of c.try_go_on.new.pass in let inv = c.loop-child.invariant in
+    subst (λ (z : ℕ). DoesOnly (MayFill (sort_of g.N.Node.layout g.N.Node.ranged) c.args.place) z s k) inv.1 (fills_on (sort_of g.N.Node.layout g.N.Node.ranged) c.args.place a a s h k refl inv.8 c.try_go_on.ensures.fills)
+
+pub returns-then-has_room-clause-fills : goal.returns-then-has_room-clause-fills
+returns-then-has_room-clause-fills g c = let a : ℕ = c.loop-child.pass.caller in let s = seen_of c.args.pass.now in let h = seen_of c.loop-child.pass in let k = seen_of c.come_to_end.new.pass in let inv = c.loop-child.invariant in
+    subst (λ (z : ℕ). DoesOnly (MayFill (sort_of g.N.Node.layout g.N.Node.ranged) c.args.place) z s k) inv.1 (fills_search (sort_of g.N.Node.layout g.N.Node.ranged) c.args.place a a s h k refl inv.8 c.come_to_end.ensures.leaves)
+
+pub returns-in-Refused-clause-fills : goal.returns-in-Refused-clause-fills
+returns-in-Refused-clause-fills g c = let a : ℕ = c.loop-child.pass.caller in let s = seen_of c.args.pass.now in let h = seen_of c.loop-child.pass in let inv = c.loop-child.invariant in let e = c.split.ensures in let b : ℕ = c.split.new.pass.caller in let m = seen_of c.split.new.pass in let k = seen_of c.come_to_end-in-Refused.new.pass in
+    subst (λ (z : ℕ). DoesOnly (MayFill (sort_of g.N.Node.layout g.N.Node.ranged) c.args.place) z s k) (e.caller ∙ inv.1) (fills_search (sort_of g.N.Node.layout g.N.Node.ranged) c.args.place b b s m k refl (fills_on (sort_of g.N.Node.layout g.N.Node.ranged) c.args.place a b s h m e.caller inv.8 (e.fills (let none = c.has_room.ensures.none c.if-has_room.false in (none.1, λ leaf. none.0)))) c.come_to_end-in-Refused.ensures.leaves)
+
+pub returns-then-refused-clause-fills : goal.returns-then-refused-clause-fills
+returns-then-refused-clause-fills g c = let a : ℕ = c.loop-child.pass.caller in let s = seen_of c.args.pass.now in let h = seen_of c.loop-child.pass in let inv = c.loop-child.invariant in let e = c.split.ensures in let b : ℕ = c.split.new.pass.caller in let m = seen_of c.split.new.pass in let k = seen_of c.come_to_end-then-refused.new.pass in
+    subst (λ (z : ℕ). DoesOnly (MayFill (sort_of g.N.Node.layout g.N.Node.ranged) c.args.place) z s k) (e.caller ∙ inv.1) (fills_search (sort_of g.N.Node.layout g.N.Node.ranged) c.args.place b b s m k refl (fills_on (sort_of g.N.Node.layout g.N.Node.ranged) c.args.place a b s h m e.caller inv.8 (e.fills (let none = c.has_room.ensures.none c.if-has_room.false in (none.1, λ leaf. none.0)))) c.come_to_end-then-refused.ensures.leaves)
+
+pub returns-in-Shut-clause-fills : goal.returns-in-Shut-clause-fills
+returns-in-Shut-clause-fills g c = let a : ℕ = c.loop-child.pass.caller in let s = seen_of c.args.pass.now in let h = seen_of c.loop-child.pass in let inv = c.loop-child.invariant in let e = c.split.ensures in let b : ℕ = c.split.new.pass.caller in let m = seen_of c.split.new.pass in let k = seen_of c.let_all_go.new.pass in
+    subst (λ (z : ℕ). DoesOnly (MayFill (sort_of g.N.Node.layout g.N.Node.ranged) c.args.place) z s k) (e.caller ∙ inv.1) (fills_search (sort_of g.N.Node.layout g.N.Node.ranged) c.args.place b b s m k refl (fills_on (sort_of g.N.Node.layout g.N.Node.ranged) c.args.place a b s h m e.caller inv.8 (e.fills (let none = c.has_room.ensures.none c.if-has_room.false in (none.1, λ leaf. none.0)))) c.let_all_go.ensures.leaves)

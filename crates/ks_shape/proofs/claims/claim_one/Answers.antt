@@ -9,6 +9,8 @@ use Rattle.ks_shape.specs.Laws.Beside.{StaysBeside, beside_others, stays_beside,
 use Rattle.ks_shape.specs.Laws.Makes.{makes_both, makes_others, makes_with}
 use Rattle.ks_shape.specs.Laws.Quiet.{quiet_others, quiet_claim, quiet_both}
 use Rattle.ks_shape.proofs.Claiming.{claimed_stretch, claimed_beside, refused}
+use Rattle.ks_shape.specs.Does.{MayFill}
+use Rattle.ks_shape.specs.Laws.Does.{does_both, does_others, does_with}
 use Rattle.ks_shape.proofs.claims.claim_one.Given.{Over}
 use Rattle.ks_shape.proofs.claims.claim_one.Goals as goal
 use Rattle.ks_shape.proofs.claims.claim_one.Goals.{After-claim}
@@ -58,3 +60,10 @@ returns-in_default-clause-quiet g c = let told = rw c.in_default.is at c.claim.e
 pub returns-clause-quiet : goal.returns-clause-quiet
 returns-clause-quiet g c = let me : ℕ = c.args.pass.now.caller in let h = seen_of c.args.pass.now in let k = seen_of c.claim.new.pass in let got = c.in-Some.ensures.claimed.0 in
     quiet_both me h got.moment k (quiet_claim me c.in-Some.claimed.node h got.moment got.grows) (quiet_others me got.moment k got.since)
+
+pub returns-in_default-clause-fills : goal.returns-in_default-clause-fills
+returns-in_default-clause-fills g c = λ place. let told = rw c.in_default.is at c.claim.ensures.claimed in does_others (MayFill (sort_of g.N.Node.layout g.N.Node.ranged) place) c.args.pass.now.caller (seen_of c.args.pass.now) (seen_of c.claim.new.pass) told.0.grows
+
+pub returns-clause-fills : goal.returns-clause-fills
+returns-clause-fills g c = λ place. let me : ℕ = c.args.pass.now.caller in let h = seen_of c.args.pass.now in let k = seen_of c.claim.new.pass in let got = c.in-Some.ensures.claimed.0 in let may = MayFill (sort_of g.N.Node.layout g.N.Node.ranged) place in
+    does_both may me h got.moment k (does_with may me (Claim me c.in-Some.claimed.node) h got.moment got.grows tt) (does_others may me got.moment k got.since)

@@ -10,6 +10,8 @@ use Rattle.ks_arena.specs.Sound.{blank_of, sort_of}
 use Rattle.ks_arena.specs.Clauses.{seen_of}
 use Rattle.ks_shape.specs.Laws.Makes.{makes_both, makes_with}
 use Rattle.ks_shape.proofs.Concludes.{concluded}
+use Rattle.ks_shape.specs.Does.{MaySearch}
+use Rattle.ks_shape.specs.Laws.Does.{does_both, searches_call, searches_give}
 use Rattle.ks_shape.proofs.ending.decide_here.Goals as goal
 
 pub returns-clause-begins : goal.returns-clause-begins
@@ -29,3 +31,8 @@ pub returns-clause-makes : goal.returns-clause-makes
 returns-clause-makes g c = let me : ℕ = c.args.pass.now.caller in let h = seen_of c.args.pass.now in let h₁ = seen_of c.decide-number.new.pass in let h₂ = seen_of c.give.new.pass in let e = c.decide-number.ensures in
     let gave = subst (λ (z : ℕ). GrowsWith z (Give z c.args.held.node) h₁ h₂) e.caller c.give.ensures.gave in
     makes_both me h h₁ h₂ (with_begins me _ h h₁ e.decided.adds.grows) (with_begins me _ h₁ h₂ gave) (makes_with me _ h h₁ tt e.decided.adds.grows) (makes_with me _ h₁ h₂ tt gave)
+
+pub returns-clause-leaves : goal.returns-clause-leaves
+returns-clause-leaves g c = let me : ℕ = c.args.pass.now.caller in let h = seen_of c.args.pass.now in let h₁ = seen_of c.decide-number.new.pass in let h₂ = seen_of c.give.new.pass in let e = c.decide-number.ensures in
+    let gave = subst (λ (z : ℕ). GrowsWith z (Give z c.args.held.node) h₁ h₂) e.caller c.give.ensures.gave in
+    does_both MaySearch me h h₁ h₂ (searches_call me c.args.held.node c.args.op c.args.reply h h₁ e.decided.adds.grows) (searches_give me c.args.held.node h₁ h₂ gave)

@@ -8,11 +8,16 @@ use Rattle.ks_history.specs.Laws.Begins.{good_now, by_others_none, by_others_beg
 use Rattle.ks_node.specs.Body.{Body}
 use Rattle.ks_node.specs.Effect.{adopted}
 use Rattle.ks_flow.specs.Discipline.{BeginsLink, LinkStep}
-use Rattle.ks_bodies.specs.Links.{IsLinked, StandsLinked, CanAttach}
+use Rattle.ks_bodies.specs.Links.{IsLinked, StandsLinked, CanAttach, attach as attached}
 use Rattle.ks_arena.specs.Sound.{sort_of, blank_of, Sound}
-use Rattle.ks_arena.specs.Clauses.{seen_of, hand_of}
+use Rattle.ks_arena.specs.Clauses.{seen_of, hand_of, change_of}
 use Rattle.ks_shape.proofs.Standing.{changed_to}
 use Rattle.ks_shape.proofs.Links.{linked, stands_linked, stays_linked, under_later, shown_led}
+use Rattle.ks_shape.proofs.Leaving.{had}
+use Rattle.ks_shape.specs.Laws.Does.{does_with}
+use Rattle.ks_shape.specs.Does.{MayFill}
+use Rattle.ks_arena.specs.declared.held.Held.{Held as Hand}
+use Rattle.ks_shape.specs.Does.MakesRoom.{by_attach}
 use Rattle.ks_shape.proofs.link.attach.Given.{Over}
 use Rattle.ks_shape.proofs.link.attach.Goals as goal
 use Rattle.ks_shape.proofs.link.attach.Goals.{After-node_law}
@@ -52,3 +57,11 @@ returns-clause-led g c = let sort = sort_of g.N.Node.layout g.N.Node.ranged in l
     let leads = c.link_leads_law.ensures.attach (graph_after seen) (frame_after (blank_of sort) seen) c.args.node.now.node i cut b (good_now (law.good sort n seen r.pass.sound)) facts (can g at seen (by_others_none me seen) r.pass.sound) (subst IsLinked is after) in
     let under = under_later (graph_after seen) (graph_after k) (frame_after (blank_of sort) seen) (frame_after (blank_of sort) k) c.args.node.now.node i cut b facts (law.lasts sort n seen k (with_begins me _ seen k c.shape.ensures.shaped.adds) c.shape.ensures.pass.sound) here r.under in
     shown_led sort g.N.Node.body k (record { node = c.args.node.now.node; body = c.adopt.new.self; live = c.args.node.now.live }) (adopted cut i b) i cut r.node.live is (c.shape.ensures.bodies.0 (λ dead. let clash : true ≡ false = sym r.node.live ∙ dead in cc)) leads (sym under.level)
+
+pub returns-clause-fills : goal.returns-clause-fills
+returns-clause-fills g c = λ place. let sort = sort_of g.N.Node.layout g.N.Node.ranged in let shows = g.N.Node.body in let n : ℕ = c.args.arena.now.table.shared.table_id.slots in let me : ℕ = c.args.pass.now.caller in let seen = seen_of c.args.pass.now in let k = seen_of c.shape.new.pass in let so = c.shape.ensures.shaped.adds in let r = c.requires in
+    let cut : ℕ = c.args.cut in let i : ℕ = c.args.node.now.node in let j : ℕ = c.args.id in let b : Body = shows c.args.node.now.body in
+    let x : Hand g.row.N.Denot = record { node = i; body = c.adopt.new.self; live = c.args.node.now.live } in
+    let changes : (change_of shows x ∷ []) ≡ attached i j cut b = λ k. changed_to sort shows x (adopted cut j b) r.node.live c.adopt.ensures k ∷ [] in
+    let had_as = had sort shows BeginsLink LinkStep n me seen k (λ h sound. c.sound_law.ensures.lawful sort n h sound) _ so r.pass.sound c.shape.ensures.pass.sound in
+    does_with (MayFill sort place) me _ seen k so (by_attach i j cut b (had_as c.args.node.now r.node) r.branch changes)

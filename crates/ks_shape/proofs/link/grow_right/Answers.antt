@@ -10,9 +10,14 @@ use Rattle.ks_node.specs.Effect.{split_right, with_link}
 use Rattle.ks_flow.specs.Discipline.{BeginsLink, LinkStep}
 use Rattle.ks_bodies.specs.Links.{IsLinked, StandsLinked, CanGrowRight, split_linked, grown_higher, grow_right}
 use Rattle.ks_arena.specs.Sound.{sort_of, blank_of, Sound}
-use Rattle.ks_arena.specs.Clauses.{seen_of, hand_of}
+use Rattle.ks_arena.specs.Clauses.{seen_of, hand_of, change_of}
 use Rattle.ks_shape.proofs.Standing.{no_record, no_directory, changed_to}
 use Rattle.ks_shape.proofs.Links.{linked, stands_linked, stays_linked, shown_led, shown_level}
+use Rattle.ks_shape.proofs.Leaving.{had}
+use Rattle.ks_shape.specs.Laws.Does.{does_with}
+use Rattle.ks_shape.specs.Does.{MayFill}
+use Rattle.ks_arena.specs.declared.held.Held.{Held as Hand}
+use Rattle.ks_shape.specs.Does.MakesRoom.{by_linked_growth}
 use Rattle.ks_shape.proofs.link.grow_right.Given.{Over}
 use Rattle.ks_shape.proofs.link.grow_right.Goals as goal
 use Rattle.ks_shape.proofs.link.grow_right.Goals.{After-node_law}
@@ -60,3 +65,11 @@ returns-clause-led g c = let sort = sort_of g.N.Node.layout g.N.Node.ranged in l
       shown_led sort shows k (record { node = c.args.node.now.node; body = c.grow_link.new.self; live = c.args.node.now.live }) (grown_higher kind cut i j b) i 0 r.node.live above root leads.0 (omega (arith, level_left)),
       shown_led sort shows k (record { node = c.args.node.now.node; body = c.grow_link.new.self; live = c.args.node.now.live }) (grown_higher kind cut i j b) j cut r.node.live above root leads.1 (omega (arith, level_right)),
     )
+
+pub returns-clause-fills : goal.returns-clause-fills
+returns-clause-fills g c = λ place must. let sort = sort_of g.N.Node.layout g.N.Node.ranged in let shows = g.N.Node.body in let n : ℕ = c.args.arena.now.table.shared.table_id.slots in let me : ℕ = c.args.pass.now.caller in let seen = seen_of c.args.pass.now in let k = seen_of c.shape.new.pass in let so = c.shape.ensures.shaped.adds in let r = c.requires in
+    let cut : ℕ = c.args.cut in let o : ℕ = c.args.node.now.node in let i : ℕ = c.args.left.now.node in let j : ℕ = c.args.right.now.node in let b : Body = shows c.args.node.now.body in let kind = g.N.Node.branch_kind in
+    let x : Hand g.row.N.Denot = record { node = o; body = c.grow_link.new.self; live = c.args.node.now.live } in let y : Hand g.row.N.Denot = record { node = i; body = c.grow_link.new.left; live = true } in let z : Hand g.row.N.Denot = record { node = j; body = c.grow_link.new.right; live = true } in
+    let changes : (change_of shows x ∷ change_of shows y ∷ change_of shows z ∷ []) ≡ grow_right kind o i j cut b = λ k. changed_to sort shows x (grown_higher kind cut i j b) r.node.live c.grow_link.ensures.branch k ∷ changed_to sort shows y (split_linked cut j b) refl c.grow_link.ensures.left k ∷ changed_to sort shows z (with_link None (split_right cut b)) refl c.grow_link.ensures.right k ∷ [] in
+    let had_as = had sort shows BeginsLink LinkStep n me seen k (λ h sound. c.sound_law.ensures.lawful sort n h sound) _ so r.pass.sound c.shape.ensures.pass.sound in
+    does_with (MayFill sort place) me _ seen k so (by_linked_growth kind o i j cut b (had_as c.args.node.now r.node) must changes)

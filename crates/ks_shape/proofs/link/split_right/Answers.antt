@@ -8,11 +8,16 @@ use Rattle.ks_history.specs.Laws.Begins.{good_now}
 use Rattle.ks_node.specs.Body.{Body}
 use Rattle.ks_node.specs.Effect.{split_right}
 use Rattle.ks_flow.specs.Discipline.{BeginsLink, LinkStep}
-use Rattle.ks_bodies.specs.Links.{IsLinked, CanSplitRight, split_linked}
+use Rattle.ks_bodies.specs.Links.{IsLinked, CanSplitRight, split_linked, split_to_right}
 use Rattle.ks_arena.specs.Sound.{sort_of, blank_of, Sound}
-use Rattle.ks_arena.specs.Clauses.{seen_of, hand_of}
+use Rattle.ks_arena.specs.Clauses.{seen_of, hand_of, change_of}
 use Rattle.ks_shape.proofs.Standing.{no_record, no_directory, changed_to}
 use Rattle.ks_shape.proofs.Links.{linked, stands_linked, stays_linked}
+use Rattle.ks_shape.proofs.Leaving.{had}
+use Rattle.ks_shape.specs.Laws.Does.{does_with}
+use Rattle.ks_shape.specs.Does.{MayFill}
+use Rattle.ks_arena.specs.declared.held.Held.{Held as Hand}
+use Rattle.ks_shape.specs.Does.MakesRoom.{by_link}
 use Rattle.ks_shape.proofs.link.split_right.Given.{Over}
 use Rattle.ks_shape.proofs.link.split_right.Goals as goal
 use Rattle.ks_shape.proofs.link.split_right.Goals.{After-node_law}
@@ -32,3 +37,11 @@ shape-requires-clause-may g c κs within = λ h grows sound. let sort = sort_of 
     let upper = linked (g.N.Node.body c.split_link.new.right) c.node_law-3.ensures.sound (c.node_law-3.ensures.has_range ∙ ranged) c.node_law-3.ensures.framed (link_where c.split_link.new.right) in
     let step = c.link_steps_law.ensures.split_right g₁ f₁ c.args.node.now.node i cut b good facts (can g at h grows so) (subst IsLinked left lower) (subst IsLinked right upper) in
     subst (LinkStep g₁ f₁) (λ k. sym (changed_to sort g.N.Node.body (record { node = c.args.node.now.node; body = c.split_link.new.self; live = c.args.node.now.live }) (split_linked cut i b) c.requires.node.live left) k ∷ sym (changed_to sort g.N.Node.body (record { node = c.args.right.now.node; body = c.split_link.new.right; live = true }) (split_right cut b) refl right) k ∷ []) step
+
+pub returns-clause-fills : goal.returns-clause-fills
+returns-clause-fills g c = λ place must. let sort = sort_of g.N.Node.layout g.N.Node.ranged in let shows = g.N.Node.body in let n : ℕ = c.args.arena.now.table.shared.table_id.slots in let me : ℕ = c.args.pass.now.caller in let seen = seen_of c.args.pass.now in let k = seen_of c.shape.new.pass in let so = c.shape.ensures.shaped.adds in let r = c.requires in
+    let cut : ℕ = c.args.cut in let i : ℕ = c.args.node.now.node in let j : ℕ = c.args.right.now.node in let b : Body = shows c.args.node.now.body in
+    let x : Hand g.row.N.Denot = record { node = i; body = c.split_link.new.self; live = c.args.node.now.live } in let y : Hand g.row.N.Denot = record { node = j; body = c.split_link.new.right; live = true } in
+    let changes : (change_of shows x ∷ change_of shows y ∷ []) ≡ split_to_right i j cut b = λ k. changed_to sort shows x (split_linked cut j b) r.node.live c.split_link.ensures.left k ∷ changed_to sort shows y (split_right cut b) refl c.split_link.ensures.right k ∷ [] in
+    let had_as = had sort shows BeginsLink LinkStep n me seen k (λ h sound. c.sound_law.ensures.lawful sort n h sound) _ so r.pass.sound c.shape.ensures.pass.sound in
+    does_with (MayFill sort place) me _ seen k so (by_link i j cut b (had_as c.args.node.now r.node) must changes)

@@ -11,6 +11,8 @@ use Rattle.ks_shape.proofs.Ways.{goes_alone, alone_stretch, alone_under}
 use Rattle.ks_shape.proofs.path.keep_alone.Given.{Over}
 use Rattle.ks_shape.proofs.path.keep_alone.Goals as goal
 use Rattle.ks_shape.proofs.path.keep_alone.Goals.{After-at}
+use Rattle.ks_shape.specs.Does.{MaySearch}
+use Rattle.ks_shape.specs.Laws.Does.{does_none, searches_give}
 
 laws : (g : Over) (c : After-at g) → Laws (sort_of g.N.Node.layout g.N.Node.ranged) c.args.arena.now.table.shared.table_id.slots
 laws g c = c.search_law.ensures (sort_of g.N.Node.layout g.N.Node.ranged) c.args.arena.now.table.shared.table_id.slots
@@ -36,3 +38,9 @@ few (Some y) hs i is = omega (arith, ap length is)
 
 pub returns-in_default-clause-stretch : goal.returns-in_default-clause-stretch
 returns-in_default-clause-stretch g c = stretches_here c.args.pass.now.caller (seen_of c.args.pass.now) (few c.args.other (hand_of c.args.pass.now) c.args.node.node c.requires.hands)
+
+pub returns-in-Some-clause-leaves : goal.returns-in-Some-clause-leaves
+returns-in-Some-clause-leaves g c = searches_give c.args.pass.now.caller c.in-Some.other.node (seen_of c.args.pass.now) (seen_of c.give.new.pass) c.give.ensures.gave
+
+pub returns-in_default-clause-leaves : goal.returns-in_default-clause-leaves
+returns-in_default-clause-leaves g c = does_none MaySearch c.args.pass.now.caller (seen_of c.args.pass.now)

@@ -12,6 +12,7 @@ use Rattle.ks_shape.specs.Laws.Keeping.{once, drop_first, path_kept}
 use Rattle.ks_shape.proofs.path.keep_left.Given.{Over}
 use Rattle.ks_shape.proofs.path.keep_left.Goals as goal
 use Rattle.ks_shape.proofs.path.keep_left.Goals.{After-search_law}
+use Rattle.ks_shape.specs.Laws.Does.{searches_give}
 
 laws : (g : Over) (c : After-search_law g) → Laws (sort_of g.N.Node.layout g.N.Node.ranged) c.args.arena.now.table.shared.table_id.slots
 laws g c = c.search_law.ensures (sort_of g.N.Node.layout g.N.Node.ranged) c.args.arena.now.table.shared.table_id.slots
@@ -43,3 +44,6 @@ returns-clause-stretch g c = let at = (goal.at.returns-clause-stretch g c).After
     let x : ℕ = c.args.path.node.node in let o = c.args.path.parent in
     let hands : hand me k ≡ x ∷ numbers o = gone ∙ ap (drop_one i) c.requires.hands ∙ drop_first i (x ∷ numbers o) in
     stretches_give me i h k (few o (hand me h) i x c.requires.hands) e.gave
+
+pub returns-clause-leaves : goal.returns-clause-leaves
+returns-clause-leaves g c = searches_give c.args.pass.now.caller c.args.right.node (seen_of c.args.pass.now) (seen_of c.give.new.pass) c.give.ensures.gave

@@ -16,6 +16,7 @@ use Rattle.ks_shape.proofs.Ways.{goes_down, down_stretch, down_under}
 use Rattle.ks_shape.proofs.path.step_down.Given.{Over}
 use Rattle.ks_shape.proofs.path.step_down.Goals as goal
 use Rattle.ks_shape.proofs.path.step_down.Goals.{After-node_law}
+use Rattle.ks_shape.specs.Laws.Does.{searches_take}
 
 laws : (g : Over) (c : After-node_law g) → Laws (sort_of g.N.Node.layout g.N.Node.ranged) c.args.arena.now.table.shared.table_id.slots
 laws g c = c.search_law.ensures (sort_of g.N.Node.layout g.N.Node.ranged) c.args.arena.now.table.shared.table_id.slots
@@ -55,3 +56,6 @@ returns-clause-stretch g c = let at = (goal.at.returns-clause-stretch g c).After
 pub returns-clause-under : goal.returns-clause-under
 returns-clause-under g c = λ op start under. let at = (goal.at.returns-clause-under g c).After-node_law in let e = c.in-Some.ensures in let way = c.requires.way in
     down_under (sort_of g.N.Node.layout g.N.Node.ranged) g.N.Node.body c.args.arena.now.table.shared.table_id.slots c.args.pass.now.caller c.args.place c.args.child (laws g at) (seen_of c.args.pass.now) (seen_of c.take.new.pass) c.args.held c.in-Some.below c.requires.pass.sound e.pass.sound way (leads g at) e.took op start under
+
+pub returns-clause-leaves : goal.returns-clause-leaves
+returns-clause-leaves g c = searches_take c.args.pass.now.caller c.args.child (seen_of c.args.pass.now) (seen_of c.take.new.pass) c.in-Some.ensures.took.grows

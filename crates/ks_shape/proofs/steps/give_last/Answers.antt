@@ -5,6 +5,7 @@ use Rattle.ks_arena.specs.Clauses.{seen_of}
 use Rattle.ks_shape.specs.Laws.Makes.{makes_with}
 use Rattle.ks_shape.specs.Laws.Single.{gave_last, gives}
 use Rattle.ks_shape.specs.Laws.Stretches.{stretches_give}
+use Rattle.ks_shape.specs.Laws.Does.{searches_give}
 use Rattle.ks_shape.proofs.steps.give_last.Given.{Over}
 use Rattle.ks_shape.proofs.steps.give_last.Goals as goal
 use Rattle.ks_shape.proofs.steps.give_last.Goals.{After-give}
@@ -25,3 +26,6 @@ returns-clause-makes g c = let me : ℕ = c.args.pass.now.caller in makes_with m
 
 pub returns-clause-stretch : goal.returns-clause-stretch
 returns-clause-stretch g c = stretches_give c.args.pass.now.caller c.args.held.node (seen_of c.args.pass.now) (seen_of c.give.new.pass) (omega (arith, ap length c.requires.alone)) c.give.ensures.gave
+
+pub returns-clause-leaves : goal.returns-clause-leaves
+returns-clause-leaves g c = searches_give c.args.pass.now.caller c.args.held.node (seen_of c.args.pass.now) (seen_of c.give.new.pass) c.give.ensures.gave

@@ -6,6 +6,7 @@ use Rattle.ks_arena.specs.Clauses.{seen_of}
 use Rattle.ks_shape.specs.Laws.Makes.{makes_with}
 use Rattle.ks_shape.specs.Laws.Single.{takes}
 use Rattle.ks_shape.specs.Laws.Stretches.{root_begins, stretches_root}
+use Rattle.ks_shape.specs.Laws.Does.{searches_take}
 use Rattle.ks_shape.proofs.steps.take_root.Goals as goal
 
 pub returns-clause-way : goal.returns-clause-way
@@ -25,3 +26,6 @@ returns-clause-makes g c = let me : ℕ = c.args.pass.now.caller in makes_with m
 pub returns-clause-stretch : goal.returns-clause-stretch
 returns-clause-stretch g c = let e = c.in-Some.ensures in let h = seen_of c.args.pass.now in
     stretches_root c.args.pass.now.caller h (seen_of c.take.new.pass) c.requires.pass.1 (omega (arith, ap length (e.took.hand ∙ ap (λ (z : List ℕ). 0 ∷ z) c.requires.pass.1))) e.took.grows
+
+pub returns-clause-leaves : goal.returns-clause-leaves
+returns-clause-leaves g c = searches_take c.args.pass.now.caller 0 (seen_of c.args.pass.now) (seen_of c.take.new.pass) c.in-Some.ensures.took.grows

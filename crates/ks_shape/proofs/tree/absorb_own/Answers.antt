@@ -20,6 +20,10 @@ use Rattle.ks_arena.specs.Sound.{sort_of, blank_of, Sound}
 use Rattle.ks_arena.specs.Clauses.{seen_of, hand_of, change_of}
 use Rattle.ks_shape.proofs.Places.{own_places}
 use Rattle.ks_shape.proofs.Standing.{plain, stands, stays, changed_to}
+use Rattle.ks_shape.proofs.Leaving.{had}
+use Rattle.ks_shape.specs.Laws.Does.{does_with}
+use Rattle.ks_shape.specs.Does.{MayDel}
+use Rattle.ks_shape.specs.Does.Merges.{by_own}
 use Rattle.ks_shape.proofs.tree.absorb_own.Given.{Over}
 use Rattle.ks_shape.proofs.tree.absorb_own.Goals as goal
 use Rattle.ks_shape.proofs.tree.absorb_own.Goals.{After-node_law-2}
@@ -51,3 +55,11 @@ returns-clause-places g c = let sort = sort_of g.N.Node.layout g.N.Node.ranged i
     let same : graph_after (seen_of c.shape.new.pass) ≡ graph_with (shapes.absorb_own i j b q) g₁ = ap graph_after shaped.is ∙ ap (λ (xs : List Change). graph_with xs g₁) changes in
     let y = c.tree_insets_law.ensures.absorb_own g₁ f₁ i j b q good facts (absorbs g at h grows so) (subst IsPlain left (plain (shows c.absorb.new.self) c.node_law-3.ensures.sound c.node_law-3.ensures.framed (no_link c.absorb.new.self))) in
     subst (λ (k : ℕ → NodeState). HasPlacesOf (graph_after seen) k i i) (sym same) (own_places (graph_after seen) g₁ (graph_with (shapes.absorb_own i j b q) g₁) i j (c.sound_law.ensures.beside sort n me i seen h grows mine so) (c.sound_law.ensures.keyset sort n me i seen h grows mine so) y)
+
+pub returns-clause-dels : goal.returns-clause-dels
+returns-clause-dels g c = λ low. let sort = sort_of g.N.Node.layout g.N.Node.ranged in let shows = g.N.Node.body in let n : ℕ = c.args.arena.now.table.shared.table_id.slots in let me : ℕ = c.args.pass.now.caller in let seen = seen_of c.args.pass.now in let k = seen_of c.shape.new.pass in let so = c.shape.ensures.shaped.adds in let r = c.requires in
+    let i : ℕ = c.args.node.now.node in let j : ℕ = c.args.right.now.node in let b : Body = shows c.args.node.now.body in let q : Body = shows c.args.right.now.body in
+    let x : Hand g.row.N.Denot = record { node = i; body = c.absorb.new.self; live = c.args.node.now.live } in
+    let changes : (change_of shows x ∷ record { node = j; state = BecomesFree } ∷ []) ≡ shapes.absorb_own i j b q = λ k. changed_to sort shows x (absorbed b q) r.node.live c.absorb.ensures.left k ∷ record { node = j; state = BecomesFree } ∷ [] in
+    let had_as = had sort shows BeginsTree TreeStep n me seen k (λ h sound. c.sound_law.ensures.lawful sort n h sound) _ so r.pass.sound c.shape.ensures.pass.sound in
+    does_with (MayDel sort) me _ seen k so (by_own i j b q (had_as c.args.node.now r.node) (had_as c.args.right.now r.right) low changes)

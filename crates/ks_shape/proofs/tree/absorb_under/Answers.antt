@@ -25,6 +25,10 @@ use Rattle.ks_keysets.specs.Keyset.{record_at}
 use Rattle.ks_node.specs.Edges.{record_of}
 use Rattle.ks_shape.specs.Laws.Single.{record_is}
 use Rattle.ks_shape.proofs.Standing.{plain, stands, stays, changed_to}
+use Rattle.ks_shape.proofs.Leaving.{had}
+use Rattle.ks_shape.specs.Laws.Does.{does_with}
+use Rattle.ks_shape.specs.Does.{MayDel}
+use Rattle.ks_shape.specs.Does.Merges.{by_parent}
 use Rattle.ks_shape.proofs.tree.absorb_under.Given.{Over}
 use Rattle.ks_shape.proofs.tree.absorb_under.Goals as goal
 use Rattle.ks_shape.proofs.tree.absorb_under.Goals.{After-node_law-3}
@@ -74,3 +78,11 @@ returns-clause-leads g c = let sort = sort_of g.N.Node.layout g.N.Node.ranged in
     let after : List Event = seen_of c.shape.new.pass in
     let shown : record_at (graph_after after) o ≡ Some (record_of (forgot j u)) = record_is sort shows after z c.requires.parent.live (c.shape.ensures.bodies.0 (λ dead. let off : true ≡ false = sym c.requires.parent.live ∙ dead in absurd (let q' : ⊥ = cc in q'))) ∙ ap (λ (w : Body). Some (record_of w)) above in
     under_leads (graph_after seen) g₁ (graph_after after) o i j (record_of (forgot j u)) (c.sound_law.ensures.beside sort n me i seen h grows mine so) (subst (λ (k : ℕ → NodeState). AbsorbsInsetUnder g₁ k o i j) (sym same) y) shown
+
+pub returns-clause-dels : goal.returns-clause-dels
+returns-clause-dels g c = λ low. let sort = sort_of g.N.Node.layout g.N.Node.ranged in let shows = g.N.Node.body in let n : ℕ = c.args.arena.now.table.shared.table_id.slots in let me : ℕ = c.args.pass.now.caller in let seen = seen_of c.args.pass.now in let k = seen_of c.shape.new.pass in let so = c.shape.ensures.shaped.adds in let r = c.requires in
+    let o : ℕ = c.args.parent.now.node in let i : ℕ = c.args.node.now.node in let j : ℕ = c.args.right.now.node in let u : Body = shows c.args.parent.now.body in let b : Body = shows c.args.node.now.body in let q : Body = shows c.args.right.now.body in
+    let x : Hand g.row.N.Denot = record { node = i; body = c.absorb.new.self; live = c.args.node.now.live } in let z : Hand g.row.N.Denot = record { node = o; body = c.forget.new.self; live = c.args.parent.now.live } in
+    let changes : (change_of shows z ∷ change_of shows x ∷ record { node = j; state = BecomesFree } ∷ []) ≡ shapes.absorb_under o i j u b q = λ k. changed_to sort shows z (forgot j u) r.parent.live c.forget.ensures k ∷ changed_to sort shows x (absorbed b q) r.node.live c.absorb.ensures.left k ∷ record { node = j; state = BecomesFree } ∷ [] in
+    let had_as = had sort shows BeginsTree TreeStep n me seen k (λ h sound. c.sound_law.ensures.lawful sort n h sound) _ so r.pass.sound c.shape.ensures.pass.sound in
+    does_with (MayDel sort) me _ seen k so (by_parent o i j u b q (had_as c.args.parent.now r.parent) (had_as c.args.node.now r.node) (had_as c.args.right.now r.right) low changes)

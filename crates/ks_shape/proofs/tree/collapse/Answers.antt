@@ -20,6 +20,10 @@ use Rattle.ks_arena.specs.Sound.{sort_of, blank_of, Sound}
 use Rattle.ks_arena.specs.Clauses.{seen_of, hand_of, change_of}
 use Rattle.ks_shape.proofs.Places.{child_places}
 use Rattle.ks_shape.proofs.Standing.{plain, stands, stays, changed_to}
+use Rattle.ks_shape.proofs.Leaving.{had}
+use Rattle.ks_shape.specs.Laws.Does.{does_with}
+use Rattle.ks_shape.specs.Does.{MayDel}
+use Rattle.ks_shape.specs.Does.Merges.{by_collapse}
 use Rattle.ks_shape.proofs.tree.collapse.Given.{Over}
 use Rattle.ks_shape.proofs.tree.collapse.Goals as goal
 use Rattle.ks_shape.proofs.tree.collapse.Goals.{After-node_law-2}
@@ -51,3 +55,11 @@ returns-clause-places g c = let sort = sort_of g.N.Node.layout g.N.Node.ranged i
     let same : graph_after (seen_of c.shape.new.pass) ≡ graph_with (shapes.collapse i j b q) g₁ = ap graph_after shaped.is ∙ ap (λ (xs : List Change). graph_with xs g₁) changes in
     let y = c.tree_insets_law.ensures.collapse g₁ f₁ i j b q good facts (collapses g at h grows so) (subst IsPlain left (plain (shows c.collapse.new.self) c.node_law-3.ensures.sound c.node_law-3.ensures.framed (no_link c.collapse.new.self))) in
     subst (λ (k : ℕ → NodeState). HasPlacesOf (graph_after seen) k j i) (sym same) (child_places (graph_after seen) g₁ (graph_with (shapes.collapse i j b q) g₁) i j (c.sound_law.ensures.beside sort n me j seen h grows mine so) (c.sound_law.ensures.keyset sort n me j seen h grows mine so) y)
+
+pub returns-clause-dels : goal.returns-clause-dels
+returns-clause-dels g c = let sort = sort_of g.N.Node.layout g.N.Node.ranged in let shows = g.N.Node.body in let n : ℕ = c.args.arena.now.table.shared.table_id.slots in let me : ℕ = c.args.pass.now.caller in let seen = seen_of c.args.pass.now in let k = seen_of c.shape.new.pass in let so = c.shape.ensures.shaped.adds in let r = c.requires in
+    let i : ℕ = c.args.node.now.node in let j : ℕ = c.args.child.now.node in let b : Body = shows c.args.node.now.body in let q : Body = shows c.args.child.now.body in
+    let x : Hand g.row.N.Denot = record { node = i; body = c.collapse.new.self; live = c.args.node.now.live } in
+    let changes : (change_of shows x ∷ record { node = j; state = BecomesFree } ∷ []) ≡ shapes.collapse i j b q = λ k. changed_to sort shows x (collapsed b q) r.node.live c.collapse.ensures.parent k ∷ record { node = j; state = BecomesFree } ∷ [] in
+    let had_as = had sort shows BeginsTree TreeStep n me seen k (λ h sound. c.sound_law.ensures.lawful sort n h sound) _ so r.pass.sound c.shape.ensures.pass.sound in
+    does_with (MayDel sort) me _ seen k so (by_collapse i j b q (had_as c.args.node.now r.node) (had_as c.args.child.now r.child) r.sole changes)

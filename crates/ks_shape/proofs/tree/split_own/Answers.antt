@@ -17,8 +17,13 @@ use Rattle.ks_bodies.specs.Shapes as shapes
 use Rattle.ks_bodies.specs.Shapes.{CanPart, split_on}
 use Rattle.ks_bodies.specs.Stands.{IsPlain}
 use Rattle.ks_arena.specs.Sound.{sort_of, blank_of, Sound}
-use Rattle.ks_arena.specs.Clauses.{seen_of, hand_of}
+use Rattle.ks_arena.specs.Clauses.{seen_of, hand_of, change_of}
 use Rattle.ks_shape.proofs.Standing.{plain, stands, no_record, stays, no_directory, changed_to, changed_two}
+use Rattle.ks_shape.proofs.Leaving.{had}
+use Rattle.ks_shape.specs.Laws.Does.{does_with}
+use Rattle.ks_shape.specs.Does.{MayFill}
+use Rattle.ks_arena.specs.declared.held.Held.{Held as Hand}
+use Rattle.ks_shape.specs.Does.MakesRoom.{by_own}
 use Rattle.ks_shape.proofs.tree.split_own.Given.{Over}
 use Rattle.ks_shape.proofs.tree.split_own.Goals as goal
 use Rattle.ks_shape.proofs.tree.split_own.Goals.{After-reach}
@@ -52,3 +57,11 @@ returns-clause-parts g c = λ p inside. let sort = sort_of g.N.Node.layout g.N.N
     let same : graph_after (seen_of c.shape.new.pass) ≡ graph_with (shapes.split_own c.args.node.now.node i cut b) g₁ = ap graph_after shaped.is ∙ ap (λ (xs : List Change). graph_with xs g₁) changes in
     let y = c.tree_parts_law.ensures.own g₁ f₁ c.args.node.now.node i cut p b good facts (part g at h grows so) (subst IsPlain left (plain (g.N.Node.body c.adopt.new.self) c.node_law-2.ensures.sound c.node_law-2.ensures.framed (no_link c.adopt.new.self))) (subst IsPlain right (plain (g.N.Node.body c.split_to.new.right) c.node_law-3.ensures.sound c.node_law-3.ensures.framed (no_link c.split_to.new.right))) there in
     (subst (λ (k : ℕ → NodeState). InInset k c.args.node.now.node p) (sym same) y.0, λ le. let z = y.1 le in (z.0, subst (λ (k : ℕ → NodeState). InInset k i p) (sym same) z.1))
+
+pub returns-clause-fills : goal.returns-clause-fills
+returns-clause-fills g c = λ place must. let sort = sort_of g.N.Node.layout g.N.Node.ranged in let shows = g.N.Node.body in let n : ℕ = c.args.arena.now.table.shared.table_id.slots in let me : ℕ = c.args.pass.now.caller in let seen = seen_of c.args.pass.now in let k = seen_of c.shape.new.pass in let so = c.shape.ensures.shaped.adds in let r = c.requires in
+    let cut : ℕ = c.args.cut in let i : ℕ = c.args.node.now.node in let j : ℕ = c.args.right.now.node in let b : Body = shows c.args.node.now.body in
+    let left : shows c.adopt.new.self ≡ split_on cut j b = c.adopt.ensures ∙ ap (adopted cut j) (c.reach.ensures ∙ (λ k. reached (c.split_to.ensures.left k) (c.split_to.ensures.right k))) in
+    let changes = changed_two sort shows (record { node = i; body = c.adopt.new.self; live = c.args.node.now.live }) (record { node = j; body = c.split_to.new.right; live = true }) (split_on cut j b) (split_right cut b) r.node.live refl left c.split_to.ensures.right in
+    let had_as = had sort shows BeginsTree TreeStep n me seen k (λ h sound. c.sound_law.ensures.lawful sort n h sound) _ so r.pass.sound c.shape.ensures.pass.sound in
+    does_with (MayFill sort place) me _ seen k so (by_own i j cut b (had_as c.args.node.now r.node) must changes)

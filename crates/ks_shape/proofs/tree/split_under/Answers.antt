@@ -15,8 +15,13 @@ use Rattle.ks_bodies.specs.Shapes as shapes
 use Rattle.ks_bodies.specs.Shapes.{CanPart, CanAdopt}
 use Rattle.ks_bodies.specs.Stands.{IsPlain}
 use Rattle.ks_arena.specs.Sound.{sort_of, blank_of, Sound}
-use Rattle.ks_arena.specs.Clauses.{seen_of, hand_of}
+use Rattle.ks_arena.specs.Clauses.{seen_of, hand_of, change_of}
 use Rattle.ks_shape.proofs.Standing.{plain, stands, no_record, stays, no_directory, changed_to, changed_three}
+use Rattle.ks_shape.proofs.Leaving.{had}
+use Rattle.ks_shape.specs.Laws.Does.{does_with}
+use Rattle.ks_shape.specs.Does.{MayFill}
+use Rattle.ks_arena.specs.declared.held.Held.{Held as Hand}
+use Rattle.ks_shape.specs.Does.MakesRoom.{by_parent}
 use Rattle.ks_shape.proofs.tree.split_under.Given.{Over}
 use Rattle.ks_shape.proofs.tree.split_under.Goals as goal
 use Rattle.ks_shape.proofs.tree.split_under.Goals.{After-split_to}
@@ -53,3 +58,10 @@ returns-clause-parts g c = λ p inside. let sort = sort_of g.N.Node.layout g.N.N
     let same : graph_after (seen_of c.shape.new.pass) ≡ graph_with (shapes.split_under c.args.parent.now.node c.args.node.now.node i cut u b) g₁ = ap graph_after shaped.is ∙ ap (λ (xs : List Change). graph_with xs g₁) changes in
     let y = c.tree_parts_law.ensures.under g₁ f₁ c.args.parent.now.node c.args.node.now.node i cut p u b good facts (adopts g at h grows so) (part g at h grows so) (subst IsPlain above (plain (g.N.Node.body c.adopt.new.self) c.node_law-3.ensures.sound c.node_law-3.ensures.framed (no_link c.adopt.new.self))) (subst IsPlain left (plain (g.N.Node.body c.split_to.new.self) c.node_law-4.ensures.sound c.node_law-4.ensures.framed (no_link c.split_to.new.self))) (subst IsPlain right (plain (g.N.Node.body c.split_to.new.right) c.node_law-5.ensures.sound c.node_law-5.ensures.framed (no_link c.split_to.new.right))) there in
     (λ lt. let z = y.0 lt in (z.0, subst (λ (k : ℕ → NodeState). InInset k c.args.node.now.node p) (sym same) z.1), λ le. let z = y.1 le in (z.0, subst (λ (k : ℕ → NodeState). InInset k i p) (sym same) z.1))
+
+pub returns-clause-fills : goal.returns-clause-fills
+returns-clause-fills g c = λ place must. let sort = sort_of g.N.Node.layout g.N.Node.ranged in let shows = g.N.Node.body in let n : ℕ = c.args.arena.now.table.shared.table_id.slots in let me : ℕ = c.args.pass.now.caller in let seen = seen_of c.args.pass.now in let k = seen_of c.shape.new.pass in let so = c.shape.ensures.shaped.adds in let r = c.requires in
+    let cut : ℕ = c.args.cut in let o : ℕ = c.args.parent.now.node in let i : ℕ = c.args.node.now.node in let j : ℕ = c.args.right.now.node in let u : Body = shows c.args.parent.now.body in let b : Body = shows c.args.node.now.body in
+    let changes = changed_three sort shows (record { node = o; body = c.adopt.new.self; live = c.args.parent.now.live }) (record { node = i; body = c.split_to.new.self; live = c.args.node.now.live }) (record { node = j; body = c.split_to.new.right; live = true }) (adopted cut j u) (split_left cut b) (split_right cut b) r.parent.live r.node.live refl c.adopt.ensures c.split_to.ensures.left c.split_to.ensures.right in
+    let had_as = had sort shows BeginsTree TreeStep n me seen k (λ h sound. c.sound_law.ensures.lawful sort n h sound) _ so r.pass.sound c.shape.ensures.pass.sound in
+    does_with (MayFill sort place) me _ seen k so (by_parent o i j cut u b (had_as c.args.parent.now r.parent) (had_as c.args.node.now r.node) must changes)

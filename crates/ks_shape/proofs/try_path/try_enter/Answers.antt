@@ -8,6 +8,8 @@ use Rattle.ks_shape.specs.Laws.Single.{takes}
 use Rattle.ks_shape.specs.Laws.Stretches.{root_begins, stretches_others, stretches_root}
 use Rattle.ks_shape.specs.Laws.Down.{busy_since}
 use Rattle.ks_shape.proofs.try_path.try_enter.Goals as goal
+use Rattle.ks_shape.specs.Does.{MaySearch}
+use Rattle.ks_shape.specs.Laws.Does.{does_others, searches_take}
 
 pub returns-in-Held-clause-path : goal.returns-in-Held-clause-path
 returns-in-Held-clause-path g c = let took = c.in-Held.ensures.took in record {
@@ -43,3 +45,9 @@ returns-in-Busy-clause-under g c = λ template op start under. underway_others t
 
 pub returns-in-Busy-clause-stretch : goal.returns-in-Busy-clause-stretch
 returns-in-Busy-clause-stretch g c = stretches_others c.args.pass.now.caller (seen_of c.args.pass.now) (seen_of c.try_take.new.pass) (omega (arith, ap length c.requires.pass.1)) c.in-Busy.ensures.took.0.grows
+
+pub returns-in-Held-clause-leaves : goal.returns-in-Held-clause-leaves
+returns-in-Held-clause-leaves g c = searches_take c.args.pass.now.caller 0 (seen_of c.args.pass.now) (seen_of c.try_take.new.pass) c.in-Held.ensures.took.grows
+
+pub returns-in-Busy-clause-leaves : goal.returns-in-Busy-clause-leaves
+returns-in-Busy-clause-leaves g c = does_others MaySearch c.args.pass.now.caller (seen_of c.args.pass.now) (seen_of c.try_take.new.pass) c.in-Busy.ensures.took.0.grows

@@ -19,6 +19,8 @@ use Rattle.ks_shape.proofs.Ways.{goes_down, down_stretch, down_under}
 use Rattle.ks_shape.proofs.try_path.try_step_down.Given.{Over}
 use Rattle.ks_shape.proofs.try_path.try_step_down.Goals as goal
 use Rattle.ks_shape.proofs.try_path.try_step_down.Goals.{After-try_take, After-give_last}
+use Rattle.ks_shape.specs.Does.{MaySearch}
+use Rattle.ks_shape.specs.Laws.Does.{does_on, does_others, searches_take}
 
 laws : (g : Over) (c : After-try_take g) → Laws (sort_of g.N.Node.layout g.N.Node.ranged) c.args.arena.now.table.shared.table_id.slots
 laws g c = c.search_law.ensures (sort_of g.N.Node.layout g.N.Node.ranged) c.args.arena.now.table.shared.table_id.slots
@@ -66,3 +68,10 @@ returns-in-Busy-clause-under g c = λ op start under. let h₁ = seen_of c.try_t
 pub returns-in-Busy-clause-stretch : goal.returns-in-Busy-clause-stretch
 returns-in-Busy-clause-stretch g c = let me : ℕ = c.args.pass.now.caller in let h = seen_of c.args.pass.now in let h₁ = seen_of c.try_take.new.pass in let h₂ = seen_of c.give_last.new.pass in
     stretches_both me h h₁ h₂ (stretches_others me h h₁ (omega (arith, ap length c.requires.way.alone)) c.in-Busy.ensures.took.0.grows) (stretches_as me c.try_take.new.pass.caller h₁ h₂ c.in-Busy.ensures.caller c.give_last.ensures.stretch)
+
+pub returns-in-Held-clause-leaves : goal.returns-in-Held-clause-leaves
+returns-in-Held-clause-leaves g c = searches_take c.args.pass.now.caller c.args.child (seen_of c.args.pass.now) (seen_of c.try_take.new.pass) c.in-Held.ensures.took.grows
+
+pub returns-in-Busy-clause-leaves : goal.returns-in-Busy-clause-leaves
+returns-in-Busy-clause-leaves g c = let me : ℕ = c.args.pass.now.caller in let h = seen_of c.args.pass.now in let h₁ = seen_of c.try_take.new.pass in
+    does_on MaySearch me c.try_take.new.pass.caller h h₁ (seen_of c.give_last.new.pass) c.in-Busy.ensures.caller (does_others MaySearch me h h₁ c.in-Busy.ensures.took.0.grows) c.give_last.ensures.leaves

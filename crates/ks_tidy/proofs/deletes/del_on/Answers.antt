@@ -20,6 +20,8 @@ use Rattle.ks_shape.specs.Laws.Stretches.{stretches_as, stretches_begins}
 use Rattle.ks_tidy.specs.Laws.Deciding.{decided_on}
 use Rattle.ks_tidy.specs.Pair.{IsPair}
 use Rattle.ks_tidy.proofs.Keeping.{few_on, once_in, parent_apart, parent_has, under_with}
+use Rattle.ks_shape.specs.Does.{MaySearch}
+use Rattle.ks_shape.specs.Laws.Does.{does_on, search_dels_on, searched_dels}
 use Rattle.ks_tidy.proofs.deletes.del_on.Given.{Over}
 use Rattle.ks_tidy.proofs.deletes.del_on.Goals as goal
 use Rattle.ks_tidy.proofs.deletes.del_on.Goals.{After-search_law, After-delete-answer}
@@ -78,3 +80,11 @@ returns-then-is_none-clause-begins g c = let me : ℕ = c.args.pass.now.caller i
 pub returns-clause-begins : goal.returns-clause-begins
 returns-clause-begins g c = let h₁ = seen_of c.delete-answer.new.pass in let k = seen_of c.tidy_end.new.pass in
     begins_both (seen_of c.args.pass.now) h₁ k c.delete-answer.ensures.begins (stretches_begins c.delete-answer.new.pass.caller h₁ k c.tidy_end.ensures.stretch)
+
+-- what it does
+
+pub returns-then-is_none-clause-dels : goal.returns-then-is_none-clause-dels
+returns-then-is_none-clause-dels g c = searched_dels (sort_of g.N.Node.layout g.N.Node.ranged) c.args.pass.now.caller (seen_of c.args.pass.now) (seen_of c.leave.new.pass) (does_on MaySearch c.args.pass.now.caller c.delete-answer.new.pass.caller (seen_of c.args.pass.now) (seen_of c.delete-answer.new.pass) (seen_of c.leave.new.pass) c.delete-answer.ensures.caller c.delete-answer.ensures.leaves c.leave.ensures.leaves)
+
+pub returns-clause-dels : goal.returns-clause-dels
+returns-clause-dels g c = search_dels_on (sort_of g.N.Node.layout g.N.Node.ranged) c.args.pass.now.caller c.delete-answer.new.pass.caller (seen_of c.args.pass.now) (seen_of c.delete-answer.new.pass) (seen_of c.tidy_end.new.pass) c.delete-answer.ensures.caller c.delete-answer.ensures.leaves c.tidy_end.ensures.dels

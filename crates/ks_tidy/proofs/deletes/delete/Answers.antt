@@ -16,6 +16,7 @@ use Rattle.ks_arena.specs.Clauses.{IsReady, hand_of, seen_of}
 use Rattle.ks_shape.specs.Laws.Search.{Laws}
 use Rattle.ks_tidy.proofs.Keeping.{places_kept}
 use Rattle.ks_tidy.proofs.Standing.{keyset_here, no_branch}
+use Rattle.ks_shape.specs.Laws.Does.{searches_call}
 use Rattle.ks_tidy.proofs.deletes.delete.Goals as goal
 
 pub del-found-requires : goal.del-found-requires
@@ -41,3 +42,6 @@ returns-clause-decided g c = λ template start under. let me : ℕ = c.args.pass
 
 pub returns-clause-begins : goal.returns-clause-begins
 returns-clause-begins g c = with_begins c.args.pass.now.caller (Call c.args.pass.now.caller c.args.held.now.node (Del c.args.place) c.reply_of.result) (seen_of c.args.pass.now) (seen_of c.decide-number.new.pass) c.decide-number.ensures.decided.adds.grows
+
+pub returns-clause-leaves : goal.returns-clause-leaves
+returns-clause-leaves g c = searches_call c.args.pass.now.caller c.args.held.now.node (Del c.args.place) c.reply_of.result (seen_of c.args.pass.now) (seen_of c.decide-number.new.pass) c.decide-number.ensures.decided.adds.grows

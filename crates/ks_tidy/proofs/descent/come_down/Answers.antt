@@ -7,13 +7,15 @@ use Rattle.ks_shape.specs.Laws.Stretches.{stretches_as, stretches_both}
 use Rattle.ks_shape.specs.Frees.{Counts}
 use Rattle.ks_shape.specs.Laws.Frees.{counts_as, counts_both, counts_of, counts_on, frees_as, frees_take}
 use Rattle.ks_tidy.specs.Pair.{IsPair}
+use Rattle.ks_shape.specs.Does.{DoesOnly, MayDel}
+use Rattle.ks_shape.specs.Laws.Does.{dels_search, does_on, searched_dels}
 use Rattle.ks_tidy.proofs.descent.come_down.Given.{Over}
 use Rattle.ks_tidy.proofs.descent.come_down.Goals as goal
 use Rattle.ks_tidy.proofs.descent.come_down.Goals.{After-tidy_branch-tidied}
 
 pub loop-init : goal.loop-init
 loop-init g c = let me : ℕ = c.args.pass.now.caller in let h = seen_of c.args.pass.now in let k = seen_of c.enter-path.new.pass in let e = c.enter-path.ensures in
-    (e.pass, e.caller, record { path = e.path; rooted = λ none. e.root.1 }, e.stretch, counts_of me 0 h k (omega arith) (frees_take me 0 h k e.took))
+    (e.pass, e.caller, record { path = e.path; rooted = λ none. e.root.1 }, e.stretch, counts_of me 0 h k (omega arith) (frees_take me 0 h k e.took), searched_dels (sort_of g.N.Node.layout g.N.Node.ranged) me h k e.leaves)
 
 -- where the search stands after it tidied
 now : (g : Over) (c : After-tidy_branch-tidied g) → c.tidy_branch-tidied.new.pass.caller ≡ c.args.pass.now.caller
@@ -30,6 +32,9 @@ counts : (g : Over) (c : After-tidy_branch-tidied g) → Counts c.args.pass.now.
 counts g c = let me : ℕ = c.args.pass.now.caller in let h = seen_of c.loop.pass in let k = seen_of c.tidy_branch-tidied.new.pass in
     counts_both me c.loop.freed c.tidy_branch-tidied.result.freed (seen_of c.args.pass.now) h k c.loop.invariant.4 (counts_as me c.loop.pass.caller c.tidy_branch-tidied.result.freed h k c.loop.invariant.1 c.tidy_branch-tidied.ensures.counts)
 
+dels : (g : Over) (c : After-tidy_branch-tidied g) → DoesOnly (MayDel (sort_of g.N.Node.layout g.N.Node.ranged)) c.args.pass.now.caller (seen_of c.args.pass.now) (seen_of c.tidy_branch-tidied.new.pass)
+dels g c = does_on (MayDel (sort_of g.N.Node.layout g.N.Node.ranged)) c.args.pass.now.caller c.loop.pass.caller (seen_of c.args.pass.now) (seen_of c.loop.pass) (seen_of c.tidy_branch-tidied.new.pass) c.loop.invariant.1 c.loop.invariant.5 c.tidy_branch-tidied.ensures.dels
+
 pub go_down-path-requires-clause-pair : goal.go_down-path-requires-clause-pair
 go_down-path-requires-clause-pair g c = let at = (goal.at.go_down-path-requires-clause-pair g c).After-tidy_branch-tidied in subst (λ (z : ℕ). IsPair (sort_of g.N.Node.layout g.N.Node.ranged) g.N.Node.body z c.args.place (seen_of c.tidy_branch-tidied.new.pass) c.tidy_branch-tidied.result.path) (sym (now g at)) (pair g at)
 
@@ -40,6 +45,7 @@ loop-preserved g c = let at = (goal.at.loop-preserved g c).After-tidy_branch-tid
   subst (λ (z : ℕ). IsPair (sort_of g.N.Node.layout g.N.Node.ranged) g.N.Node.body z c.args.place k c.go_down-path.result) (now g at) e.pair,
   stretches_both me s h₁ k (stretch g at) (stretches_as me b h₁ k (now g at) e.stretch),
   counts_on me ((c.loop.freed + c.tidy_branch-tidied.result.freed) % 2 ^ 32) s h₁ k (counts g at) (frees_as me b h₁ k (now g at) e.frees),
+  dels_search (sort_of g.N.Node.layout g.N.Node.ranged) me b s h₁ k (now g at) (dels g at) e.leaves,
 )
 
 pub returns-in-Here-clause-pair : goal.returns-in-Here-clause-pair
@@ -50,3 +56,6 @@ returns-in-Here-clause-stretch g c = stretch g (goal.at.returns-in-Here-clause-s
 
 pub returns-in-Here-clause-counts : goal.returns-in-Here-clause-counts
 returns-in-Here-clause-counts g c = counts g (goal.at.returns-in-Here-clause-counts g c).After-tidy_branch-tidied
+
+pub returns-in-Here-clause-dels : goal.returns-in-Here-clause-dels
+returns-in-Here-clause-dels g c = dels g (goal.at.returns-in-Here-clause-dels g c).After-tidy_branch-tidied

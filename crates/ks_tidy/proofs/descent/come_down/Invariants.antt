@@ -5,6 +5,7 @@ use Rattle.ks_arena.specs.Clauses.{IsPass, seen_of}
 use Rattle.ks_shape.specs.Stretches.{Stretches}
 use Rattle.ks_shape.specs.Frees.{Counts}
 use Rattle.ks_tidy.specs.Pair.{IsPair}
+use Rattle.ks_shape.specs.Does.{DoesOnly, MayDel}
 use Rattle.ks_tidy.proofs.descent.come_down.Given as goal
 
 abbrev pub invariant-loop : goal.invariant-loop
@@ -14,3 +15,4 @@ invariant-loop g l =
     × IsPair (sort_of g.N.Node.layout g.N.Node.ranged) g.N.Node.body l.fn.pass.caller l.place (seen_of l.pass) l.path
     × Stretches l.fn.pass.caller (seen_of l.fn.pass) (seen_of l.pass)
     × Counts l.fn.pass.caller (seen_of l.fn.pass) (seen_of l.pass) l.freed
+    × DoesOnly (MayDel (sort_of g.N.Node.layout g.N.Node.ranged)) l.fn.pass.caller (seen_of l.fn.pass) (seen_of l.pass)

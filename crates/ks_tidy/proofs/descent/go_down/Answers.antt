@@ -12,6 +12,8 @@ use Rattle.ks_shape.specs.Laws.Stretches.{stretches_as, stretches_both}
 use Rattle.ks_shape.specs.OnPath.{IsOnPath}
 use Rattle.ks_shape.specs.Laws.Frees.{frees_both, frees_take}
 use Rattle.ks_tidy.proofs.Going.{frees_if}
+use Rattle.ks_shape.specs.Does.{MaySearch}
+use Rattle.ks_shape.specs.Laws.Does.{does_on}
 use Rattle.ks_tidy.proofs.descent.go_down.Goals as goal
 
 pub step_down-requires-clause-way : goal.step_down-requires-clause-way
@@ -37,3 +39,6 @@ pub returns-clause-frees : goal.returns-clause-frees
 returns-clause-frees g c = let me : ℕ = c.args.pass.now.caller in let h = seen_of c.args.pass.now in let h₁ = seen_of c.let_go-node.new.pass in let k = seen_of c.step_down.new.pass in
     let took : GrowsWith me (Take me c.args.child) h₁ k = subst (λ (z : ℕ). GrowsWith z (Take z c.args.child) h₁ k) c.let_go-node.ensures.caller c.step_down.ensures.took in
     frees_both me 0 0 h h₁ k (frees_if me c.args.path.parent h h₁ c.let_go-node.ensures.gave) (frees_take me c.args.child h₁ k took)
+
+pub returns-clause-leaves : goal.returns-clause-leaves
+returns-clause-leaves g c = does_on MaySearch c.args.pass.now.caller c.let_go-node.new.pass.caller (seen_of c.args.pass.now) (seen_of c.let_go-node.new.pass) (seen_of c.step_down.new.pass) c.let_go-node.ensures.caller c.let_go-node.ensures.leaves c.step_down.ensures.leaves

@@ -7,6 +7,8 @@ use Rattle.ks_shape.specs.Laws.Single.{gave_last}
 use Rattle.ks_shape.specs.Laws.Stretches.{stretches_both, stretches_give}
 use Rattle.ks_shape.specs.Laws.Frees.{frees_both, frees_give}
 use Rattle.ks_tidy.proofs.Going.{frees_if}
+use Rattle.ks_shape.specs.Does.{MaySearch}
+use Rattle.ks_shape.specs.Laws.Does.{does_on, searches_give}
 use Rattle.ks_tidy.proofs.descent.leave.Given.{Over}
 use Rattle.ks_tidy.proofs.descent.leave.Goals as goal
 use Rattle.ks_tidy.proofs.descent.leave.Goals.{After-give}
@@ -31,3 +33,6 @@ returns-clause-stretch g c = let at = (goal.at.returns-clause-stretch g c).After
 pub returns-clause-frees : goal.returns-clause-frees
 returns-clause-frees g c = let at = (goal.at.returns-clause-frees g c).After-give in let me : ℕ = c.args.pass.now.caller in let h = seen_of c.args.pass.now in let h₁ = seen_of c.let_go-node.new.pass in let k = seen_of c.give.new.pass in
     frees_both me 0 0 h h₁ k (frees_if me c.args.path.parent h h₁ c.let_go-node.ensures.gave) (frees_give me c.let_go-node.result.node h₁ k (gave g at))
+
+pub returns-clause-leaves : goal.returns-clause-leaves
+returns-clause-leaves g c = let own : ℕ = c.let_go-node.new.pass.caller in let h₁ = seen_of c.let_go-node.new.pass in let k = seen_of c.give.new.pass in does_on MaySearch c.args.pass.now.caller own (seen_of c.args.pass.now) h₁ k c.let_go-node.ensures.caller c.let_go-node.ensures.leaves (searches_give own c.let_go-node.result.node h₁ k c.give.ensures.gave)

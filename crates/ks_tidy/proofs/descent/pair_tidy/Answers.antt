@@ -7,6 +7,8 @@ use Rattle.ks_shape.specs.Laws.Stretches.{stretches_as, stretches_begins, stretc
 use Rattle.ks_shape.specs.Laws.Frees.{counts_as, counts_both}
 use Rattle.ks_tidy.specs.Pair.{IsPair}
 use Rattle.ks_tidy.proofs.Standing.{keyset_here}
+use Rattle.ks_shape.specs.Does.{MayDel}
+use Rattle.ks_shape.specs.Laws.Does.{does_on}
 use Rattle.ks_tidy.proofs.descent.pair_tidy.Goals as goal
 
 pub tidy_end-more-requires-clause-pair : goal.tidy_end-more-requires-clause-pair
@@ -28,3 +30,6 @@ returns-clause-tidy g c = λ alone. let me : ℕ = c.args.pass.now.caller in let
     let on = stretches_as me c.come_down-path.new.pass.caller h₁ k e c.tidy_end-more.ensures.stretch in
     let then : ActsAlone me h₁ k = alone_then me h h₁ k (stretches_begins me h h₁ c.come_down-path.ensures.stretch) (stretches_begins me h₁ k on) alone in
     c.tidy_end-more.ensures.tidy (subst (λ (z : ℕ). ActsAlone z h₁ k) (sym e) then)
+
+pub returns-clause-dels : goal.returns-clause-dels
+returns-clause-dels g c = does_on (MayDel (sort_of g.N.Node.layout g.N.Node.ranged)) c.args.pass.now.caller c.come_down-path.new.pass.caller (seen_of c.args.pass.now) (seen_of c.come_down-path.new.pass) (seen_of c.tidy_end-more.new.pass) c.come_down-path.ensures.caller c.come_down-path.ensures.dels c.tidy_end-more.ensures.dels

@@ -1,4 +1,4 @@
-use Rattle.std.proofs.Common.{◌≡◌, ◌∙◌, ℕ, sym, ap, subst, inr}
+use Rattle.std.proofs.Common.{◌≡◌, ◌∙◌, ℕ, sym, ap, subst, inr, refl}
 use Rattle.ks_history.specs.Laws.Alone.{alone_first, alone_then}
 use Rattle.ks_history.specs.Trace.{graph_after, frame_after}
 use Rattle.ks_arena.specs.Sound.{blank_of, sort_of}
@@ -7,6 +7,7 @@ use Rattle.ks_shape.specs.Laws.Stretches.{stretches_as, stretches_both}
 use Rattle.ks_shape.specs.Laws.Frees.{counts_on, frees_as, frees_begins, undisturbed_same}
 use Rattle.ks_tidy.specs.Pair.{IsPair}
 use Rattle.ks_tidy.proofs.Standing.{plain, stands_now}
+use Rattle.ks_shape.specs.Laws.Does.{dels_search}
 use Rattle.ks_tidy.proofs.descent.tidy_end.Goals as goal
 
 pub leave-requires-clause-pair : goal.leave-requires-clause-pair
@@ -26,3 +27,6 @@ returns-clause-tidy g c = λ alone. let sort = sort_of g.N.Node.layout g.N.Node.
     let stands = stands_now sort g.N.Node.body h₁ x e.pair.path.live e.pair.path.matches (plain (g.N.Node.body x.body) c.node_law.ensures.sound c.node_law.ensures.framed (c.unlinked_law.ensures.no_link x.body)) in
     let done = c.tidied_law.ensures.tidy g.N.Node.layout (graph_after h₁) (frame_after (blank_of sort) h₁) x.node c.args.place (g.N.Node.body x.body) ((c.search_law.ensures sort n).good h₁ e.pass.sound) stands (e.places.keyset c.args.place c.requires.ends) (λ low. e.tested (inr low) (alone_first me h h₁ k a b alone)) in
     c.tidy_law.ensures.along g.N.Node.layout (graph_after h₁) (graph_after k) (frame_after (blank_of sort) h₁) (frame_after (blank_of sort) k) c.args.place (undisturbed_same me (blank_of sort) h₁ k (record { alone = alone_then me h h₁ k a b alone; none = left })) done
+
+pub returns-clause-dels : goal.returns-clause-dels
+returns-clause-dels g c = dels_search (sort_of g.N.Node.layout g.N.Node.ranged) c.args.pass.now.caller c.tidy_node-path.new.pass.caller (seen_of c.args.pass.now) (seen_of c.tidy_node-path.new.pass) (seen_of c.leave.new.pass) c.tidy_node-path.ensures.caller (c.tidy_node-path.ensures.dels refl) c.leave.ensures.leaves

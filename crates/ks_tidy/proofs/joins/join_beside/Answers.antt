@@ -22,6 +22,7 @@ use Rattle.ks_shape.specs.Laws.Frees.{frees_both, frees_give, frees_shape, undis
 use Rattle.ks_tidy.proofs.Keeping.{once_in, places_kept}
 use Rattle.ks_tidy.proofs.Fresh.{passed}
 use Rattle.ks_tidy.proofs.Standing.{fits_along, plain, stands_now}
+use Rattle.ks_shape.specs.Laws.Does.{dels_search, searched_dels}
 use Rattle.ks_tidy.proofs.joins.join_beside.Given.{Over}
 use Rattle.ks_tidy.proofs.joins.join_beside.Goals as goal
 use Rattle.ks_tidy.proofs.joins.join_beside.Goals.{After-node_law-3, After-absorb_under, After-keep_left, After-keep_left-2}
@@ -154,3 +155,11 @@ returns-clause-step g c = let at = goal.at.returns-clause-step g c in let sort =
           (undisturbed_same me (blank_of sort) h k (record { alone = alone; none = back }))
           c.args.node.node (fits_none g at.After-keep_left-2);
     }
+
+-- what it does
+
+pub returns-then-fits-clause-dels : goal.returns-then-fits-clause-dels
+returns-then-fits-clause-dels g c = λ low. dels_search (sort_of g.N.Node.layout g.N.Node.ranged) c.args.pass.now.caller c.absorb_under.new.pass.caller (seen_of c.args.pass.now) (seen_of c.absorb_under.new.pass) (seen_of c.keep_left.new.pass) c.absorb_under.ensures.caller (c.absorb_under.ensures.dels low) c.keep_left.ensures.leaves
+
+pub returns-clause-dels : goal.returns-clause-dels
+returns-clause-dels g c = λ low. searched_dels (sort_of g.N.Node.layout g.N.Node.ranged) c.args.pass.now.caller (seen_of c.args.pass.now) (seen_of c.keep_left-2.new.pass) c.keep_left-2.ensures.leaves

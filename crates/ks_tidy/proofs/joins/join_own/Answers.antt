@@ -16,6 +16,7 @@ use Rattle.ks_shape.specs.OnPath.{IsOnPath, numbers}
 use Rattle.ks_shape.specs.Laws.Frees.{frees_both, frees_give, frees_shape, undisturbed_same}
 use Rattle.ks_tidy.proofs.Keeping.{few_right, once_in, parent_apart, parent_has, places_kept, under_with}
 use Rattle.ks_tidy.proofs.Standing.{fits_along, plain, stands_now}
+use Rattle.ks_shape.specs.Laws.Does.{dels_search, searched_dels}
 use Rattle.ks_tidy.proofs.joins.join_own.Given.{Over}
 use Rattle.ks_tidy.proofs.joins.join_own.Goals as goal
 use Rattle.ks_tidy.proofs.joins.join_own.Goals.{After-node_law-2, After-absorb_own, After-keep_left, After-keep_left-2}
@@ -142,3 +143,11 @@ returns-clause-step g c = let at = goal.at.returns-clause-step g c in let sort =
           (undisturbed_same me (blank_of sort) h k (record { alone = alone; none = back }))
           c.args.path.node.node (fits_none g at.After-keep_left-2);
     }
+
+-- what it does
+
+pub returns-then-fits-clause-dels : goal.returns-then-fits-clause-dels
+returns-then-fits-clause-dels g c = λ low. dels_search (sort_of g.N.Node.layout g.N.Node.ranged) c.args.pass.now.caller c.absorb_own.new.pass.caller (seen_of c.args.pass.now) (seen_of c.absorb_own.new.pass) (seen_of c.keep_left.new.pass) c.absorb_own.ensures.caller (c.absorb_own.ensures.dels low) c.keep_left.ensures.leaves
+
+pub returns-clause-dels : goal.returns-clause-dels
+returns-clause-dels g c = λ low. searched_dels (sort_of g.N.Node.layout g.N.Node.ranged) c.args.pass.now.caller (seen_of c.args.pass.now) (seen_of c.keep_left-2.new.pass) c.keep_left-2.ensures.leaves

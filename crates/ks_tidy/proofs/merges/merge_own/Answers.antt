@@ -11,6 +11,7 @@ use Rattle.ks_shape.specs.Laws.Frees.{frees_take}
 use Rattle.ks_tidy.specs.Pair.{DidStep, IsPair, IsTrio, path_in}
 use Rattle.ks_tidy.proofs.Keeping.{few_on}
 use Rattle.ks_tidy.proofs.Trio.{did_after, places_took, trio_took}
+use Rattle.ks_shape.specs.Laws.Does.{search_dels_on}
 use Rattle.ks_tidy.proofs.merges.merge_own.Given.{Over}
 use Rattle.ks_tidy.proofs.merges.merge_own.Goals as goal
 use Rattle.ks_tidy.proofs.merges.merge_own.Goals.{After-take_led-next}
@@ -49,3 +50,6 @@ pub returns-clause-step : goal.returns-clause-step
 returns-clause-step g c = let sort = sort_of g.N.Node.layout g.N.Node.ranged in let me : ℕ = c.args.pass.now.caller in let h = seen_of c.args.pass.now in let h₁ = seen_of c.take_led-next.new.pass in let k = seen_of c.join_own.new.pass in let path = c.args.path in let r = c.join_own.result in
     did_after sort g.N.Node.body me h h₁ k path r (frees_take me c.args.target h h₁ c.take_led-next.ensures.took.grows)
     (subst (λ (z : ℕ). DidStep sort g.N.Node.body z h₁ k true path r) c.take_led-next.ensures.caller c.join_own.ensures.step)
+
+pub returns-clause-dels : goal.returns-clause-dels
+returns-clause-dels g c = λ low. search_dels_on (sort_of g.N.Node.layout g.N.Node.ranged) c.args.pass.now.caller c.take_led-next.new.pass.caller (seen_of c.args.pass.now) (seen_of c.take_led-next.new.pass) (seen_of c.join_own.new.pass) c.take_led-next.ensures.caller c.take_led-next.ensures.leaves (c.join_own.ensures.dels low)

@@ -13,6 +13,7 @@ use Rattle.ks_shape.specs.Laws.Search.{Laws}
 use Rattle.ks_shape.specs.Frees.{Frees}
 use Rattle.ks_shape.specs.Laws.Frees.{frees_both, frees_give, frees_shape}
 use Rattle.ks_tidy.proofs.Keeping.{drop_first, once_in, places_kept}
+use Rattle.ks_shape.specs.Laws.Does.{dels_search, searches_give}
 use Rattle.ks_tidy.proofs.merges.take_over.Given.{Over}
 use Rattle.ks_tidy.proofs.merges.take_over.Goals as goal
 use Rattle.ks_tidy.proofs.merges.take_over.Goals.{After-search_law, After-give}
@@ -84,3 +85,6 @@ returns-clause-stretch g c = let at = goal.at.returns-clause-stretch g c in let 
 pub returns-clause-frees : goal.returns-clause-frees
 returns-clause-frees g c = let at = goal.at.returns-clause-frees g c in let me : ℕ = c.args.pass.now.caller in let h = seen_of c.args.pass.now in let h₁ = seen_of c.collapse.new.pass in let k = seen_of c.give.new.pass in
     frees_both me 1 0 h h₁ k (frees_shape me h h₁ (omega arith) c.collapse.ensures.shaped.adds) (frees_give me c.collapse.new.child.node h₁ k (gave g at.After-give))
+
+pub returns-clause-dels : goal.returns-clause-dels
+returns-clause-dels g c = let own : ℕ = c.collapse.new.pass.caller in let h₁ = seen_of c.collapse.new.pass in let k = seen_of c.give.new.pass in dels_search (sort_of g.N.Node.layout g.N.Node.ranged) c.args.pass.now.caller own (seen_of c.args.pass.now) h₁ k c.collapse.ensures.caller c.collapse.ensures.dels (searches_give own c.collapse.new.child.node h₁ k c.give.ensures.gave)

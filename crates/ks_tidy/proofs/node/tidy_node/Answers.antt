@@ -15,6 +15,8 @@ use Rattle.ks_shape.specs.Laws.Frees.{counts_as, counts_more, counts_of, counts_
 use Rattle.ks_tidy.specs.Pair.{FitsAlone, HasRested, IsNoSole, IsPair}
 use Rattle.ks_tidy.proofs.Keeping.{few_on}
 use Rattle.ks_tidy.proofs.Steps.{places_here}
+use Rattle.ks_shape.specs.Does.{MayDel}
+use Rattle.ks_shape.specs.Laws.Does.{does_none, does_on}
 use Rattle.ks_tidy.proofs.node.tidy_node.Given.{Over}
 use Rattle.ks_tidy.proofs.node.tidy_node.Goals as goal
 
@@ -26,7 +28,8 @@ loop-init g c = let me : ℕ = c.args.pass.now.caller in let h = seen_of c.args.
   places_here (graph_after h) c.args.path.node.node,
   stretches_here me h (let few = few_on c.args.path.parent (hand_of c.args.pass.now) c.args.path.node.node c.requires.pair.path.hands in omega (arith, few)),
   counts_of me 0 h h (omega arith) (frees_here me h),
-  λ calm. refl,
+  (λ calm. refl),
+  (λ off. does_none (MayDel (sort_of g.N.Node.layout g.N.Node.ranged)) me h),
 )
 
 pub loop-preserved : goal.loop-preserved
@@ -38,7 +41,8 @@ loop-preserved g c = let me : ℕ = c.args.pass.now.caller in let s = seen_of c.
       places_both (graph_after s) (graph_after h) (graph_after k) c.args.path.node.node c.loop.path.node.node c.in-Freed.next.node.node inv.3 c.in-Freed.ensures.places,
       stretches_both me s h k inv.4 (stretches_as me c.loop.pass.caller h k inv.1 e.stretch),
       counts_more me c.loop.freed 1 s h k inv.5 one,
-      λ calm. absurd (let zero = frees_same me (inv.5.count + 1) 0 s k (frees_both me inv.5.count 1 s h k inv.5.frees one) calm.none in omega (arith, zero)),
+      (λ calm. absurd (let zero = frees_same me (inv.5.count + 1) 0 s k (frees_both me inv.5.count 1 s h k inv.5.frees one) calm.none in omega (arith, zero))),
+      (λ off. does_on (MayDel (sort_of g.N.Node.layout g.N.Node.ranged)) me c.loop.pass.caller s h k inv.1 (inv.7 off) (e.dels off)),
     )
 
 pub returns-in-Rests-clause-pair : goal.returns-in-Rests-clause-pair
@@ -68,3 +72,6 @@ returns-in-Rests-clause-tested g c = λ which alone. let me : ℕ = c.args.pass.
     let now : ActsAlone me h k = alone_then me s h k (frees_begins me s h inv.5.frees) (frees_begins me h k (frees_as me c.loop.pass.caller h k inv.1 step.frees)) alone in
     let low = subst (λ (z : Path g.row.N.Denot). IsTrue c.args.thorough ⊎ IsTrue (is_low g.N.Node.layout (g.N.Node.body z.node.body))) step.same which in
     subst (λ (z : Path g.row.N.Denot). FitsAlone sort g.N.Node.body me z.node.node h k) (sym step.same) (subst (λ (z : ℕ). FitsAlone sort g.N.Node.body z c.loop.path.node.node h k) inv.1 (step.tested low)) now
+
+pub returns-in-Rests-clause-dels : goal.returns-in-Rests-clause-dels
+returns-in-Rests-clause-dels g c = λ off. let inv = c.loop.invariant in does_on (MayDel (sort_of g.N.Node.layout g.N.Node.ranged)) c.args.pass.now.caller c.loop.pass.caller (seen_of c.args.pass.now) (seen_of c.loop.pass) (seen_of c.tidy_once.new.pass) inv.1 (inv.7 off) (c.tidy_once.ensures.dels off)

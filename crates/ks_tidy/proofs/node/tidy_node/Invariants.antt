@@ -1,4 +1,4 @@
-use Rattle.std.proofs.Common.{◌≡◌}
+use Rattle.std.proofs.Common.{◌≡◌, false}
 use Rattle.ks_flow.specs.Discipline.{BeginsTree, TreeStep}
 use Rattle.ks_history.specs.Trace.{graph_after}
 use Rattle.ks_arena.specs.Sound.{sort_of}
@@ -7,6 +7,7 @@ use Rattle.ks_shape.specs.Places.{HasPlacesOf}
 use Rattle.ks_shape.specs.Stretches.{Stretches}
 use Rattle.ks_shape.specs.Frees.{Counts, Undisturbed}
 use Rattle.ks_tidy.specs.Pair.{IsPair}
+use Rattle.ks_shape.specs.Does.{DoesOnly, MayDel}
 use Rattle.ks_tidy.proofs.node.tidy_node.Given as goal
 
 abbrev pub invariant-loop : goal.invariant-loop
@@ -18,3 +19,4 @@ invariant-loop g l =
     × Stretches l.fn.pass.caller (seen_of l.fn.pass) (seen_of l.pass)
     × Counts l.fn.pass.caller (seen_of l.fn.pass) (seen_of l.pass) l.freed
     × (Undisturbed l.fn.pass.caller (seen_of l.fn.pass) (seen_of l.pass) → l.path ≡ l.fn.path)
+    × (l.thorough ≡ false → DoesOnly (MayDel (sort_of g.N.Node.layout g.N.Node.ranged)) l.fn.pass.caller (seen_of l.fn.pass) (seen_of l.pass))

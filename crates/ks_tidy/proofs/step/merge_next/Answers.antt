@@ -6,6 +6,8 @@ use Rattle.ks_shape.specs.Laws.Stretches.{stretches_here}
 use Rattle.ks_shape.specs.Laws.Frees.{frees_here}
 use Rattle.ks_tidy.proofs.Standing.{plain, stands_now}
 use Rattle.ks_tidy.proofs.Steps.{places_here}
+use Rattle.ks_shape.specs.Does.{MayDel}
+use Rattle.ks_shape.specs.Laws.Does.{does_none}
 use Rattle.ks_tidy.proofs.step.merge_next.Goals as goal
 
 pub returns-in-None-clause-places : goal.returns-in-None-clause-places
@@ -25,3 +27,6 @@ returns-in-None-clause-step g c = let sort = sort_of g.N.Node.layout g.N.Node.ra
           (stands_now sort g.N.Node.body h x path.live path.matches (plain (g.N.Node.body x.body) c.node_law-2.ensures.sound c.node_law-2.ensures.framed (no_link x.body)))
           path.under.leads c.requires.unchained (sym c.right_of.ensures ∙ c.in-None.is);
     }
+
+pub returns-in-None-clause-dels : goal.returns-in-None-clause-dels
+returns-in-None-clause-dels g c = λ low. does_none (MayDel (sort_of g.N.Node.layout g.N.Node.ranged)) c.args.pass.now.caller (seen_of c.args.pass.now)

@@ -9,6 +9,8 @@ use Rattle.ks_shape.specs.Laws.Stretches.{stretches_here}
 use Rattle.ks_shape.specs.Laws.Frees.{frees_here}
 use Rattle.ks_tidy.proofs.Standing.{plain, stands_now}
 use Rattle.ks_tidy.proofs.Steps.{places_here}
+use Rattle.ks_shape.specs.Does.{MayDel}
+use Rattle.ks_shape.specs.Laws.Does.{does_none}
 use Rattle.ks_tidy.proofs.step.merge_root.Goals as goal
 
 pub returns-in-None-clause-places : goal.returns-in-None-clause-places
@@ -29,3 +31,6 @@ returns-in-None-clause-step g c = let sort = sort_of g.N.Node.layout g.N.Node.ra
       tested = λ which alone. subst (λ (z : ℕ). FitsNoRight g.N.Node.layout (graph_after h) (frame_after (blank_of sort) h) z) (sym zero)
           (c.alone_law.ensures.root g.N.Node.layout (graph_after h) (frame_after (blank_of sort) h) (g.N.Node.body x.body) ((c.search_law.ensures sort n).facts h c.requires.pass.sound) at (sym c.chained-right.ensures ∙ c.in-None.is));
     }
+
+pub returns-in-None-clause-dels : goal.returns-in-None-clause-dels
+returns-in-None-clause-dels g c = λ low. does_none (MayDel (sort_of g.N.Node.layout g.N.Node.ranged)) c.args.pass.now.caller (seen_of c.args.pass.now)

@@ -7,6 +7,8 @@ use Rattle.ks_shape.specs.Laws.Stretches.{stretches_here}
 use Rattle.ks_shape.specs.Laws.Frees.{frees_here}
 use Rattle.ks_tidy.proofs.Standing.{plain, stands_now}
 use Rattle.ks_tidy.proofs.Steps.{did_as, places_here, sole_is}
+use Rattle.ks_shape.specs.Does.{MayDel}
+use Rattle.ks_shape.specs.Laws.Does.{does_none}
 use Rattle.ks_tidy.proofs.step.tidy_child.Goals as goal
 
 pub returns-then-thorough-clause-step : goal.returns-then-thorough-clause-step
@@ -38,3 +40,15 @@ take_over-requires-clause-sole g c = let sort = sort_of g.N.Node.layout g.N.Node
     let stands = stands_now sort g.N.Node.body h y under.live under.matches (plain u c.node_law.ensures.sound c.node_law.ensures.framed (c.unlinked_law.ensures.no_link y.body)) in
     let all = ((c.tests_law.ensures.only_child (graph_after h) (frame_after (blank_of sort) h) y.node sole.0 u stands).0 sole.1).1 in
     sole.1 ∙ ap (λ (z : ℕ). Some z) (sole_is u c.args.place c.args.node.node sole.0 all under.leads)
+
+pub returns-then-thorough-clause-dels : goal.returns-then-thorough-clause-dels
+returns-then-thorough-clause-dels g c = λ off. absurd (let q : true ≡ false = sym c.if-thorough.true ∙ off in let z : ⊥ = cc in z)
+
+pub returns-then-is_low-clause-dels : goal.returns-then-is_low-clause-dels
+returns-then-is_low-clause-dels g c = λ off. c.merge_child-then-is_low.ensures.dels (sym c.is_low.ensures ∙ c.if-is_low.true)
+
+pub returns-clause-dels : goal.returns-clause-dels
+returns-clause-dels g c = λ off. does_none (MayDel (sort_of g.N.Node.layout g.N.Node.ranged)) c.args.pass.now.caller (seen_of c.args.pass.now)
+
+pub returns-then-has_sole-clause-dels : goal.returns-then-has_sole-clause-dels
+returns-then-has_sole-clause-dels g c = λ off. c.take_over.ensures.dels

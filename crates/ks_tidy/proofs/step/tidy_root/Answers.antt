@@ -7,6 +7,8 @@ use Rattle.ks_shape.specs.Laws.Stretches.{stretches_here}
 use Rattle.ks_shape.specs.Laws.Frees.{frees_here}
 use Rattle.ks_tidy.proofs.Standing.{plain, stands_now}
 use Rattle.ks_tidy.proofs.Steps.{did_as, places_here, sole_is}
+use Rattle.ks_shape.specs.Does.{MayDel}
+use Rattle.ks_shape.specs.Laws.Does.{does_none}
 use Rattle.ks_tidy.proofs.step.tidy_root.Goals as goal
 
 pub returns-then-thorough-clause-step : goal.returns-then-thorough-clause-step
@@ -31,3 +33,12 @@ returns-clause-step g c = record {
     | inr low ↦ (let q : false ≡ true = sym (sym c.is_low.ensures ∙ c.if-is_low.false) ∙ low in let z : ⊥ = cc in z)
   ]);
 }
+
+pub returns-then-thorough-clause-dels : goal.returns-then-thorough-clause-dels
+returns-then-thorough-clause-dels g c = λ off. absurd (let q : true ≡ false = sym c.if-thorough.true ∙ off in let z : ⊥ = cc in z)
+
+pub returns-then-is_low-clause-dels : goal.returns-then-is_low-clause-dels
+returns-then-is_low-clause-dels g c = λ off. c.merge_root-then-is_low.ensures.dels (sym c.is_low.ensures ∙ c.if-is_low.true)
+
+pub returns-clause-dels : goal.returns-clause-dels
+returns-clause-dels g c = λ off. does_none (MayDel (sort_of g.N.Node.layout g.N.Node.ranged)) c.args.pass.now.caller (seen_of c.args.pass.now)

@@ -14,6 +14,7 @@ use Rattle.ks_shape.specs.Laws.Single.{is_near, record_is}
 use Rattle.ks_shape.specs.Laws.Stretches.{stretches_take}
 use Rattle.ks_shape.specs.Laws.Search.{Laws}
 use Rattle.ks_tidy.proofs.Standing.{edge_live}
+use Rattle.ks_shape.specs.Laws.Does.{searches_take}
 use Rattle.ks_tidy.proofs.takes.take_led.Given.{Over}
 use Rattle.ks_tidy.proofs.takes.take_led.Goals as goal
 use Rattle.ks_tidy.proofs.takes.take_led.Goals.{After-search_law}
@@ -40,3 +41,6 @@ returns-clause-stretch g c = let at = (goal.at.returns-clause-stretch g c).After
     let before = took.grows.rest ++ h in let all = subst (Sound sort BeginsTree TreeStep n) took.grows.is c.take.ensures.pass.sound in
     stretches_take me i h k (omega (arith, c.requires.few)) (omega (arith, c.requires.few, ap length took.hand)) took.grows
     (λ template op. may_take_later template me i op h before (with_others me (Take me i) h k took.grows) ((laws g at).turns before all.0) (from_above record { above = c.args.above.now.node; node = record_of (g.N.Node.body c.args.above.now.body); holds = mine g at; is = here g at; leads = c.requires.edge }))
+
+pub returns-clause-leaves : goal.returns-clause-leaves
+returns-clause-leaves g c = searches_take c.args.pass.now.caller c.args.target (seen_of c.args.pass.now) (seen_of c.take.new.pass) c.in-Some.ensures.took.grows

@@ -14,6 +14,8 @@ use Rattle.ks_shape.specs.Laws.Single.{is_near, record_is}
 use Rattle.ks_shape.specs.Laws.Stretches.{stretches_others, stretches_take}
 use Rattle.ks_shape.specs.Laws.Search.{Laws}
 use Rattle.ks_tidy.proofs.Standing.{edge_live}
+use Rattle.ks_shape.specs.Does.{MaySearch}
+use Rattle.ks_shape.specs.Laws.Does.{does_others, searches_take}
 use Rattle.ks_tidy.proofs.takes.try_take_led.Given.{Over}
 use Rattle.ks_tidy.proofs.takes.try_take_led.Goals as goal
 use Rattle.ks_tidy.proofs.takes.try_take_led.Goals.{After-search_law}
@@ -46,3 +48,9 @@ returns-in-Busy-clause-took g c = c.in-Busy.ensures.took.0
 
 pub returns-in-Busy-clause-stretch : goal.returns-in-Busy-clause-stretch
 returns-in-Busy-clause-stretch g c = stretches_others c.args.pass.now.caller (seen_of c.args.pass.now) (seen_of c.try_take.new.pass) (omega (arith, c.requires.few)) c.in-Busy.ensures.took.0.grows
+
+pub returns-in-Held-clause-leaves : goal.returns-in-Held-clause-leaves
+returns-in-Held-clause-leaves g c = searches_take c.args.pass.now.caller c.args.target (seen_of c.args.pass.now) (seen_of c.try_take.new.pass) c.in-Held.ensures.took.grows
+
+pub returns-in-Busy-clause-leaves : goal.returns-in-Busy-clause-leaves
+returns-in-Busy-clause-leaves g c = does_others MaySearch c.args.pass.now.caller (seen_of c.args.pass.now) (seen_of c.try_take.new.pass) c.in-Busy.ensures.took.0.grows

@@ -11,6 +11,9 @@ use Rattle.ks_shape.specs.Laws.Single.{gave_last}
 use Rattle.ks_shape.specs.Stretches.{Stretches}
 use Rattle.ks_shape.specs.Laws.Stretches.{stretches_as, stretches_both, stretches_begins, stretches_give}
 use Rattle.ks_tidy.specs.Laws.Deciding.{decided_on}
+use Rattle.ks_arena.specs.Sound.{sort_of}
+use Rattle.ks_shape.specs.Does.{DoesOnly, MaySearch}
+use Rattle.ks_shape.specs.Laws.Does.{does_on, search_dels_on, searched_dels, searches_give}
 use Rattle.ks_tidy.proofs.tries.try_del_alone.Given.{Over}
 use Rattle.ks_tidy.proofs.tries.try_del_alone.Goals as goal
 use Rattle.ks_tidy.proofs.tries.try_del_alone.Goals.{After-give}
@@ -87,3 +90,18 @@ pub returns-then-low-clause-begins : goal.returns-then-low-clause-begins
 returns-then-low-clause-begins g c = let at = (goal.at.returns-then-low-clause-begins g c).After-give in let h₁ = seen_of c.delete-answer.new.pass in let h₂ = seen_of c.give.new.pass in let k = seen_of c.try_pair_tidy.new.pass in
     begins_both (seen_of c.args.pass.now) h₁ k c.delete-answer.ensures.begins
     (begins_both h₁ h₂ k (stretches_begins c.args.pass.now.caller h₁ h₂ (gives g at)) (stretches_begins c.give.new.pass.caller h₂ k c.try_pair_tidy.ensures.stretch))
+
+-- what it does
+
+left : (g : Over) (c : After-give g) → DoesOnly MaySearch c.args.pass.now.caller (seen_of c.args.pass.now) (seen_of c.give.new.pass)
+left g c = let own : ℕ = c.delete-answer.new.pass.caller in let h₁ = seen_of c.delete-answer.new.pass in let k = seen_of c.give.new.pass in
+    does_on MaySearch c.args.pass.now.caller own (seen_of c.args.pass.now) h₁ k c.delete-answer.ensures.caller c.delete-answer.ensures.leaves (searches_give own c.delete-answer.new.held.node h₁ k c.give.ensures.gave)
+
+pub returns-then-is_none-clause-dels : goal.returns-then-is_none-clause-dels
+returns-then-is_none-clause-dels g c = searched_dels (sort_of g.N.Node.layout g.N.Node.ranged) c.args.pass.now.caller (seen_of c.args.pass.now) (seen_of c.give.new.pass) (left g (goal.at.returns-then-is_none-clause-dels g c).After-give)
+
+pub returns-then-low-clause-dels : goal.returns-then-low-clause-dels
+returns-then-low-clause-dels g c = let at = (goal.at.returns-then-low-clause-dels g c).After-give in search_dels_on (sort_of g.N.Node.layout g.N.Node.ranged) c.args.pass.now.caller c.give.new.pass.caller (seen_of c.args.pass.now) (seen_of c.give.new.pass) (seen_of c.try_pair_tidy.new.pass) (now g at) (left g at) c.try_pair_tidy.ensures.dels
+
+pub returns-clause-dels : goal.returns-clause-dels
+returns-clause-dels g c = searched_dels (sort_of g.N.Node.layout g.N.Node.ranged) c.args.pass.now.caller (seen_of c.args.pass.now) (seen_of c.give.new.pass) (left g (goal.at.returns-clause-dels g c).After-give)

@@ -11,6 +11,8 @@ use Rattle.ks_shape.specs.Laws.Stretches.{stretches_as, stretches_both}
 use Rattle.ks_shape.specs.OnPath.{IsOnPath}
 use Rattle.ks_shape.specs.Laws.Frees.{frees_as, frees_both, frees_give, frees_take}
 use Rattle.ks_tidy.proofs.Going.{frees_if}
+use Rattle.ks_shape.specs.Does.{MaySearch}
+use Rattle.ks_shape.specs.Laws.Does.{does_on}
 use Rattle.ks_tidy.proofs.tries.try_go_down.Goals as goal
 
 pub try_step_down-requires-clause-way : goal.try_step_down-requires-clause-way
@@ -43,3 +45,9 @@ returns-in-Err-clause-stretch g c = let me : ℕ = c.args.pass.now.caller in let
 pub returns-in-Err-clause-frees : goal.returns-in-Err-clause-frees
 returns-in-Err-clause-frees g c = let me : ℕ = c.args.pass.now.caller in let b : ℕ = c.let_go-node.new.pass.caller in let h = seen_of c.args.pass.now in let h₁ = seen_of c.let_go-node.new.pass in let k = seen_of c.try_step_down.new.pass in
     frees_both me 0 0 h h₁ k (frees_if me c.args.path.parent h h₁ c.let_go-node.ensures.gave) (frees_as me b h₁ k c.let_go-node.ensures.caller (frees_give b c.let_go-node.result.node h₁ k c.in-Err.ensures.took))
+
+pub returns-in-Ok-clause-leaves : goal.returns-in-Ok-clause-leaves
+returns-in-Ok-clause-leaves g c = does_on MaySearch c.args.pass.now.caller c.let_go-node.new.pass.caller (seen_of c.args.pass.now) (seen_of c.let_go-node.new.pass) (seen_of c.try_step_down.new.pass) c.let_go-node.ensures.caller c.let_go-node.ensures.leaves c.try_step_down.ensures.leaves
+
+pub returns-in-Err-clause-leaves : goal.returns-in-Err-clause-leaves
+returns-in-Err-clause-leaves g c = does_on MaySearch c.args.pass.now.caller c.let_go-node.new.pass.caller (seen_of c.args.pass.now) (seen_of c.let_go-node.new.pass) (seen_of c.try_step_down.new.pass) c.let_go-node.ensures.caller c.let_go-node.ensures.leaves c.try_step_down.ensures.leaves

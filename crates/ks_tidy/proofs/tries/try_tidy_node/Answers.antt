@@ -5,6 +5,8 @@ use Rattle.ks_shape.specs.Laws.Stretches.{stretches_as, stretches_both, stretche
 use Rattle.ks_shape.specs.Laws.Frees.{counts_more, counts_of, counts_on, frees_as, frees_here}
 use Rattle.ks_tidy.specs.Pair.{IsPair}
 use Rattle.ks_tidy.proofs.Keeping.{few_on}
+use Rattle.ks_shape.specs.Does.{MayDel}
+use Rattle.ks_shape.specs.Laws.Does.{does_none, does_on}
 use Rattle.ks_tidy.proofs.tries.try_tidy_node.Goals as goal
 
 pub loop-tries-init : goal.loop-tries-init
@@ -14,6 +16,7 @@ loop-tries-init g c = let me : ℕ = c.args.pass.now.caller in let h = seen_of c
   c.requires.pair,
   stretches_here me h (let few = few_on c.args.path.parent (hand_of c.args.pass.now) c.args.path.node.node c.requires.pair.path.hands in omega (arith, few)),
   counts_of me 0 h h (omega arith) (frees_here me h),
+  does_none (MayDel (sort_of g.N.Node.layout g.N.Node.ranged)) me h,
 )
 
 pub loop-tries-preserved : goal.loop-tries-preserved
@@ -23,6 +26,7 @@ loop-tries-preserved g c = let me : ℕ = c.args.pass.now.caller in let s = seen
   subst (λ (z : ℕ). IsPair (sort_of g.N.Node.layout g.N.Node.ranged) g.N.Node.body z c.args.place k c.in-Freed.next) inv.1 c.in-Freed.ensures.pair,
   stretches_both me s h k inv.3 (stretches_as me c.loop-tries.pass.caller h k inv.1 e.stretch),
   counts_more me c.loop-tries.freed 1 s h k inv.4 (frees_as me c.loop-tries.pass.caller h k inv.1 c.in-Freed.ensures.frees),
+  does_on (MayDel (sort_of g.N.Node.layout g.N.Node.ranged)) me c.loop-tries.pass.caller s h k inv.1 inv.5 e.dels,
 )
 
 pub returns-in-Rests-clause-pair : goal.returns-in-Rests-clause-pair
@@ -35,3 +39,9 @@ returns-in-Rests-clause-stretch g c = let me : ℕ = c.args.pass.now.caller in l
 pub returns-in-Rests-clause-counts : goal.returns-in-Rests-clause-counts
 returns-in-Rests-clause-counts g c = let me : ℕ = c.args.pass.now.caller in let s = seen_of c.args.pass.now in let h = seen_of c.loop-tries.pass in let k = seen_of c.try_tidy_once.new.pass in let inv = c.loop-tries.invariant in
     counts_on me c.loop-tries.freed s h k inv.4 (frees_as me c.loop-tries.pass.caller h k inv.1 c.in-Rests.ensures.frees)
+
+pub returns-in-Rests-clause-dels : goal.returns-in-Rests-clause-dels
+returns-in-Rests-clause-dels g c = let inv = c.loop-tries.invariant in does_on (MayDel (sort_of g.N.Node.layout g.N.Node.ranged)) c.args.pass.now.caller c.loop-tries.pass.caller (seen_of c.args.pass.now) (seen_of c.loop-tries.pass) (seen_of c.try_tidy_once.new.pass) inv.1 inv.5 c.try_tidy_once.ensures.dels
+
+pub returns-clause-dels : goal.returns-clause-dels
+returns-clause-dels g c = c.loop-tries.invariant.5

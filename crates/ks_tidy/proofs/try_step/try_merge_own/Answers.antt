@@ -9,6 +9,7 @@ use Rattle.ks_shape.specs.Laws.Frees.{frees_others, frees_take}
 use Rattle.ks_tidy.specs.Pair.{DidStep, IsPair, IsTrio, path_in}
 use Rattle.ks_tidy.proofs.Keeping.{few_on}
 use Rattle.ks_tidy.proofs.Trio.{frees_after, pair_stays, trio_took}
+use Rattle.ks_shape.specs.Laws.Does.{search_dels_on, searched_dels}
 use Rattle.ks_tidy.proofs.try_step.try_merge_own.Given.{Over}
 use Rattle.ks_tidy.proofs.try_step.try_merge_own.Goals as goal
 use Rattle.ks_tidy.proofs.try_step.try_merge_own.Goals.{After-try_take_led}
@@ -48,3 +49,9 @@ returns-in-None-clause-pair g c = let at = (goal.at.returns-in-None-clause-pair 
 
 pub returns-in-None-clause-frees : goal.returns-in-None-clause-frees
 returns-in-None-clause-frees g c = frees_others c.args.pass.now.caller (seen_of c.args.pass.now) (seen_of c.try_take_led.new.pass) c.in-None.ensures.took.grows
+
+pub returns-in-Some-clause-dels : goal.returns-in-Some-clause-dels
+returns-in-Some-clause-dels g c = λ low. search_dels_on (sort_of g.N.Node.layout g.N.Node.ranged) c.args.pass.now.caller c.try_take_led.new.pass.caller (seen_of c.args.pass.now) (seen_of c.try_take_led.new.pass) (seen_of c.join_own.new.pass) c.try_take_led.ensures.caller c.try_take_led.ensures.leaves (c.join_own.ensures.dels low)
+
+pub returns-in-None-clause-dels : goal.returns-in-None-clause-dels
+returns-in-None-clause-dels g c = λ low. searched_dels (sort_of g.N.Node.layout g.N.Node.ranged) c.args.pass.now.caller (seen_of c.args.pass.now) (seen_of c.try_take_led.new.pass) c.try_take_led.ensures.leaves

@@ -1,4 +1,4 @@
-use Rattle.std.proofs.Common.{◌∙◌, ℕ, length, arith, ap}
+use Rattle.std.proofs.Common.{◌∙◌, ℕ, length, arith, ap, sym}
 use Rattle.std.specs.Prelude.{Some}
 use Rattle.ks_history.specs.Trace.{graph_after, frame_after}
 use Rattle.ks_arena.specs.Sound.{blank_of, sort_of}
@@ -7,6 +7,8 @@ use Rattle.ks_shape.specs.Laws.Stretches.{stretches_here}
 use Rattle.ks_shape.specs.Laws.Frees.{frees_here}
 use Rattle.ks_tidy.proofs.Standing.{plain, stands_now}
 use Rattle.ks_tidy.proofs.Steps.{sole_is}
+use Rattle.ks_shape.specs.Does.{MayDel}
+use Rattle.ks_shape.specs.Laws.Does.{does_none}
 use Rattle.ks_tidy.proofs.try_step.try_tidy_child.Goals as goal
 
 pub take_over-requires-clause-sole : goal.take_over-requires-clause-sole
@@ -21,3 +23,12 @@ returns-clause-stretch g c = stretches_here c.args.pass.now.caller (seen_of c.ar
 
 pub returns-clause-frees : goal.returns-clause-frees
 returns-clause-frees g c = frees_here c.args.pass.now.caller (seen_of c.args.pass.now)
+
+pub returns-then-has_sole-clause-dels : goal.returns-then-has_sole-clause-dels
+returns-then-has_sole-clause-dels g c = c.take_over.ensures.dels
+
+pub returns-then-is_low-clause-dels : goal.returns-then-is_low-clause-dels
+returns-then-is_low-clause-dels g c = c.try_merge_child.ensures.dels (sym c.is_low.ensures ∙ c.if-is_low.true)
+
+pub returns-clause-dels : goal.returns-clause-dels
+returns-clause-dels g c = does_none (MayDel (sort_of g.N.Node.layout g.N.Node.ranged)) c.args.pass.now.caller (seen_of c.args.pass.now)
