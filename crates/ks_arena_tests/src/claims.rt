@@ -12,11 +12,7 @@ use std::test::Fail;
 
 /// Claims the nodes from `next` on until none is left, and gives them back. Tells whether they came in order, up to the
 /// last.
-fn claim_from<N: Node, D: Discipline>(
-    arena: &Arena<N, D>,
-    pass: &mut Pass<N, D>,
-    next: u32,
-) -> bool
+fn claim_from<N: Node, D: Discipline>(arena: &Arena<N, D>, pass: &mut Pass<N, D>, next: u32) -> bool
     requires pass { IsPassOf arena.now pass.old }
     requires size { nodes_of arena.now ≡ 200 }
     requires alone { (callers_of arena.now ≡ 1) × (caller_of pass.old ≡ 0) }

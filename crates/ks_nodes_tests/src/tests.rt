@@ -90,16 +90,12 @@ fn chains<N: Unlinked + Ranged>(rt: &impl Abort, alloc: Global, length: u64) {
     first.absorb(rt, &mut last);
 }
 
+// (those with a range or a link alone begin blank, and are filled, in the tests below)
 #[test]
 fn blank_nodes_keep_a_pair(rt: HostRuntime) {
     keeps_a_pair::<ListNode>(&rt, rt.alloc());
     keeps_a_pair::<BNode>(&rt, rt.alloc());
     keeps_a_pair::<HNode>(&rt, rt.alloc());
-    keeps_a_pair::<WithRange<ListNode>>(&rt, rt.alloc());
-    keeps_a_pair::<WithRange<BNode>>(&rt, rt.alloc());
-    keeps_a_pair::<WithRange<HNode>>(&rt, rt.alloc());
-    keeps_a_pair::<WithLink<BNode>>(&rt, rt.alloc());
-    keeps_a_pair::<WithLink<HNode>>(&rt, rt.alloc());
     keeps_a_pair::<WithLink<WithRange<BNode>>>(&rt, rt.alloc());
 }
 
