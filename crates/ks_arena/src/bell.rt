@@ -1,29 +1,32 @@
-//! Where callers sleep who wait for the root, and how whoever gives it wakes one of them.
+//! Where callers sleep who wait for the root, and how those who give it wake them.
 use crossbeam_utils::CachePadded;
 use std::sync::Wait;
 use std::sync::atomic::AtomicU64;
 use std::sync::atomic::Ordering::SeqCst;
+use std::time::Duration;
 
 /// The word of a bell that nobody waits for.
 const QUIET: u64 = 0;
 
-/// The word of one that somebody may sleep at, or is about to.
+/// The low half of the word where somebody may sleep, or is about to.
 const AWAITED: u32 = 1;
+
+/// What a give adds to the word while somebody may sleep: its high half counts them.
+const GIVE: u64 = 1 << 32;
+
+/// After so many gives one sleeper is woken.
+const GIVES_BEFORE_A_RING: u64 = 128;
+
+/// Microseconds after which a sleeper looks again, rung or not.
+const LONGEST_SLEEP: u64 = 1_000;
 
 /// A word on a cache line of its own, at which callers sleep.
 ///
-/// No sleeper is forgotten. A caller that waits sets the word (`await_ring`), looks at the turn again, and sleeps only where
-/// that is still held, and only while the word is set (`sleep`: the system compares it as it puts the caller to sleep).
-/// Whoever gives the turn gives it first and reads the word afterwards (`ring`); where it is set, the first to clear it
-/// wakes one sleeper. All of these are steps on words in one order. So after each setting of the word comes a ring:
-///
-/// - If the look finds the turn held, its holder gives it after the look, and rings.
-/// - If the look finds it given, whoever takes it next takes it after the setting, gives it, and rings: the caller itself,
-///   or whoever was quicker.
-///
-/// A caller falls asleep only while the word is set, so a ring that clears it comes after, and wakes somebody. Whoever is
-/// woken sets the word again before it looks or sleeps, so another ring follows, and so on until nobody sleeps; the system
-/// wakes those first who slept first. All this rests on each holder giving the turn some time. No contract speaks of it.
+/// A caller that waits for the root sets the word (`await_ring`), looks at the turn once more, and sleeps while the word is
+/// set (`sleep`: the system compares it as it puts the caller to sleep). Whoever gives the turn reads the word afterwards
+/// (`ring`). Where it is set the give is counted in it, and after so many of them one sleeper is woken: whoever is woken
+/// contends for the root with those who run, and a wake at each give would have all of them wait for one another. No sleeper
+/// depends on being woken: each looks again after a millisecond. No contract speaks of it.
 #[derive(Drop)]
 pub(crate) struct Bell {
     word: CachePadded<AtomicU64>,
@@ -36,30 +39,34 @@ impl Bell {
         }
     }
 
-    /// Asks whoever gives the turn from now on to ring. Look at the turn between this and `sleep`.
+    /// Asks those who give the turn from now on to count, and to wake somebody. Look at the turn between this and `sleep`.
     pub(crate) fn await_ring(&self) {
-        self.word.store(AWAITED as u64, SeqCst);
+        if self.word.load(SeqCst) % GIVE != AWAITED as u64 {
+            self.word.store(AWAITED as u64, SeqCst);
+        }
     }
 
-    /// Sleeps until a ring, or returns for no reason; at once where there was a ring since `await_ring`. Then it asks for
-    /// another ring, for those who still sleep.
+    /// Sleeps until a ring, for a millisecond at most, or returns for no reason; at once where there was a ring since
+    /// `await_ring`. Then it asks for another ring, for those who still sleep.
     pub(crate) fn sleep<R: Wait>(&self, rt: &R) {
-        self.word.park(rt, AWAITED);
+        let longest = Duration::from_micros(LONGEST_SLEEP);
+        self.word.park_timeout(rt, AWAITED, longest);
         self.await_ring();
     }
 
-    /// Wakes one sleeper, if there may be any. The turn has been given.
+    /// Counts a give of the turn, if anybody may sleep, and wakes one sleeper after some.
     #[inline(always)]
     pub(crate) fn ring(&self) {
         if self.word.load(SeqCst) != QUIET {
-            self.wake();
+            self.count();
         }
     }
 
     #[cold]
     #[inline(never)]
-    fn wake(&self) {
-        if self.word.swap(QUIET, SeqCst) != QUIET {
+    fn count(&self) {
+        let before = self.word.fetch_add(GIVE, SeqCst);
+        if before >= GIVES_BEFORE_A_RING * GIVE && self.word.swap(QUIET, SeqCst) != QUIET {
             self.word.wake_one();
         }
     }

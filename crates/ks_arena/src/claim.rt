@@ -81,7 +81,7 @@ impl<N: Node, D: Discipline> Arena<N, D> {
         }
     }
 
-    /// Sleeps until somebody gives the root; returns at once where nobody has it.
+    /// Sleeps until it is woken as the root is given, for a millisecond at most; returns at once where nobody has it.
     fn sleep<R: Wait>(&self, rt: &R, steps: &mut Steps) {
         self.bell.await_ring();
         if !self.is_given(steps, ROOT) {
