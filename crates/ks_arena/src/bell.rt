@@ -15,7 +15,7 @@ const AWAITED: u32 = 1;
 const GIVE: u64 = 1 << 32;
 
 /// After so many gives one sleeper is woken.
-const GIVES_BEFORE_A_RING: u64 = 128;
+const GIVES_BEFORE_A_RING: u64 = 16;
 
 /// Microseconds after which a sleeper looks again, rung or not.
 const LONGEST_SLEEP: u64 = 1_000;

@@ -61,8 +61,8 @@ impl<N: Node, D: Discipline> Arena<N, D> {
     }
 
     /// Waits until nobody has the node, at some moment: looks at its turn, ever more seldom, for each look takes its cache
-    /// line from the holder, and then lets others have its processor between looks. At the root it sleeps in the place of
-    /// that: who waits for the root holds no node, so nobody waits for a sleeper.
+    /// line from the holder, and then lets others have its processor between looks. At the root it then sleeps, and begins
+    /// anew: who waits for the root holds no node, so nobody waits for a sleeper.
     #[cold]
     #[inline(never)]
     fn watch<R: Wait>(&self, rt: &R, steps: &mut Steps, node: u32)
@@ -75,6 +75,7 @@ impl<N: Node, D: Discipline> Arena<N, D> {
             }
             if node == ROOT && backoff.is_completed() {
                 self.sleep(rt, steps);
+                backoff.reset();
             } else {
                 backoff.snooze();
             }

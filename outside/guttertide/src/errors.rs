@@ -1,0 +1,95 @@
+//! Why nothing was opened, and why a call did not do what it was to do.
+
+use crate::{CALLERS, NODES};
+use std::error::Error;
+use std::fmt;
+
+/// Why a dictionary was not opened.
+#[derive(Clone, Copy, Debug, PartialEq, Eq)]
+pub enum OpenError {
+    /// No dictionary has so many nodes: see [`NODES`].
+    Nodes(u32),
+    /// No dictionary has so many callers: see [`CALLERS`].
+    Callers(usize),
+    /// The system gave too little memory.
+    OutOfMemory,
+}
+
+impl fmt::Display for OpenError {
+    fn fmt(&self, f: &mut fmt::Formatter<'_>) -> fmt::Result {
+        match self {
+            OpenError::Nodes(nodes) => {
+                write!(f, "a dictionary has {} to {} nodes, and not {nodes}", NODES.start(), NODES.end())
+            }
+            OpenError::Callers(callers) => {
+                write!(f, "a dictionary has {} to {} callers, and not {callers}", CALLERS.start(), CALLERS.end())
+            }
+            OpenError::OutOfMemory => f.write_str("there is too little memory for the dictionary"),
+        }
+    }
+}
+
+impl Error for OpenError {}
+
+/// There was no room for a new key and no free node: the map is as it was before.
+///
+/// The call counts in the history all the same, and has its [number](crate::Caller::number).
+#[derive(Clone, Copy, Debug, PartialEq, Eq)]
+pub struct Full;
+
+impl fmt::Display for Full {
+    fn fmt(&self, f: &mut fmt::Formatter<'_>) -> fmt::Result {
+        f.write_str("there is no room for the key, and no free node")
+    }
+}
+
+impl Error for Full {}
+
+/// Another caller held a node on the way, so the call was not made: it did nothing, and may be made again.
+#[derive(Clone, Copy, Debug, PartialEq, Eq)]
+pub struct Busy {
+    /// The number of the node, less than that of the nodes.
+    pub node: u32,
+    /// The number of the caller that held it, less than that of the callers.
+    pub holder: u32,
+}
+
+impl fmt::Display for Busy {
+    fn fmt(&self, f: &mut fmt::Formatter<'_>) -> fmt::Result {
+        write!(f, "caller {} holds node {}", self.holder, self.node)
+    }
+}
+
+impl Error for Busy {}
+
+/// Why an insert or an add that does not wait set nothing.
+#[derive(Clone, Copy, Debug, PartialEq, Eq)]
+pub enum TryInsertError {
+    /// The call was made, and there was no room for a new key.
+    Full(Full),
+    /// The call was not made, and may be made again.
+    Busy(Busy),
+}
+
+impl fmt::Display for TryInsertError {
+    fn fmt(&self, f: &mut fmt::Formatter<'_>) -> fmt::Result {
+        match self {
+            TryInsertError::Full(full) => full.fmt(f),
+            TryInsertError::Busy(busy) => busy.fmt(f),
+        }
+    }
+}
+
+impl Error for TryInsertError {}
+
+impl From<Full> for TryInsertError {
+    fn from(full: Full) -> TryInsertError {
+        TryInsertError::Full(full)
+    }
+}
+
+impl From<Busy> for TryInsertError {
+    fn from(busy: Busy) -> TryInsertError {
+        TryInsertError::Busy(busy)
+    }
+}

@@ -1,0 +1,373 @@
+//! A dictionary from `u64` to `u128` that many threads use at once.
+//!
+//! It is a B-link tree over a fixed number of nodes. The library behind it is proved: all calls of all callers are one
+//! history of one map (they are *linearizable*), in which each call stands once, each caller's in their order, and each
+//! replies with the value that stood at its key just before it. No caller ever holds the whole map, and no call takes
+//! memory but [`Dictionary::open`]. What is proved is the library; this crate is a front of it in Rust, which is
+//! tested.
+//!
+//! A thread makes its calls through a [`Caller`] of its own.
+//!
+//! ```
+//! use guttertide::{Dictionary, Full};
+//! use std::thread;
+//!
+//! let dictionary = Dictionary::open(256, 4)?;
+//! thread::scope(|scope| {
+//!     for first in 0..4 {
+//!         let mut caller = dictionary.caller().expect("it has four callers");
+//!         scope.spawn(move || {
+//!             for key in (first..400).step_by(4) {
+//!                 caller.insert(key, u128::from(key) * 10)?;
+//!             }
+//!             Ok::<(), Full>(())
+//!         });
+//!     }
+//! });
+//! let mut caller = dictionary.caller().expect("all four have come back");
+//! assert_eq!(caller.get(7), Some(70));
+//! assert_eq!(caller.remove(7), Some(70));
+//! assert_eq!(caller.get(7), None);
+//! # Ok::<(), guttertide::OpenError>(())
+//! ```
+//!
+//! # Waiting
+//!
+//! A call that meets a node which another caller holds has done nothing, and is made again: at first almost at once,
+//! and where it has failed seven times after sleeps of 50 microseconds, since who holds a node that long may itself
+//! wait for a processor. The calls that begin with `try_` do not wait: they tell who was in the way ([`Busy`]).
+//!
+//! # Unsafe code
+//!
+//! What the library asks of its users (`ks.h` of the repository says it) cannot be broken by safe code over this crate.
+//! Unsafe code of a program must leave `malloc` and `free` as they are, and make no call from a signal handler, nor in
+//! a child that it forked while there were several threads.
+
+mod errors;
+mod handle;
+pub mod raw;
+
+pub use errors::{Busy, Full, OpenError, TryInsertError};
+use handle::{Call, Handle};
+use std::hint;
+use std::mem;
+use std::ops::RangeInclusive;
+use std::sync::{Arc, Mutex, MutexGuard, PoisonError};
+use std::thread;
+use std::time::Duration;
+
+/// How many nodes a dictionary may have.
+pub const NODES: RangeInclusive<u32> = 4..=1_048_576;
+
+/// How many callers a dictionary may have.
+pub const CALLERS: RangeInclusive<usize> = 1..=1024;
+
+/// A dictionary, which hands out its callers.
+///
+/// Its memory is given back when it and all its callers are dropped.
+#[derive(Debug)]
+pub struct Dictionary {
+    free: Arc<FreeHandles>,
+}
+
+impl Dictionary {
+    /// Opens an empty dictionary of so many nodes ([`NODES`]), for at most so many callers at a time ([`CALLERS`]).
+    ///
+    /// All memory that it will use is taken now, some 600 bytes a node. A node holds at most 16 keys, and after inserts
+    /// in any order at least 8, so a fifth of the number of keys is enough nodes. A node that has been used stays in
+    /// use, though its keys are removed.
+    ///
+    /// # Errors
+    ///
+    /// Where one of the numbers is out of its range, or memory is wanting.
+    ///
+    /// ```
+    /// use guttertide::{Dictionary, OpenError};
+    ///
+    /// assert!(Dictionary::open(4, 1).is_ok());
+    /// assert_eq!(Dictionary::open(3, 1).unwrap_err(), OpenError::Nodes(3));
+    /// assert_eq!(Dictionary::open(4, 0).unwrap_err(), OpenError::Callers(0));
+    /// ```
+    pub fn open(nodes: u32, callers: usize) -> Result<Dictionary, OpenError> {
+        if !CALLERS.contains(&callers) {
+            return Err(OpenError::Callers(callers));
+        }
+        let mut handles: Vec<Handle> = (0..callers).map(|_| Handle::closed()).collect();
+        match Handle::open(nodes, &mut handles) {
+            raw::KS_NOTHING => Ok(Dictionary { free: Arc::new(FreeHandles(Mutex::new(handles))) }),
+            raw::KS_BAD_SIZE => Err(OpenError::Nodes(nodes)),
+            raw::KS_NO_MEMORY => Err(OpenError::OutOfMemory),
+            code => unexpected(code),
+        }
+    }
+
+    /// Hands out a caller, or `None` where all are out. One that is dropped may be handed out again.
+    ///
+    /// A caller may outlive the `Dictionary`.
+    ///
+    /// ```
+    /// # let dictionary = guttertide::Dictionary::open(64, 2)?;
+    /// let (first, second) = (dictionary.caller(), dictionary.caller());
+    /// assert!(first.is_some() && second.is_some() && dictionary.caller().is_none());
+    /// drop(first);
+    /// assert!(dictionary.caller().is_some());
+    /// # Ok::<(), guttertide::OpenError>(())
+    /// ```
+    pub fn caller(&self) -> Option<Caller> {
+        let handle = self.free.lock().pop()?;
+        Some(Caller { handle, number: None, free: Arc::clone(&self.free) })
+    }
+}
+
+/// The handles of one dictionary that no caller has.
+#[derive(Debug)]
+struct FreeHandles(Mutex<Vec<Handle>>);
+
+impl FreeHandles {
+    fn lock(&self) -> MutexGuard<'_, Vec<Handle>> {
+        self.0.lock().unwrap_or_else(PoisonError::into_inner)
+    }
+}
+
+/// One caller of a dictionary: it may go to another thread, and makes one call at a time.
+///
+/// Each call replies with the value that stood at its key just before it, and `None` is that there was none.
+///
+/// A caller is sent to a thread, and not shared between two:
+///
+/// ```compile_fail,E0277
+/// # let dictionary = guttertide::Dictionary::open(64, 2).unwrap();
+/// let caller = dictionary.caller().unwrap();
+/// std::thread::scope(|scope| {
+///     scope.spawn(|| &caller);
+/// });
+/// ```
+///
+/// Nor is it cloned:
+///
+/// ```compile_fail,E0599
+/// # let dictionary = guttertide::Dictionary::open(64, 2).unwrap();
+/// let caller = dictionary.caller().unwrap();
+/// let other = caller.clone();
+/// ```
+#[derive(Debug)]
+pub struct Caller {
+    handle: Handle,
+    number: Option<u64>,
+    free: Arc<FreeHandles>,
+}
+
+/// What a call that was made replies with.
+type Reply = Result<Option<u128>, Full>;
+
+impl Caller {
+    /// The value of a key.
+    ///
+    /// ```
+    /// # let dictionary = guttertide::Dictionary::open(64, 1).unwrap();
+    /// # let mut caller = dictionary.caller().unwrap();
+    /// assert_eq!(caller.get(5), None);
+    /// caller.insert(5, 50)?;
+    /// assert_eq!(caller.get(5), Some(50));
+    /// # Ok::<(), guttertide::Full>(())
+    /// ```
+    pub fn get(&mut self, key: u64) -> Option<u128> {
+        never_full(self.wait(Call::Get { key }))
+    }
+
+    /// Sets the value of a key, and replies with the one before.
+    ///
+    /// # Errors
+    ///
+    /// [`Full`] where the key is new and no node is free for it.
+    ///
+    /// ```
+    /// # let dictionary = guttertide::Dictionary::open(64, 1).unwrap();
+    /// # let mut caller = dictionary.caller().unwrap();
+    /// assert_eq!(caller.insert(5, 50)?, None);
+    /// assert_eq!(caller.insert(5, 51)?, Some(50));
+    /// # Ok::<(), guttertide::Full>(())
+    /// ```
+    pub fn insert(&mut self, key: u64, value: u128) -> Result<Option<u128>, Full> {
+        self.wait(Call::Insert { key, value })
+    }
+
+    /// Sets the value of a key that has none. A value that stands there stays, and is the reply.
+    ///
+    /// # Errors
+    ///
+    /// [`Full`] where the key is new and no node is free for it.
+    ///
+    /// ```
+    /// # let dictionary = guttertide::Dictionary::open(64, 1).unwrap();
+    /// # let mut caller = dictionary.caller().unwrap();
+    /// assert_eq!(caller.add(5, 50)?, None);
+    /// assert_eq!(caller.add(5, 51)?, Some(50));
+    /// assert_eq!(caller.get(5), Some(50));
+    /// # Ok::<(), guttertide::Full>(())
+    /// ```
+    pub fn add(&mut self, key: u64, value: u128) -> Result<Option<u128>, Full> {
+        self.wait(Call::Add { key, value })
+    }
+
+    /// Sets the value of a key to `new` if and only if `old` stands there. The reply is the value that stood there: it
+    /// was replaced if and only if that is `Some(old)`.
+    ///
+    /// ```
+    /// # let dictionary = guttertide::Dictionary::open(64, 1).unwrap();
+    /// # let mut caller = dictionary.caller().unwrap();
+    /// caller.insert(5, 50)?;
+    /// assert_eq!(caller.replace(5, 50, 51), Some(50));
+    /// assert_eq!(caller.replace(5, 50, 52), Some(51));
+    /// assert_eq!(caller.get(5), Some(51));
+    /// # Ok::<(), guttertide::Full>(())
+    /// ```
+    #[must_use = "the reply tells whether the value was replaced"]
+    pub fn replace(&mut self, key: u64, old: u128, new: u128) -> Option<u128> {
+        never_full(self.wait(Call::Replace { key, old, new }))
+    }
+
+    /// Removes a key, and replies with its value.
+    ///
+    /// ```
+    /// # let dictionary = guttertide::Dictionary::open(64, 1).unwrap();
+    /// # let mut caller = dictionary.caller().unwrap();
+    /// caller.insert(5, 50)?;
+    /// assert_eq!(caller.remove(5), Some(50));
+    /// assert_eq!(caller.remove(5), None);
+    /// # Ok::<(), guttertide::Full>(())
+    /// ```
+    pub fn remove(&mut self, key: u64) -> Option<u128> {
+        never_full(self.wait(Call::Remove { key }))
+    }
+
+    /// As [`get`](Caller::get), without waiting.
+    ///
+    /// # Errors
+    ///
+    /// [`Busy`] where another caller was in the way.
+    ///
+    /// ```
+    /// # let dictionary = guttertide::Dictionary::open(64, 1).unwrap();
+    /// # let mut caller = dictionary.caller().unwrap();
+    /// match caller.try_get(5) {
+    ///     Ok(Some(value)) => println!("{value} stands there"),
+    ///     Ok(None) => println!("nothing stands there"),
+    ///     Err(busy) => println!("not now: {busy}"),
+    /// }
+    /// ```
+    pub fn try_get(&mut self, key: u64) -> Result<Option<u128>, Busy> {
+        self.attempt(Call::Get { key }).map(never_full)
+    }
+
+    /// As [`insert`](Caller::insert), without waiting.
+    ///
+    /// # Errors
+    ///
+    /// [`TryInsertError::Busy`] where another caller was in the way, and [`TryInsertError::Full`] where the call was
+    /// made, the key is new and no node is free for it.
+    pub fn try_insert(&mut self, key: u64, value: u128) -> Result<Option<u128>, TryInsertError> {
+        Ok(self.attempt(Call::Insert { key, value })??)
+    }
+
+    /// As [`add`](Caller::add), without waiting.
+    ///
+    /// # Errors
+    ///
+    /// As of [`try_insert`](Caller::try_insert).
+    pub fn try_add(&mut self, key: u64, value: u128) -> Result<Option<u128>, TryInsertError> {
+        Ok(self.attempt(Call::Add { key, value })??)
+    }
+
+    /// As [`replace`](Caller::replace), without waiting.
+    ///
+    /// # Errors
+    ///
+    /// [`Busy`] where another caller was in the way.
+    pub fn try_replace(&mut self, key: u64, old: u128, new: u128) -> Result<Option<u128>, Busy> {
+        self.attempt(Call::Replace { key, old, new }).map(never_full)
+    }
+
+    /// As [`remove`](Caller::remove), without waiting.
+    ///
+    /// # Errors
+    ///
+    /// [`Busy`] where another caller was in the way.
+    pub fn try_remove(&mut self, key: u64) -> Result<Option<u128>, Busy> {
+        self.attempt(Call::Remove { key }).map(never_full)
+    }
+
+    /// The number of the last call that was made through this value, or `None` before the first: how many calls stand
+    /// before it in the one history of all callers of the dictionary. A call that is [`Full`] has a number, one that is
+    /// [`Busy`] has none.
+    ///
+    /// ```
+    /// # let dictionary = guttertide::Dictionary::open(64, 2).unwrap();
+    /// # let (mut caller, mut other) = (dictionary.caller().unwrap(), dictionary.caller().unwrap());
+    /// assert_eq!(caller.number(), None);
+    /// caller.get(5);
+    /// other.get(5);
+    /// assert_eq!((caller.number(), other.number()), (Some(0), Some(1)));
+    /// ```
+    pub fn number(&self) -> Option<u64> {
+        self.number
+    }
+
+    /// Makes a call until no other caller is in the way.
+    fn wait(&mut self, call: Call) -> Reply {
+        let mut failed = 0;
+        loop {
+            match self.attempt(call) {
+                Ok(reply) => return reply,
+                Err(Busy { .. }) => pause(failed),
+            }
+            failed += 1;
+        }
+    }
+
+    /// Makes a call once.
+    fn attempt(&mut self, call: Call) -> Result<Reply, Busy> {
+        let mut answer = raw::ks_answer::default();
+        let reply = match self.handle.call(call, &mut answer) {
+            raw::KS_NOTHING => Ok(None),
+            raw::KS_VALUE => Ok(Some(whole(answer.value))),
+            raw::KS_FULL => Err(Full),
+            raw::KS_BUSY => {
+                return Err(Busy { node: answer.node, holder: answer.holder });
+            }
+            code => unexpected(code),
+        };
+        self.number = Some(answer.number);
+        Ok(reply)
+    }
+}
+
+/// Gives the handle back to the dictionary.
+impl Drop for Caller {
+    fn drop(&mut self) {
+        let handle = mem::replace(&mut self.handle, Handle::closed());
+        self.free.lock().push(handle);
+    }
+}
+
+/// Passes some time, the more the more often a call has failed.
+fn pause(failed: u64) {
+    match failed {
+        0..7 => (0..1 << failed).for_each(|_| hint::spin_loop()),
+        _ => thread::sleep(Duration::from_micros(50)),
+    }
+}
+
+fn whole(value: raw::ks_wide) -> u128 {
+    u128::from(value.high) << 64 | u128::from(value.low)
+}
+
+/// The reply of a call that needs no room.
+fn never_full(reply: Reply) -> Option<u128> {
+    reply.unwrap_or_else(|Full| unexpected(raw::KS_FULL))
+}
+
+/// Ends a call to which the library answered by a code that it never gives to such a call.
+fn unexpected(code: u32) -> ! {
+    panic!("the library answered with the code {code}, which ks.h does not have for this call")
+}

@@ -1,0 +1,63 @@
+//! What the header `ks.h` declares: its types, its codes and the functions of the library. The header says what each
+//! function does and what its caller must keep.
+
+#![allow(non_camel_case_types, missing_docs)]
+
+use std::ffi::c_void;
+
+/// A handle: one caller of a dictionary, or none where the pointer is null.
+#[repr(C)]
+#[derive(Debug)]
+pub struct ks_caller {
+    pub at: *mut c_void,
+}
+
+pub const KS_NO_CALLER: ks_caller = ks_caller { at: std::ptr::null_mut() };
+
+/// A value of 128 bits: high * 2^64 + low.
+#[repr(C)]
+#[derive(Clone, Copy, Debug, Default)]
+pub struct ks_wide {
+    pub low: u64,
+    pub high: u64,
+}
+
+/// What a call tells beside its code.
+#[repr(C)]
+#[derive(Clone, Copy, Debug, Default)]
+pub struct ks_answer {
+    pub number: u64,
+    pub value: ks_wide,
+    pub node: u32,
+    pub holder: u32,
+}
+
+pub const KS_NOTHING: u32 = 0;
+pub const KS_VALUE: u32 = 1;
+pub const KS_FULL: u32 = 2;
+pub const KS_BUSY: u32 = 3;
+pub const KS_LATER: u32 = 4;
+pub const KS_CLOSED: u32 = 16;
+pub const KS_BAD_SIZE: u32 = 17;
+pub const KS_NO_MEMORY: u32 = 18;
+pub const KS_IN_USE: u32 = 19;
+pub const KS_NULL: u32 = 20;
+
+#[allow(unsafe_code)]
+unsafe extern "C" {
+    pub fn ks_c_open(nodes: u32, callers: *mut ks_caller, count: usize) -> u32;
+    pub fn ks_c_get(caller: *mut ks_caller, key: u64, answer: *mut ks_answer) -> u32;
+    pub fn ks_c_put(caller: *mut ks_caller, key: u64, low: u64, high: u64, answer: *mut ks_answer) -> u32;
+    pub fn ks_c_add(caller: *mut ks_caller, key: u64, low: u64, high: u64, answer: *mut ks_answer) -> u32;
+    pub fn ks_c_swap(
+        caller: *mut ks_caller,
+        key: u64,
+        old_low: u64,
+        old_high: u64,
+        new_low: u64,
+        new_high: u64,
+        answer: *mut ks_answer,
+    ) -> u32;
+    pub fn ks_c_del(caller: *mut ks_caller, key: u64, answer: *mut ks_answer) -> u32;
+    pub fn ks_c_close(caller: *mut ks_caller) -> u32;
+}
