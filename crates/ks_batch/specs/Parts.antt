@@ -18,7 +18,7 @@ use Rattle.ks_batch.specs.Serve.{RefusedAt, Accepts, AcceptsChecked, IsReadWith,
 use Rattle.ks_batch.specs.Make.{MakesOutcome}
 use Rattle.ks_batch.specs.declared.status.TheConstants.{DONE, NO_COMMAND, REFUSED, SOURCE_FAILED, OUTPUT_FAILED, NO_MEMORY, WRONG}
 
--- nothing is written but with these statuses
+-- the output got nothing, unless all is done, the output failed or the run is wrong
 abbrev pub UntouchedWith : ℕ → Option (List ℕ) → Option (List ℕ) → Type 0
 UntouchedWith status old new = status ≢ DONE → status ≢ OUTPUT_FAILED → status ≢ WRONG → new ≡ old
 
@@ -39,15 +39,15 @@ module _ (words : List (List ℕ)) where
   abbrev pub PrintedAt : ℕ → ℕ → Option (List ℕ) → Option (List Event) → (List ℕ → Type 0) → Type 0
   PrintedAt this status left run Took = (pairing : Pairing) (nodes : ℕ) → AsksToRun words pairing nodes → status ≡ this → PrintsRun (row_of pairing).place left run Took
 
-  -- where a text is to be read, it was read to its end, but at these statuses
+  -- where a text is to be read, it was read to its end, unless the source failed, memory was wanting or it is too long
   abbrev pub ReadWith : ℕ → ℕ → Option (List ℕ) → Option (List ℕ) → Type 0
   ReadWith status line left after = (text : Text) → Asks words text → IsReadWith status line → IfSome left (λ _. after ≡ Some [])
 
-  -- where none is to be read, none was
+  -- where the words are no command or ask for a made script, nothing was read
   abbrev pub UnreadWith : ℕ → Option (List ℕ) → Option (List ℕ) → Type 0
   UnreadWith status left after = (status ≡ NO_COMMAND) ⊎ IsMake words → after ≡ left
 
-  -- a text that was refused was to be refused at this line
+  -- a text was refused only at its first bad line, or, at line 0, for its length
   abbrev pub RefusedWith : ℕ → ℕ → Option (List ℕ) → Type 0
   RefusedWith status line left = (text : Text) → Asks words text → status ≡ REFUSED → IfSome left (λ bytes. RefusedAt text bytes line)
 
