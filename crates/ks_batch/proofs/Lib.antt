@@ -3,3 +3,4 @@ pub mod Askings
 pub mod Loading
 pub mod Due
 pub mod Made
+pub mod Instances

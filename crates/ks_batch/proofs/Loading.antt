@@ -1,5 +1,5 @@
 -- Why an input is refused, from why its bytes are.
-use Rattle.std.proofs.Common.{ℕ, zero, suc, ◌≡◌, ◌≤◌, ◌<◌, List, length, Option, Some, None, Result, Ok, Err, subst, arith}
+use Rattle.std.proofs.Common.{ℕ, zero, suc, ◌≡◌, ◌≤◌, ◌<◌, List, [], length, Option, Some, None, Result, Ok, Err, subst, arith}
 use Rattle.std.specs.Prelude.{IfSome, IfErr, IfOk}
 use Rattle.ks_history.specs.declared.Op.{Op}
 use Rattle.ks_script.specs.declared.version.Version.{Version}
@@ -11,7 +11,7 @@ use Rattle.ks_batch.specs.declared.words.Text.TheVariants.{Script, Checked}
 use Rattle.ks_batch.specs.declared.input.Stop.{Stop}
 use Rattle.ks_batch.specs.declared.input.Stop.TheVariants.{Refused, Source, Memory}
 use Rattle.ks_batch.specs.Serve.{limit_of, FirstBadOf, RefusedAt}
-use Rattle.ks_batch.specs.Stop.{IsCause, IsRefusal}
+use Rattle.ks_batch.specs.Stop.{IsCause, IsRefusal, ReadToEnd}
 
 bad_after : (text : Text) (n : ℕ) (v : List ℕ) → FirstBadOf text v n → 0 < n
 bad_after Script n v bad = bad.place
@@ -27,6 +27,12 @@ load_cause text None rose v (Err (Refused n)) is le bad = tt
 load_cause text (Some bytes) rose v (Err (Refused n)) is le bad = refused_at text n v bytes is le bad
 load_cause text left rose v (Err Source) is le bad = absurd bad
 load_cause text left rose v (Err Memory) is le bad = tt
+
+pub read_to_end : {X : Type 0} (r : Result X Stop) (left after : Option (List ℕ)) → IfSome left (λ _. after ≡ Some []) → IfErr r (λ stop. ReadToEnd stop left after)
+read_to_end (Ok x) left after end = tt
+read_to_end (Err (Refused n)) left after end = λ _. end
+read_to_end (Err Source) left after end = tt
+read_to_end (Err Memory) left after end = tt
 
 -- no version has more callers than the second
 within : (version : Version) (n : ℕ) → n ≤ callers_limit version → n ≤ 1024

@@ -4,3 +4,4 @@ pub mod Message
 pub mod Serve
 pub mod Stop
 pub mod Make
+pub mod Parts

@@ -1,6 +1,7 @@
 -- What the command to make a script leaves.
 use Rattle.std.specs.Prelude.{ℕ, ◌≡◌, ◌⊎◌, ◌↔◌, List, Option, IfSome, IsSome}
 use Rattle.ks_history.specs.declared.Event.{Event}
+use Rattle.ks_history.specs.Passes.{CallersBelow}
 use Rattle.ks_history.specs.Served.{Served}
 use Rattle.ks_script.specs.Run.{Run}
 use Rattle.ks_script.specs.Outside.{Grew, GrewByFront}
@@ -14,10 +15,11 @@ use Rattle.ks_batch.specs.Words.{Spells}
 use Rattle.ks_batch.specs.declared.status.TheConstants.{DONE, OUTPUT_FAILED, NO_MEMORY}
 
 -- the trace h served the script that is made, with these places for keys, and of the summary of the run that tells it
--- Took holds
+-- Took holds; each event of h is of a caller of that script
 pub record Sums (place : ℕ → ℕ) (draft : Draft) (h : List Event) (Took : List ℕ → Type 0) : Type 0 where
   pub run : Run
   pub served : Served place (made draft.callers draft.calls draft.first) run.callers run.pairs h
+  pub callers : CallersBelow draft.callers h
   pub took : Took (summary_text (made draft.callers draft.calls draft.first) run)
 
 -- the text is that summary

@@ -1,8 +1,9 @@
 -- What the program does with what it reads.
-use Rattle.std.specs.Prelude.{ℕ, zero, suc, ◌≡◌, ◌<◌, ◌≤◌, List, ◌++◌, length, Option, IfSome, codes}
+use Rattle.std.specs.Prelude.{ℕ, zero, suc, ◌≡◌, ◌≢◌, ◌<◌, ◌≤◌, List, ◌++◌, length, Option, IfSome, codes}
 use Rattle.std.specs.Fmt.{decimal}
 use Rattle.ks_history.specs.declared.Op.{Op}
 use Rattle.ks_history.specs.declared.Event.{Event}
+use Rattle.ks_history.specs.Passes.{CallersBelow}
 use Rattle.ks_history.specs.Served.{Served}
 use Rattle.ks_script.specs.Script.{ScriptOf, FirstBadOfScript}
 use Rattle.ks_script.specs.Checked.{CheckedOf, FirstBadOfChecked}
@@ -13,7 +14,7 @@ use Rattle.ks_judge.specs.declared.judging.Judged.TheVariants.{Legal, Wrong}
 use Rattle.ks_judge.specs.Verdict.{IsJudged}
 use Rattle.ks_batch.specs.declared.words.Text.{Text}
 use Rattle.ks_batch.specs.declared.words.Text.TheVariants.{Script, Checked}
-use Rattle.ks_batch.specs.declared.status.TheConstants.{DONE, OUTPUT_FAILED, WRONG}
+use Rattle.ks_batch.specs.declared.status.TheConstants.{DONE, REFUSED, SOURCE_FAILED, OUTPUT_FAILED, NO_MEMORY, WRONG}
 
 -- how many bytes a text may have
 abbrev pub limit_of : Text → ℕ
@@ -30,16 +31,22 @@ abbrev pub RefusedAt : Text → List ℕ → ℕ → Type 0
 RefusedAt text bytes zero = limit_of text < length bytes
 RefusedAt text bytes (suc n) = (length bytes ≤ limit_of text) × FirstBadOf text bytes (suc n)
 
+-- the status and the line say that the source did not fail, that memory was not wanting, and that the text is not too long
+abbrev pub IsReadWith : ℕ → ℕ → Type 0
+IsReadWith status line = (status ≢ SOURCE_FAILED) × (status ≢ NO_MEMORY) × (status ≡ REFUSED → line ≢ 0)
+
 -- the bytes are the text of this script
 pub record Accepts (bytes : List ℕ) (script : List (List Op)) : Type 0 where
   pub within : length bytes ≤ limit_of Script
   pub reads : ScriptOf bytes script
 
--- the trace h served the script that the bytes spell, with these places for keys, and the run tells it
+-- the trace h served the script that the bytes spell, with these places for keys, and the run tells it; each event of h is
+-- of a caller of the script
 pub record Tells (place : ℕ → ℕ) (bytes : List ℕ) (h : List Event) (run : Run) : Type 0 where
   pub script : List (List Op)
   pub accepts : Accepts bytes script
   pub served : Served place script run.callers run.pairs h
+  pub callers : CallersBelow (length script) h
 
 -- the trace h served the script that the bytes spell, and of the text that tells it Took holds
 pub record Prints (place : ℕ → ℕ) (bytes : List ℕ) (h : List Event) (Took : List ℕ → Type 0) : Type 0 where

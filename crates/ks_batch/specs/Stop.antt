@@ -1,5 +1,5 @@
 -- Why an input is not used.
-use Rattle.std.specs.Prelude.{ℕ, List, Option, IfSome}
+use Rattle.std.specs.Prelude.{ℕ, ◌≡◌, ◌≢◌, List, [], Option, Some, IfSome}
 use Rattle.ks_batch.specs.declared.words.Text.{Text}
 use Rattle.ks_batch.specs.declared.input.Stop.{Stop}
 use Rattle.ks_batch.specs.declared.input.Stop.TheVariants.{Refused, Source, Memory}
@@ -16,3 +16,9 @@ abbrev pub IsRefusal : Stop → Text → List ℕ → Type 0
 IsRefusal (Refused n) text bytes = FirstBadOf text bytes n
 IsRefusal Source text bytes = ⊥
 IsRefusal Memory text bytes = Unit {0}
+
+-- where a line was refused, all bytes that were left, where they are told, had been read
+abbrev pub ReadToEnd : Stop → Option (List ℕ) → Option (List ℕ) → Type 0
+ReadToEnd (Refused n) left after = n ≢ 0 → IfSome left (λ _. after ≡ Some [])
+ReadToEnd Source left after = Unit {0}
+ReadToEnd Memory left after = Unit {0}

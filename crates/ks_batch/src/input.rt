@@ -6,7 +6,7 @@ ghost use Rattle.ks_script.specs.Script.{ScriptOf, calls_in};
 ghost use Rattle.ks_script.specs.Checked.{CheckedOf};
 ghost use Rattle.ks_judge.specs.Judgment.{SameShape};
 ghost use Rattle.ks_batch.specs.Serve.{limit_of, Accepts, AcceptsChecked};
-ghost use Rattle.ks_batch.specs.Stop.{IsCause, IsRefusal};
+ghost use Rattle.ks_batch.specs.Stop.{IsCause, IsRefusal, ReadToEnd};
 ghost use Rattle.ks_batch.specs.declared.words.Text.TheVariants as text;
 
 use crate::words::Text;
@@ -41,6 +41,7 @@ fn input<S: Source>(alloc: Global, source: &mut S, text: Text) -> Result<Vec<u8>
     ensures ok { IfOk result (λ read. IfSome (S.left source.old) (λ bytes. read.items ≡ bytes)) }
     ensures within { IfOk result (λ read. length read.items ≤ limit_of text) }
     ensures end { OnOk result (IfSome (S.left source.old) (λ _. S.left source.new ≡ Some [])) }
+    ensures line { IfErr result (λ stop. ReadToEnd stop (S.left source.old) (S.left source.new)) }
     ensures cause { IfErr result
         (λ stop. IsCause stop text (S.left source.old) (Rose (S.faults source.old) (S.faults source.new))) }
 {
@@ -81,6 +82,7 @@ pub fn load<S: Source>(alloc: Global, source: &mut S) -> Result<Script, Stop>
     ensures ok { IfOk result (λ script. IfSome (S.left source.old) (λ bytes. Accepts bytes script)) }
     ensures callers { IfOk result (λ script. length script ≤ 1024) }
     ensures end { OnOk result (IfSome (S.left source.old) (λ _. S.left source.new ≡ Some [])) }
+    ensures line { IfErr result (λ stop. ReadToEnd stop (S.left source.old) (S.left source.new)) }
     ensures cause { IfErr result
         (λ stop. IsCause stop text.Script (S.left source.old) (Rose (S.faults source.old) (S.faults source.new))) }
 {
@@ -94,6 +96,7 @@ pub fn load_checked<S: Source>(alloc: Global, source: &mut S) -> Result<(Script,
     ensures shape { IfOk result (λ x. SameShape x.0 x.1.callers) }
     ensures few { IfOk result (λ x. calls_in x.0 ≤ 1048576) }
     ensures end { OnOk result (IfSome (S.left source.old) (λ _. S.left source.new ≡ Some [])) }
+    ensures line { IfErr result (λ stop. ReadToEnd stop (S.left source.old) (S.left source.new)) }
     ensures cause { IfErr result
         (λ stop. IsCause stop text.Checked (S.left source.old) (Rose (S.faults source.old) (S.faults source.new))) }
 {

@@ -4,7 +4,7 @@ ghost use Rattle.std.specs.Prelude.{◌≡◌, Some, [], IfOk, OnOk, IfErr, IfSo
 ghost use Rattle.ks_script.specs.Outside.{Rose};
 ghost use Rattle.ks_batch.specs.declared.words.Text.TheVariants as text;
 ghost use Rattle.ks_batch.specs.Serve.{Judges};
-ghost use Rattle.ks_batch.specs.Stop.{IsCause};
+ghost use Rattle.ks_batch.specs.Stop.{IsCause, ReadToEnd};
 
 use crate::input::{Stop, load_checked};
 use ks_judge::{Judged, judge};
@@ -15,6 +15,7 @@ use std::alloc::Global;
 pub fn judged<S: Source>(alloc: Global, source: &mut S) -> Result<Judged, Stop>
     ensures ok { IfOk result (λ judged. IfSome (S.left source.old) (λ bytes. Judges bytes judged)) }
     ensures end { OnOk result (IfSome (S.left source.old) (λ _. S.left source.new ≡ Some [])) }
+    ensures line { IfErr result (λ stop. ReadToEnd stop (S.left source.old) (S.left source.new)) }
     ensures cause { IfErr result
         (λ stop. IsCause stop text.Checked (S.left source.old) (Rose (S.faults source.old) (S.faults source.new))) }
 {

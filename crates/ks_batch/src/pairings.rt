@@ -1,9 +1,11 @@
 //! The pairings of node types and techniques that are served, and the dictionary of each.
 
-ghost use Rattle.std.specs.Prelude.{ℕ, ◌≤◌, map, length, IfOk};
+ghost use Rattle.std.specs.Prelude.{◌≤◌, map, length, IfOk};
 ghost use Rattle.ks_history.specs.Due.{FullsDue};
 ghost use Rattle.ks_history.specs.Lawful.{Lawful, GoodThroughout};
+ghost use Rattle.ks_history.specs.Passes.{CallersBelow};
 ghost use Rattle.ks_history.specs.Served.{Served};
+ghost use Rattle.ks_arena.specs.Named.{AllNamedBelow};
 ghost use Rattle.ks_batch.specs.Pairings.{row_of};
 
 use ks_boxed::Boxed;
@@ -62,6 +64,8 @@ pub fn serve_by<R: Threads + Wait + Sync, G: Gate + Sync>(
     ensures lawful { IfOk result (λ told. Lawful told.trace) }
     ensures good { IfOk result (λ told. GoodThroughout told.trace) }
     ensures due { IfOk result (λ told. FullsDue (row_of pairing).layout nodes told.trace) }
+    ensures named { IfOk result (λ told. AllNamedBelow nodes told.trace) }
+    ensures callers { IfOk result (λ told. CallersBelow (length callers.items) told.trace) }
 {
     match pairing {
         Pairing::ListCoupling => serve_callers::<ListNode, Coupling, R, G>(

@@ -1,21 +1,21 @@
 //! What the program does: it serves a script, or judges a printed run, from bytes to bytes.
 
-ghost use Rattle.std.specs.Prelude.{ℕ, ◌≡◌, ◌≢◌, ◌≤◌, ◌⊎◌, ◌↔◌, length, map, Some, List, [], IfOk, OnOk, OnErr, IfErr, IfSome, IsSome, IsNone};
+ghost use Rattle.std.specs.Prelude.{◌≡◌, ◌≢◌, ◌≤◌, ◌⊎◌, ◌↔◌, length, map, Some, [], IfOk, OnOk, OnErr, IfErr, IfSome, IsSome, IsNone};
 ghost use Rattle.ks_history.specs.Due.{FullsDue};
 ghost use Rattle.ks_history.specs.Served.{Served};
 ghost use Rattle.ks_history.specs.Lawful.{Lawful, GoodThroughout};
-ghost use Rattle.ks_history.specs.declared.Op.{Op};
+ghost use Rattle.ks_history.specs.Passes.{CallersBelow};
+ghost use Rattle.ks_arena.specs.Named.{AllNamedBelow};
 ghost use Rattle.ks_script.specs.Outside.{Rose, Grew, GrewByFront};
-ghost use Rattle.ks_script.specs.Run as printed_run;
-ghost use Rattle.ks_batch.specs.declared.words.Text.{Text};
 ghost use Rattle.ks_batch.specs.declared.words.Text.TheVariants as text;
 ghost use Rattle.ks_batch.specs.declared.pairings.Pairing.{Pairing};
 ghost use Rattle.ks_batch.specs.Pairings.{row_of};
-ghost use Rattle.ks_batch.specs.Words.{bytes_of, AsksToRun, AskToServe, IsCommand, IsMake, Asks};
+ghost use Rattle.ks_batch.specs.Words.{bytes_of, IsCommand, IsMake, Asks};
 ghost use Rattle.ks_batch.specs.Message.{status_text};
-ghost use Rattle.ks_batch.specs.Serve.{RefusedAt, Accepts, AcceptsChecked, Tells, PrintsRun, Judges, IsCheck, judged_line};
+ghost use Rattle.ks_batch.specs.Serve.{RefusedAt, IsReadWith, Tells, PrintsRun, IsCheck, judged_line};
 ghost use Rattle.ks_batch.specs.Make.{SumsUp, Sums, MakesOutcome};
-ghost use Rattle.ks_batch.specs.Stop.{IsCause};
+ghost use Rattle.ks_batch.specs.Parts.{DueOver, NamedOver, RanWith, PrintedAt, ReadWith, UnreadWith, RefusedWith, RefusalDue, DoneDue, JudgedDue, UntouchedWith};
+ghost use Rattle.ks_batch.specs.Stop.{IsCause, ReadToEnd};
 
 use crate::input::{Stop, load};
 use crate::judgment::judged;
@@ -101,6 +101,8 @@ fn serve_packed<R: Threads + Wait + Sync, G: Gate + Sync>(
     ensures lawful { IfOk result (λ ready. Lawful ready.trace) }
     ensures good { IfOk result (λ ready. GoodThroughout ready.trace) }
     ensures due { IfOk result (λ ready. FullsDue (row_of pairing).layout arena ready.trace) }
+    ensures named { IfOk result (λ ready. AllNamedBelow arena ready.trace) }
+    ensures callers { IfOk result (λ ready. CallersBelow (length script.now) ready.trace) }
 {
     let callers = unpacked(alloc, script)?;
     let told = serve_by(rt, alloc, pairing, arena, callers, workers, gate)?;
@@ -123,9 +125,11 @@ fn prepare<R: Threads + Wait + Sync, S: Source, G: Gate + Sync>(
     ensures lawful { IfOk result (λ ready. Lawful ready.trace) }
     ensures good { IfOk result (λ ready. GoodThroughout ready.trace) }
     ensures due { IfOk result (λ ready. FullsDue (row_of pairing).layout arena ready.trace) }
+    ensures named { IfOk result (λ ready. AllNamedBelow arena ready.trace) }
     ensures tells { IfOk result
         (λ ready. IfSome (S.left source.old) (λ bytes. Tells (row_of pairing).place bytes ready.trace ready.printed)) }
     ensures end { OnOk result (IfSome (S.left source.old) (λ _. S.left source.new ≡ Some [])) }
+    ensures line { IfErr result (λ stop. ReadToEnd stop (S.left source.old) (S.left source.new)) }
     ensures cause { IfErr result
         (λ stop. IsCause stop text.Script (S.left source.old) (Rose (S.faults source.old) (S.faults source.new))) }
 {
@@ -152,6 +156,7 @@ fn serve_script<R: Threads + Wait + Sync, S: Source, K: Sink, G: Gate + Sync>(
     ensures lawful { IfSome result.run Lawful }
     ensures good { IfSome result.run GoodThroughout }
     ensures due { IfSome result.run (FullsDue (row_of pairing).layout arena) }
+    ensures named { IfSome result.run (AllNamedBelow arena) }
     ensures ran { IsSome result.run ↔ ((result.status ≡ DONE) ⊎ (result.status ≡ OUTPUT_FAILED)) }
     ensures status { (result.status ≢ NO_COMMAND) × (result.status ≤ NO_MEMORY) }
     ensures line { result.status ≢ REFUSED → result.line ≡ 0 }
@@ -161,7 +166,8 @@ fn serve_script<R: Threads + Wait + Sync, S: Source, K: Sink, G: Gate + Sync>(
     ensures cut { result.status ≡ OUTPUT_FAILED →
         PrintsRun (row_of pairing).place (S.left source.old) result.run
         (GrewByFront (K.taken out.old) (K.taken out.new)) }
-    ensures end { IsSome result.run → IfSome (S.left source.old) (λ _. S.left source.new ≡ Some []) }
+    ensures end { IsReadWith result.status result.line →
+        IfSome (S.left source.old) (λ _. S.left source.new ≡ Some []) }
     ensures untouched { result.status ≢ DONE → result.status ≢ OUTPUT_FAILED → K.taken out.new ≡ K.taken out.old }
     ensures refused { result.status ≡ REFUSED →
         IfSome (S.left source.old) (λ bytes. RefusedAt text.Script bytes result.line) }
@@ -206,6 +212,8 @@ fn check_run<S: Source, K: Sink>(alloc: Global, source: &mut S, out: &mut K) -> 
     ensures line { result.status ≢ REFUSED → result.line ≡ 0 }
     ensures number { result.status ≢ WRONG → result.number ≡ 0 }
     ensures checked { IsCheck (S.left source.old) (K.taken out.old) (K.taken out.new) result.status result.number }
+    ensures end { IsReadWith result.status result.line →
+        IfSome (S.left source.old) (λ _. S.left source.new ≡ Some []) }
     ensures untouched { result.status ≢ DONE → result.status ≢ OUTPUT_FAILED → result.status ≢ WRONG →
         K.taken out.new ≡ K.taken out.old }
     ensures refused { result.status ≡ REFUSED →
@@ -248,6 +256,7 @@ pub fn make<R: Threads + Wait + Sync, G: Gate + Sync>(
     ensures lawful { IfOk result (λ made. Lawful made.trace) }
     ensures good { IfOk result (λ made. GoodThroughout made.trace) }
     ensures due { IfOk result (λ made. FullsDue (row_of pairing).layout arena made.trace) }
+    ensures named { IfOk result (λ made. AllNamedBelow arena made.trace) }
     ensures sums { IfOk result (λ made. SumsUp (row_of pairing).place draft made.trace made.text.items) }
 {
     let script = made_script(alloc, draft.callers, draft.calls, draft.first)?;
@@ -282,6 +291,7 @@ fn make_run<R: Threads + Wait + Sync, K: Sink, G: Gate + Sync>(
     ensures lawful { IfSome result.run Lawful }
     ensures good { IfSome result.run GoodThroughout }
     ensures due { IfSome result.run (FullsDue (row_of pairing).layout arena) }
+    ensures named { IfSome result.run (AllNamedBelow arena) }
     ensures ran { IsSome result.run ↔ ((result.status ≡ DONE) ⊎ (result.status ≡ OUTPUT_FAILED)) }
     ensures status { (result.status ≡ DONE) ⊎ ((result.status ≡ OUTPUT_FAILED) ⊎ (result.status ≡ NO_MEMORY)) }
     ensures line { result.line ≡ 0 }
@@ -326,58 +336,46 @@ pub fn serve<R: Threads + Wait + Sync, S: Source, K: Sink, E: Sink, G: Gate + Sy
     err: &mut E,
     gate: &G,
 ) -> Outcome
-    // What happened in a run is lawful, the keysets of the live nodes are disjoint and cover all places, always, and each
-    // Full was due.
+    // What happened in a run is lawful, the keysets of the live nodes are disjoint and cover all places, always, each Full
+    // was due over as many nodes as the words ask for, and no other node was ever named.
     ensures lawful { IfSome result.run Lawful }
     ensures good { IfSome result.run GoodThroughout }
-    ensures due { (pairing : Pairing) (nodes : ℕ) → AskToServe (bytes_of words.now) pairing nodes →
-        IfSome result.run (FullsDue (row_of pairing).layout nodes) }
-    ensures ran { Asks (bytes_of words.now) text.Script →
-        (IsSome result.run ↔ ((result.status ≡ DONE) ⊎ (result.status ≡ OUTPUT_FAILED))) }
+    ensures due { DueOver (bytes_of words.now) result.run }
+    ensures named { NamedOver (bytes_of words.now) result.run }
+    ensures ran { RanWith (bytes_of words.now) result.status result.run }
     ensures not_ran { Asks (bytes_of words.now) text.Checked → IsNone result.run }
+    ensures none { result.status ≡ NO_COMMAND → IsNone result.run }
 
     // What is written is the text of a run that this served, or, where the output failed, first bytes of it.
-    ensures done { (pairing : Pairing) (nodes : ℕ) →
-        AsksToRun (bytes_of words.now) pairing nodes → result.status ≡ DONE →
-        PrintsRun (row_of pairing).place (S.left source.old) result.run (Grew (K.taken out.old) (K.taken out.new)) }
-    ensures cut { (pairing : Pairing) (nodes : ℕ) →
-        AsksToRun (bytes_of words.now) pairing nodes → result.status ≡ OUTPUT_FAILED →
-        PrintsRun (row_of pairing).place (S.left source.old) result.run
+    ensures done { PrintedAt (bytes_of words.now) DONE result.status (S.left source.old) result.run
+        (Grew (K.taken out.old) (K.taken out.new)) }
+    ensures cut { PrintedAt (bytes_of words.now) OUTPUT_FAILED result.status (S.left source.old) result.run
         (GrewByFront (K.taken out.old) (K.taken out.new)) }
-    ensures end { Asks (bytes_of words.now) text.Script → IsSome result.run →
-        IfSome (S.left source.old) (λ _. S.left source.new ≡ Some []) }
 
-    // Or it is the line of the judgment of the run that was read.
+    // Or it is the line of the judgment of the run that was read, or the summary of a run of a script that was made.
     ensures checked { Asks (bytes_of words.now) text.Checked →
         IsCheck (S.left source.old) (K.taken out.old) (K.taken out.new) result.status result.number }
-    ensures untouched { result.status ≢ DONE → result.status ≢ OUTPUT_FAILED → result.status ≢ WRONG →
-        K.taken out.new ≡ K.taken out.old }
+    ensures made { IsMake (bytes_of words.now) →
+        MakesOutcome (bytes_of words.now) (K.taken out.old) (K.taken out.new) result.status result.run }
+    ensures untouched { UntouchedWith result.status (K.taken out.old) (K.taken out.new) }
+
+    // What is read: the whole text, unless it is too long, the source fails or memory is wanting; and nothing without one.
+    ensures end { ReadWith (bytes_of words.now) result.status result.line (S.left source.old) (S.left source.new) }
+    ensures unread { UnreadWith (bytes_of words.now) result.status (S.left source.old) (S.left source.new) }
 
     // When each status comes. There is no other.
     ensures status { result.status ≤ WRONG }
     ensures usage { (result.status ≡ NO_COMMAND) ↔ ¬ IsCommand (bytes_of words.now) }
-    ensures made { IsMake (bytes_of words.now) →
-        MakesOutcome (bytes_of words.now) (K.taken out.old) (K.taken out.new) result.status result.run }
-    ensures unread { (result.status ≡ NO_COMMAND) ⊎ IsMake (bytes_of words.now) →
-        S.left source.new ≡ S.left source.old }
-    ensures refused { (t : Text) → Asks (bytes_of words.now) t → result.status ≡ REFUSED →
-        IfSome (S.left source.old) (λ bytes. RefusedAt t bytes result.line) }
-    ensures refusal_due { (t : Text) → Asks (bytes_of words.now) t →
-        ¬ Rose (S.faults source.old) (S.faults source.new) →
-        IfSome (S.left source.old) (λ bytes. (n : ℕ) → RefusedAt t bytes n →
-        ((result.status ≡ REFUSED) × (result.line ≡ n)) ⊎ (result.status ≡ NO_MEMORY)) }
+    ensures refused { RefusedWith (bytes_of words.now) result.status result.line (S.left source.old) }
+    ensures refusal_due { RefusalDue (bytes_of words.now) result.status result.line (S.left source.old)
+        (Rose (S.faults source.old) (S.faults source.new)) }
     ensures source { result.status ≡ SOURCE_FAILED → Rose (S.faults source.old) (S.faults source.new) }
     ensures output { result.status ≡ OUTPUT_FAILED → Rose (K.faults out.old) (K.faults out.new) }
     ensures judgment { result.status ≡ WRONG → Asks (bytes_of words.now) text.Checked }
-    ensures done_due { Asks (bytes_of words.now) text.Script →
-        ¬ Rose (S.faults source.old) (S.faults source.new) → ¬ Rose (K.faults out.old) (K.faults out.new) →
-        IfSome (S.left source.old) (λ bytes. (script : List (List Op)) → Accepts bytes script →
-        (result.status ≡ DONE) ⊎ (result.status ≡ NO_MEMORY)) }
-    ensures judged_due { Asks (bytes_of words.now) text.Checked →
-        ¬ Rose (S.faults source.old) (S.faults source.new) → ¬ Rose (K.faults out.old) (K.faults out.new) →
-        IfSome (S.left source.old) (λ bytes. (script : List (List Op)) (run : printed_run.Run) →
-        AcceptsChecked bytes script run →
-        (result.status ≡ DONE) ⊎ ((result.status ≡ WRONG) ⊎ (result.status ≡ NO_MEMORY))) }
+    ensures done_due { DoneDue (bytes_of words.now) result.status (S.left source.old)
+        (Rose (S.faults source.old) (S.faults source.new)) (Rose (K.faults out.old) (K.faults out.new)) }
+    ensures judged_due { JudgedDue (bytes_of words.now) result.status (S.left source.old)
+        (Rose (S.faults source.old) (S.faults source.new)) (Rose (K.faults out.old) (K.faults out.new)) }
     ensures line { result.status ≢ REFUSED → result.line ≡ 0 }
     ensures number { result.status ≢ WRONG → result.number ≡ 0 }
 

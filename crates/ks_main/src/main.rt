@@ -2,28 +2,53 @@
 //! status.
 #![tactic(auto)]
 
-ghost use Rattle.std.specs.Prelude.{◌≡◌, ◌≤◌, ◌↔◌};
+ghost use Rattle.std.specs.Prelude.{◌≡◌, drop, IfOk, IsErr, IsErrOf};
 ghost use Rattle.std.specs.Process.{exit_status};
-ghost use Rattle.ks_batch.specs.Words.{Asks, IsCommand, bytes_of};
-ghost use Rattle.ks_batch.specs.declared.words.Text.TheVariants.{Checked};
+ghost use Rattle.std_alloc.specs.Vec.Iter.{into_iter_items};
+ghost use Rattle.ks_script.specs.Outside.{Rose};
+ghost use Rattle.ks_batch.specs.Words.{bytes_of};
+ghost use Rattle.ks_batch.specs.Parts.{Leaves};
 
 mod streams;
 
-use ks_batch::status::{NO_COMMAND, NO_MEMORY, WRONG};
+use ks_batch::status::{NO_COMMAND, NO_MEMORY};
 use ks_batch::{Outcome, serve};
 use ks_gate::NoGate;
 use ks_script::{Sink, Source};
-use std::alloc::Global;
+use std::alloc::{AllocError, Global};
 use std::process::ExitCode;
 use std::sync::Wait;
 use std::thread::Threads;
 use std::{env, io};
 use streams::{StdSink, StdSource};
 
+/// Why there are no words.
+#[derive(Clone, Copy, Debug, PartialEq, Eq)]
+enum NoWords {
+    /// One of them is no text.
+    NoText,
+    /// Memory was wanting.
+    Memory,
+}
+
 /// The words after the program's name.
-fn words(rt: &HostRuntime) -> io::Result<Vec<String>> {
-    let words = env::args(rt)?.skip(1).collect(rt.alloc())?;
-    Ok(words)
+fn after_name(alloc: Global, args: env::Args) -> Result<Vec<String>, AllocError>
+    ensures { IfOk result (λ words. words.items ≡ drop 1 (into_iter_items args)) }
+{
+    args.skip(1).collect(alloc)
+}
+
+/// The words after the program's name. What the system gives for words no clause can say.
+fn words(rt: &HostRuntime) -> Result<Vec<String>, NoWords> {
+    let args = match env::args(rt) {
+        Ok(args) => args,
+        Err(error) if error.kind() == io::ErrorKind::OutOfMemory => return Err(NoWords::Memory),
+        Err(_) => return Err(NoWords::NoText),
+    };
+    match after_name(rt.alloc(), args) {
+        Ok(words) => Ok(words),
+        Err(_) => Err(NoWords::Memory),
+    }
 }
 
 /// What the process ends with: the status of the outcome.
@@ -33,8 +58,7 @@ fn exit_code(outcome: &Outcome) -> ExitCode
     ExitCode::from(outcome.status)
 }
 
-/// Serves the words, and answers what the process ends with. The other clauses of `serve` speak of what was read and
-/// written, of which no clause can tell where the ends are the streams of a process.
+/// Serves the words, and returns what the process ends with.
 fn run<R: Threads + Wait + Sync, S: Source, K: Sink, E: Sink>(
     rt: &R,
     alloc: Global,
@@ -43,25 +67,43 @@ fn run<R: Threads + Wait + Sync, S: Source, K: Sink, E: Sink>(
     out: &mut K,
     err: &mut E,
 ) -> ExitCode
-    ensures usage { (exit_status result ≡ NO_COMMAND) ↔ ¬ IsCommand (bytes_of words.now) }
-    ensures judgment { exit_status result ≡ WRONG → Asks (bytes_of words.now) Checked }
-    ensures status { exit_status result ≤ WRONG }
+    ensures leaves { Leaves (bytes_of words.now)
+        (S.left source.old) (S.left source.new) (Rose (S.faults source.old) (S.faults source.new))
+        (K.taken out.old) (K.taken out.new) (Rose (K.faults out.old) (K.faults out.new))
+        (E.taken err.old) (E.taken err.new) (Rose (E.faults err.old) (E.faults err.new)) (exit_status result) }
 {
     let outcome = serve(rt, alloc, words, source, out, err, &NoGate);
     exit_code(&outcome)
 }
 
+/// Serves the words if they are text; if they are not, they are no command.
+fn answer<R: Threads + Wait + Sync, S: Source, K: Sink, E: Sink>(
+    rt: &R,
+    alloc: Global,
+    words: Result<Vec<String>, NoWords>,
+    source: &mut S,
+    out: &mut K,
+    err: &mut E,
+) -> ExitCode
+    ensures text { IfOk words (λ text. Leaves (bytes_of text.items)
+        (S.left source.old) (S.left source.new) (Rose (S.faults source.old) (S.faults source.new))
+        (K.taken out.old) (K.taken out.new) (Rose (K.faults out.old) (K.faults out.new))
+        (E.taken err.old) (E.taken err.new) (Rose (E.faults err.old) (E.faults err.new)) (exit_status result)) }
+    ensures no_text { IsErrOf words NoWords.NoText → exit_status result ≡ NO_COMMAND }
+    ensures no_memory { IsErrOf words NoWords.Memory → exit_status result ≡ NO_MEMORY }
+    ensures unread { IsErr words → S.left source.new ≡ S.left source.old }
+    ensures unwritten { IsErr words → K.taken out.new ≡ K.taken out.old }
+{
+    match words {
+        Ok(words) => run(rt, alloc, &words, source, out, err),
+        Err(NoWords::NoText) => run(rt, alloc, &[], source, out, err),
+        Err(NoWords::Memory) => ExitCode::from(NO_MEMORY),
+    }
+}
+
 fn main(rt: HostRuntime) -> ExitCode {
-    let words = match words(&rt) {
-        Ok(words) => words,
-        Err(error) if error.kind() == io::ErrorKind::OutOfMemory => {
-            return ExitCode::from(NO_MEMORY);
-        }
-        // Words that are no text are no command.
-        Err(_) => Vec::new(rt.alloc()),
-    };
     let mut source = StdSource::new(rt.stdin());
     let mut out = StdSink::new(rt.stdout());
     let mut err = StdSink::new(rt.stderr());
-    run(&rt, rt.alloc(), &words, &mut source, &mut out, &mut err)
+    answer(&rt, rt.alloc(), words(&rt), &mut source, &mut out, &mut err)
 }

@@ -1,6 +1,9 @@
 use Rattle.ks_batch.specs.declared.words.Text.TheVariants.{Checked}
-use Rattle.ks_batch.proofs.Loading.{load_cause}
+use Rattle.ks_batch.proofs.Loading.{load_cause, read_to_end}
 use Rattle.ks_batch.proofs.input.load_checked.Goals as goal
 
 pub returns-clause-cause : goal.returns-clause-cause
 returns-clause-cause g c = load_cause Checked (g.S.Source.left c.args.source.now) _ c.in_ok-bytes.bytes.items c.checked.result c.in_ok-bytes.ensures.ok c.in_ok-bytes.ensures.within (rw c.deref.ensures.value at c.checked.ensures.refused)
+
+pub returns-clause-line : goal.returns-clause-line
+returns-clause-line g c = read_to_end c.checked.result (g.S.Source.left c.args.source.now) _ c.in_ok-bytes.ensures.end

@@ -1,5 +1,15 @@
-use Rattle.ks_batch.proofs.Made.{few_callers}
+use Rattle.std.proofs.Common.{sym, subst}
+use Rattle.ks_history.specs.Passes.{CallersBelow}
+use Rattle.ks_batch.proofs.Made.{many_callers, few_callers}
 use Rattle.ks_batch.proofs.serving.make.Goals as goal
 
 pub serve_packed-requires-clause-callers : goal.serve_packed-requires-clause-callers
-serve_packed-requires-clause-callers g c = few_callers c.in_ok-script.script c.args.draft c.requires.callers c.in_ok-script.ensures
+serve_packed-requires-clause-callers g c κs within = few_callers c.in_ok-script.script c.args.draft c.requires.callers c.in_ok-script.ensures
+
+pub returns-clause-sums : goal.returns-clause-sums
+returns-clause-sums g c = let script = c.in_ok-script.script in record {
+  run = c.in_ok-ready.ready.printed;
+  served = rw (sym c.in_ok-script.ensures) c.in_ok-ready.ensures.served;
+  callers = subst (λ n. CallersBelow n c.in_ok-ready.ready.trace) (many_callers script c.args.draft c.in_ok-script.ensures) c.in_ok-ready.ensures.callers;
+  took = rw (sym c.in_ok-script.ensures) (c.in_ok-text.ensures script c.of-size.ensures);
+}

@@ -1,6 +1,7 @@
 use Rattle.std.proofs.Common.{ℕ, ◌≡◌, ◌⊎◌, map, string_bytes, arith}
 use Rattle.std.specs.Prelude.{IfSome}
 use Rattle.ks_history.specs.Due.{FullsDue}
+use Rattle.ks_arena.specs.Named.{AllNamedBelow}
 use Rattle.ks_script.specs.Outside.{Rose, Grew, GrewByFront}
 use Rattle.ks_batch.specs.Pairings.{row_of}
 use Rattle.ks_batch.specs.Serve.{RefusedAt, Prints}
@@ -41,6 +42,19 @@ returns-clause-due g c p n asks =
       | in-None w ↦ absurd (w.in-None.ensures.none (serve_command (map string_bytes c.args.words.now) p n asks))
     ]
 
+pub returns-clause-named : goal.returns-clause-named
+returns-clause-named g c p n asks =
+    elim c.match-command.branch [
+      | in-Some-Run w ↦
+          let r = w.serve_script-outcome.result in
+          rw w.outcome-is (served_run (λ q m. IfSome r.run (λ run. AllNamedBelow m run)) (map string_bytes c.args.words.now) _ p _ n (_, rw w.in-Some-Run.field-0-is at w.in-Some-Run.ensures.some) asks w.serve_script-outcome.ensures.named)
+      | in-Some-Make w ↦
+          let r = w.make_run-outcome.result in
+          rw w.outcome-is (served_make (λ q m. IfSome r.run (λ run. AllNamedBelow m run)) (map string_bytes c.args.words.now) _ p _ n _ (rw w.in-Some-Make.field-0-is at w.in-Some-Make.ensures.some) asks w.make_run-outcome.ensures.named)
+      | in-Some-Check w ↦ absurd (check_serves_none (map string_bytes c.args.words.now) p n (rw w.in-Some-Check.field-0-is at w.in-Some-Check.ensures.some) asks)
+      | in-None w ↦ absurd (w.in-None.ensures.none (serve_command (map string_bytes c.args.words.now) p n asks))
+    ]
+
 pub returns-clause-done : goal.returns-clause-done
 returns-clause-done g c p n spells =
     elim c.match-command.branch [
@@ -55,12 +69,12 @@ returns-clause-done g c p n spells =
     ]
 
 pub returns-clause-end : goal.returns-clause-end
-returns-clause-end g c asks =
+returns-clause-end g c t asks =
     elim c.match-command.branch [
       | in-Some-Run w ↦ rw (w.outcome-is, w.source-is) w.serve_script-outcome.ensures.end
-      | in-Some-Make w ↦ absurd (make_asks (map string_bytes c.args.words.now) _ _ _ Script (rw w.in-Some-Make.field-0-is at w.in-Some-Make.ensures.some) asks)
-      | in-Some-Check w ↦ absurd (not_both (map string_bytes c.args.words.now) asks (rw w.in-Some-Check.field-0-is at w.in-Some-Check.ensures.some))
-      | in-None w ↦ absurd (w.in-None.ensures.none (asks_command (map string_bytes c.args.words.now) Script asks))
+      | in-Some-Make w ↦ absurd (make_asks (map string_bytes c.args.words.now) _ _ _ t (rw w.in-Some-Make.field-0-is at w.in-Some-Make.ensures.some) asks)
+      | in-Some-Check w ↦ rw (w.outcome-is, w.source-is) w.check_run-outcome.ensures.end
+      | in-None w ↦ absurd (w.in-None.ensures.none (asks_command (map string_bytes c.args.words.now) t asks))
     ]
 
 pub returns-clause-cut : goal.returns-clause-cut

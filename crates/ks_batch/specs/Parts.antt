@@ -1,0 +1,100 @@
+-- What the program leaves, part by part: the contract of the call that serves and that of the program around it are made
+-- of these.
+use Rattle.std.specs.Prelude.{ℕ, ◌≡◌, ◌≢◌, ◌≤◌, ◌⊎◌, ◌↔◌, List, [], Option, Some, IfSome, IsSome, IsNone}
+use Rattle.ks_history.specs.declared.Op.{Op}
+use Rattle.ks_history.specs.declared.Event.{Event}
+use Rattle.ks_history.specs.Due.{FullsDue}
+use Rattle.ks_history.specs.Lawful.{Lawful, GoodThroughout}
+use Rattle.ks_arena.specs.Named.{AllNamedBelow}
+use Rattle.ks_script.specs.Run.{Run}
+use Rattle.ks_script.specs.Outside.{Grew, GrewByFront}
+use Rattle.ks_batch.specs.declared.words.Text.{Text}
+use Rattle.ks_batch.specs.declared.words.Text.TheVariants.{Script, Checked}
+use Rattle.ks_batch.specs.declared.pairings.Pairing.{Pairing}
+use Rattle.ks_batch.specs.Pairings.{row_of}
+use Rattle.ks_batch.specs.Words.{AsksToRun, AskToServe, IsCommand, IsMake, Asks}
+use Rattle.ks_batch.specs.Message.{status_text}
+use Rattle.ks_batch.specs.Serve.{RefusedAt, Accepts, AcceptsChecked, IsReadWith, PrintsRun, IsCheck}
+use Rattle.ks_batch.specs.Make.{MakesOutcome}
+use Rattle.ks_batch.specs.declared.status.TheConstants.{DONE, NO_COMMAND, REFUSED, SOURCE_FAILED, OUTPUT_FAILED, NO_MEMORY, WRONG}
+
+-- the output got nothing, unless all is done, the output failed or the run is wrong
+abbrev pub UntouchedWith : ℕ → Option (List ℕ) → Option (List ℕ) → Type 0
+UntouchedWith status old new = status ≢ DONE → status ≢ OUTPUT_FAILED → status ≢ WRONG → new ≡ old
+
+module _ (words : List (List ℕ)) where
+  -- each Full of the run was due over as many nodes as the words ask for
+  abbrev pub DueOver : Option (List Event) → Type 0
+  DueOver run = (pairing : Pairing) (nodes : ℕ) → AskToServe words pairing nodes → IfSome run (FullsDue (row_of pairing).layout nodes)
+
+  -- no other nodes than so many are named in the run
+  abbrev pub NamedOver : Option (List Event) → Type 0
+  NamedOver run = (pairing : Pairing) (nodes : ℕ) → AskToServe words pairing nodes → IfSome run (AllNamedBelow nodes)
+
+  -- where a script is to be served, there was a run if and only if all is done or the output failed
+  abbrev pub RanWith : ℕ → Option (List Event) → Type 0
+  RanWith status run = Asks words Script → (IsSome run ↔ ((status ≡ DONE) ⊎ (status ≡ OUTPUT_FAILED)))
+
+  -- where a script is to be served and the status is this one, of the text of the run that this served Took holds
+  abbrev pub PrintedAt : ℕ → ℕ → Option (List ℕ) → Option (List Event) → (List ℕ → Type 0) → Type 0
+  PrintedAt this status left run Took = (pairing : Pairing) (nodes : ℕ) → AsksToRun words pairing nodes → status ≡ this → PrintsRun (row_of pairing).place left run Took
+
+  -- where a text is to be read, it was read to its end, unless the source failed, memory was wanting or it is too long
+  abbrev pub ReadWith : ℕ → ℕ → Option (List ℕ) → Option (List ℕ) → Type 0
+  ReadWith status line left after = (text : Text) → Asks words text → IsReadWith status line → IfSome left (λ _. after ≡ Some [])
+
+  -- where the words are no command or ask for a made script, nothing was read
+  abbrev pub UnreadWith : ℕ → Option (List ℕ) → Option (List ℕ) → Type 0
+  UnreadWith status left after = (status ≡ NO_COMMAND) ⊎ IsMake words → after ≡ left
+
+  -- a text was refused only at its first bad line, or, at line 0, for its length
+  abbrev pub RefusedWith : ℕ → ℕ → Option (List ℕ) → Type 0
+  RefusedWith status line left = (text : Text) → Asks words text → status ≡ REFUSED → IfSome left (λ bytes. RefusedAt text bytes line)
+
+  -- where the source did not fail, a text that is to be refused was refused, or memory was wanting
+  abbrev pub RefusalDue : ℕ → ℕ → Option (List ℕ) → Type 0 → Type 0
+  RefusalDue status line left failed = (text : Text) → Asks words text → ¬ failed →
+      IfSome left (λ bytes. (n : ℕ) → RefusedAt text bytes n → ((status ≡ REFUSED) × (line ≡ n)) ⊎ (status ≡ NO_MEMORY))
+
+  -- where neither the source nor the output failed, a script was served, or memory was wanting
+  abbrev pub DoneDue : ℕ → Option (List ℕ) → Type 0 → Type 0 → Type 0
+  DoneDue status left failed out_failed = Asks words Script → ¬ failed → ¬ out_failed →
+      IfSome left (λ bytes. (script : List (List Op)) → Accepts bytes script → (status ≡ DONE) ⊎ (status ≡ NO_MEMORY))
+
+  -- and so a script and its run were judged
+  abbrev pub JudgedDue : ℕ → Option (List ℕ) → Type 0 → Type 0 → Type 0
+  JudgedDue status left failed out_failed = Asks words Checked → ¬ failed → ¬ out_failed →
+      IfSome left (λ bytes. (script : List (List Op)) (run : Run) → AcceptsChecked bytes script run →
+      (status ≡ DONE) ⊎ ((status ≡ WRONG) ⊎ (status ≡ NO_MEMORY)))
+
+  -- what the program leaves that ends with this status, of a source and two sinks: the bytes of each before and after, where
+  -- they are told, and whether it failed
+  pub record Leaves (left after : Option (List ℕ)) (failed : Type 0) (out out_after : Option (List ℕ)) (out_failed : Type 0) (err err_after : Option (List ℕ)) (err_failed : Type 0) (status : ℕ) : Type 0 where
+    pub line : ℕ
+    pub number : ℕ
+    pub run : Option (List Event)
+    pub lawful : IfSome run Lawful
+    pub good : IfSome run GoodThroughout
+    pub due : DueOver run
+    pub named : NamedOver run
+    pub ran : RanWith status run
+    pub not_ran : Asks words Checked → IsNone run
+    pub none : status ≡ NO_COMMAND → IsNone run
+    pub done : PrintedAt DONE status left run (λ t. Grew out out_after t)
+    pub cut : PrintedAt OUTPUT_FAILED status left run (λ t. GrewByFront out out_after t)
+    pub checked : Asks words Checked → IsCheck left out out_after status number
+    pub made : IsMake words → MakesOutcome words out out_after status run
+    pub untouched : UntouchedWith status out out_after
+    pub end : ReadWith status line left after
+    pub unread : UnreadWith status left after
+    pub known : status ≤ WRONG
+    pub usage : (status ≡ NO_COMMAND) ↔ ¬ IsCommand words
+    pub refused : RefusedWith status line left
+    pub refusal_due : RefusalDue status line left failed
+    pub source : status ≡ SOURCE_FAILED → failed
+    pub output : status ≡ OUTPUT_FAILED → out_failed
+    pub judgment : status ≡ WRONG → Asks words Checked
+    pub done_due : DoneDue status left failed out_failed
+    pub judged_due : JudgedDue status left failed out_failed
+    pub said : ¬ err_failed → Grew err err_after (status_text status line)
+    pub said_front : GrewByFront err err_after (status_text status line)
