@@ -1,5 +1,6 @@
 """What is measured: the pairings that the proved program admits, and maps that a user would pick instead of it."""
 
+import glob
 import os
 import shutil
 import subprocess
@@ -15,6 +16,23 @@ PEERS = os.path.join(TOP, "bench", "peers")
 BUILT = os.path.join(TOP, "bench", "out")
 SPAN = os.path.join(BUILT, "span.so")
 PLAIN_CHECK = os.path.join(BUILT, "plain_check")
+
+# Where Debian's packages put the sources of crates, and where cargo builds a peer over one of them.
+PACKAGED = "/usr/share/cargo/registry"
+CARGO = os.path.join(BUILT, "cargo")
+SOURCES = ["--config", 'source.crates-io.replace-with="packaged"', "--config", f'source.packaged.directory="{PACKAGED}"']
+MANIFEST = """[package]
+name = "{name}"
+version = "0.0.0"
+edition = "2021"
+
+[[bin]]
+name = "{name}"
+path = "{source}"
+
+[dependencies]
+{crate} = "*"
+"""
 
 LAYOUTS = ("list", "bplus", "hash")
 TEMPLATES = ("coupling", "giveup", "link")
@@ -59,7 +77,12 @@ ORDERED_MAPS = os.path.join(BUILT, "ordered_maps")
 MUTEX = Contender("Mutex<BTreeMap>", (ORDERED_MAPS, "mutex"))
 MUTEX_64 = Contender("Mutex<BTreeMap>, 64-bit values", (ORDERED_MAPS, "mutex64"))
 RWLOCK = Contender("RwLock<BTreeMap>", (ORDERED_MAPS, "rwlock"))
-HASH_MAP = Contender("TBB concurrent_hash_map, no numbers", (os.path.join(BUILT, "hash_map"),), is_numbered=False)
+PARKING_LOT_MAPS = os.path.join(CARGO, "release", "parking_lot_maps")
+PARKING_LOT_MUTEX = Contender("Mutex<BTreeMap> of parking_lot", (PARKING_LOT_MAPS, "mutex"))
+PARKING_LOT_RWLOCK = Contender("RwLock<BTreeMap> of parking_lot", (PARKING_LOT_MAPS, "rwlock"))
+DASH_MAP = Contender("DashMap, no numbers", (os.path.join(CARGO, "release", "dash_map"),), is_numbered=False)
+TBB_MAP = Contender("TBB concurrent_hash_map, no numbers", (os.path.join(BUILT, "tbb_map"),), is_numbered=False)
+CUCKOO_MAP = Contender("libcuckoo cuckoohash_map, no numbers", (os.path.join(BUILT, "cuckoo_map"),), is_numbered=False)
 PLAIN_TREES = tuple(Contender(f"plain bplus {template}, unproved", (os.path.join(BUILT, "plain_trees"), template), wants_nodes=True)
                     for template in TEMPLATES)
 SKIP_LIST = Contender("Java ConcurrentSkipListMap, no numbers", ("java", "-cp", BUILT, "SkipList"), is_numbered=False)
@@ -144,17 +167,45 @@ def models():
     return list(PLAIN_TREES) if is_built("the plain trees", rustc(PLAIN_TREES[0].words[0], "plain_trees.rs")) else []
 
 
+def is_packaged_built(what, name, crate):
+    """Whether cargo makes the peer over a crate whose sources a package of the system has, with a line where it does not."""
+    if not glob.glob(os.path.join(PACKAGED, f"{crate}-[0-9]*")):
+        print(f"skipped: {what}, for want of the sources of {crate} in {PACKAGED}")
+        return False
+    folder = os.path.join(BUILT, name)
+    os.makedirs(folder, exist_ok=True)
+    manifest = os.path.join(folder, "Cargo.toml")
+    with open(manifest, "w") as file:
+        file.write(MANIFEST.format(name=name, crate=crate, source=os.path.join(PEERS, f"{name}.rs")))
+    return is_built(what, ["cargo", "build", "--release", "--offline", "--quiet", *SOURCES,
+                           "--manifest-path", manifest, "--target-dir", CARGO])
+
+
 def maps():
-    """The maps of Rust, where this machine can build them, with a line where it cannot."""
+    """The maps of Rust, where this machine can build them, with a line for each that it cannot."""
     os.makedirs(BUILT, exist_ok=True)
-    return [MUTEX, MUTEX_64, RWLOCK] if is_built("the maps of Rust", rustc(ORDERED_MAPS, "ordered_maps.rs")) else []
+    built = []
+    if is_built("the maps of Rust", rustc(ORDERED_MAPS, "ordered_maps.rs")):
+        built += [MUTEX, MUTEX_64, RWLOCK]
+    if is_packaged_built("the maps behind locks of parking_lot", "parking_lot_maps", "parking_lot"):
+        built += [PARKING_LOT_MUTEX, PARKING_LOT_RWLOCK]
+    if is_packaged_built("DashMap", "dash_map", "dashmap"):
+        built.append(DASH_MAP)
+    return built
+
+
+def hash_map(program, source, *libraries):
+    """How a peer in C++ is built."""
+    return ["g++", "-O2", "-std=c++17", "-o", program, source, *libraries]
 
 
 def peers():
     """The peers that this machine can build, with a line for each that it cannot."""
     built = maps()
-    if is_built("the hash map of TBB", ["g++", "-O2", "-std=c++17", "-o", HASH_MAP.words[0], "hash_map.cpp", "-ltbb"]):
-        built.append(HASH_MAP)
+    if is_built("the hash map of TBB", hash_map(TBB_MAP.words[0], "tbb_map.cpp", "-ltbb")):
+        built.append(TBB_MAP)
+    if is_built("the hash map of libcuckoo", hash_map(CUCKOO_MAP.words[0], "cuckoo_map.cpp", "-pthread")):
+        built.append(CUCKOO_MAP)
     if is_built("the skip list of Java", ["javac", "-d", BUILT, "SkipList.java"]):
         built.append(SKIP_LIST)
     return built

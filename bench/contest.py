@@ -1,6 +1,7 @@
 """Contenders in turn over the same calls, round by round."""
 
 import os
+import signal
 import statistics
 import subprocess
 import sys
@@ -26,25 +27,40 @@ def on_one_line(text):
     return words if len(text) <= 200 else f"{words} .."
 
 
-def timed(command, text=os.devnull, **variables):
-    """The seconds that the command took over a text on its standard input, and what it printed; the variables are added to
-    its environment."""
+@dataclass(frozen=True)
+class Ran:
+    """The seconds that a command took, those of processors that it took, and what it printed."""
+
+    seconds: float
+    processor: float
+    printed: str
+
+
+def ran(command, text=os.devnull, **variables):
+    """Runs the command over a text on its standard input; the variables are added to its environment."""
     with open(text, "rb") as given, tempfile.TemporaryFile() as printed, tempfile.TemporaryFile() as said:
         start = time.perf_counter()
         begun = subprocess.Popen(command, stdin=given, stdout=printed, stderr=said, env={**os.environ, **variables})
-        limit = threading.Timer(SECONDS, begun.kill)
+        limit = threading.Timer(SECONDS, os.kill, [begun.pid, signal.SIGKILL])
         limit.start()
         # (told of no limit, it sleeps until the command has ended; else it would look every half a millisecond and more)
-        status = begun.wait()
+        _pid, status, used = os.wait4(begun.pid, 0)
         passed = time.perf_counter() - start
         limit.cancel()
+        begun.returncode = os.waitstatus_to_exitcode(status)
         if passed >= SECONDS:
             raise Failed(f"did not end in {SECONDS} seconds")
         printed.seek(0)
         said.seek(0)
-        if status != 0:
-            raise Failed(f"ended with {status}: {said.read().decode(errors='replace').strip()}")
-        return passed, printed.read().decode()
+        if begun.returncode != 0:
+            raise Failed(f"ended with {begun.returncode}: {said.read().decode(errors='replace').strip()}")
+        return Ran(passed, used.ru_utime + used.ru_stime, printed.read().decode())
+
+
+def timed(command, text=os.devnull, **variables):
+    """The seconds that the command took over a text on its standard input, and what it printed."""
+    it = ran(command, text, **variables)
+    return it.seconds, it.printed
 
 
 class Subtracted:

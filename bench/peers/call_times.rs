@@ -1,7 +1,7 @@
 //! The time of each call, taken and printed as `crates/ks_call_times` does: each caller has a thread, and all wait for one
 //! another before their first calls.
 
-use super::{Numbered, Op};
+use super::{Op, Served};
 use std::sync::Barrier;
 use std::time::{Duration, Instant};
 
@@ -10,7 +10,7 @@ fn nanoseconds(span: Duration) -> u64 {
 }
 
 /// Makes a caller's calls: the nanoseconds of each, and how many found a value.
-fn call_each<M: Numbered>(map: &M, caller: usize, calls: &[Op<M::Value>], start: &Barrier) -> (Vec<u64>, u64) {
+fn call_each<M: Served>(map: &M, caller: usize, calls: &[Op<M::Value>], start: &Barrier) -> (Vec<u64>, u64) {
     let mut times = Vec::with_capacity(calls.len());
     let mut found = 0;
     start.wait();
@@ -35,7 +35,7 @@ fn print_sums(mut times: Vec<u64>, span: u64) {
 
 /// Makes the calls of the script over the map, and prints how many there were, how many found a value, how many pairs are
 /// left, and what the times come to.
-pub fn print<M: Numbered>(map: M, script: &[Vec<Op<M::Value>>]) {
+pub fn print<M: Served>(map: M, script: &[Vec<Op<M::Value>>]) {
     let start = Barrier::new(script.len());
     let begun = Instant::now();
     let told: Vec<(Vec<u64>, u64)> = std::thread::scope(|scope| {

@@ -8,7 +8,7 @@
 
 mod serving;
 
-use serving::{Answer, Numbered, Op, Value};
+use serving::{Answer, Op, Served, Value};
 use std::collections::BTreeMap;
 use std::sync::atomic::{AtomicU64, Ordering};
 use std::sync::{Mutex, RwLock};
@@ -19,7 +19,7 @@ struct Locked<V> {
     calls: u64,
 }
 
-impl<V: Value> Numbered for Mutex<Locked<V>> {
+impl<V: Value> Served for Mutex<Locked<V>> {
     type Value = V;
 
     fn call(&self, _caller: usize, op: Op<V>) -> Answer<V> {
@@ -52,7 +52,7 @@ impl<V> Shared<V> {
     }
 }
 
-impl<V: Value> Numbered for Shared<V> {
+impl<V: Value> Served for Shared<V> {
     type Value = V;
 
     fn call(&self, _caller: usize, op: Op<V>) -> Answer<V> {

@@ -7,7 +7,7 @@
 
 mod serving;
 
-use serving::Numbered;
+use serving::Served;
 use std::cell::UnsafeCell;
 use std::collections::BTreeMap;
 use std::hint::spin_loop;
@@ -362,7 +362,7 @@ impl Tree {
     }
 }
 
-impl Numbered for Tree {
+impl Served for Tree {
     type Value = u128;
 
     fn call(&self, caller: usize, op: Op) -> Answer {

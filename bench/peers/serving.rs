@@ -1,6 +1,6 @@
 //! What the peers written in Rust share: the generated calls, or those of a script on standard input, served by workers that
-//! draw callers, and what is printed of it. A call draws its number where it is decided, so that all calls stand in one order,
-//! as the program's do.
+//! draw callers, and what is printed of it. A map that numbers its calls draws the number where a call is decided, so that all
+//! calls stand in one order, as the program's do.
 
 #[path = "call_times.rs"]
 mod call_times;
@@ -37,13 +37,13 @@ pub enum Op<V> {
 }
 
 pub struct Answer<V> {
-    /// The call's number in the one order of all calls. The summary has no use for it.
+    /// The call's number in the one order of all calls, or 0 where the map has none. The summary has no use for it.
     pub number: u64,
     pub found: Option<V>,
 }
 
-/// A map that numbers its calls.
-pub trait Numbered: Sync {
+/// A map that many callers use at once.
+pub trait Served: Sync {
     type Value: Value;
     fn call(&self, caller: usize, op: Op<Self::Value>) -> Answer<Self::Value>;
     fn into_pairs(self) -> BTreeMap<u64, Self::Value>;
@@ -102,7 +102,7 @@ fn read_script<V: Value>() -> Vec<Vec<Op<V>>> {
 }
 
 /// The answers to each caller's calls, by so many workers that draw callers.
-fn serve<M: Numbered>(map: &M, script: &[Vec<Op<M::Value>>], workers: usize) -> Vec<Vec<Answer<M::Value>>> {
+fn serve<M: Served>(map: &M, script: &[Vec<Op<M::Value>>], workers: usize) -> Vec<Vec<Answer<M::Value>>> {
     let next = AtomicUsize::new(0);
     let draw = || Some(next.fetch_add(1, Ordering::Relaxed)).filter(|caller| *caller < script.len());
     let work = || {
@@ -122,7 +122,7 @@ fn serve<M: Numbered>(map: &M, script: &[Vec<Op<M::Value>>], workers: usize) -> 
 }
 
 /// Prints what the program prints of a run.
-fn print_run<M: Numbered>(map: M, script: &[Vec<Op<M::Value>>], workers: usize) {
+fn print_run<M: Served>(map: M, script: &[Vec<Op<M::Value>>], workers: usize) {
     let answers = serve(&map, script, workers);
     let mut text = String::new();
     for (caller, answers) in answers.iter().enumerate() {
@@ -141,7 +141,7 @@ fn print_run<M: Numbered>(map: M, script: &[Vec<Op<M::Value>>], workers: usize) 
     print!("{text}end\n");
 }
 
-fn print_summary<M: Numbered>(map: M, script: &[Vec<Op<M::Value>>]) {
+fn print_summary<M: Served>(map: M, script: &[Vec<Op<M::Value>>]) {
     let answers = serve(&map, script, script.len());
     let calls: usize = answers.iter().map(Vec::len).sum();
     let found = answers.iter().flatten().filter(|answer| answer.found.is_some()).count();
@@ -153,7 +153,7 @@ fn print_summary<M: Numbered>(map: M, script: &[Vec<Op<M::Value>>]) {
 
 /// Serves what the words ask for, CALLERS CALLS FIRST, `times` before them, or `script WORKERS`, over the map: false, where
 /// they ask for nothing of these.
-pub fn run<M: Numbered>(map: M, words: &[&str]) -> bool {
+pub fn run<M: Served>(map: M, words: &[&str]) -> bool {
     match *words {
         ["script", workers] => print_run(map, &read_script(), number(workers)),
         [callers, calls, first] => print_summary(map, &made_script(number(callers), number(calls), number(first))),

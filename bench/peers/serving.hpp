@@ -1,12 +1,10 @@
-// The generated calls, or those of a script on standard input, over the concurrent_hash_map of oneTBB.
+// What the peers written in C++ share: the generated calls, or those of a script on standard input, served by workers that
+// draw callers, and what is printed of it. For generated calls each caller has a worker. The maps give no order of all calls,
+// so calls have no numbers, and a run has 0 in their place.
 //
-// usage: hash_map CALLERS CALLS FIRST
-//        hash_map script WORKERS
-//
-// Workers draw callers; for generated calls each caller has one. The map gives no order of all calls, so calls have no
-// numbers, and a run has 0 in their place.
+// A map has put, get and del, each of which answers the value that the key had, and pairs.
 
-#include <tbb/concurrent_hash_map.h>
+#pragma once
 
 #include <atomic>
 #include <cstdint>
@@ -17,8 +15,8 @@
 #include <thread>
 #include <vector>
 
-using Map = tbb::concurrent_hash_map<uint64_t, uint64_t>;
 using Answer = std::optional<uint64_t>;
+using Pairs = std::map<uint64_t, uint64_t>;
 using Answers = std::vector<std::vector<Answer>>;
 
 enum class Kind { put, get, del };
@@ -49,7 +47,7 @@ private:
     uint64_t state;
 };
 
-std::vector<std::vector<Call>> made_script(uint64_t callers, uint64_t calls, uint64_t first) {
+inline std::vector<std::vector<Call>> made_script(uint64_t callers, uint64_t calls, uint64_t first) {
     Generator generator(first);
     std::vector<std::vector<Call>> script(callers);
     for (uint64_t caller = 0; caller < callers; ++caller) {
@@ -59,39 +57,20 @@ std::vector<std::vector<Call>> made_script(uint64_t callers, uint64_t calls, uin
     return script;
 }
 
-Answer put(Map& map, uint64_t key, uint64_t value) {
-    Map::accessor place;
-    const bool is_new = map.insert(place, key);
-    const Answer before = is_new ? Answer() : Answer(place->second);
-    place->second = value;
-    return before;
-}
-
-Answer get(const Map& map, uint64_t key) {
-    Map::const_accessor place;
-    return map.find(place, key) ? Answer(place->second) : Answer();
-}
-
-Answer del(Map& map, uint64_t key) {
-    Map::accessor place;
-    if (!map.find(place, key)) return Answer();
-    const Answer before(place->second);
-    map.erase(place);
-    return before;
-}
-
+template <class Map>
 void serve(Map& map, const std::vector<Call>& calls, std::vector<Answer>& answers) {
     answers.reserve(calls.size());
     for (const Call& call : calls) {
         switch (call.kind) {
-            case Kind::put: answers.push_back(put(map, call.key, call.value)); break;
-            case Kind::get: answers.push_back(get(map, call.key)); break;
-            case Kind::del: answers.push_back(del(map, call.key)); break;
+            case Kind::put: answers.push_back(map.put(call.key, call.value)); break;
+            case Kind::get: answers.push_back(map.get(call.key)); break;
+            case Kind::del: answers.push_back(map.del(call.key)); break;
         }
     }
 }
 
 // The answers to each caller's calls, by so many workers that draw callers.
+template <class Map>
 Answers serve_all(Map& map, const std::vector<std::vector<Call>>& script, size_t workers) {
     Answers answers(script.size());
     std::atomic<size_t> next{0};
@@ -105,7 +84,7 @@ Answers serve_all(Map& map, const std::vector<std::vector<Call>>& script, size_t
     return answers;
 }
 
-std::vector<std::vector<Call>> read_script() {
+inline std::vector<std::vector<Call>> read_script() {
     std::ios::sync_with_stdio(false);
     std::vector<std::vector<Call>> script;
     std::string word;
@@ -122,6 +101,7 @@ std::vector<std::vector<Call>> read_script() {
     return script;
 }
 
+template <class Map>
 void print_run(const Map& map, const Answers& answers) {
     for (size_t caller = 0; caller < answers.size(); ++caller) {
         std::cout << "caller " << caller << '\n';
@@ -131,22 +111,26 @@ void print_run(const Map& map, const Answers& answers) {
         }
     }
     std::cout << "map\n";
-    for (const auto& [key, value] : std::map<uint64_t, uint64_t>(map.begin(), map.end())) std::cout << key << ' ' << value << '\n';
+    for (const auto& [key, value] : map.pairs()) std::cout << key << ' ' << value << '\n';
     std::cout << "end\n";
 }
 
+template <class Map>
 void print_summary(const Map& map, const Answers& answers) {
     uint64_t calls = 0, found = 0, sum = 0;
     for (const auto& of_caller : answers) {
         calls += of_caller.size();
         for (const Answer& answer : of_caller) found += answer.has_value();
     }
-    for (const auto& [key, value] : map) sum += key * value;
+    const Pairs pairs = map.pairs();
+    for (const auto& [key, value] : pairs) sum += key * value;
     std::cout << "callers " << answers.size() << "\ncalls " << calls << "\nfound " << found << "\nnone " << calls - found
-              << "\nfull 0\npairs " << map.size() << "\nsum " << sum << "\n";
+              << "\nfull 0\npairs " << pairs.size() << "\nsum " << sum << "\n";
 }
 
-int main(int count, char** words) {
+// Serves what the words ask for over the map, and returns the status of the program.
+template <class Map>
+int run(int count, char** words) {
     Map map;
     if (count == 3 && std::string(words[1]) == "script") {
         const auto script = read_script();
@@ -154,9 +138,10 @@ int main(int count, char** words) {
         return 0;
     }
     if (count != 4) {
-        std::cerr << "usage: hash_map CALLERS CALLS FIRST, or hash_map script WORKERS\n";
+        std::cerr << "usage: " << words[0] << " CALLERS CALLS FIRST, or " << words[0] << " script WORKERS\n";
         return 1;
     }
     const auto script = made_script(std::stoull(words[1]), std::stoull(words[2]), std::stoull(words[3]));
     print_summary(map, serve_all(map, script, script.size()));
+    return 0;
 }
