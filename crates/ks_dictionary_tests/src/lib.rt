@@ -10,6 +10,10 @@ mod meets;
 #[cfg(test)]
 mod notes;
 #[cfg(test)]
+mod order;
+#[cfg(test)]
+mod scenes;
+#[cfg(test)]
 mod tests;
 #[cfg(test)]
 mod tries;

@@ -1,137 +1,112 @@
-//! Calls that wait for nobody beside another caller, each on a thread of its own.
-ghost use Rattle.ks_dictionary.specs.Of.{IsIdlePassOf};
-
-use crate::crews::{LONG, put_each, told, two_callers};
-use ks_arena::Pass;
+//! Calls that wait for nobody beside other callers: each answer that puts them off.
+use crate::crews::put_told;
+use crate::scenes::{Answer, Call, Scene, goes_right};
 use ks_bplus::BNode;
 use ks_coupling::Coupling;
-use ks_dictionary::Dictionary;
-use ks_flow::Tree;
-use ks_gate::{Meet, NoGate, Point};
+use ks_gate::Point::{self, Begin, Decided, Given, Taken};
 use ks_giveup::GiveUp;
+use ks_link::LinkMove;
+use ks_linked::WithLink;
+use ks_list::ListNode;
 use ks_node::WithRange;
-use ks_shape::{Full, Later, Numbered};
-use std::sync::Wait;
+use ks_shape::{Later, PutLater};
+use std::alloc::{AllocError, Global};
 use std::test::Fail;
-use std::thread::{Threads, join};
 
-type Coupled = Dictionary<BNode, Coupling>;
-
-type Walker = Pass<BNode, Tree>;
-
-/// What a caller is told at key 0, and then at key 16.
-type Both = [Result<Numbered, Later>; 2];
-
-/// Tries to get key 0, and then key 16.
-fn try_both(dictionary: &Coupled, gate: &Meet, mut pass: Walker) -> (Walker, Both)
-    requires { IsIdlePassOf dictionary.now pass }
-    ensures { IsIdlePassOf dictionary.now result.0 }
-{
-    let low = dictionary.try_get(&mut pass, gate, 0);
-    let high = dictionary.try_get(&mut pass, gate, 16);
-    (pass, [low, high])
+/// The answer of a call that was put off.
+fn later(cause: Later) -> Answer {
+    Err(PutLater::Later(cause))
 }
 
-/// Caller 0 gets key 0 while caller 1 tries both keys.
-fn get_beside<R: Threads + Wait + Sync>(
-    rt: &R,
-    dictionary: &Coupled,
-    gate: &Meet,
-    mut one: Walker,
-    two: Walker,
-) -> (Numbered, (Walker, Both))
-    requires one { IsIdlePassOf dictionary.now one }
-    requires two { IsIdlePassOf dictionary.now two }
-    ensures { IsIdlePassOf dictionary.now result.1.0 }
-{
-    join(
-        rt,
-        move || -> Numbered
-            requires { IsIdlePassOf dictionary.now one }
-        { dictionary.get(rt, &mut one, gate, 0) },
-        move || -> (Walker, Both)
-            requires { IsIdlePassOf dictionary.now two }
-            ensures { IsIdlePassOf dictionary.entry.now result.0 }
-        { try_both(dictionary, gate, two) },
-    )
+/// Caller 0 stands at the point, where it holds node 1 and nothing else, until caller 1 has tried a key there and got one
+/// of node 2.
+fn busy(alloc: Global, at: Point) -> Result<Scene, AllocError> {
+    let held = vec![in alloc; (Call::Get(0), put_told(18, Some(0)))]?;
+    let tried = vec![in alloc;
+        (Call::TryGet(0), later(Later::Busy { node: 1, holder: 0 })),
+        (Call::TryGet(16), put_told(17, Some(16))),
+    ]?;
+    let points = vec![in alloc; (0, at), (1, Begin), (1, Decided(17)), (0, at)]?;
+    Ok(Scene::of(17, vec![in alloc; held, tried]?, points))
 }
 
-/// Caller 0 stands with the left leaf in hand, and the root given, until caller 1 has been told that the leaf is busy and
-/// has got a key of the other one.
 #[test]
 fn a_leaf_that_another_caller_holds_is_busy(rt: HostRuntime) -> Result<(), Fail> {
-    let (dictionary, mut one, two) = two_callers::<BNode, Coupling>(rt.alloc(), 64)?;
-    assert!(rt; put_each(&rt, &dictionary, &mut one, 0, 0, 17));
-    let gate = Meet::of(0, 0, Point::Given(0), 1, LONG);
-    let (got, beside) = get_beside(&rt, &dictionary, &gate, one, two);
-    let (mut two, tried) = beside;
-    assert!(rt; !gate.failed());
-    assert!(rt;
-        got == Numbered {
-            number: 18,
-            found: Some(0)
-        }
-    );
-    let busy = Err(Later::Busy { node: 1, holder: 0 });
-    assert!(rt; tried == [busy, told(17, Some(16))]);
-    assert!(rt; dictionary.try_get(&mut two, &NoGate, 0) == told(19, Some(0)));
+    let alloc = rt.alloc();
+    let scene = busy(alloc, Given(0))?;
+    assert!(rt; goes_right::<BNode, Coupling, HostRuntime>(&rt, alloc, 64, scene)?);
+    let scene = busy(alloc, Taken(1))?;
+    assert!(rt; goes_right::<WithRange<BNode>, GiveUp, HostRuntime>(&rt, alloc, 64, scene)?);
+    let scene = busy(alloc, Taken(1))?;
+    assert!(rt; goes_right::<WithLink<BNode>, LinkMove, HostRuntime>(&rt, alloc, 64, scene)?);
     Ok(())
 }
 
-type GivenUp = Dictionary<WithRange<BNode>, GiveUp>;
-
-type Walk = Pass<WithRange<BNode>, Tree>;
-
-/// Tries to get key 23.
-fn try_last(dictionary: &GivenUp, gate: &Meet, mut pass: Walk) -> (Walk, Result<Numbered, Later>)
-    requires { IsIdlePassOf dictionary.now pass }
-    ensures { IsIdlePassOf dictionary.now result.0 }
-{
-    let answer = dictionary.try_get(&mut pass, gate, 23);
-    (pass, answer)
+/// Caller 1 tries key 23, and has read in the root that it lies in node 2. It stands with the root given until caller 0 has
+/// split that node, and then finds the key as it was.
+fn moved(alloc: Global, tried: Call) -> Result<Scene, AllocError> {
+    let split = vec![in alloc;
+        (Call::Put(24), put_told(24, None)),
+        (Call::Get(0), put_told(25, Some(0))),
+    ]?;
+    let tried = vec![in alloc;
+        (tried, later(Later::Moved { node: 2 })),
+        (Call::TryGet(23), put_told(26, Some(23))),
+    ]?;
+    let points = vec![in alloc; (1, Given(0)), (0, Begin), (0, Decided(25)), (1, Given(0))]?;
+    Ok(Scene::of(24, vec![in alloc; split, tried]?, points))
 }
 
-/// Caller 0 puts key 24 while caller 1 tries key 23.
-fn put_beside<R: Threads + Wait + Sync>(
-    rt: &R,
-    dictionary: &GivenUp,
-    gate: &Meet,
-    mut one: Walk,
-    two: Walk,
-) -> (Result<Numbered, Full>, (Walk, Result<Numbered, Later>))
-    requires one { IsIdlePassOf dictionary.now one }
-    requires two { IsIdlePassOf dictionary.now two }
-    ensures { IsIdlePassOf dictionary.now result.1.0 }
-{
-    join(
-        rt,
-        move || -> Result<Numbered, Full>
-            requires { IsIdlePassOf dictionary.now one }
-        { dictionary.put(rt, &mut one, gate, 24, 24) },
-        move || -> (Walk, Result<Numbered, Later>)
-            requires { IsIdlePassOf dictionary.now two }
-            ensures { IsIdlePassOf dictionary.entry.now result.0 }
-        { try_last(dictionary, gate, two) },
-    )
-}
-
-/// Caller 1 has read in the root that key 23 lies in node 2, and stands with the root given until caller 0 has split node 2
-/// and decided in the new one.
 #[test]
 fn a_leaf_that_another_caller_splits_has_moved(rt: HostRuntime) -> Result<(), Fail> {
-    let (dictionary, mut one, two) = two_callers::<WithRange<BNode>, GiveUp>(rt.alloc(), 64)?;
-    assert!(rt; put_each(&rt, &dictionary, &mut one, 0, 0, 24));
-    let gate = Meet::of(1, 0, Point::Given(0), 0, LONG);
-    let (put, beside) = put_beside(&rt, &dictionary, &gate, one, two);
-    let (mut two, tried) = beside;
-    assert!(rt; !gate.failed());
-    assert!(rt;
-        put == Ok(Numbered {
-            number: 24,
-            found: None
-        })
-    );
-    assert!(rt; tried == Err(Later::Moved { node: 2 }));
-    assert!(rt; dictionary.try_get(&mut two, &NoGate, 23) == told(25, Some(23)));
+    let alloc = rt.alloc();
+    let scene = moved(alloc, Call::TryGet(23))?;
+    assert!(rt; goes_right::<WithRange<BNode>, GiveUp, HostRuntime>(&rt, alloc, 64, scene)?);
+    let scene = moved(alloc, Call::TryPut(23))?;
+    assert!(rt; goes_right::<WithRange<BNode>, GiveUp, HostRuntime>(&rt, alloc, 64, scene)?);
+    Ok(())
+}
+
+/// Over a list of five nodes caller 2 merges nodes 0 and 1, and caller 0 splits node 4, whose upper half becomes node 1,
+/// while caller 1 is on its way from node 2 to key 23.
+fn far(alloc: Global, points: Vec<(u32, Point)>) -> Result<Scene, AllocError> {
+    let split = vec![in alloc;
+        (Call::Put(24), put_told(26, None)),
+        (Call::Get(0), put_told(27, None)),
+    ]?;
+    let tried = vec![in alloc; (Call::TryGet(23), later(Later::Far))]?;
+    let merged = vec![in alloc;
+        (Call::Del(0), put_told(24, Some(0))),
+        (Call::Get(1), put_told(25, Some(1))),
+    ]?;
+    Ok(Scene::of(24, vec![in alloc; split, tried, merged]?, points))
+}
+
+/// By lock coupling nobody overtakes: caller 0 is ahead of caller 1, with nodes 3 and 4 in hand, and caller 2 behind it.
+#[test]
+fn a_way_of_as_many_nodes_as_there_are_is_far(rt: HostRuntime) -> Result<(), Fail> {
+    let alloc = rt.alloc();
+    let points = vec![in alloc;
+        (0, Given(2)),
+        (1, Begin),
+        (1, Given(1)),
+        (2, Begin),
+        (2, Decided(25)),
+        (0, Taken(4)),
+        (0, Decided(27)),
+        (1, Given(1)),
+    ]?;
+    let scene = far(alloc, points)?;
+    assert!(rt; goes_right::<ListNode, Coupling, HostRuntime>(&rt, alloc, 5, scene)?);
+    let points = vec![in alloc;
+        (1, Given(2)),
+        (2, Begin),
+        (2, Decided(25)),
+        (0, Begin),
+        (0, Decided(27)),
+        (1, Given(2)),
+    ]?;
+    let scene = far(alloc, points)?;
+    assert!(rt; goes_right::<WithRange<ListNode>, GiveUp, HostRuntime>(&rt, alloc, 5, scene)?);
     Ok(())
 }
