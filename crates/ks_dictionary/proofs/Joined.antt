@@ -119,6 +119,10 @@ called_nothing place = record {
   others = All-nil (CalledBelow 0);
 }
 
+-- where there is no event nobody has called
+pub nobody : (place : ℕ → ℕ) (h : List Event) → h ≡ [] → HaveCalled place [] [] h
+nobody place h is = subst (HaveCalled place [] []) (sym is) (called_nothing place)
+
 -- what was called, in a lawful history, with the map at its end
 pub served_by : (place : ℕ → ℕ) (scripts : List (List Op)) (lines : List (List (ℕ × Reply))) (entries : List (ℕ × ℕ)) (h : List Event) →
     HaveCalled place scripts lines h → Legal (calls_of h) → IsListing (λ k. map_after (calls_of h) (place k)) entries → Served place scripts lines entries h
@@ -132,15 +136,15 @@ module _ (a : Site) {N D : Type 0} where
     all = λ c lt. let at = elem_at ps c (omega (arith, new.long, lt)) in (c, at.0, at.1, (new.each c at.0 at.1).caller);
   }
 
-  -- where one new pass has seen all nobody has called
-  pub nobody : (place : ℕ → ℕ) (ps : List (Pass N D)) (h : List Event) → a.callers ≡ 1 → AreNew a ps → EndsAll h ps → CallersBelow a.callers h → HaveCalled place [] [] h
-  nobody place ps h one new seen below =
+  -- where one new pass has seen all there is no event
+  pub no_event : (ps : List (Pass N D)) (h : List Event) → a.callers ≡ 1 → AreNew a ps → EndsAll h ps → CallersBelow a.callers h → h ≡ []
+  no_event ps h one new seen below =
       let at = elem_at ps 0 (omega (arith, new.long, one)) in
       let q = new.each 0 at.0 at.1 in
       let s = seen 0 at.0 at.1 in
       let is : h ≡ s.rest = s.is ∙ ap (λ z. s.rest ++ z) q.seen ∙ append-nil s.rest in
       let none : NoneBy 0 h = subst (NoneBy 0) (sym is) (subst (λ k. NoneBy k s.rest) q.caller s.others) in
-      subst (HaveCalled place [] []) (sym (none_at_all h none (subst (λ k. CallersBelow k h) one below))) (called_nothing place)
+      none_at_all h none (subst (λ k. CallersBelow k h) one below)
 
 -- what jobs are about is the arena
 module _ (sort : Sort) (begins : Frame → Type 0) (step : (ℕ → NodeState) → (ℕ → Frame) → List Change → Type 0) (t : TableId) (c n : ℕ)

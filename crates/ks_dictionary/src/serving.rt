@@ -2,7 +2,9 @@
 ghost use Rattle.std.specs.Prelude.{◌≡◌, ◌<◌, ◌≤◌, ◌⊎◌, [], map, length, All, IfOk};
 ghost use Rattle.ks_history.specs.Due.{FullsDue};
 ghost use Rattle.ks_history.specs.Lawful.{Lawful, GoodThroughout};
+ghost use Rattle.ks_history.specs.Passes.{CallersBelow};
 ghost use Rattle.ks_history.specs.Served.{Served};
+ghost use Rattle.ks_arena.specs.Named.{AllNamedBelow};
 ghost use Rattle.ks_arena.specs.Sound.{sort_of};
 ghost use Rattle.ks_dictionary.specs.Called.{HaveCalled};
 ghost use Rattle.ks_dictionary.specs.Ended.{HasEndedWith, history};
@@ -122,6 +124,7 @@ where
         (nodes_of dictionary) r.0) }
     ensures called { IfOk result (λ r. HaveCalled N.Places.place_of (map (λ v. v.items) scripts.items)
         (map (λ v. v.items) r.1.items) (history r.0)) }
+    ensures callers { IfOk result (λ r. CallersBelow (length scripts.items) (history r.0)) }
 {
     let jobs = jobs_of::<N, T::Rule, W>(alloc, passes, scripts)?;
     let into = Vec::with_capacity(alloc, jobs.len())?;
@@ -140,6 +143,7 @@ fn serve_nobody<N: Node, T: Ruled + Template<N, Arena<N, <T as Ruled>::Rule>>>(
     requires { (4 ≤ nodes) × (nodes ≤ 1048576) }
     ensures ended { IfOk result (λ closed. HasEndedWith (sort_of N.layout N.ranged) N.body nodes closed) }
     ensures called { IfOk result (λ closed. HaveCalled N.Places.place_of [] [] (history closed)) }
+    ensures callers { IfOk result (λ closed. CallersBelow 0 (history closed)) }
 {
     let (dictionary, passes) = Dictionary::<N, T>::start(alloc, nodes, 1)?;
     Ok(dictionary.close(passes))
@@ -167,6 +171,7 @@ where
     ensures ended { IfOk result (λ r. HasEndedWith (sort_of N.layout N.ranged) N.body nodes r.0) }
     ensures called { IfOk result (λ r. HaveCalled N.Places.place_of (map (λ v. v.items) scripts.items)
         (map (λ v. v.items) r.1.items) (history r.0)) }
+    ensures callers { IfOk result (λ r. CallersBelow (length scripts.items) (history r.0)) }
 {
     if scripts.is_empty() {
         let closed = serve_nobody::<N, T>(alloc, nodes)?;
@@ -179,7 +184,8 @@ where
 
 /// Serves all callers over a dictionary that begins empty, each in its order: so many workers run beside each other, or
 /// one for each caller where there are fewer, and each draws a caller and serves it whole until none is left. What the
-/// callers did is one legal history of a map, the graph was good at each moment of it, and each Full was due.
+/// callers did is one legal history of a map, the graph was good at each moment of it, and each Full was due. Each event
+/// is of one of these callers, and names none but the nodes that were asked for.
 ///
 /// # Errors
 ///
@@ -207,6 +213,8 @@ where
     ensures lawful { IfOk result (λ told. Lawful (told.trace)) }
     ensures good { IfOk result (λ told. GoodThroughout (told.trace)) }
     ensures due { IfOk result (λ told. FullsDue N.layout nodes (told.trace)) }
+    ensures named { IfOk result (λ told. AllNamedBelow nodes (told.trace)) }
+    ensures callers { IfOk result (λ told. CallersBelow (length scripts.items) (told.trace)) }
 {
     let (ended, lines) = serve_all::<N, T, R, G>(rt, alloc, nodes, scripts, workers, gate)?;
     keyset_theorem();

@@ -1,6 +1,7 @@
 use Rattle.std.proofs.Common.{◌≡◌, ◌∙◌, List, map, length, All, sym, ap, subst, ⊎_elim, arith}
 use Rattle.std.proofs.lemmas.List.{length-map}
 use Rattle.ks_history.specs.declared.Op.{Op}
+use Rattle.ks_history.specs.Passes.{CallersBelow}
 use Rattle.ks_arena.specs.Sound.{sort_of}
 use Rattle.ks_shape.specs.Idle.{Site}
 use Rattle.ks_tickets.specs.Clauses.{EachAs, HaveEndedAt, IsFreeAt}
@@ -93,3 +94,6 @@ returns-clause-called g c =
     rw (ap (map (λ v. v.items)) c.in_ok-passes.ensures.lines ∙ map_both (λ v. v.items) (λ j. j.lines) js)
     (have_called (site g d) g.N.Places.Placing.place_of (asked g d) js (all_callers g d js long) (as_asked g d js long) (jobs_done g d js c.close.ensures.jobs)
     (history c.close-2.result) (rw c.in_ok-passes.ensures.passes at c.close-2.ensures.seen) c.close-2.ensures.callers)
+
+pub returns-clause-callers : goal.returns-clause-callers
+returns-clause-callers g c = subst (λ n. CallersBelow n (history c.close-2.result)) (sym c.requires.crew.long ∙ c.requires.even) c.close-2.ensures.callers
