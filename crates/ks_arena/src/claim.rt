@@ -27,6 +27,7 @@ impl<N: Node, D: Discipline> Arena<N, D> {
         ensures took { HasTakenFrom self.now node pass.old pass.new result }
         ensures rest { RestStays self.now pass.old pass.new }
     {
+        self.count_arrival(node);
         let at = node as usize;
         let turn = turn_at(at);
         for _ in rt.forever() {
@@ -51,6 +52,14 @@ impl<N: Node, D: Discipline> Arena<N, D> {
             self.watch(rt, &mut pass.steps, node);
         }
         unreachable!()
+    }
+
+    /// Where callers sleep until the root is free, the arrival of another counts, and some of these wake one of them.
+    #[inline(always)]
+    fn count_arrival(&self, node: u32) {
+        if node == ROOT {
+            self.bell.ring();
+        }
     }
 
     /// Whether nobody had the node just now.
@@ -82,7 +91,7 @@ impl<N: Node, D: Discipline> Arena<N, D> {
         }
     }
 
-    /// Sleeps until it is woken as the root is given, for a millisecond at most; returns at once where nobody has it.
+    /// Sleeps until it is woken, for a millisecond at most; returns at once if nobody has the root.
     fn sleep<R: Wait>(&self, rt: &R, steps: &mut Steps) {
         self.bell.await_ring();
         if !self.is_given(steps, ROOT) {

@@ -9,7 +9,7 @@ ghost use Rattle.ks_arena.specs.Of.{Holds, Adds, HasDecided, HasShaped, Looks, K
 use crate::arena::Arena;
 use crate::held::{Held, Pass, Taken};
 use crate::plays::{Brings, Decides, Forms, Gives, Said, SetsBit, Takes};
-use crate::spots::{CALLS, ROOT, SHAPES, free_at, turn_at};
+use crate::spots::{CALLS, SHAPES, free_at, turn_at};
 use ks_flow::Discipline;
 use ks_flow::laws::walks_law;
 use ks_history::{Op, Reply};
@@ -75,20 +75,10 @@ impl<N: Node, D: Discipline> Arena<N, D> {
         ensures cost { steps_of pass.new ≡ steps_of pass.old + give_steps held.live }
     {
         if held.live {
-            let node = held.node;
             self.put_back(pass, held);
-            self.wake_one_at(node);
         } else {
             self.set_bit(pass, held.node);
             self.put_back(pass, held);
-        }
-    }
-
-    /// Wakes one of the callers that sleep until the node is given: at the root alone some do.
-    #[inline(always)]
-    fn wake_one_at(&self, node: u32) {
-        if node == ROOT {
-            self.bell.ring();
         }
     }
 
