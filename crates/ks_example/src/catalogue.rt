@@ -1,18 +1,18 @@
 //! The catalogue, and what its callers do.
 ghost use Rattle.std.specs.Prelude.{◌≡◌, ◌<◌, ℕ, length, slice_index_or, IfOk};
-ghost use Rattle.ks_history.specs.Trace.{calls_of};
-ghost use Rattle.ks_arena.specs.Clauses.{seen_of};
-ghost use Rattle.ks_arena.specs.Of.{SameCaller};
-ghost use Rattle.ks_dictionary.specs.Ended.{history};
-ghost use Rattle.ks_dictionary.specs.Kept.{AddedOnce, FindsPut};
-ghost use Rattle.ks_dictionary.specs.Of.{AreOrderedPassesOf, IsIdlePassOf, place_in};
+ghost use Rattle.guttertide.specs.Words.{
+  AddedOnce,
+  AreOrderedPassesOf,
+  FindsPut,
+  IsIdlePassOf,
+  SameCaller,
+  calls_of,
+  history,
+  place_in,
+  seen_of,
+};
 
-use ks_arena::Pass;
-use ks_boxed::Boxed;
-use ks_bplus::BNode;
-use ks_dictionary::{Closed, Dictionary, kept_law};
-use ks_gate::NoGate;
-use ks_shape::{Full, Ruled};
+use guttertide::{BNode, Boxed, Closed, Coupling, Dictionary, Full, NoGate, PassOf, kept_law};
 use std::alloc::{AllocError, Global};
 use std::sync::Wait;
 use std::sync::atomic::AtomicU64;
@@ -23,11 +23,11 @@ use std::thread::{Threads, for_each_mut};
 /// Two other words make another structure of the same catalogue, as HNode in place of BNode a hash table.
 pub type Nodes = Boxed<BNode>;
 
-pub type Technique = ks_coupling::Coupling;
+pub type Technique = Coupling;
 
 pub type Catalogue = Dictionary<Nodes, Technique>;
 
-pub type Caller = Pass<Nodes, <Technique as Ruled>::Rule>;
+pub type Caller = PassOf<Nodes, Technique>;
 
 /// Callers 0 to 2 are clerks, 3 and 4 readers, and 5 is the keeper.
 const CALLERS: u32 = 6;

@@ -1,6 +1,5 @@
 use Rattle.std.proofs.Common.{subst}
-use Rattle.ks_history.specs.Trace.{◌⊑◌}
-use Rattle.ks_arena.specs.Clauses.{seen_of}
+use Rattle.guttertide.specs.Words.{◌⊑◌, seen_of}
 use Rattle.ks_example.proofs.catalogue.tell.Goals as goal
 
 pub returns-clause-finds : goal.returns-clause-finds

@@ -1,5 +1,5 @@
 use Rattle.std.proofs.Common.{arith, subst}
-use Rattle.ks_dictionary.specs.Of.{IsIdlePassOf}
+use Rattle.guttertide.specs.Words.{IsIdlePassOf}
 use Rattle.ks_example.proofs.Two.{Each, two_set}
 use Rattle.ks_example.proofs.catalogue.tell_one.Goals as goal
 

@@ -1,5 +1,4 @@
-use Rattle.ks_arena.specs.Of.{SameCaller}
-use Rattle.ks_dictionary.specs.Of.{IsIdlePassOf}
+use Rattle.guttertide.specs.Words.{IsIdlePassOf, SameCaller}
 use Rattle.ks_example.proofs.catalogue.work.Given as goal
 
 abbrev pub invariant-loop-number : goal.invariant-loop-number

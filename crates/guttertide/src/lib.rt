@@ -1,0 +1,77 @@
+//! The library under one name: what a program over a dictionary uses, from the crates in which it is defined.
+//!
+//! A dictionary is a `Dictionary<N, T>` over nodes of type `N`, by a technique `T`. Each pairing of the two has a name
+//! here, and so has a pass of each. All have the same calls with the same clauses, so a program changes its structure
+//! by changing the name. `specs/Words.antt` passes on the words of these clauses.
+#![tactic(auto)]
+
+pub use ks_arena::{Arena, Note, Pass};
+pub use ks_boxed::Boxed;
+pub use ks_bplus::BNode;
+pub use ks_coupling::Coupling;
+pub use ks_dictionary::{Closed, Dictionary, kept_law, once_law};
+pub use ks_flow::{Link, Tree};
+pub use ks_gate::{Gate, Meet, NoGate, Point, Stand, Standing};
+pub use ks_giveup::GiveUp;
+pub use ks_hash::HNode;
+pub use ks_link::LinkMove;
+pub use ks_linked::WithLink;
+pub use ks_list::ListNode;
+pub use ks_node::{Node, WithRange};
+pub use ks_shape::{Compacting, Full, Later, Numbered, PutLater, Ruled, Template};
+
+/// A pass of a dictionary over nodes of type `N`, by the technique `T`.
+pub type PassOf<N, T> = Pass<N, <T as Ruled>::Rule>;
+
+/// A B+ tree by lock coupling, whose nodes are merged as keys are deleted: take it unless another of these fits better.
+pub type BTree = Dictionary<Boxed<BNode>, Coupling>;
+
+/// A pass of a `BTree`.
+pub type BTreePass = PassOf<Boxed<BNode>, Coupling>;
+
+/// A B+ tree whose searches hold one node at a time, and restart if another caller moved their key away: take it for
+/// many callers, if nodes are to be merged as keys are deleted.
+pub type GiveUpTree = Dictionary<Boxed<WithRange<BNode>>, GiveUp>;
+
+/// A pass of a `GiveUpTree`.
+pub type GiveUpTreePass = PassOf<Boxed<WithRange<BNode>>, GiveUp>;
+
+/// A B-link tree, whose searches hold one node at a time and never restart, and whose nodes are never merged: take it
+/// for many callers, if few keys are deleted.
+pub type BLinkTree = Dictionary<Boxed<WithLink<BNode>>, LinkMove>;
+
+/// A pass of a `BLinkTree`.
+pub type BLinkTreePass = PassOf<Boxed<WithLink<BNode>>, LinkMove>;
+
+/// A hash table by lock coupling: take it for some hundred keys, since with more its searches get longer.
+pub type HashTable = Dictionary<Boxed<HNode>, Coupling>;
+
+/// A pass of a `HashTable`.
+pub type HashTablePass = PassOf<Boxed<HNode>, Coupling>;
+
+/// A hash table whose searches hold one node at a time, and restart as those of a `GiveUpTree`: take it for many callers
+/// of some hundred keys.
+pub type GiveUpHashTable = Dictionary<Boxed<WithRange<HNode>>, GiveUp>;
+
+/// A pass of a `GiveUpHashTable`.
+pub type GiveUpHashTablePass = PassOf<Boxed<WithRange<HNode>>, GiveUp>;
+
+/// A hash table whose searches move right along links, as those of a `BLinkTree`, and whose buckets are never merged: take
+/// it for many callers of some hundred keys, few of which are deleted.
+pub type LinkHashTable = Dictionary<Boxed<WithLink<HNode>>, LinkMove>;
+
+/// A pass of a `LinkHashTable`.
+pub type LinkHashTablePass = PassOf<Boxed<WithLink<HNode>>, LinkMove>;
+
+/// A sorted list of nodes by lock coupling, which has the least code: take it for few keys.
+pub type SortedList = Dictionary<ListNode, Coupling>;
+
+/// A pass of a `SortedList`.
+pub type SortedListPass = PassOf<ListNode, Coupling>;
+
+/// A sorted list whose searches hold one node at a time, and restart as those of a `GiveUpTree`: take it for few keys, if
+/// no caller is to hold a node while it waits for the next.
+pub type GiveUpList = Dictionary<Boxed<WithRange<ListNode>>, GiveUp>;
+
+/// A pass of a `GiveUpList`.
+pub type GiveUpListPass = PassOf<Boxed<WithRange<ListNode>>, GiveUp>;
