@@ -6,32 +6,20 @@
 //! Workers draw callers; for generated calls each caller has one. A call draws its number while it holds the lock. Values
 //! have 128 bits, as the program's have; of `mutex64` they have 64.
 
+mod locked;
 mod serving;
 
+use locked::Locked;
 use serving::{Answer, Op, Served, Value};
 use std::collections::BTreeMap;
 use std::sync::atomic::{AtomicU64, Ordering};
 use std::sync::{Mutex, RwLock};
 
-#[derive(Default)]
-struct Locked<V> {
-    pairs: BTreeMap<u64, V>,
-    calls: u64,
-}
-
 impl<V: Value> Served for Mutex<Locked<V>> {
     type Value = V;
 
     fn call(&self, _caller: usize, op: Op<V>) -> Answer<V> {
-        let mut locked = self.lock().unwrap();
-        let number = locked.calls;
-        locked.calls += 1;
-        let found = match op {
-            Op::Put(key, value) => locked.pairs.insert(key, value),
-            Op::Get(key) => locked.pairs.get(&key).copied(),
-            Op::Del(key) => locked.pairs.remove(&key),
-        };
-        Answer { number, found }
+        self.lock().unwrap().answer(op)
     }
 
     fn into_pairs(self) -> BTreeMap<u64, V> {

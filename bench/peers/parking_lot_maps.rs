@@ -4,32 +4,20 @@
 //! usage: parking_lot_maps mutex|rwlock [times] CALLERS CALLS FIRST
 //!        parking_lot_maps mutex|rwlock script WORKERS
 
+mod locked;
 mod serving;
 
+use locked::Locked;
 use parking_lot::{Mutex, RwLock};
 use serving::{Answer, Op, Served};
 use std::collections::BTreeMap;
 use std::sync::atomic::{AtomicU64, Ordering};
 
-#[derive(Default)]
-struct Locked {
-    pairs: BTreeMap<u64, u128>,
-    calls: u64,
-}
-
-impl Served for Mutex<Locked> {
+impl Served for Mutex<Locked<u128>> {
     type Value = u128;
 
     fn call(&self, _caller: usize, op: Op<u128>) -> Answer<u128> {
-        let mut locked = self.lock();
-        let number = locked.calls;
-        locked.calls += 1;
-        let found = match op {
-            Op::Put(key, value) => locked.pairs.insert(key, value),
-            Op::Get(key) => locked.pairs.get(&key).copied(),
-            Op::Del(key) => locked.pairs.remove(&key),
-        };
-        Answer { number, found }
+        self.lock().answer(op)
     }
 
     fn into_pairs(self) -> BTreeMap<u64, u128> {
@@ -79,7 +67,7 @@ fn main() {
     let words: Vec<String> = std::env::args().skip(1).collect();
     let words: Vec<&str> = words.iter().map(String::as_str).collect();
     let is_served = match words[..] {
-        ["mutex", ref calls @ ..] => serving::run(Mutex::<Locked>::default(), calls),
+        ["mutex", ref calls @ ..] => serving::run(Mutex::<Locked<u128>>::default(), calls),
         ["rwlock", ref calls @ ..] => serving::run(Shared::default(), calls),
         _ => false,
     };

@@ -143,38 +143,32 @@ fn assert_same(dictionary: &Dictionary, plain: &Plain, keys: u64) {
     }
 }
 
+/// Makes so many calls on each of so many threads, each of which waits, and answers how many were full.
+fn wait_on_threads(nodes: u32, threads: u64, keys: u64, each: usize) -> Result<usize, OpenError> {
+    let dictionary = Dictionary::open(nodes, threads as usize)?;
+    let made = on_threads(&dictionary, threads, |thread, caller| {
+        calls(thread, keys).take(each).map(|call| call.wait(caller)).collect()
+    });
+    let (plain, full) = replay(made);
+    assert_same(&dictionary, &plain, keys);
+    Ok(full)
+}
+
 #[test]
 fn one_caller() -> Result<(), OpenError> {
-    let dictionary = Dictionary::open(64, 1)?;
-    let made =
-        on_threads(&dictionary, 1, |_, caller| calls(1, 200).take(100_000).map(|call| call.wait(caller)).collect());
-    let (plain, full) = replay(made);
-    assert_eq!(full, 0);
-    assert_same(&dictionary, &plain, 200);
+    assert_eq!(wait_on_threads(64, 1, 200, 100_000)?, 0);
     Ok(())
 }
 
 #[test]
 fn eight_threads_at_few_keys() -> Result<(), OpenError> {
-    let dictionary = Dictionary::open(64, 8)?;
-    let made = on_threads(&dictionary, 8, |thread, caller| {
-        calls(thread, 48).take(20_000).map(|call| call.wait(caller)).collect()
-    });
-    let (plain, full) = replay(made);
-    assert_eq!(full, 0);
-    assert_same(&dictionary, &plain, 48);
+    assert_eq!(wait_on_threads(64, 8, 48, 20_000)?, 0);
     Ok(())
 }
 
 #[test]
 fn eight_threads_in_too_few_nodes() -> Result<(), OpenError> {
-    let dictionary = Dictionary::open(16, 8)?;
-    let made = on_threads(&dictionary, 8, |thread, caller| {
-        calls(thread, 1000).take(20_000).map(|call| call.wait(caller)).collect()
-    });
-    let (plain, full) = replay(made);
-    assert!(full > 0);
-    assert_same(&dictionary, &plain, 1000);
+    assert!(wait_on_threads(16, 8, 1000, 20_000)? > 0);
     Ok(())
 }
 
