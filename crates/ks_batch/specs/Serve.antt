@@ -5,8 +5,9 @@ use Rattle.ks_history.specs.declared.Op.{Op}
 use Rattle.ks_history.specs.declared.Event.{Event}
 use Rattle.ks_history.specs.Passes.{CallersBelow}
 use Rattle.ks_history.specs.Served.{Served}
-use Rattle.ks_script.specs.Script.{ScriptOf, FirstBadOfScript}
-use Rattle.ks_script.specs.Checked.{CheckedOf, FirstBadOfChecked}
+use Rattle.ks_script.specs.Lines.{lines_of, FirstBad}
+use Rattle.ks_script.specs.Script.{AreScript, ScriptOf}
+use Rattle.ks_script.specs.Checked.{AreChecked, CheckedOf}
 use Rattle.ks_script.specs.Run.{Run, run_text}
 use Rattle.ks_script.specs.Outside.{Grew, GrewByFront}
 use Rattle.ks_judge.specs.declared.judging.Judged.{Judged}
@@ -23,8 +24,8 @@ limit_of Checked = 134217728
 
 -- line n is the one for which the bytes are no such text
 abbrev pub FirstBadOf : Text → List ℕ → ℕ → Type 0
-FirstBadOf Script bytes n = FirstBadOfScript bytes n
-FirstBadOf Checked bytes n = FirstBadOfChecked bytes n
+FirstBadOf Script bytes n = FirstBad AreScript (lines_of bytes) n
+FirstBadOf Checked bytes n = FirstBad AreChecked (lines_of bytes) n
 
 -- the input is refused at this line, or, at line 0, for its length
 abbrev pub RefusedAt : Text → List ℕ → ℕ → Type 0

@@ -102,7 +102,7 @@ call_in (Take c i) = None
 call_in (Give c i) = None
 call_in (Claim c i) = None
 call_in (Shape c changes) = None
-call_in (Call c i op reply) = Some (called c op reply)
+call_in (Call c i op reply) = Some (record { caller = c; op = op; reply = reply })
 
 -- the nodes at which the event decides a call; none if it is no call
 abbrev pub decided_at : Event → List ℕ

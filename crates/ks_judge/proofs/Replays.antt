@@ -10,7 +10,7 @@ use Rattle.ks_history.specs.Write.{Map, Write, keeps, sets, removes, map_with, w
 use Rattle.ks_history.specs.Map.{told, IsAnswer, map_then, map_after}
 use Rattle.ks_history.specs.Served.{IsListing}
 use Rattle.ks_script.specs.Script.{calls_in}
-use Rattle.ks_judge.specs.Judgment.{Lines, line_at, op_at, answered_at, IsInOrder, IsRight, IsLegalRun, at_call, at_map, IsLeastWrong, carriers, calls_below}
+use Rattle.ks_judge.specs.Judgment.{Lines, line_at, op_at, answered_at, IsRight, IsLegalRun, at_call, at_map, IsLeastWrong, carriers, calls_below}
 use Rattle.ks_judge.proofs.Numbered.{below_more}
 use Rattle.ks_judge.proofs.Listing.{listing_along}
 
@@ -37,6 +37,10 @@ After script lines n m = (p : ℕ) → m p ≡ map_after (calls_below script lin
 -- the numbers below n are right
 abbrev pub RightBelow : List (List Op) → Lines → ℕ → Type 0
 RightBelow script lines n = (k : ℕ) → k < n → IsRight script lines k
+
+-- no line before line j of caller c has a number greater than n
+abbrev pub IsInOrder : Lines → ℕ → ℕ → ℕ → Type 0
+IsInOrder lines c j n = (i : ℕ) → i < j → (line_at lines c i).0 ≤ n
 
 -- the call at a place, as the program reads it
 pub call_read : (script : List (List Op)) (lines : Lines) (c j : ℕ) (ops : List Op) (ls : List (ℕ × Reply)) (op : Op) (line : ℕ × Reply) →

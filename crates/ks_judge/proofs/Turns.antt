@@ -11,10 +11,10 @@ use Rattle.ks_history.specs.declared.Reply.{Reply}
 use Rattle.ks_history.specs.declared.Reply.TheVariants.{Nothing}
 use Rattle.ks_judge.specs.declared.slots.Slot.{Slot}
 use Rattle.ks_judge.specs.declared.slots.Slot.TheVariants.{One}
-use Rattle.ks_judge.specs.Judgment.{Lines, SameShape, line_at, IsInOrder, IsRight, carriers, carriers_from, carriers_in}
+use Rattle.ks_judge.specs.Judgment.{Lines, SameShape, line_at, IsRight, carriers, carriers_from, carriers_in}
 use Rattle.ks_judge.specs.Slots.{Stands, Carries, TellsSlot}
 use Rattle.ks_judge.proofs.Numbered.{same_length, same_count, one_tells}
-use Rattle.ks_judge.proofs.Replays.{RightBelow, IsCallOf, call_read}
+use Rattle.ks_judge.proofs.Replays.{IsInOrder, RightBelow, IsCallOf, call_read}
 
 -- z is one of the list
 abbrev Has : List (ℕ × ℕ) → ℕ × ℕ → Type 0

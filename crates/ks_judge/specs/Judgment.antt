@@ -48,16 +48,12 @@ abbrev pub calls_below : List (List Op) → Lines → ℕ → List Answered
 calls_below script lines zero = []
 calls_below script lines (suc n) = calls_below script lines n ++ map (answered_at script lines) (carriers lines n)
 
--- no line before line j of caller c carries a number greater than n
-abbrev pub IsInOrder : Lines → ℕ → ℕ → ℕ → Type 0
-IsInOrder lines c j n = (i : ℕ) → i < j → (line_at lines c i).0 ≤ n
-
 -- exactly one line carries n, and no earlier one of its caller carries a greater number
 pub record IsPlaced (lines : Lines) (n : ℕ) : Type 0 where
   pub caller : ℕ
   pub place : ℕ
   pub only : carriers lines n ≡ (caller, place) ∷ []
-  pub ordered : IsInOrder lines caller place n
+  pub ordered : (i : ℕ) → i < place → (line_at lines caller i).0 ≤ n
 
 -- and its reply is the answer of the map after the calls 0 to n - 1
 pub record IsRight (script : List (List Op)) (lines : Lines) (n : ℕ) : Type 0 where

@@ -47,7 +47,7 @@ CheckedIn version bytes script run = SpellsChecked version script run (lines_of 
 
 -- the bytes are the text of the script and the run
 abbrev pub CheckedOf : List ℕ → List (List Op) → Run → Type 0
-CheckedOf bytes script run = (version : Version) × CheckedIn version bytes script run
+CheckedOf bytes script run = (version : Version) × SpellsChecked version script run (lines_of bytes)
 
 -- line n is the one for which the bytes are no text of a script and a run
 abbrev pub FirstBadOfChecked : List ℕ → ℕ → Type 0

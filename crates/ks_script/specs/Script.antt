@@ -59,7 +59,7 @@ ScriptIn version bytes script = SpellsScript version script (lines_of bytes)
 
 -- the bytes are the text of the script
 abbrev pub ScriptOf : List ℕ → List (List Op) → Type 0
-ScriptOf bytes script = (version : Version) × ScriptIn version bytes script
+ScriptOf bytes script = (version : Version) × SpellsScript version script (lines_of bytes)
 
 -- line n is the one for which the bytes are no script
 abbrev pub FirstBadOfScript : List ℕ → ℕ → Type 0
