@@ -21,11 +21,11 @@ dropped_few i (x ∷ xs) = either (x == i) (dropped_few i xs)
     either true rest = omega arith
     either false rest = omega (arith, rest)
 
--- two stretches are one
+-- two stretches that meet are one
 pub stretch_both : (template : Template) (c : ℕ) (g h k : List Event) → Stretch template c g h → Stretch template c h k → Stretch template c g k
 stretch_both template c g h k a b = λ op three. underway_both template c op g h k (a op three) (b op three)
 
--- a put may hold three nodes, by each template
+-- by each template a put may hold three nodes
 three_held : (template : Template) → 3 ≤ most_held template (Put 0 0)
 three_held template = omega arith
 
