@@ -349,7 +349,7 @@ module _ (g k : ℕ → NodeState) (f h : ℕ → Frame) (left right cut : ℕ) 
       go (inr (inr (inl e))) = subst RangeAt (sym e) (span_right, range_right)
       go (inr (inr (inr same))) = let y = link.range n (live.0, sym same.1 ∙ live.1) in (y.0, subst (λ (z : Frame). IsRange z y.0) (sym same.2) y.1)
 
-  -- what is led to is led to by one of the halves, if it was by the root
+  -- a node that an edge of the root led to is led to by one of the halves
   led_by : (i p : ℕ) → LeadsTo r p i → (h i).level ≡ (f i).level → (f 0).level ≡ suc (f i).level → IsLed k h i
   led_by i p to same up = elim (below_or_from p cut) [
     | inl lt ↦ record { above = left; node = s; place = p; is = x.after_left; leads = (x.below_cut p lt).1.to i to; level = omega (arith, x.level_left, same, up) }
