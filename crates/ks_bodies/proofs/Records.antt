@@ -190,7 +190,7 @@ module _ (b : Body) (plain : IsPlain b) where
       go None e = count_all 0 top b.starts m (omega arith) body_ascend plain.sound.starts_are_places (later_above b.starts body_ascend)
       go (Some r) e = let y = plain.framed r e in count_all r.low r.last b.starts m y.ordered body_ascend y.upto y.above
 
--- two bodies that lead alike at a place and have one value there act alike
+-- two bodies that lead alike at a place and have the same value there act alike
 pub acts_alike : (b c : Body) (p : ℕ) → IsPlain b → IsPlain c → InRange b p → InRange c p → led b.starts p ≡ led c.starts p → first_value b.pairs p ≡ first_value c.pairs p → ActsAs (record_of b) (record_of c) p
 acts_alike b c p plain plain' range range' same value = record {
   to = λ m to. led_body b plain p m range (same ∙ (body_led c plain' p m to).0);
