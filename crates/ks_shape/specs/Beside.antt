@@ -1,4 +1,4 @@
--- What stays at the nodes that a caller holds while it takes, claims and gives, whatever others do.
+-- What stays at the nodes that a caller holds while it takes, claims and releases nodes, whatever others do.
 use Rattle.std.specs.Prelude.{◌≡◌, ℕ, List}
 use Rattle.ks_keysets.specs.declared.NodeState.{NodeState}
 use Rattle.ks_history.specs.declared.Event.{Event}

@@ -1,4 +1,4 @@
--- Puts and adds as one operation, and what they come to where a search for room has ended.
+-- Puts and adds as one operation, and their results at the end of a search for room.
 use Rattle.std.specs.Prelude.{ℕ, List, Result, Ok, Err}
 use Rattle.ks_node.specs.declared.node.Node.{Ghosts as NodeGhosts}
 use Rattle.ks_node.below.ks_places.specs.declared.Placing.{Ghosts as PlacingGhosts}
@@ -32,7 +32,7 @@ abbrev pub filling : ℕ → Fill → Op
 filling place (Put value) = ops.Put place value
 filling place (Add value) = ops.Add place value
 
--- the answer of a put or an add that was not put off, as one that might have been
+-- the result of a put or an add that was not put off, in the type of one that might have been
 abbrev pub not_later : Result Numbered Full → Result Numbered PutLater
 not_later (Ok answer) = Ok answer
 not_later (Err full) = Err (later.Full full.number)
@@ -45,11 +45,11 @@ module _ {N : Type 0} where
     FoundRoom n c place h k (Ok x) = HasRoom sort shows c place k x
     FoundRoom n c place h k (Err x) = IsCrowded sort shows c place k x × NoneFree sort.layout n c place h k
 
-    -- so it has since some moment, from which the caller made no call
+    -- the same since some moment, and the caller made no call from it on
     abbrev pub EndsForRoom : ℕ → ℕ → ℕ → List Event → Result (Hand N) (Hand N) → Type 0
     EndsForRoom n c place k found = (h : List Event) × (since : h ⊑ k) × NoCallBy c since.rest × FoundRoom n c place h k found
 
-  -- where it ended at a full node, no node was free for the place since h
+  -- if it ended at a full node, no node was free for the place since h
   abbrev pub FullIsDue : Layout → ℕ → ℕ → ℕ → List Event → List Event → Result (Hand N) (Hand N) → Type 0
   FullIsDue layout n c place h k (Ok x) = Unit {0}
   FullIsDue layout n c place h k (Err x) = NoneFree layout n c place h k

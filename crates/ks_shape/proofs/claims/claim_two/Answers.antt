@@ -53,12 +53,12 @@ returns-in-Some-claim_one-clause-keysets g c = let at = (goal.at.returns-in-Some
     beside_both SameKeyset (sort_of g.N.Node.layout g.N.Node.ranged) g.D.Discipline.begins g.D.Discipline.step c.args.arena.now.table.shared.table_id.slots (keysets g at) me (seen_of c.args.pass.now) h₁ h₂ c.claim_one.ensures.rest.kept c.claim_one.ensures.keysets
     (subst (λ (z : ℕ). KeepsBeside SameKeyset z h₁ h₂) c.claim_one.ensures.caller c.claim_one-2.ensures.keysets)
 
--- the second was refused, and the first is given back
+-- the second was refused, and the first is released
 
 own : (g : Over) (c : After-give g) → c.claim_one-2.new.pass.caller ≡ c.args.pass.now.caller
 own g c = c.claim_one-2.ensures.caller ∙ c.claim_one.ensures.caller
 
--- what the second claim tells, of the caller's own number
+-- what is known after the second claim, for the caller's own number
 second : (g : Over) (c : After-give g) → (hand c.args.pass.now.caller (seen_of c.claim_one-2.new.pass) ≡ hand c.args.pass.now.caller (seen_of c.claim_one.new.pass)) × ((place : ℕ) → HoldsForClaim g.N.Node.layout place (seen_of c.claim_one.new.pass) c.args.pass.now.caller → NoneFree g.N.Node.layout c.args.arena.now.nodes c.args.pass.now.caller place (seen_of c.claim_one.new.pass) (seen_of c.claim_one-2.new.pass))
 second g c = let h₁ = seen_of c.claim_one.new.pass in let h₂ = seen_of c.claim_one-2.new.pass in
     subst (λ (z : ℕ). (hand z h₂ ≡ hand z h₁) × ((place : ℕ) → HoldsForClaim g.N.Node.layout place h₁ z → NoneFree g.N.Node.layout c.args.arena.now.nodes z place h₁ h₂)) c.claim_one.ensures.caller c.in-None.ensures.claimed
