@@ -5,8 +5,8 @@ use Rattle.ks_keysets.specs.declared.NodeState.{NodeState}
 use Rattle.ks_keysets.specs.Keyset.{record_at}
 use Rattle.ks_keysets.specs.Walk.{Descends}
 
--- node i is at least `steps` deep: it is that many edges below the root, or that many edges and nodes that are gone
--- together: numbers below n of nodes that are not live, each once
+-- node i is at least `steps` deep: a descent from the root to it has that many edges, or that many together with nodes that
+-- are gone: numbers below n of nodes that are not live, each once
 pub record Deep (g : ℕ → NodeState) (n : ℕ) (gone : List ℕ) (steps i : ℕ) : Type 0 where
   pub edges : ℕ
   pub way : Descends g edges i

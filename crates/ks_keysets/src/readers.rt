@@ -16,7 +16,7 @@ ghost use Rattle.ks_keysets.specs.Apart.{AreTwoApart, AreEdgesApart};
 use crate::{Edge, Graph, NodeRecord, NodeState, Span};
 use std::alloc::{AllocError, Global};
 
-/// Whether the edges of each node are disjoint, as the readers of a graph ask.
+/// Whether the edges of each node are disjoint, as the readers of a graph require.
 pub fn edges_apart(graph: &Graph) -> bool
     ensures { IsTrue result ↔ AreApart (graph_of graph.now) }
 {
