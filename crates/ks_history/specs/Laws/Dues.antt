@@ -132,7 +132,7 @@ none_free_but layout n c place s from to h since so before are live one keyset t
       taken = λ j lt. let t = taken j lt in (t.moment, t.since, t.until, t.so);
     }
 
--- the last call of a caller, after a trace that events without a call of it follow
+-- the last call of a caller is the same after more events without a call of it
 
 pub last_call_kept : (c : ℕ) (rest s : List Event) → NoCallBy c rest → last_call c (rest ++ s) ≡ last_call c s
 last_call_kept c [] s none = refl
