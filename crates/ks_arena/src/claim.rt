@@ -54,7 +54,7 @@ impl<N: Node, D: Discipline> Arena<N, D> {
         unreachable!()
     }
 
-    /// At the root, counts the arrival; after a number of these one caller that sleeps until the root is free is woken.
+    /// At the root, counts the arrival; after a number of arrivals it wakes one caller that sleeps until the root is free.
     #[inline(always)]
     fn count_arrival(&self, node: u32) {
         if node == ROOT {
@@ -101,7 +101,7 @@ impl<N: Node, D: Discipline> Arena<N, D> {
 
     /// Claims the first node, from node 1 upward, that it finds free. `None`: none was found free. If no other caller acts
     /// meanwhile, and none holds a node at its start, it loads the free words up to that of the node, takes the turn of the
-    /// node and clears its bit: at most `ceil(nodes / 64) + 2` steps on words. So it always is in an arena of one caller.
+    /// node and clears its bit: at most `ceil(nodes / 64) + 2` steps on words. In an arena of one caller this always holds.
     pub fn claim(&self, pass: &mut Pass<N, D>) -> Option<Held<N>>
         requires { IsPassOf self.now pass.old }
         ensures pass { IsPassOf self.now pass.new }
