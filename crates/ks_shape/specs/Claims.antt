@@ -23,7 +23,7 @@ module _ {N : Type 0} (sort : Sort) (shows : N → Body) where
     pub fresh : ¬ Has (hand c h) x.node
     pub claimed : graph_after k x.node ≡ Claimed c
 
-  -- one node was claimed; or none was, c holds what it held, and none was free if that was such that a Full may be due
+  -- one node was claimed; or none was, and c holds what it held: if `HoldsForClaim` is true of that, no node was free
   abbrev pub DidClaimOne : ℕ → ℕ → List Event → List Event → Option (Hand N) → Type 0
   DidClaimOne n c h k None = (hand c k ≡ hand c h) × ((place : ℕ) → HoldsForClaim sort.layout place h c → NoneFree sort.layout n c place h k)
   DidClaimOne n c h k (Some x) = GotOne c h k x
@@ -35,7 +35,7 @@ module _ {N : Type 0} (sort : Sort) (shows : N → Body) where
     pub apart : x.node ≢ y.node
     pub hands : hand c k ≡ y.node ∷ x.node ∷ hand c h
 
-  -- two nodes were claimed; or none was, c holds what it held, and if that was live, and a node of it may grow, none was free
+  -- two nodes were claimed; or none was, and c holds what it held: if that is live, and one of it may grow, no node was free
   abbrev pub DidClaimTwo : ℕ → ℕ → List Event → List Event → Option (Hand N × Hand N) → Type 0
   DidClaimTwo n c h k None =
       (hand c k ≡ hand c h)

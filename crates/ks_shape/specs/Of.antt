@@ -69,7 +69,7 @@ module _ {N D : Type 0} where
   abbrev pub MakesNoneLive : Pass N D → Pass N D → Type 0
   MakesNoneLive p q = MakesNone p.caller (seen_of p) (seen_of q)
 
-  -- events of others, and the caller's own between, keep what this says at nodes that they do not name
+  -- from p to q `Same` holds at each node that the caller holds at both
   abbrev pub KeepsAside : (ℕ → (ℕ → NodeState) → (ℕ → NodeState) → Type 0) → Pass N D → Pass N D → Type 0
   KeepsAside Same p q = KeepsBeside Same p.caller (seen_of p) (seen_of q)
 
@@ -147,7 +147,7 @@ module _ {N D P : Type 0} {n : NodeGhosts N P} {q : PlacingGhosts P} {d : Discip
   abbrev pub FinishesCrowded : Arena N D P n q d → Op → ℕ → Pass N D → Pass N D → ℕ → Type 0
   FinishesCrowded a op place p p' number = (template : Template) (start : List Event) → Underway template p.caller op start (seen_of p) → NoneFree n.layout a.nodes p.caller place start (seen_of p) → Done n.layout template a.nodes p.caller op start (seen_of p') Full number
 
-  -- the result of a claim of a node, and of two nodes: they are held; or no node was free, if the claim shows it
+  -- the result of a claim of one node, and of two: they are held; or no node was free, if the caller held what a claim needs
   abbrev pub HasClaimedOne : Arena N D P n q d → Pass N D → Pass N D → Option (Hand N) → Type 0
   HasClaimedOne a p p' claimed = DidClaimOne (sort_of n.layout n.ranged) n.body a.nodes p.caller (seen_of p) (seen_of p') claimed
 

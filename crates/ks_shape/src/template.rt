@@ -1,5 +1,5 @@
-//! What a technique of concurrency offers: five calls, each of which is once in the one history of all calls; and
-//! non-blocking calls, each of which is there once, or is put off.
+//! What a technique of concurrency offers: five calls, each of which occurs once in the one history of all calls; and
+//! non-blocking calls, each of which occurs there once, or is put off.
 ghost use Rattle.std.specs.Prelude.{◌≡◌, ◌≢◌, IsTrue, None, false};
 ghost use Rattle.ks_history.specs.declared.Op.TheVariants.{Add, Del, Get, Put, Swap};
 ghost use Rattle.ks_history.specs.Map.{told};
@@ -47,7 +47,7 @@ pub trait Ruled: Send + Sync {
 }
 
 /// A technique by which callers go from node to node, over one type of nodes. A call waits for nodes that others hold,
-/// unless its name begins with `try`. Its pass holds no node before it, and none after it. The call is once in the one
+/// unless its name begins with `try`. Its pass holds no node before it, and none after it. The call occurs once in the one
 /// history of all calls, after all that its pass had seen, and has its number there; it returns what the map held at the
 /// place just before it. A non-blocking call may be put off: then it is not in the history.
 ///

@@ -87,7 +87,7 @@ frees_as c d {count} h k same so = subst (λ (z : ℕ). Frees z h k count) same 
 pub frees_begins : (c : ℕ) {count : ℕ} (h k : List Event) → Frees c h k count → h ⊑ k
 frees_begins c h k so = record { rest = so.rest; is = so.is }
 
--- the number is one
+-- two such numbers are equal
 pub frees_same : (c a b : ℕ) (h k : List Event) → Frees c h k a → Frees c h k b → a ≡ b
 frees_same c a b h k x y = sym x.made ∙ ap (freed_by c) (append_cancel_right x.rest y.rest h (sym x.is ∙ y.is)) ∙ y.made
 

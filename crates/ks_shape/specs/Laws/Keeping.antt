@@ -1,4 +1,4 @@
--- What a search holds after it released one of its two nodes.
+-- What a search holds after it released one of its nodes.
 use Rattle.std.proofs.Common.{◌≡◌, ◌≢◌, ℕ, true, List, ◌∷◌, sym, refl, subst, inl}
 use Rattle.std.specs.Prelude.{Option, Some, None}
 use Rattle.ks_keysets.specs.Keyset.{InInset}

@@ -90,7 +90,7 @@ two_before n c k l alone are stays live two = record {
   free = (free_before c k l alone are stays two.one two.free.0 live, free_before c k l alone are stays two.two two.free.1 live);
 }
 
--- if only c acts and two nodes are free at the end, a node was free all the time
+-- if only c acts and two nodes are free at the end, its claims are not refused: some node was free all the time
 pub never_refused : (layout : Layout) (n c place : ℕ) (s h : List Event) → ActsAlone c s h → AreInTurn h → ((k : List Event) → k ⊑ h → (i : ℕ) → IsLive (graph_after k) i → IsLive (graph_after h) i) → TwoFree n h → NoneFree layout n c place s h → ⊥
 never_refused layout n c place s h alone are stays two none = elim (none.holds none.from (begins_self none.from) none.ordered) [
   | inl live ↦ taken two.one two.near.0 (free_before c none.from h since are (stays none.from before) two.one two.free.0 live)
