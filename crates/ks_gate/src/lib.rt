@@ -25,9 +25,9 @@ pub enum Point {
     Given(u32),
 }
 
-/// What is notified of points: those of one caller one after another, those of several callers at any time.
+/// Is notified of points: of those of one caller one after another, of those of several callers at any time.
 pub trait Gate {
-    /// Notifies the gate that the caller is at the point. It returns, since it is given no leave to wait.
+    /// Notifies the gate that the caller is at the point. It returns, since it gets no runtime with which it could loop for ever.
     fn at(&self, caller: u32, point: Point);
 }
 
