@@ -101,7 +101,7 @@ keyset_ends g n p h =
 pub ends_keyset : (g : ℕ → NodeState) (n p : ℕ) → IsPlace p → EndsAt g p n → InKeyset g n p
 ends_keyset g n p place e = ((place, walks_reaches e.comes (e.node, e.is)), λ o. e.stops (subst (λ (t : Record). LeadsOn t p) (same_record g n o.0 e.node o.1 e.is) o.2))
 
--- where edges are disjoint no place is in two keysets
+-- if edges are disjoint, no place is in two keysets
 pub keyset_one : (g : ℕ → NodeState) (n m p : ℕ) → AreApart g → InKeyset g n p → InKeyset g m p → n ≡ m
 keyset_one g n m p apart h h' = ends_one g p n m apart (keyset_ends g n p h) (keyset_ends g m p h')
 
