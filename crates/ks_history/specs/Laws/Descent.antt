@@ -73,7 +73,7 @@ edges_stay_back : (rest h : List Event) → NoShapes rest → KeepsEdges (graph_
 edges_stay_back [] h none = record { at = λ n r is. (r, is, refl) }
 edges_stay_back (e ∷ es) h none = edges_both (graph_after (e ∷ (es ++ h))) (graph_after (es ++ h)) (graph_after h) (edges_back (es ++ h) e none.0) (edges_stay_back es h none.1)
 
--- what is not live where no live node is added
+-- what is not live remains so if no live node is added
 not_live : (g k : ℕ → NodeState) (m : ℕ) → KeepsEdges k g → record_at g m ≡ None → record_at k m ≡ None
 not_live g k m back none = go (record_at k m) refl
   where
@@ -263,7 +263,7 @@ took_node c i s0 g h taken roots apart so took =
       root = subst (λ (xs : List ℕ). count_by (λ i. i == 0) xs ≤ roots) (sym more) (let e = count_else i (takes_by c took.grows.rest) apart in omega (arith, root, e));
     }
 
--- Far is due where c took as many nodes as there are, each one step deeper than the one before, and would go down to one
+-- Far is due if c took as many nodes as there are, each one step deeper than the one before, and would go down to one
 -- more
 pub far_due : (n c : ℕ) (gone : List ℕ) (s0 h : List Event) (taken roots steps i j : ℕ) (r : Record) → TookSince c s0 h taken roots → roots ≤ 2 → n ≤ taken → IsDeep n c gone s0 h steps i → taken ≤ suc steps → OneParent (graph_after h) → ((m : ℕ) → IsLive (graph_after h) m → m < n)
     → record_at (graph_after h) i ≡ Some r → Any (λ e. e.node ≡ j) r.edges → IsLive (graph_after h) j → FarDue n c s0 h

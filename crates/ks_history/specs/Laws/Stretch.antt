@@ -1,4 +1,4 @@
--- Stretches of a call: what its caller does from one moment to a later one, where it makes no call.
+-- Stretches of a call: what its caller does from one moment to a later one, if it makes no call.
 use Rattle.std.proofs.Common.{◌≡◌, ℕ, ◌≤◌, List, [], ◌∷◌, ◌++◌, length, cond, Bool, true, false, ◌==◌, ap, ◌∙◌, arith}
 use Rattle.ks_keysets.specs.declared.Change.{Change}
 use Rattle.ks_history.specs.declared.Op.{Op}
