@@ -65,7 +65,7 @@ leads_or_not g p a m u good inset is =
       | inr ne ↦ inr (λ to'. ne (next_one g p a b m t u good.apart is' is to to'))
     ]
 
--- where a record acts as another, it leads where that one leads
+-- if a record acts as another, it leads where that one leads
 pub acts_back : (s r : Record) (p m : ℕ) → ActsAs s r p → AllPairs (λ e f. (p : ℕ) → Carries e p → Carries f p → ⊥) s.edges → LeadsTo s p m → LeadsTo r p m
 acts_back s r p m acts apart to =
     let before = leads_where r p (acts.on (leads_on s p m to)) in

@@ -63,7 +63,7 @@ module _ (g k : ℕ → NodeState) (f h : ℕ → Frame) (left right cut : ℕ) 
     ]
   ]
 
-  -- a live node but the root keeps its frame
+  -- a live node, except the root, keeps its frame
   frame_on : (n : ℕ) → IsLive g n → (n ≡ 0 → ⊥) → h n ≡ f n
   frame_on n live ne = elim (which n) [
     | inl e ↦ absurd (ne e)
@@ -114,7 +114,7 @@ module _ (g k : ℕ → NodeState) (f h : ℕ → Frame) (left right cut : ℕ) 
     | inr ne ↦ omega (arith, link.highest n live ne)
   ]
 
-  -- where the range of a live node but the root comes from
+  -- where the range of a live node, except the root, comes from
   abbrev Old : ℕ → Span → Type 0
   Old n a = (m : ℕ) × (b : Span) × IsLive g m × IsRange (f m) b × ((h n).level ≡ (f m).level) × ((p : ℕ) → Holds a p → Holds b p) ×
       (((n ≡ m) × (m ≡ 0 → ⊥)) ⊎ (((n ≡ left) × (m ≡ 0) × ((p : ℕ) → Holds a p → p < cut)) ⊎ ((n ≡ right) × (m ≡ 0) × ((p : ℕ) → Holds a p → cut ≤ p))))

@@ -25,7 +25,7 @@ use Rattle.ks_flow.proofs.Used.{edges_two}
 
 -- a record whose edges are disjoint, and of which only one leads to the node
 
--- where the same edge carries both places, each edge carries both or neither
+-- if the same edge carries both places, each edge carries both or neither
 alike_of : (es : List Edge) (k : ℕ) (x : Edge) (p q : ℕ) → ((i j : ℕ) (d : Edge) → i < j → j < length es → (o : ℕ) → Carries (get_or es i d) o → Carries (get_or es j d) o → ⊥) → k < length es → Carries (get_or es k x) p → Carries (get_or es k x) q → All (λ e. CarriesAlike e p q) es
 alike_of es k x p q apart lt on on' i d lt' = go (cases i k)
   where

@@ -31,7 +31,7 @@ pub trait Discipline: Send + Sync {
         ensures { IsDiscipline begins facts step lasts beside };
 }
 
-/// Each node but the root has one node above it, and its inset is a span that begins at its low.
+/// Each node, except the root, has one node above it, and its inset is a span that begins at its low.
 pub struct Tree;
 
 impl Discipline for Tree {
