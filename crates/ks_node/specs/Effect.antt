@@ -37,7 +37,7 @@ ends_at last = option_map (λ r. record { low = r.low; last = last })
 abbrev pub begins_at : ℕ → Option Span → Option Span
 begins_at low = option_map (λ r. record { low = low; last = r.last })
 
--- the first edge starts at the low in place of where it started
+-- the first edge starts at the low instead of where it started
 abbrev pub first_from : ℕ → List Start → List Start
 first_from low [] = []
 first_from low (s ∷ ss) = record { low = low; node = s.node } ∷ ss

@@ -194,7 +194,7 @@ pub trait Node: Drop {
     /// All bodies of the type have a range, or none.
     ghost has_range: { (s : Self) → is_some (body s).range ≡ ranged };
 
-    /// How branches adopt, where `branches_adopt` promises it.
+    /// How branches adopt, if `branches_adopt` promises it.
     ghost adopting: { IsTrue branches_adopt → (s : Self) → BranchesAdopt can_adopt_at layout (body s) };
 
     /// `ROOM` is the number of the table.

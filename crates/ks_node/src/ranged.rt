@@ -68,7 +68,7 @@ pub trait Linked: Ranged {
     /// A node is cut by its range.
     ghost by_range: { Self.cuts_by_range ≡ true };
 
-    /// A branch grows, and so does a node with no edge but its link.
+    /// A branch grows, and so does a node with no edge except its link.
     ghost grows_where: { (s : Self) → IsTrue (is_branch (Self.body s) || nat_eq (length (Self.body s).starts) 0) →
         IsTrue (Self.grows_at (content_of (Self.body s))) };
 }

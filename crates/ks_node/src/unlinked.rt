@@ -64,7 +64,7 @@ pub trait Unlinked: Node {
     /// A node is cut by the span that is passed.
     ghost by_span: { Self.cuts_by_range ≡ false };
 
-    /// An edge is added only where none starts.
+    /// An edge is added only at a cut at which none starts.
     ghost none_starts: { (c : Content) (cut : ℕ) → IsTrue (Self.can_adopt_at c cut) → begins cut c.starts ≡ false };
 
     /// If it does not grow in place, either each full node can adopt its cut, or each node grows, branches adopt, and neither
