@@ -81,7 +81,7 @@ module _ (g : ℕ → NodeState) (f : ℕ → Frame) (node right : ℕ) (b q : B
   pub down : (p : ℕ) → InInset g node p → LeadsTo (record_of b) p right → InInset g right p
   down p inset to = (inset.0, along (record_of b) inset.1 x.stands.has to (record_of q, x.other.has))
 
-  -- what comes to right comes from the seam on
+  -- each place that comes to right is at or above the seam
   pub seam_low : seam ≤ q.low
   seam_low = from_leads q.low (up q.low (low_inside g f right q tree x.other)).1
 
