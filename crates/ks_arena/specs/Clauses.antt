@@ -264,7 +264,7 @@ module _ {N : Type 0} (shows : N → Body) where
   changes_of x y z = change_of x ∷ and_change y (and_change z [])
 
 module _ {N : Type 0} (sort : Sort) (shows : N → Body) where
-  -- the node is what its body shows, if the body is blank where the node is not live
+  -- the node is what its body shows, if the body of a node that is not live is blank
   abbrev pub IsShaped : List Event → Hand N → Type 0
   IsShaped h x = (x.live ≡ false → shows x.body ≡ blank_body sort.ranged) → Matches sort shows h x
 
