@@ -34,7 +34,7 @@ EndsPut layout template n c op s0 s1 (Err (Full number)) = Done layout template 
 EndsPut layout template n c op s0 s1 (Err (Otherwise later)) = Left template c op s0 s1 × IsCauseButFar template c op s0 s1 later
 
 module _ {N D : Type 0} where
-  -- the same for an arena, between p and q
+  -- `EndsPut` in an arena, between p and q
   abbrev pub HasEndedPut : Layout → Template → Site → Op → Pass N D → Pass N D → Result Numbered PutLater → Type 0
   HasEndedPut layout technique a op p q answer = EndsPut layout technique a.nodes p.caller op (seen_of p) (seen_of q) answer
 

@@ -59,6 +59,6 @@ module _ {N D P : Type 0} {n : NodeGhosts N P} {q : PlacingGhosts P} {d : Discip
   abbrev pub EndsForRoomOf : Arena N D P n q d → ℕ → Pass N D → Result (Hand N) (Hand N) → Type 0
   EndsForRoomOf a place p found = EndsForRoom (sort_of n.layout n.ranged) n.body a.nodes p.caller place (seen_of p) found
 
-  -- a put or an add that is under way at p, by whatever technique and since whatever moment, is done at p', if a Full is due
+  -- a put or an add that is under way at p, of any technique and begun at any moment, is done at p', if a Full is due
   abbrev pub FinishesFill : Arena N D P n q d → Op → ℕ → Result (Hand N) (Hand N) → Pass N D → Pass N D → Result Numbered Full → Type 0
   FinishesFill a op place found p p' answer = (template : Template) (start : List Event) → Underway template p.caller op start (seen_of p) → FullIsDue n.layout a.nodes p.caller place start (seen_of p) found → Done n.layout template a.nodes p.caller op start (seen_of p') (reply_in answer) (number_in answer)

@@ -53,7 +53,7 @@ module _ {N D : Type 0} where
   abbrev pub IsUnderway : Template → Pass N D → Pass N D → Type 0
   IsUnderway template p q = (op : Op) → Underway template p.caller op (seen_of p) (seen_of q)
 
-  -- a call that is under way at p, since whatever moment, still is at q
+  -- a call that is under way at p, begun at any moment, still is at q
   abbrev pub StaysUnderway : Template → Pass N D → Pass N D → Type 0
   StaysUnderway template p q = (op : Op) (start : List Event) → Underway template p.caller op start (seen_of p) → Underway template p.caller op start (seen_of q)
 
@@ -119,7 +119,7 @@ module _ {N D P : Type 0} {n : NodeGhosts N P} {q : PlacingGhosts P} {d : Discip
   abbrev pub DoneOf : Arena N D P n q d → Template → Op → Pass N D → Pass N D → Reply → ℕ → Type 0
   DoneOf a template op p p' reply number = Done n.layout template a.nodes p.caller op (seen_of p) (seen_of p') reply number
 
-  -- between p and p' a non-blocking call is done, or put off, as its result says
+  -- a non-blocking call is done between p and p', or put off, as its result says
   abbrev pub TriedOf : Arena N D P n q d → Template → Op → Pass N D → Pass N D → Result Numbered Later → Type 0
   TriedOf a template op p p' answer = Tried n.layout template a.nodes p.caller op (seen_of p) (seen_of p') answer
 
@@ -127,7 +127,7 @@ module _ {N D P : Type 0} {n : NodeGhosts N P} {q : PlacingGhosts P} {d : Discip
   abbrev pub TriedPutOf : Arena N D P n q d → Template → Op → Pass N D → Pass N D → Result Numbered PutLater → Type 0
   TriedPutOf a template op p p' answer = TriedPut n.layout template a.nodes p.caller op (seen_of p) (seen_of p') answer
 
-  -- a call that is under way at p, by whatever technique and since whatever moment, is done at p'
+  -- a call that is under way at p, of any technique and begun at any moment, is done at p'
   abbrev pub FinishesAny : Arena N D P n q d → Op → Pass N D → Pass N D → Reply → ℕ → Type 0
   FinishesAny a op p p' reply number = (template : Template) (start : List Event) → Underway template p.caller op start (seen_of p) → Done n.layout template a.nodes p.caller op start (seen_of p') reply number
 

@@ -56,7 +56,7 @@ IsDoneIn (Ok answer) = Unit {0}
 IsDoneIn (Err (Full number)) = Unit {0}
 IsDoneIn (Err (Otherwise later)) = ⊥
 
--- what a call of the technique may report: that a node moved only by giving up; Far unless along links
+-- what a call of the technique may report: that a node moved, only by giving up; Far, unless along links
 abbrev pub MayTell : Template → Result Numbered Later → Type 0
 MayTell template (Ok answer) = Unit {0}
 MayTell template (Err (Busy node holder)) = Unit {0}
@@ -69,7 +69,7 @@ PutMayTell template (Err (Full number)) = Unit {0}
 PutMayTell template (Err (Otherwise later)) = MayTell template (Err later)
 
 module _ {N D : Type 0} where
-  -- the same for an arena, between p and q; and for a put or an add
+  -- `Tried` in an arena, between p and q; and `TriedPut`
   abbrev pub HasTried : Layout → Template → Site → Op → Pass N D → Pass N D → Result Numbered Later → Type 0
   HasTried layout technique a op p q answer = Tried layout technique a.nodes p.caller op (seen_of p) (seen_of q) answer
 

@@ -1,4 +1,4 @@
-//! Steps of a call under way, each with its gate: the call stays under way by whatever technique it goes.
+//! Steps of a call under way, each with its gate: a call of any technique stays under way.
 ghost use Rattle.std.specs.Prelude.{◌≡◌};
 ghost use Rattle.ks_history.specs.declared.Event.TheVariants.{Give, Take};
 ghost use Rattle.ks_arena.specs.Of.{Adds, IsPassOf, IsEmptyPassOf, IsCurrent, SameCaller, caller_of};
