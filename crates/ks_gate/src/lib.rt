@@ -27,7 +27,7 @@ pub enum Point {
 
 /// Is notified of points: of those of one caller one after another, of those of several callers at any time.
 pub trait Gate {
-    /// Notifies the gate that the caller is at the point. It returns, since it gets no runtime with which it could loop for ever.
+    /// Notifies the gate that the caller is at the point. It returns, since it gets no runtime with which to loop for ever.
     fn at(&self, caller: u32, point: Point);
 }
 
