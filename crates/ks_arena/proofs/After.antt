@@ -33,15 +33,15 @@ use Rattle.ks_arena.specs.Laws.Beyond.{are_in_turn}
 use Rattle.ks_arena.proofs.Moves.{GivesMark, gives_mark_live, gives_mark_free}
 use Rattle.ks_arena.proofs.Hold.{Follows, follows_marked, follows_both, looks_follows, makes_follows, looks_grows, makes_grows, Gains, carries_gain, carries_along, carries_give, carries_lift, slots_in, drop_in, hand_near, holds_it}
 
--- the event changes the state and the frame of node i alone
+-- the event changes the state and the frame of node i only
 abbrev pub Touches : Event → ℕ → Type 0
 Touches e i = (h : List Event) (j : ℕ) → j ≢ i → (graph_after (e ∷ h) j ≡ graph_after h j) × ((blank : Frame) → frame_after blank (e ∷ h) j ≡ frame_after blank h j)
 
--- one event more leaves node j
+-- after one more event node j is still held, as it was
 pub stays_then : (c : ℕ) (e : Event) (h k : List Event) (j : ℕ) → StaysHeld c j h k → turn_after (e ∷ k) j ≡ held c → graph_after (e ∷ k) j ≡ graph_after k j → ((blank : Frame) → frame_after blank (e ∷ k) j ≡ frame_after blank k j) → StaysHeld c j h (e ∷ k)
 stays_then c e h k j so t s f = record { turn = t; state = s ∙ so.state; frame = λ blank. f blank ∙ so.frame blank }
 
--- lists of changes, as the clauses and as the traces say it
+-- lists of changes, as the clauses and as the traces write them
 
 pub all_held : (h : List Event) (c : ℕ) (hs : List ℕ) (xs : List Change) → ((i : ℕ) → Has hs i → turn_after h i ≡ held c) → AllAmong hs xs → All (λ x. turn_after h x.node ≡ held c) xs
 all_held h c hs [] so among = All-nil (λ (x : Change). turn_after h x.node ≡ held c)
@@ -101,7 +101,7 @@ module _ {N : Type 0} (sort : Sort) (shows : N → Body) where
   matches_live true s f b e x y = (x, y)
   matches_live false s f b e x y = absurd (let q : ⊥ = cc in q)
 
-  -- a node of a shape is what its body shows after it
+  -- a node of a shape is after it what its body shows
   pub is_shaped : (xs : List Change) (h : List Event) (c : ℕ) (x : Hand N) → IsAmong xs (change_of shows x) → IsShaped sort shows (Shape c xs ∷ h) x
   is_shaped xs h c x a blank = let s : NodeState = graph_after h x.node in let f : Frame = frame_after (blank_of sort) h x.node in
       record { is = subst (λ (z : NodeState × Frame). MatchesIf sort shows x.live z.0 z.1 x.body) (λ k. (sym (shaped_in xs (change_of shows x) s a) k, sym (reframed_in xs (change_of shows x) f a) k)) (shaped_if x.live s f x.body blank) }
@@ -116,11 +116,11 @@ module _ {N : Type 0} (sort : Sort) (shows : N → Body) where
     is_shaped (changes_of shows x (Some y) (Some z)) h c z.now (among_third (change_of shows x) (change_of shows y.now) (change_of shows z.now) [] once),
   )
 
--- the view that counts the passes knows that nobody else has acted
+-- the view that counts the passes knows that no other caller has acted
 abbrev pub Knows : View → View → Type 0
 Knows v w = v.made ≢ 0 → CallersBelow v.made w.seen
 
--- what is given back, as the step asks it
+-- what is released, as the step requires it
 module _ {N : Type 0} (sort : Sort) (begins : Frame → Type 0) (asks : (ℕ → NodeState) → (ℕ → Frame) → List Change → Type 0) (shows : N → Body) where
   pub matches_shows : (live : Bool) (s : NodeState) (f : Frame) (b : N) → MatchesIf sort shows live s f b → Shows sort begins asks shows s f b × (cond live 1 0 ≡ turn_word (turn_given s))
   matches_shows true s f b so = (subst (λ (z : NodeState). Shows sort begins asks shows z f b) (sym so.0) (refl, so.1), sym (ap (λ (z : NodeState). turn_word (turn_given z)) so.0))
@@ -156,13 +156,13 @@ module _ {N : Type 0} (sort : Sort) (begins : Frame → Type 0) (asks : (ℕ →
       → Follows p.seat.me.0 m.0 → Carries t.slots m.0.seen p.caller m.1 → slots_in m.1 ≡ hand p.caller m.0.seen → Sound sort begins asks t.slots m.0.seen → Knows p.seat.me.0 m.0 → IsPass sort begins asks t callers q
   pass_again t callers p q m is whose table me follows carries slots sound knows = pass_marked Quiet Quiet t callers p q m is whose table me (record { callers = follows.callers; made = follows.made; mark = follows.mark ∙ is.mark; bare = follows.bare }) carries slots sound knows
 
-  -- what a pass has in hand and stays, shows its node still
+  -- the body of a node that a pass holds, and that stays as it is, still shows the node
   pub still : {D : Type 0} {l : Mark} (shows : N → Body) (t : TableId) (callers : ℕ) (p : Pass N D) (k : List Event) (x : Hand N) → IsPassWith sort begins asks l t callers p → Has (hand_of p) x.node → (turn_after (seen_of p) x.node ≡ held p.caller → StaysHeld p.caller x.node (seen_of p) k) → Matches sort shows (seen_of p) x → Matches sort shows k x
   still shows t callers p k x is has stays m = let so = stays (holds_it t.slots (seen_of p) p.caller x.node p.seat.me.1 is.carries is.slots has) in
       record { is = subst (λ (z : NodeState × Frame). MatchesIf sort shows x.live z.0 z.1 x.body) (λ j. (sym so.state j, sym (so.frame (blank_of sort)) j)) m.is }
 
   module _ (n c : ℕ) where
-    -- what others do leaves the slots
+    -- events of others leave the slots
     pub carries_others : (h k : List Event) (xs : List (ℕ × Option N)) → GrowsByOthers c h k → AreInTurn k → Carries n h c xs → Carries n k c xs
     carries_others h k xs grows are carries = carries_along n h k c xs (λ i e. (by_others_keeps c i h k grows are e).turn) (λ i e. by_others_turn c i h k grows e) carries
 
@@ -203,7 +203,7 @@ module _ {N : Type 0} (sort : Sort) (begins : Frame → Type 0) (asks : (ℕ →
       pub sounds : Sound sort begins asks n m.0.seen
       pub knows : Knows me.0 m.0
 
-    -- after a step that gave c node i, whose slot is out and empty
+    -- after a step by which c came to hold node i, whose slot is out and empty
     pub gained : (i : ℕ) (e : Event) (me m : Seated N) → i < n → caller_of e ≡ c → ((h : List Event) → Gains e h c i) → Touches e i → hand c m.0.seen ≡ i ∷ hand c me.0.seen → me.0.callers ≡ c ∷ [] → ¬ (turn_after me.0.seen i ≡ held c)
         → Carries n me.0.seen c me.1 → slots_in me.1 ≡ hand c me.0.seen → m.1 ≡ (i, None) ∷ me.1 → Makes (Sound sort begins asks n) e me.0 m.0 → Gained i e me m
     gained i e me m near whose gains touches hands own fresh carries slots top so = let grows : GrowsWith c e me.0.seen m.0.seen = makes_grows (Sound sort begins asks n) e me.0 m.0 c own so in let h : List Event = grows.rest ++ me.0.seen in

@@ -1,8 +1,8 @@
--- Words stand apart: two counts, turns and free words.
+-- The words of a table are different: two counts, turns and free words.
 use Rattle.std.proofs.Common.{◌≡◌, ◌≢◌, ℕ, ◌/◌, ◌<◌, arith}
 use Rattle.ks_arena.specs.Spots.{turn_at, free_at, words_for}
 
--- a turn tells whose it is, and a free word its number
+-- a turn word is that of one node, and a free word has one index
 pub turn_back : (i j : ℕ) → turn_at i ≡ turn_at j → i ≡ j
 turn_back i j e = omega arith
 
@@ -15,14 +15,14 @@ turns_apart i j ne e = ne (turn_back j i e)
 pub frees_apart : (n w v : ℕ) → v ≢ w → free_at n v ≢ free_at n w
 frees_apart n w v ne e = ne (free_back n v w e)
 
--- a count is no turn and no free word
+-- a count is no turn word and no free word
 pub count_no_turn : (k i : ℕ) → k < 2 → k ≢ turn_at i
 count_no_turn k i low e = omega arith
 
 pub count_no_free : (k n w : ℕ) → k < 2 → k ≢ free_at n w
 count_no_free k n w low e = omega arith
 
--- a turn is no free word
+-- a turn word is no free word
 pub turn_no_free : (i n w : ℕ) → i < n → turn_at i ≢ free_at n w
 turn_no_free i n w near e = omega arith
 

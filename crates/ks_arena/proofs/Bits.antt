@@ -63,7 +63,7 @@ at_end [] a b (suc j) e = absurd (some-ne-none b (sym e))
 at_end (x ∷ xs) a b zero e = inl e
 at_end (x ∷ xs) a b (suc j) e = at_end xs a b j e
 
--- one view more, without a mark
+-- one more view, without a mark
 pub bits_longer : (h : List Event) (vs : List View) (x : View) (n : ℕ) (ws : List ℕ) → x.mark ≡ Quiet → FreeBits h vs n ws → FreeBits h (vs ++ x ∷ []) n ws
 bits_longer h vs x n ws quiet bits = bits_views h vs (vs ++ x ∷ []) n ws
     (λ i m. (m.0, m.1, at_longer vs (x ∷ []) m.0 m.1 m.2, m.3))
@@ -79,7 +79,7 @@ module _ (h : List Event) (vs : List View) (n : ℕ) (ws : List ℕ) (bits : Fre
   pub marks_held : SomeMarks vs i → (c : ℕ) × (turn_after h i ≡ held c)
   marks_held m = let so = bits.marks m.0 i m.1 m.2 m.3 in (so.0, so.2)
 
-  -- a node that c holds is named by the view of c alone
+  -- a node that c holds is named only by the view of c
   pub mark_own : (views : Views h vs) (id c : ℕ) (v : View) → get_elem? vs id ≡ some v → Has v.callers c → turn_after h i ≡ held c → (j : ℕ) (u : View) → j ≢ id → get_elem? vs j ≡ some u → ¬ Marks u.mark i
   mark_own views id c v at has now j u ne there m = let so = bits.marks j i u there m in let same : so.0 ≡ c = (let e : held so.0 ≡ held c = sym so.2 ∙ now in (cc)) in
       ne (views.apart j id c u v there at (subst (λ (z : ℕ). Has (all_callers u) z) same (has_left u.callers (callers_in u.absorbed) so.0 so.1)) (has_left v.callers (callers_in v.absorbed) c has))
@@ -139,7 +139,7 @@ module _ (h k : List Event) (vs : List View) (id : ℕ) (v x : View) (n : ℕ) (
         (λ (t : (j ≢ id) × (get_elem? vs j ≡ some u)). let so = bits.marks j l u t.1 m in let ne : l ≢ i = λ e. others j u t.0 t.1 (subst (Marks u.mark) e m) in (so.0, so.1, turns l ne ∙ so.2)) (at_set vs id j x u there);
   }
 
--- node i is free or marked before the event and after it, or neither
+-- node i is free or marked both before the event and after it, or neither
 abbrev pub Lasting : List Event → Event → List View → Mark → ℕ → Type 0
 Lasting h e vs k i =
     (((turn_after h i ≡ free) ⊎ SomeMarks vs i) × ((turn_after (e ∷ h) i ≡ free) ⊎ Marks k i))
@@ -180,7 +180,7 @@ module _ (h : List Event) (vs : List View) (id : ℕ) (v : View) (k : Mark) (n :
       ⊎_elim (λ t. inl (same ∙ t.0, inr t.1)) (λ t. inr (same ∙ t.0, taken, t.1)) (here_at b bit))
       (λ m. (c, own, now))
 
--- the bit of node m is set, when those of the nodes before it are
+-- the bit of node m is set, after those of the nodes before it
 pub first_more : (n m : ℕ) (ws : List ℕ) → 0 < m → free_at n (m / 64) < length ws → FirstBits n m ws → FirstBits n (m + 1) (set ws (free_at n (m / 64)) (bit_or (get_or ws (free_at n (m / 64)) 0) (1 * 2 ^ (m % 64) % 2 ^ 64)))
 first_more n m ws pos wide bits = let q : ℕ = m / 64 in let a : ℕ = m % 64 in let low' : a < 64 = omega arith in let old : ℕ = get_or ws (free_at n q) 0 in let new : ℕ = bit_or old (1 * 2 ^ a % 2 ^ 64) in let us : List ℕ = set ws (free_at n q) new in
     let there : get_or us (free_at n q) 0 ≡ new = get_or-set_same ws (free_at n q) new 0 wide in

@@ -1,4 +1,4 @@
--- When a call may be decided at a node in hand.
+-- When a call may be decided at a node that its caller holds.
 use Rattle.std.proofs.Common.{◌≡◌, ◌≢◌, ℕ, ◌≤◌, Bool, true, false, cond, List, length, sym, refl, ap, ◌∙◌, subst, inl, inr}
 use Rattle.std.specs.Prelude.{Option, Some, None, IsTrue, nat_eq}
 use Rattle.std.proofs.lemmas.Bool.Decides.{eqb_tells}
@@ -115,7 +115,7 @@ module _ {N : Type 0} (sort : Sort) (shows : N → Body) where
   swap_keeps p old new None other = refl
   swap_keeps p old new (Some v) other = cond_else v old (sets p new) keeps (λ e. other (ap Some e))
 
-  -- y is x with what a call made of its pairs
+  -- y is x after a call has changed its pairs
   module _ (nodes c p : ℕ) (h : List Event) (x : Hand N) (mine : turn_after h x.node ≡ held c) (live : x.live ≡ true) (m : Matches sort shows h x) (inside : InInset (graph_after h) x.node p) (order : InOrder (content_of (shows x.body))) (here : next_at (shows x.body) p ≡ Here) where
     abbrev found : Option ℕ
     found = value_at (shows x.body).pairs p

@@ -1,4 +1,4 @@
--- How passes are made and put together, and what the last one knows.
+-- How passes are made and joined, and what the last one knows.
 use Rattle.std.proofs.Common.{◌≡◌, ◌≢◌, ℕ, zero, suc, ◌+◌, ◌*◌, ◌<◌, ◌⊎◌, Bool, true, false, cond, eqb, List, [], ◌∷◌, ◌++◌, length, map, max, get_or, set, sym, refl, ap, ◌∙◌, subst, inl, inr, ⊎_elim, arith, length-set}
 use Rattle.std.specs.Prelude.{Option, Some}
 use Rattle.std.proofs.lemmas.List.{set-get_or}
@@ -62,7 +62,7 @@ below_rest : (n : ℕ) (xs ys : List Event) → CallersBelow n (xs ++ ys) → Ca
 below_rest n [] ys b = b
 below_rest n (x ∷ xs) ys b = below_rest n xs ys b.1
 
--- a view after a pass is made is the new one, or but for its number an old one
+-- a view after a pass is made is the new one, or an old one in which only the count of passes may differ
 abbrev Comes : List View → View → ℕ → View → Type 0
 Comes vs v j x = ((j ≡ length vs) × (x ≡ next_view v)) ⊎ ((y : View) × (get_elem? vs j ≡ some y) × (x ≡ record { callers = y.callers; seen = y.seen; absorbed = y.absorbed; made = x.made; mark = y.mark }))
 
@@ -178,7 +178,7 @@ merged vs id other v w j x e = ⊎_elim (λ (t : (j ≡ other) × (spent_view �
     (λ (t : (j ≢ other) × (get_elem? (set vs id (both_views v w)) j ≡ some x)). ⊎_elim (λ (u : (j ≡ id) × (both_views v w ≡ x)). inr (inl (u.0, sym u.1))) (λ (u : (j ≢ id) × (get_elem? vs j ≡ some x)). inr (inr (u.0, t.0, u.1))) (at_set vs id j (both_views v w) x t.1))
     (at_set (set vs id (both_views v w)) other j spent_view x e)
 
--- where a caller's view, or the maker's, stood before
+-- the place, before the join, of the view that a caller, or the count of passes, was in
 abbrev Stood : List View → ℕ → ℕ → (View → Type 0) → ℕ → Type 0
 Stood vs id other P j = (k : ℕ) × (y : View) × (get_elem? vs k ≡ some y) × P y × (j ≡ cond (eqb k other) id k)
 

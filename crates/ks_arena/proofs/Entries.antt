@@ -1,5 +1,5 @@
 -- What is read of a run that has ended: states of nodes, a graph, and the entries of a good graph, gathered node after
--- node and then sorted, which are just what is found in it.
+-- node and then sorted; they are what is found in the graph, and nothing else.
 use Rattle.std.proofs.Common.{◌≡◌, ◌≢◌, ℕ, zero, suc, ◌+◌, ◌-◌, ◌<◌, ◌≤◌, ◌⊎◌, ◌↔◌, List, [], ◌∷◌, ◌++◌, length, map, get_or, Option, Some, None, refl, sym, ap, ◌∙◌, subst, inl, inr, ⊎_elim, arith, length-append, append_assoc, append-nil, add-one, take}
 use Rattle.std.specs.Prelude.{All, AllPairs, Contains}
 use Rattle.std.specs.Option.{option_copied}
@@ -77,7 +77,7 @@ read_at (y ∷ xs) zero x d is = some-injective y x is
 read_at (y ∷ xs) (suc i) x d is = read_at xs i x d is
 
 module _ {N : Type 0} (sort : Sort) (shows : N → Body) where
-  -- a node whose turn word is not 0 once nobody holds it is live
+  -- once nobody holds it, a node whose turn word is not 0 is live
   live_of : (s : NodeState) (f : Frame) (t : Turn) (x : maybe.Option (Option N)) → turn_word t ≢ 0 → Ends sort shows s f t x → (b : N) × (x ≡ some (Some b)) × (s ≡ Live (record_of (shows b)))
   live_of s f free x other so = absurd (other refl)
   live_of s f idle x other so = (so.0, so.1, so.2)
@@ -120,7 +120,7 @@ graph_whole g n xs long near far i = ⊎_elim (λ lt. near i lt) (λ le. graph_p
 
 -- entries of one node
 
--- no two entries have one place
+-- no two entries have the same place
 abbrev pub Apart : List (ℕ × ℕ) → Type 0
 Apart xs = AllPairs (λ x y. x.0 ≡ y.0 → ⊥) xs
 
@@ -140,7 +140,7 @@ entry_cases x z xs (suc k, lt, is) = inr (k, omega arith, is)
 no_entry : (z : ℕ × ℕ) → Contains [] z → ⊥
 no_entry z (k, lt, is) = omega arith
 
--- what is read at a place of a record stands among its entries
+-- what is read at a place of a record is among its entries
 value_entry : (xs : List Pair) (p v : ℕ) → first_value xs p ≡ Some v → Contains (map entry_of xs) (p, v)
 value_entry [] p v is = absurd (let q : ⊥ = cc in q)
 value_entry (x ∷ xs) p v is = dite (ℕ_discrete x.place p)
@@ -154,7 +154,7 @@ once_tail x xs once i j d lt within = once (suc i) (suc j) d (omega arith) (omeg
 once_head : (x : Pair) (xs : List Pair) → Once (x ∷ xs) → All (λ (y : Pair). x.place ≡ y.place → ⊥) xs
 once_head x xs once k d lt = once 0 (suc k) d (omega arith) (omega arith)
 
--- and the other way, where each place stands once
+-- and conversely, if each place is in one pair only
 entry_value : (xs : List Pair) (p v : ℕ) → Once xs → Contains (map entry_of xs) (p, v) → first_value xs p ≡ Some v
 entry_value [] p v once in' = absurd (no_entry (p, v) in')
 entry_value (x ∷ xs) p v once in' = ⊎_elim
@@ -253,7 +253,7 @@ module _ (g : ℕ → NodeState) (good : Good g) where
 
 -- the order after a sort
 
--- where the element at i of a list stood before a and b were swapped
+-- where the element at i of a list was before a and b were swapped
 abbrev Source : ℕ → ℕ → ℕ → ℕ → Type 0
 Source a b i k = ((i ≡ a) × (k ≡ b)) ⊎ (((i ≡ b) × (k ≡ a)) ⊎ ((i ≢ a) × (i ≢ b) × (k ≡ i)))
 

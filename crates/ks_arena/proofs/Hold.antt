@@ -1,4 +1,4 @@
--- What a pass has in hand, and what it knows of it, after each step.
+-- What a pass holds, and what it knows of it, after each step.
 use Rattle.std.proofs.Common.{◌≡◌, ◌≢◌, ℕ, ◌<◌, cond, eqb, List, [], ◌∷◌, ◌++◌, map, sym, refl, ap, ◌∙◌, subst, inl, inr, ⊎_elim}
 use Rattle.std.specs.Prelude.{Option, None}
 use mathlib.Core.Logic.{dite}
@@ -49,7 +49,7 @@ module _ (P : List Event → Type 0) where
   abbrev pub makes_grows : (e : Event) (v w : View) (c : ℕ) → v.callers ≡ c ∷ [] → Makes P e v w → GrowsWith c e v.seen w.seen
   makes_grows e v w c mine so = record { rest = so.rest; is = ap (λ (z : View). z.seen) so.is; others = none_by v.callers so.rest c so.others (has_one v.callers c mine) }
 
--- an event that gives c a node
+-- an event by which c comes to hold a node
 abbrev pub Gains : Event → List Event → ℕ → ℕ → Type 0
 Gains e h c i = (j : ℕ) → turn_after (e ∷ h) j ≡ cond (eqb j i) (held c) (turn_after h j)
 
@@ -144,7 +144,7 @@ module _ {N : Type 0} where
   drop_in (x ∷ xs) i = dite (ℕ_discrete x.0 i) (λ e. ap slots_in (cond_here x.0 i xs (x ∷ drop_slot i xs) e) ∙ sym (cond_here x.0 i (slots_in xs) (x.0 ∷ drop_one i (slots_in xs)) e))
       (λ ne. ap slots_in (cond_else x.0 i xs (x ∷ drop_slot i xs) ne) ∙ ap (λ (z : List ℕ). x.0 ∷ z) (drop_in xs i) ∙ sym (cond_else x.0 i (slots_in xs) (x.0 ∷ drop_one i (slots_in xs)) ne))
 
-  -- what a pass knows of its hand, as its view says it
+  -- what a pass knows of the nodes that it holds, as its view has it
   pub holds_it : (n : ℕ) (h : List Event) (c i : ℕ) (xs : List (ℕ × Option N)) → Carries n h c xs → slots_in xs ≡ hand c h → Has (hand c h) i → turn_after h i ≡ held c
   holds_it n h c i xs so same has = hand_held n h c xs i so.hands (has_in xs i (subst (λ (z : List ℕ). Has z i) (sym same) has))
 

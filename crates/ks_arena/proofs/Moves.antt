@@ -1,4 +1,4 @@
--- What each step of the arena asks and tells.
+-- What each step of the arena requires, and what is known after it.
 use Rattle.std.proofs.Common.{◌≡◌, ◌≢◌, ℕ, ◌+◌, ◌*◌, ◌/◌, max, bit_and, bit_or, w64, ◌%◌, ◌^◌, ◌<◌, ◌⊎◌, eqb, List, [], ◌∷◌, ◌++◌, length, get_or, set, sym, refl, ap, ◌∙◌, subst, inl, inr, ⊎_elim, arith, length-set, get_or-set_other, get_or-set_same, length-append}
 use Rattle.std.specs.Prelude.{Option, Some, None, All}
 use Rattle.std.proofs.lemmas.List.{set_comm, set-set}
@@ -53,11 +53,11 @@ one_more a b x more e = omega arith
 a_call_more : (xs : List Answered) (x : Answered) → length (xs ++ x ∷ []) ≡ length xs + 1
 a_call_more xs x = length-append xs (x ∷ [])
 
--- a power of two and the word tell which bit it is
+-- a power of two and the word determine which bit it is
 opened_same : (i j n : ℕ) → free_at n (i / 64) ≡ free_at n (j / 64) → 2 ^ (i % 64) ≡ 2 ^ (j % 64) → i ≡ j
 opened_same i j n word bit = dite (ℕ_discrete (j % 64) (i % 64)) (λ e. let same : i / 64 ≡ j / 64 = free_back n (i / 64) (j / 64) word in omega arith) (λ ne. let one : bit_at (2 ^ (j % 64)) (j % 64) ≡ 1 = bit_at-pow_same (j % 64) in let none_set : bit_at (2 ^ (i % 64)) (j % 64) ≡ 0 = bit_at-pow_other (i % 64) (j % 64) ne in absurd (omega (arith, one, none_set, ap (λ (z : ℕ). bit_at z (j % 64)) bit)))
 
--- what is given free has its bit set before, and what is given idle has not
+-- a node that is released as free has its bit set before, and one that is released as idle has not
 pub GivesMark : NodeState → ℕ → Mark → Type 0
 GivesMark t i k = ((turn_given t ≡ free) × (k ≡ Freeing i)) ⊎ ((turn_given t ≡ idle) × (k ≡ Quiet))
 
@@ -91,7 +91,7 @@ module _ {N : Type 0} (sort : Sort) (begins : Frame → Type 0) (asks : (ℕ →
   makes_marked n s r id v k e long at mine may = let f = r.views.each id v at in
       record { rest = f.rest; is = ap (λ (z : List Event). with_seen (marked k v) (e ∷ z)) f.is; others = f.others; sound = subst (λ (z : ℕ). SoundTo z (e ∷ r.trace)) long (r.sound, may); known = known_then s r id v e at mine }
 
-  -- the same mark
+  -- the mark stays
   abbrev pub looks_all : (n : ℕ) (s : State (Option N) View) (r : Rule s) (id : ℕ) (v : View) → length s.homes ≡ n → get_elem? s.views id ≡ some v → Looks (SoundTo n) v (with_seen v r.trace)
   looks_all n s r id v long at = let x = looks_marked n s r id v v.mark long at in record { rest = x.rest; is = x.is; others = x.others; sound = x.sound; known = x.known }
 
@@ -174,7 +174,7 @@ module _ {N : Type 0} (sort : Sort) (begins : Frame → Type 0) (asks : (ℕ →
   rests_given (Claimed d) f b so = (b, refl, so)
   rests_given (Live r) f b so = (b, refl, ap Live so.0, so.1)
 
-  -- the trace goes on after what the caller has seen by events of others
+  -- the trace continues what the caller has seen by events of others
   others_now : (s : State (Option N) View) (r : Rule s) (id : ℕ) (v : View) (c : ℕ) → get_elem? s.views id ≡ some v → v.callers ≡ c ∷ [] → GrowsByOthers c v.seen r.trace
   others_now s r id v c at mine = let f = r.views.each id v at in record { rest = f.rest; is = f.is; others = none_by v.callers f.rest c f.others (has_one v.callers c mine) }
 
@@ -196,7 +196,7 @@ module _ {N : Type 0} (sort : Sort) (begins : Frame → Type 0) (asks : (ℕ →
   InHand_not : (xs : List (ℕ × Option N)) (i k : ℕ) → ¬ InHand xs k → InHand xs i → k ≢ i
   InHand_not xs i k out has e = out (subst (InHand xs) (sym e) has)
 
-  -- the slots in hand are out
+  -- the slots that are held are out of the table
   abbrev Out : List (maybe.Option (Option N)) → List (ℕ × Option N) → Type 0
   Out hs [] = Unit {0}
   Out hs (x ∷ xs) = (get_elem? hs x.0 ≡ some none) × (¬ InHand xs x.0) × (x.1 ≡ None) × Out hs xs
@@ -205,7 +205,7 @@ module _ {N : Type 0} (sort : Sort) (begins : Frame → Type 0) (asks : (ℕ →
   out_set hs k a [] never out = tt
   out_set hs k a (x ∷ xs) never out = (set_else hs k x.0 a (λ e. never (inl e)) ∙ out.0, out.1, out.2, out_set hs k a xs (λ h. never (inr h)) out.3)
 
-  -- gives back the slots above that of i, and then it, and takes them again, with that of i on top
+  -- puts back the slots above that of i, and then that one, and takes them again, with that of i on top
   lift : (xs : List (ℕ × Option N)) (i : ℕ) → InHand xs i → Act (Option N)
   lift [] i h = keeps
   lift (x ∷ xs) i (inl e) = keeps

@@ -1,4 +1,4 @@
--- What the arena's calls tell of the rest: it is enough that the pass keeps what it holds.
+-- What a call of the arena leaves as it was: it is enough that the pass keeps what it holds.
 use Rattle.std.proofs.Common.{◌≡◌, ℕ, List, ◌∷◌}
 use Rattle.ks_keysets.specs.declared.Change.{Change}
 use Rattle.ks_node.specs.declared.node.Node.{Ghosts as NodeGhosts}

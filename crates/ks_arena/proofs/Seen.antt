@@ -49,12 +49,12 @@ no_more [] c h = h
 no_more (x ∷ cs) c (inl e) = inl e
 no_more (x ∷ cs) c (inr h) = inr (no_more cs c h)
 
--- the view that a step leaves: it stands for these callers and has seen all
+-- the view that a step leaves: it is of these callers and has seen all
 abbrev pub view_at : List ℕ → List Event → ℕ → Mark → View
 view_at cs h m k = record { callers = cs; seen = h; absorbed = []; made = m; mark = k }
 
 module _ (vs : List View) (id : ℕ) (v : View) (cs : List ℕ) (h : List Event) (k : Mark) (at : get_elem? vs id ≡ some v) (part : (c : ℕ) → Has cs c → Has (all_callers v) c) where
-  -- a view after the step has no caller that the one before had not, and its number
+  -- a view after the step has no caller that it had not before, and the same number
   before : (j : ℕ) (x : View) → get_elem? (set vs id (view_at cs h v.made k)) j ≡ some x → (y : View) × (get_elem? vs j ≡ some y) × ((c : ℕ) → Has (all_callers x) c → Has (all_callers y) c) × (x.made ≡ y.made)
   before j x e = ⊎_elim (λ (t : (j ≡ id) × (view_at cs h v.made k ≡ x)). (v, ap (get_elem? vs) t.0 ∙ at, (λ c a. part c (no_more cs c (subst (λ (z : View). Has (all_callers z) c) (sym t.1) a))), ap (λ (z : View). z.made) (sym t.1)))
       (λ (t : (j ≢ id) × (get_elem? vs j ≡ some x)). (x, t.1, (λ c a. a), refl)) (at_set vs id j (view_at cs h v.made k) x e)
@@ -67,7 +67,7 @@ fits_parts h es cs (p ∷ ps) own never so = let f = so.0 in (
   fits_parts h es cs ps own (λ c a b. never c a (has_right p.callers (callers_in ps) c b)) so.1,
 )
 
--- what has seen all stands for a caller
+-- what has seen all is of a caller
 parts_some : (h : List Event) (ps : List Part) → SomeWhole h ps → SomeCaller (callers_in ps)
 parts_some h [] a = absurd a
 parts_some h (p ∷ ps) (inl e) = (e.1.0, has_left p.callers (callers_in ps) e.1.0 e.1.1)

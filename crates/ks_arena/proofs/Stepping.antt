@@ -46,7 +46,7 @@ module _ {N : Type 0} (sort : Sort) (begins : Frame → Type 0) (asks : (ℕ →
     homes = r.homes;
   }
 
-  -- the event e changes the turn, the state or the frame of node i alone
+  -- the event e changes the turn, the state or the frame of node i only
   abbrev pub Alone : Event → List Event → ℕ → Type 0
   Alone e h i = (j : ℕ) → j ≢ i → (turn_after (e ∷ h) j ≡ turn_after h j) × (graph_after (e ∷ h) j ≡ graph_after h j) × (frame_after (blank_of sort) (e ∷ h) j ≡ frame_after (blank_of sort) h j)
 
@@ -101,7 +101,7 @@ module _ {N : Type 0} (sort : Sort) (begins : Frame → Type 0) (asks : (ℕ →
   rests_on a b f g t u x same (inl e) so = subst (λ (z : NodeState × Frame × Turn). Rests sort shows z.0 z.1 z.2 x) (λ k. (sym e.0 k, sym e.1 k, sym same k)) so
   rests_on a b f g t u x same (inr h) so = subst (λ (z : Turn). Rests sort shows b g z x) (sym (same ∙ h.1)) (subst (λ (z : Turn). Rests sort shows a f z x) h.1 so)
 
-  -- one event on the counting word k, which changes nodes that are held alone
+  -- one event on the counting word k, which changes only nodes that are held
   pub counts_at : (s : State (Option N) View) (r : Running sort begins asks shows s) (id : ℕ) (v : View) (e : Event) (k new : ℕ) → get_elem? s.views id ≡ some v → v.absorbed ≡ [] → Has v.callers (caller_of e) → caller_of e < 2 ^ 32 → k < 2
       → StepsSoundly sort begins asks (length s.homes) r.trace e → ((j : ℕ) → turn_after (e ∷ r.trace) j ≡ turn_after r.trace j) → ((j : ℕ) → Leaves e r.trace j)
       → get_or (set s.words k new) calls_at 0 ≡ number_after (e ∷ r.trace) → get_or (set s.words k new) shapes_at 0 ≡ shapes_in (e ∷ r.trace) % 2 ^ 64

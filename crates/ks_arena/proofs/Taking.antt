@@ -23,7 +23,7 @@ use Rattle.ks_arena.proofs.Hold.{top_same, out_of, holds_not, makes_grows}
 use Rattle.ks_arena.proofs.After.{pass_again, Looked, looked, Gained, gained}
 
 module _ {N D : Type 0} (sort : Sort) (begins : Frame → Type 0) (asks : (ℕ → NodeState) → (ℕ → Frame) → List Change → Type 0) (t : TableId) (callers : ℕ) where
-  -- the pass q has come out of p by looks alone
+  -- the pass q has come out of p by looks only
   pub record Waited (p q : Pass N D) : Type 0 where
     pub pass : IsPass sort begins asks t callers q
     pub caller : q.caller ≡ p.caller
@@ -73,7 +73,7 @@ module _ {N D : Type 0} (sort : Sort) (begins : Frame → Type 0) (asks : (ℕ �
       kept = kept_both start.caller (seen_of start) (seen_of p) (seen_of q) so.kept (subst (λ (z : ℕ). Kept z (seen_of p) (seen_of q)) so.caller a.kept);
     }
 
-    -- the exchange found it in hand or free
+    -- the exchange found it held or free
     pub missed : (r : ℕ) (start p q : Pass N D) → Waited start p → TookAt sort begins asks shows t.slots p.caller i p.seat.me r q.seat.me → r ≢ 1 → q.caller ≡ p.caller → q.seat.table_id ≡ p.seat.table_id → Waited start q
     missed r start p q so at miss whose table = let told = at.1 miss in let is = so.pass in
         let a : Looked sort begins asks t.slots p.caller p.seat.me q.seat.me = looked sort begins asks t.slots p.caller p.seat.me q.seat.me is.own is.carries is.slots told.1 told.0 in

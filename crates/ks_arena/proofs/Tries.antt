@@ -43,8 +43,8 @@ tried_more n c w h k l so looked kept found = record {
       (λ (low : 64 * w ≤ j). let at = in_word w j high low in taken_within h k l l j (by_others_begins c h k so.looked.grows) (begins_self l) (subst (WasTaken k l) at.1 (found (j - 64 * w) at.0 (subst (λ (z : ℕ). z < n) (sym at.1) near)))) (cases_lt j (64 * w));
 }
 
--- the tries among the nodes of free word w so far: those whose bits are no more in `left` were found taken; and where
--- nobody else acted or held a node, the others are free
+-- the tries among the nodes of free word w so far: those whose bits are no more in `left` were found taken; and if no other
+-- caller acted or held a node, the others are free
 pub record TriedIn (n w c left : ℕ) (h k : List Event) : Type 0 where
   pub looked : HasLooked c h k
   pub kept : Kept c h k
@@ -61,12 +61,12 @@ told_word n w c left h k looked kept told = record {
   rest = λ alone holds b low on. ⊎_elim (λ f. f) (λ other. absurd (other.1 (holds other.0 (64 * w + b) (subst (λ (z : List Event). turn_after z (64 * w + b) ≡ held other.0) (alone_still c h k alone looked.grows) other.2)))) (told.sets b low on).1;
 }
 
--- whoever acts alone does not miss
+-- a try cannot miss if no other caller acts
 pub missed_not_alone : (n w c left b : ℕ) (h k l : List Event) → TriedIn n w c left h k → HasLooked c k l → b < 64 → bit_at left b ≡ 1 → turn_after l (64 * w + b) ≢ free → ActsAlone c h l → HoldsAlone c h → ⊥
 missed_not_alone n w c left b h k l so looked low on found alone holds = let hk = by_others_begins c h k so.looked.grows in let kl = by_others_begins c k l looked.grows in
     let same : l ≡ k = alone_still c k l (alone_then c h k l hk kl alone) looked.grows in found (ap (λ (z : List Event). turn_after z (64 * w + b)) same ∙ so.rest (alone_first c h k l hk kl alone) holds b low on)
 
--- who acts alone from h to l did so before and after it looked
+-- if no other caller acts from h to l, none did before the look and none after it
 pub alone_next : (c : ℕ) (h k l : List Event) → HasLooked c h k → k ⊑ l → ActsAlone c h l → HoldsAlone c h → ActsAlone c h k × ActsAlone c k l × HoldsAlone c k
 alone_next c h k l looked kl alone holds = let hk = by_others_begins c h k looked.grows in let first = alone_first c h k l hk kl alone in
     (first, alone_then c h k l hk kl alone, subst (HoldsAlone c) (sym (alone_still c h k first looked.grows)) holds)

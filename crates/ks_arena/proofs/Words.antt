@@ -29,12 +29,12 @@ word_below n free r e low = omega arith
 word_below n idle r e low = omega arith
 word_below n (held c) r e low = let l : c < n = low c refl in omega arith
 
--- who holds a node has an event
+-- a caller that holds a node has an event
 pub held_below : (n : ℕ) (h : List Event) (i c : ℕ) → CallersBelow n h → turn_after h i ≡ held c → c < n
 held_below n [] i c low now = dite (ℕ_discrete i 0) (λ z. let e : idle ≡ held c = sym (cond_here i 0 idle free z) ∙ now in (cc)) (λ z. let e : free ≡ held c = sym (cond_else i 0 idle free z) ∙ now in (cc))
 held_below n (e ∷ h) i c low now = dite (ℕ_discrete (caller_of e) c) (λ z. let x = low.0 in omega arith) (λ z. held_below n h i c low.1 (other_turn h e c i z now))
 
--- where there is but one caller, it acts alone
+-- if there is only one caller, no other acts
 
 all_by_one : (es h : List Event) → CallersBelow 1 (es ++ h) → AllBy 0 es
 all_by_one [] h low = tt

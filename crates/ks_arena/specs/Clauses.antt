@@ -1,4 +1,4 @@
--- What the calls of the arena ask and tell.
+-- What the calls of the arena require and what they ensure.
 use Rattle.std.specs.Prelude.{map, length, slice_index, ◌≡◌, ◌≢◌, ℕ, ◌+◌, ◌*◌, ◌/◌, ◌^◌, ◌<◌, ◌≤◌, ◌==◌, if◌then◌else◌, List, [], ◌∷◌, ◌++◌, Option, Some, None, Bool, true, false}
 use mathlib.Core.Option.{some}
 use lib.ListN.{get_elem?}
@@ -39,7 +39,7 @@ use Rattle.ks_arena.specs.Rule.{turn_word, Ends}
 use Rattle.ks_arena.specs.Plays.{Carries}
 use Rattle.ks_arena.specs.Named.{AllNamedBelow}
 
--- what is known of a pass: whose it is, what it has seen of the trace, and the bit that it is about to change
+-- what is known of a pass: its caller, what it has seen of the trace, and the bit that it is about to change
 abbrev pub view_of : {N D : Type 0} → Pass N D → View
 view_of p = p.seat.me.0
 
@@ -56,8 +56,8 @@ abbrev pub hand_of : {N D : Type 0} → Pass N D → List ℕ
 hand_of p = hand p.caller (seen_of p)
 
 module _ (sort : Sort) (begins : Frame → Type 0) (asks : (ℕ → NodeState) → (ℕ → Frame) → List Change → Type 0) where
-  -- a pass of the arena with that table and so many callers, one of which is its own: what it has seen is sound, its slots are those of the nodes
-  -- that it holds, and this is its mark
+  -- a pass of the arena with that table and number of callers, one of which is its own: what it has seen is sound, its slots
+  -- are those of the nodes that it holds, and this is its mark
   pub record IsPassWith {N D : Type 0} (k : Mark) (t : TableId) (callers : ℕ) (p : Pass N D) : Type 0 where
     pub table : p.seat.table_id ≡ t
     pub bare : (view_of p).absorbed ≡ []
@@ -88,7 +88,7 @@ pub record IsNote {N D : Type 0} (t : TableId) (x : Note N D) : Type 0 where
   pub slots : x.seat.me.1 ≡ []
   pub quiet : x.seat.me.0.mark ≡ Quiet
 
--- what c holds after h stays, all of it, or all but node i, or all but what a list of changes names
+-- what c holds after h stays: all of it; all but node i; all but what a list of changes names
 abbrev pub Kept : ℕ → List Event → List Event → Type 0
 Kept c h k = (j : ℕ) → turn_after h j ≡ held c → StaysHeld c j h k
 
@@ -112,18 +112,18 @@ pub record HasLooked (c : ℕ) (h k : List Event) : Type 0 where
 abbrev pub WasTaken : List Event → List Event → ℕ → Type 0
 WasTaken h k j = Sometime h k (λ m. turn_after m j ≢ free)
 
--- a call with its number: how many calls stand before it
+-- a call with its number: how many calls are before it
 pub record Numbered (c : ℕ) (e : Event) (h k : List Event) (n : ℕ) : Type 0 where
   pub grows : GrowsWith c e h k
   pub number : n ≡ number_after (grows.rest ++ h)
 
--- the bit of a node that is given free is set before
+-- the bit of a node that is released as free is set before
 abbrev pub give_mark : Bool → ℕ → Mark
 give_mark true i = Quiet
 give_mark false i = Freeing i
 
--- how many steps it takes to give a node back: one brings its slot to the front, and one gives its turn away; a node that is not
--- live has its bit set before
+-- how many steps it takes to release a node: one brings its slot to the front, and one stores its turn; a node that is not live
+-- has its bit set before
 abbrev pub give_steps : Bool → ℕ
 give_steps true = 2
 give_steps false = 3
@@ -139,19 +139,19 @@ module _ {N : Type 0} where
   try_steps None = 1
   try_steps (Some x) = 2
 
-  -- how many steps a claim takes in a free word if nobody disturbs it: it loads the word, takes a turn and clears a bit
+  -- how many steps a claim in a free word takes while no other caller acts: it loads the word, takes a turn and clears a bit
   abbrev pub word_steps : Option (Hand N) → ℕ
   word_steps None = 1
   word_steps (Some x) = 3
 
-  -- how many steps a claim takes that nobody disturbs: it loads the free words up to that of the node, takes the turn
-  -- and clears the bit
+  -- how many steps a claim takes while no other caller acts: it loads the free words up to that of the node, takes the
+  -- turn and clears the bit
   abbrev pub steps_alone : ℕ → Option (Hand N) → ℕ
   steps_alone nodes None = free_words nodes
   steps_alone nodes (Some x) = x.node / 64 + 3
 
 module _ {N : Type 0} (sort : Sort) (shows : N → Body) where
-  -- a node in hand that is live has its record and frame after h; one that is not is blank
+  -- a held node that is live has its record and frame after h; one that is not is blank
   abbrev pub MatchesIf : Bool → NodeState → Frame → N → Type 0
   MatchesIf true s f b = (s ≡ Live (record_of (shows b))) × (f ≡ frame_of (shows b))
   MatchesIf false s f b = (live_record s ≡ None) × (shows b ≡ blank_body sort.ranged)
@@ -159,7 +159,7 @@ module _ {N : Type 0} (sort : Sort) (shows : N → Body) where
   pub record Matches (h : List Event) (x : Hand N) : Type 0 where
     pub is : MatchesIf x.live (graph_after h x.node) (frame_after (blank_of sort) h x.node) x.body
 
-  -- what is in this hand and shows its node still does: all of it, or all but node i, or all but what the changes name
+  -- a held body that shows its node still does: each; each but that of node i; each but those that the changes name
   abbrev pub StillMatch : List ℕ → List Event → List Event → Type 0
   StillMatch hs h k = (x : Hand N) → Has hs x.node → Matches h x → Matches k x
 
@@ -169,7 +169,7 @@ module _ {N : Type 0} (sort : Sort) (shows : N → Body) where
   abbrev pub StillMatchBesides : List Change → List ℕ → List Event → List Event → Type 0
   StillMatchBesides changes hs h k = (x : Hand N) → NamesNot changes x.node → Has hs x.node → Matches h x → Matches k x
 
-  -- c took node i, and has it in hand
+  -- c took node i, and holds it
   pub record HasTaken (c i : ℕ) (h k : List Event) (x : Hand N) : Type 0 where
     pub node : x.node ≡ i
     pub live : x.live ≡ true
@@ -179,18 +179,18 @@ module _ {N : Type 0} (sort : Sort) (shows : N → Body) where
     pub hand : hand c k ≡ i ∷ hand c h
     pub mine : mine c k ≡ Take c i ∷ mine c h
 
-  -- what a try to take node i tells: it has it, another caller has it, or it is free
+  -- the result of a try to take node i: c has it, another caller has it, or it is free
   abbrev pub TryTook : ℕ → ℕ → List Event → List Event → Taken N → Type 0
   TryTook c i h k (Held x) = HasTaken c i h k x
   TryTook c i h k (Busy d) = HasLooked c h k × (turn_after k i ≡ held d) × (d ≢ c)
   TryTook c i h k Gone = HasLooked c h k × (turn_after k i ≡ free)
 
-  -- what a take of node i tells, which waits while others hold it
+  -- the result of a take of node i, which waits while others hold it
   abbrev pub Took : ℕ → ℕ → List Event → List Event → Option (Hand N) → Type 0
   Took c i h k None = HasLooked c h k × (turn_after k i ≡ free)
   Took c i h k (Some x) = HasTaken c i h k x
 
-  -- c claimed the node that it has in hand, which is blank
+  -- c claimed this node, which is blank
   pub record HasClaimed (c : ℕ) (h k : List Event) (x : Hand N) : Type 0 where
     pub live : x.live ≡ false
     pub blank : shows x.body ≡ blank_body sort.ranged
@@ -208,17 +208,17 @@ module _ {N : Type 0} (sort : Sort) (shows : N → Body) where
   TryClaimed c i h k None = HasLooked c h k × (turn_after k i ≢ free)
   TryClaimed c i h k (Some x) = (x.node ≡ i) × HasClaimed c h k x
 
-  -- what a claim tells among the nodes of free word w: the first that it found free; or that each was at some moment not free
+  -- the result of a claim among the nodes of free word w: the first that it found free; or each was at some moment not free
   abbrev pub DidClaimIn : ℕ → ℕ → ℕ → List Event → List Event → Option (Hand N) → Type 0
   DidClaimIn nodes w c h k None = HasLooked c h k × ((b : ℕ) → b < 64 → 64 * w + b < nodes → WasTaken h k (64 * w + b))
   DidClaimIn nodes w c h k (Some x) = HasClaimed c h k x × (x.node < nodes) × ((b : ℕ) × (b < 64) × (x.node ≡ 64 * w + b) × ((a : ℕ) → a < b → WasTaken h k (64 * w + a)))
 
-  -- what a claim tells: the first node that it found free; or that each node was at some moment not free
+  -- the result of a claim: the first node that it found free; or each node was at some moment not free
   abbrev pub DidClaim : ℕ → ℕ → List Event → List Event → Option (Hand N) → Type 0
   DidClaim nodes c h k None = HasLooked c h k × ((j : ℕ) → j < nodes → WasTaken h k j)
   DidClaim nodes c h k (Some x) = HasClaimed c h k x × (0 < x.node) × (x.node < nodes) × ((j : ℕ) → 0 < j → j < x.node → WasTaken h k j)
 
-  -- the operation is lawful at the node after h, Full is due, and the body is the node after it
+  -- the operation is lawful at the node after h, a Full is due, and the body is the node after the operation
   pub record IsReady (nodes c : ℕ) (h : List Event) (x : Hand N) (op : Op) (reply : Reply) : Type 0 where
     pub live : x.live ≡ true
     pub meets : Meets h (Call c x.node op reply)
@@ -226,7 +226,7 @@ module _ {N : Type 0} (sort : Sort) (shows : N → Body) where
     pub state : state_with (written op reply) (graph_after h x.node) ≡ Live (record_of (shows x.body))
     pub frame : frame_after (blank_of sort) h x.node ≡ frame_of (shows x.body)
 
--- the passes that a start gives: numbered from 0, they have seen nothing and hold nothing
+-- the passes that a start returns: numbered from 0, they have seen nothing and hold nothing
 module _ (sort : Sort) (begins : Frame → Type 0) (asks : (ℕ → NodeState) → (ℕ → Frame) → List Change → Type 0) where
   pub record IsNewPass {N D : Type 0} (t : TableId) (callers c : ℕ) (p : Pass N D) : Type 0 where
     pub pass : IsPass sort begins asks t callers p
@@ -242,17 +242,17 @@ module _ (sort : Sort) (begins : Frame → Type 0) (asks : (ℕ → NodeState) �
     pub each : (j : ℕ) (p : Pass N D) → get_elem? ps j ≡ some p → IsPass sort begins asks t callers p × (hand_of p ≡ [])
     pub all : (c : ℕ) → c < callers → (j : ℕ) × (p : Pass N D) × (get_elem? ps j ≡ some p) × (p.caller ≡ c)
 
--- h begins with what each pass has seen, and has no more events of its caller
+-- h continues what each pass has seen, and has no more events of its caller
 abbrev pub EndsAll : {N D : Type 0} → List Event → List (Pass N D) → Type 0
 EndsAll {N} {D} h ps = (j : ℕ) (p : Pass N D) → get_elem? ps j ≡ some p → GrowsByOthers p.caller (seen_of p) h
 
 module _ {N : Type 0} (shows : N → Body) where
-  -- the state that a change gives to a node of this body: live with its record and frame, or free
+  -- the state that a change sets for a node of this body: live with its record and frame, or free
   abbrev pub new_state_of : Bool → N → NewState
   new_state_of true b = BecomesLive (record_of (shows b)) (frame_of (shows b))
   new_state_of false b = BecomesFree
 
-  -- what a shape makes of a node in hand
+  -- the change that a shape makes of a held node
   abbrev pub change_of : Hand N → Change
   change_of x = record { node = x.node; state = new_state_of x.live x.body }
 
@@ -264,7 +264,7 @@ module _ {N : Type 0} (shows : N → Body) where
   changes_of x y z = change_of x ∷ and_change y (and_change z [])
 
 module _ {N : Type 0} (sort : Sort) (shows : N → Body) where
-  -- the node is what its body shows, if the body is blank where the node is not live
+  -- the node is what its body shows, if the body of a node that is not live is blank
   abbrev pub IsShaped : List Event → Hand N → Type 0
   IsShaped h x = (x.live ≡ false → shows x.body ≡ blank_body sort.ranged) → Matches sort shows h x
 
@@ -298,7 +298,7 @@ trace_of r = r.trace
 abbrev pub nodes_in : {N : Type 0} → Run N → ℕ
 nodes_in r = length (slots_items r.remains.closed.slots)
 
--- a run over so many nodes that has ended: its trace is lawful, with a good graph throughout, each Full was due, the
+-- a run over this many nodes that has ended: its trace is lawful, with a good graph throughout, each Full was due, the
 -- words and bodies are those after the trace, and no other node was ever named or used
 module _ {N : Type 0} (sort : Sort) (shows : N → Body) where
   pub record IsRun (nodes : ℕ) (r : Run N) : Type 0 where

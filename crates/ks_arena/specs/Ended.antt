@@ -8,7 +8,7 @@ use Rattle.ks_keysets.specs.Keyset.{IsFound}
 use Rattle.ks_node.specs.Body.{Body}
 use Rattle.ks_node.specs.Edges.{record_of}
 
--- the entries, of a place and its value, ascend by place and are just what is found in the graph
+-- the entries, of a place and its value, ascend by place and are what is found in the graph, and nothing else
 pub record AreFound (g : ℕ → NodeState) (entries : List (ℕ × ℕ)) : Type 0 where
   pub exact : (p v : ℕ) → IsFound g p (Some v) ↔ Contains entries (p, v)
   pub ascend : AllPairs (λ x y. x.0 < y.0) entries

@@ -1,4 +1,4 @@
--- Traces whose events name nodes of the arena alone.
+-- Traces whose events name only nodes of the arena.
 use Rattle.std.specs.Prelude.{ℕ, ◌<◌, List, [], ◌∷◌, All}
 use Rattle.ks_history.specs.declared.Event.{Event}
 use Rattle.ks_history.specs.declared.Event.TheVariants.{Take, Give, Claim, Shape, Call}
@@ -11,7 +11,7 @@ NamesBelow n (Claim c i) = i < n
 NamesBelow n (Shape c changes) = All (λ x. x.node < n) changes
 NamesBelow n (Call c i op reply) = i < n
 
--- and so it is with each event of the trace
+-- so does each event of the trace
 abbrev pub AllNamedBelow : ℕ → List Event → Type 0
 AllNamedBelow n [] = Unit {0}
 AllNamedBelow n (e ∷ h) = AllNamedBelow n h × NamesBelow n e

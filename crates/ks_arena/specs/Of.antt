@@ -1,5 +1,5 @@
--- What calls ask of a pass of an arena and of nodes in hand, and what they tell of the pass before and after: the arena's
--- type knows the type of its nodes and their discipline.
+-- What calls require of a pass of an arena and of held nodes, and what they ensure of the pass before and after: the
+-- arena's type has the type of its nodes and their discipline.
 use Rattle.std.specs.Prelude.{ℕ, ◌≡◌, ◌<◌, List, [], ◌∷◌, Option, true}
 use denote.Bor.{Bor}
 use Rattle.ks_keysets.specs.declared.Change.{Change}
@@ -28,7 +28,7 @@ use Rattle.ks_arena.specs.Plays.{TellsFree}
 use Rattle.ks_arena.specs.Clauses.{AreShaped, Numbered, IsPass, IsPassWith, IsNote, IsNewCrew, IsCrew, IsReady, Matches, MayShape, Kept, KeptBut, KeptBesides, StillMatch, StillMatchBut, StillMatchBesides, HasLooked, TryTook, Took, TryClaimed, DidClaimIn, DidClaim, hand_of, mine_of, seen_of}
 
 module _ {N D : Type 0} where
-  -- whose pass it is; and of two passes, that both are of one caller
+  -- the caller of a pass; and that two passes are of one caller
   abbrev pub caller_of : Pass N D → ℕ
   caller_of p = p.caller
 
@@ -47,15 +47,15 @@ module _ {N D : Type 0} where
   abbrev pub IsInside : Pass N D → ℕ → ℕ → Type 0
   IsInside p i place = InInset (graph_after (seen_of p)) i place
 
-  -- the pass has seen what it had before, and maybe more
+  -- the pass has seen what it had before, and perhaps more
   abbrev pub SeesOn : Pass N D → Pass N D → Type 0
   SeesOn p q = seen_of p ⊑ seen_of q
 
-  -- the pass has seen this event of its caller, and beside it what others did
+  -- the pass has seen this event of its caller, and before it events of others
   abbrev pub Adds : Event → Pass N D → Pass N D → Type 0
   Adds e p q = GrowsWith p.caller e (seen_of p) (seen_of q)
 
-  -- so it is, and the event is a call with this number
+  -- the same, and the event is a call with this number
   abbrev pub AddsCall : Event → Pass N D → Pass N D → ℕ → Type 0
   AddsCall e p q number = Numbered p.caller e (seen_of p) (seen_of q) number
 
@@ -63,7 +63,7 @@ module _ {N D : Type 0} where
   abbrev pub Looks : Pass N D → Pass N D → Type 0
   Looks p q = HasLooked p.caller (seen_of p) (seen_of q)
 
-  -- what it holds stays as it is; all but node i; all but what the changes name
+  -- what it holds stays as it is: all of it; all but node i; all but what the changes name
   abbrev pub Keeps : Pass N D → Pass N D → Type 0
   Keeps p q = Kept p.caller (seen_of p) (seen_of q)
 
@@ -73,7 +73,7 @@ module _ {N D : Type 0} where
   abbrev pub KeepsBesides : List Change → Pass N D → Pass N D → Type 0
   KeepsBesides changes p q = KeptBesides changes p.caller (seen_of p) (seen_of q)
 
-  -- nobody else did anything meanwhile; and nobody else held a node before
+  -- no other caller did anything meanwhile; and none held a node before
   abbrev pub WasAlone : Pass N D → Pass N D → Type 0
   WasAlone p q = ActsAlone p.caller (seen_of p) (seen_of q)
 
@@ -103,11 +103,11 @@ module _ {N D P : Type 0} {n : NodeGhosts N P} {q : PlacingGhosts P} {d : Discip
   abbrev pub IsMarkedPassOf : Arena N D P n q d → Mark → Pass N D → Type 0
   IsMarkedPassOf a mark p = IsPassWith (sort_of n.layout n.ranged) d.begins d.step mark a.table.shared.table_id a.callers p
 
-  -- the passes that a start gives
+  -- the passes that a start returns
   abbrev pub AreNewPassesOf : Arena N D P n q d → List (Pass N D) → Type 0
   AreNewPassesOf a ps = IsNewCrew (sort_of n.layout n.ranged) d.begins d.step a.table.shared.table_id a.callers ps
 
-  -- a start gives an arena of so many nodes, and a pass for each of so many callers
+  -- a start makes an arena of this many nodes, and a pass for each of this many callers
   abbrev pub IsStart : Arena N D P n q d → ℕ → ℕ → List (Pass N D) → Type 0
   IsStart a nodes callers ps = (nodes_of a ≡ nodes) × (callers_of a ≡ callers) × AreNewPassesOf a ps
 
@@ -119,14 +119,14 @@ module _ {N D P : Type 0} {n : NodeGhosts N P} {q : PlacingGhosts P} {d : Discip
   abbrev pub IsNoteFrom : Arena N D P n q d → Note N D → Type 0
   IsNoteFrom a x = IsNote a.table.shared.table_id x
 
-  -- the body in hand is that of its node, as far as the pass has seen; and the node is live
+  -- the held body is that of its node, as far as the pass has seen; and the node is live
   abbrev pub IsCurrent : Arena N D P n q d → Pass N D → Hand N → Type 0
   IsCurrent a p x = Matches (sort_of n.layout n.ranged) n.body (seen_of p) x
 
   abbrev pub IsLiveAndCurrent : Arena N D P n q d → Pass N D → Hand N → Type 0
   IsLiveAndCurrent a p x = (x.live ≡ true) × IsCurrent a p x
 
-  -- bodies in hand that were current still are; all but that of node i; all but those of nodes that the changes name
+  -- held bodies that were current still are: all; all but that of node i; all but those of nodes that the changes name
   abbrev pub StayCurrent : Arena N D P n q d → Pass N D → Pass N D → Type 0
   StayCurrent a p p' = StillMatch (sort_of n.layout n.ranged) n.body (hand_of p) (seen_of p) (seen_of p')
 
@@ -136,7 +136,7 @@ module _ {N D P : Type 0} {n : NodeGhosts N P} {q : PlacingGhosts P} {d : Discip
   abbrev pub StayCurrentBesides : Arena N D P n q d → List Change → Pass N D → Pass N D → Type 0
   StayCurrentBesides a changes p p' = StillMatchBesides (sort_of n.layout n.ranged) n.body changes (hand_of p) (seen_of p) (seen_of p')
 
-  -- the rest is as it was: what the pass holds stays, and bodies in hand that were current still are; all but node i
+  -- the rest is as it was: what the pass holds stays, and held bodies that were current still are; all but node i
   pub record RestStays (a : Arena N D P n q d) (p p' : Pass N D) : Type 0 where
     pub kept : Keeps p p'
     pub still : StayCurrent a p p'
@@ -145,7 +145,7 @@ module _ {N D P : Type 0} {n : NodeGhosts N P} {q : PlacingGhosts P} {d : Discip
     pub kept : KeepsBut i p p'
     pub still : StayCurrentBut a i p p'
 
-  -- what a try to take node i tells; what a take tells, which waits; and what a claim tells
+  -- the result of a try to take node i; that of a take, which waits; and that of a claim
   abbrev pub TriedToTake : Arena N D P n q d → ℕ → Pass N D → Pass N D → Taken N → Type 0
   TriedToTake a i p p' taken = TryTook (sort_of n.layout n.ranged) n.body p.caller i (seen_of p) (seen_of p') taken
 
@@ -155,7 +155,7 @@ module _ {N D P : Type 0} {n : NodeGhosts N P} {q : PlacingGhosts P} {d : Discip
   abbrev pub HasClaimedFrom : Arena N D P n q d → Pass N D → Pass N D → Option (Hand N) → Type 0
   HasClaimedFrom a p p' claimed = DidClaim (sort_of n.layout n.ranged) n.body a.nodes p.caller (seen_of p) (seen_of p') claimed
 
-  -- what a try to claim node i tells, and a claim among the nodes of free word w; and what a read of free word w tells
+  -- the result of a try to claim node i; that of a claim among the nodes of free word w; and what free word w says
   abbrev pub TriedToClaim : Arena N D P n q d → ℕ → Pass N D → Pass N D → Option (Hand N) → Type 0
   TriedToClaim a i p p' claimed = TryClaimed (sort_of n.layout n.ranged) n.body p.caller i (seen_of p) (seen_of p') claimed
 
@@ -187,11 +187,11 @@ module _ {N D P : Type 0} {n : NodeGhosts N P} {q : PlacingGhosts P} {d : Discip
   abbrev pub IsReadyAt : Arena N D P n q d → Pass N D → Hand N → Op → Reply → Type 0
   IsReadyAt a p x op reply = IsReady (sort_of n.layout n.ranged) n.body a.nodes p.caller (seen_of p) x op reply
 
-  -- it may be at the node once it has these pairs in place of its own
+  -- it may be decided at the node once this has these pairs in place of its own
   abbrev pub IsReadyOnce : Arena N D P n q d → Pass N D → Hand N → List Pair → Op → Reply → Type 0
   IsReadyOnce a p x pairs op reply = (y : Hand N) → y.node ≡ x.node → y.live ≡ true → n.body y.body ≡ with_pairs (n.body x.body) pairs → IsReadyAt a p y op reply
 
-  -- since some moment, from which the caller made no call, no node was free for the place
+  -- no node was free for the place since some moment, and the caller made no call since
   abbrev pub WasRefusedAt : Arena N D P n q d → Pass N D → ℕ → Type 0
   WasRefusedAt a p place = (start : List Event) × (since : start ⊑ seen_of p) × NoCallBy p.caller since.rest × NoneFree n.layout a.nodes p.caller place start (seen_of p)
 
@@ -199,7 +199,7 @@ module _ {N D P : Type 0} {n : NodeGhosts N P} {q : PlacingGhosts P} {d : Discip
   abbrev pub StaysFullFor : Arena N D P n q d → Pass N D → ℕ → ℕ → Type 0
   StaysFullFor a p i place = (h : List Event) → GrowsByOthers p.caller (seen_of p) h → Sound (sort_of n.layout n.ranged) d.begins d.step a.table.shared.table_id.slots h → IsFullFor n.layout (graph_after h) i place
 
-  -- what a Shape leaves of the nodes in hand
+  -- what the held bodies are after a Shape
   abbrev pub AreCurrent : Arena N D P n q d → Pass N D → Hand N → Option (Bor (Hand N)) → Option (Bor (Hand N)) → Type 0
   AreCurrent a p x y z = AreShaped (sort_of n.layout n.ranged) n.body (seen_of p) x y z
 

@@ -1,4 +1,4 @@
--- What each step tells its seat.
+-- What each step shows the seat that makes it.
 use Rattle.std.specs.Prelude.{◌≡◌, ◌≢◌, ℕ, ◌+◌, ◌*◌, ◌/◌, ◌%◌, ◌^◌, ◌<◌, ◌⊎◌, ◌==◌, if◌then◌else◌, List, [], ◌∷◌, ◌++◌, Option, Some, None}
 use Rattle.std.specs.Int.{bit_at}
 use Rattle.atomic_table.specs.Table.{Me, Step}
@@ -32,12 +32,12 @@ abbrev pub drop_slot : {S : Type 0} → ℕ → List (ℕ × S) → List (ℕ ×
 drop_slot i [] = []
 drop_slot i (x ∷ xs) = if x.0 == i then xs else x ∷ drop_slot i xs
 
--- the slot of node i is in hand
+-- the slot of node i is held
 abbrev pub InHand : {S : Type 0} → List (ℕ × S) → ℕ → Type 0
 InHand [] i = ⊥
 InHand (x ∷ xs) i = (x.0 ≡ i) ⊎ InHand xs i
 
--- the slots in hand are those of nodes below n that c holds, each once, and empty
+-- the held slots are those of nodes below n that c holds, each once, and empty
 abbrev pub HasSlots : {N : Type 0} → ℕ → List Event → ℕ → List (ℕ × Option N) → Type 0
 HasSlots n h c [] = Unit {0}
 HasSlots n h c (x ∷ xs) = (x.0 < n) × (x.1 ≡ None) × (turn_after h x.0 ≡ held c) × (¬ InHand xs x.0) × HasSlots n h c xs
@@ -47,13 +47,13 @@ pub record Carries {N : Type 0} (n : ℕ) (h : List Event) (c : ℕ) (slots : Li
   pub hands : HasSlots n h c slots
   pub all : (i : ℕ) → turn_after h i ≡ held c → InHand slots i
 
--- what free word w tells caller c, which is about to change no bit: a set bit is that of a node that is free or that
+-- what free word w says to caller c, which is about to change no bit: a set bit is that of a node that is free or that
 -- another caller holds, and the node of a clear bit is not free
 pub record TellsFree (n w c : ℕ) (h : List Event) (word : ℕ) : Type 0 where
   pub sets : (b : ℕ) → b < 64 → bit_at word b ≡ 1 → (64 * w + b < n) × ((turn_after h (64 * w + b) ≡ free) ⊎ ((d : ℕ) × (d ≢ c) × (turn_after h (64 * w + b) ≡ held d)))
   pub clears : (b : ℕ) → b < 64 → 64 * w + b < n → bit_at word b ≡ 0 → turn_after h (64 * w + b) ≢ free
 
--- a pass as a step finds or leaves it: what is known of it, and the slots in its hands
+-- a pass as a step finds or leaves it: what is known of it, and the slots that it holds
 abbrev pub Seated : Type 0 → Type 0
 Seated N = Me (Option N) View
 
@@ -124,8 +124,8 @@ module _ {N : Type 0} (sort : Sort) (begins : Frame → Type 0) (asks : (ℕ →
   abbrev pub formed : Step (Option N) → Event → Seated N → Seated N → Type 0
   formed st e m m' = Makes (Sound sort begins asks st.slots) e m.0 m'.0 × (m'.1 ≡ m.1)
 
-  -- the view has become the whole trace and stands for all callers that it took in. What each had seen began it, and it
-  -- has all events of each
+  -- the view has become the whole trace and is of all callers that it took in. What each had seen was a beginning of it, and
+  -- it has all events of each
   abbrev pub gathered : Step (Option N) → Seated N → Seated N → Type 0
   gathered st m m' = (m'.1 ≡ m.1) × (m'.0 ≡ record { callers = all_callers m.0; seen = m'.0.seen; absorbed = []; made = m.0.made; mark = m.0.mark })
       × Fits m'.0.seen m.0.callers m.0.seen × FitsAll m'.0.seen m.0.absorbed × Sound sort begins asks st.slots m'.0.seen × (m.0.made ≢ 0 → CallersBelow m.0.made m'.0.seen)

@@ -1,5 +1,5 @@
--- Reuse of nodes: one that a Shape made free, and that was given back, is claimed again, and a Shape makes another node of it. A search
--- that came by its number may find it so.
+-- Reuse of nodes: one that a Shape made free, and that was released, is claimed again, and a Shape makes another node of it.
+-- A search that has its number may find that one.
 use Rattle.std.specs.Prelude.{ℕ, ◌≡◌, List, [], ◌∷◌, Some, All, Any}
 use Rattle.ks_keysets.specs.declared.Frame.{Frame}
 use Rattle.ks_keysets.specs.declared.NodeState.{NodeState}
@@ -19,8 +19,8 @@ UsedAgain h k i = Sometime h k (λ a. IsLive (graph_after a) i × Sometime a k (
 abbrev pub NoEdgeTo : (ℕ → NodeState) → ℕ → Type 0
 NoEdgeTo g i = (n : ℕ) (r : Record) → record_at g n ≡ Some r → ¬ Any (λ e. e.node ≡ i) r.edges
 
--- what an event after h does to nobody: it takes a node that is live; claims one that nobody holds, and to which no edge of a live
--- node leads; gives back or shapes what its caller holds; and is a call at a node whose keyset then has the places of the
+-- an event after h that does no harm: it takes a node that is live; claims one that nobody holds, and to which no edge of a
+-- live node leads; releases or shapes what its caller holds; or is a call at a node whose keyset then has the places of the
 -- operation, whatever the node was before
 abbrev pub StepsSafely : List Event → Event → Type 0
 StepsSafely h (Take c i) = IsLive (graph_after h) i
@@ -37,8 +37,8 @@ AreSafe (e ∷ h) = AreSafe h × StepsSafely h e
 abbrev pub KeepsLive : ((ℕ → NodeState) → (ℕ → Frame) → (ℕ → NodeState) → (ℕ → Frame) → Type 0) → Type 0
 KeepsLive lasts = (g k : ℕ → NodeState) (f j : ℕ → Frame) → lasts g f k j → (i : ℕ) → IsLive g i → IsLive k i
 
--- from h to k the reuse of nodes does no harm: each event is safe; a node that was used again was for a moment one to which no edge of
--- a live node led; and where live nodes last, none was used again
+-- from h to k the reuse of nodes does no harm: each event is safe; to a node that was used again no edge of a live node led
+-- for a moment; and if live nodes last, none was used again
 pub record ReusesSafely (lasts : (ℕ → NodeState) → (ℕ → Frame) → (ℕ → NodeState) → (ℕ → Frame) → Type 0) (h k : List Event) : Type 0 where
   pub steps : AreSafe k
   pub apart : (i : ℕ) → UsedAgain h k i → Sometime h k (λ m. NoEdgeTo (graph_after m) i)

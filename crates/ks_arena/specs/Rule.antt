@@ -21,7 +21,7 @@ use Rattle.ks_node.specs.Edges.{record_of}
 use Rattle.ks_arena.specs.Sound.{Sort, blank_of, Sound}
 use Rattle.ks_arena.specs.Spots.{calls_at, shapes_at, turn_at, free_at, words_for}
 
--- h begins with what a seat had seen, and goes on by events of others than its callers
+-- h continues what a seat had seen by events of others than its callers
 pub record Fits (h : List Event) (callers : List ℕ) (seen : List Event) : Type 0 where
   pub rest : List Event
   pub is : h ≡ rest ++ seen
@@ -43,20 +43,20 @@ all_callers v = v.callers ++ callers_in v.absorbed
 abbrev pub SomeCaller : List ℕ → Type 0
 SomeCaller cs = (c : ℕ) × Has cs c
 
--- one of the parts stands for a caller and has seen all
+-- one of the parts is of a caller and has seen all
 abbrev pub SomeWhole : List Event → List Part → Type 0
 SomeWhole h [] = ⊥
 SomeWhole h (p ∷ ps) = ((p.seen ≡ h) × SomeCaller p.callers) ⊎ SomeWhole h ps
 
--- the view, or a part of it, does
+-- so is the view, or a part of it
 abbrev pub IsWhole : List Event → View → Type 0
 IsWhole h v = ((v.seen ≡ h) × SomeCaller v.callers) ⊎ SomeWhole h v.absorbed
 
 abbrev pub AllBelow : ℕ → List ℕ → Type 0
 AllBelow n cs = (c : ℕ) → Has cs c → c < n
 
--- the first sentence: h is what a pass has seen, and what any pass or note has seen is a beginning of it; each view has
--- all events of its own callers, no caller has two views, and one view, which stands for caller 0, counts the passes
+-- what any pass or note has seen is a beginning of h, and some caller has seen all of it; each view has all events of its
+-- own callers, no caller has two views, and one view, that of caller 0, counts the passes
 pub record Views (h : List Event) (vs : List View) : Type 0 where
   pub each : (j : ℕ) (v : View) → get_elem? vs j ≡ some v → Fits h v.callers v.seen
   pub parts : (j : ℕ) (v : View) → get_elem? vs j ≡ some v → FitsAll h v.absorbed
@@ -76,7 +76,7 @@ turn_word (held c) = c + 2
 abbrev pub free_bit : ℕ → List ℕ → ℕ → ℕ → ℕ
 free_bit n words w b = bit_at (slice_index words (free_at n w)) b
 
--- the mark says that the caller is about to clear the bit of node i, or has set it and is about to give the node free
+-- the mark says that the caller is about to clear the bit of node i, or has set it and is about to release the node as free
 abbrev pub Marks : Mark → ℕ → Type 0
 Marks Quiet i = ⊥
 Marks (Claiming j) i = j ≡ i
@@ -85,7 +85,7 @@ Marks (Freeing j) i = j ≡ i
 abbrev pub SomeMarks : List View → ℕ → Type 0
 SomeMarks vs i = (j : ℕ) × (v : View) × (get_elem? vs j ≡ some v) × Marks v.mark i
 
--- the bit of a node is set exactly where the node is free or a mark of its holder names it; bits of no node are clear; and
+-- the bit of a node is set if and only if the node is free or a mark of its holder names it; bits of no node are clear; and
 -- a mark is of a node that a caller of its view holds
 pub record FreeBits (h : List Event) (vs : List View) (n : ℕ) (words : List ℕ) : Type 0 where
   pub sets : (w b : ℕ) → b < 64 → free_bit n words w b ≡ 1 → (64 * w + b < n) × ((turn_after h (64 * w + b) ≡ free) ⊎ SomeMarks vs (64 * w + b))
@@ -131,11 +131,11 @@ next_view v = record { callers = v.made ∷ []; seen = v.seen; absorbed = []; ma
 abbrev pub maker_view : View → View
 maker_view v = record { callers = v.callers; seen = v.seen; absorbed = v.absorbed; made = v.made + 1; mark = v.mark }
 
--- a view of what v has seen, which stands for no caller
+-- a view of what v has seen, which is of no caller
 abbrev pub note_view : View → View
 note_view v = record { callers = []; seen = v.seen; absorbed = []; made = 0; mark = Quiet }
 
--- a view that takes another in, and what is left of that
+-- a view that takes another in, and what is left of the other
 abbrev pub part_of : View → Part
 part_of v = record { callers = v.callers; seen = v.seen }
 
@@ -161,7 +161,7 @@ module _ {N : Type 0} (sort : Sort) (shows : N → Body) where
   AllBlank xs = (i : ℕ) → i < length xs → (b : N) × (get_elem? xs i ≡ some (Some b)) × (shows b ≡ blank_body sort.ranged)
 
 module _ {N : Type 0} (sort : Sort) (begins : Frame → Type 0) (asks : (ℕ → NodeState) → (ℕ → Frame) → List Change → Type 0) (shows : N → Body) where
-  -- the words and slots of a table that nobody uses any more, whose trace is h
+  -- the words and slots of a table that is no longer in use, whose trace is h
   pub record Closes (h : List Event) (ws : List ℕ) (xs : List (Option N)) : Type 0 where
     pub sound : Sound sort begins asks (length xs) h
     pub count : slice_index ws calls_at ≡ number_after h

@@ -25,7 +25,7 @@ blank_of sort = frame_of (blank_body sort.ranged)
 
 module _ (sort : Sort) (begins : Frame → Type 0) (asks : (ℕ → NodeState) → (ℕ → Frame) → List Change → Type 0) (nodes : ℕ) where
   -- the condition of an event in the state after the trace h: a claim names one of the nodes; a shape names nodes that
-  -- its caller holds, each once, as the discipline asks; the reply Full is due
+  -- its caller holds, each once, as the discipline requires; the reply Full is due
   abbrev pub StepsSoundly : List Event → Event → Type 0
   StepsSoundly h (Take c i) = Meets h (Take c i)
   StepsSoundly h (Give c i) = Meets h (Give c i)

@@ -1,5 +1,5 @@
--- Where the words of a table stand. What is written often stands 64 bytes from the next, so that no cache line has two
--- of them: the count of calls, and each turn. Between them is room.
+-- Where the words of a table are. Those that are often written, the count of calls and each turn, are 64 bytes apart, so
+-- that no two share a cache line. The words between are unused.
 use Rattle.std.specs.Prelude.{ℕ, ◌+◌, ◌*◌}
 use Rattle.std.specs.Int.{div_ceil}
 
@@ -15,7 +15,7 @@ shapes_at = 1
 abbrev pub turn_at : ℕ → ℕ
 turn_at i = 8 * (i + 1)
 
--- free word w of n nodes: it stands behind their turns
+-- free word w of n nodes: it is behind their turns
 abbrev pub free_at : ℕ → ℕ → ℕ
 free_at n w = turn_at n + w
 

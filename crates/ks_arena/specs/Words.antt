@@ -1,4 +1,4 @@
--- What a step on a word of an arena's table asks of the seat that makes it, and what it leaves.
+-- What a step on a word of an arena's table requires of the seat that makes it, and what it leaves.
 use Rattle.std.specs.Prelude.{ℕ, ◌≡◌, ◌<◌, Option, []}
 use mathlib.Core.Option.{none}
 use Rattle.atomic_table.specs.Table.{Allows, Joins, Splits, Step, step}
@@ -21,7 +21,7 @@ module _ {N D P : Type 0} {n : NodeGhosts N P} {q : PlacingGhosts P} {d : Discip
   abbrev pub step_on : Arena N D P n q d → ℕ → ℕ → ℕ → Step (Option N)
   step_on a word first second = step a.table.shared.table_id.slots word first second none
 
-  -- the seat may make a step that changes the word so, of which it then knows this: the rule holds after it, whatever the table is
+  -- the seat may make a step that changes the word so, and afterwards it knows this: the rule is kept, whatever the table is
   abbrev pub MayStep : Arena N D P n q d → Seat (Option N) View → ℕ → (ℕ → ℕ) → (ℕ → Seated N → Type 0) → Type 0
   MayStep a s word becomes told = (s.table_id ≡ a.table.shared.table_id) × (word < a.table.shared.table_id.words)
       × Allows (Running (sort_of n.layout n.ranged) d.begins d.step n.body) a.table.shared.table_id.slots s.id s.me word becomes told

@@ -29,8 +29,8 @@ pub fn root_law<N: Node>(root: &Held<N>, place: u64)
 {}
 
 impl<N: Node, D: Discipline> Arena<N, D> {
-    /// A Get may be decided at a live node in hand whose inset has the place, and where the search for it ends. Its
-    /// reply tells what the body has there.
+    /// A Get may be decided at a live node that the caller holds, whose inset has the place, and where the search for it
+    /// ends. Its reply is what the body has there.
     pub fn get_law(&self, pass: &Pass<N, D>, held: &Held<N>, place: u64, reply: &Reply)
         requires pass { IsPassOf self.now pass.now }
         requires holds { Holds pass.now held.now.node }
@@ -44,8 +44,8 @@ impl<N: Node, D: Discipline> Arena<N, D> {
         node_law(&held.body);
     }
 
-    /// Where a Get may be decided, a Put may be once the value is put at the place in the body. Its reply tells what
-    /// stood there.
+    /// If a Get may be decided, a Put may be once the value is put at the place in the body. Its reply is what was there
+    /// before.
     pub fn put_law(&self, pass: &Pass<N, D>, held: &Held<N>, place: u64, value: u128)
         requires pass { IsPassOf self.now pass.now }
         requires holds { Holds pass.now held.now.node }
@@ -60,8 +60,8 @@ impl<N: Node, D: Discipline> Arena<N, D> {
         node_law(&held.body);
     }
 
-    /// Where a Get may be decided, a Del may be once the pair of the place is deleted from the body. Its reply tells
-    /// what stood there.
+    /// If a Get may be decided, a Del may be once the pair of the place is deleted from the body. Its reply is what was
+    /// there before.
     pub fn del_law(&self, pass: &Pass<N, D>, held: &Held<N>, place: u64)
         requires pass { IsPassOf self.now pass.now }
         requires holds { Holds pass.now held.now.node }
@@ -75,8 +75,8 @@ impl<N: Node, D: Discipline> Arena<N, D> {
         node_law(&held.body);
     }
 
-    /// Where a Get may be decided, an Add may be. Where the body has a value at the place, the reply tells it and the body
-    /// stays; else the value is put there.
+    /// If a Get may be decided, an Add may be. If the body has a value at the place, that is the reply and the body stays;
+    /// else the value is put there.
     pub fn add_law(&self, pass: &Pass<N, D>, held: &Held<N>, place: u64, value: u128)
         requires pass { IsPassOf self.now pass.now }
         requires holds { Holds pass.now held.now.node }
@@ -92,8 +92,8 @@ impl<N: Node, D: Discipline> Arena<N, D> {
         node_law(&held.body);
     }
 
-    /// Where a Get may be decided, a Swap may be. Its reply tells what stood at the place. Where that is the old value, the
-    /// new one is put there; else the body stays.
+    /// If a Get may be decided, a Swap may be. Its reply is what was at the place before. If that is the old value, the new
+    /// one is put there; else the body stays.
     pub fn swap_law(&self, pass: &Pass<N, D>, held: &Held<N>, place: u64, old: u128, new: u128)
         requires pass { IsPassOf self.now pass.now }
         requires holds { Holds pass.now held.now.node }
@@ -109,9 +109,9 @@ impl<N: Node, D: Discipline> Arena<N, D> {
         node_law(&held.body);
     }
 
-    /// Where a Get may be decided, a Put or an Add may be refused where the body is full and has no pair at the place, if no
-    /// node was free for it since some moment after which the caller has made no call. The node stays full for the place
-    /// while others act.
+    /// If a Get may be decided, a Put or an Add may be refused if the body is full and has no pair at the place, and no node
+    /// was free for it since some moment after which the caller has made no call. The node stays full for the place while
+    /// others act.
     pub fn full_law(&self, pass: &Pass<N, D>, held: &Held<N>, place: u64, value: u128)
         requires pass { IsPassOf self.now pass.now }
         requires holds { Holds pass.now held.now.node }

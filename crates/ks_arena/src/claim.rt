@@ -16,7 +16,7 @@ use ks_node::Node;
 use std::sync::Wait;
 
 impl<N: Node, D: Discipline> Arena<N, D> {
-    /// Takes the node once nobody else holds it. `None`: it is free.
+    /// Takes the node; waits while another caller holds it. `None`: it is free.
     #[inline(always)]
     pub fn take<R: Wait>(&self, rt: &R, pass: &mut Pass<N, D>, node: u32) -> Option<Held<N>>
         requires pass { IsPassOf self.now pass.old }
@@ -54,7 +54,7 @@ impl<N: Node, D: Discipline> Arena<N, D> {
         unreachable!()
     }
 
-    /// Where callers sleep until the root is free, the arrival of another counts, and some of these wake one of them.
+    /// At the root, counts the arrival; after a number of arrivals it wakes one caller that sleeps until the root is free.
     #[inline(always)]
     fn count_arrival(&self, node: u32) {
         if node == ROOT {
@@ -69,9 +69,9 @@ impl<N: Node, D: Discipline> Arena<N, D> {
         self.peek(steps, turn_at(node as usize)) <= 1
     }
 
-    /// Waits until nobody has the node, at some moment: looks at its turn, ever more seldom, for each look takes its cache
-    /// line from the holder, and then lets others have its processor between looks. At the root it then sleeps, and begins
-    /// anew: who waits for the root holds no node, so nobody waits for a sleeper.
+    /// Waits until nobody has the node, at some moment. It looks at the node's turn less and less often, for each look takes
+    /// the cache line from the holder, and then yields the processor between looks. At the root it then sleeps, and starts
+    /// over: a caller that waits for the root holds no node, so nobody waits for one that sleeps.
     #[cold]
     #[inline(never)]
     fn watch<R: Wait>(&self, rt: &R, steps: &mut Steps, node: u32)
@@ -91,7 +91,7 @@ impl<N: Node, D: Discipline> Arena<N, D> {
         }
     }
 
-    /// Sleeps until it is woken, for a millisecond at most; returns at once if nobody has the root.
+    /// Sleeps until another caller wakes it, for a millisecond at most; returns at once if nobody has the root.
     fn sleep<R: Wait>(&self, rt: &R, steps: &mut Steps) {
         self.bell.await_ring();
         if !self.is_given(steps, ROOT) {
@@ -99,10 +99,9 @@ impl<N: Node, D: Discipline> Arena<N, D> {
         }
     }
 
-    /// Claims the first node, from node 1 upward, that it finds free. `None`: none was found free. If nobody else acts
-    /// meanwhile, and nobody else holds a node at its start, then it loads the free words up to that of the node, takes the
-    /// turn of the node and clears its bit: at most `ceil(nodes / 64) + 2` steps on words. So it always is in an arena of
-    /// one caller.
+    /// Claims the first node, from node 1 upward, that it finds free. `None`: none was found free. If no other caller acts
+    /// meanwhile, and none holds a node at its start, it loads the free words up to that of the node, takes the turn of the
+    /// node and clears its bit: at most `ceil(nodes / 64) + 2` steps on words. In an arena of one caller this always holds.
     pub fn claim(&self, pass: &mut Pass<N, D>) -> Option<Held<N>>
         requires { IsPassOf self.now pass.old }
         ensures pass { IsPassOf self.now pass.new }

@@ -52,7 +52,7 @@ fn add_entries<N: Node>(body: &N, entries: &mut Vec<(u64, u128)>) -> Result<(), 
 }
 
 impl<N: Node> Run<N> {
-    /// The body of a node, if that is live.
+    /// The body of a node, if the node is live.
     fn live(&self, node: usize) -> Option<&N>
         requires run { (nodes : ℕ) × IsRun (sort_of N.layout N.ranged) N.body nodes self.now }
         requires node { node < nodes_in self.now }
@@ -80,8 +80,8 @@ impl<N: Node> Run<N> {
         Ok(entries)
     }
 
-    /// What the graph holds at the end: the stored places with their values, ascending by place. It is the map after
-    /// the calls. Memory is the only want.
+    /// What the graph holds at the end: the stored places with their values, ascending by place. It is the map after the
+    /// calls. It fails only if memory runs out.
     pub fn pairs(&self, alloc: Global) -> Result<Vec<(u64, u128)>, AllocError>
         requires { (nodes : ℕ) × IsRun (sort_of N.layout N.ranged) N.body nodes self.now }
         ensures found { IfOk result (λ entries. AreFound (graph_after (trace_of self.now)) entries.items) }
@@ -108,7 +108,7 @@ impl<N: Node> Run<N> {
         }
     }
 
-    /// The graph at the end, with as many nodes as the arena had. Memory is the only want.
+    /// The graph at the end, with as many nodes as the arena had. It fails only if memory runs out.
     pub fn graph(&self, alloc: Global) -> Result<Graph, AllocError>
         requires { (nodes : ℕ) × IsRun (sort_of N.layout N.ranged) N.body nodes self.now }
         ensures nodes { (nodes : ℕ) → IsRun (sort_of N.layout N.ranged) N.body nodes self.now →

@@ -1,4 +1,4 @@
-//! What a caller has in its hand.
+//! What a caller holds.
 ghost use Rattle.std.specs.Prelude.{◌≡◌};
 
 use crate::arena::Steps;
@@ -6,12 +6,12 @@ use crate::view::View;
 use atomic_table::Seat;
 use std::marker::PhantomData;
 
-/// What one caller steps with.
+/// What one caller makes its steps with.
 #[derive(Drop)]
 pub struct Pass<N, D> {
     pub(crate) seat: Seat<Option<N>, View>,
     pub(crate) caller: u32,
-    /// Each step on a word that its caller makes counts here.
+    /// The count of the steps on words that its caller made.
     pub(crate) steps: Steps,
     pub(crate) marker: PhantomData<D>,
 }
@@ -32,15 +32,15 @@ pub struct Note<N, D> {
     pub(crate) marker: PhantomData<D>,
 }
 
-/// A node in the hand of its holder. A node that is not live becomes free when it is given back.
-// The body stands first: a move then copies it in whole words.
+/// A node that a caller holds. A node that is not live becomes free when it is released.
+// The body is first: a move then copies it in whole words.
 pub struct Held<N> {
     pub body: N,
     pub node: u32,
     pub live: bool,
 }
 
-/// What a try to take a node gives.
+/// The result of a try to take a node.
 pub enum Taken<N> {
     Held(Held<N>),
     /// Another caller holds it.

@@ -6,7 +6,7 @@ use ks_node::Node;
 use std::marker::PhantomData;
 use std::sync::Mutex;
 
-/// It has no bytes. The marker lets an arena be shared where its nodes can be sent.
+/// It has no bytes. The marker lets an arena be shared if its nodes can be sent.
 #[derive(Drop)]
 pub(crate) struct Kin<N: Node, D: Discipline> {
     marker: PhantomData<Mutex<(N, D)>>,

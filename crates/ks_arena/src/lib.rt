@@ -1,8 +1,8 @@
-//! Shared memory of nodes: callers take nodes, change them in their hands, and give them back.
+//! Shared memory of nodes: callers take nodes, change the bodies that they hold, and release them.
 //!
 //! All callers share one table of words and slots. Each step on a word makes one event of the trace of the run, or
 //! none. A rule over words, slots and what each caller has seen holds between any two steps (`specs/Rule.antt`), and
-//! from it follows what a call tells its caller (`specs/Clauses.antt`).
+//! from it follows what a call ensures (`specs/Clauses.antt`).
 #![tactic(auto)]
 
 mod arena;

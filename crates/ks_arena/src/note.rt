@@ -30,7 +30,7 @@ impl<N: Node, D: Discipline> Arena<N, D> {
         }
     }
 
-    /// From now on the pass has seen what the note has.
+    /// Takes in the note: the pass has then seen what the note has.
     pub fn learn(&self, pass: &mut Pass<N, D>, note: Note<N, D>)
         requires pass { IsPassOf self.now pass.old }
         requires note { IsNoteFrom self.now note }

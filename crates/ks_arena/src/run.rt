@@ -11,7 +11,7 @@ use atomic_table::Badge;
 use ks_node::Node;
 use std::marker::Model;
 
-/// The trace of a run, for the proofs alone. Contracts see it as its events, the newest first.
+/// The trace of a run, only for proofs. Contracts see it as its events, the newest first.
 #[derive(Drop)]
 pub struct RunTrace {
     pub(crate) badge: Badge<View>,

@@ -1,4 +1,4 @@
-//! Where the words of an arena's table stand: no turn shares its cache line with another, nor with the count of calls.
+//! Where the words of an arena's table are: no turn shares its cache line with another, nor with the count of calls.
 ghost use Rattle.std.specs.Prelude.{◌≡◌, ◌<◌, ◌^◌};
 ghost use Rattle.ks_arena.specs.Spots.{turn_at, free_at};
 
@@ -20,7 +20,7 @@ pub(crate) fn turn_at(node: usize) -> usize
     8 * (node + 1)
 }
 
-/// The free word of so many nodes that has this index.
+/// The free word with this index, in an arena of this many nodes.
 #[inline(always)]
 pub(crate) fn free_at(nodes: usize, index: usize) -> usize
     requires { free_at nodes index < 2 ^ 64 }

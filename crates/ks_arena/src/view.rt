@@ -7,18 +7,18 @@ pub struct Part {
     pub seen: [Event; 0],
 }
 
-/// Which bit of the free words does not yet, or no longer, tell the turn of its node.
+/// Which bit of the free words does not yet, or no longer, agree with the turn of its node.
 pub enum Mark {
     Quiet,
     /// The node was claimed, and its bit is still set.
     Claiming(u32),
-    /// The node is about to be given free, and its bit is set already.
+    /// The node is about to be released as free, and its bit is set already.
     Freeing(u32),
 }
 
 /// What a seat knows. `seen` has the newest event first.
 pub struct View {
-    /// The callers that the seat stands for. A note stands for none.
+    /// The callers of the seat. A note has none.
     pub callers: [u32; 0],
     pub seen: [Event; 0],
     /// What it took in and has not looked at since.

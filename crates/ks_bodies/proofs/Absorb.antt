@@ -81,7 +81,7 @@ module _ (g : ℕ → NodeState) (f : ℕ → Frame) (node right : ℕ) (b q : B
   pub down : (p : ℕ) → InInset g node p → LeadsTo (record_of b) p right → InInset g right p
   down p inset to = (inset.0, along (record_of b) inset.1 x.stands.has to (record_of q, x.other.has))
 
-  -- what comes to right comes from the seam on
+  -- each place that comes to right is at or above the seam
   pub seam_low : seam ≤ q.low
   seam_low = from_leads q.low (up q.low (low_inside g f right q tree x.other)).1
 
@@ -110,7 +110,7 @@ module _ (g : ℕ → NodeState) (f : ℕ → Frame) (node right : ℕ) (b q : B
           let ge : r.last ≤ t.last = (j.forth r.last (down r.last whole (leads_from r.last whole (omega (arith, from_leads t.last (up t.last end).1, le))))).1 in
           ap (λ (o : Option Span). ends_at (last_of o) b.range) e' ∙ ap (λ (o : Option Span). ends_at t.last o) e ∙ ap (λ (n : ℕ). Some (record { low = r.low; last = n })) (omega (arith, le, ge)) ∙ sym e
 
-  -- the pairs of the node lie below the seam, those of right do not
+  -- the pairs of the node are below the seam, those of right are not
   pairs_low : (p : ℕ) → seam ≤ p → All (λ y. y.place ≡ p → ⊥) b.pairs
   pairs_low p le = All-weaker (λ y. y.place < seam) (λ y. y.place ≡ p → ⊥) (λ y lt e. omega (arith, lt)) b.pairs (subst (λ (ss : List Start). All (λ s. All (λ y. y.place < s.low) b.pairs) ss) own.2 (x.stands.plain.sound.own_pairs own.0) 0 (record { low = seam; node = right }) (omega arith))
 

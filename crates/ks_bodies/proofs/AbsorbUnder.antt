@@ -212,7 +212,7 @@ module _ (g : ℕ → NodeState) (f : ℕ → Frame) (parent node right : ℕ) (
     leads_node : (p : ℕ) → InRange u p → led Q p ≡ Some node → LeadsTo (record_of (forgot right u)) p node
     leads_node p r e = led_body (forgot right u) plain_parent p node (forgot_range p r) (led_after p ∙ e)
 
-    -- starts counted
+    -- starts are counted
 
     forgot_count : (m : ℕ) → count (forgot right u).starts m ≤ count Q m
     forgot_count m = omega (arith, ap (λ (ss : List Start). count ss m) forgot_starts, count_settled u.kind Q m)

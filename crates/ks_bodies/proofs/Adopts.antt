@@ -1,4 +1,4 @@
--- Where a parent may adopt what its child gives off, no edge of it begins.
+-- If a parent may adopt what its child splits off, no edge of the parent begins there.
 use Rattle.std.proofs.Common.{ℕ, ◌≡◌, ◌<◌, true, false, List, Some, refl, sym, ◌∙◌, ap, arith}
 use Rattle.std.specs.Prelude.{nat_le}
 use Rattle.std.proofs.lemmas.Bool.{le-leb}

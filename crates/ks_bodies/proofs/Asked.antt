@@ -1,4 +1,4 @@
--- What the calls of a shape ask of bodies holds where they stand in a tree.
+-- What the calls of a shape require of bodies holds of nodes in a tree.
 use Rattle.std.proofs.Common.{ℕ, suc, ◌≡◌, ◌<◌, ◌≤◌, ◌+◌, ◌-◌, ◌==◌, Bool, true, false, List, [], ◌∷◌, ◌++◌, Option, Some, None, refl, sym, ◌∙◌, ap, subst, arith, length, get_or, eq-eqb, IsTrue}
 use Rattle.std.specs.Prelude.{All, is_some, max, drop}
 use Rattle.std.specs.Option.{ForSome}

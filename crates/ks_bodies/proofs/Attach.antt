@@ -1,4 +1,4 @@
--- A branch that leads to one node more.
+-- A branch that leads to one more node.
 use Rattle.std.proofs.Common.{ℕ, suc, ◌≡◌, ◌<◌, ◌≤◌, ◌-◌, ◌==◌, ◌⊎◌, inl, inr, cond, Bool, true, false, List, [], ◌∷◌, ◌++◌, Option, Some, None, refl, sym, ◌∙◌, ap, subst, arith, eq-eqb}
 use Rattle.std.specs.Prelude.{All, max, drop, nat_le, nat_lt, IsTrue}
 use Rattle.std.proofs.lemmas.Bool.{ne_eqb, lt-ltb, le-ltb, le-leb, lt-leb}
@@ -51,7 +51,7 @@ module _ (key : ℕ → ℕ) where
   settled_same Directory [] rise = refl
   settled_same Directory (s ∷ ss) rise = ap (λ (xs : List Start). s ∷ xs) (runs_same s.node ss rise)
 
-  -- the same start twice is one run
+  -- two equal starts, one after the other, are one run
   twice : (m : ℕ) (xs : List Start) (s : Start) (rest : List Start) → Rise (key m) (xs ++ s ∷ rest) → runs_after m (xs ++ s ∷ s ∷ rest) ≡ xs ++ s ∷ rest
   twice m [] s rest rise =
       let t : (s.node == m) ≡ false = ne_eqb s.node m (λ e. omega (arith, rise.0, ap key e)) in
@@ -91,7 +91,7 @@ pub all_first : (P : Edge → Type 0) (xs ys : List Edge) → All P (xs ++ ys) �
 all_first P [] ys all = All-nil P
 all_first P (x ∷ xs) ys all = All-cons P x xs (all 0 x (omega arith)) (all_first P xs ys (λ k d lt. all (suc k) d (omega arith)))
 
--- just below a cut the part below it leads as it does past it
+-- just below a cut the part below it leads where it leads past the cut
 led_just_below : (cut : ℕ) (ss : List Start) (p : ℕ) → 0 < cut → cut ≤ p → led (starts_below cut ss) (cut - 1) ≡ led (starts_below cut ss) p
 led_just_below cut [] p some le = refl
 led_just_below cut (s ∷ ss) p some le = elim (low_or_high s.low cut) [

@@ -37,7 +37,7 @@ module _ (g : ℕ → NodeState) (f : ℕ → Frame) (n id cut : ℕ) (b : Body)
   up_P : Ascend P
   up_P = linked_ascend b stands.linked
 
-  -- the node to which the cut is led is the one that stands under, if it begins at the cut
+  -- the node to which the cut is led is the one below, if that begins at the cut
   same_node : (m : ℕ) → LeadsTo (record_of b) cut m → (f m).low ≡ cut → LeadsTo (record_of b) cut id
   same_node m to low = subst (LeadsTo (record_of b) cut) same to
     where

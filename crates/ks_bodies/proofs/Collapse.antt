@@ -59,7 +59,7 @@ led_all c (s ∷ ss) p m all e = elim (or_some (led ss p) (cond (nat_le s.low p)
     cond_is true n m e = cc
     cond_is false n m e = absurd (cc)
 
--- starts of which the first is at 0 lead on at each place
+-- starts of which the first is at 0 lead each place to a node
 pub led_zero : (ss : List Start) (p : ℕ) → IsTrue (starts_at_zero ss) → (m : ℕ) × (led ss p ≡ Some m)
 led_zero [] p e = absurd (cc)
 led_zero (s ∷ ss) p e =

@@ -1,4 +1,4 @@
--- A region that is entered at one node alone: the node keeps its inset, and so what it leads to is reached.
+-- A region that is entered only at one node: the node keeps its inset, and so what it leads to is reached.
 use Rattle.std.proofs.Common.{ℕ, zero, suc, length, get_or, eq-eqb, ◌≡◌, ◌<◌, ◌==◌, true, false, List, [], ◌∷◌, Some, refl, sym, ◌∙◌, ap, arith, ne_eqb}
 use Rattle.ks_keysets.specs.declared.Record.{Record}
 use Rattle.ks_keysets.specs.declared.Edge.{Edge}

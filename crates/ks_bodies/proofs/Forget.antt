@@ -51,7 +51,7 @@ find_beside (s ∷ t ∷ ts) p node right up e f = elim (low_or_high p t.low) [
         let d : or_else (led ts p) (Some t.node) ≡ None = rw c at h.0 in
         absurd (some_last (led ts p) t.node d)
 
--- the start is removed that alone leads to its node
+-- the only start that leads to its node is removed
 
 place_of : (xs ys : List Start) (b right : ℕ) → count xs right ≡ 0 → prefix_len (λ z. not (nat_eq z.node right)) (xs ++ record { low = b; node = right } ∷ ys) ≡ length xs
 place_of [] ys b right none = let t : nat_eq right right ≡ true = eq-eqb right right refl in rw t refl

@@ -55,7 +55,7 @@ module _ (g : ℕ → NodeState) (f : ℕ → Frame) (kind : Kind) (left right c
   first : (range_of b x.stands.linked).0.low ≤ 0
   first = omega (arith, ap first_of (range_of b x.stands.linked).1, ap first_of all)
 
-  -- the branch over the two
+  -- the branch over the two halves
 
   up_two : Ascend two
   up_two = ((above, tt), (tt, tt))

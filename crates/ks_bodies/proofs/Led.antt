@@ -166,7 +166,7 @@ begins_from cut (s ∷ ss) up b = elim (low_or_high s.low cut) [
   ]
 ]
 
--- where no start is at the cut, those from it on are above it
+-- if no start is at the cut, those from it on are above it
 pub free_from : (cut : ℕ) (ss : List Start) → Ascend ss → begins cut ss ≡ false → AllAbove cut (starts_from cut ss)
 free_from cut [] up b = tt
 free_from cut (s ∷ ss) up b = elim (low_or_high s.low cut) [
@@ -203,7 +203,7 @@ none_early m (t ∷ ts) p a = go (t.node == m) (none_early m ts p a.1) (none_ear
     go true x y = x
     go false x y = let f : nat_le t.low p ≡ false = lt-leb _ _ (omega (arith, a.0)) in rw (y, f) refl
 
--- one run more: it goes on, or a new one begins
+-- after one more start the run goes on, or a new one begins
 run_step : (m l : ℕ) (s : Start) (ss : List Start) (p : ℕ) → nat_le s.low p ≡ true → nat_le l p ≡ true → (b : Bool) → (s.node == m) ≡ b →
     or_else (led (runs_after m ss) p) (cond (nat_le l p) (Some m) None) ≡ or_else (led ss p) (cond (nat_le l p) (Some m) None) →
     or_else (led (runs_after s.node ss) p) (cond (nat_le s.low p) (Some s.node) None) ≡ or_else (led ss p) (cond (nat_le s.low p) (Some s.node) None) →
@@ -272,7 +272,7 @@ count_settled Inner ss m = omega arith
 count_settled Directory [] m = omega arith
 count_settled Directory (s ∷ ss) m = omega (arith, count_after s.node ss m)
 
--- a list that leads somewhere has such a start
+-- if a list leads a place to a node, a start of it leads to the node
 pub led_count : (ss : List Start) (p m : ℕ) → led ss p ≡ Some m → 0 < count ss m
 led_count [] p m e = absurd (cc)
 led_count (s ∷ ss) p m e = elim (or_some (led ss p) (cond (nat_le s.low p) (Some s.node) None) m e) [
@@ -280,7 +280,7 @@ led_count (s ∷ ss) p m e = elim (or_some (led ss p) (cond (nat_le s.low p) (So
   | inr h ↦ (let y = cond_some (nat_le s.low p) s.node m h.1 in let t : (s.node == m) ≡ true = eq-eqb s.node m y.1 in rw t (omega arith))
 ]
 
--- a new start at the cut keeps starts in order only where none was there
+-- a new start at the cut keeps starts in order only if none was there
 
 pub clash : (xs : List Start) (cut id x : ℕ) (rest : List Start) → Ascend (xs ++ record { low = cut; node = id } ∷ record { low = cut; node = x } ∷ rest) → ⊥
 clash [] cut id x rest up = omega (arith, up.0.0)

@@ -1,4 +1,4 @@
--- What the calls of shapes under links ask of bodies.
+-- What the calls of shapes under links require of bodies.
 use Rattle.std.proofs.Common.{ℕ, suc, ◌≡◌, ◌<◌, ◌≤◌, List, [], ◌∷◌, Option, Some, sym, ◌∙◌, ap, subst, arith, get_or, IsTrue}
 use Rattle.std.specs.Prelude.{All, drop}
 use Rattle.ks_keysets.specs.declared.Frame.{Frame}

@@ -203,7 +203,7 @@ edges_insert first last cut id (s ∷ ss) up above = elim (low_or_high s.low cut
     more e (inl y) = inl (part_more first last s ss e y)
     more e (inr y) = inr y
 
--- no start is lost where each is at or below the last place, and each but the first above the first place
+-- no start is lost if each is at or below the last place, and each except the first is above the first place
 pub edges_full : (P : Start → Type 0) (first last : ℕ) (ss : List Start) → first ≤ last → Ascend ss → All (λ s. s.low ≤ last) ss → All (λ s. first < s.low) (drop 1 ss) →
     All (λ e. P (record { low = e.span.low; node = e.node })) (edges_from first last ss) → All (λ s. P (record { low = max first s.low; node = s.node })) ss
 edges_full P first last [] le up upto above all = All-nil (λ s. P (record { low = max first s.low; node = s.node }))

@@ -111,7 +111,7 @@ module _ (b : Body) (x : IsLinked b) where
     once = λ i j d lt lt' e. omega (arith, x.sound.pairs_ascend i j d lt lt');
   }
 
--- two bodies that send a place alike and have one value there act alike
+-- two bodies that send a place alike and have the same value there act alike
 pub linked_alike : (b c : Body) (p : ℕ) → IsLinked b → IsLinked c → first_of b.range ≤ p → first_of c.range ≤ p → p ≤ top → goes b p ≡ goes c p → first_value b.pairs p ≡ first_value c.pairs p → ActsAs (record_of b) (record_of c) p
 linked_alike b c p x y first first' place same value = record {
   to = λ m to. goes_leads b x p m first place (same ∙ leads_goes c y p m to);

@@ -1,4 +1,4 @@
--- What stands in a graph with links, and the parts of a body with a link.
+-- The bodies of a graph with links, and the parts of a body with a link.
 use Rattle.std.proofs.Common.{ℕ, suc, ◌≡◌, ◌<◌, ◌≤◌, ◌-◌, ◌⊎◌, inl, inr, List, [], Option, Some, refl, sym, ◌∙◌, ap, subst, arith}
 use Rattle.std.specs.Prelude.{All}
 use Rattle.std.proofs.lemmas.List.Elements.{All-filter, All-cons, All-nil, All-append}

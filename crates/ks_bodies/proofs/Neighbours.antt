@@ -272,12 +272,12 @@ module _ (g : ℕ → NodeState) (f : ℕ → Frame) (n : ℕ) (b : Body) (stand
           let y : Some k ≡ Some m = sym z ∙ e in cc
       there (beside r a s is own is' branch next) = absurd (own (subst (λ (t : Record). HasOwnEdge (f n) t) (sym (record_is r is)) ((chained_tells m).0 e).0))
 
-  -- a node without one has no right neighbour but beside it
+  -- the right neighbour of a node without one is next to it in its parent
   pub beside_only : (m : ℕ) → chained_of b ≡ None → IsRightNeighbour g f n m → (a : ℕ) × (s : Record) × (record_at g a ≡ Some s) × ((f a).kind ≢ NoBranch) × IsNext s.edges n m
   beside_only m e (chained r is own leads) = absurd (unchained_tells.0 e (subst (λ (t : Record). HasOwnEdge (f n) t) (record_is r is) own))
   beside_only m e (beside r a s is own is' branch next) = (a, s, is', branch, next)
 
-  -- the root has none beside it
+  -- the root has none next to it
   pub root_right : (m : ℕ) → Tree g f → n ≡ 0 → chained_of b ≡ None → IsRightNeighbour g f n m → ⊥
   root_right m tree e none right =
       let y = beside_only m none right in
@@ -285,7 +285,7 @@ module _ (g : ℕ → NodeState) (f : ℕ → Frame) (n : ℕ) (b : Body) (stand
       omega (arith, tree.edges.none y.0, ap (λ (o : Option Record). edges_in o 0) y.2, subst (λ (j : ℕ). 0 < edges_to y.1.edges j) e lt)
 
   module _ (parent place : ℕ) (u : Body) (tree : Tree g f) (above : Stands g f parent u) (leads : LeadsTo (record_of u) place n) (none : chained_of b ≡ None) where
-    -- beside it is what follows it in its parent
+    -- next to it is the node that follows it in its parent
     in_parent : (m a : ℕ) (s : Record) → record_at g a ≡ Some s → IsNext s.edges n m → (a ≡ parent) × IsNext (edges_of u) n m
     in_parent m a s is next = go (eqb_tells a parent)
       where

@@ -48,7 +48,7 @@ joined_right (x ∷ ps) qs p none =
     let t : (x.place == p) ≡ false = ne_eqb x.place p (none 0 x (omega arith)) in
     rw t (joined_right ps qs p (λ k d lt. none (suc k) d (omega arith)))
 
--- starts in the right part: those of a branch begin with a start at the cut, and reach down; another node's all lie from the cut on
+-- starts in the right part: in a branch the first is at the cut, and reaches down; in another node all are from the cut on
 
 pub none_below : (cut : ℕ) (ss : List Start) → All (λ s. cut ≤ s.low) ss → starts_below cut ss ≡ []
 none_below cut [] all = refl
@@ -109,7 +109,7 @@ pub begins_range : (low : ℕ) (o : Option Span) → begins_at low o ≡ range_f
 begins_range low None = refl
 begins_range low (Some r) = refl
 
--- to the cut and on to the old end again
+-- cut down to the part below the cut, and then extended to the old end again
 pub over_parts : (last low : ℕ) (o : Option Span) → ends_at (last_of (begins_at low o)) (ends_at last o) ≡ o
 over_parts last low None = refl
 over_parts last low (Some r) = refl

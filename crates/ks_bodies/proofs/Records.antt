@@ -130,7 +130,7 @@ count_upto first last [] m = omega arith
 count_upto first last (s ∷ []) m = omega (arith, count_add (max first s.low) last s.node [] m)
 count_upto first last (s ∷ t ∷ ts) m = omega (arith, count_add (max first s.low) (min last (t.low - 1)) s.node (edges_from first last (t ∷ ts)) m, count_upto first last (t ∷ ts) m)
 
--- no edge is lost where each start is at or below the last place, and each but the first above the first place
+-- no edge is lost if each start is at or below the last place, and each except the first is above the first place
 count_all : (first last : ℕ) (ss : List Start) (m : ℕ) → first ≤ last → Ascend ss → All (λ s. s.low ≤ last) ss → All (λ s. first < s.low) (drop 1 ss) → edges_to (edges_from first last ss) m ≡ count ss m
 count_all first last [] m le up upto above = refl
 count_all first last (s ∷ []) m le up upto above = let t : nat_le (max first s.low) last ≡ true = le-leb _ _ (omega (arith, upto 0 s (omega arith))) in rw t refl
@@ -190,7 +190,7 @@ module _ (b : Body) (plain : IsPlain b) where
       go None e = count_all 0 top b.starts m (omega arith) body_ascend plain.sound.starts_are_places (later_above b.starts body_ascend)
       go (Some r) e = let y = plain.framed r e in count_all r.low r.last b.starts m y.ordered body_ascend y.upto y.above
 
--- two bodies that lead alike at a place and have one value there act alike
+-- two bodies that lead alike at a place and have the same value there act alike
 pub acts_alike : (b c : Body) (p : ℕ) → IsPlain b → IsPlain c → InRange b p → InRange c p → led b.starts p ≡ led c.starts p → first_value b.pairs p ≡ first_value c.pairs p → ActsAs (record_of b) (record_of c) p
 acts_alike b c p plain plain' range range' same value = record {
   to = λ m to. led_body b plain p m range (same ∙ (body_led c plain' p m to).0);

@@ -42,7 +42,7 @@ edge_two (e ∷ es) i zero d d' m lt lt' is is' = absurd (omega arith)
 edge_two (e ∷ es) zero (suc j) d d' m lt lt' is is' = let t : (e.node == m) ≡ true = eq-eqb e.node m is in rw t (omega (arith, edge_one es j d' m (omega arith) is'))
 edge_two (e ∷ es) (suc i) (suc j) d d' m lt lt' is is' = omega (arith, edge_two es i j d d' m (omega arith) (omega arith) is is')
 
--- where one edge alone leads to the node, two places that are led to it are carried by one edge
+-- if only one edge leads to the node, two places that are led to it are carried by that edge
 one_edge : (es : List Edge) (m i j : ℕ) (d e : Edge) → edges_to es m ≤ 1 → i < length es → j < length es → get_or es i d ≡ d → get_or es j e ≡ e → d.node ≡ m → e.node ≡ m → d ≡ e
 one_edge es m i j d e one li lj is is' at at' = elim (low_or_high i j) [
   | inl lt ↦ absurd (omega (arith, one, edge_two es i j d e m lt lj (ap (λ (z : Edge). z.node) is ∙ at) (ap (λ (z : Edge). z.node) is' ∙ at')))

@@ -1,4 +1,4 @@
--- What stands in a tree: the places that come to a body are in its range, and from its low on.
+-- The bodies of a tree: the places that come to a body are in its range, and from its low on.
 use Rattle.std.proofs.Common.{ℕ, suc, ◌≡◌, ◌≤◌, ◌+◌, List, Option, Some, None, refl, sym, ◌∙◌, ap, subst, arith}
 use Rattle.std.specs.Prelude.{All}
 use Rattle.std.proofs.lemmas.List.Elements.{All-filter}
@@ -19,7 +19,7 @@ use Rattle.ks_bodies.specs.Stands.{Stands}
 use Rattle.ks_bodies.proofs.Led.{count}
 use Rattle.ks_bodies.proofs.Records.{InRange, body_count}
 
--- what a list of changes has made of graph and frames
+-- what a list of changes did to graph and frames
 pub record Made (g : ℕ → NodeState) (f : ℕ → Frame) (xs : List Change) : Type 0 where
   pub differs : DiffersIn g (nodes_of xs) (graph_with xs g)
   pub frames : FramesKept f (nodes_of xs) (frames_with xs f)

@@ -68,7 +68,7 @@ module _ (g : ℕ → NodeState) (f : ℕ → Frame) (parent node right cut : �
       let none : led (starts_from cut P) cut ≡ None = led_none (starts_from cut P) cut cut free (omega arith) in
       ap (λ (o : Option ℕ). or_else o (led (starts_below cut P) cut)) (sym none) ∙ sym (led_parts cut P cut up_P) ∙ led_cut
 
-  -- from the cut on a later start leads on as it did, and else right does
+  -- from the cut on a later start leads on as before, or else right does
   abbrev Later : ℕ → Type 0
   Later p = ((m : ℕ) × (led (starts_from cut P) p ≡ Some m) × (led P p ≡ Some m) × (led Q p ≡ Some m)) ⊎ ((led P p ≡ Some node) × (led Q p ≡ Some right))
 

@@ -59,7 +59,7 @@ count_two (s ∷ ss) i zero d m lt lt' is is' = absurd (omega arith)
 count_two (s ∷ ss) zero (suc j) d m lt lt' is is' = let t : (s.node == m) ≡ true = eq-eqb s.node m is in rw t (omega (arith, count_one ss j d m (omega arith) is'))
 count_two (s ∷ ss) (suc i) (suc j) d m lt lt' is is' = omega (arith, count_two ss i j d m (omega arith) (omega arith) is is')
 
--- one start alone leads to its node, so it is the one that leads
+-- only one start leads to its node, so it is the one that leads
 same_start : (ss : List Start) (i j : ℕ) (d : Start) (m : ℕ) → count ss m ≤ 1 → i < length ss → j < length ss → (get_or ss i d).node ≡ m → (get_or ss j d).node ≡ m → i ≡ j
 same_start ss i j d m one li lj a b = elim (low_or_high i j) [
   | inl lt ↦ absurd (omega (arith, one, count_two ss i j d m lt lj a b))
@@ -69,7 +69,7 @@ same_start ss i j d m one li lj a b = elim (low_or_high i j) [
   ]
 ]
 
--- the start that alone leads to the node is at or below a place that is led to it, and the next one above
+-- the only start that leads to the node is at or below a place that is led to it, and the next one above
 at_start : (ss : List Start) (i : ℕ) (d : Start) (p m : ℕ) → Ascend ss → count ss m ≤ 1 → i < length ss → (get_or ss i d).node ≡ m → led ss p ≡ Some m → ((get_or ss i d).low ≤ p) × (suc i < length ss → p < (get_or ss (suc i) d).low)
 at_start ss i d p m up one lt is e = moved (same_start ss i (led_at ss p m up e).at d m one lt (led_at ss p m up e).within is ((led_at ss p m up e).node d)) ((led_at ss p m up e).low d) ((led_at ss p m up e).next d)
   where

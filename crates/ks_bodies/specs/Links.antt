@@ -1,4 +1,4 @@
--- How bodies with links stand in a graph, the changes that each shape under links makes of them, and what it asks.
+-- The bodies of a graph with links, the changes that each shape under links makes of them, and what it requires.
 use Rattle.std.specs.Prelude.{ℕ, suc, ◌≡◌, ◌+◌, true, IsTrue, Some, None, is_some, List, [], ◌∷◌, nat_lt}
 use Rattle.std.specs.Option.{ForSome}
 use Rattle.ks_keysets.specs.declared.Frame.{Frame}
@@ -15,7 +15,7 @@ use Rattle.ks_node.specs.Asks.{CanSplitAt, IsCut}
 use Rattle.ks_node.specs.Sound.{Sound, Framed}
 use Rattle.ks_bodies.specs.Stands.{live_as}
 
--- a body as each node with links has it: in order, with a range, and with a link where the range ends below the last place
+-- a body as each node with links has it: in order, with a range, and with a link if the range ends below the last place
 pub record IsLinked (b : Body) : Type 0 where
   pub sound : Sound (content_of b)
   pub ranged : is_some b.range ≡ true
@@ -51,7 +51,7 @@ pub record StandsUnder (g : ℕ → NodeState) (f : ℕ → Frame) (id above cut
   pub level : suc (f id).level ≡ above
   pub low : (f id).low ≡ cut
 
--- node, with body b, is a branch with the cut in its range, and node id stands under it
+-- node, with body b, is a branch with the cut in its range, and node id is one level below and begins at the cut
 pub record CanAttach (g : ℕ → NodeState) (f : ℕ → Frame) (node id cut : ℕ) (b : Body) : Type 0 where
   pub stands : StandsLinked g f node b
   pub branch : IsTrue (is_branch b)
@@ -62,7 +62,7 @@ pub record CanAttach (g : ℕ → NodeState) (f : ℕ → Frame) (node id cut : 
 abbrev pub split_linked : ℕ → ℕ → Body → Body
 split_linked cut right b = with_link (Some right) (split_left cut b)
 
--- a branch over what a grow made left and right, one level higher
+-- a branch over the left and right nodes that a grow made, one level higher
 abbrev pub grown_higher : Kind → ℕ → ℕ → ℕ → Body → Body
 grown_higher kind cut left right b = with_level (b.level + 1) (grown kind cut left right b)
 

@@ -1,4 +1,4 @@
--- The changes that each shape of a tree makes of bodies, and what it asks.
+-- The changes that each shape of a tree makes of bodies, and what it requires.
 use Rattle.std.specs.Prelude.{ℕ, ◌≡◌, IsTrue, Some, None, is_some, List, [], ◌∷◌}
 use Rattle.ks_keysets.specs.declared.Frame.{Frame}
 use Rattle.ks_keysets.specs.declared.Kind.{Kind}
@@ -28,7 +28,7 @@ pub record CanAdopt (g : ℕ → NodeState) (f : ℕ → Frame) (parent node : �
   pub place : ℕ
   pub leads : LeadsTo (record_of u) place node
 
--- node, with body b, is no branch and leads to right, with body q, itself; both are of one kind, and have ranges or neither
+-- node, with body b, is no branch and itself leads to right, with body q; both are of one kind, and both have ranges or neither
 pub record CanAbsorbOwn (g : ℕ → NodeState) (f : ℕ → Frame) (node right : ℕ) (b q : Body) : Type 0 where
   pub stands : Stands g f node b
   pub other : Stands g f right q
@@ -36,8 +36,8 @@ pub record CanAbsorbOwn (g : ℕ → NodeState) (f : ℕ → Frame) (node right 
   pub alike : b.kind ≡ q.kind
   pub ranged : is_some b.range ≡ is_some q.range
 
--- in the branch parent, with body u, the edge to right, with body q, follows that to node, with body b; node leads to no
--- node itself unless both are branches; both are of one kind, and have ranges or neither
+-- in the branch parent, with body u, the edge to right, with body q, follows that to node, with body b; node itself leads to
+-- none, unless both are branches; both are of one kind, and both have ranges or neither
 pub record CanAbsorbUnder (g : ℕ → NodeState) (f : ℕ → Frame) (parent node right : ℕ) (u b q : Body) : Type 0 where
   pub above : Stands g f parent u
   pub stands : Stands g f node b
@@ -56,11 +56,11 @@ pub record CanCollapse (g : ℕ → NodeState) (f : ℕ → Frame) (node child :
   pub below : Stands g f child q
   pub sole : only_child_of b ≡ Some child
 
--- what is left of a node that split, reached as far as before and adopted what it split off
+-- what is left of a node that split, with the range it had before, which adopted what it split off
 abbrev pub split_on : ℕ → ℕ → Body → Body
 split_on cut right b = adopted cut right (reached (split_left cut b) (split_right cut b))
 
--- the changes of a split whose node leads to its right half itself
+-- the changes of a split whose node itself leads to its right half
 abbrev pub split_own : ℕ → ℕ → ℕ → Body → List Change
 split_own node right cut b = live_as node (split_on cut right b) ∷ live_as right (split_right cut b) ∷ []
 

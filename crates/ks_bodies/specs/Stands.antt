@@ -1,4 +1,4 @@
--- How bodies stand in a graph.
+-- What body a node of a graph has.
 use Rattle.std.specs.Prelude.{ℕ, ◌≡◌, Some, None}
 use Rattle.std.specs.Option.{ForSome}
 use Rattle.ks_keysets.specs.declared.Frame.{Frame}
@@ -22,7 +22,7 @@ pub record Stands (g : ℕ → NodeState) (f : ℕ → Frame) (n : ℕ) (b : Bod
   pub frame : f n ≡ frame_of b
   pub plain : IsPlain b
 
--- the change that gives node n this body
+-- the change that makes this the body of node n
 abbrev pub live_as : ℕ → Body → Change
 live_as n b = record { node = n; state = BecomesLive (record_of b) (frame_of b) }
 

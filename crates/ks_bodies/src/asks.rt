@@ -1,4 +1,4 @@
-//! What the calls of a shape ask of bodies, where they stand in a tree.
+//! What the calls of a shape require of bodies holds of the nodes of a tree.
 
 ghost use Rattle.std.specs.Prelude.{◌≢◌, ℕ, ◌≡◌, ◌<◌, ◌≤◌, Bool, Option, Some, None, All, IsTrue, is_some, false};
 ghost use Rattle.ks_keysets.specs.declared.Frame.{Frame};
@@ -35,8 +35,8 @@ pub fn tree_spans_law()
     tree_facts_law();
 }
 
-/// What `reach` and `adopt` ask of a node that split, `adopt` of its parent, at whose cut no edge begins yet, `absorb` of two nodes and `forget` of
-/// their parent, and `collapse` of a node and its only child.
+/// What `reach` and `adopt` require of a node that split, `adopt` of its parent, at whose cut no edge begins yet, `absorb`
+/// of two nodes and `forget` of their parent, and `collapse` of a node and its only child.
 pub fn tree_asks_law()
     ensures own { (g : ℕ → NodeState) (f : ℕ → Frame) (node right cut : ℕ) (b : Body) → CanPart g f node right cut b →
         AreNext (split_left cut b) (split_right cut b) × IsCut (reached (split_left cut b) (split_right cut b)) cut

@@ -1,8 +1,8 @@
 //! How the calls of nodes keep a tree, or a graph with links.
 //!
-//! Each shape is some calls of nodes, which change their bodies, and then one Shape. Here stands, for any body and any
-//! range, that what the calls make of bodies meets the discipline, of trees or of links; and what the tests of bodies say
-//! of the tree. Specs in the order Stands, Shapes, Links, Neighbours.
+//! Each shape is some calls of nodes, which change their bodies, and then one Shape. The laws here say, for any body and
+//! any range, that what the calls make of bodies meets the discipline, of trees or of links; and what the tests of bodies
+//! say of the tree. Read the specs in the order `Stands`, `Shapes`, `Links`, `Neighbours`.
 #![tactic(auto)]
 
 mod asks;

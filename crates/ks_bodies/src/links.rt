@@ -1,5 +1,5 @@
-//! Bodies with links: what the calls of their shapes ask of them, and how what the calls make of them keeps
-//! the discipline of links.
+//! Bodies with links: what the calls of their shapes require of them, and how what the calls make of them keeps the
+//! discipline of links.
 
 ghost use Rattle.std.specs.Prelude.{ℕ, ◌≡◌, ◌<◌, ◌≤◌, ◌⊎◌, Option, Some, All, IsTrue};
 ghost use Rattle.ks_keysets.specs.declared.Frame.{Frame};
@@ -19,8 +19,8 @@ ghost use Rattle.ks_bodies.specs.Links.{IsLinked, StandsLinked, CanSplitRight, C
 use ks_flow::laws::{changes_law, link_law, link_shapes_law};
 
 /// The range of a node suits its body, so that a full one may be cut there; that of the root is all places, and the
-/// level of the root is below each bound on the numbers of live nodes, as `grow_link` asks; and a branch has no pairs, as
-/// `adopt` asks.
+/// level of the root is below each bound on the numbers of live nodes, as `grow_link` requires; and a branch has no pairs,
+/// as `adopt` requires.
 pub fn link_asks_law()
     ensures suits { (g : ℕ → NodeState) (f : ℕ → Frame) (n : ℕ) (b : Body) → Good g → Link g f → StandsLinked g f n b →
         (range : Span) × (b.range ≡ Some range) × Suits b range }
@@ -50,8 +50,8 @@ pub fn link_steps_law()
     link_shapes_law();
 }
 
-/// What a shape under links makes live is led to from the level above: both halves of a root that grows; and so is what
-/// is attached, and what stands under the begin of an edge.
+/// Both halves of a root that grows are led to from the level above, and so are a node that is attached and the node at
+/// the start of an edge.
 pub fn link_leads_law()
     ensures grow_right { (g : ℕ → NodeState) (f : ℕ → Frame) (kind : Kind) (left right cut : ℕ) (b : Body) → Good g →
         Link g f →

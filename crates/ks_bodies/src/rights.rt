@@ -1,4 +1,4 @@
-//! What the tests of nodes say of the tree in which they stand: which is low, which fit, and what is right of a node.
+//! What the tests of nodes say of their tree: which node is low, which fit, and what is right of a node.
 
 ghost use Rattle.std.specs.Prelude.{ℕ, suc, ◌≡◌, ◌≢◌, ◌⊎◌, Option, ◌↔◌, Some, None, All, Any, IsTrue, false};
 ghost use Rattle.ks_keysets.specs.declared.Frame.{Frame};
@@ -20,8 +20,8 @@ ghost use Rattle.ks_bodies.specs.Neighbours.{neighbour_of};
 use ks_flow::{tidy_law, tight_law};
 use ks_node::Node;
 
-/// A node is low, two nodes fit, a node has an edge of its own, or is a branch over one child, exactly where its body
-/// says so; and a body stands in each graph with the same nodes.
+/// A node is low, two nodes fit, a node has an edge of its own, or is a branch over one child, if and only if its body says
+/// so; and a node has the same body in each graph with the same nodes.
 pub fn tests_law()
     ensures low { (layout : Layout) (g : ℕ → NodeState) (f : ℕ → Frame) (n : ℕ) (b : Body) → Stands g f n b →
         IsTrue (is_low layout b) ↔ IsLow layout (f n).kind (record_of b) }
@@ -42,7 +42,7 @@ pub fn tests_law()
 {}
 
 /// The right neighbour of a node is the target of its own edge; if it has none, the node to which its parent, a branch,
-/// leads next. The root, and a node below one that is no branch, has none but by an edge of its own.
+/// leads next. The root, and a node below one that is no branch, has one only by an edge of its own.
 pub fn rights_law()
     ensures own { (g : ℕ → NodeState) (f : ℕ → Frame) (n m : ℕ) (b : Body) → Stands g f n b → chained_of b ≡ Some m →
         (k : ℕ) → IsRightNeighbour g f n k ↔ k ≡ m }
@@ -94,8 +94,8 @@ pub fn alone_law()
         LeadsTo (record_of u) place n → neighbour_of u b place ≡ None → FitsNoRight layout g f n }
 {}
 
-/// When tidying has done its work: a place is tidy where the node whose keyset holds it is not low, or fits with no right
-/// neighbour; and a graph is tight where all nodes were tested, and the root is no branch over one child.
+/// When tidying has done its work: a place is tidy if the node whose keyset holds it is not low, or fits with no right
+/// neighbour; and a graph is tight if all nodes were tested, and the root is no branch over one child.
 pub fn tidied_law()
     ensures tidy { (layout : Layout) (g : ℕ → NodeState) (f : ℕ → Frame) (n p : ℕ) (b : Body) → Good g →
         Stands g f n b → InKeyset g n p →

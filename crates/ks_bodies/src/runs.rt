@@ -1,4 +1,4 @@
-//! Where the places after a place stop going the way that it goes.
+//! Up to which place the places after one go the same way.
 
 ghost use Rattle.std.specs.Prelude.{ℕ, ◌≤◌};
 ghost use Rattle.ks_node.specs.Edges.{record_of};
@@ -7,8 +7,8 @@ ghost use Rattle.ks_flow.specs.Tight.{EndsRun};
 use ks_keysets::edge_cut;
 use ks_node::{Unlinked, unlinked_law};
 
-/// The last place, at most `last`, up to which each edge of the node carries all places from `place` on or none: where
-/// the edge that carries the place ends, or, if none does, just before the next edge.
+/// The last place, at most `last`, up to which each edge of the node carries all places from `place` on or none: the end of
+/// the edge that carries the place, or, if none does, just before the next edge.
 pub fn run_end<N: Unlinked>(node: &N, place: u64, last: u64) -> u64
     requires { place ≤ last }
     ensures { EndsRun (record_of (N.body node.now)) place last result }

@@ -44,7 +44,7 @@ pub fn tree_steps_law()
     tree_law();
 }
 
-/// What each shape makes of the insets of the nodes that it names; the others keep their insets.
+/// What each shape does to the insets of the nodes that it names; the others keep their insets.
 pub fn tree_insets_law()
     ensures split_own { (g : ℕ → NodeState) (f : ℕ → Frame) (node right cut : ℕ) (b : Body) → Good g → Tree g f →
         CanPart g f node right cut b → IsPlain (split_on cut right b) → IsPlain (split_right cut b) →

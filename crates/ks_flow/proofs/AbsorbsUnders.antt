@@ -44,14 +44,14 @@ module _ (g k : ℕ → NodeState) (f h : ℕ → Frame) (parent node right : �
   down_right : (p : ℕ) → InInset g parent p → LeadsTo u p right → InInset g right p
   down_right p inset to = (inset.0, along u inset.1 x.before_parent to (q, x.before_right))
 
-  -- no child is its own parent
+  -- no node is its own parent
   not_parent : (c : ℕ) (l : Record) → record_at g c ≡ Some l → ((p : ℕ) → InInset g c p → InInset g parent p × LeadsTo u p c) → parent ≡ c → ⊥
   not_parent c l is above e =
       let y = tree.spans c (l, is) in
       let z = above (f c).low (y.1.back (f c).low (omega arith) y.1.filled) in
       no_way_back g (f c).low parent c u good z.0 x.before_parent z.1 (subst (λ (m : ℕ). Path g (f c).low parent m) e arrives)
 
-  -- one edge leads to right, so node leads not there, nor right to node
+  -- one edge at most leads to right, so node does not lead there, nor right to node
   node_out : (p : ℕ) → InInset g node p → GoesOut R p r
   node_out p inset c to named = by_name3 (λ c. LeadsTo r p c → ⊥) parent node right
       (λ to. no_way_back g p node parent r good inset x.before to (passes u x.before_parent (up p inset).1 arrives))

@@ -18,13 +18,13 @@ inside_named g region p a o (leaves r named is to out) = named
 inside_named g region p a o (stays r named is to i) = named
 inside_named g region p a o (ends r named is on) = named
 
--- what a place reaches does not lead it back
+-- the walk of a place does not come back to a node that it passed
 pub no_way_back : (g : ℕ → NodeState) (p a b : ℕ) (r : Record) → Good g → InInset g a p → record_at g a ≡ Some r → LeadsTo r p b → Path g p a b → ⊥
 no_way_back g p a b r good inset is to w =
     let end = (good_walked g good).ends p inset.0 in
     no_return g p end.0 a b r good.apart (ends_reached g p end.0 a good.apart inset.1 end.1) is to w
 
--- the walk goes on to a node of the region, or it does not
+-- the record leads the walk to a node of the region, and there it has this outcome; or it leads to no node of the region
 abbrev pub GoesOn : (ℕ → NodeState) → List ℕ → ℕ → Record → Outcome → Type 0
 GoesOn g region p r o = (c : ℕ) × LeadsTo r p c × (names region c ≡ true) × Inside g region p c o
 
@@ -65,7 +65,7 @@ leads_or_not g p a m u good inset is =
       | inr ne ↦ inr (λ to'. ne (next_one g p a b m t u good.apart is' is to to'))
     ]
 
--- where a record acts as another, it leads where that one leads
+-- if a record acts as another, it leads where that one leads
 pub acts_back : (s r : Record) (p m : ℕ) → ActsAs s r p → AllPairs (λ e f. (p : ℕ) → Carries e p → Carries f p → ⊥) s.edges → LeadsTo s p m → LeadsTo r p m
 acts_back s r p m acts apart to =
     let before = leads_where r p (acts.on (leads_on s p m to)) in

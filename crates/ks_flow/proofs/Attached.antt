@@ -21,7 +21,7 @@ use Rattle.ks_flow.proofs.Links.{edge_at, same_range, keyset_of_range, range_of_
 -- the law of attaches
 
 module _ (g : ℕ → NodeState) (node : ℕ) (k : ℕ → NodeState) (r s : Record) (x : IsAttach g node k r s) (good : Good g) where
-  -- a node is the one, or has the record that it had
+  -- a node is the changed one, or has the record that it had
   which : (n : ℕ) → (n ≡ node) ⊎ (record_at k n ≡ record_at g n)
   which n = elim (same_or_apart n node) [ inl e ↦ inl e | inr ne ↦ inr (x.differs.same n (out_of node [] n ne refl)) ]
 

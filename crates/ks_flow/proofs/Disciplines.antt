@@ -67,7 +67,7 @@ tree_discipline = record {
   beside_on = λ g k l n a b. record { forth = λ p i. b.forth p (a.forth p i); back = λ p i. a.back p (b.back p i) };
 }
 
--- links at the opening: node 0 alone is live, on level 0
+-- links at the opening: only node 0 is live, on level 0
 
 opening_link : (blank : Frame) → BeginsLink blank → Link opening (λ n. blank)
 opening_link blank begins = record {
@@ -90,7 +90,7 @@ opening_link blank begins = record {
     whole : (s : Span) → IsRange blank s → s ≡ all
     whole s range = let e : Some s ≡ Some all = sym range.is ∙ begins.range in cc
 
--- the facts of links speak of edges alone
+-- the facts of links mention only edges
 
 live_back : (g k : ℕ → NodeState) (n : ℕ) → SameEdges g k → IsLive k n → IsLive g n
 live_back g k n same live = let y = same.back n live.0 live.1 in (y.0, y.1)

@@ -106,7 +106,7 @@ module _ (g : ℕ → NodeState) (region : List ℕ) (k : ℕ → NodeState) (ad
   outside_same n m out = ap (λ (o : Option Record). edges_in o m) (differs.same n out)
 
   module _ (one : OneEdge g) where
-    -- the region's edges and one node's outside, after the change
+    -- the edges from the region and from one node outside, after the change
     with_outside : (n m : ℕ) → names region n ≡ false → edges_between g n m + edges_into k region m ≤ 1
     with_outside n m out = go (names added m) (names lost m) refl refl
       where
@@ -147,7 +147,7 @@ module _ (g : ℕ → NodeState) (region : List ℕ) (k : ℕ → NodeState) (ad
             go' true h = omega (arith, in_sum k region n 0 h, zero)
             go' false h = outside_same n 0 h ∙ one.none n
 
-  -- the region's edges lead to live nodes
+  -- the edges of the region lead to live nodes
   pub leads_kept : (n : ℕ) (r : Record) → names region n ≡ true → record_at k n ≡ Some r → All (λ e. IsLive k e.node) r.edges
   leads_kept n r named is i d lt = at_node _ (omega (arith, edge_between k n r is i d lt, in_sum k region n (get_or r.edges i d).node named))
     where
@@ -164,7 +164,7 @@ module _ (g : ℕ → NodeState) (region : List ℕ) (k : ℕ → NodeState) (ad
           go false false true a l h = kept.live m h l
           go false false false a l h = let live = look (record_at g m) refl a l in (live.0, differs.same m h ∙ live.1)
 
--- to a node to which one node leads, places come through that node alone
+-- if one node leads to a node, places come to it only through that node
 pub sole_parent : (g : ℕ → NodeState) (e x p : ℕ) (s : Record) → OneEdge g → record_at g e ≡ Some s → 0 < edges_to s.edges x → Reaches g p x → Reaches g p e × LeadsTo s p x
 sole_parent g e x p s one is some (at_root live) = absurd (omega (arith, one.none e, subst (λ (o : Option Record). 0 < edges_in o 0) (sym is) some))
 sole_parent g e x p s one is some (along {n} r reach is' to live) = go (same_or_apart n e)

@@ -30,7 +30,7 @@ module _ (g : ℕ → NodeState) (region : List ℕ) (k : ℕ → NodeState) (e 
   meets_after p a b (now named) = now named
   meets_after p a b (later {b = c} r out is to w) = later r out (differs.same b out ∙ is) to (meets_after p a c w)
 
-  -- the places that reach the entry enter the region
+  -- the walks of the places that reach the entry enter the region there
   enters_after : (p : ℕ) → Reaches g p e → Enters k region p e
   enters_after p reach =
       let m = path_meets g region p e 0 (path_root g p e e reach arrives) entry.entry in
@@ -90,7 +90,7 @@ module _ (g : ℕ → NodeState) (region : List ℕ) (k : ℕ → NodeState) (e 
   live_g : (n p b : ℕ) (r : Record) → record_at g n ≡ Some r → LeadsTo r p b → IsLive g b
   live_g n p b r is to = target_live g r p b (good.leads n r is) to
 
-  -- what the walks of the places that reach the entry make of the region
+  -- the walks of the places that reach the entry come to an outcome in the region
   outcome : (p : ℕ) → InInset g e p → (o : Outcome) × Inside g region p e o
   outcome p inset =
       let w = (good_walked g good).ends p inset.0 in
@@ -156,7 +156,7 @@ module _ (g : ℕ → NodeState) (region : List ℕ) (k : ℕ → NodeState) (e 
           let b = before.1 there in
           (λ o. reaches_out k region p e n good_k b.0 (leaves_on p n (place, b.1) (b.2 (leaves_to n) (leaves r there is to o))), λ named. (b.0, b.1, λ o i. b.2 o (stays r there is to i)))
 
-  -- the insets of the nodes outside stay, and so does the inset of the entry
+  -- the nodes outside keep their insets, and so does the entry
 
   pub inset_back : (n p : ℕ) → names region n ≡ false → InInset k n p → InInset g n p
   inset_back n p out h = (h.0, (back p n h.0 h.1).0 out)

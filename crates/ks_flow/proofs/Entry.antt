@@ -10,8 +10,8 @@ use Rattle.ks_keysets.specs.Keyset.{record_at, IsLive, InInset}
 use Rattle.ks_flow.specs.Ways.{names, Outcome, ends_at, Inside, AreAlike}
 use Rattle.ks_flow.specs.Tree.{edges_between, IsInset}
 
--- a region that is entered at one node, e, alone: no other node of it is the root or is led to from outside.
--- The change keeps what becomes of the places that reach e
+-- a region that is entered only at one node, e: no other node of it is the root or is led to from outside.
+-- The change keeps the outcomes of the places that reach e
 pub record EntryRegion (g : ℕ → NodeState) (region : List ℕ) (k : ℕ → NodeState) (e : ℕ) : Type 0 where
   pub entry : names region e ≡ true
   pub root : names region 0 ≡ true → 0 ≡ e

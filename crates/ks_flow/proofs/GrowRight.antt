@@ -63,7 +63,7 @@ module _ (g k : ℕ → NodeState) (f h : ℕ → Frame) (left right cut : ℕ) 
     ]
   ]
 
-  -- a live node but the root keeps its frame
+  -- a live node, except the root, keeps its frame
   frame_on : (n : ℕ) → IsLive g n → (n ≡ 0 → ⊥) → h n ≡ f n
   frame_on n live ne = elim (which n) [
     | inl e ↦ absurd (ne e)
@@ -114,7 +114,7 @@ module _ (g k : ℕ → NodeState) (f h : ℕ → Frame) (left right cut : ℕ) 
     | inr ne ↦ omega (arith, link.highest n live ne)
   ]
 
-  -- where the range of a live node but the root comes from
+  -- where the range of a live node, except the root, comes from
   abbrev Old : ℕ → Span → Type 0
   Old n a = (m : ℕ) × (b : Span) × IsLive g m × IsRange (f m) b × ((h n).level ≡ (f m).level) × ((p : ℕ) → Holds a p → Holds b p) ×
       (((n ≡ m) × (m ≡ 0 → ⊥)) ⊎ (((n ≡ left) × (m ≡ 0) × ((p : ℕ) → Holds a p → p < cut)) ⊎ ((n ≡ right) × (m ≡ 0) × ((p : ℕ) → Holds a p → cut ≤ p))))
@@ -349,7 +349,7 @@ module _ (g k : ℕ → NodeState) (f h : ℕ → Frame) (left right cut : ℕ) 
       go (inr (inr (inl e))) = subst RangeAt (sym e) (span_right, range_right)
       go (inr (inr (inr same))) = let y = link.range n (live.0, sym same.1 ∙ live.1) in (y.0, subst (λ (z : Frame). IsRange z y.0) (sym same.2) y.1)
 
-  -- what is led to is led to by one of the halves, if it was by the root
+  -- a node that an edge of the root led to is led to by one of the halves
   led_by : (i p : ℕ) → LeadsTo r p i → (h i).level ≡ (f i).level → (f 0).level ≡ suc (f i).level → IsLed k h i
   led_by i p to same up = elim (below_or_from p cut) [
     | inl lt ↦ record { above = left; node = s; place = p; is = x.after_left; leads = (x.below_cut p lt).1.to i to; level = omega (arith, x.level_left, same, up) }

@@ -78,7 +78,7 @@ module _ (g : ℕ → NodeState) (f : ℕ → Frame) (root : IsLive g 0) (apart 
       let e = edge_at r.edges (λ e. IsLinkEdge f m s.0 e ⊎ IsChildEdge f m s.0 e) (λ e. Carries e p × (e.node ≡ n)) to (link.edges m r s.0 is s.1) in
       subst (λ (x : ℕ). (f x).low ≤ p) e.1.1 (low_at n p s.0 m e.0 e.1.0 e.2)
 
-  -- where a place that has come to a node ends
+  -- where the walk of a place that has come to a node ends
   abbrev EndsBelow : ℕ → Type 0
   EndsBelow p = (n : ℕ) × Reaches g p n × ((f n).level ≡ 0) × (s : Span) × IsRange (f n) s × Holds s p
 
@@ -88,7 +88,7 @@ module _ (g : ℕ → NodeState) (f : ℕ → Frame) (root : IsLive g 0) (apart 
   next_live : (n p m : ℕ) (r : Record) → record_at g n ≡ Some r → LeadsTo r p m → IsLive g m
   next_live n p m r is to = target_live g r p m (leads n r is) to
 
-  -- inside the range of a node: it is on level 0, or the place goes one level down
+  -- the place is in the range of the node: the node is on level 0, or the place goes one level down
   in_range : (p l a : ℕ) (r : Record) (s : Span) → IsPlace p → ((j : ℕ) → suc j ≡ l → FromLevel p j) → Reaches g p a → record_at g a ≡ Some r → IsRange (f a) s → (f a).level ≡ l → p ≤ s.last → EndsBelow p
   in_range p zero a r s place down reach is range level le = (a, reach, level, s, range, (omega (arith, low_reached p a reach, range.low), le))
   in_range p (suc l) a r s place down reach is range level le =
@@ -155,7 +155,7 @@ module _ (g : ℕ → NodeState) (f : ℕ → Frame) (root : IsLive g 0) (apart 
         | inr gt ↦ absurd (h.1 (live.0, live.1, link.beyond n live.0 s p live.1 range (omega (arith, gt.1)) h.0.0))
       ]
 
-  -- so the graph is good where each pair stands once, in the range of a node of level 0
+  -- so the graph is good if each pair is in the range of a node of level 0, once
   pub link_good : ((n : ℕ) (r : Record) → record_at g n ≡ Some r → All (λ x. InKeyset g n x.place) r.pairs) → ((n : ℕ) (r : Record) → record_at g n ≡ Some r → AllPairs (λ x y. x.place ≡ y.place → ⊥) r.pairs) → Good g
   link_good stored once = record {
     root = root;

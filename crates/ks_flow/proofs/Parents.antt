@@ -1,4 +1,4 @@
--- Where one edge at most leads to each node, edges lead to it from one node at most.
+-- If one edge at most leads to each node, edges lead to it from one node at most.
 use Rattle.std.proofs.Common.{ℕ, ◌≡◌, ◌<◌, inl, inr, Option, Some, sym, ap, ◌∙◌, subst, arith}
 use Rattle.std.specs.Prelude.{Any}
 use Rattle.ks_keysets.specs.declared.Edge.{Edge}

@@ -54,7 +54,7 @@ no_return g p n a b r apart (goes {b = c} s is' to' rest) is to w =
         go x y arrives is to e f = f x r is to arrives e
         go x y (passes {b = d} t is'' to'' v) is to e f = f d t is'' to'' (path_then g p x y d v (passes r is to arrives)) e
 
--- the walk from the root passes what the place reaches
+-- the walk from the root goes through each node that the place reaches
 pub ends_reached : (g : ℕ → NodeState) (p n a : ℕ) → AreApart g → Reaches g p a → Ends g p n 0 → Ends g p n a
 ends_reached g p n a apart (at_root live) w = w
 ends_reached g p n a apart (along {n = b} r reach is to live) w = next b (ends_reached g p n b apart reach w) is to
@@ -63,7 +63,7 @@ ends_reached g p n a apart (along {n = b} r reach is to live) w = next b (ends_r
     next b (stops s is' on) is to = absurd (on (subst (λ (t : Record). LeadsOn t p) (same_record g n r s is is') (leads_on r p a to)))
     next b (goes {b = c} s is' to' rest) is to = subst (λ (m : ℕ). Ends g p n m) (next_one g p b c a s r apart is' is to' to) rest
 
--- what becomes of a walk in a region is one
+-- a walk has one outcome in a region
 pub inside_one : (g : ℕ → NodeState) (region : List ℕ) (p a b : ℕ) (o q : Outcome) → AreApart g → a ≡ b → Inside g region p a o → Inside g region p b q → o ≡ q
 inside_one g region p a b o q apart same (leaves {b = c} r named is to out) (leaves {b = d} r' named' is' to' out') = ap leaves_to (next_one g p b c d r r' apart (subst (λ (m : ℕ). record_at g m ≡ Some r) same is) is' to to')
 inside_one g region p a b o q apart same (leaves {b = c} r named is to out) (stays {b = d} r' named' is' to' i) =
@@ -96,7 +96,7 @@ inside_one g region p a b o q apart same (ends r named is on) (leaves {b = d} r'
 inside_one g region p a b o q apart same (ends r named is on) (stays {b = d} r' named' is' to' i) = absurd (on (subst (λ (t : Record). LeadsOn t p) (same_record g b r' r is' (subst (λ (m : ℕ). record_at g m ≡ Some r) same is)) (leads_on r' p d to')))
 inside_one g region p a b o q apart same (ends r named is on) (ends r' named' is' on') = ap ends_at same
 
--- a walk that leaves a region comes to where it leaves to
+-- a walk that leaves a region comes to the node to which it leaves
 pub reaches_out : (g : ℕ → NodeState) (region : List ℕ) (p a b : ℕ) → Good g → Reaches g p a → Inside g region p a (leaves_to b) → Reaches g p b
 reaches_out g region p a b good reach (leaves r named is to out) = along r reach is to (target_live g r p b (good.leads a r is) to)
 reaches_out g region p a b good reach (stays {b = c} r named is to i) = reaches_out g region p c b good (along r reach is to (target_live g r p c (good.leads a r is) to)) i

@@ -37,7 +37,7 @@ value_same : (g k : ℕ → NodeState) (n p : ℕ) → record_at k n ≡ record_
 value_same g k n p same = ap (λ (o : Option Record). value_in o p) (sym same)
 
 module _ (g : ℕ → NodeState) (region : List ℕ) (k : ℕ → NodeState) (differs : DiffersIn g region k) where
-  -- a walk outside the region stays
+  -- a walk that stays outside the region stays as it is
   pub stays_out : (p n a : ℕ) → Ends g p n a → ((c : ℕ) → Path g p c a → names region c ≡ true → ⊥) → Ends k p n a × (value_at g n p ≡ value_at k n p)
   stays_out p n a (stops r is on) away = next (names region n) refl
     where
@@ -50,7 +50,7 @@ module _ (g : ℕ → NodeState) (region : List ℕ) (k : ℕ → NodeState) (di
       next true named rest = absurd (away a arrives named)
       next false out rest = (goes r (differs.same a out ∙ is) to rest.0, rest.1)
 
-  -- where the walk ends after the change, and with which value
+  -- the walk after the change ends too, and finds the same value
   abbrev pub EndsAlike : ℕ → ℕ → ℕ → Type 0
   EndsAlike p n a = (m : ℕ) × Ends k p m a × (value_at g n p ≡ value_at k m p) × (names region n ≡ false → m ≡ n)
 

@@ -271,7 +271,7 @@ module _ (g k : ℕ → NodeState) (f h : ℕ → Frame) (node right cut : ℕ) 
         ]
       ]
 
-  -- what is led to is led to by the node or by the new one, if it was by the node
+  -- a node that an edge of the node led to is led to by the node or by the new one
   led_by : (i p : ℕ) → LeadsTo r p i → (h i).level ≡ (f i).level → (f node).level ≡ suc (f i).level → IsLed k h i
   led_by i p to same up = elim (below_or_from p cut) [
     | inl lt ↦ record { above = node; node = s; place = p; is = x.after; leads = (x.below_cut p within.0 lt).to i to; level = omega (arith, x.level, same, up) }

@@ -23,9 +23,9 @@ use Rattle.ks_flow.proofs.Edges.{sole_parent}
 use Rattle.ks_flow.proofs.Trees.{below_or_from, between_is}
 use Rattle.ks_flow.proofs.Used.{edges_two}
 
--- a record whose edges are disjoint, and to which node one edge of it alone leads
+-- a record whose edges are disjoint, and of which only one leads to the node
 
--- where the same edge carries both places, each edge carries both or neither
+-- if the same edge carries both places, each edge carries both or neither
 alike_of : (es : List Edge) (k : ℕ) (x : Edge) (p q : ℕ) → ((i j : ℕ) (d : Edge) → i < j → j < length es → (o : ℕ) → Carries (get_or es i d) o → Carries (get_or es j d) o → ⊥) → k < length es → Carries (get_or es k x) p → Carries (get_or es k x) q → All (λ e. CarriesAlike e p q) es
 alike_of es k x p q apart lt on on' i d lt' = go (cases i k)
   where
@@ -40,7 +40,7 @@ alike_of es k x p q apart lt on on' i d lt' = go (cases i k)
     go (inr (inl less)) = record { forth = λ c. absurd (apart k i d less lt' p (at p on) c); back = λ c. absurd (apart k i d less lt' q (at q on') c) }
     go (inr (inr same)) = subst (λ (j : ℕ). CarriesAlike (get_or es j d) p q) (sym same) (record { forth = λ c. at q on'; back = λ c. at p on })
 
--- two places that one record leads to a node to which one edge alone leads are carried by one edge
+-- if one record leads two places to a node, by only one edge, that edge carries both
 same_edge : (es : List Edge) (p q m : ℕ) → edges_to es m ≤ 1 → Any (λ e. Carries e p × (e.node ≡ m)) es → Any (λ e. Carries e q × (e.node ≡ m)) es → (k : ℕ) × (x : Edge) × (k < length es) × Carries (get_or es k x) p × Carries (get_or es k x) q
 same_edge es p q m one (k, x, lt, is, to) (l, y, lt', is', to') = go (cases k l)
   where
@@ -80,7 +80,7 @@ module _ (layout : Layout) (g : ℕ → NodeState) (f : ℕ → Frame) (good : G
     before = λ m inset. inr (path_root g p m m inset.1 arrives);
   }
 
-  -- a node that is tested is left behind
+  -- below a node that is tested, a node is tested too, or the walk goes to it through the next node
   left_behind : (p n m : ℕ) (r : Record) → record_at g n ≡ Some r → LeadsTo r p m → FitsNoRight layout g f n → (x : ℕ) → Path g p x n → FitsNoRight layout g f x ⊎ Path g p x m
   left_behind p n m r is to tested x arrives = inl tested
   left_behind p n m r is to tested x (passes {b} s is' to' w) = inr (subst (λ (y : ℕ). Path g p x y) (next_one g p n b m s r good.apart is' is to' to) w)
@@ -107,7 +107,7 @@ module _ (layout : Layout) (g : ℕ → NodeState) (f : ℕ → Frame) (good : G
             x.most (subst (λ (e : ℕ). e < top) same lt) (subst (λ (e : ℕ). InInset g n (suc e)) same inset))
       ]
 
-  -- what leads one place down to a node leads each place that the node has
+  -- a walk that goes down to a node with one place comes there with each place of the node
   reach_back : (p q n m : ℕ) → Ends g q n m → Reaches g p n → Reaches g p m
   reach_back p q n m (stops r is on) reach = reach
   reach_back p q n m (goes {b} r is to w) reach = (sole_parent g m b p r tree.edges is (leads_some r q b to) (reach_back p q n b w reach)).0
@@ -132,7 +132,7 @@ module _ (layout : Layout) (g : ℕ → NodeState) (f : ℕ → Frame) (good : G
         here : (q k : ℕ) (d : Edge) → k < length r.edges → Carries (get_or r.edges k d) q → LeadsOn r q
         here q k d l c = (k, get_or r.edges k d, l, get_or_default r.edges k (get_or r.edges k d) d l, c)
 
-    -- so all nodes that begin up to the end are tested
+    -- so all nodes that begin up to the end of the span are tested
     pub tight_on : FitsNoRight layout g f n → IsTightBelow layout g f p → IsTightBelow layout g f (suc end)
     tight_on tested below = record { at = λ m live lt. elim (below_or_from (f m).low p) [ inl less ↦ below.at m live less | inr more ↦ met m live more (omega arith) ] }
       where
@@ -154,7 +154,7 @@ module _ (layout : Layout) (g : ℕ → NodeState) (f : ℕ → Frame) (good : G
             let back = reach_back p q n m way start.1 in
             elim (x.before m (start.0, back)) [ inl t ↦ t | inr w ↦ on_walk m w ]
 
-  -- where all nodes are tested, and the root is no branch over one child, the graph is tight
+  -- if all nodes are tested, and the root is no branch over one child, the graph is tight
   pub tight_all : IsTightBelow layout g f (suc top) → ((r : Record) (m : ℕ) → record_at g 0 ≡ Some r → (f 0).kind ≢ NoBranch → ¬ All (λ e. e.node ≡ m) r.edges) → IsTight layout g f
   tight_all below root = record {
     full = λ n m r s right is is' fit.
@@ -164,7 +164,7 @@ module _ (layout : Layout) (g : ℕ → NodeState) (f : ℕ → Frame) (good : G
     root = root;
   }
 
--- one place's node is enough for the place to be tidy
+-- a place is tidy if the node at which its walk ends is not low or fits with no right neighbour
 pub tidy_here : (layout : Layout) (g : ℕ → NodeState) (f : ℕ → Frame) (n p : ℕ) (r : Record) → Good g → InKeyset g n p → record_at g n ≡ Some r → (IsLow layout (f n).kind r → FitsNoRight layout g f n) → IsTidyAt layout g f p
 tidy_here layout g f n p r good here is tested = record { at = λ m s there is' low. at m s (good.one n m p here there) is' low }
   where

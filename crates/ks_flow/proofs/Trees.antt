@@ -73,14 +73,14 @@ between_is g n m r is = ap (λ (o : Option Record). edges_in o m) is
 pub between_none : (g : ℕ → NodeState) (n m : ℕ) → record_at g n ≡ None → edges_between g n m ≡ 0
 between_none g n m is = ap (λ (o : Option Record). edges_in o m) is
 
--- a pair stands where it ends
+-- the walk of a pair's place ends at the pair's node
 pub pair_ends : (g k : ℕ → NodeState) (region : List ℕ) (p a b : ℕ) (r s : Record) → InKeyset g a p → record_at g a ≡ Some r → record_at k b ≡ Some s → names region b ≡ true → ActsAs s r p → Inside k region p b (ends_at b)
 pair_ends g k region p a b r s h is is' named acts = ends s named is' (λ on. h.1 (r, is, acts.on on))
 
 pub not_on : (g : ℕ → NodeState) (a p : ℕ) (r : Record) → InKeyset g a p → record_at g a ≡ Some r → (m : ℕ) → LeadsTo r p m → ⊥
 not_on g a p r h is m (k, x, lt, at, to) = h.1 (r, is, (k, x, lt, at, to.0))
 
--- a node that acts as another did has the place in its keyset where that one had it
+-- a node that acts as another did has the place in its keyset if that one had it
 pub keyset_forth : (g k : ℕ → NodeState) (a b p : ℕ) (r s : Record) → record_at g a ≡ Some r → record_at k b ≡ Some s → ActsAs s r p → InKeyset g a p → InInset k b p → InKeyset k b p
 keyset_forth g k a b p r s is is' acts h inset = (inset, λ o. h.1 (r, is, acts.on (subst (λ (t : Record). LeadsOn t p) (same_record k b o.0 s o.1 is') o.2)))
 

@@ -146,7 +146,7 @@ module _ (g k : ℕ → NodeState) (f h : ℕ → Frame) (parent node right cut 
   to_right : 0 < edges_to v.edges right
   to_right = let z = up cut x.cut_inside in leads_some v cut right (x.from_cut cut z.0 z.1 (omega arith)).0
 
-  -- what parent leads to node or right after, it led to node before
+  -- the places that parent leads to node or right after, it led to node before
   led_before : (p m : ℕ) → InInset g parent p → LeadsTo v p m → (m ≡ node) ⊎ (m ≡ right) → LeadsTo u p node
   led_before p m inset to which = elim (leads_or_not g p parent node u good inset x.before_parent) [
     | inl yes' ↦ yes'

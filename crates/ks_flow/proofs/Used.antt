@@ -1,4 +1,4 @@
--- Every edge of a tree is used, and changes of pairs alone keep the facts of trees.
+-- Every edge of a tree is used, and changes of pairs keep the facts of trees.
 use Rattle.ks_flow.proofs.Acts.{no_way_back}
 use Rattle.ks_keysets.specs.declared.Record.{Record}
 use Rattle.ks_keysets.specs.declared.Frame.{Frame}

@@ -24,11 +24,11 @@ keyset_from : (g : ℕ → NodeState) (p n a : ℕ) → ((m : ℕ) (r : Record) 
 keyset_from g p n a leads place reach (stops r is on) = ((place, reach), λ o. on (subst (λ (t : Record). LeadsOn t p) (same_record g n o.0 r o.1 is) o.2))
 keyset_from g p n a leads place reach (goes {b} r is to w) = keyset_from g p n b leads place (along r reach is to (target_live g r p b (leads a r is) to)) w
 
--- and the other way round, where edges lead to live nodes
+-- and conversely, if edges lead to live nodes
 pub ends_keyset : (g : ℕ → NodeState) (p n : ℕ) → IsLive g 0 → ((m : ℕ) (r : Record) → record_at g m ≡ Some r → All (λ e. IsLive g e.node) r.edges) → IsPlace p → Ends g p n 0 → InKeyset g n p
 ends_keyset g p n root leads place w = keyset_from g p n 0 leads place (at_root root) w
 
--- two walks from one node that end, end at one node
+-- two walks from one node that end, end at the same node
 pub ends_one : (g : ℕ → NodeState) (p n m a b : ℕ) → AreApart g → a ≡ b → Ends g p n a → Ends g p m b → n ≡ m
 ends_one g p n m a b apart same (stops r is on) (stops r' is' on') = same
 ends_one g p n m a b apart same (stops r is on) (goes {b = c} r' is' to w) = absurd (on (subst (λ (t : Record). LeadsOn t p) (same_record g n r' r (subst (λ (j : ℕ). record_at g j ≡ Some r') (sym same) is') is) (leads_on r' p c to)))
@@ -57,7 +57,7 @@ walked_good g w = record {
   once = w.once;
 }
 
--- what is found in a good graph is what the node has at which the walk ends
+-- what is found in a good graph is what the node at which the walk ends has
 
 pub found_here : (g : ℕ → NodeState) (n p : ℕ) → Good g → InKeyset g n p → IsFound g p (value_at g n p)
 found_here g n p good h = here n h (λ m lt h'. absurd (omega (arith, good.one n m p h h'))) refl

@@ -23,7 +23,7 @@ frames_with xs f i = reframed xs i (f i)
 abbrev pub NamedOnce : List Change → Type 0
 NamedOnce = AllPairs (λ x y. x.node ≡ y.node → ⊥)
 
--- the node of the change has the record, if any, and the frame that the change gives it
+-- the node of the change has the record, if any, and the frame that the change says
 pub record HasBecome (f : ℕ → Frame) (k : ℕ → NodeState) (h : ℕ → Frame) (x : Change) : Type 0 where
   pub has : record_at k x.node ≡ live_record (new_state x.state)
   pub frame : h x.node ≡ new_frame x.state (f x.node)

@@ -1,5 +1,5 @@
--- What it is to be a discipline of shapes: facts of graphs and frames that hold from the opening on, and a condition
--- on each Shape that keeps them and with them a graph good and what is found in it.
+-- What a discipline of shapes is: facts of graphs and frames that hold from the opening on, and a condition on each Shape
+-- that keeps the facts, keeps the graph good, and keeps what is found in it.
 use Rattle.std.specs.Prelude.{ℕ, ◌≡◌, ◌⊎◌, false, List, [], ◌∷◌, Some}
 use Rattle.ks_keysets.specs.declared.Frame.{Frame}
 use Rattle.ks_keysets.specs.declared.NodeState.{NodeState}
@@ -23,7 +23,7 @@ pub record SameKeyset (n : ℕ) (g k : ℕ → NodeState) : Type 0 where
   pub forth : (p : ℕ) → InKeyset g n p → InKeyset k n p
   pub back : (p : ℕ) → InKeyset k n p → InKeyset g n p
 
--- the laws of a discipline. `begins` is what it asks of the frame of a blank body, `facts` what holds of graph and
+-- the laws of a discipline. `begins` is what it requires of the frame of a blank body, `facts` what holds of graph and
 -- frames between events, `step` what a Shape must meet; `lasts` says what stays whatever happens, and `beside` what
 -- stays at a node that no Shape names
 pub record IsDiscipline (begins : Frame → Type 0) (facts : (ℕ → NodeState) → (ℕ → Frame) → Type 0) (step : (ℕ → NodeState) → (ℕ → Frame) → List Change → Type 0) (lasts : (ℕ → NodeState) → (ℕ → Frame) → (ℕ → NodeState) → (ℕ → Frame) → Type 0) (beside : ℕ → (ℕ → NodeState) → (ℕ → NodeState) → Type 0) : Type 0 where
@@ -33,7 +33,7 @@ pub record IsDiscipline (begins : Frame → Type 0) (facts : (ℕ → NodeState)
   pub good : (g : ℕ → NodeState) (f : ℕ → Frame) (xs : List Change) → Good g → step g f xs → Good (graph_with xs g)
   pub found : (g : ℕ → NodeState) (f : ℕ → Frame) (xs : List Change) → Good g → step g f xs → SameFound g (graph_with xs g)
   pub facts_after : (g : ℕ → NodeState) (f : ℕ → Frame) (xs : List Change) → step g f xs → facts (graph_with xs g) (frames_with xs f)
-  -- where live nodes and their edges stay, so do the facts
+  -- the facts remain if live nodes and their edges remain
   pub facts_along : (g k : ℕ → NodeState) (f : ℕ → Frame) → SameEdges g k → facts g f → facts k f
   -- what lasts
   pub lasts_after : (g : ℕ → NodeState) (f : ℕ → Frame) (xs : List Change) → step g f xs → lasts g f (graph_with xs g) (frames_with xs f)

@@ -1,4 +1,4 @@
--- What each shape of a tree makes of the insets and keysets of the nodes that it names.
+-- What each shape of a tree does to the insets and keysets of the nodes that it names.
 -- In each g is the graph before it, and k that after it. A node that is not named keeps its inset and its keyset.
 use Rattle.std.specs.Prelude.{ℕ, ◌≡◌, ◌<◌, ◌≤◌, ◌⊎◌, ◌↔◌, Some}
 use Rattle.ks_keysets.specs.declared.NodeState.{NodeState}

@@ -42,7 +42,7 @@ pub record IsRange (frame : Frame) (s : Span) : Type 0 where
 pub record Link (g : ℕ → NodeState) (frames : ℕ → Frame) : Type 0 where
   -- each live node has a range
   pub range : (n : ℕ) → IsLive g n → (s : Span) × IsRange (frames n) s
-  -- that of the root is all places, and the root is alone on the highest level
+  -- that of the root is all places, and only the root is on the highest level
   pub root : (frames 0).range ≡ Some (record { low = 0; last = top })
   pub highest : (n : ℕ) → IsLive g n → (n ≡ 0 → ⊥) → (frames n).level < (frames 0).level
   -- on each level the ranges are disjoint
@@ -73,8 +73,8 @@ pub record IsLed (g : ℕ → NodeState) (frames : ℕ → Frame) (i : ℕ) : Ty
   pub leads : LeadsTo node place i
   pub level : (frames above).level ≡ suc (frames i).level
 
--- what lasts under links: no node is made free, live nodes keep their lows and, but the root, their levels, and what is
--- led to from the level above stays so
+-- what lasts under links: no node is made free, live nodes keep their lows and, except the root, their levels, and a node
+-- that is led to from the level above remains so
 pub record LastsUnderLink (g : ℕ → NodeState) (f : ℕ → Frame) (k : ℕ → NodeState) (h : ℕ → Frame) : Type 0 where
   pub live : (n : ℕ) → IsLive g n → IsLive k n
   pub low : (n : ℕ) → IsLive g n → (h n).low ≡ (f n).low
@@ -86,7 +86,7 @@ pub record KeepsLink (g : ℕ → NodeState) (f : ℕ → Frame) (k : ℕ → No
   pub link : Link k h
   pub lasts : LastsUnderLink g f k h
 
--- node, not the root (r before, s after), gives its places from the cut on to the new node right (t), and links to it
+-- node, not the root (r before, s after), moves its places from the cut on to the new node right (t), and links to it
 pub record SplitsRight (g k : ℕ → NodeState) (f h : ℕ → Frame) (node right cut : ℕ) (range : Span) (r s t : Record) : Type 0 where
   -- no other node and no other frame changes
   pub differs : DiffersIn g (node ∷ right ∷ []) k
@@ -107,7 +107,7 @@ pub record SplitsRight (g k : ℕ → NodeState) (f h : ℕ → Frame) (node rig
   -- both are tidy
   pub tidy : IsTidy s
   pub tidy_right : IsTidy t
-  -- the pairs of both stand where node had its keyset, on their side of the cut
+  -- the pairs of both are at places of the keyset of node, on their side of the cut
   pub pairs : StandBelow g node cut s.pairs
   pub pairs_right : StandFrom g node cut t.pairs
   -- an edge of node is an old one, or the first part of one, below the cut, or begins at the cut and leads to right
@@ -125,7 +125,7 @@ pub record SplitsRight (g k : ℕ → NodeState) (f h : ℕ → Frame) (node rig
   pub range_right : (h right).range ≡ Some (record { low = cut; last = range.last })
   pub link_right : (h right).link ≡ (f node).link
 
--- the root (r, v) gives its places to the new nodes left (s) and right (t), and leads to both
+-- the root (r, v) moves its places to the new nodes left (s) and right (t), and leads to both
 pub record GrowsRight (g k : ℕ → NodeState) (f h : ℕ → Frame) (left right cut : ℕ) (r v s t : Record) : Type 0 where
   -- no other node and no other frame changes
   pub differs : DiffersIn g (0 ∷ left ∷ right ∷ []) k
@@ -150,9 +150,9 @@ pub record GrowsRight (g k : ℕ → NodeState) (f h : ℕ → Frame) (left righ
   pub tidy : IsTidy v
   pub tidy_left : IsTidy s
   pub tidy_right : IsTidy t
-  -- the pairs that the root keeps stand where it had its keyset and now leads nowhere
+  -- the pairs that the root keeps are in its old keyset, where it now leads nowhere
   pub pairs : All (λ x. InKeyset g 0 x.place × (LeadsOn v x.place → ⊥)) v.pairs
-  -- the other pairs stand where the root had its keyset, on their side of the cut
+  -- the other pairs are in the root's old keyset, on their side of the cut
   pub pairs_left : StandBelow g 0 cut s.pairs
   pub pairs_right : StandFrom g 0 cut t.pairs
   -- an edge of the root begins at the first place and leads to left, up to the cut, or begins at the cut and leads to right
@@ -217,7 +217,7 @@ pub record Attaches (g k : ℕ → NodeState) (f h : ℕ → Frame) (node id cut
 abbrev pub LeadLive : (ℕ → NodeState) → Type 0
 LeadLive g = (n : ℕ) (r : Record) → record_at g n ≡ Some r → All (λ e. IsLive g e.node) r.edges
 
--- each pair stands in its node's keyset, once
+-- each pair is in its node's keyset, once
 pub record PairsStand (g : ℕ → NodeState) : Type 0 where
   pub stored : (n : ℕ) (r : Record) → record_at g n ≡ Some r → All (λ x. InKeyset g n x.place) r.pairs
   pub once : (n : ℕ) (r : Record) → record_at g n ≡ Some r → AllPairs (λ x y. x.place ≡ y.place → ⊥) r.pairs

@@ -16,7 +16,7 @@ pub record IsTidy (r : Record) : Type 0 where
   pub apart : AllPairs (λ e f. (p : ℕ) → Carries e p → Carries f p → ⊥) r.edges
   pub once : AllPairs (λ x y. x.place ≡ y.place → ⊥) r.pairs
 
--- the pairs stand in the keyset of the node, below the cut, or from it on
+-- the pairs are in the keyset of the node, below the cut, or from it on
 abbrev pub StandBelow : (ℕ → NodeState) → ℕ → ℕ → List Pair → Type 0
 StandBelow g node cut = All (λ x. InKeyset g node x.place × (x.place < cut))
 
@@ -45,7 +45,7 @@ pub record KeepsTree (g : ℕ → NodeState) (region : List ℕ) (k : ℕ → No
   pub tree : Tree k h
   pub insets : (n p : ℕ) → names region n ≡ false → InInset k n p ↔ InInset g n p
 
--- node (r before, s after) gives its places from the cut on to the new node right (t), and leads to it
+-- node (r before, s after) moves its places from the cut on to the new node right (t), and leads to it
 pub record SplitsOff (g k : ℕ → NodeState) (node right cut : ℕ) (r s t : Record) : Type 0 where
   -- no other node changes
   pub differs : DiffersIn g (node ∷ right ∷ []) k
@@ -60,11 +60,11 @@ pub record SplitsOff (g k : ℕ → NodeState) (node right cut : ℕ) (r s t : R
   -- both are tidy
   pub tidy : IsTidy s
   pub tidy_right : IsTidy t
-  -- the pairs of both stand where node had its keyset, on their side of the cut
+  -- the pairs of both are in the old keyset of node, on their side of the cut
   pub pairs : StandBelow g node cut s.pairs
   pub pairs_right : StandFrom g node cut t.pairs
 
--- such a split, where the edges to right stay few, and the frames are those of a tree
+-- such a split, with few edges to right, and with the frames of a tree
 pub record SplitsOwn (g k : ℕ → NodeState) (f h : ℕ → Frame) (node right cut : ℕ) (r s t : Record) : Type 0 where
   pub ways : SplitsOff g k node right cut r s t
   -- no other frame changes
@@ -97,9 +97,9 @@ pub record SplitsUnder (g k : ℕ → NodeState) (f h : ℕ → Frame) (parent n
   pub above : (f node).low < cut
   -- parent leads to node
   pub leads : 0 < edges_to u.edges node
-  -- where parent led to node below the cut, it still does, and node does as before
+  -- at the places below the cut that parent led to node, it still does, and node does as before
   pub below_cut : (p : ℕ) → InInset g parent p → LeadsTo u p node → p < cut → LeadsTo v p node × ActsAs s r p
-  -- from the cut on it leads to right instead, which does what node did
+  -- at those from the cut on it leads to right instead, which does what node did
   pub from_cut : (p : ℕ) → InInset g parent p → LeadsTo u p node → cut ≤ p → LeadsTo v p right × ActsAs t r p
   -- at the other places of its inset parent does as before
   pub else : (p : ℕ) → InInset g parent p → (LeadsTo u p node → ⊥) → ActsAs v u p
@@ -110,7 +110,7 @@ pub record SplitsUnder (g k : ℕ → NodeState) (f h : ℕ → Frame) (parent n
   -- no more edges lead to any other node than before, and one at most to right
   pub edges : (m : ℕ) → (m ≡ right → ⊥) → edges_to v.edges m + edges_to s.edges m + edges_to t.edges m ≤ edges_to u.edges m + edges_to r.edges m
   pub edge : edges_to v.edges right + edges_to s.edges right + edges_to t.edges right ≤ 1
-  -- the pairs of parent stand where it had its keyset, the others where node had its own, on their side of the cut
+  -- the pairs of parent are in its old keyset, the others in that of node, on their side of the cut
   pub pairs_parent : All (λ x. InKeyset g parent x.place) v.pairs
   pub pairs : StandBelow g node cut s.pairs
   pub pairs_right : StandFrom g node cut t.pairs
@@ -123,7 +123,7 @@ pub record SplitsUnder (g k : ℕ → NodeState) (f h : ℕ → Frame) (parent n
   pub range : (h node).range ≡ range_to (cut - 1) (f node).range
   pub range_right : (h right).range ≡ range_from cut (f node).range
 
--- node (r, v) gives its places to the new nodes left (s) and right (t), and leads to both
+-- node (r, v) moves its places to the new nodes left (s) and right (t), and leads to both
 pub record GrowsOff (g k : ℕ → NodeState) (node left right cut : ℕ) (r v s t : Record) : Type 0 where
   -- no other node changes
   pub differs : DiffersIn g (node ∷ left ∷ right ∷ []) k
@@ -142,13 +142,13 @@ pub record GrowsOff (g k : ℕ → NodeState) (node left right cut : ℕ) (r v s
   pub tidy : IsTidy v
   pub tidy_left : IsTidy s
   pub tidy_right : IsTidy t
-  -- the pairs that node keeps stand where it had its keyset and now leads nowhere
+  -- the pairs that node keeps are in its old keyset, where it now leads nowhere
   pub pairs : All (λ x. InKeyset g node x.place × (LeadsOn v x.place → ⊥)) v.pairs
-  -- the other pairs stand where node had its keyset, on their side of the cut
+  -- the other pairs are in the old keyset of node, on their side of the cut
   pub pairs_left : StandBelow g node cut s.pairs
   pub pairs_right : StandFrom g node cut t.pairs
 
--- such a growth, where the edges to left and right stay few, and the frames are those of a tree
+-- such a growth, with few edges to left and right, and with the frames of a tree
 pub record Grows (g k : ℕ → NodeState) (f h : ℕ → Frame) (node left right cut : ℕ) (r v s t : Record) : Type 0 where
   pub ways : GrowsOff g k node left right cut r v s t
   -- no other frame changes
@@ -181,7 +181,7 @@ pub record AbsorbsOwn (g k : ℕ → NodeState) (f h : ℕ → Frame) (node righ
   pub gone : record_at k right ≡ None
   -- node leads to right
   pub leads : 0 < edges_to r.edges right
-  -- where node led to right, it does what right did; at its other places it does as before
+  -- at the places that node led to right, it does what right did; at its other places it does as before
   pub there : (p : ℕ) → InInset g node p → LeadsTo r p right → ActsAs s q p
   pub else : (p : ℕ) → InInset g node p → (LeadsTo r p right → ⊥) → ActsAs s r p
   -- it is tidy
@@ -189,7 +189,7 @@ pub record AbsorbsOwn (g k : ℕ → NodeState) (f h : ℕ → Frame) (node righ
   -- no more edges of node lead to any other node than of both before, and none to right
   pub edges : (m : ℕ) → (m ≡ right → ⊥) → edges_to s.edges m ≤ edges_to r.edges m + edges_to q.edges m
   pub edge : edges_to s.edges right ≡ 0
-  -- its pairs stand where the two had their keysets
+  -- its pairs are in the old keysets of the two
   pub pairs : All (λ x. InKeyset g node x.place ⊎ InKeyset g right x.place) s.pairs
   -- it keeps its low and its range
   pub low : (h node).low ≡ (f node).low
@@ -212,12 +212,12 @@ pub record AbsorbsUnder (g k : ℕ → NodeState) (f h : ℕ → Frame) (parent 
   pub leads : 0 < edges_to u.edges node
   pub leads_right : 0 < edges_to u.edges right
   pub leads_after : 0 < edges_to v.edges node
-  -- the places that parent leads to right come after those that it leads to node, and nothing lies between
+  -- the places that parent leads to right come after those that it leads to node, and none is between
   pub order : (p o : ℕ) → LeadsTo u p node → LeadsTo u o right → p < o
   pub beside : (p o m : ℕ) → LeadsTo u p node → LeadsTo u o right → p ≤ m → m ≤ o → LeadsTo u m node ⊎ LeadsTo u m right
-  -- where parent led to node, it still does, and node does as before
+  -- at the places that parent led to node, it still does, and node does as before
   pub here : (p : ℕ) → InInset g parent p → LeadsTo u p node → LeadsTo v p node × ActsAs s r p
-  -- where it led to right, it leads to node, which does what right did
+  -- at those that it led to right, it leads to node, which does what right did
   pub there : (p : ℕ) → InInset g parent p → LeadsTo u p right → LeadsTo v p node × ActsAs s q p
   -- at the other places of its inset parent does as before
   pub else : (p : ℕ) → InInset g parent p → (LeadsTo u p node → ⊥) → (LeadsTo u p right → ⊥) → ActsAs v u p
@@ -227,7 +227,7 @@ pub record AbsorbsUnder (g k : ℕ → NodeState) (f h : ℕ → Frame) (parent 
   -- no more edges of the two lead to any other node than of the three before, and none to right
   pub edges : (m : ℕ) → (m ≡ right → ⊥) → edges_to v.edges m + edges_to s.edges m ≤ edges_to u.edges m + edges_to r.edges m + edges_to q.edges m
   pub edge : edges_to v.edges right + edges_to s.edges right ≡ 0
-  -- the pairs of parent stand where it had its keyset, those of node where node and right had theirs
+  -- the pairs of parent are in its old keyset, those of node in the old ones of node and right
   pub pairs_parent : All (λ x. InKeyset g parent x.place) v.pairs
   pub pairs : All (λ x. InKeyset g node x.place ⊎ InKeyset g right x.place) s.pairs
   -- parent and node keep their lows
@@ -256,7 +256,7 @@ pub record Collapses (g k : ℕ → NodeState) (f h : ℕ → Frame) (node child
   -- no more edges of node lead to any other node than of both before, and none to child
   pub edges : (m : ℕ) → (m ≡ child → ⊥) → edges_to s.edges m ≤ edges_to r.edges m + edges_to q.edges m
   pub edge : edges_to s.edges child ≡ 0
-  -- its pairs stand where child had its keyset
+  -- its pairs are in the old keyset of child
   pub pairs : All (λ x. InKeyset g child x.place) s.pairs
   -- it gets the low of child, and keeps its range
   pub low : (h node).low ≡ (f child).low

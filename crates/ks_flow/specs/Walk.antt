@@ -15,7 +15,7 @@ pub data Ends (g : ℕ → NodeState) (p n : ℕ) : ℕ → Type 0 where
   stops : (r : Record) → record_at g n ≡ Some r → (LeadsOn r p → ⊥) → Ends g p n n
   goes : {a b : ℕ} (r : Record) → record_at g a ≡ Some r → LeadsTo r p b → Ends g p n b → Ends g p n a
 
--- a graph in which each walk from the root ends, and each pair stands where the walk of its place ends
+-- a graph in which each walk from the root ends, and each pair is at the node where the walk of its place ends
 pub record IsWalked (g : ℕ → NodeState) : Type 0 where
   pub root : IsLive g 0
   pub apart : AreApart g

@@ -6,7 +6,7 @@ use Rattle.ks_keysets.specs.Record.{IsPlace, Carries, LeadsTo, LeadsOn}
 use Rattle.ks_keysets.specs.Keyset.{record_at, IsLive, value_at}
 use Rattle.ks_flow.specs.Walk.{Path}
 
--- whether the region names the node
+-- whether the node is in the region
 abbrev pub names : List ℕ → ℕ → Bool
 names [] n = false
 names (m ∷ ms) n = m == n || names ms n
@@ -20,25 +20,25 @@ pub data Meets (g : ℕ → NodeState) (region : List ℕ) (p e : ℕ) : ℕ →
 abbrev pub Enters : (ℕ → NodeState) → List ℕ → ℕ → ℕ → Type 0
 Enters g region p e = Meets g region p e 0
 
--- what becomes of a walk in a region: it leaves the region to an outside node, or ends at a node of it
+-- the outcome of a walk in a region: it leaves the region to an outside node, or ends at a node of it
 pub data Outcome : Type 0 where
   leaves_to : ℕ → Outcome
   ends_at : ℕ → Outcome
 
--- what becomes of the walk of the place from a node of the region
+-- the outcome of the walk of the place from a node of the region
 pub data Inside (g : ℕ → NodeState) (region : List ℕ) (p : ℕ) : ℕ → Outcome → Type 0 where
   leaves : {a b : ℕ} (r : Record) → names region a ≡ true → record_at g a ≡ Some r → LeadsTo r p b → names region b ≡ false → Inside g region p a (leaves_to b)
   stays : {a b : ℕ} {o : Outcome} (r : Record) → names region a ≡ true → record_at g a ≡ Some r → LeadsTo r p b → Inside g region p b o → Inside g region p a o
   ends : {a : ℕ} (r : Record) → names region a ≡ true → record_at g a ≡ Some r → (LeadsOn r p → ⊥) → Inside g region p a (ends_at a)
 
--- one outside node, or two nodes of the region with one value
+-- two outcomes are alike: the same outside node, or two nodes of the region with the same value
 abbrev pub AreAlike : (g k : ℕ → NodeState) → ℕ → Outcome → Outcome → Type 0
 AreAlike g k p (leaves_to b) (leaves_to c) = b ≡ c
 AreAlike g k p (leaves_to b) (ends_at n) = ⊥
 AreAlike g k p (ends_at n) (leaves_to c) = ⊥
 AreAlike g k p (ends_at n) (ends_at m) = value_at g n p ≡ value_at k m p
 
--- the two graphs differ in nodes of the region alone
+-- the two graphs differ only in nodes of the region
 pub record DiffersIn (g : ℕ → NodeState) (region : List ℕ) (k : ℕ → NodeState) : Type 0 where
   pub same : (n : ℕ) → names region n ≡ false → record_at k n ≡ record_at g n
 
@@ -56,7 +56,7 @@ pub record KeepsWays (g : ℕ → NodeState) (region : List ℕ) (k : ℕ → No
   pub leads : (n : ℕ) (r : Record) → names region n ≡ true → record_at k n ≡ Some r → All (λ e. IsLive k e.node) r.edges
   -- no live node leads to a node that was made free
   pub frees : (n : ℕ) (r : Record) → names region n ≡ false → record_at k n ≡ Some r → All (λ e. names region e.node ≡ true → IsLive k e.node) r.edges
-  -- each pair in the region stands at a place that enters the region and ends at the pair's node
+  -- each pair in the region is at a place whose walk enters the region and ends at the pair's node
   pub stored : (n : ℕ) (r : Record) → names region n ≡ true → record_at k n ≡ Some r → All (λ x. IsPlace x.place × (e : ℕ) × Enters k region x.place e × Inside k region x.place e (ends_at n)) r.pairs
-  -- and stands there once
+  -- only one of the node's pairs has that place
   pub once : (n : ℕ) (r : Record) → names region n ≡ true → record_at k n ≡ Some r → AllPairs (λ x y. x.place ≡ y.place → ⊥) r.pairs

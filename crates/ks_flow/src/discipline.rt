@@ -11,7 +11,7 @@ ghost use Rattle.ks_flow.specs.Discipline.{IsDiscipline, BeginsTree, TreeStep, L
 /// What a Shape may do to a graph of nodes: facts that hold from the opening on, and a condition on each Shape that
 /// keeps them, and with them a graph good and what is found in it.
 pub trait Discipline: Send + Sync {
-    // what it asks of the frame of a blank body
+    // what it requires of the frame of a blank body
     ghost begins: { Frame → Type 0 };
 
     // what holds of the graph and the frames between events
@@ -31,7 +31,7 @@ pub trait Discipline: Send + Sync {
         ensures { IsDiscipline begins facts step lasts beside };
 }
 
-/// Each node but the root has one node above it, and its inset is a span that begins at its low.
+/// Each node, except the root, has one node above it, and its inset is a span that begins at its low.
 pub struct Tree;
 
 impl Discipline for Tree {
@@ -48,8 +48,8 @@ impl Discipline for Tree {
     fn laws() {}
 }
 
-/// Nodes stand on levels. On each their ranges cover all places once, and a link leads from each to the next. No
-/// node is made free.
+/// Nodes are on levels. On each level their ranges cover all places once, and a link leads from each node to the next.
+/// No node is made free.
 pub struct Link;
 
 impl Discipline for Link {

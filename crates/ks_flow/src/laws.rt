@@ -20,8 +20,8 @@ ghost use Rattle.std.specs.Prelude.{Option, Some, None, All};
 ghost use Rattle.ks_flow.specs.Insets.{SplitsInsetOwn, SplitsInsetUnder, GrowsInset, AbsorbsInsetOwn, AbsorbsInsetUnder, CollapsesInset};
 ghost use Rattle.ks_flow.specs.Shapes.{KeepsTree, SplitsOwn, SplitsUnder, Grows, AbsorbsOwn, AbsorbsUnder, Collapses};
 
-/// A graph is good exactly where its root is live, the edges of each node are disjoint and lead to live nodes, each
-/// walk from the root ends, and each pair stands once, where the walk of its place ends.
+/// A graph is good if and only if its root is live, the edges of each node are disjoint and lead to live nodes, each walk
+/// from the root ends, and each pair is, once, at the node where the walk of its place ends.
 pub fn walks_law()
     ensures keyset { (g : ℕ → NodeState) → IsWalked g → (p n : ℕ) → IsPlace p → InKeyset g n p ↔ Ends g p n 0 }
     ensures good { (g : ℕ → NodeState) → Good g ↔ IsWalked g }
@@ -66,7 +66,7 @@ pub fn tree_law()
         Collapses g k f h node child r q s → KeepsTree g (node ∷ child ∷ []) k h }
 {}
 
-/// What each shape of a tree makes of the insets of the nodes that it names; the others keep their insets.
+/// What each shape of a tree does to the insets of the nodes that it names; the others keep their insets.
 pub fn insets_law()
     ensures split_own { (g k : ℕ → NodeState) (f h : ℕ → Frame) (node right cut : ℕ) (r s t : Record) → Good g →
         Tree g f →
@@ -86,8 +86,8 @@ pub fn insets_law()
         Collapses g k f h node child r q s → CollapsesInset g k node child }
 {}
 
-/// Where links hold, the keysets are the ranges on level 0, so the graph is good where each pair stands once, in its
-/// node's keyset; and the level of the root is below the number of live nodes, so below each bound on their numbers.
+/// Under the facts of links the keysets are the ranges on level 0, so the graph is good if each pair is in its node's
+/// keyset, once; and the level of the root is below the number of live nodes, so below each bound on their numbers.
 pub fn link_law()
     ensures keyset { (g : ℕ → NodeState) (f : ℕ → Frame) → IsLive g 0 → AreApart g → LeadLive g → Link g f →
         (n p : ℕ) (s : Span) → IsPlace p → IsLive g n →
@@ -122,8 +122,8 @@ pub fn link_shapes_law()
         Attaches g k f h node id cut range r s → IsAttach g node k r s × KeepsLink g f k h }
 {}
 
-/// The facts of trees hold at the opening, and are kept where edges stay. Each edge carries a place of its node's
-/// inset. Edges lead to a node from one node at most, and to the root from none.
+/// The facts of trees hold at the opening, and remain if edges remain. Each edge carries a place of its node's inset.
+/// Edges lead to a node from one node at most, and to the root from none.
 pub fn tree_facts_law()
     ensures opening { (f : ℕ → Frame) → (f 0).low ≡ 0 →
         ((s : Span) → (f 0).range ≡ Some s → (s.low ≡ 0) × (s.last ≡ top)) → Tree opening f }

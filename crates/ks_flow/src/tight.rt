@@ -1,4 +1,4 @@
-//! How a graph is found to be tight, or tidy at a place.
+//! When a graph is tight, or tidy at a place, by what a caller finds on its walks.
 
 ghost use Rattle.std.specs.Prelude.{ℕ, suc, ◌≡◌, ◌≢◌, ◌≤◌, ◌<◌, Some, All};
 ghost use Rattle.ks_keysets.specs.declared.Frame.{Frame};
@@ -12,10 +12,10 @@ ghost use Rattle.ks_keysets.specs.Change.{SameNodes};
 ghost use Rattle.ks_flow.specs.Tree.{Tree};
 ghost use Rattle.ks_flow.specs.Tight.{IsTightBelow, EndsRun, ComesTo};
 
-/// A caller walks from the root along place after place, the first of which is 0 and each next one just past the end
-/// of the span in which the walk of the one before ended, and tests each node against its right neighbour. Where the
-/// walk of a place goes down by an edge or ends, the span ends where the edges of the node stop to do as they do at the
-/// place; the places up to there are in the keyset of the node at which the walk ends, and the next one is not. After
+/// A caller walks from the root along place after place. The first is 0, and each next one is just past the end of the
+/// span in which the walk before ended. It tests each node on the walk against its right neighbour. Where the walk of a
+/// place goes down by an edge or ends, the span is cut to the places that the node's edges treat like this one. The
+/// places up to the end of the span are in the keyset of the node at which the walk ends, and the next one is not. After
 /// the walk that ends with the last place all live nodes are tested, and the graph is tight if the root is no branch
 /// over one child.
 pub fn tight_law()
@@ -44,7 +44,7 @@ pub fn tight_law()
         IsTight layout g f → IsTight layout k h }
 {}
 
-/// A place is tidy where the node whose keyset holds it is not low, or fits with no right neighbour.
+/// A place is tidy if the node whose keyset holds it is not low, or fits with no right neighbour.
 pub fn tidy_law()
     ensures here { (layout : Layout) (g : ℕ → NodeState) (f : ℕ → Frame) (n p : ℕ) (r : Record) → Good g →
         InKeyset g n p → record_at g n ≡ Some r →

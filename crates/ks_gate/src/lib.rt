@@ -1,9 +1,9 @@
-//! The points that a call passes, and gates that are told of them.
+//! The points that a call passes, and gates that are notified of them.
 //!
-//! A template tells its gate of each point of each call: of `Begin` before the call's first step, of `Taken` after each
-//! take or claim, of `Decided` after the number is drawn, of `Given` after each give. A gate has no meaning: it may keep
-//! the caller for a while, but it always returns, and changes nothing that contracts speak of. So what is proved of a
-//! template holds with any gate, and a test can choose in which order two threads meet.
+//! A template notifies its gate of each point of each call: of `Begin` before the call's first step, of `Taken` after each
+//! take or claim, of `Decided` after the call's number is drawn, of `Given` after each give. A gate may delay the caller,
+//! but it always returns, and it changes nothing that contracts mention. So what is proved of a template holds with any
+//! gate, and a test can choose the order in which two threads meet.
 #![tactic(auto)]
 
 mod meet;
@@ -12,7 +12,7 @@ mod stand;
 pub use meet::Meet;
 pub use stand::{Stand, Standing};
 
-/// A point of a call. Two points are equal where their numbers are equal too.
+/// A point of a call. Two points are equal if and only if their numbers are equal too.
 #[derive(Clone, Copy, Debug, PartialEq, Eq)]
 pub enum Point {
     /// No step of the call is made yet.
@@ -21,17 +21,17 @@ pub enum Point {
     Taken(u32),
     /// The call has drawn this number.
     Decided(u64),
-    /// The node with this number has been given back.
+    /// The node with this number has been released.
     Given(u32),
 }
 
-/// What is told of points. The points of one caller come one after another, those of several callers at any time.
+/// Is notified of points: of those of one caller one after another, of those of several callers at any time.
 pub trait Gate {
-    /// Tells that the caller stands at the point. It returns, since it is given no leave to wait.
+    /// Notifies the gate that the caller is at the point. It returns, since it gets no runtime with which to loop for ever.
     fn at(&self, caller: u32, point: Point);
 }
 
-/// Keeps nobody.
+/// Delays no caller.
 #[derive(Clone, Copy, Debug, Drop)]
 pub struct NoGate;
 

@@ -5,12 +5,12 @@ ghost use Rattle.std.specs.Prelude.{◌≡◌};
 use crate::{Gate, Point, Stand};
 use std::marker::Model;
 
-/// A gate that has one caller, the stander, stand at a point while another, the mover, makes a call.
+/// A gate that stops one caller, the stander, at a point while another, the mover, makes a call.
 ///
-/// It is a `Stand` of one call: once the stander has passed as many points Decided as it was told, it stands at its next
-/// point that is the agreed one, until the mover has passed a point Decided. The mover stands at its first Begin until the
-/// stander stands. Each of the two stands once, for a limited number of turns; where a stand ends by the limit, the gate
-/// has failed and both callers go on. Other callers pass.
+/// It is a `Stand` of one call: after the stander has passed `after` points Decided, the gate stops it at the next point
+/// `at`, until the mover has passed a point Decided. It stops the mover at its first Begin until the stander is stopped.
+/// Each of the two is stopped once, for a limited number of turns; if a stop ends by the limit, the gate has failed and both
+/// callers go on. Other callers pass.
 #[derive(Drop)]
 pub struct Meet {
     stand: Stand,
@@ -25,9 +25,9 @@ impl Model for Meet {
 }
 
 impl Meet {
-    /// A gate at which the stander, once it has passed `after` points Decided, stands at its next point `at` until the
-    /// mover has passed a point Decided. Each stand takes at most `limit` turns; with 0 each stand fails at once. Stander
-    /// and mover are two callers: were they one, it would stand alone, to the limit.
+    /// A gate that stops the stander, once it has passed `after` points Decided, at its next point `at`, until the mover
+    /// has passed a point Decided. Each stop takes at most `limit` turns; with 0 each fails at once. Stander and mover are
+    /// two callers: if they were one, no other would end its stop before the limit.
     pub fn of(stander: u32, after: u64, at: Point, mover: u32, limit: u64) -> Meet
         ensures stander { result.stander ≡ stander }
         ensures after { result.after ≡ after }
@@ -41,7 +41,7 @@ impl Meet {
         }
     }
 
-    /// Whether a stand has ended by its limit. Of a new gate it is false; once true it stays so.
+    /// Whether a stop has ended by its limit. It is false for a new gate, and once true it remains so.
     pub fn failed(&self) -> bool {
         self.stand.failed()
     }

@@ -1,4 +1,4 @@
-//! A gate for tests, at which one caller stands while another makes some calls.
+//! A gate for tests, at which one caller is stopped while another makes some calls.
 
 ghost use Rattle.std.specs.Prelude.{◌≡◌};
 
@@ -8,7 +8,7 @@ use std::sync::atomic::AtomicU64;
 use std::sync::atomic::Ordering::SeqCst;
 use std::thread::yield_now;
 
-/// Who stands where, while who makes how many calls, and for how long at most.
+/// Which caller is stopped and where, how many calls of which other end the stop, and how long it lasts at most.
 #[derive(Clone, Copy)]
 pub struct Standing {
     pub stander: u32,
@@ -19,28 +19,27 @@ pub struct Standing {
     pub limit: u64,
 }
 
-/// A gate that has one caller, the stander, stand at a point while another, the mover, makes so many calls.
+/// A gate that stops one caller, the stander, at a point while another, the mover, makes a number of calls.
 ///
-/// Once the stander has passed as many points Decided as it was told, it stands at its next point that is the agreed one,
-/// until the mover has passed as many points Decided as the mover was told, from the gate's making on. The mover stands at
-/// its first Begin until the stander stands. Each of the two stands once. A stand takes a limited number of turns, each a
-/// look at what the other has done; where it ends by the limit, the gate has failed and both callers go on. Other callers
-/// pass.
+/// After the stander has passed `after` points Decided, the gate stops it at the next point `at`, until the mover has
+/// passed `moves` points Decided since the gate was made. It stops the mover at its first Begin until the stander is
+/// stopped. Each of the two is stopped once. A stop takes a limited number of turns, each a look at what the other has
+/// done; if it ends by the limit, the gate has failed and both callers go on. Other callers pass.
 ///
-/// Contracts see what a gate was made for. What it has seen of callers stands in words that any thread may change at any
-/// time, of which no contract can tell: tests show who stands when, and when the gate has failed.
+/// Contracts see what a gate was made for. What it has seen of callers is in words that any thread may change at any time,
+/// so no contract can say it: tests show when a caller is stopped, and when the gate has failed.
 #[derive(Drop)]
 pub struct Stand {
     standing: Standing,
-    /// The points Decided that the stander has still to pass before it may stand.
+    /// The points Decided that the stander has still to pass before it may be stopped.
     to_decide: AtomicU64,
-    /// 1 until the stander has come to its stand.
+    /// 1 until the stander has been stopped.
     to_stand: AtomicU64,
     /// 1 until the mover has come to a Begin.
     to_begin: AtomicU64,
     /// The points Decided that the mover has still to pass before the stander goes on.
     to_move: AtomicU64,
-    /// How many stands ended by the limit.
+    /// 1 once a stop has ended by the limit.
     failures: AtomicU64,
 }
 
@@ -53,9 +52,9 @@ impl Model for Stand {
 }
 
 impl Stand {
-    /// A gate at which the stander, once it has passed `after` points Decided, stands at its next point `at` until the
-    /// mover has passed `moves` points Decided. Each stand takes at most `limit` turns; with 0 each stand fails at once.
-    /// Stander and mover are two callers: were they one, it would stand alone, to the limit.
+    /// A gate that stops the stander, once it has passed `after` points Decided, at its next point `at`, until the mover
+    /// has passed `moves` points Decided. Each stop takes at most `limit` turns; with 0 each fails at once. Stander and
+    /// mover are two callers: if they were one, no other would end its stop before the limit.
     pub fn of(stander: u32, after: u64, at: Point, mover: u32, moves: u64, limit: u64) -> Stand
         ensures stander { result.stander ≡ stander }
         ensures after { result.after ≡ after }
@@ -81,12 +80,12 @@ impl Stand {
         }
     }
 
-    /// Whether a stand has ended by its limit. Of a new gate it is false; once true it stays so.
+    /// Whether a stop has ended by its limit. It is false for a new gate, and once true it remains so.
     pub fn failed(&self) -> bool {
         self.failures.load(SeqCst) > 0
     }
 
-    /// Stands until the other caller has nothing left to do, but for no more turns than the limit.
+    /// Waits until the other caller has nothing left to do, or for as many turns as the limit says, and then has failed.
     fn stand_while(&self, left: &AtomicU64) {
         for _ in 0..self.standing.limit {
             if left.load(SeqCst) == 0 {
@@ -113,7 +112,7 @@ impl Stand {
     }
 }
 
-/// A point Decided is one less to pass, where any is left. The words of a caller are counted down by that caller alone.
+/// Counts down at a point Decided, if any is left to pass. Only the caller that a word counts for changes it.
 fn pass(left: &AtomicU64, point: Point) {
     let count = left.load(SeqCst);
     if count > 0 && matches!(point, Point::Decided(_)) {

@@ -3,10 +3,10 @@ use std::sync::atomic::AtomicU64;
 use std::sync::atomic::Ordering::SeqCst;
 use std::thread::{Threads, join};
 
-/// Turns that no stand of these tests takes, if the other caller comes at all.
+/// More turns than any stop of these tests takes, if the other caller comes at all.
 const LONG: u64 = 50_000_000;
 
-/// The points of a call that goes through node 0 to node 1. It answers its number.
+/// Passes the points of a call that goes through node 0 to node 1. It returns the call's number.
 fn call<G: Gate>(gate: &G, caller: u32, numbers: &AtomicU64) -> u64 {
     gate.at(caller, Point::Begin);
     gate.at(caller, Point::Taken(0));
@@ -18,14 +18,14 @@ fn call<G: Gate>(gate: &G, caller: u32, numbers: &AtomicU64) -> u64 {
     number
 }
 
-/// The points of a call that finds node 1 busy.
+/// Passes the points of a call that finds node 1 busy.
 fn turn_back<G: Gate>(gate: &G, caller: u32) {
     gate.at(caller, Point::Begin);
     gate.at(caller, Point::Taken(0));
     gate.at(caller, Point::Given(0));
 }
 
-/// The number of the last of so many calls.
+/// Makes `calls` calls, and returns the number of the last.
 fn last_of<G: Gate>(gate: &G, caller: u32, calls: u32, numbers: &AtomicU64) -> u64 {
     let mut last = 0;
     for _ in 0..calls {
@@ -34,7 +34,7 @@ fn last_of<G: Gate>(gate: &G, caller: u32, calls: u32, numbers: &AtomicU64) -> u
     last
 }
 
-/// Caller 0 makes so many calls while caller 1 turns back once and makes one. It answers the numbers of their last calls.
+/// Caller 0 makes `calls` calls while caller 1 turns back once and makes one. It returns the numbers of their last calls.
 fn two<G: Gate + Sync, R: Threads>(rt: &R, gate: &G, calls: u32) -> (u64, u64) {
     let numbers = AtomicU64::new(0);
     join(
@@ -47,7 +47,7 @@ fn two<G: Gate + Sync, R: Threads>(rt: &R, gate: &G, calls: u32) -> (u64, u64) {
     )
 }
 
-/// Each of the callers 0 and 1 makes so many calls. It answers the numbers of their last calls.
+/// Caller 0 makes `calls` calls and caller 1 `moves`. It returns the numbers of their last calls.
 fn beside<G: Gate + Sync, R: Threads>(rt: &R, gate: &G, calls: u32, moves: u32) -> (u64, u64) {
     let numbers = AtomicU64::new(0);
     join(

@@ -67,7 +67,7 @@ full_needs_room list_layout s due = let full = due.no_room.0.1 in omega (arith, 
 full_needs_room bplus_layout s due = let full = due.no_room.0.1 in omega (arith, no_pairs 0 full.node full.is, full.filled)
 full_needs_room hash_layout s due = let full = due.no_room.0.1 in omega (arith, no_pairs 0 full.node full.is, full.filled)
 
--- eight pairs fill a list node, and where it is the only node of the arena a ninth is Full
+-- eight pairs fill a list node, and if it is the only node of the arena a ninth is Full
 
 abbrev pair : ℕ → Pair
 pair p = record { place = p; value = p }
@@ -98,11 +98,11 @@ full_is_due = record {
     root_held : (j : ℕ) → j < 1 → turn_after filled j ≡ free → ⊥
     root_held j lt is = let zero_is : j ≡ 0 = omega arith in let x : held 0 ≡ free = subst (λ (i : ℕ). turn_after filled i ≡ free) zero_is is in cc
 
--- that trace and its Full: all that it owes is due
+-- there the Full of a ninth put is due
 filled_due : FullsDue list_layout 1 (Call 0 0 (Put 9 90) Full ∷ filled)
 filled_due = (((tt, tt), tt), λ is. full_due_earlier list_layout 1 [] filled filled (Call 0 0 (Put 9 90) Full) (record { rest = filled; is = refl }) full_is_due)
 
--- in an arena of one node more, which is free all the while, it is not
+-- in an arena of one more node, which is free all the while, it is not
 filled_not_due : FullsDue list_layout 2 (Call 0 0 (Put 9 90) Full ∷ filled) → ⊥
 filled_not_due due = full_needs_all list_layout 2 1 [] filled (Call 0 0 (Put 9 90) Full) (due.1 refl) (omega arith) (λ k since until. unused until.rest k until.is)
   where
@@ -112,7 +112,7 @@ filled_not_due due = full_needs_all list_layout 2 1 [] filled (Call 0 0 (Put 9 9
     unused (a ∷ b ∷ []) k is = let e : [] ≡ k = cc in ap (λ (h : List Event). turn_after h 1) (sym e)
     unused (a ∷ b ∷ c ∷ rest) k is = let e : [] ≡ c ∷ (rest ++ k) = cc in absurd (cc)
 
--- that no node was free may lie before the Call, with events of the caller between: it gave the root, and took it again
+-- that no node was free may be before the Call, with events of the caller between: it released the root, and took it again
 abbrev filled_again : List Event
 filled_again = Take 0 0 ∷ Give 0 0 ∷ filled
 
@@ -120,11 +120,11 @@ full_is_due_later : FullDue list_layout 1 filled filled_again (Call 0 0 (Put 9 9
 unfolding full_is_due
 full_is_due_later = full_due_later list_layout 1 0 0 9 (Put 9 90) filled filled filled filled_again (begins_append (Take 0 0 ∷ Give 0 0 ∷ []) filled) refl refl full_is_due.none_free full_is_due
 
--- a list node claims one node at a time, so no claimed node excuses its Full
+-- a list node claims one node at a time, so nothing is known of a caller that holds a claimed one beside it
 list_claims_alone : (h : List Event) (c place : ℕ) → HoldsLiveBut list_layout place h c → ⊥
 list_claims_alone h c place but = but.grows
 
--- a Busy by oneself is refused
+-- a Busy that names the caller itself is refused
 busy_by_another : (c node : ℕ) (op : Op) (s0 s1 : List Event) → BusyDue c op s0 s1 node c → ⊥
 busy_by_another c node op s0 s1 due = due.another refl
 
@@ -138,7 +138,7 @@ busy_root = record {
   is_held = record { moment = Take 1 0 ∷ []; since = begins_self (Take 1 0 ∷ []); until = begins_self (Take 1 0 ∷ []); so = refl };
 }
 
--- a node off the way is not busy: no edge leads to node 1
+-- a node off the search path is not busy: no edge leads to node 1
 busy_on_way : (holder : ℕ) → BusyDue 0 (Get 5) [] [] 1 holder → ⊥
 busy_on_way holder due = off due.on_way.so
   where
@@ -157,7 +157,7 @@ busy_on_way holder due = off due.on_way.so
 moved_takes_time : (c node : ℕ) (op : Op) (s : List Event) → MovedDue c op s s node → ⊥
 moved_takes_time c node op s due = let rest : due.grows.rest ≡ [] = sym (append_cancel_right [] due.grows.rest s due.grows.is) in absurd (omega (arith, due.shaped.2, ap length rest))
 
--- nor is a way far that was not gone
+-- nor is Far due if the caller took no node
 far_takes_steps : (n c : ℕ) (s : List Event) → FarDue (suc n) c s s → ⊥
 far_takes_steps n c s due = let rest : due.grows.rest ≡ [] = sym (append_cancel_right [] due.grows.rest s due.grows.is) in absurd (omega (arith, due.shaped.2, ap length rest))
 
@@ -172,7 +172,7 @@ grown = Shape 1 (record { node = 0; state = BecomesLive to_one blank_frame } ∷
 abbrev grown_by_one : List Event
 grown_by_one = Give 1 1 ∷ Give 1 0 ∷ grown
 
--- under coupling a caller with nothing in hand takes the root alone, under give-up any node
+-- by coupling a caller that holds nothing takes only the root, by giving up any node
 coupling_begins : MayTake coupling (Get 5) [] 0 0
 coupling_begins = first_taken refl refl
 
@@ -180,7 +180,7 @@ coupling_no_jump : MayTake coupling (Get 5) [] 0 5 → ⊥
 coupling_no_jump (first_taken empty at) = omega (arith, at)
 coupling_no_jump (from_above above) = omega (arith, above.leads.2, no_edges above.above above.node above.is)
 
--- with a node in hand it takes one to which that leads
+-- one that holds a node takes a node to which that one leads
 coupling_steps_down : MayTake coupling (Get 5) (Take 0 0 ∷ grown_by_one) 0 1
 coupling_steps_down = from_above (record { above = 0; node = to_one; holds = refl; is = refl; leads = (0, record { span = record { low = 0; last = top }; node = 1 }, omega arith, refl, refl) })
 
@@ -195,14 +195,14 @@ one_get = Give 0 0 ∷ Call 0 0 (Get 5) Nothing ∷ Take 0 0 ∷ []
 abbrev two_gets : List Event
 two_gets = Give 0 0 ∷ Call 0 0 (Get 5) Nothing ∷ Call 0 0 (Get 5) Nothing ∷ Take 0 0 ∷ []
 
--- the last Call of caller 0 stands below its Give; caller 1 has made none
+-- the last Call of caller 0 is before its Give; caller 1 has made none
 last_stands : last_call 0 one_get ≡ Call 0 0 (Get 5) Nothing ∷ Take 0 0 ∷ []
 last_stands = refl
 
 last_none : last_call 1 one_get ≡ []
 last_none = refl
 
--- of two Calls it is the later one
+-- of two Calls the last is the later one
 last_not_first : last_call 0 two_gets ≢ Call 0 0 (Get 5) Nothing ∷ Take 0 0 ∷ []
 last_not_first e = let n = ap length e in omega arith
 
@@ -239,7 +239,7 @@ get_not_at_one blank frame so = go so.done.after so.done.event (so.done.before +
 get_once : (n number : ℕ) → Done list_layout coupling n 0 (Get 5) [] two_gets Nothing number → ⊥
 get_once n number done = let e = ap length (done_calls list_layout coupling n 0 (Get 5) [] two_gets Nothing number done) in omega arith
 
--- nor is a node kept
+-- nor does it keep a node
 keeps_nothing : (number : ℕ) → Done list_layout coupling 4 0 (Get 5) [] (Call 0 0 (Get 5) Nothing ∷ Take 0 0 ∷ []) Nothing number → ⊥
 keeps_nothing number done = let e = ap length done.gave_all in omega arith
 
@@ -247,11 +247,11 @@ keeps_nothing number done = let e = ap length done.gave_all in omega arith
 three_held : Hands coupling 0 (Get 5) [] (Take 0 2 ∷ Take 0 1 ∷ Take 0 0 ∷ []) → ⊥
 three_held (and_on before well few) = omega (arith, few)
 
--- along links, one that holds two is
+-- along links, one that holds two is refused
 two_held : Hands link_move 0 (Get 5) [] (Take 0 1 ∷ Take 0 0 ∷ []) → ⊥
 two_held (and_on before well few) = omega (arith, few)
 
--- a call that gives up without a Call is left
+-- a call that releases its node without a Call is left
 gives_back : Left give_up 0 (Get 5) [] (Give 0 3 ∷ Take 0 3 ∷ [])
 gives_back = record {
   rest = Give 0 3 ∷ Take 0 3 ∷ [];
@@ -265,7 +265,7 @@ gives_back = record {
 left_made_none : (template : Template) → Left template 0 (Get 5) [] one_get → ⊥
 left_made_none template left = let e = ap length (left_calls template 0 (Get 5) [] one_get left) in omega arith
 
--- caller 1, which made node 1 live below the root, frees it again while caller 0 looks for it
+-- caller 1 made node 1 live below the root, and frees it again while caller 0 searches for it
 
 abbrev freed : Event
 freed = Shape 1 (record { node = 0; state = BecomesLive empty_record blank_frame } ∷ record { node = 1; state = BecomesFree } ∷ [])
@@ -289,7 +289,7 @@ one_moved = record {
     not_live : (r : Record) → record_at (graph_after (freed ∷ grown)) 1 ≡ Some r → ⊥
     not_live r is = let x : None ≡ Some r = is in cc
 
--- caller 0 takes the root twice, and a Shape of caller 1 stands between: in an arena of two nodes that is far
+-- caller 0 takes the root twice, and between is a Shape of caller 1: in an arena of two nodes Far is due
 far_way : FarDue 2 0 [] (Give 0 0 ∷ Take 0 0 ∷ Shape 1 [] ∷ Give 0 0 ∷ Take 0 0 ∷ [])
 far_way = record {
   grows = record { rest = Give 0 0 ∷ Take 0 0 ∷ Shape 1 [] ∷ Give 0 0 ∷ Take 0 0 ∷ []; is = refl };
@@ -323,7 +323,7 @@ more_do_not r s e f fit = omega arith
 directory_alone : (layout : Layout) (r s : Record) → Fit layout Directory r Directory s → ⊥
 directory_alone layout r s fit = fit
 
--- inner nodes fit and are low in the B+ layout alone
+-- only in the B+ layout do inner nodes fit, and are they low
 inner_fit : (r s : Record) → length r.edges ≡ 1 → length s.edges ≡ 1 → Fit bplus_layout Inner r Inner s × IsLow bplus_layout Inner r
 inner_fit r s e f = (omega (arith, e, f), omega (arith, e))
 
@@ -400,7 +400,7 @@ chain_tight = record {
     no_fit zero (suc (suc m)) r s e f is is' fit = omega arith
     no_fit (suc n) m r s e f is is' fit = omega arith
 
--- empty ones fit: that is not
+-- empty ones fit: that is not tight
 chain_loose : Tight list_layout blank_frame (chain [] []) → ⊥
 chain_loose tight = tight.full 0 1 (over_one []) (edgeless []) (chain_right [] []) refl refl (omega arith)
 
@@ -485,7 +485,7 @@ stem_not_tight tight = tight.root (over_one []) 1 refl (λ e. absurd (cc)) all_t
     all_to_one zero d lt = refl
     all_to_one (suc k) d lt = absurd (omega arith)
 
--- one put is served under a placing that spreads the keys, as hash nodes have it: a factor, and its inverse modulo 2^64
+-- one put is served under a placing that spreads the keys, as for hash nodes: a factor, and its inverse modulo 2^64
 
 abbrev spread : ℕ → ℕ
 spread k = (k * 0x9E3779B97F4A7C15) % 2 ^ 64
@@ -502,7 +502,7 @@ undone a b q m k inverse lt =
 spread_back : (k : ℕ) → IsPlace k → gathered (spread k) ≡ k
 spread_back k place = undone 0x9E3779B97F4A7C15 0xF1DE83E19937733D 10771413168148108919 (2 ^ 64) k refl (omega arith)
 
--- no two keys have one place
+-- no two keys have the same place
 spread_apart : (j k : ℕ) → IsPlace j → IsPlace k → spread j ≡ spread k → j ≡ k
 spread_apart j k place place' same = sym (spread_back j place) ∙ ap gathered same ∙ spread_back k place'
 
@@ -551,11 +551,11 @@ one_served = record { asked = asked; told = told_so; callers = refl; others = ca
     legal zero a is = subst (λ (x : Answered). IsAnswer (map_after []) x.op x.reply) (same_Some (record { op = Put (spread 5) 50; reply = Nothing }) a is) (inl refl)
     legal (suc k) a is = absurd (cc)
 
--- a printed map that leaves the pair out does not tell it
+-- a printed map that leaves out the pair does not report it
 pair_left_out : Served spread ((Put 5 50 ∷ []) ∷ []) (((0, Nothing) ∷ []) ∷ []) [] one_put → ⊥
 pair_left_out served = let there = (served.final.exact 5 50).0 (omega arith, refl) in omega (arith, there.1)
 
--- under a hash layout a claimed node is excused beside the full root, in an arena of these two
+-- under a hash layout a node that is claimed beside the full root is allowed, in an arena of these two
 
 abbrev filled_claim : List Event
 filled_claim = Claim 0 1 ∷ filled

@@ -1,4 +1,4 @@
--- A caller that acts alone: where no other holds a node at first, none does later, and no refusal of it is due.
+-- While no other caller acts: if no other holds a node at first, none does later, and no refusal of the caller is due.
 use Rattle.std.proofs.Common.{◌≡◌, ℕ, List, [], ◌∷◌, ◌++◌}
 use Rattle.ks_history.specs.declared.Event.{Event}
 use Rattle.ks_history.specs.Trace.{caller_of, held, turn_after}
@@ -8,7 +8,7 @@ abbrev pub AllBy : ℕ → List Event → Type 0
 AllBy c [] = Unit {0}
 AllBy c (e ∷ es) = (caller_of e ≡ c) × AllBy c es
 
--- the trace k goes on after h by events of c alone: between the two no other caller acts
+-- the trace k continues h by events of c only: between the two no other caller acts
 pub record ActsAlone (c : ℕ) (h k : List Event) : Type 0 where
   pub rest : List Event
   pub is : k ≡ rest ++ h

@@ -1,4 +1,4 @@
--- Laws of traces: which calls of a caller stand in a trace as it goes on, and after a call that is done or left.
+-- Laws of traces: which calls of a caller are in a trace as it grows, and after a call that is done or left.
 use Rattle.std.proofs.Common.{ℕ}
 use Rattle.ks_history.specs.declared.Op.{Op}
 use Rattle.ks_history.specs.declared.Reply.{Reply}

@@ -1,4 +1,4 @@
--- What a call leaves in the trace, how many nodes it holds on its way, and tight traces.
+-- What a call leaves in the trace, how many nodes it holds meanwhile, and tight traces.
 use Rattle.std.specs.Prelude.{ℕ, ◌≡◌, ◌≤◌, List, [], ◌∷◌, ◌++◌, length, Some, Any}
 use Rattle.ks_keysets.specs.declared.Record.{Record}
 use Rattle.ks_keysets.specs.declared.Frame.{Frame}
@@ -14,8 +14,8 @@ use Rattle.ks_history.specs.Trace.{held, called, call_in, decided_at, graph_afte
 use Rattle.ks_history.specs.Passes.{NoCallBy}
 use Rattle.ks_history.specs.Due.{FullDue}
 
--- how callers come from node to node: by holding the next before giving the present one, by giving up and starting
--- again, or by moving along links
+-- how callers go from node to node: by holding one until they have taken the next, by releasing it first and restarting at
+-- the root, or by moving along links
 pub data Template : Type 0 where
   coupling : Template
   give_up : Template
@@ -40,7 +40,7 @@ pub data MayTake (template : Template) (op : Op) (h : List Event) (c i : ℕ) : 
   first_taken : hand c h ≡ [] → MayBegin template i → MayTake template op h c i
   from_above : HoldsAbove h c i → MayTake template op h c i
 
--- if the event that follows h is a Take of c, it may be
+-- if the event that follows h is a Take of c, c may take that node
 abbrev pub TakesWell : Template → ℕ → Op → List Event → Event → Type 0
 TakesWell template c op h (Take d i) = d ≡ c → MayTake template op h c i
 TakesWell template c op h (Give d i) = Unit {0}
@@ -48,7 +48,7 @@ TakesWell template c op h (Claim d i) = Unit {0}
 TakesWell template c op h (Shape d changes) = Unit {0}
 TakesWell template c op h (Call d i op' reply) = Unit {0}
 
--- how many nodes a call holds at most that never needs one more
+-- how many nodes a call that only searches holds at most
 abbrev pub most_searched : Template → ℕ
 most_searched coupling = 2
 most_searched give_up = 1
@@ -67,8 +67,8 @@ pub data Hands (template : Template) (c : ℕ) (op : Op) (s0 : List Event) : Lis
   at_first : length (hand c s0) ≤ most_held template op → Hands template c op s0 s0
   and_on : {h : List Event} {e : Event} → Hands template c op s0 h → TakesWell template c op h e → length (hand c (e ∷ h)) ≤ most_held template op → Hands template c op s0 (e ∷ h)
 
--- the call of c between s0 and s1 made one event that is a call, of this operation, with this reply and number, and gave
--- all back
+-- the call of c between s0 and s1 made one event that is a call, of this operation, with this reply and number, and
+-- released all its nodes
 pub record Done (layout : Layout) (template : Template) (n c : ℕ) (op : Op) (s0 s1 : List Event) (reply : Reply) (number : ℕ) : Type 0 where
   pub before : List Event
   pub event : Event
@@ -82,13 +82,13 @@ pub record Done (layout : Layout) (template : Template) (n c : ℕ) (op : Op) (s
   pub hands : Hands template c op s0 s1
   pub full : reply ≡ Full → FullDue layout n s0 (before ++ s0) event
 
--- so it is, and the event was at this node alone, which then had this frame; blank is the frame of a blank body
+-- the same, and the event was only at this node, which then had this frame; blank is the frame of a blank body
 pub record DoneAt (layout : Layout) (template : Template) (n c : ℕ) (op : Op) (s0 s1 : List Event) (reply : Reply) (number node : ℕ) (blank frame : Frame) : Type 0 where
   pub done : Done layout template n c op s0 s1 reply number
   pub at : decided_at done.event ≡ node ∷ []
   pub framed : frame_after blank (done.before ++ s0) node ≡ frame
 
--- the call of c between s0 and s1 made no such event, and gave all back
+-- the call of c between s0 and s1 made no such event, and released all its nodes
 pub record Left (template : Template) (c : ℕ) (op : Op) (s0 s1 : List Event) : Type 0 where
   pub rest : List Event
   pub is : s1 ≡ rest ++ s0

@@ -1,4 +1,4 @@
--- When a caller may be refused: that no node was free, that a node was busy, that a node moved, that the way was long.
+-- When a caller may be refused: no node was free, a node was busy, a node moved, or the search took as many nodes as there are.
 use Rattle.std.specs.Prelude.{ℕ, ◌≡◌, ◌≢◌, ◌<◌, ◌≤◌, ◌==◌, ◌⊎◌, List, [], ◌∷◌, length, count_by, Some, None, Any, if◌then◌else◌}
 use Rattle.ks_keysets.specs.declared.NodeState.{NodeState}
 use Rattle.ks_keysets.specs.declared.NodeState.TheVariants.{Claimed}
@@ -48,7 +48,7 @@ MayGrow hash_layout g node place = (node ≡ 0) × (r : Record) × (record_at g 
 abbrev pub HoldsLive : List Event → ℕ → Type 0
 HoldsLive h c = (j : ℕ) → turn_after h j ≡ held c → IsLive (graph_after h) j
 
--- each is live but one, which c has claimed and holds beside a node that may grow for the place
+-- each is live except one, which c has claimed and holds beside a node that may grow for the place
 pub record HoldsLiveBut (layout : Layout) (place : ℕ) (h : List Event) (c : ℕ) : Type 0 where
   pub one : ℕ
   pub claimed : graph_after h one ≡ Claimed c
@@ -67,13 +67,13 @@ pub record NoneFree (layout : Layout) (n c place : ℕ) (s h : List Event) : Typ
   pub before : to ⊑ h
   -- from the one moment to the other the caller does nothing
   pub waits : NoneBy c ordered.rest
-  -- what it holds meanwhile is live, but for a node that it has claimed for one that grows
+  -- what it holds meanwhile is live, except a node that it has claimed for one that grows
   pub holds : (k : List Event) → from ⊑ k → k ⊑ to → HoldsLive k c ⊎ HoldsLiveBut layout place k c
   -- and every node is at some moment not free
   pub taken : (j : ℕ) → j < n → (k : List Event) × from ⊑ k × k ⊑ to × (turn_after k j ≢ free)
 
--- the reply Full of the event e that follows the trace h is due by what happened after its beginning s, over n nodes:
--- it finds no room for a place, and no node was free
+-- the reply Full of the event e, which follows the trace h, is due by what happened after its beginning s, over n nodes:
+-- the node has no room for a place, and no node was free
 pub record FullDue (layout : Layout) (n : ℕ) (s h : List Event) (e : Event) : Type 0 where
   pub place : ℕ
   pub no_room : FindsNoRoom layout (graph_after h) e place
@@ -93,19 +93,19 @@ abbrev pub FullsDue : Layout → ℕ → List Event → Type 0
 FullsDue layout n [] = Unit {0}
 FullsDue layout n (e ∷ h) = FullsDue layout n h × IsDue layout n h e
 
--- after some trace from s0 to s1 it is so
+-- P holds after some trace from s0 to s1
 pub record Sometime (s0 s1 : List Event) (P : List Event → Type 0) : Type 0 where
   pub moment : List Event
   pub since : s0 ⊑ moment
   pub until : moment ⊑ s1
   pub so : P moment
 
--- node i is on the way of the place: it is the root, or an edge of a live node carries the place to it
+-- node i is on the search path of the place: it is the root, or an edge of a live node carries the place to it
 abbrev pub IsOnWay : (ℕ → NodeState) → ℕ → ℕ → Type 0
 IsOnWay g p i = (i ≡ 0) ⊎ ((j : ℕ) × (r : Record) × (record_at g j ≡ Some r) × LeadsTo r p i)
 
--- the answer of caller c, between s0 and s1, that the holder has the node: the node is on the way of the operation's
--- place, and another caller holds it
+-- what is due when caller c, between s0 and s1, reports that the holder has the node: the node is on the search path of
+-- the operation's place, and another caller holds it
 pub record BusyDue (c : ℕ) (op : Op) (s0 s1 : List Event) (node holder : ℕ) : Type 0 where
   pub another : holder ≢ c
   pub place : ℕ
@@ -129,8 +129,8 @@ ShapesBesides c (Claim d i) = ⊥
 ShapesBesides c (Shape d changes) = d ≢ c
 ShapesBesides c (Call d i op reply) = ⊥
 
--- the answer of caller c, between s0 and s1, that the node moved: it is on the way of the operation's place, at a later
--- moment its inset lacks the place or it is not live, and a Shape of another caller has named it
+-- what is due when caller c, between s0 and s1, reports that the node moved: it is on the search path of the operation's
+-- place, later its inset lacks the place or it is not live, and a Shape of another caller has named it
 pub record MovedDue (c : ℕ) (op : Op) (s0 s1 : List Event) (node : ℕ) : Type 0 where
   pub place : ℕ
   pub touched : Touches op place
@@ -154,8 +154,8 @@ takes_by c (Claim d i ∷ h) = takes_by c h
 takes_by c (Shape d changes ∷ h) = takes_by c h
 takes_by c (Call d i op reply ∷ h) = takes_by c h
 
--- the answer of caller c, between s0 and s1, that it took as many nodes as there are, n: the root twice at most, and a
--- Shape of another caller stands between
+-- what is due when caller c, between s0 and s1, reports that it took as many nodes as there are, n: the root twice at
+-- most, and a Shape of another caller is between
 pub record FarDue (n c : ℕ) (s0 s1 : List Event) : Type 0 where
   pub grows : s0 ⊑ s1
   pub many : n ≤ length (takes_by c grows.rest)

@@ -7,12 +7,12 @@ use Rattle.ks_history.specs.declared.Reply.TheVariants.{Nothing, Value, Full}
 use Rattle.ks_history.specs.declared.Answered.{Answered}
 use Rattle.ks_history.specs.Write.{Map, written, map_with}
 
--- the reply that tells what was there
+-- the reply for what was there
 abbrev pub told : Option ℕ → Reply
 told None = Nothing
 told (Some v) = Value v
 
--- the reply is what the map has at the place, or, for a Put or an Add alone, Full
+-- the reply is what the map has at the place, or, only for a Put or an Add, Full
 abbrev pub IsAnswer : Map → Op → Reply → Type 0
 IsAnswer m (Get p) reply = reply ≡ told (m p)
 IsAnswer m (Put p v) reply = (reply ≡ told (m p)) ⊎ (reply ≡ Full)
@@ -32,10 +32,10 @@ Touches (Swap k old new) p = p ≡ k
 abbrev pub map_then : Map → Answered → Map
 map_then m a = map_with m (written a.op a.reply)
 
--- the map after these calls, which begins empty
+-- the map that these calls leave, from the empty one on
 abbrev pub map_after : List Answered → Map
 map_after calls = fold map_then (λ _. None) calls
 
--- each reply is the answer of the map after the calls before it
+-- each reply is that of the map after the calls before it
 abbrev pub Legal : List Answered → Type 0
 Legal calls = (k : ℕ) (a : Answered) → slice_get calls k ≡ Some a → IsAnswer (map_after (take k calls)) a.op a.reply

@@ -1,4 +1,4 @@
--- What callers have seen of a trace that goes on.
+-- What callers have seen of a trace that grows.
 use Rattle.std.specs.Prelude.{ℕ, ◌≡◌, ◌≢◌, ◌<◌, ◌⊎◌, List, [], ◌∷◌, ◌++◌, Some, None}
 use Rattle.ks_history.specs.declared.Event.{Event}
 use Rattle.ks_history.specs.Trace.{caller_of, call_in}
@@ -28,14 +28,14 @@ abbrev pub NoCallBy : ℕ → List Event → Type 0
 NoCallBy c [] = Unit {0}
 NoCallBy c (e ∷ es) = elim (call_in e) [ None ↦ NoCallBy c es | Some call ↦ (call.caller ≢ c) × NoCallBy c es ]
 
--- the trace h begins with what c had seen, and goes on by events of others alone: so it is with what the pass of c has
--- seen at any moment, and with what the pass saw before it looked and after
+-- the trace h continues what c had seen by events of others only: so it is with what the pass of c has seen at any moment,
+-- and with what it had seen before a look and has seen after it
 pub record GrowsByOthers (c : ℕ) (seen h : List Event) : Type 0 where
   pub rest : List Event
   pub is : h ≡ rest ++ seen
   pub others : NoneBy c rest
 
--- the trace h goes on after what c had seen by events of others, and then by this one event
+-- the trace h continues what c had seen by events of others, and then by this one event
 pub record GrowsWith (c : ℕ) (e : Event) (seen h : List Event) : Type 0 where
   pub rest : List Event
   pub is : h ≡ e ∷ (rest ++ seen)

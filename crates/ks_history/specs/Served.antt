@@ -1,4 +1,4 @@
--- What it means that a trace served the script of some callers and that a printed run tells it.
+-- What it means that a trace served the scripts of some callers, and that a printed run reports it.
 use Rattle.std.specs.Prelude.{ℕ, ◌≡◌, ◌<◌, ◌↔◌, List, map, length, slice_get, Option, Some, None, All, AllPairs, Contains}
 use Rattle.ks_keysets.specs.Record.{IsPlace}
 use Rattle.ks_history.specs.declared.Op.{Op}
@@ -20,18 +20,18 @@ at_place f (Swap k old new) = Swap (f k) old new
 abbrev pub CalledBelow : ℕ → Event → Type 0
 CalledBelow n e = elim (call_in e) [ None ↦ Unit {0} | Some call ↦ call.caller < n ]
 
--- the entries, of a key and its value, ascend by key and are just what the map holds at the keys, the numbers that can
--- be places; so each entry's key is one
+-- the entries, each of a key and its value, ascend by key and are what the map holds at the keys, the numbers that can be
+-- places, and nothing else; so no key is in two entries
 pub record IsListing (m : ℕ → Option ℕ) (entries : List (ℕ × ℕ)) : Type 0 where
   pub exact : (k v : ℕ) → (IsPlace k × (m k ≡ Some v)) ↔ Contains entries (k, v)
   pub ascend : AllPairs (λ x y. x.0 < y.0) entries
 
--- the trace h served the scripts, one for each caller, and the lines of the callers and the entries tell it; place is
--- the place of a key
+-- the trace h served the scripts, one for each caller, and the lines of the callers and the entries report it; place is the
+-- place of a key
 pub record Served (place : ℕ → ℕ) (scripts : List (List Op)) (lines : List (List (ℕ × Reply))) (entries : List (ℕ × ℕ)) (h : List Event) : Type 0 where
   -- each caller's calls are those of its script, in order
   pub asked : (c : ℕ) (ops : List Op) → slice_get scripts c ≡ Some ops → map (λ x. x.call.op) (calls_by c h) ≡ map (at_place place) ops
-  -- its lines tell their numbers and replies
+  -- its lines have their numbers and replies
   pub told : (c : ℕ) (ls : List (ℕ × Reply)) → slice_get lines c ≡ Some ls → map (λ x. (x.number, x.call.reply)) (calls_by c h) ≡ ls
   pub callers : length lines ≡ length scripts
   -- nobody else called

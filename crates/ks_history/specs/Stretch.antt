@@ -1,4 +1,4 @@
--- Stretches of a call: what its caller does from one moment to a later one, where it makes no call.
+-- Stretches of a call: what its caller does from one moment to a later one, if it makes no call.
 use Rattle.std.proofs.Common.{ℕ, ◌≤◌, List}
 use Rattle.ks_history.specs.declared.Op.{Op}
 use Rattle.ks_history.specs.declared.Event.{Event}

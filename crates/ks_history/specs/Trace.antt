@@ -39,7 +39,7 @@ state_with w Free = Free
 state_with w (Claimed c) = Claimed c
 state_with w (Live r) = Live (record { edges = r.edges; pairs = pairs_with r.pairs w })
 
--- the graph after one event more
+-- the graph after one more event
 abbrev pub graph_then : Event → (ℕ → NodeState) → ℕ → NodeState
 graph_then (Take c j) g i = g i
 graph_then (Give c j) g i = if i == j then given (g j) else g i
@@ -82,13 +82,13 @@ frame_after blank (Claim c j ∷ h) i = frame_after blank h i
 frame_after blank (Shape c changes ∷ h) i = reframed changes i (frame_after blank h i)
 frame_after blank (Call c j op reply ∷ h) i = frame_after blank h i
 
--- a call as an event tells it: whose it is, its operation and its reply
+-- a call as its event has it: its caller, its operation and its reply
 pub record Called : Type 0 where
   pub caller : ℕ
   pub op : Op
   pub reply : Reply
 
--- the call of a caller, by what it asked and what it was answered
+-- the call of a caller, by its operation and its reply
 abbrev pub called : ℕ → Op → Reply → Called
 called c op reply = record { caller = c; op = op; reply = reply }
 
@@ -117,7 +117,7 @@ abbrev pub calls_of : List Event → List Answered
 calls_of [] = []
 calls_of (e ∷ h) = elim (call_in e) [ None ↦ calls_of h | Some call ↦ calls_of h ++ answered call ∷ [] ]
 
--- the number of a call whose event follows h: how many calls stand before it
+-- the number of a call whose event follows h: how many calls are before it
 abbrev pub number_after : List Event → ℕ
 number_after h = length (calls_of h) % 2 ^ 64
 
@@ -135,7 +135,7 @@ calls_by c (e ∷ h) =
       | Some call ↦ if c == call.caller then calls_by c h ++ record { number = number_after h; call = answered call } ∷ [] else calls_by c h
     ]
 
--- how many Shapes stand in the trace
+-- how many Shapes are in the trace
 abbrev pub shapes_in : List Event → ℕ
 shapes_in [] = 0
 shapes_in (Take c j ∷ h) = shapes_in h

@@ -1,4 +1,4 @@
--- Calls under way: what holds between their steps, and how it becomes Done or Left. One law for each kind of step.
+-- Calls under way: what holds between their steps, and how a call becomes Done or Left.
 use Rattle.std.proofs.Common.{◌≡◌, ℕ, List, ◌∷◌, ◌++◌, Some}
 use Rattle.ks_keysets.specs.Layout.{Layout}
 use Rattle.ks_history.specs.declared.Op.{Op}

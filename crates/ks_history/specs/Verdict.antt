@@ -12,7 +12,7 @@ pub record IsFirstWrong (calls : List Answered) (n : ℕ) : Type 0 where
   pub legal_before : Legal (take n calls)
   pub wrong : ¬ IsAnswer (map_after (take n calls)) call.op call.reply
 
--- Legal where all calls are, else the position of the first wrong reply
+-- Legal if all calls are, else the position of the first wrong reply
 abbrev pub IsVerdict : List Answered → Verdict → Type 0
 IsVerdict calls verdict.Legal = Legal calls
 IsVerdict calls (verdict.Wrong n) = IsFirstWrong calls n

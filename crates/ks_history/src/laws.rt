@@ -23,8 +23,8 @@ ghost use Rattle.ks_history.specs.Trace.{frame_after};
 ghost use Rattle.ks_history.specs.Passes.{GrowsWith};
 ghost use Rattle.ks_history.specs.Quiet.{IsTurn, OnlyTurns};
 
-/// The keyset theorem: where every event of a trace met its condition and every graph on the way was good, the
-/// replies are those of one map, and the graph at the end holds what that map holds.
+/// The keyset theorem: if every event of a trace met its condition and every graph between was good, the replies are those
+/// of one map, and the graph at the end holds what that map holds.
 pub fn keyset_theorem()
     ensures legal { (h : List Event) → Lawful h → GoodThroughout h → Legal (calls_of h) }
     ensures found { (h : List Event) → Lawful h → GoodThroughout h → (p : ℕ) → IsPlace p →
@@ -51,7 +51,7 @@ pub fn turn_law()
     ensures live { (i : ℕ) (h : List Event) → Lawful h → IsLive (graph_after h) i → turn_after h i ≢ free }
 {}
 
-/// Where no other caller holds a node, none does while one acts alone; and no Busy, Moved or Far of that one is due.
+/// If no other caller holds a node, none does while only one caller acts; and no Busy, Moved or Far of that one is due.
 pub fn alone_law()
     ensures holds { (c : ℕ) (h k : List Event) → ActsAlone c h k → HoldsAlone c h → HoldsAlone c k }
     ensures busy { (c node holder : ℕ) (op : Op) (s0 s1 : List Event) → ActsAlone c s0 s1 → HoldsAlone c s0 →
@@ -60,8 +60,8 @@ pub fn alone_law()
     ensures far { (n c : ℕ) (s0 s1 : List Event) → ActsAlone c s0 s1 → ¬ FarDue n c s0 s1 }
 {}
 
-/// Where each Shape leaves the insets of the nodes that it does not name, a place stays in the inset of a node that none
-/// names; so where it was and no longer is, and the caller's own Shapes spared the node, Moved is due. So with keysets.
+/// If each Shape leaves the insets of the nodes that it does not name, a place stays in the inset of a node that none names;
+/// so if it was there and no longer is, and no Shape of the caller named the node, Moved is due. The same holds of keysets.
 pub fn moved_law()
     ensures inset { (i p : ℕ) (rest h : List Event) → NoneShapes i rest → Lawful (rest ++ h) →
         AreBeside InInset (rest ++ h) → InInset (graph_after h) i p → InInset (graph_after (rest ++ h)) i p }
@@ -73,8 +73,8 @@ pub fn moved_law()
         MovedDue c op s0 s1 i }
 {}
 
-/// Far is due where a caller took as many nodes as there are, the root twice at most, each a step deeper than the one
-/// before unless another made a Shape, and would go down to one more.
+/// Far is due if a caller took as many nodes as there are, the root twice at most, each a step deeper than the one before
+/// unless another made a Shape, and would go down to one more.
 pub fn far_law()
     ensures { (n c : ℕ) (gone : List ℕ) (s0 h : List Event) (taken roots steps i j : ℕ) (r : Record) →
         TookSince c s0 h taken roots → roots ≤ 2 → n ≤ taken → IsDeep n c gone s0 h steps i → taken ≤ suc steps →
@@ -83,7 +83,7 @@ pub fn far_law()
         Any (λ e. e.node ≡ j) r.edges → IsLive (graph_after h) j → FarDue n c s0 h }
 {}
 
-/// Takes and Gives leave all live nodes with their records and frames, and who acts alone goes on by its own events.
+/// The events Take and Give leave all live nodes with their records and frames, and while one caller acts it sees only those.
 pub fn turns_law()
     ensures none { (h : List Event) → OnlyTurns h h }
     ensures looks { (c : ℕ) (h k m : List Event) → h ⊑ k → OnlyTurns h k → GrowsByOthers c k m → ActsAlone c h m →

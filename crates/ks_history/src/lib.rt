@@ -1,7 +1,7 @@
 //! Operations and replies, traces of events, and what a history of calls must be.
 //!
 //! A trace is the list of all events of a run, the newest first. From it follow the graph, the turns, the frames and
-//! the calls after it. The definitions stand in `specs/`, to be read in the order Write, Map, Trace, Lawful, Passes, Due,
+//! the calls after it. The definitions are in `specs/`, to be read in the order Write, Map, Trace, Lawful, Passes, Due,
 //! Done, Served. The other files there are laws that crates above cite.
 #![tactic(auto)]
 
@@ -20,13 +20,13 @@ pub enum Op {
     Get(u64),
     Put(u64, u128),
     Del(u64),
-    /// Sets the value only where nothing stands.
+    /// Sets the value only if the place has none.
     Add(u64, u128),
-    /// Sets the second value only where the first one stands.
+    /// Sets the second value only if the place has the first one.
     Swap(u64, u128, u128),
 }
 
-/// What a call is answered: the value that was there before, if any, or that no node was free.
+/// The reply to a call: the value that was there before, if any, or that no node was free.
 #[derive(Debug, PartialEq, Eq, Drop)]
 pub enum Reply {
     Nothing,

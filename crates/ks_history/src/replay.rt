@@ -1,5 +1,5 @@
-//! The map after a history of calls, and whether the history is legal: the calls are made again on a map that begins
-//! empty, and each reply is compared with what the map has before its call.
+//! The map after a history of calls, and whether the history is legal: the calls are made again on a map that is empty at
+//! first, and each reply is compared with what the map has before its call.
 
 ghost use Rattle.std.specs.Prelude.{ℕ, ◌≡◌, ◌↔◌, IsTrue, IfOk, OnOk};
 ghost use Rattle.std.specs.Ordering.{nat_cmp};
@@ -19,7 +19,7 @@ pub enum Verdict {
     Wrong { number: u64 },
 }
 
-/// The map after these calls, which begins empty.
+/// The map that these calls leave, from the empty one on.
 pub fn map_after(alloc: Global, calls: &[Answered]) -> Result<BTreeMap<u64, u128>, AllocError>
     ensures map { IfOk result (λ m. (p : ℕ) → get nat_cmp m p ≡ map_after calls.now p) }
 {
@@ -62,7 +62,7 @@ fn make(map: &mut BTreeMap<u64, u128>, call: &Answered) -> Result<(), AllocError
     Ok(())
 }
 
-/// The reply that tells what was there.
+/// The reply for the value that was there.
 fn told(value: Option<u128>) -> Reply
     ensures { result ≡ told value }
 {
@@ -72,7 +72,7 @@ fn told(value: Option<u128>) -> Reply
     }
 }
 
-/// Whether the reply is the map's answer.
+/// Whether the reply is the map's.
 fn is_answer(map: &BTreeMap<u64, u128>, call: &Answered) -> bool
     ensures { IsTrue result ↔ IsAnswer (get nat_cmp map.now) call.now.op call.now.reply }
 {
@@ -89,8 +89,8 @@ fn is_answer(map: &BTreeMap<u64, u128>, call: &Answered) -> bool
     }
 }
 
-/// Whether the calls are legal, or else the least position whose reply is not the map's answer after the calls before
-/// it. Full is a possible answer of a Put or an Add alone.
+/// Whether the calls are legal, or else the least position whose reply is not that of the map after the calls before it.
+/// Only a Put or an Add may have the reply Full.
 pub fn legal(alloc: Global, calls: &[Answered]) -> Result<Verdict, AllocError>
     ensures verdict { IfOk result (λ v. IsVerdict calls.now v) }
 {

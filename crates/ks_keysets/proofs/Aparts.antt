@@ -1,4 +1,4 @@
--- Lists of disjoint edges, with one edge more.
+-- Lists of disjoint edges, with one more edge.
 use Rattle.std.proofs.Common.{ℕ, ◌<◌, ◌+◌, List, length, get_or, take, sym, subst, arith}
 use Rattle.std.specs.Prelude.{All}
 use Rattle.std.proofs.lemmas.List.{take_more, get_or-take, get_or_default, length-take-le}

@@ -9,7 +9,7 @@ use Rattle.ks_keysets.specs.Laws.Found.{reached_live}
 use Rattle.ks_keysets.specs.Laws.Next.{leads_on, same_record, next_one}
 use Rattle.ks_keysets.specs.Laws.Pigeons.{repeats}
 
--- the record of a node that has two names
+-- the record of a node that is written in two ways
 record_along : (g : ℕ → NodeState) (n m : ℕ) (o : Option Record) → n ≡ m → record_at g n ≡ o → record_at g m ≡ o
 record_along g n m o same is = ap (record_at g) (sym same) ∙ is
 
@@ -82,7 +82,7 @@ ends_one g p n m apart e f =
     let same : f.steps ≡ e.steps = omega (arith, ends_last g p n f.steps m apart e f.comes, ends_last g p m e.steps n apart f e.comes) in
     walks_one g p e.steps n m apart e.comes (subst (λ (k : ℕ). Walks g p k m) same f.comes)
 
--- a place is in the keyset of a node exactly where its walk ends there
+-- a place is in the keyset of a node if and only if its walk ends there
 
 reaches_walks : {g : ℕ → NodeState} {p n : ℕ} → Reaches g p n → (k : ℕ) × Walks g p k n
 reaches_walks (at_root live) = (0, at_start)
@@ -101,7 +101,7 @@ keyset_ends g n p h =
 pub ends_keyset : (g : ℕ → NodeState) (n p : ℕ) → IsPlace p → EndsAt g p n → InKeyset g n p
 ends_keyset g n p place e = ((place, walks_reaches e.comes (e.node, e.is)), λ o. e.stops (subst (λ (t : Record). LeadsOn t p) (same_record g n o.0 e.node o.1 e.is) o.2))
 
--- where edges are disjoint no place is in two keysets
+-- if edges are disjoint, no place is in two keysets
 pub keyset_one : (g : ℕ → NodeState) (n m p : ℕ) → AreApart g → InKeyset g n p → InKeyset g m p → n ≡ m
 keyset_one g n m p apart h h' = ends_one g p n m apart (keyset_ends g n p h) (keyset_ends g m p h')
 
@@ -110,9 +110,9 @@ pub nowhere_else : (g : ℕ → NodeState) (p : ℕ) → AreApart g → MeetsNot
 nowhere_else g p apart (inl dead) n h = ends_live g p n apart (keyset_ends g n p h) dead
 nowhere_else g p apart (inr never) n h = ends_ends g p n apart (keyset_ends g n p h) never
 
--- a walk that comes to a node twice never ends
+-- a walk that comes to the same node twice never ends
 
--- from the second time on it goes as from the first
+-- from the second visit on it goes as from the first
 again : (g : ℕ → NodeState) (p i d a k n : ℕ) → AreApart g → Walks g p i a → Walks g p (i + d) a → i ≤ k → Walks g p k n → Walks g p (k + d) n
 again g p i d a zero n apart one two le at_start =
     let zero_steps : i ≡ 0 = omega arith in

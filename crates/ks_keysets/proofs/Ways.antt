@@ -15,7 +15,7 @@ record_listed [] n = refl
 record_listed (s ∷ g) zero = refl
 record_listed (s ∷ g) (suc n) = record_listed g n
 
--- a live node of a list stands within it
+-- the number of a live node of a list is below its length
 pub live_within : (g : List NodeState) (n : ℕ) → IsLive (graph_of g) n → n < length g
 live_within [] n l = absurd (none l.1)
   where

@@ -1,4 +1,4 @@
--- Changes of a graph: what becomes of the nodes that a list of changes names, and of their frames.
+-- Changes of a graph: what the nodes that a list of changes names become, and their frames.
 use Rattle.std.specs.Prelude.{ℕ, ◌≡◌, ◌==◌, List, [], ◌∷◌, if◌then◌else◌}
 use Rattle.ks_keysets.specs.declared.Frame.{Frame}
 use Rattle.ks_keysets.specs.declared.NodeState.{NodeState}
@@ -8,7 +8,7 @@ use Rattle.ks_keysets.specs.declared.NewState.TheVariants.{BecomesLive, BecomesF
 use Rattle.ks_keysets.specs.declared.Change.{Change}
 use Rattle.ks_keysets.specs.Keyset.{record_at}
 
--- the state that a change gives to its node
+-- the state that a change sets for its node
 abbrev pub new_state : NewState → NodeState
 new_state (BecomesLive r frame) = Live r
 new_state BecomesFree = Free
@@ -18,7 +18,7 @@ abbrev pub shaped : List Change → ℕ → NodeState → NodeState
 shaped [] i s = s
 shaped (x ∷ xs) i s = if i == x.node then new_state x.state else shaped xs i s
 
--- the frame that a change gives to its node; a node made free keeps its own
+-- the frame that a change sets for its node; a node made free keeps its own
 abbrev pub new_frame : NewState → Frame → Frame
 new_frame (BecomesLive r frame) f = frame
 new_frame BecomesFree f = f

@@ -1,12 +1,12 @@
--- How deep a node lies below the root, where nodes have one parent at most and the root none, and what keeps it there.
+-- How deep a node is below the root, if nodes have one parent at most and the root none.
 use Rattle.std.proofs.Common.{ℕ, ◌≡◌, ◌<◌, ◌≤◌, ◌+◌, List, length, None}
 use Rattle.std.specs.Prelude.{All, AllPairs}
 use Rattle.ks_keysets.specs.declared.NodeState.{NodeState}
 use Rattle.ks_keysets.specs.Keyset.{record_at}
 use Rattle.ks_keysets.specs.Walk.{Descends}
 
--- node i lies so many steps deep: at least as many edges below the root, or as many together with nodes that are gone:
--- numbers below n of nodes that are not live, each once
+-- node i is at least `steps` deep: a descent from the root to it has that many edges, or that many together with nodes that
+-- are gone: numbers below n of nodes that are not live, each once
 pub record Deep (g : ℕ → NodeState) (n : ℕ) (gone : List ℕ) (steps i : ℕ) : Type 0 where
   pub edges : ℕ
   pub way : Descends g edges i

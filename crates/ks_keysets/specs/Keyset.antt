@@ -24,13 +24,13 @@ record_at g n = live_record (g n)
 abbrev pub IsLive : (ℕ → NodeState) → ℕ → Type 0
 IsLive g n = (r : Record) × (record_at g n ≡ Some r)
 
--- there is a way for the place from the root to the node, along live nodes, each of which has an edge that carries the place
+-- there is a path of the place from the root to the node, along live nodes, each of which has an edge that carries the place
 -- to the next
 pub data Reaches (g : ℕ → NodeState) (p : ℕ) : ℕ → Type 0 where
   at_root : IsLive g 0 → Reaches g p 0
   along : {n m : ℕ} (r : Record) → Reaches g p n → record_at g n ≡ Some r → LeadsTo r p m → IsLive g m → Reaches g p m
 
--- the place is in the inset of the node: it is a place, and such a way leads there
+-- the place is in the inset of the node: it is a place, and such a path leads there
 abbrev pub InInset : (ℕ → NodeState) → ℕ → ℕ → Type 0
 InInset g n p = IsPlace p × Reaches g p n
 
@@ -58,7 +58,7 @@ pub record Good (g : ℕ → NodeState) : Type 0 where
   pub some : (p : ℕ) → IsPlace p → (n : ℕ) × InKeyset g n p
   -- each stored place is in the keyset of its node
   pub stored : (n : ℕ) (r : Record) → record_at g n ≡ Some r → All (λ x. InKeyset g n x.place) r.pairs
-  -- and stands there once
+  -- and only one of the node's pairs has it
   pub once : (n : ℕ) (r : Record) → record_at g n ≡ Some r → AllPairs (λ x y. x.place ≡ y.place → ⊥) r.pairs
 
 -- the value at the place in the record, if there is one
@@ -70,8 +70,8 @@ value_in (Some r) p = first_value r.pairs p
 abbrev pub value_at : (ℕ → NodeState) → ℕ → ℕ → Option ℕ
 value_at g n p = value_in (record_at g n) p
 
--- the graph holds v at the place: that is what the first node has there whose keyset holds the place,
--- and nothing if there is none
+-- the graph holds v at the place: the first node whose keyset holds the place has v there; or there is no such node, and v
+-- is nothing
 pub data IsFound (g : ℕ → NodeState) (p : ℕ) (v : Option ℕ) : Type 0 where
   here : (n : ℕ) → InKeyset g n p → ((m : ℕ) → m < n → ¬ InKeyset g m p) → v ≡ value_at g n p → IsFound g p v
   nowhere : ((n : ℕ) → ¬ InKeyset g n p) → v ≡ None → IsFound g p v

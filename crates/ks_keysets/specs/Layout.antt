@@ -20,8 +20,8 @@ room list_layout = 8
 room bplus_layout = 16
 room hash_layout = 8
 
--- how many pairs a node that is no branch may have, and how many children a branch, where there is a bound: directories
--- have none, and inner nodes have one in the B+ layout alone
+-- how many pairs a node that is no branch may have, and how many children a branch, if there is a bound: directories have
+-- none, and inner nodes have one only in the B+ layout
 abbrev pub capacity : Layout → Kind → Option ℕ
 capacity layout NoBranch = Some (room layout)
 capacity list_layout Inner = None
@@ -35,12 +35,12 @@ filling NoBranch r = length r.pairs
 filling Inner r = length r.edges
 filling Directory r = length r.edges
 
--- so many are at most half of the capacity, if there is one
+-- the number is at most half of the capacity, if there is one
 abbrev pub IsHalf : Option ℕ → ℕ → Type 0
 IsHalf None n = ⊥
 IsHalf (Some c) n = n * 2 ≤ c
 
--- so many do not pass the capacity, and there is one
+-- the number does not exceed the capacity, and there is one
 abbrev pub IsWithin : Option ℕ → ℕ → Type 0
 IsWithin None n = ⊥
 IsWithin (Some c) n = n ≤ c
@@ -49,13 +49,13 @@ IsWithin (Some c) n = n ≤ c
 abbrev pub IsLow : Layout → Kind → Record → Type 0
 IsLow layout kind r = IsHalf (capacity layout kind) (filling kind r)
 
--- two nodes fit into one: neither is a branch or both are inner, and together they do not pass their capacity
+-- two nodes fit into one: neither is a branch or both are inner, and together they do not exceed their capacity
 abbrev pub Fit : Layout → Kind → Record → Kind → Record → Type 0
 Fit layout NoBranch r NoBranch s = IsWithin (capacity layout NoBranch) (filling NoBranch r + filling NoBranch s)
 Fit layout Inner r Inner s = IsWithin (capacity layout Inner) (filling Inner r + filling Inner s)
 Fit layout k r l s = ⊥
 
--- in the list of edges one that leads to m comes next after one that leads to n
+-- in the list of edges one that leads to m is next after one that leads to n
 pub record IsNext (edges : List Edge) (n m : ℕ) : Type 0 where
   pub at : ℕ
   pub one : Edge
@@ -69,8 +69,8 @@ pub record IsNext (edges : List Edge) (n m : ℕ) : Type 0 where
 abbrev pub HasOwnEdge : Frame → Record → Type 0
 HasOwnEdge frame r = (frame.kind ≡ NoBranch) × (length r.edges ≢ 0)
 
--- m is the right neighbour of the live node n: the target of its own edge, or, if it has none, that of the edge beside
--- the one that leads to n from a branch
+-- m is the right neighbour of the live node n: the target of its own edge, or, if it has none, that of the edge after the
+-- one that leads to n from a branch
 pub data IsRightNeighbour (g : ℕ → NodeState) (frames : ℕ → Frame) (n m : ℕ) : Type 0 where
   chained : (r : Record) → record_at g n ≡ Some r → HasOwnEdge (frames n) r → Any (λ e. e.node ≡ m) r.edges → IsRightNeighbour g frames n m
   beside : (r : Record) (a : ℕ) (s : Record) → record_at g n ≡ Some r → ¬ HasOwnEdge (frames n) r → record_at g a ≡ Some s → (frames a).kind ≢ NoBranch → IsNext s.edges n m → IsRightNeighbour g frames n m

@@ -5,7 +5,7 @@ use Rattle.ks_keysets.specs.declared.Edge.{Edge}
 use Rattle.ks_keysets.specs.declared.Record.{Record}
 use Rattle.ks_keysets.specs.Record.{IsPlace, Holds, Carries}
 
--- the spans hold just the places at which P holds. They ascend, and no two are adjacent
+-- the spans hold the places at which P holds, and no others. They ascend, and no two are adjacent
 pub record AreSpansOf (spans : List Span) (P : ℕ → Type 0) : Type 0 where
   pub exact : (p : ℕ) → IsPlace p → Any (λ s. Holds s p) spans ↔ P p
   pub filled : All (λ s. s.low ≤ s.last) spans

@@ -5,7 +5,7 @@ use Rattle.ks_keysets.specs.declared.Record.{Record}
 use Rattle.ks_keysets.specs.Record.{LeadsTo, LeadsOn}
 use Rattle.ks_keysets.specs.Keyset.{record_at}
 
--- the walk of the place from the root comes, after so many steps, to a node
+-- the walk of the place from the root comes, after this number of steps, to a node
 pub data Walks (g : ℕ → NodeState) (p : ℕ) : ℕ → ℕ → Type 0 where
   at_start : Walks g p 0 0
   one_more : {k a b : ℕ} (r : Record) → Walks g p k a → record_at g a ≡ Some r → LeadsTo r p b → Walks g p (suc k) b
@@ -29,7 +29,7 @@ pub record MeetsNotLive (g : ℕ → NodeState) (p : ℕ) : Type 0 where
 pub record NeverEnds (g : ℕ → NodeState) (p : ℕ) : Type 0 where
   pub goes : (k : ℕ) → (n : ℕ) × Walks g p k n
 
--- a descent from the root along edges, whatever they carry, comes after so many of them to a node
+-- a descent from the root along edges, whatever they carry, comes after this number of edges to a node
 pub data Descends (g : ℕ → NodeState) : ℕ → ℕ → Type 0 where
   from_root : Descends g 0 0
   further : {k a b : ℕ} (r : Record) → Descends g k a → record_at g a ≡ Some r → Any (λ e. e.node ≡ b) r.edges → Descends g (suc k) b

@@ -6,7 +6,7 @@ ghost use Rattle.ks_keysets.specs.Record.{IsPlace};
 ghost use Rattle.ks_keysets.specs.Keyset.{AreApart, Good, InKeyset, IsFound, opening, value_at};
 ghost use Rattle.ks_keysets.specs.Walk.{EndsAt, MeetsNotLive, NeverEnds};
 
-/// A place is in the keyset of a node exactly where its walk ends there. Where edges are disjoint no place is in two
+/// A place is in the keyset of a node if and only if its walk ends there. If edges are disjoint, no place is in two
 /// keysets, and a walk that ends neither meets a node that is not live nor goes on without end.
 pub fn keyset_law()
     ensures walk { (g : ℕ → NodeState) (n p : ℕ) → IsPlace p → InKeyset g n p ↔ EndsAt g p n }
@@ -15,8 +15,8 @@ pub fn keyset_law()
     ensures endless { (g : ℕ → NodeState) (n p : ℕ) → AreApart g → EndsAt g p n → ¬ NeverEnds g p }
 {}
 
-/// What a graph holds at a place is one value. In a good graph it is what the node has there whose keyset holds the
-/// place.
+/// What a graph holds at a place is one value. In a good graph it is what the node whose keyset has the place has
+/// there.
 pub fn found_law()
     ensures one { (g : ℕ → NodeState) (p : ℕ) (v w : Option ℕ) → IsFound g p v → IsFound g p w → v ≡ w }
     ensures stands { (g : ℕ → NodeState) (n p : ℕ) → Good g → InKeyset g n p → IsFound g p (value_at g n p) }

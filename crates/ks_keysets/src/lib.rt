@@ -1,9 +1,9 @@
 //! Records, graphs of nodes, and where a search for a place ends.
 //!
 //! A dictionary is a graph of nodes. What a live node has is a record: edges, each leading on for the places of a
-//! span, and pairs of a place and a value. The definitions over graphs stand in `specs/`, to be read in the order
-//! Record, Keyset, Walk, Change, Frame, Layout. A search for a place is a walk from node 0, the root, along the edges
-//! that carry it; the keyset of a node is the places whose walk ends there.
+//! span, and pairs of a place and a value. The definitions over graphs are in `specs/`, to be read in the order Record,
+//! Keyset, Walk, Change, Frame, Layout. A search for a place is a walk from node 0, the root, along the edges that carry
+//! it; the keyset of a node is the places whose walk ends there.
 #![tactic(auto)]
 
 mod laws;
@@ -58,7 +58,7 @@ impl Model for NodeRecord {
     ghost view = { λ r. record { edges = r.edges.items; pairs = r.pairs.items } };
 }
 
-/// What a node is at a moment. A claimed node tells by whom it was claimed.
+/// What a node is at a moment. A claimed node names the caller that claimed it.
 #[derive(Drop)]
 pub enum NodeState {
     Free,
@@ -89,8 +89,8 @@ pub enum Kind {
     Directory,
 }
 
-/// What a body shows beside its record: the least place that it may have, its kind, and, where it has them, its range,
-/// its level and the node that its link leads to.
+/// What a body shows beside its record: the least place that it may have, its kind, and, if it has them, its range, its
+/// level and the node to which its link leads.
 #[derive(Clone, Copy, Debug, PartialEq, Eq)]
 pub struct Frame {
     pub low: u64,
@@ -100,7 +100,7 @@ pub struct Frame {
     pub link: Option<u32>,
 }
 
-/// What a node becomes that a change names. No value of it is made.
+/// What a node that a change names becomes. No value of it is made.
 pub enum NewState {
     BecomesLive(Record, Frame),
     BecomesFree,

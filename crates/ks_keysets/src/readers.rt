@@ -2,7 +2,7 @@
 //!
 //! A walk follows the edges that carry its place. One that has made as many steps as there are nodes meets a node
 //! twice and never ends. The keyset of a node is read run by run: up to the next end of an edge all places go the same
-//! ways, so one walk tells of all of them.
+//! ways, so one walk decides for all of them.
 
 ghost use Rattle.std.specs.Prelude.{ℕ, suc, ◌≡◌, ◌≤◌, ◌<◌, ◌+◌, ◌⊎◌, ◌↔◌, IsTrue, IfSome, IfNone, IfOk, OnOk, Some, All, length, option_and_then, option_copied, slice_get};
 ghost use Rattle.ks_keysets.specs.declared.Record.{Record};
@@ -16,7 +16,7 @@ ghost use Rattle.ks_keysets.specs.Apart.{AreTwoApart, AreEdgesApart};
 use crate::{Edge, Graph, NodeRecord, NodeState, Span};
 use std::alloc::{AllocError, Global};
 
-/// Whether the edges of each node are disjoint, as the readers of a graph ask.
+/// Whether the edges of each node are disjoint, as the readers of a graph require.
 pub fn edges_apart(graph: &Graph) -> bool
     ensures { IsTrue result ↔ AreApart (graph_of graph.now) }
 {
@@ -69,7 +69,7 @@ fn two_apart(edge: &Edge, other: &Edge) -> bool
     edge.span.low.max(other.span.low) > edge.span.last.min(other.span.last)
 }
 
-/// The node to which an edge of the record carries the place. None exactly where no edge holds it.
+/// The node to which an edge of the record carries the place. None if and only if no edge holds it.
 pub fn next_of(node: &NodeRecord, place: u64) -> Option<u32>
     ensures some { IfSome result (λ m. LeadsTo node.now place m) }
     ensures none { IfNone result (¬ LeadsOn node.now place) }
@@ -82,8 +82,8 @@ pub fn next_of(node: &NodeRecord, place: u64) -> Option<u32>
     None
 }
 
-/// The node at which the walk of the place from node 0 ends: it is the one whose keyset holds the place. None exactly
-/// where that walk meets a node that is not live or never ends; then no keyset holds the place.
+/// The node at which the walk of the place from node 0 ends: it is the one whose keyset holds the place. None if and only
+/// if that walk meets a node that is not live or never ends; then no keyset holds the place.
 pub fn walk_end(graph: &Graph, place: u64) -> Option<u32>
     requires { AreApart (graph_of graph.now) }
     ensures ends { IfSome result (λ n. EndsAt (graph_of graph.now) place n) }
@@ -191,8 +191,8 @@ fn node_count(graph: &Graph) -> usize
     graph.nodes.len()
 }
 
-/// The last place up to which all places from `place` on are in the keyset of the node, where `inside` says that this
-/// one is, or all are not.
+/// The last place up to which all places from `place` on are in the keyset of the node, if `inside`, or else up to which
+/// none is. `inside` says whether `place` is.
 fn run_last(graph: &Graph, node: u32, place: u64, inside: bool) -> u64
     requires apart { AreApart (graph_of graph.now) }
     requires inside { IsTrue inside ↔ InKeyset (graph_of graph.now) node place }

@@ -23,7 +23,7 @@ fn edge(low: u64, last: u64, node: u32) -> Edge {
     }
 }
 
-/// What `walk_end` answers, if the edges are disjoint as it asks.
+/// What `walk_end` returns, if the edges are disjoint as it requires.
 fn read_end(graph: &Graph, place: u64) -> Option<Option<u32>> {
     if edges_apart(graph) {
         Some(walk_end(graph, place))
@@ -32,7 +32,7 @@ fn read_end(graph: &Graph, place: u64) -> Option<Option<u32>> {
     }
 }
 
-/// What `keyset_spans` answers, if the edges are disjoint as it asks.
+/// What `keyset_spans` returns, if the edges are disjoint as it requires.
 fn read_spans(alloc: Global, graph: &Graph, node: u32) -> Result<Option<Vec<Span>>, AllocError> {
     if edges_apart(graph) {
         Ok(Some(keyset_spans(alloc, graph, node)?))
@@ -104,7 +104,7 @@ fn finds_no_end_in_a_ring(rt: HostRuntime) -> Result<(), AllocError> {
     Ok(())
 }
 
-/// The next of a row of numbers that look drawn.
+/// The next number of a sequence that looks random.
 fn drawn(number: u64) -> u64 {
     let mixed = number.wrapping_mul(6364136223846793005);
     mixed.wrapping_add(1442695040888963407)
@@ -137,8 +137,8 @@ fn edges_of(graph: &Graph, node: usize) -> Option<&[Edge]> {
     }
 }
 
-/// Which of the first five nodes are reached by the place: by the definition of insets, edge by edge, as long as any
-/// may be missing.
+/// Which of the first five nodes the place reaches: by the definition of insets, edge by edge, as long as any may be
+/// missing.
 fn reached(graph: &Graph, place: u64) -> [bool; 5] {
     let mut reached = [edges_of(graph, 0).is_some(), false, false, false, false];
     for _round in 0..5 {

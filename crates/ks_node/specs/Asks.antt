@@ -1,4 +1,4 @@
--- What the calls ask, and what a cut must be.
+-- What the calls require, and what a cut must be.
 use Rattle.std.specs.Prelude.{◌≡◌, ℕ, suc, ◌<◌, ◌≤◌, Bool, false, IsTrue, List, All, Any, Option, length, max, drop}
 use Rattle.std.specs.Option.{ForSome}
 use Rattle.ks_keysets.specs.declared.Span.{Span}
@@ -15,26 +15,27 @@ use Rattle.ks_node.specs.Edges.{edges_from}
 abbrev pub IsCut : Body → ℕ → Type 0
 IsCut b cut = (b.low < cut) × ForSome b.range (λ r. cut ≤ r.last)
 
--- the place lies below the edge of its own that a node may have
+-- the place is below the edge of its own that a node may have
 abbrev pub IsBelowOwn : Body → ℕ → Type 0
 IsBelowOwn b p = All (λ s. p < s.low) b.starts
 
--- a split asks that an inner node's cut starts an edge, and that an edge of another node's own starts at the cut or above
+-- a split requires that an inner node's cut starts an edge, and that an edge of another node's own starts at the cut or above
 abbrev pub CanSplitAt : Body → ℕ → Type 0
 CanSplitAt b cut = IsCut b cut × (b.kind ≡ Inner → IsTrue (begins cut b.starts)) × (b.kind ≡ NoBranch → All (λ s. cut ≤ s.low) b.starts)
 
--- a span that begins at the low of a body and holds its pairs and where its edges start, but the first; if the body has a range, it is that
+-- a span that begins at the low of a body and holds its pairs and the starts of its edges, except the first; if the body has
+-- a range, it is that
 pub record Suits (b : Body) (span : Span) : Type 0 where
   pub begins_low : span.low ≡ b.low
   pub pairs : All (λ x. (span.low ≤ x.place) × (x.place ≤ span.last)) b.pairs
   pub starts : All (λ s. (span.low ≤ s.low) × (s.low ≤ span.last)) (drop 1 b.starts)
   pub is_range : ForSome b.range (λ r. r ≡ span)
 
--- no span is handed in, or this one
+-- no span is passed, or this one
 abbrev pub IsNoneOr : Option Span → Span → Type 0
 IsNoneOr o span = ForSome o (λ r. r ≡ span)
 
--- the cut lies in the span, and the body may be split there
+-- the cut is in the span, and the body may be split there
 pub record IsGoodCut (b : Body) (span : Span) (cut : ℕ) : Type 0 where
   pub above : span.low < cut
   pub within : cut ≤ span.last
@@ -48,7 +49,7 @@ IsSpanOf ss p span = Any (λ e. Carries e p × (e.span ≡ span)) (edges_from 0 
 abbrev pub AreNext : Body → Body → Type 0
 AreNext b right = ForSome b.range (λ r. ForSome right.range (λ q. suc r.last ≡ q.low))
 
--- what absorb asks beside the two fitting
+-- what `absorb` requires beside that the two fit
 pub record Absorbs (b right : Body) : Type 0 where
   pub lows : b.low ≤ right.low
   pub above_pairs : All (λ x. x.place < right.low) b.pairs
@@ -62,12 +63,12 @@ pub record Absorbs (b right : Body) : Type 0 where
 abbrev pub AdoptsInside : (Content → ℕ → Bool) → Layout → Body → Type 0
 AdoptsInside can layout b = (cut : ℕ) → IsTrue (is_branch b) → is_full layout b ≡ false → IsCut b cut → begins cut b.starts ≡ false → IsTrue (can (content_of b) cut)
 
--- branches alone have edges, and one that is not full adopts each cut in its range at which no edge starts
+-- only branches have edges, and one that is not full adopts each cut in its range at which no edge starts
 pub record BranchesAdopt (can : Content → ℕ → Bool) (layout : Layout) (b : Body) : Type 0 where
   pub bare : is_branch b ≡ false → length b.starts ≡ 0
   pub inside : AdoptsInside can layout b
 
--- a full body can adopt its cut, wherever a good one lies
+-- a full body can adopt its cut, if that is a good one
 abbrev pub AdoptsItsCut : (Content → ℕ → Bool) → (Content → Option Span → ℕ) → Layout → Body → Type 0
 AdoptsItsCut can cut_at layout b =
     (span : Span) (o : Option Span) → IsTrue (is_full layout b) → Suits b span → IsNoneOr o span → IsGoodCut b span (cut_at (content_of b) o) →

@@ -107,7 +107,7 @@ abbrev pub go_to : Option ℕ → Next
 go_to None = Here
 go_to (Some m) = Go m
 
--- where a search for the place goes on
+-- where a search for the place continues
 abbrev pub next_at : Body → ℕ → Next
 next_at b p = go_to (cond (holds b.range p) (led_to b.starts p) (cond (nat_lt (last_of b.range) p) b.link None))
 
@@ -119,7 +119,7 @@ value_at ps p = option_map (λ x. x.value) (at (λ x. x.place) p ps)
 abbrev pub begins : ℕ → List Start → Bool
 begins cut ss = is_some (at (λ s. s.low) cut ss)
 
--- the target of all of some edges
+-- the node to which all of some edges lead
 abbrev pub sole : List Start → Option ℕ
 sole [] = None
 sole (s ∷ ss) = cond (list_all (λ t. nat_eq t.node s.node) ss) (Some s.node) None

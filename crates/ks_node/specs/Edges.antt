@@ -10,8 +10,8 @@ use Rattle.ks_node.specs.Body.{Body, first_of, last_of}
 abbrev pub add_edge : ℕ → ℕ → ℕ → List Edge → List Edge
 add_edge low last node es = cond (nat_le low last) (record { span = record { low = low; last = last }; node = node } ∷ es) es
 
--- each edge runs from its start to the next one, the last to the last place; all are cut to the places
--- from the first to the last, and what the cut leaves empty is not there
+-- each edge runs from its start to the next one, the last to the last place; all are cut to the places from the first to
+-- the last, and an edge that the cut makes empty is left out
 abbrev pub edges_from : ℕ → ℕ → List Start → List Edge
 edges_from first last [] = []
 edges_from first last (s ∷ []) = add_edge (max first s.low) last s.node []

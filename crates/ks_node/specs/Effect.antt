@@ -1,4 +1,4 @@
--- What each call makes of a body.
+-- What each call does to a body.
 use Rattle.std.specs.Prelude.{ℕ, suc, ◌-◌, cond, nat_eq, List, [], ◌∷◌, ◌++◌, Option, Some, None, is_some, remove, position}
 use Rattle.std.specs.Option.{option_map}
 use Rattle.ks_keysets.specs.declared.Span.{Span}
@@ -30,19 +30,19 @@ with_link m b = record b { link = m }
 abbrev pub with_level : ℕ → Body → Body
 with_level n b = record b { level = n }
 
--- a range with another end, and with another begin
+-- a range with another end, and with another start
 abbrev pub ends_at : ℕ → Option Span → Option Span
 ends_at last = option_map (λ r. record { low = r.low; last = last })
 
 abbrev pub begins_at : ℕ → Option Span → Option Span
 begins_at low = option_map (λ r. record { low = low; last = r.last })
 
--- the first edge starts at the low in place of where it started
+-- the first edge starts at the low instead of where it started
 abbrev pub first_from : ℕ → List Start → List Start
 first_from low [] = []
 first_from low (s ∷ ss) = record { low = low; node = s.node } ∷ ss
 
--- in a directory an edge that leads to the same node as the one before it is one with it
+-- in a directory an edge that leads to the same node as the one before it is part of that one
 abbrev pub runs_after : ℕ → List Start → List Start
 runs_after m [] = []
 runs_after m (s ∷ ss) = cond (nat_eq s.node m) (runs_after m ss) (s ∷ runs_after s.node ss)
@@ -76,7 +76,7 @@ split_right cut b = record b {
 abbrev pub reached : Body → Body → Body
 reached b right = record b { range = ends_at (last_of right.range) b.range }
 
--- a branch over what a grow made left and right
+-- a branch over the left and right nodes that a grow made
 abbrev pub grown : Kind → ℕ → ℕ → ℕ → Body → Body
 grown kind cut left right b = record b {
   starts = settled kind (record { low = 0; node = left } ∷ record { low = cut; node = right } ∷ []);
@@ -88,7 +88,7 @@ grown kind cut left right b = record b {
 abbrev pub adopted : ℕ → ℕ → Body → Body
 adopted cut id b = with_starts b (cond (is_branch b) (settled b.kind (starts_below cut b.starts ++ record { low = cut; node = id } ∷ starts_from cut b.starts)) (record { low = cut; node = id } ∷ []))
 
--- what the right body holds after one's own; the seam of two branches is the low of the right one
+-- what the right body holds after the node's own; the seam of two branches is the low of the right one
 abbrev pub absorbed : Body → Body → Body
 absorbed b right = record b {
   starts = cond (is_branch b) (b.starts ++ first_from right.low right.starts) right.starts;
@@ -107,10 +107,10 @@ without id ss = without_at (position (λ s. nat_eq s.node id) ss) ss
 abbrev pub forgot : ℕ → Body → Body
 forgot id b = with_starts b (settled b.kind (without id b.starts))
 
--- all that the child has, in one's own range
+-- all that the child has, in the node's own range
 abbrev pub collapsed : Body → Body → Body
 collapsed b child = record child { range = b.range }
 
--- the blank body that is left of one that was taken away
+-- the blank body that is left when all was moved out of one
 abbrev pub emptied : Body → Body
 emptied b = blank_body (is_some b.range)

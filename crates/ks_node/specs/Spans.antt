@@ -5,13 +5,13 @@ use Rattle.ks_keysets.specs.declared.Edge.{Edge}
 use Rattle.ks_node.specs.declared.start.Start.{Start}
 use Rattle.ks_node.specs.Keyed.{Ascends}
 
--- the edges as they are where the cut to the places from the first to the last leaves each of them
+-- the edges as they are if the cut to the places from the first to the last leaves each of them
 abbrev pub plain_edges : ℕ → ℕ → List Start → List Edge
 plain_edges first last [] = []
 plain_edges first last (s ∷ []) = record { span = record { low = max first s.low; last = last }; node = s.node } ∷ []
 plain_edges first last (s ∷ t ∷ ts) = record { span = record { low = max first s.low; last = t.low - 1 }; node = s.node } ∷ plain_edges first last (t ∷ ts)
 
--- the starts ascend, lie not above the last place, and all but the first above the first place
+-- the starts ascend, none is above the last place, and all but the first are above the first place
 pub record AreWithin (first last : ℕ) (ss : List Start) : Type 0 where
   pub ordered : first ≤ last
   pub ascend : Ascends (λ s. s.low) ss

@@ -1,4 +1,4 @@
-//! What a list of edges by where they start tells: for types that keep their edges so.
+//! What a search reads from a list of edges by where they start: for types that keep their edges so.
 //!
 //! The starts ascend, and an edge runs to the next start, the last one to the last place.
 
@@ -24,7 +24,7 @@ pub fn value_in(pairs: &[Pair], place: u64) -> Option<u128>
     }
 }
 
-/// Where the search for a place goes on.
+/// Where the search for a place continues.
 pub fn next_in(starts: &[Start], place: u64) -> Next
     requires { Ascends (λ s. s.low) starts.now }
     ensures { result ≡ go_to (led_to starts.now place) }

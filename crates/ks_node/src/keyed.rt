@@ -1,4 +1,4 @@
-//! Where a place stands among keyed elements in ascending order.
+//! The position of a place among keyed elements in ascending order.
 
 ghost use Rattle.std.specs.Prelude.{◌≡◌, ℕ, ◌<◌, ◌≤◌, length, take, drop, MatchResult};
 ghost use Rattle.ks_node.specs.Keyed.{Ascends, below, from, IsRank, IsFound, IsMissing};
@@ -30,7 +30,7 @@ impl Keyed for Start {
     }
 }
 
-/// How many elements lie below the place.
+/// How many elements are below the place.
 pub fn rank<T: Keyed>(items: &[T], place: u64) -> usize
     requires { Ascends T.key items.now }
     ensures rank { IsRank T.key place items.now result }
@@ -45,7 +45,7 @@ pub fn rank<T: Keyed>(items: &[T], place: u64) -> usize
     items.len()
 }
 
-/// The position of the place, or the one where it would stand.
+/// The position of the place, or the one at which it would be.
 pub fn seek<T: Keyed>(items: &[T], place: u64) -> Result<usize, usize>
     requires { Ascends T.key items.now }
     ensures { MatchResult result (IsFound T.key place items.now) (IsMissing T.key place items.now) }

@@ -32,7 +32,7 @@ pub fn adopt_law<N: Node>(node: &N, cut: u64)
         begins cut (N.body node.now).starts ≡ false → IsTrue (N.can_adopt_at (content_of (N.body node.now)) cut) }
 {}
 
-/// The laws of a node type without links: neither link nor level, how it is cut, where and which of its nodes adopt or grow.
+/// The laws of a node type without links: neither link nor level, how it is cut, which of its nodes adopt or grow, and where.
 pub fn unlinked_law<N: Unlinked>()
     ensures no_link { (s : N) → (N.body s).link ≡ None }
     ensures no_level { (s : N) → (N.body s).level ≡ 0 }
@@ -52,8 +52,7 @@ pub fn growing_law<N: Growing>()
     ensures few_edges { (s : N) → length (N.body s).starts < 2 ^ 32 - 1 }
 {}
 
-/// The laws of a node type with links: its range, where there is a link, how it is cut, which of its nodes
-/// adopt or grow.
+/// The laws of a node type with links: its range, when it has a link, how it is cut, which of its nodes adopt or grow.
 pub fn linked_law<N: Linked>()
     ensures is_ranged { N.ranged ≡ true }
     ensures link_where { (s : N) → is_some (N.body s).link ≡ nat_lt (last_of (N.body s).range) top }

@@ -1,8 +1,8 @@
 //! What a node of a dictionary is.
 //!
 //! A node type implements `Node` and, by how its nodes are reached, `Unlinked` or (through a wrapper of another crate)
-//! `Linked`. What its bodies mean, what each call makes of that meaning and which laws hold stand in `specs/`, to be
-//! read in the order Keyed, Body, Edges, Room, Effect, Asks, Sound. `WithRange` gives a range to any node.
+//! `Linked`. What its bodies mean, what each call does to that meaning and which laws hold is in `specs/`, to be read in
+//! the order Keyed, Body, Edges, Room, Effect, Asks, Sound. `WithRange` adds a range to any node.
 #![tactic(auto)]
 
 mod children;

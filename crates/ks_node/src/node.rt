@@ -21,8 +21,8 @@ use ks_keysets::{Edge, Pair, Span};
 use ks_places::Placing;
 use std::alloc::{AllocError, Global};
 
-/// A node of a search structure. Code that takes nodes to threads asks `Send` beside it: a method of a trait's `impl` cannot
-/// yet pass on a bound that has `Send` or `Sync` above it.
+/// A node of a search structure. Code that takes nodes to threads requires `Send` beside it: a method of a trait's `impl`
+/// cannot yet pass on a bound that has `Send` or `Sync` above it.
 pub trait Node: Drop {
     /// How keys become places here.
     type Places: Placing;
@@ -38,10 +38,10 @@ pub trait Node: Drop {
     /// Whether a body has a range.
     ghost ranged: { Bool };
 
-    /// Whether a node goes by its own range where it is cut, whatever span is handed in.
+    /// Whether a node is cut by its own range, whatever span is passed.
     ghost cuts_by_range: { Bool };
 
-    /// Whether a full node that is not the root becomes a branch in place of being split.
+    /// Whether a full node that is not the root becomes a branch instead of being split.
     ghost in_place: { Bool };
 
     /// The line of the table of layouts that says how much its nodes hold.
@@ -53,7 +53,7 @@ pub trait Node: Drop {
     /// Whether an edge from a cut on can be added.
     ghost can_adopt_at: { Content → ℕ → Bool };
 
-    /// Whether branches alone have edges, and adopt each cut in their range at which no edge starts, unless they are full.
+    /// Whether only branches have edges, and adopt each cut in their range at which no edge starts, unless they are full.
     ghost branches_adopt: { Bool };
 
     /// Whether neither half of a full node is full after a split at its cut.
@@ -68,14 +68,14 @@ pub trait Node: Drop {
     /// Where a full node is cut, given a span or none.
     ghost cut_at: { Content → Option Span → ℕ };
 
-    /// The places that a branch gives to the child of a place, where its cuts go by that.
+    /// The places that a branch leads to the child of a place, if the child is cut by them.
     ghost span_at: { Content → ℕ → Option Span };
 
-    /// A node with no edge and no pair, of low 0. Memory is its only want.
+    /// A node with no edge and no pair, of low 0. It fails only if memory runs out.
     fn blank(alloc: Global) -> Result<Self, AllocError>
         ensures { IfOk result (λ n. body n ≡ blank_body ranged) };
 
-    /// Where the search for a place goes on: at the node to which an edge carries it, or here.
+    /// Where the search for a place continues: at the node to which an edge carries it, or here.
     fn next(&self, place: u64) -> Next
         ensures { result ≡ next_at (body self.now) place };
 
@@ -83,7 +83,7 @@ pub trait Node: Drop {
     fn get(&self, place: u64) -> Option<u128>
         ensures { result ≡ value_at (body self.now).pairs place };
 
-    /// Sets the value at a place that lies below an edge of the node's own; answers the one that was there.
+    /// Sets the value at a place that is below an edge of the node's own; returns the one that was there.
     fn put(&mut self, place: u64, value: u128) -> Option<u128>
         requires no_branch { is_branch (body self.old) ≡ false }
         requires below_own { IsBelowOwn (body self.old) place }
@@ -91,7 +91,7 @@ pub trait Node: Drop {
         ensures body { body self.new ≡ with_pairs (body self.old) (pairs_put place value (body self.old).pairs) }
         ensures answer { result ≡ value_at (body self.old).pairs place };
 
-    /// Removes the pair at a place; answers the value that was there.
+    /// Removes the pair at a place; returns the value that was there.
     fn del(&mut self, place: u64) -> Option<u128>
         requires { is_branch (body self.old) ≡ false }
         ensures body { body self.new ≡ with_pairs (body self.old) (pairs_del place (body self.old).pairs) }
@@ -131,7 +131,7 @@ pub trait Node: Drop {
     fn grows(&self) -> bool
         ensures { result ≡ grows_at (content_of (body self.now)) };
 
-    /// Whether it does so wherever it stands, and not at the root alone.
+    /// Whether it does so anywhere in the graph, and not only at the root.
     fn grows_in_place() -> bool
         ensures { result ≡ in_place };
 
@@ -143,13 +143,13 @@ pub trait Node: Drop {
     fn chained(&self) -> Option<u32>
         ensures { result ≡ chained_of (body self.now) };
 
-    /// The places that go to the child of a place, where a cut of that child has to go by them.
+    /// The places that go to the child of a place, if that child has to be cut by them.
     fn span_for(&self, place: u64) -> Option<Span>
         ensures is { result ≡ span_at (content_of (body self.now)) place }
         ensures edge { ForSome result (IsSpanOf (body self.now).starts place) };
 
-    /// Where a full node is cut: what lies from the cut on goes right. The span is what the node may hold places of, if
-    /// that is known.
+    /// Where a full node is cut: what is from the cut on goes right. The span is the places that the node may hold, if they
+    /// are known.
     fn cut(&self, span: Option<Span>) -> u64
         requires { IsTrue (is_full layout (body self.now)) }
         ensures is { result ≡ cut_at (content_of (body self.now)) (cond cuts_by_range (body self.now).range span) }
@@ -185,7 +185,7 @@ pub trait Node: Drop {
     /// Edges and pairs are in order.
     ghost sound: { (s : Self) → Sound (content_of (body s)) };
 
-    /// A range begins at the low, and no edge lies outside it.
+    /// A range begins at the low, and no edge is outside it.
     ghost framed: { (s : Self) → ForSome (body s).range (λ r. Framed r (body s)) };
 
     /// The load is within the capacity.
@@ -194,13 +194,13 @@ pub trait Node: Drop {
     /// All bodies of the type have a range, or none.
     ghost has_range: { (s : Self) → is_some (body s).range ≡ ranged };
 
-    /// How branches adopt, where `branches_adopt` promises it.
+    /// How branches adopt, if `branches_adopt` promises it.
     ghost adopting: { IsTrue branches_adopt → (s : Self) → BranchesAdopt can_adopt_at layout (body s) };
 
     /// `ROOM` is the number of the table.
     ghost room_is: { room layout ≡ ROOM };
 
-    /// Nothing grows where the table says so.
+    /// Nothing grows if the table says so.
     ghost grows_as: { (c : Content) → IsTrue (grows_at c) → IsTrue (may_grow layout) };
 
     /// What a full node becomes is a branch.

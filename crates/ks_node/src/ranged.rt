@@ -1,4 +1,4 @@
-//! Nodes that know which places may be looked for in them, and nodes with a link to the right.
+//! Nodes that know which places may be searched for in them, and nodes with a link to the right.
 
 ghost use Rattle.std.specs.Prelude.{◌≡◌, ℕ, ◌+◌, ◌<◌, Bool, Option, IsTrue, true, false, length, nat_eq, nat_lt, is_some, Some, None, ◌||◌};
 ghost use Rattle.ks_keysets.specs.Record.{top};
@@ -12,7 +12,7 @@ use ks_keysets::Span;
 
 /// A node with a range.
 pub trait Ranged: Node {
-    /// The places that may be looked for here.
+    /// The places that may be searched for here.
     fn range(&self) -> Span
         ensures { (Self.body self.now).range ≡ Some result };
 
@@ -20,9 +20,9 @@ pub trait Ranged: Node {
     ghost is_ranged: { Self.ranged ≡ true };
 }
 
-/// A node with a level and, where its range does not end at the last place, a link to the node right of it.
+/// A node with a level and, if its range does not end at the last place, a link to the node right of it.
 pub trait Linked: Ranged {
-    /// How many levels lie below it.
+    /// How many levels are below it.
     fn level(&self) -> u32
         ensures { result ≡ (Self.body self.now).level };
 
@@ -30,7 +30,7 @@ pub trait Linked: Ranged {
     fn link(&self) -> Option<u32>
         ensures { result ≡ (Self.body self.now).link };
 
-    /// Moves what lies from the cut on into a blank node of the same level, which takes over the link, and links to it.
+    /// Moves what is from the cut on into a blank node of the same level, which takes over the link, and links to it.
     fn split_link(&mut self, right: &mut Self, right_id: u32, cut: u64)
         requires full { IsTrue (is_full Self.layout (Self.body self.old)) }
         requires blank { IsBlank (Self.body right.old) }
@@ -62,13 +62,13 @@ pub trait Linked: Ranged {
         ensures left { Self.body left.new ≡ with_link (Some right_id) (split_left cut (Self.body self.old)) }
         ensures right { Self.body right.new ≡ with_link None (split_right cut (Self.body self.old)) };
 
-    /// There is a link where the range ends below the last place.
+    /// There is a link if the range ends below the last place.
     ghost link_where: { (s : Self) → is_some (Self.body s).link ≡ nat_lt (last_of (Self.body s).range) top };
 
-    /// A cut goes by the range.
+    /// A node is cut by its range.
     ghost by_range: { Self.cuts_by_range ≡ true };
 
-    /// A branch grows, and so does a node with no edge but its link.
+    /// A branch grows, and so does a node with no edge except its link.
     ghost grows_where: { (s : Self) → IsTrue (is_branch (Self.body s) || nat_eq (length (Self.body s).starts) 0) →
         IsTrue (Self.grows_at (content_of (Self.body s))) };
 }

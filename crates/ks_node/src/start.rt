@@ -1,4 +1,4 @@
-//! How a node keeps its edges, and what a search is told.
+//! How a node keeps its edges, and how it directs a search.
 
 /// An edge by the place at which it starts: it runs to the next start.
 #[derive(Clone, Copy, Debug, Default, PartialEq, Eq)]
@@ -7,7 +7,7 @@ pub struct Start {
     pub node: u32,
 }
 
-/// Where the search for a place goes on.
+/// Where the search for a place continues.
 #[derive(Clone, Copy, Debug, PartialEq, Eq)]
 pub enum Next {
     /// At this node: the place is its own.

@@ -1,4 +1,4 @@
-//! Nodes with no link to the right: what splits, grows and merges make of them.
+//! Nodes with no link to the right: how they split, grow and merge.
 
 ghost use Rattle.std.specs.Prelude.{◌≢◌, ◌≡◌, ℕ, ◌<◌, ◌-◌, ◌^◌, Bool, Option, IsTrue, IsSome, Some, None, true, false, length, nat_eq, ◌||◌, ◌⊎◌};
 ghost use Rattle.ks_node.specs.Body.{Body, Content, begins, content_of, is_branch, IsBlank, only_child_of, first_node};
@@ -10,7 +10,7 @@ use crate::node::Node;
 
 /// A node that is reached by the edges of branches, or by an edge of its left neighbour's own.
 pub trait Unlinked: Node {
-    /// Moves what lies from the cut on into a blank node.
+    /// Moves what is from the cut on into a blank node.
     fn split_to(&mut self, right: &mut Self, cut: u64)
         requires full { IsTrue (is_full Self.layout (Self.body self.old)) }
         requires blank { IsBlank (Self.body right.old) }
@@ -18,7 +18,7 @@ pub trait Unlinked: Node {
         ensures left { Self.body self.new ≡ split_left cut (Self.body self.old) }
         ensures right { Self.body right.new ≡ split_right cut (Self.body self.old) };
 
-    /// Lets the range reach to the end of that of the node right of it.
+    /// Extends the range to the end of that of the node right of it.
     fn reach(&mut self, right: &Self)
         requires { AreNext (Self.body self.old) (Self.body right.now) }
         ensures { Self.body self.new ≡ reached (Self.body self.old) (Self.body right.now) };
@@ -58,24 +58,24 @@ pub trait Unlinked: Node {
     /// There is no link.
     ghost no_link: { (s : Self) → (Self.body s).link ≡ None };
 
-    /// There is one level alone.
+    /// There is only one level.
     ghost no_level: { (s : Self) → (Self.body s).level ≡ 0 };
 
-    /// A cut goes by the span that is handed in.
+    /// A node is cut by the span that is passed.
     ghost by_span: { Self.cuts_by_range ≡ false };
 
-    /// An edge is added only where none starts.
+    /// An edge is added only at a cut at which none starts.
     ghost none_starts: { (c : Content) (cut : ℕ) → IsTrue (Self.can_adopt_at c cut) → begins cut c.starts ≡ false };
 
-    /// Where it does not grow in place: either each full node can adopt its cut, or each node grows, branches adopt, and
-    /// neither half of a full node is full.
+    /// If it does not grow in place, either each full node can adopt its cut, or each node grows, branches adopt, and neither
+    /// half of a full node is full.
     ghost sort: { Self.in_place ≡ false →
         ((s : Self) → AdoptsItsCut Self.can_adopt_at Self.cut_at Self.layout (Self.body s))
         ⊎ (((s : Self) → IsTrue (Self.grows_at (content_of (Self.body s)))) × IsTrue Self.branches_adopt
         × IsTrue Self.halves_have_room) };
 }
 
-/// A node that grows where it is a branch or has no edge.
+/// A node that grows if it is a branch or has no edge.
 pub trait Growing: Unlinked {
     /// A branch grows, and so does a node with no edge.
     ghost grows_where: { (s : Self) → IsTrue (is_branch (Self.body s) || nat_eq (length (Self.body s).starts) 0) →

@@ -11,7 +11,7 @@ use crate::unlinked::{Growing, Unlinked};
 use ks_keysets::{Edge, Pair, Span};
 use std::alloc::{AllocError, Global};
 
-/// A node and the places that may be looked for in it.
+/// A node and the places that may be searched for in it.
 #[derive(Drop)]
 pub struct WithRange<N: Unlinked> {
     node: N,

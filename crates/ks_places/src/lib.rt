@@ -1,9 +1,9 @@
 //! From keys to places and back.
 //!
-//! A dictionary stores a key at its place, and the layers below it speak of places alone. A placing is a one-to-one map
-//! of all 64-bit numbers onto themselves. `Plain` keeps the order of keys, which sorted nodes are for. `Golden` spreads
-//! neighbouring keys over the whole range, as a hash table wants: it multiplies by 2^64 divided by the golden ratio, and
-//! the way back multiplies by the inverse of that factor modulo 2^64.
+//! A dictionary stores a key at its place, and the layers below it know only places. A placing is a one-to-one map of all
+//! 64-bit numbers onto themselves. `Plain` keeps the order of keys, as sorted nodes require. `Golden` spreads neighbouring
+//! keys over the whole range, as a hash table requires: it multiplies by 2^64 divided by the golden ratio, and its inverse
+//! multiplies by the inverse of that factor modulo 2^64.
 #![tactic(auto)]
 
 ghost use Rattle.std.specs.Prelude.{◌≡◌, ℕ, ◌^◌, ◌<◌};
@@ -81,7 +81,7 @@ impl Placing for Golden {
 mod tests {
     use super::*;
 
-    /// A caller that knows the placing by its bound alone.
+    /// A caller that knows only the trait bound of the placing.
     fn there_and_back<P: Placing>(k: u64) -> (u64, u64)
         ensures { (result.0 ≡ k) × (result.1 ≡ k) }
     {

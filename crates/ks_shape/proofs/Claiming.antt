@@ -27,7 +27,7 @@ use Rattle.ks_shape.specs.Beside.{KeepsBeside}
 use Rattle.ks_shape.specs.Laws.Beside.{StaysBeside, beside_others, beside_with}
 use Rattle.ks_shape.specs.Claims.{HoldsForClaim, GotOne}
 
--- a node was claimed
+-- after a node was claimed
 module _ {N : Type 0} (sort : Sort) (shows : N → Body) (c : ℕ) (h k : List Event) (x : Hand N) (got : HasClaimed sort shows c h k x) where
   pub claimed_stretch : (template : Template) → length (hand c h) ≤ 2 → Stretch template c h k
   claimed_stretch template few =
@@ -43,7 +43,7 @@ module _ {N : Type 0} (sort : Sort) (shows : N → Body) (c : ℕ) (h k : List E
         (beside_with beside sort begins asks n laws c (Claim c x.node) h got.moment tt got.grows so i before mid)
         (beside_others beside sort begins asks n laws c got.moment k got.since sound i mid after)
 
--- no node was found free
+-- after no node was found free
 module _ (sort : Sort) (begins : Frame → Type 0) (asks : (ℕ → NodeState) → (ℕ → Frame) → List Change → Type 0) (n c nodes : ℕ) (laws : StaysBeside SameKeyset sort begins asks n) (h k : List Event) (looked : HasLooked c h k) (taken : (j : ℕ) → j < nodes → WasTaken h k j) (sound : Sound sort begins asks n k) where
   -- a node that is held keeps its keyset meanwhile
   keyset_meanwhile : (i place : ℕ) → turn_after h i ≡ held c → (m : List Event) → h ⊑ m → m ⊑ k → InKeyset (graph_after h) i place → InKeyset (graph_after m) i place
@@ -60,7 +60,7 @@ module _ (sort : Sort) (begins : Frame → Type 0) (asks : (ℕ → NodeState) �
 pub stays_both : (c i : ℕ) (h k l : List Event) → StaysHeld c i h k → StaysHeld c i k l → StaysHeld c i h l
 stays_both c i h k l a b = record { turn = b.turn; state = b.state ∙ a.state; frame = λ blank. b.frame blank ∙ a.frame blank }
 
--- one node was claimed, another was not, and the first is given back
+-- after one node was claimed, another was not, and the first is released
 module _ {N : Type 0} (sort : Sort) (shows : N → Body) (c : ℕ) (h h₁ : List Event) (y : Hand N) (got : GotOne sort shows c h h₁ y) where
   in_hand : (j : ℕ) → Has (hand c h) j → Has (hand c h₁) j
   in_hand j has = subst (λ (z : List ℕ). Has z j) (sym got.hands) (inr has)

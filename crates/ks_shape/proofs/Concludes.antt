@@ -21,7 +21,7 @@ use Rattle.ks_history.specs.Laws.Underway.{underway_call, decided_with, done_of}
 use Rattle.ks_arena.specs.Clauses.{Numbered}
 use Rattle.ks_shape.specs.Laws.Single.{one_may, gave_last}
 
--- the call of c is decided at the one node that it holds, whose frame is this one, and which is then given
+-- the call of c is decided at the one node that it holds, whose frame is this one, and which is then released
 module _ (layout : Layout) (template : Template) (n c i number : ℕ) (op : Op) (reply : Reply) (blank frame : Frame) (s0 h h₁ h₂ : List Event) (are : AreInTurn h₁) (mine : turn_after h i ≡ held c) (framed : frame_after blank h i ≡ frame) (alone : hand c h ≡ i ∷ [])
     (called : Numbered c (Call c i op reply) h h₁ number) (same : hand c h₁ ≡ hand c h) (gave : GrowsWith c (Give c i) h₁ h₂) (hands : hand c h₂ ≡ drop_one i (hand c h₁)) (under : Underway template c op s0 h) where
   -- the trace just before the call
@@ -34,7 +34,7 @@ module _ (layout : Layout) (template : Template) (n c i number : ℕ) (op : Op) 
   joined : (called.grows.rest ++ under.rest) ++ s0 ≡ before
   joined = append_assoc called.grows.rest under.rest s0 ∙ sym (ap (λ (z : List Event). called.grows.rest ++ z) under.is)
 
-  -- a Full that is due before is due just then, for a place for which no node was free since s0
+  -- a Full that is due before is due at the call, for a place for which no node was free since s0
   full_due : (r : List Event) → ((reply ≡ Full) → FullDue layout n r h (Call c i op reply)) → (reply ≡ Full → (place : ℕ) × Touches op place × NoneFree layout n c place s0 h) → reply ≡ Full → FullDue layout n s0 before (Call c i op reply)
   full_due r due none is = let x = none is in
       subst (λ (z : Reply). FullDue layout n s0 before (Call c i op z)) (sym is)

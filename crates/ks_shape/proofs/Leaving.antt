@@ -1,4 +1,4 @@
--- What nodes in hand are just before a Shape of their caller: as their bodies show.
+-- What the nodes that a caller holds are just before its Shape: as their bodies show.
 use Rattle.std.proofs.Common.{◌≡◌, ℕ, List, ◌++◌, ◌∙◌, subst}
 use Rattle.ks_keysets.specs.declared.Change.{Change}
 use Rattle.ks_keysets.specs.declared.Frame.{Frame}

@@ -1,4 +1,4 @@
--- How what a caller holds stands in a graph with links, at what its pass has seen and whatever others do next.
+-- What a caller that holds nodes knows of a graph with links, at what its pass has seen and whatever others do next.
 use Rattle.std.proofs.Common.{◌≡◌, ℕ, suc, Some, List, ap, ◌∙◌, true, arith, inl, inr}
 use Rattle.std.specs.Prelude.{is_some, nat_lt}
 use Rattle.std.specs.Option.{ForSome}
@@ -30,7 +30,7 @@ use Rattle.ks_shape.proofs.Standing.{live_if}
 pub linked : (b : Body) → InOrder (content_of b) → is_some b.range ≡ true → ForSome b.range (λ r. Framed r b) → is_some b.link ≡ nat_lt (last_of b.range) top → IsLinked b
 linked b sound ranged framed link_where = record { sound = sound; ranged = ranged; framed = framed; link_where = link_where }
 
--- a live node in hand stands as its body shows
+-- a live node that is held is as its body shows
 pub stands_linked : {N : Type 0} (sort : Sort) (shows : N → Body) (hs : List ℕ) (seen h : List Event) (c : ℕ) (x : Hand N) → IsLive sort shows hs seen x → IsLinked (shows x.body) → StaysHeld c x.node seen h →
     StandsLinked (graph_after h) (frame_after (blank_of sort) h) x.node (shows x.body)
 stands_linked sort shows hs seen h c x is linked so = let t = live_if sort shows x.live (graph_after seen x.node) (frame_after (blank_of sort) seen x.node) x.body is.live is.matches.is in record {
@@ -44,7 +44,7 @@ pub stays_linked : (sort : Sort) (n c : ℕ) (seen h : List Event) → ((h : Lis
     (i : ℕ) → Has (hand c seen) i → StaysHeld c i seen h
 stays_linked sort n c seen h lawful grows before so i has = by_others_keeps c i seen h grows (lawful_in_turn h (lawful h so)) ((is_hand seen c (lawful_in_turn seen (lawful seen before))).held i has)
 
--- a node that stands under a node still does, whatever others do
+-- a node that is one level below a node and begins at the cut still does, whatever others do
 pub under_later : (g k : ℕ → NodeState) (f h : ℕ → Frame) (node id cut : ℕ) (b : Body) → Link g f → LastsUnderLink g f k h → StandsLinked g f node b → StandsUnder g f id b.level cut → StandsUnder k h id b.level cut
 under_later g k f h node id cut b link lasts stands under = record {
   live = lasts.live id under.live;

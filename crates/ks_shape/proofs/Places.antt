@@ -1,4 +1,4 @@
--- What merged nodes have of the places that they had.
+-- Merged nodes keep the places that they had.
 use Rattle.std.proofs.Common.{◌≡◌, ℕ, inl}
 use Rattle.std.specs.Prelude.{Some}
 use Rattle.ks_keysets.specs.declared.NodeState.{NodeState}

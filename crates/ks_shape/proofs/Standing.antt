@@ -1,4 +1,4 @@
--- How what a caller holds stands in the graph, at what its pass has seen and whatever others do next.
+-- What a caller that holds nodes knows of the graph, at what its pass has seen and whatever others do next.
 use Rattle.std.proofs.Common.{◌≡◌, ℕ, Bool, List, [], ◌∷◌, ap, ◌∙◌, subst, true, false}
 use Rattle.std.specs.Prelude.{None, IsTrue}
 use Rattle.std.specs.Option.{ForSome}
@@ -40,7 +40,7 @@ module _ {N : Type 0} (sort : Sort) (shows : N → Body) where
   blank_if true s f b e so = absurd (let q : ⊥ = cc in q)
   blank_if false s f b e so = so
 
-  -- a live node in hand stands as its body shows, and one that is not live has no record
+  -- a live node that is held is as its body shows, and one that is not live has no record
   pub stands : (hs : List ℕ) (seen h : List Event) (c : ℕ) (x : Hand N) → IsLive sort shows hs seen x → IsPlain (shows x.body) → StaysHeld c x.node seen h → Stands (graph_after h) (frame_after (blank_of sort) h) x.node (shows x.body)
   stands hs seen h c x is plain so = let t = live_if x.live (graph_after seen x.node) (frame_after (blank_of sort) seen x.node) x.body is.live is.matches.is in record {
     has = ap live_record (so.state ∙ t.0);
@@ -51,7 +51,7 @@ module _ {N : Type 0} (sort : Sort) (shows : N → Body) where
   pub no_record : (hs : List ℕ) (seen h : List Event) (c : ℕ) (x : Hand N) → IsFree sort shows hs seen x → StaysHeld c x.node seen h → record_at (graph_after h) x.node ≡ None
   no_record hs seen h c x is so = let t = blank_if x.live (graph_after seen x.node) (frame_after (blank_of sort) seen x.node) x.body is.free is.matches.is in ap live_record so.state ∙ t.0
 
-  -- the change of a live node in hand is to what its body shows
+  -- the change of a live node that is held is to what its body shows
   pub changed_to : (x : Hand N) (b : Body) → x.live ≡ true → shows x.body ≡ b → change_of shows x ≡ live_as x.node b
   changed_to x b live same = ap (λ (z : Bool). record { node = x.node; state = new_state_of shows z x.body }) live ∙ ap (λ (z : Body). live_as x.node z) same
 
@@ -70,7 +70,7 @@ no_directory layout b full e = never layout (load b) (subst (λ (k : Kind). IsTr
     never bplus_layout n t = absurd (let q : ⊥ = cc in q)
     never hash_layout n t = absurd (let q : ⊥ = cc in q)
 
--- what stands whatever others do, from the laws of sound traces
+-- what remains whatever others do, from the laws of sound traces
 module _ (sort : Sort) (n c : ℕ) (seen h : List Event) (lawful : (h : List Event) → Sound sort BeginsTree TreeStep n h → Lawful h) (grows : GrowsByOthers c seen h) (before : Sound sort BeginsTree TreeStep n seen) (so : Sound sort BeginsTree TreeStep n h) where
   pub stays : (i : ℕ) → Has (hand c seen) i → StaysHeld c i seen h
   stays i has = by_others_keeps c i seen h grows (lawful_in_turn h (lawful h so)) ((is_hand seen c (lawful_in_turn seen (lawful seen before))).held i has)

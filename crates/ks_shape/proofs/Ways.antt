@@ -1,4 +1,4 @@
--- How a search that keeps the parent goes on its way.
+-- The steps of a search that keeps the parent of its node.
 use Rattle.std.proofs.Common.{◌≡◌, ◌≢◌, ℕ, ◌≤◌, true, List, [], ◌∷◌, ◌++◌, length, sym, refl, ap, ◌∙◌, subst, inl, inr, arith}
 use Rattle.std.specs.Prelude.{Some}
 use Rattle.ks_keysets.specs.Record.{LeadsTo}
@@ -41,7 +41,7 @@ two_may (Add p v) = omega arith
 two_may (Swap p old new) = omega arith
 
 module _ {N : Type 0} (sort : Sort) (shows : N → Body) where
-  -- the other node in hand is given
+  -- the other held node is released
   module _ (n c p : ℕ) (laws : Laws sort n) (h k : List Event) (x y : Hand N) (sound : Sound sort BeginsTree TreeStep n h) (sound' : Sound sort BeginsTree TreeStep n k)
       (both : hand c h ≡ x.node ∷ y.node ∷ []) (is : (x.live ≡ true) × Matches sort shows h x) (inside : InInset (graph_after h) x.node p) (gave : GrowsWith c (Give c y.node) h k) (hands : hand c k ≡ drop_one y.node (hand c h)) where
     apart : x.node ≢ y.node

@@ -1,4 +1,4 @@
--- The reply and the number in what a call answers that may find no room.
+-- The reply and the number in the result of a call that may find no room.
 use Rattle.std.specs.Prelude.{ℕ, Result, Ok, Err}
 use Rattle.ks_history.specs.declared.Reply.{Reply}
 use Rattle.ks_history.specs.declared.Reply.TheVariants.{Full as full_reply}
@@ -6,12 +6,12 @@ use Rattle.ks_history.specs.Map.{told}
 use Rattle.ks_shape.specs.declared.answers.Numbered.{Numbered}
 use Rattle.ks_shape.specs.declared.answers.Full.{Full}
 
--- the reply that such an answer tells, in the words of the history
+-- the reply of the history that is in such a result
 abbrev pub reply_in : Result Numbered Full → Reply
 reply_in (Ok answer) = told answer.found
 reply_in (Err full) = full_reply
 
--- the number of the call, its place in the linearization order, also where it is full
+-- the number of the call, its place in the linearization order, also if it is full
 abbrev pub number_in : Result Numbered Full → ℕ
 number_in (Ok answer) = answer.number
 number_in (Err full) = full.number

@@ -1,4 +1,4 @@
--- What claims tell, and which full node may grow.
+-- The results of claims, and which full node may grow.
 use Rattle.std.specs.Prelude.{◌≡◌, ◌≢◌, ◌⊎◌, ℕ, List, ◌∷◌, Option, Some, None}
 use Rattle.ks_keysets.specs.declared.NodeState.TheVariants.{Claimed}
 use Rattle.ks_keysets.specs.Layout.{Layout}
@@ -11,7 +11,7 @@ use Rattle.ks_arena.specs.declared.held.Held.{Held as Hand}
 use Rattle.ks_arena.specs.Sound.{Sort}
 use Rattle.ks_shape.specs.InHand.{IsFree}
 
--- each node that c holds after h is live, but for one that it has claimed for one that may grow for the place
+-- each node that c holds after h is live, except one that it has claimed for one that may grow for the place
 abbrev pub HoldsForClaim : Layout → ℕ → List Event → ℕ → Type 0
 HoldsForClaim layout place h c = HoldsLive h c ⊎ ((but : HoldsLiveBut layout place h c) × (turn_after h but.one ≡ held c))
 
@@ -23,7 +23,7 @@ module _ {N : Type 0} (sort : Sort) (shows : N → Body) where
     pub fresh : ¬ Has (hand c h) x.node
     pub claimed : graph_after k x.node ≡ Claimed c
 
-  -- one node; or none, and c holds what it held: if a claim was due to it, none was free
+  -- one node was claimed; or none was, and c holds what it held: if `HoldsForClaim` is true of that, no node was free
   abbrev pub DidClaimOne : ℕ → ℕ → List Event → List Event → Option (Hand N) → Type 0
   DidClaimOne n c h k None = (hand c k ≡ hand c h) × ((place : ℕ) → HoldsForClaim sort.layout place h c → NoneFree sort.layout n c place h k)
   DidClaimOne n c h k (Some x) = GotOne c h k x
@@ -35,7 +35,7 @@ module _ {N : Type 0} (sort : Sort) (shows : N → Body) where
     pub apart : x.node ≢ y.node
     pub hands : hand c k ≡ y.node ∷ x.node ∷ hand c h
 
-  -- two nodes; or none, and c holds what it held: if that was live, and among it a node that may grow, none was free
+  -- two nodes were claimed; or none was, and c holds what it held: if that is live, and one of it may grow, no node was free
   abbrev pub DidClaimTwo : ℕ → ℕ → List Event → List Event → Option (Hand N × Hand N) → Type 0
   DidClaimTwo n c h k None =
       (hand c k ≡ hand c h)

@@ -1,4 +1,4 @@
--- What a call leaves alone: of what kind the events of its caller are between two moments.
+-- What a call leaves unchanged: of what kind the events of its caller are between two moments.
 use Rattle.std.specs.Prelude.{◌≡◌, ◌≢◌, ℕ, Bool, List, [], ◌∷◌, ◌++◌, Some, None, IsTrue, false}
 use Rattle.ks_keysets.specs.declared.Change.{Change}
 use Rattle.ks_keysets.specs.declared.Frame.{Frame}
@@ -20,17 +20,17 @@ use Rattle.ks_arena.specs.declared.held.Pass.{Pass}
 use Rattle.ks_arena.specs.Sound.{Sort, sort_of, blank_of}
 use Rattle.ks_arena.specs.Clauses.{seen_of}
 
--- each of these events, which came after the trace s, is such after the trace before it, if it is of c
+-- each of these events, which came after the trace s, if it is of c, is of the kind `may` after the trace before it
 abbrev pub EachOwn : (List Event → Event → Type 0) → ℕ → List Event → List Event → Type 0
 EachOwn may c s [] = Unit {0}
 EachOwn may c s (e ∷ es) = (caller_of e ≡ c → may (es ++ s) e) × EachOwn may c s es
 
--- k goes on after h, and each event of c meanwhile is such
+-- k continues h, and each event of c between is of the kind `may`
 pub record DoesOnly (may : List Event → Event → Type 0) (c : ℕ) (h k : List Event) : Type 0 where
   pub grows : h ⊑ k
   pub each : EachOwn may c h grows.rest
 
--- what a search does, and a call where it ended: it takes nodes, gives them and decides; it claims none and makes no Shape
+-- what a search does, and a call at its end: it takes and releases nodes and decides; it claims none and makes no Shape
 abbrev pub MaySearch : List Event → Event → Type 0
 MaySearch h (Take c i) = Unit {0}
 MaySearch h (Give c i) = Unit {0}
@@ -47,7 +47,7 @@ pub record HasBody (sort : Sort) (h : List Event) (i : ℕ) (b : Body) : Type 0 
 abbrev pub MustSplit : Layout → ℕ → Body → Type 0
 MustSplit layout place b = IsTrue (is_full layout b) × (is_branch b ≡ false → value_at b.pairs place ≡ None)
 
--- a Shape after h that makes room for the place: a node that is to be split is split, and leads to its right half itself, or
+-- a Shape after h that makes room for the place: a node that is to be split is split, and itself leads to its right half, or
 -- its parent does; or it grows; or, under links, it is split to the right, or grows; or a branch gets an edge to a node that
 -- was split off
 pub data MakesRoom (sort : Sort) (place : ℕ) (h : List Event) (changes : List Change) : Type 0 where
@@ -76,7 +76,7 @@ MayFill sort place h (Claim c i) = Unit {0}
 MayFill sort place h (Shape c changes) = MakesRoom sort place h changes
 MayFill sort place h (Call c i op reply) = Unit {0}
 
--- a Shape after h that merges two nodes: a low one absorbs the node to which it leads itself, or the one beside it under a
+-- a Shape after h that merges two nodes: a low one absorbs the node to which it itself leads, or the one after it under a
 -- parent; or a branch takes over its only child
 pub data Merges (sort : Sort) (h : List Event) (changes : List Change) : Type 0 where
   by_own : (i j : ℕ) (b q : Body) → HasBody sort h i b → HasBody sort h j q → IsTrue (is_low sort.layout b) → changes ≡ Trees.absorb_own i j b q → Merges sort h changes
@@ -92,16 +92,16 @@ MayDel sort h (Shape c changes) = Merges sort h changes
 MayDel sort h (Call c i op reply) = Unit {0}
 
 module _ {N D : Type 0} where
-  -- from p to q the caller takes nodes, gives them and decides, and does no more: it makes no Shape and claims no node
+  -- from p to q the caller only takes and releases nodes and decides: it makes no Shape and claims no node
   abbrev pub OnlySearches : Pass N D → Pass N D → Type 0
   OnlySearches p q = DoesOnly MaySearch p.caller (seen_of p) (seen_of q)
 
-  -- from p to q the caller takes, gives and claims nodes, decides, and makes room for the place: it splits only full nodes, one
-  -- that is no branch only if that lacks the place, and merges none
+  -- from p to q the caller takes, releases and claims nodes, decides, and makes room for the place: it splits only full nodes,
+  -- one that is no branch only if that lacks the place, and merges none
   abbrev pub OnlyFills : Layout → Bool → ℕ → Pass N D → Pass N D → Type 0
   OnlyFills layout ranged place p q = DoesOnly (MayFill (sort_of layout ranged) place) p.caller (seen_of p) (seen_of q)
 
-  -- from p to q the caller takes and gives nodes, decides, and merges: only low nodes, or a branch with its only child; it claims
-  -- no node and splits none
+  -- from p to q the caller takes and releases nodes, decides, and merges: only low nodes, or a branch with its only child; it
+  -- claims no node and splits none
   abbrev pub OnlyDels : Layout → Bool → Pass N D → Pass N D → Type 0
   OnlyDels layout ranged p q = DoesOnly (MayDel (sort_of layout ranged)) p.caller (seen_of p) (seen_of q)

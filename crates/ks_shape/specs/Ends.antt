@@ -1,4 +1,4 @@
--- What a put or an add that waits for nobody tells, whatever its nodes: as `TriedPut`, but for the cause of Far.
+-- The result of a non-blocking put or add, whatever its nodes: as `TriedPut`, except for the cause of Far.
 use Rattle.std.specs.Prelude.{ℕ, List, Result, Ok, Err}
 use Rattle.ks_keysets.specs.Layout.{Layout}
 use Rattle.ks_node.specs.declared.node.Node.{Ghosts as NodeGhosts}
@@ -21,7 +21,7 @@ use Rattle.ks_shape.specs.declared.answers.PutLater.TheVariants.{Full, Later as 
 use Rattle.ks_shape.specs.Idle.{Site}
 use Rattle.ks_shape.specs.Tries.{FindsMoved, FindsFar}
 
--- what put off the operation of c between s0 and s1 was so; of Far this tells that the technique may find it
+-- the cause that put off the operation of c between s0 and s1 was due; of Far only that the technique may find it
 abbrev pub IsCauseButFar : Template → ℕ → Op → List Event → List Event → Later → Type 0
 IsCauseButFar template c op s0 s1 (Busy node holder) = BusyDue c op s0 s1 node holder
 IsCauseButFar template c op s0 s1 (Moved node) = FindsMoved template × MovedDue c op s0 s1 node
@@ -34,7 +34,7 @@ EndsPut layout template n c op s0 s1 (Err (Full number)) = Done layout template 
 EndsPut layout template n c op s0 s1 (Err (Otherwise later)) = Left template c op s0 s1 × IsCauseButFar template c op s0 s1 later
 
 module _ {N D : Type 0} where
-  -- what it tells of an arena, between p and q
+  -- `EndsPut` in an arena, between p and q
   abbrev pub HasEndedPut : Layout → Template → Site → Op → Pass N D → Pass N D → Result Numbered PutLater → Type 0
   HasEndedPut layout technique a op p q answer = EndsPut layout technique a.nodes p.caller op (seen_of p) (seen_of q) answer
 

@@ -1,4 +1,4 @@
--- Puts and adds as one operation, and what they come to where a search for room has ended.
+-- Puts and adds as one operation, and their results at the end of a search for room.
 use Rattle.std.specs.Prelude.{ℕ, List, Result, Ok, Err}
 use Rattle.ks_node.specs.declared.node.Node.{Ghosts as NodeGhosts}
 use Rattle.ks_node.below.ks_places.specs.declared.Placing.{Ghosts as PlacingGhosts}
@@ -32,7 +32,7 @@ abbrev pub filling : ℕ → Fill → Op
 filling place (Put value) = ops.Put place value
 filling place (Add value) = ops.Add place value
 
--- the answer of a put or an add that was not put off, as one that might have been
+-- the result of a put or an add that was not put off, in the type of one that might have been
 abbrev pub not_later : Result Numbered Full → Result Numbered PutLater
 not_later (Ok answer) = Ok answer
 not_later (Err full) = Err (later.Full full.number)
@@ -45,11 +45,11 @@ module _ {N : Type 0} where
     FoundRoom n c place h k (Ok x) = HasRoom sort shows c place k x
     FoundRoom n c place h k (Err x) = IsCrowded sort shows c place k x × NoneFree sort.layout n c place h k
 
-    -- so it has since some moment, from which the caller made no call
+    -- the same since some moment, and the caller made no call from it on
     abbrev pub EndsForRoom : ℕ → ℕ → ℕ → List Event → Result (Hand N) (Hand N) → Type 0
     EndsForRoom n c place k found = (h : List Event) × (since : h ⊑ k) × NoCallBy c since.rest × FoundRoom n c place h k found
 
-  -- where it ended at a full node, no node was free for the place since h
+  -- if it ended at a full node, no node was free for the place since h
   abbrev pub FullIsDue : Layout → ℕ → ℕ → ℕ → List Event → List Event → Result (Hand N) (Hand N) → Type 0
   FullIsDue layout n c place h k (Ok x) = Unit {0}
   FullIsDue layout n c place h k (Err x) = NoneFree layout n c place h k
@@ -59,6 +59,6 @@ module _ {N D P : Type 0} {n : NodeGhosts N P} {q : PlacingGhosts P} {d : Discip
   abbrev pub EndsForRoomOf : Arena N D P n q d → ℕ → Pass N D → Result (Hand N) (Hand N) → Type 0
   EndsForRoomOf a place p found = EndsForRoom (sort_of n.layout n.ranged) n.body a.nodes p.caller place (seen_of p) found
 
-  -- a put or an add that is under way at p, by whatever technique and since whatever moment, is done at p', if a Full is due
+  -- a put or an add that is under way at p, of any technique and begun at any moment, is done at p', if a Full is due
   abbrev pub FinishesFill : Arena N D P n q d → Op → ℕ → Result (Hand N) (Hand N) → Pass N D → Pass N D → Result Numbered Full → Type 0
   FinishesFill a op place found p p' answer = (template : Template) (start : List Event) → Underway template p.caller op start (seen_of p) → FullIsDue n.layout a.nodes p.caller place start (seen_of p) found → Done n.layout template a.nodes p.caller op start (seen_of p') (reply_in answer) (number_in answer)

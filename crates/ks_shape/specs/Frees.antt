@@ -1,4 +1,4 @@
--- How many nodes a caller makes free while it merges nodes, and what stands while it makes none free.
+-- How many nodes a caller makes free while it merges nodes, and what remains while it makes none free.
 use Rattle.std.proofs.Common.{◌≡◌, ◌≢◌, ℕ, ◌+◌, ◌<◌, ◌%◌, ◌^◌, ◌==◌, List, [], ◌∷◌, ◌++◌}
 use Rattle.std.specs.Prelude.{if◌then◌else◌}
 use Rattle.ks_keysets.specs.declared.NewState.{NewState}
@@ -8,7 +8,7 @@ use Rattle.ks_history.specs.declared.Event.{Event}
 use Rattle.ks_history.specs.declared.Event.TheVariants.{Take, Give, Claim, Shape, Call}
 use Rattle.ks_history.specs.Alone.{ActsAlone}
 
--- a node becomes free, or not: one or none
+-- how many nodes this makes free: one if it becomes free, and else none
 abbrev pub freed_as : NewState → ℕ
 freed_as (BecomesLive r frame) = 0
 freed_as BecomesFree = 1
@@ -31,7 +31,7 @@ abbrev pub freed_by : ℕ → List Event → ℕ
 freed_by c [] = 0
 freed_by c (e ∷ es) = freed_with c e + freed_by c es
 
--- if the event is of c it takes a node or gives one back, or is a Shape that makes a node free: no claim and no call
+-- if the event is of c, it takes or releases a node, or is a Shape that makes a node free: it is no claim and no call
 abbrev pub Merges : ℕ → Event → Type 0
 Merges c (Take d i) = Unit {0}
 Merges c (Give d i) = Unit {0}
@@ -43,14 +43,14 @@ abbrev pub AllMerge : ℕ → List Event → Type 0
 AllMerge c [] = Unit {0}
 AllMerge c (e ∷ es) = Merges c e × AllMerge c es
 
--- from h to k the Shapes of c made so many nodes free, each at least one; and c claimed no node and made no call
+-- from h to k the Shapes of c made this many nodes free, each at least one; and c claimed no node and made no call
 pub record Frees (c : ℕ) (h k : List Event) (count : ℕ) : Type 0 where
   pub rest : List Event
   pub is : k ≡ rest ++ h
   pub merges : AllMerge c rest
   pub made : freed_by c rest ≡ count
 
--- they made so many free, counted modulo 2 ^ 32
+-- they made this many free, counted modulo 2 ^ 32
 pub record Counts (c : ℕ) (h k : List Event) (told : ℕ) : Type 0 where
   pub count : ℕ
   pub frees : Frees c h k count

@@ -12,7 +12,7 @@ use Rattle.ks_arena.specs.declared.held.Pass.{Pass}
 use Rattle.ks_arena.specs.Sound.{Sort}
 use Rattle.ks_arena.specs.Clauses.{IsPass, hand_of, seen_of}
 
--- an arena as contracts see it: its type of nodes, what its discipline asks of a blank frame and of a Shape, its table,
+-- an arena as contracts see it: its type of nodes, what its discipline requires of a blank frame and of a Shape, its table,
 -- and how many callers and nodes it has
 pub record Site : Type 1 where
   pub sort : Sort
@@ -26,6 +26,6 @@ pub record Site : Type 1 where
 abbrev pub IsIdle : {N D : Type 0} → Site → Pass N D → Type 0
 IsIdle a p = IsPass a.sort a.begins a.step a.table a.callers p × (hand_of p ≡ [])
 
--- between p and q the caller made one call, of this operation, with this reply and number, and gave all back
+-- between p and q the caller made one call, of this operation, with this reply and number, and released all its nodes
 abbrev pub IsDone : {N D : Type 0} → Layout → Template → Site → Op → Pass N D → Pass N D → Reply → ℕ → Type 0
 IsDone layout technique a op p q reply number = Done layout technique a.nodes p.caller op (seen_of p) (seen_of q) reply number

@@ -1,4 +1,4 @@
--- What shapes ask and tell of the nodes in hand.
+-- What shapes require of the nodes that their caller holds, and what these become.
 use Rattle.std.specs.Prelude.{ℕ, ◌≡◌, true, false, List}
 use Rattle.ks_history.specs.declared.Event.{Event}
 use Rattle.ks_history.specs.Passes.{Has}
@@ -8,7 +8,7 @@ use Rattle.ks_arena.specs.Sound.{Sort}
 use Rattle.ks_arena.specs.Clauses.{Matches}
 
 module _ {N : Type 0} (sort : Sort) (shows : N → Body) where
-  -- x is in the hand, and live or not; its body is that of the node after the trace h
+  -- x is held, and live or not; its body is that of the node after the trace h
   pub record IsLive (hand : List ℕ) (h : List Event) (x : Hand N) : Type 0 where
     pub has : Has hand x.node
     pub live : x.live ≡ true

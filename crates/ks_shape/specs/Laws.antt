@@ -1,4 +1,4 @@
--- Laws: nothing here is said by a clause of a call; proofs of this crate and of those above it cite them.
+-- Laws: no clause of a call uses them; proofs of this crate and of those above it cite them.
 pub mod Beside
 pub mod Claims
 pub mod Ends

@@ -25,7 +25,7 @@ pub record LeadsOnTo (sort : Sort) (slots n c p : ℕ) (h : List Event) (i j : �
   pub below : j ≢ 0
   -- the place is in its inset
   pub inside : InInset (graph_after h) j p
-  -- it is never found free, as long as others alone act
+  -- it is never found free, as long as only others act
   pub stays : (k : List Event) → GrowsByOthers c h k → Sound sort BeginsTree TreeStep slots k → turn_after k j ≢ free
   -- no node has two parents, and all live nodes are nodes of the arena
   pub parents : OneParent (graph_after h)

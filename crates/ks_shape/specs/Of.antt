@@ -1,4 +1,4 @@
--- What calls and shapes ask and tell, said of an arena and of a pass before and after.
+-- What calls and shapes require and ensure, for clauses that see an arena and a pass before and after.
 use Rattle.std.specs.Prelude.{ℕ, ◌≡◌, List, [], ◌∷◌, Option, Result}
 use Rattle.ks_keysets.specs.declared.Change.{Change}
 use Rattle.ks_keysets.specs.declared.NodeState.{NodeState}
@@ -41,11 +41,11 @@ use Rattle.ks_shape.specs.declared.answers.Later.{Later}
 use Rattle.ks_shape.specs.declared.answers.PutLater.{PutLater}
 
 module _ {N D : Type 0} where
-  -- from p to q the caller made no call, and took and held nodes as any operation of the technique that may hold so many does
+  -- from p to q the caller made no call, and took and held nodes as any operation of the technique may that may hold three
   abbrev pub IsStretchBy : Template → Pass N D → Pass N D → Type 0
   IsStretchBy template p q = Stretch template p.caller (seen_of p) (seen_of q)
 
-  -- so it did by every technique
+  -- the same for every technique
   abbrev pub IsStretch : Pass N D → Pass N D → Type 0
   IsStretch p q = Stretches p.caller (seen_of p) (seen_of q)
 
@@ -53,11 +53,11 @@ module _ {N D : Type 0} where
   abbrev pub IsUnderway : Template → Pass N D → Pass N D → Type 0
   IsUnderway template p q = (op : Op) → Underway template p.caller op (seen_of p) (seen_of q)
 
-  -- a call that is under way at p, since whatever moment, still is at q
+  -- a call that is under way at p, begun at any moment, still is at q
   abbrev pub StaysUnderway : Template → Pass N D → Pass N D → Type 0
   StaysUnderway template p q = (op : Op) (start : List Event) → Underway template p.caller op start (seen_of p) → Underway template p.caller op start (seen_of q)
 
-  -- so it is by every technique
+  -- the same for every technique
   abbrev pub StaysUnderwayAny : Pass N D → Pass N D → Type 0
   StaysUnderwayAny p q = (template : Template) → StaysUnderway template p q
 
@@ -65,11 +65,11 @@ module _ {N D : Type 0} where
   abbrev pub HoldsOnly : Pass N D → Hand N → Type 0
   HoldsOnly p x = hand_of p ≡ x.node ∷ []
 
-  -- if the caller acts alone from p to q, it makes no node live
+  -- if no other caller acts from p to q, this one makes no node live
   abbrev pub MakesNoneLive : Pass N D → Pass N D → Type 0
   MakesNoneLive p q = MakesNone p.caller (seen_of p) (seen_of q)
 
-  -- others, and the caller's events meanwhile, leave what this says of nodes that they do not name
+  -- from p to q `Same` holds at each node that the caller holds at both
   abbrev pub KeepsAside : (ℕ → (ℕ → NodeState) → (ℕ → NodeState) → Type 0) → Pass N D → Pass N D → Type 0
   KeepsAside Same p q = KeepsBeside Same p.caller (seen_of p) (seen_of q)
 
@@ -96,15 +96,15 @@ module _ {N D P : Type 0} {n : NodeGhosts N P} {q : PlacingGhosts P} {d : Discip
   abbrev pub HasBecomeFree : Arena N D P n q d → Pass N D → Hand N → Hand N → Type 0
   HasBecomeFree a p x y = BecomesFree (sort_of n.layout n.ranged) n.body (seen_of p) x y
 
-  -- caller c, which searches for the place, holds this live node alone, and the place is in its inset
+  -- caller c, which searches for the place, holds only this node, which is live, and the place is in its inset
   abbrev pub IsOnWayOf : Arena N D P n q d → ℕ → ℕ → Pass N D → Hand N → Type 0
   IsOnWayOf a c place p x = IsOnWay (sort_of n.layout n.ranged) n.body c place (seen_of p) x
 
-  -- the search of the pass for the place has ended at this live node: it is held alone, and no edge of it leads on
+  -- the search of the pass for the place has ended at this live node: it is the only one held, and no edge of it leads on
   abbrev pub SearchEndsAt : Arena N D P n q d → ℕ → Pass N D → Hand N → Type 0
   SearchEndsAt a place p x = IsEnd (sort_of n.layout n.ranged) n.body p.caller place (seen_of p) x
 
-  -- so it has, and the node has the place or room for it; or it is full, and has not the place
+  -- the same, and the node has the place or room for it; or it is full, and lacks the place
   abbrev pub HasRoomAt : Arena N D P n q d → ℕ → Pass N D → Hand N → Type 0
   HasRoomAt a place p x = HasRoom (sort_of n.layout n.ranged) n.body p.caller place (seen_of p) x
 
@@ -115,39 +115,39 @@ module _ {N D P : Type 0} {n : NodeGhosts N P} {q : PlacingGhosts P} {d : Discip
   abbrev pub NoneWasFree : Arena N D P n q d → ℕ → Pass N D → Pass N D → Type 0
   NoneWasFree a place p p' = NoneFree n.layout a.nodes p.caller place (seen_of p) (seen_of p')
 
-  -- between p and p' the caller made one call, of this operation, with this reply and number, and gave all back
+  -- between p and p' the caller made one call, of this operation, with this reply and number, and released all its nodes
   abbrev pub DoneOf : Arena N D P n q d → Template → Op → Pass N D → Pass N D → Reply → ℕ → Type 0
   DoneOf a template op p p' reply number = Done n.layout template a.nodes p.caller op (seen_of p) (seen_of p') reply number
 
-  -- a call that waits for nobody is done between p and p', or put off, as its answer tells
+  -- a non-blocking call is done between p and p', or put off, as its result says
   abbrev pub TriedOf : Arena N D P n q d → Template → Op → Pass N D → Pass N D → Result Numbered Later → Type 0
   TriedOf a template op p p' answer = Tried n.layout template a.nodes p.caller op (seen_of p) (seen_of p') answer
 
-  -- so it is with a put or an add, which may also be done with the reply Full
+  -- the same for a put or an add, which may also be done with the reply Full
   abbrev pub TriedPutOf : Arena N D P n q d → Template → Op → Pass N D → Pass N D → Result Numbered PutLater → Type 0
   TriedPutOf a template op p p' answer = TriedPut n.layout template a.nodes p.caller op (seen_of p) (seen_of p') answer
 
-  -- a call that is under way at p, by whatever technique and since whatever moment, is done at p'
+  -- a call that is under way at p, of any technique and begun at any moment, is done at p'
   abbrev pub FinishesAny : Arena N D P n q d → Op → Pass N D → Pass N D → Reply → ℕ → Type 0
   FinishesAny a op p p' reply number = (template : Template) (start : List Event) → Underway template p.caller op start (seen_of p) → Done n.layout template a.nodes p.caller op start (seen_of p') reply number
 
-  -- so it is, and it was decided at the node x, which then had the frame of its body
+  -- the same, and it was decided at the node x, which then had the frame of its body
   abbrev pub FinishesAt : Arena N D P n q d → Hand N → Op → Pass N D → Pass N D → Reply → ℕ → Type 0
   FinishesAt a x op p p' reply number = (template : Template) (start : List Event) → Underway template p.caller op start (seen_of p) → DoneAt n.layout template a.nodes p.caller op start (seen_of p') reply number x.node (blank_of (sort_of n.layout n.ranged)) (frame_of (n.body x.body))
 
-  -- so it is, if a reply Full is due: no node was free for its place since it began
+  -- the same, if a reply Full is due: no node was free for its place since it began
   abbrev pub FinishesIfDue : Arena N D P n q d → Hand N → Op → Pass N D → Pass N D → Reply → ℕ → Type 0
   FinishesIfDue a x op p p' reply number = (template : Template) (start : List Event) → (reply ≡ Full → (place : ℕ) × Touches op place × NoneFree n.layout a.nodes p.caller place start (seen_of p)) → Underway template p.caller op start (seen_of p) → DoneAt n.layout template a.nodes p.caller op start (seen_of p') reply number x.node (blank_of (sort_of n.layout n.ranged)) (frame_of (n.body x.body))
 
-  -- so it is with the reply Full, if no node was free since it began
+  -- the same with the reply Full, if no node was free since it began
   abbrev pub FinishesFull : Arena N D P n q d → Hand N → Op → Pass N D → Pass N D → ℕ → Type 0
   FinishesFull a x op p p' number = (template : Template) (start : List Event) (place : ℕ) → Touches op place → NoneFree n.layout a.nodes p.caller place start (seen_of p) → Underway template p.caller op start (seen_of p) → DoneAt n.layout template a.nodes p.caller op start (seen_of p') Full number x.node (blank_of (sort_of n.layout n.ranged)) (frame_of (n.body x.body))
 
-  -- so it is with the reply Full, if no node was free for the place since it began
+  -- the same with the reply Full, if no node was free for the place since it began
   abbrev pub FinishesCrowded : Arena N D P n q d → Op → ℕ → Pass N D → Pass N D → ℕ → Type 0
   FinishesCrowded a op place p p' number = (template : Template) (start : List Event) → Underway template p.caller op start (seen_of p) → NoneFree n.layout a.nodes p.caller place start (seen_of p) → Done n.layout template a.nodes p.caller op start (seen_of p') Full number
 
-  -- what a claim of a node tells, and one of two nodes: they are in hand; or no node was free, if a claim was due
+  -- the result of a claim of one node, and of two: they are held; or no node was free, if the caller held what a claim needs
   abbrev pub HasClaimedOne : Arena N D P n q d → Pass N D → Pass N D → Option (Hand N) → Type 0
   HasClaimedOne a p p' claimed = DidClaimOne (sort_of n.layout n.ranged) n.body a.nodes p.caller (seen_of p) (seen_of p') claimed
 
@@ -162,8 +162,8 @@ module _ {N D P : Type 0} {n : NodeGhosts N P} {q : PlacingGhosts P} {d : Discip
   abbrev pub StandsUnderAt : Arena N D P n q d → Pass N D → ℕ → ℕ → ℕ → Type 0
   StandsUnderAt a p i level cut = Linked.StandsUnder (graph_after (seen_of p)) (frame_after (blank_of (sort_of n.layout n.ranged)) (seen_of p)) i level cut
 
-  -- the changes of each shape of trees, from the nodes in hand before it: x is split at the cut, and y gets what lies from
-  -- there on, x or u leading to it; the root x grows, and y and z get its halves; x absorbs y; x gets all of its only child y
+  -- the changes of each shape of trees, from the held nodes before it: x is split at the cut, and y gets what is from there
+  -- on, x or u leading to it; the root x grows, and y and z get its halves; x absorbs y; x gets all of its only child y
   abbrev pub splits_own : Arena N D P n q d → Hand N → Hand N → ℕ → List Change
   splits_own a x y cut = Trees.split_own x.node y.node cut (n.body x.body)
 

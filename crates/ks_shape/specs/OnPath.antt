@@ -20,13 +20,13 @@ abbrev pub numbers : {N : Type 0} → Option (Hand N) → List ℕ
 numbers None = []
 numbers (Some y) = y.node ∷ []
 
--- c gave the one node, if there was one, and did nothing else
+-- c released the one node, if there was one, and did nothing else
 abbrev pub GaveIf : {N : Type 0} → ℕ → Option (Hand N) → List Event → List Event → Type 0
 GaveIf c None h k = k ≡ h
 GaveIf c (Some y) h k = GrowsWith c (Give c y.node) h k
 
 module _ {N : Type 0} (sort : Sort) (shows : N → Body) where
-  -- y is live, and leads to node i where the place is carried
+  -- y is live, and leads to node i at the place
   pub record IsAbove (place i : ℕ) (h : List Event) (y : Hand N) : Type 0 where
     pub live : y.live ≡ true
     pub matches : Matches sort shows h y

@@ -1,4 +1,5 @@
--- What a search that keeps the parent of its node asks and tells, said of an arena and of a pass before and after.
+-- What a search that keeps the parent of its node requires and ensures, for clauses that see an arena and a pass before and
+-- after.
 use Rattle.std.specs.Prelude.{ℕ, Option}
 use Rattle.ks_node.specs.declared.node.Node.{Ghosts as NodeGhosts}
 use Rattle.ks_node.below.ks_places.specs.declared.Placing.{Ghosts as PlacingGhosts}
@@ -12,7 +13,7 @@ use Rattle.ks_shape.specs.declared.path.Path.{Path}
 use Rattle.ks_shape.specs.OnPath.{GaveIf, IsAbove, IsUnder, IsOnPath}
 
 module _ {N D : Type 0} where
-  -- the pass has seen its caller give the one node, if there was one, and beside it what others did; else nothing
+  -- the pass has seen its caller release the one node, if there was one, and events of others; and no other of its own
   abbrev pub AddsGive : Option (Hand N) → Pass N D → Pass N D → Type 0
   AddsGive given p q = GaveIf p.caller given (seen_of p) (seen_of q)
 

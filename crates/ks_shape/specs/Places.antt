@@ -1,4 +1,4 @@
--- What becomes of the places of a node that is merged with another.
+-- Where the places of a node go that is merged with another.
 use Rattle.std.specs.Prelude.{ℕ}
 use Rattle.ks_keysets.specs.declared.NodeState.{NodeState}
 use Rattle.ks_keysets.specs.Keyset.{InInset, InKeyset}

@@ -7,12 +7,12 @@ use Rattle.ks_history.specs.Trace.{◌⊑◌, caller_of}
 use Rattle.ks_arena.specs.declared.held.Pass.{Pass}
 use Rattle.ks_arena.specs.Clauses.{seen_of}
 
--- each of the events that is of c is no Shape
+-- no event of c among these is a Shape
 abbrev pub NoShapeBy : ℕ → List Event → Type 0
 NoShapeBy c [] = Unit {0}
 NoShapeBy c (e ∷ es) = (caller_of e ≡ c → IsNoShape e) × NoShapeBy c es
 
--- k goes on after h, and c takes no node and makes no Shape meanwhile
+-- k continues h, and c takes no node and makes no Shape between
 pub record IsQuiet (c : ℕ) (h k : List Event) : Type 0 where
   pub grows : h ⊑ k
   pub takes : takes_by c grows.rest ≡ []

@@ -26,8 +26,8 @@ abbrev pub LacksPlace : Layout → Body → ℕ → Type 0
 LacksPlace layout b place = (value_at b.pairs place ≡ None) × IsTrue (is_full layout b)
 
 module _ {N : Type 0} (sort : Sort) (shows : N → Body) where
-  -- after h, c holds this live node alone; the place is in its inset, and in its range, if it has one; and no edge of it leads
-  -- on
+  -- after h, c holds only this node, which is live; the place is in its inset, and in its range, if it has one; and no edge of
+  -- it leads on
   pub record IsEnd (c place : ℕ) (h : List Event) (x : Hand N) : Type 0 where
     pub alone : hand c h ≡ x.node ∷ []
     pub live : x.live ≡ true
@@ -41,7 +41,7 @@ module _ {N : Type 0} (sort : Sort) (shows : N → Body) where
     pub ends : IsEnd c place h x
     pub room : TakesPlace sort.layout (shows x.body) place
 
-  -- or it is full, and has not the place
+  -- or it is full, and lacks the place
   pub record IsCrowded (c place : ℕ) (h : List Event) (x : Hand N) : Type 0 where
     pub ends : IsEnd c place h x
     pub absent : value_at (shows x.body).pairs place ≡ None

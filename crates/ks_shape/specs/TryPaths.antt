@@ -1,4 +1,4 @@
--- What the steps of a search come to that keeps the parent of its node and waits for nobody.
+-- What the steps of a non-blocking search that keeps the parent of its node ensure.
 use Rattle.std.specs.Prelude.{ℕ, ◌≡◌, List, [], Some, None, Result, Ok, Err}
 use Rattle.ks_node.specs.declared.node.Node.{Ghosts as NodeGhosts}
 use Rattle.ks_node.below.ks_places.specs.declared.Placing.{Ghosts as PlacingGhosts}
@@ -20,18 +20,18 @@ use Rattle.ks_shape.specs.Descents.{IsCauseAt}
 use Rattle.ks_shape.specs.OnPath.{IsOnPath}
 
 module _ {N : Type 0} (sort : Sort) (shows : N → Body) where
-  -- c, which searches for the place, stands on the path; or it holds nothing
+  -- c, which searches for the place, is on the path; or it holds nothing
   abbrev pub PathOrNone : ℕ → ℕ → List Event → Result (Path N) Later → Type 0
   PathOrNone c place h (Ok path) = IsOnPath sort shows c place h path
   PathOrNone c place h (Err later) = hand c h ≡ []
 
 module _ {N : Type 0} (n c place : ℕ) (s0 h : List Event) where
-  -- what put off c's search for the place since s0, if it was put off, is so
+  -- the cause that put off c's search for the place since s0, if it was put off, is due
   abbrev pub CauseIf : Result (Path N) Later → Type 0
   CauseIf (Ok path) = Unit {0}
   CauseIf (Err later) = IsCauseAt coupling n c place s0 h later
 
--- the path stands at the root; or hangs from this node; or the search was put off
+-- the node of the path is the root, or a child of this node; or the search was put off
 abbrev pub IsAtRoot : {N : Type 0} → Result (Path N) Later → Type 0
 IsAtRoot (Ok path) = path.parent ≡ None
 IsAtRoot (Err later) = Unit {0}
@@ -42,7 +42,7 @@ HangsFrom x (Err later) = Unit {0}
 
 module _ {N D : Type 0} where
   -- the caller took node i between p and p', now the node of its path, and did nothing else; or another held it, and the caller
-  -- did nothing, or gave the node x and did nothing else
+  -- did nothing, or released the node x and did nothing else
   abbrev pub TookOrLooked : ℕ → Pass N D → Pass N D → Result (Path N) Later → Type 0
   TookOrLooked i p p' (Ok path) = (path.node.node ≡ i) × GrowsWith p.caller (Take p.caller i) (seen_of p) (seen_of p')
   TookOrLooked i p p' (Err later) = GrowsByOthers p.caller (seen_of p) (seen_of p')
@@ -55,6 +55,6 @@ module _ {N D P : Type 0} {n : NodeGhosts N P} {q : PlacingGhosts P} {d : Discip
   abbrev pub StandsOrNone : Arena N D P n q d → ℕ → ℕ → Pass N D → Result (Path N) Later → Type 0
   StandsOrNone a c place p result = PathOrNone (sort_of n.layout n.ranged) n.body c place (seen_of p) result
 
-  -- what put off a search for the place between p and p', since whatever moment it goes, is so
+  -- the cause that put off a search for the place between p and p', whenever it began, is due
   abbrev pub IsBusyDue : Arena N D P n q d → ℕ → Pass N D → Pass N D → Result (Path N) Later → Type 0
   IsBusyDue a place p p' result = (start : List Event) → start ⊑ seen_of p → CauseIf a.nodes p.caller place start (seen_of p') result

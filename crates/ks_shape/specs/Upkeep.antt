@@ -1,4 +1,4 @@
--- What a call that was alone leaves of the nodes beside its answer: a place that is tidy, edges to new nodes.
+-- What a call does to the nodes beside its reply, if no other caller acts: a place that is tidy, edges to new nodes.
 use Rattle.std.specs.Prelude.{ℕ, ◌⊎◌, List}
 use Rattle.ks_keysets.specs.Keyset.{IsLive}
 use Rattle.ks_history.specs.declared.Event.{Event}
@@ -17,7 +17,7 @@ LeavesTidy coupling = Unit {0}
 LeavesTidy give_up = Unit {0}
 LeavesTidy link_move = ⊥
 
--- a put or an add by the technique adds the edge to a node that it split off, in a step of its own: along links; under trees
+-- a put or an add by the technique adds the edge to a node that it split off, in a separate step: along links; under trees
 -- the split itself adds it
 abbrev pub LeadsNew : Template → Type 0
 LeadsNew coupling = ⊥

@@ -1,6 +1,6 @@
-//! What the calls of a dictionary answer.
+//! The results of the calls of a dictionary.
 
-/// The number of a call in the one history of all calls, modulo 2^64, and the value that stood at its place before it.
+/// The number of a call in the one history of all calls, modulo 2^64, and the value that its place had before it.
 #[derive(Clone, Copy, Debug, PartialEq, Eq)]
 pub struct Numbered {
     pub number: u64,
@@ -13,19 +13,19 @@ pub struct Full {
     pub number: u64,
 }
 
-/// Why a call that waits for nobody was put off. It made no call of the history and changed nothing in the map, holds
-/// nothing, and has no number.
+/// Why a non-blocking call was put off. It made no call of the history and changed nothing in the map, holds no node, and
+/// has no number.
 #[derive(Clone, Copy, Debug, PartialEq, Eq)]
 pub enum Later {
-    /// The holder, another caller, held the node, which is on the way of the place.
+    /// The holder, another caller, held the node, which is on the search path of the place.
     Busy { node: u32, holder: u32 },
-    /// Another caller changed the node, which was on the way of the place and no longer is. It comes by giving up alone.
+    /// Another caller changed the node, which was on the search path of the place and no longer is. Only giving up reports it.
     Moved { node: u32 },
-    /// The call took as many nodes as there are, while another caller changed some. It never comes along links.
+    /// The call took as many nodes as there are, while another caller changed some. It is never reported along links.
     Far,
 }
 
-/// Why a put or an add that waits for nobody did not put the value.
+/// Why a non-blocking put or add did not put the value.
 #[derive(Clone, Copy, Debug, PartialEq, Eq)]
 pub enum PutLater {
     /// It found no room for its place, and no free node: it is a call of the history, with this number modulo 2^64, that

@@ -1,4 +1,4 @@
-//! Claims of one node and of two. Where a claim is refused, no node was free.
+//! Claims of one node and of two. If a claim is refused, no node was free.
 ghost use Rattle.std.specs.Prelude.{◌≡◌, ℕ, ◌≤◌, length};
 ghost use Rattle.ks_flow.specs.Discipline.{SameKeyset};
 ghost use Rattle.ks_arena.specs.Clauses.{hand_of};
@@ -41,8 +41,8 @@ pub fn claim_one<N: Node, D: Discipline, G: Gate>(
     Some(claimed)
 }
 
-/// Claims a node and then another, for a node that grows. Where there is no second one, the first is given back. `None`:
-/// each was at some moment not free.
+/// Claims a node and then another, for a node that grows. If there is no second one, the first is released. `None`: each
+/// was at some moment not free.
 pub fn claim_two<N: Node, D: Discipline, G: Gate>(
     arena: &Arena<N, D>,
     pass: &mut Pass<N, D>,

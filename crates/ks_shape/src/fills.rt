@@ -1,4 +1,4 @@
-//! A put and an add as one operation with a value: where the search for its place ends, it is decided once for both.
+//! A put and an add as one operation with a value: at the end of the search for its place, it is decided once for both.
 ghost use Rattle.std.specs.Prelude.{◌≡◌};
 ghost use Rattle.ks_arena.specs.Of.{IsPassOf, IsEmptyPassOf, SeesOn, SameCaller};
 ghost use Rattle.ks_shape.specs.Fills.{filling, not_later, EndsForRoomOf, FinishesFill};
@@ -16,14 +16,14 @@ use ks_node::Node;
 /// What is set at a place that may need room for it.
 #[derive(Clone, Copy, Debug, PartialEq, Eq)]
 pub enum Fill {
-    /// The value, whatever stands there.
+    /// The value, also if the place has one.
     Put(u128),
-    /// The value, where none stands there.
+    /// The value, if the place has none.
     Add(u128),
 }
 
-/// Decides a put or an add where a search for room has ended: at a node that has the place or room for it; or, `Err`, as full,
-/// at a full node that has not the place, after no node was found free.
+/// Decides a put or an add at the end of a search for room: at a node that has the place or room for it; or, `Err`, as full,
+/// at a full node that lacks the place, after no node was found free.
 pub fn fill_at<N: Node, D: Discipline, G: Gate>(
     arena: &Arena<N, D>,
     pass: &mut Pass<N, D>,
@@ -55,7 +55,7 @@ pub fn fill_at<N: Node, D: Discipline, G: Gate>(
     }
 }
 
-/// The answer of a put or an add that was not put off, of such as may be.
+/// The result of a put or an add that was not put off, in the type of one that may be.
 pub fn not_put_off(answer: Result<Numbered, Full>) -> Result<Numbered, PutLater>
     ensures { result ≡ not_later answer }
 {

@@ -1,4 +1,4 @@
-//! What sound traces tell of a search. The function computes nothing: its contract is a law.
+//! What holds of a search in sound traces. The function computes nothing: its contract is a law.
 ghost use Rattle.std.specs.Prelude.{ℕ};
 ghost use Rattle.ks_arena.specs.Sound.{Sort};
 ghost use Rattle.ks_shape.specs.Laws.Search.{Laws};

@@ -1,4 +1,4 @@
-//! What the words come to by which a call tells what it leaves alone.
+//! What follows from the clauses that say what a call leaves unchanged.
 ghost use Rattle.std.specs.Prelude.{ℕ, List};
 ghost use Rattle.ks_keysets.specs.declared.Change.{Change as Turned};
 ghost use Rattle.ks_history.specs.declared.Event.{Event as Happening};

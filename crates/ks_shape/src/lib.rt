@@ -1,5 +1,5 @@
-//! The shapes of maintenance, each some calls of nodes in hand and then one Shape; and what the calls of all templates
-//! share: what they answer, and how they end.
+//! The shapes of maintenance, each some calls of held nodes and then one Shape; and what the calls of all templates share:
+//! their results, and how they end.
 #![tactic(auto)]
 
 mod answers;

@@ -1,4 +1,4 @@
-//! Shapes under links. Each asks that the pass holds its nodes with the bodies of the graph, and tells what they became.
+//! Shapes under links. Each requires that the pass holds its nodes with the bodies of the graph, and says what they become.
 ghost use Rattle.std.specs.Prelude.{◌≡◌, ◌≢◌, ℕ, ◌<◌, IsTrue, None};
 ghost use Rattle.ks_node.specs.Body.{content_of, is_branch};
 ghost use Rattle.ks_node.specs.Room.{is_full};
@@ -99,8 +99,8 @@ pub fn grow_right<N: Linked>(
     arena.shape(pass, node, Some(left), Some(right));
 }
 
-/// The node, a branch, leads from the cut on to `id` as well. At what the pass has seen, that one is live, one level
-/// below it, and begins at the cut: it was split off there, and is reached by its left neighbour's link till then.
+/// The node, a branch, leads from the cut on to `id` as well. As far as the pass has seen, that one is live, one level
+/// below it, and begins at the cut: it was split off there, and until now only its left neighbour's link leads to it.
 pub fn attach<N: Linked>(
     arena: &Arena<N, Link>,
     pass: &mut Pass<N, Link>,

@@ -22,14 +22,14 @@ use ks_gate::{Gate, Point};
 use ks_node::{Unlinked, node_law};
 use std::sync::Wait;
 
-/// The node at which a search stands, and the one that leads to it. The root has none, and a node that is not full needs
+/// The node at which a search is, and the one that leads to it. The root has none, and a node that is not full needs
 /// none.
 pub struct Path<N> {
     pub parent: Option<Held<N>>,
     pub node: Held<N>,
 }
 
-/// Takes the root. It does not tell the gate that a call begins.
+/// Takes the root. It does not notify the gate that a call begins.
 #[inline(always)]
 pub fn enter<N: Unlinked, R: Wait, G: Gate>(
     rt: &R,
@@ -51,7 +51,7 @@ pub fn enter<N: Unlinked, R: Wait, G: Gate>(
     Path { parent: None, node }
 }
 
-/// Gives the other node in hand, if there is one, and keeps the node.
+/// Releases the other held node, if there is one, and keeps the node.
 #[inline(always)]
 pub fn keep_alone<N: Unlinked, G: Gate>(
     arena: &Arena<N, Tree>,
@@ -84,7 +84,7 @@ pub fn keep_alone<N: Unlinked, G: Gate>(
     node
 }
 
-/// Gives the parent, and keeps the node.
+/// Releases the parent, and keeps the node.
 #[inline(always)]
 pub fn let_go<N: Unlinked, G: Gate>(
     arena: &Arena<N, Tree>,
@@ -146,7 +146,7 @@ pub fn step_down<N: Unlinked, R: Wait, G: Gate>(
     }
 }
 
-/// Gives the node in hand that is right of a path, as the right half of its node, and keeps the path.
+/// Releases the held node that is right of a path, as the right half of its node, and keeps the path.
 pub fn keep_left<N: Unlinked, G: Gate>(
     arena: &Arena<N, Tree>,
     pass: &mut Pass<N, Tree>,

@@ -1,4 +1,4 @@
-//! Steps of a call under way, each with its gate: by whatever technique the call goes, it stays under way.
+//! Steps of a call under way, each with its gate: a call of any technique stays under way.
 ghost use Rattle.std.specs.Prelude.{◌≡◌};
 ghost use Rattle.ks_history.specs.declared.Event.TheVariants.{Give, Take};
 ghost use Rattle.ks_arena.specs.Of.{Adds, IsPassOf, IsEmptyPassOf, IsCurrent, SameCaller, caller_of};
@@ -12,7 +12,7 @@ use ks_gate::{Gate, Point};
 use ks_node::Node;
 use std::sync::Wait;
 
-/// Takes the root, for a call that holds nothing: it is on its way to whatever place.
+/// Takes the root, for a call that holds nothing: the root is on the search path of each place.
 #[inline(always)]
 pub fn take_root<N: Node, D: Discipline, R: Wait, G: Gate>(
     rt: &R,
@@ -41,7 +41,7 @@ pub fn take_root<N: Node, D: Discipline, R: Wait, G: Gate>(
     root
 }
 
-/// Gives the one node in hand.
+/// Releases the one held node.
 #[inline(always)]
 pub fn give_last<N: Node, D: Discipline, G: Gate>(
     arena: &Arena<N, D>,

@@ -1,5 +1,5 @@
-//! What a technique of concurrency offers: five calls, each of which stands once in the one history of all calls; and such
-//! as wait for nobody, which stand there once, or are put off.
+//! What a technique of concurrency offers: five calls, each of which occurs once in the one history of all calls; and
+//! non-blocking calls, each of which occurs there once, or is put off.
 ghost use Rattle.std.specs.Prelude.{◌≡◌, ◌≢◌, IsTrue, None, false};
 ghost use Rattle.ks_history.specs.declared.Op.TheVariants.{Add, Del, Get, Put, Swap};
 ghost use Rattle.ks_history.specs.Map.{told};
@@ -37,7 +37,7 @@ impl<N: Node, D: Discipline> Shelf for Arena<N, D> {
     } };
 }
 
-/// What a technique keeps, over whatever nodes. It may cross threads, so that code over any technique may be sent to one.
+/// What a technique keeps, over any nodes. It may cross threads, so that code over any technique may be sent to one.
 pub trait Ruled: Send + Sync {
     /// What its shapes keep.
     type Rule: Discipline;
@@ -46,20 +46,20 @@ pub trait Ruled: Send + Sync {
     ghost technique: { Technique };
 }
 
-/// A technique by which callers come from node to node, over one type of nodes. A call waits for nodes that others hold,
-/// unless its name begins with `try`. Its pass holds no node before it, and none after it. The call stands once in the one
-/// history of all calls, after all that its pass had seen, and has its number there; the answer tells what the map held at
-/// the place just before it. A call that waits for nobody may be put off: then it does not stand there.
+/// A technique by which callers go from node to node, over one type of nodes. A call waits for nodes that others hold,
+/// unless its name begins with `try`. Its pass holds no node before it, and none after it. The call occurs once in the one
+/// history of all calls, after all that its pass had seen, and has its number there; it returns what the map held at the
+/// place just before it. A non-blocking call may be put off: then it is not in the history.
 ///
-/// Nodes that a call has no need of it leaves alone: a get and a swap make no Shape and claim no node (`leaves`); a put and an
-/// add split only full nodes and merge none (`fills`); a del merges only low nodes, or a branch with its only child, and
-/// claims and splits none (`dels`).
+/// A call leaves nodes that it does not need as they are: a get and a swap make no Shape and claim no node (`leaves`); a
+/// put and an add split only full nodes and merge none (`fills`); a del merges only low nodes, or a branch with its only
+/// child, and claims and splits none (`dels`).
 pub trait Template<N: Node, A: Shelf>: Ruled {
-    /// The frame of a blank node is as the rule asks. It computes nothing.
+    /// The frame of a blank node is as the rule requires. It computes nothing.
     fn fits()
         ensures { Self.Rule.begins (blank_of (sort_of N.layout N.ranged)) };
 
-    /// Answers the value at a place.
+    /// Returns the value at a place.
     fn get<R: Wait, G: Gate>(
         rt: &R,
         arena: &A,
@@ -74,17 +74,17 @@ pub trait Template<N: Node, A: Shelf>: Ruled {
         ensures done { IsDone N.layout Self.technique (A.site arena.now) (Get place)
             pass.old pass.new (told result.found) result.number };
 
-    /// Sets the value at a place, and answers the one that stood there.
+    /// Sets the value at a place, and returns the one that was there before.
     ///
     /// # Errors
     ///
-    /// `Full` comes only where no value stands at the place, its node has no room, and each node was not free at some
-    /// moment of the call. Then the map is as before the call, which has its number in the history; splits that it
-    /// made before stay.
+    /// `Full` is returned only if the place has no value, its node has no room, and each node was not free at some moment
+    /// of the call. Then the map is as before the call, which has its number in the history; splits that it made before
+    /// remain.
     ///
-    /// Along links the edge to a node that was split off is added once the call has been decided. It is there in the end if
-    /// no other caller did anything meanwhile and two nodes are free then, over nodes whose branches adopt any edge while
-    /// they are not full, and whose halves have room.
+    /// Along links the edge to a node that was split off is added after the call has been decided. It is there in the end
+    /// if no other caller did anything meanwhile and two nodes are free then, over nodes whose branches adopt any edge
+    /// while they are not full, and whose halves have room.
     fn put<R: Wait, G: Gate>(
         rt: &R,
         arena: &A,
@@ -103,11 +103,11 @@ pub trait Template<N: Node, A: Shelf>: Ruled {
             WasAlone pass.old pass.new → HasTwoFree (A.site arena.now) pass.new →
             AreNewLed (A.site arena.now) pass.old pass.new };
 
-    /// Sets the value at a place where none stands, and answers the one that stood there: where one did, it stays.
+    /// Sets the value at a place that has none, and returns the one that was there before: if there was one, it remains.
     ///
     /// # Errors
     ///
-    /// `Full` comes, and leaves the map, as for `put`; edges are there as after `put`.
+    /// `Full` is returned, and leaves the map, as for `put`; edges are there as after `put`.
     fn add<R: Wait, G: Gate>(
         rt: &R,
         arena: &A,
@@ -126,8 +126,8 @@ pub trait Template<N: Node, A: Shelf>: Ruled {
             WasAlone pass.old pass.new → HasTwoFree (A.site arena.now) pass.new →
             AreNewLed (A.site arena.now) pass.old pass.new };
 
-    /// Sets the value at a place to `new` where `old` stands, and answers the one that stood there: it was set exactly
-    /// where that is `old`.
+    /// Sets the value at a place to `new` if it is `old`, and returns the one that was there before: it was set if and only
+    /// if that is `old`.
     fn swap<R: Wait, G: Gate>(
         rt: &R,
         arena: &A,
@@ -144,9 +144,9 @@ pub trait Template<N: Node, A: Shelf>: Ruled {
         ensures done { IsDone N.layout Self.technique (A.site arena.now) (Swap place old new)
             pass.old pass.new (told result.found) result.number };
 
-    /// Deletes what stands at a place, and answers it. If it removed a pair while no other caller did anything, the node
-    /// whose keyset has the place is then not low, or fits with no right neighbour: under trees, as no nodes are merged
-    /// along links.
+    /// Deletes the value at a place, and returns it. If it removed a pair while no other caller did anything, the node
+    /// whose keyset has the place is then not low, or fits with no right neighbour: only under trees, as no nodes are
+    /// merged along links.
     fn del<R: Wait, G: Gate>(
         rt: &R,
         arena: &A,
@@ -163,13 +163,13 @@ pub trait Template<N: Node, A: Shelf>: Ruled {
         ensures tidy { LeavesTidy Self.technique → result.found ≢ None →
             WasAlone pass.old pass.new → IsTidyIn (A.site arena.now) pass.new place };
 
-    /// Answers the value at a place, and waits for nobody.
+    /// Returns the value at a place. It does not wait.
     ///
     /// # Errors
     ///
-    /// `Busy` names a node on the way of the place, and the other caller that held it; `Moved` a node that was on the way,
-    /// until another caller changed it, and comes by giving up alone; `Far` comes only where the call took as many nodes as
-    /// there are while another caller changed some, and never along links. Then the call is none of the history: it
+    /// `Busy` names a node on the search path of the place, and the other caller that held it; `Moved` a node that was on
+    /// the path until another caller changed it: only giving up reports it; `Far` is reported only if the call took as many
+    /// nodes as there are while another caller changed some, and never along links. Then the call is not in the history: it
     /// changed nothing in the map, and has no number.
     fn try_get<G: Gate>(
         arena: &A,
@@ -184,13 +184,13 @@ pub trait Template<N: Node, A: Shelf>: Ruled {
         ensures tried { HasTried N.layout Self.technique (A.site arena.now) (Get place)
             pass.old pass.new result };
 
-    /// Sets the value at a place, and answers the one that stood there; it waits for nobody. Splits that it made stay, also
-    /// where it is put off.
+    /// Sets the value at a place, and returns the one that was there before. It does not wait. Splits that it made remain,
+    /// also if it is put off.
     ///
     /// # Errors
     ///
-    /// `Full` as for `put`, with the number of the call; else it is put off, as `try_get`. That another caller changed some
-    /// nodes where the answer is `Far` is promised where no full node grows in place.
+    /// `Full` as for `put`, with the number of the call; else it is put off, as `try_get`. If it reports `Far`, another
+    /// caller changed some nodes: this is ensured if no full node grows in place.
     fn try_put<G: Gate>(
         arena: &A,
         pass: &mut Pass<N, Self::Rule>,
@@ -208,8 +208,8 @@ pub trait Template<N: Node, A: Shelf>: Ruled {
             HasTriedPut N.layout Self.technique (A.site arena.now) (Put place value)
             pass.old pass.new result };
 
-    /// Sets the value at a place where none stands, and answers the one that stood there, which then stays; it waits for
-    /// nobody.
+    /// Sets the value at a place that has none, and returns the one that was there before, which then remains. It does not
+    /// wait.
     ///
     /// # Errors
     ///
@@ -231,7 +231,7 @@ pub trait Template<N: Node, A: Shelf>: Ruled {
             HasTriedPut N.layout Self.technique (A.site arena.now) (Add place value)
             pass.old pass.new result };
 
-    /// Sets the value at a place to `new` where `old` stands, as `swap`, and waits for nobody.
+    /// Sets the value at a place to `new` if it is `old`, as `swap`. It does not wait.
     ///
     /// # Errors
     ///
@@ -251,8 +251,8 @@ pub trait Template<N: Node, A: Shelf>: Ruled {
         ensures tried { HasTried N.layout Self.technique (A.site arena.now) (Swap place old new)
             pass.old pass.new result };
 
-    /// Deletes what stands at a place, and answers it; it waits for nobody. Once the call is decided, a node that another
-    /// holds ends its merging, and no more.
+    /// Deletes the value at a place, and returns it. It does not wait. Once the call is decided, a node that another caller
+    /// holds ends its merging, and nothing else.
     ///
     /// # Errors
     ///

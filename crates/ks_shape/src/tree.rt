@@ -1,4 +1,4 @@
-//! Shapes of trees. Each asks that the pass holds its nodes with the bodies of the graph, and tells what they became.
+//! Shapes of trees. Each requires that the pass holds its nodes with the bodies of the graph, and says what they become.
 ghost use Rattle.std.specs.Prelude.{◌≡◌, ◌≢◌, ℕ, ◌<◌, ◌≤◌, IsTrue, Some, None, true, false};
 ghost use Rattle.ks_keysets.specs.Record.{LeadsTo};
 ghost use Rattle.ks_node.specs.Body.{content_of, is_branch, chained_of, only_child_of, right_child};
@@ -17,7 +17,7 @@ use ks_bodies::{tree_asks_law, tree_insets_law, tree_parts_law, tree_steps_law};
 use ks_flow::Tree;
 use ks_node::{Unlinked, node_law, unlinked_law};
 
-/// The node keeps what it has below the cut and leads to `right` itself, which gets the rest.
+/// The node keeps what it has below the cut and itself leads to `right`, which gets the rest.
 pub fn split_own<N: Unlinked>(
     arena: &Arena<N, Tree>,
     pass: &mut Pass<N, Tree>,

@@ -1,4 +1,4 @@
-//! What calls that wait for nobody answer where nobody is in their way.
+//! What non-blocking calls return while no other caller acts.
 ghost use Rattle.std.specs.Prelude.{ℕ, List, Result, IsTrue};
 ghost use Rattle.std.specs.Result.{is_ok};
 ghost use Rattle.ks_keysets.specs.Layout.{Layout};
@@ -14,9 +14,9 @@ ghost use Rattle.ks_shape.specs.Tries.{IsPutOff, Tried, TriedPut, IsDoneIn, MayT
 
 use ks_history::alone_law;
 
-/// Whoever acts alone, from a moment at which no other caller holds a node, is never put off: its call answers `Ok`; a put
-/// or an add `Ok`, or `Full` as due. By giving up alone a node is told to have moved, and along links never that the way is
-/// long. It computes nothing.
+/// While only one caller acts, from a moment at which no other holds a node, its calls are never put off: they return `Ok`,
+/// or a put or an add `Full` if it is due. Only giving up reports that a node moved, and along links `Far` is never
+/// reported. It computes nothing.
 pub fn tries_law()
     ensures never { (template : Template) (n c : ℕ) (op : Operation) (s0 s1 : List Happening) (later : Later) →
         ActsAlone c s0 s1 → HoldsAlone c s0 → ¬ IsPutOff template n c op s0 s1 later }

@@ -1,4 +1,4 @@
-//! The steps of a search that keeps the parent of its node, and waits for nobody.
+//! The steps of a non-blocking search that keeps the parent of its node.
 ghost use Rattle.std.specs.Prelude.{◌≡◌};
 ghost use Rattle.ks_node.specs.declared.start.Next.TheVariants.{Go};
 ghost use Rattle.ks_node.specs.Body.{next_at};
@@ -19,7 +19,7 @@ use ks_flow::Tree;
 use ks_gate::{Gate, Point};
 use ks_node::{Unlinked, node_law};
 
-/// Takes the root, unless another caller holds it. It does not tell the gate that a call begins.
+/// Takes the root, unless another caller holds it. It does not notify the gate that a call begins.
 pub fn try_enter<N: Unlinked, G: Gate>(
     arena: &Arena<N, Tree>,
     pass: &mut Pass<N, Tree>,
@@ -49,8 +49,8 @@ pub fn try_enter<N: Unlinked, G: Gate>(
     }
 }
 
-/// Takes the child to which the search goes on, and keeps the node as its parent; or gives the node, if another caller holds
-/// the child.
+/// Takes the child to which the search goes on, and keeps the node as its parent; or releases the node, if another caller
+/// holds the child.
 pub fn try_step_down<N: Unlinked, G: Gate>(
     arena: &Arena<N, Tree>,
     pass: &mut Pass<N, Tree>,

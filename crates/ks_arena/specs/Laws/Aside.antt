@@ -1,5 +1,5 @@
--- What a sound trace has for those who wait for nobody: each Shape leaves the keysets, and under trees the insets, of the
--- nodes that it does not name, and live nodes are nodes of the arena.
+-- Laws for calls that do not wait: in a sound trace each Shape leaves the keysets, and under trees the insets, of the nodes
+-- that it does not name, and live nodes are nodes of the arena.
 use Rattle.std.proofs.Common.{◌≡◌, ◌≢◌, ℕ, ◌<◌, ◌≤◌, ◌||◌, ◌⊎◌, inl, inr, Bool, false, List, [], ◌∷◌, None, Some, sym, refl, ap, ◌∙◌, ne_eqb, arith}
 use Rattle.std.specs.Prelude.{All}
 use Rattle.std.proofs.lemmas.List.Elements.{All-head, All-tail}

@@ -1,4 +1,4 @@
--- Laws of sound traces alone: each event is in turn, and nodes past the end of the arena stay free and are not named.
+-- Laws of sound traces: each event is in turn, and nodes past the end of the arena stay free and are not named.
 use Rattle.std.proofs.Common.{◌≡◌, ◌≢◌, ℕ, ◌<◌, ◌≤◌, List, [], ◌∷◌, sym, ap, ◌∙◌, ⊎_elim, arith}
 use Rattle.std.proofs.lemmas.Bool.{cases_lt}
 use Rattle.ks_keysets.specs.declared.Frame.{Frame}

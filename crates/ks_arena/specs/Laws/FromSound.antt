@@ -58,7 +58,7 @@ rested_kept e h i t s so = record {
   idle_is = λ z. let r = so.idle_is (sym t ∙ z) in (r.0, ap live_record s ∙ r.1);
 }
 
--- what a Give makes of a node
+-- what a node is after a Give
 rests_given : (s : NodeState) → (turn_given s ≡ free → given s ≡ Free) × (turn_given s ≡ idle → (r : Record) × (live_record (given s) ≡ Some r))
 rests_given Free = ((λ z. refl), (λ z. absurd (let q : ⊥ = cc in q)))
 rests_given (Claimed c) = ((λ z. refl), (λ z. absurd (let q : ⊥ = cc in q)))
@@ -113,7 +113,7 @@ written_record w Free = refl
 written_record w (Claimed c) = refl
 written_record w (Live r) = refl
 
--- where the pairs that a write leaves have their places
+-- the pairs that a write leaves are at places for which Q holds
 pub places_in : (Q : ℕ → Type 0) → Write → Type 0
 places_in Q keeps = Unit {0}
 places_in Q (sets p v) = Q p
@@ -183,7 +183,7 @@ either_once : (b : Bool) (xs ys : List Pair) → (b ≡ true → Once xs) → (b
 either_once true xs ys a b = a refl
 either_once false xs ys a b = b refl
 
--- where nothing is found at a place, no pair has it
+-- if nothing is found at a place, no pair has it
 absent : (xs : List Pair) (p : ℕ) → is_some (first_value xs p) ≡ false → All (λ (y : Pair). y.place ≢ p) xs
 absent [] p e = All-nil (λ (y : Pair). y.place ≢ p)
 absent (x ∷ xs) p e = dite (ℕ_discrete x.place p)
@@ -203,7 +203,7 @@ once_with (removes p) xs once = AllPairs-filter (λ (x y : Pair). x.place ≡ y.
 
 -- good graphs with the same edges
 
--- each pair stands in its node's keyset, once
+-- each pair is in its node's keyset, once
 pub record Stored (g : ℕ → NodeState) : Type 0 where
   pub stored : (n : ℕ) (r : Record) → record_at g n ≡ Some r → All (λ x. InKeyset g n x.place) r.pairs
   pub once : (n : ℕ) (r : Record) → record_at g n ≡ Some r → AllPairs (λ x y. x.place ≡ y.place → ⊥) r.pairs

@@ -13,7 +13,7 @@ use Rattle.ks_history.specs.Laws.Stays.{lawful_in_turn}
 use Rattle.ks_history.specs.Laws.Turns.{free_not_live, idle_live}
 use Rattle.ks_arena.specs.Reuse.{NoEdgeTo, AreSafe, ReusesSafely}
 
--- in a good graph edges lead to live nodes alone
+-- in a good graph edges lead only to live nodes
 no_edge : (g : ℕ → NodeState) (i : ℕ) → Good g → ¬ IsLive g i → NoEdgeTo g i
 no_edge g i good not = λ n r is any. not (subst (IsLive g) (ap (λ e. e.node) any.3 ∙ any.4) (good.leads n r is any.0 any.1 any.2))
 

@@ -1,4 +1,4 @@
--- Laws of what the calls of the arena tell: how what they tell adds up.
+-- Laws of what the calls of the arena ensure: how it adds up over several calls.
 use Rattle.std.proofs.Common.{◌≡◌, ℕ, List, ◌∷◌, sym, refl, ap, ◌∙◌, subst}
 use Rattle.ks_history.specs.declared.Event.{Event}
 use Rattle.ks_history.specs.declared.Event.TheVariants.{Take, Claim}
@@ -19,7 +19,7 @@ looked_both c g h k a b = record { grows = by_others_both c g h k a.grows b.grow
 pub kept_both : (c : ℕ) (g h k : List Event) → Kept c g h → Kept c h k → Kept c g k
 kept_both c g h k a b j x = let p = a j x in let q = b j p.turn in record { turn = q.turn; state = q.state ∙ p.state; frame = λ blank. q.frame blank ∙ p.frame blank }
 
--- a node that was taken between two moments was so between an earlier and a later one
+-- a node that was taken between two moments was taken between an earlier and a later one
 pub taken_within : (f g h k : List Event) (j : ℕ) → f ⊑ g → h ⊑ k → WasTaken g h j → WasTaken f k j
 taken_within f g h k j a b so = record { moment = so.moment; since = begins_both f g so.moment a so.since; until = begins_both so.moment h k so.until b; so = so.so }
 

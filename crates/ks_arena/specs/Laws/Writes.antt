@@ -1,4 +1,4 @@
--- What a put and a del make of ascending pairs is what their calls write, and of where a search ends: no branch.
+-- A put and a del do to ascending pairs what their calls write; and a search ends at no branch.
 use Rattle.std.specs.Prelude.{◌≡◌, ℕ, suc, ◌<◌, ◌≤◌, ◌==◌, Bool, true, false, cond, is_some, nat_lt, List, [], ◌∷◌, All, None, refl}
 use Rattle.std.proofs.Common.{arith, ap, ◌∙◌, sym, inl, inr}
 use Rattle.std.proofs.lemmas.Bool.{lt-ltb, le-ltb}

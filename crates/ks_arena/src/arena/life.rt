@@ -88,7 +88,7 @@ fn crew<N: Node, D: Discipline>(
 }
 
 impl<N: Node, D: Discipline> Arena<N, D> {
-    /// An arena of so many nodes, of which node 0 is live and the others are free, and a pass for each caller.
+    /// An arena of this many nodes, of which node 0 is live and the others are free, and a pass for each caller.
     pub fn start(
         alloc: Global,
         nodes: u32,
@@ -115,7 +115,7 @@ impl<N: Node, D: Discipline> Arena<N, D> {
         Ok((arena, passes))
     }
 
-    /// Ends the arena. The passes are all that `start` gave, and hold no node.
+    /// Ends the arena. The passes are all that `start` returned, and hold no node.
     pub fn close(self, mut passes: Vec<Pass<N, D>>) -> Run<N>
         requires { AreAllPassesOf self passes.items }
         ensures run { IsRun (sort_of N.layout N.ranged) N.body (nodes_of self) result }

@@ -1,4 +1,4 @@
--- A caller that acts alone: where no other holds a node at first, none does later, and no refusal of it is due.
+-- While no other caller acts: if no other holds a node at first, none does later, and no refusal of the caller is due.
 use Rattle.std.proofs.Common.{◌≡◌, ◌≢◌, ℕ, zero, suc, List, [], ◌∷◌, ◌++◌, sym, refl, ap, ◌∙◌, subst, append_assoc, arith}
 use Rattle.std.specs.Prelude.{Any}
 use Rattle.std.proofs.lemmas.List.{append_cancel_right}
@@ -13,7 +13,7 @@ use Rattle.ks_history.specs.Due.{ShapesFor, ShapesBesides, BusyDue, MovedDue, Fa
 use Rattle.ks_history.specs.Laws.Stays.{others_turn}
 use Rattle.ks_history.specs.Alone.{AllBy, ActsAlone, HoldsAlone}
 
--- who acts alone and does nothing sees nothing happen
+-- if only one caller acts, and it does nothing, there is no event
 nobody_acts : (c : ℕ) (es : List Event) → AllBy c es → NoneBy c es → es ≡ []
 nobody_acts c [] own others = refl
 nobody_acts c (e ∷ es) own others = absurd (others.0 own.0)
@@ -22,7 +22,7 @@ pub alone_still : (c : ℕ) (h k : List Event) → ActsAlone c h k → GrowsByOt
 alone_still c h k alone grows = let same : grows.rest ≡ alone.rest = append_cancel_right grows.rest alone.rest h (sym grows.is ∙ alone.is) in
     let none_left : alone.rest ≡ [] = nobody_acts c alone.rest alone.own (subst (NoneBy c) same grows.others) in alone.is ∙ ap (λ (z : List Event). z ++ h) none_left
 
--- who acts alone does so at first, and then
+-- if all events are of one caller, so are the newer ones
 own_newer : (c : ℕ) (es fs : List Event) → AllBy c (es ++ fs) → AllBy c es
 own_newer c [] fs own = tt
 own_newer c (e ∷ es) fs own = (own.0, own_newer c es fs own.1)
@@ -41,7 +41,7 @@ alone_first c h m k a b alone = record { rest = a.rest; is = a.is; own = own_old
 pub alone_then : (c : ℕ) (h m k : List Event) → h ⊑ m → m ⊑ k → ActsAlone c h k → ActsAlone c m k
 alone_then c h m k a b alone = record { rest = b.rest; is = b.is; own = own_newer c b.rest a.rest (parts c h m k a b alone) }
 
--- who acts alone while no other holds a node sees no other hold one
+-- if all events are of one caller and no other held a node, no other comes to hold one
 own_none : (c d : ℕ) (es : List Event) → d ≢ c → AllBy c es → NoneBy d es
 own_none c d [] apart own = tt
 own_none c d (e ∷ es) apart own = ((λ same. apart (sym same ∙ own.0)), own_none c d es apart own.1)

@@ -1,4 +1,4 @@
--- Laws of traces: how what a caller sees of a trace adds up, and what holds at its beginnings.
+-- Laws of traces: how the growths of a trace that a caller sees add up, and what holds at its beginnings.
 use Rattle.std.proofs.Common.{◌≡◌, ℕ, inl, inr, List, [], ◌∷◌, ◌++◌, sym, refl, ap, ◌∙◌, subst, append_assoc}
 use Rattle.ks_keysets.specs.Keyset.{Good}
 use Rattle.ks_history.specs.declared.Event.{Event}
@@ -99,7 +99,7 @@ good_older : (rest h : List Event) → GoodThroughout (rest ++ h) → GoodThroug
 good_older [] h good = good
 good_older (e ∷ es) h good = good_older es h (good_earlier good)
 
--- what a caller sees of the trace adds up
+-- growths of a trace add up
 
 abbrev pub by_others_none : (c : ℕ) (h : List Event) → GrowsByOthers c h h
 by_others_none c h = record { rest = []; is = refl; others = tt }

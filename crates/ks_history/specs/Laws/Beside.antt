@@ -85,7 +85,7 @@ any_newer P [] fs (k, x, lt, is, so) = absurd (omega arith)
 any_newer P (e ∷ es) fs (zero, x, lt, is, so) = (0, e, omega arith, refl, subst P (sym is) so)
 any_newer P (e ∷ es) fs (suc k, x, lt, is, so) = any_later P e (es ++ fs) (any_newer P es fs (k, x, omega arith, is, so))
 
--- own events that spare a node
+-- own events of which no Shape names the node
 pub spare_both : (c i : ℕ) (es fs : List Event) → OwnSpare c i es → OwnSpare c i fs → OwnSpare c i (es ++ fs)
 spare_both c i [] fs spare spare' = spare'
 spare_both c i (e ∷ es) fs spare spare' = (spare.0, spare_both c i es fs spare.1 spare')
@@ -101,7 +101,7 @@ quiet_spares i (Claim d j) none so = so
 quiet_spares i (Shape d changes) none so = none
 quiet_spares i (Call d j op reply) none so = so
 
--- a Shape of another than c names the node, or none does if c's own spare it
+-- a list of changes names the node, or does not; so a Shape of another than c names it, if one does and none of c's own
 named_or_not : (i : ℕ) (changes : List Change) → Any (λ x. x.node ≡ i) changes ⊎ (Any (λ x. x.node ≡ i) changes → ⊥)
 named_or_not i [] = inr (λ a. omega (arith, a.2))
 named_or_not i (x ∷ xs) = dite (ℕ_discrete x.node i)
@@ -134,8 +134,8 @@ shaped_or_spared c i (e ∷ es) spare = elim (for_or_not c i e spare.0) [
   ]
 ]
 
--- the root is on the way of each place; the target of an edge that carries a place of its node's inset is on its way too,
--- and has it in its inset
+-- the root is on the search path of each place; if a node has the place in its inset, the target of its edge that carries
+-- the place is on the path too, and has it in its inset
 pub root_on_way : (g : ℕ → NodeState) (p : ℕ) → Good g → IsPlace p → IsOnWay g p 0 × InInset g 0 p
 root_on_way g p good place = (inl refl, (place, at_root good.root))
 
@@ -147,8 +147,8 @@ first_after (e ∷ es) before = elim (first_after es before) [
   | inr some ↦ inr (some.0, record { rest = e ∷ some.1.rest; is = ap (λ (z : List Event). e ∷ z) some.1.is })
 ]
 
--- a place that was in the inset of a node on its way, and no longer is: if the caller's own Shapes spared the node, Moved
--- is due
+-- if a place was in the inset of a node on its search path, and no longer is, and no Shape of the caller named the node,
+-- Moved is due
 pub moved_due : (c i p : ℕ) (op : Op) (s0 before after s1 : List Event) → s0 ⊑ before → (later : before ⊑ after) → after ⊑ s1 → Touches op p → AreInTurn after → AreBeside InInset after → OwnSpare c i later.rest
     → IsOnWay (graph_after before) p i → InInset (graph_after before) i p → ¬ InInset (graph_after after) i p → MovedDue c op s0 s1 i
 moved_due c i p op s0 before after s1 since later until touched are beside spare on_way inside gone =

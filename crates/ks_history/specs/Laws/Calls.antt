@@ -1,4 +1,4 @@
--- Laws of traces: which calls of a caller stand in a trace as it goes on, and after a call that is done or left.
+-- Laws of traces: which calls of a caller are in a trace as it grows, and after a call that is done or left.
 use Rattle.std.proofs.Common.{◌≡◌, ◌==◌, ℕ, List, [], ◌∷◌, ◌++◌, Option, Some, None, sym, refl, ap, ◌∙◌}
 use Rattle.std.specs.Prelude.{if◌then◌else◌}
 use Rattle.ks_keysets.specs.Layout.{Layout}
@@ -41,7 +41,7 @@ calls_more_by h c e op reply is = ap after is ∙ calls_more h c 0 op reply
 pub by_others_calls : (c : ℕ) (g h : List Event) → GrowsByOthers c g h → calls_by c h ≡ calls_by c g
 by_others_calls c g h so = ap (calls_by c) so.is ∙ calls_kept so.rest g c (none_no_call c so.rest so.others)
 
--- a call that is done stands last among the calls of its caller, once, with its number
+-- a call that is done is the last among the calls of its caller, once, with its number
 pub done_calls : (layout : Layout) (template : Template) (n c : ℕ) (op : Op) (s0 s1 : List Event) (reply : Reply) (number : ℕ) → Done layout template n c op s0 s1 reply number → calls_by c s1 ≡ calls_by c s0 ++ numbered number op reply ∷ []
 done_calls layout template n c op s0 s1 reply number done =
     let h : List Event = done.before ++ s0 in
@@ -51,6 +51,6 @@ done_calls layout template n c op s0 s1 reply number done =
     ∙ ap (λ (k : ℕ). calls_by c h ++ numbered k op reply ∷ []) (sym done.numbered)
     ∙ ap (λ (z : List NumberedCall). z ++ numbered number op reply ∷ []) (calls_kept done.before s0 c done.none_before)
 
--- one that is left does not stand among them
+-- one that is left is not among them
 pub left_calls : (template : Template) (c : ℕ) (op : Op) (s0 s1 : List Event) → Left template c op s0 s1 → calls_by c s1 ≡ calls_by c s0
 left_calls template c op s0 s1 left = ap (calls_by c) left.is ∙ calls_kept left.rest s0 c left.none

@@ -1,5 +1,5 @@
--- Laws of descents: a caller that goes down along edges from the root stands ever deeper, whatever its own Shapes do below
--- it, unless another makes a Shape. So one that took as many nodes as there are, and would take one more, may say Far.
+-- Laws of descents: a caller that goes down along edges from the root is ever deeper, whatever its own Shapes do below it,
+-- unless another makes a Shape. So one that took as many nodes as there are, and would take one more, may report Far.
 use Rattle.std.proofs.Common.{◌≡◌, ◌≢◌, ℕ, suc, ◌==◌, ◌<◌, ◌≤◌, ◌⊎◌, inl, inr, cond, List, [], ◌∷◌, ◌++◌, length, get_or, Option, Some, None, sym, refl, ap, ◌∙◌, subst, arith}
 use Rattle.std.specs.Prelude.{All, Any, count_by}
 use Rattle.std.proofs.lemmas.List.{append_cancel_right}
@@ -28,7 +28,7 @@ use Rattle.ks_history.specs.Laws.Far.{IsNoShape, NoShapes, NoShapesBesides, shap
 use Rattle.ks_history.specs.Laws.Beside.{edges_back, any_newer, any_older}
 use Rattle.ks_history.specs.Descent.{IsDeep, TookSince}
 
--- node m is i, or c has claimed it, or an edge leads to it from a node that c holds and that is so
+-- node m is i, or c has claimed it, or an edge leads to it from a node that c holds and that is itself under i
 pub data HeldUnder (h : List Event) (c i : ℕ) : ℕ → Type 0 where
   the_node : HeldUnder h c i i
   claimed : {m : ℕ} → turn_after h m ≡ held c → record_at (graph_after h) m ≡ None → HeldUnder h c i m
@@ -39,25 +39,25 @@ abbrev pub OwnQuiet : ℕ → List Event → Type 0
 OwnQuiet c [] = Unit {0}
 OwnQuiet c (e ∷ es) = (caller_of e ≡ c → IsNoShape e) × OwnQuiet c es
 
--- the root lies no step deep, whenever a descent begins
+-- the root is 0 steps deep, whenever a descent begins
 pub deep_at_root : (n c : ℕ) (s0 h : List Event) → s0 ⊑ h → IsDeep n c [] s0 h 0 0
 deep_at_root n c s0 h begins = record { grows = begins; deep = inr (deep_root (graph_after h) n) }
 
--- the target of an edge lies one step deeper
+-- the target of an edge is one step deeper
 pub deep_down : (n c : ℕ) (gone : List ℕ) (s0 h : List Event) (steps i j : ℕ) (r : Record) → IsDeep n c gone s0 h steps i → record_at (graph_after h) i ≡ Some r → Any (λ e. e.node ≡ j) r.edges → IsDeep n c gone s0 h (suc steps) j
 deep_down n c gone s0 h steps i j r so is leads = record {
   grows = so.grows;
   deep = elim so.deep [ inl any ↦ inl any | inr deep ↦ inr (deep_next (graph_after h) n gone steps i j r deep is leads) ];
 }
 
--- what lies so deep lies at least less deep
+-- a node that is `steps` deep is also `fewer` deep
 pub deep_less : (n c : ℕ) (gone : List ℕ) (s0 h : List Event) (fewer steps i : ℕ) → fewer ≤ steps → IsDeep n c gone s0 h steps i → IsDeep n c gone s0 h fewer i
 deep_less n c gone s0 h fewer steps i less so = record {
   grows = so.grows;
   deep = elim so.deep [ inl any ↦ inl any | inr deep ↦ inr (deep_fewer (graph_after h) n gone fewer steps i less deep) ];
 }
 
--- while c makes no Shape
+-- after events among which is no Shape
 quiet_event : (c : ℕ) (e : Event) → (caller_of e ≡ c → IsNoShape e) → (¬ ShapesBesides c e) → IsNoShape e
 quiet_event c (Take d i) own other = tt
 quiet_event c (Give d i) own other = tt
@@ -73,7 +73,7 @@ edges_stay_back : (rest h : List Event) → NoShapes rest → KeepsEdges (graph_
 edges_stay_back [] h none = record { at = λ n r is. (r, is, refl) }
 edges_stay_back (e ∷ es) h none = edges_both (graph_after (e ∷ (es ++ h))) (graph_after (es ++ h)) (graph_after h) (edges_back (es ++ h) e none.0) (edges_stay_back es h none.1)
 
--- what is not live where no live node is added
+-- what is not live remains so if no live node is added
 not_live : (g k : ℕ → NodeState) (m : ℕ) → KeepsEdges k g → record_at g m ≡ None → record_at k m ≡ None
 not_live g k m back none = go (record_at k m) refl
   where
@@ -87,7 +87,7 @@ deep_quiet n gone steps i rest h none are deep =
     (λ k d lt. not_live (graph_after h) (graph_after (rest ++ h)) (get_or gone k d) (edges_stay_back rest h none) (deep.dead k d lt))
     deep
 
--- a node stays as deep as it lies while c makes no Shape, whoever else acts
+-- a node remains as deep while c makes no Shape, whatever others do
 pub deep_while : (n c : ℕ) (gone : List ℕ) (s0 g h : List Event) (steps i : ℕ) → (grows : g ⊑ h) → OwnQuiet c grows.rest → AreInTurn h → IsDeep n c gone s0 g steps i → IsDeep n c gone s0 h steps i
 deep_while n c gone s0 g h steps i grows quiet are so = record {
   grows = begins_both s0 g h so.grows grows;
@@ -105,21 +105,21 @@ others_quiet : (c : ℕ) (es : List Event) → NoneBy c es → OwnQuiet c es
 others_quiet c [] none = tt
 others_quiet c (e ∷ es) none = ((λ own. absurd (none.0 own)), others_quiet c es none.1)
 
--- by events of others alone
+-- after events of others only
 pub deep_others : (n c : ℕ) (gone : List ℕ) (s0 g h : List Event) (steps i : ℕ) → GrowsByOthers c g h → AreInTurn h → IsDeep n c gone s0 g steps i → IsDeep n c gone s0 h steps i
 deep_others n c gone s0 g h steps i so are deep = deep_while n c gone s0 g h steps i (record { rest = so.rest; is = so.is }) (others_quiet c so.rest so.others) are deep
 
--- and by one event of c that is no Shape
+-- and after one event of c that is no Shape
 pub deep_with : (n c : ℕ) (e : Event) (gone : List ℕ) (s0 g h : List Event) (steps i : ℕ) → IsNoShape e → GrowsWith c e g h → AreInTurn h → IsDeep n c gone s0 g steps i → IsDeep n c gone s0 h steps i
 deep_with n c e gone s0 g h steps i none so are deep = deep_while n c gone s0 g h steps i (record { rest = e ∷ so.rest; is = so.is }) ((λ own. none), others_quiet c so.rest so.others) are deep
 
--- by a Shape of c of nodes that are under it
+-- at a Shape of c of nodes that are under the node
 held_under_is : (h : List Event) (c i m : ℕ) → HeldUnder h c i m → Under (graph_after h) i m
 held_under_is h c i m the_node = itself
 held_under_is h c i m (claimed mine none) = absent none
 held_under_is h c i m (target {a = a} r u mine is leads) = onward r (held_under_is h c i a u) is leads
 
--- what is under it stays so, if others alone act meanwhile
+-- what is under it remains so, if only others act meanwhile
 pub held_under_later : (g h : List Event) (c i m : ℕ) → GrowsByOthers c g h → AreInTurn h → HeldUnder g c i m → HeldUnder h c i m
 held_under_later g h c i m so are the_node = the_node
 held_under_later g h c i m so are (claimed mine none) = let stays : StaysHeld c m g h = by_others_keeps c m g h so are mine in claimed stays.turn (ap live_record stays.state ∙ none)
@@ -129,7 +129,7 @@ held_under_later g h c i m so are (target {a = a} r u mine is leads) =
 kept_above : (c i : ℕ) (changes : List Change) (h : List Event) → All (λ x. Under (graph_after h) i x.node) changes → KeptAbove (graph_after h) i (graph_after (Shape c changes ∷ h))
 kept_above c i changes h under = record { same = λ m above. ap live_record (shaped_else changes m (graph_after h m) (λ k d lt same. above (subst (λ (z : ℕ). Under (graph_after h) i z) same (under k d lt)))) }
 
--- events of others and then a Shape of c, by what the Shape does just then
+-- events of others and then a Shape of c, by what the Shape does at that moment
 shaping : (n c : ℕ) (changes : List Change) (gone gone' : List ℕ) (s0 g h : List Event) (steps steps' i : ℕ) → (so : GrowsWith c (Shape c changes) g h) → AreInTurn h
     → (Deep (graph_after (so.rest ++ g)) n gone steps i → Deep (graph_after (Shape c changes ∷ (so.rest ++ g))) n gone' steps' i) → IsDeep n c gone s0 g steps i → IsDeep n c gone' s0 h steps' i
 shaping n c changes gone gone' s0 g h steps steps' i so are acts deep = let before : IsDeep n c gone s0 m steps i = deep_others n c gone s0 g m steps i others turns deep in go before.grows before.deep
@@ -155,7 +155,7 @@ just_before : (c i : ℕ) (changes : List Change) (g h : List Event) → (so : G
 just_before c i changes g h so are under k d lt =
     held_under_is (so.rest ++ g) c i (get_or changes k d).node (held_under_later g (so.rest ++ g) c i (get_or changes k d).node (record { rest = so.rest; is = refl; others = so.others }) (subst AreInTurn so.is are).0 (under k d lt))
 
--- no node has gone yet, or each node that the changes name was live: so none that has gone comes back
+-- no node is gone yet, or each node that the changes name was live: so no node that is gone comes back
 abbrev pub NoneBack : List ℕ → List Event → List Change → Type 0
 NoneBack gone h changes = (gone ≡ []) ⊎ All (λ x. IsLive (graph_after h) x.node) changes
 
@@ -175,7 +175,7 @@ none_back_later c changes gone g h so are (inr live) =
     let others : GrowsByOthers c g m = record { rest = so.rest; is = refl; others = so.others } in
     inr (λ k d lt. let i : ℕ = (get_or changes k d).node in let stays : StaysHeld c i g m = by_others_keeps c i g m others turns.0 (by_others_turn c i g m others (turns.1 k d lt)) in let is = live k d lt in (is.0, ap live_record stays.state ∙ is.1))
 
--- a node stays as deep as it lies where a Shape of c names nothing but nodes under it
+-- a node remains as deep if a Shape of c names only nodes under it
 pub deep_shaping : (n c : ℕ) (changes : List Change) (gone : List ℕ) (s0 g h : List Event) (steps i : ℕ) → (so : GrowsWith c (Shape c changes) g h) → AreInTurn h → OneParent (graph_after (so.rest ++ g)) → All (λ x. HeldUnder g c i x.node) changes
     → NoneBack gone g changes → IsDeep n c gone s0 g steps i → IsDeep n c gone s0 h steps i
 deep_shaping n c changes gone s0 g h steps i so are one under back deep =
@@ -185,7 +185,7 @@ deep_shaping n c changes gone s0 g h steps i so are one under back deep =
     (still_gone c changes gone m (none_back_later c changes gone g h so are back) at.dead) at)
     deep
 
--- and where the Shape makes a live node free, that counts as a step
+-- and if the Shape makes a live node free, that counts as a step more
 pub deep_freeing : (n c : ℕ) (changes : List Change) (gone : List ℕ) (s0 g h : List Event) (steps i x : ℕ) → (so : GrowsWith c (Shape c changes) g h) → AreInTurn h → OneParent (graph_after (so.rest ++ g)) → All (λ y. HeldUnder g c i y.node) changes
     → NoneBack gone g changes → x < n → turn_after g x ≡ held c → IsLive (graph_after g) x → record_at (graph_after h) x ≡ None → IsDeep n c gone s0 g steps i → IsDeep n c (x ∷ gone) s0 h (suc steps) i
 deep_freeing n c changes gone s0 g h steps i x so are one under back lt mine live free deep =
@@ -232,7 +232,7 @@ took_while c s0 g h taken roots grows none so =
       root = subst (λ (xs : List ℕ). count_by (λ i. i == 0) xs ≤ roots) (sym same) so.root;
     }
 
--- a Take of c counts, and one of the root as such
+-- a Take of c counts, and one of the root among those of the root
 takes_more : (c i : ℕ) (es fs : List Event) → NoneBy c es → takes_by c (Take c i ∷ (es ++ fs)) ≡ i ∷ takes_by c fs
 takes_more c i es fs none = cond_here c c (i ∷ takes_by c (es ++ fs)) (takes_by c (es ++ fs)) refl ∙ ap (λ (xs : List ℕ). i ∷ xs) (takes_none c es fs none)
 
@@ -263,7 +263,7 @@ took_node c i s0 g h taken roots apart so took =
       root = subst (λ (xs : List ℕ). count_by (λ i. i == 0) xs ≤ roots) (sym more) (let e = count_else i (takes_by c took.grows.rest) apart in omega (arith, root, e));
     }
 
--- Far is due where c took as many nodes as there are, each one step deeper than the one before, and would go down to one
+-- Far is due if c took as many nodes as there are, each one step deeper than the one before, and would go down to one
 -- more
 pub far_due : (n c : ℕ) (gone : List ℕ) (s0 h : List Event) (taken roots steps i j : ℕ) (r : Record) → TookSince c s0 h taken roots → roots ≤ 2 → n ≤ taken → IsDeep n c gone s0 h steps i → taken ≤ suc steps → OneParent (graph_after h) → ((m : ℕ) → IsLive (graph_after h) m → m < n)
     → record_at (graph_after h) i ≡ Some r → Any (λ e. e.node ≡ j) r.edges → IsLive (graph_after h) j → FarDue n c s0 h
@@ -280,9 +280,9 @@ far_due n c gone s0 h taken roots steps i j r took twice all so counted one few 
     go (inl any) = any
     go (inr deep) = let less = deep_bound (graph_after h) n gone (suc steps) j one few (deep_next (graph_after h) n gone steps i j r deep is leads) live in absurd (omega (arith, less, all, counted))
 
--- refusals that were due stay so as the trace goes on
+-- refusals that were due remain due as the trace grows
 
--- Far, where c takes no node afterwards
+-- Far, if c takes no node afterwards
 pub far_later : (n c : ℕ) (s0 h k : List Event) → (grows : h ⊑ k) → NoTakeBy c grows.rest → FarDue n c s0 h → FarDue n c s0 k
 far_later n c s0 h k grows none due =
     let same : takes_by c (grows.rest ++ due.grows.rest) ≡ takes_by c due.grows.rest = takes_both c grows.rest due.grows.rest none in record {

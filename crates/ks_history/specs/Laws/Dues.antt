@@ -1,4 +1,4 @@
--- Laws of traces: what is due stays due for an earlier beginning, how a Full becomes due, and where the last call stands.
+-- Laws of traces: what is due stays due for an earlier beginning, how a Full becomes due, and where the last call is.
 use Rattle.std.proofs.Common.{◌≡◌, ◌≢◌, ℕ, ◌<◌, inl, inr, List, [], ◌∷◌, ◌++◌, sym, refl, ap, ◌∙◌, subst, append_assoc}
 use Rattle.std.proofs.lemmas.List.{append_cancel_right}
 use mathlib.Core.Logic.{dite}
@@ -20,7 +20,7 @@ use Rattle.ks_history.specs.Stays.{StaysHeld}
 use Rattle.ks_history.specs.Laws.Stays.{AreInTurn, cond_here, cond_else}
 use Rattle.ks_history.specs.Laws.Begins.{none_by_older, begins_self, begins_more, begins_both, by_others_keeps, by_others_turn, in_turn_begins}
 
--- that no node was free stays so as the trace grows, and for an earlier beginning
+-- that no node was free remains so as the trace grows, and for an earlier beginning
 
 pub none_free_later : (layout : Layout) (n c place : ℕ) (s h k : List Event) → h ⊑ k → NoneFree layout n c place s h → NoneFree layout n c place s k
 none_free_later layout n c place s h k begins none = record {
@@ -56,7 +56,7 @@ full_due_earlier layout n r s h e begins due = record {
 pub sometime_wider : (r s t u : List Event) (P : List Event → Type 0) → r ⊑ s → t ⊑ u → Sometime s t P → Sometime r u P
 sometime_wider r s t u P left right so = record { moment = so.moment; since = begins_both r s so.moment left so.since; until = begins_both so.moment t u so.until right; so = so.so }
 
--- what c holds is live as long as others alone act
+-- what c holds is live as long as only others act
 
 pub live_while_waiting : (c : ℕ) (g h : List Event) → GrowsByOthers c g h → AreInTurn h → HoldsLive g c → HoldsLive h c
 live_while_waiting c g h so are live j mine =
@@ -65,7 +65,7 @@ live_while_waiting c g h so are live j mine =
     let l : IsLive (graph_after g) j = live j before in
     (l.0, ap live_record stays.state ∙ l.1)
 
--- a node that may grow still may where its record and its keyset at the place stay
+-- a node that may grow still may if its record and its keyset at the place remain
 pub may_grow_along : (layout : Layout) (g k : ℕ → NodeState) (node place : ℕ) → record_at k node ≡ record_at g node → (InKeyset g node place → InKeyset k node place) → MayGrow layout g node place → MayGrow layout k node place
 may_grow_along list_layout g k node place same keyset grows = grows
 may_grow_along bplus_layout g k node place same keyset grows = (grows.0, grows.1, same ∙ grows.2, grows.3)
@@ -89,7 +89,7 @@ live_but_while_waiting layout place c g h so are b one keyset =
           (l.0, ap live_record stays.state ∙ l.1);
     }
 
--- a beginning between two traces, when others alone act from the one to the other
+-- a beginning between two traces, if only others act from the one to the other
 pub between_by_others : (c : ℕ) (g k h : List Event) → g ⊑ k → (b : k ⊑ h) → (a : g ⊑ h) → NoneBy c a.rest → GrowsByOthers c g k
 between_by_others c g k h gk kh gh none =
     let both : k ≡ gk.rest ++ g = gk.is in
@@ -98,8 +98,8 @@ between_by_others c g k h gk kh gh none =
     let rests : gh.rest ≡ kh.rest ++ gk.rest = sym (append_cancel_right (kh.rest ++ gk.rest) gh.rest g same) in
     record { rest = gk.rest; is = both; others = none_by_older c kh.rest gk.rest (subst (NoneBy c) rests none) }
 
--- no node was free if others alone act from one moment to another, at the first of which all that the caller holds is
--- live, and every node is at some moment between not free
+-- no node was free if only others act from one moment to another, at the first of which all that the caller holds is live,
+-- and every node is at some moment between not free
 pub none_free_by : (layout : Layout) (n c place : ℕ) (s from to h : List Event) → s ⊑ from → GrowsByOthers c from to → to ⊑ h → AreInTurn h
     → HoldsLive from c → ((j : ℕ) → j < n → Sometime from to (λ k. turn_after k j ≢ free)) → NoneFree layout n c place s h
 none_free_by layout n c place s from to h since so before are live taken =
@@ -115,7 +115,7 @@ none_free_by layout n c place s from to h since so before are live taken =
       taken = λ j lt. let t = taken j lt in (t.moment, t.since, t.until, t.so);
     }
 
--- and so if it holds a node that it has claimed, and one that may grow, whose keyset at the place stays meanwhile
+-- the same if it holds a node that it has claimed, and one that may grow, whose keyset at the place stays meanwhile
 pub none_free_but : (layout : Layout) (n c place : ℕ) (s from to h : List Event) → s ⊑ from → GrowsByOthers c from to → to ⊑ h → AreInTurn h
     → (b : HoldsLiveBut layout place from c) → turn_after from b.one ≡ held c → ((k : List Event) → from ⊑ k → k ⊑ to → InKeyset (graph_after from) b.node place → InKeyset (graph_after k) b.node place)
     → ((j : ℕ) → j < n → Sometime from to (λ k. turn_after k j ≢ free)) → NoneFree layout n c place s h
@@ -132,7 +132,7 @@ none_free_but layout n c place s from to h since so before are live one keyset t
       taken = λ j lt. let t = taken j lt in (t.moment, t.since, t.until, t.so);
     }
 
--- the last call of a caller, where events among which is no call of it follow a trace
+-- the last call of a caller is the same after more events without a call of it
 
 pub last_call_kept : (c : ℕ) (rest s : List Event) → NoCallBy c rest → last_call c (rest ++ s) ≡ last_call c s
 last_call_kept c [] s none = refl
@@ -142,7 +142,7 @@ last_call_kept c (Claim d i ∷ es) s none = last_call_kept c es s none
 last_call_kept c (Shape d changes ∷ es) s none = last_call_kept c es s none
 last_call_kept c (Call d i op reply ∷ es) s none = cond_else d c (Call d i op reply ∷ (es ++ s)) (last_call c (es ++ s)) none.0 ∙ last_call_kept c es s none.1
 
--- it lies in the trace
+-- it is a beginning of the trace
 pub last_call_begins : (c : ℕ) (h : List Event) → last_call c h ⊑ h
 last_call_begins c [] = begins_self []
 last_call_begins c (Take d i ∷ h) = begins_both (last_call c h) h (Take d i ∷ h) (last_call_begins c h) (begins_more (Take d i) h)
@@ -153,11 +153,11 @@ last_call_begins c (Call d i op reply ∷ h) = dite (ℕ_discrete d c)
     (λ own. subst (λ (z : List Event). z ⊑ Call d i op reply ∷ h) (sym (cond_here d c (Call d i op reply ∷ h) (last_call c h) own)) (begins_self (Call d i op reply ∷ h)))
     (λ other. subst (λ (z : List Event). z ⊑ Call d i op reply ∷ h) (sym (cond_else d c (Call d i op reply ∷ h) (last_call c h) other)) (begins_both (last_call c h) h (Call d i op reply ∷ h) (last_call_begins c h) (begins_more (Call d i op reply) h)))
 
--- and so before those events
+-- and of the trace before those events
 pub last_call_before : (c : ℕ) (rest s : List Event) → NoCallBy c rest → last_call c (rest ++ s) ⊑ s
 last_call_before c rest s none = subst (λ (z : List Event). z ⊑ s) (sym (last_call_kept c rest s none)) (last_call_begins c s)
 
--- where no node was free since s, and c made no call since s, a Full that finds no room is due
+-- if no node was free since s, and c made no call since s, a Full that finds no room is due
 pub is_due_by : (layout : Layout) (n place : ℕ) (s h : List Event) (e : Event) → FindsNoRoom layout (graph_after h) e place → NoneFree layout n (caller_of e) place s h → (begins : s ⊑ h) → NoCallBy (caller_of e) begins.rest
     → FullDue layout n (last_call (caller_of e) h) h e
 is_due_by layout n place s h e no_room none begins quiet = record {
@@ -187,8 +187,8 @@ no_room_place layout g i p q (Del k) at none = absurd none
 no_room_place layout g i p q (Add k v) at none = at ∙ none.0
 no_room_place layout g i p q (Swap k old new) at none = absurd none
 
--- a Full that is due is due at a later moment too, at which its node stands as it did, and since any beginning since
--- which no node was free for its place
+-- a Full that is due is due at a later moment too, if its node is then as it was, and since any beginning since which no
+-- node was free for its place
 pub full_due_later : (layout : Layout) (n c i place : ℕ) (op : Op) (r s h k : List Event) → h ⊑ k → graph_after k i ≡ graph_after h i → Touches op place → NoneFree layout n c place s h → FullDue layout n r h (Call c i op Full) → FullDue layout n s k (Call c i op Full)
 full_due_later layout n c i place op r s h k begins same touched none due = record {
   place = due.place;
@@ -196,7 +196,7 @@ full_due_later layout n c i place op r s h k begins same touched none due = reco
   none_free = none_free_later layout n c due.place s h k begins (subst (λ (p : ℕ). NoneFree layout n c p s h) (no_room_place layout (graph_after h) i place due.place op touched due.no_room.0) none);
 }
 
--- what a caller holds that holds one live node, or that node and one that it has claimed
+-- what a caller holds: one live node, or that node and one that it has claimed
 
 pub holds_one : (c i : ℕ) (h : List Event) → hand c h ≡ i ∷ [] → IsLive (graph_after h) i → HoldsLive h c
 holds_one c i h is live j mine = elim (subst (λ (z : List ℕ). Has z j) is (held_in_hand h c j mine)) [ inl same ↦ subst (IsLive (graph_after h)) same live | inr none ↦ absurd none ]

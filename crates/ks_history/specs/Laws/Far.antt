@@ -1,4 +1,4 @@
--- Laws of traces: edges stay where no Shape stands, and whether another than c made one.
+-- Laws of traces: edges remain while no Shape is made, and whether a caller other than c made one.
 use Rattle.std.proofs.Common.{◌≡◌, ℕ, suc, ◌⊎◌, inl, inr, List, [], ◌∷◌, ◌++◌, Some, None, sym, refl, ap, ◌∙◌, arith}
 use Rattle.std.specs.Prelude.{Any}
 use mathlib.Core.Logic.{dite}
@@ -33,7 +33,7 @@ abbrev pub NoShapesBesides : ℕ → List Event → Type 0
 NoShapesBesides c [] = Unit {0}
 NoShapesBesides c (e ∷ es) = (¬ ShapesBesides c e) × NoShapesBesides c es
 
--- a Shape of another than c is among the events, or none is
+-- a Shape of a caller other than c is among the events, or none is
 
 beside_or_not : (c : ℕ) (e : Event) → ShapesBesides c e ⊎ (¬ ShapesBesides c e)
 beside_or_not c (Take d i) = inr (λ s. s)
@@ -78,7 +78,7 @@ edges_step h (Call c j op reply) none are may = record {
 pub edges_both : (g h k : ℕ → NodeState) → KeepsEdges g h → KeepsEdges h k → KeepsEdges g k
 edges_both g h k a b = record { at = λ n r is. let s = a.at n r is in let t = b.at n s.0 s.1 in (t.0, t.1, t.2 ∙ s.2) }
 
--- so do any number of them
+-- so does any number of such events
 pub edges_stay : (rest h : List Event) → NoShapes rest → AreInTurn (rest ++ h) → KeepsEdges (graph_after h) (graph_after (rest ++ h))
 edges_stay [] h none are = record { at = λ n r is. (r, is, refl) }
 edges_stay (e ∷ es) h none are = edges_both (graph_after h) (graph_after (es ++ h)) (graph_after (e ∷ (es ++ h))) (edges_stay es h none.1 are.0) (edges_step (es ++ h) e none.0 are.0 are.1)

@@ -59,7 +59,7 @@ dropped_gone j (x ∷ xs) once has = dite (ℕ_discrete x j)
     (λ s. once.0 (subst (Has xs) (sym s) (subst (λ (z : List ℕ). Has z j) (cond_here x j xs (x ∷ drop_one j xs) s) has)))
     (λ n. elim (subst (λ (z : List ℕ). Has z j) (cond_else x j xs (x ∷ drop_one j xs) n) has) [ inl e ↦ n e | inr h ↦ dropped_gone j xs once.1 h ])
 
--- a node whose turn is c's is in its hand
+-- a node whose turn is c's is held by c
 pub held_in_hand : (h : List Event) (c i : ℕ) → turn_after h i ≡ held c → Has (hand c h) i
 held_in_hand [] c i mine = absurd (dite (ℕ_discrete i 0) (λ s. let x : idle ≡ held c = sym (cond_here i 0 idle free s) ∙ mine in cc) (λ n. let x : free ≡ held c = sym (cond_else i 0 idle free n) ∙ mine in cc))
 held_in_hand (Take d j ∷ h) c i mine = dite (ℕ_discrete c d)
@@ -79,12 +79,12 @@ held_in_hand (Claim d j ∷ h) c i mine = dite (ℕ_discrete c d)
 held_in_hand (Shape d changes ∷ h) c i mine = held_in_hand h c i mine
 held_in_hand (Call d j op reply ∷ h) c i mine = held_in_hand h c i mine
 
--- in a trace that is in turn, each node in the hand of c has c's turn, and stands there once
+-- in a trace that is in turn, each node that c holds has c's turn, and is listed once
 pub record IsHand (c : ℕ) (h : List Event) : Type 0 where
   pub held : (i : ℕ) → Has (hand c h) i → turn_after h i ≡ held c
   pub once : AreOnce (hand c h)
 
--- a node that another event names is not one that c holds
+-- a node that an event of another names is not one that c holds
 idle_apart : (h : List Event) (c i j : ℕ) → turn_after h j ≡ idle → turn_after h i ≡ held c → i ≢ j
 idle_apart h c i j is mine same = let x : idle ≡ held c = sym is ∙ ap (turn_after h) (sym same) ∙ mine in cc
 

@@ -1,4 +1,4 @@
--- Traces that go on by Takes and Gives alone: what is live stays as it is.
+-- Traces that grow only by the events Take and Give: what is live stays as it is.
 use Rattle.std.proofs.Common.{◌≡◌, ℕ, inl, inr, List, [], ◌∷◌, ◌++◌, sym, refl, ap, ◌∙◌, subst, append_assoc}
 use Rattle.std.proofs.lemmas.Bool.Decides.{eqb_tells}
 use Rattle.ks_keysets.specs.declared.Frame.{Frame}
@@ -18,7 +18,7 @@ use Rattle.ks_history.specs.Quiet.{IsTurn, AllTurns, OnlyTurns}
 pub no_turns : (h : List Event) → OnlyTurns h h
 no_turns h = record { rest = []; is = refl; turns = tt }
 
--- who acts alone, and but looks or takes or gives, goes on by Takes and Gives alone
+-- if no other caller acts, and this one only looks or takes or releases nodes, the trace grows only by Take and Give
 pub alone_looks : (c : ℕ) (h k m : List Event) → h ⊑ k → OnlyTurns h k → GrowsByOthers c k m → ActsAlone c h m → OnlyTurns h m
 alone_looks c h k m from turns grows alone =
     let same : m ≡ k = alone_still c k m (alone_then c h k m from (record { rest = grows.rest; is = grows.is }) alone) grows in

@@ -97,7 +97,7 @@ others_keep (e ∷ es) h c i none are mine =
     let x : StaysHeld c i (es ++ h) (e ∷ (es ++ h)) = other_keeps (es ++ h) e c i are.1 none.0 so.turn in
     record { turn = x.turn; state = x.state ∙ so.state; frame = λ blank. x.frame blank ∙ so.frame blank }
 
--- others do not make a node c's own
+-- events of others do not make a node c's own
 pub other_turn : (h : List Event) (e : Event) (c i : ℕ) → caller_of e ≢ c → turn_after (e ∷ h) i ≡ held c → turn_after h i ≡ held c
 other_turn h (Take d j) c i other mine = dite (ℕ_discrete i j) (λ s. absurd (other (held_same d c (sym (cond_here i j (held d) (turn_after h i) s) ∙ mine)))) (λ n. sym (cond_else i j (held d) (turn_after h i) n) ∙ mine)
 other_turn h (Give d j) c i other mine = dite (ℕ_discrete i j) (λ s. absurd (given_not_held c (graph_after h j) (sym (cond_here i j (turn_given (graph_after h j)) (turn_after h i) s) ∙ mine))) (λ n. sym (cond_else i j (turn_given (graph_after h j)) (turn_after h i) n) ∙ mine)

@@ -1,4 +1,4 @@
--- Stretches of a call: what its caller does from one moment to a later one, where it makes no call.
+-- Stretches of a call: what its caller does from one moment to a later one, if it makes no call.
 use Rattle.std.proofs.Common.{◌≡◌, ℕ, ◌≤◌, List, [], ◌∷◌, ◌++◌, length, cond, Bool, true, false, ◌==◌, ap, ◌∙◌, arith}
 use Rattle.ks_keysets.specs.declared.Change.{Change}
 use Rattle.ks_history.specs.declared.Op.{Op}
@@ -21,11 +21,11 @@ dropped_few i (x ∷ xs) = either (x == i) (dropped_few i xs)
     either true rest = omega arith
     either false rest = omega (arith, rest)
 
--- two stretches are one
+-- two stretches that meet are one
 pub stretch_both : (template : Template) (c : ℕ) (g h k : List Event) → Stretch template c g h → Stretch template c h k → Stretch template c g k
 stretch_both template c g h k a b = λ op three. underway_both template c op g h k (a op three) (b op three)
 
--- a put may hold three nodes, by each template
+-- by each template a put may hold three nodes
 three_held : (template : Template) → 3 ≤ most_held template (Put 0 0)
 three_held template = omega arith
 

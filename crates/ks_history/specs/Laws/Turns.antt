@@ -1,4 +1,4 @@
--- Laws of traces: whose turn it is tells whether a node is live.
+-- Laws of traces: the turn of a node says whether it is live.
 use Rattle.std.proofs.Common.{◌≡◌, ◌≢◌, ℕ, zero, suc, List, [], ◌∷◌, Option, Some, None, sym, refl, ap, ◌∙◌, arith}
 use Rattle.std.specs.Prelude.{All}
 use Rattle.std.proofs.lemmas.Option.{same_Some}
@@ -36,7 +36,7 @@ state_written w (Live s) r is = ap some_with is
     some_with None = None
     some_with (Some t) = Some (record_with w t)
 
--- and back
+-- and conversely
 pub state_was : (w : Write) (s : NodeState) (t : Record) → live_record (state_with w s) ≡ Some t → (r : Record) × (live_record s ≡ Some r) × (r.edges ≡ t.edges)
 state_was w Free t is = absurd (cc)
 state_was w (Claimed c) t is = absurd (cc)

@@ -17,7 +17,7 @@ use Rattle.ks_history.specs.Laws.Hand.{hand_other}
 use Rattle.ks_history.specs.Laws.Begins.{no_call_both, none_no_call, by_others_keeps, by_others_hand}
 use Rattle.ks_history.specs.Underway.{Underway, Decided}
 
--- once nothing is held it is Left, or Done
+-- once its caller holds nothing it is Left, or Done
 pub left_of : (template : Template) (c : ℕ) (op : Op) (s0 s1 : List Event) → Underway template c op s0 s1 → hand c s1 ≡ [] → Left template c op s0 s1
 left_of template c op s0 s1 so empty = record { rest = so.rest; is = so.is; none = so.none; gave_all = empty; hands = so.hands }
 
@@ -61,7 +61,7 @@ pub hands_with : (template : Template) (c : ℕ) (op : Op) (e : Event) (s0 g h :
 hands_with template c op e s0 g h so well few hands =
     subst (Hands template c op s0) (sym so.is) (and_on (hands_after template c op s0 g so.rest so.others hands) well (subst (λ (z : List Event). length (hand c z) ≤ most_held template op) so.is few))
 
--- what may be taken may be taken later, if others alone act meanwhile
+-- what may be taken may be taken later, if only others act meanwhile
 above_later : (c i : ℕ) (g h : List Event) → GrowsByOthers c g h → AreInTurn h → HoldsAbove g c i → HoldsAbove h c i
 above_later c i g h so are above =
     let stays : StaysHeld c above.above g h = by_others_keeps c above.above g h so are above.holds in
@@ -155,7 +155,7 @@ underway_both template c op s0 h k a b = record {
   hands = hands_both a.hands b.hands;
 }
 
--- a call that is done may go on, and is done
+-- a call that is done remains done after further steps
 pub done_on : (layout : Layout) (template : Template) (n c : ℕ) (op : Op) (s0 h k : List Event) (reply : Reply) (number : ℕ) → Done layout template n c op s0 h reply number → Underway template c op h k → hand c k ≡ [] → Done layout template n c op s0 k reply number
 done_on layout template n c op s0 h k reply number was b empty = record {
   before = was.before;

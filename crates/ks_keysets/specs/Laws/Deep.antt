@@ -1,4 +1,4 @@
--- How deep a node lies below the root, where nodes have one parent at most and the root none, and what keeps it there.
+-- How deep a node is below the root, if nodes have one parent at most and the root none, and which changes keep it so deep.
 use Rattle.std.proofs.Common.{ℕ, zero, suc, ◌≡◌, ◌<◌, ◌≤◌, ◌+◌, ◌-◌, ◌⊎◌, inl, inr, List, [], ◌∷◌, length, get_or, Some, None, refl, sym, ◌∙◌, ap, subst, arith}
 use Rattle.std.specs.Prelude.{Any, All, AllPairs}
 use Rattle.std.proofs.lemmas.List.Elements.{All-nil, All-cons}
@@ -23,11 +23,11 @@ pub data Under (g : ℕ → NodeState) (i : ℕ) : ℕ → Type 0 where
 pub record KeptAbove (g : ℕ → NodeState) (i : ℕ) (k : ℕ → NodeState) : Type 0 where
   pub same : (m : ℕ) → (Under g i m → ⊥) → record_at k m ≡ record_at g m
 
--- the root lies no step deep
+-- the root is 0 steps deep
 pub deep_root : (g : ℕ → NodeState) (n : ℕ) → Deep g n [] 0 0
 deep_root g n = record { edges = 0; way = from_root; enough = omega arith; once = λ i j d lt lt'. absurd (omega arith); numbers = All-nil (λ m. m < n); dead = All-nil (λ m. record_at g m ≡ None) }
 
--- the target of an edge lies one step deeper than its node
+-- the target of an edge is one step deeper than its node
 pub deep_next : (g : ℕ → NodeState) (n : ℕ) (gone : List ℕ) (steps i j : ℕ) (r : Record) → Deep g n gone steps i → record_at g i ≡ Some r → Any (λ e. e.node ≡ j) r.edges → Deep g n gone (suc steps) j
 deep_next g n gone steps i j r deep is leads = record {
   edges = suc deep.edges;
@@ -38,11 +38,11 @@ deep_next g n gone steps i j r deep is leads = record {
   dead = deep.dead;
 }
 
--- what lies so deep lies at least less deep
+-- a node that is `steps` deep is also `fewer` deep
 pub deep_fewer : (g : ℕ → NodeState) (n : ℕ) (gone : List ℕ) (fewer steps i : ℕ) → fewer ≤ steps → Deep g n gone steps i → Deep g n gone fewer i
 deep_fewer g n gone fewer steps i less deep = record { edges = deep.edges; way = deep.way; enough = let e = deep.enough in omega (arith, e, less); once = deep.once; numbers = deep.numbers; dead = deep.dead }
 
--- what the i-th of the nodes on the way and the nodes that are gone is
+-- node m is the i-th of the list: first the nodes of the descent, then those that are gone
 abbrev Spot : (ℕ → NodeState) → ℕ → List ℕ → ℕ → ℕ → Type 0
 Spot g edges gone i m = ((i < suc edges) × Descends g i m × IsLive g m) ⊎ ((suc edges ≤ i) × (m ≡ get_or gone (i - suc edges) 0))
 
@@ -68,7 +68,7 @@ apart_at gone once i j lt lt' same = go (split i j)
     go (inr (inl e)) = e
     go (inr (inr more)) = absurd (once j i 0 more lt (sym same))
 
--- so a live node lies fewer steps deep than there are nodes
+-- so a live node is fewer steps deep than there are nodes
 pub deep_bound : (g : ℕ → NodeState) (n : ℕ) (gone : List ℕ) (steps i : ℕ) → OneParent g → ((m : ℕ) → IsLive g m → m < n) → Deep g n gone steps i → IsLive g i → steps < n
 deep_bound g n gone steps i one few deep live =
     let le = pigeonhole (suc deep.edges + length gone) n at into apart in
@@ -104,18 +104,18 @@ deep_bound g n gone steps i one few deep live =
             let s = apart_at gone deep.once (j - suc deep.edges) (k - suc deep.edges) (omega (arith, lt, x.0)) (omega (arith, lt', y.0)) (sym x.1 ∙ e ∙ y.1) in
             omega (arith, s, x.0, y.0)
 
--- a descent stays one where live nodes keep their edges
+-- a descent remains one if live nodes keep their edges
 pub descends_over : (g k : ℕ → NodeState) (d a : ℕ) → KeepsEdges g k → Descends g d a → Descends k d a
 descends_over g k zero a keeps from_root = from_root
 descends_over g k (suc d) a keeps (further {a = b} r w is leads) =
     let s = keeps.at b r is in
     further s.0 (descends_over g k d b keeps w) s.1 (subst (λ (es : List Edge). Any (λ e. e.node ≡ a) es) (sym s.2) leads)
 
--- and a node stays as deep, if those that are gone are still not live
+-- and its node remains as deep, if those that are gone are still not live
 pub deep_along : (g k : ℕ → NodeState) (n : ℕ) (gone : List ℕ) (steps i : ℕ) → KeepsEdges g k → All (λ m. record_at k m ≡ None) gone → Deep g n gone steps i → Deep k n gone steps i
 deep_along g k n gone steps i keeps dead deep = record { edges = deep.edges; way = descends_over g k deep.edges i keeps deep.way; enough = deep.enough; once = deep.once; numbers = deep.numbers; dead = dead }
 
--- what is under a node lies as deep as it, or deeper, or is not live
+-- what is under a node is as deep as it, or deeper, or is not live
 under_deeper : (g : ℕ → NodeState) (d i m : ℕ) → Descends g d i → Under g i m → (record_at g m ≡ None) ⊎ ((j : ℕ) × (d ≤ j) × Descends g j m)
 under_deeper g d i m way (absent none) = inl none
 under_deeper g d i m way itself = inr (d, omega arith, way)
@@ -125,7 +125,7 @@ under_deeper g d i m way (onward {a = a} r u is leads) = go (under_deeper g d i 
     go (inl none) = let x : None ≡ Some r = sym none ∙ is in absurd (cc)
     go (inr x) = inr (suc x.0, (let e = x.1 in omega (arith, e)), further r x.2 is leads)
 
--- a descent to a node stays one where nothing changes but what is under it
+-- a descent to a node remains one if nothing changes but what is under it
 descends_above : (g k : ℕ → NodeState) (d i : ℕ) → OneParent g → Descends g d i → KeptAbove g i k → (j b : ℕ) → j ≤ d → Descends g j b → Descends k j b
 descends_above g k d i one way kept zero b le from_root = from_root
 descends_above g k d i one way kept (suc j) b le (further {a = a} r w is leads) =
@@ -135,7 +135,7 @@ descends_above g k d i one way kept (suc j) b le (further {a = a} r w is leads) 
     go (inl none) = let x : None ≡ Some r = sym none ∙ is in cc
     go (inr x) = let e = meets_once g j x.0 a a one w x.2 refl in let more = x.1 in omega (arith, e, le, more)
 
--- and the node stays as deep
+-- and the node remains as deep
 pub deep_above : (g k : ℕ → NodeState) (n : ℕ) (gone : List ℕ) (steps i : ℕ) → OneParent g → KeptAbove g i k → All (λ m. record_at k m ≡ None) gone → Deep g n gone steps i → Deep k n gone steps i
 deep_above g k n gone steps i one kept dead deep = record {
   edges = deep.edges;
@@ -146,7 +146,7 @@ deep_above g k n gone steps i one kept dead deep = record {
   dead = dead;
 }
 
--- a live node that such a change makes free counts as a step
+-- a live node that such a change makes free counts as one step more
 pub deep_freed : (g k : ℕ → NodeState) (n : ℕ) (gone : List ℕ) (steps i x : ℕ) → OneParent g → KeptAbove g i k → All (λ m. record_at k m ≡ None) gone → x < n → IsLive g x → record_at k x ≡ None → Deep g n gone steps i → Deep k n (x ∷ gone) (suc steps) i
 deep_freed g k n gone steps i x one kept dead lt live none deep = record {
   edges = deep.edges;

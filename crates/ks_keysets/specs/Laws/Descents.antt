@@ -1,4 +1,4 @@
--- Where nodes have one parent at most, and the root none, no walk along edges meets a node twice.
+-- If nodes have one parent at most, and the root none, no walk along edges meets a node twice.
 use Rattle.std.proofs.Common.{ℕ, zero, suc, ◌≡◌, ◌<◌, ◌≤◌, ◌⊎◌, inl, inr, refl, sym, ap, subst, arith}
 use Rattle.std.specs.Prelude.{Any}
 use Rattle.ks_keysets.specs.declared.NodeState.{NodeState}

@@ -1,4 +1,5 @@
--- Laws of what is found: it is one value, in a good graph it stands where the keyset is, and edges alone decide keysets.
+-- Laws of what is found: it is one value, in a good graph that of the node whose keyset has the place, and it depends on edges
+-- and pairs only.
 use Rattle.std.proofs.Common.{ℕ, ◌≡◌, ◌<◌, ◌⊎◌, inl, inr, List, Option, Some, None, refl, sym, ◌∙◌, ap, subst, arith}
 use Rattle.std.specs.Prelude.{Any}
 use Rattle.ks_keysets.specs.declared.Edge.{Edge}
@@ -29,7 +30,7 @@ outset_along e n p (r, is, on) =
 pub keyset_along : {g k : ℕ → NodeState} → KeepsEdges g k → KeepsEdges k g → (n p : ℕ) → InKeyset g n p → InKeyset k n p
 keyset_along forth back n p h = ((h.0.0, reaches_along forth p h.0.1), λ o. h.1 (outset_along back n p o))
 
--- what is found after a change of pairs alone
+-- what is found after a change of pairs only
 pub found_along : {g k : ℕ → NodeState} → KeepsEdges g k → KeepsEdges k g → (p : ℕ) (v w : Option ℕ)
     → ((n : ℕ) → InKeyset g n p → v ≡ value_at g n p → w ≡ value_at k n p)
     → (v ≡ None → ((n : ℕ) → ¬ InKeyset g n p) → w ≡ None)
@@ -39,7 +40,7 @@ found_along forth back p v w held gone (here n in' least is) =
 found_along forth back p v w held gone (nowhere none is) =
     nowhere (λ n h. none n (keyset_along back forth n p h)) (gone is none)
 
--- two values that are found are one
+-- two values that are found are equal
 pub found_one : (g : ℕ → NodeState) (p : ℕ) (v w : Option ℕ) → IsFound g p v → IsFound g p w → v ≡ w
 found_one g p v w (here n in' least is) (here m in'' least' is') = go (cases n m)
   where
@@ -54,7 +55,7 @@ found_one g p v w (here n in' least is) (nowhere none is') = absurd (none n in')
 found_one g p v w (nowhere none is) (here n in' least is') = absurd (none n in')
 found_one g p v w (nowhere none is) (nowhere none' is') = is ∙ sym is'
 
--- in a good graph the node whose keyset holds the place has what is found
+-- in a good graph what is found is what the node whose keyset has the place has there
 pub found_here : (g : ℕ → NodeState) (n p : ℕ) → Good g → InKeyset g n p → IsFound g p (value_at g n p)
 found_here g n p good h = here n h (λ m lt other. absurd (below m lt (good.one m n p other h))) refl
   where

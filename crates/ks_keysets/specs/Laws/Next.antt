@@ -1,4 +1,4 @@
--- Laws of edges: where those of a node are disjoint, one at most carries a place, and it leads to one node.
+-- Laws of edges: if those of a node are disjoint, one at most carries a place, and it leads to one node.
 use Rattle.std.proofs.Common.{ℕ, ◌≡◌, ◌<◌, ◌⊎◌, inl, inr, List, Some, get_or, refl, sym, ◌∙◌, ap, subst, arith}
 use Rattle.std.specs.Prelude.{All, Any, AllPairs}
 use Rattle.std.proofs.lemmas.Option.{same_Some}

@@ -63,7 +63,7 @@ reached_or_not f (suc n) x = elim (same_or_apart (f n) x) [
   ]
 ]
 
--- two numbers below n are sent to one
+-- two numbers below n are sent to the same number
 abbrev pub Repeats : (ℕ → ℕ) → ℕ → Type 0
 Repeats f n = (i : ℕ) × (j : ℕ) × (i < j) × (j < n) × (f i ≡ f j)
 
@@ -86,6 +86,6 @@ repeats_or_not f (suc n) = elim (repeats_or_not f n) [
   ]
 ]
 
--- of more numbers than m that are sent below m, two are sent to one
+-- of more numbers than m that are sent below m, two are sent to the same number
 pub repeats : (n : ℕ) (f : ℕ → ℕ) → Into f (suc n) n → Repeats f (suc n)
 repeats n f into = elim (repeats_or_not f (suc n)) [ inl y ↦ y | inr one ↦ absurd (omega (arith, pigeonhole (suc n) n f into one)) ]

@@ -1,4 +1,4 @@
--- Where an edge can be added, if it can where none starts and something else is so.
+-- When an edge can be added, if that is when none starts at the cut and another condition holds.
 use Rattle.std.specs.Prelude.{◌≡◌, Bool, true, false, not, ◌&&◌, IsTrue, refl}
 
 pub not_this : (a x : Bool) → IsTrue (not a && x) → a ≡ false

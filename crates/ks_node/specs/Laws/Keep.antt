@@ -1,4 +1,4 @@
--- What each call makes of a body that is in order is in order.
+-- If a body is in order, each call leaves it in order.
 use Rattle.std.specs.Prelude.{◌≡◌, ℕ, suc, ◌<◌, ◌≤◌, Bool, true, false, cond, IsTrue, List, [], ◌∷◌, ◌++◌, length, filter, All, drop, refl, Option, None, Some, is_some, nat_lt, nat_le, get_or}
 use Rattle.std.proofs.Common.{arith, subst}
 use Rattle.std.proofs.lemmas.List.{append-nil, length-append}

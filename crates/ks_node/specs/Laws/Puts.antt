@@ -1,4 +1,4 @@
--- What a put and a del make of ascending pairs, pair by pair, and the value at a place as a record has it.
+-- What a put and a del do to ascending pairs, pair by pair, and the value at a place as a record has it.
 use Rattle.std.specs.Prelude.{◌≡◌, ℕ, suc, ◌<◌, ◌≤◌, true, false, nat_lt, nat_le, List, [], ◌∷◌, All, refl}
 use Rattle.std.proofs.Common.{arith, ap, inl, inr}
 use Rattle.std.proofs.lemmas.Bool.{lt-ltb, le-ltb, le-leb, lt-leb}
@@ -10,7 +10,7 @@ use Rattle.ks_node.specs.Laws.Ascend.{asc_head}
 use Rattle.ks_node.specs.Body.{pairs_below, pairs_from, value_at}
 use Rattle.ks_node.specs.Effect.{pairs_put, pairs_del}
 
--- the first value at a place in a record is the value that the calls answer
+-- the first value at a place in a record is the value that the calls return
 pub value_first : (ps : List Pair) (p : ℕ) → first_value ps p ≡ value_at ps p
 value_first [] p = refl
 value_first (x ∷ xs) p = elim (eqb_tells x.place p) [
@@ -58,7 +58,7 @@ module _ (p v : ℕ) (x : Pair) (xs : List Pair) where
       let c : nat_le (suc p) x.place ≡ false = lt-leb _ _ (omega arith) in
       rw (b, c) refl
 
-  -- the pair at the place goes away, and others stay
+  -- the pair at the place is removed, and others stay
   pub del_here : x.place ≡ p → pairs_del p (x ∷ xs) ≡ pairs_del p xs
   del_here e =
       let b : nat_lt x.place p ≡ false = le-ltb _ _ (omega arith) in

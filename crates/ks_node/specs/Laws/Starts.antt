@@ -1,4 +1,4 @@
--- Facts of all edges, or of all but the first, that last through what the calls make of lists of edges.
+-- Facts of all edges, or of all but the first, that the calls keep when they change lists of edges.
 use Rattle.std.specs.Prelude.{◌≡◌, ℕ, zero, suc, ◌+◌, ◌<◌, ◌≤◌, Bool, true, false, cond, nat_lt, nat_le, nat_eq, IsTrue, List, [], ◌∷◌, ◌++◌, length, filter, All, take, drop, refl, Option, None, Some, remove, position}
 use Rattle.std.proofs.Common.{arith, ap}
 use Rattle.std.proofs.lemmas.Bool.{eqb-true, lt-ltb, ne_eqb}
@@ -86,7 +86,7 @@ module _ (P : Start → Type 0) where
   tail_settled Inner ss a = a
   tail_settled Directory ss a = tail_runs ss a
 
-  -- where the first edge starts at 0 and the cut is above it, all but the first hold with one more at the cut
+  -- if the first edge starts at 0 and the cut is above it, the fact holds of all but the first with one more at the cut
   pub tail_insert : (cut id : ℕ) (ss : List Start) → 0 < cut → IsTrue (starts_at_zero ss) → P (record { low = cut; node = id }) → All P (drop 1 ss) →
       All P (drop 1 (starts_below cut ss ++ record { low = cut; node = id } ∷ starts_from cut ss))
   tail_insert cut id [] h z new a = absurd (differ refl z)
@@ -142,7 +142,7 @@ pub asc_first : (low : ℕ) (ss : List Start) → All (λ s. low < s.low) (drop 
 asc_first low [] h a = a
 asc_first low (s ∷ ss) h a = asc_cons (λ s. s.low) (record { low = low; node = s.node }) ss h (asc_tail (λ s. s.low) s ss a)
 
--- all but the first are above the cut where none is below it
+-- all but the first are above the cut if none is below it
 pub tail_above : (cut : ℕ) (ss : List Start) → Ascends (λ s. s.low) ss → All (λ s. cut ≤ s.low) ss → All (λ s. cut < s.low) (drop 1 ss)
 tail_above cut [] a h = All-nil (λ s. cut < s.low)
 tail_above cut (s ∷ ss) a h =

@@ -196,7 +196,7 @@ module _ (b : Body) (p : ℕ) where
       let c : nat_lt (last_of b.range) p ≡ false = le-ltb _ _ upto in
       rw (a, c) refl
 
-  -- an edge of the record to a node carries the place where next leads to the node
+  -- if an edge of the record to a node carries the place, the search goes to that node, and conversely
   pub leads_next : (m : ℕ) → Sound (content_of b) → LeadsTo (record_of b) p m → next_at b p ≡ Go m
   leads_next m s to = ap go_to (elim (leads_append (edges_from (first_of b.range) (last_of b.range) b.starts) (link_edge (last_of b.range) b.link) p m (any_leads (edges_of b) p m to)) [
     | inl h ↦ (let y = edges_led (first_of b.range) (last_of b.range) b.starts p m s.starts_ascend h in inside y.1 y.2 ∙ y.0)
@@ -219,7 +219,7 @@ module _ (b : Body) (p : ℕ) where
       none_some : None ≡ Some m → ⊥
       none_some q = cc
 
-  -- where next is Here no edge carries the place
+  -- if the search ends here, no edge carries the place
   pub here_stays : Sound (content_of b) → next_at b p ≡ Here → LeadsOn (record_of b) p → ⊥
   here_stays s e on = go_here on.1.node (sym (leads_next on.1.node s (on.0, on.1, on.2, on.3, (on.4, refl))) ∙ e)
     where

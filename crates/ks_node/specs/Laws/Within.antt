@@ -1,4 +1,4 @@
--- What each call makes of a body with a range keeps the range and the edges in step.
+-- Each call leaves a body's range and edges in step.
 use Rattle.std.specs.Prelude.{◌≡◌, ℕ, ◌-◌, ◌<◌, ◌≤◌, Bool, true, false, cond, IsTrue, List, [], ◌∷◌, ◌++◌, All, drop, refl, Some, max}
 use Rattle.std.proofs.Common.{arith, subst}
 use Rattle.std.proofs.lemmas.List.Elements.{All-filter, All-weaker, All-cons, All-append, All-nil, All-drop}
@@ -118,7 +118,7 @@ module _ {r : Span} {b : Body} (f : Framed r b) where
             (λ e. high);
       }
 
--- the body with the range is in step with it where the body inside is
+-- if the body inside is in step with a range, so is the body with that range
 pub framed_with : {q r : Span} {b : Body} → Framed q b → Some q ≡ Some r → Framed r (with_range q b)
 framed_with {q} {r} {b} f e =
     let same : q ≡ r = cc in

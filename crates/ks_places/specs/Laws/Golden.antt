@@ -4,7 +4,7 @@ use Rattle.std.proofs.Common.{arith, ◌∙◌, ap}
 use Rattle.std.proofs.lemmas.Nat.{mul-mod_first, mod-mul-add}
 use Rattle.ks_places.specs.Golden.{golden_place, golden_key}
 
--- a number goes through a factor and its inverse unchanged, where they are inverse modulo m
+-- multiplying by a factor and then by its inverse modulo m leaves a number below m unchanged
 undone : (a b q m k : ℕ) → a * b ≡ q * m + 1 → k < m → (k * a) % m * b % m ≡ k
 undone a b q m k inverse h =
     let whole : k * (a * b) ≡ k * (q * m + 1) = ap (λ n. k * n) inverse in

@@ -1,4 +1,4 @@
--- What stays at the nodes that a caller holds while it takes, claims and gives, whatever others do.
+-- What stays at the nodes that a caller holds while it takes, claims and releases nodes, whatever others do.
 use Rattle.std.proofs.Common.{◌≡◌, ℕ, List, ◌∷◌, ◌++◌, sym, subst}
 use Rattle.ks_keysets.specs.declared.Change.{Change}
 use Rattle.ks_keysets.specs.declared.Frame.{Frame}
@@ -47,7 +47,7 @@ module _ (beside : ℕ → (ℕ → NodeState) → (ℕ → NodeState) → Type 
       pub beside_both : (g h k : List Event) → Kept c g h → KeepsBeside beside c g h → KeepsBeside beside c h k → KeepsBeside beside c g k
       beside_both g h k kept a b i before after = laws.on (graph_after g) (graph_after h) (graph_after k) i (a i before (kept i before).turn) (b i (kept i before).turn after)
 
--- what a discipline keeps at a node stays so, and its keyset does
+-- what a discipline keeps at a node stays so, and its keyset stays
 module _ (sort : Sort) {begins : Frame → Type 0} {facts : (ℕ → NodeState) → (ℕ → Frame) → Type 0} {asks : (ℕ → NodeState) → (ℕ → Frame) → List Change → Type 0} {lasts : (ℕ → NodeState) → (ℕ → Frame) → (ℕ → NodeState) → (ℕ → Frame) → Type 0} {beside : ℕ → (ℕ → NodeState) → (ℕ → NodeState) → Type 0}
     (laws : IsDiscipline begins facts asks lasts beside) (good_opening : Good opening) (n : ℕ) where
   pub stays_beside : StaysBeside beside sort begins asks n

@@ -1,4 +1,4 @@
--- What claims tell, and which full node may grow.
+-- The results of claims, and which full node may grow.
 use Rattle.std.proofs.Common.{inl, inr, true, false, cond, refl, sym, ◌∙◌, subst}
 use Rattle.std.specs.Prelude.{◌≡◌, ℕ, Some, length, nat_eq, IsTrue}
 use Rattle.std.proofs.lemmas.Bool.Decides.{eqb_tells}

@@ -1,4 +1,4 @@
--- What the events of a caller are between two moments: how such stretches add up, and what is one.
+-- What the events of a caller are between two moments: how such stretches add up, and which events are one.
 use Rattle.std.proofs.Common.{◌≡◌, ℕ, List, [], ◌∷◌, ◌++◌, sym, subst, append_assoc}
 use Rattle.ks_history.specs.declared.Event.{Event}
 use Rattle.ks_history.specs.declared.Event.TheVariants.{Take, Give, Claim, Shape, Call}
@@ -31,15 +31,15 @@ module _ (may : List Event → Event → Type 0) where
   pub does_both : (c : ℕ) (g h k : List Event) → DoesOnly may c g h → DoesOnly may c h k → DoesOnly may c g k
   does_both c g h k a b = record { grows = begins_both g h k a.grows b.grows; each = own_both c g b.grows.rest a.grows.rest (subst (λ (z : List Event). EachOwn may c z b.grows.rest) a.grows.is b.each) a.each }
 
-  -- of a caller whose number is told in another way
+  -- for a caller whose number is written in another way
   pub does_on : (c d : ℕ) (g h k : List Event) → d ≡ c → DoesOnly may c g h → DoesOnly may d h k → DoesOnly may c g k
   does_on c d g h k same a b = does_both c g h k a (subst (λ (z : ℕ). DoesOnly may z h k) same b)
 
-  -- so that it is told as the last stretch tells it
+  -- so that the number is written as in the last stretch
   pub does_to : (c d : ℕ) (g h k : List Event) → d ≡ c → DoesOnly may c g h → DoesOnly may c h k → DoesOnly may d g k
   does_to c d g h k same a b = subst (λ (z : ℕ). DoesOnly may z g k) (sym same) (does_both c g h k a b)
 
--- what is such is such in a wider sense
+-- events of a kind are of a wider kind
 
 own_as : (may wide : List Event → Event → Type 0) → ((h : List Event) (e : Event) → may h e → wide h e) → (c : ℕ) (s es : List Event) → EachOwn may c s es → EachOwn wide c s es
 own_as may wide so c s [] each = tt
@@ -68,7 +68,7 @@ searched_fills sort place c h k does = does_as MaySearch (MayFill sort place) (s
 pub searched_dels : (sort : Sort) (c : ℕ) (h k : List Event) → DoesOnly MaySearch c h k → DoesOnly (MayDel sort) c h k
 searched_dels sort c h k does = does_as MaySearch (MayDel sort) (search_dels sort) c h k does
 
--- a put or an add, and a del, that go on, or that search next
+-- a put or an add, and a del, that continue, or that search next
 
 pub fills_on : (sort : Sort) (place c d : ℕ) (g h k : List Event) → d ≡ c → DoesOnly (MayFill sort place) c g h → DoesOnly (MayFill sort place) c h k → DoesOnly (MayFill sort place) d g k
 fills_on sort place c d g h k same a b = does_to (MayFill sort place) c d g h k same a b

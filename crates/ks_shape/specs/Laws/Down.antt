@@ -1,4 +1,4 @@
--- Descents of calls that wait for nobody: how many nodes a caller took since its call began, and how deep it stands.
+-- Descents of non-blocking calls: how many nodes a caller took since its call began, and how deep its node is.
 use Rattle.std.proofs.Common.{◌≡◌, ◌≢◌, ℕ, suc, ◌<◌, ◌≤◌, List, [], ◌∷◌, Some, refl, ◌∙◌}
 use Rattle.std.specs.Prelude.{Any}
 use Rattle.ks_keysets.specs.declared.Record.{Record}
@@ -25,7 +25,7 @@ no_takes c (Claim d i ∷ es) none = no_takes c es none.1
 no_takes c (Shape d changes ∷ es) none = no_takes c es none.1
 no_takes c (Call d i op reply ∷ es) none = no_takes c es none.1
 
--- a give takes none
+-- a Give takes no node
 pub gave_no_take : (c i : ℕ) (h k : List Event) → (so : GrowsWith c (Give c i) h k) → NoTakeBy c (Give c i ∷ so.rest)
 gave_no_take c i h k so = no_takes c so.rest so.others
 
@@ -33,7 +33,7 @@ gave_no_take c i h k so = no_takes c so.rest so.others
 pub down_root : (n c : ℕ) (s0 h k : List Event) (roots : ℕ) → GrowsWith c (Take c 0) h k → TookSince c s0 h 0 roots → IsDown n c s0 k 1 (suc roots) 0 0
 down_root n c s0 h k roots took so = let now = took_root c s0 h k 0 roots took so in record { took = now; deep = deep_at_root n c s0 k now.grows }
 
--- the target of an edge lies one step deeper
+-- the target of an edge is one step deeper
 pub down_edge : (n c : ℕ) (s0 h : List Event) (taken roots steps i j : ℕ) (r : Record) → record_at (graph_after h) i ≡ Some r → Any (λ e. e.node ≡ j) r.edges → IsDown n c s0 h taken roots steps i → IsDown n c s0 h taken roots (suc steps) j
 down_edge n c s0 h taken roots steps i j r is leads so = record { took = so.took; deep = deep_down n c [] s0 h steps i j r so.deep is leads }
 
@@ -44,19 +44,19 @@ down_take n c s0 h k taken roots steps i j apart took are so = record {
   deep = deep_with n c (Take c j) [] s0 h k steps i tt took are so.deep;
 }
 
--- a node is given
+-- a node is released
 pub down_give : (n c : ℕ) (s0 h k : List Event) (taken roots steps i j : ℕ) → GrowsWith c (Give c j) h k → AreInTurn k → IsDown n c s0 h taken roots steps i → IsDown n c s0 k taken roots steps i
 down_give n c s0 h k taken roots steps i j gave are so = record {
   took = took_while c s0 h k taken roots (record { rest = Give c j ∷ gave.rest; is = gave.is }) (gave_no_take c j h k gave) so.took;
   deep = deep_with n c (Give c j) [] s0 h k steps i tt gave are so.deep;
 }
 
--- Far is due where c took as many nodes as there are, and an edge leads on to one more
+-- Far is due if c took as many nodes as there are, and an edge leads on to one more
 pub down_far : (n c : ℕ) (s0 h : List Event) (taken roots steps i j : ℕ) (r : Record) → roots ≤ 2 → n ≤ taken → taken ≤ suc steps → OneParent (graph_after h) → ((m : ℕ) → IsLive (graph_after h) m → m < n)
     → record_at (graph_after h) i ≡ Some r → Any (λ e. e.node ≡ j) r.edges → IsLive (graph_after h) j → IsDown n c s0 h taken roots steps i → FarDue n c s0 h
 down_far n c s0 h taken roots steps i j r twice all counted one few is leads live so = far_due n c [] s0 h taken roots steps i j r so.took twice all so.deep counted one few is leads live
 
--- Busy is due where the node was on the way of the place, and then another held it
+-- Busy is due if the node was on the search path of the place, and then another caller held it
 pub busy_since : (c node holder p : ℕ) (op : Op) (s0 h k : List Event) → s0 ⊑ h → h ⊑ k → Touches op p → IsOnWay (graph_after h) p node → turn_after k node ≡ held holder → holder ≢ c → BusyDue c op s0 k node holder
 busy_since c node holder p op s0 h k since later touched on_way busy other = record {
   another = other;

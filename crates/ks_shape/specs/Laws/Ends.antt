@@ -1,4 +1,4 @@
--- What a put or an add that waits for nobody tells whatever its nodes, it tells where it is tried.
+-- The result of a non-blocking put or add, whatever its nodes, from the result that says more.
 use Rattle.std.specs.Prelude.{ℕ, List, Result, Ok, Err}
 use Rattle.ks_keysets.specs.Layout.{Layout}
 use Rattle.ks_history.specs.declared.Event.{Event}

@@ -29,12 +29,12 @@ pub fill_touches : (place : ℕ) (fill : Fill) → Touches (filling place fill) 
 fill_touches place (Put value) = refl
 fill_touches place (Add value) = refl
 
--- what found no room since a moment found none since an earlier one
+-- if no room was found since a moment, none was since an earlier one
 pub full_is_due : {N : Type 0} (sort : Sort) (shows : N → Body) (n c place : ℕ) (start h k : List Event) (found : Result (Hand N) (Hand N)) → start ⊑ h → FoundRoom sort shows n c place h k found → FullIsDue sort.layout n c place start k found
 full_is_due sort shows n c place start h k (Ok x) before so = tt
 full_is_due sort shows n c place start h k (Err x) before so = none_free_earlier sort.layout n c place start h k before so.1
 
--- who is done was not put off
+-- a call that is done was not put off
 pub done_is_tried : (layout : Layout) (template : Template) (n c : ℕ) (op : Op) (s t : List Event) (answer : Result Numbered Full) → Done layout template n c op s t (reply_in answer) (number_in answer) → TriedPut layout template n c op s t (not_later answer)
 done_is_tried layout template n c op s t (Ok answer) done = done
 done_is_tried layout template n c op s t (Err full) done = done

@@ -1,4 +1,4 @@
--- How many nodes a caller makes free while it merges nodes, and what stands while it makes none free.
+-- How many nodes a caller makes free while it merges nodes, and what remains while it makes none free.
 use Rattle.std.proofs.Common.{◌≡◌, ◌≢◌, ℕ, ◌+◌, ◌<◌, ◌%◌, ◌^◌, List, [], ◌∷◌, ◌++◌, sym, refl, ap, ◌∙◌, subst, append_assoc, arith}
 use Rattle.std.proofs.lemmas.List.{append_cancel_right}
 use Rattle.ks_keysets.specs.declared.Frame.{Frame}
@@ -80,18 +80,18 @@ frees_both c a b g h k x y = record {
   made = omega (arith, freed_both c y.rest x.rest, x.made, y.made);
 }
 
--- of a caller whose number is told in another way
+-- for a caller whose number is written in another way
 pub frees_as : (c d : ℕ) {count : ℕ} (h k : List Event) → d ≡ c → Frees d h k count → Frees c h k count
 frees_as c d {count} h k same so = subst (λ (z : ℕ). Frees z h k count) same so
 
 pub frees_begins : (c : ℕ) {count : ℕ} (h k : List Event) → Frees c h k count → h ⊑ k
 frees_begins c h k so = record { rest = so.rest; is = so.is }
 
--- the number is one
+-- two such numbers are equal
 pub frees_same : (c a b : ℕ) (h k : List Event) → Frees c h k a → Frees c h k b → a ≡ b
 frees_same c a b h k x y = sym x.made ∙ ap (freed_by c) (append_cancel_right x.rest y.rest h (sym x.is ∙ y.is)) ∙ y.made
 
--- what is told of it adds up
+-- the counts add up
 pub counts_of : (c count : ℕ) (h k : List Event) → count < 2 ^ 32 → Frees c h k count → Counts c h k count
 counts_of c count h k small so = record { count = count; frees = so; is = omega (arith, small) }
 
@@ -105,7 +105,7 @@ counts_both c a b g h k x y = record {
 pub counts_more : (c a count : ℕ) (g h k : List Event) → Counts c g h a → Frees c h k count → Counts c g k ((a + count) % 2 ^ 32)
 counts_more c a count g h k x y = record { count = x.count + count; frees = frees_both c x.count count g h k x.frees y; is = omega (arith, x.is) }
 
--- what makes none free leaves it
+-- a stretch that makes none free leaves the count
 pub counts_on : (c a : ℕ) (g h k : List Event) → Counts c g h a → Frees c h k 0 → Counts c g k a
 counts_on c a g h k x y = record { count = x.count + 0; frees = frees_both c x.count 0 g h k x.frees y; is = omega (arith, x.is) }
 
@@ -115,7 +115,7 @@ counts_as c d a h k same so = subst (λ (z : ℕ). Counts z h k a) same so
 pub undisturbed_as : (c d : ℕ) (h k : List Event) → d ≡ c → Undisturbed d h k → Undisturbed c h k
 undisturbed_as c d h k same so = subst (λ (z : ℕ). Undisturbed z h k) same so
 
--- what was undisturbed is so in each part
+-- if a stretch was undisturbed, each part of it was
 pub undisturbed_first : (c a b : ℕ) (g h k : List Event) → Frees c g h a → Frees c h k b → Undisturbed c g k → Undisturbed c g h
 undisturbed_first c a b g h k x y so = record {
   alone = alone_first c g h k (frees_begins c g h x) (frees_begins c h k y) so.alone;
@@ -128,7 +128,7 @@ undisturbed_then c a b g h k x y so = record {
   none = let same : a + b ≡ 0 = frees_same c (a + b) 0 g k (frees_both c a b g h k x y) so.none in let zero : b ≡ 0 = omega (arith, same) in subst (Frees c h k) zero y;
 }
 
--- and all that was done was to take nodes and to give them back, so what is live stayed as it was
+-- and the caller only took and released nodes, so what is live stayed as it was
 only_turns : (c : ℕ) (es : List Event) → AllBy c es → AllMerge c es → freed_by c es ≡ 0 → AllTurns es
 only_turns c [] own merges none = tt
 only_turns c (Take d i ∷ es) own merges none = (tt, only_turns c es own.1 merges.1 (omega (arith, none)))

@@ -1,4 +1,4 @@
--- How a search stands after it gave one of the nodes in hand.
+-- What a search holds after it released one of its nodes.
 use Rattle.std.proofs.Common.{◌≡◌, ◌≢◌, ℕ, true, List, ◌∷◌, sym, refl, subst, inl}
 use Rattle.std.specs.Prelude.{Option, Some, None}
 use Rattle.ks_keysets.specs.Keyset.{InInset}
@@ -25,7 +25,7 @@ drop_later x i xs ne = cond_else x i xs (x ∷ drop_one i xs) ne
 
 module _ {N : Type 0} (sort : Sort) (shows : N → Body) (n c : ℕ) (laws : Laws sort n) (h k : List Event) (i : ℕ) (sound : Sound sort BeginsTree TreeStep n h) (sound' : Sound sort BeginsTree TreeStep n k)
     (gave : GrowsWith c (Give c i) h k) (still : StillMatchBut sort shows i (hand c h) h k) where
-  -- the hand has no node twice
+  -- no node is held twice
   pub once : (hs : List ℕ) → hand c h ≡ hs → AreOnce hs
   once hs is = subst AreOnce is (is_hand h c (laws.turns h sound)).once
 

@@ -1,4 +1,4 @@
--- Stretches of a call in which its caller makes no node live, if it acts alone; and what is free at their end.
+-- Stretches of a call in which its caller makes no node live, if no other acts; and what is free at their end.
 use Rattle.std.proofs.Common.{◌≡◌, ◌≢◌, ℕ, ◌<◌, inl, inr, List, [], ◌∷◌, ◌++◌, sym, refl, ap, ◌∙◌, subst, append_assoc}
 use Rattle.std.proofs.lemmas.List.{append_cancel_right}
 use mathlib.Core.Logic.{dite}
@@ -24,7 +24,7 @@ makes_both c g h k a b one two alone i live = one (alone_first c g h k a b alone
 pub makes_others : (c : ℕ) (h k : List Event) → GrowsByOthers c h k → MakesNone c h k
 makes_others c h k so alone i live = subst (λ (z : List Event). IsLive (graph_after z) i) (alone_still c h k alone so) live
 
--- where c acts alone its own event follows at once
+-- while only c acts, its own event follows at once
 pub alone_with : (c : ℕ) (e : Event) (h k : List Event) → GrowsWith c e h k → ActsAlone c h k → k ≡ e ∷ h
 alone_with c e h k so alone =
     let mid : List Event = so.rest ++ h in
@@ -39,7 +39,7 @@ makes_with c e h k none so alone i live =
 
 -- nodes that are free
 
--- who acts alone is none of the others
+-- if all events are of one caller, none is of another
 alone_others : (c d : ℕ) (es : List Event) → d ≢ c → AllBy c es → NoneBy d es
 alone_others c d [] other own = tt
 alone_others c d (e ∷ es) other own = ((λ same. other (sym same ∙ own.0)), alone_others c d es other own.1)
@@ -48,7 +48,7 @@ module _ (c : ℕ) (k l : List Event) (alone : ActsAlone c k l) (are : AreInTurn
   begins : k ⊑ l
   begins = record { rest = alone.rest; is = alone.is }
 
-  -- a node that is free at the end, where c acts alone and live nodes stay so, was free before, if c did not hold it
+  -- if only c acts and live nodes remain, a node that is free at the end, and that c did not hold, was free before
   free_unheld : (turn_after k j ≡ held c → ⊥) → turn_after k j ≡ free
   free_unheld mine = go (turn_after k j) refl
     where
@@ -61,7 +61,7 @@ module _ (c : ℕ) (k l : List Event) (alone : ActsAlone c k l) (are : AreInTurn
           let kept : turn_after l j ≡ held d = (by_others_keeps d j k l so are is).turn in
           let clash : free ≡ held d = sym last ∙ kept in absurd (cc))
 
-  -- so it was if c held live nodes only, or this one was not the one that c had claimed
+  -- so it was if c held only live nodes, or this one was not the one that c had claimed
 
   pub free_before : HoldsLive k c → turn_after k j ≡ free
   free_before live = free_unheld (λ mine. live_not_free l j are (stays j (live j mine)) last)
@@ -69,7 +69,7 @@ module _ (c : ℕ) (k l : List Event) (alone : ActsAlone c k l) (are : AreInTurn
   free_but : (layout : Layout) (place : ℕ) (b : HoldsLiveBut layout place k c) → j ≢ b.one → turn_after k j ≡ free
   free_but layout place b other = free_unheld (λ mine. live_not_free l j are (stays j (b.others j other mine)) last)
 
--- a trace that begins with another, which begins with it, is the same
+-- a trace that continues another, which continues it, is the same
 nil_second : (xs ys : List Event) → xs ++ ys ≡ [] → ys ≡ []
 nil_second [] ys e = e
 nil_second (x ∷ xs) ys e = absurd (cc)
@@ -80,7 +80,7 @@ begins_same g h a b =
     let none : a.rest ≡ [] = nil_second b.rest a.rest (append_cancel_right (b.rest ++ a.rest) [] g both) in
     sym (a.is ∙ ap (λ (z : List Event). z ++ g) none)
 
--- they were before, where c acts alone, held live nodes only, and live nodes stay so
+-- two nodes were free before, if only c acts, held only live nodes, and live nodes remain
 pub two_before : (n c : ℕ) (k l : List Event) → ActsAlone c k l → AreInTurn l → ((i : ℕ) → IsLive (graph_after k) i → IsLive (graph_after l) i) → HoldsLive k c → TwoFree n l → TwoFree n k
 two_before n c k l alone are stays live two = record {
   one = two.one;
@@ -90,7 +90,7 @@ two_before n c k l alone are stays live two = record {
   free = (free_before c k l alone are stays two.one two.free.0 live, free_before c k l alone are stays two.two two.free.1 live);
 }
 
--- where c acts alone and two nodes are free at the end, a node was free all the time
+-- if only c acts and two nodes are free at the end, its claims are not refused: some node was free all the time
 pub never_refused : (layout : Layout) (n c place : ℕ) (s h : List Event) → ActsAlone c s h → AreInTurn h → ((k : List Event) → k ⊑ h → (i : ℕ) → IsLive (graph_after k) i → IsLive (graph_after h) i) → TwoFree n h → NoneFree layout n c place s h → ⊥
 never_refused layout n c place s h alone are stays two none = elim (none.holds none.from (begins_self none.from) none.ordered) [
   | inl live ↦ taken two.one two.near.0 (free_before c none.from h since are (stays none.from before) two.one two.free.0 live)
@@ -105,7 +105,7 @@ never_refused layout n c place s h alone are stays two none = elim (none.holds n
     since : ActsAlone c none.from h
     since = alone_then c s none.from h none.since before alone
 
-    -- the caller waits between the two moments, so nothing happens
+    -- the caller waits between the two moments, so there is no event
     still : none.to ≡ none.from
     still = alone_still c none.from none.to (alone_first c none.from none.to h none.ordered none.before since) (record { rest = none.ordered.rest; is = none.ordered.is; others = none.waits })
 

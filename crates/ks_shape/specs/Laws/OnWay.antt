@@ -1,4 +1,4 @@
--- Searches on their way under trees.
+-- Searches under way under trees.
 use Rattle.std.proofs.Common.{◌≡◌, ℕ, ◌≤◌, false, List, ap, arith}
 use Rattle.std.specs.Prelude.{Option, Some, None}
 use Rattle.ks_keysets.specs.declared.Frame.{Frame}
@@ -19,7 +19,7 @@ use Rattle.ks_shape.specs.Laws.Single.{shown, record_is}
 use Rattle.ks_shape.specs.OnWay.{IsOnWay}
 
 module _ {N : Type 0} (sort : Sort) (shows : N → Body) where
-  -- where a search on its way ends, the place is in the range of the node: its range, if it has one, is its inset
+  -- where a search ends, the place is in the range of the node: its range, if it has one, is its inset
   module _ (c p : ℕ) (h : List Event) (x : Hand N) (way : IsOnWay sort shows c p h x) (facts : Tree (graph_after h) (frame_after (blank_of sort) h)) (place : p ≤ top) where
     held_in : (o : Option Span) → (frame_after (blank_of sort) h x.node).range ≡ o → (first_of o ≤ p) × (p ≤ last_of o)
     held_in None e = (omega arith, omega (arith, place))

@@ -1,4 +1,4 @@
--- Stretches without takes and Shapes of a caller: how they add up, and what is one.
+-- Stretches without takes and Shapes of a caller: how they add up, and which events are one.
 use Rattle.std.proofs.Common.{◌≡◌, ℕ, List, [], ◌∷◌, ◌++◌, length, sym, refl, ap, ◌∙◌, subst, arith}
 use mathlib.Core.Logic.{dite}
 use native.Mathlib.Decide.{ℕ_discrete}
@@ -37,7 +37,7 @@ both_shapes : (c : ℕ) (es fs : List Event) → NoShapeBy c es → NoShapeBy c 
 both_shapes c [] fs a b = b
 both_shapes c (e ∷ es) fs a b = (a.0, both_shapes c es fs a.1 b)
 
--- it is such a word of the laws of descents
+-- such events are quiet in the sense of the laws of descents
 pub own_quiet : (c : ℕ) (es : List Event) → NoShapeBy c es → OwnQuiet c es
 own_quiet c [] so = tt
 own_quiet c (e ∷ es) so = (so.0, own_quiet c es so.1)
@@ -54,6 +54,6 @@ quiet_claim c i h k so = record { grows = record { rest = Claim c i ∷ so.rest;
 pub quiet_both : (c : ℕ) (g h k : List Event) → IsQuiet c g h → IsQuiet c h k → IsQuiet c g k
 quiet_both c g h k a b = record { grows = begins_both g h k a.grows b.grows; takes = takes_both c b.grows.rest a.grows.rest b.takes ∙ a.takes; shapes = both_shapes c b.grows.rest a.grows.rest b.shapes a.shapes }
 
--- of a caller whose number is told in another way
+-- for a caller whose number is written in another way
 pub quiet_on : (c d : ℕ) (g h k : List Event) → d ≡ c → IsQuiet c g h → IsQuiet d h k → IsQuiet c g k
 quiet_on c d g h k same a b = quiet_both c g h k a (subst (λ (z : ℕ). IsQuiet z h k) same b)

@@ -1,4 +1,4 @@
--- What sound traces tell of a search under trees.
+-- What holds of a search under trees in sound traces.
 use Rattle.std.proofs.Common.{◌≡◌, ℕ, List}
 use Rattle.ks_keysets.specs.Keyset.{opening, Good, InInset}
 use Rattle.ks_keysets.specs.Walk.{OneParent}
@@ -31,7 +31,7 @@ laws_of laws good_opening sort n parents = record {
   keysets = keyset_beside sort laws good_opening n;
 }
 
--- what a caller holds keeps its inset while it takes, claims and gives
+-- what a caller holds keeps its inset while it takes, claims and releases nodes
 module _ (sort : Sort) (n c : ℕ) (laws : Laws sort n) where
   pub quiet_insets : (e : Event) (h k : List Event) → IsPlain e → GrowsWith c e h k → Sound sort BeginsTree TreeStep n k → (i p : ℕ) → turn_after h i ≡ held c → turn_after k i ≡ held c → InInset (graph_after h) i p → InInset (graph_after k) i p
   quiet_insets e h k plain grows sound i p before after inside = (beside_with SameInset sort BeginsTree TreeStep n laws.insets c e h k plain grows sound i before after).forth p inside

@@ -1,4 +1,4 @@
--- Calls that hold one node at a time, and what is known of a live node in hand.
+-- Calls that hold one node at a time, and what is known of a live node that is held.
 use Rattle.std.proofs.Common.{◌≡◌, ℕ, ◌<◌, ◌≤◌, Bool, true, false, List, [], ◌∷◌, ◌++◌, length, sym, refl, ap, ◌∙◌, subst, ⊎_elim, arith}
 use Rattle.std.specs.Prelude.{Some, None}
 use Rattle.std.proofs.lemmas.Bool.{cases_lt}
@@ -45,7 +45,7 @@ one_may link_move (Del p) = omega arith
 one_may link_move (Add p v) = omega arith
 one_may link_move (Swap p old new) = omega arith
 
--- a live node is one of the arena's
+-- a live node is a node of the arena
 pub is_near : (sort : Sort) (begins : Frame → Type 0) (asks : _) (nodes : ℕ) (h : List Event) (i : ℕ) → 0 < nodes → Sound sort begins asks nodes h → IsLive (graph_after h) i → i < nodes
 is_near sort begins asks nodes h i some so live = ⊎_elim (λ (x : i < nodes). x) (λ (far : nodes ≤ i). let is : None ≡ Some live.0 = sym (ap live_record (free_beyond sort begins asks nodes some h so i far)) ∙ live.1 in absurd (let q : ⊥ = cc in q)) (cases_lt i nodes)
 
@@ -58,7 +58,7 @@ module _ {N : Type 0} (sort : Sort) (shows : N → Body) where
   live_if true s f b e so = so
   live_if false s f b e so = absurd (let q : ⊥ = cc in q)
 
-  -- the node and the frame of a live node in hand
+  -- the node and the frame of a live node that is held
   pub shown : (h : List Event) (x : Hand N) → x.live ≡ true → Matches sort shows h x → (graph_after h x.node ≡ Live (record_of (shows x.body))) × (frame_after (blank_of sort) h x.node ≡ frame_of (shows x.body))
   shown h x live m = live_if x.live (graph_after h x.node) (frame_after (blank_of sort) h x.node) x.body live m.is
 
@@ -72,7 +72,7 @@ module _ {N : Type 0} (sort : Sort) (shows : N → Body) where
       (omega (arith, ap length (took.hand ∙ ap (λ (z : List ℕ). i ∷ z) empty), one_may template op))
       under
 
--- a call gives the one node that it holds
+-- a call releases the one node that it holds
 pub gives : (template : Template) (c i : ℕ) (op : Op) (s0 h k : List Event) → hand c k ≡ [] → GrowsWith c (Give c i) h k → Underway template c op s0 h → Underway template c op s0 k
 gives template c i op s0 h k empty gave under = underway_with template c op (Give c i) s0 h k tt gave tt (omega (arith, ap length empty, one_may template op)) under
 

@@ -1,4 +1,4 @@
--- Stretches of a call that are such by every template: what a search does under trees, which begins at the root.
+-- Stretches of a call that are such by every technique: what a search under trees does, which begins at the root.
 use Rattle.std.proofs.Common.{◌≡◌, ℕ, ◌≤◌, List, [], ◌++◌, length, sym, refl, ◌∙◌, subst, ap, arith}
 use Rattle.ks_keysets.specs.declared.Change.{Change}
 use Rattle.ks_history.specs.declared.Event.{Event}
@@ -35,7 +35,7 @@ stretches_give c i h k few gave = λ template. stretch_give template c h k i few
 pub stretches_take : (c i : ℕ) (h k : List Event) → length (hand c h) ≤ 3 → length (hand c k) ≤ 3 → (so : GrowsWith c (Take c i) h k) → ((template : Template) (op : Op) → MayTake template op (so.rest ++ h) c i) → Stretches c h k
 stretches_take c i h k few after so may = λ template. stretch_take template c h k i few after so (may template)
 
--- every template may begin at the root
+-- every technique may begin at the root
 pub root_begins : (template : Template) → MayBegin template 0
 root_begins coupling = refl
 root_begins give_up = tt
@@ -44,7 +44,7 @@ root_begins link_move = tt
 pub stretches_root : (c : ℕ) (h k : List Event) → hand c h ≡ [] → length (hand c k) ≤ 3 → GrowsWith c (Take c 0) h k → Stretches c h k
 stretches_root c h k empty after so = λ template. stretch_first template c h k 0 (root_begins template) empty after so
 
--- of a caller whose number is told in another way
+-- for a caller whose number is written in another way
 pub stretches_as : (c d : ℕ) (h k : List Event) → d ≡ c → Stretches d h k → Stretches c h k
 stretches_as c d h k same so = subst (λ (z : ℕ). Stretches z h k) same so
 
@@ -57,6 +57,6 @@ stretches_shape me c d {changes} h k same same' few hands shaped = λ template.
     let grows : GrowsWith me (Shape me changes) h k = subst (λ (z : ℕ). GrowsWith z (Shape z changes) h k) same shaped in
     stretch_shape template me h k changes few (omega (arith, few, ap length kept)) grows
 
--- a put and an add go on by them
+-- a put and an add continue by them
 pub fill_goes_on : (template : Template) (c p : ℕ) (fill : Fill) (s h k : List Event) → Underway template c (filling p fill) s h → Stretches c h k → Underway template c (filling p fill) s k
 fill_goes_on template c p fill s h k under so = underway_both template c (filling p fill) s h k under (so template (filling p fill) (three_to_fill template p fill))

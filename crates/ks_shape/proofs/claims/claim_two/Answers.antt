@@ -53,12 +53,12 @@ returns-in-Some-claim_one-clause-keysets g c = let at = (goal.at.returns-in-Some
     beside_both SameKeyset (sort_of g.N.Node.layout g.N.Node.ranged) g.D.Discipline.begins g.D.Discipline.step c.args.arena.now.table.shared.table_id.slots (keysets g at) me (seen_of c.args.pass.now) h₁ h₂ c.claim_one.ensures.rest.kept c.claim_one.ensures.keysets
     (subst (λ (z : ℕ). KeepsBeside SameKeyset z h₁ h₂) c.claim_one.ensures.caller c.claim_one-2.ensures.keysets)
 
--- the second was refused, and the first is given back
+-- the second was refused, and the first is released
 
 own : (g : Over) (c : After-give g) → c.claim_one-2.new.pass.caller ≡ c.args.pass.now.caller
 own g c = c.claim_one-2.ensures.caller ∙ c.claim_one.ensures.caller
 
--- what the second claim tells, of the caller's own number
+-- what is known after the second claim, for the caller's own number
 second : (g : Over) (c : After-give g) → (hand c.args.pass.now.caller (seen_of c.claim_one-2.new.pass) ≡ hand c.args.pass.now.caller (seen_of c.claim_one.new.pass)) × ((place : ℕ) → HoldsForClaim g.N.Node.layout place (seen_of c.claim_one.new.pass) c.args.pass.now.caller → NoneFree g.N.Node.layout c.args.arena.now.nodes c.args.pass.now.caller place (seen_of c.claim_one.new.pass) (seen_of c.claim_one-2.new.pass))
 second g c = let h₁ = seen_of c.claim_one.new.pass in let h₂ = seen_of c.claim_one-2.new.pass in
     subst (λ (z : ℕ). (hand z h₂ ≡ hand z h₁) × ((place : ℕ) → HoldsForClaim g.N.Node.layout place h₁ z → NoneFree g.N.Node.layout c.args.arena.now.nodes z place h₁ h₂)) c.claim_one.ensures.caller c.in-None.ensures.claimed
@@ -89,7 +89,7 @@ returns-in-None-clause-stretch g c = λ template. let gv = (goal.at.returns-in-N
     back_stretch (sort_of g.N.Node.layout g.N.Node.ranged) g.N.Node.body me (seen_of c.args.pass.now) h₁ c.in-Some.left c.in-Some.ensures.claimed h₂ (seen_of c.give.new.pass) (second g gv).0 (gave g gv) (hands g gv) template c.requires.few (c.claim_one.ensures.stretch template)
     (subst (λ (z : ℕ). Stretch template z h₁ h₂) c.claim_one.ensures.caller (c.claim_one-2.ensures.stretch template))
 
--- what stays at a node through both claims and the give
+-- what stays at a node through both claims and the release
 module _ (beside : ℕ → (ℕ → NodeState) → (ℕ → NodeState) → Type 0) where
   through : (g : Over) (c : After-give g) → StaysBeside beside (sort_of g.N.Node.layout g.N.Node.ranged) g.D.Discipline.begins g.D.Discipline.step c.args.arena.now.table.shared.table_id.slots → KeepsBeside beside c.args.pass.now.caller (seen_of c.args.pass.now) (seen_of c.claim_one.new.pass) → KeepsBeside beside c.claim_one.new.pass.caller (seen_of c.claim_one.new.pass) (seen_of c.claim_one-2.new.pass) → KeepsBeside beside c.args.pass.now.caller (seen_of c.args.pass.now) (seen_of c.give.new.pass)
   through g c laws one two = let sort = sort_of g.N.Node.layout g.N.Node.ranged in let n : ℕ = c.args.arena.now.table.shared.table_id.slots in let me : ℕ = c.args.pass.now.caller in let h = seen_of c.args.pass.now in let h₁ = seen_of c.claim_one.new.pass in let h₂ = seen_of c.claim_one-2.new.pass in let h₃ = seen_of c.give.new.pass in

@@ -11,7 +11,7 @@ use Rattle.ks_arena.specs.Clauses.{seen_of}
 use Rattle.ks_shape.specs.Fills.{EndsForRoom}
 use Rattle.ks_shape.proofs.fills.fill_at.Goals as goal
 
--- where it ended at a full node, no node was free
+-- if it ended at a full node, no node was free
 refused : {N : Type 0} (sort : Sort) (shows : N → Body) (n c place : ℕ) (k : List Event) (found : Result (Hand N) (Hand N)) (held : Hand N) → found ≡ Err held → EndsForRoom sort shows n c place k found → (h : List Event) × (since : h ⊑ k) × NoCallBy c since.rest × NoneFree sort.layout n c place h k
 refused {N = N} sort shows n c place k found held is so =
     let ends = subst (λ (z : Result (Hand N) (Hand N)). EndsForRoom sort shows n c place k z) is so in

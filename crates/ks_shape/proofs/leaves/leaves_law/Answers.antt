@@ -13,11 +13,11 @@ use Rattle.ks_arena.specs.Sound.{Sort}
 use Rattle.ks_shape.specs.Does.{FreesNone, HasBody, LivedBefore, MakesRoom, Merges}
 use Rattle.ks_shape.proofs.leaves.leaves_law.Goals as goal
 
--- what becomes live is not made free
+-- a node that becomes live is not made free
 stays : (node : Record) (frame : Frame) → BecomesLive node frame ≢ BecomesFree
 stays node frame e = absurd (let q : ⊥ = cc in q)
 
--- nor is what is made free made live
+-- nor is a node that is made free made live
 never : (h : List Event) (i : ℕ) (node : Record) (frame : Frame) → BecomesFree ≡ BecomesLive node frame → IsLive (graph_after h) i
 never h i node frame e = absurd (let q : ⊥ = cc in q)
 

@@ -44,7 +44,7 @@ pub returns-in-Held-clause-under : goal.returns-in-Held-clause-under
 returns-in-Held-clause-under g c = λ op start under. let at = (goal.at.returns-in-Held-clause-under g c).After-try_take in let e = c.in-Held.ensures in
     down_under (sort_of g.N.Node.layout g.N.Node.ranged) g.N.Node.body c.args.arena.now.table.shared.table_id.slots c.args.pass.now.caller c.args.place c.args.child (laws g at) (seen_of c.args.pass.now) (seen_of c.try_take.new.pass) c.args.held c.in-Held.below c.requires.pass.sound e.pass.sound c.requires.way (leads g at) e.took op start under
 
--- where another holds the child
+-- if another caller holds the child
 
 gave : (g : Over) (c : After-give_last g) → GrowsWith c.args.pass.now.caller (Give c.args.pass.now.caller c.args.held.node) (seen_of c.try_take.new.pass) (seen_of c.give_last.new.pass)
 gave g c = subst (λ (z : ℕ). GrowsWith z (Give z c.args.held.node) (seen_of c.try_take.new.pass) (seen_of c.give_last.new.pass)) c.in-Busy.ensures.caller c.give_last.ensures.gave

@@ -56,7 +56,7 @@ loop-index-preserved g c = let inv = c.loop-index.invariant in let me : ℕ = c.
 pub returns-clause-rest : goal.returns-clause-rest
 returns-clause-rest g c = rest_of c.args.self.now c.args.pass.now _ c.requires c.loop-index.invariant.2.kept
 
--- the pass of the only caller knows that nobody else acts
+-- the pass of the only caller knows that no other acts
 lone : (g : Over) (callers : ℕ) (p : Pass g.row.N.Denot g.row.D.Denot) (t : TableId) (h : List Event) → IsPass (sort_of g.N.Node.layout g.N.Node.ranged) g.D.Discipline.begins g.D.Discipline.step t callers p → callers ≡ 1 → p.caller ≡ 0 → h ⊑ seen_of p → ActsAlone 0 h (seen_of p) × HoldsAlone 0 h
 lone g callers p t h is one first begins = let made : p.seat.me.0.made ≡ 1 = is.made ∙ cond_here p.caller 0 callers 0 first ∙ one in one_alone h (seen_of p) begins (subst (λ (z : ℕ). CallersBelow z (seen_of p)) made (is.known (λ e. omega arith)))
 
