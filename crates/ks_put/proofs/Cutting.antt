@@ -15,7 +15,7 @@ use Rattle.ks_arena.specs.Sound.{Sort, blank_of}
 use Rattle.ks_arena.specs.Clauses.{Matches}
 use Rattle.ks_shape.specs.Laws.Single.{shown, record_is}
 
--- a live node in hand stands in the graph
+-- the graph and frame of a live node that is held are those that its body shows
 pub stands_now : {N : Type 0} (sort : Sort) (shows : N → Body) (h : List Event) (x : Hand N) → x.live ≡ true → Matches sort shows h x → IsPlain (shows x.body) → Stands (graph_after h) (frame_after (blank_of sort) h) x.node (shows x.body)
 stands_now sort shows h x live matches plain = record { has = record_is sort shows h x live matches; frame = (shown sort shows h x live matches).1; plain = plain }
 

@@ -1,4 +1,4 @@
--- What splits ask and tell.
+-- What splits require and ensure.
 use Rattle.std.proofs.Common.{◌≡◌, ℕ, Bool, List, false}
 use Rattle.std.specs.Prelude.{IsTrue, Option, Some, None}
 use Rattle.ks_keysets.specs.Layout.{Layout}
@@ -67,7 +67,7 @@ module _ {N : Type 0} (sort : Sort) (shows : N → Body) where
   abbrev pub IsPart : ℕ → List Event → Hand N → Hand N → Type 0
   IsPart place h above x = LeadsTo (record_of (shows above.body)) place x.node × InInset (graph_after h) x.node place
 
-  -- what a try to split the node of a path tells: the path to the half that holds the place; or the path, since no node
+  -- the result of a try to split the node of a path: the path to the half that holds the place; or the path, since no node
   -- was free, or since there is no way to split it
   abbrev pub DidPart : ℕ → ℕ → ℕ → List Event → List Event → Path N → Part N → Type 0
   DidPart n c place h k path (Split x) = IsOnPath sort shows c place k x

@@ -27,7 +27,7 @@ pub(crate) enum Part<N> {
     Shut(Path<N>),
 }
 
-/// Gives one of two halves to which the parent leads, and keeps the one that holds the place.
+/// Releases one of two halves to which the parent leads, and keeps the one that holds the place.
 pub(crate) fn keep_half<N: Unlinked, G: Gate>(
     arena: &Arena<N, Tree>,
     pass: &mut Pass<N, Tree>,
@@ -151,7 +151,7 @@ pub(crate) fn keep_right_alone<N: Unlinked, G: Gate>(
     Path { parent: None, node }
 }
 
-/// Gives the parent of a node that is not full: it has no need of it.
+/// Releases the parent of a node that is not full, which does not need it.
 #[inline(always)]
 pub(crate) fn settle<N: Unlinked, G: Gate>(
     arena: &Arena<N, Tree>,

@@ -232,7 +232,7 @@ pub(crate) fn split_child<N: Unlinked, G: Gate>(
     split_alone(arena, pass, gate, place, cut, path)
 }
 
-/// Splits the full node of a path, if there is a way and a claim is not refused, and gives the half that has not the place.
+/// Splits the full node of a path, if there is a way and a claim succeeds, and releases the half without the place.
 fn split_whole<N: Unlinked, G: Gate>(
     arena: &Arena<N, Tree>,
     pass: &mut Pass<N, Tree>,

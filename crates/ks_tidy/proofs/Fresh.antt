@@ -1,4 +1,4 @@
--- The right neighbour of a node is not in the hand of who holds the node and its parent alone.
+-- The right neighbour of a node is not held by a caller that holds only the node and its parent.
 use Rattle.std.proofs.Common.{◌≡◌, ◌≢◌, ◌<◌, ℕ, true, List, [], ◌∷◌, refl, sym, subst, inl, inr}
 use Rattle.std.specs.Prelude.{Option, Some, None, Any, Bool, false, cond, IsTrue}
 use Rattle.ks_keysets.specs.declared.Edge.{Edge}

@@ -1,4 +1,4 @@
--- What gives and takes of a path tell.
+-- What releasing and taking nodes of a path ensure.
 use Rattle.std.proofs.Common.{◌≡◌, ◌∙◌, ℕ, List, sym, subst}
 use Rattle.std.specs.Prelude.{Option, Some, None}
 use Rattle.ks_history.specs.declared.Event.{Event}

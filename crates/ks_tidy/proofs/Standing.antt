@@ -1,4 +1,4 @@
--- How what is held stands in the graph, and what stays of it.
+-- What held nodes are in the graph, and what stays of it.
 use Rattle.std.proofs.Common.{◌≡◌, ◌≢◌, ◌≤◌, ℕ, true, false, List, sym, ap, ◌∙◌, subst, arith}
 use Rattle.std.specs.Prelude.{Option, Some, None, Any}
 use Rattle.std.specs.Option.{ForSome}
@@ -31,7 +31,7 @@ use Rattle.ks_shape.specs.Laws.Single.{shown, record_is}
 pub plain : (b : Body) → InOrder (content_of b) → ForSome b.range (λ r. Framed r b) → b.link ≡ None → IsPlain b
 plain b sound framed no_link = record { sound = sound; framed = framed; no_link = no_link }
 
--- a live node in hand stands in the graph
+-- the graph and frame of a live node that is held are those that its body shows
 pub stands_now : {N : Type 0} (sort : Sort) (shows : N → Body) (h : List Event) (x : Hand N) → x.live ≡ true → Matches sort shows h x → IsPlain (shows x.body) → Stands (graph_after h) (frame_after (blank_of sort) h) x.node (shows x.body)
 stands_now sort shows h x live matches is = record { has = record_is sort shows h x live matches; frame = (shown sort shows h x live matches).1; plain = is }
 

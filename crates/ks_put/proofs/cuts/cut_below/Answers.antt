@@ -49,7 +49,7 @@ returns-clause-cut g c = within g c
 is_cut : (g : Over) (c : After-cut g) → c.cut.result ≡ g.N.Node.cut_at (content_of (g.N.Node.body c.args.node.now.body)) c.if-parent-eq0.span
 is_cut g c = c.cut.ensures.is ∙ ap (λ (t : Bool). g.N.Node.cut_at (content_of (g.N.Node.body c.args.node.now.body)) (cond t (g.N.Node.body c.args.node.now.body).range c.if-parent-eq0.span)) c.unlinked_law.ensures.by_span
 
--- the parent is a branch, if those alone have edges
+-- the parent is a branch, if only branches have edges
 branch_is : (t : Bool) (u : Body) → is_branch u ≡ t → (is_branch u ≡ false → length u.starts ≡ 0) → length (edges_of u) ≡ length u.starts → 0 < length (edges_of u) → IsTrue (is_branch u)
 branch_is true u e none same some = e
 branch_is false u e none same some = absurd (omega (arith, none e, same, some))

@@ -82,7 +82,7 @@ returns-clause-stretch g c = let me : ℕ = c.args.pass.now.caller in let h = se
     (stretches_shape me c.claim_two.new.pass.caller c.grow.new.pass.caller h₁ h₂ one two (omega (arith, ap length c.in-Some.ensures.claimed.hands, ap length c.requires.path.hands)) c.grow.ensures.shaped.hand c.grow.ensures.shaped.adds)
     (stretches_as me c.grow.new.pass.caller h₂ h₃ (two ∙ one) c.keep_half.ensures.stretch))
 
--- how deep the search stands
+-- how many steps down the search is
 
 pub returns-in_default-clause-down : goal.returns-in_default-clause-down
 returns-in_default-clause-down g c = λ start taken roots steps down. let law = laws g (goal.at.returns-in_default-clause-down g c).After-search_law in let k = seen_of c.claim_two.new.pass in

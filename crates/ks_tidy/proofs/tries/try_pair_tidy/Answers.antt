@@ -24,7 +24,7 @@ pub loop-steps-init : goal.loop-steps-init
 loop-steps-init g c = let me : ℕ = c.args.pass.now.caller in let h = seen_of c.args.pass.now in let k = seen_of c.try_enter.new.pass in let e = c.try_enter.ensures in let o = c.in-Ok.ensures in
     (e.pass, e.caller, record { path = o.path; rooted = λ none. o.took.0 }, e.stretch, counts_of me 0 h k (omega arith) (frees_take me 0 h k o.took.1), searched_dels (sort_of g.N.Node.layout g.N.Node.ranged) me h k e.leaves)
 
--- where the search stands after it tidied
+-- where the search is after it tidied
 now : (g : Over) (c : After-try_tidy_at-tidied g) → c.try_tidy_at-tidied.new.pass.caller ≡ c.args.pass.now.caller
 now g c = c.try_tidy_at-tidied.ensures.caller ∙ c.loop-steps.invariant.1
 
