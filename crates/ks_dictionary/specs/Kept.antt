@@ -25,7 +25,7 @@ abbrev pub Changed : ℕ → List Answered → Type 0
 Changed p [] = ⊥
 Changed p (a ∷ more) = WritesAt (written a.op a.reply) p ⊎ Changed p more
 
--- some of these calls removed what stood at the place
+-- some of these calls removed the value at the place
 abbrev pub Removed : ℕ → List Answered → Type 0
 Removed p [] = ⊥
 Removed p (a ∷ more) = Removes (written a.op a.reply) p ⊎ Removed p more

@@ -32,8 +32,8 @@ impl<N: Node, T: Ruled> Dictionary<N, T> {
         keyset_theorem();
     }
 
-    /// Passes in their order are those of all callers; and passes that were, in whose places idle passes of the same callers
-    /// stand, are so still.
+    /// Passes in their order are those of all callers; and these are still so if idle passes of the same callers
+    /// replace some.
     pub fn passes_law(&self)
         ensures ordered { (passes : List _) → AreOrderedPassesOf self.now passes → AreAllPassesOf self.now passes }
         ensures replaced { (before after : List _) → AreAllPassesOf self.now before →

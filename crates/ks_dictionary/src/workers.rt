@@ -24,7 +24,7 @@ use ks_tickets::{Desk, Tickets};
 use std::sync::Wait;
 use std::thread::{Threads, for_each_mut};
 
-/// The number and the reply that an answer tells.
+/// The number and the reply of a call that was decided.
 fn line_of(answer: Numbered) -> (u64, Reply)
     ensures number { result.0 ≡ answer.number }
     ensures reply { result.1 ≡ told answer.found }
@@ -42,7 +42,7 @@ fn line_in(answer: Result<Numbered, Full>) -> (u64, Reply)
     }
 }
 
-/// Makes one call, and answers its number and its reply.
+/// Makes one call, and returns its number and its reply.
 fn call<N: Node, T: Ruled + Template<N, Arena<N, <T as Ruled>::Rule>>, R: Wait, G: Gate>(
     rt: &R,
     dictionary: &Dictionary<N, T>,

@@ -1,4 +1,4 @@
--- How a put or an add that waits for nobody ends where its first search does.
+-- How a non-blocking put or add ends at the node where its first search does.
 use Rattle.std.proofs.Common.{◌≡◌, ℕ, List, [], ◌∷◌, arith}
 use Rattle.std.specs.Prelude.{Result, Ok, Err}
 use Rattle.ks_keysets.specs.Layout.{Layout}

@@ -35,7 +35,7 @@ shaped_live (x ∷ xs) i s r e = dite (ℕ_discrete i x.node)
     (λ same. inl (inl (sym same)))
     (λ other. elim (shaped_live xs i s r (sym (ap live_record (cond_else i x.node (new_state x.state) (shaped xs i s) other)) ∙ e)) [ inl named ↦ inl (inr named) | inr was ↦ inr was ])
 
--- so it is after a Shape of who acts alone
+-- so it is after a Shape, if only its caller acts
 pub shape_live : (c : ℕ) (changes : List Change) (h k : List Event) → GrowsWith c (Shape c changes) h k → ActsAlone c h k → (i : ℕ) → IsLive (graph_after k) i → Names changes i ⊎ IsLive (graph_after h) i
 shape_live c changes h k so alone i live =
     let after : IsLive (graph_after (Shape c changes ∷ h)) i = subst (λ (z : List Event). IsLive (graph_after z) i) (alone_with c (Shape c changes) h k so alone) live in
@@ -70,11 +70,11 @@ module _ (sort : Sort) where
   pub are_led : (h k : List Event) → LedBut sort [] h k → AreLed sort h k
   are_led h k so i live = elim (so i live) [ inl first ↦ inl first | inr rest ↦ elim rest [ inl led ↦ inr led | inr none ↦ absurd none ] ]
 
--- who holds nothing holds live nodes only
+-- a caller that holds nothing holds live nodes only
 pub holds_none : (c : ℕ) (h : List Event) → hand c h ≡ [] → HoldsLive h c
 holds_none c h is j mine = absurd (subst (λ (z : List ℕ). Has z j) is (held_in_hand h c j mine))
 
--- where it stands among those that wait
+-- the index of a node among those that wait
 pub waits_at : (ws : List Waiting) (i : ℕ) → Waits ws i → (j : ℕ) × (j < length ws) × ((d : Waiting) → (slice_index_or ws j d).node ≡ i)
 waits_at [] i none = absurd none
 waits_at (w ∷ ws) i (inl is) = (0, omega arith, λ d. is)

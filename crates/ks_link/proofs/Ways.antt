@@ -1,4 +1,4 @@
--- How a search goes on its way.
+-- How a search along links goes on.
 use Rattle.std.proofs.Common.{◌≡◌, ℕ, ◌<◌, ◌≤◌, true, false, List, [], ◌∷◌, length, sym, refl, ap, ◌∙◌, subst, inl, inr, arith}
 use Rattle.std.specs.Prelude.{◌⊎◌, Option, Some, None, All, max}
 use Rattle.std.specs.Option.{ForSome}

@@ -33,8 +33,8 @@ struct Walked {
     end: u64,
 }
 
-/// Merges at the node of a path, low or not, until nothing is left to merge there. Returns up to which place each place
-/// takes the same path as this one.
+/// Merges at the node of a path, low or not, until nothing is left to merge there. Returns the last place up to
+/// which all take the path of this one.
 fn visit<N: Unlinked, R: Wait, G: Gate>(
     rt: &R,
     arena: &Arena<N, Tree>,

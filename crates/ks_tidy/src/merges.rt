@@ -83,8 +83,8 @@ pub(crate) fn merge_own<N: Unlinked, R: Wait, G: Gate>(
     join_own(arena, pass, gate, place, path, next)
 }
 
-/// The node below a branch absorbs the node to which the branch leads next, if both fit. That one is released; if it
-/// was absorbed, the branch forgets it and it is released as free.
+/// The node below a branch absorbs the node to which the branch leads next, if both fit. That one is released, or
+/// the branch forgets it and it is freed.
 pub(crate) fn merge_beside<N: Unlinked, R: Wait, G: Gate>(
     rt: &R,
     arena: &Arena<N, Tree>,

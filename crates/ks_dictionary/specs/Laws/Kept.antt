@@ -36,7 +36,7 @@ changed_or_same (a ∷ more) m p = go (write_or_same (written a.op a.reply) m p)
     go (inr same) (inl changed) = inl (inr changed)
     go (inr same) (inr stays) = inr (stays ∙ same)
 
--- something stands at the place
+-- the place has a value
 abbrev Stands : Option ℕ → Type 0
 Stands o = (v : ℕ) × (o ≡ Some v)
 
@@ -58,7 +58,7 @@ removed_or_stand (a ∷ more) m p stands = go (removed_or_stands (written a.op a
         next (inl removed) = inl (inr removed)
         next (inr stays) = inr stays
 
--- a call in the middle of a legal history answers the map before it
+-- a call in the middle of a legal history has its reply from the map before it
 at_middle : {X : Type 0} (xs ys : List X) (x : X) → slice_get (xs ++ x ∷ ys) (length xs) ≡ Some x
 at_middle [] ys x = refl
 at_middle (y ∷ xs) ys x = at_middle xs ys x

@@ -1,4 +1,4 @@
--- Nodes on the way of a search by giving up that waits for nobody, which it does not hold yet.
+-- Nodes on the path of a non-blocking search by giving up, which it does not hold yet.
 use Rattle.std.proofs.Common.{ℕ, List}
 use Rattle.ks_keysets.specs.Keyset.{InInset}
 use Rattle.ks_history.specs.declared.Event.{Event}
