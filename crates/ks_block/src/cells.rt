@@ -71,7 +71,7 @@ pub(crate) fn allocate<T, A: Allocator>(
     }
 }
 
-/// Gives the memory back.
+/// Frees the memory.
 pub(crate) fn deallocate<T, A: Allocator>(alloc: &A, len: usize, cells: Cells<T>, deed: Deed<T, A>)
     requires { (length cells.slots ≡ len) × (deed.at ≡ cells.base) × (deed.len ≡ len) × (deed.alloc ≡ alloc.now) }
 {

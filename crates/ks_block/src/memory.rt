@@ -33,12 +33,12 @@ impl Model for Memory {
 
 /// Where blocks take their memory: `Global` in programs, others in tests.
 pub trait Source: Drop {
-    /// Takes memory with `room` empty places, or fails for want of memory.
+    /// Takes memory with `room` empty places, or fails if memory runs out.
     fn take_memory(&self, room: usize) -> Result<Memory, AllocError>
         requires { room ≤ 1024 }
         ensures { IfOk result (λ m. m ≡ replicate room None) };
 
-    /// Gives memory back, whatever it holds.
+    /// Frees memory, whatever it holds.
     fn give_back(&self, memory: Memory);
 }
 

@@ -82,7 +82,7 @@ fn hand_out(handles: &mut [Handle], mut boxes: Vec<Box<Caller>>)
     }
 }
 
-/// Opens an empty dictionary of so many nodes, and a handle for each of its callers.
+/// Opens an empty dictionary of `nodes` nodes, and a handle for each of its callers.
 #[unsafe(no_mangle)]
 pub extern "C" fn ks_c_open(alloc: Global, nodes: u32, callers: &mut [Handle]) -> u32
     requires { AreHandles callers.old }

@@ -35,7 +35,7 @@ fn words(rt: &HostRuntime) -> io::Result<Vec<String>> {
     Ok(words)
 }
 
-/// Measures the calls of so many callers by the technique; none where there is no such technique.
+/// Measures the calls of `callers` callers by the technique; `None` if there is no such technique.
 fn measure_by<R: Threads + Wait + Clock + Sync>(
     rt: &R,
     alloc: Global,

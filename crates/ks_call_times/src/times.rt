@@ -30,7 +30,7 @@ impl Sums {
     }
 }
 
-/// The time that stands after this share of the sorted times, in ten-thousandths; 0 where there is none.
+/// The time that follows this share of the sorted times, in ten-thousandths; 0 if there is none.
 fn at(sorted: &[u64], share: usize) -> u64 {
     let place = sorted.len().saturating_mul(share) / 10000;
     sorted.get(place).copied().unwrap_or(0)

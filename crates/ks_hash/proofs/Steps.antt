@@ -107,7 +107,7 @@ pub slice_place : (n p : ℕ) → IsTrue (is_size n) → 0 < p → p < 2 ^ 64 �
 slice_place n p h = by_size (λ n. 0 < p → p < 2 ^ 64 → p % (2 ^ 64 / n) ≡ 0 → (0 < p / (2 ^ 64 / n)) × (p / (2 ^ 64 / n) < n) × ((p / (2 ^ 64 / n)) * (2 ^ 64 / n) ≡ p))
     (λ a l e. (omega arith, omega arith, omega arith)) (λ a l e. (omega arith, omega arith, omega arith)) (λ a l e. (omega arith, omega arith, omega arith)) (λ a l e. (omega arith, omega arith, omega arith)) (λ a l e. (omega arith, omega arith, omega arith)) (λ a l e. (omega arith, omega arith, omega arith)) n h
 
--- what the slices tell once one begins at the cut and its run is led to the node
+-- the starts of the slices once one begins at the cut and its run is led to the node
 pub slices_adopted : (old cs : List ℕ) (cut id : ℕ) → starts_of cs ≡ starts_of old → IsTrue (is_size (length cs)) → cut % width_of cs ≡ 0 → 0 < cut → cut < 2 ^ 64 →
     begins cut (starts_of old) ≡ false →
     starts_of (run_led (cut / width_of cs) id cs) ≡ runs (starts_below cut (starts_of old) ++ record { low = cut; node = id } ∷ starts_from cut (starts_of old))
