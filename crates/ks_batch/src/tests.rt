@@ -69,7 +69,7 @@ fn run_on<R: Threads + Wait + Sync, G: Gate + Sync>(
     run_ends(rt, alloc, words, source, out, err, gate)
 }
 
-/// Runs the program with ends that give and take so many bytes at a time.
+/// Runs the program with ends that return and take at most `most` bytes at a time.
 fn run_at<R: Threads + Wait + Sync, G: Gate + Sync>(
     rt: &R,
     alloc: Global,
@@ -111,7 +111,7 @@ fn put_pairs(text: &mut Vec<u8>, word: &[u8], first: u64, last: u64) -> Result<(
     Ok(())
 }
 
-/// Appends for each number a line: the number, and that nothing stood there.
+/// Appends for each number a line: the number, and that there was no value.
 fn put_nones(text: &mut Vec<u8>, first: u64, last: u64) -> Result<(), AllocError> {
     for number in first..=last {
         put_number(text, number)?;

@@ -14,13 +14,13 @@ pub const MOST_WORKERS: u32 = 64;
 /// What the words ask for.
 #[derive(Clone, Copy, Debug, PartialEq, Eq)]
 pub enum Asked {
-    /// To serve the script on the source, by a pairing with an arena of so many nodes, and by so many workers.
+    /// To serve the script on the source, by a pairing with an arena of `arena` nodes, with `workers` workers.
     Run {
         pairing: Pairing,
         arena: u32,
         workers: u32,
     },
-    /// To serve a script that is made, by a pairing with an arena of so many nodes.
+    /// To serve a script that is made, by a pairing with an arena of `arena` nodes.
     Make {
         pairing: Pairing,
         arena: u32,
@@ -30,7 +30,7 @@ pub enum Asked {
     Check,
 }
 
-/// How a script is made: for so many callers, with so many calls each, drawn from a first number.
+/// How a script is made: the number of callers, the number of calls of each, and the first of the drawn numbers.
 #[derive(Clone, Copy, Debug, PartialEq, Eq)]
 pub struct Draft {
     pub callers: u32,

@@ -128,7 +128,7 @@ where
     compact_by_first(rt, dictionary, passes);
 }
 
-/// What a dictionary of so many nodes comes to by a churn of all callers and compaction by one.
+/// A dictionary of `nodes` nodes at its end, after a churn of all callers and compaction by one.
 pub(crate) fn churned<
     N: Node + Send,
     T: Ruled + Compacting<N, Arena<N, <T as Ruled>::Rule>>,

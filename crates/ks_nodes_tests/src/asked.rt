@@ -37,7 +37,7 @@ pub fn put_first<N: Node>(rt: &impl Abort, node: &mut N, place: u64, value: u128
     node.put(place, value)
 }
 
-/// Deletes what stands at a place.
+/// Deletes what is at a place.
 pub fn del<N: Node>(rt: &impl Abort, node: &mut N, place: u64) -> Option<u128> {
     assert!(rt; !node.is_branch());
     node.del(place)
