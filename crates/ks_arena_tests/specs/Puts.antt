@@ -24,7 +24,7 @@ put_calls place value (Decided number old) = numbered number (Put place value) (
 put_calls place value NoRoom = []
 put_calls place value Elsewhere = []
 
--- no call was made only where node 0 was full and had not the place, or an edge of it carried the place
+-- if no call was made, node 0 was at some moment full for the place, or an edge of it carried the place
 abbrev pub IsPutDue : Layout → ℕ → List Event → List Event → PutOutcome → Type 0
 IsPutDue layout place h k (Decided number old) = Unit {0}
 IsPutDue layout place h k NoRoom = Sometime h k (λ m. IsFullFor layout (graph_after m) 0 place)

@@ -16,7 +16,7 @@ met_events c node Ready = Give c node ∷ Take c node ∷ []
 met_events c node (Busy holder) = []
 met_events c node Gone = []
 
--- a refusal is what the try met
+-- a refusal is due: the turn of the node was what the try met
 abbrev pub IsMetDue : ℕ → List Event → Met → Type 0
 IsMetDue node k Ready = Unit {0}
 IsMetDue node k (Busy holder) = turn_after k node ≡ turns.held holder
@@ -28,7 +28,7 @@ claim_events c (Two first second) = Give c second ∷ Give c first ∷ Claim c s
 claim_events c (One first) = Give c first ∷ Claim c first ∷ []
 claim_events c Nil = []
 
--- where fewer than two were claimed each node was at some moment not free
+-- if fewer than two were claimed, each node was at some moment not free
 abbrev pub IsClaimDue : ℕ → List Event → List Event → Claimed → Type 0
 IsClaimDue nodes h k (Two first second) = Unit {0}
 IsClaimDue nodes h k (One first) = (j : ℕ) → j < nodes → WasTaken h k j

@@ -14,7 +14,7 @@ use ks_node::{Next, Node};
 use std::sync::Wait;
 use std::thread::{Threads, join};
 
-/// What a get at node 0 came to.
+/// The result of a get at node 0.
 #[derive(Clone, Copy, Debug, PartialEq, Eq)]
 pub enum GetOutcome {
     /// It is the call of that number, and found that value.

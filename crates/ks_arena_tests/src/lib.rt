@@ -22,7 +22,7 @@ pub use puts::{PutOutcome, both_put, put_at_root, put_four, work};
 use std::sync::Wait;
 use std::thread::{Threads, join};
 
-/// What a try to claim two nodes came to.
+/// The result of a try to claim two nodes.
 #[derive(Clone, Copy, Debug, PartialEq, Eq)]
 pub enum Claimed {
     Two(u32, u32),
@@ -52,7 +52,7 @@ pub fn claim_two<N: Node, D: Discipline>(arena: &Arena<N, D>, pass: &mut Pass<N,
     Claimed::Two(one, two)
 }
 
-/// What a try to take a node met.
+/// The result of a try to take a node.
 #[derive(Clone, Copy, Debug, PartialEq, Eq)]
 pub enum Met {
     Ready,

@@ -16,7 +16,7 @@ use ks_node::{Next, Node, node_law};
 use std::sync::Wait;
 use std::thread::{Threads, join};
 
-/// What a put at node 0 came to.
+/// The result of a put at node 0.
 #[derive(Clone, Copy, Debug, PartialEq, Eq)]
 pub enum PutOutcome {
     /// It is the call of that number, and that value was there before.

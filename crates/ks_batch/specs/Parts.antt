@@ -31,11 +31,11 @@ module _ (words : List (List ℕ)) where
   abbrev pub NamedOver : Option (List Event) → Type 0
   NamedOver run = (pairing : Pairing) (nodes : ℕ) → AskToServe words pairing nodes → IfSome run (AllNamedBelow nodes)
 
-  -- where a script is to be served, there was a run if and only if all is done or the output failed
+  -- if a script is to be served, there was a run if and only if all is done or the output failed
   abbrev pub RanWith : ℕ → Option (List Event) → Type 0
   RanWith status run = Asks words Script → (IsSome run ↔ ((status ≡ DONE) ⊎ (status ≡ OUTPUT_FAILED)))
 
-  -- where a script is to be served and the status is this one, of the text of the run that this served Took holds
+  -- if a script is to be served and the status is this one, Took holds of the text of the run
   abbrev pub PrintedAt : ℕ → ℕ → Option (List ℕ) → Option (List Event) → (List ℕ → Type 0) → Type 0
   PrintedAt this status left run Took = (pairing : Pairing) (nodes : ℕ) → AsksToRun words pairing nodes → status ≡ this → PrintsRun (row_of pairing).place left run Took
 
@@ -43,7 +43,7 @@ module _ (words : List (List ℕ)) where
   abbrev pub ReadWith : ℕ → ℕ → Option (List ℕ) → Option (List ℕ) → Type 0
   ReadWith status line left after = (text : Text) → Asks words text → IsReadWith status line → IfSome left (λ _. after ≡ Some [])
 
-  -- where the words are no command or ask for a made script, nothing was read
+  -- if the words are no command or ask for a made script, nothing was read
   abbrev pub UnreadWith : ℕ → Option (List ℕ) → Option (List ℕ) → Type 0
   UnreadWith status left after = (status ≡ NO_COMMAND) ⊎ IsMake words → after ≡ left
 

@@ -31,7 +31,7 @@ abbrev pub RefusedAt : Text → List ℕ → ℕ → Type 0
 RefusedAt text bytes zero = limit_of text < length bytes
 RefusedAt text bytes (suc n) = (length bytes ≤ limit_of text) × FirstBadOf text bytes (suc n)
 
--- the status and the line say that the source did not fail, that memory was not wanting, and that the text is not too long
+-- the status and the line say that the source did not fail, that memory did not run out, and that the text is not too long
 abbrev pub IsReadWith : ℕ → ℕ → Type 0
 IsReadWith status line = (status ≢ SOURCE_FAILED) × (status ≢ NO_MEMORY) × (status ≡ REFUSED → line ≢ 0)
 

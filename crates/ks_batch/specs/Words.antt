@@ -17,8 +17,8 @@ bytes_of words = map string_bytes words
 abbrev pub run_words : Pairing → ℕ → List (List ℕ)
 run_words pairing arena = codes "run" ∷ (row_of pairing).nodes ∷ (row_of pairing).template ∷ decimal arena ∷ []
 
--- the words are those of the command: to serve a script has the number of workers for its last word, or, where they are 64,
--- no such word
+-- the words are those of the command: to serve a script has the number of workers for its last word, or, if they are 64, no
+-- such word
 abbrev pub AreWords : List (List ℕ) → Asked → Type 0
 AreWords words (Run pairing arena workers) =
     (words ≡ run_words pairing arena ++ decimal workers ∷ []) ⊎ ((words ≡ run_words pairing arena) × (workers ≡ 64))

@@ -40,11 +40,11 @@ pub struct Outcome {
     /// One of the statuses: 0, done; 1, the words are no command; 2, the input is refused; 3, the source failed; 4, the
     /// output failed; 5, memory ran out; 6, the checked run is wrong.
     pub status: u8,
-    /// The line at which the input is refused, counted from 1; 0 where it is too long, and with any other status.
+    /// The line at which the input is refused, counted from 1; 0 if it is too long, and with any other status.
     pub line: u64,
     /// The least wrong number of a checked run; 0 with any other status.
     pub number: u64,
-    /// What happened, where callers were served.
+    /// The trace, if callers were served.
     pub run: Option<RunTrace>,
 }
 
@@ -276,7 +276,7 @@ pub struct Made {
     pub trace: RunTrace,
 }
 
-/// The command `make`: serves a script that is made, by as many workers as there can be, and writes the summary.
+/// The command `make`: serves a script that is made, with as many workers as there can be, and writes the summary.
 fn make_run<R: Threads + Wait + Sync, K: Sink, G: Gate + Sync>(
     rt: &R,
     alloc: Global,

@@ -21,7 +21,7 @@ use std::alloc::{AllocError, Global};
 use std::sync::Wait;
 use std::thread::Threads;
 
-/// What a run of the program gave.
+/// What a run of the program left.
 #[derive(Drop)]
 struct Ended {
     status: u8,
@@ -85,7 +85,7 @@ fn run_at<R: Threads + Wait + Sync, G: Gate + Sync>(
     run_on(rt, alloc, words, source, out, gate)
 }
 
-/// Runs the program, where no caller is kept.
+/// Runs the program with a gate that stops no caller.
 fn run<R: Threads + Wait + Sync>(
     rt: &R,
     alloc: Global,

@@ -8,7 +8,7 @@ ghost use Rattle.ks_batch.specs.Words.{bytes_of, Spells, Names, NamesArena, IsCo
 use crate::pairings::Pairing;
 use itoa::Buffer;
 
-/// How many workers there are at most, and where the words do not say it.
+/// How many workers there are at most, and how many if the words do not say it.
 pub const MOST_WORKERS: u32 = 64;
 
 /// What the words ask for.

@@ -108,7 +108,7 @@ pub extern "C" fn ks_c_open(alloc: Global, nodes: u32, callers: &mut [Handle]) -
     }
 }
 
-/// Closes a handle. The memory of a dictionary is given back with the last of its handles.
+/// Closes a handle. The memory of a dictionary is freed with the last of its handles.
 #[unsafe(no_mangle)]
 pub extern "C" fn ks_c_close(alloc: Global, caller: &mut Handle) -> u32
     ensures closed { caller.new.inside ≡ None }

@@ -1,4 +1,4 @@
-//! A churn: many callers put and delete at once, each on a thread of its own where one can be had.
+//! A churn: many callers put and delete at once, each on a thread of its own if there is one.
 ghost use Rattle.std.specs.Prelude.{◌<◌, ◌≤◌, length, IfOk};
 ghost use Rattle.ks_arena.specs.Sound.{sort_of};
 ghost use Rattle.ks_arena.specs.Of.{SameCaller};

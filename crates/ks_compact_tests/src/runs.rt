@@ -102,7 +102,7 @@ pub(crate) fn compact_until_none<
     }
 }
 
-/// Compacts until no node is made free, where there is one caller.
+/// Compacts a dictionary of one caller until no node is made free.
 pub(crate) fn compact_all<N: Node, T: Ruled + Compacting<N, Arena<N, <T as Ruled>::Rule>>, R: Wait>(
     rt: &R,
     dictionary: &Dictionary<N, T>,

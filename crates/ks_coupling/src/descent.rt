@@ -1,4 +1,4 @@
-//! The way from the root to the node where a search ends.
+//! The descent from the root to the node where a search ends.
 ghost use Rattle.std.specs.Prelude.{◌≡◌};
 ghost use Rattle.ks_history.specs.Done.{coupling};
 ghost use Rattle.ks_node.specs.declared.start.Next.TheVariants.{Go};

@@ -6,7 +6,7 @@ use Rattle.ks_arena.specs.Sound.{Sort}
 use Rattle.ks_arena.specs.Clauses.{IsRun, trace_of}
 use Rattle.ks_dictionary.specs.declared.closed.Closed.{Closed}
 
--- what happened in it, the newest event first
+-- its trace, the newest event first
 abbrev pub history : {N : Type 0} → Closed N → List Event
 history d = trace_of d.run
 

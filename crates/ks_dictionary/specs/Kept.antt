@@ -43,7 +43,7 @@ pub record FindsPut (p v : ℕ) (found : Option ℕ) (calls : List Answered) : T
   pub is : calls ≡ before ++ replied (Put p v) reply ∷ (between ++ replied (Get p) (told found) ∷ after)
   pub kept : (found ≡ Some v) ⊎ Changed p between
 
--- where two adds at one place both found nothing there, some call between them removed what the first had added
+-- if two adds at one place both found nothing there, some call between them removed what the first had added
 abbrev pub AddedOnce : List Answered → Type 0
 AddedOnce calls =
     (p v w : ℕ) (before between after : List Answered)

@@ -61,8 +61,8 @@ module _ {N T P D : Type 0} {n : NodeGhosts N P} {q : PlacingGhosts P} {d : Disc
   abbrev pub IsNoteFrom : Dictionary N T P D n q d → Note N D → Type 0
   IsNoteFrom m x = IsNoteOf (site_of m) x
 
-  -- between two passes the caller made one call of this operation, by the technique, with this reply and number, and gave all
-  -- back
+  -- between two passes the caller made one call of this operation, by the technique, with this reply and number, and
+  -- released all nodes
   abbrev pub HasCalledIn : Dictionary N T P D n q d → Template → Op → Pass N D → Pass N D → Reply → ℕ → Type 0
   HasCalledIn m technique op p p' reply number = IsDone n.layout technique (site_of m) op p p' reply number
 

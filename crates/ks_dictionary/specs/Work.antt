@@ -1,4 +1,4 @@
--- What the work of a caller begins with and comes to.
+-- What the work of a caller begins with, and what it leaves.
 use Rattle.std.specs.Prelude.{ℕ, ◌≡◌, ◌≤◌, List, [], ◌++◌, map, length, vec_capacity}
 use mathlib.Core.Option.{some}
 use lib.ListN.{get_elem?}

@@ -13,7 +13,7 @@ use ks_node::Node;
 use ks_places::Placing;
 use std::alloc::{AllocError, Global};
 
-/// What is left of a dictionary that has ended: its nodes, and the history of what happened in it.
+/// What is left of a dictionary that has ended: its nodes and its history.
 #[derive(Drop)]
 pub struct Closed<N> {
     pub(crate) run: Run<N>,

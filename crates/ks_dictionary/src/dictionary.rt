@@ -373,7 +373,7 @@ impl<N: Node, T: Ruled + Template<N, Arena<N, <T as Ruled>::Rule>>> Dictionary<N
         self.arena.learn(pass, note);
     }
 
-    /// Ends the dictionary. The passes are all that `start` gave, and hold no node.
+    /// Ends the dictionary. The passes are all that `start` returned, and hold no node.
     pub fn close(self, passes: Vec<Pass<N, T::Rule>>) -> Closed<N>
         requires { AreAllPassesOf self passes.items }
         ensures ended { HasEndedWith (sort_of N.layout N.ranged) N.body

@@ -42,7 +42,7 @@ impl<N: Node, T: Ruled> Dictionary<N, T> {
 }
 
 impl<N: Node> Closed<N> {
-    /// What happened in a dictionary that has ended is a legal history of a map.
+    /// The trace of a dictionary that has ended is a legal history of a map.
     pub fn history_law(&self)
         requires { HasEnded (sort_of N.layout N.ranged) N.body self.now }
         ensures { Legal (calls_of (history self.now)) }
@@ -60,7 +60,7 @@ impl<N: Node> Closed<N> {
     }
 }
 
-/// What one caller put another finds that has seen all that the first had, unless a call between the two wrote at the
+/// A caller that has seen all that another had finds what that one put, unless a call between the two wrote at the
 /// place.
 pub fn kept_law()
     ensures { (layout : Layout) (technique : Technique) (nodes c d p v : ℕ) (s t k l : List Event)

@@ -135,7 +135,7 @@ where
     Ok((dictionary.close(passes), lines))
 }
 
-/// Where there is no caller: a dictionary that ends at once.
+/// A dictionary that ends at once, if there is no caller.
 fn serve_nobody<N: Node, T: Ruled + Template<N, Arena<N, <T as Ruled>::Rule>>>(
     alloc: Global,
     nodes: u32,

@@ -1,5 +1,5 @@
 //! The work of the callers, by workers that draw whole callers. Each job has room for a line for each of its calls from
-//! the start, so no worker is given an allocator.
+//! the start, so no worker takes an allocator.
 ghost use Rattle.std.specs.Prelude.{◌≡◌, ℕ, ◌<◌, ◌≤◌, ◌++◌, ◌∷◌, [], map, length, All, slice_index_or, vec_capacity};
 ghost use Rattle.ks_history.specs.Map.{told};
 ghost use Rattle.ks_history.specs.Trace.{calls_by};
@@ -134,8 +134,8 @@ fn work_at<
     }
 }
 
-/// Serves the callers of all tickets, by a worker at each desk: each in joined work of its own. A worker serves a caller
-/// whole before it draws the next.
+/// Serves the callers of all tickets, with a worker at each desk, all at once. A worker serves a caller whole before it
+/// draws the next.
 pub fn work<
     N: Node + Send,
     T: Ruled + Template<N, Arena<N, <T as Ruled>::Rule>>,

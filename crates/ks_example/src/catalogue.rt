@@ -81,7 +81,7 @@ fn serve<R: Threads + Wait + Sync>(
     tell_one(rt, catalogue, callers)
 }
 
-/// All callers work at once, each in joined work of its own.
+/// All callers work at once, each on a thread of its own if there is one.
 fn work_all<R: Threads + Wait + Sync>(
     rt: &R,
     catalogue: &Catalogue,

@@ -1,4 +1,4 @@
--- What a visit of a node comes to, and a search for room.
+-- The results of a visit of a node, and of a search for room.
 use Rattle.std.specs.Prelude.{ℕ, ◌≡◌, List, [], Option, Some, None}
 use Rattle.ks_history.specs.declared.Event.{Event}
 use Rattle.ks_history.specs.Trace.{hand}

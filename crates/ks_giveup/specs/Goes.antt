@@ -11,7 +11,7 @@ use Rattle.ks_history.specs.Done.{HoldsAbove}
 use Rattle.ks_arena.specs.declared.held.Pass.{Pass}
 use Rattle.ks_arena.specs.Clauses.{seen_of}
 
--- the last event of c gave a node whose edges, as it was given, lead to node i for the place
+-- the last event of c released a node of which an edge then carried the place to node i
 pub record IsHinted (c place i : ℕ) (h : List Event) : Type 0 where
   pub given : ℕ
   pub older : List Event
@@ -22,7 +22,7 @@ pub record IsHinted (c place i : ℕ) (h : List Event) : Type 0 where
   pub had : record_at (graph_after older) given ≡ Some node
   pub leads : LeadsTo node place i
 
--- the search of c for the place, which holds nothing, may begin or go on at node i: the root, or the one that is hinted at
+-- the search of c for the place, which holds nothing, may begin or go on at node i: the root, or one that is hinted at
 abbrev pub MayVisit : ℕ → ℕ → ℕ → List Event → Type 0
 MayVisit c place i h = (i ≡ 0) ⊎ IsHinted c place i h
 

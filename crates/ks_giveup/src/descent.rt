@@ -20,7 +20,7 @@ use ks_node::{Next, Ranged, Unlinked, node_law};
 use ks_shape::{give_last, has_room, tree_end_law};
 use std::sync::Wait;
 
-/// Takes a node, and keeps it where it is live and its range holds the place.
+/// Takes a node, and keeps it if it is live and its range holds the place.
 #[inline(always)]
 fn visit<N: Ranged + Unlinked, R: Wait, G: Gate>(
     rt: &R,
@@ -117,8 +117,8 @@ pub(crate) fn find<N: Ranged + Unlinked, R: Wait, G: Gate>(
     unreachable!()
 }
 
-/// Takes the node at which the search for a place ends, and keeps it where it has the place or room for it. `None`: it had
-/// neither, and is given.
+/// Takes the node at which the search for a place ends, and keeps it if it has the place or room for it. `None`: it had
+/// neither, and was released.
 pub(crate) fn find_room<N: Ranged + Unlinked, R: Wait, G: Gate>(
     rt: &R,
     arena: &Arena<N, Tree>,

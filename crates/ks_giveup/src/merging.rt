@@ -1,4 +1,4 @@
-//! Compaction by the technique of giving up, which holds pairs of nodes meanwhile.
+//! Compaction for the technique of giving up, by lock coupling.
 ghost use Rattle.std.specs.Prelude.{◌≡◌};
 ghost use Rattle.ks_history.specs.Done.{give_up};
 ghost use Rattle.ks_arena.specs.Of.{IsEmptyPassOf, SameCaller};

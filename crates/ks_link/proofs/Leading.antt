@@ -45,7 +45,7 @@ module _ (sort : Sort) where
   abbrev pub Lasts : List Event → List Event → Type 0
   Lasts h k = LastsUnderLink (graph_after h) (frame_after (blank_of sort) h) (graph_after k) (frame_after (blank_of sort) k)
 
-  -- where what waited is led to, two stretches are one
+  -- if what waited is led to, two stretches are one
   pub led_both : (vs ws : List Waiting) (g h k : List Event) → Lasts h k → ((i : ℕ) → Waits vs i → IsLedAfter sort k i) → LedBut sort vs g h → LedBut sort ws h k → LedBut sort ws g k
   led_both vs ws g h k lasts leads a b i live = elim (b i live) [
     | inl was ↦ elim (a i was) [
@@ -55,7 +55,7 @@ module _ (sort : Sort) where
     | inr rest ↦ inr rest
   ]
 
-  -- where nothing waited, and so before a stretch that makes none live
+  -- if nothing waited, and so before a stretch that makes none live
   pub led_then : (ws : List Waiting) (g h k : List Event) → Lasts h k → LedBut sort [] g h → LedBut sort ws h k → LedBut sort ws g k
   led_then ws g h k lasts a b = led_both [] ws g h k lasts (λ i none. absurd none) a b
 

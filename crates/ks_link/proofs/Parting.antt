@@ -31,7 +31,7 @@ drop_third i r l other other' =
 pub suits_all : (b : Body) → b.range ≡ Some all_places → ((range : Span) × (b.range ≡ Some range) × Suits b range) → Suits b all_places
 suits_all b all so = let same : Some so.0 ≡ Some all_places = sym so.1 ∙ all in let is : so.0 ≡ all_places = cc in subst (Suits b) is so.2
 
--- where the range of a half ends
+-- the place is at the end of the range of a half or below
 pub ends_left : (o : Option Span) (place cut : ℕ) → place ≤ last_of o → place < cut → place ≤ last_of (ends_at (cut - 1) o)
 ends_left None place cut le lt = le
 ends_left (Some s) place cut le lt = omega (arith, lt)

@@ -45,7 +45,7 @@ abbrev pub reach_of : Body → ℕ
 reach_of b = last_of b.range - b.low
 
 module _ {N : Type 0} (shows : N → Body) where
-  -- the half that is kept reaches less far than the body did; and so does the node that is handed back
+  -- the half that is kept reaches less far than the body did; and so does the node that is returned
   abbrev pub HalfReachesLess : Body → Result (Parted N) (Hand N) → Type 0
   HalfReachesLess b (Ok p) = reach_of (shows p.half.body) < reach_of b
   HalfReachesLess b (Err y) = Unit {0}

@@ -1,4 +1,4 @@
--- What a put comes to.
+-- The results of a put.
 use Rattle.std.specs.Prelude.{ℕ, ◌≡◌, ◌⊎◌, List, [], ◌∷◌, ◌++◌, length, Option, Some, None, Result, Ok, Err}
 use Rattle.ks_history.specs.Due.{NoneFree}
 use Rattle.ks_history.specs.declared.Event.{Event}

@@ -18,7 +18,7 @@ use Rattle.ks_link.specs.Descent.{IsOnWay}
 abbrev pub IsOnFrom : Body → Body → Type 0
 IsOnFrom a b = (b.level < a.level) ⊎ ((b.level ≡ a.level) × (a.low < b.low))
 
--- the caller holds nothing, and whatever its operation at the place, what put it off between h and k, over n nodes, is so
+-- the caller holds nothing, and for each operation at the place the cause that put it off from h to k, over n nodes, is due
 abbrev pub IsPutOffAt : ℕ → ℕ → ℕ → List Event → List Event → Later → Type 0
 IsPutOffAt n c place h k later = (hand c k ≡ []) × ((op : Op) → Touches op place → IsCause link_move n c op h k later)
 

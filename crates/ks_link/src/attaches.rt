@@ -99,7 +99,7 @@ fn find_above<N: Linked, R: Wait, G: Gate>(
     unreachable!()
 }
 
-/// Parts the node, if it is a full branch to which the edge cannot be added, and a node is free; and keeps the half in
+/// Splits the node, if it is a full branch to which the edge cannot be added, and a node is free; and keeps the half in
 /// which the cut lies.
 pub(crate) fn ready<N: Linked, G: Gate>(
     arena: &Arena<N, Link>,

@@ -1,4 +1,4 @@
-//! The way from the root, down and to the right, to the node where a search ends.
+//! The search from the root, down and to the right, to the node where it ends.
 ghost use Rattle.std.specs.Prelude.{◌≡◌};
 ghost use Rattle.ks_history.specs.Done.{link_move};
 ghost use Rattle.ks_node.specs.declared.start.Next.TheVariants.{Go, Here};

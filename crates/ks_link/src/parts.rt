@@ -160,7 +160,7 @@ fn grow<N: Linked, G: Gate>(
     Parted { half, new: None }
 }
 
-/// Parts a full node, and keeps the half in which the place lies. `Err`: the node is as it was, since none was found free.
+/// Splits a full node, and keeps the half in which the place lies. `Err`: the node is as it was, as none was found free.
 pub(crate) fn part<N: Linked, G: Gate>(
     arena: &Arena<N, Link>,
     pass: &mut Pass<N, Link>,

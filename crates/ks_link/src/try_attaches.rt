@@ -120,7 +120,7 @@ fn try_attach_on<N: Linked, G: Gate>(
     }
 }
 
-/// Attaches all that waits, the oldest first, as far as no busy node ends it.
+/// Attaches all that waits, the oldest first, until a busy node ends it.
 pub(crate) fn try_attach_all<N: Linked, G: Gate>(
     arena: &Arena<N, Link>,
     pass: &mut Pass<N, Link>,

@@ -1,5 +1,5 @@
-//! The program: it hands the words and the standard streams to `serve`, with a gate that keeps nobody, and ends with its
-//! status.
+//! The program: it passes the words and the standard streams to `serve`, with a gate that stops no caller, and ends
+//! with its status.
 #![tactic(auto)]
 
 ghost use Rattle.std.specs.Prelude.{◌≡◌, drop, IfOk, IsErr, IsErrOf};

@@ -1,4 +1,4 @@
-//! Calls on nodes, each after a test of what it asks, as the program runs.
+//! Calls on nodes, each after a test at run time of what it requires.
 
 use ks_asked::{cut_of, is_here, lie_in};
 use ks_keysets::Span;

@@ -43,7 +43,7 @@ fn full<N: Ranged>(alloc: Global) -> Result<N, AllocError> {
     Ok(node)
 }
 
-/// A branch with eight edges, or where there is none a full node.
+/// A branch with eight edges, or a full node if there is none.
 fn branch<N: Unlinked + Ranged>(alloc: Global) -> Result<N, AllocError> {
     let mut node: N = full(alloc)?;
     asked::grow(alloc, &mut node)?;

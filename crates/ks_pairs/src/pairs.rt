@@ -11,7 +11,7 @@ use arrayvec::ArrayVec;
 use ks_keysets::Pair;
 use std::marker::Model;
 
-/// At most `N` pairs. A pair is a place and a value, and the places ascend wherever a search is asked for.
+/// At most `N` pairs. A pair is a place and a value, and the places ascend whenever a search is made.
 #[derive(Drop)]
 pub struct Pairs<const N: usize> {
     places: ArrayVec<u64, N>,

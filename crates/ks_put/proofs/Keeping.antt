@@ -58,7 +58,7 @@ module _ {N : Type 0} (sort : Sort) (shows : N → Body) (n c : ℕ) (laws : Law
   parent_apart j None once y e = absurd (let q : ⊥ = cc in q)
   parent_apart j (Some z) once y e = λ same. let q : z ≡ y = cc in once.0 (inl (ap (λ (w : Hand N). w.node) q ∙ same))
 
-  -- a path stays where its nodes and their insets do
+  -- a path stays if its nodes and their insets do
   pub path_stays : (p : ℕ) (h k : List Event) (x : Path N) → Sound sort BeginsTree TreeStep n h → hand c k ≡ hand c h → Kept c h k → KeepsBeside SameInset c h k → StillMatch sort shows (hand c h) h k → IsOnPath sort shows c p h x → IsOnPath sort shows c p k x
   path_stays p h k x sound same kept insets still path = record {
     hands = same ∙ path.hands;

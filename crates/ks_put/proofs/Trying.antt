@@ -58,7 +58,7 @@ module _ {N : Type 0} (layout : Layout) (shows : N → Body) where
 pub no_leaf : (b : Body) (p m : ℕ) → LeadsTo (record_of b) p m → length (edges_of b) ≡ length b.starts → length b.starts ≡ 0 → ⊥
 no_leaf b p m to same none = let some = to.1 in omega (arith, some, same, none)
 
--- what put off an operation by coupling puts it off by any technique that may find the way long
+-- a cause that puts an operation off by coupling puts it off by any technique that may report Far
 
 cause_as : (template : Template) (c : ℕ) (op : Op) (s h : List Event) (later : Later) → FindsFar template → IsCauseButFar coupling c op s h later → IsCauseButFar template c op s h later
 cause_as template c op s h (Busy node holder) finds so = so

@@ -35,7 +35,7 @@ module _ {N D P : Type 0} {n : NodeGhosts N P} {q : PlacingGhosts P} {d : Discip
   abbrev pub PartsDown : Arena N D P n q d → Pass N D → Pass N D → Path N → Part N → Type 0
   PartsDown a p p' path part = (start : List Event) (taken roots steps : ℕ) → IsDownPath a.nodes p.caller start (seen_of p) taken roots steps path → IsDownPart a.nodes p.caller start (seen_of p') taken roots steps part
 
-  -- what a search for room between p and p' came to: a node that has the place, or room for it; or a full one without it,
+  -- the result of a search for room between p and p': a node that has the place, or room for it; or a full one without it,
   -- and no node was free
   abbrev pub CameToRoom : Arena N D P n q d → ℕ → Pass N D → Pass N D → Result (Hand N) (Hand N) → Type 0
   CameToRoom a place p p' found = FoundRoom (sort_of n.layout n.ranged) n.body a.nodes p.caller place (seen_of p) (seen_of p') found

@@ -43,7 +43,7 @@ module _ {N : Type 0} (n c place : ℕ) (s0 h : List Event) where
   StepOrCause (Ok step) = IsDownPath n c s0 h (suc step.depth) 2 step.depth step.path
   StepOrCause (Err later) = IsCauseAt coupling n c place s0 h later
 
--- what put off the operation at the place is so; that Far is, if a way was open to split each full node
+-- the cause that put off the operation at the place is due; Far is, if there was a way to split each full node
 abbrev pub IsPutOffBy : Type 0 → ℕ → ℕ → ℕ → List Event → List Event → Later → Type 0
 IsPutOffBy ways n c place s0 h later = (op : Op) → Touches op place → IsCauseButFar coupling c op s0 h later × (ways → IsCause coupling n c op s0 h later)
 
@@ -52,12 +52,12 @@ abbrev pub RoomOrNone : {N : Type 0} → Sort → (N → Body) → ℕ → ℕ �
 RoomOrNone sort shows n c place h k (Ok found) = FoundRoom sort shows n c place h k found
 RoomOrNone sort shows n c place h k (Err later) = hand c k ≡ []
 
--- or what put it off is so
+-- or the cause that put it off is due
 abbrev pub RoomOrCause : {N : Type 0} → Type 0 → ℕ → ℕ → ℕ → List Event → List Event → Result (Result (Hand N) (Hand N)) Later → Type 0
 RoomOrCause ways n c place s0 h (Ok found) = Unit {0}
 RoomOrCause ways n c place s0 h (Err later) = IsPutOffBy ways n c place s0 h later
 
--- the step went down from the node x, at this depth, and no claim or none but before was refused; or the search was put off
+-- the step went down from the node x, at this depth, and no claim was refused in it; or the search was put off
 abbrev pub WentDown : {N : Type 0} → Hand N → ℕ → Bool → Result (Step N) Later → Type 0
 WentDown x depth refused (Ok step) = (step.path.parent ≡ Some x) × (step.depth ≡ suc depth) × (step.refused ≡ refused)
 WentDown x depth refused (Err later) = Unit {0}

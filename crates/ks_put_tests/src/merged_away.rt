@@ -1,5 +1,4 @@
-//! A try that comes to a node which another caller merges away meanwhile: two callers on threads, one of which is
-//! stopped.
+//! A try that comes to a node which another caller merges away meanwhile: two callers on threads, one of them stopped.
 ghost use Rattle.ks_arena.specs.Of.{IsEmptyPassOf};
 
 use crate::tries::two_callers;
@@ -17,8 +16,7 @@ use std::thread::{Threads, join};
 
 type Leaf = WithRange<BNode>;
 
-/// Caller 1 is stopped, once it has released the root and has the number of node 2, until caller 0 has made `calls`
-/// calls.
+/// Caller 1 is stopped, with the root released and the number of node 2, until caller 0 has made `calls` calls.
 fn stand_for(calls: u64) -> Stand {
     Stand::of(1, 0, Point::Given(0), 0, calls, 50_000_000)
 }

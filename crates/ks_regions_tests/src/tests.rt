@@ -76,7 +76,7 @@ fn is_good(graph: &Graph) -> bool {
     finds_all(graph) && (0..9u32).all(|node| stands(graph, node))
 }
 
-/// The next of a row of numbers that look drawn.
+/// The next of a row of pseudo-random numbers.
 fn drawn(number: u64) -> u64 {
     let mixed = number.wrapping_mul(6364136223846793005);
     mixed.wrapping_add(1442695040888963407)

@@ -25,7 +25,7 @@ same_held vs id v w t at e = let s = total_set (λ (u : View). times t u.held) v
 later_fits : (n w w' : ℕ) (v : View) → w ≤ w' → Fits n w v → Fits n w' v
 later_fits n w w' v le so = record { ended = so.ended; past = λ z. (let p = so.past z in omega arith); known = (let p = so.known in omega arith); among = so.among; spent = so.spent }
 
--- fewer desks have ended than there are parts, where one with a part has not
+-- fewer desks have ended than there are parts, if one with a part has not
 ends_below : (vs : List View) → ((j : ℕ) (v : View) → get_elem? vs j ≡ some v → v.ended ≤ v.parts) → total (λ v. v.ended) vs ≤ total (λ v. v.parts) vs
 ends_below [] so = omega arith
 ends_below (x ∷ xs) so = let a : x.ended ≤ x.parts = so 0 x refl in let b = ends_below xs (λ j v at. so (suc j) v at) in omega arith

@@ -4,7 +4,7 @@ use Rattle.atomic_table.specs.Table.{Me, Step}
 use Rattle.ks_tickets.specs.declared.view.View.{View}
 use Rattle.ks_tickets.specs.Rule.{drew, stopped, cleared}
 
--- a desk as a step finds or leaves it: what is known of it, and the slots in its hands
+-- a desk as a step finds or leaves it: what is known of it, and the slots that it holds
 abbrev pub Seated : Type 0 → Type 0
 Seated J = Me (Option J) View
 

@@ -101,7 +101,7 @@ impl<J: Ticketed> Tickets<J> {
         Ok((tickets, desks))
     }
 
-    /// Draws the next ticket and its job, or `None` where each ticket was drawn before: then the desk has ended.
+    /// Draws the next ticket and its job, or `None` if each ticket was drawn before: then the desk has ended.
     pub fn draw(&self, desk: &mut Desk<J>) -> Option<(u32, J)>
         requires { IsFree self.now desk.old }
         ensures same { IsSameDesk desk.old desk.new }

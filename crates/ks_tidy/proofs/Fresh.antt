@@ -16,7 +16,7 @@ use Rattle.ks_shape.specs.Laws.Single.{record_is}
 use Rattle.ks_shape.specs.OnPath.{IsUnder, numbers}
 use Rattle.ks_tidy.proofs.Beside.{any_counted, leads_counted, between, cycle}
 
--- what has an answer under a test passed it
+-- if an option under a test has a value, the test passed
 pub passed : {A : Type 0} (b : Bool) (o : Option A) (x : A) → cond b o None ≡ Some x → IsTrue b
 passed true o x e = refl
 passed false o x e = absurd (let q : ⊥ = cc in q)

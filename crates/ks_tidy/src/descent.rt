@@ -1,4 +1,4 @@
-//! The way from the root to the node where a search ends, which merges nodes as it goes.
+//! The descent from the root to the node where a search ends, which merges nodes as it goes.
 ghost use Rattle.std.specs.Prelude.{◌≡◌, Some};
 ghost use Rattle.ks_node.specs.declared.start.Next.TheVariants.{Go, Here};
 ghost use Rattle.ks_node.specs.Body.{next_at};

@@ -1,4 +1,4 @@
-//! A node absorbs its right neighbour, where a caller holds both: one to which it leads itself, or one beside it below the
+//! A node absorbs its right neighbour, if a caller holds both: one to which it leads itself, or one beside it below the
 //! same parent.
 ghost use Rattle.std.specs.Prelude.{◌≡◌, None, Some, true, IsTrue};
 ghost use Rattle.ks_node.specs.Room.{is_low};

@@ -1,4 +1,4 @@
-//! Ends that fail at each of their calls in turn, and ends that give and take a byte at a time.
+//! Ends that fail at each of their calls in turn, and ends that pass a byte at a time.
 
 ghost use Rattle.std.specs.Prelude.{◌<◌};
 
@@ -11,11 +11,10 @@ use std::sync::Wait;
 use std::test::Fail;
 use std::thread::Threads;
 
-/// The number of a read or a write that no run comes to.
+/// The number of a read or a write that no run reaches.
 const NEVER: u64 = u64::MAX;
 
-/// Serves the script with ends that pass at most `most` bytes at a time. The read and the write with these numbers
-/// fail.
+/// Serves the script with ends that pass at most `most` bytes at a time. The read and write with these numbers fail.
 fn serve_failing<R: Threads + Wait + Sync>(
     rt: &R,
     alloc: Global,
@@ -146,8 +145,7 @@ const SAID: [(&str, &[u8], &[u8], u8); 3] = [
     ("check", b"caller\n", b"line 2 refused\n", 2),
 ];
 
-/// Runs the program with an error output that takes at most `most` bytes at a time, and whose write with this number
-/// fails.
+/// Runs the program with an error output that takes at most `most` bytes at a time. The write with this number fails.
 fn say_failing<R: Threads + Wait + Sync>(
     rt: &R,
     alloc: Global,

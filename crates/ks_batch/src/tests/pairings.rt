@@ -1,4 +1,4 @@
-//! The pairings, each over its nodes: splits, and `full` where no node is free.
+//! The pairings, each over its nodes: splits, and `full` if no node is free.
 
 use super::{put_nones, put_number, put_pairs, run};
 use std::alloc::{AllocError, Global};

@@ -132,7 +132,7 @@ put_sets : (p v : ℕ) (o : Option ℕ) → written (Put p v) (told o) ≡ sets 
 put_sets p v None = refl
 put_sets p v (Some w) = refl
 
--- what one caller put another finds that has seen all that the first had, or a call between changed it
+-- a caller that has seen all that another had finds what that one put, or a call between changed it
 pub finds_put : (layout : Layout) (template : Template) (n c d p v : ℕ) (s0 s1 k0 k1 : List Event) (had found : Option ℕ) (m l : ℕ)
     → Done layout template n c (Put p v) s0 s1 (told had) m → s1 ⊑ k0 → Done layout template n d (Get p) k0 k1 (told found) l → Legal (calls_of k1) → FindsPut p v found (calls_of k1)
 finds_put layout template n c d p v s0 s1 k0 k1 had found m l put met get legal = record {

@@ -148,7 +148,7 @@ returns-in-Some-clause-narrower g c = c.grow.ensures.narrower
 pub returns-in-Some-claim_one-clause-narrower : goal.returns-in-Some-claim_one-clause-narrower
 returns-in-Some-claim_one-clause-narrower g c = c.split.ensures.narrower
 
--- what it does
+-- the kinds of its events
 
 pub returns-in-None-clause-fills : goal.returns-in-None-clause-fills
 returns-in-None-clause-fills g c = λ at must. c.claim_two.ensures.fills at

@@ -93,7 +93,7 @@ returns-in-Err-clause-led g c = λ promise alone. let sort = sort_of g.N.Node.la
     led_on sort c.loop-held.waiting.items c.make_room.new.waiting.items me h k l (stretch_begins link_move me h k inv.4) (stretch_begins link_move me k l e.stretch) (c.sound_law.ensures.lasts sort n k l (stretch_begins link_move me k l e.stretch) e.pass.sound)
     (none_waits c.loop-held.waiting.items (is_full g.N.Node.layout (g.N.Node.body c.loop-held.held.body)) (inv.6 promise) (c.has_room.ensures.none c.if-has_room.false).1) (inv.7 promise) e.led (subst (λ (z : ℕ). ActsAlone z h l) (sym inv.1) alone)
 
--- what it does
+-- the kinds of its events
 
 pub returns-then-has_room-clause-fills : goal.returns-then-has_room-clause-fills
 returns-then-has_room-clause-fills g c = let inv = c.loop-held.invariant in subst (λ (z : ℕ). DoesOnly (MayFill (sort_of g.N.Node.layout g.N.Node.ranged) c.args.place) z (seen_of c.args.pass.now) (seen_of c.loop-held.pass)) inv.1 inv.8

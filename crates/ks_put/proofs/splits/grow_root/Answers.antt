@@ -119,7 +119,7 @@ returns-clause-narrows g c = let at = goal.at.returns-clause-narrows g c in let 
     (leads cut j ((c.grow.ensures.parts cut (inset g at.After-claim_two cut c.requires.cut.0 held)).1 (omega arith)).0) in
     half_narrower g.N.Node.layout shows place (record { parent = None; node = c.args.root }) c.keep_half.result y c.grow.new.left c.grow.new.right cut c.requires.full c.requires.cut.1 low low c.grow.ensures.left.body c.grow.ensures.right.body below c.keep_half.ensures.parent c.keep_half.ensures.kept.0 c.keep_half.ensures.kept.1
 
--- what it does
+-- the kinds of its events
 
 pub returns-in_default-clause-fills : goal.returns-in_default-clause-fills
 returns-in_default-clause-fills g c = λ must. c.claim_two.ensures.fills c.args.place

@@ -218,7 +218,7 @@ pub returns-clause-narrows : goal.returns-clause-narrows
 returns-clause-narrows g c = let shows = g.N.Node.body in let cut : ℕ = c.args.cut in let low : cut ≤ top = omega (arith, c.ranges.cut) in
     right_narrower g.N.Node.layout shows c.args.place c.args.path c.keep_right_alone.result cut c.requires.full low c.requires.cut.1.0.0 (ap (λ (z : Hand g.row.N.Denot). (shows z.body).low) c.keep_right_alone.ensures.node ∙ ap (λ (z : Body). z.low) c.split_own.ensures.right.body)
 
--- what it does
+-- the kinds of its events
 
 pub returns-in_default-clause-fills : goal.returns-in_default-clause-fills
 returns-in_default-clause-fills g c = λ must. c.claim_one.ensures.fills c.args.place

@@ -92,7 +92,7 @@ returns-in-Shut-clause-eased g c = λ ways eased. eased_down g.N.Node.layout g.N
 pub returns-in-Shut-clause-nearer : goal.returns-in-Shut-clause-nearer
 returns-in-Shut-clause-nearer g c = nearer_down g.N.Node.layout g.N.Node.body c.args.place c.in-Shut.whole.node c.args.depth c.args.refused c.args.path c.try_down-in-Shut.result c.try_down-in-Shut.ensures.went
 
--- what it does
+-- the kinds of its events
 
 pub returns-then-not-is_branch-clause-fills : goal.returns-then-not-is_branch-clause-fills
 returns-then-not-is_branch-clause-fills g c = searched_fills (sort_of g.N.Node.layout g.N.Node.ranged) c.args.place c.args.pass.now.caller (seen_of c.args.pass.now) (seen_of c.try_down.new.pass) c.try_down.ensures.leaves

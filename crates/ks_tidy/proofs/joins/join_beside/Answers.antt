@@ -156,7 +156,7 @@ returns-clause-step g c = let at = goal.at.returns-clause-step g c in let sort =
           c.args.node.node (fits_none g at.After-keep_left-2);
     }
 
--- what it does
+-- the kinds of its events
 
 pub returns-then-fits-clause-dels : goal.returns-then-fits-clause-dels
 returns-then-fits-clause-dels g c = λ low. dels_search (sort_of g.N.Node.layout g.N.Node.ranged) c.args.pass.now.caller c.absorb_under.new.pass.caller (seen_of c.args.pass.now) (seen_of c.absorb_under.new.pass) (seen_of c.keep_left.new.pass) c.absorb_under.ensures.caller (c.absorb_under.ensures.dels low) c.keep_left.ensures.leaves

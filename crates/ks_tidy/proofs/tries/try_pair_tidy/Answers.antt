@@ -93,7 +93,7 @@ pub returns-clause-counts : goal.returns-clause-counts
 returns-clause-counts g c = let me : ℕ = c.args.pass.now.caller in let inv = c.loop-steps.invariant in let h₁ = seen_of c.loop-steps.pass in let k = seen_of c.leave-2.new.pass in
     counts_on me c.loop-steps.freed (seen_of c.args.pass.now) h₁ k inv.4 (frees_as me c.loop-steps.pass.caller h₁ k inv.1 c.leave-2.ensures.frees)
 
--- what it does
+-- the kinds of its events
 
 pub returns-in-Err-clause-dels : goal.returns-in-Err-clause-dels
 returns-in-Err-clause-dels g c = searched_dels (sort_of g.N.Node.layout g.N.Node.ranged) c.args.pass.now.caller (seen_of c.args.pass.now) (seen_of c.try_enter.new.pass) c.try_enter.ensures.leaves
