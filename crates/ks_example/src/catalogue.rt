@@ -166,7 +166,7 @@ fn tell_one<R: Wait>(
     tell(rt, catalogue, &mut clerks[0], &mut readers[0], 0, 100)
 }
 
-/// One caller sets an entry and sends another a note of it, who then looks the number up: it finds this entry, unless a
+/// One caller sets an entry and sends another a note of it, which then looks the number up: it finds this entry, unless a
 /// later call changed it.
 ///
 /// # Errors

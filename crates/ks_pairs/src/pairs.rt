@@ -134,7 +134,7 @@ impl<const N: usize> Pairs<N> {
         }
     }
 
-    /// Moves the pairs from a cut on to where there is none.
+    /// Moves the pairs from a cut on to an empty list.
     pub fn split_to(&mut self, right: &mut Self, cut: u64)
         requires ascend { Ascends (λ x. x.place) self.old.items }
         requires blank { right.old.items ≡ [] }

@@ -73,7 +73,7 @@ off_later template n c op s h (Busy node holder) finds left so = record { left =
 off_later template n c op s h (Moved node) finds left so = absurd so.0
 off_later template n c op s h Far finds left so = record { left = left; cause = (finds, so.1) }
 
--- where the search of a path ends, its node is no branch
+-- the node of a path at which the search ends is no branch
 module _ {N : Type 0} (sort : Sort) (shows : N → Body) (c p : ℕ) (h : List Event) (x : Path N) (path : IsOnPath sort shows c p h x) (facts : Tree (graph_after h) (frame_after (blank_of sort) h)) (place : p ≤ top) where
   held_in : (o : Option Span) → (frame_after (blank_of sort) h x.node.node).range ≡ o → (first_of o ≤ p) × (p ≤ last_of o)
   held_in None e = (omega arith, omega (arith, place))

@@ -8,8 +8,8 @@ use Rattle.ks_put.specs.declared.halves.Part.TheVariants.{Split, Refused, Shut}
 use Rattle.ks_shape.specs.Down.{IsDown}
 
 module _ {N : Type 0} (n c : ℕ) (s0 h : List Event) (taken roots steps : ℕ) where
-  -- since s0 c took `taken` nodes, the root `roots` times at most, and the node is `steps` steps down, or one below its
-  -- parent that is; or another caller made a Shape
+  -- since s0 c took `taken` nodes, the root `roots` times at most, and the node is `steps` steps down, or its parent one
+  -- less; or another caller made a Shape
   abbrev pub StandsDown : Hand N → Option (Hand N) → Type 0
   StandsDown x None = IsDown n c s0 h taken roots steps x.node
   StandsDown x (Some y) = (above : ℕ) × (steps ≤ suc above) × IsDown n c s0 h taken roots above y.node

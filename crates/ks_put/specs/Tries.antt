@@ -1,4 +1,4 @@
--- What the result of a non-blocking search for room means.
+-- The results of a non-blocking search for room.
 use Rattle.std.specs.Prelude.{ℕ, ◌≡◌, ◌<◌, ◌⊎◌, suc, Bool, false, IsTrue, List, [], Option, Some, Result, Ok, Err}
 use Rattle.ks_keysets.specs.Layout.{Layout}
 use Rattle.ks_node.specs.declared.node.Node.{Ghosts as NodeGhosts}
@@ -38,7 +38,7 @@ module _ {N : Type 0} (sort : Sort) (shows : N → Body) where
   StepOrNone c place h (Err later) = hand c h ≡ []
 
 module _ {N : Type 0} (n c place : ℕ) (s0 h : List Event) where
-  -- since s0 c took one node more than the step's depth, the root twice at most, and its path is so deep; or it had cause
+  -- since s0 c took the step's depth + 1 nodes, the root twice at most, and its path is so deep; or its cause is due
   abbrev pub StepOrCause : Result (Step N) Later → Type 0
   StepOrCause (Ok step) = IsDownPath n c s0 h (suc step.depth) 2 step.depth step.path
   StepOrCause (Err later) = IsCauseAt coupling n c place s0 h later

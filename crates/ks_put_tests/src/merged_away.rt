@@ -114,7 +114,7 @@ fn told(number: u64, found: Option<u128>) -> Numbered {
     Numbered { number, found }
 }
 
-/// The node is free when caller 1 comes to it.
+/// The node is free when caller 1 tries to take it.
 #[test]
 fn a_node_that_was_merged_away_has_moved(rt: HostRuntime) -> Result<(), Fail> {
     let (arena, mut one, two) = two_callers::<Leaf>(rt.alloc(), 64)?;
@@ -127,7 +127,7 @@ fn a_node_that_was_merged_away_has_moved(rt: HostRuntime) -> Result<(), Fail> {
     Ok(())
 }
 
-/// The node is live again when caller 1 comes to it, with a range that does not hold the place.
+/// The node is live again when caller 1 tries to take it, with a range that does not hold the place.
 #[test]
 fn a_node_that_is_used_again_has_moved(rt: HostRuntime) -> Result<(), Fail> {
     let (arena, mut one, two) = two_callers::<Leaf>(rt.alloc(), 64)?;

@@ -15,7 +15,7 @@ use Rattle.ks_tickets.specs.Plays.{Seated, drawn, closed}
 use Rattle.ks_tickets.proofs.Numbers.{moved_numbers, split_numbers, join_numbers, first_numbers}
 use Rattle.ks_tickets.proofs.Totals.{total_set, term_le, all_in_one, times_here, times_else, times_append, none_times, two_terms, one_gone}
 
--- how often t is in lists of the views, where one view has become another
+-- how often t is in lists of the views, once one view has become another
 same_drawn : (vs : List View) (id : ℕ) (v w : View) (t : ℕ) → get_elem? vs id ≡ some v → times t w.drawn ≡ times t v.drawn → drawn_times t (set vs id w) ≡ drawn_times t vs
 same_drawn vs id v w t at e = let s = total_set (λ (u : View). times t u.drawn) vs id v w at in omega arith
 

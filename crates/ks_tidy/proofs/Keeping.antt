@@ -66,7 +66,7 @@ module _ (sort : Sort) (n c : ℕ) (laws : Laws sort n) where
     keyset = (beside_with SameKeyset sort BeginsTree TreeStep n laws.keysets c e h k plain grows sound i before after).forth;
   }
 
-  -- by hands
+  -- the same, by what c holds
   pub places_kept : (e : Event) (h k : List Event) (i : ℕ) → IsPlain e → GrowsWith c e h k → Sound sort BeginsTree TreeStep n h → Sound sort BeginsTree TreeStep n k → Has (hand c h) i → Has (hand c k) i → HasPlacesOf (graph_after h) (graph_after k) i i
   places_kept e h k i plain grows so sound has has' = places_stay e h k i plain grows sound ((is_hand h c (laws.turns h so)).held i has) ((is_hand k c (laws.turns k sound)).held i has')
 

@@ -45,7 +45,7 @@ pub returns-in-Here-next-clause-once : goal.returns-in-Here-next-clause-once
 returns-in-Here-next-clause-once g c = let inv = c.loop-steps.invariant in let s = seen_of c.args.pass.now in let k = seen_of c.loop-steps.pass in
     subst (λ (z : ℕ). TookSince z s k 0 1) inv.1 (once c.args.arena.now.nodes c.loop-steps.pass.caller s k c.loop-steps._steps c.loop-steps.held.node inv.4)
 
--- the nodes that it takes
+-- the invariant of the loop
 
 pub loop-steps-init : goal.loop-steps-init
 loop-steps-init g c = let sort = sort_of g.N.Node.layout g.N.Node.ranged in let n : ℕ = c.args.arena.now.nodes in let s = seen_of c.args.pass.now in let k = seen_of c.try_enter.new.pass in let e = c.in-Ok.ensures in let x = c.in-Ok.root in (
