@@ -1,4 +1,4 @@
--- What stands at a position of a list.
+-- What is at a position of a list.
 use Rattle.std.proofs.Common.{ℕ, zero, suc, ◌≡◌, ◌<◌, List, [], ◌∷◌, length, refl, arith}
 use mathlib.Core.Option.{some}
 use lib.ListN.{get_elem?}

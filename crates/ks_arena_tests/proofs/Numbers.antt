@@ -1,4 +1,4 @@
--- The numbers of a caller's calls ascend, as long as they do not begin again at 0.
+-- The numbers of a caller's calls ascend, as long as they do not wrap to 0.
 use Rattle.std.specs.Prelude.{◌<◌, ◌%◌, ◌^◌, All, length}
 use Rattle.std.proofs.Common.{◌≡◌, ℕ, suc, ◌==◌, Bool, true, false, cond, List, [], ◌∷◌, ◌++◌, subst, arith}
 use Rattle.std.proofs.lemmas.List.{length-append}

@@ -50,7 +50,7 @@ module _ (b : Body) (p : ℕ) (s : InOrder (content_of b)) (none : b.range ≡ N
 given : (c d i : ℕ) (k g : List Event) → d ≡ c → i ≡ 0 → GrowsWith d (Give d i) k g → GrowsWith c (Give c 0) k g
 given c d i k g same root gave = subst (λ (j : ℕ). GrowsWith c (Give c j) k g) root (subst (λ (e : ℕ). GrowsWith e (Give e i) k g) same gave)
 
--- a take and a give leave the calls of their caller
+-- a take and a release leave the calls of their caller
 took_calls : {c i : ℕ} {h k : List Event} → GrowsWith c (Take c i) h k → calls_by c k ≡ calls_by c h
 took_calls {c} {i} {h} {k} grows = ap (calls_by c) grows.is ∙ calls_kept grows.rest h c (none_no_call c grows.rest grows.others)
 
@@ -69,7 +69,7 @@ module _ {N : Type 0} {sort : Sort} {shows : N → Body} where
   shown k x root live so = subst (λ (i : ℕ). (graph_after k i ≡ Live (record_of (shows x.body))) × (frame_after (blank_of sort) k i ≡ frame_of (shows x.body))) root
       (subst (λ (l : Bool). MatchesIf sort shows l (graph_after k x.node) (frame_after (blank_of sort) k x.node) x.body) live so.is)
 
-  -- c took node 0 and gave it back: it made no call, and the node was between as it found it
+  -- c took node 0 and released it: it made no call, and the node was between as it found it
   module _ {c d : ℕ} {h k g : List Event} {x : Hand N} (took : HasTaken sort shows c 0 h k x) (gave : GrowsWith d (Give d x.node) k g) (same : d ≡ c) where
     gives : GrowsWith c (Give c 0) k g
     gives = given c d x.node k g same took.node gave
@@ -104,7 +104,7 @@ module _ {N : Type 0} {sort : Sort} {shows : N → Body} where
         let to = next_leads (shows x.body) p m order place go in
         between (record_of (shows x.body), ap live_record (shown k x took.node took.live took.matches).0, (to.0, to.1, to.2, to.3, to.4.0))
 
-  -- c took node 0, made a call there, and gave it back
+  -- c took node 0, made a call there, and released it
   pub one_call : {c d e p v n : ℕ} {reply : Reply} {h k l g : List Event} {x : Hand N} (old : Option ℕ) → HasTaken sort shows c 0 h k x → Numbered d (Call d x.node (Put p v) reply) k l n → GrowsWith e (Give e x.node) l g →
       d ≡ c → e ≡ d → reply ≡ told old → calls_by c g ≡ calls_by c h ++ numbered n (Put p v) (told old) ∷ []
   one_call {c} {d} {e} {p} {v} {n} {reply} {h} {k} {l} {g} {x} old took called gave same still tells =

@@ -1,4 +1,4 @@
--- What puts at node 0 tell.
+-- The events of puts at node 0.
 use Rattle.std.specs.Prelude.{ℕ, ◌+◌, List, [], ◌∷◌, ◌++◌}
 use Rattle.ks_keysets.specs.Keyset.{InOutset}
 use Rattle.ks_keysets.specs.Layout.{Layout}
@@ -12,7 +12,7 @@ use Rattle.ks_history.specs.Due.{IsFullFor, Sometime}
 use Rattle.ks_arena_tests.specs.declared.puts.PutOutcome.{PutOutcome}
 use Rattle.ks_arena_tests.specs.declared.puts.PutOutcome.TheVariants.{Decided, NoRoom, Elsewhere}
 
--- the events of a put by c, the newest first: it takes node 0, makes one call or none, and gives it back
+-- the events of a put by c, the newest first: it takes node 0, makes one call or none, and releases it
 abbrev pub put_events : ℕ → ℕ → ℕ → PutOutcome → List Event
 put_events c place value (Decided number old) = Give c 0 ∷ Call c 0 (Put place value) (told old) ∷ Take c 0 ∷ []
 put_events c place value NoRoom = Give c 0 ∷ Take c 0 ∷ []
@@ -24,7 +24,7 @@ put_calls place value (Decided number old) = numbered number (Put place value) (
 put_calls place value NoRoom = []
 put_calls place value Elsewhere = []
 
--- no call was made only where node 0 was full and had not the place, or an edge of it carried the place
+-- if no call was made, node 0 was at some moment full for the place, or an edge of it carried the place
 abbrev pub IsPutDue : Layout → ℕ → List Event → List Event → PutOutcome → Type 0
 IsPutDue layout place h k (Decided number old) = Unit {0}
 IsPutDue layout place h k NoRoom = Sometime h k (λ m. IsFullFor layout (graph_after m) 0 place)

@@ -10,7 +10,7 @@ use ks_list::ListNode;
 use ks_node::Node;
 use std::test::Fail;
 
-/// Claims the nodes from `next` on until none is left, and gives them back. Tells whether they came in order, up to the
+/// Claims the nodes from `next` on until none is left, and releases them. Returns whether they came in order, up to the
 /// last.
 fn claim_from<N: Node, D: Discipline>(arena: &Arena<N, D>, pass: &mut Pass<N, D>, next: u32) -> bool
     requires pass { IsPassOf arena.now pass.old }

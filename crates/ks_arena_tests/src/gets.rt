@@ -14,7 +14,7 @@ use ks_node::{Next, Node};
 use std::sync::Wait;
 use std::thread::{Threads, join};
 
-/// What a get at node 0 came to.
+/// The result of a get at node 0.
 #[derive(Clone, Copy, Debug, PartialEq, Eq)]
 pub enum GetOutcome {
     /// It is the call of that number, and found that value.
@@ -23,7 +23,7 @@ pub enum GetOutcome {
     Elsewhere,
 }
 
-/// The reply that tells what stood there.
+/// The reply of a call that found this.
 fn reply_of(found: Option<u128>) -> Reply
     ensures { result ≡ told found }
 {
@@ -33,7 +33,7 @@ fn reply_of(found: Option<u128>) -> Reply
     }
 }
 
-/// Takes node 0 once nobody else holds it, gets the value at the place as one call, and gives the node back.
+/// Takes node 0 once nobody else holds it, gets the value at the place as one call, and releases the node.
 pub fn get_at_root<N: Node, D: Discipline, R: Wait>(
     rt: &R,
     arena: &Arena<N, D>,
@@ -62,7 +62,7 @@ pub fn get_at_root<N: Node, D: Discipline, R: Wait>(
     GetOutcome::Decided { number, found }
 }
 
-/// Gets the place at node 0, and gives the pass back with what it came to.
+/// Gets the place at node 0, and returns the pass and the outcome.
 pub fn look_up<N: Node, D: Discipline, R: Wait>(
     rt: &R,
     arena: &Arena<N, D>,

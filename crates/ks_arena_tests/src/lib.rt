@@ -1,4 +1,4 @@
-//! The least layer above an arena: callers take, claim and give nodes, by the clauses of the arena alone.
+//! The least layer above an arena: callers take, claim and release nodes, by only the clauses of the arena.
 #![tactic(auto)]
 
 ghost use Rattle.std.specs.Prelude.{◌≡◌, ◌∷◌, ◌++◌};
@@ -22,7 +22,7 @@ pub use puts::{PutOutcome, both_put, put_at_root, put_four, work};
 use std::sync::Wait;
 use std::thread::{Threads, join};
 
-/// What a try to claim two nodes came to.
+/// The result of a try to claim two nodes.
 #[derive(Clone, Copy, Debug, PartialEq, Eq)]
 pub enum Claimed {
     Two(u32, u32),
@@ -30,7 +30,7 @@ pub enum Claimed {
     Nil,
 }
 
-/// Claims two nodes and gives them back in the order in which they were claimed.
+/// Claims two nodes and releases them in the order in which they were claimed.
 pub fn claim_two<N: Node, D: Discipline>(arena: &Arena<N, D>, pass: &mut Pass<N, D>) -> Claimed
     requires { IsEmptyPassOf arena.now pass.old }
     ensures pass { IsEmptyPassOf arena.now pass.new }
@@ -52,7 +52,7 @@ pub fn claim_two<N: Node, D: Discipline>(arena: &Arena<N, D>, pass: &mut Pass<N,
     Claimed::Two(one, two)
 }
 
-/// What a try to take a node met.
+/// The result of a try to take a node.
 #[derive(Clone, Copy, Debug, PartialEq, Eq)]
 pub enum Met {
     Ready,
@@ -60,7 +60,7 @@ pub enum Met {
     Gone,
 }
 
-/// Tries to take the node, and gives it back at once.
+/// Tries to take the node, and releases it at once.
 pub fn meet<N: Node, D: Discipline>(arena: &Arena<N, D>, pass: &mut Pass<N, D>, node: u32) -> Met
     requires pass { IsPassOf arena.now pass.old }
     requires node { IsNodeOf arena.now node }
@@ -81,7 +81,7 @@ pub fn meet<N: Node, D: Discipline>(arena: &Arena<N, D>, pass: &mut Pass<N, D>, 
     }
 }
 
-/// Takes node 0 once nobody else holds it, and gives it back.
+/// Takes node 0 once nobody else holds it, and releases it.
 pub fn pass_through<N: Node, D: Discipline, R: Wait>(
     rt: &R,
     arena: &Arena<N, D>,
@@ -99,7 +99,7 @@ pub fn pass_through<N: Node, D: Discipline, R: Wait>(
     }
 }
 
-/// Passes through node 0 once, and gives the pass back.
+/// Passes through node 0 once, and returns the pass.
 pub fn visit<N: Node, D: Discipline, R: Wait>(
     rt: &R,
     arena: &Arena<N, D>,

@@ -7,7 +7,7 @@ use ks_flow::Discipline;
 use ks_node::Node;
 
 /// Claims a node in an arena of 200 nodes and one caller. It takes at most 6 steps on words, and just 4, one for each
-/// free word, where every node is taken.
+/// free word, if every node is taken.
 pub fn claim_of_many<N: Node, D: Discipline>(
     arena: &Arena<N, D>,
     pass: &mut Pass<N, D>,

@@ -16,10 +16,10 @@ use ks_node::{Next, Node, node_law};
 use std::sync::Wait;
 use std::thread::{Threads, join};
 
-/// What a put at node 0 came to.
+/// The result of a put at node 0.
 #[derive(Clone, Copy, Debug, PartialEq, Eq)]
 pub enum PutOutcome {
-    /// It is the call of that number, and that value stood there before.
+    /// It is the call of that number, and that value was there before.
     Decided { number: u64, old: Option<u128> },
     /// The node was full and had no value at the place.
     NoRoom,
@@ -27,7 +27,7 @@ pub enum PutOutcome {
     Elsewhere,
 }
 
-/// The reply that tells what stood there.
+/// The reply of a call that found this.
 fn reply_of(old: Option<u128>) -> Reply
     ensures { result ≡ told old }
 {
@@ -37,7 +37,7 @@ fn reply_of(old: Option<u128>) -> Reply
     }
 }
 
-/// Takes node 0 once nobody else holds it, puts the value at the place as one call, and gives the node back.
+/// Takes node 0 once nobody else holds it, puts the value at the place as one call, and releases the node.
 pub fn put_at_root<N: Node, D: Discipline, R: Wait>(
     rt: &R,
     arena: &Arena<N, D>,
@@ -96,8 +96,8 @@ pub fn put_four<R: Wait>(
     [first, second, third, fourth]
 }
 
-/// The work of one thread: it puts its four values, and gives the pass back with what they came to. The numbers of
-/// those that were decided ascend, unless 2^64 calls were made.
+/// The work of one thread: it puts its four values, and returns the pass and the outcomes. The numbers of those that
+/// were decided ascend, unless 2^64 calls were made.
 pub fn work<R: Wait>(
     rt: &R,
     arena: &Arena<ListNode, Tree>,

@@ -51,7 +51,7 @@ fn a_held_node_is_busy_and_a_free_one_gone(rt: HostRuntime) -> Result<(), Fail> 
     Ok(())
 }
 
-/// Nodes are claimed upward, and one that was given is claimed again, by whomever.
+/// Nodes are claimed upward, and one that was released is claimed again, by any caller.
 #[test]
 fn callers_claim_what_others_gave(rt: HostRuntime) -> Result<(), Fail> {
     let (arena, mut one, mut two) = two_callers(rt.alloc())?;

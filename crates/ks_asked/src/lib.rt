@@ -1,4 +1,4 @@
-//! Tests of what the calls of nodes ask, made as a program runs: for trials of node types, and for measuring calls.
+//! Tests at run time of what the calls of nodes require: for trials of node types, and for measuring calls.
 #![tactic(auto)]
 
 ghost use Rattle.std.specs.Prelude.{◌≡◌, ◌≤◌, IsTrue, IfSome, All};
@@ -34,7 +34,7 @@ pub fn lie_in<N: Node>(node: &N, span: &Span) -> bool
     true
 }
 
-/// Where the node is cut, its range handed in; none where it is not full, or a pair lies outside of its range.
+/// Where the node is cut, given its range; `None` if it is not full, or a pair lies outside of its range.
 pub fn cut_of<N: Ranged>(node: &N) -> Option<u64>
     ensures full { IfSome result (λ _. IsTrue (is_full N.layout (N.body node.now))) }
     ensures splits { IfSome result (λ cut. CanSplitAt (N.body node.now) cut) }

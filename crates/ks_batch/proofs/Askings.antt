@@ -110,11 +110,11 @@ make_once words p q n m d e a b = (
   decimal_injective n m (let le = a.limits.1 in omega (arith, le)) (let le = b.limits.1 in omega (arith, le)) (ap (λ xs. get_or xs 3 []) (sym a.is ∙ b.is)),
 )
 
--- what is so of the pairing of a run is so of the one that its words name
+-- what holds of the pairing of a run holds of the one that its words name
 pub of_run : (P : Pairing → Type 0) (words : List (List ℕ)) (p q : Pairing) (n m : ℕ) → AsksToRun words p n → AsksToRun words q m → P p → P q
 of_run P words p q n m s other k = subst P (run_once words p q n m s other).0 k
 
--- and so where a command serves
+-- and so if a command serves
 pub served_run : (P : Pairing → ℕ → Type 0) (words : List (List ℕ)) (p q : Pairing) (n m : ℕ) → AsksToRun words p n → AskToServe words q m → P p n → P q m
 served_run P words p q n m s (inl other) k = let e = run_once words p q n m s other in subst (P q) e.1 (subst (λ x. P x n) e.0 k)
 served_run P words p q n m s (inr other) k = let f = front words p n s in let most = f.most in let e = long_make words q m other.0 other.1 in absurd (omega arith)

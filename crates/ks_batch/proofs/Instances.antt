@@ -15,7 +15,7 @@ use Rattle.ks_history.specs.Passes.{CallersBelow}
 use Rattle.ks_history.specs.Trace.{graph_after}
 use Rattle.ks_arena.specs.Named.{AllNamedBelow}
 
--- caller 0 takes the root, puts a pair there, and gives it
+-- caller 0 takes the root, puts a pair there, and releases it
 abbrev taken : List Event
 taken = Take 0 0 ∷ []
 
@@ -32,11 +32,11 @@ in_root p is = ((omega arith, at_root (empty_record, refl)), λ o. root_has_no_e
 put_is_lawful : Lawful one_put
 put_is_lawful = (((tt, refl), (refl, in_root, inl refl)), refl)
 
--- a put at the root with nothing in hand is not
+-- a put at the root by a caller that does not hold it is not
 put_in_passing : Lawful (Call 0 0 (Put 5 50) Nothing ∷ []) → ⊥
 put_in_passing l = let idle_held = l.1.0 in absurd (cc)
 
--- it names the root alone, by caller 0 alone: it is of an arena of one node, and of none of no node
+-- it names only the root, and only caller 0 acts: it is of an arena of one node, and of none of no node
 named_one : AllNamedBelow 1 one_put × CallersBelow 1 one_put
 named_one = ((((tt, omega arith), omega arith), omega arith), (omega arith, (omega arith, (omega arith, tt))))
 

@@ -14,8 +14,8 @@ use Rattle.ks_batch.specs.Pairings.{row_of}
 use Rattle.ks_batch.specs.Words.{Spells}
 use Rattle.ks_batch.specs.declared.status.TheConstants.{DONE, OUTPUT_FAILED, NO_MEMORY}
 
--- the trace h served the script that is made, with these places for keys, and of the summary of the run that tells it
--- Took holds; each event of h is of a caller of that script
+-- the trace h served the script that is made, with these places for keys, and Took holds of the summary of the run; each
+-- event of h is of a caller of that script
 pub record Sums (place : ℕ → ℕ) (draft : Draft) (h : List Event) (Took : List ℕ → Type 0) : Type 0 where
   pub run : Run
   pub served : Served place (made draft.callers draft.calls draft.first) run.callers run.pairs h
@@ -26,7 +26,7 @@ pub record Sums (place : ℕ → ℕ) (draft : Draft) (h : List Event) (Took : L
 abbrev pub SumsUp : (ℕ → ℕ) → Draft → List Event → List ℕ → Type 0
 SumsUp place draft h text = Sums place draft h (λ t. text ≡ t)
 
--- what the command leaves: it is done, or the output failed, or memory was wanting
+-- what the command leaves: it is done, or the output failed, or memory ran out
 pub record MakesOutcome (words : List (List ℕ)) (old new : Option (List ℕ)) (status : ℕ) (run : Option (List Event)) : Type 0 where
   pub pairing : Pairing
   pub arena : ℕ

@@ -3,7 +3,7 @@ use Rattle.std.specs.Prelude.{ℕ, ◌==◌, List, [], ◌++◌, codes, if◌the
 use Rattle.std.specs.Fmt.{decimal}
 use Rattle.ks_batch.specs.declared.status.TheConstants.{NO_COMMAND, REFUSED, SOURCE_FAILED, OUTPUT_FAILED, NO_MEMORY}
 
--- the text on the error output for a status and a line, which is 0 where it is no line's
+-- the text on the error output for a status and a line, which is 0 if no line is refused
 abbrev pub status_text : ℕ → ℕ → List ℕ
 status_text status line =
     if status == NO_COMMAND then codes "usage: run NODES TEMPLATE ARENA [WORKERS], make NODES TEMPLATE ARENA CALLERS CALLS FIRST, or check\n"

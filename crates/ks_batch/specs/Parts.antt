@@ -27,23 +27,23 @@ module _ (words : List (List ℕ)) where
   abbrev pub DueOver : Option (List Event) → Type 0
   DueOver run = (pairing : Pairing) (nodes : ℕ) → AskToServe words pairing nodes → IfSome run (FullsDue (row_of pairing).layout nodes)
 
-  -- no other nodes than so many are named in the run
+  -- the run names only nodes below the number that the words ask for
   abbrev pub NamedOver : Option (List Event) → Type 0
   NamedOver run = (pairing : Pairing) (nodes : ℕ) → AskToServe words pairing nodes → IfSome run (AllNamedBelow nodes)
 
-  -- where a script is to be served, there was a run if and only if all is done or the output failed
+  -- if a script is to be served, there was a run if and only if all is done or the output failed
   abbrev pub RanWith : ℕ → Option (List Event) → Type 0
   RanWith status run = Asks words Script → (IsSome run ↔ ((status ≡ DONE) ⊎ (status ≡ OUTPUT_FAILED)))
 
-  -- where a script is to be served and the status is this one, of the text of the run that this served Took holds
+  -- if a script is to be served and the status is this one, Took holds of the text of the run
   abbrev pub PrintedAt : ℕ → ℕ → Option (List ℕ) → Option (List Event) → (List ℕ → Type 0) → Type 0
   PrintedAt this status left run Took = (pairing : Pairing) (nodes : ℕ) → AsksToRun words pairing nodes → status ≡ this → PrintsRun (row_of pairing).place left run Took
 
-  -- where a text is to be read, it was read to its end, unless the source failed, memory was wanting or it is too long
+  -- if a text is to be read, it was read to its end, unless the source failed, memory ran out or it is too long
   abbrev pub ReadWith : ℕ → ℕ → Option (List ℕ) → Option (List ℕ) → Type 0
   ReadWith status line left after = (text : Text) → Asks words text → IsReadWith status line → IfSome left (λ _. after ≡ Some [])
 
-  -- where the words are no command or ask for a made script, nothing was read
+  -- if the words are no command or ask for a made script, nothing was read
   abbrev pub UnreadWith : ℕ → Option (List ℕ) → Option (List ℕ) → Type 0
   UnreadWith status left after = (status ≡ NO_COMMAND) ⊎ IsMake words → after ≡ left
 
@@ -51,12 +51,12 @@ module _ (words : List (List ℕ)) where
   abbrev pub RefusedWith : ℕ → ℕ → Option (List ℕ) → Type 0
   RefusedWith status line left = (text : Text) → Asks words text → status ≡ REFUSED → IfSome left (λ bytes. RefusedAt text bytes line)
 
-  -- where the source did not fail, a text that is to be refused was refused, or memory was wanting
+  -- if the source did not fail, a text that is to be refused was refused, or memory ran out
   abbrev pub RefusalDue : ℕ → ℕ → Option (List ℕ) → Type 0 → Type 0
   RefusalDue status line left failed = (text : Text) → Asks words text → ¬ failed →
       IfSome left (λ bytes. (n : ℕ) → RefusedAt text bytes n → ((status ≡ REFUSED) × (line ≡ n)) ⊎ (status ≡ NO_MEMORY))
 
-  -- where neither the source nor the output failed, a script was served, or memory was wanting
+  -- if neither the source nor the output failed, a script was served, or memory ran out
   abbrev pub DoneDue : ℕ → Option (List ℕ) → Type 0 → Type 0 → Type 0
   DoneDue status left failed out_failed = Asks words Script → ¬ failed → ¬ out_failed →
       IfSome left (λ bytes. (script : List (List Op)) → Accepts bytes script → (status ≡ DONE) ⊎ (status ≡ NO_MEMORY))
@@ -67,8 +67,8 @@ module _ (words : List (List ℕ)) where
       IfSome left (λ bytes. (script : List (List Op)) (run : Run) → AcceptsChecked bytes script run →
       (status ≡ DONE) ⊎ ((status ≡ WRONG) ⊎ (status ≡ NO_MEMORY)))
 
-  -- what the program leaves that ends with this status, of a source and two sinks: the bytes of each before and after, where
-  -- they are told, and whether it failed
+  -- what the program leaves that ends with this status, of a source and two sinks: the bytes of each before and after, if
+  -- they are known, and whether it failed
   pub record Leaves (left after : Option (List ℕ)) (failed : Type 0) (out out_after : Option (List ℕ)) (out_failed : Type 0) (err err_after : Option (List ℕ)) (err_failed : Type 0) (status : ℕ) : Type 0 where
     pub line : ℕ
     pub number : ℕ

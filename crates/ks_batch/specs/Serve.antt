@@ -32,7 +32,7 @@ abbrev pub RefusedAt : Text → List ℕ → ℕ → Type 0
 RefusedAt text bytes zero = limit_of text < length bytes
 RefusedAt text bytes (suc n) = (length bytes ≤ limit_of text) × FirstBadOf text bytes (suc n)
 
--- the status and the line say that the source did not fail, that memory was not wanting, and that the text is not too long
+-- the status and the line say that the source did not fail, that memory did not run out, and that the text is not too long
 abbrev pub IsReadWith : ℕ → ℕ → Type 0
 IsReadWith status line = (status ≢ SOURCE_FAILED) × (status ≢ NO_MEMORY) × (status ≡ REFUSED → line ≢ 0)
 
@@ -41,22 +41,22 @@ pub record Accepts (bytes : List ℕ) (script : List (List Op)) : Type 0 where
   pub within : length bytes ≤ limit_of Script
   pub reads : ScriptOf bytes script
 
--- the trace h served the script that the bytes spell, with these places for keys, and the run tells it; each event of h is
--- of a caller of the script
+-- the trace h served the script that the bytes spell, with these places for keys, with this run as its result; each event
+-- of h is of a caller of the script
 pub record Tells (place : ℕ → ℕ) (bytes : List ℕ) (h : List Event) (run : Run) : Type 0 where
   pub script : List (List Op)
   pub accepts : Accepts bytes script
   pub served : Served place script run.callers run.pairs h
   pub callers : CallersBelow (length script) h
 
--- the trace h served the script that the bytes spell, and of the text that tells it Took holds
+-- the trace h served the script that the bytes spell, and Took holds of the text of its run
 pub record Prints (place : ℕ → ℕ) (bytes : List ℕ) (h : List Event) (Took : List ℕ → Type 0) : Type 0 where
   pub run : Run
   pub tells : Tells place bytes h run
   pub took : Took (run_text run)
 
--- the trace of the run, if there is one, served the script that the source had left, if it tells, and of the text that
--- tells it Took holds
+-- the trace of the run, if there is one, served the script that the source had left, if that is known, and Took holds of
+-- the text of the run
 abbrev pub PrintsRun : (ℕ → ℕ) → Option (List ℕ) → Option (List Event) → (List ℕ → Type 0) → Type 0
 PrintsRun place left run Took = IfSome left (λ bytes. IfSome run (λ h. Prints place bytes h Took))
 
@@ -72,7 +72,7 @@ pub record Judges (bytes : List ℕ) (judged : Judged) : Type 0 where
   pub accepts : AcceptsChecked bytes script run
   pub is : IsJudged script run judged
 
--- the line that tells a judgment
+-- the line that states a judgment
 abbrev pub judged_line : Judged → List ℕ
 judged_line (Legal calls) = codes "legal " ++ decimal calls ++ codes "\n"
 judged_line (Wrong number) = codes "wrong " ++ decimal number ++ codes "\n"

@@ -13,12 +13,12 @@ use Rattle.ks_batch.specs.Pairings.{row_of}
 abbrev pub bytes_of : {Z : Type 0} → List (String Z) → List (List ℕ)
 bytes_of words = map string_bytes words
 
--- the words that ask to serve a script, but for the number of workers
+-- the words that ask to serve a script, except the number of workers
 abbrev pub run_words : Pairing → ℕ → List (List ℕ)
 run_words pairing arena = codes "run" ∷ (row_of pairing).nodes ∷ (row_of pairing).template ∷ decimal arena ∷ []
 
--- the words are those of the command: to serve a script has the number of workers for its last word, or, where they are 64,
--- no such word
+-- the words are those of the command: to serve a script has the number of workers for its last word, or, if they are 64, no
+-- such word
 abbrev pub AreWords : List (List ℕ) → Asked → Type 0
 AreWords words (Run pairing arena workers) =
     (words ≡ run_words pairing arena ++ decimal workers ∷ []) ⊎ ((words ≡ run_words pairing arena) × (workers ≡ 64))
@@ -40,7 +40,7 @@ pub record Spells (words : List (List ℕ)) (asked : Asked) : Type 0 where
   pub is : AreWords words asked
   pub limits : InLimits asked
 
--- the words ask to serve a script by the pairing, over an arena of so many nodes
+-- the words ask to serve a script by the pairing, over an arena of this number of nodes
 abbrev pub AsksToRun : List (List ℕ) → Pairing → ℕ → Type 0
 AsksToRun words pairing arena = (workers : ℕ) × Spells words (Run pairing arena workers)
 
@@ -69,6 +69,6 @@ pub record NamesArena (nodes template arena : List ℕ) (pairing : Pairing) (cou
 abbrev pub IsMake : List (List ℕ) → Type 0
 IsMake words = (pairing : Pairing) × (arena : ℕ) × (draft : Draft) × Spells words (Make pairing arena draft)
 
--- the words are a command to serve callers by the pairing, over an arena of so many nodes
+-- the words are a command to serve callers by the pairing, over an arena of this number of nodes
 abbrev pub AskToServe : List (List ℕ) → Pairing → ℕ → Type 0
 AskToServe words pairing arena = AsksToRun words pairing arena ⊎ ((draft : Draft) × Spells words (Make pairing arena draft))

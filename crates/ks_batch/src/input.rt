@@ -22,7 +22,7 @@ pub enum Stop {
     Refused { line: u64 },
     /// The source failed.
     Source,
-    /// Memory was wanting.
+    /// Memory ran out.
     Memory,
 }
 

@@ -1,8 +1,8 @@
 //! The program without its ends: words and bytes come in, bytes go out.
 //!
-//! `serve` reads a script to its end, serves all its callers at once over a dictionary that begins empty, and writes what
-//! each call was answered. Its contract says that what is written tells a legal history of a map, in which each caller's
-//! calls stand in its order.
+//! `serve` reads a script to its end, serves all its callers at once over a dictionary that begins empty, and writes
+//! the reply of each call. Its contract says that what is written is a legal history of a map, which has each caller's
+//! calls in their order.
 #![tactic(auto)]
 
 mod input;

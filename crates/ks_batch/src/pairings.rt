@@ -45,7 +45,7 @@ pub enum Pairing {
     HashLink,
 }
 
-/// Serves all callers by so many workers, over an empty dictionary of the pairing with so many nodes.
+/// Serves all callers with `workers` workers, over an empty dictionary of the pairing with `nodes` nodes.
 pub fn serve_by<R: Threads + Wait + Sync, G: Gate + Sync>(
     rt: &R,
     alloc: Global,

@@ -38,13 +38,13 @@ use std::thread::Threads;
 #[derive(Drop)]
 pub struct Outcome {
     /// One of the statuses: 0, done; 1, the words are no command; 2, the input is refused; 3, the source failed; 4, the
-    /// output failed; 5, memory was wanting; 6, the checked run is wrong.
+    /// output failed; 5, memory ran out; 6, the checked run is wrong.
     pub status: u8,
-    /// The line at which the input is refused, counted from 1; 0 where it is too long, and with any other status.
+    /// The line at which the input is refused, counted from 1; 0 if it is too long, and with any other status.
     pub line: u64,
     /// The least wrong number of a checked run; 0 with any other status.
     pub number: u64,
-    /// What happened, where callers were served.
+    /// The trace, if callers were served.
     pub run: Option<RunTrace>,
 }
 
@@ -83,7 +83,7 @@ fn to_print(alloc: Global, told: Told) -> Result<Ready, AllocError>
     })
 }
 
-/// Serves a script by the pairing, over so many nodes, by so many workers.
+/// Serves a script by the pairing, over `arena` nodes, with `workers` workers.
 fn serve_packed<R: Threads + Wait + Sync, G: Gate + Sync>(
     rt: &R,
     alloc: Global,
@@ -110,7 +110,7 @@ fn serve_packed<R: Threads + Wait + Sync, G: Gate + Sync>(
     Ok(ready)
 }
 
-/// Reads a script and serves it by the pairing, over so many nodes, by so many workers.
+/// Reads a script and serves it by the pairing, over `arena` nodes, with `workers` workers.
 fn prepare<R: Threads + Wait + Sync, S: Source, G: Gate + Sync>(
     rt: &R,
     alloc: Global,
@@ -140,7 +140,7 @@ fn prepare<R: Threads + Wait + Sync, S: Source, G: Gate + Sync>(
     }
 }
 
-/// The command `run`: serves the script on the source and writes what its calls were answered.
+/// The command `run`: serves the script on the source and writes the replies to its calls.
 fn serve_script<R: Threads + Wait + Sync, S: Source, K: Sink, G: Gate + Sync>(
     rt: &R,
     alloc: Global,
@@ -193,7 +193,7 @@ fn serve_script<R: Threads + Wait + Sync, S: Source, K: Sink, G: Gate + Sync>(
     }
 }
 
-/// Writes the line that tells the judgment, in one piece.
+/// Writes the line that states the judgment, in one piece.
 fn say_judged<K: Sink>(out: &mut K, judged: Judged) -> Result<(), Failed>
     ensures ok { OnOk result (Grew (K.taken out.old) (K.taken out.new) (judged_line judged)) }
     ensures front { OnErr result (GrewByFront (K.taken out.old) (K.taken out.new) (judged_line judged)) }
@@ -240,7 +240,7 @@ fn check_run<S: Source, K: Sink>(alloc: Global, source: &mut S, out: &mut K) -> 
     }
 }
 
-/// Makes a script, serves it by the pairing over so many nodes and by so many workers, and sums it up; nothing is written yet.
+/// Makes a script, serves it by the pairing over `arena` nodes with `workers` workers, and sums it up. Writes nothing.
 pub fn make<R: Threads + Wait + Sync, G: Gate + Sync>(
     rt: &R,
     alloc: Global,
@@ -276,7 +276,7 @@ pub struct Made {
     pub trace: RunTrace,
 }
 
-/// The command `make`: serves a script that is made, by as many workers as there can be, and writes the summary.
+/// The command `make`: serves a script that is made, with as many workers as there can be, and writes the summary.
 fn make_run<R: Threads + Wait + Sync, K: Sink, G: Gate + Sync>(
     rt: &R,
     alloc: Global,
@@ -320,13 +320,13 @@ fn make_run<R: Threads + Wait + Sync, K: Sink, G: Gate + Sync>(
     }
 }
 
-/// The whole program: does what the words ask for, and says on `err` what stood against it.
+/// The whole program: does what the words ask for, and says on `err` what was wrong.
 ///
-/// The headline: for every pairing, script and gate, and however the steps of the callers fall between one another, the
-/// calls that are printed are, in the order of their numbers, one legal history of a finite map, each call once, those of
-/// each caller in its order; at every moment the keysets of the live nodes are disjoint and cover all keys; and `full` is
-/// answered only where that call found every node not free. Splits, merges and the use of a node again are steps like all
-/// others. It holds where the call returns, memory is not wanting, and source and sink do not fail.
+/// The headline: for every pairing, script and gate, and in whatever order the steps of the callers come, the calls
+/// that are printed are, in the order of their numbers, one legal history of a finite map, each call once, those of
+/// each caller in its order; at every moment the keysets of the live nodes are disjoint and cover all keys; and `full`
+/// is the reply only if that call found every node not free. Splits, merges and the use of a node again are steps like
+/// all others. It holds if the call returns, memory does not run out, and source and sink do not fail.
 pub fn serve<R: Threads + Wait + Sync, S: Source, K: Sink, E: Sink, G: Gate + Sync>(
     rt: &R,
     alloc: Global,
@@ -336,7 +336,7 @@ pub fn serve<R: Threads + Wait + Sync, S: Source, K: Sink, E: Sink, G: Gate + Sy
     err: &mut E,
     gate: &G,
 ) -> Outcome
-    // What happened in a run is lawful, the keysets of the live nodes are disjoint and cover all places, always, each Full
+    // The trace of a run is lawful, the keysets of the live nodes are disjoint and cover all places, always, each Full
     // was due over as many nodes as the words ask for, and no other node was ever named.
     ensures lawful { IfSome result.run Lawful }
     ensures good { IfSome result.run GoodThroughout }
@@ -346,7 +346,7 @@ pub fn serve<R: Threads + Wait + Sync, S: Source, K: Sink, E: Sink, G: Gate + Sy
     ensures not_ran { Asks (bytes_of words.now) text.Checked → IsNone result.run }
     ensures none { result.status ≡ NO_COMMAND → IsNone result.run }
 
-    // What is written is the text of a run that this served, or, where the output failed, first bytes of it.
+    // What is written is the text of a run that this served, or, if the output failed, first bytes of it.
     ensures done { PrintedAt (bytes_of words.now) DONE result.status (S.left source.old) result.run
         (Grew (K.taken out.old) (K.taken out.new)) }
     ensures cut { PrintedAt (bytes_of words.now) OUTPUT_FAILED result.status (S.left source.old) result.run
@@ -359,7 +359,7 @@ pub fn serve<R: Threads + Wait + Sync, S: Source, K: Sink, E: Sink, G: Gate + Sy
         MakesOutcome (bytes_of words.now) (K.taken out.old) (K.taken out.new) result.status result.run }
     ensures untouched { UntouchedWith result.status (K.taken out.old) (K.taken out.new) }
 
-    // What is read: the whole text, unless it is too long, the source fails or memory is wanting; and nothing without one.
+    // What is read: the whole text, unless it is too long, the source fails or memory runs out; nothing without one.
     ensures end { ReadWith (bytes_of words.now) result.status result.line (S.left source.old) (S.left source.new) }
     ensures unread { UnreadWith (bytes_of words.now) result.status (S.left source.old) (S.left source.new) }
 

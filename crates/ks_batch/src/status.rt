@@ -15,7 +15,7 @@ pub const SOURCE_FAILED: u8 = 3;
 /// The output failed.
 pub const OUTPUT_FAILED: u8 = 4;
 
-/// Memory was wanting.
+/// Memory ran out.
 pub const NO_MEMORY: u8 = 5;
 
 /// The checked run is wrong.

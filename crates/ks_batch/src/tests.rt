@@ -21,7 +21,7 @@ use std::alloc::{AllocError, Global};
 use std::sync::Wait;
 use std::thread::Threads;
 
-/// What a run of the program gave.
+/// What a run of the program left.
 #[derive(Drop)]
 struct Ended {
     status: u8,
@@ -69,7 +69,7 @@ fn run_on<R: Threads + Wait + Sync, G: Gate + Sync>(
     run_ends(rt, alloc, words, source, out, err, gate)
 }
 
-/// Runs the program with ends that give and take so many bytes at a time.
+/// Runs the program with ends that return and take at most `most` bytes at a time.
 fn run_at<R: Threads + Wait + Sync, G: Gate + Sync>(
     rt: &R,
     alloc: Global,
@@ -85,7 +85,7 @@ fn run_at<R: Threads + Wait + Sync, G: Gate + Sync>(
     run_on(rt, alloc, words, source, out, gate)
 }
 
-/// Runs the program, where no caller is kept.
+/// Runs the program with a gate that stops no caller.
 fn run<R: Threads + Wait + Sync>(
     rt: &R,
     alloc: Global,
@@ -111,7 +111,7 @@ fn put_pairs(text: &mut Vec<u8>, word: &[u8], first: u64, last: u64) -> Result<(
     Ok(())
 }
 
-/// Appends for each number a line: the number, and that nothing stood there.
+/// Appends for each number a line: the number, and that there was no value.
 fn put_nones(text: &mut Vec<u8>, first: u64, last: u64) -> Result<(), AllocError> {
     for number in first..=last {
         put_number(text, number)?;

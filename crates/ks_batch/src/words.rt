@@ -8,19 +8,19 @@ ghost use Rattle.ks_batch.specs.Words.{bytes_of, Spells, Names, NamesArena, IsCo
 use crate::pairings::Pairing;
 use itoa::Buffer;
 
-/// How many workers there are at most, and where the words do not say it.
+/// How many workers there are at most, and how many if the words do not say it.
 pub const MOST_WORKERS: u32 = 64;
 
 /// What the words ask for.
 #[derive(Clone, Copy, Debug, PartialEq, Eq)]
 pub enum Asked {
-    /// To serve the script on the source, by a pairing with an arena of so many nodes, and by so many workers.
+    /// To serve the script on the source, by a pairing with an arena of `arena` nodes, with `workers` workers.
     Run {
         pairing: Pairing,
         arena: u32,
         workers: u32,
     },
-    /// To serve a script that is made, by a pairing with an arena of so many nodes.
+    /// To serve a script that is made, by a pairing with an arena of `arena` nodes.
     Make {
         pairing: Pairing,
         arena: u32,
@@ -30,7 +30,7 @@ pub enum Asked {
     Check,
 }
 
-/// How a script is made: for so many callers, with so many calls each, drawn from a first number.
+/// How a script is made: the number of callers, the number of calls of each, and the first of the drawn numbers.
 #[derive(Clone, Copy, Debug, PartialEq, Eq)]
 pub struct Draft {
     pub callers: u32,

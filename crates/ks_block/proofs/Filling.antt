@@ -35,7 +35,7 @@ module _ {X : Type 0} where
   length-somes (None ∷ cs) = omega (arith, length-somes cs)
   length-somes (Some x ∷ cs) = omega (arith, length-somes cs)
 
-  -- places that begin with the values are told by the values
+  -- places that begin with the values follow from the values
   pub first : (cs : List (Option X)) (xs : List X) (n : ℕ) → length xs ≤ n → cs ≡ filled xs n → (somes cs ≡ xs) × (length cs ≡ n) × (cs ≡ filled (somes cs) (length cs))
   first cs xs n le e =
       let values = ap somes e ∙ somes-filled xs n in let long = ap length e ∙ length-filled xs n le in

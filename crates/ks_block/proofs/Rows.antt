@@ -144,7 +144,7 @@ module _ (E : El) {M : Type 1} {𝓤 : Ura M} (𝓛 : Logic 𝓤) (b : ℕ) wher
       use2 𝓛 (‵ (Row (o + s) (xs ++ ys))) (glue xs ys (o + s) at (omega (arith, suc-mul (length xs) s))) $ move ! (1 ∷ 0 ∷ []) $ fjoin ! $ done !
 
   module _ (o : ℕ) (cs : List (Place E)) (i : ℕ) where
-    -- the places but for the i-th
+    -- the places except the i-th
     abbrev pub Besides : Fml
     Besides = fsep (Row o (take i cs)) (Row (i * s + o + s) (drop (suc i) cs))
 
@@ -163,7 +163,7 @@ module _ (E : El) {M : Type 1} {𝓤 : Ura M} (𝓛 : Logic 𝓤) (b : ℕ) wher
         rewrite ! 0 (λ (l : List (Place E)). ‵ (Row o l)) (sym (set_split cs i c lt)) refl $ done !
 
     module _ (n : ℕ) where
-      -- the places but for the n from the i-th on
+      -- the places except the n from the i-th on
       abbrev pub Around : Fml
       Around = fsep (Row o (take i cs)) (Row (n * s + (i * s + o)) (drop (i + n) cs))
 

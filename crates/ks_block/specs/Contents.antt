@@ -14,6 +14,6 @@ contents ps n = record { pairs = ps; room = n }
 abbrev pub with_pairs : Contents → List (ℕ × ℕ) → Contents
 with_pairs c ps = contents ps c.room
 
--- the pairs, where the one at the index keeps its place and has the value v
+-- the pairs, with the value v in the one at the index, which keeps its place
 abbrev pub set_value : List (ℕ × ℕ) → ℕ → ℕ → List (ℕ × ℕ)
 set_value ps i v = slice_set ps i ((slice_index_or ps i (0, v)).0, v)

@@ -12,6 +12,6 @@ module _ {X : Type 0} where
   unfoldable pub filled : List X → ℕ → List (Option X)
   filled xs n = map Some xs ++ replicate (n - length xs) None
 
-  -- the places begin with their values, of which there are so many
+  -- the places begin with their values, which are this number
   abbrev pub IsFilledFirst : List (Option X) → ℕ → Type 0
   IsFilledFirst cs count = (cs ≡ filled (somes cs) (length cs)) × (count ≡ length (somes cs)) × (count ≤ length cs)

@@ -48,6 +48,6 @@ module _ (R : RattleType) where
   abbrev pub deed_owns : (Ty → Ptr → Fml) → Ptr → ℕ → Fml
   deed_owns token p n = token (raw (ty_array (lone R.mir) n)) p
 
-  -- what `ptr::copy` asks of a row: it begins where its memory begins, and its values take space
+  -- what `ptr::copy` requires of a row: it begins where its memory begins, and its values take space
   abbrev pub IsWhole : Ptr → Type 0
   IsWhole p = (count_of p ≡ 0) × (0 < type_size R)

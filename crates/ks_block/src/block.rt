@@ -9,7 +9,7 @@ use std::marker::Model;
 
 /// A list of pairs of a place and a value, in memory that is taken once and has room for a fixed number of them.
 ///
-/// `make` alone can be refused memory. A drop gives it back.
+/// Only `make` can be refused memory. A drop frees it.
 pub struct Block<S: Source = Global> {
     memory: Memory,
     len: usize,
@@ -40,7 +40,7 @@ impl<S: Source> Drop for Block<S> {
 }
 
 impl<S: Source> Block<S> {
-    /// Returns an empty block with room for `room` pairs, or fails for want of memory.
+    /// Returns an empty block with room for `room` pairs, or fails if memory runs out.
     pub fn make(alloc: S, room: usize) -> Result<Self, AllocError>
         requires { (0 < room) × (room ≤ 1024) }
         ensures { IfOk result (λ b. b ≡ contents [] room) }
@@ -77,7 +77,7 @@ impl<S: Source> Block<S> {
         self.memory.get(at)
     }
 
-    /// Gives the pair at `at` the value `value`. Its place stays.
+    /// Sets the value of the pair at `at` to `value`. Its place stays.
     pub fn set_value(&mut self, at: usize, value: u128)
         requires { at < length self.old.pairs }
         ensures { self.new ≡ with_pairs self.old (set_value self.old.pairs at value) }

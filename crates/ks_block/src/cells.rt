@@ -1,8 +1,8 @@
 //! The memory behind a block: a row of places, each empty or holding a value.
 //!
 //! `Cells` is the one type of this crate with a pointer. Each of its functions does one thing to the places: it reads,
-//! writes or moves values, and its contract says which places are filled before and after. A `Deed` is the right to give
-//! the memory back, so memory can be freed once only.
+//! writes or moves values, and its contract says which places are filled before and after. A `Deed` is the right to
+//! free the memory, so it can be freed only once.
 ghost use Rattle.std.specs.Prelude.{◌≡◌, ℕ, ◌+◌, ◌<◌, List, ◌++◌, Option, Some, None, length, take, drop, replicate, get_or, slice_set, IfOk};
 ghost use Rattle.std.specs.Vec.Ownership.{FitsInBlock};
 ghost use denote.RawPtr.{Ptr, count_of};
@@ -29,7 +29,7 @@ impl<T> Model for Cells<T> {
 
 unsafe impl<T: Send> Send for Cells<T> {}
 
-/// The right to give the memory of `len` places at `at` back to `alloc`. It takes no space.
+/// The right to return the memory of `len` places at `at` to `alloc`. It takes no space.
 pub(crate) struct Deed<T, A: Allocator> {
     mark: PhantomData<*const (T, A)>,
     ghost at: { Ptr },
@@ -71,7 +71,7 @@ pub(crate) fn allocate<T, A: Allocator>(
     }
 }
 
-/// Gives the memory back.
+/// Frees the memory.
 pub(crate) fn deallocate<T, A: Allocator>(alloc: &A, len: usize, cells: Cells<T>, deed: Deed<T, A>)
     requires { (length cells.slots ≡ len) × (deed.at ≡ cells.base) × (deed.len ≡ len) × (deed.alloc ≡ alloc.now) }
 {

@@ -1,7 +1,7 @@
-//! Memory for a fixed number of pairs, with the right to give it back.
+//! Memory for a fixed number of pairs, with the right to free it.
 //!
-//! A contract sees a `Memory` as the list of its places, each empty or holding a pair. It is not `Drop`, and the one way to
-//! be rid of it is `Source::give_back`: so it can be neither forgotten nor freed twice.
+//! A contract sees a `Memory` as the list of its places, each empty or holding a pair. It is not `Drop`, and only
+//! `Source::give_back` consumes it: so it can be neither forgotten nor freed twice.
 ghost use Rattle.std.specs.Prelude.{◌≡◌, ◌+◌, ◌<◌, ◌≤◌, ◌++◌, Some, None, length, take, drop, replicate, get_or, slice_set, IfOk};
 ghost use Rattle.ks_block.specs.Places.{IsFilled, IsRun, run, spliced, raised, lowered};
 
@@ -33,12 +33,12 @@ impl Model for Memory {
 
 /// Where blocks take their memory: `Global` in programs, others in tests.
 pub trait Source: Drop {
-    /// Takes memory with `room` empty places, or fails for want of memory.
+    /// Takes memory with `room` empty places, or fails if memory runs out.
     fn take_memory(&self, room: usize) -> Result<Memory, AllocError>
         requires { room ≤ 1024 }
         ensures { IfOk result (λ m. m ≡ replicate room None) };
 
-    /// Gives memory back, whatever it holds.
+    /// Frees memory, whatever it holds.
     fn give_back(&self, memory: Memory);
 }
 

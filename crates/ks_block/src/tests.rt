@@ -6,7 +6,7 @@ use std::alloc::{AllocError, Global};
 use std::cell::Cell;
 use std::test::Fail;
 
-/// `Global`, with a count of what it gave out and took back, that gives out no more than `limit` times.
+/// `Global`, which counts what it allocates and frees, and allocates no more than `limit` times.
 #[derive(Drop)]
 struct Counted<'a> {
     source: Global,

@@ -1,4 +1,4 @@
-//! `Boxed`, which is the node inside in all that it tells and does.
+//! `Boxed`, all of whose calls are those of the node inside.
 
 ghost use Rattle.std.specs.Prelude.{◌≡◌};
 

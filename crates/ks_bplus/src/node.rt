@@ -1,8 +1,8 @@
 //! The B+ node: a leaf or an inner node.
 //!
-//! A leaf has pairs and no child, an inner node has children and no pair. Either lies in the node itself, which has room
-//! for the greater of the two, so turning a leaf into an inner node or back needs no allocator. A node is 448 bytes: where
-//! callers move it, it should lie behind a box (`ks_boxed`).
+//! A leaf has pairs and no child, an inner node has children and no pair. Either lies in the node itself, which has
+//! room for the greater of the two, so turning a leaf into an inner node or back needs no allocator. A node is 448
+//! bytes: if callers move it, it should be behind a box (`ks_boxed`).
 
 ghost use Rattle.std.proofs.Props.{props};
 ghost use Rattle.ks_bplus.specs.Bplus.{Fit};

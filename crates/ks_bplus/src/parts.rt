@@ -120,7 +120,7 @@ impl Parts {
         }
     }
 
-    /// Sets the value at a place of a leaf, and answers the one that was there.
+    /// Sets the value at a place of a leaf, and returns the one that was there.
     pub(crate) fn put(&mut self, place: u64, value: u128) -> Option<u128>
         requires leaf { is_inner self.old ≡ false }
         requires ascend { Ascends (λ x. x.place) (pairs_of self.old) }
@@ -137,7 +137,7 @@ impl Parts {
         }
     }
 
-    /// Removes the pair of a place from a leaf, and answers its value.
+    /// Removes the pair of a place from a leaf, and returns its value.
     pub(crate) fn del(&mut self, place: u64) -> Option<u128>
         requires leaf { is_inner self.old ≡ false }
         requires ascend { Ascends (λ x. x.place) (pairs_of self.old) }
@@ -239,7 +239,7 @@ fn split_leaf(pairs: &mut Pairs<16>, right: &mut Parts, cut: u64)
     }
 }
 
-/// Takes away the children from a cut on, and gives them, the first from place 0 on.
+/// Takes away the children from a cut on, and returns them, the first from place 0 on.
 fn upper_starts(starts: &mut Starts, cut: u64) -> Starts
     requires { Ascends (λ s. s.low) starts.old.items }
     ensures left { starts.new.items ≡ starts_below cut starts.old.items }

@@ -62,7 +62,7 @@ pub(crate) fn add_start(starts: &mut Starts, low: u64, node: u32)
     starts.insert(i, Start { low, node });
 }
 
-/// Where the first child that is `node` stands.
+/// Returns the position of the first child that is `node`.
 fn position_of(items: &[Start], node: u32) -> Option<usize>
     ensures at { result ≡ position (λ s. nat_eq s.node node) items.now }
     ensures within { IfSome result (λ i. i < length items.now) }

@@ -1,4 +1,4 @@
--- What the functions that C calls ask and tell of a handle.
+-- What the functions that C calls require and ensure of a handle.
 use Rattle.std.specs.Prelude.{ℕ, ◌≡◌, ◌≢◌, ◌≤◌, List, All, Any, Option, Some, None, Result, slice_index_or}
 use Rattle.std_alloc.specs.Arc.{arc_value}
 use Rattle.ks_history.specs.declared.Op.{Op}
@@ -22,7 +22,7 @@ abbrev pub IsHandle : Option Caller → Type 0
 IsHandle None = Unit {0}
 IsHandle (Some c) = IsReady c
 
--- the caller of this handle tried the operation on its dictionary, and C is told what it was answered
+-- the caller of this handle tried the operation on its dictionary, and C gets its result
 pub record Tried (op : Op) (before after : Caller) (code : ℕ) (out : Answer) : Type 0 where
   pub ready : IsReady after
   pub same : arc_value after.arena ≡ arc_value before.arena
@@ -37,7 +37,7 @@ pub record TriedPut (op : Op) (before after : Caller) (code : ℕ) (out : Answer
   pub tried : TriedPutOf (arc_value before.arena) link_move op before.pass after.pass answer
   pub tells : TellsPut answer code out
 
--- a handle that is closed is told to be, with the code 16; one that is open stays open, and its caller tried the operation
+-- the code is 16 for a closed handle; an open one stays open, and its caller tried the operation
 abbrev pub HasTried : Op → Option Caller → Option Caller → ℕ → Answer → Type 0
 HasTried op None after code out = (code ≡ 16) × (after ≡ None)
 HasTried op (Some before) after code out = (c : Caller) × (after ≡ Some c) × Tried op before c code out
@@ -57,12 +57,12 @@ IsOpen (Some c) = IsReady c
 abbrev pub AreOpen : List Handle → Type 0
 AreOpen hs = All (λ h. IsOpen h.inside) hs
 
--- a handle that was open is closed now, with the code 0; one that was closed is told to be, with the code 16
+-- a handle that was open is closed now, with the code 0; for one that was closed the code is 16
 abbrev pub HasClosed : Option Caller → ℕ → Type 0
 HasClosed None code = code ≡ 16
 HasClosed (Some c) code = code ≡ 0
 
--- so many nodes and callers a dictionary may have
+-- a dictionary may have this number of nodes, and of callers
 abbrev pub IsSize : ℕ → ℕ → Type 0
 IsSize nodes callers = (4 ≤ nodes) × (nodes ≤ 1048576) × (1 ≤ callers) × (callers ≤ 1024)
 

@@ -1,4 +1,4 @@
--- How C is told what a call answers: by a code, and by what is written to its answer.
+-- How C gets the result of a call: as a code, and in its `Answer`.
 use Rattle.std.specs.Prelude.{ℕ, ◌≡◌, ◌+◌, ◌*◌, ◌^◌, Option, Some, None, Result, Ok, Err}
 use Rattle.ks_shape.specs.declared.answers.Numbered.{Numbered}
 use Rattle.ks_shape.specs.declared.answers.Later.{Later}
@@ -11,12 +11,12 @@ use Rattle.ks_c.specs.declared.answers.Answer.{Answer}
 abbrev pub whole : (low high : ℕ) → ℕ
 whole low high = high * 2 ^ 64 + low
 
--- the call is done: the code is 1 and the value that stood there is told, or 0
+-- the call is done: the code is 1 and the answer has the value that was there, or the code is 0
 abbrev pub TellsFound : Option ℕ → ℕ → Answer → Type 0
 TellsFound None code out = code ≡ 0
 TellsFound (Some v) code out = (code ≡ 1) × (whole out.low out.high ≡ v)
 
--- it was put off: the code is 3, and the node and its holder are told, or 4
+-- it was put off: the code is 3, and the answer has the node and its holder, or the code is 4
 abbrev pub TellsLater : Later → ℕ → Answer → Type 0
 TellsLater (Busy node holder) code out = (code ≡ 3) × (out.node ≡ node) × (out.holder ≡ holder)
 TellsLater (Moved node) code out = code ≡ 4

@@ -1,16 +1,16 @@
-//! What C is told.
+//! What calls return to C.
 ghost use Rattle.std.specs.Prelude.{◌≡◌};
 ghost use Rattle.ks_c.specs.Tells.{Tells, TellsFound, TellsLater, TellsPut, whole};
 
 use ks_shape::{Later, Numbered, PutLater};
 
-/// Nothing stood at the key.
+/// The key had no value.
 pub const NOTHING: u32 = 0;
-/// A value stood at the key.
+/// The key had a value.
 pub const VALUE: u32 = 1;
 /// No room for the key, and no free node.
 pub const FULL: u32 = 2;
-/// Another caller holds a node on the way.
+/// Another caller holds a node on the search path.
 pub const BUSY: u32 = 3;
 /// The call was put off for another cause. It never comes along links.
 pub const LATER: u32 = 4;
@@ -18,18 +18,18 @@ pub const LATER: u32 = 4;
 pub const CLOSED: u32 = 16;
 /// No such number of nodes or callers.
 pub const BAD_SIZE: u32 = 17;
-/// Memory is wanting.
+/// Memory ran out.
 pub const NO_MEMORY: u32 = 18;
 /// A handle that is to be opened is open.
 pub const IN_USE: u32 = 19;
 
-/// What a call tells beside its code.
+/// What a call returns beside its code.
 #[repr(C)]
 #[derive(Drop)]
 pub struct Answer {
     /// The number of the call in the one history of all calls.
     pub number: u64,
-    /// The two halves of the value that stood at the key.
+    /// The two halves of the value that the key had.
     pub low: u64,
     pub high: u64,
     /// The node that another caller held, and that caller.
@@ -72,7 +72,7 @@ fn tell_later(later: Later, out: &mut Answer) -> u32
     }
 }
 
-/// Tells what a get, a swap or a del answered.
+/// Writes the result of a get, a swap or a del to `out`, and returns its code.
 pub fn tell(answer: Result<Numbered, Later>, out: &mut Answer) -> u32
     ensures { Tells answer result out.new }
 {
@@ -85,7 +85,7 @@ pub fn tell(answer: Result<Numbered, Later>, out: &mut Answer) -> u32
     }
 }
 
-/// Tells what a put or an add answered.
+/// Writes the result of a put or an add to `out`, and returns its code.
 pub fn tell_put(answer: Result<Numbered, PutLater>, out: &mut Answer) -> u32
     ensures { TellsPut answer result out.new }
 {

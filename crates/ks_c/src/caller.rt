@@ -27,7 +27,7 @@ pub struct Caller {
 }
 
 impl Caller {
-    /// Answers the value of a key.
+    /// Returns the value of a key.
     pub fn get(&mut self, key: u64) -> Result<Numbered, Later>
         requires { IsEmptyPassOf (arc_value self.old.arena) self.old.pass }
         ensures ready { IsEmptyPassOf (arc_value self.new.arena) self.new.pass }
@@ -37,7 +37,7 @@ impl Caller {
         ks_link::try_get(&self.arena, &mut self.pass, &NoGate, key)
     }
 
-    /// Sets the value of a key, and answers the one before.
+    /// Sets the value of a key, and returns the one before.
     pub fn put(&mut self, key: u64, value: u128) -> Result<Numbered, PutLater>
         requires { IsEmptyPassOf (arc_value self.old.arena) self.old.pass }
         ensures ready { IsEmptyPassOf (arc_value self.new.arena) self.new.pass }
@@ -48,7 +48,7 @@ impl Caller {
         ks_link::try_put(&self.arena, &mut self.pass, &NoGate, key, value)
     }
 
-    /// Sets the value of a key that has none, and answers the one that it had.
+    /// Sets the value of a key that has none, and returns the one that it had.
     pub fn add(&mut self, key: u64, value: u128) -> Result<Numbered, PutLater>
         requires { IsEmptyPassOf (arc_value self.old.arena) self.old.pass }
         ensures ready { IsEmptyPassOf (arc_value self.new.arena) self.new.pass }
@@ -59,7 +59,7 @@ impl Caller {
         ks_link::try_add(&self.arena, &mut self.pass, &NoGate, key, value)
     }
 
-    /// Sets the value of a key from `old` to `new`, and answers the one before.
+    /// Sets the value of a key from `old` to `new`, and returns the one before.
     pub fn swap(&mut self, key: u64, old: u128, new: u128) -> Result<Numbered, Later>
         requires { IsEmptyPassOf (arc_value self.old.arena) self.old.pass }
         ensures ready { IsEmptyPassOf (arc_value self.new.arena) self.new.pass }
@@ -70,7 +70,7 @@ impl Caller {
         ks_link::try_swap(&self.arena, &mut self.pass, &NoGate, key, old, new)
     }
 
-    /// Deletes a key, and answers the value that it had.
+    /// Deletes a key, and returns the value that it had.
     pub fn del(&mut self, key: u64) -> Result<Numbered, Later>
         requires { IsEmptyPassOf (arc_value self.old.arena) self.old.pass }
         ensures ready { IsEmptyPassOf (arc_value self.new.arena) self.new.pass }

@@ -1,8 +1,8 @@
-//! A dictionary for C: calls that wait for nobody, on numbers and handles.
+//! A dictionary for C: non-blocking calls, on numbers and handles.
 //!
 //! C has a handle for each caller of a dictionary (`Handle`): null, or a caller in a block of its own. A call takes the
-//! caller out of its handle, makes its call along links and puts it back, so a handle that is closed is told from one that
-//! is open. `outside/ks.h` declares the functions and says what a caller must keep.
+//! caller out of its handle, makes its call along links and puts it back, so a call sees whether its handle is closed.
+//! `outside/ks.h` declares the functions and says what a caller must keep.
 #![tactic(auto)]
 
 ghost use Rattle.std.specs.Prelude.{◌≡◌};
@@ -23,7 +23,7 @@ pub use handle::{Handle, Opaque};
 use std::alloc::Global;
 use std::mem;
 
-/// Answers the value of a key.
+/// Returns the value of a key.
 #[unsafe(no_mangle)]
 pub extern "C" fn ks_c_get(alloc: Global, caller: &mut Handle, key: u64, out: &mut Answer) -> u32
     requires { IsHandle caller.old.inside }
@@ -39,7 +39,7 @@ pub extern "C" fn ks_c_get(alloc: Global, caller: &mut Handle, key: u64, out: &m
     }
 }
 
-/// Sets the value of a key, and answers the one before.
+/// Sets the value of a key, and returns the one before.
 #[unsafe(no_mangle)]
 pub extern "C" fn ks_c_put(
     alloc: Global,
@@ -62,7 +62,7 @@ pub extern "C" fn ks_c_put(
     }
 }
 
-/// Sets the value of a key that has none, and answers the one that it had.
+/// Sets the value of a key that has none, and returns the one that it had.
 #[unsafe(no_mangle)]
 pub extern "C" fn ks_c_add(
     alloc: Global,
@@ -85,7 +85,7 @@ pub extern "C" fn ks_c_add(
     }
 }
 
-/// Sets the value of a key from one to another, and answers the one before.
+/// Sets the value of a key from one to another, and returns the one before.
 #[unsafe(no_mangle)]
 pub extern "C" fn ks_c_swap(
     alloc: Global,
@@ -115,7 +115,7 @@ pub extern "C" fn ks_c_swap(
     }
 }
 
-/// Deletes a key, and answers the value that it had.
+/// Deletes a key, and returns the value that it had.
 #[unsafe(no_mangle)]
 pub extern "C" fn ks_c_del(alloc: Global, caller: &mut Handle, key: u64, out: &mut Answer) -> u32
     requires { IsHandle caller.old.inside }

@@ -82,7 +82,7 @@ fn hand_out(handles: &mut [Handle], mut boxes: Vec<Box<Caller>>)
     }
 }
 
-/// Opens an empty dictionary of so many nodes, and a handle for each of its callers.
+/// Opens an empty dictionary of `nodes` nodes, and a handle for each of its callers.
 #[unsafe(no_mangle)]
 pub extern "C" fn ks_c_open(alloc: Global, nodes: u32, callers: &mut [Handle]) -> u32
     requires { AreHandles callers.old }
@@ -108,7 +108,7 @@ pub extern "C" fn ks_c_open(alloc: Global, nodes: u32, callers: &mut [Handle]) -
     }
 }
 
-/// Closes a handle. The memory of a dictionary is given back with the last of its handles.
+/// Closes a handle. The memory of a dictionary is freed with the last of its handles.
 #[unsafe(no_mangle)]
 pub extern "C" fn ks_c_close(alloc: Global, caller: &mut Handle) -> u32
     ensures closed { caller.new.inside ≡ None }

@@ -78,11 +78,11 @@ impl Shared {
     }
 }
 
-/// Makes the calls of so many callers over one dictionary, and takes the time of each.
+/// Makes the calls of `callers` callers over one dictionary, and takes the time of each.
 ///
 /// # Errors
 ///
-/// Want of memory, and of a clock.
+/// Lack of memory, or of a clock.
 pub fn measure<
     N: Node + Send,
     T: Ruled + Template<N, Arena<N, <T as Ruled>::Rule>>,
@@ -108,7 +108,7 @@ where
     Ok(shared.told(pairs, span))
 }
 
-/// Serves all callers over a new dictionary, and ends it. Answers how many pairs it has at last, and the nanoseconds of
+/// Serves all callers over a new dictionary, and ends it. Returns how many pairs it has at last, and the nanoseconds of
 /// serving.
 fn run<
     N: Node + Send,
@@ -128,7 +128,7 @@ where
     Ok((pairs.len(), span?))
 }
 
-/// Serves all callers, and answers how many nanoseconds it took.
+/// Serves all callers, and returns how many nanoseconds it took.
 fn serve_timed<
     N: Node + Send,
     T: Ruled + Template<N, Arena<N, <T as Ruled>::Rule>>,
@@ -200,11 +200,11 @@ fn serve<N: Node, T: Ruled + Template<N, Arena<N, <T as Ruled>::Rule>>, R: Wait 
     shared.keep(rt, times, found);
 }
 
-/// Makes the calls in order, appends the nanoseconds of each, and answers how many found a value.
+/// Makes the calls in order, appends the nanoseconds of each, and returns how many found a value.
 ///
 /// # Errors
 ///
-/// Want of memory, and of a clock.
+/// Lack of memory, or of a clock.
 fn call_each<N: Node, T: Ruled + Template<N, Arena<N, <T as Ruled>::Rule>>, R: Wait + Clock>(
     rt: &R,
     dictionary: &Dictionary<N, T>,
@@ -226,7 +226,7 @@ fn call_each<N: Node, T: Ruled + Template<N, Arena<N, <T as Ruled>::Rule>>, R: W
     Ok(count)
 }
 
-/// Makes one call, and answers the value that its key had.
+/// Makes one call, and returns the value that its key had.
 fn call<N: Node, T: Ruled + Template<N, Arena<N, <T as Ruled>::Rule>>, R: Wait>(
     rt: &R,
     dictionary: &Dictionary<N, T>,

@@ -1,11 +1,11 @@
 //! The time of each call of a dictionary, for `bench/latencies`.
 //!
-//! The words are a technique (`coupling`, `giveup` or `link`, over B+ nodes), a number of callers, 1 to 64, and how many
-//! calls each of them makes: those that `make` draws with FIRST 7. What is printed is how many calls were made, how many
-//! of them found a value, and how many pairs are left; then what their times come to, in nanoseconds. A fourth word,
-//! `untimed`, leaves the times out: what is then printed is the same each time.
+//! The words are a technique (`coupling`, `giveup` or `link`, over B+ nodes), a number of callers, 1 to 64, and how
+//! many calls each of them makes: those that `make` draws with FIRST 7. What is printed is how many calls were made,
+//! how many of them found a value, and how many pairs are left; then a summary of their times, in nanoseconds. A fourth
+//! word, `untimed`, leaves the times out: what is then printed is the same each time.
 //!
-//! Each caller has a thread, and all wait for one another before their first calls: where the system refuses one of the
+//! Each caller has a thread, and all wait for one another before their first calls: if the system refuses one of the
 //! threads they wait forever.
 #![tactic(auto)]
 
@@ -35,7 +35,7 @@ fn words(rt: &HostRuntime) -> io::Result<Vec<String>> {
     Ok(words)
 }
 
-/// Measures the calls of so many callers by the technique; none where there is no such technique.
+/// Measures the calls of `callers` callers by the technique; `None` if there is no such technique.
 fn measure_by<R: Threads + Wait + Clock + Sync>(
     rt: &R,
     alloc: Global,

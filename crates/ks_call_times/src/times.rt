@@ -1,8 +1,8 @@
-//! What the times of calls come to.
+//! Summaries of the times of calls.
 
 use std::time::Duration;
 
-/// What times come to, in nanoseconds: the time that the half of the calls do not exceed, then all but a tenth, a hundredth
+/// A summary of times, in nanoseconds: the time that half of the calls do not exceed, then all but a tenth, a hundredth
 /// and so on, then the longest, and the mean.
 #[derive(Clone, Copy, Debug)]
 pub struct Sums {
@@ -30,13 +30,13 @@ impl Sums {
     }
 }
 
-/// The time that stands after this share of the sorted times, in ten-thousandths; 0 where there is none.
+/// The time that follows this share of the sorted times, in ten-thousandths; 0 if there is none.
 fn at(sorted: &[u64], share: usize) -> u64 {
     let place = sorted.len().saturating_mul(share) / 10000;
     sorted.get(place).copied().unwrap_or(0)
 }
 
-/// The mean; 0 where there is no time.
+/// The mean; 0 if there is no time.
 fn mean(times: &[u64]) -> u64 {
     let mut sum = 0u64;
     for time in times {

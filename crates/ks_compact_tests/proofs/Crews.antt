@@ -14,7 +14,7 @@ one_of ps (x ∷ xs) a long last =
     let n : length ps ≡ length ((x ∷ xs) ++ a ∷ []) = ap length last in
     absurd (omega (arith, long, n, length-append (x ∷ xs) (a ∷ [])))
 
--- all passes, where there is one
+-- all passes, if there is one
 module _ {N D : Type 0} (a : Site) (p : Pass N D) (idle : IsIdle a p) (callers : a.callers ≡ 1) (caller : p.caller ≡ 0) where
   each_one : (j : ℕ) (p' : Pass N D) → get_elem? (p ∷ []) j ≡ some p' → IsIdle a p'
   each_one zero p' is = let same : p ≡ p' = cc in subst (IsIdle a) same idle

@@ -1,4 +1,4 @@
-//! A churn: many callers put and delete at once, each on a thread of its own where one can be had.
+//! A churn: many callers put and delete at once, each on a thread of its own if there is one.
 ghost use Rattle.std.specs.Prelude.{◌<◌, ◌≤◌, length, IfOk};
 ghost use Rattle.ks_arena.specs.Sound.{sort_of};
 ghost use Rattle.ks_arena.specs.Of.{SameCaller};
@@ -128,7 +128,7 @@ where
     compact_by_first(rt, dictionary, passes);
 }
 
-/// What a dictionary of so many nodes comes to by a churn of all callers and compaction by one.
+/// A dictionary of `nodes` nodes at its end, after a churn of all callers and compaction by one.
 pub(crate) fn churned<
     N: Node + Send,
     T: Ruled + Compacting<N, Arena<N, <T as Ruled>::Rule>>,

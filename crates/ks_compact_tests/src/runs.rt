@@ -29,7 +29,7 @@ pub(crate) fn start_one<N: Node, T: Ruled + Template<N, Arena<N, <T as Ruled>::R
     Ok((dictionary, pass))
 }
 
-/// Puts `many` keys as their own value, from `first` on and a stride apart. Tells whether each had no value.
+/// Puts `many` keys as their own value, from `first` on and a stride apart. Returns whether each had no value.
 pub(crate) fn put_each<N: Node, T: Ruled + Template<N, Arena<N, <T as Ruled>::Rule>>, R: Wait>(
     rt: &R,
     dictionary: &Dictionary<N, T>,
@@ -52,7 +52,7 @@ pub(crate) fn put_each<N: Node, T: Ruled + Template<N, Arena<N, <T as Ruled>::Ru
     right
 }
 
-/// Deletes the keys again. Tells whether each had its own value.
+/// Deletes the keys again. Returns whether each had its own value.
 pub(crate) fn del_each<N: Node, T: Ruled + Template<N, Arena<N, <T as Ruled>::Rule>>, R: Wait>(
     rt: &R,
     dictionary: &Dictionary<N, T>,
@@ -73,7 +73,7 @@ pub(crate) fn del_each<N: Node, T: Ruled + Template<N, Arena<N, <T as Ruled>::Ru
     right
 }
 
-/// Compacts once, and answers how many nodes that made free.
+/// Compacts once, and returns how many nodes that made free.
 pub(crate) fn compact_once<
     N: Node,
     T: Ruled + Compacting<N, Arena<N, <T as Ruled>::Rule>>,
@@ -102,7 +102,7 @@ pub(crate) fn compact_until_none<
     }
 }
 
-/// Compacts until no node is made free, where there is one caller.
+/// Compacts a dictionary of one caller until no node is made free.
 pub(crate) fn compact_all<N: Node, T: Ruled + Compacting<N, Arena<N, <T as Ruled>::Rule>>, R: Wait>(
     rt: &R,
     dictionary: &Dictionary<N, T>,

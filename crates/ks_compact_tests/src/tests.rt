@@ -12,7 +12,7 @@ use std::test::Fail;
 /// Multiples of it come in no order.
 const STRIDE: u64 = 0x9E37_79B9_7F4A_7C15;
 
-/// Whether node 0 is live with so many pairs and no edge, and no other node is in use.
+/// Whether node 0 is live with `pairs` pairs and no edge, and no other node is in use.
 fn is_root_alone(graph: &Graph, pairs: usize) -> bool {
     graph.nodes.iter().enumerate().all(|(node, state)| match state {
         NodeState::Live(record) => {

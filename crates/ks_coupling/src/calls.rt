@@ -19,7 +19,7 @@ use ks_shape::{Fill, Full, Numbered, get_here, swap_here};
 use ks_tidy::{Tidied, come_down, del_on};
 use std::sync::Wait;
 
-/// Answers the value at a place, and the number of the call. It holds two nodes at most.
+/// Returns the value at a place, and the number of the call. It holds two nodes at most.
 pub fn get<N: Unlinked, R: Wait, G: Gate>(
     rt: &R,
     arena: &Arena<N, Tree>,
@@ -37,12 +37,12 @@ pub fn get<N: Unlinked, R: Wait, G: Gate>(
     get_here(arena, pass, gate, place, held)
 }
 
-/// Puts a value at a place; answers the value that stood there, and the number of the call. It splits full nodes on its way
-/// and at its end, and holds three nodes at most.
+/// Puts a value at a place; returns the value that was there, and the number of the call. It splits full nodes on the
+/// search path and at its end, and holds three nodes at most.
 ///
 /// # Errors
 ///
-/// `Full` where the node has no room, no value stands at the place, and no node was found free.
+/// `Full` if the node has no room, the place has no value, and no node was found free.
 pub fn put<N: Unlinked, R: Wait, G: Gate>(
     rt: &R,
     arena: &Arena<N, Tree>,
@@ -61,8 +61,8 @@ pub fn put<N: Unlinked, R: Wait, G: Gate>(
     pair_fill(rt, arena, pass, gate, place, Fill::Put(value))
 }
 
-/// Puts a value at a place where none stands; answers the value that stood there, and the number of the call. It goes as
-/// `put`.
+/// Puts a value at a place that has none; returns the value that was there, and the number of the call. It searches as
+/// `put` does.
 ///
 /// # Errors
 ///
@@ -85,8 +85,8 @@ pub fn add<N: Unlinked, R: Wait, G: Gate>(
     pair_fill(rt, arena, pass, gate, place, Fill::Add(value))
 }
 
-/// Puts `new` at a place where `old` stands; answers the value that stood there, and the number of the call. It holds two
-/// nodes at most.
+/// Puts `new` at a place if the value there is `old`; returns the value that was there, and the number of the call. It
+/// holds two nodes at most.
 pub fn swap<N: Unlinked, R: Wait, G: Gate>(
     rt: &R,
     arena: &Arena<N, Tree>,
@@ -106,9 +106,9 @@ pub fn swap<N: Unlinked, R: Wait, G: Gate>(
     swap_here(arena, pass, gate, place, old, new, held)
 }
 
-/// Deletes what stands at a place; answers the value that stood there, and the number of the call. On its way it may merge
-/// low branches; if it removed a pair, it merges the node at its end while that is low. It claims no node and splits none.
-/// It holds three nodes at most.
+/// Deletes what is at a place; returns the value that was there, and the number of the call. It may merge low branches
+/// on the search path; if it removed a pair, it merges the node at its end while that is low. It claims no node and
+/// splits none. It holds three nodes at most.
 pub fn del<N: Unlinked, R: Wait, G: Gate>(
     rt: &R,
     arena: &Arena<N, Tree>,

@@ -1,4 +1,4 @@
-//! The way from the root to the node where a search ends.
+//! The descent from the root to the node where a search ends.
 ghost use Rattle.std.specs.Prelude.{◌≡◌};
 ghost use Rattle.ks_history.specs.Done.{coupling};
 ghost use Rattle.ks_node.specs.declared.start.Next.TheVariants.{Go};
@@ -14,7 +14,7 @@ use ks_node::{Next, Unlinked};
 use ks_shape::{let_go, step_down, take_root, tree_end_law};
 use std::sync::Wait;
 
-/// Takes the child to which the search goes on, and gives the node.
+/// Takes the child to which the search goes on, and releases the node.
 fn go_on<N: Unlinked, R: Wait, G: Gate>(
     rt: &R,
     arena: &Arena<N, Tree>,
@@ -37,7 +37,7 @@ fn go_on<N: Unlinked, R: Wait, G: Gate>(
     let_go(arena, pass, gate, place, path)
 }
 
-/// Takes the node at which the search for a place ends, and holds it alone.
+/// Takes the node at which the search for a place ends, and holds no other.
 pub(crate) fn find<N: Unlinked, R: Wait, G: Gate>(
     rt: &R,
     arena: &Arena<N, Tree>,

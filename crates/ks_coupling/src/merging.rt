@@ -13,7 +13,7 @@ use ks_shape::Compacting;
 use ks_tidy::pair_compact;
 use std::sync::Wait;
 
-/// Merges what fits, node after node; answers how many nodes it made free, modulo 2^32. It holds three nodes at most.
+/// Merges what fits, node after node; returns how many nodes it made free, modulo 2^32. It holds three nodes at most.
 pub fn compact<N: Unlinked, R: Wait, G: Gate>(
     rt: &R,
     arena: &Arena<N, Tree>,

@@ -1,4 +1,4 @@
-//! The calls of a dictionary by lock coupling that wait for nobody.
+//! The non-blocking calls of a dictionary by lock coupling.
 ghost use Rattle.std.specs.Prelude.{◌≡◌};
 ghost use Rattle.ks_history.specs.declared.Op.TheVariants.{Del, Get, Swap};
 ghost use Rattle.ks_history.specs.Done.{coupling};
@@ -14,12 +14,12 @@ use ks_node::Unlinked;
 use ks_shape::{Later, Numbered, get_here, swap_here};
 use ks_tidy::try_del_alone;
 
-/// Answers the value at a place, and the number of the call. It holds two nodes at most, and waits for none.
+/// Returns the value at a place, and the number of the call. It holds two nodes at most, and waits for none.
 ///
 /// # Errors
 ///
-/// `Busy` where another caller holds the next node on the way, which was not waited for; `Far` where as many nodes were
-/// taken as there are, while another caller changed some. Then the call is none of the history and left nothing behind.
+/// `Busy` if another caller holds the next node on the search path; `Far` if as many nodes were taken as there are,
+/// while another caller changed some. Then the call is none of the history and left nothing behind.
 pub fn try_get<N: Unlinked, G: Gate>(
     arena: &Arena<N, Tree>,
     pass: &mut Pass<N, Tree>,
@@ -38,8 +38,8 @@ pub fn try_get<N: Unlinked, G: Gate>(
     }
 }
 
-/// Puts `new` at a place where `old` stands; answers the value that stood there, and the number of the call. It holds two
-/// nodes at most, and waits for none.
+/// Puts `new` at a place if the value there is `old`; returns the value that was there, and the number of the call. It
+/// holds two nodes at most, and waits for none.
 ///
 /// # Errors
 ///
@@ -64,9 +64,9 @@ pub fn try_swap<N: Unlinked, G: Gate>(
     }
 }
 
-/// Deletes what stands at a place; answers the value that stood there, and the number of the call. It waits for no node. If it
-/// removed a pair and the node is low, it comes to the place again and merges, as `del` does, as far as no other caller
-/// holds what it needs. It holds three nodes at most.
+/// Deletes what is at a place; returns the value that was there, and the number of the call. It waits for no node. If
+/// it removed a pair and the node is low, it searches for the place again and merges, as `del` does, until it needs a
+/// node that another caller holds. It holds three nodes at most.
 ///
 /// # Errors
 ///

@@ -1,4 +1,4 @@
-//! The way from the root to the node where a search ends, by takes that wait for nobody.
+//! The descent from the root to the node where a search ends, without waiting.
 ghost use Rattle.std.specs.Prelude.{◌≡◌};
 ghost use Rattle.ks_history.specs.Done.{coupling};
 ghost use Rattle.ks_node.specs.declared.start.Next.TheVariants.{Go};
@@ -36,7 +36,7 @@ fn try_begin<N: Unlinked, G: Gate>(
     }
 }
 
-/// Tries to take the child to which the search goes on, and gives the node, whether the child was taken or not.
+/// Tries to take the child to which the search goes on, and releases the node, whether the child was taken or not.
 fn try_go_on<N: Unlinked, G: Gate>(
     arena: &Arena<N, Tree>,
     pass: &mut Pass<N, Tree>,
@@ -62,7 +62,7 @@ fn try_go_on<N: Unlinked, G: Gate>(
     }
 }
 
-/// Takes the node at which the search for a place ends, and holds it alone; or holds nothing.
+/// Takes the node at which the search for a place ends, and holds no other; if put off it holds nothing.
 pub(crate) fn try_find<N: Unlinked, G: Gate>(
     arena: &Arena<N, Tree>,
     pass: &mut Pass<N, Tree>,

@@ -1,4 +1,4 @@
-//! Puts and adds by lock coupling that wait for nobody.
+//! Non-blocking puts and adds by lock coupling.
 ghost use Rattle.std.specs.Prelude.{◌≡◌, false};
 ghost use Rattle.ks_history.specs.declared.Op.TheVariants.{Add, Put};
 ghost use Rattle.ks_history.specs.Done.{coupling};
@@ -15,7 +15,7 @@ use ks_node::Unlinked;
 use ks_put::try_pair_fill;
 use ks_shape::{Fill, Numbered, PutLater};
 
-/// Puts or adds a value at a place, and waits for nobody.
+/// Puts or adds a value at a place, without waiting.
 fn try_fill<N: Unlinked, G: Gate>(
     arena: &Arena<N, Tree>,
     pass: &mut Pass<N, Tree>,
@@ -35,15 +35,15 @@ fn try_fill<N: Unlinked, G: Gate>(
     try_pair_fill(arena, pass, gate, place, fill)
 }
 
-/// Sets the value at a place; answers the value that stood there, and the number of the call. It splits full nodes on its way
-/// and at its end, holds three nodes at most, and waits for none.
+/// Sets the value at a place; returns the value that was there, and the number of the call. It splits full nodes on the
+/// search path and at its end, holds three nodes at most, and waits for none.
 ///
 /// # Errors
 ///
-/// `Full` where the node has no room, no value stands at the place, and no node was found free: the call has its number, and
-/// splits that it made before stay. `Busy` where another caller holds the next node on the way, which was not waited for;
-/// `Far` where as many nodes were taken as there are, while another caller changed some. Then the call is none of the history;
-/// splits that it made on its way stay.
+/// `Full` if the node has no room, the place has no value, and no node was found free: the call has its number, and
+/// splits that it made before stay. `Busy` if another caller holds the next node on the search path; `Far` if as many
+/// nodes were taken as there are, while another caller changed some. Then the call is none of the history; splits that
+/// it made stay.
 pub fn try_put<N: Unlinked, G: Gate>(
     arena: &Arena<N, Tree>,
     pass: &mut Pass<N, Tree>,
@@ -62,8 +62,8 @@ pub fn try_put<N: Unlinked, G: Gate>(
     try_fill(arena, pass, gate, place, Fill::Put(value))
 }
 
-/// Sets the value at a place where none stands; answers the value that stood there, which then stays, and the number of the
-/// call. It goes as `try_put`.
+/// Sets the value at a place that has none; returns the value that was there, which then stays, and the number of the
+/// call. It searches as `try_put` does.
 ///
 /// # Errors
 ///

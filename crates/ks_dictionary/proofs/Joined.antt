@@ -1,4 +1,4 @@
--- Lists that a loop takes apart or puts together, and what all callers come to.
+-- Lists that a loop takes apart or puts together, and the result of all callers.
 use Rattle.std.proofs.Common.{◌≡◌, ℕ, zero, suc, ◌<◌, ◌⊎◌, List, [], ◌∷◌, ◌++◌, map, length, take, drop, get_or, Some, sym, refl, ap, subst, ◌∙◌, arith, inl, inr}
 use Rattle.std.specs.Prelude.{slice_get, All}
 use Rattle.std.specs.List.{AllByRecursion}
@@ -64,7 +64,7 @@ ended xs ys m n is is' even (inr e) = none_left xs ys even (inr (sym is' ∙ e.1
 pub written : {X : Type 0} (n : ℕ) (xs ys : List X) → n ≡ length xs → length ys ≡ length xs → take n (ys ++ drop (length ys) xs) ≡ ys
 written n xs ys is same = ap (λ k. take k (ys ++ drop (length ys) xs)) (is ∙ sym same) ∙ take-append_seam ys (drop (length ys) xs)
 
--- the element at a place of a list, where it is a map of another
+-- the element at a place of a list that is a map of another
 pub at_of_map : {X Y : Type 0} (f : X → Y) (xs : List X) (j : ℕ) (y : Y) → get_elem? (map f xs) j ≡ some y → (x : X) × (get_elem? xs j ≡ some x) × (f x ≡ y)
 at_of_map f [] j y is = absurd (cc)
 at_of_map f (x ∷ xs) zero y is = let same : f x ≡ y = cc in (x, refl, same)
@@ -119,7 +119,7 @@ called_nothing place = record {
   others = All-nil (CalledBelow 0);
 }
 
--- where there is no event nobody has called
+-- if there is no event nobody has called
 pub nobody : (place : ℕ → ℕ) (h : List Event) → h ≡ [] → HaveCalled place [] [] h
 nobody place h is = subst (HaveCalled place [] []) (sym is) (called_nothing place)
 
@@ -136,7 +136,7 @@ module _ (a : Site) {N D : Type 0} where
     all = λ c lt. let at = elem_at ps c (omega (arith, new.long, lt)) in (c, at.0, at.1, (new.each c at.0 at.1).caller);
   }
 
-  -- where one new pass has seen all there is no event
+  -- if one new pass has seen all, there is no event
   pub no_event : (ps : List (Pass N D)) (h : List Event) → a.callers ≡ 1 → AreNew a ps → EndsAll h ps → CallersBelow a.callers h → h ≡ []
   no_event ps h one new seen below =
       let at = elem_at ps 0 (omega (arith, new.long, one)) in

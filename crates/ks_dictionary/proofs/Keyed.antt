@@ -57,7 +57,7 @@ same_read [] i d e lt = absurd (omega (arith, lt))
 same_read (x ∷ xs) zero d e lt = refl
 same_read (x ∷ xs) (suc i) d e lt = same_read xs i d e (omega (arith, lt))
 
--- what is found stands at places
+-- the places of what is found are below 2 ^ 64
 pub are_small : (g : ℕ → NodeState) (xs : List (ℕ × ℕ)) → AreFound g xs → All (λ z. z.0 < 2 ^ 64) xs
 are_small g xs found k d lt =
     let z : ℕ × ℕ = get_or xs k d in
@@ -71,7 +71,7 @@ Apart xs = (i j : ℕ) (d : ℕ × ℕ) → i < j → j < length xs → (get_or 
 index_cases : (m n : ℕ) → (m < n) ⊎ (n ≤ m)
 index_cases m n = grind arith
 
--- where the element at i of a list stood before a and b were swapped
+-- where the element at i of a list was before a and b were swapped
 abbrev Source : ℕ → ℕ → ℕ → ℕ → Type 0
 Source a b i k = ((i ≡ a) × (k ≡ b)) ⊎ (((i ≡ b) × (k ≡ a)) ⊎ ((i ≢ a) × (i ≢ b) × (k ≡ i)))
 

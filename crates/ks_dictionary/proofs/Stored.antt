@@ -1,4 +1,4 @@
--- What a lawful history leaves in the map stands at places.
+-- The map that a lawful history leaves has values at places only.
 use Rattle.std.proofs.Common.{◌≡◌, ◌==◌, ℕ, List, [], ◌∷◌, ◌++◌, ◌⊎◌, Some, None, cond, true, false, sym, ap, ◌∙◌, inl, ⊎_elim, arith}
 use Rattle.std.proofs.lemmas.Bool.Decides.{nat_tests}
 use Rattle.std.proofs.lemmas.List.Sums.{fold-append}

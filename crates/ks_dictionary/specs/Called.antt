@@ -6,7 +6,7 @@ use Rattle.ks_history.specs.declared.Event.{Event}
 use Rattle.ks_history.specs.Served.{at_place, CalledBelow}
 use Rattle.ks_dictionary.specs.Work.{asked_by, told_by}
 
--- each caller has made the calls of its script in the trace, in order, and its lines tell their numbers and replies; nobody
+-- each caller has made the calls of its script in the trace, in order, and its lines have their numbers and replies; nobody
 -- else called
 pub record HaveCalled (place : ℕ → ℕ) (scripts : List (List Op)) (lines : List (List (ℕ × Reply))) (h : List Event) : Type 0 where
   pub asked : (c : ℕ) (ops : List Op) → slice_get scripts c ≡ Some ops → asked_by c h ≡ map (at_place place) ops

@@ -11,7 +11,7 @@ use Rattle.ks_arena.specs.Clauses.{IsNote, IsNewCrew, IsCrew}
 use Rattle.ks_arena.specs.Of.{SameCaller, caller_of}
 use Rattle.ks_shape.specs.Idle.{Site, IsIdle}
 
--- a table that no arena stands on
+-- a table that no arena has
 abbrev pub no_table : TableId
 no_table = record { words = 0; slots = 0; views_name = 0; atom = 0; block = 0; offset = 0; slot_names = [] }
 
@@ -20,7 +20,7 @@ abbrev pub site_with : Sort → (Frame → Type 0) → ((ℕ → NodeState) → 
 site_with sort begins step table callers nodes = record { sort = sort; begins = begins; step = step; table = table; callers = callers; nodes = nodes }
 
 module _ {N D : Type 0} where
-  -- the passes that a start gives: one for each caller, numbered from 0; they have seen nothing and hold nothing
+  -- the passes that a start returns: one for each caller, numbered from 0; they have seen nothing and hold nothing
   abbrev pub AreNew : Site → List (Pass N D) → Type 0
   AreNew a ps = IsNewCrew a.sort a.begins a.step a.table a.callers ps
 
@@ -28,12 +28,12 @@ module _ {N D : Type 0} where
   abbrev pub AreAll : Site → List (Pass N D) → Type 0
   AreAll a ps = IsCrew a.sort a.begins a.step a.table a.callers ps
 
-  -- so it is, and they stand in the order of their callers
+  -- so it is, and they are in the order of their callers
   pub record AreInOrder (a : Site) (ps : List (Pass N D)) : Type 0 where
     pub long : length ps ≡ a.callers
     pub each : (i : ℕ) (p : Pass N D) → i < length ps → IsIdle a (slice_index_or ps i p) × (caller_of (slice_index_or ps i p) ≡ i)
 
-  -- in the place of each of the passes ps stands one of the same caller, which holds no node
+  -- in the place of each of the passes ps is one of the same caller, which holds no node
   pub record AreReplaced (a : Site) (ps qs : List (Pass N D)) : Type 0 where
     pub long : length qs ≡ length ps
     pub each : (i : ℕ) (p : Pass N D) → i < length ps → IsIdle a (slice_index_or qs i p) × SameCaller (slice_index_or ps i p) (slice_index_or qs i p)

@@ -6,12 +6,12 @@ use Rattle.ks_arena.specs.Sound.{Sort}
 use Rattle.ks_arena.specs.Clauses.{IsRun, trace_of}
 use Rattle.ks_dictionary.specs.declared.closed.Closed.{Closed}
 
--- what happened in it, the newest event first
+-- its trace, the newest event first
 abbrev pub history : {N : Type 0} → Closed N → List Event
 history d = trace_of d.run
 
 module _ {N : Type 0} (sort : Sort) (shows : N → Body) where
-  -- it had so many nodes, its history is lawful, with a good graph throughout, each Full was due, and its nodes are those
+  -- it had this many nodes, its history is lawful, with a good graph throughout, each Full was due, and its nodes are those
   -- of the graph after the history
   abbrev pub HasEndedWith : ℕ → Closed N → Type 0
   HasEndedWith nodes d = IsRun sort shows nodes d.run

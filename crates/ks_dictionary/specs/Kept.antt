@@ -25,7 +25,7 @@ abbrev pub Changed : ℕ → List Answered → Type 0
 Changed p [] = ⊥
 Changed p (a ∷ more) = WritesAt (written a.op a.reply) p ⊎ Changed p more
 
--- some of these calls removed what stood at the place
+-- some of these calls removed the value at the place
 abbrev pub Removed : ℕ → List Answered → Type 0
 Removed p [] = ⊥
 Removed p (a ∷ more) = Removes (written a.op a.reply) p ⊎ Removed p more
@@ -43,7 +43,7 @@ pub record FindsPut (p v : ℕ) (found : Option ℕ) (calls : List Answered) : T
   pub is : calls ≡ before ++ replied (Put p v) reply ∷ (between ++ replied (Get p) (told found) ∷ after)
   pub kept : (found ≡ Some v) ⊎ Changed p between
 
--- where two adds at one place both found nothing there, some call between them removed what the first had added
+-- if two adds at one place both found nothing there, some call between them removed what the first had added
 abbrev pub AddedOnce : List Answered → Type 0
 AddedOnce calls =
     (p v w : ℕ) (before between after : List Answered)

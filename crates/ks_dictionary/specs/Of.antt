@@ -1,5 +1,5 @@
--- What calls ask of a pass of a dictionary, and what they tell of the pass before and after: the dictionary's type knows the
--- type of its nodes and what its technique keeps. So these words serve in any clause that sees a dictionary, that of a closure too.
+-- What calls require of a pass of a dictionary, and ensure of it before and after. The dictionary's type knows the type of
+-- its nodes and what its technique keeps, so these words serve in any clause that sees a dictionary, that of a closure too.
 use Rattle.std.specs.Prelude.{ℕ, List, Result}
 use Rattle.ks_node.specs.declared.node.Node.{Ghosts as NodeGhosts}
 use Rattle.ks_places.specs.declared.Placing.{Ghosts as PlacingGhosts}
@@ -46,7 +46,7 @@ module _ {N T P D : Type 0} {n : NodeGhosts N P} {q : PlacingGhosts P} {d : Disc
   abbrev pub IsIdlePassOf : Dictionary N T P D n q d → Pass N D → Type 0
   IsIdlePassOf m p = IsIdle (site_of m) p
 
-  -- the passes that a start gives
+  -- the passes that a start returns
   abbrev pub AreNewPassesOf : Dictionary N T P D n q d → List (Pass N D) → Type 0
   AreNewPassesOf m ps = AreNew (site_of m) ps
 
@@ -61,12 +61,12 @@ module _ {N T P D : Type 0} {n : NodeGhosts N P} {q : PlacingGhosts P} {d : Disc
   abbrev pub IsNoteFrom : Dictionary N T P D n q d → Note N D → Type 0
   IsNoteFrom m x = IsNoteOf (site_of m) x
 
-  -- between two passes the caller made one call of this operation, by the technique, with this reply and number, and gave all
-  -- back
+  -- between two passes the caller made one call of this operation, by the technique, with this reply and number, and
+  -- released all nodes
   abbrev pub HasCalledIn : Dictionary N T P D n q d → Template → Op → Pass N D → Pass N D → Reply → ℕ → Type 0
   HasCalledIn m technique op p p' reply number = IsDone n.layout technique (site_of m) op p p' reply number
 
-  -- it made the call, or was put off, and for the cause that is told
+  -- it made the call, or was put off, and the cause that it reports is due
   abbrev pub HasTriedIn : Dictionary N T P D n q d → Template → Op → Pass N D → Pass N D → Result Numbered Later → Type 0
   HasTriedIn m technique op p p' answer = HasTried n.layout technique (site_of m) op p p' answer
 
@@ -74,6 +74,6 @@ module _ {N T P D : Type 0} {n : NodeGhosts N P} {q : PlacingGhosts P} {d : Disc
   abbrev pub HasTriedPutIn : Dictionary N T P D n q d → Template → Op → Pass N D → Pass N D → Result Numbered PutLater → Type 0
   HasTriedPutIn m technique op p p' answer = HasTriedPut n.layout technique (site_of m) op p p' answer
 
-  -- so it is but for the cause Far, of which this tells alone that the technique may find it
+  -- so it is, but a reported Far means only that the technique may find it
   abbrev pub HasEndedPutIn : Dictionary N T P D n q d → Template → Op → Pass N D → Pass N D → Result Numbered PutLater → Type 0
   HasEndedPutIn m technique op p p' answer = HasEndedPut n.layout technique (site_of m) op p p' answer

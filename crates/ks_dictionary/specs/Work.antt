@@ -1,4 +1,4 @@
--- What the work of a caller begins with and comes to.
+-- What the work of a caller begins with, and what it leaves.
 use Rattle.std.specs.Prelude.{ℕ, ◌≡◌, ◌≤◌, List, [], ◌++◌, map, length, vec_capacity}
 use mathlib.Core.Option.{some}
 use lib.ListN.{get_elem?}
@@ -46,7 +46,7 @@ module _ {N D W : Type 0} (a : Site) where
     pub fresh : calls_by job.pass.caller (seen_of job.pass) ≡ []
     pub lines : HasRoom job
 
-  -- the caller holds nothing, and has made the calls of its script, with places for keys, in order; its lines tell their
+  -- the caller holds nothing, and has made the calls of its script, with places for keys, in order; its lines have their
   -- numbers and replies
   pub record HasRun (place : ℕ → ℕ) (before after : Job N D W) : Type 0 where
     pub pass : IsIdle a after.pass
@@ -63,7 +63,7 @@ module _ {N D W : Type 0} (a : Site) (scripts : List (List Op)) where
     pub script : get_elem? scripts t ≡ some job.ops.items
 
   -- the job of caller t, after it: the caller holds nothing, and has made the calls of its script, with places for keys, in
-  -- order; its lines tell their numbers and replies
+  -- order; its lines have their numbers and replies
   pub record FinishedAs (place : ℕ → ℕ) (job : Job N D W) (t : ℕ) : Type 0 where
     pub pass : IsIdle a job.pass
     pub caller : job.pass.caller ≡ t

@@ -6,8 +6,8 @@ ghost use Rattle.ks_dictionary.specs.Crew.{no_table};
 
 use std::marker::Brand;
 
-/// What the jobs of one run are about: the arena and the scripts of all callers. It is for the proofs alone, and a call
-/// at `Brand` picks it.
+/// What the jobs of one run are about: the arena and the scripts of all callers. It serves proofs only, and a call at
+/// `Brand` picks it.
 pub trait About {
     /// The table of the arena.
     ghost table: { TableId };

@@ -13,7 +13,7 @@ use ks_node::Node;
 use ks_places::Placing;
 use std::alloc::{AllocError, Global};
 
-/// What is left of a dictionary that has ended: its nodes, and the history of what happened in it.
+/// What is left of a dictionary that has ended: its nodes and its history.
 #[derive(Drop)]
 pub struct Closed<N> {
     pub(crate) run: Run<N>,
@@ -24,7 +24,7 @@ impl<N: Node> Closed<N> {
     ///
     /// # Errors
     ///
-    /// Want of memory alone.
+    /// Only lack of memory.
     pub fn pairs(&self, alloc: Global) -> Result<Vec<(u64, u128)>, AllocError>
         requires { HasEnded (sort_of N.layout N.ranged) N.body self.now }
         ensures { IfOk result (λ entries.
@@ -42,7 +42,7 @@ impl<N: Node> Closed<N> {
     ///
     /// # Errors
     ///
-    /// Want of memory alone.
+    /// Only lack of memory.
     pub fn graph(&self, alloc: Global) -> Result<Graph, AllocError>
         requires { HasEnded (sort_of N.layout N.ranged) N.body self.now }
         ensures nodes { (nodes : ℕ) → HasEndedWith (sort_of N.layout N.ranged) N.body nodes self.now
@@ -61,7 +61,7 @@ impl<N: Node> Closed<N> {
         self.run.calls()
     }
 
-    /// What happened, for the proofs alone.
+    /// The trace of the run, for proofs only.
     pub fn trace(self) -> RunTrace
         ensures { result ≡ history self }
     {

@@ -41,8 +41,8 @@ use std::sync::Wait;
 
 /// A map from keys to values that many callers use at once, each with a pass of its own.
 ///
-/// All calls stand in one history: each once, each caller's in its order, and each after all that its pass had seen when
-/// it began. A call answers what the map held just before it in that history.
+/// All calls are in one history: each once, each caller's in its order, and each after all that its pass had seen when
+/// it began. A call returns what the map held just before it in that history.
 #[derive(Drop)]
 pub struct Dictionary<N: Node, T: Ruled> {
     pub(crate) arena: Arena<N, T::Rule>,
@@ -53,11 +53,11 @@ impl<N: Node, T: Ruled> Shelf for Dictionary<N, T> {
 }
 
 impl<N: Node, T: Ruled + Template<N, Arena<N, <T as Ruled>::Rule>>> Dictionary<N, T> {
-    /// An empty dictionary over so many nodes, and a pass for each caller.
+    /// An empty dictionary over `nodes` nodes, and a pass for each caller.
     ///
     /// # Errors
     ///
-    /// Want of memory alone.
+    /// Only lack of memory.
     pub fn start(
         alloc: Global,
         nodes: u32,
@@ -75,7 +75,7 @@ impl<N: Node, T: Ruled + Template<N, Arena<N, <T as Ruled>::Rule>>> Dictionary<N
         Ok((Dictionary { arena }, passes))
     }
 
-    /// Answers the value of a key.
+    /// Returns the value of a key.
     pub fn get<R: Wait, G: Gate>(
         &self,
         rt: &R,
@@ -95,17 +95,17 @@ impl<N: Node, T: Ruled + Template<N, Arena<N, <T as Ruled>::Rule>>> Dictionary<N
         T::get(rt, &self.arena, pass, gate, N::Places::place(key))
     }
 
-    /// Sets the value of a key, and answers the one that it had.
+    /// Sets the value of a key, and returns the one that it had.
     ///
     /// # Errors
     ///
-    /// `Full` comes only where the key has no value, its node has no room, and each node was not free at some moment of
+    /// `Full` comes only if the key has no value, its node has no room, and each node was not free at some moment of
     /// the call. Then the map is as before the call, which has its number in the history; splits that it made before
     /// stay.
     ///
-    /// Along links the edge to a node that was split off is added once the call has been decided. It is there in the end if
-    /// no other caller did anything meanwhile and two nodes are free then, over B+ nodes: their branches adopt any edge
-    /// while they are not full, and their halves have room.
+    /// Along links the edge to a node that was split off is added once the call has been decided. It is there in the
+    /// end if no other caller did anything meanwhile and two nodes are free then, over B+ nodes: their branches adopt
+    /// any edge while they are not full, and their halves have room.
     pub fn put<R: Wait, G: Gate>(
         &self,
         rt: &R,
@@ -129,7 +129,7 @@ impl<N: Node, T: Ruled + Template<N, Arena<N, <T as Ruled>::Rule>>> Dictionary<N
         T::put(rt, &self.arena, pass, gate, N::Places::place(key), value)
     }
 
-    /// Sets the value of a key that has none, and answers the one that it had: a key that had one keeps it.
+    /// Sets the value of a key that has none, and returns the one that it had: a key that had one keeps it.
     ///
     /// # Errors
     ///
@@ -157,7 +157,7 @@ impl<N: Node, T: Ruled + Template<N, Arena<N, <T as Ruled>::Rule>>> Dictionary<N
         T::add(rt, &self.arena, pass, gate, N::Places::place(key), value)
     }
 
-    /// Sets the value of a key from `old` to `new`, and answers the one that it had: it was set exactly where that is
+    /// Sets the value of a key from `old` to `new`, and returns the one that it had: it was set if and only if that is
     /// `old`.
     pub fn swap<R: Wait, G: Gate>(
         &self,
@@ -180,7 +180,7 @@ impl<N: Node, T: Ruled + Template<N, Arena<N, <T as Ruled>::Rule>>> Dictionary<N
         T::swap(rt, &self.arena, pass, gate, N::Places::place(key), old, new)
     }
 
-    /// Deletes a key, and answers the value that it had. If it had one, and no other caller did anything meanwhile, the
+    /// Deletes a key, and returns the value that it had. If it had one, and no other caller did anything meanwhile, the
     /// node whose keyset has the key's place is then not low, or fits with no right neighbour: by lock coupling and by
     /// giving up, as no nodes are merged along links.
     pub fn del<R: Wait, G: Gate>(
@@ -204,15 +204,15 @@ impl<N: Node, T: Ruled + Template<N, Arena<N, <T as Ruled>::Rule>>> Dictionary<N
         T::del(rt, &self.arena, pass, gate, N::Places::place(key))
     }
 
-    /// Answers the value of a key, and waits for nobody.
+    /// Returns the value of a key, and does not wait.
     ///
     /// # Errors
     ///
-    /// `Busy` names a node on the way of the key, and the other caller that held it; `Moved` a node that was on the way,
-    /// until another caller changed it, and comes by giving up alone; `Far` comes only where the call took as many nodes as
-    /// the dictionary has while another caller changed some, and never along links. Then the call is none of the history:
-    /// it changed nothing in the map, and has no number. None comes where no other caller does anything during the call, or
-    /// holds a node when it begins.
+    /// `Busy` names a node on the search path of the key, and the other caller that held it; `Moved` a node that was on
+    /// it, until another caller changed it, and comes only by giving up; `Far` comes only if the call took as many
+    /// nodes as the dictionary has while another caller changed some, and never along links. Then the call is none of
+    /// the history: it changed nothing in the map, and has no number. None of these comes if no other caller does
+    /// anything during the call, or holds a node when it begins.
     pub fn try_get<G: Gate>(
         &self,
         pass: &mut Pass<N, T::Rule>,
@@ -233,14 +233,14 @@ impl<N: Node, T: Ruled + Template<N, Arena<N, <T as Ruled>::Rule>>> Dictionary<N
         T::try_get(&self.arena, pass, gate, N::Places::place(key))
     }
 
-    /// Sets the value of a key, and answers the one that it had; it waits for nobody. Splits that it made stay, also where it is
-    /// put off.
+    /// Sets the value of a key, and returns the one that it had; it does not wait. Splits that it made stay, also if it
+    /// is put off.
     ///
     /// # Errors
     ///
-    /// `Full` as for `put`, with the number of the call; else it is put off, as `try_get`. That another caller changed some
-    /// nodes where the answer is `Far`, and that a caller which acts alone is not put off, is promised where no full node
-    /// grows in place: no list, B+ or hash node does.
+    /// `Full` as for `put`, with the number of the call; else it is put off, as `try_get`. That another caller changed
+    /// some nodes if the error is `Far`, and that a call during which no other caller acts is not put off, is promised
+    /// if no full node grows in place: no list, B+ or hash node does.
     pub fn try_put<G: Gate>(
         &self,
         pass: &mut Pass<N, T::Rule>,
@@ -265,7 +265,7 @@ impl<N: Node, T: Ruled + Template<N, Arena<N, <T as Ruled>::Rule>>> Dictionary<N
         T::try_put(&self.arena, pass, gate, N::Places::place(key), value)
     }
 
-    /// Sets the value of a key that has none, and answers the one that it had, which then stays; it waits for nobody.
+    /// Sets the value of a key that has none, and returns the one that it had, which then stays; it does not wait.
     ///
     /// # Errors
     ///
@@ -294,7 +294,7 @@ impl<N: Node, T: Ruled + Template<N, Arena<N, <T as Ruled>::Rule>>> Dictionary<N
         T::try_add(&self.arena, pass, gate, N::Places::place(key), value)
     }
 
-    /// Sets the value of a key from `old` to `new`, as `swap`, and waits for nobody.
+    /// Sets the value of a key from `old` to `new`, as `swap`, and does not wait.
     ///
     /// # Errors
     ///
@@ -322,8 +322,8 @@ impl<N: Node, T: Ruled + Template<N, Arena<N, <T as Ruled>::Rule>>> Dictionary<N
         T::try_swap(&self.arena, pass, gate, N::Places::place(key), old, new)
     }
 
-    /// Deletes a key, and answers the value that it had; it waits for nobody. Once the call is decided, a node that another
-    /// caller holds ends its merging, and no more.
+    /// Deletes a key, and returns the value that it had; it does not wait. Once the call is decided, a node that
+    /// another caller holds ends its merging, and no more.
     ///
     /// # Errors
     ///
@@ -360,7 +360,7 @@ impl<N: Node, T: Ruled + Template<N, Arena<N, <T as Ruled>::Rule>>> Dictionary<N
         self.arena.note(pass)
     }
 
-    /// From now on the pass has seen what the note has, beside what it had seen itself: a call that it makes now stands
+    /// From now on the pass has seen what the note has, beside what it had seen itself: a call that it makes now is
     /// after both in the history. It makes no event.
     pub fn learn(&self, pass: &mut Pass<N, T::Rule>, note: Note<N, T::Rule>)
         requires pass { IsIdlePassOf self.now pass.old }
@@ -373,7 +373,7 @@ impl<N: Node, T: Ruled + Template<N, Arena<N, <T as Ruled>::Rule>>> Dictionary<N
         self.arena.learn(pass, note);
     }
 
-    /// Ends the dictionary. The passes are all that `start` gave, and hold no node.
+    /// Ends the dictionary. The passes are all that `start` returned, and hold no node.
     pub fn close(self, passes: Vec<Pass<N, T::Rule>>) -> Closed<N>
         requires { AreAllPassesOf self passes.items }
         ensures ended { HasEndedWith (sort_of N.layout N.ranged) N.body

@@ -32,8 +32,8 @@ impl<N: Node, T: Ruled> Dictionary<N, T> {
         keyset_theorem();
     }
 
-    /// Passes in their order are those of all callers; and passes that were, in whose places idle passes of the same callers
-    /// stand, are so still.
+    /// Passes in their order are those of all callers; and these are still so if idle passes of the same callers
+    /// replace some.
     pub fn passes_law(&self)
         ensures ordered { (passes : List _) → AreOrderedPassesOf self.now passes → AreAllPassesOf self.now passes }
         ensures replaced { (before after : List _) → AreAllPassesOf self.now before →
@@ -42,7 +42,7 @@ impl<N: Node, T: Ruled> Dictionary<N, T> {
 }
 
 impl<N: Node> Closed<N> {
-    /// What happened in a dictionary that has ended is a legal history of a map.
+    /// The trace of a dictionary that has ended is a legal history of a map.
     pub fn history_law(&self)
         requires { HasEnded (sort_of N.layout N.ranged) N.body self.now }
         ensures { Legal (calls_of (history self.now)) }
@@ -60,7 +60,7 @@ impl<N: Node> Closed<N> {
     }
 }
 
-/// What one caller put another finds that has seen all that the first had, unless a call between the two wrote at the
+/// A caller that has seen all that another had finds what that one put, unless a call between the two wrote at the
 /// place.
 pub fn kept_law()
     ensures { (layout : Layout) (technique : Technique) (nodes c d p v : ℕ) (s t k l : List Event)

@@ -12,10 +12,10 @@ use ks_shape::{Compacting, Ruled};
 use std::sync::Wait;
 
 impl<N: Node, T: Ruled + Compacting<N, Arena<N, <T as Ruled>::Rule>>> Dictionary<N, T> {
-    /// Merges nodes that fit into one, all over the dictionary, while others use it; answers how many nodes it made free,
-    /// modulo 2^32. No key and no value changes: it is no call of the history, and claims no node. If no other caller did
-    /// anything meanwhile and it made none free, no node fits with its right neighbour, and the root is no branch over one
-    /// child; so a caller that is alone repeats it until it answers 0.
+    /// Merges nodes that fit into one, all over the dictionary, while others use it; returns how many nodes it made
+    /// free, modulo 2^32. No key and no value changes: it is no call of the history, and claims no node. If no other
+    /// caller did anything meanwhile and it made none free, no node fits with its right neighbour, and the root is no
+    /// branch over one child; so a caller repeats it, while no other acts, until it returns 0.
     pub fn compact<R: Wait, G: Gate>(&self, rt: &R, pass: &mut Pass<N, T::Rule>, gate: &G) -> u32
         requires pass { IsIdlePassOf self.now pass.old }
         ensures pass { IsIdlePassOf self.now pass.new }

@@ -27,8 +27,8 @@ use std::marker::{Brand, PhantomData};
 use std::sync::Wait;
 use std::thread::Threads;
 
-/// What serving all callers gives: for each caller the numbers and replies of its calls, the map at the end, and what
-/// happened.
+/// What serving all callers returns: for each caller the numbers and replies of its calls, the map at the end, and the
+/// trace.
 #[derive(Drop)]
 pub struct Told {
     pub lines: Vec<Vec<(u64, Reply)>>,
@@ -83,7 +83,7 @@ fn apart<N, D, W>(
     Ok((passes, lines))
 }
 
-/// How many workers serve so many callers: the lesser of the two numbers.
+/// How many workers serve this number of callers: the lesser of the two numbers.
 fn workers_for(callers: usize, workers: u32) -> u32
     ensures least { (result ≤ callers) × (result ≤ workers) }
     ensures one { (result ≡ callers) ⊎ (result ≡ workers) }
@@ -95,7 +95,7 @@ fn workers_for(callers: usize, workers: u32) -> u32
     }
 }
 
-/// Serves all callers by so many workers, at most one for each, and ends the dictionary.
+/// Serves all callers with the given number of workers, at most one for each caller, and ends the dictionary.
 fn serve_jobs<
     N: Node + Send,
     T: Ruled + Template<N, Arena<N, <T as Ruled>::Rule>>,
@@ -135,7 +135,7 @@ where
     Ok((dictionary.close(passes), lines))
 }
 
-/// Where there is no caller: a dictionary that ends at once.
+/// A dictionary that ends at once, if there is no caller.
 fn serve_nobody<N: Node, T: Ruled + Template<N, Arena<N, <T as Ruled>::Rule>>>(
     alloc: Global,
     nodes: u32,
@@ -182,14 +182,14 @@ where
     serve_jobs::<N, T, R, G, Brand>(rt, alloc, dictionary, gate, passes, scripts, workers)
 }
 
-/// Serves all callers over a dictionary that begins empty, each in its order: so many workers run beside each other, or
-/// one for each caller where there are fewer, and each draws a caller and serves it whole until none is left. What the
-/// callers did is one legal history of a map, the graph was good at each moment of it, and each Full was due. Each event
-/// is of one of these callers, and names none but the nodes that were asked for.
+/// Serves all callers over a dictionary that begins empty, each in its order: `workers` workers run beside each other,
+/// or one for each caller if there are fewer, and each draws a caller and serves it whole until none is left. What the
+/// callers did is one legal history of a map, the graph was good at each moment of it, and each Full was due. Each
+/// event is of one of these callers, and names none but the nodes that were asked for.
 ///
 /// # Errors
 ///
-/// Want of memory alone.
+/// Only lack of memory.
 pub fn serve_callers<
     N: Node + Send,
     T: Ruled + Template<N, Arena<N, <T as Ruled>::Rule>>,

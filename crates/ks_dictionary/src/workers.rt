@@ -1,5 +1,5 @@
 //! The work of the callers, by workers that draw whole callers. Each job has room for a line for each of its calls from
-//! the start, so no worker is given an allocator.
+//! the start, so no worker takes an allocator.
 ghost use Rattle.std.specs.Prelude.{◌≡◌, ℕ, ◌<◌, ◌≤◌, ◌++◌, ◌∷◌, [], map, length, All, slice_index_or, vec_capacity};
 ghost use Rattle.ks_history.specs.Map.{told};
 ghost use Rattle.ks_history.specs.Trace.{calls_by};
@@ -24,7 +24,7 @@ use ks_tickets::{Desk, Tickets};
 use std::sync::Wait;
 use std::thread::{Threads, for_each_mut};
 
-/// The number and the reply that an answer tells.
+/// The number and the reply of a call that was decided.
 fn line_of(answer: Numbered) -> (u64, Reply)
     ensures number { result.0 ≡ answer.number }
     ensures reply { result.1 ≡ told answer.found }
@@ -42,7 +42,7 @@ fn line_in(answer: Result<Numbered, Full>) -> (u64, Reply)
     }
 }
 
-/// Makes one call, and answers its number and its reply.
+/// Makes one call, and returns its number and its reply.
 fn call<N: Node, T: Ruled + Template<N, Arena<N, <T as Ruled>::Rule>>, R: Wait, G: Gate>(
     rt: &R,
     dictionary: &Dictionary<N, T>,
@@ -134,8 +134,8 @@ fn work_at<
     }
 }
 
-/// Serves the callers of all tickets, by a worker at each desk: each in joined work of its own. A worker serves a caller
-/// whole before it draws the next.
+/// Serves the callers of all tickets, with a worker at each desk, all at once. A worker serves a caller whole before it
+/// draws the next.
 pub fn work<
     N: Node + Send,
     T: Ruled + Template<N, Arena<N, <T as Ruled>::Rule>>,

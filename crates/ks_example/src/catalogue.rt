@@ -45,12 +45,12 @@ pub struct Counts {
     pub withdrawn: AtomicU64,
 }
 
-/// Keeps a catalogue from its start to its end: all callers work at once, and then the first clerk tells the first reader.
-/// Answers what the reader found, what is in the catalogue at last, and all that happened.
+/// Keeps a catalogue from its start to its end: all callers work at once, and then the first clerk sends the first
+/// reader a note. Returns what the reader found, what is in the catalogue at last, and all that happened.
 ///
 /// # Errors
 ///
-/// Want of memory alone.
+/// Only lack of memory.
 pub fn keep<R: Threads + Wait + Sync>(
     rt: &R,
     alloc: Global,
@@ -66,7 +66,7 @@ pub fn keep<R: Threads + Wait + Sync>(
     Ok((told, closed.pairs(alloc)?, closed))
 }
 
-/// All that callers do: they work at once, and then the first clerk tells the first reader.
+/// All that callers do: they work at once, and then the first clerk sends the first reader a note.
 fn serve<R: Threads + Wait + Sync>(
     rt: &R,
     catalogue: &Catalogue,
@@ -81,7 +81,7 @@ fn serve<R: Threads + Wait + Sync>(
     tell_one(rt, catalogue, callers)
 }
 
-/// All callers work at once, each in joined work of its own.
+/// All callers work at once, each on a thread of its own if there is one.
 fn work_all<R: Threads + Wait + Sync>(
     rt: &R,
     catalogue: &Catalogue,
@@ -148,7 +148,7 @@ fn attend<R: Wait>(rt: &R, catalogue: &Catalogue, counts: &Counts, caller: &mut 
     }
 }
 
-/// The first clerk revises an entry, and tells the first reader.
+/// The first clerk revises an entry, and sends the first reader a note.
 fn tell_one<R: Wait>(
     rt: &R,
     catalogue: &Catalogue,
@@ -166,12 +166,12 @@ fn tell_one<R: Wait>(
     tell(rt, catalogue, &mut clerks[0], &mut readers[0], 0, 100)
 }
 
-/// One caller sets an entry and tells another of it, who then looks the number up: it finds this entry, unless a later
-/// call changed it.
+/// One caller sets an entry and sends another a note of it, which then looks the number up: it finds this entry, unless a
+/// later call changed it.
 ///
 /// # Errors
 ///
-/// `Full` where the entry found no room.
+/// `Full` if the entry found no room.
 pub fn tell<R: Wait>(
     rt: &R,
     catalogue: &Catalogue,

@@ -1,4 +1,4 @@
--- How a search by giving up that waits for nobody stands after a visit.
+-- Where a non-blocking search by giving up is after a visit.
 use Rattle.std.proofs.Common.{◌≡◌, ◌≢◌, ℕ, suc, List, sym, subst}
 use Rattle.std.specs.Prelude.{Option, Some, None, IsTrue, is_some, Result, Ok, Err}
 use Rattle.ks_keysets.specs.declared.Frame.{Frame}

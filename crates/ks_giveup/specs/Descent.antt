@@ -1,4 +1,4 @@
--- What a visit of a node comes to, and a search for room.
+-- The results of a visit of a node, and of a search for room.
 use Rattle.std.specs.Prelude.{ℕ, ◌≡◌, List, [], Option, Some, None}
 use Rattle.ks_history.specs.declared.Event.{Event}
 use Rattle.ks_history.specs.Trace.{hand}
@@ -8,7 +8,7 @@ use Rattle.ks_arena.specs.Sound.{Sort}
 use Rattle.ks_shape.specs.OnWay.{IsOnWay}
 use Rattle.ks_shape.specs.SearchEnd.{HasRoom}
 
--- c holds nothing, or a node on the way of its search for the place
+-- c holds nothing, or a node on its search path to the place
 abbrev pub Came : {N : Type 0} → Sort → (N → Body) → ℕ → ℕ → List Event → Option (Hand N) → Type 0
 Came sort shows c place h None = hand c h ≡ []
 Came sort shows c place h (Some x) = IsOnWay sort shows c place h x

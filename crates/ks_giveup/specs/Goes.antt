@@ -11,7 +11,7 @@ use Rattle.ks_history.specs.Done.{HoldsAbove}
 use Rattle.ks_arena.specs.declared.held.Pass.{Pass}
 use Rattle.ks_arena.specs.Clauses.{seen_of}
 
--- the last event of c gave a node whose edges, as it was given, lead to node i for the place
+-- the last event of c released a node of which an edge then carried the place to node i
 pub record IsHinted (c place i : ℕ) (h : List Event) : Type 0 where
   pub given : ℕ
   pub older : List Event
@@ -22,11 +22,11 @@ pub record IsHinted (c place i : ℕ) (h : List Event) : Type 0 where
   pub had : record_at (graph_after older) given ≡ Some node
   pub leads : LeadsTo node place i
 
--- the search of c for the place, which holds nothing, may begin or go on at node i: the root, or the one that is hinted at
+-- the search of c for the place, which holds nothing, may begin or go on at node i: the root, or one that is hinted at
 abbrev pub MayVisit : ℕ → ℕ → ℕ → List Event → Type 0
 MayVisit c place i h = (i ≡ 0) ⊎ IsHinted c place i h
 
--- if the event that follows h is a Take of c, it is such a visit, or of a node to which one in hand leads
+-- if the event that follows h is a Take of c, it is such a visit, or of a node to which a held node has an edge
 abbrev pub GoesWell : ℕ → ℕ → List Event → Event → Type 0
 GoesWell c place h (Take d i) = d ≡ c → MayVisit c place i h ⊎ HoldsAbove h c i
 GoesWell c place h (Give d i) = Unit {0}
@@ -40,11 +40,11 @@ pub data Goes (c place : ℕ) (s0 : List Event) : List Event → Type 0 where
   and_on : {h : List Event} {e : Event} → Goes c place s0 h → GoesWell c place h e → Goes c place s0 (e ∷ h)
 
 module _ {N D : Type 0} where
-  -- what the pass has seen lets its caller visit node i on its way to the place
+  -- what the pass has seen lets its caller visit node i in its search for the place
   abbrev pub MayVisitNext : ℕ → ℕ → Pass N D → Type 0
   MayVisitNext place i p = MayVisit p.caller place i (seen_of p)
 
-  -- each node that the caller took from p to q is the root, or the one to which an edge of the node that it gave just
-  -- before carries the place, or one to which a node in its hand leads
+  -- each node that the caller took from p to q is the root, or the one to which an edge of the node that it released just
+  -- before carries the place, or one to which a node that it holds has an edge
   abbrev pub GoesTowards : ℕ → Pass N D → Pass N D → Type 0
   GoesTowards place p q = Goes p.caller place (seen_of p) (seen_of q)

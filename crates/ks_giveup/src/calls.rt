@@ -20,8 +20,8 @@ use ks_shape::{Fill, Full, Numbered, add_here, get_here, put_here, swap_here};
 use ks_tidy::del_alone;
 use std::sync::Wait;
 
-/// Answers the value at a place, and the number of the call. It holds one node at a time: the root, or the one at which the
-/// node given just before hinted.
+/// Returns the value at a place, and the number of the call. It holds one node at a time: the root, or the one to which
+/// an edge of the node that it released just before led.
 pub fn get<N: Ranged + Unlinked, R: Wait, G: Gate>(
     rt: &R,
     arena: &Arena<N, Tree>,
@@ -40,12 +40,12 @@ pub fn get<N: Ranged + Unlinked, R: Wait, G: Gate>(
     get_here(arena, pass, gate, place, held)
 }
 
-/// Puts a value at a place; answers the value that stood there, and the number of the call. It goes as `get`; where the node
-/// has no room it goes on by lock coupling, from the root to nodes that one in hand leads to.
+/// Puts a value at a place; returns the value that was there, and the number of the call. It searches as `get` does; if
+/// the node has no room it goes on by lock coupling, from the root.
 ///
 /// # Errors
 ///
-/// `Full` where the node has no room, no value stands at the place, and no node was found free.
+/// `Full` if the node has no room, the place has no value, and no node was found free.
 pub fn put<N: Ranged + Unlinked, R: Wait, G: Gate>(
     rt: &R,
     arena: &Arena<N, Tree>,
@@ -67,8 +67,8 @@ pub fn put<N: Ranged + Unlinked, R: Wait, G: Gate>(
     }
 }
 
-/// Puts a value at a place where none stands; answers the value that stood there, and the number of the call. It goes as
-/// `put`.
+/// Puts a value at a place that has none; returns the value that was there, and the number of the call. It searches as
+/// `put` does.
 ///
 /// # Errors
 ///
@@ -94,8 +94,8 @@ pub fn add<N: Ranged + Unlinked, R: Wait, G: Gate>(
     }
 }
 
-/// Puts `new` at a place where `old` stands; answers the value that stood there, and the number of the call. It goes as
-/// `get`.
+/// Puts `new` at a place if the value there is `old`; returns the value that was there, and the number of the call. It
+/// searches as `get` does.
 pub fn swap<N: Ranged + Unlinked, R: Wait, G: Gate>(
     rt: &R,
     arena: &Arena<N, Tree>,
@@ -116,9 +116,9 @@ pub fn swap<N: Ranged + Unlinked, R: Wait, G: Gate>(
     swap_here(arena, pass, gate, place, old, new, held)
 }
 
-/// Deletes what stands at a place; answers the value that stood there, and the number of the call. It goes as `get`. If it
-/// removed a pair and left the node low, it gives the node and goes on by lock coupling, from the root, to merge on the way
-/// and at that node.
+/// Deletes what is at a place; returns the value that was there, and the number of the call. It searches as `get` does.
+/// If it removed a pair and left the node low, it releases the node and goes on by lock coupling, from the root, to
+/// merge on the search path and at that node.
 pub fn del<N: Ranged + Unlinked, R: Wait, G: Gate>(
     rt: &R,
     arena: &Arena<N, Tree>,

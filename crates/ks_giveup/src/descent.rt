@@ -1,4 +1,4 @@
-//! The way from the root to the node where a search ends, which begins again where it was led astray.
+//! The descent from the root to the node where a search ends; it restarts if a node's range lacks the place.
 ghost use Rattle.std.specs.Prelude.{◌≡◌};
 ghost use Rattle.ks_history.specs.declared.Event.TheVariants.{Give};
 ghost use Rattle.ks_history.specs.Done.{give_up};
@@ -20,7 +20,7 @@ use ks_node::{Next, Ranged, Unlinked, node_law};
 use ks_shape::{give_last, has_room, tree_end_law};
 use std::sync::Wait;
 
-/// Takes a node, and keeps it where it is live and its range holds the place.
+/// Takes a node, and keeps it if it is live and its range holds the place.
 #[inline(always)]
 fn visit<N: Ranged + Unlinked, R: Wait, G: Gate>(
     rt: &R,
@@ -53,7 +53,7 @@ fn visit<N: Ranged + Unlinked, R: Wait, G: Gate>(
     None
 }
 
-/// Gives the node, whose edge hints at the one to which the search goes on.
+/// Releases the node, whose edge leads to the one to which the search goes on.
 #[inline(always)]
 pub(crate) fn leave<N: Ranged + Unlinked, G: Gate>(
     arena: &Arena<N, Tree>,
@@ -80,7 +80,7 @@ pub(crate) fn leave<N: Ranged + Unlinked, G: Gate>(
     give_last(arena, pass, gate, held);
 }
 
-/// Takes the node at which the search for a place ends, and holds it alone.
+/// Takes the node at which the search for a place ends, and holds no other.
 pub(crate) fn find<N: Ranged + Unlinked, R: Wait, G: Gate>(
     rt: &R,
     arena: &Arena<N, Tree>,
@@ -117,8 +117,8 @@ pub(crate) fn find<N: Ranged + Unlinked, R: Wait, G: Gate>(
     unreachable!()
 }
 
-/// Takes the node at which the search for a place ends, and keeps it where it has the place or room for it. `None`: it had
-/// neither, and is given.
+/// Takes the node at which the search for a place ends, and keeps it if it has the place or room for it. `None`: it had
+/// neither, and was released.
 pub(crate) fn find_room<N: Ranged + Unlinked, R: Wait, G: Gate>(
     rt: &R,
     arena: &Arena<N, Tree>,

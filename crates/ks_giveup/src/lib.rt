@@ -1,9 +1,8 @@
-//! Giving up: one node is held at a time, and a search that comes to a node where its place may not be looked for begins
-//! again.
+//! Giving up: one node is held at a time, and a search restarts if it comes to a node whose range lacks its place.
 //!
-//! A node tells by its range which places may be looked for in it. Between giving one node and taking the next, others may
-//! split it, merge it away or use it again; what is taken is a live node or none, and if its range holds the place the
-//! search is on its way.
+//! The range of a node says which places may be looked for in it. Between the release of one node and the take of the
+//! next, others may split the next, merge it away or use it again; what is taken is a live node or none, and if its
+//! range holds the place it is on the search path.
 //!
 //! The technique is the give-up of Shasha and Goodman ("Concurrent Search Structure Algorithms", 1988).
 #![tactic(auto)]

@@ -1,4 +1,4 @@
-//! Compaction by the technique of giving up, which holds pairs of nodes meanwhile.
+//! Compaction for the technique of giving up, by lock coupling.
 ghost use Rattle.std.specs.Prelude.{◌≡◌};
 ghost use Rattle.ks_history.specs.Done.{give_up};
 ghost use Rattle.ks_arena.specs.Of.{IsEmptyPassOf, SameCaller};
@@ -13,8 +13,8 @@ use ks_shape::Compacting;
 use ks_tidy::pair_compact;
 use std::sync::Wait;
 
-/// Merges what fits, node after node; answers how many nodes it made free, modulo 2^32. It goes by lock coupling from the
-/// root, and holds three nodes at most.
+/// Merges what fits, node after node; returns how many nodes it made free, modulo 2^32. It goes by lock coupling from
+/// the root, and holds three nodes at most.
 pub fn compact<N: Ranged + Unlinked, R: Wait, G: Gate>(
     rt: &R,
     arena: &Arena<N, Tree>,

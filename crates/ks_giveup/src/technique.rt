@@ -9,7 +9,7 @@ use ks_node::{Ranged, Unlinked};
 use ks_shape::{Full, Later, Numbered, PutLater, Ruled, Template};
 use std::sync::Wait;
 
-/// Giving up, over nodes that tell their range.
+/// Giving up, over nodes that have a range.
 pub struct GiveUp;
 
 impl Ruled for GiveUp {

@@ -1,4 +1,4 @@
-//! The calls of a dictionary by giving up that wait for nobody.
+//! The non-blocking calls of a dictionary by giving up.
 ghost use Rattle.std.specs.Prelude.{◌≡◌};
 ghost use Rattle.ks_history.specs.declared.Op.TheVariants.{Del, Get, Swap};
 ghost use Rattle.ks_history.specs.Done.{give_up};
@@ -15,13 +15,13 @@ use ks_node::{Ranged, Unlinked};
 use ks_shape::{Later, Numbered, get_here, swap_here};
 use ks_tidy::try_del_alone;
 
-/// Answers the value at a place, and the number of the call. It holds one node at a time, and waits for none.
+/// Returns the value at a place, and the number of the call. It holds one node at a time, and waits for none.
 ///
 /// # Errors
 ///
-/// `Busy` where another caller holds the next node on the way, which was not waited for; `Moved` where that node no longer
-/// is on the way, since another caller changed it; `Far` where as many nodes were taken as there are, while another caller
-/// changed some. Then the call is none of the history and left nothing behind.
+/// `Busy` if another caller holds the next node on the search path; `Moved` if that node no longer is on the path,
+/// since another caller changed it; `Far` if as many nodes were taken as there are, while another caller changed some.
+/// Then the call is none of the history and left nothing behind.
 pub fn try_get<N: Ranged + Unlinked, G: Gate>(
     arena: &Arena<N, Tree>,
     pass: &mut Pass<N, Tree>,
@@ -41,8 +41,8 @@ pub fn try_get<N: Ranged + Unlinked, G: Gate>(
     }
 }
 
-/// Puts `new` at a place where `old` stands; answers the value that stood there, and the number of the call. It holds one
-/// node at a time, and waits for none.
+/// Puts `new` at a place if the value there is `old`; returns the value that was there, and the number of the call. It
+/// holds one node at a time, and waits for none.
 ///
 /// # Errors
 ///
@@ -68,9 +68,9 @@ pub fn try_swap<N: Ranged + Unlinked, G: Gate>(
     }
 }
 
-/// Deletes what stands at a place; answers the value that stood there, and the number of the call. It holds one node at a
-/// time, and waits for none. If it removed a pair and the node is low, it comes to the place again, holds three nodes at
-/// most, and merges, as `del` does, as far as no other caller holds what it needs.
+/// Deletes what is at a place; returns the value that was there, and the number of the call. It holds one node at a
+/// time, and waits for none. If it removed a pair and the node is low, it searches for the place again, holds three
+/// nodes at most, and merges, as `del` does, until it needs a node that another caller holds.
 ///
 /// # Errors
 ///

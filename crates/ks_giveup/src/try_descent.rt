@@ -1,4 +1,4 @@
-//! The way from the root to the node where a search ends, by takes that wait for nobody; it never begins again.
+//! The descent from the root to the node where a search ends, without waiting; it never restarts.
 ghost use Rattle.std.specs.Prelude.{◌≡◌, Decides, IsTrue, is_some};
 ghost use Rattle.ks_history.specs.Done.{give_up};
 ghost use Rattle.ks_node.specs.declared.start.Next.TheVariants.{Go};
@@ -28,7 +28,7 @@ fn is_in_range<N: Ranged + Unlinked>(held: &Held<N>, place: u64) -> bool
     range.low <= place && place <= range.last
 }
 
-/// Tries to take a node that was on the way, and keeps it where its range holds the place.
+/// Tries to take a node that was on the search path, and keeps it if its range holds the place.
 fn try_visit<N: Ranged + Unlinked, G: Gate>(
     arena: &Arena<N, Tree>,
     pass: &mut Pass<N, Tree>,
@@ -82,7 +82,7 @@ fn try_enter<N: Ranged + Unlinked, G: Gate>(
     try_visit(arena, pass, gate, place, 0)
 }
 
-/// Gives the node, and tries to take the child to which the search goes on.
+/// Releases the node, and tries to take the child to which the search goes on.
 fn try_go_on<N: Ranged + Unlinked, G: Gate>(
     arena: &Arena<N, Tree>,
     pass: &mut Pass<N, Tree>,
@@ -107,7 +107,7 @@ fn try_go_on<N: Ranged + Unlinked, G: Gate>(
     try_visit(arena, pass, gate, place, child)
 }
 
-/// Takes the node at which the search for a place ends, and holds it alone; or holds nothing.
+/// Takes the node at which the search for a place ends, and holds no other; if put off it holds nothing.
 pub(crate) fn try_find<N: Ranged + Unlinked, G: Gate>(
     arena: &Arena<N, Tree>,
     pass: &mut Pass<N, Tree>,

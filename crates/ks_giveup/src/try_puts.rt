@@ -1,4 +1,4 @@
-//! Puts and adds by giving up that wait for nobody.
+//! Non-blocking puts and adds by giving up.
 ghost use Rattle.std.specs.Prelude.{◌≡◌, false};
 ghost use Rattle.ks_history.specs.declared.Op.TheVariants.{Add, Put};
 ghost use Rattle.ks_history.specs.Done.{give_up};
@@ -17,7 +17,7 @@ use ks_node::{Ranged, Unlinked};
 use ks_put::try_pair_fill;
 use ks_shape::{Fill, Numbered, PutLater, fill_at, give_last, has_room, not_put_off};
 
-/// Puts or adds a value at a place, and waits for nobody.
+/// Puts or adds a value at a place, without waiting.
 fn try_fill<N: Ranged + Unlinked, G: Gate>(
     arena: &Arena<N, Tree>,
     pass: &mut Pass<N, Tree>,
@@ -46,16 +46,15 @@ fn try_fill<N: Ranged + Unlinked, G: Gate>(
     }
 }
 
-/// Sets the value at a place; answers the value that stood there, and the number of the call. It holds one node at a time,
-/// and waits for none; where the node has no room it goes on by lock coupling, from the root, and splits full nodes.
+/// Sets the value at a place; returns the value that was there, and the number of the call. It holds one node at a
+/// time, and waits for none; if the node has no room it goes on by lock coupling, from the root, and splits full nodes.
 ///
 /// # Errors
 ///
-/// `Full` where the node has no room, no value stands at the place, and no node was found free: the call has its number, and
-/// splits that it made before stay. `Busy` where another caller holds the next node on the way, which was not waited for;
-/// `Moved` where a node that was on the way is so no longer, as another caller changed it; `Far` where as many nodes were
-/// taken as there are, while another caller changed some. Then the call is none of the history; splits that it made on its
-/// way stay.
+/// `Full` if the node has no room, the place has no value, and no node was found free: the call has its number, and
+/// splits that it made before stay. `Busy` if another caller holds the next node on the search path; `Moved` if a node
+/// that was on the path is so no longer, as another caller changed it; `Far` if as many nodes were taken as there are,
+/// while another caller changed some. Then the call is none of the history; splits that it made stay.
 pub fn try_put<N: Ranged + Unlinked, G: Gate>(
     arena: &Arena<N, Tree>,
     pass: &mut Pass<N, Tree>,
@@ -75,8 +74,8 @@ pub fn try_put<N: Ranged + Unlinked, G: Gate>(
     try_fill(arena, pass, gate, place, Fill::Put(value))
 }
 
-/// Sets the value at a place where none stands; answers the value that stood there, which then stays, and the number of the
-/// call. It goes as `try_put`.
+/// Sets the value at a place that has none; returns the value that was there, which then stays, and the number of the
+/// call. It searches as `try_put` does.
 ///
 /// # Errors
 ///

@@ -50,7 +50,7 @@ lead_all child to i cs e = ap (λ n. take n cs ++ led_over child to (drop n cs))
     all : (cs : List ℕ) → take (length cs) cs ++ led_over child to (drop (length cs) cs) ≡ cs
     all cs = ap (λ l. take (length cs) cs ++ led_over child to l) (drop_all cs) ∙ append-nil _ ∙ take-length cs
 
--- where a place that begins a smallest slice begins no slice, the slices can be halved
+-- if a place that begins a smallest slice begins no slice, the slices can be halved
 pub halves_left : (n p : ℕ) → IsTrue (is_size n) → p % smallest ≡ 0 → (p % (2 ^ 64 / n) ≡ 0 → ⊥) → n ≤ 32
 halves_left n p h = by_size (λ n. p % smallest ≡ 0 → (p % (2 ^ 64 / n) ≡ 0 → ⊥) → n ≤ 32)
     (λ w o. omega arith) (λ w o. omega arith) (λ w o. omega arith) (λ w o. omega arith) (λ w o. omega arith) (λ w o. absurd (o w)) n h
@@ -102,12 +102,12 @@ first_slice cs id zero later at =
     first [] h = absurd (omega arith)
     first (c ∷ cs) h = refl
 
--- where a place that is not the first begins a slice
+-- the index of the slice that begins at a place, which is not the first
 pub slice_place : (n p : ℕ) → IsTrue (is_size n) → 0 < p → p < 2 ^ 64 → p % (2 ^ 64 / n) ≡ 0 → (0 < p / (2 ^ 64 / n)) × (p / (2 ^ 64 / n) < n) × ((p / (2 ^ 64 / n)) * (2 ^ 64 / n) ≡ p)
 slice_place n p h = by_size (λ n. 0 < p → p < 2 ^ 64 → p % (2 ^ 64 / n) ≡ 0 → (0 < p / (2 ^ 64 / n)) × (p / (2 ^ 64 / n) < n) × ((p / (2 ^ 64 / n)) * (2 ^ 64 / n) ≡ p))
     (λ a l e. (omega arith, omega arith, omega arith)) (λ a l e. (omega arith, omega arith, omega arith)) (λ a l e. (omega arith, omega arith, omega arith)) (λ a l e. (omega arith, omega arith, omega arith)) (λ a l e. (omega arith, omega arith, omega arith)) (λ a l e. (omega arith, omega arith, omega arith)) n h
 
--- what the slices tell once one begins at the cut and its run is led to the node
+-- the starts of the slices once one begins at the cut and its run is led to the node
 pub slices_adopted : (old cs : List ℕ) (cut id : ℕ) → starts_of cs ≡ starts_of old → IsTrue (is_size (length cs)) → cut % width_of cs ≡ 0 → 0 < cut → cut < 2 ^ 64 →
     begins cut (starts_of old) ≡ false →
     starts_of (run_led (cut / width_of cs) id cs) ≡ runs (starts_below cut (starts_of old) ++ record { low = cut; node = id } ∷ starts_from cut (starts_of old))

@@ -53,7 +53,7 @@ hash_can_adopt c cut = not (begins cut c.starts) && (not (is_branch_kind c.kind)
 abbrev pub middle : ℕ
 middle = 2 ^ 63
 
--- a bucket grows where its own edge does not start at the middle or below
+-- a bucket grows if its own edge does not start at the middle or below
 abbrev pub hash_grows : Content → Bool
 hash_grows c = is_branch_kind c.kind || list_all (λ s. nat_lt middle s.low) c.starts
 
@@ -88,7 +88,7 @@ last_before (s ∷ ss) = s.low - 1
 abbrev pub run_span : List Start → ℕ → Option Span
 run_span ss p = option_map (λ s. record { low = s.low; last = last_before (starts_from (suc p) ss) }) (slice_get (starts_below (suc p) ss) (length (starts_below (suc p) ss) - 1))
 
--- the middle of a span where an own edge does not start there or below, else the other place
+-- the middle of a span if an own edge does not start there or below, else the other place
 abbrev pub cut_above : Span → Option Start → ℕ → ℕ
 cut_above span own other = cond (is_whole span && list_all (λ s. nat_lt (middle_of span) s.low) (own_starts own)) (middle_of span) other
 

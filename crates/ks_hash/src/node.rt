@@ -1,9 +1,9 @@
 //! The hash node: a bucket of pairs, or a directory of equal slices.
 //!
 //! A bucket may have an edge of its own, to the node that took over its upper places. A directory has no pair: its
-//! slices cover all places. Either lies in the node itself, which has room for the greater of the two, so turning a bucket
-//! into a directory or back needs no allocator. A node is 304 bytes: where callers
-//! move it, it should lie behind a box (`ks_boxed`).
+//! slices cover all places. Either lies in the node itself, which has room for the greater of the two, so turning a
+//! bucket into a directory or back needs no allocator. A node is 304 bytes: if callers move it, it should be behind a
+//! box (`ks_boxed`).
 
 ghost use Rattle.std.proofs.Props.{props};
 ghost use Rattle.ks_hash.specs.Hash.{Fit};

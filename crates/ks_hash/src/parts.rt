@@ -105,7 +105,7 @@ impl Parts {
         }
     }
 
-    /// Sets the value at a place of a bucket, and answers the one that was there.
+    /// Sets the value at a place of a bucket, and returns the one that was there.
     pub(crate) fn put(&mut self, place: u64, value: u128) -> Option<u128>
         requires bucket { is_directory self.old ≡ false }
         requires ascend { Ascends (λ x. x.place) (pairs_of self.old) }
@@ -123,7 +123,7 @@ impl Parts {
         }
     }
 
-    /// Removes the pair of a place from a bucket, and answers its value.
+    /// Removes the pair of a place from a bucket, and returns its value.
     pub(crate) fn del(&mut self, place: u64) -> Option<u128>
         requires bucket { is_directory self.old ≡ false }
         requires ascend { Ascends (λ x. x.place) (pairs_of self.old) }
@@ -140,7 +140,7 @@ impl Parts {
         }
     }
 
-    /// Gives a bucket an edge of its own.
+    /// Adds an edge of its own to a bucket.
     pub(crate) fn lead(&mut self, low: u64, node: u32)
         requires { is_directory self.old ≡ false }
         ensures kind { is_directory self.new ≡ is_directory self.old }
@@ -236,7 +236,7 @@ impl Parts {
     }
 }
 
-/// Moves the pairs from a cut on into a bucket with no pair, and gives it an edge.
+/// Moves the pairs from a cut on into a bucket with no pair, and sets its edge.
 fn split_bucket(pairs: &mut Pairs<8>, edge: Option<Start>, right: &mut Parts, cut: u64)
     requires ascend { Ascends (λ x. x.place) pairs.old.items }
     requires right_bucket { is_directory right.old ≡ false }
@@ -256,7 +256,7 @@ fn split_bucket(pairs: &mut Pairs<8>, edge: Option<Start>, right: &mut Parts, cu
     }
 }
 
-/// Moves all pairs of a bucket behind other pairs, and takes away and gives the edge of its own.
+/// Moves all pairs of a bucket behind other pairs, and takes away and returns the edge of its own.
 fn append_bucket(pairs: &mut Pairs<8>, right: &mut Parts) -> Option<Start>
     requires bucket { is_directory right.old ≡ false }
     requires room { length pairs.old.items + length (pairs_of right.old) ≤ 8 }

@@ -261,7 +261,7 @@ pub(crate) fn halve(slices: &mut Slices, left: u32, right: u32)
     slices.push(right);
 }
 
-/// Where the first slice that leads to the child stands.
+/// Returns the position of the first slice that leads to the child.
 fn position_of(slices: &[u32], child: u32) -> Option<usize>
     ensures { result ≡ position (λ c. nat_eq c child) slices.now }
 {

@@ -45,7 +45,7 @@ pub(crate) fn own_above(own: Option<Start>, place: u64) -> bool
     }
 }
 
-/// Where the middle slice begins of a span of two or more whole smallest slices.
+/// Where the middle slice of a span of two or more whole smallest slices begins.
 pub(crate) fn middle_in(span: &Span) -> Option<u64>
     ensures { result ≡ cond (is_whole span.now) (Some (middle_of span.now)) None }
 {
@@ -65,8 +65,8 @@ pub(crate) fn middle_in(span: &Span) -> Option<u64>
     Some((span.low / SMALLEST + slices / 2) * SMALLEST)
 }
 
-/// The middle of a span of whole smallest slices where a bucket's own edge does not start there or below, else the
-/// other place.
+/// The middle of a span of whole smallest slices if a bucket's own edge does not start there or below, else the other
+/// place.
 pub(crate) fn cut_by(span: &Span, own: Option<Start>, other: u64) -> u64
     ensures { result ≡ cut_above span.now own other }
 {

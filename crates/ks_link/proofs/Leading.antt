@@ -35,7 +35,7 @@ shaped_live (x ∷ xs) i s r e = dite (ℕ_discrete i x.node)
     (λ same. inl (inl (sym same)))
     (λ other. elim (shaped_live xs i s r (sym (ap live_record (cond_else i x.node (new_state x.state) (shaped xs i s) other)) ∙ e)) [ inl named ↦ inl (inr named) | inr was ↦ inr was ])
 
--- so it is after a Shape of who acts alone
+-- so it is after a Shape, if only its caller acts
 pub shape_live : (c : ℕ) (changes : List Change) (h k : List Event) → GrowsWith c (Shape c changes) h k → ActsAlone c h k → (i : ℕ) → IsLive (graph_after k) i → Names changes i ⊎ IsLive (graph_after h) i
 shape_live c changes h k so alone i live =
     let after : IsLive (graph_after (Shape c changes ∷ h)) i = subst (λ (z : List Event). IsLive (graph_after z) i) (alone_with c (Shape c changes) h k so alone) live in
@@ -45,7 +45,7 @@ module _ (sort : Sort) where
   abbrev pub Lasts : List Event → List Event → Type 0
   Lasts h k = LastsUnderLink (graph_after h) (frame_after (blank_of sort) h) (graph_after k) (frame_after (blank_of sort) k)
 
-  -- where what waited is led to, two stretches are one
+  -- if what waited is led to, two stretches are one
   pub led_both : (vs ws : List Waiting) (g h k : List Event) → Lasts h k → ((i : ℕ) → Waits vs i → IsLedAfter sort k i) → LedBut sort vs g h → LedBut sort ws h k → LedBut sort ws g k
   led_both vs ws g h k lasts leads a b i live = elim (b i live) [
     | inl was ↦ elim (a i was) [
@@ -55,7 +55,7 @@ module _ (sort : Sort) where
     | inr rest ↦ inr rest
   ]
 
-  -- where nothing waited, and so before a stretch that makes none live
+  -- if nothing waited, and so before a stretch that makes none live
   pub led_then : (ws : List Waiting) (g h k : List Event) → Lasts h k → LedBut sort [] g h → LedBut sort ws h k → LedBut sort ws g k
   led_then ws g h k lasts a b = led_both [] ws g h k lasts (λ i none. absurd none) a b
 
@@ -70,11 +70,11 @@ module _ (sort : Sort) where
   pub are_led : (h k : List Event) → LedBut sort [] h k → AreLed sort h k
   are_led h k so i live = elim (so i live) [ inl first ↦ inl first | inr rest ↦ elim rest [ inl led ↦ inr led | inr none ↦ absurd none ] ]
 
--- who holds nothing holds live nodes only
+-- a caller that holds nothing holds live nodes only
 pub holds_none : (c : ℕ) (h : List Event) → hand c h ≡ [] → HoldsLive h c
 holds_none c h is j mine = absurd (subst (λ (z : List ℕ). Has z j) is (held_in_hand h c j mine))
 
--- where it stands among those that wait
+-- the index of a node among those that wait
 pub waits_at : (ws : List Waiting) (i : ℕ) → Waits ws i → (j : ℕ) × (j < length ws) × ((d : Waiting) → (slice_index_or ws j d).node ≡ i)
 waits_at [] i none = absurd none
 waits_at (w ∷ ws) i (inl is) = (0, omega arith, λ d. is)

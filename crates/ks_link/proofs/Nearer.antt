@@ -19,7 +19,7 @@ use Rattle.ks_node.specs.Laws.Ways.{here_stays}
 use Rattle.ks_flow.specs.Link.{Link, IsRange, IsLinkEdge, IsChildEdge}
 
 module _ (g : ℕ → NodeState) (f : ℕ → Frame) (facts : Link g f) where
-  -- the root is alone on the highest level
+  -- only the root is on the highest level
   root_alone : (i : ℕ) → IsLive g i → (f 0).level ≤ (f i).level → i ≡ 0
   root_alone i live le = elim (eqb_tells i 0) [ inl same ↦ same.1 | inr other ↦ absurd (let lt : (f i).level < (f 0).level = facts.highest i live other.1 in omega (arith, lt, le)) ]
 

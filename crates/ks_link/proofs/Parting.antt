@@ -1,4 +1,4 @@
--- What stands of a node that is to be parted, and of what it was parted into.
+-- What holds of a node that is to be split, and of what it was split into.
 use Rattle.ks_node.specs.Effect.{ends_at, begins_at}
 use Rattle.std.proofs.Common.{◌≡◌, ◌≢◌, ℕ, true, false, List, [], ◌∷◌, sym, refl, ap, ◌∙◌, subst, ◌-◌, ◌<◌, ◌≤◌, arith}
 use Rattle.std.specs.Prelude.{Some, None, Option}
@@ -31,7 +31,7 @@ drop_third i r l other other' =
 pub suits_all : (b : Body) → b.range ≡ Some all_places → ((range : Span) × (b.range ≡ Some range) × Suits b range) → Suits b all_places
 suits_all b all so = let same : Some so.0 ≡ Some all_places = sym so.1 ∙ all in let is : so.0 ≡ all_places = cc in subst (Suits b) is so.2
 
--- where the range of a half ends
+-- the place is at the end of the range of a half or below
 pub ends_left : (o : Option Span) (place cut : ℕ) → place ≤ last_of o → place < cut → place ≤ last_of (ends_at (cut - 1) o)
 ends_left None place cut le lt = le
 ends_left (Some s) place cut le lt = omega (arith, lt)
@@ -44,7 +44,7 @@ module _ {N : Type 0} (sort : Sort) (shows : N → Body) where
   pub live_in : (h : List Event) (x : Hand N) → x.live ≡ true → Matches sort shows h x → IsLive (graph_after h) x.node
   live_in h x live matches = (record_of (shows x.body), record_is sort shows h x live matches)
 
-  -- a live node in hand stands as its body shows
+  -- graph and frame have a live node that is held as its body shows it
   pub stands_now : (h : List Event) (x : Hand N) → x.live ≡ true → Matches sort shows h x → IsLinked (shows x.body) → StandsLinked (graph_after h) (frame_after (blank_of sort) h) x.node (shows x.body)
   stands_now h x live matches linked = record { has = record_is sort shows h x live matches; frame = (shown sort shows h x live matches).1; linked = linked }
 
@@ -60,7 +60,7 @@ module _ {N : Type 0} (sort : Sort) (shows : N → Body) where
       let is : None ≡ Some good.root.0 = sym (subst (λ (i : ℕ). record_at (graph_after h) i ≡ None) same none) ∙ root in
       cc
 
-  -- a live node in hand that is not the root counts as split off at its low, on its level
+  -- a live node that is held and not the root counts as split off at its low, on its level
   pub split_off : (h : List Event) (x : Hand N) (cut level : ℕ) → x.live ≡ true → Matches sort shows h x → x.node ≢ 0 → (shows x.body).low ≡ cut → (shows x.body).level ≡ level → IsSplitOff sort h (record { cut = cut; node = x.node; level = level })
   split_off h x cut level live matches no_root low at = record {
     live = live_in h x live matches;

@@ -1,4 +1,4 @@
--- How a search along links that waits for nobody goes on, how far it can go, and what puts it off.
+-- How a non-blocking search along links goes on, how far it can go, and what puts it off.
 use Rattle.std.proofs.Common.{◌≡◌, ◌≢◌, ℕ, ◌+◌, ◌-◌, ◌*◌, ◌<◌, ◌≤◌, inl, inr, List, ap, arith}
 use Rattle.std.specs.Prelude.{◌⊎◌, Some}
 use Rattle.ks_keysets.specs.declared.Frame.{Frame}

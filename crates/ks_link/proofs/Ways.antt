@@ -1,4 +1,4 @@
--- How a search goes on its way.
+-- How a search along links goes on.
 use Rattle.std.proofs.Common.{◌≡◌, ℕ, ◌<◌, ◌≤◌, true, false, List, [], ◌∷◌, length, sym, refl, ap, ◌∙◌, subst, inl, inr, arith}
 use Rattle.std.specs.Prelude.{◌⊎◌, Option, Some, None, All, max}
 use Rattle.std.specs.Option.{ForSome}
@@ -63,7 +63,7 @@ module _ {N : Type 0} (sort : Sort) (shows : N → Body) where
       let edge : IsLinkEdge (frames h) x.node range.0 on.1 ⊎ IsChildEdge (frames h) x.node range.0 on.1 = subst (λ (e : Edge). IsLinkEdge (frames h) x.node range.0 e ⊎ IsChildEdge (frames h) x.node range.0 e) on.3 (facts.edges x.node (record_of (shows x.body)) range.0 is range.1 on.0 on.1 on.2) in
       elim edge [ inl l ↦ omega (arith, l.begins, on.4.0, within, last) | inr d ↦ omega (arith, d.level, level, ap (λ (f : Frame). f.level) frame) ])
 
-  -- where the search ends, the place is in the keyset of the node, which is no branch
+  -- at the end of a search the place is in the keyset of the node, which is no branch
   module _ (c p : ℕ) (h : List Event) (x : Hand N) (way : IsOnWay sort shows c p h x) (facts : Link (graph_after h) (frames h)) (place : p ≤ top) (order : InOrder (content_of (shows x.body))) (here : next_at (shows x.body) p ≡ Here) where
     off : LeadsOn (record_of (shows x.body)) p → ⊥
     off = here_stays (shows x.body) p order here

@@ -50,7 +50,7 @@ abbrev pub HalfHasRoom : {N : Type 0} → Layout → (N → Body) → Result (Pa
 HalfHasRoom layout shows (Ok p) = is_full layout (shows p.half.body) ≡ false
 HalfHasRoom layout shows (Err y) = Unit {0}
 
--- the node that is handed back is not full
+-- the node that is returned is not full
 abbrev pub LeavesRoom : {N : Type 0} → Layout → (N → Body) → Result (Hand N) (Hand N) → Type 0
 LeavesRoom layout shows (Ok x) = is_full layout (shows x.body) ≡ false
 LeavesRoom layout shows (Err x) = Unit {0}

@@ -1,4 +1,4 @@
--- What a search along links, and the adding of edges, ask and tell, said of an arena and of a pass before and after.
+-- What a search along links, and the adding of edges, require and ensure, of an arena and of a pass before and after.
 use Rattle.std.specs.Prelude.{ℕ, ◌≡◌, ◌≢◌, List, [], ◌∷◌, Option, Result}
 use Rattle.ks_node.specs.declared.node.Node.{Ghosts as NodeGhosts}
 use Rattle.ks_node.below.ks_places.specs.declared.Placing.{Ghosts as PlacingGhosts}
@@ -38,7 +38,7 @@ module _ {N D : Type 0} where
   HoldsThree p x y z = (hand_of p ≡ z.node ∷ y.node ∷ x.node ∷ []) × (y.node ≢ x.node) × (z.node ≢ x.node) × (z.node ≢ y.node)
 
 module _ {N D P : Type 0} {n : NodeGhosts N P} {q : PlacingGhosts P} {d : DisciplineGhosts D} where
-  -- caller c, which searches for the place, holds this live node alone, and the place is not below it
+  -- caller c, which searches for the place, holds only this live node, and the place is not below it
   abbrev pub SearchIsAt : Arena N D P n q d → ℕ → ℕ → Pass N D → Hand N → Type 0
   SearchIsAt a c place p x = IsOnWay (sort_of n.layout n.ranged) n.body c place (seen_of p) x
 
@@ -46,8 +46,8 @@ module _ {N D P : Type 0} {n : NodeGhosts N P} {q : PlacingGhosts P} {d : Discip
   abbrev pub WasSplitOff : Arena N D P n q d → Pass N D → Waiting → Type 0
   WasSplitOff a p w = IsSplitOff (sort_of n.layout n.ranged) (seen_of p) w
 
-  -- the half of x in which the place lies, or x itself, is held alone, and what was split off waits; or x is, and no node was
-  -- found free to split it
+  -- only the half of x in which the place lies, or x itself, is held, and what was split off waits; or x is, and no node
+  -- was found free to split it
   abbrev pub HoldsHalfOf : Arena N D P n q d → ℕ → Pass N D → Pass N D → Hand N → Result (Parted N) (Hand N) → Type 0
   HoldsHalfOf a place p p' x parted = HoldsHalf (sort_of n.layout n.ranged) n.body a.nodes p.caller place (seen_of p) (seen_of p') x parted
 
@@ -72,11 +72,11 @@ module _ {N D P : Type 0} {n : NodeGhosts N P} {q : PlacingGhosts P} {d : Discip
   abbrev pub LeadsAll : Arena N D P n q d → Pass N D → Pass N D → Type 0
   LeadsAll a p p' = AreLed (sort_of n.layout n.ranged) (seen_of p) (seen_of p')
 
-  -- this holds if the caller acts alone from p to p', and two nodes are free in the end
+  -- this holds if no other caller acts from p to p', and two nodes are free in the end
   abbrev pub IfAloneWithRoom : Arena N D P n q d → Pass N D → Pass N D → Type 0 → Type 0
   IfAloneWithRoom a p p' Fact = WasAlone p p' → TwoFree a.nodes (seen_of p') → Fact
 
-  -- caller c holds this live node alone
+  -- caller c holds only this live node
   abbrev pub HoldsAloneOf : Arena N D P n q d → ℕ → Pass N D → Hand N → Type 0
   HoldsAloneOf a c p x = IsAlone (sort_of n.layout n.ranged) n.body c (seen_of p) x
 
@@ -87,7 +87,7 @@ module _ {N D P : Type 0} {n : NodeGhosts N P} {q : PlacingGhosts P} {d : Discip
   abbrev pub LeadsEach : Arena N D P n q d → List Waiting → Pass N D → Pass N D → Type 0
   LeadsEach a waiting p p' = ((i : ℕ) → Waits waiting i → IsLedTo a p' i) × LeadsAllBut a [] p p'
 
-  -- a search that waits for nobody holds the root; it has gone on from node x to node i; it has ended. Or it was put off between p and p'
+  -- a non-blocking search holds the root; it has gone on from node x to node i; it has ended. Or it was put off by p'
   abbrev pub TriedToEnter : Arena N D P n q d → ℕ → Pass N D → Pass N D → Result (Hand N) Later → Type 0
   TriedToEnter a place p p' found = Enters (sort_of n.layout n.ranged) n.body a.nodes p.caller place (seen_of p) (seen_of p') found
 
@@ -97,7 +97,7 @@ module _ {N D P : Type 0} {n : NodeGhosts N P} {q : PlacingGhosts P} {d : Discip
   abbrev pub TriedToFind : Arena N D P n q d → ℕ → Pass N D → Pass N D → Result (Hand N) Later → Type 0
   TriedToFind a place p p' found = Finds (sort_of n.layout n.ranged) n.body a.nodes p.caller place (seen_of p) (seen_of p') found
 
-  -- the node one level above what was split off, whose range reaches the cut, is held alone; or nothing is held
+  -- only the node one level above what was split off, whose range reaches the cut, is held; or nothing is held
   abbrev pub HoldsAbove : Arena N D P n q d → Waiting → Pass N D → Option (Hand N) → Type 0
   HoldsAbove a w p found = IsHeldAbove (sort_of n.layout n.ranged) n.body p.caller w (seen_of p) found
 

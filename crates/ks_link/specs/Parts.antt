@@ -1,4 +1,4 @@
--- What splits and the growing of the root leave in hand.
+-- What is held after a split, or after the root grew.
 use Rattle.std.specs.Prelude.{ℕ, ◌≡◌, ◌≢◌, ◌<◌, ◌≤◌, ◌-◌, true, List, [], ◌∷◌, Result, Ok, Err}
 use Rattle.std.specs.Option.{ForSome}
 use Rattle.ks_keysets.specs.Keyset.{IsLive as IsLiveIn}
@@ -21,14 +21,14 @@ pub record IsSplitOff (sort : Sort) (h : List Event) (w : Waiting) : Type 0 wher
   pub level : (frame_after (blank_of sort) h w.node).level ≡ w.level
 
 module _ {N : Type 0} (sort : Sort) (shows : N → Body) where
-  -- c holds this live node alone
+  -- c holds only this live node
   pub record IsAlone (c : ℕ) (h : List Event) (x : Hand N) : Type 0 where
     pub alone : hand c h ≡ x.node ∷ []
     pub live : x.live ≡ true
     pub matches : Matches sort shows h x
 
-  -- c holds alone the half of x in which the place lies, or x itself, and what was split off is so; or c holds x, and no node
-  -- was found free to split it
+  -- c holds only the half of x in which the place lies, or x itself, and what was split off is a node of its level that
+  -- begins at its cut; or c holds x, and no node was found free to split it
   abbrev pub HoldsHalf : ℕ → ℕ → ℕ → List Event → List Event → Hand N → Result (Parted N) (Hand N) → Type 0
   HoldsHalf n c place h k x (Ok p) =
       IsOnWay sort shows c place k p.half
@@ -45,7 +45,7 @@ abbrev pub reach_of : Body → ℕ
 reach_of b = last_of b.range - b.low
 
 module _ {N : Type 0} (shows : N → Body) where
-  -- the half that is kept reaches less far than the body did; and so does the node that is handed back
+  -- the half that is kept reaches less far than the body did; and so does the node that is returned
   abbrev pub HalfReachesLess : Body → Result (Parted N) (Hand N) → Type 0
   HalfReachesLess b (Ok p) = reach_of (shows p.half.body) < reach_of b
   HalfReachesLess b (Err y) = Unit {0}

@@ -69,7 +69,7 @@ fn go_nearer<N: Linked, R: Wait, G: Gate>(
     go_on(rt, arena, pass, gate, cut, held, next)
 }
 
-/// Takes the node one level above what was split off whose range holds the cut, and holds it alone.
+/// Takes the node one level above what was split off whose range holds the cut, and holds no other.
 fn find_above<N: Linked, R: Wait, G: Gate>(
     rt: &R,
     arena: &Arena<N, Link>,
@@ -99,7 +99,7 @@ fn find_above<N: Linked, R: Wait, G: Gate>(
     unreachable!()
 }
 
-/// Parts the node, if it is a full branch to which the edge cannot be added, and a node is free; and keeps the half in
+/// Splits the node, if it is a full branch to which the edge cannot be added, and a node is free; and keeps the half in
 /// which the cut lies.
 pub(crate) fn ready<N: Linked, G: Gate>(
     arena: &Arena<N, Link>,
@@ -139,7 +139,7 @@ pub(crate) fn ready<N: Linked, G: Gate>(
     }
 }
 
-/// Adds an edge to what was split off to the node in hand, if it can be added. Where it can, or the node is not full and
+/// Adds an edge to what was split off to the held node, if it can be added. If it can, or the node is not full and
 /// branches of its type adopt, what was split off is then led to.
 pub(crate) fn lead<N: Linked>(
     arena: &Arena<N, Link>,
@@ -171,7 +171,7 @@ pub(crate) fn lead<N: Linked>(
     }
 }
 
-/// Attaches what was split off to the level above it, if it can be. Gives what was split off on the way.
+/// Attaches what was split off to the level above it, if it can be. Returns what was split off there to make room.
 fn attach_one<N: Linked, R: Wait, G: Gate>(
     rt: &R,
     arena: &Arena<N, Link>,

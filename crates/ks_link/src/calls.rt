@@ -15,7 +15,7 @@ use ks_node::Linked;
 use ks_shape::{Numbered, del_here, get_here, swap_here};
 use std::sync::Wait;
 
-/// Answers the value at a place, and the number of the call. It holds one node at a time.
+/// Returns the value at a place, and the number of the call. It holds one node at a time.
 pub fn get<N: Linked, R: Wait, G: Gate>(
     rt: &R,
     arena: &Arena<N, Link>,
@@ -33,7 +33,7 @@ pub fn get<N: Linked, R: Wait, G: Gate>(
     get_here(arena, pass, gate, place, held)
 }
 
-/// Deletes what stands at a place; answers the value that stood there, and the number of the call. It holds one node at a
+/// Deletes what is at a place; returns the value that was there, and the number of the call. It holds one node at a
 /// time, and no nodes are merged under links.
 pub fn del<N: Linked, R: Wait, G: Gate>(
     rt: &R,
@@ -52,7 +52,7 @@ pub fn del<N: Linked, R: Wait, G: Gate>(
     del_here(arena, pass, gate, place, held)
 }
 
-/// Sets the value at a place to `new` where `old` stands; answers the value that stood there, and the number of the call. It
+/// Sets the value at a place to `new` if it is `old`; returns the value that was there, and the number of the call. It
 /// holds one node at a time.
 pub fn swap<N: Linked, R: Wait, G: Gate>(
     rt: &R,

@@ -1,4 +1,4 @@
-//! The way from the root, down and to the right, to the node where a search ends.
+//! The search from the root, down and to the right, to the node where it ends.
 ghost use Rattle.std.specs.Prelude.{◌≡◌};
 ghost use Rattle.ks_history.specs.Done.{link_move};
 ghost use Rattle.ks_node.specs.declared.start.Next.TheVariants.{Go, Here};
@@ -38,7 +38,7 @@ pub(crate) fn enter<N: Linked, R: Wait, G: Gate>(
     take_root(rt, arena, pass, gate, place)
 }
 
-/// Gives the node, and takes the one to which the search goes on: a child, or the node right of it.
+/// Releases the node, and takes the one to which the search goes on: a child, or the node right of it.
 #[inline(always)]
 pub(crate) fn go_on<N: Linked, R: Wait, G: Gate>(
     rt: &R,
@@ -87,7 +87,7 @@ pub(crate) fn end_law<N: Linked>(
     node_law(&held.body);
 }
 
-/// Takes the node at which the search for a place ends, and holds it alone.
+/// Takes the node at which the search for a place ends, and holds no other.
 pub(crate) fn find<N: Linked, R: Wait, G: Gate>(
     rt: &R,
     arena: &Arena<N, Link>,

@@ -1,8 +1,8 @@
 //! Links: one node is held at a time, and a place past the range of a node is looked for in the node right of it.
 //!
-//! Between giving one node and taking the next, others may split what they like. The next node is live then as before,
+//! Between the release of one node and the take of the next, others may split any node. The next node is still live,
 //! and begins where it did, since under links no node is made free and none changes its low. So the place is not below
-//! it; where it has gone to the right meanwhile, the search follows.
+//! it; if it was moved to the right meanwhile, the search follows.
 //!
 //! The technique is that of Lehman and Yao ("Efficient Locking for Concurrent Operations on B-Trees", 1981).
 #![tactic(auto)]

@@ -1,4 +1,4 @@
-//! How a full node is parted: the root grows, any other node splits to the right.
+//! How a full node is split: the root grows, any other node splits to the right.
 ghost use Rattle.std.specs.Prelude.{◌≡◌, ℕ, ◌≢◌, ◌<◌, ◌≤◌, ◌⊎◌, IsTrue};
 ghost use Rattle.ks_node.specs.Body.{content_of};
 ghost use Rattle.ks_node.specs.Room.{is_full};
@@ -19,7 +19,7 @@ use ks_keysets::Span;
 use ks_node::{Linked, linked_law, node_law};
 use ks_shape::{claim_one, claim_two, grow_right, split_right};
 
-/// A node that was split off at a cut, and is reached by its left neighbour's link alone till it is attached.
+/// A node that was split off at a cut, and is reached only by its left neighbour's link till it is attached.
 #[derive(Clone, Copy, Debug, Default, PartialEq, Eq)]
 pub(crate) struct Waiting {
     pub cut: u64,
@@ -27,13 +27,13 @@ pub(crate) struct Waiting {
     pub level: u32,
 }
 
-/// What a full node was parted into: the half that is held, and the node that was split off, if the root did not grow.
+/// What a full node was split into: the half that is held, and the node that was split off, if the root did not grow.
 pub(crate) struct Parted<N> {
     pub half: Held<N>,
     pub new: Option<Waiting>,
 }
 
-/// Gives the one of two halves in which the place does not lie.
+/// Releases the one of two halves in which the place does not lie.
 fn keep_half<N: Linked, G: Gate>(
     arena: &Arena<N, Link>,
     pass: &mut Pass<N, Link>,
@@ -114,7 +114,7 @@ fn split<N: Linked, G: Gate>(
     }
 }
 
-/// Lets the full root grow over two nodes, gives it, and keeps the one in which the place lies.
+/// Lets the full root grow over two nodes, releases it, and keeps the one in which the place lies.
 fn grow<N: Linked, G: Gate>(
     arena: &Arena<N, Link>,
     pass: &mut Pass<N, Link>,
@@ -160,7 +160,7 @@ fn grow<N: Linked, G: Gate>(
     Parted { half, new: None }
 }
 
-/// Parts a full node, and keeps the half in which the place lies. `Err`: the node is as it was, since none was found free.
+/// Splits a full node, and keeps the half in which the place lies. `Err`: the node is as it was, as none was found free.
 pub(crate) fn part<N: Linked, G: Gate>(
     arena: &Arena<N, Link>,
     pass: &mut Pass<N, Link>,

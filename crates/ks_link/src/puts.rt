@@ -24,7 +24,7 @@ use ks_node::Linked;
 use ks_shape::{Fill, Full, Numbered, fill_at};
 use std::sync::Wait;
 
-/// Puts or adds a value at the place where its search has ended, at the node in hand, which is parted before as long as it
+/// Puts or adds a value at the place where its search has ended, at the held node, which is split before as long as it
 /// has no room. What was split off waits.
 pub(crate) fn fill_from<N: Linked, G: Gate>(
     arena: &Arena<N, Link>,
@@ -53,7 +53,7 @@ pub(crate) fn fill_from<N: Linked, G: Gate>(
     fill_at(arena, pass, gate, place, fill, found)
 }
 
-/// Puts or adds a value at a place. What was split off on the way is attached after the call has been decided.
+/// Puts or adds a value at a place. What was split off in the search is attached after the call has been decided.
 fn fill<N: Linked, R: Wait, G: Gate>(
     rt: &R,
     arena: &Arena<N, Link>,
@@ -79,12 +79,12 @@ fn fill<N: Linked, R: Wait, G: Gate>(
     answer
 }
 
-/// Sets the value at a place; answers the value that stood there, and the number of the call. A full node is parted before,
-/// if a node is free. Then what was split off on the way is attached to the level above it, where it can be.
+/// Sets the value at a place; returns the value that was there, and the number of the call. A full node is split
+/// before, if a node is free. Then what was split off in the search is attached to the level above it, if it can be.
 ///
 /// # Errors
 ///
-/// `Full` comes only where no value stands at the place, its node is full, and each node was not free at some moment of the
+/// `Full` comes only if the place has no value, its node is full, and each node was not free at some moment of the
 /// call. Then the map is as before; what was split off before stays so, and is attached.
 pub fn put<N: Linked, R: Wait, G: Gate>(
     rt: &R,
@@ -105,7 +105,7 @@ pub fn put<N: Linked, R: Wait, G: Gate>(
     fill(rt, arena, pass, gate, place, Fill::Put(value))
 }
 
-/// Sets the value at a place where none stands; answers the value that stood there, which then stays, and the number of the
+/// Sets the value at a place that has none; returns the value that was there, which then stays, and the number of the
 /// call. It makes room as `put` does.
 ///
 /// # Errors

@@ -1,5 +1,5 @@
-//! How a node at which a search has ended gets room for its place. It takes no runtime: each half reaches less far than its
-//! whole, so it ends.
+//! How a node at which a search has ended gets room for its place. It needs no runtime: each half reaches less far than
+//! its whole, so it ends.
 ghost use Rattle.std.specs.Prelude.{◌≡◌, All, IsTrue, []};
 ghost use Rattle.ks_history.specs.Done.{link_move};
 ghost use Rattle.ks_node.specs.declared.start.Next.TheVariants.{Here};
@@ -31,8 +31,8 @@ fn wait_for(waiting: &mut ArrayVec<Waiting, 7>, new: Option<Waiting>)
     }
 }
 
-/// Parts the full node at which the search ends, and keeps the half at which it ends then. `Err`: the node is as it was,
-/// since none was found free. What is split off waits, where there is room for it.
+/// Splits the full node at which the search ends, and keeps the half at which it ends then. `Err`: the node is as it
+/// was, since none was found free. What is split off waits, if there is room for it.
 fn make_room<N: Linked, G: Gate>(
     arena: &Arena<N, Link>,
     pass: &mut Pass<N, Link>,
@@ -70,7 +70,7 @@ fn make_room<N: Linked, G: Gate>(
     }
 }
 
-/// Parts the node at which the search for the place has ended, and keeps the half in which the place lies, until it has the
+/// Splits the node at which the search for the place has ended, and keeps the half in which it lies, until that has the
 /// place or room for it. `Err`: it is full and lacks the place, and no node was found free. What was split off waits.
 pub(crate) fn room_at<N: Linked, G: Gate>(
     arena: &Arena<N, Link>,

@@ -1,7 +1,7 @@
-//! The calls of a dictionary along links that wait for nobody.
+//! The non-blocking calls of a dictionary along links.
 //!
-//! A call whose way is free is made as the one that waits; at the first node that another caller holds it is put off. It
-//! always returns: it goes down, or to the right on a level, and neither goes on for ever.
+//! A call that meets no node that another caller holds is made as the one that waits; at the first such node it is put
+//! off. It always returns: it goes down, or to the right on a level, and neither goes on for ever.
 ghost use Rattle.std.specs.Prelude.{◌≡◌};
 ghost use Rattle.ks_history.specs.declared.Op.TheVariants.{Del, Get, Swap};
 ghost use Rattle.ks_history.specs.Done.{link_move};
@@ -16,11 +16,11 @@ use ks_gate::Gate;
 use ks_node::Linked;
 use ks_shape::{Later, Numbered, del_here, get_here, swap_here};
 
-/// Answers the value at a place, and the number of the call. It holds one node at a time, and waits for nobody.
+/// Returns the value at a place, and the number of the call. It holds one node at a time, and does not wait.
 ///
 /// # Errors
 ///
-/// `Busy` names a node on the way and the other caller that held it. The call is then no call of the history.
+/// `Busy` names a node on the search path and the other caller that held it. The call is then no call of the history.
 pub fn try_get<N: Linked, G: Gate>(
     arena: &Arena<N, Link>,
     pass: &mut Pass<N, Link>,
@@ -39,8 +39,8 @@ pub fn try_get<N: Linked, G: Gate>(
     }
 }
 
-/// Deletes what stands at a place; answers the value that stood there, and the number of the call. It holds one node at a
-/// time, and waits for nobody.
+/// Deletes what is at a place; returns the value that was there, and the number of the call. It holds one node at a
+/// time, and does not wait.
 ///
 /// # Errors
 ///
@@ -63,8 +63,8 @@ pub fn try_del<N: Linked, G: Gate>(
     }
 }
 
-/// Sets the value at a place to `new` where `old` stands; answers the value that stood there, and the number of the call. It
-/// holds one node at a time, and waits for nobody.
+/// Sets the value at a place to `new` if it is `old`; returns the value that was there, and the number of the call. It
+/// holds one node at a time, and does not wait.
 ///
 /// # Errors
 ///

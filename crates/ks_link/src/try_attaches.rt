@@ -1,5 +1,5 @@
-//! How what was split off gets an edge after a call that waits for nobody: a busy node on the way leaves it without one for
-//! good, and it stays reached by its left neighbour's link.
+//! How what was split off gets an edge after a non-blocking call: a busy node on the search path leaves it without one
+//! for good, and it stays reached by its left neighbour's link.
 ghost use Rattle.std.specs.Prelude.{◌≡◌, ℕ, ◌+◌, ◌<◌, ◌≤◌, All, false, true};
 ghost use Rattle.std.specs.Option.{ForSome};
 ghost use Rattle.ks_history.specs.Done.{link_move};
@@ -30,8 +30,8 @@ fn is_over<N: Linked>(node: &N, to: Waiting) -> bool
     node.level() == to.level + 1 && to.cut <= last
 }
 
-/// Takes the node one level above what was split off whose range holds the cut, and holds it alone. `None`: a node on the
-/// way was held by another caller, and nothing is held.
+/// Takes the node one level above what was split off whose range holds the cut, and holds no other. `None`: another
+/// caller held a node on the search path, and nothing is held.
 fn try_find_above<N: Linked, G: Gate>(
     arena: &Arena<N, Link>,
     pass: &mut Pass<N, Link>,
@@ -66,8 +66,8 @@ fn try_find_above<N: Linked, G: Gate>(
     }
 }
 
-/// Attaches what was split off to the level above it, if it can be and no node on the way is busy. Gives what was split off
-/// on the way, a level higher.
+/// Attaches what was split off to the level above it, if it can be and no node on the search path is busy. Returns what
+/// was split off there to make room, a level higher.
 fn try_attach_one<N: Linked, G: Gate>(
     arena: &Arena<N, Link>,
     pass: &mut Pass<N, Link>,
@@ -120,7 +120,7 @@ fn try_attach_on<N: Linked, G: Gate>(
     }
 }
 
-/// Attaches all that waits, the oldest first, as far as no busy node ends it.
+/// Attaches all that waits, the oldest first, until a busy node ends it.
 pub(crate) fn try_attach_all<N: Linked, G: Gate>(
     arena: &Arena<N, Link>,
     pass: &mut Pass<N, Link>,

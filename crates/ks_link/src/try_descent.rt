@@ -1,4 +1,4 @@
-//! The way from the root, down and to the right, that waits for nobody. It ends without a count: each step goes a level
+//! The search from the root, down and to the right, without waiting. It ends without a count: each step goes a level
 //! down, or further right on its level.
 ghost use Rattle.std.specs.Prelude.{◌≡◌};
 ghost use Rattle.ks_history.specs.Done.{link_move};
@@ -43,8 +43,8 @@ pub(crate) fn try_enter<N: Linked, G: Gate>(
     }
 }
 
-/// Gives the node, and takes the one to which the search goes on, unless another caller holds it: a child, or the node
-/// right of it.
+/// Releases the node, and takes the one to which the search goes on, unless another caller holds it: a child, or the
+/// node right of it.
 pub(crate) fn try_go_on<N: Linked, G: Gate>(
     arena: &Arena<N, Link>,
     pass: &mut Pass<N, Link>,
@@ -79,8 +79,8 @@ pub(crate) fn try_go_on<N: Linked, G: Gate>(
     }
 }
 
-/// Takes the node at which the search for a place ends, and holds it alone. `Err`: a node on the way was held by another
-/// caller.
+/// Takes the node at which the search for a place ends, and holds no other. `Err`: another caller held a node on the
+/// search path.
 pub(crate) fn try_find<N: Linked, G: Gate>(
     arena: &Arena<N, Link>,
     pass: &mut Pass<N, Link>,

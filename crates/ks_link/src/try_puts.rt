@@ -1,4 +1,4 @@
-//! Puts and adds along links that wait for nobody.
+//! Non-blocking puts and adds along links.
 ghost use Rattle.std.specs.Prelude.{◌≡◌};
 ghost use Rattle.ks_history.specs.declared.Op.TheVariants.{Add, Put};
 ghost use Rattle.ks_history.specs.Done.{link_move};
@@ -17,8 +17,8 @@ use ks_gate::Gate;
 use ks_node::Linked;
 use ks_shape::{Fill, Numbered, PutLater, not_put_off};
 
-/// Puts or adds a value at a place, and waits for nobody. What was split off is attached after the call has been decided, as
-/// far as no busy node ends that.
+/// Puts or adds a value at a place, without waiting. What was split off is attached after the call has been decided,
+/// unless a busy node ends that.
 fn try_fill<N: Linked, G: Gate>(
     arena: &Arena<N, Link>,
     pass: &mut Pass<N, Link>,
@@ -43,14 +43,15 @@ fn try_fill<N: Linked, G: Gate>(
     }
 }
 
-/// Sets the value at a place; answers the value that stood there, and the number of the call. It waits for nobody. A full
-/// node is parted before, if a node is free. What was split off is attached after the call has been decided; where a node
-/// on that way is busy, it is left without an edge for good, and stays reached by its left neighbour's link.
+/// Sets the value at a place; returns the value that was there, and the number of the call. It does not wait. A full
+/// node is split before, if a node is free. What was split off is attached after the call has been decided; if a node
+/// on the search path to its parent is busy, it is left without an edge for good, and stays reached by its left
+/// neighbour's link.
 ///
 /// # Errors
 ///
-/// `Later` with `Busy`, which names a node on the way to the place and the other caller that held it: the call is then no
-/// call of the history, and no node was parted. `Full` as for `put`.
+/// `Later` with `Busy`, which names a node on the search path and the other caller that held it: the call is then no
+/// call of the history, and no node was split. `Full` as for `put`.
 pub fn try_put<N: Linked, G: Gate>(
     arena: &Arena<N, Link>,
     pass: &mut Pass<N, Link>,
@@ -67,8 +68,8 @@ pub fn try_put<N: Linked, G: Gate>(
     try_fill(arena, pass, gate, place, Fill::Put(value))
 }
 
-/// Sets the value at a place where none stands; answers the value that stood there, which then stays, and the number of the
-/// call. It waits for nobody, and makes room as `try_put` does.
+/// Sets the value at a place that has none; returns the value that was there, which then stays, and the number of the
+/// call. It does not wait, and makes room as `try_put` does.
 ///
 /// # Errors
 ///

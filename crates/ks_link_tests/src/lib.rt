@@ -1,4 +1,4 @@
-//! Tests of calls along links, those that wait and those that wait for nobody.
+//! Tests of calls along links, blocking and non-blocking.
 #![tactic(auto)]
 
 #[cfg(test)]

@@ -1,4 +1,4 @@
-//! Tests of calls along links that wait for nobody.
+//! Tests of non-blocking calls along links.
 use ks_bplus::BNode;
 use ks_flow::Link;
 use ks_gate::NoGate;

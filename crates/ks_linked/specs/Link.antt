@@ -8,6 +8,6 @@ use Rattle.ks_node.specs.Wrapped.{adopts_ranged}
 abbrev pub linked : Span → ℕ → Option ℕ → Body → Body
 linked r level link b = record b { range = Some r; level = level; link = link }
 
--- a branch alone adopts, as one with a range does
+-- only a branch adopts, and as one with a range does
 abbrev pub adopts_linked : (Content → ℕ → Bool) → Content → ℕ → Bool
 adopts_linked can c cut = is_branch_kind c.kind && adopts_ranged can c cut

@@ -1,8 +1,8 @@
 //! A node with a range, a level and a link.
 //!
-//! Its edges are those of the node inside, cut to the range, and where the range ends below the last place one edge
+//! Its edges are those of the node inside, cut to the range, and, if the range ends below the last place, one edge
 //! more, the link, which carries all places above the range to the node right of it on its level. So a search that
-//! comes late, after a split, finds its way to the right and need not start again.
+//! comes after a split moves right and need not restart.
 
 ghost use Rattle.std.specs.Prelude.{◌≡◌, is_some, nat_lt};
 ghost use Rattle.std.specs.Option.{ForSome};

@@ -217,7 +217,7 @@ impl Unlinked for ListNode {
 
     fn reach(&mut self, _right: &Self) {}
 
-    // A list node never becomes a branch: no call at a node asks for this.
+    // A list node never becomes a branch: no caller may call this.
     fn grow(
         &mut self,
         _left: &mut Self,

@@ -25,7 +25,7 @@ fn rank(pairs: &Block, place: u64) -> usize
     pairs.len()
 }
 
-/// Where the pair of a place stands, or where it would stand.
+/// Returns where the pair of a place is, or `Err` with where it would be.
 fn seek(pairs: &Block, place: u64) -> Result<usize, usize>
     requires { Ascends (λ x. x.place) (pairs_of pairs.now.pairs) }
     ensures { MatchResult result (IsFound (λ x. x.place) place (pairs_of pairs.now.pairs))
@@ -53,7 +53,7 @@ pub fn value_of(pairs: &Block, place: u64) -> Option<u128>
     }
 }
 
-/// Sets the value at a place, and answers the one that was there.
+/// Sets the value at a place, and returns the one that was there.
 pub fn put_pair(pairs: &mut Block, place: u64, value: u128) -> Option<u128>
     requires ascend { Ascends (λ x. x.place) (pairs_of pairs.old.pairs) }
     requires room { value_at (pairs_of pairs.old.pairs) place ≡ None → length pairs.old.pairs < pairs.old.room }
@@ -75,7 +75,7 @@ pub fn put_pair(pairs: &mut Block, place: u64, value: u128) -> Option<u128>
     }
 }
 
-/// Removes the pair of a place, and answers its value.
+/// Removes the pair of a place, and returns its value.
 pub fn delete_pair(pairs: &mut Block, place: u64) -> Option<u128>
     requires { Ascends (λ x. x.place) (pairs_of pairs.old.pairs) }
     ensures pairs { pairs_of pairs.new.pairs ≡ pairs_del place (pairs_of pairs.old.pairs) }

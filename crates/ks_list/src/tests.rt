@@ -6,7 +6,7 @@ use super::*;
 use ks_node::{Next, Node, Unlinked, WithRange};
 use std::process::Abort;
 
-/// Puts a value where the node has room and no edge of its own.
+/// Puts a value, if the node has room and no edge of its own.
 fn put_plainly<N: Node>(rt: &impl Abort, node: &mut N, place: u64, value: u128) -> Option<u128>
     ensures body { N.body node.new ≡ with_pairs (N.body node.old) (pairs_put place value (N.body node.old).pairs) }
     ensures answer { result ≡ value_at (N.body node.old).pairs place }

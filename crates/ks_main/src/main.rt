@@ -1,5 +1,5 @@
-//! The program: it hands the words and the standard streams to `serve`, with a gate that keeps nobody, and ends with its
-//! status.
+//! The program: it passes the words and the standard streams to `serve`, with a gate that stops no caller, and ends
+//! with its status.
 #![tactic(auto)]
 
 ghost use Rattle.std.specs.Prelude.{◌≡◌, drop, IfOk, IsErr, IsErrOf};
@@ -27,7 +27,7 @@ use streams::{StdSink, StdSource};
 enum NoWords {
     /// One of them is no text.
     NoText,
-    /// Memory was wanting.
+    /// Memory ran out.
     Memory,
 }
 
@@ -38,7 +38,7 @@ fn after_name(alloc: Global, args: env::Args) -> Result<Vec<String>, AllocError>
     args.skip(1).collect(alloc)
 }
 
-/// The words after the program's name. What the system gives for words no clause can say.
+/// The words after the program's name. No clause can say which words the system returns.
 fn words(rt: &HostRuntime) -> Result<Vec<String>, NoWords> {
     let args = match env::args(rt) {
         Ok(args) => args,

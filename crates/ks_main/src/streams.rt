@@ -1,8 +1,8 @@
 //! The standard streams as a source and as sinks.
 //!
-//! What the system does with bytes no proof can say, so over the streams of a process they tell none. Over a stream of
-//! std whose bytes are known they tell just those, and so each error has to be told as a fault: one that was taken for
-//! the end, or for bytes that were written, would contradict what the stream still has.
+//! No proof can say what the system does with bytes, so over the streams of a process these ensure nothing. Over a
+//! stream of std whose bytes are known they ensure just those, and so each error has to be reported as a fault: one
+//! that was taken for the end, or for bytes that were written, would contradict what the stream still has.
 
 ghost use Rattle.std.specs.Prelude.{ℕ, ◌≡◌};
 

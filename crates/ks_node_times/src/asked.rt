@@ -1,11 +1,11 @@
-//! Calls on nodes, each after a test of what it asks, as the program runs.
+//! Calls on nodes, each after a test at run time of what it requires.
 
 use ks_asked::{cut_of, is_here, lie_in};
 use ks_keysets::Span;
 use ks_node::{Node, Ranged, Unlinked, node_law};
 use std::alloc::{AllocError, Global};
 
-/// Puts a value at a place of the node's own, where there is room; answers whether it did.
+/// Puts a value at a place of the node's own, if there is room; returns whether it did.
 pub fn put<N: Ranged>(node: &mut N, place: u64, value: u128) -> bool {
     let range = node.range();
     if place < range.low || range.last < place || !is_here(node, place) {
@@ -28,7 +28,7 @@ pub fn can_put<N: Ranged>(node: &N, place: u64) -> bool {
     !node.is_branch() && !node.is_full()
 }
 
-/// Deletes what stands at a place.
+/// Deletes what is at a place.
 pub fn del<N: Node>(node: &mut N, place: u64) -> Option<u128> {
     if node.is_branch() {
         return None;

@@ -9,7 +9,7 @@ use std::alloc::{AllocError, Global};
 /// An eighth of all places.
 const EIGHTH: u64 = 0x2000_0000_0000_0000;
 
-/// Where one of eight pairs stands, or an edge starts: each in turn.
+/// Where one of eight pairs is, or an edge starts: each in turn.
 fn place_of(number: u64) -> u64
     ensures { result < 2 ^ 64 - 1 }
 {
@@ -43,7 +43,7 @@ fn full<N: Ranged>(alloc: Global) -> Result<N, AllocError> {
     Ok(node)
 }
 
-/// A branch with eight edges, or where there is none a full node.
+/// A branch with eight edges, or a full node if there is none.
 fn branch<N: Unlinked + Ranged>(alloc: Global) -> Result<N, AllocError> {
     let mut node: N = full(alloc)?;
     asked::grow(alloc, &mut node)?;
@@ -79,7 +79,7 @@ fn told(next: Next) -> u64 {
     }
 }
 
-/// Looks where a search goes on, so many times.
+/// Looks where a search goes on, `times` times.
 fn next<N: Node>(nodes: &[N], times: u64) -> u64 {
     let mut sum = 0u64;
     for i in 0..times {
@@ -90,7 +90,7 @@ fn next<N: Node>(nodes: &[N], times: u64) -> u64 {
     sum
 }
 
-/// Gets a value, so many times.
+/// Gets a value, `times` times.
 fn get<N: Node>(nodes: &[N], times: u64) -> u64 {
     let mut sum = 0u64;
     for i in 0..times {
@@ -101,7 +101,7 @@ fn get<N: Node>(nodes: &[N], times: u64) -> u64 {
     sum
 }
 
-/// Asks whether it is full, so many times.
+/// Asks whether it is full, `times` times.
 fn is_full<N: Node>(nodes: &[N], times: u64) -> u64 {
     let mut sum = 0u64;
     for i in 0..times {
@@ -112,7 +112,7 @@ fn is_full<N: Node>(nodes: &[N], times: u64) -> u64 {
     sum
 }
 
-/// Asks whether it is low, so many times.
+/// Asks whether it is low, `times` times.
 fn is_low<N: Node>(nodes: &[N], times: u64) -> u64 {
     let mut sum = 0u64;
     for i in 0..times {
@@ -123,7 +123,7 @@ fn is_low<N: Node>(nodes: &[N], times: u64) -> u64 {
     sum
 }
 
-/// Asks whether it is a branch, so many times.
+/// Asks whether it is a branch, `times` times.
 fn is_branch<N: Node>(nodes: &[N], times: u64) -> u64 {
     let mut sum = 0u64;
     for i in 0..times {
@@ -134,7 +134,7 @@ fn is_branch<N: Node>(nodes: &[N], times: u64) -> u64 {
     sum
 }
 
-/// Asks whether an edge can be added, so many times.
+/// Asks whether an edge can be added, `times` times.
 fn can_adopt<N: Node>(nodes: &[N], times: u64) -> u64 {
     let mut sum = 0u64;
     for i in 0..times {
@@ -145,7 +145,7 @@ fn can_adopt<N: Node>(nodes: &[N], times: u64) -> u64 {
     sum
 }
 
-/// Asks for the next child, so many times.
+/// Asks for the next child, `times` times.
 fn right_of<N: Node>(nodes: &[N], times: u64) -> u64 {
     let mut sum = 0u64;
     for i in 0..times {
@@ -156,7 +156,7 @@ fn right_of<N: Node>(nodes: &[N], times: u64) -> u64 {
     sum
 }
 
-/// Asks for the span of a child, so many times.
+/// Asks for the span of a child, `times` times.
 fn span_for<N: Node>(nodes: &[N], times: u64) -> u64 {
     let mut sum = 0u64;
     for i in 0..times {
@@ -169,7 +169,7 @@ fn span_for<N: Node>(nodes: &[N], times: u64) -> u64 {
     sum
 }
 
-/// Reads where the range begins, so many times.
+/// Reads where the range begins, `times` times.
 fn nothing<N: Ranged>(nodes: &[N], times: u64) -> u64 {
     let mut sum = 0u64;
     for i in 0..times {
@@ -180,7 +180,7 @@ fn nothing<N: Ranged>(nodes: &[N], times: u64) -> u64 {
     sum
 }
 
-/// Asks for the cut of a full node, so many times.
+/// Asks for the cut of a full node, `times` times.
 fn cut<N: Ranged>(nodes: &[N], times: u64) -> u64 {
     let mut sum = 0u64;
     for i in 0..times {
@@ -191,7 +191,7 @@ fn cut<N: Ranged>(nodes: &[N], times: u64) -> u64 {
     sum
 }
 
-/// Sets the value at a place that is there, so many times.
+/// Sets the value at a place that is there, `times` times.
 fn put<N: Ranged>(node: &mut N, times: u64) -> u64 {
     let mut sum = 0u64;
     for i in 0..times {
@@ -200,7 +200,7 @@ fn put<N: Ranged>(node: &mut N, times: u64) -> u64 {
     sum
 }
 
-/// Puts a pair and deletes it, so many times.
+/// Puts a pair and deletes it, `times` times.
 fn put_del<N: Ranged>(node: &mut N, times: u64) -> u64 {
     let mut sum = 0u64;
     for i in 0..times {
@@ -211,7 +211,7 @@ fn put_del<N: Ranged>(node: &mut N, times: u64) -> u64 {
     sum
 }
 
-/// Tests what a put asks, so many times.
+/// Tests what a put requires, `times` times.
 fn tests<N: Ranged>(node: &N, times: u64) -> u64 {
     let mut sum = 0u64;
     for i in 0..times {
@@ -220,7 +220,7 @@ fn tests<N: Ranged>(node: &N, times: u64) -> u64 {
     sum
 }
 
-/// Makes a call so many times, and answers a sum of what they told; none where there is no such call.
+/// Makes a call `times` times, and returns a sum of the results; `None` if there is no such call.
 pub fn repeat<N: Unlinked + Ranged>(
     alloc: Global,
     call: &str,

@@ -1,7 +1,7 @@
 //! One call of a node, made many times over: for `bench/nodes`, which counts what it takes.
 //!
-//! The words are a type of nodes (`list`, `bplus` or `hash`), a call, and how often it is made. What is printed is a sum
-//! of what the calls told, so that none of them is left out when the program is built.
+//! The words are a type of nodes (`list`, `bplus` or `hash`), a call, and how often it is made. What is printed is a
+//! sum of the results of the calls, so that none of them is left out when the program is built.
 #![tactic(auto)]
 
 mod asked;
@@ -21,7 +21,7 @@ fn words(rt: &HostRuntime) -> io::Result<Vec<String>> {
     Ok(words)
 }
 
-/// Makes the call on a node of the type, and answers the sum; none where there is no such type or call.
+/// Makes the call on a node of the type, and returns the sum; `None` if there is no such type or call.
 fn sum_of(alloc: Global, nodes: &str, call: &str, times: u64) -> Result<Option<u64>, AllocError> {
     match nodes {
         "list" => repeat::<WithRange<ListNode>>(alloc, call, times),

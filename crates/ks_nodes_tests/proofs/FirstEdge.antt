@@ -1,4 +1,4 @@
--- What reads through the traits tell of a body.
+-- What reads through the traits show of a body.
 use Rattle.std.specs.Prelude.{◌≡◌, ℕ, suc, ◌+◌, ◌<◌, true, false, nat_lt, nat_le, IsTrue, List, [], ◌∷◌, length, get_or, All, drop, Some, refl}
 use Rattle.std.proofs.Common.{arith, subst, sym, inl, inr}
 use Rattle.std.proofs.lemmas.Bool.{lt-ltb, le-ltb, le-leb, eqb-true}

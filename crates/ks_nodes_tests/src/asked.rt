@@ -1,4 +1,4 @@
-//! Calls on nodes, each after a test of what it asks, as the program runs.
+//! Calls on nodes, each after a test at run time of what it requires.
 
 ghost use Rattle.std.specs.Prelude.{◌≢◌, ◌≡◌, IsTrue, Some, false};
 ghost use Rattle.ks_node.specs.Body.{is_branch, first_node, IsBlank};
@@ -18,7 +18,7 @@ pub fn blank<N: Node>(rt: &impl Abort, alloc: Global) -> N
     node
 }
 
-/// Puts a value at a place of the node's own, where there is room.
+/// Puts a value at a place of the node's own, if there is room.
 pub fn put<N: Ranged>(rt: &impl Abort, node: &mut N, place: u64, value: u128) -> Option<u128> {
     let range = node.range();
     assert!(rt; range.low <= place && place <= range.last);
@@ -29,7 +29,7 @@ pub fn put<N: Ranged>(rt: &impl Abort, node: &mut N, place: u64, value: u128) ->
     node.put(place, value)
 }
 
-/// Puts a value into a node with no edge, where there is room.
+/// Puts a value into a node with no edge, if there is room.
 pub fn put_first<N: Node>(rt: &impl Abort, node: &mut N, place: u64, value: u128) -> Option<u128> {
     assert!(rt; !node.is_branch());
     assert!(rt; node.chained().is_none());
@@ -37,7 +37,7 @@ pub fn put_first<N: Node>(rt: &impl Abort, node: &mut N, place: u64, value: u128
     node.put(place, value)
 }
 
-/// Deletes what stands at a place.
+/// Deletes what is at a place.
 pub fn del<N: Node>(rt: &impl Abort, node: &mut N, place: u64) -> Option<u128> {
     assert!(rt; !node.is_branch());
     node.del(place)

@@ -1,7 +1,7 @@
-//! A node as a plain program would keep it: what a search is told, one stretch of places after the other.
+//! A node as a plain program would keep it: what a search finds, one stretch of places after the other.
 //!
-//! The places are told apart in 64 stretches of one length, the last of which runs to the last place. A value stands at
-//! the first place of its stretch.
+//! The places are 64 stretches of one length, the last of which runs to the last place. A value is at the first place
+//! of its stretch.
 
 ghost use Rattle.std.specs.Prelude.{◌<◌};
 
@@ -10,7 +10,7 @@ use ks_keysets::{Edge, Pair, Span};
 /// How many stretches there are.
 pub const COUNT: usize = 64;
 
-/// What a search is told in a stretch.
+/// What a search finds in a stretch.
 #[derive(Clone, Copy, Debug, PartialEq, Eq)]
 pub enum Told {
     Nothing,
@@ -75,7 +75,7 @@ impl Plain {
         }
     }
 
-    /// Where the stretches that are told the same as this one end.
+    /// Where the stretches end in which a search finds the same as in this one.
     fn run_end(&self, stretch: usize) -> usize
         requires { stretch < 64 }
     {
@@ -145,7 +145,7 @@ impl Plain {
         (left, right)
     }
 
-    /// Leads to a node from the cut on, as far as one was told the same as there.
+    /// Leads to a node from the cut on, as far as a search found the same as there.
     pub fn adopt(&mut self, cut: usize, id: u32)
         requires { cut < 64 }
     {

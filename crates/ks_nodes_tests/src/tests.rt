@@ -90,7 +90,7 @@ fn chains<N: Unlinked + Ranged>(rt: &impl Abort, alloc: Global, length: u64) {
     first.absorb(rt, &mut last);
 }
 
-// (those with a range or a link alone begin blank, and are filled, in the tests below)
+// (those with only a range or only a link begin blank, and are filled, in the tests below)
 #[test]
 fn blank_nodes_keep_a_pair(rt: HostRuntime) {
     keeps_a_pair::<ListNode>(&rt, rt.alloc());

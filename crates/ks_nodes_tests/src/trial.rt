@@ -28,7 +28,7 @@ fn both<N: Drop>(nodes: (N, N), plains: (Plain, Plain)) -> (Trial<N>, Trial<N>) 
     (left, right)
 }
 
-/// What a search for a place is told.
+/// What a search for a place finds.
 fn told<N: Node>(node: &N, place: u64) -> Told {
     match node.next(place) {
         Next::Go(node) => Told::Lead(node),
@@ -73,7 +73,7 @@ impl<N: Ranged> Trial<N> {
         }
     }
 
-    /// Compares the range, the record, and what a search is told in each stretch.
+    /// Compares the range, the record, and what a search finds in each stretch.
     pub fn agrees(&self, rt: &impl Abort) {
         assert_eq!(rt; self.node.range(), self.plain.range());
         for i in 0..COUNT {
@@ -87,7 +87,7 @@ impl<N: Ranged> Trial<N> {
         has_edges(rt, &self.node, &self.plain);
     }
 
-    /// Puts a value into every so many stretches, from one on to below another.
+    /// Puts a value into every `step`-th stretch, from `begin` on to below `end`.
     pub fn fill(&mut self, rt: &impl Abort, begin: usize, end: usize, step: usize)
         requires { 0 < step }
     {
@@ -101,7 +101,7 @@ impl<N: Ranged> Trial<N> {
         self.agrees(rt);
     }
 
-    /// Deletes what stands in them.
+    /// Deletes what is in them.
     pub fn thin(&mut self, rt: &impl Abort, begin: usize, end: usize, step: usize)
         requires { 0 < step }
     {

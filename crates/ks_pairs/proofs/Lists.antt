@@ -67,7 +67,7 @@ set-paired (q ∷ ps) (w ∷ vs) (suc i) p v e h at = ap (λ l. record { place =
 no : false ≡ true → ⊥
 no e = cc
 
--- what holds on success holds where it is one
+-- what holds if a result is a success holds of one that is
 pub on_ok : {T E : Type 0} (r : Result T E) (P : Type 0) → IsOk r → OnOk r P → P
 on_ok (Ok x) P h p = p
 on_ok (Err e) P h p = absurd (no h)

@@ -1,4 +1,4 @@
--- Pairs of places and values that stand in lists of their own.
+-- Pairs of places and values that are in lists of their own.
 use Rattle.std.specs.Prelude.{ℕ, List, [], ◌∷◌, Result, MatchResult}
 use Rattle.ks_keysets.specs.declared.Pair.{Pair}
 use Rattle.ks_node.specs.Keyed.{IsFound, IsMissing}
@@ -13,6 +13,6 @@ paired [] vs = []
 paired (p ∷ ps) [] = []
 paired (p ∷ ps) (v ∷ vs) = record { place = p; value = v } ∷ paired ps vs
 
--- the pair of a place stands at a position, or would stand there
+-- the pair of a place is at a position, or would be there
 abbrev pub Stands : ℕ → List Pair → Result ℕ ℕ → Type 0
 Stands place xs r = MatchResult r (IsFound (λ x. x.place) place xs) (IsMissing (λ x. x.place) place xs)

@@ -11,7 +11,7 @@ use arrayvec::ArrayVec;
 use ks_keysets::Pair;
 use std::marker::Model;
 
-/// At most `N` pairs. A pair is a place and a value, and the places ascend wherever a search is asked for.
+/// At most `N` pairs. A pair is a place and a value, and the places ascend whenever a search is made.
 #[derive(Drop)]
 pub struct Pairs<const N: usize> {
     places: ArrayVec<u64, N>,
@@ -67,7 +67,7 @@ impl<const N: usize> Pairs<N> {
         count_below(self.places.as_slice(), place)
     }
 
-    /// Where the pair of a place stands, or where it would stand.
+    /// Returns where the pair of a place is, or `Err` with where it would be.
     fn seek(&self, place: u64) -> Result<usize, usize>
         requires { Ascends (λ x. x.place) self.now.items }
         ensures { Stands place self.now.items result }
@@ -94,7 +94,7 @@ impl<const N: usize> Pairs<N> {
         }
     }
 
-    /// Sets the value at a place, and answers the one that was there.
+    /// Sets the value at a place, and returns the one that was there.
     pub fn put(&mut self, place: u64, value: u128) -> Option<u128>
         requires ascend { Ascends (λ x. x.place) self.old.items }
         requires room { value_at self.old.items place ≡ None → length self.old.items < N }
@@ -116,7 +116,7 @@ impl<const N: usize> Pairs<N> {
         }
     }
 
-    /// Removes the pair of a place, and answers its value.
+    /// Removes the pair of a place, and returns its value.
     pub fn del(&mut self, place: u64) -> Option<u128>
         requires { Ascends (λ x. x.place) self.old.items }
         ensures items { self.new.items ≡ pairs_del place self.old.items }
@@ -134,7 +134,7 @@ impl<const N: usize> Pairs<N> {
         }
     }
 
-    /// Moves the pairs from a cut on to where there is none.
+    /// Moves the pairs from a cut on to an empty list.
     pub fn split_to(&mut self, right: &mut Self, cut: u64)
         requires ascend { Ascends (λ x. x.place) self.old.items }
         requires blank { right.old.items ≡ [] }

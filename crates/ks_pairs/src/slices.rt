@@ -37,7 +37,7 @@ pub(crate) fn set_item(items: &mut [u128], at: usize, new: u128)
     items[at] = new;
 }
 
-/// Puts an element where another stands, or behind the last, and moves those from there on up by one.
+/// Puts an element where another is, or behind the last, and moves those from there on up by one.
 pub(crate) fn insert_at<T: Copy + Drop, const N: usize>(
     items: &mut ArrayVec<T, N>,
     at: usize,

@@ -15,7 +15,7 @@ use Rattle.ks_arena.specs.Sound.{Sort, blank_of}
 use Rattle.ks_arena.specs.Clauses.{Matches}
 use Rattle.ks_shape.specs.Laws.Single.{shown, record_is}
 
--- a live node in hand stands in the graph
+-- the graph and frame of a live node that is held are those that its body shows
 pub stands_now : {N : Type 0} (sort : Sort) (shows : N → Body) (h : List Event) (x : Hand N) → x.live ≡ true → Matches sort shows h x → IsPlain (shows x.body) → Stands (graph_after h) (frame_after (blank_of sort) h) x.node (shows x.body)
 stands_now sort shows h x live matches plain = record { has = record_is sort shows h x live matches; frame = (shown sort shows h x live matches).1; plain = plain }
 
@@ -23,7 +23,7 @@ stands_now sort shows h x live matches plain = record { has = record_is sort sho
 pub cut_inside : (g : ℕ → NodeState) (n cut : ℕ) (b : Body) (whole : Span) → IsInset g n whole.low whole.last → IsGoodCut b whole cut → InInset g n cut × CanSplitAt b cut
 cut_inside g n cut b whole inset good = (inset.back cut (omega (arith, good.above)) good.within, good.splits)
 
--- a span that suits the node, and is the one that is handed in if there is one
+-- a span that suits the node: the one that was passed, if there is one
 pub record Whole (g : ℕ → NodeState) (n : ℕ) (b : Body) (o : Option Span) : Type 0 where
   pub span : Span
   pub inset : IsInset g n span.low span.last

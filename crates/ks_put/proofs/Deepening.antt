@@ -1,4 +1,4 @@
--- How deep a search stands after its caller claimed, split and gave nodes.
+-- How many steps below the root a search is after its caller claimed, split and released nodes.
 use Rattle.std.proofs.Common.{◌≡◌, ℕ, zero, suc, ◌≤◌, Bool, true, false, cond, length, List, [], ◌∷◌, ◌++◌, sym, refl, ap, subst, inl, arith}
 use Rattle.std.specs.Prelude.{All, Option, Some, None}
 use Rattle.ks_keysets.specs.declared.Change.{Change}
@@ -43,7 +43,7 @@ down_fewer n c s0 h taken roots fewer steps i less so = record { took = so.took;
 no_take : (c : ℕ) (es : List Event) → NoneBy c es → takes_by c es ≡ []
 no_take c es none = gave_no_take c 0 [] (Give c 0 ∷ (es ++ [])) (record { rest = es; is = refl; others = none })
 
--- a node that is not live in hand is not live
+-- a held node that its caller has as not live is not live in the graph
 pub free_none : {N : Type 0} (sort : Sort) (shows : N → Body) (h : List Event) (x : Hand N) → x.live ≡ false → Matches sort shows h x → record_at (graph_after h) x.node ≡ None
 free_none sort shows h x free matches = (subst (λ t. MatchesIf sort shows t (graph_after h x.node) (frame_after (blank_of sort) h x.node) x.body) free matches.is).0
 
@@ -82,7 +82,7 @@ module _ {N : Type 0} (sort : Sort) (shows : N → Body) (slots c : ℕ) (laws :
     deep = deep_shaping n c changes [] s0 h k steps i so (laws.turns k sound) (laws.parents (so.rest ++ h) (subst (Sound sort BeginsTree TreeStep slots) so.is sound).0) under (inl refl) down.deep;
   }
 
-  -- the node of a path stands as deep as the path does
+  -- the node of a path is as many steps down as its path
   pub path_down : (n place : ℕ) (s0 h : List Event) (taken roots steps : ℕ) (x : Hand N) (o : Option (Hand N)) → IsUnder sort shows place x h o → StandsDown n c s0 h taken roots steps x o → IsDown n c s0 h taken roots steps x.node
   path_down n place s0 h taken roots steps x None under down = down
   path_down n place s0 h taken roots steps x (Some y) under down =
@@ -95,7 +95,7 @@ module _ {N : Type 0} (sort : Sort) (shows : N → Body) (slots c : ℕ) (laws :
   stands_quiet n s0 h k taken roots steps x None sound q down = down_quiet n c s0 h k taken roots steps x.node q (laws.turns k sound) down
   stands_quiet n s0 h k taken roots steps x (Some y) sound q down = (down.0, down.1, down_quiet n c s0 h k taken roots down.0 y.node q (laws.turns k sound) down.2)
 
--- a caller that does nothing, or gives a node if there is one
+-- a caller that does nothing, or releases a node if there is one
 pub quiet_here : (c : ℕ) (h : List Event) → IsQuiet c h h
 quiet_here c h = record { grows = record { rest = []; is = refl }; takes = refl; shapes = tt }
 

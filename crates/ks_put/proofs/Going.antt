@@ -1,4 +1,4 @@
--- How a refusal stays one as a search goes on, whose caller's number is told in another way after each step.
+-- A refusal still holds as a search goes on, with the caller's number restated after each step.
 use Rattle.std.proofs.Common.{◌≡◌, ℕ, List, sym, subst, arith}
 use Rattle.std.specs.Prelude.{IsTrue, None, Result, Ok, Err}
 use Rattle.ks_keysets.specs.Layout.{Layout}

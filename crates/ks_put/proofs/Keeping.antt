@@ -1,4 +1,4 @@
--- How a search stands after it gave one of the nodes in hand.
+-- What still holds of a search after it released one of the nodes that it held.
 use Rattle.std.proofs.Common.{◌≡◌, ◌≢◌, ℕ, ◌⊎◌, true, false, List, [], ◌∷◌, sym, refl, ap, ◌∙◌, subst, inl, inr}
 use Rattle.std.specs.Prelude.{Option, Some, None, IsTrue}
 use mathlib.Core.Logic.{dite}
@@ -58,7 +58,7 @@ module _ {N : Type 0} (sort : Sort) (shows : N → Body) (n c : ℕ) (laws : Law
   parent_apart j None once y e = absurd (let q : ⊥ = cc in q)
   parent_apart j (Some z) once y e = λ same. let q : z ≡ y = cc in once.0 (inl (ap (λ (w : Hand N). w.node) q ∙ same))
 
-  -- a path stays where its nodes and their insets do
+  -- a path stays if its nodes and their insets do
   pub path_stays : (p : ℕ) (h k : List Event) (x : Path N) → Sound sort BeginsTree TreeStep n h → hand c k ≡ hand c h → Kept c h k → KeepsBeside SameInset c h k → StillMatch sort shows (hand c h) h k → IsOnPath sort shows c p h x → IsOnPath sort shows c p k x
   path_stays p h k x sound same kept insets still path = record {
     hands = same ∙ path.hands;
@@ -81,7 +81,7 @@ module _ {N : Type 0} (sort : Sort) (shows : N → Body) (n c : ℕ) (laws : Law
           (λ same. subst (IsLive (graph_after h)) (sym same) (shown_live x.node path.live path.matches))
           (λ other. holds_others c y.node x.node.node h hands (shown_live y under.live under.matches) j other mine)
 
-  -- the parent of a path still stands above its node, which was full, after a claim and a shape that does not name it
+  -- the parent of a path is still above its node, which was full, after a claim and a shape that does not name it
   pub under_later : (p : ℕ) (x x' : Hand N) (h k l : List Event) (o : Option (Hand N)) → x'.node ≡ x.node → IsTrue (is_full sort.layout (shows x.body)) → StillMatch sort shows (hand c h) h k → ((y : Hand N) → o ≡ Some y → Has (hand c h) y.node) → ((y : Hand N) → o ≡ Some y → Matches sort shows k y → Matches sort shows l y) → IsUnder sort shows p x h o → IsUnder sort shows p x' l o
   under_later p x x' h k l None same full still has keep (inl root) = inl (same ∙ root)
   under_later p x x' h k l None same full still has keep (inr room) = absurd (let q : true ≡ false = sym full ∙ room in let z : ⊥ = cc in z)

@@ -48,7 +48,7 @@ holds_true s p so = let t : nat_le s.low p ≡ true = le-leb _ _ so.0 in let u :
 holds_false : (s : Span) (p : ℕ) → ¬ Holds s p → (nat_le s.low p && nat_le p s.last) ≡ false
 holds_false s p outside = false_from_ne_true (nat_le s.low p && nat_le p s.last) (λ t. let both = and_parts (nat_le s.low p) (nat_le p s.last) t in outside (leb-true _ _ both.0, leb-true _ _ both.1))
 
--- where the edge ends that carries the place
+-- where the edge that carries the place ends
 
 end_carried : (es : List Edge) (k p : ℕ) (x : Edge) → Apart es → k < length es → get_or es k x ≡ x → Carries x p → end_at es p ≡ min top x.span.last
 end_carried [] k p x apart lt is so = absurd (omega (arith, lt))
@@ -76,7 +76,7 @@ count_two (e ∷ es) zero (suc l) m x y less near is is' to to' =
     let t : (e.node == m) ≡ true = eq-eqb e.node m (ap (λ (z : Edge). z.node) is ∙ to) in rw t (omega (arith, positive es l m y (omega (arith, near)) is' to'))
 count_two (e ∷ es) (suc k) (suc l) m x y less near is is' to to' = omega (arith, count_two es k l m x y (omega (arith, less)) (omega (arith, near)) is is' to to')
 
--- where one edge at most leads to the node, and leads to it at two places, it ends at the second or above
+-- if one edge at most leads to the node, and at two places, it ends at the second or above
 pub end_above : (r : Record) (p q m : ℕ) → Apart r.edges → edges_to r.edges m ≤ 1 → q ≤ top → LeadsTo r p m → LeadsTo r q m → q ≤ end_at r.edges p
 end_above r p q m apart one place (k, x, lt, is, at) (l, y, lt', is', at') = go (cases k l)
   where
@@ -92,7 +92,7 @@ end_above r p q m apart one place (k, x, lt, is, at) (l, y, lt', is', at') = go 
         let e : end_at r.edges p ≡ min top x.span.last = end_carried r.edges k p x apart lt is at.0 in
         omega (arith, e, last, at'.0.1, place)
 
--- where it leads to another node at a place above, it ends below that
+-- if it leads to another node at a place above, it ends below that
 pub end_below : (r : Record) (p q m o : ℕ) → Apart r.edges → m ≢ o → p < q → LeadsTo r p m → LeadsTo r q o → end_at r.edges p < q
 end_below r p q m o apart other less (k, x, lt, is, at) to =
     let e : end_at r.edges p ≡ min top x.span.last = end_carried r.edges k p x apart lt is at.0 in
@@ -181,7 +181,7 @@ module _ {N : Type 0} (layout : Layout) (shows : N → Body) (place : ℕ) where
       (subst (λ (c : Body). cuts_of (is_full layout c) c.low end' (own_start c) < cuts_of true b.low end (own_start b)) (sym is)
       (lower (is_full layout (split_left cut b)) b.low end (own_start b) end' (own_start (split_left cut b)) (left_less b cut end end' splits top_is above below)))
 
-  -- what is left of it where it leads to its right half itself, under the same parent
+  -- what is left of it if it leads to its right half itself, under the same parent
   pub own_narrower : (path x : Path N) (cut : ℕ) → IsTrue (is_full layout (shows path.node.body)) → cut ≤ end_under layout shows place path.parent → cut < own_start (shows path.node.body) → x.parent ≡ path.parent → (shows x.node.body).low ≡ (shows path.node.body).low → own_start (shows x.node.body) ≡ cut → cuts_left layout shows place x < cuts_left layout shows place path
   own_narrower path x cut full above past same low own =
       let b : Body = shows path.node.body in let c : Body = shows x.node.body in let end : ℕ = end_under layout shows place path.parent in

@@ -1,4 +1,4 @@
--- What a step of a search that waits for nobody tells, by the step down that it made.
+-- What a step of a non-blocking search ensures, from the step down that it made.
 use Rattle.std.proofs.Common.{◌≡◌, ℕ, suc, ◌<◌, ◌≤◌, Bool, true, false, List, sym, ap, ◌∙◌, subst, inl, inr, arith}
 use Rattle.std.specs.Prelude.{Option, Some, None, IsTrue, Result, Ok, Err, length}
 use Rattle.ks_keysets.specs.declared.Frame.{Frame}
@@ -54,11 +54,11 @@ module _ {N : Type 0} (layout : Layout) (shows : N → Body) where
   nearer_down place x depth refused path (Ok step) went = inl went.1
   nearer_down place x depth refused path (Err later) went = tt
 
--- a node that leads on has an edge to start, so it is a branch, if those alone have edges
+-- a node that leads on has an edge to start, so it is a branch, if only branches have edges
 pub no_leaf : (b : Body) (p m : ℕ) → LeadsTo (record_of b) p m → length (edges_of b) ≡ length b.starts → length b.starts ≡ 0 → ⊥
 no_leaf b p m to same none = let some = to.1 in omega (arith, some, same, none)
 
--- what put off an operation by coupling puts it off by any technique that may find the way long
+-- a cause that puts an operation off by coupling puts it off by any technique that may report Far
 
 cause_as : (template : Template) (c : ℕ) (op : Op) (s h : List Event) (later : Later) → FindsFar template → IsCauseButFar coupling c op s h later → IsCauseButFar template c op s h later
 cause_as template c op s h (Busy node holder) finds so = so
@@ -73,7 +73,7 @@ off_later template n c op s h (Busy node holder) finds left so = record { left =
 off_later template n c op s h (Moved node) finds left so = absurd so.0
 off_later template n c op s h Far finds left so = record { left = left; cause = (finds, so.1) }
 
--- where the search of a path ends, its node is no branch
+-- the node of a path at which the search ends is no branch
 module _ {N : Type 0} (sort : Sort) (shows : N → Body) (c p : ℕ) (h : List Event) (x : Path N) (path : IsOnPath sort shows c p h x) (facts : Tree (graph_after h) (frame_after (blank_of sort) h)) (place : p ≤ top) where
   held_in : (o : Option Span) → (frame_after (blank_of sort) h x.node.node).range ≡ o → (first_of o ≤ p) × (p ≤ last_of o)
   held_in None e = (omega arith, omega (arith, place))
@@ -85,7 +85,7 @@ module _ {N : Type 0} (sort : Sort) (shows : N → Body) (c p : ℕ) (h : List E
   pub path_leaf : InOrder (content_of (shows x.node.body)) → next_at (shows x.node.body) p ≡ Here → is_branch (shows x.node.body) ≡ false
   path_leaf order here = ends_at_no_branch (shows x.node.body) p order ranged.0 ranged.1 here
 
--- what is so of coupling is so but for Far
+-- what holds of coupling holds except for Far
 pub but_far : (n c : ℕ) (op : Op) (s h : List Event) (later : Later) → IsCause coupling n c op s h later → IsCauseButFar coupling c op s h later
 but_far n c op s h (Busy node holder) so = so
 but_far n c op s h (Moved node) so = so
@@ -94,7 +94,7 @@ but_far n c op s h Far so = so.0
 pub put_off : (ways : Type 0) (n c place : ℕ) (s h : List Event) (later : Later) → IsCauseAt coupling n c place s h later → IsPutOffBy ways n c place s h later
 put_off ways n c place s h later so = λ op touched. (but_far n c op s h later (so op touched), λ e. so op touched)
 
--- where a search stands at the start of a turn
+-- where a search is at the start of a turn
 module _ {N D : Type 0} (sort : Sort) (shows : N → Body) (Open Grow : Type 0) (Fit : Pass N D → Type 0) (nodes me place : ℕ) (s : List Event) where
   abbrev pub TurnAt : Pass N D → Path N → ℕ → Bool → Type 0
   TurnAt p x d r =

@@ -1,4 +1,4 @@
--- How deep the node of a path stands, and by how many takes the search came there.
+-- How many steps below the root the node of a path is, and by how many takes the search came there.
 use Rattle.std.specs.Prelude.{ℕ, ◌≤◌, suc, List, Option, Some, None}
 use Rattle.ks_history.specs.declared.Event.{Event}
 use Rattle.ks_arena.specs.declared.held.Held.{Held as Hand}
@@ -8,13 +8,13 @@ use Rattle.ks_put.specs.declared.halves.Part.TheVariants.{Split, Refused, Shut}
 use Rattle.ks_shape.specs.Down.{IsDown}
 
 module _ {N : Type 0} (n c : ℕ) (s0 h : List Event) (taken roots steps : ℕ) where
-  -- since s0 c took so many nodes, the root so often at most, and the node lies so many steps deep, as its parent tells if it
-  -- has one; or another caller made a Shape
+  -- since s0 c took `taken` nodes, the root `roots` times at most, and the node is `steps` steps down, or its parent one
+  -- less; or another caller made a Shape
   abbrev pub StandsDown : Hand N → Option (Hand N) → Type 0
   StandsDown x None = IsDown n c s0 h taken roots steps x.node
   StandsDown x (Some y) = (above : ℕ) × (steps ≤ suc above) × IsDown n c s0 h taken roots above y.node
 
-  -- so stands the node of a path, and that of a path after a try to split its node
+  -- so it is for the node of a path, and for that of a path after a try to split its node
   abbrev pub IsDownPath : Path N → Type 0
   IsDownPath path = StandsDown path.node path.parent
 

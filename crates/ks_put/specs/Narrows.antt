@@ -13,12 +13,12 @@ use Rattle.ks_shape.specs.declared.path.Path.{Path}
 use Rattle.ks_put.specs.declared.halves.Part.{Part}
 use Rattle.ks_put.specs.declared.halves.Part.TheVariants.{Split, Refused, Shut}
 
--- where the first of some edges ends that carries the place, or the last place
+-- where the first edge that carries the place ends, or the last place
 abbrev pub end_at : List Edge → ℕ → ℕ
 end_at [] p = top
 end_at (e ∷ es) p = cond (nat_le e.span.low p && nat_le p e.span.last) (min top e.span.last) (end_at es p)
 
--- where an edge of its own begins that a node has which is no branch, or past the last place
+-- where the own edge of a node that is no branch begins, or past the last place
 abbrev pub own_at : Bool → List Start → ℕ
 own_at true ss = 0
 own_at false [] = suc top
@@ -27,13 +27,13 @@ own_at false (s ∷ ss) = s.low
 abbrev pub own_start : Body → ℕ
 own_start b = own_at (is_branch b) b.starts
 
--- a full node of this low can be split less often than this, where what leads to it ends, and its own edge begins, there
+-- a bound on how often a full node can be split, by its low, the end of what leads to it, and the begin of its own edge
 abbrev pub cuts_of : Bool → ℕ → ℕ → ℕ → ℕ
 cuts_of false low end own = 0
 cuts_of true low end own = suc ((top - low) * 36893488147419103232 + (end + min (suc end) own))
 
 module _ {N : Type 0} (layout : Layout) (shows : N → Body) (place : ℕ) where
-  -- where the edge of the parent ends that carries the place
+  -- where the edge of the parent that carries the place ends
   abbrev pub end_under : Option (Hand N) → ℕ
   end_under None = top
   end_under (Some y) = end_at (edges_of (shows y.body)) place

@@ -1,4 +1,4 @@
--- What a search that keeps the parent asks and tells, said of an arena and of a pass before and after.
+-- What a search that keeps the parent requires and ensures, of an arena and of a pass before and after.
 use Rattle.std.specs.Prelude.{ℕ, List, Result}
 use Rattle.ks_node.specs.declared.node.Node.{Ghosts as NodeGhosts}
 use Rattle.ks_node.below.ks_places.specs.declared.Placing.{Ghosts as PlacingGhosts}
@@ -20,7 +20,7 @@ module _ {N D P : Type 0} {n : NodeGhosts N P} {q : PlacingGhosts P} {d : Discip
   abbrev pub IsPartOf : Arena N D P n q d → ℕ → Pass N D → Hand N → Hand N → Type 0
   IsPartOf a place p above x = IsPart (sort_of n.layout n.ranged) n.body place (seen_of p) above x
 
-  -- what a try to split the node of a path tells
+  -- what a try to split the node of a path ensures
   abbrev pub TriedToSplit : Arena N D P n q d → ℕ → Pass N D → Pass N D → Path N → Part N → Type 0
   TriedToSplit a place p p' path part = DidPart (sort_of n.layout n.ranged) n.body a.nodes p.caller place (seen_of p) (seen_of p') path part
 
@@ -28,14 +28,14 @@ module _ {N D P : Type 0} {n : NodeGhosts N P} {q : PlacingGhosts P} {d : Discip
   abbrev pub AllGrow : Arena N D P n q d → Type 0
   AllGrow a = GrowAll n.grows_at n.body n.branches_adopt n.halves_have_room
 
-  -- as deep as a search stood on its path at p, by so many takes, it stands on the other at p'; so after a try to split
+  -- the search is as many steps down at p' as it was at p, by as many takes; so after a try to split
   abbrev pub KeepsDown : Arena N D P n q d → Pass N D → Pass N D → Path N → Path N → Type 0
   KeepsDown a p p' path path' = (start : List Event) (taken roots steps : ℕ) → IsDownPath a.nodes p.caller start (seen_of p) taken roots steps path → IsDownPath a.nodes p.caller start (seen_of p') taken roots steps path'
 
   abbrev pub PartsDown : Arena N D P n q d → Pass N D → Pass N D → Path N → Part N → Type 0
   PartsDown a p p' path part = (start : List Event) (taken roots steps : ℕ) → IsDownPath a.nodes p.caller start (seen_of p) taken roots steps path → IsDownPart a.nodes p.caller start (seen_of p') taken roots steps part
 
-  -- what a search for room between p and p' came to: a node that has the place, or room for it; or a full one without it,
+  -- the result of a search for room between p and p': a node that has the place, or room for it; or a full one without it,
   -- and no node was free
   abbrev pub CameToRoom : Arena N D P n q d → ℕ → Pass N D → Pass N D → Result (Hand N) (Hand N) → Type 0
   CameToRoom a place p p' found = FoundRoom (sort_of n.layout n.ranged) n.body a.nodes p.caller place (seen_of p) (seen_of p') found

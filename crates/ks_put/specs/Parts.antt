@@ -1,4 +1,4 @@
--- What splits ask and tell.
+-- What splits require and ensure.
 use Rattle.std.proofs.Common.{◌≡◌, ℕ, Bool, List, false}
 use Rattle.std.specs.Prelude.{IsTrue, Option, Some, None}
 use Rattle.ks_keysets.specs.Layout.{Layout}
@@ -22,7 +22,7 @@ use Rattle.ks_shape.specs.OnPath.{IsOnPath}
 abbrev pub Grows : (Content → Bool) → Body → Type 0
 Grows can b = IsTrue (can (content_of b))
 
--- a node of this body can do so at the cut, as its type says; and it is no branch, or is one
+-- a test of the node type holds of this body at the cut; and the body is no branch, or is one
 abbrev pub CanAt : (Content → ℕ → Bool) → Body → ℕ → Type 0
 CanAt can b cut = IsTrue (can (content_of b) cut)
 
@@ -32,7 +32,7 @@ LeafCanAt can b cut = (is_branch b ≡ false) × CanAt can b cut
 abbrev pub BranchCanAt : (Content → ℕ → Bool) → Body → ℕ → Type 0
 BranchCanAt can b cut = IsTrue (is_branch b) × CanAt can b cut
 
--- if it is no branch, and can do so at the cut, so can its left part once it is split there
+-- if it is no branch, and the test holds at the cut, so it does of its left part once it is split there
 abbrev pub HalfAdopts : (Content → ℕ → Bool) → Body → ℕ → Type 0
 HalfAdopts can b cut = is_branch b ≡ false → CanAt can b cut → CanAt can (split_left cut b) cut
 
@@ -46,7 +46,7 @@ IsShut (Shut x) = Unit {0}
 abbrev pub GrowAll : {N : Type 0} → (Content → Bool) → (N → Body) → Bool → Bool → Type 0
 GrowAll grows shows adopt halves = ((s : _) → IsTrue (grows (content_of (shows s)))) × IsTrue adopt × IsTrue halves
 
--- the half that is kept is not full; so it is, and needs no parent
+-- the half that is kept is not full; and it is held without a parent
 abbrev pub IsRoomy : {N : Type 0} → Layout → (N → Body) → Part N → Type 0
 IsRoomy layout shows (Split x) = is_full layout (shows x.node.body) ≡ false
 IsRoomy layout shows (Refused x) = Unit {0}
@@ -67,7 +67,7 @@ module _ {N : Type 0} (sort : Sort) (shows : N → Body) where
   abbrev pub IsPart : ℕ → List Event → Hand N → Hand N → Type 0
   IsPart place h above x = LeadsTo (record_of (shows above.body)) place x.node × InInset (graph_after h) x.node place
 
-  -- what a try to split the node of a path tells: the path to the half that holds the place; or the path, since no node
+  -- the result of a try to split the node of a path: the path to the half that holds the place; or the path, since no node
   -- was free, or since there is no way to split it
   abbrev pub DidPart : ℕ → ℕ → ℕ → List Event → List Event → Path N → Part N → Type 0
   DidPart n c place h k path (Split x) = IsOnPath sort shows c place k x

@@ -1,4 +1,4 @@
--- What a search for room comes to that waits for nobody.
+-- The results of a non-blocking search for room.
 use Rattle.std.specs.Prelude.{ℕ, ◌≡◌, ◌<◌, ◌⊎◌, suc, Bool, false, IsTrue, List, [], Option, Some, Result, Ok, Err}
 use Rattle.ks_keysets.specs.Layout.{Layout}
 use Rattle.ks_node.specs.declared.node.Node.{Ghosts as NodeGhosts}
@@ -32,37 +32,37 @@ use Rattle.ks_shape.specs.OnPath.{IsOnPath}
 use Rattle.ks_put.specs.Parts.{HasRoomAbove}
 
 module _ {N : Type 0} (sort : Sort) (shows : N → Body) where
-  -- c, which searches for the place, stands on the path of the step; or it holds nothing
+  -- c, which searches for the place, is on the path of the step; or it holds nothing
   abbrev pub StepOrNone : ℕ → ℕ → List Event → Result (Step N) Later → Type 0
   StepOrNone c place h (Ok step) = IsOnPath sort shows c place h step.path
   StepOrNone c place h (Err later) = hand c h ≡ []
 
 module _ {N : Type 0} (n c place : ℕ) (s0 h : List Event) where
-  -- since s0 c took so many nodes, the root twice at most, and stands as deep on its path as the step tells; or so
+  -- since s0 c took the step's depth + 1 nodes, the root twice at most, and its path is so deep; or its cause is due
   abbrev pub StepOrCause : Result (Step N) Later → Type 0
   StepOrCause (Ok step) = IsDownPath n c s0 h (suc step.depth) 2 step.depth step.path
   StepOrCause (Err later) = IsCauseAt coupling n c place s0 h later
 
--- what put off the operation at the place is so; that Far is, if a way was open to split each full node
+-- the cause that put off the operation at the place is due; Far is, if there was a way to split each full node
 abbrev pub IsPutOffBy : Type 0 → ℕ → ℕ → ℕ → List Event → List Event → Later → Type 0
 IsPutOffBy ways n c place s0 h later = (op : Op) → Touches op place → IsCauseButFar coupling c op s0 h later × (ways → IsCause coupling n c op s0 h later)
 
--- c came to the node where its search ends, as it tells; or it holds nothing
+-- c came to the node where its search ends, as the result says; or it holds nothing
 abbrev pub RoomOrNone : {N : Type 0} → Sort → (N → Body) → ℕ → ℕ → ℕ → List Event → List Event → Result (Result (Hand N) (Hand N)) Later → Type 0
 RoomOrNone sort shows n c place h k (Ok found) = FoundRoom sort shows n c place h k found
 RoomOrNone sort shows n c place h k (Err later) = hand c k ≡ []
 
--- or what put it off is so
+-- or the cause that put it off is due
 abbrev pub RoomOrCause : {N : Type 0} → Type 0 → ℕ → ℕ → ℕ → List Event → List Event → Result (Result (Hand N) (Hand N)) Later → Type 0
 RoomOrCause ways n c place s0 h (Ok found) = Unit {0}
 RoomOrCause ways n c place s0 h (Err later) = IsPutOffBy ways n c place s0 h later
 
--- the step went down from the node x, at this depth, and no claim or none but before was refused; or the search was put off
+-- the step went down from the node x, at this depth, and no claim was refused in it; or the search was put off
 abbrev pub WentDown : {N : Type 0} → Hand N → ℕ → Bool → Result (Step N) Later → Type 0
 WentDown x depth refused (Ok step) = (step.path.parent ≡ Some x) × (step.depth ≡ suc depth) × (step.refused ≡ refused)
 WentDown x depth refused (Err later) = Unit {0}
 
--- the step stands above the depth that no way passes
+-- the depth of the step is less than the number of nodes
 abbrev pub IsNear : {N : Type 0} → ℕ → Result (Step N) Later → Type 0
 IsNear n (Ok step) = step.depth < n
 IsNear n (Err later) = Unit {0}
@@ -90,11 +90,11 @@ module _ {N D P : Type 0} {n : NodeGhosts N P} {q : PlacingGhosts P} {d : Discip
   abbrev pub StepsOrNone : Arena N D P n q d → ℕ → ℕ → Pass N D → Result (Step N) Later → Type 0
   StepsOrNone a c place p result = StepOrNone (sort_of n.layout n.ranged) n.body c place (seen_of p) result
 
-  -- a search that stands on the path at p, at this depth, stands as its step tells at p'; or what put it off is so
+  -- a search that is on the path at p, at this depth, is where its step says at p'; or the cause that put it off is due
   abbrev pub OnOrCause : Arena N D P n q d → ℕ → Pass N D → Pass N D → ℕ → Path N → Result (Step N) Later → Type 0
   OnOrCause a place p p' depth path result = (start : List Event) → IsDownPath a.nodes p.caller start (seen_of p) (suc depth) 2 depth path → StepOrCause a.nodes p.caller place start (seen_of p') result
 
-  -- what a search for room between p and p' came to that waits for nobody; what put it off, since whatever moment
+  -- the result of a non-blocking search for room between p and p'; what put it off, since whatever moment
   abbrev pub TriesRoom : Arena N D P n q d → ℕ → Pass N D → Pass N D → Result (Result (Hand N) (Hand N)) Later → Type 0
   TriesRoom a place p p' result = RoomOrNone (sort_of n.layout n.ranged) n.body a.nodes p.caller place (seen_of p) (seen_of p') result
 
@@ -106,7 +106,7 @@ module _ {N D P : Type 0} {n : NodeGhosts N P} {q : PlacingGhosts P} {d : Discip
   FinishesTry a op p p' answer = (template : Template) (start : List Event) → FindsFar template → TookSince p.caller start (seen_of p) 0 1 → Underway template p.caller op start (seen_of p) →
       TriedPut n.layout template a.nodes p.caller op start (seen_of p') answer
 
-  -- so it is whatever its nodes, but for the cause of Far
+  -- so it is whatever its nodes, except for the cause of Far
   abbrev pub EndsTry : Arena N D P n q d → Op → Pass N D → Pass N D → Result Numbered PutLater → Type 0
   EndsTry a op p p' answer = (template : Template) (start : List Event) → FindsFar template → TookSince p.caller start (seen_of p) 0 1 → Underway template p.caller op start (seen_of p) →
       EndsPut n.layout template a.nodes p.caller op start (seen_of p') answer

@@ -15,8 +15,8 @@ use ks_keysets::Span;
 use ks_node::{Unlinked, node_law, unlinked_law};
 use ks_shape::search_law;
 
-/// The cut of a full root. If no node of the type grows in place, the root grows, or is no branch and can adopt it; a branch
-/// grows, if all nodes do.
+/// The cut of a full root. If no node of the type grows in place, and all nodes grow if the root is a branch, the root
+/// grows, or is no branch and can adopt it.
 pub(crate) fn cut_of_root<N: Unlinked>(
     arena: &Arena<N, Tree>,
     pass: &Pass<N, Tree>,
@@ -44,8 +44,8 @@ pub(crate) fn cut_of_root<N: Unlinked>(
     root.body.cut(Some(all))
 }
 
-/// The cut of a full node below its parent, which leads to it at the place. If no node of the type grows in place, the node
-/// can adopt it and is no branch, or the parent, a branch, can: it can where all nodes grow, unless it is full.
+/// The cut of a full node below its parent, which leads to it at the place. If no node of the type grows in place, all
+/// grow if the node is a branch, and the parent is not full if all grow, the node, no branch, or the parent can adopt it.
 pub(crate) fn cut_below<N: Unlinked>(
     arena: &Arena<N, Tree>,
     pass: &Pass<N, Tree>,

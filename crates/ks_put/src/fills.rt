@@ -14,8 +14,8 @@ use ks_node::Unlinked;
 use ks_shape::{Fill, Full, Numbered, fill_at};
 use std::sync::Wait;
 
-/// Puts or adds a value at a place. Answers the number of the call, and the value that stood there; or that the node is full
-/// and none was found free. It ends a call by any template, and does not tell the gate that one begins.
+/// Puts or adds a value at a place. Returns the number of the call, and the value that was there; or that the node is
+/// full and none was found free. It ends a call by any template, and does not notify the gate that one begins.
 pub fn pair_fill<N: Unlinked, R: Wait, G: Gate>(
     rt: &R,
     arena: &Arena<N, Tree>,

@@ -17,7 +17,7 @@ use ks_gate::{Gate, Point};
 use ks_node::Unlinked;
 use ks_shape::{Path, keep_alone, let_go, search_law};
 
-/// What a try to split the node of a path came to.
+/// The result of a try to split the node of a path.
 pub(crate) enum Part<N> {
     /// It was split; the path goes to the half that holds the place.
     Split(Path<N>),
@@ -27,7 +27,7 @@ pub(crate) enum Part<N> {
     Shut(Path<N>),
 }
 
-/// Gives one of two halves to which the parent leads, and keeps the one that holds the place.
+/// Releases one of two halves to which the parent leads, and keeps the one that holds the place.
 pub(crate) fn keep_half<N: Unlinked, G: Gate>(
     arena: &Arena<N, Tree>,
     pass: &mut Pass<N, Tree>,
@@ -76,7 +76,7 @@ pub(crate) fn keep_half<N: Unlinked, G: Gate>(
     }
 }
 
-/// Keeps the full right half of a node that leads to it itself; the node is its parent, and the parent of the node is given.
+/// Keeps the full right half of a node that leads to it itself and becomes its parent; releases the node's old parent.
 pub(crate) fn keep_right<N: Unlinked, G: Gate>(
     arena: &Arena<N, Tree>,
     pass: &mut Pass<N, Tree>,
@@ -117,7 +117,7 @@ pub(crate) fn keep_right<N: Unlinked, G: Gate>(
     }
 }
 
-/// Keeps the right half, which is not full, of a node that leads to it itself; the node is given, and then its parent.
+/// Keeps the right half, which is not full, of a node that leads to it itself; releases the node, and then its parent.
 pub(crate) fn keep_right_alone<N: Unlinked, G: Gate>(
     arena: &Arena<N, Tree>,
     pass: &mut Pass<N, Tree>,
@@ -151,7 +151,7 @@ pub(crate) fn keep_right_alone<N: Unlinked, G: Gate>(
     Path { parent: None, node }
 }
 
-/// Gives the parent of a node that is not full: it has no need of it.
+/// Releases the parent of a node that is not full, which does not need it.
 #[inline(always)]
 pub(crate) fn settle<N: Unlinked, G: Gate>(
     arena: &Arena<N, Tree>,

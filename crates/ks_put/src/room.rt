@@ -17,8 +17,8 @@ use ks_node::{Next, Unlinked};
 use ks_shape::{Path, enter, give_last, has_room, let_go, step_down, tree_end_law};
 use std::sync::Wait;
 
-/// Gives the parent, and takes the child, whose parent then is the node, unless the child is not full and needs none: so the
-/// root is held no longer than it takes to see that.
+/// Releases the parent, and takes the child; keeps the node as its parent only if the child is full and needs one. So
+/// the root is held only until that is known.
 #[inline(always)]
 fn down<N: Unlinked, R: Wait, G: Gate>(
     rt: &R,
@@ -43,8 +43,8 @@ fn down<N: Unlinked, R: Wait, G: Gate>(
     settle(arena, pass, gate, place, below)
 }
 
-/// Goes on to the child. A full branch is split before, if there is a way and a claim is not refused: then the search looks
-/// again. Tells whether no node was free.
+/// Goes on to the child. A full branch is split before, if there is a way and a claim is not refused: then the search
+/// looks again. Returns whether no node was free.
 #[inline(always)]
 fn go_on<N: Unlinked, R: Wait, G: Gate>(
     rt: &R,
@@ -78,7 +78,7 @@ fn go_on<N: Unlinked, R: Wait, G: Gate>(
     }
 }
 
-/// Gives what is held, and takes the root again.
+/// Releases what is held, and takes the root again.
 #[inline(never)]
 fn begin_again<N: Unlinked, R: Wait, G: Gate>(
     rt: &R,
@@ -101,7 +101,7 @@ fn begin_again<N: Unlinked, R: Wait, G: Gate>(
     enter(rt, arena, pass, gate, place)
 }
 
-/// Gives the parent of the node where the search ends.
+/// Releases the parent of the node where the search ends.
 #[inline(always)]
 pub(crate) fn come_to_end<N: Unlinked, G: Gate>(
     arena: &Arena<N, Tree>,
@@ -125,9 +125,9 @@ pub(crate) fn come_to_end<N: Unlinked, G: Gate>(
     held
 }
 
-/// Takes the node at which the search for a place ends, and holds it alone: it has the place, or room for it. `Err`: it is
-/// full and has not the place, and no node was found free. Full nodes are split on the way and at the end. It does not tell
-/// the gate that a call begins.
+/// Takes the node at which the search for a place ends, and holds no other: it has the place, or room for it. `Err`: it
+/// is full, lacks the place, and no node was found free. Full nodes are split on the search path and at its end. It
+/// does not notify the gate that a call begins.
 pub fn make_room<N: Unlinked, R: Wait, G: Gate>(
     rt: &R,
     arena: &Arena<N, Tree>,

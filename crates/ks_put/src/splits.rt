@@ -148,8 +148,8 @@ pub(crate) fn split_alone<N: Unlinked, G: Gate>(
     Part::Split(keep_right_alone(arena, pass, gate, place, path, right))
 }
 
-/// Splits the full root: it grows, or leads to its right half itself. One of the two can be, if no node of the type grows in
-/// place, and all nodes grow if it is a branch.
+/// Splits the full root: it grows, or leads to its right half itself. One of the two is possible if no node of the type
+/// grows in place, and all nodes grow if it is a branch.
 pub(crate) fn split_root<N: Unlinked, G: Gate>(
     arena: &Arena<N, Tree>,
     pass: &mut Pass<N, Tree>,
@@ -188,8 +188,8 @@ pub(crate) fn split_root<N: Unlinked, G: Gate>(
     split_alone(arena, pass, gate, place, cut, path)
 }
 
-/// Splits the full node under its parent, or by itself. One of the two can be, if no node of the type grows in place, all
-/// nodes grow if it is a branch, and the parent is not full if all nodes grow.
+/// Splits the full node under its parent, or by itself. One of the two is possible if no node of the type grows in
+/// place, all nodes grow if it is a branch, and the parent is not full if all nodes grow.
 pub(crate) fn split_child<N: Unlinked, G: Gate>(
     arena: &Arena<N, Tree>,
     pass: &mut Pass<N, Tree>,
@@ -232,7 +232,7 @@ pub(crate) fn split_child<N: Unlinked, G: Gate>(
     split_alone(arena, pass, gate, place, cut, path)
 }
 
-/// Splits the full node of a path, if there is a way and a claim is not refused, and gives the half that has not the place.
+/// Splits the full node of a path, if there is a way and a claim succeeds, and releases the half without the place.
 fn split_whole<N: Unlinked, G: Gate>(
     arena: &Arena<N, Tree>,
     pass: &mut Pass<N, Tree>,
@@ -262,8 +262,8 @@ fn split_whole<N: Unlinked, G: Gate>(
     }
 }
 
-/// Splits the full node of a path, if there is a way and a claim is not refused. The half that has not the place is given,
-/// and the parent once the kept half is not full; a node that leads to its full right half itself stays as the parent of it.
+/// Splits the full node of a path, if there is a way and a claim succeeds. Releases the half without the place, and the
+/// parent once the kept half is not full; a node that leads to its full right half itself stays as the parent of it.
 #[inline(never)]
 pub(crate) fn split<N: Unlinked, G: Gate>(
     arena: &Arena<N, Tree>,

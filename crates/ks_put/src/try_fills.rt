@@ -1,4 +1,4 @@
-//! Puts and adds that wait for nobody: a search for room, and then the Call.
+//! Non-blocking puts and adds: a search for room, and then the Call.
 ghost use Rattle.std.specs.Prelude.{◌≡◌, false};
 ghost use Rattle.ks_arena.specs.Of.{IsEmptyPassOf, SameCaller};
 ghost use Rattle.ks_shape.specs.Fills.{filling};
@@ -12,14 +12,14 @@ use ks_gate::Gate;
 use ks_node::Unlinked;
 use ks_shape::{Fill, Numbered, PutLater, fill_at, not_put_off};
 
-/// Puts or adds a value at a place, and waits for nobody. Answers the number of the call, and the value that stood there. It
-/// ends a call by coupling or by giving up, and does not tell the gate that one begins.
+/// Puts or adds a value at a place without waiting. Returns the number of the call, and the value that was there. It
+/// ends a call by coupling or by giving up, and does not notify the gate that one begins.
 ///
 /// # Errors
 ///
-/// `Full` where the node is full and none was found free; splits that were made before stay. `Busy` where another caller
-/// holds the next node on the way; `Far` where as many nodes were taken as there are, while another caller changed some. Then
-/// the call is none of the history, and splits stay.
+/// `Full` if the node is full and none was found free; splits that were made before stay. `Busy` if another caller
+/// holds the next node on the search path; `Far` if as many nodes were taken as there are, while another caller changed
+/// some. Then the call is none of the history, and splits stay.
 pub fn try_pair_fill<N: Unlinked, G: Gate>(
     arena: &Arena<N, Tree>,
     pass: &mut Pass<N, Tree>,

@@ -1,5 +1,5 @@
-//! The search for room for a place that waits for nobody. A take that finds a node busy puts it off, and so does a way as
-//! long as there are nodes; its own splits make no way longer.
+//! The non-blocking search for room for a place. It is put off if it finds a node busy, or if it took as many nodes as
+//! there are; its own splits do not lengthen the search path.
 ghost use Rattle.std.specs.Prelude.{◌≡◌, ◌<◌, false};
 ghost use Rattle.ks_node.specs.declared.start.Next.TheVariants.{Go};
 ghost use Rattle.ks_node.specs.Body.{next_at};
@@ -21,14 +21,14 @@ use ks_shape::{
     Later, Path, child_law, give_last, has_room, let_go, search_law, try_enter, try_step_down,
 };
 
-/// Where a search stands after a step: on its path, so many nodes below the root, after a claim was refused or not.
+/// Where a search is after a step: its path, how many nodes below the root, and whether a claim was refused.
 pub(crate) struct Step<N> {
     path: Path<N>,
     depth: u32,
     refused: bool,
 }
 
-/// Gives all that is held.
+/// Releases all that is held.
 fn let_all_go<N: Unlinked, G: Gate>(
     arena: &Arena<N, Tree>,
     pass: &mut Pass<N, Tree>,
@@ -47,7 +47,7 @@ fn let_all_go<N: Unlinked, G: Gate>(
     give_last(arena, pass, gate, held);
 }
 
-/// Gives the parent, and takes the child, unless another caller holds it, or as many nodes were taken as there are.
+/// Releases the parent, and takes the child, unless another caller holds it, or as many nodes were taken as there are.
 fn try_down<N: Unlinked, G: Gate>(
     arena: &Arena<N, Tree>,
     pass: &mut Pass<N, Tree>,
@@ -136,9 +136,9 @@ fn try_go_on<N: Unlinked, G: Gate>(
     }
 }
 
-/// Takes the node at which the search for a place ends, and holds it alone, as `make_room` does, but waits for nobody: or it
-/// holds nothing. It ends without a count of turns: each goes a node down, of as many as there are, or splits one, and so
-/// narrows what may lie at it.
+/// Takes the node at which the search for a place ends, and holds no other, as `make_room` does, but without waiting;
+/// if put off it holds nothing. It ends without a count of turns: each goes a node down, of as many as there are, or
+/// splits one, and so lessens how often it can be split.
 pub(crate) fn try_make_room<N: Unlinked, G: Gate>(
     arena: &Arena<N, Tree>,
     pass: &mut Pass<N, Tree>,

@@ -1,4 +1,4 @@
-//! Tests of puts and dels by pairs, and of calls that wait for nobody.
+//! Tests of puts and dels by pairs, and of non-blocking calls.
 #![tactic(auto)]
 
 #[cfg(test)]

@@ -1,4 +1,4 @@
-//! A try that comes to a node which another caller merges away meanwhile: two callers on threads, where one stands.
+//! A try that comes to a node which another caller merges away meanwhile: two callers on threads, one of them stopped.
 ghost use Rattle.ks_arena.specs.Of.{IsEmptyPassOf};
 
 use crate::tries::two_callers;
@@ -16,12 +16,12 @@ use std::thread::{Threads, join};
 
 type Leaf = WithRange<BNode>;
 
-/// Caller 1 stands, once it has given the root back with the number of node 2 in mind, until caller 0 has made so many calls.
+/// Caller 1 is stopped, with the root released and the number of node 2, until caller 0 has made `calls` calls.
 fn stand_for(calls: u64) -> Stand {
     Stand::of(1, 0, Point::Given(0), 0, calls, 50_000_000)
 }
 
-/// The get of place 8 that waits for nobody.
+/// The non-blocking get of place 8.
 fn try_eight(
     arena: &Arena<Leaf, Tree>,
     mut pass: Pass<Leaf, Tree>,
@@ -61,7 +61,7 @@ fn del_put_and_get<R: Wait>(
     ([deleted, got], stood)
 }
 
-/// Caller 0 merges the node away while caller 1 is on its way there.
+/// Caller 0 merges the node away while caller 1 is about to take it.
 fn merge_meanwhile<R: Threads + Wait + Sync>(
     rt: &R,
     arena: &Arena<Leaf, Tree>,
@@ -83,7 +83,7 @@ fn merge_meanwhile<R: Threads + Wait + Sync>(
     )
 }
 
-/// Caller 0 merges the node away and uses it again while caller 1 is on its way there.
+/// Caller 0 merges the node away and uses it again while caller 1 is about to take it.
 fn use_again_meanwhile<R: Threads + Wait + Sync>(
     rt: &R,
     arena: &Arena<Leaf, Tree>,
@@ -114,7 +114,7 @@ fn told(number: u64, found: Option<u128>) -> Numbered {
     Numbered { number, found }
 }
 
-/// The node is free when caller 1 comes to it.
+/// The node is free when caller 1 tries to take it.
 #[test]
 fn a_node_that_was_merged_away_has_moved(rt: HostRuntime) -> Result<(), Fail> {
     let (arena, mut one, two) = two_callers::<Leaf>(rt.alloc(), 64)?;
@@ -127,7 +127,7 @@ fn a_node_that_was_merged_away_has_moved(rt: HostRuntime) -> Result<(), Fail> {
     Ok(())
 }
 
-/// The node is live again when caller 1 comes to it, with a range that does not hold the place.
+/// The node is live again when caller 1 tries to take it, with a range that does not hold the place.
 #[test]
 fn a_node_that_is_used_again_has_moved(rt: HostRuntime) -> Result<(), Fail> {
     let (arena, mut one, two) = two_callers::<Leaf>(rt.alloc(), 64)?;

@@ -1,4 +1,4 @@
-//! Puts over hash nodes that wait for nobody: no full node of theirs grows in place, so what is promised where none does is
+//! Non-blocking puts over hash nodes: no full node of theirs grows in place, so what is promised if none does is
 //! promised here with no premise.
 ghost use Rattle.std.specs.Prelude.{◌≡◌};
 ghost use Rattle.ks_history.specs.declared.Op.TheVariants.{Put};

@@ -1,4 +1,4 @@
-//! Tests of calls that wait for nobody, by lock coupling and by giving up.
+//! Tests of non-blocking calls, by lock coupling and by giving up.
 ghost use Rattle.std.specs.Prelude.{◌≡◌, ◌≤◌, ◌<◌, IfOk};
 ghost use Rattle.ks_flow.specs.Discipline.{BeginsTree};
 ghost use Rattle.ks_arena.specs.Sound.{blank_of, sort_of};
@@ -67,7 +67,7 @@ pub(crate) fn two_callers<N: Unlinked>(
     Ok((arena, one, two))
 }
 
-/// What caller 1 is told at places 0 and 16 while caller 0 holds node 1.
+/// The results that caller 1 gets at places 0 and 16 while caller 0 holds node 1.
 fn beside_a_holder<N: Unlinked>(
     arena: &Arena<N, Tree>,
     one: &mut Pass<N, Tree>,

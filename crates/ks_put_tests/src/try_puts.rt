@@ -1,4 +1,4 @@
-//! Tests of puts and adds that wait for nobody, by lock coupling and by giving up.
+//! Tests of non-blocking puts and adds, by lock coupling and by giving up.
 ghost use Rattle.std.specs.Prelude.{◌≡◌, ◌<◌};
 ghost use Rattle.ks_arena.specs.Of.{IsEmptyPassOf, nodes_of};
 
@@ -92,7 +92,7 @@ fn nine_places_of_one_slice_fill_eight_nodes_at_once(rt: HostRuntime) -> Result<
     Ok(())
 }
 
-/// What caller 1 is told of a put at place 0 while caller 0 holds node 1.
+/// The result of caller 1's put at place 0 while caller 0 holds node 1.
 fn put_beside_a_holder<N: Unlinked>(
     arena: &Arena<N, Tree>,
     one: &mut Pass<N, Tree>,

@@ -52,7 +52,7 @@ fn finds_all(graph: &Graph) -> bool {
     true
 }
 
-/// Whether the edges of the node lead to live nodes, and each of its pairs stands once, where its place ends.
+/// Whether the edges of the node lead to live nodes, and each of its pairs is there once, where its place ends.
 fn stands(graph: &Graph, node: u32) -> bool {
     let Some(record) = record_at(graph, node) else {
         return true;
@@ -76,7 +76,7 @@ fn is_good(graph: &Graph) -> bool {
     finds_all(graph) && (0..9u32).all(|node| stands(graph, node))
 }
 
-/// The next of a row of numbers that look drawn.
+/// The next of a row of pseudo-random numbers.
 fn drawn(number: u64) -> u64 {
     let mixed = number.wrapping_mul(6364136223846793005);
     mixed.wrapping_add(1442695040888963407)
@@ -106,7 +106,7 @@ fn edge_at(graph: &Graph, node: u32, place: u64) -> Option<Edge> {
     None
 }
 
-/// The node that the place comes to after so many steps, or where its walk ends before.
+/// The node that the place comes to after this number of steps, or where its walk ends before.
 fn walked(graph: &Graph, place: u64, steps: u64) -> Visit {
     let mut at = Visit {
         node: 0,
@@ -133,7 +133,7 @@ fn comes(graph: &Graph, place: u64, node: u32) -> bool {
     (0..9u64).any(|steps| walked(graph, place, steps).node == node)
 }
 
-/// A shape at a node on the way of a drawn place, and the nodes that it names; none where it has no room or no sense.
+/// A shape at a node on the path of a drawn place, and the nodes that it names; none if it has no room or no sense.
 fn shape(alloc: Global, graph: &mut Graph, number: u64) -> Result<[u32; 3], AllocError> {
     let place = (number >> 8) % 33;
     let at = walked(graph, place, (number >> 16) % 4);

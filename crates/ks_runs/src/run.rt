@@ -10,8 +10,8 @@ pub(crate) enum Call {
     Del,
 }
 
-/// So many calls of one kind, from the first place on and a stride apart. The first has a number in the history, each
-/// other the next. What is put or added is the place itself.
+/// A number of calls of one kind, from the first place on and a stride apart. The first has a number in the history,
+/// each other the next. What is put or added is the place itself.
 #[derive(Clone, Copy)]
 pub struct Run {
     pub(crate) call: Call,
@@ -22,7 +22,7 @@ pub struct Run {
 }
 
 impl Run {
-    /// The first calls of an arena are so many puts.
+    /// The first calls of an arena are `many` puts.
     pub fn puts(first: u64, many: u64, stride: u64) -> Run {
         Run {
             call: Call::Put,
@@ -33,7 +33,7 @@ impl Run {
         }
     }
 
-    /// The first calls of an arena are so many adds.
+    /// The first calls of an arena are `many` adds.
     pub fn adds(first: u64, many: u64, stride: u64) -> Run {
         Run {
             call: Call::Add,
@@ -41,7 +41,7 @@ impl Run {
         }
     }
 
-    /// The first calls of an arena are so many gets.
+    /// The first calls of an arena are `many` gets.
     pub fn gets(first: u64, many: u64, stride: u64) -> Run {
         Run {
             call: Call::Get,
@@ -49,7 +49,7 @@ impl Run {
         }
     }
 
-    /// The first calls of an arena are so many dels.
+    /// The first calls of an arena are `many` dels.
     pub fn dels(first: u64, many: u64, stride: u64) -> Run {
         Run {
             call: Call::Del,
@@ -62,12 +62,12 @@ impl Run {
         Run { number, ..self }
     }
 
-    /// The place of the call that comes after so many others.
+    /// The place of the call that comes after `count` others.
     pub(crate) fn place(&self, count: u64) -> u64 {
         count.wrapping_mul(self.stride).wrapping_add(self.first)
     }
 
-    /// What a call is to be told that comes after so many others, where this stands at its place.
+    /// The result that a call is to have after `count` others, if `found` is at its place.
     pub(crate) fn told(&self, count: u64, found: Option<u128>) -> Numbered {
         Numbered {
             number: self.number.wrapping_add(count),

@@ -30,7 +30,7 @@ fn call_at<T: Template<N, A>, N: Node, A: Shelf, R: Wait>(
     }
 }
 
-/// Makes the calls of a run. Tells whether puts and adds found nothing at their places, gets and dels what a put has
+/// Makes the calls of a run. Returns whether puts and adds found nothing at their places, gets and dels what a put has
 /// left, and the numbers are those of the run.
 pub fn each<T: Template<N, A>, N: Node, A: Shelf, R: Wait>(
     rt: &R,

@@ -1,4 +1,4 @@
-//! Runs of calls that wait for nobody.
+//! Runs of non-blocking calls.
 ghost use Rattle.std.specs.Prelude.{◌≡◌};
 ghost use Rattle.ks_arena.specs.Of.{SameCaller};
 ghost use Rattle.ks_shape.specs.Idle.{IsIdle};
@@ -9,8 +9,8 @@ use ks_gate::NoGate;
 use ks_node::Node;
 use ks_shape::{Shelf, Template};
 
-/// Makes the puts of a run, and after each an add, which changes nothing, and a get. Tells whether all are told so, none
-/// is put off, and their numbers follow one another.
+/// Makes the puts of a run, and after each an add, which changes nothing, and a get. Returns whether each has that
+/// result, none is put off, and their numbers follow one another.
 pub fn try_each<T: Template<N, A>, N: Node, A: Shelf>(
     arena: &A,
     pass: &mut Pass<N, T::Rule>,

@@ -1,4 +1,4 @@
--- What each step asks and tells.
+-- What each step requires and ensures.
 use Rattle.std.proofs.Common.{zero, suc, ◌≡◌, ◌≢◌, ℕ, ◌+◌, ◌%◌, ◌^◌, ◌<◌, ◌≤◌, ◌⊎◌, List, [], ◌∷◌, ◌++◌, length, get_or, map, set, sym, refl, ap, ◌∙◌, subst, inl, inr, ⊎_elim, arith, length-set, get_or-set_other, get_or-set_same}
 use Rattle.std.specs.Prelude.{Option, Some}
 use mathlib.Core.Option.{none, some, some-injective, some-ne-none}
@@ -15,7 +15,7 @@ use Rattle.ks_tickets.specs.Plays.{Seated, drawn, closed}
 use Rattle.ks_tickets.proofs.Numbers.{moved_numbers, split_numbers, join_numbers, first_numbers}
 use Rattle.ks_tickets.proofs.Totals.{total_set, term_le, all_in_one, times_here, times_else, times_append, none_times, two_terms, one_gone}
 
--- how often t stands in lists of the views, where one view has become another
+-- how often t is in lists of the views, once one view has become another
 same_drawn : (vs : List View) (id : ℕ) (v w : View) (t : ℕ) → get_elem? vs id ≡ some v → times t w.drawn ≡ times t v.drawn → drawn_times t (set vs id w) ≡ drawn_times t vs
 same_drawn vs id v w t at e = let s = total_set (λ (u : View). times t u.drawn) vs id v w at in omega arith
 
@@ -25,7 +25,7 @@ same_held vs id v w t at e = let s = total_set (λ (u : View). times t u.held) v
 later_fits : (n w w' : ℕ) (v : View) → w ≤ w' → Fits n w v → Fits n w' v
 later_fits n w w' v le so = record { ended = so.ended; past = λ z. (let p = so.past z in omega arith); known = (let p = so.known in omega arith); among = so.among; spent = so.spent }
 
--- fewer desks have ended than there are parts, where one with a part has not
+-- fewer desks have ended than there are parts, if one with a part has not
 ends_below : (vs : List View) → ((j : ℕ) (v : View) → get_elem? vs j ≡ some v → v.ended ≤ v.parts) → total (λ v. v.ended) vs ≤ total (λ v. v.parts) vs
 ends_below [] so = omega arith
 ends_below (x ∷ xs) so = let a : x.ended ≤ x.parts = so 0 x refl in let b = ends_below xs (λ j v at. so (suc j) v at) in omega arith
@@ -70,7 +70,7 @@ module _ {J : Type 0} (waits finished : J → ℕ → Type 0) where
   is_done t w f x d h before none_held (inr (inl so)) = absurd (let p = so.open_there in omega arith)
   is_done t w f x d h before none_held (inr (inr so)) = so
 
-  -- one view has become another, and with it one word and the slot of ticket i alone
+  -- only one view, one word and the slot of ticket i have changed
   record Moved (s : State (Option J) View) (id : ℕ) (v u : View) (i : ℕ) (s' : State (Option J) View) : Type 0 where
     pub views : s'.views ≡ set s.views id u
     pub wide : length s'.words ≡ length s.words

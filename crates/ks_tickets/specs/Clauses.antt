@@ -1,4 +1,4 @@
--- What the calls ask and tell.
+-- What the calls require and ensure.
 use Rattle.std.specs.Prelude.{◌≡◌, ◌≢◌, ℕ, ◌<◌, List, [], ◌∷◌, length, Option, Some, None}
 use mathlib.Core.Option.{some}
 use lib.ListN.{get_elem?}
@@ -13,7 +13,7 @@ module _ {J : Type 0} where
   abbrev pub jobs_of : Tickets J → ℕ
   jobs_of tickets = tickets.jobs
 
-  -- the table of words and slots on which they stand
+  -- the table that has their words and slots
   abbrev pub table_of : Tickets J → TableId
   table_of tickets = tickets.table.shared.table_id
 

@@ -1,15 +1,15 @@
--- What each step tells its desk.
+-- What each step ensures for its desk.
 use Rattle.std.specs.Prelude.{◌≡◌, ℕ, ◌<◌, ◌≤◌, [], ◌∷◌, Option, Some}
 use Rattle.atomic_table.specs.Table.{Me, Step}
 use Rattle.ks_tickets.specs.declared.view.View.{View}
 use Rattle.ks_tickets.specs.Rule.{drew, stopped, cleared}
 
--- a desk as a step finds or leaves it: what is known of it, and the slots in its hands
+-- a desk as a step finds or leaves it: what is known of it, and the slots that it holds
 abbrev pub Seated : Type 0 → Type 0
 Seated J = Me (Option J) View
 
 module _ {J : Type 0} (waits : J → ℕ → Type 0) where
-  -- a draw took ticket r: the job that waited under it is in hand
+  -- a draw took ticket r: the desk has the job that waited under it
   pub record Drew (r : ℕ) (m m' : Seated J) : Type 0 where
     pub view : m'.0 ≡ drew r m.0
     pub job : J

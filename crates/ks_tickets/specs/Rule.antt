@@ -11,12 +11,12 @@ abbrev pub total : {A : Type 0} → (A → ℕ) → List A → ℕ
 total f [] = 0
 total f (x ∷ xs) = f x + total f xs
 
--- how often x stands in the list
+-- how often x is in the list
 abbrev pub times : ℕ → List ℕ → ℕ
 times x [] = 0
 times x (y ∷ ys) = (if y == x then 1 else 0) + times x ys
 
--- in how many lists of drawn tickets ticket t stands, and at how many desks it is open
+-- how often ticket t is in the lists of drawn tickets, and at how many desks it is open
 abbrev pub drawn_times : ℕ → List View → ℕ
 drawn_times t vs = total (λ v. times t v.drawn) vs
 
@@ -46,7 +46,7 @@ pub record Numbered (vs : List View) : Type 0 where
   pub maker : (j : ℕ) (v : View) → get_elem? vs j ≡ some v → v.made ≢ 0 → made_in vs ≡ v.made
 
 module _ {J : Type 0} (waits finished : J → ℕ → Type 0) where
-  -- ticket t, of which w draws were made, with this word and slot, drawn and open so many times
+  -- ticket t, of which w draws were made, with this word and slot, drawn and open this number of times
   pub record Waiting (t w word : ℕ) (slot : maybe.Option (maybe.Option (Option J))) (drawn held : ℕ) : Type 0 where
     pub later : w ≤ t
     pub word_is : word ≡ 0
@@ -95,7 +95,7 @@ module _ {J : Type 0} (waits finished : J → ℕ → Type 0) where
 abbrev pub first_view : View
 first_view = record { parts = 64; ended = 0; known = 0; desks = 0 ∷ []; made = 1; drawn = []; held = [] }
 
--- a desk gives one part to a new one, and the next number
+-- a desk passes one part to a new one, and the next number
 abbrev pub maker_view : View → View
 maker_view v = record { parts = v.parts - 1; ended = v.ended; known = v.known; desks = v.desks; made = v.made + 1; drawn = v.drawn; held = v.held }
 

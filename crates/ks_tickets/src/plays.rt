@@ -1,4 +1,4 @@
-//! What each step tells. These types are for the proofs alone.
+//! What each step ensures. These types serve proofs only.
 ghost use Rattle.ks_tickets.specs.Rule.{maker_view, next_view, both_views, spent_view};
 ghost use Rattle.ks_tickets.specs.Plays.{drawn, closed};
 

@@ -73,7 +73,7 @@ impl<J: Ticketed> Tickets<J> {
     ///
     /// # Errors
     ///
-    /// Want of memory alone. The jobs are dropped.
+    /// Only lack of memory. The jobs are dropped.
     pub fn start(
         alloc: Global,
         jobs: Vec<J>,
@@ -101,7 +101,7 @@ impl<J: Ticketed> Tickets<J> {
         Ok((tickets, desks))
     }
 
-    /// Draws the next ticket and its job, or `None` where each ticket was drawn before: then the desk has ended.
+    /// Draws the next ticket and its job, or `None` if each ticket was drawn before: then the desk has ended.
     pub fn draw(&self, desk: &mut Desk<J>) -> Option<(u32, J)>
         requires { IsFree self.now desk.old }
         ensures same { IsSameDesk desk.old desk.new }
@@ -125,7 +125,7 @@ impl<J: Ticketed> Tickets<J> {
         }
     }
 
-    /// Gives back the job whose ticket is open at the desk, which has run.
+    /// Puts back the job whose ticket is open at the desk, which has run.
     pub fn finish(&self, desk: &mut Desk<J>, ticket: u32, job: J)
         requires busy { IsBusy self.now ticket desk.old }
         requires finished { J.finished job ticket }
@@ -142,8 +142,8 @@ impl<J: Ticketed> Tickets<J> {
         shared.store::<Finishes>(&mut desk.seat, at + 1, 1);
     }
 
-    /// Ends the tickets, and gives each job once, in the order of their tickets. The desks are all that `start` gave, in
-    /// any order, and have ended.
+    /// Ends the tickets, and returns each job once, in the order of their tickets. The desks are all that `start`
+    /// returned, in any order, and have ended.
     pub fn close(self, mut desks: Vec<Desk<J>>, into: Vec<J>) -> Vec<J>
         requires desks { HaveEnded self desks.items }
         requires empty { into.items ≡ [] }

@@ -1,4 +1,4 @@
--- The right neighbour of a node is not in the hand of who holds the node and its parent alone.
+-- The right neighbour of a node is not held by a caller that holds only the node and its parent.
 use Rattle.std.proofs.Common.{◌≡◌, ◌≢◌, ◌<◌, ℕ, true, List, [], ◌∷◌, refl, sym, subst, inl, inr}
 use Rattle.std.specs.Prelude.{Option, Some, None, Any, Bool, false, cond, IsTrue}
 use Rattle.ks_keysets.specs.declared.Edge.{Edge}
@@ -16,7 +16,7 @@ use Rattle.ks_shape.specs.Laws.Single.{record_is}
 use Rattle.ks_shape.specs.OnPath.{IsUnder, numbers}
 use Rattle.ks_tidy.proofs.Beside.{any_counted, leads_counted, between, cycle}
 
--- what has an answer under a test passed it
+-- if an option under a test has a value, the test passed
 pub passed : {A : Type 0} (b : Bool) (o : Option A) (x : A) → cond b o None ≡ Some x → IsTrue b
 passed true o x e = refl
 passed false o x e = absurd (let q : ⊥ = cc in q)

@@ -1,4 +1,4 @@
--- What stays of a path, and of the places of its nodes, as a caller takes, gives and decides.
+-- What stays of a path, and of the places of its nodes, as a caller takes, releases and decides.
 use Rattle.std.proofs.Common.{◌≡◌, ◌≢◌, ◌≤◌, ℕ, true, List, [], ◌∷◌, length, sym, refl, ap, ◌∙◌, subst, inl, inr, arith}
 use Rattle.std.specs.Prelude.{Option, Some, None}
 use Rattle.ks_keysets.specs.Record.{LeadsTo}
@@ -35,7 +35,7 @@ few_right None hs i j is = omega (arith, ap length is)
 few_right (Some y) hs i j is = omega (arith, ap length is)
 
 module _ {N : Type 0} where
-  -- the parent is in hand, and is not the node
+  -- the parent is held, and is not the node
   pub parent_has : (j : ℕ) (o : Option (Hand N)) (hs : List ℕ) → hs ≡ j ∷ numbers o → (y : Hand N) → o ≡ Some y → Has hs y.node
   parent_has j None hs is y e = absurd (let q : ⊥ = cc in q)
   parent_has j (Some z) hs is y e = let same : z ≡ y = cc in subst (λ (l : List ℕ). Has l y.node) (sym is) (inr (inl (ap (λ (w : Hand N). w.node) same)))
@@ -66,7 +66,7 @@ module _ (sort : Sort) (n c : ℕ) (laws : Laws sort n) where
     keyset = (beside_with SameKeyset sort BeginsTree TreeStep n laws.keysets c e h k plain grows sound i before after).forth;
   }
 
-  -- by hands
+  -- the same, by what c holds
   pub places_kept : (e : Event) (h k : List Event) (i : ℕ) → IsPlain e → GrowsWith c e h k → Sound sort BeginsTree TreeStep n h → Sound sort BeginsTree TreeStep n k → Has (hand c h) i → Has (hand c k) i → HasPlacesOf (graph_after h) (graph_after k) i i
   places_kept e h k i plain grows so sound has has' = places_stay e h k i plain grows sound ((is_hand h c (laws.turns h so)).held i has) ((is_hand k c (laws.turns k sound)).held i has')
 

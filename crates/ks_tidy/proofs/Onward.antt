@@ -170,6 +170,6 @@ module _ {N : Type 0} (sort : Sort) (shows : N → Body) (c p last a b : ℕ) (s
 pub quiet_before : (c a b : ℕ) (s h k m : List Event) → Frees c s h a → Frees c h k b → Frees c k m 0 → Undisturbed c s m → Undisturbed c s k
 quiet_before c a b s h k m x y z quiet = undisturbed_first c (a + b) 0 s k m (frees_both c a b s h k x y) z quiet
 
--- counts go on, whose caller's number is told in another way after each stretch
+-- the counts of two stretches add up, with the caller's number restated after each
 pub counts_next : (a b d told more : ℕ) (s h k m : List Event) → b ≡ a → d ≡ b → Counts a s h told → Counts a h k more → Frees b k m 0 → Counts d s m ((told + more) % 2 ^ 32)
 counts_next a b d told more s h k m same same' x y z = counts_as d a ((told + more) % 2 ^ 32) s m (sym (same' ∙ same)) (counts_on a ((told + more) % 2 ^ 32) s k m (counts_both a told more s h k x y) (frees_as a b k m same z))

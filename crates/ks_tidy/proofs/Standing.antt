@@ -1,4 +1,4 @@
--- How what is held stands in the graph, and what stays of it.
+-- What held nodes are in the graph, and what stays of it.
 use Rattle.std.proofs.Common.{◌≡◌, ◌≢◌, ◌≤◌, ℕ, true, false, List, sym, ap, ◌∙◌, subst, arith}
 use Rattle.std.specs.Prelude.{Option, Some, None, Any}
 use Rattle.std.specs.Option.{ForSome}
@@ -31,7 +31,7 @@ use Rattle.ks_shape.specs.Laws.Single.{shown, record_is}
 pub plain : (b : Body) → InOrder (content_of b) → ForSome b.range (λ r. Framed r b) → b.link ≡ None → IsPlain b
 plain b sound framed no_link = record { sound = sound; framed = framed; no_link = no_link }
 
--- a live node in hand stands in the graph
+-- the graph and frame of a live node that is held are those that its body shows
 pub stands_now : {N : Type 0} (sort : Sort) (shows : N → Body) (h : List Event) (x : Hand N) → x.live ≡ true → Matches sort shows h x → IsPlain (shows x.body) → Stands (graph_after h) (frame_after (blank_of sort) h) x.node (shows x.body)
 stands_now sort shows h x live matches is = record { has = record_is sort shows h x live matches; frame = (shown sort shows h x live matches).1; plain = is }
 
@@ -49,11 +49,11 @@ module _ (layout : Layout) (g k : ℕ → NodeState) (f h : ℕ → Frame) (same
   fits_along n none m r s right is is' fit = none m r s (right_back n m right) (sym (same.records n) ∙ is) (sym (same.records m) ∙ is')
       (subst (λ (x : Kind). Fit layout x r (f m).kind s) (ap (λ (x : Frame). x.kind) (same.frames n)) (subst (λ (x : Kind). Fit layout (h n).kind r x s) (ap (λ (x : Frame). x.kind) (same.frames m)) fit))
 
--- where the search for a place ends, the place is in the keyset of the node
+-- the place is in the keyset of the node at which the search for it ends
 pub keyset_here : {N : Type 0} (sort : Sort) (shows : N → Body) (p : ℕ) (h : List Event) (x : Hand N) → x.live ≡ true → Matches sort shows h x → InOrder (content_of (shows x.body)) → InInset (graph_after h) x.node p → next_at (shows x.body) p ≡ Here → InKeyset (graph_after h) x.node p
 keyset_here sort shows p h x live matches order inside here = (inside, λ out. let is = record_is sort shows h x live matches in let q : Some out.0 ≡ Some (record_of (shows x.body)) = sym out.1 ∙ is in let same : out.0 ≡ record_of (shows x.body) = cc in here_stays (shows x.body) p order here (subst (λ (r : Record). LeadsOn r p) same out.2))
 
--- a live node is no branch where the search ends: its range, if it has one, is its inset
+-- a live node at which the search ends is no branch: its range, if it has one, is its inset
 module _ {N : Type 0} (sort : Sort) (shows : N → Body) (p : ℕ) (h : List Event) (x : Hand N) (live : x.live ≡ true) (matches : Matches sort shows h x) (inside : InInset (graph_after h) x.node p) (facts : Tree (graph_after h) (frame_after (blank_of sort) h)) (place : p ≤ top) (order : InOrder (content_of (shows x.body))) (here : next_at (shows x.body) p ≡ Here) where
   held_in : (o : Option Span) → (frame_after (blank_of sort) h x.node).range ≡ o → (first_of o ≤ p) × (p ≤ last_of o)
   held_in None e = (omega arith, omega (arith, place))

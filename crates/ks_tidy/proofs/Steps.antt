@@ -1,4 +1,4 @@
--- What tries to merge tell of each other.
+-- What one try to merge implies of another.
 use Rattle.std.proofs.Common.{◌≡◌, ◌≢◌, ℕ, Bool, true, false, List, [], ◌∷◌, sym, refl, ap, ◌∙◌, subst, inl, inr}
 use Rattle.std.specs.Prelude.{Option, Some, None, All}
 use Rattle.ks_keysets.specs.declared.Edge.{Edge}
@@ -23,12 +23,12 @@ pub sole_is : (u : Body) (p n m : ℕ) → All (λ (e : Edge). e.node ≡ m) (ed
 sole_is u p n m all to = sym (all to.0 to.1 to.2) ∙ ap (λ (e : Edge). e.node) to.3 ∙ to.4.1
 
 module _ {N : Type 0} (sort : Sort) (shows : N → Body) (c : ℕ) where
-  -- what thorough work tells, work of either kind does
+  -- what thorough work ensures, work of either kind does
   pub did_as : (h k : List Event) (thorough : Bool) (path : Path N) (r : Step N) → DidStep sort shows c h k true path r → DidStep sort shows c h k thorough path r
   did_as h k thorough path (Freed x) so = so
   did_as h k thorough path (Rests x) so = record { same = so.same; frees = so.frees; no_sole = so.no_sole; tested = λ which. so.tested (inl refl) }
 
-  -- of a path whose parent is told in another way
+  -- of a path whose parent is stated in another way
   pub pair_as : (p : ℕ) (h : List Event) (x : Path N) (o : Option (Hand N)) → x.parent ≡ o → IsPair sort shows c p h x → IsPair sort shows c p h (record { parent = o; node = x.node })
   pair_as p h x o is so = subst (λ (z : Option (Hand N)). IsPair sort shows c p h (record { parent = z; node = x.node })) is so
 

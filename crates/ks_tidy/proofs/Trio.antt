@@ -65,7 +65,7 @@ module _ {N : Type 0} (sort : Sort) (shows : N → Body) (n c p : ℕ) (laws : L
     rooted = pair.rooted;
   }
 
--- what a try to merge tells, it tells of a stretch that begins before
+-- what a try to merge ensures of its own stretch, it ensures of one that begins before
 module _ {N : Type 0} (sort : Sort) (shows : N → Body) (c : ℕ) (h h₁ k : List Event) (path : Path N) where
   pub did_after : (r : Step N) → Frees c h h₁ 0 → DidStep sort shows c h₁ k true path r → DidStep sort shows c h k true path r
   did_after (Freed x) before so = frees_both c 0 1 h h₁ k before so

@@ -1,4 +1,4 @@
--- What compaction tells, said of an arena and of a pass before and after.
+-- What compaction ensures, of an arena and of a pass before and after.
 use Rattle.std.specs.Prelude.{ℕ}
 use Rattle.ks_node.specs.declared.node.Node.{Ghosts as NodeGhosts}
 use Rattle.ks_node.below.ks_places.specs.declared.Placing.{Ghosts as PlacingGhosts}

@@ -1,4 +1,4 @@
--- What merging asks and tells, said of an arena and of a pass before and after.
+-- What merging requires and ensures, of an arena and of a pass before and after.
 use Rattle.std.specs.Prelude.{◌≡◌, ℕ, Bool, List, [], Option, Some, None}
 use Rattle.ks_keysets.specs.Keyset.{InKeyset}
 use Rattle.ks_node.specs.declared.node.Node.{Ghosts as NodeGhosts}
@@ -21,11 +21,11 @@ use Rattle.ks_shape.specs.Frees.{Counts, Frees, Undisturbed}
 use Rattle.ks_tidy.specs.Pair.{DidStep, FitsAlone, IsNoSole, IsPair, IsTrio}
 
 module _ {N D : Type 0} where
-  -- from p to q the Shapes of the caller made so many nodes free, and it claimed none and made no call
+  -- from p to q the Shapes of the caller made `count` nodes free, and it claimed none and made no call
   abbrev pub MakesFree : ℕ → Pass N D → Pass N D → Type 0
   MakesFree count p q = Frees p.caller (seen_of p) (seen_of q) count
 
-  -- so it is, and the count is told modulo 2 ^ 32
+  -- so it is, with the count modulo 2 ^ 32
   abbrev pub CountsFree : ℕ → Pass N D → Pass N D → Type 0
   CountsFree told p q = Counts p.caller (seen_of p) (seen_of q) told
 
@@ -46,7 +46,7 @@ module _ {N D P : Type 0} {n : NodeGhosts N P} {q : PlacingGhosts P} {d : Discip
   abbrev pub IsTrioOf : Arena N D P n q d → ℕ → ℕ → Pass N D → Path N → Hand N → Type 0
   IsTrioOf a c place p path right = IsTrio (sort_of n.layout n.ranged) n.body c place (seen_of p) path right
 
-  -- the search stands at such a path; or the caller holds nothing
+  -- the search is at such a path; or the caller holds nothing
   abbrev pub StandsOrLeft : Arena N D P n q d → ℕ → ℕ → Pass N D → Option (Path N) → Type 0
   StandsOrLeft a c place p None = hand_of p ≡ []
   StandsOrLeft a c place p (Some path) = IsPairOf a c place p path
@@ -55,8 +55,8 @@ module _ {N D P : Type 0} {n : NodeGhosts N P} {q : PlacingGhosts P} {d : Discip
   abbrev pub HasNoSole : Arena N D P n q d → Option (Hand N) → Type 0
   HasNoSole a parent = IsNoSole (sort_of n.layout n.ranged) n.body parent
 
-  -- what a try to merge at the node of a path tells: one node was made free; or none, and then, if the caller acts alone, the
-  -- node fits with no right neighbour, if that was looked for
+  -- the result of a try to merge at the node of a path: one node was made free; or none, and then, if no other caller acts,
+  -- the node fits with no right neighbour, if that was looked for
   abbrev pub HasTried : Arena N D P n q d → Bool → Pass N D → Pass N D → Path N → Step N → Type 0
   HasTried a thorough p p' path step = DidStep (sort_of n.layout n.ranged) n.body p.caller (seen_of p) (seen_of p') thorough path step
 
@@ -64,11 +64,11 @@ module _ {N D P : Type 0} {n : NodeGhosts N P} {q : PlacingGhosts P} {d : Discip
   abbrev pub FitsNoneAlone : Arena N D P n q d → ℕ → Pass N D → Pass N D → Type 0
   FitsNoneAlone a i p p' = FitsAlone (sort_of n.layout n.ranged) n.body p.caller i (seen_of p) (seen_of p')
 
-  -- the caller took node i, and has it in hand
+  -- the caller took node i, and holds it
   abbrev pub HasTakenNode : Arena N D P n q d → ℕ → Pass N D → Pass N D → Hand N → Type 0
   HasTakenNode a i p p' x = HasTaken (sort_of n.layout n.ranged) n.body p.caller i (seen_of p) (seen_of p') x
 
-  -- the caller took node i, and has it in hand; or another held it, and the caller did nothing
+  -- the caller took node i, and holds it; or another held it, and the caller did nothing
   abbrev pub HasTakenIfIdle : Arena N D P n q d → ℕ → Pass N D → Pass N D → Option (Hand N) → Type 0
   HasTakenIfIdle a i p p' None = HasLooked p.caller (seen_of p) (seen_of p')
   HasTakenIfIdle a i p p' (Some x) = HasTakenNode a i p p' x

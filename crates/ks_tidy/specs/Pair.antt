@@ -1,4 +1,4 @@
--- How a caller stands that merges nodes, and what a try to merge comes to.
+-- What a caller holds that merges nodes, and the result of a try to merge.
 use Rattle.std.specs.Prelude.{◌≡◌, ◌⊎◌, ℕ, Bool, true, IsTrue, List, ◌∷◌, Option, Some, None}
 use Rattle.ks_keysets.specs.Keyset.{InInset}
 use Rattle.ks_keysets.specs.Layout.{FitsNoRight}
@@ -16,7 +16,7 @@ use Rattle.ks_tidy.specs.declared.step.Step.{Step}
 use Rattle.ks_tidy.specs.declared.step.Step.TheVariants.{Freed, Rests}
 use Rattle.ks_shape.specs.Frees.{Frees}
 
--- where the search stands after a try to merge
+-- where the search is after a try to merge
 abbrev pub path_in : {N : Type 0} → Step N → Path N
 path_in (Freed x) = x
 path_in (Rests x) = x
@@ -27,7 +27,7 @@ count_in (Freed x) = 1
 count_in (Rests x) = 0
 
 module _ {N : Type 0} (sort : Sort) (shows : N → Body) where
-  -- after h, c, which searches for the place, holds a node on the way, and the node that leads to it unless it is the root
+  -- after h, c, which searches for the place, holds a node on its path, and the node that leads to it unless it is the root
   pub record IsPair (c place : ℕ) (h : List Event) (x : Path N) : Type 0 where
     pub path : IsOnPath sort shows c place h x
     pub rooted : x.parent ≡ None → x.node.node ≡ 0
@@ -49,7 +49,7 @@ module _ {N : Type 0} (sort : Sort) (shows : N → Body) where
   IsNoSole None = Unit {0}
   IsNoSole (Some y) = y.node ≡ 0 → only_child_of (shows y.body) ≡ None
 
-  -- if c acts alone from h to k, node i fits with no right neighbour after k
+  -- if no other caller acts from h to k, node i fits with no right neighbour after k
   abbrev pub FitsAlone : ℕ → ℕ → List Event → List Event → Type 0
   FitsAlone c i h k = ActsAlone c h k → FitsNoRight sort.layout (graph_after k) (frame_after (blank_of sort) k) i
 
@@ -61,7 +61,7 @@ module _ {N : Type 0} (sort : Sort) (shows : N → Body) where
     pub no_sole : IsNoSole path.parent
     pub tested : IsTrue thorough ⊎ IsTrue (is_low sort.layout (shows path.node.body)) → FitsAlone c path.node.node h k
 
-  -- what a try to merge from h to k tells: one node was made free, or none
+  -- the result of a try to merge from h to k: one node was made free, or none
   abbrev pub DidStep : ℕ → List Event → List Event → Bool → Path N → Step N → Type 0
   DidStep c h k thorough path (Freed x) = Frees c h k 1
   DidStep c h k thorough path (Rests x) = HasRested c h k thorough path x

@@ -18,8 +18,8 @@ use ks_node::{Next, Unlinked, node_law, unlinked_law};
 use ks_shape::{Path, enter, search_law};
 use std::sync::Wait;
 
-/// Where a walk stands after it merged at a node, how many nodes that made free, and the last place that goes the way of
-/// the walk's place.
+/// Where a walk is after it merged at a node, how many nodes that made free, and the last place that takes the same
+/// path as the walk's.
 struct Visited<N> {
     path: Path<N>,
     freed: u32,
@@ -33,8 +33,8 @@ struct Walked {
     end: u64,
 }
 
-/// Merges at the node of a path, low or not, until nothing is left to merge there; and tells which places, from the place
-/// to the last, go the way of the place there.
+/// Merges at the node of a path, low or not, until nothing is left to merge there. Returns the last place up to
+/// which all take the path of this one.
 fn visit<N: Unlinked, R: Wait, G: Gate>(
     rt: &R,
     arena: &Arena<N, Tree>,
@@ -62,7 +62,7 @@ fn visit<N: Unlinked, R: Wait, G: Gate>(
     Visited { path, freed, end }
 }
 
-/// Walks from the root to the node whose keyset holds the place, merges at each node on the way, and gives all.
+/// Walks from the root to the node whose keyset holds the place, merges at each node on the path, and releases all.
 fn walk<N: Unlinked, R: Wait, G: Gate>(
     rt: &R,
     arena: &Arena<N, Tree>,
@@ -106,10 +106,10 @@ fn walk<N: Unlinked, R: Wait, G: Gate>(
     unreachable!()
 }
 
-/// Merges what fits, all over the graph: it walks to place after place, each just past the keyset in which the walk before
-/// it ended, and merges at each node that it meets, low or not. Answers how many nodes it made free, modulo 2^32. It makes
-/// no call of the history and claims nothing. If it was alone and made no node free, the graph is tight. It does not tell the
-/// gate that a call begins.
+/// Merges what fits, all over the graph: it walks to place after place, each just past the keyset in which the walk
+/// before it ended, and merges at each node that it meets, low or not. Returns how many nodes it made free, modulo
+/// 2^32. It makes no call of the history and claims nothing. If no other caller acted and it made no node free, the
+/// graph is tight. It does not notify the gate that a call begins.
 pub fn pair_compact<N: Unlinked, R: Wait, G: Gate>(
     rt: &R,
     arena: &Arena<N, Tree>,

@@ -20,8 +20,8 @@ use ks_node::{Unlinked, node_law, unlinked_law};
 use ks_shape::{Numbered, Path, reply_of, search_law};
 use std::sync::Wait;
 
-/// Deletes what stands at a place, at a node in hand where the search for the place ends, and keeps the node. Answers
-/// what stood there, and the number of the call.
+/// Deletes what is at a place, at a held node where the search for the place ends, and keeps the node. Returns what was
+/// there, and the number of the call.
 pub(crate) fn delete<N: Unlinked, G: Gate>(
     arena: &Arena<N, Tree>,
     pass: &mut Pass<N, Tree>,
@@ -55,7 +55,7 @@ pub(crate) fn delete<N: Unlinked, G: Gate>(
     Numbered { number, found }
 }
 
-/// Deletes what stands at a place, at the node of a path where the search for the place ends, and gives all. If it
+/// Deletes what is at a place, at the node of a path where the search for the place ends, and releases all. If it
 /// removed a pair, it merges the node before, while it is low.
 pub fn del_on<N: Unlinked, R: Wait, G: Gate>(
     rt: &R,
@@ -87,8 +87,8 @@ pub fn del_on<N: Unlinked, R: Wait, G: Gate>(
     answer
 }
 
-/// Deletes what stands at a place, at the one node in hand, where the search for the place ends, and gives it. If it
-/// removed a pair and the node is low, it comes to the place again, and merges on its way and at its end.
+/// Deletes what is at a place, at the only held node, where the search for the place ends, and releases it. If it
+/// removed a pair and the node is low, it searches for the place again, and merges on the path and at its end.
 pub fn del_alone<N: Unlinked, R: Wait, G: Gate>(
     rt: &R,
     arena: &Arena<N, Tree>,

@@ -1,4 +1,4 @@
-//! The way from the root to the node where a search ends, which merges nodes as it goes.
+//! The descent from the root to the node where a search ends, which merges nodes as it goes.
 ghost use Rattle.std.specs.Prelude.{◌≡◌, Some};
 ghost use Rattle.ks_node.specs.declared.start.Next.TheVariants.{Go, Here};
 ghost use Rattle.ks_node.specs.Body.{next_at};
@@ -16,7 +16,7 @@ use ks_node::{Next, Unlinked, node_law, unlinked_law};
 use ks_shape::{Path, enter, let_go, search_law, step_down};
 use std::sync::Wait;
 
-/// Gives the parent, if there is one, and takes the child to which the search goes on; the node becomes its parent.
+/// Releases the parent, if there is one, and takes the child to which the search goes on; the node becomes its parent.
 #[inline(always)]
 pub fn go_down<N: Unlinked, R: Wait, G: Gate>(
     rt: &R,
@@ -43,7 +43,7 @@ pub fn go_down<N: Unlinked, R: Wait, G: Gate>(
     step_down(rt, arena, pass, gate, place, node, child)
 }
 
-/// Gives the node of a path, and its parent.
+/// Releases the node of a path, and its parent.
 #[inline(always)]
 pub fn leave<N: Unlinked, G: Gate>(
     arena: &Arena<N, Tree>,
@@ -92,8 +92,8 @@ fn tidy_branch<N: Unlinked, R: Wait, G: Gate>(
     Tidied { path, freed: 0 }
 }
 
-/// Comes to the node at which the search for a place ends, with its parent in hand; on the way it merges low branches.
-/// It does not tell the gate that a call begins.
+/// Comes to the node at which the search for a place ends, and holds its parent too; it merges low branches on the
+/// path. It does not notify the gate that a call begins.
 pub fn come_down<N: Unlinked, R: Wait, G: Gate>(
     rt: &R,
     arena: &Arena<N, Tree>,
@@ -127,7 +127,7 @@ pub fn come_down<N: Unlinked, R: Wait, G: Gate>(
     unreachable!()
 }
 
-/// Merges at the node whose keyset holds the place, and gives all. Answers how many nodes it made free, modulo 2^32.
+/// Merges at the node whose keyset holds the place, and releases all. Returns how many nodes it made free, modulo 2^32.
 pub fn tidy_end<N: Unlinked, R: Wait, G: Gate>(
     rt: &R,
     arena: &Arena<N, Tree>,
@@ -156,8 +156,8 @@ pub fn tidy_end<N: Unlinked, R: Wait, G: Gate>(
     freed
 }
 
-/// Merges for a place: low branches on the way to the node whose keyset holds it, and that node, if it is low. Answers
-/// how many nodes it made free, modulo 2^32. It makes no call of the history, and does not tell the gate that one
+/// Merges for a place: low branches on the path to the node whose keyset holds it, and that node, if it is low. Returns
+/// how many nodes it made free, modulo 2^32. It makes no call of the history, and does not notify the gate that one
 /// begins.
 pub fn pair_tidy<N: Unlinked, R: Wait, G: Gate>(
     rt: &R,

@@ -1,4 +1,4 @@
-//! A node absorbs its right neighbour, where a caller holds both: one to which it leads itself, or one beside it below the
+//! A node absorbs its right neighbour, if a caller holds both: one to which it leads itself, or one beside it below the
 //! same parent.
 ghost use Rattle.std.specs.Prelude.{◌≡◌, None, Some, true, IsTrue};
 ghost use Rattle.ks_node.specs.Room.{is_low};
@@ -17,8 +17,8 @@ use ks_gate::Gate;
 use ks_node::{Unlinked, node_law, unlinked_law};
 use ks_shape::{Path, absorb_own, absorb_under, keep_left, search_law};
 
-/// The node of a path absorbs the node in hand to which it leads itself, if both fit. That one is given back, or given
-/// free.
+/// The node of a path absorbs the held node to which it leads itself, if both fit. That one is released, as free if it
+/// was absorbed.
 pub(crate) fn join_own<N: Unlinked, G: Gate>(
     arena: &Arena<N, Tree>,
     pass: &mut Pass<N, Tree>,
@@ -54,8 +54,8 @@ pub(crate) fn join_own<N: Unlinked, G: Gate>(
     Step::Rests(keep_left(arena, pass, gate, place, path, next))
 }
 
-/// The node below a branch absorbs the node in hand to which the branch leads next, if both fit. That one is given back,
-/// or the branch forgets it and it is given free.
+/// The node below a branch absorbs the held node to which the branch leads next, if both fit. That one is released; if
+/// it was absorbed, the branch forgets it and it is released as free.
 pub(crate) fn join_beside<N: Unlinked, G: Gate>(
     arena: &Arena<N, Tree>,
     pass: &mut Pass<N, Tree>,

@@ -1,7 +1,7 @@
-//! Merging: nodes that fit into one are merged, and nodes that no edge needs any more are given back free.
+//! Merging: nodes that fit into one are merged, and nodes that no edge needs any more are released as free.
 //!
-//! A caller that merges holds a node and its parent, and takes the right neighbour of the node, to which one of the
-//! two has an edge. If both fit, the node absorbs its neighbour. A root over one child takes over that child.
+//! A caller that merges holds a node and its parent, and takes the right neighbour of the node, to which one of the two
+//! has an edge. If both fit, the node absorbs its neighbour. A root over one child takes over that child.
 #![tactic(auto)]
 
 mod compact;

@@ -19,7 +19,7 @@ use ks_node::Unlinked;
 use ks_shape::{Path, collapse, search_law};
 use std::sync::Wait;
 
-/// The root takes over its only child, which is given free.
+/// The root takes over its only child, which is released as free.
 pub(crate) fn take_over<N: Unlinked, G: Gate>(
     arena: &Arena<N, Tree>,
     pass: &mut Pass<N, Tree>,
@@ -55,7 +55,7 @@ pub(crate) fn take_over<N: Unlinked, G: Gate>(
     }
 }
 
-/// The node of a path absorbs the node to which it leads itself, if both fit. That one is given back, or given free.
+/// The node of a path absorbs the node to which it leads itself, if both fit. That one is released, or freed.
 pub(crate) fn merge_own<N: Unlinked, R: Wait, G: Gate>(
     rt: &R,
     arena: &Arena<N, Tree>,
@@ -83,8 +83,8 @@ pub(crate) fn merge_own<N: Unlinked, R: Wait, G: Gate>(
     join_own(arena, pass, gate, place, path, next)
 }
 
-/// The node below a branch absorbs the node to which the branch leads next, if both fit. That one is given back, or
-/// the branch forgets it and it is given free.
+/// The node below a branch absorbs the node to which the branch leads next, if both fit. That one is released, or
+/// the branch forgets it and it is freed.
 pub(crate) fn merge_beside<N: Unlinked, R: Wait, G: Gate>(
     rt: &R,
     arena: &Arena<N, Tree>,

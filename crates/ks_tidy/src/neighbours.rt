@@ -1,4 +1,4 @@
-//! What is known of the right neighbour of a node in hand. The functions compute nothing: their contracts are laws.
+//! What is known of the right neighbour of a held node. The functions compute nothing: their contracts are laws.
 ghost use Rattle.std.specs.Prelude.{◌≡◌, None, Some, Any};
 ghost use Rattle.ks_node.specs.Body.{chained_of, right_child};
 ghost use Rattle.ks_node.specs.Edges.{edges_of};
@@ -12,7 +12,7 @@ use ks_flow::laws::tree_facts_law;
 use ks_node::{Unlinked, node_law, unlinked_law};
 use ks_shape::{Path, search_law};
 
-/// The node to which the node of a path leads itself is not in hand.
+/// The node to which the node of a path leads itself is not held.
 pub(crate) fn chained_law<N: Unlinked>(
     arena: &Arena<N, Tree>,
     pass: &Pass<N, Tree>,
@@ -33,7 +33,7 @@ pub(crate) fn chained_law<N: Unlinked>(
     node_law(&path.node.body);
 }
 
-/// The node to which a branch in hand leads next to a node in hand below it is not in hand.
+/// The node to which a held branch leads next to a held node below it is not held.
 pub(crate) fn next_law<N: Unlinked>(
     arena: &Arena<N, Tree>,
     pass: &Pass<N, Tree>,

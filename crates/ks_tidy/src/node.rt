@@ -14,14 +14,14 @@ use ks_node::Unlinked;
 use ks_shape::Path;
 use std::sync::Wait;
 
-/// Where a search stands after it merged nodes, and how many it made free, modulo 2^32.
+/// Where a search is after it merged nodes, and how many it made free, modulo 2^32.
 pub struct Tidied<N> {
     pub path: Path<N>,
     pub freed: u32,
 }
 
-/// Merges at the node of a path until nothing is left to merge there. It goes on while the node is low, or, if the
-/// work is thorough, whatever it holds. What the node had has the node of the path then, which may be the root.
+/// Merges at the node of a path until nothing is left to merge there: while the node is low, or, if the work is
+/// thorough, while anything fits. The node of the path, which may be the root, then has what the node had.
 pub fn tidy_node<N: Unlinked, R: Wait, G: Gate>(
     rt: &R,
     arena: &Arena<N, Tree>,

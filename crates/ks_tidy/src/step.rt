@@ -17,9 +17,9 @@ use ks_node::{Node, Unlinked, node_law, unlinked_law};
 use ks_shape::{Path, search_law};
 use std::sync::Wait;
 
-/// What a try to merge at the node of a path came to.
+/// The result of a try to merge at the node of a path.
 pub enum Step<N> {
-    /// One node was made free and given; the path goes to the node that took over what it had.
+    /// One node was made free and released; the path goes to the node that took over what it had.
     Freed(Path<N>),
     /// None was; the path is as before.
     Rests(Path<N>),

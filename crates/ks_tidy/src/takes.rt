@@ -1,4 +1,4 @@
-//! A node is taken to which one in hand has an edge.
+//! Taking a node to which a held node has an edge.
 ghost use Rattle.std.specs.Prelude.{◌≡◌, ◌≤◌, length, Any};
 ghost use Rattle.ks_node.specs.Edges.{edges_of};
 ghost use Rattle.ks_arena.specs.Clauses.{hand_of};
@@ -15,7 +15,7 @@ use ks_node::Unlinked;
 use ks_shape::search_law;
 use std::sync::Wait;
 
-/// Takes the node to which a node in hand has an edge.
+/// Takes the node to which a held node has an edge.
 pub(crate) fn take_led<N: Unlinked, R: Wait, G: Gate>(
     rt: &R,
     arena: &Arena<N, Tree>,
@@ -45,7 +45,7 @@ pub(crate) fn take_led<N: Unlinked, R: Wait, G: Gate>(
     held
 }
 
-/// Takes the node to which a node in hand has an edge, unless another caller holds it.
+/// Takes the node to which a held node has an edge, unless another caller holds it.
 pub(crate) fn try_take_led<N: Unlinked, G: Gate>(
     arena: &Arena<N, Tree>,
     pass: &mut Pass<N, Tree>,

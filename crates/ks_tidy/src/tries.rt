@@ -1,4 +1,4 @@
-//! Merging by callers that wait for nobody: it goes as far as no node that it needs is held by another.
+//! Non-blocking merging: it goes on until it needs a node that another caller holds.
 ghost use Rattle.std.specs.Prelude.{◌≡◌};
 ghost use Rattle.ks_history.specs.declared.Op.TheVariants.{Del};
 ghost use Rattle.ks_history.specs.Map.{told};
@@ -20,8 +20,8 @@ use ks_gate::{Gate, Point};
 use ks_node::{Next, Unlinked};
 use ks_shape::{Numbered, Path, let_go, search_law, try_enter, try_step_down};
 
-/// Merges at the node of a path while it is low, by tries: at most as often as the arena has nodes. What the node had has
-/// the node of the path then.
+/// Merges at the node of a path while it is low, by tries: at most as often as the arena has nodes. The node of the
+/// path then has what the node had.
 fn try_tidy_node<N: Unlinked, G: Gate>(
     arena: &Arena<N, Tree>,
     pass: &mut Pass<N, Tree>,
@@ -78,8 +78,8 @@ fn try_tidy_at<N: Unlinked, G: Gate>(
     }
 }
 
-/// Gives the parent, if there is one, and takes the child to which the search goes on; the node becomes its parent. Where
-/// another caller holds the child, all is given.
+/// Releases the parent, if there is one, and takes the child to which the search goes on; the node becomes its parent.
+/// If another caller holds the child, all is released.
 fn try_go_down<N: Unlinked, G: Gate>(
     arena: &Arena<N, Tree>,
     pass: &mut Pass<N, Tree>,
@@ -105,9 +105,10 @@ fn try_go_down<N: Unlinked, G: Gate>(
     }
 }
 
-/// Merges for a place, as `pair_tidy` does, but waits for nobody: a right neighbour that another caller holds is left as it
-/// is, and a node on the way that another holds ends it. It takes at most as many nodes on its way as the arena has. Answers
-/// how many nodes it made free, modulo 2^32. It makes no call of the history, and does not tell the gate that one begins.
+/// Merges for a place, as `pair_tidy` does, but without waiting: a right neighbour that another caller holds is left as
+/// it is, and a node on the path that another holds ends it. It takes at most as many nodes as the arena has. Returns
+/// how many nodes it made free, modulo 2^32. It makes no call of the history, and does not notify the gate that one
+/// begins.
 pub fn try_pair_tidy<N: Unlinked, G: Gate>(
     arena: &Arena<N, Tree>,
     pass: &mut Pass<N, Tree>,
@@ -147,8 +148,8 @@ pub fn try_pair_tidy<N: Unlinked, G: Gate>(
     freed
 }
 
-/// Deletes what stands at a place, as `del_alone` does, but waits for nobody: the merging after the call goes as far as no
-/// node that it needs is held by another caller.
+/// Deletes what is at a place, as `del_alone` does, but without waiting: the merging after the call ends at a node that
+/// another caller holds.
 pub fn try_del_alone<N: Unlinked, G: Gate>(
     arena: &Arena<N, Tree>,
     pass: &mut Pass<N, Tree>,

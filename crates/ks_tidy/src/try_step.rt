@@ -1,4 +1,4 @@
-//! One try to merge at a node, by a caller that waits for nobody: a right neighbour that another holds is left as it is.
+//! One try to merge at a node, without waiting: a right neighbour that another caller holds is left as it is.
 ghost use Rattle.std.specs.Prelude.{◌≡◌, None, Some, IsTrue};
 ghost use Rattle.ks_node.specs.Room.{is_low};
 ghost use Rattle.ks_node.specs.Body.{chained_of, right_child};

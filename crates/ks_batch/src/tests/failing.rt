@@ -1,4 +1,4 @@
-//! Ends that fail at each of their calls in turn, and ends that give and take a byte at a time.
+//! Ends that fail at each of their calls in turn, and ends that pass a byte at a time.
 
 ghost use Rattle.std.specs.Prelude.{◌<◌};
 
@@ -11,10 +11,10 @@ use std::sync::Wait;
 use std::test::Fail;
 use std::thread::Threads;
 
-/// The number of a read or a write that no run comes to.
+/// The number of a read or a write that no run reaches.
 const NEVER: u64 = u64::MAX;
 
-/// Serves the script with ends that give and take so many bytes at a time. The read and the write with these numbers fail.
+/// Serves the script with ends that pass at most `most` bytes at a time. The read and write with these numbers fail.
 fn serve_failing<R: Threads + Wait + Sync>(
     rt: &R,
     alloc: Global,
@@ -32,7 +32,7 @@ fn serve_failing<R: Threads + Wait + Sync>(
     run_ends(rt, alloc, RUN, source, out, err, &NoGate)
 }
 
-/// Whether each of so many reads, where it alone fails, ends with nothing printed, and the next number is none of a read.
+/// Whether each read below `reads` ends with nothing printed if only it fails, and there is no read with that number.
 fn each_read_fails<R: Threads + Wait + Sync>(
     rt: &R,
     alloc: Global,
@@ -54,8 +54,8 @@ fn each_read_fails<R: Threads + Wait + Sync>(
     Ok(ended.status == 0 && ended.out.as_slice() == printed && ended.err.is_empty())
 }
 
-/// Whether each of so many writes, where it alone fails, leaves just what was taken before it, and the next number is none
-/// of a write.
+/// Whether each write below `writes` leaves just what was taken before it if only it fails, and there is no write with
+/// that number.
 fn each_write_fails<R: Threads + Wait + Sync>(
     rt: &R,
     alloc: Global,
@@ -94,7 +94,7 @@ fn each_read_and_each_write_of_a_single_byte_fails(rt: HostRuntime) -> Result<()
     Ok(())
 }
 
-/// 2,000 gets are read in three pieces, and the answers to them are written in five.
+/// 2,000 gets are read in three pieces, and the replies to them are written in five.
 #[test]
 fn each_read_and_each_write_of_a_run_in_pieces_fails(rt: HostRuntime) -> Result<(), Fail> {
     let alloc = rt.alloc();
@@ -145,7 +145,7 @@ const SAID: [(&str, &[u8], &[u8], u8); 3] = [
     ("check", b"caller\n", b"line 2 refused\n", 2),
 ];
 
-/// Runs the program with an error output that takes so many bytes at a time, and whose write with this number fails.
+/// Runs the program with an error output that takes at most `most` bytes at a time. The write with this number fails.
 fn say_failing<R: Threads + Wait + Sync>(
     rt: &R,
     alloc: Global,

@@ -1,4 +1,4 @@
-//! Callers that run beside each other: where one stands, another goes on.
+//! Callers that run beside each other: while one is stopped, another goes on.
 
 ghost use Rattle.std.specs.Prelude.{◌<◌};
 
@@ -9,7 +9,7 @@ use std::sync::Wait;
 use std::test::Fail;
 use std::thread::Threads;
 
-/// Caller 0 stands at the begin of its call until caller 1 has decided: so the get comes first.
+/// Caller 0 is stopped at the begin of its call until caller 1 has decided: so the get comes first.
 #[test]
 fn a_caller_is_overtaken_before_its_call(rt: HostRuntime) -> Result<(), Fail> {
     let input: &[u8] = b"caller\nput 7 70\ncaller\nget 7\n";
@@ -26,8 +26,8 @@ fn a_caller_is_overtaken_before_its_call(rt: HostRuntime) -> Result<(), Fail> {
     Ok(())
 }
 
-/// Caller 0 stands in its last get with a leaf in hand and the root given back, until caller 1 has read the other leaf:
-/// so the calls of one caller do not wait for the end of another, nor for the root.
+/// Caller 0 is stopped in its last get, when it holds a leaf and has released the root, until caller 1 has read the
+/// other leaf: so the calls of one caller do not wait for the end of another, nor for the root.
 #[test]
 fn a_caller_is_overtaken_in_its_call(rt: HostRuntime) -> Result<(), Fail> {
     let gate = Meet::of(0, 17, Point::Given(0), 1, 50_000_000);
@@ -53,8 +53,8 @@ fn a_caller_is_overtaken_in_its_call(rt: HostRuntime) -> Result<(), Fail> {
     Ok(())
 }
 
-/// Runs the program, where caller 0 stands in its call after so many, with the root given back and the number of the next
-/// node in mind, until caller 1 has decided. Tells whether it printed what is wanted, and the two met.
+/// Runs the program, with caller 0 stopped in its call after `calls` calls, when it has released the root and has the
+/// number of the next node, until caller 1 has decided. Returns whether it printed what is wanted, and the two met.
 fn meets_as<R: Threads + Wait + Sync>(
     rt: &R,
     alloc: Global,
@@ -68,7 +68,7 @@ fn meets_as<R: Threads + Wait + Sync>(
     Ok(ended.status == 0 && ended.out.as_slice() == wanted && !gate.failed())
 }
 
-/// Caller 0 puts the keys up to `last` and looks for the last one. It stands with the number of the node in mind that has
+/// Caller 0 puts the keys up to `last` and looks for the last one. It is stopped with the number of the node that has
 /// it, which caller 1 splits meanwhile by putting the next key; and it finds it in the other half.
 fn finds_past_a_split<R: Threads + Wait + Sync>(
     rt: &R,
@@ -103,8 +103,8 @@ fn put_two(text: &mut Vec<u8>, first: u64, second: u64) -> Result<(), AllocError
     text.extend_from_slice(b"\n")
 }
 
-/// By giving up the search begins again where the node's range no longer holds the key; in a list it goes on, since the
-/// node still leads there.
+/// By giving up the search restarts if the node's range no longer holds the key; in a list it goes on, since the node
+/// still leads there.
 #[test]
 fn a_search_that_gives_up_ends_right_past_a_split(rt: HostRuntime) -> Result<(), Fail> {
     assert!(rt; finds_past_a_split(&rt, rt.alloc(), "run bplus giveup 64", 23)?);

@@ -1,4 +1,4 @@
-//! The pairings, each over its nodes: splits, and `full` where no node is free.
+//! The pairings, each over its nodes: splits, and `full` if no node is free.
 
 use super::{put_nones, put_number, put_pairs, run};
 use std::alloc::{AllocError, Global};
@@ -54,7 +54,7 @@ fn four_nodes_of_a_tree_fill(rt: HostRuntime) -> Result<(), Fail> {
     Ok(())
 }
 
-/// A list of four nodes has room for 20 ascending keys. A key that stands there is set although no node is free.
+/// A list of four nodes has room for 20 ascending keys. A key that is there is set although no node is free.
 #[test]
 fn four_nodes_of_a_list_fill(rt: HostRuntime) -> Result<(), Fail> {
     let mut input = Vec::from_slice(rt.alloc(), b"caller\n")?;
@@ -115,7 +115,7 @@ fn near_map(alloc: Global, count: usize) -> Result<Vec<u8>, AllocError> {
 }
 
 /// Nine near keys: the root grows, and the bucket is split until a ninth node beside it takes part of them. With eight
-/// nodes the last of them is wanting.
+/// nodes there is none left for the last.
 #[test]
 fn near_keys_of_a_hash_table_fill_its_nodes(rt: HostRuntime) -> Result<(), Fail> {
     let input = near_puts(rt.alloc())?;

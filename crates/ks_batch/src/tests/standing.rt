@@ -1,11 +1,11 @@
-//! Callers that run beside each other, where one stands while the other makes some calls.
+//! Callers that run beside each other, one of which is stopped while the other makes some calls.
 
 use super::{put_nones, put_pairs, run_at};
 use ks_gate::{Point, Stand};
 use std::test::Fail;
 
-/// Along links: caller 0 stands in its last get, with the root given back and the number of the leaf in mind, while
-/// caller 1 puts the next key and splits that leaf. The get moves to the right and finds its key.
+/// Along links: caller 0 is stopped in its last get, when it has released the root and has the number of the leaf,
+/// while caller 1 puts the next key and splits that leaf. The get moves to the right and finds its key.
 #[test]
 fn a_get_along_links_ends_right_past_a_split(rt: HostRuntime) -> Result<(), Fail> {
     let gate = Stand::of(0, 25, Point::Given(0), 1, 1, 50_000_000);
@@ -24,7 +24,7 @@ fn a_get_along_links_ends_right_past_a_split(rt: HostRuntime) -> Result<(), Fail
     Ok(())
 }
 
-/// By giving up: caller 1 puts three keys meanwhile, the second of which splits the leaf; the get begins again.
+/// By giving up: caller 1 puts three keys meanwhile, the second of which splits the leaf; the get restarts.
 #[test]
 fn a_get_that_gives_up_ends_right_past_three_calls(rt: HostRuntime) -> Result<(), Fail> {
     let gate = Stand::of(0, 23, Point::Given(0), 1, 3, 50_000_000);
@@ -46,8 +46,8 @@ fn a_get_that_gives_up_ends_right_past_three_calls(rt: HostRuntime) -> Result<()
     Ok(())
 }
 
-/// By giving up: caller 0 stands in its last get with the number of a leaf in mind, while caller 1 deletes a key, so that
-/// the leaf is merged away and the root takes over all. The number is that of a free node: the get begins again.
+/// By giving up: caller 0 is stopped in its last get with the number of a leaf, while caller 1 deletes a key, so that
+/// the leaf is merged away and the root takes over all. The number is that of a free node: the get restarts.
 #[test]
 fn a_get_that_gives_up_ends_right_past_a_merge(rt: HostRuntime) -> Result<(), Fail> {
     let gate = Stand::of(0, 18, Point::Given(0), 1, 2, 50_000_000);
@@ -66,8 +66,8 @@ fn a_get_that_gives_up_ends_right_past_a_merge(rt: HostRuntime) -> Result<(), Fa
     Ok(())
 }
 
-/// By giving up: meanwhile caller 1 merges the leaf away and lets the root grow again, so that the node is used for other
-/// keys: its range does not hold the key, and the get begins again.
+/// By giving up: meanwhile caller 1 merges the leaf away and lets the root grow again, so that the node is used for
+/// other keys: its range does not hold the key, and the get restarts.
 #[test]
 fn a_get_that_gives_up_ends_right_past_a_node_used_again(rt: HostRuntime) -> Result<(), Fail> {
     let gate = Stand::of(0, 18, Point::Given(0), 1, 3, 50_000_000);

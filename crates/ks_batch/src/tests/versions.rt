@@ -89,7 +89,7 @@ fn runs_of_the_second_version_are_judged(rt: HostRuntime) -> Result<(), Fail> {
     Ok(())
 }
 
-/// A script of the second version, with so many callers that each ask for a key.
+/// A script of the second version, with `callers` callers that each ask for a key.
 fn asking(alloc: Global, callers: u64) -> Result<Vec<u8>, AllocError> {
     let mut text = Vec::from_slice(alloc, b"script 2\n")?;
     for _ in 0..callers {
@@ -108,7 +108,7 @@ fn a_script_of_the_second_version_has_more_callers(rt: HostRuntime) -> Result<()
     Ok(())
 }
 
-/// An add finds no node free as a put does. At a key that is present it answers the value there, and leaves it.
+/// An add finds no node free as a put does. At a key that is present it returns the value there, and leaves it.
 #[test]
 fn adds_fill_a_list(rt: HostRuntime) -> Result<(), Fail> {
     let mut input = Vec::from_slice(rt.alloc(), b"script 2\ncaller\n")?;

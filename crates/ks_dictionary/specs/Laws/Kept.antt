@@ -36,7 +36,7 @@ changed_or_same (a ∷ more) m p = go (write_or_same (written a.op a.reply) m p)
     go (inr same) (inl changed) = inl (inr changed)
     go (inr same) (inr stays) = inr (stays ∙ same)
 
--- something stands at the place
+-- the place has a value
 abbrev Stands : Option ℕ → Type 0
 Stands o = (v : ℕ) × (o ≡ Some v)
 
@@ -58,7 +58,7 @@ removed_or_stand (a ∷ more) m p stands = go (removed_or_stands (written a.op a
         next (inl removed) = inl (inr removed)
         next (inr stays) = inr stays
 
--- a call in the middle of a legal history answers the map before it
+-- a call in the middle of a legal history has its reply from the map before it
 at_middle : {X : Type 0} (xs ys : List X) (x : X) → slice_get (xs ++ x ∷ ys) (length xs) ≡ Some x
 at_middle [] ys x = refl
 at_middle (y ∷ xs) ys x = at_middle xs ys x
@@ -132,7 +132,7 @@ put_sets : (p v : ℕ) (o : Option ℕ) → written (Put p v) (told o) ≡ sets 
 put_sets p v None = refl
 put_sets p v (Some w) = refl
 
--- what one caller put another finds that has seen all that the first had, or a call between changed it
+-- a caller that has seen all that another had finds what that one put, or a call between changed it
 pub finds_put : (layout : Layout) (template : Template) (n c d p v : ℕ) (s0 s1 k0 k1 : List Event) (had found : Option ℕ) (m l : ℕ)
     → Done layout template n c (Put p v) s0 s1 (told had) m → s1 ⊑ k0 → Done layout template n d (Get p) k0 k1 (told found) l → Legal (calls_of k1) → FindsPut p v found (calls_of k1)
 finds_put layout template n c d p v s0 s1 k0 k1 had found m l put met get legal = record {

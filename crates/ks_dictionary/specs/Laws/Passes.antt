@@ -1,5 +1,5 @@
--- Laws of the passes of all callers: those of a start stand in order, and passes in whose places idle ones of the same callers
--- stand are still those of all callers.
+-- Laws of the passes of all callers: those of a start are in order, and if idle passes of the same callers replace some,
+-- they are still those of all callers.
 use Rattle.std.proofs.Common.{◌≡◌, ℕ, zero, suc, ◌<◌, List, [], ◌∷◌, length, get_or, ◌∙◌, sym, refl, ap, subst, arith}
 use mathlib.Core.Option.{some, some-injective, some-ne-none}
 use lib.ListN.{get_elem?}
@@ -29,7 +29,7 @@ pick [] i lt = absurd (omega (arith, lt))
 pick (x ∷ xs) i lt = x
 
 module _ {N D : Type 0} (a : Site) where
-  -- the passes of a start stand in order
+  -- the passes of a start are in order
   pub new_in_order : (ps : List (Pass N D)) → AreNew a ps → AreInOrder a ps
   new_in_order ps new = record {
     long = new.long;
@@ -46,7 +46,7 @@ module _ {N D : Type 0} (a : Site) where
         (c, get_or ps c p, elem_here ps c p low, (so.each c p low).1);
   }
 
-  -- passes in whose places idle ones of the same callers stand
+  -- passes that idle ones of the same callers replace
   pub replaced_all : (ps qs : List (Pass N D)) → AreAll a ps → AreReplaced a ps qs → AreAll a qs
   replaced_all ps qs all so = record {
     each = λ i p is. let lt = within qs i p is in subst (IsIdle a) (here qs i p p is) (so.each i p (omega (arith, lt, so.long))).0;

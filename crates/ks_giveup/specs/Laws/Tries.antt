@@ -1,4 +1,4 @@
--- Nodes on the way of a search by giving up that waits for nobody, which it does not hold yet.
+-- Nodes on the path of a non-blocking search by giving up, which it does not hold yet.
 use Rattle.std.proofs.Common.{ℕ, List}
 use Rattle.ks_keysets.specs.Keyset.{InInset}
 use Rattle.ks_history.specs.declared.Event.{Event}
@@ -23,6 +23,6 @@ was_later c place s0 h k j grows spare was = record {
   inside = was.inside;
 }
 
--- where the place is no longer in its inset, Moved is due
+-- if the place is no longer in its inset, Moved is due
 pub was_moved : (c place : ℕ) (op : Op) (s0 h k : List Event) (j : ℕ) → Touches op place → h ⊑ k → AreInTurn h → AreBeside InInset h → (InInset (graph_after h) j place → ⊥) → WasOnWay c place s0 h j → MovedDue c op s0 k j
 was_moved c place op s0 h k j touched until are beside gone was = moved_due c j place op s0 was.moment h k was.since was.later until touched are beside was.spare was.on_way was.inside gone

@@ -86,8 +86,8 @@ fn halves(rt: &impl Abort, alloc: Global, root: &mut HNode) -> (HNode, HNode) {
     (left, right)
 }
 
-/// Splits the full bucket 1 of the places from 0 on at the cut that the root's slices give it, and lets the root adopt
-/// the new bucket.
+/// Splits the full bucket 1 of the places from 0 on at the cut that follows from the root's slices, and lets the root
+/// adopt the new bucket.
 fn split(
     rt: &impl Abort,
     alloc: Global,

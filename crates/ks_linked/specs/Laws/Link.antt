@@ -52,7 +52,7 @@ module _ (b : Body) (r : Span) (level : ℕ) (link : Option ℕ) where
       let h = good_outside b r same cut (suits_range s) g in
       record { above = h.above; within = h.within; splits = h.splits }
 
-  -- where all places are handed in, they are its range
+  -- if all places are passed, they are its range
   pub all_inside : {span : Span} → Suits (linked r level link b) span → (o : Option Span) → IsNoneOr o span → o ≡ Some all_places → Some r ≡ Some all_places
   all_inside {span} s o is e = ap (λ q. Some q) (s.is_range r refl ∙ sym (is all_places e))
 

@@ -31,7 +31,7 @@ differ e = cc
 kinds_differ : NoBranch ≡ Inner → ⊥
 kinds_differ e = cc
 
--- the edge of its own lies above a cut where a split may be
+-- the edge of its own lies above a cut at which the node may be split
 pub own_below : (cut : ℕ) (own : Option Start) → All (λ s. cut ≤ s.low) (starts_of own) → starts_below cut (starts_of own) ≡ []
 own_below cut None a = refl
 own_below cut (Some s) a = let h : cut ≤ s.low = a 0 s (omega arith) in let t : nat_lt s.low cut ≡ false = le-ltb _ _ h in rw t refl

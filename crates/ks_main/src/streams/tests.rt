@@ -6,7 +6,7 @@ use std::io;
 use std::io::{Cursor, Read, Write};
 use std::test::Fail;
 
-/// Gives a byte a read, and fails once, before the byte with this number.
+/// Returns one byte a read, and fails once, before the byte with this number.
 #[derive(Drop)]
 struct FailingReader {
     bytes: &'static [u8],
@@ -36,7 +36,7 @@ enum Then {
     TakesNothing,
 }
 
-/// Takes a byte a write, so many in all.
+/// Takes one byte a write, `takes` in all.
 #[derive(Drop)]
 struct FailingWriter {
     takes: usize,

@@ -1,4 +1,4 @@
-//! Shapes over records alone: each sends its places as the law of its name asks.
+//! Shapes over records only: each sends its places as the law of its name requires.
 
 use ks_keysets::{Edge, Graph, NodeRecord, NodeState, Pair, Span};
 use std::alloc::{AllocError, Global};
@@ -30,7 +30,7 @@ pub fn edge(low: u64, last: u64, node: u32) -> Edge {
     }
 }
 
-/// Nine nodes, of which the root alone is live and has these pairs.
+/// Nine nodes, of which only the root is live and has these pairs.
 pub fn opened(alloc: Global, pairs: Vec<Pair>) -> Result<Graph, AllocError> {
     let root = NodeRecord {
         edges: Vec::new(alloc),

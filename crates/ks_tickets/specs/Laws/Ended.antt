@@ -1,4 +1,4 @@
--- That all desks have ended once each has: for whoever works at all of them at once.
+-- That all desks have ended once each has: for a worker that uses all of them at once.
 use Rattle.std.proofs.Common.{zero, suc, ◌≡◌, ℕ, ◌<◌, List, [], ◌∷◌, length, get_or, sym, refl, ◌∙◌, subst, arith}
 use Rattle.std.specs.Prelude.{All}
 use mathlib.Core.Option.{some, some-injective, some-ne-none}

@@ -29,7 +29,7 @@ scripts_are g c = sym (map_both (λ v. v.items) (λ j. j.ops) c.in_ok-jobs.jobs.
 abbrev asked : (g : Over) → In_ok-jobs g → List (List Op)
 asked g c = map (λ v. v.items) c.args.scripts.items
 
--- what is so of jobs about the run is so of them about the arena
+-- what holds of jobs about the run holds of them about the arena
 jobs_done : {N D W : Type 0} (g : Over) (c : In_ok-jobs g) (js : List (Job N D W))
     → EachAs (FinishedAs (site_with (sort_of g.N.Node.layout g.N.Node.ranged) g.T.Rule.Discipline.begins g.T.Rule.Discipline.step g.W.About.table g.W.About.callers g.W.About.nodes) g.W.About.scripts g.N.Places.Placing.place_of) js
     → EachAs (FinishedAs (site g c) (asked g c) g.N.Places.Placing.place_of) js

@@ -15,7 +15,7 @@ use Rattle.ks_giveup.proofs.descent.find.Goals.{After-visit}
 pub loop-init : goal.loop-init
 loop-init g c = (c.requires.pass.0, c.requires.pass.1, refl, omega arith, λ op. underway_first give_up c.args.pass.now.caller op (seen_of c.args.pass.now) c.requires.pass.1, inl refl, at_first, does_none MaySearch c.args.pass.now.caller (seen_of c.args.pass.now))
 
--- as far as the visit
+-- up to the visit
 gone : (g : Over) (c : After-visit g) → Goes c.loop.pass.caller c.args.place (seen_of c.args.pass.now) (seen_of c.visit.new.pass)
 gone g c = goes_both c.loop.invariant.6 c.visit.ensures.goes
 

@@ -45,7 +45,7 @@ pub returns-in-Here-next-clause-once : goal.returns-in-Here-next-clause-once
 returns-in-Here-next-clause-once g c = let inv = c.loop-steps.invariant in let s = seen_of c.args.pass.now in let k = seen_of c.loop-steps.pass in
     subst (λ (z : ℕ). TookSince z s k 0 1) inv.1 (once c.args.arena.now.nodes c.loop-steps.pass.caller s k c.loop-steps._steps c.loop-steps.held.node inv.4)
 
--- where it goes
+-- the invariant of the loop
 
 pub loop-steps-init : goal.loop-steps-init
 loop-steps-init g c = let sort = sort_of g.N.Node.layout g.N.Node.ranged in let n : ℕ = c.args.arena.now.nodes in let s = seen_of c.args.pass.now in let k = seen_of c.try_enter.new.pass in let e = c.in-Ok.ensures in let x = c.in-Ok.root in (
@@ -72,7 +72,7 @@ returns-in-Go-next-clause-goes g c = let inv = c.loop-steps.invariant in let me 
     subst (λ (z : ℕ). Goes z c.args.place (seen_of c.args.pass.now) (seen_of c.turn_back.new.pass)) inv.1
     (goes_both inv.5 (coupled_goes c.args.place (c.turn_back.ensures.under coupling (Put 0 0) h (underway_here coupling me (Put 0 0) h (omega (arith, ap length inv.2.alone)))).hands))
 
--- what it does
+-- the kinds of its events
 
 pub returns-in-Err-try_go_on-clause-leaves : goal.returns-in-Err-try_go_on-clause-leaves
 returns-in-Err-try_go_on-clause-leaves g c = let inv = c.loop-steps.invariant in let s = seen_of c.args.pass.now in let h = seen_of c.loop-steps.pass in let k = seen_of c.try_go_on.new.pass in

@@ -88,7 +88,7 @@ returns-else-is_in_range-clause-under g c = λ op start under. let me : ℕ = c.
     subst (λ (z : ℕ). Underway give_up z op start h₁ → Underway give_up z op start h₂) e.caller (c.give_last.ensures.under give_up op start)
     (takes (sort_of g.N.Node.layout g.N.Node.ranged) g.N.Node.body give_up me c.args.node op start h h₁ c.in-Held.held (λ k q. first_taken q tt) c.requires.pass.1 e.took under)
 
--- where it goes
+-- the nodes that it takes
 
 pub returns-in-Busy-clause-goes : goal.returns-in-Busy-clause-goes
 returns-in-Busy-clause-goes g c = let h = seen_of c.args.pass.now in goes_others c.args.pass.now.caller c.args.place h h (seen_of c.try_take.new.pass) c.in-Busy.ensures.took.0.grows at_first
@@ -104,7 +104,7 @@ returns-else-is_in_range-clause-goes g c = let me : ℕ = c.args.pass.now.caller
     goes_with me c.args.place (Give me i) h h₁ h₂ (subst (λ (z : ℕ). GrowsWith z (Give z i) h₁ h₂) e.caller c.give_last.ensures.gave) tt
     (visited (sort_of g.N.Node.layout g.N.Node.ranged) g.N.Node.body me c.args.place c.args.node h h₁ c.in-Held.held c.requires.next e.took)
 
--- what it does
+-- the kinds of its events
 
 pub returns-in-Busy-clause-leaves : goal.returns-in-Busy-clause-leaves
 returns-in-Busy-clause-leaves g c = does_others MaySearch c.args.pass.now.caller (seen_of c.args.pass.now) (seen_of c.try_take.new.pass) c.in-Busy.ensures.took.0.grows

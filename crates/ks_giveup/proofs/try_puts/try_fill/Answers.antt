@@ -30,7 +30,7 @@ use Rattle.ks_giveup.proofs.try_puts.try_fill.Given.{Over}
 use Rattle.ks_giveup.proofs.try_puts.try_fill.Goals as goal
 use Rattle.ks_giveup.proofs.try_puts.try_fill.Goals.{After-give_last, After-not_put_off}
 
--- put off where the first search was
+-- put off in the first search
 
 pub returns-in-Err-clause-tried : goal.returns-in-Err-clause-tried
 returns-in-Err-clause-tried g c = λ ways. let op : Op = filling c.args.place c.args.fill in let e = c.in-Err.ensures in
@@ -87,7 +87,7 @@ pub returns-else-has_room-clause-tried : goal.returns-else-has_room-clause-tried
 returns-else-has_room-clause-tried g c = λ ways. let at = (goal.at.returns-else-has_room-clause-tried g c).After-give_last in let h = seen_of c.args.pass.now in
     subst (λ (z : ℕ). TriedPut g.N.Node.layout give_up c.args.arena.now.nodes z (filling c.args.place c.args.fill) h (seen_of c.try_pair_fill.new.pass) c.try_pair_fill.result) (own g at) (c.try_pair_fill.ensures.tried ways give_up h tt (took g at) (under g at))
 
--- where it goes
+-- the nodes that it takes
 
 pub returns-in-Err-clause-goes : goal.returns-in-Err-clause-goes
 returns-in-Err-clause-goes g c = c.in-Err.ensures.goes
@@ -102,7 +102,7 @@ returns-else-has_room-clause-goes g c = let at = (goal.at.returns-else-has_room-
     let on = c.try_pair_fill.ensures.ends coupling l tt (once_here b l) (underway_here coupling b op l (omega (arith, ap length c.give_last.ensures.pass.1))) in
     goes_both gone (subst (λ (z : ℕ). Goes z c.args.place l m) (own g at) (coupled_goes c.args.place (ends_hands g.N.Node.layout coupling c.args.arena.now.nodes b op l m c.try_pair_fill.result on)))
 
--- what it does
+-- the kinds of its events
 
 pub returns-in-Err-clause-fills : goal.returns-in-Err-clause-fills
 returns-in-Err-clause-fills g c = searched_fills (sort_of g.N.Node.layout g.N.Node.ranged) c.args.place c.args.pass.now.caller (seen_of c.args.pass.now) (seen_of c.try_find.new.pass) c.try_find.ensures.leaves

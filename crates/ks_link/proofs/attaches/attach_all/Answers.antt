@@ -49,7 +49,7 @@ returns-clause-leads g c = λ adopts halves alone two. let sort = sort_of g.N.No
     let alone' = subst (λ (z : ℕ). ActsAlone z (seen_of c.args.pass.now) k) (sym c.loop-to.invariant.2) alone in let inv = c.loop-to.invariant.5 adopts halves alone' two in
     ((λ i waits. let at = waits_at c.args.waiting.now i waits in subst (IsLedAfter sort k) (at.2 record { cut = 0; node = 0; level = 0 }) (inv.1 at.0 (omega (arith, at.1, c.loop-to-test.false)))), inv.0)
 
--- what it does
+-- the kinds of its events
 
 pub returns-clause-fills : goal.returns-clause-fills
 returns-clause-fills g c = λ place. subst (λ (z : ℕ). DoesOnly (MayFill (sort_of g.N.Node.layout g.N.Node.ranged) place) z (seen_of c.args.pass.now) (seen_of c.loop-to.pass)) c.loop-to.invariant.2 (c.loop-to.invariant.6 place)

@@ -57,7 +57,7 @@ pub returns-in-None-attach_one-clause-leads : goal.returns-in-None-attach_one-cl
 returns-in-None-attach_one-clause-leads g c = λ adopts halves alone two. let at = (goal.at.returns-in-None-attach_one-clause-leads g c).After-attach_one in let sort = sort_of g.N.Node.layout g.N.Node.ranged in let h = seen_of c.args.pass.now in let l = seen_of c.attach_one.new.pass in
     let both = led_on g at adopts halves alone two in (both.0, subst (λ (o : Option Waiting). LedBut sort (waits_if o) h l) c.in-None-attach_one.is both.1)
 
--- what it does
+-- the kinds of its events
 
 pub returns-in-None-attach_one-clause-fills : goal.returns-in-None-attach_one-clause-fills
 returns-in-None-attach_one-clause-fills g c = λ place. let e = c.attach_one.ensures in let h = seen_of c.args.pass.now in let k = seen_of c.loop.pass in let l = seen_of c.attach_one.new.pass in let me : ℕ = c.loop.pass.caller in

@@ -136,7 +136,7 @@ returns-clause-leads g c = λ adopts halves alone two. let at = (goal.at.returns
     let which = c.ready-half.ensures.ready adopts halves part (two_ready g at alone two) in
     (lasts g at (led g at) (last g at) (to_last g at) c.give.ensures.pass.sound).led c.args.to.node (c.lead.ensures.led adopts which)
 
--- what it does
+-- the kinds of its events
 
 pub returns-clause-fills : goal.returns-clause-fills
 returns-clause-fills g c = λ place. let own : ℕ = c.args.pass.now.caller in let h = seen_of c.args.pass.now in let i = seen_of c.find_above-held.new.pass in let j = seen_of c.ready-half.new.pass in let k = seen_of c.lead.new.pass in let l = seen_of c.give.new.pass in

@@ -61,7 +61,7 @@ returns-else-can_lead-clause-led g c = λ adopts which. let sort = sort_of g.N.N
     is_true true never = refl
     is_true false never = absurd (never refl)
 
--- what it does
+-- the kinds of its events
 
 pub returns-then-can_lead-clause-fills : goal.returns-then-can_lead-clause-fills
 returns-then-can_lead-clause-fills g c = λ place. c.attach.ensures.fills place

@@ -37,7 +37,7 @@ pub returns-in-Err-clause-ready : goal.returns-in-Err-clause-ready
 returns-in-Err-clause-ready g c = λ adopts halves alone two. let sort = sort_of g.N.Node.layout g.N.Node.ranged in let n : ℕ = c.args.arena.now.table.shared.table_id.slots in let h = seen_of c.args.pass.now in let k = seen_of c.part.new.pass in let law = c.sound_law.ensures in
     absurd (never_refused g.N.Node.layout c.args.arena.now.nodes c.args.pass.now.caller c.args.cut h k alone (lawful_in_turn k (law.lawful sort n k c.part.ensures.pass.sound)) (λ m before i live. (law.lasts sort n m k before c.part.ensures.pass.sound).live i live) two c.in-Err.ensures.parted.2)
 
--- what it does
+-- the kinds of its events
 
 pub returns-then-not-must_part-clause-fills : goal.returns-then-not-must_part-clause-fills
 returns-then-not-must_part-clause-fills g c = λ place. does_none (MayFill (sort_of g.N.Node.layout g.N.Node.ranged) place) c.args.pass.now.caller (seen_of c.args.pass.now)

@@ -45,7 +45,7 @@ module _ (g : Over) (c : After-give_last g) where
   leads : LeadsTo node c.args.place c.args.next
   leads = next_leads (g.N.Node.body c.args.held.body) c.args.place c.args.next c.node_law.ensures.sound (omega (arith, c.ranges.place)) c.requires.goes
 
-  -- the next node was live as the node was held, and began at the place or below
+  -- the next node was live while the node was held, and began at the place or below
   live : IsLive (graph_after seen) c.args.next
   live = led_live (graph_after seen) c.args.held.node c.args.place c.args.next node (good_now (c.sound_law.ensures.good sort n seen c.requires.pass.sound)) (record_is sort g.N.Node.body seen c.args.held c.requires.way.live c.requires.way.matches) leads
 

@@ -66,7 +66,7 @@ grow_right-requires-clause-level g c = let at = (goal.at.grow_right-requires-cla
     (λ i live. let near : i < n = is_near sort BeginsLink LinkStep n h i (omega arith) c.requires.pass.sound live in omega (arith, near, few))
 
 module _ (g : Over) (c : After-give g) where
-  -- the hand once the root was given
+  -- the hand once the root was released
   hand_is : hand_of c.give.new.pass ≡ c.args.right.node ∷ c.args.left.node ∷ []
   hand_is = let root : ℕ = c.args.root.node in
       c.give.ensures.hand ∙ ap (λ (i : ℕ). drop_one i (hand_of c.grow_right.new.pass)) c.grow_right.ensures.node.node ∙ ap (drop_one root) (c.grow_right.ensures.shaped.hand ∙ c.requires.hand.0)
@@ -146,7 +146,7 @@ returns-clause-narrower g c = let at = (goal.at.returns-clause-narrower g c).Aft
       | inr is ↦ subst (λ (x : Hand g.row.N.Denot). reach_of (shows x.body) < reach_of b) (sym is) (subst (λ (z : Body). reach_of z < reach_of b) (sym c.grow_right.ensures.right.body) (right_less b.range b.low cut (is_linked g at).ranged splits.0.0 splits.0.1))
     ]
 
--- what it does
+-- the kinds of its events
 
 pub returns-clause-fills : goal.returns-clause-fills
 returns-clause-fills g c = λ at must. let me : ℕ = c.args.pass.now.caller in let h = seen_of c.args.pass.now in let k = seen_of c.grow_right.new.pass in let l = seen_of c.give.new.pass in let m = seen_of c.keep_half-half.new.pass in let own : ℕ = c.grow_right.new.pass.caller in

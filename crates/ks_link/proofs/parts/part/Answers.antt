@@ -46,7 +46,7 @@ held_before : (g : Over) (c : After-node_law g) → turn_after (seen_of c.args.p
 held_before g c = let sort = sort_of g.N.Node.layout g.N.Node.ranged in let n : ℕ = c.args.arena.now.table.shared.table_id.slots in let h = seen_of c.args.pass.now in let me : ℕ = c.args.pass.now.caller in
     (is_hand h me (lawful_in_turn h (c.sound_law.ensures.lawful sort n h c.requires.pass.sound))).held c.args.held.node (subst (λ (z : List ℕ). Has z c.args.held.node) (sym c.requires.way.alone) (inl refl))
 
--- the node stays in hand
+-- the caller still holds the node, and no other
 still_alone : (g : Over) (c : After-node_law g) (k : List Event) → hand c.args.pass.now.caller k ≡ hand_of c.args.pass.now → Matches (sort_of g.N.Node.layout g.N.Node.ranged) g.N.Node.body k c.args.held → IsAlone (sort_of g.N.Node.layout g.N.Node.ranged) g.N.Node.body c.args.pass.now.caller k c.args.held
 still_alone g c k same matches = record { alone = same ∙ c.requires.way.alone; live = c.requires.way.live; matches = matches }
 
@@ -148,7 +148,7 @@ returns-in-Some-clause-narrower g c = c.grow.ensures.narrower
 pub returns-in-Some-claim_one-clause-narrower : goal.returns-in-Some-claim_one-clause-narrower
 returns-in-Some-claim_one-clause-narrower g c = c.split.ensures.narrower
 
--- what it does
+-- the kinds of its events
 
 pub returns-in-None-clause-fills : goal.returns-in-None-clause-fills
 returns-in-None-clause-fills g c = λ at must. c.claim_two.ensures.fills at

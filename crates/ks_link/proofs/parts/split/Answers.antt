@@ -95,7 +95,7 @@ returns-clause-narrower g c = let at = (goal.at.returns-clause-narrower g c).Aft
       | inr is ↦ subst (λ (x : Hand g.row.N.Denot). reach_of (shows x.body) < reach_of b) (sym is) (subst (λ (z : Body). reach_of z < reach_of b) (sym c.split_right.ensures.right.body) (right_less b.range b.low cut (is_linked g at).ranged splits.0.0 splits.0.1))
     ]
 
--- what it does
+-- the kinds of its events
 
 pub returns-clause-fills : goal.returns-clause-fills
 returns-clause-fills g c = λ at must. fills_search (sort_of g.N.Node.layout g.N.Node.ranged) at c.args.pass.now.caller c.split_right.new.pass.caller (seen_of c.args.pass.now) (seen_of c.split_right.new.pass) (seen_of c.keep_half-half.new.pass) c.split_right.ensures.caller (c.split_right.ensures.fills at must) c.keep_half-half.ensures.leaves

@@ -65,7 +65,7 @@ returns-in-Err-clause-waiting g c = let sort = sort_of g.N.Node.layout g.N.Node.
 pub returns-in-Ok-clause-narrower : goal.returns-in-Ok-clause-narrower
 returns-in-Ok-clause-narrower g c = c.in-Ok.ensures.narrower
 
--- what it does
+-- the kinds of its events
 
 pub returns-in-Ok-clause-fills : goal.returns-in-Ok-clause-fills
 returns-in-Ok-clause-fills g c = λ must. c.part.ensures.fills c.args.place must

@@ -25,12 +25,12 @@ use Rattle.ks_shape.specs.Does.{DoesOnly, MayFill}
 use Rattle.ks_shape.specs.Laws.Does.{does_none, fills_on}
 use Rattle.ks_link.proofs.room.room_at.Goals as goal
 
--- a full node is parted at first, before anything waits, where halves have room
+-- a full node is split first, before anything waits, if halves have room
 none_waits : (ws : List Waiting) (full : Bool) → (ws ≡ []) ⊎ (full ≡ false) → full ≡ true → ws ≡ []
 none_waits ws full (inl empty) is = empty
 none_waits ws full (inr room) is = absurd (let q : false ≡ true = sym room ∙ is in cc)
 
--- so what is made live by it waits alone
+-- so only what it makes live waits
 led_on : (sort : Sort) (ws vs : List Waiting) (me : ℕ) (h k l : List Event) → h ⊑ k → k ⊑ l → Lasts sort k l → ws ≡ [] → (ActsAlone me h k → LedBut sort ws h k) → (ws ≡ [] → ActsAlone me k l → LedBut sort vs k l) → ActsAlone me h l → LedBut sort vs h l
 led_on sort ws vs me h k l till on lasts empty first then alone = led_then sort vs h k l lasts (subst (λ (z : List Waiting). LedBut sort z h k) empty (first (alone_first me h k l till on alone))) (then empty (alone_then me h k l till on alone))
 
@@ -93,7 +93,7 @@ returns-in-Err-clause-led g c = λ promise alone. let sort = sort_of g.N.Node.la
     led_on sort c.loop-held.waiting.items c.make_room.new.waiting.items me h k l (stretch_begins link_move me h k inv.4) (stretch_begins link_move me k l e.stretch) (c.sound_law.ensures.lasts sort n k l (stretch_begins link_move me k l e.stretch) e.pass.sound)
     (none_waits c.loop-held.waiting.items (is_full g.N.Node.layout (g.N.Node.body c.loop-held.held.body)) (inv.6 promise) (c.has_room.ensures.none c.if-has_room.false).1) (inv.7 promise) e.led (subst (λ (z : ℕ). ActsAlone z h l) (sym inv.1) alone)
 
--- what it does
+-- the kinds of its events
 
 pub returns-then-has_room-clause-fills : goal.returns-then-has_room-clause-fills
 returns-then-has_room-clause-fills g c = let inv = c.loop-held.invariant in subst (λ (z : ℕ). DoesOnly (MayFill (sort_of g.N.Node.layout g.N.Node.ranged) c.args.place) z (seen_of c.args.pass.now) (seen_of c.loop-held.pass)) inv.1 inv.8

@@ -22,7 +22,7 @@ loop-to-preserved g c = let sort = sort_of g.N.Node.layout g.N.Node.ranged in le
   (λ place. fills_on (sort_of g.N.Node.layout g.N.Node.ranged) place me c.try_attach_on.new.pass.caller h k l e.caller (c.loop-to.invariant.5 place) (e.fills place)),
 )
 
--- what it does
+-- the kinds of its events
 
 pub returns-clause-fills : goal.returns-clause-fills
 returns-clause-fills g c = λ place. subst (λ (z : ℕ). DoesOnly (MayFill (sort_of g.N.Node.layout g.N.Node.ranged) place) z (seen_of c.args.pass.now) (seen_of c.loop-to.pass)) c.loop-to.invariant.2 (c.loop-to.invariant.5 place)

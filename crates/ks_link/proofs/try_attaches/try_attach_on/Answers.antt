@@ -46,7 +46,7 @@ pub returns-in-None-clause-stretch : goal.returns-in-None-clause-stretch
 returns-in-None-clause-stretch g c = let e = c.try_attach_one.ensures in let h = seen_of c.args.pass.now in let k = seen_of c.loop-next.pass in let l = seen_of c.try_attach_one.new.pass in let me : ℕ = c.loop-next.pass.caller in let inv = c.loop-next.invariant in
     subst (λ (z : ℕ). Stretch link_move z h l) inv.2 (stretch_both link_move me h k l inv.4 e.stretch)
 
--- what it does
+-- the kinds of its events
 
 pub returns-in-None-clause-fills : goal.returns-in-None-clause-fills
 returns-in-None-clause-fills g c = λ place. let e = c.try_attach_one.ensures in let h = seen_of c.args.pass.now in let k = seen_of c.loop-next.pass in let l = seen_of c.try_attach_one.new.pass in let me : ℕ = c.loop-next.pass.caller in

@@ -52,7 +52,7 @@ pub returns-clause-stretch : goal.returns-clause-stretch
 returns-clause-stretch g c = let at = (goal.at.returns-clause-stretch g c).After-give in let before = (goal.at.returns-clause-stretch g c).After-ready-half in
     stretch_both link_move c.args.pass.now.caller (seen_of c.args.pass.now) (seen_of c.ready-half.new.pass) (seen_of c.give.new.pass) (stretch_ready g before) (stretch_on g at)
 
--- what it does
+-- the kinds of its events
 
 pub returns-clause-fills : goal.returns-clause-fills
 returns-clause-fills g c = λ place. let own : ℕ = c.args.pass.now.caller in let h = seen_of c.args.pass.now in let i = seen_of c.try_find_above.new.pass in let j = seen_of c.ready-half.new.pass in let k = seen_of c.lead.new.pass in let l = seen_of c.give.new.pass in

@@ -107,7 +107,7 @@ returns-in-Err-try_go_on-clause-stretch g c = let at = (goal.at.returns-in-Err-t
 pub returns-then-is_over-clause-above : goal.returns-then-is_over-clause-above
 returns-then-is_over-clause-above g c = let told = c.is_over.ensures.yes c.if-is_over.true in (c.loop-to.invariant.2, told.0, told.1)
 
--- what it does
+-- the kinds of its events
 
 pub returns-in-Err-try_go_on-clause-leaves : goal.returns-in-Err-try_go_on-clause-leaves
 returns-in-Err-try_go_on-clause-leaves g c = let inv = c.loop-to.invariant in let h = seen_of c.args.pass.now in let k = seen_of c.loop-to.pass in let l = seen_of c.try_go_on.new.pass in

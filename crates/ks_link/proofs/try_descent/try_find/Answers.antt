@@ -70,7 +70,7 @@ returns-in-Err-try_go_on-clause-makes g c = let e = c.try_go_on.ensures in let h
     let here = underway_here link_move me (Put 0 0) k (omega (arith, ap length inv.2.alone)) in
     subst (λ (z : ℕ). MakesNone z h l) inv.1 (makes_both me h k l (till me (Put 0 0) h k (inv.3 (Put 0 0))) (till me (Put 0 0) k l (e.under (Put 0 0) k here)) inv.4 e.makes)
 
--- what it does
+-- the kinds of its events
 
 pub returns-in-Here-clause-leaves : goal.returns-in-Here-clause-leaves
 returns-in-Here-clause-leaves g c = let inv = c.loop-held.invariant in subst (λ (z : ℕ). DoesOnly MaySearch z (seen_of c.args.pass.now) (seen_of c.loop-held.pass)) inv.1 inv.5

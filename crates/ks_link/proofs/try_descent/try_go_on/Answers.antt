@@ -52,7 +52,7 @@ module _ (g : Over) (c : After-give g) where
   is : record_at (graph_after seen) c.args.held.node ≡ Some node
   is = record_is sort g.N.Node.body seen c.args.held c.requires.way.live c.requires.way.matches
 
-  -- the next node was live as the node was held, began at the place or below, and was no root
+  -- the next node was live while the node was held, began at the place or below, and was no root
   live : IsLive (graph_after seen) c.args.next
   live = led_live (graph_after seen) c.args.held.node c.args.place c.args.next node (good_now (c.sound_law.ensures.good sort n seen c.requires.pass.sound)) is leads
 
@@ -79,7 +79,7 @@ pub unreachable-requires : goal.unreachable-requires
 unreachable-requires g c = let at = (goal.at.unreachable-requires g c).After-give in let told = c.in-Gone.ensures.took in let after = seen_of c.try_take.new.pass in
     c.link_live_law.ensures (sort g at) (n g at) c.args.next (seen g at) after (begins_both (seen g at) (given g at) after (begins g at) (by_others_begins c.give.new.pass.caller (given g at) after told.0.grows)) c.try_take.ensures.pass.sound (live g at) told.1
 
--- where it takes the node
+-- if it takes the node
 
 pub returns-in-Held-clause-went : goal.returns-in-Held-clause-went
 returns-in-Held-clause-went g c = let at = (goal.at.returns-in-Held-clause-went g c).After-give in let after = seen_of c.try_take.new.pass in let e = c.in-Held.ensures in let x = c.args.held in let y = c.in-Held.taken in let shows = g.N.Node.body in
@@ -103,7 +103,7 @@ returns-in-Held-clause-makes g c = let at = (goal.at.returns-in-Held-clause-make
     let took = subst (λ (z : ℕ). HasTaken (sort g at) g.N.Node.body z c.args.next (given g at) after c.in-Held.taken) c.give.ensures.caller c.in-Held.ensures.took in
     makes_both (me g at) (seen g at) (given g at) after (begins g at) (with_begins (me g at) _ (given g at) after took.grows) (makes_with (me g at) _ (seen g at) (given g at) tt (gave g at)) (makes_with (me g at) _ (given g at) after tt took.grows)
 
--- where another caller has it
+-- if another caller has it
 
 pub returns-in-Busy-clause-went : goal.returns-in-Busy-clause-went
 returns-in-Busy-clause-went g c = let at = (goal.at.returns-in-Busy-clause-went g c).After-give in let after = seen_of c.try_take.new.pass in let told = c.in-Busy.ensures.took in
@@ -123,7 +123,7 @@ returns-in-Busy-clause-makes g c = let at = (goal.at.returns-in-Busy-clause-make
     let grows = subst (λ (z : ℕ). GrowsByOthers z (given g at) after) c.give.ensures.caller c.in-Busy.ensures.took.0.grows in
     makes_both (me g at) (seen g at) (given g at) after (begins g at) (by_others_begins (me g at) (given g at) after grows) (makes_with (me g at) _ (seen g at) (given g at) tt (gave g at)) (makes_others (me g at) (given g at) after grows)
 
--- what it does
+-- the kinds of its events
 
 pub returns-in-Held-clause-leaves : goal.returns-in-Held-clause-leaves
 returns-in-Held-clause-leaves g c = let at = (goal.at.returns-in-Held-clause-leaves g c).After-give in let after = seen_of c.try_take.new.pass in

@@ -28,7 +28,7 @@ whole : (g : Over) (c : After-cut g) (o : Option Span) → ((s : Span) → o ≡
 whole g c o at = let sort = sort_of g.N.Node.layout g.N.Node.ranged in let n : ℕ = c.args.arena.now.table.shared.table_id.slots in let h = seen_of c.args.pass.now in let sound = c.requires.pass.sound in let good = ((c.search_law.ensures sort n).good h sound) in let facts = (c.search_law.ensures sort n).facts h sound in let b : Body = g.N.Node.body c.args.node.now.body in let i : ℕ = c.args.node.now.node in
     whole_of (graph_after h) i b o (c.tree_spans_law.ensures.some (graph_after h) (frame_after (blank_of sort) h) i b good facts (at_node g c)) (λ s inset. c.tree_spans_law.ensures.suits (graph_after h) (frame_after (blank_of sort) h) i b s good facts (at_node g c) inset) at
 
--- the span of the node that was handed in, or any
+-- the span of the node that was passed, or any
 span_is : (g : Over) (c : After-cut g) → Whole (graph_after (seen_of c.args.pass.now)) c.args.node.now.node (g.N.Node.body c.args.node.now.body) c.if-parent-eq0.span
 span_is g c = let sort = sort_of g.N.Node.layout g.N.Node.ranged in let n : ℕ = c.args.arena.now.table.shared.table_id.slots in let h = seen_of c.args.pass.now in let sound = c.requires.pass.sound in let good = ((c.search_law.ensures sort n).good h sound) in let facts = (c.search_law.ensures sort n).facts h sound in let b : Body = g.N.Node.body c.args.node.now.body in let u : Body = g.N.Node.body c.args.parent.now.body in let i : ℕ = c.args.node.now.node in
     elim c.if-parent-eq0.branch [
@@ -45,11 +45,11 @@ within g c = cut_inside (graph_after (seen_of c.args.pass.now)) c.args.node.now.
 pub returns-clause-cut : goal.returns-clause-cut
 returns-clause-cut g c = within g c
 
--- the cut goes by the span that was handed in
+-- the cut is that of the span that was passed
 is_cut : (g : Over) (c : After-cut g) → c.cut.result ≡ g.N.Node.cut_at (content_of (g.N.Node.body c.args.node.now.body)) c.if-parent-eq0.span
 is_cut g c = c.cut.ensures.is ∙ ap (λ (t : Bool). g.N.Node.cut_at (content_of (g.N.Node.body c.args.node.now.body)) (cond t (g.N.Node.body c.args.node.now.body).range c.if-parent-eq0.span)) c.unlinked_law.ensures.by_span
 
--- the parent is a branch, if those alone have edges
+-- the parent is a branch, if only branches have edges
 branch_is : (t : Bool) (u : Body) → is_branch u ≡ t → (is_branch u ≡ false → length u.starts ≡ 0) → length (edges_of u) ≡ length u.starts → 0 < length (edges_of u) → IsTrue (is_branch u)
 branch_is true u e none same some = e
 branch_is false u e none same some = absurd (omega (arith, none e, same, some))

@@ -36,7 +36,7 @@ returns-clause-cut g c = let at = (goal.at.returns-clause-cut g c).After-node_la
 pub returns-clause-grows : goal.returns-clause-grows
 returns-clause-grows g c = λ grows. let at = (goal.at.returns-clause-grows g c).After-node_law in c.cut.ensures.grows all_places (suits g at) (λ r e. same_span all_places r e) grows (λ no_place. refl)
 
--- the cut goes by the span that was handed in
+-- the cut is that of the span that was passed
 is_cut : (g : Over) (c : After-cut g) → c.cut.result ≡ g.N.Node.cut_at (content_of (g.N.Node.body c.args.root.now.body)) (Some all_places)
 is_cut g c = c.cut.ensures.is ∙ ap (λ (t : Bool). g.N.Node.cut_at (content_of (g.N.Node.body c.args.root.now.body)) (cond t (g.N.Node.body c.args.root.now.body).range (Some all_places))) c.unlinked_law.ensures.by_span
 

@@ -60,7 +60,7 @@ returns-then-place-cut-clause-kept g c = ((λ lt. refl), λ le. absurd (omega (a
 pub returns-else-place-cut-clause-kept : goal.returns-else-place-cut-clause-kept
 returns-else-place-cut-clause-kept g c = ((λ lt. absurd (omega (arith, lt, c.if-place-cut.false))), λ le. refl)
 
--- what it does
+-- the kinds of its events
 
 pub returns-then-place-cut-clause-leaves : goal.returns-then-place-cut-clause-leaves
 returns-then-place-cut-clause-leaves g c = searches_give c.args.pass.now.caller c.args.right.node (seen_of c.args.pass.now) (seen_of c.give.new.pass) c.give.ensures.gave

@@ -39,7 +39,7 @@ gone : (g : Over) (c : After-give g) → Laws (sort_of g.N.Node.layout g.N.Node.
 gone g c law = let me : ℕ = c.args.pass.now.caller in let h = seen_of c.args.pass.now in let k = seen_of c.give.new.pass in let r : ℕ = c.args.right.node in let i : ℕ = c.args.path.node.node in let e = c.give.ensures in
     subst (λ (z : ℕ). hand z k ≡ drop_one i (hand me h)) e.caller e.hand ∙ ap (drop_one i) c.requires.hands ∙ drop_later r i (i ∷ numbers c.args.path.parent) (λ same. (twice g c law).0 (inl (sym same))) ∙ ap (λ (z : List ℕ). r ∷ z) (drop_first i (numbers c.args.path.parent))
 
--- a node in hand that is not given still matches
+-- a held node that is not released still matches
 still : (g : Over) (c : After-give g) (y : Hand g.row.N.Denot) → Has (c.args.right.node ∷ c.args.path.node.node ∷ numbers c.args.path.parent) y.node → y.node ≢ c.args.path.node.node → Matches (sort_of g.N.Node.layout g.N.Node.ranged) g.N.Node.body (seen_of c.args.pass.now) y → Matches (sort_of g.N.Node.layout g.N.Node.ranged) g.N.Node.body (seen_of c.give.new.pass) y
 still g c y has ne matches = c.give.ensures.rest.still y ne (subst (λ (z : List ℕ). Has z y.node) (sym c.requires.hands) has) matches
 

@@ -21,7 +21,7 @@ pub returns-in-Shut-clause-stretch : goal.returns-in-Shut-clause-stretch
 returns-in-Shut-clause-stretch g c = let me : ℕ = c.args.pass.now.caller in let h = seen_of c.args.pass.now in let h₁ = seen_of c.split.new.pass in let h₂ = seen_of c.down-in-Shut.new.pass in
     stretches_both me h h₁ h₂ c.split.ensures.stretch (stretches_as me c.split.new.pass.caller h₁ h₂ c.split.ensures.caller c.down-in-Shut.ensures.stretch)
 
--- what it does
+-- the kinds of its events
 
 pub returns-then-not-is_branch-clause-fills : goal.returns-then-not-is_branch-clause-fills
 returns-then-not-is_branch-clause-fills g c = searched_fills (sort_of g.N.Node.layout g.N.Node.ranged) c.args.place c.args.pass.now.caller (seen_of c.args.pass.now) (seen_of c.down.new.pass) c.down.ensures.leaves

@@ -32,7 +32,7 @@ loop-preserved g c = let layout : Layout = g.N.Node.layout in let n : ℕ = c.ar
   fills_search_on (sort_of g.N.Node.layout g.N.Node.ranged) c.args.place b₁ b s k₁ k e.caller (fills_on (sort_of g.N.Node.layout g.N.Node.ranged) c.args.place a b₁ s h k₁ e₁.caller inv.5 (e₁.fills (let none = c.has_room.ensures.none c.if-has_room.false in (none.1, λ leaf. none.0)))) e.leaves,
 )
 
--- how the search comes back
+-- what the search returns
 
 pub returns-then-has_room-clause-room : goal.returns-then-has_room-clause-room
 returns-then-has_room-clause-room g c = let n : ℕ = c.args.arena.now.nodes in let me : ℕ = c.args.pass.now.caller in let s = seen_of c.args.pass.now in let inv = c.loop.invariant in let e = c.come_to_end.ensures in
@@ -65,7 +65,7 @@ returns-then-refused-2-clause-stretch g c = let me : ℕ = c.args.pass.now.calle
 pub split-requires-clause-full : goal.split-requires-clause-full
 split-requires-clause-full g c = (c.has_room.ensures.none c.if-has_room.false).1
 
--- what it does
+-- the kinds of its events
 
 pub loop-init : goal.loop-init
 loop-init g c = let e = c.enter-path.ensures in let s = seen_of c.args.pass.now in let k = seen_of c.enter-path.new.pass in (

@@ -82,7 +82,7 @@ returns-clause-stretch g c = let me : ℕ = c.args.pass.now.caller in let h = se
     (stretches_shape me c.claim_two.new.pass.caller c.grow.new.pass.caller h₁ h₂ one two (omega (arith, ap length c.in-Some.ensures.claimed.hands, ap length c.requires.path.hands)) c.grow.ensures.shaped.hand c.grow.ensures.shaped.adds)
     (stretches_as me c.grow.new.pass.caller h₂ h₃ (two ∙ one) c.keep_half.ensures.stretch))
 
--- how deep the search stands
+-- how many steps down the search is
 
 pub returns-in_default-clause-down : goal.returns-in_default-clause-down
 returns-in_default-clause-down g c = λ start taken roots steps down. let law = laws g (goal.at.returns-in_default-clause-down g c).After-search_law in let k = seen_of c.claim_two.new.pass in
@@ -119,7 +119,7 @@ returns-clause-narrows g c = let at = goal.at.returns-clause-narrows g c in let 
     (leads cut j ((c.grow.ensures.parts cut (inset g at.After-claim_two cut c.requires.cut.0 held)).1 (omega arith)).0) in
     half_narrower g.N.Node.layout shows place (record { parent = None; node = c.args.root }) c.keep_half.result y c.grow.new.left c.grow.new.right cut c.requires.full c.requires.cut.1 low low c.grow.ensures.left.body c.grow.ensures.right.body below c.keep_half.ensures.parent c.keep_half.ensures.kept.0 c.keep_half.ensures.kept.1
 
--- what it does
+-- the kinds of its events
 
 pub returns-in_default-clause-fills : goal.returns-in_default-clause-fills
 returns-in_default-clause-fills g c = λ must. c.claim_two.ensures.fills c.args.place

@@ -105,7 +105,7 @@ returns-clause-stretch g c = let me : ℕ = c.args.pass.now.caller in let h = se
     (stretches_shape me c.claim_one.new.pass.caller c.split_own.new.pass.caller h₁ h₂ one two (omega (arith, ap length c.in-Some.ensures.claimed.hands, few c.args.path.parent (hand_of c.args.pass.now) c.args.path.node.node c.requires.path.hands)) c.split_own.ensures.shaped.hand c.split_own.ensures.shaped.adds)
     (stretches_as me c.split_own.new.pass.caller h₂ h₃ (two ∙ one) c.keep_right_alone.ensures.stretch))
 
--- how deep the search stands
+-- how many steps down the search is
 
 pub returns-in_default-clause-down : goal.returns-in_default-clause-down
 returns-in_default-clause-down g c = λ start taken roots steps down. let law = laws g (goal.at.returns-in_default-clause-down g c).After-search_law in let k = seen_of c.claim_one.new.pass in
@@ -218,7 +218,7 @@ pub returns-clause-narrows : goal.returns-clause-narrows
 returns-clause-narrows g c = let shows = g.N.Node.body in let cut : ℕ = c.args.cut in let low : cut ≤ top = omega (arith, c.ranges.cut) in
     right_narrower g.N.Node.layout shows c.args.place c.args.path c.keep_right_alone.result cut c.requires.full low c.requires.cut.1.0.0 (ap (λ (z : Hand g.row.N.Denot). (shows z.body).low) c.keep_right_alone.ensures.node ∙ ap (λ (z : Body). z.low) c.split_own.ensures.right.body)
 
--- what it does
+-- the kinds of its events
 
 pub returns-in_default-clause-fills : goal.returns-in_default-clause-fills
 returns-in_default-clause-fills g c = λ must. c.claim_one.ensures.fills c.args.place

@@ -76,7 +76,7 @@ returns-clause-stretch g c = let me : ℕ = c.args.pass.now.caller in let h = se
     (stretches_shape me c.claim_one.new.pass.caller c.split_under.new.pass.caller h₁ h₂ one two (omega (arith, ap length c.in-Some.ensures.claimed.hands, ap length c.requires.path.hands)) c.split_under.ensures.shaped.hand c.split_under.ensures.shaped.adds)
     (stretches_as me c.split_under.new.pass.caller h₂ h₃ (two ∙ one) c.keep_half.ensures.stretch))
 
--- how deep the search stands
+-- how many steps down the search is
 
 pub returns-in_default-clause-down : goal.returns-in_default-clause-down
 returns-in_default-clause-down g c = λ start taken roots steps down. let law = laws g (goal.at.returns-in_default-clause-down g c).After-search_law in let k = seen_of c.claim_one.new.pass in
@@ -119,7 +119,7 @@ returns-clause-narrows g c = let at = goal.at.returns-clause-narrows g c in let 
     (leads cut j ((c.split_under.ensures.parts cut (inset g at.After-claim_one cut c.requires.cut.0 held)).1 (omega arith)).0) in
     half_narrower g.N.Node.layout shows place (record { parent = Some c.args.parent; node = c.args.node }) c.keep_half.result y c.split_under.new.node c.split_under.new.right cut c.requires.full c.requires.cut.1 low above c.split_under.ensures.node.body c.split_under.ensures.right.body below c.keep_half.ensures.parent c.keep_half.ensures.kept.0 c.keep_half.ensures.kept.1
 
--- what it does
+-- the kinds of its events
 
 pub returns-in_default-clause-fills : goal.returns-in_default-clause-fills
 returns-in_default-clause-fills g c = λ must. c.claim_one.ensures.fills c.args.place

@@ -53,7 +53,7 @@ pub returns-in-Err-clause-ends : goal.returns-in-Err-clause-ends
 returns-in-Err-clause-ends g c = λ template start finds took under. let n : ℕ = c.args.arena.now.nodes in let me : ℕ = c.args.pass.now.caller in let op : Op = filling c.args.place c.args.fill in
     ends_later g.N.Node.layout template n me op start (seen_of c.try_make_room.new.pass) c.in-Err.later finds (left g (goal.at.returns-in-Err-clause-ends g c).In-Err template start under) (c.in-Err.ensures.cause start took op (fill_touches c.args.place c.args.fill)).0
 
--- what it does
+-- the kinds of its events
 
 pub returns-in-Ok-clause-fills : goal.returns-in-Ok-clause-fills
 returns-in-Ok-clause-fills g c = let e = c.try_make_room.ensures in fills_search (sort_of g.N.Node.layout g.N.Node.ranged) c.args.place c.args.pass.now.caller c.try_make_room.new.pass.caller (seen_of c.args.pass.now) (seen_of c.try_make_room.new.pass) (seen_of c.fill_at.new.pass) e.caller e.fills c.fill_at.ensures.leaves

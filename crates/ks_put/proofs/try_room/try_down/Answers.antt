@@ -20,7 +20,7 @@ use Rattle.ks_put.proofs.try_room.try_down.Given.{Over}
 use Rattle.ks_put.proofs.try_room.try_down.Goals as goal
 use Rattle.ks_put.proofs.try_room.try_down.Goals.{After-let_go-held}
 
--- the node that is kept stands as deep as the path did
+-- the node that is kept is as many steps down as the path was
 stands : (g : Over) (c : After-let_go-held g) (start : List Event) → IsDownPath c.args.arena.now.nodes c.args.pass.now.caller start (seen_of c.args.pass.now) (suc c.args.depth) 2 c.args.depth c.args.path → IsDown c.args.arena.now.nodes c.args.pass.now.caller start (seen_of c.let_go-held.new.pass) (suc c.args.depth) 2 c.args.depth c.let_go-held.result.node
 stands g c start down = let sort = sort_of g.N.Node.layout g.N.Node.ranged in let slots : ℕ = c.args.arena.now.table.shared.table_id.slots in let n : ℕ = c.args.arena.now.nodes in let me : ℕ = c.args.pass.now.caller in let h = seen_of c.args.pass.now in let k = seen_of c.let_go-held.new.pass in let e = c.let_go-held.ensures in let law = c.search_law.ensures sort slots in let depth : ℕ = c.args.depth in
     subst (λ (x : Hand g.row.N.Denot). IsDown n me start k (suc depth) 2 depth x.node) (sym e.node)

@@ -44,7 +44,7 @@ pub returns-in-Shut-clause-stretch : goal.returns-in-Shut-clause-stretch
 returns-in-Shut-clause-stretch g c = let me : ℕ = c.args.pass.now.caller in let h = seen_of c.args.pass.now in let h₁ = seen_of c.split.new.pass in let h₂ = seen_of c.try_down-in-Shut.new.pass in
     stretches_both me h h₁ h₂ c.split.ensures.stretch (stretches_as me c.split.new.pass.caller h₁ h₂ c.split.ensures.caller c.try_down-in-Shut.ensures.stretch)
 
--- the other facts, by what the step down tells
+-- the other facts, from what the step down ensures
 
 pub returns-then-not-is_branch-clause-refused : goal.returns-then-not-is_branch-clause-refused
 returns-then-not-is_branch-clause-refused g c = refused_before c.args.path.node c.args.depth c.args.refused (NoneFree g.N.Node.layout c.args.arena.now.nodes c.args.pass.now.caller c.args.place (seen_of c.args.pass.now) (seen_of c.try_down.new.pass)) c.try_down.result c.try_down.ensures.went
@@ -92,7 +92,7 @@ returns-in-Shut-clause-eased g c = λ ways eased. eased_down g.N.Node.layout g.N
 pub returns-in-Shut-clause-nearer : goal.returns-in-Shut-clause-nearer
 returns-in-Shut-clause-nearer g c = nearer_down g.N.Node.layout g.N.Node.body c.args.place c.in-Shut.whole.node c.args.depth c.args.refused c.args.path c.try_down-in-Shut.result c.try_down-in-Shut.ensures.went
 
--- what it does
+-- the kinds of its events
 
 pub returns-then-not-is_branch-clause-fills : goal.returns-then-not-is_branch-clause-fills
 returns-then-not-is_branch-clause-fills g c = searched_fills (sort_of g.N.Node.layout g.N.Node.ranged) c.args.place c.args.pass.now.caller (seen_of c.args.pass.now) (seen_of c.try_down.new.pass) c.try_down.ensures.leaves

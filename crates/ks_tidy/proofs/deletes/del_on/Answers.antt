@@ -81,7 +81,7 @@ pub returns-clause-begins : goal.returns-clause-begins
 returns-clause-begins g c = let h₁ = seen_of c.delete-answer.new.pass in let k = seen_of c.tidy_end.new.pass in
     begins_both (seen_of c.args.pass.now) h₁ k c.delete-answer.ensures.begins (stretches_begins c.delete-answer.new.pass.caller h₁ k c.tidy_end.ensures.stretch)
 
--- what it does
+-- the kinds of its events
 
 pub returns-then-is_none-clause-dels : goal.returns-then-is_none-clause-dels
 returns-then-is_none-clause-dels g c = searched_dels (sort_of g.N.Node.layout g.N.Node.ranged) c.args.pass.now.caller (seen_of c.args.pass.now) (seen_of c.leave.new.pass) (does_on MaySearch c.args.pass.now.caller c.delete-answer.new.pass.caller (seen_of c.args.pass.now) (seen_of c.delete-answer.new.pass) (seen_of c.leave.new.pass) c.delete-answer.ensures.caller c.delete-answer.ensures.leaves c.leave.ensures.leaves)

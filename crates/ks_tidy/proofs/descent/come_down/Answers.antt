@@ -17,7 +17,7 @@ pub loop-init : goal.loop-init
 loop-init g c = let me : ℕ = c.args.pass.now.caller in let h = seen_of c.args.pass.now in let k = seen_of c.enter-path.new.pass in let e = c.enter-path.ensures in
     (e.pass, e.caller, record { path = e.path; rooted = λ none. e.root.1 }, e.stretch, counts_of me 0 h k (omega arith) (frees_take me 0 h k e.took), searched_dels (sort_of g.N.Node.layout g.N.Node.ranged) me h k e.leaves)
 
--- where the search stands after it tidied
+-- where the search is after it tidied
 now : (g : Over) (c : After-tidy_branch-tidied g) → c.tidy_branch-tidied.new.pass.caller ≡ c.args.pass.now.caller
 now g c = c.tidy_branch-tidied.ensures.caller ∙ c.loop.invariant.1
 

@@ -24,7 +24,7 @@ use Rattle.ks_tidy.proofs.joins.join_own.Goals.{After-node_law-2, After-absorb_o
 laws : (g : Over) (c : After-node_law-2 g) → Laws (sort_of g.N.Node.layout g.N.Node.ranged) c.args.arena.now.table.shared.table_id.slots
 laws g c = c.search_law.ensures (sort_of g.N.Node.layout g.N.Node.ranged) c.args.arena.now.table.shared.table_id.slots
 
--- the nodes in hand are apart
+-- the held nodes are distinct
 once : (g : Over) (c : After-node_law-2 g) → AreOnce (c.args.next.node ∷ c.args.path.node.node ∷ numbers c.args.path.parent)
 once g c = once_in (sort_of g.N.Node.layout g.N.Node.ranged) c.args.arena.now.table.shared.table_id.slots c.args.pass.now.caller (laws g c) (seen_of c.args.pass.now) (c.args.next.node ∷ c.args.path.node.node ∷ numbers c.args.path.parent) c.requires.pass.sound c.requires.trio.hands
 
@@ -124,7 +124,7 @@ returns-clause-places g c = let at = goal.at.returns-clause-places g c in let so
     subst (λ (z : ℕ). HasPlacesOf (graph_after h) (graph_after k) i z) (sym (result_path g at.After-keep_left-2))
     (places_kept sort n me law (Give me c.args.next.node) h k i tt c.keep_left-2.ensures.gave c.requires.pass.sound c.keep_left-2.ensures.pass.sound has has')
 
--- what was seen of the two in hand holds at the end, if nobody else acts
+-- what was seen of the two held nodes holds at the end, if nobody else acts
 fits_none : (g : Over) (c : After-keep_left-2 g) → FitsNoRight g.N.Node.layout (graph_after (seen_of c.args.pass.now)) (frame_after (blank_of (sort_of g.N.Node.layout g.N.Node.ranged)) (seen_of c.args.pass.now)) c.args.path.node.node
 fits_none g c = let sort = sort_of g.N.Node.layout g.N.Node.ranged in let h = seen_of c.args.pass.now in let x = c.args.path.node in let right = c.args.next in let trio = c.requires.trio in let no_link = c.unlinked_law.ensures.no_link in
     c.alone_law.ensures.own g.N.Node.layout (graph_after h) (frame_after (blank_of sort) h) x.node right.node (g.N.Node.body x.body) (g.N.Node.body right.body)
@@ -144,7 +144,7 @@ returns-clause-step g c = let at = goal.at.returns-clause-step g c in let sort =
           c.args.path.node.node (fits_none g at.After-keep_left-2);
     }
 
--- what it does
+-- the kinds of its events
 
 pub returns-then-fits-clause-dels : goal.returns-then-fits-clause-dels
 returns-then-fits-clause-dels g c = λ low. dels_search (sort_of g.N.Node.layout g.N.Node.ranged) c.args.pass.now.caller c.absorb_own.new.pass.caller (seen_of c.args.pass.now) (seen_of c.absorb_own.new.pass) (seen_of c.keep_left.new.pass) c.absorb_own.ensures.caller (c.absorb_own.ensures.dels low) c.keep_left.ensures.leaves

@@ -36,7 +36,7 @@ collapse-requires-clause-child g c = let path = c.requires.pair.path in record {
 pub collapse-requires-clause-apart : goal.collapse-requires-clause-apart
 collapse-requires-clause-apart g c = apart g (goal.at.collapse-requires-clause-apart g c).After-search_law
 
--- the hands after the shape, and after the give
+-- the hands after the shape, and after the release
 shaped_hands : (g : Over) (c : After-give g) → hand c.args.pass.now.caller (seen_of c.collapse.new.pass) ≡ c.args.child.node ∷ c.args.root.node ∷ []
 shaped_hands g c = let h₁ = seen_of c.collapse.new.pass in subst (λ (z : ℕ). hand z h₁ ≡ c.args.child.node ∷ c.args.root.node ∷ []) c.collapse.ensures.caller (c.collapse.ensures.shaped.hand ∙ c.requires.pair.path.hands)
 

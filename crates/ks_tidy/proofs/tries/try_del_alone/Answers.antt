@@ -91,7 +91,7 @@ returns-then-low-clause-begins g c = let at = (goal.at.returns-then-low-clause-b
     begins_both (seen_of c.args.pass.now) h₁ k c.delete-answer.ensures.begins
     (begins_both h₁ h₂ k (stretches_begins c.args.pass.now.caller h₁ h₂ (gives g at)) (stretches_begins c.give.new.pass.caller h₂ k c.try_pair_tidy.ensures.stretch))
 
--- what it does
+-- the kinds of its events
 
 left : (g : Over) (c : After-give g) → DoesOnly MaySearch c.args.pass.now.caller (seen_of c.args.pass.now) (seen_of c.give.new.pass)
 left g c = let own : ℕ = c.delete-answer.new.pass.caller in let h₁ = seen_of c.delete-answer.new.pass in let k = seen_of c.give.new.pass in

@@ -24,7 +24,7 @@ pub loop-steps-init : goal.loop-steps-init
 loop-steps-init g c = let me : ℕ = c.args.pass.now.caller in let h = seen_of c.args.pass.now in let k = seen_of c.try_enter.new.pass in let e = c.try_enter.ensures in let o = c.in-Ok.ensures in
     (e.pass, e.caller, record { path = o.path; rooted = λ none. o.took.0 }, e.stretch, counts_of me 0 h k (omega arith) (frees_take me 0 h k o.took.1), searched_dels (sort_of g.N.Node.layout g.N.Node.ranged) me h k e.leaves)
 
--- where the search stands after it tidied
+-- where the search is after it tidied
 now : (g : Over) (c : After-try_tidy_at-tidied g) → c.try_tidy_at-tidied.new.pass.caller ≡ c.args.pass.now.caller
 now g c = c.try_tidy_at-tidied.ensures.caller ∙ c.loop-steps.invariant.1
 
@@ -93,7 +93,7 @@ pub returns-clause-counts : goal.returns-clause-counts
 returns-clause-counts g c = let me : ℕ = c.args.pass.now.caller in let inv = c.loop-steps.invariant in let h₁ = seen_of c.loop-steps.pass in let k = seen_of c.leave-2.new.pass in
     counts_on me c.loop-steps.freed (seen_of c.args.pass.now) h₁ k inv.4 (frees_as me c.loop-steps.pass.caller h₁ k inv.1 c.leave-2.ensures.frees)
 
--- what it does
+-- the kinds of its events
 
 pub returns-in-Err-clause-dels : goal.returns-in-Err-clause-dels
 returns-in-Err-clause-dels g c = searched_dels (sort_of g.N.Node.layout g.N.Node.ranged) c.args.pass.now.caller (seen_of c.args.pass.now) (seen_of c.try_enter.new.pass) c.try_enter.ensures.leaves

@@ -44,7 +44,7 @@ Pair = Tuple (u64 ∷ u128 ∷ [])
 abbrev Dd : RattleType
 Dd = D.the_row Pair G.the_row ghosts
 
--- a struct by its fields alone: what it owns does not read its name
+-- a struct with fields only: what it owns does not depend on its name
 abbrev plainly : List RattleType → RattleType
 plainly Rs = Struct (record { name = []; args = []; types = []; fields = Rs })
 
