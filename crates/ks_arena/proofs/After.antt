@@ -9,11 +9,15 @@ use Rattle.ks_keysets.specs.declared.Frame.{Frame}
 use Rattle.ks_keysets.specs.declared.NodeState.{NodeState}
 use Rattle.ks_keysets.specs.declared.NodeState.TheVariants.{Free, Claimed, Live}
 use Rattle.ks_keysets.specs.declared.Change.{Change}
-use Rattle.ks_keysets.specs.Change.{new_state, new_frame, shaped, reframed}
+use Rattle.ks_keysets.specs.Change.{new_state, shaped}
+use Rattle.ks_keysets.specs.Reframed.{new_frame, reframed}
 use Rattle.ks_history.specs.declared.Event.{Event}
 use Rattle.ks_history.specs.declared.Event.TheVariants.{Give, Claim, Shape}
-use Rattle.ks_history.specs.Trace.{mine, hand, drop_one, free, held, turn_given, given, graph_after, turn_after, frame_after, caller_of}
-use Rattle.ks_history.specs.Passes.{Has, CallersBelow, GrowsByOthers, GrowsWith}
+use Rattle.ks_history.specs.Own.{mine, hand, drop_one}
+use Rattle.ks_history.specs.Trace.{free, held, turn_given, given, graph_after, turn_after, caller_of}
+use Rattle.ks_history.specs.Frames.{frame_after}
+use Rattle.ks_history.specs.Passes.{Has, GrowsByOthers, GrowsWith}
+use Rattle.ks_history.specs.Callers.{CallersBelow}
 use Rattle.ks_history.specs.Stays.{StaysHeld}
 use Rattle.ks_history.specs.Laws.Stays.{AreInTurn, cond_here, cond_else}
 use Rattle.ks_history.specs.Laws.Begins.{by_others_keeps, by_others_turn, by_others_hand, by_others_mine, with_mine, by_others_with, with_others, give_hand}

@@ -20,10 +20,12 @@ use Rattle.ks_history.specs.Write.{written, keeps, sets}
 use Rattle.ks_history.specs.Laws.Stays.{cond_here, cond_else}
 use Rattle.ks_history.specs.Passes.{NoCallBy}
 use Rattle.ks_history.specs.Laws.Dues.{is_due_by}
-use Rattle.ks_history.specs.Trace.{◌⊑◌, held, graph_after, turn_after, frame_after, state_with}
+use Rattle.ks_history.specs.Trace.{◌⊑◌, held, graph_after, turn_after, state_with}
+use Rattle.ks_history.specs.Frames.{frame_after}
 use Rattle.ks_history.specs.Lawful.{Meets}
 use Rattle.ks_history.specs.Due.{IsDue, IsFullFor, NoneFree}
-use Rattle.ks_keysets.specs.Layout.{Layout, room, capacity}
+use Rattle.ks_keysets.specs.Layout.{Layout, room}
+use Rattle.ks_keysets.specs.Tight.{capacity}
 use Rattle.ks_node.specs.declared.start.Next.TheVariants.{Here}
 use Rattle.ks_node.specs.Body.{Body, content_of, frame_of, is_branch, is_branch_kind, next_at, value_at}
 use Rattle.ks_node.specs.Edges.{record_of}

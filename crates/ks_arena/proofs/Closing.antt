@@ -13,8 +13,10 @@ use Rattle.ks_keysets.specs.declared.Frame.{Frame}
 use Rattle.ks_keysets.specs.declared.NodeState.{NodeState}
 use Rattle.ks_keysets.specs.declared.Change.{Change}
 use Rattle.ks_history.specs.declared.Event.{Event}
-use Rattle.ks_history.specs.Trace.{hand, free, idle, held, turn_after}
-use Rattle.ks_history.specs.Passes.{Has, CallersBelow}
+use Rattle.ks_history.specs.Own.{hand}
+use Rattle.ks_history.specs.Trace.{free, idle, held, turn_after}
+use Rattle.ks_history.specs.Passes.{Has}
+use Rattle.ks_history.specs.Callers.{CallersBelow}
 use Rattle.ks_history.specs.Laws.Stays.{cond_here, cond_else, others_turn}
 use Rattle.ks_history.specs.Laws.Hand.{held_in_hand}
 use Rattle.ks_history.specs.Laws.Begins.{none_by}

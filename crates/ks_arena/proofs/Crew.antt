@@ -15,8 +15,10 @@ use Rattle.ks_keysets.specs.declared.NodeState.TheVariants.{Live}
 use Rattle.ks_keysets.specs.declared.Change.{Change}
 use Rattle.ks_keysets.specs.Record.{empty_record}
 use Rattle.ks_history.specs.declared.Event.{Event}
-use Rattle.ks_history.specs.Trace.{Turn, free, idle, held, graph_after, turn_after, frame_after, caller_of}
-use Rattle.ks_history.specs.Passes.{Has, NoneOf, CallersBelow}
+use Rattle.ks_history.specs.Trace.{Turn, free, idle, held, graph_after, turn_after, caller_of}
+use Rattle.ks_history.specs.Frames.{frame_after}
+use Rattle.ks_history.specs.Passes.{Has, NoneOf}
+use Rattle.ks_history.specs.Callers.{CallersBelow}
 use Rattle.ks_history.specs.Laws.Stays.{cond_here, cond_else}
 use Rattle.ks_node.specs.Body.{Body, frame_of, blank_body}
 use Rattle.ks_node.specs.Edges.{record_of}

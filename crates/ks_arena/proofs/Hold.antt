@@ -7,7 +7,8 @@ use Rattle.atomic_table.specs.Table.{rest}
 use Rattle.ks_keysets.specs.declared.NodeState.{NodeState}
 use Rattle.ks_history.specs.declared.Event.{Event}
 use Rattle.ks_history.specs.declared.Event.TheVariants.{Give}
-use Rattle.ks_history.specs.Trace.{mine, hand, drop_one, held, turn_given, graph_after, turn_after}
+use Rattle.ks_history.specs.Own.{mine, hand, drop_one}
+use Rattle.ks_history.specs.Trace.{held, turn_given, graph_after, turn_after}
 use Rattle.ks_history.specs.Passes.{Has, GrowsByOthers, GrowsWith}
 use Rattle.ks_arena.specs.declared.view.Mark.{Mark}
 use Rattle.ks_arena.specs.declared.view.View.{View}

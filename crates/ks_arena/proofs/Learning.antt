@@ -6,8 +6,10 @@ use Rattle.atomic_table.specs.Table.{Step}
 use Rattle.ks_keysets.specs.declared.Frame.{Frame}
 use Rattle.ks_keysets.specs.declared.NodeState.{NodeState}
 use Rattle.ks_keysets.specs.declared.Change.{Change}
-use Rattle.ks_history.specs.Trace.{◌⊑◌, hand}
-use Rattle.ks_history.specs.Passes.{Has, CallersBelow, GrowsByOthers}
+use Rattle.ks_history.specs.Trace.{◌⊑◌}
+use Rattle.ks_history.specs.Own.{hand}
+use Rattle.ks_history.specs.Passes.{Has, GrowsByOthers}
+use Rattle.ks_history.specs.Callers.{CallersBelow}
 use Rattle.ks_history.specs.Laws.Begins.{none_by, by_others_hand, by_others_mine, by_others_keeps}
 use Rattle.ks_node.specs.Body.{Body}
 use Rattle.ks_arena.specs.declared.held.Pass.{Pass}

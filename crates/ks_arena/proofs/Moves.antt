@@ -15,15 +15,19 @@ use Rattle.ks_keysets.specs.declared.Frame.{Frame}
 use Rattle.ks_keysets.specs.declared.NodeState.{NodeState}
 use Rattle.ks_keysets.specs.declared.NodeState.TheVariants.{Free, Claimed, Live}
 use Rattle.ks_keysets.specs.declared.Change.{Change}
-use Rattle.ks_keysets.specs.Change.{new_state, new_frame, shaped, reframed}
+use Rattle.ks_keysets.specs.Change.{new_state, shaped}
+use Rattle.ks_keysets.specs.Reframed.{new_frame, reframed}
 use Rattle.ks_history.specs.declared.Answered.{Answered}
 use Rattle.ks_history.specs.declared.Op.{Op}
 use Rattle.ks_history.specs.declared.Reply.{Reply}
 use Rattle.ks_history.specs.declared.Event.{Event}
 use Rattle.ks_history.specs.declared.Event.TheVariants.{Take, Give, Claim, Shape, Call}
-use Rattle.ks_history.specs.Trace.{Turn, free, idle, held, turn_given, given, state_with, graph_after, turn_after, frame_after, number_after, calls_of, shapes_in, caller_of}
+use Rattle.ks_history.specs.Trace.{Turn, free, idle, held, turn_given, given, state_with, graph_after, turn_after, number_after, calls_of, caller_of}
+use Rattle.ks_history.specs.Frames.{frame_after}
+use Rattle.ks_history.specs.Own.{shapes_in}
 use Rattle.ks_history.specs.Write.{written}
-use Rattle.ks_history.specs.Passes.{Has, CallersBelow, GrowsByOthers}
+use Rattle.ks_history.specs.Passes.{Has, GrowsByOthers}
+use Rattle.ks_history.specs.Callers.{CallersBelow}
 use Rattle.std.specs.Int.{bit_at, bit_not}
 use Rattle.std.proofs.lemmas.Nat.Bits.{bit_at_or, bit_at-lt, bit_at-pow_same, bit_at-pow_other, bit_at_clear_same, bit_at_clear_other}
 use Rattle.ks_arena.specs.declared.view.Mark.{Mark}

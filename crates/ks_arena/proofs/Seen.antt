@@ -7,7 +7,8 @@ use lib.ListN.{get_elem?}
 use Rattle.atomic_table.proofs.Lists.{at_set, set_here, set_else}
 use Rattle.ks_history.specs.declared.Event.{Event}
 use Rattle.ks_history.specs.Trace.{caller_of}
-use Rattle.ks_history.specs.Passes.{Has, NoneOf, CallersBelow}
+use Rattle.ks_history.specs.Passes.{Has, NoneOf}
+use Rattle.ks_history.specs.Callers.{CallersBelow}
 use Rattle.ks_arena.specs.declared.view.Mark.{Mark}
 use Rattle.ks_arena.specs.declared.view.Part.{Part}
 use Rattle.ks_arena.specs.declared.view.View.{View}

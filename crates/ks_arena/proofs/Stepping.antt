@@ -13,7 +13,9 @@ use Rattle.ks_keysets.specs.declared.NodeState.{NodeState}
 use Rattle.ks_keysets.specs.declared.Frame.{Frame}
 use Rattle.ks_keysets.specs.declared.Change.{Change}
 use Rattle.ks_history.specs.declared.Event.{Event}
-use Rattle.ks_history.specs.Trace.{Turn, held, graph_after, turn_after, frame_after, number_after, shapes_in, caller_of}
+use Rattle.ks_history.specs.Trace.{Turn, held, graph_after, turn_after, number_after, caller_of}
+use Rattle.ks_history.specs.Frames.{frame_after}
+use Rattle.ks_history.specs.Own.{shapes_in}
 use Rattle.ks_history.specs.Passes.{Has}
 use Rattle.ks_arena.specs.declared.view.Mark.{Mark}
 use Rattle.ks_arena.specs.declared.view.View.{View}

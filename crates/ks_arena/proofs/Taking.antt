@@ -8,7 +8,7 @@ use Rattle.ks_keysets.specs.declared.NodeState.TheVariants.{Live}
 use Rattle.ks_keysets.specs.declared.Frame.{Frame}
 use Rattle.ks_keysets.specs.declared.Change.{Change}
 use Rattle.ks_history.specs.declared.Event.TheVariants.{Take}
-use Rattle.ks_history.specs.Trace.{hand}
+use Rattle.ks_history.specs.Own.{hand}
 use Rattle.ks_history.specs.Passes.{Has}
 use Rattle.ks_history.specs.Laws.Begins.{take_hand}
 use Rattle.ks_arena.specs.declared.held.Held.{Held as Hand}

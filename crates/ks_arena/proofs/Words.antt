@@ -5,7 +5,7 @@ use native.Mathlib.Decide.{ℕ_discrete}
 use Rattle.ks_history.specs.declared.Event.{Event}
 use Rattle.ks_history.specs.Trace.{◌⊑◌, Turn, free, idle, held, turn_after, caller_of}
 use Rattle.ks_history.specs.Laws.Stays.{cond_here, cond_else, other_turn}
-use Rattle.ks_history.specs.Passes.{CallersBelow}
+use Rattle.ks_history.specs.Callers.{CallersBelow}
 use Rattle.ks_history.specs.Alone.{AllBy, ActsAlone, HoldsAlone}
 use Rattle.ks_arena.specs.Rule.{turn_word}
 

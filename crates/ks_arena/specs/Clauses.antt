@@ -15,11 +15,15 @@ use Rattle.ks_history.specs.declared.Op.{Op}
 use Rattle.ks_history.specs.declared.Reply.{Reply}
 use Rattle.ks_history.specs.declared.Event.{Event}
 use Rattle.ks_history.specs.declared.Event.TheVariants.{Take, Claim, Call}
-use Rattle.ks_history.specs.Trace.{mine, hand, free, held, graph_after, turn_after, frame_after, number_after, state_with}
+use Rattle.ks_history.specs.Own.{mine, hand}
+use Rattle.ks_history.specs.Trace.{free, held, graph_after, turn_after, number_after, state_with}
+use Rattle.ks_history.specs.Frames.{frame_after}
 use Rattle.ks_history.specs.Write.{written}
 use Rattle.ks_history.specs.Lawful.{Meets, Lawful, GoodThroughout}
-use Rattle.ks_history.specs.Due.{IsDue, FullsDue, Sometime}
-use Rattle.ks_history.specs.Passes.{Has, CallersBelow, GrowsByOthers, GrowsWith}
+use Rattle.ks_history.specs.Due.{IsDue, FullsDue}
+use Rattle.ks_history.specs.Refusals.{Sometime}
+use Rattle.ks_history.specs.Passes.{Has, GrowsByOthers, GrowsWith}
+use Rattle.ks_history.specs.Callers.{CallersBelow}
 use Rattle.ks_history.specs.Stays.{StaysHeld}
 use Rattle.ks_arena.specs.declared.held.Held.{Held as Hand}
 use Rattle.std.specs.Slots.{slots_items}

@@ -8,8 +8,10 @@ use Rattle.ks_keysets.specs.declared.Frame.{Frame}
 use Rattle.ks_keysets.specs.declared.Change.{Change}
 use Rattle.ks_history.specs.declared.Event.{Event}
 use Rattle.ks_history.specs.declared.Event.TheVariants.{Take, Give, Claim}
-use Rattle.ks_history.specs.Trace.{free, held, graph_after, turn_after, frame_after, number_after}
-use Rattle.ks_history.specs.Passes.{NoneOf, CallersBelow}
+use Rattle.ks_history.specs.Trace.{free, held, graph_after, turn_after, number_after}
+use Rattle.ks_history.specs.Frames.{frame_after}
+use Rattle.ks_history.specs.Passes.{NoneOf}
+use Rattle.ks_history.specs.Callers.{CallersBelow}
 use Rattle.ks_arena.specs.declared.view.Mark.{Mark}
 use Rattle.ks_arena.specs.declared.view.Mark.TheVariants.{Quiet, Claiming, Freeing}
 use Rattle.ks_arena.specs.declared.view.View.{View}

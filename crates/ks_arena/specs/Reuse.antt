@@ -7,7 +7,7 @@ use Rattle.ks_keysets.specs.declared.Record.{Record}
 use Rattle.ks_keysets.specs.Keyset.{record_at, IsLive, InKeyset}
 use Rattle.ks_history.specs.declared.Event.{Event}
 use Rattle.ks_history.specs.declared.Event.TheVariants.{Take, Give, Claim, Shape, Call}
-use Rattle.ks_history.specs.Due.{Sometime}
+use Rattle.ks_history.specs.Refusals.{Sometime}
 use Rattle.ks_history.specs.Map.{Touches}
 use Rattle.ks_history.specs.Trace.{free, held, graph_after, turn_after}
 

@@ -10,8 +10,11 @@ use Rattle.ks_keysets.specs.declared.NodeState.{NodeState}
 use Rattle.ks_keysets.specs.declared.NodeState.TheVariants.{Live}
 use Rattle.ks_keysets.specs.declared.Change.{Change}
 use Rattle.ks_history.specs.declared.Event.{Event}
-use Rattle.ks_history.specs.Trace.{Turn, free, idle, held, graph_after, turn_after, frame_after, number_after, shapes_in}
-use Rattle.ks_history.specs.Passes.{Has, NoneOf, CallersBelow}
+use Rattle.ks_history.specs.Trace.{Turn, free, idle, held, graph_after, turn_after, number_after}
+use Rattle.ks_history.specs.Frames.{frame_after}
+use Rattle.ks_history.specs.Own.{shapes_in}
+use Rattle.ks_history.specs.Passes.{Has, NoneOf}
+use Rattle.ks_history.specs.Callers.{CallersBelow}
 use Rattle.ks_arena.specs.declared.view.Mark.{Mark}
 use Rattle.ks_arena.specs.declared.view.Mark.TheVariants.{Quiet, Claiming, Freeing}
 use Rattle.ks_arena.specs.declared.view.Part.{Part}

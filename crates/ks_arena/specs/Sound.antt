@@ -7,7 +7,8 @@ use Rattle.ks_node.specs.Body.{frame_of, blank_body}
 use Rattle.ks_keysets.specs.Layout.{Layout}
 use Rattle.ks_history.specs.declared.Event.{Event}
 use Rattle.ks_history.specs.declared.Event.TheVariants.{Take, Give, Claim, Shape, Call}
-use Rattle.ks_history.specs.Trace.{held, graph_after, turn_after, frame_after}
+use Rattle.ks_history.specs.Trace.{held, graph_after, turn_after}
+use Rattle.ks_history.specs.Frames.{frame_after}
 use Rattle.ks_history.specs.Lawful.{Meets}
 use Rattle.ks_history.specs.Due.{IsDue}
 

@@ -1,7 +1,7 @@
 //! Taking nodes, giving them back, and what is decided and shaped meanwhile.
 ghost use Rattle.std.specs.Prelude.{◌≡◌, ◌+◌, ◌%◌, ◌∷◌};
 ghost use Rattle.ks_arena.specs.declared.view.Mark.TheVariants.{Freeing};
-ghost use Rattle.ks_history.specs.Trace.{drop_one};
+ghost use Rattle.ks_history.specs.Own.{drop_one};
 ghost use Rattle.ks_history.specs.declared.Event.TheVariants.{Call, Give, Shape};
 ghost use Rattle.ks_arena.specs.Clauses.{give_mark, give_steps, hand_of, mine_of, AllAmong, EachOnce, changes_of};
 ghost use Rattle.ks_arena.specs.Of.{Holds, Adds, HasDecided, HasShaped, Looks, KeepsBut, IsPassOf, IsMarkedPassOf, IsCurrent, TriedToTake, IsReadyAt, AreCurrent, MayBecome, nodes_of, IsNodeOf, RestStays, RestStaysBut, SameCaller, caller_of, steps_of};

@@ -8,14 +8,17 @@ use Rattle.ks_keysets.specs.declared.Kind.TheVariants.{NoBranch, Inner, Director
 use Rattle.ks_keysets.specs.declared.NodeState.TheVariants.{Live}
 use Rattle.ks_keysets.specs.Record.{top}
 use Rattle.ks_keysets.specs.Keyset.{live_record, InOutset}
-use Rattle.ks_keysets.specs.Layout.{room, capacity}
+use Rattle.ks_keysets.specs.Layout.{room}
+use Rattle.ks_keysets.specs.Tight.{capacity}
 use Rattle.ks_history.specs.declared.Op.TheVariants.{Put}
 use Rattle.ks_history.specs.declared.Reply.{Reply}
 use Rattle.ks_history.specs.declared.Event.{Event}
 use Rattle.ks_history.specs.declared.Event.TheVariants.{Take, Give, Call}
 use Rattle.ks_history.specs.Map.{told}
-use Rattle.ks_history.specs.Trace.{graph_after, frame_after, calls_by}
-use Rattle.ks_history.specs.Due.{IsFullFor, Sometime}
+use Rattle.ks_history.specs.Trace.{graph_after, calls_by}
+use Rattle.ks_history.specs.Frames.{frame_after}
+use Rattle.ks_history.specs.Due.{IsFullFor}
+use Rattle.ks_history.specs.Refusals.{Sometime}
 use Rattle.ks_history.specs.Passes.{GrowsWith}
 use Rattle.ks_history.specs.Laws.Begins.{none_no_call}
 use Rattle.ks_history.specs.Calls.{numbered}

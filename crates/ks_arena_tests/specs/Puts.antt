@@ -8,7 +8,8 @@ use Rattle.ks_history.specs.declared.Op.TheVariants.{Put}
 use Rattle.ks_history.specs.Map.{told}
 use Rattle.ks_history.specs.Trace.{graph_after, NumberedCall}
 use Rattle.ks_history.specs.Calls.{numbered}
-use Rattle.ks_history.specs.Due.{IsFullFor, Sometime}
+use Rattle.ks_history.specs.Due.{IsFullFor}
+use Rattle.ks_history.specs.Refusals.{Sometime}
 use Rattle.ks_arena_tests.specs.declared.puts.PutOutcome.{PutOutcome}
 use Rattle.ks_arena_tests.specs.declared.puts.PutOutcome.TheVariants.{Decided, NoRoom, Elsewhere}
 

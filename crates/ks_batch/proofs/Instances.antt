@@ -11,7 +11,7 @@ use Rattle.ks_history.specs.declared.Reply.TheVariants.{Nothing}
 use Rattle.ks_history.specs.declared.Event.{Event}
 use Rattle.ks_history.specs.declared.Event.TheVariants.{Take, Give, Call}
 use Rattle.ks_history.specs.Lawful.{Lawful}
-use Rattle.ks_history.specs.Passes.{CallersBelow}
+use Rattle.ks_history.specs.Callers.{CallersBelow}
 use Rattle.ks_history.specs.Trace.{graph_after}
 use Rattle.ks_arena.specs.Named.{AllNamedBelow}
 

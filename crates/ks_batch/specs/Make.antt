@@ -1,7 +1,7 @@
 -- What the command to make a script leaves.
 use Rattle.std.specs.Prelude.{ℕ, ◌≡◌, ◌⊎◌, ◌↔◌, List, Option, IfSome, IsSome}
 use Rattle.ks_history.specs.declared.Event.{Event}
-use Rattle.ks_history.specs.Passes.{CallersBelow}
+use Rattle.ks_history.specs.Callers.{CallersBelow}
 use Rattle.ks_history.specs.Served.{Served}
 use Rattle.ks_script.specs.Run.{Run}
 use Rattle.ks_script.specs.Outside.{Grew, GrewByFront}

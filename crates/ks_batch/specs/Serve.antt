@@ -3,7 +3,7 @@ use Rattle.std.specs.Prelude.{ℕ, zero, suc, ◌≡◌, ◌≢◌, ◌<◌, ◌
 use Rattle.std.specs.Fmt.{decimal}
 use Rattle.ks_history.specs.declared.Op.{Op}
 use Rattle.ks_history.specs.declared.Event.{Event}
-use Rattle.ks_history.specs.Passes.{CallersBelow}
+use Rattle.ks_history.specs.Callers.{CallersBelow}
 use Rattle.ks_history.specs.Served.{Served}
 use Rattle.ks_script.specs.Lines.{lines_of, FirstBad}
 use Rattle.ks_script.specs.Script.{AreScript, ScriptOf}

@@ -4,7 +4,7 @@ ghost use Rattle.std.specs.Prelude.{◌≡◌, ◌≢◌, ◌≤◌, ◌⊎◌, 
 ghost use Rattle.ks_history.specs.Due.{FullsDue};
 ghost use Rattle.ks_history.specs.Served.{Served};
 ghost use Rattle.ks_history.specs.Lawful.{Lawful, GoodThroughout};
-ghost use Rattle.ks_history.specs.Passes.{CallersBelow};
+ghost use Rattle.ks_history.specs.Callers.{CallersBelow};
 ghost use Rattle.ks_arena.specs.Named.{AllNamedBelow};
 ghost use Rattle.ks_script.specs.Outside.{Rose, Grew, GrewByFront};
 ghost use Rattle.ks_batch.specs.declared.words.Text.TheVariants as text;

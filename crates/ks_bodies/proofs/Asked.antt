@@ -16,7 +16,8 @@ use Rattle.ks_node.specs.Effect.{split_left, split_right, reached, ends_at, begi
 use Rattle.std.specs.Prelude.{◌&&◌}
 use Rattle.ks_keysets.specs.declared.Kind.{Kind}
 use Rattle.ks_keysets.specs.declared.Kind.TheVariants.{NoBranch, Inner, Directory}
-use Rattle.ks_keysets.specs.Layout.{Layout, capacity}
+use Rattle.ks_keysets.specs.Layout.{Layout}
+use Rattle.ks_keysets.specs.Tight.{capacity}
 use Rattle.ks_node.specs.Room.{fit_together, fit_kinds, is_room_for, load}
 use Rattle.ks_node.specs.Asks.{IsCut, AreNext, Absorbs}
 use Rattle.ks_flow.specs.Tree.{Tree, edges_to}

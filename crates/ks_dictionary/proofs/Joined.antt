@@ -16,10 +16,12 @@ use Rattle.ks_history.specs.declared.Op.{Op}
 use Rattle.ks_history.specs.declared.Reply.{Reply}
 use Rattle.ks_history.specs.declared.Event.{Event}
 use Rattle.ks_history.specs.declared.Event.TheVariants.{Take, Give, Claim, Shape, Call}
-use Rattle.ks_history.specs.Trace.{calls_by, calls_of, hand}
+use Rattle.ks_history.specs.Trace.{calls_by, calls_of}
+use Rattle.ks_history.specs.Own.{hand}
 use Rattle.ks_history.specs.Map.{map_after, Legal}
 use Rattle.ks_history.specs.Laws.Calls.{by_others_calls}
-use Rattle.ks_history.specs.Passes.{NoneBy, CallersBelow, GrowsByOthers}
+use Rattle.ks_history.specs.Callers.{NoneBy, CallersBelow}
+use Rattle.ks_history.specs.Passes.{GrowsByOthers}
 use Rattle.ks_history.specs.Served.{at_place, CalledBelow, IsListing, Served}
 use Rattle.ks_arena.specs.declared.held.Pass.{Pass}
 use Rattle.ks_arena.specs.Sound.{Sort}

@@ -2,7 +2,7 @@
 ghost use Rattle.std.specs.Prelude.{◌≡◌, ◌<◌, ◌≤◌, ◌⊎◌, [], map, length, All, IfOk};
 ghost use Rattle.ks_history.specs.Due.{FullsDue};
 ghost use Rattle.ks_history.specs.Lawful.{Lawful, GoodThroughout};
-ghost use Rattle.ks_history.specs.Passes.{CallersBelow};
+ghost use Rattle.ks_history.specs.Callers.{CallersBelow};
 ghost use Rattle.ks_history.specs.Served.{Served};
 ghost use Rattle.ks_arena.specs.Named.{AllNamedBelow};
 ghost use Rattle.ks_arena.specs.Sound.{sort_of};

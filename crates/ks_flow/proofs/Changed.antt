@@ -8,7 +8,8 @@ use Rattle.ks_flow.proofs.Edges.{out_either}
 use Rattle.ks_keysets.specs.declared.Frame.{Frame}
 use Rattle.ks_keysets.specs.declared.NodeState.{NodeState}
 use Rattle.ks_keysets.specs.declared.Change.{Change}
-use Rattle.ks_keysets.specs.Change.{shaped, reframed}
+use Rattle.ks_keysets.specs.Change.{shaped}
+use Rattle.ks_keysets.specs.Reframed.{reframed}
 use Rattle.ks_keysets.specs.Keyset.{live_record}
 use Rattle.ks_flow.specs.Changes.{nodes_of, graph_with, frames_with, NamedOnce, HasBecome}
 use Rattle.ks_flow.specs.Ways.{names, DiffersIn}

@@ -4,7 +4,8 @@ use Rattle.ks_keysets.specs.declared.Frame.{Frame}
 use Rattle.ks_keysets.specs.declared.NodeState.{NodeState}
 use Rattle.ks_keysets.specs.declared.Change.{Change}
 use Rattle.ks_keysets.specs.Keyset.{live_record, record_at}
-use Rattle.ks_keysets.specs.Change.{new_state, new_frame, shaped, reframed}
+use Rattle.ks_keysets.specs.Change.{new_state, shaped}
+use Rattle.ks_keysets.specs.Reframed.{new_frame, reframed}
 
 -- the nodes that the changes name: their region
 abbrev pub nodes_of : List Change → List ℕ

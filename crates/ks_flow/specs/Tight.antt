@@ -6,7 +6,8 @@ use Rattle.ks_keysets.specs.declared.Record.{Record}
 use Rattle.ks_keysets.specs.Record.{top}
 use Rattle.ks_keysets.specs.Keyset.{IsLive, InInset}
 use Rattle.ks_keysets.specs.Spans.{AllCarryAlike}
-use Rattle.ks_keysets.specs.Layout.{Layout, FitsNoRight}
+use Rattle.ks_keysets.specs.Layout.{Layout}
+use Rattle.ks_keysets.specs.Tight.{FitsNoRight}
 use Rattle.ks_flow.specs.Walk.{Path}
 
 -- each live node that begins below the place fits with no right neighbour

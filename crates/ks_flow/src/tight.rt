@@ -7,8 +7,9 @@ ghost use Rattle.ks_keysets.specs.declared.NodeState.{NodeState};
 ghost use Rattle.ks_keysets.specs.declared.Record.{Record};
 ghost use Rattle.ks_keysets.specs.Record.{top, IsPlace, LeadsTo, LeadsOn};
 ghost use Rattle.ks_keysets.specs.Keyset.{record_at, InKeyset, Good};
-ghost use Rattle.ks_keysets.specs.Layout.{Layout, IsLow, FitsNoRight, IsTight, IsTidyAt};
-ghost use Rattle.ks_keysets.specs.Change.{SameNodes};
+ghost use Rattle.ks_keysets.specs.Layout.{Layout};
+ghost use Rattle.ks_keysets.specs.Tight.{IsLow, FitsNoRight, IsTight, IsTidyAt};
+ghost use Rattle.ks_keysets.specs.Reframed.{SameNodes};
 ghost use Rattle.ks_flow.specs.Tree.{Tree};
 ghost use Rattle.ks_flow.specs.Tight.{IsTightBelow, EndsRun, ComesTo};
 

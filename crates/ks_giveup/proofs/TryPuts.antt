@@ -9,7 +9,7 @@ use Rattle.ks_history.specs.Descent.{TookSince}
 use Rattle.ks_history.specs.Done.{Template, Hands, give_up}
 use Rattle.ks_history.specs.Map.{Touches}
 use Rattle.ks_history.specs.Passes.{GrowsWith}
-use Rattle.ks_history.specs.Trace.{hand}
+use Rattle.ks_history.specs.Own.{hand}
 use Rattle.ks_history.specs.Underway.{Underway}
 use Rattle.ks_history.specs.Laws.Descent.{took_none, took_while}
 use Rattle.ks_history.specs.Laws.Underway.{left_of}

@@ -6,7 +6,7 @@ use Rattle.ks_keysets.specs.Keyset.{record_at}
 use Rattle.ks_history.specs.declared.Event.{Event}
 use Rattle.ks_history.specs.declared.Event.TheVariants.{Take, Give, Claim, Shape, Call}
 use Rattle.ks_history.specs.Trace.{graph_after}
-use Rattle.ks_history.specs.Passes.{NoneBy}
+use Rattle.ks_history.specs.Callers.{NoneBy}
 use Rattle.ks_history.specs.Done.{HoldsAbove}
 use Rattle.ks_arena.specs.declared.held.Pass.{Pass}
 use Rattle.ks_arena.specs.Clauses.{seen_of}

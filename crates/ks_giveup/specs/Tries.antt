@@ -7,11 +7,12 @@ use Rattle.ks_node.below.ks_places.specs.declared.Placing.{Ghosts as PlacingGhos
 use Rattle.ks_flow.specs.declared.discipline.Discipline.{Ghosts as DisciplineGhosts}
 use Rattle.ks_history.specs.declared.Event.{Event}
 use Rattle.ks_history.specs.declared.Event.TheVariants.{Take}
-use Rattle.ks_history.specs.Trace.{◌⊑◌, hand, graph_after}
+use Rattle.ks_history.specs.Trace.{◌⊑◌, graph_after}
+use Rattle.ks_history.specs.Own.{hand}
 use Rattle.ks_history.specs.Passes.{GrowsWith}
 use Rattle.ks_history.specs.Beside.{OwnSpare}
 use Rattle.ks_history.specs.Done.{give_up}
-use Rattle.ks_history.specs.Due.{IsOnWay as IsNextOnWay}
+use Rattle.ks_history.specs.Refusals.{IsOnWay as IsNextOnWay}
 use Rattle.ks_node.specs.Body.{Body, first_of, last_of}
 use Rattle.ks_arena.specs.declared.arena.Arena.{Arena}
 use Rattle.ks_arena.specs.declared.held.Pass.{Pass}

@@ -21,7 +21,8 @@ use Rattle.ks_keysets.specs.Record.{IsPlace, LeadsTo, top, empty_record}
 use Rattle.ks_keysets.specs.Keyset.{opening, live_record, record_at, IsLive, at_root, along, InInset, InKeyset, InOutset}
 use Rattle.ks_keysets.specs.Frame.{blank_frame}
 use Rattle.ks_keysets.specs.Laws.Found.{reached_live}
-use Rattle.ks_keysets.specs.Layout.{Layout, list_layout, bplus_layout, hash_layout, Fit, IsLow, IsNext, IsRightNeighbour, chained, beside}
+use Rattle.ks_keysets.specs.Layout.{Layout, list_layout, bplus_layout, hash_layout, chained, beside}
+use Rattle.ks_keysets.specs.Tight.{Fit, IsLow, IsNext, IsRightNeighbour}
 use Rattle.ks_history.specs.declared.Op.TheVariants.{Get, Put}
 use Rattle.ks_history.specs.declared.Reply.TheVariants.{Nothing, Full}
 use Rattle.ks_history.specs.declared.Reply.{Reply}
@@ -30,9 +31,12 @@ use Rattle.ks_history.specs.declared.Op.{Op}
 use Rattle.ks_history.specs.declared.Event.{Event}
 use Rattle.ks_history.specs.declared.Event.TheVariants.{Take, Give, Claim, Shape, Call}
 use Rattle.ks_history.specs.Map.{IsAnswer, map_after, Legal}
-use Rattle.ks_history.specs.Trace.{◌⊑◌, free, idle, held, given, called, call_in, decided_at, graph_after, turn_after, frame_after, calls_of, calls_by}
+use Rattle.ks_history.specs.Trace.{◌⊑◌, free, idle, held, given, call_in, graph_after, turn_after, calls_of, calls_by}
+use Rattle.ks_history.specs.Own.{called, decided_at}
+use Rattle.ks_history.specs.Frames.{frame_after}
 use Rattle.ks_history.specs.Served.{at_place, CalledBelow, IsListing, Served}
-use Rattle.ks_history.specs.Due.{HoldsLiveBut, FullDue, last_call, FullsDue, BusyDue, MovedDue, FarDue, IsOnWay}
+use Rattle.ks_history.specs.Due.{HoldsLiveBut, FullDue, last_call, FullsDue}
+use Rattle.ks_history.specs.Refusals.{BusyDue, MovedDue, FarDue, IsOnWay}
 use Rattle.ks_history.specs.Done.{Template, coupling, give_up, link_move, MayTake, first_taken, from_above, Hands, at_first, and_on, Done, DoneAt, Left, Tight, TidyAt}
 use Rattle.ks_history.specs.Laws.Begins.{begins_self, begins_append, begins_both, by_others_none}
 use Rattle.ks_history.specs.Laws.Calls.{done_calls, left_calls}

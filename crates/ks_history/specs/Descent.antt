@@ -5,7 +5,7 @@ use Rattle.std.specs.Prelude.{Any, count_by}
 use Rattle.ks_keysets.specs.Deep.{Deep}
 use Rattle.ks_history.specs.declared.Event.{Event}
 use Rattle.ks_history.specs.Trace.{◌⊑◌, graph_after}
-use Rattle.ks_history.specs.Due.{ShapesBesides, takes_by}
+use Rattle.ks_history.specs.Refusals.{ShapesBesides, takes_by}
 
 -- since s0 a caller other than c made a Shape, or node i is this many steps deep
 pub record IsDeep (n c : ℕ) (gone : List ℕ) (s0 h : List Event) (steps i : ℕ) : Type 0 where

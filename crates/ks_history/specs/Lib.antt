@@ -1,11 +1,15 @@
 pub mod Write
 pub mod Map
 pub mod Trace
+pub mod Frames
+pub mod Own
 pub mod Lawful
 pub mod Served
 pub mod Verdict
 pub mod Passes
+pub mod Callers
 pub mod Due
+pub mod Refusals
 pub mod Done
 pub mod Stays
 pub mod Hand

@@ -1,5 +1,5 @@
 -- What callers have seen of a trace that grows.
-use Rattle.std.specs.Prelude.{ℕ, ◌≡◌, ◌≢◌, ◌<◌, ◌⊎◌, List, [], ◌∷◌, ◌++◌, Some, None}
+use Rattle.std.specs.Prelude.{ℕ, ◌≡◌, ◌≢◌, ◌⊎◌, List, [], ◌∷◌, ◌++◌, Some, None}
 use Rattle.ks_history.specs.declared.Event.{Event}
 use Rattle.ks_history.specs.Trace.{caller_of, call_in}
 
@@ -12,16 +12,6 @@ Has (x ∷ xs) c = (x ≡ c) ⊎ Has xs c
 abbrev pub NoneOf : List ℕ → List Event → Type 0
 NoneOf cs [] = Unit {0}
 NoneOf cs (e ∷ es) = (¬ Has cs (caller_of e)) × NoneOf cs es
-
--- no event of caller c
-abbrev pub NoneBy : ℕ → List Event → Type 0
-NoneBy c [] = Unit {0}
-NoneBy c (e ∷ es) = (caller_of e ≢ c) × NoneBy c es
-
--- the caller of each event is below n
-abbrev pub CallersBelow : ℕ → List Event → Type 0
-CallersBelow n [] = Unit {0}
-CallersBelow n (e ∷ es) = (caller_of e < n) × CallersBelow n es
 
 -- no call of caller c
 abbrev pub NoCallBy : ℕ → List Event → Type 0

@@ -2,7 +2,8 @@
 use Rattle.std.proofs.Common.{◌≡◌, ℕ, List}
 use Rattle.ks_keysets.specs.declared.Frame.{Frame}
 use Rattle.ks_history.specs.declared.Event.{Event}
-use Rattle.ks_history.specs.Trace.{graph_after, held, turn_after, frame_after}
+use Rattle.ks_history.specs.Trace.{graph_after, held, turn_after}
+use Rattle.ks_history.specs.Frames.{frame_after}
 
 -- a node stays held by c, with the same state and the same frame
 pub record StaysHeld (c i : ℕ) (h k : List Event) : Type 0 where

@@ -1,11 +1,10 @@
 -- Traces of events, and the graph, the turns, the frames and the calls after a trace.
 -- A trace is a list of events, the newest first: e ∷ h is the trace h and then the event e.
-use Rattle.std.specs.Prelude.{ℕ, ◌≡◌, ◌==◌, ◌+◌, ◌%◌, ◌^◌, List, [], ◌∷◌, ◌++◌, length, Option, Some, None, if◌then◌else◌}
-use Rattle.ks_keysets.specs.declared.Frame.{Frame}
+use Rattle.std.specs.Prelude.{ℕ, ◌≡◌, ◌==◌, ◌+◌, ◌%◌, ◌^◌, List, [], ◌∷◌, ◌++◌, length, Option, Some, None}
 use Rattle.ks_keysets.specs.declared.NodeState.{NodeState}
 use Rattle.ks_keysets.specs.declared.NodeState.TheVariants.{Free, Claimed, Live}
 use Rattle.ks_keysets.specs.Keyset.{opening}
-use Rattle.ks_keysets.specs.Change.{shaped, reframed}
+use Rattle.ks_keysets.specs.Change.{shaped}
 use Rattle.ks_history.specs.declared.Op.{Op}
 use Rattle.ks_history.specs.declared.Reply.{Reply}
 use Rattle.ks_history.specs.declared.Answered.{Answered}
@@ -73,24 +72,11 @@ turn_after (Claim c j ∷ h) i = if i == j then held c else turn_after h i
 turn_after (Shape c changes ∷ h) i = turn_after h i
 turn_after (Call c j op reply ∷ h) i = turn_after h i
 
--- the frame of node i after the trace: that of the last Shape that made it live, and at first that of a blank body
-abbrev pub frame_after : Frame → List Event → ℕ → Frame
-frame_after blank [] i = blank
-frame_after blank (Take c j ∷ h) i = frame_after blank h i
-frame_after blank (Give c j ∷ h) i = frame_after blank h i
-frame_after blank (Claim c j ∷ h) i = frame_after blank h i
-frame_after blank (Shape c changes ∷ h) i = reframed changes i (frame_after blank h i)
-frame_after blank (Call c j op reply ∷ h) i = frame_after blank h i
-
 -- a call as its event has it: its caller, its operation and its reply
 pub record Called : Type 0 where
   pub caller : ℕ
   pub op : Op
   pub reply : Reply
-
--- the call of a caller, by its operation and its reply
-abbrev pub called : ℕ → Op → Reply → Called
-called c op reply = record { caller = c; op = op; reply = reply }
 
 -- a call without its caller
 abbrev pub answered : Called → Answered
@@ -103,14 +89,6 @@ call_in (Give c i) = None
 call_in (Claim c i) = None
 call_in (Shape c changes) = None
 call_in (Call c i op reply) = Some (record { caller = c; op = op; reply = reply })
-
--- the nodes at which the event decides a call; none if it is no call
-abbrev pub decided_at : Event → List ℕ
-decided_at (Take c i) = []
-decided_at (Give c i) = []
-decided_at (Claim c i) = []
-decided_at (Shape c changes) = []
-decided_at (Call c i op reply) = i ∷ []
 
 -- the calls of the trace, oldest first
 abbrev pub calls_of : List Event → List Answered
@@ -134,31 +112,3 @@ calls_by c (e ∷ h) =
       | None ↦ calls_by c h
       | Some call ↦ if c == call.caller then calls_by c h ++ record { number = number_after h; call = answered call } ∷ [] else calls_by c h
     ]
-
--- how many Shapes are in the trace
-abbrev pub shapes_in : List Event → ℕ
-shapes_in [] = 0
-shapes_in (Take c j ∷ h) = shapes_in h
-shapes_in (Give c j ∷ h) = shapes_in h
-shapes_in (Claim c j ∷ h) = shapes_in h
-shapes_in (Shape c changes ∷ h) = shapes_in h + 1
-shapes_in (Call c j op reply ∷ h) = shapes_in h
-
--- the events of c, the newest first
-abbrev pub mine : ℕ → List Event → List Event
-mine c [] = []
-mine c (e ∷ h) = if caller_of e == c then e ∷ mine c h else mine c h
-
--- the numbers without the first i
-abbrev pub drop_one : ℕ → List ℕ → List ℕ
-drop_one i [] = []
-drop_one i (x ∷ xs) = if x == i then xs else x ∷ drop_one i xs
-
--- the nodes that c holds after the trace, the last taken first
-abbrev pub hand : ℕ → List Event → List ℕ
-hand c [] = []
-hand c (Take d j ∷ h) = if c == d then j ∷ hand c h else hand c h
-hand c (Give d j ∷ h) = if c == d then drop_one j (hand c h) else hand c h
-hand c (Claim d j ∷ h) = if c == d then j ∷ hand c h else hand c h
-hand c (Shape d changes ∷ h) = hand c h
-hand c (Call d j op reply ∷ h) = hand c h

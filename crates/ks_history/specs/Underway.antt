@@ -5,7 +5,8 @@ use Rattle.ks_history.specs.declared.Op.{Op}
 use Rattle.ks_history.specs.declared.Reply.{Reply}
 use Rattle.ks_history.specs.declared.Reply.TheVariants.{Full}
 use Rattle.ks_history.specs.declared.Event.{Event}
-use Rattle.ks_history.specs.Trace.{called, call_in, number_after}
+use Rattle.ks_history.specs.Own.{called}
+use Rattle.ks_history.specs.Trace.{call_in, number_after}
 use Rattle.ks_history.specs.Passes.{NoCallBy}
 use Rattle.ks_history.specs.Due.{FullDue}
 use Rattle.ks_history.specs.Done.{Template, Hands}

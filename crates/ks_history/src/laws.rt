@@ -8,19 +8,19 @@ ghost use Rattle.ks_keysets.specs.Walk.{OneParent};
 ghost use Rattle.ks_history.specs.declared.Op.{Op};
 ghost use Rattle.ks_history.specs.declared.Event.{Event};
 ghost use Rattle.ks_history.specs.Map.{map_after, Legal, Touches};
-ghost use Rattle.ks_history.specs.Trace.{◌⊑◌, free, idle, held, graph_after, turn_after, mine, hand, calls_of};
+ghost use Rattle.ks_history.specs.Trace.{◌⊑◌, free, idle, held, graph_after, turn_after, calls_of};
+ghost use Rattle.ks_history.specs.Own.{mine, hand};
 ghost use Rattle.ks_history.specs.Lawful.{Lawful, GoodThroughout};
-ghost use Rattle.ks_history.specs.Passes.{GrowsByOthers, Has};
+ghost use Rattle.ks_history.specs.Passes.{GrowsByOthers, Has, GrowsWith};
 ghost use Rattle.ks_history.specs.Stays.{StaysHeld};
 ghost use Rattle.ks_history.specs.Hand.{AreOnce};
-ghost use Rattle.ks_history.specs.Due.{IsOnWay, BusyDue, MovedDue, FarDue};
+ghost use Rattle.ks_history.specs.Refusals.{IsOnWay, BusyDue, MovedDue, FarDue};
 ghost use Rattle.ks_history.specs.Alone.{ActsAlone, HoldsAlone};
 ghost use Rattle.ks_history.specs.Beside.{NoneShapes, OwnSpare, AreBeside};
 ghost use Rattle.ks_history.specs.Descent.{IsDeep, TookSince};
 ghost use Rattle.ks_keysets.specs.declared.Frame.{Frame};
-ghost use Rattle.ks_keysets.specs.Change.{SameNodes};
-ghost use Rattle.ks_history.specs.Trace.{frame_after};
-ghost use Rattle.ks_history.specs.Passes.{GrowsWith};
+ghost use Rattle.ks_keysets.specs.Reframed.{SameNodes};
+ghost use Rattle.ks_history.specs.Frames.{frame_after};
 ghost use Rattle.ks_history.specs.Quiet.{IsTurn, OnlyTurns};
 
 /// The keyset theorem: if every event of a trace met its condition and every graph between was good, the replies are those

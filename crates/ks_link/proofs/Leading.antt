@@ -10,7 +10,9 @@ use Rattle.ks_keysets.specs.Change.{shaped, new_state}
 use Rattle.ks_keysets.specs.Keyset.{live_record, IsLive}
 use Rattle.ks_history.specs.declared.Event.{Event}
 use Rattle.ks_history.specs.declared.Event.TheVariants.{Shape}
-use Rattle.ks_history.specs.Trace.{hand, graph_after, frame_after}
+use Rattle.ks_history.specs.Own.{hand}
+use Rattle.ks_history.specs.Trace.{graph_after}
+use Rattle.ks_history.specs.Frames.{frame_after}
 use Rattle.ks_history.specs.Passes.{Has, GrowsWith}
 use Rattle.ks_history.specs.Due.{HoldsLive}
 use Rattle.ks_history.specs.Laws.Hand.{held_in_hand}

@@ -7,7 +7,9 @@ use Rattle.ks_keysets.specs.declared.Frame.{Frame}
 use Rattle.ks_keysets.specs.declared.NodeState.{NodeState}
 use Rattle.ks_keysets.specs.Keyset.{live_record, record_at, IsLive, Good}
 use Rattle.ks_history.specs.declared.Event.{Event}
-use Rattle.ks_history.specs.Trace.{drop_one, graph_after, frame_after}
+use Rattle.ks_history.specs.Own.{drop_one}
+use Rattle.ks_history.specs.Trace.{graph_after}
+use Rattle.ks_history.specs.Frames.{frame_after}
 use Rattle.ks_history.specs.Laws.Stays.{cond_here, cond_else}
 use Rattle.ks_flow.specs.Link.{LastsUnderLink}
 use Rattle.ks_node.specs.Body.{Body, all_places, last_of}

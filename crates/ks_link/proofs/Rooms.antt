@@ -4,7 +4,8 @@ use Rattle.std.specs.Prelude.{◌||◌, IsTrue, nat_eq, is_some, Option, Some, N
 use Rattle.std.specs.Option.{ForSome}
 use Rattle.std.proofs.lemmas.List.Elements.{All-append, All-cons, All-nil}
 use Rattle.ks_history.specs.declared.Event.{Event}
-use Rattle.ks_history.specs.Trace.{graph_after, frame_after}
+use Rattle.ks_history.specs.Trace.{graph_after}
+use Rattle.ks_history.specs.Frames.{frame_after}
 use Rattle.ks_flow.specs.Link.{LastsUnderLink}
 use Rattle.ks_arena.specs.Sound.{Sort, blank_of}
 use Rattle.ks_link.specs.declared.parts.Waiting.{Waiting}

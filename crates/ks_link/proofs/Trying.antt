@@ -9,7 +9,7 @@ use Rattle.ks_history.specs.declared.Event.{Event}
 use Rattle.ks_history.specs.declared.Op.{Op}
 use Rattle.ks_history.specs.Laws.Begins.{begins_self}
 use Rattle.ks_history.specs.Done.{link_move}
-use Rattle.ks_history.specs.Due.{IsOnWay, BusyDue}
+use Rattle.ks_history.specs.Refusals.{IsOnWay, BusyDue}
 use Rattle.ks_history.specs.Laws.Dues.{sometime_wider}
 use Rattle.ks_history.specs.Map.{Touches}
 use Rattle.ks_history.specs.Trace.{◌⊑◌, held, graph_after, turn_after}

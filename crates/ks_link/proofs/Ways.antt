@@ -8,7 +8,9 @@ use Rattle.ks_keysets.specs.declared.Span.{Span}
 use Rattle.ks_keysets.specs.Record.{LeadsOn, top}
 use Rattle.ks_keysets.specs.Keyset.{record_at, IsLive, Good, InInset}
 use Rattle.ks_history.specs.declared.Event.{Event}
-use Rattle.ks_history.specs.Trace.{hand, graph_after, frame_after}
+use Rattle.ks_history.specs.Own.{hand}
+use Rattle.ks_history.specs.Trace.{graph_after}
+use Rattle.ks_history.specs.Frames.{frame_after}
 use Rattle.ks_flow.specs.Link.{Link}
 use Rattle.ks_node.specs.declared.start.Next.TheVariants.{Here}
 use Rattle.ks_node.specs.Body.{Body, content_of, first_of, is_branch, last_of, next_at}

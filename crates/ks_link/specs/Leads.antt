@@ -3,7 +3,8 @@ use Rattle.std.specs.Prelude.{ℕ, ◌≡◌, ◌⊎◌, Bool, false, List, [], 
 use Rattle.ks_keysets.specs.Keyset.{IsLive}
 use Rattle.ks_keysets.specs.Layout.{Layout}
 use Rattle.ks_history.specs.declared.Event.{Event}
-use Rattle.ks_history.specs.Trace.{graph_after, frame_after}
+use Rattle.ks_history.specs.Trace.{graph_after}
+use Rattle.ks_history.specs.Frames.{frame_after}
 use Rattle.ks_flow.specs.Link.{IsLed}
 use Rattle.ks_node.specs.Asks.{IsCut}
 use Rattle.ks_node.specs.Body.{Body, Content, content_of, is_branch}

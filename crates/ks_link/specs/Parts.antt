@@ -3,7 +3,9 @@ use Rattle.std.specs.Prelude.{ℕ, ◌≡◌, ◌≢◌, ◌<◌, ◌≤◌, ◌
 use Rattle.std.specs.Option.{ForSome}
 use Rattle.ks_keysets.specs.Keyset.{IsLive as IsLiveIn}
 use Rattle.ks_history.specs.declared.Event.{Event}
-use Rattle.ks_history.specs.Trace.{hand, graph_after, frame_after}
+use Rattle.ks_history.specs.Own.{hand}
+use Rattle.ks_history.specs.Trace.{graph_after}
+use Rattle.ks_history.specs.Frames.{frame_after}
 use Rattle.ks_history.specs.Due.{NoneFree}
 use Rattle.ks_node.specs.Body.{Body, last_of}
 use Rattle.ks_arena.specs.declared.held.Held.{Held as Hand}

@@ -3,7 +3,8 @@ use Rattle.std.specs.Prelude.{ℕ, ◌+◌, ◌*◌, ◌≤◌, Bool, false, tru
 use Rattle.std.specs.Option.{ForSome}
 use Rattle.ks_keysets.specs.declared.Kind.{Kind}
 use Rattle.ks_keysets.specs.declared.Kind.TheVariants.{NoBranch, Inner, Directory}
-use Rattle.ks_keysets.specs.Layout.{Layout, list_layout, bplus_layout, hash_layout, capacity}
+use Rattle.ks_keysets.specs.Layout.{Layout, list_layout, bplus_layout, hash_layout}
+use Rattle.ks_keysets.specs.Tight.{capacity}
 use Rattle.ks_node.specs.Body.{Body, is_branch}
 
 -- whether full nodes of the layout can become branches

@@ -5,7 +5,8 @@ use Rattle.ks_keysets.specs.declared.NodeState.{NodeState}
 use Rattle.ks_keysets.specs.declared.Span.{Span}
 use Rattle.ks_keysets.specs.Keyset.{InInset}
 use Rattle.ks_history.specs.declared.Event.{Event}
-use Rattle.ks_history.specs.Trace.{graph_after, frame_after}
+use Rattle.ks_history.specs.Trace.{graph_after}
+use Rattle.ks_history.specs.Frames.{frame_after}
 use Rattle.ks_flow.specs.Tree.{IsInset}
 use Rattle.ks_node.specs.Body.{Body}
 use Rattle.ks_node.specs.Asks.{CanSplitAt, IsGoodCut, IsNoneOr, Suits}

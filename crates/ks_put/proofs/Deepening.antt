@@ -6,15 +6,18 @@ use Rattle.ks_keysets.specs.declared.Kind.{Kind}
 use Rattle.ks_keysets.specs.Keyset.{record_at}
 use Rattle.ks_history.specs.declared.Event.{Event}
 use Rattle.ks_history.specs.declared.Event.TheVariants.{Give, Shape}
-use Rattle.ks_history.specs.Due.{takes_by}
-use Rattle.ks_history.specs.Passes.{NoneBy, GrowsWith}
-use Rattle.ks_history.specs.Trace.{graph_after, frame_after}
+use Rattle.ks_history.specs.Refusals.{takes_by}
+use Rattle.ks_history.specs.Callers.{NoneBy}
+use Rattle.ks_history.specs.Passes.{GrowsWith}
+use Rattle.ks_history.specs.Trace.{graph_after}
+use Rattle.ks_history.specs.Frames.{frame_after}
 use Rattle.ks_history.specs.Laws.Stays.{AreInTurn}
 use Rattle.ks_history.specs.Laws.Descent.{HeldUnder, deep_less, deep_while, deep_shaping, took_while}
 use Rattle.ks_flow.specs.Discipline.{BeginsTree, TreeStep}
 use Rattle.ks_node.specs.Body.{Body, is_branch}
 use Rattle.ks_node.specs.Room.{is_full, is_full_at}
-use Rattle.ks_keysets.specs.Layout.{Layout, capacity}
+use Rattle.ks_keysets.specs.Layout.{Layout}
+use Rattle.ks_keysets.specs.Tight.{capacity}
 use Rattle.ks_node.specs.Edges.{record_of}
 use Rattle.ks_node.specs.Effect.{split_left}
 use Rattle.ks_bodies.specs.Shapes.{split_on, split_own, split_under, grow}

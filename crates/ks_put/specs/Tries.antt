@@ -9,7 +9,7 @@ use Rattle.ks_history.specs.declared.Op.{Op}
 use Rattle.ks_history.specs.Descent.{TookSince}
 use Rattle.ks_history.specs.Done.{Template, coupling}
 use Rattle.ks_history.specs.Map.{Touches}
-use Rattle.ks_history.specs.Trace.{hand}
+use Rattle.ks_history.specs.Own.{hand}
 use Rattle.ks_history.specs.Underway.{Underway}
 use Rattle.ks_node.specs.Body.{Body}
 use Rattle.ks_arena.specs.declared.arena.Arena.{Arena}

@@ -7,7 +7,8 @@ use Rattle.ks_keysets.specs.Keyset.{live_record, IsLive, InKeyset}
 use Rattle.ks_keysets.specs.Layout.{Layout}
 use Rattle.ks_history.specs.declared.Event.{Event}
 use Rattle.ks_history.specs.declared.Event.TheVariants.{Claim, Give}
-use Rattle.ks_history.specs.Trace.{◌⊑◌, hand, drop_one, held, graph_after, turn_after}
+use Rattle.ks_history.specs.Trace.{◌⊑◌, held, graph_after, turn_after}
+use Rattle.ks_history.specs.Own.{hand, drop_one}
 use Rattle.ks_history.specs.Passes.{Has, GrowsByOthers, GrowsWith}
 use Rattle.ks_history.specs.Stays.{StaysHeld}
 use Rattle.ks_history.specs.Laws.Stays.{cond_here}

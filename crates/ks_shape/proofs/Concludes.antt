@@ -8,7 +8,9 @@ use Rattle.ks_history.specs.declared.Op.{Op}
 use Rattle.ks_history.specs.declared.Reply.{Reply}
 use Rattle.ks_history.specs.declared.Reply.TheVariants.{Full}
 use Rattle.ks_history.specs.Map.{Touches}
-use Rattle.ks_history.specs.Trace.{hand, drop_one, frame_after, held, turn_after}
+use Rattle.ks_history.specs.Own.{hand, drop_one}
+use Rattle.ks_history.specs.Frames.{frame_after}
+use Rattle.ks_history.specs.Trace.{held, turn_after}
 use Rattle.ks_history.specs.Passes.{GrowsWith}
 use Rattle.ks_history.specs.Due.{NoneFree, FullDue}
 use Rattle.ks_history.specs.Laws.Dues.{full_due_later}

@@ -12,7 +12,9 @@ use Rattle.ks_keysets.specs.Record.{LeadsTo, top}
 use Rattle.ks_arena.specs.Clauses.{Matches}
 use Rattle.ks_flow.specs.Discipline.{BeginsLink, LinkStep}
 use Rattle.ks_history.specs.declared.Event.{Event}
-use Rattle.ks_history.specs.Trace.{hand, graph_after, frame_after}
+use Rattle.ks_history.specs.Own.{hand}
+use Rattle.ks_history.specs.Trace.{graph_after}
+use Rattle.ks_history.specs.Frames.{frame_after}
 use Rattle.ks_history.specs.Lawful.{Lawful}
 use Rattle.ks_history.specs.Passes.{Has, GrowsByOthers}
 use Rattle.ks_history.specs.Laws.Hand.{is_hand}

@@ -5,7 +5,8 @@ use Rattle.ks_keysets.specs.Record.{LeadsTo}
 use Rattle.ks_keysets.specs.Keyset.{record_at, InInset, along}
 use Rattle.ks_history.specs.declared.Event.{Event}
 use Rattle.ks_history.specs.declared.Event.TheVariants.{Take, Give}
-use Rattle.ks_history.specs.Trace.{hand, drop_one, held, graph_after, turn_after}
+use Rattle.ks_history.specs.Own.{hand, drop_one}
+use Rattle.ks_history.specs.Trace.{held, graph_after, turn_after}
 use Rattle.ks_history.specs.Passes.{Has, GrowsWith}
 use Rattle.ks_history.specs.Laws.Stays.{cond_here, cond_else, AreInTurn}
 use Rattle.ks_history.specs.Hand.{AreOnce}

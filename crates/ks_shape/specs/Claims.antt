@@ -3,7 +3,8 @@ use Rattle.std.specs.Prelude.{◌≡◌, ◌≢◌, ◌⊎◌, ℕ, List, ◌∷
 use Rattle.ks_keysets.specs.declared.NodeState.TheVariants.{Claimed}
 use Rattle.ks_keysets.specs.Layout.{Layout}
 use Rattle.ks_history.specs.declared.Event.{Event}
-use Rattle.ks_history.specs.Trace.{held, hand, graph_after, turn_after}
+use Rattle.ks_history.specs.Trace.{held, graph_after, turn_after}
+use Rattle.ks_history.specs.Own.{hand}
 use Rattle.ks_history.specs.Due.{HoldsLive, HoldsLiveBut, MayGrow, NoneFree}
 use Rattle.ks_history.specs.Passes.{Has}
 use Rattle.ks_node.specs.Body.{Body}

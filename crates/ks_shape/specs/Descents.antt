@@ -6,9 +6,9 @@ use Rattle.ks_flow.specs.declared.discipline.Discipline.{Ghosts as DisciplineGho
 use Rattle.ks_history.specs.declared.Event.{Event}
 use Rattle.ks_history.specs.declared.Op.{Op}
 use Rattle.ks_history.specs.Map.{Touches}
-use Rattle.ks_history.specs.Trace.{hand}
+use Rattle.ks_history.specs.Own.{hand}
 use Rattle.ks_history.specs.Done.{Template}
-use Rattle.ks_history.specs.Due.{FarDue}
+use Rattle.ks_history.specs.Refusals.{FarDue}
 use Rattle.ks_node.specs.Body.{Body}
 use Rattle.ks_arena.specs.declared.arena.Arena.{Arena}
 use Rattle.ks_arena.specs.declared.held.Pass.{Pass}

@@ -10,7 +10,8 @@ use Rattle.ks_keysets.specs.Keyset.{IsLive}
 use Rattle.ks_keysets.specs.Layout.{Layout}
 use Rattle.ks_history.specs.declared.Event.{Event}
 use Rattle.ks_history.specs.declared.Event.TheVariants.{Take, Give, Claim, Shape, Call}
-use Rattle.ks_history.specs.Trace.{◌⊑◌, caller_of, graph_after, frame_after}
+use Rattle.ks_history.specs.Trace.{◌⊑◌, caller_of, graph_after}
+use Rattle.ks_history.specs.Frames.{frame_after}
 use Rattle.ks_node.specs.Body.{Body, frame_of, is_branch, only_child_of, value_at}
 use Rattle.ks_node.specs.Edges.{record_of}
 use Rattle.ks_node.specs.Room.{is_full, is_low}

@@ -9,7 +9,7 @@ use Rattle.ks_history.specs.declared.Op.{Op}
 use Rattle.ks_history.specs.declared.Reply.TheVariants.{Full as full_reply}
 use Rattle.ks_history.specs.Map.{told}
 use Rattle.ks_history.specs.Done.{Template, Done, Left}
-use Rattle.ks_history.specs.Due.{BusyDue, MovedDue}
+use Rattle.ks_history.specs.Refusals.{BusyDue, MovedDue}
 use Rattle.ks_arena.specs.declared.arena.Arena.{Arena}
 use Rattle.ks_arena.specs.declared.held.Pass.{Pass}
 use Rattle.ks_arena.specs.Clauses.{seen_of}

@@ -5,7 +5,8 @@ use Rattle.ks_keysets.specs.Record.{LeadsTo}
 use Rattle.ks_keysets.specs.Keyset.{record_at, IsLive, InInset}
 use Rattle.ks_keysets.specs.Walk.{OneParent}
 use Rattle.ks_history.specs.declared.Event.{Event}
-use Rattle.ks_history.specs.Trace.{free, held, hand, graph_after, turn_after}
+use Rattle.ks_history.specs.Trace.{free, held, graph_after, turn_after}
+use Rattle.ks_history.specs.Own.{hand}
 use Rattle.ks_history.specs.Passes.{Has, GrowsByOthers}
 use Rattle.ks_flow.specs.Discipline.{BeginsTree, TreeStep}
 use Rattle.ks_arena.specs.Sound.{Sort, Sound}

@@ -6,7 +6,8 @@ use Rattle.ks_keysets.specs.Keyset.{InInset}
 use Rattle.ks_history.specs.declared.Event.{Event}
 use Rattle.ks_history.specs.declared.Event.TheVariants.{Give}
 use Rattle.ks_history.specs.Passes.{GrowsWith}
-use Rattle.ks_history.specs.Trace.{hand, graph_after}
+use Rattle.ks_history.specs.Own.{hand}
+use Rattle.ks_history.specs.Trace.{graph_after}
 use Rattle.ks_node.specs.Body.{Body}
 use Rattle.ks_node.specs.Edges.{record_of}
 use Rattle.ks_node.specs.Room.{is_full}

@@ -1,7 +1,7 @@
 -- Stretches in which a caller takes no node and makes no Shape.
 use Rattle.std.specs.Prelude.{ℕ, ◌≡◌, List, [], ◌∷◌}
 use Rattle.ks_history.specs.declared.Event.{Event}
-use Rattle.ks_history.specs.Due.{takes_by}
+use Rattle.ks_history.specs.Refusals.{takes_by}
 use Rattle.ks_history.specs.Laws.Far.{IsNoShape}
 use Rattle.ks_history.specs.Trace.{◌⊑◌, caller_of}
 use Rattle.ks_arena.specs.declared.held.Pass.{Pass}

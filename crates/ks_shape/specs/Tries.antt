@@ -6,7 +6,7 @@ use Rattle.ks_history.specs.declared.Op.{Op}
 use Rattle.ks_history.specs.declared.Reply.TheVariants.{Full as full_reply}
 use Rattle.ks_history.specs.Map.{told}
 use Rattle.ks_history.specs.Done.{Template, coupling, give_up, link_move, Done, Left}
-use Rattle.ks_history.specs.Due.{BusyDue, MovedDue, FarDue}
+use Rattle.ks_history.specs.Refusals.{BusyDue, MovedDue, FarDue}
 use Rattle.ks_arena.specs.declared.held.Pass.{Pass}
 use Rattle.ks_arena.specs.Clauses.{seen_of}
 use Rattle.ks_shape.specs.declared.answers.Numbered.{Numbered}

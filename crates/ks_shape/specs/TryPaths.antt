@@ -7,7 +7,8 @@ use Rattle.ks_history.specs.declared.Event.{Event}
 use Rattle.ks_history.specs.declared.Event.TheVariants.{Give, Take}
 use Rattle.ks_history.specs.Done.{coupling}
 use Rattle.ks_history.specs.Passes.{GrowsByOthers, GrowsWith}
-use Rattle.ks_history.specs.Trace.{◌⊑◌, hand}
+use Rattle.ks_history.specs.Trace.{◌⊑◌}
+use Rattle.ks_history.specs.Own.{hand}
 use Rattle.ks_node.specs.Body.{Body}
 use Rattle.ks_arena.specs.declared.arena.Arena.{Arena}
 use Rattle.ks_arena.specs.declared.held.Pass.{Pass}

@@ -8,10 +8,13 @@ use Rattle.ks_keysets.specs.declared.NodeState.{NodeState}
 use Rattle.ks_keysets.specs.declared.Record.{Record}
 use Rattle.ks_keysets.specs.Record.{top, LeadsTo}
 use Rattle.ks_keysets.specs.Keyset.{record_at}
-use Rattle.ks_keysets.specs.Change.{SameNodes}
-use Rattle.ks_keysets.specs.Layout.{Layout, Fit, IsRightNeighbour, chained, beside, FitsNoRight}
+use Rattle.ks_keysets.specs.Reframed.{SameNodes}
+use Rattle.ks_keysets.specs.Layout.{Layout, chained, beside}
+use Rattle.ks_keysets.specs.Tight.{Fit, IsRightNeighbour, FitsNoRight}
 use Rattle.ks_history.specs.declared.Event.{Event}
-use Rattle.ks_history.specs.Trace.{hand, graph_after, frame_after}
+use Rattle.ks_history.specs.Own.{hand}
+use Rattle.ks_history.specs.Trace.{graph_after}
+use Rattle.ks_history.specs.Frames.{frame_after}
 use Rattle.ks_flow.specs.Tight.{IsTightBelow, EndsRun, ComesTo}
 use Rattle.ks_flow.specs.Tree.{Tree}
 use Rattle.ks_node.specs.declared.start.Next.TheVariants.{Here}

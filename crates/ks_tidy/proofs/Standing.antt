@@ -11,10 +11,12 @@ use Rattle.ks_keysets.specs.declared.Record.{Record}
 use Rattle.ks_keysets.specs.declared.Span.{Span}
 use Rattle.ks_keysets.specs.Record.{LeadsOn, top}
 use Rattle.ks_keysets.specs.Keyset.{record_at, Good, InInset, InKeyset, IsLive}
-use Rattle.ks_keysets.specs.Change.{SameNodes}
-use Rattle.ks_keysets.specs.Layout.{Layout, Fit, HasOwnEdge, IsRightNeighbour, chained, beside, FitsNoRight}
+use Rattle.ks_keysets.specs.Reframed.{SameNodes}
+use Rattle.ks_keysets.specs.Layout.{Layout, chained, beside}
+use Rattle.ks_keysets.specs.Tight.{Fit, HasOwnEdge, IsRightNeighbour, FitsNoRight}
 use Rattle.ks_history.specs.declared.Event.{Event}
-use Rattle.ks_history.specs.Trace.{graph_after, frame_after}
+use Rattle.ks_history.specs.Trace.{graph_after}
+use Rattle.ks_history.specs.Frames.{frame_after}
 use Rattle.ks_flow.specs.Tree.{Tree}
 use Rattle.ks_node.specs.declared.start.Next.TheVariants.{Here}
 use Rattle.ks_node.specs.Body.{Body, content_of, first_of, is_branch, last_of, next_at}

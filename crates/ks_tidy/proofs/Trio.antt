@@ -5,7 +5,8 @@ use Rattle.ks_history.specs.declared.Event.TheVariants.{Take}
 use Rattle.ks_history.specs.Laws.Alone.{alone_then}
 use Rattle.ks_history.specs.Passes.{Has}
 use Rattle.ks_history.specs.Laws.Hand.{is_hand}
-use Rattle.ks_history.specs.Trace.{hand, held, graph_after, turn_after}
+use Rattle.ks_history.specs.Own.{hand}
+use Rattle.ks_history.specs.Trace.{held, graph_after, turn_after}
 use Rattle.ks_flow.specs.Discipline.{BeginsTree, TreeStep, SameInset}
 use Rattle.ks_node.specs.Body.{Body}
 use Rattle.ks_arena.specs.declared.held.Held.{Held as Hand}

@@ -1,10 +1,12 @@
 -- What a caller holds that merges nodes, and the result of a try to merge.
 use Rattle.std.specs.Prelude.{◌≡◌, ◌⊎◌, ℕ, Bool, true, IsTrue, List, ◌∷◌, Option, Some, None}
 use Rattle.ks_keysets.specs.Keyset.{InInset}
-use Rattle.ks_keysets.specs.Layout.{FitsNoRight}
+use Rattle.ks_keysets.specs.Tight.{FitsNoRight}
 use Rattle.ks_history.specs.declared.Event.{Event}
 use Rattle.ks_history.specs.Alone.{ActsAlone}
-use Rattle.ks_history.specs.Trace.{hand, graph_after, frame_after}
+use Rattle.ks_history.specs.Own.{hand}
+use Rattle.ks_history.specs.Trace.{graph_after}
+use Rattle.ks_history.specs.Frames.{frame_after}
 use Rattle.ks_node.specs.Body.{Body, only_child_of}
 use Rattle.ks_node.specs.Room.{is_low}
 use Rattle.ks_arena.specs.declared.held.Held.{Held as Hand}

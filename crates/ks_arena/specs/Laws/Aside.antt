@@ -9,7 +9,8 @@ use Rattle.ks_keysets.specs.declared.Change.{Change}
 use Rattle.ks_keysets.specs.Keyset.{opening, live_record, IsLive, InInset, InKeyset, Good}
 use Rattle.ks_history.specs.declared.Event.{Event}
 use Rattle.ks_history.specs.declared.Event.TheVariants.{Take, Give, Claim, Shape, Call}
-use Rattle.ks_history.specs.Trace.{graph_after, frame_after}
+use Rattle.ks_history.specs.Trace.{graph_after}
+use Rattle.ks_history.specs.Frames.{frame_after}
 use Rattle.ks_history.specs.Laws.Begins.{good_now}
 use Rattle.ks_history.specs.Beside.{AreBeside}
 use Rattle.ks_flow.specs.Changes.{nodes_of}

@@ -22,10 +22,12 @@ use Rattle.ks_history.specs.declared.Event.{Event}
 use Rattle.ks_history.specs.declared.Event.TheVariants.{Take, Give, Claim, Shape, Call}
 use Rattle.ks_history.specs.Write.{Write, keeps, sets, removes, written, with_value, with_new, pairs_with}
 use Rattle.ks_history.specs.Map.{Touches}
-use Rattle.ks_history.specs.Trace.{◌⊑◌, free, idle, held, turn_given, given, state_with, graph_after, turn_after, frame_after, caller_of}
+use Rattle.ks_history.specs.Trace.{◌⊑◌, free, idle, held, turn_given, given, state_with, graph_after, turn_after, caller_of}
+use Rattle.ks_history.specs.Frames.{frame_after}
 use Rattle.ks_history.specs.Lawful.{Meets, Lawful, GoodThroughout, at_opening, and_then}
 use Rattle.ks_history.specs.Due.{FullsDue}
-use Rattle.ks_history.specs.Passes.{NoneBy, GrowsByOthers}
+use Rattle.ks_history.specs.Callers.{NoneBy}
+use Rattle.ks_history.specs.Passes.{GrowsByOthers}
 use Rattle.ks_history.specs.Laws.Stays.{IsInTurn, AreInTurn, cond_here, cond_else, shaped_else, held_apart, other_turn}
 use Rattle.ks_history.specs.Laws.Begins.{good_now, by_others_keeps}
 use Rattle.ks_flow.specs.Changes.{nodes_of}

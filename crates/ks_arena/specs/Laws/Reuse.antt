@@ -6,7 +6,8 @@ use Rattle.ks_keysets.specs.declared.NodeState.{NodeState}
 use Rattle.ks_keysets.specs.Keyset.{IsLive, Good}
 use Rattle.ks_history.specs.declared.Event.{Event}
 use Rattle.ks_history.specs.declared.Event.TheVariants.{Take, Give, Claim, Shape, Call}
-use Rattle.ks_history.specs.Trace.{◌⊑◌, graph_after, frame_after}
+use Rattle.ks_history.specs.Trace.{◌⊑◌, graph_after}
+use Rattle.ks_history.specs.Frames.{frame_after}
 use Rattle.ks_history.specs.Lawful.{Lawful, GoodThroughout}
 use Rattle.ks_history.specs.Laws.Begins.{begins_both, good_now, good_earlier}
 use Rattle.ks_history.specs.Laws.Stays.{lawful_in_turn}

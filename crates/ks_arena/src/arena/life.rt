@@ -1,6 +1,6 @@
 //! How an arena is made, and how it ends.
 ghost use Rattle.std.specs.Prelude.{ℕ, ◌≡◌, ◌≤◌, ◌+◌, ◌<◌, ◌^◌, [], cond, eqb, length, slice_index, IfOk};
-ghost use Rattle.ks_history.specs.Passes.{CallersBelow};
+ghost use Rattle.ks_history.specs.Callers.{CallersBelow};
 ghost use Rattle.ks_arena.specs.Sound.{sort_of, blank_of, Sound};
 ghost use Rattle.ks_arena.specs.Rule.{AllBlank, first_view, FirstBits};
 ghost use Rattle.ks_arena.specs.Spots.{calls_at, shapes_at, turn_at, words_for};

@@ -14,7 +14,8 @@ use Rattle.ks_history.specs.declared.Reply.TheVariants.{Nothing, Full}
 use Rattle.ks_history.specs.declared.Answered.{Answered}
 use Rattle.ks_history.specs.declared.Event.{Event}
 use Rattle.ks_history.specs.Map.{told, IsAnswer, Legal, map_then, map_after}
-use Rattle.ks_history.specs.Trace.{◌⊑◌, Called, called, answered, call_in, calls_of}
+use Rattle.ks_history.specs.Trace.{◌⊑◌, Called, answered, call_in, calls_of}
+use Rattle.ks_history.specs.Own.{called}
 use Rattle.ks_history.specs.Write.{Map, Write, keeps, sets, removes, written, map_with}
 use Rattle.ks_history.specs.Done.{Template, Done}
 use Rattle.ks_history.specs.Laws.Stays.{cond_here, cond_else}

@@ -3,7 +3,7 @@
 use Rattle.std.proofs.Common.{◌≡◌, ℕ, zero, suc, ◌<◌, List, [], ◌∷◌, length, get_or, ◌∙◌, sym, refl, ap, subst, arith}
 use mathlib.Core.Option.{some, some-injective, some-ne-none}
 use lib.ListN.{get_elem?}
-use Rattle.ks_history.specs.Trace.{hand}
+use Rattle.ks_history.specs.Own.{hand}
 use Rattle.ks_arena.specs.declared.held.Pass.{Pass}
 use Rattle.ks_shape.specs.Idle.{Site, IsIdle}
 use Rattle.ks_dictionary.specs.Crew.{AreAll, AreInOrder, AreNew, AreReplaced}

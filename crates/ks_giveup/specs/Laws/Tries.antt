@@ -9,7 +9,7 @@ use Rattle.ks_history.specs.Laws.Stays.{AreInTurn}
 use Rattle.ks_history.specs.Laws.Begins.{begins_both}
 use Rattle.ks_history.specs.Beside.{OwnSpare, AreBeside}
 use Rattle.ks_history.specs.Laws.Beside.{spare_both, moved_due}
-use Rattle.ks_history.specs.Due.{MovedDue}
+use Rattle.ks_history.specs.Refusals.{MovedDue}
 use Rattle.ks_giveup.specs.Tries.{WasOnWay}
 
 -- so it stays

@@ -8,8 +8,9 @@ use Rattle.ks_history.specs.declared.Op.{Op}
 use Rattle.ks_history.specs.declared.Event.{Event}
 use Rattle.ks_history.specs.declared.Event.TheVariants.{Take, Give, Claim, Shape, Call}
 use Rattle.ks_history.specs.Trace.{◌⊑◌, caller_of, held, turn_after}
-use Rattle.ks_history.specs.Passes.{NoneBy, GrowsByOthers}
-use Rattle.ks_history.specs.Due.{ShapesFor, ShapesBesides, BusyDue, MovedDue, FarDue}
+use Rattle.ks_history.specs.Callers.{NoneBy}
+use Rattle.ks_history.specs.Passes.{GrowsByOthers}
+use Rattle.ks_history.specs.Refusals.{ShapesFor, ShapesBesides, BusyDue, MovedDue, FarDue}
 use Rattle.ks_history.specs.Laws.Stays.{others_turn}
 use Rattle.ks_history.specs.Alone.{AllBy, ActsAlone, HoldsAlone}
 

@@ -3,9 +3,11 @@ use Rattle.std.proofs.Common.{◌≡◌, ℕ, inl, inr, List, [], ◌∷◌, ◌
 use Rattle.ks_keysets.specs.Keyset.{Good}
 use Rattle.ks_history.specs.declared.Event.{Event}
 use Rattle.ks_history.specs.declared.Event.TheVariants.{Take, Give, Claim, Shape, Call}
-use Rattle.ks_history.specs.Trace.{◌⊑◌, caller_of, graph_after, held, turn_after, mine, drop_one, hand}
+use Rattle.ks_history.specs.Trace.{◌⊑◌, caller_of, graph_after, held, turn_after}
+use Rattle.ks_history.specs.Own.{mine, drop_one, hand}
 use Rattle.ks_history.specs.Lawful.{Lawful, GoodThroughout, at_opening, and_then}
-use Rattle.ks_history.specs.Passes.{Has, NoneOf, NoneBy, NoCallBy, GrowsByOthers, GrowsWith}
+use Rattle.ks_history.specs.Passes.{Has, NoneOf, NoCallBy, GrowsByOthers, GrowsWith}
+use Rattle.ks_history.specs.Callers.{NoneBy}
 use Rattle.ks_history.specs.Stays.{StaysHeld}
 use Rattle.ks_history.specs.Laws.Stays.{AreInTurn, cond_here, others_keep, others_turn}
 use Rattle.ks_history.specs.Laws.Hand.{hand_others, mine_own, mine_others}

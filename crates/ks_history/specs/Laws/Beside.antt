@@ -16,8 +16,8 @@ use Rattle.ks_history.specs.declared.Event.TheVariants.{Take, Give, Claim, Shape
 use Rattle.ks_history.specs.Map.{Touches}
 use Rattle.ks_history.specs.Write.{written}
 use Rattle.ks_history.specs.Trace.{◌⊑◌, caller_of, given, state_with, graph_after}
-use Rattle.ks_history.specs.Passes.{NoneBy}
-use Rattle.ks_history.specs.Due.{IsOnWay, ShapesFor, MovedDue}
+use Rattle.ks_history.specs.Callers.{NoneBy}
+use Rattle.ks_history.specs.Refusals.{IsOnWay, ShapesFor, MovedDue}
 use Rattle.ks_history.specs.Laws.Stays.{IsInTurn, AreInTurn, cond_here, cond_else}
 use Rattle.ks_history.specs.Laws.Turns.{given_kept, state_was}
 use Rattle.ks_history.specs.Laws.Begins.{begins_both}

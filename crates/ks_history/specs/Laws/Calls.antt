@@ -6,7 +6,8 @@ use Rattle.ks_history.specs.declared.Op.{Op}
 use Rattle.ks_history.specs.declared.Reply.{Reply}
 use Rattle.ks_history.specs.declared.Event.{Event}
 use Rattle.ks_history.specs.declared.Event.TheVariants.{Take, Give, Claim, Shape, Call}
-use Rattle.ks_history.specs.Trace.{Called, called, answered, call_in, number_after, calls_by, NumberedCall}
+use Rattle.ks_history.specs.Trace.{Called, answered, call_in, number_after, calls_by, NumberedCall}
+use Rattle.ks_history.specs.Own.{called}
 use Rattle.ks_history.specs.Passes.{NoCallBy, GrowsByOthers}
 use Rattle.ks_history.specs.Done.{Template, Done, Left}
 use Rattle.ks_history.specs.Laws.Stays.{cond_here, cond_else}

@@ -18,8 +18,9 @@ use Rattle.ks_history.specs.declared.Op.{Op}
 use Rattle.ks_history.specs.declared.Event.{Event}
 use Rattle.ks_history.specs.declared.Event.TheVariants.{Take, Give, Claim, Shape, Call}
 use Rattle.ks_history.specs.Trace.{◌⊑◌, caller_of, held, graph_after, turn_after}
-use Rattle.ks_history.specs.Passes.{NoneBy, GrowsByOthers, GrowsWith}
-use Rattle.ks_history.specs.Due.{IsOnWay, ShapesBesides, takes_by, BusyDue, FarDue}
+use Rattle.ks_history.specs.Callers.{NoneBy}
+use Rattle.ks_history.specs.Passes.{GrowsByOthers, GrowsWith}
+use Rattle.ks_history.specs.Refusals.{IsOnWay, ShapesBesides, takes_by, BusyDue, FarDue}
 use Rattle.ks_history.specs.Stays.{StaysHeld}
 use Rattle.ks_history.specs.Laws.Stays.{AreInTurn, cond_here, cond_else, shaped_else}
 use Rattle.ks_history.specs.Laws.Begins.{begins_self, begins_both, by_others_keeps, by_others_turn}

@@ -12,10 +12,13 @@ use Rattle.ks_history.specs.declared.Reply.TheVariants.{Full}
 use Rattle.ks_history.specs.declared.Event.{Event}
 use Rattle.ks_history.specs.declared.Event.TheVariants.{Take, Give, Claim, Shape, Call}
 use Rattle.ks_history.specs.Map.{Touches}
-use Rattle.ks_history.specs.Trace.{◌⊑◌, free, held, caller_of, graph_after, turn_after, hand}
-use Rattle.ks_history.specs.Passes.{NoneBy, NoCallBy, GrowsByOthers, Has}
+use Rattle.ks_history.specs.Trace.{◌⊑◌, free, held, caller_of, graph_after, turn_after}
+use Rattle.ks_history.specs.Own.{hand}
+use Rattle.ks_history.specs.Callers.{NoneBy}
+use Rattle.ks_history.specs.Passes.{NoCallBy, GrowsByOthers, Has}
 use Rattle.ks_history.specs.Laws.Hand.{held_in_hand}
-use Rattle.ks_history.specs.Due.{IsFullFor, HasNoRoom, FindsNoRoom, MayGrow, HoldsLive, HoldsLiveBut, NoneFree, FullDue, last_call, Sometime}
+use Rattle.ks_history.specs.Due.{IsFullFor, HasNoRoom, FindsNoRoom, MayGrow, HoldsLive, HoldsLiveBut, NoneFree, FullDue, last_call}
+use Rattle.ks_history.specs.Refusals.{Sometime}
 use Rattle.ks_history.specs.Stays.{StaysHeld}
 use Rattle.ks_history.specs.Laws.Stays.{AreInTurn, cond_here, cond_else}
 use Rattle.ks_history.specs.Laws.Begins.{none_by_older, begins_self, begins_more, begins_both, by_others_keeps, by_others_turn, in_turn_begins}

@@ -11,7 +11,7 @@ use Rattle.ks_history.specs.declared.Event.{Event}
 use Rattle.ks_history.specs.declared.Event.TheVariants.{Take, Give, Claim, Shape, Call}
 use Rattle.ks_history.specs.Write.{written}
 use Rattle.ks_history.specs.Trace.{given, state_with, graph_after}
-use Rattle.ks_history.specs.Due.{ShapesBesides}
+use Rattle.ks_history.specs.Refusals.{ShapesBesides}
 use Rattle.ks_history.specs.Laws.Stays.{IsInTurn, AreInTurn, cond_here, cond_else}
 use Rattle.ks_history.specs.Laws.Turns.{record_with, given_kept, state_written, free_not_live}
 

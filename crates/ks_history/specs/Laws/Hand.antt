@@ -4,8 +4,10 @@ use mathlib.Core.Logic.{dite}
 use native.Mathlib.Decide.{ℕ_discrete}
 use Rattle.ks_history.specs.declared.Event.{Event}
 use Rattle.ks_history.specs.declared.Event.TheVariants.{Take, Give, Claim, Shape, Call}
-use Rattle.ks_history.specs.Trace.{caller_of, graph_after, free, idle, held, turn_given, turn_after, mine, drop_one, hand}
-use Rattle.ks_history.specs.Passes.{Has, NoneBy}
+use Rattle.ks_history.specs.Trace.{caller_of, graph_after, free, idle, held, turn_given, turn_after}
+use Rattle.ks_history.specs.Own.{mine, drop_one, hand}
+use Rattle.ks_history.specs.Passes.{Has}
+use Rattle.ks_history.specs.Callers.{NoneBy}
 use Rattle.ks_history.specs.Laws.Stays.{IsInTurn, AreInTurn, cond_here, cond_else, given_not_held, other_keeps, other_turn}
 use Rattle.ks_history.specs.Hand.{AreOnce}
 

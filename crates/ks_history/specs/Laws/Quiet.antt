@@ -5,10 +5,11 @@ use Rattle.ks_keysets.specs.declared.Frame.{Frame}
 use Rattle.ks_keysets.specs.declared.NodeState.{NodeState}
 use Rattle.ks_keysets.specs.declared.NodeState.TheVariants.{Free, Claimed, Live}
 use Rattle.ks_keysets.specs.Keyset.{live_record, record_at}
-use Rattle.ks_keysets.specs.Change.{SameNodes}
+use Rattle.ks_keysets.specs.Reframed.{SameNodes}
 use Rattle.ks_history.specs.declared.Event.{Event}
 use Rattle.ks_history.specs.declared.Event.TheVariants.{Take, Give, Claim, Shape, Call}
-use Rattle.ks_history.specs.Trace.{◌⊑◌, given, graph_after, frame_after}
+use Rattle.ks_history.specs.Trace.{◌⊑◌, given, graph_after}
+use Rattle.ks_history.specs.Frames.{frame_after}
 use Rattle.ks_history.specs.Passes.{GrowsByOthers, GrowsWith}
 use Rattle.ks_history.specs.Laws.Stays.{cond_here, cond_else}
 use Rattle.ks_history.specs.Alone.{ActsAlone}

@@ -7,13 +7,15 @@ use Rattle.ks_keysets.specs.declared.Frame.{Frame}
 use Rattle.ks_keysets.specs.declared.NodeState.{NodeState}
 use Rattle.ks_keysets.specs.declared.NodeState.TheVariants.{Free, Claimed, Live}
 use Rattle.ks_keysets.specs.declared.Change.{Change}
-use Rattle.ks_keysets.specs.Change.{shaped, reframed, new_state, new_frame}
+use Rattle.ks_keysets.specs.Change.{shaped, new_state}
+use Rattle.ks_keysets.specs.Reframed.{reframed, new_frame}
 use Rattle.ks_history.specs.declared.Event.{Event}
 use Rattle.ks_history.specs.declared.Event.TheVariants.{Take, Give, Claim, Shape, Call}
 use Rattle.ks_history.specs.Write.{written}
-use Rattle.ks_history.specs.Trace.{caller_of, given, state_with, graph_after, free, idle, held, turn_given, turn_after, frame_after}
+use Rattle.ks_history.specs.Trace.{caller_of, given, state_with, graph_after, free, idle, held, turn_given, turn_after}
+use Rattle.ks_history.specs.Frames.{frame_after}
 use Rattle.ks_history.specs.Lawful.{Meets, Lawful}
-use Rattle.ks_history.specs.Passes.{NoneBy}
+use Rattle.ks_history.specs.Callers.{NoneBy}
 use Rattle.ks_history.specs.Stays.{StaysHeld}
 
 -- the event names only nodes that its caller may use at that moment: this is the part of its condition on turns

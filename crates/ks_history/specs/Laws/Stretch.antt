@@ -5,7 +5,8 @@ use Rattle.ks_history.specs.declared.Op.{Op}
 use Rattle.ks_history.specs.declared.Op.TheVariants.{Put}
 use Rattle.ks_history.specs.declared.Event.{Event}
 use Rattle.ks_history.specs.declared.Event.TheVariants.{Take, Give, Claim, Shape}
-use Rattle.ks_history.specs.Trace.{◌⊑◌, hand, drop_one}
+use Rattle.ks_history.specs.Trace.{◌⊑◌}
+use Rattle.ks_history.specs.Own.{hand, drop_one}
 use Rattle.ks_history.specs.Passes.{GrowsByOthers, GrowsWith}
 use Rattle.ks_history.specs.Done.{Template, MayBegin, MayTake, first_taken, most_held}
 use Rattle.ks_history.specs.Laws.Underway.{underway_others, underway_with, underway_both, underway_here}

@@ -7,8 +7,10 @@ use Rattle.ks_history.specs.declared.Reply.{Reply}
 use Rattle.ks_history.specs.declared.Reply.TheVariants.{Full}
 use Rattle.ks_history.specs.declared.Event.{Event}
 use Rattle.ks_history.specs.declared.Event.TheVariants.{Take, Give, Claim, Shape, Call}
-use Rattle.ks_history.specs.Trace.{caller_of, called, call_in, number_after, hand}
-use Rattle.ks_history.specs.Passes.{NoneBy, NoCallBy, GrowsByOthers, GrowsWith}
+use Rattle.ks_history.specs.Trace.{caller_of, call_in, number_after}
+use Rattle.ks_history.specs.Own.{called, hand}
+use Rattle.ks_history.specs.Callers.{NoneBy}
+use Rattle.ks_history.specs.Passes.{NoCallBy, GrowsByOthers, GrowsWith}
 use Rattle.ks_history.specs.Due.{FullDue}
 use Rattle.ks_history.specs.Done.{Template, HoldsAbove, MayTake, first_taken, from_above, TakesWell, most_held, Hands, at_first, and_on, Done, Left}
 use Rattle.ks_history.specs.Stays.{StaysHeld}

@@ -6,7 +6,8 @@ use Rattle.ks_keysets.specs.declared.Kind.{Kind}
 use Rattle.ks_keysets.specs.declared.Kind.TheVariants.{NoBranch, Inner, Directory}
 use Rattle.ks_keysets.specs.declared.NodeState.{NodeState}
 use Rattle.ks_keysets.specs.Keyset.{record_at}
-use Rattle.ks_keysets.specs.Layout.{Layout, list_layout, bplus_layout, hash_layout, capacity}
+use Rattle.ks_keysets.specs.Layout.{Layout, list_layout, bplus_layout, hash_layout}
+use Rattle.ks_keysets.specs.Tight.{capacity}
 use Rattle.ks_history.specs.Due.{MayGrow}
 use Rattle.ks_node.specs.Body.{Body, is_branch_kind}
 use Rattle.ks_node.specs.Edges.{record_of, edges_of}

@@ -5,7 +5,8 @@ use Rattle.ks_history.specs.declared.Event.TheVariants.{Take, Give, Claim, Shape
 use Rattle.ks_history.specs.declared.Op.{Op}
 use Rattle.ks_history.specs.declared.Reply.{Reply}
 use Rattle.ks_history.specs.Trace.{caller_of}
-use Rattle.ks_history.specs.Passes.{NoneBy, GrowsByOthers, GrowsWith}
+use Rattle.ks_history.specs.Callers.{NoneBy}
+use Rattle.ks_history.specs.Passes.{GrowsByOthers, GrowsWith}
 use Rattle.ks_history.specs.Laws.Begins.{begins_self, begins_both}
 use Rattle.ks_arena.specs.Sound.{Sort}
 use Rattle.ks_shape.specs.Does.{EachOwn, DoesOnly, MaySearch, MayFill, MayDel}

@@ -9,10 +9,11 @@ use Rattle.ks_history.specs.declared.Event.TheVariants.{Take, Give, Claim, Shape
 use Rattle.ks_history.specs.declared.Op.{Op}
 use Rattle.ks_history.specs.Map.{Touches}
 use Rattle.ks_history.specs.Trace.{◌⊑◌, held, graph_after, turn_after}
-use Rattle.ks_history.specs.Passes.{NoneBy, GrowsWith}
+use Rattle.ks_history.specs.Callers.{NoneBy}
+use Rattle.ks_history.specs.Passes.{GrowsWith}
 use Rattle.ks_history.specs.Laws.Stays.{AreInTurn, cond_else}
 use Rattle.ks_history.specs.Laws.Begins.{begins_both}
-use Rattle.ks_history.specs.Due.{IsOnWay, takes_by, BusyDue, FarDue}
+use Rattle.ks_history.specs.Refusals.{IsOnWay, takes_by, BusyDue, FarDue}
 use Rattle.ks_history.specs.Descent.{TookSince}
 use Rattle.ks_history.specs.Laws.Descent.{NoTakeBy, took_root, took_node, took_while, deep_at_root, deep_down, deep_with, far_due}
 use Rattle.ks_shape.specs.Down.{IsDown}

@@ -3,11 +3,13 @@ use Rattle.std.proofs.Common.{◌≡◌, ◌≢◌, ℕ, ◌+◌, ◌<◌, ◌%�
 use Rattle.std.proofs.lemmas.List.{append_cancel_right}
 use Rattle.ks_keysets.specs.declared.Frame.{Frame}
 use Rattle.ks_keysets.specs.declared.Change.{Change}
-use Rattle.ks_keysets.specs.Change.{SameNodes}
+use Rattle.ks_keysets.specs.Reframed.{SameNodes}
 use Rattle.ks_history.specs.declared.Event.{Event}
 use Rattle.ks_history.specs.declared.Event.TheVariants.{Take, Give, Claim, Shape, Call}
-use Rattle.ks_history.specs.Trace.{◌⊑◌, caller_of, graph_after, frame_after}
-use Rattle.ks_history.specs.Passes.{NoneBy, GrowsByOthers, GrowsWith}
+use Rattle.ks_history.specs.Trace.{◌⊑◌, caller_of, graph_after}
+use Rattle.ks_history.specs.Frames.{frame_after}
+use Rattle.ks_history.specs.Callers.{NoneBy}
+use Rattle.ks_history.specs.Passes.{GrowsByOthers, GrowsWith}
 use Rattle.ks_history.specs.Laws.Stays.{cond_here, cond_else}
 use Rattle.ks_history.specs.Alone.{AllBy}
 use Rattle.ks_history.specs.Laws.Alone.{alone_first, alone_then}

@@ -4,7 +4,8 @@ use Rattle.std.specs.Prelude.{Option, Some, None}
 use Rattle.ks_keysets.specs.Keyset.{InInset}
 use Rattle.ks_history.specs.declared.Event.{Event}
 use Rattle.ks_history.specs.declared.Event.TheVariants.{Give}
-use Rattle.ks_history.specs.Trace.{hand, drop_one, held, graph_after}
+use Rattle.ks_history.specs.Own.{hand, drop_one}
+use Rattle.ks_history.specs.Trace.{held, graph_after}
 use Rattle.ks_history.specs.Passes.{Has, GrowsWith}
 use Rattle.ks_history.specs.Laws.Stays.{cond_here, cond_else}
 use Rattle.ks_history.specs.Hand.{AreOnce}

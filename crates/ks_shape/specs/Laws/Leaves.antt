@@ -2,7 +2,7 @@
 use Rattle.std.proofs.Common.{◌≡◌, ℕ, List, []}
 use Rattle.ks_history.specs.declared.Event.{Event}
 use Rattle.ks_history.specs.Done.{Template}
-use Rattle.ks_history.specs.Trace.{hand}
+use Rattle.ks_history.specs.Own.{hand}
 use Rattle.ks_history.specs.Laws.Underway.{left_of}
 use Rattle.ks_shape.specs.Stretches.{Stretches}
 use Rattle.ks_shape.specs.Leaves.{HasLeft}

@@ -7,7 +7,8 @@ use Rattle.ks_keysets.specs.Keyset.{IsLive}
 use Rattle.ks_keysets.specs.Layout.{Layout}
 use Rattle.ks_history.specs.declared.Event.{Event}
 use Rattle.ks_history.specs.Trace.{◌⊑◌, Turn, free, idle, held, graph_after, turn_after}
-use Rattle.ks_history.specs.Passes.{NoneBy, GrowsByOthers, GrowsWith}
+use Rattle.ks_history.specs.Callers.{NoneBy}
+use Rattle.ks_history.specs.Passes.{GrowsByOthers, GrowsWith}
 use Rattle.ks_history.specs.Due.{HoldsLive, HoldsLiveBut, NoneFree}
 use Rattle.ks_history.specs.Laws.Stays.{AreInTurn}
 use Rattle.ks_history.specs.Laws.Begins.{begins_self, begins_append, begins_both, by_others_keeps, in_turn_begins, with_others}

@@ -5,7 +5,8 @@ use Rattle.ks_keysets.specs.declared.Frame.{Frame}
 use Rattle.ks_keysets.specs.declared.Span.{Span}
 use Rattle.ks_keysets.specs.Record.{top}
 use Rattle.ks_history.specs.declared.Event.{Event}
-use Rattle.ks_history.specs.Trace.{graph_after, frame_after}
+use Rattle.ks_history.specs.Trace.{graph_after}
+use Rattle.ks_history.specs.Frames.{frame_after}
 use Rattle.ks_flow.specs.Tree.{Tree}
 use Rattle.ks_node.specs.declared.start.Next.TheVariants.{Here}
 use Rattle.ks_node.specs.Body.{Body, content_of, first_of, is_branch, last_of, next_at}

@@ -4,8 +4,9 @@ use mathlib.Core.Logic.{dite}
 use native.Mathlib.Decide.{ℕ_discrete}
 use Rattle.ks_history.specs.declared.Event.{Event}
 use Rattle.ks_history.specs.declared.Event.TheVariants.{Take, Give, Claim, Shape, Call}
-use Rattle.ks_history.specs.Due.{takes_by}
-use Rattle.ks_history.specs.Passes.{NoneBy, GrowsByOthers, GrowsWith}
+use Rattle.ks_history.specs.Refusals.{takes_by}
+use Rattle.ks_history.specs.Callers.{NoneBy}
+use Rattle.ks_history.specs.Passes.{GrowsByOthers, GrowsWith}
 use Rattle.ks_history.specs.Laws.Begins.{begins_both}
 use Rattle.ks_history.specs.Laws.Stays.{cond_here, cond_else}
 use Rattle.ks_history.specs.Laws.Descent.{OwnQuiet}

@@ -4,7 +4,8 @@ use Rattle.ks_keysets.specs.Keyset.{opening, Good, InInset}
 use Rattle.ks_keysets.specs.Walk.{OneParent}
 use Rattle.ks_history.specs.declared.Event.{Event}
 use Rattle.ks_history.specs.Passes.{GrowsWith}
-use Rattle.ks_history.specs.Trace.{held, graph_after, frame_after, turn_after}
+use Rattle.ks_history.specs.Trace.{held, graph_after, turn_after}
+use Rattle.ks_history.specs.Frames.{frame_after}
 use Rattle.ks_history.specs.Laws.Stays.{AreInTurn}
 use Rattle.ks_history.specs.Laws.Begins.{good_now}
 use Rattle.ks_flow.specs.Tree.{Tree}

@@ -5,7 +5,8 @@ use Rattle.ks_history.specs.declared.Event.{Event}
 use Rattle.ks_history.specs.declared.Event.TheVariants.{Take, Give, Shape}
 use Rattle.ks_history.specs.declared.Op.{Op}
 use Rattle.ks_history.specs.declared.Op.TheVariants as ops
-use Rattle.ks_history.specs.Trace.{◌⊑◌, hand}
+use Rattle.ks_history.specs.Trace.{◌⊑◌}
+use Rattle.ks_history.specs.Own.{hand}
 use Rattle.ks_history.specs.Passes.{GrowsByOthers, GrowsWith}
 use Rattle.ks_history.specs.Done.{Template, coupling, give_up, link_move, MayBegin, MayTake}
 use Rattle.ks_history.specs.Laws.Stretch.{stretch_both, stretch_here, stretch_others, stretch_give, stretch_shape, stretch_take, stretch_first, stretch_begins}

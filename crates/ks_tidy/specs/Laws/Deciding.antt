@@ -4,7 +4,7 @@ use Rattle.ks_keysets.specs.Layout.{Layout}
 use Rattle.ks_history.specs.declared.Event.{Event}
 use Rattle.ks_history.specs.declared.Op.{Op}
 use Rattle.ks_history.specs.declared.Reply.{Reply}
-use Rattle.ks_history.specs.Trace.{hand}
+use Rattle.ks_history.specs.Own.{hand}
 use Rattle.ks_history.specs.Laws.Begins.{no_call_both}
 use Rattle.ks_history.specs.Done.{Done, Hands, Template, and_on, at_first}
 use Rattle.ks_history.specs.Underway.{Decided, Underway}

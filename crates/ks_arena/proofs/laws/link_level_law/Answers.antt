@@ -1,5 +1,6 @@
 use Rattle.ks_history.specs.Laws.Begins.{good_now}
-use Rattle.ks_history.specs.Trace.{graph_after, frame_after}
+use Rattle.ks_history.specs.Trace.{graph_after}
+use Rattle.ks_history.specs.Frames.{frame_after}
 use Rattle.ks_arena.specs.Sound.{blank_of}
 use Rattle.ks_arena.proofs.laws.link_level_law.Goals as goal
 

@@ -1,5 +1,5 @@
 use Rattle.std.proofs.Common.{ℕ, ◌<◌, sym, ap, subst}
-use Rattle.ks_history.specs.Trace.{hand}
+use Rattle.ks_history.specs.Own.{hand}
 use Rattle.ks_arena_tests.proofs.Ends.{there}
 use Rattle.ks_arena_tests.proofs.ended.an_arena_that_ends_at_once_has_an_empty_root.Goals as goal
 

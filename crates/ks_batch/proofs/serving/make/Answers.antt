@@ -1,5 +1,5 @@
 use Rattle.std.proofs.Common.{sym, subst}
-use Rattle.ks_history.specs.Passes.{CallersBelow}
+use Rattle.ks_history.specs.Callers.{CallersBelow}
 use Rattle.ks_batch.proofs.Made.{many_callers, few_callers}
 use Rattle.ks_batch.proofs.serving.make.Goals as goal
 

@@ -1,7 +1,7 @@
 use Rattle.std.proofs.Common.{◌≡◌, ◌≤◌, ◌+◌, ◌∙◌, ℕ, suc, [], sym, subst, arith}
 use Rattle.ks_history.specs.Done.{coupling}
-use Rattle.ks_history.specs.Due.{FarDue}
-use Rattle.ks_history.specs.Trace.{hand}
+use Rattle.ks_history.specs.Refusals.{FarDue}
+use Rattle.ks_history.specs.Own.{hand}
 use Rattle.ks_history.specs.Underway.{Underway}
 use Rattle.ks_arena.specs.Sound.{sort_of}
 use Rattle.ks_arena.specs.Clauses.{seen_of}

@@ -1,7 +1,7 @@
 use Rattle.std.proofs.Common.{◌≡◌, ◌∙◌, List, map, length, All, sym, ap, subst, ⊎_elim, arith}
 use Rattle.std.proofs.lemmas.List.{length-map}
 use Rattle.ks_history.specs.declared.Op.{Op}
-use Rattle.ks_history.specs.Passes.{CallersBelow}
+use Rattle.ks_history.specs.Callers.{CallersBelow}
 use Rattle.ks_arena.specs.Sound.{sort_of}
 use Rattle.ks_shape.specs.Idle.{Site}
 use Rattle.ks_tickets.specs.Clauses.{EachAs, HaveEndedAt, IsFreeAt}

@@ -1,5 +1,5 @@
 use Rattle.std.proofs.Common.{sym, subst}
-use Rattle.ks_history.specs.Passes.{CallersBelow}
+use Rattle.ks_history.specs.Callers.{CallersBelow}
 use Rattle.ks_shape.specs.Idle.{Site}
 use Rattle.ks_dictionary.specs.Ended.{history}
 use Rattle.ks_dictionary.specs.Of.{site_of}

@@ -1,6 +1,6 @@
 use Rattle.std.proofs.Common.{ap, ◌∙◌, ◌++◌}
 use Rattle.std.specs.Prelude.{option_to_list}
-use Rattle.ks_history.specs.Trace.{hand}
+use Rattle.ks_history.specs.Own.{hand}
 use Rattle.ks_dictionary_tests.proofs.Two.{popped}
 use Rattle.ks_dictionary_tests.proofs.crews.two_callers.Goals as goal
 

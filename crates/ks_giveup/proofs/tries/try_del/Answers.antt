@@ -6,7 +6,7 @@ use Rattle.ks_history.specs.Map.{told}
 use Rattle.ks_history.specs.Underway.{Underway}
 use Rattle.ks_history.specs.Laws.Underway.{left_of}
 use Rattle.ks_arena.specs.Clauses.{seen_of}
-use Rattle.ks_history.specs.Trace.{hand}
+use Rattle.ks_history.specs.Own.{hand}
 use Rattle.ks_giveup.proofs.Way.{ends_goes}
 use Rattle.ks_arena.specs.Sound.{sort_of}
 use Rattle.ks_shape.specs.Laws.Does.{search_dels_on, searched_dels}

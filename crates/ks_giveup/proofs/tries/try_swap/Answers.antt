@@ -3,7 +3,7 @@ use Rattle.ks_history.specs.declared.Op.TheVariants.{Swap}
 use Rattle.ks_history.specs.Done.{give_up}
 use Rattle.ks_history.specs.Laws.Underway.{left_of}
 use Rattle.ks_arena.specs.Clauses.{seen_of}
-use Rattle.ks_history.specs.Trace.{hand}
+use Rattle.ks_history.specs.Own.{hand}
 use Rattle.ks_giveup.proofs.Way.{ends_goes}
 use Rattle.ks_shape.specs.Does.{MaySearch}
 use Rattle.ks_shape.specs.Laws.Does.{does_on}

@@ -2,8 +2,8 @@ use Rattle.std.proofs.Common.{◌≡◌, ◌≤◌, ◌+◌, ◌∙◌, ℕ, suc
 use Rattle.ks_history.specs.declared.Event.{Event}
 use Rattle.ks_history.specs.Descent.{TookSince}
 use Rattle.ks_history.specs.Done.{give_up, coupling}
-use Rattle.ks_history.specs.Due.{FarDue}
-use Rattle.ks_history.specs.Trace.{hand}
+use Rattle.ks_history.specs.Refusals.{FarDue}
+use Rattle.ks_history.specs.Own.{hand}
 use Rattle.ks_history.specs.Underway.{Underway}
 use Rattle.ks_arena.specs.Sound.{sort_of}
 use Rattle.ks_arena.specs.Clauses.{seen_of}

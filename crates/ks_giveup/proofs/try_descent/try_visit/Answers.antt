@@ -4,7 +4,9 @@ use Rattle.ks_keysets.specs.declared.Frame.{Frame}
 use Rattle.ks_keysets.specs.Keyset.{InInset}
 use Rattle.ks_keysets.specs.Laws.Found.{reached_live}
 use Rattle.ks_history.specs.declared.Event.TheVariants.{Give, Take}
-use Rattle.ks_history.specs.Trace.{hand, graph_after, frame_after}
+use Rattle.ks_history.specs.Own.{hand}
+use Rattle.ks_history.specs.Trace.{graph_after}
+use Rattle.ks_history.specs.Frames.{frame_after}
 use Rattle.ks_history.specs.Passes.{GrowsWith}
 use Rattle.ks_history.specs.Laws.Stays.{lawful_in_turn}
 use Rattle.ks_history.specs.Laws.Turns.{live_not_free}

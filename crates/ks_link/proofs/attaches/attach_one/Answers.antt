@@ -7,7 +7,8 @@ use Rattle.ks_history.specs.Laws.Alone.{alone_first, alone_then}
 use Rattle.ks_history.specs.Laws.Begins.{begins_both, with_begins}
 use Rattle.ks_history.specs.Laws.Dues.{holds_one}
 use Rattle.ks_history.specs.Laws.Stays.{lawful_in_turn}
-use Rattle.ks_history.specs.Trace.{◌⊑◌, hand}
+use Rattle.ks_history.specs.Trace.{◌⊑◌}
+use Rattle.ks_history.specs.Own.{hand}
 use Rattle.ks_history.specs.Passes.{GrowsWith}
 use Rattle.ks_history.specs.Done.{link_move}
 use Rattle.ks_history.specs.Stretch.{Stretch}

@@ -1,6 +1,6 @@
 use Rattle.std.proofs.Common.{ℕ, ◌<◌, sym, ap, ◌∙◌, subst, arith}
 use Rattle.ks_keysets.specs.declared.Frame.{Frame}
-use Rattle.ks_history.specs.Trace.{frame_after}
+use Rattle.ks_history.specs.Frames.{frame_after}
 use Rattle.ks_arena.specs.Sound.{sort_of, blank_of}
 use Rattle.ks_arena.specs.Clauses.{seen_of}
 use Rattle.ks_shape.specs.Laws.Single.{shown}

@@ -1,7 +1,9 @@
 use Rattle.std.proofs.Common.{◌≡◌, ◌≤◌, ◌≢◌, ℕ, ◌<◌, List, [], ◌∷◌, inl, inr, sym, refl, ap, ◌∙◌, subst, length, arith}
 use Rattle.std.specs.Prelude.{Some}
 use Rattle.ks_history.specs.declared.Event.TheVariants.{Give}
-use Rattle.ks_history.specs.Trace.{◌⊑◌, hand, drop_one, graph_after, frame_after}
+use Rattle.ks_history.specs.Trace.{◌⊑◌, graph_after}
+use Rattle.ks_history.specs.Own.{hand, drop_one}
+use Rattle.ks_history.specs.Frames.{frame_after}
 use Rattle.ks_history.specs.Passes.{Has, GrowsWith}
 use Rattle.ks_keysets.specs.Keyset.{IsLive as IsLiveIn}
 use Rattle.ks_history.specs.Laws.Begins.{begins_both, good_now, with_begins}

@@ -4,7 +4,9 @@ use Rattle.std.specs.Prelude.{Option, Some, None, nat_lt}
 use Rattle.std.proofs.lemmas.Bool.{le-ltb}
 use Rattle.ks_keysets.specs.declared.Span.{Span}
 use Rattle.ks_keysets.specs.Record.{top}
-use Rattle.ks_history.specs.Trace.{◌⊑◌, hand, held, graph_after, frame_after, turn_after}
+use Rattle.ks_history.specs.Trace.{◌⊑◌, held, graph_after, turn_after}
+use Rattle.ks_history.specs.Own.{hand}
+use Rattle.ks_history.specs.Frames.{frame_after}
 use Rattle.ks_history.specs.Passes.{Has}
 use Rattle.ks_history.specs.Laws.Stays.{lawful_in_turn}
 use Rattle.ks_history.specs.Laws.Hand.{is_hand}

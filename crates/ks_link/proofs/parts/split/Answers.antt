@@ -1,6 +1,8 @@
 use Rattle.std.proofs.Common.{◌≡◌, ◌<◌, ◌≤◌, ℕ, inl, inr, sym, ap, ◌∙◌, subst, length, arith}
 use Rattle.std.specs.Prelude.{Some, None}
-use Rattle.ks_history.specs.Trace.{◌⊑◌, hand, graph_after, frame_after}
+use Rattle.ks_history.specs.Trace.{◌⊑◌, graph_after}
+use Rattle.ks_history.specs.Own.{hand}
+use Rattle.ks_history.specs.Frames.{frame_after}
 use Rattle.ks_keysets.specs.Keyset.{IsLive as IsLiveIn}
 use Rattle.ks_history.specs.Laws.Begins.{good_now, with_begins}
 use Rattle.ks_history.specs.Laws.Alone.{alone_first, alone_then}

@@ -3,7 +3,8 @@ use Rattle.std.specs.Prelude.{All}
 use Rattle.ks_history.specs.declared.Op.{Op}
 use Rattle.ks_history.specs.Alone.{ActsAlone}
 use Rattle.ks_history.specs.Done.{Done, link_move}
-use Rattle.ks_history.specs.Trace.{◌⊑◌, hand}
+use Rattle.ks_history.specs.Trace.{◌⊑◌}
+use Rattle.ks_history.specs.Own.{hand}
 use Rattle.ks_history.specs.Underway.{Underway}
 use Rattle.ks_history.specs.Laws.Alone.{alone_first, alone_then}
 use Rattle.ks_history.specs.Laws.Begins.{begins_both}

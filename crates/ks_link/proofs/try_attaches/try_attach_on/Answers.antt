@@ -2,7 +2,8 @@ use Rattle.std.proofs.Common.{ℕ, zero, suc, ◌<◌, ◌≤◌, Bool, true, fa
 use Rattle.std.specs.Prelude.{is_some}
 use Rattle.ks_keysets.specs.declared.NodeState.{NodeState}
 use Rattle.ks_keysets.specs.Keyset.{record_at}
-use Rattle.ks_history.specs.Trace.{graph_after, frame_after}
+use Rattle.ks_history.specs.Trace.{graph_after}
+use Rattle.ks_history.specs.Frames.{frame_after}
 use Rattle.ks_history.specs.Done.{link_move}
 use Rattle.ks_history.specs.Stretch.{Stretch}
 use Rattle.ks_history.specs.Laws.Stretch.{stretch_both, stretch_here}

@@ -1,7 +1,8 @@
 use Rattle.std.proofs.Common.{ℕ, sym, ap, ◌∙◌, arith}
 use Rattle.ks_keysets.specs.Keyset.{record_at, IsLive}
 use Rattle.ks_history.specs.declared.Event.TheVariants.{Take}
-use Rattle.ks_history.specs.Trace.{graph_after, frame_after}
+use Rattle.ks_history.specs.Trace.{graph_after}
+use Rattle.ks_history.specs.Frames.{frame_after}
 use Rattle.ks_history.specs.Done.{link_move, first_taken}
 use Rattle.ks_history.specs.Laws.Underway.{underway_first, underway_others}
 use Rattle.ks_node.specs.Edges.{record_of}

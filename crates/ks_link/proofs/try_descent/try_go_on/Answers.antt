@@ -5,7 +5,9 @@ use Rattle.ks_keysets.specs.Record.{LeadsTo}
 use Rattle.ks_keysets.specs.Keyset.{record_at, IsLive}
 use Rattle.ks_history.specs.declared.Event.{Event}
 use Rattle.ks_history.specs.declared.Event.TheVariants.{Give}
-use Rattle.ks_history.specs.Trace.{◌⊑◌, hand, drop_one, graph_after, frame_after}
+use Rattle.ks_history.specs.Trace.{◌⊑◌, graph_after}
+use Rattle.ks_history.specs.Own.{hand, drop_one}
+use Rattle.ks_history.specs.Frames.{frame_after}
 use Rattle.ks_history.specs.Passes.{GrowsByOthers, GrowsWith}
 use Rattle.ks_history.specs.Laws.Begins.{begins_both, by_others_begins, good_now, with_begins}
 use Rattle.ks_history.specs.Done.{link_move, first_taken}

@@ -2,7 +2,7 @@ use Rattle.std.proofs.Common.{◌≡◌, ℕ, List, [], ◌∙◌, sym, subst}
 use Rattle.std.specs.Prelude.{All, Result}
 use Rattle.ks_history.specs.declared.Op.{Op}
 use Rattle.ks_history.specs.Done.{Done, link_move}
-use Rattle.ks_history.specs.Trace.{hand}
+use Rattle.ks_history.specs.Own.{hand}
 use Rattle.ks_history.specs.Underway.{Underway}
 use Rattle.ks_history.specs.Laws.Underway.{done_on, left_of}
 use Rattle.ks_arena.specs.Sound.{sort_of}

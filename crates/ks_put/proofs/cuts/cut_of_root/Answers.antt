@@ -2,7 +2,8 @@ use Rattle.std.proofs.Common.{◌≡◌, ◌⊎◌, ◌∙◌, ℕ, cond, Bool, 
 use Rattle.std.specs.Prelude.{Some, IsTrue}
 use Rattle.ks_keysets.specs.declared.Span.{Span}
 use Rattle.ks_keysets.specs.Keyset.{InInset}
-use Rattle.ks_history.specs.Trace.{graph_after, frame_after}
+use Rattle.ks_history.specs.Trace.{graph_after}
+use Rattle.ks_history.specs.Frames.{frame_after}
 use Rattle.ks_node.specs.Body.{Body, all_places, content_of, is_branch}
 use Rattle.ks_node.specs.Asks.{CanSplitAt, IsGoodCut, Suits}
 use Rattle.ks_flow.specs.Tree.{IsInset}

@@ -1,5 +1,5 @@
 use Rattle.std.proofs.Common.{◌≡◌, ◌∙◌, ℕ, List, [], ◌∷◌, length, arith, refl, sym, ap, subst, inl, inr}
-use Rattle.ks_history.specs.Trace.{hand, drop_one}
+use Rattle.ks_history.specs.Own.{hand, drop_one}
 use Rattle.ks_history.specs.Passes.{Has}
 use Rattle.ks_arena.specs.Sound.{sort_of}
 use Rattle.ks_arena.specs.Clauses.{seen_of}

@@ -2,7 +2,7 @@ use Rattle.std.proofs.Common.{◌≡◌, ◌≢◌, ◌≤◌, ◌∙◌, ℕ, f
 use Rattle.std.specs.Prelude.{Option, Some, None}
 use Rattle.ks_history.specs.declared.Event.{Event}
 use Rattle.ks_history.specs.declared.Event.TheVariants.{Give}
-use Rattle.ks_history.specs.Trace.{hand, drop_one}
+use Rattle.ks_history.specs.Own.{hand, drop_one}
 use Rattle.ks_history.specs.Passes.{Has}
 use Rattle.ks_history.specs.Hand.{AreOnce}
 use Rattle.ks_history.specs.Laws.Hand.{is_hand}

@@ -4,7 +4,7 @@ use Rattle.ks_keysets.specs.Layout.{Layout}
 use Rattle.ks_history.specs.declared.Event.TheVariants.{Take}
 use Rattle.ks_history.specs.Descent.{TookSince}
 use Rattle.ks_history.specs.Passes.{GrowsWith}
-use Rattle.ks_history.specs.Trace.{hand}
+use Rattle.ks_history.specs.Own.{hand}
 use Rattle.ks_arena.specs.declared.held.Held.{Held as Hand}
 use Rattle.ks_arena.specs.Sound.{sort_of}
 use Rattle.ks_arena.specs.Clauses.{seen_of}

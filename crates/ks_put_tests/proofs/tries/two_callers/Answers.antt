@@ -1,6 +1,6 @@
 use Rattle.std.proofs.Common.{ap, ◌∙◌, ◌++◌}
 use Rattle.std.specs.Prelude.{option_to_list}
-use Rattle.ks_history.specs.Trace.{hand}
+use Rattle.ks_history.specs.Own.{hand}
 use Rattle.ks_put_tests.proofs.Crews.{two_of, first_is, second_is}
 use Rattle.ks_put_tests.proofs.tries.two_callers.Goals as goal
 

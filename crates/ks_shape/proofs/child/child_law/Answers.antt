@@ -4,7 +4,8 @@ use Rattle.ks_keysets.specs.declared.Edge.{Edge}
 use Rattle.ks_keysets.specs.declared.Record.{Record}
 use Rattle.ks_keysets.specs.Record.{LeadsTo}
 use Rattle.ks_keysets.specs.Keyset.{record_at, IsLive, along}
-use Rattle.ks_history.specs.Trace.{held, turn_after, graph_after, frame_after}
+use Rattle.ks_history.specs.Trace.{held, turn_after, graph_after}
+use Rattle.ks_history.specs.Frames.{frame_after}
 use Rattle.ks_history.specs.Passes.{Has}
 use Rattle.ks_history.specs.Laws.Stays.{lawful_in_turn}
 use Rattle.ks_history.specs.Laws.Hand.{is_hand}

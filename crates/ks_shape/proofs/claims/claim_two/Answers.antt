@@ -1,7 +1,7 @@
 use Rattle.std.proofs.Common.{◌≡◌, ◌∙◌, ℕ, List, sym, subst, inl, inr}
 use Rattle.ks_keysets.specs.declared.NodeState.{NodeState}
 use Rattle.ks_history.specs.declared.Event.TheVariants.{Give}
-use Rattle.ks_history.specs.Trace.{hand, drop_one}
+use Rattle.ks_history.specs.Own.{hand, drop_one}
 use Rattle.ks_history.specs.Passes.{Has, GrowsWith}
 use Rattle.ks_history.specs.declared.Event.{Event}
 use Rattle.ks_history.specs.Done.{Template, coupling}

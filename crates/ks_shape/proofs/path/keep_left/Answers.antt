@@ -1,6 +1,6 @@
 use Rattle.std.proofs.Common.{◌≡◌, ◌≢◌, ◌≤◌, ◌∙◌, ℕ, List, ◌∷◌, length, arith, refl, sym, ap, subst, inl, inr}
 use Rattle.std.specs.Prelude.{Option, Some, None}
-use Rattle.ks_history.specs.Trace.{hand, drop_one}
+use Rattle.ks_history.specs.Own.{hand, drop_one}
 use Rattle.ks_history.specs.Passes.{Has}
 use Rattle.ks_arena.specs.declared.held.Held.{Held as Hand}
 use Rattle.ks_arena.specs.Sound.{sort_of}

@@ -1,7 +1,8 @@
 use Rattle.std.proofs.Common.{◌≡◌, ◌≢◌, ◌<◌, ℕ, List, arith, refl, sym, subst, inl, ⊎_elim}
 use Rattle.ks_keysets.specs.declared.Record.{Record}
 use Rattle.ks_keysets.specs.Record.{LeadsTo}
-use Rattle.ks_history.specs.Trace.{held, turn_after, graph_after, frame_after}
+use Rattle.ks_history.specs.Trace.{held, turn_after, graph_after}
+use Rattle.ks_history.specs.Frames.{frame_after}
 use Rattle.ks_history.specs.Passes.{Has}
 use Rattle.ks_history.specs.Laws.Hand.{is_hand}
 use Rattle.ks_flow.specs.Discipline.{BeginsTree, TreeStep}

@@ -1,6 +1,6 @@
 use Rattle.std.proofs.Common.{◌≡◌, ℕ, [], length, sym, ap, subst, arith}
 use Rattle.ks_history.specs.declared.Event.TheVariants.{Give}
-use Rattle.ks_history.specs.Trace.{hand, drop_one}
+use Rattle.ks_history.specs.Own.{hand, drop_one}
 use Rattle.ks_arena.specs.Clauses.{seen_of}
 use Rattle.ks_shape.specs.Laws.Makes.{makes_with}
 use Rattle.ks_shape.specs.Laws.Single.{gave_last, gives}

@@ -5,7 +5,8 @@ use Rattle.ks_keysets.specs.declared.Change.{Change}
 use Rattle.ks_keysets.specs.Keyset.{InInset}
 use Rattle.ks_flow.specs.Changes.{graph_with}
 use Rattle.ks_history.specs.declared.Event.{Event}
-use Rattle.ks_history.specs.Trace.{graph_after, frame_after}
+use Rattle.ks_history.specs.Trace.{graph_after}
+use Rattle.ks_history.specs.Frames.{frame_after}
 use Rattle.ks_history.specs.Passes.{GrowsByOthers}
 use Rattle.ks_history.specs.Laws.Begins.{good_now, by_others_none}
 use Rattle.ks_node.specs.Body.{Body}

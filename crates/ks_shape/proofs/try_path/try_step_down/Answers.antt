@@ -2,7 +2,7 @@ use Rattle.std.proofs.Common.{◌≡◌, ◌∙◌, ℕ, List, [], length, sym, 
 use Rattle.ks_keysets.specs.Record.{LeadsTo}
 use Rattle.ks_history.specs.declared.Event.TheVariants.{Give}
 use Rattle.ks_history.specs.Done.{coupling}
-use Rattle.ks_history.specs.Trace.{hand}
+use Rattle.ks_history.specs.Own.{hand}
 use Rattle.ks_history.specs.Passes.{Has, GrowsWith}
 use Rattle.ks_history.specs.Underway.{Underway}
 use Rattle.ks_history.specs.Laws.Begins.{by_others_begins, by_others_with, with_begins}

@@ -3,7 +3,9 @@ use Rattle.ks_history.specs.Alone.{ActsAlone}
 use Rattle.ks_history.specs.Laws.Alone.{alone_first, alone_then}
 use Rattle.ks_history.specs.Laws.Begins.{begins_both, with_begins}
 use Rattle.ks_history.specs.Passes.{Has, GrowsWith}
-use Rattle.ks_history.specs.Trace.{hand, drop_one, graph_after, frame_after}
+use Rattle.ks_history.specs.Own.{hand, drop_one}
+use Rattle.ks_history.specs.Trace.{graph_after}
+use Rattle.ks_history.specs.Frames.{frame_after}
 use Rattle.ks_history.specs.declared.Event.TheVariants.{Give}
 use Rattle.ks_history.specs.declared.Op.{Op}
 use Rattle.ks_history.specs.declared.Op.TheVariants.{Del}

@@ -7,7 +7,8 @@ use Rattle.ks_history.specs.Laws.Begins.{with_begins}
 use Rattle.ks_history.specs.Done.{most_held}
 use Rattle.ks_history.specs.Map.{told}
 use Rattle.ks_history.specs.Passes.{Has}
-use Rattle.ks_history.specs.Trace.{hand, graph_after}
+use Rattle.ks_history.specs.Own.{hand}
+use Rattle.ks_history.specs.Trace.{graph_after}
 use Rattle.ks_history.specs.Underway.{Decided}
 use Rattle.ks_history.specs.Laws.Underway.{underway_call}
 use Rattle.ks_arena.specs.declared.held.Held.{Held as Hand}

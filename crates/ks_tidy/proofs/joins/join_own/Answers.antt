@@ -1,8 +1,10 @@
 use Rattle.std.proofs.Common.{◌≡◌, ◌∙◌, ℕ, List, ◌∷◌, arith, refl, sym, ap, subst, inl, inr}
 use Rattle.ks_keysets.specs.Keyset.{InInset}
-use Rattle.ks_keysets.specs.Layout.{FitsNoRight}
+use Rattle.ks_keysets.specs.Tight.{FitsNoRight}
 use Rattle.ks_history.specs.Hand.{AreOnce}
-use Rattle.ks_history.specs.Trace.{hand, graph_after, frame_after}
+use Rattle.ks_history.specs.Own.{hand}
+use Rattle.ks_history.specs.Trace.{graph_after}
+use Rattle.ks_history.specs.Frames.{frame_after}
 use Rattle.ks_history.specs.Passes.{Has, GrowsWith}
 use Rattle.ks_history.specs.declared.Event.TheVariants.{Give}
 use Rattle.ks_arena.specs.Sound.{blank_of, sort_of}

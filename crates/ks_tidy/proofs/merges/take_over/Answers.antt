@@ -1,5 +1,6 @@
 use Rattle.std.proofs.Common.{◌≡◌, ◌≢◌, ◌∙◌, ℕ, List, [], ◌∷◌, length, arith, refl, sym, ap, subst, inl, inr}
-use Rattle.ks_history.specs.Trace.{hand, drop_one, graph_after}
+use Rattle.ks_history.specs.Own.{hand, drop_one}
+use Rattle.ks_history.specs.Trace.{graph_after}
 use Rattle.ks_history.specs.Passes.{Has, GrowsWith}
 use Rattle.ks_history.specs.declared.Event.TheVariants.{Give, Shape}
 use Rattle.ks_arena.specs.declared.held.Held.{Held as Hand}

@@ -1,7 +1,8 @@
 use Rattle.std.proofs.Common.{◌≡◌, ◌≢◌, ℕ, List, subst}
 use Rattle.std.specs.Prelude.{Any}
 use Rattle.ks_keysets.specs.declared.Edge.{Edge}
-use Rattle.ks_history.specs.Trace.{graph_after, frame_after}
+use Rattle.ks_history.specs.Trace.{graph_after}
+use Rattle.ks_history.specs.Frames.{frame_after}
 use Rattle.ks_history.specs.Passes.{Has}
 use Rattle.ks_bodies.specs.Stands.{Stands}
 use Rattle.ks_node.specs.Body.{Body}

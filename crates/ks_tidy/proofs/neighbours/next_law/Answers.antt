@@ -3,8 +3,9 @@ use Rattle.std.specs.Prelude.{Any}
 use Rattle.ks_keysets.specs.declared.Edge.{Edge}
 use Rattle.ks_keysets.specs.declared.Frame.{Frame}
 use Rattle.ks_keysets.specs.declared.NodeState.{NodeState}
-use Rattle.ks_keysets.specs.Layout.{IsNext}
-use Rattle.ks_history.specs.Trace.{graph_after, frame_after}
+use Rattle.ks_keysets.specs.Tight.{IsNext}
+use Rattle.ks_history.specs.Trace.{graph_after}
+use Rattle.ks_history.specs.Frames.{frame_after}
 use Rattle.ks_history.specs.Passes.{Has}
 use Rattle.ks_bodies.specs.Stands.{Stands}
 use Rattle.ks_node.specs.Body.{Body, first_node, is_branch, starts_from}

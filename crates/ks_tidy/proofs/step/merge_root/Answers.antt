@@ -1,7 +1,8 @@
 use Rattle.std.proofs.Common.{◌≡◌, ◌∙◌, ℕ, length, arith, refl, sym, ap, subst}
 use Rattle.std.specs.Prelude.{None}
-use Rattle.ks_keysets.specs.Layout.{FitsNoRight}
-use Rattle.ks_history.specs.Trace.{graph_after, frame_after}
+use Rattle.ks_keysets.specs.Tight.{FitsNoRight}
+use Rattle.ks_history.specs.Trace.{graph_after}
+use Rattle.ks_history.specs.Frames.{frame_after}
 use Rattle.ks_bodies.specs.Stands.{Stands}
 use Rattle.ks_arena.specs.Sound.{blank_of, sort_of}
 use Rattle.ks_arena.specs.Clauses.{hand_of, seen_of}

@@ -1,6 +1,6 @@
 use Rattle.std.proofs.Common.{◌≡◌, ◌∙◌, ℕ, [], sym, subst}
 use Rattle.std.specs.Prelude.{Some, None}
-use Rattle.ks_history.specs.Trace.{hand}
+use Rattle.ks_history.specs.Own.{hand}
 use Rattle.ks_node.specs.declared.start.Next.TheVariants.{Go}
 use Rattle.ks_node.specs.Body.{next_at}
 use Rattle.ks_arena.specs.declared.held.Held.{Held as Hand}

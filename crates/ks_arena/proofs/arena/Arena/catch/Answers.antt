@@ -3,7 +3,8 @@ use Rattle.std.specs.Prelude.{Some, None, IsSome}
 use Rattle.ks_keysets.specs.declared.NodeState.TheVariants.{Claimed}
 use Rattle.ks_history.specs.declared.Event.{Event}
 use Rattle.ks_history.specs.declared.Event.TheVariants.{Claim}
-use Rattle.ks_history.specs.Trace.{graph_after, hand, mine}
+use Rattle.ks_history.specs.Trace.{graph_after}
+use Rattle.ks_history.specs.Own.{hand, mine}
 use Rattle.ks_history.specs.Passes.{GrowsWith}
 use Rattle.ks_history.specs.Laws.Begins.{claim_hand, by_others_none}
 use Rattle.ks_keysets.specs.Keyset.{live_record}

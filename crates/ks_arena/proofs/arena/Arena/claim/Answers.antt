@@ -6,7 +6,7 @@ use Rattle.ks_history.specs.Alone.{ActsAlone, HoldsAlone}
 use Rattle.ks_history.specs.Laws.Begins.{by_others_begins}
 use Rattle.ks_arena.specs.Sound.{sort_of, Sound}
 use Rattle.atomic_table.specs.Seated.{TableId}
-use Rattle.ks_history.specs.Passes.{CallersBelow}
+use Rattle.ks_history.specs.Callers.{CallersBelow}
 use Rattle.ks_history.specs.Laws.Stays.{cond_here}
 use Rattle.ks_arena.specs.declared.held.Pass.{Pass}
 use Rattle.ks_arena.proofs.Words.{one_alone}

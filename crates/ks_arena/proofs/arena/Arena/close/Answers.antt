@@ -7,10 +7,11 @@ use mathlib.Core.Option.{none}
 use Rattle.atomic_table.specs.Table.{Final, Seen, step}
 use lib.ListN.{get_elem?}
 use Rattle.ks_history.specs.declared.Event.{Event}
-use Rattle.ks_history.specs.Trace.{graph_after, turn_after, frame_after, number_after}
+use Rattle.ks_history.specs.Trace.{graph_after, turn_after, number_after}
+use Rattle.ks_history.specs.Frames.{frame_after}
 use Rattle.ks_history.specs.Lawful.{Lawful, GoodThroughout}
 use Rattle.ks_history.specs.Due.{FullsDue}
-use Rattle.ks_history.specs.Passes.{CallersBelow}
+use Rattle.ks_history.specs.Callers.{CallersBelow}
 use Rattle.ks_arena.specs.Clauses.{EndsAll}
 use Rattle.ks_arena.specs.declared.view.View.{View}
 use Rattle.ks_arena.specs.Sound.{sort_of, blank_of, Sound}

@@ -2,7 +2,8 @@ use Rattle.std.proofs.Common.{◌≡◌, ℕ, ◌<◌, refl, sym, ap, ◌∙◌,
 use Rattle.std.specs.Prelude.{Some, None}
 use Rattle.ks_keysets.specs.declared.NodeState.{NodeState}
 use Rattle.ks_keysets.specs.declared.Frame.{Frame}
-use Rattle.ks_history.specs.Trace.{turn_given, graph_after, frame_after}
+use Rattle.ks_history.specs.Trace.{turn_given, graph_after}
+use Rattle.ks_history.specs.Frames.{frame_after}
 use Rattle.ks_arena.specs.Sound.{sort_of, blank_of}
 use Rattle.ks_arena.specs.Rule.{turn_word}
 use Rattle.ks_arena.specs.Plays.{Shows, drop_slot}

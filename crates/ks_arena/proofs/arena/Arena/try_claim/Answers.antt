@@ -1,6 +1,7 @@
 use Rattle.std.proofs.Common.{◌≡◌, ℕ, List, inl, refl, sym, ap, ◌∙◌, subst}
 use Rattle.ks_history.specs.Passes.{Has}
-use Rattle.ks_history.specs.Trace.{hand, held, turn_after}
+use Rattle.ks_history.specs.Own.{hand}
+use Rattle.ks_history.specs.Trace.{held, turn_after}
 use Rattle.ks_arena.specs.Sound.{sort_of}
 use Rattle.ks_arena.specs.Clauses.{HasLooked, Kept, seen_of, hand_of}
 use Rattle.ks_arena.proofs.Hold.{holds_it}

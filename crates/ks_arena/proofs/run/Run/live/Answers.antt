@@ -2,7 +2,8 @@ use Rattle.std.proofs.Common.{◌≡◌, ℕ, ◌<◌, ◌∙◌, sym, subst}
 use mathlib.Core.Option.{some}
 use lib.ListN.{get_elem?}
 use Rattle.std.specs.Slots.{slots_items}
-use Rattle.ks_history.specs.Trace.{graph_after, turn_after, frame_after}
+use Rattle.ks_history.specs.Trace.{graph_after, turn_after}
+use Rattle.ks_history.specs.Frames.{frame_after}
 use Rattle.ks_arena.specs.Sound.{sort_of, blank_of}
 use Rattle.ks_arena.specs.Spots.{turn_at}
 use Rattle.ks_arena.specs.Clauses.{trace_of}
