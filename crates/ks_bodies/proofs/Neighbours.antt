@@ -14,8 +14,8 @@ use Rattle.ks_keysets.specs.declared.NodeState.{NodeState}
 use Rattle.ks_keysets.specs.declared.Record.{Record}
 use Rattle.ks_keysets.specs.Record.{LeadsTo}
 use Rattle.ks_keysets.specs.Keyset.{record_at}
-use Rattle.ks_keysets.specs.Layout.{Layout, chained, beside}
-use Rattle.ks_keysets.specs.Tight.{capacity, filling, IsHalf, IsWithin, IsLow, Fit, IsNext, HasOwnEdge, IsRightNeighbour, FitsNoRight}
+use Rattle.ks_keysets.specs.Layout.{Layout}
+use Rattle.ks_keysets.specs.Tight.{chained, beside, capacity, filling, IsHalf, IsWithin, IsLow, Fit, IsNext, HasOwnEdge, IsRightNeighbour, FitsNoRight}
 use Rattle.ks_node.specs.declared.start.Start.{Start}
 use Rattle.ks_node.specs.Body.{Body, is_branch, is_branch_kind, first_of, last_of, first_node, chained_of, only_child_of, sole, right_child, starts_from}
 use Rattle.ks_node.specs.Edges.{record_of, edges_of, edges_from}

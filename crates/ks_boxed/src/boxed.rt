@@ -25,8 +25,6 @@ impl<N: Node> Node for Boxed<N> {
 
     ghost cuts_by_range = { N.cuts_by_range };
 
-    ghost in_place = { N.in_place };
-
     ghost layout = { N.layout };
 
     ghost branch_kind = { N.branch_kind };
@@ -169,6 +167,8 @@ impl<N: Unlinked> Unlinked for Boxed<N> {
       | inr grows ↦ inr (λ s. grows.0 s.node.value, grows.1, grows.2)
     ] };
 
+    ghost stands = { λ t. (λ s. (N.stands t).0 s.node.value, (N.stands t).1) };
+
     fn split_to(&mut self, right: &mut Self, cut: u64) {
         self.node.split_to(&mut right.node, cut);
     }
@@ -198,6 +198,8 @@ impl<N: Unlinked> Unlinked for Boxed<N> {
 impl<N: Growing> Growing for Boxed<N> {
     ghost grows_where = { λ s. N.grows_where s.node.value };
 
+    ghost at_root = { N.at_root };
+
     ghost few_edges = { λ s. N.few_edges s.node.value };
 }
 
@@ -215,6 +217,8 @@ impl<N: Linked> Linked for Boxed<N> {
     ghost by_range = { N.by_range };
 
     ghost grows_where = { λ s. N.grows_where s.node.value };
+
+    ghost at_root = { N.at_root };
 
     fn level(&self) -> u32 {
         self.node.level()

@@ -44,8 +44,6 @@ impl Node for BNode {
 
     ghost cuts_by_range = { false };
 
-    ghost in_place = { false };
-
     ghost layout = { bplus_layout };
 
     ghost branch_kind = { Inner };
@@ -180,6 +178,7 @@ impl Unlinked for BNode {
     ghost use Rattle.std.proofs.Common.{inr};
     ghost use Rattle.ks_node.specs.Body.{begins, is_branch_kind};
     ghost use Rattle.ks_node.specs.Laws.Adopts.{not_that};
+    ghost use Rattle.ks_node.specs.Laws.Starts.{differ};
 
     ghost no_link = { λ n. refl };
 
@@ -190,6 +189,8 @@ impl Unlinked for BNode {
     ghost none_starts = { λ c cut can. not_that (is_branch_kind c.kind) (begins cut c.starts) (nat_lt (length c.starts) 16) can };
 
     ghost sort = { λ _. inr (λ n. refl, refl, refl) };
+
+    ghost stands = { λ t. absurd (differ refl t) };
 
     fn split_to(&mut self, right: &mut Self, cut: u64) {
         right.low = cut;
@@ -228,6 +229,8 @@ impl Growing for BNode {
     ghost use Rattle.ks_bplus.specs.Laws.Fits.{fit_few};
 
     ghost grows_where = { λ n h. refl };
+
+    ghost at_root = { refl };
 
     ghost few_edges = { λ n. fit_few n.fit };
 }

@@ -7,6 +7,7 @@ ghost use Rattle.ks_shape.specs.Ends.{EndsPutOf};
 ghost use Rattle.ks_shape.specs.Fills.{filling};
 ghost use Rattle.ks_shape.specs.Of.{TriedPutOf};
 ghost use Rattle.ks_shape.specs.Does.{OnlyFills};
+ghost use Rattle.ks_node.specs.Room.{in_place};
 
 use ks_arena::{Arena, Pass};
 use ks_flow::Tree;
@@ -28,7 +29,7 @@ fn try_fill<N: Unlinked, G: Gate>(
     ensures caller { SameCaller pass.old pass.new }
     ensures fills { OnlyFills N.layout N.ranged place pass.old pass.new }
     ensures ends { EndsPutOf arena.now coupling (filling place fill) pass.old pass.new result }
-    ensures tried { N.in_place ≡ false →
+    ensures tried { in_place N.layout ≡ false →
         TriedPutOf arena.now coupling (filling place fill) pass.old pass.new result }
 {
     gate.at(pass.caller(), Point::Begin);
@@ -56,7 +57,7 @@ pub fn try_put<N: Unlinked, G: Gate>(
     ensures caller { SameCaller pass.old pass.new }
     ensures fills { OnlyFills N.layout N.ranged place pass.old pass.new }
     ensures ends { EndsPutOf arena.now coupling (Put place value) pass.old pass.new result }
-    ensures tried { N.in_place ≡ false →
+    ensures tried { in_place N.layout ≡ false →
         TriedPutOf arena.now coupling (Put place value) pass.old pass.new result }
 {
     try_fill(arena, pass, gate, place, Fill::Put(value))
@@ -80,7 +81,7 @@ pub fn try_add<N: Unlinked, G: Gate>(
     ensures caller { SameCaller pass.old pass.new }
     ensures fills { OnlyFills N.layout N.ranged place pass.old pass.new }
     ensures ends { EndsPutOf arena.now coupling (Add place value) pass.old pass.new result }
-    ensures tried { N.in_place ≡ false →
+    ensures tried { in_place N.layout ≡ false →
         TriedPutOf arena.now coupling (Add place value) pass.old pass.new result }
 {
     try_fill(arena, pass, gate, place, Fill::Add(value))

@@ -14,6 +14,7 @@ ghost use Rattle.ks_shape.specs.Answers.{number_in, reply_in};
 ghost use Rattle.ks_shape.specs.Does.{OnlyDels, OnlyFills, OnlySearches};
 ghost use Rattle.ks_shape.specs.Tries.{IsDoneIn, MayTell, PutMayTell};
 ghost use Rattle.ks_shape.specs.Upkeep.{AreNewLed, HasTwoFree, IsTidyIn, LeadsNew, LeavesTidy};
+ghost use Rattle.ks_node.specs.Room.{in_place};
 ghost use Rattle.ks_dictionary.specs.Ended.{HasEndedWith, history};
 ghost use Rattle.ks_dictionary.specs.Of.{
   AreAllPassesOf,
@@ -254,10 +255,10 @@ impl<N: Node, T: Ruled + Template<N, Arena<N, <T as Ruled>::Rule>>> Dictionary<N
         ensures caller { SameCaller pass.old pass.new }
         ensures fills { OnlyFills N.layout N.ranged (N.Places.place_of key) pass.old pass.new }
         ensures ends { HasEndedPutIn self.now T.technique (Put (N.Places.place_of key) value) pass.old pass.new result }
-        ensures tried { N.in_place ≡ false →
+        ensures tried { in_place N.layout ≡ false →
             HasTriedPutIn self.now T.technique (Put (N.Places.place_of key) value) pass.old pass.new result }
         ensures never { PutMayTell T.technique result }
-        ensures alone { N.in_place ≡ false →
+        ensures alone { in_place N.layout ≡ false →
             WasAlone pass.old pass.new → HeldAlone pass.old → IsDoneIn result }
         ensures reuse { ReusesSafely T.Rule.lasts (seen_of pass.old) (seen_of pass.new) }
     {
@@ -283,10 +284,10 @@ impl<N: Node, T: Ruled + Template<N, Arena<N, <T as Ruled>::Rule>>> Dictionary<N
         ensures caller { SameCaller pass.old pass.new }
         ensures fills { OnlyFills N.layout N.ranged (N.Places.place_of key) pass.old pass.new }
         ensures ends { HasEndedPutIn self.now T.technique (Add (N.Places.place_of key) value) pass.old pass.new result }
-        ensures tried { N.in_place ≡ false →
+        ensures tried { in_place N.layout ≡ false →
             HasTriedPutIn self.now T.technique (Add (N.Places.place_of key) value) pass.old pass.new result }
         ensures never { PutMayTell T.technique result }
-        ensures alone { N.in_place ≡ false →
+        ensures alone { in_place N.layout ≡ false →
             WasAlone pass.old pass.new → HeldAlone pass.old → IsDoneIn result }
         ensures reuse { ReusesSafely T.Rule.lasts (seen_of pass.old) (seen_of pass.new) }
     {

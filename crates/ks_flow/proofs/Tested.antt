@@ -12,8 +12,8 @@ use Rattle.ks_keysets.specs.Record.{top, IsPlace, Carries, LeadsTo, LeadsOn}
 use Rattle.ks_keysets.specs.Keyset.{record_at, IsLive, Reaches, at_root, along, InInset, InKeyset, Good}
 use Rattle.ks_keysets.specs.Reframed.{SameNodes}
 use Rattle.ks_keysets.specs.Spans.{CarriesAlike}
-use Rattle.ks_keysets.specs.Layout.{Layout, chained, beside}
-use Rattle.ks_keysets.specs.Tight.{Fit, IsLow, IsRightNeighbour, FitsNoRight, IsTight, IsTidyAt}
+use Rattle.ks_keysets.specs.Layout.{Layout}
+use Rattle.ks_keysets.specs.Tight.{chained, beside, Fit, IsLow, IsRightNeighbour, FitsNoRight, IsTight, IsTidyAt}
 use Rattle.ks_flow.specs.Walk.{Path, arrives, passes, Ends, stops, goes}
 use Rattle.ks_flow.specs.Tree.{edges_to, Tree}
 use Rattle.ks_flow.specs.Tight.{IsTightBelow, EndsRun, ComesTo}

@@ -8,6 +8,7 @@ ghost use Rattle.ks_shape.specs.Fills.{filling};
 ghost use Rattle.ks_shape.specs.Of.{TriedPutOf};
 ghost use Rattle.ks_giveup.specs.Goes.{GoesTowards};
 ghost use Rattle.ks_shape.specs.Does.{OnlyFills};
+ghost use Rattle.ks_node.specs.Room.{in_place};
 
 use crate::try_descent::try_find;
 use ks_arena::{Arena, Pass};
@@ -30,7 +31,7 @@ fn try_fill<N: Ranged + Unlinked, G: Gate>(
     ensures caller { SameCaller pass.old pass.new }
     ensures fills { OnlyFills N.layout N.ranged place pass.old pass.new }
     ensures ends { EndsPutOf arena.now give_up (filling place fill) pass.old pass.new result }
-    ensures tried { N.in_place ≡ false →
+    ensures tried { in_place N.layout ≡ false →
         TriedPutOf arena.now give_up (filling place fill) pass.old pass.new result }
     ensures goes { GoesTowards place pass.old pass.new }
 {
@@ -67,7 +68,7 @@ pub fn try_put<N: Ranged + Unlinked, G: Gate>(
     ensures caller { SameCaller pass.old pass.new }
     ensures fills { OnlyFills N.layout N.ranged place pass.old pass.new }
     ensures ends { EndsPutOf arena.now give_up (Put place value) pass.old pass.new result }
-    ensures tried { N.in_place ≡ false →
+    ensures tried { in_place N.layout ≡ false →
         TriedPutOf arena.now give_up (Put place value) pass.old pass.new result }
     ensures goes { GoesTowards place pass.old pass.new }
 {
@@ -92,7 +93,7 @@ pub fn try_add<N: Ranged + Unlinked, G: Gate>(
     ensures caller { SameCaller pass.old pass.new }
     ensures fills { OnlyFills N.layout N.ranged place pass.old pass.new }
     ensures ends { EndsPutOf arena.now give_up (Add place value) pass.old pass.new result }
-    ensures tried { N.in_place ≡ false →
+    ensures tried { in_place N.layout ≡ false →
         TriedPutOf arena.now give_up (Add place value) pass.old pass.new result }
     ensures goes { GoesTowards place pass.old pass.new }
 {

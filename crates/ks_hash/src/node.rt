@@ -74,8 +74,6 @@ impl Node for HNode {
 
     ghost cuts_by_range = { false };
 
-    ghost in_place = { false };
-
     ghost layout = { hash_layout };
 
     ghost branch_kind = { Directory };
@@ -243,6 +241,7 @@ impl Unlinked for HNode {
     ghost use Rattle.std.proofs.Common.{inl};
     ghost use Rattle.ks_node.specs.Body.{begins, is_branch_kind};
     ghost use Rattle.ks_node.specs.Laws.Adopts.{not_this};
+    ghost use Rattle.ks_node.specs.Laws.Starts.{differ};
     ghost use Rattle.ks_hash.specs.Slices.{smallest};
     ghost use Rattle.ks_hash.specs.Laws.Fits.{fit_adopts};
 
@@ -255,6 +254,8 @@ impl Unlinked for HNode {
     ghost none_starts = { λ c cut can. not_this (begins cut c.starts) (not (is_branch_kind c.kind) || nat_eq (cut % smallest) 0) can };
 
     ghost sort = { λ _. inl (λ n span o full suits is good. fit_adopts n.fit span o full suits) };
+
+    ghost stands = { λ t. absurd (differ refl t) };
 
     fn split_to(&mut self, right: &mut Self, cut: u64) {
         right.low = cut;
@@ -292,6 +293,8 @@ impl Growing for HNode {
     ghost use Rattle.ks_hash.specs.Laws.Fits.{fit_grows, fit_few};
 
     ghost grows_where = { λ n h. fit_grows n.fit h };
+
+    ghost at_root = { refl };
 
     ghost few_edges = { λ n. fit_few n.fit };
 }

@@ -18,11 +18,11 @@ use Rattle.ks_keysets.specs.declared.Kind.TheVariants.{NoBranch, Inner, Director
 use Rattle.ks_keysets.specs.declared.Record.{Record}
 use Rattle.ks_keysets.specs.declared.Pair.{Pair}
 use Rattle.ks_keysets.specs.Record.{IsPlace, LeadsTo, top, empty_record}
-use Rattle.ks_keysets.specs.Keyset.{opening, live_record, record_at, IsLive, at_root, along, InInset, InKeyset, InOutset}
+use Rattle.ks_keysets.specs.Keyset.{opening, live_record, record_at, IsLive, Reaches, at_root, along, InInset, InKeyset, InOutset}
 use Rattle.ks_keysets.specs.Frame.{blank_frame}
 use Rattle.ks_keysets.specs.Laws.Found.{reached_live}
-use Rattle.ks_keysets.specs.Layout.{Layout, list_layout, bplus_layout, hash_layout, chained, beside}
-use Rattle.ks_keysets.specs.Tight.{Fit, IsLow, IsNext, IsRightNeighbour}
+use Rattle.ks_keysets.specs.Layout.{Layout, list_layout, bplus_layout, hash_layout, bst_layout}
+use Rattle.ks_keysets.specs.Tight.{Fit, IsLow, IsNext, IsRightNeighbour, chained, beside}
 use Rattle.ks_history.specs.declared.Op.TheVariants.{Get, Put}
 use Rattle.ks_history.specs.declared.Reply.TheVariants.{Nothing, Full}
 use Rattle.ks_history.specs.declared.Reply.{Reply}
@@ -35,7 +35,7 @@ use Rattle.ks_history.specs.Trace.{◌⊑◌, free, idle, held, given, call_in, 
 use Rattle.ks_history.specs.Own.{called, decided_at}
 use Rattle.ks_history.specs.Frames.{frame_after}
 use Rattle.ks_history.specs.Served.{at_place, CalledBelow, IsListing, Served}
-use Rattle.ks_history.specs.Due.{HoldsLiveBut, FullDue, last_call, FullsDue}
+use Rattle.ks_history.specs.Due.{MayGrow, HoldsLiveBut, FullDue, last_call, FullsDue}
 use Rattle.ks_history.specs.Refusals.{BusyDue, MovedDue, FarDue, IsOnWay}
 use Rattle.ks_history.specs.Done.{Template, coupling, give_up, link_move, MayTake, first_taken, from_above, Hands, at_first, and_on, Done, DoneAt, Left, Tight, TidyAt}
 use Rattle.ks_history.specs.Laws.Begins.{begins_self, begins_append, begins_both, by_others_none}
@@ -70,6 +70,7 @@ full_needs_room : (layout : Layout) (s : List Event) → FullDue layout 4 s [] (
 full_needs_room list_layout s due = let full = due.no_room.0.1 in omega (arith, no_pairs 0 full.node full.is, full.filled)
 full_needs_room bplus_layout s due = let full = due.no_room.0.1 in omega (arith, no_pairs 0 full.node full.is, full.filled)
 full_needs_room hash_layout s due = let full = due.no_room.0.1 in omega (arith, no_pairs 0 full.node full.is, full.filled)
+full_needs_room bst_layout s due = let full = due.no_room.0.1 in omega (arith, no_pairs 0 full.node full.is, full.filled)
 
 -- eight pairs fill a list node, and if it is the only node of the arena a ninth is Full
 
@@ -598,6 +599,78 @@ claimed_is_due = record {
     both_held zero lt is = let x : held 0 ≡ free = is in cc
     both_held (suc zero) lt is = let x : held 0 ≡ free = is in cc
     both_held (suc (suc j)) lt is = omega arith
+
+-- under a layout of binary search trees a claimed node is excused beside a full leaf whose keyset has the place: the root
+-- leads to leaf 1 below 10, and from there on to leaf 2, which is full
+
+abbrev fork_root : Record
+fork_root = record { edges = record { span = record { low = 0; last = 9 }; node = 1 } ∷ record { span = record { low = 10; last = top }; node = 2 } ∷ []; pairs = [] }
+
+abbrev full_leaf : Record
+full_leaf = record { edges = []; pairs = pair 10 ∷ pair 20 ∷ [] }
+
+abbrev forked : List Event
+forked = Claim 0 3 ∷ Shape 0 (record { node = 0; state = BecomesLive fork_root blank_frame } ∷ record { node = 1; state = BecomesLive empty_record blank_frame } ∷ record { node = 2; state = BecomesLive full_leaf blank_frame } ∷ []) ∷ Claim 0 2 ∷ Claim 0 1 ∷ Take 0 0 ∷ []
+
+claimed_beside_leaf : HoldsLiveBut bst_layout 15 forked 0
+claimed_beside_leaf = record { one = 3; claimed = refl; node = 2; holds = refl; grows = (keyset, full_leaf, refl, refl); others = others }
+  where
+    to_leaf : LeadsTo fork_root 15 2
+    to_leaf = (1, record { span = record { low = 10; last = top }; node = 2 }, omega arith, refl, ((omega arith, omega arith), refl))
+
+    bare : InOutset (graph_after forked) 2 15 → ⊥
+    bare (r, is, (at, x, lt, eq, on)) = let e = ap (λ (z : Record). length z.edges) (same_Some full_leaf r is) in omega (arith, lt, e)
+
+    keyset : InKeyset (graph_after forked) 2 15
+    keyset = ((omega arith, along fork_root (at_root (fork_root, refl)) refl to_leaf (full_leaf, refl)), bare)
+
+    others : (j : ℕ) → j ≢ 3 → turn_after forked j ≡ held 0 → IsLive (graph_after forked) j
+    others zero ne mine = (fork_root, refl)
+    others (suc zero) ne mine = (empty_record, refl)
+    others (suc (suc zero)) ne mine = (full_leaf, refl)
+    others (suc (suc (suc zero))) ne mine = absurd (ne refl)
+    others (suc (suc (suc (suc j)))) ne mine =
+        let i : ℕ = suc (suc (suc (suc j))) in
+        let e = cond_else i 3 (held 0) (cond (i == 2) (held 0) (cond (i == 1) (held 0) (cond (i == 0) (held 0) (cond (i == 0) idle free)))) (λ e. omega arith)
+        ∙ cond_else i 2 (held 0) (cond (i == 1) (held 0) (cond (i == 0) (held 0) (cond (i == 0) idle free))) (λ e. omega arith)
+        ∙ cond_else i 1 (held 0) (cond (i == 0) (held 0) (cond (i == 0) idle free)) (λ e. omega arith)
+        ∙ cond_else i 0 (held 0) (cond (i == 0) idle free) (λ e. omega arith) ∙ cond_else i 0 idle free (λ e. omega arith) in
+        let x : free ≡ held 0 = sym e ∙ mine in absurd (cc)
+
+-- it is not beside a full leaf whose keyset lacks the place
+not_beside_another_leaf : HoldsLiveBut bst_layout 5 forked 0 → ⊥
+not_beside_another_leaf but = go but.node but.grows
+  where
+    no_edge_on : (r : Record) (m : ℕ) → length r.edges ≡ 0 → LeadsTo r 5 m → ⊥
+    no_edge_on r m none (at, x, lt, eq, on) = omega (arith, lt, none)
+
+    forth : (m : ℕ) → LeadsTo fork_root 5 m → m ≡ 1
+    forth m (zero, x, lt, is, on) = sym on.1 ∙ ap (λ (e : Edge). e.node) (sym is)
+    forth m (suc zero, x, lt, is, on) = let low = ap (λ (e : Edge). e.span.low) is in absurd (omega (arith, on.0.0, low))
+    forth m (suc (suc k), x, lt, is, on) = absurd (omega (arith, lt))
+
+    reached : (m : ℕ) → Reaches (graph_after forked) 5 m → (m ≡ 0) ⊎ (m ≡ 1)
+    reached zero way = inl refl
+    reached (suc m) (along {n} r way is leads live) = elim (reached n way) [
+      | inl root ↦ let same : fork_root ≡ r = same_Some fork_root r (subst (λ (i : ℕ). record_at (graph_after forked) i ≡ Some r) root is) in inr (forth (suc m) (subst (λ (z : Record). LeadsTo z 5 (suc m)) (sym same) leads))
+      | inr leaf ↦ let same : empty_record ≡ r = same_Some empty_record r (subst (λ (i : ℕ). record_at (graph_after forked) i ≡ Some r) leaf is) in absurd (no_edge_on r (suc m) (ap (λ (z : Record). length z.edges) (sym same)) leads)
+    ]
+
+    go : (n : ℕ) → MayGrow bst_layout (graph_after forked) n 5 → ⊥
+    go n grows = elim (reached n grows.0.0.1) [
+      | inl root ↦ let same : fork_root ≡ grows.1 = same_Some fork_root grows.1 (subst (λ (i : ℕ). record_at (graph_after forked) i ≡ Some grows.1) root grows.2) in omega (arith, grows.3, ap (λ (z : Record). length z.pairs) same)
+      | inr leaf ↦ let same : empty_record ≡ grows.1 = same_Some empty_record grows.1 (subst (λ (i : ℕ). record_at (graph_after forked) i ≡ Some grows.1) leaf grows.2) in omega (arith, grows.3, ap (λ (z : Record). length z.pairs) same)
+    ]
+
+-- and under a layout of B+ trees only the root grows, which is not full here
+not_beside_leaf_of_bplus : HoldsLiveBut bplus_layout 15 forked 0 → ⊥
+not_beside_leaf_of_bplus but =
+    let root : record_at (graph_after forked) but.node ≡ Some fork_root = ap (λ (i : ℕ). record_at (graph_after forked) i) but.grows.0 in
+    let same : fork_root ≡ but.grows.1 = same_Some fork_root but.grows.1 (sym root ∙ but.grows.2) in
+    elim but.grows.3 [
+      | inl pairs ↦ omega (arith, pairs, ap (λ (z : Record). length z.pairs) same)
+      | inr edges ↦ omega (arith, edges, ap (λ (z : Record). length z.edges) same)
+    ]
 
 -- the node of `one_moved` moved, by the law: each Shape there leaves the insets of the nodes that it does not name
 

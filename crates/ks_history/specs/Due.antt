@@ -4,8 +4,8 @@ use Rattle.ks_keysets.specs.declared.NodeState.{NodeState}
 use Rattle.ks_keysets.specs.declared.NodeState.TheVariants.{Claimed}
 use Rattle.ks_keysets.specs.declared.Record.{Record}
 use Rattle.ks_keysets.specs.Record.{first_value}
-use Rattle.ks_keysets.specs.Keyset.{record_at, IsLive}
-use Rattle.ks_keysets.specs.Layout.{Layout, list_layout, bplus_layout, hash_layout, room}
+use Rattle.ks_keysets.specs.Keyset.{record_at, IsLive, InKeyset}
+use Rattle.ks_keysets.specs.Layout.{Layout, list_layout, bplus_layout, hash_layout, bst_layout, room}
 use Rattle.ks_history.specs.declared.Op.{Op}
 use Rattle.ks_history.specs.declared.Op.TheVariants.{Get, Put, Del, Add, Swap}
 use Rattle.ks_history.specs.declared.Reply.TheVariants.{Full}
@@ -37,11 +37,13 @@ FindsNoRoom layout g (Claim c i) place = ⊥
 FindsNoRoom layout g (Shape c changes) place = ⊥
 FindsNoRoom layout g (Call c i op reply) place = HasNoRoom layout g i op place × (reply ≡ Full)
 
--- the node may grow for the place, by two nodes that are claimed one after the other: in a B+ or hash layout the full root
+-- the node may grow for the place, by two nodes that are claimed one after the other: in a B+ or hash layout the full root, in
+-- a binary search tree the full leaf whose keyset has the place
 abbrev pub MayGrow : Layout → (ℕ → NodeState) → ℕ → ℕ → Type 0
 MayGrow list_layout g node place = ⊥
 MayGrow bplus_layout g node place = (node ≡ 0) × (r : Record) × (record_at g node ≡ Some r) × ((length r.pairs ≡ room bplus_layout) ⊎ (length r.edges ≡ room bplus_layout))
 MayGrow hash_layout g node place = (node ≡ 0) × (r : Record) × (record_at g node ≡ Some r) × (length r.pairs ≡ room hash_layout)
+MayGrow bst_layout g node place = InKeyset g node place × (r : Record) × (record_at g node ≡ Some r) × (length r.pairs ≡ room bst_layout)
 
 -- each node that c holds after h is live
 abbrev pub HoldsLive : List Event → ℕ → Type 0

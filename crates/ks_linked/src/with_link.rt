@@ -44,8 +44,6 @@ impl<N: Growing> Node for WithLink<N> {
 
     ghost cuts_by_range = { true };
 
-    ghost in_place = { N.in_place };
-
     ghost layout = { N.layout };
 
     ghost branch_kind = { N.branch_kind };
@@ -267,4 +265,6 @@ impl<N: Growing> Linked for WithLink<N> {
     ghost by_range = { refl };
 
     ghost grows_where = { λ s. N.grows_where s.node };
+
+    ghost at_root = { N.at_root };
 }

@@ -41,8 +41,6 @@ impl Node for ListNode {
 
     ghost cuts_by_range = { false };
 
-    ghost in_place = { false };
-
     ghost layout = { list_layout };
 
     ghost branch_kind = { Inner };
@@ -196,7 +194,7 @@ impl Unlinked for ListNode {
     ghost use Rattle.std.proofs.Common.{inl};
     ghost use Rattle.std.proofs.lemmas.Bool.{not-true};
     ghost use Rattle.ks_node.specs.Body.{begins};
-    ghost use Rattle.ks_list.specs.Laws.Fits.{fit_adopts};
+    ghost use Rattle.ks_list.specs.Laws.Fits.{fit_adopts, differ};
 
     ghost no_link = { λ n. refl };
 
@@ -207,6 +205,8 @@ impl Unlinked for ListNode {
     ghost none_starts = { λ c cut can. not-true (begins cut c.starts) can };
 
     ghost sort = { λ e. inl (λ n span o full suits is good. fit_adopts n.fit o full) };
+
+    ghost stands = { λ t. absurd (differ t) };
 
     fn split_to(&mut self, right: &mut Self, cut: u64) {
         move_pairs(&mut self.pairs, &mut right.pairs, cut);

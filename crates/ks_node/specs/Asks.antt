@@ -68,6 +68,11 @@ pub record BranchesAdopt (can : Content → ℕ → Bool) (layout : Layout) (b :
   pub bare : is_branch b ≡ false → length b.starts ≡ 0
   pub inside : AdoptsInside can layout b
 
+-- the body grows, and has no edge if it is no branch
+pub record GrowsBare (grows : Content → Bool) (b : Body) : Type 0 where
+  pub can : IsTrue (grows (content_of b))
+  pub bare : is_branch b ≡ false → length b.starts ≡ 0
+
 -- a full body can adopt its cut, if that is a good one
 abbrev pub AdoptsItsCut : (Content → ℕ → Bool) → (Content → Option Span → ℕ) → Layout → Body → Type 0
 AdoptsItsCut can cut_at layout b =

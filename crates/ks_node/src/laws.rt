@@ -5,8 +5,8 @@ ghost use Rattle.std.specs.Option.{ForSome};
 ghost use Rattle.ks_keysets.specs.Layout.{room};
 ghost use Rattle.ks_keysets.specs.Record.{top};
 ghost use Rattle.ks_node.specs.Body.{Content, begins, content_of, is_branch, is_branch_kind, last_of};
-ghost use Rattle.ks_node.specs.Room.{IsHeld, is_full, may_grow};
-ghost use Rattle.ks_node.specs.Asks.{IsCut, AdoptsItsCut, BranchesAdopt};
+ghost use Rattle.ks_node.specs.Room.{IsHeld, is_full, may_grow, in_place};
+ghost use Rattle.ks_node.specs.Asks.{IsCut, AdoptsItsCut, BranchesAdopt, GrowsBare};
 ghost use Rattle.ks_node.specs.Sound.{Sound, Framed};
 
 use crate::node::Node;
@@ -39,22 +39,25 @@ pub fn unlinked_law<N: Unlinked>()
     ensures by_span { N.cuts_by_range ≡ false }
     ensures none_starts { (c : Content) (cut : ℕ) → IsTrue (N.can_adopt_at c cut) → begins cut c.starts ≡ false }
     ensures adopting { IsTrue N.branches_adopt → (s : N) → BranchesAdopt N.can_adopt_at N.layout (N.body s) }
-    ensures sort { N.in_place ≡ false →
+    ensures sort { in_place N.layout ≡ false →
         ((s : N) → AdoptsItsCut N.can_adopt_at N.cut_at N.layout (N.body s))
         ⊎ (((s : N) → IsTrue (N.grows_at (content_of (N.body s)))) × IsTrue N.branches_adopt
         × IsTrue N.halves_have_room) }
+    ensures stands { IsTrue (in_place N.layout) → ((s : N) → GrowsBare N.grows_at (N.body s)) × IsTrue N.halves_have_room }
 {}
 
 /// The laws of a node type whose branches grow, and its nodes with no edge.
 pub fn growing_law<N: Growing>()
     ensures grows_where { (s : N) → IsTrue (is_branch (N.body s) || nat_eq (length (N.body s).starts) 0) →
         IsTrue (N.grows_at (content_of (N.body s))) }
+    ensures at_root { in_place N.layout ≡ false }
     ensures few_edges { (s : N) → length (N.body s).starts < 2 ^ 32 - 1 }
 {}
 
 /// The laws of a node type with links: its range, when it has a link, how it is cut, which of its nodes adopt or grow.
 pub fn linked_law<N: Linked>()
     ensures is_ranged { N.ranged ≡ true }
+    ensures at_root { in_place N.layout ≡ false }
     ensures link_where { (s : N) → is_some (N.body s).link ≡ nat_lt (last_of (N.body s).range) top }
     ensures by_range { N.cuts_by_range ≡ true }
     ensures adopting { IsTrue N.branches_adopt → (s : N) → BranchesAdopt N.can_adopt_at N.layout (N.body s) }

@@ -11,7 +11,7 @@ ghost use Rattle.ks_keysets.specs.declared.Kind.{Kind};
 ghost use Rattle.ks_keysets.specs.Layout.{Layout, room};
 ghost use Rattle.ks_node.specs.Body.{Body, Content, content_of, is_branch_kind, is_branch, all_places, blank_body, next_at, value_at, only_child_of, chained_of, right_child};
 ghost use Rattle.ks_node.specs.Edges.{edges_of};
-ghost use Rattle.ks_node.specs.Room.{is_full, is_low, IsHeld, fit_together, may_grow};
+ghost use Rattle.ks_node.specs.Room.{is_full, is_low, IsHeld, fit_together, may_grow, in_place};
 ghost use Rattle.ks_node.specs.Effect.{pairs_put, pairs_del, with_pairs, adopted, split_left};
 ghost use Rattle.ks_node.specs.Asks.{IsCut, IsBelowOwn, Suits, IsNoneOr, IsGoodCut, IsSpanOf, BranchesAdopt, HalvesHaveRoom};
 ghost use Rattle.ks_node.specs.Sound.{Sound, Framed};
@@ -40,9 +40,6 @@ pub trait Node: Drop {
 
     /// Whether a node is cut by its own range, whatever span is passed.
     ghost cuts_by_range: { Bool };
-
-    /// Whether a full node that is not the root becomes a branch instead of being split.
-    ghost in_place: { Bool };
 
     /// The line of the table of layouts that says how much its nodes hold.
     ghost layout: { Layout };
@@ -133,7 +130,7 @@ pub trait Node: Drop {
 
     /// Whether it does so anywhere in the graph, and not only at the root.
     fn grows_in_place() -> bool
-        ensures { result ≡ in_place };
+        ensures { result ≡ in_place layout };
 
     /// The child of a branch all of whose edges lead to it.
     fn only_child(&self) -> Option<u32>
@@ -156,7 +153,7 @@ pub trait Node: Drop {
         ensures good { (whole : Span) → Suits (body self.now) whole → IsNoneOr span whole →
             IsGoodCut (body self.now) whole result }
         ensures grows { (whole : Span) → Suits (body self.now) whole → IsNoneOr span whole →
-            IsTrue (grows_at (content_of (body self.now))) → (in_place ≡ false → span ≡ Some all_places) →
+            IsTrue (grows_at (content_of (body self.now))) → (in_place layout ≡ false → span ≡ Some all_places) →
             IsTrue (can_grow_at (content_of (body self.now)) result) }
         ensures adopts { is_branch (body self.now) ≡ false →
             IsTrue (can_adopt_at (content_of (body self.now)) result) →

@@ -3,7 +3,7 @@
 ghost use Rattle.std.specs.Prelude.{◌≡◌, ℕ, ◌+◌, ◌<◌, Bool, Option, IsTrue, true, false, length, nat_eq, nat_lt, is_some, Some, None, ◌||◌};
 ghost use Rattle.ks_keysets.specs.Record.{top};
 ghost use Rattle.ks_node.specs.Body.{Body, content_of, is_branch, IsBlank, last_of};
-ghost use Rattle.ks_node.specs.Room.{is_full};
+ghost use Rattle.ks_node.specs.Room.{is_full, in_place};
 ghost use Rattle.ks_node.specs.Effect.{split_left, split_right, grown, with_link, with_level};
 ghost use Rattle.ks_node.specs.Asks.{CanSplitAt};
 
@@ -67,6 +67,9 @@ pub trait Linked: Ranged {
 
     /// A node is cut by its range.
     ghost by_range: { Self.cuts_by_range ≡ true };
+
+    /// Only the root grows.
+    ghost at_root: { in_place Self.layout ≡ false };
 
     /// A branch grows, and so does a node with no edge except its link.
     ghost grows_where: { (s : Self) → IsTrue (is_branch (Self.body s) || nat_eq (length (Self.body s).starts) 0) →

@@ -2,9 +2,9 @@
 
 ghost use Rattle.std.specs.Prelude.{◌≢◌, ◌≡◌, ℕ, ◌<◌, ◌-◌, ◌^◌, Bool, Option, IsTrue, IsSome, Some, None, true, false, length, nat_eq, ◌||◌, ◌⊎◌};
 ghost use Rattle.ks_node.specs.Body.{Body, Content, begins, content_of, is_branch, IsBlank, only_child_of, first_node};
-ghost use Rattle.ks_node.specs.Room.{is_full, fit_together};
+ghost use Rattle.ks_node.specs.Room.{is_full, fit_together, in_place};
 ghost use Rattle.ks_node.specs.Effect.{split_left, split_right, reached, grown, absorbed, forgot, collapsed, emptied};
-ghost use Rattle.ks_node.specs.Asks.{CanSplitAt, AreNext, Absorbs, AdoptsItsCut};
+ghost use Rattle.ks_node.specs.Asks.{CanSplitAt, AreNext, Absorbs, AdoptsItsCut, GrowsBare};
 
 use crate::node::Node;
 
@@ -69,10 +69,14 @@ pub trait Unlinked: Node {
 
     /// If it does not grow in place, either each full node can adopt its cut, or each node grows, branches adopt, and neither
     /// half of a full node is full.
-    ghost sort: { Self.in_place ≡ false →
+    ghost sort: { in_place Self.layout ≡ false →
         ((s : Self) → AdoptsItsCut Self.can_adopt_at Self.cut_at Self.layout (Self.body s))
         ⊎ (((s : Self) → IsTrue (Self.grows_at (content_of (Self.body s)))) × IsTrue Self.branches_adopt
         × IsTrue Self.halves_have_room) };
+
+    /// If it grows in place, each node grows, one that is no branch has no edge, and neither half of a full node is full.
+    ghost stands: { IsTrue (in_place Self.layout) → ((s : Self) → GrowsBare Self.grows_at (Self.body s))
+        × IsTrue Self.halves_have_room };
 }
 
 /// A node that grows if it is a branch or has no edge.
@@ -80,6 +84,9 @@ pub trait Growing: Unlinked {
     /// A branch grows, and so does a node with no edge.
     ghost grows_where: { (s : Self) → IsTrue (is_branch (Self.body s) || nat_eq (length (Self.body s).starts) 0) →
         IsTrue (Self.grows_at (content_of (Self.body s))) };
+
+    /// Only the root grows.
+    ghost at_root: { in_place Self.layout ≡ false };
 
     /// Its edges and one more can be counted.
     ghost few_edges: { (s : Self) → length (Self.body s).starts < 2 ^ 32 - 1 };

@@ -51,8 +51,6 @@ impl<N: Unlinked> Node for WithRange<N> {
 
     ghost cuts_by_range = { false };
 
-    ghost in_place = { N.in_place };
-
     ghost layout = { N.layout };
 
     ghost branch_kind = { N.branch_kind };
@@ -203,6 +201,8 @@ impl<N: Unlinked> Unlinked for WithRange<N> {
       | inr grows ↦ inr (λ s. grows.0 s.node, grows.1, grows.2)
     ] };
 
+    ghost stands = { λ t. (λ s. record { can = ((N.stands t).0 s.node).can; bare = ((N.stands t).0 s.node).bare }, (N.stands t).1) };
+
     fn split_to(&mut self, right: &mut Self, cut: u64) {
         self.node.split_to(&mut right.node, cut);
         right.range = Span {
@@ -248,6 +248,8 @@ impl<N: Unlinked> Unlinked for WithRange<N> {
 
 impl<N: Growing> Growing for WithRange<N> {
     ghost grows_where = { λ s. N.grows_where s.node };
+
+    ghost at_root = { N.at_root };
 
     ghost few_edges = { λ s. N.few_edges s.node };
 }

@@ -12,6 +12,7 @@ use Rattle.ks_history.specs.Map.{Touches}
 use Rattle.ks_history.specs.Own.{hand}
 use Rattle.ks_history.specs.Underway.{Underway}
 use Rattle.ks_node.specs.Body.{Body}
+use Rattle.ks_node.specs.Room.{in_place}
 use Rattle.ks_arena.specs.declared.arena.Arena.{Arena}
 use Rattle.ks_arena.specs.declared.held.Pass.{Pass}
 use Rattle.ks_arena.specs.declared.held.Held.{Held as Hand}
@@ -99,7 +100,7 @@ module _ {N D P : Type 0} {n : NodeGhosts N P} {q : PlacingGhosts P} {d : Discip
   TriesRoom a place p p' result = RoomOrNone (sort_of n.layout n.ranged) n.body a.nodes p.caller place (seen_of p) (seen_of p') result
 
   abbrev pub TriesRoomSince : Arena N D P n q d → ℕ → Pass N D → Pass N D → Result (Result (Hand N) (Hand N)) Later → Type 0
-  TriesRoomSince a place p p' result = (start : List Event) → TookSince p.caller start (seen_of p) 0 1 → RoomOrCause (n.in_place ≡ false) a.nodes p.caller place start (seen_of p') result
+  TriesRoomSince a place p p' result = (start : List Event) → TookSince p.caller start (seen_of p) 0 1 → RoomOrCause (in_place n.layout ≡ false) a.nodes p.caller place start (seen_of p') result
 
   -- a put or an add that is under way at p, by coupling or by giving up, and took the root once at most, is done at p', or put off
   abbrev pub FinishesTry : Arena N D P n q d → Op → Pass N D → Pass N D → Result Numbered PutLater → Type 0

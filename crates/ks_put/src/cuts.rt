@@ -1,7 +1,7 @@
 //! Where a full node is cut.
 ghost use Rattle.std.specs.Prelude.{◌≡◌, ◌⊎◌, IsTrue, false};
 ghost use Rattle.ks_node.specs.Body.{is_branch};
-ghost use Rattle.ks_node.specs.Room.{is_full};
+ghost use Rattle.ks_node.specs.Room.{is_full, in_place};
 ghost use Rattle.ks_node.specs.Asks.{CanSplitAt, HalvesHaveRoom};
 ghost use Rattle.ks_arena.specs.Of.{IsInside, IsPassOf, IsLiveAndCurrent};
 ghost use Rattle.ks_shape.specs.Paths.{LeadsDown};
@@ -28,7 +28,7 @@ pub(crate) fn cut_of_root<N: Unlinked>(
     requires full { IsTrue (is_full N.layout (N.body root.now.body)) }
     ensures cut { IsInside pass.now root.now.node result × CanSplitAt (N.body root.now.body) result }
     ensures grows { Grows N.grows_at (N.body root.now.body) → CanAt N.can_grow_at (N.body root.now.body) result }
-    ensures open { N.in_place ≡ false → (IsTrue (is_branch (N.body root.now.body)) → AllGrow arena.now) →
+    ensures open { in_place N.layout ≡ false → (IsTrue (is_branch (N.body root.now.body)) → AllGrow arena.now) →
         Grows N.grows_at (N.body root.now.body) ⊎ LeafCanAt N.can_adopt_at (N.body root.now.body) result }
     ensures halves { IsTrue N.halves_have_room → HalvesHaveRoom N.layout result (N.body root.now.body) }
     ensures adopts { HalfAdopts N.can_adopt_at (N.body root.now.body) result }
@@ -58,7 +58,7 @@ pub(crate) fn cut_below<N: Unlinked>(
     requires node { IsLiveAndCurrent arena.now pass.now node.now }
     requires full { IsTrue (is_full N.layout (N.body node.now.body)) }
     ensures cut { IsInside pass.now node.now.node result × CanSplitAt (N.body node.now.body) result }
-    ensures open { N.in_place ≡ false → (IsTrue (is_branch (N.body node.now.body)) → AllGrow arena.now) →
+    ensures open { in_place N.layout ≡ false → (IsTrue (is_branch (N.body node.now.body)) → AllGrow arena.now) →
         (AllGrow arena.now → is_full N.layout (N.body parent.now.body) ≡ false) →
         LeafCanAt N.can_adopt_at (N.body node.now.body) result ⊎
         BranchCanAt N.can_adopt_at (N.body parent.now.body) result }

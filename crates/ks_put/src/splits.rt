@@ -1,7 +1,7 @@
 //! The splits of a full node: where its cut goes.
 ghost use Rattle.std.specs.Prelude.{◌≡◌, IsTrue, Some, None, false};
 ghost use Rattle.ks_node.specs.Body.{begins, is_branch};
-ghost use Rattle.ks_node.specs.Room.{is_full};
+ghost use Rattle.ks_node.specs.Room.{is_full, in_place};
 ghost use Rattle.ks_node.specs.Effect.{split_left};
 ghost use Rattle.ks_node.specs.Asks.{CanSplitAt, HalvesHaveRoom};
 ghost use Rattle.ks_put.specs.Parts.{CanAt, Grows, HasRoomAbove, IsEased, IsRoomy, IsShut};
@@ -164,7 +164,7 @@ pub(crate) fn split_root<N: Unlinked, G: Gate>(
     ensures caller { SameCaller pass.old pass.new }
     ensures fills { MustSplit N.layout place (N.body root.body) → OnlyFills N.layout N.ranged place pass.old pass.new }
     ensures part { TriedToSplit arena.now place pass.old pass.new (record { parent = None; node = root }) result }
-    ensures open { N.in_place ≡ false → (IsTrue (is_branch (N.body root.body)) → AllGrow arena.now) → ¬ IsShut result }
+    ensures open { in_place N.layout ≡ false → (IsTrue (is_branch (N.body root.body)) → AllGrow arena.now) → ¬ IsShut result }
     ensures stretch { IsStretch pass.old pass.new }
     ensures down { PartsDown arena.now pass.old pass.new (record { parent = None; node = root }) result }
     ensures halves { IsTrue N.halves_have_room → IsRoomy N.layout N.body result }
@@ -207,7 +207,7 @@ pub(crate) fn split_child<N: Unlinked, G: Gate>(
     ensures fills { MustSplit N.layout place (N.body node.body) → OnlyFills N.layout N.ranged place pass.old pass.new }
     ensures part { TriedToSplit arena.now place pass.old pass.new
         (record { parent = Some parent; node = node }) result }
-    ensures open { N.in_place ≡ false → (IsTrue (is_branch (N.body node.body)) → AllGrow arena.now) →
+    ensures open { in_place N.layout ≡ false → (IsTrue (is_branch (N.body node.body)) → AllGrow arena.now) →
         (AllGrow arena.now → is_full N.layout (N.body parent.body) ≡ false) → ¬ IsShut result }
     ensures stretch { IsStretch pass.old pass.new }
     ensures down { PartsDown arena.now pass.old pass.new (record { parent = Some parent; node = node }) result }
@@ -248,7 +248,7 @@ fn split_whole<N: Unlinked, G: Gate>(
     ensures fills { MustSplit N.layout place (N.body path.node.body) →
         OnlyFills N.layout N.ranged place pass.old pass.new }
     ensures part { TriedToSplit arena.now place pass.old pass.new path result }
-    ensures open { N.in_place ≡ false → (IsTrue (is_branch (N.body path.node.body)) → AllGrow arena.now) →
+    ensures open { in_place N.layout ≡ false → (IsTrue (is_branch (N.body path.node.body)) → AllGrow arena.now) →
         (AllGrow arena.now → HasRoomAbove N.layout N.body path.parent) → ¬ IsShut result }
     ensures stretch { IsStretch pass.old pass.new }
     ensures down { PartsDown arena.now pass.old pass.new path result }
@@ -280,7 +280,7 @@ pub(crate) fn split<N: Unlinked, G: Gate>(
     ensures fills { MustSplit N.layout place (N.body path.node.body) →
         OnlyFills N.layout N.ranged place pass.old pass.new }
     ensures part { TriedToSplit arena.now place pass.old pass.new path result }
-    ensures open { N.in_place ≡ false → (IsTrue (is_branch (N.body path.node.body)) → AllGrow arena.now) →
+    ensures open { in_place N.layout ≡ false → (IsTrue (is_branch (N.body path.node.body)) → AllGrow arena.now) →
         (AllGrow arena.now → HasRoomAbove N.layout N.body path.parent) → ¬ IsShut result }
     ensures stretch { IsStretch pass.old pass.new }
     ensures down { PartsDown arena.now pass.old pass.new path result }

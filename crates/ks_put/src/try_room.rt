@@ -3,6 +3,7 @@
 ghost use Rattle.std.specs.Prelude.{◌≡◌, ◌<◌, false};
 ghost use Rattle.ks_node.specs.declared.start.Next.TheVariants.{Go};
 ghost use Rattle.ks_node.specs.Body.{next_at};
+ghost use Rattle.ks_node.specs.Room.{in_place};
 ghost use Rattle.ks_arena.specs.Of.{IsPassOf, IsEmptyPassOf, SameCaller, caller_of};
 ghost use Rattle.ks_shape.specs.Of.{IsStretch, NoneWasFree};
 ghost use Rattle.ks_shape.specs.Paths.{IsOnPathOf};
@@ -110,7 +111,7 @@ fn try_go_on<N: Unlinked, G: Gate>(
     ensures fills { OnlyFills N.layout N.ranged place pass.old pass.new }
     ensures path { StepsOrNone arena.now (caller_of pass.old) place pass.new result }
     ensures refused { WasRefused refused (NoneWasFree arena.now place pass.old pass.new) result }
-    ensures eased { N.in_place ≡ false → IsEasedBut N.layout N.body (AllGrow arena.now) refused path.parent →
+    ensures eased { in_place N.layout ≡ false → IsEasedBut N.layout N.body (AllGrow arena.now) refused path.parent →
         IsEasedStep N.layout N.body (AllGrow arena.now) result }
     ensures nearer { IsNearer N.layout N.body place depth path result }
     ensures near { IsNear arena.now.nodes result }

@@ -12,6 +12,7 @@ ghost use Rattle.ks_shape.specs.Ends.{HasEndedPut};
 ghost use Rattle.ks_shape.specs.Upkeep.{AreNewLed, HasTwoFree, IsTidyIn, LeadsNew, LeavesTidy};
 ghost use Rattle.ks_arena.specs.Of.{SameCaller, WasAlone};
 ghost use Rattle.ks_shape.specs.Does.{OnlyDels, OnlyFills, OnlySearches};
+ghost use Rattle.ks_node.specs.Room.{in_place};
 
 use crate::answers::{Full, Later, Numbered, PutLater};
 use ks_arena::{Arena, Pass};
@@ -204,7 +205,7 @@ pub trait Template<N: Node, A: Shelf>: Ruled {
         ensures fills { OnlyFills N.layout N.ranged place pass.old pass.new }
         ensures ends { HasEndedPut N.layout Self.technique (A.site arena.now) (Put place value)
             pass.old pass.new result }
-        ensures tried { N.in_place ≡ false →
+        ensures tried { in_place N.layout ≡ false →
             HasTriedPut N.layout Self.technique (A.site arena.now) (Put place value)
             pass.old pass.new result };
 
@@ -227,7 +228,7 @@ pub trait Template<N: Node, A: Shelf>: Ruled {
         ensures fills { OnlyFills N.layout N.ranged place pass.old pass.new }
         ensures ends { HasEndedPut N.layout Self.technique (A.site arena.now) (Add place value)
             pass.old pass.new result }
-        ensures tried { N.in_place ≡ false →
+        ensures tried { in_place N.layout ≡ false →
             HasTriedPut N.layout Self.technique (A.site arena.now) (Add place value)
             pass.old pass.new result };
 

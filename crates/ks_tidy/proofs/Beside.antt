@@ -9,8 +9,7 @@ use Rattle.ks_keysets.specs.declared.NodeState.{NodeState}
 use Rattle.ks_keysets.specs.declared.Record.{Record}
 use Rattle.ks_keysets.specs.Record.{LeadsTo}
 use Rattle.ks_keysets.specs.Keyset.{record_at, Reaches, at_root, along}
-use Rattle.ks_keysets.specs.Tight.{HasOwnEdge, IsNext, IsRightNeighbour}
-use Rattle.ks_keysets.specs.Layout.{chained, beside}
+use Rattle.ks_keysets.specs.Tight.{HasOwnEdge, IsNext, IsRightNeighbour, chained, beside}
 use Rattle.ks_flow.specs.Tree.{OneEdge, edges_to, edges_in, edges_between}
 
 -- an edge that leads to the node is among those that are counted

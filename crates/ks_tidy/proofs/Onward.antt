@@ -9,8 +9,8 @@ use Rattle.ks_keysets.specs.declared.Record.{Record}
 use Rattle.ks_keysets.specs.Record.{top, LeadsTo}
 use Rattle.ks_keysets.specs.Keyset.{record_at}
 use Rattle.ks_keysets.specs.Reframed.{SameNodes}
-use Rattle.ks_keysets.specs.Layout.{Layout, chained, beside}
-use Rattle.ks_keysets.specs.Tight.{Fit, IsRightNeighbour, FitsNoRight}
+use Rattle.ks_keysets.specs.Layout.{Layout}
+use Rattle.ks_keysets.specs.Tight.{chained, beside, Fit, IsRightNeighbour, FitsNoRight}
 use Rattle.ks_history.specs.declared.Event.{Event}
 use Rattle.ks_history.specs.Own.{hand}
 use Rattle.ks_history.specs.Trace.{graph_after}

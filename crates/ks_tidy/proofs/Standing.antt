@@ -12,8 +12,8 @@ use Rattle.ks_keysets.specs.declared.Span.{Span}
 use Rattle.ks_keysets.specs.Record.{LeadsOn, top}
 use Rattle.ks_keysets.specs.Keyset.{record_at, Good, InInset, InKeyset, IsLive}
 use Rattle.ks_keysets.specs.Reframed.{SameNodes}
-use Rattle.ks_keysets.specs.Layout.{Layout, chained, beside}
-use Rattle.ks_keysets.specs.Tight.{Fit, HasOwnEdge, IsRightNeighbour, FitsNoRight}
+use Rattle.ks_keysets.specs.Layout.{Layout}
+use Rattle.ks_keysets.specs.Tight.{chained, beside, Fit, HasOwnEdge, IsRightNeighbour, FitsNoRight}
 use Rattle.ks_history.specs.declared.Event.{Event}
 use Rattle.ks_history.specs.Trace.{graph_after}
 use Rattle.ks_history.specs.Frames.{frame_after}

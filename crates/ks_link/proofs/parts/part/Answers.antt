@@ -22,9 +22,10 @@ use Rattle.ks_arena.specs.declared.held.Held.{Held as Hand}
 use Rattle.ks_arena.specs.Sound.{sort_of, blank_of}
 use Rattle.ks_arena.specs.Clauses.{seen_of, hand_of, Matches}
 use Rattle.ks_node.specs.Body.{Body, all_places, last_of}
+use Rattle.ks_node.specs.Laws.Starts.{differ}
 use Rattle.ks_node.specs.Laws.Spans.{length_edges}
 use Rattle.ks_bodies.specs.Links.{IsLinked, StandsLinked}
-use Rattle.ks_shape.specs.Laws.Claims.{may_grow_root}
+use Rattle.ks_shape.specs.Laws.Claims.{may_grow_at}
 use Rattle.ks_shape.specs.Laws.Single.{record_is}
 use Rattle.ks_shape.specs.InHand.{IsFree}
 use Rattle.ks_link.specs.Parts.{IsAlone}
@@ -72,7 +73,7 @@ grows g c root = let sort = sort_of g.N.Node.layout g.N.Node.ranged in let n : �
     let stands = subst (λ (i : ℕ). StandsLinked (graph_after h) (frame_after (blank_of sort) h) i b) root (stands_now sort shows h x way.live way.matches linked) in
     let whole : b.range ≡ Some all_places = c.link_asks_law.ensures.root (graph_after h) (frame_after (blank_of sort) h) b (c.sound_law.ensures.facts sort n h c.requires.pass.sound) stands in
     let bare : b.link ≡ None = none_of b.link (linked.link_where ∙ ap (λ (o : Option Span). nat_lt (last_of o) top) whole ∙ le-ltb top top (omega arith)) in
-    may_grow_root g.N.Node.layout (graph_after h) x.node c.args.place b (record_is sort shows h x way.live way.matches) root c.requires.full (c.node_law.ensures.grows_as (c.requires.grows root)) (length_edges b linked.sound linked.framed bare)
+    may_grow_at g.N.Node.layout (graph_after h) x.node c.args.place b (record_is sort shows h x way.live way.matches) (λ _. root) (λ t. absurd (differ c.linked_law.ensures.at_root t)) c.requires.full (c.node_law.ensures.grows_as (c.requires.grows root)) (length_edges b linked.sound linked.framed bare)
 
 pub returns-in-None-clause-parted : goal.returns-in-None-clause-parted
 returns-in-None-clause-parted g c = let at = (goal.at.returns-in-None-clause-parted g c).After-node_law in let told = rw c.in-None.is at c.claim_two.ensures.claimed in

@@ -15,7 +15,7 @@ use Rattle.ks_shape.specs.OnPath.{numbers}
 use Rattle.ks_shape.specs.Laws.Stretches.{stretches_as, stretches_both, stretches_shape}
 use Rattle.ks_put.specs.Parts.{IsPart}
 use Rattle.ks_shape.specs.Laws.Search.{Laws}
-use Rattle.ks_shape.specs.Laws.Claims.{may_grow_root}
+use Rattle.ks_shape.specs.Laws.Claims.{may_grow_at}
 use Rattle.ks_put.proofs.Keeping.{path_turn, path_stays, path_live, full_is_root}
 use Rattle.ks_history.specs.declared.Event.TheVariants.{Shape}
 use Rattle.ks_history.specs.Passes.{GrowsWith}
@@ -58,7 +58,7 @@ returns-in_default-clause-part g c = let at = (goal.at.returns-in_default-clause
   refl,
   path_stays sort g.N.Node.body n me (laws g at) c.args.place h k (record { parent = None; node = c.args.root }) c.requires.pass.sound told.0 c.claim_two.ensures.rest.kept c.claim_two.ensures.beside c.claim_two.ensures.rest.still c.requires.path,
   told.1 c.args.root.node c.args.place (path_live sort g.N.Node.body n me (laws g at) c.args.place h (record { parent = None; node = c.args.root }) c.requires.path) (mine g at)
-      (may_grow_root g.N.Node.layout (graph_after h) c.args.root.node c.args.place (g.N.Node.body c.args.root.body) (record_is sort g.N.Node.body h c.args.root c.requires.path.live c.requires.path.matches) (full_is_root sort g.N.Node.body c.args.root c.requires.full c.requires.path.under) c.requires.full (c.node_law.ensures.grows_as c.requires.grows.0)
+      (may_grow_at g.N.Node.layout (graph_after h) c.args.root.node c.args.place (g.N.Node.body c.args.root.body) (record_is sort g.N.Node.body h c.args.root c.requires.path.live c.requires.path.matches) (λ _. full_is_root sort g.N.Node.body c.args.root c.requires.full c.requires.path.under) (λ t. (c.requires.path.inside, ((c.unlinked_law.ensures.stands t).0 c.args.root.body).bare)) c.requires.full (c.node_law.ensures.grows_as c.requires.grows.0)
       (length_edges (g.N.Node.body c.args.root.body) c.node_law.ensures.sound c.node_law.ensures.framed (c.unlinked_law.ensures.no_link c.args.root.body))),
 )
 

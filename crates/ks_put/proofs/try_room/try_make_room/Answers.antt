@@ -24,6 +24,7 @@ use Rattle.ks_put.proofs.Trying.{path_leaf, put_off}
 use Rattle.ks_shape.specs.Does.{DoesOnly, MayFill}
 use Rattle.ks_shape.specs.Laws.Does.{fills_on, fills_search, searched_fills}
 use Rattle.ks_put.proofs.try_room.try_make_room.Goals as goal
+use Rattle.ks_node.specs.Room.{in_place}
 
 pub loop-child-init : goal.loop-child-init
 loop-child-init g c = let sort = sort_of g.N.Node.layout g.N.Node.ranged in let n : ℕ = c.args.arena.now.nodes in let me : ℕ = c.args.pass.now.caller in let s = seen_of c.args.pass.now in let b : ℕ = c.try_enter.new.pass.caller in let k = seen_of c.try_enter.new.pass in let e = c.try_enter.ensures in let x = c.in-Ok.root in let o = c.in-Ok.ensures in (
@@ -76,12 +77,12 @@ loop-child-smaller g c = less_split c.args.arena.now.nodes c.loop-child.depth c.
 -- put off
 
 pub returns-in-Err-clause-cause : goal.returns-in-Err-clause-cause
-returns-in-Err-clause-cause g c = λ start took. put_off (g.N.Node.in_place ≡ false) c.args.arena.now.nodes c.args.pass.now.caller c.args.place start (seen_of c.try_enter.new.pass) c.in-Err.later (c.in-Err.ensures.busy start took.grows)
+returns-in-Err-clause-cause g c = λ start took. put_off (in_place g.N.Node.layout ≡ false) c.args.arena.now.nodes c.args.pass.now.caller c.args.place start (seen_of c.try_enter.new.pass) c.in-Err.later (c.in-Err.ensures.busy start took.grows)
 
 pub returns-in-Err-try_go_on-clause-cause : goal.returns-in-Err-try_go_on-clause-cause
 returns-in-Err-try_go_on-clause-cause g c = λ start took. let n : ℕ = c.args.arena.now.nodes in let s = seen_of c.args.pass.now in let k = seen_of c.try_go_on.new.pass in let inv = c.loop-child.invariant in
-    subst (λ (z : ℕ). IsPutOffBy (g.N.Node.in_place ≡ false) n z c.args.place start k c.in-Err-try_go_on.later) inv.1
-    (put_off (g.N.Node.in_place ≡ false) n c.loop-child.pass.caller c.args.place start k c.in-Err-try_go_on.later (c.in-Err-try_go_on.ensures.down start (inv.5 start (subst (λ (z : ℕ). TookSince z start s 0 1) (sym inv.1) took))))
+    subst (λ (z : ℕ). IsPutOffBy (in_place g.N.Node.layout ≡ false) n z c.args.place start k c.in-Err-try_go_on.later) inv.1
+    (put_off (in_place g.N.Node.layout ≡ false) n c.loop-child.pass.caller c.args.place start k c.in-Err-try_go_on.later (c.in-Err-try_go_on.ensures.down start (inv.5 start (subst (λ (z : ℕ). TookSince z start s 0 1) (sym inv.1) took))))
 
 pub returns-in-Err-try_go_on-clause-room : goal.returns-in-Err-try_go_on-clause-room
 returns-in-Err-try_go_on-clause-room g c = subst (λ (z : ℕ). hand z (seen_of c.try_go_on.new.pass) ≡ []) c.loop-child.invariant.1 c.in-Err-try_go_on.ensures.path
