@@ -13,7 +13,7 @@ use Rattle.ks_keysets.specs.declared.Frame.{Frame}
 use Rattle.ks_keysets.specs.declared.NodeState.{NodeState}
 use Rattle.ks_keysets.specs.declared.NodeState.TheVariants.{Live}
 use Rattle.ks_keysets.specs.declared.Change.{Change}
-use Rattle.ks_keysets.specs.Record.{empty_record}
+use Rattle.ks_keysets.specs.Frame.{empty_record}
 use Rattle.ks_history.specs.declared.Event.{Event}
 use Rattle.ks_history.specs.Trace.{Turn, free, idle, held, graph_after, turn_after, caller_of}
 use Rattle.ks_history.specs.Frames.{frame_after}

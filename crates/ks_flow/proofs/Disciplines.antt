@@ -7,7 +7,8 @@ use Rattle.ks_keysets.specs.declared.Frame.{Frame}
 use Rattle.ks_keysets.specs.declared.Record.{Record}
 use Rattle.ks_keysets.specs.declared.NodeState.{NodeState}
 use Rattle.ks_keysets.specs.declared.Change.{Change}
-use Rattle.ks_keysets.specs.Record.{top, empty_record, Carries, LeadsOn}
+use Rattle.ks_keysets.specs.Record.{top, Carries, LeadsOn}
+use Rattle.ks_keysets.specs.Frame.{empty_record}
 use Rattle.ks_keysets.specs.Keyset.{opening, IsLive, Good, SameFound, InInset, InOutset, InKeyset, record_at}
 use Rattle.ks_flow.specs.Changes.{nodes_of, graph_with}
 use Rattle.ks_flow.specs.Ways.{KeepsWays, names}

@@ -7,7 +7,8 @@ use Rattle.std.specs.Prelude.{All, AllPairs}
 use Rattle.ks_keysets.specs.declared.Edge.{Edge}
 use Rattle.ks_keysets.specs.declared.NodeState.{NodeState}
 use Rattle.ks_keysets.specs.declared.Span.{Span}
-use Rattle.ks_keysets.specs.Record.{top, IsPlace, empty_record, Carries, LeadsTo}
+use Rattle.ks_keysets.specs.Record.{top, IsPlace, Carries, LeadsTo}
+use Rattle.ks_keysets.specs.Frame.{empty_record}
 use Rattle.ks_keysets.specs.Keyset.{opening, record_at, IsLive, Reaches, at_root, along, InInset, Good}
 use Rattle.ks_flow.specs.Tree.{edges_to, edges_between, edges_in, Tree, IsInset, SameEdges}
 use Rattle.ks_flow.specs.Walk.{Ends, stops, Path, arrives}

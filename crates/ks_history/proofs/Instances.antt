@@ -17,9 +17,9 @@ use Rattle.ks_keysets.specs.declared.Change.{Change}
 use Rattle.ks_keysets.specs.declared.Kind.TheVariants.{NoBranch, Inner, Directory}
 use Rattle.ks_keysets.specs.declared.Record.{Record}
 use Rattle.ks_keysets.specs.declared.Pair.{Pair}
-use Rattle.ks_keysets.specs.Record.{IsPlace, LeadsTo, top, empty_record}
+use Rattle.ks_keysets.specs.Record.{IsPlace, LeadsTo, top}
+use Rattle.ks_keysets.specs.Frame.{empty_record, blank_frame}
 use Rattle.ks_keysets.specs.Keyset.{opening, live_record, record_at, IsLive, Reaches, at_root, along, InInset, InKeyset, InOutset}
-use Rattle.ks_keysets.specs.Frame.{blank_frame}
 use Rattle.ks_keysets.specs.Laws.Found.{reached_live}
 use Rattle.ks_keysets.specs.Layout.{Layout, list_layout, bplus_layout, hash_layout, bst_layout}
 use Rattle.ks_keysets.specs.Tight.{Fit, IsLow, IsNext, IsRightNeighbour, chained, beside}

@@ -1,6 +1,7 @@
 -- What callers have seen of a trace that grows.
 use Rattle.std.specs.Prelude.{ℕ, ◌≡◌, ◌≢◌, ◌⊎◌, List, [], ◌∷◌, ◌++◌, Some, None}
 use Rattle.ks_history.specs.declared.Event.{Event}
+use Rattle.ks_history.specs.Callers.{NoneBy}
 use Rattle.ks_history.specs.Trace.{caller_of, call_in}
 
 -- c is one of the numbers

@@ -2,7 +2,7 @@
 use Rattle.std.proofs.Common.{ℕ, zero, suc, ◌≡◌, ◌<◌, length, Some, refl, sym, ◌∙◌, ap, arith}
 use Rattle.std.proofs.lemmas.Option.{same_Some}
 use Rattle.ks_keysets.specs.declared.Record.{Record}
-use Rattle.ks_keysets.specs.Record.{empty_record}
+use Rattle.ks_keysets.specs.Frame.{empty_record}
 use Rattle.ks_keysets.specs.Keyset.{opening, record_at, IsLive, Reaches, at_root, Good}
 use Rattle.ks_keysets.specs.Laws.Found.{reached_live}
 

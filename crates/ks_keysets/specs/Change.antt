@@ -1,5 +1,5 @@
 -- Changes of a graph: what the nodes that a list of changes names become, and their frames.
-use Rattle.std.specs.Prelude.{ℕ, ◌==◌, List, [], ◌∷◌}
+use Rattle.std.specs.Prelude.{ℕ, ◌==◌, List, [], ◌∷◌, if◌then◌else◌}
 use Rattle.ks_keysets.specs.declared.NodeState.{NodeState}
 use Rattle.ks_keysets.specs.declared.NodeState.TheVariants.{Free, Live}
 use Rattle.ks_keysets.specs.declared.NewState.{NewState}

@@ -1,13 +1,13 @@
 -- Insets, outsets and keysets, good graphs, and what a graph holds at a place.
-use Rattle.std.specs.Prelude.{ℕ, zero, suc, ◌≡◌, ◌<◌, ◌↔◌, Option, Some, None, All, AllPairs}
+use Rattle.std.specs.Prelude.{ℕ, zero, suc, [], ◌≡◌, ◌<◌, ◌↔◌, Option, Some, None, All, AllPairs}
 use Rattle.ks_keysets.specs.declared.NodeState.{NodeState}
 use Rattle.ks_keysets.specs.declared.NodeState.TheVariants.{Free, Claimed, Live}
 use Rattle.ks_keysets.specs.declared.Record.{Record}
-use Rattle.ks_keysets.specs.Record.{IsPlace, Carries, LeadsTo, LeadsOn, first_value, empty_record}
+use Rattle.ks_keysets.specs.Record.{IsPlace, Carries, LeadsTo, LeadsOn, first_value}
 
 -- node 0, the root, is live with no edge and no pair, and the others are free
 abbrev pub opening : ℕ → NodeState
-opening zero = Live empty_record
+opening zero = Live (record { edges = []; pairs = [] })
 opening (suc n) = Free
 
 -- the record of a live state

@@ -21,10 +21,6 @@ Holds span p = (span.low ≤ p) × (p ≤ span.last)
 abbrev pub Carries : Edge → ℕ → Type 0
 Carries edge p = Holds edge.span p
 
--- a record with no edge and no pair
-abbrev pub empty_record : Record
-empty_record = record { edges = []; pairs = [] }
-
 -- the value of the first of the pairs with this place
 abbrev pub first_value : List Pair → ℕ → Option ℕ
 first_value [] p = None

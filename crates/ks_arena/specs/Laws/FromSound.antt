@@ -12,7 +12,8 @@ use Rattle.ks_keysets.specs.declared.Record.{Record}
 use Rattle.ks_keysets.specs.declared.NodeState.{NodeState}
 use Rattle.ks_keysets.specs.declared.NodeState.TheVariants.{Free, Claimed, Live}
 use Rattle.ks_keysets.specs.declared.Change.{Change}
-use Rattle.ks_keysets.specs.Record.{Carries, first_value, empty_record}
+use Rattle.ks_keysets.specs.Record.{Carries, first_value}
+use Rattle.ks_keysets.specs.Frame.{empty_record}
 use Rattle.ks_keysets.specs.Keyset.{opening, live_record, record_at, IsLive, InKeyset, Good}
 use Rattle.ks_history.specs.declared.Op.{Op}
 use Rattle.ks_history.specs.declared.Op.TheVariants.{Get, Put, Del, Add, Swap}

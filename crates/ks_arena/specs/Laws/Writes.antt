@@ -5,7 +5,7 @@ use Rattle.std.proofs.lemmas.Bool.{lt-ltb, le-ltb}
 use Rattle.std.proofs.lemmas.Bool.Decides.{leb_tells, eqb_tells}
 use Rattle.ks_keysets.specs.declared.Pair.{Pair}
 use Rattle.ks_keysets.specs.Record.{first_value}
-use Rattle.ks_history.specs.Write.{pairs_set, pairs_without, with_new, with_value}
+use Rattle.ks_history.specs.Write.{sets, pairs_with, pairs_without, with_new, with_value}
 use Rattle.ks_node.specs.declared.start.Start.{Start}
 use Rattle.ks_node.specs.declared.start.Next.TheVariants.{Here}
 use Rattle.ks_node.specs.Asks.{IsBelowOwn}
@@ -29,7 +29,7 @@ none_above p (x ∷ xs) a = elim (eqb_tells x.place p) [
   | inr n ↦ rw n.0 (none_above p xs (λ k d l. a (suc k) d (omega arith)))
 ]
 
-set_rest : (p v : ℕ) (x : Pair) (xs : List Pair) → x.place < p → pairs_set (x ∷ xs) p v ≡ x ∷ pairs_set xs p v
+set_rest : (p v : ℕ) (x : Pair) (xs : List Pair) → x.place < p → pairs_with (x ∷ xs) (sets p v) ≡ x ∷ pairs_with xs (sets p v)
 set_rest p v x xs lt = rw (differs p x lt, stays) (either (is_some (first_value xs p)))
   where
     stays : nat_lt p x.place ≡ false
@@ -39,7 +39,7 @@ set_rest p v x xs lt = rw (differs p x lt, stays) (either (is_some (first_value 
     either true = refl
     either false = refl
 
-pub put_sets : (p v : ℕ) (xs : List Pair) → Ascends (λ x. x.place) xs → pairs_set xs p v ≡ pairs_put p v xs
+pub put_sets : (p v : ℕ) (xs : List Pair) → Ascends (λ x. x.place) xs → pairs_with xs (sets p v) ≡ pairs_put p v xs
 put_sets p v [] up = refl
 put_sets p v (x ∷ xs) up = elim (eqb_tells x.place p) [
   | inl e ↦ rw e.0 (sym (put_here p v x xs e.1 up))
@@ -47,7 +47,7 @@ put_sets p v (x ∷ xs) up = elim (eqb_tells x.place p) [
     | inl lt ↦ (
         let none : first_value xs p ≡ None = none_above p xs (λ k d l. let y = asc_head (λ x. x.place) x xs up k d l in omega (arith, y, lt.1)) in
         let before : nat_lt p x.place ≡ true = lt-ltb _ _ (omega (arith, lt.1)) in
-        let first : pairs_set (x ∷ xs) p v ≡ record { place = p; value = v } ∷ x ∷ xs = rw (n.0, none, before) refl in
+        let first : pairs_with (x ∷ xs) (sets p v) ≡ record { place = p; value = v } ∷ x ∷ xs = rw (n.0, none, before) refl in
         first ∙ sym (put_before p v x xs (omega (arith, lt.1)) up))
     | inr ge ↦ (
         let lt : x.place < p = omega (arith, n.1, ge.1) in
