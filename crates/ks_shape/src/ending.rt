@@ -119,14 +119,14 @@ fn found_told<W: Decision, N: Node, D: Discipline, G: Gate>(
     requires reply { W.reply ≡ told found }
     requires pass { IsPassOf arena.now pass.old }
     requires alone { hand_of pass.old ≡ held.node ∷ [] }
-    requires ready { IsReadyAt arena.now pass.old held op (told found) }
+    requires ready { IsReadyAt arena.now pass.old held W.op W.reply }
     ensures pass { IsEmptyPassOf arena.now pass.new }
     ensures caller { SameCaller pass.old pass.new }
     ensures leaves { OnlySearches pass.old pass.new }
     ensures begins { SeesOn pass.old pass.new }
     ensures makes { MakesNoneLive pass.old pass.new }
-    ensures done { FinishesAny arena.now op pass.old pass.new (told found) result }
-    ensures at { FinishesAt arena.now held op pass.old pass.new (told found) result }
+    ensures done { FinishesAny arena.now W.op pass.old pass.new W.reply result }
+    ensures at { FinishesAt arena.now held W.op pass.old pass.new W.reply result }
 {
     conclude_as::<W, N, D, G>(arena, pass, gate, held)
 }
@@ -168,13 +168,13 @@ fn full_told<W: Decision, N: Node, D: Discipline, G: Gate>(
     requires reply { W.reply ≡ full_reply }
     requires pass { IsPassOf arena.now pass.old }
     requires alone { hand_of pass.old ≡ held.node ∷ [] }
-    requires ready { IsReadyAt arena.now pass.old held op full_reply }
+    requires ready { IsReadyAt arena.now pass.old held W.op W.reply }
     ensures pass { IsEmptyPassOf arena.now pass.new }
     ensures caller { SameCaller pass.old pass.new }
     ensures leaves { OnlySearches pass.old pass.new }
     ensures begins { SeesOn pass.old pass.new }
     ensures makes { MakesNoneLive pass.old pass.new }
-    ensures done { FinishesIfDue arena.now held op pass.old pass.new full_reply result }
+    ensures done { FinishesIfDue arena.now held W.op pass.old pass.new W.reply result }
 {
     decide_here::<W, N, D, G>(arena, pass, gate, held)
 }
