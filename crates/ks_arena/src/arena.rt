@@ -24,14 +24,15 @@ pub struct Arena<N: Node, D: Discipline> {
     table: Table<Option<N>, View, (), Rule<N, D>, Global>,
     pub(crate) nodes: u32,
     pub(crate) callers: u32,
-    /// Whoever gives the root rings it.
+    /// Where callers that wait for the root sleep. A caller that comes to take the root rings it (`take`); one that releases
+    /// the root does not.
     pub(crate) bell: Bell,
     pub(crate) kin: Kin<N, D>,
     ghost sized: { (table.shared.table_id.words ≡ words_for nodes) × (table.shared.table_id.slots ≡ nodes)
         × (0 < nodes) × (0 < callers) },
 }
 
-/// How many steps on words a caller has made, for the proofs alone: it takes no bytes. Each pass has one.
+/// How many steps on words a caller has made, only for proofs: it takes no bytes. Each pass has one.
 // Nothing outside this module makes one or changes it.
 #[derive(Drop)]
 pub struct Steps {
@@ -171,7 +172,7 @@ impl<N: Node, D: Discipline> Arena<N, D> {
             .compare_exchange::<M>(seat, word, old, new)
     }
 
-    /// Loads a word with no seat, which tells nothing.
+    /// Loads a word without a seat. Nothing is ensured of what it returns.
     #[inline(always)]
     pub(crate) fn peek(&self, steps: &mut Steps, word: usize) -> u64
         requires { word < self.now.table.shared.table_id.words }

@@ -18,7 +18,6 @@ use crate::arena::Arena;
 use crate::held::{Held, Pass};
 use crate::laws::sound_law;
 use ks_flow::Discipline;
-use ks_history::Reply;
 use ks_node::{Node, node_law};
 
 /// The inset of the root has every place.
@@ -31,14 +30,14 @@ pub fn root_law<N: Node>(root: &Held<N>, place: u64)
 impl<N: Node, D: Discipline> Arena<N, D> {
     /// A Get may be decided at a live node that the caller holds, whose inset has the place, and where the search for it
     /// ends. Its reply is what the body has there.
-    pub fn get_law(&self, pass: &Pass<N, D>, held: &Held<N>, place: u64, reply: &Reply)
+    pub fn get_law(&self, pass: &Pass<N, D>, held: &Held<N>, place: u64, found: Option<u128>)
         requires pass { IsPassOf self.now pass.now }
         requires holds { Holds pass.now held.now.node }
         requires body { IsLiveAndCurrent self.now pass.now held.now }
         requires inside { IsInside pass.now held.now.node place }
         requires here { next_at (N.body held.now.body) place ≡ Here }
-        requires reply { reply.now ≡ told (value_at (N.body held.now.body).pairs place) }
-        ensures { IsReadyAt self.now pass.now held.now (Get place) reply.now }
+        requires found { found ≡ value_at (N.body held.now.body).pairs place }
+        ensures { IsReadyAt self.now pass.now held.now (Get place) (told found) }
     {
         sound_law::<D>();
         node_law(&held.body);

@@ -28,6 +28,7 @@ pub use arena::{Arena, Steps};
 pub use calls::root_law;
 pub use fit::fits_threads;
 pub use held::{Held, Note, Pass, Taken};
+pub use plays::Decision;
 pub use remains::Remains;
 pub use rule::Rule;
 pub use run::{Run, RunTrace};

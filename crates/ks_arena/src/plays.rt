@@ -1,7 +1,11 @@
-//! What each step tells. These types are for the proofs alone.
+//! What a caller learns by each step on a word, and which event the step makes. These types are only for the proofs.
 ghost use Rattle.std.specs.Prelude.{ℕ, [], ◌∷◌, ◌+◌};
 ghost use Rattle.ks_history.specs.declared.Event.TheVariants.{Take};
 ghost use Rattle.ks_history.specs.declared.Event.{Event as Happening};
+ghost use Rattle.ks_history.specs.declared.Op.{Op};
+ghost use Rattle.ks_history.specs.declared.Op.TheVariants.{Get};
+ghost use Rattle.ks_history.specs.declared.Reply.{Reply};
+ghost use Rattle.ks_history.specs.declared.Reply.TheVariants.{Nothing};
 ghost use Rattle.ks_arena.specs.Rule.{maker_view, next_view, both_views, spent_view, note_view};
 ghost use Rattle.ks_arena.specs.Sound.{sort_of};
 ghost use Rattle.ks_arena.specs.Plays.{took, claimed, gave, brought, bit_was_set, bit_was_cleared, scanned, decided, gathered, formed};
@@ -71,13 +75,28 @@ impl<N: Node, D: Discipline> Play<Option<N>, View> for Brings<D> {
     ghost then = { brought (sort_of N.layout N.ranged) D.begins D.step N.body };
 }
 
-/// The event that a step makes, for the proof alone. A call at `Brand` picks it.
+/// The event that a step makes, only for the proof. A call at `Brand` picks it.
 pub(crate) trait Said {
     ghost event: { Happening };
 }
 
 impl Said for Brand {
     ghost event = { Take 0 0 };
+}
+
+/// The operation and the reply of a call that is decided, only for proofs: no value of them is built. A function that
+/// decides has it as a type parameter, and its `requires` say what it is; a call of that function at `Brand` picks it, from
+/// the arguments of the function.
+pub trait Decision {
+    ghost op: { Op };
+
+    ghost reply: { Reply };
+}
+
+impl Decision for Brand {
+    ghost op = { Get 0 };
+
+    ghost reply = { Nothing };
 }
 
 pub(crate) struct Decides<D, W> {

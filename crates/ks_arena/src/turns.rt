@@ -1,4 +1,4 @@
-//! Taking nodes, giving them back, and what is decided and shaped meanwhile.
+//! Taking nodes and releasing them, and what is decided and shaped meanwhile.
 ghost use Rattle.std.specs.Prelude.{◌≡◌, ◌+◌, ◌%◌, ◌∷◌};
 ghost use Rattle.ks_arena.specs.declared.view.Mark.TheVariants.{Freeing};
 ghost use Rattle.ks_history.specs.Own.{drop_one};
@@ -8,7 +8,7 @@ ghost use Rattle.ks_arena.specs.Of.{Holds, Adds, HasDecided, HasShaped, Looks, K
 
 use crate::arena::Arena;
 use crate::held::{Held, Pass, Taken};
-use crate::plays::{Brings, Decides, Forms, Gives, Said, SetsBit, Takes};
+use crate::plays::{Brings, Decides, Decision, Forms, Gives, Said, SetsBit, Takes};
 use crate::spots::{CALLS, SHAPES, free_at, turn_at};
 use ks_flow::Discipline;
 use ks_flow::laws::walks_law;
@@ -60,7 +60,7 @@ impl<N: Node, D: Discipline> Arena<N, D> {
         }
     }
 
-    /// Gives a node back: a live one to whoever takes it next, any other one to be claimed.
+    /// Releases a held node: a live one may be taken next, any other one may be claimed.
     #[inline(always)]
     pub fn give(&self, pass: &mut Pass<N, D>, held: Held<N>)
         requires pass { IsPassOf self.now pass.old }
@@ -82,7 +82,7 @@ impl<N: Node, D: Discipline> Arena<N, D> {
         }
     }
 
-    /// Sets the bit of a node that is about to be given free.
+    /// Sets the bit of a held node that is about to be free.
     #[cold]
     #[inline(never)]
     fn set_bit(&self, pass: &mut Pass<N, D>, node: u32)
@@ -98,7 +98,7 @@ impl<N: Node, D: Discipline> Arena<N, D> {
         self.fetch_or::<SetsBit<D>>(&mut pass.seat, &mut pass.steps, word, 1u64 << (node % 64));
     }
 
-    /// Puts the body back into its slot and gives the turn away. The bit of a node that is not live is set.
+    /// Puts the body back into its slot and releases the turn. Before, the bit of a node that is not live was set.
     #[inline(always)]
     fn put_back(&self, pass: &mut Pass<N, D>, held: Held<N>)
         requires pass { IsMarkedPassOf self.now (give_mark held.live held.node) pass.old }
@@ -124,7 +124,39 @@ impl<N: Node, D: Discipline> Arena<N, D> {
         self.store::<Gives<D>>(&mut pass.seat, &mut pass.steps, turn, word);
     }
 
-    /// Makes the operation a call of the history, at the node whose body it has changed. Gives its number.
+    /// Makes an operation a call of the history, at the held node whose body it has changed. Returns the number of the
+    /// call, modulo 2^64. The type says which operation, and which reply.
+    pub fn decide_as<W: Decision>(&self, pass: &mut Pass<N, D>, held: &Held<N>) -> u64
+        requires pass { IsPassOf self.now pass.old }
+        requires holds { Holds pass.old held.now.node }
+        requires ready { IsReadyAt self.now pass.old held.now W.op W.reply }
+        ensures pass { IsPassOf self.now pass.new }
+        ensures caller { SameCaller pass.old pass.new }
+        ensures decided { HasDecided self.now held.now W.op W.reply pass.old pass.new result }
+        ensures body { IsCurrent self.now pass.new held.now }
+        ensures cost { steps_of pass.new ≡ steps_of pass.old + 1 }
+    {
+        self.count::<Brand, W>(pass, held)
+    }
+
+    fn count<V: Said, W: Decision>(&self, pass: &mut Pass<N, D>, held: &Held<N>) -> u64
+        requires said { V.event ≡ Call (caller_of pass.old) held.now.node W.op W.reply }
+        requires pass { IsPassOf self.now pass.old }
+        requires holds { Holds pass.old held.now.node }
+        requires ready { IsReadyAt self.now pass.old held.now W.op W.reply }
+        ensures pass { IsPassOf self.now pass.new }
+        ensures caller { SameCaller pass.old pass.new }
+        ensures decided { HasDecided self.now held.now W.op W.reply pass.old pass.new result }
+        ensures body { IsCurrent self.now pass.new held.now }
+        ensures cost { steps_of pass.new ≡ steps_of pass.old + 1 }
+    {
+        D::laws();
+        walks_law();
+        self.fetch_add::<Decides<D, V>>(&mut pass.seat, &mut pass.steps, CALLS, 1)
+    }
+
+    /// Makes the operation a call of the history, with this reply, at the held node whose body it has changed. Returns the
+    /// number of the call, modulo 2^64.
     pub fn decide(&self, pass: &mut Pass<N, D>, held: &Held<N>, op: Op, reply: Reply) -> u64
         requires pass { IsPassOf self.now pass.old }
         requires holds { Holds pass.old held.now.node }
@@ -135,11 +167,19 @@ impl<N: Node, D: Discipline> Arena<N, D> {
         ensures body { IsCurrent self.now pass.new held.now }
         ensures cost { steps_of pass.new ≡ steps_of pass.old + 1 }
     {
-        self.count::<Brand>(pass, held, op, reply)
+        self.decide_told::<Brand>(pass, held, op, reply)
     }
 
-    fn count<W: Said>(&self, pass: &mut Pass<N, D>, held: &Held<N>, op: Op, reply: Reply) -> u64
-        requires said { W.event ≡ Call (caller_of pass.old) held.now.node op reply }
+    /// Decides as its type says, which is what its arguments say.
+    fn decide_told<W: Decision>(
+        &self,
+        pass: &mut Pass<N, D>,
+        held: &Held<N>,
+        op: Op,
+        reply: Reply,
+    ) -> u64
+        requires op { W.op ≡ op }
+        requires reply { W.reply ≡ reply }
         requires pass { IsPassOf self.now pass.old }
         requires holds { Holds pass.old held.now.node }
         requires ready { IsReadyAt self.now pass.old held.now op reply }
@@ -149,9 +189,7 @@ impl<N: Node, D: Discipline> Arena<N, D> {
         ensures body { IsCurrent self.now pass.new held.now }
         ensures cost { steps_of pass.new ≡ steps_of pass.old + 1 }
     {
-        D::laws();
-        walks_law();
-        self.fetch_add::<Decides<D, W>>(&mut pass.seat, &mut pass.steps, CALLS, 1)
+        self.decide_as::<W>(pass, held)
     }
 
     /// Makes what the bodies have become one event. The pass holds the nodes, which are different ones.

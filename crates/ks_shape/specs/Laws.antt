@@ -17,3 +17,4 @@ pub mod Frees
 pub mod Keeping
 pub mod Leaves
 pub mod Search
+pub mod Found

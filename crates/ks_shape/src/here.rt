@@ -10,16 +10,16 @@ ghost use Rattle.ks_shape.specs.Of.{IsOnWayOf, MakesNoneLive, FinishesAny, Finis
 ghost use Rattle.ks_shape.specs.Does.{OnlySearches};
 
 use crate::answers::{Full, Numbered};
-use crate::ending::{conclude, refuse, reply_of};
+use crate::ending::{conclude_found, refuse};
 use ks_arena::laws::sound_law;
 use ks_arena::{Arena, Held, Pass};
 use ks_flow::{Discipline, Tree};
 use ks_gate::Gate;
-use ks_history::{Op, Reply};
+use ks_history::Op;
 use ks_node::{Node, node_law};
 
-/// Under trees a search that is on its way ends at a node that has no edge to go on by: its range, if it has one, is its
-/// inset. The function computes nothing.
+/// Under trees a search that is under way ends at a node with no edge that carries the place: the range of the node, if it
+/// has one, is its inset. The function computes nothing.
 pub fn tree_end_law<N: Node>(
     arena: &Arena<N, Tree>,
     pass: &Pass<N, Tree>,
@@ -60,9 +60,8 @@ pub fn get_here<N: Node, D: Discipline, G: Gate>(
     ensures done { FinishesAny arena.now (Get place) pass.old pass.new (told result.found) result.number }
 {
     let found = held.body.get(place);
-    let reply = reply_of(found);
-    arena.get_law(pass, &held, place, &reply);
-    let number = conclude(arena, pass, gate, held, Op::Get(place), reply);
+    arena.get_law(pass, &held, place, found);
+    let number = conclude_found(arena, pass, gate, held, Op::Get(place), found);
     Numbered { number, found }
 }
 
@@ -89,12 +88,12 @@ pub fn put_here<N: Node, D: Discipline, G: Gate>(
     arena.put_law(pass, &held, place, value);
     let found = held.body.put(place, value);
     let op = Op::Put(place, value);
-    let number = conclude(arena, pass, gate, held, op, reply_of(found));
+    let number = conclude_found(arena, pass, gate, held, op, found);
     Numbered { number, found }
 }
 
-/// Decides an add where the search for its place has ended, at a node that has the place or room for it: where a value
-/// stands, it stays.
+/// Decides an add where the search for its place has ended, at a node that has the place or room for it: a value that is
+/// there stays.
 pub fn add_here<N: Node, D: Discipline, G: Gate>(
     arena: &Arena<N, D>,
     pass: &mut Pass<N, D>,
@@ -118,20 +117,20 @@ pub fn add_here<N: Node, D: Discipline, G: Gate>(
     let op = Op::Add(place, value);
     let Some(found) = held.body.get(place) else {
         held.body.put(place, value);
-        let number = conclude(arena, pass, gate, held, op, Reply::Nothing);
+        let number = conclude_found(arena, pass, gate, held, op, None);
         return Numbered {
             number,
             found: None,
         };
     };
-    let number = conclude(arena, pass, gate, held, op, Reply::Value(found));
+    let number = conclude_found(arena, pass, gate, held, op, Some(found));
     Numbered {
         number,
         found: Some(found),
     }
 }
 
-/// Decides a swap where the search for its place has ended: the new value is set where the old one stands.
+/// Decides a swap where the search for its place has ended: the new value is set if the old one is there.
 pub fn swap_here<N: Node, D: Discipline, G: Gate>(
     arena: &Arena<N, D>,
     pass: &mut Pass<N, D>,
@@ -155,28 +154,28 @@ pub fn swap_here<N: Node, D: Discipline, G: Gate>(
     arena.swap_law(pass, &held, place, old, new);
     let op = Op::Swap(place, old, new);
     let Some(found) = held.body.get(place) else {
-        let number = conclude(arena, pass, gate, held, op, Reply::Nothing);
+        let number = conclude_found(arena, pass, gate, held, op, None);
         return Numbered {
             number,
             found: None,
         };
     };
     if found != old {
-        let number = conclude(arena, pass, gate, held, op, Reply::Value(found));
+        let number = conclude_found(arena, pass, gate, held, op, Some(found));
         return Numbered {
             number,
             found: Some(found),
         };
     }
     held.body.put(place, new);
-    let number = conclude(arena, pass, gate, held, op, Reply::Value(old));
+    let number = conclude_found(arena, pass, gate, held, op, Some(old));
     Numbered {
         number,
         found: Some(old),
     }
 }
 
-/// Decides a del where the search for its place has ended: what stands there is deleted.
+/// Decides a del where the search for its place has ended: what is there is deleted.
 pub fn del_here<N: Node, D: Discipline, G: Gate>(
     arena: &Arena<N, D>,
     pass: &mut Pass<N, D>,
@@ -197,11 +196,11 @@ pub fn del_here<N: Node, D: Discipline, G: Gate>(
     node_law(&held.body);
     arena.del_law(pass, &held, place);
     let found = held.body.del(place);
-    let number = conclude(arena, pass, gate, held, Op::Del(place), reply_of(found));
+    let number = conclude_found(arena, pass, gate, held, Op::Del(place), found);
     Numbered { number, found }
 }
 
-/// Decides a put or an add as full where the search for its place has ended, at a full node that has not the place, after no
+/// Decides a put or an add as full where the search for its place has ended, at a full node without the place, after no
 /// node was found free. The map stays as it is.
 pub fn refuse_here<N: Node, D: Discipline, G: Gate>(
     arena: &Arena<N, D>,

@@ -24,7 +24,7 @@ pub use answers::{Full, Later, Numbered, PutLater};
 pub use child::child_law;
 pub use claims::{claim_one, claim_two};
 pub use compacting::Compacting;
-pub use ending::{conclude, refuse, reply_of};
+pub use ending::{conclude_as, conclude_found, refuse, reply_of};
 pub use far::turn_back;
 pub use fills::{Fill, fill_at, not_put_off};
 pub use here::{

@@ -14,9 +14,9 @@ put-requires-clause-below_own g c = below_own (sort_of g.N.Node.layout g.N.Node.
 pub put-requires-clause-room : goal.put-requires-clause-room
 put-requires-clause-room g c = c.requires.room.room
 
-pub conclude-number-requires-clause-ready : goal.conclude-number-requires-clause-ready
-conclude-number-requires-clause-ready g c κs within = let x : Hand g.row.N.Denot = record { node = c.args.held.node; body = c.put.new.self; live = c.args.held.live } in
+pub conclude_found-number-requires-clause-ready : goal.conclude_found-number-requires-clause-ready
+conclude_found-number-requires-clause-ready g c κs within = let x : Hand g.row.N.Denot = record { node = c.args.held.node; body = c.put.new.self; live = c.args.held.live } in
     c.add_law.ensures.adds (sym c.get.ensures ∙ c.in_default.is) x refl c.requires.room.ends.live c.put.ensures.body
 
-pub conclude-number-requires-2-clause-ready : goal.conclude-number-requires-2-clause-ready
-conclude-number-requires-2-clause-ready g c κs within = c.add_law.ensures.stays c.in-Some.found (sym c.get.ensures ∙ c.in-Some.is)
+pub conclude_found-number-requires-2-clause-ready : goal.conclude_found-number-requires-2-clause-ready
+conclude_found-number-requires-2-clause-ready g c κs within = c.add_law.ensures.stays c.in-Some.found (sym c.get.ensures ∙ c.in-Some.is)

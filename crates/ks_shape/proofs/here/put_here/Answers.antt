@@ -1,4 +1,4 @@
-use Rattle.std.proofs.Common.{refl, sym, ◌∙◌, ap, subst}
+use Rattle.std.proofs.Common.{refl, sym, ap, subst}
 use Rattle.ks_history.specs.declared.Op.TheVariants.{Put}
 use Rattle.ks_history.specs.Map.{told}
 use Rattle.ks_arena.specs.declared.held.Held.{Held as Hand}
@@ -16,7 +16,7 @@ put-found-requires-clause-below_own g c = below_own (sort_of g.N.Node.layout g.N
 pub put-found-requires-clause-room : goal.put-found-requires-clause-room
 put-found-requires-clause-room g c = c.requires.room.room
 
-pub conclude-number-requires-clause-ready : goal.conclude-number-requires-clause-ready
-conclude-number-requires-clause-ready g c κs within = let x : Hand g.row.N.Denot = record { node = c.args.held.node; body = c.put-found.new.self; live = c.args.held.live } in
-    subst (IsReady (sort_of g.N.Node.layout g.N.Node.ranged) g.N.Node.body c.args.arena.now.nodes c.args.pass.now.caller (seen_of c.args.pass.now) x (Put c.args.place c.args.value)) (ap told (sym c.put-found.ensures.answer) ∙ sym c.reply_of.ensures.told)
+pub conclude_found-number-requires-clause-ready : goal.conclude_found-number-requires-clause-ready
+conclude_found-number-requires-clause-ready g c κs within = let x : Hand g.row.N.Denot = record { node = c.args.held.node; body = c.put-found.new.self; live = c.args.held.live } in
+    subst (IsReady (sort_of g.N.Node.layout g.N.Node.ranged) g.N.Node.body c.args.arena.now.nodes c.args.pass.now.caller (seen_of c.args.pass.now) x (Put c.args.place c.args.value)) (ap told (sym c.put-found.ensures.answer))
     (c.put_law.ensures x refl c.requires.room.ends.live c.put-found.ensures.body)

@@ -18,14 +18,14 @@ put-requires-clause-below_own g c = below_own (sort_of g.N.Node.layout g.N.Node.
 pub put-requires-clause-room : goal.put-requires-clause-room
 put-requires-clause-room g c = λ absent. absurd (let e : Some c.in-Some.found ≡ None = sym (sym c.get.ensures ∙ c.in-Some.is) ∙ absent in let q : ⊥ = cc in q)
 
-pub conclude-number-requires-clause-ready : goal.conclude-number-requires-clause-ready
-conclude-number-requires-clause-ready g c κs within = let b = g.N.Node.body c.args.held.body in let at : value_at b.pairs c.args.place ≡ None = sym c.get.ensures ∙ c.in_default.is in
+pub conclude_found-number-requires-clause-ready : goal.conclude_found-number-requires-clause-ready
+conclude_found-number-requires-clause-ready g c κs within = let b = g.N.Node.body c.args.held.body in let at : value_at b.pairs c.args.place ≡ None = sym c.get.ensures ∙ c.in_default.is in
     subst (IsReady (sort_of g.N.Node.layout g.N.Node.ranged) g.N.Node.body c.args.arena.now.nodes c.args.pass.now.caller (seen_of c.args.pass.now) c.args.held (Swap c.args.place c.args.old c.args.new)) (ap told at) (c.swap_law.ensures.stays (λ e. let q : None ≡ Some c.args.old = sym at ∙ e in let z : ⊥ = cc in z))
 
-pub conclude-number-requires-then-found-old-clause-ready : goal.conclude-number-requires-then-found-old-clause-ready
-conclude-number-requires-then-found-old-clause-ready g c κs within = let b = g.N.Node.body c.args.held.body in let at : value_at b.pairs c.args.place ≡ Some c.in-Some.found = sym c.get.ensures ∙ c.in-Some.is in
+pub conclude_found-number-requires-then-found-old-clause-ready : goal.conclude_found-number-requires-then-found-old-clause-ready
+conclude_found-number-requires-then-found-old-clause-ready g c κs within = let b = g.N.Node.body c.args.held.body in let at : value_at b.pairs c.args.place ≡ Some c.in-Some.found = sym c.get.ensures ∙ c.in-Some.is in
     subst (IsReady (sort_of g.N.Node.layout g.N.Node.ranged) g.N.Node.body c.args.arena.now.nodes c.args.pass.now.caller (seen_of c.args.pass.now) c.args.held (Swap c.args.place c.args.old c.args.new)) (ap told at) (c.swap_law.ensures.stays (λ e. let q : Some c.in-Some.found ≡ Some c.args.old = sym at ∙ e in c.if-found-old.true (let same : c.in-Some.found ≡ c.args.old = cc in same)))
 
-pub conclude-number-requires-2-clause-ready : goal.conclude-number-requires-2-clause-ready
-conclude-number-requires-2-clause-ready g c κs within = let x : Hand g.row.N.Denot = record { node = c.args.held.node; body = c.put.new.self; live = c.args.held.live } in
+pub conclude_found-number-requires-2-clause-ready : goal.conclude_found-number-requires-2-clause-ready
+conclude_found-number-requires-2-clause-ready g c κs within = let x : Hand g.row.N.Denot = record { node = c.args.held.node; body = c.put.new.self; live = c.args.held.live } in
     c.swap_law.ensures.swaps (sym c.get.ensures ∙ c.in-Some.is ∙ ap (λ (v : ℕ). Some v) c.if-found-old.false) x refl c.requires.ends.live c.put.ensures.body

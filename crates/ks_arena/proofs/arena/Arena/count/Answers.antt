@@ -25,12 +25,12 @@ fetch_add-requires-clause-may g c κs within = let p = c.args.pass.now in let r 
     let same : c.args.self.now.nodes ≡ n = omega arith in (
       r.table,
       omega arith,
-      decides_ok (sort_of g.N.Node.layout g.N.Node.ranged) g.D.Discipline.begins g.D.Discipline.step g.N.Node.body n _ p.seat.me p.caller c.args.held.now.node c.args.op c.args.reply _ c.requires.said r.own r.bare r.few (holds_it _ _ _ _ _ r.carries r.slots c.requires.holds)
-          (may_call (sort_of g.N.Node.layout g.N.Node.ranged) c.laws.ensures c.walks_law.ensures.opening n p.caller c.args.held.now.node c.args.op c.args.reply p.seat.me.0.seen c.requires.ready.meets (subst (λ (z : ℕ). IsDue g.N.Node.layout z p.seat.me.0.seen (Call p.caller c.args.held.now.node c.args.op c.args.reply)) same c.requires.ready.due)),
+      decides_ok (sort_of g.N.Node.layout g.N.Node.ranged) g.D.Discipline.begins g.D.Discipline.step g.N.Node.body n _ p.seat.me p.caller c.args.held.now.node g.W.Decision.op g.W.Decision.reply _ c.requires.said r.own r.bare r.few (holds_it _ _ _ _ _ r.carries r.slots c.requires.holds)
+          (may_call (sort_of g.N.Node.layout g.N.Node.ranged) c.laws.ensures c.walks_law.ensures.opening n p.caller c.args.held.now.node g.W.Decision.op g.W.Decision.reply p.seat.me.0.seen c.requires.ready.meets (subst (λ (z : ℕ). IsDue g.N.Node.layout z p.seat.me.0.seen (Call p.caller c.args.held.now.node g.W.Decision.op g.W.Decision.reply)) same c.requires.ready.due)),
     )
 
 abbrev event : (g : Over) (c : After-fetch_add g) → Event
-event g c = Call c.args.pass.now.caller c.args.held.now.node c.args.op c.args.reply
+event g c = Call c.args.pass.now.caller c.args.held.now.node g.W.Decision.op g.W.Decision.reply
 
 told : (g : Over) (c : After-fetch_add g) → decided (sort_of g.N.Node.layout g.N.Node.ranged) g.D.Discipline.begins g.D.Discipline.step g.N.Node.body (step c.args.self.now.table.shared.table_id.slots 0 1 0 none) (event g c) c.args.pass.now.seat.me c.fetch_add.result c.fetch_add.new.seat.me
 told g c = subst (λ (z : Event). decided (sort_of g.N.Node.layout g.N.Node.ranged) g.D.Discipline.begins g.D.Discipline.step g.N.Node.body (step c.args.self.now.table.shared.table_id.slots 0 1 0 none) z c.args.pass.now.seat.me c.fetch_add.result c.fetch_add.new.seat.me) c.requires.said c.fetch_add.ensures.seat.2
@@ -43,14 +43,14 @@ returns-clause-pass g c = let a = after g c in pass_again (sort_of g.N.Node.layo
 
 kept : (g : Over) (c : After-fetch_add g) → KeptBut c.args.held.now.node c.args.pass.now.caller c.args.pass.now.seat.me.0.seen c.fetch_add.new.seat.me.0.seen
 kept g c = λ j ne x. let a = after g c in let i : ℕ = c.args.held.now.node in let h : List Event = a.grows.rest ++ c.args.pass.now.seat.me.0.seen in let k = a.before j x in
-    subst (StaysHeld c.args.pass.now.caller j c.args.pass.now.seat.me.0.seen) (sym a.grows.is) (stays_then c.args.pass.now.caller (event g c) c.args.pass.now.seat.me.0.seen h j k k.turn (cond_else j i (state_with (written c.args.op c.args.reply) (graph_after h i)) (graph_after h j) ne) (λ blank. refl))
+    subst (StaysHeld c.args.pass.now.caller j c.args.pass.now.seat.me.0.seen) (sym a.grows.is) (stays_then c.args.pass.now.caller (event g c) c.args.pass.now.seat.me.0.seen h j k k.turn (cond_else j i (state_with (written g.W.Decision.op g.W.Decision.reply) (graph_after h i)) (graph_after h j) ne) (λ blank. refl))
 
 pub returns-clause-decided : goal.returns-clause-decided
-returns-clause-decided g c = let a = after g c in decided_of c.args.self.now c.args.pass.now _ c.requires.pass c.args.held.now c.args.op c.args.reply _
+returns-clause-decided g c = let a = after g c in decided_of c.args.self.now c.args.pass.now _ c.requires.pass c.args.held.now g.W.Decision.op g.W.Decision.reply _
     (record { grows = makes_grows _ _ _ _ c.args.pass.now.caller c.requires.pass.own (told g c).0; number = (told g c).2 }) a.hand_is a.mine_is (kept g c)
 
 pub returns-clause-body : goal.returns-clause-body
-returns-clause-body g c = let a = after g c in let i : ℕ = c.args.held.now.node in let h : List Event = a.grows.rest ++ c.args.pass.now.seat.me.0.seen in let o = c.args.op in let y = c.args.reply in let r = c.requires.pass in
+returns-clause-body g c = let a = after g c in let i : ℕ = c.args.held.now.node in let h : List Event = a.grows.rest ++ c.args.pass.now.seat.me.0.seen in let o = g.W.Decision.op in let y = g.W.Decision.reply in let r = c.requires.pass in
     let k = a.before i (holds_it _ _ _ _ _ r.carries r.slots c.requires.holds) in
     subst (λ (z : List Event). Matches (sort_of g.N.Node.layout g.N.Node.ranged) g.N.Node.body z c.args.held.now) (sym a.grows.is) record {
       is = matches_live (sort_of g.N.Node.layout g.N.Node.ranged) g.N.Node.body c.args.held.now.live _ _ c.args.held.now.body c.requires.ready.live

@@ -1,5 +1,4 @@
-use Rattle.ks_history.specs.declared.Event.TheVariants.{Call}
 use Rattle.ks_arena.proofs.arena.Arena.decide.Given as goal
 
-abbrev pub ghosts-count : goal.ghosts-count
-ghosts-count g a = record { event = Call a.pass.now.caller a.held.now.node a.op a.reply }
+abbrev pub ghosts-decide_told : goal.ghosts-decide_told
+ghosts-decide_told g a = record { op = a.op; reply = a.reply }

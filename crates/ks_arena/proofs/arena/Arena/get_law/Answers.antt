@@ -1,4 +1,5 @@
 use Rattle.std.proofs.Common.{refl}
+use Rattle.ks_history.specs.Map.{told}
 use Rattle.ks_history.specs.Laws.Stays.{lawful_in_turn}
 use Rattle.ks_history.specs.Laws.Hand.{is_hand}
 use Rattle.ks_arena.specs.Sound.{sort_of}
@@ -8,4 +9,4 @@ use Rattle.ks_arena.proofs.arena.Arena.get_law.Goals as goal
 
 pub returns : goal.returns
 returns g c = let p = c.args.pass.now in let r = c.requires in let are = lawful_in_turn (seen_of p) (c.sound_law.ensures.lawful (sort_of g.N.Node.layout g.N.Node.ranged) c.args.self.now.table.shared.table_id.slots (seen_of p) r.pass.sound) in
-    get_ready (sort_of g.N.Node.layout g.N.Node.ranged) g.N.Node.body c.args.self.now.nodes p.caller c.args.place (seen_of p) c.args.held.now _ c.args.reply.now ((is_hand (seen_of p) p.caller are).held c.args.held.now.node r.holds) r.body.0 r.body.1 r.inside c.node_law.ensures.sound r.here refl r.reply
+    get_ready (sort_of g.N.Node.layout g.N.Node.ranged) g.N.Node.body c.args.self.now.nodes p.caller c.args.place (seen_of p) c.args.held.now c.args.found (told c.args.found) ((is_hand (seen_of p) p.caller are).held c.args.held.now.node r.holds) r.body.0 r.body.1 r.inside c.node_law.ensures.sound r.here r.found refl

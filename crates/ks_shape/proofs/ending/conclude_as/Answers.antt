@@ -1,4 +1,4 @@
-use Rattle.ks_shape.proofs.ending.conclude.Goals as goal
+use Rattle.ks_shape.proofs.ending.conclude_as.Goals as goal
 
 pub returns-clause-at : goal.returns-clause-at
 returns-clause-at g c = λ template start under. c.decide_here.ensures.done template start (λ full. absurd (c.requires.some full)) under
