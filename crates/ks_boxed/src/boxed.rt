@@ -2,8 +2,8 @@
 
 ghost use Rattle.std.specs.Prelude.{◌≡◌};
 
-use ks_keysets::{Edge, Pair, Span};
-use ks_node::{Growing, Linked, Next, Node, Ranged, Unlinked};
+use ks_keysets::{Edge, Few, Pair, Span};
+use ks_node::{Growing, Linked, Listed, Next, Node, Ordered, Ranged, Unlinked};
 use std::alloc::{AllocError, Global};
 
 /// A node behind a box of its own, so that a body moves by one word. All calls are the inner node's.
@@ -203,11 +203,31 @@ impl<N: Growing> Growing for Boxed<N> {
     ghost few_edges = { λ s. N.few_edges s.node.value };
 }
 
+impl<N: Ordered> Ordered for Boxed<N> {
+    ghost plain = { N.plain };
+
+    ghost adopts = { N.adopts };
+
+    fn pairs_in(&self, low: u64, last: u64, into: &mut Few) {
+        self.node.pairs_in(low, last, into);
+    }
+}
+
 impl<N: Ranged> Ranged for Boxed<N> {
     ghost is_ranged = { N.is_ranged };
 
     fn range(&self) -> Span {
         self.node.range()
+    }
+}
+
+impl<N: Listed> Listed for Boxed<N> {
+    ghost plain = { N.plain };
+
+    ghost adopts = { N.adopts };
+
+    fn list(&self, low: u64, last: u64, into: &mut Few) {
+        self.node.list(low, last, into);
     }
 }
 

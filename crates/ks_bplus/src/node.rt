@@ -9,8 +9,10 @@ ghost use Rattle.ks_bplus.specs.Bplus.{Fit};
 ghost use Rattle.ks_bplus.specs.Parts.{is_inner, pairs_of, starts_of};
 
 use crate::parts::Parts;
-use ks_keysets::{Edge, Pair, Span};
-use ks_node::{Growing, Next, Node, Unlinked, begins_at, child_after, edge_in, next_in, only_in};
+use ks_keysets::{Edge, Few, Pair, Span};
+use ks_node::{
+    Growing, Next, Node, Ordered, Unlinked, begins_at, child_after, edge_in, next_in, only_in,
+};
 use ks_places::Plain;
 use std::alloc::{AllocError, Global};
 use std::mem;
@@ -233,6 +235,18 @@ impl Growing for BNode {
     ghost at_root = { refl };
 
     ghost few_edges = { λ n. fit_few n.fit };
+}
+
+impl Ordered for BNode {
+    ghost use Rattle.std.specs.Prelude.{refl};
+
+    ghost plain = { λ k h. refl };
+
+    ghost adopts = { refl };
+
+    fn pairs_in(&self, low: u64, last: u64, into: &mut Few) {
+        self.parts.list(low, last, into);
+    }
 }
 
 #[cfg(test)]

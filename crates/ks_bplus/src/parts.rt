@@ -3,13 +3,13 @@
 ghost use Rattle.std.specs.Prelude.{◌≡◌, ◌+◌, ◌<◌, ◌≤◌, ◌++◌, ◌∷◌, [], None, true, false, IsTrue, length, slice_index_or};
 ghost use Rattle.ks_node.specs.Keyed.{Ascends};
 ghost use Rattle.ks_node.specs.Body.{value_at, pairs_below, pairs_from, starts_below, starts_from};
-ghost use Rattle.ks_node.specs.Effect.{pairs_put, pairs_del, first_from, without};
+ghost use Rattle.ks_node.specs.Effect.{pairs_put, pairs_del, pairs_within, first_from, without};
 ghost use Rattle.ks_node.specs.Room.{load};
 ghost use Rattle.ks_bplus.specs.Bplus.{two_children, with_child};
 ghost use Rattle.ks_bplus.specs.Parts.{is_inner, pairs_of, starts_of, body_of, cut_of};
 
 use crate::starts::{Starts, add_start, append_starts, move_starts, remove_node};
-use ks_keysets::Pair;
+use ks_keysets::{Few, Pair};
 use ks_node::Start;
 use ks_pairs::Pairs;
 
@@ -117,6 +117,19 @@ impl Parts {
         match self {
             Parts::Leaf(pairs) => pairs.get(place),
             Parts::Inner(_) => None,
+        }
+    }
+
+    /// Fills an empty list with the pairs from one place to another, both included: an inner node has none.
+    pub(crate) fn list(&self, low: u64, last: u64, into: &mut Few)
+        requires ascend { Ascends (λ x. x.place) (pairs_of self.now) }
+        requires few { length (pairs_of self.now) ≤ 16 }
+        requires empty { into.old ≡ [] }
+        ensures { into.new ≡ pairs_within low last (pairs_of self.now) }
+    {
+        match self {
+            Parts::Leaf(pairs) => pairs.list(low, last, into),
+            Parts::Inner(_) => {}
         }
     }
 

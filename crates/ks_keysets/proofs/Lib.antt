@@ -3,3 +3,4 @@ pub mod Ways
 pub mod Spans
 pub mod Opening
 pub mod Aparts
+mod Cells

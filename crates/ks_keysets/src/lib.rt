@@ -6,11 +6,13 @@
 //! it; the keyset of a node is the places whose walk ends there.
 #![tactic(auto)]
 
+mod few;
 mod laws;
 mod readers;
 #[cfg(test)]
 mod tests;
 
+pub use few::Few;
 pub use laws::{found_law, keyset_law};
 pub use readers::{edge_cut, edges_apart, keyset_spans, next_of, walk_end};
 use std::marker::Model;

@@ -10,8 +10,8 @@ ghost use Rattle.std.proofs.Props.{props};
 ghost use Rattle.ks_keysets.specs.Record.{top};
 ghost use Rattle.ks_node.specs.Sound.{Framed};
 
-use ks_keysets::{Edge, Pair, Span};
-use ks_node::{Growing, Linked, Next, Node, Ranged, cut_edge};
+use ks_keysets::{Edge, Few, Pair, Span};
+use ks_node::{Growing, Linked, Listed, Next, Node, Ordered, Ranged, cut_edge};
 use std::alloc::{AllocError, Global};
 
 /// A node, the places that may be looked for in it, its level, and the node right of it on that level.
@@ -267,4 +267,14 @@ impl<N: Growing> Linked for WithLink<N> {
     ghost grows_where = { λ s. N.grows_where s.node };
 
     ghost at_root = { N.at_root };
+}
+
+impl<N: Growing + Ordered> Listed for WithLink<N> {
+    ghost plain = { N.plain };
+
+    ghost adopts = { N.adopts };
+
+    fn list(&self, low: u64, last: u64, into: &mut Few) {
+        self.node.pairs_in(low, last, into);
+    }
 }

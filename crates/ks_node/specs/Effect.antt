@@ -15,6 +15,10 @@ pairs_put p v ps = pairs_below p ps ++ record { place = p; value = v } ∷ pairs
 abbrev pub pairs_del : ℕ → List Pair → List Pair
 pairs_del p ps = pairs_below p ps ++ pairs_from (suc p) ps
 
+-- the pairs from low to last, both included
+abbrev pub pairs_within : ℕ → ℕ → List Pair → List Pair
+pairs_within low last ps = pairs_from low (pairs_below (suc last) ps)
+
 abbrev pub with_pairs : Body → List Pair → Body
 with_pairs b ps = record b { pairs = ps }
 

@@ -5,10 +5,11 @@
 
 use crate::edge::cut_edge;
 use crate::node::Node;
+use crate::ordered::{Listed, Ordered};
 use crate::ranged::Ranged;
 use crate::start::Next;
 use crate::unlinked::{Growing, Unlinked};
-use ks_keysets::{Edge, Pair, Span};
+use ks_keysets::{Edge, Few, Pair, Span};
 use std::alloc::{AllocError, Global};
 
 /// A node and the places that may be searched for in it.
@@ -261,5 +262,15 @@ impl<N: Unlinked> Ranged for WithRange<N> {
 
     fn range(&self) -> Span {
         self.range
+    }
+}
+
+impl<N: Ordered> Listed for WithRange<N> {
+    ghost plain = { N.plain };
+
+    ghost adopts = { N.adopts };
+
+    fn list(&self, low: u64, last: u64, into: &mut Few) {
+        self.node.pairs_in(low, last, into);
     }
 }

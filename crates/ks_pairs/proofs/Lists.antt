@@ -11,7 +11,7 @@ use Rattle.ks_node.specs.Keyed.{Ascends, IsRank, IsFound, IsMissing}
 use Rattle.ks_node.specs.Body.{value_at, pairs_below, pairs_from}
 use Rattle.ks_node.specs.Effect.{pairs_put, pairs_del}
 use Rattle.ks_node.specs.Laws.Cuts.{found, missing, below_is_take, from_is_drop}
-use Rattle.ks_pairs.specs.Paired.{paired}
+use Rattle.ks_keysets.specs.Paired.{paired}
 
 pub length-paired : (ps vs : List ℕ) → length ps ≡ length vs → length (paired ps vs) ≡ length ps
 length-paired [] vs e = refl

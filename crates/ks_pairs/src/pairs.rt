@@ -4,11 +4,11 @@ ghost use Rattle.std.specs.Prelude.{◌≡◌, ◌+◌, ◌<◌, ◌≤◌, ◌+
 ghost use Rattle.ks_node.specs.Keyed.{Ascends, IsRank};
 ghost use Rattle.ks_pairs.specs.Paired.{Stands};
 ghost use Rattle.ks_node.specs.Body.{value_at, pairs_below, pairs_from};
-ghost use Rattle.ks_node.specs.Effect.{pairs_put, pairs_del};
+ghost use Rattle.ks_node.specs.Effect.{pairs_put, pairs_del, pairs_within};
 
 use crate::slices::{count_below, insert_at, item, remove_at, set_item};
 use arrayvec::ArrayVec;
-use ks_keysets::Pair;
+use ks_keysets::{Few, Pair};
 use std::marker::Model;
 
 /// At most `N` pairs. A pair is a place and a value, and the places ascend whenever a search is made.
@@ -20,7 +20,8 @@ pub struct Pairs<const N: usize> {
 
 impl<const N: usize> Model for Pairs<N> {
     ghost use Rattle.std.specs.Prelude.{◌≡◌, ◌≤◌, length};
-    ghost use Rattle.ks_pairs.specs.Paired.{Items, paired};
+    ghost use Rattle.ks_keysets.specs.Paired.{paired};
+    ghost use Rattle.ks_pairs.specs.Paired.{Items};
 
     ghost Value = { Items };
 
@@ -91,6 +92,25 @@ impl<const N: usize> Pairs<N> {
         match self.seek(place) {
             Ok(at) => Some(item(self.values.as_slice(), at)),
             Err(_) => None,
+        }
+    }
+
+    /// Fills an empty list with the pairs from one place to another, both included, where no more than 16 pairs are held.
+    /// There is none if the second place is below the first.
+    pub fn list(&self, low: u64, last: u64, into: &mut Few)
+        requires ascend { Ascends (λ x. x.place) self.now.items }
+        requires few { length self.now.items ≤ 16 }
+        requires empty { into.old ≡ [] }
+        ensures { into.new ≡ pairs_within low last self.now.items }
+    {
+        let first = self.rank(low);
+        for at in first..self.len() {
+            let pair = self.pair(at);
+            let place = pair.place;
+            if last < place {
+                return;
+            }
+            into.push(pair);
         }
     }
 

@@ -3,7 +3,8 @@ ghost use Rattle.ks_node.specs.Body.{blank_body};
 ghost use Rattle.ks_bplus.specs.Parts.{body_of};
 
 use super::BNode;
-use ks_node::{Next, Node, Unlinked};
+use ks_keysets::{Few, Pair};
+use ks_node::{Next, Node, Ordered, Unlinked};
 use std::alloc::Global;
 use std::process::Abort;
 
@@ -40,6 +41,23 @@ fn has(rt: &impl Abort, node: &BNode, first: u64, end: u64) {
     }
 }
 
+/// The node lists the pairs from one place to another: those of the places from the first one to below the end.
+fn lists(rt: &impl Abort, node: &BNode, span: (u64, u64), first: u64, end: u64) {
+    let mut few = Few::new();
+    node.pairs_in(span.0, span.1, &mut few);
+    assert_eq!(rt; few.len() as u64, end.saturating_sub(first));
+    for at in 0..few.len() {
+        let place = first.saturating_add(at as u64);
+        assert_eq!(rt;
+            few.pair(at),
+            Pair {
+                place,
+                value: place as u128
+            }
+        );
+    }
+}
+
 fn target(node: &BNode, place: u64) -> u32 {
     match node.next(place) {
         Next::Go(child) => child,
@@ -69,6 +87,21 @@ fn a_leaf_splits_and_absorbs(rt: HostRuntime) {
 }
 
 #[test]
+fn a_leaf_lists_the_pairs_of_a_span(rt: HostRuntime) {
+    let mut node = blank(&rt, rt.alloc());
+    lists(&rt, &node, (0, u64::MAX), 0, 0);
+    fill(&rt, &mut node, 16);
+    lists(&rt, &node, (0, u64::MAX), 0, 16);
+    lists(&rt, &node, (0, 15), 0, 16);
+    lists(&rt, &node, (1, 14), 1, 15);
+    lists(&rt, &node, (5, 5), 5, 6);
+    lists(&rt, &node, (15, 40), 15, 16);
+    lists(&rt, &node, (16, u64::MAX), 0, 0);
+    lists(&rt, &node, (7, 6), 0, 0);
+    lists(&rt, &node, (u64::MAX, u64::MAX), 0, 0);
+}
+
+#[test]
 fn a_full_leaf_grows_forgets_and_collapses(rt: HostRuntime) {
     let mut node = blank(&rt, rt.alloc());
     let mut left = blank(&rt, rt.alloc());
@@ -81,6 +114,8 @@ fn a_full_leaf_grows_forgets_and_collapses(rt: HostRuntime) {
     has(&rt, &node, 0, 0);
     has(&rt, &left, 0, 8);
     has(&rt, &right, 8, 16);
+    lists(&rt, &node, (0, u64::MAX), 0, 0);
+    lists(&rt, &right, (0, u64::MAX), 8, 16);
     assert_eq!(rt; target(&node, 7), 1);
     assert_eq!(rt; target(&node, 8), 2);
     assert_eq!(rt; node.right_of(7), Some(2));

@@ -1,6 +1,6 @@
 use Rattle.std.proofs.Common.{arith, length, ap, sym, subst, ◌≡◌, ◌≤◌, ◌∙◌, ◌++◌}
 use Rattle.std.proofs.lemmas.List.{length-append}
-use Rattle.ks_pairs.specs.Paired.{paired}
+use Rattle.ks_keysets.specs.Paired.{paired}
 use Rattle.ks_pairs.proofs.Lists.{places_length, values_length, append-paired, on_ok}
 use Rattle.ks_pairs.proofs.pairs.Pairs.append.Goals as goal
 
