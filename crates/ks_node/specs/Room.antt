@@ -14,7 +14,7 @@ may_grow bplus_layout = true
 may_grow hash_layout = true
 may_grow bst_layout = true
 
--- whether a full node of the layout becomes a branch wherever it is, and not at the root alone
+-- whether a full node of the layout becomes a branch wherever it is, and not only at the root
 abbrev pub in_place : Layout → Bool
 in_place list_layout = false
 in_place bplus_layout = false
