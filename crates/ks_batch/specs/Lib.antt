@@ -1,7 +1,9 @@
 pub mod Pairings
 pub mod Words
+pub mod PairingWords
 pub mod Message
 pub mod Serve
 pub mod Stop
 pub mod Make
+pub mod Summed
 pub mod Parts

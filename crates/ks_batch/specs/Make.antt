@@ -22,10 +22,6 @@ pub record Sums (place : ℕ → ℕ) (draft : Draft) (h : List Event) (Took : L
   pub callers : CallersBelow draft.callers h
   pub took : Took (summary_text (made draft.callers draft.calls draft.first) run)
 
--- the text is that summary
-abbrev pub SumsUp : (ℕ → ℕ) → Draft → List Event → List ℕ → Type 0
-SumsUp place draft h text = Sums place draft h (λ t. text ≡ t)
-
 -- what the command leaves: it is done, or the output failed, or memory ran out
 pub record MakesOutcome (words : List (List ℕ)) (old new : Option (List ℕ)) (status : ℕ) (run : Option (List Event)) : Type 0 where
   pub pairing : Pairing

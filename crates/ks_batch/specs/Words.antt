@@ -53,18 +53,6 @@ abbrev pub Asks : List (List ℕ) → Text → Type 0
 Asks words Script = (pairing : Pairing) × (arena : ℕ) × AsksToRun words pairing arena
 Asks words Checked = Spells words Check
 
--- these words are those of the pairing
-pub record Names (nodes template : List ℕ) (pairing : Pairing) : Type 0 where
-  pub nodes_are : nodes ≡ (row_of pairing).nodes
-  pub template_is : template ≡ (row_of pairing).template
-
--- these words are those of the pairing and of a number of nodes within its limits
-pub record NamesArena (nodes template arena : List ℕ) (pairing : Pairing) (count : ℕ) : Type 0 where
-  pub pairing_is : Names nodes template pairing
-  pub arena_is : arena ≡ decimal count
-  pub least : 4 ≤ count
-  pub most : count ≤ 1048576
-
 -- the words are a command to make a script
 abbrev pub IsMake : List (List ℕ) → Type 0
 IsMake words = (pairing : Pairing) × (arena : ℕ) × (draft : Draft) × Spells words (Make pairing arena draft)

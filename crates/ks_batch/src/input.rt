@@ -4,7 +4,7 @@ ghost use Rattle.std.specs.Prelude.{ℕ, ◌≡◌, ◌≤◌, length, Some, [],
 ghost use Rattle.ks_script.specs.Outside.{Rose};
 ghost use Rattle.ks_script.specs.Script.{ScriptOf, calls_in};
 ghost use Rattle.ks_script.specs.Checked.{CheckedOf};
-ghost use Rattle.ks_judge.specs.Judgment.{SameShape};
+ghost use Rattle.ks_judge.specs.Shape.{SameShape};
 ghost use Rattle.ks_batch.specs.Serve.{limit_of, Accepts, AcceptsChecked};
 ghost use Rattle.ks_batch.specs.Stop.{IsCause, IsRefusal, ReadToEnd};
 ghost use Rattle.ks_batch.specs.declared.words.Text.TheVariants as text;

@@ -13,7 +13,8 @@ ghost use Rattle.ks_batch.specs.Pairings.{row_of};
 ghost use Rattle.ks_batch.specs.Words.{bytes_of, IsCommand, IsMake, Asks};
 ghost use Rattle.ks_batch.specs.Message.{status_text};
 ghost use Rattle.ks_batch.specs.Serve.{RefusedAt, IsReadWith, Tells, PrintsRun, IsCheck, judged_line};
-ghost use Rattle.ks_batch.specs.Make.{SumsUp, Sums, MakesOutcome};
+ghost use Rattle.ks_batch.specs.Summed.{SumsUp};
+ghost use Rattle.ks_batch.specs.Make.{Sums, MakesOutcome};
 ghost use Rattle.ks_batch.specs.Parts.{DueOver, NamedOver, RanWith, PrintedAt, ReadWith, UnreadWith, RefusedWith, RefusalDue, DoneDue, JudgedDue, UntouchedWith};
 ghost use Rattle.ks_batch.specs.Stop.{IsCause, ReadToEnd};
 

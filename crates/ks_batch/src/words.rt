@@ -3,7 +3,8 @@
 ghost use Rattle.std.specs.Prelude.{ℕ, ◌≡◌, ◌≢◌, ◌≤◌, IsTrue, ◌↔◌, [], ◌∷◌, string_bytes, IfSome, IfNone, codes};
 ghost use Rattle.std.specs.Fmt.{decimal};
 ghost use Rattle.ks_batch.specs.declared.pairings.Pairing.{Pairing};
-ghost use Rattle.ks_batch.specs.Words.{bytes_of, Spells, Names, NamesArena, IsCommand};
+ghost use Rattle.ks_batch.specs.Words.{bytes_of, Spells, IsCommand};
+ghost use Rattle.ks_batch.specs.PairingWords.{Names, NamesArena};
 
 use crate::pairings::Pairing;
 use itoa::Buffer;

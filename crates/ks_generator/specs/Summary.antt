@@ -1,12 +1,11 @@
 -- The summary of a run.
-use Rattle.std.specs.Prelude.{ℕ, ◌≡◌, ◌+◌, ◌*◌, ◌%◌, ◌^◌, List, [], ◌∷◌, ◌++◌, length, Bool, true, false, count_by, codes}
+use Rattle.std.specs.Prelude.{ℕ, ◌+◌, ◌*◌, ◌%◌, ◌^◌, List, [], ◌∷◌, ◌++◌, length, Bool, true, false, count_by, codes}
 use Rattle.std.specs.Fmt.{decimal}
 use Rattle.ks_history.specs.declared.Op.{Op}
 use Rattle.ks_history.specs.declared.Reply.{Reply}
 use Rattle.ks_history.specs.declared.Reply.TheVariants.{Nothing, Value, Full}
 use Rattle.ks_script.specs.Script.{calls_in}
 use Rattle.ks_script.specs.Run.{Run}
-use Rattle.ks_generator.specs.declared.summing.Size.{Size}
 use Rattle.ks_generator.specs.declared.summing.Kind as kind
 use Rattle.ks_generator.specs.declared.summing.Kind.TheVariants as kinds
 
@@ -37,11 +36,6 @@ abbrev pub lines_of_summary : (callers calls found none full pairs sum : ℕ) �
 lines_of_summary callers calls found none full pairs sum =
     codes "callers " ++ (decimal callers ++ (codes "\ncalls " ++ (decimal calls ++ (codes "\nfound " ++ (decimal found ++ (codes "\nnone " ++ (decimal none
     ++ (codes "\nfull " ++ (decimal full ++ (codes "\npairs " ++ (decimal pairs ++ (codes "\nsum " ++ (decimal sum ++ codes "\n")))))))))))))
-
--- the script has so many callers, and so many calls
-pub record IsSize (size : Size) (script : List (List Op)) : Type 0 where
-  pub callers : size.callers ≡ length script
-  pub calls : size.calls ≡ calls_in script
 
 -- the summary of a run of a script
 abbrev pub summary_text : List (List Op) → Run → List ℕ

@@ -4,7 +4,8 @@ ghost use Rattle.std.specs.Prelude.{◌≡◌, ◌≤◌, ◌<◌, ◌%◌, ◌^
 ghost use Rattle.std.specs.Fmt.{decimal};
 ghost use Rattle.ks_script.specs.Script.{calls_in};
 ghost use Rattle.ks_history.specs.declared.Op.{Op};
-ghost use Rattle.ks_generator.specs.Summary.{IsSize, is_of, replies_of, sum_of, summary_text, lines_of_summary};
+ghost use Rattle.ks_generator.specs.Size.{IsSize};
+ghost use Rattle.ks_generator.specs.Summary.{is_of, replies_of, sum_of, summary_text, lines_of_summary};
 ghost use Rattle.ks_generator.specs.declared.summing.Kind.TheVariants as kinds;
 
 use itoa::Buffer;

@@ -5,7 +5,8 @@ use Rattle.ks_history.specs.declared.Op.{Op}
 use Rattle.ks_script.specs.Script.{calls_in}
 use Rattle.ks_judge.specs.declared.slots.Slot.{Slot}
 use Rattle.ks_judge.specs.declared.slots.Slot.TheVariants.{One}
-use Rattle.ks_judge.specs.Judgment.{Lines, SameShape, answered_at, carriers, calls_below}
+use Rattle.ks_judge.specs.Judgment.{Lines, answered_at, carriers, calls_below}
+use Rattle.ks_judge.specs.Shape.{SameShape}
 use Rattle.ks_judge.specs.Slots.{Carries, TellsSlot}
 
 -- how many calls some first callers have

@@ -11,7 +11,8 @@ use Rattle.ks_history.specs.declared.Reply.{Reply}
 use Rattle.ks_history.specs.declared.Reply.TheVariants.{Nothing}
 use Rattle.ks_judge.specs.declared.slots.Slot.{Slot}
 use Rattle.ks_judge.specs.declared.slots.Slot.TheVariants.{One}
-use Rattle.ks_judge.specs.Judgment.{Lines, SameShape, line_at, IsRight, carriers, carriers_from, carriers_in}
+use Rattle.ks_judge.specs.Judgment.{Lines, line_at, IsRight, carriers, carriers_from, carriers_in}
+use Rattle.ks_judge.specs.Shape.{SameShape}
 use Rattle.ks_judge.specs.Slots.{Stands, Carries, TellsSlot}
 use Rattle.ks_judge.proofs.Numbered.{same_length, same_count, one_tells}
 use Rattle.ks_judge.proofs.Replays.{IsInOrder, RightBelow, IsCallOf, call_read}

@@ -1,5 +1,5 @@
 -- The judgment of a printed run of a script: which numbers are wrong.
-use Rattle.std.specs.Prelude.{ℕ, zero, suc, ◌≡◌, ◌==◌, ◌<◌, ◌≤◌, ◌+◌, List, [], ◌∷◌, ◌++◌, length, map, slice_index_or, if◌then◌else◌}
+use Rattle.std.specs.Prelude.{ℕ, zero, suc, ◌≡◌, ◌==◌, ◌<◌, ◌≤◌, ◌+◌, List, [], ◌∷◌, ◌++◌, map, slice_index_or, if◌then◌else◌}
 use Rattle.ks_history.specs.declared.Op.{Op}
 use Rattle.ks_history.specs.declared.Op.TheVariants.{Get}
 use Rattle.ks_history.specs.declared.Reply.{Reply}
@@ -12,10 +12,6 @@ use Rattle.ks_script.specs.Script.{calls_in}
 -- the lines of a printed run, for each caller
 abbrev pub Lines : Type 0
 Lines = List (List (ℕ × Reply))
-
--- the run has a line for each call of the script
-abbrev pub SameShape : List (List Op) → Lines → Type 0
-SameShape script lines = map (λ x. length x) lines ≡ map (λ x. length x) script
 
 -- the number and the reply on line j of caller c
 abbrev pub line_at : Lines → ℕ → ℕ → ℕ × Reply

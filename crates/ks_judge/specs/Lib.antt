@@ -1,4 +1,5 @@
 pub mod Judgment
+pub mod Shape
 pub mod Slots
 pub mod Verdict
 pub mod Keys

@@ -4,7 +4,7 @@ ghost use Rattle.std.specs.Prelude.{ℕ, ◌≡◌, ◌↔◌, ◌≤◌, Some, 
 ghost use Rattle.ks_history.specs.Write.{removes, map_with};
 ghost use Rattle.ks_history.specs.Served.{IsListing};
 ghost use Rattle.ks_script.specs.Script.{calls_in};
-ghost use Rattle.ks_judge.specs.Judgment.{SameShape};
+ghost use Rattle.ks_judge.specs.Shape.{SameShape};
 ghost use Rattle.ks_judge.specs.Table.{found};
 ghost use Rattle.ks_judge.specs.Verdict.{IsJudged};
 

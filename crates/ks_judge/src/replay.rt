@@ -3,7 +3,8 @@
 ghost use Rattle.std.specs.Prelude.{ℕ, ◌≡◌, ◌<◌, ◌≤◌, ◌↔◌, length, IsTrue, IfOk, OnOk};
 ghost use Rattle.ks_history.specs.Write.{sets, map_with, written};
 ghost use Rattle.ks_history.specs.Map.{told, IsAnswer, map_after};
-ghost use Rattle.ks_judge.specs.Judgment.{SameShape, carriers, calls_below, IsRight};
+ghost use Rattle.ks_judge.specs.Shape.{SameShape};
+ghost use Rattle.ks_judge.specs.Judgment.{carriers, calls_below, IsRight};
 ghost use Rattle.ks_judge.specs.Slots.{Notes};
 ghost use Rattle.ks_judge.specs.Table.{found};
 

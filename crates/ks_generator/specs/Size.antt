@@ -1,0 +1,10 @@
+-- The size of a script.
+use Rattle.std.specs.Prelude.{◌≡◌, List, length}
+use Rattle.ks_history.specs.declared.Op.{Op}
+use Rattle.ks_script.specs.Script.{calls_in}
+use Rattle.ks_generator.specs.declared.summing.Size.{Size}
+
+-- the script has so many callers, and so many calls
+pub record IsSize (size : Size) (script : List (List Op)) : Type 0 where
+  pub callers : size.callers ≡ length script
+  pub calls : size.calls ≡ calls_in script
