@@ -7,3 +7,4 @@ pub mod Stop
 pub mod Make
 pub mod Summed
 pub mod Parts
+pub mod Leaves

@@ -1,22 +1,18 @@
 -- What the program leaves, part by part: the contract of the call that serves and that of the program around it are made
 -- of these.
-use Rattle.std.specs.Prelude.{ℕ, ◌≡◌, ◌≢◌, ◌≤◌, ◌⊎◌, ◌↔◌, List, [], Option, Some, IfSome, IsSome, IsNone}
+use Rattle.std.specs.Prelude.{ℕ, ◌≡◌, ◌≢◌, ◌⊎◌, ◌↔◌, List, [], Option, Some, IfSome, IsSome}
 use Rattle.ks_history.specs.declared.Op.{Op}
 use Rattle.ks_history.specs.declared.Event.{Event}
 use Rattle.ks_history.specs.Due.{FullsDue}
-use Rattle.ks_history.specs.Lawful.{Lawful, GoodThroughout}
 use Rattle.ks_arena.specs.Named.{AllNamedBelow}
 use Rattle.ks_script.specs.Run.{Run}
-use Rattle.ks_script.specs.Outside.{Grew, GrewByFront}
 use Rattle.ks_batch.specs.declared.words.Text.{Text}
 use Rattle.ks_batch.specs.declared.words.Text.TheVariants.{Script, Checked}
 use Rattle.ks_batch.specs.declared.pairings.Pairing.{Pairing}
 use Rattle.ks_batch.specs.Pairings.{row_of}
-use Rattle.ks_batch.specs.Words.{AsksToRun, AskToServe, IsCommand, IsMake, Asks}
-use Rattle.ks_batch.specs.Message.{status_text}
-use Rattle.ks_batch.specs.Serve.{RefusedAt, Accepts, AcceptsChecked, IsReadWith, PrintsRun, IsCheck}
-use Rattle.ks_batch.specs.Make.{MakesOutcome}
-use Rattle.ks_batch.specs.declared.status.TheConstants.{DONE, NO_COMMAND, REFUSED, SOURCE_FAILED, OUTPUT_FAILED, NO_MEMORY, WRONG}
+use Rattle.ks_batch.specs.Words.{AsksToRun, AskToServe, IsMake, Asks}
+use Rattle.ks_batch.specs.Serve.{RefusedAt, Accepts, AcceptsChecked, IsReadWith, PrintsRun}
+use Rattle.ks_batch.specs.declared.status.TheConstants.{DONE, NO_COMMAND, REFUSED, OUTPUT_FAILED, NO_MEMORY, WRONG}
 
 -- the output got nothing, unless all is done, the output failed or the run is wrong
 abbrev pub UntouchedWith : ℕ → Option (List ℕ) → Option (List ℕ) → Type 0
@@ -66,35 +62,3 @@ module _ (words : List (List ℕ)) where
   JudgedDue status left failed out_failed = Asks words Checked → ¬ failed → ¬ out_failed →
       IfSome left (λ bytes. (script : List (List Op)) (run : Run) → AcceptsChecked bytes script run →
       (status ≡ DONE) ⊎ ((status ≡ WRONG) ⊎ (status ≡ NO_MEMORY)))
-
-  -- what the program leaves that ends with this status, of a source and two sinks: the bytes of each before and after, if
-  -- they are known, and whether it failed
-  pub record Leaves (left after : Option (List ℕ)) (failed : Type 0) (out out_after : Option (List ℕ)) (out_failed : Type 0) (err err_after : Option (List ℕ)) (err_failed : Type 0) (status : ℕ) : Type 0 where
-    pub line : ℕ
-    pub number : ℕ
-    pub run : Option (List Event)
-    pub lawful : IfSome run Lawful
-    pub good : IfSome run GoodThroughout
-    pub due : DueOver run
-    pub named : NamedOver run
-    pub ran : RanWith status run
-    pub not_ran : Asks words Checked → IsNone run
-    pub none : status ≡ NO_COMMAND → IsNone run
-    pub done : PrintedAt DONE status left run (λ t. Grew out out_after t)
-    pub cut : PrintedAt OUTPUT_FAILED status left run (λ t. GrewByFront out out_after t)
-    pub checked : Asks words Checked → IsCheck left out out_after status number
-    pub made : IsMake words → MakesOutcome words out out_after status run
-    pub untouched : UntouchedWith status out out_after
-    pub end : ReadWith status line left after
-    pub unread : UnreadWith status left after
-    pub known : status ≤ WRONG
-    pub usage : (status ≡ NO_COMMAND) ↔ ¬ IsCommand words
-    pub refused : RefusedWith status line left
-    pub refusal_due : RefusalDue status line left failed
-    pub source : status ≡ SOURCE_FAILED → failed
-    pub output : status ≡ OUTPUT_FAILED → out_failed
-    pub judgment : status ≡ WRONG → Asks words Checked
-    pub done_due : DoneDue status left failed out_failed
-    pub judged_due : JudgedDue status left failed out_failed
-    pub said : ¬ err_failed → Grew err err_after (status_text status line)
-    pub said_front : GrewByFront err err_after (status_text status line)

@@ -7,7 +7,7 @@ ghost use Rattle.std.specs.Process.{exit_status};
 ghost use Rattle.std_alloc.specs.Vec.Iter.{into_iter_items};
 ghost use Rattle.ks_script.specs.Outside.{Rose};
 ghost use Rattle.ks_batch.specs.Words.{bytes_of};
-ghost use Rattle.ks_batch.specs.Parts.{Leaves};
+ghost use Rattle.ks_batch.specs.Leaves.{Leaves};
 
 mod streams;
 

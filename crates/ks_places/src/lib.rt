@@ -57,7 +57,8 @@ impl Placing for Plain {
 }
 
 impl Placing for Golden {
-    ghost use Rattle.ks_places.specs.Golden.{golden_place, golden_key};
+    ghost use Rattle.ks_places.specs.Golden.{golden_place};
+    ghost use Rattle.ks_places.specs.Inverse.{golden_key};
     ghost use Rattle.ks_places.specs.Laws.Golden.{golden_round, golden_round_back};
 
     ghost place_of = { golden_place };

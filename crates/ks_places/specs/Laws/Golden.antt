@@ -2,7 +2,8 @@
 use Rattle.std.specs.Prelude.{◌≡◌, ℕ, ◌+◌, ◌*◌, ◌%◌, ◌^◌, ◌<◌, refl}
 use Rattle.std.proofs.Common.{arith, ◌∙◌, ap}
 use Rattle.std.proofs.lemmas.Nat.{mul-mod_first, mod-mul-add}
-use Rattle.ks_places.specs.Golden.{golden_place, golden_key}
+use Rattle.ks_places.specs.Golden.{golden_place}
+use Rattle.ks_places.specs.Inverse.{golden_key}
 
 -- multiplying by a factor and then by its inverse modulo m leaves a number below m unchanged
 undone : (a b q m k : ℕ) → a * b ≡ q * m + 1 → k < m → (k * a) % m * b % m ≡ k
