@@ -6,7 +6,7 @@
 #include <stdio.h>
 #include <stdlib.h>
 
-#include "ks.h"
+#include "guttertide.h"
 
 enum { CALLERS = 4, CALLS = 25000, KEYS = 96, NODES = 256, MANY = 1025 };
 
@@ -122,7 +122,7 @@ static void want(uint32_t code, uint32_t wanted, const char *what) {
     }
 }
 
-/* What is no call of a dictionary is answered by a code. */
+/* What is no call of a dictionary returns a code that says so. */
 static void misuse(void) {
     ks_caller none = KS_NO_CALLER, two[2] = {KS_NO_CALLER, KS_NO_CALLER};
     ks_answer answer;

@@ -26,6 +26,13 @@ class Tries:
         sys.exit(1 if self.failed or not self.count else 0)
 
 
+def documents():
+    """The documents of the repository."""
+    for at, folders, files in os.walk(TOP):
+        folders[:] = sorted(it for it in folders if it not in (".git", "out"))
+        yield from (os.path.relpath(f"{at}/{it}", TOP) for it in sorted(files) if it.endswith(".md"))
+
+
 def has_full():
     """Whether the system has the device that is always full."""
     return os.access("/dev/full", os.W_OK)

@@ -2,7 +2,7 @@
 //!
 //! C has a handle for each caller of a dictionary (`Handle`): null, or a caller in a block of its own. A call takes the
 //! caller out of its handle, makes its call along links and puts it back, so a call sees whether its handle is closed.
-//! `outside/ks.h` declares the functions and says what a caller must keep.
+//! `outside/guttertide.h` declares the functions and says what a caller must keep.
 #![tactic(auto)]
 
 ghost use Rattle.std.specs.Prelude.{◌≡◌};

@@ -1,6 +1,6 @@
 //! A handle of the library behind a safe type, and with it all unsafe code of this crate but the declarations.
 //!
-//! What `ks.h` asks of who calls it, and what keeps it here:
+//! What `guttertide.h` asks of its caller, and what keeps it here:
 //!
 //! - A handle begins as null, only the library writes it, and nobody copies it: `Handle` is not `Clone`, and its field
 //!   is private to this file. To move one forgets the old place.
@@ -10,7 +10,7 @@
 //! - An answer is no part of a handle, and no other thread has it during the call: a call has it by `&mut`.
 //! - No pointer is null, and each is aligned: they are made from references.
 //! - The number of handles is that of a slice of them.
-//! - One allocator stands behind `malloc`, `realloc` and `free`; no call is made from a signal handler, nor in a child
+//! - `malloc`, `realloc` and `free` are of one allocator; no call is made from a signal handler, nor in a child
 //!   that was forked while there were several threads: what would break this is unsafe code of the program.
 #![allow(unsafe_code)]
 

@@ -1,8 +1,8 @@
 //! A dictionary from `u64` to `u128` that many threads use at once.
 //!
 //! It is a B-link tree over a fixed number of nodes. The library behind it is proved: all calls of all callers are one
-//! history of one map (they are *linearizable*), in which each call stands once, each caller's in their order, and each
-//! replies with the value that stood at its key just before it. No caller ever holds the whole map, and no call takes
+//! history of one map (they are *linearizable*), in which each call occurs once, each caller's in their order, and each
+//! replies with the value that its key had just before it. No caller ever holds the whole map, and no call takes
 //! memory but [`Dictionary::open`]. What is proved is the library; this crate is a front of it in Rust, which is
 //! tested.
 //!
@@ -34,12 +34,13 @@
 //! # Waiting
 //!
 //! A call that meets a node which another caller holds has done nothing, and is made again: at first almost at once,
-//! and where it has failed seven times after sleeps of 50 microseconds, since who holds a node that long may itself
-//! wait for a processor. The calls that begin with `try_` do not wait: they tell who was in the way ([`Busy`]).
+//! and where it has failed seven times after sleeps of 50 microseconds, since a caller that holds a node that long may
+//! itself wait for a processor. The calls that begin with `try_` do not wait: they report the caller that was in the
+//! way ([`Busy`]).
 //!
 //! # Unsafe code
 //!
-//! What the library asks of its users (`ks.h` of the repository says it) cannot be broken by safe code over this crate.
+//! What the library asks of its users (`guttertide.h` of the repository says it) cannot be broken by safe code over this crate.
 //! Unsafe code of a program must leave `malloc` and `free` as they are, and make no call from a signal handler, nor in
 //! a child that it forked while there were several threads.
 
@@ -79,7 +80,7 @@ impl Dictionary {
     ///
     /// # Errors
     ///
-    /// Where one of the numbers is out of its range, or memory is wanting.
+    /// If one of the numbers is out of its range, or memory runs out.
     ///
     /// ```
     /// use guttertide::{Dictionary, OpenError};
@@ -131,7 +132,7 @@ impl FreeHandles {
 
 /// One caller of a dictionary: it may go to another thread, and makes one call at a time.
 ///
-/// Each call replies with the value that stood at its key just before it, and `None` is that there was none.
+/// Each call replies with the value that its key had just before it, and `None` is that it had none.
 ///
 /// A caller is sent to a thread, and not shared between two:
 ///
@@ -192,7 +193,7 @@ impl Caller {
         self.wait(Call::Insert { key, value })
     }
 
-    /// Sets the value of a key that has none. A value that stands there stays, and is the reply.
+    /// Sets the value of a key that has none. A value that the key has stays, and is the reply.
     ///
     /// # Errors
     ///
@@ -210,8 +211,8 @@ impl Caller {
         self.wait(Call::Add { key, value })
     }
 
-    /// Sets the value of a key to `new` if and only if `old` stands there. The reply is the value that stood there: it
-    /// was replaced if and only if that is `Some(old)`.
+    /// Sets the value of a key to `new` if and only if it is `old`. The reply is the value that the key had: it was
+    /// replaced if and only if that is `Some(old)`.
     ///
     /// ```
     /// # let dictionary = guttertide::Dictionary::open(64, 1).unwrap();
@@ -222,7 +223,7 @@ impl Caller {
     /// assert_eq!(caller.get(5), Some(51));
     /// # Ok::<(), guttertide::Full>(())
     /// ```
-    #[must_use = "the reply tells whether the value was replaced"]
+    #[must_use = "the reply says whether the value was replaced"]
     pub fn replace(&mut self, key: u64, old: u128, new: u128) -> Option<u128> {
         never_full(self.wait(Call::Replace { key, old, new }))
     }
@@ -251,8 +252,8 @@ impl Caller {
     /// # let dictionary = guttertide::Dictionary::open(64, 1).unwrap();
     /// # let mut caller = dictionary.caller().unwrap();
     /// match caller.try_get(5) {
-    ///     Ok(Some(value)) => println!("{value} stands there"),
-    ///     Ok(None) => println!("nothing stands there"),
+    ///     Ok(Some(value)) => println!("the key has {value}"),
+    ///     Ok(None) => println!("the key has no value"),
     ///     Err(busy) => println!("not now: {busy}"),
     /// }
     /// ```
@@ -297,7 +298,7 @@ impl Caller {
         self.attempt(Call::Remove { key }).map(never_full)
     }
 
-    /// The number of the last call that was made through this value, or `None` before the first: how many calls stand
+    /// The number of the last call that was made through this value, or `None` before the first: how many calls are
     /// before it in the one history of all callers of the dictionary. A call that is [`Full`] has a number, one that is
     /// [`Busy`] has none.
     ///
@@ -367,7 +368,7 @@ fn never_full(reply: Reply) -> Option<u128> {
     reply.unwrap_or_else(|Full| unexpected(raw::KS_FULL))
 }
 
-/// Ends a call to which the library answered by a code that it never gives to such a call.
+/// Ends a call for which the library returned a code that it never returns for such a call.
 fn unexpected(code: u32) -> ! {
-    panic!("the library answered with the code {code}, which ks.h does not have for this call")
+    panic!("the library returned the code {code}, which guttertide.h does not have for this call")
 }

@@ -1,4 +1,4 @@
-//! What the header `ks.h` declares: its types, its codes and the functions of the library. The header says what each
+//! What the header `guttertide.h` declares: its types, its codes and the functions of the library. The header says what each
 //! function does and what its caller must keep.
 
 #![allow(non_camel_case_types, missing_docs)]
@@ -22,7 +22,7 @@ pub struct ks_wide {
     pub high: u64,
 }
 
-/// What a call tells beside its code.
+/// What a call returns beside its code.
 #[repr(C)]
 #[derive(Clone, Copy, Debug, Default)]
 pub struct ks_answer {

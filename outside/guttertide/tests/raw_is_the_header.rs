@@ -1,9 +1,9 @@
-//! The declarations of `src/raw.rs` are those of `ks.h`.
+//! The declarations of `src/raw.rs` are those of `guttertide.h`.
 
 use guttertide::raw::{ks_answer, ks_caller, ks_wide};
 use std::mem::{offset_of, size_of};
 
-const HEADER: &str = include_str!("../../ks.h");
+const HEADER: &str = include_str!("../../guttertide.h");
 const RAW: &str = include_str!("../src/raw.rs");
 
 /// A declaration of the header, as Rust writes it: `uint32_t ks_c_close(ks_caller *caller);`.

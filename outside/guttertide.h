@@ -1,0 +1,133 @@
+/* Guttertide for C: a concurrent map from keys of 64 bits to values of 128 bits.
+ *
+ * A dictionary is a B-link tree over a fixed number of nodes, and a fixed number of callers call it at once. Its calls are
+ * proved: all calls of all callers form one history of one map, in which each call has its number. No call waits for another
+ * caller, and only ks_open takes memory. A call that meets a node which another caller holds returns KS_BUSY and has done
+ * nothing; it may be made again.
+ *
+ *     ks_caller callers[2] = {KS_NO_CALLER, KS_NO_CALLER};
+ *     if (ks_open(1024, callers, 2) != KS_NOTHING) return 1;
+ *     ks_answer answer;
+ *     while (ks_put(&callers[0], 5, ks_value(50), &answer) == KS_BUSY) continue;
+ *     ks_close(&callers[0]);
+ *     ks_close(&callers[1]);
+ *
+ * The script `install` beside this file copies it under a prefix, with the libraries that a program is linked with and a
+ * file for pkg-config.
+ *
+ * Call the functions whose names have no ks_c_. They test what can be tested: for a null pointer, a handle that is not open,
+ * and a wrong number of nodes or callers they return a code and do nothing. What they cannot test, the caller ensures; each
+ * function is unsafe in this much:
+ *
+ *   - A handle begins as KS_NO_CALLER (all bytes 0), and only these functions write it. It is not copied: of two copies
+ *     one would point to what the other has freed. It may be moved while no call uses it, if the old place is forgotten.
+ *   - One handle is in one call at a time. It may go from thread to thread if that is ordered (by a lock, a thread's start
+ *     or join, or a sequentially consistent atomic). Different handles may be in calls at the same time.
+ *   - An answer is no part of a handle, and no other thread uses it during the call.
+ *   - The program's malloc, realloc and free are of one allocator, as C has them. No call is made from a signal handler,
+ *     nor in a child that was forked while there were several threads.
+ *
+ * The functions whose names begin with ks_c_ are those of the library. They test no pointer.
+ */
+#ifndef GUTTERTIDE_H
+#define GUTTERTIDE_H
+
+#include <stddef.h>
+#include <stdint.h>
+
+#ifdef __cplusplus
+extern "C" {
+#endif
+
+/* A handle: one caller of a dictionary. */
+typedef struct ks_caller {
+    void *at;
+} ks_caller;
+
+#define KS_NO_CALLER {0}
+
+/* A value of 128 bits: high * 2^64 + low. */
+typedef struct ks_wide {
+    uint64_t low, high;
+} ks_wide;
+
+/* What a call returns beside its code, in the fields that the code names. */
+typedef struct ks_answer {
+    uint64_t number;    /* of the call in the one history of all calls, from 0; with KS_NOTHING, KS_VALUE, KS_FULL */
+    ks_wide value;      /* that the key had before the call; with KS_VALUE */
+    uint32_t node;      /* that another caller held, and that caller, from 0; with KS_BUSY */
+    uint32_t holder;
+} ks_answer;
+
+/* The codes. With the first three the call is one of the history; with all others it did nothing. */
+enum {
+    KS_NOTHING = 0,     /* done: the key had no value; of ks_open and ks_close: done */
+    KS_VALUE = 1,       /* done: the key had a value */
+    KS_FULL = 2,        /* done: a put or an add found no room and no free node; the map is as before */
+    KS_BUSY = 3,        /* another caller holds a node on the search path: make the call again */
+    KS_LATER = 4,       /* put off for another cause; it never comes */
+    KS_CLOSED = 16,     /* the handle is not open */
+    KS_BAD_SIZE = 17,   /* not 4 to 1048576 nodes, or not 1 to 1024 callers */
+    KS_NO_MEMORY = 18,  /* memory ran out */
+    KS_IN_USE = 19,     /* a handle given to ks_open is open */
+    KS_NULL = 20         /* a pointer is null */
+};
+
+uint32_t ks_c_open(uint32_t nodes, ks_caller *callers, size_t count);
+uint32_t ks_c_get(ks_caller *caller, uint64_t key, ks_answer *answer);
+uint32_t ks_c_put(ks_caller *caller, uint64_t key, uint64_t low, uint64_t high, ks_answer *answer);
+uint32_t ks_c_add(ks_caller *caller, uint64_t key, uint64_t low, uint64_t high, ks_answer *answer);
+uint32_t ks_c_swap(ks_caller *caller, uint64_t key, uint64_t old_low, uint64_t old_high, uint64_t new_low,
+                   uint64_t new_high, ks_answer *answer);
+uint32_t ks_c_del(ks_caller *caller, uint64_t key, ks_answer *answer);
+uint32_t ks_c_close(ks_caller *caller);
+
+/* The value low, with 0 above it. */
+static inline ks_wide ks_value(uint64_t low) {
+    ks_wide value = {low, 0};
+    return value;
+}
+
+/* Opens an empty dictionary of `nodes` nodes, and a handle for each of its `count` callers. A node has at most 16 pairs.
+ * Returns KS_NOTHING, KS_NULL, KS_BAD_SIZE, KS_IN_USE or KS_NO_MEMORY; with all but the first the handles stay as they
+ * are. */
+static inline uint32_t ks_open(uint32_t nodes, ks_caller *callers, size_t count) {
+    return callers ? ks_c_open(nodes, callers, count) : (uint32_t)KS_NULL;
+}
+
+/* Finds the value of a key. Returns KS_NOTHING, KS_VALUE, KS_BUSY, KS_CLOSED or KS_NULL, as do the next four. */
+static inline uint32_t ks_get(ks_caller *caller, uint64_t key, ks_answer *answer) {
+    return caller && answer ? ks_c_get(caller, key, answer) : (uint32_t)KS_NULL;
+}
+
+/* Sets the value of a key; the answer has the one before. Also returns KS_FULL. */
+static inline uint32_t ks_put(ks_caller *caller, uint64_t key, ks_wide value, ks_answer *answer) {
+    return caller && answer ? ks_c_put(caller, key, value.low, value.high, answer) : (uint32_t)KS_NULL;
+}
+
+/* Sets the value of a key that has none; else the value stays, and is in the answer. Also returns KS_FULL. */
+static inline uint32_t ks_add(ks_caller *caller, uint64_t key, ks_wide value, ks_answer *answer) {
+    return caller && answer ? ks_c_add(caller, key, value.low, value.high, answer) : (uint32_t)KS_NULL;
+}
+
+/* Sets the value of a key to `after` if and only if it is `before`. The answer has the value that the key had. */
+static inline uint32_t ks_swap(ks_caller *caller, uint64_t key, ks_wide before, ks_wide after, ks_answer *answer) {
+    return caller && answer ? ks_c_swap(caller, key, before.low, before.high, after.low, after.high, answer)
+                            : (uint32_t)KS_NULL;
+}
+
+/* Deletes a key; the answer has the value that it had. */
+static inline uint32_t ks_del(ks_caller *caller, uint64_t key, ks_answer *answer) {
+    return caller && answer ? ks_c_del(caller, key, answer) : (uint32_t)KS_NULL;
+}
+
+/* Closes a handle. The dictionary's memory is freed with its last one. Returns KS_NOTHING, KS_CLOSED or KS_NULL. */
+static inline uint32_t ks_close(ks_caller *caller) {
+    return caller ? ks_c_close(caller) : (uint32_t)KS_NULL;
+}
+
+#ifdef __cplusplus
+}
+#endif
+
+#endif
