@@ -5,19 +5,19 @@ ghost use Rattle.ks_history.specs.Map.{told};
 ghost use Rattle.ks_node.specs.declared.start.Next.TheVariants.{Here};
 ghost use Rattle.ks_node.specs.Body.{next_at};
 ghost use Rattle.ks_arena.specs.Clauses.{hand_of};
-ghost use Rattle.ks_arena.specs.Of.{Holds, IsCurrent, IsEmptyPassOf, IsInside, IsLiveAndCurrent, IsPassOf, SeesOn, StayCurrentBut, WasAlone, SameCaller, caller_of};
+ghost use Rattle.ks_arena.specs.Of.{Holds, HasDecided, IsCurrent, IsEmptyPassOf, IsInside, IsLiveAndCurrent, IsPassOf, IsReadyAt, SeesOn, StayCurrentBut, WasAlone, SameCaller, caller_of};
 ghost use Rattle.ks_shape.specs.Of.{FinishesAny, SearchEndsAt};
 ghost use Rattle.ks_tidy.specs.Of.{DecidesAny, IsKeptAt, IsPairOf, IsTidyOf};
 ghost use Rattle.ks_shape.specs.Does.{OnlyDels, OnlySearches};
 
 use crate::descent::{leave, pair_tidy, tidy_end};
-use ks_arena::{Arena, Held, Pass};
+use ks_arena::{Arena, Decision, Held, Pass};
 use ks_bodies::tidied_law;
 use ks_flow::{Tree, tidy_law};
 use ks_gate::{Gate, Point};
-use ks_history::Op;
 use ks_node::{Unlinked, node_law, unlinked_law};
-use ks_shape::{Numbered, Path, reply_of, search_law};
+use ks_shape::{Numbered, Path, search_law};
+use std::marker::Brand;
 use std::sync::Wait;
 
 /// Deletes what is at a place, at a held node where the search for the place ends, and keeps the node. Returns what was
@@ -50,9 +50,31 @@ pub(crate) fn delete<N: Unlinked, G: Gate>(
     node_law(&held.body);
     arena.del_law(pass, held, place);
     let found = held.body.del(place);
-    let number = arena.decide(pass, held, Op::Del(place), reply_of(found));
+    let number = del_told::<Brand, N>(arena, pass, held, place, found);
     gate.at(pass.caller(), Point::Decided(number));
     Numbered { number, found }
+}
+
+/// Decides as its type says: a del at a held node, with what was found there as its reply. Returns the number of the call.
+#[inline(always)]
+fn del_told<W: Decision, N: Unlinked>(
+    arena: &Arena<N, Tree>,
+    pass: &mut Pass<N, Tree>,
+    held: &Held<N>,
+    place: u64,
+    found: Option<u128>,
+) -> u64
+    requires op { W.op ≡ Del place }
+    requires reply { W.reply ≡ told found }
+    requires pass { IsPassOf arena.now pass.old }
+    requires holds { Holds pass.old held.now.node }
+    requires ready { IsReadyAt arena.now pass.old held.now (Del place) (told found) }
+    ensures pass { IsPassOf arena.now pass.new }
+    ensures caller { SameCaller pass.old pass.new }
+    ensures decided { HasDecided arena.now held.now (Del place) (told found) pass.old pass.new result }
+    ensures body { IsCurrent arena.now pass.new held.now }
+{
+    arena.decide_as::<W>(pass, held)
 }
 
 /// Deletes what is at a place, at the node of a path where the search for the place ends, and releases all. If it
