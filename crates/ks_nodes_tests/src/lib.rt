@@ -8,6 +8,8 @@
 #[cfg(test)]
 mod asked;
 #[cfg(test)]
+mod listing;
+#[cfg(test)]
 mod plain;
 #[cfg(test)]
 mod tests;

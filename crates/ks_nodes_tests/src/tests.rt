@@ -1,12 +1,14 @@
 ghost use Rattle.std.specs.Prelude.{◌<◌};
 
 use crate::asked;
+use crate::listing::lists;
 use crate::trial::Trial;
+use ks_boxed::Boxed;
 use ks_bplus::BNode;
 use ks_hash::HNode;
 use ks_linked::WithLink;
 use ks_list::ListNode;
-use ks_node::{Linked, Node, Ranged, Unlinked, WithRange};
+use ks_node::{Linked, Listed, Node, Ranged, Unlinked, WithRange};
 use std::alloc::Global;
 use std::process::Abort;
 
@@ -90,6 +92,37 @@ fn chains<N: Unlinked + Ranged>(rt: &impl Abort, alloc: Global, length: u64) {
     first.absorb(rt, &mut last);
 }
 
+/// A node with no pair, and one with a pair at the last place, list the pairs of spans.
+fn lists_few<N: Listed>(rt: &impl Abort, alloc: Global) {
+    let mut node = asked::blank::<N>(rt, alloc);
+    lists(rt, &node);
+    assert_eq!(rt; asked::put(rt, &mut node, 4, 40), None);
+    assert_eq!(rt; asked::put(rt, &mut node, u64::MAX, 7), None);
+    lists(rt, &node);
+}
+
+/// A full leaf, the branch that it becomes, and its halves list the pairs of spans.
+fn lists_when_grown<N: Unlinked + Listed>(rt: &impl Abort, alloc: Global) {
+    let mut root = Trial::<N>::blank(rt, alloc, 1);
+    root.fill(rt, 0, 64, 4);
+    lists(rt, &root.node);
+    let (left, right) = root.grow(rt, alloc, 32, [1, 2]);
+    lists(rt, &root.node);
+    lists(rt, &left.node);
+    lists(rt, &right.node);
+}
+
+/// The same of nodes with links.
+fn lists_when_grown_linked<N: Linked + Listed>(rt: &impl Abort, alloc: Global) {
+    let mut root = Trial::<N>::blank(rt, alloc, 1);
+    root.fill(rt, 0, 64, 4);
+    lists(rt, &root.node);
+    let (left, right) = root.grow_link(rt, alloc, 32, [1, 2]);
+    lists(rt, &root.node);
+    lists(rt, &left.node);
+    lists(rt, &right.node);
+}
+
 // (those with only a range or only a link begin blank, and are filled, in the tests below)
 #[test]
 fn blank_nodes_keep_a_pair(rt: HostRuntime) {
@@ -119,4 +152,16 @@ fn nodes_with_a_range_split_and_merge(rt: HostRuntime) {
 fn nodes_with_a_range_chain_and_merge(rt: HostRuntime) {
     chains::<WithRange<ListNode>>(&rt, rt.alloc(), 1);
     chains::<WithRange<HNode>>(&rt, rt.alloc(), SLICE);
+}
+
+#[test]
+fn nodes_list_the_pairs_of_spans(rt: HostRuntime) {
+    lists_few::<WithRange<BNode>>(&rt, rt.alloc());
+    lists_few::<WithLink<BNode>>(&rt, rt.alloc());
+    lists_few::<Boxed<WithRange<BNode>>>(&rt, rt.alloc());
+    lists_few::<Boxed<WithLink<BNode>>>(&rt, rt.alloc());
+    lists_when_grown::<WithRange<BNode>>(&rt, rt.alloc());
+    lists_when_grown::<Boxed<WithRange<BNode>>>(&rt, rt.alloc());
+    lists_when_grown_linked::<WithLink<BNode>>(&rt, rt.alloc());
+    lists_when_grown_linked::<Boxed<WithLink<BNode>>>(&rt, rt.alloc());
 }
