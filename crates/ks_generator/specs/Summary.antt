@@ -38,7 +38,7 @@ lines_of_summary callers calls found none full pairs sum =
     codes "callers " ++ (decimal callers ++ (codes "\ncalls " ++ (decimal calls ++ (codes "\nfound " ++ (decimal found ++ (codes "\nnone " ++ (decimal none
     ++ (codes "\nfull " ++ (decimal full ++ (codes "\npairs " ++ (decimal pairs ++ (codes "\nsum " ++ (decimal sum ++ codes "\n")))))))))))))
 
--- the script has so many callers, and so many calls
+-- the script has this number of callers, and this number of calls
 pub record IsSize (size : Size) (script : List (List Op)) : Type 0 where
   pub callers : size.callers ≡ length script
   pub calls : size.calls ≡ calls_in script

@@ -1,4 +1,4 @@
--- What the line of a call tells.
+-- What the line of a call says.
 use Rattle.std.proofs.Common.{ℕ, ◌≡◌, List, drop, get_or, ap, ◌∙◌, arith, codes}
 use Rattle.ks_history.specs.declared.Op.{Op}
 use Rattle.ks_history.specs.declared.Op.TheVariants.{Get, Put, Del, Add, Swap}

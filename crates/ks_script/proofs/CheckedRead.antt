@@ -84,8 +84,8 @@ from_checked w s run ls h = (h.is_run, record { is = h.is_script; apart = run_ap
 to_checked : (w : Version) (s : List (List Op)) (run : Run) (ls : Lines) → IsRunOf s run × TextLeft w s (behind run) ls → SpellsChecked w s run ls
 to_checked w s run ls h = record { is_script = h.1.is; is_run = h.0; lines_are = h.1.lines_are }
 
--- texts of a script and a run that begin with these lines: the script is the one that was read, and the rest is that run of
--- it
+-- texts of a script and a run that begin with these lines: the script is the one that was read, and the rest is that run
+-- of it
 abbrev pub Behind : Version → List (List Op) → Version → List (List Op) → Run → Lines → Type 0
 Behind v all w s run ls = (w ≡ v) × (s ≡ all) × SpellsRun all run ls
 
@@ -162,7 +162,7 @@ module _ (v : Version) (all : List (List Op)) (bytes text : List ℕ) (n : ℕ) 
       let b = r.leads.only (lines_of text) (subst (SpellsChecked h.0 s run) r.lines_are h.1) in
       (b.1, b.2)
 
--- what is answered of a text is what is due
+-- what is returned for a text is what is due
 pub checked_given : (bytes : List ℕ) (r : Result (List (List Op) × Run) TextFault) (s : List (List Op)) (run : Run) → Answers r (λ x. CheckedOf bytes x.0 x.1) (FirstBadOfChecked bytes) → IfOk r (λ x. (s : List (List Op)) (run : Run) → CheckedOf bytes s run → (s ≡ x.0) × (run ≡ x.1)) → CheckedOf bytes s run → Gives r (Ok (s, run))
 checked_given bytes (Ok x) s run h only k =
     let same = only s run k in

@@ -1,4 +1,4 @@
--- Numbers that bytes begin with, told by their bytes: no digit follows them.
+-- Numbers that bytes begin with, exactly: no digit follows them.
 use Rattle.std.proofs.Common.{ℕ, zero, suc, ◌≡◌, ◌+◌, ◌-◌, ◌*◌, ◌^◌, ◌<◌, ◌≤◌, ◌⊎◌, true, false, List, [], ◌∷◌, ◌++◌, length, take, drop, get_or, refl, sym, ap, subst, ◌∙◌, arith, rules, length-append, inl, inr}
 use Rattle.std.proofs.lemmas.List.{take-append-drop, length-take-le}
 use Rattle.std.proofs.lemmas.Bool.{false≢true}
@@ -86,7 +86,7 @@ from_nothing bytes rest n small e = record {
   value = sym (value_read (decimal n) (digits_of_number n small) ∙ value_of_digits n small) ∙ omega arith;
 }
 
--- so many digits of which the first is not 0
+-- `count` digits of which the first is not 0
 pub great : (bytes : List ℕ) (count i n : ℕ) → count ≡ i + 1 → count ≤ length bytes → all_ascii_digits (take count bytes) ≡ true → (get_or bytes 0 0 ≡ 48 → ⊥) → digits_value 10 (take count bytes) ≡ n → 10 ^ i ≤ n
 great bytes zero i n many le all lead value = absurd (omega arith)
 great [] (suc k) i n many le all lead value = absurd (omega arith)
@@ -107,7 +107,7 @@ starts (d ∷ ds) bytes rest some all free e = false≢true (sym (subst NoDigit 
 pub no_number : (n : ℕ) (bytes rest : List ℕ) → n < 2 ^ 128 → NoDigit bytes → bytes ≡ decimal n ++ rest → ⊥
 no_number n bytes rest small free e = starts (decimal n) bytes rest (some_digits n small) (digits_of_number n small) free e
 
--- no number is spelled where no digit stands, or where one stands behind a 0
+-- no number is spelled where no digit is, or one is behind a 0
 pub unspelled : (bytes rest : List ℕ) (count n : ℕ) → n < 2 ^ 128 → NoDigit rest → count ≤ length bytes → all_ascii_digits (take count bytes) ≡ true → (count < 16 → NoDigit (drop count bytes)) → (count ≡ 0) ⊎ ((get_or bytes 0 0 ≡ 48) × (1 < count)) → bytes ≡ decimal n ++ rest → ⊥
 unspelled bytes rest count n small free le all stops which e =
     elim which [

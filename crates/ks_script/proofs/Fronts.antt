@@ -42,7 +42,7 @@ digit_at [] (suc k) i all le lt = absurd (omega arith)
 digit_at (b ∷ bytes) (suc k) zero all le lt = (both (is_ascii_digit b) (all_ascii_digits (take k bytes)) all).0
 digit_at (b ∷ bytes) (suc k) (suc i) all le lt = digit_at bytes k i (both (is_ascii_digit b) (all_ascii_digits (take k bytes)) all).1 (omega arith) (omega arith)
 
--- so many digits are worth what their bytes are
+-- k digits are worth what their bytes are
 pub worth_read : (bytes : List ℕ) (k : ℕ) → k ≤ length bytes → read_on 0 (take k bytes) ≡ worth (λ i. get_or bytes i 0) k
 worth_read bytes zero le = refl
 worth_read bytes (suc k) le =
@@ -72,7 +72,7 @@ read_sum m n (c ∷ ds) =
 pub joined : (a b : List ℕ) → read_on 0 (a ++ b) ≡ read_on 0 a * 10 ^ length b + read_on 0 b
 joined a b = read_append 0 a b ∙ (ap (λ (k : ℕ). read_on k b) (omega arith) ∙ read_sum (read_on 0 a) 0 b)
 
--- so many digits make a number below the power of ten
+-- digits make a number below the power of ten
 pub below_power : (ds : List ℕ) → all_ascii_digits ds ≡ true → read_on 0 ds < 10 ^ length ds
 below_power [] h = omega arith
 below_power (c ∷ ds) h =
@@ -94,7 +94,7 @@ all_split (c ∷ a) b h =
     let rest = all_split a b parts.1 in
     (ap (λ t. t && all_ascii_digits a) parts.0 ∙ rest.0, rest.1)
 
--- so many digits, and then some more
+-- i digits, and then j more
 pub digits_parts : (bytes : List ℕ) (i j count : ℕ) → count ≡ i + j → all_ascii_digits (take count bytes) ≡ true → (all_ascii_digits (take i bytes) ≡ true) × (all_ascii_digits (take j (drop i bytes)) ≡ true)
 digits_parts bytes i j count e all = all_split (take i bytes) (take j (drop i bytes)) (ap all_ascii_digits (sym (take-add i j bytes) ∙ ap (λ (k : ℕ). take k bytes) (sym e)) ∙ all)
 

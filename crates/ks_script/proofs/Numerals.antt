@@ -8,7 +8,7 @@ use Rattle.std.specs.Char.{digit_value}
 use Rattle.std.specs.Str.{all_ascii_digits}
 use Rattle.std.specs.Str.Parse.{AllDigits, digits_value, digits_value_after}
 
--- what digits stand for, after a number that was read before them
+-- what digits are worth, after a number that was read before them
 abbrev pub read_on : ℕ → List ℕ → ℕ
 read_on n [] = n
 read_on n (c ∷ cs) = read_on (10 * n + (c - 48)) cs
@@ -16,7 +16,7 @@ read_on n (c ∷ cs) = read_on (10 * n + (c - 48)) cs
 own : IsNumeralModel (λ ds. all_ascii_digits ds ≡ true) (read_on 0)
 own = numerals_by_fold _ (search rules) read_on (search rules)
 
--- the value of digits is what they stand for
+-- the value of digits is what they are worth
 pub value_read : (ds : List ℕ) → all_ascii_digits ds ≡ true → digits_value 10 ds ≡ read_on 0 ds
 value_read ds all = sym (own.same ds (own.to ds all))
 

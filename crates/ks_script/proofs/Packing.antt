@@ -1,4 +1,4 @@
--- Small entries that stand for entries beside lists of longer ones.
+-- Small entries that represent entries beside lists of longer ones.
 use Rattle.std.proofs.Common.{◌≡◌, ◌++◌, List, [], ◌∷◌, map, refl, ◌∙◌, ap, Result, Ok, Err, OnErr}
 use Rattle.std.specs.Prelude.{All}
 use Rattle.std.proofs.lemmas.List.{map_push}

@@ -13,7 +13,7 @@ pub value_small : (version : Version) (v : ℕ) → v < value_limit version → 
 value_small First v h = wide v h
 value_small Second v h = h
 
--- a number, a space and the rest are told by their bytes
+-- the bytes of a number, a space and the rest are those of no other
 pub spaced : (m n : ℕ) (a b : List ℕ) → m < 2 ^ 128 → n < 2 ^ 128 → decimal m ++ codes " " ++ a ≡ decimal n ++ codes " " ++ b → (m ≡ n) × (a ≡ b)
 spaced m n a b h k e =
     let parts = one_cut 32 (decimal m) a (decimal n) b (decimal_lacks 32 refl m h) (decimal_lacks 32 refl n k) (sym (append_assoc (decimal m) (codes " ") a) ∙ (e ∙ append_assoc (decimal n) (codes " ") b)) in

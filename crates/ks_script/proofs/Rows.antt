@@ -1,4 +1,4 @@
--- Calls and replies: what tells their lines apart.
+-- Calls and replies: how their lines differ.
 use Rattle.std.proofs.Common.{ℕ, ◌≡◌, ◌^◌, ◌<◌, List, ◌++◌, length, drop, get_or, codes, refl, sym, ap, subst, ◌∙◌, arith, length-append}
 use Rattle.std.specs.Fmt.{decimal}
 use Rattle.ks_history.specs.declared.Op.{Op}

@@ -21,7 +21,7 @@ use Rattle.ks_script.proofs.Numerals.{wide}
 use Rattle.ks_script.proofs.Cuts.{lines_first, decimal_lacks}
 use Rattle.ks_script.proofs.Pairs.{value_small}
 
--- whether the byte stands there
+-- whether the byte is among the bytes
 abbrev pub stands : ℕ → List ℕ → Bool
 stands c [] = false
 stands c (b ∷ bytes) = eqb b c || stands c bytes

@@ -161,7 +161,7 @@ module _ (version : Version) where
       by_more [] (o ∷ others) e f = absurd (omega (arith, ap (λ (ls : Lines). length ls) f))
       by_more (m ∷ more) others e f = absurd (omega (arith, ap (λ (ls : Lines). length ls) f))
 
--- the version: where no line tells it, the first `caller` does
+-- the version: if no line says it, the first `caller` does
 told_first : (script : List (List Op)) (behind ls : Lines) → NotFirst (codes "script 2") behind → codes "script 2" ∷ ls ≡ script_lines script ++ behind → ⊥
 told_first [] behind ls apart e = subst (NotFirst (codes "script 2")) (sym e) apart refl
 told_first (o ∷ script) behind ls apart e = omega (arith, ap (λ (ls : Lines). get_or (get_or ls 0 []) 0 0) e)
@@ -186,7 +186,7 @@ untold_step Second script behind = record {
   only = λ ls h. absurd (omega (arith, ap (λ (ls : Lines). get_or (get_or ls 0 []) 0 0) h.lines_are));
 }
 
--- the first `caller`, whether a line told the version or not
+-- the first `caller`, whether a line said the version or not
 told_step : (v w : Version) (script : List (List Op)) (behind : Lines) → Leads (Told v w script behind) (λ ls. (w ≡ v) × CallsLeft v [] [] script behind ls) (codes "caller" ∷ [])
 told_step First w script behind = untold_step w script behind
 told_step Second w script behind = leads_beside (w ≡ Second) (ScriptLeft Second script behind) (CallsLeft Second [] [] script behind) (codes "caller" ∷ []) (first_caller Second script behind)

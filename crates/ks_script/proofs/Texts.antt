@@ -13,7 +13,7 @@ text_append (l ∷ ls) ms = ap (λ (x : List ℕ). ended l ++ x) (text_append ls
 pub text_push : (ls : List (List ℕ)) (l : List ℕ) → text_of (ls ++ l ∷ []) ≡ text_of ls ++ ended l
 text_push ls l = text_append ls (l ∷ []) ∙ ap (λ (x : List ℕ). text_of ls ++ x) (append-nil (ended l))
 
--- the list up to an element that stands at i
+-- the list up to the element at i
 pub taken_with : {X : Type 0} (xs : List X) (i : ℕ) (x : X) → i < length xs → x ≡ get_or xs i x → take (i + 1) xs ≡ take i xs ++ x ∷ []
 taken_with xs i x h e = take_more xs i x h ∙ ap (λ y. take i xs ++ y ∷ []) (sym e)
 
