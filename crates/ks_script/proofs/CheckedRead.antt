@@ -2,7 +2,6 @@
 use Rattle.std.proofs.Common.{ℕ, ◌≡◌, ◌+◌, List, [], ◌∷◌, ◌++◌, length, map, drop, get_or, codes, refl, sym, ap, subst, ◌∙◌, append-nil, arith, length-append, Ok, Err, Result}
 use Rattle.std.specs.Prelude.{IfOk}
 use Rattle.ks_history.specs.declared.Op.{Op}
-use Rattle.ks_history.specs.declared.Op.TheVariants.{Get, Put, Del, Add, Swap}
 use Rattle.ks_script.specs.declared.fault.TextFault.{TextFault}
 use Rattle.ks_script.specs.declared.fault.TextFault.TheVariants.{Refused, Memory}
 use Rattle.ks_script.specs.declared.version.Version.{Version}
@@ -18,6 +17,7 @@ use Rattle.ks_script.specs.Left.{Apart, TextLeft, CallsLeft, Told, CallersRead, 
 use Rattle.ks_script.specs.RunLeft.{SpellsRun, AreRun}
 use Rattle.ks_script.proofs.Refusals.{bad_no_text, one_bad}
 use Rattle.ks_script.proofs.Leading.{bad_same, refused_at, behind_bad}
+use Rattle.ks_script.proofs.CallLines.{first, not_call}
 use Rattle.ks_script.proofs.Steps.{reads_line, reads_as, reads_beside}
 use Rattle.ks_script.proofs.ScriptRead.{left_told, left_calls, stuck_told, stuck_calls}
 use Rattle.ks_script.proofs.RunRead.{blanks, whole_run}
@@ -27,15 +27,8 @@ abbrev pub behind : Run → Lines
 behind run = codes "run" ∷ run_lines run
 
 -- they begin with nothing of a script
-run_no_call : (op : Op) → codes "run" ≡ call_line op → ⊥
-run_no_call (Get k) e = omega (arith, ap (λ (l : List ℕ). get_or l 0 0) e)
-run_no_call (Put k x) e = omega (arith, ap (λ (l : List ℕ). get_or l 0 0) e)
-run_no_call (Del k) e = omega (arith, ap (λ (l : List ℕ). get_or l 0 0) e)
-run_no_call (Add k x) e = omega (arith, ap (λ (l : List ℕ). get_or l 0 0) e)
-run_no_call (Swap k x y) e = omega (arith, ap (λ (l : List ℕ). get_or l 0 0) e)
-
 run_apart : (v : Version) (ls : Lines) → Apart v (codes "run" ∷ ls)
-run_apart v ls = record { no_version = λ e. omega (arith, ap (λ (l : List ℕ). get_or l 0 0) e); no_caller = λ e. omega (arith, ap (λ (l : List ℕ). get_or l 0 0) e); no_call = λ op is e. run_no_call op e }
+run_apart v ls = record { no_version = λ e. omega (arith, ap first e); no_caller = λ e. omega (arith, ap first e); no_call = λ op is e. (not_call op).1 (sym (ap first e)) }
 
 abbrev first_byte : Lines → ℕ
 first_byte ls = get_or (get_or ls 0 []) 0 0
@@ -68,7 +61,7 @@ module _ (v : Version) (run : Run) where
       by_more : (more : List Op) (others : List (List Op)) → s ≡ callers ++ (ops ++ more) ∷ others → codes "run" ∷ ls ≡ map call_line more ++ (script_lines others ++ behind run) → (s ≡ all) × (ls ≡ run_lines run)
       by_more [] [] e f = (e ∙ (ap (λ (xs : List Op). callers ++ xs ∷ []) (append-nil ops) ∙ sym all_are), ap (λ (ls : Lines). drop 1 ls) f)
       by_more [] (o ∷ others) e f = absurd (omega (arith, ap first_byte f))
-      by_more (m ∷ more) others e f = absurd (run_no_call m (ap (λ (ls : Lines). get_or ls 0 []) f))
+      by_more (m ∷ more) others e f = absurd ((not_call m).1 (sym (ap first_byte f)))
 
   calls_run : (callers : List (List Op)) (ops : List Op) (s all : List (List Op)) → all ≡ callers ++ ops ∷ [] → IsScript v all → Leads (CallsLeft v callers ops s (behind run)) (λ ls. (s ≡ all) × (ls ≡ run_lines run)) (codes "run" ∷ [])
   calls_run callers ops s all all_are is = record {

@@ -1,7 +1,7 @@
 -- Numbers that bytes begin with, exactly: no digit follows them.
 use Rattle.std.proofs.Common.{ℕ, zero, suc, ◌≡◌, ◌+◌, ◌-◌, ◌*◌, ◌^◌, ◌<◌, ◌≤◌, ◌⊎◌, true, false, List, [], ◌∷◌, ◌++◌, length, take, drop, get_or, refl, sym, ap, subst, ◌∙◌, arith, rules, length-append, inl, inr}
-use Rattle.std.proofs.lemmas.List.{take-append-drop, length-take-le}
-use Rattle.std.proofs.lemmas.Bool.{false≢true}
+use Rattle.std.proofs.lemmas.List.{take-append-drop, length-take-le, get_or_append_left, get_or-take}
+use Rattle.std.proofs.lemmas.Bool.{false≢true, and_parts}
 use Rattle.std.proofs.lemmas.Bool.Decides.{eqb_tells}
 use Rattle.std.proofs.lemmas.Nat.{pow-add}
 use Rattle.std.proofs.Math.Nat.{mul-le-mul_right}
@@ -12,8 +12,8 @@ use Rattle.std.specs.Str.Parse.{digits_value}
 use Rattle.ks_script.specs.Numeral.{NoDigit, ReadOn}
 use Rattle.ks_script.proofs.Numerals.{value_read, read_on, digits_of_number, value_of_digits, some_digits}
 use Rattle.ks_script.proofs.Cuts.{zero_first, read_on_least}
-use Rattle.ks_script.proofs.Fronts.{both, read_sum, first_kept}
-use Rattle.ks_script.proofs.Onward.{value_joined, first_of}
+use Rattle.ks_script.proofs.Fronts.{read_sum}
+use Rattle.ks_script.proofs.Onward.{value_joined}
 
 -- digits with no digit after them, where other digits are the first ones: these are the first ones of those
 pub record GoesOn (a x b y : List ℕ) : Type 0 where
@@ -24,11 +24,11 @@ pub record GoesOn (a x b y : List ℕ) : Type 0 where
 
 pub goes_on : (a x b y : List ℕ) → all_ascii_digits a ≡ true → all_ascii_digits b ≡ true → NoDigit y → a ++ x ≡ b ++ y → GoesOn a x b y
 goes_on [] x b y da db free e = record { more = b; are = db; whole = refl; rest = e }
-goes_on (c ∷ a) x [] y da db free e = absurd (false≢true (sym (subst NoDigit (sym e) free) ∙ (both (is_ascii_digit c) (all_ascii_digits a) da).0))
+goes_on (c ∷ a) x [] y da db free e = absurd (false≢true (sym (subst NoDigit (sym e) free) ∙ (and_parts (is_ascii_digit c) (all_ascii_digits a) da).0))
 goes_on (c ∷ a) x (d ∷ b) y da db free e =
     let tails : a ++ x ≡ b ++ y = cc in
     let heads : c ≡ d = cc in
-    let h = goes_on a x b y (both (is_ascii_digit c) (all_ascii_digits a) da).1 (both (is_ascii_digit d) (all_ascii_digits b) db).1 free tails in
+    let h = goes_on a x b y (and_parts (is_ascii_digit c) (all_ascii_digits a) da).1 (and_parts (is_ascii_digit d) (all_ascii_digits b) db).1 free tails in
     record { more = h.more; are = h.are; whole = (λ i. sym heads i ∷ h.whole i); rest = h.rest }
 
 -- a number that is read on is not less than its front
@@ -92,7 +92,7 @@ great bytes zero i n many le all lead value = absurd (omega arith)
 great [] (suc k) i n many le all lead value = absurd (omega arith)
 great (c ∷ bytes) (suc k) i n many le all lead value =
     let ds : List ℕ = take k bytes in
-    let is : 1 ≤ c - 48 = some c (both (is_ascii_digit c) (all_ascii_digits ds) all).0 lead in
+    let is : 1 ≤ c - 48 = some c (and_parts (is_ascii_digit c) (all_ascii_digits ds) all).0 lead in
     let step : read_on 0 (c ∷ ds) ≡ (c - 48) * 10 ^ length ds + read_on 0 ds = ap (λ (m : ℕ). read_on m ds) (omega arith) ∙ read_sum (c - 48) 0 ds in
     let long : length ds ≡ i = length-take-le k bytes (omega arith) ∙ omega arith in
     omega (arith, value_read (c ∷ ds) all, step, mul-le-mul_right (10 ^ length ds) is, ap (λ (m : ℕ). 10 ^ m) long)
@@ -102,7 +102,7 @@ great (c ∷ bytes) (suc k) i n many le all lead value =
 
 starts : (ds bytes rest : List ℕ) → 0 < length ds → all_ascii_digits ds ≡ true → NoDigit bytes → bytes ≡ ds ++ rest → ⊥
 starts [] bytes rest some all free e = absurd (omega arith)
-starts (d ∷ ds) bytes rest some all free e = false≢true (sym (subst NoDigit e free) ∙ (both (is_ascii_digit d) (all_ascii_digits ds) all).0)
+starts (d ∷ ds) bytes rest some all free e = false≢true (sym (subst NoDigit e free) ∙ (and_parts (is_ascii_digit d) (all_ascii_digits ds) all).0)
 
 pub no_number : (n : ℕ) (bytes rest : List ℕ) → n < 2 ^ 128 → NoDigit bytes → bytes ≡ decimal n ++ rest → ⊥
 no_number n bytes rest small free e = starts (decimal n) bytes rest (some_digits n small) (digits_of_number n small) free e
@@ -117,5 +117,5 @@ unspelled bytes rest count n small free le all stops which e =
           let long : length ds ≡ count = length-take-le count bytes le in
           let g = goes_on ds (drop count bytes) (decimal n) rest all (digits_of_number n small) free (take-append-drop count bytes ∙ e) in
           let many = lead.1 in
-          zero_first (decimal n) (ap (λ (x : List ℕ). get_or x 0 0) g.whole ∙ (first_of ds g.more (omega arith) ∙ (first_kept bytes count (omega arith) ∙ lead.0))) (omega (arith, ap length g.whole, length-append ds g.more)) n small refl)
+          zero_first (decimal n) (ap (λ (x : List ℕ). get_or x 0 0) g.whole ∙ (get_or_append_left ds g.more 0 0 (omega arith) ∙ (get_or-take count bytes 0 0 (omega arith) ∙ lead.0))) (omega (arith, ap length g.whole, length-append ds g.more)) n small refl)
     ]

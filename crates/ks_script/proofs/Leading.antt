@@ -86,16 +86,6 @@ bad_same G K lines n to from bad = record {
       ];
 }
 
--- where the first line of the rest cannot come next, and some lines can, it is the first bad one
-pub refused_at : {X : Type 0} (G H : X → Lines → Type 0) (bytes rest : List ℕ) (n : ℕ) → ((x : X) → Reads (G x) (H x) bytes rest n) → (x : X) (some : Lines) → H x some → ((x : X) (l : List ℕ) (ls more : Lines) → lines_of rest ≡ l ∷ ls → H x (l ∷ more) → ⊥) → (lines_of rest ≡ [] → (x : X) → H x [] → ⊥) → FirstBad (λ ls. (x : X) × G x ls) (lines_of bytes) (n + 1)
-refused_at {X = X} G H bytes rest n reads x some may stuck missing =
-    let front : Lines = take n (lines_of bytes) in
-    let parts = leads_taken (G x) (H x) bytes rest n (reads x) in
-    let leads = leads_some {X = X} G H front (λ y. (leads_taken (G y) (H y) bytes rest n (reads y)).0) in
-    let at = bad_first (λ ls. (y : X) × H y ls) (lines_of rest) (some, (x, may)) (λ l ls more e h. stuck h.0 l ls more e h.1) (λ e h. missing e h.0 h.1) in
-    subst (FirstBad (λ ls. (y : X) × G y ls) (lines_of bytes)) (let e : length front + 1 ≡ n + 1 = omega (arith, parts.2) in e)
-    (leads_bad (λ ls. (y : X) × G y ls) (λ ls. (y : X) × H y ls) (lines_of bytes) front (lines_of rest) 1 leads parts.1 at)
-
 -- what is first bad behind the lines that were read is first bad in all
 pub behind_bad : {X : Type 0} (G H : X → Lines → Type 0) (bytes rest : List ℕ) (n k : ℕ) → ((x : X) → Reads (G x) (H x) bytes rest n) → X → FirstBad (λ ls. (x : X) × H x ls) (lines_of rest) k → FirstBad (λ ls. (x : X) × G x ls) (lines_of bytes) (n + k)
 behind_bad {X = X} G H bytes rest n k reads x bad =
@@ -104,3 +94,8 @@ behind_bad {X = X} G H bytes rest n k reads x bad =
     let leads = leads_some {X = X} G H front (λ y. (leads_taken (G y) (H y) bytes rest n (reads y)).0) in
     subst (FirstBad (λ ls. (y : X) × G y ls) (lines_of bytes)) (let e : length front + k ≡ n + k = omega (arith, parts.2) in e)
     (leads_bad (λ ls. (y : X) × G y ls) (λ ls. (y : X) × H y ls) (lines_of bytes) front (lines_of rest) k leads parts.1 bad)
+
+-- where the first line of the rest cannot come next, and some lines can, it is the first bad one
+pub refused_at : {X : Type 0} (G H : X → Lines → Type 0) (bytes rest : List ℕ) (n : ℕ) → ((x : X) → Reads (G x) (H x) bytes rest n) → (x : X) (some : Lines) → H x some → ((x : X) (l : List ℕ) (ls more : Lines) → lines_of rest ≡ l ∷ ls → H x (l ∷ more) → ⊥) → (lines_of rest ≡ [] → (x : X) → H x [] → ⊥) → FirstBad (λ ls. (x : X) × G x ls) (lines_of bytes) (n + 1)
+refused_at {X = X} G H bytes rest n reads x some may stuck missing =
+    behind_bad {X = X} G H bytes rest n 1 reads x (bad_first (λ ls. (y : X) × H y ls) (lines_of rest) (some, (x, may)) (λ l ls more e h. stuck h.0 l ls more e h.1) (λ e h. missing e h.0 h.1))

@@ -1,13 +1,13 @@
 -- Numbers that are read on from their first digits.
-use Rattle.std.proofs.Common.{ℕ, ◌≡◌, ◌+◌, ◌*◌, ◌^◌, ◌<◌, ◌≤◌, true, List, ◌++◌, length, take, drop, get_or, sym, ap, ◌∙◌, append_assoc, arith, length-append, [], ◌∷◌, refl}
-use Rattle.std.proofs.lemmas.List.{take-append-drop, length-take-le}
+use Rattle.std.proofs.Common.{ℕ, ◌≡◌, ◌+◌, ◌*◌, ◌^◌, ◌<◌, ◌≤◌, true, List, ◌++◌, length, take, drop, get_or, sym, ap, ◌∙◌, append_assoc, arith, length-append}
+use Rattle.std.proofs.lemmas.List.{take-append-drop, length-take-le, get_or_append_left, get_or-take}
 use Rattle.std.proofs.lemmas.Nat.{pow-add}
 use Rattle.std.specs.Fmt.{decimal}
 use Rattle.std.specs.Str.{all_ascii_digits}
 use Rattle.std.specs.Str.Parse.{digits_value}
 use Rattle.ks_script.specs.Numeral.{ReadOn}
 use Rattle.ks_script.proofs.Numerals.{value_read, digits_spelled, read_on}
-use Rattle.ks_script.proofs.Fronts.{all_append, joined, first_kept}
+use Rattle.ks_script.proofs.Fronts.{all_append, joined}
 
 -- the first ones of the bytes
 pub one_part : (bytes rest : List ℕ) (front count back number p : ℕ) → count ≤ length bytes → all_ascii_digits (take count bytes) ≡ true → digits_value 10 (take count bytes) ≡ back → p ≡ 10 ^ count → rest ≡ drop count bytes → number ≡ front * p + back → ReadOn front bytes number rest
@@ -45,10 +45,6 @@ two_parts front number last bytes middle rest a b = record {
     sum_of : {x y m n : ℕ} → x ≡ m → y ≡ n → front * x + y ≡ front * m + n
     sum_of e f = cc
 
-pub first_of : (a b : List ℕ) → 0 < length a → get_or (a ++ b) 0 0 ≡ get_or a 0 0
-first_of [] b h = absurd (omega arith)
-first_of (x ∷ a) b h = refl
-
 -- with digits before them they spell the number
 pub onward_spelled : (bytes middle rest : List ℕ) (count front number : ℕ) → 0 < count → count ≤ length bytes → (get_or bytes 0 0 ≡ 48 → count ≡ 1) → 1 < count → all_ascii_digits (take count bytes) ≡ true → digits_value 10 (take count bytes) ≡ front → middle ≡ drop count bytes → ReadOn front middle number rest → number < 2 ^ 128 → bytes ≡ decimal number ++ rest
 onward_spelled bytes middle rest count front number some le lone many all value end on small =
@@ -57,7 +53,7 @@ onward_spelled bytes middle rest count front number some le lone many all value 
     let long : length (take count bytes) ≡ count = length-take-le count bytes le in
     let is : read_on 0 digits ≡ number = sym (value_read digits are) ∙ (value_joined (take count bytes) on.digits all on.are_digits ∙ (ap (λ (k : ℕ). k * 10 ^ length on.digits + digits_value 10 on.digits) value ∙ sym on.value)) in
     let spelled : decimal (read_on 0 digits) ≡ digits =
-    digits_spelled digits are (omega (arith, length-append (take count bytes) on.digits, long)) (λ z. absurd (omega (arith, lone (sym (first_of (take count bytes) on.digits (omega (arith, long)) ∙ first_kept bytes count some) ∙ z)))) (omega (arith, is)) in
+    digits_spelled digits are (omega (arith, length-append (take count bytes) on.digits, long)) (λ z. absurd (omega (arith, lone (sym (get_or_append_left (take count bytes) on.digits 0 0 (omega (arith, long)) ∙ get_or-take count bytes 0 0 some) ∙ z)))) (omega (arith, is)) in
     sym (take-append-drop count bytes)
     ∙ (ap (λ (x : List ℕ). take count bytes ++ x) (sym end ∙ on.parts)
     ∙ (sym (append_assoc (take count bytes) on.digits rest)

@@ -1,28 +1,53 @@
--- Numbers with a space between them.
-use Rattle.std.proofs.Common.{ℕ, ◌≡◌, ◌^◌, ◌<◌, List, ◌++◌, refl, sym, ap, ◌∙◌, append_assoc, codes}
+-- Numbers with a space between them, and how they are read back from their line.
+use Rattle.std.proofs.Common.{ℕ, ◌≡◌, ◌+◌, ◌-◌, ◌*◌, ◌^◌, ◌<◌, true, cond, eqb, List, [], ◌∷◌, ◌++◌, refl, sym, ap, ◌∙◌, append_assoc, append-nil, codes, inl, inr}
+use Rattle.std.proofs.lemmas.Bool.{false≢true, and_parts}
+use Rattle.std.proofs.lemmas.Bool.Decides.{eqb_tells}
 use Rattle.std.specs.Fmt.{decimal}
+use Rattle.std.specs.Char.{is_ascii_digit}
+use Rattle.std.specs.Str.{all_ascii_digits}
 use Rattle.ks_script.specs.declared.version.Version.{Version}
 use Rattle.ks_script.specs.declared.version.Version.TheVariants.{First, Second}
 use Rattle.ks_script.specs.Version.{value_limit}
 use Rattle.ks_script.specs.Run.{pair_line}
-use Rattle.ks_script.proofs.Numerals.{wide, one_number}
-use Rattle.ks_script.proofs.Cuts.{one_cut, decimal_lacks}
+use Rattle.ks_script.proofs.Numerals.{wide, read_on, digits_of_number, value_of_digits}
 
 -- the values of a version have 128 bits
 pub value_small : (version : Version) (v : ℕ) → v < value_limit version → v < 2 ^ 128
 value_small First v h = wide v h
 value_small Second v h = h
 
--- the bytes of a number, a space and the rest are those of no other
-pub spaced : (m n : ℕ) (a b : List ℕ) → m < 2 ^ 128 → n < 2 ^ 128 → decimal m ++ codes " " ++ a ≡ decimal n ++ codes " " ++ b → (m ≡ n) × (a ≡ b)
-spaced m n a b h k e =
-    let parts = one_cut 32 (decimal m) a (decimal n) b (decimal_lacks 32 refl m h) (decimal_lacks 32 refl n k) (sym (append_assoc (decimal m) (codes " ") a) ∙ (e ∙ append_assoc (decimal n) (codes " ") b)) in
-    (one_number m n h k parts.0, parts.1)
+-- the number before a space or the end, read on from n, and what is behind the space
+abbrev pub cut : ℕ → List ℕ → ℕ × List ℕ
+cut n [] = (n, [])
+cut n (c ∷ cs) = cond (eqb c 32) (n, cs) (cut (10 * n + (c - 48)) cs)
 
-pub two_told : (k m v w : ℕ) → k < 2 ^ 64 → m < 2 ^ 64 → v < 2 ^ 128 → w < 2 ^ 128 → pair_line (k, v) ≡ pair_line (m, w) → (k ≡ m) × (v ≡ w)
-two_told k m v w hk hm hv hw e =
-    let parts = spaced k m (decimal v) (decimal w) (wide k hk) (wide m hm) e in
-    (parts.0, one_number v w hv hw parts.1)
+cut_along : (n : ℕ) (ds tail : List ℕ) → all_ascii_digits ds ≡ true → cut n (ds ++ tail) ≡ cut (read_on n ds) tail
+cut_along n [] tail all = refl
+cut_along n (d ∷ ds) tail all =
+    let parts = and_parts (is_ascii_digit d) (all_ascii_digits ds) all in
+    elim (eqb_tells d 32) [
+      | inl same ↦ absurd (false≢true (ap is_ascii_digit (sym same.1) ∙ parts.0))
+      | inr other ↦ ap (λ t. cond t (n, ds ++ tail) (cut (10 * n + (d - 48)) (ds ++ tail))) other.0 ∙ cut_along (10 * n + (d - 48)) ds tail parts.1
+    ]
+
+cut_number : (n : ℕ) (tail : List ℕ) → n < 2 ^ 128 → cut 0 (decimal n ++ tail) ≡ cut n tail
+cut_number n tail small = cut_along 0 (decimal n) tail (digits_of_number n small) ∙ ap (λ (k : ℕ). cut k tail) (value_of_digits n small)
+
+pub cut_first : (n : ℕ) (rest : List ℕ) → n < 2 ^ 128 → cut 0 (decimal n ++ codes " " ++ rest) ≡ (n, rest)
+cut_first n rest small = ap (cut 0) (append_assoc (decimal n) (codes " ") rest) ∙ cut_number n (codes " " ++ rest) small
+
+pub cut_last : (n : ℕ) → n < 2 ^ 128 → cut 0 (decimal n) ≡ (n, [])
+cut_last n small = ap (cut 0) (sym (append-nil (decimal n))) ∙ cut_number n [] small
+
+-- a line spells one pair
+abbrev pub pair_of : List ℕ → ℕ × ℕ
+pair_of line = ((cut 0 line).0, (cut 0 (cut 0 line).1).0)
+
+pub pair_back : (k v : ℕ) → k < 2 ^ 128 → v < 2 ^ 128 → pair_of (pair_line (k, v)) ≡ (k, v)
+pair_back k v h i = ap (λ (x : ℕ × List ℕ). (x.0, (cut 0 x.1).0)) (cut_first k (decimal v) h) ∙ ap (λ (x : ℕ × List ℕ). (k, x.0)) (cut_last v i)
+
+pub one_pair : (x y : ℕ × ℕ) → x.0 < 2 ^ 64 → x.1 < 2 ^ 128 → y.0 < 2 ^ 64 → y.1 < 2 ^ 128 → pair_line x ≡ pair_line y → x ≡ y
+one_pair x y h i k l e = sym (pair_back x.0 x.1 (wide x.0 h) i) ∙ (ap pair_of e ∙ pair_back y.0 y.1 (wide y.0 k) l)
 
 -- three numbers
 abbrev pub three : ℕ → ℕ → ℕ → List ℕ
@@ -33,15 +58,3 @@ three_parts k v w =
     append_assoc (decimal k ++ codes " " ++ decimal v) (codes " ") (decimal w)
     ∙ (append_assoc (decimal k ++ codes " ") (decimal v) (codes " " ++ decimal w)
     ∙ ap (λ (l : List ℕ). decimal k ++ codes " " ++ l) (sym (append_assoc (decimal v) (codes " ") (decimal w))))
-
-pub three_told : (k m v w x y : ℕ) → k < 2 ^ 64 → m < 2 ^ 64 → v < 2 ^ 128 → w < 2 ^ 128 → x < 2 ^ 128 → y < 2 ^ 128 → three k v x ≡ three m w y → (k ≡ m) × (v ≡ w) × (x ≡ y)
-three_told k m v w x y hk hm hv hw hx hy e =
-    let parts = spaced k m (pair_line (v, x)) (pair_line (w, y)) (wide k hk) (wide m hm) (sym (three_parts k v x) ∙ (e ∙ three_parts m w y)) in
-    let rest = spaced v w (decimal x) (decimal y) hv hw parts.1 in
-    (parts.0, rest.0, one_number x y hx hy rest.1)
-
--- a line spells one pair
-pub one_pair : (x y : ℕ × ℕ) → x.0 < 2 ^ 64 → x.1 < 2 ^ 128 → y.0 < 2 ^ 64 → y.1 < 2 ^ 128 → pair_line x ≡ pair_line y → x ≡ y
-one_pair x y h i k l e =
-    let parts = two_told x.0 y.0 x.1 y.1 h k i l e in
-    ap (λ (n : ℕ). (n, x.1)) parts.0 ∙ ap (λ (n : ℕ). (y.0, n)) parts.1

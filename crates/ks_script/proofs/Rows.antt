@@ -6,7 +6,7 @@ use Rattle.ks_history.specs.declared.Op.TheVariants.{Get, Put, Del, Add, Swap}
 use Rattle.ks_history.specs.declared.Reply.{Reply}
 use Rattle.ks_history.specs.declared.Reply.TheVariants.{Nothing, Value, Full}
 use Rattle.ks_script.specs.Script.{call_line}
-use Rattle.ks_script.specs.Run.{reply_word, reply_line, pair_line}
+use Rattle.ks_script.specs.Run.{reply_word}
 use Rattle.ks_script.specs.Checked.{IsReply}
 use Rattle.ks_script.specs.Numeral.{NoDigit}
 use Rattle.ks_script.specs.Lined.{EndsLine, NotLined}
@@ -20,11 +20,8 @@ some_bytes (Del k) = omega arith
 some_bytes (Add k v) = omega arith
 some_bytes (Swap k v w) = omega arith
 
-pub some_reply : (x : ℕ × Reply) → 0 < length (reply_line x)
-some_reply x = omega (arith, length-append (decimal x.0 ++ codes " ") (reply_word x.1), length-append (decimal x.0) (codes " "))
-
-pub some_pair : (x : ℕ × ℕ) → 0 < length (pair_line x)
-some_pair x = omega (arith, length-append (decimal x.0 ++ codes " ") (decimal x.1), length-append (decimal x.0) (codes " "))
+pub some_spaced : (a b : List ℕ) → 0 < length (a ++ codes " " ++ b)
+some_spaced a b = omega (arith, length-append (a ++ codes " ") b, length-append a (codes " "))
 
 -- bytes that begin as a reply, behind which no line ends
 pub not_none : (bytes rest : List ℕ) → bytes ≡ codes "none" ++ rest → (EndsLine rest → ⊥) → (r : Reply) → IsReply r → NotLined (reply_word r) bytes
