@@ -1,10 +1,5 @@
 -- What the line of a call says.
-use Rattle.std.proofs.Common.{ℕ, ◌≡◌, cond, eqb, List, drop, get_or, sym, ap, ◌∙◌, arith}
-use Rattle.ks_history.specs.declared.Op.{Op}
-use Rattle.ks_history.specs.declared.Op.TheVariants.{Get, Put, Del, Add, Swap}
-use Rattle.ks_script.specs.declared.version.Version.{Version}
-use Rattle.ks_script.specs.Script.{IsCall, call_line}
-use Rattle.ks_script.specs.Run.{pair_line}
+use Rattle.ks_script.proofs.Common.{ℕ, ◌≡◌, cond, eqb, List, drop, get_or, sym, ap, ◌∙◌, arith, Op, Get, Put, Del, Add, Swap, Version, IsCall, call_line, pair_line}
 use Rattle.ks_script.proofs.Numerals.{wide}
 use Rattle.ks_script.proofs.Pairs.{value_small, cut, cut_first, cut_last, pair_of, pair_back, three_parts}
 

@@ -1,14 +1,6 @@
 -- Bytes that are cut at a byte, and digits.
-use Rattle.std.proofs.Common.{ℕ, zero, suc, ◌≡◌, ◌+◌, ◌-◌, ◌*◌, ◌^◌, ◌<◌, ◌≤◌, ◌⊎◌, Bool, true, false, cond, eqb, List, [], ◌∷◌, ◌++◌, length, get_or, refl, sym, ap, ◌∙◌, arith, inl, inr, Option, Some, None, MatchOption, IfSome, IfNone}
-use Rattle.std.proofs.lemmas.Bool.{false≢true, eqb-true, and_parts}
-use Rattle.std.proofs.lemmas.Bool.Decides.{eqb_tells}
+use Rattle.ks_script.proofs.Common.{ℕ, zero, suc, ◌≡◌, ◌+◌, ◌-◌, ◌*◌, ◌^◌, ◌<◌, ◌≤◌, ◌⊎◌, Bool, true, false, cond, eqb, List, [], ◌∷◌, ◌++◌, length, get_or, refl, sym, ap, ◌∙◌, arith, inl, inr, Option, Some, None, MatchOption, IfSome, IfNone, false≢true, eqb-true, and_parts, eqb_tells, decimal, is_ascii_digit, all_ascii_digits, onto_first, lines_of, Lacks}
 use Rattle.std.proofs.lemmas.Fmt.{decimal_digit}
-use Rattle.std.specs.Fmt.{decimal}
-use Rattle.std.specs.Char.{is_ascii_digit}
-use Rattle.std.specs.Str.{all_ascii_digits}
-use Rattle.std.specs.List.{onto_first}
-use Rattle.ks_script.specs.Lines.{lines_of}
-use Rattle.ks_script.specs.Ahead.{Lacks}
 use Rattle.ks_script.proofs.Numerals.{read_on, digits_of_number, no_zero_first, digits_spelled}
 
 -- the lines of a text, by its first byte

@@ -1,6 +1,5 @@
 -- Words of eight bytes, of which the first ones are digits.
-use Rattle.std.proofs.Common.{ℕ, zero, suc, ◌≡◌, ◌+◌, ◌-◌, ◌*◌, ◌/◌, ◌%◌, ◌^◌, ◌<◌, ◌≤◌, true, arith, rules, ◌∙◌}
-use Rattle.std.specs.Char.{is_ascii_digit}
+use Rattle.ks_script.proofs.Common.{ℕ, zero, suc, ◌≡◌, ◌+◌, ◌-◌, ◌*◌, ◌/◌, ◌%◌, ◌^◌, ◌<◌, ◌≤◌, true, arith, rules, ◌∙◌, is_ascii_digit}
 use Rattle.ks_script.specs.Eight.{word_of}
 
 -- what the first bytes are worth as digits; 48 is the byte of the digit 0

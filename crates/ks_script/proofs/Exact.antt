@@ -1,15 +1,7 @@
 -- Numbers that bytes begin with, exactly: no digit follows them.
-use Rattle.std.proofs.Common.{ℕ, zero, suc, ◌≡◌, ◌+◌, ◌-◌, ◌*◌, ◌^◌, ◌<◌, ◌≤◌, ◌⊎◌, true, false, List, [], ◌∷◌, ◌++◌, length, take, drop, get_or, refl, sym, ap, subst, ◌∙◌, arith, rules, length-append, inl, inr}
-use Rattle.std.proofs.lemmas.List.{take-append-drop, length-take-le, get_or_append_left, get_or-take}
-use Rattle.std.proofs.lemmas.Bool.{false≢true, and_parts}
-use Rattle.std.proofs.lemmas.Bool.Decides.{eqb_tells}
+use Rattle.ks_script.proofs.Common.{ℕ, zero, suc, ◌≡◌, ◌+◌, ◌-◌, ◌*◌, ◌^◌, ◌<◌, ◌≤◌, ◌⊎◌, true, false, List, [], ◌∷◌, ◌++◌, length, take, drop, get_or, refl, sym, ap, subst, ◌∙◌, arith, rules, length-append, inl, inr, take-append-drop, length-take-le, get_or_append_left, get_or-take, false≢true, and_parts, eqb_tells, decimal, is_ascii_digit, all_ascii_digits, digits_value, NoDigit, ReadOn}
 use Rattle.std.proofs.lemmas.Nat.{pow-add}
 use Rattle.std.proofs.Math.Nat.{mul-le-mul_right}
-use Rattle.std.specs.Fmt.{decimal}
-use Rattle.std.specs.Char.{is_ascii_digit}
-use Rattle.std.specs.Str.{all_ascii_digits}
-use Rattle.std.specs.Str.Parse.{digits_value}
-use Rattle.ks_script.specs.Numeral.{NoDigit, ReadOn}
 use Rattle.ks_script.proofs.Numerals.{value_read, read_on, digits_of_number, value_of_digits, some_digits}
 use Rattle.ks_script.proofs.Cuts.{zero_first, read_on_least}
 use Rattle.ks_script.proofs.Fronts.{read_sum}

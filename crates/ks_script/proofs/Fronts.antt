@@ -1,11 +1,6 @@
 -- Numbers and calls that bytes begin with.
-use Rattle.std.proofs.Common.{ℕ, zero, suc, ◌≡◌, ◌+◌, ◌-◌, ◌*◌, ◌^◌, ◌<◌, ◌≤◌, true, ◌&&◌, List, [], ◌∷◌, ◌++◌, length, take, drop, get_or, refl, sym, ap, ◌∙◌, arith}
-use Rattle.std.proofs.lemmas.List.{take_more, take-append-drop, length-take-le, length-take, length-drop, get_or-take}
-use Rattle.std.proofs.lemmas.Bool.{and_parts}
+use Rattle.ks_script.proofs.Common.{ℕ, zero, suc, ◌≡◌, ◌+◌, ◌-◌, ◌*◌, ◌^◌, ◌<◌, ◌≤◌, true, ◌&&◌, List, [], ◌∷◌, ◌++◌, length, take, drop, get_or, refl, sym, ap, ◌∙◌, arith, take_more, take-append-drop, length-take-le, length-take, length-drop, get_or-take, and_parts, decimal, is_ascii_digit, all_ascii_digits}
 use Rattle.std.proofs.lemmas.Str.Parse.{digits_value_short}
-use Rattle.std.specs.Fmt.{decimal}
-use Rattle.std.specs.Char.{is_ascii_digit}
-use Rattle.std.specs.Str.{all_ascii_digits}
 use Rattle.ks_script.proofs.Numerals.{own, read_on}
 use Rattle.ks_script.proofs.Cuts.{digits_some}
 use Rattle.ks_script.proofs.Eights.{worth}

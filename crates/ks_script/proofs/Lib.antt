@@ -1,6 +1,6 @@
+pub mod Common
 pub mod Putting
 pub mod Texts
-pub mod Sources
 pub mod Numerals
 pub mod Cuts
 pub mod Fronts
@@ -11,7 +11,6 @@ pub mod Eights
 pub mod Lanes
 pub mod Pairs
 pub mod CallLines
-pub mod Refusals
 pub mod Leading
 pub mod Steps
 pub mod ScriptRead

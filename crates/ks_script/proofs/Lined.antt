@@ -1,19 +1,8 @@
 -- Lines that bytes begin with.
-use Rattle.std.proofs.Common.{ℕ, ◌≡◌, ◌^◌, ◌<◌, ◌≤◌, true, List, [], ◌∷◌, ◌++◌, length, drop, refl, sym, ap, subst, ◌∙◌, append_assoc, append-nil, arith, codes, length-append, inl, inr}
-use Rattle.std.proofs.lemmas.Bool.{false≢true, and_parts}
-use Rattle.std.specs.Char.{is_ascii_digit}
-use Rattle.std.specs.Str.{all_ascii_digits}
-use Rattle.std.specs.Fmt.{decimal}
-use Rattle.std.specs.List.{onto_first}
-use Rattle.ks_script.specs.Lines.{lines_of}
-use Rattle.ks_script.specs.Ahead.{Lacks}
-use Rattle.ks_script.specs.Numeral.{NoDigit}
-use Rattle.ks_script.specs.Lined.{EndsLine, Lined, NotLined}
-use Rattle.ks_script.specs.Reads.{Lines, NotFirst, NoneFirst}
+use Rattle.ks_script.proofs.Common.{ℕ, ◌≡◌, ◌^◌, ◌<◌, ◌≤◌, true, List, [], ◌∷◌, ◌++◌, length, drop, refl, sym, ap, subst, ◌∙◌, append_assoc, append-nil, arith, codes, length-append, inl, inr, false≢true, and_parts, is_ascii_digit, all_ascii_digits, decimal, onto_first, lines_of, Lacks, NoDigit, EndsLine, Lined, NotLined, Lines, NotFirst, NoneFirst, pair_line}
 use Rattle.ks_script.proofs.Numerals.{digits_of_number, one_number}
 use Rattle.ks_script.proofs.Cuts.{lines_cases, lines_first, lines_last}
 use Rattle.ks_script.proofs.Pairs.{three, three_parts}
-use Rattle.ks_script.specs.Run.{pair_line}
 use Rattle.ks_script.proofs.Exact.{goes_on}
 
 -- the end of a line is no digit

@@ -1,11 +1,6 @@
 -- Numbers that are read on from their first digits.
-use Rattle.std.proofs.Common.{ℕ, ◌≡◌, ◌+◌, ◌*◌, ◌^◌, ◌<◌, ◌≤◌, true, List, ◌++◌, length, take, drop, get_or, sym, ap, ◌∙◌, append_assoc, arith, length-append}
-use Rattle.std.proofs.lemmas.List.{take-append-drop, length-take-le, get_or_append_left, get_or-take}
+use Rattle.ks_script.proofs.Common.{ℕ, ◌≡◌, ◌+◌, ◌*◌, ◌^◌, ◌<◌, ◌≤◌, true, List, ◌++◌, length, take, drop, get_or, sym, ap, ◌∙◌, append_assoc, arith, length-append, take-append-drop, length-take-le, get_or_append_left, get_or-take, decimal, all_ascii_digits, digits_value, ReadOn}
 use Rattle.std.proofs.lemmas.Nat.{pow-add}
-use Rattle.std.specs.Fmt.{decimal}
-use Rattle.std.specs.Str.{all_ascii_digits}
-use Rattle.std.specs.Str.Parse.{digits_value}
-use Rattle.ks_script.specs.Numeral.{ReadOn}
 use Rattle.ks_script.proofs.Numerals.{value_read, digits_spelled, read_on}
 use Rattle.ks_script.proofs.Fronts.{all_append, joined}
 

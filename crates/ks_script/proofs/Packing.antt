@@ -1,7 +1,6 @@
 -- Small entries that represent entries beside lists of longer ones.
-use Rattle.std.proofs.Common.{◌≡◌, ◌++◌, List, [], ◌∷◌, map, refl, ◌∙◌, ap, Result, Ok, Err, OnErr}
+use Rattle.ks_script.proofs.Common.{◌≡◌, ◌++◌, List, [], ◌∷◌, map, refl, ◌∙◌, ap, Result, Ok, Err, OnErr, map_push}
 use Rattle.std.specs.Prelude.{All}
-use Rattle.std.proofs.lemmas.List.{map_push}
 use Rattle.std.proofs.lemmas.List.Elements.{All-head, All-tail}
 
 -- what is read through two functions that agree where the entries fit

@@ -1,11 +1,9 @@
 -- Numbers that are spelled 19 digits at a time.
-use Rattle.std.proofs.Common.{ℕ, zero, suc, ◌≡◌, ◌+◌, ◌-◌, ◌*◌, ◌/◌, ◌%◌, ◌^◌, ◌<◌, ◌≤◌, List, [], ◌∷◌, ◌++◌, length, take, drop, refl, sym, ap, ◌∙◌, append_assoc, append-nil, length-append, arith, replicate}
-use Rattle.std.proofs.lemmas.List.{replicate_more, take-replicate, length-replicate, take-take, drop_at, length-take-le, take-append-drop}
+use Rattle.ks_script.proofs.Common.{ℕ, zero, suc, ◌≡◌, ◌+◌, ◌-◌, ◌*◌, ◌/◌, ◌%◌, ◌^◌, ◌<◌, ◌≤◌, List, [], ◌∷◌, ◌++◌, length, take, drop, refl, sym, ap, ◌∙◌, append_assoc, append-nil, length-append, arith, replicate, replicate_more, take-replicate, length-replicate, take-take, drop_at, length-take-le, take-append-drop, decimal}
 use Rattle.std.proofs.lemmas.Slice.{take-put_mid, drop-put_mid}
 use Rattle.std.proofs.Math.Seq.{take-append-add}
 use Rattle.std.proofs.lemmas.Fmt.{decimal_step_wide, decimal_by_steps_wide, length-decimal-le_wide}
 use borrow.Rule.Slice.PartMut.{put_mid}
-use Rattle.std.specs.Fmt.{decimal}
 use Rattle.ks_script.specs.Digits.{padded}
 
 -- the last k digits of n

@@ -1,14 +1,5 @@
 -- Numbers with a space between them, and how they are read back from their line.
-use Rattle.std.proofs.Common.{ℕ, ◌≡◌, ◌+◌, ◌-◌, ◌*◌, ◌^◌, ◌<◌, true, cond, eqb, List, [], ◌∷◌, ◌++◌, refl, sym, ap, ◌∙◌, append_assoc, append-nil, codes, inl, inr}
-use Rattle.std.proofs.lemmas.Bool.{false≢true, and_parts}
-use Rattle.std.proofs.lemmas.Bool.Decides.{eqb_tells}
-use Rattle.std.specs.Fmt.{decimal}
-use Rattle.std.specs.Char.{is_ascii_digit}
-use Rattle.std.specs.Str.{all_ascii_digits}
-use Rattle.ks_script.specs.declared.version.Version.{Version}
-use Rattle.ks_script.specs.declared.version.Version.TheVariants.{First, Second}
-use Rattle.ks_script.specs.Version.{value_limit}
-use Rattle.ks_script.specs.Run.{pair_line}
+use Rattle.ks_script.proofs.Common.{ℕ, ◌≡◌, ◌+◌, ◌-◌, ◌*◌, ◌^◌, ◌<◌, true, cond, eqb, List, [], ◌∷◌, ◌++◌, refl, sym, ap, ◌∙◌, append_assoc, append-nil, codes, inl, inr, false≢true, and_parts, eqb_tells, decimal, is_ascii_digit, all_ascii_digits, Version, First, Second, value_limit, pair_line}
 use Rattle.ks_script.proofs.Numerals.{wide, read_on, digits_of_number, value_of_digits}
 
 -- the values of a version have 128 bits

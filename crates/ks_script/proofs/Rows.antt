@@ -1,15 +1,5 @@
 -- Calls and replies: how their lines differ.
-use Rattle.std.proofs.Common.{ℕ, ◌≡◌, ◌^◌, ◌<◌, List, ◌++◌, length, drop, get_or, codes, refl, sym, ap, subst, ◌∙◌, arith, length-append}
-use Rattle.std.specs.Fmt.{decimal}
-use Rattle.ks_history.specs.declared.Op.{Op}
-use Rattle.ks_history.specs.declared.Op.TheVariants.{Get, Put, Del, Add, Swap}
-use Rattle.ks_history.specs.declared.Reply.{Reply}
-use Rattle.ks_history.specs.declared.Reply.TheVariants.{Nothing, Value, Full}
-use Rattle.ks_script.specs.Script.{call_line}
-use Rattle.ks_script.specs.Run.{reply_word}
-use Rattle.ks_script.specs.Checked.{IsReply}
-use Rattle.ks_script.specs.Numeral.{NoDigit}
-use Rattle.ks_script.specs.Lined.{EndsLine, NotLined}
+use Rattle.ks_script.proofs.Common.{ℕ, ◌≡◌, ◌^◌, ◌<◌, List, ◌++◌, length, drop, get_or, codes, refl, sym, ap, subst, ◌∙◌, arith, length-append, decimal, Op, Get, Put, Del, Add, Swap, Reply, Nothing, Value, Full, call_line, reply_word, IsReply, NoDigit, EndsLine, NotLined}
 use Rattle.ks_script.proofs.Exact.{no_number}
 use Rattle.ks_script.proofs.Lined.{number_told, end_free}
 

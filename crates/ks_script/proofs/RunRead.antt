@@ -1,17 +1,5 @@
 -- Runs that were read line by line: where a text stops to be one.
-use Rattle.std.proofs.Common.{ℕ, zero, suc, ◌≡◌, ◌+◌, ◌-◌, ◌<◌, List, [], ◌∷◌, ◌++◌, length, map, codes, refl, sym, ap, subst, ◌∙◌, append-nil, arith, length-append, Err}
-use Rattle.std.proofs.lemmas.List.{map-append}
-use Rattle.std.specs.List.{AllByRecursion}
-use Rattle.ks_history.specs.declared.Op.{Op}
-use Rattle.ks_history.specs.declared.Reply.TheVariants.{Nothing}
-use Rattle.ks_script.specs.declared.fault.TextFault.{TextFault}
-use Rattle.ks_script.specs.declared.fault.TextFault.TheVariants.{Refused, Memory}
-use Rattle.ks_script.specs.Lines.{lines_of, FirstBad}
-use Rattle.ks_script.specs.Run.{Run, reply_line, pair_line, callers_from, map_lines}
-use Rattle.ks_script.specs.Checked.{IsAnswered, AscendFrom, IsRunOf}
-use Rattle.ks_script.specs.Reads.{Lines, NotFirst, NoneFirst, Reads, RefusedBehind}
-use Rattle.ks_script.specs.RunLeft.{Replies, next_key, IsPairFrom, SpellsRun, AreRun, AnswersLeft, RepliesLeft, PairsLeft, NothingLeft}
-use Rattle.ks_script.specs.Reading.{Answers}
+use Rattle.ks_script.proofs.Common.{ℕ, zero, suc, ◌≡◌, ◌+◌, ◌-◌, ◌<◌, List, [], ◌∷◌, ◌++◌, length, map, codes, refl, sym, ap, subst, ◌∙◌, append-nil, arith, length-append, Err, map-append, AllByRecursion, Op, Nothing, TextFault, Refused, Memory, lines_of, FirstBad, Run, reply_line, pair_line, callers_from, map_lines, IsAnswered, AscendFrom, IsRunOf, Lines, NotFirst, NoneFirst, Reads, Replies, next_key, IsPairFrom, SpellsRun, AreRun, AnswersLeft, RepliesLeft, PairsLeft, NothingLeft, Answers}
 use Rattle.ks_script.proofs.Leading.{refused_at}
 use Rattle.ks_script.proofs.Lined.{no_lines}
 use Rattle.ks_script.proofs.Steps.{reads_none, reads_as, all_append}
@@ -151,6 +139,6 @@ pub no_other : (script : List (List Op)) (read run : Run) (bytes rest : List ℕ
 no_other script read run bytes rest k r end h = (r.leads.only [] (subst (SpellsRun script run) (r.lines_are ∙ ap (λ (x : List ℕ). r.front ++ lines_of x) end) h)).run_is
 
 -- a fault of a part
-pub fault_behind : (script : List (List Op)) (before : ℕ) (lines : Lines) (f : TextFault) → ((n : ℕ) → f ≡ Refused n → RefusedBehind before (AreRun script) lines n) → Answers {X = Run} (Err f) (λ run. SpellsRun script run lines) (RefusedBehind before (AreRun script) lines)
-fault_behind script before lines (Refused n) h = h n refl
-fault_behind script before lines Memory h = tt
+pub fault_answers : {X : Type 0} (f : TextFault) (IsText : X → Type 0) (IsBad : ℕ → Type 0) → ((n : ℕ) → f ≡ Refused n → IsBad n) → Answers {X = X} (Err f) IsText IsBad
+fault_answers (Refused n) IsText IsBad h = h n refl
+fault_answers Memory IsText IsBad h = tt

@@ -1,17 +1,5 @@
 -- Lines of a run that are read one after another.
-use Rattle.std.proofs.Common.{ℕ, ◌≡◌, ◌+◌, ◌^◌, ◌<◌, cond, eqb, List, [], ◌∷◌, ◌++◌, length, map, drop, get_or, codes, append-nil, refl, sym, ap, subst, ◌∙◌, append_assoc, arith, length-append}
-use Rattle.std.proofs.lemmas.List.{length-map}
-use Rattle.std.specs.Fmt.{decimal}
-use Rattle.std.specs.Char.{is_ascii_digit}
-use Rattle.std.specs.List.{AllByRecursion}
-use Rattle.ks_history.specs.declared.Op.{Op}
-use Rattle.ks_history.specs.declared.Reply.{Reply}
-use Rattle.ks_history.specs.declared.Reply.TheVariants.{Nothing, Value, Full}
-use Rattle.ks_script.specs.Run.{Run, reply_word, reply_line, pair_line, callers_from, map_lines}
-use Rattle.ks_script.specs.Checked.{IsReply, IsAnswered, AscendFrom, IsRunOf}
-use Rattle.ks_script.specs.Numeral.{NoDigit}
-use Rattle.ks_script.specs.Reads.{Lines, Leads, Reads}
-use Rattle.ks_script.specs.RunLeft.{Replies, next_key, IsPairFrom, AnswersLeft, RepliesLeft, PairsLeft, NothingLeft}
+use Rattle.ks_script.proofs.Common.{ℕ, ◌≡◌, ◌+◌, ◌^◌, ◌<◌, cond, eqb, List, [], ◌∷◌, ◌++◌, length, map, drop, get_or, codes, append-nil, refl, sym, ap, subst, ◌∙◌, append_assoc, arith, length-append, length-map, decimal, is_ascii_digit, AllByRecursion, Op, Reply, Nothing, Value, Full, Run, reply_word, reply_line, pair_line, callers_from, map_lines, IsReply, IsAnswered, AscendFrom, IsRunOf, NoDigit, Lines, Leads, Reads, Replies, next_key, IsPairFrom, AnswersLeft, RepliesLeft, PairsLeft, NothingLeft}
 use Rattle.ks_script.proofs.Numerals.{wide, digits_of_number, some_digits}
 use Rattle.ks_script.proofs.Fronts.{first_digit}
 use Rattle.ks_script.proofs.Pairs.{cut, cut_first, cut_last, one_pair}

@@ -1,14 +1,5 @@
 -- Scripts that were read line by line: what a text says, and where it stops to be one.
-use Rattle.std.proofs.Common.{ℕ, ◌≡◌, ◌+◌, ◌<◌, List, [], ◌∷◌, ◌++◌, length, map, get_or, codes, refl, sym, ap, subst, ◌∙◌, append-nil, arith, length-append}
-use Rattle.std.specs.List.{AllByRecursion}
-use Rattle.ks_history.specs.declared.Op.{Op}
-use Rattle.ks_script.specs.declared.version.Version.{Version}
-use Rattle.ks_script.specs.declared.version.Version.TheVariants.{First, Second}
-use Rattle.ks_script.specs.Lines.{lines_of, FirstBad}
-use Rattle.ks_script.specs.Version.{version_line}
-use Rattle.ks_script.specs.Script.{IsCall, IsScript, SpellsScript, AreScript, call_line, script_lines, calls_in}
-use Rattle.ks_script.specs.Reads.{Lines}
-use Rattle.ks_script.specs.Left.{Apart, TextLeft, CallsLeft, Told, CallersRead, none_read, some_read, Stops}
+use Rattle.ks_script.proofs.Common.{ℕ, ◌≡◌, ◌+◌, ◌<◌, List, [], ◌∷◌, ◌++◌, length, map, get_or, codes, refl, sym, ap, subst, ◌∙◌, append-nil, arith, length-append, AllByRecursion, Op, Version, First, Second, lines_of, FirstBad, version_line, IsCall, IsScript, SpellsScript, AreScript, call_line, script_lines, calls_in, Lines, Apart, TextLeft, CallsLeft, Told, CallersRead, none_read, some_read, Stops}
 use Rattle.ks_script.proofs.Leading.{bad_same, refused_at}
 use Rattle.ks_script.proofs.Steps.{all_good, all_read, calls_append}
 use Rattle.ks_script.proofs.Lined.{no_lines}

@@ -1,21 +1,5 @@
 -- Texts and their lines, there and back.
-use Rattle.std.proofs.Common.{ℕ, ◌≡◌, ◌⊎◌, ◌+◌, ◌^◌, ◌<◌, ◌≤◌, Bool, true, false, ◌||◌, eqb, List, [], ◌∷◌, ◌++◌, length, map, refl, sym, ap, subst, ◌∙◌, append_assoc, arith, codes, inl, inr, length-append}
-use Rattle.std.proofs.lemmas.List.{length-map}
-use Rattle.std.proofs.lemmas.Bool.{false≢true, eq-eqb, or_parts}
-use Rattle.std.specs.Fmt.{decimal}
-use Rattle.std.specs.List.{AllByRecursion, onto_first}
-use Rattle.ks_history.specs.declared.Op.{Op}
-use Rattle.ks_history.specs.declared.Op.TheVariants.{Get, Put, Del, Add, Swap}
-use Rattle.ks_history.specs.declared.Reply.{Reply}
-use Rattle.ks_history.specs.declared.Reply.TheVariants.{Nothing, Value, Full}
-use Rattle.ks_script.specs.declared.version.Version.{Version}
-use Rattle.ks_script.specs.declared.version.Version.TheVariants.{First, Second}
-use Rattle.ks_script.specs.Lines.{lines_of, text_of}
-use Rattle.ks_script.specs.Ahead.{Lacks}
-use Rattle.ks_script.specs.Version.{version_line, callers_limit}
-use Rattle.ks_script.specs.Script.{IsCall, IsScript, call_line, script_lines}
-use Rattle.ks_script.specs.Run.{Run, reply_word, reply_line, pair_line, callers_from, map_lines, run_lines}
-use Rattle.ks_script.specs.Checked.{IsReply, IsAnswered, AscendFrom, IsRunOf, CheckedIn}
+use Rattle.ks_script.proofs.Common.{ℕ, ◌≡◌, ◌⊎◌, ◌+◌, ◌^◌, ◌<◌, ◌≤◌, Bool, true, false, ◌||◌, eqb, List, [], ◌∷◌, ◌++◌, length, map, refl, sym, ap, subst, ◌∙◌, append_assoc, arith, codes, inl, inr, length-append, length-map, false≢true, eq-eqb, or_parts, decimal, AllByRecursion, onto_first, Op, Get, Put, Del, Add, Swap, Reply, Nothing, Value, Full, Version, First, Second, lines_of, text_of, Lacks, version_line, callers_limit, IsCall, IsScript, call_line, script_lines, Run, reply_word, reply_line, pair_line, callers_from, map_lines, run_lines, IsReply, IsAnswered, AscendFrom, IsRunOf, CheckedIn}
 use Rattle.ks_script.proofs.Numerals.{wide}
 use Rattle.ks_script.proofs.Cuts.{lines_cases, lines_first, decimal_lacks}
 use Rattle.ks_script.proofs.Pairs.{value_small}

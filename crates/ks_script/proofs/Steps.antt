@@ -1,13 +1,5 @@
 -- Lines that are read one after another.
-use Rattle.std.proofs.Common.{ℕ, ◌≡◌, ◌+◌, List, [], ◌∷◌, ◌++◌, map, get_or, drop, codes, length, append-nil, refl, sym, ap, subst, ◌∙◌, append_assoc, arith, length-append}
-use Rattle.std.specs.List.{AllByRecursion}
-use Rattle.ks_history.specs.declared.Op.{Op}
-use Rattle.ks_script.specs.declared.version.Version.{Version}
-use Rattle.ks_script.specs.Lines.{lines_of}
-use Rattle.ks_script.specs.declared.version.Version.TheVariants.{First, Second}
-use Rattle.ks_script.specs.Script.{IsCall, IsScript, call_line, script_lines, calls_in}
-use Rattle.ks_script.specs.Reads.{Lines, NotFirst, NoneFirst, Leads, Reads}
-use Rattle.ks_script.specs.Left.{Apart, TextLeft, ScriptLeft, CallsLeft, Told, CallersRead, none_read, some_read}
+use Rattle.ks_script.proofs.Common.{ℕ, ◌≡◌, ◌+◌, List, [], ◌∷◌, ◌++◌, map, get_or, drop, codes, length, append-nil, refl, sym, ap, subst, ◌∙◌, append_assoc, arith, length-append, AllByRecursion, Op, Version, lines_of, First, Second, IsCall, IsScript, call_line, script_lines, calls_in, Lines, NotFirst, NoneFirst, Leads, Reads, Apart, TextLeft, ScriptLeft, CallsLeft, Told, CallersRead, none_read, some_read}
 use Rattle.ks_script.proofs.Leading.{leads_on, leads_none}
 use Rattle.ks_script.proofs.CallLines.{first, not_call, one_call}
 

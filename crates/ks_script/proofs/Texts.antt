@@ -1,10 +1,5 @@
 -- Texts of lines, one after another.
-use Rattle.std.proofs.Common.{ℕ, ◌≡◌, ◌+◌, ◌<◌, List, [], ◌∷◌, ◌++◌, length, map, take, drop, get_or, refl, sym, ap, ◌∙◌, append_assoc, arith, codes}
-use Rattle.std.proofs.lemmas.List.{append-nil, take-append-drop, take_more, map_push, length-take-le}
-use Rattle.std.specs.Fmt.{decimal}
-use Rattle.ks_history.specs.declared.Reply.{Reply}
-use Rattle.ks_script.specs.Lines.{ended, text_of}
-use Rattle.ks_script.specs.Run.{reply_line, pair_line, callers_from, map_lines}
+use Rattle.ks_script.proofs.Common.{ℕ, ◌≡◌, ◌+◌, ◌<◌, List, [], ◌∷◌, ◌++◌, length, map, take, drop, get_or, refl, sym, ap, ◌∙◌, append_assoc, arith, codes, append-nil, take-append-drop, take_more, map_push, length-take-le, decimal, Reply, ended, text_of, reply_line, pair_line, callers_from, map_lines}
 
 pub text_append : (ls ms : List (List ℕ)) → text_of (ls ++ ms) ≡ text_of ls ++ text_of ms
 text_append [] ms = refl

@@ -1,5 +1,4 @@
-use Rattle.std.proofs.Common.{ℕ, take, refl, cond, ltb}
-use Rattle.std.proofs.lemmas.List.{length-take-le}
+use Rattle.ks_script.proofs.Common.{ℕ, take, refl, cond, ltb, length-take-le}
 use Rattle.std.proofs.lemmas.Simd.{zip2_splat}
 use Rattle.ks_script.proofs.Lanes.{over, all_sixteen, up_to_one}
 use Rattle.ks_script.proofs.eight.digits_in.Goals as goal

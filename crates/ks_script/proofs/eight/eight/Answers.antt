@@ -1,4 +1,4 @@
-use Rattle.std.proofs.Common.{ℕ, get_or, ◌∙◌, sym, take, arith, subst, ◌<◌}
+use Rattle.ks_script.proofs.Common.{ℕ, get_or, ◌∙◌, sym, take, arith, subst, ◌<◌}
 use Rattle.ks_script.proofs.Numerals.{value_read}
 use Rattle.ks_script.proofs.Fronts.{digit_at, worth_read, small_read}
 use Rattle.ks_script.proofs.Eights.{eight_value}

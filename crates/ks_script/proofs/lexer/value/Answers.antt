@@ -1,6 +1,4 @@
-use Rattle.std.proofs.Common.{List, ℕ, ◌++◌, ◌∙◌, ◌^◌, take, refl, sym, ap, subst, arith}
-use Rattle.std.specs.Fmt.{decimal}
-use Rattle.ks_script.specs.Numeral.{NoDigit}
+use Rattle.ks_script.proofs.Common.{List, ℕ, ◌++◌, ◌∙◌, ◌^◌, take, refl, sym, ap, subst, arith, decimal, NoDigit}
 use Rattle.ks_script.proofs.Numerals.{value_read}
 use Rattle.ks_script.proofs.Cuts.{if_none_any}
 use Rattle.ks_script.proofs.Fronts.{front_spelled}

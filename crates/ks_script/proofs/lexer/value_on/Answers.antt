@@ -1,5 +1,4 @@
-use Rattle.std.proofs.Common.{ℕ, ◌≡◌, ◌≤◌, ◌<◌, ◌*◌, ◌+◌, ◌^◌, ◌∙◌, ap, sym, subst, arith}
-use Rattle.ks_script.specs.Numeral.{NoDigit}
+use Rattle.ks_script.proofs.Common.{ℕ, ◌≡◌, ◌≤◌, ◌<◌, ◌*◌, ◌+◌, ◌^◌, ◌∙◌, ap, sym, subst, arith, NoDigit}
 use Rattle.ks_script.proofs.Cuts.{if_none_any}
 use Rattle.ks_script.proofs.Onward.{one_part, two_parts}
 use Rattle.ks_script.proofs.Exact.{onward, over, fewer}

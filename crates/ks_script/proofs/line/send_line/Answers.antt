@@ -1,5 +1,4 @@
-use Rattle.std.proofs.Common.{[], ◌++◌, append_assoc}
-use Rattle.std.specs.Fmt.{decimal}
+use Rattle.ks_script.proofs.Common.{[], ◌++◌, append_assoc, decimal}
 use Rattle.ks_script.proofs.Putting.{holds_none, puts_on, puts_as}
 use Rattle.ks_script.proofs.line.send_line.Goals as goal
 

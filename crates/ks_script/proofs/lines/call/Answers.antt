@@ -1,4 +1,4 @@
-use Rattle.ks_script.specs.Script.{IsCall, call_line}
+use Rattle.ks_script.proofs.Common.{IsCall, call_line}
 use Rattle.ks_script.proofs.Cuts.{if_none_any}
 use Rattle.ks_script.proofs.Spelled.{plain_call}
 use Rattle.ks_script.proofs.Lined.{lined_first, none_first}

@@ -1,6 +1,4 @@
-use Rattle.std.proofs.Common.{List, ℕ, ◌++◌, codes, drop, sym, ap, subst, ◌∙◌, arith}
-use Rattle.std.specs.Fmt.{decimal}
-use Rattle.ks_script.specs.Lined.{EndsLine, Lined}
+use Rattle.ks_script.proofs.Common.{List, ℕ, ◌++◌, codes, drop, sym, ap, subst, ◌∙◌, arith, decimal, EndsLine, Lined}
 use Rattle.ks_script.proofs.Numerals.{wide}
 use Rattle.ks_script.proofs.Cuts.{if_none_any}
 use Rattle.ks_script.proofs.Spelled.{plain_caller}

@@ -1,7 +1,4 @@
-use Rattle.std.proofs.Common.{arith}
-use Rattle.std.specs.Fmt.{decimal}
-use Rattle.ks_script.specs.Run.{pair_line}
-use Rattle.ks_script.specs.RunLeft.{IsPairFrom}
+use Rattle.ks_script.proofs.Common.{arith, decimal, pair_line, IsPairFrom}
 use Rattle.ks_script.proofs.Cuts.{if_none_any}
 use Rattle.ks_script.proofs.Spelled.{plain_pair}
 use Rattle.ks_script.proofs.Lined.{lined_first, none_first}

@@ -1,6 +1,4 @@
-use Rattle.std.specs.Fmt.{decimal}
-use Rattle.ks_script.specs.Run.{reply_word, reply_line}
-use Rattle.ks_script.specs.Checked.{IsAnswered}
+use Rattle.ks_script.proofs.Common.{decimal, reply_word, reply_line, IsAnswered}
 use Rattle.ks_script.proofs.Cuts.{if_none_any}
 use Rattle.ks_script.proofs.Spelled.{plain_reply}
 use Rattle.ks_script.proofs.Lined.{lined_first, none_first}

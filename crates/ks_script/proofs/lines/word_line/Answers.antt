@@ -1,6 +1,4 @@
-use Rattle.std.proofs.Common.{sym, subst, ◌∙◌}
-use Rattle.std.proofs.lemmas.List.{append_cancel_left}
-use Rattle.ks_script.specs.Lined.{EndsLine, Lined}
+use Rattle.ks_script.proofs.Common.{sym, subst, ◌∙◌, append_cancel_left, EndsLine, Lined}
 use Rattle.ks_script.proofs.Cuts.{if_none_any}
 use Rattle.ks_script.proofs.Lined.{lined_first, lined_shorter, not_first}
 use Rattle.ks_script.proofs.lines.word_line.Goals as goal

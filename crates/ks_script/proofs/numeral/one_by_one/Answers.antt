@@ -1,4 +1,4 @@
-use Rattle.std.proofs.Common.{◌*◌, ◌+◌, ◌∙◌, take, arith, sym}
+use Rattle.ks_script.proofs.Common.{◌*◌, ◌+◌, ◌∙◌, take, arith, sym}
 use Rattle.ks_script.proofs.Numerals.{value_read}
 use Rattle.ks_script.proofs.Fronts.{digit_more, small_read}
 use Rattle.ks_script.proofs.numeral.one_by_one.Goals as goal

@@ -1,6 +1,4 @@
-use Rattle.std.proofs.Common.{◌≡◌, ◌<◌, ◌≤◌, ◌-◌, true, take, length}
-use Rattle.std.specs.Str.{all_ascii_digits}
-use Rattle.std.specs.Str.Parse.{digits_value}
+use Rattle.ks_script.proofs.Common.{◌≡◌, ◌<◌, ◌≤◌, ◌-◌, true, take, length, all_ascii_digits, digits_value}
 use Rattle.ks_script.proofs.numeral.one_by_one.Given as goal
 
 abbrev pub invariant-digits : goal.invariant-digits

@@ -1,4 +1,4 @@
-use Rattle.std.proofs.Common.{sym, subst, arith}
+use Rattle.ks_script.proofs.Common.{sym, subst, arith}
 use Rattle.std.proofs.lemmas.Result.{on_ok_weaker, on_err_weaker}
 use Rattle.ks_script.specs.Outside.{Grew, GrewByFront}
 use Rattle.ks_script.proofs.Putting.{grew_on, front_on, rose_from}

@@ -1,7 +1,4 @@
-use Rattle.std.proofs.Common.{ℕ, ◌≡◌, List, [], ◌++◌, sym, ap, ◌∙◌}
-use Rattle.ks_history.specs.declared.Reply.{Reply}
-use Rattle.ks_script.specs.Lines.{text_of}
-use Rattle.ks_script.specs.Run.{Run, callers_from, map_lines, run_text}
+use Rattle.ks_script.proofs.Common.{ℕ, ◌≡◌, List, [], ◌++◌, sym, ap, ◌∙◌, Reply, text_of, Run, callers_from, map_lines, run_text}
 use Rattle.ks_script.proofs.Texts.{text_append}
 use Rattle.ks_script.proofs.Putting.{holds_none, puts_on, puts_as}
 use Rattle.ks_script.proofs.printed.write_run.Goals as goal

@@ -1,12 +1,4 @@
-use Rattle.std.proofs.Common.{ℕ, ◌≡◌, ◌+◌, List, [], ◌∷◌, ◌++◌, length, take, drop, refl, sym, ap, subst, ◌∙◌, arith, rules}
-use Rattle.std.specs.List.{AllByRecursion}
-use Rattle.std.proofs.lemmas.List.{map-append}
-use Rattle.ks_history.specs.declared.Op.{Op}
-use Rattle.ks_script.specs.Lines.{lines_of}
-use Rattle.ks_script.specs.Run.{Run}
-use Rattle.ks_script.specs.Checked.{IsAnswered}
-use Rattle.ks_script.specs.Reads.{Reads}
-use Rattle.ks_script.specs.RunLeft.{Replies, SpellsRun, AnswersLeft, RepliesLeft}
+use Rattle.ks_script.proofs.Common.{ℕ, ◌≡◌, ◌+◌, List, [], ◌∷◌, ◌++◌, length, take, drop, refl, sym, ap, subst, ◌∙◌, arith, rules, AllByRecursion, map-append, Op, lines_of, Run, IsAnswered, Reads, Replies, SpellsRun, AnswersLeft, RepliesLeft}
 use Rattle.ks_script.proofs.Texts.{cut_at, taken_with}
 use Rattle.ks_script.proofs.Steps.{reads_on, reads_line, all_push}
 use Rattle.ks_script.proofs.RunSteps.{head_line, sizes, caller_step, closed}

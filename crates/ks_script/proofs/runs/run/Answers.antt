@@ -1,14 +1,8 @@
-use Rattle.std.proofs.Common.{ℕ, ◌≡◌, ◌+◌, List, length, refl, ap, arith, codes, ◌∷◌, [], Err}
-use Rattle.std.proofs.lemmas.List.{nil_from_length}
-use Rattle.ks_history.specs.declared.Op.{Op}
-use Rattle.ks_script.specs.Lines.{lines_of}
-use Rattle.ks_script.specs.Run.{Run}
-use Rattle.ks_script.specs.Reads.{Reads}
-use Rattle.ks_script.specs.RunLeft.{Replies, SpellsRun, AnswersLeft, PairsLeft, NothingLeft}
+use Rattle.ks_script.proofs.Common.{ℕ, ◌≡◌, ◌+◌, List, length, refl, ap, arith, codes, ◌∷◌, [], Err, nil_from_length, Op, lines_of, Run, Reads, RefusedBehind, Replies, SpellsRun, AreRun, AnswersLeft, PairsLeft, NothingLeft}
 use Rattle.ks_script.proofs.Cuts.{is_empty_true, is_empty_false}
 use Rattle.ks_script.proofs.Steps.{reads_on, reads_line}
 use Rattle.ks_script.proofs.RunSteps.{map_step, end_step}
-use Rattle.ks_script.proofs.RunRead.{no_map, no_end, past_end, all_lines, no_other, fault_behind}
+use Rattle.ks_script.proofs.RunRead.{no_map, no_end, past_end, all_lines, no_other, fault_answers}
 use Rattle.ks_script.proofs.runs.run.Goals as goal
 
 -- behind `map`, some pairs
@@ -25,7 +19,7 @@ ended_by script callers ps bytes left end total read line run =
 
 pub returns-in-Err-clause-answer : goal.returns-in-Err-clause-answer
 returns-in-Err-clause-answer c =
-    fault_behind c.args.script.now c.args.before (lines_of c.args.bytes.now) c.in-Err.fault (λ n e. c.in-Err.ensures.refused n (ap Err e))
+    fault_answers {X = Run} c.in-Err.fault (λ run. SpellsRun c.args.script.now run (lines_of c.args.bytes.now)) (RefusedBehind c.args.before (AreRun c.args.script.now) (lines_of c.args.bytes.now)) (λ n e. c.in-Err.ensures.refused n (ap Err e))
 
 pub returns-in_default-clause-answer : goal.returns-in_default-clause-answer
 returns-in_default-clause-answer c =

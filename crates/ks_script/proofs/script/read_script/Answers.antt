@@ -1,12 +1,6 @@
-use Rattle.std.proofs.Common.{ℕ, ◌+◌, List, length, sym, ap, Ok, Err, Result}
-use Rattle.std.proofs.lemmas.List.{nil_from_length}
-use Rattle.ks_history.specs.declared.Op.{Op}
-use Rattle.ks_script.specs.declared.fault.TextFault.{TextFault}
-use Rattle.ks_script.specs.declared.fault.TextFault.TheVariants.{Refused}
-use Rattle.ks_script.specs.Lines.{lines_of}
-use Rattle.ks_script.specs.Script.{AreScript}
+use Rattle.ks_script.proofs.Common.{ℕ, ◌+◌, List, length, sym, ap, Ok, Err, Result, nil_from_length, Op, TextFault, Refused, lines_of, AreScript}
 use Rattle.ks_script.proofs.Cuts.{is_empty_true, is_empty_false}
-use Rattle.ks_script.proofs.Refusals.{bad_no_text, one_bad}
+use Rattle.ks_script.proofs.Leading.{bad_no_text, one_bad}
 use Rattle.ks_script.proofs.ScriptRead.{spelled, one_read, stopped}
 use Rattle.ks_script.proofs.script.read_script.Goals as goal
 

@@ -1,5 +1,5 @@
-use Rattle.std.proofs.Common.{◌+◌, arith}
-use Rattle.ks_script.proofs.Sources.{gone_within}
+use Rattle.ks_script.proofs.Common.{◌+◌, arith}
+use Rattle.ks_script.proofs.Putting.{gone_within}
 use Rattle.ks_script.proofs.source.read_all.Goals as goal
 
 pub returns-then-count-room-clause-stops : goal.returns-then-count-room-clause-stops

@@ -1,4 +1,4 @@
-use Rattle.std.proofs.Common.{◌∙◌, ap, map}
+use Rattle.ks_script.proofs.Common.{◌∙◌, ap, map}
 use Rattle.std.proofs.lemmas.List.Elements.{All-same, All-push, All-weaker}
 use Rattle.ks_script.proofs.Packing.{on_err, kept, one_more}
 use Rattle.ks_script.specs.PackedCalls.{call_in, IsCallIn}
