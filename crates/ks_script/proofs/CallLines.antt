@@ -1,7 +1,54 @@
--- What the line of a call says.
-use Rattle.ks_script.proofs.Common.{ℕ, ◌≡◌, cond, eqb, List, drop, get_or, sym, ap, ◌∙◌, arith, Op, Get, Put, Del, Add, Swap, Version, IsCall, call_line, pair_line}
-use Rattle.ks_script.proofs.Numerals.{wide}
-use Rattle.ks_script.proofs.Pairs.{value_small, cut, cut_first, cut_last, pair_of, pair_back, three_parts}
+-- What a line says, read back from it: numbers with spaces between them, pairs and calls.
+use Rattle.ks_script.proofs.Common.{ℕ, ◌≡◌, cond, eqb, List, drop, get_or, sym, ap, ◌∙◌, arith, Op, Get, Put, Del, Add, Swap, Version, IsCall, call_line, pair_line, ◌+◌, ◌-◌, ◌*◌, ◌^◌, ◌<◌, true, [], ◌∷◌, ◌++◌, refl, append_assoc, append-nil, codes, inl, inr, false≢true, and_parts, eqb_tells, decimal, is_ascii_digit, all_ascii_digits, First, Second, value_limit}
+use Rattle.ks_script.proofs.Numerals.{wide, read_on, digits_of_number, value_of_digits}
+
+-- the values of a version have 128 bits
+pub value_small : (version : Version) (v : ℕ) → v < value_limit version → v < 2 ^ 128
+value_small First v h = wide v h
+value_small Second v h = h
+
+-- the number before a space or the end, read on from n, and what is behind the space
+abbrev pub cut : ℕ → List ℕ → ℕ × List ℕ
+cut n [] = (n, [])
+cut n (c ∷ cs) = cond (eqb c 32) (n, cs) (cut (10 * n + (c - 48)) cs)
+
+cut_along : (n : ℕ) (ds tail : List ℕ) → all_ascii_digits ds ≡ true → cut n (ds ++ tail) ≡ cut (read_on n ds) tail
+cut_along n [] tail all = refl
+cut_along n (d ∷ ds) tail all =
+    let parts = and_parts (is_ascii_digit d) (all_ascii_digits ds) all in
+    elim (eqb_tells d 32) [
+      | inl same ↦ absurd (false≢true (ap is_ascii_digit (sym same.1) ∙ parts.0))
+      | inr other ↦ ap (λ t. cond t (n, ds ++ tail) (cut (10 * n + (d - 48)) (ds ++ tail))) other.0 ∙ cut_along (10 * n + (d - 48)) ds tail parts.1
+    ]
+
+cut_number : (n : ℕ) (tail : List ℕ) → n < 2 ^ 128 → cut 0 (decimal n ++ tail) ≡ cut n tail
+cut_number n tail small = cut_along 0 (decimal n) tail (digits_of_number n small) ∙ ap (λ (k : ℕ). cut k tail) (value_of_digits n small)
+
+pub cut_first : (n : ℕ) (rest : List ℕ) → n < 2 ^ 128 → cut 0 (decimal n ++ codes " " ++ rest) ≡ (n, rest)
+cut_first n rest small = ap (cut 0) (append_assoc (decimal n) (codes " ") rest) ∙ cut_number n (codes " " ++ rest) small
+
+pub cut_last : (n : ℕ) → n < 2 ^ 128 → cut 0 (decimal n) ≡ (n, [])
+cut_last n small = ap (cut 0) (sym (append-nil (decimal n))) ∙ cut_number n [] small
+
+-- a line spells one pair
+abbrev pub pair_of : List ℕ → ℕ × ℕ
+pair_of line = ((cut 0 line).0, (cut 0 (cut 0 line).1).0)
+
+pub pair_back : (k v : ℕ) → k < 2 ^ 128 → v < 2 ^ 128 → pair_of (pair_line (k, v)) ≡ (k, v)
+pair_back k v h i = ap (λ (x : ℕ × List ℕ). (x.0, (cut 0 x.1).0)) (cut_first k (decimal v) h) ∙ ap (λ (x : ℕ × List ℕ). (k, x.0)) (cut_last v i)
+
+pub one_pair : (x y : ℕ × ℕ) → x.0 < 2 ^ 64 → x.1 < 2 ^ 128 → y.0 < 2 ^ 64 → y.1 < 2 ^ 128 → pair_line x ≡ pair_line y → x ≡ y
+one_pair x y h i k l e = sym (pair_back x.0 x.1 (wide x.0 h) i) ∙ (ap pair_of e ∙ pair_back y.0 y.1 (wide y.0 k) l)
+
+-- three numbers
+abbrev pub three : ℕ → ℕ → ℕ → List ℕ
+three k v w = decimal k ++ codes " " ++ decimal v ++ codes " " ++ decimal w
+
+pub three_parts : (k v w : ℕ) → three k v w ≡ decimal k ++ codes " " ++ pair_line (v, w)
+three_parts k v w =
+    append_assoc (decimal k ++ codes " " ++ decimal v) (codes " ") (decimal w)
+    ∙ (append_assoc (decimal k ++ codes " ") (decimal v) (codes " " ++ decimal w)
+    ∙ ap (λ (l : List ℕ). decimal k ++ codes " " ++ l) (sym (append_assoc (decimal v) (codes " ") (decimal w))))
 
 -- the first byte of a line
 abbrev pub first : List ℕ → ℕ

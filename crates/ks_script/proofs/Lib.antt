@@ -4,12 +4,10 @@ pub mod Texts
 pub mod Numerals
 pub mod Cuts
 pub mod Fronts
-pub mod Onward
 pub mod Exact
 pub mod Lined
 pub mod Eights
 pub mod Lanes
-pub mod Pairs
 pub mod CallLines
 pub mod Leading
 pub mod Steps

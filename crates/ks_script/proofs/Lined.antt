@@ -2,7 +2,7 @@
 use Rattle.ks_script.proofs.Common.{ℕ, ◌≡◌, ◌^◌, ◌<◌, ◌≤◌, true, List, [], ◌∷◌, ◌++◌, length, drop, refl, sym, ap, subst, ◌∙◌, append_assoc, append-nil, arith, codes, length-append, inl, inr, false≢true, and_parts, is_ascii_digit, all_ascii_digits, decimal, onto_first, lines_of, Lacks, NoDigit, EndsLine, Lined, NotLined, Lines, NotFirst, NoneFirst, pair_line}
 use Rattle.ks_script.proofs.Numerals.{digits_of_number, one_number}
 use Rattle.ks_script.proofs.Cuts.{lines_cases, lines_first, lines_last}
-use Rattle.ks_script.proofs.Pairs.{three, three_parts}
+use Rattle.ks_script.proofs.CallLines.{three, three_parts}
 use Rattle.ks_script.proofs.Exact.{goes_on}
 
 -- the end of a line is no digit
