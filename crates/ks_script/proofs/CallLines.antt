@@ -1,5 +1,5 @@
 -- What a line says, read back from it: numbers with spaces between them, pairs and calls.
-use Rattle.ks_script.proofs.Common.{ℕ, ◌≡◌, cond, eqb, List, drop, get_or, sym, ap, ◌∙◌, arith, Op, Get, Put, Del, Add, Swap, Version, IsCall, call_line, pair_line, ◌+◌, ◌-◌, ◌*◌, ◌^◌, ◌<◌, true, [], ◌∷◌, ◌++◌, refl, append_assoc, append-nil, codes, inl, inr, false≢true, and_parts, eqb_tells, decimal, is_ascii_digit, all_ascii_digits, First, Second, value_limit}
+use Rattle.ks_script.proofs.Common.{ℕ, ◌≡◌, cond, eqb, List, length, drop, get_or, sym, ap, ◌∙◌, arith, Op, Get, Put, Del, Add, Swap, Version, IsCall, call_line, pair_line, ◌+◌, ◌-◌, ◌*◌, ◌^◌, ◌<◌, true, [], ◌∷◌, ◌++◌, refl, append_assoc, append-nil, codes, inl, inr, false≢true, and_parts, eqb_tells, decimal, is_ascii_digit, all_ascii_digits, First, Second, value_limit}
 use Rattle.ks_script.proofs.Numerals.{wide, read_on, digits_of_number, value_of_digits}
 
 -- the values of a version have 128 bits
@@ -54,13 +54,17 @@ three_parts k v w =
 abbrev pub first : List ℕ → ℕ
 first line = get_or line 0 0
 
--- no call begins as `caller` or `run` do
-pub not_call : (op : Op) → (first (call_line op) ≡ 99 → ⊥) × (first (call_line op) ≡ 114 → ⊥)
-not_call (Get k) = (λ e. omega (arith, e), λ e. omega (arith, e))
-not_call (Put k v) = (λ e. omega (arith, e), λ e. omega (arith, e))
-not_call (Del k) = (λ e. omega (arith, e), λ e. omega (arith, e))
-not_call (Add k v) = (λ e. omega (arith, e), λ e. omega (arith, e))
-not_call (Swap k v w) = (λ e. omega (arith, e), λ e. omega (arith, e))
+-- a call has a first byte, and none begins as `caller` or `run` do
+pub not_call : (op : Op) → (0 < first (call_line op)) × (first (call_line op) ≡ 99 → ⊥) × (first (call_line op) ≡ 114 → ⊥)
+not_call (Get k) = (omega arith, λ e. omega (arith, e), λ e. omega (arith, e))
+not_call (Put k v) = (omega arith, λ e. omega (arith, e), λ e. omega (arith, e))
+not_call (Del k) = (omega arith, λ e. omega (arith, e), λ e. omega (arith, e))
+not_call (Add k v) = (omega arith, λ e. omega (arith, e), λ e. omega (arith, e))
+not_call (Swap k v w) = (omega arith, λ e. omega (arith, e), λ e. omega (arith, e))
+
+pub some_first : (line : List ℕ) → 0 < first line → 0 < length line
+some_first [] some = some
+some_first (b ∷ line) some = omega arith
 
 -- the call of a line, by its first byte
 abbrev swap_of : ℕ → ℕ × ℕ → Op

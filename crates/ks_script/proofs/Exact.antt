@@ -1,5 +1,5 @@
 -- Numbers that bytes begin with, exactly: they are read on from their first digits, and no digit follows them.
-use Rattle.ks_script.proofs.Common.{ℕ, zero, suc, ◌≡◌, ◌+◌, ◌-◌, ◌*◌, ◌^◌, ◌<◌, ◌≤◌, ◌⊎◌, true, false, List, [], ◌∷◌, ◌++◌, length, take, drop, get_or, refl, sym, ap, subst, ◌∙◌, arith, rules, length-append, inl, inr, take-append-drop, length-take-le, get_or_append_left, get_or-take, false≢true, and_parts, eqb_tells, decimal, is_ascii_digit, all_ascii_digits, digits_value, NoDigit, ReadOn, append_assoc}
+use Rattle.ks_script.proofs.Common.{ℕ, zero, suc, ◌≡◌, ◌+◌, ◌-◌, ◌*◌, ◌^◌, ◌<◌, ◌≤◌, ◌⊎◌, true, List, [], ◌∷◌, ◌++◌, length, take, drop, get_or, refl, sym, ap, subst, ◌∙◌, arith, rules, length-append, inl, inr, take-append-drop, length-take-le, get_or_append_left, get_or-take, false≢true, and_parts, eqb_tells, decimal, is_ascii_digit, all_ascii_digits, digits_value, NoDigit, ReadOn, append_assoc}
 use Rattle.std.proofs.lemmas.Nat.{pow-add}
 use Rattle.std.proofs.Math.Nat.{mul-le-mul_right}
 use Rattle.ks_script.proofs.Numerals.{value_read, read_on, digits_of_number, value_of_digits, some_digits, digits_spelled}

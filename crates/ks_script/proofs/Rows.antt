@@ -1,15 +1,8 @@
--- Calls and replies: how their lines differ.
-use Rattle.ks_script.proofs.Common.{ℕ, ◌≡◌, ◌^◌, ◌<◌, ◌⊎◌, false, cond, eqb, List, [], ◌∷◌, ◌++◌, length, codes, refl, sym, ap, subst, ◌∙◌, arith, inl, inr, length-append, get_or_append_left, append_cancel_left, decimal, is_ascii_digit, Op, Get, Put, Del, Add, Swap, Reply, Nothing, Value, Full, call_line, reply_word, IsReply, NoDigit, EndsLine, NotLined}
+-- Replies: how their words differ.
+use Rattle.ks_script.proofs.Common.{ℕ, ◌≡◌, ◌^◌, ◌<◌, ◌⊎◌, false, cond, eqb, List, [], ◌∷◌, ◌++◌, length, codes, refl, sym, ap, subst, ◌∙◌, arith, inl, inr, length-append, get_or_append_left, append_cancel_left, decimal, is_ascii_digit, Reply, Nothing, Value, Full, reply_word, IsReply, NoDigit, EndsLine, NotLined}
 use Rattle.ks_script.proofs.Exact.{no_number}
 use Rattle.ks_script.proofs.Lined.{number_told, end_free}
 use Rattle.ks_script.proofs.CallLines.{first}
-
-pub some_bytes : (op : Op) → 0 < length (call_line op)
-some_bytes (Get k) = omega arith
-some_bytes (Put k v) = omega arith
-some_bytes (Del k) = omega arith
-some_bytes (Add k v) = omega arith
-some_bytes (Swap k v w) = omega arith
 
 pub some_spaced : (a b : List ℕ) → 0 < length (a ++ codes " " ++ b)
 some_spaced a b = omega (arith, length-append (a ++ codes " ") b, length-append a (codes " "))

@@ -1,5 +1,5 @@
 -- Texts and their lines, there and back.
-use Rattle.ks_script.proofs.Common.{ℕ, ◌≡◌, ◌⊎◌, ◌+◌, ◌^◌, ◌<◌, ◌≤◌, Bool, true, false, ◌||◌, eqb, List, [], ◌∷◌, ◌++◌, length, map, refl, sym, ap, subst, ◌∙◌, append_assoc, arith, codes, inl, inr, length-append, length-map, false≢true, eq-eqb, or_parts, decimal, AllByRecursion, onto_first, Op, Get, Put, Del, Add, Swap, Reply, Nothing, Value, Full, Version, First, Second, lines_of, text_of, Lacks, version_line, callers_limit, IsCall, IsScript, call_line, script_lines, Run, reply_word, reply_line, pair_line, callers_from, map_lines, run_lines, IsReply, IsAnswered, AscendFrom, IsRunOf, CheckedIn}
+use Rattle.ks_script.proofs.Common.{ℕ, ◌≡◌, ◌⊎◌, ◌+◌, ◌^◌, ◌<◌, ◌≤◌, Bool, false, ◌||◌, eqb, List, [], ◌∷◌, ◌++◌, length, map, refl, sym, ap, subst, ◌∙◌, append_assoc, arith, codes, inl, inr, length-append, length-map, false≢true, eq-eqb, or_parts, decimal, AllByRecursion, onto_first, Op, Get, Put, Del, Add, Swap, Reply, Nothing, Value, Full, Version, First, Second, lines_of, text_of, Lacks, version_line, callers_limit, IsCall, IsScript, call_line, script_lines, Run, reply_word, reply_line, pair_line, callers_from, map_lines, run_lines, IsReply, IsAnswered, AscendFrom, IsRunOf, CheckedIn}
 use Rattle.ks_script.proofs.Numerals.{wide}
 use Rattle.ks_script.proofs.Cuts.{lines_cases, lines_first, decimal_lacks}
 use Rattle.ks_script.proofs.CallLines.{value_small}

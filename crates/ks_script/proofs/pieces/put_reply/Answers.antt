@@ -1,4 +1,4 @@
-use Rattle.ks_script.proofs.Common.{ℕ, ◌≡◌, List, ◌++◌, codes, sym, ap, ◌∙◌, append_assoc, refl, decimal, Reply, Nothing, Value, Full, ended, reply_word, reply_line, pair_line}
+use Rattle.ks_script.proofs.Common.{ℕ, ◌≡◌, List, ◌++◌, codes, sym, ap, ◌∙◌, append_assoc, refl, decimal, Reply, Nothing, Full, ended, reply_word, reply_line, pair_line}
 use Rattle.ks_script.proofs.Putting.{puts_as}
 use Rattle.ks_script.proofs.pieces.put_reply.Goals as goal
 

@@ -1,4 +1,4 @@
-use Rattle.ks_script.proofs.Common.{ℕ, ◌+◌, ◌∷◌, ◌++◌, [], List, take, sym, ap, ◌∙◌, ◌<◌, subst, take_more, Op, Get}
+use Rattle.ks_script.proofs.Common.{ℕ, ◌∷◌, ◌++◌, [], List, take, sym, ap, ◌∙◌, ◌<◌, subst, take_more, Op, Get}
 use Rattle.ks_script.proofs.packed_calls.Calls.to_ops.Goals as goal
 
 pub loop-at-preserved : goal.loop-at-preserved
