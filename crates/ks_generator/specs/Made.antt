@@ -11,7 +11,7 @@ draw x = (x * 6364136223846793005 + 1442695040888963407) % 2 ^ 64
 abbrev pub drawn : ℕ → ℕ
 drawn x = x / 2 ^ 33
 
--- the key of caller c, of so many callers, for a drawn number: no two callers share one
+-- the key of caller c, of that number of callers, for a drawn number: no two callers share one
 abbrev pub key_of : ℕ → ℕ → ℕ → ℕ
 key_of callers c s = c + callers * (s % 256)
 
@@ -37,11 +37,11 @@ abbrev pub after_calls : ℕ → ℕ → ℕ
 after_calls zero x = x
 after_calls (suc n) x = after_calls n (after_call x)
 
--- the scripts of the last k of so many callers, the first of them c, each of n calls, made from the state x
+-- the scripts of the last k callers of that number, the first of them c, each of n calls, made from the state x
 abbrev pub callers_made : ℕ → ℕ → ℕ → ℕ → ℕ → List (List Op)
 callers_made callers n c zero x = []
 callers_made callers n c (suc k) x = calls_made callers c n x ∷ callers_made callers n (c + 1) k (after_calls n x)
 
--- the script of so many callers with n calls each, made from the first state
+-- the script of that number of callers with n calls each, made from the first state
 abbrev pub made : ℕ → ℕ → ℕ → List (List Op)
 made callers n first = callers_made callers n 0 callers first

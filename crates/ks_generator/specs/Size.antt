@@ -4,7 +4,7 @@ use Rattle.ks_history.specs.declared.Op.{Op}
 use Rattle.ks_script.specs.Script.{calls_in}
 use Rattle.ks_generator.specs.declared.summing.Size.{Size}
 
--- the script has so many callers, and so many calls
+-- the script has this number of callers, and this number of calls
 pub record IsSize (size : Size) (script : List (List Op)) : Type 0 where
   pub callers : size.callers ≡ length script
   pub calls : size.calls ≡ calls_in script

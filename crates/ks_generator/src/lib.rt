@@ -59,7 +59,7 @@ fn calls(
     Ok(ops)
 }
 
-/// The script of so many callers with so many calls each, made from the first number.
+/// The script of `callers` callers with `calls` calls each, made from the first number.
 pub fn made_script(
     alloc: Global,
     callers: u32,

@@ -1,4 +1,4 @@
--- A run that tells what a trace served is legal.
+-- A run that says what a trace served is legal.
 use Rattle.std.proofs.Common.{ℕ, zero, suc, ◌≡◌, ◌<◌, ◌≤◌, ◌+◌, ◌%◌, ◌^◌, List, [], ◌∷◌, ◌++◌, length, get_or, take, map, Some, refl, sym, ◌∙◌, ap, subst, arith, take_all, add-one}
 use Rattle.std.specs.Prelude.{All, slice_get}
 use Rattle.std.proofs.Math.Path.{fun_ext}
@@ -150,7 +150,7 @@ module _ (m : ℕ) (L : ℕ → List (ℕ × Reply)) (O : ℕ → List Op) (call
             (subst (λ cs. IsAnswer (map_after cs) (get_or calls n no_call).op (get_or calls n no_call).reply) (sym (below_is n (omega arith))) (legal n (get_or calls n no_call) (slice_get_is calls n lt)));
       }
 
--- of the operations at places keys are told
+-- the keys of the operations at places
 
 module _ (place key : ℕ → ℕ) (back : (k : ℕ) → IsPlace k → key (place k) ≡ k) where
   keyed : (h : List Event) (c : ℕ) (ops : List Op) → AllByRecursion HasKey ops → map (λ x. x.call.op) (calls_by c h) ≡ map (at_place place) ops → ops_by key h c ≡ ops

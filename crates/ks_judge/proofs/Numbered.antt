@@ -57,7 +57,7 @@ same_length script lines shape c = sym (length_at lines c) ∙ ap (λ (ns : List
 pub same_count : (script : List (List Op)) (lines : Lines) → SameShape script lines → length lines ≡ length script
 same_count script lines shape = sym (length-map lines (λ x. length x)) ∙ ap length shape ∙ length-map script (λ x. length x)
 
--- a slot that tells one line
+-- a slot that names one line
 pub one_tells : (lines : Lines) (n : ℕ) (slot : Slot) (c : ℕ) (places : List (ℕ × ℕ)) → slot ≡ One c → TellsSlot lines n slot places → (j : ℕ) × (places ≡ (c, j) ∷ []) × Carries lines c j n
 one_tells lines n slot c places is tells = subst (λ (s : Slot). TellsSlot lines n s places) is tells
 

@@ -21,7 +21,7 @@ use Rattle.ks_history.specs.Laws.Stays.{cond_here, cond_else}
 use Rattle.ks_history.specs.Served.{at_place, CalledBelow, IsListing}
 use Rattle.ks_judge.specs.Keys.{HasKey}
 
--- the answered operation with the place f k for its key k
+-- the operation and its reply, with the place f k for its key k
 abbrev pub placed : (ℕ → ℕ) → Answered → Answered
 placed f a = record { op = at_place f a.op; reply = a.reply }
 

@@ -1,4 +1,4 @@
--- Each call of a trace stands on one line of the rows of its caller, in order, with its number and reply.
+-- Each call of a trace is on one line of the rows of its caller, in order, with its number and reply.
 use Rattle.std.proofs.Common.{ℕ, ◌≡◌, ◌<◌, ◌≤◌, ◌+◌, List, [], ◌∷◌, ◌++◌, length, get_or, refl, sym, ◌∙◌, ap, subst, arith}
 use mathlib.Core.Logic.{dite}
 use native.Mathlib.Decide.{ℕ_discrete}
@@ -16,7 +16,7 @@ use Rattle.ks_judge.proofs.Tables.{rows, Below, below_more, below_push, below_at
 abbrev pub no_call : Answered
 no_call = record { op = Get 0; reply = Nothing }
 
--- the call n stands on a line of one of m callers
+-- the call n is on a line of one of m callers
 pub record Stands (m : ℕ) (L : ℕ → List (ℕ × Reply)) (O : ℕ → List Op) (calls : List Answered) (n : ℕ) : Type 0 where
   pub caller : ℕ
   pub place : ℕ

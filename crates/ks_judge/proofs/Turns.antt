@@ -59,7 +59,7 @@ in_lines n b (xs ∷ rest) (suc c) i there within is =
     has_right (carriers_in n b 0 xs) (carriers_from n (b + 1) rest) (b + suc c, i)
     (subst (λ (k : ℕ). Has (carriers_from n (b + 1) rest) (k, i)) (omega arith) (in_lines n (b + 1) rest c i (omega arith) within is))
 
--- and where one line alone carries n, it is that one
+-- and if only one line carries n, it is that one
 alone : (lines : Lines) (n d k c i : ℕ) → carriers lines n ≡ (d, k) ∷ [] → Carries lines c i n → ◌≡◌ {A = ℕ × ℕ} (d, k) (c, i)
 alone lines n d k c i only carries = head (subst (λ (ps : List (ℕ × ℕ)). Has ps (c, i)) only has)
   where
@@ -70,7 +70,8 @@ alone lines n d k c i only carries = head (subst (λ (ps : List (ℕ × ℕ)). H
     head (inl e) = e
     head (inr h) = absurd h
 
--- the first `made` lines of each caller carry numbers below n, and those that alone carry one below n are among them
+-- the first `made` lines of each caller carry numbers below n, and those that are the only ones to carry
+-- one below n are among them
 pub record Turns (lines : Lines) (n : ℕ) (made : List ℕ) : Type 0 where
   pub count : length made ≡ length lines
   pub below : (c j : ℕ) → c < length lines → j < get_or made c 0 → (line_at lines c j).0 < n

@@ -13,17 +13,17 @@ Stands lines c j = (c < length lines) × (j < length (slice_index_or lines c [])
 abbrev pub Carries : Lines → ℕ → ℕ → ℕ → Type 0
 Carries lines c j n = Stands lines c j × ((line_at lines c j).0 ≡ n)
 
--- the slot of the number n tells whose lines carry it, where the places of these lines are given
+-- the slot of the number n says whose lines carry it, if the places of these lines are given
 abbrev pub TellsSlot : Lines → ℕ → Slot → List (ℕ × ℕ) → Type 0
 TellsSlot lines n Empty places = places ≡ []
 TellsSlot lines n (One c) places = (j : ℕ) × (places ≡ (c, j) ∷ []) × Carries lines c j n
 TellsSlot lines n Many places = 2 ≤ length places
 
--- what a slot in 4 bytes tells
+-- what a slot in 4 bytes says
 abbrev pub slot_in : PackedSlot → Slot
 slot_in s = if s.code == 0 then Empty else if s.code == 4294967295 then Many else One (s.code - 1)
 
--- each slot tells the places that P gives for its number
+-- each slot says the places that P has for its number
 abbrev pub Notes : Lines → List PackedSlot → (ℕ → List (ℕ × ℕ)) → Type 0
 Notes lines slots P = (n : ℕ) → n < length slots → TellsSlot lines n (slot_in (slice_index_or slots n (record { code = 0 }))) (P n)
 

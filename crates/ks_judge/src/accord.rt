@@ -1,4 +1,4 @@
-//! What `serve` prints and what `check` accepts agree: a run that tells what a trace served is judged legal.
+//! What `serve` prints and what `check` accepts agree: a run that says what a trace served is judged legal.
 ghost use Rattle.std.specs.Prelude.{ℕ, ◌≡◌, List, ◌≤◌};
 ghost use Rattle.ks_history.specs.declared.Op.{Op};
 ghost use Rattle.ks_history.specs.declared.Event.{Event};
@@ -13,7 +13,7 @@ ghost use Rattle.ks_judge.specs.Keys.{AreKeys};
 
 use ks_places::Placing;
 
-/// Whatever places keys have: a run that tells what a trace served has no wrong number, and every judgment of it is legal.
+/// Whatever places keys have: a run that says what a trace served has no wrong number, and every judgment of it is legal.
 /// It computes nothing.
 pub fn served_is_legal<P: Placing>()
     ensures legal { (script : List (List Op)) (run : Run) (h : List Event) → calls_in script ≤ 1048576 →

@@ -54,7 +54,7 @@ fn is_listing(alloc: Global, map: Table, pairs: &[(u64, u128)]) -> Result<bool, 
     rest.has_nothing(alloc)
 }
 
-/// Takes out what is at the key, and tells whether it was the value.
+/// Takes out what is at the key, and returns whether it was the value.
 fn takes(map: &mut Table, key: u64, value: u128) -> bool
     ensures had { IsTrue result ↔ (found map.old key ≡ Some value) }
     ensures gone { (p : ℕ) → found map.new p ≡ map_with (found map.old) (removes key) p }

@@ -14,7 +14,7 @@ use ks_history::{Op, Reply};
 use ks_script::{Calls, Lines};
 use std::alloc::{AllocError, Global};
 
-// Keys below so many have places of their own, if there are as many calls.
+// Keys below this number have places of their own, if there are as many calls.
 const LOW_KEYS: usize = 32_768;
 
 /// How many numbers from 0 on are right, and, if all are, the map after their calls.
@@ -24,7 +24,7 @@ pub struct Replayed {
     pub map: Table,
 }
 
-/// The reply that tells what was there.
+/// The reply that says what was there.
 fn told(value: Option<u128>) -> Reply
     ensures { result ≡ told value }
 {
@@ -34,7 +34,7 @@ fn told(value: Option<u128>) -> Reply
     }
 }
 
-/// Writes the value, and tells whether the reply tells what was there.
+/// Writes the value, and returns whether the reply says what was there.
 #[inline(always)]
 fn set(map: &mut Table, key: u64, value: u128, reply: &Reply) -> Result<bool, AllocError>
     ensures answer { IfOk result (λ right. IsTrue right ↔ (reply.now ≡ told (found map.old key))) }
@@ -45,7 +45,7 @@ fn set(map: &mut Table, key: u64, value: u128, reply: &Reply) -> Result<bool, Al
     Ok(*reply == told(was))
 }
 
-/// Makes the call with this reply on the map, and tells whether the reply is the map's answer.
+/// Makes the call with this reply on the map, and returns whether the reply is the map's answer.
 fn make(map: &mut Table, op: Op, reply: &Reply) -> Result<bool, AllocError>
     ensures answer { IfOk result (λ right. IsTrue right ↔ IsAnswer (found map.old) op reply.now) }
     ensures map { OnOk result

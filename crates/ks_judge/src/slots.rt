@@ -25,7 +25,7 @@ pub struct PackedSlot {
 // More than one line.
 const MANY: u32 = u32::MAX;
 
-/// What the slot tells.
+/// What the slot says.
 #[inline(always)]
 pub fn told_by(slot: PackedSlot) -> Slot
     ensures { result ≡ slot_in slot }
@@ -75,8 +75,8 @@ fn note_caller(slots: &mut [PackedSlot], callers: &[Lines], caller: u32)
     }
 }
 
-/// For each number below `count` whose lines carry it. So many callers that their numbers pass 32 bits take more memory
-/// than there is.
+/// For each number below `count` whose lines carry it. More callers than 32 bits can number take more
+/// memory than there is.
 pub fn slots(alloc: Global, callers: &[Lines], count: usize) -> Result<Vec<PackedSlot>, AllocError>
     ensures count { IfOk result (λ v. length v.items ≡ count) }
     ensures noted { IfOk result (λ v. Notes callers.now v.items (carriers callers.now)) }

@@ -83,7 +83,7 @@ impl Table {
         }
     }
 
-    /// Gives the key this value, and tells what it had.
+    /// Sets the value of the key, and returns what it had.
     #[inline(always)]
     pub fn insert(&mut self, key: u64, value: u128) -> Result<Option<u128>, AllocError>
         ensures had { IfOk result (λ had. had ≡ found self.old key) }
@@ -97,7 +97,7 @@ impl Table {
         Ok(had)
     }
 
-    /// Leaves the key nothing, and tells what it had.
+    /// Leaves the key nothing, and returns what it had.
     #[inline(always)]
     pub fn remove(&mut self, key: u64) -> Option<u128>
         ensures had { result ≡ found self.old key }

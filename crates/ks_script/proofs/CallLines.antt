@@ -1,54 +1,93 @@
--- What the line of a call tells.
-use Rattle.std.proofs.Common.{ℕ, ◌≡◌, List, drop, get_or, ap, ◌∙◌, arith, codes}
-use Rattle.ks_history.specs.declared.Op.{Op}
-use Rattle.ks_history.specs.declared.Op.TheVariants.{Get, Put, Del, Add, Swap}
-use Rattle.ks_script.specs.declared.version.Version.{Version}
-use Rattle.ks_script.specs.Script.{IsCall, call_line}
-use Rattle.ks_script.proofs.Numerals.{wide, one_number}
-use Rattle.ks_script.proofs.Pairs.{value_small, two_told, three_told}
+-- What a line says, read back from it: numbers with spaces between them, pairs and calls.
+use Rattle.ks_script.proofs.Common.{ℕ, ◌≡◌, cond, eqb, List, length, drop, get_or, sym, ap, ◌∙◌, arith, Op, Get, Put, Del, Add, Swap, Version, IsCall, call_line, pair_line, ◌+◌, ◌-◌, ◌*◌, ◌^◌, ◌<◌, true, [], ◌∷◌, ◌++◌, refl, append_assoc, append-nil, codes, inl, inr, false≢true, and_parts, eqb_tells, decimal, is_ascii_digit, all_ascii_digits, First, Second, value_limit}
+use Rattle.ks_script.proofs.Numerals.{wide, read_on, digits_of_number, value_of_digits}
+
+-- the values of a version have 128 bits
+pub value_small : (version : Version) (v : ℕ) → v < value_limit version → v < 2 ^ 128
+value_small First v h = wide v h
+value_small Second v h = h
+
+-- the number before a space or the end, read on from n, and what is behind the space
+abbrev pub cut : ℕ → List ℕ → ℕ × List ℕ
+cut n [] = (n, [])
+cut n (c ∷ cs) = cond (eqb c 32) (n, cs) (cut (10 * n + (c - 48)) cs)
+
+cut_along : (n : ℕ) (ds tail : List ℕ) → all_ascii_digits ds ≡ true → cut n (ds ++ tail) ≡ cut (read_on n ds) tail
+cut_along n [] tail all = refl
+cut_along n (d ∷ ds) tail all =
+    let parts = and_parts (is_ascii_digit d) (all_ascii_digits ds) all in
+    elim (eqb_tells d 32) [
+      | inl same ↦ absurd (false≢true (ap is_ascii_digit (sym same.1) ∙ parts.0))
+      | inr other ↦ ap (λ t. cond t (n, ds ++ tail) (cut (10 * n + (d - 48)) (ds ++ tail))) other.0 ∙ cut_along (10 * n + (d - 48)) ds tail parts.1
+    ]
+
+cut_number : (n : ℕ) (tail : List ℕ) → n < 2 ^ 128 → cut 0 (decimal n ++ tail) ≡ cut n tail
+cut_number n tail small = cut_along 0 (decimal n) tail (digits_of_number n small) ∙ ap (λ (k : ℕ). cut k tail) (value_of_digits n small)
+
+pub cut_first : (n : ℕ) (rest : List ℕ) → n < 2 ^ 128 → cut 0 (decimal n ++ codes " " ++ rest) ≡ (n, rest)
+cut_first n rest small = ap (cut 0) (append_assoc (decimal n) (codes " ") rest) ∙ cut_number n (codes " " ++ rest) small
+
+pub cut_last : (n : ℕ) → n < 2 ^ 128 → cut 0 (decimal n) ≡ (n, [])
+cut_last n small = ap (cut 0) (sym (append-nil (decimal n))) ∙ cut_number n [] small
+
+-- a line spells one pair
+abbrev pub pair_of : List ℕ → ℕ × ℕ
+pair_of line = ((cut 0 line).0, (cut 0 (cut 0 line).1).0)
+
+pub pair_back : (k v : ℕ) → k < 2 ^ 128 → v < 2 ^ 128 → pair_of (pair_line (k, v)) ≡ (k, v)
+pair_back k v h i = ap (λ (x : ℕ × List ℕ). (x.0, (cut 0 x.1).0)) (cut_first k (decimal v) h) ∙ ap (λ (x : ℕ × List ℕ). (k, x.0)) (cut_last v i)
+
+pub one_pair : (x y : ℕ × ℕ) → x.0 < 2 ^ 64 → x.1 < 2 ^ 128 → y.0 < 2 ^ 64 → y.1 < 2 ^ 128 → pair_line x ≡ pair_line y → x ≡ y
+one_pair x y h i k l e = sym (pair_back x.0 x.1 (wide x.0 h) i) ∙ (ap pair_of e ∙ pair_back y.0 y.1 (wide y.0 k) l)
+
+-- three numbers
+abbrev pub three : ℕ → ℕ → ℕ → List ℕ
+three k v w = decimal k ++ codes " " ++ decimal v ++ codes " " ++ decimal w
+
+pub three_parts : (k v w : ℕ) → three k v w ≡ decimal k ++ codes " " ++ pair_line (v, w)
+three_parts k v w =
+    append_assoc (decimal k ++ codes " " ++ decimal v) (codes " ") (decimal w)
+    ∙ (append_assoc (decimal k ++ codes " ") (decimal v) (codes " " ++ decimal w)
+    ∙ ap (λ (l : List ℕ). decimal k ++ codes " " ++ l) (sym (append_assoc (decimal v) (codes " ") (decimal w))))
 
 -- the first byte of a line
-abbrev first : List ℕ → ℕ
+abbrev pub first : List ℕ → ℕ
 first line = get_or line 0 0
 
--- no call is `caller`
-pub call_apart : (version : Version) (op : Op) → IsCall version op → call_line op ≡ codes "caller" → ⊥
-call_apart version (Get k) h e = omega (arith, ap first e)
-call_apart version (Put k v) h e = omega (arith, ap first e)
-call_apart version (Del k) h e = omega (arith, ap first e)
-call_apart version (Add k v) h e = omega (arith, ap first e)
-call_apart version (Swap k old new) h e = omega (arith, ap first e)
+-- a call has a first byte, and none begins as `caller` or `run` do
+pub not_call : (op : Op) → (0 < first (call_line op)) × (first (call_line op) ≡ 99 → ⊥) × (first (call_line op) ≡ 114 → ⊥)
+not_call (Get k) = (omega arith, λ e. omega (arith, e), λ e. omega (arith, e))
+not_call (Put k v) = (omega arith, λ e. omega (arith, e), λ e. omega (arith, e))
+not_call (Del k) = (omega arith, λ e. omega (arith, e), λ e. omega (arith, e))
+not_call (Add k v) = (omega arith, λ e. omega (arith, e), λ e. omega (arith, e))
+not_call (Swap k v w) = (omega arith, λ e. omega (arith, e), λ e. omega (arith, e))
+
+pub some_first : (line : List ℕ) → 0 < first line → 0 < length line
+some_first [] some = some
+some_first (b ∷ line) some = omega arith
+
+-- the call of a line, by its first byte
+abbrev swap_of : ℕ → ℕ × ℕ → Op
+swap_of k x = Swap k x.0 x.1
+
+abbrev call_of : List ℕ → Op
+call_of line =
+    cond (eqb (first line) 103) (Get (cut 0 (drop 4 line)).0)
+    (cond (eqb (first line) 100) (Del (cut 0 (drop 4 line)).0)
+    (cond (eqb (first line) 112) (Put (pair_of (drop 4 line)).0 (pair_of (drop 4 line)).1)
+    (cond (eqb (first line) 97) (Add (pair_of (drop 4 line)).0 (pair_of (drop 4 line)).1)
+    (swap_of (cut 0 (drop 5 line)).0 (pair_of (cut 0 (drop 5 line)).1)))))
+
+call_back : (version : Version) (op : Op) → IsCall version op → call_of (call_line op) ≡ op
+call_back version (Get k) h = ap (λ (x : ℕ × List ℕ). Get x.0) (cut_last k (wide k h))
+call_back version (Del k) h = ap (λ (x : ℕ × List ℕ). Del x.0) (cut_last k (wide k h))
+call_back version (Put k v) h = ap (λ (x : ℕ × ℕ). Put x.0 x.1) (pair_back k v (wide k h.0) (value_small version v h.1))
+call_back version (Add k v) h = ap (λ (x : ℕ × ℕ). Add x.0 x.1) (pair_back k v (wide k h.1) (value_small version v h.2))
+call_back version (Swap k v w) h =
+    ap (λ (l : List ℕ). swap_of (cut 0 l).0 (pair_of (cut 0 l).1)) (three_parts k v w)
+    ∙ (ap (λ (x : ℕ × List ℕ). swap_of x.0 (pair_of x.1)) (cut_first k (pair_line (v, w)) (wide k h.1))
+    ∙ ap (swap_of k) (pair_back v w (value_small version v h.2) (value_small version w h.3)))
 
 -- a line spells one call
 pub one_call : (version : Version) (a b : Op) → IsCall version a → IsCall version b → call_line a ≡ call_line b → a ≡ b
-one_call version (Get k) (Get m) h i e = ap Get (one_number k m (wide k h) (wide m i) (ap (drop 4) e))
-one_call version (Del k) (Del m) h i e = ap Del (one_number k m (wide k h) (wide m i) (ap (drop 4) e))
-one_call version (Put k v) (Put m w) h i e =
-    let parts = two_told k m v w h.0 i.0 (value_small version v h.1) (value_small version w i.1) (ap (drop 4) e) in
-    ap (λ (n : ℕ). Put n v) parts.0 ∙ ap (λ (n : ℕ). Put m n) parts.1
-one_call version (Add k v) (Add m w) h i e =
-    let parts = two_told k m v w h.1 i.1 (value_small version v h.2) (value_small version w i.2) (ap (drop 4) e) in
-    ap (λ (n : ℕ). Add n v) parts.0 ∙ ap (λ (n : ℕ). Add m n) parts.1
-one_call version (Swap k v x) (Swap m w y) h i e =
-    let parts = three_told k m v w x y h.1 i.1 (value_small version v h.2) (value_small version w i.2) (value_small version x h.3) (value_small version y i.3) (ap (drop 5) e) in
-    ap (λ (n : ℕ). Swap n v x) parts.0 ∙ (ap (λ (n : ℕ). Swap m n x) parts.1 ∙ ap (λ (n : ℕ). Swap m w n) parts.2)
-one_call version (Get k) (Put m w) h i e = absurd (omega (arith, ap first e))
-one_call version (Get k) (Del m) h i e = absurd (omega (arith, ap first e))
-one_call version (Get k) (Add m w) h i e = absurd (omega (arith, ap first e))
-one_call version (Get k) (Swap m w y) h i e = absurd (omega (arith, ap first e))
-one_call version (Put k v) (Get m) h i e = absurd (omega (arith, ap first e))
-one_call version (Put k v) (Del m) h i e = absurd (omega (arith, ap first e))
-one_call version (Put k v) (Add m w) h i e = absurd (omega (arith, ap first e))
-one_call version (Put k v) (Swap m w y) h i e = absurd (omega (arith, ap first e))
-one_call version (Del k) (Get m) h i e = absurd (omega (arith, ap first e))
-one_call version (Del k) (Put m w) h i e = absurd (omega (arith, ap first e))
-one_call version (Del k) (Add m w) h i e = absurd (omega (arith, ap first e))
-one_call version (Del k) (Swap m w y) h i e = absurd (omega (arith, ap first e))
-one_call version (Add k v) (Get m) h i e = absurd (omega (arith, ap first e))
-one_call version (Add k v) (Put m w) h i e = absurd (omega (arith, ap first e))
-one_call version (Add k v) (Del m) h i e = absurd (omega (arith, ap first e))
-one_call version (Add k v) (Swap m w y) h i e = absurd (omega (arith, ap first e))
-one_call version (Swap k v x) (Get m) h i e = absurd (omega (arith, ap first e))
-one_call version (Swap k v x) (Put m w) h i e = absurd (omega (arith, ap first e))
-one_call version (Swap k v x) (Del m) h i e = absurd (omega (arith, ap first e))
-one_call version (Swap k v x) (Add m w) h i e = absurd (omega (arith, ap first e))
+one_call version a b h i e = sym (call_back version a h) ∙ (ap call_of e ∙ call_back version b i)

@@ -1,23 +1,8 @@
 -- A script and a run of it that were read line by line.
-use Rattle.std.proofs.Common.{ℕ, ◌≡◌, ◌+◌, List, [], ◌∷◌, ◌++◌, length, map, drop, get_or, codes, refl, sym, ap, subst, ◌∙◌, append-nil, arith, length-append, Ok, Err, Result}
+use Rattle.ks_script.proofs.Common.{ℕ, ◌≡◌, ◌+◌, List, [], ◌∷◌, ◌++◌, length, map, drop, get_or, codes, refl, sym, ap, subst, ◌∙◌, append-nil, arith, length-append, Ok, Err, Result, Op, TextFault, Refused, Memory, Version, First, Second, lines_of, FirstBad, version_line, IsScript, call_line, script_lines, Run, run_lines, IsRunOf, SpellsChecked, AreChecked, CheckedOf, FirstBadOfChecked, Answers, Gives, Lines, NotFirst, Leads, Reads, RefusedBehind, Apart, TextLeft, CallsLeft, Told, CallersRead, none_read, some_read, Stops, SpellsRun, AreRun}
 use Rattle.std.specs.Prelude.{IfOk}
-use Rattle.ks_history.specs.declared.Op.{Op}
-use Rattle.ks_history.specs.declared.Op.TheVariants.{Get, Put, Del, Add, Swap}
-use Rattle.ks_script.specs.declared.fault.TextFault.{TextFault}
-use Rattle.ks_script.specs.declared.fault.TextFault.TheVariants.{Refused, Memory}
-use Rattle.ks_script.specs.declared.version.Version.{Version}
-use Rattle.ks_script.specs.declared.version.Version.TheVariants.{First, Second}
-use Rattle.ks_script.specs.Lines.{lines_of, FirstBad}
-use Rattle.ks_script.specs.Version.{version_line}
-use Rattle.ks_script.specs.Script.{IsScript, call_line, script_lines}
-use Rattle.ks_script.specs.Run.{Run, run_lines}
-use Rattle.ks_script.specs.Checked.{IsRunOf, SpellsChecked, AreChecked, CheckedOf, FirstBadOfChecked}
-use Rattle.ks_script.specs.Reading.{Answers, Gives}
-use Rattle.ks_script.specs.Reads.{Lines, NotFirst, Leads, Reads, RefusedBehind}
-use Rattle.ks_script.specs.Left.{Apart, TextLeft, CallsLeft, Told, CallersRead, none_read, some_read, Stops}
-use Rattle.ks_script.specs.RunLeft.{SpellsRun, AreRun}
-use Rattle.ks_script.proofs.Refusals.{bad_no_text, one_bad}
-use Rattle.ks_script.proofs.Leading.{bad_same, refused_at, behind_bad}
+use Rattle.ks_script.proofs.Leading.{bad_no_text, one_bad, bad_same, refused_at, behind_bad}
+use Rattle.ks_script.proofs.CallLines.{first, not_call}
 use Rattle.ks_script.proofs.Steps.{reads_line, reads_as, reads_beside}
 use Rattle.ks_script.proofs.ScriptRead.{left_told, left_calls, stuck_told, stuck_calls}
 use Rattle.ks_script.proofs.RunRead.{blanks, whole_run}
@@ -27,38 +12,28 @@ abbrev pub behind : Run → Lines
 behind run = codes "run" ∷ run_lines run
 
 -- they begin with nothing of a script
-run_no_call : (op : Op) → codes "run" ≡ call_line op → ⊥
-run_no_call (Get k) e = omega (arith, ap (λ (l : List ℕ). get_or l 0 0) e)
-run_no_call (Put k x) e = omega (arith, ap (λ (l : List ℕ). get_or l 0 0) e)
-run_no_call (Del k) e = omega (arith, ap (λ (l : List ℕ). get_or l 0 0) e)
-run_no_call (Add k x) e = omega (arith, ap (λ (l : List ℕ). get_or l 0 0) e)
-run_no_call (Swap k x y) e = omega (arith, ap (λ (l : List ℕ). get_or l 0 0) e)
-
 run_apart : (v : Version) (ls : Lines) → Apart v (codes "run" ∷ ls)
-run_apart v ls = record { no_version = λ e. omega (arith, ap (λ (l : List ℕ). get_or l 0 0) e); no_caller = λ e. omega (arith, ap (λ (l : List ℕ). get_or l 0 0) e); no_call = λ op is e. run_no_call op e }
+run_apart v ls = record { no_version = λ e. omega (arith, ap first e); no_caller = λ e. omega (arith, ap first e); no_call = λ op is e. (not_call op).2 (sym (ap first e)) }
 
 abbrev first_byte : Lines → ℕ
 first_byte ls = get_or (get_or ls 0 []) 0 0
 
-module _ (v : Version) (run : Run) where
-  -- `run`, where no caller was read
-  told_only : (w : Version) (s : List (List Op)) (ls : Lines) → Told v w s (behind run) (codes "run" ∷ ls) → (w ≡ v) × (s ≡ []) × (ls ≡ run_lines run)
-  told_only w s ls h = by_version v w s h
-    where
-      by_version : (v w : Version) (s : List (List Op)) → Told v w s (behind run) (codes "run" ∷ ls) → (w ≡ v) × (s ≡ []) × (ls ≡ run_lines run)
-      by_version First First [] h = (refl, refl, ap (λ (ls : Lines). drop 1 ls) h.lines_are)
-      by_version First First (o ∷ s) h = absurd (omega (arith, ap first_byte h.lines_are))
-      by_version First Second s h = absurd (omega (arith, ap first_byte h.lines_are))
-      by_version Second w [] h = (h.0, refl, ap (λ (ls : Lines). drop 1 ls) h.1.lines_are)
-      by_version Second w (o ∷ s) h = absurd (omega (arith, ap first_byte h.1.lines_are))
+-- `run`, where no caller was read
+told_only : (v : Version) (run : Run) (w : Version) (s : List (List Op)) (ls : Lines) → Told v w s (behind run) (codes "run" ∷ ls) → (w ≡ v) × (s ≡ []) × (ls ≡ run_lines run)
+told_only First run First [] ls h = (refl, refl, ap (λ (ls : Lines). drop 1 ls) h.lines_are)
+told_only First run First (o ∷ s) ls h = absurd (omega (arith, ap first_byte h.lines_are))
+told_only First run Second s ls h = absurd (omega (arith, ap first_byte h.lines_are))
+told_only Second run w [] ls h = (h.0, refl, ap (λ (ls : Lines). drop 1 ls) h.1.lines_are)
+told_only Second run w (o ∷ s) ls h = absurd (omega (arith, ap first_byte h.1.lines_are))
 
+module _ (v : Version) (run : Run) where
   told_run : (w : Version) (s : List (List Op)) → IsScript v [] → Leads (Told v w s (behind run)) (λ ls. (w ≡ v) × (s ≡ []) × (ls ≡ run_lines run)) (codes "run" ∷ [])
   told_run w s is = record {
     into = λ ls h.
         subst (λ (u : Version). Told v u s (behind run) (codes "run" ∷ ls)) (sym h.0)
         (subst (λ (t : List (List Op)). Told v v t (behind run) (codes "run" ∷ ls)) (sym h.1)
         (subst (λ (k : Lines). Told v v [] (behind run) (codes "run" ∷ k)) (sym h.2) (left_told v (behind run) (run_apart v (run_lines run)) is)));
-    only = λ ls h. told_only w s ls h;
+    only = λ ls h. told_only v run w s ls h;
   }
 
   -- and where some were
@@ -68,7 +43,7 @@ module _ (v : Version) (run : Run) where
       by_more : (more : List Op) (others : List (List Op)) → s ≡ callers ++ (ops ++ more) ∷ others → codes "run" ∷ ls ≡ map call_line more ++ (script_lines others ++ behind run) → (s ≡ all) × (ls ≡ run_lines run)
       by_more [] [] e f = (e ∙ (ap (λ (xs : List Op). callers ++ xs ∷ []) (append-nil ops) ∙ sym all_are), ap (λ (ls : Lines). drop 1 ls) f)
       by_more [] (o ∷ others) e f = absurd (omega (arith, ap first_byte f))
-      by_more (m ∷ more) others e f = absurd (run_no_call m (ap (λ (ls : Lines). get_or ls 0 []) f))
+      by_more (m ∷ more) others e f = absurd ((not_call m).2 (sym (ap first_byte f)))
 
   calls_run : (callers : List (List Op)) (ops : List Op) (s all : List (List Op)) → all ≡ callers ++ ops ∷ [] → IsScript v all → Leads (CallsLeft v callers ops s (behind run)) (λ ls. (s ≡ all) × (ls ≡ run_lines run)) (codes "run" ∷ [])
   calls_run callers ops s all all_are is = record {
@@ -84,8 +59,8 @@ from_checked w s run ls h = (h.is_run, record { is = h.is_script; apart = run_ap
 to_checked : (w : Version) (s : List (List Op)) (run : Run) (ls : Lines) → IsRunOf s run × TextLeft w s (behind run) ls → SpellsChecked w s run ls
 to_checked w s run ls h = record { is_script = h.1.is; is_run = h.0; lines_are = h.1.lines_are }
 
--- texts of a script and a run that begin with these lines: the script is the one that was read, and the rest is that run of
--- it
+-- texts of a script and a run that begin with these lines: the script is the one that was read, and the rest is that run
+-- of it
 abbrev pub Behind : Version → List (List Op) → Version → List (List Op) → Run → Lines → Type 0
 Behind v all w s run ls = (w ≡ v) × (s ≡ all) × SpellsRun all run ls
 
@@ -162,7 +137,7 @@ module _ (v : Version) (all : List (List Op)) (bytes text : List ℕ) (n : ℕ) 
       let b = r.leads.only (lines_of text) (subst (SpellsChecked h.0 s run) r.lines_are h.1) in
       (b.1, b.2)
 
--- what is answered of a text is what is due
+-- what is returned for a text is what is due
 pub checked_given : (bytes : List ℕ) (r : Result (List (List Op) × Run) TextFault) (s : List (List Op)) (run : Run) → Answers r (λ x. CheckedOf bytes x.0 x.1) (FirstBadOfChecked bytes) → IfOk r (λ x. (s : List (List Op)) (run : Run) → CheckedOf bytes s run → (s ≡ x.0) × (run ≡ x.1)) → CheckedOf bytes s run → Gives r (Ok (s, run))
 checked_given bytes (Ok x) s run h only k =
     let same = only s run k in
@@ -176,10 +151,6 @@ refused_given bytes (Err (Refused m)) n h k = ap (λ (j : ℕ). let r : Result (
 refused_given bytes (Err Memory) n h k = tt
 
 -- a fault of the run
-pub fault_answers : (bytes : List ℕ) (f : TextFault) → ((n : ℕ) → f ≡ Refused n → FirstBadOfChecked bytes n) → Answers {X = List (List Op) × Run} (Err f) (λ x. CheckedOf bytes x.0 x.1) (FirstBadOfChecked bytes)
-fault_answers bytes (Refused n) h = h n refl
-fault_answers bytes Memory h = tt
-
 pub fault_bad : {X : Type 0} (f : TextFault) (n : ℕ) (IsText : X → Type 0) (IsBad : ℕ → Type 0) → Answers {X = X} (Err f) IsText IsBad → f ≡ Refused n → IsBad n
 fault_bad (Refused m) n IsText IsBad h e = subst IsBad (let same : m ≡ n = cc in same) h
 fault_bad Memory n IsText IsBad h e = absurd (let no_way : ⊥ = cc in no_way)

@@ -1,6 +1,5 @@
 -- Words of eight bytes, of which the first ones are digits.
-use Rattle.std.proofs.Common.{ℕ, zero, suc, ◌≡◌, ◌+◌, ◌-◌, ◌*◌, ◌/◌, ◌%◌, ◌^◌, ◌<◌, ◌≤◌, true, arith, rules, ◌∙◌}
-use Rattle.std.specs.Char.{is_ascii_digit}
+use Rattle.ks_script.proofs.Common.{ℕ, zero, suc, ◌≡◌, ◌+◌, ◌-◌, ◌*◌, ◌/◌, ◌%◌, ◌^◌, ◌<◌, ◌≤◌, true, arith, rules, ◌∙◌, is_ascii_digit}
 use Rattle.ks_script.specs.Eight.{word_of}
 
 -- what the first bytes are worth as digits; 48 is the byte of the digit 0
@@ -39,89 +38,43 @@ value a b c d e f g i ha hb hc hd he hf hg hi x is =
 abbrev shifted : ℕ → ℕ → ℕ
 shifted word k = (word + 14974415777481871312) % 2 ^ 64 * 2 ^ (64 - 8 * k) % 2 ^ 64
 
-digit : (b : ℕ) → is_ascii_digit b ≡ true → (b ≡ 48 + (b - 48)) × (b - 48 < 10)
-digit b is = (search rules, search rules)
+-- a digit among the first k bytes, and what is known of eight bytes
+digit : (byte : ℕ → ℕ) (k : ℕ) → ((i : ℕ) → i < k → is_ascii_digit (byte i) ≡ true) → (i : ℕ) → i < k → (byte i ≡ 48 + (byte i - 48)) × (byte i - 48 < 10)
+digit byte k are i lt = of (byte i) (are i lt)
+  where
+    of : (b : ℕ) → is_ascii_digit b ≡ true → (b ≡ 48 + (b - 48)) × (b - 48 < 10)
+    of b is = (search rules, search rules)
+
+abbrev Eight : (ℕ → ℕ) → Type 0
+Eight byte = (byte 0 < 256) × (byte 1 < 256) × (byte 2 < 256) × (byte 3 < 256) × (byte 4 < 256) × (byte 5 < 256) × (byte 6 < 256) × (byte 7 < 256)
+
+eight : (byte : ℕ → ℕ) → ((i : ℕ) → byte i < 256) → Eight byte
+eight byte small = (small 0, small 1, small 2, small 3, small 4, small 5, small 6, small 7)
 
 pub eight_value : (k : ℕ) → 0 < k → k ≤ 8 → (byte : ℕ → ℕ) → ((i : ℕ) → byte i < 256) → ((i : ℕ) → i < k → is_ascii_digit (byte i) ≡ true) → (word : ℕ) → word ≡ word_of byte → made_of (pairs_of (shifted word k)) ≡ worth byte k
 eight_value zero some most byte small are word is = absurd (omega arith)
 eight_value (suc zero) some most byte small are word is =
-    let d0 = digit (byte 0) (are 0 (omega arith)) in
-    let s1 = small 1 in
-    let s2 = small 2 in
-    let s3 = small 3 in
-    let s4 = small 4 in
-    let s5 = small 5 in
-    let s6 = small 6 in
-    let s7 = small 7 in
-    value 0 0 0 0 0 0 0 (byte 0 - 48) (omega arith) (omega arith) (omega arith) (omega arith) (omega arith) (omega arith) (omega arith) d0.1 (shifted word 1) (omega (arith, is)) ∙ omega arith
+    let d = digit byte 1 are in
+    value 0 0 0 0 0 0 0 (byte 0 - 48) (omega arith) (omega arith) (omega arith) (omega arith) (omega arith) (omega arith) (omega arith) (d 0 (omega arith)).1 (shifted word 1) (omega (arith, is, eight byte small, d 0 (omega arith))) ∙ omega arith
 eight_value (suc (suc zero)) some most byte small are word is =
-    let d0 = digit (byte 0) (are 0 (omega arith)) in
-    let d1 = digit (byte 1) (are 1 (omega arith)) in
-    let s2 = small 2 in
-    let s3 = small 3 in
-    let s4 = small 4 in
-    let s5 = small 5 in
-    let s6 = small 6 in
-    let s7 = small 7 in
-    value 0 0 0 0 0 0 (byte 0 - 48) (byte 1 - 48) (omega arith) (omega arith) (omega arith) (omega arith) (omega arith) (omega arith) d0.1 d1.1 (shifted word 2) (omega (arith, is)) ∙ omega arith
+    let d = digit byte 2 are in
+    value 0 0 0 0 0 0 (byte 0 - 48) (byte 1 - 48) (omega arith) (omega arith) (omega arith) (omega arith) (omega arith) (omega arith) (d 0 (omega arith)).1 (d 1 (omega arith)).1 (shifted word 2) (omega (arith, is, eight byte small, d 0 (omega arith), d 1 (omega arith))) ∙ omega arith
 eight_value (suc (suc (suc zero))) some most byte small are word is =
-    let d0 = digit (byte 0) (are 0 (omega arith)) in
-    let d1 = digit (byte 1) (are 1 (omega arith)) in
-    let d2 = digit (byte 2) (are 2 (omega arith)) in
-    let s3 = small 3 in
-    let s4 = small 4 in
-    let s5 = small 5 in
-    let s6 = small 6 in
-    let s7 = small 7 in
-    value 0 0 0 0 0 (byte 0 - 48) (byte 1 - 48) (byte 2 - 48) (omega arith) (omega arith) (omega arith) (omega arith) (omega arith) d0.1 d1.1 d2.1 (shifted word 3) (omega (arith, is)) ∙ omega arith
+    let d = digit byte 3 are in
+    value 0 0 0 0 0 (byte 0 - 48) (byte 1 - 48) (byte 2 - 48) (omega arith) (omega arith) (omega arith) (omega arith) (omega arith) (d 0 (omega arith)).1 (d 1 (omega arith)).1 (d 2 (omega arith)).1 (shifted word 3) (omega (arith, is, eight byte small, d 0 (omega arith), d 1 (omega arith), d 2 (omega arith))) ∙ omega arith
 eight_value (suc (suc (suc (suc zero)))) some most byte small are word is =
-    let d0 = digit (byte 0) (are 0 (omega arith)) in
-    let d1 = digit (byte 1) (are 1 (omega arith)) in
-    let d2 = digit (byte 2) (are 2 (omega arith)) in
-    let d3 = digit (byte 3) (are 3 (omega arith)) in
-    let s4 = small 4 in
-    let s5 = small 5 in
-    let s6 = small 6 in
-    let s7 = small 7 in
-    value 0 0 0 0 (byte 0 - 48) (byte 1 - 48) (byte 2 - 48) (byte 3 - 48) (omega arith) (omega arith) (omega arith) (omega arith) d0.1 d1.1 d2.1 d3.1 (shifted word 4) (omega (arith, is)) ∙ omega arith
+    let d = digit byte 4 are in
+    value 0 0 0 0 (byte 0 - 48) (byte 1 - 48) (byte 2 - 48) (byte 3 - 48) (omega arith) (omega arith) (omega arith) (omega arith) (d 0 (omega arith)).1 (d 1 (omega arith)).1 (d 2 (omega arith)).1 (d 3 (omega arith)).1 (shifted word 4) (omega (arith, is, eight byte small, d 0 (omega arith), d 1 (omega arith), d 2 (omega arith), d 3 (omega arith))) ∙ omega arith
 eight_value (suc (suc (suc (suc (suc zero))))) some most byte small are word is =
-    let d0 = digit (byte 0) (are 0 (omega arith)) in
-    let d1 = digit (byte 1) (are 1 (omega arith)) in
-    let d2 = digit (byte 2) (are 2 (omega arith)) in
-    let d3 = digit (byte 3) (are 3 (omega arith)) in
-    let d4 = digit (byte 4) (are 4 (omega arith)) in
-    let s5 = small 5 in
-    let s6 = small 6 in
-    let s7 = small 7 in
-    value 0 0 0 (byte 0 - 48) (byte 1 - 48) (byte 2 - 48) (byte 3 - 48) (byte 4 - 48) (omega arith) (omega arith) (omega arith) d0.1 d1.1 d2.1 d3.1 d4.1 (shifted word 5) (omega (arith, is)) ∙ omega arith
+    let d = digit byte 5 are in
+    value 0 0 0 (byte 0 - 48) (byte 1 - 48) (byte 2 - 48) (byte 3 - 48) (byte 4 - 48) (omega arith) (omega arith) (omega arith) (d 0 (omega arith)).1 (d 1 (omega arith)).1 (d 2 (omega arith)).1 (d 3 (omega arith)).1 (d 4 (omega arith)).1 (shifted word 5) (omega (arith, is, eight byte small, d 0 (omega arith), d 1 (omega arith), d 2 (omega arith), d 3 (omega arith), d 4 (omega arith))) ∙ omega arith
 eight_value (suc (suc (suc (suc (suc (suc zero)))))) some most byte small are word is =
-    let d0 = digit (byte 0) (are 0 (omega arith)) in
-    let d1 = digit (byte 1) (are 1 (omega arith)) in
-    let d2 = digit (byte 2) (are 2 (omega arith)) in
-    let d3 = digit (byte 3) (are 3 (omega arith)) in
-    let d4 = digit (byte 4) (are 4 (omega arith)) in
-    let d5 = digit (byte 5) (are 5 (omega arith)) in
-    let s6 = small 6 in
-    let s7 = small 7 in
-    value 0 0 (byte 0 - 48) (byte 1 - 48) (byte 2 - 48) (byte 3 - 48) (byte 4 - 48) (byte 5 - 48) (omega arith) (omega arith) d0.1 d1.1 d2.1 d3.1 d4.1 d5.1 (shifted word 6) (omega (arith, is)) ∙ omega arith
+    let d = digit byte 6 are in
+    value 0 0 (byte 0 - 48) (byte 1 - 48) (byte 2 - 48) (byte 3 - 48) (byte 4 - 48) (byte 5 - 48) (omega arith) (omega arith) (d 0 (omega arith)).1 (d 1 (omega arith)).1 (d 2 (omega arith)).1 (d 3 (omega arith)).1 (d 4 (omega arith)).1 (d 5 (omega arith)).1 (shifted word 6) (omega (arith, is, eight byte small, d 0 (omega arith), d 1 (omega arith), d 2 (omega arith), d 3 (omega arith), d 4 (omega arith), d 5 (omega arith))) ∙ omega arith
 eight_value (suc (suc (suc (suc (suc (suc (suc zero))))))) some most byte small are word is =
-    let d0 = digit (byte 0) (are 0 (omega arith)) in
-    let d1 = digit (byte 1) (are 1 (omega arith)) in
-    let d2 = digit (byte 2) (are 2 (omega arith)) in
-    let d3 = digit (byte 3) (are 3 (omega arith)) in
-    let d4 = digit (byte 4) (are 4 (omega arith)) in
-    let d5 = digit (byte 5) (are 5 (omega arith)) in
-    let d6 = digit (byte 6) (are 6 (omega arith)) in
-    let s7 = small 7 in
-    value 0 (byte 0 - 48) (byte 1 - 48) (byte 2 - 48) (byte 3 - 48) (byte 4 - 48) (byte 5 - 48) (byte 6 - 48) (omega arith) d0.1 d1.1 d2.1 d3.1 d4.1 d5.1 d6.1 (shifted word 7) (omega (arith, is)) ∙ omega arith
+    let d = digit byte 7 are in
+    value 0 (byte 0 - 48) (byte 1 - 48) (byte 2 - 48) (byte 3 - 48) (byte 4 - 48) (byte 5 - 48) (byte 6 - 48) (omega arith) (d 0 (omega arith)).1 (d 1 (omega arith)).1 (d 2 (omega arith)).1 (d 3 (omega arith)).1 (d 4 (omega arith)).1 (d 5 (omega arith)).1 (d 6 (omega arith)).1 (shifted word 7) (omega (arith, is, eight byte small, d 0 (omega arith), d 1 (omega arith), d 2 (omega arith), d 3 (omega arith), d 4 (omega arith), d 5 (omega arith), d 6 (omega arith))) ∙ omega arith
 eight_value (suc (suc (suc (suc (suc (suc (suc (suc zero)))))))) some most byte small are word is =
-    let d0 = digit (byte 0) (are 0 (omega arith)) in
-    let d1 = digit (byte 1) (are 1 (omega arith)) in
-    let d2 = digit (byte 2) (are 2 (omega arith)) in
-    let d3 = digit (byte 3) (are 3 (omega arith)) in
-    let d4 = digit (byte 4) (are 4 (omega arith)) in
-    let d5 = digit (byte 5) (are 5 (omega arith)) in
-    let d6 = digit (byte 6) (are 6 (omega arith)) in
-    let d7 = digit (byte 7) (are 7 (omega arith)) in
-    value (byte 0 - 48) (byte 1 - 48) (byte 2 - 48) (byte 3 - 48) (byte 4 - 48) (byte 5 - 48) (byte 6 - 48) (byte 7 - 48) d0.1 d1.1 d2.1 d3.1 d4.1 d5.1 d6.1 d7.1 (shifted word 8) (omega (arith, is)) ∙ omega arith
+    let d = digit byte 8 are in
+    value (byte 0 - 48) (byte 1 - 48) (byte 2 - 48) (byte 3 - 48) (byte 4 - 48) (byte 5 - 48) (byte 6 - 48) (byte 7 - 48) (d 0 (omega arith)).1 (d 1 (omega arith)).1 (d 2 (omega arith)).1 (d 3 (omega arith)).1 (d 4 (omega arith)).1 (d 5 (omega arith)).1 (d 6 (omega arith)).1 (d 7 (omega arith)).1 (shifted word 8) (omega (arith, is, eight byte small, d 0 (omega arith), d 1 (omega arith), d 2 (omega arith), d 3 (omega arith), d 4 (omega arith), d 5 (omega arith), d 6 (omega arith), d 7 (omega arith))) ∙ omega arith
 eight_value (suc (suc (suc (suc (suc (suc (suc (suc (suc k))))))))) some most byte small are word is = absurd (omega arith)

@@ -1,19 +1,60 @@
--- Numbers that bytes begin with, told by their bytes: no digit follows them.
-use Rattle.std.proofs.Common.{ℕ, zero, suc, ◌≡◌, ◌+◌, ◌-◌, ◌*◌, ◌^◌, ◌<◌, ◌≤◌, ◌⊎◌, true, false, List, [], ◌∷◌, ◌++◌, length, take, drop, get_or, refl, sym, ap, subst, ◌∙◌, arith, rules, length-append, inl, inr}
-use Rattle.std.proofs.lemmas.List.{take-append-drop, length-take-le}
-use Rattle.std.proofs.lemmas.Bool.{false≢true}
-use Rattle.std.proofs.lemmas.Bool.Decides.{eqb_tells}
+-- Numbers that bytes begin with, exactly: they are read on from their first digits, and no digit follows them.
+use Rattle.ks_script.proofs.Common.{ℕ, zero, suc, ◌≡◌, ◌+◌, ◌-◌, ◌*◌, ◌^◌, ◌<◌, ◌≤◌, ◌⊎◌, true, List, [], ◌∷◌, ◌++◌, length, take, drop, get_or, refl, sym, ap, subst, ◌∙◌, arith, rules, length-append, inl, inr, take-append-drop, length-take-le, get_or_append_left, get_or-take, false≢true, and_parts, eqb_tells, decimal, is_ascii_digit, all_ascii_digits, digits_value, NoDigit, ReadOn, append_assoc}
 use Rattle.std.proofs.lemmas.Nat.{pow-add}
 use Rattle.std.proofs.Math.Nat.{mul-le-mul_right}
-use Rattle.std.specs.Fmt.{decimal}
-use Rattle.std.specs.Char.{is_ascii_digit}
-use Rattle.std.specs.Str.{all_ascii_digits}
-use Rattle.std.specs.Str.Parse.{digits_value}
-use Rattle.ks_script.specs.Numeral.{NoDigit, ReadOn}
-use Rattle.ks_script.proofs.Numerals.{value_read, read_on, digits_of_number, value_of_digits, some_digits}
+use Rattle.ks_script.proofs.Numerals.{value_read, read_on, digits_of_number, value_of_digits, some_digits, digits_spelled}
 use Rattle.ks_script.proofs.Cuts.{zero_first, read_on_least}
-use Rattle.ks_script.proofs.Fronts.{both, read_sum, first_kept}
-use Rattle.ks_script.proofs.Onward.{value_joined, first_of}
+use Rattle.ks_script.proofs.Fronts.{read_sum, all_append, joined}
+
+-- the first ones of the bytes
+pub one_part : (bytes rest : List ℕ) (front count back number p : ℕ) → count ≤ length bytes → all_ascii_digits (take count bytes) ≡ true → digits_value 10 (take count bytes) ≡ back → p ≡ 10 ^ count → rest ≡ drop count bytes → number ≡ front * p + back → ReadOn front bytes number rest
+one_part bytes rest front count back number p le all value power end sum = record {
+  digits = take count bytes;
+  are_digits = all;
+  parts = sym (take-append-drop count bytes) ∙ ap (λ (x : List ℕ). take count bytes ++ x) (sym end);
+  value = sum ∙ sum_of (power ∙ ap (λ (k : ℕ). 10 ^ k) (sym (length-take-le count bytes le))) (sym value);
+}
+  where
+    sum_of : {x y : ℕ} → p ≡ x → back ≡ y → front * p + back ≡ front * x + y
+    sum_of h k = cc
+
+pub value_joined : (a b : List ℕ) → all_ascii_digits a ≡ true → all_ascii_digits b ≡ true → digits_value 10 (a ++ b) ≡ digits_value 10 a * 10 ^ length b + digits_value 10 b
+value_joined a b h k =
+    value_read (a ++ b) (all_append a b h k)
+    ∙ (joined a b ∙ sum_of (10 ^ length b) (sym (value_read a h)) (sym (value_read b k)))
+  where
+    sum_of : (p : ℕ) {x y m n : ℕ} → x ≡ m → y ≡ n → x * p + y ≡ m * p + n
+    sum_of p e f = cc
+
+-- one part after another
+pub two_parts : (front number last : ℕ) (bytes middle rest : List ℕ) → ReadOn front bytes number middle → ReadOn number middle last rest → ReadOn front bytes last rest
+two_parts front number last bytes middle rest a b = record {
+  digits = a.digits ++ b.digits;
+  are_digits = all_append a.digits b.digits a.are_digits b.are_digits;
+  parts = a.parts ∙ (ap (λ (x : List ℕ). a.digits ++ x) b.parts ∙ sym (append_assoc a.digits b.digits rest));
+  value = b.value ∙ (sums front number (10 ^ length a.digits) (digits_value 10 a.digits) (10 ^ length b.digits) (digits_value 10 b.digits) a.value
+      ∙ sum_of (sym (pow-add 10 (length a.digits) (length b.digits)) ∙ ap (λ (k : ℕ). 10 ^ k) (sym (length-append a.digits b.digits))) (sym (value_joined a.digits b.digits a.are_digits b.are_digits)));
+}
+  where
+    sums : (f n p v q w : ℕ) → n ≡ f * p + v → n * q + w ≡ f * (p * q) + (v * q + w)
+    sums f n p v q w e = rw e (grind arith)
+
+    sum_of : {x y m n : ℕ} → x ≡ m → y ≡ n → front * x + y ≡ front * m + n
+    sum_of e f = cc
+
+-- with digits before them they spell the number
+pub onward_spelled : (bytes middle rest : List ℕ) (count front number : ℕ) → 0 < count → count ≤ length bytes → (get_or bytes 0 0 ≡ 48 → count ≡ 1) → 1 < count → all_ascii_digits (take count bytes) ≡ true → digits_value 10 (take count bytes) ≡ front → middle ≡ drop count bytes → ReadOn front middle number rest → number < 2 ^ 128 → bytes ≡ decimal number ++ rest
+onward_spelled bytes middle rest count front number some le lone many all value end on small =
+    let digits : List ℕ = take count bytes ++ on.digits in
+    let are = all_append (take count bytes) on.digits all on.are_digits in
+    let long : length (take count bytes) ≡ count = length-take-le count bytes le in
+    let is : read_on 0 digits ≡ number = sym (value_read digits are) ∙ (value_joined (take count bytes) on.digits all on.are_digits ∙ (ap (λ (k : ℕ). k * 10 ^ length on.digits + digits_value 10 on.digits) value ∙ sym on.value)) in
+    let spelled : decimal (read_on 0 digits) ≡ digits =
+    digits_spelled digits are (omega (arith, length-append (take count bytes) on.digits, long)) (λ z. absurd (omega (arith, lone (sym (get_or_append_left (take count bytes) on.digits 0 0 (omega (arith, long)) ∙ get_or-take count bytes 0 0 some) ∙ z)))) (omega (arith, is)) in
+    sym (take-append-drop count bytes)
+    ∙ (ap (λ (x : List ℕ). take count bytes ++ x) (sym end ∙ on.parts)
+    ∙ (sym (append_assoc (take count bytes) on.digits rest)
+    ∙ ap (λ (x : List ℕ). x ++ rest) (sym spelled ∙ ap decimal is)))
 
 -- digits with no digit after them, where other digits are the first ones: these are the first ones of those
 pub record GoesOn (a x b y : List ℕ) : Type 0 where
@@ -24,11 +65,11 @@ pub record GoesOn (a x b y : List ℕ) : Type 0 where
 
 pub goes_on : (a x b y : List ℕ) → all_ascii_digits a ≡ true → all_ascii_digits b ≡ true → NoDigit y → a ++ x ≡ b ++ y → GoesOn a x b y
 goes_on [] x b y da db free e = record { more = b; are = db; whole = refl; rest = e }
-goes_on (c ∷ a) x [] y da db free e = absurd (false≢true (sym (subst NoDigit (sym e) free) ∙ (both (is_ascii_digit c) (all_ascii_digits a) da).0))
+goes_on (c ∷ a) x [] y da db free e = absurd (false≢true (sym (subst NoDigit (sym e) free) ∙ (and_parts (is_ascii_digit c) (all_ascii_digits a) da).0))
 goes_on (c ∷ a) x (d ∷ b) y da db free e =
     let tails : a ++ x ≡ b ++ y = cc in
     let heads : c ≡ d = cc in
-    let h = goes_on a x b y (both (is_ascii_digit c) (all_ascii_digits a) da).1 (both (is_ascii_digit d) (all_ascii_digits b) db).1 free tails in
+    let h = goes_on a x b y (and_parts (is_ascii_digit c) (all_ascii_digits a) da).1 (and_parts (is_ascii_digit d) (all_ascii_digits b) db).1 free tails in
     record { more = h.more; are = h.are; whole = (λ i. sym heads i ∷ h.whole i); rest = h.rest }
 
 -- a number that is read on is not less than its front
@@ -86,13 +127,13 @@ from_nothing bytes rest n small e = record {
   value = sym (value_read (decimal n) (digits_of_number n small) ∙ value_of_digits n small) ∙ omega arith;
 }
 
--- so many digits of which the first is not 0
+-- `count` digits of which the first is not 0
 pub great : (bytes : List ℕ) (count i n : ℕ) → count ≡ i + 1 → count ≤ length bytes → all_ascii_digits (take count bytes) ≡ true → (get_or bytes 0 0 ≡ 48 → ⊥) → digits_value 10 (take count bytes) ≡ n → 10 ^ i ≤ n
 great bytes zero i n many le all lead value = absurd (omega arith)
 great [] (suc k) i n many le all lead value = absurd (omega arith)
 great (c ∷ bytes) (suc k) i n many le all lead value =
     let ds : List ℕ = take k bytes in
-    let is : 1 ≤ c - 48 = some c (both (is_ascii_digit c) (all_ascii_digits ds) all).0 lead in
+    let is : 1 ≤ c - 48 = some c (and_parts (is_ascii_digit c) (all_ascii_digits ds) all).0 lead in
     let step : read_on 0 (c ∷ ds) ≡ (c - 48) * 10 ^ length ds + read_on 0 ds = ap (λ (m : ℕ). read_on m ds) (omega arith) ∙ read_sum (c - 48) 0 ds in
     let long : length ds ≡ i = length-take-le k bytes (omega arith) ∙ omega arith in
     omega (arith, value_read (c ∷ ds) all, step, mul-le-mul_right (10 ^ length ds) is, ap (λ (m : ℕ). 10 ^ m) long)
@@ -102,12 +143,12 @@ great (c ∷ bytes) (suc k) i n many le all lead value =
 
 starts : (ds bytes rest : List ℕ) → 0 < length ds → all_ascii_digits ds ≡ true → NoDigit bytes → bytes ≡ ds ++ rest → ⊥
 starts [] bytes rest some all free e = absurd (omega arith)
-starts (d ∷ ds) bytes rest some all free e = false≢true (sym (subst NoDigit e free) ∙ (both (is_ascii_digit d) (all_ascii_digits ds) all).0)
+starts (d ∷ ds) bytes rest some all free e = false≢true (sym (subst NoDigit e free) ∙ (and_parts (is_ascii_digit d) (all_ascii_digits ds) all).0)
 
 pub no_number : (n : ℕ) (bytes rest : List ℕ) → n < 2 ^ 128 → NoDigit bytes → bytes ≡ decimal n ++ rest → ⊥
 no_number n bytes rest small free e = starts (decimal n) bytes rest (some_digits n small) (digits_of_number n small) free e
 
--- no number is spelled where no digit stands, or where one stands behind a 0
+-- no number is spelled where no digit is, or one is behind a 0
 pub unspelled : (bytes rest : List ℕ) (count n : ℕ) → n < 2 ^ 128 → NoDigit rest → count ≤ length bytes → all_ascii_digits (take count bytes) ≡ true → (count < 16 → NoDigit (drop count bytes)) → (count ≡ 0) ⊎ ((get_or bytes 0 0 ≡ 48) × (1 < count)) → bytes ≡ decimal n ++ rest → ⊥
 unspelled bytes rest count n small free le all stops which e =
     elim which [
@@ -117,5 +158,5 @@ unspelled bytes rest count n small free le all stops which e =
           let long : length ds ≡ count = length-take-le count bytes le in
           let g = goes_on ds (drop count bytes) (decimal n) rest all (digits_of_number n small) free (take-append-drop count bytes ∙ e) in
           let many = lead.1 in
-          zero_first (decimal n) (ap (λ (x : List ℕ). get_or x 0 0) g.whole ∙ (first_of ds g.more (omega arith) ∙ (first_kept bytes count (omega arith) ∙ lead.0))) (omega (arith, ap length g.whole, length-append ds g.more)) n small refl)
+          zero_first (decimal n) (ap (λ (x : List ℕ). get_or x 0 0) g.whole ∙ (get_or_append_left ds g.more 0 0 (omega arith) ∙ (get_or-take count bytes 0 0 (omega arith) ∙ lead.0))) (omega (arith, ap length g.whole, length-append ds g.more)) n small refl)
     ]

@@ -1,27 +1,18 @@
 -- Numbers and calls that bytes begin with.
-use Rattle.std.proofs.Common.{ℕ, zero, suc, ◌≡◌, ◌+◌, ◌-◌, ◌*◌, ◌^◌, ◌<◌, ◌≤◌, Bool, true, false, ◌&&◌, List, [], ◌∷◌, ◌++◌, length, take, drop, get_or, refl, sym, ap, ◌∙◌, arith, rules}
-use Rattle.std.proofs.lemmas.List.{take_more, take-append-drop, length-take-le, length-take, length-drop}
-use Rattle.std.proofs.lemmas.Bool.{false≢true}
-use Rattle.std.specs.Fmt.{decimal}
-use Rattle.std.specs.Char.{is_ascii_digit}
-use Rattle.std.specs.Str.{all_ascii_digits}
-use Rattle.ks_script.proofs.Numerals.{read_on}
+use Rattle.ks_script.proofs.Common.{ℕ, zero, suc, ◌≡◌, ◌+◌, ◌-◌, ◌*◌, ◌^◌, ◌<◌, ◌≤◌, true, ◌&&◌, List, [], ◌∷◌, ◌++◌, length, take, drop, get_or, refl, sym, ap, ◌∙◌, arith, take_more, take-append-drop, length-take-le, length-take, length-drop, get_or-take, and_parts, decimal, is_ascii_digit, all_ascii_digits}
+use Rattle.std.proofs.lemmas.Str.Parse.{digits_value_short}
+use Rattle.ks_script.proofs.Numerals.{own, read_on}
 use Rattle.ks_script.proofs.Cuts.{digits_some}
 use Rattle.ks_script.proofs.Eights.{worth}
 use Rattle.std.proofs.Math.Seq.{take-suc, take-add}
-use Rattle.std.proofs.Math.Nat.{pow-succ', mul-le-mul_right, pow-le-pow_right}
+use Rattle.std.proofs.Math.Nat.{pow-succ'}
 
-pub both : (a b : Bool) → (a && b) ≡ true → (a ≡ true) × (b ≡ true)
-both true b h = (refl, h)
-both false b h = absurd (false≢true h)
-
-digits_push : (ds : List ℕ) (c : ℕ) → all_ascii_digits ds ≡ true → is_ascii_digit c ≡ true → all_ascii_digits (ds ++ c ∷ []) ≡ true
-digits_push [] c all is = ap (λ b. b && true) is
-digits_push (d ∷ ds) c all is = by_test (is_ascii_digit d) all (λ rest. digits_push ds c rest is)
-  where
-    by_test : (b : Bool) → (b && all_ascii_digits ds) ≡ true → (all_ascii_digits ds ≡ true → all_ascii_digits (ds ++ c ∷ []) ≡ true) → (b && all_ascii_digits (ds ++ c ∷ [])) ≡ true
-    by_test true all more = more all
-    by_test false all more = absurd (false≢true all)
+-- digits after digits
+pub all_append : (a b : List ℕ) → all_ascii_digits a ≡ true → all_ascii_digits b ≡ true → all_ascii_digits (a ++ b) ≡ true
+all_append [] b h k = k
+all_append (c ∷ a) b h k =
+    let parts = and_parts (is_ascii_digit c) (all_ascii_digits a) h in
+    ap (λ t. t && all_ascii_digits (a ++ b)) parts.0 ∙ all_append a b parts.1 k
 
 read_push : (n : ℕ) (ds : List ℕ) (c : ℕ) → read_on n (ds ++ c ∷ []) ≡ 10 * read_on n ds + (c - 48)
 read_push n [] c = refl
@@ -31,29 +22,26 @@ read_push n (d ∷ ds) c = read_push (10 * n + (d - 48)) ds c
 pub digit_more : (bytes : List ℕ) (i m n : ℕ) → i < length bytes → all_ascii_digits (take i bytes) ≡ true → read_on 0 (take i bytes) ≡ m → is_ascii_digit (get_or bytes i 0) ≡ true → n ≡ 10 * m + (get_or bytes i 0 - 48) →
     (all_ascii_digits (take (i + 1) bytes) ≡ true) × (read_on 0 (take (i + 1) bytes) ≡ n)
 digit_more bytes i m n lt all value is next = (
-  ap all_ascii_digits (take_more bytes i 0 lt) ∙ digits_push (take i bytes) (get_or bytes i 0) all is,
+  ap all_ascii_digits (take_more bytes i 0 lt) ∙ all_append (take i bytes) (get_or bytes i 0 ∷ []) all (ap (λ t. t && true) is),
   ap (read_on 0) (take_more bytes i 0 lt) ∙ (read_push 0 (take i bytes) (get_or bytes i 0) ∙ (ap (λ (k : ℕ). 10 * k + (get_or bytes i 0 - 48)) value ∙ sym next)),
 )
 
 -- each of the digits is one
+pub first_digit : (ds : List ℕ) → 0 < length ds → all_ascii_digits ds ≡ true → is_ascii_digit (get_or ds 0 0) ≡ true
+first_digit [] some all = absurd (omega arith)
+first_digit (d ∷ ds) some all = (and_parts (is_ascii_digit d) (all_ascii_digits ds) all).0
+
 pub digit_at : (bytes : List ℕ) (k i : ℕ) → all_ascii_digits (take k bytes) ≡ true → k ≤ length bytes → i < k → is_ascii_digit (get_or bytes i 0) ≡ true
 digit_at bytes zero i all le lt = absurd (omega arith)
 digit_at [] (suc k) i all le lt = absurd (omega arith)
-digit_at (b ∷ bytes) (suc k) zero all le lt = (both (is_ascii_digit b) (all_ascii_digits (take k bytes)) all).0
-digit_at (b ∷ bytes) (suc k) (suc i) all le lt = digit_at bytes k i (both (is_ascii_digit b) (all_ascii_digits (take k bytes)) all).1 (omega arith) (omega arith)
+digit_at (b ∷ bytes) (suc k) zero all le lt = (and_parts (is_ascii_digit b) (all_ascii_digits (take k bytes)) all).0
+digit_at (b ∷ bytes) (suc k) (suc i) all le lt = digit_at bytes k i (and_parts (is_ascii_digit b) (all_ascii_digits (take k bytes)) all).1 (omega arith) (omega arith)
 
--- so many digits are worth what their bytes are
+-- k digits are worth what their bytes are
 pub worth_read : (bytes : List ℕ) (k : ℕ) → k ≤ length bytes → read_on 0 (take k bytes) ≡ worth (λ i. get_or bytes i 0) k
 worth_read bytes zero le = refl
 worth_read bytes (suc k) le =
     ap (read_on 0) (take-suc bytes k 0 (omega arith)) ∙ (read_push 0 (take k bytes) (get_or bytes k 0) ∙ ap (λ (n : ℕ). 10 * n + (get_or bytes k 0 - 48)) (worth_read bytes k (omega arith)))
-
--- digits after digits
-pub all_append : (a b : List ℕ) → all_ascii_digits a ≡ true → all_ascii_digits b ≡ true → all_ascii_digits (a ++ b) ≡ true
-all_append [] b h k = k
-all_append (c ∷ a) b h k =
-    let parts = both (is_ascii_digit c) (all_ascii_digits a) h in
-    ap (λ t. t && all_ascii_digits (a ++ b)) parts.0 ∙ all_append a b parts.1 k
 
 pub read_append : (n : ℕ) (a b : List ℕ) → read_on n (a ++ b) ≡ read_on (read_on n a) b
 read_append n [] b = refl
@@ -72,29 +60,18 @@ read_sum m n (c ∷ ds) =
 pub joined : (a b : List ℕ) → read_on 0 (a ++ b) ≡ read_on 0 a * 10 ^ length b + read_on 0 b
 joined a b = read_append 0 a b ∙ (ap (λ (k : ℕ). read_on k b) (omega arith) ∙ read_sum (read_on 0 a) 0 b)
 
--- so many digits make a number below the power of ten
-pub below_power : (ds : List ℕ) → all_ascii_digits ds ≡ true → read_on 0 ds < 10 ^ length ds
-below_power [] h = omega arith
-below_power (c ∷ ds) h =
-    let parts = both (is_ascii_digit c) (all_ascii_digits ds) h in
-    let le : c - 48 ≤ 9 = nine c parts.0 in
-    let step : read_on 0 (c ∷ ds) ≡ (c - 48) * 10 ^ length ds + read_on 0 ds = ap (λ (k : ℕ). read_on k ds) (omega arith) ∙ read_sum (c - 48) 0 ds in
-    omega (arith, pow-succ' 10 (length ds), below_power ds parts.1, step, mul-le-mul_right (10 ^ length ds) le)
-  where
-    nine : (b : ℕ) → is_ascii_digit b ≡ true → b - 48 ≤ 9
-    nine b is = search rules
-
+-- k digits make a number below the power of ten
 pub small_read : (most : ℕ) (bytes : List ℕ) (k : ℕ) → k ≤ most → all_ascii_digits (take k bytes) ≡ true → read_on 0 (take k bytes) < 10 ^ most
-small_read most bytes k le all = omega (arith, below_power (take k bytes) all, pow-le-pow_right {n = 10} (omega arith) (let e : length (take k bytes) ≤ most = omega (arith, length-take k bytes) in e))
+small_read most bytes k le all = digits_value_short own (take k bytes) most all (omega (arith, length-take k bytes))
 
 all_split : (a b : List ℕ) → all_ascii_digits (a ++ b) ≡ true → (all_ascii_digits a ≡ true) × (all_ascii_digits b ≡ true)
 all_split [] b h = (refl, h)
 all_split (c ∷ a) b h =
-    let parts = both (is_ascii_digit c) (all_ascii_digits (a ++ b)) h in
+    let parts = and_parts (is_ascii_digit c) (all_ascii_digits (a ++ b)) h in
     let rest = all_split a b parts.1 in
     (ap (λ t. t && all_ascii_digits a) parts.0 ∙ rest.0, rest.1)
 
--- so many digits, and then some more
+-- i digits, and then j more
 pub digits_parts : (bytes : List ℕ) (i j count : ℕ) → count ≡ i + j → all_ascii_digits (take count bytes) ≡ true → (all_ascii_digits (take i bytes) ≡ true) × (all_ascii_digits (take j (drop i bytes)) ≡ true)
 digits_parts bytes i j count e all = all_split (take i bytes) (take j (drop i bytes)) (ap all_ascii_digits (sym (take-add i j bytes) ∙ ap (λ (k : ℕ). take k bytes) (sym e)) ∙ all)
 
@@ -108,15 +85,10 @@ value_parts bytes i j count e le a b p front back power =
     sum_of : {x y z : ℕ} → x ≡ a → y ≡ b → z ≡ p → x * z + y ≡ a * p + b
     sum_of h k l = cc
 
-pub first_kept : (bytes : List ℕ) (n : ℕ) → 0 < n → get_or (take n bytes) 0 0 ≡ get_or bytes 0 0
-first_kept bytes zero some = absurd (omega arith)
-first_kept [] (suc n) some = refl
-first_kept (b ∷ bytes) (suc n) some = refl
-
 -- digits at the front spell their number
 pub front_spelled : (bytes : List ℕ) (count n : ℕ) → 0 < count → count ≤ length bytes → (get_or bytes 0 0 ≡ 48 → count ≡ 1) → all_ascii_digits (take count bytes) ≡ true → read_on 0 (take count bytes) ≡ n → n < 2 ^ 128 → bytes ≡ decimal n ++ drop count bytes
 front_spelled bytes count n some le lone all value small =
     let len : length (take count bytes) ≡ count = length-take-le count bytes le in
     let spelled : take count bytes ≡ decimal n =
-    digits_some (take count bytes) n (omega (arith, len)) (λ z. len ∙ lone (sym (first_kept bytes count some) ∙ z)) all value small in
+    digits_some (take count bytes) n (omega (arith, len)) (λ z. len ∙ lone (sym (get_or-take count bytes 0 0 some) ∙ z)) all value small in
     sym (take-append-drop count bytes) ∙ ap (λ (x : List ℕ). x ++ drop count bytes) spelled

@@ -1,11 +1,6 @@
 -- Digits among sixteen bytes, found in one vector.
-use Rattle.std.proofs.Common.{ℕ, zero, suc, ◌≡◌, ◌≢◌, ◌+◌, ◌%◌, ◌^◌, ◌<◌, ◌≤◌, Bool, true, false, not, ◌&&◌, List, [], ◌∷◌, map, length, take, get_or, replicate, Fits, w8, refl, sym, ap, ◌∙◌, arith}
-use Rattle.std.proofs.lemmas.Bool.{agree_below, agree_below_at, not-false, not-true}
+use Rattle.ks_script.proofs.Common.{ℕ, zero, suc, ◌≡◌, ◌≢◌, ◌+◌, ◌%◌, ◌^◌, ◌<◌, ◌≤◌, Bool, true, false, not, ◌&&◌, List, [], ◌∷◌, map, length, take, get_or, replicate, Fits, w8, refl, sym, ap, ◌∙◌, arith, agree_below, agree_below_at, not-false, not-true, length-map, length-take-le, prefix_len, is_ascii_digit, all_ascii_digits}
 use Rattle.std.proofs.lemmas.Simd.{map-map, mask_l-mod, zip2_splat_left, leading_from_mask_l, trailing_mask_l, run_in_chunk_le, run_in_chunk_fails, run_in_chunk_stops}
-use Rattle.std.proofs.lemmas.List.{length-map, length-take-le}
-use Rattle.std.specs.List.{prefix_len}
-use Rattle.std.specs.Char.{is_ascii_digit}
-use Rattle.std.specs.Str.{all_ascii_digits}
 use lib.Lanes.{zip2, mask_l, top}
 use lib.Count.{count_trailing_zeros}
 

@@ -1,7 +1,5 @@
--- Grammars whose texts begin with certain lines, and what may come after these.
-use Rattle.std.proofs.Common.{ℕ, zero, suc, ◌≡◌, ◌+◌, ◌-◌, List, [], ◌∷◌, ◌++◌, length, take, refl, sym, ap, subst, ◌∙◌, append_assoc, arith, inl, inr, length-append}
-use Rattle.ks_script.specs.Lines.{lines_of, Begins, FirstBad}
-use Rattle.ks_script.specs.Reads.{Lines, Leads, Reads}
+-- Grammars whose texts begin with certain lines, what may come after these, and the first line that does not fit.
+use Rattle.ks_script.proofs.Common.{ℕ, zero, suc, ◌≡◌, ◌+◌, ◌-◌, ◌<◌, ◌≤◌, List, [], ◌∷◌, ◌++◌, length, take, drop, refl, sym, ap, subst, ◌∙◌, append_assoc, arith, inl, inr, length-append, take-append-drop, take-take, cases_lt, lines_of, Begins, FirstBad, Lines, Leads, Reads}
 
 pub leads_none : (G : Lines → Type 0) → Leads G G []
 leads_none G = record { into = λ ls h. h; only = λ ls h. h }
@@ -86,16 +84,6 @@ bad_same G K lines n to from bad = record {
       ];
 }
 
--- where the first line of the rest cannot come next, and some lines can, it is the first bad one
-pub refused_at : {X : Type 0} (G H : X → Lines → Type 0) (bytes rest : List ℕ) (n : ℕ) → ((x : X) → Reads (G x) (H x) bytes rest n) → (x : X) (some : Lines) → H x some → ((x : X) (l : List ℕ) (ls more : Lines) → lines_of rest ≡ l ∷ ls → H x (l ∷ more) → ⊥) → (lines_of rest ≡ [] → (x : X) → H x [] → ⊥) → FirstBad (λ ls. (x : X) × G x ls) (lines_of bytes) (n + 1)
-refused_at {X = X} G H bytes rest n reads x some may stuck missing =
-    let front : Lines = take n (lines_of bytes) in
-    let parts = leads_taken (G x) (H x) bytes rest n (reads x) in
-    let leads = leads_some {X = X} G H front (λ y. (leads_taken (G y) (H y) bytes rest n (reads y)).0) in
-    let at = bad_first (λ ls. (y : X) × H y ls) (lines_of rest) (some, (x, may)) (λ l ls more e h. stuck h.0 l ls more e h.1) (λ e h. missing e h.0 h.1) in
-    subst (FirstBad (λ ls. (y : X) × G y ls) (lines_of bytes)) (let e : length front + 1 ≡ n + 1 = omega (arith, parts.2) in e)
-    (leads_bad (λ ls. (y : X) × G y ls) (λ ls. (y : X) × H y ls) (lines_of bytes) front (lines_of rest) 1 leads parts.1 at)
-
 -- what is first bad behind the lines that were read is first bad in all
 pub behind_bad : {X : Type 0} (G H : X → Lines → Type 0) (bytes rest : List ℕ) (n k : ℕ) → ((x : X) → Reads (G x) (H x) bytes rest n) → X → FirstBad (λ ls. (x : X) × H x ls) (lines_of rest) k → FirstBad (λ ls. (x : X) × G x ls) (lines_of bytes) (n + k)
 behind_bad {X = X} G H bytes rest n k reads x bad =
@@ -104,3 +92,39 @@ behind_bad {X = X} G H bytes rest n k reads x bad =
     let leads = leads_some {X = X} G H front (λ y. (leads_taken (G y) (H y) bytes rest n (reads y)).0) in
     subst (FirstBad (λ ls. (y : X) × G y ls) (lines_of bytes)) (let e : length front + k ≡ n + k = omega (arith, parts.2) in e)
     (leads_bad (λ ls. (y : X) × G y ls) (λ ls. (y : X) × H y ls) (lines_of bytes) front (lines_of rest) k leads parts.1 bad)
+
+-- where the first line of the rest cannot come next, and some lines can, it is the first bad one
+pub refused_at : {X : Type 0} (G H : X → Lines → Type 0) (bytes rest : List ℕ) (n : ℕ) → ((x : X) → Reads (G x) (H x) bytes rest n) → (x : X) (some : Lines) → H x some → ((x : X) (l : List ℕ) (ls more : Lines) → lines_of rest ≡ l ∷ ls → H x (l ∷ more) → ⊥) → (lines_of rest ≡ [] → (x : X) → H x [] → ⊥) → FirstBad (λ ls. (x : X) × G x ls) (lines_of bytes) (n + 1)
+refused_at {X = X} G H bytes rest n reads x some may stuck missing =
+    behind_bad {X = X} G H bytes rest n 1 reads x (bad_first (λ ls. (y : X) × H y ls) (lines_of rest) (some, (x, may)) (λ l ls more e h. stuck h.0 l ls more e h.1) (λ e h. missing e h.0 h.1))
+
+-- what is a text has no line that does not fit
+pub bad_no_text : (IsText : List (List ℕ) → Type 0) (lines : List (List ℕ)) (n : ℕ) → FirstBad IsText lines n → IsText lines → ⊥
+bad_no_text IsText lines n bad text =
+    elim bad.refused [
+      | inl there ↦ there.1 (drop n lines, subst IsText (sym (take-append-drop n lines)) text)
+      | inr end ↦ end.1 text
+    ]
+
+begins_front : (IsText : List (List ℕ) → Type 0) (lines : List (List ℕ)) (m n : ℕ) → m ≤ n → Begins IsText (take n lines) → Begins IsText (take m lines)
+begins_front IsText lines m n le b =
+    let split : take m lines ++ drop m (take n lines) ≡ take n lines = ap (λ ls. ls ++ drop m (take n lines)) (sym (take-take m n lines le)) ∙ take-append-drop m (take n lines) in
+    (drop m (take n lines) ++ b.0, subst IsText (ap (λ ls. ls ++ b.0) (sym split) ∙ append_assoc (take m lines) (drop m (take n lines)) b.0) b.1)
+
+bad_not_before : (IsText : List (List ℕ) → Type 0) (lines : List (List ℕ)) (m n : ℕ) → FirstBad IsText lines m → FirstBad IsText lines n → m < n → ⊥
+bad_not_before IsText lines m n p q lt =
+    elim p.refused [
+      | inl there ↦ there.1 (begins_front IsText lines m (n - 1) (omega arith) q.before)
+      | inr end ↦ (elim q.refused [ inl there ↦ (let a = end.0 in let b = there.0 in omega arith) | inr last ↦ (let a = end.0 in let b = last.0 in omega arith) ])
+    ]
+
+-- there is one such line at most
+pub one_bad : (IsText : List (List ℕ) → Type 0) (lines : List (List ℕ)) (m n : ℕ) → FirstBad IsText lines m → FirstBad IsText lines n → m ≡ n
+one_bad IsText lines m n p q =
+    elim (cases_lt m n) [
+      | inl lt ↦ absurd (bad_not_before IsText lines m n p q lt)
+      | inr le ↦ (elim (cases_lt n m) [
+        | inl lt ↦ absurd (bad_not_before IsText lines n m q p lt)
+        | inr ge ↦ omega arith
+      ])
+    ]

@@ -1,21 +1,8 @@
--- Lines that bytes begin with, told by their bytes.
-use Rattle.std.proofs.Common.{ℕ, ◌≡◌, ◌^◌, ◌<◌, ◌≤◌, true, cond, List, [], ◌∷◌, ◌++◌, length, drop, refl, sym, ap, subst, ◌∙◌, append_assoc, append-nil, arith, codes, length-append, inl, inr}
-use Rattle.std.proofs.lemmas.Bool.{false≢true}
-use Rattle.std.proofs.lemmas.Bool.Decides.{eqb_tells}
-use Rattle.std.specs.Char.{is_ascii_digit}
-use Rattle.std.specs.Str.{all_ascii_digits}
-use Rattle.std.specs.Fmt.{decimal}
-use Rattle.std.specs.List.{onto_first}
-use Rattle.ks_script.specs.Lines.{lines_of}
-use Rattle.ks_script.specs.Ahead.{Lacks}
-use Rattle.ks_script.specs.Numeral.{NoDigit}
-use Rattle.ks_script.specs.Lined.{EndsLine, Lined, NotLined}
-use Rattle.ks_script.specs.Reads.{Lines, NotFirst, NoneFirst}
+-- Lines that bytes begin with.
+use Rattle.ks_script.proofs.Common.{ℕ, ◌≡◌, ◌^◌, ◌<◌, ◌≤◌, true, List, [], ◌∷◌, ◌++◌, length, drop, refl, sym, ap, subst, ◌∙◌, append_assoc, append-nil, arith, codes, length-append, inl, inr, false≢true, and_parts, is_ascii_digit, all_ascii_digits, decimal, onto_first, lines_of, Lacks, NoDigit, EndsLine, Lined, NotLined, Lines, NotFirst, NoneFirst, pair_line}
 use Rattle.ks_script.proofs.Numerals.{digits_of_number, one_number}
-use Rattle.ks_script.proofs.Cuts.{lines_first, lines_last}
-use Rattle.ks_script.proofs.Fronts.{both}
-use Rattle.ks_script.proofs.Pairs.{three, three_parts}
-use Rattle.ks_script.specs.Run.{pair_line}
+use Rattle.ks_script.proofs.Cuts.{lines_cases, lines_first, lines_last}
+use Rattle.ks_script.proofs.CallLines.{three, three_parts}
 use Rattle.ks_script.proofs.Exact.{goes_on}
 
 -- the end of a line is no digit
@@ -32,7 +19,7 @@ number_told m n r s hm hn fr fs e =
   where
     none : (more s r : List ℕ) → all_ascii_digits more ≡ true → NoDigit r → r ≡ more ++ s → (more ≡ []) × (r ≡ s)
     none [] s r are free e = (refl, e)
-    none (d ∷ more) s r are free e = absurd (false≢true (sym (subst NoDigit e free) ∙ (both (is_ascii_digit d) (all_ascii_digits more) are).0))
+    none (d ∷ more) s r are free e = absurd (false≢true (sym (subst NoDigit e free) ∙ (and_parts (is_ascii_digit d) (all_ascii_digits more) are).0))
 
 -- a number, a space and more, where the number is read
 pub spaced_told : (m n : ℕ) (r a tail bytes : List ℕ) → m < 2 ^ 128 → n < 2 ^ 128 → NoDigit r → bytes ≡ decimal m ++ r → bytes ≡ (decimal n ++ codes " " ++ a) ++ tail → (m ≡ n) × (r ≡ codes " " ++ (a ++ tail))
@@ -66,30 +53,22 @@ lined_shorter text bytes rest some h = omega (arith, ap (λ (x : List ℕ). leng
 
 pub no_lines : (bytes : List ℕ) → lines_of bytes ≡ [] → bytes ≡ []
 no_lines [] e = refl
-no_lines (b ∷ bytes) e =
-    elim (eqb_tells b 10) [
-      | inl same ↦ absurd (some [] (lines_of bytes) (sym (ap (λ t. cond t ([] ∷ lines_of bytes) (onto_first b (lines_of bytes))) same.0) ∙ e))
-      | inr other ↦ absurd (onto (lines_of bytes) (sym (ap (λ t. cond t ([] ∷ lines_of bytes) (onto_first b (lines_of bytes))) other.0) ∙ e))
-    ]
+no_lines (b ∷ bytes) e = elim (lines_cases b bytes) [ inl same ↦ absurd (omega (arith, ap length (sym same.1 ∙ e))) | inr other ↦ absurd (onto (lines_of bytes) (sym other ∙ e)) ]
   where
-    some : (l : List ℕ) (ls : Lines) → l ∷ ls ≡ [] → ⊥
-    some l ls e = cc
-
     onto : (ls : Lines) → onto_first b ls ≡ [] → ⊥
-    onto [] e = cc
-    onto (l ∷ ls) e = cc
+    onto [] e = omega (arith, ap length e)
+    onto (l ∷ ls) e = omega (arith, ap length e)
 
 -- bytes whose first line has this text
 pub cut_first : (bytes l : List ℕ) (ls : Lines) → lines_of bytes ≡ l ∷ ls → (tail : List ℕ) × EndsLine tail × (bytes ≡ l ++ tail)
 cut_first [] l ls e = absurd (let no_line : ⊥ = cc in no_line)
 cut_first (b ∷ bytes) l ls e =
-    elim (eqb_tells b 10) [
+    elim (lines_cases b bytes) [
       | inl same ↦
-          (let here : [] ∷ lines_of bytes ≡ l ∷ ls = sym (ap (λ t. cond t ([] ∷ lines_of bytes) (onto_first b (lines_of bytes))) same.0) ∙ e in
+          (let here : [] ∷ lines_of bytes ≡ l ∷ ls = sym same.1 ∙ e in
           let none : [] ≡ l = cc in
-          (b ∷ bytes, same.1, ap (λ (x : List ℕ). x ++ b ∷ bytes) none))
-      | inr other ↦
-          joined (lines_of bytes) (λ m ms f. cut_first bytes m ms f) refl (sym (ap (λ t. cond t ([] ∷ lines_of bytes) (onto_first b (lines_of bytes))) other.0) ∙ e)
+          (b ∷ bytes, same.0, ap (λ (x : List ℕ). x ++ b ∷ bytes) none))
+      | inr other ↦ joined (lines_of bytes) (λ m ms f. cut_first bytes m ms f) refl (sym other ∙ e)
     ]
   where
     joined : (ms : Lines) → ((m : List ℕ) (ns : Lines) → lines_of bytes ≡ m ∷ ns → (tail : List ℕ) × EndsLine tail × (bytes ≡ m ++ tail)) → lines_of bytes ≡ ms → onto_first b (lines_of bytes) ≡ l ∷ ls → (tail : List ℕ) × EndsLine tail × (b ∷ bytes ≡ l ++ tail)
@@ -116,7 +95,3 @@ not_first word bytes none = by_lines (lines_of bytes) refl
     by_lines : (ls : Lines) → lines_of bytes ≡ ls → NotFirst word ls
     by_lines [] e = tt
     by_lines (l ∷ ls) e = λ same. let h = cut_first bytes l ls e in none h.0 h.1 (h.2 ∙ ap (λ (k : List ℕ). k ++ h.0) same)
-
-pub same_tail : (a b c : List ℕ) → a ++ b ≡ a ++ c → b ≡ c
-same_tail [] b c e = e
-same_tail (x ∷ a) b c e = same_tail a b c (ap (λ (k : List ℕ). drop 1 k) e)

@@ -1,22 +1,18 @@
 -- Numbers below 2 ^ 128 and their digits.
-use Rattle.std.proofs.Common.{ℕ, ◌≡◌, ◌+◌, ◌-◌, ◌*◌, ◌/◌, ◌%◌, ◌^◌, ◌<◌, ◌≤◌, true, List, [], ◌∷◌, ◌++◌, length, get_or, refl, sym, ap, ◌∙◌, append_assoc, append-nil, length-append, arith, rules}
+use Rattle.ks_script.proofs.Common.{ℕ, ◌≡◌, ◌+◌, ◌-◌, ◌*◌, ◌/◌, ◌%◌, ◌^◌, ◌<◌, ◌≤◌, true, List, [], ◌∷◌, ◌++◌, length, get_or, sym, ap, ◌∙◌, append_assoc, append-nil, length-append, arith, rules, get_or_append_left, decimal, digit_value, all_ascii_digits, AllDigits, digits_value, digits_value_after}
 use Rattle.std.proofs.lemmas.Str.Parse.{IsNumeralModel, numerals_by_fold, digit_from_value}
 use Rattle.std.proofs.lemmas.Str.{digit_value_digit}
 use Rattle.std.proofs.lemmas.Fmt.{decimal_is_IsNumeral_wide, decimal_by_steps_wide, decimal_step_wide, decimal_digit}
-use Rattle.std.specs.Fmt.{decimal}
-use Rattle.std.specs.Char.{digit_value}
-use Rattle.std.specs.Str.{all_ascii_digits}
-use Rattle.std.specs.Str.Parse.{AllDigits, digits_value, digits_value_after}
 
--- what digits stand for, after a number that was read before them
+-- what digits are worth, after a number that was read before them
 abbrev pub read_on : ℕ → List ℕ → ℕ
 read_on n [] = n
 read_on n (c ∷ cs) = read_on (10 * n + (c - 48)) cs
 
-own : IsNumeralModel (λ ds. all_ascii_digits ds ≡ true) (read_on 0)
+pub own : IsNumeralModel (λ ds. all_ascii_digits ds ≡ true) (read_on 0)
 own = numerals_by_fold _ (search rules) read_on (search rules)
 
--- the value of digits is what they stand for
+-- the value of digits is what they are worth
 pub value_read : (ds : List ℕ) → all_ascii_digits ds ≡ true → digits_value 10 ds ≡ read_on 0 ds
 value_read ds all = sym (own.same ds (own.to ds all))
 
@@ -37,11 +33,7 @@ some_digits n h = (decimal_is_IsNumeral_wide n (short n h)).0.0
 
 pub no_zero_first : (n : ℕ) → 0 < n → n < 2 ^ 128 → 48 < get_or (decimal n) 0 0
 no_zero_first n some small = (decimal_by_steps_wide (λ m ds. (0 < length ds) × (0 < m → 48 < get_or ds 0 0)) (λ m l. (omega arith, λ a. omega arith))
-    (λ m ds l h. (omega (arith, length-append ds ((48 + m % 10) ∷ [])), λ a. omega (arith, front_kept ds (48 + m % 10) h.0, h.1 (omega arith)))) n (short n small)).1 some
-  where
-    front_kept : (ds : List ℕ) (d : ℕ) → 0 < length ds → get_or (ds ++ d ∷ []) 0 0 ≡ get_or ds 0 0
-    front_kept [] d h = absurd (omega arith)
-    front_kept (x ∷ ds) d h = refl
+    (λ m ds l h. (omega (arith, length-append ds ((48 + m % 10) ∷ [])), λ a. omega (arith, get_or_append_left ds ((48 + m % 10) ∷ []) 0 0 h.0, h.1 (omega arith)))) n (short n small)).1 some
 
 pub one_number : (m n : ℕ) → m < 2 ^ 128 → n < 2 ^ 128 → decimal m ≡ decimal n → m ≡ n
 one_number m n h k e = sym (value_of_digits m h) ∙ (ap (read_on 0) e ∙ value_of_digits n k)

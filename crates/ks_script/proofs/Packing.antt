@@ -1,7 +1,6 @@
--- Small entries that stand for entries beside lists of longer ones.
-use Rattle.std.proofs.Common.{◌≡◌, ◌++◌, List, [], ◌∷◌, map, refl, ◌∙◌, ap, Result, Ok, Err, OnErr}
+-- Small entries that represent entries beside lists of longer ones.
+use Rattle.ks_script.proofs.Common.{◌≡◌, ◌++◌, List, [], ◌∷◌, map, refl, ◌∙◌, ap, Result, Ok, Err, OnErr, map_push}
 use Rattle.std.specs.Prelude.{All}
-use Rattle.std.proofs.lemmas.List.{map_push}
 use Rattle.std.proofs.lemmas.List.Elements.{All-head, All-tail}
 
 -- what is read through two functions that agree where the entries fit
@@ -9,6 +8,9 @@ pub read_along : {X Y : Type 0} (f g : X → Y) (P : X → Type 0) (xs : List X)
 read_along f g P [] same fit = refl
 read_along f g P (x ∷ xs) same fit =
     ap (λ y. y ∷ map f xs) (same x (All-head P x xs fit)) ∙ ap (λ ys. g x ∷ ys) (read_along f g P xs same (All-tail P x xs fit))
+
+pub kept : {X Y : Type 0} (f g : X → Y) (P Q : X → Type 0) (xs : List X) (ys : List Y) → ((x : X) → P x → Q x × (f x ≡ g x)) → All P xs → map g xs ≡ ys → map f xs ≡ ys
+kept f g P Q xs ys same fit view = read_along f g P xs (λ x is. (same x is).1) fit ∙ view
 
 -- and one more behind them
 pub one_more : {X Y : Type 0} (f g : X → Y) (P : X → Type 0) (xs xs' : List X) (x : X) (ys : List Y) (y : Y) → ((x : X) → P x → f x ≡ g x) → All P xs → map g xs ≡ ys → xs' ≡ xs ++ x ∷ [] → f x ≡ y →

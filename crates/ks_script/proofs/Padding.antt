@@ -1,11 +1,9 @@
 -- Numbers that are spelled 19 digits at a time.
-use Rattle.std.proofs.Common.{ℕ, zero, suc, ◌≡◌, ◌+◌, ◌-◌, ◌*◌, ◌/◌, ◌%◌, ◌^◌, ◌<◌, ◌≤◌, List, [], ◌∷◌, ◌++◌, length, take, drop, refl, sym, ap, ◌∙◌, append_assoc, append-nil, length-append, arith, replicate}
-use Rattle.std.proofs.lemmas.List.{replicate_more, take-replicate, length-replicate, take-take, drop_at, length-take-le, take-append-drop}
+use Rattle.ks_script.proofs.Common.{ℕ, zero, suc, ◌≡◌, ◌+◌, ◌-◌, ◌*◌, ◌/◌, ◌%◌, ◌^◌, ◌<◌, ◌≤◌, List, [], ◌∷◌, ◌++◌, length, take, drop, refl, sym, ap, ◌∙◌, append_assoc, append-nil, length-append, arith, replicate, replicate_more, take-replicate, length-replicate, take-take, drop_at, length-take-le, take-append-drop, decimal}
 use Rattle.std.proofs.lemmas.Slice.{take-put_mid, drop-put_mid}
 use Rattle.std.proofs.Math.Seq.{take-append-add}
 use Rattle.std.proofs.lemmas.Fmt.{decimal_step_wide, decimal_by_steps_wide, length-decimal-le_wide}
 use borrow.Rule.Slice.PartMut.{put_mid}
-use Rattle.std.specs.Fmt.{decimal}
 use Rattle.ks_script.specs.Digits.{padded}
 
 -- the last k digits of n
@@ -19,19 +17,9 @@ times_ten h p = grind arith
 step : (h k : ℕ) → h * 10 ^ suc k ≡ 10 * (h * 10 ^ k)
 step h k = let e : 10 ^ suc k ≡ 10 * 10 ^ k = omega arith in ap (λ (x : ℕ). h * x) e ∙ times_ten h (10 ^ k)
 
-product : (h p : ℕ) → 0 < h → 0 < p → 0 < h * p
-product zero p a b = absurd (omega arith)
-product (suc h) p a b = omega (arith, grows h p)
-  where
-    grows : (h p : ℕ) → suc h * p ≡ p + h * p
-    grows h p = grind arith
-
-some_power : (k : ℕ) → 0 < 10 ^ k
-some_power zero = omega arith
-some_power (suc k) = omega (arith, some_power k)
-
 some_times : (h k : ℕ) → 0 < h → 0 < h * 10 ^ k
-some_times h k some = product h (10 ^ k) some (some_power k)
+some_times h zero some = omega arith
+some_times h (suc k) some = omega (arith, step h k, some_times h k some)
 
 -- a number is spelled by the digits before the last k, and the last k
 last_decimal : (k h l : ℕ) → 0 < h → l < 10 ^ k → h * 10 ^ k + l < 10 ^ 64 → decimal (h * 10 ^ k + l) ≡ decimal h ++ last k l

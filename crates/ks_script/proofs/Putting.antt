@@ -1,9 +1,7 @@
--- Text that is put into a piece, and what of it the sink takes.
-use Rattle.std.proofs.Common.{ℕ, ◌≡◌, ◌≤◌, true, false, List, [], ◌++◌, take, drop, Option, Some, None, Ok, sym, ap, subst, ◌∙◌, append_assoc, append-nil, arith, inl, inr}
-use Rattle.std.proofs.lemmas.Bool.{false≢true}
-use Rattle.std.proofs.lemmas.List.{take-append-drop}
+-- Text that is put into a piece, and what of it the sink takes; sources that are read step by step.
+use Rattle.ks_script.proofs.Common.{ℕ, ◌≡◌, ◌+◌, ◌≤◌, true, false, List, [], ◌++◌, length, take, drop, Option, Some, None, Ok, sym, ap, subst, ◌∙◌, append_assoc, append-nil, length-append, arith, inl, inr, false≢true, take-append-drop, length-take}
 use Rattle.ks_script.specs.declared.pieces.Piece.{Piece}
-use Rattle.ks_script.specs.Outside.{Writes, Grew, GrewByFront, Rose}
+use Rattle.ks_script.specs.Outside.{Reads, Moves, Gone, Writes, Grew, GrewByFront, Rose}
 use Rattle.ks_script.specs.Pieces.{Holds, Puts}
 
 pub grew_none : (o : Option (List ℕ)) → Grew o o []
@@ -89,3 +87,16 @@ offer_failed t u m n p q fine bad front rose le = λ start faults before h. subs
   failed = λ b. let g = h.going fine in (subst (GrewByFront start u) (sym g.1) (front_on start t u g.0 p.bytes.items g.2 front), rose_from faults m n h.count rose);
   count = (let c = h.count in omega arith);
 })
+
+-- one read more
+pub gone_on : (E : Type 0) (o n m : Option (List ℕ)) (front into : List ℕ) (k : ℕ) → Gone o n front → Reads {E = E} n m into (Ok k) → Gone o m (front ++ take k into)
+gone_on E None n m front into k g r = tt
+gone_on E (Some bytes) n m front into k g r =
+    let moved : Moves g.0 m into k = subst (λ (x : Option (List ℕ)). Reads {E = E} x m into (Ok k)) g.2 r in (
+      drop k g.0,
+      g.1 ∙ (ap (λ (x : List ℕ). front ++ x) (sym (take-append-drop k g.0) ∙ ap (λ (x : List ℕ). x ++ drop k g.0) (sym moved.start)) ∙ sym (append_assoc front (take k into) (drop k g.0))),
+      moved.rest,
+    )
+
+pub gone_within : (E : Type 0) (o n m : Option (List ℕ)) (front into : List ℕ) (k limit : ℕ) → Gone o n front → Reads {E = E} n m into (Ok k) → length front + k ≤ limit → (all : List ℕ) × Gone o m all × (length all ≤ limit)
+gone_within E o n m front into k limit g r le = (front ++ take k into, gone_on E o n m front into k g r, omega (arith, length-append front (take k into), length-take k into))

@@ -1,20 +1,8 @@
 -- Runs that were read line by line: where a text stops to be one.
-use Rattle.std.proofs.Common.{ℕ, zero, suc, ◌≡◌, ◌+◌, ◌-◌, ◌<◌, List, [], ◌∷◌, ◌++◌, length, map, codes, refl, sym, ap, subst, ◌∙◌, append-nil, arith, length-append, Err}
-use Rattle.std.proofs.lemmas.List.{map-append}
-use Rattle.std.specs.List.{AllByRecursion}
-use Rattle.ks_history.specs.declared.Op.{Op}
-use Rattle.ks_history.specs.declared.Reply.TheVariants.{Nothing}
-use Rattle.ks_script.specs.declared.fault.TextFault.{TextFault}
-use Rattle.ks_script.specs.declared.fault.TextFault.TheVariants.{Refused, Memory}
-use Rattle.ks_script.specs.Lines.{lines_of, FirstBad}
-use Rattle.ks_script.specs.Run.{Run, reply_line, pair_line, callers_from, map_lines}
-use Rattle.ks_script.specs.Checked.{IsAnswered, AscendFrom, IsRunOf}
-use Rattle.ks_script.specs.Reads.{Lines, NotFirst, NoneFirst, Reads, RefusedBehind}
-use Rattle.ks_script.specs.RunLeft.{Replies, next_key, IsPairFrom, SpellsRun, AreRun, AnswersLeft, RepliesLeft, PairsLeft, NothingLeft}
-use Rattle.ks_script.specs.Reading.{Answers}
+use Rattle.ks_script.proofs.Common.{ℕ, zero, suc, ◌≡◌, ◌+◌, ◌-◌, ◌<◌, List, [], ◌∷◌, ◌++◌, length, map, codes, refl, sym, ap, subst, ◌∙◌, append-nil, arith, length-append, Err, map-append, AllByRecursion, Op, Nothing, TextFault, Refused, Memory, lines_of, FirstBad, Run, reply_line, pair_line, callers_from, map_lines, IsAnswered, AscendFrom, IsRunOf, Lines, NotFirst, NoneFirst, Reads, Replies, next_key, IsPairFrom, SpellsRun, AreRun, AnswersLeft, RepliesLeft, PairsLeft, NothingLeft, Answers}
 use Rattle.ks_script.proofs.Leading.{refused_at}
 use Rattle.ks_script.proofs.Lined.{no_lines}
-use Rattle.ks_script.proofs.Steps.{reads_none, reads_as}
+use Rattle.ks_script.proofs.Steps.{reads_none, reads_as, all_append}
 use Rattle.ks_script.proofs.RunSteps.{head_line, head, sizes, GoodReplies, none_more, more_left, none_left, each_left, left_ascend}
 
 -- at first all is left
@@ -50,9 +38,9 @@ sizes-blanks : (s : List (List Op)) → sizes (blanks s) ≡ sizes s
 sizes-blanks [] = refl
 sizes-blanks (ops ∷ s) = ap (λ (n : ℕ). n ∷ sizes (blanks s)) (length-blank (length ops)) ∙ ap (λ (ns : List ℕ). length ops ∷ ns) (sizes-blanks s)
 
-all_append : {X : Type 0} (P : X → Type 0) (xs ys : List X) → AllByRecursion P xs → AllByRecursion P ys → AllByRecursion P (xs ++ ys)
-all_append P [] ys h k = k
-all_append P (x ∷ xs) ys h k = (h.0, all_append P xs ys h.1 k)
+-- lines with some behind them are not none
+some_behind : (a b : Lines) → 0 < length b → [] ≡ a ++ b → ⊥
+some_behind a b some e = omega (arith, ap (λ (ls : Lines). length ls) e, length-append a b)
 
 pub whole_run : (script : List (List Op)) → IsRunOf script (record { callers = blanks script; pairs = [] })
 whole_run script = record { shape = sizes-blanks script; each = good_blanks script; ascend = tt }
@@ -73,15 +61,11 @@ module _ (script before : List (List Op)) (ops : List Op) (after : List (List Op
       refused_at {X = Run} (SpellsRun script) (λ run ls. AnswersLeft script n callers run ls) bytes rest k reads some (callers_from n (blanks (ops ∷ after)) ++ map_lines [])
       (record { is = subst (λ (s : List (List Op)). IsRunOf s some) (sym cut) (filled before (ops ∷ after) callers shape good); others = blanks (ops ∷ after); callers_are = refl; lines_are = refl })
       (λ run l ls more e h. stuck run l ls more (subst (NotFirst (head_line n)) e odd) h.is h.others h.callers_are h.lines_are)
-      (λ e run h. missing run h.others h.lines_are)
+      (λ e run h. some_behind (callers_from n h.others) (map_lines run.pairs) (omega arith) h.lines_are)
     where
       stuck : (run : Run) (l : List ℕ) (ls more : Lines) → NotFirst (head_line n) (l ∷ ls) → IsRunOf script run → (others : List Replies) → run.callers ≡ callers ++ others → l ∷ more ≡ callers_from n others ++ map_lines run.pairs → ⊥
       stuck run l ls more odd is [] c e = more_left callers before ops after (ap sizes (sym c) ∙ (is.shape ∙ ap sizes cut)) shape
       stuck run l ls more odd is (o ∷ others) c e = odd (ap head e)
-
-      missing : (run : Run) (others : List Replies) → [] ≡ callers_from n others ++ map_lines run.pairs → ⊥
-      missing run [] e = omega (arith, ap (λ (ls : Lines). length ls) e)
-      missing run (o ∷ others) e = omega (arith, ap (λ (ls : Lines). length ls) e)
 
   -- too few replies
   pub no_reply : (rs : Replies) → AllByRecursion IsAnswered rs → length rs < length ops → ((run : Run) → Reads (SpellsRun script run) (RepliesLeft script n callers rs run) bytes rest k) → NoneFirst IsAnswered reply_line (lines_of rest) → FirstBad (AreRun script) (lines_of bytes) (k + 1)
@@ -102,16 +86,11 @@ module _ (script before : List (List Op)) (ops : List Op) (after : List (List Op
         lines_are = refl;
       })
       (λ run l ls more e h. stuck run l ls more (subst (NoneFirst IsAnswered reply_line) e odd) h.is h.more h.others h.callers_are h.lines_are)
-      (λ e run h. missing run h.more h.others h.lines_are)
+      (λ e run h. some_behind (map reply_line h.more) (callers_from (n + 1) h.others ++ map_lines run.pairs) (omega (arith, length-append (callers_from (n + 1) h.others) (map_lines run.pairs))) h.lines_are)
     where
       stuck : (run : Run) (l : List ℕ) (ls more : Lines) → NoneFirst IsAnswered reply_line (l ∷ ls) → IsRunOf script run → (left : Replies) (others : List Replies) → run.callers ≡ callers ++ (rs ++ left) ∷ others → l ∷ more ≡ map reply_line left ++ (callers_from (n + 1) others ++ map_lines run.pairs) → ⊥
       stuck run l ls more odd is [] others c e = omega (arith, none_left script run before ops after callers rs [] others cut shape is c)
       stuck run l ls more odd is (r ∷ left) others c e = odd r (each_left script run callers rs (r ∷ left) others is c).0 (ap head e)
-
-      missing : (run : Run) (left : Replies) (others : List Replies) → [] ≡ map reply_line left ++ (callers_from (n + 1) others ++ map_lines run.pairs) → ⊥
-      missing run [] [] e = omega (arith, ap (λ (ls : Lines). length ls) e)
-      missing run [] (o ∷ others) e = omega (arith, ap (λ (ls : Lines). length ls) e)
-      missing run (r ∷ left) others e = omega (arith, ap (λ (ls : Lines). length ls) e)
 
 module _ (script : List (List Op)) (callers : List Replies) (shape : sizes callers ≡ sizes script) (good : GoodReplies callers) (bytes : List ℕ) where
   is_run : (ps : List (ℕ × ℕ)) → AscendFrom 0 ps → IsRunOf script (record { callers = callers; pairs = ps })
@@ -123,15 +102,11 @@ module _ (script : List (List Op)) (callers : List Replies) (shape : sizes calle
       refused_at {X = Run} (SpellsRun script) (λ run ls. AnswersLeft script n callers run ls) bytes rest k reads (record { callers = callers; pairs = [] }) (map_lines [])
       (record { is = is_run [] tt; others = []; callers_are = sym (append-nil callers); lines_are = refl })
       (λ run l ls more e h. stuck run l ls more (subst (NotFirst (codes "map")) e odd) h.is h.others h.callers_are h.lines_are)
-      (λ e run h. missing run h.others h.lines_are)
+      (λ e run h. some_behind (callers_from n h.others) (map_lines run.pairs) (omega arith) h.lines_are)
     where
       stuck : (run : Run) (l : List ℕ) (ls more : Lines) → NotFirst (codes "map") (l ∷ ls) → IsRunOf script run → (others : List Replies) → run.callers ≡ callers ++ others → l ∷ more ≡ callers_from n others ++ map_lines run.pairs → ⊥
       stuck run l ls more odd is [] c e = odd (ap head e)
       stuck run l ls more odd is (o ∷ others) c e = omega (arith, ap (λ (cs : List Replies). length cs) (none_more callers (o ∷ others) script (ap sizes (sym c) ∙ is.shape) shape))
-
-      missing : (run : Run) (others : List Replies) → [] ≡ callers_from n others ++ map_lines run.pairs → ⊥
-      missing run [] e = omega (arith, ap (λ (ls : Lines). length ls) e)
-      missing run (o ∷ others) e = omega (arith, ap (λ (ls : Lines). length ls) e)
 
   -- no `end`
   pub no_end : (ps : List (ℕ × ℕ)) (rest : List ℕ) (k : ℕ) → AscendFrom 0 ps → ((run : Run) → Reads (SpellsRun script run) (PairsLeft script callers ps run) bytes rest k) → NoneFirst (IsPairFrom (next_key 0 ps)) pair_line (lines_of rest) → NotFirst (codes "end") (lines_of rest) → FirstBad (AreRun script) (lines_of bytes) (k + 1)
@@ -139,15 +114,11 @@ module _ (script : List (List Op)) (callers : List Replies) (shape : sizes calle
       refused_at {X = Run} (SpellsRun script) (λ run ls. PairsLeft script callers ps run ls) bytes rest k reads (record { callers = callers; pairs = ps }) (codes "end" ∷ [])
       (record { is = is_run ps ascend; callers_are = refl; more = []; pairs_are = sym (append-nil ps); lines_are = refl })
       (λ run l ls more e h. stuck run l ls more (subst (NotFirst (codes "end")) e odd) (subst (NoneFirst (IsPairFrom (next_key 0 ps)) pair_line) e none) h.is h.more h.pairs_are h.lines_are)
-      (λ e run h. missing h.more h.lines_are)
+      (λ e run h. some_behind (map pair_line h.more) (codes "end" ∷ []) (omega arith) h.lines_are)
     where
       stuck : (run : Run) (l : List ℕ) (ls more : Lines) → NotFirst (codes "end") (l ∷ ls) → NoneFirst (IsPairFrom (next_key 0 ps)) pair_line (l ∷ ls) → IsRunOf script run → (left : List (ℕ × ℕ)) → run.pairs ≡ ps ++ left → l ∷ more ≡ map pair_line left ++ codes "end" ∷ [] → ⊥
       stuck run l ls more odd none is [] p e = odd (ap head e)
       stuck run l ls more odd none is (x ∷ left) p e = let fits = left_ascend script run ps (x ∷ left) is p in none x (fits.0, fits.1, fits.2) (ap head e)
-
-      missing : (left : List (ℕ × ℕ)) → [] ≡ map pair_line left ++ codes "end" ∷ [] → ⊥
-      missing [] e = omega (arith, ap (λ (ls : Lines). length ls) e)
-      missing (x ∷ left) e = omega (arith, ap (λ (ls : Lines). length ls) e)
 
   -- more lines behind `end`
   pub past_end : (ps : List (ℕ × ℕ)) (rest : List ℕ) (k : ℕ) → AscendFrom 0 ps → ((run : Run) → Reads (SpellsRun script run) (NothingLeft script (record { callers = callers; pairs = ps }) run) bytes rest k) → 0 < length rest → FirstBad (AreRun script) (lines_of bytes) (k + 1)
@@ -168,6 +139,6 @@ pub no_other : (script : List (List Op)) (read run : Run) (bytes rest : List ℕ
 no_other script read run bytes rest k r end h = (r.leads.only [] (subst (SpellsRun script run) (r.lines_are ∙ ap (λ (x : List ℕ). r.front ++ lines_of x) end) h)).run_is
 
 -- a fault of a part
-pub fault_behind : (script : List (List Op)) (before : ℕ) (lines : Lines) (f : TextFault) → ((n : ℕ) → f ≡ Refused n → RefusedBehind before (AreRun script) lines n) → Answers {X = Run} (Err f) (λ run. SpellsRun script run lines) (RefusedBehind before (AreRun script) lines)
-fault_behind script before lines (Refused n) h = h n refl
-fault_behind script before lines Memory h = tt
+pub fault_answers : {X : Type 0} (f : TextFault) (IsText : X → Type 0) (IsBad : ℕ → Type 0) → ((n : ℕ) → f ≡ Refused n → IsBad n) → Answers {X = X} (Err f) IsText IsBad
+fault_answers (Refused n) IsText IsBad h = h n refl
+fault_answers Memory IsText IsBad h = tt

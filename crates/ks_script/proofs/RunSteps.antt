@@ -1,21 +1,9 @@
 -- Lines of a run that are read one after another.
-use Rattle.std.proofs.Common.{ℕ, ◌≡◌, ◌+◌, ◌^◌, ◌<◌, false, List, [], ◌∷◌, ◌++◌, length, map, drop, get_or, codes, append-nil, refl, sym, ap, subst, ◌∙◌, append_assoc, arith, length-append}
-use Rattle.std.proofs.lemmas.List.{length-map}
-use Rattle.std.proofs.lemmas.Bool.{false≢true}
-use Rattle.std.specs.Fmt.{decimal}
-use Rattle.std.specs.Str.{all_ascii_digits}
-use Rattle.std.specs.List.{AllByRecursion}
-use Rattle.ks_history.specs.declared.Op.{Op}
-use Rattle.ks_history.specs.declared.Reply.{Reply}
-use Rattle.ks_history.specs.declared.Reply.TheVariants.{Nothing, Value, Full}
-use Rattle.ks_script.specs.Run.{Run, reply_word, reply_line, pair_line, callers_from, map_lines}
-use Rattle.ks_script.specs.Checked.{IsReply, IsAnswered, AscendFrom, IsRunOf}
-use Rattle.ks_script.specs.Numeral.{NoDigit}
-use Rattle.ks_script.specs.Reads.{Lines, Leads, Reads}
-use Rattle.ks_script.specs.RunLeft.{Replies, next_key, IsPairFrom, AnswersLeft, RepliesLeft, PairsLeft, NothingLeft}
-use Rattle.ks_script.proofs.Numerals.{wide, one_number}
-use Rattle.ks_script.proofs.Cuts.{all_digits}
-use Rattle.ks_script.proofs.Pairs.{spaced, one_pair}
+use Rattle.ks_script.proofs.Common.{ℕ, ◌≡◌, ◌+◌, ◌^◌, ◌<◌, cond, List, [], ◌∷◌, ◌++◌, length, map, drop, get_or, codes, append-nil, refl, sym, ap, subst, ◌∙◌, append_assoc, arith, inl, inr, length-append, length-map, decimal, is_ascii_digit, AllByRecursion, Op, Reply, Value, Run, reply_word, reply_line, pair_line, callers_from, map_lines, IsReply, IsAnswered, AscendFrom, IsRunOf, NoDigit, Lines, Leads, Reads, Replies, next_key, IsPairFrom, AnswersLeft, RepliesLeft, PairsLeft, NothingLeft}
+use Rattle.ks_script.proofs.Numerals.{wide, digits_of_number, some_digits}
+use Rattle.ks_script.proofs.Fronts.{first_digit}
+use Rattle.ks_script.proofs.CallLines.{first, cut, cut_first, cut_last, one_pair}
+use Rattle.ks_script.proofs.Rows.{word_of, by_word}
 use Rattle.ks_script.proofs.Exact.{no_number}
 use Rattle.ks_script.proofs.Texts.{one_caller}
 use Rattle.ks_script.proofs.Steps.{all_right, reads_as}
@@ -33,24 +21,25 @@ abbrev pub head : Lines → List ℕ
 head ls = get_or ls 0 []
 
 -- a line spells one reply
-no_word : (w : List ℕ) (v : ℕ) → v < 2 ^ 128 → all_ascii_digits w ≡ false → w ≡ decimal v → ⊥
-no_word w v h f e = false≢true (sym f ∙ all_digits w v h e)
+abbrev said_of : List ℕ → Reply
+said_of word = cond (is_ascii_digit (first word)) (Value (cut 0 word).0) (word_of (first word))
 
-one_word : (r s : Reply) → IsReply r → IsReply s → reply_word r ≡ reply_word s → r ≡ s
-one_word Nothing Nothing h k e = refl
-one_word Full Full h k e = refl
-one_word (Value v) (Value w) h k e = ap Value (one_number v w h k e)
-one_word Nothing Full h k e = absurd (omega (arith, ap (λ (z : List ℕ). get_or z 0 0) e))
-one_word Full Nothing h k e = absurd (omega (arith, ap (λ (z : List ℕ). get_or z 0 0) e))
-one_word Nothing (Value w) h k e = absurd (no_word (codes "none") w k refl e)
-one_word Full (Value w) h k e = absurd (no_word (codes "full") w k refl e)
-one_word (Value v) Nothing h k e = absurd (no_word (codes "none") v h refl (sym e))
-one_word (Value v) Full h k e = absurd (no_word (codes "full") v h refl (sym e))
+said_back : (r : Reply) → IsReply r → said_of (reply_word r) ≡ r
+said_back r h =
+    elim (by_word r h) [
+      | inl word ↦ ap (λ t. cond t (Value (cut 0 (reply_word r)).0) (word_of (first (reply_word r)))) word.0 ∙ word.2
+      | inr value ↦ subst (λ (s : Reply). said_of (reply_word s) ≡ s) (sym value.2) (value_back value.0 value.1)
+    ]
+  where
+    value_back : (v : ℕ) → v < 2 ^ 128 → said_of (decimal v) ≡ Value v
+    value_back v h =
+        ap (λ t. cond t (Value (cut 0 (decimal v)).0) (word_of (first (decimal v)))) (first_digit (decimal v) (some_digits v h) (digits_of_number v h)) ∙ ap (λ (x : ℕ × List ℕ). Value x.0) (cut_last v h)
+
+reply_back : (x : ℕ × Reply) → IsAnswered x → ◌≡◌ {A = ℕ × Reply} ((cut 0 (reply_line x)).0, said_of (cut 0 (reply_line x)).1) x
+reply_back x h = ap (λ (a : ℕ × List ℕ). (a.0, said_of a.1)) (cut_first x.0 (reply_word x.1) (wide x.0 h.0)) ∙ ap (λ (r : Reply). (x.0, r)) (said_back x.1 h.1)
 
 one_reply : (x y : ℕ × Reply) → IsAnswered x → IsAnswered y → reply_line x ≡ reply_line y → x ≡ y
-one_reply x y h k e =
-    let parts = spaced x.0 y.0 (reply_word x.1) (reply_word y.1) (wide x.0 h.0) (wide y.0 k.0) e in
-    ap (λ (n : ℕ). (n, x.1)) parts.0 ∙ ap (λ r. (y.0, r)) (one_word x.1 y.1 h.1 k.1 parts.1)
+one_reply x y h k e = sym (reply_back x h) ∙ (ap (λ (l : List ℕ). ((cut 0 l).0, said_of (cut 0 l).1)) e ∙ reply_back y k)
 
 -- a pair is not `end`
 pub end_apart : (x : ℕ × ℕ) → x.0 < 2 ^ 64 → codes "end" ≡ pair_line x → ⊥

@@ -1,16 +1,7 @@
 -- Scripts that were read line by line: what a text says, and where it stops to be one.
-use Rattle.std.proofs.Common.{ℕ, ◌≡◌, ◌+◌, ◌<◌, List, [], ◌∷◌, ◌++◌, length, map, get_or, codes, refl, sym, ap, subst, ◌∙◌, append-nil, arith, length-append}
-use Rattle.std.specs.List.{AllByRecursion}
-use Rattle.ks_history.specs.declared.Op.{Op}
-use Rattle.ks_script.specs.declared.version.Version.{Version}
-use Rattle.ks_script.specs.declared.version.Version.TheVariants.{First, Second}
-use Rattle.ks_script.specs.Lines.{lines_of, FirstBad}
-use Rattle.ks_script.specs.Version.{version_line}
-use Rattle.ks_script.specs.Script.{IsCall, IsScript, SpellsScript, AreScript, call_line, script_lines, calls_in}
-use Rattle.ks_script.specs.Reads.{Lines}
-use Rattle.ks_script.specs.Left.{Apart, TextLeft, CallsLeft, Told, CallersRead, none_read, some_read, Stops}
+use Rattle.ks_script.proofs.Common.{ℕ, ◌≡◌, ◌+◌, ◌<◌, List, [], ◌∷◌, ◌++◌, length, map, get_or, codes, refl, sym, ap, subst, ◌∙◌, append-nil, arith, length-append, AllByRecursion, Op, Version, First, Second, lines_of, FirstBad, version_line, IsCall, IsScript, SpellsScript, AreScript, call_line, script_lines, calls_in, Lines, Apart, TextLeft, CallsLeft, Told, CallersRead, none_read, some_read, Stops}
 use Rattle.ks_script.proofs.Leading.{bad_same, refused_at}
-use Rattle.ks_script.proofs.Steps.{all_right, all_read, calls_append}
+use Rattle.ks_script.proofs.Steps.{all_good, all_read, calls_append}
 use Rattle.ks_script.proofs.Lined.{no_lines}
 
 -- nothing is behind a script
@@ -84,8 +75,7 @@ stuck_more v all callers ops s behind l ls rest none all_are stops is (m ∷ mor
 
 pub stuck_calls : (v : Version) (all callers : List (List Op)) (ops : List Op) (s : List (List Op)) (behind : Lines) (l : List ℕ) (ls more : Lines) → (l ∷ more ≡ behind → ⊥) → all ≡ callers ++ ops ∷ [] → Stops v all (l ∷ ls) → CallsLeft v callers ops s behind (l ∷ more) → ⊥
 stuck_calls v all callers ops s behind l ls more none all_are stops h =
-    let each = all_right (IsCall v) ops h.more (all_right (AllByRecursion (IsCall v)) callers ((ops ++ h.more) ∷ h.others) (subst (AllByRecursion (AllByRecursion (IsCall v))) h.script_is h.is.each)).0 in
-    stuck_more v all callers ops s behind l ls more none all_are stops h.is h.more h.others h.script_is each h.lines_are
+    stuck_more v all callers ops s behind l ls more none all_are stops h.is h.more h.others h.script_is (all_good v callers ops h.more h.others s h.is h.script_is) h.lines_are
 
 abbrev Versioned : Type 0
 Versioned = Version × List (List Op)
@@ -107,7 +97,3 @@ stopped v all bytes rest n read is stops some =
         refused_at {X = Versioned} (λ x ls. TextLeft x.0 x.1 [] ls) (λ x ls. (x.0 ≡ v) × CallsLeft v callers ops x.1 [] ls) bytes rest n (λ x. r x.0 x.1 []) (v, all) [] (refl, left_calls v [] (alone v) all callers ops all_are is)
         (λ x l ls more e h. stuck_calls v all callers ops x.1 [] l ls more (no_line l more) all_are (subst (Stops v all) e stops) h.1)
         (λ e x h. missing e)
-
-pub no_bytes : (bytes : List ℕ) → length bytes ≡ 0 → bytes ≡ []
-no_bytes [] e = refl
-no_bytes (b ∷ bytes) e = absurd (omega arith)

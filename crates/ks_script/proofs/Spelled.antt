@@ -1,38 +1,18 @@
 -- Texts and their lines, there and back.
-use Rattle.std.proofs.Common.{ℕ, ◌≡◌, ◌⊎◌, ◌+◌, ◌^◌, ◌<◌, ◌≤◌, Bool, true, false, ◌||◌, eqb, cond, List, [], ◌∷◌, ◌++◌, length, map, refl, sym, ap, subst, ◌∙◌, append_assoc, arith, codes, inl, inr, length-append}
-use Rattle.std.proofs.lemmas.List.{length-map}
-use Rattle.std.proofs.lemmas.Bool.{false≢true, eq-eqb}
-use Rattle.std.proofs.lemmas.Bool.Decides.{eqb_tells}
-use Rattle.std.specs.Fmt.{decimal}
-use Rattle.std.specs.List.{AllByRecursion, onto_first}
-use Rattle.ks_history.specs.declared.Op.{Op}
-use Rattle.ks_history.specs.declared.Op.TheVariants.{Get, Put, Del, Add, Swap}
-use Rattle.ks_history.specs.declared.Reply.{Reply}
-use Rattle.ks_history.specs.declared.Reply.TheVariants.{Nothing, Value, Full}
-use Rattle.ks_script.specs.declared.version.Version.{Version}
-use Rattle.ks_script.specs.declared.version.Version.TheVariants.{First, Second}
-use Rattle.ks_script.specs.Lines.{lines_of, text_of}
-use Rattle.ks_script.specs.Ahead.{Lacks}
-use Rattle.ks_script.specs.Version.{version_line, callers_limit}
-use Rattle.ks_script.specs.Script.{IsCall, IsScript, call_line, script_lines}
-use Rattle.ks_script.specs.Run.{Run, reply_word, reply_line, pair_line, callers_from, map_lines, run_lines}
-use Rattle.ks_script.specs.Checked.{IsReply, IsAnswered, AscendFrom, IsRunOf, CheckedIn}
+use Rattle.ks_script.proofs.Common.{ℕ, ◌≡◌, ◌⊎◌, ◌+◌, ◌^◌, ◌<◌, ◌≤◌, Bool, false, ◌||◌, eqb, List, [], ◌∷◌, ◌++◌, length, map, refl, sym, ap, subst, ◌∙◌, append_assoc, arith, codes, inl, inr, length-append, length-map, false≢true, eq-eqb, or_parts, decimal, AllByRecursion, onto_first, Op, Get, Put, Del, Add, Swap, Reply, Nothing, Value, Full, Version, First, Second, lines_of, text_of, Lacks, version_line, callers_limit, IsCall, IsScript, call_line, script_lines, Run, reply_word, reply_line, pair_line, callers_from, map_lines, run_lines, IsReply, IsAnswered, AscendFrom, IsRunOf, CheckedIn}
 use Rattle.ks_script.proofs.Numerals.{wide}
-use Rattle.ks_script.proofs.Cuts.{lines_first, decimal_lacks}
-use Rattle.ks_script.proofs.Pairs.{value_small}
+use Rattle.ks_script.proofs.Cuts.{lines_cases, lines_first, decimal_lacks}
+use Rattle.ks_script.proofs.CallLines.{value_small}
+use Rattle.ks_script.proofs.Steps.{all_append}
 
--- whether the byte stands there
+-- whether the byte is among the bytes
 abbrev pub stands : ℕ → List ℕ → Bool
 stands c [] = false
 stands c (b ∷ bytes) = eqb b c || stands c bytes
 
 pub lacks_by : (c : ℕ) (bytes : List ℕ) → stands c bytes ≡ false → Lacks c bytes
 lacks_by c [] h = tt
-lacks_by c (b ∷ bytes) h = let parts = neither (eqb b c) (stands c bytes) h in ((λ e. false≢true (sym parts.0 ∙ eq-eqb b c e)), lacks_by c bytes parts.1)
-  where
-    neither : (x y : Bool) → (x || y) ≡ false → (x ≡ false) × (y ≡ false)
-    neither false y h = (refl, h)
-    neither true y h = absurd (false≢true (sym h))
+lacks_by c (b ∷ bytes) h = let parts = or_parts (eqb b c) (stands c bytes) h in ((λ e. false≢true (sym parts.0 ∙ eq-eqb b c e)), lacks_by c bytes parts.1)
 
 lacks_append : (c : ℕ) (a b : List ℕ) → Lacks c a → Lacks c b → Lacks c (a ++ b)
 lacks_append c [] b h k = k
@@ -41,9 +21,10 @@ lacks_append c (x ∷ a) b h k = (h.0, lacks_append c a b h.1 k)
 abbrev pub Plain : List (List ℕ) → Type 0
 Plain ls = AllByRecursion (Lacks 10) ls
 
-pub plain_append : (a b : List (List ℕ)) → Plain a → Plain b → Plain (a ++ b)
-plain_append [] b h k = k
-plain_append (l ∷ a) b h k = (h.0, plain_append a b h.1 k)
+-- the lines of some things
+plain_each : {X : Type 0} (Is : X → Type 0) (line : X → List ℕ) → ((x : X) → Is x → Lacks 10 (line x)) → (xs : List X) → AllByRecursion Is xs → Plain (map line xs)
+plain_each Is line plain [] h = tt
+plain_each Is line plain (x ∷ xs) h = (plain x h.0, plain_each Is line plain xs h.1)
 
 number : (n : ℕ) → n < 2 ^ 64 → Lacks 10 (decimal n)
 number n h = decimal_lacks 10 refl n (wide n h)
@@ -71,13 +52,9 @@ plain_call version (Swap k v w) h =
     (spaced (codes "swap " ++ decimal k) (decimal v) (keyed (codes "swap ") k refl h.1) (value v (value_small version v h.2)))
     (value w (value_small version w h.3))
 
-pub plain_calls : (version : Version) (ops : List Op) → AllByRecursion (IsCall version) ops → Plain (map call_line ops)
-plain_calls version [] h = tt
-plain_calls version (op ∷ ops) h = (plain_call version op h.0, plain_calls version ops h.1)
-
 pub plain_script : (version : Version) (s : List (List Op)) → AllByRecursion (AllByRecursion (IsCall version)) s → Plain (script_lines s)
 plain_script version [] h = tt
-plain_script version (ops ∷ s) h = (lacks_by 10 (codes "caller") refl, plain_append (map call_line ops) (script_lines s) (plain_calls version ops h.0) (plain_script version s h.1))
+plain_script version (ops ∷ s) h = (lacks_by 10 (codes "caller") refl, all_append (Lacks 10) (map call_line ops) (script_lines s) (plain_each (IsCall version) call_line (plain_call version) ops h.0) (plain_script version s h.1))
 
 pub plain_version : (version : Version) → Plain (version_line version)
 plain_version First = tt
@@ -94,10 +71,6 @@ plain_reply x h = spaced (decimal x.0) (reply_word x.1) (number x.0 h.0) (plain_
 pub plain_pair : (x : ℕ × ℕ) → x.0 < 2 ^ 64 → x.1 < 2 ^ 128 → Lacks 10 (pair_line x)
 plain_pair x k v = spaced (decimal x.0) (decimal x.1) (number x.0 k) (value x.1 v)
 
-pub plain_replies : (rs : List (ℕ × Reply)) → AllByRecursion IsAnswered rs → Plain (map reply_line rs)
-plain_replies [] h = tt
-plain_replies (r ∷ rs) h = (plain_reply r h.0, plain_replies rs h.1)
-
 pub plain_pairs : (n : ℕ) (ps : List (ℕ × ℕ)) → AscendFrom n ps → Plain (map pair_line ps)
 plain_pairs n [] h = tt
 plain_pairs n (p ∷ ps) h = (plain_pair p h.1 h.2, plain_pairs (p.0 + 1) ps h.3)
@@ -106,11 +79,11 @@ pub plain_callers : (n : ℕ) (cs : List (List (ℕ × Reply))) → n + length c
 plain_callers n [] few h = tt
 plain_callers n (c ∷ cs) few h = (
   lacks_append 10 (codes "caller ") (decimal n) (lacks_by 10 (codes "caller ") refl) (number n (omega arith)),
-  plain_append (map reply_line c) (callers_from (n + 1) cs) (plain_replies c h.0) (plain_callers (n + 1) cs (omega arith) h.1),
+  all_append (Lacks 10) (map reply_line c) (callers_from (n + 1) cs) (plain_each IsAnswered reply_line plain_reply c h.0) (plain_callers (n + 1) cs (omega arith) h.1),
 )
 
 pub plain_map : (ps : List (ℕ × ℕ)) → AscendFrom 0 ps → Plain (map_lines ps)
-plain_map ps h = (lacks_by 10 (codes "map") refl, plain_append (map pair_line ps) (codes "end" ∷ []) (plain_pairs 0 ps h) (lacks_by 10 (codes "end") refl, tt))
+plain_map ps h = (lacks_by 10 (codes "map") refl, all_append (Lacks 10) (map pair_line ps) (codes "end" ∷ []) (plain_pairs 0 ps h) (lacks_by 10 (codes "end") refl, tt))
 
 -- the lines of a text of lines
 pub lines_again : (ls : List (List ℕ)) → Plain ls → lines_of (text_of ls) ≡ ls
@@ -125,9 +98,9 @@ pub plain_whole : (version : Version) (s : List (List Op)) (run : Run) → IsScr
 plain_whole version s run is of =
     let many : length run.callers ≡ length s = sym (length-map run.callers (λ (ls : List (ℕ × Reply)). length ls)) ∙ (ap (λ (ns : List ℕ). length ns) of.shape ∙ length-map s (λ (ops : List Op). length ops)) in
     let few : 0 + length run.callers ≤ 1024 = (let m = few_callers version (length s) is.callers in omega arith) in
-    plain_append (version_line version) (script_lines s ++ codes "run" ∷ run_lines run) (plain_version version)
-    (plain_append (script_lines s) (codes "run" ∷ run_lines run) (plain_script version s is.each)
-    (lacks_by 10 (codes "run") refl, plain_append (callers_from 0 run.callers) (map_lines run.pairs) (plain_callers 0 run.callers few of.each) (plain_map run.pairs of.ascend)))
+    all_append (Lacks 10) (version_line version) (script_lines s ++ codes "run" ∷ run_lines run) (plain_version version)
+    (all_append (Lacks 10) (script_lines s) (codes "run" ∷ run_lines run) (plain_script version s is.each)
+    (lacks_by 10 (codes "run") refl, all_append (Lacks 10) (callers_from 0 run.callers) (map_lines run.pairs) (plain_callers 0 run.callers few of.each) (plain_map run.pairs of.ascend)))
 
 pub written_read : (version : Version) (s : List (List Op)) (run : Run) → IsScript version s → IsRunOf s run → CheckedIn version (text_of (version_line version ++ (script_lines s ++ codes "run" ∷ run_lines run))) s run
 written_read version s run is of = record {
@@ -152,11 +125,7 @@ onto b (l ∷ ls) bytes h = one_byte_more b (text_of (l ∷ ls)) bytes h
 pub ends_whole : (bytes : List ℕ) → Whole (text_of (lines_of bytes)) bytes
 ends_whole [] = inl refl
 ends_whole (b ∷ bytes) =
-    elim (eqb_tells b 10) [
-      | inl same ↦
-          (let line : lines_of (b ∷ bytes) ≡ [] ∷ lines_of bytes = ap (λ t. cond t ([] ∷ lines_of bytes) (onto_first b (lines_of bytes))) same.0 in
-          subst (λ ls. Whole (text_of ls) (b ∷ bytes)) (sym line) (subst (λ (k : ℕ). Whole (k ∷ text_of (lines_of bytes)) (b ∷ bytes)) same.1 (one_byte_more b (text_of (lines_of bytes)) bytes (ends_whole bytes))))
-      | inr other ↦
-          (let line : lines_of (b ∷ bytes) ≡ onto_first b (lines_of bytes) = ap (λ t. cond t ([] ∷ lines_of bytes) (onto_first b (lines_of bytes))) other.0 in
-          subst (λ ls. Whole (text_of ls) (b ∷ bytes)) (sym line) (onto b (lines_of bytes) bytes (ends_whole bytes)))
+    elim (lines_cases b bytes) [
+      | inl same ↦ subst (λ ls. Whole (text_of ls) (b ∷ bytes)) (sym same.1) (subst (λ (k : ℕ). Whole (k ∷ text_of (lines_of bytes)) (b ∷ bytes)) same.0 (one_byte_more b (text_of (lines_of bytes)) bytes (ends_whole bytes)))
+      | inr other ↦ subst (λ ls. Whole (text_of ls) (b ∷ bytes)) (sym other) (onto b (lines_of bytes) bytes (ends_whole bytes))
     ]

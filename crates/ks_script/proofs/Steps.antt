@@ -1,15 +1,7 @@
 -- Lines that are read one after another.
-use Rattle.std.proofs.Common.{ℕ, ◌≡◌, ◌+◌, List, [], ◌∷◌, ◌++◌, map, get_or, drop, codes, length, append-nil, refl, sym, ap, subst, ◌∙◌, append_assoc, arith, length-append}
-use Rattle.std.specs.List.{AllByRecursion}
-use Rattle.ks_history.specs.declared.Op.{Op}
-use Rattle.ks_script.specs.declared.version.Version.{Version}
-use Rattle.ks_script.specs.Lines.{lines_of}
-use Rattle.ks_script.specs.declared.version.Version.TheVariants.{First, Second}
-use Rattle.ks_script.specs.Script.{IsCall, call_line, script_lines, calls_in}
-use Rattle.ks_script.specs.Reads.{Lines, NotFirst, NoneFirst, Leads, Reads}
-use Rattle.ks_script.specs.Left.{TextLeft, ScriptLeft, CallsLeft, Told, CallersRead, none_read, some_read}
+use Rattle.ks_script.proofs.Common.{ℕ, ◌≡◌, ◌+◌, List, [], ◌∷◌, ◌++◌, map, get_or, drop, codes, length, append-nil, refl, sym, ap, subst, ◌∙◌, append_assoc, arith, length-append, AllByRecursion, Op, Version, lines_of, First, Second, IsCall, IsScript, call_line, script_lines, calls_in, Lines, NotFirst, NoneFirst, Leads, Reads, Apart, TextLeft, ScriptLeft, CallsLeft, Told, CallersRead, none_read, some_read}
 use Rattle.ks_script.proofs.Leading.{leads_on, leads_none}
-use Rattle.ks_script.proofs.CallLines.{call_apart, one_call}
+use Rattle.ks_script.proofs.CallLines.{first, not_call, one_call}
 
 pub reads_none : (G : Lines → Type 0) (bytes : List ℕ) → Reads G G bytes bytes 0
 reads_none G bytes = record { front = []; lines_are = refl; counted = refl; leads = leads_none G }
@@ -31,12 +23,7 @@ reads_beside P G H a b n r = record { front = r.front; lines_are = r.lines_are; 
 
 -- some lines, and then one more
 pub reads_line : (G H K : Lines → Type 0) (bytes middle rest line : List ℕ) (m n : ℕ) → Reads G H bytes middle m → lines_of middle ≡ line ∷ lines_of rest → Leads H K (line ∷ []) → n ≡ m + 1 → Reads G K bytes rest n
-reads_line G H K bytes middle rest line m n r e step count = record {
-  front = r.front ++ line ∷ [];
-  lines_are = r.lines_are ∙ (ap (λ ls. r.front ++ ls) e ∙ sym (append_assoc r.front (line ∷ []) (lines_of rest)));
-  counted = omega (arith, length-append r.front (line ∷ []), r.counted);
-  leads = leads_on G H K r.front (line ∷ []) r.leads step;
-}
+reads_line G H K bytes middle rest line m n r e step count = reads_on G H K bytes middle rest m 1 n r (record { front = line ∷ []; lines_are = e; counted = refl; leads = step }) count
 
 -- the same in other words
 pub reads_as : (G H K L : Lines → Type 0) (bytes rest : List ℕ) (n : ℕ) → ((ls : Lines) → G ls → K ls) → ((ls : Lines) → K ls → G ls) → ((ls : Lines) → H ls → L ls) → ((ls : Lines) → L ls → H ls) → Reads G H bytes rest n → Reads K L bytes rest n
@@ -51,9 +38,12 @@ pub all_right : {X : Type 0} (P : X → Type 0) (a b : List X) → AllByRecursio
 all_right P [] b h = h
 all_right P (x ∷ a) b h = all_right P a b h.1
 
+pub all_append : {X : Type 0} (P : X → Type 0) (a b : List X) → AllByRecursion P a → AllByRecursion P b → AllByRecursion P (a ++ b)
+all_append P [] b h k = k
+all_append P (x ∷ a) b h k = (h.0, all_append P a b h.1 k)
+
 pub all_push : {X : Type 0} (P : X → Type 0) (a : List X) (x : X) → AllByRecursion P a → P x → AllByRecursion P (a ++ x ∷ [])
-all_push P [] x h p = (p, tt)
-all_push P (y ∷ a) x h p = (h.0, all_push P a x h.1 p)
+all_push P a x h p = all_append P a (x ∷ []) h (p, tt)
 
 pub calls_append : (a b : List (List Op)) → calls_in (a ++ b) ≡ calls_in a + calls_in b
 calls_append [] b = omega arith
@@ -61,19 +51,23 @@ calls_append (ops ∷ a) b = omega (arith, calls_append a b)
 
 module _ (version : Version) where
   -- lines that begin with a call
-  record Going (op : Op) (more : List Op) (others : List (List Op)) (behind ls : Lines) : Type 0 where
-    rest : List Op
-    more_is : more ≡ op ∷ rest
-    lines_are : ls ≡ map call_line rest ++ (script_lines others ++ behind)
+  pub all_good : (callers : List (List Op)) (ops more : List Op) (others script : List (List Op)) → IsScript version script → script ≡ callers ++ (ops ++ more) ∷ others → AllByRecursion (IsCall version) more
+  all_good callers ops more others script is e =
+      all_right (IsCall version) ops more (all_right (AllByRecursion (IsCall version)) callers ((ops ++ more) ∷ others) (subst (AllByRecursion (AllByRecursion (IsCall version))) e is.each)).0
 
-  going : (op : Op) (more : List Op) (others : List (List Op)) (behind ls : Lines) → IsCall version op → AllByRecursion (IsCall version) more → NoneFirst (IsCall version) call_line behind → call_line op ∷ ls ≡ map call_line more ++ (script_lines others ++ behind) → Going op more others behind ls
-  going op [] [] behind ls is each none e = absurd (subst (NoneFirst (IsCall version) call_line) (sym e) none op is refl)
-  going op [] (o ∷ others) behind ls is each none e = absurd (call_apart version op is (ap (λ (ls : Lines). get_or ls 0 []) e))
-  going op (m ∷ more) others behind ls is each none e = record {
-    rest = more;
-    more_is = ap (λ (x : Op). x ∷ more) (one_call version m op each.0 is (sym (ap (λ (ls : Lines). get_or ls 0 []) e)));
-    lines_are = ap (λ (ls : Lines). drop 1 ls) e;
-  }
+  called : (callers : List (List Op)) (ops : List Op) (script : List (List Op)) (behind : Lines) (op : Op) (more : List Op) (others : List (List Op)) (ls : Lines) → IsCall version op → IsScript version script → Apart version behind → script ≡ callers ++ (ops ++ more) ∷ others → call_line op ∷ ls ≡ map call_line more ++ (script_lines others ++ behind) → CallsLeft version callers (ops ++ op ∷ []) script behind ls
+  called callers ops script behind op [] [] ls good is apart s e = absurd (subst (NoneFirst (IsCall version) call_line) (sym e) apart.no_call op good refl)
+  called callers ops script behind op [] (o ∷ others) ls good is apart s e = absurd ((not_call op).1 (ap (λ (ls : Lines). first (get_or ls 0 [])) e))
+  called callers ops script behind op (m ∷ more) others ls good is apart s e =
+      let same : m ≡ op = one_call version m op (all_good callers ops (m ∷ more) others script is s).0 good (sym (ap (λ (ls : Lines). get_or ls 0 []) e)) in
+      record {
+        is = is;
+        apart = apart;
+        more = more;
+        others = others;
+        script_is = s ∙ ap (λ (xs : List Op). callers ++ xs ∷ others) (ap (λ (z : Op). ops ++ z ∷ more) same ∙ sym (append_assoc ops (op ∷ []) more));
+        lines_are = ap (λ (ls : Lines). drop 1 ls) e;
+      }
 
   pub call_step : (callers : List (List Op)) (ops : List Op) (script : List (List Op)) (behind : Lines) (op : Op) → IsCall version op → Leads (CallsLeft version callers ops script behind) (CallsLeft version callers (ops ++ op ∷ []) script behind) (call_line op ∷ [])
   call_step callers ops script behind op is = record {
@@ -85,17 +79,7 @@ module _ (version : Version) where
       script_is = h.script_is ∙ ap (λ (xs : List Op). callers ++ xs ∷ h.others) (append_assoc ops (op ∷ []) h.more);
       lines_are = ap (λ (ls : Lines). call_line op ∷ ls) h.lines_are;
     };
-    only = λ ls h.
-        let each = all_right (IsCall version) ops h.more (all_right (AllByRecursion (IsCall version)) callers ((ops ++ h.more) ∷ h.others) (subst (AllByRecursion (AllByRecursion (IsCall version))) h.script_is h.is.each)).0 in
-        let g = going op h.more h.others behind ls is each h.apart.no_call h.lines_are in
-        record {
-          is = h.is;
-          apart = h.apart;
-          more = g.rest;
-          others = h.others;
-          script_is = h.script_is ∙ ap (λ (xs : List Op). callers ++ xs ∷ h.others) (ap (λ (xs : List Op). ops ++ xs) g.more_is ∙ sym (append_assoc ops (op ∷ []) g.rest));
-          lines_are = g.lines_are;
-        };
+    only = λ ls h. called callers ops script behind op h.more h.others ls is h.is h.apart h.script_is h.lines_are;
   }
 
   -- lines that begin with `caller`
@@ -106,16 +90,16 @@ module _ (version : Version) where
     others_are : others ≡ next ∷ rest
     lines_are : ls ≡ map call_line next ++ (script_lines rest ++ behind)
 
-  opening : (more : List Op) (others : List (List Op)) (behind ls : Lines) → AllByRecursion (IsCall version) more → NotFirst (codes "caller") behind → codes "caller" ∷ ls ≡ map call_line more ++ (script_lines others ++ behind) → Opening more others behind ls
-  opening [] [] behind ls each apart e = absurd (subst (NotFirst (codes "caller")) (sym e) apart refl)
-  opening [] (o ∷ others) behind ls each apart e = record {
+  opening : (more : List Op) (others : List (List Op)) (behind ls : Lines) → NotFirst (codes "caller") behind → codes "caller" ∷ ls ≡ map call_line more ++ (script_lines others ++ behind) → Opening more others behind ls
+  opening [] [] behind ls apart e = absurd (subst (NotFirst (codes "caller")) (sym e) apart refl)
+  opening [] (o ∷ others) behind ls apart e = record {
     next = o;
     rest = others;
     none = refl;
     others_are = refl;
     lines_are = ap (λ (ls : Lines). drop 1 ls) (e ∙ append_assoc (codes "caller" ∷ map call_line o) (script_lines others) behind);
   }
-  opening (m ∷ more) others behind ls each apart e = absurd (call_apart version m each.0 (sym (ap (λ (ls : Lines). get_or ls 0 []) e)))
+  opening (m ∷ more) others behind ls apart e = absurd ((not_call m).1 (sym (ap (λ (ls : Lines). first (get_or ls 0 [])) e)))
 
   pub caller_step : (callers : List (List Op)) (ops : List Op) (script : List (List Op)) (behind : Lines) → Leads (CallsLeft version callers ops script behind) (CallsLeft version (callers ++ ops ∷ []) [] script behind) (codes "caller" ∷ [])
   caller_step callers ops script behind = record {
@@ -128,8 +112,7 @@ module _ (version : Version) where
       lines_are = ap (λ (ls : Lines). codes "caller" ∷ ls) h.lines_are ∙ sym (append_assoc (codes "caller" ∷ map call_line h.more) (script_lines h.others) behind);
     };
     only = λ ls h.
-        let each = all_right (IsCall version) ops h.more (all_right (AllByRecursion (IsCall version)) callers ((ops ++ h.more) ∷ h.others) (subst (AllByRecursion (AllByRecursion (IsCall version))) h.script_is h.is.each)).0 in
-        let g = opening h.more h.others behind ls each h.apart.no_caller h.lines_are in
+        let g = opening h.more h.others behind ls h.apart.no_caller h.lines_are in
         record {
           is = h.is;
           apart = h.apart;
@@ -148,7 +131,7 @@ module _ (version : Version) where
       lines_are = ap (λ (ls : Lines). codes "caller" ∷ ls) h.lines_are ∙ (sym (append_assoc (codes "caller" ∷ map call_line h.more) (script_lines h.others) behind) ∙ ap (λ (s : List (List Op)). script_lines s ++ behind) (sym h.script_is));
     };
     only = λ ls h.
-        let g = opening [] script behind ls tt h.apart.no_caller h.lines_are in
+        let g = opening [] script behind ls h.apart.no_caller h.lines_are in
         record { is = h.is; apart = h.apart; more = g.next; others = g.rest; script_is = g.others_are; lines_are = g.lines_are };
   }
 
@@ -161,7 +144,7 @@ module _ (version : Version) where
       by_more [] (o ∷ others) e f = absurd (omega (arith, ap (λ (ls : Lines). length ls) f))
       by_more (m ∷ more) others e f = absurd (omega (arith, ap (λ (ls : Lines). length ls) f))
 
--- the version: where no line tells it, the first `caller` does
+-- the version: if no line says it, the first `caller` does
 told_first : (script : List (List Op)) (behind ls : Lines) → NotFirst (codes "script 2") behind → codes "script 2" ∷ ls ≡ script_lines script ++ behind → ⊥
 told_first [] behind ls apart e = subst (NotFirst (codes "script 2")) (sym e) apart refl
 told_first (o ∷ script) behind ls apart e = omega (arith, ap (λ (ls : Lines). get_or (get_or ls 0 []) 0 0) e)
@@ -186,7 +169,7 @@ untold_step Second script behind = record {
   only = λ ls h. absurd (omega (arith, ap (λ (ls : Lines). get_or (get_or ls 0 []) 0 0) h.lines_are));
 }
 
--- the first `caller`, whether a line told the version or not
+-- the first `caller`, whether a line said the version or not
 told_step : (v w : Version) (script : List (List Op)) (behind : Lines) → Leads (Told v w script behind) (λ ls. (w ≡ v) × CallsLeft v [] [] script behind ls) (codes "caller" ∷ [])
 told_step First w script behind = untold_step w script behind
 told_step Second w script behind = leads_beside (w ≡ Second) (ScriptLeft Second script behind) (CallsLeft Second [] [] script behind) (codes "caller" ∷ []) (first_caller Second script behind)

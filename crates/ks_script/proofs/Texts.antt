@@ -1,10 +1,5 @@
 -- Texts of lines, one after another.
-use Rattle.std.proofs.Common.{ℕ, ◌≡◌, ◌+◌, ◌<◌, List, [], ◌∷◌, ◌++◌, length, map, take, drop, get_or, refl, sym, ap, ◌∙◌, append_assoc, arith, codes}
-use Rattle.std.proofs.lemmas.List.{append-nil, take-append-drop, take_more, map-append, length-take-le}
-use Rattle.std.specs.Fmt.{decimal}
-use Rattle.ks_history.specs.declared.Reply.{Reply}
-use Rattle.ks_script.specs.Lines.{ended, text_of}
-use Rattle.ks_script.specs.Run.{reply_line, pair_line, callers_from, map_lines}
+use Rattle.ks_script.proofs.Common.{ℕ, ◌≡◌, ◌+◌, ◌<◌, List, [], ◌∷◌, ◌++◌, length, map, take, drop, get_or, refl, sym, ap, ◌∙◌, append_assoc, arith, codes, append-nil, take-append-drop, take_more, map_push, length-take-le, decimal, Reply, ended, text_of, reply_line, pair_line, callers_from, map_lines}
 
 pub text_append : (ls ms : List (List ℕ)) → text_of (ls ++ ms) ≡ text_of ls ++ text_of ms
 text_append [] ms = refl
@@ -13,20 +8,13 @@ text_append (l ∷ ls) ms = ap (λ (x : List ℕ). ended l ++ x) (text_append ls
 pub text_push : (ls : List (List ℕ)) (l : List ℕ) → text_of (ls ++ l ∷ []) ≡ text_of ls ++ ended l
 text_push ls l = text_append ls (l ∷ []) ∙ ap (λ (x : List ℕ). text_of ls ++ x) (append-nil (ended l))
 
--- the list up to an element that stands at i
+-- the list up to the element at i
 pub taken_with : {X : Type 0} (xs : List X) (i : ℕ) (x : X) → i < length xs → x ≡ get_or xs i x → take (i + 1) xs ≡ take i xs ++ x ∷ []
 taken_with xs i x h e = take_more xs i x h ∙ ap (λ y. take i xs ++ y ∷ []) (sym e)
 
 -- the list, cut at that element
-pub cut_at : {X : Type 0} (xs : List X) (i : ℕ) (x : X) → i < length xs → x ≡ get_or xs i x → (take i xs ++ x ∷ []) ++ drop (i + 1) xs ≡ xs
-cut_at xs i x h e = ap (λ ys. ys ++ drop (i + 1) xs) (sym (taken_with xs i x h e)) ∙ take-append-drop (i + 1) xs
-
--- the text of a line for each element: with one more element, and cut at an element
-pub text_map_push : {X : Type 0} (f : X → List ℕ) (xs : List X) (x : X) → text_of (map f (xs ++ x ∷ [])) ≡ text_of (map f xs) ++ ended (f x)
-text_map_push f xs x = ap text_of (map-append f xs (x ∷ [])) ∙ text_push (map f xs) (f x)
-
-pub text_map_taken : {X : Type 0} (f : X → List ℕ) (xs : List X) (i : ℕ) (x : X) → i < length xs → x ≡ get_or xs i x → text_of (map f (take i xs)) ++ ended (f x) ≡ text_of (map f (take (i + 1) xs))
-text_map_taken f xs i x h e = sym (ap (λ ys. text_of (map f ys)) (taken_with xs i x h e) ∙ text_map_push f (take i xs) x)
+pub cut_at : {X : Type 0} (xs : List X) (i : ℕ) (x : X) → i < length xs → x ≡ get_or xs i x → xs ≡ take i xs ++ x ∷ drop (i + 1) xs
+cut_at xs i x h e = sym (ap (λ ys. ys ++ drop (i + 1) xs) (sym (taken_with xs i x h e)) ∙ take-append-drop (i + 1) xs) ∙ append_assoc (take i xs) (x ∷ []) (drop (i + 1) xs)
 
 -- the lines of one caller
 abbrev pub one_caller : ℕ → List (ℕ × Reply) → List (List ℕ)
@@ -41,7 +29,8 @@ callers_append n (c ∷ cs) ds =
 -- between two texts: one line more, and all lines, cut at one
 pub lines_more : {X : Type 0} (front : List ℕ) (f : X → List ℕ) (xs : List X) (i : ℕ) (x : X) → i < length xs → x ≡ get_or xs i x → (front ++ text_of (map f (take i xs))) ++ ended (f x) ≡ front ++ text_of (map f (take (i + 1) xs))
 lines_more front f xs i x h e =
-    append_assoc front (text_of (map f (take i xs))) (ended (f x)) ∙ ap (λ (t : List ℕ). front ++ t) (text_map_taken f xs i x h e)
+    append_assoc front (text_of (map f (take i xs))) (ended (f x))
+    ∙ ap (λ (t : List ℕ). front ++ t) (sym (ap (λ ys. text_of (map f ys)) (taken_with xs i x h e) ∙ (ap text_of (map_push f (take i xs) x) ∙ text_push (map f (take i xs)) (f x))))
 
 -- callers: one more, and all, cut at one
 callers_push : (cs : List (List (ℕ × Reply))) (c : List (ℕ × Reply)) → callers_from 0 (cs ++ c ∷ []) ≡ callers_from 0 cs ++ one_caller (length cs) c

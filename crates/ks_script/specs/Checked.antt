@@ -16,7 +16,7 @@ IsReply Nothing = Unit {0}
 IsReply (Value v) = v < 2 ^ 128
 IsReply Full = Unit {0}
 
--- the number of a call has 64 bits, and a value that it is answered has 128
+-- the number of a call has 64 bits, and a value that it returns has 128
 abbrev pub IsAnswered : ℕ × Reply → Type 0
 IsAnswered x = (x.0 < 2 ^ 64) × IsReply x.1
 

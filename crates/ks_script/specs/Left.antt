@@ -7,7 +7,7 @@ use Rattle.ks_script.specs.Version.{version_line, callers_limit}
 use Rattle.ks_script.specs.Script.{IsCall, IsScript, call_line, script_lines, calls_in}
 use Rattle.ks_script.specs.Reads.{Lines, NotFirst, NoneFirst, Reads}
 
--- the lines are those after the one that tells the version; of the first version, which has none, they begin with none
+-- the lines are those after the one that says the version; of the first version, which has none, they begin with none
 abbrev pub HasBegun : Version → Lines → Type 0
 HasBegun First lines = NotFirst (codes "script 2") lines
 HasBegun Second lines = Unit {0}
@@ -24,7 +24,7 @@ pub record TextLeft (version : Version) (script : List (List Op)) (behind ls : L
   pub apart : Apart version behind
   pub lines_are : ls ≡ version_line version ++ (script_lines script ++ behind)
 
--- the same behind the line that tells the version
+-- the same behind the line that says the version
 pub record ScriptLeft (version : Version) (script : List (List Op)) (behind ls : Lines) : Type 0 where
   pub is : IsScript version script
   pub apart : Apart version behind
@@ -40,8 +40,8 @@ pub record CallsLeft (version : Version) (callers : List (List Op)) (ops : List 
   pub script_is : script ≡ callers ++ (ops ++ more) ∷ others
   pub lines_are : ls ≡ map call_line more ++ (script_lines others ++ behind)
 
--- what is left behind the lines that may tell the version; the first version is told by none, so that it may still be
--- another where only more lines say so
+-- what is left behind the lines that may say the version; no line says the first version, so that it may still be
+-- another if only more lines say so
 abbrev pub Told : Version → Version → List (List Op) → Lines → Lines → Type 0
 Told First version script behind ls = TextLeft version script behind ls
 Told Second version script behind ls = (version ≡ Second) × ScriptLeft Second script behind ls

@@ -1,4 +1,4 @@
--- What the small calls of a caller stand for.
+-- What the small calls of a caller represent.
 use Rattle.std.specs.Prelude.{◌≡◌, ◌<◌, length, slice_index_or, ⊤}
 use Rattle.ks_history.specs.declared.Op.{Op}
 use Rattle.ks_history.specs.declared.Op.TheVariants as op
@@ -7,7 +7,7 @@ use Rattle.ks_script.specs.declared.packed_calls.SmallCall.{SmallCall}
 use Rattle.ks_script.specs.declared.packed_calls.SmallCall.TheVariants.{Get, Put, Del, LongGet, LongPut, LongDel, WidePut, Other}
 use Rattle.ks_script.specs.Parts.{joined}
 
--- the call that a small one stands for, beside the longer ones
+-- the call that a small one represents, beside the longer ones
 abbrev pub call_in : LongCalls → SmallCall → Op
 call_in long (Get key) = op.Get key
 call_in long (Put high low value) = op.Put (joined high low) value
@@ -29,6 +29,6 @@ IsCallIn long (LongDel at) = at < length long.pairs.items
 IsCallIn long (WidePut at) = at < length long.wides.items
 IsCallIn long (Other at) = at < length long.others.items
 
--- what stood for a call stands for it still
+-- what represented a call still does
 abbrev pub KeepsCalls : LongCalls → LongCalls → Type 0
 KeepsCalls old new = (s : SmallCall) → IsCallIn old s → IsCallIn new s × (call_in new s ≡ call_in old s)

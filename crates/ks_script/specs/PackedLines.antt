@@ -1,4 +1,4 @@
--- What the small lines of a caller stand for.
+-- What the small lines of a caller represent.
 use Rattle.std.specs.Prelude.{ℕ, ◌≡◌, ◌<◌, length, slice_index_or, ⊤}
 use Rattle.ks_history.specs.declared.Reply.{Reply}
 use Rattle.ks_history.specs.declared.Reply.TheVariants as reply
@@ -7,7 +7,7 @@ use Rattle.ks_script.specs.declared.packed_lines.SmallLine.{SmallLine}
 use Rattle.ks_script.specs.declared.packed_lines.SmallLine.TheVariants.{Nothing, Value, Full, LongValue, WideValue, Other}
 use Rattle.ks_script.specs.Parts.{joined}
 
--- the line that a small one stands for, beside what the longer ones tell
+-- the line that a small one represents, beside what the longer ones say
 abbrev pub line_in : LongLines → SmallLine → ℕ × Reply
 line_in long (Nothing number) = (number, reply.Nothing)
 line_in long (Value high low value) = (joined high low, reply.Value value)
@@ -25,6 +25,6 @@ IsLineIn long (LongValue high low at) = at < length long.values.items
 IsLineIn long (WideValue high low at) = at < length long.wides.items
 IsLineIn long (Other at) = at < length long.others.items
 
--- what stood for a line stands for it still
+-- what represented a line still does
 abbrev pub KeepsLines : LongLines → LongLines → Type 0
 KeepsLines old new = (s : SmallLine) → IsLineIn old s → IsLineIn new s × (line_in new s ≡ line_in old s)

@@ -3,8 +3,8 @@ use Rattle.std.specs.Prelude.{ℕ, ◌≡◌, ◌≤◌, true, false, List, ◌+
 use Rattle.ks_script.specs.declared.pieces.Piece.{Piece}
 use Rattle.ks_script.specs.Outside.{Rose, Grew, GrewByFront}
 
--- the text was put from some start on, when the sink had taken these bytes and had so many faults: the sink took the first
--- bytes of the text, and the others wait; or it failed
+-- the text was put from some start on, when the sink had taken these bytes and had this number of faults: the sink
+-- took the first bytes of the text, and the others wait; or it failed
 pub record Holds (start : Option (List ℕ)) (faults : ℕ) (text : List ℕ) (taken : Option (List ℕ)) (later : ℕ) (piece : Piece) : Type 0 where
   pub going : piece.failed ≡ false → (sent : List ℕ) × (text ≡ sent ++ piece.bytes.items) × Grew start taken sent
   pub failed : piece.failed ≡ true → GrewByFront start taken text × Rose faults later

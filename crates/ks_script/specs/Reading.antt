@@ -1,15 +1,15 @@
--- What a reader of texts answers.
+-- What a reader of texts returns.
 use Rattle.std.specs.Prelude.{ℕ, ◌≡◌, Result, Ok, Err}
 use Rattle.ks_script.specs.declared.fault.TextFault.{TextFault}
 use Rattle.ks_script.specs.declared.fault.TextFault.TheVariants.{Refused, Memory}
 
--- the result is a value with this property, or the refusal of a line with that one, or memory was wanting
+-- the result is a value with this property, or the refusal of a line with that one, or memory ran out
 abbrev pub Answers : {X : Type 0} → Result X TextFault → (X → Type 0) → (ℕ → Type 0) → Type 0
 Answers (Ok x) IsText IsBad = IsText x
 Answers (Err (Refused n)) IsText IsBad = IsBad n
 Answers (Err Memory) IsText IsBad = Unit {0}
 
--- the result is this one, unless memory was wanting
+-- the result is this one, unless memory ran out
 abbrev pub Gives : {X : Type 0} → Result X TextFault → Result X TextFault → Type 0
 Gives (Err Memory) due = Unit {0}
 Gives (Err (Refused n)) due = Err (Refused n) ≡ due

@@ -1,4 +1,4 @@
--- What a reader of lines tells of the texts of a grammar.
+-- What a reader of lines says of the texts of a grammar.
 use Rattle.std.specs.Prelude.{ℕ, ◌≡◌, ◌+◌, List, [], ◌∷◌, ◌++◌, length}
 use Rattle.ks_script.specs.Lines.{lines_of, FirstBad}
 
@@ -28,6 +28,6 @@ pub record Reads (G H : Lines → Type 0) (bytes rest : List ℕ) (count : ℕ) 
   pub counted : length front ≡ count
   pub leads : Leads G H front
 
--- behind so many lines, the one with the number n is the first that does not fit
+-- behind this number of lines, the one with the number n is the first that does not fit
 abbrev pub RefusedBehind : ℕ → (Lines → Type 0) → Lines → ℕ → Type 0
 RefusedBehind before IsText lines n = (k : ℕ) × (n ≡ before + k) × FirstBad IsText lines k

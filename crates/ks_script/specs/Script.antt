@@ -16,7 +16,7 @@ call_line (Del k) = codes "del " ++ decimal k
 call_line (Add k v) = codes "add " ++ decimal k ++ codes " " ++ decimal v
 call_line (Swap k old new) = codes "swap " ++ decimal k ++ codes " " ++ decimal old ++ codes " " ++ decimal new
 
--- the call may stand in a script of the version: its key has 64 bits, its values are those that the version has, and the
+-- the call may be in a script of the version: its key has 64 bits, its values are those that the version has, and the
 -- version has an Add and a Swap
 abbrev pub IsCall : Version → Op → Type 0
 IsCall version (Get k) = k < 2 ^ 64
@@ -38,13 +38,13 @@ abbrev pub calls_in : List (List Op) → ℕ
 calls_in [] = 0
 calls_in (ops ∷ script) = length ops + calls_in script
 
--- a script has so many callers as its version admits, and 1048576 calls, at most; all of them may stand in one
+-- a script has as many callers as its version admits, and 1048576 calls, at most; all of them may be in one
 pub record IsScript (version : Version) (script : List (List Op)) : Type 0 where
   pub callers : length script ≤ callers_limit version
   pub calls : calls_in script ≤ 1048576
   pub each : AllByRecursion (AllByRecursion (IsCall version)) script
 
--- the lines are those of the script: the one that tells its version, and those of its callers
+-- the lines are those of the script: the one that says its version, and those of its callers
 pub record SpellsScript (version : Version) (script : List (List Op)) (lines : List (List ℕ)) : Type 0 where
   pub is : IsScript version script
   pub lines_are : lines ≡ version_line version ++ script_lines script

@@ -1,9 +1,9 @@
--- The versions of scripts: what each may say, and the line that tells it.
+-- The versions of scripts: what each may say, and the line that says it.
 use Rattle.std.specs.Prelude.{ℕ, ◌^◌, List, [], ◌∷◌, codes}
 use Rattle.ks_script.specs.declared.version.Version.{Version}
 use Rattle.ks_script.specs.declared.version.Version.TheVariants.{First, Second}
 
--- the line that tells the version, which the first version does not have
+-- the line that says the version, which the first version does not have
 abbrev pub version_line : Version → List (List ℕ)
 version_line First = []
 version_line Second = codes "script 2" ∷ []

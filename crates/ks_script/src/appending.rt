@@ -4,7 +4,7 @@ ghost use Rattle.std.specs.Prelude.{◌≡◌, ◌++◌, [], ◌∷◌, length, 
 
 use std::alloc::AllocError;
 
-/// Puts an item behind the others, and answers with its place. Places from 2^32 on count as want of memory.
+/// Puts an item behind the others, and returns its place. Places from 2^32 on count as lack of memory.
 #[inline(always)]
 pub(crate) fn appended_at<T: Drop>(items: &mut Vec<T>, item: T) -> Result<u32, AllocError>
     ensures place { IfOk result (λ at. at ≡ length items.old.items) }

@@ -16,7 +16,7 @@ use std::alloc::Global;
 /// missing, that is the line after the last.
 pub fn read_checked(alloc: Global, bytes: &[u8]) -> Result<(Script, Printed), TextFault>
     ensures answer { Answers result (λ x. CheckedOf bytes.now x.0 x.1) (FirstBadOfChecked bytes.now) }
-    // What is such a text is read, and a line that does not fit is refused, unless memory is wanting.
+    // What is such a text is read, and a line that does not fit is refused, unless memory runs out.
     ensures checked { (script : List (List Op)) (run : Run) → CheckedOf bytes.now script run →
         Gives result (Ok (script, run)) }
     ensures refused { (n : ℕ) → FirstBadOfChecked bytes.now n → Gives result (Err (TextFault.Refused n)) }

@@ -46,7 +46,7 @@ fn first_word(bytes: &[u8]) -> u64
     ])
 }
 
-// The number that the first `count` bytes are the digits of. The others are shifted out, so that zeros stand before the
+// The number that the first `count` bytes are the digits of. The others are shifted out, so that zeros are before the
 // digits.
 #[inline(always)]
 pub fn eight(bytes: &[u8], count: usize) -> u64

@@ -16,7 +16,7 @@ pub enum ReadFault {
     Failed,
     /// More bytes came than the limit.
     TooLong,
-    /// Memory was wanting.
+    /// Memory ran out.
     Memory,
 }
 
@@ -25,7 +25,7 @@ pub enum ReadFault {
 pub enum TextFault {
     /// The first line that does not fit, counted from 1.
     Refused { line: u64 },
-    /// Memory was wanting.
+    /// Memory ran out.
     Memory,
 }
 

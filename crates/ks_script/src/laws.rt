@@ -9,8 +9,8 @@ ghost use Rattle.ks_script.specs.Script.{IsScript, ScriptIn, script_lines};
 ghost use Rattle.ks_script.specs.Run.{Run, run_lines};
 ghost use Rattle.ks_script.specs.Checked.{IsRunOf, CheckedIn};
 
-/// A script has one spelling in each version, but for the byte 10 at the end of the last line, and so has a script with
-/// its run.
+/// A script has one spelling in each version, except for the byte 10 at the end of the last line, and so has a script
+/// with its run.
 pub fn one_spelling()
     ensures scripts { (version : Version) (a b : List ℕ) (script : List (List Op)) →
         ScriptIn version a script → ScriptIn version b script → text_of (lines_of a) ≡ text_of (lines_of b) }

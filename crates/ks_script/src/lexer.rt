@@ -1,4 +1,4 @@
-//! What bytes begin with, told exactly: the number, or that none stands there.
+//! What bytes begin with, exactly: the number, or that they begin with none.
 
 ghost use Rattle.std.specs.Prelude.{◌≢◌, ℕ, ◌≡◌, ◌≤◌, ◌<◌, ◌^◌, List, ◌++◌, drop, codes, IfSome, IfNone};
 ghost use Rattle.std.specs.Fmt.{decimal};
@@ -86,7 +86,7 @@ pub fn line_end(bytes: &[u8]) -> Option<&[u8]>
     Some(bytes.split_at(1).1)
 }
 
-/// The value that stands behind a space, and the bytes after it.
+/// The value behind a space, and the bytes after it.
 #[inline(always)]
 pub fn spaced(bytes: &[u8]) -> Option<(u128, &[u8])>
     ensures some { IfSome result (λ x. (bytes.now ≡ codes " " ++ (decimal x.0 ++ x.1.now)) × NoDigit x.1.now) }

@@ -1,8 +1,9 @@
 //! Scripts and printed runs as texts, and the ends that bytes come from and go to.
 //!
-//! The grammars stand in `specs/`, to be read in the order Lines, Version, Script, Run: a text is a list of lines, and the
-//! lines of a script or of a run are a function of what they say. Scripts have versions, which one grammar tells. A reader answers with what the bytes say, or with
-//! the first line that does not fit. `Source` and `Sink` are the outside: they may fail, and count it.
+//! The grammars are in `specs/`, to be read in the order Lines, Version, Script, Run: a text is a list of lines, and the
+//! lines of a script or of a run are a function of what they say. Scripts have versions, which one grammar defines. A
+//! reader returns what the bytes say, or the first line that does not fit. `Source` and `Sink` are the outside: they may
+//! fail, and count it.
 #![tactic(auto)]
 
 mod appending;

@@ -8,7 +8,7 @@ use crate::{Failed, Sink, Source};
 use std::alloc::{AllocError, Global};
 use std::marker::Model;
 
-/// Bytes in memory, of which each read gives at most a certain number. The reads whose numbers, counted from 0, are
+/// Bytes in memory, of which each read moves at most a certain number. The reads whose numbers, counted from 0, are
 /// listed as failing fail.
 #[derive(Drop)]
 pub struct MemSource {
@@ -81,7 +81,7 @@ impl Source for MemSource {
     }
 }
 
-/// Bytes in memory, of which each read gives at most a certain number. No read fails.
+/// Bytes in memory, of which each read moves at most a certain number. No read fails.
 #[derive(Drop)]
 pub struct CleanSource {
     bytes: Vec<u8>,
@@ -222,7 +222,7 @@ impl Sink for MemSink {
     }
 }
 
-/// Takes all bytes, tells nothing and never fails.
+/// Takes all bytes, makes none known and never fails.
 #[derive(Clone, Copy, Debug, PartialEq, Eq)]
 pub struct CleanSink;
 

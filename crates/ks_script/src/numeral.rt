@@ -89,7 +89,7 @@ pub(crate) fn sixteen(bytes: &[u8]) -> (u64, usize)
     )
 }
 
-// Whether so many digits are those of a number: some, and none before them but the one of 0.
+// Whether the first `count` digits are those of a number: some, and none before them but the one of 0.
 #[inline(always)]
 pub(crate) fn spells(bytes: &[u8], count: usize) -> bool
     requires { count ≤ length bytes.now }

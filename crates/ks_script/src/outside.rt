@@ -1,7 +1,7 @@
 //! Where bytes come from and where they go.
 //!
-//! A source or a sink may tell its bytes, so that contracts can speak of them, or tell nothing. It may fail, and then
-//! its count of faults rises; the count stands still at 2^64 - 1 and never falls.
+//! A source or a sink may make its bytes known, so that contracts can speak of them, or not. It may fail, and then
+//! its count of faults rises; the count stays at 2^64 - 1 and never falls.
 
 ghost use Rattle.std.specs.Prelude.{ℕ, ◌<◌, ◌≤◌, List, Option, None, length, IfOk, OnErr};
 ghost use Rattle.ks_script.specs.Outside.{Rose, Reads, Writes};
@@ -10,13 +10,13 @@ use crate::Failed;
 
 /// Where bytes come from.
 pub trait Source {
-    /// The bytes to come, where they are told.
+    /// The bytes to come, if they are known.
     ghost left: { Self → Option (List ℕ) } = { λ _. None };
 
     /// How often it failed.
     ghost faults: { Self → ℕ };
 
-    /// Moves the next bytes to the start of the buffer, and answers how many they are. No bytes for a buffer that is
+    /// Moves the next bytes to the start of the buffer, and returns how many they are. No bytes for a buffer that is
     /// not empty are the end.
     fn read(&mut self, into: &mut [u8]) -> Result<usize, Failed>
         ensures bound { IfOk result (λ n. n ≤ length into.new) }
@@ -27,13 +27,13 @@ pub trait Source {
 
 /// Where bytes go.
 pub trait Sink {
-    /// The bytes taken, where they are told.
+    /// The bytes taken, if they are known.
     ghost taken: { Self → Option (List ℕ) } = { λ _. None };
 
     /// How often it failed.
     ghost faults: { Self → ℕ };
 
-    /// Takes the first bytes of the piece, and answers how many they are: one at least, if the piece is not empty.
+    /// Takes the first bytes of the piece, and returns how many they are: one at least, if the piece is not empty.
     fn write(&mut self, piece: &[u8]) -> Result<usize, Failed>
         ensures bound { IfOk result (λ n. n ≤ length piece.now) }
         ensures some { 0 < length piece.now → IfOk result (λ n. 0 < n) }

@@ -1,5 +1,5 @@
-//! The calls of one caller in little room: 8 bytes for a Get or a Del of a key below 2^32, and for a Put of a key below 2^24
-//! and a value below 2^32; of others 8 bytes tell where they stand in a list of their kind.
+//! The calls of one caller in little room: 8 bytes for a Get or a Del of a key below 2^32, and for a Put of a key below
+//! 2^24 and a value below 2^32; of others 8 bytes say where they are in a list of their kind.
 
 ghost use Rattle.std.specs.Prelude.{ℕ, ◌≡◌, ◌<◌, List, [], ◌∷◌, ◌++◌, length, slice_index_or, IfOk, IfSome, OnOk, OnErr};
 ghost use Rattle.ks_history.specs.declared.Op.TheVariants.{Get};
@@ -90,7 +90,7 @@ impl LongCalls {
         }
     }
 
-    // The small call that stands for this one, which is kept if it is longer.
+    // The small call that represents this one, which is kept if it is longer.
     #[inline(always)]
     fn small_for(&mut self, op: Op) -> Result<SmallCall, AllocError>
         ensures stands { IfOk result (λ s. call_in self.new s ≡ op) }
@@ -137,7 +137,7 @@ impl Calls {
         }
     }
 
-    /// With room for so many calls.
+    /// With room for `count` calls.
     pub fn with_capacity(alloc: Global, count: usize) -> Result<Calls, AllocError>
         ensures { IfOk result (λ calls. calls ≡ []) }
     {
@@ -147,7 +147,7 @@ impl Calls {
         })
     }
 
-    /// Puts a call behind the others. Where memory is wanting all stays as it was.
+    /// Puts a call behind the others. If memory runs out all stays as it was.
     #[inline(always)]
     pub fn push(&mut self, op: Op) -> Result<(), AllocError>
         ensures ok { OnOk result (self.new ≡ self.old ++ op ∷ []) }

@@ -23,7 +23,7 @@ pub enum SmallLine {
     Other { at: u32 },
 }
 
-/// What the longer lines of one caller tell, by kinds.
+/// What the longer lines of one caller say, by kinds.
 #[derive(Drop)]
 pub struct LongLines {
     /// Values below 2^64.
@@ -98,7 +98,7 @@ impl LongLines {
         }
     }
 
-    // Keeps a value that is not short, and answers with the small line of it.
+    // Keeps a value that is not short, and returns the small line of it.
     #[inline(always)]
     fn keep_value(&mut self, high: u8, low: u16, value: u128) -> Result<SmallLine, AllocError>
         ensures stands { IfOk result (λ s. line_in self.new s ≡ (joined high low, Value value)) }
@@ -117,7 +117,7 @@ impl LongLines {
         }
     }
 
-    // The small line that stands for this one, which is kept if it is longer.
+    // The small line that represents this one, which is kept if it is longer.
     #[inline(always)]
     fn small_for(&mut self, number: u64, reply: Reply) -> Result<SmallLine, AllocError>
         ensures stands { IfOk result (λ s. line_in self.new s ≡ (number, reply)) }
@@ -145,7 +145,7 @@ impl Lines {
         }
     }
 
-    /// With room for so many lines.
+    /// With room for `count` lines.
     pub fn with_capacity(alloc: Global, count: usize) -> Result<Lines, AllocError>
         ensures { IfOk result (λ lines. lines ≡ []) }
     {
@@ -166,7 +166,7 @@ impl Lines {
         Ok(packed)
     }
 
-    /// Puts a line behind the others. Where memory is wanting all stays as it was.
+    /// Puts a line behind the others. If memory runs out all stays as it was.
     #[inline(always)]
     pub fn push(&mut self, number: u64, reply: Reply) -> Result<(), AllocError>
         ensures ok { OnOk result (self.new ≡ self.old ++ (number, reply) ∷ []) }

@@ -1,4 +1,4 @@
-//! Printed runs: what each call was answered, and the map at the end.
+//! Printed runs: the reply to each call, and the map at the end.
 
 ghost use Rattle.std.specs.Prelude.{◌≤◌, OnOk, OnErr};
 ghost use Rattle.ks_script.specs.Outside.{Rose, Grew, GrewByFront};

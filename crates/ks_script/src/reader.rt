@@ -53,7 +53,7 @@ pub struct Front<'a> {
     pub rest: &'a [u8],
 }
 
-// The version that the first line tells, how many lines do so, and the bytes after them.
+// The version that the first line says, how many lines do so, and the bytes after them.
 fn version_of(bytes: &[u8]) -> (Version, usize, &[u8])
     ensures reads { (w : Version) (script : List (List Op)) (behind : List (List ℕ)) →
         Reads (TextLeft w script behind) (Told result.0 w script behind) bytes.now result.2.now result.1 }
@@ -90,7 +90,7 @@ pub fn callers(alloc: Global, bytes: &[u8]) -> Result<Front<'_>, AllocError>
     Ok(ended(version, told, callers, count, rest))
 }
 
-// The lines that told the version, one for each caller, and one for each of their calls.
+// The lines that said the version, one for each caller, and one for each of their calls.
 fn ended(version: Version, told: usize, callers: Vec<Calls>, calls: usize, rest: &[u8]) -> Front<'_>
     requires { told + length callers.items + calls ≤ 1 + 1024 + 1048576 }
     ensures version { result.version ≡ version }

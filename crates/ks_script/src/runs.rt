@@ -38,8 +38,8 @@ fn replies(alloc: Global, bytes: &[u8], wanted: usize) -> Result<(Lines, &[u8]),
     Ok((lines, rest))
 }
 
-// The replies to the callers of the script, one for each call, the bytes after them, and how many lines they take. So
-// many lines stand before the first.
+// The replies to the callers of the script, one for each call, the bytes after them, and how many lines they take.
+// `before` lines are before the first.
 fn answers<'a>(
     alloc: Global,
     script: &[Calls],
@@ -106,7 +106,7 @@ fn pairs(alloc: Global, bytes: &[u8]) -> Result<(Vec<(u64, u128)>, &[u8]), Alloc
     }
 }
 
-/// The run of the script that the bytes are the text of, or the first line that does not fit. So many lines stand before
+/// The run of the script that the bytes are the text of, or the first line that does not fit. `before` lines are before
 /// the first.
 pub fn run(alloc: Global, script: &[Calls], bytes: &[u8], before: u64) -> Result<Printed, TextFault>
     requires { before + length bytes.now + 1 < 2 ^ 64 }

@@ -28,7 +28,7 @@ impl Model for Script {
 /// The script, of either version, that the bytes are the text of, or the first line that does not fit.
 pub fn read_script(alloc: Global, bytes: &[u8]) -> Result<Script, TextFault>
     ensures answer { Answers result (ScriptOf bytes.now) (FirstBadOfScript bytes.now) }
-    // What is a script is read, and a line that does not fit is refused, unless memory is wanting.
+    // What is a script is read, and a line that does not fit is refused, unless memory runs out.
     ensures script { (script : List (List Op)) → ScriptOf bytes.now script → Gives result (Ok script) }
     ensures refused { (n : ℕ) → FirstBadOfScript bytes.now n → Gives result (Err (TextFault.Refused n)) }
 {

@@ -9,7 +9,7 @@ use std::alloc::Global;
 // How many bytes are asked for at a time.
 const ASKED: usize = 65_536;
 
-// Reads so many bytes at most, to the front of the buffer.
+// Reads `most` bytes at most, to the front of the buffer.
 fn read_front<S: Source>(source: &mut S, buffer: &mut [u8], most: usize) -> Result<usize, Failed>
     requires some { 0 < most }
     requires fits { most ≤ length buffer.old }
@@ -22,7 +22,7 @@ fn read_front<S: Source>(source: &mut S, buffer: &mut [u8], most: usize) -> Resu
     source.read(&mut buffer[..most])
 }
 
-/// Reads to the end, and answers with all the bytes. It asks for at most 65,536 bytes at a time, and stops once more
+/// Reads to the end, and returns all the bytes. It asks for at most 65,536 bytes at a time, and stops once more
 /// than `limit` bytes came. After an error some first bytes are gone, at most one more than the limit.
 pub fn read_all<S: Source>(alloc: Global, source: &mut S, limit: u64) -> Result<Vec<u8>, ReadFault>
     ensures bytes { IfOk result (λ v. IfSome (S.left source.old) (λ bytes. v.items ≡ bytes)) }

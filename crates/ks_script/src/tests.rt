@@ -184,7 +184,7 @@ fn lines_of_another_version_are_refused(rt: HostRuntime) {
     is_refused(&rt, alloc, b"script 2\ncaller\nadd 1 2 3\n", 3);
 }
 
-// The line, and so many lines `caller` after it.
+// The line, and `callers` lines `caller` after it.
 fn callers_after(alloc: Global, line: &[u8], callers: u64) -> Result<Vec<u8>, AllocError> {
     let mut text = Vec::from_slice(alloc, line)?;
     for _ in 0..callers {

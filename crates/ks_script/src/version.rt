@@ -3,7 +3,7 @@
 ghost use Rattle.std.specs.Prelude.{◌≡◌, ◌<◌, ◌↔◌, IsTrue};
 ghost use Rattle.ks_script.specs.Version.{callers_limit, value_limit, AddsAndSwaps};
 
-/// A version of scripts. The first line tells it, unless it is the first version.
+/// A version of scripts. The first line says it, unless it is the first version.
 #[derive(Clone, Copy, Debug, PartialEq, Eq)]
 pub enum Version {
     /// `get`, `put` and `del`, with values of 64 bits.
@@ -23,7 +23,7 @@ impl Version {
         }
     }
 
-    /// Whether the value may stand in a script.
+    /// Whether the value may be in a script.
     pub fn has_value(self, value: u128) -> bool
         ensures { IsTrue result ↔ (value < value_limit self) }
     {

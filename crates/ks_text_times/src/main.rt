@@ -2,8 +2,8 @@
 //!
 //! The words are a work (`read`, `write` or `check`) and how often it is done, over the text on standard input, which is
 //! read into memory once. `read` takes a script; `write` and `check` take a script and a run of it, and `write` writes
-//! that run. What is printed is how many bytes were read or written and a sum of what the work told, so that none of it is
-//! left out when the program is built.
+//! that run. What is printed is how many bytes were read or written and a sum of what the work found, so that none of it
+//! is left out when the program is built.
 #![tactic(auto)]
 
 mod ends;
@@ -23,7 +23,7 @@ fn words(rt: &HostRuntime) -> io::Result<Vec<String>> {
     Ok(words)
 }
 
-/// Reads the script so many times, and counts its calls; none where it is no script.
+/// Reads the script `times` times, and counts its calls; none where it is no script.
 fn read(alloc: Global, text: &[u8], times: u64) -> Option<Counter> {
     let mut counter = Counter::new();
     for _ in 0..times {
@@ -36,7 +36,7 @@ fn read(alloc: Global, text: &[u8], times: u64) -> Option<Counter> {
     Some(counter)
 }
 
-/// Reads the run of a script, and writes it so many times; none where there is no such run.
+/// Reads the run of a script, and writes it `times` times; none where there is no such run.
 fn write(alloc: Global, text: &[u8], times: u64) -> Option<Counter> {
     let (_, printed) = read_checked(alloc, text).ok()?;
     let mut counter = Counter::new();
@@ -54,7 +54,7 @@ fn told(judged: Judged) -> u64 {
     }
 }
 
-/// Reads a script and a run of it and judges the run, so many times; none where there is no such run.
+/// Reads a script and a run of it and judges the run, `times` times; none where there is no such run.
 fn check(alloc: Global, text: &[u8], times: u64) -> Option<Counter> {
     let mut counter = Counter::new();
     for _ in 0..times {
@@ -66,7 +66,7 @@ fn check(alloc: Global, text: &[u8], times: u64) -> Option<Counter> {
     Some(counter)
 }
 
-/// Does the work so many times; none where there is no such work, or the text does not fit it.
+/// Does the work `times` times; none where there is no such work, or the text does not fit it.
 fn repeat(alloc: Global, work: &str, text: &[u8], times: u64) -> Option<Counter> {
     match work {
         "read" => read(alloc, text, times),

@@ -26,7 +26,7 @@ impl Sink for Sizes {
     }
 }
 
-// A run of one caller and so many calls, each answered with the greatest value: 41 bytes a line, and its number.
+// A run of one caller and `calls` calls, each of which returns the greatest value: 41 bytes a line, and its number.
 fn run_of(alloc: Global, calls: u64) -> Result<Printed, Fail> {
     let mut lines = Lines::new(alloc);
     for number in 0..calls {

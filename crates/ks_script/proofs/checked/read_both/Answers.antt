@@ -1,10 +1,6 @@
-use Rattle.std.proofs.Common.{ℕ, ◌+◌, List, sym, subst}
-use Rattle.ks_history.specs.declared.Op.{Op}
-use Rattle.ks_script.specs.Lines.{lines_of}
-use Rattle.ks_script.specs.Run.{Run}
-use Rattle.ks_script.specs.Reads.{RefusedBehind}
-use Rattle.ks_script.specs.RunLeft.{SpellsRun, AreRun}
-use Rattle.ks_script.proofs.CheckedRead.{no_run, ran, bad_run, whole_checked, one_checked, fault_answers, fault_bad}
+use Rattle.ks_script.proofs.Common.{ℕ, ◌+◌, List, sym, subst, Op, lines_of, Run, RefusedBehind, SpellsRun, AreRun, CheckedOf, FirstBadOfChecked}
+use Rattle.ks_script.proofs.RunRead.{fault_answers}
+use Rattle.ks_script.proofs.CheckedRead.{no_run, ran, bad_run, whole_checked, one_checked, fault_bad}
 use Rattle.ks_script.proofs.checked.read_both.Goals as goal
 
 pub returns-in_default-clause-answer : goal.returns-in_default-clause-answer
@@ -19,24 +15,21 @@ returns-in-Err-clause-answer c =
     let text = c.in-Some.text.now in
     let lines : ℕ = f.front.lines + 1 in
     let reads = ran f.front.version all c.args.bytes.now f.front.rest.now text f.front.lines f.ensures.reads f.ensures.is c.in-Some.ensures.some in
-    fault_answers c.args.bytes.now c.in-Err.fault
+    fault_answers {X = List (List Op) × Run} c.in-Err.fault (λ x. CheckedOf c.args.bytes.now x.0 x.1) (FirstBadOfChecked c.args.bytes.now)
     (λ n e.
     bad_run f.front.version all c.args.bytes.now text lines reads n
     (subst (λ (s : List (List Op)). RefusedBehind lines (AreRun s) (lines_of text) n) c.deref.ensures.value
     (fault_bad {X = Run} c.in-Err.fault n (λ run. SpellsRun c.deref.result.now run (lines_of text)) (RefusedBehind lines (AreRun c.deref.result.now) (lines_of text)) c.in-Err.ensures.answer e)))
 
-pub returns-in-Ok-clause-answer : goal.returns-in-Ok-clause-answer
-returns-in-Ok-clause-answer c =
+pub returns-in-Ok : goal.returns-in-Ok
+returns-in-Ok c =
     let f = c.in_ok-front in
     let all = f.front.callers.items in
     let text = c.in-Some.text.now in
-    whole_checked f.front.version all c.args.bytes.now text (f.front.lines + 1) (ran f.front.version all c.args.bytes.now f.front.rest.now text f.front.lines f.ensures.reads f.ensures.is c.in-Some.ensures.some) c.in-Ok.printed
-    (subst (λ (s : List (List Op)). SpellsRun s c.in-Ok.printed (lines_of text)) c.deref.ensures.value c.in-Ok.ensures.answer)
-
-pub returns-in-Ok-clause-only : goal.returns-in-Ok-clause-only
-returns-in-Ok-clause-only c = λ script run h.
-    let f = c.in_ok-front in
-    let all = f.front.callers.items in
-    let text = c.in-Some.text.now in
-    let one = one_checked f.front.version all c.args.bytes.now text (f.front.lines + 1) (ran f.front.version all c.args.bytes.now f.front.rest.now text f.front.lines f.ensures.reads f.ensures.is c.in-Some.ensures.some) script run h in
-    (one.0, c.in-Ok.ensures.only run (subst (λ (s : List (List Op)). SpellsRun s run (lines_of text)) (sym c.deref.ensures.value) one.1))
+    let reads = ran f.front.version all c.args.bytes.now f.front.rest.now text f.front.lines f.ensures.reads f.ensures.is c.in-Some.ensures.some in
+    record {
+      answer = whole_checked f.front.version all c.args.bytes.now text (f.front.lines + 1) reads c.in-Ok.printed (subst (λ (s : List (List Op)). SpellsRun s c.in-Ok.printed (lines_of text)) c.deref.ensures.value c.in-Ok.ensures.answer);
+      only = λ script run h.
+          let one = one_checked f.front.version all c.args.bytes.now text (f.front.lines + 1) reads script run h in
+          (one.0, c.in-Ok.ensures.only run (subst (λ (s : List (List Op)). SpellsRun s run (lines_of text)) (sym c.deref.ensures.value) one.1));
+    }

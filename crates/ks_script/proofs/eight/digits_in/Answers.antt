@@ -1,5 +1,4 @@
-use Rattle.std.proofs.Common.{ℕ, take, refl, cond, ltb}
-use Rattle.std.proofs.lemmas.List.{length-take-le}
+use Rattle.ks_script.proofs.Common.{ℕ, take, refl, cond, ltb, length-take-le}
 use Rattle.std.proofs.lemmas.Simd.{zip2_splat}
 use Rattle.ks_script.proofs.Lanes.{over, all_sixteen, up_to_one}
 use Rattle.ks_script.proofs.eight.digits_in.Goals as goal
@@ -11,23 +10,10 @@ returns-then-others-eq0-clause-digits c =
     let long = length-take-le 16 bytes c.requires in
     all_sixteen bytes c.requires c.type_inv.bytes _ _ (over (λ (a b : ℕ). cond (ltb a b) 255 0) 9 _ v long (zip2_splat _ v 16 48 long)) refl c.if-others-eq0.true
 
-pub returns-clause-most : goal.returns-clause-most
-returns-clause-most c =
+pub returns : goal.returns
+returns c =
     let bytes = c.args.bytes.now in
     let v = take 16 bytes in
     let long = length-take-le 16 bytes c.requires in
-    (up_to_one bytes c.requires c.type_inv.bytes _ _ (over (λ (a b : ℕ). cond (ltb a b) 255 0) 9 _ v long (zip2_splat _ v 16 48 long)) refl c.if-others-eq0.false).0
-
-pub returns-clause-digits : goal.returns-clause-digits
-returns-clause-digits c =
-    let bytes = c.args.bytes.now in
-    let v = take 16 bytes in
-    let long = length-take-le 16 bytes c.requires in
-    (up_to_one bytes c.requires c.type_inv.bytes _ _ (over (λ (a b : ℕ). cond (ltb a b) 255 0) 9 _ v long (zip2_splat _ v 16 48 long)) refl c.if-others-eq0.false).1
-
-pub returns-clause-stops : goal.returns-clause-stops
-returns-clause-stops c =
-    let bytes = c.args.bytes.now in
-    let v = take 16 bytes in
-    let long = length-take-le 16 bytes c.requires in
-    (up_to_one bytes c.requires c.type_inv.bytes _ _ (over (λ (a b : ℕ). cond (ltb a b) 255 0) 9 _ v long (zip2_splat _ v 16 48 long)) refl c.if-others-eq0.false).2
+    let found = up_to_one bytes c.requires c.type_inv.bytes _ _ (over (λ (a b : ℕ). cond (ltb a b) 255 0) 9 _ v long (zip2_splat _ v 16 48 long)) refl c.if-others-eq0.false in
+    record { most = found.0; digits = found.1; stops = found.2 }

@@ -1,5 +1,4 @@
-use Rattle.std.proofs.Common.{ap, sym, ◌∙◌}
-use Rattle.ks_script.specs.Lines.{text_of}
+use Rattle.ks_script.proofs.Common.{ap, sym, ◌∙◌, text_of}
 use Rattle.ks_script.proofs.Spelled.{ends_whole}
 use Rattle.ks_script.proofs.laws.one_spelling.Goals as goal
 

@@ -1,11 +1,8 @@
-use Rattle.std.proofs.Common.{List, ℕ, ◌++◌, ◌∙◌, ◌^◌, take, refl, sym, ap, subst, arith}
-use Rattle.std.specs.Fmt.{decimal}
-use Rattle.ks_script.specs.Numeral.{NoDigit}
+use Rattle.ks_script.proofs.Common.{List, ℕ, ◌++◌, ◌∙◌, ◌^◌, take, refl, sym, ap, subst, arith, decimal, NoDigit}
 use Rattle.ks_script.proofs.Numerals.{value_read}
 use Rattle.ks_script.proofs.Cuts.{if_none_any}
 use Rattle.ks_script.proofs.Fronts.{front_spelled}
-use Rattle.ks_script.proofs.Onward.{onward_spelled}
-use Rattle.ks_script.proofs.Exact.{onward, from_nothing, great, unspelled}
+use Rattle.ks_script.proofs.Exact.{onward, from_nothing, great, unspelled, onward_spelled}
 use Rattle.ks_script.proofs.lexer.value.Goals as goal
 
 pub returns-then-not-spells-clause-none : goal.returns-then-not-spells-clause-none

@@ -1,8 +1,6 @@
-use Rattle.std.proofs.Common.{ℕ, ◌≡◌, ◌≤◌, ◌<◌, ◌*◌, ◌+◌, ◌^◌, ◌∙◌, ap, sym, subst, arith}
-use Rattle.ks_script.specs.Numeral.{NoDigit}
+use Rattle.ks_script.proofs.Common.{ℕ, ◌≡◌, ◌≤◌, ◌<◌, ◌*◌, ◌+◌, ◌^◌, ◌∙◌, ap, sym, subst, arith, NoDigit}
 use Rattle.ks_script.proofs.Cuts.{if_none_any}
-use Rattle.ks_script.proofs.Onward.{one_part, two_parts}
-use Rattle.ks_script.proofs.Exact.{onward, over, fewer}
+use Rattle.ks_script.proofs.Exact.{onward, over, fewer, one_part, two_parts}
 use Rattle.ks_script.proofs.lexer.value_on.Goals as goal
 
 pub returns-in_err-checked_mul-clause-none : goal.returns-in_err-checked_mul-clause-none

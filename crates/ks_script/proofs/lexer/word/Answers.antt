@@ -1,5 +1,5 @@
+use Rattle.ks_script.proofs.Common.{Decides-eqb}
 use Rattle.std.proofs.lemmas.Slice.Eq.{strip_prefix_is}
-use Rattle.std.proofs.lemmas.Bool.Decides.{Decides-eqb}
 use Rattle.ks_script.proofs.Cuts.{some_of, none_of}
 use Rattle.ks_script.proofs.lexer.word.Goals as goal
 

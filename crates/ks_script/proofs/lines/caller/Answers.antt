@@ -1,6 +1,4 @@
-use Rattle.std.proofs.Common.{List, ℕ, ◌++◌, codes, drop, sym, ap, subst, ◌∙◌, arith}
-use Rattle.std.specs.Fmt.{decimal}
-use Rattle.ks_script.specs.Lined.{EndsLine, Lined}
+use Rattle.ks_script.proofs.Common.{List, ℕ, ◌++◌, codes, drop, sym, ap, subst, ◌∙◌, arith, decimal, EndsLine, Lined}
 use Rattle.ks_script.proofs.Numerals.{wide}
 use Rattle.ks_script.proofs.Cuts.{if_none_any}
 use Rattle.ks_script.proofs.Spelled.{plain_caller}
@@ -30,24 +28,18 @@ returns-in_err-rest-clause-none c =
     (not_first (codes "caller " ++ decimal c.args.of) c.args.bytes.now (λ tail ends e.
     c.in_err-rest.ensures.none (subst EndsLine (sym (number_told n.number c.args.of n.tail.now tail (wide n.number n.ensures.fits) (wide c.args.of (omega arith)) n.ensures.some.1 (end_free tail ends) (sym n.ensures.some.0 ∙ ap (λ (x : List ℕ). drop 7 x) (sym c.in_ok-digits.ensures.some ∙ e))).1) ends)))
 
-pub returns-clause-some : goal.returns-clause-some
-returns-clause-some c =
+pub returns : goal.returns
+returns c =
     let n = c.in_ok-number in
-    let is : Lined (codes "caller " ++ decimal c.args.of) c.args.bytes.now c.in_ok-rest.rest.now = record {
+    let line : List ℕ = codes "caller " ++ decimal c.args.of in
+    let is : Lined line c.args.bytes.now c.in_ok-rest.rest.now = record {
       tail = n.tail.now;
       parts = c.in_ok-digits.ensures.some ∙ (ap (λ (x : List ℕ). codes "caller " ++ x) n.ensures.some.0 ∙ ap (λ (k : ℕ). codes "caller " ++ (decimal k ++ n.tail.now)) c.if-number-of.false);
       ends = c.in_ok-rest.ensures.some.0;
       rest_is = c.in_ok-rest.ensures.some.1;
     } in
-    lined_first (codes "caller " ++ decimal c.args.of) c.args.bytes.now c.in_ok-rest.rest.now (plain_caller c.args.of (omega arith)) (omega arith) is
-
-pub returns-clause-shorter : goal.returns-clause-shorter
-returns-clause-shorter c =
-    let n = c.in_ok-number in
-    let is : Lined (codes "caller " ++ decimal c.args.of) c.args.bytes.now c.in_ok-rest.rest.now = record {
-      tail = n.tail.now;
-      parts = c.in_ok-digits.ensures.some ∙ (ap (λ (x : List ℕ). codes "caller " ++ x) n.ensures.some.0 ∙ ap (λ (k : ℕ). codes "caller " ++ (decimal k ++ n.tail.now)) c.if-number-of.false);
-      ends = c.in_ok-rest.ensures.some.0;
-      rest_is = c.in_ok-rest.ensures.some.1;
-    } in
-    lined_shorter (codes "caller " ++ decimal c.args.of) c.args.bytes.now c.in_ok-rest.rest.now (omega arith) is
+    record {
+      some = lined_first line c.args.bytes.now c.in_ok-rest.rest.now (plain_caller c.args.of (omega arith)) (omega arith) is;
+      none = tt;
+      shorter = lined_shorter line c.args.bytes.now c.in_ok-rest.rest.now (omega arith) is;
+    }

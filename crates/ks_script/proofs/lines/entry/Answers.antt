@@ -1,10 +1,6 @@
-use Rattle.std.proofs.Common.{ℕ, ◌<◌, sym, subst}
-use Rattle.std.specs.Fmt.{decimal}
-use Rattle.std.proofs.lemmas.Bool.{false≢true}
-use Rattle.ks_script.specs.Lined.{EndsLine}
-use Rattle.ks_script.specs.Version.{value_limit}
+use Rattle.ks_script.proofs.Common.{ℕ, ◌<◌, sym, subst, decimal, false≢true, EndsLine, value_limit}
 use Rattle.ks_script.proofs.Numerals.{wide}
-use Rattle.ks_script.proofs.Pairs.{value_small}
+use Rattle.ks_script.proofs.CallLines.{value_small}
 use Rattle.ks_script.proofs.Cuts.{if_none_any}
 use Rattle.ks_script.proofs.Lined.{spaced_told, value_told, end_free}
 use Rattle.ks_script.proofs.lines.entry.Goals as goal

@@ -1,6 +1,4 @@
-use Rattle.std.proofs.Common.{◌++◌, codes, refl, sym, subst}
-use Rattle.std.specs.Fmt.{decimal}
-use Rattle.ks_script.specs.Lined.{EndsLine}
+use Rattle.ks_script.proofs.Common.{◌++◌, codes, refl, sym, subst, decimal, EndsLine}
 use Rattle.ks_script.proofs.Numerals.{wide}
 use Rattle.ks_script.proofs.Cuts.{if_none_any}
 use Rattle.ks_script.proofs.Lined.{three_first, value_told, end_free}

@@ -1,5 +1,4 @@
-use Rattle.std.proofs.Common.{sym, subst, ◌∙◌}
-use Rattle.ks_script.specs.Lined.{EndsLine}
+use Rattle.ks_script.proofs.Common.{sym, subst, ◌∙◌, EndsLine}
 use Rattle.ks_script.proofs.Numerals.{wide}
 use Rattle.ks_script.proofs.Cuts.{if_none_any}
 use Rattle.ks_script.proofs.Lined.{number_told, end_free}

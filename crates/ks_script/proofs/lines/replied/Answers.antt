@@ -1,5 +1,4 @@
-use Rattle.std.proofs.Common.{◌++◌, sym, ap, ◌∙◌, List, ℕ, drop}
-use Rattle.ks_script.specs.Run.{reply_word}
+use Rattle.ks_script.proofs.Common.{◌++◌, sym, ap, ◌∙◌, List, ℕ, drop, reply_word}
 use Rattle.ks_script.proofs.Numerals.{wide}
 use Rattle.ks_script.proofs.Cuts.{if_none_any}
 use Rattle.ks_script.proofs.Lined.{spaced_told}

@@ -1,5 +1,4 @@
-use Rattle.std.proofs.Common.{ℕ, ◌^◌, true, eqb, List, [], ◌∷◌, slice_index_or, refl, arith}
-use Rattle.std.proofs.lemmas.Bool.{agree_below_at, eqb-true}
+use Rattle.ks_script.proofs.Common.{ℕ, ◌^◌, true, eqb, List, [], ◌∷◌, slice_index_or, refl, arith, agree_below_at, eqb-true}
 use Rattle.ks_script.proofs.numeral.power.Goals as goal
 
 abbrev powers : List ℕ

@@ -1,6 +1,4 @@
-use Rattle.std.proofs.Common.{ℕ, ◌≡◌, ◌<◌, ◌*◌, ◌+◌, ◌-◌, ◌∙◌, List, take, drop, arith, ap, sym, subst}
-use Rattle.std.specs.Str.{all_ascii_digits}
-use Rattle.std.specs.Str.Parse.{digits_value}
+use Rattle.ks_script.proofs.Common.{ℕ, ◌≡◌, ◌<◌, ◌*◌, ◌+◌, ◌-◌, ◌∙◌, List, take, drop, arith, ap, sym, subst, all_ascii_digits, digits_value}
 use Rattle.ks_script.proofs.Numerals.{read_on, value_read}
 use Rattle.ks_script.proofs.Fronts.{digits_parts, value_parts, small_read}
 use Rattle.ks_script.proofs.numeral.sixteen.Goals as goal

@@ -1,4 +1,4 @@
-use Rattle.std.proofs.Common.{refl, subst}
+use Rattle.ks_script.proofs.Common.{refl, subst}
 use Rattle.ks_script.specs.Outside.{Grew, GrewByFront}
 use Rattle.ks_script.proofs.Putting.{offer_none, offer_all, offer_failed}
 use Rattle.ks_script.proofs.pieces.offer.Goals as goal

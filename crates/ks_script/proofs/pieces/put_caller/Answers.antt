@@ -1,10 +1,4 @@
-use Rattle.std.proofs.Common.{ℕ, ◌≤◌, ◌<◌, ◌+◌, List, [], ◌∷◌, ◌++◌, length, take, map, codes, sym, ap, ◌∙◌, append-nil, arith}
-use Rattle.std.specs.Fmt.{decimal}
-use Rattle.std.proofs.lemmas.List.{get_or_default, take_all}
-use Rattle.ks_history.specs.declared.Reply.{Reply}
-use Rattle.ks_history.specs.declared.Reply.TheVariants.{Nothing}
-use Rattle.ks_script.specs.Lines.{text_of, ended}
-use Rattle.ks_script.specs.Run.{reply_line}
+use Rattle.ks_script.proofs.Common.{ℕ, ◌≤◌, ◌<◌, ◌+◌, List, [], ◌∷◌, ◌++◌, length, take, map, codes, sym, ap, ◌∙◌, append-nil, arith, decimal, get_or_default, take_all, Reply, Nothing, text_of, ended, reply_line}
 use Rattle.ks_script.proofs.Texts.{lines_more}
 use Rattle.ks_script.proofs.Putting.{puts_on, puts_as}
 use Rattle.ks_script.proofs.pieces.put_caller.Goals as goal

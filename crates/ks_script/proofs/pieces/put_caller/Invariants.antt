@@ -1,7 +1,4 @@
-use Rattle.std.proofs.Common.{◌∷◌, ◌++◌, take, map, codes}
-use Rattle.std.specs.Fmt.{decimal}
-use Rattle.ks_script.specs.Lines.{text_of}
-use Rattle.ks_script.specs.Run.{reply_line}
+use Rattle.ks_script.proofs.Common.{◌∷◌, ◌++◌, take, map, codes, decimal, text_of, reply_line}
 use Rattle.ks_script.specs.Pieces.{Puts}
 use Rattle.ks_script.proofs.pieces.put_caller.Given as goal
 

@@ -1,8 +1,4 @@
-use Rattle.std.proofs.Common.{ℕ, ◌+◌, List, ◌++◌, take, ap, arith}
-use Rattle.std.proofs.lemmas.List.{take_all}
-use Rattle.ks_history.specs.declared.Reply.{Reply}
-use Rattle.ks_script.specs.Lines.{text_of}
-use Rattle.ks_script.specs.Run.{callers_from}
+use Rattle.ks_script.proofs.Common.{ℕ, ◌+◌, List, ◌++◌, take, ap, arith, take_all, Reply, text_of, callers_from}
 use Rattle.ks_script.proofs.Texts.{one_caller, callers_taken}
 use Rattle.ks_script.proofs.Putting.{puts_none, puts_on, puts_as}
 use Rattle.ks_script.proofs.pieces.put_callers.Goals as goal

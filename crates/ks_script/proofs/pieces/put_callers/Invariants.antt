@@ -1,6 +1,4 @@
-use Rattle.std.proofs.Common.{take}
-use Rattle.ks_script.specs.Lines.{text_of}
-use Rattle.ks_script.specs.Run.{callers_from}
+use Rattle.ks_script.proofs.Common.{take, text_of, callers_from}
 use Rattle.ks_script.specs.Pieces.{Puts}
 use Rattle.ks_script.proofs.pieces.put_callers.Given as goal
 

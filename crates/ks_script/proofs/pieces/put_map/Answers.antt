@@ -1,7 +1,4 @@
-use Rattle.std.proofs.Common.{ℕ, ◌≡◌, ◌≤◌, ◌+◌, List, [], ◌++◌, length, take, map, codes, get_or, sym, ap, ◌∙◌, append-nil, arith}
-use Rattle.std.proofs.lemmas.List.{get_or_default, take_all}
-use Rattle.ks_script.specs.Lines.{text_of, ended}
-use Rattle.ks_script.specs.Run.{pair_line, map_lines}
+use Rattle.ks_script.proofs.Common.{ℕ, ◌≡◌, ◌≤◌, ◌+◌, List, [], ◌++◌, length, take, map, codes, get_or, sym, ap, ◌∙◌, append-nil, arith, get_or_default, take_all, text_of, ended, pair_line, map_lines}
 use Rattle.ks_script.proofs.Texts.{lines_more, map_text}
 use Rattle.ks_script.proofs.Putting.{puts_on, puts_as}
 use Rattle.ks_script.proofs.pieces.put_map.Goals as goal

@@ -1,6 +1,4 @@
-use Rattle.std.proofs.Common.{◌++◌, take, map, codes}
-use Rattle.ks_script.specs.Lines.{text_of}
-use Rattle.ks_script.specs.Run.{pair_line}
+use Rattle.ks_script.proofs.Common.{◌++◌, take, map, codes, text_of, pair_line}
 use Rattle.ks_script.specs.Pieces.{Puts}
 use Rattle.ks_script.proofs.pieces.put_map.Given as goal
 

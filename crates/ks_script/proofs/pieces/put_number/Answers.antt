@@ -1,5 +1,4 @@
-use Rattle.std.proofs.Common.{◌≡◌, rules}
-use Rattle.std.specs.Fmt.{decimal}
+use Rattle.ks_script.proofs.Common.{◌≡◌, rules, decimal}
 use Rattle.ks_script.proofs.Putting.{puts_as}
 use Rattle.ks_script.proofs.pieces.put_number.Goals as goal
 

@@ -1,5 +1,4 @@
-use Rattle.std.proofs.Common.{ℕ, ◌≡◌, List, [], ◌++◌, refl, ap, ◌∙◌, append_assoc, append-nil}
-use Rattle.std.proofs.lemmas.List.{take-append-drop}
+use Rattle.ks_script.proofs.Common.{ℕ, ◌≡◌, List, [], ◌++◌, refl, ap, ◌∙◌, append_assoc, append-nil, take-append-drop}
 use Rattle.ks_script.proofs.Putting.{puts_none, puts_on, puts_as, puts_append}
 use Rattle.ks_script.proofs.pieces.put_over.Goals as goal
 

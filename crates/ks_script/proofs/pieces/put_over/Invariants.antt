@@ -1,4 +1,4 @@
-use Rattle.std.proofs.Common.{ℕ, ◌≡◌, ◌+◌, List, ◌++◌, length}
+use Rattle.ks_script.proofs.Common.{ℕ, ◌≡◌, ◌+◌, List, ◌++◌, length}
 use Rattle.ks_script.specs.Pieces.{Puts}
 use Rattle.ks_script.proofs.pieces.put_over.Given as goal
 

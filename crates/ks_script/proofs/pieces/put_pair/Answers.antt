@@ -1,7 +1,4 @@
-use Rattle.std.proofs.Common.{ℕ, ◌≡◌, List, ◌++◌, codes, sym, ap, ◌∙◌, append_assoc}
-use Rattle.std.specs.Fmt.{decimal}
-use Rattle.ks_script.specs.Lines.{ended}
-use Rattle.ks_script.specs.Run.{pair_line}
+use Rattle.ks_script.proofs.Common.{ℕ, ◌≡◌, List, ◌++◌, codes, sym, ap, ◌∙◌, append_assoc, decimal, ended, pair_line}
 use Rattle.ks_script.proofs.Putting.{puts_as}
 use Rattle.ks_script.proofs.pieces.put_pair.Goals as goal
 

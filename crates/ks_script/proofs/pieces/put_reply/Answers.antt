@@ -1,9 +1,4 @@
-use Rattle.std.proofs.Common.{ℕ, ◌≡◌, List, ◌++◌, codes, sym, ap, ◌∙◌, append_assoc, refl}
-use Rattle.std.specs.Fmt.{decimal}
-use Rattle.ks_history.specs.declared.Reply.{Reply}
-use Rattle.ks_history.specs.declared.Reply.TheVariants.{Nothing, Value, Full}
-use Rattle.ks_script.specs.Lines.{ended}
-use Rattle.ks_script.specs.Run.{reply_word, reply_line, pair_line}
+use Rattle.ks_script.proofs.Common.{ℕ, ◌≡◌, List, ◌++◌, codes, sym, ap, ◌∙◌, append_assoc, refl, decimal, Reply, Nothing, Full, ended, reply_word, reply_line, pair_line}
 use Rattle.ks_script.proofs.Putting.{puts_as}
 use Rattle.ks_script.proofs.pieces.put_reply.Goals as goal
 

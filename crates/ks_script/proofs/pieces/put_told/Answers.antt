@@ -1,5 +1,4 @@
-use Rattle.std.proofs.Common.{ℕ, ◌≡◌, List, ◌++◌, ap, ◌∙◌, append-nil}
-use Rattle.std.specs.Fmt.{decimal}
+use Rattle.ks_script.proofs.Common.{ℕ, List, ◌++◌, ap, ◌∙◌, append-nil, decimal}
 use Rattle.ks_script.proofs.Putting.{puts_as}
 use Rattle.ks_script.proofs.pieces.put_told.Goals as goal
 

@@ -1,4 +1,4 @@
-use Rattle.std.proofs.Common.{[], arith, subst, sym, List, ℕ}
+use Rattle.ks_script.proofs.Common.{[], arith, subst, sym, List, ℕ}
 use Rattle.ks_script.proofs.Putting.{Passes, passes_sent, grew_written}
 use Rattle.ks_script.proofs.pieces.send.Goals as goal
 

@@ -1,4 +1,4 @@
-use Rattle.std.proofs.Common.{◌≤◌, [], length}
+use Rattle.ks_script.proofs.Common.{◌≤◌, [], length}
 use Rattle.ks_script.proofs.Putting.{Passes}
 use Rattle.ks_script.proofs.pieces.send.Given as goal
 

@@ -1,9 +1,4 @@
-use Rattle.std.proofs.Common.{ℕ, ◌≡◌, ◌+◌, List, [], ◌∷◌, ◌++◌, length, sym, subst, ap, ◌∙◌, arith, length-append}
-use Rattle.std.specs.List.{AllByRecursion}
-use Rattle.ks_history.specs.declared.Op.{Op}
-use Rattle.ks_script.specs.declared.version.Version.{Version}
-use Rattle.ks_script.specs.Script.{IsCall, IsScript, calls_in}
-use Rattle.ks_script.specs.Left.{CallersRead}
+use Rattle.ks_script.proofs.Common.{ℕ, ◌≡◌, ◌+◌, List, [], ◌∷◌, ◌++◌, length, sym, subst, ap, ◌∙◌, arith, length-append, AllByRecursion, Op, Version, IsCall, IsScript, calls_in, CallersRead}
 use Rattle.ks_script.proofs.Steps.{all_push, calls_append, next_read}
 use Rattle.ks_script.proofs.reader.callers.Goals as goal
 

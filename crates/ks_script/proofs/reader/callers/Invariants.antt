@@ -1,8 +1,4 @@
-use Rattle.std.proofs.Common.{◌≡◌, ◌+◌, ◌<◌, length}
-use Rattle.ks_script.specs.Lines.{lines_of}
-use Rattle.ks_script.specs.Script.{IsCall, IsScript, call_line, calls_in}
-use Rattle.ks_script.specs.Reads.{NoneFirst}
-use Rattle.ks_script.specs.Left.{HasBegun, CallersRead}
+use Rattle.ks_script.proofs.Common.{◌≡◌, ◌+◌, ◌<◌, length, lines_of, IsCall, IsScript, call_line, calls_in, NoneFirst, HasBegun, CallersRead}
 use Rattle.ks_script.proofs.reader.callers.Given as goal
 
 abbrev pub invariant-callers : goal.invariant-callers

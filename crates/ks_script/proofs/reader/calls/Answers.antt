@@ -1,9 +1,4 @@
-use Rattle.std.proofs.Common.{◌≡◌, ◌+◌, List, [], ◌∷◌, ◌++◌, length, sym, subst, ap, ◌∙◌, arith, length-append}
-use Rattle.std.specs.List.{AllByRecursion}
-use Rattle.ks_history.specs.declared.Op.{Op}
-use Rattle.ks_script.specs.Script.{IsCall, call_line}
-use Rattle.ks_script.specs.Reads.{Leads}
-use Rattle.ks_script.specs.Left.{CallsLeft}
+use Rattle.ks_script.proofs.Common.{◌≡◌, ◌+◌, List, [], ◌∷◌, ◌++◌, length, sym, subst, ap, ◌∙◌, arith, length-append, AllByRecursion, Op, IsCall, call_line, Leads, CallsLeft}
 use Rattle.ks_script.proofs.Steps.{reads_line, call_step, all_push}
 use Rattle.ks_script.proofs.reader.calls.Goals as goal
 

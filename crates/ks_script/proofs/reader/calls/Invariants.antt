@@ -1,9 +1,4 @@
-use Rattle.std.proofs.Common.{ℕ, ◌≤◌, List, [], length}
-use Rattle.std.specs.List.{AllByRecursion}
-use Rattle.ks_history.specs.declared.Op.{Op}
-use Rattle.ks_script.specs.Script.{IsCall}
-use Rattle.ks_script.specs.Reads.{Reads}
-use Rattle.ks_script.specs.Left.{CallsLeft}
+use Rattle.ks_script.proofs.Common.{ℕ, ◌≤◌, List, [], length, AllByRecursion, Op, IsCall, Reads, CallsLeft}
 use Rattle.ks_script.proofs.reader.calls.Given as goal
 
 abbrev pub invariant-calls : goal.invariant-calls

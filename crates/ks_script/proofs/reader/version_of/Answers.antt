@@ -1,6 +1,4 @@
-use Rattle.std.proofs.Common.{codes, refl}
-use Rattle.ks_script.specs.declared.version.Version.TheVariants.{Second}
-use Rattle.ks_script.specs.Left.{TextLeft, Told}
+use Rattle.ks_script.proofs.Common.{codes, refl, Second, TextLeft, Told}
 use Rattle.ks_script.proofs.Steps.{reads_none, reads_line, version_step}
 use Rattle.ks_script.proofs.reader.version_of.Goals as goal
 

@@ -1,21 +1,9 @@
-use Rattle.std.proofs.Common.{ℕ, ◌≡◌, ◌+◌, List, [], ◌∷◌, ◌++◌, length, take, drop, refl, sym, ap, subst, ◌∙◌, append_assoc, arith, rules}
-use Rattle.std.specs.List.{AllByRecursion}
-use Rattle.std.proofs.lemmas.List.{map-append}
-use Rattle.ks_history.specs.declared.Op.{Op}
-use Rattle.ks_script.specs.Lines.{lines_of}
-use Rattle.ks_script.specs.Run.{Run}
-use Rattle.ks_script.specs.Checked.{IsAnswered}
-use Rattle.ks_script.specs.Reads.{Reads}
-use Rattle.ks_script.specs.RunLeft.{Replies, SpellsRun, AnswersLeft, RepliesLeft}
+use Rattle.ks_script.proofs.Common.{ℕ, ◌≡◌, ◌+◌, List, [], ◌∷◌, ◌++◌, length, take, drop, refl, sym, ap, subst, ◌∙◌, arith, rules, AllByRecursion, map-append, Op, lines_of, Run, IsAnswered, Reads, Replies, SpellsRun, AnswersLeft, RepliesLeft}
 use Rattle.ks_script.proofs.Texts.{cut_at, taken_with}
 use Rattle.ks_script.proofs.Steps.{reads_on, reads_line, all_push}
 use Rattle.ks_script.proofs.RunSteps.{head_line, sizes, caller_step, closed}
 use Rattle.ks_script.proofs.RunRead.{none_read, no_caller, no_reply}
 use Rattle.ks_script.proofs.runs.answers.Goals as goal
-
--- the script, cut at a caller
-cut_there : (script : List (List Op)) (i : ℕ) (x : List Op) → (take i script ++ x ∷ []) ++ drop (i + 1) script ≡ script → script ≡ take i script ++ x ∷ drop (i + 1) script
-cut_there script i x e = sym e ∙ append_assoc (take i script) (x ∷ []) (drop (i + 1) script)
 
 -- the line of the next caller, and some of its replies
 opened : (script : List (List Op)) (callers : List Replies) (rs : Replies) (n : ℕ) (bytes rest more left : List ℕ) (count : ℕ) (run : Run) → Reads (SpellsRun script run) (AnswersLeft script n callers run) bytes rest count → lines_of rest ≡ head_line n ∷ lines_of more → Reads (RepliesLeft script n callers [] run) (RepliesLeft script n callers rs run) more left (length rs) → Reads (SpellsRun script run) (RepliesLeft script n callers rs run) bytes left (count + 1 + length rs)
@@ -43,7 +31,7 @@ returns-in_default-clause-refused c = λ n e.
     let is : c.args.before + (c.callers.count + 1) ≡ n = cc in (
       c.callers.count + 1,
       sym is,
-      no_caller script (take i script) x (drop (i + 1) script) (cut_there script i x (cut_at script i x c.callers-test.true c.index-script-number.is)) i c.callers.callers.items inv.shape inv.each c.args.bytes.now c.callers.rest.now c.callers.count inv.reads c.in_default.ensures.none,
+      no_caller script (take i script) x (drop (i + 1) script) (cut_at script i x c.callers-test.true c.index-script-number.is) i c.callers.callers.items inv.shape inv.each c.args.bytes.now c.callers.rest.now c.callers.count inv.reads c.in_default.ensures.none,
     )
 
 pub returns-then-len-clause-refused : goal.returns-then-len-clause-refused
@@ -58,7 +46,7 @@ returns-then-len-clause-refused c = λ n e.
     let is : c.args.before + (c.callers.count + 1 + c.len-in-callers.result + 1) ≡ n = cc in (
       read + 1,
       sym is ∙ ap (λ (m : ℕ). c.args.before + (c.callers.count + 1 + m + 1)) c.len-in-callers.ensures,
-      no_reply script (take i script) x (drop (i + 1) script) (cut_there script i x (cut_at script i x c.callers-test.true c.index-script-number.is)) i callers inv.shape inv.each c.args.bytes.now c.in_ok-lines.left.now read rs c.in_ok-lines.ensures.each (omega arith)
+      no_reply script (take i script) x (drop (i + 1) script) (cut_at script i x c.callers-test.true c.index-script-number.is) i callers inv.shape inv.each c.args.bytes.now c.in_ok-lines.left.now read rs c.in_ok-lines.ensures.each (omega arith)
           (λ run. opened script callers rs i c.args.bytes.now c.callers.rest.now c.in-Some.more.now c.in_ok-lines.left.now c.callers.count run (inv.reads run) c.in-Some.ensures.some (c.in_ok-lines.ensures.reads script i callers run))
           (c.in_ok-lines.ensures.stops (omega arith)),
     )
@@ -71,7 +59,7 @@ callers-preserved c =
     let x = c.index-script-number.result in
     let rs = c.in_ok-lines.lines in
     let callers = c.callers.callers.items in
-    let cut = cut_there script i x (cut_at script i x c.callers-test.true c.index-script-number.is) in
+    let cut = cut_at script i x c.callers-test.true c.index-script-number.is in
     let pushed : c.push.new.self.items ≡ callers ++ rs ∷ [] = c.in_ok-push.ensures.items in
     let within = c.in_ok-lines.ensures.within in
     let full : length rs ≡ length x = omega arith in

@@ -1,9 +1,4 @@
-use Rattle.std.proofs.Common.{◌≡◌, ◌+◌, ◌≤◌, length, map, take}
-use Rattle.std.specs.List.{AllByRecursion}
-use Rattle.ks_script.specs.Run.{Run}
-use Rattle.ks_script.specs.Checked.{IsAnswered}
-use Rattle.ks_script.specs.Reads.{Reads}
-use Rattle.ks_script.specs.RunLeft.{SpellsRun, AnswersLeft}
+use Rattle.ks_script.proofs.Common.{◌≡◌, ◌+◌, ◌≤◌, length, map, take, AllByRecursion, Run, IsAnswered, Reads, SpellsRun, AnswersLeft}
 use Rattle.ks_script.proofs.runs.answers.Given as goal
 
 abbrev pub invariant-callers : goal.invariant-callers

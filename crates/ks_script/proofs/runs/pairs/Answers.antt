@@ -1,10 +1,5 @@
-use Rattle.std.proofs.Common.{ℕ, ◌≡◌, ◌≤◌, ◌<◌, ◌+◌, ◌^◌, List, [], ◌∷◌, ◌++◌, length, sym, subst, ap, ◌∙◌, arith, length-append}
-use Rattle.ks_script.specs.Lines.{lines_of}
-use Rattle.ks_script.specs.Run.{pair_line}
-use Rattle.ks_script.specs.Checked.{AscendFrom}
-use Rattle.ks_script.specs.Reads.{Lines, NoneFirst, Leads}
-use Rattle.ks_script.specs.RunLeft.{PairsLeft, IsPairFrom, next_key}
-use Rattle.ks_script.proofs.Pairs.{one_pair}
+use Rattle.ks_script.proofs.Common.{ℕ, ◌≡◌, ◌≤◌, ◌<◌, ◌+◌, ◌^◌, List, [], ◌∷◌, ◌++◌, length, sym, subst, ap, ◌∙◌, arith, length-append, lines_of, pair_line, AscendFrom, Lines, NoneFirst, Leads, PairsLeft, IsPairFrom, next_key}
+use Rattle.ks_script.proofs.CallLines.{one_pair}
 use Rattle.ks_script.proofs.Steps.{reads_line}
 use Rattle.ks_script.proofs.RunSteps.{pair_step, ascend_push, next_key_push}
 use Rattle.ks_script.proofs.runs.pairs.Goals as goal

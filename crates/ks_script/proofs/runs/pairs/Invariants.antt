@@ -1,9 +1,4 @@
-use Rattle.std.proofs.Common.{◌≡◌, ◌≤◌, ◌+◌, ◌^◌, List, [], length}
-use Rattle.ks_history.specs.declared.Op.{Op}
-use Rattle.ks_script.specs.Run.{Run}
-use Rattle.ks_script.specs.Checked.{AscendFrom}
-use Rattle.ks_script.specs.Reads.{Reads}
-use Rattle.ks_script.specs.RunLeft.{Replies, PairsLeft, next_key}
+use Rattle.ks_script.proofs.Common.{◌≡◌, ◌≤◌, ◌+◌, ◌^◌, List, [], length, Op, Run, AscendFrom, Reads, Replies, PairsLeft, next_key}
 use Rattle.ks_script.proofs.runs.pairs.Given as goal
 
 abbrev pub invariant-pairs : goal.invariant-pairs

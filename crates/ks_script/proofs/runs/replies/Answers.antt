@@ -1,10 +1,4 @@
-use Rattle.std.proofs.Common.{ℕ, ◌≡◌, ◌+◌, [], ◌∷◌, ◌++◌, length, sym, subst, ap, ◌∙◌, arith, length-append}
-use Rattle.std.specs.List.{AllByRecursion}
-use Rattle.ks_history.specs.declared.Reply.{Reply}
-use Rattle.ks_script.specs.Run.{reply_line}
-use Rattle.ks_script.specs.Checked.{IsAnswered}
-use Rattle.ks_script.specs.Reads.{Leads}
-use Rattle.ks_script.specs.RunLeft.{Replies, RepliesLeft}
+use Rattle.ks_script.proofs.Common.{ℕ, ◌≡◌, ◌+◌, [], ◌∷◌, ◌++◌, length, sym, subst, ap, ◌∙◌, arith, length-append, AllByRecursion, Reply, reply_line, IsAnswered, Leads, Replies, RepliesLeft}
 use Rattle.ks_script.proofs.Steps.{reads_line, all_push}
 use Rattle.ks_script.proofs.RunSteps.{reply_step}
 use Rattle.ks_script.proofs.runs.replies.Goals as goal

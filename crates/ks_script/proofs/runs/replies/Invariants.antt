@@ -1,10 +1,4 @@
-use Rattle.std.proofs.Common.{ℕ, ◌≤◌, ◌+◌, List, [], length}
-use Rattle.std.specs.List.{AllByRecursion}
-use Rattle.ks_history.specs.declared.Op.{Op}
-use Rattle.ks_script.specs.Run.{Run}
-use Rattle.ks_script.specs.Checked.{IsAnswered}
-use Rattle.ks_script.specs.Reads.{Reads}
-use Rattle.ks_script.specs.RunLeft.{Replies, RepliesLeft}
+use Rattle.ks_script.proofs.Common.{ℕ, ◌≤◌, ◌+◌, List, [], length, AllByRecursion, Op, Run, IsAnswered, Reads, Replies, RepliesLeft}
 use Rattle.ks_script.proofs.runs.replies.Given as goal
 
 abbrev pub invariant-replies : goal.invariant-replies

@@ -1,4 +1,4 @@
-use Rattle.std.proofs.Common.{◌≡◌, ◌≤◌, ◌-◌, vec_len, length}
+use Rattle.ks_script.proofs.Common.{◌≡◌, ◌≤◌, ◌-◌, vec_len, length}
 use Rattle.ks_script.specs.Outside.{Gone}
 use Rattle.ks_script.proofs.source.read_all.Given as goal
 

@@ -1,4 +1,4 @@
-use Rattle.std.proofs.Common.{◌≡◌, ◌-◌, ℕ, List, length, sym, ap, ◌∙◌, ◌++◌, arith, length-drop}
+use Rattle.ks_script.proofs.Common.{◌≡◌, ◌-◌, ℕ, List, length, sym, ap, ◌∙◌, ◌++◌, arith, length-drop}
 use Rattle.ks_script.specs.Digits.{padded}
 use borrow.Rule.Slice.PartMut.{same_len_mid}
 use Rattle.ks_script.proofs.Padding.{placed, length_few}

@@ -1,5 +1,4 @@
-use Rattle.std.proofs.Common.{ℕ, List, length, ap, ◌∙◌, arith, length-append}
-use Rattle.std.specs.Fmt.{decimal}
+use Rattle.ks_script.proofs.Common.{ℕ, List, length, ap, ◌∙◌, arith, length-append, decimal}
 use Rattle.ks_script.proofs.Padding.{length_key}
 use Rattle.ks_script.proofs.ending.Ending.number.Goals as goal
 

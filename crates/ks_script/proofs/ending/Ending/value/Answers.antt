@@ -1,5 +1,4 @@
-use Rattle.std.proofs.Common.{◌≡◌, ◌+◌, ◌/◌, ◌%◌, ◌^◌, ℕ, List, length, sym, ap, ◌∙◌, ◌++◌, append_assoc, arith, length-append}
-use Rattle.std.specs.Fmt.{decimal}
+use Rattle.ks_script.proofs.Common.{◌≡◌, ◌+◌, ◌/◌, ◌%◌, ◌^◌, ℕ, List, length, sym, ap, ◌∙◌, ◌++◌, append_assoc, arith, length-append, decimal}
 use Rattle.ks_script.specs.Digits.{padded}
 use Rattle.ks_script.proofs.Padding.{cut_nineteen, length_padded, length_value}
 use Rattle.ks_script.proofs.ending.Ending.value.Goals as goal

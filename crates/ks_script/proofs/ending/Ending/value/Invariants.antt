@@ -1,5 +1,4 @@
-use Rattle.std.proofs.Common.{◌≡◌, ◌++◌}
-use Rattle.std.specs.Fmt.{decimal}
+use Rattle.ks_script.proofs.Common.{◌≡◌, ◌++◌, decimal}
 use Rattle.ks_script.proofs.ending.Ending.value.Given as goal
 
 abbrev pub invariant-loop-left : goal.invariant-loop-left

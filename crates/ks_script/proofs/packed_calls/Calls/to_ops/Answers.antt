@@ -1,7 +1,4 @@
-use Rattle.std.proofs.Common.{ℕ, ◌+◌, ◌∷◌, ◌++◌, [], List, take, sym, ap, ◌∙◌, ◌<◌, subst}
-use Rattle.std.proofs.lemmas.List.{take_more}
-use Rattle.ks_history.specs.declared.Op.{Op}
-use Rattle.ks_history.specs.declared.Op.TheVariants.{Get}
+use Rattle.ks_script.proofs.Common.{ℕ, ◌∷◌, ◌++◌, [], List, take, sym, ap, ◌∙◌, ◌<◌, subst, take_more, Op, Get}
 use Rattle.ks_script.proofs.packed_calls.Calls.to_ops.Goals as goal
 
 pub loop-at-preserved : goal.loop-at-preserved

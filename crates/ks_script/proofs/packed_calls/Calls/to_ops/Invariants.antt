@@ -1,4 +1,4 @@
-use Rattle.std.proofs.Common.{◌≡◌, take}
+use Rattle.ks_script.proofs.Common.{◌≡◌, take}
 use Rattle.ks_script.proofs.packed_calls.Calls.to_ops.Given as goal
 
 abbrev pub invariant-loop-at : goal.invariant-loop-at

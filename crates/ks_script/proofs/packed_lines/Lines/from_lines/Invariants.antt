@@ -1,4 +1,4 @@
-use Rattle.std.proofs.Common.{◌≡◌, take}
+use Rattle.ks_script.proofs.Common.{◌≡◌, take}
 use Rattle.ks_script.proofs.packed_lines.Lines.from_lines.Given as goal
 
 abbrev pub invariant-loop-line : goal.invariant-loop-line
