@@ -13,7 +13,8 @@ pub use Rattle.ks_history.specs.declared.Op.TheVariants.{Get, Put, Del, Add, Swa
 pub use Rattle.ks_history.specs.declared.Reply.{Reply}
 pub use Rattle.ks_history.specs.declared.Reply.TheVariants.{Nothing, Value, Full}
 pub use Rattle.ks_script.specs.Ahead.{Lacks}
-pub use Rattle.ks_script.specs.Checked.{IsRunOf, SpellsChecked, AreChecked, CheckedOf, FirstBadOfChecked, IsReply, IsAnswered, AscendFrom, CheckedIn}
+pub use Rattle.ks_script.specs.Checked.{IsRunOf, SpellsChecked, AreChecked, CheckedOf, IsReply, IsAnswered, AscendFrom}
+pub use Rattle.ks_script.specs.CheckedTexts.{CheckedIn, FirstBadOfChecked}
 pub use Rattle.ks_script.specs.Left.{Apart, TextLeft, CallsLeft, Told, CallersRead, none_read, some_read, Stops, ScriptLeft, HasBegun}
 pub use Rattle.ks_script.specs.Lined.{EndsLine, Lined, NotLined}
 pub use Rattle.ks_script.specs.Lines.{lines_of, FirstBad, Begins, text_of, ended}

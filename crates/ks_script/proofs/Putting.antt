@@ -1,7 +1,8 @@
 -- Text that is put into a piece, and what of it the sink takes; sources that are read step by step.
 use Rattle.ks_script.proofs.Common.{ℕ, ◌≡◌, ◌+◌, ◌≤◌, true, false, List, [], ◌++◌, length, take, drop, Option, Some, None, Ok, sym, ap, subst, ◌∙◌, append_assoc, append-nil, length-append, arith, inl, inr, false≢true, take-append-drop, length-take}
 use Rattle.ks_script.specs.declared.pieces.Piece.{Piece}
-use Rattle.ks_script.specs.Outside.{Reads, Moves, Gone, Writes, Grew, GrewByFront, Rose}
+use Rattle.ks_script.specs.Outside.{Reads, Moves, Writes, Grew, GrewByFront, Rose}
+use Rattle.ks_script.specs.Gone.{Gone}
 use Rattle.ks_script.specs.Pieces.{Holds, Puts}
 
 pub grew_none : (o : Option (List ℕ)) → Grew o o []

@@ -5,7 +5,7 @@ use Rattle.ks_history.specs.declared.Op.{Op}
 use Rattle.ks_history.specs.declared.Reply.{Reply}
 use Rattle.ks_history.specs.declared.Reply.TheVariants.{Nothing, Value, Full}
 use Rattle.ks_script.specs.declared.version.Version.{Version}
-use Rattle.ks_script.specs.Lines.{lines_of, FirstBad}
+use Rattle.ks_script.specs.Lines.{lines_of}
 use Rattle.ks_script.specs.Version.{version_line}
 use Rattle.ks_script.specs.Script.{IsScript, script_lines}
 use Rattle.ks_script.specs.Run.{Run, run_lines}
@@ -41,14 +41,6 @@ pub record SpellsChecked (version : Version) (script : List (List Op)) (run : Ru
 abbrev pub AreChecked : List (List ℕ) → Type 0
 AreChecked lines = (version : Version) × (script : List (List Op)) × (run : Run) × SpellsChecked version script run lines
 
--- the bytes are the text of the script in this version, and of the run
-abbrev pub CheckedIn : Version → List ℕ → List (List Op) → Run → Type 0
-CheckedIn version bytes script run = SpellsChecked version script run (lines_of bytes)
-
 -- the bytes are the text of the script and the run
 abbrev pub CheckedOf : List ℕ → List (List Op) → Run → Type 0
 CheckedOf bytes script run = (version : Version) × SpellsChecked version script run (lines_of bytes)
-
--- line n is the one for which the bytes are no text of a script and a run
-abbrev pub FirstBadOfChecked : List ℕ → ℕ → Type 0
-FirstBadOfChecked bytes n = FirstBad AreChecked (lines_of bytes) n

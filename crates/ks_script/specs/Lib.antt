@@ -1,11 +1,14 @@
 pub mod Outside
+pub mod Gone
 pub mod Lines
 pub mod Ahead
 pub mod Version
 pub mod Script
+pub mod ScriptTexts
 pub mod Run
 pub mod Reading
 pub mod Checked
+pub mod CheckedTexts
 pub mod Digits
 pub mod Memory
 pub mod Eight

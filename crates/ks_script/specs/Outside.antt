@@ -35,8 +35,3 @@ pub record GrewByFront (old new : Option (List ℕ)) (text : List ℕ) : Type 0 
   pub rest : List ℕ
   pub split : text ≡ front ++ rest
   pub grew : Grew old new front
-
--- of the bytes left, if they are known, these first ones are gone
-abbrev pub Gone : Option (List ℕ) → Option (List ℕ) → List ℕ → Type 0
-Gone None after front = Unit {0}
-Gone (Some bytes) after front = (rest : List ℕ) × (bytes ≡ front ++ rest) × (after ≡ Some rest)

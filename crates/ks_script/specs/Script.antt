@@ -5,7 +5,7 @@ use Rattle.std.specs.Fmt.{decimal}
 use Rattle.ks_history.specs.declared.Op.{Op}
 use Rattle.ks_history.specs.declared.Op.TheVariants.{Get, Put, Del, Add, Swap}
 use Rattle.ks_script.specs.declared.version.Version.{Version}
-use Rattle.ks_script.specs.Lines.{lines_of, FirstBad}
+use Rattle.ks_script.specs.Lines.{lines_of}
 use Rattle.ks_script.specs.Version.{version_line, callers_limit, value_limit, AddsAndSwaps}
 
 -- the line of a call: its words, with one space between them
@@ -53,14 +53,6 @@ pub record SpellsScript (version : Version) (script : List (List Op)) (lines : L
 abbrev pub AreScript : List (List ℕ) → Type 0
 AreScript lines = (version : Version) × (script : List (List Op)) × SpellsScript version script lines
 
--- the bytes are the text of the script in this version
-abbrev pub ScriptIn : Version → List ℕ → List (List Op) → Type 0
-ScriptIn version bytes script = SpellsScript version script (lines_of bytes)
-
 -- the bytes are the text of the script
 abbrev pub ScriptOf : List ℕ → List (List Op) → Type 0
 ScriptOf bytes script = (version : Version) × SpellsScript version script (lines_of bytes)
-
--- line n is the one for which the bytes are no script
-abbrev pub FirstBadOfScript : List ℕ → ℕ → Type 0
-FirstBadOfScript bytes n = FirstBad AreScript (lines_of bytes) n

@@ -3,7 +3,8 @@
 ghost use Rattle.std.specs.Prelude.{ℕ, ◌≡◌, Ok, Err, List, IfOk};
 ghost use Rattle.ks_history.specs.declared.Op.{Op};
 ghost use Rattle.ks_script.specs.Run.{Run};
-ghost use Rattle.ks_script.specs.Checked.{CheckedOf, FirstBadOfChecked};
+ghost use Rattle.ks_script.specs.Checked.{CheckedOf};
+ghost use Rattle.ks_script.specs.CheckedTexts.{FirstBadOfChecked};
 ghost use Rattle.ks_script.specs.Reading.{Answers, Gives};
 
 use crate::lines::word_line;

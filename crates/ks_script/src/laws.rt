@@ -5,9 +5,11 @@ ghost use Rattle.ks_history.specs.declared.Op.{Op};
 ghost use Rattle.ks_script.specs.declared.version.Version.{Version};
 ghost use Rattle.ks_script.specs.Lines.{lines_of, text_of};
 ghost use Rattle.ks_script.specs.Version.{version_line};
-ghost use Rattle.ks_script.specs.Script.{IsScript, ScriptIn, script_lines};
+ghost use Rattle.ks_script.specs.Script.{IsScript, script_lines};
+ghost use Rattle.ks_script.specs.ScriptTexts.{ScriptIn};
 ghost use Rattle.ks_script.specs.Run.{Run, run_lines};
-ghost use Rattle.ks_script.specs.Checked.{IsRunOf, CheckedIn};
+ghost use Rattle.ks_script.specs.Checked.{IsRunOf};
+ghost use Rattle.ks_script.specs.CheckedTexts.{CheckedIn};
 
 /// A script has one spelling in each version, except for the byte 10 at the end of the last line, and so has a script
 /// with its run.

@@ -2,7 +2,8 @@
 
 ghost use Rattle.std.specs.Prelude.{ℕ, Ok, Err, List};
 ghost use Rattle.ks_history.specs.declared.Op.{Op};
-ghost use Rattle.ks_script.specs.Script.{ScriptOf, FirstBadOfScript};
+ghost use Rattle.ks_script.specs.Script.{ScriptOf};
+ghost use Rattle.ks_script.specs.ScriptTexts.{FirstBadOfScript};
 ghost use Rattle.ks_script.specs.Reading.{Answers, Gives};
 
 use crate::reader::callers;

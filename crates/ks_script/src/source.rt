@@ -1,7 +1,8 @@
 //! Reading a source to its end.
 
 ghost use Rattle.std.specs.Prelude.{ℕ, ◌≡◌, ◌+◌, ◌<◌, ◌≤◌, List, [], Some, length, vec_len, IfOk, IfSome, OnOk, OnErr, IsErrOf};
-ghost use Rattle.ks_script.specs.Outside.{Rose, Gone, Reads};
+ghost use Rattle.ks_script.specs.Outside.{Rose, Reads};
+ghost use Rattle.ks_script.specs.Gone.{Gone};
 
 use crate::{Failed, ReadFault, Source};
 use std::alloc::Global;

@@ -1,5 +1,5 @@
 use Rattle.ks_script.proofs.Common.{◌≡◌, ◌≤◌, ◌-◌, vec_len, length}
-use Rattle.ks_script.specs.Outside.{Gone}
+use Rattle.ks_script.specs.Gone.{Gone}
 use Rattle.ks_script.proofs.source.read_all.Given as goal
 
 abbrev pub invariant-loop-count : goal.invariant-loop-count
