@@ -23,7 +23,8 @@ pub use Rattle.ks_dictionary.specs.Kept.{AddedOnce, Changed, FindsPut, Removed}
 pub use Rattle.ks_history.specs.Done.{Done, Template, coupling, give_up, link_move}
 pub use Rattle.ks_history.specs.Refusals.{BusyDue, FarDue, MovedDue}
 pub use Rattle.ks_history.specs.Map.{Legal, map_after, told}
-pub use Rattle.ks_history.specs.Passes.{CallersBelow, GrowsByOthers}
+pub use Rattle.ks_history.specs.Callers.{CallersBelow}
+pub use Rattle.ks_history.specs.Passes.{GrowsByOthers}
 pub use Rattle.ks_history.specs.Trace.{◌⊑◌, calls_of, graph_after, number_after}
 pub use Rattle.ks_history.specs.declared.Answered.{Answered}
 pub use Rattle.ks_history.specs.declared.Event.{Event}
