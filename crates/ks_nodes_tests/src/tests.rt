@@ -156,12 +156,7 @@ fn nodes_with_a_range_chain_and_merge(rt: HostRuntime) {
 
 #[test]
 fn nodes_list_the_pairs_of_spans(rt: HostRuntime) {
-    lists_few::<WithRange<BNode>>(&rt, rt.alloc());
-    lists_few::<WithLink<BNode>>(&rt, rt.alloc());
-    lists_few::<Boxed<WithRange<BNode>>>(&rt, rt.alloc());
     lists_few::<Boxed<WithLink<BNode>>>(&rt, rt.alloc());
-    lists_when_grown::<WithRange<BNode>>(&rt, rt.alloc());
     lists_when_grown::<Boxed<WithRange<BNode>>>(&rt, rt.alloc());
-    lists_when_grown_linked::<WithLink<BNode>>(&rt, rt.alloc());
     lists_when_grown_linked::<Boxed<WithLink<BNode>>>(&rt, rt.alloc());
 }
