@@ -37,8 +37,7 @@ impl Parts {
     {
         match self {
             Parts::Leaf(_) => false,
-            Parts::Fork { .. } => true,
-            Parts::Stem { .. } => true,
+            _ => true,
         }
     }
 
@@ -60,8 +59,7 @@ impl Parts {
     {
         match self {
             Parts::Leaf(pairs) => pairs.len(),
-            Parts::Fork { .. } => 0,
-            Parts::Stem { .. } => 0,
+            _ => 0,
         }
     }
 
@@ -72,8 +70,7 @@ impl Parts {
     {
         match self {
             Parts::Leaf(pairs) => pairs.pair(at),
-            Parts::Fork { .. } => unreachable!(),
-            Parts::Stem { .. } => unreachable!(),
+            _ => unreachable!(),
         }
     }
 
@@ -84,8 +81,7 @@ impl Parts {
     {
         match self {
             Parts::Leaf(pairs) => pairs.pair(1).place,
-            Parts::Fork { .. } => unreachable!(),
-            Parts::Stem { .. } => unreachable!(),
+            _ => unreachable!(),
         }
     }
 
@@ -105,20 +101,19 @@ impl Parts {
         ensures { result ≡ first_node (starts_from (suc place) (starts_of self.now)) }
     {
         match self {
-            Parts::Leaf(_) => None,
-            Parts::Fork { cut, right, .. } => { if place < *cut { Some(*right) } else { None } }
-            Parts::Stem { .. } => None,
+            Parts::Fork { cut, right, .. } if place < *cut => Some(*right),
+            _ => None,
         }
     }
 
-    /// The node to which all children are equal.
+    /// The child, if all children are the same node.
     pub(crate) fn only_child(&self) -> Option<u32>
         ensures { result ≡ sole (starts_of self.now) }
     {
         match self {
-            Parts::Leaf(_) => None,
-            Parts::Fork { left, right, .. } => { if *right == *left { Some(*left) } else { None } }
+            Parts::Fork { left, right, .. } if *right == *left => Some(*left),
             Parts::Stem { child } => Some(*child),
+            _ => None,
         }
     }
 
@@ -148,8 +143,7 @@ impl Parts {
     {
         match self {
             Parts::Leaf(pairs) => pairs.get(place),
-            Parts::Fork { .. } => None,
-            Parts::Stem { .. } => None,
+            _ => None,
         }
     }
 
@@ -166,8 +160,7 @@ impl Parts {
     {
         match self {
             Parts::Leaf(pairs) => pairs.put(place, value),
-            Parts::Fork { .. } => unreachable!(),
-            Parts::Stem { .. } => unreachable!(),
+            _ => unreachable!(),
         }
     }
 
@@ -183,8 +176,7 @@ impl Parts {
     {
         match self {
             Parts::Leaf(pairs) => pairs.del(place),
-            Parts::Fork { .. } => unreachable!(),
-            Parts::Stem { .. } => unreachable!(),
+            _ => unreachable!(),
         }
     }
 

@@ -1,4 +1,3 @@
-use Rattle.std.proofs.Common.{arith}
 use Rattle.ks_bst.specs.Laws.Fits.{fit_left, fit_right, full_is}
 use Rattle.ks_bst.proofs.node.TNodeUnlinked.split_to.Goals as goal
 
