@@ -6,7 +6,7 @@ ghost use Rattle.ks_node.specs.declared.start.Next.TheVariants.{Here};
 ghost use Rattle.ks_node.specs.Body.{next_at};
 ghost use Rattle.ks_node.specs.Room.{is_full};
 ghost use Rattle.ks_node.specs.Asks.{CanSplitAt};
-ghost use Rattle.ks_asked.specs.Asked.{GrowsOverAll};
+ghost use Rattle.ks_asked.specs.Asked.{GrowsAt};
 
 use ks_keysets::Span;
 use ks_node::{Next, Node, Ranged, node_law};
@@ -38,7 +38,7 @@ pub fn lie_in<N: Node>(node: &N, span: &Span) -> bool
 pub fn cut_of<N: Ranged>(node: &N) -> Option<u64>
     ensures full { IfSome result (λ _. IsTrue (is_full N.layout (N.body node.now))) }
     ensures splits { IfSome result (λ cut. CanSplitAt (N.body node.now) cut) }
-    ensures grows { IfSome result (λ cut. GrowsOverAll N.grows_at N.can_grow_at (N.body node.now) cut) }
+    ensures grows { IfSome result (λ cut. GrowsAt N.layout N.grows_at N.can_grow_at (N.body node.now) cut) }
 {
     let range = node.range();
     if !lie_in(node, &range) {

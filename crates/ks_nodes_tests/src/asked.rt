@@ -1,7 +1,8 @@
 //! Calls on nodes, each after a test at run time of what it requires.
 
 ghost use Rattle.std.specs.Prelude.{◌≢◌, ◌≡◌, IsTrue, Some, false};
-ghost use Rattle.ks_node.specs.Body.{is_branch, first_node, IsBlank};
+ghost use Rattle.ks_node.specs.Body.{is_branch, first_node, IsBlank, all_places};
+ghost use Rattle.ks_node.specs.Room.{in_place};
 
 use ks_asked::{cut_of, is_here, lie_in};
 use ks_keysets::Span;
@@ -68,12 +69,19 @@ pub fn grow<N: Unlinked + Ranged>(
 ) -> (N, N) {
     let mut left = blank(rt, alloc);
     let mut right = blank(rt, alloc);
-    let range = node.range();
-    assert!(rt; range.low == 0 && range.last == u64::MAX);
+    assert!(rt; is_where_it_grows(node));
     assert!(rt; node.grows());
     let cut = cut_of(node).expect(rt, "a full node");
     node.grow(&mut left, &mut right, ids[0], ids[1], cut);
     (left, right)
+}
+
+/// Whether the node has the range of a root, or is of a type that grows wherever it is.
+fn is_where_it_grows<N: Ranged>(node: &N) -> bool
+    ensures { IsTrue result → in_place N.layout ≡ false → (N.body node.now).range ≡ Some all_places }
+{
+    let range = node.range();
+    N::grows_in_place() || range.low == 0 && range.last == u64::MAX
 }
 
 /// Becomes a branch over a left and a right node, which are new and linked, one level higher.

@@ -137,7 +137,9 @@ impl Plain {
         let mut left = *self;
         let right = left.split(cut, if linked { Some(ids[1]) } else { None });
         for i in 0..COUNT {
-            self.told[i] = Told::Lead(if i < cut { ids[0] } else { ids[1] });
+            if self.low <= i && i < self.end {
+                self.told[i] = Told::Lead(if i < cut { ids[0] } else { ids[1] });
+            }
         }
         if linked {
             self.level = self.level.saturating_add(1);

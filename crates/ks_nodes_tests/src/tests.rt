@@ -5,6 +5,7 @@ use crate::listing::lists;
 use crate::trial::Trial;
 use ks_boxed::Boxed;
 use ks_bplus::BNode;
+use ks_bst::TNode;
 use ks_hash::HNode;
 use ks_linked::WithLink;
 use ks_list::ListNode;
@@ -76,6 +77,22 @@ fn branches_merge<N: Unlinked + Ranged>(rt: &impl Abort, alloc: Global) {
     root.collapse(rt, &mut left);
 }
 
+/// A leaf grows, then its right half does below it, and all of it merges again from below.
+fn grows_below<N: Unlinked + Ranged>(rt: &impl Abort, alloc: Global, length: u64) {
+    let mut root = Trial::<N>::blank(rt, alloc, length);
+    root.fill(rt, 16, 48, 16);
+    let (mut left, mut right) = root.grow(rt, alloc, 32, [1, 2]);
+    right.fill(rt, 48, 64, 16);
+    let (mut third, mut fourth) = right.grow(rt, alloc, 48, [3, 4]);
+    third.thin(rt, 32, 48, 16);
+    third.absorb(rt, &mut fourth);
+    right.forget(rt, 4);
+    right.collapse(rt, &mut third);
+    left.absorb(rt, &mut right);
+    root.forget(rt, 2);
+    root.collapse(rt, &mut left);
+}
+
 /// A node splits twice, keeps an edge of its own to each right part, and takes them in again.
 fn chains<N: Unlinked + Ranged>(rt: &impl Abort, alloc: Global, length: u64) {
     let mut first = Trial::<N>::blank(rt, alloc, length);
@@ -129,6 +146,7 @@ fn blank_nodes_keep_a_pair(rt: HostRuntime) {
     keeps_a_pair::<ListNode>(&rt, rt.alloc());
     keeps_a_pair::<BNode>(&rt, rt.alloc());
     keeps_a_pair::<HNode>(&rt, rt.alloc());
+    keeps_a_pair::<TNode>(&rt, rt.alloc());
     keeps_a_pair::<WithLink<WithRange<BNode>>>(&rt, rt.alloc());
 }
 
@@ -146,6 +164,12 @@ fn nodes_with_a_range_split_and_merge(rt: HostRuntime) {
     merges::<WithRange<BNode>>(&rt, rt.alloc(), 1, 4);
     merges::<WithRange<HNode>>(&rt, rt.alloc(), SLICE, 8);
     branches_merge::<WithRange<BNode>>(&rt, rt.alloc());
+}
+
+#[test]
+fn nodes_with_a_range_grow_below_the_root(rt: HostRuntime) {
+    grows_below::<WithRange<TNode>>(&rt, rt.alloc(), 1);
+    grows_below::<WithRange<TNode>>(&rt, rt.alloc(), SLICE);
 }
 
 #[test]

@@ -17,4 +17,4 @@ returns-clause-grows g c =
     let r = c.range-range.result in
     let inside : All (λ x. (r.low ≤ x.place) × (x.place ≤ r.last)) b.pairs = search rules in
     let suits = suits_own b r c.range-range.ensures (c.node_law.ensures.framed r c.range-range.ensures) inside in
-    λ all grows. c.cut.ensures.grows r suits (own_handed r) grows (λ _. sym c.range-range.ensures ∙ all)
+    λ all grows. c.cut.ensures.grows r suits (own_handed r) grows (λ e. sym c.range-range.ensures ∙ all e)

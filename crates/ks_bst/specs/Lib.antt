@@ -1,0 +1,3 @@
+pub mod Bst
+pub mod Parts
+pub mod Laws
