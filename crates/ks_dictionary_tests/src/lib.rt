@@ -1,10 +1,17 @@
-//! Tests of dictionaries: callers on threads, notes, and calls that wait for nobody.
+//! Tests of dictionaries: every pairing beside plain maps, nodes that fill, callers on threads, notes, and calls that do not
+//! wait.
 #![tactic(auto)]
 
+#[cfg(test)]
+mod beside;
+#[cfg(test)]
+mod calls;
 #[cfg(test)]
 mod crews;
 #[cfg(test)]
 mod dropped;
+#[cfg(test)]
+mod fills;
 #[cfg(test)]
 mod meets;
 #[cfg(test)]
@@ -12,10 +19,16 @@ mod notes;
 #[cfg(test)]
 mod order;
 #[cfg(test)]
+mod plain;
+#[cfg(test)]
+mod plan;
+#[cfg(test)]
 mod scenes;
 #[cfg(test)]
-mod tests;
+mod shrinking;
 #[cfg(test)]
-mod tries;
+mod table;
+#[cfg(test)]
+mod tests;
 #[cfg(test)]
 mod upkeep;

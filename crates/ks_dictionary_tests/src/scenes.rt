@@ -1,36 +1,24 @@
 //! Three callers of one dictionary, each on a thread of its own: which calls each makes, in which order they pass points of
-//! them, and what each call must answer.
+//! them, and what each call must return.
 ghost use Rattle.std.specs.Prelude.{◌<◌, ◌≤◌, length};
 ghost use Rattle.ks_arena.specs.Of.{SameCaller};
 ghost use Rattle.ks_dictionary.specs.Of.{AreOrderedPassesOf, IsIdlePassOf};
 
+use crate::calls::{Answer, Call, make};
 use crate::crews::put_each;
 use crate::order::InOrder;
 use ks_arena::{Arena, Pass};
 use ks_dictionary::Dictionary;
 use ks_gate::Point;
 use ks_node::Node;
-use ks_shape::{Numbered, PutLater, Ruled, Template};
+use ks_shape::{Ruled, Template};
 use std::alloc::{AllocError, Global};
 use std::sync::Wait;
 use std::sync::atomic::AtomicU64;
 use std::sync::atomic::Ordering::SeqCst;
 use std::thread::{Threads, for_each_mut};
 
-/// A call at a key; a put sets the key as its own value.
-#[derive(Clone, Copy)]
-pub(crate) enum Call {
-    Get(u64),
-    Put(u64),
-    Del(u64),
-    TryGet(u64),
-    TryPut(u64),
-}
-
-/// What a call answers.
-pub(crate) type Answer = Result<Numbered, PutLater>;
-
-/// The calls of one caller, and what each must answer.
+/// The calls of one caller, and what each must return.
 pub(crate) type Part = Vec<(Call, Answer)>;
 
 /// What three callers do, once caller 0 has put some keys.
@@ -39,7 +27,8 @@ pub(crate) struct Scene {
     keys: u64,
     parts: Vec<Part>,
     gate: InOrder,
-    wrong: AtomicU64,
+    /// How many calls returned what they must.
+    right: AtomicU64,
 }
 
 impl Scene {
@@ -49,7 +38,7 @@ impl Scene {
             keys,
             parts,
             gate: InOrder::of(points),
-            wrong: AtomicU64::new(0),
+            right: AtomicU64::new(0),
         }
     }
 
@@ -61,38 +50,18 @@ impl Scene {
         }
     }
 
-    /// Whether all points were passed, and no call answered anything else.
-    fn went_right(&self) -> bool {
-        self.gate.is_passed() && self.wrong.load(SeqCst) == 0
+    /// How many calls all callers make.
+    fn calls(&self) -> u64 {
+        let mut calls = 0u64;
+        for part in self.parts.iter() {
+            calls = calls.saturating_add(part.len() as u64);
+        }
+        calls
     }
-}
 
-/// Makes one call.
-fn make<N: Node, T: Ruled + Template<N, Arena<N, <T as Ruled>::Rule>>, R: Wait>(
-    rt: &R,
-    dictionary: &Dictionary<N, T>,
-    gate: &InOrder,
-    pass: &mut Pass<N, T::Rule>,
-    call: Call,
-) -> Answer
-    requires { IsIdlePassOf dictionary.now pass.old }
-    ensures pass { IsIdlePassOf dictionary.now pass.new }
-    ensures caller { SameCaller pass.old pass.new }
-{
-    match call {
-        Call::Get(key) => Ok(dictionary.get(rt, pass, gate, key)),
-        Call::Del(key) => Ok(dictionary.del(rt, pass, gate, key)),
-        Call::Put(key) => match dictionary.put(rt, pass, gate, key, u128::from(key)) {
-            Ok(put) => Ok(put),
-            Err(full) => Err(PutLater::Full {
-                number: full.number,
-            }),
-        },
-        Call::TryPut(key) => dictionary.try_put(pass, gate, key, u128::from(key)),
-        Call::TryGet(key) => match dictionary.try_get(pass, gate, key) {
-            Ok(got) => Ok(got),
-            Err(later) => Err(PutLater::Later(later)),
-        },
+    /// Whether all points were passed, all calls were made, and each returned what it must.
+    fn went_right(&self) -> bool {
+        self.gate.is_passed() && self.right.load(SeqCst) == self.calls()
     }
 }
 
@@ -108,8 +77,8 @@ fn play<N: Node, T: Ruled + Template<N, Arena<N, <T as Ruled>::Rule>>, R: Wait>(
     ensures caller { SameCaller pass.old pass.new }
 {
     for step in scene.part_of(pass.caller()) {
-        if make(rt, dictionary, &scene.gate, pass, step.0) != step.1 {
-            scene.wrong.store(1, SeqCst);
+        if make(rt, dictionary, &scene.gate, pass, step.0) == step.1 {
+            scene.right.fetch_add(1, SeqCst);
         }
     }
 }
@@ -139,7 +108,7 @@ where
     );
 }
 
-/// Puts the keys of the scene by caller 0. Tells whether none had a value, and the numbers went up from 0.
+/// Puts the keys of the scene by caller 0. Returns whether none had a value, and the numbers ascended from 0.
 fn put_keys<N: Node, T: Ruled + Template<N, Arena<N, <T as Ruled>::Rule>>, R: Wait>(
     rt: &R,
     dictionary: &Dictionary<N, T>,
@@ -150,10 +119,10 @@ fn put_keys<N: Node, T: Ruled + Template<N, Arena<N, <T as Ruled>::Rule>>, R: Wa
     requires passes { AreOrderedPassesOf dictionary.now passes.old }
     ensures { AreOrderedPassesOf dictionary.now passes.new }
 {
-    put_each(rt, dictionary, &mut passes[0], 0, 0, scene.keys)
+    put_each(rt, dictionary, &mut passes[0], scene.keys)
 }
 
-/// Plays the scene over a dictionary of so many nodes, and tells whether it went right.
+/// Plays the scene over a dictionary of this number of nodes, and returns whether it went right.
 pub(crate) fn goes_right<
     N: Node + Send,
     T: Ruled + Template<N, Arena<N, <T as Ruled>::Rule>>,

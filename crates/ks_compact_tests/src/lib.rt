@@ -1,9 +1,0 @@
-//! Tests of compaction: what was split off is free again, and the map stays.
-#![tactic(auto)]
-
-#[cfg(test)]
-mod churn;
-#[cfg(test)]
-mod runs;
-#[cfg(test)]
-mod tests;
