@@ -290,6 +290,7 @@ impl Unlinked for HNode {
 }
 
 impl Growing for HNode {
+    ghost use Rattle.std.specs.Prelude.{refl};
     ghost use Rattle.ks_hash.specs.Laws.Fits.{fit_grows, fit_few};
 
     ghost grows_where = { λ n h. fit_grows n.fit h };
