@@ -1,5 +1,5 @@
 -- Numbers that are right, one after another, and what they make of a run.
-use Rattle.std.proofs.Common.{ℕ, ◌≡◌, ◌==◌, ◌<◌, ◌+◌, ◌⊎◌, inl, inr, cond, List, [], ◌∷◌, ◌++◌, get_or, Some, None, sym, ◌∙◌, ap, subst, arith}
+use Rattle.std.proofs.Common.{ℕ, ◌≡◌, ◌==◌, ◌<◌, ◌+◌, ◌⊎◌, inl, inr, cond, List, [], ◌∷◌, ◌++◌, get_or, Some, None, sym, ◌∙◌, ap, subst, arith, ◌≤◌}
 use Rattle.std.proofs.lemmas.List.Sums.{fold-append}
 use Rattle.ks_history.specs.declared.Op.{Op}
 use Rattle.ks_history.specs.declared.Op.TheVariants.{Get, Put, Del, Add, Swap}
