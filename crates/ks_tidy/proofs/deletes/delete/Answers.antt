@@ -23,7 +23,7 @@ del-found-requires g c = let sort = sort_of g.N.Node.layout g.N.Node.ranged in l
     no_branch sort g.N.Node.body c.args.place h c.args.held.now c.requires.body.0 c.requires.body.1 c.requires.inside ((c.search_law.ensures sort c.args.arena.now.table.shared.table_id.slots).facts h c.requires.pass.sound) (omega (arith, c.ranges.place)) c.node_law.ensures.sound c.requires.ends
 
 pub del_told-number-requires-clause-ready : goal.del_told-number-requires-clause-ready
-del_told-number-requires-clause-ready g c κs within = let x : Hand g.row.N.Denot = record { node = c.args.held.now.node; body = c.del-found.new.self; live = c.args.held.now.live } in
+del_told-number-requires-clause-ready g c = let x : Hand g.row.N.Denot = record { node = c.args.held.now.node; body = c.del-found.new.self; live = c.args.held.now.live } in
     subst (IsReady (sort_of g.N.Node.layout g.N.Node.ranged) g.N.Node.body c.args.arena.now.nodes c.args.pass.now.caller (seen_of c.args.pass.now) x (Del c.args.place)) (ap told (sym c.del-found.ensures.answer))
     (c.del_law.ensures x refl c.requires.body.0 c.del-found.ensures.body)
 
