@@ -1,5 +1,4 @@
-//! A pass that is dropped makes no caller wait, and a dictionary that is not closed can be dropped.
-use crate::calls::{Call, make, told};
+//! A pass that is dropped keeps nobody, and a dictionary that is not closed can be dropped.
 use crate::crews::{put_each, two_callers};
 use ks_coupling::Coupling;
 use ks_gate::NoGate;
@@ -10,9 +9,10 @@ use std::test::Fail;
 #[test]
 fn a_pass_that_is_dropped_keeps_nobody(rt: HostRuntime) -> Result<(), Fail> {
     let (dictionary, mut one, two) = two_callers::<ListNode, Coupling>(rt.alloc(), 4)?;
-    assert!(rt; put_each(&rt, &dictionary, &mut one, 9));
+    assert!(rt; put_each(&rt, &dictionary, &mut one, 0, 0, 9));
     drop(two);
-    assert!(rt; make(&rt, &dictionary, &NoGate, &mut one, Call::get(8)) == told(9, Some(8)));
+    let got = dictionary.get(&rt, &mut one, &NoGate, 8);
+    assert!(rt; got.number == 9 && got.found == Some(8));
     drop(one);
     drop(dictionary);
     Ok(())

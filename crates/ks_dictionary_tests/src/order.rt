@@ -4,13 +4,13 @@ use std::sync::atomic::AtomicU64;
 use std::sync::atomic::Ordering::SeqCst;
 use std::thread::yield_now;
 
-/// Looks that no caller of these tests makes, if the other callers come at all.
+/// Looks that no gate of these tests needs, if the other callers come at all.
 const LONG: u64 = 50_000_000;
 
 /// A gate that has callers pass points of their calls in the order of a list. A caller that comes to the point that is its
-/// next in the list waits there until all before it are passed, and again if the one after that is the same point: so a
-/// point that is named twice keeps the caller from its first turn to its second. At other points no caller waits. It looks
-/// a limited number of times; if none of them is its turn, the gate has failed and the caller continues.
+/// next in the list is stopped there until all before it are passed, and again where the one after that is the same point: so
+/// a point that is named twice keeps the caller from its first turn to its second. At other points nobody is stopped. A stop
+/// takes a limited number of looks; where it ends by the limit, the gate has failed and the caller goes on.
 #[derive(Drop)]
 pub(crate) struct InOrder {
     points: Vec<(u32, Point)>,
@@ -28,12 +28,12 @@ impl InOrder {
         }
     }
 
-    /// Whether all points were passed, and no caller has reached its limit.
+    /// Whether all points were passed, and no stop has ended by its limit.
     pub(crate) fn is_passed(&self) -> bool {
         self.failures.load(SeqCst) == 0 && self.passed.load(SeqCst) == self.points.len() as u64
     }
 
-    /// The index of the point in the list, if it is the caller's next there.
+    /// Where the point is in the list, if it is the caller's next there.
     fn turn_of(&self, caller: u32, point: Point) -> Option<u64> {
         let passed = self.passed.load(SeqCst);
         for (turn, next) in self.points.iter().enumerate() {

@@ -1,24 +1,36 @@
 //! Three callers of one dictionary, each on a thread of its own: which calls each makes, in which order they pass points of
-//! them, and what each call must return.
+//! them, and what each call must answer.
 ghost use Rattle.std.specs.Prelude.{◌<◌, ◌≤◌, length};
 ghost use Rattle.ks_arena.specs.Of.{SameCaller};
 ghost use Rattle.ks_dictionary.specs.Of.{AreOrderedPassesOf, IsIdlePassOf};
 
-use crate::calls::{Answer, Call, make};
 use crate::crews::put_each;
 use crate::order::InOrder;
 use ks_arena::{Arena, Pass};
 use ks_dictionary::Dictionary;
 use ks_gate::Point;
 use ks_node::Node;
-use ks_shape::{Ruled, Template};
+use ks_shape::{Numbered, PutLater, Ruled, Template};
 use std::alloc::{AllocError, Global};
 use std::sync::Wait;
 use std::sync::atomic::AtomicU64;
 use std::sync::atomic::Ordering::SeqCst;
 use std::thread::{Threads, for_each_mut};
 
-/// The calls of one caller, and what each must return.
+/// A call at a key; a put sets the key as its own value.
+#[derive(Clone, Copy)]
+pub(crate) enum Call {
+    Get(u64),
+    Put(u64),
+    Del(u64),
+    TryGet(u64),
+    TryPut(u64),
+}
+
+/// What a call returns.
+pub(crate) type Answer = Result<Numbered, PutLater>;
+
+/// The calls of one caller, and what each must answer.
 pub(crate) type Part = Vec<(Call, Answer)>;
 
 /// What three callers do, once caller 0 has put some keys.
@@ -27,8 +39,7 @@ pub(crate) struct Scene {
     keys: u64,
     parts: Vec<Part>,
     gate: InOrder,
-    /// How many calls returned what they must.
-    right: AtomicU64,
+    wrong: AtomicU64,
 }
 
 impl Scene {
@@ -38,7 +49,7 @@ impl Scene {
             keys,
             parts,
             gate: InOrder::of(points),
-            right: AtomicU64::new(0),
+            wrong: AtomicU64::new(0),
         }
     }
 
@@ -50,18 +61,38 @@ impl Scene {
         }
     }
 
-    /// How many calls all callers make.
-    fn calls(&self) -> u64 {
-        let mut calls = 0u64;
-        for part in self.parts.iter() {
-            calls = calls.saturating_add(part.len() as u64);
-        }
-        calls
-    }
-
-    /// Whether all points were passed, all calls were made, and each returned what it must.
+    /// Whether all points were passed, and no call returned anything else.
     fn went_right(&self) -> bool {
-        self.gate.is_passed() && self.right.load(SeqCst) == self.calls()
+        self.gate.is_passed() && self.wrong.load(SeqCst) == 0
+    }
+}
+
+/// Makes one call.
+fn make<N: Node, T: Ruled + Template<N, Arena<N, <T as Ruled>::Rule>>, R: Wait>(
+    rt: &R,
+    dictionary: &Dictionary<N, T>,
+    gate: &InOrder,
+    pass: &mut Pass<N, T::Rule>,
+    call: Call,
+) -> Answer
+    requires { IsIdlePassOf dictionary.now pass.old }
+    ensures pass { IsIdlePassOf dictionary.now pass.new }
+    ensures caller { SameCaller pass.old pass.new }
+{
+    match call {
+        Call::Get(key) => Ok(dictionary.get(rt, pass, gate, key)),
+        Call::Del(key) => Ok(dictionary.del(rt, pass, gate, key)),
+        Call::Put(key) => match dictionary.put(rt, pass, gate, key, u128::from(key)) {
+            Ok(put) => Ok(put),
+            Err(full) => Err(PutLater::Full {
+                number: full.number,
+            }),
+        },
+        Call::TryPut(key) => dictionary.try_put(pass, gate, key, u128::from(key)),
+        Call::TryGet(key) => match dictionary.try_get(pass, gate, key) {
+            Ok(got) => Ok(got),
+            Err(later) => Err(PutLater::Later(later)),
+        },
     }
 }
 
@@ -77,8 +108,8 @@ fn play<N: Node, T: Ruled + Template<N, Arena<N, <T as Ruled>::Rule>>, R: Wait>(
     ensures caller { SameCaller pass.old pass.new }
 {
     for step in scene.part_of(pass.caller()) {
-        if make(rt, dictionary, &scene.gate, pass, step.0) == step.1 {
-            scene.right.fetch_add(1, SeqCst);
+        if make(rt, dictionary, &scene.gate, pass, step.0) != step.1 {
+            scene.wrong.store(1, SeqCst);
         }
     }
 }
@@ -108,7 +139,7 @@ where
     );
 }
 
-/// Puts the keys of the scene by caller 0. Returns whether none had a value, and the numbers ascended from 0.
+/// Puts the keys of the scene by caller 0. Returns whether none had a value, and the numbers went up from 0.
 fn put_keys<N: Node, T: Ruled + Template<N, Arena<N, <T as Ruled>::Rule>>, R: Wait>(
     rt: &R,
     dictionary: &Dictionary<N, T>,
@@ -119,7 +150,7 @@ fn put_keys<N: Node, T: Ruled + Template<N, Arena<N, <T as Ruled>::Rule>>, R: Wa
     requires passes { AreOrderedPassesOf dictionary.now passes.old }
     ensures { AreOrderedPassesOf dictionary.now passes.new }
 {
-    put_each(rt, dictionary, &mut passes[0], scene.keys)
+    put_each(rt, dictionary, &mut passes[0], 0, 0, scene.keys)
 }
 
 /// Plays the scene over a dictionary of this number of nodes, and returns whether it went right.

@@ -1,30 +1,13 @@
-//! Scripts that are served by threads.
 ghost use Rattle.std.specs.Prelude.{length, ◌≤◌, IfOk};
 
 use crate::crews::LONG;
 use ks_coupling::Coupling;
-use ks_dictionary::{Told, serve_callers};
-use ks_gate::{Gate, Meet, NoGate, Point};
+use ks_dictionary::serve_callers;
+use ks_gate::{Meet, NoGate, Point};
 use ks_history::{Op, Reply};
 use ks_list::ListNode;
 use std::alloc::{AllocError, Global};
-use std::sync::Wait;
 use std::test::Fail;
-use std::thread::Threads;
-
-/// Serves the scripts over a list of four nodes.
-fn serve<R: Threads + Wait + Sync, G: Gate + Sync>(
-    rt: &R,
-    alloc: Global,
-    scripts: Vec<Vec<Op>>,
-    workers: u32,
-    gate: &G,
-) -> Result<Told, AllocError>
-    requires callers { length scripts.items ≤ 1024 }
-    requires workers { (1 ≤ workers) × (workers ≤ 64) }
-{
-    serve_callers::<ListNode, Coupling, R, G>(rt, alloc, 4, scripts, workers, gate)
-}
 
 /// The calls of one caller, at two keys of its own.
 fn script(alloc: Global, key: u64) -> Result<Vec<Op>, AllocError> {
@@ -74,7 +57,9 @@ fn ascend(seen: &mut [bool; 32], lines: &[(u64, Reply)]) -> bool {
 fn four_callers_are_served_at_once(rt: HostRuntime) -> Result<(), Fail> {
     let alloc = rt.alloc();
     let scripts = four(alloc)?;
-    let told = serve(&rt, alloc, scripts, 64, &NoGate)?;
+    let told = serve_callers::<ListNode, Coupling, HostRuntime, NoGate>(
+        &rt, alloc, 4, scripts, 64, &NoGate,
+    )?;
     assert!(rt; told.lines.len() == 4);
     let mut seen = [false; 32];
     for lines in told.lines.iter() {
@@ -96,7 +81,14 @@ fn four_callers_are_served_at_once(rt: HostRuntime) -> Result<(), Fail> {
 #[test]
 fn nobody_is_served(rt: HostRuntime) -> Result<(), Fail> {
     let alloc = rt.alloc();
-    let told = serve(&rt, alloc, Vec::new(alloc), 1, &NoGate)?;
+    let told = serve_callers::<ListNode, Coupling, HostRuntime, NoGate>(
+        &rt,
+        alloc,
+        4,
+        Vec::new(alloc),
+        1,
+        &NoGate,
+    )?;
     assert!(rt; told.lines.is_empty() && told.pairs.is_empty());
     Ok(())
 }
@@ -112,14 +104,16 @@ fn one_get(alloc: Global, key: u64) -> Result<Vec<Op>, AllocError> {
     Ok(vec![in alloc; Op::Get(key)]?)
 }
 
-/// Caller 0 is stopped, once its get is decided and the root released, until caller 1 has decided its own: so neither
-/// waits for the other's end.
+/// Caller 0 is stopped, once its get is decided and the root released, until caller 1 has decided its own: so neither waits for
+/// the other's end.
 #[test]
 fn callers_run_beside_each_other(rt: HostRuntime) -> Result<(), Fail> {
     let alloc = rt.alloc();
     let gate = Meet::of(0, 0, Point::Given(0), 1, LONG);
     let scripts = two(alloc)?;
-    let told = serve(&rt, alloc, scripts, 2, &gate)?;
+    let told = serve_callers::<ListNode, Coupling, HostRuntime, Meet>(
+        &rt, alloc, 4, scripts, 2, &gate,
+    )?;
     assert!(rt; !gate.failed());
     assert!(rt; told.lines.len() == 2);
     assert!(rt; told.lines[0].len() == 1 && told.lines[1].len() == 1);

@@ -1,9 +1,7 @@
-//! What calls of a dictionary leave beside what they return, where its technique and its nodes are known.
+//! What calls of a dictionary leave beside their results, where its technique and its nodes are known.
 ghost use Rattle.std.specs.Prelude.{◌≡◌, ◌≢◌, None};
 ghost use Rattle.ks_arena.specs.Of.{WasAlone};
-ghost use Rattle.ks_dictionary.specs.Of.{HasTriedPutIn, IsIdlePassOf, place_in, site_of};
-ghost use Rattle.ks_history.specs.Done.{coupling, give_up};
-ghost use Rattle.ks_history.specs.declared.Op.TheVariants.{Put};
+ghost use Rattle.ks_dictionary.specs.Of.{IsIdlePassOf, place_in, site_of};
 ghost use Rattle.ks_shape.specs.Upkeep.{AreNewLed, HasTwoFree, IsTidyIn};
 
 use ks_arena::Pass;
@@ -13,11 +11,10 @@ use ks_dictionary::Dictionary;
 use ks_flow::{Link, Tree};
 use ks_gate::NoGate;
 use ks_giveup::GiveUp;
-use ks_hash::HNode;
 use ks_link::LinkMove;
 use ks_linked::WithLink;
 use ks_node::WithRange;
-use ks_shape::{Full, Numbered, PutLater};
+use ks_shape::{Full, Numbered};
 use std::sync::Wait;
 use std::test::Fail;
 
@@ -67,33 +64,6 @@ fn put_along_links<R: Wait>(
     map.put(rt, pass, &NoGate, key, value)
 }
 
-/// Tries to put by lock coupling. No full hash node grows in place, so what is promised where none does is promised here
-/// with no premise.
-fn try_put_by_coupling(
-    map: &Dictionary<HNode, Coupling>,
-    pass: &mut Pass<HNode, Tree>,
-    key: u64,
-    value: u128,
-) -> Result<Numbered, PutLater>
-    requires { IsIdlePassOf map.now pass.old }
-    ensures tried { HasTriedPutIn map.now coupling (Put (place_in map.now key) value) pass.old pass.new result }
-{
-    map.try_put(pass, &NoGate, key, value)
-}
-
-/// The same by giving up.
-fn try_put_by_giving_up(
-    map: &Dictionary<WithRange<HNode>, GiveUp>,
-    pass: &mut Pass<WithRange<HNode>, Tree>,
-    key: u64,
-    value: u128,
-) -> Result<Numbered, PutLater>
-    requires { IsIdlePassOf map.now pass.old }
-    ensures tried { HasTriedPutIn map.now give_up (Put (place_in map.now key) value) pass.old pass.new result }
-{
-    map.try_put(pass, &NoGate, key, value)
-}
-
 #[test]
 fn a_call_keeps_up_what_its_technique_owes(rt: HostRuntime) -> Result<(), Fail> {
     let (map, mut passes) = Dictionary::<BNode, Coupling>::start(rt.alloc(), 16, 1)?;
@@ -104,12 +74,6 @@ fn a_call_keeps_up_what_its_technique_owes(rt: HostRuntime) -> Result<(), Fail> 
     assert!(rt; told.found.is_none());
     let (map, mut passes) = Dictionary::<WithLink<BNode>, LinkMove>::start(rt.alloc(), 16, 1)?;
     let told = put_along_links(&rt, &map, &mut passes[0], 5, 50);
-    assert!(rt; matches!(told, Ok(Numbered { found: None, .. })));
-    let (map, mut passes) = Dictionary::<HNode, Coupling>::start(rt.alloc(), 16, 1)?;
-    let told = try_put_by_coupling(&map, &mut passes[0], 5, 50);
-    assert!(rt; matches!(told, Ok(Numbered { found: None, .. })));
-    let (map, mut passes) = Dictionary::<WithRange<HNode>, GiveUp>::start(rt.alloc(), 16, 1)?;
-    let told = try_put_by_giving_up(&map, &mut passes[0], 5, 50);
     assert!(rt; matches!(told, Ok(Numbered { found: None, .. })));
     Ok(())
 }

@@ -1,0 +1,9 @@
+//! Tests of compaction: what was split off is free again, and the map stays.
+#![tactic(auto)]
+
+#[cfg(test)]
+mod churn;
+#[cfg(test)]
+mod runs;
+#[cfg(test)]
+mod tests;
