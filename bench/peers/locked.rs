@@ -1,4 +1,4 @@
-//! A `BTreeMap` and the count of its calls, as they stand behind one lock.
+//! A `BTreeMap` and the count of its calls, behind one lock.
 
 use crate::serving::{Answer, Op, Value};
 use std::collections::BTreeMap;

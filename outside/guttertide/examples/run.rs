@@ -33,13 +33,13 @@ impl fmt::Display for Call {
     }
 }
 
-/// What a call is told: its number, and its reply.
-struct Told {
+/// A line of the run: the number of a call, and its reply.
+struct Line {
     number: u64,
     reply: Result<Option<u128>, Full>,
 }
 
-impl fmt::Display for Told {
+impl fmt::Display for Line {
     fn fmt(&self, f: &mut fmt::Formatter<'_>) -> fmt::Result {
         match self.reply {
             Ok(None) => write!(f, "{} none", self.number),
@@ -75,7 +75,7 @@ impl Random {
     }
 }
 
-fn make(caller: &mut Caller, call: Call) -> Told {
+fn make(caller: &mut Caller, call: Call) -> Line {
     let reply = match call {
         Call::Put(key, value) => caller.insert(key, value),
         Call::Get(key) => Ok(caller.get(key)),
@@ -83,15 +83,15 @@ fn make(caller: &mut Caller, call: Call) -> Told {
         Call::Add(key, value) => caller.add(key, value),
         Call::Swap(key, old, new) => Ok(caller.replace(key, old, new)),
     };
-    Told { number: caller.number().expect("a call was made"), reply }
+    Line { number: caller.number().expect("a call was made"), reply }
 }
 
-fn serve(caller: &mut Caller, calls: &[Call]) -> Vec<Told> {
+fn serve(caller: &mut Caller, calls: &[Call]) -> Vec<Line> {
     calls.iter().map(|&call| make(caller, call)).collect()
 }
 
-/// The script and the run, and the map by what its keys were told at the end.
-fn text(scripts: &[Vec<Call>], lines: &[Vec<Told>], map: &[Told]) -> Result<String, fmt::Error> {
+/// The script and the run, and the map by the replies to gets of its keys at the end.
+fn text(scripts: &[Vec<Call>], lines: &[Vec<Line>], map: &[Line]) -> Result<String, fmt::Error> {
     let mut text = String::from("script 2\n");
     for script in scripts {
         writeln!(text, "caller")?;
@@ -100,11 +100,11 @@ fn text(scripts: &[Vec<Call>], lines: &[Vec<Told>], map: &[Told]) -> Result<Stri
     writeln!(text, "run")?;
     for (caller, lines) in lines.iter().enumerate() {
         writeln!(text, "caller {caller}")?;
-        lines.iter().try_for_each(|told| writeln!(text, "{told}"))?;
+        lines.iter().try_for_each(|line| writeln!(text, "{line}"))?;
     }
     writeln!(text, "map")?;
-    for (key, told) in map.iter().enumerate() {
-        if let Ok(Some(value)) = told.reply {
+    for (key, line) in map.iter().enumerate() {
+        if let Ok(Some(value)) = line.reply {
             writeln!(text, "{key} {value}")?;
         }
     }
@@ -117,15 +117,15 @@ fn main() -> Result<(), Box<dyn Error>> {
     let mut scripts: Vec<Vec<Call>> = (0..CALLERS).map(|_| (0..CALLS).map(|_| random.call()).collect()).collect();
     let dictionary = Dictionary::open(NODES, CALLERS)?;
     let mut callers: Vec<Caller> = std::iter::from_fn(|| dictionary.caller()).collect();
-    let mut told: Vec<Vec<Told>> = thread::scope(|scope| {
+    let mut lines: Vec<Vec<Line>> = thread::scope(|scope| {
         let work = callers.iter_mut().zip(&scripts);
         let threads: Vec<_> = work.map(|(caller, script)| scope.spawn(move || serve(caller, script))).collect();
         threads.into_iter().map(|thread| thread.join().expect("a thread ends")).collect()
     });
     // When all threads have ended, the first caller asks for each key.
     let all: Vec<Call> = (0..KEYS).map(Call::Get).collect();
-    told[0].extend(serve(&mut callers[0], &all));
+    lines[0].extend(serve(&mut callers[0], &all));
     scripts[0].extend(all);
-    print!("{}", text(&scripts, &told, &told[0][CALLS..])?);
+    print!("{}", text(&scripts, &lines, &lines[0][CALLS..])?);
     Ok(())
 }

@@ -47,7 +47,7 @@ impl Map for &Mutex<BTreeMap<u64, u128>> {
     }
 }
 
-/// Makes the calls of one thread, and answers how many gets found a value.
+/// Makes the calls of one thread, and returns how many gets found a value.
 fn serve(map: &mut impl Map, seed: u64) -> u32 {
     let mut state = seed;
     let mut found = 0;

@@ -7,9 +7,9 @@ use std::fmt;
 /// Why a dictionary was not opened.
 #[derive(Clone, Copy, Debug, PartialEq, Eq)]
 pub enum OpenError {
-    /// No dictionary has so many nodes: see [`NODES`].
+    /// No dictionary has this number of nodes: see [`NODES`].
     Nodes(u32),
-    /// No dictionary has so many callers: see [`CALLERS`].
+    /// No dictionary has this number of callers: see [`CALLERS`].
     Callers(usize),
     /// The system gave too little memory.
     OutOfMemory,

@@ -40,9 +40,9 @@ impl Handle {
         Handle(raw::KS_NO_CALLER)
     }
 
-    /// Opens a dictionary of so many nodes, whose callers these handles get. The code is the library's.
+    /// Opens a dictionary of this number of nodes, whose callers these handles get. The code is the library's.
     pub(crate) fn open(nodes: u32, handles: &mut [Handle]) -> u32 {
-        // SAFETY: `Handle` is a `ks_caller` in memory, and the slice has so many of them, which nobody else has.
+        // SAFETY: `Handle` is a `ks_caller` in memory, and the slice has this number of them, which nobody else has.
         unsafe { raw::ks_c_open(nodes, handles.as_mut_ptr().cast::<ks_caller>(), handles.len()) }
     }
 

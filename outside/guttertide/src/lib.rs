@@ -72,7 +72,7 @@ pub struct Dictionary {
 }
 
 impl Dictionary {
-    /// Opens an empty dictionary of so many nodes ([`NODES`]), for at most so many callers at a time ([`CALLERS`]).
+    /// Opens an empty dictionary of `nodes` nodes ([`NODES`]), for at most `callers` callers at a time ([`CALLERS`]).
     ///
     /// All memory that it will use is taken now, some 600 bytes a node. A node holds at most 16 keys, and after inserts
     /// in any order at least 8, so a fifth of the number of keys is enough nodes. A node that has been used stays in

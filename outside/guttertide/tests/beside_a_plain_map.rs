@@ -77,7 +77,7 @@ fn split(reply: Result<Option<u128>, TryInsertError>) -> Result<Reply, Busy> {
     }
 }
 
-/// An endless supply of random calls at so many keys.
+/// An endless supply of random calls at this number of keys.
 fn calls(seed: u64, keys: u64) -> impl Iterator<Item = Call> {
     let mut state = seed;
     let mut draw = move |below: u64| {
@@ -116,7 +116,7 @@ fn on_threads(
     })
 }
 
-/// Makes all calls again on a plain map, in the order of their numbers, and answers it and how many were full.
+/// Makes all calls again on a plain map, in the order of their numbers, and returns it and how many were full.
 fn replay(threads: Vec<Vec<Made>>) -> (Plain, usize) {
     for made in &threads {
         assert!(made.is_sorted_by(|one, next| one.number < next.number), "a caller's calls stand in their order");
@@ -143,7 +143,7 @@ fn assert_same(dictionary: &Dictionary, plain: &Plain, keys: u64) {
     }
 }
 
-/// Makes so many calls on each of so many threads, each of which waits, and answers how many were full.
+/// Makes `calls` calls that wait on each of some threads, and returns how many were full.
 fn wait_on_threads(nodes: u32, threads: u64, keys: u64, each: usize) -> Result<usize, OpenError> {
     let dictionary = Dictionary::open(nodes, threads as usize)?;
     let made = on_threads(&dictionary, threads, |thread, caller| {
