@@ -6,11 +6,12 @@ ghost use Rattle.std.specs.Cmp.Rules.{comparing};
 ghost use Rattle.ks_keysets.specs.Paired.{same_pairs};
 
 use crate::Pair;
+use std::fmt::{self, Debug, Formatter};
 use std::marker::Model;
 
 /// At most 16 pairs, in the order in which they were pushed. It is 400 bytes and needs no allocator; a clause reads it
 /// as the list of its pairs.
-#[derive(Debug, Drop)]
+#[derive(Drop)]
 pub struct Few {
     values: [u128; 16],
     places: [u64; 16],
@@ -81,6 +82,16 @@ impl Few {
             places: self.places,
             len: self.len,
         }
+    }
+}
+
+impl Debug for Few {
+    fn fmt<W: fmt::Write>(&self, f: &mut Formatter<W>) -> fmt::Result {
+        let mut list = f.debug_list();
+        for at in 0..self.len() {
+            list.entry(&self.pair(at));
+        }
+        list.finish()
     }
 }
 
