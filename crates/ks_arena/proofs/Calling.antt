@@ -52,11 +52,11 @@ filled layout b leaf full = go b.kind refl leaf
     go Directory e leaf = absurd (let q : is_branch_kind Directory ≡ false = subst (λ (z : Kind). is_branch_kind z ≡ false) e leaf in let z : ⊥ = cc in z)
 
 module _ {N : Type 0} (sort : Sort) (shows : N → Body) where
-  live_if : (live : Bool) (s : NodeState) (f : Frame) (b : N) → live ≡ true → MatchesIf sort shows live s f b → (s ≡ Live (record_of (shows b))) × (f ≡ frame_of (shows b))
+  pub live_if : (live : Bool) (s : NodeState) (f : Frame) (b : N) → live ≡ true → MatchesIf sort shows live s f b → (s ≡ Live (record_of (shows b))) × (f ≡ frame_of (shows b))
   live_if true s f b e so = so
   live_if false s f b e so = absurd (let q : ⊥ = cc in q)
 
-  abbrev shown : (h : List Event) (x : Hand N) → x.live ≡ true → Matches sort shows h x → (graph_after h x.node ≡ Live (record_of (shows x.body))) × (frame_after (blank_of sort) h x.node ≡ frame_of (shows x.body))
+  abbrev pub shown : (h : List Event) (x : Hand N) → x.live ≡ true → Matches sort shows h x → (graph_after h x.node ≡ Live (record_of (shows x.body))) × (frame_after (blank_of sort) h x.node ≡ frame_of (shows x.body))
   shown h x live m = live_if x.live (graph_after h x.node) (frame_after (blank_of sort) h x.node) x.body live m.is
 
   -- the inset of the root has every place

@@ -9,6 +9,7 @@ pub mod After
 pub mod Rest
 pub mod Taking
 pub mod Ready
+pub mod AtTwo
 pub mod Crew
 pub mod Closing
 pub mod Tries
@@ -16,3 +17,4 @@ pub mod Learning
 pub mod Entries
 pub mod Crosses
 pub mod Calling
+pub mod Parts

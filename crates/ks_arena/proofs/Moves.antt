@@ -21,11 +21,11 @@ use Rattle.ks_history.specs.declared.Answered.{Answered}
 use Rattle.ks_history.specs.declared.Op.{Op}
 use Rattle.ks_history.specs.declared.Reply.{Reply}
 use Rattle.ks_history.specs.declared.Event.{Event}
-use Rattle.ks_history.specs.declared.Event.TheVariants.{Take, Give, Claim, Shape, Call}
+use Rattle.ks_history.specs.declared.Event.TheVariants.{Take, Give, Claim, Shape, Call, Twin}
 use Rattle.ks_history.specs.Trace.{Turn, free, idle, held, turn_given, given, state_with, graph_after, turn_after, number_after, calls_of, caller_of}
 use Rattle.ks_history.specs.Frames.{frame_after}
 use Rattle.ks_history.specs.Own.{shapes_in}
-use Rattle.ks_history.specs.Write.{written}
+use Rattle.ks_history.specs.Write.{written, taken_out, put_in}
 use Rattle.ks_history.specs.Passes.{Has, GrowsByOthers}
 use Rattle.ks_history.specs.Callers.{CallersBelow}
 use Rattle.std.specs.Int.{bit_at, bit_not}
@@ -38,7 +38,7 @@ use Rattle.ks_arena.specs.Sound.{Sort, blank_of, Sound, StepsSoundly}
 use Rattle.ks_arena.specs.Spots.{calls_at, shapes_at, turn_at, free_at}
 use Rattle.ks_arena.specs.Rule.{Rests, Running, turn_word, Marks, SomeMarks, FreeBits, callers_in, all_callers}
 use Rattle.ks_history.specs.Stays.{StaysHeld}
-use Rattle.ks_history.specs.Laws.Stays.{cond_here, cond_else}
+use Rattle.ks_history.specs.Laws.Stays.{cond_here, cond_else, twice_else}
 use Rattle.ks_history.specs.Laws.Begins.{none_by, by_others_keeps}
 use Rattle.ks_arena.specs.Plays.{Seated, with_seen, marked, TellsFree, Looks, Makes, drop_slot, InHand, HasSlots, Shows, TookAt, took, ClaimedAt, claimed, gave, brought, bit_was_set, bit_was_cleared, scanned, decided, formed}
 use Rattle.ks_arena.proofs.Apart.{turn_back, free_back, count_inside, bit_inside}
@@ -370,6 +370,21 @@ module _ {N : Type 0} (sort : Sort) (begins : Frame → Type 0) (asks : (ℕ →
         tt,
         counts_at sort begins asks shows s r id me.0 e calls_at ((x + 1) % 2 ^ 64) at bare (has_one me.0.callers c mine) small (omega arith) so (λ j. refl)
             (λ j. dite (ℕ_discrete j i) (λ z. inr (c, ap (turn_after h) z ∙ own.turn)) (λ z. inl (cond_else j i (state_with (written o y) (graph_after h i)) (graph_after h j) z, refl)))
+            (get_or-set_same s.words calls_at ((x + 1) % 2 ^ 64) 0 (count_in s r calls_at (omega arith)) ∙ one_more (length (calls_of h)) (length (calls_of (e ∷ h))) x (a_call_more (calls_of h) record { op = o; reply = y }) count) (get_or-set_other s.words calls_at shapes_at ((x + 1) % 2 ^ 64) 0 (λ z. omega arith) ∙ r.shape_count),
+        (makes_one n s r id me.0 e long at (has_one me.0.callers c mine) so, refl, count ∙ ap number_after f.is),
+      ))
+
+  -- the same of a call at two nodes, both held
+  pub twin_ok : (n id : ℕ) (me : Seated N) (c i m : ℕ) (o : Op) (y : Reply) (e : Event) → e ≡ Twin c i m o y → me.0.callers ≡ c ∷ [] → me.0.absorbed ≡ [] → c < 2 ^ 32 → turn_after me.0.seen i ≡ held c → turn_after me.0.seen m ≡ held c → May sort begins asks n c me.0.seen (Twin c i m o y)
+      → Allows Rule n id me calls_at (λ x. (x + 1) % 2 ^ 64) (decided sort begins asks shows (step n calls_at 1 0 none) e me)
+  twin_ok n id me c i m o y said_ said mine bare small holds also may = subst (λ (z : Event). Allows Rule n id me calls_at (λ x. (x + 1) % 2 ^ 64) (decided sort begins asks shows (step n calls_at 1 0 none) z me)) (sym said) (λ s r long at _.
+      let h : List Event = r.trace in let own = own_now s r id me.0 c i at mine holds in let other = own_now s r id me.0 c m at mine also in let e : Event = Twin c i m o y in let so = now n s r id me.0 c e long at mine may in
+      let count : get_or s.words calls_at 0 ≡ number_after h = r.call_count in let x : ℕ = get_or s.words calls_at 0 in let f = r.views.each id me.0 at in (
+        with_seen me.0 (e ∷ h),
+        keeps,
+        tt,
+        counts_at sort begins asks shows s r id me.0 e calls_at ((x + 1) % 2 ^ 64) at bare (has_one me.0.callers c mine) small (omega arith) so (λ j. refl)
+            (λ j. dite (ℕ_discrete j i) (λ z. inr (c, ap (turn_after h) z ∙ own.turn)) (λ z. dite (ℕ_discrete j m) (λ w. inr (c, ap (turn_after h) w ∙ other.turn)) (λ w. inl (twice_else (taken_out (written o y)) (put_in (written o y)) i m (graph_after h) j z w, refl))))
             (get_or-set_same s.words calls_at ((x + 1) % 2 ^ 64) 0 (count_in s r calls_at (omega arith)) ∙ one_more (length (calls_of h)) (length (calls_of (e ∷ h))) x (a_call_more (calls_of h) record { op = o; reply = y }) count) (get_or-set_other s.words calls_at shapes_at ((x + 1) % 2 ^ 64) 0 (λ z. omega arith) ∙ r.shape_count),
         (makes_one n s r id me.0 e long at (has_one me.0.callers c mine) so, refl, count ∙ ap number_after f.is),
       ))

@@ -7,5 +7,6 @@ pub mod Plays
 pub mod Clauses
 pub mod Ended
 pub mod Of
+pub mod AtTwo
 pub mod Words
 pub mod Laws

@@ -6,9 +6,10 @@ use Rattle.ks_keysets.specs.declared.NodeState.{NodeState}
 use Rattle.ks_keysets.specs.declared.Record.{Record}
 use Rattle.ks_keysets.specs.Keyset.{record_at, IsLive, InKeyset}
 use Rattle.ks_history.specs.declared.Event.{Event}
-use Rattle.ks_history.specs.declared.Event.TheVariants.{Take, Give, Claim, Shape, Call}
+use Rattle.ks_history.specs.declared.Event.TheVariants.{Take, Give, Claim, Shape, Call, Twin}
 use Rattle.ks_history.specs.Refusals.{Sometime}
 use Rattle.ks_history.specs.Map.{Touches}
+use Rattle.ks_history.specs.Lawful.{MovesBetween}
 use Rattle.ks_history.specs.Trace.{free, held, graph_after, turn_after}
 
 -- node i was used again between h and k: it was live at some moment, not live at a later one, and live again at one after that
@@ -21,13 +22,14 @@ NoEdgeTo g i = (n : ℕ) (r : Record) → record_at g n ≡ Some r → ¬ Any (�
 
 -- an event after h that does no harm: it takes a node that is live; claims one that nobody holds, and to which no edge of a
 -- live node leads; releases or shapes what its caller holds; or is a call at a node whose keyset then has the places of the
--- operation, whatever the node was before
+-- operation, or at two nodes, one for each place, whatever the nodes were before
 abbrev pub StepsSafely : List Event → Event → Type 0
 StepsSafely h (Take c i) = IsLive (graph_after h) i
 StepsSafely h (Claim c i) = (turn_after h i ≡ free) × NoEdgeTo (graph_after h) i
 StepsSafely h (Give c i) = turn_after h i ≡ held c
 StepsSafely h (Shape c changes) = All (λ x. turn_after h x.node ≡ held c) changes
 StepsSafely h (Call c i op reply) = (p : ℕ) → Touches op p → InKeyset (graph_after h) i p
+StepsSafely h (Twin c i j op reply) = MovesBetween (graph_after h) i j op reply
 
 abbrev pub AreSafe : List Event → Type 0
 AreSafe [] = Unit {0}

@@ -6,7 +6,7 @@ use Rattle.ks_keysets.specs.declared.Change.{Change}
 use Rattle.ks_node.specs.Body.{frame_of, blank_body}
 use Rattle.ks_keysets.specs.Layout.{Layout}
 use Rattle.ks_history.specs.declared.Event.{Event}
-use Rattle.ks_history.specs.declared.Event.TheVariants.{Take, Give, Claim, Shape, Call}
+use Rattle.ks_history.specs.declared.Event.TheVariants.{Take, Give, Claim, Shape, Call, Twin}
 use Rattle.ks_history.specs.Trace.{held, graph_after, turn_after}
 use Rattle.ks_history.specs.Frames.{frame_after}
 use Rattle.ks_history.specs.Lawful.{Meets}
@@ -36,6 +36,7 @@ module _ (sort : Sort) (begins : Frame → Type 0) (asks : (ℕ → NodeState) �
       × AllPairs (λ x y. x.node ≡ y.node → ⊥) changes
       × asks (graph_after h) (frame_after (blank_of sort) h) changes
   StepsSoundly h (Call c i op reply) = Meets h (Call c i op reply) × IsDue sort.layout nodes h (Call c i op reply)
+  StepsSoundly h (Twin c i j op reply) = Meets h (Twin c i j op reply) × IsDue sort.layout nodes h (Twin c i j op reply)
 
   -- the discipline fits the node type, and each event meets its condition
   abbrev pub Sound : List Event → Type 0

@@ -1,14 +1,14 @@
 //! What makes a call ready to be decided. The functions compute nothing: their contracts are laws.
-ghost use Rattle.std.specs.Prelude.{ℕ, ◌≡◌, ◌≢◌, List, IsTrue, Some, None, true, false};
+ghost use Rattle.std.specs.Prelude.{ℕ, ◌≡◌, ◌≢◌, ◌≤◌, List, IsTrue, Some, None, true, false};
 ghost use Rattle.ks_keysets.specs.Keyset.{InInset};
 ghost use Rattle.ks_history.specs.declared.Event.{Event as Happening};
-ghost use Rattle.ks_history.specs.declared.Op.TheVariants.{Add, Del, Get, Put, Swap};
-ghost use Rattle.ks_history.specs.declared.Reply.TheVariants.{Full, Nothing, Value};
+ghost use Rattle.ks_history.specs.declared.Op.TheVariants.{Add, Del, Get, Part, Put, Swap};
+ghost use Rattle.ks_history.specs.declared.Reply.TheVariants.{Full, Listed, Nothing, Value};
 ghost use Rattle.ks_history.specs.Map.{told};
 ghost use Rattle.ks_history.specs.Trace.{graph_after};
 ghost use Rattle.ks_node.specs.declared.start.Next.TheVariants.{Here};
 ghost use Rattle.ks_node.specs.Body.{is_branch, next_at, value_at};
-ghost use Rattle.ks_node.specs.Effect.{pairs_del, pairs_put};
+ghost use Rattle.ks_node.specs.Effect.{pairs_del, pairs_put, pairs_within};
 ghost use Rattle.ks_node.specs.Room.{is_full};
 ghost use Rattle.ks_arena.specs.Sound.{sort_of};
 ghost use Rattle.ks_arena.specs.Clauses.{Matches};
@@ -18,6 +18,7 @@ use crate::arena::Arena;
 use crate::held::{Held, Pass};
 use crate::laws::sound_law;
 use ks_flow::Discipline;
+use ks_keysets::Few;
 use ks_node::{Node, node_law};
 
 /// The inset of the root has every place.
@@ -38,6 +39,21 @@ impl<N: Node, D: Discipline> Arena<N, D> {
         requires here { next_at (N.body held.now.body) place ≡ Here }
         requires found { found ≡ value_at (N.body held.now.body).pairs place }
         ensures { IsReadyAt self.now pass.now held.now (Get place) (told found) }
+    {
+        sound_law::<D>();
+        node_law(&held.body);
+    }
+
+    /// A Part may be decided at a live node that the caller holds, whose inset has all its places, and where the search for
+    /// each of them ends. Its reply is the pairs that the body has there.
+    pub fn part_law(&self, pass: &Pass<N, D>, held: &Held<N>, low: u64, last: u64, pairs: &Few)
+        requires pass { IsPassOf self.now pass.now }
+        requires holds { Holds pass.now held.now.node }
+        requires body { IsLiveAndCurrent self.now pass.now held.now }
+        requires inside { (p : ℕ) → low ≤ p → p ≤ last → IsInside pass.now held.now.node p }
+        requires here { (p : ℕ) → low ≤ p → p ≤ last → next_at (N.body held.now.body) p ≡ Here }
+        requires pairs { pairs.now ≡ pairs_within low last (N.body held.now.body).pairs }
+        ensures { IsReadyAt self.now pass.now held.now (Part low last) (Listed pairs.now) }
     {
         sound_law::<D>();
         node_law(&held.body);

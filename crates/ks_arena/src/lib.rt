@@ -6,6 +6,7 @@
 #![tactic(auto)]
 
 mod arena;
+mod at_two;
 mod bell;
 mod calls;
 mod claim;

@@ -4,7 +4,7 @@ use Rattle.std.proofs.Common.{◌≡◌, ℕ, suc, ◌==◌, Bool, true, false, 
 use Rattle.std.proofs.lemmas.List.{length-append}
 use Rattle.std.proofs.lemmas.List.Elements.{All-cons, All-nil, All-append, All-weaker}
 use Rattle.ks_history.specs.declared.Event.{Event}
-use Rattle.ks_history.specs.declared.Event.TheVariants.{Take, Give, Claim, Shape, Call}
+use Rattle.ks_history.specs.declared.Event.TheVariants.{Take, Give, Claim, Shape, Call, Twin}
 use Rattle.ks_history.specs.declared.Op.{Op}
 use Rattle.ks_history.specs.declared.Reply.{Reply}
 use Rattle.ks_history.specs.declared.Answered.{Answered}
@@ -56,6 +56,7 @@ numbers c (Give d j ∷ h) few = let so = numbers c h few in record { below = so
 numbers c (Claim d j ∷ h) few = let so = numbers c h few in record { below = so.below; ascend = so.ascend }
 numbers c (Shape d xs ∷ h) few = let so = numbers c h few in record { below = so.below; ascend = so.ascend }
 numbers c (Call d j op reply ∷ h) few = with_call c d j op reply h few (numbers c h (omega (arith, few, one_more h (record { op = op; reply = reply }))))
+numbers c (Twin d j k op reply ∷ h) few = let so = with_call c d j op reply h few (numbers c h (omega (arith, few, one_more h (record { op = op; reply = reply })))) in record { below = so.below; ascend = so.ascend }
 
 later : (xs ys : List NumberedCall) → Ascends (λ x. x.number) (xs ++ ys) → Ascends (λ x. x.number) ys
 later [] ys up = up

@@ -4,3 +4,4 @@ pub mod Loading
 pub mod Due
 pub mod Made
 pub mod Instances
+pub mod Plain

@@ -5,7 +5,9 @@ use Rattle.ks_history.specs.declared.Op.{Op}
 use Rattle.ks_script.specs.declared.version.Version.{Version}
 use Rattle.ks_script.specs.declared.version.Version.TheVariants.{First, Second}
 use Rattle.ks_script.specs.Version.{callers_limit}
+use Rattle.ks_history.specs.Asked.{AreAsked}
 use Rattle.ks_script.specs.Script.{ScriptOf}
+use Rattle.ks_script.specs.Laws.Asked.{asked_in_script}
 use Rattle.ks_batch.specs.declared.words.Text.{Text}
 use Rattle.ks_batch.specs.declared.words.Text.TheVariants.{Script, Checked}
 use Rattle.ks_batch.specs.declared.input.Stop.{Stop}
@@ -42,3 +44,8 @@ within Second n le = le
 pub few_read : (bytes : List ℕ) (r : Result (List (List Op)) Stop) → IfOk r (λ script. ScriptOf bytes script) → IfOk r (λ script. length script ≤ 1024)
 few_read bytes (Ok script) is = within is.0 (length script) is.1.is.callers
 few_read bytes (Err stop) is = tt
+
+-- and each operation is asked for
+pub asked_read : (bytes : List ℕ) (r : Result (List (List Op)) Stop) → IfOk r (λ script. ScriptOf bytes script) → IfOk r (λ script. AreAsked script)
+asked_read bytes (Ok script) is = asked_in_script bytes script is
+asked_read bytes (Err stop) is = tt

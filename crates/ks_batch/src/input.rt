@@ -1,6 +1,7 @@
 //! Reads what a command works on from its source.
 
 ghost use Rattle.std.specs.Prelude.{ℕ, ◌≡◌, ◌≤◌, length, Some, [], IfOk, OnOk, IfErr, IfSome};
+ghost use Rattle.ks_history.specs.Asked.{AreAsked};
 ghost use Rattle.ks_script.specs.Outside.{Rose};
 ghost use Rattle.ks_script.specs.Script.{ScriptOf, calls_in};
 ghost use Rattle.ks_script.specs.Checked.{CheckedOf};
@@ -81,6 +82,7 @@ fn checked(alloc: Global, bytes: &[u8]) -> Result<(Script, Printed), Stop>
 pub fn load<S: Source>(alloc: Global, source: &mut S) -> Result<Script, Stop>
     ensures ok { IfOk result (λ script. IfSome (S.left source.old) (λ bytes. Accepts bytes script)) }
     ensures callers { IfOk result (λ script. length script ≤ 1024) }
+    ensures asked { IfOk result (λ script. AreAsked script) }
     ensures end { OnOk result (IfSome (S.left source.old) (λ _. S.left source.new ≡ Some [])) }
     ensures line { IfErr result (λ stop. ReadToEnd stop (S.left source.old) (S.left source.new)) }
     ensures cause { IfErr result

@@ -1,6 +1,7 @@
 //! Calls and replies between the texts, which hold them packed, and the dictionary, which holds each by itself.
 
-ghost use Rattle.std.specs.Prelude.{◌≡◌, length, map, IfOk};
+ghost use Rattle.std.specs.Prelude.{◌≡◌, length, map, All, IfOk};
+ghost use Rattle.ks_script.specs.Plain.{IsPlain};
 
 use ks_history::{Op, Reply};
 use ks_script::{Calls, Lines, Script};
@@ -25,8 +26,9 @@ fn each_caller(alloc: Global, script: &[Calls]) -> Result<Vec<Vec<Op>>, AllocErr
     Ok(callers)
 }
 
-/// The replies to each caller, packed.
+/// The replies to each caller, which are plain, packed.
 pub fn packed(alloc: Global, callers: &[Vec<(u64, Reply)>]) -> Result<Vec<Lines>, AllocError>
+    requires { All (λ lines. All (λ line. IsPlain line.1) lines.items) callers.now }
     ensures { IfOk result (λ packed. packed.items ≡ map (λ v. v.items) callers.now) }
 {
     let mut packed = Vec::with_capacity(alloc, callers.len())?;

@@ -5,6 +5,7 @@ ghost use Rattle.ks_history.specs.Due.{FullsDue};
 ghost use Rattle.ks_history.specs.Lawful.{Lawful, GoodThroughout};
 ghost use Rattle.ks_history.specs.Callers.{CallersBelow};
 ghost use Rattle.ks_history.specs.Served.{Served};
+ghost use Rattle.ks_history.specs.Asked.{AreAsked};
 ghost use Rattle.ks_arena.specs.Named.{AllNamedBelow};
 ghost use Rattle.ks_batch.specs.Pairings.{row_of};
 
@@ -57,6 +58,7 @@ pub fn serve_by<R: Threads + Wait + Sync, G: Gate + Sync>(
 ) -> Result<Told, AllocError>
     requires nodes { (4 ≤ nodes) × (nodes ≤ 1048576) }
     requires callers { length callers.items ≤ 1024 }
+    requires asked { AreAsked (map (λ v. v.items) callers.items) }
     requires workers { (1 ≤ workers) × (workers ≤ 64) }
     ensures served { IfOk result
         (λ told. Served (row_of pairing).place (map (λ v. v.items) callers.items) (map (λ v. v.items) told.lines.items)

@@ -1,12 +1,14 @@
 //! What the program does: it serves a script, or judges a printed run, from bytes to bytes.
 
-ghost use Rattle.std.specs.Prelude.{◌≡◌, ◌≢◌, ◌≤◌, ◌⊎◌, ◌↔◌, length, map, Some, [], IfOk, OnOk, OnErr, IfErr, IfSome, IsSome, IsNone};
+ghost use Rattle.std.specs.Prelude.{◌≡◌, ◌≢◌, ◌≤◌, ◌⊎◌, ◌↔◌, length, map, All, Some, [], IfOk, OnOk, OnErr, IfErr, IfSome, IsSome, IsNone};
 ghost use Rattle.ks_history.specs.Due.{FullsDue};
 ghost use Rattle.ks_history.specs.Served.{Served};
+ghost use Rattle.ks_history.specs.Asked.{AreAsked};
 ghost use Rattle.ks_history.specs.Lawful.{Lawful, GoodThroughout};
 ghost use Rattle.ks_history.specs.Callers.{CallersBelow};
 ghost use Rattle.ks_arena.specs.Named.{AllNamedBelow};
 ghost use Rattle.ks_script.specs.Outside.{Rose, Grew, GrewByFront};
+ghost use Rattle.ks_script.specs.Plain.{IsPlain};
 ghost use Rattle.ks_batch.specs.declared.words.Text.TheVariants as text;
 ghost use Rattle.ks_batch.specs.declared.pairings.Pairing.{Pairing};
 ghost use Rattle.ks_batch.specs.Pairings.{row_of};
@@ -70,6 +72,7 @@ struct Ready {
 }
 
 fn to_print(alloc: Global, told: Told) -> Result<Ready, AllocError>
+    requires plain { All (λ lines. All (λ line. IsPlain line.1) lines.items) told.lines.items }
     ensures trace { IfOk result (λ ready. ready.trace ≡ told.trace) }
     ensures callers { IfOk result (λ ready. ready.printed.callers ≡ map (λ v. v.items) told.lines.items) }
     ensures pairs { IfOk result (λ ready. ready.printed.pairs ≡ told.pairs.items) }
@@ -96,6 +99,7 @@ fn serve_packed<R: Threads + Wait + Sync, G: Gate + Sync>(
 ) -> Result<Ready, AllocError>
     requires arena { (4 ≤ arena) × (arena ≤ 1048576) }
     requires callers { length script.now ≤ 1024 }
+    requires asked { AreAsked script.now }
     requires workers { (1 ≤ workers) × (workers ≤ 64) }
     ensures served { IfOk result
         (λ ready. Served (row_of pairing).place script.now ready.printed.callers ready.printed.pairs ready.trace) }

@@ -245,6 +245,6 @@ fn call<N: Node, T: Ruled + Template<N, Arena<N, <T as Ruled>::Rule>>, R: Wait>(
         },
         Op::Del(key) => dictionary.del(rt, pass, &NoGate, key).found,
         // (none is drawn)
-        Op::Add(_, _) | Op::Swap(_, _, _) => None,
+        Op::Add(..) | Op::Swap(..) | Op::Part(..) | Op::Move(..) => None,
     }
 }

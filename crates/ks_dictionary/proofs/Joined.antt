@@ -15,7 +15,7 @@ use Rattle.ks_keysets.specs.declared.NodeState.{NodeState}
 use Rattle.ks_history.specs.declared.Op.{Op}
 use Rattle.ks_history.specs.declared.Reply.{Reply}
 use Rattle.ks_history.specs.declared.Event.{Event}
-use Rattle.ks_history.specs.declared.Event.TheVariants.{Take, Give, Claim, Shape, Call}
+use Rattle.ks_history.specs.declared.Event.TheVariants.{Take, Give, Claim, Shape, Call, Twin}
 use Rattle.ks_history.specs.Trace.{calls_by, calls_of}
 use Rattle.ks_history.specs.Own.{hand}
 use Rattle.ks_history.specs.Map.{map_after, Legal}
@@ -23,6 +23,7 @@ use Rattle.ks_history.specs.Laws.Calls.{by_others_calls}
 use Rattle.ks_history.specs.Callers.{NoneBy, CallersBelow}
 use Rattle.ks_history.specs.Passes.{GrowsByOthers}
 use Rattle.ks_history.specs.Served.{at_place, CalledBelow, IsListing, Served}
+use Rattle.ks_history.specs.Asked.{IsAsked, AreAsked}
 use Rattle.ks_arena.specs.declared.held.Pass.{Pass}
 use Rattle.ks_arena.specs.Sound.{Sort}
 use Rattle.ks_arena.specs.Clauses.{EndsAll, seen_of}
@@ -107,6 +108,7 @@ called_below n (Give c i ∷ h) so = (tt, called_below n h so.1)
 called_below n (Claim c i ∷ h) so = (tt, called_below n h so.1)
 called_below n (Shape c changes ∷ h) so = (tt, called_below n h so.1)
 called_below n (Call c i op reply ∷ h) so = (so.0, called_below n h so.1)
+called_below n (Twin c i j op reply ∷ h) so = (so.0, called_below n h so.1)
 
 -- a trace without an event of caller 0 and of all others
 none_at_all : (h : List Event) → NoneBy 0 h → CallersBelow 1 h → h ≡ []
@@ -159,9 +161,9 @@ module _ (sort : Sort) (begins : Frame → Type 0) (step : (ℕ → NodeState) �
 
 module _ (a : Site) {N D W : Type 0} where
   -- new passes with scripts and room wait
-  pub all_wait : (js : List (Job N D W)) → AreNew a (map (λ j. j.pass) js) → All HasRoom js
+  pub all_wait : (js : List (Job N D W)) → AreNew a (map (λ j. j.pass) js) → All HasRoom js → AreAsked (map (λ j. j.ops.items) js)
       → EachAs (WaitsAs a (map (λ j. j.ops.items) js)) js
-  all_wait js crew room t near =
+  all_wait js crew room asked t near =
       let at = elem_at js t near in
       let j : Job N D W = at.0 in
       let new = crew.each t j.pass (at_map (λ x. x.pass) js t j at.1) in (
@@ -172,6 +174,8 @@ module _ (a : Site) {N D W : Type 0} where
             pass = (new.pass, ap (hand j.pass.caller) new.seen);
             fresh = ap (calls_by j.pass.caller) new.seen;
             lines = subst (λ (x : Job N D W). HasRoom x) (at_or js t j j at.1) (room t j near);
+            asked = let ops : List (List Op) = map (λ x. x.ops.items) js in
+                subst (λ (xs : List Op). All IsAsked xs) (at_or ops t j.ops.items j.ops.items (at_map (λ x. x.ops.items) js t j at.1)) (asked t j.ops.items (subst (λ (n : ℕ). t < n) (sym (length-map js (λ x. x.ops.items))) near));
           };
           caller = new.caller;
           script = at_map (λ x. x.ops.items) js t j at.1;

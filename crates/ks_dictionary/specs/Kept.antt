@@ -6,26 +6,28 @@ use Rattle.ks_history.specs.declared.Reply.{Reply}
 use Rattle.ks_history.specs.declared.Reply.TheVariants.{Nothing}
 use Rattle.ks_history.specs.declared.Answered.{Answered}
 use Rattle.ks_history.specs.Map.{told}
-use Rattle.ks_history.specs.Write.{Write, keeps, sets, removes, written}
+use Rattle.ks_history.specs.Write.{Write, keeps, sets, removes, moves, written}
 
 -- the write leaves something else, or nothing, at the place
 abbrev pub WritesAt : Write → ℕ → Type 0
 WritesAt keeps p = ⊥
 WritesAt (sets q v) p = p ≡ q
 WritesAt (removes q) p = p ≡ q
+WritesAt (moves q r v) p = (p ≡ q) ⊎ (p ≡ r)
 
--- the write leaves nothing at the place
+-- the write leaves nothing at the place, or moves its value to another one
 abbrev pub Removes : Write → ℕ → Type 0
 Removes keeps p = ⊥
 Removes (sets q v) p = ⊥
 Removes (removes q) p = p ≡ q
+Removes (moves q r v) p = p ≡ q
 
 -- some of these calls wrote at the place
 abbrev pub Changed : ℕ → List Answered → Type 0
 Changed p [] = ⊥
 Changed p (a ∷ more) = WritesAt (written a.op a.reply) p ⊎ Changed p more
 
--- some of these calls removed the value at the place
+-- some of these calls removed the value at the place, or moved it to another one
 abbrev pub Removed : ℕ → List Answered → Type 0
 Removed p [] = ⊥
 Removed p (a ∷ more) = Removes (written a.op a.reply) p ⊎ Removed p more
@@ -43,7 +45,7 @@ pub record FindsPut (p v : ℕ) (found : Option ℕ) (calls : List Answered) : T
   pub is : calls ≡ before ++ replied (Put p v) reply ∷ (between ++ replied (Get p) (told found) ∷ after)
   pub kept : (found ≡ Some v) ⊎ Changed p between
 
--- if two adds at one place both found nothing there, some call between them removed what the first had added
+-- if two adds at one place both found nothing there, some call between them removed what the first had added, or moved it
 abbrev pub AddedOnce : List Answered → Type 0
 AddedOnce calls =
     (p v w : ℕ) (before between after : List Answered)

@@ -1,5 +1,5 @@
 -- What the work of a caller begins with, and what it leaves.
-use Rattle.std.specs.Prelude.{ℕ, ◌≡◌, ◌≤◌, List, [], ◌++◌, map, length, vec_capacity}
+use Rattle.std.specs.Prelude.{ℕ, ◌≡◌, ◌≤◌, List, [], ◌++◌, map, length, vec_capacity, All}
 use mathlib.Core.Option.{some}
 use lib.ListN.{get_elem?}
 use Rattle.atomic_table.specs.Seated.{TableId}
@@ -8,6 +8,7 @@ use Rattle.ks_history.specs.declared.Op.{Op}
 use Rattle.ks_history.specs.declared.Reply.{Reply}
 use Rattle.ks_history.specs.Trace.{calls_by}
 use Rattle.ks_history.specs.Served.{at_place}
+use Rattle.ks_history.specs.Asked.{IsAsked}
 use Rattle.ks_arena.specs.Clauses.{seen_of}
 use Rattle.ks_shape.specs.Idle.{Site, IsIdle}
 use Rattle.ks_dictionary.specs.declared.job.Job.{Job}
@@ -40,11 +41,13 @@ module _ {N D W : Type 0} where
     pub room : length job.ops.items ≤ vec_capacity job.lines
 
 module _ {N D W : Type 0} (a : Site) where
-  -- the caller holds nothing and has made no call, and there is room for a line for each of its calls
+  -- the caller holds nothing and has made no call, its script asks for nothing else than it may, and there is room for a line
+  -- for each of its calls
   pub record IsReadyJob (job : Job N D W) : Type 0 where
     pub pass : IsIdle a job.pass
     pub fresh : calls_by job.pass.caller (seen_of job.pass) ≡ []
     pub lines : HasRoom job
+    pub asked : All IsAsked job.ops.items
 
   -- the caller holds nothing, and has made the calls of its script, with places for keys, in order; its lines have their
   -- numbers and replies

@@ -4,6 +4,7 @@ ghost use Rattle.ks_history.specs.Due.{FullsDue};
 ghost use Rattle.ks_history.specs.Lawful.{Lawful, GoodThroughout};
 ghost use Rattle.ks_history.specs.Callers.{CallersBelow};
 ghost use Rattle.ks_history.specs.Served.{Served};
+ghost use Rattle.ks_history.specs.Asked.{AreAsked};
 ghost use Rattle.ks_arena.specs.Named.{AllNamedBelow};
 ghost use Rattle.ks_arena.specs.Sound.{sort_of};
 ghost use Rattle.ks_dictionary.specs.Called.{HaveCalled};
@@ -115,6 +116,7 @@ where
     N::Places: Send + Sync,
     requires about { AreAbout (site_of dictionary) W.table W.callers W.nodes }
     requires scripts { W.scripts ≡ map (λ v. v.items) scripts.items }
+    requires asked { AreAsked (map (λ v. v.items) scripts.items) }
     requires crew { AreNewPassesOf dictionary passes.items }
     requires even { length passes.items ≡ length scripts.items }
     requires some { 0 < length scripts.items }
@@ -167,6 +169,7 @@ where
     N::Places: Send + Sync,
     requires nodes { (4 ≤ nodes) × (nodes ≤ 1048576) }
     requires callers { length scripts.items ≤ 1024 }
+    requires asked { AreAsked (map (λ v. v.items) scripts.items) }
     requires workers { (1 ≤ workers) × (workers ≤ 64) }
     ensures ended { IfOk result (λ r. HasEndedWith (sort_of N.layout N.ranged) N.body nodes r.0) }
     ensures called { IfOk result (λ r. HaveCalled N.Places.place_of (map (λ v. v.items) scripts.items)
@@ -207,6 +210,7 @@ where
     N::Places: Send + Sync,
     requires nodes { (4 ≤ nodes) × (nodes ≤ 1048576) }
     requires callers { length scripts.items ≤ 1024 }
+    requires asked { AreAsked (map (λ v. v.items) scripts.items) }
     requires workers { (1 ≤ workers) × (workers ≤ 64) }
     ensures served { IfOk result (λ told. Served N.Places.place_of (map (λ v. v.items) scripts.items)
         (map (λ v. v.items) told.lines.items) told.pairs.items (told.trace)) }

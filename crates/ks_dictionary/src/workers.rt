@@ -5,6 +5,7 @@ ghost use Rattle.ks_history.specs.Map.{told};
 ghost use Rattle.ks_history.specs.Trace.{calls_by};
 ghost use Rattle.ks_history.specs.Calls.{numbered};
 ghost use Rattle.ks_history.specs.Served.{at_place};
+ghost use Rattle.ks_history.specs.Asked.{IsAsked};
 ghost use Rattle.ks_arena.specs.Clauses.{seen_of};
 ghost use Rattle.ks_shape.specs.Answers.{number_in, reply_in};
 ghost use Rattle.ks_dictionary.specs.Of.{IsIdlePassOf, site_of};
@@ -50,7 +51,8 @@ fn call<N: Node, T: Ruled + Template<N, Arena<N, <T as Ruled>::Rule>>, R: Wait, 
     pass: &mut Pass<N, T::Rule>,
     op: Op,
 ) -> (u64, Reply)
-    requires { IsIdlePassOf dictionary.now pass.old }
+    requires pass { IsIdlePassOf dictionary.now pass.old }
+    requires asked { IsAsked op }
     ensures pass { IsIdlePassOf dictionary.now pass.new }
     ensures caller { SameCaller pass.old pass.new }
     ensures calls { calls_by (caller_of pass.old) (seen_of pass.new)
@@ -63,6 +65,7 @@ fn call<N: Node, T: Ruled + Template<N, Arena<N, <T as Ruled>::Rule>>, R: Wait, 
         Op::Del(key) => line_of(dictionary.del(rt, pass, gate, key)),
         Op::Add(key, value) => line_in(dictionary.add(rt, pass, gate, key, value)),
         Op::Swap(key, old, new) => line_of(dictionary.swap(rt, pass, gate, key, old, new)),
+        Op::Part(_, _) | Op::Move(_, _) => unreachable!(),
     }
 }
 
@@ -78,6 +81,7 @@ fn call_each<N: Node, T: Ruled + Template<N, Arena<N, <T as Ruled>::Rule>>, R: W
     requires pass { IsIdlePassOf dictionary.now pass.old }
     requires blank { lines.old.items ≡ [] }
     requires room { length ops.now ≤ vec_capacity lines.old }
+    requires asked { All IsAsked ops.now }
     ensures pass { IsIdlePassOf dictionary.now pass.new }
     ensures caller { SameCaller pass.old pass.new }
     ensures asked { HasAsked (caller_of pass.old) (seen_of pass.old) (seen_of pass.new)

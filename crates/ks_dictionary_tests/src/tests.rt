@@ -1,4 +1,5 @@
-ghost use Rattle.std.specs.Prelude.{length, ◌≤◌, IfOk};
+ghost use Rattle.std.specs.Prelude.{length, map, ◌≤◌, All, IfOk};
+ghost use Rattle.ks_history.specs.Asked.{AreAsked, IsAsked};
 
 use crate::crews::LONG;
 use ks_coupling::Coupling;
@@ -10,7 +11,9 @@ use std::alloc::{AllocError, Global};
 use std::test::Fail;
 
 /// The calls of one caller, at two keys of its own.
-fn script(alloc: Global, key: u64) -> Result<Vec<Op>, AllocError> {
+fn script(alloc: Global, key: u64) -> Result<Vec<Op>, AllocError>
+    ensures { IfOk result (λ ops. All IsAsked ops.items) }
+{
     Ok(vec![in alloc;
         Op::Put(key, 10),
         Op::Add(key, 15),
@@ -25,7 +28,8 @@ fn script(alloc: Global, key: u64) -> Result<Vec<Op>, AllocError> {
 
 /// The scripts of four callers.
 fn four(alloc: Global) -> Result<Vec<Vec<Op>>, AllocError>
-    ensures { IfOk result (λ scripts. length scripts.items ≤ 4) }
+    ensures few { IfOk result (λ scripts. length scripts.items ≤ 4) }
+    ensures asked { IfOk result (λ scripts. AreAsked (map (λ v. v.items) scripts.items)) }
 {
     Ok(vec![in alloc;
         script(alloc, 0)?,
@@ -95,12 +99,15 @@ fn nobody_is_served(rt: HostRuntime) -> Result<(), Fail> {
 
 /// A get of each of two callers.
 fn two(alloc: Global) -> Result<Vec<Vec<Op>>, AllocError>
-    ensures { IfOk result (λ scripts. length scripts.items ≤ 4) }
+    ensures few { IfOk result (λ scripts. length scripts.items ≤ 4) }
+    ensures asked { IfOk result (λ scripts. AreAsked (map (λ v. v.items) scripts.items)) }
 {
     Ok(vec![in alloc; one_get(alloc, 0)?, one_get(alloc, 1)?]?)
 }
 
-fn one_get(alloc: Global, key: u64) -> Result<Vec<Op>, AllocError> {
+fn one_get(alloc: Global, key: u64) -> Result<Vec<Op>, AllocError>
+    ensures { IfOk result (λ ops. All IsAsked ops.items) }
+{
     Ok(vec![in alloc; Op::Get(key)]?)
 }
 

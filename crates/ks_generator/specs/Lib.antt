@@ -1,3 +1,4 @@
 pub mod Made
 pub mod Summary
 pub mod Size
+pub mod Laws

@@ -3,7 +3,7 @@ use Rattle.std.specs.Prelude.{ℕ, ◌+◌, ◌*◌, ◌%◌, ◌^◌, List, [],
 use Rattle.std.specs.Fmt.{decimal}
 use Rattle.ks_history.specs.declared.Op.{Op}
 use Rattle.ks_history.specs.declared.Reply.{Reply}
-use Rattle.ks_history.specs.declared.Reply.TheVariants.{Nothing, Value, Full}
+use Rattle.ks_history.specs.declared.Reply.TheVariants.{Nothing, Value, Full, Listed, Kept}
 use Rattle.ks_script.specs.Script.{calls_in}
 use Rattle.ks_script.specs.Run.{Run}
 use Rattle.ks_generator.specs.declared.summing.Kind as kind
@@ -14,12 +14,18 @@ abbrev pub is_of : kind.Kind → Reply → Bool
 is_of kinds.Found Nothing = false
 is_of kinds.Found (Value v) = true
 is_of kinds.Found Full = false
+is_of kinds.Found (Listed pairs) = false
+is_of kinds.Found Kept = false
 is_of kinds.Missing Nothing = true
 is_of kinds.Missing (Value v) = false
 is_of kinds.Missing Full = false
+is_of kinds.Missing (Listed pairs) = false
+is_of kinds.Missing Kept = false
 is_of kinds.NoRoom Nothing = false
 is_of kinds.NoRoom (Value v) = false
 is_of kinds.NoRoom Full = true
+is_of kinds.NoRoom (Listed pairs) = false
+is_of kinds.NoRoom Kept = false
 
 -- how many replies of the kind the callers were given
 abbrev pub replies_of : kind.Kind → List (List (ℕ × Reply)) → ℕ

@@ -55,7 +55,7 @@ fn replies_in(lines: &Lines) -> Tally
     let mut none: usize = 0;
     let mut full: usize = 0;
     for at in 0..lines.len() {
-        let reply = lines.get(at).1;
+        let (_, reply) = lines.get(at);
         found += counted(&reply, Kind::Found);
         none += counted(&reply, Kind::Missing);
         full += counted(&reply, Kind::NoRoom);

@@ -4,7 +4,7 @@ use Rattle.ks_keysets.specs.declared.Record.{Record}
 use Rattle.ks_keysets.specs.Record.{LeadsTo}
 use Rattle.ks_keysets.specs.Keyset.{record_at}
 use Rattle.ks_history.specs.declared.Event.{Event}
-use Rattle.ks_history.specs.declared.Event.TheVariants.{Take, Give, Claim, Shape, Call}
+use Rattle.ks_history.specs.declared.Event.TheVariants.{Take, Give, Claim, Shape, Call, Twin}
 use Rattle.ks_history.specs.Trace.{graph_after}
 use Rattle.ks_history.specs.Callers.{NoneBy}
 use Rattle.ks_history.specs.Done.{HoldsAbove}
@@ -33,6 +33,7 @@ GoesWell c place h (Give d i) = Unit {0}
 GoesWell c place h (Claim d i) = Unit {0}
 GoesWell c place h (Shape d changes) = Unit {0}
 GoesWell c place h (Call d i op reply) = Unit {0}
+GoesWell c place h (Twin d i j op reply) = Unit {0}
 
 -- so it is with each Take of c since s0
 pub data Goes (c place : ℕ) (s0 : List Event) : List Event → Type 0 where

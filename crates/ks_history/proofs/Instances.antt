@@ -37,7 +37,7 @@ use Rattle.ks_history.specs.Frames.{frame_after}
 use Rattle.ks_history.specs.Served.{at_place, CalledBelow, IsListing, Served}
 use Rattle.ks_history.specs.Due.{MayGrow, HoldsLiveBut, FullDue, last_call, FullsDue}
 use Rattle.ks_history.specs.Refusals.{BusyDue, MovedDue, FarDue, IsOnWay}
-use Rattle.ks_history.specs.Done.{Template, coupling, give_up, link_move, MayTake, first_taken, from_above, Hands, at_first, and_on, Done, DoneAt, Left, Tight, TidyAt}
+use Rattle.ks_history.specs.Done.{Template, coupling, give_up, link_move, MayTake, first_taken, from_above, joined, Hands, at_first, and_on, Done, DoneAt, Left, Tight, TidyAt}
 use Rattle.ks_history.specs.Laws.Begins.{begins_self, begins_append, begins_both, by_others_none}
 use Rattle.ks_history.specs.Laws.Calls.{done_calls, left_calls}
 use Rattle.ks_history.specs.Laws.Dues.{none_free_by, none_free_but, full_due_earlier, full_due_later}
@@ -184,6 +184,7 @@ coupling_begins = first_taken refl refl
 coupling_no_jump : MayTake coupling (Get 5) [] 0 5 → ⊥
 coupling_no_jump (first_taken empty at) = omega (arith, at)
 coupling_no_jump (from_above above) = omega (arith, above.leads.2, no_edges above.above above.node above.is)
+coupling_no_jump (joined may one is) = absurd may
 
 -- one that holds a node takes a node to which that one leads
 coupling_steps_down : MayTake coupling (Get 5) (Take 0 0 ∷ grown_by_one) 0 1

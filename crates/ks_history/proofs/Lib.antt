@@ -2,3 +2,5 @@ pub mod Writes
 pub mod Histories
 pub mod Theorem
 pub mod Instances
+pub mod Spans
+pub mod PartsAndMoves

@@ -4,7 +4,7 @@ use Rattle.std.proofs.Common.{◌≡◌, ◌≢◌, ℕ, List, [], ◌∷◌}
 use Rattle.std.specs.Prelude.{All, Any}
 use Rattle.ks_keysets.specs.declared.NodeState.{NodeState}
 use Rattle.ks_history.specs.declared.Event.{Event}
-use Rattle.ks_history.specs.declared.Event.TheVariants.{Take, Give, Claim, Shape, Call}
+use Rattle.ks_history.specs.declared.Event.TheVariants.{Take, Give, Claim, Shape, Call, Twin}
 use Rattle.ks_history.specs.Trace.{caller_of, graph_after}
 
 -- the event is a Shape that names node i
@@ -14,6 +14,7 @@ Shapes i (Give d j) = ⊥
 Shapes i (Claim d j) = ⊥
 Shapes i (Shape d changes) = Any (λ x. x.node ≡ i) changes
 Shapes i (Call d j op reply) = ⊥
+Shapes i (Twin d j k op reply) = ⊥
 
 -- none of the events is a Shape that names node i
 abbrev pub NoneShapes : ℕ → List Event → Type 0
@@ -32,6 +33,7 @@ StepsBeside Inside h (Give c j) = Unit {0}
 StepsBeside Inside h (Claim c j) = Unit {0}
 StepsBeside Inside h (Shape c changes) = (i p : ℕ) → All (λ x. x.node ≢ i) changes → Inside (graph_after h) i p → Inside (graph_after (Shape c changes ∷ h)) i p
 StepsBeside Inside h (Call c j op reply) = Unit {0}
+StepsBeside Inside h (Twin c j k op reply) = Unit {0}
 
 -- so does each event of the trace
 abbrev pub AreBeside : ((ℕ → NodeState) → ℕ → ℕ → Type 0) → List Event → Type 0

@@ -6,11 +6,11 @@ use Rattle.ks_keysets.specs.Keyset.{record_at}
 use Rattle.ks_keysets.specs.Layout.{Layout}
 use Rattle.ks_keysets.specs.Tight.{IsTight, IsTidyAt}
 use Rattle.ks_history.specs.declared.Op.{Op}
-use Rattle.ks_history.specs.declared.Op.TheVariants.{Get, Put, Del, Add, Swap}
+use Rattle.ks_history.specs.declared.Op.TheVariants.{Get, Put, Del, Add, Swap, Part, Move}
 use Rattle.ks_history.specs.declared.Reply.{Reply}
 use Rattle.ks_history.specs.declared.Reply.TheVariants.{Full}
 use Rattle.ks_history.specs.declared.Event.{Event}
-use Rattle.ks_history.specs.declared.Event.TheVariants.{Take, Give, Claim, Shape, Call}
+use Rattle.ks_history.specs.declared.Event.TheVariants.{Take, Give, Claim, Shape, Call, Twin}
 use Rattle.ks_history.specs.Trace.{held, call_in, graph_after, turn_after, number_after}
 use Rattle.ks_history.specs.Own.{called, decided_at, hand}
 use Rattle.ks_history.specs.Frames.{frame_after}
@@ -38,10 +38,24 @@ MayBegin coupling i = i ≡ 0
 MayBegin give_up i = Unit {0}
 MayBegin link_move i = Unit {0}
 
--- how c may come to take node i for its operation: it begins there, or comes from a node that it holds
+-- whether a caller that holds a node may take any other one for the operation: by giving up, for a move
+abbrev pub MayJoin : Template → Op → Type 0
+MayJoin coupling op = ⊥
+MayJoin link_move op = ⊥
+MayJoin give_up (Get p) = ⊥
+MayJoin give_up (Put p v) = ⊥
+MayJoin give_up (Del p) = ⊥
+MayJoin give_up (Add p v) = ⊥
+MayJoin give_up (Swap p old new) = ⊥
+MayJoin give_up (Part low last) = ⊥
+MayJoin give_up (Move from to) = Unit {0}
+
+-- how c may come to take node i for its operation: it begins there, comes from a node that it holds, or joins it to the
+-- only node that it holds
 pub data MayTake (template : Template) (op : Op) (h : List Event) (c i : ℕ) : Type 0 where
   first_taken : hand c h ≡ [] → MayBegin template i → MayTake template op h c i
   from_above : HoldsAbove h c i → MayTake template op h c i
+  joined : MayJoin template op → (one : ℕ) → hand c h ≡ one ∷ [] → MayTake template op h c i
 
 -- if the event that follows h is a Take of c, c may take that node
 abbrev pub TakesWell : Template → ℕ → Op → List Event → Event → Type 0
@@ -50,6 +64,7 @@ TakesWell template c op h (Give d i) = Unit {0}
 TakesWell template c op h (Claim d i) = Unit {0}
 TakesWell template c op h (Shape d changes) = Unit {0}
 TakesWell template c op h (Call d i op' reply) = Unit {0}
+TakesWell template c op h (Twin d i j op' reply) = Unit {0}
 
 -- how many nodes a call that only searches holds at most
 abbrev pub most_searched : Template → ℕ
@@ -64,6 +79,8 @@ most_held template (Put p v) = 3
 most_held template (Del p) = 3
 most_held template (Add p v) = 3
 most_held template (Swap p old new) = most_searched template
+most_held template (Part low last) = most_searched template
+most_held template (Move from to) = 3
 
 -- from s0 on caller c takes nodes as it may, and never holds more than its operation needs
 pub data Hands (template : Template) (c : ℕ) (op : Op) (s0 : List Event) : List Event → Type 0 where

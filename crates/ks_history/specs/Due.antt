@@ -1,16 +1,16 @@
 -- When a caller may be refused: no node was free, a node was busy, a node moved, or the search took as many nodes as there are.
-use Rattle.std.specs.Prelude.{ℕ, ◌≡◌, ◌≢◌, ◌<◌, ◌==◌, ◌⊎◌, List, [], ◌∷◌, length, Some, None, if◌then◌else◌}
+use Rattle.std.specs.Prelude.{ℕ, ◌≡◌, ◌≢◌, ◌<◌, ◌==◌, ◌⊎◌, IsTrue, List, [], ◌∷◌, length, Some, None, is_some, if◌then◌else◌}
 use Rattle.ks_keysets.specs.declared.NodeState.{NodeState}
 use Rattle.ks_keysets.specs.declared.NodeState.TheVariants.{Claimed}
 use Rattle.ks_keysets.specs.declared.Record.{Record}
 use Rattle.ks_keysets.specs.Record.{first_value}
-use Rattle.ks_keysets.specs.Keyset.{record_at, IsLive, InKeyset}
+use Rattle.ks_keysets.specs.Keyset.{record_at, IsLive, InKeyset, value_at}
 use Rattle.ks_keysets.specs.Layout.{Layout, list_layout, bplus_layout, hash_layout, bst_layout, room}
 use Rattle.ks_history.specs.declared.Op.{Op}
-use Rattle.ks_history.specs.declared.Op.TheVariants.{Get, Put, Del, Add, Swap}
+use Rattle.ks_history.specs.declared.Op.TheVariants.{Get, Put, Del, Add, Swap, Part, Move}
 use Rattle.ks_history.specs.declared.Reply.TheVariants.{Full}
 use Rattle.ks_history.specs.declared.Event.{Event}
-use Rattle.ks_history.specs.declared.Event.TheVariants.{Take, Give, Claim, Shape, Call}
+use Rattle.ks_history.specs.declared.Event.TheVariants.{Take, Give, Claim, Shape, Call, Twin}
 use Rattle.ks_history.specs.Trace.{◌⊑◌, free, held, caller_of, call_in, graph_after, turn_after}
 use Rattle.ks_history.specs.Callers.{NoneBy}
 
@@ -28,14 +28,27 @@ HasNoRoom layout g i (Add p v) place = (p ≡ place) × IsFullFor layout g i p
 HasNoRoom layout g i (Get p) place = ⊥
 HasNoRoom layout g i (Del p) place = ⊥
 HasNoRoom layout g i (Swap p old new) place = ⊥
+HasNoRoom layout g i (Part low last) place = ⊥
+HasNoRoom layout g i (Move from to) place = ⊥
 
--- the event is a call with the reply Full, whose node has no room for the place
+-- the operation at nodes i and j is a Move of a value that node i has, to the place, for which the other node is full
+abbrev pub HasNoRoomFor : Layout → (ℕ → NodeState) → ℕ → ℕ → Op → ℕ → Type 0
+HasNoRoomFor layout g i j (Get p) place = ⊥
+HasNoRoomFor layout g i j (Put p v) place = ⊥
+HasNoRoomFor layout g i j (Del p) place = ⊥
+HasNoRoomFor layout g i j (Add p v) place = ⊥
+HasNoRoomFor layout g i j (Swap p old new) place = ⊥
+HasNoRoomFor layout g i j (Part low last) place = ⊥
+HasNoRoomFor layout g i j (Move from to) place = (to ≡ place) × (i ≢ j) × IsFullFor layout g j to × IsTrue (is_some (value_at g i from))
+
+-- the event is a call with the reply Full, whose node, of two the second, has no room for the place
 abbrev pub FindsNoRoom : Layout → (ℕ → NodeState) → Event → ℕ → Type 0
 FindsNoRoom layout g (Take c i) place = ⊥
 FindsNoRoom layout g (Give c i) place = ⊥
 FindsNoRoom layout g (Claim c i) place = ⊥
 FindsNoRoom layout g (Shape c changes) place = ⊥
 FindsNoRoom layout g (Call c i op reply) place = HasNoRoom layout g i op place × (reply ≡ Full)
+FindsNoRoom layout g (Twin c i j op reply) place = HasNoRoomFor layout g i j op place × (reply ≡ Full)
 
 -- the node may grow for the place, by two nodes that are claimed one after the other: in a B+ or hash layout the full root, in
 -- a binary search tree the full leaf whose keyset has the place

@@ -5,6 +5,7 @@ pub mod Frames
 pub mod Own
 pub mod Lawful
 pub mod Served
+pub mod Asked
 pub mod Verdict
 pub mod Passes
 pub mod Callers

@@ -3,7 +3,7 @@ use Rattle.std.specs.Prelude.{ℕ, ◌==◌, ◌+◌, List, [], ◌∷◌, if◌
 use Rattle.ks_history.specs.declared.Op.{Op}
 use Rattle.ks_history.specs.declared.Reply.{Reply}
 use Rattle.ks_history.specs.declared.Event.{Event}
-use Rattle.ks_history.specs.declared.Event.TheVariants.{Take, Give, Claim, Shape, Call}
+use Rattle.ks_history.specs.declared.Event.TheVariants.{Take, Give, Claim, Shape, Call, Twin}
 use Rattle.ks_history.specs.Trace.{caller_of, Called}
 
 -- the call of a caller, by its operation and its reply
@@ -17,6 +17,7 @@ decided_at (Give c i) = []
 decided_at (Claim c i) = []
 decided_at (Shape c changes) = []
 decided_at (Call c i op reply) = i ∷ []
+decided_at (Twin c i j op reply) = i ∷ j ∷ []
 
 -- how many Shapes are in the trace
 abbrev pub shapes_in : List Event → ℕ
@@ -26,6 +27,7 @@ shapes_in (Give c j ∷ h) = shapes_in h
 shapes_in (Claim c j ∷ h) = shapes_in h
 shapes_in (Shape c changes ∷ h) = shapes_in h + 1
 shapes_in (Call c j op reply ∷ h) = shapes_in h
+shapes_in (Twin c j k op reply ∷ h) = shapes_in h
 
 -- the events of c, the newest first
 abbrev pub mine : ℕ → List Event → List Event
@@ -45,3 +47,4 @@ hand c (Give d j ∷ h) = if c == d then drop_one j (hand c h) else hand c h
 hand c (Claim d j ∷ h) = if c == d then j ∷ hand c h else hand c h
 hand c (Shape d changes ∷ h) = hand c h
 hand c (Call d j op reply ∷ h) = hand c h
+hand c (Twin d j k op reply ∷ h) = hand c h

@@ -1,7 +1,7 @@
 -- Traces that grow only by the events Take and Give: what is live stays as it is.
 use Rattle.std.proofs.Common.{◌≡◌, List, [], ◌∷◌, ◌++◌}
 use Rattle.ks_history.specs.declared.Event.{Event}
-use Rattle.ks_history.specs.declared.Event.TheVariants.{Take, Give, Claim, Shape, Call}
+use Rattle.ks_history.specs.declared.Event.TheVariants.{Take, Give, Claim, Shape, Call, Twin}
 
 -- the event takes a node, or releases one
 abbrev pub IsTurn : Event → Type 0
@@ -10,6 +10,7 @@ IsTurn (Give c i) = Unit {0}
 IsTurn (Claim c i) = ⊥
 IsTurn (Shape c changes) = ⊥
 IsTurn (Call c i op reply) = ⊥
+IsTurn (Twin c i j op reply) = ⊥
 
 abbrev pub AllTurns : List Event → Type 0
 AllTurns [] = Unit {0}

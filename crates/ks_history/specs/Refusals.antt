@@ -6,7 +6,7 @@ use Rattle.ks_keysets.specs.Record.{LeadsTo}
 use Rattle.ks_keysets.specs.Keyset.{record_at, InInset}
 use Rattle.ks_history.specs.declared.Op.{Op}
 use Rattle.ks_history.specs.declared.Event.{Event}
-use Rattle.ks_history.specs.declared.Event.TheVariants.{Take, Give, Claim, Shape, Call}
+use Rattle.ks_history.specs.declared.Event.TheVariants.{Take, Give, Claim, Shape, Call, Twin}
 use Rattle.ks_history.specs.Map.{Touches}
 use Rattle.ks_history.specs.Trace.{◌⊑◌, held, graph_after, turn_after}
 
@@ -37,6 +37,7 @@ ShapesFor c node (Give d i) = ⊥
 ShapesFor c node (Claim d i) = ⊥
 ShapesFor c node (Shape d changes) = (d ≢ c) × Any (λ x. x.node ≡ node) changes
 ShapesFor c node (Call d i op reply) = ⊥
+ShapesFor c node (Twin d i j op reply) = ⊥
 
 -- the event is a Shape of another caller than c
 abbrev pub ShapesBesides : ℕ → Event → Type 0
@@ -45,6 +46,7 @@ ShapesBesides c (Give d i) = ⊥
 ShapesBesides c (Claim d i) = ⊥
 ShapesBesides c (Shape d changes) = d ≢ c
 ShapesBesides c (Call d i op reply) = ⊥
+ShapesBesides c (Twin d i j op reply) = ⊥
 
 -- what is due when caller c, between s0 and s1, reports that the node moved: it is on the search path of the operation's
 -- place, later its inset lacks the place or it is not live, and a Shape of another caller has named it
@@ -70,6 +72,7 @@ takes_by c (Give d i ∷ h) = takes_by c h
 takes_by c (Claim d i ∷ h) = takes_by c h
 takes_by c (Shape d changes ∷ h) = takes_by c h
 takes_by c (Call d i op reply ∷ h) = takes_by c h
+takes_by c (Twin d i j op reply ∷ h) = takes_by c h
 
 -- what is due when caller c, between s0 and s1, reports that it took as many nodes as there are, n: the root twice at
 -- most, and a Shape of another caller is between

@@ -2,7 +2,7 @@
 use Rattle.std.specs.Prelude.{ℕ, ◌≡◌, ◌<◌, ◌↔◌, List, map, length, slice_get, Option, Some, None, All, AllPairs, Contains}
 use Rattle.ks_keysets.specs.Record.{IsPlace}
 use Rattle.ks_history.specs.declared.Op.{Op}
-use Rattle.ks_history.specs.declared.Op.TheVariants.{Get, Put, Del, Add, Swap}
+use Rattle.ks_history.specs.declared.Op.TheVariants.{Get, Put, Del, Add, Swap, Part, Move}
 use Rattle.ks_history.specs.declared.Reply.{Reply}
 use Rattle.ks_history.specs.declared.Event.{Event}
 use Rattle.ks_history.specs.Map.{Legal, map_after}
@@ -15,6 +15,8 @@ at_place f (Put k v) = Put (f k) v
 at_place f (Del k) = Del (f k)
 at_place f (Add k v) = Add (f k) v
 at_place f (Swap k old new) = Swap (f k) old new
+at_place f (Part low last) = Part (f low) (f last)
+at_place f (Move from to) = Move (f from) (f to)
 
 -- the event is no call, or one of a caller below n
 abbrev pub CalledBelow : ℕ → Event → Type 0

@@ -9,8 +9,8 @@ use Rattle.ks_history.specs.declared.Op.{Op}
 use Rattle.ks_history.specs.declared.Reply.{Reply}
 use Rattle.ks_history.specs.declared.Answered.{Answered}
 use Rattle.ks_history.specs.declared.Event.{Event}
-use Rattle.ks_history.specs.declared.Event.TheVariants.{Take, Give, Claim, Shape, Call}
-use Rattle.ks_history.specs.Write.{Write, written, pairs_with}
+use Rattle.ks_history.specs.declared.Event.TheVariants.{Take, Give, Claim, Shape, Call, Twin}
+use Rattle.ks_history.specs.Write.{Write, written, taken_out, put_in, pairs_with}
 
 infix 20 ◌⊑◌
 -- the first trace is a beginning of the second: what came after it is `rest`
@@ -25,6 +25,7 @@ caller_of (Give c i) = c
 caller_of (Claim c i) = c
 caller_of (Shape c changes) = c
 caller_of (Call c i op reply) = c
+caller_of (Twin c i j op reply) = c
 
 -- the state of a node that a Give names: a claimed node becomes free
 abbrev pub given : NodeState → NodeState
@@ -38,13 +39,18 @@ state_with w Free = Free
 state_with w (Claimed c) = Claimed c
 state_with w (Live r) = Live (record { edges = r.edges; pairs = pairs_with r.pairs w })
 
+-- the graph with a write at node j
+abbrev pub written_at : Write → ℕ → (ℕ → NodeState) → ℕ → NodeState
+written_at w j g i = if i == j then state_with w (g j) else g i
+
 -- the graph after one more event
 abbrev pub graph_then : Event → (ℕ → NodeState) → ℕ → NodeState
 graph_then (Take c j) g i = g i
 graph_then (Give c j) g i = if i == j then given (g j) else g i
 graph_then (Claim c j) g i = if i == j then Claimed c else g i
 graph_then (Shape c changes) g i = shaped changes i (g i)
-graph_then (Call c j op reply) g i = if i == j then state_with (written op reply) (g j) else g i
+graph_then (Call c j op reply) g i = written_at (written op reply) j g i
+graph_then (Twin c j k op reply) g i = written_at (put_in (written op reply)) k (written_at (taken_out (written op reply)) j g) i
 
 -- the graph after the trace: the opening graph, changed by each event in order
 abbrev pub graph_after : List Event → ℕ → NodeState
@@ -71,6 +77,7 @@ turn_after (Give c j ∷ h) i = if i == j then turn_given (graph_after h j) else
 turn_after (Claim c j ∷ h) i = if i == j then held c else turn_after h i
 turn_after (Shape c changes ∷ h) i = turn_after h i
 turn_after (Call c j op reply ∷ h) i = turn_after h i
+turn_after (Twin c j k op reply ∷ h) i = turn_after h i
 
 -- a call as its event has it: its caller, its operation and its reply
 pub record Called : Type 0 where
@@ -89,6 +96,7 @@ call_in (Give c i) = None
 call_in (Claim c i) = None
 call_in (Shape c changes) = None
 call_in (Call c i op reply) = Some (record { caller = c; op = op; reply = reply })
+call_in (Twin c i j op reply) = Some (record { caller = c; op = op; reply = reply })
 
 -- the calls of the trace, oldest first
 abbrev pub calls_of : List Event → List Answered

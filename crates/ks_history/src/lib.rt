@@ -5,14 +5,18 @@
 //! Done, Served. The other files there are laws that crates above cite.
 #![tactic(auto)]
 
+mod boxed;
 mod laws;
 mod replay;
+mod span;
 #[cfg(test)]
 mod tests;
 
+pub use boxed::BoxedFew;
 use ks_keysets::Change;
 pub use laws::{alone_law, far_law, keyset_theorem, moved_law, stability_law, turn_law, turns_law};
 pub use replay::{Verdict, legal, map_after};
+pub use span::lists_span;
 
 /// What a caller asks of the map. In a trace the first number is a place, in scripts and printed runs it is a key.
 #[derive(Clone, Copy, Debug, PartialEq, Eq)]
@@ -24,14 +28,22 @@ pub enum Op {
     Add(u64, u128),
     /// Sets the second value only if the place has the first one.
     Swap(u64, u128, u128),
+    /// Lists the pairs from the first place to the last one: a part of an ordered scan, decided at one node.
+    Part(u64, u64),
+    /// Moves the value of the first place to the second one, if that has none. It is decided at two nodes at once, or at
+    /// one node that has both places.
+    Move(u64, u64),
 }
 
-/// The reply to a call: the value that was there before, if any, or that no node was free.
+/// The reply to a call: the value that was there before, if any, or that no node was free. A part has the pairs that it
+/// lists, and a move that finds a value at both places replies that it kept both. It is 32 bytes.
 #[derive(Debug, PartialEq, Eq, Drop)]
 pub enum Reply {
     Nothing,
     Value(u128),
     Full,
+    Listed(BoxedFew),
+    Kept,
 }
 
 /// A call and its reply.
@@ -49,4 +61,6 @@ pub enum Event {
     Claim(u32, u32),
     Shape(u32, [Change; 0]),
     Call(u32, u32, Op, Reply),
+    /// A call at two nodes: what it takes out is at the first one, what it puts in at the second one.
+    Twin(u32, u32, u32, Op, Reply),
 }

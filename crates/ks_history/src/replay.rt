@@ -5,10 +5,10 @@ ghost use Rattle.std.specs.Prelude.{ℕ, ◌≡◌, ◌↔◌, IsTrue, IfOk, OnO
 ghost use Rattle.std.specs.Ordering.{nat_cmp};
 ghost use Rattle.std.specs.BTreeMap.{get};
 ghost use Rattle.ks_history.specs.Write.{map_with, written};
-ghost use Rattle.ks_history.specs.Map.{told, IsAnswer, map_after};
+ghost use Rattle.ks_history.specs.Map.{told, moved, IsAnswer, map_after};
 ghost use Rattle.ks_history.specs.Verdict.{IsVerdict};
 
-use crate::{Answered, Op, Reply};
+use crate::{Answered, Op, Reply, lists_span};
 use std::alloc::{AllocError, Global};
 use std::collections::BTreeMap;
 
@@ -58,6 +58,14 @@ fn make(map: &mut BTreeMap<u64, u128>, call: &Answered) -> Result<(), AllocError
             }
             _ => {}
         },
+        Op::Part(_, _) => {}
+        Op::Move(from, to) => match call.reply {
+            Reply::Value(value) => {
+                map.remove(&from);
+                map.insert(to, value)?;
+            }
+            _ => {}
+        },
     }
     Ok(())
 }
@@ -69,6 +77,17 @@ fn told(value: Option<u128>) -> Reply
     match value {
         None => Reply::Nothing,
         Some(value) => Reply::Value(value),
+    }
+}
+
+/// The reply of a move, for what was at the two places.
+fn moved(from: Option<u128>, to: Option<u128>) -> Reply
+    ensures { result ≡ moved from to }
+{
+    match (from, to) {
+        (None, _) => Reply::Nothing,
+        (Some(value), None) => Reply::Value(value),
+        (Some(_), Some(_)) => Reply::Kept,
     }
 }
 
@@ -86,11 +105,19 @@ fn is_answer(map: &BTreeMap<u64, u128>, call: &Answered) -> bool
             call.reply == Reply::Full || call.reply == told(map.get(&place).copied())
         }
         Op::Swap(place, _, _) => call.reply == told(map.get(&place).copied()),
+        Op::Part(low, last) => match &call.reply {
+            Reply::Listed(pairs) => lists_span(map, low, last, pairs.few()),
+            _ => false,
+        },
+        Op::Move(from, to) => {
+            call.reply == Reply::Full
+                || call.reply == moved(map.get(&from).copied(), map.get(&to).copied())
+        }
     }
 }
 
 /// Whether the calls are legal, or else the least position whose reply is not that of the map after the calls before it.
-/// Only a Put or an Add may have the reply Full.
+/// Only a Put, an Add or a Move may have the reply Full.
 pub fn legal(alloc: Global, calls: &[Answered]) -> Result<Verdict, AllocError>
     ensures verdict { IfOk result (λ v. IsVerdict calls.now v) }
 {

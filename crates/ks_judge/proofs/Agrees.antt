@@ -15,7 +15,7 @@ use Rattle.ks_history.specs.declared.Reply.{Reply}
 use Rattle.ks_history.specs.declared.Reply.TheVariants.{Nothing}
 use Rattle.ks_history.specs.declared.Answered.{Answered}
 use Rattle.ks_history.specs.declared.Event.{Event}
-use Rattle.ks_history.specs.declared.Event.TheVariants.{Take, Give, Claim, Shape, Call}
+use Rattle.ks_history.specs.declared.Event.TheVariants.{Take, Give, Claim, Shape, Call, Twin}
 use Rattle.ks_history.specs.Trace.{calls_of, calls_by, number_after, NumberedCall}
 use Rattle.ks_history.specs.Map.{IsAnswer, map_after, Legal}
 use Rattle.ks_history.specs.Laws.Stays.{cond_here, cond_else}
@@ -34,7 +34,7 @@ use Rattle.ks_judge.proofs.Stand.{Known, Stands, known_first, known_more, no_cal
 small : (n : ℕ) → n ≤ 1048576 → n % 2 ^ 64 ≡ n
 small n h = omega arith
 
--- the rows after a Call
+-- the rows after a call
 
 module _ (key : ℕ → ℕ) (h : List Event) (d i : ℕ) (op : Op) (reply : Reply) where
   mapped : {X : Type 0} (f : NumberedCall → X) → (λ c. map f (calls_by c (Call d i op reply ∷ h))) ≡ pushed (λ c. map f (calls_by c h)) d (f (record { number = number_after h; call = record { op = op; reply = reply } }))
@@ -57,6 +57,18 @@ module _ (key : ℕ → ℕ) (h : List Event) (d i : ℕ) (op : Op) (reply : Rep
 one_more : (calls : List Answered) (a : Answered) → length (calls ++ a ∷ []) ≡ length calls + 1
 one_more calls a = length-append calls (a ∷ [])
 
+known_call : (key : ℕ → ℕ) (m : ℕ) (h : List Event) (d j : ℕ) (op : Op) (reply : Reply) → d < m → length (calls_of h) ≤ 1048576 → Known m (lines_by h) (ops_by key h) (map (placed key) (calls_of h)) →
+    Known m (lines_by (Call d j op reply ∷ h)) (ops_by key (Call d j op reply ∷ h)) (map (placed key) (calls_of (Call d j op reply ∷ h)))
+known_call key m h d j op reply inside less known =
+    let calls = map (placed key) (calls_of h) in
+    let k = known_more m (lines_by h) (ops_by key h) calls known d (at_place key op) reply inside in
+    subst (λ L. Known m L (ops_by key (Call d j op reply ∷ h)) (map (placed key) (calls_of (Call d j op reply ∷ h)))) (sym (lines_more key h d j op reply less))
+    (subst (λ O. Known m (pushed (lines_by h) d (length calls, reply)) O (map (placed key) (calls_of (Call d j op reply ∷ h)))) (sym (ops_more key h d j op reply))
+    (subst (λ cs. Known m (pushed (lines_by h) d (length calls, reply)) (pushed (ops_by key h) d (at_place key op)) cs) (sym (calls_more key h d j op reply)) k))
+
+fewer : (calls : List Answered) (a : Answered) → length (calls ++ a ∷ []) ≤ 1048576 → length calls ≤ 1048576
+fewer calls a few = let long = one_more calls a in omega (arith, long)
+
 pub known_of : (key : ℕ → ℕ) (m : ℕ) (h : List Event) → All (CalledBelow m) h → length (calls_of h) ≤ 1048576 → Known m (lines_by h) (ops_by key h) (map (placed key) (calls_of h))
 known_of key m [] others few = known_first m
 known_of key m (Take d j ∷ h) others few = known_of key m h (All-tail (CalledBelow m) (Take d j) h others) few
@@ -64,14 +76,11 @@ known_of key m (Give d j ∷ h) others few = known_of key m h (All-tail (CalledB
 known_of key m (Claim d j ∷ h) others few = known_of key m h (All-tail (CalledBelow m) (Claim d j) h others) few
 known_of key m (Shape d changes ∷ h) others few = known_of key m h (All-tail (CalledBelow m) (Shape d changes) h others) few
 known_of key m (Call d j op reply ∷ h) others few =
-    let long = one_more (calls_of h) (record { op = op; reply = reply }) in
-    let less : length (calls_of h) ≤ 1048576 = omega (arith, long) in
-    let inside : d < m = others 0 (Call d j op reply) (omega arith) in
-    let calls = map (placed key) (calls_of h) in
-    let k = known_more m (lines_by h) (ops_by key h) calls (known_of key m h (All-tail (CalledBelow m) (Call d j op reply) h others) less) d (at_place key op) reply inside in
-    subst (λ L. Known m L (ops_by key (Call d j op reply ∷ h)) (map (placed key) (calls_of (Call d j op reply ∷ h)))) (sym (lines_more key h d j op reply less))
-    (subst (λ O. Known m (pushed (lines_by h) d (length calls, reply)) O (map (placed key) (calls_of (Call d j op reply ∷ h)))) (sym (ops_more key h d j op reply))
-    (subst (λ cs. Known m (pushed (lines_by h) d (length calls, reply)) (pushed (ops_by key h) d (at_place key op)) cs) (sym (calls_more key h d j op reply)) k))
+    let less = fewer (calls_of h) (record { op = op; reply = reply }) few in
+    known_call key m h d j op reply (others 0 (Call d j op reply) (omega arith)) less (known_of key m h (All-tail (CalledBelow m) (Call d j op reply) h others) less)
+known_of key m (Twin d j k op reply ∷ h) others few =
+    let less = fewer (calls_of h) (record { op = op; reply = reply }) few in
+    known_call key m h d j op reply (others 0 (Twin d j k op reply) (omega arith)) less (known_of key m h (All-tail (CalledBelow m) (Twin d j k op reply) h others) less)
 
 -- how many calls the rows have
 
@@ -94,18 +103,22 @@ total_none : (c k : ℕ) → calls_in (rows (λ b. []) c k) ≡ 0
 total_none c zero = refl
 total_none c (suc k) = zero_plus (calls_in (rows (λ b. []) (suc c) k)) ∙ total_none (suc c) k
 
+total_call : (key : ℕ → ℕ) (m : ℕ) (h : List Event) (d j : ℕ) (op : Op) (reply : Reply) → d < m → calls_in (rows (ops_by key h) 0 m) ≡ length (calls_of h) →
+    calls_in (rows (ops_by key (Call d j op reply ∷ h)) 0 m) ≡ length (calls_of (Call d j op reply ∷ h))
+total_call key m h d j op reply inside before =
+    ap (λ O. calls_in (rows O 0 m)) (ops_more key h d j op reply)
+    ∙ total_push (ops_by key h) d (at_place key op) 0 m (omega arith) (omega arith)
+    ∙ ap (λ n. n + 1) before
+    ∙ sym (one_more (calls_of h) (record { op = op; reply = reply }))
+
 pub total : (key : ℕ → ℕ) (m : ℕ) (h : List Event) → All (CalledBelow m) h → calls_in (rows (ops_by key h) 0 m) ≡ length (calls_of h)
 total key m [] others = total_none 0 m
 total key m (Take d j ∷ h) others = total key m h (All-tail (CalledBelow m) (Take d j) h others)
 total key m (Give d j ∷ h) others = total key m h (All-tail (CalledBelow m) (Give d j) h others)
 total key m (Claim d j ∷ h) others = total key m h (All-tail (CalledBelow m) (Claim d j) h others)
 total key m (Shape d changes ∷ h) others = total key m h (All-tail (CalledBelow m) (Shape d changes) h others)
-total key m (Call d j op reply ∷ h) others =
-    let inside : d < m = others 0 (Call d j op reply) (omega arith) in
-    ap (λ O. calls_in (rows O 0 m)) (ops_more key h d j op reply)
-    ∙ total_push (ops_by key h) d (at_place key op) 0 m (omega arith) (omega arith)
-    ∙ ap (λ n. n + 1) (total key m h (All-tail (CalledBelow m) (Call d j op reply) h others))
-    ∙ sym (one_more (calls_of h) (record { op = op; reply = reply }))
+total key m (Call d j op reply ∷ h) others = total_call key m h d j op reply (others 0 (Call d j op reply) (omega arith)) (total key m h (All-tail (CalledBelow m) (Call d j op reply) h others))
+total key m (Twin d j k op reply ∷ h) others = total_call key m h d j op reply (others 0 (Twin d j k op reply) (omega arith)) (total key m h (All-tail (CalledBelow m) (Twin d j k op reply) h others))
 
 -- rows are read by their number
 

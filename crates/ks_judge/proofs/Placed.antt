@@ -8,12 +8,12 @@ use Rattle.std.proofs.lemmas.List.{map-append, take-map}
 use Rattle.std.proofs.lemmas.List.Elements.{All-tail}
 use Rattle.ks_keysets.specs.Record.{IsPlace}
 use Rattle.ks_history.specs.declared.Op.{Op}
-use Rattle.ks_history.specs.declared.Op.TheVariants.{Get, Put, Del, Add, Swap}
+use Rattle.ks_history.specs.declared.Op.TheVariants.{Get, Put, Del, Add, Swap, Part, Move}
 use Rattle.ks_history.specs.declared.Reply.{Reply}
-use Rattle.ks_history.specs.declared.Reply.TheVariants.{Nothing, Value, Full}
+use Rattle.ks_history.specs.declared.Reply.TheVariants.{Nothing, Value, Full, Listed, Kept}
 use Rattle.ks_history.specs.declared.Answered.{Answered}
 use Rattle.ks_history.specs.declared.Event.{Event}
-use Rattle.ks_history.specs.declared.Event.TheVariants.{Take, Give, Claim, Shape, Call}
+use Rattle.ks_history.specs.declared.Event.TheVariants.{Take, Give, Claim, Shape, Call, Twin}
 use Rattle.ks_history.specs.Write.{Map, keeps, sets, removes, written, map_with}
 use Rattle.ks_history.specs.Map.{told, IsAnswer, map_then, map_after, Legal}
 use Rattle.ks_history.specs.Trace.{calls_of, calls_by, number_after}
@@ -56,7 +56,7 @@ slice_map f [] n x e = absurd cc
 slice_map f (y ∷ xs) zero x e = let same : y ≡ x = cc in ap (λ z. Some (f z)) same
 slice_map f (y ∷ xs) (suc n) x e = slice_map f xs n x e
 
--- a Call more adds its operation to those of its caller
+-- a call more adds its operation to those of its caller
 called_here : (h : List Event) (c d i : ℕ) (op : Op) (reply : Reply) → c ≡ d → map (λ x. x.call.op) (calls_by c (Call d i op reply ∷ h)) ≡ map (λ x. x.call.op) (calls_by c h) ++ op ∷ []
 called_here h c d i op reply e =
     ap (map (λ x. x.call.op)) (cond_here c d (calls_by c h ++ record { number = number_after h; call = record { op = op; reply = reply } } ∷ []) (calls_by c h) e)
@@ -66,15 +66,12 @@ called_else : (h : List Event) (c d i : ℕ) (op : Op) (reply : Reply) → (c �
 called_else h c d i op reply n = ap (map (λ x. x.call.op)) (cond_else c d (calls_by c h ++ record { number = number_after h; call = record { op = op; reply = reply } } ∷ []) (calls_by c h) n)
 
 -- what holds of the calls of each caller holds of all calls
-pub of_all : (P : Op → Type 0) (m : ℕ) (h : List Event) → All (CalledBelow m) h → ((c : ℕ) → c < m → AllByRecursion P (map (λ x. x.call.op) (calls_by c h))) → AllByRecursion (λ a. P a.op) (calls_of h)
-of_all P m [] others each = tt
-of_all P m (Take d j ∷ h) others each = of_all P m h (All-tail (CalledBelow m) (Take d j) h others) each
-of_all P m (Give d j ∷ h) others each = of_all P m h (All-tail (CalledBelow m) (Give d j) h others) each
-of_all P m (Claim d j ∷ h) others each = of_all P m h (All-tail (CalledBelow m) (Claim d j) h others) each
-of_all P m (Shape d changes ∷ h) others each = of_all P m h (All-tail (CalledBelow m) (Shape d changes) h others) each
-of_all P m (Call d j op reply ∷ h) others each =
-    let inside : d < m = others 0 (Call d j op reply) (omega arith) in
-    all_more (λ a. P a.op) (calls_of h) (record { op = op; reply = reply }) (of_all P m h (All-tail (CalledBelow m) (Call d j op reply) h others) before)
+
+of_call : (P : Op → Type 0) (m : ℕ) (h : List Event) (d j : ℕ) (op : Op) (reply : Reply) → d < m →
+    (((c : ℕ) → c < m → AllByRecursion P (map (λ x. x.call.op) (calls_by c h))) → AllByRecursion (λ a. P a.op) (calls_of h)) →
+    ((c : ℕ) → c < m → AllByRecursion P (map (λ x. x.call.op) (calls_by c (Call d j op reply ∷ h)))) → AllByRecursion (λ a. P a.op) (calls_of (Call d j op reply ∷ h))
+of_call P m h d j op reply inside earlier each =
+    all_more (λ a. P a.op) (calls_of h) (record { op = op; reply = reply }) (earlier before)
     (all_last P (map (λ x. x.call.op) (calls_by d h)) op (subst (AllByRecursion P) (called_here h d d j op reply refl) (each d inside)))
   where
     before : (c : ℕ) → c < m → AllByRecursion P (map (λ x. x.call.op) (calls_by c h))
@@ -82,15 +79,26 @@ of_all P m (Call d j op reply ∷ h) others each =
         (λ e. all_front P (map (λ x. x.call.op) (calls_by c h)) (op ∷ []) (subst (AllByRecursion P) (called_here h c d j op reply e) (each c lt)))
         (λ n. subst (AllByRecursion P) (called_else h c d j op reply n) (each c lt))
 
+pub of_all : (P : Op → Type 0) (m : ℕ) (h : List Event) → All (CalledBelow m) h → ((c : ℕ) → c < m → AllByRecursion P (map (λ x. x.call.op) (calls_by c h))) → AllByRecursion (λ a. P a.op) (calls_of h)
+of_all P m [] others each = tt
+of_all P m (Take d j ∷ h) others each = of_all P m h (All-tail (CalledBelow m) (Take d j) h others) each
+of_all P m (Give d j ∷ h) others each = of_all P m h (All-tail (CalledBelow m) (Give d j) h others) each
+of_all P m (Claim d j ∷ h) others each = of_all P m h (All-tail (CalledBelow m) (Claim d j) h others) each
+of_all P m (Shape d changes ∷ h) others each = of_all P m h (All-tail (CalledBelow m) (Shape d changes) h others) each
+of_all P m (Call d j op reply ∷ h) others each = of_call P m h d j op reply (others 0 (Call d j op reply) (omega arith)) (of_all P m h (All-tail (CalledBelow m) (Call d j op reply) h others)) each
+of_all P m (Twin d j k op reply ∷ h) others each = of_call P m h d j op reply (others 0 (Twin d j k op reply) (omega arith)) (of_all P m h (All-tail (CalledBelow m) (Twin d j k op reply) h others)) each
+
 module _ (f g : ℕ → ℕ) (back : (k : ℕ) → IsPlace k → g (f k) ≡ k) where
   -- from the operation at a place to that of its key
 
   op_back : (op : Op) → HasKey op → at_place g (at_place f op) ≡ op
-  op_back (Get k) is = ap Get (back k (is k refl))
-  op_back (Put k v) is = ap (λ x. Put x v) (back k (is k refl))
-  op_back (Del k) is = ap Del (back k (is k refl))
-  op_back (Add k v) is = ap (λ x. Add x v) (back k (is k refl))
-  op_back (Swap k old new) is = ap (λ x. Swap x old new) (back k (is k refl))
+  op_back (Get k) is = ap Get (back k (is.1 k refl))
+  op_back (Put k v) is = ap (λ x. Put x v) (back k (is.1 k refl))
+  op_back (Del k) is = ap Del (back k (is.1 k refl))
+  op_back (Add k v) is = ap (λ x. Add x v) (back k (is.1 k refl))
+  op_back (Swap k old new) is = ap (λ x. Swap x old new) (back k (is.1 k refl))
+  op_back (Part low last) is = absurd is.0
+  op_back (Move from to) is = absurd is.0
 
   pub ops_back : (ops : List Op) → AllByRecursion HasKey ops → map (at_place g) (map (at_place f) ops) ≡ ops
   ops_back [] are = refl
@@ -138,18 +146,26 @@ module _ (f g : ℕ → ℕ) (back : (k : ℕ) → IsPlace k → g (f k) ≡ k) 
 
   then_agree : (m w : Map) → Agree m w → (op : Op) (reply : Reply) → HasKey op → Agree (map_with m (written (at_place f op) reply)) (map_with w (written op reply))
   then_agree m w agree (Get p) reply key = agree
-  then_agree m w agree (Put p v) Nothing key = sets_agree m w p v (key p refl) agree
-  then_agree m w agree (Put p v) (Value u) key = sets_agree m w p v (key p refl) agree
+  then_agree m w agree (Put p v) Nothing key = sets_agree m w p v (key.1 p refl) agree
+  then_agree m w agree (Put p v) (Value u) key = sets_agree m w p v (key.1 p refl) agree
   then_agree m w agree (Put p v) Full key = agree
-  then_agree m w agree (Del p) reply key = removes_agree m w p (key p refl) agree
-  then_agree m w agree (Add p v) Nothing key = sets_agree m w p v (key p refl) agree
+  then_agree m w agree (Put p v) (Listed xs) key = sets_agree m w p v (key.1 p refl) agree
+  then_agree m w agree (Put p v) Kept key = sets_agree m w p v (key.1 p refl) agree
+  then_agree m w agree (Del p) reply key = removes_agree m w p (key.1 p refl) agree
+  then_agree m w agree (Add p v) Nothing key = sets_agree m w p v (key.1 p refl) agree
   then_agree m w agree (Add p v) (Value u) key = agree
   then_agree m w agree (Add p v) Full key = agree
+  then_agree m w agree (Add p v) (Listed xs) key = agree
+  then_agree m w agree (Add p v) Kept key = agree
   then_agree m w agree (Swap p old new) Nothing key = agree
   then_agree m w agree (Swap p old new) (Value u) key = λ k is. dite (ℕ_discrete u old)
-      (λ e. ap (λ x. map_with m x (f k)) (cond_here u old (sets (f p) new) keeps e) ∙ sets_agree m w p new (key p refl) agree k is ∙ sym (ap (λ x. map_with w x k) (cond_here u old (sets p new) keeps e)))
+      (λ e. ap (λ x. map_with m x (f k)) (cond_here u old (sets (f p) new) keeps e) ∙ sets_agree m w p new (key.1 p refl) agree k is ∙ sym (ap (λ x. map_with w x k) (cond_here u old (sets p new) keeps e)))
       (λ n. ap (λ x. map_with m x (f k)) (cond_else u old (sets (f p) new) keeps n) ∙ agree k is ∙ sym (ap (λ x. map_with w x k) (cond_else u old (sets p new) keeps n)))
   then_agree m w agree (Swap p old new) Full key = agree
+  then_agree m w agree (Swap p old new) (Listed xs) key = agree
+  then_agree m w agree (Swap p old new) Kept key = agree
+  then_agree m w agree (Part low last) reply key = absurd key.0
+  then_agree m w agree (Move from to) reply key = absurd key.0
 
   fold_agree : (calls : List Answered) → AllByRecursion (λ a. HasKey a.op) calls → (m w : Map) → Agree m w → Agree (fold map_then m (map (placed f) calls)) (fold map_then w calls)
   fold_agree [] are m w agree = agree
@@ -160,13 +176,15 @@ module _ (f g : ℕ → ℕ) (back : (k : ℕ) → IsPlace k → g (f k) ≡ k) 
   after_agree calls are = fold_agree calls are (λ _. None) (λ _. None) (λ k is. refl)
 
   answer_agree : (m w : Map) → Agree m w → (op : Op) (reply : Reply) → HasKey op → IsAnswer m (at_place f op) reply → IsAnswer w op reply
-  answer_agree m w agree (Get p) reply key is = is ∙ ap told (agree p (key p refl))
-  answer_agree m w agree (Put p v) reply key (inl is) = inl (is ∙ ap told (agree p (key p refl)))
+  answer_agree m w agree (Get p) reply key is = is ∙ ap told (agree p (key.1 p refl))
+  answer_agree m w agree (Put p v) reply key (inl is) = inl (is ∙ ap told (agree p (key.1 p refl)))
   answer_agree m w agree (Put p v) reply key (inr full) = inr full
-  answer_agree m w agree (Del p) reply key is = is ∙ ap told (agree p (key p refl))
-  answer_agree m w agree (Add p v) reply key (inl is) = inl (is ∙ ap told (agree p (key p refl)))
+  answer_agree m w agree (Del p) reply key is = is ∙ ap told (agree p (key.1 p refl))
+  answer_agree m w agree (Add p v) reply key (inl is) = inl (is ∙ ap told (agree p (key.1 p refl)))
   answer_agree m w agree (Add p v) reply key (inr full) = inr full
-  answer_agree m w agree (Swap p old new) reply key is = is ∙ ap told (agree p (key p refl))
+  answer_agree m w agree (Swap p old new) reply key is = is ∙ ap told (agree p (key.1 p refl))
+  answer_agree m w agree (Part low last) reply key is = absurd key.0
+  answer_agree m w agree (Move from to) reply key is = absurd key.0
 
   pub legal_back : (calls : List Answered) → AllByRecursion (λ a. HasKey a.op) calls → Legal (map (placed f) calls) → Legal calls
   legal_back calls are legal k a e =

@@ -2,12 +2,12 @@
 use Rattle.std.proofs.Common.{ℕ, ◌≡◌, ◌==◌, ◌<◌, ◌+◌, ◌⊎◌, inl, inr, cond, List, [], ◌∷◌, ◌++◌, get_or, Some, None, sym, ◌∙◌, ap, subst, arith, ◌≤◌}
 use Rattle.std.proofs.lemmas.List.Sums.{fold-append}
 use Rattle.ks_history.specs.declared.Op.{Op}
-use Rattle.ks_history.specs.declared.Op.TheVariants.{Get, Put, Del, Add, Swap}
+use Rattle.ks_history.specs.declared.Op.TheVariants.{Get, Put, Del, Add, Swap, Part, Move}
 use Rattle.ks_history.specs.declared.Reply.{Reply}
 use Rattle.ks_history.specs.declared.Reply.TheVariants.{Nothing}
 use Rattle.ks_history.specs.declared.Answered.{Answered}
-use Rattle.ks_history.specs.Write.{Map, Write, keeps, sets, removes, map_with, written}
-use Rattle.ks_history.specs.Map.{told, IsAnswer, map_then, map_after}
+use Rattle.ks_history.specs.Write.{Map, Write, keeps, sets, removes, moves, map_with, written}
+use Rattle.ks_history.specs.Map.{told, moved, IsAnswer, map_then, map_after}
 use Rattle.ks_history.specs.Served.{IsListing}
 use Rattle.ks_script.specs.Script.{calls_in}
 use Rattle.ks_judge.specs.Judgment.{Lines, line_at, op_at, answered_at, IsRight, IsLegalRun, at_call, at_map, IsLeastWrong, carriers, calls_below}
@@ -24,11 +24,15 @@ answer_along (Del p) reply m k same is = is ∙ ap told (same p)
 answer_along (Add p v) reply m k same (inl is) = inl (is ∙ ap told (same p))
 answer_along (Add p v) reply m k same (inr full) = inr full
 answer_along (Swap p old new) reply m k same is = is ∙ ap told (same p)
+answer_along (Part low last) reply m k same (pairs, is, span) = (pairs, is, record { ascend = span.ascend; within = span.within; exact = λ p above below. span.exact p above below ∙ same p })
+answer_along (Move from to) reply m k same (inl is) = inl (is ∙ ap (λ o. moved o (m to)) (same from) ∙ ap (λ o. moved (k from) o) (same to))
+answer_along (Move from to) reply m k same (inr full) = inr full
 
 written_along : (w : Write) (m k : Map) (q : ℕ) → m q ≡ k q → map_with m w q ≡ map_with k w q
 written_along keeps m k q same = same
 written_along (sets p v) m k q same = ap (λ o. cond (p == q) (Some v) o) same
 written_along (removes p) m k q same = ap (λ o. cond (p == q) None o) same
+written_along (moves from to v) m k q same = ap (λ o. cond (to == q) (Some v) (cond (from == q) None o)) same
 
 -- the map after the calls below n
 abbrev pub After : List (List Op) → Lines → ℕ → Map → Type 0

@@ -2,7 +2,8 @@
 
 ghost use Rattle.std.specs.Prelude.{ℕ, ◌≡◌, ◌<◌, ◌≤◌, ◌↔◌, length, IsTrue, IfOk, OnOk};
 ghost use Rattle.ks_history.specs.Write.{sets, map_with, written};
-ghost use Rattle.ks_history.specs.Map.{told, IsAnswer, map_after};
+ghost use Rattle.ks_history.specs.Map.{told, moved, IsAnswer, map_after};
+ghost use Rattle.ks_script.specs.Plain.{IsPlain};
 ghost use Rattle.ks_judge.specs.Shape.{SameShape};
 ghost use Rattle.ks_judge.specs.Judgment.{carriers, calls_below, IsRight};
 ghost use Rattle.ks_judge.specs.Slots.{Notes};
@@ -34,6 +35,17 @@ fn told(value: Option<u128>) -> Reply
     }
 }
 
+/// The reply of a move, for what was at the key from which it moves and at the one to which it moves.
+fn moved(was: Option<u128>, there: Option<u128>) -> Reply
+    ensures { result ≡ moved was there }
+{
+    match (was, there) {
+        (None, _) => Reply::Nothing,
+        (Some(value), None) => Reply::Value(value),
+        (Some(_), Some(_)) => Reply::Kept,
+    }
+}
+
 /// Writes the value, and returns whether the reply says what was there.
 #[inline(always)]
 fn set(map: &mut Table, key: u64, value: u128, reply: &Reply) -> Result<bool, AllocError>
@@ -45,8 +57,9 @@ fn set(map: &mut Table, key: u64, value: u128, reply: &Reply) -> Result<bool, Al
     Ok(*reply == told(was))
 }
 
-/// Makes the call with this reply on the map, and returns whether the reply is the map's answer.
+/// Makes the call with this plain reply on the map, and returns whether the reply is the map's answer.
 fn make(map: &mut Table, op: Op, reply: &Reply) -> Result<bool, AllocError>
+    requires { IsPlain reply.now }
     ensures answer { IfOk result (λ right. IsTrue right ↔ IsAnswer (found map.old) op reply.now) }
     ensures map { OnOk result
         ((p : ℕ) → found map.new p ≡ map_with (found map.old) (written op reply.now) p) }
@@ -64,12 +77,26 @@ fn make(map: &mut Table, op: Op, reply: &Reply) -> Result<bool, AllocError>
         Op::Add(key, value) => match reply {
             Reply::Full => Ok(true),
             Reply::Nothing => set(map, key, value, reply),
-            Reply::Value(_) => Ok(*reply == told(map.get(key))),
+            Reply::Value(_) | Reply::Listed(_) | Reply::Kept => Ok(*reply == told(map.get(key))),
         },
         Op::Swap(key, old, new) => match reply {
             Reply::Value(found) if *found == old => set(map, key, new, reply),
             _ => Ok(*reply == told(map.get(key))),
         },
+        // No plain reply lists pairs.
+        Op::Part(..) => Ok(false),
+        Op::Move(from, to) => {
+            let due = moved(map.get(from), map.get(to));
+            match reply {
+                Reply::Full => Ok(true),
+                Reply::Value(value) => {
+                    map.remove(from);
+                    map.insert(to, *value)?;
+                    Ok(*reply == due)
+                }
+                Reply::Nothing | Reply::Listed(_) | Reply::Kept => Ok(*reply == due),
+            }
+        }
     }
 }
 

@@ -1,5 +1,5 @@
 -- What a line says, read back from it: numbers with spaces between them, pairs and calls.
-use Rattle.ks_script.proofs.Common.{ℕ, ◌≡◌, cond, eqb, List, length, drop, get_or, sym, ap, ◌∙◌, arith, Op, Get, Put, Del, Add, Swap, Version, IsCall, call_line, pair_line, ◌+◌, ◌-◌, ◌*◌, ◌^◌, ◌<◌, true, [], ◌∷◌, ◌++◌, refl, append_assoc, append-nil, codes, inl, inr, false≢true, and_parts, eqb_tells, decimal, is_ascii_digit, all_ascii_digits, First, Second, value_limit}
+use Rattle.ks_script.proofs.Common.{ℕ, ◌≡◌, cond, eqb, List, length, drop, get_or, sym, ap, ◌∙◌, arith, Op, Get, Put, Del, Add, Swap, Part, Move, Version, IsCall, call_line, pair_line, ◌+◌, ◌-◌, ◌*◌, ◌^◌, ◌<◌, true, [], ◌∷◌, ◌++◌, refl, append_assoc, append-nil, codes, inl, inr, false≢true, and_parts, eqb_tells, decimal, is_ascii_digit, all_ascii_digits, First, Second, value_limit}
 use Rattle.ks_script.proofs.Numerals.{wide, read_on, digits_of_number, value_of_digits}
 
 -- the values of a version have 128 bits
@@ -54,17 +54,25 @@ three_parts k v w =
 abbrev pub first : List ℕ → ℕ
 first line = get_or line 0 0
 
--- a call has a first byte, and none begins as `caller` or `run` do
-pub not_call : (op : Op) → (0 < first (call_line op)) × (first (call_line op) ≡ 99 → ⊥) × (first (call_line op) ≡ 114 → ⊥)
-not_call (Get k) = (omega arith, λ e. omega (arith, e), λ e. omega (arith, e))
-not_call (Put k v) = (omega arith, λ e. omega (arith, e), λ e. omega (arith, e))
-not_call (Del k) = (omega arith, λ e. omega (arith, e), λ e. omega (arith, e))
-not_call (Add k v) = (omega arith, λ e. omega (arith, e), λ e. omega (arith, e))
-not_call (Swap k v w) = (omega arith, λ e. omega (arith, e), λ e. omega (arith, e))
+-- no line of a call begins as `caller` or `run` do
+pub not_call : (op : Op) → (first (call_line op) ≡ 99 → ⊥) × (first (call_line op) ≡ 114 → ⊥)
+not_call (Get k) = (λ e. omega (arith, e), λ e. omega (arith, e))
+not_call (Put k v) = (λ e. omega (arith, e), λ e. omega (arith, e))
+not_call (Del k) = (λ e. omega (arith, e), λ e. omega (arith, e))
+not_call (Add k v) = (λ e. omega (arith, e), λ e. omega (arith, e))
+not_call (Swap k v w) = (λ e. omega (arith, e), λ e. omega (arith, e))
+not_call (Part low last) = (λ e. omega (arith, e), λ e. omega (arith, e))
+not_call (Move from to) = (λ e. omega (arith, e), λ e. omega (arith, e))
 
-pub some_first : (line : List ℕ) → 0 < first line → 0 < length line
-some_first [] some = some
-some_first (b ∷ line) some = omega arith
+-- and that of one that a script may have is not empty
+pub some_call : (version : Version) (op : Op) → IsCall version op → 0 < length (call_line op)
+some_call version (Get k) h = omega arith
+some_call version (Put k v) h = omega arith
+some_call version (Del k) h = omega arith
+some_call version (Add k v) h = omega arith
+some_call version (Swap k v w) h = omega arith
+some_call version (Part low last) h = absurd h
+some_call version (Move from to) h = absurd h
 
 -- the call of a line, by its first byte
 abbrev swap_of : ℕ → ℕ × ℕ → Op
@@ -87,6 +95,8 @@ call_back version (Swap k v w) h =
     ap (λ (l : List ℕ). swap_of (cut 0 l).0 (pair_of (cut 0 l).1)) (three_parts k v w)
     ∙ (ap (λ (x : ℕ × List ℕ). swap_of x.0 (pair_of x.1)) (cut_first k (pair_line (v, w)) (wide k h.1))
     ∙ ap (swap_of k) (pair_back v w (value_small version v h.2) (value_small version w h.3)))
+call_back version (Part low last) h = absurd h
+call_back version (Move from to) h = absurd h
 
 -- a line spells one call
 pub one_call : (version : Version) (a b : Op) → IsCall version a → IsCall version b → call_line a ≡ call_line b → a ≡ b

@@ -13,7 +13,7 @@ behind run = codes "run" ∷ run_lines run
 
 -- they begin with nothing of a script
 run_apart : (v : Version) (ls : Lines) → Apart v (codes "run" ∷ ls)
-run_apart v ls = record { no_version = λ e. omega (arith, ap first e); no_caller = λ e. omega (arith, ap first e); no_call = λ op is e. (not_call op).2 (sym (ap first e)) }
+run_apart v ls = record { no_version = λ e. omega (arith, ap first e); no_caller = λ e. omega (arith, ap first e); no_call = λ op is e. (not_call op).1 (sym (ap first e)) }
 
 abbrev first_byte : Lines → ℕ
 first_byte ls = get_or (get_or ls 0 []) 0 0
@@ -43,7 +43,7 @@ module _ (v : Version) (run : Run) where
       by_more : (more : List Op) (others : List (List Op)) → s ≡ callers ++ (ops ++ more) ∷ others → codes "run" ∷ ls ≡ map call_line more ++ (script_lines others ++ behind run) → (s ≡ all) × (ls ≡ run_lines run)
       by_more [] [] e f = (e ∙ (ap (λ (xs : List Op). callers ++ xs ∷ []) (append-nil ops) ∙ sym all_are), ap (λ (ls : Lines). drop 1 ls) f)
       by_more [] (o ∷ others) e f = absurd (omega (arith, ap first_byte f))
-      by_more (m ∷ more) others e f = absurd ((not_call m).2 (sym (ap first_byte f)))
+      by_more (m ∷ more) others e f = absurd ((not_call m).1 (sym (ap first_byte f)))
 
   calls_run : (callers : List (List Op)) (ops : List Op) (s all : List (List Op)) → all ≡ callers ++ ops ∷ [] → IsScript v all → Leads (CallsLeft v callers ops s (behind run)) (λ ls. (s ≡ all) × (ls ≡ run_lines run)) (codes "run" ∷ [])
   calls_run callers ops s all all_are is = record {

@@ -9,9 +9,9 @@ pub use Rattle.std.specs.List.{onto_first, prefix_len, AllByRecursion}
 pub use Rattle.std.specs.Str.{all_ascii_digits}
 pub use Rattle.std.specs.Str.Parse.{digits_value, AllDigits, digits_value_after}
 pub use Rattle.ks_history.specs.declared.Op.{Op}
-pub use Rattle.ks_history.specs.declared.Op.TheVariants.{Get, Put, Del, Add, Swap}
+pub use Rattle.ks_history.specs.declared.Op.TheVariants.{Get, Put, Del, Add, Swap, Part, Move}
 pub use Rattle.ks_history.specs.declared.Reply.{Reply}
-pub use Rattle.ks_history.specs.declared.Reply.TheVariants.{Nothing, Value, Full}
+pub use Rattle.ks_history.specs.declared.Reply.TheVariants.{Nothing, Value, Full, Listed, Kept}
 pub use Rattle.ks_script.specs.Ahead.{Lacks}
 pub use Rattle.ks_script.specs.Checked.{IsRunOf, SpellsChecked, AreChecked, CheckedOf, IsReply, IsAnswered, AscendFrom}
 pub use Rattle.ks_script.specs.CheckedTexts.{CheckedIn, FirstBadOfChecked}

@@ -1,5 +1,5 @@
 -- Replies: how their words differ.
-use Rattle.ks_script.proofs.Common.{ℕ, ◌≡◌, ◌^◌, ◌<◌, ◌⊎◌, false, cond, eqb, List, [], ◌∷◌, ◌++◌, length, codes, refl, sym, ap, subst, ◌∙◌, arith, inl, inr, length-append, get_or_append_left, append_cancel_left, decimal, is_ascii_digit, Reply, Nothing, Value, Full, reply_word, IsReply, NoDigit, EndsLine, NotLined}
+use Rattle.ks_script.proofs.Common.{ℕ, ◌≡◌, ◌^◌, ◌<◌, ◌⊎◌, false, cond, eqb, List, [], ◌∷◌, ◌++◌, length, codes, refl, sym, ap, subst, ◌∙◌, arith, inl, inr, length-append, get_or_append_left, append_cancel_left, decimal, is_ascii_digit, Reply, Nothing, Value, Full, Listed, Kept, reply_word, IsReply, NoDigit, EndsLine, NotLined}
 use Rattle.ks_script.proofs.Exact.{no_number}
 use Rattle.ks_script.proofs.Lined.{number_told, end_free}
 use Rattle.ks_script.proofs.CallLines.{first}
@@ -18,6 +18,8 @@ pub by_word : (r : Reply) → IsReply r → HasWord r ⊎ ((v : ℕ) × (v < 2 ^
 by_word Nothing h = inl (refl, omega arith, refl)
 by_word Full h = inl (refl, omega arith, refl)
 by_word (Value v) h = inr (v, h, refl)
+by_word (Listed pairs) h = absurd h
+by_word Kept h = absurd h
 
 no_digit : (word rest : List ℕ) → 0 < length word → is_ascii_digit (first word) ≡ false → NoDigit (word ++ rest)
 no_digit [] rest some free = absurd (omega arith)

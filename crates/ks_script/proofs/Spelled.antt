@@ -1,5 +1,5 @@
 -- Texts and their lines, there and back.
-use Rattle.ks_script.proofs.Common.{ℕ, ◌≡◌, ◌⊎◌, ◌+◌, ◌^◌, ◌<◌, ◌≤◌, Bool, false, ◌||◌, eqb, List, [], ◌∷◌, ◌++◌, length, map, refl, sym, ap, subst, ◌∙◌, append_assoc, arith, codes, inl, inr, length-append, length-map, false≢true, eq-eqb, or_parts, decimal, AllByRecursion, onto_first, Op, Get, Put, Del, Add, Swap, Reply, Nothing, Value, Full, Version, First, Second, lines_of, text_of, Lacks, version_line, callers_limit, IsCall, IsScript, call_line, script_lines, Run, reply_word, reply_line, pair_line, callers_from, map_lines, run_lines, IsReply, IsAnswered, AscendFrom, IsRunOf, CheckedIn}
+use Rattle.ks_script.proofs.Common.{ℕ, ◌≡◌, ◌⊎◌, ◌+◌, ◌^◌, ◌<◌, ◌≤◌, Bool, false, ◌||◌, eqb, List, [], ◌∷◌, ◌++◌, length, map, refl, sym, ap, subst, ◌∙◌, append_assoc, arith, codes, inl, inr, length-append, length-map, false≢true, eq-eqb, or_parts, decimal, AllByRecursion, onto_first, Op, Get, Put, Del, Add, Swap, Part, Move, Reply, Nothing, Value, Full, Listed, Kept, Version, First, Second, lines_of, text_of, Lacks, version_line, callers_limit, IsCall, IsScript, call_line, script_lines, Run, reply_word, reply_line, pair_line, callers_from, map_lines, run_lines, IsReply, IsAnswered, AscendFrom, IsRunOf, CheckedIn}
 use Rattle.ks_script.proofs.Numerals.{wide}
 use Rattle.ks_script.proofs.Cuts.{lines_cases, lines_first, decimal_lacks}
 use Rattle.ks_script.proofs.CallLines.{value_small}
@@ -51,6 +51,8 @@ plain_call version (Swap k v w) h =
     spaced (codes "swap " ++ decimal k ++ codes " " ++ decimal v) (decimal w)
     (spaced (codes "swap " ++ decimal k) (decimal v) (keyed (codes "swap ") k refl h.1) (value v (value_small version v h.2)))
     (value w (value_small version w h.3))
+plain_call version (Part low last) h = absurd h
+plain_call version (Move from to) h = absurd h
 
 pub plain_script : (version : Version) (s : List (List Op)) → AllByRecursion (AllByRecursion (IsCall version)) s → Plain (script_lines s)
 plain_script version [] h = tt
@@ -64,6 +66,8 @@ plain_word : (r : Reply) → IsReply r → Lacks 10 (reply_word r)
 plain_word Nothing h = lacks_by 10 (codes "none") refl
 plain_word (Value v) h = value v h
 plain_word Full h = lacks_by 10 (codes "full") refl
+plain_word (Listed pairs) h = absurd h
+plain_word Kept h = absurd h
 
 pub plain_reply : (x : ℕ × Reply) → IsAnswered x → Lacks 10 (reply_line x)
 plain_reply x h = spaced (decimal x.0) (reply_word x.1) (number x.0 h.0) (plain_word x.1 h.1)

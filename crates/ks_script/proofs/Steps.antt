@@ -57,7 +57,7 @@ module _ (version : Version) where
 
   called : (callers : List (List Op)) (ops : List Op) (script : List (List Op)) (behind : Lines) (op : Op) (more : List Op) (others : List (List Op)) (ls : Lines) → IsCall version op → IsScript version script → Apart version behind → script ≡ callers ++ (ops ++ more) ∷ others → call_line op ∷ ls ≡ map call_line more ++ (script_lines others ++ behind) → CallsLeft version callers (ops ++ op ∷ []) script behind ls
   called callers ops script behind op [] [] ls good is apart s e = absurd (subst (NoneFirst (IsCall version) call_line) (sym e) apart.no_call op good refl)
-  called callers ops script behind op [] (o ∷ others) ls good is apart s e = absurd ((not_call op).1 (ap (λ (ls : Lines). first (get_or ls 0 [])) e))
+  called callers ops script behind op [] (o ∷ others) ls good is apart s e = absurd ((not_call op).0 (ap (λ (ls : Lines). first (get_or ls 0 [])) e))
   called callers ops script behind op (m ∷ more) others ls good is apart s e =
       let same : m ≡ op = one_call version m op (all_good callers ops (m ∷ more) others script is s).0 good (sym (ap (λ (ls : Lines). get_or ls 0 []) e)) in
       record {
@@ -99,7 +99,7 @@ module _ (version : Version) where
     others_are = refl;
     lines_are = ap (λ (ls : Lines). drop 1 ls) (e ∙ append_assoc (codes "caller" ∷ map call_line o) (script_lines others) behind);
   }
-  opening (m ∷ more) others behind ls apart e = absurd ((not_call m).1 (sym (ap (λ (ls : Lines). first (get_or ls 0 [])) e)))
+  opening (m ∷ more) others behind ls apart e = absurd ((not_call m).0 (sym (ap (λ (ls : Lines). first (get_or ls 0 [])) e)))
 
   pub caller_step : (callers : List (List Op)) (ops : List Op) (script : List (List Op)) (behind : Lines) → Leads (CallsLeft version callers ops script behind) (CallsLeft version (callers ++ ops ∷ []) [] script behind) (codes "caller" ∷ [])
   caller_step callers ops script behind = record {

@@ -3,18 +3,20 @@ use Rattle.std.specs.Prelude.{ℕ, ◌≡◌, ◌+◌, ◌^◌, ◌<◌, ◌≤�
 use Rattle.std.specs.List.{AllByRecursion}
 use Rattle.ks_history.specs.declared.Op.{Op}
 use Rattle.ks_history.specs.declared.Reply.{Reply}
-use Rattle.ks_history.specs.declared.Reply.TheVariants.{Nothing, Value, Full}
+use Rattle.ks_history.specs.declared.Reply.TheVariants.{Nothing, Value, Full, Listed, Kept}
 use Rattle.ks_script.specs.declared.version.Version.{Version}
 use Rattle.ks_script.specs.Lines.{lines_of}
 use Rattle.ks_script.specs.Version.{version_line}
 use Rattle.ks_script.specs.Script.{IsScript, script_lines}
 use Rattle.ks_script.specs.Run.{Run, run_lines}
 
--- the value of the reply, if it has one, has 128 bits
+-- the reply is plain, and its value, if it has one, has 128 bits
 abbrev pub IsReply : Reply → Type 0
 IsReply Nothing = Unit {0}
 IsReply (Value v) = v < 2 ^ 128
 IsReply Full = Unit {0}
+IsReply (Listed pairs) = ⊥
+IsReply Kept = ⊥
 
 -- the number of a call has 64 bits, and a value that it returns has 128
 abbrev pub IsAnswered : ℕ × Reply → Type 0

@@ -6,6 +6,7 @@ pub mod Version
 pub mod Script
 pub mod ScriptTexts
 pub mod Run
+pub mod Plain
 pub mod Reading
 pub mod Checked
 pub mod CheckedTexts
@@ -21,3 +22,4 @@ pub mod Left
 pub mod Lined
 pub mod RunLeft
 pub mod Pieces
+pub mod Laws

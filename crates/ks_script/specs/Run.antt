@@ -2,7 +2,7 @@
 use Rattle.std.specs.Prelude.{ℕ, ◌+◌, List, [], ◌∷◌, ◌++◌, map, codes}
 use Rattle.std.specs.Fmt.{decimal}
 use Rattle.ks_history.specs.declared.Reply.{Reply}
-use Rattle.ks_history.specs.declared.Reply.TheVariants.{Nothing, Value, Full}
+use Rattle.ks_history.specs.declared.Reply.TheVariants.{Nothing, Value, Full, Listed, Kept}
 use Rattle.ks_script.specs.Lines.{text_of}
 
 -- a printed run: for each caller the number and the reply of each of its calls, and the keys and values of the map
@@ -10,11 +10,13 @@ pub record Run : Type 0 where
   pub callers : List (List (ℕ × Reply))
   pub pairs : List (ℕ × ℕ)
 
--- the word of a reply
+-- the word of a reply, if it is plain
 abbrev pub reply_word : Reply → List ℕ
 reply_word Nothing = codes "none"
 reply_word (Value v) = decimal v
 reply_word Full = codes "full"
+reply_word (Listed pairs) = []
+reply_word Kept = []
 
 -- the line of a call: its number and its reply
 abbrev pub reply_line : ℕ × Reply → List ℕ

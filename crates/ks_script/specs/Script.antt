@@ -3,27 +3,31 @@ use Rattle.std.specs.Prelude.{ℕ, ◌≡◌, ◌+◌, ◌^◌, ◌<◌, ◌≤�
 use Rattle.std.specs.List.{flat_map, AllByRecursion}
 use Rattle.std.specs.Fmt.{decimal}
 use Rattle.ks_history.specs.declared.Op.{Op}
-use Rattle.ks_history.specs.declared.Op.TheVariants.{Get, Put, Del, Add, Swap}
+use Rattle.ks_history.specs.declared.Op.TheVariants.{Get, Put, Del, Add, Swap, Part, Move}
 use Rattle.ks_script.specs.declared.version.Version.{Version}
 use Rattle.ks_script.specs.Lines.{lines_of}
 use Rattle.ks_script.specs.Version.{version_line, callers_limit, value_limit, AddsAndSwaps}
 
--- the line of a call: its words, with one space between them
+-- the line of a call: its words, with one space between them; a part and a move have no line
 abbrev pub call_line : Op → List ℕ
 call_line (Get k) = codes "get " ++ decimal k
 call_line (Put k v) = codes "put " ++ decimal k ++ codes " " ++ decimal v
 call_line (Del k) = codes "del " ++ decimal k
 call_line (Add k v) = codes "add " ++ decimal k ++ codes " " ++ decimal v
 call_line (Swap k old new) = codes "swap " ++ decimal k ++ codes " " ++ decimal old ++ codes " " ++ decimal new
+call_line (Part low last) = []
+call_line (Move from to) = []
 
 -- the call may be in a script of the version: its key has 64 bits, its values are those that the version has, and the
--- version has an Add and a Swap
+-- version has an Add and a Swap; no version has a part or a move
 abbrev pub IsCall : Version → Op → Type 0
 IsCall version (Get k) = k < 2 ^ 64
 IsCall version (Put k v) = (k < 2 ^ 64) × (v < value_limit version)
 IsCall version (Del k) = k < 2 ^ 64
 IsCall version (Add k v) = AddsAndSwaps version × (k < 2 ^ 64) × (v < value_limit version)
 IsCall version (Swap k old new) = AddsAndSwaps version × (k < 2 ^ 64) × (old < value_limit version) × (new < value_limit version)
+IsCall version (Part low last) = ⊥
+IsCall version (Move from to) = ⊥
 
 -- the lines of a caller: `caller`, and its calls
 abbrev pub caller_lines : List Op → List (List ℕ)

@@ -75,7 +75,7 @@ fn small_of(op: Op) -> Option<SmallCall>
         Op::Del(key) => Some(SmallCall::Del {
             key: u32::try_from(key).ok()?,
         }),
-        Op::Add(..) | Op::Swap(..) => None,
+        Op::Add(..) | Op::Swap(..) | Op::Part(..) | Op::Move(..) => None,
     }
 }
 
@@ -119,7 +119,7 @@ impl LongCalls {
                 let at = appended_at(&mut self.pairs, (key, 0))?;
                 Ok(SmallCall::LongDel { at })
             }
-            Op::Add(..) | Op::Swap(..) => {
+            Op::Add(..) | Op::Swap(..) | Op::Part(..) | Op::Move(..) => {
                 let at = appended_at(&mut self.others, op)?;
                 Ok(SmallCall::Other { at })
             }

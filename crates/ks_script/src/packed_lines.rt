@@ -1,10 +1,11 @@
 //! The lines of one caller in little room: 8 bytes for a line without a value of a number below 2^32, and for one of a
 //! number below 2^24 with a value below 2^32; others take 8 bytes beside a longer value, or beside the line itself.
 
-ghost use Rattle.std.specs.Prelude.{ℕ, ◌≡◌, ◌^◌, ◌<◌, [], ◌∷◌, ◌++◌, length, slice_index_or, IfOk, IfSome, OnOk, OnErr};
+ghost use Rattle.std.specs.Prelude.{ℕ, ◌≡◌, ◌^◌, ◌<◌, [], ◌∷◌, ◌++◌, length, slice_index_or, All, IfOk, IfSome, OnOk, OnErr};
 ghost use Rattle.ks_history.specs.declared.Reply.TheVariants.{Nothing, Value};
 ghost use Rattle.ks_script.specs.Parts.{joined};
 ghost use Rattle.ks_script.specs.PackedLines.{line_in, IsLineIn, KeepsLines};
+ghost use Rattle.ks_script.specs.Plain.{IsPlain};
 
 use crate::appending::appended_at;
 use crate::parts::{joined, parts};
@@ -74,18 +75,21 @@ fn small_of(number: u64, reply: &Reply) -> Option<SmallLine>
         Reply::Full => Some(SmallLine::Full {
             number: u32::try_from(number).ok()?,
         }),
+        Reply::Listed(_) | Reply::Kept => None,
     }
 }
 
-// The reply, made anew.
+// The plain reply, made anew.
 #[inline(always)]
 fn again(reply: &Reply) -> Reply
+    requires { IsPlain reply.now }
     ensures { result ≡ reply.now }
 {
     match reply {
         Reply::Nothing => Reply::Nothing,
         Reply::Value(value) => Reply::Value(*value),
         Reply::Full => Reply::Full,
+        Reply::Listed(_) | Reply::Kept => unreachable!(),
     }
 }
 
@@ -120,6 +124,7 @@ impl LongLines {
     // The small line that represents this one, which is kept if it is longer.
     #[inline(always)]
     fn small_for(&mut self, number: u64, reply: Reply) -> Result<SmallLine, AllocError>
+        requires { IsPlain reply }
         ensures stands { IfOk result (λ s. line_in self.new s ≡ (number, reply)) }
         ensures fits { IfOk result (IsLineIn self.new) }
         ensures others { KeepsLines self.old self.new }
@@ -155,8 +160,9 @@ impl Lines {
         })
     }
 
-    /// These lines, packed.
+    /// These lines, whose replies are plain, packed.
     pub fn from_lines(alloc: Global, lines: &[(u64, Reply)]) -> Result<Lines, AllocError>
+        requires { All (λ line. IsPlain line.1) lines.now }
         ensures { IfOk result (λ packed. packed ≡ lines.now) }
     {
         let mut packed = Lines::with_capacity(alloc, lines.len())?;
@@ -166,9 +172,10 @@ impl Lines {
         Ok(packed)
     }
 
-    /// Puts a line behind the others. If memory runs out all stays as it was.
+    /// Puts a line with a plain reply behind the others. If memory runs out all stays as it was.
     #[inline(always)]
     pub fn push(&mut self, number: u64, reply: Reply) -> Result<(), AllocError>
+        requires { IsPlain reply }
         ensures ok { OnOk result (self.new ≡ self.old ++ (number, reply) ∷ []) }
         ensures err { OnErr result (self.new ≡ self.old) }
     {
@@ -204,6 +211,7 @@ impl Lines {
     pub fn get(&self, at: usize) -> (u64, Reply)
         requires { at < length self.now }
         ensures line { result ≡ slice_index_or self.now at (0, Nothing) }
+        ensures plain { IsPlain result.1 }
         ensures few { length self.now < 2 ^ 64 }
     {
         match self.small[at] {

@@ -5,6 +5,7 @@ ghost use Rattle.std.specs.Fmt.{decimal};
 ghost use Rattle.arrayvec.specs.ArrayVec.{array_vec_len};
 ghost use Rattle.ks_script.specs.Lines.{ended, text_of};
 ghost use Rattle.ks_script.specs.Run.{reply_line, pair_line, callers_from, map_lines};
+ghost use Rattle.ks_script.specs.Plain.{IsPlain};
 ghost use Rattle.ks_script.specs.Outside.{Rose, Grew, GrewByFront};
 ghost use Rattle.ks_script.specs.Pieces.{Holds, Puts};
 
@@ -165,8 +166,9 @@ fn put_told<K: Sink>(out: &mut K, piece: &mut Piece, number: u64, word: &[u8])
     put(out, piece, line.bytes());
 }
 
-// The line of a call.
+// The line of a call with a plain reply.
 fn put_reply<K: Sink>(out: &mut K, piece: &mut Piece, line: &(u64, Reply))
+    requires { IsPlain line.now.1 }
     ensures { Puts (K.taken out.old) (K.faults out.old) piece.old (ended (reply_line line.now))
         (K.taken out.new) (K.faults out.new) piece.new }
 {
@@ -174,6 +176,7 @@ fn put_reply<K: Sink>(out: &mut K, piece: &mut Piece, line: &(u64, Reply))
         Reply::Nothing => put_told(out, piece, line.0, b" none\n"),
         Reply::Value(value) => put_pair(out, piece, line.0, *value),
         Reply::Full => put_told(out, piece, line.0, b" full\n"),
+        Reply::Listed(_) | Reply::Kept => unreachable!(),
     }
 }
 

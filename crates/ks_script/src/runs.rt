@@ -29,10 +29,10 @@ fn replies(alloc: Global, bytes: &[u8], wanted: usize) -> Result<(Lines, &[u8]),
     let mut lines = Lines::with_capacity(alloc, wanted)?;
     let mut rest = bytes;
     'replies: while lines.len() < wanted {
-        let Some(((number, said), more)) = reply(rest) else {
+        let Some((line, more)) = reply(rest) else {
             return Ok((lines, rest));
         };
-        lines.push(number, said)?;
+        lines.push(line.0, line.1)?;
         rest = more;
     }
     Ok((lines, rest))

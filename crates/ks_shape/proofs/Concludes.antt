@@ -1,6 +1,7 @@
 -- How a call under way is done.
 use Rattle.std.proofs.Common.{◌≡◌, ℕ, List, [], ◌∷◌, ◌++◌, length, append_assoc, ap, sym, subst, ◌∙◌, refl, arith}
 use Rattle.ks_keysets.specs.declared.Frame.{Frame}
+use Rattle.ks_keysets.specs.declared.Pair.{Pair}
 use Rattle.ks_keysets.specs.Layout.{Layout}
 use Rattle.ks_history.specs.declared.Event.{Event}
 use Rattle.ks_history.specs.declared.Event.TheVariants.{Give, Call}
@@ -20,6 +21,8 @@ use Rattle.ks_history.specs.Laws.Stays.{AreInTurn}
 use Rattle.ks_history.specs.Laws.Begins.{begins_append, by_others_keeps, with_others}
 use Rattle.ks_history.specs.Underway.{Underway}
 use Rattle.ks_history.specs.Laws.Underway.{underway_call, decided_with, done_of}
+use Rattle.ks_node.specs.Body.{Body, frame_of}
+use Rattle.ks_node.specs.Effect.{with_pairs}
 use Rattle.ks_arena.specs.Clauses.{Numbered}
 use Rattle.ks_shape.specs.Laws.Single.{one_may, gave_last}
 
@@ -54,3 +57,8 @@ module _ (layout : Layout) (template : Template) (n c i number : ℕ) (op : Op) 
         at = refl;
         framed = ap (λ (z : List Event). frame_after blank z i) joined ∙ stays.frame blank ∙ framed;
       }
+
+-- a call that is decided at a body whose pairs it changed is decided at one with the frame of the body before
+pub framed_before : {layout : Layout} {template : Template} {n c number node : ℕ} {op : Op} {s0 s1 : List Event} {reply : Reply} {blank : Frame} (b b' : Body) (ps : List Pair) → b' ≡ with_pairs b ps
+    → DoneAt layout template n c op s0 s1 reply number node blank (frame_of b') → DoneAt layout template n c op s0 s1 reply number node blank (frame_of b)
+framed_before {layout} {template} {n} {c} {number} {node} {op} {s0} {s1} {reply} {blank} b b' ps is = subst (DoneAt layout template n c op s0 s1 reply number node blank) (ap frame_of is)

@@ -13,7 +13,7 @@ use Rattle.ks_history.specs.Hand.{AreOnce}
 use Rattle.ks_history.specs.Laws.Hand.{is_hand}
 use Rattle.ks_history.specs.Laws.Begins.{with_others}
 use Rattle.ks_history.specs.declared.Op.{Op}
-use Rattle.ks_history.specs.declared.Op.TheVariants.{Get, Put, Del, Add, Swap}
+use Rattle.ks_history.specs.declared.Op.TheVariants.{Get, Put, Del, Add, Swap, Part, Move}
 use Rattle.ks_history.specs.Done.{Template, coupling, from_above, most_held, MayTake}
 use Rattle.ks_history.specs.Underway.{Underway}
 use Rattle.ks_history.specs.Laws.Underway.{may_take_later, underway_with}
@@ -40,6 +40,8 @@ two_may (Put p v) = omega arith
 two_may (Del p) = omega arith
 two_may (Add p v) = omega arith
 two_may (Swap p old new) = omega arith
+two_may (Part low last) = omega arith
+two_may (Move from to) = omega arith
 
 module _ {N : Type 0} (sort : Sort) (shows : N → Body) where
   -- the other held node is released

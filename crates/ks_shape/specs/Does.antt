@@ -9,7 +9,7 @@ use Rattle.ks_keysets.specs.declared.Record.{Record}
 use Rattle.ks_keysets.specs.Keyset.{IsLive}
 use Rattle.ks_keysets.specs.Layout.{Layout}
 use Rattle.ks_history.specs.declared.Event.{Event}
-use Rattle.ks_history.specs.declared.Event.TheVariants.{Take, Give, Claim, Shape, Call}
+use Rattle.ks_history.specs.declared.Event.TheVariants.{Take, Give, Claim, Shape, Call, Twin}
 use Rattle.ks_history.specs.Trace.{◌⊑◌, caller_of, graph_after}
 use Rattle.ks_history.specs.Frames.{frame_after}
 use Rattle.ks_node.specs.Body.{Body, frame_of, is_branch, only_child_of, value_at}
@@ -38,6 +38,7 @@ MaySearch h (Give c i) = Unit {0}
 MaySearch h (Claim c i) = ⊥
 MaySearch h (Shape c changes) = ⊥
 MaySearch h (Call c i op reply) = Unit {0}
+MaySearch h (Twin c i j op reply) = Unit {0}
 
 -- node i has this body after h: its record and its frame are as the body shows
 pub record HasBody (sort : Sort) (h : List Event) (i : ℕ) (b : Body) : Type 0 where
@@ -76,6 +77,7 @@ MayFill sort place h (Give c i) = Unit {0}
 MayFill sort place h (Claim c i) = Unit {0}
 MayFill sort place h (Shape c changes) = MakesRoom sort place h changes
 MayFill sort place h (Call c i op reply) = Unit {0}
+MayFill sort place h (Twin c i j op reply) = Unit {0}
 
 -- a Shape after h that merges two nodes: a low one absorbs the node to which it itself leads, or the one after it under a
 -- parent; or a branch takes over its only child
@@ -91,6 +93,7 @@ MayDel sort h (Give c i) = Unit {0}
 MayDel sort h (Claim c i) = ⊥
 MayDel sort h (Shape c changes) = Merges sort h changes
 MayDel sort h (Call c i op reply) = Unit {0}
+MayDel sort h (Twin c i j op reply) = Unit {0}
 
 module _ {N D : Type 0} where
   -- from p to q the caller only takes and releases nodes and decides: it makes no Shape and claims no node

@@ -1,5 +1,5 @@
 -- Puts and adds as one operation, and their results at the end of a search for room.
-use Rattle.std.specs.Prelude.{ℕ, List, Result, Ok, Err}
+use Rattle.std.specs.Prelude.{ℕ, List, Result, Ok, Err, IfOk}
 use Rattle.ks_node.specs.declared.node.Node.{Ghosts as NodeGhosts}
 use Rattle.ks_node.below.ks_places.specs.declared.Placing.{Ghosts as PlacingGhosts}
 use Rattle.ks_flow.specs.declared.discipline.Discipline.{Ghosts as DisciplineGhosts}
@@ -9,6 +9,7 @@ use Rattle.ks_history.specs.declared.Op.{Op}
 use Rattle.ks_history.specs.declared.Op.TheVariants as ops
 use Rattle.ks_history.specs.Done.{Template, Done}
 use Rattle.ks_history.specs.Due.{NoneFree}
+use Rattle.ks_history.specs.Map.{told}
 use Rattle.ks_history.specs.Passes.{NoCallBy}
 use Rattle.ks_history.specs.Trace.{◌⊑◌}
 use Rattle.ks_history.specs.Underway.{Underway}
@@ -25,6 +26,7 @@ use Rattle.ks_shape.specs.declared.answers.PutLater.TheVariants as later
 use Rattle.ks_shape.specs.declared.fills.Fill.{Fill}
 use Rattle.ks_shape.specs.declared.fills.Fill.TheVariants.{Put, Add}
 use Rattle.ks_shape.specs.Answers.{number_in, reply_in}
+use Rattle.ks_shape.specs.Of.{FinishesAt}
 use Rattle.ks_shape.specs.SearchEnd.{HasRoom, IsCrowded}
 
 -- the operation that sets this at the place
@@ -49,6 +51,11 @@ module _ {N : Type 0} where
     abbrev pub EndsForRoom : ℕ → ℕ → ℕ → List Event → Result (Hand N) (Hand N) → Type 0
     EndsForRoom n c place k found = (h : List Event) × (since : h ⊑ k) × NoCallBy c since.rest × FoundRoom n c place h k found
 
+  -- the node at which it ended, with room or full
+  abbrev pub ended_at : Result (Hand N) (Hand N) → Hand N
+  ended_at (Ok x) = x
+  ended_at (Err x) = x
+
   -- if it ended at a full node, no node was free for the place since h
   abbrev pub FullIsDue : Layout → ℕ → ℕ → ℕ → List Event → List Event → Result (Hand N) (Hand N) → Type 0
   FullIsDue layout n c place h k (Ok x) = Unit {0}
@@ -62,3 +69,7 @@ module _ {N D P : Type 0} {n : NodeGhosts N P} {q : PlacingGhosts P} {d : Discip
   -- a put or an add that is under way at p, of any technique and begun at any moment, is done at p', if a Full is due
   abbrev pub FinishesFill : Arena N D P n q d → Op → ℕ → Result (Hand N) (Hand N) → Pass N D → Pass N D → Result Numbered Full → Type 0
   FinishesFill a op place found p p' answer = (template : Template) (start : List Event) → Underway template p.caller op start (seen_of p) → FullIsDue n.layout a.nodes p.caller place start (seen_of p) found → Done n.layout template a.nodes p.caller op start (seen_of p') (reply_in answer) (number_in answer)
+
+  -- the same, and unless it is full, it was decided at the node where the search ended
+  abbrev pub FinishesFillAt : Arena N D P n q d → Op → Result (Hand N) (Hand N) → Pass N D → Pass N D → Result Numbered Full → Type 0
+  FinishesFillAt a op found p p' answer = IfOk answer (λ numbered. FinishesAt a (ended_at found) op p p' (told numbered.found) numbered.number)

@@ -5,7 +5,7 @@ use Rattle.ks_keysets.specs.declared.NewState.{NewState}
 use Rattle.ks_keysets.specs.declared.NewState.TheVariants.{BecomesLive, BecomesFree}
 use Rattle.ks_keysets.specs.declared.Change.{Change}
 use Rattle.ks_history.specs.declared.Event.{Event}
-use Rattle.ks_history.specs.declared.Event.TheVariants.{Take, Give, Claim, Shape, Call}
+use Rattle.ks_history.specs.declared.Event.TheVariants.{Take, Give, Claim, Shape, Call, Twin}
 use Rattle.ks_history.specs.Alone.{ActsAlone}
 
 -- how many nodes this makes free: one if it becomes free, and else none
@@ -25,6 +25,7 @@ freed_with c (Give d i) = 0
 freed_with c (Claim d i) = 0
 freed_with c (Shape d changes) = if d == c then freed_in changes else 0
 freed_with c (Call d i op reply) = 0
+freed_with c (Twin d i j op reply) = 0
 
 -- how many nodes the Shapes of c among the events make free
 abbrev pub freed_by : ℕ → List Event → ℕ
@@ -38,6 +39,7 @@ Merges c (Give d i) = Unit {0}
 Merges c (Claim d i) = d ≢ c
 Merges c (Shape d changes) = d ≡ c → 0 < freed_in changes
 Merges c (Call d i op reply) = d ≢ c
+Merges c (Twin d i j op reply) = d ≢ c
 
 abbrev pub AllMerge : ℕ → List Event → Type 0
 AllMerge c [] = Unit {0}

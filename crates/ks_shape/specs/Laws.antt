@@ -18,3 +18,4 @@ pub mod Keeping
 pub mod Leaves
 pub mod Search
 pub mod Found
+pub mod Hinted

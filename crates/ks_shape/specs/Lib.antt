@@ -6,6 +6,7 @@ pub mod OnWay
 pub mod Answers
 pub mod Fills
 pub mod Idle
+pub mod Hinted
 pub mod Tries
 pub mod Ends
 pub mod Stretches

@@ -7,6 +7,33 @@ pub struct Numbered {
     pub found: Option<u128>,
 }
 
+/// The number of a call in the one history of all calls, modulo 2^64, the value that its place had before it, and where the
+/// call was decided.
+#[derive(Clone, Copy, Debug, PartialEq, Eq)]
+pub struct NumberedAt {
+    pub number: u64,
+    pub found: Option<u128>,
+    /// The node at which the call was decided.
+    pub node: u32,
+    /// The first place of the range that this node had then.
+    pub low: u64,
+    /// The last place of that range, which is part of it.
+    pub last: u64,
+    /// The last branch that the search passed, if it passed one.
+    pub above: Option<Above>,
+}
+
+/// A branch that a search passed.
+#[derive(Clone, Copy, Debug, PartialEq, Eq)]
+pub struct Above {
+    /// The node of the branch.
+    pub node: u32,
+    /// The first place of the range that the branch had while the search held it.
+    pub low: u64,
+    /// The last place of that range, which is part of it.
+    pub last: u64,
+}
+
 /// The number of a call that found no room for its place, and no free node. It changed nothing in the map.
 #[derive(Clone, Copy, Debug, PartialEq, Eq)]
 pub struct Full {

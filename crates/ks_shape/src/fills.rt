@@ -1,7 +1,7 @@
 //! A put and an add as one operation with a value: at the end of the search for its place, it is decided once for both.
 ghost use Rattle.std.specs.Prelude.{◌≡◌};
 ghost use Rattle.ks_arena.specs.Of.{IsPassOf, IsEmptyPassOf, SeesOn, SameCaller};
-ghost use Rattle.ks_shape.specs.Fills.{filling, not_later, EndsForRoomOf, FinishesFill};
+ghost use Rattle.ks_shape.specs.Fills.{filling, not_later, EndsForRoomOf, FinishesFill, FinishesFillAt};
 ghost use Rattle.ks_shape.specs.Of.{MakesNoneLive};
 ghost use Rattle.ks_shape.specs.Does.{OnlySearches};
 
@@ -40,6 +40,7 @@ pub fn fill_at<N: Node, D: Discipline, G: Gate>(
     ensures begins { SeesOn pass.old pass.new }
     ensures makes { MakesNoneLive pass.old pass.new }
     ensures done { FinishesFill arena.now (filling place fill) place found pass.old pass.new result }
+    ensures at { FinishesFillAt arena.now (filling place fill) found pass.old pass.new result }
 {
     match (fill, found) {
         (Fill::Put(value), Ok(held)) => Ok(put_here(arena, pass, gate, place, value, held)),

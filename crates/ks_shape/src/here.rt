@@ -6,7 +6,7 @@ ghost use Rattle.ks_node.specs.declared.start.Next.TheVariants.{Here};
 ghost use Rattle.ks_node.specs.Body.{next_at};
 ghost use Rattle.ks_arena.specs.Of.{IsPassOf, IsEmptyPassOf, WasRefusedAt, SeesOn, SameCaller, caller_of};
 ghost use Rattle.ks_shape.specs.SearchEnd.{Fills, LacksPlace, TakesPlace};
-ghost use Rattle.ks_shape.specs.Of.{IsOnWayOf, MakesNoneLive, FinishesAny, FinishesCrowded, SearchEndsAt, HasRoomAt, IsCrowdedAt};
+ghost use Rattle.ks_shape.specs.Of.{IsOnWayOf, MakesNoneLive, FinishesAny, FinishesAt, FinishesCrowded, SearchEndsAt, HasRoomAt, IsCrowdedAt};
 ghost use Rattle.ks_shape.specs.Does.{OnlySearches};
 
 use crate::answers::{Full, Numbered};
@@ -58,6 +58,7 @@ pub fn get_here<N: Node, D: Discipline, G: Gate>(
     ensures begins { SeesOn pass.old pass.new }
     ensures makes { MakesNoneLive pass.old pass.new }
     ensures done { FinishesAny arena.now (Get place) pass.old pass.new (told result.found) result.number }
+    ensures at { FinishesAt arena.now held (Get place) pass.old pass.new (told result.found) result.number }
 {
     let found = held.body.get(place);
     arena.get_law(pass, &held, place, found);
@@ -82,6 +83,7 @@ pub fn put_here<N: Node, D: Discipline, G: Gate>(
     ensures begins { SeesOn pass.old pass.new }
     ensures makes { MakesNoneLive pass.old pass.new }
     ensures done { FinishesAny arena.now (Put place value) pass.old pass.new (told result.found) result.number }
+    ensures at { FinishesAt arena.now held (Put place value) pass.old pass.new (told result.found) result.number }
 {
     let mut held = held;
     node_law(&held.body);
@@ -110,6 +112,7 @@ pub fn add_here<N: Node, D: Discipline, G: Gate>(
     ensures begins { SeesOn pass.old pass.new }
     ensures makes { MakesNoneLive pass.old pass.new }
     ensures done { FinishesAny arena.now (Add place value) pass.old pass.new (told result.found) result.number }
+    ensures at { FinishesAt arena.now held (Add place value) pass.old pass.new (told result.found) result.number }
 {
     let mut held = held;
     node_law(&held.body);
@@ -148,6 +151,7 @@ pub fn swap_here<N: Node, D: Discipline, G: Gate>(
     ensures begins { SeesOn pass.old pass.new }
     ensures makes { MakesNoneLive pass.old pass.new }
     ensures done { FinishesAny arena.now (Swap place old new) pass.old pass.new (told result.found) result.number }
+    ensures at { FinishesAt arena.now held (Swap place old new) pass.old pass.new (told result.found) result.number }
 {
     let mut held = held;
     node_law(&held.body);
@@ -191,6 +195,7 @@ pub fn del_here<N: Node, D: Discipline, G: Gate>(
     ensures begins { SeesOn pass.old pass.new }
     ensures makes { MakesNoneLive pass.old pass.new }
     ensures done { FinishesAny arena.now (Del place) pass.old pass.new (told result.found) result.number }
+    ensures at { FinishesAt arena.now held (Del place) pass.old pass.new (told result.found) result.number }
 {
     let mut held = held;
     node_law(&held.body);

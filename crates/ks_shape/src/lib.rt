@@ -20,7 +20,7 @@ mod tree;
 mod tries;
 mod try_path;
 
-pub use answers::{Full, Later, Numbered, PutLater};
+pub use answers::{Above, Full, Later, Numbered, NumberedAt, PutLater};
 pub use child::child_law;
 pub use claims::{claim_one, claim_two};
 pub use compacting::Compacting;

@@ -8,7 +8,7 @@ use Rattle.ks_keysets.specs.declared.NodeState.{NodeState}
 use Rattle.ks_keysets.specs.declared.Change.{Change}
 use Rattle.ks_keysets.specs.Keyset.{opening, live_record, IsLive, InInset, InKeyset, Good}
 use Rattle.ks_history.specs.declared.Event.{Event}
-use Rattle.ks_history.specs.declared.Event.TheVariants.{Take, Give, Claim, Shape, Call}
+use Rattle.ks_history.specs.declared.Event.TheVariants.{Take, Give, Claim, Shape, Call, Twin}
 use Rattle.ks_history.specs.Trace.{graph_after}
 use Rattle.ks_history.specs.Frames.{frame_after}
 use Rattle.ks_history.specs.Laws.Begins.{good_now}
@@ -37,6 +37,7 @@ module _ (sort : Sort) {begins : Frame → Type 0} {facts : (ℕ → NodeState) 
     λ i p apart inside. (laws.keyset_after (graph_after h) (frame_after (blank_of sort) h) changes i (good_now (fine sort laws good_opening nodes h so.0).good) so.1.2 (unnamed changes i apart)).forth p inside,
   )
   keysets_beside (Call c j op reply ∷ h) so = (keysets_beside h so.0, tt)
+  keysets_beside (Twin c j k op reply ∷ h) so = (keysets_beside h so.0, tt)
 
 module _ (sort : Sort) {begins : Frame → Type 0} {facts : (ℕ → NodeState) → (ℕ → Frame) → Type 0} {asks : (ℕ → NodeState) → (ℕ → Frame) → List Change → Type 0} {lasts : (ℕ → NodeState) → (ℕ → Frame) → (ℕ → NodeState) → (ℕ → Frame) → Type 0}
     (laws : IsDiscipline begins facts asks lasts SameInset) (good_opening : Good opening) (nodes : ℕ) where
@@ -50,6 +51,7 @@ module _ (sort : Sort) {begins : Frame → Type 0} {facts : (ℕ → NodeState) 
     λ i p apart inside. (laws.beside_after (graph_after h) (frame_after (blank_of sort) h) changes i (good_now (fine sort laws good_opening nodes h so.0).good) so.1.2 (unnamed changes i apart)).forth p inside,
   )
   insets_beside (Call c j op reply ∷ h) so = (insets_beside h so.0, tt)
+  insets_beside (Twin c j k op reply ∷ h) so = (insets_beside h so.0, tt)
 
 module _ (sort : Sort) (begins : Frame → Type 0) (asks : (ℕ → NodeState) → (ℕ → Frame) → List Change → Type 0) (nodes : ℕ) (some : 0 < nodes) where
   pub live_below : (h : List Event) → Sound sort begins asks nodes h → (i : ℕ) → IsLive (graph_after h) i → i < nodes

@@ -6,7 +6,7 @@ use Rattle.ks_keysets.specs.declared.NodeState.{NodeState}
 use Rattle.ks_keysets.specs.declared.NodeState.TheVariants.{Free}
 use Rattle.ks_keysets.specs.declared.Change.{Change}
 use Rattle.ks_history.specs.declared.Event.{Event}
-use Rattle.ks_history.specs.declared.Event.TheVariants.{Take, Give, Claim, Shape, Call}
+use Rattle.ks_history.specs.declared.Event.TheVariants.{Take, Give, Claim, Shape, Call, Twin}
 use Rattle.ks_history.specs.Trace.{free, idle, held, turn_given, graph_after, turn_after}
 use Rattle.ks_history.specs.Laws.Stays.{IsInTurn, AreInTurn, cond_else}
 use Rattle.ks_arena.specs.Sound.{Sort, Sound, StepsSoundly}
@@ -20,6 +20,7 @@ module _ (sort : Sort) (begins : Frame → Type 0) (asks : (ℕ → NodeState) �
   is_in_turn h (Claim c j) so = so.0
   is_in_turn h (Shape c xs) so = so.0
   is_in_turn h (Call c j o y) so = so.0.0
+  is_in_turn h (Twin c j k o y) so = (so.0.0, so.0.1)
 
   pub are_in_turn : (h : List Event) → Sound sort begins asks nodes h → AreInTurn h
   are_in_turn [] so = tt
@@ -35,6 +36,7 @@ module _ (sort : Sort) (begins : Frame → Type 0) (asks : (ℕ → NodeState) �
   turn_beyond (Claim c j ∷ h) so i far = let near = so.1.1 in cond_else i j (held c) (turn_after h i) (λ z. omega arith) ∙ turn_beyond h so.0 i far
   turn_beyond (Shape c changes ∷ h) so i far = turn_beyond h so.0 i far
   turn_beyond (Call c j op reply ∷ h) so i far = turn_beyond h so.0 i far
+  turn_beyond (Twin c j k op reply ∷ h) so i far = turn_beyond h so.0 i far
 
   pub free_beyond : (h : List Event) → Sound sort begins asks nodes h → (i : ℕ) → nodes ≤ i → graph_after h i ≡ Free
   free_beyond h so i far = (rested h (are_in_turn sort begins asks nodes h so) i).free_is (turn_beyond h so i far)
@@ -52,6 +54,7 @@ module _ (sort : Sort) (begins : Frame → Type 0) (asks : (ℕ → NodeState) �
   named_then h (Claim c j) so may = may.1
   named_then h (Shape c changes) so may = λ k x lt. held_near c h so _ (may.0 k x lt)
   named_then h (Call c j op reply) so may = held_near c h so j may.0.0
+  named_then h (Twin c j k op reply) so may = (held_near c h so j may.0.0, held_near c h so k may.0.1)
 
   -- so every event names nodes of the arena
   pub named_below : (h : List Event) → Sound sort begins asks nodes h → AllNamedBelow nodes h

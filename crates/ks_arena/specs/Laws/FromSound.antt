@@ -1,6 +1,6 @@
 -- What follows from a sound trace: it is lawful, its graph is good and has the facts of the discipline at every
 -- beginning, and what a caller holds keeps its keyset.
-use Rattle.std.proofs.Common.{◌≡◌, ◌≢◌, ℕ, zero, suc, ◌==◌, ◌||◌, Bool, true, false, cond, not, List, [], ◌∷◌, ◌++◌, sym, refl, ap, ◌∙◌, subst, arith, ne_eqb}
+use Rattle.std.proofs.Common.{◌≡◌, ◌≢◌, ℕ, zero, suc, ◌==◌, ◌||◌, Bool, true, false, cond, not, List, [], ◌∷◌, ◌++◌, sym, refl, ap, ◌∙◌, subst, arith, ne_eqb, inr}
 use Rattle.std.specs.Prelude.{Option, Some, None, is_some, All, Any, AllPairs, nat_lt}
 use Rattle.std.proofs.lemmas.List.Elements.{All-cons, All-head, All-tail, All-weaker, All-filter, All-nil}
 use Rattle.std.proofs.lemmas.List.Kept.{AllPairs-cons, AllPairs-filter}
@@ -16,20 +16,20 @@ use Rattle.ks_keysets.specs.Record.{Carries, first_value}
 use Rattle.ks_keysets.specs.Frame.{empty_record}
 use Rattle.ks_keysets.specs.Keyset.{opening, live_record, record_at, IsLive, InKeyset, Good}
 use Rattle.ks_history.specs.declared.Op.{Op}
-use Rattle.ks_history.specs.declared.Op.TheVariants.{Get, Put, Del, Add, Swap}
+use Rattle.ks_history.specs.declared.Op.TheVariants.{Get, Put, Del, Add, Swap, Part, Move}
 use Rattle.ks_history.specs.declared.Reply.{Reply}
-use Rattle.ks_history.specs.declared.Reply.TheVariants.{Nothing, Value, Full}
+use Rattle.ks_history.specs.declared.Reply.TheVariants.{Nothing, Value, Full, Listed, Kept}
 use Rattle.ks_history.specs.declared.Event.{Event}
-use Rattle.ks_history.specs.declared.Event.TheVariants.{Take, Give, Claim, Shape, Call}
-use Rattle.ks_history.specs.Write.{Write, keeps, sets, removes, written, with_value, with_new, pairs_with}
+use Rattle.ks_history.specs.declared.Event.TheVariants.{Take, Give, Claim, Shape, Call, Twin}
+use Rattle.ks_history.specs.Write.{Write, keeps, sets, removes, moves, written, taken_out, put_in, with_value, with_new, pairs_set, pairs_without, pairs_with}
 use Rattle.ks_history.specs.Map.{Touches}
-use Rattle.ks_history.specs.Trace.{◌⊑◌, free, idle, held, turn_given, given, state_with, graph_after, turn_after, caller_of}
+use Rattle.ks_history.specs.Trace.{◌⊑◌, free, idle, held, turn_given, given, state_with, written_at, graph_after, turn_after, caller_of}
 use Rattle.ks_history.specs.Frames.{frame_after}
-use Rattle.ks_history.specs.Lawful.{Meets, Lawful, GoodThroughout, at_opening, and_then}
+use Rattle.ks_history.specs.Lawful.{Meets, MovesBetween, Lawful, GoodThroughout, at_opening, and_then}
 use Rattle.ks_history.specs.Due.{FullsDue}
 use Rattle.ks_history.specs.Callers.{NoneBy}
 use Rattle.ks_history.specs.Passes.{GrowsByOthers}
-use Rattle.ks_history.specs.Laws.Stays.{IsInTurn, AreInTurn, cond_here, cond_else, shaped_else, held_apart, other_turn}
+use Rattle.ks_history.specs.Laws.Stays.{IsInTurn, AreInTurn, cond_here, cond_else, written_else, twice_else, shaped_else, held_apart, other_turn}
 use Rattle.ks_history.specs.Laws.Begins.{good_now, by_others_keeps}
 use Rattle.ks_flow.specs.Changes.{nodes_of}
 use Rattle.ks_flow.specs.Ways.{names}
@@ -87,7 +87,12 @@ rested (Shape c changes ∷ h) are i = let so = rested h are.0 i in record {
   free_is = λ z. shaped_else changes i (graph_after h i) (unnamed h c i changes are.1 (λ w. not_held_free c (sym w ∙ z))) ∙ so.free_is z;
   idle_is = λ z. let r = so.idle_is z in (r.0, ap live_record (shaped_else changes i (graph_after h i) (unnamed h c i changes are.1 (λ w. not_held_idle c (sym w ∙ z)))) ∙ r.1);
 }
-rested (Call c j op reply ∷ h) are i = dite (ℕ_discrete i j) (λ s. rested_held (Call c j op reply) h c i (ap (turn_after h) s ∙ are.1)) (λ n. rested_kept (Call c j op reply) h i refl (cond_else i j (state_with (written op reply) (graph_after h j)) (graph_after h i) n) (rested h are.0 i))
+rested (Call c j op reply ∷ h) are i = dite (ℕ_discrete i j) (λ s. rested_held (Call c j op reply) h c i (ap (turn_after h) s ∙ are.1)) (λ n. rested_kept (Call c j op reply) h i refl (written_else (written op reply) j (graph_after h) i n) (rested h are.0 i))
+rested (Twin c j k op reply ∷ h) are i = dite (ℕ_discrete i j)
+    (λ s. rested_held (Twin c j k op reply) h c i (ap (turn_after h) s ∙ are.1.0))
+    (λ n. dite (ℕ_discrete i k)
+    (λ s. rested_held (Twin c j k op reply) h c i (ap (turn_after h) s ∙ are.1.1))
+    (λ m. rested_kept (Twin c j k op reply) h i refl (twice_else (taken_out (written op reply)) (put_in (written op reply)) j k (graph_after h) i n m) (rested h are.0 i)))
 
 -- events that are no Shape
 
@@ -121,6 +126,7 @@ pub places_in : (Q : ℕ → Type 0) → Write → Type 0
 places_in Q keeps = Unit {0}
 places_in Q (sets p v) = Q p
 places_in Q (removes p) = Q p
+places_in Q (moves from to v) = Q to
 
 swap_places : (Q : ℕ → Type 0) (p new : ℕ) (b : Bool) → Q p → places_in Q (cond b (sets p new) keeps)
 unfolding places_in
@@ -133,13 +139,42 @@ written_in Q (Get p) reply so = tt
 written_in Q (Put p v) Nothing so = so p refl
 written_in Q (Put p v) (Value w) so = so p refl
 written_in Q (Put p v) Full so = tt
+written_in Q (Put p v) (Listed x) so = so p refl
+written_in Q (Put p v) Kept so = so p refl
 written_in Q (Del p) reply so = so p refl
 written_in Q (Add p v) Nothing so = so p refl
 written_in Q (Add p v) (Value w) so = tt
 written_in Q (Add p v) Full so = tt
+written_in Q (Add p v) (Listed x) so = tt
+written_in Q (Add p v) Kept so = tt
 written_in Q (Swap p old new) Nothing so = tt
 written_in Q (Swap p old new) (Value w) so = swap_places Q p new (w == old) (so p refl)
 written_in Q (Swap p old new) Full so = tt
+written_in Q (Swap p old new) (Listed x) so = tt
+written_in Q (Swap p old new) Kept so = tt
+written_in Q (Part low last) reply so = tt
+written_in Q (Move from to) Nothing so = tt
+written_in Q (Move from to) (Value w) so = so to (inr refl)
+written_in Q (Move from to) Full so = tt
+written_in Q (Move from to) (Listed x) so = tt
+written_in Q (Move from to) Kept so = tt
+
+-- the same of what a move takes out, and of what it puts in
+taken_in : (Q : ℕ → Type 0) (from to : ℕ) (reply : Reply) → Q from → places_in Q (taken_out (written (Move from to) reply))
+unfolding places_in
+taken_in Q from to Nothing so = tt
+taken_in Q from to (Value w) so = so
+taken_in Q from to Full so = tt
+taken_in Q from to (Listed x) so = tt
+taken_in Q from to Kept so = tt
+
+put_in_in : (Q : ℕ → Type 0) (from to : ℕ) (reply : Reply) → Q to → places_in Q (put_in (written (Move from to) reply))
+unfolding places_in
+put_in_in Q from to Nothing so = tt
+put_in_in Q from to (Value w) so = so
+put_in_in Q from to Full so = tt
+put_in_in Q from to (Listed x) so = tt
+put_in_in Q from to Kept so = tt
 
 module _ (Q : ℕ → Type 0) where
   abbrev At : Pair → Type 0
@@ -160,11 +195,15 @@ module _ (Q : ℕ → Type 0) where
   all_with_new (x ∷ xs) p v q so = either_list (nat_lt p x.place) (record { place = p; value = v } ∷ x ∷ xs) (x ∷ with_new xs p v) (All-cons (λ (x : Pair). Q x.place) (record { place = p; value = v }) (x ∷ xs) q so)
       (All-cons (λ (x : Pair). Q x.place) x (with_new xs p v) (All-head (λ (x : Pair). Q x.place) x xs so) (all_with_new xs p v q (All-tail (λ (x : Pair). Q x.place) x xs so)))
 
+  all_set : (xs : List Pair) (p v : ℕ) → Q p → All (λ (x : Pair). Q x.place) xs → All (λ (x : Pair). Q x.place) (pairs_set xs p v)
+  all_set xs p v q so = either_list (is_some (first_value xs p)) (with_value xs p v) (with_new xs p v) (all_with_value xs p v q so) (all_with_new xs p v q so)
+
   pub all_with : (w : Write) (xs : List Pair) → places_in Q w → All (λ (x : Pair). Q x.place) xs → All (λ (x : Pair). Q x.place) (pairs_with xs w)
   unfolding places_in
   all_with keeps xs q so = so
-  all_with (sets p v) xs q so = either_list (is_some (first_value xs p)) (with_value xs p v) (with_new xs p v) (all_with_value xs p v q so) (all_with_new xs p v q so)
+  all_with (sets p v) xs q so = all_set xs p v q so
   all_with (removes p) xs q so = All-filter (λ (x : Pair). not (x.place == p)) (λ (x : Pair). Q x.place) xs so
+  all_with (moves from to v) xs q so = all_set (pairs_without xs from) to v q (All-filter (λ (x : Pair). not (x.place == from)) (λ (x : Pair). Q x.place) xs so)
 
 -- the pairs have different places
 abbrev pub Once : List Pair → Type 0
@@ -199,10 +238,17 @@ once_with_new (x ∷ xs) p v none once = either_once (nat_lt p x.place) (record 
     (λ _. AllPairs-cons (λ (x y : Pair). x.place ≡ y.place → ⊥) (record { place = p; value = v }) (x ∷ xs) (All-weaker (λ (y : Pair). y.place ≢ p) (λ (y : Pair). p ≡ y.place → ⊥) (λ y h e. h (sym e)) (x ∷ xs) none) once)
     (λ _. AllPairs-cons (λ (x y : Pair). x.place ≡ y.place → ⊥) x (with_new xs p v) (all_with_new (λ q. x.place ≡ q → ⊥) xs p v (All-head (λ (y : Pair). y.place ≢ p) x xs none) (once_head x xs once)) (once_with_new xs p v (All-tail (λ (y : Pair). y.place ≢ p) x xs none) (once_tail x xs once)))
 
+once_set : (xs : List Pair) (p v : ℕ) → Once xs → Once (pairs_set xs p v)
+once_set xs p v once = either_once (is_some (first_value xs p)) (with_value xs p v) (with_new xs p v) (λ _. once_with_value xs p v once) (λ e. once_with_new xs p v (absent xs p e) once)
+
+once_without : (xs : List Pair) (p : ℕ) → Once xs → Once (pairs_without xs p)
+once_without xs p once = AllPairs-filter (λ (x y : Pair). x.place ≡ y.place → ⊥) (λ (x : Pair). not (x.place == p)) xs once
+
 pub once_with : (w : Write) (xs : List Pair) → Once xs → Once (pairs_with xs w)
 once_with keeps xs once = once
-once_with (sets p v) xs once = either_once (is_some (first_value xs p)) (with_value xs p v) (with_new xs p v) (λ _. once_with_value xs p v once) (λ e. once_with_new xs p v (absent xs p e) once)
-once_with (removes p) xs once = AllPairs-filter (λ (x y : Pair). x.place ≡ y.place → ⊥) (λ (x : Pair). not (x.place == p)) xs once
+once_with (sets p v) xs once = once_set xs p v once
+once_with (removes p) xs once = once_without xs p once
+once_with (moves from to v) xs once = once_set (pairs_without xs from) to v (once_without xs from once)
 
 -- good graphs with the same edges
 
@@ -233,10 +279,10 @@ pub record WrittenAt (g k : ℕ → NodeState) (j : ℕ) (w : Write) : Type 0 wh
   pub here : record_at k j ≡ with_write w (record_at g j)
   pub else : (n : ℕ) → n ≢ j → record_at k n ≡ record_at g n
 
-call_writes : (c j : ℕ) (op : Op) (reply : Reply) (h : List Event) → WrittenAt (graph_after h) (graph_after (Call c j op reply ∷ h)) j (written op reply)
-call_writes c j op reply h = record {
-  here = ap live_record (cond_here j j (state_with (written op reply) (graph_after h j)) (graph_after h j) refl) ∙ written_record (written op reply) (graph_after h j);
-  else = λ n ne. ap live_record (cond_else n j (state_with (written op reply) (graph_after h j)) (graph_after h n) ne);
+writes_at : (w : Write) (j : ℕ) (g : ℕ → NodeState) → WrittenAt g (written_at w j g) j w
+writes_at w j g = record {
+  here = ap live_record (cond_here j j (state_with w (g j)) (g j) refl) ∙ written_record w (g j);
+  else = λ n ne. ap live_record (written_else w j g n ne);
 }
 
 -- what a written record was
@@ -259,12 +305,25 @@ written_edges g k j w so = record {
       (λ ne. (s, sym (so.else n ne) ∙ is, refl));
 }
 
-stored_written : (g k : ℕ → NodeState) (j : ℕ) (op : Op) (reply : Reply) → WrittenAt g k j (written op reply) → ((n : ℕ) → SameKeyset n g k) → ((p : ℕ) → Touches op p → InKeyset g j p) → Good g → Stored k
-stored_written g k j op reply so keys within good = let w : Write = written op reply in record {
+edges_both : (g k m : ℕ → NodeState) → SameEdges g k → SameEdges k m → SameEdges g m
+edges_both g k m a b = record {
+  forth = λ n r is. let s = a.forth n r is in let t = b.forth n s.0 s.1 in (t.0, t.1, t.2 ∙ s.2);
+  back = λ n s is. let r = b.back n s is in let q = a.back n r.0 r.1 in (q.0, q.1, q.2 ∙ r.2);
+}
+
+-- the write of a move between two nodes
+pub twin_edges : (w x : Write) (i j : ℕ) (g : ℕ → NodeState) → SameEdges g (written_at x j (written_at w i g))
+twin_edges w x i j g = let k : ℕ → NodeState = written_at w i g in edges_both g k (written_at x j k) (written_edges g k i w (writes_at w i g)) (written_edges k (written_at x j k) j x (writes_at x j k))
+
+stored_of : (g : ℕ → NodeState) → Good g → Stored g
+stored_of g good = record { stored = good.stored; once = good.once }
+
+stored_written : (g k : ℕ → NodeState) (j : ℕ) (w : Write) → WrittenAt g k j w → ((n : ℕ) → SameKeyset n g k) → places_in (InKeyset k j) w → Stored g → Stored k
+stored_written g k j w so keys within good = record {
   stored = λ n s is. dite (ℕ_discrete n j)
       (λ e. let r = was_written w (record_at g j) s (sym so.here ∙ ap (record_at k) (sym e) ∙ is) in
       subst (λ (z : Record). All (λ x. InKeyset k n x.place) z.pairs) (sym r.2) (subst (λ (z : ℕ). All (λ x. InKeyset k z x.place) (pairs_with r.0.pairs w)) (sym e)
-      (all_with (InKeyset k j) w r.0.pairs (written_in (InKeyset k j) op reply (λ p t. (keys j).forth p (within p t))) (All-weaker (λ x. InKeyset g j x.place) (λ x. InKeyset k j x.place) (λ x. (keys j).forth x.place) r.0.pairs (good.stored j r.0 r.1)))))
+      (all_with (InKeyset k j) w r.0.pairs within (All-weaker (λ x. InKeyset g j x.place) (λ x. InKeyset k j x.place) (λ x. (keys j).forth x.place) r.0.pairs (good.stored j r.0 r.1)))))
       (λ ne. All-weaker (λ x. InKeyset g n x.place) (λ x. InKeyset k n x.place) (λ x. (keys n).forth x.place) s.pairs (good.stored n s (sym (so.else n ne) ∙ is)));
   once = λ n s is. dite (ℕ_discrete n j)
       (λ e. let r = was_written w (record_at g j) s (sym so.here ∙ ap (record_at k) (sym e) ∙ is) in subst (λ (z : Record). Once z.pairs) (sym r.2) (once_with w r.0.pairs (good.once j r.0 r.1)))
@@ -278,6 +337,7 @@ IsPlain (Give c i) = Unit {0}
 IsPlain (Claim c i) = Unit {0}
 IsPlain (Shape c changes) = ⊥
 IsPlain (Call c i op reply) = Unit {0}
+IsPlain (Twin c i j op reply) = Unit {0}
 
 -- it leaves the edges
 pub plain_edges : (h : List Event) (e : Event) → IsPlain e → AreInTurn h → IsInTurn h e → SameEdges (graph_after h) (graph_after (e ∷ h))
@@ -285,7 +345,8 @@ plain_edges h (Take c i) plain are may = same_edges (graph_after h) (graph_after
 plain_edges h (Give c i) plain are may = same_edges (graph_after h) (graph_after (Give c i ∷ h)) (give_records c i h)
 plain_edges h (Claim c i) plain are may = same_edges (graph_after h) (graph_after (Claim c i ∷ h)) (claim_records c i h ((rested h are i).free_is may))
 plain_edges h (Shape c changes) plain are may = absurd plain
-plain_edges h (Call c i op reply) plain are may = written_edges (graph_after h) (graph_after (Call c i op reply ∷ h)) i (written op reply) (call_writes c i op reply h)
+plain_edges h (Call c i op reply) plain are may = written_edges (graph_after h) (graph_after (Call c i op reply ∷ h)) i (written op reply) (writes_at (written op reply) i (graph_after h))
+plain_edges h (Twin c i j op reply) plain are may = twin_edges (taken_out (written op reply)) (put_in (written op reply)) i j (graph_after h)
 
 -- of a Shape, and of any other event
 pub data Kind_of : Event → Type 0 where
@@ -298,6 +359,7 @@ kind_of (Give c i) = is_plain tt
 kind_of (Claim c i) = is_plain tt
 kind_of (Shape c changes) = shapes_it c changes
 kind_of (Call c i op reply) = is_plain tt
+kind_of (Twin c i j op reply) = is_plain tt
 
 module _ (sort : Sort) {begins : Frame → Type 0} {facts : (ℕ → NodeState) → (ℕ → Frame) → Type 0} {asks : (ℕ → NodeState) → (ℕ → Frame) → List Change → Type 0} {lasts : (ℕ → NodeState) → (ℕ → Frame) → (ℕ → NodeState) → (ℕ → Frame) → Type 0} {beside : ℕ → (ℕ → NodeState) → (ℕ → NodeState) → Type 0}
     (laws : IsDiscipline begins facts asks lasts beside) (good_opening : Good opening) (nodes : ℕ) where
@@ -314,6 +376,7 @@ module _ (sort : Sort) {begins : Frame → Type 0} {facts : (ℕ → NodeState) 
   in_turn h (Claim c j) so = so.0
   in_turn h (Shape c xs) so = so.0
   in_turn h (Call c j o y) so = so.0.0
+  in_turn h (Twin c j k o y) so = (so.0.0, so.0.1)
 
   fine_plain : (h : List Event) (e : Event) → IsPlain e → IsFine h → IsInTurn h e → frame_after (blank_of sort) (e ∷ h) ≡ frame_after (blank_of sort) h → Meets h e → Stored (graph_after (e ∷ h)) → IsFine (e ∷ h)
   fine_plain h e is so may frames meets pairs = let same = plain_edges h e is so.turns may in record {
@@ -327,6 +390,23 @@ module _ (sort : Sort) {begins : Frame → Type 0} {facts : (ℕ → NodeState) 
   fine_records h e is so may frames meets same = let edges = plain_edges h e is so.turns may in
       fine_plain h e is so may frames meets (stored_same (graph_after h) (graph_after (e ∷ h)) same (λ n. laws.keyset_along (graph_after h) (graph_after (e ∷ h)) n edges) (good_now so.good))
 
+  -- a move takes out of one keyset, and puts into the other
+  stored_twin : (g : ℕ → NodeState) (i j : ℕ) (op : Op) (reply : Reply) → MovesBetween g i j op reply → Good g → Stored (written_at (put_in (written op reply)) j (written_at (taken_out (written op reply)) i g))
+  stored_twin g i j (Get p) reply between good = absurd between
+  stored_twin g i j (Put p v) reply between good = absurd between
+  stored_twin g i j (Del p) reply between good = absurd between
+  stored_twin g i j (Add p v) reply between good = absurd between
+  stored_twin g i j (Swap p old new) reply between good = absurd between
+  stored_twin g i j (Part low last) reply between good = absurd between
+  stored_twin g i j (Move from to) reply between good =
+      let w : Write = taken_out (written (Move from to) reply) in let x : Write = put_in (written (Move from to) reply) in
+      let k : ℕ → NodeState = written_at w i g in let m : ℕ → NodeState = written_at x j k in
+      let first : (n : ℕ) → SameKeyset n g k = λ n. laws.keyset_along g k n (written_edges g k i w (writes_at w i g)) in
+      let both : (n : ℕ) → SameKeyset n g m = λ n. laws.keyset_along g m n (twin_edges w x i j g) in
+      let second : (n : ℕ) → SameKeyset n k m = λ n. laws.keyset_along k m n (written_edges k m j x (writes_at x j k)) in
+      stored_written k m j x (writes_at x j k) second (put_in_in (InKeyset m j) from to reply ((both j).forth to between.1))
+      (stored_written g k i w (writes_at w i g) first (taken_in (InKeyset k i) from to reply ((first i).forth from between.0)) (stored_of g good))
+
   pub fine : (h : List Event) → Sound sort begins asks nodes h → IsFine h
   fine [] so = record { lawful = tt; good = at_opening good_opening; facts_now = laws.opens (blank_of sort) so; turns = tt }
   fine (Take c i ∷ h) so = fine_records h (Take c i) tt (fine h so.0) so.1 refl so.1 (λ n. refl)
@@ -339,7 +419,11 @@ module _ (sort : Sort) {begins : Frame → Type 0} {facts : (ℕ → NodeState) 
     turns = (f.turns, step.0);
   }
   fine (Call c i op reply ∷ h) so = let f = fine h so.0 in let e : Event = Call c i op reply in let edges = plain_edges h e tt f.turns so.1.0.0 in
-      fine_plain h e tt f so.1.0.0 refl so.1.0 (stored_written (graph_after h) (graph_after (e ∷ h)) i op reply (call_writes c i op reply h) (λ n. laws.keyset_along (graph_after h) (graph_after (e ∷ h)) n edges) so.1.0.1 (good_now f.good))
+      let keys : (n : ℕ) → SameKeyset n (graph_after h) (graph_after (e ∷ h)) = λ n. laws.keyset_along (graph_after h) (graph_after (e ∷ h)) n edges in
+      fine_plain h e tt f so.1.0.0 refl so.1.0
+      (stored_written (graph_after h) (graph_after (e ∷ h)) i (written op reply) (writes_at (written op reply) i (graph_after h)) keys (written_in (InKeyset (graph_after (e ∷ h)) i) op reply (λ p t. (keys i).forth p (so.1.0.1 p t))) (stored_of (graph_after h) (good_now f.good)))
+  fine (Twin c i j op reply ∷ h) so = let f = fine h so.0 in
+      fine_plain h (Twin c i j op reply) tt f (so.1.0.0, so.1.0.1) refl so.1.0 (stored_twin (graph_after h) i j op reply so.1.0.2 (good_now f.good))
 
   sound_older : (rest h : List Event) → Sound sort begins asks nodes (rest ++ h) → Sound sort begins asks nodes h
   sound_older [] h so = so
@@ -356,6 +440,7 @@ module _ (sort : Sort) {begins : Frame → Type 0} {facts : (ℕ → NodeState) 
   fulls_due (Claim c i ∷ h) so = (fulls_due h so.0, tt)
   fulls_due (Shape c changes ∷ h) so = (fulls_due h so.0, tt)
   fulls_due (Call c i op reply ∷ h) so = (fulls_due h so.0, so.1.1)
+  fulls_due (Twin c i j op reply ∷ h) so = (fulls_due h so.0, so.1.1)
 
   frames_plain : (h : List Event) (e : Event) → IsPlain e → frame_after (blank_of sort) (e ∷ h) ≡ frame_after (blank_of sort) h
   frames_plain h (Take c i) plain = refl
@@ -363,6 +448,7 @@ module _ (sort : Sort) {begins : Frame → Type 0} {facts : (ℕ → NodeState) 
   frames_plain h (Claim c i) plain = refl
   frames_plain h (Shape c changes) plain = absurd plain
   frames_plain h (Call c i op reply) plain = refl
+  frames_plain h (Twin c i j op reply) plain = refl
 
   -- what lasts under the discipline lasts from a beginning on
   lasts_one : (h : List Event) (e : Event) → Kind_of e → Sound sort begins asks nodes (e ∷ h) → lasts (graph_after h) (frame_after (blank_of sort) h) (graph_after (e ∷ h)) (frame_after (blank_of sort) (e ∷ h))

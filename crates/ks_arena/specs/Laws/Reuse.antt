@@ -5,7 +5,7 @@ use Rattle.ks_keysets.specs.declared.Frame.{Frame}
 use Rattle.ks_keysets.specs.declared.NodeState.{NodeState}
 use Rattle.ks_keysets.specs.Keyset.{IsLive, Good}
 use Rattle.ks_history.specs.declared.Event.{Event}
-use Rattle.ks_history.specs.declared.Event.TheVariants.{Take, Give, Claim, Shape, Call}
+use Rattle.ks_history.specs.declared.Event.TheVariants.{Take, Give, Claim, Shape, Call, Twin}
 use Rattle.ks_history.specs.Trace.{◌⊑◌, graph_after}
 use Rattle.ks_history.specs.Frames.{frame_after}
 use Rattle.ks_history.specs.Lawful.{Lawful, GoodThroughout}
@@ -27,6 +27,7 @@ are_safe (Claim c i ∷ h) lawful good =
     (are_safe h lawful.0 (good_earlier good), (lawful.1, no_edge (graph_after h) i (good_now (good_earlier good)) (λ live. let x : None ≡ Some live.0 = sym none ∙ live.1 in cc)))
 are_safe (Shape c changes ∷ h) lawful good = (are_safe h lawful.0 (good_earlier good), lawful.1.0)
 are_safe (Call c i op reply ∷ h) lawful good = (are_safe h lawful.0 (good_earlier good), lawful.1.1)
+are_safe (Twin c i j op reply ∷ h) lawful good = (are_safe h lawful.0 (good_earlier good), lawful.1.2)
 
 good_older : (rest h : List Event) → GoodThroughout (rest ++ h) → GoodThroughout h
 good_older [] h good = good

@@ -1,5 +1,5 @@
 -- Laws of legal histories and of traces: a value stays until a call writes at its place.
-use Rattle.std.proofs.Common.{◌≡◌, ◌⊎◌, inl, inr, ℕ, List, [], ◌∷◌, ◌++◌, length, Option, Some, None, sym, refl, ap, ◌∙◌, subst}
+use Rattle.std.proofs.Common.{◌≡◌, ◌⊎◌, inl, inr, ℕ, List, [], ◌∷◌, ◌++◌, length, Option, Some, None, sym, refl, ap, ◌∙◌, subst, cond, ◌==◌}
 use Rattle.std.specs.Prelude.{fold, slice_get}
 use Rattle.std.proofs.lemmas.List.Sums.{fold-append}
 use Rattle.std.proofs.lemmas.List.{append_assoc, append-nil}
@@ -16,7 +16,7 @@ use Rattle.ks_history.specs.declared.Event.{Event}
 use Rattle.ks_history.specs.Map.{told, IsAnswer, Legal, map_then, map_after}
 use Rattle.ks_history.specs.Trace.{◌⊑◌, Called, answered, call_in, calls_of}
 use Rattle.ks_history.specs.Own.{called}
-use Rattle.ks_history.specs.Write.{Map, Write, keeps, sets, removes, written, map_with}
+use Rattle.ks_history.specs.Write.{Map, Write, keeps, sets, removes, moves, written, map_with}
 use Rattle.ks_history.specs.Done.{Template, Done}
 use Rattle.ks_history.specs.Laws.Stays.{cond_here, cond_else}
 use Rattle.ks_dictionary.specs.Kept.{WritesAt, Removes, Changed, Removed, replied, FindsPut, AddedOnce}
@@ -26,6 +26,8 @@ write_or_same : (w : Write) (m : Map) (p : ℕ) → WritesAt w p ⊎ (map_with m
 write_or_same keeps m p = inr refl
 write_or_same (sets q v) m p = dite (ℕ_discrete p q) (λ same. inl same) (λ apart. inr (cond_else q p (Some v) (m p) (λ e. apart (sym e))))
 write_or_same (removes q) m p = dite (ℕ_discrete p q) (λ same. inl same) (λ apart. inr (cond_else q p None (m p) (λ e. apart (sym e))))
+write_or_same (moves q r v) m p = dite (ℕ_discrete p q) (λ same. inl (inl same))
+    (λ apart. dite (ℕ_discrete p r) (λ same. inl (inr same)) (λ other. inr (cond_else r p (Some v) (cond (q == p) None (m p)) (λ e. other (sym e)) ∙ cond_else q p None (m p) (λ e. apart (sym e)))))
 
 -- any number of calls
 pub changed_or_same : (calls : List Answered) (m : Map) (p : ℕ) → Changed p calls ⊎ (fold map_then m calls p ≡ m p)
@@ -45,6 +47,10 @@ removed_or_stands : (w : Write) (m : Map) (p : ℕ) → Stands (m p) → Removes
 removed_or_stands keeps m p stands = inr stands
 removed_or_stands (sets q v) m p stands = dite (ℕ_discrete p q) (λ same. inr (v, cond_here q p (Some v) (m p) (sym same))) (λ apart. inr (stands.0, cond_else q p (Some v) (m p) (λ e. apart (sym e)) ∙ stands.1))
 removed_or_stands (removes q) m p stands = dite (ℕ_discrete p q) (λ same. inl same) (λ apart. inr (stands.0, cond_else q p None (m p) (λ e. apart (sym e)) ∙ stands.1))
+removed_or_stands (moves q r v) m p stands = dite (ℕ_discrete p q) (λ same. inl same)
+    (λ apart. dite (ℕ_discrete p r)
+    (λ same. inr (v, cond_here r p (Some v) (cond (q == p) None (m p)) (sym same)))
+    (λ other. inr (stands.0, cond_else r p (Some v) (cond (q == p) None (m p)) (λ e. other (sym e)) ∙ cond_else q p None (m p) (λ e. apart (sym e)) ∙ stands.1)))
 
 removed_or_stand : (calls : List Answered) (m : Map) (p : ℕ) → Stands (m p) → Removed p calls ⊎ Stands (fold map_then m calls p)
 removed_or_stand [] m p stands = inr stands

@@ -6,7 +6,7 @@ use mathlib.Core.Logic.{dite}
 use native.Mathlib.Decide.{ℕ_discrete}
 use Rattle.ks_history.specs.declared.Op.{Op}
 use Rattle.ks_history.specs.declared.Event.{Event}
-use Rattle.ks_history.specs.declared.Event.TheVariants.{Take, Give, Claim, Shape, Call}
+use Rattle.ks_history.specs.declared.Event.TheVariants.{Take, Give, Claim, Shape, Call, Twin}
 use Rattle.ks_history.specs.Trace.{◌⊑◌, caller_of, held, turn_after}
 use Rattle.ks_history.specs.Callers.{NoneBy}
 use Rattle.ks_history.specs.Passes.{GrowsByOthers}
@@ -72,6 +72,7 @@ not_for c node (Give d i) own so = so
 not_for c node (Claim d i) own so = so
 not_for c node (Shape d changes) own so = so.0 own
 not_for c node (Call d i op reply) own so = so
+not_for c node (Twin d i i' op reply) own so = so
 
 not_besides : (c : ℕ) (e : Event) → caller_of e ≡ c → ShapesBesides c e → ⊥
 not_besides c (Take d i) own so = so
@@ -79,6 +80,7 @@ not_besides c (Give d i) own so = so
 not_besides c (Claim d i) own so = so
 not_besides c (Shape d changes) own so = so own
 not_besides c (Call d i op reply) own so = so
+not_besides c (Twin d i i' op reply) own so = so
 
 pub never_moved : (c node : ℕ) (op : Op) (s0 s1 : List Event) → ActsAlone c s0 s1 → MovedDue c op s0 s1 node → ⊥
 never_moved c node op s0 s1 alone due = own_not_any c (ShapesFor c node) due.grows.rest (not_for c node) (own_rest c s0 s1 alone due.grows) due.shaped

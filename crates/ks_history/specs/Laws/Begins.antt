@@ -2,7 +2,7 @@
 use Rattle.std.proofs.Common.{◌≡◌, ℕ, inl, inr, List, [], ◌∷◌, ◌++◌, sym, refl, ap, ◌∙◌, subst, append_assoc}
 use Rattle.ks_keysets.specs.Keyset.{Good}
 use Rattle.ks_history.specs.declared.Event.{Event}
-use Rattle.ks_history.specs.declared.Event.TheVariants.{Take, Give, Claim, Shape, Call}
+use Rattle.ks_history.specs.declared.Event.TheVariants.{Take, Give, Claim, Shape, Call, Twin}
 use Rattle.ks_history.specs.Trace.{◌⊑◌, caller_of, graph_after, held, turn_after}
 use Rattle.ks_history.specs.Own.{mine, drop_one, hand}
 use Rattle.ks_history.specs.Lawful.{Lawful, GoodThroughout, at_opening, and_then}
@@ -49,6 +49,7 @@ no_call_both c (Give d i ∷ es) fs none none' = no_call_both c es fs none none'
 no_call_both c (Claim d i ∷ es) fs none none' = no_call_both c es fs none none'
 no_call_both c (Shape d changes ∷ es) fs none none' = no_call_both c es fs none none'
 no_call_both c (Call d i op reply ∷ es) fs none none' = (none.0, no_call_both c es fs none.1 none')
+no_call_both c (Twin d i i' op reply ∷ es) fs none none' = (none.0, no_call_both c es fs none.1 none')
 
 -- a caller that does nothing makes no Call
 pub none_no_call : (c : ℕ) (es : List Event) → NoneBy c es → NoCallBy c es
@@ -58,6 +59,7 @@ none_no_call c (Give d i ∷ es) none = none_no_call c es none.1
 none_no_call c (Claim d i ∷ es) none = none_no_call c es none.1
 none_no_call c (Shape d changes ∷ es) none = none_no_call c es none.1
 none_no_call c (Call d i op reply ∷ es) none = (none.0, none_no_call c es none.1)
+none_no_call c (Twin d i i' op reply ∷ es) none = (none.0, none_no_call c es none.1)
 
 -- beginnings of traces
 

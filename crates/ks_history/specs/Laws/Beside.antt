@@ -12,14 +12,14 @@ use Rattle.ks_keysets.specs.Keyset.{live_record, record_at, at_root, along, InIn
 use Rattle.ks_keysets.specs.Laws.Found.{KeepsEdges, reaches_along, keyset_along}
 use Rattle.ks_history.specs.declared.Op.{Op}
 use Rattle.ks_history.specs.declared.Event.{Event}
-use Rattle.ks_history.specs.declared.Event.TheVariants.{Take, Give, Claim, Shape, Call}
+use Rattle.ks_history.specs.declared.Event.TheVariants.{Take, Give, Claim, Shape, Call, Twin}
 use Rattle.ks_history.specs.Map.{Touches}
-use Rattle.ks_history.specs.Write.{written}
-use Rattle.ks_history.specs.Trace.{◌⊑◌, caller_of, given, state_with, graph_after}
+use Rattle.ks_history.specs.Write.{written, taken_out, put_in}
+use Rattle.ks_history.specs.Trace.{◌⊑◌, caller_of, given, written_at, graph_after}
 use Rattle.ks_history.specs.Callers.{NoneBy}
 use Rattle.ks_history.specs.Refusals.{IsOnWay, ShapesFor, MovedDue}
 use Rattle.ks_history.specs.Laws.Stays.{IsInTurn, AreInTurn, cond_here, cond_else}
-use Rattle.ks_history.specs.Laws.Turns.{given_kept, state_was}
+use Rattle.ks_history.specs.Laws.Turns.{given_kept, written_back, edges_both}
 use Rattle.ks_history.specs.Laws.Begins.{begins_both}
 use Rattle.ks_history.specs.Laws.Far.{IsNoShape, edges_step}
 use Rattle.ks_history.specs.Beside.{Shapes, NoneShapes, OwnSpare, StepsBeside, AreBeside}
@@ -38,12 +38,10 @@ edges_back h (Claim c j) none = record {
       (λ apart. (r, sym (ap live_record (cond_else n j (Claimed c) (graph_after h n) apart)) ∙ is, refl));
 }
 edges_back h (Shape c changes) none = absurd none
-edges_back h (Call c j op reply) none = record {
-  at = λ n r is. dite (ℕ_discrete n j)
-      (λ same. let was = state_was (written op reply) (graph_after h j) r (sym (ap live_record (cond_here n j (state_with (written op reply) (graph_after h j)) (graph_after h n) same)) ∙ is) in
-      (was.0, ap (record_at (graph_after h)) same ∙ was.1, was.2))
-      (λ apart. (r, sym (ap live_record (cond_else n j (state_with (written op reply) (graph_after h j)) (graph_after h n) apart)) ∙ is, refl));
-}
+edges_back h (Call c j op reply) none = written_back (written op reply) j (graph_after h)
+edges_back h (Twin c j k op reply) none =
+    let between : ℕ → NodeState = written_at (taken_out (written op reply)) j (graph_after h) in
+    edges_both (graph_after (Twin c j k op reply ∷ h)) between (graph_after h) (written_back (put_in (written op reply)) k between) (written_back (taken_out (written op reply)) j (graph_after h))
 
 unnamed : (i : ℕ) (changes : List Change) → (Any (λ x. x.node ≡ i) changes → ⊥) → All (λ x. x.node ≢ i) changes
 unnamed i [] none k d lt same = omega arith
@@ -60,6 +58,7 @@ module _ (Inside : (ℕ → NodeState) → ℕ → ℕ → Type 0) (along : (g k
   inside_step h (Claim c j) i p spared are may beside inside = quiet_step h (Claim c j) i p tt are may inside
   inside_step h (Shape c changes) i p spared are may beside inside = beside i p (unnamed i changes spared) inside
   inside_step h (Call c j op reply) i p spared are may beside inside = quiet_step h (Call c j op reply) i p tt are may inside
+  inside_step h (Twin c j j' op reply) i p spared are may beside inside = quiet_step h (Twin c j j' op reply) i p tt are may inside
 
   pub inside_stays : (i p : ℕ) (rest h : List Event) → NoneShapes i rest → AreInTurn (rest ++ h) → AreBeside Inside (rest ++ h) → Inside (graph_after h) i p → Inside (graph_after (rest ++ h)) i p
   inside_stays i p [] h none are beside inside = inside
@@ -100,6 +99,7 @@ quiet_spares i (Give d j) none so = so
 quiet_spares i (Claim d j) none so = so
 quiet_spares i (Shape d changes) none so = none
 quiet_spares i (Call d j op reply) none so = so
+quiet_spares i (Twin d j j' op reply) none so = so
 
 -- a list of changes names the node, or does not; so a Shape of another than c names it, if one does and none of c's own
 named_or_not : (i : ℕ) (changes : List Change) → Any (λ x. x.node ≡ i) changes ⊎ (Any (λ x. x.node ≡ i) changes → ⊥)
@@ -123,6 +123,7 @@ for_or_not c i (Shape d changes) spare = dite (ℕ_discrete d c)
     (λ own. inr (spare own))
     (λ other. elim (named_or_not i changes) [ inl named ↦ inl (other, named) | inr none ↦ inr none ])
 for_or_not c i (Call d j op reply) spare = inr (λ so. so)
+for_or_not c i (Twin d j j' op reply) spare = inr (λ so. so)
 
 pub shaped_or_spared : (c i : ℕ) (es : List Event) → OwnSpare c i es → Any (ShapesFor c i) es ⊎ NoneShapes i es
 shaped_or_spared c i [] spare = inr tt

@@ -5,7 +5,7 @@ use Rattle.ks_keysets.specs.Layout.{Layout}
 use Rattle.ks_history.specs.declared.Op.{Op}
 use Rattle.ks_history.specs.declared.Reply.{Reply}
 use Rattle.ks_history.specs.declared.Event.{Event}
-use Rattle.ks_history.specs.declared.Event.TheVariants.{Take, Give, Claim, Shape, Call}
+use Rattle.ks_history.specs.declared.Event.TheVariants.{Take, Give, Claim, Shape, Call, Twin}
 use Rattle.ks_history.specs.Trace.{Called, answered, call_in, number_after, calls_by, NumberedCall}
 use Rattle.ks_history.specs.Own.{called}
 use Rattle.ks_history.specs.Passes.{NoCallBy, GrowsByOthers}
@@ -22,6 +22,9 @@ calls_kept (Give d j ∷ es) h c none = calls_kept es h c none
 calls_kept (Claim d j ∷ es) h c none = calls_kept es h c none
 calls_kept (Shape d changes ∷ es) h c none = calls_kept es h c none
 calls_kept (Call d j op reply ∷ es) h c none =
+    cond_else c d (calls_by c (es ++ h) ++ numbered (number_after (es ++ h)) op reply ∷ []) (calls_by c (es ++ h)) (λ e. none.0 (sym e))
+    ∙ calls_kept es h c none.1
+calls_kept (Twin d j j' op reply ∷ es) h c none =
     cond_else c d (calls_by c (es ++ h) ++ numbered (number_after (es ++ h)) op reply ∷ []) (calls_by c (es ++ h)) (λ e. none.0 (sym e))
     ∙ calls_kept es h c none.1
 

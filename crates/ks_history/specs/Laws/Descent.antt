@@ -16,7 +16,7 @@ use Rattle.ks_keysets.specs.Deep.{Deep}
 use Rattle.ks_keysets.specs.Laws.Deep.{Under, absent, itself, onward, KeptAbove, deep_root, deep_next, deep_fewer, deep_along, deep_above, deep_freed, deep_bound}
 use Rattle.ks_history.specs.declared.Op.{Op}
 use Rattle.ks_history.specs.declared.Event.{Event}
-use Rattle.ks_history.specs.declared.Event.TheVariants.{Take, Give, Claim, Shape, Call}
+use Rattle.ks_history.specs.declared.Event.TheVariants.{Take, Give, Claim, Shape, Call, Twin}
 use Rattle.ks_history.specs.Trace.{◌⊑◌, caller_of, held, graph_after, turn_after}
 use Rattle.ks_history.specs.Callers.{NoneBy}
 use Rattle.ks_history.specs.Passes.{GrowsByOthers, GrowsWith}
@@ -25,7 +25,8 @@ use Rattle.ks_history.specs.Stays.{StaysHeld}
 use Rattle.ks_history.specs.Laws.Stays.{AreInTurn, cond_here, cond_else, shaped_else}
 use Rattle.ks_history.specs.Laws.Begins.{begins_self, begins_both, by_others_keeps, by_others_turn}
 use Rattle.ks_history.specs.Laws.Dues.{sometime_wider}
-use Rattle.ks_history.specs.Laws.Far.{IsNoShape, NoShapes, NoShapesBesides, shapes_besides, edges_both, edges_stay}
+use Rattle.ks_history.specs.Laws.Turns.{edges_both}
+use Rattle.ks_history.specs.Laws.Far.{IsNoShape, NoShapes, NoShapesBesides, shapes_besides, edges_stay}
 use Rattle.ks_history.specs.Laws.Beside.{edges_back, any_newer, any_older}
 use Rattle.ks_history.specs.Descent.{IsDeep, TookSince}
 
@@ -65,6 +66,7 @@ quiet_event c (Give d i) own other = tt
 quiet_event c (Claim d i) own other = tt
 quiet_event c (Shape d changes) own other = dite (ℕ_discrete d c) own other
 quiet_event c (Call d i op reply) own other = tt
+quiet_event c (Twin d i i' op reply) own other = tt
 
 no_shapes : (c : ℕ) (es : List Event) → OwnQuiet c es → NoShapesBesides c es → NoShapes es
 no_shapes c [] own other = tt
@@ -205,6 +207,7 @@ takes_none c (Give d i ∷ es) fs none = takes_none c es fs none.1
 takes_none c (Claim d i ∷ es) fs none = takes_none c es fs none.1
 takes_none c (Shape d changes ∷ es) fs none = takes_none c es fs none.1
 takes_none c (Call d i op reply ∷ es) fs none = takes_none c es fs none.1
+takes_none c (Twin d i i' op reply ∷ es) fs none = takes_none c es fs none.1
 
 -- events of which none is a Take of c
 abbrev pub NoTakeBy : ℕ → List Event → Type 0
@@ -219,6 +222,7 @@ takes_both c (Give d i ∷ es) fs none = takes_both c es fs none
 takes_both c (Claim d i ∷ es) fs none = takes_both c es fs none
 takes_both c (Shape d changes ∷ es) fs none = takes_both c es fs none
 takes_both c (Call d i op reply ∷ es) fs none = takes_both c es fs none
+takes_both c (Twin d i i' op reply ∷ es) fs none = takes_both c es fs none
 
 -- at first c took none
 pub took_none : (c : ℕ) (s : List Event) → TookSince c s s 0 0

@@ -7,10 +7,10 @@ use Rattle.ks_keysets.specs.declared.NodeState.{NodeState}
 use Rattle.ks_keysets.specs.Keyset.{live_record, record_at, IsLive, InKeyset}
 use Rattle.ks_keysets.specs.Layout.{Layout, list_layout, bplus_layout, hash_layout, bst_layout}
 use Rattle.ks_history.specs.declared.Op.{Op}
-use Rattle.ks_history.specs.declared.Op.TheVariants.{Get, Put, Del, Add, Swap}
+use Rattle.ks_history.specs.declared.Op.TheVariants.{Get, Put, Del, Add, Swap, Part, Move}
 use Rattle.ks_history.specs.declared.Reply.TheVariants.{Full}
 use Rattle.ks_history.specs.declared.Event.{Event}
-use Rattle.ks_history.specs.declared.Event.TheVariants.{Take, Give, Claim, Shape, Call}
+use Rattle.ks_history.specs.declared.Event.TheVariants.{Take, Give, Claim, Shape, Call, Twin}
 use Rattle.ks_history.specs.Map.{Touches}
 use Rattle.ks_history.specs.Trace.{◌⊑◌, free, held, caller_of, graph_after, turn_after}
 use Rattle.ks_history.specs.Own.{hand}
@@ -145,6 +145,7 @@ last_call_kept c (Give d i ∷ es) s none = last_call_kept c es s none
 last_call_kept c (Claim d i ∷ es) s none = last_call_kept c es s none
 last_call_kept c (Shape d changes ∷ es) s none = last_call_kept c es s none
 last_call_kept c (Call d i op reply ∷ es) s none = cond_else d c (Call d i op reply ∷ (es ++ s)) (last_call c (es ++ s)) none.0 ∙ last_call_kept c es s none.1
+last_call_kept c (Twin d i i' op reply ∷ es) s none = cond_else d c (Twin d i i' op reply ∷ (es ++ s)) (last_call c (es ++ s)) none.0 ∙ last_call_kept c es s none.1
 
 -- it is a beginning of the trace
 pub last_call_begins : (c : ℕ) (h : List Event) → last_call c h ⊑ h
@@ -156,6 +157,9 @@ last_call_begins c (Shape d changes ∷ h) = begins_both (last_call c h) h (Shap
 last_call_begins c (Call d i op reply ∷ h) = dite (ℕ_discrete d c)
     (λ own. subst (λ (z : List Event). z ⊑ Call d i op reply ∷ h) (sym (cond_here d c (Call d i op reply ∷ h) (last_call c h) own)) (begins_self (Call d i op reply ∷ h)))
     (λ other. subst (λ (z : List Event). z ⊑ Call d i op reply ∷ h) (sym (cond_else d c (Call d i op reply ∷ h) (last_call c h) other)) (begins_both (last_call c h) h (Call d i op reply ∷ h) (last_call_begins c h) (begins_more (Call d i op reply) h)))
+last_call_begins c (Twin d i i' op reply ∷ h) = dite (ℕ_discrete d c)
+    (λ own. subst (λ (z : List Event). z ⊑ Twin d i i' op reply ∷ h) (sym (cond_here d c (Twin d i i' op reply ∷ h) (last_call c h) own)) (begins_self (Twin d i i' op reply ∷ h)))
+    (λ other. subst (λ (z : List Event). z ⊑ Twin d i i' op reply ∷ h) (sym (cond_else d c (Twin d i i' op reply ∷ h) (last_call c h) other)) (begins_both (last_call c h) h (Twin d i i' op reply ∷ h) (last_call_begins c h) (begins_more (Twin d i i' op reply) h)))
 
 -- and of the trace before those events
 pub last_call_before : (c : ℕ) (rest s : List Event) → NoCallBy c rest → last_call c (rest ++ s) ⊑ s
@@ -173,7 +177,7 @@ is_due_by layout n place s h e no_room none begins quiet = record {
 
 -- a node that stays as it is has no room later either
 
-full_kept : (layout : Layout) (g k : ℕ → NodeState) (i p : ℕ) → k i ≡ g i → IsFullFor layout g i p → IsFullFor layout k i p
+pub full_kept : (layout : Layout) (g k : ℕ → NodeState) (i p : ℕ) → k i ≡ g i → IsFullFor layout g i p → IsFullFor layout k i p
 full_kept layout g k i p same full = record { node = full.node; is = ap live_record same ∙ full.is; filled = full.filled; absent = full.absent }
 
 pub no_room_kept : (layout : Layout) (g k : ℕ → NodeState) (i place : ℕ) (op : Op) → k i ≡ g i → HasNoRoom layout g i op place → HasNoRoom layout k i op place
@@ -182,6 +186,8 @@ no_room_kept layout g k i place (Put p v) same none = (none.0, full_kept layout 
 no_room_kept layout g k i place (Del p) same none = none
 no_room_kept layout g k i place (Add p v) same none = (none.0, full_kept layout g k i p same none.1)
 no_room_kept layout g k i place (Swap p old new) same none = none
+no_room_kept layout g k i place (Part low last) same none = none
+no_room_kept layout g k i place (Move from to) same none = none
 
 -- the place for which it has none is the operation's
 pub no_room_place : (layout : Layout) (g : ℕ → NodeState) (i p q : ℕ) (op : Op) → Touches op p → HasNoRoom layout g i op q → p ≡ q
@@ -190,6 +196,8 @@ no_room_place layout g i p q (Put k v) at none = at ∙ none.0
 no_room_place layout g i p q (Del k) at none = absurd none
 no_room_place layout g i p q (Add k v) at none = at ∙ none.0
 no_room_place layout g i p q (Swap k old new) at none = absurd none
+no_room_place layout g i p q (Part low last) at none = absurd none
+no_room_place layout g i p q (Move from to) at none = absurd none
 
 -- a Full that is due is due at a later moment too, if its node is then as it was, and since any beginning since which no
 -- node was free for its place

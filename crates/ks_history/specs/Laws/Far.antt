@@ -8,12 +8,12 @@ use Rattle.ks_keysets.specs.declared.NodeState.TheVariants.{Claimed}
 use Rattle.ks_keysets.specs.Keyset.{live_record, record_at}
 use Rattle.ks_keysets.specs.Laws.Found.{KeepsEdges}
 use Rattle.ks_history.specs.declared.Event.{Event}
-use Rattle.ks_history.specs.declared.Event.TheVariants.{Take, Give, Claim, Shape, Call}
-use Rattle.ks_history.specs.Write.{written}
-use Rattle.ks_history.specs.Trace.{given, state_with, graph_after}
+use Rattle.ks_history.specs.declared.Event.TheVariants.{Take, Give, Claim, Shape, Call, Twin}
+use Rattle.ks_history.specs.Write.{written, taken_out, put_in}
+use Rattle.ks_history.specs.Trace.{given, written_at, graph_after}
 use Rattle.ks_history.specs.Refusals.{ShapesBesides}
 use Rattle.ks_history.specs.Laws.Stays.{IsInTurn, AreInTurn, cond_here, cond_else}
-use Rattle.ks_history.specs.Laws.Turns.{record_with, given_kept, state_written, free_not_live}
+use Rattle.ks_history.specs.Laws.Turns.{given_kept, written_forth, edges_both, free_not_live}
 
 -- the event is no Shape
 abbrev pub IsNoShape : Event → Type 0
@@ -22,6 +22,7 @@ IsNoShape (Give c i) = Unit {0}
 IsNoShape (Claim c i) = Unit {0}
 IsNoShape (Shape c changes) = ⊥
 IsNoShape (Call c i op reply) = Unit {0}
+IsNoShape (Twin c i j op reply) = Unit {0}
 
 -- none of the events is a Shape
 abbrev pub NoShapes : List Event → Type 0
@@ -41,6 +42,7 @@ beside_or_not c (Give d i) = inr (λ s. s)
 beside_or_not c (Claim d i) = inr (λ s. s)
 beside_or_not c (Shape d changes) = dite (ℕ_discrete d c) (λ same. inr (λ other. other same)) (λ other. inl other)
 beside_or_not c (Call d i op reply) = inr (λ s. s)
+beside_or_not c (Twin d i i' op reply) = inr (λ s. s)
 
 any_later : (c : ℕ) (e : Event) (es : List Event) → Any (ShapesBesides c) es → Any (ShapesBesides c) (e ∷ es)
 any_later c e es (k, x, lt, is, so) = (suc k, x, omega arith, is, so)
@@ -69,14 +71,10 @@ edges_step h (Claim c j) none are may = record {
       (λ apart. (r, ap live_record (cond_else n j (Claimed c) (graph_after h n) apart) ∙ is, refl));
 }
 edges_step h (Shape c changes) none are may = absurd none
-edges_step h (Call c j op reply) none are may = record {
-  at = λ n r is. dite (ℕ_discrete n j)
-      (λ same. (record_with (written op reply) r, ap live_record (cond_here n j (state_with (written op reply) (graph_after h j)) (graph_after h n) same) ∙ state_written (written op reply) (graph_after h j) r (ap (record_at (graph_after h)) (sym same) ∙ is), refl))
-      (λ apart. (r, ap live_record (cond_else n j (state_with (written op reply) (graph_after h j)) (graph_after h n) apart) ∙ is, refl));
-}
-
-pub edges_both : (g h k : ℕ → NodeState) → KeepsEdges g h → KeepsEdges h k → KeepsEdges g k
-edges_both g h k a b = record { at = λ n r is. let s = a.at n r is in let t = b.at n s.0 s.1 in (t.0, t.1, t.2 ∙ s.2) }
+edges_step h (Call c j op reply) none are may = written_forth (written op reply) j (graph_after h)
+edges_step h (Twin c j k op reply) none are may =
+    let between : ℕ → NodeState = written_at (taken_out (written op reply)) j (graph_after h) in
+    edges_both (graph_after h) between (graph_after (Twin c j k op reply ∷ h)) (written_forth (taken_out (written op reply)) j (graph_after h)) (written_forth (put_in (written op reply)) k between)
 
 -- so does any number of such events
 pub edges_stay : (rest h : List Event) → NoShapes rest → AreInTurn (rest ++ h) → KeepsEdges (graph_after h) (graph_after (rest ++ h))

@@ -3,7 +3,7 @@ use Rattle.std.proofs.Common.{◌≡◌, ◌≢◌, ℕ, ◌⊎◌, inl, inr, Li
 use mathlib.Core.Logic.{dite}
 use native.Mathlib.Decide.{ℕ_discrete}
 use Rattle.ks_history.specs.declared.Event.{Event}
-use Rattle.ks_history.specs.declared.Event.TheVariants.{Take, Give, Claim, Shape, Call}
+use Rattle.ks_history.specs.declared.Event.TheVariants.{Take, Give, Claim, Shape, Call, Twin}
 use Rattle.ks_history.specs.Trace.{caller_of, graph_after, free, idle, held, turn_given, turn_after}
 use Rattle.ks_history.specs.Own.{mine, drop_one, hand}
 use Rattle.ks_history.specs.Passes.{Has}
@@ -18,6 +18,7 @@ hand_other h (Give d j) c other = cond_else c d (drop_one j (hand c h)) (hand c 
 hand_other h (Claim d j) c other = cond_else c d (j ∷ hand c h) (hand c h) (λ e. other (sym e))
 hand_other h (Shape d changes) c other = refl
 hand_other h (Call d j op reply) c other = refl
+hand_other h (Twin d j j' op reply) c other = refl
 
 pub hand_others : (rest h : List Event) (c : ℕ) → NoneBy c rest → hand c (rest ++ h) ≡ hand c h
 hand_others [] h c none = refl
@@ -80,6 +81,7 @@ held_in_hand (Claim d j ∷ h) c i mine = dite (ℕ_discrete c d)
     (λ other. subst (λ (z : List ℕ). Has z i) (sym (hand_other h (Claim d j) c (λ e. other (sym e)))) (held_in_hand h c i (other_turn h (Claim d j) c i (λ e. other (sym e)) mine)))
 held_in_hand (Shape d changes ∷ h) c i mine = held_in_hand h c i mine
 held_in_hand (Call d j op reply ∷ h) c i mine = held_in_hand h c i mine
+held_in_hand (Twin d j j' op reply ∷ h) c i mine = held_in_hand h c i mine
 
 -- in a trace that is in turn, each node that c holds has c's turn, and is listed once
 pub record IsHand (c : ℕ) (h : List Event) : Type 0 where
@@ -127,3 +129,4 @@ is_hand (Claim d j ∷ h) c are = dite (ℕ_discrete d c)
     (λ other. hand_kept h (Claim d j) c are.0 are.1 other (is_hand h c are.0))
 is_hand (Shape d changes ∷ h) c are = let so : IsHand c h = is_hand h c are.0 in record { held = so.held; once = so.once }
 is_hand (Call d j op reply ∷ h) c are = let so : IsHand c h = is_hand h c are.0 in record { held = so.held; once = so.once }
+is_hand (Twin d j j' op reply ∷ h) c are = let so : IsHand c h = is_hand h c are.0 in record { held = so.held; once = so.once }

@@ -7,7 +7,7 @@ use Rattle.ks_keysets.specs.declared.NodeState.TheVariants.{Free, Claimed, Live}
 use Rattle.ks_keysets.specs.Keyset.{live_record, record_at}
 use Rattle.ks_keysets.specs.Reframed.{SameNodes}
 use Rattle.ks_history.specs.declared.Event.{Event}
-use Rattle.ks_history.specs.declared.Event.TheVariants.{Take, Give, Claim, Shape, Call}
+use Rattle.ks_history.specs.declared.Event.TheVariants.{Take, Give, Claim, Shape, Call, Twin}
 use Rattle.ks_history.specs.Trace.{◌⊑◌, given, graph_after}
 use Rattle.ks_history.specs.Frames.{frame_after}
 use Rattle.ks_history.specs.Passes.{GrowsByOthers, GrowsWith}
@@ -48,6 +48,7 @@ turn_record (Give c j) h n turn = elim (eqb_tells n j) [
 turn_record (Claim c j) h n turn = absurd turn
 turn_record (Shape c changes) h n turn = absurd turn
 turn_record (Call c j op reply) h n turn = absurd turn
+turn_record (Twin c j j' op reply) h n turn = absurd turn
 
 turn_frame : (blank : Frame) (e : Event) (h : List Event) (n : ℕ) → IsTurn e → frame_after blank (e ∷ h) n ≡ frame_after blank h n
 turn_frame blank (Take c j) h n turn = refl
@@ -55,6 +56,7 @@ turn_frame blank (Give c j) h n turn = refl
 turn_frame blank (Claim c j) h n turn = absurd turn
 turn_frame blank (Shape c changes) h n turn = absurd turn
 turn_frame blank (Call c j op reply) h n turn = absurd turn
+turn_frame blank (Twin c j j' op reply) h n turn = absurd turn
 
 turns_keep : (blank : Frame) (es h : List Event) → AllTurns es → SameNodes (graph_after h) (frame_after blank h) (graph_after (es ++ h)) (frame_after blank (es ++ h))
 turns_keep blank [] h turns = record { records = λ n. refl; frames = λ n. refl }

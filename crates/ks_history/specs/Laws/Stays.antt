@@ -10,9 +10,9 @@ use Rattle.ks_keysets.specs.declared.Change.{Change}
 use Rattle.ks_keysets.specs.Change.{shaped, new_state}
 use Rattle.ks_keysets.specs.Reframed.{reframed, new_frame}
 use Rattle.ks_history.specs.declared.Event.{Event}
-use Rattle.ks_history.specs.declared.Event.TheVariants.{Take, Give, Claim, Shape, Call}
-use Rattle.ks_history.specs.Write.{written}
-use Rattle.ks_history.specs.Trace.{caller_of, given, state_with, graph_after, free, idle, held, turn_given, turn_after}
+use Rattle.ks_history.specs.declared.Event.TheVariants.{Take, Give, Claim, Shape, Call, Twin}
+use Rattle.ks_history.specs.Write.{Write, written, taken_out, put_in}
+use Rattle.ks_history.specs.Trace.{caller_of, given, state_with, written_at, graph_after, free, idle, held, turn_given, turn_after}
 use Rattle.ks_history.specs.Frames.{frame_after}
 use Rattle.ks_history.specs.Lawful.{Meets, Lawful}
 use Rattle.ks_history.specs.Callers.{NoneBy}
@@ -25,6 +25,7 @@ IsInTurn h (Claim c i) = turn_after h i ≡ free
 IsInTurn h (Give c i) = turn_after h i ≡ held c
 IsInTurn h (Shape c changes) = All (λ x. turn_after h x.node ≡ held c) changes
 IsInTurn h (Call c i op reply) = turn_after h i ≡ held c
+IsInTurn h (Twin c i j op reply) = (turn_after h i ≡ held c) × (turn_after h j ≡ held c)
 
 -- so does each event of the trace
 abbrev pub AreInTurn : List Event → Type 0
@@ -38,6 +39,7 @@ meets_in_turn h (Claim c i) meets = meets
 meets_in_turn h (Give c i) meets = meets
 meets_in_turn h (Shape c changes) meets = meets.0
 meets_in_turn h (Call c i op reply) meets = meets.0
+meets_in_turn h (Twin c i j op reply) meets = (meets.0, meets.1)
 
 pub lawful_in_turn : (h : List Event) → Lawful h → AreInTurn h
 lawful_in_turn [] lawful = tt
@@ -58,6 +60,13 @@ pub given_not_held : (c : ℕ) (s : NodeState) → turn_given s ≡ held c → �
 given_not_held c Free e = cc
 given_not_held c (Claimed d) e = cc
 given_not_held c (Live r) e = cc
+
+-- a write leaves every other node, and so do two
+pub written_else : (w : Write) (j : ℕ) (g : ℕ → NodeState) (i : ℕ) → i ≢ j → written_at w j g i ≡ g i
+written_else w j g i n = cond_else i j (state_with w (g j)) (g i) n
+
+pub twice_else : (w x : Write) (j k : ℕ) (g : ℕ → NodeState) (i : ℕ) → i ≢ j → i ≢ k → written_at x k (written_at w j g) i ≡ g i
+twice_else w x j k g i n m = written_else x k (written_at w j g) i m ∙ written_else w j g i n
 
 -- one event of another caller
 
@@ -90,6 +99,10 @@ other_keeps h (Shape d changes) c i may other mine =
 other_keeps h (Call d j op reply) c i may other mine =
     let n : i ≢ j = λ e. other (held_same d c (sym may ∙ ap (turn_after h) (sym e) ∙ mine)) in
     record { turn = mine; state = cond_else i j (state_with (written op reply) (graph_after h j)) (graph_after h i) n; frame = λ blank. refl }
+other_keeps h (Twin d j k op reply) c i may other mine =
+    let n : i ≢ j = λ e. other (held_same d c (sym may.0 ∙ ap (turn_after h) (sym e) ∙ mine)) in
+    let m : i ≢ k = λ e. other (held_same d c (sym may.1 ∙ ap (turn_after h) (sym e) ∙ mine)) in
+    record { turn = mine; state = twice_else (taken_out (written op reply)) (put_in (written op reply)) j k (graph_after h) i n m; frame = λ blank. refl }
 
 -- and any number of them
 pub others_keep : (rest h : List Event) (c i : ℕ) → NoneBy c rest → AreInTurn (rest ++ h) → turn_after h i ≡ held c → StaysHeld c i h (rest ++ h)
@@ -106,6 +119,7 @@ other_turn h (Give d j) c i other mine = dite (ℕ_discrete i j) (λ s. absurd (
 other_turn h (Claim d j) c i other mine = dite (ℕ_discrete i j) (λ s. absurd (other (held_same d c (sym (cond_here i j (held d) (turn_after h i) s) ∙ mine)))) (λ n. sym (cond_else i j (held d) (turn_after h i) n) ∙ mine)
 other_turn h (Shape d changes) c i other mine = mine
 other_turn h (Call d j op reply) c i other mine = mine
+other_turn h (Twin d j j' op reply) c i other mine = mine
 
 pub others_turn : (rest h : List Event) (c i : ℕ) → NoneBy c rest → turn_after (rest ++ h) i ≡ held c → turn_after h i ≡ held c
 others_turn [] h c i none mine = mine

@@ -10,11 +10,12 @@ use Rattle.ks_keysets.specs.declared.Record.{Record}
 use Rattle.ks_keysets.specs.declared.Change.{Change}
 use Rattle.ks_keysets.specs.Frame.{empty_record}
 use Rattle.ks_keysets.specs.Keyset.{live_record, record_at, IsLive}
+use Rattle.ks_keysets.specs.Laws.Found.{KeepsEdges}
 use Rattle.ks_history.specs.declared.Event.{Event}
-use Rattle.ks_history.specs.declared.Event.TheVariants.{Take, Give, Claim, Shape, Call}
-use Rattle.ks_history.specs.Write.{Write, written, pairs_with}
-use Rattle.ks_history.specs.Trace.{given, state_with, graph_after, free, idle, held, turn_given, turn_after}
-use Rattle.ks_history.specs.Laws.Stays.{AreInTurn, cond_here, cond_else, shaped_else}
+use Rattle.ks_history.specs.declared.Event.TheVariants.{Take, Give, Claim, Shape, Call, Twin}
+use Rattle.ks_history.specs.Write.{Write, written, taken_out, put_in, pairs_with}
+use Rattle.ks_history.specs.Trace.{given, state_with, written_at, graph_after, free, idle, held, turn_given, turn_after}
+use Rattle.ks_history.specs.Laws.Stays.{AreInTurn, cond_here, cond_else, written_else, twice_else, shaped_else}
 
 -- what events do to the state of one node
 
@@ -41,6 +42,24 @@ pub state_was : (w : Write) (s : NodeState) (t : Record) → live_record (state_
 state_was w Free t is = absurd (cc)
 state_was w (Claimed c) t is = absurd (cc)
 state_was w (Live r) t is = (r, refl, ap (λ (z : Record). z.edges) (same_Some (record_with w r) t is))
+
+-- a write at a node leaves each live node live, with its edges, and makes no node live
+pub written_forth : (w : Write) (j : ℕ) (g : ℕ → NodeState) → KeepsEdges g (written_at w j g)
+written_forth w j g = record {
+  at = λ n r is. dite (ℕ_discrete n j)
+      (λ same. (record_with w r, ap live_record (cond_here n j (state_with w (g j)) (g n) same) ∙ state_written w (g j) r (ap (record_at g) (sym same) ∙ is), refl))
+      (λ apart. (r, ap live_record (written_else w j g n apart) ∙ is, refl));
+}
+
+pub written_back : (w : Write) (j : ℕ) (g : ℕ → NodeState) → KeepsEdges (written_at w j g) g
+written_back w j g = record {
+  at = λ n r is. dite (ℕ_discrete n j)
+      (λ same. let was = state_was w (g j) r (sym (ap live_record (cond_here n j (state_with w (g j)) (g n) same)) ∙ is) in (was.0, ap (record_at g) same ∙ was.1, was.2))
+      (λ apart. (r, sym (ap live_record (written_else w j g n apart)) ∙ is, refl));
+}
+
+pub edges_both : (g h k : ℕ → NodeState) → KeepsEdges g h → KeepsEdges h k → KeepsEdges g k
+edges_both g h k a b = record { at = λ n r is. let s = a.at n r is in let t = b.at n s.0 s.1 in (t.0, t.1, t.2 ∙ s.2) }
 
 pub given_turn_free : (s : NodeState) → turn_given s ≡ free → live_record s ≡ None
 given_turn_free Free is = refl
@@ -76,6 +95,11 @@ free_not_live (Shape c changes ∷ h) i are is =
 free_not_live (Call c j op reply ∷ h) i are is =
     ap live_record (cond_else i j (state_with (written op reply) (graph_after h j)) (graph_after h i) (λ s. let x : held c ≡ free = sym are.1 ∙ ap (turn_after h) (sym s) ∙ is in cc))
     ∙ free_not_live h i are.0 is
+free_not_live (Twin c j k op reply ∷ h) i are is =
+    let n : i ≢ j = λ s. let x : held c ≡ free = sym are.1.0 ∙ ap (turn_after h) (sym s) ∙ is in cc in
+    let m : i ≢ k = λ s. let x : held c ≡ free = sym are.1.1 ∙ ap (turn_after h) (sym s) ∙ is in cc in
+    ap live_record (twice_else (taken_out (written op reply)) (put_in (written op reply)) j k (graph_after h) i n m)
+    ∙ free_not_live h i are.0 is
 
 -- a node that is idle is live
 pub idle_live : (h : List Event) (i : ℕ) → AreInTurn h → turn_after h i ≡ idle → IsLive (graph_after h) i
@@ -99,6 +123,11 @@ idle_live (Shape c changes ∷ h) i are is =
 idle_live (Call c j op reply ∷ h) i are is =
     let r = idle_live h i are.0 is in
     (r.0, ap live_record (cond_else i j (state_with (written op reply) (graph_after h j)) (graph_after h i) (λ s. let x : held c ≡ idle = sym are.1 ∙ ap (turn_after h) (sym s) ∙ is in cc)) ∙ r.1)
+idle_live (Twin c j k op reply ∷ h) i are is =
+    let n : i ≢ j = λ s. let x : held c ≡ idle = sym are.1.0 ∙ ap (turn_after h) (sym s) ∙ is in cc in
+    let m : i ≢ k = λ s. let x : held c ≡ idle = sym are.1.1 ∙ ap (turn_after h) (sym s) ∙ is in cc in
+    let r = idle_live h i are.0 is in
+    (r.0, ap live_record (twice_else (taken_out (written op reply)) (put_in (written op reply)) j k (graph_after h) i n m) ∙ r.1)
 
 -- so a live node is not free
 pub live_not_free : (h : List Event) (i : ℕ) → AreInTurn h → IsLive (graph_after h) i → turn_after h i ≢ free

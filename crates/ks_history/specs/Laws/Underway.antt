@@ -6,13 +6,13 @@ use Rattle.ks_history.specs.declared.Op.{Op}
 use Rattle.ks_history.specs.declared.Reply.{Reply}
 use Rattle.ks_history.specs.declared.Reply.TheVariants.{Full}
 use Rattle.ks_history.specs.declared.Event.{Event}
-use Rattle.ks_history.specs.declared.Event.TheVariants.{Take, Give, Claim, Shape, Call}
+use Rattle.ks_history.specs.declared.Event.TheVariants.{Take, Give, Claim, Shape, Call, Twin}
 use Rattle.ks_history.specs.Trace.{caller_of, call_in, number_after}
 use Rattle.ks_history.specs.Own.{called, hand}
 use Rattle.ks_history.specs.Callers.{NoneBy}
 use Rattle.ks_history.specs.Passes.{NoCallBy, GrowsByOthers, GrowsWith}
 use Rattle.ks_history.specs.Due.{FullDue}
-use Rattle.ks_history.specs.Done.{Template, HoldsAbove, MayTake, first_taken, from_above, TakesWell, most_held, Hands, at_first, and_on, Done, Left}
+use Rattle.ks_history.specs.Done.{Template, HoldsAbove, MayTake, first_taken, from_above, joined, TakesWell, most_held, Hands, at_first, and_on, Done, Left}
 use Rattle.ks_history.specs.Stays.{StaysHeld}
 use Rattle.ks_history.specs.Laws.Stays.{AreInTurn}
 use Rattle.ks_history.specs.Laws.Hand.{hand_other}
@@ -45,6 +45,7 @@ takes_other template c op h (Give d i) other = tt
 takes_other template c op h (Claim d i) other = tt
 takes_other template c op h (Shape d changes) other = tt
 takes_other template c op h (Call d i op' reply) other = tt
+takes_other template c op h (Twin d i i' op' reply) other = tt
 
 hands_few : {template : Template} {c : ℕ} {op : Op} {s0 h : List Event} → Hands template c op s0 h → length (hand c h) ≤ most_held template op
 hands_few (at_first few) = few
@@ -72,6 +73,7 @@ above_later c i g h so are above =
 pub may_take_later : (template : Template) (c i : ℕ) (op : Op) (g h : List Event) → GrowsByOthers c g h → AreInTurn h → MayTake template op g c i → MayTake template op h c i
 may_take_later template c i op g h so are (first_taken empty at) = first_taken (by_others_hand c g h so ∙ empty) at
 may_take_later template c i op g h so are (from_above above) = from_above (above_later c i g h so are above)
+may_take_later template c i op g h so are (joined may one is) = joined may one (by_others_hand c g h so ∙ is)
 
 -- steps of a call under way
 abbrev pub IsNoCall : Event → Type 0
@@ -83,6 +85,7 @@ none_with c (Give d i) es quiet none = none
 none_with c (Claim d i) es quiet none = none
 none_with c (Shape d changes) es quiet none = none
 none_with c (Call d i op reply) es quiet none = absurd quiet
+none_with c (Twin d i i' op reply) es quiet none = absurd quiet
 
 pub underway_first : (template : Template) (c : ℕ) (op : Op) (s : List Event) → hand c s ≡ [] → Underway template c op s s
 underway_first template c op s empty = record { rest = []; is = refl; none = tt; hands = at_first (omega (arith, ap length empty)) }

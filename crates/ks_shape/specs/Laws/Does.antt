@@ -1,7 +1,7 @@
 -- What the events of a caller are between two moments: how such stretches add up, and which events are one.
 use Rattle.std.proofs.Common.{◌≡◌, ℕ, List, [], ◌∷◌, ◌++◌, sym, subst, append_assoc}
 use Rattle.ks_history.specs.declared.Event.{Event}
-use Rattle.ks_history.specs.declared.Event.TheVariants.{Take, Give, Claim, Shape, Call}
+use Rattle.ks_history.specs.declared.Event.TheVariants.{Take, Give, Claim, Shape, Call, Twin}
 use Rattle.ks_history.specs.declared.Op.{Op}
 use Rattle.ks_history.specs.declared.Reply.{Reply}
 use Rattle.ks_history.specs.Trace.{caller_of}
@@ -55,6 +55,7 @@ search_fills sort place h (Give c i) so = tt
 search_fills sort place h (Claim c i) so = tt
 search_fills sort place h (Shape c changes) so = absurd so
 search_fills sort place h (Call c i op reply) so = tt
+search_fills sort place h (Twin c i j op reply) so = tt
 
 search_dels : (sort : Sort) (h : List Event) (e : Event) → MaySearch h e → MayDel sort h e
 search_dels sort h (Take c i) so = tt
@@ -62,6 +63,7 @@ search_dels sort h (Give c i) so = tt
 search_dels sort h (Claim c i) so = absurd so
 search_dels sort h (Shape c changes) so = absurd so
 search_dels sort h (Call c i op reply) so = tt
+search_dels sort h (Twin c i j op reply) so = tt
 
 pub searched_fills : (sort : Sort) (place c : ℕ) (h k : List Event) → DoesOnly MaySearch c h k → DoesOnly (MayFill sort place) c h k
 searched_fills sort place c h k does = does_as MaySearch (MayFill sort place) (search_fills sort place) c h k does

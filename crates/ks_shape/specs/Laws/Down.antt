@@ -5,7 +5,7 @@ use Rattle.ks_keysets.specs.declared.Record.{Record}
 use Rattle.ks_keysets.specs.Keyset.{record_at, IsLive}
 use Rattle.ks_keysets.specs.Walk.{OneParent}
 use Rattle.ks_history.specs.declared.Event.{Event}
-use Rattle.ks_history.specs.declared.Event.TheVariants.{Take, Give, Claim, Shape, Call}
+use Rattle.ks_history.specs.declared.Event.TheVariants.{Take, Give, Claim, Shape, Call, Twin}
 use Rattle.ks_history.specs.declared.Op.{Op}
 use Rattle.ks_history.specs.Map.{Touches}
 use Rattle.ks_history.specs.Trace.{◌⊑◌, held, graph_after, turn_after}
@@ -25,6 +25,7 @@ no_takes c (Give d i ∷ es) none = no_takes c es none.1
 no_takes c (Claim d i ∷ es) none = no_takes c es none.1
 no_takes c (Shape d changes ∷ es) none = no_takes c es none.1
 no_takes c (Call d i op reply ∷ es) none = no_takes c es none.1
+no_takes c (Twin d i j op reply ∷ es) none = no_takes c es none.1
 
 -- a Give takes no node
 pub gave_no_take : (c i : ℕ) (h k : List Event) → (so : GrowsWith c (Give c i) h k) → NoTakeBy c (Give c i ∷ so.rest)

@@ -5,7 +5,7 @@ use Rattle.ks_keysets.specs.declared.Frame.{Frame}
 use Rattle.ks_keysets.specs.declared.Change.{Change}
 use Rattle.ks_keysets.specs.Reframed.{SameNodes}
 use Rattle.ks_history.specs.declared.Event.{Event}
-use Rattle.ks_history.specs.declared.Event.TheVariants.{Take, Give, Claim, Shape, Call}
+use Rattle.ks_history.specs.declared.Event.TheVariants.{Take, Give, Claim, Shape, Call, Twin}
 use Rattle.ks_history.specs.Trace.{◌⊑◌, caller_of, graph_after}
 use Rattle.ks_history.specs.Frames.{frame_after}
 use Rattle.ks_history.specs.Callers.{NoneBy}
@@ -28,6 +28,7 @@ others_free c (Give d i) other = refl
 others_free c (Claim d i) other = refl
 others_free c (Shape d changes) other = cond_else d c (freed_in changes) 0 other
 others_free c (Call d i op reply) other = refl
+others_free c (Twin d i j op reply) other = refl
 
 others_merge : (c : ℕ) (e : Event) → caller_of e ≢ c → Merges c e
 others_merge c (Take d i) other = tt
@@ -35,6 +36,7 @@ others_merge c (Give d i) other = tt
 others_merge c (Claim d i) other = other
 others_merge c (Shape d changes) other = λ same. absurd (other same)
 others_merge c (Call d i op reply) other = other
+others_merge c (Twin d i j op reply) other = other
 
 none_freed : (c : ℕ) (es : List Event) → NoneBy c es → freed_by c es ≡ 0
 none_freed c [] none = refl
@@ -138,6 +140,7 @@ only_turns c (Give d i ∷ es) own merges none = (tt, only_turns c es own.1 merg
 only_turns c (Claim d i ∷ es) own merges none = absurd (merges.0 own.0)
 only_turns c (Shape d changes ∷ es) own merges none = absurd (omega (arith, merges.0 own.0, cond_here d c (freed_in changes) 0 own.0, none))
 only_turns c (Call d i op reply ∷ es) own merges none = absurd (merges.0 own.0)
+only_turns c (Twin d i j op reply ∷ es) own merges none = absurd (merges.0 own.0)
 
 pub undisturbed_turns : (c : ℕ) (h k : List Event) → Undisturbed c h k → OnlyTurns h k
 undisturbed_turns c h k so = record {

@@ -3,7 +3,7 @@ use Rattle.std.proofs.Common.{◌≡◌, ℕ, List, [], ◌∷◌, ◌++◌, len
 use mathlib.Core.Logic.{dite}
 use native.Mathlib.Decide.{ℕ_discrete}
 use Rattle.ks_history.specs.declared.Event.{Event}
-use Rattle.ks_history.specs.declared.Event.TheVariants.{Take, Give, Claim, Shape, Call}
+use Rattle.ks_history.specs.declared.Event.TheVariants.{Take, Give, Claim, Shape, Call, Twin}
 use Rattle.ks_history.specs.Refusals.{takes_by}
 use Rattle.ks_history.specs.Callers.{NoneBy}
 use Rattle.ks_history.specs.Passes.{GrowsByOthers, GrowsWith}
@@ -19,6 +19,7 @@ no_takes c (Give d i ∷ es) none = no_takes c es none.1
 no_takes c (Claim d i ∷ es) none = no_takes c es none.1
 no_takes c (Shape d changes ∷ es) none = no_takes c es none.1
 no_takes c (Call d i op reply ∷ es) none = no_takes c es none.1
+no_takes c (Twin d i j op reply ∷ es) none = no_takes c es none.1
 
 takes_both : (c : ℕ) (es fs : List Event) → takes_by c es ≡ [] → takes_by c (es ++ fs) ≡ takes_by c fs
 takes_both c [] fs none = refl
@@ -29,6 +30,7 @@ takes_both c (Give d i ∷ es) fs none = takes_both c es fs none
 takes_both c (Claim d i ∷ es) fs none = takes_both c es fs none
 takes_both c (Shape d changes ∷ es) fs none = takes_both c es fs none
 takes_both c (Call d i op reply ∷ es) fs none = takes_both c es fs none
+takes_both c (Twin d i j op reply ∷ es) fs none = takes_both c es fs none
 
 no_shapes : (c : ℕ) (es : List Event) → NoneBy c es → NoShapeBy c es
 no_shapes c [] none = tt

@@ -12,7 +12,7 @@ use Rattle.ks_keysets.specs.Keyset.{live_record, record_at, IsLive, Good}
 use Rattle.ks_history.specs.declared.Event.{Event}
 use Rattle.ks_history.specs.declared.Event.TheVariants.{Take, Give}
 use Rattle.ks_history.specs.declared.Op.{Op}
-use Rattle.ks_history.specs.declared.Op.TheVariants.{Get, Put, Del, Add, Swap}
+use Rattle.ks_history.specs.declared.Op.TheVariants.{Get, Put, Del, Add, Swap, Part, Move}
 use Rattle.ks_history.specs.Own.{hand, drop_one}
 use Rattle.ks_history.specs.Trace.{graph_after}
 use Rattle.ks_history.specs.Frames.{frame_after}
@@ -36,16 +36,22 @@ one_may coupling (Put p v) = omega arith
 one_may coupling (Del p) = omega arith
 one_may coupling (Add p v) = omega arith
 one_may coupling (Swap p old new) = omega arith
+one_may coupling (Part low last) = omega arith
+one_may coupling (Move from to) = omega arith
 one_may give_up (Get p) = omega arith
 one_may give_up (Put p v) = omega arith
 one_may give_up (Del p) = omega arith
 one_may give_up (Add p v) = omega arith
 one_may give_up (Swap p old new) = omega arith
+one_may give_up (Part low last) = omega arith
+one_may give_up (Move from to) = omega arith
 one_may link_move (Get p) = omega arith
 one_may link_move (Put p v) = omega arith
 one_may link_move (Del p) = omega arith
 one_may link_move (Add p v) = omega arith
 one_may link_move (Swap p old new) = omega arith
+one_may link_move (Part low last) = omega arith
+one_may link_move (Move from to) = omega arith
 
 -- a live node is a node of the arena
 pub is_near : (sort : Sort) (begins : Frame → Type 0) (asks : _) (nodes : ℕ) (h : List Event) (i : ℕ) → 0 < nodes → Sound sort begins asks nodes h → IsLive (graph_after h) i → i < nodes

@@ -2,6 +2,7 @@ use Rattle.std.proofs.Common.{◌≡◌, ◌∙◌, List, map, length, All, sym,
 use Rattle.std.proofs.lemmas.List.{length-map}
 use Rattle.ks_history.specs.declared.Op.{Op}
 use Rattle.ks_history.specs.Callers.{CallersBelow}
+use Rattle.ks_history.specs.Asked.{AreAsked}
 use Rattle.ks_arena.specs.Sound.{sort_of}
 use Rattle.ks_shape.specs.Idle.{Site}
 use Rattle.ks_tickets.specs.Clauses.{EachAs, HaveEndedAt, IsFreeAt}
@@ -25,6 +26,9 @@ many g c = sym (length-map c.in_ok-jobs.jobs.items (λ j. j.ops)) ∙ ap length 
 
 scripts_are : (g : Over) (c : In_ok-jobs g) → map (λ j. j.ops.items) c.in_ok-jobs.jobs.items ≡ g.W.About.scripts
 scripts_are g c = sym (map_both (λ v. v.items) (λ j. j.ops) c.in_ok-jobs.jobs.items) ∙ ap (map (λ v. v.items)) c.in_ok-jobs.ensures.scripts ∙ sym c.requires.scripts
+
+scripts_of_jobs : (g : Over) (c : In_ok-jobs g) → map (λ v. v.items) c.args.scripts.items ≡ map (λ j. j.ops.items) c.in_ok-jobs.jobs.items
+scripts_of_jobs g c = sym (ap (map (λ v. v.items)) c.in_ok-jobs.ensures.scripts) ∙ map_both (λ v. v.items) (λ j. j.ops) c.in_ok-jobs.jobs.items
 
 abbrev asked : (g : Over) → In_ok-jobs g → List (List Op)
 asked g c = map (λ v. v.items) c.args.scripts.items
@@ -60,7 +64,7 @@ start-requires-clause-jobs g c =
     as_about (sort_of g.N.Node.layout g.N.Node.ranged) g.T.Rule.Discipline.begins g.T.Rule.Discipline.step a.table.shared.table_id a.callers a.nodes
     g.W.About.table g.W.About.callers g.W.About.nodes c.requires.about (λ s. EachAs (WaitsAs s g.W.About.scripts) c.in_ok-jobs.jobs.items)
     (subst (λ (xs : List (List Op)). EachAs (WaitsAs (site g d) xs) c.in_ok-jobs.jobs.items) (scripts_are g d)
-    (all_wait (site g d) c.in_ok-jobs.jobs.items (rw c.in_ok-jobs.ensures.passes c.requires.crew) c.in_ok-jobs.ensures.room))
+    (all_wait (site g d) c.in_ok-jobs.jobs.items (rw c.in_ok-jobs.ensures.passes c.requires.crew) c.in_ok-jobs.ensures.room (subst AreAsked (scripts_of_jobs g d) c.requires.asked)))
 
 pub work-requires-clause-free : goal.work-requires-clause-free
 work-requires-clause-free g c κs within =

@@ -6,7 +6,7 @@ use Rattle.ks_script.proofs.runs.replies.Goals as goal
 pub replies-preserved : goal.replies-preserved
 replies-preserved c =
     let was = c.replies.lines in
-    let said : ℕ × Reply = (c.in-Some.number, c.in-Some.said) in
+    let said : ℕ × Reply = c.in-Some.line in
     let some = c.in-Some.ensures.some in
     let ok : c.push.new.self ≡ was ++ said ∷ [] = c.in_ok-push.ensures.ok in
     let count : length c.push.new.self ≡ length was + 1 = ap (λ (xs : Replies). length xs) ok ∙ length-append was (said ∷ []) in

@@ -1,8 +1,10 @@
 use Rattle.std.proofs.Common.{refl, sym, ◌∙◌}
+use Rattle.ks_node.specs.Effect.{pairs_put}
 use Rattle.ks_arena.specs.declared.held.Held.{Held as Hand}
 use Rattle.ks_arena.specs.Sound.{sort_of}
 use Rattle.ks_arena.specs.Clauses.{seen_of}
 use Rattle.ks_shape.specs.Laws.SearchEnd.{unbranched, below_own}
+use Rattle.ks_shape.proofs.Concludes.{framed_before}
 use Rattle.ks_shape.proofs.here.add_here.Goals as goal
 
 pub put-requires-clause-no_branch : goal.put-requires-clause-no_branch
@@ -20,3 +22,6 @@ conclude_found-number-requires-clause-ready g c κs within = let x : Hand g.row.
 
 pub conclude_found-number-requires-2-clause-ready : goal.conclude_found-number-requires-2-clause-ready
 conclude_found-number-requires-2-clause-ready g c κs within = c.add_law.ensures.stays c.in-Some.found (sym c.get.ensures ∙ c.in-Some.is)
+
+pub returns-in_default-clause-at : goal.returns-in_default-clause-at
+returns-in_default-clause-at g c = λ template start under. let b = g.N.Node.body c.args.held.body in framed_before b (g.N.Node.body c.put.new.self) (pairs_put c.args.place c.args.value b.pairs) c.put.ensures.body (c.conclude_found-number.ensures.at template start under)

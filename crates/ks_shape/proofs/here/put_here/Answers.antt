@@ -1,10 +1,12 @@
 use Rattle.std.proofs.Common.{refl, sym, ap, subst}
 use Rattle.ks_history.specs.declared.Op.TheVariants.{Put}
 use Rattle.ks_history.specs.Map.{told}
+use Rattle.ks_node.specs.Effect.{pairs_put}
 use Rattle.ks_arena.specs.declared.held.Held.{Held as Hand}
 use Rattle.ks_arena.specs.Sound.{sort_of}
 use Rattle.ks_arena.specs.Clauses.{IsReady, seen_of}
 use Rattle.ks_shape.specs.Laws.SearchEnd.{unbranched, below_own}
+use Rattle.ks_shape.proofs.Concludes.{framed_before}
 use Rattle.ks_shape.proofs.here.put_here.Goals as goal
 
 pub put-found-requires-clause-no_branch : goal.put-found-requires-clause-no_branch
@@ -20,3 +22,6 @@ pub conclude_found-number-requires-clause-ready : goal.conclude_found-number-req
 conclude_found-number-requires-clause-ready g c κs within = let x : Hand g.row.N.Denot = record { node = c.args.held.node; body = c.put-found.new.self; live = c.args.held.live } in
     subst (IsReady (sort_of g.N.Node.layout g.N.Node.ranged) g.N.Node.body c.args.arena.now.nodes c.args.pass.now.caller (seen_of c.args.pass.now) x (Put c.args.place c.args.value)) (ap told (sym c.put-found.ensures.answer))
     (c.put_law.ensures x refl c.requires.room.ends.live c.put-found.ensures.body)
+
+pub returns-clause-at : goal.returns-clause-at
+returns-clause-at g c = λ template start under. let b = g.N.Node.body c.args.held.body in framed_before b (g.N.Node.body c.put-found.new.self) (pairs_put c.args.place c.args.value b.pairs) c.put-found.ensures.body (c.conclude_found-number.ensures.at template start under)

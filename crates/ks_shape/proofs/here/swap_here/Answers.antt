@@ -3,10 +3,12 @@ use Rattle.std.specs.Prelude.{None, Some}
 use Rattle.ks_history.specs.declared.Op.TheVariants.{Swap}
 use Rattle.ks_history.specs.Map.{told}
 use Rattle.ks_node.specs.Body.{value_at}
+use Rattle.ks_node.specs.Effect.{pairs_put}
 use Rattle.ks_arena.specs.declared.held.Held.{Held as Hand}
 use Rattle.ks_arena.specs.Sound.{sort_of}
 use Rattle.ks_arena.specs.Clauses.{IsReady, seen_of}
 use Rattle.ks_shape.specs.Laws.SearchEnd.{unbranched, below_own}
+use Rattle.ks_shape.proofs.Concludes.{framed_before}
 use Rattle.ks_shape.proofs.here.swap_here.Goals as goal
 
 pub put-requires-clause-no_branch : goal.put-requires-clause-no_branch
@@ -29,3 +31,6 @@ conclude_found-number-requires-then-found-old-clause-ready g c κs within = let 
 pub conclude_found-number-requires-2-clause-ready : goal.conclude_found-number-requires-2-clause-ready
 conclude_found-number-requires-2-clause-ready g c κs within = let x : Hand g.row.N.Denot = record { node = c.args.held.node; body = c.put.new.self; live = c.args.held.live } in
     c.swap_law.ensures.swaps (sym c.get.ensures ∙ c.in-Some.is ∙ ap (λ (v : ℕ). Some v) c.if-found-old.false) x refl c.requires.ends.live c.put.ensures.body
+
+pub returns-clause-at : goal.returns-clause-at
+returns-clause-at g c = λ template start under. let b = g.N.Node.body c.args.held.body in framed_before b (g.N.Node.body c.put.new.self) (pairs_put c.args.place c.args.new b.pairs) c.put.ensures.body (c.conclude_found-number-2.ensures.at template start under)

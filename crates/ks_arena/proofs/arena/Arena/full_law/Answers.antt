@@ -5,7 +5,7 @@ use Rattle.ks_history.specs.Laws.Hand.{is_hand}
 use Rattle.ks_arena.specs.Sound.{sort_of}
 use Rattle.ks_arena.specs.Clauses.{seen_of}
 use Rattle.ks_arena.proofs.Calling.{put_full, add_full, full_at}
-use Rattle.ks_arena.proofs.Ready.{full_kept}
+use Rattle.ks_history.specs.Laws.Dues.{full_kept}
 use Rattle.ks_arena.proofs.arena.Arena.full_law.Goals as goal
 
 pub returns-clause-put : goal.returns-clause-put
