@@ -10,7 +10,7 @@ use Rattle.ks_history.specs.declared.Event.{Event}
 use Rattle.ks_history.specs.declared.Op.{Op}
 use Rattle.ks_history.specs.declared.Reply.{Reply}
 use Rattle.ks_history.specs.declared.Reply.TheVariants.{Full}
-use Rattle.ks_history.specs.Map.{Touches}
+use Rattle.ks_history.specs.Map.{Touches, told}
 use Rattle.ks_history.specs.Trace.{graph_after}
 use Rattle.ks_history.specs.Frames.{frame_after}
 use Rattle.ks_history.specs.Done.{Template, Done, DoneAt}
@@ -30,6 +30,7 @@ use Rattle.ks_arena.specs.Clauses.{hand_of, seen_of}
 use Rattle.ks_arena.specs.Of.{IsInside}
 use Rattle.ks_shape.specs.Beside.{KeepsBeside}
 use Rattle.ks_shape.specs.Claims.{DidClaimOne, DidClaimTwo}
+use Rattle.ks_shape.specs.Hinted.{DoneWhere}
 use Rattle.ks_shape.specs.InHand.{IsLive, IsFree, BecomesLive, BecomesFree}
 use Rattle.ks_shape.specs.Makes.{MakesNone}
 use Rattle.ks_shape.specs.OnWay.{IsOnWay}
@@ -38,6 +39,7 @@ use Rattle.ks_shape.specs.SearchEnd.{IsEnd, HasRoom, IsCrowded}
 use Rattle.ks_shape.specs.Stretches.{Stretches}
 use Rattle.ks_shape.specs.Tries.{Tried, TriedPut}
 use Rattle.ks_shape.specs.declared.answers.Numbered.{Numbered}
+use Rattle.ks_shape.specs.declared.answers.NumberedAt.{NumberedAt}
 use Rattle.ks_shape.specs.declared.answers.Later.{Later}
 use Rattle.ks_shape.specs.declared.answers.PutLater.{PutLater}
 
@@ -147,6 +149,11 @@ module _ {N D P : Type 0} {n : NodeGhosts N P} {q : PlacingGhosts P} {d : Discip
   -- the same with the reply Full, if no node was free for the place since it began
   abbrev pub FinishesCrowded : Arena N D P n q d → Op → ℕ → Pass N D → Pass N D → ℕ → Type 0
   FinishesCrowded a op place p p' number = (template : Template) (start : List Event) → Underway template p.caller op start (seen_of p) → NoneFree n.layout a.nodes p.caller place start (seen_of p) → Done n.layout template a.nodes p.caller op start (seen_of p') Full number
+
+  -- a call that is under way at p, of any technique and begun at any moment, is done at p'; its result says at which node it
+  -- was decided, and which range this node then had
+  abbrev pub FinishesWhere : Arena N D P n q d → Op → Pass N D → Pass N D → NumberedAt → Type 0
+  FinishesWhere a op p p' answer = (template : Template) (start : List Event) → Underway template p.caller op start (seen_of p) → DoneWhere n.layout template a.nodes p.caller op start (seen_of p') (told answer.found) answer.number answer.node answer.low answer.last (blank_of (sort_of n.layout n.ranged))
 
   -- the result of a claim of one node, and of two: they are held; or no node was free, if the caller held what a claim needs
   abbrev pub HasClaimedOne : Arena N D P n q d → Pass N D → Pass N D → Option (Hand N) → Type 0

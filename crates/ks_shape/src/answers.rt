@@ -7,8 +7,8 @@ pub struct Numbered {
     pub found: Option<u128>,
 }
 
-/// The number of a call in the one history of all calls, modulo 2^64, the value that its place had before it, and where the
-/// call was decided.
+/// The number of a call in the one history of all calls, modulo 2^64, the value that its place had before it, and where
+/// the call was decided.
 #[derive(Clone, Copy, Debug, PartialEq, Eq)]
 pub struct NumberedAt {
     pub number: u64,

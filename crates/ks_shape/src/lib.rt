@@ -13,6 +13,7 @@ mod here;
 mod laws;
 mod leaves;
 mod link;
+mod located;
 mod path;
 mod steps;
 mod template;
@@ -33,6 +34,7 @@ pub use here::{
 pub use laws::search_law;
 pub use leaves::leaves_law;
 pub use link::{attach, grow_right, split_right};
+pub use located::{above_of, del_located, get_located, put_located};
 pub use path::{Path, enter, keep_alone, keep_left, let_go, step_down};
 pub use steps::{give_last, take_root};
 pub use template::{Ruled, Shelf, Template};

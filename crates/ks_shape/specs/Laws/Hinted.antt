@@ -2,7 +2,6 @@
 use Rattle.std.proofs.Common.{ℕ, List, [], ◌∷◌, ◌++◌, append_assoc, refl, sym, ap, ◌∙◌}
 use Rattle.ks_history.specs.declared.Event.{Event}
 use Rattle.ks_history.specs.declared.Event.TheVariants.{Take}
-use Rattle.ks_history.specs.Alone.{ActsAlone}
 use Rattle.ks_history.specs.Laws.Alone.{alone_first, alone_still}
 use Rattle.ks_history.specs.Laws.Begins.{with_others}
 use Rattle.ks_history.specs.Passes.{GrowsWith}

@@ -1,5 +1,4 @@
 use Rattle.std.proofs.Common.{refl, sym, ◌∙◌}
-use Rattle.ks_node.specs.Effect.{pairs_put}
 use Rattle.ks_arena.specs.declared.held.Held.{Held as Hand}
 use Rattle.ks_arena.specs.Sound.{sort_of}
 use Rattle.ks_arena.specs.Clauses.{seen_of}
@@ -24,4 +23,4 @@ pub conclude_found-number-requires-2-clause-ready : goal.conclude_found-number-r
 conclude_found-number-requires-2-clause-ready g c κs within = c.add_law.ensures.stays c.in-Some.found (sym c.get.ensures ∙ c.in-Some.is)
 
 pub returns-in_default-clause-at : goal.returns-in_default-clause-at
-returns-in_default-clause-at g c = λ template start under. let b = g.N.Node.body c.args.held.body in framed_before b (g.N.Node.body c.put.new.self) (pairs_put c.args.place c.args.value b.pairs) c.put.ensures.body (c.conclude_found-number.ensures.at template start under)
+returns-in_default-clause-at g c = λ template start under. let b = g.N.Node.body c.args.held.body in framed_before b (g.N.Node.body c.put.new.self) _ c.put.ensures.body (c.conclude_found-number.ensures.at template start under)

@@ -1,7 +1,6 @@
 use Rattle.std.proofs.Common.{refl, sym, ap, subst}
 use Rattle.ks_history.specs.declared.Op.TheVariants.{Del}
 use Rattle.ks_history.specs.Map.{told}
-use Rattle.ks_node.specs.Effect.{pairs_del}
 use Rattle.ks_arena.specs.declared.held.Held.{Held as Hand}
 use Rattle.ks_arena.specs.Sound.{sort_of}
 use Rattle.ks_arena.specs.Clauses.{IsReady, seen_of}
@@ -18,4 +17,4 @@ conclude_found-number-requires-clause-ready g c κs within = let x : Hand g.row.
     (c.del_law.ensures x refl c.requires.ends.live c.del-found.ensures.body)
 
 pub returns-clause-at : goal.returns-clause-at
-returns-clause-at g c = λ template start under. let b = g.N.Node.body c.args.held.body in framed_before b (g.N.Node.body c.del-found.new.self) (pairs_del c.args.place b.pairs) c.del-found.ensures.body (c.conclude_found-number.ensures.at template start under)
+returns-clause-at g c = λ template start under. let b = g.N.Node.body c.args.held.body in framed_before b (g.N.Node.body c.del-found.new.self) _ c.del-found.ensures.body (c.conclude_found-number.ensures.at template start under)

@@ -1,7 +1,6 @@
 use Rattle.std.proofs.Common.{refl, sym, ap, subst}
 use Rattle.ks_history.specs.declared.Op.TheVariants.{Put}
 use Rattle.ks_history.specs.Map.{told}
-use Rattle.ks_node.specs.Effect.{pairs_put}
 use Rattle.ks_arena.specs.declared.held.Held.{Held as Hand}
 use Rattle.ks_arena.specs.Sound.{sort_of}
 use Rattle.ks_arena.specs.Clauses.{IsReady, seen_of}
@@ -24,4 +23,4 @@ conclude_found-number-requires-clause-ready g c κs within = let x : Hand g.row.
     (c.put_law.ensures x refl c.requires.room.ends.live c.put-found.ensures.body)
 
 pub returns-clause-at : goal.returns-clause-at
-returns-clause-at g c = λ template start under. let b = g.N.Node.body c.args.held.body in framed_before b (g.N.Node.body c.put-found.new.self) (pairs_put c.args.place c.args.value b.pairs) c.put-found.ensures.body (c.conclude_found-number.ensures.at template start under)
+returns-clause-at g c = λ template start under. let b = g.N.Node.body c.args.held.body in framed_before b (g.N.Node.body c.put-found.new.self) _ c.put-found.ensures.body (c.conclude_found-number.ensures.at template start under)

@@ -3,7 +3,6 @@ use Rattle.std.specs.Prelude.{None, Some}
 use Rattle.ks_history.specs.declared.Op.TheVariants.{Swap}
 use Rattle.ks_history.specs.Map.{told}
 use Rattle.ks_node.specs.Body.{value_at}
-use Rattle.ks_node.specs.Effect.{pairs_put}
 use Rattle.ks_arena.specs.declared.held.Held.{Held as Hand}
 use Rattle.ks_arena.specs.Sound.{sort_of}
 use Rattle.ks_arena.specs.Clauses.{IsReady, seen_of}
@@ -33,4 +32,4 @@ conclude_found-number-requires-2-clause-ready g c κs within = let x : Hand g.ro
     c.swap_law.ensures.swaps (sym c.get.ensures ∙ c.in-Some.is ∙ ap (λ (v : ℕ). Some v) c.if-found-old.false) x refl c.requires.ends.live c.put.ensures.body
 
 pub returns-clause-at : goal.returns-clause-at
-returns-clause-at g c = λ template start under. let b = g.N.Node.body c.args.held.body in framed_before b (g.N.Node.body c.put.new.self) (pairs_put c.args.place c.args.new b.pairs) c.put.ensures.body (c.conclude_found-number-2.ensures.at template start under)
+returns-clause-at g c = λ template start under. let b = g.N.Node.body c.args.held.body in framed_before b (g.N.Node.body c.put.new.self) _ c.put.ensures.body (c.conclude_found-number-2.ensures.at template start under)
