@@ -12,6 +12,8 @@ pub use Rattle.ks_shape.specs.Answers.{number_in, reply_in}
 pub use Rattle.ks_shape.specs.Compacts.{HasFreed, HasLeftBy, IsTightIn, WasUndisturbed}
 pub use Rattle.ks_shape.specs.Does.{OnlyDels, OnlyFills, OnlySearches}
 pub use Rattle.ks_shape.specs.Tries.{IsDoneIn, MayTell, PutMayTell}
+pub use Rattle.ks_shape.specs.Parts.{DonePart, IsDonePart}
+pub use Rattle.ks_scan.specs.Scan.{IsDoneScan, IsScanOf}
 pub use Rattle.ks_shape.specs.Upkeep.{AreNewLed, HasTwoFree, IsTidyIn, LeadsNew, LeavesTidy}
 -- of a dictionary that has ended
 pub use Rattle.ks_dictionary.specs.Ended.{HasEnded, HasEndedWith, history}
@@ -23,12 +25,12 @@ pub use Rattle.ks_history.specs.Served.{IsListing}
 pub use Rattle.ks_dictionary.specs.Kept.{AddedOnce, Changed, FindsPut, Removed}
 pub use Rattle.ks_history.specs.Done.{Done, Template, coupling, give_up, link_move}
 pub use Rattle.ks_history.specs.Refusals.{BusyDue, FarDue, MovedDue}
-pub use Rattle.ks_history.specs.Map.{Legal, map_after, told}
+pub use Rattle.ks_history.specs.Map.{Legal, ListsSpan, map_after, told}
 pub use Rattle.ks_history.specs.Callers.{CallersBelow}
 pub use Rattle.ks_history.specs.Passes.{GrowsByOthers}
 pub use Rattle.ks_history.specs.Trace.{◌⊑◌, calls_of, graph_after, number_after}
 pub use Rattle.ks_history.specs.declared.Answered.{Answered}
 pub use Rattle.ks_history.specs.declared.Event.{Event}
 pub use Rattle.ks_history.specs.declared.Op.{Op}
-pub use Rattle.ks_history.specs.declared.Op.TheVariants.{Add, Del, Get, Put, Swap}
+pub use Rattle.ks_history.specs.declared.Op.TheVariants.{Add, Del, Get, Move, Part, Put, Swap}
 pub use Rattle.ks_history.specs.declared.Reply.{Reply}

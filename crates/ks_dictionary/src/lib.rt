@@ -14,6 +14,7 @@ mod fit;
 mod job;
 mod laws;
 mod merging;
+mod scanning;
 mod serving;
 mod workers;
 

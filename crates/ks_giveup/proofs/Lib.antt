@@ -1,3 +1,4 @@
 pub mod Way
 pub mod Visits
 pub mod TryPuts
+pub mod Spans

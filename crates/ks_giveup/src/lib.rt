@@ -10,6 +10,7 @@
 mod calls;
 mod descent;
 mod merging;
+mod scans;
 mod technique;
 mod tries;
 mod try_descent;
@@ -17,6 +18,7 @@ mod try_puts;
 
 pub use calls::{add, del, get, put, swap};
 pub use merging::compact;
+pub use scans::scan_part;
 pub use technique::GiveUp;
 pub use tries::{try_del, try_get, try_swap};
 pub use try_puts::{try_add, try_put};

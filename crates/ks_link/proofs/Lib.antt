@@ -4,5 +4,6 @@ pub mod Nearer
 pub mod Parting
 pub mod Places
 pub mod Rooms
+pub mod Spans
 pub mod Ways
 pub mod Trying

@@ -1,6 +1,6 @@
 -- Where places are under links: below no node that a search for them comes to, and at the one on level 0 whose range holds them.
 use Rattle.std.proofs.Common.{◌≡◌, ℕ, ◌<◌, ◌≤◌, sym, ap, ◌∙◌, subst, ⊎_elim, arith}
-use Rattle.std.specs.Prelude.{◌⊎◌, Some}
+use Rattle.std.specs.Prelude.{◌⊎◌, Option, Some, None}
 use Rattle.std.proofs.lemmas.Bool.{cases_lt}
 use Rattle.ks_keysets.specs.declared.Edge.{Edge}
 use Rattle.ks_keysets.specs.declared.Frame.{Frame}
@@ -10,6 +10,7 @@ use Rattle.ks_keysets.specs.declared.Span.{Span}
 use Rattle.ks_keysets.specs.Record.{IsPlace, top, Holds, LeadsTo, LeadsOn}
 use Rattle.ks_keysets.specs.Keyset.{record_at, IsLive, Good, Reaches, at_root, along, InKeyset}
 use Rattle.ks_flow.specs.Link.{Link, IsRange, IsLinkEdge, IsChildEdge}
+use Rattle.ks_node.specs.Body.{last_of}
 
 module _ (g : ℕ → NodeState) (f : ℕ → Frame) (facts : Link g f) where
   pub root_low : IsLive g 0 → (f 0).low ≡ 0
@@ -52,3 +53,14 @@ module _ (g : ℕ → NodeState) (f : ℕ → Frame) (facts : Link g f) where
       let same : n ≡ m = facts.apart n m range_n.0 range_m.0 p (r, is) live (level_zero n p r is low place off ∙ sym (level_zero m p live.0 live.1 low_m place away)) range_n.1 range_m.1
       (range_holds n p r is low place off range_n.0 range_n.1) (range_holds m p live.0 live.1 low_m place away range_m.0 range_m.1) in
       subst (λ (i : ℕ). InKeyset g i p) (sym same) home.1
+
+  -- no place past the range of a node is in its keyset: an edge carries it
+  pub past_range : (n p : ℕ) (o : Option Span) → (f n).range ≡ o → last_of o < p → InKeyset g n p → ⊥
+  past_range n p None e past in_keyset = absurd (let place : p ≤ top = in_keyset.0.0 in omega (arith, place, past))
+  past_range n p (Some s) e past in_keyset =
+      let live : IsLive g n = reaches_live p n in_keyset.0.1 in
+      let range = facts.range n live in
+      let same : Some range.0 ≡ Some s = sym range.1.is ∙ e in
+      let is : range.0 ≡ s = cc in
+      let after : range.0.last < p = subst (λ (z : Span). z.last < p) (sym is) past in
+      in_keyset.1 (live.0, live.1, facts.beyond n live.0 range.0 p live.1 range.1 after in_keyset.0.0)

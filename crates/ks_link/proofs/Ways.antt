@@ -135,3 +135,14 @@ module _ {N : Type 0} (sort : Sort) (shows : N → Body) where
 
       pub ends_bare : length (shows x.body).starts ≡ 0
       ends_bare = none (shows x.body).starts refl
+
+  -- the search for each place from there to the end of the range ends there too
+  pub ends_along : (c p q : ℕ) (h : List Event) (x : Hand N) → IsOnWay sort shows c p h x → Link (graph_after h) (frames h) → InOrder (content_of (shows x.body)) → next_at (shows x.body) p ≡ Here → Good (graph_after h) → p ≤ q → q ≤ last_of (shows x.body).range → IsEnd sort shows c q h x
+  ends_along c p q h x way facts order here good from upto =
+      let on : IsOnWay sort shows c q h x = record { alone = way.alone; live = way.live; matches = way.matches; low = omega (arith, way.low, from) } in
+      let frame = (shown sort shows h x way.live way.matches).1 in
+      let range = facts.range x.node (record_of (shows x.body), record_is sort shows h x way.live way.matches) in
+      let has : (shows x.body).range ≡ Some range.0 = sym (ap (λ (f : Frame). f.range) frame) ∙ range.1.is in
+      let place : q ≤ top = omega (arith, upto, ap last_of has, range.1.last) in
+      let level : (shows x.body).level ≡ 0 = sym (ap (λ (f : Frame). f.level) frame) ∙ at_level c p h x way facts (omega (arith, from, place)) order here in
+      ends_here c q h x on facts place order (leaf_ends q h x way.live way.matches facts place order level upto) good

@@ -1,8 +1,8 @@
 //! The search from the root, down and to the right, to the node where it ends.
-ghost use Rattle.std.specs.Prelude.{◌≡◌};
+ghost use Rattle.std.specs.Prelude.{◌≡◌, ◌≤◌, ℕ};
 ghost use Rattle.ks_history.specs.Done.{link_move};
 ghost use Rattle.ks_node.specs.declared.start.Next.TheVariants.{Go, Here};
-ghost use Rattle.ks_node.specs.Body.{next_at};
+ghost use Rattle.ks_node.specs.Body.{last_of, next_at};
 ghost use Rattle.ks_arena.specs.Of.{IsPassOf, IsEmptyPassOf, SameCaller, caller_of};
 ghost use Rattle.ks_shape.specs.Of.{IsUnderway, StaysUnderway, MakesNoneLive, SearchEndsAt};
 ghost use Rattle.ks_link.specs.Of.{SearchIsAt};
@@ -82,6 +82,24 @@ pub(crate) fn end_law<N: Linked>(
     requires way { SearchIsAt arena.now (caller_of pass.now) place pass.now held.now }
     requires here { next_at (N.body held.now.body) place ≡ Here }
     ensures { SearchEndsAt arena.now place pass.now held.now }
+{
+    sound_law::<Link>();
+    node_law(&held.body);
+}
+
+/// Where the search for a place has ended, that for each further place of the node's range ends too. The function
+/// computes nothing.
+pub(crate) fn span_law<N: Linked>(
+    arena: &Arena<N, Link>,
+    pass: &Pass<N, Link>,
+    held: &Held<N>,
+    low: u64,
+)
+    requires pass { IsPassOf arena.now pass.now }
+    requires way { SearchIsAt arena.now (caller_of pass.now) low pass.now held.now }
+    requires ends { SearchEndsAt arena.now low pass.now held.now }
+    ensures { (p : ℕ) → low ≤ p → p ≤ last_of (N.body held.now.body).range →
+        SearchEndsAt arena.now p pass.now held.now }
 {
     sound_law::<Link>();
     node_law(&held.body);

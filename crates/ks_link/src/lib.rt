@@ -13,6 +13,7 @@ mod descent;
 mod parts;
 mod puts;
 mod room;
+mod scans;
 mod template;
 mod tries;
 mod try_attaches;
@@ -21,6 +22,7 @@ mod try_puts;
 
 pub use calls::{del, get, swap};
 pub use puts::{add, put};
+pub use scans::scan_part;
 pub use template::LinkMove;
 pub use tries::{try_del, try_get, try_swap};
 pub use try_puts::{try_add, try_put};

@@ -4,8 +4,8 @@ ghost use Rattle.ks_history.specs.Done.{link_move};
 use ks_arena::{Arena, Pass};
 use ks_flow::Link;
 use ks_gate::Gate;
-use ks_node::{Linked, linked_law};
-use ks_shape::{Full, Later, Numbered, PutLater, Ruled, Template};
+use ks_node::{Linked, Listed, linked_law};
+use ks_shape::{Full, Later, Numbered, Part, PutLater, Ruled, Scanning, Template};
 use std::sync::Wait;
 
 /// Callers move along links, over any linked node.
@@ -123,5 +123,18 @@ impl<N: Linked> Template<N, Arena<N, Link>> for LinkMove {
         place: u64,
     ) -> Result<Numbered, Later> {
         crate::tries::try_del(arena, pass, gate, place)
+    }
+}
+
+impl<N: Linked + Listed> Scanning<N, Arena<N, Link>> for LinkMove {
+    fn scan_part<R: Wait, G: Gate>(
+        rt: &R,
+        arena: &Arena<N, Link>,
+        pass: &mut Pass<N, Link>,
+        gate: &G,
+        low: u64,
+        last: u64,
+    ) -> Part {
+        crate::scans::scan_part(rt, arena, pass, gate, low, last)
     }
 }

@@ -19,3 +19,4 @@ pub mod Leaves
 pub mod Search
 pub mod Found
 pub mod Hinted
+pub mod Parts

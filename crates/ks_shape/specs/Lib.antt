@@ -22,6 +22,7 @@ pub mod Frees
 pub mod Leaves
 pub mod Next
 pub mod OnPath
+pub mod Parts
 pub mod Paths
 pub mod TryPaths
 pub mod Upkeep

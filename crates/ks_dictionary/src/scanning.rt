@@ -1,0 +1,59 @@
+//! Ordered scans of a dictionary whose keys are their places.
+ghost use Rattle.std.specs.Prelude.{◌≡◌, ◌≤◌, ◌<◌, ◌^◌, ℕ, [], vec_capacity};
+ghost use Rattle.ks_arena.specs.Of.{SameCaller};
+ghost use Rattle.ks_shape.specs.Does.{OnlySearches};
+ghost use Rattle.ks_scan.specs.Scan.{IsDoneScan, IsScanOf};
+ghost use Rattle.ks_dictionary.specs.Of.{IsIdlePassOf, site_of};
+
+use crate::dictionary::Dictionary;
+use ks_arena::{Arena, Pass};
+use ks_gate::Gate;
+use ks_node::{Listed, listed_law};
+use ks_scan::{Scanned, scan_into};
+use ks_shape::{Part, Ruled, Scanning};
+use std::sync::Wait;
+
+impl<N: Listed, T: Ruled + Scanning<N, Arena<N, <T as Ruled>::Rule>>> Dictionary<N, T> {
+    /// Lists the pairs of the keys from `low` to `last`, both included, in ascending order, in at most `most` parts, which
+    /// it pushes into `into`, an empty list with room for them: so it needs no memory. It stops at `last`, or after `most`
+    /// parts.
+    ///
+    /// Each part is one call of the history, with a number of its own: it has just the pairs that the map has then from
+    /// its first key to its last. Calls of other callers may come between two parts, so the whole is no picture of one
+    /// moment.
+    pub fn scan_into<R: Wait, G: Gate>(
+        &self,
+        rt: &R,
+        pass: &mut Pass<N, T::Rule>,
+        gate: &G,
+        low: u64,
+        last: u64,
+        most: usize,
+        into: &mut Vec<Part>,
+    ) -> Scanned
+        requires pass { IsIdlePassOf self.now pass.old }
+        requires span { low ≤ last }
+        requires some { 1 ≤ most }
+        requires blank { into.old.items ≡ [] }
+        requires room { most ≤ vec_capacity into.old }
+        ensures pass { IsIdlePassOf self.now pass.new }
+        ensures caller { SameCaller pass.old pass.new }
+        ensures leaves { OnlySearches pass.old pass.new }
+        ensures done { IsDoneScan N.layout T.technique (site_of self.now) low last
+            pass.old pass.new into.new.items }
+        ensures scan { IsScanOf low last most into.new.items result }
+        ensures keys { (k : ℕ) → k < 2 ^ 64 → N.Places.place_of k ≡ k }
+    {
+        listed_law::<N>();
+        scan_into::<N, Arena<N, <T as Ruled>::Rule>, T, R, G>(
+            rt,
+            &self.arena,
+            pass,
+            gate,
+            low,
+            last,
+            most,
+            into,
+        )
+    }
+}

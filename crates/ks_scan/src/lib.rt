@@ -1,0 +1,60 @@
+//! Whole scans: the pairs of a span of places, as a row of parts. Each part is a call of its own, decided at one node, and
+//! begins where the one before it stopped. So a scan is no picture of one moment.
+#![tactic(auto)]
+
+ghost use Rattle.std.specs.Prelude.{◌≡◌, ◌≤◌, [], vec_capacity};
+ghost use Rattle.ks_arena.specs.Of.{SameCaller};
+ghost use Rattle.ks_shape.specs.Does.{OnlySearches};
+ghost use Rattle.ks_shape.specs.Idle.{IsIdle};
+ghost use Rattle.ks_scan.specs.Scan.{IsScanOf, IsDoneScan};
+
+use ks_arena::Pass;
+use ks_gate::Gate;
+use ks_node::Listed;
+use ks_shape::{Part, Scanning, Shelf};
+use std::sync::Wait;
+
+/// Where a scan stopped.
+#[derive(Clone, Copy, Debug, PartialEq, Eq)]
+pub enum Scanned {
+    /// At its last place.
+    Whole,
+    /// After as many parts as it may have: the scan goes on at this place.
+    Until { next: u64 },
+}
+
+/// Lists the pairs from `low` to `last`, both included, in at most `most` parts, which it pushes into `into`, an empty list
+/// with room for them: so it needs no memory. It stops at `last`, or after `most` parts.
+pub fn scan_into<N: Listed, A: Shelf, T: Scanning<N, A>, R: Wait, G: Gate>(
+    rt: &R,
+    arena: &A,
+    pass: &mut Pass<N, T::Rule>,
+    gate: &G,
+    low: u64,
+    last: u64,
+    most: usize,
+    into: &mut Vec<Part>,
+) -> Scanned
+    requires pass { IsIdle (A.site arena.now) pass.old }
+    requires span { low ≤ last }
+    requires some { 1 ≤ most }
+    requires blank { into.old.items ≡ [] }
+    requires room { most ≤ vec_capacity into.old }
+    ensures pass { IsIdle (A.site arena.now) pass.new }
+    ensures caller { SameCaller pass.old pass.new }
+    ensures leaves { OnlySearches pass.old pass.new }
+    ensures done { IsDoneScan N.layout T.technique (A.site arena.now) low last pass.old pass.new into.new.items }
+    ensures scan { IsScanOf low last most into.new.items result }
+{
+    let mut from = low;
+    for _ in 0..most {
+        let part = T::scan_part(rt, arena, pass, gate, from, last);
+        let end = part.last;
+        into.push_reserved(part);
+        if end == last {
+            return Scanned::Whole;
+        }
+        from = end + 1;
+    }
+    Scanned::Until { next: from }
+}
