@@ -27,9 +27,9 @@ fn each_caller(alloc: Global, script: &[Calls]) -> Result<Vec<Vec<Op>>, AllocErr
 }
 
 /// The replies to each caller, which are plain, packed.
-pub fn packed(alloc: Global, callers: &[Vec<(u64, Reply)>]) -> Result<Vec<Lines>, AllocError>
-    requires { All (λ lines. All (λ line. IsPlain line.1) lines.items) callers.now }
-    ensures { IfOk result (λ packed. packed.items ≡ map (λ v. v.items) callers.now) }
+pub fn packed(alloc: Global, callers: Vec<Vec<(u64, Reply)>>) -> Result<Vec<Lines>, AllocError>
+    requires { All (λ lines. All (λ line. IsPlain line.1) lines.items) callers.items }
+    ensures { IfOk result (λ packed. packed.items ≡ map (λ v. v.items) callers.items) }
 {
     let mut packed = Vec::with_capacity(alloc, callers.len())?;
     for lines in callers {

@@ -77,7 +77,7 @@ fn to_print(alloc: Global, told: Told) -> Result<Ready, AllocError>
     ensures callers { IfOk result (λ ready. ready.printed.callers ≡ map (λ v. v.items) told.lines.items) }
     ensures pairs { IfOk result (λ ready. ready.printed.pairs ≡ told.pairs.items) }
 {
-    let callers = packed(alloc, &told.lines)?;
+    let callers = packed(alloc, told.lines)?;
     Ok(Ready {
         printed: Printed {
             callers,

@@ -160,14 +160,14 @@ impl Lines {
         })
     }
 
-    /// These lines, whose replies are plain, packed.
-    pub fn from_lines(alloc: Global, lines: &[(u64, Reply)]) -> Result<Lines, AllocError>
-        requires { All (λ line. IsPlain line.1) lines.now }
-        ensures { IfOk result (λ packed. packed ≡ lines.now) }
+    /// These lines, whose replies are plain, packed. Each reply is moved, so that none is left to be dropped.
+    pub fn from_lines(alloc: Global, lines: Vec<(u64, Reply)>) -> Result<Lines, AllocError>
+        requires { All (λ line. IsPlain line.1) lines.items }
+        ensures { IfOk result (λ packed. packed ≡ lines.items) }
     {
         let mut packed = Lines::with_capacity(alloc, lines.len())?;
         for line in lines {
-            packed.push(line.0, again(&line.1))?;
+            packed.push(line.0, line.1)?;
         }
         Ok(packed)
     }
