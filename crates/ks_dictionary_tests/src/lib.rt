@@ -12,6 +12,8 @@ mod notes;
 #[cfg(test)]
 mod order;
 #[cfg(test)]
+mod scans;
+#[cfg(test)]
 mod scenes;
 #[cfg(test)]
 mod tests;
