@@ -171,7 +171,7 @@ impl Calls {
     {
         let mut ops = Vec::with_capacity(alloc, self.len())?;
         for at in 0..self.len() {
-            ops.push(self.get(at))?;
+            ops.push_reserved(self.get(at));
         }
         Ok(ops)
     }

@@ -54,31 +54,6 @@ impl Model for Lines {
     ghost invariant = { λ l. All (IsLineIn l.long) l.small.items };
 }
 
-// The small line that is this one, if it is short.
-#[inline(always)]
-fn small_of(number: u64, reply: &Reply) -> Option<SmallLine>
-    ensures stands { IfSome result (λ s. (long : LongLines) → line_in long s ≡ (number, reply.now)) }
-    ensures fits { IfSome result (λ s. (long : LongLines) → IsLineIn long s) }
-{
-    match reply {
-        Reply::Nothing => Some(SmallLine::Nothing {
-            number: u32::try_from(number).ok()?,
-        }),
-        Reply::Value(value) => {
-            let (high, low) = parts(number)?;
-            Some(SmallLine::Value {
-                high,
-                low,
-                value: u32::try_from(*value).ok()?,
-            })
-        }
-        Reply::Full => Some(SmallLine::Full {
-            number: u32::try_from(number).ok()?,
-        }),
-        Reply::Listed(_) | Reply::Kept => None,
-    }
-}
-
 // The plain reply, made anew.
 #[inline(always)]
 fn again(reply: &Reply) -> Reply
@@ -121,6 +96,21 @@ impl LongLines {
         }
     }
 
+    // The small line of one that is neither a miss of a small number nor a value of one that has parts.
+    #[inline(never)]
+    fn keep_other(&mut self, number: u64, reply: Reply) -> Result<SmallLine, AllocError>
+        requires { IsPlain reply }
+        ensures stands { IfOk result (λ s. line_in self.new s ≡ (number, reply)) }
+        ensures fits { IfOk result (IsLineIn self.new) }
+        ensures others { KeepsLines self.old self.new }
+    {
+        if let (Reply::Full, Ok(number)) = (&reply, u32::try_from(number)) {
+            return Ok(SmallLine::Full { number });
+        }
+        let at = appended_at(&mut self.others, (number, reply))?;
+        Ok(SmallLine::Other { at })
+    }
+
     // The small line that represents this one, which is kept if it is longer.
     #[inline(always)]
     fn small_for(&mut self, number: u64, reply: Reply) -> Result<SmallLine, AllocError>
@@ -129,14 +119,23 @@ impl LongLines {
         ensures fits { IfOk result (IsLineIn self.new) }
         ensures others { KeepsLines self.old self.new }
     {
-        if let Some(small) = small_of(number, &reply) {
-            return Ok(small);
+        match reply {
+            Reply::Nothing => {
+                if let Ok(number) = u32::try_from(number) {
+                    return Ok(SmallLine::Nothing { number });
+                }
+            }
+            Reply::Value(value) => {
+                if let Some((high, low)) = parts(number) {
+                    return match u32::try_from(value) {
+                        Ok(value) => Ok(SmallLine::Value { high, low, value }),
+                        Err(_) => self.keep_value(high, low, value),
+                    };
+                }
+            }
+            Reply::Full | Reply::Listed(_) | Reply::Kept => {}
         }
-        if let (Some((high, low)), Reply::Value(value)) = (parts(number), &reply) {
-            return self.keep_value(high, low, *value);
-        }
-        let at = appended_at(&mut self.others, (number, reply))?;
-        Ok(SmallLine::Other { at })
+        self.keep_other(number, reply)
     }
 }
 
@@ -165,11 +164,12 @@ impl Lines {
         requires { All (λ line. IsPlain line.1) lines.items }
         ensures { IfOk result (λ packed. packed ≡ lines.items) }
     {
-        let mut packed = Lines::with_capacity(alloc, lines.len())?;
-        for line in lines {
-            packed.push(line.0, line.1)?;
+        let mut small = Vec::with_capacity(alloc, lines.len())?;
+        let mut long = LongLines::new(alloc);
+        for (number, reply) in lines {
+            small.push_reserved(long.small_for(number, reply)?);
         }
-        Ok(packed)
+        Ok(Lines { small, long })
     }
 
     /// Puts a line with a plain reply behind the others. If memory runs out all stays as it was.

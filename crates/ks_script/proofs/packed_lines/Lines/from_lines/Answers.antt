@@ -1,17 +1,32 @@
-use Rattle.std.proofs.lemmas.List.Elements.{All-rest}
-use Rattle.ks_script.proofs.Common.{sym, ap, ◌∙◌, ◌++◌, ◌∷◌, [], append_assoc}
+use Rattle.std.proofs.lemmas.List.Elements.{All-push, All-rest, All-same, All-weaker}
+use Rattle.ks_script.proofs.Common.{ℕ, suc, List, ◌≡◌, ◌+◌, refl, sym, ap, ◌∙◌, ◌++◌, ◌∷◌, [], length, length-append, map, append_assoc, arith, Reply}
+use Rattle.ks_script.proofs.Packing.{one_more}
+use Rattle.ks_script.specs.PackedLines.{line_in, IsLineIn}
 use Rattle.ks_script.specs.Plain.{IsPlain}
+use Rattle.ks_script.specs.declared.packed_lines.SmallLine.{SmallLine}
 use Rattle.ks_script.proofs.packed_lines.Lines.from_lines.Goals as goal
 
 -- src/packed_lines.rt:169:9
-pub loop-line-preserved : goal.loop-line-preserved
-loop-line-preserved c =
-    let before = c.loop-line.packed in
-    let line = c.in-Some.line in
+pub loop-number-preserved : goal.loop-number-preserved
+loop-number-preserved c =
+    let before = c.loop-number in
+    let long = c.small_for.new.self in
+    let small = c.in_ok-small_for.field-0 in
+    let line : ℕ × Reply = (c.in-Some.number, c.in-Some.reply) in
     let rest = c.next.new.self.rest.items in
     let taken = c.in-Some.ensures.steps.0 in
-    let pushed = c.in_ok-push.ensures.ok in
+    let keeps = c.small_for.ensures.others in
+    let pushed = c.push_reserved.ensures.items in
+    let lines = map (line_in before.long) before.small.items in
+    let one = one_more (line_in long) (line_in before.long) (IsLineIn before.long) before.small.items c.push_reserved.new.self.items small lines line (λ s fits. (keeps s fits).1) before.invariant.fits refl pushed c.in_ok-small_for.ensures.stands in
     record {
-      packed = ap (λ lines. lines ++ rest) pushed ∙ (append_assoc before (line ∷ []) rest ∙ (ap (λ lines. before ++ lines) (sym taken) ∙ c.loop-line.invariant.packed));
-      plain = All-rest (λ line. IsPlain line.1) line rest c.loop-line.line-iterator.rest.items taken c.loop-line.invariant.plain;
+      packed = ap (λ l. l ++ rest) one ∙ (append_assoc lines (line ∷ []) rest ∙ (ap (λ l. lines ++ l) (sym taken) ∙ before.invariant.packed));
+      fits = All-same (IsLineIn long) _ _ pushed (All-push (IsLineIn long) _ _ (All-weaker (IsLineIn before.long) (IsLineIn long) (λ s fits. (keeps s fits).0) _ before.invariant.fits) c.in_ok-small_for.ensures.fits);
+      plain = All-rest (λ l. IsPlain l.1) line rest before.number-iterator.rest.items taken before.invariant.plain;
+      room =
+          let long_now : length c.push_reserved.new.self.items ≡ length before.small.items + 1 = ap (λ (l : List SmallLine). length l) pushed ∙ length-append before.small.items (small ∷ []) in
+          let long_rest : length before.number-iterator.rest.items ≡ suc (length rest) = ap (λ (l : List (ℕ × Reply)). length l) taken in
+          let capacity = c.push_reserved.ensures.capacity in
+          let room = before.invariant.room in
+          omega (arith, long_now, long_rest, capacity, room);
     }
