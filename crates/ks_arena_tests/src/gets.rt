@@ -1,6 +1,5 @@
 //! The least that decides: a get at node 0. It needs no proof by hand.
 ghost use Rattle.std.specs.Prelude.{◌≡◌, ◌++◌};
-ghost use Rattle.ks_history.specs.Map.{told};
 ghost use Rattle.ks_arena.specs.Clauses.{mine_of};
 ghost use Rattle.ks_arena_tests.specs.Gets.{get_events};
 ghost use Rattle.ks_arena.specs.Of.{IsEmptyPassOf, SameCaller, caller_of};
@@ -8,7 +7,7 @@ ghost use Rattle.ks_arena.specs.Of.{IsEmptyPassOf, SameCaller, caller_of};
 use ks_arena::laws::root_stays_law;
 use ks_arena::{Arena, Pass, root_law};
 use ks_flow::{Discipline, Tree};
-use ks_history::{Op, Reply};
+use ks_history::{Op, reply_of};
 use ks_list::ListNode;
 use ks_node::{Next, Node};
 use std::sync::Wait;
@@ -21,16 +20,6 @@ pub enum GetOutcome {
     Decided { number: u64, found: Option<u128> },
     /// An edge of the node carries the place.
     Elsewhere,
-}
-
-/// The reply of a call that found this.
-fn reply_of(found: Option<u128>) -> Reply
-    ensures { result ≡ told found }
-{
-    match found {
-        Some(value) => Reply::Value(value),
-        None => Reply::Nothing,
-    }
 }
 
 /// Takes node 0 once nobody else holds it, gets the value at the place as one call, and releases the node.

@@ -1,6 +1,5 @@
 //! A layer that decides: puts at node 0.
 ghost use Rattle.std.specs.Prelude.{◌≡◌, ◌++◌, ◌<◌, ◌^◌, false, length};
-ghost use Rattle.ks_history.specs.Map.{told};
 ghost use Rattle.ks_history.specs.Trace.{calls_by, calls_of};
 ghost use Rattle.ks_node.specs.Keyed.{Ascends};
 ghost use Rattle.ks_arena.specs.Clauses.{mine_of, seen_of};
@@ -10,7 +9,7 @@ ghost use Rattle.ks_arena.specs.Of.{IsEmptyPassOf, SameCaller, caller_of};
 use ks_arena::laws::root_stays_law;
 use ks_arena::{Arena, Pass, root_law};
 use ks_flow::{Discipline, Tree};
-use ks_history::{Op, Reply};
+use ks_history::{Op, reply_of};
 use ks_list::ListNode;
 use ks_node::{Next, Node, node_law};
 use std::sync::Wait;
@@ -25,16 +24,6 @@ pub enum PutOutcome {
     NoRoom,
     /// An edge of the node carries the place.
     Elsewhere,
-}
-
-/// The reply of a call that found this.
-fn reply_of(old: Option<u128>) -> Reply
-    ensures { result ≡ told old }
-{
-    match old {
-        Some(value) => Reply::Value(value),
-        None => Reply::Nothing,
-    }
 }
 
 /// Takes node 0 once nobody else holds it, puts the value at the place as one call, and releases the node.

@@ -1,21 +1,19 @@
 -- Parts of scans, and moves of values: small traces that show what the definitions mean, as Instances has them of other calls.
-use Rattle.std.proofs.Common.{ℕ, zero, suc, ◌≡◌, ◌≢◌, ◌<◌, ◌≤◌, ◌⊎◌, inl, inr, cond, ◌==◌, List, [], ◌∷◌, length, get_or, Option, Some, None, refl, sym, ◌∙◌, ap, subst, arith}
-use Rattle.std.specs.Prelude.{All, Any}
+use Rattle.std.proofs.Common.{ℕ, zero, suc, ◌≡◌, ◌<◌, ◌≤◌, inl, inr, cond, ◌==◌, List, [], ◌∷◌, length, get_or, Option, Some, None, refl, sym, ◌∙◌, ap, subst, arith}
 use Rattle.std.proofs.lemmas.List.Elements.{All-nil, All-cons}
 use Rattle.ks_keysets.specs.declared.NewState.TheVariants.{BecomesLive}
-use Rattle.ks_keysets.specs.declared.NodeState.{NodeState}
 use Rattle.ks_keysets.specs.declared.Change.{Change}
 use Rattle.ks_keysets.specs.declared.Record.{Record}
 use Rattle.ks_keysets.specs.declared.Pair.{Pair}
 use Rattle.ks_keysets.specs.Record.{LeadsOn, top}
 use Rattle.ks_keysets.specs.Frame.{empty_record, blank_frame}
-use Rattle.ks_keysets.specs.Keyset.{record_at, IsLive, at_root, along, InInset, InKeyset, value_at}
+use Rattle.ks_keysets.specs.Keyset.{record_at, IsLive, at_root, along, InKeyset, value_at}
 use Rattle.ks_keysets.specs.Layout.{Layout, list_layout}
 use Rattle.ks_history.specs.declared.Op.TheVariants.{Get, Put, Part, Move}
 use Rattle.ks_history.specs.declared.Reply.TheVariants.{Nothing, Value, Full, Listed, Kept}
 use Rattle.ks_history.specs.declared.Reply.{Reply}
 use Rattle.ks_history.specs.declared.Event.{Event}
-use Rattle.ks_history.specs.declared.Event.TheVariants.{Take, Give, Claim, Shape, Call, Twin}
+use Rattle.ks_history.specs.declared.Event.TheVariants.{Take, Claim, Shape, Call, Twin}
 use Rattle.ks_history.specs.Map.{ListsSpan}
 use Rattle.ks_history.specs.Trace.{free, idle, held, graph_after, turn_after}
 use Rattle.ks_history.specs.Lawful.{Meets}

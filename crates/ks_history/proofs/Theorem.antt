@@ -17,9 +17,9 @@ use Rattle.ks_history.specs.Write.{Write, Map, written, taken_out, put_in, map_w
 use Rattle.ks_history.specs.Map.{IsAnswer, moved, map_after, Legal}
 use Rattle.ks_history.specs.Trace.{given, state_with, written_at, graph_then, graph_after, calls_of}
 use Rattle.ks_history.specs.Lawful.{Lawful, MovesBetween, GoodThroughout, at_opening, and_then}
-use Rattle.ks_history.specs.Laws.Stays.{lawful_in_turn, cond_here, cond_else, written_else}
+use Rattle.ks_history.specs.Laws.Stays.{lawful_in_turn, cond_here, cond_else}
 use Rattle.ks_history.specs.Laws.Begins.{good_now}
-use Rattle.ks_history.specs.Laws.Turns.{record_with, given_kept, state_written, written_forth, written_back, free_not_live}
+use Rattle.ks_history.specs.Laws.Turns.{given_kept, state_written, written_forth, written_back, free_not_live}
 use Rattle.ks_history.proofs.Writes.{map_with-at, first_value-pairs_with, WritesAt, map_with-apart, written-touches, answer_along, answer_at_one, move_in_two, taken_out-at, put_in-at}
 use Rattle.ks_history.proofs.Histories.{map_after-push, Legal-nil, Legal-push}
 

@@ -8,6 +8,7 @@
 mod boxed;
 mod laws;
 mod replay;
+mod replies;
 mod span;
 #[cfg(test)]
 mod tests;
@@ -16,6 +17,7 @@ pub use boxed::BoxedFew;
 use ks_keysets::Change;
 pub use laws::{alone_law, far_law, keyset_theorem, moved_law, stability_law, turn_law, turns_law};
 pub use replay::{Verdict, legal, map_after};
+pub use replies::{reply_of, reply_of_move};
 pub use span::lists_span;
 
 /// What a caller asks of the map. In a trace the first number is a place, in scripts and printed runs it is a key.

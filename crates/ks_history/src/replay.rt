@@ -5,10 +5,10 @@ ghost use Rattle.std.specs.Prelude.{ℕ, ◌≡◌, ◌↔◌, IsTrue, IfOk, OnO
 ghost use Rattle.std.specs.Ordering.{nat_cmp};
 ghost use Rattle.std.specs.BTreeMap.{get};
 ghost use Rattle.ks_history.specs.Write.{map_with, written};
-ghost use Rattle.ks_history.specs.Map.{told, moved, IsAnswer, map_after};
+ghost use Rattle.ks_history.specs.Map.{IsAnswer, map_after};
 ghost use Rattle.ks_history.specs.Verdict.{IsVerdict};
 
-use crate::{Answered, Op, Reply, lists_span};
+use crate::{Answered, Op, Reply, lists_span, reply_of, reply_of_move};
 use std::alloc::{AllocError, Global};
 use std::collections::BTreeMap;
 
@@ -70,48 +70,27 @@ fn make(map: &mut BTreeMap<u64, u128>, call: &Answered) -> Result<(), AllocError
     Ok(())
 }
 
-/// The reply for the value that was there.
-fn told(value: Option<u128>) -> Reply
-    ensures { result ≡ told value }
-{
-    match value {
-        None => Reply::Nothing,
-        Some(value) => Reply::Value(value),
-    }
-}
-
-/// The reply of a move, for what was at the two places.
-fn moved(from: Option<u128>, to: Option<u128>) -> Reply
-    ensures { result ≡ moved from to }
-{
-    match (from, to) {
-        (None, _) => Reply::Nothing,
-        (Some(value), None) => Reply::Value(value),
-        (Some(_), Some(_)) => Reply::Kept,
-    }
-}
-
 /// Whether the reply is the map's.
 fn is_answer(map: &BTreeMap<u64, u128>, call: &Answered) -> bool
     ensures { IsTrue result ↔ IsAnswer (get nat_cmp map.now) call.now.op call.now.reply }
 {
     match call.op {
-        Op::Get(place) => call.reply == told(map.get(&place).copied()),
+        Op::Get(place) => call.reply == reply_of(map.get(&place).copied()),
         Op::Put(place, _) => {
-            call.reply == Reply::Full || call.reply == told(map.get(&place).copied())
+            call.reply == Reply::Full || call.reply == reply_of(map.get(&place).copied())
         }
-        Op::Del(place) => call.reply == told(map.get(&place).copied()),
+        Op::Del(place) => call.reply == reply_of(map.get(&place).copied()),
         Op::Add(place, _) => {
-            call.reply == Reply::Full || call.reply == told(map.get(&place).copied())
+            call.reply == Reply::Full || call.reply == reply_of(map.get(&place).copied())
         }
-        Op::Swap(place, _, _) => call.reply == told(map.get(&place).copied()),
+        Op::Swap(place, _, _) => call.reply == reply_of(map.get(&place).copied()),
         Op::Part(low, last) => match &call.reply {
             Reply::Listed(pairs) => lists_span(map, low, last, pairs.few()),
             _ => false,
         },
         Op::Move(from, to) => {
             call.reply == Reply::Full
-                || call.reply == moved(map.get(&from).copied(), map.get(&to).copied())
+                || call.reply == reply_of_move(map.get(&from).copied(), map.get(&to).copied())
         }
     }
 }

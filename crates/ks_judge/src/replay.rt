@@ -2,7 +2,7 @@
 
 ghost use Rattle.std.specs.Prelude.{ℕ, ◌≡◌, ◌<◌, ◌≤◌, ◌↔◌, length, IsTrue, IfOk, OnOk};
 ghost use Rattle.ks_history.specs.Write.{sets, map_with, written};
-ghost use Rattle.ks_history.specs.Map.{told, moved, IsAnswer, map_after};
+ghost use Rattle.ks_history.specs.Map.{told, IsAnswer, map_after};
 ghost use Rattle.ks_script.specs.Plain.{IsPlain};
 ghost use Rattle.ks_judge.specs.Shape.{SameShape};
 ghost use Rattle.ks_judge.specs.Judgment.{carriers, calls_below, IsRight};
@@ -11,7 +11,7 @@ ghost use Rattle.ks_judge.specs.Table.{found};
 
 use crate::slots::{PackedSlot, Slot, told_by};
 use crate::table::Table;
-use ks_history::{Op, Reply};
+use ks_history::{Op, Reply, reply_of, reply_of_move};
 use ks_script::{Calls, Lines};
 use std::alloc::{AllocError, Global};
 
@@ -25,27 +25,6 @@ pub struct Replayed {
     pub map: Table,
 }
 
-/// The reply that says what was there.
-fn told(value: Option<u128>) -> Reply
-    ensures { result ≡ told value }
-{
-    match value {
-        None => Reply::Nothing,
-        Some(value) => Reply::Value(value),
-    }
-}
-
-/// The reply of a move, for what was at the key from which it moves and at the one to which it moves.
-fn moved(was: Option<u128>, there: Option<u128>) -> Reply
-    ensures { result ≡ moved was there }
-{
-    match (was, there) {
-        (None, _) => Reply::Nothing,
-        (Some(value), None) => Reply::Value(value),
-        (Some(_), Some(_)) => Reply::Kept,
-    }
-}
-
 /// Writes the value, and returns whether the reply says what was there.
 #[inline(always)]
 fn set(map: &mut Table, key: u64, value: u128, reply: &Reply) -> Result<bool, AllocError>
@@ -54,7 +33,7 @@ fn set(map: &mut Table, key: u64, value: u128, reply: &Reply) -> Result<bool, Al
         ((p : ℕ) → found map.new p ≡ map_with (found map.old) (sets key value) p) }
 {
     let was = map.insert(key, value)?;
-    Ok(*reply == told(was))
+    Ok(*reply == reply_of(was))
 }
 
 /// Makes the call with this plain reply on the map, and returns whether the reply is the map's answer.
@@ -65,28 +44,30 @@ fn make(map: &mut Table, op: Op, reply: &Reply) -> Result<bool, AllocError>
         ((p : ℕ) → found map.new p ≡ map_with (found map.old) (written op reply.now) p) }
 {
     match op {
-        Op::Get(key) => Ok(*reply == told(map.get(key))),
+        Op::Get(key) => Ok(*reply == reply_of(map.get(key))),
         Op::Put(key, value) => match reply {
             Reply::Full => Ok(true),
             _ => set(map, key, value, reply),
         },
         Op::Del(key) => {
             let was = map.remove(key);
-            Ok(*reply == told(was))
+            Ok(*reply == reply_of(was))
         }
         Op::Add(key, value) => match reply {
             Reply::Full => Ok(true),
             Reply::Nothing => set(map, key, value, reply),
-            Reply::Value(_) | Reply::Listed(_) | Reply::Kept => Ok(*reply == told(map.get(key))),
+            Reply::Value(_) | Reply::Listed(_) | Reply::Kept => Ok(
+                *reply == reply_of(map.get(key)),
+            ),
         },
         Op::Swap(key, old, new) => match reply {
             Reply::Value(found) if *found == old => set(map, key, new, reply),
-            _ => Ok(*reply == told(map.get(key))),
+            _ => Ok(*reply == reply_of(map.get(key))),
         },
         // No plain reply lists pairs.
         Op::Part(..) => Ok(false),
         Op::Move(from, to) => {
-            let due = moved(map.get(from), map.get(to));
+            let due = reply_of_move(map.get(from), map.get(to));
             match reply {
                 Reply::Full => Ok(true),
                 Reply::Value(value) => {

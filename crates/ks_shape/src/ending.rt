@@ -13,20 +13,9 @@ use ks_arena::laws::sound_law;
 use ks_arena::{Arena, Decision, Held, Pass};
 use ks_flow::Discipline;
 use ks_gate::{Gate, Point};
-use ks_history::{Op, Reply};
+use ks_history::Op;
 use ks_node::Node;
 use std::marker::Brand;
-
-/// The reply for what was found at a place: its value, or nothing.
-pub fn reply_of(found: Option<u128>) -> Reply
-    ensures told { result ≡ told found }
-    ensures some { result ≢ full_reply }
-{
-    match found {
-        Some(value) => Reply::Value(value),
-        None => Reply::Nothing,
-    }
-}
 
 /// Decides a call at the one held node, and releases the node. Returns the number of the call, modulo 2^64. A Full is due
 /// if no node was free since the call began.

@@ -27,7 +27,7 @@ pub use answers::{Above, Full, Later, Numbered, NumberedAt, PutLater};
 pub use child::child_law;
 pub use claims::{claim_one, claim_two};
 pub use compacting::Compacting;
-pub use ending::{conclude_as, conclude_found, refuse, reply_of};
+pub use ending::{conclude_as, conclude_found, refuse};
 pub use far::turn_back;
 pub use fills::{Fill, fill_at, not_put_off};
 pub use here::{

@@ -8,7 +8,7 @@ use Rattle.ks_keysets.specs.declared.NodeState.{NodeState}
 use Rattle.ks_keysets.specs.declared.NodeState.TheVariants.{Claimed}
 use Rattle.ks_keysets.specs.declared.Change.{Change}
 use Rattle.ks_keysets.specs.Record.{IsPlace}
-use Rattle.ks_keysets.specs.Keyset.{live_record, record_at, at_root, along, InInset, InKeyset, Good}
+use Rattle.ks_keysets.specs.Keyset.{live_record, record_at, at_root, InInset, InKeyset, Good}
 use Rattle.ks_keysets.specs.Laws.Found.{KeepsEdges, reaches_along, keyset_along}
 use Rattle.ks_history.specs.declared.Op.{Op}
 use Rattle.ks_history.specs.declared.Event.{Event}

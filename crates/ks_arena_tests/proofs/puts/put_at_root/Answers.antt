@@ -29,8 +29,8 @@ put-requires-clause-below_own g c = ends_below_own (g.N.Node.body c.in-Some.held
 
 pub decide-number-requires-clause-ready : goal.decide-number-requires-clause-ready
 decide-number-requires-clause-ready g c κs within = let x : Hand g.row.N.Denot = record { node = c.in-Some.held.node; body = c.put.new.self; live = c.in-Some.held.live } in
-    subst (IsReady (sort_of g.N.Node.layout g.N.Node.ranged) g.N.Node.body c.args.arena.now.nodes c.take.new.pass.caller (seen_of c.take.new.pass) x (Put c.args.place c.args.value)) (ap told (sym c.get-old.ensures) ∙ sym c.reply_of.ensures)
+    subst (IsReady (sort_of g.N.Node.layout g.N.Node.ranged) g.N.Node.body c.args.arena.now.nodes c.take.new.pass.caller (seen_of c.take.new.pass) x (Put c.args.place c.args.value)) (ap told (sym c.get-old.ensures) ∙ sym c.reply_of.ensures.told)
     (c.put_law.ensures x refl c.in-Some.ensures.took.live c.put.ensures.body)
 
 pub returns-clause-calls : goal.returns-clause-calls
-returns-clause-calls g c = one_call c.get-old.result c.in-Some.ensures.took c.decide-number.ensures.decided.adds c.give-2.ensures.gave c.take.ensures.caller c.decide-number.ensures.caller c.reply_of.ensures
+returns-clause-calls g c = one_call c.get-old.result c.in-Some.ensures.took c.decide-number.ensures.decided.adds c.give-2.ensures.gave c.take.ensures.caller c.decide-number.ensures.caller c.reply_of.ensures.told

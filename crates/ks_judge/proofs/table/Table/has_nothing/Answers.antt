@@ -1,10 +1,9 @@
-use Rattle.std.proofs.Common.{ℕ, ◌≡◌, ◌==◌, List, [], rules, length, get_or, Option, None, false, sym, ◌∙◌, ap, subst, refl, arith}
-use Rattle.std.specs.Prelude.{All, nat_eq, ◌↔◌, IsTrue}
+use Rattle.std.proofs.Common.{ℕ, ◌≡◌, ◌==◌, List, [], rules, length, get_or, Option, None, sym, ◌∙◌, subst, refl, arith}
+use Rattle.std.specs.Prelude.{All, nat_eq}
 use Rattle.std.specs.HashMap.{get}
 use Rattle.ks_keysets.specs.Record.{IsPlace}
 use Rattle.std.proofs.lemmas.Bool.{false≢true}
 use Rattle.std.proofs.lemmas.Iterator.{items_from_collect}
-use Rattle.ks_history.specs.Served.{IsListing}
 use Rattle.ks_judge.specs.Table.{found}
 use Rattle.ks_judge.proofs.Listing.{none_decided, nothing_low, none_low, listing_along}
 use Rattle.ks_judge.proofs.table.Table.has_nothing.Goals as goal
