@@ -9,18 +9,13 @@ ghost use Rattle.ks_history.specs.Asked.{AreAsked};
 ghost use Rattle.ks_arena.specs.Named.{AllNamedBelow};
 ghost use Rattle.ks_batch.specs.Pairings.{row_of};
 
-use ks_boxed::Boxed;
-use ks_bplus::BNode;
-use ks_coupling::Coupling;
-use ks_dictionary::{Told, serve_callers};
+use ks_dictionary::Told;
 use ks_gate::Gate;
-use ks_giveup::GiveUp;
-use ks_hash::HNode;
 use ks_history::Op;
-use ks_link::LinkMove;
-use ks_linked::WithLink;
-use ks_list::ListNode;
-use ks_node::WithRange;
+use ks_pairings::{
+    bplus_coupling, bplus_give_up, bplus_link, hash_coupling, hash_give_up, hash_link,
+    list_coupling, list_give_up,
+};
 use std::alloc::{AllocError, Global};
 use std::sync::Wait;
 use std::thread::Threads;
@@ -70,29 +65,13 @@ pub fn serve_by<R: Threads + Wait + Sync, G: Gate + Sync>(
     ensures callers { IfOk result (λ told. CallersBelow (length callers.items) told.trace) }
 {
     match pairing {
-        Pairing::ListCoupling => serve_callers::<ListNode, Coupling, R, G>(
-            rt, alloc, nodes, callers, workers, gate,
-        ),
-        Pairing::BplusCoupling => serve_callers::<Boxed<BNode>, Coupling, R, G>(
-            rt, alloc, nodes, callers, workers, gate,
-        ),
-        Pairing::HashCoupling => serve_callers::<Boxed<HNode>, Coupling, R, G>(
-            rt, alloc, nodes, callers, workers, gate,
-        ),
-        Pairing::ListGiveUp => serve_callers::<Boxed<WithRange<ListNode>>, GiveUp, R, G>(
-            rt, alloc, nodes, callers, workers, gate,
-        ),
-        Pairing::BplusGiveUp => serve_callers::<Boxed<WithRange<BNode>>, GiveUp, R, G>(
-            rt, alloc, nodes, callers, workers, gate,
-        ),
-        Pairing::HashGiveUp => serve_callers::<Boxed<WithRange<HNode>>, GiveUp, R, G>(
-            rt, alloc, nodes, callers, workers, gate,
-        ),
-        Pairing::BplusLink => serve_callers::<Boxed<WithLink<BNode>>, LinkMove, R, G>(
-            rt, alloc, nodes, callers, workers, gate,
-        ),
-        Pairing::HashLink => serve_callers::<Boxed<WithLink<HNode>>, LinkMove, R, G>(
-            rt, alloc, nodes, callers, workers, gate,
-        ),
+        Pairing::ListCoupling => list_coupling(rt, alloc, nodes, callers, workers, gate),
+        Pairing::BplusCoupling => bplus_coupling(rt, alloc, nodes, callers, workers, gate),
+        Pairing::HashCoupling => hash_coupling(rt, alloc, nodes, callers, workers, gate),
+        Pairing::ListGiveUp => list_give_up(rt, alloc, nodes, callers, workers, gate),
+        Pairing::BplusGiveUp => bplus_give_up(rt, alloc, nodes, callers, workers, gate),
+        Pairing::HashGiveUp => hash_give_up(rt, alloc, nodes, callers, workers, gate),
+        Pairing::BplusLink => bplus_link(rt, alloc, nodes, callers, workers, gate),
+        Pairing::HashLink => hash_link(rt, alloc, nodes, callers, workers, gate),
     }
 }

@@ -1,0 +1,184 @@
+//! The dictionary at the types of each pairing of a node type and a technique: callers are served over an empty one.
+//!
+//! There is a function for each pairing, in a crate of their own, so that their proofs are checked side by side.
+#![tactic(auto)]
+
+ghost use Rattle.std.specs.Prelude.{◌≤◌, map, length, IfOk};
+ghost use Rattle.ks_history.specs.Asked.{AreAsked};
+ghost use Rattle.ks_keysets.specs.Layout.{list_layout, bplus_layout, hash_layout};
+ghost use Rattle.ks_places.specs.Golden.{golden_place};
+ghost use Rattle.ks_pairings.specs.ByPairing.{IsServedBy};
+
+use ks_boxed::Boxed;
+use ks_bplus::BNode;
+use ks_coupling::Coupling;
+use ks_dictionary::{Told, serve_callers};
+use ks_gate::Gate;
+use ks_giveup::GiveUp;
+use ks_hash::HNode;
+use ks_history::Op;
+use ks_link::LinkMove;
+use ks_linked::WithLink;
+use ks_list::ListNode;
+use ks_node::WithRange;
+use std::alloc::{AllocError, Global};
+use std::sync::Wait;
+use std::thread::Threads;
+
+/// Serves all callers over a sorted list, by lock coupling.
+pub fn list_coupling<R: Threads + Wait + Sync, G: Gate + Sync>(
+    rt: &R,
+    alloc: Global,
+    nodes: u32,
+    callers: Vec<Vec<Op>>,
+    workers: u32,
+    gate: &G,
+) -> Result<Told, AllocError>
+    requires nodes { (4 ≤ nodes) × (nodes ≤ 1048576) }
+    requires callers { length callers.items ≤ 1024 }
+    requires asked { AreAsked (map (λ v. v.items) callers.items) }
+    requires workers { (1 ≤ workers) × (workers ≤ 64) }
+    ensures { IfOk result (λ told. IsServedBy list_layout (λ k. k) nodes (map (λ v. v.items) callers.items)
+        (map (λ v. v.items) told.lines.items) told.pairs.items told.trace) }
+{
+    serve_callers::<ListNode, Coupling, R, G>(rt, alloc, nodes, callers, workers, gate)
+}
+
+/// Serves all callers over a B+ tree, by lock coupling.
+pub fn bplus_coupling<R: Threads + Wait + Sync, G: Gate + Sync>(
+    rt: &R,
+    alloc: Global,
+    nodes: u32,
+    callers: Vec<Vec<Op>>,
+    workers: u32,
+    gate: &G,
+) -> Result<Told, AllocError>
+    requires nodes { (4 ≤ nodes) × (nodes ≤ 1048576) }
+    requires callers { length callers.items ≤ 1024 }
+    requires asked { AreAsked (map (λ v. v.items) callers.items) }
+    requires workers { (1 ≤ workers) × (workers ≤ 64) }
+    ensures { IfOk result (λ told. IsServedBy bplus_layout (λ k. k) nodes (map (λ v. v.items) callers.items)
+        (map (λ v. v.items) told.lines.items) told.pairs.items told.trace) }
+{
+    serve_callers::<Boxed<BNode>, Coupling, R, G>(rt, alloc, nodes, callers, workers, gate)
+}
+
+/// Serves all callers over a hash table, by lock coupling.
+pub fn hash_coupling<R: Threads + Wait + Sync, G: Gate + Sync>(
+    rt: &R,
+    alloc: Global,
+    nodes: u32,
+    callers: Vec<Vec<Op>>,
+    workers: u32,
+    gate: &G,
+) -> Result<Told, AllocError>
+    requires nodes { (4 ≤ nodes) × (nodes ≤ 1048576) }
+    requires callers { length callers.items ≤ 1024 }
+    requires asked { AreAsked (map (λ v. v.items) callers.items) }
+    requires workers { (1 ≤ workers) × (workers ≤ 64) }
+    ensures { IfOk result (λ told. IsServedBy hash_layout golden_place nodes (map (λ v. v.items) callers.items)
+        (map (λ v. v.items) told.lines.items) told.pairs.items told.trace) }
+{
+    serve_callers::<Boxed<HNode>, Coupling, R, G>(rt, alloc, nodes, callers, workers, gate)
+}
+
+/// Serves all callers over a sorted list, by giving up.
+pub fn list_give_up<R: Threads + Wait + Sync, G: Gate + Sync>(
+    rt: &R,
+    alloc: Global,
+    nodes: u32,
+    callers: Vec<Vec<Op>>,
+    workers: u32,
+    gate: &G,
+) -> Result<Told, AllocError>
+    requires nodes { (4 ≤ nodes) × (nodes ≤ 1048576) }
+    requires callers { length callers.items ≤ 1024 }
+    requires asked { AreAsked (map (λ v. v.items) callers.items) }
+    requires workers { (1 ≤ workers) × (workers ≤ 64) }
+    ensures { IfOk result (λ told. IsServedBy list_layout (λ k. k) nodes (map (λ v. v.items) callers.items)
+        (map (λ v. v.items) told.lines.items) told.pairs.items told.trace) }
+{
+    serve_callers::<Boxed<WithRange<ListNode>>, GiveUp, R, G>(
+        rt, alloc, nodes, callers, workers, gate,
+    )
+}
+
+/// Serves all callers over a B+ tree, by giving up.
+pub fn bplus_give_up<R: Threads + Wait + Sync, G: Gate + Sync>(
+    rt: &R,
+    alloc: Global,
+    nodes: u32,
+    callers: Vec<Vec<Op>>,
+    workers: u32,
+    gate: &G,
+) -> Result<Told, AllocError>
+    requires nodes { (4 ≤ nodes) × (nodes ≤ 1048576) }
+    requires callers { length callers.items ≤ 1024 }
+    requires asked { AreAsked (map (λ v. v.items) callers.items) }
+    requires workers { (1 ≤ workers) × (workers ≤ 64) }
+    ensures { IfOk result (λ told. IsServedBy bplus_layout (λ k. k) nodes (map (λ v. v.items) callers.items)
+        (map (λ v. v.items) told.lines.items) told.pairs.items told.trace) }
+{
+    serve_callers::<Boxed<WithRange<BNode>>, GiveUp, R, G>(rt, alloc, nodes, callers, workers, gate)
+}
+
+/// Serves all callers over a hash table, by giving up.
+pub fn hash_give_up<R: Threads + Wait + Sync, G: Gate + Sync>(
+    rt: &R,
+    alloc: Global,
+    nodes: u32,
+    callers: Vec<Vec<Op>>,
+    workers: u32,
+    gate: &G,
+) -> Result<Told, AllocError>
+    requires nodes { (4 ≤ nodes) × (nodes ≤ 1048576) }
+    requires callers { length callers.items ≤ 1024 }
+    requires asked { AreAsked (map (λ v. v.items) callers.items) }
+    requires workers { (1 ≤ workers) × (workers ≤ 64) }
+    ensures { IfOk result (λ told. IsServedBy hash_layout golden_place nodes (map (λ v. v.items) callers.items)
+        (map (λ v. v.items) told.lines.items) told.pairs.items told.trace) }
+{
+    serve_callers::<Boxed<WithRange<HNode>>, GiveUp, R, G>(rt, alloc, nodes, callers, workers, gate)
+}
+
+/// Serves all callers over a B+ tree, along links.
+pub fn bplus_link<R: Threads + Wait + Sync, G: Gate + Sync>(
+    rt: &R,
+    alloc: Global,
+    nodes: u32,
+    callers: Vec<Vec<Op>>,
+    workers: u32,
+    gate: &G,
+) -> Result<Told, AllocError>
+    requires nodes { (4 ≤ nodes) × (nodes ≤ 1048576) }
+    requires callers { length callers.items ≤ 1024 }
+    requires asked { AreAsked (map (λ v. v.items) callers.items) }
+    requires workers { (1 ≤ workers) × (workers ≤ 64) }
+    ensures { IfOk result (λ told. IsServedBy bplus_layout (λ k. k) nodes (map (λ v. v.items) callers.items)
+        (map (λ v. v.items) told.lines.items) told.pairs.items told.trace) }
+{
+    serve_callers::<Boxed<WithLink<BNode>>, LinkMove, R, G>(
+        rt, alloc, nodes, callers, workers, gate,
+    )
+}
+
+/// Serves all callers over a hash table, along links.
+pub fn hash_link<R: Threads + Wait + Sync, G: Gate + Sync>(
+    rt: &R,
+    alloc: Global,
+    nodes: u32,
+    callers: Vec<Vec<Op>>,
+    workers: u32,
+    gate: &G,
+) -> Result<Told, AllocError>
+    requires nodes { (4 ≤ nodes) × (nodes ≤ 1048576) }
+    requires callers { length callers.items ≤ 1024 }
+    requires asked { AreAsked (map (λ v. v.items) callers.items) }
+    requires workers { (1 ≤ workers) × (workers ≤ 64) }
+    ensures { IfOk result (λ told. IsServedBy hash_layout golden_place nodes (map (λ v. v.items) callers.items)
+        (map (λ v. v.items) told.lines.items) told.pairs.items told.trace) }
+{
+    serve_callers::<Boxed<WithLink<HNode>>, LinkMove, R, G>(
+        rt, alloc, nodes, callers, workers, gate,
+    )
+}
