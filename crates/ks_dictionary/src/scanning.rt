@@ -8,12 +8,12 @@ ghost use Rattle.ks_dictionary.specs.Of.{IsIdlePassOf, site_of};
 use crate::dictionary::Dictionary;
 use ks_arena::{Arena, Pass};
 use ks_gate::Gate;
-use ks_node::{Listed, listed_law};
+use ks_node::Node;
 use ks_scan::{Scanned, scan_into};
-use ks_shape::{Part, Ruled, Scanning};
+use ks_shape::{Part, Ruled, Scanning, scanning_law};
 use std::sync::Wait;
 
-impl<N: Listed, T: Ruled + Scanning<N, Arena<N, <T as Ruled>::Rule>>> Dictionary<N, T> {
+impl<N: Node, T: Ruled + Scanning<N, Arena<N, <T as Ruled>::Rule>>> Dictionary<N, T> {
     /// Lists the pairs of the keys from `low` to `last`, both included, in ascending order, in at most `most` parts, which
     /// it pushes into `into`, an empty list with room for them: so it needs no memory. It stops at `last`, or after `most`
     /// parts.
@@ -44,7 +44,7 @@ impl<N: Listed, T: Ruled + Scanning<N, Arena<N, <T as Ruled>::Rule>>> Dictionary
         ensures scan { IsScanOf low last most into.new.items result }
         ensures keys { (k : ℕ) → k < 2 ^ 64 → N.Places.place_of k ≡ k }
     {
-        listed_law::<N>();
+        scanning_law::<N, Arena<N, <T as Ruled>::Rule>, T>();
         scan_into::<N, Arena<N, <T as Ruled>::Rule>, T, R, G>(
             rt,
             &self.arena,

@@ -44,6 +44,8 @@ pub fn scan_part<N: Listed + Unlinked, R: Wait, G: Gate>(
 }
 
 impl<N: Listed + Unlinked> Scanning<N, Arena<N, Tree>> for GiveUp {
+    ghost plain = { N.plain };
+
     fn scan_part<R: Wait, G: Gate>(
         rt: &R,
         arena: &Arena<N, Tree>,

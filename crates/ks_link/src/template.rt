@@ -127,6 +127,8 @@ impl<N: Linked> Template<N, Arena<N, Link>> for LinkMove {
 }
 
 impl<N: Linked + Listed> Scanning<N, Arena<N, Link>> for LinkMove {
+    ghost plain = { N.plain };
+
     fn scan_part<R: Wait, G: Gate>(
         rt: &R,
         arena: &Arena<N, Link>,

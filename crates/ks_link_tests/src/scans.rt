@@ -10,14 +10,14 @@ use ks_gate::NoGate;
 use ks_keysets::Pair;
 use ks_link::LinkMove;
 use ks_linked::WithLink;
-use ks_node::Listed;
+use ks_node::Node;
 use ks_runs::{Run, each, one_caller};
 use ks_shape::{Part, Scanning, Shelf};
 use std::sync::Wait;
 use std::test::Fail;
 
 /// Makes one part of a scan, by any technique that has scans.
-fn part_by<T: Scanning<N, A>, N: Listed, A: Shelf, R: Wait>(
+fn part_by<T: Scanning<N, A>, N: Node, A: Shelf, R: Wait>(
     rt: &R,
     arena: &A,
     pass: &mut Pass<N, T::Rule>,

@@ -10,7 +10,7 @@ ghost use Rattle.ks_scan.specs.Scan.{IsScanOf, IsDoneScan};
 
 use ks_arena::Pass;
 use ks_gate::Gate;
-use ks_node::Listed;
+use ks_node::Node;
 use ks_shape::{Part, Scanning, Shelf};
 use std::sync::Wait;
 
@@ -25,7 +25,7 @@ pub enum Scanned {
 
 /// Lists the pairs from `low` to `last`, both included, in at most `most` parts, which it pushes into `into`, an empty list
 /// with room for them: so it needs no memory. It stops at `last`, or after `most` parts.
-pub fn scan_into<N: Listed, A: Shelf, T: Scanning<N, A>, R: Wait, G: Gate>(
+pub fn scan_into<N: Node, A: Shelf, T: Scanning<N, A>, R: Wait, G: Gate>(
     rt: &R,
     arena: &A,
     pass: &mut Pass<N, T::Rule>,

@@ -39,7 +39,7 @@ pub use link::{attach, grow_right, split_right};
 pub use located::{above_of, del_located, get_located, put_located};
 pub use parts::{Part, part_here};
 pub use path::{Path, enter, keep_alone, keep_left, let_go, step_down};
-pub use scanning::Scanning;
+pub use scanning::{Scanning, scanning_law};
 pub use steps::{give_last, take_root};
 pub use template::{Ruled, Shelf, Template};
 pub use tree::{absorb_own, absorb_under, collapse, grow, split_own, split_under};
