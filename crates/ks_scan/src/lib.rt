@@ -2,12 +2,15 @@
 //! begins where the one before it stopped. So a scan is no picture of one moment.
 #![tactic(auto)]
 
+mod ends;
+
 ghost use Rattle.std.specs.Prelude.{◌≡◌, ◌≤◌, [], vec_capacity};
 ghost use Rattle.ks_arena.specs.Of.{SameCaller};
 ghost use Rattle.ks_shape.specs.Does.{OnlySearches};
 ghost use Rattle.ks_shape.specs.Idle.{IsIdle};
 ghost use Rattle.ks_scan.specs.Scan.{IsScanOf, IsDoneScan};
 
+pub use ends::{Found, first_in, last_in};
 use ks_arena::Pass;
 use ks_gate::Gate;
 use ks_node::Node;

@@ -1,5 +1,4 @@
-use Rattle.std.proofs.Common.{◌≡◌, ◌+◌, ◌≤◌, ◌++◌, ◌∷◌, [], ℕ, suc, List, length, length-append, Some, refl, sym, ap, ◌∙◌, subst, arith}
-use Rattle.ks_history.specs.declared.Event.{Event}
+use Rattle.std.proofs.Common.{◌≡◌, ◌+◌, ◌∷◌, [], ℕ, List, length, length-append, Some, refl, sym, ap, ◌∙◌, subst, arith}
 use Rattle.ks_arena.specs.Clauses.{seen_of}
 use Rattle.ks_shape.specs.Does.{DoesOnly, MaySearch}
 use Rattle.ks_shape.specs.Laws.Does.{does_both, does_none}

@@ -1,6 +1,5 @@
 use Rattle.std.proofs.Common.{◌≡◌, ◌≤◌, length}
 use Rattle.std.specs.Prelude.{vec_capacity}
-use Rattle.ks_history.specs.Own.{hand}
 use Rattle.ks_arena.specs.Clauses.{seen_of}
 use Rattle.ks_shape.specs.Does.{DoesOnly, MaySearch}
 use Rattle.ks_shape.specs.Idle.{IsIdle}
