@@ -19,7 +19,7 @@ pub use ks_link::LinkMove;
 pub use ks_linked::WithLink;
 pub use ks_list::ListNode;
 pub use ks_node::{Node, WithRange};
-pub use ks_scan::Scanned;
+pub use ks_scan::{Found, Scanned};
 pub use ks_shape::{Compacting, Full, Later, Numbered, Part, PutLater, Ruled, Scanning, Template};
 
 /// A pass of a dictionary over nodes of type `N`, by the technique `T`.

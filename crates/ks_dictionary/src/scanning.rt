@@ -2,6 +2,7 @@
 ghost use Rattle.std.specs.Prelude.{◌≡◌, ◌≤◌, ◌<◌, ◌^◌, ℕ, [], vec_capacity};
 ghost use Rattle.ks_arena.specs.Of.{SameCaller};
 ghost use Rattle.ks_shape.specs.Does.{OnlySearches};
+ghost use Rattle.ks_scan.specs.Ends.{HasFoundFirst, HasFoundLast};
 ghost use Rattle.ks_scan.specs.Scan.{IsDoneScan, IsScanOf};
 ghost use Rattle.ks_dictionary.specs.Of.{IsIdlePassOf, site_of};
 
@@ -9,7 +10,7 @@ use crate::dictionary::Dictionary;
 use ks_arena::{Arena, Pass};
 use ks_gate::Gate;
 use ks_node::Node;
-use ks_scan::{Scanned, scan_into};
+use ks_scan::{Found, Scanned, first_in, last_in, scan_into};
 use ks_shape::{Part, Ruled, Scanning, scanning_law};
 use std::sync::Wait;
 
@@ -55,5 +56,59 @@ impl<N: Node, T: Ruled + Scanning<N, Arena<N, <T as Ruled>::Rule>>> Dictionary<N
             most,
             into,
         )
+    }
+
+    /// Returns the least key from `low` to `last`, both included, that a row of calls finds, with its value: it lists part
+    /// after part from `low` on, as `scan_into` does, until one has a pair, and returns that part's first one. It returns
+    /// `None` if no part up to `last` has a pair.
+    ///
+    /// Each part is one call of the history. That at which the pair was found had no key from its first one to the pair's,
+    /// and each part before it had no key at all, each at its own moment. It needs no memory.
+    pub fn first_in<R: Wait, G: Gate>(
+        &self,
+        rt: &R,
+        pass: &mut Pass<N, T::Rule>,
+        gate: &G,
+        low: u64,
+        last: u64,
+    ) -> Option<Found>
+        requires pass { IsIdlePassOf self.now pass.old }
+        requires span { low ≤ last }
+        ensures pass { IsIdlePassOf self.now pass.new }
+        ensures caller { SameCaller pass.old pass.new }
+        ensures leaves { OnlySearches pass.old pass.new }
+        ensures done { HasFoundFirst N.layout T.technique (site_of self.now) low last
+            pass.old pass.new result }
+        ensures keys { (k : ℕ) → k < 2 ^ 64 → N.Places.place_of k ≡ k }
+    {
+        scanning_law::<N, Arena<N, <T as Ruled>::Rule>, T>();
+        first_in::<N, Arena<N, <T as Ruled>::Rule>, T, R, G>(rt, &self.arena, pass, gate, low, last)
+    }
+
+    /// Returns the greatest key from `low` to `last`, both included, that a row of calls finds, with its value: it lists the
+    /// whole span part after part, as `scan_into` does, and returns the last pair of the last part that has one, or `None`
+    /// if none has.
+    ///
+    /// Each part is one call of the history. That at which the pair was found had no key after the pair's, and each part
+    /// after it had no key at all, each at its own moment. It needs no memory.
+    pub fn last_in<R: Wait, G: Gate>(
+        &self,
+        rt: &R,
+        pass: &mut Pass<N, T::Rule>,
+        gate: &G,
+        low: u64,
+        last: u64,
+    ) -> Option<Found>
+        requires pass { IsIdlePassOf self.now pass.old }
+        requires span { low ≤ last }
+        ensures pass { IsIdlePassOf self.now pass.new }
+        ensures caller { SameCaller pass.old pass.new }
+        ensures leaves { OnlySearches pass.old pass.new }
+        ensures done { HasFoundLast N.layout T.technique (site_of self.now) low last
+            pass.old pass.new result }
+        ensures keys { (k : ℕ) → k < 2 ^ 64 → N.Places.place_of k ≡ k }
+    {
+        scanning_law::<N, Arena<N, <T as Ruled>::Rule>, T>();
+        last_in::<N, Arena<N, <T as Ruled>::Rule>, T, R, G>(rt, &self.arena, pass, gate, low, last)
     }
 }
