@@ -10,7 +10,7 @@ use Rattle.ks_history.specs.Callers.{CallersBelow}
 use Rattle.ks_history.specs.Served.{Served}
 use Rattle.ks_arena.specs.Named.{AllNamedBelow}
 
--- the trace h, over so many nodes of the layout, served the scripts, with these places for keys, and the lines of the callers
+-- the trace h, over `nodes` nodes of the layout, served the scripts, with these places for keys, and the lines of the callers
 -- and the entries report it
 pub record IsServedBy (layout : Layout) (place : ℕ → ℕ) (nodes : ℕ) (scripts : List (List Op)) (lines : List (List (ℕ × Reply))) (entries : List (ℕ × ℕ)) (h : List Event) : Type 0 where
   pub served : Served place scripts lines entries h
