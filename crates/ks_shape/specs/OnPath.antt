@@ -1,6 +1,6 @@
 -- Searches that keep the parent of the node.
 use Rattle.std.proofs.Common.{◌≡◌, ◌⊎◌, ℕ, true, false, List, [], ◌∷◌}
-use Rattle.std.specs.Prelude.{Option, Some, None}
+use Rattle.std.specs.Prelude.{Option, Some, None, IsTrue}
 use Rattle.ks_keysets.specs.Record.{LeadsTo}
 use Rattle.ks_keysets.specs.Keyset.{InInset}
 use Rattle.ks_history.specs.declared.Event.{Event}
@@ -10,7 +10,7 @@ use Rattle.ks_history.specs.Own.{hand}
 use Rattle.ks_history.specs.Trace.{graph_after}
 use Rattle.ks_node.specs.Body.{Body}
 use Rattle.ks_node.specs.Edges.{record_of}
-use Rattle.ks_node.specs.Room.{is_full}
+use Rattle.ks_node.specs.Room.{is_full, in_place}
 use Rattle.ks_arena.specs.declared.held.Held.{Held as Hand}
 use Rattle.ks_arena.specs.Sound.{Sort}
 use Rattle.ks_arena.specs.Clauses.{Matches}
@@ -33,9 +33,9 @@ module _ {N : Type 0} (sort : Sort) (shows : N → Body) where
     pub matches : Matches sort shows h y
     pub leads : LeadsTo (record_of (shows y.body)) place i
 
-  -- the parent leads to the node; the root has none, and a node that is not full needs none
+  -- the parent leads to the node; the root has none, and a node that is not full, or grows where it is, needs none
   abbrev pub IsUnder : ℕ → Hand N → List Event → Option (Hand N) → Type 0
-  IsUnder place x h None = (x.node ≡ 0) ⊎ (is_full sort.layout (shows x.body) ≡ false)
+  IsUnder place x h None = (x.node ≡ 0) ⊎ (is_full sort.layout (shows x.body) ≡ false) ⊎ IsTrue (in_place sort.layout)
   IsUnder place x h (Some y) = IsAbove place x.node h y
 
   -- after h, c, which searches for the place, holds this live node, whose inset has the place, and its parent unless it

@@ -27,6 +27,7 @@ module _ {N D P : Type 0} {n : NodeGhosts N P} {q : PlacingGhosts P} {d : Discip
   abbrev pub LeadsDown : Arena N D P n q d → ℕ → ℕ → Pass N D → Hand N → Type 0
   LeadsDown a place i p y = IsAbove (sort_of n.layout n.ranged) n.body place i (seen_of p) y
 
-  -- the parent leads to the node at the place; the root has none, and a node that is not full needs none
+  -- the parent leads to the node at the place; the root has none, and a node that is not full, or grows where it is, needs
+  -- none
   abbrev pub IsUnderParent : Arena N D P n q d → ℕ → Pass N D → Hand N → Option (Hand N) → Type 0
   IsUnderParent a place p x parent = IsUnder (sort_of n.layout n.ranged) n.body place x (seen_of p) parent

@@ -22,8 +22,8 @@ use ks_gate::{Gate, Point};
 use ks_node::{Unlinked, node_law};
 use std::sync::Wait;
 
-/// The node at which a search is, and the one that leads to it. The root has none, and a node that is not full needs
-/// none.
+/// The node at which a search is, and the one that leads to it. The root has none; a node that is not full needs none,
+/// and no node of a type that grows in place does.
 pub struct Path<N> {
     pub parent: Option<Held<N>>,
     pub node: Held<N>,
