@@ -1,13 +1,12 @@
 -- The words of the clauses of a dictionary, in one place; each is defined in the file from which it comes.
 
 -- of a dictionary, its passes and its calls
-pub use Rattle.ks_dictionary.specs.Of.{AreAllPassesOf, AreNewPassesOf, AreOrderedPassesOf, HasCalledIn, HasEndedPutIn, HasTriedIn, HasTriedPutIn, IsIdlePassOf, IsNoteFrom, callers_of, nodes_of, place_in, site_of}
+pub use Rattle.ks_dictionary.specs.Of.{AreAllPassesOf, AreNewPassesOf, AreOrderedPassesOf, HasCalledIn, HasTriedIn, HasTriedPutIn, IsIdlePassOf, IsNoteFrom, callers_of, nodes_of, place_in, site_of}
 pub use Rattle.ks_dictionary.specs.Crew.{AreReplaced}
 pub use Rattle.ks_arena.specs.Of.{HeldAlone, SameCaller, WasAlone, caller_of}
 pub use Rattle.ks_arena.specs.Clauses.{EndsAll, noted, seen_of}
 pub use Rattle.ks_arena.specs.Reuse.{ReusesSafely}
 -- of what calls return, and what they leave
-pub use Rattle.ks_node.specs.Room.{in_place}
 pub use Rattle.ks_shape.specs.Answers.{number_in, reply_in}
 pub use Rattle.ks_shape.specs.Compacts.{HasFreed, HasLeftBy, IsTightIn, WasUndisturbed}
 pub use Rattle.ks_shape.specs.Does.{OnlyDels, OnlyFills, OnlySearches}

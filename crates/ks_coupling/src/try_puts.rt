@@ -1,13 +1,11 @@
 //! Non-blocking puts and adds by lock coupling.
-ghost use Rattle.std.specs.Prelude.{◌≡◌, false};
+ghost use Rattle.std.specs.Prelude.{◌≡◌};
 ghost use Rattle.ks_history.specs.declared.Op.TheVariants.{Add, Put};
 ghost use Rattle.ks_history.specs.Done.{coupling};
 ghost use Rattle.ks_arena.specs.Of.{IsEmptyPassOf, SameCaller};
-ghost use Rattle.ks_shape.specs.Ends.{EndsPutOf};
 ghost use Rattle.ks_shape.specs.Fills.{filling};
 ghost use Rattle.ks_shape.specs.Of.{TriedPutOf};
 ghost use Rattle.ks_shape.specs.Does.{OnlyFills};
-ghost use Rattle.ks_node.specs.Room.{in_place};
 
 use ks_arena::{Arena, Pass};
 use ks_flow::Tree;
@@ -28,9 +26,7 @@ fn try_fill<N: Unlinked, G: Gate>(
     ensures pass { IsEmptyPassOf arena.now pass.new }
     ensures caller { SameCaller pass.old pass.new }
     ensures fills { OnlyFills N.layout N.ranged place pass.old pass.new }
-    ensures ends { EndsPutOf arena.now coupling (filling place fill) pass.old pass.new result }
-    ensures tried { in_place N.layout ≡ false →
-        TriedPutOf arena.now coupling (filling place fill) pass.old pass.new result }
+    ensures tried { TriedPutOf arena.now coupling (filling place fill) pass.old pass.new result }
 {
     gate.at(pass.caller(), Point::Begin);
     try_pair_fill(arena, pass, gate, place, fill)
@@ -56,9 +52,7 @@ pub fn try_put<N: Unlinked, G: Gate>(
     ensures pass { IsEmptyPassOf arena.now pass.new }
     ensures caller { SameCaller pass.old pass.new }
     ensures fills { OnlyFills N.layout N.ranged place pass.old pass.new }
-    ensures ends { EndsPutOf arena.now coupling (Put place value) pass.old pass.new result }
-    ensures tried { in_place N.layout ≡ false →
-        TriedPutOf arena.now coupling (Put place value) pass.old pass.new result }
+    ensures tried { TriedPutOf arena.now coupling (Put place value) pass.old pass.new result }
 {
     try_fill(arena, pass, gate, place, Fill::Put(value))
 }
@@ -80,9 +74,7 @@ pub fn try_add<N: Unlinked, G: Gate>(
     ensures pass { IsEmptyPassOf arena.now pass.new }
     ensures caller { SameCaller pass.old pass.new }
     ensures fills { OnlyFills N.layout N.ranged place pass.old pass.new }
-    ensures ends { EndsPutOf arena.now coupling (Add place value) pass.old pass.new result }
-    ensures tried { in_place N.layout ≡ false →
-        TriedPutOf arena.now coupling (Add place value) pass.old pass.new result }
+    ensures tried { TriedPutOf arena.now coupling (Add place value) pass.old pass.new result }
 {
     try_fill(arena, pass, gate, place, Fill::Add(value))
 }

@@ -10,7 +10,6 @@ use Rattle.ks_history.specs.declared.Reply.{Reply}
 use Rattle.ks_arena.specs.declared.held.Note.{Note}
 use Rattle.ks_arena.specs.declared.held.Pass.{Pass}
 use Rattle.ks_arena.specs.Sound.{sort_of}
-use Rattle.ks_shape.specs.Ends.{HasEndedPut}
 use Rattle.ks_shape.specs.Idle.{IsDone, IsIdle, Site}
 use Rattle.ks_shape.specs.Tries.{HasTried, HasTriedPut}
 use Rattle.ks_shape.specs.declared.answers.Later.{Later}
@@ -73,7 +72,3 @@ module _ {N T P D : Type 0} {n : NodeGhosts N P} {q : PlacingGhosts P} {d : Disc
   -- so it is of a put or an add, which may also be full
   abbrev pub HasTriedPutIn : Dictionary N T P D n q d → Template → Op → Pass N D → Pass N D → Result Numbered PutLater → Type 0
   HasTriedPutIn m technique op p p' answer = HasTriedPut n.layout technique (site_of m) op p p' answer
-
-  -- so it is, but a reported Far means only that the technique may find it
-  abbrev pub HasEndedPutIn : Dictionary N T P D n q d → Template → Op → Pass N D → Pass N D → Result Numbered PutLater → Type 0
-  HasEndedPutIn m technique op p p' answer = HasEndedPut n.layout technique (site_of m) op p p' answer

@@ -1,5 +1,5 @@
 //! A dictionary: an arena, a technique, and keys for places.
-ghost use Rattle.std.specs.Prelude.{◌≡◌, ◌≢◌, ◌≤◌, [], IfOk, IsTrue, None, false};
+ghost use Rattle.std.specs.Prelude.{◌≡◌, ◌≢◌, ◌≤◌, [], IfOk, IsTrue, None};
 ghost use Rattle.std.specs.Result.{is_ok};
 ghost use Rattle.ks_history.specs.declared.Op.TheVariants.{Add, Del, Get, Put, Swap};
 ghost use Rattle.ks_history.specs.Map.{told};
@@ -14,14 +14,12 @@ ghost use Rattle.ks_shape.specs.Answers.{number_in, reply_in};
 ghost use Rattle.ks_shape.specs.Does.{OnlyDels, OnlyFills, OnlySearches};
 ghost use Rattle.ks_shape.specs.Tries.{IsDoneIn, MayTell, PutMayTell};
 ghost use Rattle.ks_shape.specs.Upkeep.{AreNewLed, HasTwoFree, IsTidyIn, LeadsNew, LeavesTidy};
-ghost use Rattle.ks_node.specs.Room.{in_place};
 ghost use Rattle.ks_dictionary.specs.Ended.{HasEndedWith, history};
 ghost use Rattle.ks_dictionary.specs.Of.{
   AreAllPassesOf,
   AreNewPassesOf,
   AreOrderedPassesOf,
   HasCalledIn,
-  HasEndedPutIn,
   HasTriedIn,
   HasTriedPutIn,
   IsIdlePassOf,
@@ -240,9 +238,7 @@ impl<N: Node, T: Ruled + Template<N, Arena<N, <T as Ruled>::Rule>>> Dictionary<N
     ///
     /// # Errors
     ///
-    /// `Full` as for `put`, with the number of the call; else it is put off, as `try_get`. That another caller changed
-    /// some nodes if the error is `Far`, and that a call during which no other caller acts is not put off, is promised
-    /// if no full node grows in place: no list, B+ or hash node does.
+    /// `Full` as for `put`, with the number of the call; else it is put off, as `try_get`.
     pub fn try_put<G: Gate>(
         &self,
         pass: &mut Pass<N, T::Rule>,
@@ -254,12 +250,9 @@ impl<N: Node, T: Ruled + Template<N, Arena<N, <T as Ruled>::Rule>>> Dictionary<N
         ensures pass { IsIdlePassOf self.now pass.new }
         ensures caller { SameCaller pass.old pass.new }
         ensures fills { OnlyFills N.layout N.ranged (N.Places.place_of key) pass.old pass.new }
-        ensures ends { HasEndedPutIn self.now T.technique (Put (N.Places.place_of key) value) pass.old pass.new result }
-        ensures tried { in_place N.layout ≡ false →
-            HasTriedPutIn self.now T.technique (Put (N.Places.place_of key) value) pass.old pass.new result }
+        ensures tried { HasTriedPutIn self.now T.technique (Put (N.Places.place_of key) value) pass.old pass.new result }
         ensures never { PutMayTell T.technique result }
-        ensures alone { in_place N.layout ≡ false →
-            WasAlone pass.old pass.new → HeldAlone pass.old → IsDoneIn result }
+        ensures alone { WasAlone pass.old pass.new → HeldAlone pass.old → IsDoneIn result }
         ensures reuse { ReusesSafely T.Rule.lasts (seen_of pass.old) (seen_of pass.new) }
     {
         reuse_law::<T::Rule>();
@@ -283,12 +276,9 @@ impl<N: Node, T: Ruled + Template<N, Arena<N, <T as Ruled>::Rule>>> Dictionary<N
         ensures pass { IsIdlePassOf self.now pass.new }
         ensures caller { SameCaller pass.old pass.new }
         ensures fills { OnlyFills N.layout N.ranged (N.Places.place_of key) pass.old pass.new }
-        ensures ends { HasEndedPutIn self.now T.technique (Add (N.Places.place_of key) value) pass.old pass.new result }
-        ensures tried { in_place N.layout ≡ false →
-            HasTriedPutIn self.now T.technique (Add (N.Places.place_of key) value) pass.old pass.new result }
+        ensures tried { HasTriedPutIn self.now T.technique (Add (N.Places.place_of key) value) pass.old pass.new result }
         ensures never { PutMayTell T.technique result }
-        ensures alone { in_place N.layout ≡ false →
-            WasAlone pass.old pass.new → HeldAlone pass.old → IsDoneIn result }
+        ensures alone { WasAlone pass.old pass.new → HeldAlone pass.old → IsDoneIn result }
         ensures reuse { ReusesSafely T.Rule.lasts (seen_of pass.old) (seen_of pass.new) }
     {
         reuse_law::<T::Rule>();

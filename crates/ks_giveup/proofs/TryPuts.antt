@@ -17,8 +17,7 @@ use Rattle.ks_shape.specs.declared.answers.Numbered.{Numbered}
 use Rattle.ks_shape.specs.declared.answers.Later.{Later}
 use Rattle.ks_shape.specs.declared.answers.PutLater.{PutLater}
 use Rattle.ks_shape.specs.declared.answers.PutLater.TheVariants.{Full, Later as Otherwise}
-use Rattle.ks_shape.specs.Ends.{EndsPut}
-use Rattle.ks_shape.specs.Tries.{IsPutOff}
+use Rattle.ks_shape.specs.Tries.{IsPutOff, TriedPut}
 use Rattle.ks_shape.specs.Descents.{IsCauseAt}
 use Rattle.ks_shape.specs.Laws.Down.{gave_no_take}
 
@@ -34,7 +33,7 @@ pub once_here : (c : ℕ) (h : List Event) → TookSince c h h 0 1
 once_here c h = let none = took_none c h in record { grows = none.grows; many = none.many; root = (let r = none.root in omega (arith, r)) }
 
 -- however it ends, it held and took nodes as its technique may
-pub ends_hands : (layout : Layout) (template : Template) (n c : ℕ) (op : Op) (s h : List Event) (answer : Result Numbered PutLater) → EndsPut layout template n c op s h answer → Hands template c op s h
-ends_hands layout template n c op s h (Ok answer) so = so.hands
-ends_hands layout template n c op s h (Err (Full number)) so = so.hands
-ends_hands layout template n c op s h (Err (Otherwise later)) so = so.0.hands
+pub tried_hands : (layout : Layout) (template : Template) (n c : ℕ) (op : Op) (s h : List Event) (answer : Result Numbered PutLater) → TriedPut layout template n c op s h answer → Hands template c op s h
+tried_hands layout template n c op s h (Ok answer) so = so.hands
+tried_hands layout template n c op s h (Err (Full number)) so = so.hands
+tried_hands layout template n c op s h (Err (Otherwise later)) so = so.left.hands

@@ -1,14 +1,12 @@
 //! Non-blocking puts and adds by giving up.
-ghost use Rattle.std.specs.Prelude.{◌≡◌, false};
+ghost use Rattle.std.specs.Prelude.{◌≡◌};
 ghost use Rattle.ks_history.specs.declared.Op.TheVariants.{Add, Put};
 ghost use Rattle.ks_history.specs.Done.{give_up};
 ghost use Rattle.ks_arena.specs.Of.{IsEmptyPassOf, SameCaller};
-ghost use Rattle.ks_shape.specs.Ends.{EndsPutOf};
 ghost use Rattle.ks_shape.specs.Fills.{filling};
 ghost use Rattle.ks_shape.specs.Of.{TriedPutOf};
 ghost use Rattle.ks_giveup.specs.Goes.{GoesTowards};
 ghost use Rattle.ks_shape.specs.Does.{OnlyFills};
-ghost use Rattle.ks_node.specs.Room.{in_place};
 
 use crate::try_descent::try_find;
 use ks_arena::{Arena, Pass};
@@ -30,9 +28,7 @@ fn try_fill<N: Ranged + Unlinked, G: Gate>(
     ensures pass { IsEmptyPassOf arena.now pass.new }
     ensures caller { SameCaller pass.old pass.new }
     ensures fills { OnlyFills N.layout N.ranged place pass.old pass.new }
-    ensures ends { EndsPutOf arena.now give_up (filling place fill) pass.old pass.new result }
-    ensures tried { in_place N.layout ≡ false →
-        TriedPutOf arena.now give_up (filling place fill) pass.old pass.new result }
+    ensures tried { TriedPutOf arena.now give_up (filling place fill) pass.old pass.new result }
     ensures goes { GoesTowards place pass.old pass.new }
 {
     match try_find(arena, pass, gate, place) {
@@ -67,9 +63,7 @@ pub fn try_put<N: Ranged + Unlinked, G: Gate>(
     ensures pass { IsEmptyPassOf arena.now pass.new }
     ensures caller { SameCaller pass.old pass.new }
     ensures fills { OnlyFills N.layout N.ranged place pass.old pass.new }
-    ensures ends { EndsPutOf arena.now give_up (Put place value) pass.old pass.new result }
-    ensures tried { in_place N.layout ≡ false →
-        TriedPutOf arena.now give_up (Put place value) pass.old pass.new result }
+    ensures tried { TriedPutOf arena.now give_up (Put place value) pass.old pass.new result }
     ensures goes { GoesTowards place pass.old pass.new }
 {
     try_fill(arena, pass, gate, place, Fill::Put(value))
@@ -92,9 +86,7 @@ pub fn try_add<N: Ranged + Unlinked, G: Gate>(
     ensures pass { IsEmptyPassOf arena.now pass.new }
     ensures caller { SameCaller pass.old pass.new }
     ensures fills { OnlyFills N.layout N.ranged place pass.old pass.new }
-    ensures ends { EndsPutOf arena.now give_up (Add place value) pass.old pass.new result }
-    ensures tried { in_place N.layout ≡ false →
-        TriedPutOf arena.now give_up (Add place value) pass.old pass.new result }
+    ensures tried { TriedPutOf arena.now give_up (Add place value) pass.old pass.new result }
     ensures goes { GoesTowards place pass.old pass.new }
 {
     try_fill(arena, pass, gate, place, Fill::Add(value))

@@ -1,5 +1,5 @@
 -- A refusal still holds as a search goes on, with the caller's number restated after each step.
-use Rattle.std.proofs.Common.{◌≡◌, ℕ, List, sym, subst, arith}
+use Rattle.std.proofs.Common.{◌≡◌, ◌∙◌, ℕ, List, sym, subst, arith}
 use Rattle.std.specs.Prelude.{IsTrue, None, Result, Ok, Err}
 use Rattle.ks_keysets.specs.Layout.{Layout}
 use Rattle.ks_history.specs.declared.Event.{Event}
@@ -8,7 +8,6 @@ use Rattle.ks_history.specs.Done.{Template, Done, coupling}
 use Rattle.ks_history.specs.Due.{NoneFree}
 use Rattle.ks_history.specs.Laws.Dues.{none_free_earlier, none_free_later}
 use Rattle.ks_history.specs.Passes.{NoCallBy}
-use Rattle.ks_history.specs.Trace.{◌⊑◌}
 use Rattle.ks_history.specs.Underway.{Underway}
 use Rattle.ks_node.specs.Body.{Body, value_at}
 use Rattle.ks_node.specs.Room.{is_full}
@@ -23,6 +22,11 @@ use Rattle.ks_shape.specs.SearchEnd.{IsEnd, LacksPlace, TakesPlace}
 use Rattle.ks_shape.specs.Stretches.{Stretches}
 use Rattle.ks_shape.specs.Laws.Fills.{full_is_due}
 use Rattle.ks_shape.specs.Laws.Stretches.{fill_goes_on, stretches_begins}
+use Rattle.ks_shape.specs.declared.path.Path.{Path}
+use Rattle.ks_shape.specs.OnPath.{IsOnPath}
+use Rattle.ks_put.specs.declared.halves.Part.{Part}
+use Rattle.ks_put.specs.declared.halves.Part.TheVariants.{Split, Refused, Shut}
+use Rattle.ks_put.specs.Parts.{DidPart}
 
 pub on_was : (layout : Layout) (n p a b : ℕ) (s h k : List Event) → b ≡ a → Stretches a h k → NoneFree layout n a p s h → NoneFree layout n b p s k
 on_was layout n p a b s h k same so was = subst (λ (z : ℕ). NoneFree layout n z p s k) (sym same) (none_free_later layout n a p s h k (stretches_begins a h k so) was)
@@ -59,3 +63,13 @@ filled_since sort shows template n p a b fill s h k l found answer same so room 
     subst (λ (z : ℕ). Underway template z (filling p fill) s k → FullIsDue sort.layout n z p s k found → Done sort.layout template n z (filling p fill) s l (reply_in answer) (number_in answer)) same done
     (fill_goes_on template a p fill s h k under so)
     (full_is_due sort shows n a p s h k found (record { rest = under.rest; is = under.is }) room)
+
+-- a try to split the node of a path, after its caller released the parent
+pub part_since : {N : Type 0} (sort : Sort) (shows : N → Body) (n p a b : ℕ) (s h k : List Event) (path x : Path N) (part : Part N) → b ≡ a → Stretches a s h → x.node ≡ path.node → DidPart sort shows n b p h k x part → DidPart sort shows n a p s k path part
+part_since sort shows n p a b s h k path x (Split y) same so node did = subst (λ (z : ℕ). IsOnPath sort shows z p k y) same did
+part_since sort shows n p a b s h k path x (Refused y) same so node did = (
+  did.0 ∙ node,
+  subst (λ (z : ℕ). IsOnPath sort shows z p k y) same did.1,
+  none_free_earlier sort.layout n a p s h k (stretches_begins a s h so) (subst (λ (z : ℕ). NoneFree sort.layout n z p h k) same did.2),
+)
+part_since sort shows n p a b s h k path x (Shut y) same so node did = (did.0 ∙ node, subst (λ (z : ℕ). IsOnPath sort shows z p k y) same did.1)

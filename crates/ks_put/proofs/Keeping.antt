@@ -1,5 +1,5 @@
 -- What still holds of a search after it released one of the nodes that it held.
-use Rattle.std.proofs.Common.{◌≡◌, ◌≢◌, ℕ, ◌⊎◌, true, false, List, [], ◌∷◌, sym, refl, ap, ◌∙◌, subst, inl, inr}
+use Rattle.std.proofs.Common.{◌≡◌, ◌≢◌, ℕ, ◌⊎◌, Bool, true, false, List, [], ◌∷◌, sym, refl, ap, ◌∙◌, subst, inl, inr}
 use Rattle.std.specs.Prelude.{Option, Some, None, IsTrue}
 use mathlib.Core.Logic.{dite}
 use native.Mathlib.Decide.{ℕ_discrete}
@@ -17,7 +17,7 @@ use Rattle.ks_history.specs.Due.{HoldsLive}
 use Rattle.ks_history.specs.Laws.Dues.{holds_one, holds_others}
 use Rattle.ks_node.specs.Body.{Body}
 use Rattle.ks_node.specs.Edges.{record_of}
-use Rattle.ks_node.specs.Room.{is_full}
+use Rattle.ks_node.specs.Room.{is_full, in_place}
 use Rattle.ks_shape.specs.Laws.Single.{record_is}
 use Rattle.ks_shape.specs.Beside.{KeepsBeside}
 use Rattle.ks_arena.specs.declared.held.Held.{Held as Hand}
@@ -85,10 +85,16 @@ module _ {N : Type 0} (sort : Sort) (shows : N → Body) (n c : ℕ) (laws : Law
   -- the parent of a path is still above its node, which was full, after a claim and a shape that does not name it
   pub under_later : (p : ℕ) (x x' : Hand N) (h k l : List Event) (o : Option (Hand N)) → x'.node ≡ x.node → IsTrue (is_full sort.layout (shows x.body)) → StillMatch sort shows (hand c h) h k → ((y : Hand N) → o ≡ Some y → Has (hand c h) y.node) → ((y : Hand N) → o ≡ Some y → Matches sort shows k y → Matches sort shows l y) → IsUnder sort shows p x h o → IsUnder sort shows p x' l o
   under_later p x x' h k l None same full still has keep (inl root) = inl (same ∙ root)
-  under_later p x x' h k l None same full still has keep (inr room) = absurd (let q : true ≡ false = sym full ∙ room in let z : ⊥ = cc in z)
+  under_later p x x' h k l None same full still has keep (inr (inl room)) = absurd (let q : true ≡ false = sym full ∙ room in let z : ⊥ = cc in z)
+  under_later p x x' h k l None same full still has keep (inr (inr stays)) = inr (inr stays)
   under_later p x x' h k l (Some y) same full still has keep so = record { live = so.live; matches = keep y refl (still y (has y refl) so.matches); leads = subst (λ (z : ℕ). LeadsTo (record_of (shows y.body)) p z) (sym same) so.leads }
 
--- a full node with no parent is the root
-pub full_is_root : {N : Type 0} (sort : Sort) (shows : N → Body) (x : Hand N) → IsTrue (is_full sort.layout (shows x.body)) → (x.node ≡ 0) ⊎ (is_full sort.layout (shows x.body) ≡ false) → x.node ≡ 0
-full_is_root sort shows x full (inl root) = root
-full_is_root sort shows x full (inr room) = absurd (let q : true ≡ false = sym full ∙ room in let z : ⊥ = cc in z)
+-- a full node with no parent is the root, or its type grows in place
+pub full_whole : {N : Type 0} (sort : Sort) (shows : N → Body) (x : Hand N) → IsTrue (is_full sort.layout (shows x.body)) → (x.node ≡ 0) ⊎ (is_full sort.layout (shows x.body) ≡ false) ⊎ IsTrue (in_place sort.layout) → (x.node ≡ 0) ⊎ IsTrue (in_place sort.layout)
+full_whole sort shows x full (inl root) = inl root
+full_whole sort shows x full (inr (inl room)) = absurd (let q : true ≡ false = sym full ∙ room in let z : ⊥ = cc in z)
+full_whole sort shows x full (inr (inr stays)) = inr stays
+
+pub whole_root : (t : Bool) (i : ℕ) → (i ≡ 0) ⊎ IsTrue t → t ≡ false → i ≡ 0
+whole_root t i (inl root) no_place = root
+whole_root t i (inr stays) no_place = absurd (let q : true ≡ false = sym stays ∙ no_place in let z : ⊥ = cc in z)

@@ -29,7 +29,10 @@ use Rattle.ks_arena.specs.declared.held.Held.{Held as Hand}
 use Rattle.ks_arena.specs.Sound.{Sort}
 use Rattle.ks_shape.specs.Laws.Single.{record_is}
 use Rattle.ks_shape.specs.declared.path.Path.{Path}
-use Rattle.ks_put.specs.Narrows.{end_at, end_under, own_at, own_start, cuts_of, cuts_left}
+use Rattle.ks_put.specs.declared.halves.Part.{Part}
+use Rattle.ks_put.specs.declared.halves.Part.TheVariants.{Split, Refused, Shut}
+use Rattle.ks_put.specs.Narrows.{end_at, end_under, own_at, own_start, cuts_of, cuts_left, IsNarrower}
+use Rattle.ks_put.specs.Parts.{IsRoomy}
 use Rattle.ks_shape.specs.OnPath.{IsUnder}
 use Rattle.ks_shape.specs.Laws.Counted.{counted, positive}
 
@@ -202,6 +205,14 @@ module _ {N : Type 0} (layout : Layout) (shows : N → Body) (place : ℕ) where
   -- a node that is not full is not split
   pub no_cuts : (path : Path N) → is_full layout (shows path.node.body) ≡ false → cuts_left layout shows place path ≡ 0
   no_cuts path room = let b : Body = shows path.node.body in ap (λ (t : Bool). cuts_of t b.low (end_under layout shows place path.parent) (own_start b)) room
+
+  -- a half with room narrows the search, under whatever parent the full node was
+  pub room_narrower : (path : Path N) (part : Part N) → IsTrue (is_full layout (shows path.node.body)) → IsRoomy layout shows part → IsNarrower layout shows place path part
+  room_narrower path (Split x) full room = let b : Body = shows path.node.body in
+      subst (λ (n : ℕ). n < cuts_left layout shows place path) (sym (no_cuts x room))
+      (subst (λ (t : Bool). 0 < cuts_of t b.low (end_under layout shows place path.parent) (own_start b)) (sym full) (omega arith))
+  room_narrower path (Refused x) full room = tt
+  room_narrower path (Shut x) full room = tt
 
 -- what is left of a search: the nodes that it may still go down to, and how often the present one may be split
 abbrev pub way_left : ℕ → ℕ → ℕ → ℕ

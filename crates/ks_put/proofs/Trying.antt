@@ -1,5 +1,5 @@
 -- What a step of a non-blocking search ensures, from the step down that it made.
-use Rattle.std.proofs.Common.{◌≡◌, ℕ, suc, ◌<◌, ◌≤◌, Bool, true, false, List, sym, ap, ◌∙◌, subst, inl, inr, arith}
+use Rattle.std.proofs.Common.{◌≡◌, ◌⊎◌, ℕ, suc, ◌<◌, ◌≤◌, Bool, true, false, List, sym, ap, ◌∙◌, subst, inl, inr, arith}
 use Rattle.std.specs.Prelude.{Option, Some, None, IsTrue, Result, Ok, Err, length}
 use Rattle.ks_keysets.specs.declared.Frame.{Frame}
 use Rattle.ks_keysets.specs.declared.Span.{Span}
@@ -29,14 +29,11 @@ use Rattle.ks_history.specs.declared.Op.{Op}
 use Rattle.ks_history.specs.Done.{Template, coupling, Left}
 use Rattle.ks_shape.specs.declared.answers.Later.{Later}
 use Rattle.ks_shape.specs.declared.answers.Later.TheVariants.{Busy, Moved, Far}
-use Rattle.ks_shape.specs.declared.answers.PutLater.TheVariants.{Later as Otherwise}
-use Rattle.ks_shape.specs.Ends.{EndsPut, IsCauseButFar}
 use Rattle.ks_shape.specs.Tries.{FindsFar, IsCause, IsPutOff}
 use Rattle.ks_shape.specs.declared.path.Path.{Path}
 use Rattle.ks_put.specs.declared.try_room.Step.{Step}
 use Rattle.ks_put.specs.Parts.{HasRoomAbove}
-use Rattle.ks_shape.specs.Descents.{IsCauseAt}
-use Rattle.ks_put.specs.Tries.{WentDown, WasRefused, IsEasedBut, IsEasedStep, IsNearer, IsPutOffBy}
+use Rattle.ks_put.specs.Tries.{WentDown, WasRefused, IsEasedBut, IsEasedStep, IsNearer}
 
 pub refused_before : {N : Type 0} (x : Hand N) (depth : ℕ) (refused : Bool) (None_free : Type 0) (result : Result (Step N) Later) → WentDown x depth refused result → WasRefused refused None_free result
 refused_before x depth refused None_free (Ok step) went = λ t. inl (subst (λ (b : Bool). IsTrue b) went.2 t)
@@ -51,6 +48,11 @@ module _ {N : Type 0} (layout : Layout) (shows : N → Body) where
   eased_down x depth refused Grow (Ok step) went room = λ r grow. subst (λ (o : Option (Hand N)). HasRoomAbove layout shows o) (sym went.0) (room (sym went.2 ∙ r) grow)
   eased_down x depth refused Grow (Err later) went room = tt
 
+  -- the parent of a search that went down has room, if the node that it left has
+  pub room_above : (o p : Option (Hand N)) → (o ≡ None) ⊎ (o ≡ p) → HasRoomAbove layout shows p → HasRoomAbove layout shows o
+  room_above o p (inl none) room = subst (λ (z : Option (Hand N)). HasRoomAbove layout shows z) (sym none) tt
+  room_above o p (inr same) room = subst (λ (z : Option (Hand N)). HasRoomAbove layout shows z) (sym same) room
+
   pub nearer_down : (place : ℕ) (x : Hand N) (depth : ℕ) (refused : Bool) (path : Path N) (result : Result (Step N) Later) → WentDown x depth refused result → IsNearer layout shows place depth path result
   nearer_down place x depth refused path (Ok step) went = inl went.1
   nearer_down place x depth refused path (Err later) went = tt
@@ -60,14 +62,6 @@ pub no_leaf : (b : Body) (p m : ℕ) → LeadsTo (record_of b) p m → length (e
 no_leaf b p m to same none = let some = to.1 in omega (arith, some, same, none)
 
 -- a cause that puts an operation off by coupling puts it off by any technique that may report Far
-
-cause_as : (template : Template) (c : ℕ) (op : Op) (s h : List Event) (later : Later) → FindsFar template → IsCauseButFar coupling c op s h later → IsCauseButFar template c op s h later
-cause_as template c op s h (Busy node holder) finds so = so
-cause_as template c op s h (Moved node) finds so = absurd so.0
-cause_as template c op s h Far finds so = finds
-
-pub ends_later : (layout : Layout) (template : Template) (n c : ℕ) (op : Op) (s h : List Event) (later : Later) → FindsFar template → Left template c op s h → IsCauseButFar coupling c op s h later → EndsPut layout template n c op s h (Err (Otherwise later))
-ends_later layout template n c op s h later finds left so = (left, cause_as template c op s h later finds so)
 
 pub off_later : (template : Template) (n c : ℕ) (op : Op) (s h : List Event) (later : Later) → FindsFar template → Left template c op s h → IsCause coupling n c op s h later → IsPutOff template n c op s h later
 off_later template n c op s h (Busy node holder) finds left so = record { left = left; cause = so }
@@ -86,17 +80,8 @@ module _ {N : Type 0} (sort : Sort) (shows : N → Body) (c p : ℕ) (h : List E
   pub path_leaf : InOrder (content_of (shows x.node.body)) → next_at (shows x.node.body) p ≡ Here → is_branch (shows x.node.body) ≡ false
   path_leaf order here = ends_at_no_branch (shows x.node.body) p order ranged.0 ranged.1 here
 
--- what holds of coupling holds except for Far
-pub but_far : (n c : ℕ) (op : Op) (s h : List Event) (later : Later) → IsCause coupling n c op s h later → IsCauseButFar coupling c op s h later
-but_far n c op s h (Busy node holder) so = so
-but_far n c op s h (Moved node) so = so
-but_far n c op s h Far so = so.0
-
-pub put_off : (ways : Type 0) (n c place : ℕ) (s h : List Event) (later : Later) → IsCauseAt coupling n c place s h later → IsPutOffBy ways n c place s h later
-put_off ways n c place s h later so = λ op touched. (but_far n c op s h later (so op touched), λ e. so op touched)
-
 -- where a search is at the start of a turn
-module _ {N D : Type 0} (sort : Sort) (shows : N → Body) (Open Grow : Type 0) (Fit : Pass N D → Type 0) (nodes me place : ℕ) (s : List Event) where
+module _ {N D : Type 0} (sort : Sort) (shows : N → Body) (Grow : Type 0) (Fit : Pass N D → Type 0) (nodes me place : ℕ) (s : List Event) where
   abbrev pub TurnAt : Pass N D → Path N → ℕ → Bool → Type 0
   TurnAt p x d r =
       Fit p
@@ -106,5 +91,5 @@ module _ {N D : Type 0} (sort : Sort) (shows : N → Body) (Open Grow : Type 0) 
       × (IsTrue r → NoneFree sort.layout nodes p.caller place s (seen_of p))
       × ((start : List Event) → TookSince p.caller start s 0 1 → IsDownPath nodes p.caller start (seen_of p) (suc d) 2 d x)
       × (d < nodes)
-      × (Open → IsEasedBut sort.layout shows Grow r x.parent)
+      × IsEasedBut sort.layout shows Grow r x.parent
       × DoesOnly (MayFill sort place) p.caller s (seen_of p)

@@ -18,7 +18,7 @@ use Rattle.ks_put.specs.declared.halves.Part.{Part}
 use Rattle.ks_put.specs.declared.halves.Part.TheVariants.{Split, Refused, Shut}
 use Rattle.ks_shape.specs.OnPath.{IsOnPath}
 
--- a root of this body may grow, as its type says
+-- a node of this body may grow, as its type says
 abbrev pub Grows : (Content → Bool) → Body → Type 0
 Grows can b = IsTrue (can (content_of b))
 
@@ -67,9 +67,9 @@ module _ {N : Type 0} (sort : Sort) (shows : N → Body) where
   abbrev pub IsPart : ℕ → List Event → Hand N → Hand N → Type 0
   IsPart place h above x = LeadsTo (record_of (shows above.body)) place x.node × InInset (graph_after h) x.node place
 
-  -- the result of a try to split the node of a path: the path to the half that holds the place; or the path, since no node
-  -- was free, or since there is no way to split it
+  -- the result of a try to split the node of a path: the path to the half that holds the place; or a path to the same node,
+  -- since no node was free, or since there is no way to split it
   abbrev pub DidPart : ℕ → ℕ → ℕ → List Event → List Event → Path N → Part N → Type 0
   DidPart n c place h k path (Split x) = IsOnPath sort shows c place k x
-  DidPart n c place h k path (Refused x) = (x ≡ path) × IsOnPath sort shows c place k x × NoneFree sort.layout n c place h k
-  DidPart n c place h k path (Shut x) = (x ≡ path) × IsOnPath sort shows c place k x
+  DidPart n c place h k path (Refused x) = (x.node ≡ path.node) × IsOnPath sort shows c place k x × NoneFree sort.layout n c place h k
+  DidPart n c place h k path (Shut x) = (x.node ≡ path.node) × IsOnPath sort shows c place k x

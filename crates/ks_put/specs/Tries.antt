@@ -8,11 +8,9 @@ use Rattle.ks_history.specs.declared.Event.{Event}
 use Rattle.ks_history.specs.declared.Op.{Op}
 use Rattle.ks_history.specs.Descent.{TookSince}
 use Rattle.ks_history.specs.Done.{Template, coupling}
-use Rattle.ks_history.specs.Map.{Touches}
 use Rattle.ks_history.specs.Own.{hand}
 use Rattle.ks_history.specs.Underway.{Underway}
 use Rattle.ks_node.specs.Body.{Body}
-use Rattle.ks_node.specs.Room.{in_place}
 use Rattle.ks_arena.specs.declared.arena.Arena.{Arena}
 use Rattle.ks_arena.specs.declared.held.Pass.{Pass}
 use Rattle.ks_arena.specs.declared.held.Held.{Held as Hand}
@@ -21,9 +19,8 @@ use Rattle.ks_arena.specs.Clauses.{seen_of}
 use Rattle.ks_shape.specs.declared.answers.Later.{Later}
 use Rattle.ks_shape.specs.declared.answers.Numbered.{Numbered}
 use Rattle.ks_shape.specs.declared.answers.PutLater.{PutLater}
-use Rattle.ks_shape.specs.Ends.{EndsPut, IsCauseButFar}
 use Rattle.ks_shape.specs.Fills.{FoundRoom}
-use Rattle.ks_shape.specs.Tries.{FindsFar, IsCause, TriedPut}
+use Rattle.ks_shape.specs.Tries.{FindsFar, TriedPut}
 use Rattle.ks_shape.specs.Descents.{IsCauseAt}
 use Rattle.ks_shape.specs.declared.path.Path.{Path}
 use Rattle.ks_put.specs.declared.try_room.Step.{Step}
@@ -44,19 +41,15 @@ module _ {N : Type 0} (n c place : ℕ) (s0 h : List Event) where
   StepOrCause (Ok step) = IsDownPath n c s0 h (suc step.depth) 2 step.depth step.path
   StepOrCause (Err later) = IsCauseAt coupling n c place s0 h later
 
--- the cause that put off the operation at the place is due; Far is, if there was a way to split each full node
-abbrev pub IsPutOffBy : Type 0 → ℕ → ℕ → ℕ → List Event → List Event → Later → Type 0
-IsPutOffBy ways n c place s0 h later = (op : Op) → Touches op place → IsCauseButFar coupling c op s0 h later × (ways → IsCause coupling n c op s0 h later)
-
 -- c came to the node where its search ends, as the result says; or it holds nothing
 abbrev pub RoomOrNone : {N : Type 0} → Sort → (N → Body) → ℕ → ℕ → ℕ → List Event → List Event → Result (Result (Hand N) (Hand N)) Later → Type 0
 RoomOrNone sort shows n c place h k (Ok found) = FoundRoom sort shows n c place h k found
 RoomOrNone sort shows n c place h k (Err later) = hand c k ≡ []
 
 -- or the cause that put it off is due
-abbrev pub RoomOrCause : {N : Type 0} → Type 0 → ℕ → ℕ → ℕ → List Event → List Event → Result (Result (Hand N) (Hand N)) Later → Type 0
-RoomOrCause ways n c place s0 h (Ok found) = Unit {0}
-RoomOrCause ways n c place s0 h (Err later) = IsPutOffBy ways n c place s0 h later
+abbrev pub RoomOrCause : {N : Type 0} → ℕ → ℕ → ℕ → List Event → List Event → Result (Result (Hand N) (Hand N)) Later → Type 0
+RoomOrCause n c place s0 h (Ok found) = Unit {0}
+RoomOrCause n c place s0 h (Err later) = IsCauseAt coupling n c place s0 h later
 
 -- the step went down from the node x, at this depth, and no claim was refused in it; or the search was put off
 abbrev pub WentDown : {N : Type 0} → Hand N → ℕ → Bool → Result (Step N) Later → Type 0
@@ -100,14 +93,9 @@ module _ {N D P : Type 0} {n : NodeGhosts N P} {q : PlacingGhosts P} {d : Discip
   TriesRoom a place p p' result = RoomOrNone (sort_of n.layout n.ranged) n.body a.nodes p.caller place (seen_of p) (seen_of p') result
 
   abbrev pub TriesRoomSince : Arena N D P n q d → ℕ → Pass N D → Pass N D → Result (Result (Hand N) (Hand N)) Later → Type 0
-  TriesRoomSince a place p p' result = (start : List Event) → TookSince p.caller start (seen_of p) 0 1 → RoomOrCause (in_place n.layout ≡ false) a.nodes p.caller place start (seen_of p') result
+  TriesRoomSince a place p p' result = (start : List Event) → TookSince p.caller start (seen_of p) 0 1 → RoomOrCause a.nodes p.caller place start (seen_of p') result
 
   -- a put or an add that is under way at p, by coupling or by giving up, and took the root once at most, is done at p', or put off
   abbrev pub FinishesTry : Arena N D P n q d → Op → Pass N D → Pass N D → Result Numbered PutLater → Type 0
   FinishesTry a op p p' answer = (template : Template) (start : List Event) → FindsFar template → TookSince p.caller start (seen_of p) 0 1 → Underway template p.caller op start (seen_of p) →
       TriedPut n.layout template a.nodes p.caller op start (seen_of p') answer
-
-  -- so it is whatever its nodes, except for the cause of Far
-  abbrev pub EndsTry : Arena N D P n q d → Op → Pass N D → Pass N D → Result Numbered PutLater → Type 0
-  EndsTry a op p p' answer = (template : Template) (start : List Event) → FindsFar template → TookSince p.caller start (seen_of p) 0 1 → Underway template p.caller op start (seen_of p) →
-      EndsPut n.layout template a.nodes p.caller op start (seen_of p') answer

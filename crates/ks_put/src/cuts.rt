@@ -15,36 +15,40 @@ use ks_keysets::Span;
 use ks_node::{Unlinked, node_law, unlinked_law};
 use ks_shape::search_law;
 
-/// The cut of a full root. If no node of the type grows in place, and all nodes grow if the root is a branch, the root
-/// grows, or is no branch and can adopt it.
-pub(crate) fn cut_of_root<N: Unlinked>(
+/// The cut of a full node that needs no parent to be split. If all nodes grow if it is a branch, it grows, or is no branch
+/// and can adopt it.
+pub(crate) fn cut_whole<N: Unlinked>(
     arena: &Arena<N, Tree>,
     pass: &Pass<N, Tree>,
-    root: &Held<N>,
+    node: &Held<N>,
 ) -> u64
     requires pass { IsPassOf arena.now pass.now }
-    requires root { root.now.node ≡ 0 }
-    requires node { IsLiveAndCurrent arena.now pass.now root.now }
-    requires full { IsTrue (is_full N.layout (N.body root.now.body)) }
-    ensures cut { IsInside pass.now root.now.node result × CanSplitAt (N.body root.now.body) result }
-    ensures grows { Grows N.grows_at (N.body root.now.body) → CanAt N.can_grow_at (N.body root.now.body) result }
-    ensures open { in_place N.layout ≡ false → (IsTrue (is_branch (N.body root.now.body)) → AllGrow arena.now) →
-        Grows N.grows_at (N.body root.now.body) ⊎ LeafCanAt N.can_adopt_at (N.body root.now.body) result }
-    ensures halves { IsTrue N.halves_have_room → HalvesHaveRoom N.layout result (N.body root.now.body) }
-    ensures adopts { HalfAdopts N.can_adopt_at (N.body root.now.body) result }
+    requires whole { (node.now.node ≡ 0) ⊎ IsTrue (in_place N.layout) }
+    requires node { IsLiveAndCurrent arena.now pass.now node.now }
+    requires full { IsTrue (is_full N.layout (N.body node.now.body)) }
+    ensures cut { IsInside pass.now node.now.node result × CanSplitAt (N.body node.now.body) result }
+    ensures grows { Grows N.grows_at (N.body node.now.body) → CanAt N.can_grow_at (N.body node.now.body) result }
+    ensures open { (IsTrue (is_branch (N.body node.now.body)) → AllGrow arena.now) →
+        Grows N.grows_at (N.body node.now.body) ⊎ LeafCanAt N.can_adopt_at (N.body node.now.body) result }
+    ensures halves { IsTrue N.halves_have_room → HalvesHaveRoom N.layout result (N.body node.now.body) }
+    ensures adopts { HalfAdopts N.can_adopt_at (N.body node.now.body) result }
 {
     search_law();
     tree_spans_law();
     unlinked_law::<N>();
-    node_law(&root.body);
-    let all = Span {
-        low: 0,
-        last: u64::MAX,
+    node_law(&node.body);
+    let span = if node.node == 0 {
+        Some(Span {
+            low: 0,
+            last: u64::MAX,
+        })
+    } else {
+        None
     };
-    root.body.cut(Some(all))
+    node.body.cut(span)
 }
 
-/// The cut of a full node below its parent, which leads to it at the place. If no node of the type grows in place, all
+/// The cut of a full node below its parent, which leads to it at the place, where no node of the type grows in place. If all
 /// grow if the node is a branch, and the parent is not full if all grow, the node, no branch, or the parent can adopt it.
 pub(crate) fn cut_below<N: Unlinked>(
     arena: &Arena<N, Tree>,
@@ -57,8 +61,9 @@ pub(crate) fn cut_below<N: Unlinked>(
     requires above { LeadsDown arena.now place node.now.node pass.now parent.now }
     requires node { IsLiveAndCurrent arena.now pass.now node.now }
     requires full { IsTrue (is_full N.layout (N.body node.now.body)) }
+    requires at_root { in_place N.layout ≡ false }
     ensures cut { IsInside pass.now node.now.node result × CanSplitAt (N.body node.now.body) result }
-    ensures open { in_place N.layout ≡ false → (IsTrue (is_branch (N.body node.now.body)) → AllGrow arena.now) →
+    ensures open { (IsTrue (is_branch (N.body node.now.body)) → AllGrow arena.now) →
         (AllGrow arena.now → is_full N.layout (N.body parent.now.body) ≡ false) →
         LeafCanAt N.can_adopt_at (N.body node.now.body) result ⊎
         BranchCanAt N.can_adopt_at (N.body parent.now.body) result }

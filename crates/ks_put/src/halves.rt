@@ -1,5 +1,5 @@
 //! What is kept of a node that was split: the half that holds the place, and the node that leads to it.
-ghost use Rattle.std.specs.Prelude.{◌≡◌, ◌<◌, ◌≤◌, ◌∷◌, [], None, Some, false};
+ghost use Rattle.std.specs.Prelude.{◌≡◌, ◌⊎◌, ◌<◌, ◌≤◌, ◌∷◌, [], None, Some, false};
 ghost use Rattle.ks_node.specs.Room.{is_full};
 ghost use Rattle.ks_arena.specs.Clauses.{hand_of};
 ghost use Rattle.ks_shape.specs.OnPath.{numbers};
@@ -21,9 +21,9 @@ use ks_shape::{Path, keep_alone, let_go, search_law};
 pub(crate) enum Part<N> {
     /// It was split; the path goes to the half that holds the place.
     Split(Path<N>),
-    /// No node was found free; the path is as before.
+    /// No node was found free; the node is as before.
     Refused(Path<N>),
-    /// There is no way to split it; the path is as before.
+    /// There is no way to split it; the node is as before.
     Shut(Path<N>),
 }
 
@@ -171,6 +171,7 @@ pub(crate) fn settle<N: Unlinked, G: Gate>(
     ensures node { result.node ≡ path.node }
     ensures narrows { cuts_left N.layout N.body place result ≤ cuts_left N.layout N.body place path }
     ensures alone { is_full N.layout (N.body path.node.body) ≡ false → result.parent ≡ None }
+    ensures above { (result.parent ≡ None) ⊎ (result.parent ≡ path.parent) }
 {
     search_law();
     if path.node.body.is_full() {

@@ -1,11 +1,12 @@
 //! The search for room for a place, which keeps the parent of its node, so that a full node can be split under it.
-ghost use Rattle.std.specs.Prelude.{◌≡◌, IsTrue};
+ghost use Rattle.std.specs.Prelude.{◌≡◌, ◌⊎◌, IsTrue, None, Some, false};
 ghost use Rattle.ks_node.specs.declared.start.Next.TheVariants.{Go, Here};
 ghost use Rattle.ks_node.specs.Body.{next_at};
 ghost use Rattle.ks_arena.specs.Of.{IsPassOf, IsEmptyPassOf, SameCaller, caller_of};
 ghost use Rattle.ks_shape.specs.Of.{IsStretch, NoneWasFree, SearchEndsAt};
 ghost use Rattle.ks_shape.specs.Paths.{IsOnPathOf};
-ghost use Rattle.ks_put.specs.Of.{CameToRoom};
+ghost use Rattle.ks_put.specs.Of.{AllGrow, CameToRoom};
+ghost use Rattle.ks_put.specs.Parts.{HasRoomAbove};
 ghost use Rattle.ks_shape.specs.Does.{OnlyFills, OnlySearches};
 
 use crate::halves::{Part, settle};
@@ -13,8 +14,8 @@ use crate::splits::split;
 use ks_arena::{Arena, Held, Pass};
 use ks_flow::Tree;
 use ks_gate::Gate;
-use ks_node::{Next, Unlinked};
-use ks_shape::{Path, enter, give_last, has_room, let_go, step_down, tree_end_law};
+use ks_node::{Next, Unlinked, node_law, unlinked_law};
+use ks_shape::{Path, enter, has_room, let_go, search_law, step_down, tree_end_law};
 use std::sync::Wait;
 
 /// Releases the parent, and takes the child; keeps the node as its parent only if the child is full and needs one. So
@@ -36,6 +37,7 @@ fn down<N: Unlinked, R: Wait, G: Gate>(
     ensures caller { SameCaller pass.old pass.new }
     ensures leaves { OnlySearches pass.old pass.new }
     ensures path { IsOnPathOf arena.now (caller_of pass.old) place pass.new result }
+    ensures above { (result.parent ≡ None) ⊎ (result.parent ≡ Some path.node) }
     ensures stretch { IsStretch pass.old pass.new }
 {
     let held = let_go(arena, pass, gate, place, path);
@@ -64,7 +66,11 @@ fn go_on<N: Unlinked, R: Wait, G: Gate>(
     ensures path { IsOnPathOf arena.now (caller_of pass.old) place pass.new result.0 }
     ensures stretch { IsStretch pass.old pass.new }
     ensures refused { IsTrue result.1 → NoneWasFree arena.now place pass.old pass.new }
+    ensures eased { result.1 ≡ false → (AllGrow arena.now → HasRoomAbove N.layout N.body path.parent) →
+        AllGrow arena.now → HasRoomAbove N.layout N.body result.0.parent }
 {
+    unlinked_law::<N>();
+    node_law(&path.node.body);
     if !path.node.body.is_branch() {
         return (down(rt, arena, pass, gate, place, path, child), false);
     }
@@ -76,29 +82,6 @@ fn go_on<N: Unlinked, R: Wait, G: Gate>(
         Part::Refused(path) => (down(rt, arena, pass, gate, place, path, child), true),
         Part::Shut(path) => (down(rt, arena, pass, gate, place, path, child), false),
     }
-}
-
-/// Releases what is held, and takes the root again.
-#[inline(never)]
-fn begin_again<N: Unlinked, R: Wait, G: Gate>(
-    rt: &R,
-    arena: &Arena<N, Tree>,
-    pass: &mut Pass<N, Tree>,
-    gate: &G,
-    place: u64,
-    path: Path<N>,
-) -> Path<N>
-    requires pass { IsPassOf arena.now pass.old }
-    requires path { IsOnPathOf arena.now (caller_of pass.old) place pass.old path }
-    ensures pass { IsPassOf arena.now pass.new }
-    ensures caller { SameCaller pass.old pass.new }
-    ensures leaves { OnlySearches pass.old pass.new }
-    ensures path { IsOnPathOf arena.now (caller_of pass.old) place pass.new result }
-    ensures stretch { IsStretch pass.old pass.new }
-{
-    let held = let_go(arena, pass, gate, place, path);
-    give_last(arena, pass, gate, held);
-    enter(rt, arena, pass, gate, place)
 }
 
 /// Releases the parent of the node where the search ends.
@@ -142,6 +125,7 @@ pub fn make_room<N: Unlinked, R: Wait, G: Gate>(
     ensures room { CameToRoom arena.now place pass.old pass.new result }
     ensures stretch { IsStretch pass.old pass.new }
 {
+    search_law();
     let mut path = enter(rt, arena, pass, gate, place);
     let mut refused = false;
     for _ in rt.forever() {
@@ -152,6 +136,7 @@ pub fn make_room<N: Unlinked, R: Wait, G: Gate>(
                 refused = refused || was;
             }
             Next::Here => {
+                node_law(&path.node.body);
                 if has_room(&path.node, place) {
                     return Ok(come_to_end(arena, pass, gate, place, path));
                 }
@@ -161,10 +146,10 @@ pub fn make_room<N: Unlinked, R: Wait, G: Gate>(
                         return Err(come_to_end(arena, pass, gate, place, whole));
                     }
                     Part::Shut(whole) => {
-                        if refused {
-                            return Err(come_to_end(arena, pass, gate, place, whole));
+                        if !refused {
+                            unreachable!()
                         }
-                        path = begin_again(rt, arena, pass, gate, place, whole);
+                        return Err(come_to_end(arena, pass, gate, place, whole));
                     }
                 }
             }

@@ -12,52 +12,51 @@ ghost use Rattle.ks_shape.specs.Paths.{IsOnPathOf};
 ghost use Rattle.ks_put.specs.Of.{AllGrow, TriedToSplit, PartsDown};
 ghost use Rattle.ks_shape.specs.Does.{MustSplit, OnlyFills};
 
-use crate::cuts::{cut_below, cut_of_root};
+use crate::cuts::{cut_below, cut_whole};
 use crate::halves::{Part, keep_half, keep_right, keep_right_alone, settle};
 use ks_arena::{Arena, Held, Pass};
 use ks_flow::Tree;
 use ks_flow::laws::tree_facts_law;
 use ks_gate::Gate;
 use ks_node::{Unlinked, node_law, unlinked_law};
-use ks_shape::{Path, claim_one, claim_two, grow, keep_left, search_law, split_own, split_under};
+use ks_shape::{
+    Path, claim_one, claim_two, grow, keep_left, let_go, search_law, split_own, split_under,
+};
 
-/// Lets the full root grow by two nodes.
-pub(crate) fn grow_root<N: Unlinked, G: Gate>(
+/// Lets a full node grow by two nodes: the root, or one of a type that grows in place.
+pub(crate) fn grow_whole<N: Unlinked, G: Gate>(
     arena: &Arena<N, Tree>,
     pass: &mut Pass<N, Tree>,
     gate: &G,
     place: u64,
     cut: u64,
-    root: Held<N>,
+    node: Held<N>,
 ) -> Part<N>
     requires pass { IsPassOf arena.now pass.old }
-    requires path { IsOnPathOf arena.now (caller_of pass.old) place pass.old (record { parent = None; node = root }) }
-    requires full { IsTrue (is_full N.layout (N.body root.body)) }
-    requires cut { IsInside pass.old root.node cut × CanSplitAt (N.body root.body) cut }
-    requires grows { Grows N.grows_at (N.body root.body) × CanAt N.can_grow_at (N.body root.body) cut }
-    requires halves { IsTrue N.halves_have_room → HalvesHaveRoom N.layout cut (N.body root.body) }
+    requires path { IsOnPathOf arena.now (caller_of pass.old) place pass.old (record { parent = None; node = node }) }
+    requires full { IsTrue (is_full N.layout (N.body node.body)) }
+    requires cut { IsInside pass.old node.node cut × CanSplitAt (N.body node.body) cut }
+    requires grows { Grows N.grows_at (N.body node.body) × CanAt N.can_grow_at (N.body node.body) cut }
+    requires halves { IsTrue N.halves_have_room → HalvesHaveRoom N.layout cut (N.body node.body) }
     ensures pass { IsPassOf arena.now pass.new }
     ensures caller { SameCaller pass.old pass.new }
-    ensures fills { MustSplit N.layout place (N.body root.body) → OnlyFills N.layout N.ranged place pass.old pass.new }
-    ensures part { TriedToSplit arena.now place pass.old pass.new (record { parent = None; node = root }) result }
+    ensures fills { MustSplit N.layout place (N.body node.body) → OnlyFills N.layout N.ranged place pass.old pass.new }
+    ensures part { TriedToSplit arena.now place pass.old pass.new (record { parent = None; node = node }) result }
     ensures tried { ¬ IsShut result }
     ensures stretch { IsStretch pass.old pass.new }
-    ensures down { PartsDown arena.now pass.old pass.new (record { parent = None; node = root }) result }
+    ensures down { PartsDown arena.now pass.old pass.new (record { parent = None; node = node }) result }
     ensures halves { IsTrue N.halves_have_room → IsRoomy N.layout N.body result }
-    ensures narrows { IsNarrower N.layout N.body place (record { parent = None; node = root }) result }
+    ensures narrows { IsNarrower N.layout N.body place (record { parent = None; node = node }) result }
 {
     search_law();
     unlinked_law::<N>();
-    node_law(&root.body);
-    let mut root = root;
+    node_law(&node.body);
+    let mut node = node;
     let Some((mut left, mut right)) = claim_two(arena, pass, gate) else {
-        return Part::Refused(Path {
-            parent: None,
-            node: root,
-        });
+        return Part::Refused(Path { parent: None, node });
     };
-    grow(arena, pass, &mut root, &mut left, &mut right, cut);
-    Part::Split(keep_half(arena, pass, gate, place, cut, root, left, right))
+    grow(arena, pass, &mut node, &mut left, &mut right, cut);
+    Part::Split(keep_half(arena, pass, gate, place, cut, node, left, right))
 }
 
 /// Splits the full node under its parent, which adopts the cut.
@@ -148,37 +147,34 @@ pub(crate) fn split_alone<N: Unlinked, G: Gate>(
     Part::Split(keep_right_alone(arena, pass, gate, place, path, right))
 }
 
-/// Splits the full root: it grows, or leads to its right half itself. One of the two is possible if no node of the type
-/// grows in place, and all nodes grow if it is a branch.
-pub(crate) fn split_root<N: Unlinked, G: Gate>(
+/// Splits a full node that needs no parent: it grows, or leads to its right half itself. One of the two is possible if all
+/// nodes grow if it is a branch.
+pub(crate) fn split_top<N: Unlinked, G: Gate>(
     arena: &Arena<N, Tree>,
     pass: &mut Pass<N, Tree>,
     gate: &G,
     place: u64,
-    root: Held<N>,
+    node: Held<N>,
 ) -> Part<N>
     requires pass { IsPassOf arena.now pass.old }
-    requires path { IsOnPathOf arena.now (caller_of pass.old) place pass.old (record { parent = None; node = root }) }
-    requires full { IsTrue (is_full N.layout (N.body root.body)) }
+    requires path { IsOnPathOf arena.now (caller_of pass.old) place pass.old (record { parent = None; node = node }) }
+    requires full { IsTrue (is_full N.layout (N.body node.body)) }
     ensures pass { IsPassOf arena.now pass.new }
     ensures caller { SameCaller pass.old pass.new }
-    ensures fills { MustSplit N.layout place (N.body root.body) → OnlyFills N.layout N.ranged place pass.old pass.new }
-    ensures part { TriedToSplit arena.now place pass.old pass.new (record { parent = None; node = root }) result }
-    ensures open { in_place N.layout ≡ false → (IsTrue (is_branch (N.body root.body)) → AllGrow arena.now) → ¬ IsShut result }
+    ensures fills { MustSplit N.layout place (N.body node.body) → OnlyFills N.layout N.ranged place pass.old pass.new }
+    ensures part { TriedToSplit arena.now place pass.old pass.new (record { parent = None; node = node }) result }
+    ensures open { (IsTrue (is_branch (N.body node.body)) → AllGrow arena.now) → ¬ IsShut result }
     ensures stretch { IsStretch pass.old pass.new }
-    ensures down { PartsDown arena.now pass.old pass.new (record { parent = None; node = root }) result }
+    ensures down { PartsDown arena.now pass.old pass.new (record { parent = None; node = node }) result }
     ensures halves { IsTrue N.halves_have_room → IsRoomy N.layout N.body result }
-    ensures narrows { IsNarrower N.layout N.body place (record { parent = None; node = root }) result }
+    ensures narrows { IsNarrower N.layout N.body place (record { parent = None; node = node }) result }
 {
     unlinked_law::<N>();
-    let cut = cut_of_root(arena, pass, &root);
-    if root.body.grows() {
-        return grow_root(arena, pass, gate, place, cut, root);
+    let cut = cut_whole(arena, pass, &node);
+    if node.body.grows() {
+        return grow_whole(arena, pass, gate, place, cut, node);
     }
-    let path = Path {
-        parent: None,
-        node: root,
-    };
+    let path = Path { parent: None, node };
     if path.node.body.is_branch() {
         return Part::Shut(path);
     }
@@ -188,8 +184,8 @@ pub(crate) fn split_root<N: Unlinked, G: Gate>(
     split_alone(arena, pass, gate, place, cut, path)
 }
 
-/// Splits the full node under its parent, or by itself. One of the two is possible if no node of the type grows in
-/// place, all nodes grow if it is a branch, and the parent is not full if all nodes grow.
+/// Splits the full node under its parent, or by itself, where no node of the type grows in place. One of the two is possible
+/// if all nodes grow if it is a branch, and the parent is not full if all nodes grow.
 pub(crate) fn split_child<N: Unlinked, G: Gate>(
     arena: &Arena<N, Tree>,
     pass: &mut Pass<N, Tree>,
@@ -202,12 +198,13 @@ pub(crate) fn split_child<N: Unlinked, G: Gate>(
     requires path { IsOnPathOf arena.now (caller_of pass.old) place pass.old
         (record { parent = Some parent; node = node }) }
     requires full { IsTrue (is_full N.layout (N.body node.body)) }
+    requires at_root { in_place N.layout ≡ false }
     ensures pass { IsPassOf arena.now pass.new }
     ensures caller { SameCaller pass.old pass.new }
     ensures fills { MustSplit N.layout place (N.body node.body) → OnlyFills N.layout N.ranged place pass.old pass.new }
     ensures part { TriedToSplit arena.now place pass.old pass.new
         (record { parent = Some parent; node = node }) result }
-    ensures open { in_place N.layout ≡ false → (IsTrue (is_branch (N.body node.body)) → AllGrow arena.now) →
+    ensures open { (IsTrue (is_branch (N.body node.body)) → AllGrow arena.now) →
         (AllGrow arena.now → is_full N.layout (N.body parent.body) ≡ false) → ¬ IsShut result }
     ensures stretch { IsStretch pass.old pass.new }
     ensures down { PartsDown arena.now pass.old pass.new (record { parent = Some parent; node = node }) result }
@@ -232,7 +229,8 @@ pub(crate) fn split_child<N: Unlinked, G: Gate>(
     split_alone(arena, pass, gate, place, cut, path)
 }
 
-/// Splits the full node of a path, if there is a way and a claim succeeds, and releases the half without the place.
+/// Splits the full node of a path, if there is a way and a claim succeeds, and releases the half without the place. Where a
+/// node grows in place, its parent is released before.
 fn split_whole<N: Unlinked, G: Gate>(
     arena: &Arena<N, Tree>,
     pass: &mut Pass<N, Tree>,
@@ -248,16 +246,22 @@ fn split_whole<N: Unlinked, G: Gate>(
     ensures fills { MustSplit N.layout place (N.body path.node.body) →
         OnlyFills N.layout N.ranged place pass.old pass.new }
     ensures part { TriedToSplit arena.now place pass.old pass.new path result }
-    ensures open { in_place N.layout ≡ false → (IsTrue (is_branch (N.body path.node.body)) → AllGrow arena.now) →
+    ensures open { (IsTrue (is_branch (N.body path.node.body)) → AllGrow arena.now) →
         (AllGrow arena.now → HasRoomAbove N.layout N.body path.parent) → ¬ IsShut result }
     ensures stretch { IsStretch pass.old pass.new }
     ensures down { PartsDown arena.now pass.old pass.new path result }
     ensures halves { IsTrue N.halves_have_room → IsRoomy N.layout N.body result }
     ensures narrows { IsNarrower N.layout N.body place path result }
 {
+    search_law();
+    unlinked_law::<N>();
+    if N::grows_in_place() {
+        let node = let_go(arena, pass, gate, place, path);
+        return split_top(arena, pass, gate, place, node);
+    }
     let Path { parent, node } = path;
     match parent {
-        None => split_root(arena, pass, gate, place, node),
+        None => split_top(arena, pass, gate, place, node),
         Some(parent) => split_child(arena, pass, gate, place, parent, node),
     }
 }
@@ -280,7 +284,7 @@ pub(crate) fn split<N: Unlinked, G: Gate>(
     ensures fills { MustSplit N.layout place (N.body path.node.body) →
         OnlyFills N.layout N.ranged place pass.old pass.new }
     ensures part { TriedToSplit arena.now place pass.old pass.new path result }
-    ensures open { in_place N.layout ≡ false → (IsTrue (is_branch (N.body path.node.body)) → AllGrow arena.now) →
+    ensures open { (IsTrue (is_branch (N.body path.node.body)) → AllGrow arena.now) →
         (AllGrow arena.now → HasRoomAbove N.layout N.body path.parent) → ¬ IsShut result }
     ensures stretch { IsStretch pass.old pass.new }
     ensures down { PartsDown arena.now pass.old pass.new path result }

@@ -1,10 +1,9 @@
 //! Non-blocking puts and adds: a search for room, and then the Call.
-ghost use Rattle.std.specs.Prelude.{◌≡◌, false};
+ghost use Rattle.std.specs.Prelude.{◌≡◌};
 ghost use Rattle.ks_arena.specs.Of.{IsEmptyPassOf, SameCaller};
 ghost use Rattle.ks_shape.specs.Fills.{filling};
-ghost use Rattle.ks_put.specs.Tries.{EndsTry, FinishesTry};
+ghost use Rattle.ks_put.specs.Tries.{FinishesTry};
 ghost use Rattle.ks_shape.specs.Does.{OnlyFills};
-ghost use Rattle.ks_node.specs.Room.{in_place};
 
 use crate::try_room::try_make_room;
 use ks_arena::{Arena, Pass};
@@ -32,8 +31,7 @@ pub fn try_pair_fill<N: Unlinked, G: Gate>(
     ensures pass { IsEmptyPassOf arena.now pass.new }
     ensures caller { SameCaller pass.old pass.new }
     ensures fills { OnlyFills N.layout N.ranged place pass.old pass.new }
-    ensures ends { EndsTry arena.now (filling place fill) pass.old pass.new result }
-    ensures tried { in_place N.layout ≡ false → FinishesTry arena.now (filling place fill) pass.old pass.new result }
+    ensures tried { FinishesTry arena.now (filling place fill) pass.old pass.new result }
 {
     match try_make_room(arena, pass, gate, place) {
         Ok(found) => not_put_off(fill_at(arena, pass, gate, place, fill, found)),

@@ -3,7 +3,6 @@
 ghost use Rattle.std.specs.Prelude.{◌≡◌, ◌<◌, false};
 ghost use Rattle.ks_node.specs.declared.start.Next.TheVariants.{Go};
 ghost use Rattle.ks_node.specs.Body.{next_at};
-ghost use Rattle.ks_node.specs.Room.{in_place};
 ghost use Rattle.ks_arena.specs.Of.{IsPassOf, IsEmptyPassOf, SameCaller, caller_of};
 ghost use Rattle.ks_shape.specs.Of.{IsStretch, NoneWasFree};
 ghost use Rattle.ks_shape.specs.Paths.{IsOnPathOf};
@@ -27,25 +26,6 @@ pub(crate) struct Step<N> {
     path: Path<N>,
     depth: u32,
     refused: bool,
-}
-
-/// Releases all that is held.
-fn let_all_go<N: Unlinked, G: Gate>(
-    arena: &Arena<N, Tree>,
-    pass: &mut Pass<N, Tree>,
-    gate: &G,
-    place: u64,
-    path: Path<N>,
-)
-    requires pass { IsPassOf arena.now pass.old }
-    requires path { IsOnPathOf arena.now (caller_of pass.old) place pass.old path }
-    ensures pass { IsEmptyPassOf arena.now pass.new }
-    ensures caller { SameCaller pass.old pass.new }
-    ensures leaves { OnlySearches pass.old pass.new }
-    ensures stretch { IsStretch pass.old pass.new }
-{
-    let held = let_go(arena, pass, gate, place, path);
-    give_last(arena, pass, gate, held);
 }
 
 /// Releases the parent, and takes the child, unless another caller holds it, or as many nodes were taken as there are.
@@ -111,7 +91,7 @@ fn try_go_on<N: Unlinked, G: Gate>(
     ensures fills { OnlyFills N.layout N.ranged place pass.old pass.new }
     ensures path { StepsOrNone arena.now (caller_of pass.old) place pass.new result }
     ensures refused { WasRefused refused (NoneWasFree arena.now place pass.old pass.new) result }
-    ensures eased { in_place N.layout ≡ false → IsEasedBut N.layout N.body (AllGrow arena.now) refused path.parent →
+    ensures eased { IsEasedBut N.layout N.body (AllGrow arena.now) refused path.parent →
         IsEasedStep N.layout N.body (AllGrow arena.now) result }
     ensures nearer { IsNearer N.layout N.body place depth path result }
     ensures near { IsNear arena.now.nodes result }
@@ -190,11 +170,10 @@ pub(crate) fn try_make_room<N: Unlinked, G: Gate>(
                         return Ok(Err(come_to_end(arena, pass, gate, place, whole)));
                     }
                     Part::Shut(whole) => {
-                        if refused {
-                            return Ok(Err(come_to_end(arena, pass, gate, place, whole)));
+                        if !refused {
+                            unreachable!()
                         }
-                        let_all_go(arena, pass, gate, place, whole);
-                        return Err(Later::Far);
+                        return Ok(Err(come_to_end(arena, pass, gate, place, whole)));
                     }
                 }
             }

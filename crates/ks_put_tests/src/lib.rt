@@ -3,7 +3,6 @@
 
 #[cfg(test)]
 mod merged_away;
-pub mod tables;
 #[cfg(test)]
 mod tests;
 #[cfg(test)]

@@ -1,7 +1,6 @@
 -- Laws: no clause of a call uses them; proofs of this crate and of those above it cite them.
 pub mod Beside
 pub mod Claims
-pub mod Ends
 pub mod Fills
 pub mod Does
 pub mod Makes

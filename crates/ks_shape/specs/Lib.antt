@@ -8,7 +8,6 @@ pub mod Fills
 pub mod Idle
 pub mod Hinted
 pub mod Tries
-pub mod Ends
 pub mod Stretches
 pub mod Claims
 pub mod Quiet

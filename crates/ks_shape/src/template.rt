@@ -1,6 +1,6 @@
 //! What a technique of concurrency offers: five calls, each of which occurs once in the one history of all calls; and
 //! non-blocking calls, each of which occurs there once, or is put off.
-ghost use Rattle.std.specs.Prelude.{◌≡◌, ◌≢◌, IsTrue, None, false};
+ghost use Rattle.std.specs.Prelude.{◌≡◌, ◌≢◌, IsTrue, None};
 ghost use Rattle.ks_history.specs.declared.Op.TheVariants.{Add, Del, Get, Put, Swap};
 ghost use Rattle.ks_history.specs.Map.{told};
 ghost use Rattle.ks_history.specs.Done.{Template as Technique};
@@ -8,11 +8,9 @@ ghost use Rattle.ks_arena.specs.Sound.{sort_of, blank_of};
 ghost use Rattle.ks_shape.specs.Answers.{number_in, reply_in};
 ghost use Rattle.ks_shape.specs.Idle.{IsDone, IsIdle, Site};
 ghost use Rattle.ks_shape.specs.Tries.{HasTried, HasTriedPut};
-ghost use Rattle.ks_shape.specs.Ends.{HasEndedPut};
 ghost use Rattle.ks_shape.specs.Upkeep.{AreNewLed, HasTwoFree, IsTidyIn, LeadsNew, LeavesTidy};
 ghost use Rattle.ks_arena.specs.Of.{SameCaller, WasAlone};
 ghost use Rattle.ks_shape.specs.Does.{OnlyDels, OnlyFills, OnlySearches};
-ghost use Rattle.ks_node.specs.Room.{in_place};
 
 use crate::answers::{Full, Later, Numbered, PutLater};
 use ks_arena::{Arena, Pass};
@@ -190,8 +188,7 @@ pub trait Template<N: Node, A: Shelf>: Ruled {
     ///
     /// # Errors
     ///
-    /// `Full` as for `put`, with the number of the call; else it is put off, as `try_get`. If it reports `Far`, another
-    /// caller changed some nodes: this is ensured if no full node grows in place.
+    /// `Full` as for `put`, with the number of the call; else it is put off, as `try_get`.
     fn try_put<G: Gate>(
         arena: &A,
         pass: &mut Pass<N, Self::Rule>,
@@ -203,10 +200,7 @@ pub trait Template<N: Node, A: Shelf>: Ruled {
         ensures pass { IsIdle (A.site arena.now) pass.new }
         ensures caller { SameCaller pass.old pass.new }
         ensures fills { OnlyFills N.layout N.ranged place pass.old pass.new }
-        ensures ends { HasEndedPut N.layout Self.technique (A.site arena.now) (Put place value)
-            pass.old pass.new result }
-        ensures tried { in_place N.layout ≡ false →
-            HasTriedPut N.layout Self.technique (A.site arena.now) (Put place value)
+        ensures tried { HasTriedPut N.layout Self.technique (A.site arena.now) (Put place value)
             pass.old pass.new result };
 
     /// Sets the value at a place that has none, and returns the one that was there before, which then remains. It does not
@@ -226,10 +220,7 @@ pub trait Template<N: Node, A: Shelf>: Ruled {
         ensures pass { IsIdle (A.site arena.now) pass.new }
         ensures caller { SameCaller pass.old pass.new }
         ensures fills { OnlyFills N.layout N.ranged place pass.old pass.new }
-        ensures ends { HasEndedPut N.layout Self.technique (A.site arena.now) (Add place value)
-            pass.old pass.new result }
-        ensures tried { in_place N.layout ≡ false →
-            HasTriedPut N.layout Self.technique (A.site arena.now) (Add place value)
+        ensures tried { HasTriedPut N.layout Self.technique (A.site arena.now) (Add place value)
             pass.old pass.new result };
 
     /// Sets the value at a place to `new` if it is `old`, as `swap`. It does not wait.

@@ -9,7 +9,6 @@ ghost use Rattle.ks_history.specs.Done.{Template};
 ghost use Rattle.ks_shape.specs.declared.answers.Numbered.{Numbered};
 ghost use Rattle.ks_shape.specs.declared.answers.Later.{Later};
 ghost use Rattle.ks_shape.specs.declared.answers.PutLater.{PutLater};
-ghost use Rattle.ks_shape.specs.Ends.{EndsPut};
 ghost use Rattle.ks_shape.specs.Tries.{IsPutOff, Tried, TriedPut, IsDoneIn, MayTell, PutMayTell};
 
 use ks_history::alone_law;
@@ -31,7 +30,7 @@ pub fn tries_law()
         Tried layout template n c op s0 s1 answer → MayTell template answer }
     ensures put_told { (layout : Layout) (template : Template) (n c : ℕ) (op : Operation)
         (s0 s1 : List Happening) (answer : Result Numbered PutLater) →
-        EndsPut layout template n c op s0 s1 answer → PutMayTell template answer }
+        TriedPut layout template n c op s0 s1 answer → PutMayTell template answer }
 {
     alone_law();
 }

@@ -12,13 +12,9 @@ use Rattle.ks_coupling.proofs.try_puts.try_fill.Goals as goal
 once : (c : ℕ) (h : List Event) → TookSince c h h 0 1
 once c h = let at = took_none c h in record { grows = at.grows; many = at.many; root = (let r = at.root in omega (arith, r)) }
 
-pub returns-clause-ends : goal.returns-clause-ends
-returns-clause-ends g c = let me : ℕ = c.args.pass.now.caller in let h = seen_of c.args.pass.now in
-    c.try_pair_fill.ensures.ends coupling h tt (once me h) (underway_first coupling me (filling c.args.place c.args.fill) h c.requires.pass.1)
-
 pub returns-clause-tried : goal.returns-clause-tried
-returns-clause-tried g c = λ ways. let me : ℕ = c.args.pass.now.caller in let h = seen_of c.args.pass.now in
-    c.try_pair_fill.ensures.tried ways coupling h tt (once me h) (underway_first coupling me (filling c.args.place c.args.fill) h c.requires.pass.1)
+returns-clause-tried g c = let me : ℕ = c.args.pass.now.caller in let h = seen_of c.args.pass.now in
+    c.try_pair_fill.ensures.tried coupling h tt (once me h) (underway_first coupling me (filling c.args.place c.args.fill) h c.requires.pass.1)
 
 pub returns-clause-fills : goal.returns-clause-fills
 returns-clause-fills g c = c.try_pair_fill.ensures.fills

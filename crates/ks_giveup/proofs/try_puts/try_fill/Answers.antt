@@ -1,5 +1,5 @@
 use Rattle.std.proofs.Common.{◌≡◌, ◌∙◌, ℕ, sym, subst, ◌≤◌, length, ap, arith}
-use Rattle.std.specs.Prelude.{Err, Result}
+use Rattle.std.specs.Prelude.{Result}
 use Rattle.ks_history.specs.declared.Event.TheVariants.{Give}
 use Rattle.ks_history.specs.declared.Op.{Op}
 use Rattle.ks_history.specs.Descent.{TookSince}
@@ -13,16 +13,13 @@ use Rattle.ks_arena.specs.Sound.{sort_of}
 use Rattle.ks_arena.specs.Clauses.{seen_of}
 use Rattle.ks_shape.specs.declared.answers.Numbered.{Numbered}
 use Rattle.ks_shape.specs.declared.answers.PutLater.{PutLater}
-use Rattle.ks_shape.specs.declared.answers.PutLater.TheVariants.{Later as Otherwise}
 use Rattle.ks_shape.specs.Answers.{number_in, reply_in}
-use Rattle.ks_shape.specs.Ends.{EndsPut}
 use Rattle.ks_shape.specs.Fills.{filling}
 use Rattle.ks_shape.specs.SearchEnd.{IsEnd}
 use Rattle.ks_shape.specs.Tries.{TriedPut}
-use Rattle.ks_shape.specs.Laws.Ends.{ends_of}
 use Rattle.ks_shape.specs.Laws.Fills.{done_is_tried, fill_touches}
 use Rattle.ks_giveup.specs.Goes.{Goes}
-use Rattle.ks_giveup.proofs.TryPuts.{put_off, once_here, once_later, ends_hands}
+use Rattle.ks_giveup.proofs.TryPuts.{put_off, once_here, once_later, tried_hands}
 use Rattle.ks_giveup.proofs.Way.{coupled_goes, ends_goes, goes_both, goes_with}
 use Rattle.ks_shape.specs.Does.{MaySearch}
 use Rattle.ks_shape.specs.Laws.Does.{does_on, search_fills_on, searched_fills}
@@ -33,12 +30,8 @@ use Rattle.ks_giveup.proofs.try_puts.try_fill.Goals.{After-give_last, After-not_
 -- put off in the first search
 
 pub returns-in-Err-clause-tried : goal.returns-in-Err-clause-tried
-returns-in-Err-clause-tried g c = λ ways. let op : Op = filling c.args.place c.args.fill in let e = c.in-Err.ensures in
+returns-in-Err-clause-tried g c = let op : Op = filling c.args.place c.args.fill in let e = c.in-Err.ensures in
     put_off c.args.arena.now.nodes c.args.pass.now.caller c.args.place op (seen_of c.args.pass.now) (seen_of c.try_find.new.pass) c.in-Err.later (fill_touches c.args.place c.args.fill) (e.under op) e.came
-
-pub returns-in-Err-clause-ends : goal.returns-in-Err-clause-ends
-returns-in-Err-clause-ends g c = let op : Op = filling c.args.place c.args.fill in let n : ℕ = c.args.arena.now.nodes in let me : ℕ = c.args.pass.now.caller in let h = seen_of c.args.pass.now in let k = seen_of c.try_find.new.pass in let e = c.in-Err.ensures in
-    ends_of g.N.Node.layout give_up n me op h k (Err (Otherwise c.in-Err.later)) (put_off n me c.args.place op h k c.in-Err.later (fill_touches c.args.place c.args.fill) (e.under op) e.came)
 
 -- done where it ended
 
@@ -60,11 +53,7 @@ done g c = let n : ℕ = c.args.arena.now.nodes in let me : ℕ = c.args.pass.no
     (subst (λ (z : ℕ). Underway give_up z op h k → Done g.N.Node.layout give_up n z op h l (reply_in x) (number_in x)) e.caller (λ under. c.fill_at.ensures.done give_up h under tt) (e.under op)))
 
 pub returns-then-has_room-clause-tried : goal.returns-then-has_room-clause-tried
-returns-then-has_room-clause-tried g c = λ ways. done g (goal.at.returns-then-has_room-clause-tried g c).After-not_put_off
-
-pub returns-then-has_room-clause-ends : goal.returns-then-has_room-clause-ends
-returns-then-has_room-clause-ends g c =
-    ends_of g.N.Node.layout give_up c.args.arena.now.nodes c.args.pass.now.caller (filling c.args.place c.args.fill) (seen_of c.args.pass.now) (seen_of c.fill_at.new.pass) c.not_put_off.result (done g (goal.at.returns-then-has_room-clause-ends g c).After-not_put_off)
+returns-then-has_room-clause-tried g c = done g (goal.at.returns-then-has_room-clause-tried g c).After-not_put_off
 
 -- or it goes on from the root
 
@@ -79,13 +68,9 @@ under : (g : Over) (c : After-give_last g) → Underway give_up c.give_last.new.
 under g c = let op : Op = filling c.args.place c.args.fill in let h = seen_of c.args.pass.now in let k = seen_of c.try_find.new.pass in let l = seen_of c.give_last.new.pass in let e = c.in-Ok.ensures in
     subst (λ (z : ℕ). Underway give_up z op h l) (sym c.give_last.ensures.caller) (c.give_last.ensures.under give_up op h (subst (λ (z : ℕ). Underway give_up z op h k) (sym e.caller) (e.under op)))
 
-pub returns-else-has_room-clause-ends : goal.returns-else-has_room-clause-ends
-returns-else-has_room-clause-ends g c = let at = (goal.at.returns-else-has_room-clause-ends g c).After-give_last in let h = seen_of c.args.pass.now in
-    subst (λ (z : ℕ). EndsPut g.N.Node.layout give_up c.args.arena.now.nodes z (filling c.args.place c.args.fill) h (seen_of c.try_pair_fill.new.pass) c.try_pair_fill.result) (own g at) (c.try_pair_fill.ensures.ends give_up h tt (took g at) (under g at))
-
 pub returns-else-has_room-clause-tried : goal.returns-else-has_room-clause-tried
-returns-else-has_room-clause-tried g c = λ ways. let at = (goal.at.returns-else-has_room-clause-tried g c).After-give_last in let h = seen_of c.args.pass.now in
-    subst (λ (z : ℕ). TriedPut g.N.Node.layout give_up c.args.arena.now.nodes z (filling c.args.place c.args.fill) h (seen_of c.try_pair_fill.new.pass) c.try_pair_fill.result) (own g at) (c.try_pair_fill.ensures.tried ways give_up h tt (took g at) (under g at))
+returns-else-has_room-clause-tried g c = let at = (goal.at.returns-else-has_room-clause-tried g c).After-give_last in let h = seen_of c.args.pass.now in
+    subst (λ (z : ℕ). TriedPut g.N.Node.layout give_up c.args.arena.now.nodes z (filling c.args.place c.args.fill) h (seen_of c.try_pair_fill.new.pass) c.try_pair_fill.result) (own g at) (c.try_pair_fill.ensures.tried give_up h tt (took g at) (under g at))
 
 -- the nodes that it takes
 
@@ -99,8 +84,8 @@ returns-then-has_room-clause-goes g c = let e = c.in-Ok.ensures in let k = seen_
 pub returns-else-has_room-clause-goes : goal.returns-else-has_room-clause-goes
 returns-else-has_room-clause-goes g c = let at = (goal.at.returns-else-has_room-clause-goes g c).After-give_last in let op : Op = filling c.args.place c.args.fill in let me : ℕ = c.args.pass.now.caller in let b : ℕ = c.give_last.new.pass.caller in let h = seen_of c.args.pass.now in let k = seen_of c.try_find.new.pass in let l = seen_of c.give_last.new.pass in let m = seen_of c.try_pair_fill.new.pass in let e = c.in-Ok.ensures in let i : ℕ = c.in-Ok.held.node in
     let gone : Goes me c.args.place h l = goes_with me c.args.place (Give me i) h k l (subst (λ (z : ℕ). GrowsWith z (Give z i) k l) e.caller c.give_last.ensures.gave) tt e.goes in
-    let on = c.try_pair_fill.ensures.ends coupling l tt (once_here b l) (underway_here coupling b op l (omega (arith, ap length c.give_last.ensures.pass.1))) in
-    goes_both gone (subst (λ (z : ℕ). Goes z c.args.place l m) (own g at) (coupled_goes c.args.place (ends_hands g.N.Node.layout coupling c.args.arena.now.nodes b op l m c.try_pair_fill.result on)))
+    let on = c.try_pair_fill.ensures.tried coupling l tt (once_here b l) (underway_here coupling b op l (omega (arith, ap length c.give_last.ensures.pass.1))) in
+    goes_both gone (subst (λ (z : ℕ). Goes z c.args.place l m) (own g at) (coupled_goes c.args.place (tried_hands g.N.Node.layout coupling c.args.arena.now.nodes b op l m c.try_pair_fill.result on)))
 
 -- the kinds of its events
 

@@ -60,7 +60,7 @@ leaf_or true b e = inr e
 leaf_or false b e = inl e
 
 pub returns-clause-open : goal.returns-clause-open
-returns-clause-open g c = λ no_place branchy room. let sort = sort_of g.N.Node.layout g.N.Node.ranged in let n : ℕ = c.args.arena.now.table.shared.table_id.slots in let h = seen_of c.args.pass.now in let sound = c.requires.pass.sound in let good = ((c.search_law.ensures sort n).good h sound) in let facts = (c.search_law.ensures sort n).facts h sound in
+returns-clause-open g c = λ branchy room. let sort = sort_of g.N.Node.layout g.N.Node.ranged in let n : ℕ = c.args.arena.now.table.shared.table_id.slots in let h = seen_of c.args.pass.now in let sound = c.requires.pass.sound in let good = ((c.search_law.ensures sort n).good h sound) in let facts = (c.search_law.ensures sort n).facts h sound in
     let b : Body = g.N.Node.body c.args.node.now.body in let u : Body = g.N.Node.body c.args.parent.now.body in let i : ℕ = c.args.node.now.node in let p : ℕ = c.args.parent.now.node in let same = is_cut g c in let w = span_is g c in let at = within g c in
     let above_can : GrowAll g.N.Node.grows_at g.N.Node.body g.N.Node.branches_adopt g.N.Node.halves_have_room → BranchCanAt g.N.Node.can_adopt_at u c.cut.result = λ second. (let t = c.unlinked_law.ensures.adopting second.1 c.args.parent.now.body in let to = c.requires.above.leads in
     let branch : IsTrue (is_branch u) = branch_is (is_branch u) u refl t.bare (length_edges u c.node_law.ensures.sound c.node_law.ensures.framed (c.unlinked_law.ensures.no_link c.args.parent.now.body)) (omega (arith, to.1)) in
@@ -72,4 +72,4 @@ returns-clause-open g c = λ no_place branchy room. let sort = sort_of g.N.Node.
     (λ branch. inr (above_can (branchy branch)))
     (leaf_or (is_branch b) b refl))
     (λ second. inr (above_can second))
-    (c.unlinked_law.ensures.sort no_place)
+    (c.unlinked_law.ensures.sort c.requires.at_root)

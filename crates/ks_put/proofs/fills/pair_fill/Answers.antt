@@ -1,7 +1,6 @@
 use Rattle.ks_arena.specs.Sound.{sort_of}
 use Rattle.ks_arena.specs.Clauses.{seen_of}
 use Rattle.ks_put.proofs.Going.{ended_since, filled_since}
-use Rattle.ks_shape.specs.Does.{MayFill}
 use Rattle.ks_shape.specs.Laws.Does.{fills_search}
 use Rattle.ks_put.proofs.fills.pair_fill.Goals as goal
 

@@ -71,7 +71,7 @@ returns-clause-path g c = let e = c.keep_alone-node.ensures in let me : ℕ = c.
       live = way.live;
       matches = way.matches;
       inside = way.inside;
-      under = inr (subst (λ (y : Hand g.row.N.Denot). is_full g.N.Node.layout (g.N.Node.body y.body) ≡ false) (sym e.node) c.requires.room);
+      under = inr (inl (subst (λ (y : Hand g.row.N.Denot). is_full g.N.Node.layout (g.N.Node.body y.body) ≡ false) (sym e.node) c.requires.room));
     }
 
 pub returns-clause-stretch : goal.returns-clause-stretch

@@ -1,4 +1,4 @@
-use Rattle.std.proofs.Common.{◌≡◌, ◌∙◌, ◌≤◌, ℕ, List, ◌∷◌, length, true, false, inr, sym, ap, subst, arith}
+use Rattle.std.proofs.Common.{◌≡◌, ◌∙◌, ◌≤◌, ℕ, List, ◌∷◌, length, true, false, inl, inr, refl, sym, ap, subst, arith}
 use Rattle.std.specs.Prelude.{Option, Some, None}
 use Rattle.ks_node.specs.Room.{is_full}
 use Rattle.ks_arena.specs.declared.held.Held.{Held as Hand}
@@ -28,7 +28,7 @@ returns-clause-path g c = let e = c.let_go-node.ensures in record {
   live = e.way.live;
   matches = e.way.matches;
   inside = e.way.inside;
-  under = inr (subst (λ (x : Hand g.row.N.Denot). is_full g.N.Node.layout (g.N.Node.body x.body) ≡ false) (sym e.node) (sym c.is_full.ensures ∙ c.if-is_full.false));
+  under = inr (inl (subst (λ (x : Hand g.row.N.Denot). is_full g.N.Node.layout (g.N.Node.body x.body) ≡ false) (sym e.node) (sym c.is_full.ensures ∙ c.if-is_full.false)));
 }
 
 pub returns-then-is_full-clause-alone : goal.returns-then-is_full-clause-alone
@@ -50,3 +50,9 @@ returns-clause-narrows g c = let y : Path g.row.N.Denot = record { parent = None
 
 pub returns-then-is_full-clause-leaves : goal.returns-then-is_full-clause-leaves
 returns-then-is_full-clause-leaves g c = does_none MaySearch c.args.pass.now.caller (seen_of c.args.pass.now)
+
+pub returns-then-is_full-clause-above : goal.returns-then-is_full-clause-above
+returns-then-is_full-clause-above g c = inr refl
+
+pub returns-clause-above : goal.returns-clause-above
+returns-clause-above g c = inl refl

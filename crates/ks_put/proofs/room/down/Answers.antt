@@ -1,4 +1,5 @@
-use Rattle.std.proofs.Common.{ℕ, ◌∙◌}
+use Rattle.std.proofs.Common.{ℕ, ◌∙◌, ap, inl, inr}
+use Rattle.std.specs.Prelude.{Some}
 use Rattle.ks_arena.specs.Clauses.{seen_of}
 use Rattle.ks_shape.specs.Laws.Stretches.{stretches_as, stretches_both}
 use Rattle.ks_shape.specs.Does.{MaySearch}
@@ -13,3 +14,9 @@ returns-clause-stretch g c = let me : ℕ = c.args.pass.now.caller in let h = se
 
 pub returns-clause-leaves : goal.returns-clause-leaves
 returns-clause-leaves g c = does_on MaySearch c.args.pass.now.caller c.step_down-below.new.pass.caller (seen_of c.args.pass.now) (seen_of c.step_down-below.new.pass) (seen_of c.settle.new.pass) (c.step_down-below.ensures.caller ∙ c.let_go-held.ensures.caller) (does_on MaySearch c.args.pass.now.caller c.let_go-held.new.pass.caller (seen_of c.args.pass.now) (seen_of c.let_go-held.new.pass) (seen_of c.step_down-below.new.pass) (c.let_go-held.ensures.caller) c.let_go-held.ensures.leaves c.step_down-below.ensures.leaves) c.settle.ensures.leaves
+
+pub returns-clause-above : goal.returns-clause-above
+returns-clause-above g c = elim c.settle.ensures.above [
+  | inl none ↦ inl none
+  | inr same ↦ inr (same ∙ c.step_down-below.ensures.parent ∙ ap Some c.let_go-held.ensures.node)
+]

@@ -1,10 +1,16 @@
-use Rattle.std.proofs.Common.{ℕ, refl, ◌≡◌, ◌∙◌, true, false, sym}
+use Rattle.std.proofs.Common.{ℕ, refl, ◌≡◌, ◌∙◌, true, false, sym, subst, arith}
+use Rattle.std.specs.Prelude.{Option, Some}
+use Rattle.ks_node.specs.Body.{Body}
+use Rattle.ks_node.specs.Laws.Spans.{length_edges}
+use Rattle.ks_node.specs.Laws.Ways.{next_leads}
+use Rattle.ks_arena.specs.declared.held.Held.{Held as Hand}
 use Rattle.ks_arena.specs.Clauses.{seen_of}
 use Rattle.ks_shape.specs.Stretches.{Stretches}
 use Rattle.ks_shape.specs.Laws.Stretches.{stretches_as, stretches_both}
+use Rattle.ks_put.specs.Parts.{HasRoomAbove}
 use Rattle.ks_put.proofs.Going.{on_was}
+use Rattle.ks_put.proofs.Trying.{no_leaf, room_above}
 use Rattle.ks_arena.specs.Sound.{sort_of}
-use Rattle.ks_shape.specs.Does.{MayFill, MustSplit}
 use Rattle.ks_shape.specs.Laws.Does.{fills_search, searched_fills}
 use Rattle.ks_put.proofs.room.go_on.Goals as goal
 
@@ -37,3 +43,23 @@ returns-in-Refused-clause-fills g c = fills_search (sort_of g.N.Node.layout g.N.
 
 pub returns-in-Shut-clause-fills : goal.returns-in-Shut-clause-fills
 returns-in-Shut-clause-fills g c = fills_search (sort_of g.N.Node.layout g.N.Node.ranged) c.args.place c.args.pass.now.caller c.split.new.pass.caller (seen_of c.args.pass.now) (seen_of c.split.new.pass) (seen_of c.down-in-Shut.new.pass) c.split.ensures.caller (c.split.ensures.fills (sym c.is_full.ensures ∙ c.if-not-is_full.false, λ leaf. absurd (let q : true ≡ false = sym (sym c.is_branch.ensures ∙ c.if-not-is_branch.false) ∙ leaf in let z : ⊥ = cc in z))) c.down-in-Shut.ensures.leaves
+
+-- the parent of the node has room, if all nodes grow and no claim was refused
+
+pub returns-then-not-is_branch-clause-eased : goal.returns-then-not-is_branch-clause-eased
+returns-then-not-is_branch-clause-eased g c = λ none eased grow. let b : Body = g.N.Node.body c.args.path.node.body in
+    absurd (no_leaf b c.args.place c.args.child (next_leads b c.args.place c.args.child c.node_law.ensures.sound (omega (arith, c.ranges.place)) c.requires.goes)
+    (length_edges b c.node_law.ensures.sound c.node_law.ensures.framed (c.unlinked_law.ensures.no_link c.args.path.node.body))
+    ((c.unlinked_law.ensures.adopting grow.1 c.args.path.node.body).bare (sym c.is_branch.ensures ∙ c.if-not-is_branch.true)))
+
+pub returns-then-not-is_full-clause-eased : goal.returns-then-not-is_full-clause-eased
+returns-then-not-is_full-clause-eased g c = λ none eased grow. room_above g.N.Node.layout g.N.Node.body c.down-then-not-is_full.result.parent (Some c.args.path.node) c.down-then-not-is_full.ensures.above (sym c.is_full.ensures ∙ c.if-not-is_full.true)
+
+pub returns-in-Split-clause-eased : goal.returns-in-Split-clause-eased
+returns-in-Split-clause-eased g c = λ none eased grow. subst (λ (o : Option (Hand g.row.N.Denot)). HasRoomAbove g.N.Node.layout g.N.Node.body o) (sym (c.in-Split.ensures.halves grow.2).1) tt
+
+pub returns-in-Refused-clause-eased : goal.returns-in-Refused-clause-eased
+returns-in-Refused-clause-eased g c = λ none eased grow. absurd (let z : ⊥ = cc in z)
+
+pub returns-in-Shut-clause-eased : goal.returns-in-Shut-clause-eased
+returns-in-Shut-clause-eased g c = λ none eased grow. absurd (c.in-Shut.ensures.open (λ branch. grow) (λ all. eased all) tt)

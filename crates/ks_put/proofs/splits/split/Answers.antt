@@ -6,7 +6,6 @@ use Rattle.ks_shape.specs.OnPath.{IsOnPath}
 use Rattle.ks_node.specs.Room.{is_full}
 use Rattle.ks_arena.specs.declared.held.Held.{Held as Hand}
 use Rattle.ks_put.specs.Deeper.{IsDownPath}
-use Rattle.ks_shape.specs.Does.{MayFill}
 use Rattle.ks_shape.specs.Laws.Does.{fills_search}
 use Rattle.ks_put.proofs.splits.split.Goals as goal
 

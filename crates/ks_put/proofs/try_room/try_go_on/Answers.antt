@@ -14,7 +14,6 @@ use Rattle.ks_put.specs.Tries.{StepOrCause}
 use Rattle.ks_put.proofs.Going.{on_was}
 use Rattle.ks_put.proofs.Trying.{refused_before, refused_now, eased_down, nearer_down, no_leaf}
 use Rattle.ks_arena.specs.Sound.{sort_of}
-use Rattle.ks_shape.specs.Does.{MayFill, MustSplit}
 use Rattle.ks_shape.specs.Laws.Does.{fills_search, searched_fills}
 use Rattle.ks_put.proofs.try_room.try_go_on.Goals as goal
 
@@ -50,7 +49,7 @@ pub returns-then-not-is_branch-clause-refused : goal.returns-then-not-is_branch-
 returns-then-not-is_branch-clause-refused g c = refused_before c.args.path.node c.args.depth c.args.refused (NoneFree g.N.Node.layout c.args.arena.now.nodes c.args.pass.now.caller c.args.place (seen_of c.args.pass.now) (seen_of c.try_down.new.pass)) c.try_down.result c.try_down.ensures.went
 
 pub returns-then-not-is_branch-clause-eased : goal.returns-then-not-is_branch-clause-eased
-returns-then-not-is_branch-clause-eased g c = λ ways eased. let b : Body = g.N.Node.body c.args.path.node.body in
+returns-then-not-is_branch-clause-eased g c = λ eased. let b : Body = g.N.Node.body c.args.path.node.body in
     eased_down g.N.Node.layout g.N.Node.body c.args.path.node c.args.depth c.args.refused (GrowAll g.N.Node.grows_at g.N.Node.body g.N.Node.branches_adopt g.N.Node.halves_have_room) c.try_down.result c.try_down.ensures.went
     (λ r grow. absurd (no_leaf b c.args.place c.args.child (next_leads b c.args.place c.args.child c.node_law.ensures.sound (omega (arith, c.ranges.place)) c.requires.goes)
     (length_edges b c.node_law.ensures.sound c.node_law.ensures.framed (c.unlinked_law.ensures.no_link c.args.path.node.body))
@@ -63,20 +62,20 @@ pub returns-then-not-is_full-clause-refused : goal.returns-then-not-is_full-clau
 returns-then-not-is_full-clause-refused g c = refused_before c.args.path.node c.args.depth c.args.refused (NoneFree g.N.Node.layout c.args.arena.now.nodes c.args.pass.now.caller c.args.place (seen_of c.args.pass.now) (seen_of c.try_down-then-not-is_full.new.pass)) c.try_down-then-not-is_full.result c.try_down-then-not-is_full.ensures.went
 
 pub returns-then-not-is_full-clause-eased : goal.returns-then-not-is_full-clause-eased
-returns-then-not-is_full-clause-eased g c = λ ways eased. eased_down g.N.Node.layout g.N.Node.body c.args.path.node c.args.depth c.args.refused (GrowAll g.N.Node.grows_at g.N.Node.body g.N.Node.branches_adopt g.N.Node.halves_have_room) c.try_down-then-not-is_full.result c.try_down-then-not-is_full.ensures.went
+returns-then-not-is_full-clause-eased g c = λ eased. eased_down g.N.Node.layout g.N.Node.body c.args.path.node c.args.depth c.args.refused (GrowAll g.N.Node.grows_at g.N.Node.body g.N.Node.branches_adopt g.N.Node.halves_have_room) c.try_down-then-not-is_full.result c.try_down-then-not-is_full.ensures.went
     (λ r grow. sym c.is_full.ensures ∙ c.if-not-is_full.true)
 
 pub returns-then-not-is_full-clause-nearer : goal.returns-then-not-is_full-clause-nearer
 returns-then-not-is_full-clause-nearer g c = nearer_down g.N.Node.layout g.N.Node.body c.args.place c.args.path.node c.args.depth c.args.refused c.args.path c.try_down-then-not-is_full.result c.try_down-then-not-is_full.ensures.went
 
 pub returns-in-Split-clause-eased : goal.returns-in-Split-clause-eased
-returns-in-Split-clause-eased g c = λ ways eased r grow. subst (λ (o : Option (Hand g.row.N.Denot)). HasRoomAbove g.N.Node.layout g.N.Node.body o) (sym (c.in-Split.ensures.halves grow.2).1) tt
+returns-in-Split-clause-eased g c = λ eased r grow. subst (λ (o : Option (Hand g.row.N.Denot)). HasRoomAbove g.N.Node.layout g.N.Node.body o) (sym (c.in-Split.ensures.halves grow.2).1) tt
 
 pub returns-in-Split-clause-nearer : goal.returns-in-Split-clause-nearer
 returns-in-Split-clause-nearer g c = inr (refl, c.in-Split.ensures.narrows)
 
 pub returns-in-Refused-clause-eased : goal.returns-in-Refused-clause-eased
-returns-in-Refused-clause-eased g c = λ ways eased. eased_down g.N.Node.layout g.N.Node.body c.in-Refused.whole.node c.args.depth true (GrowAll g.N.Node.grows_at g.N.Node.body g.N.Node.branches_adopt g.N.Node.halves_have_room) c.try_down-in-Refused.result c.try_down-in-Refused.ensures.went
+returns-in-Refused-clause-eased g c = λ eased. eased_down g.N.Node.layout g.N.Node.body c.in-Refused.whole.node c.args.depth true (GrowAll g.N.Node.grows_at g.N.Node.body g.N.Node.branches_adopt g.N.Node.halves_have_room) c.try_down-in-Refused.result c.try_down-in-Refused.ensures.went
     (λ r grow. absurd (let z : ⊥ = cc in z))
 
 pub returns-in-Refused-clause-nearer : goal.returns-in-Refused-clause-nearer
@@ -86,8 +85,8 @@ pub returns-in-Shut-clause-refused : goal.returns-in-Shut-clause-refused
 returns-in-Shut-clause-refused g c = refused_before c.in-Shut.whole.node c.args.depth c.args.refused (NoneFree g.N.Node.layout c.args.arena.now.nodes c.args.pass.now.caller c.args.place (seen_of c.args.pass.now) (seen_of c.try_down-in-Shut.new.pass)) c.try_down-in-Shut.result c.try_down-in-Shut.ensures.went
 
 pub returns-in-Shut-clause-eased : goal.returns-in-Shut-clause-eased
-returns-in-Shut-clause-eased g c = λ ways eased. eased_down g.N.Node.layout g.N.Node.body c.in-Shut.whole.node c.args.depth c.args.refused (GrowAll g.N.Node.grows_at g.N.Node.body g.N.Node.branches_adopt g.N.Node.halves_have_room) c.try_down-in-Shut.result c.try_down-in-Shut.ensures.went
-    (λ r grow. absurd (c.in-Shut.ensures.open ways (λ branch. grow) (λ all. eased r all) tt))
+returns-in-Shut-clause-eased g c = λ eased. eased_down g.N.Node.layout g.N.Node.body c.in-Shut.whole.node c.args.depth c.args.refused (GrowAll g.N.Node.grows_at g.N.Node.body g.N.Node.branches_adopt g.N.Node.halves_have_room) c.try_down-in-Shut.result c.try_down-in-Shut.ensures.went
+    (λ r grow. absurd (c.in-Shut.ensures.open (λ branch. grow) (λ all. eased r all) tt))
 
 pub returns-in-Shut-clause-nearer : goal.returns-in-Shut-clause-nearer
 returns-in-Shut-clause-nearer g c = nearer_down g.N.Node.layout g.N.Node.body c.args.place c.in-Shut.whole.node c.args.depth c.args.refused c.args.path c.try_down-in-Shut.result c.try_down-in-Shut.ensures.went

@@ -1,30 +1,29 @@
-use Rattle.std.proofs.Common.{◌≡◌, ◌∙◌, ℕ, suc, true, false, [], refl, sym, ap, subst, inl, inr, arith}
+use Rattle.std.proofs.Common.{◌≡◌, ◌∙◌, ℕ, suc, true, false, [], refl, sym, subst, inl, inr, arith}
 use Rattle.std.specs.Prelude.{Option}
 use Rattle.ks_keysets.specs.Layout.{Layout}
 use Rattle.ks_history.specs.declared.Event.TheVariants.{Take}
 use Rattle.ks_history.specs.Descent.{TookSince}
 use Rattle.ks_history.specs.Passes.{GrowsWith}
+use Rattle.ks_history.specs.Done.{coupling}
 use Rattle.ks_history.specs.Own.{hand}
 use Rattle.ks_arena.specs.declared.held.Held.{Held as Hand}
 use Rattle.ks_arena.specs.Sound.{sort_of}
 use Rattle.ks_arena.specs.Clauses.{seen_of}
 use Rattle.ks_shape.specs.Laws.Stretches.{stretches_as, stretches_both, stretches_on}
-use Rattle.ks_shape.specs.declared.path.Path.{Path}
 use Rattle.ks_shape.specs.Stretches.{Stretches}
+use Rattle.ks_shape.specs.Descents.{IsCauseAt}
 use Rattle.ks_shape.specs.Down.{IsDown}
 use Rattle.ks_shape.specs.Laws.Down.{down_root}
 use Rattle.ks_put.specs.Deeper.{IsDownPath, StandsDown}
 use Rattle.ks_shape.specs.OnPath.{IsOnPath}
 use Rattle.ks_put.specs.Parts.{HasRoomAbove}
-use Rattle.ks_put.specs.Tries.{IsPutOffBy}
 use Rattle.ks_put.proofs.Going.{on_was, new_was, found_none, found_room}
 use Rattle.ks_put.specs.Narrows.{cuts_left}
 use Rattle.ks_put.proofs.Narrowing.{less_on, less_split}
-use Rattle.ks_put.proofs.Trying.{path_leaf, put_off}
+use Rattle.ks_put.proofs.Trying.{path_leaf}
 use Rattle.ks_shape.specs.Does.{DoesOnly, MayFill}
 use Rattle.ks_shape.specs.Laws.Does.{fills_on, fills_search, searched_fills}
 use Rattle.ks_put.proofs.try_room.try_make_room.Goals as goal
-use Rattle.ks_node.specs.Room.{in_place}
 
 pub loop-child-init : goal.loop-child-init
 loop-child-init g c = let sort = sort_of g.N.Node.layout g.N.Node.ranged in let n : ℕ = c.args.arena.now.nodes in let me : ℕ = c.args.pass.now.caller in let s = seen_of c.args.pass.now in let b : ℕ = c.try_enter.new.pass.caller in let k = seen_of c.try_enter.new.pass in let e = c.try_enter.ensures in let x = c.in-Ok.root in let o = c.in-Ok.ensures in (
@@ -36,7 +35,7 @@ loop-child-init g c = let sort = sort_of g.N.Node.layout g.N.Node.ranged in let 
   (λ start took. subst (λ (y : Option (Hand g.row.N.Denot)). StandsDown n b start k 1 2 0 x.node y) (sym o.root) (subst (λ (i : ℕ). IsDown n b start k 1 2 0 i) (sym o.took.0)
       (down_root n b start s k 1 (subst (λ (z : ℕ). GrowsWith z (Take z 0) s k) (sym e.caller) o.took.1) took))),
   omega arith,
-  (λ ways r grow. subst (λ (y : Option (Hand g.row.N.Denot)). HasRoomAbove g.N.Node.layout g.N.Node.body y) (sym o.root) tt),
+  (λ r grow. subst (λ (y : Option (Hand g.row.N.Denot)). HasRoomAbove g.N.Node.layout g.N.Node.body y) (sym o.root) tt),
   subst (λ (z : ℕ). DoesOnly (MayFill (sort_of g.N.Node.layout g.N.Node.ranged) c.args.place) z s k) (sym e.caller) (searched_fills (sort_of g.N.Node.layout g.N.Node.ranged) c.args.place me s k e.leaves),
 )
 
@@ -50,7 +49,7 @@ loop-child-preserved-in-Ok-try_go_on g c = let layout : Layout = g.N.Node.layout
       (λ told. elim (e.refused told) [ inl old ↦ on_was layout n place a b s h k e.caller e.stretch (inv.4 old) | inr new ↦ new_was layout n place a b s h k e.caller inv.3 new ]),
       (λ start took. subst (λ (z : ℕ). IsDownPath n z start k (suc deeper) 2 deeper y) (sym e.caller) (e.down start (inv.5 start (subst (λ (z : ℕ). TookSince z start s 0 1) e.caller took)))),
       e.near,
-      (λ ways. e.eased ways (inv.7 ways)),
+      e.eased inv.7,
       fills_on (sort_of g.N.Node.layout g.N.Node.ranged) place a b s h k e.caller inv.8 e.fills,
     )
 
@@ -67,7 +66,7 @@ loop-child-preserved g c = let layout : Layout = g.N.Node.layout in let n : ℕ 
       (λ told. on_was layout n place a b s h k e.caller e.stretch (inv.4 told)),
       (λ start took. subst (λ (z : ℕ). IsDownPath n z start k (suc depth) 2 depth y) (sym e.caller) (c.in-Split.ensures.down start (suc depth) 2 depth (inv.5 start (subst (λ (z : ℕ). TookSince z start s 0 1) e.caller took)))),
       inv.6,
-      (λ ways r grow. subst (λ (o : Option (Hand g.row.N.Denot)). HasRoomAbove layout g.N.Node.body o) (sym (c.in-Split.ensures.halves grow.2).1) tt),
+      (λ r grow. subst (λ (o : Option (Hand g.row.N.Denot)). HasRoomAbove layout g.N.Node.body o) (sym (c.in-Split.ensures.halves grow.2).1) tt),
       fills_on (sort_of g.N.Node.layout g.N.Node.ranged) place a b s h k e.caller inv.8 (e.fills (let none = c.has_room.ensures.none c.if-has_room.false in (none.1, λ leaf. none.0))),
     )
 
@@ -77,12 +76,12 @@ loop-child-smaller g c = less_split c.args.arena.now.nodes c.loop-child.depth c.
 -- put off
 
 pub returns-in-Err-clause-cause : goal.returns-in-Err-clause-cause
-returns-in-Err-clause-cause g c = λ start took. put_off (in_place g.N.Node.layout ≡ false) c.args.arena.now.nodes c.args.pass.now.caller c.args.place start (seen_of c.try_enter.new.pass) c.in-Err.later (c.in-Err.ensures.busy start took.grows)
+returns-in-Err-clause-cause g c = λ start took. c.in-Err.ensures.busy start took.grows
 
 pub returns-in-Err-try_go_on-clause-cause : goal.returns-in-Err-try_go_on-clause-cause
 returns-in-Err-try_go_on-clause-cause g c = λ start took. let n : ℕ = c.args.arena.now.nodes in let s = seen_of c.args.pass.now in let k = seen_of c.try_go_on.new.pass in let inv = c.loop-child.invariant in
-    subst (λ (z : ℕ). IsPutOffBy (in_place g.N.Node.layout ≡ false) n z c.args.place start k c.in-Err-try_go_on.later) inv.1
-    (put_off (in_place g.N.Node.layout ≡ false) n c.loop-child.pass.caller c.args.place start k c.in-Err-try_go_on.later (c.in-Err-try_go_on.ensures.down start (inv.5 start (subst (λ (z : ℕ). TookSince z start s 0 1) (sym inv.1) took))))
+    subst (λ (z : ℕ). IsCauseAt coupling n z c.args.place start k c.in-Err-try_go_on.later) inv.1
+    (c.in-Err-try_go_on.ensures.down start (inv.5 start (subst (λ (z : ℕ). TookSince z start s 0 1) (sym inv.1) took)))
 
 pub returns-in-Err-try_go_on-clause-room : goal.returns-in-Err-try_go_on-clause-room
 returns-in-Err-try_go_on-clause-room g c = subst (λ (z : ℕ). hand z (seen_of c.try_go_on.new.pass) ≡ []) c.loop-child.invariant.1 c.in-Err-try_go_on.ensures.path
@@ -103,37 +102,33 @@ returns-then-has_room-clause-stretch g c = let me : ℕ = c.args.pass.now.caller
 
 pub returns-in-Refused-clause-room : goal.returns-in-Refused-clause-room
 returns-in-Refused-clause-room g c = let layout : Layout = g.N.Node.layout in let n : ℕ = c.args.arena.now.nodes in let place : ℕ = c.args.place in let me : ℕ = c.args.pass.now.caller in let a : ℕ = c.loop-child.pass.caller in let s = seen_of c.args.pass.now in let h = seen_of c.loop-child.pass in let inv = c.loop-child.invariant in let e₁ = c.split.ensures in let b : ℕ = c.split.new.pass.caller in let m = seen_of c.split.new.pass in let e = c.come_to_end-in-Refused.ensures in let k = seen_of c.come_to_end-in-Refused.new.pass in
-    found_none (sort_of g.N.Node.layout g.N.Node.ranged) g.N.Node.body n place me c.come_to_end-in-Refused.new.pass.caller s k c.loop-child.path.node c.come_to_end-in-Refused.result (e.caller ∙ e₁.caller ∙ inv.1) (e.node ∙ ap (λ (x : Path g.row.N.Denot). x.node) c.in-Refused.ensures.part.0) e.ends (c.has_room.ensures.none c.if-has_room.false)
+    found_none (sort_of g.N.Node.layout g.N.Node.ranged) g.N.Node.body n place me c.come_to_end-in-Refused.new.pass.caller s k c.loop-child.path.node c.come_to_end-in-Refused.result (e.caller ∙ e₁.caller ∙ inv.1) (e.node ∙ c.in-Refused.ensures.part.0) e.ends (c.has_room.ensures.none c.if-has_room.false)
     (on_was layout n place b me s m k (sym (e₁.caller ∙ inv.1)) e.stretch (new_was layout n place a b s h m e₁.caller inv.3 c.in-Refused.ensures.part.2))
 
 pub returns-in-Refused-clause-stretch : goal.returns-in-Refused-clause-stretch
 returns-in-Refused-clause-stretch g c = let me : ℕ = c.args.pass.now.caller in let a : ℕ = c.loop-child.pass.caller in let s = seen_of c.args.pass.now in let h = seen_of c.loop-child.pass in let inv = c.loop-child.invariant in let e = c.split.ensures in let b : ℕ = c.split.new.pass.caller in let m = seen_of c.split.new.pass in let k = seen_of c.come_to_end-in-Refused.new.pass in
     stretches_as me b s k (e.caller ∙ inv.1) (stretches_both b s m k (stretches_on a b s h m e.caller inv.3 e.stretch) c.come_to_end-in-Refused.ensures.stretch)
 
-pub returns-then-refused-clause-room : goal.returns-then-refused-clause-room
-returns-then-refused-clause-room g c = let layout : Layout = g.N.Node.layout in let n : ℕ = c.args.arena.now.nodes in let place : ℕ = c.args.place in let me : ℕ = c.args.pass.now.caller in let a : ℕ = c.loop-child.pass.caller in let s = seen_of c.args.pass.now in let h = seen_of c.loop-child.pass in let inv = c.loop-child.invariant in let e₁ = c.split.ensures in let b : ℕ = c.split.new.pass.caller in let m = seen_of c.split.new.pass in let e = c.come_to_end-then-refused.ensures in let k = seen_of c.come_to_end-then-refused.new.pass in
-    found_none (sort_of g.N.Node.layout g.N.Node.ranged) g.N.Node.body n place me c.come_to_end-then-refused.new.pass.caller s k c.loop-child.path.node c.come_to_end-then-refused.result (e.caller ∙ e₁.caller ∙ inv.1) (e.node ∙ ap (λ (x : Path g.row.N.Denot). x.node) c.in-Shut.ensures.part.0) e.ends (c.has_room.ensures.none c.if-has_room.false)
-    (on_was layout n place b me s m k (sym (e₁.caller ∙ inv.1)) e.stretch (on_was layout n place a b s h m e₁.caller e₁.stretch (inv.4 c.if-refused.true)))
+pub returns-in-Shut-clause-room : goal.returns-in-Shut-clause-room
+returns-in-Shut-clause-room g c = let layout : Layout = g.N.Node.layout in let n : ℕ = c.args.arena.now.nodes in let place : ℕ = c.args.place in let me : ℕ = c.args.pass.now.caller in let a : ℕ = c.loop-child.pass.caller in let s = seen_of c.args.pass.now in let h = seen_of c.loop-child.pass in let inv = c.loop-child.invariant in let e₁ = c.split.ensures in let b : ℕ = c.split.new.pass.caller in let m = seen_of c.split.new.pass in let e = c.come_to_end-in-Shut.ensures in let k = seen_of c.come_to_end-in-Shut.new.pass in
+    found_none (sort_of g.N.Node.layout g.N.Node.ranged) g.N.Node.body n place me c.come_to_end-in-Shut.new.pass.caller s k c.loop-child.path.node c.come_to_end-in-Shut.result (e.caller ∙ e₁.caller ∙ inv.1) (e.node ∙ c.in-Shut.ensures.part.0) e.ends (c.has_room.ensures.none c.if-has_room.false)
+    (on_was layout n place b me s m k (sym (e₁.caller ∙ inv.1)) e.stretch (on_was layout n place a b s h m e₁.caller e₁.stretch (inv.4 c.if-not-refused.false)))
 
-pub returns-then-refused-clause-stretch : goal.returns-then-refused-clause-stretch
-returns-then-refused-clause-stretch g c = let me : ℕ = c.args.pass.now.caller in let a : ℕ = c.loop-child.pass.caller in let s = seen_of c.args.pass.now in let h = seen_of c.loop-child.pass in let inv = c.loop-child.invariant in let e = c.split.ensures in let b : ℕ = c.split.new.pass.caller in let m = seen_of c.split.new.pass in let k = seen_of c.come_to_end-then-refused.new.pass in
-    stretches_as me b s k (e.caller ∙ inv.1) (stretches_both b s m k (stretches_on a b s h m e.caller inv.3 e.stretch) c.come_to_end-then-refused.ensures.stretch)
+pub returns-in-Shut-clause-stretch : goal.returns-in-Shut-clause-stretch
+returns-in-Shut-clause-stretch g c = let me : ℕ = c.args.pass.now.caller in let a : ℕ = c.loop-child.pass.caller in let s = seen_of c.args.pass.now in let h = seen_of c.loop-child.pass in let inv = c.loop-child.invariant in let e = c.split.ensures in let b : ℕ = c.split.new.pass.caller in let m = seen_of c.split.new.pass in let k = seen_of c.come_to_end-in-Shut.new.pass in
+    stretches_as me b s k (e.caller ∙ inv.1) (stretches_both b s m k (stretches_on a b s h m e.caller inv.3 e.stretch) c.come_to_end-in-Shut.ensures.stretch)
 
 -- a node with no room is full
 
 pub split-requires-clause-full : goal.split-requires-clause-full
 split-requires-clause-full g c = (c.has_room.ensures.none c.if-has_room.false).1
 
--- no way is left to split the node, though no claim was refused
+-- there is a way to split the node where the search ends, unless a claim was refused
 
-pub returns-in-Shut-clause-cause : goal.returns-in-Shut-clause-cause
-returns-in-Shut-clause-cause g c = λ start took op touched. let sort = sort_of g.N.Node.layout g.N.Node.ranged in let slots : ℕ = c.args.arena.now.table.shared.table_id.slots in let h = seen_of c.loop-child.pass in let inv = c.loop-child.invariant in
+pub unreachable-requires : goal.unreachable-requires
+unreachable-requires g c = let sort = sort_of g.N.Node.layout g.N.Node.ranged in let slots : ℕ = c.args.arena.now.table.shared.table_id.slots in let h = seen_of c.loop-child.pass in let inv = c.loop-child.invariant in
     let leaf = path_leaf sort g.N.Node.body c.loop-child.pass.caller c.args.place h c.loop-child.path inv.2 ((c.search_law.ensures sort slots).facts h inv.0.sound) (omega (arith, c.ranges.place)) c.node_law.ensures.sound (sym c.next.ensures ∙ c.in-Here.is) in
-    (tt, λ ways. absurd (c.in-Shut.ensures.open ways (λ branch. absurd (let q : true ≡ false = sym branch ∙ leaf in let z : ⊥ = cc in z)) (λ grow. inv.7 ways c.if-refused.false grow) tt))
-
-pub returns-in-Shut-clause-stretch : goal.returns-in-Shut-clause-stretch
-returns-in-Shut-clause-stretch g c = let me : ℕ = c.args.pass.now.caller in let a : ℕ = c.loop-child.pass.caller in let s = seen_of c.args.pass.now in let h = seen_of c.loop-child.pass in let inv = c.loop-child.invariant in let e = c.split.ensures in let b : ℕ = c.split.new.pass.caller in let m = seen_of c.split.new.pass in let k = seen_of c.let_all_go.new.pass in
-    stretches_as me b s k (e.caller ∙ inv.1) (stretches_both b s m k (stretches_on a b s h m e.caller inv.3 e.stretch) c.let_all_go.ensures.stretch)
+    c.in-Shut.ensures.open (λ branch. absurd (let q : true ≡ false = sym branch ∙ leaf in let z : ⊥ = cc in z)) (λ grow. inv.7 c.if-not-refused.true grow) tt
 
 -- the kinds of its events
 
@@ -152,10 +147,6 @@ pub returns-in-Refused-clause-fills : goal.returns-in-Refused-clause-fills
 returns-in-Refused-clause-fills g c = let a : ℕ = c.loop-child.pass.caller in let s = seen_of c.args.pass.now in let h = seen_of c.loop-child.pass in let inv = c.loop-child.invariant in let e = c.split.ensures in let b : ℕ = c.split.new.pass.caller in let m = seen_of c.split.new.pass in let k = seen_of c.come_to_end-in-Refused.new.pass in
     subst (λ (z : ℕ). DoesOnly (MayFill (sort_of g.N.Node.layout g.N.Node.ranged) c.args.place) z s k) (e.caller ∙ inv.1) (fills_search (sort_of g.N.Node.layout g.N.Node.ranged) c.args.place b b s m k refl (fills_on (sort_of g.N.Node.layout g.N.Node.ranged) c.args.place a b s h m e.caller inv.8 (e.fills (let none = c.has_room.ensures.none c.if-has_room.false in (none.1, λ leaf. none.0)))) c.come_to_end-in-Refused.ensures.leaves)
 
-pub returns-then-refused-clause-fills : goal.returns-then-refused-clause-fills
-returns-then-refused-clause-fills g c = let a : ℕ = c.loop-child.pass.caller in let s = seen_of c.args.pass.now in let h = seen_of c.loop-child.pass in let inv = c.loop-child.invariant in let e = c.split.ensures in let b : ℕ = c.split.new.pass.caller in let m = seen_of c.split.new.pass in let k = seen_of c.come_to_end-then-refused.new.pass in
-    subst (λ (z : ℕ). DoesOnly (MayFill (sort_of g.N.Node.layout g.N.Node.ranged) c.args.place) z s k) (e.caller ∙ inv.1) (fills_search (sort_of g.N.Node.layout g.N.Node.ranged) c.args.place b b s m k refl (fills_on (sort_of g.N.Node.layout g.N.Node.ranged) c.args.place a b s h m e.caller inv.8 (e.fills (let none = c.has_room.ensures.none c.if-has_room.false in (none.1, λ leaf. none.0)))) c.come_to_end-then-refused.ensures.leaves)
-
 pub returns-in-Shut-clause-fills : goal.returns-in-Shut-clause-fills
-returns-in-Shut-clause-fills g c = let a : ℕ = c.loop-child.pass.caller in let s = seen_of c.args.pass.now in let h = seen_of c.loop-child.pass in let inv = c.loop-child.invariant in let e = c.split.ensures in let b : ℕ = c.split.new.pass.caller in let m = seen_of c.split.new.pass in let k = seen_of c.let_all_go.new.pass in
-    subst (λ (z : ℕ). DoesOnly (MayFill (sort_of g.N.Node.layout g.N.Node.ranged) c.args.place) z s k) (e.caller ∙ inv.1) (fills_search (sort_of g.N.Node.layout g.N.Node.ranged) c.args.place b b s m k refl (fills_on (sort_of g.N.Node.layout g.N.Node.ranged) c.args.place a b s h m e.caller inv.8 (e.fills (let none = c.has_room.ensures.none c.if-has_room.false in (none.1, λ leaf. none.0)))) c.let_all_go.ensures.leaves)
+returns-in-Shut-clause-fills g c = let a : ℕ = c.loop-child.pass.caller in let s = seen_of c.args.pass.now in let h = seen_of c.loop-child.pass in let inv = c.loop-child.invariant in let e = c.split.ensures in let b : ℕ = c.split.new.pass.caller in let m = seen_of c.split.new.pass in let k = seen_of c.come_to_end-in-Shut.new.pass in
+    subst (λ (z : ℕ). DoesOnly (MayFill (sort_of g.N.Node.layout g.N.Node.ranged) c.args.place) z s k) (e.caller ∙ inv.1) (fills_search (sort_of g.N.Node.layout g.N.Node.ranged) c.args.place b b s m k refl (fills_on (sort_of g.N.Node.layout g.N.Node.ranged) c.args.place a b s h m e.caller inv.8 (e.fills (let none = c.has_room.ensures.none c.if-has_room.false in (none.1, λ leaf. none.0)))) c.come_to_end-in-Shut.ensures.leaves)

@@ -1,4 +1,3 @@
-use Rattle.std.proofs.Common.{◌≡◌, false}
 use Rattle.ks_arena.specs.Sound.{sort_of}
 use Rattle.ks_arena.specs.Clauses.{IsPass, seen_of}
 use Rattle.ks_flow.specs.Discipline.{BeginsTree, TreeStep}
@@ -7,11 +6,10 @@ use Rattle.ks_put.specs.Parts.{GrowAll}
 use Rattle.ks_put.proofs.Narrowing.{way_left}
 use Rattle.ks_put.proofs.Trying.{TurnAt}
 use Rattle.ks_put.proofs.try_room.try_make_room.Given as goal
-use Rattle.ks_node.specs.Room.{in_place}
 
 abbrev pub invariant-loop-child : goal.invariant-loop-child
 invariant-loop-child g l =
-    TurnAt (sort_of g.N.Node.layout g.N.Node.ranged) g.N.Node.body (in_place g.N.Node.layout ≡ false) (GrowAll g.N.Node.grows_at g.N.Node.body g.N.Node.branches_adopt g.N.Node.halves_have_room)
+    TurnAt (sort_of g.N.Node.layout g.N.Node.ranged) g.N.Node.body (GrowAll g.N.Node.grows_at g.N.Node.body g.N.Node.branches_adopt g.N.Node.halves_have_room)
     (λ p. IsPass (sort_of g.N.Node.layout g.N.Node.ranged) BeginsTree TreeStep l.arena.table.shared.table_id l.arena.callers p) l.arena.nodes l.fn.pass.caller l.place (seen_of l.fn.pass) l.pass l.path l.depth l.refused
 
 abbrev pub decreases-loop-child : goal.decreases-loop-child

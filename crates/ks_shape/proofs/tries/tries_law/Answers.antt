@@ -12,7 +12,6 @@ use Rattle.ks_shape.specs.declared.answers.Later.{Later}
 use Rattle.ks_shape.specs.declared.answers.Later.TheVariants.{Busy, Moved, Far}
 use Rattle.ks_shape.specs.declared.answers.PutLater.{PutLater}
 use Rattle.ks_shape.specs.declared.answers.PutLater.TheVariants.{Full, Later as Otherwise}
-use Rattle.ks_shape.specs.Ends.{EndsPut, IsCauseButFar}
 use Rattle.ks_shape.specs.Tries.{IsCause, Tried, TriedPut, IsDoneIn, MayTell, PutMayTell}
 use Rattle.ks_shape.proofs.tries.tries_law.Goals as goal
 
@@ -39,15 +38,10 @@ told_try : (layout : Layout) (template : Template) (n c : ℕ) (op : Op) (s0 s1 
 told_try layout template n c op s0 s1 (Ok answer) so = tt
 told_try layout template n c op s0 s1 (Err later) so = told_cause template n c op s0 s1 later so.cause
 
-told_but_far : (template : Template) (c : ℕ) (op : Op) (s0 s1 : List Event) (later : Later) → IsCauseButFar template c op s0 s1 later → MayTell template (Err later)
-told_but_far template c op s0 s1 (Busy node holder) due = tt
-told_but_far template c op s0 s1 (Moved node) due = due.0
-told_but_far template c op s0 s1 Far due = due
-
-told_put : (layout : Layout) (template : Template) (n c : ℕ) (op : Op) (s0 s1 : List Event) (answer : Result Numbered PutLater) → EndsPut layout template n c op s0 s1 answer → PutMayTell template answer
+told_put : (layout : Layout) (template : Template) (n c : ℕ) (op : Op) (s0 s1 : List Event) (answer : Result Numbered PutLater) → TriedPut layout template n c op s0 s1 answer → PutMayTell template answer
 told_put layout template n c op s0 s1 (Ok answer) so = tt
 told_put layout template n c op s0 s1 (Err (Full number)) so = tt
-told_put layout template n c op s0 s1 (Err (Otherwise later)) so = told_but_far template c op s0 s1 later so.1
+told_put layout template n c op s0 s1 (Err (Otherwise later)) so = told_cause template n c op s0 s1 later so.cause
 
 pub returns-clause-told : goal.returns-clause-told
 returns-clause-told c = told_try

@@ -1,10 +1,10 @@
 use Rattle.ks_dictionary.proofs.dictionary.Dictionary.try_put.Goals as goal
 
 pub returns-clause-never : goal.returns-clause-never
-returns-clause-never g c = c.tries_law.ensures.put_told _ _ _ _ _ _ _ _ c.try_put.ensures.ends
+returns-clause-never g c = c.tries_law.ensures.put_told _ _ _ _ _ _ _ _ c.try_put.ensures.tried
 
 pub returns-clause-alone : goal.returns-clause-alone
-returns-clause-alone g c = λ even alone holds. c.tries_law.ensures.put _ _ _ _ _ _ _ _ alone holds (c.try_put.ensures.tried even)
+returns-clause-alone g c = λ alone holds. c.tries_law.ensures.put _ _ _ _ _ _ _ _ alone holds c.try_put.ensures.tried
 
 pub returns-clause-reuse : goal.returns-clause-reuse
 returns-clause-reuse g c = c.reuse_law.ensures _ _ _ _ c.try_put.ensures.pass.0.sound
