@@ -107,8 +107,9 @@ pub fn swap<N: Unlinked, R: Wait, G: Gate>(
 }
 
 /// Deletes what is at a place; returns the value that was there, and the number of the call. It may merge low branches
-/// on the search path; if it removed a pair, it merges the node at its end while that is low. It claims no node and
-/// splits none. It holds three nodes at most.
+/// on the search path; if it removed a pair, it merges the node at its end while that is low, and in a type that grows in
+/// place it searches again until a search makes no node free. It claims no node and splits none. It holds three nodes at
+/// most.
 pub fn del<N: Unlinked, R: Wait, G: Gate>(
     rt: &R,
     arena: &Arena<N, Tree>,
@@ -124,6 +125,10 @@ pub fn del<N: Unlinked, R: Wait, G: Gate>(
     ensures tidy { result.found ≢ None → WasAlone pass.old pass.new → IsTidyOf arena.now pass.new place }
 {
     gate.at(pass.caller(), Point::Begin);
-    let Tidied { path, freed: _ } = come_down(rt, arena, pass, gate, place);
-    del_on(rt, arena, pass, gate, place, path)
+    let Tidied {
+        path,
+        freed: _,
+        any,
+    } = come_down(rt, arena, pass, gate, place);
+    del_on(rt, arena, pass, gate, place, any, path)
 }

@@ -1,5 +1,5 @@
 -- What releasing and taking nodes of a path ensure.
-use Rattle.std.proofs.Common.{◌≡◌, ◌∙◌, ℕ, List, sym, subst}
+use Rattle.std.proofs.Common.{ℕ, List, sym, subst}
 use Rattle.std.specs.Prelude.{Option, Some, None}
 use Rattle.ks_history.specs.declared.Event.{Event}
 use Rattle.ks_arena.specs.declared.held.Held.{Held as Hand}

@@ -1,5 +1,5 @@
 -- What stays of a path, and of the places of its nodes, as a caller takes, releases and decides.
-use Rattle.std.proofs.Common.{◌≡◌, ◌≢◌, ◌≤◌, ℕ, true, List, [], ◌∷◌, length, sym, refl, ap, ◌∙◌, subst, inl, inr, arith}
+use Rattle.std.proofs.Common.{◌≡◌, ◌≢◌, ◌≤◌, ℕ, true, List, ◌∷◌, length, sym, refl, ap, ◌∙◌, subst, inl, inr, arith}
 use Rattle.std.specs.Prelude.{Option, Some, None}
 use Rattle.ks_keysets.specs.Record.{LeadsTo}
 use Rattle.ks_history.specs.declared.Event.{Event}
@@ -20,6 +20,7 @@ use Rattle.ks_shape.specs.Laws.Beside.{beside_with}
 use Rattle.ks_shape.specs.Places.{HasPlacesOf}
 use Rattle.ks_shape.specs.OnPath.{IsUnder, numbers}
 use Rattle.ks_shape.specs.Laws.Search.{Laws}
+use Rattle.ks_tidy.specs.Pair.{TakesOver}
 
 pub drop_first : (i : ℕ) (xs : List ℕ) → drop_one i (i ∷ xs) ≡ xs
 drop_first i xs = cond_here i i xs (i ∷ drop_one i xs) refl
@@ -46,9 +47,14 @@ module _ {N : Type 0} where
   parent_apart j (Some z) once y e = λ same. let q : z ≡ y = cc in once.0 (inl (ap (λ (w : Hand N). w.node) q ∙ same))
 
 module _ {N : Type 0} (sort : Sort) (shows : N → Body) where
+  -- a node that takes over its child needs no parent
+  pub under_none : (p : ℕ) (x : Hand N) (h : List Event) → TakesOver sort.layout x.node → IsUnder sort shows p x h None
+  under_none p x h (inl root) = inl root
+  under_none p x h (inr on) = inr (inr on)
+
   -- the parent still leads to the node, if it shows what it did
-  pub under_with : (p : ℕ) (x x' : Hand N) (h k : List Event) (o : Option (Hand N)) → x'.node ≡ x.node → (o ≡ None → x.node ≡ 0) → ((y : Hand N) → o ≡ Some y → Matches sort shows h y → Matches sort shows k y) → IsUnder sort shows p x h o → IsUnder sort shows p x' k o
-  under_with p x x' h k None same rooted keep so = inl (same ∙ rooted refl)
+  pub under_with : (p : ℕ) (x x' : Hand N) (h k : List Event) (o : Option (Hand N)) → x'.node ≡ x.node → (o ≡ None → TakesOver sort.layout x.node) → ((y : Hand N) → o ≡ Some y → Matches sort shows h y → Matches sort shows k y) → IsUnder sort shows p x h o → IsUnder sort shows p x' k o
+  under_with p x x' h k None same rooted keep so = under_none p x' k (subst (TakesOver sort.layout) (sym same) (rooted refl))
   under_with p x x' h k (Some y) same rooted keep so = record { live = so.live; matches = keep y refl so.matches; leads = subst (λ (z : ℕ). LeadsTo (record_of (shows y.body)) p z) (sym same) so.leads }
 
   pub under_leads : (p : ℕ) (x y : Hand N) (h : List Event) (o : Option (Hand N)) → o ≡ Some y → IsUnder sort shows p x h o → LeadsTo (record_of (shows y.body)) p x.node

@@ -1,4 +1,5 @@
 pub mod Keeping
+pub mod Any
 pub mod Trio
 pub mod Standing
 pub mod Beside

@@ -31,7 +31,7 @@ use Rattle.ks_shape.specs.declared.path.Path.{Path}
 use Rattle.ks_shape.specs.OnPath.{IsUnder, numbers}
 use Rattle.ks_shape.specs.Frees.{Frees, Counts, Undisturbed}
 use Rattle.ks_shape.specs.Laws.Frees.{frees_both, frees_as, counts_both, counts_on, counts_as, undisturbed_first, undisturbed_then, undisturbed_same}
-use Rattle.ks_tidy.specs.Pair.{IsPair, IsNoSole}
+use Rattle.ks_tidy.specs.Pair.{IsPair, IsNoSole, IsWhole}
 use Rattle.ks_tidy.specs.Walking.{HasWideRoot, IsTightUpTo, TightUpTo}
 
 -- graphs with the same nodes
@@ -81,6 +81,7 @@ module _ {N : Type 0} (sort : Sort) (shows : N → Body) where
   pub record WalksTo (s : List Event) (p last : ℕ) (x : Path N) : Type 0 where
     pub comes : ComesTo sort.layout (graph_after s) (frame_after (blank_of sort) s) p last x.node.node
     pub root : HasWideRoot (graph_after s) (frame_after (blank_of sort) s) ⊎ IsBelowRoot x.parent
+    pub whole : IsWhole x
 
   -- and the node is tested: the root is, or it is the node
   pub record IsTested (s : List Event) (p last : ℕ) (x : Path N) : Type 0 where
@@ -88,6 +89,7 @@ module _ {N : Type 0} (sort : Sort) (shows : N → Body) where
     pub is : record_at (graph_after s) x.node.node ≡ Some (record_of (shows x.node.body))
     pub fits : FitsNoRight sort.layout (graph_after s) (frame_after (blank_of sort) s) x.node.node
     pub root : HasWideRoot (graph_after s) (frame_after (blank_of sort) s) ⊎ (x.parent ≡ None)
+    pub whole : IsWhole x
 
   stands : (h : List Event) (y : Hand N) → y.live ≡ true → Matches sort shows h y → IsPlain (shows y.body) → Stands (graph_after h) (frame_after (blank_of sort) h) y.node (shows y.body)
   stands h y live matches plain = record { has = record_is sort shows h y live matches; frame = (shown sort shows h y live matches).1; plain = plain }
@@ -97,13 +99,14 @@ module _ {N : Type 0} (sort : Sort) (shows : N → Body) where
   walk_begins s p x begins root = record {
     comes = subst (λ (n : ℕ). ComesTo sort.layout (graph_after s) (frame_after (blank_of sort) s) p top n) (sym root.1) begins;
     root = inr (subst (λ (o : Option (Hand N)). IsBelowRoot o) (sym root.0) tt);
+    whole = λ none. root.1;
   }
 
   -- the node is tested
   module _ (no_only_child : (g : ℕ → NodeState) (f : ℕ → Frame) (n : ℕ) (b : Body) → Stands g f n b → only_child_of b ≡ None → (r : Record) (m : ℕ) → record_at g n ≡ Some r → (f n).kind ≢ NoBranch → ¬ All (λ e. e.node ≡ m) r.edges) where
     root_now : (place : ℕ) (h : List Event) (x : Hand N) (o : Option (Hand N)) → IsUnder sort shows place x h o → IsBelowRoot o → IsNoSole sort shows o → HasWideRoot (graph_after h) (frame_after (blank_of sort) h) ⊎ (o ≡ None)
     root_now place h x None under below no_sole = inr refl
-    root_now place h x (Some y) under below no_sole = inl (no_only_child (graph_after h) (frame_after (blank_of sort) h) 0 (shows y.body) (subst (λ (n : ℕ). Stands (graph_after h) (frame_after (blank_of sort) h) n (shows y.body)) below.0 (stands h y under.live under.matches below.1)) (no_sole below.0))
+    root_now place h x (Some y) under below no_sole = inl (no_only_child (graph_after h) (frame_after (blank_of sort) h) 0 (shows y.body) (subst (λ (n : ℕ). Stands (graph_after h) (frame_after (blank_of sort) h) n (shows y.body)) below.0 (stands h y under.live under.matches below.1)) (no_sole (inl below.0)))
 
     pub walk_tests : (c p last : ℕ) (s k : List Event) (x : Path N) → Undisturbed c s k → WalksTo s p last x → IsPair sort shows c p k x → IsNoSole sort shows x.parent → FitsNoRight sort.layout (graph_after k) (frame_after (blank_of sort) k) x.node.node → IsTested s p last x
     walk_tests c p last s k x quiet walk pair no_sole fits =
@@ -120,18 +123,20 @@ module _ {N : Type 0} (sort : Sort) (shows : N → Body) where
               | inr none ↦ inr none
             ]
           ];
+          whole = walk.whole;
         }
 
   -- the walk goes down
   pub walk_down : (p last end child : ℕ) (s : List Event) (x y : Path N)
       → ((n m : ℕ) (r : Record) → ComesTo sort.layout (graph_after s) (frame_after (blank_of sort) s) p last n → record_at (graph_after s) n ≡ Some r → FitsNoRight sort.layout (graph_after s) (frame_after (blank_of sort) s) n → LeadsTo r p m → EndsRun r p last end → ComesTo sort.layout (graph_after s) (frame_after (blank_of sort) s) p end m)
-      → IsTested s p last x → LeadsTo (record_of (shows x.node.body)) p child → EndsRun (record_of (shows x.node.body)) p last end → IsPlain (shows x.node.body) → (x.parent ≡ None → x.node.node ≡ 0) → y.parent ≡ Some x.node → y.node.node ≡ child → WalksTo s p end y
-  walk_down p last end child s x y goes tested leads run plain rooted above at = record {
+      → IsTested s p last x → LeadsTo (record_of (shows x.node.body)) p child → EndsRun (record_of (shows x.node.body)) p last end → IsPlain (shows x.node.body) → y.parent ≡ Some x.node → y.node.node ≡ child → WalksTo s p end y
+  walk_down p last end child s x y goes tested leads run plain above at = record {
     comes = subst (λ (n : ℕ). ComesTo sort.layout (graph_after s) (frame_after (blank_of sort) s) p end n) (sym at) (goes x.node.node child (record_of (shows x.node.body)) tested.comes tested.is tested.fits leads run);
     root = elim tested.root [
       | inl wide ↦ inl wide
-      | inr none ↦ inr (subst (λ (o : Option (Hand N)). IsBelowRoot o) (sym above) (rooted none, plain))
+      | inr none ↦ inr (subst (λ (o : Option (Hand N)). IsBelowRoot o) (sym above) (tested.whole none, plain))
     ];
+    whole = λ none. absurd (let q : Some x.node ≡ None = sym above ∙ none in let z : ⊥ = cc in z);
   }
 
   -- the walk ends
@@ -147,7 +152,7 @@ module _ {N : Type 0} (sort : Sort) (shows : N → Body) where
       | inl wide ↦ wide
       | inr none ↦ (λ r m is branch. absurd (branch (
           let same : SameNodes (graph_after s) (frame_after (blank_of sort) s) (graph_after k) (frame_after (blank_of sort) k) = undisturbed_same c (blank_of sort) s k quiet in
-          let zero : x.node.node ≡ 0 = pair.rooted none in
+          let zero : x.node.node ≡ 0 = tested.whole none in
           let at : frame_after (blank_of sort) k x.node.node ≡ frame_of (shows x.node.body) = (shown sort shows k x.node pair.path.live pair.path.matches).1 in
           let kind : (frame_after (blank_of sort) k 0).kind ≡ NoBranch = subst (λ (n : ℕ). (frame_after (blank_of sort) k n).kind ≡ NoBranch) zero (ap (λ (z : Frame). z.kind) at ∙ no_branch (shows x.node.body).kind (unbranched none)) in
           sym (ap (λ (z : Frame). z.kind) (same.frames 0)) ∙ kind)))
@@ -161,13 +166,14 @@ pub tight_on : (sort : Sort) (c p : ℕ) (s k : List Event) → Undisturbed c s 
 tight_on sort c p s k quiet tight = tight_up_along (graph_after s) (graph_after k) (frame_after (blank_of sort) s) (frame_after (blank_of sort) k) (undisturbed_same c (blank_of sort) s k quiet) sort.layout p tight
 
 -- the node to which a walk came is visited from h to k
-module _ {N : Type 0} (sort : Sort) (shows : N → Body) (c p last a b : ℕ) (s h k : List Event) (x y : Path N) (made : Frees c s h a) (more : Frees c h k b) (walk : Undisturbed c s h → WalksTo sort shows s p last x) (same : Undisturbed c h k → y ≡ x) (fits : Undisturbed c h k → FitsNoRight sort.layout (graph_after k) (frame_after (blank_of sort) k) y.node.node) where
+module _ {N : Type 0} (sort : Sort) (shows : N → Body) (c p last a b : ℕ) (s h k : List Event) (x y : Path N) (made : Frees c s h a) (more : Frees c h k b) (walk : Undisturbed c s h → WalksTo sort shows s p last x) (same : Undisturbed c h k → y ≡ x) (fits : IsWhole y → Undisturbed c h k → FitsNoRight sort.layout (graph_after k) (frame_after (blank_of sort) k) y.node.node) where
   pub visit_tests : ((g : ℕ → NodeState) (f : ℕ → Frame) (n : ℕ) (b : Body) → Stands g f n b → only_child_of b ≡ None → (r : Record) (m : ℕ) → record_at g n ≡ Some r → (f n).kind ≢ NoBranch → ¬ All (λ e. e.node ≡ m) r.edges)
       → IsPair sort shows c p k y → IsNoSole sort shows y.parent → Undisturbed c s k → IsTested sort shows s p last y
   visit_tests no_only_child pair no_sole quiet =
       let early : Undisturbed c s h = undisturbed_first c a b s h k made more quiet in
       let late : Undisturbed c h k = undisturbed_then c a b s h k made more quiet in
-      walk_tests sort shows no_only_child c p last s k y quiet (subst (λ (z : Path N). WalksTo sort shows s p last z) (sym (same late)) (walk early)) pair no_sole (fits late)
+      let here : WalksTo sort shows s p last y = subst (λ (z : Path N). WalksTo sort shows s p last z) (sym (same late)) (walk early) in
+      walk_tests sort shows no_only_child c p last s k y quiet here pair no_sole (fits here.whole late)
 
 -- a stretch, one more, and one that makes none free
 pub quiet_before : (c a b : ℕ) (s h k m : List Event) → Frees c s h a → Frees c h k b → Frees c k m 0 → Undisturbed c s m → Undisturbed c s k

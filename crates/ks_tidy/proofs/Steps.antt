@@ -1,6 +1,6 @@
 -- What one try to merge implies of another.
-use Rattle.std.proofs.Common.{◌≡◌, ◌≢◌, ℕ, Bool, true, false, List, [], ◌∷◌, sym, refl, ap, ◌∙◌, subst, inl, inr}
-use Rattle.std.specs.Prelude.{Option, Some, None, All}
+use Rattle.std.proofs.Common.{◌≡◌, ℕ, Bool, true, List, sym, refl, ap, ◌∙◌, subst, inl}
+use Rattle.std.specs.Prelude.{Option, All}
 use Rattle.ks_keysets.specs.declared.Edge.{Edge}
 use Rattle.ks_keysets.specs.declared.NodeState.{NodeState}
 use Rattle.ks_keysets.specs.Record.{LeadsTo}
@@ -26,7 +26,7 @@ module _ {N : Type 0} (sort : Sort) (shows : N → Body) (c : ℕ) where
   -- what thorough work ensures, work of either kind does
   pub did_as : (h k : List Event) (thorough : Bool) (path : Path N) (r : Step N) → DidStep sort shows c h k true path r → DidStep sort shows c h k thorough path r
   did_as h k thorough path (Freed x) so = so
-  did_as h k thorough path (Rests x) so = record { same = so.same; frees = so.frees; no_sole = so.no_sole; tested = λ which. so.tested (inl refl) }
+  did_as h k thorough path (Rests x) so = record { same = so.same; frees = so.frees; no_sole = so.no_sole; tested = λ whole which. so.tested whole (inl refl) }
 
   -- of a path whose parent is stated in another way
   pub pair_as : (p : ℕ) (h : List Event) (x : Path N) (o : Option (Hand N)) → x.parent ≡ o → IsPair sort shows c p h x → IsPair sort shows c p h (record { parent = o; node = x.node })

@@ -74,7 +74,7 @@ module _ {N : Type 0} (sort : Sort) (shows : N → Body) (c : ℕ) (h h₁ k : L
     same = so.same;
     frees = frees_both c 0 0 h h₁ k before so.frees;
     no_sole = so.no_sole;
-    tested = λ which alone. so.tested which (alone_then c h h₁ k (frees_begins c h h₁ before) (frees_begins c h₁ k so.frees) alone);
+    tested = λ whole which alone. so.tested whole which (alone_then c h h₁ k (frees_begins c h h₁ before) (frees_begins c h₁ k so.frees) alone);
   }
 
   pub frees_after : (r : Step N) → Frees c h h₁ 0 → DidStep sort shows c h₁ k true path r → Frees c h k (count_in r)

@@ -24,10 +24,11 @@ module _ {N D P : Type 0} {n : NodeGhosts N P} {q : PlacingGhosts P} {d : Discip
   abbrev pub FitsNone : Arena N D P n q d → Pass N D → ℕ → Type 0
   FitsNone a p i = FitsNoRight n.layout (graph_after (seen_of p)) (frame_after (blank_of (sort_of n.layout n.ranged)) (seen_of p)) i
 
-  -- caller c, which searches for the place, holds the node of the path, and the node that leads to it unless it is the root
+  -- caller c, which searches for the place, holds the node of the path, and the node that leads to it; a node that takes over
+  -- its child may have none
   abbrev pub IsPairOf : Arena N D P n q d → ℕ → ℕ → Pass N D → Path N → Type 0
   IsPairOf a c place p path = IsPair (sort_of n.layout n.ranged) n.body c place (seen_of p) path
 
-  -- the node above the one of the path, if it is the root, is no branch over one child
+  -- the node above the one of the path, if it takes over an only child, is no branch over one
   abbrev pub IsNotSole : Arena N D P n q d → Path N → Type 0
   IsNotSole a path = IsNoSole (sort_of n.layout n.ranged) n.body path.parent

@@ -18,7 +18,7 @@ use Rattle.ks_arena.specs.Clauses.{HasLooked, HasTaken, hand_of, seen_of}
 use Rattle.ks_shape.specs.declared.path.Path.{Path}
 use Rattle.ks_tidy.specs.declared.step.Step.{Step}
 use Rattle.ks_shape.specs.Frees.{Counts, Frees, Undisturbed}
-use Rattle.ks_tidy.specs.Pair.{DidStep, FitsAlone, IsNoSole, IsPair, IsTrio}
+use Rattle.ks_tidy.specs.Pair.{DidStep, FitsAlone, FreesAny, IsNoSole, IsPair, IsTrio}
 
 module _ {N D : Type 0} where
   -- from p to q the Shapes of the caller made `count` nodes free, and it claimed none and made no call
@@ -29,6 +29,10 @@ module _ {N D : Type 0} where
   abbrev pub CountsFree : ℕ → Pass N D → Pass N D → Type 0
   CountsFree told p q = Counts p.caller (seen_of p) (seen_of q) told
 
+  -- whether the Shapes of the caller made a node free from p to q; it claimed none and made no call
+  abbrev pub MakesAnyFree : Bool → Pass N D → Pass N D → Type 0
+  MakesAnyFree any p q = FreesAny p.caller (seen_of p) (seen_of q) any
+
   -- nobody else did anything meanwhile, and the caller made no node free
   abbrev pub WasUndisturbed : Pass N D → Pass N D → Type 0
   WasUndisturbed p q = Undisturbed p.caller (seen_of p) (seen_of q)
@@ -38,7 +42,8 @@ module _ {N D : Type 0} where
   IsKeptAt p i place = InKeyset (graph_after (seen_of p)) i place
 
 module _ {N D P : Type 0} {n : NodeGhosts N P} {q : PlacingGhosts P} {d : DisciplineGhosts D} where
-  -- caller c, which searches for the place, holds the node of the path, and the node that leads to it unless it is the root
+  -- caller c, which searches for the place, holds the node of the path, and the node that leads to it; a node that takes over
+  -- its child may have none
   abbrev pub IsPairOf : Arena N D P n q d → ℕ → ℕ → Pass N D → Path N → Type 0
   IsPairOf a c place p path = IsPair (sort_of n.layout n.ranged) n.body c place (seen_of p) path
 
@@ -51,12 +56,12 @@ module _ {N D P : Type 0} {n : NodeGhosts N P} {q : PlacingGhosts P} {d : Discip
   StandsOrLeft a c place p None = hand_of p ≡ []
   StandsOrLeft a c place p (Some path) = IsPairOf a c place p path
 
-  -- if this node above is the root, it is no branch over one child
+  -- if this node above takes over an only child, it is no branch over one
   abbrev pub HasNoSole : Arena N D P n q d → Option (Hand N) → Type 0
   HasNoSole a parent = IsNoSole (sort_of n.layout n.ranged) n.body parent
 
-  -- the result of a try to merge at the node of a path: one node was made free; or none, and then, if no other caller acts,
-  -- the node fits with no right neighbour, if that was looked for
+  -- the result of a try to merge at the node of a path: one node was made free; or none, and then, if no other caller acts
+  -- and the path is whole, the node fits with no right neighbour, if that was looked for
   abbrev pub HasTried : Arena N D P n q d → Bool → Pass N D → Pass N D → Path N → Step N → Type 0
   HasTried a thorough p p' path step = DidStep (sort_of n.layout n.ranged) n.body p.caller (seen_of p) (seen_of p') thorough path step
 

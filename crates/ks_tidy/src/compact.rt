@@ -7,6 +7,7 @@ ghost use Rattle.ks_arena.specs.Of.{IsEmptyPassOf, IsPassOf, SameCaller, caller_
 ghost use Rattle.ks_shape.specs.Of.{IsStretch};
 ghost use Rattle.ks_shape.specs.Compacts.{HasFreed, HasLeftBy, IsTightOf, WasUndisturbed};
 ghost use Rattle.ks_tidy.specs.Compacts.{FitsNone, IsNotSole, IsPairOf, IsTightBefore};
+ghost use Rattle.ks_tidy.specs.Pair.{IsWhole};
 
 use crate::descent::{go_down, leave};
 use crate::node::{Tidied, tidy_node};
@@ -54,10 +55,15 @@ fn visit<N: Unlinked, R: Wait, G: Gate>(
     ensures counts { HasFreed pass.old pass.new result.freed }
     ensures same { WasUndisturbed pass.old pass.new → result.path ≡ path }
     ensures no_sole { IsNotSole arena.now result.path }
-    ensures fits { WasUndisturbed pass.old pass.new → FitsNone arena.now pass.new result.path.node.node }
+    ensures fits { IsWhole result.path → WasUndisturbed pass.old pass.new →
+        FitsNone arena.now pass.new result.path.node.node }
     ensures run { EndsRun (record_of (N.body result.path.node.body)) place last result.end }
 {
-    let Tidied { path, freed } = tidy_node(rt, arena, pass, gate, place, true, path);
+    let Tidied {
+        path,
+        freed,
+        any: _,
+    } = tidy_node(rt, arena, pass, gate, place, true, path);
     let end = run_end(&path.node.body, place, last);
     Visited { path, freed, end }
 }

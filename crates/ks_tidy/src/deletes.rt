@@ -1,5 +1,5 @@
 //! Deletes, which merge after their Call.
-ghost use Rattle.std.specs.Prelude.{◌≡◌, ◌≢◌, ◌≤◌, length, None, true};
+ghost use Rattle.std.specs.Prelude.{◌≡◌, ◌≢◌, ◌≤◌, length, None, false, true};
 ghost use Rattle.ks_history.specs.declared.Op.TheVariants.{Del};
 ghost use Rattle.ks_history.specs.Map.{told};
 ghost use Rattle.ks_node.specs.declared.start.Next.TheVariants.{Here};
@@ -8,9 +8,10 @@ ghost use Rattle.ks_arena.specs.Clauses.{hand_of};
 ghost use Rattle.ks_arena.specs.Of.{Holds, HasDecided, IsCurrent, IsEmptyPassOf, IsInside, IsLiveAndCurrent, IsPassOf, IsReadyAt, SeesOn, StayCurrentBut, WasAlone, SameCaller, caller_of};
 ghost use Rattle.ks_shape.specs.Of.{FinishesAny, SearchEndsAt};
 ghost use Rattle.ks_tidy.specs.Of.{DecidesAny, IsKeptAt, IsPairOf, IsTidyOf};
+ghost use Rattle.ks_tidy.specs.Pair.{IsWhole};
 ghost use Rattle.ks_shape.specs.Does.{OnlyDels, OnlySearches};
 
-use crate::descent::{leave, pair_tidy, tidy_end};
+use crate::descent::{leave, pair_tidy, tidy_on};
 use ks_arena::{Arena, Decision, Held, Pass};
 use ks_bodies::tidied_law;
 use ks_flow::{Tree, tidy_law};
@@ -78,18 +79,21 @@ fn del_told<W: Decision, N: Unlinked>(
 }
 
 /// Deletes what is at a place, at the node of a path where the search for the place ends, and releases all. If it
-/// removed a pair, it merges the node before, while it is low.
+/// removed a pair, it merges the node before, while it is low. The search made `any` node free or none; if the type grows
+/// in place and one was made free, it searches for the place again, as `pair_tidy` does.
 pub fn del_on<N: Unlinked, R: Wait, G: Gate>(
     rt: &R,
     arena: &Arena<N, Tree>,
     pass: &mut Pass<N, Tree>,
     gate: &G,
     place: u64,
+    any: bool,
     path: Path<N>,
 ) -> Numbered
     requires pass { IsPassOf arena.now pass.old }
     requires pair { IsPairOf arena.now (caller_of pass.old) place pass.old path }
     requires ends { next_at (N.body path.node.body) place ≡ Here }
+    requires whole { any ≡ false → IsWhole path }
     ensures pass { IsEmptyPassOf arena.now pass.new }
     ensures caller { SameCaller pass.old pass.new }
     ensures dels { OnlyDels N.layout N.ranged pass.old pass.new }
@@ -105,7 +109,7 @@ pub fn del_on<N: Unlinked, R: Wait, G: Gate>(
         leave(arena, pass, gate, place, path);
         return answer;
     }
-    tidy_end(rt, arena, pass, gate, place, path);
+    tidy_on(rt, arena, pass, gate, place, any, path);
     answer
 }
 

@@ -1,10 +1,14 @@
-//! The descent from the root to the node where a search ends, which merges nodes as it goes.
-ghost use Rattle.std.specs.Prelude.{◌≡◌, Some};
+//! The descent from the root to the node where a search ends, which merges nodes as it goes. A node that took over its
+//! child below the root has its neighbours beyond a parent that is not held, so if nodes grow in place another descent
+//! follows each that made one free.
+ghost use Rattle.std.specs.Prelude.{◌≡◌, ◌||◌, IsTrue, Some, false};
 ghost use Rattle.ks_node.specs.declared.start.Next.TheVariants.{Go, Here};
 ghost use Rattle.ks_node.specs.Body.{next_at};
+ghost use Rattle.ks_node.specs.Room.{in_place};
 ghost use Rattle.ks_arena.specs.Of.{IsEmptyPassOf, IsPassOf, WasAlone, SameCaller, caller_of};
 ghost use Rattle.ks_shape.specs.Of.{IsStretch};
-ghost use Rattle.ks_tidy.specs.Of.{CountsFree, IsKeptAt, IsPairOf, IsTidyOf, MakesFree};
+ghost use Rattle.ks_tidy.specs.Of.{CountsFree, IsKeptAt, IsPairOf, IsTidyOf, MakesAnyFree, MakesFree};
+ghost use Rattle.ks_tidy.specs.Pair.{IsWhole};
 ghost use Rattle.ks_shape.specs.Does.{OnlyDels, OnlySearches};
 
 use crate::node::{Tidied, tidy_node};
@@ -12,9 +16,16 @@ use ks_arena::{Arena, Pass};
 use ks_bodies::tidied_law;
 use ks_flow::{Tree, tidy_law};
 use ks_gate::{Gate, Point};
-use ks_node::{Next, Unlinked, node_law, unlinked_law};
+use ks_node::{Next, Node, Unlinked, node_law, unlinked_law};
 use ks_shape::{Path, enter, let_go, search_law, step_down};
 use std::sync::Wait;
+
+/// How many nodes were made free, modulo 2^32, and whether any was.
+#[derive(Drop)]
+pub struct Ended {
+    pub freed: u32,
+    pub any: bool,
+}
 
 /// Releases the parent, if there is one, and takes the child to which the search goes on; the node becomes its parent.
 #[inline(always)]
@@ -67,6 +78,14 @@ pub fn leave<N: Unlinked, G: Gate>(
     gate.at(pass.caller(), Point::Given(number));
 }
 
+/// Whether one of two pieces of work made a node free.
+#[inline(always)]
+fn either(any: bool, more: bool) -> bool
+    ensures { result ≡ (any || more) }
+{
+    any || more
+}
+
 /// Merges at the node of a path, if it is a branch.
 #[inline(always)]
 fn tidy_branch<N: Unlinked, R: Wait, G: Gate>(
@@ -85,15 +104,22 @@ fn tidy_branch<N: Unlinked, R: Wait, G: Gate>(
     ensures pair { IsPairOf arena.now (caller_of pass.old) place pass.new result.path }
     ensures stretch { IsStretch pass.old pass.new }
     ensures counts { CountsFree result.freed pass.old pass.new }
+    ensures any { MakesAnyFree result.any pass.old pass.new }
+    ensures rests { result.any ≡ false → result.path ≡ path }
 {
     if path.node.body.is_branch() {
         return tidy_node(rt, arena, pass, gate, place, false, path);
     }
-    Tidied { path, freed: 0 }
+    Tidied {
+        path,
+        freed: 0,
+        any: false,
+    }
 }
 
 /// Comes to the node at which the search for a place ends, and holds its parent too; it merges low branches on the
-/// path. It does not notify the gate that a call begins.
+/// path. If it made none free, it holds the parent unless the node is the root. It does not notify the gate that a call
+/// begins.
 pub fn come_down<N: Unlinked, R: Wait, G: Gate>(
     rt: &R,
     arena: &Arena<N, Tree>,
@@ -109,25 +135,31 @@ pub fn come_down<N: Unlinked, R: Wait, G: Gate>(
     ensures ends { next_at (N.body result.path.node.body) place ≡ Here }
     ensures stretch { IsStretch pass.old pass.new }
     ensures counts { CountsFree result.freed pass.old pass.new }
+    ensures any { MakesAnyFree result.any pass.old pass.new }
+    ensures whole { result.any ≡ false → IsWhole result.path }
 {
     let mut path = enter(rt, arena, pass, gate, place);
     let mut freed: u32 = 0;
+    let mut any = false;
     for _ in rt.forever() {
         let Tidied {
             path: tidied,
             freed: more,
+            any: some,
         } = tidy_branch(rt, arena, pass, gate, place, path);
         path = tidied;
         freed = freed.wrapping_add(more);
+        any = either(any, some);
         match path.node.body.next(place) {
-            Next::Here => return Tidied { path, freed },
+            Next::Here => return Tidied { path, freed, any },
             Next::Go(child) => path = go_down(rt, arena, pass, gate, place, path, child),
         }
     }
     unreachable!()
 }
 
-/// Merges at the node whose keyset holds the place, and releases all. Returns how many nodes it made free, modulo 2^32.
+/// Merges at the node whose keyset holds the place, and releases all. Returns how many nodes it made free. If the type
+/// grows in place and it made one free, the node may still fit with its right neighbour.
 pub fn tidy_end<N: Unlinked, R: Wait, G: Gate>(
     rt: &R,
     arena: &Arena<N, Tree>,
@@ -135,7 +167,7 @@ pub fn tidy_end<N: Unlinked, R: Wait, G: Gate>(
     gate: &G,
     place: u64,
     path: Path<N>,
-) -> u32
+) -> Ended
     requires pass { IsPassOf arena.now pass.old }
     requires pair { IsPairOf arena.now (caller_of pass.old) place pass.old path }
     requires ends { IsKeptAt pass.old path.node.node place }
@@ -143,22 +175,61 @@ pub fn tidy_end<N: Unlinked, R: Wait, G: Gate>(
     ensures caller { SameCaller pass.old pass.new }
     ensures dels { OnlyDels N.layout N.ranged pass.old pass.new }
     ensures stretch { IsStretch pass.old pass.new }
-    ensures counts { CountsFree result pass.old pass.new }
-    ensures tidy { WasAlone pass.old pass.new → IsTidyOf arena.now pass.new place }
+    ensures counts { CountsFree result.freed pass.old pass.new }
+    ensures any { MakesAnyFree result.any pass.old pass.new }
+    ensures tidy { (IsTrue (in_place N.layout) → IsWhole path × (result.any ≡ false)) → WasAlone pass.old pass.new →
+        IsTidyOf arena.now pass.new place }
 {
     search_law();
     tidied_law();
     tidy_law();
     unlinked_law::<N>();
-    let Tidied { path, freed } = tidy_node(rt, arena, pass, gate, place, false, path);
+    let Tidied { path, freed, any } = tidy_node(rt, arena, pass, gate, place, false, path);
     node_law(&path.node.body);
     leave(arena, pass, gate, place, path);
-    freed
+    Ended { freed, any }
 }
 
-/// Merges for a place: low branches on the path to the node whose keyset holds it, and that node, if it is low. Returns
-/// how many nodes it made free, modulo 2^32. It makes no call of the history, and does not notify the gate that one
-/// begins.
+/// Whether another descent has to follow, after those before it made `any` node free or none.
+#[inline(always)]
+fn comes_again<N: Node>(any: bool) -> bool
+    ensures ends { result ≡ false → IsTrue (in_place N.layout) → any ≡ false }
+    ensures again { IsTrue result → IsTrue (in_place N.layout) × IsTrue any }
+{
+    N::grows_in_place() && any
+}
+
+/// One descent that merges for a place, as `pair_tidy` does. If the type grows in place and it made a node free, another
+/// has to follow.
+fn sweep<N: Unlinked, R: Wait, G: Gate>(
+    rt: &R,
+    arena: &Arena<N, Tree>,
+    pass: &mut Pass<N, Tree>,
+    gate: &G,
+    place: u64,
+) -> Ended
+    requires pass { IsEmptyPassOf arena.now pass.old }
+    ensures pass { IsEmptyPassOf arena.now pass.new }
+    ensures caller { SameCaller pass.old pass.new }
+    ensures dels { OnlyDels N.layout N.ranged pass.old pass.new }
+    ensures stretch { IsStretch pass.old pass.new }
+    ensures counts { CountsFree result.freed pass.old pass.new }
+    ensures any { MakesAnyFree result.any pass.old pass.new }
+    ensures tidy { (IsTrue (in_place N.layout) → result.any ≡ false) → WasAlone pass.old pass.new →
+        IsTidyOf arena.now pass.new place }
+{
+    let Tidied { path, freed, any } = come_down(rt, arena, pass, gate, place);
+    node_law(&path.node.body);
+    let ended = tidy_end(rt, arena, pass, gate, place, path);
+    Ended {
+        freed: freed.wrapping_add(ended.freed),
+        any: either(any, ended.any),
+    }
+}
+
+/// Merges for a place: low branches on the path to the node whose keyset holds it, and that node, if it is low. If the
+/// type grows in place, it descends again until a descent makes no node free. Returns how many nodes it made free, modulo
+/// 2^32. It makes no call of the history, and does not notify the gate that one begins.
 pub fn pair_tidy<N: Unlinked, R: Wait, G: Gate>(
     rt: &R,
     arena: &Arena<N, Tree>,
@@ -174,8 +245,41 @@ pub fn pair_tidy<N: Unlinked, R: Wait, G: Gate>(
     ensures counts { CountsFree result pass.old pass.new }
     ensures tidy { WasAlone pass.old pass.new → IsTidyOf arena.now pass.new place }
 {
-    let Tidied { path, freed } = come_down(rt, arena, pass, gate, place);
-    node_law(&path.node.body);
-    let more = tidy_end(rt, arena, pass, gate, place, path);
-    freed.wrapping_add(more)
+    let mut freed: u32 = 0;
+    for _ in rt.forever() {
+        let swept = sweep(rt, arena, pass, gate, place);
+        freed = freed.wrapping_add(swept.freed);
+        if !comes_again::<N>(swept.any) {
+            return freed;
+        }
+    }
+    unreachable!()
+}
+
+/// Merges at the node whose keyset holds the place, after a search that made `any` node free or none, and releases all.
+/// If the type grows in place and one was made free, it descends again until a descent makes none free.
+pub(crate) fn tidy_on<N: Unlinked, R: Wait, G: Gate>(
+    rt: &R,
+    arena: &Arena<N, Tree>,
+    pass: &mut Pass<N, Tree>,
+    gate: &G,
+    place: u64,
+    any: bool,
+    path: Path<N>,
+)
+    requires pass { IsPassOf arena.now pass.old }
+    requires pair { IsPairOf arena.now (caller_of pass.old) place pass.old path }
+    requires ends { IsKeptAt pass.old path.node.node place }
+    requires whole { any ≡ false → IsWhole path }
+    ensures pass { IsEmptyPassOf arena.now pass.new }
+    ensures caller { SameCaller pass.old pass.new }
+    ensures dels { OnlyDels N.layout N.ranged pass.old pass.new }
+    ensures stretch { IsStretch pass.old pass.new }
+    ensures tidy { WasAlone pass.old pass.new → IsTidyOf arena.now pass.new place }
+{
+    let ended = tidy_end(rt, arena, pass, gate, place, path);
+    if comes_again::<N>(either(any, ended.any)) {
+        pair_tidy(rt, arena, pass, gate, place);
+        return;
+    }
 }

@@ -2,7 +2,7 @@
 ghost use Rattle.std.specs.Prelude.{◌≡◌, Some, None, true, IsTrue};
 ghost use Rattle.ks_node.specs.Room.{is_low};
 ghost use Rattle.ks_node.specs.Body.{chained_of, only_child_of, right_child};
-ghost use Rattle.ks_tidy.specs.Pair.{path_in};
+ghost use Rattle.ks_tidy.specs.Pair.{TakesOver, path_in};
 ghost use Rattle.ks_arena.specs.Of.{IsPassOf, SameCaller, caller_of};
 ghost use Rattle.ks_shape.specs.Of.{HasPlaces, IsStretch};
 ghost use Rattle.ks_tidy.specs.Of.{HasNoSole, HasTried, IsPairOf, MakesFree};
@@ -12,27 +12,28 @@ use crate::joins::{join_beside, join_own};
 use crate::neighbours::{chained_law, next_law};
 use crate::step::Step;
 use crate::takes::take_led;
-use ks_arena::{Arena, Held, Pass, root_law};
+use ks_arena::{Arena, Held, Pass};
 use ks_flow::Tree;
 use ks_gate::{Gate, Point};
 use ks_node::Unlinked;
 use ks_shape::{Path, collapse, search_law};
 use std::sync::Wait;
 
-/// The root takes over its only child, which is released as free.
+/// A branch takes over its only child, which is released as free. It is the root, or it grows in place; its own parent
+/// is not held.
 pub(crate) fn take_over<N: Unlinked, G: Gate>(
     arena: &Arena<N, Tree>,
     pass: &mut Pass<N, Tree>,
     gate: &G,
     place: u64,
-    root: Held<N>,
+    parent: Held<N>,
     child: Held<N>,
 ) -> Path<N>
     requires pass { IsPassOf arena.now pass.old }
     requires pair { IsPairOf arena.now (caller_of pass.old) place pass.old
-        (record { parent = Some root; node = child }) }
-    requires root { root.node ≡ 0 }
-    requires sole { only_child_of (N.body root.body) ≡ Some child.node }
+        (record { parent = Some parent; node = child }) }
+    requires takes { TakesOver N.layout parent.node }
+    requires sole { only_child_of (N.body parent.body) ≡ Some child.node }
     ensures pass { IsPassOf arena.now pass.new }
     ensures caller { SameCaller pass.old pass.new }
     ensures dels { OnlyDels N.layout N.ranged pass.old pass.new }
@@ -42,16 +43,15 @@ pub(crate) fn take_over<N: Unlinked, G: Gate>(
     ensures frees { MakesFree 1 pass.old pass.new }
 {
     search_law();
-    let mut root = root;
+    let mut parent = parent;
     let mut child = child;
-    collapse(arena, pass, &mut root, &mut child);
-    root_law(&root, place);
+    collapse(arena, pass, &mut parent, &mut child);
     let number = child.node;
     arena.give(pass, child);
     gate.at(pass.caller(), Point::Given(number));
     Path {
         parent: None,
-        node: root,
+        node: parent,
     }
 }
 

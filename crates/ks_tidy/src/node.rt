@@ -3,7 +3,8 @@ ghost use Rattle.std.specs.Prelude.{◌≡◌, ◌⊎◌, IsTrue, false};
 ghost use Rattle.ks_node.specs.Room.{is_low};
 ghost use Rattle.ks_arena.specs.Of.{IsPassOf, SameCaller, caller_of};
 ghost use Rattle.ks_shape.specs.Of.{HasPlaces, IsStretch};
-ghost use Rattle.ks_tidy.specs.Of.{CountsFree, FitsNoneAlone, HasNoSole, IsPairOf, WasUndisturbed};
+ghost use Rattle.ks_tidy.specs.Of.{CountsFree, FitsNoneAlone, HasNoSole, IsPairOf, MakesAnyFree, WasUndisturbed};
+ghost use Rattle.ks_tidy.specs.Pair.{IsWhole};
 ghost use Rattle.ks_shape.specs.Does.{OnlyDels};
 
 use crate::step::{Step, tidy_once};
@@ -14,14 +15,16 @@ use ks_node::Unlinked;
 use ks_shape::Path;
 use std::sync::Wait;
 
-/// Where a search is after it merged nodes, and how many it made free, modulo 2^32.
+/// Where a search is after it merged nodes, how many it made free, modulo 2^32, and whether it made any free.
 pub struct Tidied<N> {
     pub path: Path<N>,
     pub freed: u32,
+    pub any: bool,
 }
 
 /// Merges at the node of a path until nothing is left to merge there: while the node is low, or, if the work is
-/// thorough, while anything fits. The node of the path, which may be the root, then has what the node had.
+/// thorough, while anything fits. The node of the path, which may be the root, then has what the node had; if that took
+/// over its child below the root, the path is without its parent, and what is right of the node is not tested.
 pub fn tidy_node<N: Unlinked, R: Wait, G: Gate>(
     rt: &R,
     arena: &Arena<N, Tree>,
@@ -40,20 +43,30 @@ pub fn tidy_node<N: Unlinked, R: Wait, G: Gate>(
     ensures places { HasPlaces path.node.node result.path.node.node pass.old pass.new }
     ensures stretch { IsStretch pass.old pass.new }
     ensures counts { CountsFree result.freed pass.old pass.new }
+    ensures any { MakesAnyFree result.any pass.old pass.new }
     ensures same { WasUndisturbed pass.old pass.new → result.path ≡ path }
+    ensures rests { result.any ≡ false → result.path ≡ path }
     ensures no_sole { HasNoSole arena.now result.path.parent }
-    ensures tested { IsTrue thorough ⊎ IsTrue (is_low N.layout (N.body result.path.node.body)) →
+    ensures tested { IsWhole result.path → IsTrue thorough ⊎ IsTrue (is_low N.layout (N.body result.path.node.body)) →
         FitsNoneAlone arena.now result.path.node.node pass.old pass.new }
 {
     let mut path = path;
     let mut freed: u32 = 0;
+    let mut any = false;
     for _ in rt.forever() {
         match tidy_once(rt, arena, pass, gate, place, thorough, path) {
             Step::Freed(next) => {
                 path = next;
                 freed = freed.wrapping_add(1);
+                any = true;
             }
-            Step::Rests(rest) => return Tidied { path: rest, freed },
+            Step::Rests(rest) => {
+                return Tidied {
+                    path: rest,
+                    freed,
+                    any,
+                };
+            }
         }
     }
     unreachable!()

@@ -2,7 +2,7 @@
 ghost use Rattle.std.specs.Prelude.{◌≡◌, ℕ, IsTrue, None, Some, true, false};
 ghost use Rattle.ks_node.specs.Room.{is_low};
 ghost use Rattle.ks_node.specs.Body.{chained_of, only_child_of};
-ghost use Rattle.ks_tidy.specs.Pair.{path_in};
+ghost use Rattle.ks_tidy.specs.Pair.{TakesOver, path_in};
 ghost use Rattle.ks_arena.specs.Of.{IsPassOf, SameCaller, caller_of};
 ghost use Rattle.ks_shape.specs.Of.{HasPlaces, IsStretch};
 ghost use Rattle.ks_tidy.specs.Of.{HasNoSole, HasTried, IsPairOf};
@@ -25,7 +25,8 @@ pub enum Step<N> {
     Rests(Path<N>),
 }
 
-/// Merges the root with the node to which it leads itself, if there is one and they fit.
+/// Merges a node whose parent is not held, as the root, with the node to which it leads itself, if there is one and they
+/// fit.
 fn merge_root<N: Unlinked, R: Wait, G: Gate>(
     rt: &R,
     arena: &Arena<N, Tree>,
@@ -131,7 +132,7 @@ fn merge_child<N: Unlinked, R: Wait, G: Gate>(
     }
 }
 
-/// Merges the root with its right neighbour, if it is low or the work is thorough.
+/// Merges a node whose parent is not held with the node to which it leads itself, if it is low or the work is thorough.
 fn tidy_root<N: Unlinked, R: Wait, G: Gate>(
     rt: &R,
     arena: &Arena<N, Tree>,
@@ -163,20 +164,21 @@ fn tidy_root<N: Unlinked, R: Wait, G: Gate>(
     })
 }
 
-/// Whether the node is the root, and a branch over one child.
+/// Whether the node is the root, or of a type that grows in place, and a branch over one child.
 pub(crate) fn has_sole<N: Node>(parent: &Held<N>) -> bool
-    ensures root { IsTrue result → parent.now.node ≡ 0 }
+    ensures takes { IsTrue result → TakesOver N.layout parent.now.node }
     ensures sole { IsTrue result → (m : ℕ) × (only_child_of (N.body parent.now.body) ≡ Some m) }
-    ensures none { result ≡ false → parent.now.node ≡ 0 → only_child_of (N.body parent.now.body) ≡ None }
+    ensures none { result ≡ false → TakesOver N.layout parent.now.node →
+        only_child_of (N.body parent.now.body) ≡ None }
 {
-    if parent.node != 0 {
+    if parent.node != 0 && !N::grows_in_place() {
         return false;
     }
     parent.body.only_child().is_some()
 }
 
-/// Lets the root take over its only child; else merges the child with its right neighbour, if it is low or the work is
-/// thorough.
+/// Lets the root, or any parent that grows in place, take over its only child; else merges the child with its right
+/// neighbour, if it is low or the work is thorough.
 fn tidy_child<N: Unlinked, R: Wait, G: Gate>(
     rt: &R,
     arena: &Arena<N, Tree>,
@@ -217,8 +219,9 @@ fn tidy_child<N: Unlinked, R: Wait, G: Gate>(
     })
 }
 
-/// Makes one node free, if it can: the root takes over the node of the path, if that is its only child; else the node
-/// absorbs its right neighbour, if both fit and the node is low. Thorough work does not ask whether it is low.
+/// Makes one node free, if it can: the root, or any parent that grows in place, takes over the node of the path, if that
+/// is its only child; else the node absorbs its right neighbour, if both fit and the node is low. Thorough work does not
+/// ask whether it is low. A node whose parent is not held absorbs only a neighbour to which it leads itself.
 pub fn tidy_once<N: Unlinked, R: Wait, G: Gate>(
     rt: &R,
     arena: &Arena<N, Tree>,

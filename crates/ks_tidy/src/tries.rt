@@ -11,7 +11,6 @@ ghost use Rattle.ks_shape.specs.Does.{OnlyDels, OnlySearches};
 
 use crate::deletes::delete;
 use crate::descent::leave;
-use crate::node::Tidied;
 use crate::step::Step;
 use crate::try_step::try_tidy_once;
 use ks_arena::{Arena, Held, Pass};
@@ -19,6 +18,12 @@ use ks_flow::Tree;
 use ks_gate::{Gate, Point};
 use ks_node::{Next, Unlinked};
 use ks_shape::{Numbered, Path, let_go, search_law, try_enter, try_step_down};
+
+/// Where a search is after tries to merge, and how many nodes they made free, modulo 2^32.
+struct Tried<N> {
+    path: Path<N>,
+    freed: u32,
+}
 
 /// Merges at the node of a path while it is low, by tries: at most as often as the arena has nodes. The node of the
 /// path then has what the node had.
@@ -28,7 +33,7 @@ fn try_tidy_node<N: Unlinked, G: Gate>(
     gate: &G,
     place: u64,
     path: Path<N>,
-) -> Tidied<N>
+) -> Tried<N>
     requires pass { IsPassOf arena.now pass.old }
     requires pair { IsPairOf arena.now (caller_of pass.old) place pass.old path }
     ensures pass { IsPassOf arena.now pass.new }
@@ -46,10 +51,10 @@ fn try_tidy_node<N: Unlinked, G: Gate>(
                 path = next;
                 freed = freed.wrapping_add(1);
             }
-            Step::Rests(rest) => return Tidied { path: rest, freed },
+            Step::Rests(rest) => return Tried { path: rest, freed },
         }
     }
-    Tidied { path, freed }
+    Tried { path, freed }
 }
 
 /// Merges at the node of a path, if it is a branch, or the search ends there.
@@ -59,7 +64,7 @@ fn try_tidy_at<N: Unlinked, G: Gate>(
     gate: &G,
     place: u64,
     path: Path<N>,
-) -> Tidied<N>
+) -> Tried<N>
     requires pass { IsPassOf arena.now pass.old }
     requires pair { IsPairOf arena.now (caller_of pass.old) place pass.old path }
     ensures pass { IsPassOf arena.now pass.new }
@@ -74,7 +79,7 @@ fn try_tidy_at<N: Unlinked, G: Gate>(
     }
     match path.node.body.next(place) {
         Next::Here => try_tidy_node(arena, pass, gate, place, path),
-        Next::Go(_) => Tidied { path, freed: 0 },
+        Next::Go(_) => Tried { path, freed: 0 },
     }
 }
 
@@ -128,7 +133,7 @@ pub fn try_pair_tidy<N: Unlinked, G: Gate>(
     };
     let mut freed: u32 = 0;
     for _steps in 1..arena.nodes() {
-        let Tidied {
+        let Tried {
             path: tidied,
             freed: more,
         } = try_tidy_at(arena, pass, gate, place, path);

@@ -120,7 +120,8 @@ fn try_merge_child<N: Unlinked, G: Gate>(
     }
 }
 
-/// Merges a low root with the node to which it leads itself, if there is one, they fit, and nobody else holds it.
+/// Merges a low node whose parent is not held with the node to which it leads itself, if there is one, they fit, and
+/// nobody else holds that one.
 fn try_tidy_root<N: Unlinked, G: Gate>(
     arena: &Arena<N, Tree>,
     pass: &mut Pass<N, Tree>,
@@ -154,7 +155,8 @@ fn try_tidy_root<N: Unlinked, G: Gate>(
     }
 }
 
-/// Lets the root take over its only child; else merges the child, if it is low, with its right neighbour.
+/// Lets the root, or any parent that grows in place, take over its only child; else merges the child, if it is low, with
+/// its right neighbour.
 fn try_tidy_child<N: Unlinked, G: Gate>(
     arena: &Arena<N, Tree>,
     pass: &mut Pass<N, Tree>,

@@ -1,4 +1,4 @@
-use Rattle.std.proofs.Common.{◌∙◌, ◌≤◌, ◌+◌, ◌%◌, ◌^◌, ℕ, suc, sym, subst, arith}
+use Rattle.std.proofs.Common.{◌∙◌, ◌≤◌, ◌+◌, ◌%◌, ◌^◌, ℕ, suc, sym, subst, arith, inl}
 use Rattle.ks_keysets.specs.Keyset.{Good}
 use Rattle.ks_keysets.specs.Record.{top, LeadsOn}
 use Rattle.ks_history.specs.Trace.{graph_after}
@@ -32,7 +32,7 @@ pub loop-init : goal.loop-init
 loop-init g c = let at = (goal.at.loop-init g c).After-tight_law in let sort = sort_of g.N.Node.layout g.N.Node.ranged in let s = seen_of c.args.pass.now in let h = seen_of c.enter-path.new.pass in let me : ℕ = c.args.pass.now.caller in let b : ℕ = c.enter-path.new.pass.caller in let e = c.enter-path.ensures in (
   e.pass,
   e.caller,
-  subst (λ (z : ℕ). IsPair sort g.N.Node.body z c.args.place h c.enter-path.result) (sym e.caller) (record { path = e.path; rooted = λ none. e.root.1 }),
+  subst (λ (z : ℕ). IsPair sort g.N.Node.body z c.args.place h c.enter-path.result) (sym e.caller) (record { path = e.path; rooted = λ none. inl e.root.1 }),
   stretches_as b me s h (sym e.caller) e.stretch,
   counts_as b me 0 s h (sym e.caller) (counts_of me 0 s h (omega arith) (frees_take me 0 s h e.took)),
   omega (arith, c.ranges.place),
@@ -63,7 +63,7 @@ loop-preserved g c = let at = (goal.at.loop-preserved g c).After-node_law in let
           (next_leads body p c.in-Go.child c.node_law.ensures.sound (omega (arith, c.ranges.place)) (sym c.next-in-loop.ensures ∙ c.in-Go.is))
           v.run
           (record { sound = c.node_law.ensures.sound; framed = c.node_law.ensures.framed; no_link = c.unlinked_law.ensures.no_link x.node.body })
-          v.pair.rooted e.parent e.child,
+          e.parent e.child,
     )
 
 pub returns-in-Here-clause-stretch : goal.returns-in-Here-clause-stretch

@@ -1,9 +1,9 @@
-use Rattle.std.proofs.Common.{◌≡◌, ◌≢◌, ◌∙◌, ℕ, true, false, List, [], ◌∷◌, length, arith, refl, sym, ap, subst, inl}
+use Rattle.std.proofs.Common.{◌≡◌, ◌∙◌, ℕ, true, false, List, [], ◌∷◌, length, arith, refl, sym, ap, subst, inl}
 use Rattle.ks_history.specs.Alone.{ActsAlone}
-use Rattle.ks_history.specs.Laws.Alone.{alone_first, alone_then}
+use Rattle.ks_history.specs.Laws.Alone.{alone_then}
 use Rattle.ks_history.specs.Laws.Begins.{begins_both, with_begins}
 use Rattle.ks_history.specs.Passes.{Has, GrowsWith}
-use Rattle.ks_history.specs.Own.{hand, drop_one}
+use Rattle.ks_history.specs.Own.{hand}
 use Rattle.ks_history.specs.Trace.{graph_after}
 use Rattle.ks_history.specs.Frames.{frame_after}
 use Rattle.ks_history.specs.declared.Event.TheVariants.{Give}

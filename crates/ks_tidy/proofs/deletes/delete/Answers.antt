@@ -1,17 +1,14 @@
-use Rattle.std.proofs.Common.{◌≡◌, ◌≢◌, ◌≤◌, ◌∙◌, ℕ, length, arith, refl, sym, ap, subst}
+use Rattle.std.proofs.Common.{◌≡◌, ℕ, length, arith, refl, sym, ap, subst}
 use Rattle.ks_history.specs.declared.Event.TheVariants.{Call}
 use Rattle.ks_history.specs.declared.Op.TheVariants.{Del}
 use Rattle.ks_history.specs.Laws.Begins.{with_begins}
-use Rattle.ks_history.specs.Done.{most_held}
 use Rattle.ks_history.specs.Map.{told}
 use Rattle.ks_history.specs.Passes.{Has}
 use Rattle.ks_history.specs.Own.{hand}
-use Rattle.ks_history.specs.Trace.{graph_after}
 use Rattle.ks_history.specs.Laws.Underway.{underway_call}
 use Rattle.ks_arena.specs.declared.held.Held.{Held as Hand}
 use Rattle.ks_arena.specs.Sound.{sort_of}
-use Rattle.ks_arena.specs.Clauses.{IsReady, hand_of, seen_of}
-use Rattle.ks_shape.specs.Laws.Search.{Laws}
+use Rattle.ks_arena.specs.Clauses.{IsReady, seen_of}
 use Rattle.ks_tidy.proofs.Keeping.{places_kept}
 use Rattle.ks_tidy.proofs.Standing.{keyset_here, no_branch}
 use Rattle.ks_shape.specs.Laws.Does.{searches_call}

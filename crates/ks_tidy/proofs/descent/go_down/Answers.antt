@@ -1,5 +1,5 @@
 use Rattle.std.proofs.Common.{◌≡◌, ◌∙◌, ℕ, sym, ap, subst}
-use Rattle.std.specs.Prelude.{Option, Some, None}
+use Rattle.std.specs.Prelude.{Some, None}
 use Rattle.ks_history.specs.Passes.{GrowsWith}
 use Rattle.ks_history.specs.declared.Event.TheVariants.{Take}
 use Rattle.ks_node.specs.declared.start.Next.TheVariants.{Go}

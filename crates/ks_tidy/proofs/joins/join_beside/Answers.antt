@@ -153,7 +153,7 @@ returns-clause-step g c = let at = goal.at.returns-clause-step g c in let sort =
       same = c.keep_left-2.ensures.same;
       frees = back;
       no_sole = c.requires.no_sole;
-      tested = λ which alone. fits_along g.N.Node.layout (graph_after h) (graph_after k) (frame_after (blank_of sort) h) (frame_after (blank_of sort) k)
+      tested = λ whole which alone. fits_along g.N.Node.layout (graph_after h) (graph_after k) (frame_after (blank_of sort) h) (frame_after (blank_of sort) k)
           (undisturbed_same me (blank_of sort) h k (record { alone = alone; none = back }))
           c.args.node.node (fits_none g at.After-keep_left-2);
     }

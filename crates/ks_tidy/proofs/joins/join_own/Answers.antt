@@ -16,6 +16,7 @@ use Rattle.ks_shape.specs.declared.path.Path.{Path}
 use Rattle.ks_shape.specs.Laws.Search.{Laws}
 use Rattle.ks_shape.specs.OnPath.{IsOnPath, numbers}
 use Rattle.ks_shape.specs.Laws.Frees.{frees_both, frees_give, frees_shape, undisturbed_same}
+use Rattle.ks_tidy.specs.Pair.{TakesOver}
 use Rattle.ks_tidy.proofs.Keeping.{few_right, once_in, parent_apart, parent_has, places_kept, under_with}
 use Rattle.ks_tidy.proofs.Standing.{fits_along, plain, stands_now}
 use Rattle.ks_shape.specs.Laws.Does.{dels_search, searched_dels}
@@ -72,7 +73,7 @@ on_path g c = subst (λ (z : ℕ). IsOnPath (sort_of g.N.Node.layout g.N.Node.ra
 pub returns-then-fits-clause-pair : goal.returns-then-fits-clause-pair
 returns-then-fits-clause-pair g c = let at = (goal.at.returns-then-fits-clause-pair g c).After-keep_left in record {
   path = on_path g at;
-  rooted = λ none. result_node g at ∙ c.requires.trio.rooted (sym (ap (λ (z : Path g.row.N.Denot). z.parent) c.keep_left.ensures.same) ∙ none);
+  rooted = λ none. subst (TakesOver g.N.Node.layout) (sym (result_node g at)) (c.requires.trio.rooted (sym (ap (λ (z : Path g.row.N.Denot). z.parent) c.keep_left.ensures.same) ∙ none));
 }
 
 pub returns-then-fits-clause-places : goal.returns-then-fits-clause-places
@@ -116,7 +117,7 @@ result_path g c = ap (λ (z : Path g.row.N.Denot). z.node.node) c.keep_left-2.en
 pub returns-clause-pair : goal.returns-clause-pair
 returns-clause-pair g c = let at = (goal.at.returns-clause-pair g c).After-keep_left-2 in record {
   path = c.keep_left-2.ensures.path;
-  rooted = λ none. result_path g at ∙ c.requires.trio.rooted (sym (ap (λ (z : Path g.row.N.Denot). z.parent) c.keep_left-2.ensures.same) ∙ none);
+  rooted = λ none. subst (TakesOver g.N.Node.layout) (sym (result_path g at)) (c.requires.trio.rooted (sym (ap (λ (z : Path g.row.N.Denot). z.parent) c.keep_left-2.ensures.same) ∙ none));
 }
 
 pub returns-clause-places : goal.returns-clause-places
@@ -141,7 +142,7 @@ returns-clause-step g c = let at = goal.at.returns-clause-step g c in let sort =
       same = c.keep_left-2.ensures.same;
       frees = back;
       no_sole = c.requires.no_sole;
-      tested = λ which alone. fits_along g.N.Node.layout (graph_after h) (graph_after k) (frame_after (blank_of sort) h) (frame_after (blank_of sort) k)
+      tested = λ whole which alone. fits_along g.N.Node.layout (graph_after h) (graph_after k) (frame_after (blank_of sort) h) (frame_after (blank_of sort) k)
           (undisturbed_same me (blank_of sort) h k (record { alone = alone; none = back }))
           c.args.path.node.node (fits_none g at.After-keep_left-2);
     }

@@ -1,4 +1,4 @@
-use Rattle.std.proofs.Common.{◌≡◌, ◌∙◌, ◌+◌, ℕ, length, arith, refl, sym, ap, subst}
+use Rattle.std.proofs.Common.{◌≡◌, ◌∙◌, ◌+◌, ℕ, true, false, arith, refl, sym, subst}
 use Rattle.std.specs.Prelude.{◌⊎◌, IsTrue}
 use Rattle.ks_history.specs.Alone.{ActsAlone}
 use Rattle.ks_history.specs.Laws.Alone.{alone_then}
@@ -7,17 +7,15 @@ use Rattle.ks_node.specs.Room.{is_low}
 use Rattle.ks_arena.specs.Sound.{sort_of}
 use Rattle.ks_arena.specs.Clauses.{hand_of, seen_of}
 use Rattle.ks_shape.specs.declared.path.Path.{Path}
-use Rattle.ks_shape.specs.Places.{HasPlacesOf}
 use Rattle.ks_shape.specs.Laws.Places.{places_both}
 use Rattle.ks_shape.specs.Laws.Stretches.{stretches_as, stretches_both, stretches_here}
-use Rattle.ks_shape.specs.Frees.{Counts, Undisturbed}
-use Rattle.ks_shape.specs.Laws.Frees.{counts_as, counts_more, counts_of, counts_on, frees_as, frees_begins, frees_both, frees_here, frees_same, undisturbed_first}
-use Rattle.ks_tidy.specs.Pair.{FitsAlone, HasRested, IsNoSole, IsPair}
+use Rattle.ks_shape.specs.Laws.Frees.{counts_more, counts_of, counts_on, frees_as, frees_begins, frees_both, frees_here, frees_same, undisturbed_first}
+use Rattle.ks_tidy.specs.Pair.{FitsAlone, IsNoSole, IsPair, IsWhole}
+use Rattle.ks_tidy.proofs.Any.{any_here, any_more, any_on}
 use Rattle.ks_tidy.proofs.Keeping.{few_on}
 use Rattle.ks_tidy.proofs.Steps.{places_here}
 use Rattle.ks_shape.specs.Does.{MayDel}
 use Rattle.ks_shape.specs.Laws.Does.{does_none, does_on}
-use Rattle.ks_tidy.proofs.node.tidy_node.Given.{Over}
 use Rattle.ks_tidy.proofs.node.tidy_node.Goals as goal
 
 pub loop-init : goal.loop-init
@@ -30,6 +28,8 @@ loop-init g c = let me : ℕ = c.args.pass.now.caller in let h = seen_of c.args.
   counts_of me 0 h h (omega arith) (frees_here me h),
   (λ calm. refl),
   (λ off. does_none (MayDel (sort_of g.N.Node.layout g.N.Node.ranged)) me h),
+  any_here me h,
+  (λ off. refl),
 )
 
 pub loop-preserved : goal.loop-preserved
@@ -43,6 +43,8 @@ loop-preserved g c = let me : ℕ = c.args.pass.now.caller in let s = seen_of c.
       counts_more me c.loop.freed 1 s h k inv.5 one,
       (λ calm. absurd (let zero = frees_same me (inv.5.count + 1) 0 s k (frees_both me inv.5.count 1 s h k inv.5.frees one) calm.none in omega (arith, zero))),
       (λ off. does_on (MayDel (sort_of g.N.Node.layout g.N.Node.ranged)) me c.loop.pass.caller s h k inv.1 (inv.7 off) (e.dels off)),
+      any_more me inv.5.count s h k inv.5.frees one,
+      (λ off. absurd (let q : true ≡ false = off in let z : ⊥ = cc in z)),
     )
 
 pub returns-in-Rests-clause-pair : goal.returns-in-Rests-clause-pair
@@ -64,14 +66,21 @@ pub returns-in-Rests-clause-same : goal.returns-in-Rests-clause-same
 returns-in-Rests-clause-same g c = λ calm. let me : ℕ = c.args.pass.now.caller in let s = seen_of c.args.pass.now in let h = seen_of c.loop.pass in let k = seen_of c.tidy_once.new.pass in let inv = c.loop.invariant in
     c.in-Rests.ensures.step.same ∙ inv.6 (undisturbed_first me inv.5.count 0 s h k inv.5.frees (frees_as me c.loop.pass.caller h k inv.1 c.in-Rests.ensures.step.frees) calm)
 
+pub returns-in-Rests-clause-any : goal.returns-in-Rests-clause-any
+returns-in-Rests-clause-any g c = let me : ℕ = c.args.pass.now.caller in let s = seen_of c.args.pass.now in let h = seen_of c.loop.pass in let k = seen_of c.tidy_once.new.pass in let inv = c.loop.invariant in
+    any_on me inv.5.count s h k c.loop.any inv.5.frees inv.8 (frees_as me c.loop.pass.caller h k inv.1 c.in-Rests.ensures.step.frees)
+
+pub returns-in-Rests-clause-rests : goal.returns-in-Rests-clause-rests
+returns-in-Rests-clause-rests g c = λ off. c.in-Rests.ensures.step.same ∙ c.loop.invariant.9 off
+
 pub returns-in-Rests-clause-no_sole : goal.returns-in-Rests-clause-no_sole
 returns-in-Rests-clause-no_sole g c = let step = c.in-Rests.ensures.step in subst (λ (z : Path g.row.N.Denot). IsNoSole (sort_of g.N.Node.layout g.N.Node.ranged) g.N.Node.body z.parent) (sym step.same) step.no_sole
 
 pub returns-in-Rests-clause-tested : goal.returns-in-Rests-clause-tested
-returns-in-Rests-clause-tested g c = λ which alone. let me : ℕ = c.args.pass.now.caller in let s = seen_of c.args.pass.now in let h = seen_of c.loop.pass in let k = seen_of c.tidy_once.new.pass in let inv = c.loop.invariant in let step = c.in-Rests.ensures.step in let sort = sort_of g.N.Node.layout g.N.Node.ranged in
+returns-in-Rests-clause-tested g c = λ whole which alone. let me : ℕ = c.args.pass.now.caller in let s = seen_of c.args.pass.now in let h = seen_of c.loop.pass in let k = seen_of c.tidy_once.new.pass in let inv = c.loop.invariant in let step = c.in-Rests.ensures.step in let sort = sort_of g.N.Node.layout g.N.Node.ranged in
     let now : ActsAlone me h k = alone_then me s h k (frees_begins me s h inv.5.frees) (frees_begins me h k (frees_as me c.loop.pass.caller h k inv.1 step.frees)) alone in
     let low = subst (λ (z : Path g.row.N.Denot). IsTrue c.args.thorough ⊎ IsTrue (is_low g.N.Node.layout (g.N.Node.body z.node.body))) step.same which in
-    subst (λ (z : Path g.row.N.Denot). FitsAlone sort g.N.Node.body me z.node.node h k) (sym step.same) (subst (λ (z : ℕ). FitsAlone sort g.N.Node.body z c.loop.path.node.node h k) inv.1 (step.tested low)) now
+    subst (λ (z : Path g.row.N.Denot). FitsAlone sort g.N.Node.body me z.node.node h k) (sym step.same) (subst (λ (z : ℕ). FitsAlone sort g.N.Node.body z c.loop.path.node.node h k) inv.1 (step.tested (subst IsWhole step.same whole) low)) now
 
 pub returns-in-Rests-clause-dels : goal.returns-in-Rests-clause-dels
 returns-in-Rests-clause-dels g c = λ off. let inv = c.loop.invariant in does_on (MayDel (sort_of g.N.Node.layout g.N.Node.ranged)) c.args.pass.now.caller c.loop.pass.caller (seen_of c.args.pass.now) (seen_of c.loop.pass) (seen_of c.tidy_once.new.pass) inv.1 (inv.7 off) (c.tidy_once.ensures.dels off)

@@ -6,7 +6,7 @@ use Rattle.ks_arena.specs.Clauses.{IsPass, seen_of}
 use Rattle.ks_shape.specs.Places.{HasPlacesOf}
 use Rattle.ks_shape.specs.Stretches.{Stretches}
 use Rattle.ks_shape.specs.Frees.{Counts, Undisturbed}
-use Rattle.ks_tidy.specs.Pair.{IsPair}
+use Rattle.ks_tidy.specs.Pair.{FreesAny, IsPair}
 use Rattle.ks_shape.specs.Does.{DoesOnly, MayDel}
 use Rattle.ks_tidy.proofs.node.tidy_node.Given as goal
 
@@ -20,3 +20,5 @@ invariant-loop g l =
     × Counts l.fn.pass.caller (seen_of l.fn.pass) (seen_of l.pass) l.freed
     × (Undisturbed l.fn.pass.caller (seen_of l.fn.pass) (seen_of l.pass) → l.path ≡ l.fn.path)
     × (l.thorough ≡ false → DoesOnly (MayDel (sort_of g.N.Node.layout g.N.Node.ranged)) l.fn.pass.caller (seen_of l.fn.pass) (seen_of l.pass))
+    × FreesAny l.fn.pass.caller (seen_of l.fn.pass) (seen_of l.pass) l.any
+    × (l.any ≡ false → l.path ≡ l.fn.path)

@@ -1,8 +1,8 @@
-use Rattle.std.proofs.Common.{◌≡◌, ◌∙◌, ℕ, length, arith, refl, sym, ap, subst}
+use Rattle.std.proofs.Common.{◌∙◌, ℕ, length, arith, refl, sym, ap}
 use Rattle.ks_history.specs.Trace.{graph_after}
 use Rattle.ks_history.specs.Frames.{frame_after}
 use Rattle.ks_arena.specs.Sound.{blank_of, sort_of}
-use Rattle.ks_arena.specs.Clauses.{hand_of, seen_of}
+use Rattle.ks_arena.specs.Clauses.{seen_of}
 use Rattle.ks_shape.specs.Laws.Stretches.{stretches_here}
 use Rattle.ks_shape.specs.Laws.Frees.{frees_here}
 use Rattle.ks_tidy.proofs.Standing.{plain, stands_now}
@@ -23,7 +23,7 @@ returns-in-None-clause-step g c = let sort = sort_of g.N.Node.layout g.N.Node.ra
       same = refl;
       frees = frees_here c.args.pass.now.caller h;
       no_sole = c.requires.no_sole;
-      tested = λ which alone. c.alone_law.ensures.last g.N.Node.layout (graph_after h) (frame_after (blank_of sort) h) y.node x.node c.args.place (g.N.Node.body y.body) (g.N.Node.body x.body) ((c.search_law.ensures sort n).facts h c.requires.pass.sound)
+      tested = λ whole which alone. c.alone_law.ensures.last g.N.Node.layout (graph_after h) (frame_after (blank_of sort) h) y.node x.node c.args.place (g.N.Node.body y.body) (g.N.Node.body x.body) ((c.search_law.ensures sort n).facts h c.requires.pass.sound)
           (stands_now sort g.N.Node.body h y path.under.live path.under.matches (plain (g.N.Node.body y.body) c.node_law.ensures.sound c.node_law.ensures.framed (no_link y.body)))
           (stands_now sort g.N.Node.body h x path.live path.matches (plain (g.N.Node.body x.body) c.node_law-2.ensures.sound c.node_law-2.ensures.framed (no_link x.body)))
           path.under.leads c.requires.unchained (sym c.right_of.ensures ∙ c.in-None.is);

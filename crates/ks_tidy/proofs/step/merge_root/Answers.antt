@@ -1,11 +1,10 @@
 use Rattle.std.proofs.Common.{◌≡◌, ◌∙◌, ℕ, length, arith, refl, sym, ap, subst}
-use Rattle.std.specs.Prelude.{None}
 use Rattle.ks_keysets.specs.Tight.{FitsNoRight}
 use Rattle.ks_history.specs.Trace.{graph_after}
 use Rattle.ks_history.specs.Frames.{frame_after}
 use Rattle.ks_bodies.specs.Stands.{Stands}
 use Rattle.ks_arena.specs.Sound.{blank_of, sort_of}
-use Rattle.ks_arena.specs.Clauses.{hand_of, seen_of}
+use Rattle.ks_arena.specs.Clauses.{seen_of}
 use Rattle.ks_shape.specs.Laws.Stretches.{stretches_here}
 use Rattle.ks_shape.specs.Laws.Frees.{frees_here}
 use Rattle.ks_tidy.proofs.Standing.{plain, stands_now}
@@ -22,14 +21,14 @@ returns-in-None-clause-stretch g c = stretches_here c.args.pass.now.caller (seen
 
 pub returns-in-None-clause-step : goal.returns-in-None-clause-step
 returns-in-None-clause-step g c = let sort = sort_of g.N.Node.layout g.N.Node.ranged in let n : ℕ = c.args.arena.now.table.shared.table_id.slots in let h = seen_of c.args.pass.now in let x = c.args.root in let path = c.requires.pair.path in
-    let zero : x.node ≡ 0 = c.requires.pair.rooted refl in
     let stands = stands_now sort g.N.Node.body h x path.live path.matches (plain (g.N.Node.body x.body) c.node_law.ensures.sound c.node_law.ensures.framed (c.unlinked_law.ensures.no_link x.body)) in
-    let at : Stands (graph_after h) (frame_after (blank_of sort) h) 0 (g.N.Node.body x.body) = subst (λ (z : ℕ). Stands (graph_after h) (frame_after (blank_of sort) h) z (g.N.Node.body x.body)) zero stands in
     record {
       same = refl;
       frees = frees_here c.args.pass.now.caller h;
       no_sole = tt;
-      tested = λ which alone. subst (λ (z : ℕ). FitsNoRight g.N.Node.layout (graph_after h) (frame_after (blank_of sort) h) z) (sym zero)
+      tested = λ whole which alone. let zero : x.node ≡ 0 = whole refl in
+          let at : Stands (graph_after h) (frame_after (blank_of sort) h) 0 (g.N.Node.body x.body) = subst (λ (z : ℕ). Stands (graph_after h) (frame_after (blank_of sort) h) z (g.N.Node.body x.body)) zero stands in
+          subst (λ (z : ℕ). FitsNoRight g.N.Node.layout (graph_after h) (frame_after (blank_of sort) h) z) (sym zero)
           (c.alone_law.ensures.root g.N.Node.layout (graph_after h) (frame_after (blank_of sort) h) (g.N.Node.body x.body) ((c.search_law.ensures sort n).facts h c.requires.pass.sound) at (sym c.chained-right.ensures ∙ c.in-None.is));
     }
 

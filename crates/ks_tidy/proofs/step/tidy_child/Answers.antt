@@ -1,9 +1,9 @@
-use Rattle.std.proofs.Common.{◌≡◌, ◌∙◌, ℕ, length, true, false, arith, refl, sym, ap, subst, inl, inr}
-use Rattle.std.specs.Prelude.{Some, None}
+use Rattle.std.proofs.Common.{◌≡◌, ◌∙◌, ℕ, length, true, false, arith, refl, sym, ap, inl, inr}
+use Rattle.std.specs.Prelude.{Some}
 use Rattle.ks_history.specs.Trace.{graph_after}
 use Rattle.ks_history.specs.Frames.{frame_after}
 use Rattle.ks_arena.specs.Sound.{blank_of, sort_of}
-use Rattle.ks_arena.specs.Clauses.{hand_of, seen_of}
+use Rattle.ks_arena.specs.Clauses.{seen_of}
 use Rattle.ks_shape.specs.Laws.Stretches.{stretches_here}
 use Rattle.ks_shape.specs.Laws.Frees.{frees_here}
 use Rattle.ks_tidy.proofs.Standing.{plain, stands_now}
@@ -29,7 +29,7 @@ returns-clause-step g c = record {
   same = refl;
   frees = frees_here c.args.pass.now.caller (seen_of c.args.pass.now);
   no_sole = c.has_sole.ensures.none c.if-has_sole.false;
-  tested = λ which alone. absurd (elim which [
+  tested = λ whole which alone. absurd (elim which [
     | inl on ↦ (let q : false ≡ true = sym c.if-thorough.false ∙ on in let z : ⊥ = cc in z)
     | inr low ↦ (let q : false ≡ true = sym (sym c.is_low.ensures ∙ c.if-is_low.false) ∙ low in let z : ⊥ = cc in z)
   ]);

@@ -1,4 +1,4 @@
-use Rattle.std.proofs.Common.{◌≡◌, ◌<◌, ◌≤◌, ◌++◌, ℕ, List, ◌∷◌, length, Some, arith, ap, subst}
+use Rattle.std.proofs.Common.{◌≡◌, ◌<◌, ◌++◌, ℕ, length, Some, arith, ap, subst}
 use Rattle.ks_keysets.specs.Keyset.{record_at}
 use Rattle.ks_history.specs.Trace.{held, turn_after, graph_after}
 use Rattle.ks_history.specs.Laws.Hand.{is_hand}

@@ -1,4 +1,4 @@
-use Rattle.std.proofs.Common.{◌≡◌, ◌∙◌, ◌+◌, ◌%◌, ◌^◌, ℕ, [], arith, sym, subst}
+use Rattle.std.proofs.Common.{◌≡◌, ◌∙◌, ◌+◌, ◌%◌, ◌^◌, ℕ, [], arith, sym, subst, inl}
 use Rattle.ks_history.specs.Own.{hand}
 use Rattle.ks_arena.specs.Sound.{sort_of}
 use Rattle.ks_arena.specs.Clauses.{seen_of}
@@ -22,7 +22,7 @@ returns-in-Err-clause-pass g c = (c.try_enter.ensures.pass, subst (λ (z : ℕ).
 
 pub loop-steps-init : goal.loop-steps-init
 loop-steps-init g c = let me : ℕ = c.args.pass.now.caller in let h = seen_of c.args.pass.now in let k = seen_of c.try_enter.new.pass in let e = c.try_enter.ensures in let o = c.in-Ok.ensures in
-    (e.pass, e.caller, record { path = o.path; rooted = λ none. o.took.0 }, e.stretch, counts_of me 0 h k (omega arith) (frees_take me 0 h k o.took.1), searched_dels (sort_of g.N.Node.layout g.N.Node.ranged) me h k e.leaves)
+    (e.pass, e.caller, record { path = o.path; rooted = λ none. inl o.took.0 }, e.stretch, counts_of me 0 h k (omega arith) (frees_take me 0 h k o.took.1), searched_dels (sort_of g.N.Node.layout g.N.Node.ranged) me h k e.leaves)
 
 -- where the search is after it tidied
 now : (g : Over) (c : After-try_tidy_at-tidied g) → c.try_tidy_at-tidied.new.pass.caller ≡ c.args.pass.now.caller
