@@ -4,6 +4,7 @@ use Rattle.ks_history.specs.declared.Reply.{Reply}
 use Rattle.ks_history.specs.declared.Reply.TheVariants.{Full as full_reply}
 use Rattle.ks_history.specs.Map.{told}
 use Rattle.ks_shape.specs.declared.answers.Numbered.{Numbered}
+use Rattle.ks_shape.specs.declared.answers.NumberedAt.{NumberedAt}
 use Rattle.ks_shape.specs.declared.answers.Full.{Full}
 
 -- the reply of the history that is in such a result
@@ -15,3 +16,12 @@ reply_in (Err full) = full_reply
 abbrev pub number_in : Result Numbered Full → ℕ
 number_in (Ok answer) = answer.number
 number_in (Err full) = full.number
+
+-- the same of a result that says where the call was decided
+abbrev pub reply_at : Result NumberedAt Full → Reply
+reply_at (Ok answer) = told answer.found
+reply_at (Err full) = full_reply
+
+abbrev pub number_at : Result NumberedAt Full → ℕ
+number_at (Ok answer) = answer.number
+number_at (Err full) = full.number

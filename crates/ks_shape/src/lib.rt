@@ -10,6 +10,7 @@ mod ending;
 mod far;
 mod fills;
 mod here;
+mod hinting;
 mod laws;
 mod leaves;
 mod link;
@@ -33,6 +34,7 @@ pub use fills::{Fill, fill_at, not_put_off};
 pub use here::{
     add_here, del_here, get_here, has_room, put_here, refuse_here, swap_here, tree_end_law,
 };
+pub use hinting::Hinting;
 pub use laws::search_law;
 pub use leaves::leaves_law;
 pub use link::{attach, grow_right, split_right};
