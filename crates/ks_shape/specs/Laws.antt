@@ -18,4 +18,5 @@ pub mod Leaves
 pub mod Search
 pub mod Found
 pub mod Hinted
+pub mod Located
 pub mod Parts

@@ -7,6 +7,7 @@ pub mod Answers
 pub mod Fills
 pub mod Idle
 pub mod Hinted
+pub mod Located
 pub mod Tries
 pub mod Stretches
 pub mod Claims

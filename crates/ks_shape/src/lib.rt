@@ -38,7 +38,7 @@ pub use hinting::Hinting;
 pub use laws::search_law;
 pub use leaves::leaves_law;
 pub use link::{attach, grow_right, split_right};
-pub use located::{above_of, del_located, get_located, put_located};
+pub use located::{above_of, del_located, fill_located, get_located, passed, swap_located};
 pub use parts::{Part, part_here};
 pub use path::{Path, enter, keep_alone, keep_left, let_go, step_down};
 pub use scanning::{Scanning, scanning_law};

@@ -1,20 +1,25 @@
 //! Calls decided where the search for their place has ended, at a node with a range: their results say which node.
-ghost use Rattle.std.specs.Prelude.{◌≡◌, ◌≤◌, List, IfSome, true};
+ghost use Rattle.std.specs.Prelude.{◌≡◌, ◌≤◌, List, IfOk, IfSome, Some, true};
 ghost use Rattle.ks_history.specs.declared.Event.{Event as Happening};
-ghost use Rattle.ks_history.specs.declared.Op.TheVariants.{Del, Get, Put};
+ghost use Rattle.ks_history.specs.declared.Op.TheVariants.{Del, Get, Swap};
 ghost use Rattle.ks_history.specs.Map.{told};
 ghost use Rattle.ks_arena.specs.Clauses.{Matches};
 ghost use Rattle.ks_arena.specs.Of.{IsPassOf, IsEmptyPassOf, SeesOn, SameCaller};
 ghost use Rattle.ks_arena.specs.Sound.{sort_of};
 ghost use Rattle.ks_shape.specs.Does.{OnlySearches};
-ghost use Rattle.ks_shape.specs.Hinted.{IsAbove, above_in};
-ghost use Rattle.ks_shape.specs.Of.{MakesNoneLive, FinishesAny, FinishesWhere, SearchEndsAt, HasRoomAt};
+ghost use Rattle.ks_history.specs.Trace.{◌⊑◌};
+ghost use Rattle.ks_shape.specs.Fills.{EndsForRoomOf, FinishesFill, ended_at, filling};
+ghost use Rattle.ks_shape.specs.Hinted.{IsAbove, IsWhere, WasAbove, above_in};
+ghost use Rattle.ks_shape.specs.Located.{FinishesFillWhere, has_place as has_in, passed_in, plain_of};
+ghost use Rattle.ks_shape.specs.Of.{MakesNoneLive, FinishesAny, FinishesWhere, SearchEndsAt};
 
-use crate::answers::{Above, NumberedAt};
-use crate::here::{del_here, get_here, put_here};
+use crate::answers::{Above, Full, NumberedAt};
+use crate::fills::{Fill, fill_at};
+use crate::here::{del_here, get_here, swap_here};
 use ks_arena::{Arena, Held, Pass};
 use ks_flow::Discipline;
 use ks_gate::Gate;
+use ks_keysets::Span;
 use ks_node::Ranged;
 
 /// The held node and its range, for the search that goes on below it; `None` if it is no branch.
@@ -33,6 +38,32 @@ pub fn above_of<N: Ranged>(held: &Held<N>) -> Option<Above>
         low: range.low,
         last: range.last,
     })
+}
+
+/// Whether the range of a branch has a place.
+fn has_place(branch: Above, place: u64) -> bool
+    ensures is { result ≡ has_in place branch }
+    ensures within { result ≡ true → (branch.low ≤ place) × (place ≤ branch.last) }
+{
+    branch.low <= place && place <= branch.last
+}
+
+/// The last branch that a search for a place has passed once it goes on from the held node: this node, if it is a branch
+/// with the place in its range, else `above`, the branch before.
+pub fn passed<N: Ranged>(held: &Held<N>, place: u64, above: Option<Above>) -> Option<Above>
+    ensures is { result ≡ passed_in place above (above_in held.now.node (N.body held.now.body)) }
+    ensures lasts { (s h : List Happening) → s ⊑ h → held.now.live ≡ true →
+        Matches (sort_of N.layout N.ranged) N.body h held.now →
+        IfSome above (WasAbove (sort_of N.layout N.ranged) place s h) →
+        IfSome result (WasAbove (sort_of N.layout N.ranged) place s h) }
+{
+    let Some(branch) = above_of(held) else {
+        return above;
+    };
+    if has_place(branch, place) {
+        return Some(branch);
+    }
+    above
 }
 
 /// Decides a get where the search for its place has ended. Returns also the node, its range, and `above`, the last
@@ -70,32 +101,33 @@ pub fn get_located<N: Ranged, D: Discipline, G: Gate>(
     }
 }
 
-/// Decides a put where the search for its place has ended, at a node that has the place or room for it: the value is
-/// set. Returns also the node, its range, and `above`, the last branch that the search passed.
-pub fn put_located<N: Ranged, D: Discipline, G: Gate>(
+/// Decides a swap where the search for its place has ended: the new value is set if the old one is there. Returns also the
+/// node, its range, and `above`, the last branch that the search passed.
+pub fn swap_located<N: Ranged, D: Discipline, G: Gate>(
     arena: &Arena<N, D>,
     pass: &mut Pass<N, D>,
     gate: &G,
     place: u64,
-    value: u128,
+    old: u128,
+    new: u128,
     held: Held<N>,
     above: Option<Above>,
 ) -> NumberedAt
     requires pass { IsPassOf arena.now pass.old }
-    requires room { HasRoomAt arena.now place pass.old held }
+    requires ends { SearchEndsAt arena.now place pass.old held }
     ensures pass { IsEmptyPassOf arena.now pass.new }
     ensures caller { SameCaller pass.old pass.new }
     ensures leaves { OnlySearches pass.old pass.new }
     ensures begins { SeesOn pass.old pass.new }
     ensures makes { MakesNoneLive pass.old pass.new }
-    ensures done { FinishesAny arena.now (Put place value) pass.old pass.new (told result.found) result.number }
-    ensures at { FinishesWhere arena.now (Put place value) pass.old pass.new result }
+    ensures done { FinishesAny arena.now (Swap place old new) pass.old pass.new (told result.found) result.number }
+    ensures at { FinishesWhere arena.now (Swap place old new) pass.old pass.new result }
     ensures within { (result.low ≤ place) × (place ≤ result.last) }
     ensures above { result.above ≡ above }
 {
     let node = held.node;
     let range = held.body.range();
-    let numbered = put_here(arena, pass, gate, place, value, held);
+    let numbered = swap_here(arena, pass, gate, place, old, new, held);
     NumberedAt {
         number: numbered.number,
         found: numbered.found,
@@ -103,6 +135,54 @@ pub fn put_located<N: Ranged, D: Discipline, G: Gate>(
         low: range.low,
         last: range.last,
         above,
+    }
+}
+
+/// The node at which a search for room has ended, and its range.
+fn ended<N: Ranged>(found: &Result<Held<N>, Held<N>>) -> (u32, Span)
+    ensures node { result.0 ≡ (ended_at found.now).node }
+    ensures range { (N.body (ended_at found.now).body).range ≡ Some result.1 }
+{
+    match found {
+        Ok(held) => (held.node, held.body.range()),
+        Err(held) => (held.node, held.body.range()),
+    }
+}
+
+/// Decides a put or an add at the end of a search for room, as `fill_at`. Returns also the node, its range, and `above`,
+/// the last branch that the search passed.
+pub fn fill_located<N: Ranged, D: Discipline, G: Gate>(
+    arena: &Arena<N, D>,
+    pass: &mut Pass<N, D>,
+    gate: &G,
+    place: u64,
+    fill: Fill,
+    found: Result<Held<N>, Held<N>>,
+    above: Option<Above>,
+) -> Result<NumberedAt, Full>
+    requires pass { IsPassOf arena.now pass.old }
+    requires found { EndsForRoomOf arena.now place pass.old found }
+    ensures pass { IsEmptyPassOf arena.now pass.new }
+    ensures caller { SameCaller pass.old pass.new }
+    ensures leaves { OnlySearches pass.old pass.new }
+    ensures begins { SeesOn pass.old pass.new }
+    ensures makes { MakesNoneLive pass.old pass.new }
+    ensures done { FinishesFill arena.now (filling place fill) place found pass.old pass.new (plain_of result) }
+    ensures at { FinishesFillWhere arena.now (filling place fill) pass.old pass.new result }
+    ensures within { IfOk result (IsWhere place) }
+    ensures above { IfOk result (λ answer. answer.above ≡ above) }
+{
+    let (node, range) = ended(&found);
+    match fill_at(arena, pass, gate, place, fill, found) {
+        Ok(numbered) => Ok(NumberedAt {
+            number: numbered.number,
+            found: numbered.found,
+            node,
+            low: range.low,
+            last: range.last,
+            above,
+        }),
+        Err(full) => Err(full),
     }
 }
 
