@@ -9,6 +9,6 @@ mod splits;
 mod try_fills;
 mod try_room;
 
-pub use fills::pair_fill;
+pub use fills::{pair_fill, pair_fill_at};
 pub use room::make_room;
 pub use try_fills::try_pair_fill;

@@ -5,16 +5,18 @@ use Rattle.ks_node.below.ks_places.specs.declared.Placing.{Ghosts as PlacingGhos
 use Rattle.ks_flow.specs.declared.discipline.Discipline.{Ghosts as DisciplineGhosts}
 use Rattle.ks_history.specs.declared.Event.{Event}
 use Rattle.ks_history.specs.declared.Op.{Op}
+use Rattle.ks_history.specs.Done.{Template}
+use Rattle.ks_history.specs.Map.{told}
 use Rattle.ks_history.specs.Trace.{◌⊑◌}
 use Rattle.ks_arena.specs.declared.arena.Arena.{Arena}
 use Rattle.ks_arena.specs.declared.held.Pass.{Pass}
 use Rattle.ks_arena.specs.Clauses.{seen_of}
-use Rattle.ks_arena.specs.Sound.{Sort}
+use Rattle.ks_arena.specs.Sound.{Sort, blank_of, sort_of}
 use Rattle.ks_shape.specs.declared.answers.Above.{Above}
 use Rattle.ks_shape.specs.declared.answers.Full.{Full}
 use Rattle.ks_shape.specs.declared.answers.Numbered.{Numbered}
 use Rattle.ks_shape.specs.declared.answers.NumberedAt.{NumberedAt}
-use Rattle.ks_shape.specs.Hinted.{WasAbove}
+use Rattle.ks_shape.specs.Hinted.{DoneWhere, WasAbove}
 use Rattle.ks_shape.specs.Of.{FinishesWhere}
 
 -- the result without where the call was decided
@@ -42,3 +44,11 @@ module _ {N D P : Type 0} {n : NodeGhosts N P} {q : PlacingGhosts P} {d : Discip
   -- result says at which node it was decided, and which range this node then had
   abbrev pub FinishesFillWhere : Arena N D P n q d → Op → Pass N D → Pass N D → Result NumberedAt Full → Type 0
   FinishesFillWhere a op p p' answer = IfOk answer (λ numbered. FinishesWhere a op p p' numbered)
+
+  -- between p and p' the caller made one call, and its result says at which node it was decided, and with which range; so it is
+  -- of a put or an add, unless it is full
+  abbrev pub DoneWhereOf : Arena N D P n q d → Template → Op → Pass N D → Pass N D → NumberedAt → Type 0
+  DoneWhereOf a template op p p' answer = DoneWhere n.layout template a.nodes p.caller op (seen_of p) (seen_of p') (told answer.found) answer.number answer.node answer.low answer.last (blank_of (sort_of n.layout n.ranged))
+
+  abbrev pub FillDoneWhereOf : Arena N D P n q d → Template → Op → Pass N D → Pass N D → Result NumberedAt Full → Type 0
+  FillDoneWhereOf a template op p p' answer = IfOk answer (λ numbered. DoneWhereOf a template op p p' numbered)

@@ -1,5 +1,5 @@
 //! What a technique of concurrency offers besides: calls that begin at a hint, and say where they were decided.
-ghost use Rattle.std.specs.Prelude.{◌≢◌, IfOk, IfSome, IsTrue, None};
+ghost use Rattle.std.specs.Prelude.{◌≡◌, ◌≢◌, ◌<◌, ◌≤◌, IfNone, IfOk, IfSome, IsTrue, None};
 ghost use Rattle.ks_history.specs.declared.Op.TheVariants.{Add, Del, Get, Put, Swap};
 ghost use Rattle.ks_history.specs.Map.{told};
 ghost use Rattle.ks_arena.specs.Of.{SameCaller, WasAlone};
@@ -15,6 +15,21 @@ use ks_arena::Pass;
 use ks_gate::Gate;
 use ks_node::Node;
 use std::sync::Wait;
+
+/// The node at which a call with this hint begins, of this number of nodes: the hinted node, if it is one of them, else the root.
+pub fn start_of(hint: Option<u32>, nodes: u32) -> u32
+    ensures near { 0 < nodes → result < nodes }
+    ensures hinted { IfSome hint (λ i. (i < nodes → result ≡ i) × (nodes ≤ i → result ≡ 0)) }
+    ensures root { IfNone hint (result ≡ 0) }
+{
+    let Some(node) = hint else {
+        return 0;
+    };
+    if node < nodes {
+        return node;
+    }
+    0
+}
 
 /// A technique whose calls may begin at a hint: a node at which the caller expects its search to end or to pass. Any hint
 /// is right: the call takes the hinted node first, and continues from there if the search for its place may. Else, or

@@ -34,7 +34,7 @@ pub use fills::{Fill, fill_at, not_put_off};
 pub use here::{
     add_here, del_here, get_here, has_room, put_here, refuse_here, swap_here, tree_end_law,
 };
-pub use hinting::Hinting;
+pub use hinting::{Hinting, start_of};
 pub use laws::search_law;
 pub use leaves::leaves_law;
 pub use link::{attach, grow_right, split_right};

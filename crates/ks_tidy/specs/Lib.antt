@@ -1,4 +1,5 @@
 pub mod Pair
+pub mod Where
 pub mod Of
 pub mod Walking
 pub mod Compacts

@@ -6,9 +6,10 @@ ghost use Rattle.ks_node.specs.declared.start.Next.TheVariants.{Here};
 ghost use Rattle.ks_node.specs.Body.{next_at};
 ghost use Rattle.ks_arena.specs.Clauses.{hand_of};
 ghost use Rattle.ks_arena.specs.Of.{Holds, HasDecided, IsCurrent, IsEmptyPassOf, IsInside, IsLiveAndCurrent, IsPassOf, IsReadyAt, SeesOn, StayCurrentBut, WasAlone, SameCaller, caller_of};
-ghost use Rattle.ks_shape.specs.Of.{FinishesAny, SearchEndsAt};
+ghost use Rattle.ks_shape.specs.Of.{FinishesAny, FinishesAt, SearchEndsAt};
 ghost use Rattle.ks_tidy.specs.Of.{DecidesAny, IsKeptAt, IsPairOf, IsTidyOf};
 ghost use Rattle.ks_tidy.specs.Pair.{IsWhole};
+ghost use Rattle.ks_tidy.specs.Where.{DecidesAt};
 ghost use Rattle.ks_shape.specs.Does.{OnlyDels, OnlySearches};
 
 use crate::descent::{leave, pair_tidy, tidy_on};
@@ -46,6 +47,7 @@ pub(crate) fn delete<N: Unlinked, G: Gate>(
     ensures keyset { IsKeptAt pass.new held.old.node place }
     ensures still { StayCurrentBut arena.now held.old.node pass.old pass.new }
     ensures decided { DecidesAny arena.now (Del place) pass.old pass.new (told result.found) result.number }
+    ensures at { DecidesAt arena.now held.old (Del place) pass.old pass.new (told result.found) result.number }
 {
     search_law();
     node_law(&held.body);
@@ -130,6 +132,7 @@ pub fn del_alone<N: Unlinked, R: Wait, G: Gate>(
     ensures dels { OnlyDels N.layout N.ranged pass.old pass.new }
     ensures begins { SeesOn pass.old pass.new }
     ensures done { FinishesAny arena.now (Del place) pass.old pass.new (told result.found) result.number }
+    ensures at { FinishesAt arena.now held (Del place) pass.old pass.new (told result.found) result.number }
     ensures tidy { result.found ≢ None → WasAlone pass.old pass.new → IsTidyOf arena.now pass.new place }
 {
     search_law();

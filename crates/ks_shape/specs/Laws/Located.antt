@@ -1,6 +1,6 @@
 -- Where calls are decided, and the branches that searches have passed.
-use Rattle.std.proofs.Common.{◌≡◌, ◌≤◌, ℕ, List, true, sym, ap, subst, arith}
-use Rattle.std.specs.Prelude.{Bool, Option, Some, None, Result, Ok, Err, IfSome, cond}
+use Rattle.std.proofs.Common.{◌≡◌, ◌≤◌, ◌<◌, ℕ, List, true, sym, ap, ◌∙◌, subst, arith}
+use Rattle.std.specs.Prelude.{Bool, Option, Some, None, Result, Ok, Err, IfOk, IfSome, cond}
 use Rattle.ks_keysets.specs.declared.Frame.{Frame}
 use Rattle.ks_keysets.specs.declared.Span.{Span}
 use Rattle.ks_keysets.specs.Layout.{Layout}
@@ -8,8 +8,12 @@ use Rattle.ks_history.specs.declared.Event.{Event}
 use Rattle.ks_history.specs.declared.Op.{Op}
 use Rattle.ks_history.specs.declared.Reply.{Reply}
 use Rattle.ks_history.specs.Done.{Template, DoneAt}
+use Rattle.ks_history.specs.Laws.Alone.{alone_still}
 use Rattle.ks_history.specs.Laws.Begins.{begins_both}
-use Rattle.ks_history.specs.Trace.{◌⊑◌}
+use Rattle.ks_history.specs.Map.{told}
+use Rattle.ks_history.specs.Passes.{GrowsByOthers}
+use Rattle.ks_history.specs.Trace.{◌⊑◌, Turn, free, idle, turn_after}
+use Rattle.ks_history.specs.Underway.{Underway}
 use Rattle.ks_node.specs.Body.{Body, first_of, frame_of, last_of}
 use Rattle.ks_arena.specs.declared.held.Held.{Held as Hand}
 use Rattle.ks_arena.specs.Sound.{Sort}
@@ -18,7 +22,8 @@ use Rattle.ks_shape.specs.declared.answers.Full.{Full}
 use Rattle.ks_shape.specs.declared.answers.NumberedAt.{NumberedAt}
 use Rattle.ks_shape.specs.Answers.{number_at, number_in, reply_at, reply_in}
 use Rattle.ks_shape.specs.Fills.{EndsForRoom, ended_at}
-use Rattle.ks_shape.specs.Hinted.{DoneWhere, WasAbove}
+use Rattle.ks_shape.specs.Hinted.{BeginsAt, DoneWhere, WasAbove}
+use Rattle.ks_shape.specs.Laws.Hinted.{begins_on}
 use Rattle.ks_shape.specs.Located.{has_place, passed_in, plain_of}
 
 -- a call that was decided at a node, with the range of its body
@@ -55,3 +60,32 @@ was_above_on sort place s k l on (Some branch) was = record { moment = was.momen
 -- a branch whose range has the place is passed
 pub passes : (place : ℕ) (before : Option Above) (branch : Above) → has_place place branch ≡ true → passed_in place before (Some branch) ≡ Some branch
 passes place before branch has = ap (λ (z : Bool). cond z (Some branch) before) has
+
+-- what holds of the value of a result
+pub ok_map : {A B : Type 0} {P Q : A → Type 0} → (r : Result A B) → ((x : A) → P x → Q x) → IfOk r P → IfOk r Q
+ok_map (Ok x) f so = f x so
+ok_map (Err e) f so = so
+
+-- a call that is under way is done where its end says, by another name of its caller
+pub finishes_on : {layout : Layout} {n : ℕ} {op : Op} {l : List Event} {blank : Frame} (answer : NumberedAt) (template : Template) (start : List Event) (a b : ℕ) (k : List Event) → b ≡ a → Underway template a op start k
+    → ((template : Template) (start : List Event) → Underway template b op start k → DoneWhere layout template n b op start l (told answer.found) answer.number answer.node answer.low answer.last blank)
+    → DoneWhere layout template n a op start l (told answer.found) answer.number answer.node answer.low answer.last blank
+finishes_on {layout} {n} {op} {l} {blank} answer template start a b k same under done =
+    subst (λ (z : ℕ). DoneWhere layout template n z op start l (told answer.found) answer.number answer.node answer.low answer.last blank) same (done template start (subst (λ (z : ℕ). Underway template z op start k) (sym same) under))
+
+-- a call that has begun at its hint did so, whatever follows
+pub hint_on : (n c : ℕ) (s k l : List Event) → s ⊑ k → k ⊑ l → (hint : Option ℕ) → IfSome hint (λ i. BeginsAt n c i s k) → IfSome hint (λ i. BeginsAt n c i s l)
+hint_on n c s k l from to None so = so
+hint_on n c s k l from to (Some i) so = begins_on n c i s k l from to so
+
+-- a call that begins at the start of its hint begins at the hint
+pub hint_begins : (n m c start : ℕ) (s k : List Event) → m ≡ n → (hint : Option ℕ) → IfSome hint (λ i. (i < m → start ≡ i) × (m ≤ i → start ≡ 0)) → BeginsAt n c start s k → IfSome hint (λ i. BeginsAt n c i s k)
+hint_begins n m c start s k same None so begun = so
+hint_begins n m c start s k same (Some i) so begun = λ near idle alone. subst (λ (z : ℕ). BeginsAt n c z s k) (so.0 (omega (arith, near, same))) begun near idle alone
+
+-- a call begins at each node that is found free: no such node was idle
+pub begins_gone : (n c i : ℕ) (h k : List Event) → GrowsByOthers c h k → turn_after k i ≡ free → BeginsAt n c i h k
+begins_gone n c i h k others gone = λ near was alone.
+    let same : k ≡ h = alone_still c h k alone others in
+    let clash : idle ≡ free = sym was ∙ sym (ap (λ (z : List Event). turn_after z i) same) ∙ gone in
+    absurd (let q : ⊥ = cc in q)

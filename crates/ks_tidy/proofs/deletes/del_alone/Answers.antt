@@ -16,7 +16,8 @@ use Rattle.ks_arena.specs.Clauses.{seen_of}
 use Rattle.ks_shape.specs.Laws.Single.{gave_last}
 use Rattle.ks_shape.specs.Stretches.{Stretches}
 use Rattle.ks_shape.specs.Laws.Stretches.{stretches_as, stretches_both, stretches_begins, stretches_give}
-use Rattle.ks_tidy.specs.Laws.Deciding.{decided_on}
+use Rattle.ks_node.specs.Body.{frame_of}
+use Rattle.ks_tidy.specs.Laws.Deciding.{decided_at_on, decided_on}
 use Rattle.ks_shape.specs.Laws.Frees.{frees_give, undisturbed_same}
 use Rattle.ks_tidy.proofs.Standing.{plain, stands_now}
 use Rattle.ks_shape.specs.Does.{DoesOnly, MaySearch}
@@ -129,3 +130,21 @@ returns-then-low-clause-dels g c = let at = (goal.at.returns-then-low-clause-del
 
 pub returns-clause-dels : goal.returns-clause-dels
 returns-clause-dels g c = searched_dels (sort_of g.N.Node.layout g.N.Node.ranged) c.args.pass.now.caller (seen_of c.args.pass.now) (seen_of c.give.new.pass) (left g (goal.at.returns-clause-dels g c).After-give)
+
+-- where it was decided
+
+pub returns-then-is_none-clause-at : goal.returns-then-is_none-clause-at
+returns-then-is_none-clause-at g c = λ template start under. let at = (goal.at.returns-then-is_none-clause-at g c).After-give in let me : ℕ = c.args.pass.now.caller in let h₁ = seen_of c.delete-answer.new.pass in let k = seen_of c.give.new.pass in let op : Op = Del c.args.place in
+    decided_at_on g.N.Node.layout template c.args.arena.now.nodes me op start h₁ k (told c.delete-answer.result.found) c.delete-answer.result.number c.args.held.node (blank_of (sort_of g.N.Node.layout g.N.Node.ranged)) (frame_of (g.N.Node.body c.args.held.body)) (c.delete-answer.ensures.at template start under)
+    (gives g at template op (omega arith)) (ap (λ (z : ℕ). hand z k) (sym (now g at)) ∙ none g at)
+
+pub returns-then-low-clause-at : goal.returns-then-low-clause-at
+returns-then-low-clause-at g c = λ template start under. let at = (goal.at.returns-then-low-clause-at g c).After-give in let me : ℕ = c.args.pass.now.caller in let h₁ = seen_of c.delete-answer.new.pass in let h₂ = seen_of c.give.new.pass in let k = seen_of c.pair_tidy.new.pass in let op : Op = Del c.args.place in
+    decided_at_on g.N.Node.layout template c.args.arena.now.nodes me op start h₁ k (told c.delete-answer.result.found) c.delete-answer.result.number c.args.held.node (blank_of (sort_of g.N.Node.layout g.N.Node.ranged)) (frame_of (g.N.Node.body c.args.held.body)) (c.delete-answer.ensures.at template start under)
+    (stretches_both me h₁ h₂ k (gives g at) (stretches_as me c.give.new.pass.caller h₂ k (now g at) c.pair_tidy.ensures.stretch) template op (omega arith))
+    (ap (λ (z : ℕ). hand z k) (sym (c.pair_tidy.ensures.caller ∙ now g at)) ∙ c.pair_tidy.ensures.pass.1)
+
+pub returns-clause-at : goal.returns-clause-at
+returns-clause-at g c = λ template start under. let at = (goal.at.returns-clause-at g c).After-give in let me : ℕ = c.args.pass.now.caller in let h₁ = seen_of c.delete-answer.new.pass in let k = seen_of c.give.new.pass in let op : Op = Del c.args.place in
+    decided_at_on g.N.Node.layout template c.args.arena.now.nodes me op start h₁ k (told c.delete-answer.result.found) c.delete-answer.result.number c.args.held.node (blank_of (sort_of g.N.Node.layout g.N.Node.ranged)) (frame_of (g.N.Node.body c.args.held.body)) (c.delete-answer.ensures.at template start under)
+    (gives g at template op (omega arith)) (ap (λ (z : ℕ). hand z k) (sym (now g at)) ∙ none g at)

@@ -7,8 +7,12 @@ use Rattle.ks_history.specs.Passes.{Has}
 use Rattle.ks_history.specs.Own.{hand}
 use Rattle.ks_history.specs.Laws.Underway.{underway_call}
 use Rattle.ks_arena.specs.declared.held.Held.{Held as Hand}
-use Rattle.ks_arena.specs.Sound.{sort_of}
-use Rattle.ks_arena.specs.Clauses.{IsReady, seen_of}
+use Rattle.ks_arena.specs.Sound.{blank_of, sort_of}
+use Rattle.ks_arena.specs.Clauses.{IsReady, hand_of, seen_of}
+use Rattle.ks_shape.specs.Laws.Search.{Laws}
+use Rattle.ks_node.specs.Body.{frame_of}
+use Rattle.ks_shape.specs.Laws.Single.{shown}
+use Rattle.ks_tidy.specs.Laws.Deciding.{decided_there}
 use Rattle.ks_tidy.proofs.Keeping.{places_kept}
 use Rattle.ks_tidy.proofs.Standing.{keyset_here, no_branch}
 use Rattle.ks_shape.specs.Laws.Does.{searches_call}
@@ -40,3 +44,10 @@ returns-clause-begins g c = with_begins c.args.pass.now.caller (Call c.args.pass
 
 pub returns-clause-leaves : goal.returns-clause-leaves
 returns-clause-leaves g c = searches_call c.args.pass.now.caller c.args.held.now.node (Del c.args.place) (told c.del-found.result) (seen_of c.args.pass.now) (seen_of c.del_told-number.new.pass) c.del_told-number.ensures.decided.adds.grows
+
+pub returns-clause-at : goal.returns-clause-at
+returns-clause-at g c = λ template start under. let sort = sort_of g.N.Node.layout g.N.Node.ranged in let n : ℕ = c.args.arena.now.table.shared.table_id.slots in let me : ℕ = c.args.pass.now.caller in let h = seen_of c.args.pass.now in let k = seen_of c.del_told-number.new.pass in let e = c.del_told-number.ensures in let op = Del c.args.place in let x = c.args.held.now in
+    let hands : hand me k ≡ hand me h = subst (λ (z : ℕ). hand z k ≡ hand me h) e.caller e.decided.hand in
+    let y : Hand g.row.N.Denot = record { node = x.node; body = c.del-found.new.self; live = x.live } in
+    decided_there g.N.Node.layout template c.args.arena.now.nodes me x.node c.del_told-number.result op (told c.del-found.result) (blank_of sort) (frame_of (g.N.Node.body x.body)) start h k ((c.search_law.ensures sort n).turns k e.pass.sound)
+    (c.del_law.ensures y refl c.requires.body.0 c.del-found.ensures.body).meets.0 (shown sort g.N.Node.body h x c.requires.body.0 c.requires.body.1).1 e.decided.adds (omega (arith, ap length hands, c.requires.few)) (never_full c.del-found.result) under
