@@ -9,6 +9,7 @@ ghost use Rattle.ks_arena.specs.Clauses.{seen_of};
 ghost use Rattle.ks_giveup.specs.Descent.{Came, CameToRoom};
 ghost use Rattle.ks_giveup.specs.Goes.{GoesTowards, MayVisitNext};
 ghost use Rattle.ks_arena.specs.Of.{Adds, IsPassOf, IsEmptyPassOf, IsNodeOf, SameCaller, caller_of};
+ghost use Rattle.ks_shape.specs.Hinted.{BeginsAt};
 ghost use Rattle.ks_shape.specs.Of.{IsUnderway, StaysUnderway, IsOnWayOf, SearchEndsAt};
 ghost use Rattle.ks_shape.specs.Does.{OnlySearches};
 
@@ -22,7 +23,7 @@ use std::sync::Wait;
 
 /// Takes a node, and keeps it if it is live and its range holds the place.
 #[inline(always)]
-fn visit<N: Ranged + Unlinked, R: Wait, G: Gate>(
+pub(crate) fn visit<N: Ranged + Unlinked, R: Wait, G: Gate>(
     rt: &R,
     arena: &Arena<N, Tree>,
     pass: &mut Pass<N, Tree>,
@@ -32,12 +33,12 @@ fn visit<N: Ranged + Unlinked, R: Wait, G: Gate>(
 ) -> Option<Held<N>>
     requires pass { IsEmptyPassOf arena.now pass.old }
     requires node { IsNodeOf arena.now node }
-    requires next { MayVisitNext place node pass.old }
     ensures pass { IsPassOf arena.now pass.new }
     ensures caller { SameCaller pass.old pass.new }
     ensures leaves { OnlySearches pass.old pass.new }
     ensures came { Came (sort_of N.layout N.ranged) N.body (caller_of pass.old) place (seen_of pass.new) result }
-    ensures goes { GoesTowards place pass.old pass.new }
+    ensures goes { MayVisitNext place node pass.old → GoesTowards place pass.old pass.new }
+    ensures first { BeginsAt arena.now.nodes (caller_of pass.old) node (seen_of pass.old) (seen_of pass.new) }
     ensures under { StaysUnderway give_up pass.old pass.new }
 {
     sound_law::<Tree>();

@@ -8,8 +8,10 @@
 #![tactic(auto)]
 
 mod calls;
+mod calls_near;
 mod descent;
 mod merging;
+mod near;
 mod scans;
 mod technique;
 mod tries;

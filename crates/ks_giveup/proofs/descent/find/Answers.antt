@@ -17,7 +17,7 @@ loop-init g c = (c.requires.pass.0, c.requires.pass.1, refl, omega arith, λ op.
 
 -- up to the visit
 gone : (g : Over) (c : After-visit g) → Goes c.loop.pass.caller c.args.place (seen_of c.args.pass.now) (seen_of c.visit.new.pass)
-gone g c = goes_both c.loop.invariant.6 c.visit.ensures.goes
+gone g c = goes_both c.loop.invariant.6 (c.visit.ensures.goes c.loop.invariant.5)
 
 pub loop-preserved-in_default : goal.loop-preserved-in_default
 loop-preserved-in_default g c = let at = (goal.at.loop-preserved-in_default g c).After-visit in let e = c.visit.ensures in let inv = c.loop.invariant in let s = seen_of c.args.pass.now in let k = seen_of c.visit.new.pass in (

@@ -1,5 +1,5 @@
 use Rattle.std.proofs.Common.{◌≡◌, ℕ, List, [], ◌∷◌, sym, ap, ◌∙◌, subst}
-use Rattle.ks_history.specs.declared.Event.TheVariants.{Give}
+use Rattle.ks_history.specs.declared.Event.TheVariants.{Give, Take}
 use Rattle.ks_history.specs.Own.{hand}
 use Rattle.ks_history.specs.Done.{give_up, first_taken}
 use Rattle.ks_history.specs.Passes.{GrowsWith}
@@ -10,6 +10,9 @@ use Rattle.ks_arena.specs.Clauses.{seen_of}
 use Rattle.ks_shape.specs.Laws.Single.{takes}
 use Rattle.ks_giveup.specs.Goes.{at_first}
 use Rattle.ks_giveup.proofs.Way.{goes_others, goes_with, visited}
+use Rattle.ks_history.specs.Laws.Begins.{with_begins}
+use Rattle.ks_shape.specs.Laws.Hinted.{begins_on, begins_taking}
+use Rattle.ks_shape.specs.Laws.Located.{begins_gone}
 use Rattle.ks_shape.specs.Does.{MaySearch}
 use Rattle.ks_shape.specs.Laws.Does.{does_on, does_others, searches_take}
 use Rattle.ks_giveup.proofs.descent.visit.Goals as goal
@@ -19,15 +22,15 @@ give_last-requires-clause-alone g c κs within = let e = c.in-Some.ensures in le
     subst (λ (z : ℕ). hand z (seen_of c.take.new.pass) ≡ i ∷ []) (sym e.caller) (e.took.hand ∙ ap (λ (z : List ℕ). c.args.node ∷ z) c.requires.pass.1 ∙ ap (λ (z : ℕ). z ∷ []) (sym e.took.node))
 
 pub returns-in_default-clause-goes : goal.returns-in_default-clause-goes
-returns-in_default-clause-goes g c = let told = rw c.in_default.is at c.take.ensures.took in goes_others c.args.pass.now.caller c.args.place (seen_of c.args.pass.now) (seen_of c.args.pass.now) (seen_of c.take.new.pass) told.0.grows at_first
+returns-in_default-clause-goes g c = λ next. let told = rw c.in_default.is at c.take.ensures.took in goes_others c.args.pass.now.caller c.args.place (seen_of c.args.pass.now) (seen_of c.args.pass.now) (seen_of c.take.new.pass) told.0.grows at_first
 
 pub returns-then-place-range-clause-goes : goal.returns-then-place-range-clause-goes
-returns-then-place-range-clause-goes g c = visited (sort_of g.N.Node.layout g.N.Node.ranged) g.N.Node.body c.args.pass.now.caller c.args.place c.args.node (seen_of c.args.pass.now) (seen_of c.take.new.pass) c.in-Some.held c.requires.next c.in-Some.ensures.took
+returns-then-place-range-clause-goes g c = λ next. visited (sort_of g.N.Node.layout g.N.Node.ranged) g.N.Node.body c.args.pass.now.caller c.args.place c.args.node (seen_of c.args.pass.now) (seen_of c.take.new.pass) c.in-Some.held next c.in-Some.ensures.took
 
 pub returns-clause-goes : goal.returns-clause-goes
-returns-clause-goes g c = let me : ℕ = c.args.pass.now.caller in let h = seen_of c.args.pass.now in let h₁ = seen_of c.take.new.pass in let h₂ = seen_of c.give_last.new.pass in let e = c.in-Some.ensures in let i : ℕ = c.in-Some.held.node in
+returns-clause-goes g c = λ next. let me : ℕ = c.args.pass.now.caller in let h = seen_of c.args.pass.now in let h₁ = seen_of c.take.new.pass in let h₂ = seen_of c.give_last.new.pass in let e = c.in-Some.ensures in let i : ℕ = c.in-Some.held.node in
     goes_with me c.args.place (Give me i) h h₁ h₂ (subst (λ (z : ℕ). GrowsWith z (Give z i) h₁ h₂) e.caller c.give_last.ensures.gave) tt
-    (visited (sort_of g.N.Node.layout g.N.Node.ranged) g.N.Node.body me c.args.place c.args.node h h₁ c.in-Some.held c.requires.next e.took)
+    (visited (sort_of g.N.Node.layout g.N.Node.ranged) g.N.Node.body me c.args.place c.args.node h h₁ c.in-Some.held next e.took)
 
 pub returns-in_default-clause-under : goal.returns-in_default-clause-under
 returns-in_default-clause-under g c = λ op start under. let told = rw c.in_default.is at c.take.ensures.took in underway_others give_up c.args.pass.now.caller op start (seen_of c.args.pass.now) (seen_of c.take.new.pass) told.0.grows under
@@ -50,3 +53,14 @@ returns-then-place-range-clause-leaves g c = searches_take c.args.pass.now.calle
 pub returns-clause-leaves : goal.returns-clause-leaves
 returns-clause-leaves g c = let me : ℕ = c.args.pass.now.caller in let h = seen_of c.args.pass.now in let h₁ = seen_of c.take.new.pass in let e = c.in-Some.ensures in
     does_on MaySearch me c.take.new.pass.caller h h₁ (seen_of c.give_last.new.pass) e.caller (searches_take me c.args.node h h₁ e.took.grows) c.give_last.ensures.leaves
+
+pub returns-in_default-clause-first : goal.returns-in_default-clause-first
+returns-in_default-clause-first g c = let told = rw c.in_default.is at c.take.ensures.took in begins_gone c.args.arena.now.nodes c.args.pass.now.caller c.args.node (seen_of c.args.pass.now) (seen_of c.take.new.pass) told.0.grows told.1
+
+pub returns-then-place-range-clause-first : goal.returns-then-place-range-clause-first
+returns-then-place-range-clause-first g c = begins_taking c.args.arena.now.nodes c.args.pass.now.caller c.args.node (seen_of c.args.pass.now) (seen_of c.take.new.pass) c.in-Some.ensures.took.grows
+
+pub returns-clause-first : goal.returns-clause-first
+returns-clause-first g c = let me : ℕ = c.args.pass.now.caller in let h = seen_of c.args.pass.now in let h₁ = seen_of c.take.new.pass in let h₂ = seen_of c.give_last.new.pass in let e = c.in-Some.ensures in let i : ℕ = c.in-Some.held.node in
+    begins_on c.args.arena.now.nodes me c.args.node h h₁ h₂ (with_begins me (Take me c.args.node) h h₁ e.took.grows) (with_begins me (Give me i) h₁ h₂ (subst (λ (z : ℕ). GrowsWith z (Give z i) h₁ h₂) e.caller c.give_last.ensures.gave))
+    (begins_taking c.args.arena.now.nodes me c.args.node h h₁ e.took.grows)
