@@ -1,0 +1,4 @@
+pub mod Branches
+pub mod Guides
+pub mod Leaves
+pub mod Spots
