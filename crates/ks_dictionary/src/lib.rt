@@ -11,6 +11,7 @@ mod about;
 mod closed;
 mod dictionary;
 mod fit;
+mod guided;
 mod job;
 mod laws;
 mod merging;
