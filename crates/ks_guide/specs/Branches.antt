@@ -4,6 +4,7 @@ use Rattle.std.specs.List.Sorted.{IsNonDecreasingBy}
 use Rattle.ks_guide.specs.declared.spot.Spot.{Spot}
 use Rattle.ks_guide.specs.Spots.{holds}
 
+-- each spot begins no earlier than the one before it
 abbrev pub Ascend : List Spot → Type 0
 Ascend xs = IsNonDecreasingBy (λ s. s.low) xs
 

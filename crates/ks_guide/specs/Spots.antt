@@ -7,6 +7,7 @@ use Rattle.ks_guide.specs.declared.spot.Two.{Two}
 abbrev pub Holds : ℕ → Spot → Type 0
 Holds p s = (s.low ≤ p) × (p ≤ s.last)
 
+-- the same, as a test
 abbrev pub holds : ℕ → Spot → Bool
 holds p s = nat_le s.low p && nat_le p s.last
 

@@ -10,10 +10,12 @@
 #![tactic(auto)]
 
 mod branches;
+mod fit;
 mod guide;
 mod leaves;
 mod spot;
 
+pub use fit::fits_threads;
 pub use guide::Guide;
 
 #[cfg(test)]

@@ -1,25 +1,25 @@
 //! What a guide guesses after notes, and how fine its blocks become.
+ghost use Rattle.std.specs.Prelude.{◌≤◌};
+
 use crate::guide::Guide;
 use std::test::Fail;
 
-/// Notes `count` leaves of 2^`bits` places each, one after another from 0 on, with their numbers for nodes.
-fn note_row(guide: &mut Guide, bits: u32, count: u32)
-    requires { bits < 64 }
+/// Notes `count` leaves of `places` places each, one after another from 0 on, with their numbers for nodes.
+fn note_row(guide: &mut Guide, places: u64, count: u32)
+    requires { 1 ≤ places }
 {
     for node in 0..count {
-        let low = (node as u64).wrapping_mul(1 << bits);
-        let last = low.saturating_add((1 << bits) - 1);
+        let low = (node as u64).wrapping_mul(places);
+        let last = low.saturating_add(places - 1);
         guide.note(low, low, last, node);
     }
 }
 
 /// How many of these leaves the guide has.
-fn known_in_row(guide: &Guide, bits: u32, count: u32) -> u32
-    requires { bits < 64 }
-{
+fn known_in_row(guide: &Guide, places: u64, count: u32) -> u32 {
     let mut known = 0u32;
     for node in 0..count {
-        let low = (node as u64).wrapping_mul(1 << bits);
+        let low = (node as u64).wrapping_mul(places);
         if guide.guess(low) == Some(node) {
             known = known.saturating_add(1);
         }
@@ -68,12 +68,12 @@ fn of_two_spans_the_one_that_begins_later_is_guessed(rt: HostRuntime) -> Result<
 #[test]
 fn blocks_become_as_fine_as_dense_leaves(rt: HostRuntime) -> Result<(), Fail> {
     let mut guide = Guide::start(rt.alloc(), 256, 0)?;
-    note_row(&mut guide, 4, 200);
+    note_row(&mut guide, 16, 200);
     assert_eq!(rt; guide.leaves.shift, 3);
-    note_row(&mut guide, 4, 200);
-    assert!(rt; known_in_row(&guide, 4, 200) >= 190);
+    note_row(&mut guide, 16, 200);
+    assert!(rt; known_in_row(&guide, 16, 200) >= 190);
     // and coarser, after many notes of wide leaves
-    note_row(&mut guide, 20, 4096);
+    note_row(&mut guide, 1048576, 4096);
     assert_eq!(rt; guide.leaves.shift, 4);
     Ok(())
 }
@@ -81,10 +81,10 @@ fn blocks_become_as_fine_as_dense_leaves(rt: HostRuntime) -> Result<(), Fail> {
 #[test]
 fn blocks_stay_coarse_over_leaves_that_are_spread(rt: HostRuntime) -> Result<(), Fail> {
     let mut guide = Guide::start(rt.alloc(), 64, 0)?;
-    note_row(&mut guide, 59, 32);
-    note_row(&mut guide, 59, 32);
+    note_row(&mut guide, 576460752303423488, 32);
+    note_row(&mut guide, 576460752303423488, 32);
     assert_eq!(rt; guide.leaves.shift, 58);
-    assert!(rt; known_in_row(&guide, 59, 32) >= 30);
+    assert!(rt; known_in_row(&guide, 576460752303423488, 32) >= 30);
     Ok(())
 }
 
