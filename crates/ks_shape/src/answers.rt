@@ -61,3 +61,13 @@ pub enum PutLater {
     /// It was put off: it is no call of the history.
     Later(Later),
 }
+
+/// A move that found a value at its first place, and left both places as they were. It is a call of the history, with this
+/// number modulo 2^64.
+#[derive(Clone, Copy, Debug, PartialEq, Eq)]
+pub enum MoveLeft {
+    /// The second place has a value, too.
+    Kept { number: u64 },
+    /// The second place has none, its node had no room for it, and no free node was found.
+    Full { number: u64 },
+}
