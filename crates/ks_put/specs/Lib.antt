@@ -1,4 +1,5 @@
 pub mod Parts
+pub mod HadRoom
 pub mod Deeper
 pub mod Narrows
 pub mod Of

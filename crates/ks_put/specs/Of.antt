@@ -13,6 +13,7 @@ use Rattle.ks_shape.specs.Fills.{FoundRoom}
 use Rattle.ks_put.specs.declared.halves.Part.{Part}
 use Rattle.ks_shape.specs.declared.path.Path.{Path}
 use Rattle.ks_put.specs.Parts.{IsPart, DidPart, GrowAll}
+use Rattle.ks_put.specs.HadRoom.{HadRoom}
 use Rattle.ks_put.specs.Deeper.{IsDownPath, IsDownPart}
 
 module _ {N D P : Type 0} {n : NodeGhosts N P} {q : PlacingGhosts P} {d : DisciplineGhosts D} where
@@ -39,3 +40,7 @@ module _ {N D P : Type 0} {n : NodeGhosts N P} {q : PlacingGhosts P} {d : Discip
   -- and no node was free
   abbrev pub CameToRoom : Arena N D P n q d → ℕ → Pass N D → Pass N D → Result (Hand N) (Hand N) → Type 0
   CameToRoom a place p p' found = FoundRoom (sort_of n.layout n.ranged) n.body a.nodes p.caller place (seen_of p) (seen_of p') found
+
+  -- at some moment between p and p' there was room for the place
+  abbrev pub HadRoomFor : Arena N D P n q d → ℕ → Pass N D → Pass N D → Type 0
+  HadRoomFor a place p p' = HadRoom n.layout place (seen_of p) (seen_of p')

@@ -1,6 +1,7 @@
 //! Puts and adds by pairs: the search keeps the parent of its node, so that a full node can be split under it.
 #![tactic(auto)]
 
+mod clear;
 mod cuts;
 mod fills;
 mod halves;
@@ -9,6 +10,7 @@ mod splits;
 mod try_fills;
 mod try_room;
 
+pub use clear::clear_room;
 pub use fills::{pair_fill, pair_fill_at};
 pub use room::make_room;
 pub use try_fills::try_pair_fill;
