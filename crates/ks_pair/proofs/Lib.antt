@@ -1,0 +1,3 @@
+pub mod Fewer
+pub mod Ready
+pub mod Decided
