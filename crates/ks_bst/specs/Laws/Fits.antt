@@ -70,16 +70,16 @@ module _ {low : ℕ} {b : Bool} {ps : List Pair} {ss : List Start} (f : Fit low 
   fit_del p leaf long = record { sound = sound_del _ p leaf f.sound; leaf = f.leaf; pairs_fit = long }
 
 -- the pairs of one half in a leaf
-pub fit_left : {low : ℕ} {b : Bool} {ps : List Pair} {ss : List Start} → Fit low b ps ss → (cut : ℕ) → Fit low false (pairs_below cut ps) []
-fit_left {low} {ps = ps} f cut = record {
-  sound = sound_leaf low (pairs_below cut ps) (asc_filter (λ x. x.place) _ ps f.sound.pairs_ascend);
+pub fit_left : {low at : ℕ} {b : Bool} {ps : List Pair} {ss : List Start} → Fit low b ps ss → (cut : ℕ) → Fit at false (pairs_below cut ps) []
+fit_left {at = at} {ps = ps} f cut = record {
+  sound = sound_leaf at (pairs_below cut ps) (asc_filter (λ x. x.place) _ ps f.sound.pairs_ascend);
   leaf = λ e. refl;
   pairs_fit = omega (arith, filter_le (λ x. nat_lt x.place cut) ps, f.pairs_fit);
 }
 
-pub fit_right : {low : ℕ} {b : Bool} {ps : List Pair} {ss : List Start} → Fit low b ps ss → (cut : ℕ) → Fit cut false (pairs_from cut ps) []
-fit_right {ps = ps} f cut = record {
-  sound = sound_leaf cut (pairs_from cut ps) (asc_filter (λ x. x.place) _ ps f.sound.pairs_ascend);
+pub fit_right : {low at : ℕ} {b : Bool} {ps : List Pair} {ss : List Start} → Fit low b ps ss → (cut : ℕ) → Fit at false (pairs_from cut ps) []
+fit_right {at = at} {ps = ps} f cut = record {
+  sound = sound_leaf at (pairs_from cut ps) (asc_filter (λ x. x.place) _ ps f.sound.pairs_ascend);
   leaf = λ e. refl;
   pairs_fit = omega (arith, filter_le (λ x. nat_le cut x.place) ps, f.pairs_fit);
 }

@@ -3,7 +3,7 @@ use Rattle.ks_bst.specs.Laws.Fits.{fit_left, fit_right, fit_fork}
 use Rattle.ks_bst.proofs.node.TNodeUnlinked.grow.Goals as goal
 
 pub invariant_of-self : goal.invariant_of-self
-invariant_of-self c = record { fit = fit_fork c.args.self.now.low c.args.left_id c.args.cut c.args.right_id (omega arith) (omega arith) }
+invariant_of-self c = record { fit = fit_fork _ _ _ _ (omega arith) (omega arith) }
 
 pub invariant_of-left : goal.invariant_of-left
 invariant_of-left c =
