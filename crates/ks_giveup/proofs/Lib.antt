@@ -2,3 +2,4 @@ pub mod Way
 pub mod Visits
 pub mod TryPuts
 pub mod Spans
+pub mod Moving

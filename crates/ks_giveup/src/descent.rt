@@ -81,8 +81,8 @@ pub(crate) fn leave<N: Ranged + Unlinked, G: Gate>(
     give_last(arena, pass, gate, held);
 }
 
-/// Takes the node at which the search for a place ends, and holds no other.
-pub(crate) fn find<N: Ranged + Unlinked, R: Wait, G: Gate>(
+/// Takes the node at which the search for a place ends, and holds no other. It does not notify the gate that a call begins.
+pub(crate) fn descend<N: Ranged + Unlinked, R: Wait, G: Gate>(
     rt: &R,
     arena: &Arena<N, Tree>,
     pass: &mut Pass<N, Tree>,
@@ -95,9 +95,8 @@ pub(crate) fn find<N: Ranged + Unlinked, R: Wait, G: Gate>(
     ensures leaves { OnlySearches pass.old pass.new }
     ensures ends { SearchEndsAt arena.now place pass.new result }
     ensures goes { GoesTowards place pass.old pass.new }
-    ensures under { IsUnderway give_up pass.old pass.new }
+    ensures under { StaysUnderway give_up pass.old pass.new }
 {
-    gate.at(pass.caller(), Point::Begin);
     let mut node = 0;
     for _ in rt.forever() {
         let Some(held) = visit(rt, arena, pass, gate, place, node) else {
@@ -116,6 +115,26 @@ pub(crate) fn find<N: Ranged + Unlinked, R: Wait, G: Gate>(
         }
     }
     unreachable!()
+}
+
+/// Takes the node at which the search for a place ends, and holds no other.
+pub(crate) fn find<N: Ranged + Unlinked, R: Wait, G: Gate>(
+    rt: &R,
+    arena: &Arena<N, Tree>,
+    pass: &mut Pass<N, Tree>,
+    gate: &G,
+    place: u64,
+) -> Held<N>
+    requires pass { IsEmptyPassOf arena.now pass.old }
+    ensures pass { IsPassOf arena.now pass.new }
+    ensures caller { SameCaller pass.old pass.new }
+    ensures leaves { OnlySearches pass.old pass.new }
+    ensures ends { SearchEndsAt arena.now place pass.new result }
+    ensures goes { GoesTowards place pass.old pass.new }
+    ensures under { IsUnderway give_up pass.old pass.new }
+{
+    gate.at(pass.caller(), Point::Begin);
+    descend(rt, arena, pass, gate, place)
 }
 
 /// Takes the node at which the search for a place ends, and keeps it if it has the place or room for it. `None`: it had

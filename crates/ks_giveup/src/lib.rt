@@ -11,6 +11,7 @@ mod calls;
 mod calls_near;
 mod descent;
 mod merging;
+mod moves;
 mod near;
 mod scans;
 mod technique;
@@ -20,6 +21,7 @@ mod try_puts;
 
 pub use calls::{add, del, get, put, swap};
 pub use merging::compact;
+pub use moves::move_value;
 pub use scans::scan_part;
 pub use technique::GiveUp;
 pub use tries::{try_del, try_get, try_swap};

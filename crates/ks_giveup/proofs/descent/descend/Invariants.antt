@@ -1,4 +1,5 @@
-use Rattle.std.proofs.Common.{◌≡◌, [], ◌<◌}
+use Rattle.std.proofs.Common.{◌≡◌, List, [], ◌<◌}
+use Rattle.ks_history.specs.declared.Event.{Event}
 use Rattle.ks_flow.specs.Discipline.{BeginsTree, TreeStep}
 use Rattle.ks_history.specs.declared.Op.{Op}
 use Rattle.ks_history.specs.Done.{give_up}
@@ -7,7 +8,7 @@ use Rattle.ks_arena.specs.Sound.{sort_of}
 use Rattle.ks_arena.specs.Clauses.{IsPass, hand_of, seen_of}
 use Rattle.ks_giveup.specs.Goes.{MayVisit, Goes}
 use Rattle.ks_shape.specs.Does.{DoesOnly, MaySearch}
-use Rattle.ks_giveup.proofs.descent.find.Given as goal
+use Rattle.ks_giveup.proofs.descent.descend.Given as goal
 
 abbrev pub invariant-loop : goal.invariant-loop
 invariant-loop g l =
@@ -15,7 +16,7 @@ invariant-loop g l =
     × (hand_of l.pass ≡ [])
     × (l.pass.caller ≡ l.fn.pass.caller)
     × (l.node < l.arena.nodes)
-    × ((op : Op) → Underway give_up l.pass.caller op (seen_of l.fn.pass) (seen_of l.pass))
+    × ((op : Op) (start : List Event) → Underway give_up l.fn.pass.caller op start (seen_of l.fn.pass) → Underway give_up l.pass.caller op start (seen_of l.pass))
     × MayVisit l.pass.caller l.place l.node (seen_of l.pass)
     × Goes l.pass.caller l.place (seen_of l.fn.pass) (seen_of l.pass)
     × DoesOnly MaySearch l.pass.caller (seen_of l.fn.pass) (seen_of l.pass)
