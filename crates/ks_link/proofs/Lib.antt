@@ -6,4 +6,5 @@ pub mod Places
 pub mod Rooms
 pub mod Spans
 pub mod Ways
+pub mod Where
 pub mod Trying

@@ -1,4 +1,5 @@
 pub mod Descent
+pub mod Near
 pub mod Parts
 pub mod Puts
 pub mod Leads

@@ -9,7 +9,9 @@
 
 mod attaches;
 mod calls;
+mod calls_near;
 mod descent;
+mod near;
 mod parts;
 mod puts;
 mod room;

@@ -1,0 +1,23 @@
+use Rattle.std.proofs.Common.{◌≡◌}
+use Rattle.std.specs.Prelude.{IfSome}
+use Rattle.ks_flow.specs.Discipline.{BeginsLink, LinkStep}
+use Rattle.ks_history.specs.declared.Op.{Op}
+use Rattle.ks_history.specs.Done.{link_move}
+use Rattle.ks_history.specs.Underway.{Underway}
+use Rattle.ks_arena.specs.Sound.{sort_of}
+use Rattle.ks_arena.specs.Clauses.{IsPass, seen_of}
+use Rattle.ks_shape.specs.Does.{DoesOnly, MaySearch}
+use Rattle.ks_shape.specs.Hinted.{BeginsAt}
+use Rattle.ks_shape.specs.Makes.{MakesNone}
+use Rattle.ks_link.specs.Near.{CameNear}
+use Rattle.ks_link.proofs.near.find_near.Given as goal
+
+abbrev pub invariant-loop : goal.invariant-loop
+invariant-loop g l =
+    IsPass (sort_of g.N.Node.layout g.N.Node.ranged) BeginsLink LinkStep l.arena.table.shared.table_id l.arena.callers l.pass
+    × (l.pass.caller ≡ l.fn.pass.caller)
+    × CameNear (sort_of g.N.Node.layout g.N.Node.ranged) g.N.Node.body l.fn.pass.caller l.place (seen_of l.pass) l.begun
+    × ((op : Op) → Underway link_move l.fn.pass.caller op (seen_of l.fn.pass) (seen_of l.pass))
+    × MakesNone l.fn.pass.caller (seen_of l.fn.pass) (seen_of l.pass)
+    × DoesOnly MaySearch l.fn.pass.caller (seen_of l.fn.pass) (seen_of l.pass)
+    × IfSome l.fn.hint (λ i. BeginsAt l.arena.nodes l.fn.pass.caller i (seen_of l.fn.pass) (seen_of l.pass))

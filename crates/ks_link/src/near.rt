@@ -1,0 +1,201 @@
+//! The search that begins at a hinted node: from there it moves right twice at most, then it searches from the root.
+ghost use Rattle.std.specs.Prelude.{◌≡◌, IfSome};
+ghost use Rattle.ks_history.specs.Done.{link_move};
+ghost use Rattle.ks_node.specs.declared.start.Next.TheVariants.{Go};
+ghost use Rattle.ks_node.specs.Body.{next_at};
+ghost use Rattle.ks_arena.specs.Sound.{sort_of};
+ghost use Rattle.ks_arena.specs.Of.{IsPassOf, IsEmptyPassOf, IsNodeOf, SameCaller, caller_of};
+ghost use Rattle.ks_shape.specs.Does.{OnlySearches};
+ghost use Rattle.ks_shape.specs.Hinted.{BeginsAt, BeginsAtHint, HasPassed};
+ghost use Rattle.ks_arena.specs.Clauses.{seen_of};
+ghost use Rattle.ks_shape.specs.Located.{PassesOn};
+ghost use Rattle.ks_shape.specs.Of.{IsUnderway, StaysUnderway, MakesNoneLive, SearchEndsAt};
+ghost use Rattle.ks_link.specs.Of.{SearchIsAt};
+ghost use Rattle.ks_link.specs.Near.{CameNear, HasWalked};
+
+use crate::descent::{end_law, go_on};
+use ks_arena::{Arena, Held, Pass};
+use ks_flow::Link;
+use ks_gate::{Gate, Point};
+use ks_node::{Linked, Next, node_law};
+use ks_shape::{Above, give_last, passed, start_of};
+use std::sync::Wait;
+
+/// How often a search moves right from a hinted node before it searches from the root.
+const RIGHTS: u32 = 2;
+
+/// Where a search is, and the last branch that it passed, if it passed one.
+pub(crate) struct Reached<N> {
+    pub held: Held<N>,
+    pub above: Option<Above>,
+}
+
+/// Takes a node, and keeps it if it is live and begins at the place or below.
+fn begin_at<N: Linked, R: Wait, G: Gate>(
+    rt: &R,
+    arena: &Arena<N, Link>,
+    pass: &mut Pass<N, Link>,
+    gate: &G,
+    place: u64,
+    node: u32,
+) -> Option<Held<N>>
+    requires pass { IsEmptyPassOf arena.now pass.old }
+    requires node { IsNodeOf arena.now node }
+    ensures pass { IsPassOf arena.now pass.new }
+    ensures caller { SameCaller pass.old pass.new }
+    ensures leaves { OnlySearches pass.old pass.new }
+    ensures came { CameNear (sort_of N.layout N.ranged) N.body (caller_of pass.old) place (seen_of pass.new) result }
+    ensures first { BeginsAt arena.now.nodes (caller_of pass.old) node (seen_of pass.old) (seen_of pass.new) }
+    ensures under { StaysUnderway link_move pass.old pass.new }
+    ensures makes { MakesNoneLive pass.old pass.new }
+{
+    let Some(held) = arena.take(rt, pass, node) else {
+        return None;
+    };
+    gate.at(pass.caller(), Point::Taken(node));
+    node_law(&held.body);
+    if held.body.range().low <= place {
+        return Some(held);
+    }
+    give_last(arena, pass, gate, held);
+    None
+}
+
+/// Releases the node, and takes the one to which the search goes on. The last branch that it passed is this node, if it is
+/// a branch with the place in its range, else as before.
+fn go_by<N: Linked, R: Wait, G: Gate>(
+    rt: &R,
+    arena: &Arena<N, Link>,
+    pass: &mut Pass<N, Link>,
+    gate: &G,
+    place: u64,
+    reached: Reached<N>,
+    next: u32,
+) -> Reached<N>
+    requires pass { IsPassOf arena.now pass.old }
+    requires way { SearchIsAt arena.now (caller_of pass.old) place pass.old reached.held }
+    requires goes { next_at (N.body reached.held.body) place ≡ Go next }
+    ensures pass { IsPassOf arena.now pass.new }
+    ensures caller { SameCaller pass.old pass.new }
+    ensures leaves { OnlySearches pass.old pass.new }
+    ensures way { SearchIsAt arena.now (caller_of pass.old) place pass.new result.held }
+    ensures above { PassesOn (sort_of N.layout N.ranged) place pass.old pass.new reached.above result.above }
+    ensures under { StaysUnderway link_move pass.old pass.new }
+    ensures makes { MakesNoneLive pass.old pass.new }
+{
+    let Reached { held, above } = reached;
+    let branch = passed(&held, place, above);
+    let below = go_on(rt, arena, pass, gate, place, held, next);
+    Reached {
+        held: below,
+        above: branch,
+    }
+}
+
+/// Goes on from the held node to the one at which the search for the place ends, and moves right `rights` times at most.
+/// `None`: it was to move right once more, and released its node.
+fn walk<N: Linked, R: Wait, G: Gate>(
+    rt: &R,
+    arena: &Arena<N, Link>,
+    pass: &mut Pass<N, Link>,
+    gate: &G,
+    place: u64,
+    held: Held<N>,
+    rights: u32,
+) -> Option<Reached<N>>
+    requires pass { IsPassOf arena.now pass.old }
+    requires way { SearchIsAt arena.now (caller_of pass.old) place pass.old held }
+    ensures pass { IsPassOf arena.now pass.new }
+    ensures caller { SameCaller pass.old pass.new }
+    ensures leaves { OnlySearches pass.old pass.new }
+    ensures walked { HasWalked (sort_of N.layout N.ranged) N.body (caller_of pass.old) place
+        (seen_of pass.old) (seen_of pass.new) result }
+    ensures under { StaysUnderway link_move pass.old pass.new }
+    ensures makes { MakesNoneLive pass.old pass.new }
+{
+    let mut reached = Reached { held, above: None };
+    let mut rights = rights;
+    for _ in rt.forever() {
+        match reached.held.body.next(place) {
+            Next::Here => {
+                end_law(arena, pass, &reached.held, place);
+                return Some(reached);
+            }
+            Next::Go(next) => {
+                if place > reached.held.body.range().last {
+                    if rights == 0 {
+                        let Reached { held, above: _ } = reached;
+                        give_last(arena, pass, gate, held);
+                        return None;
+                    }
+                    rights -= 1;
+                }
+                reached = go_by(rt, arena, pass, gate, place, reached, next);
+            }
+        }
+    }
+    unreachable!()
+}
+
+/// Goes on from the held node, if there is one, as `walk`.
+fn walk_from<N: Linked, R: Wait, G: Gate>(
+    rt: &R,
+    arena: &Arena<N, Link>,
+    pass: &mut Pass<N, Link>,
+    gate: &G,
+    place: u64,
+    begun: Option<Held<N>>,
+    rights: u32,
+) -> Option<Reached<N>>
+    requires pass { IsPassOf arena.now pass.old }
+    requires begun { CameNear (sort_of N.layout N.ranged) N.body (caller_of pass.old) place (seen_of pass.old) begun }
+    ensures pass { IsPassOf arena.now pass.new }
+    ensures caller { SameCaller pass.old pass.new }
+    ensures leaves { OnlySearches pass.old pass.new }
+    ensures walked { HasWalked (sort_of N.layout N.ranged) N.body (caller_of pass.old) place
+        (seen_of pass.old) (seen_of pass.new) result }
+    ensures under { StaysUnderway link_move pass.old pass.new }
+    ensures makes { MakesNoneLive pass.old pass.new }
+{
+    let Some(held) = begun else {
+        return None;
+    };
+    walk(rt, arena, pass, gate, place, held, rights)
+}
+
+/// Takes the node at which the search for a place ends, and holds no other. It begins at the hinted node, if there is one.
+pub(crate) fn find_near<N: Linked, R: Wait, G: Gate>(
+    rt: &R,
+    arena: &Arena<N, Link>,
+    pass: &mut Pass<N, Link>,
+    gate: &G,
+    hint: Option<u32>,
+    place: u64,
+) -> Reached<N>
+    requires pass { IsEmptyPassOf arena.now pass.old }
+    ensures pass { IsPassOf arena.now pass.new }
+    ensures caller { SameCaller pass.old pass.new }
+    ensures leaves { OnlySearches pass.old pass.new }
+    ensures way { SearchIsAt arena.now (caller_of pass.old) place pass.new result.held }
+    ensures ends { SearchEndsAt arena.now place pass.new result.held }
+    ensures above { IfSome result.above (HasPassed (sort_of N.layout N.ranged) place pass.old pass.new) }
+    ensures first { BeginsAtHint arena.now.nodes hint pass.old pass.new }
+    ensures under { IsUnderway link_move pass.old pass.new }
+    ensures makes { MakesNoneLive pass.old pass.new }
+{
+    gate.at(pass.caller(), Point::Begin);
+    let nodes = arena.nodes();
+    let start = start_of(hint, nodes);
+    let mut rights = if hint.is_some() { RIGHTS } else { u32::MAX };
+    let mut begun = begin_at(rt, arena, pass, gate, place, start);
+    for _ in rt.forever() {
+        match walk_from(rt, arena, pass, gate, place, begun, rights) {
+            Some(reached) => return reached,
+            None => {
+                rights = u32::MAX;
+                begun = begin_at(rt, arena, pass, gate, place, 0);
+            }
+        }
+    }
+    unreachable!()
+}
