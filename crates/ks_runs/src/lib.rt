@@ -2,11 +2,13 @@
 #![tactic(auto)]
 
 mod arenas;
+mod hinted;
 mod run;
 mod runs;
 mod tries;
 
 pub use arenas::one_caller;
+pub use hinted::{every_hint, get_from};
 pub use run::Run;
 pub use runs::each;
 pub use tries::try_each;
