@@ -15,6 +15,7 @@ mod guided;
 mod job;
 mod laws;
 mod merging;
+mod moving;
 mod scanning;
 mod serving;
 mod workers;
