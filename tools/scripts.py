@@ -11,10 +11,12 @@ PAIRINGS = (
     "hash coupling",
     "hash giveup",
     "hash link",
+    "bst coupling",
+    "bst giveup",
 )
 
-# The pairs of a node that is full.
-ROOM = {"list": 8, "bplus": 16, "hash": 8}
+# The pairs of a node that is full; of a binary tree those for each node at the least, since inner nodes have none.
+ROOM = {"list": 8, "bplus": 16, "hash": 8, "bst": 0.5}
 
 # How numbers from 0 up become keys: as they are; in no order; and so that hash nodes have them side by side.
 STRIDES = (1, 0x9E3779B97F4A7C15, 0xF1DE83E19937733D)
@@ -76,7 +78,7 @@ def task(draw, pairing, kind, version, callers, calls):
     new = version == 2
     greatest = 2**128 - 1 if new else 2**64 - 1
     keys = draw.choice((40, 400, 4000))
-    nodes = keys // ROOM[pairing.split()[0]]
+    nodes = int(keys / ROOM[pairing.split()[0]])
     arena = max(4, draw.choice((nodes // 2, nodes, 2 * nodes, 65536)))
     stride = draw.choice(STRIDES)
     lines = ["script 2\n"] if new else []

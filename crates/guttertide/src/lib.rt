@@ -8,6 +8,7 @@
 pub use ks_arena::{Arena, Note, Pass};
 pub use ks_boxed::Boxed;
 pub use ks_bplus::BNode;
+pub use ks_bst::TNode;
 pub use ks_coupling::Coupling;
 pub use ks_dictionary::{Closed, Dictionary, kept_law, once_law};
 pub use ks_flow::{Link, Tree};
@@ -77,3 +78,17 @@ pub type GiveUpList = Dictionary<Boxed<WithRange<ListNode>>, GiveUp>;
 
 /// A pass of a `GiveUpList`.
 pub type GiveUpListPass = PassOf<Boxed<WithRange<ListNode>>, GiveUp>;
+
+/// A binary search tree by lock coupling, each node of which has two pairs or two children: take a `BTree` instead, which
+/// is faster and smaller. This one shows that a tree of another shape has the same contracts.
+pub type BinaryTree = Dictionary<Boxed<TNode>, Coupling>;
+
+/// A pass of a `BinaryTree`.
+pub type BinaryTreePass = PassOf<Boxed<TNode>, Coupling>;
+
+/// A binary search tree whose searches hold one node at a time, and restart as those of a `GiveUpTree`: take a `GiveUpTree`
+/// instead, for the same reason.
+pub type GiveUpBinaryTree = Dictionary<Boxed<WithRange<TNode>>, GiveUp>;
+
+/// A pass of a `GiveUpBinaryTree`.
+pub type GiveUpBinaryTreePass = PassOf<Boxed<WithRange<TNode>>, GiveUp>;

@@ -3,7 +3,7 @@ use Rattle.std.proofs.Common.{ℕ, ◌≡◌, ◌≤◌, ◌⊎◌, inl, inr, Li
 use Rattle.std.specs.Fmt.{decimal}
 use Rattle.std.proofs.lemmas.Fmt.{decimal_injective}
 use Rattle.ks_batch.specs.declared.pairings.Pairing.{Pairing}
-use Rattle.ks_batch.specs.declared.pairings.Pairing.TheVariants.{ListCoupling, BplusCoupling, HashCoupling, ListGiveUp, BplusGiveUp, HashGiveUp, BplusLink, HashLink}
+use Rattle.ks_batch.specs.declared.pairings.Pairing.TheVariants.{ListCoupling, BplusCoupling, HashCoupling, BstCoupling, ListGiveUp, BplusGiveUp, HashGiveUp, BstGiveUp, BplusLink, HashLink}
 use Rattle.ks_batch.specs.declared.words.Draft.{Draft}
 use Rattle.ks_batch.specs.declared.words.Asked.TheVariants.{Run, Make, Check}
 use Rattle.ks_batch.specs.declared.words.Text.{Text}
@@ -70,30 +70,34 @@ make_command words (pairing, arena, draft, s) = (Make pairing arena draft, s)
 
 -- the words of a pairing are of no other
 
-abbrev pairing_of : (a b : ℕ) → Pairing
-pairing_of a b =
-    if a == 108 then (if b == 99 then ListCoupling else ListGiveUp)
-    else if a == 98 then (if b == 99 then BplusCoupling else if b == 103 then BplusGiveUp else BplusLink)
-    else (if b == 99 then HashCoupling else if b == 103 then HashGiveUp else HashLink)
+-- by the first two bytes of the word for the nodes and the first of the other: `bplus` and `bst` differ in their second
+abbrev pairing_of : (a b t : ℕ) → Pairing
+pairing_of a b t =
+    if a == 108 then (if t == 99 then ListCoupling else ListGiveUp)
+    else if a == 104 then (if t == 99 then HashCoupling else if t == 103 then HashGiveUp else HashLink)
+    else if b == 112 then (if t == 99 then BplusCoupling else if t == 103 then BplusGiveUp else BplusLink)
+    else (if t == 99 then BstCoupling else BstGiveUp)
 
-abbrev first_two : List ℕ → List ℕ → Pairing
-first_two nodes template = pairing_of (get_or nodes 0 0) (get_or template 0 0)
+abbrev first_bytes : List ℕ → List ℕ → Pairing
+first_bytes nodes template = pairing_of (get_or nodes 0 0) (get_or nodes 1 0) (get_or template 0 0)
 
-read_back : (p : Pairing) → first_two (row_of p).nodes (row_of p).template ≡ p
+read_back : (p : Pairing) → first_bytes (row_of p).nodes (row_of p).template ≡ p
 read_back ListCoupling = refl
 read_back BplusCoupling = refl
 read_back HashCoupling = refl
+read_back BstCoupling = refl
 read_back ListGiveUp = refl
 read_back BplusGiveUp = refl
 read_back HashGiveUp = refl
+read_back BstGiveUp = refl
 read_back BplusLink = refl
 read_back HashLink = refl
 
-pairing_once : (words : List (List ℕ)) (p q : Pairing) → first_two (get_or words 1 []) (get_or words 2 []) ≡ p → first_two (get_or words 1 []) (get_or words 2 []) ≡ q → p ≡ q
+pairing_once : (words : List (List ℕ)) (p q : Pairing) → first_bytes (get_or words 1 []) (get_or words 2 []) ≡ p → first_bytes (get_or words 1 []) (get_or words 2 []) ≡ q → p ≡ q
 pairing_once words p q a b = sym a ∙ b
 
-named_by : (words : List (List ℕ)) (p : Pairing) → get_or words 1 [] ≡ (row_of p).nodes → get_or words 2 [] ≡ (row_of p).template → first_two (get_or words 1 []) (get_or words 2 []) ≡ p
-named_by words p a b = ap (λ x. first_two x (get_or words 2 [])) a ∙ ap (first_two (row_of p).nodes) b ∙ read_back p
+named_by : (words : List (List ℕ)) (p : Pairing) → get_or words 1 [] ≡ (row_of p).nodes → get_or words 2 [] ≡ (row_of p).template → first_bytes (get_or words 1 []) (get_or words 2 []) ≡ p
+named_by words p a b = ap (λ x. first_bytes x (get_or words 2 [])) a ∙ ap (first_bytes (row_of p).nodes) b ∙ read_back p
 
 pub run_once : (words : List (List ℕ)) (p q : Pairing) (n m : ℕ) → AsksToRun words p n → AsksToRun words q m → (p ≡ q) × (n ≡ m)
 run_once words p q n m a b =

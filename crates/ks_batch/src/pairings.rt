@@ -13,8 +13,8 @@ use ks_dictionary::Told;
 use ks_gate::Gate;
 use ks_history::Op;
 use ks_pairings::{
-    bplus_coupling, bplus_give_up, bplus_link, hash_coupling, hash_give_up, hash_link,
-    list_coupling, list_give_up,
+    bplus_coupling, bplus_give_up, bplus_link, bst_coupling, bst_give_up, hash_coupling,
+    hash_give_up, hash_link, list_coupling, list_give_up,
 };
 use std::alloc::{AllocError, Global};
 use std::sync::Wait;
@@ -29,12 +29,16 @@ pub enum Pairing {
     BplusCoupling,
     /// Hash tables, by lock coupling.
     HashCoupling,
+    /// Binary search trees, by lock coupling.
+    BstCoupling,
     /// Sorted lists, by giving up.
     ListGiveUp,
     /// B+ trees, by giving up.
     BplusGiveUp,
     /// Hash tables, by giving up.
     HashGiveUp,
+    /// Binary search trees, by giving up.
+    BstGiveUp,
     /// B+ trees, along links.
     BplusLink,
     /// Hash tables, along links.
@@ -68,9 +72,11 @@ pub fn serve_by<R: Threads + Wait + Sync, G: Gate + Sync>(
         Pairing::ListCoupling => list_coupling(rt, alloc, nodes, callers, workers, gate),
         Pairing::BplusCoupling => bplus_coupling(rt, alloc, nodes, callers, workers, gate),
         Pairing::HashCoupling => hash_coupling(rt, alloc, nodes, callers, workers, gate),
+        Pairing::BstCoupling => bst_coupling(rt, alloc, nodes, callers, workers, gate),
         Pairing::ListGiveUp => list_give_up(rt, alloc, nodes, callers, workers, gate),
         Pairing::BplusGiveUp => bplus_give_up(rt, alloc, nodes, callers, workers, gate),
         Pairing::HashGiveUp => hash_give_up(rt, alloc, nodes, callers, workers, gate),
+        Pairing::BstGiveUp => bst_give_up(rt, alloc, nodes, callers, workers, gate),
         Pairing::BplusLink => bplus_link(rt, alloc, nodes, callers, workers, gate),
         Pairing::HashLink => hash_link(rt, alloc, nodes, callers, workers, gate),
     }

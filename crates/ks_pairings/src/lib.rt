@@ -5,12 +5,13 @@
 
 ghost use Rattle.std.specs.Prelude.{◌≤◌, map, length, IfOk};
 ghost use Rattle.ks_history.specs.Asked.{AreAsked};
-ghost use Rattle.ks_keysets.specs.Layout.{list_layout, bplus_layout, hash_layout};
+ghost use Rattle.ks_keysets.specs.Layout.{list_layout, bplus_layout, hash_layout, bst_layout};
 ghost use Rattle.ks_places.specs.Golden.{golden_place};
 ghost use Rattle.ks_pairings.specs.ByPairing.{IsServedBy};
 
 use ks_boxed::Boxed;
 use ks_bplus::BNode;
+use ks_bst::TNode;
 use ks_coupling::Coupling;
 use ks_dictionary::{Told, serve_callers};
 use ks_gate::Gate;
@@ -82,6 +83,25 @@ pub fn hash_coupling<R: Threads + Wait + Sync, G: Gate + Sync>(
     serve_callers::<Boxed<HNode>, Coupling, R, G>(rt, alloc, nodes, callers, workers, gate)
 }
 
+/// Serves all callers over a binary search tree, by lock coupling.
+pub fn bst_coupling<R: Threads + Wait + Sync, G: Gate + Sync>(
+    rt: &R,
+    alloc: Global,
+    nodes: u32,
+    callers: Vec<Vec<Op>>,
+    workers: u32,
+    gate: &G,
+) -> Result<Told, AllocError>
+    requires nodes { (4 ≤ nodes) × (nodes ≤ 1048576) }
+    requires callers { length callers.items ≤ 1024 }
+    requires asked { AreAsked (map (λ v. v.items) callers.items) }
+    requires workers { (1 ≤ workers) × (workers ≤ 64) }
+    ensures { IfOk result (λ told. IsServedBy bst_layout (λ k. k) nodes (map (λ v. v.items) callers.items)
+        (map (λ v. v.items) told.lines.items) told.pairs.items told.trace) }
+{
+    serve_callers::<Boxed<TNode>, Coupling, R, G>(rt, alloc, nodes, callers, workers, gate)
+}
+
 /// Serves all callers over a sorted list, by giving up.
 pub fn list_give_up<R: Threads + Wait + Sync, G: Gate + Sync>(
     rt: &R,
@@ -139,6 +159,25 @@ pub fn hash_give_up<R: Threads + Wait + Sync, G: Gate + Sync>(
         (map (λ v. v.items) told.lines.items) told.pairs.items told.trace) }
 {
     serve_callers::<Boxed<WithRange<HNode>>, GiveUp, R, G>(rt, alloc, nodes, callers, workers, gate)
+}
+
+/// Serves all callers over a binary search tree, by giving up.
+pub fn bst_give_up<R: Threads + Wait + Sync, G: Gate + Sync>(
+    rt: &R,
+    alloc: Global,
+    nodes: u32,
+    callers: Vec<Vec<Op>>,
+    workers: u32,
+    gate: &G,
+) -> Result<Told, AllocError>
+    requires nodes { (4 ≤ nodes) × (nodes ≤ 1048576) }
+    requires callers { length callers.items ≤ 1024 }
+    requires asked { AreAsked (map (λ v. v.items) callers.items) }
+    requires workers { (1 ≤ workers) × (workers ≤ 64) }
+    ensures { IfOk result (λ told. IsServedBy bst_layout (λ k. k) nodes (map (λ v. v.items) callers.items)
+        (map (λ v. v.items) told.lines.items) told.pairs.items told.trace) }
+{
+    serve_callers::<Boxed<WithRange<TNode>>, GiveUp, R, G>(rt, alloc, nodes, callers, workers, gate)
 }
 
 /// Serves all callers over a B+ tree, along links.
