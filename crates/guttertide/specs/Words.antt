@@ -3,6 +3,8 @@
 -- of a dictionary, its passes and its calls
 pub use Rattle.ks_dictionary.specs.Of.{AreAllPassesOf, AreNewPassesOf, AreOrderedPassesOf, HasCalledIn, HasTriedIn, HasTriedPutIn, IsIdlePassOf, IsNoteFrom, callers_of, nodes_of, place_in, site_of}
 pub use Rattle.ks_dictionary.specs.Crew.{AreReplaced}
+pub use Rattle.ks_dictionary.specs.Guided.{BeginsNear, HasNoted}
+pub use Rattle.ks_guide.specs.Guides.{guessed, guessed_leaf, most_branches}
 pub use Rattle.ks_arena.specs.Of.{HeldAlone, SameCaller, WasAlone, caller_of}
 pub use Rattle.ks_arena.specs.Clauses.{EndsAll, noted, seen_of}
 pub use Rattle.ks_arena.specs.Reuse.{ReusesSafely}

@@ -14,6 +14,7 @@ pub use ks_dictionary::{Closed, Dictionary, kept_law, once_law};
 pub use ks_flow::{Link, Tree};
 pub use ks_gate::{Gate, Meet, NoGate, Point, Stand, Standing};
 pub use ks_giveup::GiveUp;
+pub use ks_guide::Guide;
 pub use ks_hash::HNode;
 pub use ks_keysets::{Few, Pair};
 pub use ks_link::LinkMove;
@@ -21,7 +22,9 @@ pub use ks_linked::WithLink;
 pub use ks_list::ListNode;
 pub use ks_node::{Node, WithRange};
 pub use ks_scan::{Found, Scanned};
-pub use ks_shape::{Compacting, Full, Later, Numbered, Part, PutLater, Ruled, Scanning, Template};
+pub use ks_shape::{
+    Compacting, Full, Hinting, Later, Numbered, Part, PutLater, Ruled, Scanning, Template,
+};
 
 /// A pass of a dictionary over nodes of type `N`, by the technique `T`.
 pub type PassOf<N, T> = Pass<N, <T as Ruled>::Rule>;
