@@ -1,7 +1,6 @@
 use Rattle.std.proofs.Common.{sym, subst}
 use Rattle.ks_arena.specs.Sound.{sort_of}
 use Rattle.ks_arena.specs.Clauses.{seen_of}
-use Rattle.ks_pair.specs.declared.pair.Pair.{Pair}
 use Rattle.ks_pair.specs.Both.{HoldsPair}
 use Rattle.ks_pair.specs.Laws.Ends.{turned_holds}
 use Rattle.ks_giveup.proofs.moves.find_both.Goals as goal

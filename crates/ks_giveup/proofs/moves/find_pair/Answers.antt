@@ -1,4 +1,4 @@
-use Rattle.std.proofs.Common.{ℕ, ◌<◌, ◌≡◌, ◌∙◌, subst, arith}
+use Rattle.std.proofs.Common.{ℕ, ◌<◌, ◌∙◌, subst, arith}
 use Rattle.ks_history.specs.declared.Op.TheVariants.{Move}
 use Rattle.ks_history.specs.Done.{give_up}
 use Rattle.ks_history.specs.Underway.{Underway}

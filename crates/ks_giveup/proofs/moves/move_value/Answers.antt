@@ -1,4 +1,4 @@
-use Rattle.std.proofs.Common.{◌≡◌, ◌∙◌, ℕ, refl, sym, subst}
+use Rattle.std.proofs.Common.{◌∙◌, ℕ, refl, subst}
 use Rattle.ks_keysets.specs.Layout.{Layout}
 use Rattle.ks_history.specs.declared.Op.TheVariants.{Move}
 use Rattle.ks_history.specs.Done.{give_up, Done}
