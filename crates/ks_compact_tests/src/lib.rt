@@ -2,6 +2,8 @@
 #![tactic(auto)]
 
 #[cfg(test)]
+mod below;
+#[cfg(test)]
 mod churn;
 #[cfg(test)]
 mod runs;

@@ -1,6 +1,8 @@
+use crate::below::{compacted_below, merged_below};
 use crate::churn::churned;
 use crate::runs::{compact_all, compact_once, del_each, end_one, put_each, start_one};
 use ks_bplus::BNode;
+use ks_bst::TNode;
 use ks_coupling::Coupling;
 use ks_giveup::GiveUp;
 use ks_hash::HNode;
@@ -21,6 +23,15 @@ fn is_root_alone(graph: &Graph, pairs: usize) -> bool {
         NodeState::Free => node != 0,
         NodeState::Claimed(_) => false,
     })
+}
+
+/// How many nodes are live.
+fn live_nodes(graph: &Graph) -> usize {
+    graph
+        .nodes
+        .iter()
+        .filter(|state| matches!(state, NodeState::Live(_)))
+        .count()
 }
 
 #[test]
@@ -89,6 +100,38 @@ fn a_table_whose_keys_are_deleted_becomes_its_root(rt: HostRuntime) -> Result<()
     compact_all(&rt, &dictionary, &mut pass);
     let closed = end_one(rt.alloc(), dictionary, pass)?;
     assert!(rt; is_root_alone(&closed.graph(rt.alloc())?, 0));
+    Ok(())
+}
+
+#[test]
+fn a_branch_below_the_root_takes_its_only_child_over(rt: HostRuntime) -> Result<(), Fail> {
+    let (is_right, closed) = merged_below::<TNode, Coupling, HostRuntime>(&rt, rt.alloc())?;
+    assert!(rt; is_right);
+    assert!(rt; is_root_alone(&closed.graph(rt.alloc())?, 2));
+    Ok(())
+}
+
+#[test]
+fn a_branch_below_the_root_takes_its_only_child_over_by_giving_up(
+    rt: HostRuntime,
+) -> Result<(), Fail> {
+    let (is_right, closed) = merged_below::<WithRange<TNode>, GiveUp, HostRuntime>(
+        &rt,
+        rt.alloc(),
+    )?;
+    assert!(rt; is_right);
+    assert!(rt; is_root_alone(&closed.graph(rt.alloc())?, 2));
+    Ok(())
+}
+
+#[test]
+fn a_compaction_takes_a_child_over_below_the_root(rt: HostRuntime) -> Result<(), Fail> {
+    let (is_right, first, second, closed) = compacted_below::<TNode, Coupling, HostRuntime>(
+        &rt,
+        rt.alloc(),
+    )?;
+    assert!(rt; is_right && first == 2 && second == 0);
+    assert!(rt; live_nodes(&closed.graph(rt.alloc())?) == 3);
     Ok(())
 }
 
