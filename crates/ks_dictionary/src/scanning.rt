@@ -43,6 +43,7 @@ impl<N: Node, T: Ruled + Scanning<N, Arena<N, <T as Ruled>::Rule>>> Dictionary<N
         ensures done { IsDoneScan N.layout T.technique (site_of self.now) low last
             pass.old pass.new into.new.items }
         ensures scan { IsScanOf low last most into.new.items result }
+        ensures capacity { vec_capacity into.new ≡ vec_capacity into.old }
         ensures keys { (k : ℕ) → k < 2 ^ 64 → N.Places.place_of k ≡ k }
     {
         scanning_law::<N, Arena<N, <T as Ruled>::Rule>, T>();

@@ -48,6 +48,7 @@ pub fn scan_into<N: Node, A: Shelf, T: Scanning<N, A>, R: Wait, G: Gate>(
     ensures leaves { OnlySearches pass.old pass.new }
     ensures done { IsDoneScan N.layout T.technique (A.site arena.now) low last pass.old pass.new into.new.items }
     ensures scan { IsScanOf low last most into.new.items result }
+    ensures capacity { vec_capacity into.new ≡ vec_capacity into.old }
 {
     let mut from = low;
     for _ in 0..most {

@@ -16,7 +16,7 @@ loop-init g c = record {
   caller = refl;
   leaves = does_none MaySearch c.args.pass.now.caller (seen_of c.args.pass.now);
   long = ap (λ (parts : List Part). length parts) c.requires.blank;
-  room = c.requires.room;
+  capacity = refl;
   done = subst (λ (parts : List Part). DoneParts g.N.Node.layout g.T.Ruled.technique (g.A.Shelf.site c.args.arena.now).nodes c.args.pass.now.caller c.args.low c.args.last (seen_of c.args.pass.now) parts (seen_of c.args.pass.now)) (sym c.requires.blank) refl;
   ascend = subst (PartsAscend c.args.low c.args.last) (sym c.requires.blank) tt;
   from = ap (next_from c.args.low) (sym c.requires.blank);
@@ -24,7 +24,7 @@ loop-init g c = record {
 }
 
 pub push_reserved-requires : goal.push_reserved-requires
-push_reserved-requires g c = let i = c.loop.invariant in omega (arith, i.long, i.room, c.loop.into.ok.0, c.loop-test.true)
+push_reserved-requires g c = let i = c.loop.invariant in let r = c.requires.room in omega (arith, i.long, i.capacity, r, c.loop.into.ok.0, c.loop-test.true)
 
 -- what the row is with the new part
 
@@ -71,7 +71,7 @@ loop-preserved g c = let d = (goal.at.loop-preserved g c).After-push_reserved in
   caller = c.scan_part-part.ensures.caller ∙ c.loop.invariant.caller;
   leaves = leaves g d;
   long = long g d;
-  room = let e = c.push_reserved.ensures.capacity in let r = c.loop.invariant.room in omega arith;
+  capacity = c.push_reserved.ensures.capacity ∙ c.loop.invariant.capacity;
   done = done g d;
   ascend = ascend g d;
   from = let e = next_more c.args.low c.loop.into.items c.scan_part-part.result in let s = ap (next_from c.args.low) c.push_reserved.ensures.items in omega (arith, e, s);

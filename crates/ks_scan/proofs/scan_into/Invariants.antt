@@ -13,7 +13,7 @@ invariant-loop g l = record {
   caller : l.pass.caller ≡ l.fn.pass.caller;
   leaves : DoesOnly MaySearch l.fn.pass.caller (seen_of l.fn.pass) (seen_of l.pass);
   long : length l.into.items ≡ l.counter;
-  room : l.most ≤ vec_capacity l.into;
+  capacity : vec_capacity l.into ≡ vec_capacity l.fn.into;
   done : DoneParts g.N.Node.layout g.T.Ruled.technique (g.A.Shelf.site l.arena).nodes l.fn.pass.caller l.low l.last (seen_of l.fn.pass) l.into.items (seen_of l.pass);
   ascend : PartsAscend l.low l.last l.into.items;
   from : l.from ≡ next_from l.low l.into.items;
