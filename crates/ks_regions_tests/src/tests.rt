@@ -328,6 +328,68 @@ fn the_left_part_may_not_keep_all(rt: HostRuntime) -> Result<(), AllocError> {
     Ok(())
 }
 
+/// The root has grown, and then its right child, at a place that has a value.
+fn grown(alloc: Global) -> Result<Graph, AllocError> {
+    let mut graph = opened(alloc, all_pairs(alloc)?)?;
+    grow(alloc, &mut graph, 0, (1, 2), 8)?;
+    grow(alloc, &mut graph, 2, (3, 4), 15)?;
+    Ok(graph)
+}
+
+/// The halves of the right child are joined again, under it.
+fn joined(alloc: Global) -> Result<Graph, AllocError> {
+    let mut graph = grown(alloc)?;
+    absorb_under(alloc, &mut graph, 2, 3, edge(15, u64::MAX, 4))?;
+    Ok(graph)
+}
+
+/// The right child has taken over what was joined.
+fn taken_over(alloc: Global) -> Result<Graph, AllocError> {
+    let mut graph = joined(alloc)?;
+    absorb(alloc, &mut graph, 2, 3)?;
+    Ok(graph)
+}
+
+#[test]
+fn a_node_below_the_root_grows_and_takes_its_child_over(rt: HostRuntime) -> Result<(), AllocError> {
+    let alloc = rt.alloc();
+    let mut before = opened(alloc, all_pairs(alloc)?)?;
+    grow(alloc, &mut before, 0, (1, 2), 8)?;
+    for graph in [grown(alloc)?, joined(alloc)?, taken_over(alloc)?] {
+        assert!(rt; is_good(&graph));
+        assert!(rt; keyset_of(alloc, &graph, 1)? == keyset_of(alloc, &before, 1)?);
+    }
+    assert!(rt; keysets(alloc, &taken_over(alloc)?)? == keysets(alloc, &before)?);
+    Ok(())
+}
+
+#[test]
+fn spoiled_growths_below_the_root_are_seen(rt: HostRuntime) -> Result<(), AllocError> {
+    let alloc = rt.alloc();
+    // the right edge of the node that grew begins one late
+    let mut graph = grown(alloc)?;
+    set(
+        &mut graph,
+        2,
+        branch(alloc, &[(0, 14, 3), (16, u64::MAX, 4)])?,
+    );
+    assert!(rt; !is_good(&graph));
+    // the left half keeps the upper pairs
+    let mut graph = grown(alloc)?;
+    let (_none, whole) = parts(alloc, &joined(alloc)?, 3, 0)?;
+    set(&mut graph, 3, NodeState::Live(whole));
+    assert!(rt; !is_good(&graph));
+    // the node still leads to the child that it took over
+    let mut graph = taken_over(alloc)?;
+    set(&mut graph, 2, branch(alloc, &[(0, u64::MAX, 3)])?);
+    assert!(rt; !is_good(&graph));
+    // it has none of the pairs of that child
+    let mut graph = taken_over(alloc)?;
+    set(&mut graph, 2, NodeState::Live(empty(alloc)));
+    assert!(rt; !is_good(&graph));
+    Ok(())
+}
+
 #[test]
 fn an_own_edge_below_the_low_spoils_a_merge(rt: HostRuntime) -> Result<(), AllocError> {
     let alloc = rt.alloc();

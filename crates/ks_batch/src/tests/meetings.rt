@@ -104,11 +104,12 @@ fn put_two(text: &mut Vec<u8>, first: u64, second: u64) -> Result<(), AllocError
 }
 
 /// By giving up the search restarts if the node's range no longer holds the key; in a list it goes on, since the node
-/// still leads there.
+/// still leads there, and in a binary tree too, where the full leaf became the parent of its halves.
 #[test]
 fn a_search_that_gives_up_ends_right_past_a_split(rt: HostRuntime) -> Result<(), Fail> {
     assert!(rt; finds_past_a_split(&rt, rt.alloc(), "run bplus giveup 64", 23)?);
     assert!(rt; finds_past_a_split(&rt, rt.alloc(), "run list giveup 64", 11)?);
+    assert!(rt; finds_past_a_split(&rt, rt.alloc(), "run bst giveup 64", 2)?);
     Ok(())
 }
 

@@ -46,3 +46,18 @@ fn four_nodes_of_a_list_are_used_again(rt: HostRuntime) -> Result<(), Fail> {
     }
     Ok(())
 }
+
+/// A binary tree of four nodes: the leaf that a del empties takes in the other one, the root takes it over, and grows again.
+#[test]
+fn four_nodes_of_a_binary_tree_are_used_again(rt: HostRuntime) -> Result<(), Fail> {
+    let input: &[u8] = b"caller\nput 0 0\nput 1 1\nput 2 2\ndel 0\nput 9 9\n";
+    for words in ["run bst coupling 4", "run bst giveup 4"] {
+        let ended = run(&rt, rt.alloc(), words, input)?;
+        assert_eq!(rt; ended.status, 0);
+        assert!(rt;
+            ended.out.as_slice()
+                == b"caller 0\n0 none\n1 none\n2 none\n3 0\n4 none\nmap\n1 1\n2 2\n9 9\nend\n".as_slice()
+        );
+    }
+    Ok(())
+}

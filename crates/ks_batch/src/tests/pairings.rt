@@ -5,7 +5,7 @@ use std::alloc::{AllocError, Global};
 use std::test::Fail;
 
 /// Each pairing that is served, over 64 nodes.
-const ALL: [&str; 8] = [
+const ALL: [&str; 10] = [
     "run list coupling 64",
     "run bplus coupling 64",
     "run hash coupling 64",
@@ -14,6 +14,8 @@ const ALL: [&str; 8] = [
     "run hash giveup 64",
     "run bplus link 64",
     "run hash link 64",
+    "run bst coupling 64",
+    "run bst giveup 64",
 ];
 
 #[test]
@@ -70,6 +72,22 @@ fn four_nodes_of_a_list_fill(rt: HostRuntime) -> Result<(), Fail> {
     let ended = run(&rt, rt.alloc(), "run list coupling 4", &input)?;
     assert_eq!(rt; ended.status, 0);
     assert!(rt; ended.out.as_slice() == wanted.as_slice());
+    Ok(())
+}
+
+/// A binary tree of four nodes has room for three ascending keys: the root grows two leaves, and to grow the right one there
+/// is only one node left.
+#[test]
+fn four_nodes_of_a_binary_tree_fill(rt: HostRuntime) -> Result<(), Fail> {
+    let input: &[u8] = b"caller\nput 0 0\nput 1 1\nput 2 2\nput 3 3\nput 2 5\n";
+    for words in ["run bst coupling 4", "run bst giveup 4"] {
+        let ended = run(&rt, rt.alloc(), words, input)?;
+        assert_eq!(rt; ended.status, 0);
+        assert!(rt;
+            ended.out.as_slice()
+                == b"caller 0\n0 none\n1 none\n2 none\n3 full\n4 2\nmap\n0 0\n1 1\n2 5\nend\n".as_slice()
+        );
+    }
     Ok(())
 }
 

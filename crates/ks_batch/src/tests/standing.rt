@@ -85,3 +85,25 @@ fn a_get_that_gives_up_ends_right_past_a_node_used_again(rt: HostRuntime) -> Res
     assert!(rt; !gate.failed());
     Ok(())
 }
+
+/// By giving up in a binary tree: caller 0 is stopped below the root, with the number of the leaf that has its key, while
+/// caller 1 deletes a key. The leaf is merged away, its parent takes the other one over, and so does the root then. The
+/// number is that of a free node: the get restarts.
+#[test]
+fn a_get_in_a_binary_tree_ends_right_past_a_merge_below_the_root(
+    rt: HostRuntime,
+) -> Result<(), Fail> {
+    let gate = Stand::of(0, 8, Point::Given(1), 1, 2, 50_000_000);
+    let input: &[u8] =
+        b"caller\nput 0 0\nput 10 10\nput 20 20\nput 1 1\nput 2 2\ndel 20\ndel 2\nget 0\nget 1\ncaller\ndel 0\nget 10\n";
+    let ended = run_at(&rt, rt.alloc(), "run bst giveup 64", input, 4096, &gate)?;
+    assert_eq!(rt; ended.status, 0);
+    assert!(rt;
+        ended.out.as_slice()
+            == b"caller 0\n0 none\n1 none\n2 none\n3 none\n4 none\n5 20\n6 2\n7 0\n10 1\ncaller 1\n8 0\n9 10\n\
+            map\n1 1\n10 10\nend\n"
+                .as_slice()
+    );
+    assert!(rt; !gate.failed());
+    Ok(())
+}
