@@ -12,10 +12,12 @@ TOP = os.path.dirname(os.path.dirname(os.path.abspath(__file__)))
 PROGRAM = os.path.join(TOP, "crates", "ks_main", "out", "ks_main")
 TEXT_TIMES = os.path.join(TOP, "crates", "ks_text_times", "out", "ks_text_times")
 CALL_TIMES = os.path.join(TOP, "crates", "ks_call_times", "out", "ks_call_times")
+SCAN_TIMES = os.path.join(TOP, "crates", "ks_scan_times", "out", "ks_scan_times")
 PEERS = os.path.join(TOP, "bench", "peers")
 BUILT = os.path.join(TOP, "bench", "out")
 SPAN = os.path.join(BUILT, "span.so")
 PLAIN_CHECK = os.path.join(BUILT, "plain_check")
+SCAN_PEER = os.path.join(BUILT, "scan_times")
 
 # Where Debian's packages put the sources of crates, and where cargo builds a peer over one of them.
 PACKAGED = "/usr/share/cargo/registry"
@@ -34,7 +36,7 @@ path = "{source}"
 {crate} = "*"
 """
 
-LAYOUTS = ("list", "bplus", "hash")
+LAYOUTS = ("list", "bplus", "hash", "bst")
 TEMPLATES = ("coupling", "giveup", "link")
 NODES_FOR_EACH_CALLER = 1024
 NODES_FOR_SCRIPTS = 262144
@@ -114,6 +116,11 @@ def build_call_times():
     build_beside(CALL_TIMES, ["link", "1", "0"])
 
 
+def build_scan_times():
+    """Proves and builds what takes the time of scans; ends with its status where that fails."""
+    build_beside(SCAN_TIMES, ["link", "10", "1", "0"])
+
+
 def is_admitted(layout, template):
     """Whether the program serves this pairing: it is asked with an empty script."""
     return subprocess.run([PROGRAM, "run", layout, template, "4"], stdin=subprocess.DEVNULL,
@@ -159,6 +166,12 @@ def is_plain_check_built():
     """Whether this machine can build the plain judge of runs, with a line where it cannot."""
     os.makedirs(BUILT, exist_ok=True)
     return is_built("the plain check", rustc(PLAIN_CHECK, "plain_check.rs"))
+
+
+def scan_peer():
+    """The maps of Rust that are scanned, where this machine can build them, with a line where it cannot."""
+    os.makedirs(BUILT, exist_ok=True)
+    return SCAN_PEER if is_built("scans of the maps of Rust", rustc(SCAN_PEER, "scan_times.rs")) else None
 
 
 def models():

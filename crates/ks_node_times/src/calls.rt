@@ -16,16 +16,23 @@ fn place_of(number: u64) -> u64
     number % 8 * EIGHTH
 }
 
-/// A node with seven pairs.
+/// How many pairs a node has that is not full: seven, or one less than its room.
+fn pairs<N: Node>() -> u64
+    ensures { 0 < result }
+{
+    (N::ROOM as u64).saturating_sub(1).min(7).max(1)
+}
+
+/// A node with some pairs, and room for one more.
 fn some<N: Ranged>(alloc: Global) -> Result<N, AllocError> {
     let mut node = N::blank(alloc)?;
-    for number in 0..7u64 {
+    for number in 0..pairs::<N>() {
         asked::put(&mut node, place_of(number), 1);
     }
     Ok(node)
 }
 
-/// Eight nodes with seven pairs.
+/// Eight nodes with some pairs.
 fn somes<N: Ranged>(alloc: Global) -> Result<Vec<N>, AllocError> {
     let mut nodes = Vec::new(alloc);
     for _ in 0..8u32 {
@@ -43,7 +50,7 @@ fn full<N: Ranged>(alloc: Global) -> Result<N, AllocError> {
     Ok(node)
 }
 
-/// A branch with eight edges, or a full node if there is none.
+/// A branch with eight edges, or with two if it adopts none; a full node if there is none.
 fn branch<N: Unlinked + Ranged>(alloc: Global) -> Result<N, AllocError> {
     let mut node: N = full(alloc)?;
     asked::grow(alloc, &mut node)?;
@@ -195,7 +202,7 @@ fn cut<N: Ranged>(nodes: &[N], times: u64) -> u64 {
 fn put<N: Ranged>(node: &mut N, times: u64) -> u64 {
     let mut sum = 0u64;
     for i in 0..times {
-        sum = sum.wrapping_add(asked::put(node, place_of(i % 7), i as u128) as u64);
+        sum = sum.wrapping_add(asked::put(node, place_of(i % pairs::<N>()), i as u128) as u64);
     }
     sum
 }

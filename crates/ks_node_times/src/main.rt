@@ -1,6 +1,6 @@
 //! One call of a node, made many times over: for `bench/nodes`, which counts what it takes.
 //!
-//! The words are a type of nodes (`list`, `bplus` or `hash`), a call, and how often it is made. What is printed is a
+//! The words are a type of nodes (`list`, `bplus`, `hash` or `bst`), a call, and how often it is made. What is printed is a
 //! sum of the results of the calls, so that none of them is left out when the program is built.
 #![tactic(auto)]
 
@@ -9,6 +9,7 @@ mod calls;
 
 use calls::repeat;
 use ks_bplus::BNode;
+use ks_bst::TNode;
 use ks_hash::HNode;
 use ks_list::ListNode;
 use ks_node::WithRange;
@@ -27,6 +28,7 @@ fn sum_of(alloc: Global, nodes: &str, call: &str, times: u64) -> Result<Option<u
         "list" => repeat::<WithRange<ListNode>>(alloc, call, times),
         "bplus" => repeat::<WithRange<BNode>>(alloc, call, times),
         "hash" => repeat::<WithRange<HNode>>(alloc, call, times),
+        "bst" => repeat::<WithRange<TNode>>(alloc, call, times),
         _ => Ok(None),
     }
 }
