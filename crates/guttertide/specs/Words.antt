@@ -9,7 +9,7 @@ pub use Rattle.ks_arena.specs.Of.{HeldAlone, SameCaller, WasAlone, caller_of}
 pub use Rattle.ks_arena.specs.Clauses.{EndsAll, noted, seen_of}
 pub use Rattle.ks_arena.specs.Reuse.{ReusesSafely}
 -- of what calls return, and what they leave
-pub use Rattle.ks_shape.specs.Answers.{number_in, reply_in}
+pub use Rattle.ks_shape.specs.Answers.{move_number, move_reply, number_in, reply_in}
 pub use Rattle.ks_shape.specs.Compacts.{HasFreed, HasLeftBy, IsTightIn, WasUndisturbed}
 pub use Rattle.ks_shape.specs.Does.{OnlyDels, OnlyFills, OnlySearches}
 pub use Rattle.ks_shape.specs.Tries.{IsDoneIn, MayTell, PutMayTell}
