@@ -1,10 +1,10 @@
 -- A script and a run of it that were read line by line.
-use Rattle.ks_script.proofs.Common.{ℕ, ◌≡◌, ◌+◌, List, [], ◌∷◌, ◌++◌, length, map, drop, get_or, codes, refl, sym, ap, subst, ◌∙◌, append-nil, arith, length-append, Ok, Err, Result, Op, TextFault, Refused, Memory, Version, First, Second, lines_of, FirstBad, version_line, IsScript, call_line, script_lines, Run, run_lines, IsRunOf, SpellsChecked, AreChecked, CheckedOf, FirstBadOfChecked, Answers, Gives, Lines, NotFirst, Leads, Reads, RefusedBehind, Apart, TextLeft, CallsLeft, Told, CallersRead, none_read, some_read, Stops, SpellsRun, AreRun}
+use Rattle.ks_script.proofs.Common.{ℕ, ◌≡◌, ◌+◌, List, [], ◌∷◌, ◌++◌, length, drop, get_or, codes, refl, sym, ap, subst, ◌∙◌, arith, Ok, Err, Result, Op, TextFault, Refused, Memory, Version, lines_of, FirstBad, IsScript, Run, run_lines, IsRunOf, SpellsChecked, AreChecked, CheckedOf, FirstBadOfChecked, Answers, Gives, Lines, NotFirst, Leads, Reads, RefusedBehind, Apart, TextLeft, CallsLeft, Told, CallersRead, none_read, some_read, Stops, SpellsRun, AreRun}
 use Rattle.std.specs.Prelude.{IfOk}
 use Rattle.ks_script.proofs.Leading.{bad_no_text, one_bad, bad_same, refused_at, behind_bad}
-use Rattle.ks_script.proofs.CallLines.{first, not_call}
+use Rattle.ks_script.proofs.CallLines.{first, spelled}
 use Rattle.ks_script.proofs.Steps.{reads_line, reads_as, reads_beside}
-use Rattle.ks_script.proofs.ScriptRead.{left_told, left_calls, stuck_told, stuck_calls}
+use Rattle.ks_script.proofs.ScriptRead.{alone, left_told, left_calls, told_end, calls_end, stuck_told, stuck_calls}
 use Rattle.ks_script.proofs.RunRead.{blanks, whole_run}
 
 -- the lines behind the script
@@ -13,19 +13,9 @@ behind run = codes "run" ∷ run_lines run
 
 -- they begin with nothing of a script
 run_apart : (v : Version) (ls : Lines) → Apart v (codes "run" ∷ ls)
-run_apart v ls = record { no_version = λ e. omega (arith, ap first e); no_caller = λ e. omega (arith, ap first e); no_call = λ op is e. (not_call op).1 (sym (ap first e)) }
-
-abbrev first_byte : Lines → ℕ
-first_byte ls = get_or (get_or ls 0 []) 0 0
+run_apart v ls = record { no_version = λ e. omega (arith, ap first e); no_caller = λ e. omega (arith, ap first e); no_call = λ op is e. (spelled v op is).apart.1 (sym (ap first e)) }
 
 -- `run`, where no caller was read
-told_only : (v : Version) (run : Run) (w : Version) (s : List (List Op)) (ls : Lines) → Told v w s (behind run) (codes "run" ∷ ls) → (w ≡ v) × (s ≡ []) × (ls ≡ run_lines run)
-told_only First run First [] ls h = (refl, refl, ap (λ (ls : Lines). drop 1 ls) h.lines_are)
-told_only First run First (o ∷ s) ls h = absurd (omega (arith, ap first_byte h.lines_are))
-told_only First run Second s ls h = absurd (omega (arith, ap first_byte h.lines_are))
-told_only Second run w [] ls h = (h.0, refl, ap (λ (ls : Lines). drop 1 ls) h.1.lines_are)
-told_only Second run w (o ∷ s) ls h = absurd (omega (arith, ap first_byte h.1.lines_are))
-
 module _ (v : Version) (run : Run) where
   told_run : (w : Version) (s : List (List Op)) → IsScript v [] → Leads (Told v w s (behind run)) (λ ls. (w ≡ v) × (s ≡ []) × (ls ≡ run_lines run)) (codes "run" ∷ [])
   told_run w s is = record {
@@ -33,24 +23,16 @@ module _ (v : Version) (run : Run) where
         subst (λ (u : Version). Told v u s (behind run) (codes "run" ∷ ls)) (sym h.0)
         (subst (λ (t : List (List Op)). Told v v t (behind run) (codes "run" ∷ ls)) (sym h.1)
         (subst (λ (k : Lines). Told v v [] (behind run) (codes "run" ∷ k)) (sym h.2) (left_told v (behind run) (run_apart v (run_lines run)) is)));
-    only = λ ls h. told_only v run w s ls h;
+    only = λ ls h. let g = told_end v w s (behind run) (codes "run" ∷ ls) h (run_apart v ls) in (g.0, g.1, ap (λ (ls : Lines). drop 1 ls) g.2);
   }
 
   -- and where some were
-  calls_only : (callers : List (List Op)) (ops : List Op) (s all : List (List Op)) (ls : Lines) → all ≡ callers ++ ops ∷ [] → CallsLeft v callers ops s (behind run) (codes "run" ∷ ls) → (s ≡ all) × (ls ≡ run_lines run)
-  calls_only callers ops s all ls all_are h = by_more h.more h.others h.script_is h.lines_are
-    where
-      by_more : (more : List Op) (others : List (List Op)) → s ≡ callers ++ (ops ++ more) ∷ others → codes "run" ∷ ls ≡ map call_line more ++ (script_lines others ++ behind run) → (s ≡ all) × (ls ≡ run_lines run)
-      by_more [] [] e f = (e ∙ (ap (λ (xs : List Op). callers ++ xs ∷ []) (append-nil ops) ∙ sym all_are), ap (λ (ls : Lines). drop 1 ls) f)
-      by_more [] (o ∷ others) e f = absurd (omega (arith, ap first_byte f))
-      by_more (m ∷ more) others e f = absurd ((not_call m).1 (sym (ap first_byte f)))
-
   calls_run : (callers : List (List Op)) (ops : List Op) (s all : List (List Op)) → all ≡ callers ++ ops ∷ [] → IsScript v all → Leads (CallsLeft v callers ops s (behind run)) (λ ls. (s ≡ all) × (ls ≡ run_lines run)) (codes "run" ∷ [])
   calls_run callers ops s all all_are is = record {
     into = λ ls h.
         subst (λ (t : List (List Op)). CallsLeft v callers ops t (behind run) (codes "run" ∷ ls)) (sym h.0)
         (subst (λ (k : Lines). CallsLeft v callers ops all (behind run) (codes "run" ∷ k)) (sym h.1) (left_calls v (behind run) (run_apart v (run_lines run)) all callers ops all_are is));
-    only = λ ls h. calls_only callers ops s all ls all_are h;
+    only = λ ls h. let g = calls_end v callers ops s (behind run) (codes "run" ∷ ls) h (run_apart v ls) in (g.0 ∙ sym all_are, ap (λ (ls : Lines). drop 1 ls) g.1);
   }
 
 from_checked : (w : Version) (s : List (List Op)) (run : Run) (ls : Lines) → SpellsChecked w s run ls → IsRunOf s run × TextLeft w s (behind run) ls
@@ -98,9 +80,8 @@ no_run v all bytes rest n read is stops odd =
     other : (run : Run) (l : List ℕ) (ls more : Lines) → lines_of rest ≡ l ∷ ls → l ∷ more ≡ behind run → ⊥
     other run l ls more e f = subst (NotFirst (codes "run")) e odd (ap (λ (ls : Lines). get_or ls 0 []) f)
 
-    none_told : (v w : Version) (s : List (List Op)) (run : Run) → Told v w s (behind run) [] → ⊥
-    none_told First w s run h = omega (arith, ap (λ (ls : Lines). length ls) h.lines_are, length-append (version_line w) (script_lines s ++ behind run), length-append (script_lines s) (behind run))
-    none_told Second w s run h = omega (arith, ap (λ (ls : Lines). length ls) h.1.lines_are, length-append (script_lines s) (behind run))
+    missing : (run : Run) → [] ≡ behind run → ⊥
+    missing run e = omega (arith, ap (λ (ls : Lines). length ls) e)
 
     bad : CallersRead v all bytes rest n → FirstBad (λ ls. (x : Whole) × Texts x ls) (lines_of bytes) (n + 1)
     bad (none_read none r) =
@@ -108,13 +89,13 @@ no_run v all bytes rest n read is stops odd =
         (λ x. reads_beside (IsRunOf x.1 x.2) (TextLeft x.0 x.1 (behind x.2)) (Told v x.0 x.1 (behind x.2)) bytes rest n (r x.0 x.1 (behind x.2)))
         (v, [], some_run all) (behind (some_run all)) (subst (λ (t : List (List Op)). IsRunOf t (some_run all)) none (whole_run all), left_told v (behind (some_run all)) (run_apart v (run_lines (some_run all))) (subst (IsScript v) none is))
         (λ x l ls more e h. stuck_told v x.0 x.1 (behind x.2) l ls more (other x.2 l ls more e) (subst (Stops v []) e (subst (λ (xs : List (List Op)). Stops v xs (lines_of rest)) none stops)) h.1)
-        (λ e x h. none_told v x.0 x.1 x.2 h.1)
+        (λ e x h. missing x.2 (told_end v x.0 x.1 (behind x.2) [] h.1 (alone v)).2)
     bad (some_read callers ops all_are r) =
         refused_at {X = Whole} Texts (λ x ls. IsRunOf x.1 x.2 × ((x.0 ≡ v) × CallsLeft v callers ops x.1 (behind x.2) ls)) bytes rest n
         (λ x. reads_beside (IsRunOf x.1 x.2) (TextLeft x.0 x.1 (behind x.2)) (λ ls. (x.0 ≡ v) × CallsLeft v callers ops x.1 (behind x.2) ls) bytes rest n (r x.0 x.1 (behind x.2)))
         (v, all, some_run all) (behind (some_run all)) (whole_run all, (refl, left_calls v (behind (some_run all)) (run_apart v (run_lines (some_run all))) all callers ops all_are is))
         (λ x l ls more e h. stuck_calls v all callers ops x.1 (behind x.2) l ls more (other x.2 l ls more e) all_are (subst (Stops v all) e stops) h.1.1)
-        (λ e x h. omega (arith, ap (λ (ls : Lines). length ls) h.1.1.lines_are, length-append (map call_line h.1.1.more) (script_lines h.1.1.others ++ behind x.2), length-append (script_lines h.1.1.others) (behind x.2)))
+        (λ e x h. missing x.2 (calls_end v callers ops x.1 (behind x.2) [] h.1.1 (alone v)).1)
 
 module _ (v : Version) (all : List (List Op)) (bytes text : List ℕ) (n : ℕ) (reads : (w : Version) (s : List (List Op)) (run : Run) → Reads (SpellsChecked w s run) (Behind v all w s run) bytes text n) where
   -- a bad line of the run

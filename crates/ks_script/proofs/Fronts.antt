@@ -27,10 +27,6 @@ digit_more bytes i m n lt all value is next = (
 )
 
 -- each of the digits is one
-pub first_digit : (ds : List ℕ) → 0 < length ds → all_ascii_digits ds ≡ true → is_ascii_digit (get_or ds 0 0) ≡ true
-first_digit [] some all = absurd (omega arith)
-first_digit (d ∷ ds) some all = (and_parts (is_ascii_digit d) (all_ascii_digits ds) all).0
-
 pub digit_at : (bytes : List ℕ) (k i : ℕ) → all_ascii_digits (take k bytes) ≡ true → k ≤ length bytes → i < k → is_ascii_digit (get_or bytes i 0) ≡ true
 digit_at bytes zero i all le lt = absurd (omega arith)
 digit_at [] (suc k) i all le lt = absurd (omega arith)

@@ -1,8 +1,7 @@
 -- Lines that bytes begin with.
-use Rattle.ks_script.proofs.Common.{ℕ, ◌≡◌, ◌^◌, ◌<◌, ◌≤◌, true, List, [], ◌∷◌, ◌++◌, length, drop, refl, sym, ap, subst, ◌∙◌, append_assoc, append-nil, arith, codes, length-append, inl, inr, false≢true, and_parts, is_ascii_digit, all_ascii_digits, decimal, onto_first, lines_of, Lacks, NoDigit, EndsLine, Lined, NotLined, Lines, NotFirst, NoneFirst, pair_line}
+use Rattle.ks_script.proofs.Common.{ℕ, ◌≡◌, ◌^◌, ◌<◌, ◌≤◌, true, List, [], ◌∷◌, ◌++◌, length, drop, refl, sym, ap, subst, ◌∙◌, append_assoc, append-nil, arith, codes, length-append, inl, inr, false≢true, and_parts, is_ascii_digit, all_ascii_digits, decimal, onto_first, lines_of, Lacks, NoDigit, EndsLine, Lined, NotLined, Lines, NotFirst, NoneFirst}
 use Rattle.ks_script.proofs.Numerals.{digits_of_number, one_number}
 use Rattle.ks_script.proofs.Cuts.{lines_cases, lines_first, lines_last}
-use Rattle.ks_script.proofs.CallLines.{three, three_parts}
 use Rattle.ks_script.proofs.Exact.{goes_on}
 
 -- the end of a line is no digit
@@ -31,10 +30,8 @@ pub value_told : (m n : ℕ) (r s bytes : List ℕ) → m < 2 ^ 128 → n < 2 ^ 
 value_told m n r s bytes hm hn fr fs e f = number_told m n r s hm hn fr fs (ap (λ (x : List ℕ). drop 1 x) (sym e ∙ f))
 
 -- the first of three numbers
-pub three_first : (m k v w : ℕ) (r tail bytes : List ℕ) → m < 2 ^ 128 → k < 2 ^ 128 → NoDigit r → bytes ≡ decimal m ++ r → bytes ≡ three k v w ++ tail → r ≡ codes " " ++ (decimal v ++ (codes " " ++ (decimal w ++ tail)))
-three_first m k v w r tail bytes hm hk free e f =
-    (spaced_told m k r (pair_line (v, w)) tail bytes hm hk free e (f ∙ ap (λ (x : List ℕ). x ++ tail) (three_parts k v w))).1
-    ∙ ap (λ (x : List ℕ). codes " " ++ x) (simp append_assoc)
+pub three_first : (m k v w : ℕ) (r tail bytes : List ℕ) → m < 2 ^ 128 → k < 2 ^ 128 → NoDigit r → bytes ≡ decimal m ++ r → bytes ≡ (decimal k ++ codes " " ++ decimal v ++ codes " " ++ decimal w) ++ tail → r ≡ codes " " ++ (decimal v ++ (codes " " ++ (decimal w ++ tail)))
+three_first m k v w r tail bytes hm hk free e f = (number_told m k r (codes " " ++ (decimal v ++ (codes " " ++ (decimal w ++ tail)))) hm hk free refl (sym e ∙ (f ∙ simp append_assoc))).1
 
 -- the first line
 pub lined_first : (text bytes rest : List ℕ) → Lacks 10 text → 0 < length text → Lined text bytes rest → lines_of bytes ≡ text ∷ lines_of rest

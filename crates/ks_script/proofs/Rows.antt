@@ -1,8 +1,8 @@
 -- Replies: how their words differ.
-use Rattle.ks_script.proofs.Common.{ℕ, ◌≡◌, ◌^◌, ◌<◌, ◌⊎◌, false, cond, eqb, List, [], ◌∷◌, ◌++◌, length, codes, refl, sym, ap, subst, ◌∙◌, arith, inl, inr, length-append, get_or_append_left, append_cancel_left, decimal, is_ascii_digit, Reply, Nothing, Value, Full, Listed, Kept, reply_word, IsReply, NoDigit, EndsLine, NotLined}
+use Rattle.ks_script.proofs.Common.{ℕ, ◌≡◌, ◌^◌, ◌<◌, ◌⊎◌, false, cond, eqb, List, [], ◌∷◌, ◌++◌, length, codes, refl, sym, ap, subst, ◌∙◌, arith, inl, inr, length-append, get_or_append_left, append_cancel_left, decimal, is_ascii_digit, Reply, Nothing, Value, Full, reply_word, IsReply, NoDigit, EndsLine, NotLined}
 use Rattle.ks_script.proofs.Exact.{no_number}
 use Rattle.ks_script.proofs.Lined.{number_told, end_free}
-use Rattle.ks_script.proofs.CallLines.{first}
+use Rattle.ks_script.proofs.CallLines.{first, stands}
 
 pub some_spaced : (a b : List ℕ) → 0 < length (a ++ codes " " ++ b)
 some_spaced a b = omega (arith, length-append (a ++ codes " ") b, length-append a (codes " "))
@@ -12,33 +12,49 @@ abbrev pub word_of : ℕ → Reply
 word_of byte = cond (eqb byte 110) Nothing Full
 
 abbrev pub HasWord : Reply → Type 0
-HasWord r = (is_ascii_digit (first (reply_word r)) ≡ false) × (0 < length (reply_word r)) × (word_of (first (reply_word r)) ≡ r)
+HasWord r = (is_ascii_digit (first (reply_word r)) ≡ false) × (0 < length (reply_word r)) × (word_of (first (reply_word r)) ≡ r) × (stands 10 (reply_word r) ≡ false)
 
-pub by_word : (r : Reply) → IsReply r → HasWord r ⊎ ((v : ℕ) × (v < 2 ^ 128) × (r ≡ Value v))
-by_word Nothing h = inl (refl, omega arith, refl)
-by_word Full h = inl (refl, omega arith, refl)
-by_word (Value v) h = inr (v, h, refl)
-by_word (Listed pairs) h = absurd h
-by_word Kept h = absurd h
+-- what follows the word of a reply: behind a value no digit comes
+abbrev pub Follows : Reply → List ℕ → Type 0
+Follows (Value v) rest = NoDigit rest
+Follows other rest = Unit {0}
 
-no_digit : (word rest : List ℕ) → 0 < length word → is_ascii_digit (first word) ≡ false → NoDigit (word ++ rest)
-no_digit [] rest some free = absurd (omega arith)
-no_digit (b ∷ word) rest some free = free
+abbrev pub Starts : Reply → List ℕ → Type 0
+Starts r rest = HasWord r ⊎ ((v : ℕ) × (v < 2 ^ 128) × (r ≡ Value v) × NoDigit rest)
+
+pub by_word : (r : Reply) (rest : List ℕ) → IsReply r → Follows r rest → Starts r rest
+by_word Nothing rest h free = inl (refl, omega arith, refl, refl)
+by_word Full rest h free = inl (refl, omega arith, refl, refl)
+by_word (Value v) rest h free = inr (v, h, refl, free)
+by_word other rest h free = absurd h
+
+pub follows : (r : Reply) (rest : List ℕ) → NoDigit rest → Follows r rest
+follows (Value v) rest free = free
+follows other rest free = tt
+
+-- bytes begin as one reply
+pub one_word : (a b : Reply) (x y : List ℕ) → IsReply a → IsReply b → Follows a x → Follows b y → reply_word a ++ x ≡ reply_word b ++ y → a ≡ b
+one_word a b x y h k free other e =
+    elim (by_word a x h free) [
+      | inl word ↦ (elim (by_word b y k other) [
+        | inl other ↦ sym word.2 ∙ (ap word_of (sym (get_or_append_left (reply_word a) x 0 0 word.1) ∙ (ap first e ∙ get_or_append_left (reply_word b) y 0 0 other.1)) ∙ other.2)
+        | inr value ↦ absurd (no_value a x word value.0 y value.1 (e ∙ ap (λ (r : Reply). reply_word r ++ y) value.2))
+      ])
+      | inr value ↦ (elim (by_word b y k other) [
+        | inl word ↦ absurd (no_value b y word value.0 x value.1 (sym e ∙ ap (λ (r : Reply). reply_word r ++ x) value.2))
+        | inr other ↦ value.2 ∙ (ap Value (number_told value.0 other.0 x y value.1 other.1 value.3 other.3 (sym (ap (λ (r : Reply). reply_word r ++ x) value.2) ∙ (e ∙ ap (λ (r : Reply). reply_word r ++ y) other.2))).0 ∙ sym other.2)
+      ])
+    ]
+  where
+    no_digit : (word rest : List ℕ) → 0 < length word → is_ascii_digit (first word) ≡ false → NoDigit (word ++ rest)
+    no_digit [] rest some free = absurd (omega arith)
+    no_digit (b ∷ word) rest some free = free
+
+    no_value : (r : Reply) (rest : List ℕ) → HasWord r → (v : ℕ) (tail : List ℕ) → v < 2 ^ 128 → reply_word r ++ rest ≡ decimal v ++ tail → ⊥
+    no_value r rest has v tail small e = no_number v (reply_word r ++ rest) tail small (no_digit (reply_word r) rest has.1 has.0) e
 
 -- bytes that begin as a reply, behind which no line ends
-pub not_word : (said : Reply) (bytes rest : List ℕ) → HasWord said → bytes ≡ reply_word said ++ rest → (EndsLine rest → ⊥) → (r : Reply) → IsReply r → NotLined (reply_word r) bytes
-not_word said bytes rest has e bad r is tail ends f =
-    elim (by_word r is) [
-      | inl word ↦
-          (let byte : first (reply_word r) ≡ first (reply_word said) = sym (get_or_append_left (reply_word r) tail 0 0 word.1) ∙ (ap first (sym f ∙ e) ∙ get_or_append_left (reply_word said) rest 0 0 has.1) in
-          let same : r ≡ said = sym word.2 ∙ (ap word_of byte ∙ has.2) in
-          bad (subst EndsLine (append_cancel_left (reply_word said) tail rest (ap (λ (s : Reply). reply_word s ++ tail) (sym same) ∙ (sym f ∙ e))) ends))
-      | inr value ↦ no_number value.0 (reply_word said ++ rest) tail value.1 (no_digit (reply_word said) rest has.1 has.0) (sym e ∙ (f ∙ ap (λ (s : Reply). reply_word s ++ tail) value.2))
-    ]
-
-pub not_value : (m : ℕ) (bytes rest : List ℕ) → m < 2 ^ 128 → NoDigit rest → bytes ≡ decimal m ++ rest → (EndsLine rest → ⊥) → (r : Reply) → IsReply r → NotLined (reply_word r) bytes
-not_value m bytes rest small free e bad r is tail ends f =
-    elim (by_word r is) [
-      | inl word ↦ no_number m (reply_word r ++ tail) rest small (no_digit (reply_word r) tail word.1 word.0) (sym f ∙ e)
-      | inr value ↦ bad (subst EndsLine (sym (number_told m value.0 rest tail small value.1 free (end_free tail ends) (sym e ∙ (f ∙ ap (λ (s : Reply). reply_word s ++ tail) value.2))).1) ends)
-    ]
+pub not_told : (said : Reply) (bytes rest : List ℕ) → IsReply said → Follows said rest → bytes ≡ reply_word said ++ rest → (EndsLine rest → ⊥) → (r : Reply) → IsReply r → NotLined (reply_word r) bytes
+not_told said bytes rest good free e bad r is tail ends f =
+    let same : r ≡ said = one_word r said tail rest is good (follows r tail (end_free tail ends)) free (sym f ∙ e) in
+    bad (subst EndsLine (append_cancel_left (reply_word said) tail rest (ap (λ (s : Reply). reply_word s ++ tail) (sym same) ∙ (sym f ∙ e))) ends)

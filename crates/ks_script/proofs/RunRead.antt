@@ -1,5 +1,5 @@
 -- Runs that were read line by line: where a text stops to be one.
-use Rattle.ks_script.proofs.Common.{ℕ, zero, suc, ◌≡◌, ◌+◌, ◌-◌, ◌<◌, List, [], ◌∷◌, ◌++◌, length, map, codes, refl, sym, ap, subst, ◌∙◌, append-nil, arith, length-append, Err, map-append, AllByRecursion, Op, Nothing, TextFault, Refused, Memory, lines_of, FirstBad, Run, reply_line, pair_line, callers_from, map_lines, IsAnswered, AscendFrom, IsRunOf, Lines, NotFirst, NoneFirst, Reads, Replies, next_key, IsPairFrom, SpellsRun, AreRun, AnswersLeft, RepliesLeft, PairsLeft, NothingLeft, Answers}
+use Rattle.ks_script.proofs.Common.{ℕ, zero, suc, ◌≡◌, ◌+◌, ◌-◌, ◌<◌, List, [], ◌∷◌, ◌++◌, length, map, codes, refl, sym, ap, subst, ◌∙◌, append-nil, arith, length-append, Err, map-append, replicate, length-replicate, AllByRecursion, Op, Reply, Nothing, TextFault, Refused, Memory, lines_of, FirstBad, Run, reply_line, pair_line, callers_from, map_lines, IsAnswered, AscendFrom, IsRunOf, Lines, NotFirst, NoneFirst, Reads, Replies, next_key, IsPairFrom, SpellsRun, AreRun, AnswersLeft, RepliesLeft, PairsLeft, NothingLeft, Answers}
 use Rattle.ks_script.proofs.Leading.{refused_at}
 use Rattle.ks_script.proofs.Lined.{no_lines}
 use Rattle.ks_script.proofs.Steps.{reads_none, reads_as, all_append}
@@ -15,16 +15,11 @@ none_read script run bytes =
 
 -- some run has these callers first
 abbrev blank : ℕ → Replies
-blank zero = []
-blank (suc k) = (0, Nothing) ∷ blank k
+blank k = replicate k (0, Nothing)
 
 good_blank : (k : ℕ) → AllByRecursion IsAnswered (blank k)
 good_blank zero = tt
 good_blank (suc k) = ((omega arith, tt), good_blank k)
-
-length-blank : (k : ℕ) → length (blank k) ≡ k
-length-blank zero = refl
-length-blank (suc k) = ap suc (length-blank k)
 
 abbrev pub blanks : List (List Op) → List Replies
 blanks [] = []
@@ -36,7 +31,7 @@ good_blanks (ops ∷ s) = (good_blank (length ops), good_blanks s)
 
 sizes-blanks : (s : List (List Op)) → sizes (blanks s) ≡ sizes s
 sizes-blanks [] = refl
-sizes-blanks (ops ∷ s) = ap (λ (n : ℕ). n ∷ sizes (blanks s)) (length-blank (length ops)) ∙ ap (λ (ns : List ℕ). length ops ∷ ns) (sizes-blanks s)
+sizes-blanks (ops ∷ s) = ap (λ (n : ℕ). n ∷ sizes (blanks s)) (length-replicate (length ops) (0, Nothing)) ∙ ap (λ (ns : List ℕ). length ops ∷ ns) (sizes-blanks s)
 
 -- lines with some behind them are not none
 some_behind : (a b : Lines) → 0 < length b → [] ≡ a ++ b → ⊥
@@ -45,11 +40,11 @@ some_behind a b some e = omega (arith, ap (λ (ls : Lines). length ls) e, length
 pub whole_run : (script : List (List Op)) → IsRunOf script (record { callers = blanks script; pairs = [] })
 whole_run script = record { shape = sizes-blanks script; each = good_blanks script; ascend = tt }
 
--- the run with these callers, whatever the others
-filled : (before after : List (List Op)) (callers : List Replies) → sizes callers ≡ sizes before → GoodReplies callers → IsRunOf (before ++ after) (record { callers = callers ++ blanks after; pairs = [] })
-filled before after callers shape good = record {
-  shape = map-append (λ (ls : Replies). length ls) callers (blanks after) ∙ (ap (λ (ns : List ℕ). ns ++ sizes (blanks after)) shape ∙ (ap (λ (ns : List ℕ). sizes before ++ ns) (sizes-blanks after) ∙ sym (map-append (λ (ops : List Op). length ops) before after)));
-  each = all_append (AllByRecursion IsAnswered) callers (blanks after) good (good_blanks after);
+-- the run with these callers, and others of the sizes that are due
+filled : (before after : List (List Op)) (callers others : List Replies) → sizes callers ≡ sizes before → sizes others ≡ sizes after → GoodReplies callers → GoodReplies others → IsRunOf (before ++ after) (record { callers = callers ++ others; pairs = [] })
+filled before after callers others shape left good more = record {
+  shape = map-append (λ (ls : Replies). length ls) callers others ∙ (ap (λ (ns : List ℕ). ns ++ sizes others) shape ∙ (ap (λ (ns : List ℕ). sizes before ++ ns) left ∙ sym (map-append (λ (ops : List Op). length ops) before after)));
+  each = all_append (AllByRecursion IsAnswered) callers others good more;
   ascend = tt;
 }
 
@@ -59,7 +54,7 @@ module _ (script before : List (List Op)) (ops : List Op) (after : List (List Op
   no_caller reads odd =
       let some : Run = record { callers = callers ++ blanks (ops ∷ after); pairs = [] } in
       refused_at {X = Run} (SpellsRun script) (λ run ls. AnswersLeft script n callers run ls) bytes rest k reads some (callers_from n (blanks (ops ∷ after)) ++ map_lines [])
-      (record { is = subst (λ (s : List (List Op)). IsRunOf s some) (sym cut) (filled before (ops ∷ after) callers shape good); others = blanks (ops ∷ after); callers_are = refl; lines_are = refl })
+      (record { is = subst (λ (s : List (List Op)). IsRunOf s some) (sym cut) (filled before (ops ∷ after) callers (blanks (ops ∷ after)) shape (sizes-blanks (ops ∷ after)) good (good_blanks (ops ∷ after))); others = blanks (ops ∷ after); callers_are = refl; lines_are = refl })
       (λ run l ls more e h. stuck run l ls more (subst (NotFirst (head_line n)) e odd) h.is h.others h.callers_are h.lines_are)
       (λ e run h. some_behind (callers_from n h.others) (map_lines run.pairs) (omega arith) h.lines_are)
     where
@@ -72,14 +67,11 @@ module _ (script before : List (List Op)) (ops : List Op) (after : List (List Op
   no_reply rs each few reads odd =
       let left : Replies = blank (length ops - length rs) in
       let some : Run = record { callers = callers ++ (rs ++ left) ∷ blanks after; pairs = [] } in
-      let full : length (rs ++ left) ≡ length ops = omega (arith, length-append rs left, length-blank (length ops - length rs)) in
+      let full : length (rs ++ left) ≡ length ops = omega (arith, length-append rs left, length-replicate {A = ℕ × Reply} (length ops - length rs) (0, Nothing)) in
       refused_at {X = Run} (SpellsRun script) (λ run ls. RepliesLeft script n callers rs run ls) bytes rest k reads some (map reply_line left ++ (callers_from (n + 1) (blanks after) ++ map_lines []))
       (record {
-        is = subst (λ (s : List (List Op)). IsRunOf s some) (sym cut) (record {
-          shape = map-append (λ (ls : Replies). length ls) callers ((rs ++ left) ∷ blanks after) ∙ (ap (λ (ns : List ℕ). ns ++ length (rs ++ left) ∷ sizes (blanks after)) shape ∙ (ap (λ (m : ℕ). sizes before ++ m ∷ sizes (blanks after)) full ∙ (ap (λ (ns : List ℕ). sizes before ++ length ops ∷ ns) (sizes-blanks after) ∙ sym (map-append (λ (ops : List Op). length ops) before (ops ∷ after)))));
-          each = all_append (AllByRecursion IsAnswered) callers ((rs ++ left) ∷ blanks after) good (all_append IsAnswered rs left each (good_blank (length ops - length rs)), good_blanks after);
-          ascend = tt;
-        });
+        is = subst (λ (s : List (List Op)). IsRunOf s some) (sym cut)
+            (filled before (ops ∷ after) callers ((rs ++ left) ∷ blanks after) shape (ap (λ (m : ℕ). m ∷ sizes (blanks after)) full ∙ ap (λ (ns : List ℕ). length ops ∷ ns) (sizes-blanks after)) good (all_append IsAnswered rs left each (good_blank (length ops - length rs)), good_blanks after));
         more = left;
         others = blanks after;
         callers_are = refl;

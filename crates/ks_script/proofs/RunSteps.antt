@@ -1,9 +1,9 @@
 -- Lines of a run that are read one after another.
-use Rattle.ks_script.proofs.Common.{ℕ, ◌≡◌, ◌+◌, ◌^◌, ◌<◌, cond, List, [], ◌∷◌, ◌++◌, length, map, drop, get_or, codes, append-nil, refl, sym, ap, subst, ◌∙◌, append_assoc, arith, inl, inr, length-append, length-map, decimal, is_ascii_digit, AllByRecursion, Op, Reply, Value, Run, reply_word, reply_line, pair_line, callers_from, map_lines, IsReply, IsAnswered, AscendFrom, IsRunOf, NoDigit, Lines, Leads, Reads, Replies, next_key, IsPairFrom, AnswersLeft, RepliesLeft, PairsLeft, NothingLeft}
-use Rattle.ks_script.proofs.Numerals.{wide, digits_of_number, some_digits}
-use Rattle.ks_script.proofs.Fronts.{first_digit}
-use Rattle.ks_script.proofs.CallLines.{first, cut, cut_first, cut_last, one_pair}
-use Rattle.ks_script.proofs.Rows.{word_of, by_word}
+use Rattle.ks_script.proofs.Common.{ℕ, ◌≡◌, ◌+◌, ◌^◌, ◌<◌, List, [], ◌∷◌, ◌++◌, length, map, drop, get_or, codes, append-nil, refl, sym, ap, subst, ◌∙◌, append_assoc, arith, length-append, length-map, decimal, AllByRecursion, Op, Reply, Run, reply_word, reply_line, pair_line, callers_from, map_lines, IsAnswered, AscendFrom, IsRunOf, NoDigit, Lines, Leads, Reads, Replies, next_key, IsPairFrom, AnswersLeft, RepliesLeft, PairsLeft, NothingLeft}
+use Rattle.ks_script.proofs.Numerals.{wide}
+use Rattle.ks_script.proofs.Lined.{number_told}
+use Rattle.ks_script.proofs.CallLines.{one_pair}
+use Rattle.ks_script.proofs.Rows.{follows, one_word}
 use Rattle.ks_script.proofs.Exact.{no_number}
 use Rattle.ks_script.proofs.Texts.{one_caller}
 use Rattle.ks_script.proofs.Steps.{all_right, reads_as}
@@ -21,25 +21,10 @@ abbrev pub head : Lines → List ℕ
 head ls = get_or ls 0 []
 
 -- a line spells one reply
-abbrev said_of : List ℕ → Reply
-said_of word = cond (is_ascii_digit (first word)) (Value (cut 0 word).0) (word_of (first word))
-
-said_back : (r : Reply) → IsReply r → said_of (reply_word r) ≡ r
-said_back r h =
-    elim (by_word r h) [
-      | inl word ↦ ap (λ t. cond t (Value (cut 0 (reply_word r)).0) (word_of (first (reply_word r)))) word.0 ∙ word.2
-      | inr value ↦ subst (λ (s : Reply). said_of (reply_word s) ≡ s) (sym value.2) (value_back value.0 value.1)
-    ]
-  where
-    value_back : (v : ℕ) → v < 2 ^ 128 → said_of (decimal v) ≡ Value v
-    value_back v h =
-        ap (λ t. cond t (Value (cut 0 (decimal v)).0) (word_of (first (decimal v)))) (first_digit (decimal v) (some_digits v h) (digits_of_number v h)) ∙ ap (λ (x : ℕ × List ℕ). Value x.0) (cut_last v h)
-
-reply_back : (x : ℕ × Reply) → IsAnswered x → ◌≡◌ {A = ℕ × Reply} ((cut 0 (reply_line x)).0, said_of (cut 0 (reply_line x)).1) x
-reply_back x h = ap (λ (a : ℕ × List ℕ). (a.0, said_of a.1)) (cut_first x.0 (reply_word x.1) (wide x.0 h.0)) ∙ ap (λ (r : Reply). (x.0, r)) (said_back x.1 h.1)
-
 one_reply : (x y : ℕ × Reply) → IsAnswered x → IsAnswered y → reply_line x ≡ reply_line y → x ≡ y
-one_reply x y h k e = sym (reply_back x h) ∙ (ap (λ (l : List ℕ). ((cut 0 l).0, said_of (cut 0 l).1)) e ∙ reply_back y k)
+one_reply x y h k e =
+    let g = number_told x.0 y.0 (codes " " ++ reply_word x.1) (codes " " ++ reply_word y.1) (wide x.0 h.0) (wide y.0 k.0) refl refl (sym (append_assoc (decimal x.0) (codes " ") (reply_word x.1)) ∙ (e ∙ append_assoc (decimal y.0) (codes " ") (reply_word y.1))) in
+    ap (λ (n : ℕ). (n, x.1)) g.0 ∙ ap (λ (r : Reply). (y.0, r)) (one_word x.1 y.1 [] [] h.1 k.1 (follows x.1 [] tt) (follows y.1 [] tt) (ap (λ (word : List ℕ). drop 1 word ++ []) g.1))
 
 -- a pair is not `end`
 pub end_apart : (x : ℕ × ℕ) → x.0 < 2 ^ 64 → codes "end" ≡ pair_line x → ⊥

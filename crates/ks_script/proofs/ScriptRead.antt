@@ -1,11 +1,11 @@
 -- Scripts that were read line by line: what a text says, and where it stops to be one.
-use Rattle.ks_script.proofs.Common.{ℕ, ◌≡◌, ◌+◌, ◌<◌, List, [], ◌∷◌, ◌++◌, length, map, get_or, codes, refl, sym, ap, subst, ◌∙◌, append-nil, arith, length-append, AllByRecursion, Op, Version, First, Second, lines_of, FirstBad, version_line, IsCall, IsScript, SpellsScript, AreScript, call_line, script_lines, calls_in, Lines, Apart, TextLeft, CallsLeft, Told, CallersRead, none_read, some_read, Stops}
+use Rattle.ks_script.proofs.Common.{ℕ, ◌≡◌, ◌+◌, ◌<◌, List, [], ◌∷◌, ◌++◌, length, map, get_or, codes, refl, sym, ap, subst, ◌∙◌, append-nil, arith, length-append, AllByRecursion, Op, Version, First, Second, lines_of, FirstBad, version_line, IsCall, IsScript, SpellsScript, AreScript, call_line, script_lines, calls_in, Lines, NotFirst, NoneFirst, Apart, TextLeft, CallsLeft, Told, CallersRead, none_read, some_read, Stops}
 use Rattle.ks_script.proofs.Leading.{bad_same, refused_at}
-use Rattle.ks_script.proofs.Steps.{all_good, all_read, calls_append}
+use Rattle.ks_script.proofs.Steps.{all_good, calls_append}
 use Rattle.ks_script.proofs.Lined.{no_lines}
 
 -- nothing is behind a script
-alone : (version : Version) → Apart version []
+pub alone : (version : Version) → Apart version []
 alone version = record { no_version = tt; no_caller = tt; no_call = tt }
 
 from_text : (w : Version) (s : List (List Op)) (ls : Lines) → SpellsScript w s ls → TextLeft w s [] ls
@@ -22,6 +22,22 @@ left_told Second behind apart is = (refl, record { is = is; apart = apart; lines
 pub left_calls : (v : Version) (behind : Lines) → Apart v behind → (all callers : List (List Op)) (ops : List Op) → all ≡ callers ++ ops ∷ [] → IsScript v all → CallsLeft v callers ops all behind behind
 left_calls v behind apart all callers ops e is = record { is = is; apart = apart; more = []; others = []; script_is = e ∙ ap (λ (xs : List Op). callers ++ xs ∷ []) (sym (append-nil ops)); lines_are = refl }
 
+-- lines that go on with nothing of a script are behind the one that was read
+pub told_end : (v w : Version) (s : List (List Op)) (behind ls : Lines) → Told v w s behind ls → Apart v ls → (w ≡ v) × (s ≡ []) × (ls ≡ behind)
+told_end First First [] behind ls h apart = (refl, refl, h.lines_are)
+told_end First First (o ∷ s) behind ls h apart = absurd (subst (NotFirst (codes "caller")) h.lines_are apart.no_caller refl)
+told_end First Second s behind ls h apart = absurd (subst (NotFirst (codes "script 2")) h.lines_are apart.no_version refl)
+told_end Second w [] behind ls h apart = (h.0, refl, h.1.lines_are)
+told_end Second w (o ∷ s) behind ls h apart = absurd (subst (NotFirst (codes "caller")) h.1.lines_are apart.no_caller refl)
+
+pub calls_end : (v : Version) (callers : List (List Op)) (ops : List Op) (s : List (List Op)) (behind ls : Lines) → CallsLeft v callers ops s behind ls → Apart v ls → (s ≡ callers ++ ops ∷ []) × (ls ≡ behind)
+calls_end v callers ops s behind ls h apart = by_more h.more h.others h.script_is h.lines_are
+  where
+    by_more : (more : List Op) (others : List (List Op)) → s ≡ callers ++ (ops ++ more) ∷ others → ls ≡ map call_line more ++ (script_lines others ++ behind) → (s ≡ callers ++ ops ∷ []) × (ls ≡ behind)
+    by_more [] [] e f = (e ∙ ap (λ (xs : List Op). callers ++ xs ∷ []) (append-nil ops), f)
+    by_more [] (o ∷ others) e f = absurd (subst (NotFirst (codes "caller")) f apart.no_caller refl)
+    by_more (m ∷ more) others e f = absurd (subst (NoneFirst (IsCall v) call_line) f apart.no_call m (all_good v callers ops (m ∷ more) others s h.is e).0 refl)
+
 -- where all lines were read, they are those of the script that was read
 pub spelled : (v : Version) (all : List (List Op)) (bytes rest : List ℕ) (n : ℕ) → CallersRead v all bytes rest n → IsScript v all → rest ≡ [] → SpellsScript v all (lines_of bytes)
 spelled v all bytes rest n (none_read none r) is end =
@@ -36,17 +52,10 @@ spelled v all bytes rest n (some_read callers ops all_are r) is end =
 pub one_read : (v : Version) (all : List (List Op)) (bytes rest : List ℕ) (n : ℕ) (w : Version) (s : List (List Op)) → CallersRead v all bytes rest n → rest ≡ [] → SpellsScript w s (lines_of bytes) → s ≡ all
 one_read v all bytes rest n w s (none_read none r) end h =
     let reads = r w s [] in
-    by_version v w s (reads.leads.only [] (from_text w s (reads.front ++ []) (subst (SpellsScript w s) (reads.lines_are ∙ ap (λ (x : List ℕ). reads.front ++ lines_of x) end) h))) ∙ sym none
-  where
-    by_version : (v w : Version) (s : List (List Op)) → Told v w s [] [] → s ≡ []
-    by_version First First [] h = refl
-    by_version First w (o ∷ s) h = absurd (omega (arith, ap (λ (ls : Lines). length ls) h.lines_are, length-append (version_line w) (script_lines (o ∷ s) ++ [])))
-    by_version First Second [] h = refl
-    by_version Second w [] h = refl
-    by_version Second w (o ∷ s) h = absurd (omega (arith, ap (λ (ls : Lines). length ls) h.1.lines_are))
+    (told_end v w s [] [] (reads.leads.only [] (from_text w s (reads.front ++ []) (subst (SpellsScript w s) (reads.lines_are ∙ ap (λ (x : List ℕ). reads.front ++ lines_of x) end) h))) (alone v)).1 ∙ sym none
 one_read v all bytes rest n w s (some_read callers ops all_are r) end h =
     let reads = r w s [] in
-    all_read v callers ops s (reads.leads.only [] (from_text w s (reads.front ++ []) (subst (SpellsScript w s) (reads.lines_are ∙ ap (λ (x : List ℕ). reads.front ++ lines_of x) end) h))).1 ∙ sym all_are
+    (calls_end v callers ops s [] [] (reads.leads.only [] (from_text w s (reads.front ++ []) (subst (SpellsScript w s) (reads.lines_are ∙ ap (λ (x : List ℕ). reads.front ++ lines_of x) end) h))).1 (alone v)).0 ∙ sym all_are
 
 head_of : (l : List ℕ) (ls : Lines) (k : Lines) → l ∷ ls ≡ k → l ≡ get_or k 0 []
 head_of l ls k e = ap (λ (x : Lines). get_or x 0 []) e

@@ -1,14 +1,10 @@
 -- Texts and their lines, there and back.
-use Rattle.ks_script.proofs.Common.{ℕ, ◌≡◌, ◌⊎◌, ◌+◌, ◌^◌, ◌<◌, ◌≤◌, Bool, false, ◌||◌, eqb, List, [], ◌∷◌, ◌++◌, length, map, refl, sym, ap, subst, ◌∙◌, append_assoc, arith, codes, inl, inr, length-append, length-map, false≢true, eq-eqb, or_parts, decimal, AllByRecursion, onto_first, Op, Get, Put, Del, Add, Swap, Part, Move, Reply, Nothing, Value, Full, Listed, Kept, Version, First, Second, lines_of, text_of, Lacks, version_line, callers_limit, IsCall, IsScript, call_line, script_lines, Run, reply_word, reply_line, pair_line, callers_from, map_lines, run_lines, IsReply, IsAnswered, AscendFrom, IsRunOf, CheckedIn}
+use Rattle.ks_script.proofs.Common.{ℕ, ◌≡◌, ◌⊎◌, ◌+◌, ◌^◌, ◌<◌, ◌≤◌, false, eqb, List, [], ◌∷◌, ◌++◌, length, map, refl, sym, ap, subst, ◌∙◌, append_assoc, arith, codes, inl, inr, length-append, length-map, false≢true, eq-eqb, or_parts, decimal, AllByRecursion, onto_first, Op, Reply, Version, First, Second, lines_of, text_of, Lacks, version_line, callers_limit, IsCall, IsScript, call_line, script_lines, Run, reply_word, reply_line, pair_line, callers_from, map_lines, run_lines, IsReply, IsAnswered, AscendFrom, IsRunOf, CheckedIn}
 use Rattle.ks_script.proofs.Numerals.{wide}
 use Rattle.ks_script.proofs.Cuts.{lines_cases, lines_first, decimal_lacks}
-use Rattle.ks_script.proofs.CallLines.{value_small}
+use Rattle.ks_script.proofs.CallLines.{first, stands, AreSmall, numbers, kind, spelled}
+use Rattle.ks_script.proofs.Rows.{by_word, follows}
 use Rattle.ks_script.proofs.Steps.{all_append}
-
--- whether the byte is among the bytes
-abbrev pub stands : ℕ → List ℕ → Bool
-stands c [] = false
-stands c (b ∷ bytes) = eqb b c || stands c bytes
 
 pub lacks_by : (c : ℕ) (bytes : List ℕ) → stands c bytes ≡ false → Lacks c bytes
 lacks_by c [] h = tt
@@ -35,24 +31,17 @@ value n h = decimal_lacks 10 refl n h
 spaced : (a b : List ℕ) → Lacks 10 a → Lacks 10 b → Lacks 10 (a ++ codes " " ++ b)
 spaced a b h k = lacks_append 10 (a ++ codes " ") b (lacks_append 10 a (codes " ") h (lacks_by 10 (codes " ") refl)) k
 
--- a word and a key
-keyed : (word : List ℕ) (k : ℕ) → stands 10 word ≡ false → k < 2 ^ 64 → Lacks 10 (word ++ decimal k)
-keyed word k none h = lacks_append 10 word (decimal k) (lacks_by 10 word none) (number k h)
-
 pub plain_caller : (n : ℕ) → n < 2 ^ 64 → Lacks 10 (codes "caller " ++ decimal n)
-plain_caller n h = keyed (codes "caller ") n refl h
+plain_caller n h = lacks_append 10 (codes "caller ") (decimal n) (lacks_by 10 (codes "caller ") refl) (number n h)
+
+plain_numbers : (ns : List ℕ) → AreSmall ns → Lacks 10 (numbers ns)
+plain_numbers [] h = tt
+plain_numbers (n ∷ ns) h = ((λ e. omega (arith, e)), lacks_append 10 (decimal n) (numbers ns) (value n h.0) (plain_numbers ns h.1))
 
 pub plain_call : (version : Version) (op : Op) → IsCall version op → Lacks 10 (call_line op)
-plain_call version (Get k) h = keyed (codes "get ") k refl h
-plain_call version (Del k) h = keyed (codes "del ") k refl h
-plain_call version (Put k v) h = spaced (codes "put " ++ decimal k) (decimal v) (keyed (codes "put ") k refl h.0) (value v (value_small version v h.1))
-plain_call version (Add k v) h = spaced (codes "add " ++ decimal k) (decimal v) (keyed (codes "add ") k refl h.1) (value v (value_small version v h.2))
-plain_call version (Swap k v w) h =
-    spaced (codes "swap " ++ decimal k ++ codes " " ++ decimal v) (decimal w)
-    (spaced (codes "swap " ++ decimal k) (decimal v) (keyed (codes "swap ") k refl h.1) (value v (value_small version v h.2)))
-    (value w (value_small version w h.3))
-plain_call version (Part low last) h = absurd h
-plain_call version (Move from to) h = absurd h
+plain_call version op h =
+    let s = spelled version op h in
+    subst (Lacks 10) (sym s.line) (lacks_append 10 (kind (first (call_line op))).0 (numbers s.ns) (lacks_by 10 (kind (first (call_line op))).0 s.plain) (plain_numbers s.ns s.small))
 
 pub plain_script : (version : Version) (s : List (List Op)) → AllByRecursion (AllByRecursion (IsCall version)) s → Plain (script_lines s)
 plain_script version [] h = tt
@@ -63,11 +52,11 @@ plain_version First = tt
 plain_version Second = (lacks_by 10 (codes "script 2") refl, tt)
 
 plain_word : (r : Reply) → IsReply r → Lacks 10 (reply_word r)
-plain_word Nothing h = lacks_by 10 (codes "none") refl
-plain_word (Value v) h = value v h
-plain_word Full h = lacks_by 10 (codes "full") refl
-plain_word (Listed pairs) h = absurd h
-plain_word Kept h = absurd h
+plain_word r h =
+    elim (by_word r [] h (follows r [] tt)) [
+      | inl word ↦ lacks_by 10 (reply_word r) word.3
+      | inr said ↦ subst (λ (s : Reply). Lacks 10 (reply_word s)) (sym said.2) (value said.0 said.1)
+    ]
 
 pub plain_reply : (x : ℕ × Reply) → IsAnswered x → Lacks 10 (reply_line x)
 plain_reply x h = spaced (decimal x.0) (reply_word x.1) (number x.0 h.0) (plain_word x.1 h.1)
@@ -82,7 +71,7 @@ plain_pairs n (p ∷ ps) h = (plain_pair p h.1 h.2, plain_pairs (p.0 + 1) ps h.3
 pub plain_callers : (n : ℕ) (cs : List (List (ℕ × Reply))) → n + length cs ≤ 1024 → AllByRecursion (AllByRecursion IsAnswered) cs → Plain (callers_from n cs)
 plain_callers n [] few h = tt
 plain_callers n (c ∷ cs) few h = (
-  lacks_append 10 (codes "caller ") (decimal n) (lacks_by 10 (codes "caller ") refl) (number n (omega arith)),
+  plain_caller n (omega arith),
   all_append (Lacks 10) (map reply_line c) (callers_from (n + 1) cs) (plain_each IsAnswered reply_line plain_reply c h.0) (plain_callers (n + 1) cs (omega arith) h.1),
 )
 

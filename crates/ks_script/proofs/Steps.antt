@@ -1,7 +1,7 @@
 -- Lines that are read one after another.
 use Rattle.ks_script.proofs.Common.{ℕ, ◌≡◌, ◌+◌, List, [], ◌∷◌, ◌++◌, map, get_or, drop, codes, length, append-nil, refl, sym, ap, subst, ◌∙◌, append_assoc, arith, length-append, AllByRecursion, Op, Version, lines_of, First, Second, IsCall, IsScript, call_line, script_lines, calls_in, Lines, NotFirst, NoneFirst, Leads, Reads, Apart, TextLeft, ScriptLeft, CallsLeft, Told, CallersRead, none_read, some_read}
 use Rattle.ks_script.proofs.Leading.{leads_on, leads_none}
-use Rattle.ks_script.proofs.CallLines.{first, not_call, one_call}
+use Rattle.ks_script.proofs.CallLines.{first, spelled, one_call}
 
 pub reads_none : (G : Lines → Type 0) (bytes : List ℕ) → Reads G G bytes bytes 0
 reads_none G bytes = record { front = []; lines_are = refl; counted = refl; leads = leads_none G }
@@ -57,7 +57,7 @@ module _ (version : Version) where
 
   called : (callers : List (List Op)) (ops : List Op) (script : List (List Op)) (behind : Lines) (op : Op) (more : List Op) (others : List (List Op)) (ls : Lines) → IsCall version op → IsScript version script → Apart version behind → script ≡ callers ++ (ops ++ more) ∷ others → call_line op ∷ ls ≡ map call_line more ++ (script_lines others ++ behind) → CallsLeft version callers (ops ++ op ∷ []) script behind ls
   called callers ops script behind op [] [] ls good is apart s e = absurd (subst (NoneFirst (IsCall version) call_line) (sym e) apart.no_call op good refl)
-  called callers ops script behind op [] (o ∷ others) ls good is apart s e = absurd ((not_call op).0 (ap (λ (ls : Lines). first (get_or ls 0 [])) e))
+  called callers ops script behind op [] (o ∷ others) ls good is apart s e = absurd ((spelled version op good).apart.0 (ap (λ (ls : Lines). first (get_or ls 0 [])) e))
   called callers ops script behind op (m ∷ more) others ls good is apart s e =
       let same : m ≡ op = one_call version m op (all_good callers ops (m ∷ more) others script is s).0 good (sym (ap (λ (ls : Lines). get_or ls 0 []) e)) in
       record {
@@ -90,16 +90,16 @@ module _ (version : Version) where
     others_are : others ≡ next ∷ rest
     lines_are : ls ≡ map call_line next ++ (script_lines rest ++ behind)
 
-  opening : (more : List Op) (others : List (List Op)) (behind ls : Lines) → NotFirst (codes "caller") behind → codes "caller" ∷ ls ≡ map call_line more ++ (script_lines others ++ behind) → Opening more others behind ls
-  opening [] [] behind ls apart e = absurd (subst (NotFirst (codes "caller")) (sym e) apart refl)
-  opening [] (o ∷ others) behind ls apart e = record {
+  opening : (more : List Op) (others : List (List Op)) (behind ls : Lines) → AllByRecursion (IsCall version) more → NotFirst (codes "caller") behind → codes "caller" ∷ ls ≡ map call_line more ++ (script_lines others ++ behind) → Opening more others behind ls
+  opening [] [] behind ls each apart e = absurd (subst (NotFirst (codes "caller")) (sym e) apart refl)
+  opening [] (o ∷ others) behind ls each apart e = record {
     next = o;
     rest = others;
     none = refl;
     others_are = refl;
     lines_are = ap (λ (ls : Lines). drop 1 ls) (e ∙ append_assoc (codes "caller" ∷ map call_line o) (script_lines others) behind);
   }
-  opening (m ∷ more) others behind ls apart e = absurd ((not_call m).0 (sym (ap (λ (ls : Lines). first (get_or ls 0 [])) e)))
+  opening (m ∷ more) others behind ls each apart e = absurd ((spelled version m each.0).apart.0 (sym (ap (λ (ls : Lines). first (get_or ls 0 [])) e)))
 
   pub caller_step : (callers : List (List Op)) (ops : List Op) (script : List (List Op)) (behind : Lines) → Leads (CallsLeft version callers ops script behind) (CallsLeft version (callers ++ ops ∷ []) [] script behind) (codes "caller" ∷ [])
   caller_step callers ops script behind = record {
@@ -112,7 +112,7 @@ module _ (version : Version) where
       lines_are = ap (λ (ls : Lines). codes "caller" ∷ ls) h.lines_are ∙ sym (append_assoc (codes "caller" ∷ map call_line h.more) (script_lines h.others) behind);
     };
     only = λ ls h.
-        let g = opening h.more h.others behind ls h.apart.no_caller h.lines_are in
+        let g = opening h.more h.others behind ls (all_good callers ops h.more h.others script h.is h.script_is) h.apart.no_caller h.lines_are in
         record {
           is = h.is;
           apart = h.apart;
@@ -131,18 +131,9 @@ module _ (version : Version) where
       lines_are = ap (λ (ls : Lines). codes "caller" ∷ ls) h.lines_are ∙ (sym (append_assoc (codes "caller" ∷ map call_line h.more) (script_lines h.others) behind) ∙ ap (λ (s : List (List Op)). script_lines s ++ behind) (sym h.script_is));
     };
     only = λ ls h.
-        let g = opening [] script behind ls h.apart.no_caller h.lines_are in
+        let g = opening [] script behind ls tt h.apart.no_caller h.lines_are in
         record { is = h.is; apart = h.apart; more = g.next; others = g.rest; script_is = g.others_are; lines_are = g.lines_are };
   }
-
-  -- no lines are left: the script is what was read
-  pub all_read : (callers : List (List Op)) (ops : List Op) (script : List (List Op)) → CallsLeft version callers ops script [] [] → script ≡ callers ++ ops ∷ []
-  all_read callers ops script h = by_more h.more h.others h.script_is h.lines_are
-    where
-      by_more : (more : List Op) (others : List (List Op)) → script ≡ callers ++ (ops ++ more) ∷ others → [] ≡ map call_line more ++ (script_lines others ++ []) → script ≡ callers ++ ops ∷ []
-      by_more [] [] e f = e ∙ ap (λ (xs : List Op). callers ++ xs ∷ []) (append-nil ops)
-      by_more [] (o ∷ others) e f = absurd (omega (arith, ap (λ (ls : Lines). length ls) f))
-      by_more (m ∷ more) others e f = absurd (omega (arith, ap (λ (ls : Lines). length ls) f))
 
 -- the version: if no line says it, the first `caller` does
 told_first : (script : List (List Op)) (behind ls : Lines) → NotFirst (codes "script 2") behind → codes "script 2" ∷ ls ≡ script_lines script ++ behind → ⊥

@@ -23,6 +23,7 @@ use ks_history::{Op, Reply};
 #[inline(always)]
 fn key(bytes: &[u8]) -> Option<(u64, &[u8])>
     ensures some { IfSome result (λ x. Lined (decimal x.0) bytes.now x.1.now) }
+    ensures fits { IfSome result (λ x. x.0 < 2 ^ 64) }
     ensures none { IfNone result ((k : ℕ) → k < 2 ^ 64 → NotLined (decimal k) bytes.now) }
 {
     let (key, rest) = number(bytes)?;
@@ -183,10 +184,9 @@ pub fn caller(bytes: &[u8], of: u64) -> Option<&[u8]>
     ensures shorter { IfSome result (λ rest. length rest.now < length bytes.now) }
 {
     let digits = word(bytes, b"caller ")?;
-    let (number, tail) = number(digits)?;
+    let (number, rest) = key(digits)?;
     if number != of {
         return None;
     }
-    let rest = line_end(tail)?;
     Some(rest)
 }

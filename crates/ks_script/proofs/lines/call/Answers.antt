@@ -2,7 +2,7 @@ use Rattle.ks_script.proofs.Common.{IsCall, call_line}
 use Rattle.ks_script.proofs.Cuts.{if_none_any}
 use Rattle.ks_script.proofs.Spelled.{plain_call}
 use Rattle.ks_script.proofs.Lined.{lined_first, none_first}
-use Rattle.ks_script.proofs.CallLines.{some_call}
+use Rattle.ks_script.proofs.CallLines.{spelled}
 use Rattle.ks_script.proofs.lines.call.Goals as goal
 
 pub returns-in_err-op-clause-none : goal.returns-in_err-op-clause-none
@@ -11,4 +11,4 @@ returns-in_err-op-clause-none c = if_none_any c.from_residual.result (none_first
 pub returns-clause-some : goal.returns-clause-some
 returns-clause-some c =
     let op = c.in_ok-op in
-    (op.ensures.some.0, lined_first (call_line op.op) c.args.bytes.now op.rest.now (plain_call c.args.version op.op op.ensures.some.0) (some_call c.args.version op.op op.ensures.some.0) op.ensures.some.1)
+    (op.ensures.some.0, lined_first (call_line op.op) c.args.bytes.now op.rest.now (plain_call c.args.version op.op op.ensures.some.0) (spelled c.args.version op.op op.ensures.some.0).some op.ensures.some.1)

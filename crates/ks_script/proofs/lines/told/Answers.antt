@@ -1,15 +1,15 @@
-use Rattle.ks_script.proofs.Common.{refl, arith, Nothing, Full}
+use Rattle.ks_script.proofs.Common.{Nothing, Value, Full}
 use Rattle.ks_script.proofs.Cuts.{if_none_any}
-use Rattle.ks_script.proofs.Rows.{not_word, not_value}
+use Rattle.ks_script.proofs.Rows.{not_told}
 use Rattle.ks_script.proofs.lines.told.Goals as goal
 
 pub returns-in_err-line_end-clause-none : goal.returns-in_err-line_end-clause-none
-returns-in_err-line_end-clause-none c = if_none_any c.from_residual.result (not_word Nothing c.args.bytes.now c.in-Some.rest.now (refl, omega arith, refl) c.in-Some.ensures.some c.in_err-line_end.ensures.none)
+returns-in_err-line_end-clause-none c = if_none_any c.from_residual.result (not_told Nothing c.args.bytes.now c.in-Some.rest.now tt tt c.in-Some.ensures.some c.in_err-line_end.ensures.none)
 
 pub returns-in_err-line_end-2-clause-none : goal.returns-in_err-line_end-2-clause-none
-returns-in_err-line_end-2-clause-none c = if_none_any c.from_residual-in_err-line_end-2.result (not_word Full c.args.bytes.now c.in-Some-word.rest.now (refl, omega arith, refl) c.in-Some-word.ensures.some c.in_err-line_end-2.ensures.none)
+returns-in_err-line_end-2-clause-none c = if_none_any c.from_residual-in_err-line_end-2.result (not_told Full c.args.bytes.now c.in-Some-word.rest.now tt tt c.in-Some-word.ensures.some c.in_err-line_end-2.ensures.none)
 
 pub returns-in_err-line_end-3-clause-none : goal.returns-in_err-line_end-3-clause-none
 returns-in_err-line_end-3-clause-none c =
     let value = c.in_ok-value in
-    if_none_any c.from_residual-in_err-line_end-3.result (not_value value.value c.args.bytes.now value.rest.now value.ensures.fits value.ensures.some.1 value.ensures.some.0 c.in_err-line_end-3.ensures.none)
+    if_none_any c.from_residual-in_err-line_end-3.result (not_told (Value value.value) c.args.bytes.now value.rest.now value.ensures.fits value.ensures.some.1 value.ensures.some.0 c.in_err-line_end-3.ensures.none)
