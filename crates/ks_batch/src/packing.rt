@@ -4,7 +4,7 @@ ghost use Rattle.std.specs.Prelude.{◌≡◌, length, map, All, IfOk};
 ghost use Rattle.ks_script.specs.Plain.{IsPlain};
 
 use ks_history::{Op, Reply};
-use ks_script::{Calls, Lines, Script};
+use ks_script::{Calls, Replies, Script};
 use std::alloc::{AllocError, Global};
 
 /// The calls of each caller of a script.
@@ -27,13 +27,13 @@ fn each_caller(alloc: Global, script: &[Calls]) -> Result<Vec<Vec<Op>>, AllocErr
 }
 
 /// The replies to each caller, which are plain, packed.
-pub fn packed(alloc: Global, callers: Vec<Vec<(u64, Reply)>>) -> Result<Vec<Lines>, AllocError>
+pub fn packed(alloc: Global, callers: Vec<Vec<(u64, Reply)>>) -> Result<Vec<Replies>, AllocError>
     requires { All (λ lines. All (λ line. IsPlain line.1) lines.items) callers.items }
     ensures { IfOk result (λ packed. packed.items ≡ map (λ v. v.items) callers.items) }
 {
     let mut packed = Vec::with_capacity(alloc, callers.len())?;
     for lines in callers {
-        packed.push(Lines::from_lines(alloc, lines)?)?;
+        packed.push(Replies::from_lines(alloc, lines)?)?;
     }
     Ok(packed)
 }

@@ -80,7 +80,7 @@ pub fn made_script(
 mod tests {
     use super::*;
     use ks_history::Reply;
-    use ks_script::{Lines, Printed};
+    use ks_script::{Printed, Replies};
     use std::test::Fail;
 
     #[test]
@@ -92,7 +92,7 @@ mod tests {
                 && script.callers[0].get(0) == Op::Del(8)
                 && script.callers[0].get(1) == Op::Put(116, 823830125)
         );
-        let mut lines = Lines::new(rt.alloc());
+        let mut lines = Replies::new(rt.alloc());
         lines.push(0, Reply::Nothing)?;
         lines.push(1, Reply::Nothing)?;
         let printed = Printed {

@@ -10,7 +10,7 @@ ghost use Rattle.ks_generator.specs.declared.summing.Kind.TheVariants as kinds;
 
 use itoa::Buffer;
 use ks_history::Reply;
-use ks_script::{Calls, Lines, Printed, Script};
+use ks_script::{Calls, Printed, Replies, Script};
 use std::alloc::{AllocError, Global};
 
 /// A kind of reply: a value, nothing, or that no node was free. Clauses count replies by it.
@@ -45,7 +45,7 @@ fn counted(reply: &Reply, kind: Kind) -> usize
 }
 
 /// The replies in the lines of one caller.
-fn replies_in(lines: &Lines) -> Tally
+fn replies_in(lines: &Replies) -> Tally
     ensures found { result.found ≡ count_by (λ x. is_of kinds.Found x.1) lines.now }
     ensures none { result.none ≡ count_by (λ x. is_of kinds.Missing x.1) lines.now }
     ensures full { result.full ≡ count_by (λ x. is_of kinds.NoRoom x.1) lines.now }
@@ -68,7 +68,7 @@ fn replies_in(lines: &Lines) -> Tally
 }
 
 /// The replies that the callers were given.
-fn replies(callers: &[Lines]) -> Tally
+fn replies(callers: &[Replies]) -> Tally
     ensures found { result.found ≡ replies_of kinds.Found callers.now }
     ensures none { result.none ≡ replies_of kinds.Missing callers.now }
     ensures full { result.full ≡ replies_of kinds.NoRoom callers.now }
@@ -173,7 +173,7 @@ pub fn summary(alloc: Global, size: Size, printed: &Printed) -> Result<Vec<u8>, 
     text(alloc, &summary)
 }
 
-fn count(size: Size, lines: &[Lines], pairs: &[(u64, u128)]) -> Counts
+fn count(size: Size, lines: &[Replies], pairs: &[(u64, u128)]) -> Counts
     ensures callers { result.callers ≡ size.callers }
     ensures calls { result.calls ≡ size.calls }
     ensures found { result.found ≡ replies_of kinds.Found lines.now }

@@ -11,7 +11,7 @@ ghost use Rattle.ks_judge.specs.Verdict.{IsJudged};
 use crate::replay::{Replayed, replay};
 use crate::slots::slots;
 use crate::table::{Table, keys_can_be_places};
-use ks_script::{Calls, Lines, Printed, Script};
+use ks_script::{Calls, Printed, Replies, Script};
 use std::alloc::{AllocError, Global};
 
 /// What a printed run is judged to be.
@@ -76,7 +76,7 @@ pub fn judge(alloc: Global, script: &Script, printed: &Printed) -> Result<Judged
 fn judge_lists(
     alloc: Global,
     callers: &[Calls],
-    lines: &[Lines],
+    lines: &[Replies],
     pairs: &[(u64, u128)],
 ) -> Result<Judged, AllocError>
     requires shape { SameShape callers.now lines.now }

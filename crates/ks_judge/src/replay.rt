@@ -12,7 +12,7 @@ ghost use Rattle.ks_judge.specs.Table.{found};
 use crate::slots::{PackedSlot, Slot, told_by};
 use crate::table::Table;
 use ks_history::{Op, Reply, reply_of, reply_of_move};
-use ks_script::{Calls, Lines};
+use ks_script::{Calls, Replies};
 use std::alloc::{AllocError, Global};
 
 // Keys below this number have places of their own, if there are as many calls.
@@ -86,7 +86,7 @@ fn make(map: &mut Table, op: Op, reply: &Reply) -> Result<bool, AllocError>
 pub fn replay(
     alloc: Global,
     callers: &[Calls],
-    lines: &[Lines],
+    lines: &[Replies],
     slots: &[PackedSlot],
 ) -> Result<Replayed, AllocError>
     requires shape { SameShape callers.now lines.now }

@@ -5,7 +5,7 @@ ghost use Rattle.ks_history.specs.declared.Reply.{Reply};
 ghost use Rattle.ks_judge.specs.Judgment.{carriers};
 ghost use Rattle.ks_judge.specs.Slots.{Carries, Notes, slot_in, carriers_to, if_carries, noted_slot};
 
-use ks_script::Lines;
+use ks_script::Replies;
 use std::alloc::{AllocError, Global};
 
 /// Which lines carry a number: none, one of this caller, or more than one.
@@ -63,7 +63,7 @@ fn note(slots: &mut [PackedSlot], number: u64, caller: u32)
 }
 
 /// Notes the lines of one caller.
-fn note_caller(slots: &mut [PackedSlot], callers: &[Lines], caller: u32)
+fn note_caller(slots: &mut [PackedSlot], callers: &[Replies], caller: u32)
     requires which { caller < length callers.now }
     requires small { caller < 4294967294 }
     requires noted { Notes callers.now slots.old (carriers_to callers.now caller 0) }
@@ -77,7 +77,11 @@ fn note_caller(slots: &mut [PackedSlot], callers: &[Lines], caller: u32)
 
 /// For each number below `count` whose lines carry it. More callers than 32 bits can number take more
 /// memory than there is.
-pub fn slots(alloc: Global, callers: &[Lines], count: usize) -> Result<Vec<PackedSlot>, AllocError>
+pub fn slots(
+    alloc: Global,
+    callers: &[Replies],
+    count: usize,
+) -> Result<Vec<PackedSlot>, AllocError>
     ensures count { IfOk result (λ v. length v.items ≡ count) }
     ensures noted { IfOk result (λ v. Notes callers.now v.items (carriers callers.now)) }
 {

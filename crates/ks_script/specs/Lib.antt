@@ -15,7 +15,7 @@ pub mod Memory
 pub mod Eight
 pub mod Parts
 pub mod PackedCalls
-pub mod PackedLines
+pub mod PackedReplies
 pub mod Numeral
 pub mod Reads
 pub mod Left

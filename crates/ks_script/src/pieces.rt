@@ -10,7 +10,7 @@ ghost use Rattle.ks_script.specs.Outside.{Rose, Grew, GrewByFront};
 ghost use Rattle.ks_script.specs.Pieces.{Holds, Puts};
 
 use crate::ending::Ending;
-use crate::{Failed, Lines, Sink};
+use crate::{Failed, Replies, Sink};
 use arrayvec::ArrayVec;
 use itoa::Buffer;
 use ks_history::Reply;
@@ -181,7 +181,7 @@ fn put_reply<K: Sink>(out: &mut K, piece: &mut Piece, line: &(u64, Reply))
 }
 
 // The lines of a caller.
-fn put_caller<K: Sink>(out: &mut K, piece: &mut Piece, number: u64, calls: &Lines)
+fn put_caller<K: Sink>(out: &mut K, piece: &mut Piece, number: u64, calls: &Replies)
     ensures { Puts (K.taken out.old) (K.faults out.old) piece.old
         (text_of ((codes "caller " ++ decimal number) ∷ map reply_line calls.now))
         (K.taken out.new) (K.faults out.new) piece.new }
@@ -195,7 +195,7 @@ fn put_caller<K: Sink>(out: &mut K, piece: &mut Piece, number: u64, calls: &Line
 }
 
 /// The lines of callers, numbered from 0.
-pub fn put_callers<K: Sink>(out: &mut K, piece: &mut Piece, callers: &[Lines])
+pub fn put_callers<K: Sink>(out: &mut K, piece: &mut Piece, callers: &[Replies])
     ensures { Puts (K.taken out.old) (K.faults out.old) piece.old (text_of (callers_from 0 callers.now))
         (K.taken out.new) (K.faults out.new) piece.new }
 {

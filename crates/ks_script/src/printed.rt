@@ -5,13 +5,13 @@ ghost use Rattle.ks_script.specs.Outside.{Rose, Grew, GrewByFront};
 ghost use Rattle.ks_script.specs.Run.{run_text};
 
 use crate::pieces::{Piece, finish, put_callers, put_map};
-use crate::{Failed, Lines, Sink};
+use crate::{Failed, Replies, Sink};
 use std::marker::Model;
 
 /// For each caller the number and the reply of each of its calls, and the keys and values of the map at the end.
 #[derive(Drop)]
 pub struct Printed {
-    pub callers: Vec<Lines>,
+    pub callers: Vec<Replies>,
     pub pairs: Vec<(u64, u128)>,
 }
 

@@ -12,11 +12,11 @@ ghost use Rattle.ks_script.specs.Reads.{NoneFirst, Reads, RefusedBehind};
 ghost use Rattle.ks_script.specs.RunLeft.{SpellsRun, AreRun, AnswersLeft, RepliesLeft, PairsLeft, IsPairFrom, next_key};
 
 use crate::lines::{caller, pair, reply, word_line};
-use crate::{Calls, Lines, Printed, TextFault};
+use crate::{Calls, Printed, Replies, TextFault};
 use std::alloc::{AllocError, Global};
 
 // The replies at the front, as many as are wanted, and the bytes after them.
-fn replies(alloc: Global, bytes: &[u8], wanted: usize) -> Result<(Lines, &[u8]), AllocError>
+fn replies(alloc: Global, bytes: &[u8], wanted: usize) -> Result<(Replies, &[u8]), AllocError>
     ensures each { IfOk result (λ x. AllByRecursion IsAnswered x.0) }
     ensures within { IfOk result (λ x. length x.0 ≤ wanted) }
     ensures reads { IfOk result
@@ -26,7 +26,7 @@ fn replies(alloc: Global, bytes: &[u8], wanted: usize) -> Result<(Lines, &[u8]),
     ensures stops { IfOk result (λ x. length x.0 < wanted → NoneFirst IsAnswered reply_line (lines_of x.1.now)) }
     ensures shorter { IfOk result (λ x. length x.1.now + length x.0 ≤ length bytes.now) }
 {
-    let mut lines = Lines::with_capacity(alloc, wanted)?;
+    let mut lines = Replies::with_capacity(alloc, wanted)?;
     let mut rest = bytes;
     'replies: while lines.len() < wanted {
         let Some((line, more)) = reply(rest) else {
@@ -45,7 +45,7 @@ fn answers<'a>(
     script: &[Calls],
     bytes: &'a [u8],
     before: u64,
-) -> Result<(Vec<Lines>, &'a [u8], u64), TextFault>
+) -> Result<(Vec<Replies>, &'a [u8], u64), TextFault>
     requires { before + length bytes.now + 1 < 2 ^ 64 }
     ensures each { IfOk result (λ x. AllByRecursion (AllByRecursion IsAnswered) x.0.items) }
     ensures shape { IfOk result (λ x. map (λ ls. length ls) x.0.items ≡ map (λ ops. length ops) script.now) }

@@ -8,7 +8,7 @@ const RUN: &[u8] = b"caller 0\n0 none\n1 50\nmap\n5 50\nend\n";
 
 // The run that RUN is the text of.
 fn small_run(alloc: Global) -> Result<Printed, Fail> {
-    let mut calls = Lines::new(alloc);
+    let mut calls = Replies::new(alloc);
     calls.push(0, Reply::Nothing)?;
     calls.push(1, Reply::Value(50))?;
     let mut callers = Vec::new(alloc);
@@ -356,7 +356,7 @@ fn packed_calls_and_lines_are_read_again(rt: HostRuntime) -> Result<(), Fail> {
             assert_eq!(rt; calls.get(at), *op);
         }
     }
-    let mut lines = Lines::with_capacity(rt.alloc(), 4)?;
+    let mut lines = Replies::with_capacity(rt.alloc(), 4)?;
     lines.push(0, Reply::Full)?;
     lines.push(u64::MAX, Reply::Nothing)?;
     lines.push(1, Reply::Value(great))?;
@@ -373,5 +373,5 @@ fn packed_calls_and_lines_are_read_again(rt: HostRuntime) -> Result<(), Fail> {
 #[test]
 fn small_calls_and_lines_take_little_room(rt: HostRuntime) {
     assert_eq!(rt; size_of::<crate::packed_calls::SmallCall>(), 8);
-    assert_eq!(rt; size_of::<crate::packed_lines::SmallLine>(), 8);
+    assert_eq!(rt; size_of::<crate::packed_replies::SmallReply>(), 8);
 }

@@ -1,7 +1,7 @@
 //! How the bytes of a run are offered.
 
 use super::PIECE;
-use crate::{Failed, Lines, Printed, Sink, write_run};
+use crate::{Failed, Printed, Replies, Sink, write_run};
 use ks_history::Reply;
 use std::alloc::Global;
 use std::test::Fail;
@@ -28,7 +28,7 @@ impl Sink for Sizes {
 
 // A run of one caller and `calls` calls, each of which returns the greatest value: 41 bytes a line, and its number.
 fn run_of(alloc: Global, calls: u64) -> Result<Printed, Fail> {
-    let mut lines = Lines::new(alloc);
+    let mut lines = Replies::new(alloc);
     for number in 0..calls {
         lines.push(number, Reply::Value(u128::MAX))?;
     }

@@ -1,10 +1,10 @@
-//! The lines of one caller in little room: 8 bytes for a line without a value of a number below 2^32, and for one of a
-//! number below 2^24 with a value below 2^32; others take 8 bytes beside a longer value, or beside the line itself.
+//! The replies to one caller in little room: 8 bytes for one without a value of a number below 2^32, and for one of a
+//! number below 2^24 with a value below 2^32; others take 8 bytes beside a longer value, or beside the reply itself.
 
 ghost use Rattle.std.specs.Prelude.{ℕ, ◌≡◌, ◌^◌, ◌<◌, [], ◌∷◌, ◌++◌, length, slice_index_or, All, IfOk, IfSome, OnOk, OnErr};
 ghost use Rattle.ks_history.specs.declared.Reply.TheVariants.{Nothing, Value};
 ghost use Rattle.ks_script.specs.Parts.{joined};
-ghost use Rattle.ks_script.specs.PackedLines.{line_in, IsLineIn, KeepsLines};
+ghost use Rattle.ks_script.specs.PackedReplies.{reply_in, IsReplyIn, KeepsReplies};
 ghost use Rattle.ks_script.specs.Plain.{IsPlain};
 
 use crate::appending::appended_at;
@@ -13,9 +13,9 @@ use ks_history::Reply;
 use std::alloc::{AllocError, Global};
 use std::marker::Model;
 
-/// A short line, or the number of a line and the place of its longer value, or the place of a line of another kind.
+/// A short reply, or the number of one and the place of its longer value, or the place of one of another kind.
 #[derive(Clone, Copy, Debug, PartialEq, Eq)]
-pub enum SmallLine {
+pub enum SmallReply {
     Nothing { number: u32 },
     Value { high: u8, low: u16, value: u32 },
     Full { number: u32 },
@@ -24,34 +24,34 @@ pub enum SmallLine {
     Other { at: u32 },
 }
 
-/// What the longer lines of one caller say, by kinds.
+/// What the longer replies to one caller say, by kinds.
 #[derive(Drop)]
-pub struct LongLines {
+pub struct LongReplies {
     /// Values below 2^64.
     values: Vec<u64>,
     /// Values from 2^64 on.
     wides: Vec<u128>,
-    /// Lines of all other kinds.
+    /// Replies of all other kinds.
     others: Vec<(u64, Reply)>,
 }
 
-/// The lines of one caller, in their order: a number and a reply each.
+/// The replies to one caller, in the order of its calls: the number of the call and the reply each.
 #[derive(Drop)]
-pub struct Lines {
-    small: Vec<SmallLine>,
-    long: LongLines,
+pub struct Replies {
+    small: Vec<SmallReply>,
+    long: LongReplies,
 }
 
-impl Model for Lines {
+impl Model for Replies {
     ghost use Rattle.std.specs.Prelude.{ℕ, List, map, All};
     ghost use Rattle.ks_history.specs.declared.Reply.{Reply};
-    ghost use Rattle.ks_script.specs.PackedLines.{line_in, IsLineIn};
+    ghost use Rattle.ks_script.specs.PackedReplies.{reply_in, IsReplyIn};
 
     ghost Value = { List (ℕ × Reply) };
 
-    ghost view = { λ l. map (line_in l.long) l.small.items };
+    ghost view = { λ l. map (reply_in l.long) l.small.items };
 
-    ghost invariant = { λ l. All (IsLineIn l.long) l.small.items };
+    ghost invariant = { λ l. All (IsReplyIn l.long) l.small.items };
 }
 
 // The plain reply, made anew.
@@ -68,9 +68,9 @@ fn again(reply: &Reply) -> Reply
     }
 }
 
-impl LongLines {
-    fn new(alloc: Global) -> LongLines {
-        LongLines {
+impl LongReplies {
+    fn new(alloc: Global) -> LongReplies {
+        LongReplies {
             values: Vec::new(alloc),
             wides: Vec::new(alloc),
             others: Vec::new(alloc),
@@ -79,56 +79,56 @@ impl LongLines {
 
     // Keeps a value that is not short, and returns the small line of it.
     #[inline(always)]
-    fn keep_value(&mut self, high: u8, low: u16, value: u128) -> Result<SmallLine, AllocError>
-        ensures stands { IfOk result (λ s. line_in self.new s ≡ (joined high low, Value value)) }
-        ensures fits { IfOk result (IsLineIn self.new) }
-        ensures others { KeepsLines self.old self.new }
+    fn keep_value(&mut self, high: u8, low: u16, value: u128) -> Result<SmallReply, AllocError>
+        ensures stands { IfOk result (λ s. reply_in self.new s ≡ (joined high low, Value value)) }
+        ensures fits { IfOk result (IsReplyIn self.new) }
+        ensures others { KeepsReplies self.old self.new }
     {
         match u64::try_from(value) {
             Ok(value) => {
                 let at = appended_at(&mut self.values, value)?;
-                Ok(SmallLine::LongValue { high, low, at })
+                Ok(SmallReply::LongValue { high, low, at })
             }
             Err(_) => {
                 let at = appended_at(&mut self.wides, value)?;
-                Ok(SmallLine::WideValue { high, low, at })
+                Ok(SmallReply::WideValue { high, low, at })
             }
         }
     }
 
     // The small line of one that is neither a miss of a small number nor a value of one that has parts.
     #[inline(never)]
-    fn keep_other(&mut self, number: u64, reply: Reply) -> Result<SmallLine, AllocError>
+    fn keep_other(&mut self, number: u64, reply: Reply) -> Result<SmallReply, AllocError>
         requires { IsPlain reply }
-        ensures stands { IfOk result (λ s. line_in self.new s ≡ (number, reply)) }
-        ensures fits { IfOk result (IsLineIn self.new) }
-        ensures others { KeepsLines self.old self.new }
+        ensures stands { IfOk result (λ s. reply_in self.new s ≡ (number, reply)) }
+        ensures fits { IfOk result (IsReplyIn self.new) }
+        ensures others { KeepsReplies self.old self.new }
     {
         if let (Reply::Full, Ok(number)) = (&reply, u32::try_from(number)) {
-            return Ok(SmallLine::Full { number });
+            return Ok(SmallReply::Full { number });
         }
         let at = appended_at(&mut self.others, (number, reply))?;
-        Ok(SmallLine::Other { at })
+        Ok(SmallReply::Other { at })
     }
 
     // The small line that represents this one, which is kept if it is longer.
     #[inline(always)]
-    fn small_for(&mut self, number: u64, reply: Reply) -> Result<SmallLine, AllocError>
+    fn small_for(&mut self, number: u64, reply: Reply) -> Result<SmallReply, AllocError>
         requires { IsPlain reply }
-        ensures stands { IfOk result (λ s. line_in self.new s ≡ (number, reply)) }
-        ensures fits { IfOk result (IsLineIn self.new) }
-        ensures others { KeepsLines self.old self.new }
+        ensures stands { IfOk result (λ s. reply_in self.new s ≡ (number, reply)) }
+        ensures fits { IfOk result (IsReplyIn self.new) }
+        ensures others { KeepsReplies self.old self.new }
     {
         match reply {
             Reply::Nothing => {
                 if let Ok(number) = u32::try_from(number) {
-                    return Ok(SmallLine::Nothing { number });
+                    return Ok(SmallReply::Nothing { number });
                 }
             }
             Reply::Value(value) => {
                 if let Some((high, low)) = parts(number) {
                     return match u32::try_from(value) {
-                        Ok(value) => Ok(SmallLine::Value { high, low, value }),
+                        Ok(value) => Ok(SmallReply::Value { high, low, value }),
                         Err(_) => self.keep_value(high, low, value),
                     };
                 }
@@ -139,37 +139,37 @@ impl LongLines {
     }
 }
 
-impl Lines {
-    pub fn new(alloc: Global) -> Lines
+impl Replies {
+    pub fn new(alloc: Global) -> Replies
         ensures { result ≡ [] }
     {
-        Lines {
+        Replies {
             small: Vec::new(alloc),
-            long: LongLines::new(alloc),
+            long: LongReplies::new(alloc),
         }
     }
 
     /// With room for `count` lines.
-    pub fn with_capacity(alloc: Global, count: usize) -> Result<Lines, AllocError>
+    pub fn with_capacity(alloc: Global, count: usize) -> Result<Replies, AllocError>
         ensures { IfOk result (λ lines. lines ≡ []) }
     {
-        Ok(Lines {
+        Ok(Replies {
             small: Vec::with_capacity(alloc, count)?,
-            long: LongLines::new(alloc),
+            long: LongReplies::new(alloc),
         })
     }
 
     /// These lines, whose replies are plain, packed. Each reply is moved, so that none is left to be dropped.
-    pub fn from_lines(alloc: Global, lines: Vec<(u64, Reply)>) -> Result<Lines, AllocError>
+    pub fn from_lines(alloc: Global, lines: Vec<(u64, Reply)>) -> Result<Replies, AllocError>
         requires { All (λ line. IsPlain line.1) lines.items }
         ensures { IfOk result (λ packed. packed ≡ lines.items) }
     {
         let mut small = Vec::with_capacity(alloc, lines.len())?;
-        let mut long = LongLines::new(alloc);
+        let mut long = LongReplies::new(alloc);
         for (number, reply) in lines {
             small.push_reserved(long.small_for(number, reply)?);
         }
-        Ok(Lines { small, long })
+        Ok(Replies { small, long })
     }
 
     /// Puts a line with a plain reply behind the others. If memory runs out all stays as it was.
@@ -198,11 +198,11 @@ impl Lines {
         ensures { result ≡ (slice_index_or self.now at (0, Nothing)).0 }
     {
         match self.small[at] {
-            SmallLine::Nothing { number } | SmallLine::Full { number } => u64::from(number),
-            SmallLine::Value { high, low, .. }
-            | SmallLine::LongValue { high, low, .. }
-            | SmallLine::WideValue { high, low, .. } => joined(high, low),
-            SmallLine::Other { at } => self.long.others[at as usize].0,
+            SmallReply::Nothing { number } | SmallReply::Full { number } => u64::from(number),
+            SmallReply::Value { high, low, .. }
+            | SmallReply::LongValue { high, low, .. }
+            | SmallReply::WideValue { high, low, .. } => joined(high, low),
+            SmallReply::Other { at } => self.long.others[at as usize].0,
         }
     }
 
@@ -215,22 +215,22 @@ impl Lines {
         ensures few { length self.now < 2 ^ 64 }
     {
         match self.small[at] {
-            SmallLine::Nothing { number } => (u64::from(number), Reply::Nothing),
-            SmallLine::Value { high, low, value } => {
+            SmallReply::Nothing { number } => (u64::from(number), Reply::Nothing),
+            SmallReply::Value { high, low, value } => {
                 (joined(high, low), Reply::Value(u128::from(value)))
             }
-            SmallLine::Full { number } => (u64::from(number), Reply::Full),
-            SmallLine::LongValue { high, low, at } => {
+            SmallReply::Full { number } => (u64::from(number), Reply::Full),
+            SmallReply::LongValue { high, low, at } => {
                 let value = self.long.values[at as usize];
                 (joined(high, low), Reply::Value(u128::from(value)))
             }
-            SmallLine::WideValue { high, low, at } => {
+            SmallReply::WideValue { high, low, at } => {
                 (
                     joined(high, low),
                     Reply::Value(self.long.wides[at as usize]),
                 )
             }
-            SmallLine::Other { at } => {
+            SmallReply::Other { at } => {
                 let line = &self.long.others[at as usize];
                 (line.0, again(&line.1))
             }
