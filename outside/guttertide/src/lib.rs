@@ -1,10 +1,13 @@
 //! A dictionary from `u64` to `u128` that many threads use at once.
 //!
 //! It is a B-link tree over a fixed number of nodes. The library behind it is proved: all calls of all callers are one
-//! history of one map (they are *linearizable*), in which each call occurs once, each caller's in their order, and each
-//! replies with the value that its key had just before it. No caller ever holds the whole map, and no call takes
-//! memory but [`Dictionary::open`]. What is proved is the library; this crate is a front of it in Rust, which is
-//! tested.
+//! history of one map, in which each call occurs once, each caller's in their order, and each replies with the value
+//! that its key had just before it. No caller ever holds the whole map, and no call takes memory but
+//! [`Dictionary::open`]. What is proved is the library; this crate is a front of it in Rust, which is tested. So is, and
+//! not proved, that a call comes after each call of another caller that returned before it began.
+//!
+//! There is no iteration: the library lists the keys of a span by calls that wait for other callers, and this crate has
+//! none of those.
 //!
 //! A thread makes its calls through a [`Caller`] of its own.
 //!
@@ -267,6 +270,18 @@ impl Caller {
     ///
     /// [`TryInsertError::Busy`] where another caller was in the way, and [`TryInsertError::Full`] where the call was
     /// made, the key is new and no node is free for it.
+    ///
+    /// ```
+    /// use guttertide::TryInsertError;
+    ///
+    /// # let dictionary = guttertide::Dictionary::open(64, 1).unwrap();
+    /// # let mut caller = dictionary.caller().unwrap();
+    /// match caller.try_insert(5, 50) {
+    ///     Ok(before) => println!("it had {before:?}"),
+    ///     Err(TryInsertError::Full(full)) => println!("{full}"),
+    ///     Err(TryInsertError::Busy(busy)) => println!("not now: {busy}"),
+    /// }
+    /// ```
     pub fn try_insert(&mut self, key: u64, value: u128) -> Result<Option<u128>, TryInsertError> {
         Ok(self.attempt(Call::Insert { key, value })??)
     }

@@ -2,6 +2,7 @@
 
 use guttertide::{Busy, Caller, Dictionary, Full, OpenError, TryInsertError};
 use std::collections::BTreeMap;
+use std::sync::mpsc;
 use std::thread;
 
 type Plain = BTreeMap<u64, u128>;
@@ -220,6 +221,33 @@ fn a_fifth_of_the_keys_is_enough_nodes() -> Result<(), OpenError> {
         assert!((0..KEYS).all(|at| caller.insert(order(at), at.into()) == Ok(None)));
         assert!((0..KEYS).all(|at| caller.get(order(at)) == Some(at.into())));
     }
+    Ok(())
+}
+
+/// Two threads that hand on a number in turn, beside a third caller: each call has a greater number than the one before,
+/// of the other thread.
+#[test]
+fn a_call_comes_after_those_that_returned_before_it() -> Result<(), OpenError> {
+    let dictionary = Dictionary::open(64, 3)?;
+    let (to_first, first) = mpsc::channel();
+    let (to_second, second) = mpsc::channel();
+    to_first.send(None).expect("the first thread waits");
+    thread::scope(|scope| {
+        for (seed, before, next) in [(1, first, to_second), (2, second, to_first)] {
+            let mut caller = dictionary.caller().expect("a caller for each thread");
+            scope.spawn(move || {
+                for call in calls(seed, 48).take(2_000) {
+                    let before: Option<u64> = before.recv().expect("the other thread sends");
+                    let made = call.wait(&mut caller);
+                    assert!(before < Some(made.number), "{before:?}: {made:?}");
+                    // The first thread has ended when the second sends its last number.
+                    next.send(Some(made.number)).ok();
+                }
+            });
+        }
+        let mut caller = dictionary.caller().expect("a third caller");
+        calls(3, 48).take(20_000).for_each(|call| drop(call.wait(&mut caller)));
+    });
     Ok(())
 }
 
