@@ -1,0 +1,3 @@
+pub mod Lists
+pub mod Nearest
+pub mod Rules

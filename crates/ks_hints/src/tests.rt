@@ -1,0 +1,158 @@
+//! What readers find after posts, also beside them and if memory runs out.
+ghost use Rattle.std.specs.Prelude.{◌<◌};
+
+use crate::starting::{blanks, readers_of};
+use crate::{HintReader, HintWriter, Hints};
+use std::alloc::{AllocError, Global};
+use std::sync::Wait;
+use std::test::Fail;
+use std::thread::join_mut;
+
+/// A writer with one reader.
+fn start_one<R: Wait>(rt: &R, alloc: Global) -> Result<(HintWriter, HintReader), AllocError> {
+    let (writer, mut readers) = Hints::start(alloc, 1)?;
+    match readers.pop() {
+        Some(reader) => Ok((writer, reader)),
+        None => {
+            writer.end(rt);
+            Err(AllocError)
+        }
+    }
+}
+
+/// Posts the lows from 0 to `last`, each with the node after it.
+fn post_row<R: Wait>(rt: &R, writer: &mut HintWriter, last: u32) -> Result<(), AllocError>
+    requires { last < 1000 }
+{
+    for n in 0..last + 1 {
+        writer.post(rt, n as u64, n + 1)?;
+    }
+    Ok(())
+}
+
+#[test]
+fn the_hint_is_that_of_the_greatest_low_not_above_the_place(rt: HostRuntime) -> Result<(), Fail> {
+    let (mut writer, mut reader) = start_one(&rt, rt.alloc())?;
+    let before = reader.hint(7);
+    let first = writer.post(&rt, 0, 1);
+    let second = writer.post(&rt, 8, 2);
+    let found = (reader.hint(7), reader.hint(8));
+    writer.end(&rt);
+    let ended = reader.hint(8);
+    first?;
+    second?;
+    assert_eq!(rt; before, None);
+    assert_eq!(rt; found, (Some(1), Some(2)));
+    assert_eq!(rt; ended, Some(2));
+    Ok(())
+}
+
+#[test]
+fn a_full_list_is_emptied_before_one_more_low(rt: HostRuntime) -> Result<(), Fail> {
+    let (mut writer, mut reader) = start_one(&rt, rt.alloc())?;
+    let posted = post_row(&rt, &mut writer, 64);
+    let found = (reader.hint(63), reader.hint(64));
+    writer.end(&rt);
+    posted?;
+    assert_eq!(rt; found, (None, Some(65)));
+    Ok(())
+}
+
+#[test]
+fn readers_read_apart(rt: HostRuntime) -> Result<(), Fail> {
+    let (mut writer, mut readers) = Hints::start(rt.alloc(), 2)?;
+    let (Some(mut one), Some(mut other)) = (readers.pop(), readers.pop()) else {
+        writer.end(&rt);
+        panic!(rt; "no readers")
+    };
+    let first = writer.post(&rt, 4, 1);
+    let early = one.hint(9);
+    let second = writer.post(&rt, 4, 2);
+    let late = (one.hint(9), other.hint(4), other.hint(3));
+    drop(other);
+    let third = writer.post(&rt, 5, 3);
+    writer.end(&rt);
+    let ended = one.hint(9);
+    first?;
+    second?;
+    third?;
+    assert_eq!(rt; early, Some(1));
+    assert_eq!(rt; late, (Some(2), Some(2), None));
+    assert_eq!(rt; ended, Some(2));
+    Ok(())
+}
+
+#[test]
+fn a_reader_without_a_place_has_no_hints(rt: HostRuntime) -> Result<(), Fail> {
+    let more = blanks(rt.alloc(), 1)?;
+    let into = Vec::with_capacity(rt.alloc(), 1)?;
+    let (mut writer, mut reader) = start_one(&rt, rt.alloc())?;
+    let mut apart = readers_of(&writer.writer, more, into);
+    let posted = writer.post(&rt, 0, 1);
+    let found = reader.hint(0);
+    let nothing = match apart.pop() {
+        Some(mut without) => without.hint(0),
+        None => Some(0),
+    };
+    writer.end(&rt);
+    posted?;
+    assert_eq!(rt; found, Some(1));
+    assert_eq!(rt; nothing, None);
+    Ok(())
+}
+
+#[test]
+fn a_refused_post_leaves_the_list(rt: HostRuntime) -> Result<(), Fail> {
+    let (mut writer, mut reader) = start_one(&rt, rt.alloc())?;
+    let mut done = [false; 40];
+    for n in 0..40u32 {
+        done[n as usize] = writer.post(&rt, n as u64, n + 1).is_ok();
+    }
+    let mut newest = None;
+    let mut same = true;
+    for n in 0..40u32 {
+        if done[n as usize] {
+            newest = Some(n + 1);
+        }
+        same = same && reader.hint(n as u64) == newest;
+    }
+    writer.end(&rt);
+    assert!(rt; same);
+    Ok(())
+}
+
+/// Posts node numbers in their order at one low.
+fn post_rising<R: Wait>(rt: &R, writer: &mut HintWriter, count: u32) -> Result<(), AllocError> {
+    for node in 0..count {
+        writer.post(rt, 8, node)?;
+    }
+    Ok(())
+}
+
+/// Asks `count` times. Returns whether no hint was below the one before.
+fn never_falls(reader: &mut HintReader, count: u32) -> bool {
+    let mut last = 0;
+    let mut rises = true;
+    for _ in 0..count {
+        let found = reader.hint(9).unwrap_or(0);
+        rises = rises && last <= found;
+        last = found;
+    }
+    rises
+}
+
+#[test]
+fn hints_never_fall_beside_rising_posts(rt: HostRuntime) -> Result<(), Fail> {
+    let (mut writer, mut reader) = start_one(&rt, rt.alloc())?;
+    let (rises, posted) = join_mut(
+        &rt,
+        &mut || never_falls(&mut reader, 50_000),
+        &mut || post_rising(&rt, &mut writer, 5_000),
+    );
+    let last = reader.hint(8);
+    writer.end(&rt);
+    posted?;
+    assert!(rt; rises);
+    assert_eq!(rt; last, Some(4_999));
+    Ok(())
+}
