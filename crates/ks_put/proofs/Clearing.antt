@@ -1,17 +1,16 @@
 -- The node at which a search for room has ended has room.
-use Rattle.std.proofs.Common.{◌≡◌, ℕ, ◌<◌, ◌≤◌, Bool, true, false, cond, List, length, sym, refl, ◌∙◌, subst, inl, inr, arith}
-use Rattle.std.specs.Prelude.{Some, None, nat_eq}
+use Rattle.std.proofs.Common.{◌≡◌, ℕ, ◌<◌, ◌≤◌, true, false, cond, List, length, sym, refl, ◌∙◌, subst, inl, inr, arith}
+use Rattle.std.specs.Prelude.{Some, nat_eq}
 use Rattle.std.specs.Option.{ForSome}
 use Rattle.std.proofs.lemmas.Bool.Decides.{eqb_tells}
 use Rattle.ks_keysets.specs.declared.Kind.{Kind}
 use Rattle.ks_keysets.specs.declared.Kind.TheVariants.{NoBranch, Inner, Directory}
 use Rattle.ks_keysets.specs.declared.Record.{Record}
 use Rattle.ks_keysets.specs.Record.{LeadsOn}
-use Rattle.ks_keysets.specs.Keyset.{InKeyset}
 use Rattle.ks_keysets.specs.Layout.{Layout, room}
 use Rattle.ks_keysets.specs.Tight.{capacity}
 use Rattle.ks_history.specs.declared.Event.{Event}
-use Rattle.ks_history.specs.Trace.{◌⊑◌, graph_after}
+use Rattle.ks_history.specs.Trace.{◌⊑◌}
 use Rattle.ks_node.specs.Body.{Body, content_of, is_branch, is_branch_kind}
 use Rattle.ks_node.specs.Edges.{record_of}
 use Rattle.ks_node.specs.Room.{is_full, is_full_at, IsHeld}

@@ -171,7 +171,8 @@ pub(crate) fn split_top<N: Unlinked, G: Gate>(
 {
     unlinked_law::<N>();
     let cut = cut_whole(arena, pass, &node);
-    if node.body.grows() {
+    let grows = node.body.grows();
+    if grows {
         return grow_whole(arena, pass, gate, place, cut, node);
     }
     let path = Path { parent: None, node };
@@ -255,7 +256,8 @@ fn split_whole<N: Unlinked, G: Gate>(
 {
     search_law();
     unlinked_law::<N>();
-    if N::grows_in_place() {
+    let grows = N::grows_in_place();
+    if grows {
         let node = let_go(arena, pass, gate, place, path);
         return split_top(arena, pass, gate, place, node);
     }

@@ -173,7 +173,8 @@ pub(crate) fn try_make_room<N: Unlinked, G: Gate>(
                         if !refused {
                             unreachable!()
                         }
-                        return Ok(Err(come_to_end(arena, pass, gate, place, whole)));
+                        let end = come_to_end(arena, pass, gate, place, whole);
+                        return Ok(Err(end));
                     }
                 }
             }

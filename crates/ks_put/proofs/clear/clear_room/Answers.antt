@@ -1,7 +1,5 @@
 use Rattle.std.proofs.Common.{ℕ, subst}
-use Rattle.std.specs.Prelude.{Ok, Err, Result}
 use Rattle.ks_history.specs.declared.Event.TheVariants.{Give}
-use Rattle.ks_history.specs.Due.{NoneFree}
 use Rattle.ks_history.specs.Laws.Begins.{with_begins}
 use Rattle.ks_history.specs.Laws.Dues.{none_free_later}
 use Rattle.ks_arena.specs.Sound.{sort_of}

@@ -110,13 +110,13 @@ returns-in-Refused-clause-stretch g c = let me : ℕ = c.args.pass.now.caller in
     stretches_as me b s k (e.caller ∙ inv.1) (stretches_both b s m k (stretches_on a b s h m e.caller inv.3 e.stretch) c.come_to_end-in-Refused.ensures.stretch)
 
 pub returns-in-Shut-clause-room : goal.returns-in-Shut-clause-room
-returns-in-Shut-clause-room g c = let layout : Layout = g.N.Node.layout in let n : ℕ = c.args.arena.now.nodes in let place : ℕ = c.args.place in let me : ℕ = c.args.pass.now.caller in let a : ℕ = c.loop-child.pass.caller in let s = seen_of c.args.pass.now in let h = seen_of c.loop-child.pass in let inv = c.loop-child.invariant in let e₁ = c.split.ensures in let b : ℕ = c.split.new.pass.caller in let m = seen_of c.split.new.pass in let e = c.come_to_end-in-Shut.ensures in let k = seen_of c.come_to_end-in-Shut.new.pass in
-    found_none (sort_of g.N.Node.layout g.N.Node.ranged) g.N.Node.body n place me c.come_to_end-in-Shut.new.pass.caller s k c.loop-child.path.node c.come_to_end-in-Shut.result (e.caller ∙ e₁.caller ∙ inv.1) (e.node ∙ c.in-Shut.ensures.part.0) e.ends (c.has_room.ensures.none c.if-has_room.false)
+returns-in-Shut-clause-room g c = let layout : Layout = g.N.Node.layout in let n : ℕ = c.args.arena.now.nodes in let place : ℕ = c.args.place in let me : ℕ = c.args.pass.now.caller in let a : ℕ = c.loop-child.pass.caller in let s = seen_of c.args.pass.now in let h = seen_of c.loop-child.pass in let inv = c.loop-child.invariant in let e₁ = c.split.ensures in let b : ℕ = c.split.new.pass.caller in let m = seen_of c.split.new.pass in let e = c.come_to_end-end.ensures in let k = seen_of c.come_to_end-end.new.pass in
+    found_none (sort_of g.N.Node.layout g.N.Node.ranged) g.N.Node.body n place me c.come_to_end-end.new.pass.caller s k c.loop-child.path.node c.come_to_end-end.result (e.caller ∙ e₁.caller ∙ inv.1) (e.node ∙ c.in-Shut.ensures.part.0) e.ends (c.has_room.ensures.none c.if-has_room.false)
     (on_was layout n place b me s m k (sym (e₁.caller ∙ inv.1)) e.stretch (on_was layout n place a b s h m e₁.caller e₁.stretch (inv.4 c.if-not-refused.false)))
 
 pub returns-in-Shut-clause-stretch : goal.returns-in-Shut-clause-stretch
-returns-in-Shut-clause-stretch g c = let me : ℕ = c.args.pass.now.caller in let a : ℕ = c.loop-child.pass.caller in let s = seen_of c.args.pass.now in let h = seen_of c.loop-child.pass in let inv = c.loop-child.invariant in let e = c.split.ensures in let b : ℕ = c.split.new.pass.caller in let m = seen_of c.split.new.pass in let k = seen_of c.come_to_end-in-Shut.new.pass in
-    stretches_as me b s k (e.caller ∙ inv.1) (stretches_both b s m k (stretches_on a b s h m e.caller inv.3 e.stretch) c.come_to_end-in-Shut.ensures.stretch)
+returns-in-Shut-clause-stretch g c = let me : ℕ = c.args.pass.now.caller in let a : ℕ = c.loop-child.pass.caller in let s = seen_of c.args.pass.now in let h = seen_of c.loop-child.pass in let inv = c.loop-child.invariant in let e = c.split.ensures in let b : ℕ = c.split.new.pass.caller in let m = seen_of c.split.new.pass in let k = seen_of c.come_to_end-end.new.pass in
+    stretches_as me b s k (e.caller ∙ inv.1) (stretches_both b s m k (stretches_on a b s h m e.caller inv.3 e.stretch) c.come_to_end-end.ensures.stretch)
 
 -- a node with no room is full
 
@@ -148,5 +148,5 @@ returns-in-Refused-clause-fills g c = let a : ℕ = c.loop-child.pass.caller in 
     subst (λ (z : ℕ). DoesOnly (MayFill (sort_of g.N.Node.layout g.N.Node.ranged) c.args.place) z s k) (e.caller ∙ inv.1) (fills_search (sort_of g.N.Node.layout g.N.Node.ranged) c.args.place b b s m k refl (fills_on (sort_of g.N.Node.layout g.N.Node.ranged) c.args.place a b s h m e.caller inv.8 (e.fills (let none = c.has_room.ensures.none c.if-has_room.false in (none.1, λ leaf. none.0)))) c.come_to_end-in-Refused.ensures.leaves)
 
 pub returns-in-Shut-clause-fills : goal.returns-in-Shut-clause-fills
-returns-in-Shut-clause-fills g c = let a : ℕ = c.loop-child.pass.caller in let s = seen_of c.args.pass.now in let h = seen_of c.loop-child.pass in let inv = c.loop-child.invariant in let e = c.split.ensures in let b : ℕ = c.split.new.pass.caller in let m = seen_of c.split.new.pass in let k = seen_of c.come_to_end-in-Shut.new.pass in
-    subst (λ (z : ℕ). DoesOnly (MayFill (sort_of g.N.Node.layout g.N.Node.ranged) c.args.place) z s k) (e.caller ∙ inv.1) (fills_search (sort_of g.N.Node.layout g.N.Node.ranged) c.args.place b b s m k refl (fills_on (sort_of g.N.Node.layout g.N.Node.ranged) c.args.place a b s h m e.caller inv.8 (e.fills (let none = c.has_room.ensures.none c.if-has_room.false in (none.1, λ leaf. none.0)))) c.come_to_end-in-Shut.ensures.leaves)
+returns-in-Shut-clause-fills g c = let a : ℕ = c.loop-child.pass.caller in let s = seen_of c.args.pass.now in let h = seen_of c.loop-child.pass in let inv = c.loop-child.invariant in let e = c.split.ensures in let b : ℕ = c.split.new.pass.caller in let m = seen_of c.split.new.pass in let k = seen_of c.come_to_end-end.new.pass in
+    subst (λ (z : ℕ). DoesOnly (MayFill (sort_of g.N.Node.layout g.N.Node.ranged) c.args.place) z s k) (e.caller ∙ inv.1) (fills_search (sort_of g.N.Node.layout g.N.Node.ranged) c.args.place b b s m k refl (fills_on (sort_of g.N.Node.layout g.N.Node.ranged) c.args.place a b s h m e.caller inv.8 (e.fills (let none = c.has_room.ensures.none c.if-has_room.false in (none.1, λ leaf. none.0)))) c.come_to_end-end.ensures.leaves)
