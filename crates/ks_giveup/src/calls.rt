@@ -13,7 +13,7 @@ ghost use Rattle.ks_shape.specs.Does.{OnlyDels, OnlyFills, OnlySearches};
 use crate::descent::{find, find_room};
 use ks_arena::{Arena, Pass};
 use ks_flow::Tree;
-use ks_gate::Gate;
+use ks_gate::{Gate, Point};
 use ks_node::{Ranged, Unlinked};
 use ks_put::pair_fill;
 use ks_shape::{Fill, Full, Numbered, add_here, get_here, put_here, swap_here};
@@ -36,6 +36,7 @@ pub fn get<N: Ranged + Unlinked, R: Wait, G: Gate>(
     ensures done { DoneOf arena.now give_up (Get place) pass.old pass.new (told result.found) result.number }
     ensures goes { GoesTowards place pass.old pass.new }
 {
+    gate.at(pass.caller(), Point::Begin);
     let held = find(rt, arena, pass, gate, place);
     get_here(arena, pass, gate, place, held)
 }
@@ -112,6 +113,7 @@ pub fn swap<N: Ranged + Unlinked, R: Wait, G: Gate>(
     ensures done { DoneOf arena.now give_up (Swap place old new) pass.old pass.new (told result.found) result.number }
     ensures goes { GoesTowards place pass.old pass.new }
 {
+    gate.at(pass.caller(), Point::Begin);
     let held = find(rt, arena, pass, gate, place);
     swap_here(arena, pass, gate, place, old, new, held)
 }
@@ -134,6 +136,7 @@ pub fn del<N: Ranged + Unlinked, R: Wait, G: Gate>(
     ensures goes { GoesTowards place pass.old pass.new }
     ensures tidy { result.found ≢ None → WasAlone pass.old pass.new → IsTidyOf arena.now pass.new place }
 {
+    gate.at(pass.caller(), Point::Begin);
     let held = find(rt, arena, pass, gate, place);
     del_alone(rt, arena, pass, gate, place, held)
 }

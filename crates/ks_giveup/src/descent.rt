@@ -82,7 +82,7 @@ pub(crate) fn leave<N: Ranged + Unlinked, G: Gate>(
 }
 
 /// Takes the node at which the search for a place ends, and holds no other. It does not notify the gate that a call begins.
-pub(crate) fn descend<N: Ranged + Unlinked, R: Wait, G: Gate>(
+pub(crate) fn find<N: Ranged + Unlinked, R: Wait, G: Gate>(
     rt: &R,
     arena: &Arena<N, Tree>,
     pass: &mut Pass<N, Tree>,
@@ -95,7 +95,8 @@ pub(crate) fn descend<N: Ranged + Unlinked, R: Wait, G: Gate>(
     ensures leaves { OnlySearches pass.old pass.new }
     ensures ends { SearchEndsAt arena.now place pass.new result }
     ensures goes { GoesTowards place pass.old pass.new }
-    ensures under { StaysUnderway give_up pass.old pass.new }
+    ensures under { IsUnderway give_up pass.old pass.new }
+    ensures on { StaysUnderway give_up pass.old pass.new }
 {
     let mut node = 0;
     for _ in rt.forever() {
@@ -117,26 +118,6 @@ pub(crate) fn descend<N: Ranged + Unlinked, R: Wait, G: Gate>(
     unreachable!()
 }
 
-/// Takes the node at which the search for a place ends, and holds no other.
-pub(crate) fn find<N: Ranged + Unlinked, R: Wait, G: Gate>(
-    rt: &R,
-    arena: &Arena<N, Tree>,
-    pass: &mut Pass<N, Tree>,
-    gate: &G,
-    place: u64,
-) -> Held<N>
-    requires pass { IsEmptyPassOf arena.now pass.old }
-    ensures pass { IsPassOf arena.now pass.new }
-    ensures caller { SameCaller pass.old pass.new }
-    ensures leaves { OnlySearches pass.old pass.new }
-    ensures ends { SearchEndsAt arena.now place pass.new result }
-    ensures goes { GoesTowards place pass.old pass.new }
-    ensures under { IsUnderway give_up pass.old pass.new }
-{
-    gate.at(pass.caller(), Point::Begin);
-    descend(rt, arena, pass, gate, place)
-}
-
 /// Takes the node at which the search for a place ends, and keeps it if it has the place or room for it. `None`: it had
 /// neither, and was released.
 pub(crate) fn find_room<N: Ranged + Unlinked, R: Wait, G: Gate>(
@@ -154,6 +135,7 @@ pub(crate) fn find_room<N: Ranged + Unlinked, R: Wait, G: Gate>(
     ensures goes { GoesTowards place pass.old pass.new }
     ensures under { IsUnderway give_up pass.old pass.new }
 {
+    gate.at(pass.caller(), Point::Begin);
     let held = find(rt, arena, pass, gate, place);
     if has_room(&held, place) {
         return Some(held);

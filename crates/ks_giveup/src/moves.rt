@@ -8,7 +8,7 @@ ghost use Rattle.ks_shape.specs.Does.{OnlyFills, OnlySearches};
 ghost use Rattle.ks_shape.specs.Of.{DoneOf};
 ghost use Rattle.ks_pair.specs.Of.{CameToPair, MovesOn};
 
-use crate::descent::descend;
+use crate::descent::find;
 use crate::technique::GiveUp;
 use ks_arena::laws::sound_law;
 use ks_arena::{Arena, Pass};
@@ -39,13 +39,13 @@ fn find_pair<N: Ranged + Unlinked, R: Wait, G: Gate>(
     ensures under { MovesOn give_up pass.old pass.new }
 {
     sound_law::<Tree>();
-    let held = descend(rt, arena, pass, gate, high);
+    let held = find(rt, arena, pass, gate, high);
     if ends_at(&held, low) {
         return Some(Pair::One(held));
     }
     let other = held.node;
     give_last(arena, pass, gate, held);
-    let held = descend(rt, arena, pass, gate, low);
+    let held = find(rt, arena, pass, gate, low);
     take_other(arena, pass, gate, low, high, held, other)
 }
 

@@ -11,7 +11,7 @@ use crate::technique::GiveUp;
 use ks_arena::laws::sound_law;
 use ks_arena::{Arena, Pass};
 use ks_flow::Tree;
-use ks_gate::Gate;
+use ks_gate::{Gate, Point};
 use ks_node::{Listed, Unlinked, listed_law, node_law};
 use ks_shape::{Part, Scanning, part_here};
 use std::sync::Wait;
@@ -36,6 +36,7 @@ pub fn scan_part<N: Listed + Unlinked, R: Wait, G: Gate>(
 {
     sound_law::<Tree>();
     listed_law::<N>();
+    gate.at(pass.caller(), Point::Begin);
     let held = find(rt, arena, pass, gate, low);
     node_law(&held.body);
     let range = held.body.range();

@@ -8,7 +8,7 @@ use Rattle.ks_arena.specs.Sound.{sort_of}
 use Rattle.ks_arena.specs.Clauses.{IsPass, hand_of, seen_of}
 use Rattle.ks_giveup.specs.Goes.{MayVisit, Goes}
 use Rattle.ks_shape.specs.Does.{DoesOnly, MaySearch}
-use Rattle.ks_giveup.proofs.descent.descend.Given as goal
+use Rattle.ks_giveup.proofs.descent.find.Given as goal
 
 abbrev pub invariant-loop : goal.invariant-loop
 invariant-loop g l =
