@@ -128,7 +128,7 @@ pub fn del<N: Unlinked, R: Wait, G: Gate>(
     let Tidied {
         path,
         freed: _,
-        any,
+        again,
     } = come_down(rt, arena, pass, gate, place);
-    del_on(rt, arena, pass, gate, place, any, path)
+    del_on(rt, arena, pass, gate, place, again, path)
 }

@@ -1,5 +1,5 @@
 pub mod Keeping
-pub mod Any
+pub mod Again
 pub mod Trio
 pub mod Standing
 pub mod Beside

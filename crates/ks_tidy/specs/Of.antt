@@ -10,6 +10,7 @@ use Rattle.ks_history.specs.declared.Reply.{Reply}
 use Rattle.ks_history.specs.Done.{Template, TidyAt}
 use Rattle.ks_history.specs.Trace.{graph_after}
 use Rattle.ks_history.specs.Underway.{Decided, Underway}
+use Rattle.ks_node.specs.Room.{in_place}
 use Rattle.ks_arena.specs.declared.arena.Arena.{Arena}
 use Rattle.ks_arena.specs.declared.held.Pass.{Pass}
 use Rattle.ks_arena.specs.declared.held.Held.{Held as Hand}
@@ -18,7 +19,7 @@ use Rattle.ks_arena.specs.Clauses.{HasLooked, HasTaken, hand_of, seen_of}
 use Rattle.ks_shape.specs.declared.path.Path.{Path}
 use Rattle.ks_tidy.specs.declared.step.Step.{Step}
 use Rattle.ks_shape.specs.Frees.{Counts, Frees, Undisturbed}
-use Rattle.ks_tidy.specs.Pair.{DidStep, FitsAlone, FreesAny, IsNoSole, IsPair, IsTrio}
+use Rattle.ks_tidy.specs.Pair.{ComesAgain, DidStep, FitsAlone, IsNoSole, IsPair, IsTrio}
 
 module _ {N D : Type 0} where
   -- from p to q the Shapes of the caller made `count` nodes free, and it claimed none and made no call
@@ -28,10 +29,6 @@ module _ {N D : Type 0} where
   -- so it is, with the count modulo 2 ^ 32
   abbrev pub CountsFree : ℕ → Pass N D → Pass N D → Type 0
   CountsFree told p q = Counts p.caller (seen_of p) (seen_of q) told
-
-  -- whether the Shapes of the caller made a node free from p to q; it claimed none and made no call
-  abbrev pub MakesAnyFree : Bool → Pass N D → Pass N D → Type 0
-  MakesAnyFree any p q = FreesAny p.caller (seen_of p) (seen_of q) any
 
   -- nobody else did anything meanwhile, and the caller made no node free
   abbrev pub WasUndisturbed : Pass N D → Pass N D → Type 0
@@ -64,6 +61,11 @@ module _ {N D P : Type 0} {n : NodeGhosts N P} {q : PlacingGhosts P} {d : Discip
   -- and the path is whole, the node fits with no right neighbour, if that was looked for
   abbrev pub HasTried : Arena N D P n q d → Bool → Pass N D → Pass N D → Path N → Step N → Type 0
   HasTried a thorough p p' path step = DidStep (sort_of n.layout n.ranged) n.body p.caller (seen_of p) (seen_of p') thorough path step
+
+  -- whether another search has to follow that from p to p', in which the caller claimed none and made no call: the type grows
+  -- in place, and a node was made free
+  abbrev pub MustComeAgain : Arena N D P n q d → Bool → Pass N D → Pass N D → Type 0
+  MustComeAgain a again p p' = ComesAgain (in_place n.layout) p.caller (seen_of p) (seen_of p') again
 
   -- if nobody else acts from p to p', node i fits with no right neighbour at p'
   abbrev pub FitsNoneAlone : Arena N D P n q d → ℕ → Pass N D → Pass N D → Type 0

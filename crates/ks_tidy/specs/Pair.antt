@@ -29,10 +29,11 @@ abbrev pub count_in : {N : Type 0} → Step N → ℕ
 count_in (Freed x) = 1
 count_in (Rests x) = 0
 
--- whether the Shapes of c made a node free from h to k; it claimed none and made no call
-pub record FreesAny (c : ℕ) (h k : List Event) (any : Bool) : Type 0 where
-  pub none : any ≡ false → Frees c h k 0
-  pub some : IsTrue any → ¬ Frees c h k 0
+-- whether another search has to follow: nodes of the type grow in place, and the Shapes of c made a node free from h to k; it
+-- claimed none and made no call
+pub record ComesAgain (grows : Bool) (c : ℕ) (h k : List Event) (again : Bool) : Type 0 where
+  pub none : again ≡ false → IsTrue grows → Frees c h k 0
+  pub some : IsTrue again → IsTrue grows × ¬ Frees c h k 0
 
 -- node i takes over an only child: it is the root, or its type grows in place, and then any node does
 abbrev pub TakesOver : Layout → ℕ → Type 0

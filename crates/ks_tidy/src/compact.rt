@@ -62,7 +62,7 @@ fn visit<N: Unlinked, R: Wait, G: Gate>(
     let Tidied {
         path,
         freed,
-        any: _,
+        again: _,
     } = tidy_node(rt, arena, pass, gate, place, true, path);
     let end = run_end(&path.node.body, place, last);
     Visited { path, freed, end }

@@ -81,21 +81,21 @@ fn del_told<W: Decision, N: Unlinked>(
 }
 
 /// Deletes what is at a place, at the node of a path where the search for the place ends, and releases all. If it
-/// removed a pair, it merges the node before, while it is low. The search made `any` node free or none; if the type grows
-/// in place and one was made free, it searches for the place again, as `pair_tidy` does.
+/// removed a pair, it merges the node before, while it is low. If another search has to
+/// follow, as the caller says `again` or the merging finds, it searches for the place again, as `pair_tidy` does.
 pub fn del_on<N: Unlinked, R: Wait, G: Gate>(
     rt: &R,
     arena: &Arena<N, Tree>,
     pass: &mut Pass<N, Tree>,
     gate: &G,
     place: u64,
-    any: bool,
+    again: bool,
     path: Path<N>,
 ) -> Numbered
     requires pass { IsPassOf arena.now pass.old }
     requires pair { IsPairOf arena.now (caller_of pass.old) place pass.old path }
     requires ends { next_at (N.body path.node.body) place ≡ Here }
-    requires whole { any ≡ false → IsWhole path }
+    requires whole { again ≡ false → IsWhole path }
     ensures pass { IsEmptyPassOf arena.now pass.new }
     ensures caller { SameCaller pass.old pass.new }
     ensures dels { OnlyDels N.layout N.ranged pass.old pass.new }
@@ -111,7 +111,7 @@ pub fn del_on<N: Unlinked, R: Wait, G: Gate>(
         leave(arena, pass, gate, place, path);
         return answer;
     }
-    tidy_on(rt, arena, pass, gate, place, any, path);
+    tidy_on(rt, arena, pass, gate, place, again, path);
     answer
 }
 

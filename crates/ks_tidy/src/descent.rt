@@ -7,7 +7,7 @@ ghost use Rattle.ks_node.specs.Body.{next_at};
 ghost use Rattle.ks_node.specs.Room.{in_place};
 ghost use Rattle.ks_arena.specs.Of.{IsEmptyPassOf, IsPassOf, WasAlone, SameCaller, caller_of};
 ghost use Rattle.ks_shape.specs.Of.{IsStretch};
-ghost use Rattle.ks_tidy.specs.Of.{CountsFree, IsKeptAt, IsPairOf, IsTidyOf, MakesAnyFree, MakesFree};
+ghost use Rattle.ks_tidy.specs.Of.{CountsFree, IsKeptAt, IsPairOf, IsTidyOf, MakesFree, MustComeAgain};
 ghost use Rattle.ks_tidy.specs.Pair.{IsWhole};
 ghost use Rattle.ks_shape.specs.Does.{OnlyDels, OnlySearches};
 
@@ -20,11 +20,11 @@ use ks_node::{Next, Node, Unlinked, node_law, unlinked_law};
 use ks_shape::{Path, enter, let_go, search_law, step_down};
 use std::sync::Wait;
 
-/// How many nodes were made free, modulo 2^32, and whether any was.
+/// How many nodes were made free, modulo 2^32, and whether another descent has to follow.
 #[derive(Drop)]
 pub struct Ended {
     pub freed: u32,
-    pub any: bool,
+    pub again: bool,
 }
 
 /// Releases the parent, if there is one, and takes the child to which the search goes on; the node becomes its parent.
@@ -78,12 +78,12 @@ pub fn leave<N: Unlinked, G: Gate>(
     gate.at(pass.caller(), Point::Given(number));
 }
 
-/// Whether one of two pieces of work made a node free.
+/// Whether another descent has to follow one of two pieces of work.
 #[inline(always)]
-fn either(any: bool, more: bool) -> bool
-    ensures { result ≡ (any || more) }
+fn either(again: bool, more: bool) -> bool
+    ensures { result ≡ (again || more) }
 {
-    any || more
+    again || more
 }
 
 /// Merges at the node of a path, if it is a branch.
@@ -104,8 +104,8 @@ fn tidy_branch<N: Unlinked, R: Wait, G: Gate>(
     ensures pair { IsPairOf arena.now (caller_of pass.old) place pass.new result.path }
     ensures stretch { IsStretch pass.old pass.new }
     ensures counts { CountsFree result.freed pass.old pass.new }
-    ensures any { MakesAnyFree result.any pass.old pass.new }
-    ensures rests { result.any ≡ false → result.path ≡ path }
+    ensures again { MustComeAgain arena.now result.again pass.old pass.new }
+    ensures rests { result.again ≡ false → IsTrue (in_place N.layout) → result.path ≡ path }
 {
     if path.node.body.is_branch() {
         return tidy_node(rt, arena, pass, gate, place, false, path);
@@ -113,7 +113,7 @@ fn tidy_branch<N: Unlinked, R: Wait, G: Gate>(
     Tidied {
         path,
         freed: 0,
-        any: false,
+        again: false,
     }
 }
 
@@ -135,23 +135,23 @@ pub fn come_down<N: Unlinked, R: Wait, G: Gate>(
     ensures ends { next_at (N.body result.path.node.body) place ≡ Here }
     ensures stretch { IsStretch pass.old pass.new }
     ensures counts { CountsFree result.freed pass.old pass.new }
-    ensures any { MakesAnyFree result.any pass.old pass.new }
-    ensures whole { result.any ≡ false → IsWhole result.path }
+    ensures again { MustComeAgain arena.now result.again pass.old pass.new }
+    ensures whole { result.again ≡ false → IsWhole result.path }
 {
     let mut path = enter(rt, arena, pass, gate, place);
     let mut freed: u32 = 0;
-    let mut any = false;
+    let mut again = false;
     for _ in rt.forever() {
         let Tidied {
             path: tidied,
             freed: more,
-            any: some,
+            again: more_again,
         } = tidy_branch(rt, arena, pass, gate, place, path);
         path = tidied;
         freed = freed.wrapping_add(more);
-        any = either(any, some);
+        again = either(again, more_again);
         match path.node.body.next(place) {
-            Next::Here => return Tidied { path, freed, any },
+            Next::Here => return Tidied { path, freed, again },
             Next::Go(child) => path = go_down(rt, arena, pass, gate, place, path, child),
         }
     }
@@ -176,27 +176,28 @@ pub fn tidy_end<N: Unlinked, R: Wait, G: Gate>(
     ensures dels { OnlyDels N.layout N.ranged pass.old pass.new }
     ensures stretch { IsStretch pass.old pass.new }
     ensures counts { CountsFree result.freed pass.old pass.new }
-    ensures any { MakesAnyFree result.any pass.old pass.new }
-    ensures tidy { (IsTrue (in_place N.layout) → IsWhole path × (result.any ≡ false)) → WasAlone pass.old pass.new →
+    ensures again { MustComeAgain arena.now result.again pass.old pass.new }
+    ensures tidy { (IsTrue (in_place N.layout) → IsWhole path × (result.again ≡ false)) → WasAlone pass.old pass.new →
         IsTidyOf arena.now pass.new place }
 {
     search_law();
     tidied_law();
     tidy_law();
     unlinked_law::<N>();
-    let Tidied { path, freed, any } = tidy_node(rt, arena, pass, gate, place, false, path);
+    let Tidied { path, freed, again } = tidy_node(rt, arena, pass, gate, place, false, path);
     node_law(&path.node.body);
     leave(arena, pass, gate, place, path);
-    Ended { freed, any }
+    Ended { freed, again }
 }
 
-/// Whether another descent has to follow, after those before it made `any` node free or none.
+/// Whether another descent has to follow, if those before it said `again`. The compiler knows the answer for a type that
+/// does not grow in place, and so leaves out the descents that would follow.
 #[inline(always)]
-fn comes_again<N: Node>(any: bool) -> bool
-    ensures ends { result ≡ false → IsTrue (in_place N.layout) → any ≡ false }
-    ensures again { IsTrue result → IsTrue (in_place N.layout) × IsTrue any }
+fn comes_again<N: Node>(again: bool) -> bool
+    ensures ends { result ≡ false → IsTrue (in_place N.layout) → again ≡ false }
+    ensures again { IsTrue result → IsTrue (in_place N.layout) × IsTrue again }
 {
-    N::grows_in_place() && any
+    N::grows_in_place() && again
 }
 
 /// One descent that merges for a place, as `pair_tidy` does. If the type grows in place and it made a node free, another
@@ -214,16 +215,16 @@ fn sweep<N: Unlinked, R: Wait, G: Gate>(
     ensures dels { OnlyDels N.layout N.ranged pass.old pass.new }
     ensures stretch { IsStretch pass.old pass.new }
     ensures counts { CountsFree result.freed pass.old pass.new }
-    ensures any { MakesAnyFree result.any pass.old pass.new }
-    ensures tidy { (IsTrue (in_place N.layout) → result.any ≡ false) → WasAlone pass.old pass.new →
+    ensures again { MustComeAgain arena.now result.again pass.old pass.new }
+    ensures tidy { (IsTrue (in_place N.layout) → result.again ≡ false) → WasAlone pass.old pass.new →
         IsTidyOf arena.now pass.new place }
 {
-    let Tidied { path, freed, any } = come_down(rt, arena, pass, gate, place);
+    let Tidied { path, freed, again } = come_down(rt, arena, pass, gate, place);
     node_law(&path.node.body);
     let ended = tidy_end(rt, arena, pass, gate, place, path);
     Ended {
         freed: freed.wrapping_add(ended.freed),
-        any: either(any, ended.any),
+        again: either(again, ended.again),
     }
 }
 
@@ -249,28 +250,28 @@ pub fn pair_tidy<N: Unlinked, R: Wait, G: Gate>(
     for _ in rt.forever() {
         let swept = sweep(rt, arena, pass, gate, place);
         freed = freed.wrapping_add(swept.freed);
-        if !comes_again::<N>(swept.any) {
+        if !comes_again::<N>(swept.again) {
             return freed;
         }
     }
     unreachable!()
 }
 
-/// Merges at the node whose keyset holds the place, after a search that made `any` node free or none, and releases all.
-/// If the type grows in place and one was made free, it descends again until a descent makes none free.
+/// Merges at the node whose keyset holds the place, after a search which another has to follow or not, and releases all.
+/// If one has to follow that search or this merging, it descends again until a descent makes no node free.
 pub(crate) fn tidy_on<N: Unlinked, R: Wait, G: Gate>(
     rt: &R,
     arena: &Arena<N, Tree>,
     pass: &mut Pass<N, Tree>,
     gate: &G,
     place: u64,
-    any: bool,
+    again: bool,
     path: Path<N>,
 )
     requires pass { IsPassOf arena.now pass.old }
     requires pair { IsPairOf arena.now (caller_of pass.old) place pass.old path }
     requires ends { IsKeptAt pass.old path.node.node place }
-    requires whole { any ≡ false → IsWhole path }
+    requires whole { again ≡ false → IsWhole path }
     ensures pass { IsEmptyPassOf arena.now pass.new }
     ensures caller { SameCaller pass.old pass.new }
     ensures dels { OnlyDels N.layout N.ranged pass.old pass.new }
@@ -278,7 +279,7 @@ pub(crate) fn tidy_on<N: Unlinked, R: Wait, G: Gate>(
     ensures tidy { WasAlone pass.old pass.new → IsTidyOf arena.now pass.new place }
 {
     let ended = tidy_end(rt, arena, pass, gate, place, path);
-    if comes_again::<N>(either(any, ended.any)) {
+    if comes_again::<N>(either(again, ended.again)) {
         pair_tidy(rt, arena, pass, gate, place);
         return;
     }

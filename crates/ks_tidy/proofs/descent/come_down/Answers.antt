@@ -1,4 +1,4 @@
-use Rattle.std.proofs.Common.{◌≡◌, ◌∙◌, ◌+◌, ◌%◌, ◌^◌, ℕ, false, arith, sym, subst, inl}
+use Rattle.std.proofs.Common.{◌≡◌, ◌∙◌, ◌+◌, ◌%◌, ◌^◌, ℕ, false, arith, sym, subst, inl, inr}
 use Rattle.std.specs.Prelude.{Some, None}
 use Rattle.ks_arena.specs.Sound.{sort_of}
 use Rattle.ks_arena.specs.Clauses.{seen_of}
@@ -6,17 +6,18 @@ use Rattle.ks_shape.specs.Stretches.{Stretches}
 use Rattle.ks_shape.specs.Laws.Stretches.{stretches_as, stretches_both}
 use Rattle.ks_shape.specs.Frees.{Counts}
 use Rattle.ks_shape.specs.Laws.Frees.{counts_as, counts_both, counts_of, counts_on, frees_as, frees_take}
-use Rattle.ks_tidy.specs.Pair.{FreesAny, IsPair, IsWhole}
-use Rattle.ks_tidy.proofs.Any.{any_as, any_both, any_none, any_on, neither}
+use Rattle.ks_node.specs.Room.{in_place}
+use Rattle.ks_tidy.specs.Pair.{ComesAgain, IsPair, IsWhole}
+use Rattle.ks_tidy.proofs.Again.{again_as, again_both, again_none, again_on, neither}
 use Rattle.ks_shape.specs.Does.{DoesOnly, MayDel}
 use Rattle.ks_shape.specs.Laws.Does.{dels_search, does_on, searched_dels}
 use Rattle.ks_tidy.proofs.descent.come_down.Given.{Over}
 use Rattle.ks_tidy.proofs.descent.come_down.Goals as goal
-use Rattle.ks_tidy.proofs.descent.come_down.Goals.{After-tidy_branch-tidied, After-either-any}
+use Rattle.ks_tidy.proofs.descent.come_down.Goals.{After-tidy_branch-tidied, After-either-again}
 
 pub loop-init : goal.loop-init
 loop-init g c = let me : ℕ = c.args.pass.now.caller in let h = seen_of c.args.pass.now in let k = seen_of c.enter-path.new.pass in let e = c.enter-path.ensures in
-    (e.pass, e.caller, record { path = e.path; rooted = λ none. inl e.root.1 }, e.stretch, counts_of me 0 h k (omega arith) (frees_take me 0 h k e.took), searched_dels (sort_of g.N.Node.layout g.N.Node.ranged) me h k e.leaves, any_none me h k (frees_take me 0 h k e.took), (λ none. e.root.1))
+    (e.pass, e.caller, record { path = e.path; rooted = λ none. inl e.root.1 }, e.stretch, counts_of me 0 h k (omega arith) (frees_take me 0 h k e.took), searched_dels (sort_of g.N.Node.layout g.N.Node.ranged) me h k e.leaves, again_none (in_place g.N.Node.layout) me h k (frees_take me 0 h k e.took), (λ none. e.root.1))
 
 -- where the search is after it tidied
 now : (g : Over) (c : After-tidy_branch-tidied g) → c.tidy_branch-tidied.new.pass.caller ≡ c.args.pass.now.caller
@@ -36,13 +37,16 @@ counts g c = let me : ℕ = c.args.pass.now.caller in let h = seen_of c.loop.pas
 dels : (g : Over) (c : After-tidy_branch-tidied g) → DoesOnly (MayDel (sort_of g.N.Node.layout g.N.Node.ranged)) c.args.pass.now.caller (seen_of c.args.pass.now) (seen_of c.tidy_branch-tidied.new.pass)
 dels g c = does_on (MayDel (sort_of g.N.Node.layout g.N.Node.ranged)) c.args.pass.now.caller c.loop.pass.caller (seen_of c.args.pass.now) (seen_of c.loop.pass) (seen_of c.tidy_branch-tidied.new.pass) c.loop.invariant.1 c.loop.invariant.5 c.tidy_branch-tidied.ensures.dels
 
-any : (g : Over) (c : After-either-any g) → FreesAny c.args.pass.now.caller (seen_of c.args.pass.now) (seen_of c.tidy_branch-tidied.new.pass) c.either-any.result
-any g c = let me : ℕ = c.args.pass.now.caller in let s = seen_of c.args.pass.now in let h = seen_of c.loop.pass in let k = seen_of c.tidy_branch-tidied.new.pass in let inv = c.loop.invariant in let e = c.tidy_branch-tidied.ensures in
-    subst (FreesAny me s k) (sym c.either-any.ensures)
-    (any_both me inv.4.count e.counts.count s h k c.loop.any c.tidy_branch-tidied.result.any inv.4.frees (frees_as me c.loop.pass.caller h k inv.1 e.counts.frees) inv.6 (any_as me c.loop.pass.caller h k c.tidy_branch-tidied.result.any inv.1 e.any))
+again : (g : Over) (c : After-either-again g) → ComesAgain (in_place g.N.Node.layout) c.args.pass.now.caller (seen_of c.args.pass.now) (seen_of c.tidy_branch-tidied.new.pass) c.either-again.result
+again g c = let me : ℕ = c.args.pass.now.caller in let s = seen_of c.args.pass.now in let h = seen_of c.loop.pass in let k = seen_of c.tidy_branch-tidied.new.pass in let inv = c.loop.invariant in let e = c.tidy_branch-tidied.ensures in
+    subst (ComesAgain (in_place g.N.Node.layout) me s k) (sym c.either-again.ensures)
+    (again_both (in_place g.N.Node.layout) me inv.4.count e.counts.count s h k c.loop.again c.tidy_branch-tidied.result.again inv.4.frees (frees_as me c.loop.pass.caller h k inv.1 e.counts.frees) inv.6 (again_as (in_place g.N.Node.layout) me c.loop.pass.caller h k c.tidy_branch-tidied.result.again inv.1 e.again))
 
-whole : (g : Over) (c : After-either-any g) → c.either-any.result ≡ false → IsWhole c.tidy_branch-tidied.result.path
-whole g c off = subst IsWhole (sym (c.tidy_branch-tidied.ensures.rests (neither c.loop.any c.tidy_branch-tidied.result.any (sym c.either-any.ensures ∙ off)).1)) c.loop.invariant.7
+whole : (g : Over) (c : After-either-again g) → c.either-again.result ≡ false → IsWhole c.tidy_branch-tidied.result.path
+whole g c off = λ none. elim (c.tidy_branch-tidied.ensures.pair.rooted none) [
+  | inl root ↦ root
+  | inr on ↦ (subst IsWhole (sym (c.tidy_branch-tidied.ensures.rests (neither c.loop.again c.tidy_branch-tidied.result.again (sym c.either-again.ensures ∙ off)).1 on)) c.loop.invariant.7 none)
+]
 
 pub go_down-path-requires-clause-pair : goal.go_down-path-requires-clause-pair
 go_down-path-requires-clause-pair g c = let at = (goal.at.go_down-path-requires-clause-pair g c).After-tidy_branch-tidied in subst (λ (z : ℕ). IsPair (sort_of g.N.Node.layout g.N.Node.ranged) g.N.Node.body z c.args.place (seen_of c.tidy_branch-tidied.new.pass) c.tidy_branch-tidied.result.path) (sym (now g at)) (pair g at)
@@ -55,7 +59,7 @@ loop-preserved g c = let at = (goal.at.loop-preserved g c).After-tidy_branch-tid
   stretches_both me s h₁ k (stretch g at) (stretches_as me b h₁ k (now g at) e.stretch),
   counts_on me ((c.loop.freed + c.tidy_branch-tidied.result.freed) % 2 ^ 32) s h₁ k (counts g at) (frees_as me b h₁ k (now g at) e.frees),
   dels_search (sort_of g.N.Node.layout g.N.Node.ranged) me b s h₁ k (now g at) (dels g at) e.leaves,
-  any_on me (counts g at).count s h₁ k c.either-any.result (counts g at).frees (any g (goal.at.loop-preserved g c).After-either-any) (frees_as me b h₁ k (now g at) e.frees),
+  again_on (in_place g.N.Node.layout) me (counts g at).count s h₁ k c.either-again.result (counts g at).frees (again g (goal.at.loop-preserved g c).After-either-again) (frees_as me b h₁ k (now g at) e.frees),
   (λ none. absurd (let q : Some c.tidy_branch-tidied.result.path.node ≡ None = sym e.parent ∙ none in let z : ⊥ = cc in z)),
 )
 
@@ -68,11 +72,11 @@ returns-in-Here-clause-stretch g c = stretch g (goal.at.returns-in-Here-clause-s
 pub returns-in-Here-clause-counts : goal.returns-in-Here-clause-counts
 returns-in-Here-clause-counts g c = counts g (goal.at.returns-in-Here-clause-counts g c).After-tidy_branch-tidied
 
-pub returns-in-Here-clause-any : goal.returns-in-Here-clause-any
-returns-in-Here-clause-any g c = any g (goal.at.returns-in-Here-clause-any g c).After-either-any
+pub returns-in-Here-clause-again : goal.returns-in-Here-clause-again
+returns-in-Here-clause-again g c = again g (goal.at.returns-in-Here-clause-again g c).After-either-again
 
 pub returns-in-Here-clause-whole : goal.returns-in-Here-clause-whole
-returns-in-Here-clause-whole g c = whole g (goal.at.returns-in-Here-clause-whole g c).After-either-any
+returns-in-Here-clause-whole g c = whole g (goal.at.returns-in-Here-clause-whole g c).After-either-again
 
 pub returns-in-Here-clause-dels : goal.returns-in-Here-clause-dels
 returns-in-Here-clause-dels g c = dels g (goal.at.returns-in-Here-clause-dels g c).After-tidy_branch-tidied

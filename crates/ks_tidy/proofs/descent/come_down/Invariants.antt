@@ -1,10 +1,11 @@
 use Rattle.std.proofs.Common.{◌≡◌}
 use Rattle.ks_flow.specs.Discipline.{BeginsTree, TreeStep}
+use Rattle.ks_node.specs.Room.{in_place}
 use Rattle.ks_arena.specs.Sound.{sort_of}
 use Rattle.ks_arena.specs.Clauses.{IsPass, seen_of}
 use Rattle.ks_shape.specs.Stretches.{Stretches}
 use Rattle.ks_shape.specs.Frees.{Counts}
-use Rattle.ks_tidy.specs.Pair.{FreesAny, IsPair, IsWhole}
+use Rattle.ks_tidy.specs.Pair.{ComesAgain, IsPair, IsWhole}
 use Rattle.ks_shape.specs.Does.{DoesOnly, MayDel}
 use Rattle.ks_tidy.proofs.descent.come_down.Given as goal
 
@@ -16,5 +17,5 @@ invariant-loop g l =
     × Stretches l.fn.pass.caller (seen_of l.fn.pass) (seen_of l.pass)
     × Counts l.fn.pass.caller (seen_of l.fn.pass) (seen_of l.pass) l.freed
     × DoesOnly (MayDel (sort_of g.N.Node.layout g.N.Node.ranged)) l.fn.pass.caller (seen_of l.fn.pass) (seen_of l.pass)
-    × FreesAny l.fn.pass.caller (seen_of l.fn.pass) (seen_of l.pass) l.any
+    × ComesAgain (in_place g.N.Node.layout) l.fn.pass.caller (seen_of l.fn.pass) (seen_of l.pass) l.again
     × IsWhole l.path

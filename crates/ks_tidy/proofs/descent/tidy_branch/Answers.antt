@@ -3,7 +3,8 @@ use Rattle.ks_arena.specs.Clauses.{hand_of, seen_of}
 use Rattle.ks_shape.specs.Laws.Stretches.{stretches_here}
 use Rattle.ks_shape.specs.Laws.Frees.{counts_of, frees_here}
 use Rattle.ks_tidy.proofs.Keeping.{few_on}
-use Rattle.ks_tidy.proofs.Any.{any_here}
+use Rattle.ks_tidy.proofs.Again.{again_here}
+use Rattle.ks_node.specs.Room.{in_place}
 use Rattle.ks_arena.specs.Sound.{sort_of}
 use Rattle.ks_shape.specs.Does.{MayDel}
 use Rattle.ks_shape.specs.Laws.Does.{does_none}
@@ -15,8 +16,8 @@ returns-clause-stretch g c = let me : ℕ = c.args.pass.now.caller in stretches_
 pub returns-clause-counts : goal.returns-clause-counts
 returns-clause-counts g c = let me : ℕ = c.args.pass.now.caller in let h = seen_of c.args.pass.now in counts_of me 0 h h (omega arith) (frees_here me h)
 
-pub returns-clause-any : goal.returns-clause-any
-returns-clause-any g c = any_here c.args.pass.now.caller (seen_of c.args.pass.now)
+pub returns-clause-again : goal.returns-clause-again
+returns-clause-again g c = again_here (in_place g.N.Node.layout) c.args.pass.now.caller (seen_of c.args.pass.now)
 
 pub returns-then-is_branch-clause-dels : goal.returns-then-is_branch-clause-dels
 returns-then-is_branch-clause-dels g c = c.tidy_node.ensures.dels refl

@@ -7,7 +7,8 @@ use Rattle.ks_arena.specs.Clauses.{seen_of}
 use Rattle.ks_shape.specs.Laws.Stretches.{stretches_as, stretches_both}
 use Rattle.ks_shape.specs.Laws.Frees.{counts_on, frees_as, frees_begins, undisturbed_same}
 use Rattle.ks_tidy.specs.Pair.{IsPair, IsWhole}
-use Rattle.ks_tidy.proofs.Any.{any_on}
+use Rattle.ks_tidy.proofs.Again.{again_on}
+use Rattle.ks_node.specs.Room.{in_place}
 use Rattle.ks_tidy.proofs.Standing.{plain, stands_now}
 use Rattle.ks_shape.specs.Laws.Does.{dels_search}
 use Rattle.ks_tidy.proofs.descent.tidy_end.Goals as goal
@@ -23,9 +24,9 @@ pub returns-clause-counts : goal.returns-clause-counts
 returns-clause-counts g c = let me : ℕ = c.args.pass.now.caller in let h = seen_of c.args.pass.now in let h₁ = seen_of c.tidy_node-path.new.pass in let k = seen_of c.leave.new.pass in
     counts_on me c.tidy_node-path.result.freed h h₁ k c.tidy_node-path.ensures.counts (frees_as me c.tidy_node-path.new.pass.caller h₁ k c.tidy_node-path.ensures.caller c.leave.ensures.frees)
 
-pub returns-clause-any : goal.returns-clause-any
-returns-clause-any g c = let me : ℕ = c.args.pass.now.caller in let h = seen_of c.args.pass.now in let h₁ = seen_of c.tidy_node-path.new.pass in let k = seen_of c.leave.new.pass in let e = c.tidy_node-path.ensures in
-    any_on me e.counts.count h h₁ k c.tidy_node-path.result.any e.counts.frees e.any (frees_as me c.tidy_node-path.new.pass.caller h₁ k e.caller c.leave.ensures.frees)
+pub returns-clause-again : goal.returns-clause-again
+returns-clause-again g c = let me : ℕ = c.args.pass.now.caller in let h = seen_of c.args.pass.now in let h₁ = seen_of c.tidy_node-path.new.pass in let k = seen_of c.leave.new.pass in let e = c.tidy_node-path.ensures in
+    again_on (in_place g.N.Node.layout) me e.counts.count h h₁ k c.tidy_node-path.result.again e.counts.frees e.again (frees_as me c.tidy_node-path.new.pass.caller h₁ k e.caller c.leave.ensures.frees)
 
 pub returns-clause-tidy : goal.returns-clause-tidy
 returns-clause-tidy g c = λ last alone. let sort = sort_of g.N.Node.layout g.N.Node.ranged in let n : ℕ = c.args.arena.now.table.shared.table_id.slots in let me : ℕ = c.args.pass.now.caller in let h = seen_of c.args.pass.now in let h₁ = seen_of c.tidy_node-path.new.pass in let k = seen_of c.leave.new.pass in let e = c.tidy_node-path.ensures in let x = c.tidy_node-path.result.path.node in
@@ -33,7 +34,7 @@ returns-clause-tidy g c = λ last alone. let sort = sort_of g.N.Node.layout g.N.
     let stands = stands_now sort g.N.Node.body h₁ x e.pair.path.live e.pair.path.matches (plain (g.N.Node.body x.body) c.node_law.ensures.sound c.node_law.ensures.framed (c.unlinked_law.ensures.no_link x.body)) in
     let whole : IsWhole c.tidy_node-path.result.path = λ none. elim (e.pair.rooted none) [
       | inl root ↦ root
-      | inr on ↦ (let at = last on in subst IsWhole (sym (e.rests at.1)) at.0 none)
+      | inr on ↦ (let at = last on in subst IsWhole (sym (e.rests at.1 on)) at.0 none)
     ] in
     let done = c.tidied_law.ensures.tidy g.N.Node.layout (graph_after h₁) (frame_after (blank_of sort) h₁) x.node c.args.place (g.N.Node.body x.body) ((c.search_law.ensures sort n).good h₁ e.pass.sound) stands (e.places.keyset c.args.place c.requires.ends) (λ low. e.tested whole (inr low) (alone_first me h h₁ k a b alone)) in
     c.tidy_law.ensures.along g.N.Node.layout (graph_after h₁) (graph_after k) (frame_after (blank_of sort) h₁) (frame_after (blank_of sort) k) c.args.place (undisturbed_same me (blank_of sort) h₁ k (record { alone = alone_then me h h₁ k a b alone; none = left })) done

@@ -7,7 +7,7 @@ use Rattle.ks_shape.specs.Stretches.{Stretches}
 use Rattle.ks_shape.specs.Laws.Stretches.{stretches_as, stretches_begins, stretches_both}
 use Rattle.ks_shape.specs.Does.{MayDel}
 use Rattle.ks_shape.specs.Laws.Does.{does_on}
-use Rattle.ks_tidy.proofs.Any.{neither}
+use Rattle.ks_tidy.proofs.Again.{neither}
 use Rattle.ks_tidy.proofs.descent.tidy_on.Goals as goal
 
 pub returns-then-comes_again-clause-stretch : goal.returns-then-comes_again-clause-stretch
@@ -24,4 +24,4 @@ pub returns-then-comes_again-clause-dels : goal.returns-then-comes_again-clause-
 returns-then-comes_again-clause-dels g c = does_on (MayDel (sort_of g.N.Node.layout g.N.Node.ranged)) c.args.pass.now.caller c.tidy_end-ended.new.pass.caller (seen_of c.args.pass.now) (seen_of c.tidy_end-ended.new.pass) (seen_of c.pair_tidy.new.pass) c.tidy_end-ended.ensures.caller c.tidy_end-ended.ensures.dels c.pair_tidy.ensures.dels
 
 pub returns-clause-tidy : goal.returns-clause-tidy
-returns-clause-tidy g c = λ alone. c.tidy_end-ended.ensures.tidy (λ on. let off = neither c.args.any c.tidy_end-ended.result.any (sym c.either.ensures ∙ c.comes_again.ensures.ends c.if-comes_again.false on) in (c.requires.whole off.0, off.1)) alone
+returns-clause-tidy g c = λ alone. c.tidy_end-ended.ensures.tidy (λ on. let off = neither c.args.again c.tidy_end-ended.result.again (sym c.either.ensures ∙ c.comes_again.ensures.ends c.if-comes_again.false on) in (c.requires.whole off.0, off.1)) alone

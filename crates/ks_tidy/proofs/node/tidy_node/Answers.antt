@@ -3,15 +3,15 @@ use Rattle.std.specs.Prelude.{◌⊎◌, IsTrue}
 use Rattle.ks_history.specs.Alone.{ActsAlone}
 use Rattle.ks_history.specs.Laws.Alone.{alone_then}
 use Rattle.ks_history.specs.Trace.{graph_after}
-use Rattle.ks_node.specs.Room.{is_low}
+use Rattle.ks_node.specs.Room.{in_place, is_low}
 use Rattle.ks_arena.specs.Sound.{sort_of}
 use Rattle.ks_arena.specs.Clauses.{hand_of, seen_of}
 use Rattle.ks_shape.specs.declared.path.Path.{Path}
 use Rattle.ks_shape.specs.Laws.Places.{places_both}
 use Rattle.ks_shape.specs.Laws.Stretches.{stretches_as, stretches_both, stretches_here}
 use Rattle.ks_shape.specs.Laws.Frees.{counts_more, counts_of, counts_on, frees_as, frees_begins, frees_both, frees_here, frees_same, undisturbed_first}
-use Rattle.ks_tidy.specs.Pair.{FitsAlone, IsNoSole, IsPair, IsWhole}
-use Rattle.ks_tidy.proofs.Any.{any_here, any_more, any_on}
+use Rattle.ks_tidy.specs.Pair.{ComesAgain, FitsAlone, IsNoSole, IsPair, IsWhole}
+use Rattle.ks_tidy.proofs.Again.{again_here, again_more, again_on}
 use Rattle.ks_tidy.proofs.Keeping.{few_on}
 use Rattle.ks_tidy.proofs.Steps.{places_here}
 use Rattle.ks_shape.specs.Does.{MayDel}
@@ -28,8 +28,8 @@ loop-init g c = let me : ℕ = c.args.pass.now.caller in let h = seen_of c.args.
   counts_of me 0 h h (omega arith) (frees_here me h),
   (λ calm. refl),
   (λ off. does_none (MayDel (sort_of g.N.Node.layout g.N.Node.ranged)) me h),
-  any_here me h,
-  (λ off. refl),
+  again_here (in_place g.N.Node.layout) me h,
+  (λ off on. refl),
 )
 
 pub loop-preserved : goal.loop-preserved
@@ -43,8 +43,8 @@ loop-preserved g c = let me : ℕ = c.args.pass.now.caller in let s = seen_of c.
       counts_more me c.loop.freed 1 s h k inv.5 one,
       (λ calm. absurd (let zero = frees_same me (inv.5.count + 1) 0 s k (frees_both me inv.5.count 1 s h k inv.5.frees one) calm.none in omega (arith, zero))),
       (λ off. does_on (MayDel (sort_of g.N.Node.layout g.N.Node.ranged)) me c.loop.pass.caller s h k inv.1 (inv.7 off) (e.dels off)),
-      any_more me inv.5.count s h k inv.5.frees one,
-      (λ off. absurd (let q : true ≡ false = off in let z : ⊥ = cc in z)),
+      subst (ComesAgain (in_place g.N.Node.layout) me s k) (sym c.grows_in_place-again.ensures) (again_more (in_place g.N.Node.layout) me inv.5.count s h k inv.5.frees one),
+      (λ off on. absurd (let q : true ≡ false = sym on ∙ sym c.grows_in_place-again.ensures ∙ off in let z : ⊥ = cc in z)),
     )
 
 pub returns-in-Rests-clause-pair : goal.returns-in-Rests-clause-pair
@@ -66,12 +66,12 @@ pub returns-in-Rests-clause-same : goal.returns-in-Rests-clause-same
 returns-in-Rests-clause-same g c = λ calm. let me : ℕ = c.args.pass.now.caller in let s = seen_of c.args.pass.now in let h = seen_of c.loop.pass in let k = seen_of c.tidy_once.new.pass in let inv = c.loop.invariant in
     c.in-Rests.ensures.step.same ∙ inv.6 (undisturbed_first me inv.5.count 0 s h k inv.5.frees (frees_as me c.loop.pass.caller h k inv.1 c.in-Rests.ensures.step.frees) calm)
 
-pub returns-in-Rests-clause-any : goal.returns-in-Rests-clause-any
-returns-in-Rests-clause-any g c = let me : ℕ = c.args.pass.now.caller in let s = seen_of c.args.pass.now in let h = seen_of c.loop.pass in let k = seen_of c.tidy_once.new.pass in let inv = c.loop.invariant in
-    any_on me inv.5.count s h k c.loop.any inv.5.frees inv.8 (frees_as me c.loop.pass.caller h k inv.1 c.in-Rests.ensures.step.frees)
+pub returns-in-Rests-clause-again : goal.returns-in-Rests-clause-again
+returns-in-Rests-clause-again g c = let me : ℕ = c.args.pass.now.caller in let s = seen_of c.args.pass.now in let h = seen_of c.loop.pass in let k = seen_of c.tidy_once.new.pass in let inv = c.loop.invariant in
+    again_on (in_place g.N.Node.layout) me inv.5.count s h k c.loop.again inv.5.frees inv.8 (frees_as me c.loop.pass.caller h k inv.1 c.in-Rests.ensures.step.frees)
 
 pub returns-in-Rests-clause-rests : goal.returns-in-Rests-clause-rests
-returns-in-Rests-clause-rests g c = λ off. c.in-Rests.ensures.step.same ∙ c.loop.invariant.9 off
+returns-in-Rests-clause-rests g c = λ off on. c.in-Rests.ensures.step.same ∙ c.loop.invariant.9 off on
 
 pub returns-in-Rests-clause-no_sole : goal.returns-in-Rests-clause-no_sole
 returns-in-Rests-clause-no_sole g c = let step = c.in-Rests.ensures.step in subst (λ (z : Path g.row.N.Denot). IsNoSole (sort_of g.N.Node.layout g.N.Node.ranged) g.N.Node.body z.parent) (sym step.same) step.no_sole

@@ -1,12 +1,14 @@
 use Rattle.std.proofs.Common.{◌≡◌, false}
+use Rattle.std.specs.Prelude.{IsTrue}
 use Rattle.ks_flow.specs.Discipline.{BeginsTree, TreeStep}
 use Rattle.ks_history.specs.Trace.{graph_after}
+use Rattle.ks_node.specs.Room.{in_place}
 use Rattle.ks_arena.specs.Sound.{sort_of}
 use Rattle.ks_arena.specs.Clauses.{IsPass, seen_of}
 use Rattle.ks_shape.specs.Places.{HasPlacesOf}
 use Rattle.ks_shape.specs.Stretches.{Stretches}
 use Rattle.ks_shape.specs.Frees.{Counts, Undisturbed}
-use Rattle.ks_tidy.specs.Pair.{FreesAny, IsPair}
+use Rattle.ks_tidy.specs.Pair.{ComesAgain, IsPair}
 use Rattle.ks_shape.specs.Does.{DoesOnly, MayDel}
 use Rattle.ks_tidy.proofs.node.tidy_node.Given as goal
 
@@ -20,5 +22,5 @@ invariant-loop g l =
     × Counts l.fn.pass.caller (seen_of l.fn.pass) (seen_of l.pass) l.freed
     × (Undisturbed l.fn.pass.caller (seen_of l.fn.pass) (seen_of l.pass) → l.path ≡ l.fn.path)
     × (l.thorough ≡ false → DoesOnly (MayDel (sort_of g.N.Node.layout g.N.Node.ranged)) l.fn.pass.caller (seen_of l.fn.pass) (seen_of l.pass))
-    × FreesAny l.fn.pass.caller (seen_of l.fn.pass) (seen_of l.pass) l.any
-    × (l.any ≡ false → l.path ≡ l.fn.path)
+    × ComesAgain (in_place g.N.Node.layout) l.fn.pass.caller (seen_of l.fn.pass) (seen_of l.pass) l.again
+    × (l.again ≡ false → IsTrue (in_place g.N.Node.layout) → l.path ≡ l.fn.path)
