@@ -12,6 +12,7 @@ mod closed;
 mod dictionary;
 mod fit;
 mod guided;
+mod hinting;
 mod job;
 mod laws;
 mod merging;
