@@ -1,10 +1,11 @@
 //! Writing in pieces: bytes wait in a piece until it is full, and then it goes to the sink.
 
-ghost use Rattle.std.specs.Prelude.{ℕ, ◌≡◌, ◌+◌, ◌≤◌, ◌<◌, [], false, Option, List, ◌∷◌, ◌++◌, OnOk, OnErr, codes, map, length};
+ghost use Rattle.std.specs.Prelude.{ℕ, ◌≡◌, ◌≢◌, ◌+◌, ◌≤◌, ◌<◌, [], false, Option, List, ◌∷◌, ◌++◌, OnOk, OnErr, codes, map, length};
 ghost use Rattle.std.specs.Fmt.{decimal};
 ghost use Rattle.arrayvec.specs.ArrayVec.{array_vec_len};
 ghost use Rattle.ks_script.specs.Lines.{ended, text_of};
-ghost use Rattle.ks_script.specs.Run.{reply_line, pair_line, callers_from, map_lines};
+ghost use Rattle.ks_history.specs.declared.Reply.TheVariants.{Value};
+ghost use Rattle.ks_script.specs.Run.{reply_line, reply_word, pair_line, callers_from, map_lines};
 ghost use Rattle.ks_script.specs.Plain.{IsPlain};
 ghost use Rattle.ks_script.specs.Outside.{Rose, Grew, GrewByFront};
 ghost use Rattle.ks_script.specs.Pieces.{Holds, Puts};
@@ -153,17 +154,19 @@ fn put_pair<K: Sink>(out: &mut K, piece: &mut Piece, key: u64, value: u128)
     put(out, piece, line.bytes());
 }
 
-// The line of a call whose reply is a word: a number, and the rest of the line.
+// What ends the line of a call whose plain reply has no value.
 #[inline(always)]
-fn put_told<K: Sink>(out: &mut K, piece: &mut Piece, number: u64, word: &[u8])
-    requires { length word.now ≤ 8 }
-    ensures { Puts (K.taken out.old) (K.faults out.old) piece.old (decimal number ++ word.now)
-        (K.taken out.new) (K.faults out.new) piece.new }
+fn word_of(reply: &Reply) -> &'static [u8]
+    requires plain { IsPlain reply.now }
+    requires word { (v : ℕ) → reply.now ≢ Value v }
+    ensures word { result.now ≡ codes " " ++ (reply_word reply.now ++ codes "\n") }
+    ensures short { length result.now ≤ 8 }
 {
-    let mut line = Ending::new();
-    line.word(word);
-    line.number(number);
-    put(out, piece, line.bytes());
+    match reply {
+        Reply::Nothing => b" none\n",
+        Reply::Full => b" full\n",
+        Reply::Value(_) | Reply::Listed(_) | Reply::Kept => unreachable!(),
+    }
 }
 
 // The line of a call with a plain reply.
@@ -172,12 +175,14 @@ fn put_reply<K: Sink>(out: &mut K, piece: &mut Piece, line: &(u64, Reply))
     ensures { Puts (K.taken out.old) (K.faults out.old) piece.old (ended (reply_line line.now))
         (K.taken out.new) (K.faults out.new) piece.new }
 {
-    match &line.1 {
-        Reply::Nothing => put_told(out, piece, line.0, b" none\n"),
-        Reply::Value(value) => put_pair(out, piece, line.0, *value),
-        Reply::Full => put_told(out, piece, line.0, b" full\n"),
-        Reply::Listed(_) | Reply::Kept => unreachable!(),
+    if let Reply::Value(value) = &line.1 {
+        put_pair(out, piece, line.0, *value);
+        return;
     }
+    let mut text = Ending::new();
+    text.word(word_of(&line.1));
+    text.number(line.0);
+    put(out, piece, text.bytes());
 }
 
 // The lines of a caller.
