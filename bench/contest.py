@@ -145,20 +145,21 @@ class Served:
 
 
 class Spanned(ByWorkers):
-    """The generated calls of 64 callers as a script. Reading and printing are in no times: what is told is the span of the
+    """A script of 64 callers. Reading and printing are in no times: what is told is the span of the
     threads. The program works on its own thread too and starts none for one worker, so its span by one worker is that of
     two, of whom the second is held until the first has served all."""
 
-    def __init__(self, calls, folder):
+    def __init__(self, calls, folder, text, nodes):
         super().__init__(calls)
+        self.nodes = nodes
         self.script = os.path.join(folder, "calls")
         self.span = os.path.join(folder, "span")
         with open(self.script, "w") as file:
-            file.write(scripts.generated(calls))
+            file.write(text)
 
     def spanned(self, entrant, workers, **variables):
         """The seconds of the command and of its threads, and what it printed."""
-        command = entrant.serving(workers, contenders.NODES_FOR_GENERATED)
+        command = entrant.serving(workers, self.nodes)
         open(self.span, "wb").close()
         whole, printed = timed(command, self.script, LD_PRELOAD=contenders.SPAN, SPAN=self.span, **variables)
         with open(self.span, "rb") as file:

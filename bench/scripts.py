@@ -109,6 +109,53 @@ def generated(calls):
 
 
 @dataclass(frozen=True)
+class Spread:
+    """Which keys the callers draw from a great space, of which each has a share of its own."""
+
+    name: str
+    is_skewed: bool
+    is_apart: bool
+
+
+GREAT_KEYS = 1_048_576
+GREAT_CALLS = 16_384
+GREAT_VALUES = 1_000
+SHARE = GREAT_KEYS // CALLERS
+SPREADS = (
+    Spread("mixed: keys of all callers lie among one another", False, False),
+    Spread("apart: the keys of a caller lie side by side", False, True),
+    Spread("skewed: mixed, and nine of ten draws are from a tenth, three times nested", True, False),
+)
+
+
+def spread_key(spread, caller, drawn):
+    """A key of the caller's share. Those that are drawn often lie scattered in it."""
+    at = drawn.draw() % SHARE
+    if spread.is_skewed:
+        many = SHARE
+        for _ in range(3):
+            if drawn.draw() % 10 == 0:
+                break
+            many //= 10
+        at = at % many * 2654435761 % SHARE
+    return caller * SHARE + at if spread.is_apart else caller + CALLERS * at
+
+
+def spread(spread, calls):
+    """The text of so many calls of each caller over an empty map, with the generator's mix. Values are short, for a text of
+    16 MiB at most."""
+    drawn = Drawn(FIRST)
+    lines = []
+    for caller in range(CALLERS):
+        lines.append("caller")
+        for _ in range(calls):
+            kind = GENERATED.kinds[drawn.draw() % 4]
+            key = spread_key(spread, caller, drawn)
+            lines.append(line_of(kind, key, drawn.draw() % GREAT_VALUES))
+    return "\n".join(lines) + "\n"
+
+
+@dataclass(frozen=True)
 class Text:
     """A script of 64 callers at random, by a fixed seed, over 16,384 keys: all below that number, or any of 64 bits."""
 
