@@ -66,8 +66,8 @@ impl Leaves {
         requires { Holds place spot }
         ensures { guess_of self.new place ≡ Some spot.node }
     {
-        let set = self.sets[self.set_of(place)];
-        if set.has(spot) && set.guess(place) == Some(spot.node) {
+        let at = self.set_of(place);
+        if self.sets[at].is_settled(place, spot) {
             return;
         }
         self.fit(spot.last - spot.low);

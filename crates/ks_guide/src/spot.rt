@@ -50,10 +50,13 @@ impl Two {
         None
     }
 
-    /// Whether one of the two is this spot.
+    /// Whether the first is this spot, and the second leads the place nowhere else.
     #[inline(always)]
-    pub fn has(&self, spot: Spot) -> bool {
-        self.first == spot || self.second == spot
+    pub fn is_settled(&self, place: u64, spot: Spot) -> bool
+        requires { Holds place spot }
+        ensures { IsTrue result → guess_in place self.now ≡ Some spot.node }
+    {
+        self.first == spot && !self.second.holds(place)
     }
 
     /// The two spots after a note at the place: the new spot, and the first one before, unless that was of the same node or
