@@ -1,0 +1,11 @@
+//! What workers ask of a technique: the calls of a script, each of which may begin where an aid says.
+//!
+//! An `Aid` says of a place at which node a call may begin, and notes where the call was decided: a guide is one. Calls
+//! that take an aid are those of the trait `Serving`, which each technique has; a worker is generic over it and no other.
+#![tactic(auto)]
+
+mod aid;
+mod serving;
+
+pub use aid::{Admits, Aid, noting};
+pub use serving::Serving;
