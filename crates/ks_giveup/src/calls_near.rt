@@ -28,7 +28,8 @@ use std::sync::Wait;
 
 /// Returns the value at a place, the number of the call, and where it was decided. It begins at the hint, and holds one
 /// node at a time.
-fn get_near<N: Ranged + Unlinked, R: Wait, G: Gate>(
+#[inline(always)]
+pub(crate) fn get_near<N: Ranged + Unlinked, R: Wait, G: Gate>(
     rt: &R,
     arena: &Arena<N, Tree>,
     pass: &mut Pass<N, Tree>,
@@ -52,7 +53,8 @@ fn get_near<N: Ranged + Unlinked, R: Wait, G: Gate>(
 
 /// Puts or adds a value at a place; returns the value that was there, the number of the call, and where it was decided. It
 /// begins at the hint; if the node where its search ends has no room, it continues by lock coupling, from the root.
-fn fill_near<N: Ranged + Unlinked, R: Wait, G: Gate>(
+#[inline(always)]
+pub(crate) fn fill_near<N: Ranged + Unlinked, R: Wait, G: Gate>(
     rt: &R,
     arena: &Arena<N, Tree>,
     pass: &mut Pass<N, Tree>,
@@ -83,7 +85,8 @@ fn fill_near<N: Ranged + Unlinked, R: Wait, G: Gate>(
 
 /// Puts `new` at a place if the value there is `old`; returns the value that was there, the number of the call, and where it
 /// was decided. It searches as `get_near` does.
-fn swap_near<N: Ranged + Unlinked, R: Wait, G: Gate>(
+#[inline(always)]
+pub(crate) fn swap_near<N: Ranged + Unlinked, R: Wait, G: Gate>(
     rt: &R,
     arena: &Arena<N, Tree>,
     pass: &mut Pass<N, Tree>,
@@ -111,7 +114,8 @@ fn swap_near<N: Ranged + Unlinked, R: Wait, G: Gate>(
 /// Deletes what is at a place; returns the value that was there, the number of the call, and where it was decided. It
 /// searches as `get_near` does. If it removed a pair and left the node low, it continues by lock coupling, from the root,
 /// to merge on the search path and at that node.
-fn del_near<N: Ranged + Unlinked, R: Wait, G: Gate>(
+#[inline(always)]
+pub(crate) fn del_near<N: Ranged + Unlinked, R: Wait, G: Gate>(
     rt: &R,
     arena: &Arena<N, Tree>,
     pass: &mut Pass<N, Tree>,

@@ -14,6 +14,7 @@ mod merging;
 mod moves;
 mod near;
 mod scans;
+mod serving;
 mod technique;
 mod tries;
 mod try_descent;
