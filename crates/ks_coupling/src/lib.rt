@@ -10,6 +10,7 @@
 mod calls;
 mod descent;
 mod merging;
+mod serving;
 mod technique;
 mod tries;
 mod try_descent;
