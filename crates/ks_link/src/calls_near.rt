@@ -34,7 +34,8 @@ use std::sync::Wait;
 
 /// Returns the value at a place, the number of the call, and where it was decided. It begins at the hint, and holds one
 /// node at a time.
-fn get_near<N: Linked, R: Wait, G: Gate>(
+#[inline(always)]
+pub(crate) fn get_near<N: Linked, R: Wait, G: Gate>(
     rt: &R,
     arena: &Arena<N, Link>,
     pass: &mut Pass<N, Link>,
@@ -58,7 +59,8 @@ fn get_near<N: Linked, R: Wait, G: Gate>(
 
 /// Deletes what is at a place; returns the value that was there, the number of the call, and where it was decided. It
 /// searches as `get_near` does, and no nodes are merged under links.
-fn del_near<N: Linked, R: Wait, G: Gate>(
+#[inline(always)]
+pub(crate) fn del_near<N: Linked, R: Wait, G: Gate>(
     rt: &R,
     arena: &Arena<N, Link>,
     pass: &mut Pass<N, Link>,
@@ -82,7 +84,8 @@ fn del_near<N: Linked, R: Wait, G: Gate>(
 
 /// Sets the value at a place to `new` if it is `old`; returns the value that was there, the number of the call, and where it
 /// was decided. It searches as `get_near` does.
-fn swap_near<N: Linked, R: Wait, G: Gate>(
+#[inline(always)]
+pub(crate) fn swap_near<N: Linked, R: Wait, G: Gate>(
     rt: &R,
     arena: &Arena<N, Link>,
     pass: &mut Pass<N, Link>,
@@ -142,7 +145,8 @@ fn fill_here<N: Linked, G: Gate>(
 
 /// Puts or adds a value at a place; returns the value that was there, the number of the call, and where it was decided. It
 /// begins at the hint. What was split off in the search is attached after the call has been decided.
-fn fill_near<N: Linked, R: Wait, G: Gate>(
+#[inline(always)]
+pub(crate) fn fill_near<N: Linked, R: Wait, G: Gate>(
     rt: &R,
     arena: &Arena<N, Link>,
     pass: &mut Pass<N, Link>,

@@ -16,6 +16,7 @@ mod parts;
 mod puts;
 mod room;
 mod scans;
+mod serving;
 mod template;
 mod tries;
 mod try_attaches;
