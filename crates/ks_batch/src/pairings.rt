@@ -9,6 +9,7 @@ ghost use Rattle.ks_history.specs.Asked.{AreAsked};
 ghost use Rattle.ks_arena.specs.Named.{AllNamedBelow};
 ghost use Rattle.ks_batch.specs.Pairings.{row_of};
 
+use ks_aid::Admits;
 use ks_dictionary::Told;
 use ks_gate::Gate;
 use ks_history::Op;
@@ -46,7 +47,7 @@ pub enum Pairing {
 }
 
 /// Serves all callers with `workers` workers, over an empty dictionary of the pairing with `nodes` nodes.
-pub fn serve_by<R: Threads + Wait + Sync, G: Gate + Sync>(
+pub fn serve_by<R: Threads + Wait + Sync, G: Gate + Admits + Sync>(
     rt: &R,
     alloc: Global,
     pairing: Pairing,

@@ -27,6 +27,7 @@ use crate::packing::{packed, unpacked};
 use crate::pairings::{Pairing, serve_by};
 use crate::status::{DONE, NO_COMMAND, NO_MEMORY, OUTPUT_FAILED, REFUSED, SOURCE_FAILED, WRONG};
 use crate::words::{Asked, Draft, MOST_WORKERS, command};
+use ks_aid::Admits;
 use ks_arena::RunTrace;
 use ks_dictionary::Told;
 use ks_gate::Gate;
@@ -88,7 +89,7 @@ fn to_print(alloc: Global, told: Told) -> Result<Ready, AllocError>
 }
 
 /// Serves a script by the pairing, over `arena` nodes, with `workers` workers.
-fn serve_packed<R: Threads + Wait + Sync, G: Gate + Sync>(
+fn serve_packed<R: Threads + Wait + Sync, G: Gate + Admits + Sync>(
     rt: &R,
     alloc: Global,
     pairing: Pairing,
@@ -116,7 +117,7 @@ fn serve_packed<R: Threads + Wait + Sync, G: Gate + Sync>(
 }
 
 /// Reads a script and serves it by the pairing, over `arena` nodes, with `workers` workers.
-fn prepare<R: Threads + Wait + Sync, S: Source, G: Gate + Sync>(
+fn prepare<R: Threads + Wait + Sync, S: Source, G: Gate + Admits + Sync>(
     rt: &R,
     alloc: Global,
     pairing: Pairing,
@@ -146,7 +147,7 @@ fn prepare<R: Threads + Wait + Sync, S: Source, G: Gate + Sync>(
 }
 
 /// The command `run`: serves the script on the source and writes the replies to its calls.
-fn serve_script<R: Threads + Wait + Sync, S: Source, K: Sink, G: Gate + Sync>(
+fn serve_script<R: Threads + Wait + Sync, S: Source, K: Sink, G: Gate + Admits + Sync>(
     rt: &R,
     alloc: Global,
     pairing: Pairing,
@@ -246,7 +247,7 @@ fn check_run<S: Source, K: Sink>(alloc: Global, source: &mut S, out: &mut K) -> 
 }
 
 /// Makes a script, serves it by the pairing over `arena` nodes with `workers` workers, and sums it up. Writes nothing.
-pub fn make<R: Threads + Wait + Sync, G: Gate + Sync>(
+pub fn make<R: Threads + Wait + Sync, G: Gate + Admits + Sync>(
     rt: &R,
     alloc: Global,
     pairing: Pairing,
@@ -282,7 +283,7 @@ pub struct Made {
 }
 
 /// The command `make`: serves a script that is made, with as many workers as there can be, and writes the summary.
-fn make_run<R: Threads + Wait + Sync, K: Sink, G: Gate + Sync>(
+fn make_run<R: Threads + Wait + Sync, K: Sink, G: Gate + Admits + Sync>(
     rt: &R,
     alloc: Global,
     pairing: Pairing,
@@ -332,7 +333,7 @@ fn make_run<R: Threads + Wait + Sync, K: Sink, G: Gate + Sync>(
 /// each caller in its order; at every moment the keysets of the live nodes are disjoint and cover all keys; and `full`
 /// is the reply only if that call found every node not free. Splits, merges and the use of a node again are steps like
 /// all others. It holds if the call returns, memory does not run out, and source and sink do not fail.
-pub fn serve<R: Threads + Wait + Sync, S: Source, K: Sink, E: Sink, G: Gate + Sync>(
+pub fn serve<R: Threads + Wait + Sync, S: Source, K: Sink, E: Sink, G: Gate + Admits + Sync>(
     rt: &R,
     alloc: Global,
     words: &[String],

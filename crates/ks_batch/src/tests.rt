@@ -15,6 +15,7 @@ mod workers;
 
 use crate::serve;
 use itoa::Buffer;
+use ks_aid::Admits;
 use ks_gate::{Gate, NoGate};
 use ks_script::{MemSink, MemSource};
 use std::alloc::{AllocError, Global};
@@ -38,7 +39,7 @@ fn split(alloc: Global, words: &str) -> Result<Vec<String>, AllocError> {
 }
 
 /// Runs the program on these ends, with the gate for its callers.
-fn run_ends<R: Threads + Wait + Sync, G: Gate + Sync>(
+fn run_ends<R: Threads + Wait + Sync, G: Gate + Admits + Sync>(
     rt: &R,
     alloc: Global,
     words: &str,
@@ -57,7 +58,7 @@ fn run_ends<R: Threads + Wait + Sync, G: Gate + Sync>(
 }
 
 /// Runs the program on these ends, with an error output that takes all.
-fn run_on<R: Threads + Wait + Sync, G: Gate + Sync>(
+fn run_on<R: Threads + Wait + Sync, G: Gate + Admits + Sync>(
     rt: &R,
     alloc: Global,
     words: &str,
@@ -70,7 +71,7 @@ fn run_on<R: Threads + Wait + Sync, G: Gate + Sync>(
 }
 
 /// Runs the program with ends that return and take at most `most` bytes at a time.
-fn run_at<R: Threads + Wait + Sync, G: Gate + Sync>(
+fn run_at<R: Threads + Wait + Sync, G: Gate + Admits + Sync>(
     rt: &R,
     alloc: Global,
     words: &str,

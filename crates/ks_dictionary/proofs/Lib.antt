@@ -2,3 +2,4 @@ pub mod Calling
 pub mod Joined
 pub mod Keyed
 pub mod Stored
+pub mod Staffed

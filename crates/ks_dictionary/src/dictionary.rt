@@ -7,7 +7,7 @@ ghost use Rattle.ks_history.specs.Trace.{◌⊑◌};
 ghost use Rattle.ks_history.specs.Callers.{CallersBelow};
 ghost use Rattle.ks_history.specs.Passes.{GrowsByOthers};
 ghost use Rattle.ks_arena.specs.Reuse.{ReusesSafely};
-ghost use Rattle.ks_arena.specs.Sound.{sort_of, Sound};
+ghost use Rattle.ks_arena.specs.Sound.{blank_of, sort_of, Sound};
 ghost use Rattle.ks_arena.specs.Clauses.{EndsAll, noted, seen_of};
 ghost use Rattle.ks_arena.specs.Of.{HeldAlone, WasAlone, SameCaller, caller_of};
 ghost use Rattle.ks_shape.specs.Answers.{number_in, reply_in};
@@ -52,6 +52,26 @@ impl<N: Node, T: Ruled> Shelf for Dictionary<N, T> {
     ghost site = { λ d. ⟦<Arena<N, T::Rule> as Shelf>⟧.site d.arena };
 }
 
+impl<N: Node, T: Ruled> Dictionary<N, T> {
+    /// An empty dictionary over `nodes` nodes, as `start`, whose technique's rule admits a blank node.
+    pub(crate) fn start_fit(
+        alloc: Global,
+        nodes: u32,
+        callers: u32,
+    ) -> Result<(Dictionary<N, T>, Vec<Pass<N, T::Rule>>), AllocError>
+        requires fits { T.Rule.begins (blank_of (sort_of N.layout N.ranged)) }
+        requires nodes { (4 ≤ nodes) × (nodes ≤ 1048576) }
+        requires callers { (1 ≤ callers) × (callers ≤ 1024) }
+        ensures nodes { IfOk result (λ r. nodes_of r.0 ≡ nodes) }
+        ensures callers { IfOk result (λ r. callers_of r.0 ≡ callers) }
+        ensures passes { IfOk result (λ r. AreNewPassesOf r.0 r.1.items) }
+        ensures order { IfOk result (λ r. AreOrderedPassesOf r.0 r.1.items) }
+    {
+        let (arena, passes) = Arena::<N, T::Rule>::start(alloc, nodes, callers)?;
+        Ok((Dictionary { arena }, passes))
+    }
+}
+
 impl<N: Node, T: Ruled + Template<N, Arena<N, <T as Ruled>::Rule>>> Dictionary<N, T> {
     /// An empty dictionary over `nodes` nodes, and a pass for each caller.
     ///
@@ -71,8 +91,7 @@ impl<N: Node, T: Ruled + Template<N, Arena<N, <T as Ruled>::Rule>>> Dictionary<N
         ensures order { IfOk result (λ r. AreOrderedPassesOf r.0 r.1.items) }
     {
         T::fits();
-        let (arena, passes) = Arena::<N, T::Rule>::start(alloc, nodes, callers)?;
-        Ok((Dictionary { arena }, passes))
+        Dictionary::<N, T>::start_fit(alloc, nodes, callers)
     }
 
     /// Returns the value of a key.
@@ -339,7 +358,9 @@ impl<N: Node, T: Ruled + Template<N, Arena<N, <T as Ruled>::Rule>>> Dictionary<N
         tries_law();
         T::try_del(&self.arena, pass, gate, N::Places::place(key))
     }
+}
 
+impl<N: Node, T: Ruled> Dictionary<N, T> {
     /// A note of what the pass has seen, for another caller to learn. It makes no event.
     pub fn note(&self, pass: &mut Pass<N, T::Rule>) -> Note<N, T::Rule>
         requires { IsIdlePassOf self.now pass.old }

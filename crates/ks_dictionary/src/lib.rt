@@ -19,6 +19,7 @@ mod merging;
 mod moving;
 mod scanning;
 mod serving;
+mod worker;
 mod workers;
 
 pub use about::About;
@@ -28,4 +29,5 @@ pub use fit::fits_threads;
 pub use job::Job;
 pub use laws::{kept_law, once_law};
 pub use serving::{Told, serve_callers};
+pub use worker::Worker;
 pub use workers::work;

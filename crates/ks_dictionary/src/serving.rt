@@ -16,12 +16,14 @@ use crate::about::About;
 use crate::closed::Closed;
 use crate::dictionary::Dictionary;
 use crate::job::Job;
+use crate::worker::{desks_of, workers_at};
 use crate::workers::work;
+use ks_aid::{Admits, Serving};
 use ks_arena::{Arena, Pass, RunTrace};
 use ks_gate::Gate;
 use ks_history::{Op, Reply, keyset_theorem};
 use ks_node::Node;
-use ks_shape::{Ruled, Template};
+use ks_shape::Ruled;
 use ks_tickets::Tickets;
 use std::alloc::{AllocError, Global};
 use std::marker::{Brand, PhantomData};
@@ -99,9 +101,9 @@ fn workers_for(callers: usize, workers: u32) -> u32
 /// Serves all callers with the given number of workers, at most one for each caller, and ends the dictionary.
 fn serve_jobs<
     N: Node + Send,
-    T: Ruled + Template<N, Arena<N, <T as Ruled>::Rule>>,
+    T: Ruled + Serving<N, Arena<N, <T as Ruled>::Rule>>,
     R: Threads + Wait + Sync,
-    G: Gate + Sync,
+    G: Gate + Admits + Sync,
     W: About + Send + Sync,
 >(
     rt: &R,
@@ -131,14 +133,17 @@ where
     let jobs = jobs_of::<N, T::Rule, W>(alloc, passes, scripts)?;
     let into = Vec::with_capacity(alloc, jobs.len())?;
     let desks = workers_for(jobs.len(), workers);
-    let (tickets, mut desks) = Tickets::start(alloc, jobs, desks)?;
-    work(rt, &dictionary, gate, &tickets, desks.as_mut_slice());
-    let (passes, lines) = apart(alloc, tickets.close(desks, into))?;
+    let (tickets, desks) = Tickets::start(alloc, jobs, desks)?;
+    let guided = T::asks() && gate.admits_aid();
+    let mut workers = workers_at(alloc, desks, guided)?;
+    work(rt, &dictionary, gate, &tickets, workers.as_mut_slice());
+    let ended = desks_of(alloc, workers)?;
+    let (passes, lines) = apart(alloc, tickets.close(ended, into))?;
     Ok((dictionary.close(passes), lines))
 }
 
 /// A dictionary that ends at once, if there is no caller.
-fn serve_nobody<N: Node, T: Ruled + Template<N, Arena<N, <T as Ruled>::Rule>>>(
+fn serve_nobody<N: Node, T: Ruled + Serving<N, Arena<N, <T as Ruled>::Rule>>>(
     alloc: Global,
     nodes: u32,
 ) -> Result<Closed<N>, AllocError>
@@ -147,16 +152,17 @@ fn serve_nobody<N: Node, T: Ruled + Template<N, Arena<N, <T as Ruled>::Rule>>>(
     ensures called { IfOk result (λ closed. HaveCalled N.Places.place_of [] [] (history closed)) }
     ensures callers { IfOk result (λ closed. CallersBelow 0 (history closed)) }
 {
-    let (dictionary, passes) = Dictionary::<N, T>::start(alloc, nodes, 1)?;
+    T::fits();
+    let (dictionary, passes) = Dictionary::<N, T>::start_fit(alloc, nodes, 1)?;
     Ok(dictionary.close(passes))
 }
 
 /// Serves all callers over a dictionary that begins empty, and ends it.
 fn serve_all<
     N: Node + Send,
-    T: Ruled + Template<N, Arena<N, <T as Ruled>::Rule>>,
+    T: Ruled + Serving<N, Arena<N, <T as Ruled>::Rule>>,
     R: Threads + Wait + Sync,
-    G: Gate + Sync,
+    G: Gate + Admits + Sync,
 >(
     rt: &R,
     alloc: Global,
@@ -181,7 +187,8 @@ where
         return Ok((closed, Vec::new(alloc)));
     }
     let callers = scripts.len() as u32;
-    let (dictionary, passes) = Dictionary::<N, T>::start(alloc, nodes, callers)?;
+    T::fits();
+    let (dictionary, passes) = Dictionary::<N, T>::start_fit(alloc, nodes, callers)?;
     serve_jobs::<N, T, R, G, Brand>(rt, alloc, dictionary, gate, passes, scripts, workers)
 }
 
@@ -195,9 +202,9 @@ where
 /// Only lack of memory.
 pub fn serve_callers<
     N: Node + Send,
-    T: Ruled + Template<N, Arena<N, <T as Ruled>::Rule>>,
+    T: Ruled + Serving<N, Arena<N, <T as Ruled>::Rule>>,
     R: Threads + Wait + Sync,
-    G: Gate + Sync,
+    G: Gate + Admits + Sync,
 >(
     rt: &R,
     alloc: Global,

@@ -16,11 +16,14 @@ ghost use Rattle.ks_arena.specs.Of.{SameCaller, caller_of};
 use crate::about::About;
 use crate::dictionary::Dictionary;
 use crate::job::Job;
+use crate::worker::Worker;
+use ks_aid::{Aid, Serving};
 use ks_arena::{Arena, Pass};
 use ks_gate::Gate;
 use ks_history::{Op, Reply, reply_of};
 use ks_node::Node;
-use ks_shape::{Full, Numbered, Ruled, Template};
+use ks_places::Placing;
+use ks_shape::{Full, Numbered, Ruled};
 use ks_tickets::{Desk, Tickets};
 use std::sync::Wait;
 use std::thread::{Threads, for_each_mut};
@@ -43,12 +46,13 @@ fn line_in(answer: Result<Numbered, Full>) -> (u64, Reply)
     }
 }
 
-/// Makes one call, and returns its number and its reply.
-fn call<N: Node, T: Ruled + Template<N, Arena<N, <T as Ruled>::Rule>>, R: Wait, G: Gate>(
+/// Makes one call, which may begin where the aid says, and returns its number and its reply.
+fn call<N: Node, T: Ruled + Serving<N, Arena<N, <T as Ruled>::Rule>>, R: Wait, G: Gate, H: Aid>(
     rt: &R,
     dictionary: &Dictionary<N, T>,
     gate: &G,
     pass: &mut Pass<N, T::Rule>,
+    aid: &mut H,
     op: Op,
 ) -> (u64, Reply)
     requires pass { IsIdlePassOf dictionary.now pass.old }
@@ -60,21 +64,67 @@ fn call<N: Node, T: Ruled + Template<N, Arena<N, <T as Ruled>::Rule>>, R: Wait, 
         ++ numbered result.0 (at_place N.Places.place_of op) result.1 ∷ [] }
 {
     match op {
-        Op::Get(key) => line_of(dictionary.get(rt, pass, gate, key)),
-        Op::Put(key, value) => line_in(dictionary.put(rt, pass, gate, key, value)),
-        Op::Del(key) => line_of(dictionary.del(rt, pass, gate, key)),
-        Op::Add(key, value) => line_in(dictionary.add(rt, pass, gate, key, value)),
-        Op::Swap(key, old, new) => line_of(dictionary.swap(rt, pass, gate, key, old, new)),
+        Op::Get(key) => line_of(T::get_aided(
+            rt,
+            &dictionary.arena,
+            pass,
+            gate,
+            aid,
+            N::Places::place(key),
+        )),
+        Op::Put(key, value) => line_in(T::put_aided(
+            rt,
+            &dictionary.arena,
+            pass,
+            gate,
+            aid,
+            N::Places::place(key),
+            value,
+        )),
+        Op::Del(key) => line_of(T::del_aided(
+            rt,
+            &dictionary.arena,
+            pass,
+            gate,
+            aid,
+            N::Places::place(key),
+        )),
+        Op::Add(key, value) => line_in(T::add_aided(
+            rt,
+            &dictionary.arena,
+            pass,
+            gate,
+            aid,
+            N::Places::place(key),
+            value,
+        )),
+        Op::Swap(key, old, new) => line_of(T::swap_aided(
+            rt,
+            &dictionary.arena,
+            pass,
+            gate,
+            aid,
+            N::Places::place(key),
+            old,
+            new,
+        )),
         Op::Part(_, _) | Op::Move(_, _) => unreachable!(),
     }
 }
 
 /// Makes the calls of a script, in order, and writes down their numbers and replies.
-fn call_each<N: Node, T: Ruled + Template<N, Arena<N, <T as Ruled>::Rule>>, R: Wait, G: Gate>(
+fn call_each<
+    N: Node,
+    T: Ruled + Serving<N, Arena<N, <T as Ruled>::Rule>>,
+    R: Wait,
+    G: Gate,
+    H: Aid,
+>(
     rt: &R,
     dictionary: &Dictionary<N, T>,
     gate: &G,
     pass: &mut Pass<N, T::Rule>,
+    aid: &mut H,
     ops: &[Op],
     lines: &mut Vec<(u64, Reply)>,
 )
@@ -89,17 +139,19 @@ fn call_each<N: Node, T: Ruled + Template<N, Arena<N, <T as Ruled>::Rule>>, R: W
     ensures told { HasAnswered (caller_of pass.old) (seen_of pass.old) (seen_of pass.new) lines.new.items }
 {
     for at in 0..ops.len() {
-        lines.push_reserved(call(rt, dictionary, gate, pass, ops[at]));
+        lines.push_reserved(call(rt, dictionary, gate, pass, aid, ops[at]));
     }
 }
 
 /// Serves one caller.
-fn run_job<N: Node, T: Ruled + Template<N, Arena<N, <T as Ruled>::Rule>>, R: Wait, G: Gate, W>(
-    rt: &R,
-    dictionary: &Dictionary<N, T>,
-    gate: &G,
-    job: &mut Job<N, T::Rule, W>,
-)
+fn run_job<
+    N: Node,
+    T: Ruled + Serving<N, Arena<N, <T as Ruled>::Rule>>,
+    R: Wait,
+    G: Gate,
+    H: Aid,
+    W,
+>(rt: &R, dictionary: &Dictionary<N, T>, gate: &G, aid: &mut H, job: &mut Job<N, T::Rule, W>)
     requires { IsReadyJob (site_of dictionary.now) job.old }
     ensures { HasRun (site_of dictionary.now) N.Places.place_of job.old job.new }
 {
@@ -108,6 +160,7 @@ fn run_job<N: Node, T: Ruled + Template<N, Arena<N, <T as Ruled>::Rule>>, R: Wai
         dictionary,
         gate,
         &mut job.pass,
+        aid,
         job.ops.as_slice(),
         &mut job.lines,
     );
@@ -116,9 +169,10 @@ fn run_job<N: Node, T: Ruled + Template<N, Arena<N, <T as Ruled>::Rule>>, R: Wai
 /// Draws callers at the desk and serves each, until none is left.
 fn work_at<
     N: Node,
-    T: Ruled + Template<N, Arena<N, <T as Ruled>::Rule>>,
+    T: Ruled + Serving<N, Arena<N, <T as Ruled>::Rule>>,
     R: Wait,
     G: Gate,
+    H: Aid,
     W: About,
 >(
     rt: &R,
@@ -126,6 +180,7 @@ fn work_at<
     gate: &G,
     tickets: &Tickets<Job<N, T::Rule, W>>,
     desk: &mut Desk<Job<N, T::Rule, W>>,
+    aid: &mut H,
 )
     requires about { AreAbout (site_of dictionary.now) W.table W.callers W.nodes }
     requires desk { IsFree tickets.now desk.old }
@@ -133,16 +188,16 @@ fn work_at<
     ensures same { IsSameDesk desk.old desk.new }
 {
     while let Some((ticket, mut job)) = tickets.draw(desk) {
-        run_job(rt, dictionary, gate, &mut job);
+        run_job(rt, dictionary, gate, aid, &mut job);
         tickets.finish(desk, ticket, job);
     }
 }
 
-/// Serves the callers of all tickets, with a worker at each desk, all at once. A worker serves a caller whole before it
-/// draws the next.
+/// Serves the callers of all tickets, by all workers at once, each at its desk and with its guide. A worker serves a caller
+/// whole before it draws the next.
 pub fn work<
     N: Node + Send,
-    T: Ruled + Template<N, Arena<N, <T as Ruled>::Rule>>,
+    T: Ruled + Serving<N, Arena<N, <T as Ruled>::Rule>>,
     R: Threads + Wait + Sync,
     G: Gate + Sync,
     W: About + Send + Sync,
@@ -151,28 +206,38 @@ pub fn work<
     dictionary: &Dictionary<N, T>,
     gate: &G,
     tickets: &Tickets<Job<N, T::Rule, W>>,
-    desks: &mut [Desk<Job<N, T::Rule, W>>],
+    workers: &mut [Worker<Job<N, T::Rule, W>>],
 )
 where
     N::Places: Send + Sync,
-    requires some { 0 < length desks.old }
+    requires some { 0 < length workers.old }
     requires about { AreAbout (site_of dictionary.now) W.table W.callers W.nodes }
-    requires free { All (λ desk. IsFree tickets.now desk) desks.old }
-    ensures count { length desks.new ≡ length desks.old }
-    ensures ended { (i : ℕ) (d : _) → i < length desks.old → HasEnded tickets.now (slice_index_or desks.new i d) }
-    ensures same { (i : ℕ) (d : _) → i < length desks.old →
-        IsSameDesk (slice_index_or desks.old i d) (slice_index_or desks.new i d) }
+    requires free { All (λ worker. IsFree tickets.now worker.desk) workers.old }
+    ensures count { length workers.new ≡ length workers.old }
+    ensures ended { (i : ℕ) (d : _) → i < length workers.old →
+        HasEnded tickets.now (slice_index_or workers.new i d).desk }
+    ensures same { (i : ℕ) (d : _) → i < length workers.old →
+        IsSameDesk (slice_index_or workers.old i d).desk (slice_index_or workers.new i d).desk }
 {
-    let threads = desks.len();
+    let threads = workers.len();
     for_each_mut(
         rt,
-        desks,
+        workers,
         threads,
-        &|_: usize, desk: &mut Desk<Job<N, T::Rule, W>>|
+        &|_: usize, worker: &mut Worker<Job<N, T::Rule, W>>|
             requires about { AreAbout (site_of dictionary.now) W.table W.callers W.nodes }
-            requires desk { IsFree tickets.now desk.old }
-            ensures ended { HasEnded tickets.entry.now desk.new }
-            ensures same { IsSameDesk desk.old desk.new }
-        { work_at(rt, dictionary, gate, tickets, desk) },
+            requires desk { IsFree tickets.now worker.old.desk }
+            ensures ended { HasEnded tickets.entry.now worker.new.desk }
+            ensures same { IsSameDesk worker.old.desk worker.new.desk }
+        {
+            work_at(
+                rt,
+                dictionary,
+                gate,
+                tickets,
+                &mut worker.desk,
+                &mut worker.guide,
+            )
+        },
     );
 }

@@ -9,6 +9,7 @@ ghost use Rattle.ks_keysets.specs.Layout.{list_layout, bplus_layout, hash_layout
 ghost use Rattle.ks_places.specs.Golden.{golden_place};
 ghost use Rattle.ks_pairings.specs.ByPairing.{IsServedBy};
 
+use ks_aid::Admits;
 use ks_boxed::Boxed;
 use ks_bplus::BNode;
 use ks_bst::TNode;
@@ -27,7 +28,7 @@ use std::sync::Wait;
 use std::thread::Threads;
 
 /// Serves all callers over a sorted list, by lock coupling.
-pub fn list_coupling<R: Threads + Wait + Sync, G: Gate + Sync>(
+pub fn list_coupling<R: Threads + Wait + Sync, G: Gate + Admits + Sync>(
     rt: &R,
     alloc: Global,
     nodes: u32,
@@ -46,7 +47,7 @@ pub fn list_coupling<R: Threads + Wait + Sync, G: Gate + Sync>(
 }
 
 /// Serves all callers over a B+ tree, by lock coupling.
-pub fn bplus_coupling<R: Threads + Wait + Sync, G: Gate + Sync>(
+pub fn bplus_coupling<R: Threads + Wait + Sync, G: Gate + Admits + Sync>(
     rt: &R,
     alloc: Global,
     nodes: u32,
@@ -65,7 +66,7 @@ pub fn bplus_coupling<R: Threads + Wait + Sync, G: Gate + Sync>(
 }
 
 /// Serves all callers over a hash table, by lock coupling.
-pub fn hash_coupling<R: Threads + Wait + Sync, G: Gate + Sync>(
+pub fn hash_coupling<R: Threads + Wait + Sync, G: Gate + Admits + Sync>(
     rt: &R,
     alloc: Global,
     nodes: u32,
@@ -84,7 +85,7 @@ pub fn hash_coupling<R: Threads + Wait + Sync, G: Gate + Sync>(
 }
 
 /// Serves all callers over a binary search tree, by lock coupling.
-pub fn bst_coupling<R: Threads + Wait + Sync, G: Gate + Sync>(
+pub fn bst_coupling<R: Threads + Wait + Sync, G: Gate + Admits + Sync>(
     rt: &R,
     alloc: Global,
     nodes: u32,
@@ -103,7 +104,7 @@ pub fn bst_coupling<R: Threads + Wait + Sync, G: Gate + Sync>(
 }
 
 /// Serves all callers over a sorted list, by giving up.
-pub fn list_give_up<R: Threads + Wait + Sync, G: Gate + Sync>(
+pub fn list_give_up<R: Threads + Wait + Sync, G: Gate + Admits + Sync>(
     rt: &R,
     alloc: Global,
     nodes: u32,
@@ -124,7 +125,7 @@ pub fn list_give_up<R: Threads + Wait + Sync, G: Gate + Sync>(
 }
 
 /// Serves all callers over a B+ tree, by giving up.
-pub fn bplus_give_up<R: Threads + Wait + Sync, G: Gate + Sync>(
+pub fn bplus_give_up<R: Threads + Wait + Sync, G: Gate + Admits + Sync>(
     rt: &R,
     alloc: Global,
     nodes: u32,
@@ -143,7 +144,7 @@ pub fn bplus_give_up<R: Threads + Wait + Sync, G: Gate + Sync>(
 }
 
 /// Serves all callers over a hash table, by giving up.
-pub fn hash_give_up<R: Threads + Wait + Sync, G: Gate + Sync>(
+pub fn hash_give_up<R: Threads + Wait + Sync, G: Gate + Admits + Sync>(
     rt: &R,
     alloc: Global,
     nodes: u32,
@@ -162,7 +163,7 @@ pub fn hash_give_up<R: Threads + Wait + Sync, G: Gate + Sync>(
 }
 
 /// Serves all callers over a binary search tree, by giving up.
-pub fn bst_give_up<R: Threads + Wait + Sync, G: Gate + Sync>(
+pub fn bst_give_up<R: Threads + Wait + Sync, G: Gate + Admits + Sync>(
     rt: &R,
     alloc: Global,
     nodes: u32,
@@ -181,7 +182,7 @@ pub fn bst_give_up<R: Threads + Wait + Sync, G: Gate + Sync>(
 }
 
 /// Serves all callers over a B+ tree, along links.
-pub fn bplus_link<R: Threads + Wait + Sync, G: Gate + Sync>(
+pub fn bplus_link<R: Threads + Wait + Sync, G: Gate + Admits + Sync>(
     rt: &R,
     alloc: Global,
     nodes: u32,
@@ -202,7 +203,7 @@ pub fn bplus_link<R: Threads + Wait + Sync, G: Gate + Sync>(
 }
 
 /// Serves all callers over a hash table, along links.
-pub fn hash_link<R: Threads + Wait + Sync, G: Gate + Sync>(
+pub fn hash_link<R: Threads + Wait + Sync, G: Gate + Admits + Sync>(
     rt: &R,
     alloc: Global,
     nodes: u32,

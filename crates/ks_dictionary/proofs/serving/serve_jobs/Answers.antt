@@ -6,13 +6,13 @@ use Rattle.ks_history.specs.Asked.{AreAsked}
 use Rattle.ks_arena.specs.Sound.{sort_of}
 use Rattle.ks_shape.specs.Idle.{Site}
 use Rattle.ks_tickets.specs.Clauses.{EachAs, HaveEndedAt, IsFreeAt}
-use Rattle.ks_tickets.specs.Laws.Ended.{all_free, each_ended}
 use Rattle.ks_dictionary.specs.Crew.{site_with}
 use Rattle.ks_dictionary.specs.declared.job.Job.{Job}
 use Rattle.ks_dictionary.specs.Ended.{history}
 use Rattle.ks_dictionary.specs.Of.{site_of}
 use Rattle.ks_dictionary.specs.Work.{FinishedAs, WaitsAs}
 use Rattle.ks_dictionary.proofs.Joined.{all_wait, as_about, at_arena, is_crew, have_called, map_both, written}
+use Rattle.ks_dictionary.proofs.Staffed.{all_staffed, staff_ended}
 use Rattle.ks_dictionary.proofs.serving.serve_jobs.Goals as goal
 use Rattle.ks_dictionary.proofs.serving.serve_jobs.Given.{Over}
 use Rattle.ks_dictionary.proofs.serving.serve_jobs.Goals.{In_ok-jobs}
@@ -69,15 +69,16 @@ start-requires-clause-jobs g c =
 pub work-requires-clause-free : goal.work-requires-clause-free
 work-requires-clause-free g c κs within =
     let t = c.in_ok-tickets.tickets.table.shared.table_id in
-    subst (All (λ d. IsFreeAt t d)) (sym c.as_mut_slice.ensures.value) (all_free t c.in_ok-tickets.desks.items c.in_ok-tickets.ensures.desks)
+    subst (All (λ w. IsFreeAt t w.desk)) (sym c.as_mut_slice.ensures.value) (all_staffed t c.in_ok-workers.workers.items c.in_ok-tickets.desks.items c.in_ok-workers.ensures c.in_ok-tickets.ensures.desks)
 
 pub close-requires-clause-desks : goal.close-requires-clause-desks
 close-requires-clause-desks g c =
     let t = c.in_ok-tickets.tickets.table.shared.table_id in
+    let ws = c.in_ok-workers.workers in
     let value = c.as_mut_slice.ensures.value in
-    let count : length c.work.new.desks ≡ length c.in_ok-tickets.desks.items = rw value at c.work.ensures.count in
-    subst (HaveEndedAt t) (sym (written c.in_ok-tickets.desks.len c.in_ok-tickets.desks.items c.work.new.desks c.in_ok-tickets.desks.ok.0 count))
-    (each_ended t c.in_ok-tickets.desks.items c.work.new.desks count c.in_ok-tickets.ensures.desks (rw value at c.work.ensures.ended) (rw value at c.work.ensures.same))
+    let count : length c.work.new.workers ≡ length ws.items = rw value at c.work.ensures.count in
+    subst (HaveEndedAt t) (sym (c.in_ok-ended.ensures ∙ ap (map (λ w. w.desk)) (written ws.len ws.items c.work.new.workers ws.ok.0 count)))
+    (staff_ended t ws.items c.work.new.workers c.in_ok-tickets.desks.items c.in_ok-workers.ensures c.in_ok-tickets.ensures.desks count (rw value at c.work.ensures.ended) (rw value at c.work.ensures.same))
 
 pub close-requires-clause-room : goal.close-requires-clause-room
 close-requires-clause-room g c = let a = c.in_ok-tickets.ensures.jobs in let b = c.in_ok-into.ensures.capacity in let d = c.len.ensures in let e = c.in_ok-jobs.jobs.ok.0 in omega arith

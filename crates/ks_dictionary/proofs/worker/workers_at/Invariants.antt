@@ -1,0 +1,5 @@
+use Rattle.std.proofs.Common.{◌≡◌, ◌++◌, map}
+use Rattle.ks_dictionary.proofs.worker.workers_at.Given as goal
+
+abbrev pub invariant-loop-desk : goal.invariant-loop-desk
+invariant-loop-desk g l = map (λ w. w.desk) l.workers.items ++ l.desk-iterator.rest.items ≡ l.fn.desks.items

@@ -1,0 +1,67 @@
+//! A worker: its desk, and what it knows of where calls may begin.
+ghost use Rattle.std.specs.Prelude.{◌≡◌, map, IfOk};
+
+use ks_guide::Guide;
+use ks_tickets::Desk;
+use std::alloc::{AllocError, Global};
+
+/// How many sets of two leaves the guide of a worker has.
+const LEAVES: usize = 1024;
+
+/// How many branches it has room for.
+const BRANCHES: usize = 1024;
+
+/// What one worker draws callers with, and its memory of where their calls were decided, if it has one. It keeps that from
+/// caller to caller.
+#[derive(Drop)]
+pub struct Worker<J> {
+    pub(crate) desk: Desk<J>,
+    pub(crate) guide: Option<Guide>,
+}
+
+/// The guide of a worker, if it is to have one.
+fn guide_if(alloc: Global, guided: bool) -> Result<Option<Guide>, AllocError> {
+    if !guided {
+        return Ok(None);
+    }
+    Ok(Some(Guide::start(alloc, LEAVES, BRANCHES)?))
+}
+
+/// A worker at each desk, with a guide of its own if they are to have one.
+///
+/// # Errors
+///
+/// Only lack of memory.
+pub(crate) fn workers_at<J>(
+    alloc: Global,
+    desks: Vec<Desk<J>>,
+    guided: bool,
+) -> Result<Vec<Worker<J>>, AllocError>
+    ensures { IfOk result (λ workers. map (λ worker. worker.desk) workers.items ≡ desks.items) }
+{
+    let mut workers = Vec::with_capacity(alloc, desks.len())?;
+    for desk in desks {
+        let guide = guide_if(alloc, guided)?;
+        workers.push(Worker { desk, guide })?;
+    }
+    Ok(workers)
+}
+
+/// The desks of the workers.
+///
+/// # Errors
+///
+/// Only lack of memory.
+pub(crate) fn desks_of<J>(
+    alloc: Global,
+    workers: Vec<Worker<J>>,
+) -> Result<Vec<Desk<J>>, AllocError>
+    ensures { IfOk result (λ desks. desks.items ≡ map (λ worker. worker.desk) workers.items) }
+{
+    let mut desks = Vec::with_capacity(alloc, workers.len())?;
+    for worker in workers {
+        let Worker { desk, guide: _ } = worker;
+        desks.push(desk)?;
+    }
+    Ok(desks)
+}
