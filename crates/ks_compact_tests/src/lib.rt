@@ -4,8 +4,6 @@
 #[cfg(test)]
 mod below;
 #[cfg(test)]
-mod churn;
-#[cfg(test)]
 mod runs;
 #[cfg(test)]
 mod tests;

@@ -1,9 +1,7 @@
 //! Runs of one caller over a dictionary: puts, dels, and compaction.
 ghost use Rattle.std.specs.Prelude.{◌≡◌, ◌≤◌, ◌∷◌, [], IfOk};
 ghost use Rattle.ks_arena.specs.Sound.{sort_of};
-ghost use Rattle.ks_arena.specs.Of.{SameCaller};
 ghost use Rattle.ks_dictionary.specs.Ended.{HasEnded};
-ghost use Rattle.ks_dictionary.specs.Of.{IsIdlePassOf};
 ghost use Rattle.ks_compact_tests.specs.Only.{IsOnly};
 
 use ks_arena::{Arena, Pass};
@@ -83,35 +81,6 @@ pub(crate) fn compact_once<
     ensures { IsOnly dictionary.now pass.new }
 {
     dictionary.compact(rt, pass, &NoGate)
-}
-
-/// Compacts until no node is made free.
-pub(crate) fn compact_until_none<
-    N: Node,
-    T: Ruled + Compacting<N, Arena<N, <T as Ruled>::Rule>>,
-    R: Wait,
->(rt: &R, dictionary: &Dictionary<N, T>, pass: &mut Pass<N, T::Rule>)
-    requires { IsIdlePassOf dictionary.now pass.old }
-    ensures pass { IsIdlePassOf dictionary.now pass.new }
-    ensures caller { SameCaller pass.old pass.new }
-{
-    for _ in rt.forever() {
-        if dictionary.compact(rt, pass, &NoGate) == 0 {
-            return;
-        }
-    }
-}
-
-/// Compacts a dictionary of one caller until no node is made free.
-pub(crate) fn compact_all<N: Node, T: Ruled + Compacting<N, Arena<N, <T as Ruled>::Rule>>, R: Wait>(
-    rt: &R,
-    dictionary: &Dictionary<N, T>,
-    pass: &mut Pass<N, T::Rule>,
-)
-    requires { IsOnly dictionary.now pass.old }
-    ensures { IsOnly dictionary.now pass.new }
-{
-    compact_until_none(rt, dictionary, pass);
 }
 
 /// The one pass in a vector.

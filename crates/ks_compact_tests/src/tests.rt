@@ -1,18 +1,13 @@
 use crate::below::{compacted_below, merged_below};
-use crate::churn::churned;
-use crate::runs::{compact_all, compact_once, del_each, end_one, put_each, start_one};
+use crate::runs::{compact_once, del_each, end_one, put_each, start_one};
 use ks_bplus::BNode;
 use ks_bst::TNode;
 use ks_coupling::Coupling;
 use ks_giveup::GiveUp;
-use ks_hash::HNode;
 use ks_keysets::{Graph, NodeState};
 use ks_list::ListNode;
 use ks_node::WithRange;
 use std::test::Fail;
-
-/// Multiples of it come in no order.
-const STRIDE: u64 = 0x9E37_79B9_7F4A_7C15;
 
 /// Whether node 0 is live with `pairs` pairs and no edge, and no other node is in use.
 fn is_root_alone(graph: &Graph, pairs: usize) -> bool {
@@ -63,47 +58,6 @@ fn a_root_over_one_leaf_becomes_the_leaf(rt: HostRuntime) -> Result<(), Fail> {
 }
 
 #[test]
-fn a_full_list_is_left_as_it_is(rt: HostRuntime) -> Result<(), Fail> {
-    let (dictionary, mut pass) = start_one::<ListNode, Coupling>(rt.alloc(), 4)?;
-    assert!(rt; put_each(&rt, &dictionary, &mut pass, 0, 9, 1));
-    assert!(rt; compact_once(&rt, &dictionary, &mut pass) == 0);
-    Ok(())
-}
-
-#[test]
-fn a_tree_whose_keys_are_deleted_becomes_its_root(rt: HostRuntime) -> Result<(), Fail> {
-    let (dictionary, mut pass) = start_one::<BNode, Coupling>(rt.alloc(), 400)?;
-    assert!(rt; put_each(&rt, &dictionary, &mut pass, 7, 1500, STRIDE));
-    assert!(rt; del_each(&rt, &dictionary, &mut pass, 7, 1500, STRIDE));
-    compact_all(&rt, &dictionary, &mut pass);
-    let closed = end_one(rt.alloc(), dictionary, pass)?;
-    assert!(rt; is_root_alone(&closed.graph(rt.alloc())?, 0));
-    Ok(())
-}
-
-#[test]
-fn a_tree_with_ranges_becomes_its_root_by_giving_up(rt: HostRuntime) -> Result<(), Fail> {
-    let (dictionary, mut pass) = start_one::<WithRange<BNode>, GiveUp>(rt.alloc(), 400)?;
-    assert!(rt; put_each(&rt, &dictionary, &mut pass, 7, 1500, STRIDE));
-    assert!(rt; del_each(&rt, &dictionary, &mut pass, 7, 1500, STRIDE));
-    compact_all(&rt, &dictionary, &mut pass);
-    let closed = end_one(rt.alloc(), dictionary, pass)?;
-    assert!(rt; is_root_alone(&closed.graph(rt.alloc())?, 0));
-    Ok(())
-}
-
-#[test]
-fn a_table_whose_keys_are_deleted_becomes_its_root(rt: HostRuntime) -> Result<(), Fail> {
-    let (dictionary, mut pass) = start_one::<WithRange<HNode>, GiveUp>(rt.alloc(), 400)?;
-    assert!(rt; put_each(&rt, &dictionary, &mut pass, 7, 600, 1));
-    assert!(rt; del_each(&rt, &dictionary, &mut pass, 7, 600, 1));
-    compact_all(&rt, &dictionary, &mut pass);
-    let closed = end_one(rt.alloc(), dictionary, pass)?;
-    assert!(rt; is_root_alone(&closed.graph(rt.alloc())?, 0));
-    Ok(())
-}
-
-#[test]
 fn a_branch_below_the_root_takes_its_only_child_over(rt: HostRuntime) -> Result<(), Fail> {
     let (is_right, closed) = merged_below::<TNode, Coupling, HostRuntime>(&rt, rt.alloc())?;
     assert!(rt; is_right);
@@ -132,25 +86,5 @@ fn a_compaction_takes_a_child_over_below_the_root(rt: HostRuntime) -> Result<(),
     )?;
     assert!(rt; is_right && first == 2 && second == 0);
     assert!(rt; live_nodes(&closed.graph(rt.alloc())?) == 3);
-    Ok(())
-}
-
-#[test]
-fn a_tree_becomes_its_root_after_a_churn_of_64_callers(rt: HostRuntime) -> Result<(), Fail> {
-    let closed = churned::<BNode, Coupling, HostRuntime>(&rt, rt.alloc(), 65_536)?;
-    assert!(rt; closed.calls() == 1_024_000);
-    assert!(rt; closed.pairs(rt.alloc())?.is_empty());
-    assert!(rt; is_root_alone(&closed.graph(rt.alloc())?, 0));
-    Ok(())
-}
-
-#[test]
-fn a_tree_with_ranges_becomes_its_root_after_a_churn_by_giving_up(
-    rt: HostRuntime,
-) -> Result<(), Fail> {
-    let closed = churned::<WithRange<BNode>, GiveUp, HostRuntime>(&rt, rt.alloc(), 65_536)?;
-    assert!(rt; closed.calls() == 1_024_000);
-    assert!(rt; closed.pairs(rt.alloc())?.is_empty());
-    assert!(rt; is_root_alone(&closed.graph(rt.alloc())?, 0));
     Ok(())
 }

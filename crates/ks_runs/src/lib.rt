@@ -5,10 +5,8 @@ mod arenas;
 mod hinted;
 mod run;
 mod runs;
-mod tries;
 
 pub use arenas::one_caller;
 pub use hinted::{every_hint, get_from};
 pub use run::Run;
 pub use runs::each;
-pub use tries::try_each;

@@ -5,8 +5,6 @@ use ks_shape::Numbered;
 #[derive(Clone, Copy)]
 pub(crate) enum Call {
     Put,
-    Add,
-    Get,
     Del,
 }
 
@@ -30,22 +28,6 @@ impl Run {
             first,
             many,
             stride,
-        }
-    }
-
-    /// The first calls of an arena are `many` adds.
-    pub fn adds(first: u64, many: u64, stride: u64) -> Run {
-        Run {
-            call: Call::Add,
-            ..Run::puts(first, many, stride)
-        }
-    }
-
-    /// The first calls of an arena are `many` gets.
-    pub fn gets(first: u64, many: u64, stride: u64) -> Run {
-        Run {
-            call: Call::Get,
-            ..Run::puts(first, many, stride)
         }
     }
 
@@ -75,12 +57,10 @@ impl Run {
         }
     }
 
-    /// What it is to find there: a put or an add nothing, a get or a del what a put has left.
+    /// What it is to find there: a put nothing, a del what a put has left.
     pub(crate) fn found(&self, place: u64) -> Option<u128> {
         match self.call {
             Call::Put => None,
-            Call::Add => None,
-            Call::Get => Some(u128::from(place)),
             Call::Del => Some(u128::from(place)),
         }
     }

@@ -24,14 +24,12 @@ fn call_at<T: Template<N, A>, N: Node, A: Shelf, R: Wait>(
 {
     match call {
         Call::Put => T::put(rt, arena, pass, &NoGate, place, u128::from(place)),
-        Call::Add => T::add(rt, arena, pass, &NoGate, place, u128::from(place)),
-        Call::Get => Ok(T::get(rt, arena, pass, &NoGate, place)),
         Call::Del => Ok(T::del(rt, arena, pass, &NoGate, place)),
     }
 }
 
-/// Makes the calls of a run. Returns whether puts and adds found nothing at their places, gets and dels what a put has
-/// left, and the numbers are those of the run.
+/// Makes the calls of a run. Returns whether puts found nothing at their places, dels what a put has left, and the numbers
+/// are those of the run.
 pub fn each<T: Template<N, A>, N: Node, A: Shelf, R: Wait>(
     rt: &R,
     arena: &A,
