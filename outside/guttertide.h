@@ -1,14 +1,14 @@
 /* Guttertide for C: a concurrent map from keys of 64 bits to values of 128 bits.
  *
- * A dictionary is a B-link tree over a fixed number of nodes, and a fixed number of callers call it at once. Its calls are
- * proved: all calls of all callers form one history of one map, in which each call has its number. No call waits for another
- * caller, and only ks_open takes memory. A call that meets a node which another caller holds returns KS_BUSY and has done
- * nothing; it may be made again.
+ * A dictionary is of one of four structures (ks_structure), over a fixed number of nodes, and a fixed number of callers
+ * call it at once. Its calls are proved: all calls of all callers form one history of one map, in which each call has its
+ * number. No call waits for another caller, and only ks_open takes memory. A call that another caller is in the way of
+ * returns KS_BUSY, KS_MOVED or KS_FAR (ks_is_later) and has done nothing; it may be made again.
  *
  *     ks_caller callers[2] = {KS_NO_CALLER, KS_NO_CALLER};
  *     if (ks_open(1024, callers, 2) != KS_NOTHING) return 1;
  *     ks_answer answer;
- *     while (ks_put(&callers[0], 5, ks_value(50), &answer) == KS_BUSY) continue;
+ *     while (ks_is_later(ks_put(&callers[0], 5, ks_value(50), &answer))) continue;
  *     ks_close(&callers[0]);
  *     ks_close(&callers[1]);
  *
@@ -55,8 +55,8 @@ typedef struct ks_wide {
 typedef struct ks_answer {
     uint64_t number;    /* of the call in the one history of all calls, from 0; with KS_NOTHING, KS_VALUE, KS_FULL */
     ks_wide value;      /* that the key had before the call; with KS_VALUE */
-    uint32_t node;      /* that another caller held, and that caller, from 0; with KS_BUSY */
-    uint32_t holder;
+    uint32_t node;      /* that another caller held, or changed; with KS_BUSY, KS_MOVED */
+    uint32_t holder;    /* the caller that held the node: the index of its handle at ks_open; with KS_BUSY */
 } ks_answer;
 
 /* The codes. With the first three the call is one of the history; with all others it did nothing. */
@@ -64,16 +64,26 @@ enum {
     KS_NOTHING = 0,     /* done: the key had no value; of ks_open and ks_close: done */
     KS_VALUE = 1,       /* done: the key had a value */
     KS_FULL = 2,        /* done: a put or an add found no room and no free node; the map is as before */
-    KS_BUSY = 3,        /* another caller holds a node on the search path: make the call again */
-    KS_LATER = 4,       /* put off for another cause; it never comes */
+    KS_BUSY = 3,        /* another caller held a node on the search path: make the call again */
+    KS_MOVED = 4,       /* another caller changed a node on the search path: make the call again */
+    KS_FAR = 5,         /* as many nodes were taken as there are, while others changed some: make the call again */
     KS_CLOSED = 16,     /* the handle is not open */
     KS_BAD_SIZE = 17,   /* not 4 to 1048576 nodes, or not 1 to 1024 callers */
     KS_NO_MEMORY = 18,  /* memory ran out */
     KS_IN_USE = 19,     /* a handle given to ks_open is open */
-    KS_NULL = 20         /* a pointer is null */
+    KS_NULL = 20,       /* a pointer is null */
+    KS_NO_STRUCTURE = 21 /* no structure has this word */
 };
 
-uint32_t ks_c_open(uint32_t nodes, ks_caller *callers, size_t count);
+/* The structures, and which codes put off a call. */
+enum ks_structure {
+    KS_BLINK_TREE = 0,      /* a B-link tree: searches never restart, nodes are never merged; KS_BUSY */
+    KS_GIVE_UP_TREE = 1,    /* a B+ tree by giving up: searches restart, nodes are merged; KS_BUSY, KS_MOVED, KS_FAR */
+    KS_B_TREE = 2,          /* a B+ tree by lock coupling: searches hold two nodes, nodes are merged; KS_BUSY, KS_FAR */
+    KS_LINK_HASH_TABLE = 3  /* a hash table along links, for some hundred keys: nodes are never merged; KS_BUSY */
+};
+
+uint32_t ks_c_open(uint32_t structure, uint32_t nodes, ks_caller *callers, size_t count);
 uint32_t ks_c_get(ks_caller *caller, uint64_t key, ks_answer *answer);
 uint32_t ks_c_put(ks_caller *caller, uint64_t key, uint64_t low, uint64_t high, ks_answer *answer);
 uint32_t ks_c_add(ks_caller *caller, uint64_t key, uint64_t low, uint64_t high, ks_answer *answer);
@@ -88,14 +98,25 @@ static inline ks_wide ks_value(uint64_t low) {
     return value;
 }
 
-/* Opens an empty dictionary of `nodes` nodes, and a handle for each of its `count` callers. A node has at most 16 pairs.
- * Returns KS_NOTHING, KS_NULL, KS_BAD_SIZE, KS_IN_USE or KS_NO_MEMORY; with all but the first the handles stay as they
- * are. */
-static inline uint32_t ks_open(uint32_t nodes, ks_caller *callers, size_t count) {
-    return callers ? ks_c_open(nodes, callers, count) : (uint32_t)KS_NULL;
+/* Whether a call with this code was put off: it may be made again. */
+static inline int ks_is_later(uint32_t code) {
+    return code == KS_BUSY || code == KS_MOVED || code == KS_FAR;
 }
 
-/* Finds the value of a key. Returns KS_NOTHING, KS_VALUE, KS_BUSY, KS_CLOSED or KS_NULL, as do the next four. */
+/* Opens an empty dictionary of a structure, with `nodes` nodes, and a handle for each of its `count` callers. A node of a
+ * tree has at most 16 pairs, one of a hash table 8. Returns KS_NOTHING, KS_NULL, KS_NO_STRUCTURE, KS_BAD_SIZE, KS_IN_USE or
+ * KS_NO_MEMORY; with all but the first the handles stay as they are. */
+static inline uint32_t ks_open_as(enum ks_structure structure, uint32_t nodes, ks_caller *callers, size_t count) {
+    return callers ? ks_c_open((uint32_t)structure, nodes, callers, count) : (uint32_t)KS_NULL;
+}
+
+/* Opens a B-link tree. */
+static inline uint32_t ks_open(uint32_t nodes, ks_caller *callers, size_t count) {
+    return ks_open_as(KS_BLINK_TREE, nodes, callers, count);
+}
+
+/* Finds the value of a key. Returns KS_NOTHING, KS_VALUE, KS_CLOSED, KS_NULL, or a code with which it is put off, as do the
+ * next four. */
 static inline uint32_t ks_get(ks_caller *caller, uint64_t key, ks_answer *answer) {
     return caller && answer ? ks_c_get(caller, key, answer) : (uint32_t)KS_NULL;
 }

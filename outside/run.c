@@ -1,5 +1,5 @@
 /* Threads of a C program make a script's calls on one dictionary, and what `check` judges is printed: the script, and the
- * run. The script is made from a number: run [FIRST]. */
+ * run. The script is made from a number, which also chooses the structure: run [FIRST]. */
 #include <inttypes.h>
 #include <pthread.h>
 #include <sched.h>
@@ -56,7 +56,7 @@ static uint32_t try_once(ks_caller *caller, struct call *call) {
 }
 
 static void serve_one(ks_caller *caller, struct call *call) {
-    while ((call->code = try_once(caller, call)) == KS_BUSY)
+    while (ks_is_later(call->code = try_once(caller, call)))
         sched_yield();
 }
 
@@ -134,6 +134,7 @@ static void misuse(void) {
     want(ks_open(4, two, 0), KS_BAD_SIZE, "open with no caller");
     want(ks_open(4, many, MANY), KS_BAD_SIZE, "open with 1025 callers");
     want(ks_open(4, NULL, 2), KS_NULL, "open with null");
+    want(ks_open_as((enum ks_structure)4, 4, two, 2), KS_NO_STRUCTURE, "open as what is no structure");
     want(ks_close(NULL), KS_NULL, "close of null");
     want(ks_close(&none), KS_CLOSED, "close of what is not open");
     want(ks_open(4, two, 2), KS_NOTHING, "open");
@@ -152,9 +153,10 @@ static void misuse(void) {
 
 int main(int count, char **words) {
     pthread_t threads[CALLERS];
+    uint64_t first = count > 1 ? strtoull(words[1], NULL, 10) : 1;
     misuse();
-    make(count > 1 ? strtoull(words[1], NULL, 10) : 1);
-    want(ks_open(NODES, callers, CALLERS), KS_NOTHING, "open");
+    make(first);
+    want(ks_open_as((enum ks_structure)(first % 4), NODES, callers, CALLERS), KS_NOTHING, "open");
     for (int c = 0; c < CALLERS; c++) {
         works[c].caller = &callers[c];
         if (pthread_create(&threads[c], NULL, serve, &works[c])) {

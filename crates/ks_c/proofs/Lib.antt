@@ -1,3 +1,4 @@
+mod Crew
+mod Give
 mod Handles
-mod Passes
 mod Values

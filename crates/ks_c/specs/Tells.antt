@@ -16,11 +16,11 @@ abbrev pub TellsFound : Option ℕ → ℕ → Answer → Type 0
 TellsFound None code out = code ≡ 0
 TellsFound (Some v) code out = (code ≡ 1) × (whole out.low out.high ≡ v)
 
--- it was put off: the code is 3, and the answer has the node and its holder, or the code is 4
+-- it was put off: the code is 3, and the answer has the node and its holder; it is 4, and the answer has the node; or it is 5
 abbrev pub TellsLater : Later → ℕ → Answer → Type 0
 TellsLater (Busy node holder) code out = (code ≡ 3) × (out.node ≡ node) × (out.holder ≡ holder)
-TellsLater (Moved node) code out = code ≡ 4
-TellsLater Far code out = code ≡ 4
+TellsLater (Moved node) code out = (code ≡ 4) × (out.node ≡ node)
+TellsLater Far code out = code ≡ 5
 
 abbrev pub Tells : Result Numbered Later → ℕ → Answer → Type 0
 Tells (Ok answer) code out = (out.number ≡ answer.number) × TellsFound answer.found code out

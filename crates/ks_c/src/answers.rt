@@ -12,8 +12,10 @@ pub const VALUE: u32 = 1;
 pub const FULL: u32 = 2;
 /// Another caller holds a node on the search path.
 pub const BUSY: u32 = 3;
-/// The call was put off for another cause. It never comes along links.
-pub const LATER: u32 = 4;
+/// A node on the search path no longer is on it, since another caller changed it.
+pub const MOVED: u32 = 4;
+/// As many nodes were taken as there are, while another caller changed some.
+pub const FAR: u32 = 5;
 /// The handle is not open.
 pub const CLOSED: u32 = 16;
 /// No such number of nodes or callers.
@@ -22,6 +24,8 @@ pub const BAD_SIZE: u32 = 17;
 pub const NO_MEMORY: u32 = 18;
 /// A handle that is to be opened is open.
 pub const IN_USE: u32 = 19;
+/// No structure has this word.
+pub const NO_STRUCTURE: u32 = 21;
 
 /// What a call returns beside its code.
 #[repr(C)]
@@ -32,7 +36,7 @@ pub struct Answer {
     /// The two halves of the value that the key had.
     pub low: u64,
     pub high: u64,
-    /// The node that another caller held, and that caller.
+    /// The node that another caller held, and that caller; or the node that another caller changed.
     pub node: u32,
     pub holder: u32,
 }
@@ -67,8 +71,11 @@ fn tell_later(later: Later, out: &mut Answer) -> u32
             out.holder = holder;
             BUSY
         }
-        Later::Moved { node: _ } => LATER,
-        Later::Far => LATER,
+        Later::Moved { node } => {
+            out.node = node;
+            MOVED
+        }
+        Later::Far => FAR,
     }
 }
 

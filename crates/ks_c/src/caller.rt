@@ -1,82 +1,92 @@
-//! A caller that C keeps.
+//! A caller that C keeps, of a dictionary of one of the structures that C may choose.
 ghost use Rattle.std.specs.Prelude.{◌≡◌};
-ghost use Rattle.std_alloc.specs.Arc.{arc_value};
-ghost use Rattle.ks_history.specs.declared.Op.TheVariants.{Add, Del, Get, Put, Swap};
-ghost use Rattle.ks_history.specs.Done.{link_move};
-ghost use Rattle.ks_arena.specs.Of.{IsEmptyPassOf};
-ghost use Rattle.ks_shape.specs.Of.{TriedOf, TriedPutOf};
+ghost use Rattle.ks_c.specs.Calls.{Called, IsReady};
 
-use ks_arena::{Arena, Pass};
+use crate::answers::Answer;
+use crate::tries::{Call, CallerOf, along_links, by_coupling, by_giving_up};
 use ks_boxed::Boxed;
 use ks_bplus::BNode;
-use ks_flow::Link;
-use ks_gate::NoGate;
+use ks_flow::{Link, Tree};
+use ks_hash::HNode;
 use ks_linked::WithLink;
-use ks_shape::{Later, Numbered, PutLater};
-use std::alloc::Global;
-use std::sync::Arc;
+use ks_node::WithRange;
 
-/// The nodes of the dictionaries that C opens: those of a B-link tree.
-pub type Nodes = Boxed<WithLink<BNode>>;
-
-/// One caller of a dictionary: the dictionary, which it shares with the other callers, and its pass.
+/// One caller of a dictionary, whose nodes and technique are those of its structure.
 #[derive(Drop)]
-pub struct Caller {
-    pub arena: Arc<Arena<Nodes, Link>, Global>,
-    pub pass: Pass<Nodes, Link>,
+pub enum Caller {
+    /// A B-link tree.
+    BLinkTree(CallerOf<Boxed<WithLink<BNode>>, Link>),
+    /// A B+ tree by giving up.
+    GiveUpTree(CallerOf<Boxed<WithRange<BNode>>, Tree>),
+    /// A B+ tree by lock coupling.
+    BTree(CallerOf<Boxed<BNode>, Tree>),
+    /// A hash table along links.
+    LinkHashTable(CallerOf<Boxed<WithLink<HNode>>, Link>),
+}
+
+/// A caller over some nodes, as C keeps it.
+pub trait Kept: Drop {
+    ghost use Rattle.ks_c.specs.declared.caller.Caller.{Caller};
+
+    /// The caller of the structure that has these nodes and this technique.
+    ghost kept: { Self → Caller };
+
+    /// Makes it a caller of its structure.
+    fn keep(self) -> Caller
+        ensures { result ≡ kept self };
+}
+
+impl Kept for CallerOf<Boxed<WithLink<BNode>>, Link> {
+    ghost use Rattle.ks_c.specs.declared.caller.Caller.TheVariants.{BLinkTree};
+
+    ghost kept = { λ c. BLinkTree c };
+
+    fn keep(self) -> Caller {
+        Caller::BLinkTree(self)
+    }
+}
+
+impl Kept for CallerOf<Boxed<WithRange<BNode>>, Tree> {
+    ghost use Rattle.ks_c.specs.declared.caller.Caller.TheVariants.{GiveUpTree};
+
+    ghost kept = { λ c. GiveUpTree c };
+
+    fn keep(self) -> Caller {
+        Caller::GiveUpTree(self)
+    }
+}
+
+impl Kept for CallerOf<Boxed<BNode>, Tree> {
+    ghost use Rattle.ks_c.specs.declared.caller.Caller.TheVariants.{BTree};
+
+    ghost kept = { λ c. BTree c };
+
+    fn keep(self) -> Caller {
+        Caller::BTree(self)
+    }
+}
+
+impl Kept for CallerOf<Boxed<WithLink<HNode>>, Link> {
+    ghost use Rattle.ks_c.specs.declared.caller.Caller.TheVariants.{LinkHashTable};
+
+    ghost kept = { λ c. LinkHashTable c };
+
+    fn keep(self) -> Caller {
+        Caller::LinkHashTable(self)
+    }
 }
 
 impl Caller {
-    /// Returns the value of a key.
-    pub fn get(&mut self, key: u64) -> Result<Numbered, Later>
-        requires { IsEmptyPassOf (arc_value self.old.arena) self.old.pass }
-        ensures ready { IsEmptyPassOf (arc_value self.new.arena) self.new.pass }
-        ensures same { arc_value self.new.arena ≡ arc_value self.old.arena }
-        ensures tried { TriedOf (arc_value self.old.arena) link_move (Get key) self.old.pass self.new.pass result }
+    /// Makes a call, writes its result to `out`, and returns its code.
+    pub fn call(&mut self, key: u64, call: Call, out: &mut Answer) -> u32
+        requires { IsReady self.old }
+        ensures { Called call key self.old self.new result out.new }
     {
-        ks_link::try_get(&self.arena, &mut self.pass, &NoGate, key)
-    }
-
-    /// Sets the value of a key, and returns the one before.
-    pub fn put(&mut self, key: u64, value: u128) -> Result<Numbered, PutLater>
-        requires { IsEmptyPassOf (arc_value self.old.arena) self.old.pass }
-        ensures ready { IsEmptyPassOf (arc_value self.new.arena) self.new.pass }
-        ensures same { arc_value self.new.arena ≡ arc_value self.old.arena }
-        ensures tried { TriedPutOf (arc_value self.old.arena) link_move (Put key value)
-            self.old.pass self.new.pass result }
-    {
-        ks_link::try_put(&self.arena, &mut self.pass, &NoGate, key, value)
-    }
-
-    /// Sets the value of a key that has none, and returns the one that it had.
-    pub fn add(&mut self, key: u64, value: u128) -> Result<Numbered, PutLater>
-        requires { IsEmptyPassOf (arc_value self.old.arena) self.old.pass }
-        ensures ready { IsEmptyPassOf (arc_value self.new.arena) self.new.pass }
-        ensures same { arc_value self.new.arena ≡ arc_value self.old.arena }
-        ensures tried { TriedPutOf (arc_value self.old.arena) link_move (Add key value)
-            self.old.pass self.new.pass result }
-    {
-        ks_link::try_add(&self.arena, &mut self.pass, &NoGate, key, value)
-    }
-
-    /// Sets the value of a key from `old` to `new`, and returns the one before.
-    pub fn swap(&mut self, key: u64, old: u128, new: u128) -> Result<Numbered, Later>
-        requires { IsEmptyPassOf (arc_value self.old.arena) self.old.pass }
-        ensures ready { IsEmptyPassOf (arc_value self.new.arena) self.new.pass }
-        ensures same { arc_value self.new.arena ≡ arc_value self.old.arena }
-        ensures tried { TriedOf (arc_value self.old.arena) link_move (Swap key old new)
-            self.old.pass self.new.pass result }
-    {
-        ks_link::try_swap(&self.arena, &mut self.pass, &NoGate, key, old, new)
-    }
-
-    /// Deletes a key, and returns the value that it had.
-    pub fn del(&mut self, key: u64) -> Result<Numbered, Later>
-        requires { IsEmptyPassOf (arc_value self.old.arena) self.old.pass }
-        ensures ready { IsEmptyPassOf (arc_value self.new.arena) self.new.pass }
-        ensures same { arc_value self.new.arena ≡ arc_value self.old.arena }
-        ensures tried { TriedOf (arc_value self.old.arena) link_move (Del key) self.old.pass self.new.pass result }
-    {
-        ks_link::try_del(&self.arena, &mut self.pass, &NoGate, key)
+        match self {
+            Caller::BLinkTree(caller) => along_links(caller, key, call, out),
+            Caller::GiveUpTree(caller) => by_giving_up(caller, key, call, out),
+            Caller::BTree(caller) => by_coupling(caller, key, call, out),
+            Caller::LinkHashTable(caller) => along_links(caller, key, call, out),
+        }
     }
 }

@@ -1,42 +1,54 @@
 //! A dictionary for C: non-blocking calls, on numbers and handles.
 //!
-//! C has a handle for each caller of a dictionary (`Handle`): null, or a caller in a block of its own. A call takes the
-//! caller out of its handle, makes its call along links and puts it back, so a call sees whether its handle is closed.
-//! `outside/guttertide.h` declares the functions and says what a caller must keep.
+//! C has a handle for each caller of a dictionary (`Handle`): null, or a caller in a block of its own, of one of the
+//! structures that C may choose (`Caller`). A call takes the caller out of its handle, makes its call by the technique of
+//! its structure and puts it back, so a call sees whether its handle is closed. `outside/guttertide.h` declares the
+//! functions and says what a caller must keep.
 #![tactic(auto)]
 
 ghost use Rattle.std.specs.Prelude.{◌≡◌};
-ghost use Rattle.ks_history.specs.declared.Op.TheVariants.{Add, Del, Get, Put, Swap};
-ghost use Rattle.ks_c.specs.Calls.{HasTried, HasTriedPut, IsHandle};
+ghost use Rattle.ks_c.specs.Calls.{HasCalled, IsHandle};
 ghost use Rattle.ks_c.specs.Tells.{whole};
+ghost use Rattle.ks_c.specs.declared.tries.Call.TheVariants.{Add, Del, Get, Put, Swap};
 
 mod answers;
 mod caller;
 mod handle;
 mod life;
 mod loose;
+mod tries;
 
 pub use answers::Answer;
-use answers::{CLOSED, tell, tell_put, value_of};
-pub use caller::{Caller, Nodes};
+use answers::{CLOSED, value_of};
+pub use caller::Caller;
 pub use handle::{Handle, Opaque};
 use std::alloc::Global;
 use std::mem;
+use tries::Call;
+pub use tries::CallerOf;
+
+/// Makes a call through a handle, writes its result to `out`, and returns its code.
+fn call(alloc: Global, caller: &mut Handle, key: u64, call: Call, out: &mut Answer) -> u32
+    requires { IsHandle caller.old.inside }
+    ensures { HasCalled call key caller.old.inside caller.new.inside result out.new }
+{
+    match mem::replace(caller, Handle::none()).into_box(alloc) {
+        None => CLOSED,
+        Some(mut inside) => {
+            let code = inside.call(key, call, out);
+            *caller = Handle::of(inside);
+            code
+        }
+    }
+}
 
 /// Returns the value of a key.
 #[unsafe(no_mangle)]
 pub extern "C" fn ks_c_get(alloc: Global, caller: &mut Handle, key: u64, out: &mut Answer) -> u32
     requires { IsHandle caller.old.inside }
-    ensures { HasTried (Get key) caller.old.inside caller.new.inside result out.new }
+    ensures { HasCalled Get key caller.old.inside caller.new.inside result out.new }
 {
-    match mem::replace(caller, Handle::none()).into_box(alloc) {
-        None => CLOSED,
-        Some(mut inside) => {
-            let answer = inside.get(key);
-            *caller = Handle::of(inside);
-            tell(answer, out)
-        }
-    }
+    call(alloc, caller, key, Call::Get, out)
 }
 
 /// Sets the value of a key, and returns the one before.
@@ -50,16 +62,10 @@ pub extern "C" fn ks_c_put(
     out: &mut Answer,
 ) -> u32
     requires { IsHandle caller.old.inside }
-    ensures { HasTriedPut (Put key (whole low high)) caller.old.inside caller.new.inside result out.new }
+    ensures { HasCalled (Put (whole low high)) key caller.old.inside caller.new.inside result out.new }
 {
-    match mem::replace(caller, Handle::none()).into_box(alloc) {
-        None => CLOSED,
-        Some(mut inside) => {
-            let answer = inside.put(key, value_of(low, high));
-            *caller = Handle::of(inside);
-            tell_put(answer, out)
-        }
-    }
+    let value = value_of(low, high);
+    call(alloc, caller, key, Call::Put { value }, out)
 }
 
 /// Sets the value of a key that has none, and returns the one that it had.
@@ -73,16 +79,10 @@ pub extern "C" fn ks_c_add(
     out: &mut Answer,
 ) -> u32
     requires { IsHandle caller.old.inside }
-    ensures { HasTriedPut (Add key (whole low high)) caller.old.inside caller.new.inside result out.new }
+    ensures { HasCalled (Add (whole low high)) key caller.old.inside caller.new.inside result out.new }
 {
-    match mem::replace(caller, Handle::none()).into_box(alloc) {
-        None => CLOSED,
-        Some(mut inside) => {
-            let answer = inside.add(key, value_of(low, high));
-            *caller = Handle::of(inside);
-            tell_put(answer, out)
-        }
-    }
+    let value = value_of(low, high);
+    call(alloc, caller, key, Call::Add { value }, out)
 }
 
 /// Sets the value of a key from one to another, and returns the one before.
@@ -98,35 +98,19 @@ pub extern "C" fn ks_c_swap(
     out: &mut Answer,
 ) -> u32
     requires { IsHandle caller.old.inside }
-    ensures { HasTried (Swap key (whole old_low old_high) (whole new_low new_high))
+    ensures { HasCalled (Swap (whole old_low old_high) (whole new_low new_high)) key
         caller.old.inside caller.new.inside result out.new }
 {
-    match mem::replace(caller, Handle::none()).into_box(alloc) {
-        None => CLOSED,
-        Some(mut inside) => {
-            let answer = inside.swap(
-                key,
-                value_of(old_low, old_high),
-                value_of(new_low, new_high),
-            );
-            *caller = Handle::of(inside);
-            tell(answer, out)
-        }
-    }
+    let old = value_of(old_low, old_high);
+    let new = value_of(new_low, new_high);
+    call(alloc, caller, key, Call::Swap { old, new }, out)
 }
 
 /// Deletes a key, and returns the value that it had.
 #[unsafe(no_mangle)]
 pub extern "C" fn ks_c_del(alloc: Global, caller: &mut Handle, key: u64, out: &mut Answer) -> u32
     requires { IsHandle caller.old.inside }
-    ensures { HasTried (Del key) caller.old.inside caller.new.inside result out.new }
+    ensures { HasCalled Del key caller.old.inside caller.new.inside result out.new }
 {
-    match mem::replace(caller, Handle::none()).into_box(alloc) {
-        None => CLOSED,
-        Some(mut inside) => {
-            let answer = inside.del(key);
-            *caller = Handle::of(inside);
-            tell(answer, out)
-        }
-    }
+    call(alloc, caller, key, Call::Del, out)
 }

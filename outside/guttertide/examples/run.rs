@@ -1,7 +1,7 @@
 //! Threads make a script's calls on one dictionary, and what `check` judges is printed: the script, and the run. The
-//! script is made from a number: run [FIRST].
+//! script is made from a number, which also chooses the structure: run [FIRST].
 
-use guttertide::{Caller, Dictionary, Full};
+use guttertide::{Caller, Dictionary, Full, Structure};
 use std::error::Error;
 use std::fmt::{self, Write};
 use std::thread;
@@ -113,9 +113,11 @@ fn text(scripts: &[Vec<Call>], lines: &[Vec<Line>], map: &[Line]) -> Result<Stri
 }
 
 fn main() -> Result<(), Box<dyn Error>> {
-    let mut random = Random(std::env::args().nth(1).map_or(Ok(1), |word| word.parse())?);
+    let first = std::env::args().nth(1).map_or(Ok(1), |word| word.parse::<u64>())?;
+    let structure = Structure::ALL[(first % 4) as usize];
+    let mut random = Random(first);
     let mut scripts: Vec<Vec<Call>> = (0..CALLERS).map(|_| (0..CALLS).map(|_| random.call()).collect()).collect();
-    let dictionary = Dictionary::open(NODES, CALLERS)?;
+    let dictionary = Dictionary::open_as(structure, NODES, CALLERS)?;
     let mut callers: Vec<Caller> = std::iter::from_fn(|| dictionary.caller()).collect();
     let mut lines: Vec<Vec<Line>> = thread::scope(|scope| {
         let work = callers.iter_mut().zip(&scripts);

@@ -1,7 +1,7 @@
-//! What a call takes, by 1 to 8 threads, beside a `BTreeMap` under one lock: 100,000 keys, of which half are there; of
-//! ten calls eight are gets, one is an insert and one a removal. Run it with --release.
+//! What a call takes, with 1 to 8 threads, of each structure of trees and of a `BTreeMap` under one lock: 100,000 keys, of
+//! which half are there; of ten calls eight are gets, one is an insert and one a removal. Run it with --release.
 
-use guttertide::Dictionary;
+use guttertide::{Dictionary, OpenError, Structure};
 use std::collections::BTreeMap;
 use std::error::Error;
 use std::sync::{Barrier, Mutex};
@@ -90,14 +90,16 @@ fn time(mut maps: Vec<impl Map>) -> Duration {
 
 fn main() -> Result<(), Box<dyn Error>> {
     println!("nanoseconds from call to call, of all threads together");
-    println!("threads  Dictionary  Mutex<BTreeMap>");
+    println!("threads  BLinkTree  GiveUpTree  BTree  Mutex<BTreeMap>");
     for threads in [1, 2, 4, 8] {
-        let dictionary = Dictionary::open(NODES, threads)?;
-        let plain = Mutex::new(BTreeMap::new());
-        let ours = time(std::iter::from_fn(|| dictionary.caller()).collect());
-        let theirs = time(vec![&plain; threads]);
         let per_call = |time: Duration| time.as_nanos() / (u128::from(CALLS) * threads as u128);
-        println!("{threads:7}  {:10}  {:15}", per_call(ours), per_call(theirs));
+        let of = |structure| -> Result<u128, OpenError> {
+            let dictionary = Dictionary::open_as(structure, NODES, threads)?;
+            Ok(per_call(time(std::iter::from_fn(|| dictionary.caller()).collect())))
+        };
+        let (blink, give_up, coupling) = (of(Structure::BLinkTree)?, of(Structure::GiveUpTree)?, of(Structure::BTree)?);
+        let plain = per_call(time(vec![&Mutex::new(BTreeMap::new()); threads]));
+        println!("{threads:7}  {blink:9}  {give_up:10}  {coupling:5}  {plain:15}");
     }
     Ok(())
 }

@@ -45,22 +45,38 @@ impl fmt::Display for Full {
 
 impl Error for Full {}
 
-/// Another caller held a node on the way, so the call was not made: it did nothing, and may be made again.
+/// Why a call was put off: another caller was in the way. The call did nothing, has no number, and may be made again.
 #[derive(Clone, Copy, Debug, PartialEq, Eq)]
-pub struct Busy {
-    /// The number of the node, less than that of the nodes.
-    pub node: u32,
-    /// The number of the caller that held it, less than that of the callers.
-    pub holder: u32,
+pub enum Later {
+    /// Another caller held a node on the search path.
+    Busy {
+        /// The number of the node, less than that of the nodes.
+        node: u32,
+        /// The number of the caller that held it, less than that of the callers.
+        holder: u32,
+    },
+    /// Another caller changed a node on the search path, so that the key's place is no longer in it. Only a
+    /// [`GiveUpTree`](crate::Structure::GiveUpTree) reports it.
+    Moved {
+        /// The number of the node.
+        node: u32,
+    },
+    /// The call took as many nodes as the dictionary has, while another caller changed some. Only a
+    /// [`GiveUpTree`](crate::Structure::GiveUpTree) and a [`BTree`](crate::Structure::BTree) report it.
+    Far,
 }
 
-impl fmt::Display for Busy {
+impl fmt::Display for Later {
     fn fmt(&self, f: &mut fmt::Formatter<'_>) -> fmt::Result {
-        write!(f, "caller {} holds node {}", self.holder, self.node)
+        match self {
+            Later::Busy { node, holder } => write!(f, "caller {holder} holds node {node}"),
+            Later::Moved { node } => write!(f, "another caller changed node {node}"),
+            Later::Far => f.write_str("as many nodes were taken as there are"),
+        }
     }
 }
 
-impl Error for Busy {}
+impl Error for Later {}
 
 /// Why an insert or an add that does not wait set nothing.
 #[derive(Clone, Copy, Debug, PartialEq, Eq)]
@@ -68,14 +84,14 @@ pub enum TryInsertError {
     /// The call was made, and there was no room for a new key.
     Full(Full),
     /// The call was not made, and may be made again.
-    Busy(Busy),
+    Later(Later),
 }
 
 impl fmt::Display for TryInsertError {
     fn fmt(&self, f: &mut fmt::Formatter<'_>) -> fmt::Result {
         match self {
             TryInsertError::Full(full) => full.fmt(f),
-            TryInsertError::Busy(busy) => busy.fmt(f),
+            TryInsertError::Later(later) => later.fmt(f),
         }
     }
 }
@@ -88,8 +104,8 @@ impl From<Full> for TryInsertError {
     }
 }
 
-impl From<Busy> for TryInsertError {
-    fn from(busy: Busy) -> TryInsertError {
-        TryInsertError::Busy(busy)
+impl From<Later> for TryInsertError {
+    fn from(later: Later) -> TryInsertError {
+        TryInsertError::Later(later)
     }
 }

@@ -40,10 +40,11 @@ impl Handle {
         Handle(raw::KS_NO_CALLER)
     }
 
-    /// Opens a dictionary of this number of nodes, whose callers these handles get. The code is the library's.
-    pub(crate) fn open(nodes: u32, handles: &mut [Handle]) -> u32 {
+    /// Opens a dictionary of this structure and number of nodes, whose callers these handles get. The code is the
+    /// library's.
+    pub(crate) fn open(structure: u32, nodes: u32, handles: &mut [Handle]) -> u32 {
         // SAFETY: `Handle` is a `ks_caller` in memory, and the slice has this number of them, which nobody else has.
-        unsafe { raw::ks_c_open(nodes, handles.as_mut_ptr().cast::<ks_caller>(), handles.len()) }
+        unsafe { raw::ks_c_open(structure, nodes, handles.as_mut_ptr().cast::<ks_caller>(), handles.len()) }
     }
 
     /// Makes a call once. The code is the library's.

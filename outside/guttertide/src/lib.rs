@@ -1,13 +1,13 @@
 //! A dictionary from `u64` to `u128` that many threads use at once.
 //!
-//! It is a B-link tree over a fixed number of nodes. The library behind it is proved: all calls of all callers are one
-//! history of one map, in which each call occurs once, each caller's in their order, and each replies with the value
-//! that its key had just before it. No caller ever holds the whole map, and no call takes memory but
-//! [`Dictionary::open`]. What is proved is the library; this crate is a front of it in Rust, which is tested. So is, and
-//! not proved, that a call comes after each call of another caller that returned before it began.
+//! It is a B-link tree, or another [`Structure`], over a fixed number of nodes. The library behind it is proved: all calls
+//! of all callers are one history of one map, in which each call occurs once, each caller's in their order, and each
+//! replies with the value that its key had just before it. No caller ever holds the whole map, and no call takes
+//! memory but [`Dictionary::open`] and [`Dictionary::open_as`]. What is proved is the library; this crate is a front of it
+//! in Rust, which is tested. Tested, and not proved, is also that a call comes after each call of another caller that
+//! returned before it began.
 //!
-//! There is no iteration: the library lists the keys of a span by calls that wait for other callers, and this crate has
-//! none of those.
+//! There is no iteration: the library lists the keys of a span by calls that wait, and this crate has none of them.
 //!
 //! A thread makes its calls through a [`Caller`] of its own.
 //!
@@ -36,10 +36,10 @@
 //!
 //! # Waiting
 //!
-//! A call that meets a node which another caller holds has done nothing, and is made again: at first almost at once,
-//! and where it has failed seven times after sleeps of 50 microseconds, since a caller that holds a node that long may
-//! itself wait for a processor. The calls that begin with `try_` do not wait: they report the caller that was in the
-//! way ([`Busy`]).
+//! A call that is put off, since another caller was in the way, has done nothing, and is made again: at first almost at
+//! once, and if it has failed seven times after sleeps of 50 microseconds, since a caller that holds a node that long may
+//! itself wait for a processor. The calls that begin with `try_` do not wait: they report why they were put off
+//! ([`Later`]).
 //!
 //! # Unsafe code
 //!
@@ -51,7 +51,7 @@ mod errors;
 mod handle;
 pub mod raw;
 
-pub use errors::{Busy, Full, OpenError, TryInsertError};
+pub use errors::{Full, Later, OpenError, TryInsertError};
 use handle::{Call, Handle};
 use std::hint;
 use std::mem;
@@ -66,6 +66,49 @@ pub const NODES: RangeInclusive<u32> = 4..=1_048_576;
 /// How many callers a dictionary may have.
 pub const CALLERS: RangeInclusive<usize> = 1..=1024;
 
+/// What a dictionary is made of. All have the same calls.
+///
+/// ```
+/// use guttertide::{Dictionary, Structure};
+///
+/// for structure in Structure::ALL {
+///     let mut caller = Dictionary::open_as(structure, 64, 1)?.caller().expect("it has one");
+///     assert_eq!(caller.insert(5, 50), Ok(None));
+///     assert_eq!(caller.get(5), Some(50));
+/// }
+/// # Ok::<(), guttertide::OpenError>(())
+/// ```
+#[derive(Clone, Copy, Debug, Default, PartialEq, Eq)]
+pub enum Structure {
+    /// A B-link tree: searches hold one node at a time and never restart, and nodes are never merged. Take it unless
+    /// many keys are removed.
+    #[default]
+    BLinkTree,
+    /// A B+ tree by giving up: searches hold one node at a time, and restart if another caller moved their key away.
+    /// Nodes are merged as keys are removed.
+    GiveUpTree,
+    /// A B+ tree by lock coupling: a search holds a node until it holds the next. Nodes are merged as keys are removed.
+    BTree,
+    /// A hash table along links, for some hundred keys: with more its searches get longer. A node has at most 8 keys.
+    LinkHashTable,
+}
+
+impl Structure {
+    /// All structures.
+    pub const ALL: [Structure; 4] =
+        [Structure::BLinkTree, Structure::GiveUpTree, Structure::BTree, Structure::LinkHashTable];
+
+    /// The word of the library.
+    fn word(self) -> u32 {
+        match self {
+            Structure::BLinkTree => raw::KS_BLINK_TREE,
+            Structure::GiveUpTree => raw::KS_GIVE_UP_TREE,
+            Structure::BTree => raw::KS_B_TREE,
+            Structure::LinkHashTable => raw::KS_LINK_HASH_TABLE,
+        }
+    }
+}
+
 /// A dictionary, which hands out its callers.
 ///
 /// Its memory is given back when it and all its callers are dropped.
@@ -75,7 +118,7 @@ pub struct Dictionary {
 }
 
 impl Dictionary {
-    /// Opens an empty dictionary of `nodes` nodes ([`NODES`]), for at most `callers` callers at a time ([`CALLERS`]).
+    /// Opens an empty B-link tree of `nodes` nodes ([`NODES`]), for at most `callers` callers at a time ([`CALLERS`]).
     ///
     /// All memory that it will use is taken now, some 600 bytes a node. A node holds at most 16 keys, and after inserts
     /// in any order at least 8, so a fifth of the number of keys is enough nodes. A node that has been used stays in
@@ -93,11 +136,29 @@ impl Dictionary {
     /// assert_eq!(Dictionary::open(4, 0).unwrap_err(), OpenError::Callers(0));
     /// ```
     pub fn open(nodes: u32, callers: usize) -> Result<Dictionary, OpenError> {
+        Dictionary::open_as(Structure::default(), nodes, callers)
+    }
+
+    /// Opens an empty dictionary of a structure, as [`open`](Dictionary::open).
+    ///
+    /// Of a tree a fifth of the number of keys is enough nodes; of a hash table a third, if keys are spread.
+    ///
+    /// # Errors
+    ///
+    /// As of [`open`](Dictionary::open).
+    ///
+    /// ```
+    /// use guttertide::{Dictionary, Structure};
+    ///
+    /// let dictionary = Dictionary::open_as(Structure::GiveUpTree, 256, 4)?;
+    /// # Ok::<(), guttertide::OpenError>(())
+    /// ```
+    pub fn open_as(structure: Structure, nodes: u32, callers: usize) -> Result<Dictionary, OpenError> {
         if !CALLERS.contains(&callers) {
             return Err(OpenError::Callers(callers));
         }
         let mut handles: Vec<Handle> = (0..callers).map(|_| Handle::closed()).collect();
-        match Handle::open(nodes, &mut handles) {
+        match Handle::open(structure.word(), nodes, &mut handles) {
             raw::KS_NOTHING => Ok(Dictionary { free: Arc::new(FreeHandles(Mutex::new(handles))) }),
             raw::KS_BAD_SIZE => Err(OpenError::Nodes(nodes)),
             raw::KS_NO_MEMORY => Err(OpenError::OutOfMemory),
@@ -249,7 +310,7 @@ impl Caller {
     ///
     /// # Errors
     ///
-    /// [`Busy`] where another caller was in the way.
+    /// [`Later`] if another caller was in the way.
     ///
     /// ```
     /// # let dictionary = guttertide::Dictionary::open(64, 1).unwrap();
@@ -257,10 +318,10 @@ impl Caller {
     /// match caller.try_get(5) {
     ///     Ok(Some(value)) => println!("the key has {value}"),
     ///     Ok(None) => println!("the key has no value"),
-    ///     Err(busy) => println!("not now: {busy}"),
+    ///     Err(later) => println!("not now: {later}"),
     /// }
     /// ```
-    pub fn try_get(&mut self, key: u64) -> Result<Option<u128>, Busy> {
+    pub fn try_get(&mut self, key: u64) -> Result<Option<u128>, Later> {
         self.attempt(Call::Get { key }).map(never_full)
     }
 
@@ -268,8 +329,8 @@ impl Caller {
     ///
     /// # Errors
     ///
-    /// [`TryInsertError::Busy`] where another caller was in the way, and [`TryInsertError::Full`] where the call was
-    /// made, the key is new and no node is free for it.
+    /// [`TryInsertError::Later`] if another caller was in the way, and [`TryInsertError::Full`] if the call was made, the
+    /// key is new and no node is free for it.
     ///
     /// ```
     /// use guttertide::TryInsertError;
@@ -279,7 +340,7 @@ impl Caller {
     /// match caller.try_insert(5, 50) {
     ///     Ok(before) => println!("it had {before:?}"),
     ///     Err(TryInsertError::Full(full)) => println!("{full}"),
-    ///     Err(TryInsertError::Busy(busy)) => println!("not now: {busy}"),
+    ///     Err(TryInsertError::Later(later)) => println!("not now: {later}"),
     /// }
     /// ```
     pub fn try_insert(&mut self, key: u64, value: u128) -> Result<Option<u128>, TryInsertError> {
@@ -299,8 +360,8 @@ impl Caller {
     ///
     /// # Errors
     ///
-    /// [`Busy`] where another caller was in the way.
-    pub fn try_replace(&mut self, key: u64, old: u128, new: u128) -> Result<Option<u128>, Busy> {
+    /// [`Later`] if another caller was in the way.
+    pub fn try_replace(&mut self, key: u64, old: u128, new: u128) -> Result<Option<u128>, Later> {
         self.attempt(Call::Replace { key, old, new }).map(never_full)
     }
 
@@ -308,14 +369,14 @@ impl Caller {
     ///
     /// # Errors
     ///
-    /// [`Busy`] where another caller was in the way.
-    pub fn try_remove(&mut self, key: u64) -> Result<Option<u128>, Busy> {
+    /// [`Later`] if another caller was in the way.
+    pub fn try_remove(&mut self, key: u64) -> Result<Option<u128>, Later> {
         self.attempt(Call::Remove { key }).map(never_full)
     }
 
     /// The number of the last call that was made through this value, or `None` before the first: how many calls are
     /// before it in the one history of all callers of the dictionary. A call that is [`Full`] has a number, one that is
-    /// [`Busy`] has none.
+    /// put off ([`Later`]) has none.
     ///
     /// ```
     /// # let dictionary = guttertide::Dictionary::open(64, 2).unwrap();
@@ -335,22 +396,22 @@ impl Caller {
         loop {
             match self.attempt(call) {
                 Ok(reply) => return reply,
-                Err(Busy { .. }) => pause(failed),
+                Err(_) => pause(failed),
             }
             failed += 1;
         }
     }
 
     /// Makes a call once.
-    fn attempt(&mut self, call: Call) -> Result<Reply, Busy> {
+    fn attempt(&mut self, call: Call) -> Result<Reply, Later> {
         let mut answer = raw::ks_answer::default();
         let reply = match self.handle.call(call, &mut answer) {
             raw::KS_NOTHING => Ok(None),
             raw::KS_VALUE => Ok(Some(whole(answer.value))),
             raw::KS_FULL => Err(Full),
-            raw::KS_BUSY => {
-                return Err(Busy { node: answer.node, holder: answer.holder });
-            }
+            raw::KS_BUSY => return Err(Later::Busy { node: answer.node, holder: answer.holder }),
+            raw::KS_MOVED => return Err(Later::Moved { node: answer.node }),
+            raw::KS_FAR => return Err(Later::Far),
             code => unexpected(code),
         };
         self.number = Some(answer.number);

@@ -36,16 +36,23 @@ pub const KS_NOTHING: u32 = 0;
 pub const KS_VALUE: u32 = 1;
 pub const KS_FULL: u32 = 2;
 pub const KS_BUSY: u32 = 3;
-pub const KS_LATER: u32 = 4;
+pub const KS_MOVED: u32 = 4;
+pub const KS_FAR: u32 = 5;
 pub const KS_CLOSED: u32 = 16;
 pub const KS_BAD_SIZE: u32 = 17;
 pub const KS_NO_MEMORY: u32 = 18;
 pub const KS_IN_USE: u32 = 19;
 pub const KS_NULL: u32 = 20;
+pub const KS_NO_STRUCTURE: u32 = 21;
+
+pub const KS_BLINK_TREE: u32 = 0;
+pub const KS_GIVE_UP_TREE: u32 = 1;
+pub const KS_B_TREE: u32 = 2;
+pub const KS_LINK_HASH_TABLE: u32 = 3;
 
 #[allow(unsafe_code)]
 unsafe extern "C" {
-    pub fn ks_c_open(nodes: u32, callers: *mut ks_caller, count: usize) -> u32;
+    pub fn ks_c_open(structure: u32, nodes: u32, callers: *mut ks_caller, count: usize) -> u32;
     pub fn ks_c_get(caller: *mut ks_caller, key: u64, answer: *mut ks_answer) -> u32;
     pub fn ks_c_put(caller: *mut ks_caller, key: u64, low: u64, high: u64, answer: *mut ks_answer) -> u32;
     pub fn ks_c_add(caller: *mut ks_caller, key: u64, low: u64, high: u64, answer: *mut ks_answer) -> u32;

@@ -1,6 +1,6 @@
 //! Random calls of one thread and of many, beside a `BTreeMap`: the calls in the order of their numbers are its calls.
 
-use guttertide::{Busy, Caller, Dictionary, Full, OpenError, TryInsertError};
+use guttertide::{Caller, Dictionary, Full, Later, OpenError, Structure, TryInsertError};
 use std::collections::BTreeMap;
 use std::sync::mpsc;
 use std::thread;
@@ -39,7 +39,7 @@ impl Call {
     }
 
     /// Makes the call, if no other caller is in the way.
-    fn attempt(self, caller: &mut Caller) -> Result<Made, Busy> {
+    fn attempt(self, caller: &mut Caller) -> Result<Made, Later> {
         let reply = match self {
             Call::Get(key) => Ok(caller.try_get(key)?),
             Call::Insert(key, value) => split(caller.try_insert(key, value))?,
@@ -70,11 +70,11 @@ impl Call {
     }
 }
 
-fn split(reply: Result<Option<u128>, TryInsertError>) -> Result<Reply, Busy> {
+fn split(reply: Result<Option<u128>, TryInsertError>) -> Result<Reply, Later> {
     match reply {
         Ok(found) => Ok(Ok(found)),
         Err(TryInsertError::Full(full)) => Ok(Err(full)),
-        Err(TryInsertError::Busy(busy)) => Err(busy),
+        Err(TryInsertError::Later(later)) => Err(later),
     }
 }
 
@@ -145,8 +145,8 @@ fn assert_same(dictionary: &Dictionary, plain: &Plain, keys: u64) {
 }
 
 /// Makes `calls` calls that wait on each of some threads, and returns how many were full.
-fn wait_on_threads(nodes: u32, threads: u64, keys: u64, each: usize) -> Result<usize, OpenError> {
-    let dictionary = Dictionary::open(nodes, threads as usize)?;
+fn wait_on_threads(structure: Structure, nodes: u32, threads: u64, keys: u64, each: usize) -> Result<usize, OpenError> {
+    let dictionary = Dictionary::open_as(structure, nodes, threads as usize)?;
     let made = on_threads(&dictionary, threads, |thread, caller| {
         calls(thread, keys).take(each).map(|call| call.wait(caller)).collect()
     });
@@ -157,32 +157,51 @@ fn wait_on_threads(nodes: u32, threads: u64, keys: u64, each: usize) -> Result<u
 
 #[test]
 fn one_caller() -> Result<(), OpenError> {
-    assert_eq!(wait_on_threads(64, 1, 200, 100_000)?, 0);
+    for structure in Structure::ALL {
+        assert_eq!(wait_on_threads(structure, 64, 1, 200, 100_000)?, 0, "{structure:?}");
+    }
     Ok(())
 }
 
 #[test]
 fn eight_threads_at_few_keys() -> Result<(), OpenError> {
-    assert_eq!(wait_on_threads(64, 8, 48, 20_000)?, 0);
+    for structure in Structure::ALL {
+        assert_eq!(wait_on_threads(structure, 64, 8, 48, 20_000)?, 0, "{structure:?}");
+    }
     Ok(())
 }
 
 #[test]
 fn eight_threads_in_too_few_nodes() -> Result<(), OpenError> {
-    assert!(wait_on_threads(16, 8, 1000, 20_000)? > 0);
+    for structure in Structure::ALL {
+        assert!(wait_on_threads(structure, 16, 8, 1000, 20_000)? > 0, "{structure:?}");
+    }
     Ok(())
 }
 
 #[test]
 fn eight_threads_that_do_not_wait() -> Result<(), OpenError> {
-    let dictionary = Dictionary::open(1024, 8)?;
+    Structure::ALL.into_iter().try_for_each(do_not_wait_on_threads)
+}
+
+/// Whether the calls of a structure may be put off like this, in a dictionary of 1024 nodes and 8 callers.
+fn may_be_put_off(structure: Structure, later: Later) -> bool {
+    match later {
+        Later::Busy { node, holder } => node < 1024 && holder < 8,
+        Later::Moved { node } => node < 1024 && structure == Structure::GiveUpTree,
+        Later::Far => matches!(structure, Structure::GiveUpTree | Structure::BTree),
+    }
+}
+
+fn do_not_wait_on_threads(structure: Structure) -> Result<(), OpenError> {
+    let dictionary = Dictionary::open_as(structure, 1024, 8)?;
     let made = on_threads(&dictionary, 8, |thread, caller| {
         let tried = calls(thread, 2000).take(20_000).map(|call| call.attempt(caller));
         tried
             .filter_map(|made| match made {
                 Ok(made) => Some(made),
-                Err(Busy { node, holder }) => {
-                    assert!(node < 1024 && holder < 8);
+                Err(later) => {
+                    assert!(may_be_put_off(structure, later), "{structure:?}: {later}");
                     None
                 }
             })
@@ -224,30 +243,31 @@ fn a_fifth_of_the_keys_is_enough_nodes() -> Result<(), OpenError> {
     Ok(())
 }
 
-/// Two threads that hand on a number in turn, beside a third caller: each call has a greater number than the one before,
-/// of the other thread.
+/// Two threads that hand on a number in turn: each call has a greater number than the one before, of the other thread.
 #[test]
 fn a_call_comes_after_those_that_returned_before_it() -> Result<(), OpenError> {
-    let dictionary = Dictionary::open(64, 3)?;
-    let (to_first, first) = mpsc::channel();
-    let (to_second, second) = mpsc::channel();
-    to_first.send(None).expect("the first thread waits");
-    thread::scope(|scope| {
-        for (seed, before, next) in [(1, first, to_second), (2, second, to_first)] {
-            let mut caller = dictionary.caller().expect("a caller for each thread");
-            scope.spawn(move || {
-                for call in calls(seed, 48).take(2_000) {
-                    let before: Option<u64> = before.recv().expect("the other thread sends");
-                    let made = call.wait(&mut caller);
-                    assert!(before < Some(made.number), "{before:?}: {made:?}");
-                    // The first thread has ended when the second sends its last number.
-                    next.send(Some(made.number)).ok();
-                }
-            });
-        }
-        let mut caller = dictionary.caller().expect("a third caller");
-        calls(3, 48).take(20_000).for_each(|call| drop(call.wait(&mut caller)));
-    });
+    for structure in Structure::ALL {
+        let dictionary = Dictionary::open_as(structure, 64, 3)?;
+        let (to_first, first) = mpsc::channel();
+        let (to_second, second) = mpsc::channel();
+        to_first.send(None).expect("the first thread waits");
+        thread::scope(|scope| {
+            for (seed, before, next) in [(1, first, to_second), (2, second, to_first)] {
+                let mut caller = dictionary.caller().expect("a caller for each thread");
+                scope.spawn(move || {
+                    for call in calls(seed, 48).take(2_000) {
+                        let before: Option<u64> = before.recv().expect("the other thread sends");
+                        let made = call.wait(&mut caller);
+                        assert!(before < Some(made.number), "{before:?}: {made:?}");
+                        // The other thread has ended when the last number is sent.
+                        next.send(Some(made.number)).ok();
+                    }
+                });
+            }
+            let mut caller = dictionary.caller().expect("a third caller");
+            calls(3, 48).take(20_000).for_each(|call| drop(call.wait(&mut caller)));
+        });
+    }
     Ok(())
 }
 

@@ -42,8 +42,8 @@ fn functions() {
 fn codes() {
     let codes: Vec<&str> = HEADER.lines().filter_map(|line| line.trim().strip_prefix("KS_")).collect();
     let codes: Vec<(&str, &str)> = codes.iter().filter_map(|line| line.split_once(" = ")).collect();
-    assert_eq!(codes.len(), 10);
-    assert_eq!(RAW.matches(": u32 = ").count(), 10);
+    assert_eq!(codes.len(), 16);
+    assert_eq!(RAW.matches(": u32 = ").count(), 16);
     for (name, rest) in codes {
         let code = rest.split([',', ' ']).next().expect("a code has a number");
         assert!(RAW.contains(&format!("pub const KS_{name}: u32 = {code};")), "KS_{name} = {code}");

@@ -1,0 +1,20 @@
+use Rattle.std.proofs.Common.{refl, subst, sym}
+use Rattle.ks_c.specs.declared.caller.Caller.TheVariants.{BLinkTree, GiveUpTree, BTree, LinkHashTable}
+use Rattle.ks_c.specs.Calls.{Called}
+use Rattle.ks_c.proofs.caller.Caller.call.Goals as goal
+
+pub returns-in-BLinkTree : goal.returns-in-BLinkTree
+returns-in-BLinkTree c =
+    subst (λ b. Called c.args.call c.args.key b (BLinkTree c.along_links.new.caller) c.along_links.result c.along_links.new.out) (sym c.in-BLinkTree.is) (c.along_links.new.caller, refl, c.along_links.ensures)
+
+pub returns-in-GiveUpTree : goal.returns-in-GiveUpTree
+returns-in-GiveUpTree c =
+    subst (λ b. Called c.args.call c.args.key b (GiveUpTree c.by_giving_up.new.caller) c.by_giving_up.result c.by_giving_up.new.out) (sym c.in-GiveUpTree.is) (c.by_giving_up.new.caller, refl, c.by_giving_up.ensures)
+
+pub returns-in-BTree : goal.returns-in-BTree
+returns-in-BTree c =
+    subst (λ b. Called c.args.call c.args.key b (BTree c.by_coupling.new.caller) c.by_coupling.result c.by_coupling.new.out) (sym c.in-BTree.is) (c.by_coupling.new.caller, refl, c.by_coupling.ensures)
+
+pub returns-in-LinkHashTable : goal.returns-in-LinkHashTable
+returns-in-LinkHashTable c =
+    subst (λ b. Called c.args.call c.args.key b (LinkHashTable c.along_links-in-LinkHashTable.new.caller) c.along_links-in-LinkHashTable.result c.along_links-in-LinkHashTable.new.out) (sym c.in-LinkHashTable.is) (c.along_links-in-LinkHashTable.new.caller, refl, c.along_links-in-LinkHashTable.ensures)
