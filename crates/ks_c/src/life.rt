@@ -225,6 +225,7 @@ pub extern "C" fn ks_c_open(
     ensures handles { AreHandles callers.new }
     ensures opened { result ≡ NOTHING → AreOpened structure nodes callers.new }
     ensures same { result ≢ NOTHING → AreAsBefore callers.old callers.new }
+    ensures memory { result ≢ NOTHING → result ≢ NO_STRUCTURE → result ≢ BAD_SIZE → result ≢ IN_USE → result ≡ NO_MEMORY }
     ensures structure { (result ≡ NO_STRUCTURE) ↔ ¬ IsStructure structure }
     ensures size { (result ≡ BAD_SIZE) ↔ (IsStructure structure × ¬ IsSize nodes (length callers.old)) }
     ensures in_use { (result ≡ IN_USE) ↔ (IsStructure structure × IsSize nodes (length callers.old) × IsAnyOpen callers.old) }
