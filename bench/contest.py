@@ -145,7 +145,7 @@ class Served:
 
 
 class Spanned(ByWorkers):
-    """A script of 64 callers. Reading and printing are in no times: what is told is the span of the
+    """A script of 64 callers. Reading and printing are in no times: what is reported is the span of the
     threads. The program works on its own thread too and starts none for one worker, so its span by one worker is that of
     two, of whom the second is held until the first has served all."""
 
