@@ -1,23 +1,27 @@
 //! What `check` of the program does, in plain Rust, with nothing proved: reads a script and a run of it piece by piece, keeps
-//! calls and replies packed, and judges them over one map of the standard library.
+//! calls and replies packed, and judges them over one map of the standard library: of two kinds, since only one lists a span.
 //!
 //! usage: plain_check <TEXT
 //!
 //! It prints `legal N` or `wrong N` and ends with 0 or 6, as the program does. Where the text does not fit it ends with 2.
 
-use std::collections::HashMap;
+use std::collections::{BTreeMap, HashMap};
 use std::io::Read;
 use std::process::exit;
 
 /// More than the longest line takes.
-const LONGEST: usize = 128;
+const LONGEST: usize = 1024;
 const PIECE: usize = 1 << 16;
 const MOST_BYTES: usize = 1 << 27;
 const MOST_CALLS: usize = 1 << 20;
+/// Of all scans of a script, and of the pairs of one part.
+const MOST_PARTS: usize = 1 << 16;
+const MOST_PAIRS: usize = 16;
 /// In a slot: no reply has the number, or it is wrong. Else the slot has the caller.
 const NOBODY: u32 = u32::MAX;
 const WRONG: u32 = u32::MAX - 1;
 
+/// A line of a script.
 #[derive(Clone, Copy)]
 enum Op {
     Get(u64),
@@ -25,6 +29,9 @@ enum Op {
     Del(u64),
     Add(u64, u128),
     Swap(u64, u128, u128),
+    Move(u64, u64),
+    /// From one key to another, in so many parts at most, each of which is a call.
+    Scan(u64, u64, usize),
 }
 
 #[derive(Clone, Copy, PartialEq)]
@@ -32,6 +39,14 @@ enum Reply {
     Nothing,
     Value(u128),
     Full,
+    Kept,
+}
+
+/// A part of a scan: the pairs of a span.
+struct Part {
+    low: u64,
+    last: u64,
+    pairs: Vec<(u64, u128)>,
 }
 
 /// A call in 24 bytes; one with more in it stands among others.
@@ -71,18 +86,22 @@ impl Calls {
     }
 }
 
-/// A reply in 16 bytes; one with more in it stands among others.
+/// A reply in 16 bytes; one with more in it is in the list of others, or is a part.
 enum Line {
     Nothing,
     Value(u64),
     Full,
+    Kept,
     Other(usize),
+    Part(usize),
 }
 
+/// The numbered lines of a caller.
 #[derive(Default)]
 struct Lines {
     small: Vec<Line>,
     others: Vec<u128>,
+    parts: Vec<Part>,
 }
 
 impl Lines {
@@ -90,6 +109,7 @@ impl Lines {
         self.small.push(match reply {
             Reply::Nothing => Line::Nothing,
             Reply::Full => Line::Full,
+            Reply::Kept => Line::Kept,
             Reply::Value(value) if value <= u64::MAX.into() => Line::Value(value as u64),
             Reply::Value(value) => {
                 self.others.push(value);
@@ -98,12 +118,19 @@ impl Lines {
         });
     }
 
-    fn get(&self, at: usize) -> Reply {
+    fn push_part(&mut self, part: Part) {
+        self.parts.push(part);
+        self.small.push(Line::Part(self.parts.len() - 1));
+    }
+
+    fn get(&self, at: usize) -> Result<Reply, &Part> {
         match self.small[at] {
-            Line::Nothing => Reply::Nothing,
-            Line::Value(value) => Reply::Value(value.into()),
-            Line::Full => Reply::Full,
-            Line::Other(place) => Reply::Value(self.others[place]),
+            Line::Nothing => Ok(Reply::Nothing),
+            Line::Value(value) => Ok(Reply::Value(value.into())),
+            Line::Full => Ok(Reply::Full),
+            Line::Kept => Ok(Reply::Kept),
+            Line::Other(place) => Ok(Reply::Value(self.others[place])),
+            Line::Part(place) => Err(&self.parts[place]),
         }
     }
 }
@@ -173,6 +200,20 @@ fn key_and_value(bytes: &[u8]) -> Parsed<'_, (u64, u128)> {
     Some(((key, value), rest))
 }
 
+fn scan(bytes: &[u8]) -> Parsed<'_, Op> {
+    let (low, rest) = number(bytes)?;
+    let (last, rest) = number(rest.strip_prefix(b" ")?)?;
+    let (most, rest) = number(rest.strip_prefix(b" ")?)?;
+    let fits = low <= last && (1..=64).contains(&most);
+    fits.then_some((Op::Scan(low, last, most as usize), rest))
+}
+
+fn move_of(bytes: &[u8]) -> Parsed<'_, Op> {
+    let (from, rest) = number(bytes)?;
+    let (to, rest) = number(rest.strip_prefix(b" ")?)?;
+    (from != to).then_some((Op::Move(from, to), rest))
+}
+
 /// A line of a call: whose it may be hangs on the version of the script.
 fn call(version: u32, bytes: &[u8]) -> Parsed<'_, Op> {
     let (kind, bytes) = (bytes.get(..4)?, bytes.get(4..)?);
@@ -180,15 +221,17 @@ fn call(version: u32, bytes: &[u8]) -> Parsed<'_, Op> {
         b"get " => number(bytes).map(|(key, rest)| (Op::Get(key), rest)),
         b"del " => number(bytes).map(|(key, rest)| (Op::Del(key), rest)),
         b"put " => key_and_value(bytes).map(|((key, value), rest)| (Op::Put(key, value), rest)),
-        b"add " if version == 2 => key_and_value(bytes).map(|((key, value), rest)| (Op::Add(key, value), rest)),
-        b"swap" if version == 2 => {
+        b"add " if version >= 2 => key_and_value(bytes).map(|((key, value), rest)| (Op::Add(key, value), rest)),
+        b"swap" if version >= 2 => {
             let ((key, old), rest) = key_and_value(bytes.strip_prefix(b" ")?)?;
             let (new, rest) = value(rest.strip_prefix(b" ")?)?;
             Some((Op::Swap(key, old, new), rest))
         }
+        b"scan" if version >= 3 => scan(bytes.strip_prefix(b" ")?),
+        b"move" if version >= 4 => move_of(bytes.strip_prefix(b" ")?),
         _ => None,
     }?;
-    let is_narrow = version == 2 || !matches!(op, Op::Put(_, value) if value > u64::MAX.into());
+    let is_narrow = version >= 2 || !matches!(op, Op::Put(_, value) if value > u64::MAX.into());
     if is_narrow { ended(op, rest) } else { None }
 }
 
@@ -200,11 +243,26 @@ fn line(bytes: &[u8]) -> Parsed<'_, (u64, Reply)> {
         (Reply::Nothing, rest)
     } else if let Some(rest) = rest.strip_prefix(b"full") {
         (Reply::Full, rest)
+    } else if let Some(rest) = rest.strip_prefix(b"kept") {
+        (Reply::Kept, rest)
     } else {
         let (value, rest) = value(rest)?;
         (Reply::Value(value), rest)
     };
     ended((number, reply), rest)
+}
+
+/// A line of a part that begins at this key, with the number of its call.
+fn part(low: u64, bytes: &[u8]) -> Parsed<'_, (u64, Part)> {
+    let (number, rest) = number(bytes)?;
+    let (last, mut rest) = self::number(rest.strip_prefix(b" ")?)?;
+    let mut pairs = Vec::new();
+    while let Some(more) = rest.strip_prefix(b" ") {
+        let pair;
+        (pair, rest) = key_and_value(more)?;
+        pairs.push(pair);
+    }
+    ended((number, Part { low, last, pairs }), rest)
 }
 
 fn pair(bytes: &[u8]) -> Parsed<'_, (u64, u128)> {
@@ -254,46 +312,102 @@ impl Text {
 }
 
 fn read_script(text: &mut Text) -> Option<Vec<Calls>> {
-    let version = if text.has("script 2") { 2 } else { 1 };
-    let most_callers = if version == 2 { 1024 } else { 64 };
+    let version = (2..=4).find(|version| text.has(&format!("script {version}"))).unwrap_or(1);
+    let most_callers = if version == 1 { 64 } else { 1024 };
     let mut callers: Vec<Calls> = Vec::new();
-    let mut calls = 0;
+    let (mut calls, mut parts) = (0, 0);
     loop {
         if let Some(op) = text.next(|bytes| call(version, bytes)) {
             callers.last_mut()?.push(op);
             calls += 1;
+            if let Op::Scan(_, _, most) = op {
+                parts += most;
+            }
         } else if text.has("caller") {
             callers.push(Calls::default());
         } else {
             return text.has("run").then_some(callers);
         }
-        if callers.len() > most_callers || calls > MOST_CALLS {
+        if callers.len() > most_callers || calls > MOST_CALLS || parts > MOST_PARTS {
             return None;
         }
     }
 }
 
-/// The replies to each caller's calls, and for each number the caller who has it.
+/// For each number the caller who has it.
+struct Slots {
+    callers: Vec<u32>,
+    taken: usize,
+}
+
+impl Slots {
+    /// A slot for each number that the lines can have.
+    fn of(callers: &[Calls]) -> Slots {
+        let most = |op: &Op| if let Op::Scan(_, _, most) = op { *most } else { 0 };
+        let lines = |calls: &Calls| calls.small.len() + calls.others.iter().map(most).sum::<usize>();
+        Slots { callers: vec![NOBODY; callers.iter().map(lines).sum()], taken: 0 }
+    }
+
+    /// One line more of a caller, of whose numbers so far this is the greatest.
+    fn note(&mut self, caller: usize, number: u64, greatest: &mut u64) {
+        if let Some(slot) = usize::try_from(number).ok().and_then(|number| self.callers.get_mut(number)) {
+            *slot = if *slot == NOBODY && *greatest <= number { caller as u32 } else { WRONG };
+        }
+        *greatest = number.max(*greatest);
+        self.taken += 1;
+    }
+}
+
+/// The parts of a scan with their numbers: as many as there must be, up to where it must have stopped.
+fn read_parts(text: &mut Text, low: u64, last: u64, most: usize) -> Option<Vec<(u64, Part)>> {
+    let (mut parts, mut begin) = (Vec::new(), low);
+    loop {
+        let (number, part) = text.next(|bytes| part(begin, bytes))?;
+        let end = part.last;
+        if end < begin || last < end || part.pairs.len() > MOST_PAIRS {
+            return None;
+        }
+        parts.push((number, part));
+        if end == last {
+            return text.has("whole").then_some(parts);
+        }
+        begin = end + 1;
+        if parts.len() == most {
+            return text.has(&format!("until {begin}")).then_some(parts);
+        }
+    }
+}
+
+/// The numbered lines of each caller, and for each number the caller who has it.
 fn read_replies(text: &mut Text, callers: &[Calls]) -> Option<(Vec<Lines>, Vec<u32>)> {
-    let mut slots = vec![NOBODY; callers.iter().map(|calls| calls.small.len()).sum()];
+    let mut slots = Slots::of(callers);
     let mut replies = Vec::with_capacity(callers.len());
     for (caller, calls) in callers.iter().enumerate() {
         if !text.has(&format!("caller {caller}")) {
             return None;
         }
-        let mut lines = Lines { small: Vec::with_capacity(calls.small.len()), others: Vec::new() };
+        let mut lines = Lines { small: Vec::with_capacity(calls.small.len()), ..Lines::default() };
         let mut greatest = 0;
-        for _ in 0..calls.small.len() {
-            let (number, reply) = text.next(line)?;
-            if let Some(slot) = usize::try_from(number).ok().and_then(|number| slots.get_mut(number)) {
-                *slot = if *slot == NOBODY && greatest <= number { caller as u32 } else { WRONG };
+        for at in 0..calls.small.len() {
+            let op = if let Call::Other(place) = calls.small[at] { Some(calls.others[place]) } else { None };
+            if let Some(Op::Scan(low, last, most)) = op {
+                for (number, part) in read_parts(text, low, last, most)? {
+                    slots.note(caller, number, &mut greatest);
+                    lines.push_part(part);
+                }
+                continue;
             }
-            greatest = greatest.max(number);
+            let (number, reply) = text.next(line)?;
+            if reply == Reply::Kept && !matches!(op, Some(Op::Move(..))) {
+                return None;
+            }
+            slots.note(caller, number, &mut greatest);
             lines.push(reply);
         }
         replies.push(lines);
     }
-    Some((replies, slots))
+    slots.callers.truncate(slots.taken);
+    Some((replies, slots.callers))
 }
 
 fn read_pairs(text: &mut Text) -> Option<Vec<(u64, u128)>> {
@@ -311,45 +425,130 @@ fn read_pairs(text: &mut Text) -> Option<Vec<(u64, u128)>> {
     is_whole.then_some(pairs)
 }
 
+/// A map of the standard library.
+trait Map {
+    fn value(&self, key: u64) -> Option<u128>;
+    fn set(&mut self, key: u64, value: u128) -> Option<u128>;
+    fn unset(&mut self, key: u64) -> Option<u128>;
+    /// Whether the part has all its pairs of the span.
+    fn lists(&self, part: &Part) -> bool;
+    fn is(&self, pairs: &[(u64, u128)]) -> bool;
+}
+
+impl Map for HashMap<u64, u128> {
+    fn value(&self, key: u64) -> Option<u128> {
+        self.get(&key).copied()
+    }
+
+    fn set(&mut self, key: u64, value: u128) -> Option<u128> {
+        self.insert(key, value)
+    }
+
+    fn unset(&mut self, key: u64) -> Option<u128> {
+        self.remove(&key)
+    }
+
+    fn lists(&self, _: &Part) -> bool {
+        unreachable!("a run without scans")
+    }
+
+    fn is(&self, pairs: &[(u64, u128)]) -> bool {
+        self.len() == pairs.len() && pairs.iter().all(|(key, value)| self.get(key) == Some(value))
+    }
+}
+
+impl Map for BTreeMap<u64, u128> {
+    fn value(&self, key: u64) -> Option<u128> {
+        self.get(&key).copied()
+    }
+
+    fn set(&mut self, key: u64, value: u128) -> Option<u128> {
+        self.insert(key, value)
+    }
+
+    fn unset(&mut self, key: u64) -> Option<u128> {
+        self.remove(&key)
+    }
+
+    fn lists(&self, part: &Part) -> bool {
+        self.range(part.low..=part.last).map(|(key, value)| (*key, *value)).eq(part.pairs.iter().copied())
+    }
+
+    fn is(&self, pairs: &[(u64, u128)]) -> bool {
+        self.iter().map(|(key, value)| (*key, *value)).eq(pairs.iter().copied())
+    }
+}
+
 /// Makes the call, and says whether this is its reply.
-fn is_reply(map: &mut HashMap<u64, u128>, op: Op, reply: Reply) -> bool {
+fn is_reply<M: Map>(map: &mut M, op: Op, reply: Reply) -> bool {
     if reply == Reply::Full {
-        return matches!(op, Op::Put(..) | Op::Add(..));
+        return matches!(op, Op::Put(..) | Op::Add(..) | Op::Move(..));
     }
     let before = match op {
-        Op::Get(key) => map.get(&key).copied(),
-        Op::Put(key, value) => map.insert(key, value),
-        Op::Del(key) => map.remove(&key),
+        Op::Get(key) => map.value(key),
+        Op::Put(key, value) => map.set(key, value),
+        Op::Del(key) => map.unset(key),
         Op::Add(key, value) => {
-            let before = map.get(&key).copied();
-            map.entry(key).or_insert(value);
-            before
-        }
-        Op::Swap(key, old, new) => {
-            let before = map.get(&key).copied();
-            if before == Some(old) {
-                map.insert(key, new);
+            let before = map.value(key);
+            if before.is_none() {
+                map.set(key, value);
             }
             before
         }
+        Op::Swap(key, old, new) => {
+            let before = map.value(key);
+            if before == Some(old) {
+                map.set(key, new);
+            }
+            before
+        }
+        Op::Move(from, to) => {
+            let before = map.value(from);
+            if before.is_some() && map.value(to).is_some() {
+                return reply == Reply::Kept;
+            }
+            if let Some(value) = before {
+                map.unset(from);
+                map.set(to, value);
+            }
+            before
+        }
+        Op::Scan(..) => return false,
     };
     before.map_or(Reply::Nothing, Reply::Value) == reply
 }
 
+/// How far a caller's script and lines have been judged.
+#[derive(Clone, Copy, Default)]
+struct Place {
+    call: usize,
+    line: usize,
+}
+
 /// The least number that is wrong, if there is one.
-fn wrong(callers: &[Calls], replies: &[Lines], slots: &[u32], pairs: &[(u64, u128)]) -> Option<usize> {
-    let mut map = HashMap::new();
-    let mut places = vec![0; callers.len()];
+fn wrong<M: Map>(map: &mut M, callers: &[Calls], replies: &[Lines], slots: &[u32], pairs: &[(u64, u128)]) -> Option<usize> {
+    let mut places = vec![Place::default(); callers.len()];
     for (number, slot) in slots.iter().enumerate() {
         let caller = *slot as usize;
         let Some(place) = places.get_mut(caller) else { return Some(number) };
-        if !is_reply(&mut map, callers[caller].get(*place), replies[caller].get(*place)) {
+        let is_right = match replies[caller].get(place.line) {
+            Ok(reply) => {
+                let mut op = callers[caller].get(place.call);
+                while let Op::Scan(..) = op {
+                    place.call += 1;
+                    op = callers[caller].get(place.call);
+                }
+                place.call += 1;
+                is_reply(map, op, reply)
+            }
+            Err(part) => map.lists(part),
+        };
+        if !is_right {
             return Some(number);
         }
-        *place += 1;
+        place.line += 1;
     }
-    let is_map = map.len() == pairs.len() && pairs.iter().all(|(key, value)| map.get(key) == Some(value));
-    (!is_map).then_some(slots.len())
+    (!map.is(pairs)).then_some(slots.len())
 }
 
 /// Reads and judges; none where the text does not fit.
@@ -358,7 +557,13 @@ fn check() -> Option<Result<usize, usize>> {
     let callers = read_script(&mut text)?;
     let (replies, slots) = read_replies(&mut text, &callers)?;
     let pairs = read_pairs(&mut text)?;
-    Some(wrong(&callers, &replies, &slots, &pairs).map_or(Ok(slots.len()), Err))
+    let has_parts = replies.iter().any(|lines| !lines.parts.is_empty());
+    let wrong = if has_parts {
+        wrong(&mut BTreeMap::new(), &callers, &replies, &slots, &pairs)
+    } else {
+        wrong(&mut HashMap::new(), &callers, &replies, &slots, &pairs)
+    };
+    Some(wrong.map_or(Ok(slots.len()), Err))
 }
 
 fn main() {

@@ -2,6 +2,8 @@
 use Rattle.std.proofs.Common.{ℕ, ◌≡◌, ◌≤◌, ◌⊎◌, inl, inr, List, length, get_or, [], refl, sym, ◌∙◌, ap, subst, arith, if◌then◌else◌, ◌==◌}
 use Rattle.std.specs.Fmt.{decimal}
 use Rattle.std.proofs.lemmas.Fmt.{decimal_injective}
+use Rattle.ks_dictionary.specs.declared.aiding.Aiding.{Aiding}
+use Rattle.ks_dictionary.specs.declared.aiding.Aiding.TheVariants.{Guides, Hints}
 use Rattle.ks_batch.specs.declared.pairings.Pairing.{Pairing}
 use Rattle.ks_batch.specs.declared.pairings.Pairing.TheVariants.{ListCoupling, BplusCoupling, HashCoupling, BstCoupling, ListGiveUp, BplusGiveUp, HashGiveUp, BstGiveUp, BplusLink, HashLink}
 use Rattle.ks_batch.specs.declared.words.Draft.{Draft}
@@ -21,24 +23,32 @@ record Front (words : List (List ℕ)) (p : Pairing) (n : ℕ) : Type 0 where
   pub limit : n ≤ 1048576
 
 front : (words : List (List ℕ)) (p : Pairing) (n : ℕ) → AsksToRun words p n → Front words p n
-front words p n (workers, s) = by_words s.is
+front words p n (workers, aiding, s) = by_words aiding s.is s.limits.1
   where
-    by_words : AreWords words (Run p n workers) → Front words p n
-    by_words (inl e) = let long : length words ≡ 5 = ap length e in record {
+    by_words : (a : Aiding) → AreWords words (Run p n workers a) → n ≤ 1048576 → Front words p n
+    by_words Guides (inl e) le = let long : length words ≡ 5 = ap length e in record {
       least = omega arith;
       most = omega arith;
       nodes = ap (λ xs. get_or xs 1 []) e;
       template = ap (λ xs. get_or xs 2 []) e;
       arena = ap (λ xs. get_or xs 3 []) e;
-      limit = s.limits.1;
+      limit = le;
     }
-    by_words (inr (e, _)) = let long : length words ≡ 4 = ap length e in record {
+    by_words Guides (inr (e, _)) le = let long : length words ≡ 4 = ap length e in record {
       least = omega arith;
       most = omega arith;
       nodes = ap (λ xs. get_or xs 1 []) e;
       template = ap (λ xs. get_or xs 2 []) e;
       arena = ap (λ xs. get_or xs 3 []) e;
-      limit = s.limits.1;
+      limit = le;
+    }
+    by_words Hints e le = let long : length words ≡ 5 = ap length e in record {
+      least = omega arith;
+      most = omega arith;
+      nodes = ap (λ xs. get_or xs 1 []) e;
+      template = ap (λ xs. get_or xs 2 []) e;
+      arena = ap (λ xs. get_or xs 3 []) e;
+      limit = le;
     }
 
 long_make : (words : List (List ℕ)) (p : Pairing) (n : ℕ) (d : Draft) → Spells words (Make p n d) → length words ≡ 7
@@ -48,7 +58,7 @@ pub not_both : (words : List (List ℕ)) → Asks words Script → Asks words Ch
 not_both words run check = let f = front words run.0 run.1 run.2 in let least = f.least in let e : length words ≡ 1 = ap length check.is in omega arith
 
 pub asks_command : (words : List (List ℕ)) (t : Text) → Asks words t → IsCommand words
-asks_command words Script asks = (Run asks.0 asks.1 asks.2.0, asks.2.1)
+asks_command words Script asks = (Run asks.0 asks.1 asks.2.0 asks.2.1, asks.2.2)
 asks_command words Checked asks = (Check, asks)
 
 pub only : (P : Text → Type 0) (words : List (List ℕ)) (t u : Text) → Asks words t → Asks words u → P t → P u
@@ -133,10 +143,15 @@ check_serves_none words p n s (inl other) = let f = front words p n other in let
 check_serves_none words p n s (inr other) = let e = ap length (sym s.is ∙ other.1.is) in omega (arith, e)
 
 pub serve_command : (words : List (List ℕ)) (p : Pairing) (n : ℕ) → AskToServe words p n → IsCommand words
-serve_command words p n (inl s) = (Run p n s.0, s.1)
+serve_command words p n (inl s) = (Run p n s.0 s.1, s.2)
 serve_command words p n (inr s) = (Make p n s.0, s.1)
 
 pub not_six : {n : ℕ} → (n ≡ 0) ⊎ ((n ≡ 4) ⊎ (n ≡ 5)) → n ≡ 6 → ⊥
 not_six (inl e) is = omega (arith, e, is)
 not_six (inr (inl e)) is = omega (arith, e, is)
 not_six (inr (inr e)) is = omega (arith, e, is)
+
+pub not_seven : {n : ℕ} → (n ≡ 0) ⊎ ((n ≡ 4) ⊎ (n ≡ 5)) → n ≡ 7 → ⊥
+not_seven (inl e) is = omega (arith, e, is)
+not_seven (inr (inl e)) is = omega (arith, e, is)
+not_seven (inr (inr e)) is = omega (arith, e, is)

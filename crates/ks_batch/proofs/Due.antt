@@ -2,16 +2,17 @@
 use Rattle.std.proofs.Common.{ℕ, zero, suc, ◌≡◌, ◌≤◌, ◌<◌, ◌+◌, ◌-◌, ◌⊎◌, ◌↔◌, inl, inr, List, ◌++◌, length, take, drop, Option, Some, None, refl, sym, ◌∙◌, ap, subst, arith, append_assoc}
 use Rattle.std.specs.Prelude.{IfSome, IsSome}
 use Rattle.std.proofs.lemmas.List.{take-append-drop, take-take}
-use Rattle.ks_history.specs.declared.Op.{Op}
+use Rattle.ks_lines.specs.declared.Line.{Line}
 use Rattle.ks_history.specs.declared.Event.{Event}
 use Rattle.ks_script.specs.Lines.{lines_of, Begins, FirstBad}
 use Rattle.ks_script.specs.Script.{AreScript}
 use Rattle.ks_script.specs.Checked.{AreChecked}
 use Rattle.ks_script.specs.Run.{Run}
 use Rattle.ks_judge.specs.declared.judging.Judged.{Judged}
+use Rattle.ks_batch.specs.declared.pairings.Pairing.{Pairing}
 use Rattle.ks_batch.specs.declared.words.Text.{Text}
 use Rattle.ks_batch.specs.declared.words.Text.TheVariants.{Script, Checked}
-use Rattle.ks_batch.specs.Serve.{FirstBadOf, RefusedAt, Accepts, AcceptsChecked, Prints, Judges, IsCheck}
+use Rattle.ks_batch.specs.Serve.{FirstBadOf, RefusedAt, UnfitAt, Accepts, AcceptsChecked, Prints, Judges, IsCheck}
 
 module _ (IsText : List (List ℕ) → Type 0) (lines : List (List ℕ)) where
   -- the first lines of a text begin one
@@ -42,11 +43,11 @@ module _ (IsText : List (List ℕ) → Type 0) (lines : List (List ℕ)) where
 abbrev pub IsAccepted : Text → List ℕ → Type 0
 IsAccepted text bytes = (n : ℕ) → RefusedAt text bytes n → ⊥
 
-pub script_accepted : (bytes : List ℕ) (script : List (List Op)) → Accepts bytes script → IsAccepted Script bytes
+pub script_accepted : (bytes : List ℕ) (script : List (List Line)) → Accepts bytes script → IsAccepted Script bytes
 script_accepted bytes script a zero bad = let le = a.within in omega (arith, bad)
 script_accepted bytes script a (suc n) bad = text_not_bad AreScript (lines_of bytes) (suc n) bad.1 (a.reads.0, script, a.reads.1)
 
-pub checked_accepted : (bytes : List ℕ) (script : List (List Op)) (run : Run) → AcceptsChecked bytes script run → IsAccepted Checked bytes
+pub checked_accepted : (bytes : List ℕ) (script : List (List Line)) (run : Run) → AcceptsChecked bytes script run → IsAccepted Checked bytes
 checked_accepted bytes script run a zero bad = let le = a.within in omega (arith, bad)
 checked_accepted bytes script run a (suc n) bad = text_not_bad AreChecked (lines_of bytes) (suc n) bad.1 (a.reads.0, script, run, a.reads.1)
 
@@ -69,22 +70,24 @@ refused_once text bytes (suc n) (suc m) a b = by_side (side (suc n) (suc m))
     by_side (inr (inl lt)) = absurd (first_once text bytes (suc m) (suc n) b.1 a.1 lt)
     by_side (inr (inr e)) = e
 
--- what is known of an outcome
-pub record IsOutcome (text : Text) (left : Option (List ℕ)) (rose out_rose : Type 0) (status line : ℕ) : Type 0 where
-  pub known : (status ≡ 1 → ⊥) × (status ≤ 6)
+-- what is known of an outcome; Unfit says at which line a text is not served
+pub record IsOutcome (text : Text) (left : Option (List ℕ)) (rose out_rose : Type 0) (Unfit : List ℕ → ℕ → Type 0) (status line : ℕ) : Type 0 where
+  pub known : (status ≡ 1 → ⊥) × (status ≤ 7)
   pub done : status ≡ 0 → IfSome left (IsAccepted text)
   pub cut : status ≡ 4 → IfSome left (IsAccepted text)
   pub wrong : status ≡ 6 → IfSome left (IsAccepted text)
   pub refused : status ≡ 2 → IfSome left (λ bytes. RefusedAt text bytes line)
+  pub unfit : status ≡ 7 → IfSome left (λ bytes. Unfit bytes line)
+  pub unfit_accepted : (bytes : List ℕ) (n : ℕ) → Unfit bytes n → IsAccepted text bytes
   pub source : status ≡ 3 → rose
   pub output : status ≡ 4 → out_rose
 
-pub due_refusal : (text : Text) (left : Option (List ℕ)) (rose out_rose : Type 0) (status line : ℕ) → IsOutcome text left rose out_rose status line →
+pub due_refusal : (text : Text) (left : Option (List ℕ)) (rose out_rose : Type 0) (Unfit : List ℕ → ℕ → Type 0) (status line : ℕ) → IsOutcome text left rose out_rose Unfit status line →
     (rose → ⊥) → IfSome left (λ bytes. (n : ℕ) → RefusedAt text bytes n → ((status ≡ 2) × (line ≡ n)) ⊎ (status ≡ 5))
-due_refusal text None rose out_rose status line o calm = tt
-due_refusal text (Some bytes) rose out_rose status line o calm = λ n bad. by_status n bad status refl o.known.1
+due_refusal text None rose out_rose Unfit status line o calm = tt
+due_refusal text (Some bytes) rose out_rose Unfit status line o calm = λ n bad. by_status n bad status refl o.known.1
   where
-    by_status : (n : ℕ) → RefusedAt text bytes n → (s : ℕ) → status ≡ s → s ≤ 6 → ((status ≡ 2) × (line ≡ n)) ⊎ (status ≡ 5)
+    by_status : (n : ℕ) → RefusedAt text bytes n → (s : ℕ) → status ≡ s → s ≤ 7 → ((status ≡ 2) × (line ≡ n)) ⊎ (status ≡ 5)
     by_status n bad zero is le = absurd (o.done is n bad)
     by_status n bad (suc zero) is le = absurd (o.known.0 is)
     by_status n bad (suc (suc zero)) is le = inl (is, refused_once text bytes n line bad (o.refused is))
@@ -92,22 +95,24 @@ due_refusal text (Some bytes) rose out_rose status line o calm = λ n bad. by_st
     by_status n bad (suc (suc (suc (suc zero)))) is le = absurd (o.cut is n bad)
     by_status n bad (suc (suc (suc (suc (suc zero))))) is le = inr is
     by_status n bad (suc (suc (suc (suc (suc (suc zero)))))) is le = absurd (o.wrong is n bad)
-    by_status n bad (suc (suc (suc (suc (suc (suc (suc s))))))) is le = absurd (omega arith)
+    by_status n bad (suc (suc (suc (suc (suc (suc (suc zero))))))) is le = absurd (o.unfit_accepted bytes line (o.unfit is) n bad)
+    by_status n bad (suc (suc (suc (suc (suc (suc (suc (suc s)))))))) is le = absurd (omega arith)
 
-pub due_answer : (text : Text) (left : Option (List ℕ)) (rose out_rose : Type 0) (status line : ℕ) → IsOutcome text left rose out_rose status line →
-    (rose → ⊥) → (out_rose → ⊥) → IfSome left (λ bytes. IsAccepted text bytes → (status ≡ 0) ⊎ ((status ≡ 6) ⊎ (status ≡ 5)))
-due_answer text None rose out_rose status line o calm out_calm = tt
-due_answer text (Some bytes) rose out_rose status line o calm out_calm = λ accepted. by_status accepted status refl o.known.1
+pub due_answer : (text : Text) (left : Option (List ℕ)) (rose out_rose : Type 0) (Unfit : List ℕ → ℕ → Type 0) (status line : ℕ) → IsOutcome text left rose out_rose Unfit status line →
+    (rose → ⊥) → (out_rose → ⊥) → IfSome left (λ bytes. IsAccepted text bytes → ((n : ℕ) → Unfit bytes n → ⊥) → (status ≡ 0) ⊎ ((status ≡ 6) ⊎ (status ≡ 5)))
+due_answer text None rose out_rose Unfit status line o calm out_calm = tt
+due_answer text (Some bytes) rose out_rose Unfit status line o calm out_calm = λ accepted fit. by_status accepted fit status refl o.known.1
   where
-    by_status : IsAccepted text bytes → (s : ℕ) → status ≡ s → s ≤ 6 → (status ≡ 0) ⊎ ((status ≡ 6) ⊎ (status ≡ 5))
-    by_status accepted zero is le = inl is
-    by_status accepted (suc zero) is le = absurd (o.known.0 is)
-    by_status accepted (suc (suc zero)) is le = absurd (accepted line (o.refused is))
-    by_status accepted (suc (suc (suc zero))) is le = absurd (calm (o.source is))
-    by_status accepted (suc (suc (suc (suc zero)))) is le = absurd (out_calm (o.output is))
-    by_status accepted (suc (suc (suc (suc (suc zero))))) is le = inr (inr is)
-    by_status accepted (suc (suc (suc (suc (suc (suc zero)))))) is le = inr (inl is)
-    by_status accepted (suc (suc (suc (suc (suc (suc (suc s))))))) is le = absurd (omega arith)
+    by_status : IsAccepted text bytes → ((n : ℕ) → Unfit bytes n → ⊥) → (s : ℕ) → status ≡ s → s ≤ 7 → (status ≡ 0) ⊎ ((status ≡ 6) ⊎ (status ≡ 5))
+    by_status accepted fit zero is le = inl is
+    by_status accepted fit (suc zero) is le = absurd (o.known.0 is)
+    by_status accepted fit (suc (suc zero)) is le = absurd (accepted line (o.refused is))
+    by_status accepted fit (suc (suc (suc zero))) is le = absurd (calm (o.source is))
+    by_status accepted fit (suc (suc (suc (suc zero)))) is le = absurd (out_calm (o.output is))
+    by_status accepted fit (suc (suc (suc (suc (suc zero))))) is le = inr (inr is)
+    by_status accepted fit (suc (suc (suc (suc (suc (suc zero)))))) is le = inr (inl is)
+    by_status accepted fit (suc (suc (suc (suc (suc (suc (suc zero))))))) is le = absurd (fit line (o.unfit is))
+    by_status accepted fit (suc (suc (suc (suc (suc (suc (suc (suc s)))))))) is le = absurd (omega arith)
 
 -- what is known of the outcome of a script
 
@@ -116,16 +121,22 @@ printed_accepted place None run Took some p = tt
 printed_accepted place (Some bytes) None Took some p = cc
 printed_accepted place (Some bytes) (Some h) Took some p = script_accepted bytes p.tells.script p.tells.accepts
 
-pub script_outcome : (place : ℕ → ℕ) (left : Option (List ℕ)) (rose out_rose : Type 0) (Whole Front : List ℕ → Type 0) (status line : ℕ) (run : Option (List Event)) →
-    (status ≡ 1 → ⊥) × (status ≤ 5) → IsSome run ↔ ((status ≡ 0) ⊎ (status ≡ 4)) →
+-- a script with a line that is not served is accepted
+pub unfit_accepted : (pairing : Pairing) (bytes : List ℕ) (n : ℕ) → UnfitAt pairing bytes n → IsAccepted Script bytes
+unfit_accepted pairing bytes n unfit = script_accepted bytes unfit.script unfit.accepts
+
+pub script_outcome : (pairing : Pairing) (place : ℕ → ℕ) (left : Option (List ℕ)) (rose out_rose : Type 0) (Whole Front : List ℕ → Type 0) (status line : ℕ) (run : Option (List Event)) →
+    (status ≡ 1 → ⊥) × (status ≡ 6 → ⊥) × (status ≤ 7) → IsSome run ↔ ((status ≡ 0) ⊎ (status ≡ 4)) →
     (status ≡ 0 → IfSome left (λ bytes. IfSome run (λ h. Prints place bytes h Whole))) → (status ≡ 4 → IfSome left (λ bytes. IfSome run (λ h. Prints place bytes h Front))) →
-    (status ≡ 2 → IfSome left (λ bytes. RefusedAt Script bytes line)) → (status ≡ 3 → rose) → (status ≡ 4 → out_rose) → IsOutcome Script left rose out_rose status line
-script_outcome place left rose out_rose Whole Front status line run known ran done cut refused source output = record {
-  known = (known.0, let le = known.1 in omega arith);
+    (status ≡ 2 → IfSome left (λ bytes. RefusedAt Script bytes line)) → (status ≡ 7 → IfSome left (λ bytes. UnfitAt pairing bytes line)) → (status ≡ 3 → rose) → (status ≡ 4 → out_rose) → IsOutcome Script left rose out_rose (UnfitAt pairing) status line
+script_outcome pairing place left rose out_rose Whole Front status line run known ran done cut refused unfit source output = record {
+  known = (known.0, known.2);
   done = λ is. printed_accepted place left run Whole (ran.1 (inl is)) (done is);
   cut = λ is. printed_accepted place left run Front (ran.1 (inr is)) (cut is);
-  wrong = λ is. let le = known.1 in absurd (omega arith);
+  wrong = λ is. absurd (known.1 is);
   refused = refused;
+  unfit = unfit;
+  unfit_accepted = unfit_accepted pairing;
   source = source;
   output = output;
 }
@@ -139,24 +150,44 @@ judged_accepted bytes judged j = checked_accepted bytes j.script j.run j.accepts
 
 pub check_outcome : (left : Option (List ℕ)) (rose out_rose : Type 0) (old new : Option (List ℕ)) (status line number : ℕ) →
     (status ≡ 1 → ⊥) × (status ≤ 6) → IsCheck left old new status number →
-    (status ≡ 2 → IfSome left (λ bytes. RefusedAt Checked bytes line)) → (status ≡ 3 → rose) → (status ≡ 4 → out_rose) → IsOutcome Checked left rose out_rose status line
+    (status ≡ 2 → IfSome left (λ bytes. RefusedAt Checked bytes line)) → (status ≡ 3 → rose) → (status ≡ 4 → out_rose) → IsOutcome Checked left rose out_rose (λ bytes n. ⊥) status line
 check_outcome left rose out_rose old new status line number known c refused source output = record {
-  known = known;
+  known = (known.0, let le = known.1 in omega arith);
   done = λ is. some_then _ _ left (λ bytes p. judged_accepted bytes _ p.1) (c.legal is);
   cut = λ is. some_then _ _ left (λ bytes p. judged_accepted bytes _ p.1) (c.cut is);
   wrong = λ is. some_then _ _ left (λ bytes p. judged_accepted bytes _ p.0) (c.wrong is);
   refused = refused;
+  unfit = λ is. let le = known.1 in absurd (omega arith);
+  unfit_accepted = λ bytes n none. absurd none;
   source = source;
   output = output;
 }
 
-pub due_done : (left : Option (List ℕ)) (status : ℕ) → status ≤ 5 → IfSome left (λ bytes. IsAccepted Script bytes → (status ≡ 0) ⊎ ((status ≡ 6) ⊎ (status ≡ 5))) → IfSome left (λ bytes. (script : List (List Op)) → Accepts bytes script → (status ≡ 0) ⊎ (status ≡ 5))
-due_done left status le due = some_then _ _ left (λ bytes p script a. by_side (p (script_accepted bytes script a))) due
+pub due_done : (pairing : Pairing) (left : Option (List ℕ)) (status : ℕ) → (status ≡ 6 → ⊥) → IfSome left (λ bytes. IsAccepted Script bytes → ((n : ℕ) → UnfitAt pairing bytes n → ⊥) → (status ≡ 0) ⊎ ((status ≡ 6) ⊎ (status ≡ 5)))
+    → IfSome left (λ bytes. (script : List (List Line)) → Accepts bytes script → ((n : ℕ) → UnfitAt pairing bytes n → ⊥) → (status ≡ 0) ⊎ (status ≡ 5))
+due_done pairing left status right due = some_then _ _ left (λ bytes p script a fit. by_side (p (script_accepted bytes script a) fit)) due
   where
     by_side : (status ≡ 0) ⊎ ((status ≡ 6) ⊎ (status ≡ 5)) → (status ≡ 0) ⊎ (status ≡ 5)
     by_side (inl e) = inl e
-    by_side (inr (inl e)) = absurd (omega arith)
+    by_side (inr (inl e)) = absurd (right e)
     by_side (inr (inr e)) = inr e
 
-pub due_judged : (left : Option (List ℕ)) (status : ℕ) → IfSome left (λ bytes. IsAccepted Checked bytes → (status ≡ 0) ⊎ ((status ≡ 6) ⊎ (status ≡ 5))) → IfSome left (λ bytes. (script : List (List Op)) (run : Run) → AcceptsChecked bytes script run → (status ≡ 0) ⊎ ((status ≡ 6) ⊎ (status ≡ 5)))
-due_judged left status due = some_then _ _ left (λ bytes p script run a. p (checked_accepted bytes script run a)) due
+-- and if a line is not served, the status and the line say so, or memory ran out
+pub due_unfit : (pairing : Pairing) (left : Option (List ℕ)) (rose out_rose : Type 0) (status line : ℕ) → IsOutcome Script left rose out_rose (UnfitAt pairing) status line → (status ≡ 6 → ⊥) → ((status ≡ 0) ⊎ (status ≡ 4) → IfSome left (λ bytes. (n : ℕ) → UnfitAt pairing bytes n → ⊥)) → (status ≡ 7 → IfSome left (λ bytes. (n : ℕ) → UnfitAt pairing bytes n → line ≡ n)) →
+    (rose → ⊥) → IfSome left (λ bytes. (n : ℕ) → UnfitAt pairing bytes n → ((status ≡ 7) × (line ≡ n)) ⊎ (status ≡ 5))
+due_unfit pairing None rose out_rose status line o right fit once calm = tt
+due_unfit pairing (Some bytes) rose out_rose status line o right fit once calm = λ n unfit. by_status n unfit status refl o.known.1
+  where
+    by_status : (n : ℕ) → UnfitAt pairing bytes n → (s : ℕ) → status ≡ s → s ≤ 7 → ((status ≡ 7) × (line ≡ n)) ⊎ (status ≡ 5)
+    by_status n unfit zero is le = absurd (fit (inl is) n unfit)
+    by_status n unfit (suc zero) is le = absurd (o.known.0 is)
+    by_status n unfit (suc (suc zero)) is le = absurd (o.unfit_accepted bytes n unfit line (o.refused is))
+    by_status n unfit (suc (suc (suc zero))) is le = absurd (calm (o.source is))
+    by_status n unfit (suc (suc (suc (suc zero)))) is le = absurd (fit (inr is) n unfit)
+    by_status n unfit (suc (suc (suc (suc (suc zero))))) is le = inr is
+    by_status n unfit (suc (suc (suc (suc (suc (suc zero)))))) is le = absurd (right is)
+    by_status n unfit (suc (suc (suc (suc (suc (suc (suc zero))))))) is le = inl (is, once is n unfit)
+    by_status n unfit (suc (suc (suc (suc (suc (suc (suc (suc s)))))))) is le = absurd (omega arith)
+
+pub due_judged : (left : Option (List ℕ)) (status : ℕ) → IfSome left (λ bytes. IsAccepted Checked bytes → ((n : ℕ) → ⊥ → ⊥) → (status ≡ 0) ⊎ ((status ≡ 6) ⊎ (status ≡ 5))) → IfSome left (λ bytes. (script : List (List Line)) (run : Run) → AcceptsChecked bytes script run → (status ≡ 0) ⊎ ((status ≡ 6) ⊎ (status ≡ 5)))
+due_judged left status due = some_then _ _ left (λ bytes p script run a. p (checked_accepted bytes script run a) (λ n none. none)) due

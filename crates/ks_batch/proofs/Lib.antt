@@ -5,3 +5,5 @@ pub mod Due
 pub mod Made
 pub mod Instances
 pub mod Plain
+pub mod Counts
+pub mod Fit

@@ -1,13 +1,11 @@
 -- Why an input is refused, from why its bytes are.
 use Rattle.std.proofs.Common.{ℕ, zero, suc, ◌≡◌, ◌≤◌, ◌<◌, List, [], length, Option, Some, None, Result, Ok, Err, subst, arith}
 use Rattle.std.specs.Prelude.{IfSome, IfErr, IfOk}
-use Rattle.ks_history.specs.declared.Op.{Op}
+use Rattle.ks_lines.specs.declared.Line.{Line}
 use Rattle.ks_script.specs.declared.version.Version.{Version}
-use Rattle.ks_script.specs.declared.version.Version.TheVariants.{First, Second}
+use Rattle.ks_script.specs.declared.version.Version.TheVariants.{First, Second, Third, Fourth}
 use Rattle.ks_script.specs.Version.{callers_limit}
-use Rattle.ks_history.specs.Asked.{AreAsked}
-use Rattle.ks_script.specs.Script.{ScriptOf}
-use Rattle.ks_script.specs.Laws.Asked.{asked_in_script}
+use Rattle.ks_script.specs.Script.{IsScript, ScriptOf}
 use Rattle.ks_batch.specs.declared.words.Text.{Text}
 use Rattle.ks_batch.specs.declared.words.Text.TheVariants.{Script, Checked}
 use Rattle.ks_batch.specs.declared.input.Stop.{Stop}
@@ -36,16 +34,17 @@ read_to_end (Err (Refused n)) left after end = λ _. end
 read_to_end (Err Source) left after end = tt
 read_to_end (Err Memory) left after end = tt
 
--- no version has more callers than the second
+-- no version has more callers than 1,024
 within : (version : Version) (n : ℕ) → n ≤ callers_limit version → n ≤ 1024
 within First n le = omega arith
 within Second n le = le
+within Third n le = le
+within Fourth n le = le
 
-pub few_read : (bytes : List ℕ) (r : Result (List (List Op)) Stop) → IfOk r (λ script. ScriptOf bytes script) → IfOk r (λ script. length script ≤ 1024)
+pub few_read : (bytes : List ℕ) (r : Result (List (List Line)) Stop) → IfOk r (λ script. ScriptOf bytes script) → IfOk r (λ script. length script ≤ 1024)
 few_read bytes (Ok script) is = within is.0 (length script) is.1.is.callers
 few_read bytes (Err stop) is = tt
 
--- and each operation is asked for
-pub asked_read : (bytes : List ℕ) (r : Result (List (List Op)) Stop) → IfOk r (λ script. ScriptOf bytes script) → IfOk r (λ script. AreAsked script)
-asked_read bytes (Ok script) is = asked_in_script bytes script is
-asked_read bytes (Err stop) is = tt
+pub script_read : (bytes : List ℕ) (r : Result (List (List Line)) Stop) → IfOk r (λ script. ScriptOf bytes script) → IfOk r (λ script. (version : Version) × IsScript version script)
+script_read bytes (Ok script) is = (is.0, is.1.is)
+script_read bytes (Err stop) is = tt

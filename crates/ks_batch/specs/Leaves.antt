@@ -8,8 +8,8 @@ use Rattle.ks_batch.specs.Words.{IsCommand, IsMake, Asks}
 use Rattle.ks_batch.specs.Message.{status_text}
 use Rattle.ks_batch.specs.Serve.{IsCheck}
 use Rattle.ks_batch.specs.Make.{MakesOutcome}
-use Rattle.ks_batch.specs.declared.status.TheConstants.{DONE, NO_COMMAND, SOURCE_FAILED, OUTPUT_FAILED, WRONG}
-use Rattle.ks_batch.specs.Parts.{UntouchedWith, DueOver, NamedOver, RanWith, PrintedAt, ReadWith, UnreadWith, RefusedWith, RefusalDue, DoneDue, JudgedDue}
+use Rattle.ks_batch.specs.declared.status.TheConstants.{DONE, NO_COMMAND, SOURCE_FAILED, OUTPUT_FAILED, WRONG, UNFIT}
+use Rattle.ks_batch.specs.Parts.{UntouchedWith, DueOver, NamedOver, RanWith, PrintedAt, ReadWith, UnreadWith, RefusedWith, RefusalDue, UnfitWith, UnfitDue, DoneDue, JudgedDue}
 
 -- what the program leaves that ends with this status, of a source and two sinks: the bytes of each before and after, if
 -- they are known, and whether it failed
@@ -31,10 +31,12 @@ pub record Leaves (words : List (List ℕ)) (left after : Option (List ℕ)) (fa
   pub untouched : UntouchedWith status out out_after
   pub end : ReadWith words status line left after
   pub unread : UnreadWith words status left after
-  pub known : status ≤ WRONG
+  pub known : status ≤ UNFIT
   pub usage : (status ≡ NO_COMMAND) ↔ ¬ IsCommand words
   pub refused : RefusedWith words status line left
   pub refusal_due : RefusalDue words status line left failed
+  pub unfit : UnfitWith words status line left
+  pub unfit_due : UnfitDue words status line left failed
   pub source : status ≡ SOURCE_FAILED → failed
   pub output : status ≡ OUTPUT_FAILED → out_failed
   pub judgment : status ≡ WRONG → Asks words Checked

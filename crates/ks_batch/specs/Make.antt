@@ -2,7 +2,7 @@
 use Rattle.std.specs.Prelude.{ℕ, ◌≡◌, ◌⊎◌, ◌↔◌, List, Option, IfSome, IsSome}
 use Rattle.ks_history.specs.declared.Event.{Event}
 use Rattle.ks_history.specs.Callers.{CallersBelow}
-use Rattle.ks_history.specs.Served.{Served}
+use Rattle.ks_lines.specs.ServedLines.{ServedLines}
 use Rattle.ks_script.specs.Run.{Run}
 use Rattle.ks_script.specs.Outside.{Grew, GrewByFront}
 use Rattle.ks_generator.specs.Made.{made}
@@ -18,7 +18,7 @@ use Rattle.ks_batch.specs.declared.status.TheConstants.{DONE, OUTPUT_FAILED, NO_
 -- event of h is of a caller of that script
 pub record Sums (place : ℕ → ℕ) (draft : Draft) (h : List Event) (Took : List ℕ → Type 0) : Type 0 where
   pub run : Run
-  pub served : Served place (made draft.callers draft.calls draft.first) run.callers run.pairs h
+  pub served : ServedLines place (made draft.callers draft.calls draft.first) run.callers run.pairs h
   pub callers : CallersBelow draft.callers h
   pub took : Took (summary_text (made draft.callers draft.calls draft.first) run)
 

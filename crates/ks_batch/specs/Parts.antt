@@ -1,18 +1,18 @@
 -- What the program leaves, part by part: the contract of the call that serves and that of the program around it are made
 -- of these.
 use Rattle.std.specs.Prelude.{ℕ, ◌≡◌, ◌≢◌, ◌⊎◌, ◌↔◌, List, [], Option, Some, IfSome, IsSome}
-use Rattle.ks_history.specs.declared.Op.{Op}
 use Rattle.ks_history.specs.declared.Event.{Event}
 use Rattle.ks_history.specs.Due.{FullsDue}
 use Rattle.ks_arena.specs.Named.{AllNamedBelow}
+use Rattle.ks_lines.specs.declared.Line.{Line}
 use Rattle.ks_script.specs.Run.{Run}
 use Rattle.ks_batch.specs.declared.words.Text.{Text}
 use Rattle.ks_batch.specs.declared.words.Text.TheVariants.{Script, Checked}
 use Rattle.ks_batch.specs.declared.pairings.Pairing.{Pairing}
 use Rattle.ks_batch.specs.Pairings.{row_of}
 use Rattle.ks_batch.specs.Words.{AsksToRun, AskToServe, IsMake, Asks}
-use Rattle.ks_batch.specs.Serve.{RefusedAt, Accepts, AcceptsChecked, IsReadWith, PrintsRun}
-use Rattle.ks_batch.specs.declared.status.TheConstants.{DONE, NO_COMMAND, REFUSED, OUTPUT_FAILED, NO_MEMORY, WRONG}
+use Rattle.ks_batch.specs.Serve.{RefusedAt, UnfitAt, Accepts, AcceptsChecked, IsReadWith, PrintsRun}
+use Rattle.ks_batch.specs.declared.status.TheConstants.{DONE, NO_COMMAND, REFUSED, OUTPUT_FAILED, NO_MEMORY, WRONG, UNFIT}
 
 -- the output got nothing, unless all is done, the output failed or the run is wrong
 abbrev pub UntouchedWith : ℕ → Option (List ℕ) → Option (List ℕ) → Type 0
@@ -52,13 +52,22 @@ module _ (words : List (List ℕ)) where
   RefusalDue status line left failed = (text : Text) → Asks words text → ¬ failed →
       IfSome left (λ bytes. (n : ℕ) → RefusedAt text bytes n → ((status ≡ REFUSED) × (line ≡ n)) ⊎ (status ≡ NO_MEMORY))
 
-  -- if neither the source nor the output failed, a script was served, or memory ran out
+  -- with this status a script was to be served, and the line is the first that its pairing does not serve
+  abbrev pub UnfitWith : ℕ → ℕ → Option (List ℕ) → Type 0
+  UnfitWith status line left = status ≡ UNFIT → (pairing : Pairing) × (nodes : ℕ) × AsksToRun words pairing nodes × IfSome left (λ bytes. UnfitAt pairing bytes line)
+
+  -- if the source did not fail, a script with such a line ended with this status, or memory ran out
+  abbrev pub UnfitDue : ℕ → ℕ → Option (List ℕ) → Type 0 → Type 0
+  UnfitDue status line left failed = (pairing : Pairing) (nodes : ℕ) → AsksToRun words pairing nodes → ¬ failed →
+      IfSome left (λ bytes. (n : ℕ) → UnfitAt pairing bytes n → ((status ≡ UNFIT) × (line ≡ n)) ⊎ (status ≡ NO_MEMORY))
+
+  -- if neither the source nor the output failed, a script that the pairing serves was served, or memory ran out
   abbrev pub DoneDue : ℕ → Option (List ℕ) → Type 0 → Type 0 → Type 0
-  DoneDue status left failed out_failed = Asks words Script → ¬ failed → ¬ out_failed →
-      IfSome left (λ bytes. (script : List (List Op)) → Accepts bytes script → (status ≡ DONE) ⊎ (status ≡ NO_MEMORY))
+  DoneDue status left failed out_failed = (pairing : Pairing) (nodes : ℕ) → AsksToRun words pairing nodes → ¬ failed → ¬ out_failed →
+      IfSome left (λ bytes. (script : List (List Line)) → Accepts bytes script → ((n : ℕ) → ¬ UnfitAt pairing bytes n) → (status ≡ DONE) ⊎ (status ≡ NO_MEMORY))
 
   -- and so a script and its run were judged
   abbrev pub JudgedDue : ℕ → Option (List ℕ) → Type 0 → Type 0 → Type 0
   JudgedDue status left failed out_failed = Asks words Checked → ¬ failed → ¬ out_failed →
-      IfSome left (λ bytes. (script : List (List Op)) (run : Run) → AcceptsChecked bytes script run →
+      IfSome left (λ bytes. (script : List (List Line)) (run : Run) → AcceptsChecked bytes script run →
       (status ≡ DONE) ⊎ ((status ≡ WRONG) ⊎ (status ≡ NO_MEMORY)))

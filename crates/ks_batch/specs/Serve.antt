@@ -1,18 +1,21 @@
 -- What the program does with what it reads.
 use Rattle.std.specs.Prelude.{ℕ, zero, suc, ◌≡◌, ◌≢◌, ◌<◌, ◌≤◌, List, ◌++◌, length, Option, IfSome, codes}
 use Rattle.std.specs.Fmt.{decimal}
-use Rattle.ks_history.specs.declared.Op.{Op}
 use Rattle.ks_history.specs.declared.Event.{Event}
 use Rattle.ks_history.specs.Callers.{CallersBelow}
-use Rattle.ks_history.specs.Served.{Served}
+use Rattle.ks_lines.specs.declared.Line.{Line}
+use Rattle.ks_lines.specs.ServedLines.{ServedLines}
 use Rattle.ks_script.specs.Lines.{lines_of, FirstBad}
 use Rattle.ks_script.specs.Script.{AreScript, ScriptOf}
+use Rattle.ks_script.specs.Unfit.{IsUnfitAt}
 use Rattle.ks_script.specs.Checked.{AreChecked, CheckedOf}
 use Rattle.ks_script.specs.Run.{Run, run_text}
 use Rattle.ks_script.specs.Outside.{Grew, GrewByFront}
 use Rattle.ks_judge.specs.declared.judging.Judged.{Judged}
 use Rattle.ks_judge.specs.declared.judging.Judged.TheVariants.{Legal, Wrong}
-use Rattle.ks_judge.specs.Verdict.{IsJudged}
+use Rattle.ks_judge.specs.Verdict.{IsJudgedRun}
+use Rattle.ks_batch.specs.declared.pairings.Pairing.{Pairing}
+use Rattle.ks_batch.specs.Pairings.{row_of}
 use Rattle.ks_batch.specs.declared.words.Text.{Text}
 use Rattle.ks_batch.specs.declared.words.Text.TheVariants.{Script, Checked}
 use Rattle.ks_batch.specs.declared.status.TheConstants.{DONE, REFUSED, SOURCE_FAILED, OUTPUT_FAILED, NO_MEMORY, WRONG}
@@ -37,16 +40,22 @@ abbrev pub IsReadWith : ℕ → ℕ → Type 0
 IsReadWith status line = (status ≢ SOURCE_FAILED) × (status ≢ NO_MEMORY) × (status ≡ REFUSED → line ≢ 0)
 
 -- the bytes are the text of this script
-pub record Accepts (bytes : List ℕ) (script : List (List Op)) : Type 0 where
+pub record Accepts (bytes : List ℕ) (script : List (List Line)) : Type 0 where
   pub within : length bytes ≤ limit_of Script
   pub reads : ScriptOf bytes script
+
+-- the bytes are the text of a script; line n of it is the first that the pairing does not serve, a scan or a move
+pub record UnfitAt (pairing : Pairing) (bytes : List ℕ) (n : ℕ) : Type 0 where
+  pub script : List (List Line)
+  pub accepts : Accepts bytes script
+  pub unfit : IsUnfitAt (row_of pairing).scans (row_of pairing).moves bytes n
 
 -- the trace h served the script that the bytes spell, with these places for keys, with this run as its result; each event
 -- of h is of a caller of the script
 pub record Tells (place : ℕ → ℕ) (bytes : List ℕ) (h : List Event) (run : Run) : Type 0 where
-  pub script : List (List Op)
+  pub script : List (List Line)
   pub accepts : Accepts bytes script
-  pub served : Served place script run.callers run.pairs h
+  pub served : ServedLines place script run.callers run.pairs h
   pub callers : CallersBelow (length script) h
 
 -- the trace h served the script that the bytes spell, and Took holds of the text of its run
@@ -61,16 +70,16 @@ abbrev pub PrintsRun : (ℕ → ℕ) → Option (List ℕ) → Option (List Even
 PrintsRun place left run Took = IfSome left (λ bytes. IfSome run (λ h. Prints place bytes h Took))
 
 -- the bytes are the text of this script and this run
-pub record AcceptsChecked (bytes : List ℕ) (script : List (List Op)) (run : Run) : Type 0 where
+pub record AcceptsChecked (bytes : List ℕ) (script : List (List Line)) (run : Run) : Type 0 where
   pub within : length bytes ≤ limit_of Checked
   pub reads : CheckedOf bytes script run
 
 -- the bytes are the text of a script and a run that is judged so
 pub record Judges (bytes : List ℕ) (judged : Judged) : Type 0 where
-  pub script : List (List Op)
+  pub script : List (List Line)
   pub run : Run
   pub accepts : AcceptsChecked bytes script run
-  pub is : IsJudged script run judged
+  pub is : IsJudgedRun script run judged
 
 -- the line that states a judgment
 abbrev pub judged_line : Judged → List ℕ

@@ -1,9 +1,14 @@
 -- Why an input is not used.
 use Rattle.std.specs.Prelude.{ℕ, ◌≡◌, ◌≢◌, List, [], Option, Some, IfSome}
+use Rattle.ks_batch.specs.declared.pairings.Pairing.{Pairing}
 use Rattle.ks_batch.specs.declared.words.Text.{Text}
 use Rattle.ks_batch.specs.declared.input.Stop.{Stop}
 use Rattle.ks_batch.specs.declared.input.Stop.TheVariants.{Refused, Source, Memory}
-use Rattle.ks_batch.specs.Serve.{RefusedAt, FirstBadOf}
+use Rattle.ks_batch.specs.declared.serving.Halt.{Halt}
+use Rattle.ks_batch.specs.declared.serving.Halt.TheVariants.{Unread, Unfit}
+use Rattle.ks_batch.specs.declared.words.Text.TheVariants.{Script}
+use Rattle.ks_batch.specs.declared.status.TheConstants.{REFUSED, SOURCE_FAILED, NO_MEMORY}
+use Rattle.ks_batch.specs.Serve.{RefusedAt, UnfitAt, FirstBadOf}
 
 -- the cause of a stop: the bytes, if they are known, or that the source's count of faults rose
 abbrev pub IsCause : Stop → Text → Option (List ℕ) → Type 0 → Type 0
@@ -22,3 +27,24 @@ abbrev pub ReadToEnd : Stop → Option (List ℕ) → Option (List ℕ) → Type
 ReadToEnd (Refused n) left after = n ≢ 0 → IfSome left (λ _. after ≡ Some [])
 ReadToEnd Source left after = Unit {0}
 ReadToEnd Memory left after = Unit {0}
+
+-- the status and the line with which the program ends
+abbrev pub IsUnread : Stop → ℕ → ℕ → Type 0
+IsUnread (Refused n) status line = (status ≡ REFUSED) × (line ≡ n)
+IsUnread Source status line = (status ≡ SOURCE_FAILED) × (line ≡ 0)
+IsUnread Memory status line = (status ≡ NO_MEMORY) × (line ≡ 0)
+
+-- why a script is not served: it is not read, for this cause, or the pairing does not serve its line n
+abbrev pub IsHaltCause : Pairing → Halt → Option (List ℕ) → Type 0 → Type 0
+IsHaltCause pairing (Unread stop) left rose = IsCause stop Script left rose
+IsHaltCause pairing (Unfit n) left rose = IfSome left (λ bytes. UnfitAt pairing bytes n)
+
+-- a line that is not served is the only such, if the bytes are known
+abbrev pub IsOneHalt : Pairing → Halt → Option (List ℕ) → Type 0
+IsOneHalt pairing (Unread stop) left = Unit {0}
+IsOneHalt pairing (Unfit n) left = IfSome left (λ bytes. (m : ℕ) → UnfitAt pairing bytes m → n ≡ m)
+
+-- if a line is named, all bytes that were left, if they are known, had been read
+abbrev pub HaltsAtEnd : Halt → Option (List ℕ) → Option (List ℕ) → Type 0
+HaltsAtEnd (Unread stop) left after = ReadToEnd stop left after
+HaltsAtEnd (Unfit n) left after = IfSome left (λ _. after ≡ Some [])

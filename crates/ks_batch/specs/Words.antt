@@ -1,6 +1,8 @@
 -- The words of the program.
-use Rattle.std.specs.Prelude.{ℕ, ◌≡◌, ◌≤◌, ◌⊎◌, List, [], ◌∷◌, ◌++◌, map, codes, String, string_bytes}
+use Rattle.std.specs.Prelude.{ℕ, ◌≡◌, ◌≤◌, ◌⊎◌, IsTrue, List, [], ◌∷◌, ◌++◌, map, codes, String, string_bytes}
 use Rattle.std.specs.Fmt.{decimal}
+use Rattle.ks_dictionary.specs.declared.aiding.Aiding.{Aiding}
+use Rattle.ks_dictionary.specs.declared.aiding.Aiding.TheVariants.{Guides, Hints}
 use Rattle.ks_batch.specs.declared.pairings.Pairing.{Pairing}
 use Rattle.ks_batch.specs.declared.words.Draft.{Draft}
 use Rattle.ks_batch.specs.declared.words.Asked.{Asked}
@@ -17,19 +19,29 @@ bytes_of words = map string_bytes words
 abbrev pub run_words : Pairing → ℕ → List (List ℕ)
 run_words pairing arena = codes "run" ∷ (row_of pairing).nodes ∷ (row_of pairing).template ∷ decimal arena ∷ []
 
+-- the words that ask to serve a script by calls that begin at hints, except the number of workers
+abbrev pub hinted_words : Pairing → ℕ → List (List ℕ)
+hinted_words pairing arena = codes "hinted" ∷ (row_of pairing).nodes ∷ (row_of pairing).template ∷ decimal arena ∷ []
+
 -- the words are those of the command: to serve a script has the number of workers for its last word, or, if they are 64, no
--- such word
+-- such word; with hints it always has one
 abbrev pub AreWords : List (List ℕ) → Asked → Type 0
-AreWords words (Run pairing arena workers) =
+AreWords words (Run pairing arena workers Guides) =
     (words ≡ run_words pairing arena ++ decimal workers ∷ []) ⊎ ((words ≡ run_words pairing arena) × (workers ≡ 64))
+AreWords words (Run pairing arena workers Hints) = words ≡ hinted_words pairing arena ++ decimal workers ∷ []
 AreWords words (Make pairing arena draft) =
     words ≡ codes "make" ∷ (row_of pairing).nodes ∷ (row_of pairing).template ∷ decimal arena
     ∷ decimal draft.callers ∷ decimal draft.calls ∷ decimal draft.first ∷ []
 AreWords words Check = words ≡ codes "check" ∷ []
 
--- its numbers are within their limits
+-- the calls of the pairing can be aided so
+abbrev pub CanAid : Pairing → Aiding → Type 0
+CanAid pairing Guides = Unit {0}
+CanAid pairing Hints = IsTrue (row_of pairing).hints
+
+-- its numbers are within their limits, and only calls that can begin at hints are to begin there
 abbrev pub InLimits : Asked → Type 0
-InLimits (Run pairing arena workers) = (4 ≤ arena) × (arena ≤ 1048576) × (1 ≤ workers) × (workers ≤ 64)
+InLimits (Run pairing arena workers aiding) = (4 ≤ arena) × (arena ≤ 1048576) × (1 ≤ workers) × (workers ≤ 64) × CanAid pairing aiding
 InLimits (Make pairing arena draft) =
     (4 ≤ arena) × (arena ≤ 1048576)
     × (1 ≤ draft.callers) × (draft.callers ≤ 64) × (draft.calls ≤ 16384) × (draft.first ≤ 18446744073709551615)
@@ -40,9 +52,10 @@ pub record Spells (words : List (List ℕ)) (asked : Asked) : Type 0 where
   pub is : AreWords words asked
   pub limits : InLimits asked
 
--- the words ask to serve a script by the pairing, over an arena of this number of nodes
+-- the words ask to serve a script by the pairing, over an arena of this number of nodes, by however many workers, with hints
+-- or without
 abbrev pub AsksToRun : List (List ℕ) → Pairing → ℕ → Type 0
-AsksToRun words pairing arena = (workers : ℕ) × Spells words (Run pairing arena workers)
+AsksToRun words pairing arena = (workers : ℕ) × (aiding : Aiding) × Spells words (Run pairing arena workers aiding)
 
 -- the words are a command
 abbrev pub IsCommand : List (List ℕ) → Type 0

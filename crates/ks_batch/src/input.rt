@@ -1,11 +1,11 @@
 //! Reads what a command works on from its source.
 
 ghost use Rattle.std.specs.Prelude.{ℕ, ◌≡◌, ◌≤◌, length, Some, [], IfOk, OnOk, IfErr, IfSome};
-ghost use Rattle.ks_history.specs.Asked.{AreAsked};
+ghost use Rattle.ks_lines.specs.Lines.{AreAnswered, ops_in};
 ghost use Rattle.ks_script.specs.Outside.{Rose};
-ghost use Rattle.ks_script.specs.Script.{ScriptOf, calls_in};
+ghost use Rattle.ks_script.specs.Script.{IsScript, ScriptOf, calls_in};
+ghost use Rattle.ks_script.specs.declared.version.Version.{Version};
 ghost use Rattle.ks_script.specs.Checked.{CheckedOf};
-ghost use Rattle.ks_judge.specs.Shape.{SameShape};
 ghost use Rattle.ks_batch.specs.Serve.{limit_of, Accepts, AcceptsChecked};
 ghost use Rattle.ks_batch.specs.Stop.{IsCause, IsRefusal, ReadToEnd};
 ghost use Rattle.ks_batch.specs.declared.words.Text.TheVariants as text;
@@ -81,8 +81,8 @@ fn checked(alloc: Global, bytes: &[u8]) -> Result<(Script, Printed), Stop>
 /// Reads a script from the source.
 pub fn load<S: Source>(alloc: Global, source: &mut S) -> Result<Script, Stop>
     ensures ok { IfOk result (λ script. IfSome (S.left source.old) (λ bytes. Accepts bytes script)) }
+    ensures is { IfOk result (λ script. (version : Version) × IsScript version script) }
     ensures callers { IfOk result (λ script. length script ≤ 1024) }
-    ensures asked { IfOk result (λ script. AreAsked script) }
     ensures end { OnOk result (IfSome (S.left source.old) (λ _. S.left source.new ≡ Some [])) }
     ensures line { IfErr result (λ stop. ReadToEnd stop (S.left source.old) (S.left source.new)) }
     ensures cause { IfErr result
@@ -95,8 +95,8 @@ pub fn load<S: Source>(alloc: Global, source: &mut S) -> Result<Script, Stop>
 /// Reads a script and a run of it from the source.
 pub fn load_checked<S: Source>(alloc: Global, source: &mut S) -> Result<(Script, Printed), Stop>
     ensures ok { IfOk result (λ x. IfSome (S.left source.old) (λ bytes. AcceptsChecked bytes x.0 x.1)) }
-    ensures shape { IfOk result (λ x. SameShape x.0 x.1.callers) }
-    ensures few { IfOk result (λ x. calls_in x.0 ≤ 1048576) }
+    ensures answered { IfOk result (λ x. AreAnswered x.0 x.1.callers) }
+    ensures few { IfOk result (λ x. calls_in (ops_in x.0 x.1.callers) ≤ 1114112) }
     ensures end { OnOk result (IfSome (S.left source.old) (λ _. S.left source.new ≡ Some [])) }
     ensures line { IfErr result (λ stop. ReadToEnd stop (S.left source.old) (S.left source.new)) }
     ensures cause { IfErr result

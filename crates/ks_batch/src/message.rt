@@ -4,11 +4,11 @@ ghost use Rattle.std.specs.Prelude.{OnOk, OnErr};
 ghost use Rattle.ks_script.specs.Outside.{Rose, Grew, GrewByFront};
 ghost use Rattle.ks_batch.specs.Message.{status_text};
 
-use crate::status::{NO_COMMAND, NO_MEMORY, OUTPUT_FAILED, REFUSED, SOURCE_FAILED};
+use crate::status::{NO_COMMAND, NO_MEMORY, OUTPUT_FAILED, REFUSED, SOURCE_FAILED, UNFIT};
 use ks_script::{Failed, Sink, send, send_line};
 
 const USAGE: &[u8] =
-    b"usage: run NODES TEMPLATE ARENA [WORKERS], make NODES TEMPLATE ARENA CALLERS CALLS FIRST, or check\n";
+    b"usage: run NODES TEMPLATE ARENA [WORKERS], hinted NODES TEMPLATE ARENA WORKERS, make NODES TEMPLATE ARENA CALLERS CALLS FIRST, or check\n";
 
 /// Says what the status is, with the line, in one piece.
 fn say<E: Sink>(err: &mut E, status: u8, line: u64) -> Result<(), Failed>
@@ -28,6 +28,7 @@ fn say<E: Sink>(err: &mut E, status: u8, line: u64) -> Result<(), Failed>
         SOURCE_FAILED => send(err, b"read fault\n"),
         OUTPUT_FAILED => send(err, b"write fault\n"),
         NO_MEMORY => send(err, b"no memory\n"),
+        UNFIT => send_line(err, b"line ", line, b" unfit\n"),
         _ => send(err, b""),
     }
 }

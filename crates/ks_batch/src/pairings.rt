@@ -1,18 +1,18 @@
 //! The pairings of node types and techniques that are served, and the dictionary of each.
 
-ghost use Rattle.std.specs.Prelude.{◌≤◌, map, length, IfOk};
+ghost use Rattle.std.specs.Prelude.{◌≡◌, ◌≤◌, map, length, IfOk};
 ghost use Rattle.ks_history.specs.Due.{FullsDue};
 ghost use Rattle.ks_history.specs.Lawful.{Lawful, GoodThroughout};
 ghost use Rattle.ks_history.specs.Callers.{CallersBelow};
-ghost use Rattle.ks_history.specs.Served.{Served};
-ghost use Rattle.ks_history.specs.Asked.{AreAsked};
+ghost use Rattle.ks_lines.specs.Asked.{AreServedLines};
+ghost use Rattle.ks_lines.specs.ServedLines.{ServedLines};
 ghost use Rattle.ks_arena.specs.Named.{AllNamedBelow};
 ghost use Rattle.ks_batch.specs.Pairings.{row_of};
 
 use ks_aid::Admits;
-use ks_dictionary::Told;
+use ks_dictionary::{Aiding, Told};
 use ks_gate::Gate;
-use ks_history::Op;
+use ks_lines::Line;
 use ks_pairings::{
     bplus_coupling, bplus_give_up, bplus_link, bst_coupling, bst_give_up, hash_coupling,
     hash_give_up, hash_link, list_coupling, list_give_up,
@@ -46,22 +46,77 @@ pub enum Pairing {
     HashLink,
 }
 
-/// Serves all callers with `workers` workers, over an empty dictionary of the pairing with `nodes` nodes.
+impl Pairing {
+    /// Whether ordered scans are served.
+    pub fn scans(self) -> bool
+        ensures { result ≡ (row_of self).scans }
+    {
+        match self {
+            Pairing::BplusGiveUp | Pairing::BplusLink => true,
+            Pairing::ListCoupling
+            | Pairing::BplusCoupling
+            | Pairing::HashCoupling
+            | Pairing::BstCoupling
+            | Pairing::ListGiveUp
+            | Pairing::HashGiveUp
+            | Pairing::BstGiveUp
+            | Pairing::HashLink => false,
+        }
+    }
+
+    /// Whether calls can begin at hints.
+    pub fn begins_at_hints(self) -> bool
+        ensures { result ≡ (row_of self).hints }
+    {
+        match self {
+            Pairing::ListGiveUp
+            | Pairing::BplusGiveUp
+            | Pairing::HashGiveUp
+            | Pairing::BstGiveUp
+            | Pairing::BplusLink
+            | Pairing::HashLink => true,
+            Pairing::ListCoupling
+            | Pairing::BplusCoupling
+            | Pairing::HashCoupling
+            | Pairing::BstCoupling => false,
+        }
+    }
+
+    /// Whether moves of a value are served.
+    pub fn moves(self) -> bool
+        ensures { result ≡ (row_of self).moves }
+    {
+        match self {
+            Pairing::ListGiveUp | Pairing::BplusGiveUp | Pairing::HashGiveUp | Pairing::BstGiveUp =>
+                true,
+            Pairing::ListCoupling
+            | Pairing::BplusCoupling
+            | Pairing::HashCoupling
+            | Pairing::BstCoupling
+            | Pairing::BplusLink
+            | Pairing::HashLink => false,
+        }
+    }
+}
+
+/// Serves all callers with `workers` workers, whose calls are aided so, over an empty dictionary of the pairing with `nodes`
+/// nodes.
 pub fn serve_by<R: Threads + Wait + Sync, G: Gate + Admits + Sync>(
     rt: &R,
     alloc: Global,
     pairing: Pairing,
     nodes: u32,
-    callers: Vec<Vec<Op>>,
+    callers: Vec<Vec<Line>>,
     workers: u32,
+    aiding: Aiding,
     gate: &G,
 ) -> Result<Told, AllocError>
     requires nodes { (4 ≤ nodes) × (nodes ≤ 1048576) }
     requires callers { length callers.items ≤ 1024 }
-    requires asked { AreAsked (map (λ v. v.items) callers.items) }
+    requires served { AreServedLines (row_of pairing).scans (row_of pairing).moves (map (λ v. v.items) callers.items) }
     requires workers { (1 ≤ workers) × (workers ≤ 64) }
     ensures served { IfOk result
-        (λ told. Served (row_of pairing).place (map (λ v. v.items) callers.items) (map (λ v. v.items) told.lines.items)
+        (λ told. ServedLines (row_of pairing).place (map (λ v. v.items) callers.items) (map (λ v. v.items) told.lines.items)
         told.pairs.items told.trace) }
     ensures lawful { IfOk result (λ told. Lawful told.trace) }
     ensures good { IfOk result (λ told. GoodThroughout told.trace) }
@@ -70,15 +125,15 @@ pub fn serve_by<R: Threads + Wait + Sync, G: Gate + Admits + Sync>(
     ensures callers { IfOk result (λ told. CallersBelow (length callers.items) told.trace) }
 {
     match pairing {
-        Pairing::ListCoupling => list_coupling(rt, alloc, nodes, callers, workers, gate),
-        Pairing::BplusCoupling => bplus_coupling(rt, alloc, nodes, callers, workers, gate),
-        Pairing::HashCoupling => hash_coupling(rt, alloc, nodes, callers, workers, gate),
-        Pairing::BstCoupling => bst_coupling(rt, alloc, nodes, callers, workers, gate),
-        Pairing::ListGiveUp => list_give_up(rt, alloc, nodes, callers, workers, gate),
-        Pairing::BplusGiveUp => bplus_give_up(rt, alloc, nodes, callers, workers, gate),
-        Pairing::HashGiveUp => hash_give_up(rt, alloc, nodes, callers, workers, gate),
-        Pairing::BstGiveUp => bst_give_up(rt, alloc, nodes, callers, workers, gate),
-        Pairing::BplusLink => bplus_link(rt, alloc, nodes, callers, workers, gate),
-        Pairing::HashLink => hash_link(rt, alloc, nodes, callers, workers, gate),
+        Pairing::ListCoupling => list_coupling(rt, alloc, nodes, callers, workers, aiding, gate),
+        Pairing::BplusCoupling => bplus_coupling(rt, alloc, nodes, callers, workers, aiding, gate),
+        Pairing::HashCoupling => hash_coupling(rt, alloc, nodes, callers, workers, aiding, gate),
+        Pairing::BstCoupling => bst_coupling(rt, alloc, nodes, callers, workers, aiding, gate),
+        Pairing::ListGiveUp => list_give_up(rt, alloc, nodes, callers, workers, aiding, gate),
+        Pairing::BplusGiveUp => bplus_give_up(rt, alloc, nodes, callers, workers, aiding, gate),
+        Pairing::HashGiveUp => hash_give_up(rt, alloc, nodes, callers, workers, aiding, gate),
+        Pairing::BstGiveUp => bst_give_up(rt, alloc, nodes, callers, workers, aiding, gate),
+        Pairing::BplusLink => bplus_link(rt, alloc, nodes, callers, workers, aiding, gate),
+        Pairing::HashLink => hash_link(rt, alloc, nodes, callers, workers, aiding, gate),
     }
 }

@@ -1,35 +1,37 @@
 //! What the program does: it serves a script, or judges a printed run, from bytes to bytes.
 
-ghost use Rattle.std.specs.Prelude.{◌≡◌, ◌≢◌, ◌≤◌, ◌⊎◌, ◌↔◌, length, map, All, Some, [], IfOk, OnOk, OnErr, IfErr, IfSome, IsSome, IsNone};
+ghost use Rattle.std.specs.Prelude.{◌≡◌, ◌≢◌, ◌≤◌, ◌⊎◌, ◌↔◌, ℕ, length, map, All, Some, [], IfOk, OnOk, OnErr, IfErr, IfSome, IsSome, IsNone};
 ghost use Rattle.ks_history.specs.Due.{FullsDue};
-ghost use Rattle.ks_history.specs.Served.{Served};
-ghost use Rattle.ks_history.specs.Asked.{AreAsked};
+ghost use Rattle.ks_lines.specs.Asked.{AreServedLines};
+ghost use Rattle.ks_lines.specs.ServedLines.{ServedLines};
 ghost use Rattle.ks_history.specs.Lawful.{Lawful, GoodThroughout};
 ghost use Rattle.ks_history.specs.Callers.{CallersBelow};
 ghost use Rattle.ks_arena.specs.Named.{AllNamedBelow};
 ghost use Rattle.ks_script.specs.Outside.{Rose, Grew, GrewByFront};
-ghost use Rattle.ks_script.specs.Plain.{IsPlain};
+ghost use Rattle.ks_script.specs.Plain.{IsPrintable};
 ghost use Rattle.ks_batch.specs.declared.words.Text.TheVariants as text;
 ghost use Rattle.ks_batch.specs.declared.pairings.Pairing.{Pairing};
 ghost use Rattle.ks_batch.specs.Pairings.{row_of};
 ghost use Rattle.ks_batch.specs.Words.{bytes_of, IsCommand, IsMake, Asks};
 ghost use Rattle.ks_batch.specs.Message.{status_text};
-ghost use Rattle.ks_batch.specs.Serve.{RefusedAt, IsReadWith, Tells, PrintsRun, IsCheck, judged_line};
+ghost use Rattle.ks_batch.specs.Serve.{Accepts, RefusedAt, UnfitAt, IsReadWith, Tells, PrintsRun, IsCheck, judged_line};
 ghost use Rattle.ks_batch.specs.Summed.{SumsUp};
 ghost use Rattle.ks_batch.specs.Make.{Sums, MakesOutcome};
-ghost use Rattle.ks_batch.specs.Parts.{DueOver, NamedOver, RanWith, PrintedAt, ReadWith, UnreadWith, RefusedWith, RefusalDue, DoneDue, JudgedDue, UntouchedWith};
-ghost use Rattle.ks_batch.specs.Stop.{IsCause, ReadToEnd};
+ghost use Rattle.ks_batch.specs.Parts.{DueOver, NamedOver, RanWith, PrintedAt, ReadWith, UnreadWith, RefusedWith, RefusalDue, UnfitWith, UnfitDue, DoneDue, JudgedDue, UntouchedWith};
+ghost use Rattle.ks_batch.specs.Stop.{IsHaltCause, IsOneHalt, HaltsAtEnd, IsUnread};
 
 use crate::input::{Stop, load};
 use crate::judgment::judged;
 use crate::message::tell;
 use crate::packing::{packed, unpacked};
 use crate::pairings::{Pairing, serve_by};
-use crate::status::{DONE, NO_COMMAND, NO_MEMORY, OUTPUT_FAILED, REFUSED, SOURCE_FAILED, WRONG};
+use crate::status::{
+    DONE, NO_COMMAND, NO_MEMORY, OUTPUT_FAILED, REFUSED, SOURCE_FAILED, UNFIT, WRONG,
+};
 use crate::words::{Asked, Draft, MOST_WORKERS, command};
 use ks_aid::Admits;
 use ks_arena::RunTrace;
-use ks_dictionary::Told;
+use ks_dictionary::{Aiding, Told};
 use ks_gate::Gate;
 use ks_generator::{Size, made_script, summary};
 use ks_judge::Judged;
@@ -42,9 +44,10 @@ use std::thread::Threads;
 #[derive(Drop)]
 pub struct Outcome {
     /// One of the statuses: 0, done; 1, the words are no command; 2, the input is refused; 3, the source failed; 4, the
-    /// output failed; 5, memory ran out; 6, the checked run is wrong.
+    /// output failed; 5, memory ran out; 6, the checked run is wrong; 7, the pairing does not serve a line of the script.
     pub status: u8,
-    /// The line at which the input is refused, counted from 1; 0 if it is too long, and with any other status.
+    /// The line at which the input is refused, or the first one that the pairing does not serve, counted from 1; 0 if the
+    /// input is too long, and with any other status.
     pub line: u64,
     /// The least wrong number of a checked run; 0 with any other status.
     pub number: u64,
@@ -73,7 +76,7 @@ struct Ready {
 }
 
 fn to_print(alloc: Global, told: Told) -> Result<Ready, AllocError>
-    requires plain { All (λ lines. All (λ line. IsPlain line.1) lines.items) told.lines.items }
+    requires printable { All (λ said. All IsPrintable said.items) told.lines.items }
     ensures trace { IfOk result (λ ready. ready.trace ≡ told.trace) }
     ensures callers { IfOk result (λ ready. ready.printed.callers ≡ map (λ v. v.items) told.lines.items) }
     ensures pairs { IfOk result (λ ready. ready.printed.pairs ≡ told.pairs.items) }
@@ -96,14 +99,15 @@ fn serve_packed<R: Threads + Wait + Sync, G: Gate + Admits + Sync>(
     arena: u32,
     script: &Script,
     workers: u32,
+    aiding: Aiding,
     gate: &G,
 ) -> Result<Ready, AllocError>
     requires arena { (4 ≤ arena) × (arena ≤ 1048576) }
     requires callers { length script.now ≤ 1024 }
-    requires asked { AreAsked script.now }
+    requires served { AreServedLines (row_of pairing).scans (row_of pairing).moves script.now }
     requires workers { (1 ≤ workers) × (workers ≤ 64) }
     ensures served { IfOk result
-        (λ ready. Served (row_of pairing).place script.now ready.printed.callers ready.printed.pairs ready.trace) }
+        (λ ready. ServedLines (row_of pairing).place script.now ready.printed.callers ready.printed.pairs ready.trace) }
     ensures lawful { IfOk result (λ ready. Lawful ready.trace) }
     ensures good { IfOk result (λ ready. GoodThroughout ready.trace) }
     ensures due { IfOk result (λ ready. FullsDue (row_of pairing).layout arena ready.trace) }
@@ -111,9 +115,39 @@ fn serve_packed<R: Threads + Wait + Sync, G: Gate + Admits + Sync>(
     ensures callers { IfOk result (λ ready. CallersBelow (length script.now) ready.trace) }
 {
     let callers = unpacked(alloc, script)?;
-    let told = serve_by(rt, alloc, pairing, arena, callers, workers, gate)?;
+    let told = serve_by(rt, alloc, pairing, arena, callers, workers, aiding, gate)?;
     let ready = to_print(alloc, told)?;
     Ok(ready)
+}
+
+/// Why a script is not served.
+enum Halt {
+    /// It is not read.
+    Unread(Stop),
+    /// The pairing does not serve this line.
+    Unfit { line: u64 },
+}
+
+/// Reads a script that the pairing serves.
+fn load_served<S: Source>(alloc: Global, pairing: Pairing, source: &mut S) -> Result<Script, Halt>
+    ensures ok { IfOk result (λ script. IfSome (S.left source.old) (λ bytes. Accepts bytes script)) }
+    ensures callers { IfOk result (λ script. length script ≤ 1024) }
+    ensures served { IfOk result (AreServedLines (row_of pairing).scans (row_of pairing).moves) }
+    ensures fit { OnOk result (IfSome (S.left source.old) (λ bytes. (n : ℕ) → ¬ UnfitAt pairing bytes n)) }
+    ensures once { IfErr result (λ halt. IsOneHalt pairing halt (S.left source.old)) }
+    ensures end { OnOk result (IfSome (S.left source.old) (λ _. S.left source.new ≡ Some [])) }
+    ensures line { IfErr result (λ halt. HaltsAtEnd halt (S.left source.old) (S.left source.new)) }
+    ensures cause { IfErr result
+        (λ halt. IsHaltCause pairing halt (S.left source.old) (Rose (S.faults source.old) (S.faults source.new))) }
+{
+    let script = match load(alloc, source) {
+        Ok(script) => script,
+        Err(stop) => return Err(Halt::Unread(stop)),
+    };
+    match script.unfit_line(pairing.scans(), pairing.moves()) {
+        Some(line) => Err(Halt::Unfit { line }),
+        None => Ok(script),
+    }
 }
 
 /// Reads a script and serves it by the pairing, over `arena` nodes, with `workers` workers.
@@ -123,9 +157,10 @@ fn prepare<R: Threads + Wait + Sync, S: Source, G: Gate + Admits + Sync>(
     pairing: Pairing,
     arena: u32,
     workers: u32,
+    aiding: Aiding,
     source: &mut S,
     gate: &G,
-) -> Result<Ready, Stop>
+) -> Result<Ready, Halt>
     requires arena { (4 ≤ arena) × (arena ≤ 1048576) }
     requires workers { (1 ≤ workers) × (workers ≤ 64) }
     ensures lawful { IfOk result (λ ready. Lawful ready.trace) }
@@ -135,24 +170,40 @@ fn prepare<R: Threads + Wait + Sync, S: Source, G: Gate + Admits + Sync>(
     ensures tells { IfOk result
         (λ ready. IfSome (S.left source.old) (λ bytes. Tells (row_of pairing).place bytes ready.trace ready.printed)) }
     ensures end { OnOk result (IfSome (S.left source.old) (λ _. S.left source.new ≡ Some [])) }
-    ensures line { IfErr result (λ stop. ReadToEnd stop (S.left source.old) (S.left source.new)) }
+    ensures fit { OnOk result (IfSome (S.left source.old) (λ bytes. (n : ℕ) → ¬ UnfitAt pairing bytes n)) }
+    ensures once { IfErr result (λ halt. IsOneHalt pairing halt (S.left source.old)) }
+    ensures line { IfErr result (λ halt. HaltsAtEnd halt (S.left source.old) (S.left source.new)) }
     ensures cause { IfErr result
-        (λ stop. IsCause stop text.Script (S.left source.old) (Rose (S.faults source.old) (S.faults source.new))) }
+        (λ halt. IsHaltCause pairing halt (S.left source.old) (Rose (S.faults source.old) (S.faults source.new))) }
 {
-    let script = load(alloc, source)?;
-    match serve_packed(rt, alloc, pairing, arena, &script, workers, gate) {
+    let script = load_served(alloc, pairing, source)?;
+    match serve_packed(rt, alloc, pairing, arena, &script, workers, aiding, gate) {
         Ok(ready) => Ok(ready),
-        Err(_) => Err(Stop::Memory),
+        Err(_) => Err(Halt::Unread(Stop::Memory)),
     }
 }
 
-/// The command `run`: serves the script on the source and writes the replies to its calls.
+/// What the program ends with if it does not use its input.
+fn unread(stop: Stop) -> Outcome
+    ensures unread { IsUnread stop result.status result.line }
+    ensures number { result.number ≡ 0 }
+    ensures run { IsNone result.run }
+{
+    match stop {
+        Stop::Refused { line } => Outcome::without_run(REFUSED, line),
+        Stop::Source => Outcome::without_run(SOURCE_FAILED, 0),
+        Stop::Memory => Outcome::without_run(NO_MEMORY, 0),
+    }
+}
+
+/// The commands `run` and `hinted`: serves the script on the source and writes the replies to its calls.
 fn serve_script<R: Threads + Wait + Sync, S: Source, K: Sink, G: Gate + Admits + Sync>(
     rt: &R,
     alloc: Global,
     pairing: Pairing,
     arena: u32,
     workers: u32,
+    aiding: Aiding,
     source: &mut S,
     out: &mut K,
     gate: &G,
@@ -164,8 +215,8 @@ fn serve_script<R: Threads + Wait + Sync, S: Source, K: Sink, G: Gate + Admits +
     ensures due { IfSome result.run (FullsDue (row_of pairing).layout arena) }
     ensures named { IfSome result.run (AllNamedBelow arena) }
     ensures ran { IsSome result.run ↔ ((result.status ≡ DONE) ⊎ (result.status ≡ OUTPUT_FAILED)) }
-    ensures status { (result.status ≢ NO_COMMAND) × (result.status ≤ NO_MEMORY) }
-    ensures line { result.status ≢ REFUSED → result.line ≡ 0 }
+    ensures status { (result.status ≢ NO_COMMAND) × (result.status ≢ WRONG) × (result.status ≤ UNFIT) }
+    ensures line { result.status ≢ REFUSED → result.status ≢ UNFIT → result.line ≡ 0 }
     ensures number { result.number ≡ 0 }
     ensures done { result.status ≡ DONE →
         PrintsRun (row_of pairing).place (S.left source.old) result.run (Grew (K.taken out.old) (K.taken out.new)) }
@@ -177,10 +228,15 @@ fn serve_script<R: Threads + Wait + Sync, S: Source, K: Sink, G: Gate + Admits +
     ensures untouched { result.status ≢ DONE → result.status ≢ OUTPUT_FAILED → K.taken out.new ≡ K.taken out.old }
     ensures refused { result.status ≡ REFUSED →
         IfSome (S.left source.old) (λ bytes. RefusedAt text.Script bytes result.line) }
+    ensures unfit { result.status ≡ UNFIT → IfSome (S.left source.old) (λ bytes. UnfitAt pairing bytes result.line) }
+    ensures once { result.status ≡ UNFIT →
+        IfSome (S.left source.old) (λ bytes. (n : ℕ) → UnfitAt pairing bytes n → result.line ≡ n) }
+    ensures fit { (result.status ≡ DONE) ⊎ (result.status ≡ OUTPUT_FAILED) →
+        IfSome (S.left source.old) (λ bytes. (n : ℕ) → ¬ UnfitAt pairing bytes n) }
     ensures source { result.status ≡ SOURCE_FAILED → Rose (S.faults source.old) (S.faults source.new) }
     ensures output { result.status ≡ OUTPUT_FAILED → Rose (K.faults out.old) (K.faults out.new) }
 {
-    match prepare(rt, alloc, pairing, arena, workers, source, gate) {
+    match prepare(rt, alloc, pairing, arena, workers, aiding, source, gate) {
         Ok(ready) => {
             let status = match write_run(out, &ready.printed) {
                 Ok(()) => DONE,
@@ -193,9 +249,8 @@ fn serve_script<R: Threads + Wait + Sync, S: Source, K: Sink, G: Gate + Admits +
                 run: Some(ready.trace),
             }
         }
-        Err(Stop::Refused { line }) => Outcome::without_run(REFUSED, line),
-        Err(Stop::Source) => Outcome::without_run(SOURCE_FAILED, 0),
-        Err(Stop::Memory) => Outcome::without_run(NO_MEMORY, 0),
+        Err(Halt::Unfit { line }) => Outcome::without_run(UNFIT, line),
+        Err(Halt::Unread(stop)) => unread(stop),
     }
 }
 
@@ -240,9 +295,7 @@ fn check_run<S: Source, K: Sink>(alloc: Global, source: &mut S, out: &mut K) -> 
             },
             Err(_) => Outcome::without_run(OUTPUT_FAILED, 0),
         },
-        Err(Stop::Refused { line }) => Outcome::without_run(REFUSED, line),
-        Err(Stop::Source) => Outcome::without_run(SOURCE_FAILED, 0),
-        Err(Stop::Memory) => Outcome::without_run(NO_MEMORY, 0),
+        Err(stop) => unread(stop),
     }
 }
 
@@ -267,7 +320,16 @@ pub fn make<R: Threads + Wait + Sync, G: Gate + Admits + Sync>(
 {
     let script = made_script(alloc, draft.callers, draft.calls, draft.first)?;
     let size = Size::of(&script);
-    let ready = serve_packed(rt, alloc, pairing, arena, &script, workers, gate)?;
+    let ready = serve_packed(
+        rt,
+        alloc,
+        pairing,
+        arena,
+        &script,
+        workers,
+        Aiding::Guides,
+        gate,
+    )?;
     let text = summary(alloc, size, &ready.printed)?;
     Ok(Made {
         text,
@@ -370,10 +432,13 @@ pub fn serve<R: Threads + Wait + Sync, S: Source, K: Sink, E: Sink, G: Gate + Ad
     ensures unread { UnreadWith (bytes_of words.now) result.status (S.left source.old) (S.left source.new) }
 
     // When each status comes. There is no other.
-    ensures status { result.status ≤ WRONG }
+    ensures status { result.status ≤ UNFIT }
     ensures usage { (result.status ≡ NO_COMMAND) ↔ ¬ IsCommand (bytes_of words.now) }
     ensures refused { RefusedWith (bytes_of words.now) result.status result.line (S.left source.old) }
     ensures refusal_due { RefusalDue (bytes_of words.now) result.status result.line (S.left source.old)
+        (Rose (S.faults source.old) (S.faults source.new)) }
+    ensures unfit { UnfitWith (bytes_of words.now) result.status result.line (S.left source.old) }
+    ensures unfit_due { UnfitDue (bytes_of words.now) result.status result.line (S.left source.old)
         (Rose (S.faults source.old) (S.faults source.new)) }
     ensures source { result.status ≡ SOURCE_FAILED → Rose (S.faults source.old) (S.faults source.new) }
     ensures output { result.status ≡ OUTPUT_FAILED → Rose (K.faults out.old) (K.faults out.new) }
@@ -382,7 +447,7 @@ pub fn serve<R: Threads + Wait + Sync, S: Source, K: Sink, E: Sink, G: Gate + Ad
         (Rose (S.faults source.old) (S.faults source.new)) (Rose (K.faults out.old) (K.faults out.new)) }
     ensures judged_due { JudgedDue (bytes_of words.now) result.status (S.left source.old)
         (Rose (S.faults source.old) (S.faults source.new)) (Rose (K.faults out.old) (K.faults out.new)) }
-    ensures line { result.status ≢ REFUSED → result.line ≡ 0 }
+    ensures line { result.status ≢ REFUSED → result.status ≢ UNFIT → result.line ≡ 0 }
     ensures number { result.status ≢ WRONG → result.number ≡ 0 }
 
     // What is said on the error output: the text of the status, whole if it did not fail.
@@ -396,8 +461,11 @@ pub fn serve<R: Threads + Wait + Sync, S: Source, K: Sink, E: Sink, G: Gate + Ad
                 pairing,
                 arena,
                 workers,
+                aiding,
             },
-        ) => serve_script(rt, alloc, pairing, arena, workers, source, out, gate),
+        ) => serve_script(
+            rt, alloc, pairing, arena, workers, aiding, source, out, gate,
+        ),
         Some(
             Asked::Make {
                 pairing,

@@ -20,3 +20,6 @@ pub const NO_MEMORY: u8 = 5;
 
 /// The checked run is wrong.
 pub const WRONG: u8 = 6;
+
+/// The pairing does not serve a line of the script.
+pub const UNFIT: u8 = 7;

@@ -4,10 +4,14 @@ ghost use Rattle.std.specs.Prelude.{◌<◌};
 
 mod ends;
 mod failing;
+mod hinted;
 mod hostile;
 mod meetings;
 mod merging;
+mod moves;
+mod outcomes;
 mod pairings;
+mod scans;
 mod standing;
 mod texts;
 mod versions;
@@ -26,8 +30,23 @@ use std::thread::Threads;
 #[derive(Drop)]
 struct Ended {
     status: u8,
+    line: u64,
+    number: u64,
+    /// Whether there is the trace of a run.
+    has_run: bool,
     out: Vec<u8>,
     err: Vec<u8>,
+}
+
+impl Ended {
+    /// What it says of its input: on the error output if that is refused, else on the output.
+    fn said(&self) -> &[u8] {
+        if self.status == 2 {
+            self.err.as_slice()
+        } else {
+            self.out.as_slice()
+        }
+    }
 }
 
 fn split(alloc: Global, words: &str) -> Result<Vec<String>, AllocError> {
@@ -52,6 +71,9 @@ fn run_ends<R: Threads + Wait + Sync, G: Gate + Admits + Sync>(
     let outcome = serve(rt, alloc, &words, &mut source, &mut out, &mut err, gate);
     Ok(Ended {
         status: outcome.status,
+        line: outcome.line,
+        number: outcome.number,
+        has_run: outcome.run.is_some(),
         out: Vec::from_slice(alloc, out.taken())?,
         err: Vec::from_slice(alloc, err.taken())?,
     })

@@ -8,6 +8,7 @@ ghost use Rattle.ks_batch.specs.PairingWords.{Names, NamesArena};
 
 use crate::pairings::Pairing;
 use itoa::Buffer;
+use ks_dictionary::Aiding;
 
 /// How many workers there are at most, and how many if the words do not say it.
 pub const MOST_WORKERS: u32 = 64;
@@ -15,11 +16,13 @@ pub const MOST_WORKERS: u32 = 64;
 /// What the words ask for.
 #[derive(Clone, Copy, Debug, PartialEq, Eq)]
 pub enum Asked {
-    /// To serve the script on the source, by a pairing with an arena of `arena` nodes, with `workers` workers.
+    /// To serve the script on the source, by a pairing with an arena of `arena` nodes, with `workers` workers, whose calls
+    /// are aided so.
     Run {
         pairing: Pairing,
         arena: u32,
         workers: u32,
+        aiding: Aiding,
     },
     /// To serve a script that is made, by a pairing with an arena of `arena` nodes.
     Make {
@@ -119,6 +122,7 @@ fn run_words(nodes: &String, template: &String, arena: &String) -> Option<Asked>
         pairing,
         arena,
         workers: MOST_WORKERS,
+        aiding: Aiding::Guides,
     })
 }
 
@@ -144,6 +148,36 @@ fn run_words_by(
         pairing,
         arena,
         workers: workers as u32,
+        aiding: Aiding::Guides,
+    })
+}
+
+/// The command to serve a script by calls that begin at hints, if the words after the first are those of one.
+fn hinted_words(
+    nodes: &String,
+    template: &String,
+    arena: &String,
+    workers: &String,
+) -> Option<Asked>
+    ensures some { IfSome result (λ asked. Spells (codes "hinted" ∷
+        bytes_of (nodes.now ∷ template.now ∷ arena.now ∷ workers.now ∷ [])) asked) }
+    ensures none { IfNone result (¬ IsCommand (codes "hinted" ∷
+        bytes_of (nodes.now ∷ template.now ∷ arena.now ∷ workers.now ∷ []))) }
+{
+    let Some((pairing, arena)) = arena_named(nodes, template, arena) else {
+        return None;
+    };
+    let Some(workers) = number(workers, 1, MOST_WORKERS as u64) else {
+        return None;
+    };
+    if !pairing.begins_at_hints() {
+        return None;
+    }
+    Some(Asked::Run {
+        pairing,
+        arena,
+        workers: workers as u32,
+        aiding: Aiding::Hints,
     })
 }
 
@@ -200,6 +234,9 @@ pub fn command(words: &[String]) -> Option<Asked>
         [verb, nodes, template, arena, workers] => {
             if is(verb, "run") {
                 return run_words_by(nodes, template, arena, workers);
+            }
+            if is(verb, "hinted") {
+                return hinted_words(nodes, template, arena, workers);
             }
             None
         }

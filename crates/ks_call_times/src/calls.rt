@@ -9,9 +9,11 @@ use ks_dictionary::Dictionary;
 use ks_gate::NoGate;
 use ks_generator::made_script;
 use ks_history::Op;
+use ks_lines::Line;
 use ks_node::Node;
+use ks_script::Calls;
 use ks_shape::{Ruled, Template};
-use std::alloc::Global;
+use std::alloc::{AllocError, Global};
 use std::io;
 use std::sync::atomic::AtomicU64;
 use std::sync::atomic::Ordering::SeqCst;
@@ -78,6 +80,17 @@ impl Shared {
     }
 }
 
+/// The calls of a caller whose lines are all calls.
+fn ops_of(alloc: Global, lines: &Calls) -> Result<Vec<Op>, AllocError> {
+    let mut ops = Vec::with_capacity(alloc, lines.len())?;
+    for at in 0..lines.len() {
+        if let Line::Call(op) = lines.get(at) {
+            ops.push(op)?;
+        }
+    }
+    Ok(ops)
+}
+
 /// Makes the calls of `callers` callers over one dictionary, and takes the time of each.
 ///
 /// # Errors
@@ -94,8 +107,8 @@ where
 {
     let script = made_script(alloc, callers, calls, FIRST)?;
     let mut scripts = Vec::with_capacity(alloc, script.callers.len())?;
-    for calls in &script.callers {
-        scripts.push(calls.to_ops(alloc)?)?;
+    for lines in &script.callers {
+        scripts.push(ops_of(alloc, lines)?)?;
     }
     let shared = Shared {
         alloc,

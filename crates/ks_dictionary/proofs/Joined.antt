@@ -1,9 +1,9 @@
 -- Lists that a loop takes apart or puts together, and the result of all callers.
-use Rattle.std.proofs.Common.{◌≡◌, ℕ, zero, suc, ◌<◌, ◌⊎◌, List, [], ◌∷◌, ◌++◌, map, length, take, drop, get_or, Some, sym, refl, ap, subst, ◌∙◌, arith, inl, inr}
-use Rattle.std.specs.Prelude.{slice_get, All}
+use Rattle.std.proofs.Common.{◌≡◌, ℕ, zero, suc, ◌<◌, ◌⊎◌, List, [], ◌∷◌, ◌++◌, map, length, take, drop, get_or, Some, sym, refl, ap, ap₂, subst, ◌∙◌, arith, inl, inr}
+use Rattle.std.specs.Prelude.{slice_get, All, Bool}
 use Rattle.std.specs.List.{AllByRecursion}
 use Rattle.std.proofs.lemmas.List.{map-append, append_assoc, append-nil, length-map}
-use Rattle.std.proofs.lemmas.List.Elements.{All-nil, All-push, All-from_recursion}
+use Rattle.std.proofs.lemmas.List.Elements.{All-nil, All-push, All-from_recursion, All-weaker}
 use Rattle.std.proofs.Math.Seq.{take-append_seam}
 use mathlib.Core.Option.{some, some-injective, some-ne-none}
 use lib.ListN.{get_elem?}
@@ -12,26 +12,29 @@ use Rattle.atomic_table.specs.Seated.{TableId}
 use Rattle.ks_keysets.specs.declared.Change.{Change}
 use Rattle.ks_keysets.specs.declared.Frame.{Frame}
 use Rattle.ks_keysets.specs.declared.NodeState.{NodeState}
-use Rattle.ks_history.specs.declared.Op.{Op}
-use Rattle.ks_history.specs.declared.Reply.{Reply}
 use Rattle.ks_history.specs.declared.Event.{Event}
 use Rattle.ks_history.specs.declared.Event.TheVariants.{Take, Give, Claim, Shape, Call, Twin}
-use Rattle.ks_history.specs.Trace.{calls_by, calls_of}
+use Rattle.ks_history.specs.Trace.{NumberedCall, calls_by, calls_of}
 use Rattle.ks_history.specs.Own.{hand}
 use Rattle.ks_history.specs.Map.{map_after, Legal}
 use Rattle.ks_history.specs.Laws.Calls.{by_others_calls}
 use Rattle.ks_history.specs.Callers.{NoneBy, CallersBelow}
 use Rattle.ks_history.specs.Passes.{GrowsByOthers}
-use Rattle.ks_history.specs.Served.{at_place, CalledBelow, IsListing, Served}
-use Rattle.ks_history.specs.Asked.{IsAsked, AreAsked}
+use Rattle.ks_history.specs.Served.{at_place, CalledBelow, IsListing}
+use Rattle.ks_lines.specs.declared.Line.{Line}
+use Rattle.ks_lines.specs.declared.Said.{Said}
+use Rattle.ks_lines.specs.Lines.{AreAnswered, AllBoth, IsServedLine, MayAnswer, calls_of_lines, calls_of_script, ops_in, replies_in}
+use Rattle.ks_lines.specs.Asked.{AreServedLines, IsLine}
+use Rattle.ks_lines.specs.ServedLines.{ServedLines}
 use Rattle.ks_arena.specs.declared.held.Pass.{Pass}
 use Rattle.ks_arena.specs.Sound.{Sort}
 use Rattle.ks_arena.specs.Clauses.{EndsAll, seen_of}
 use Rattle.ks_shape.specs.Idle.{Site, IsIdle}
 use Rattle.ks_dictionary.specs.Crew.{AreNew, AreAll, site_with}
 use Rattle.ks_dictionary.specs.Called.{HaveCalled}
-use Rattle.ks_dictionary.specs.Work.{AreAbout, HasRoom, HasRun, WaitsAs, FinishedAs, asked_by, told_by}
+use Rattle.ks_dictionary.specs.Work.{AreAbout, HasRoom, HasRun, WaitsAs, FinishedAs, asked_by, told_by, ops_of_lines, replies_of_lines}
 use Rattle.ks_dictionary.specs.declared.job.Job.{Job}
+use Rattle.ks_dictionary.proofs.Spread.{all_moves_too, both_at, one_of, script_long}
 use Rattle.ks_tickets.specs.Clauses.{EachAs}
 
 -- what was made so far and what is left are the whole, and so they are one element later
@@ -91,6 +94,14 @@ at_or [] j x d is = absurd (some-ne-none x (sym is))
 at_or (y ∷ xs) zero x d is = some-injective y x is
 at_or (y ∷ xs) (suc j) x d is = at_or xs j x d is
 
+-- what holds of all elements holds of the one at a place
+all_at : {X : Type 0} (P : X → Type 0) (xs : List X) (j : ℕ) (x : X) → get_elem? xs j ≡ some x → All P xs → P x
+all_at P xs j x is all = subst P (at_or xs j x x is) (all j x (at_within xs j x is))
+
+-- of scripts that are served each is
+pub served_at : (scans moves : Bool) (scripts : List (List Line)) (t : ℕ) (script : List Line) → get_elem? scripts t ≡ some script → AreServedLines scans moves scripts → All (λ l. IsLine l × IsServedLine scans moves l) script
+served_at scans moves scripts t script is served = all_at (λ ls. All (λ l. IsLine l × IsServedLine scans moves l) ls) scripts t script is served
+
 elem_at : {X : Type 0} (xs : List X) (j : ℕ) → j < length xs → (x : X) × (get_elem? xs j ≡ some x)
 elem_at [] j lt = absurd (omega (arith, lt))
 elem_at (x ∷ xs) zero lt = (x, refl)
@@ -127,10 +138,14 @@ called_nothing place = record {
 pub nobody : (place : ℕ → ℕ) (h : List Event) → h ≡ [] → HaveCalled place [] [] h
 nobody place h is = subst (HaveCalled place [] []) (sym is) (called_nothing place)
 
--- what was called, in a lawful history, with the map at its end
-pub served_by : (place : ℕ → ℕ) (scripts : List (List Op)) (lines : List (List (ℕ × Reply))) (entries : List (ℕ × ℕ)) (h : List Event) →
-    HaveCalled place scripts lines h → Legal (calls_of h) → IsListing (λ k. map_after (calls_of h) (place k)) entries → Served place scripts lines entries h
-served_by place scripts lines entries h so legal final = record { asked = so.asked; told = so.told; callers = so.callers; others = so.others; legal = legal; final = final }
+-- what was called for the scripts, in a lawful history, with the map at its end
+pub served_by : (place : ℕ → ℕ) (script : List (List Line)) (said : List (List Said)) (entries : List (ℕ × ℕ)) (h : List Event) →
+    AreAnswered script said → HaveCalled place (ops_in script said) (replies_in script said) h → Legal (calls_of h) → IsListing (λ k. map_after (calls_of h) (place k)) entries
+    → ServedLines place script said entries h
+served_by place script said entries h answered so legal final = record {
+  answered = answered;
+  calls = record { asked = so.asked; told = so.told; callers = so.callers; others = so.others; legal = legal; final = final };
+}
 
 module _ (a : Site) {N D : Type 0} where
   -- new passes are a crew
@@ -161,38 +176,42 @@ module _ (sort : Sort) (begins : Frame → Type 0) (step : (ℕ → NodeState) �
 
 module _ (a : Site) {N D W : Type 0} where
   -- new passes with scripts and room wait
-  pub all_wait : (js : List (Job N D W)) → AreNew a (map (λ j. j.pass) js) → All HasRoom js → AreAsked (map (λ j. j.ops.items) js)
-      → EachAs (WaitsAs a (map (λ j. j.ops.items) js)) js
-  all_wait js crew room asked t near =
+  pub all_wait : (scans moves : Bool) (js : List (Job N D W)) → AreNew a (map (λ j. j.pass) js) → All (HasRoom scans) js → AreServedLines scans moves (map (λ j. j.script.items) js)
+      → EachAs (WaitsAs a (map (λ j. j.script.items) js)) js
+  all_wait scans moves js crew room served t near =
       let at = elem_at js t near in
       let j : Job N D W = at.0 in
-      let new = crew.each t j.pass (at_map (λ x. x.pass) js t j at.1) in (
+      let new = crew.each t j.pass (at_map (λ x. x.pass) js t j at.1) in
+      let has = subst (λ (x : Job N D W). HasRoom scans x) (at_or js t j j at.1) (room t j near) in
+      let script = at_map (λ x. x.script.items) js t j at.1 in (
         j,
         at.1,
         record {
           ready = record {
             pass = (new.pass, ap (hand j.pass.caller) new.seen);
             fresh = ap (calls_by j.pass.caller) new.seen;
-            lines = subst (λ (x : Job N D W). HasRoom x) (at_or js t j j at.1) (room t j near);
-            asked = let ops : List (List Op) = map (λ x. x.ops.items) js in
-                subst (λ (xs : List Op). All IsAsked xs) (at_or ops t j.ops.items j.ops.items (at_map (λ x. x.ops.items) js t j at.1)) (asked t j.ops.items (subst (λ (n : ℕ). t < n) (sym (length-map js (λ x. x.ops.items))) near));
+            blank = has.blank;
+            room = has.room;
+            rooms = has.rooms (all_moves_too scans moves j.script.items (All-weaker (λ l. IsLine l × IsServedLine scans moves l) (λ l. IsServedLine scans moves l) (λ l both. both.1) j.script.items
+                (served_at scans moves (map (λ x. x.script.items) js) t j.script.items script served)));
           };
           caller = new.caller;
-          script = at_map (λ x. x.ops.items) js t j at.1;
+          script = script;
         },
       )
 
   -- a job that waited has run
-  pub has_finished : (place : ℕ → ℕ) (scripts : List (List Op)) (before after : Job N D W) (t : ℕ) → WaitsAs a scripts before t → HasRun a place before after → FinishedAs a scripts place after t
+  pub has_finished : (place : ℕ → ℕ) (scripts : List (List Line)) (before after : Job N D W) (t : ℕ) → WaitsAs a scripts before t → HasRun a place before after → FinishedAs a scripts place after t
   has_finished place scripts before after t w r = record {
     pass = r.pass;
     caller = r.caller ∙ w.caller;
-    script = w.script ∙ ap (λ o. some o.items) (sym r.ops);
-    asked = ap (λ c. asked_by c (seen_of after.pass)) (sym w.caller) ∙ r.asked ∙ ap (λ o. map (at_place place) o.items) (sym r.ops);
-    told = ap (λ c. told_by c (seen_of after.pass)) (sym w.caller) ∙ r.told;
+    script = w.script ∙ ap (λ o. some o.items) (sym r.script);
+    answered = subst (λ o. AllBoth MayAnswer o.items after.said.items) (sym r.script) r.answered;
+    asked = ap (λ c. asked_by c (seen_of after.pass)) (sym w.caller) ∙ r.asked ∙ ap (λ o. map (at_place place) (ops_of_lines o.items after.said.items)) (sym r.script);
+    told = ap (λ c. told_by c (seen_of after.pass)) (sym w.caller) ∙ r.told ∙ ap (λ o. replies_of_lines o.items after.said.items) (sym r.script);
   }
 
-  module _ (place : ℕ → ℕ) (scripts : List (List Op)) (js : List (Job N D W)) (all : a.callers ≡ length js) (long : length js ≡ length scripts)
+  module _ (place : ℕ → ℕ) (scripts : List (List Line)) (js : List (Job N D W)) (all : a.callers ≡ length js) (long : length js ≡ length scripts)
       (done : EachAs (FinishedAs a scripts place) js) where
     job_at : (t : ℕ) (j : Job N D W) → get_elem? js t ≡ some j → FinishedAs a scripts place j t
     job_at t j is = let d = done t (at_within js t j is) in subst (λ (x : Job N D W). FinishedAs a scripts place x t) (at_once js t d.0 j d.1 is) d.2
@@ -210,15 +229,36 @@ module _ (a : Site) {N D W : Type 0} where
           let grows : GrowsByOthers c (seen_of j.pass) h = subst (λ k. GrowsByOthers k (seen_of j.pass) h) (job_at c j is).caller (seen c j.pass (at_map (λ x. x.pass) js c j is)) in
           by_others_calls c (seen_of j.pass) h grows
 
-      pub have_called : HaveCalled place scripts (map (λ j. j.lines.items) js) h
+      abbrev pub words : List (List Said)
+      words = map (λ j. j.said.items) js
+
+      -- one caller's calls are those of its lines
+      job_of : (c : ℕ) (calls : List NumberedCall) → get_elem? (calls_of_script scripts words) c ≡ some calls → (j : Job N D W) × (get_elem? js c ≡ some j) × (calls_of_lines j.script.items j.said.items ≡ calls)
+      job_of c calls is =
+          let one = one_of scripts words c calls is in
+          let at = at_of_map (λ j. j.said.items) js c one.ss one.word in
+          let script = at_once scripts c at.0.script.items one.ls (job_at c at.0 at.1).script one.line in
+          (at.0, at.1, ap₂ calls_of_lines script at.2 ∙ one.calls_are)
+
+      pub have_called : HaveCalled place (ops_in scripts words) (replies_in scripts words) h
       have_called = record {
         asked = λ c ops is.
-            let at = at_of_slice scripts c ops is in
-            let d = done c (omega (arith, long, at_within scripts c ops at)) in
-            ap (map (λ x. x.call.op)) (calls_at c d.0 d.1) ∙ d.2.asked ∙ ap (map (at_place place)) (at_once scripts c d.0.ops.items ops d.2.script at);
+            let at = at_of_map (map (λ x. x.call.op)) (calls_of_script scripts words) c ops (at_of_slice (ops_in scripts words) c ops is) in
+            let d = job_of c at.0 at.1 in
+            ap (map (λ x. x.call.op)) (calls_at c d.0 d.1) ∙ (job_at c d.0 d.1).asked ∙ ap (map (at_place place)) (ap (map (λ x. x.call.op)) d.2 ∙ at.2);
         told = λ c ls is.
-            let at = at_of_map (λ j. j.lines.items) js c ls (at_of_slice (map (λ j. j.lines.items) js) c ls is) in
-            ap (map (λ x. (x.number, x.call.reply))) (calls_at c at.0 at.1) ∙ (job_at c at.0 at.1).told ∙ at.2;
-        callers = length-map js (λ j. j.lines.items) ∙ long;
-        others = subst (λ k. All (CalledBelow k) h) (all ∙ long) (All-from_recursion (CalledBelow a.callers) h (called_below a.callers h below));
+            let at = at_of_map (map (λ x. (x.number, x.call.reply))) (calls_of_script scripts words) c ls (at_of_slice (replies_in scripts words) c ls is) in
+            let d = job_of c at.0 at.1 in
+            ap (map (λ x. (x.number, x.call.reply))) (calls_at c d.0 d.1) ∙ (job_at c d.0 d.1).told ∙ ap (map (λ x. (x.number, x.call.reply))) d.2 ∙ at.2;
+        callers = length-map (calls_of_script scripts words) (map (λ x. (x.number, x.call.reply))) ∙ sym (length-map (calls_of_script scripts words) (map (λ x. x.call.op)));
+        others = subst (λ k. All (CalledBelow k) h)
+            (all ∙ long ∙ sym (length-map (calls_of_script scripts words) (map (λ x. x.call.op)) ∙ script_long scripts words (length-map js (λ j. j.said.items) ∙ long)))
+            (All-from_recursion (CalledBelow a.callers) h (called_below a.callers h below));
       }
+
+      pub are_answered : AreAnswered scripts words
+      are_answered = both_at (AllBoth MayAnswer) scripts words (length-map js (λ j. j.said.items) ∙ long) (λ c ls ss line word.
+          let at = at_of_map (λ j. j.said.items) js c ss word in
+          let d = job_at c at.0 at.1 in
+          subst (λ (z : List Line). AllBoth MayAnswer z ss) (at_once scripts c at.0.script.items ls d.script line)
+          (subst (λ (z : List Said). AllBoth MayAnswer at.0.script.items z) at.2 d.answered))

@@ -1,3 +1,4 @@
+pub mod Beside
 pub mod Called
 pub mod Crew
 pub mod Ended
@@ -5,4 +6,5 @@ pub mod Guided
 pub mod Kept
 pub mod Laws
 pub mod Of
+pub mod Rooms
 pub mod Work

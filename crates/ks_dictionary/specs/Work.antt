@@ -1,17 +1,21 @@
 -- What the work of a caller begins with, and what it leaves.
-use Rattle.std.specs.Prelude.{ℕ, ◌≡◌, ◌≤◌, List, [], ◌++◌, map, length, vec_capacity, All}
+use Rattle.std.specs.Prelude.{ℕ, ◌≡◌, ◌≤◌, List, [], ◌++◌, map, length, vec_capacity, Bool, true, All}
 use mathlib.Core.Option.{some}
 use lib.ListN.{get_elem?}
 use Rattle.atomic_table.specs.Seated.{TableId}
 use Rattle.ks_history.specs.declared.Event.{Event}
 use Rattle.ks_history.specs.declared.Op.{Op}
 use Rattle.ks_history.specs.declared.Reply.{Reply}
-use Rattle.ks_history.specs.Trace.{calls_by}
+use Rattle.ks_history.specs.Trace.{NumberedCall, calls_by}
+use Rattle.ks_history.specs.Calls.{numbered}
 use Rattle.ks_history.specs.Served.{at_place}
-use Rattle.ks_history.specs.Asked.{IsAsked}
+use Rattle.ks_lines.specs.declared.Line.{Line}
+use Rattle.ks_lines.specs.declared.Said.{Said}
+use Rattle.ks_lines.specs.Lines.{AllBoth, IsServedLine, MayAnswer, calls_of_lines}
 use Rattle.ks_arena.specs.Clauses.{seen_of}
 use Rattle.ks_shape.specs.Idle.{Site, IsIdle}
 use Rattle.ks_dictionary.specs.declared.job.Job.{Job}
+use Rattle.ks_dictionary.specs.Rooms.{HaveRooms}
 
 -- the operations that caller c has called in the trace, and the numbers and replies of its calls, oldest first
 abbrev pub asked_by : ℕ → List Event → List Op
@@ -19,6 +23,17 @@ asked_by c h = map (λ x. x.call.op) (calls_by c h)
 
 abbrev pub told_by : ℕ → List Event → List (ℕ × Reply)
 told_by c h = map (λ x. (x.number, x.call.reply)) (calls_by c h)
+
+-- a call with the place f k for each key k of its operation
+abbrev pub call_at : (ℕ → ℕ) → NumberedCall → NumberedCall
+call_at f x = numbered x.number (at_place f x.call.op) x.call.reply
+
+-- the operations that the lines of a script represent, with what is said of them, and their numbers and replies
+abbrev pub ops_of_lines : List Line → List Said → List Op
+ops_of_lines ls ss = map (λ x. x.call.op) (calls_of_lines ls ss)
+
+abbrev pub replies_of_lines : List Line → List Said → List (ℕ × Reply)
+replies_of_lines ls ss = map (λ x. (x.number, x.call.reply)) (calls_of_lines ls ss)
 
 -- from s0 to s1 c has called these operations, in order
 abbrev pub HasAsked : ℕ → List Event → List Event → List Op → Type 0
@@ -35,41 +50,45 @@ pub record AreAbout (a : Site) (table : TableId) (callers nodes : ℕ) : Type 0 
   pub nodes_are : nodes ≡ a.nodes
 
 module _ {N D W : Type 0} where
-  -- no line is written, and there is room for one for each call
-  pub record HasRoom (job : Job N D W) : Type 0 where
-    pub blank : job.lines.items ≡ []
-    pub room : length job.ops.items ≤ vec_capacity job.lines
+  -- nothing is said yet, and there is room for one thing of each line; and for the parts of each scan, if a pairing that scans,
+  -- if this says so, serves the script
+  pub record HasRoom (scans : Bool) (job : Job N D W) : Type 0 where
+    pub blank : job.said.items ≡ []
+    pub room : length job.script.items ≤ vec_capacity job.said
+    pub rooms : All (λ line. IsServedLine scans true line) job.script.items → HaveRooms job.script.items job.rooms.items
 
 module _ {N D W : Type 0} (a : Site) where
-  -- the caller holds nothing and has made no call, its script asks for nothing else than it may, and there is room for a line
-  -- for each of its calls
+  -- the caller holds nothing and has made no call, and there is room for what is said of its script
   pub record IsReadyJob (job : Job N D W) : Type 0 where
     pub pass : IsIdle a job.pass
     pub fresh : calls_by job.pass.caller (seen_of job.pass) ≡ []
-    pub lines : HasRoom job
-    pub asked : All IsAsked job.ops.items
+    pub blank : job.said.items ≡ []
+    pub room : length job.script.items ≤ vec_capacity job.said
+    pub rooms : HaveRooms job.script.items job.rooms.items
 
-  -- the caller holds nothing, and has made the calls of its script, with places for keys, in order; its lines have their
-  -- numbers and replies
+  -- the caller holds nothing; what is said of its script may be said of it, and it has made the calls that the lines then
+  -- represent, with places for keys, in order, with these numbers and replies
   pub record HasRun (place : ℕ → ℕ) (before after : Job N D W) : Type 0 where
     pub pass : IsIdle a after.pass
     pub caller : after.pass.caller ≡ before.pass.caller
-    pub ops : after.ops ≡ before.ops
-    pub asked : asked_by before.pass.caller (seen_of after.pass) ≡ map (at_place place) before.ops.items
-    pub told : told_by before.pass.caller (seen_of after.pass) ≡ after.lines.items
+    pub script : after.script ≡ before.script
+    pub answered : AllBoth MayAnswer before.script.items after.said.items
+    pub asked : asked_by before.pass.caller (seen_of after.pass) ≡ map (at_place place) (ops_of_lines before.script.items after.said.items)
+    pub told : told_by before.pass.caller (seen_of after.pass) ≡ replies_of_lines before.script.items after.said.items
 
-module _ {N D W : Type 0} (a : Site) (scripts : List (List Op)) where
+module _ {N D W : Type 0} (a : Site) (scripts : List (List Line)) where
   -- the job of caller t, before its work
   pub record WaitsAs (job : Job N D W) (t : ℕ) : Type 0 where
     pub ready : IsReadyJob a job
     pub caller : job.pass.caller ≡ t
-    pub script : get_elem? scripts t ≡ some job.ops.items
+    pub script : get_elem? scripts t ≡ some job.script.items
 
-  -- the job of caller t, after it: the caller holds nothing, and has made the calls of its script, with places for keys, in
-  -- order; its lines have their numbers and replies
+  -- the job of caller t, after it: the caller holds nothing; what is said of its script may be said of it, and it has made
+  -- the calls that the lines then represent, with places for keys, in order, with these numbers and replies
   pub record FinishedAs (place : ℕ → ℕ) (job : Job N D W) (t : ℕ) : Type 0 where
     pub pass : IsIdle a job.pass
     pub caller : job.pass.caller ≡ t
-    pub script : get_elem? scripts t ≡ some job.ops.items
-    pub asked : asked_by t (seen_of job.pass) ≡ map (at_place place) job.ops.items
-    pub told : told_by t (seen_of job.pass) ≡ job.lines.items
+    pub script : get_elem? scripts t ≡ some job.script.items
+    pub answered : AllBoth MayAnswer job.script.items job.said.items
+    pub asked : asked_by t (seen_of job.pass) ≡ map (at_place place) (ops_of_lines job.script.items job.said.items)
+    pub told : told_by t (seen_of job.pass) ≡ replies_of_lines job.script.items job.said.items

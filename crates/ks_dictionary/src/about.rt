@@ -1,7 +1,7 @@
 //! What the jobs of one run are about.
 ghost use Rattle.std.specs.Prelude.{ℕ, List, []};
 ghost use Rattle.atomic_table.specs.Seated.{TableId};
-ghost use Rattle.ks_history.specs.declared.Op.{Op};
+ghost use Rattle.ks_lines.specs.declared.Line.{Line};
 ghost use Rattle.ks_dictionary.specs.Crew.{no_table};
 
 use std::marker::Brand;
@@ -19,7 +19,7 @@ pub trait About {
     ghost nodes: { ℕ };
 
     /// The scripts of the callers, in their order.
-    ghost scripts: { List (List Op) };
+    ghost scripts: { List (List Line) };
 }
 
 impl About for Brand {

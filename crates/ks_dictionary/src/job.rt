@@ -6,17 +6,19 @@ ghost use Rattle.ks_dictionary.specs.Work.{FinishedAs, WaitsAs};
 use crate::about::About;
 use ks_arena::Pass;
 use ks_flow::Discipline;
-use ks_history::{Op, Reply};
+use ks_lines::{Line, Part, Said};
 use ks_node::Node;
 use ks_tickets::Ticketed;
 use std::marker::PhantomData;
 
-/// A caller: its pass, its script, and room for a number and a reply for each of its calls.
+/// A caller: its pass, its script, room for what is said of each of its lines, and for the parts of each of its scans, those
+/// of the first one last.
 #[derive(Drop)]
 pub struct Job<N, D, W> {
     pub pass: Pass<N, D>,
-    pub ops: Vec<Op>,
-    pub lines: Vec<(u64, Reply)>,
+    pub script: Vec<Line>,
+    pub said: Vec<Said>,
+    pub(crate) rooms: Vec<Vec<Part>>,
     pub(crate) about: PhantomData<W>,
 }
 

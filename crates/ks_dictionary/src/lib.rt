@@ -8,26 +8,36 @@
 #![tactic(auto)]
 
 mod about;
+mod aiding;
+mod beside;
 mod closed;
+mod desks;
 mod dictionary;
 mod fit;
+mod front;
 mod guided;
+mod hinted;
 mod hinting;
 mod job;
 mod laws;
 mod merging;
 mod moving;
+mod reaching;
+mod reader;
+mod rooms;
 mod scanning;
 mod serving;
 mod worker;
 mod workers;
 
 pub use about::About;
+pub use aiding::Aiding;
 pub use closed::Closed;
 pub use dictionary::Dictionary;
 pub use fit::fits_threads;
 pub use job::Job;
 pub use laws::{kept_law, once_law};
+pub use reaching::{AtOneKey, Reaching};
 pub use serving::{Told, serve_callers};
 pub use worker::Worker;
 pub use workers::work;

@@ -3,7 +3,8 @@ ghost use Rattle.std.specs.Prelude.{◌≡◌, ◌≤◌, ◌<◌, ◌^◌, ℕ,
 ghost use Rattle.ks_arena.specs.Of.{SameCaller};
 ghost use Rattle.ks_shape.specs.Does.{OnlySearches};
 ghost use Rattle.ks_scan.specs.Ends.{HasFoundFirst, HasFoundLast};
-ghost use Rattle.ks_scan.specs.Scan.{IsDoneScan, IsScanOf};
+ghost use Rattle.ks_scan.specs.Scan.{IsDoneScan};
+ghost use Rattle.ks_lines.specs.Scan.{IsScanOf};
 ghost use Rattle.ks_dictionary.specs.Of.{IsIdlePassOf, site_of};
 
 use crate::dictionary::Dictionary;

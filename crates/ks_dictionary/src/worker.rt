@@ -1,7 +1,9 @@
 //! A worker: its desk, and what it knows of where calls may begin.
-ghost use Rattle.std.specs.Prelude.{◌≡◌, map, IfOk};
+ghost use Rattle.std.specs.Prelude.{◌≡◌, map, length, IfOk};
 
+use crate::reader::Reader;
 use ks_guide::Guide;
+use ks_hints::HintReader;
 use ks_tickets::Desk;
 use std::alloc::{AllocError, Global};
 
@@ -11,12 +13,11 @@ const LEAVES: usize = 1024;
 /// How many branches it has room for.
 const BRANCHES: usize = 1024;
 
-/// What one worker draws callers with, and its memory of where their calls were decided, if it has one. It keeps that from
-/// caller to caller.
+/// What one worker draws callers with, and what it asks where their calls may begin. It keeps both from caller to caller.
 #[derive(Drop)]
-pub struct Worker<J> {
+pub struct Worker<J, H> {
     pub(crate) desk: Desk<J>,
-    pub(crate) guide: Option<Guide>,
+    pub(crate) aid: H,
 }
 
 /// The guide of a worker, if it is to have one.
@@ -36,13 +37,36 @@ pub(crate) fn workers_at<J>(
     alloc: Global,
     desks: Vec<Desk<J>>,
     guided: bool,
-) -> Result<Vec<Worker<J>>, AllocError>
+) -> Result<Vec<Worker<J, Option<Guide>>>, AllocError>
     ensures { IfOk result (λ workers. map (λ worker. worker.desk) workers.items ≡ desks.items) }
 {
     let mut workers = Vec::with_capacity(alloc, desks.len())?;
     for desk in desks {
-        let guide = guide_if(alloc, guided)?;
-        workers.push(Worker { desk, guide })?;
+        let aid = guide_if(alloc, guided)?;
+        workers.push(Worker { desk, aid })?;
+    }
+    Ok(workers)
+}
+
+/// A worker at each desk, with one of the readers.
+///
+/// # Errors
+///
+/// Only lack of memory.
+pub(crate) fn readers_at<J>(
+    alloc: Global,
+    desks: Vec<Desk<J>>,
+    readers: Vec<HintReader>,
+) -> Result<Vec<Worker<J, Reader>>, AllocError>
+    requires { length readers.items ≡ length desks.items }
+    ensures { IfOk result (λ workers. map (λ worker. worker.desk) workers.items ≡ desks.items) }
+{
+    let mut workers = Vec::with_capacity(alloc, desks.len())?;
+    for (desk, hints) in desks.into_iter().zip(readers) {
+        workers.push(Worker {
+            desk,
+            aid: Reader { hints },
+        })?;
     }
     Ok(workers)
 }
@@ -52,15 +76,15 @@ pub(crate) fn workers_at<J>(
 /// # Errors
 ///
 /// Only lack of memory.
-pub(crate) fn desks_of<J>(
+pub(crate) fn desks_of<J, H: Drop>(
     alloc: Global,
-    workers: Vec<Worker<J>>,
+    workers: Vec<Worker<J, H>>,
 ) -> Result<Vec<Desk<J>>, AllocError>
     ensures { IfOk result (λ desks. desks.items ≡ map (λ worker. worker.desk) workers.items) }
 {
     let mut desks = Vec::with_capacity(alloc, workers.len())?;
     for worker in workers {
-        let Worker { desk, guide: _ } = worker;
+        let Worker { desk, aid: _ } = worker;
         desks.push(desk)?;
     }
     Ok(desks)

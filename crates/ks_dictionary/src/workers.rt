@@ -1,29 +1,37 @@
-//! The work of the callers, by workers that draw whole callers. Each job has room for a line for each of its calls from
-//! the start, so no worker takes an allocator.
-ghost use Rattle.std.specs.Prelude.{◌≡◌, ℕ, ◌<◌, ◌≤◌, ◌++◌, ◌∷◌, [], map, length, All, slice_index_or, vec_capacity};
+//! The work of the callers, by workers that draw whole callers. Each job has room for what is said of each line of its script
+//! from the start, and for the parts of its scans, so no worker takes an allocator.
+ghost use Rattle.std.specs.Prelude.{◌≡◌, ℕ, ◌<◌, ◌≤◌, ◌++◌, ◌∷◌, [], map, length, All, IsTrue, slice_index_or, vec_capacity};
 ghost use Rattle.ks_history.specs.Map.{told};
 ghost use Rattle.ks_history.specs.Trace.{calls_by};
 ghost use Rattle.ks_history.specs.Calls.{numbered};
 ghost use Rattle.ks_history.specs.Served.{at_place};
-ghost use Rattle.ks_history.specs.Asked.{IsAsked};
+ghost use Rattle.ks_lines.specs.declared.Line.TheVariants.{Call, Scan};
+ghost use Rattle.ks_lines.specs.Lines.{AllBoth, IsReplyTo, IsServedLine, MayAnswer, calls_of_line};
+ghost use Rattle.ks_lines.specs.Asked.{AreServedLines, IsLine, IsOwnLine};
 ghost use Rattle.ks_arena.specs.Clauses.{seen_of};
-ghost use Rattle.ks_shape.specs.Answers.{number_in, reply_in};
-ghost use Rattle.ks_dictionary.specs.Of.{IsIdlePassOf, site_of};
-ghost use Rattle.ks_dictionary.specs.Work.{AreAbout, HasAnswered, HasAsked, HasRun, IsReadyJob};
-ghost use Rattle.ks_tickets.specs.Clauses.{HasEnded, IsFree, IsSameDesk};
 ghost use Rattle.ks_arena.specs.Of.{SameCaller, caller_of};
+ghost use Rattle.ks_arena.specs.Sound.{sort_of};
+ghost use Rattle.ks_shape.specs.Answers.{move_number, move_reply, number_in, reply_in};
+ghost use Rattle.ks_dictionary.specs.Crew.{site_with};
+ghost use Rattle.ks_dictionary.specs.Of.{IsIdlePassOf, site_of};
+ghost use Rattle.ks_dictionary.specs.Rooms.{HasRoomFor, HaveRooms, IsRoomFor, rooms_after};
+ghost use Rattle.ks_dictionary.specs.Work.{AreAbout, HasAnswered, HasAsked, HasRun, IsReadyJob, WaitsAs, call_at, ops_of_lines, replies_of_lines};
+ghost use Rattle.ks_tickets.specs.Clauses.{HasEnded, IsBusy, IsFree, IsSameDesk, draws_known};
 
 use crate::about::About;
 use crate::dictionary::Dictionary;
 use crate::job::Job;
+use crate::reaching::Reaching;
 use crate::worker::Worker;
 use ks_aid::{Aid, Serving};
 use ks_arena::{Arena, Pass};
 use ks_gate::Gate;
+use ks_guide::Guide;
 use ks_history::{Op, Reply, reply_of};
+use ks_lines::{Line, Part, Parts, Said};
 use ks_node::Node;
 use ks_places::Placing;
-use ks_shape::{Full, Numbered, Ruled};
+use ks_shape::{Full, MoveLeft, Numbered, Ruled};
 use ks_tickets::{Desk, Tickets};
 use std::sync::Wait;
 use std::thread::{Threads, for_each_mut};
@@ -46,19 +54,41 @@ fn line_in(answer: Result<Numbered, Full>) -> (u64, Reply)
     }
 }
 
-/// Makes one call, which may begin where the aid says, and returns its number and its reply.
-fn call<N: Node, T: Ruled + Serving<N, Arena<N, <T as Ruled>::Rule>>, R: Wait, G: Gate, H: Aid>(
+/// The number and the reply of a move.
+fn line_of_move(answer: Result<Numbered, MoveLeft>) -> (u64, Reply)
+    ensures number { result.0 ≡ move_number answer }
+    ensures reply { result.1 ≡ move_reply answer }
+{
+    match answer {
+        Ok(answer) => line_of(answer),
+        Err(MoveLeft::Kept { number }) => (number, Reply::Kept),
+        Err(MoveLeft::Full { number }) => (number, Reply::Full),
+    }
+}
+
+/// Makes one call, which may begin where the aid says if it is at one key, and returns its number and its reply.
+fn call<
+    N: Node,
+    T: Ruled + Serving<N, Arena<N, <T as Ruled>::Rule>>,
+    S: Reaching<N, Arena<N, <T as Ruled>::Rule>, T>,
+    R: Wait,
+    G: Gate,
+    H: Aid,
+>(
     rt: &R,
     dictionary: &Dictionary<N, T>,
     gate: &G,
     pass: &mut Pass<N, T::Rule>,
     aid: &mut H,
+    reach: &S,
     op: Op,
 ) -> (u64, Reply)
     requires pass { IsIdlePassOf dictionary.now pass.old }
-    requires asked { IsAsked op }
+    requires own { IsOwnLine op }
+    requires served { IsServedLine S.scans S.moves (Call op) }
     ensures pass { IsIdlePassOf dictionary.now pass.new }
     ensures caller { SameCaller pass.old pass.new }
+    ensures reply { IsReplyTo op result.1 }
     ensures calls { calls_by (caller_of pass.old) (seen_of pass.new)
         ≡ calls_by (caller_of pass.old) (seen_of pass.old)
         ++ numbered result.0 (at_place N.Places.place_of op) result.1 ∷ [] }
@@ -108,14 +138,67 @@ fn call<N: Node, T: Ruled + Serving<N, Arena<N, <T as Ruled>::Rule>>, R: Wait, G
             old,
             new,
         )),
-        Op::Part(_, _) | Op::Move(_, _) => unreachable!(),
+        Op::Move(from, to) => line_of_move(reach.move_value(
+            rt,
+            &dictionary.arena,
+            pass,
+            gate,
+            N::Places::place(from),
+            N::Places::place(to),
+        )),
+        Op::Part(_, _) => unreachable!(),
     }
 }
 
-/// Makes the calls of a script, in order, and writes down their numbers and replies.
-fn call_each<
+/// Makes the calls of a scan, whose parts go into the room.
+fn scan<
     N: Node,
     T: Ruled + Serving<N, Arena<N, <T as Ruled>::Rule>>,
+    S: Reaching<N, Arena<N, <T as Ruled>::Rule>, T>,
+    R: Wait,
+    G: Gate,
+>(
+    rt: &R,
+    dictionary: &Dictionary<N, T>,
+    gate: &G,
+    pass: &mut Pass<N, T::Rule>,
+    reach: &S,
+    low: u64,
+    last: u64,
+    most: u32,
+    room: Vec<Part>,
+) -> Said
+    requires pass { IsIdlePassOf dictionary.now pass.old }
+    requires scans { IsTrue S.scans }
+    requires line { IsLine (Scan low last most) }
+    requires room { IsRoomFor most room }
+    ensures pass { IsIdlePassOf dictionary.now pass.new }
+    ensures caller { SameCaller pass.old pass.new }
+    ensures answer { MayAnswer (Scan low last most) result }
+    ensures calls { calls_by (caller_of pass.old) (seen_of pass.new)
+        ≡ calls_by (caller_of pass.old) (seen_of pass.old)
+        ++ map (call_at N.Places.place_of) (calls_of_line (Scan low last most) result) }
+{
+    let mut parts = room;
+    let most = most as usize;
+    let stop = reach.scan_into(
+        rt,
+        &dictionary.arena,
+        pass,
+        gate,
+        low,
+        last,
+        most,
+        &mut parts,
+    );
+    Said::Scan(Parts::of(parts), stop)
+}
+
+/// Makes the calls of one line. The parts of a scan go into the last of the rooms.
+fn answer<
+    N: Node,
+    T: Ruled + Serving<N, Arena<N, <T as Ruled>::Rule>>,
+    S: Reaching<N, Arena<N, <T as Ruled>::Rule>, T>,
     R: Wait,
     G: Gate,
     H: Aid,
@@ -125,21 +208,69 @@ fn call_each<
     gate: &G,
     pass: &mut Pass<N, T::Rule>,
     aid: &mut H,
-    ops: &[Op],
-    lines: &mut Vec<(u64, Reply)>,
-)
+    reach: &S,
+    line: Line,
+    rooms: &mut Vec<Vec<Part>>,
+) -> Said
     requires pass { IsIdlePassOf dictionary.now pass.old }
-    requires blank { lines.old.items ≡ [] }
-    requires room { length ops.now ≤ vec_capacity lines.old }
-    requires asked { All IsAsked ops.now }
+    requires line { IsLine line }
+    requires served { IsServedLine S.scans S.moves line }
+    requires room { HasRoomFor line rooms.old.items }
     ensures pass { IsIdlePassOf dictionary.now pass.new }
     ensures caller { SameCaller pass.old pass.new }
-    ensures asked { HasAsked (caller_of pass.old) (seen_of pass.old) (seen_of pass.new)
-        (map (at_place N.Places.place_of) ops.now) }
-    ensures told { HasAnswered (caller_of pass.old) (seen_of pass.old) (seen_of pass.new) lines.new.items }
+    ensures rooms { rooms.new.items ≡ rooms_after line rooms.old.items }
+    ensures answer { MayAnswer line result }
+    ensures calls { calls_by (caller_of pass.old) (seen_of pass.new)
+        ≡ calls_by (caller_of pass.old) (seen_of pass.old)
+        ++ map (call_at N.Places.place_of) (calls_of_line line result) }
 {
-    for at in 0..ops.len() {
-        lines.push_reserved(call(rt, dictionary, gate, pass, aid, ops[at]));
+    match line {
+        Line::Call(op) => {
+            let (number, reply) = call(rt, dictionary, gate, pass, aid, reach, op);
+            Said::Call(number, reply)
+        }
+        Line::Scan(low, last, most) => {
+            let room = rooms.pop().unwrap();
+            scan(rt, dictionary, gate, pass, reach, low, last, most, room)
+        }
+    }
+}
+
+/// Makes the calls of a script, line by line, and writes down what is said of each.
+fn call_each<
+    N: Node,
+    T: Ruled + Serving<N, Arena<N, <T as Ruled>::Rule>>,
+    S: Reaching<N, Arena<N, <T as Ruled>::Rule>, T>,
+    R: Wait,
+    G: Gate,
+    H: Aid,
+>(
+    rt: &R,
+    dictionary: &Dictionary<N, T>,
+    gate: &G,
+    pass: &mut Pass<N, T::Rule>,
+    aid: &mut H,
+    reach: &S,
+    script: &[Line],
+    rooms: &mut Vec<Vec<Part>>,
+    said: &mut Vec<Said>,
+)
+    requires pass { IsIdlePassOf dictionary.now pass.old }
+    requires blank { said.old.items ≡ [] }
+    requires room { length script.now ≤ vec_capacity said.old }
+    requires rooms { HaveRooms script.now rooms.old.items }
+    requires served { All (λ line. IsLine line × IsServedLine S.scans S.moves line) script.now }
+    ensures pass { IsIdlePassOf dictionary.now pass.new }
+    ensures caller { SameCaller pass.old pass.new }
+    ensures answered { AllBoth MayAnswer script.now said.new.items }
+    ensures asked { HasAsked (caller_of pass.old) (seen_of pass.old) (seen_of pass.new)
+        (map (at_place N.Places.place_of) (ops_of_lines script.now said.new.items)) }
+    ensures told { HasAnswered (caller_of pass.old) (seen_of pass.old) (seen_of pass.new)
+        (replies_of_lines script.now said.new.items) }
+{
+    for at in 0..script.len() {
+        let line = script[at];
+        said.push_reserved(answer(rt, dictionary, gate, pass, aid, reach, line, rooms));
     }
 }
 
@@ -147,12 +278,21 @@ fn call_each<
 fn run_job<
     N: Node,
     T: Ruled + Serving<N, Arena<N, <T as Ruled>::Rule>>,
+    S: Reaching<N, Arena<N, <T as Ruled>::Rule>, T>,
     R: Wait,
     G: Gate,
     H: Aid,
     W,
->(rt: &R, dictionary: &Dictionary<N, T>, gate: &G, aid: &mut H, job: &mut Job<N, T::Rule, W>)
-    requires { IsReadyJob (site_of dictionary.now) job.old }
+>(
+    rt: &R,
+    dictionary: &Dictionary<N, T>,
+    gate: &G,
+    aid: &mut H,
+    reach: &S,
+    job: &mut Job<N, T::Rule, W>,
+)
+    requires ready { IsReadyJob (site_of dictionary.now) job.old }
+    requires served { All (λ line. IsLine line × IsServedLine S.scans S.moves line) job.old.script.items }
     ensures { HasRun (site_of dictionary.now) N.Places.place_of job.old job.new }
 {
     call_each(
@@ -161,15 +301,18 @@ fn run_job<
         gate,
         &mut job.pass,
         aid,
-        job.ops.as_slice(),
-        &mut job.lines,
+        reach,
+        job.script.as_slice(),
+        &mut job.rooms,
+        &mut job.said,
     );
 }
 
-/// Draws callers at the desk and serves each, until none is left.
-fn work_at<
+/// Serves the caller that was drawn at the desk, and puts its job back.
+pub(crate) fn serve_drawn<
     N: Node,
     T: Ruled + Serving<N, Arena<N, <T as Ruled>::Rule>>,
+    S: Reaching<N, Arena<N, <T as Ruled>::Rule>, T>,
     R: Wait,
     G: Gate,
     H: Aid,
@@ -181,15 +324,49 @@ fn work_at<
     tickets: &Tickets<Job<N, T::Rule, W>>,
     desk: &mut Desk<Job<N, T::Rule, W>>,
     aid: &mut H,
+    reach: &S,
+    ticket: u32,
+    mut job: Job<N, T::Rule, W>,
 )
     requires about { AreAbout (site_of dictionary.now) W.table W.callers W.nodes }
+    requires served { AreServedLines S.scans S.moves W.scripts }
+    requires busy { IsBusy tickets.now ticket desk.old }
+    requires waits { WaitsAs (site_with (sort_of N.layout N.ranged) T.Rule.begins T.Rule.step W.table W.callers W.nodes)
+        W.scripts job ticket }
+    ensures free { IsFree tickets.now desk.new }
+    ensures same { IsSameDesk desk.old desk.new }
+    ensures known { draws_known desk.new ≡ draws_known desk.old }
+{
+    run_job(rt, dictionary, gate, aid, reach, &mut job);
+    tickets.finish(desk, ticket, job);
+}
+
+/// Draws callers at the desk and serves each, until none is left.
+pub(crate) fn work_at<
+    N: Node,
+    T: Ruled + Serving<N, Arena<N, <T as Ruled>::Rule>>,
+    S: Reaching<N, Arena<N, <T as Ruled>::Rule>, T>,
+    R: Wait,
+    G: Gate,
+    H: Aid,
+    W: About,
+>(
+    rt: &R,
+    dictionary: &Dictionary<N, T>,
+    gate: &G,
+    tickets: &Tickets<Job<N, T::Rule, W>>,
+    desk: &mut Desk<Job<N, T::Rule, W>>,
+    aid: &mut H,
+    reach: &S,
+)
+    requires about { AreAbout (site_of dictionary.now) W.table W.callers W.nodes }
+    requires served { AreServedLines S.scans S.moves W.scripts }
     requires desk { IsFree tickets.now desk.old }
     ensures ended { HasEnded tickets.now desk.new }
     ensures same { IsSameDesk desk.old desk.new }
 {
-    while let Some((ticket, mut job)) = tickets.draw(desk) {
-        run_job(rt, dictionary, gate, aid, &mut job);
-        tickets.finish(desk, ticket, job);
+    while let Some((ticket, job)) = tickets.draw(desk) {
+        serve_drawn(rt, dictionary, gate, tickets, desk, aid, reach, ticket, job);
     }
 }
 
@@ -198,6 +375,7 @@ fn work_at<
 pub fn work<
     N: Node + Send,
     T: Ruled + Serving<N, Arena<N, <T as Ruled>::Rule>>,
+    S: Reaching<N, Arena<N, <T as Ruled>::Rule>, T> + Sync,
     R: Threads + Wait + Sync,
     G: Gate + Sync,
     W: About + Send + Sync,
@@ -205,13 +383,15 @@ pub fn work<
     rt: &R,
     dictionary: &Dictionary<N, T>,
     gate: &G,
+    reach: &S,
     tickets: &Tickets<Job<N, T::Rule, W>>,
-    workers: &mut [Worker<Job<N, T::Rule, W>>],
+    workers: &mut [Worker<Job<N, T::Rule, W>, Option<Guide>>],
 )
 where
     N::Places: Send + Sync,
     requires some { 0 < length workers.old }
     requires about { AreAbout (site_of dictionary.now) W.table W.callers W.nodes }
+    requires served { AreServedLines S.scans S.moves W.scripts }
     requires free { All (λ worker. IsFree tickets.now worker.desk) workers.old }
     ensures count { length workers.new ≡ length workers.old }
     ensures ended { (i : ℕ) (d : _) → i < length workers.old →
@@ -224,8 +404,9 @@ where
         rt,
         workers,
         threads,
-        &|_: usize, worker: &mut Worker<Job<N, T::Rule, W>>|
+        &|_: usize, worker: &mut Worker<Job<N, T::Rule, W>, Option<Guide>>|
             requires about { AreAbout (site_of dictionary.now) W.table W.callers W.nodes }
+            requires served { AreServedLines S.scans S.moves W.scripts }
             requires desk { IsFree tickets.now worker.old.desk }
             ensures ended { HasEnded tickets.entry.now worker.new.desk }
             ensures same { IsSameDesk worker.old.desk worker.new.desk }
@@ -236,7 +417,8 @@ where
                 gate,
                 tickets,
                 &mut worker.desk,
-                &mut worker.guide,
+                &mut worker.aid,
+                reach,
             )
         },
     );

@@ -1,19 +1,46 @@
 //! A pass that is dropped keeps nobody, and a dictionary that is not closed can be dropped.
-use crate::crews::{put_each, two_callers};
+ghost use Rattle.ks_dictionary.specs.Of.{IsIdlePassOf};
+
+use crate::crews::two_callers;
+use ks_arena::{Arena, Pass};
 use ks_coupling::Coupling;
+use ks_dictionary::Dictionary;
 use ks_gate::NoGate;
 use ks_list::ListNode;
+use ks_node::Node;
+use ks_shape::{Ruled, Template};
+use std::sync::Wait;
 use std::test::Fail;
+
+/// Puts the keys below `many`, each as its own value. Returns whether these are the first calls, and no key had a value.
+fn puts_below<N: Node, T: Ruled + Template<N, Arena<N, <T as Ruled>::Rule>>, R: Wait>(
+    rt: &R,
+    map: &Dictionary<N, T>,
+    pass: &mut Pass<N, T::Rule>,
+    many: u64,
+) -> bool
+    requires { IsIdlePassOf map.now pass.old }
+    ensures { IsIdlePassOf map.now pass.new }
+{
+    let mut right = true;
+    for key in 0..many {
+        right = match map.put(rt, pass, &NoGate, key, u128::from(key)) {
+            Ok(put) => right && put.number == key && put.found.is_none(),
+            Err(_) => false,
+        };
+    }
+    right
+}
 
 /// The list has two nodes when the pass of caller 1 goes.
 #[test]
 fn a_pass_that_is_dropped_keeps_nobody(rt: HostRuntime) -> Result<(), Fail> {
-    let (dictionary, mut one, two) = two_callers::<ListNode, Coupling>(rt.alloc(), 4)?;
-    assert!(rt; put_each(&rt, &dictionary, &mut one, 0, 0, 9));
+    let (map, mut one, two) = two_callers::<ListNode, Coupling>(rt.alloc(), 4)?;
+    assert!(rt; puts_below(&rt, &map, &mut one, 9));
     drop(two);
-    let got = dictionary.get(&rt, &mut one, &NoGate, 8);
+    let got = map.get(&rt, &mut one, &NoGate, 8);
     assert!(rt; got.number == 9 && got.found == Some(8));
     drop(one);
-    drop(dictionary);
+    drop(map);
     Ok(())
 }

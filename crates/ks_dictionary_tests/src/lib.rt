@@ -1,4 +1,5 @@
-//! Tests of dictionaries: callers on threads, notes, and non-blocking calls.
+//! Tests of dictionaries beside those of every pairing: all callers served, notes, ordered scans, passes that are dropped, and
+//! what the clauses say of a known technique.
 #![tactic(auto)]
 
 #[cfg(test)]
@@ -6,18 +7,10 @@ mod crews;
 #[cfg(test)]
 mod dropped;
 #[cfg(test)]
-mod meets;
-#[cfg(test)]
 mod notes;
-#[cfg(test)]
-mod order;
 #[cfg(test)]
 mod scans;
 #[cfg(test)]
-mod scenes;
-#[cfg(test)]
 mod tests;
-#[cfg(test)]
-mod tries;
 #[cfg(test)]
 mod upkeep;

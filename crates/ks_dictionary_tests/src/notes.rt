@@ -18,26 +18,13 @@ type Caller = Pass<ListNode, Tree>;
 
 type News = Note<ListNode, Tree>;
 
-/// Caller 0 puts a value and notes what it has seen; caller 1 learns that, and finds the value.
-#[test]
-fn a_note_is_learnt(rt: HostRuntime) -> Result<(), Fail> {
-    let (dictionary, mut one, mut two) = two_callers::<ListNode, Coupling>(rt.alloc(), 4)?;
-    let put = dictionary.put(&rt, &mut one, &NoGate, 5, 50);
-    assert!(rt; matches!(put, Ok(told) if told.number == 0 && told.found.is_none()));
-    let note = dictionary.note(&mut one);
-    dictionary.learn(&mut two, note);
-    let got = dictionary.get(&rt, &mut two, &NoGate, 5);
-    assert!(rt; got.number == 1 && got.found == Some(50));
-    Ok(())
-}
-
 /// Puts a value of ten times the key, and notes it.
 fn put_and_note<R: Wait>(rt: &R, dictionary: &Lists, mut pass: Caller, key: u64) -> (Caller, News)
     requires { IsIdlePassOf dictionary.now pass }
     ensures pass { IsIdlePassOf dictionary.now result.0 }
     ensures note { IsNoteFrom dictionary.now result.1 }
 {
-    let _told = dictionary.put(rt, &mut pass, &NoGate, key, u128::from(key) * 10);
+    let _put = dictionary.put(rt, &mut pass, &NoGate, key, u128::from(key) * 10);
     let note = dictionary.note(&mut pass);
     (pass, note)
 }

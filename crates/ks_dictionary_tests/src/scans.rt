@@ -1,8 +1,9 @@
 //! Ordered scans of a dictionary, whole and cut short, and the first and the last key of a span.
+ghost use Rattle.std.specs.Prelude.{IfOk};
 ghost use Rattle.ks_dictionary.specs.Of.{IsIdlePassOf};
 
+use crate::crews::two_callers;
 use ks_arena::{Arena, Pass};
-use ks_boxed::Boxed;
 use ks_bplus::BNode;
 use ks_dictionary::Dictionary;
 use ks_gate::NoGate;
@@ -29,6 +30,18 @@ fn fill<N: Node, T: Ruled + Template<N, Arena<N, <T as Ruled>::Rule>>, R: Wait>(
         let _answer = map.put(rt, pass, &NoGate, tenth * 10, 7);
     }
     let _deleted = map.del(rt, pass, &NoGate, 80);
+}
+
+/// A dictionary with these keys, and the pass of a caller.
+fn filled<N: Node, T: Ruled + Template<N, Arena<N, <T as Ruled>::Rule>>, R: Wait>(
+    rt: &R,
+    alloc: Global,
+) -> Result<(Dictionary<N, T>, Pass<N, T::Rule>), AllocError>
+    ensures { IfOk result (λ x. IsIdlePassOf x.0 x.1) }
+{
+    let (map, mut pass, _) = two_callers::<N, T>(alloc, 64)?;
+    fill(rt, &map, &mut pass);
+    Ok((map, pass))
 }
 
 /// The key of a pair that was found.
@@ -82,22 +95,30 @@ fn finds_ends<N: Node, T: Ruled + Scanning<N, Arena<N, <T as Ruled>::Rule>>, R: 
         && none_last == None
 }
 
+/// Whether scans go from leaf to leaf, and first and last keys are found.
+fn goes_from_leaf_to_leaf<N: Node, T: Ruled + Scanning<N, Arena<N, <T as Ruled>::Rule>>, R: Wait>(
+    rt: &R,
+    alloc: Global,
+    map: &Dictionary<N, T>,
+    pass: &mut Pass<N, T::Rule>,
+) -> Result<bool, AllocError>
+    requires { IsIdlePassOf map.now pass.old }
+{
+    Ok(scans_leaves(rt, alloc, map, pass)? && finds_ends(rt, map, pass))
+}
+
 #[test]
 fn a_scan_goes_from_leaf_to_leaf_by_giving_up(rt: HostRuntime) -> Result<(), Fail> {
     let alloc = rt.alloc();
-    let (map, mut passes) = Dictionary::<Boxed<WithRange<BNode>>, GiveUp>::start(alloc, 64, 1)?;
-    fill(&rt, &map, &mut passes[0]);
-    assert!(rt; scans_leaves(&rt, alloc, &map, &mut passes[0])?);
-    assert!(rt; finds_ends(&rt, &map, &mut passes[0]));
+    let (map, mut pass) = filled::<WithRange<BNode>, GiveUp, HostRuntime>(&rt, alloc)?;
+    assert!(rt; goes_from_leaf_to_leaf(&rt, alloc, &map, &mut pass)?);
     Ok(())
 }
 
 #[test]
 fn a_scan_goes_from_leaf_to_leaf_along_links(rt: HostRuntime) -> Result<(), Fail> {
     let alloc = rt.alloc();
-    let (map, mut passes) = Dictionary::<Boxed<WithLink<BNode>>, LinkMove>::start(alloc, 64, 1)?;
-    fill(&rt, &map, &mut passes[0]);
-    assert!(rt; scans_leaves(&rt, alloc, &map, &mut passes[0])?);
-    assert!(rt; finds_ends(&rt, &map, &mut passes[0]));
+    let (map, mut pass) = filled::<WithLink<BNode>, LinkMove, HostRuntime>(&rt, alloc)?;
+    assert!(rt; goes_from_leaf_to_leaf(&rt, alloc, &map, &mut pass)?);
     Ok(())
 }

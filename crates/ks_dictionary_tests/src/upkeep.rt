@@ -67,13 +67,13 @@ fn put_along_links<R: Wait>(
 #[test]
 fn a_call_keeps_up_what_its_technique_owes(rt: HostRuntime) -> Result<(), Fail> {
     let (map, mut passes) = Dictionary::<BNode, Coupling>::start(rt.alloc(), 16, 1)?;
-    let told = del_by_coupling(&rt, &map, &mut passes[0], 5);
-    assert!(rt; told.found.is_none());
+    let deleted = del_by_coupling(&rt, &map, &mut passes[0], 5);
+    assert!(rt; deleted.found.is_none());
     let (map, mut passes) = Dictionary::<WithRange<BNode>, GiveUp>::start(rt.alloc(), 16, 1)?;
-    let told = del_by_giving_up(&rt, &map, &mut passes[0], 5);
-    assert!(rt; told.found.is_none());
+    let deleted = del_by_giving_up(&rt, &map, &mut passes[0], 5);
+    assert!(rt; deleted.found.is_none());
     let (map, mut passes) = Dictionary::<WithLink<BNode>, LinkMove>::start(rt.alloc(), 16, 1)?;
-    let told = put_along_links(&rt, &map, &mut passes[0], 5, 50);
-    assert!(rt; matches!(told, Ok(Numbered { found: None, .. })));
+    let put = put_along_links(&rt, &map, &mut passes[0], 5, 50);
+    assert!(rt; matches!(put, Ok(Numbered { found: None, .. })));
     Ok(())
 }

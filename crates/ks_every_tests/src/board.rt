@@ -103,10 +103,10 @@ impl Board {
             }
         }
         match answer {
-            Ok(told) => {
-                let reply = reply_of(told.found);
+            Ok(done) => {
+                let reply = reply_of(done.found);
                 self.write(
-                    told.number,
+                    done.number,
                     Slot {
                         script,
                         step,

@@ -32,8 +32,8 @@ pub(crate) struct Call {
 pub(crate) type Answer = Result<Numbered, PutLater>;
 
 /// What a put or an add returns that waits.
-fn of_fill(told: Result<Numbered, Full>) -> Answer {
-    match told {
+fn of_fill(filled: Result<Numbered, Full>) -> Answer {
+    match filled {
         Ok(put) => Ok(put),
         Err(full) => Err(PutLater::Full {
             number: full.number,
@@ -42,8 +42,8 @@ fn of_fill(told: Result<Numbered, Full>) -> Answer {
 }
 
 /// What a get, a swap or a del returns that does not wait.
-fn of_try(told: Result<Numbered, Later>) -> Answer {
-    match told {
+fn of_try(tried: Result<Numbered, Later>) -> Answer {
+    match tried {
         Ok(got) => Ok(got),
         Err(later) => Err(PutLater::Later(later)),
     }

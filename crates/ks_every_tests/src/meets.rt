@@ -2,7 +2,7 @@
 use crate::calls::{Answer, Op};
 use crate::scripts::Script;
 use crate::trial::{Due, Trial};
-use crate::trials::{WHOLE, gated, told};
+use crate::trials::{WHOLE, decided_at, gated};
 use ks_gate::Point::{self, Begin, Decided, Given, Taken};
 use ks_shape::{Later, PutLater};
 use std::alloc::{AllocError, Global};
@@ -51,12 +51,12 @@ fn meet(
 /// a key there, and got one of node 2: so a get that has come to its leaf does not hold the root.
 pub(crate) fn busy(alloc: Global, at: Point) -> Result<Trial, AllocError> {
     let mut held = Script::of(alloc, 1);
-    held.returns(0, Op::Get, told(18, Some(0)))?;
+    held.returns(0, Op::Get, decided_at(18, Some(0)))?;
     let mut tried = Script::of(alloc, 1);
     for op in EACH {
         tried.try_returns(0, op, later(Later::Busy { node: 1, holder: 0 }))?;
     }
-    tried.try_returns(16, Op::Get, told(17, Some(16)))?;
+    tried.try_returns(16, Op::Get, decided_at(17, Some(16)))?;
     let points = vec![in alloc; (0, at), (1, Begin), (1, Decided(17)), (0, at)]?;
     meet(alloc, 64, 17, vec![in alloc; held, tried]?, points, 5)
 }
@@ -65,8 +65,8 @@ pub(crate) fn busy(alloc: Global, at: Point) -> Result<Trial, AllocError> {
 /// one call of the last key of that node. It has released the root, and is stopped until caller 0 has split.
 fn split(alloc: Global, meant: Script, put_off: u64) -> Result<Trial, AllocError> {
     let mut splits = Script::of(alloc, 1);
-    splits.returns(24, Op::Put(24), told(24, None))?;
-    splits.returns(0, Op::Get, told(25, Some(0)))?;
+    splits.returns(24, Op::Put(24), decided_at(24, None))?;
+    splits.returns(0, Op::Get, decided_at(25, Some(0)))?;
     let points = vec![in alloc; (1, Given(0)), (0, Begin), (0, Decided(25)), (1, Given(0))]?;
     meet(
         alloc,
@@ -83,12 +83,12 @@ pub(crate) fn splits_by_giving_up(alloc: Global, into: &mut Vec<Trial>) -> Resul
     for op in EACH {
         let mut tried = Script::of(alloc, 1);
         tried.try_returns(23, op, later(Later::Moved { node: 2 }))?;
-        tried.try_returns(23, Op::Get, told(26, Some(23)))?;
+        tried.try_returns(23, Op::Get, decided_at(26, Some(23)))?;
         into.push(split(alloc, tried, 1)?)?;
     }
     for op in EACH {
         let mut waits = Script::of(alloc, 1);
-        waits.returns(23, op, told(26, Some(23)))?;
+        waits.returns(23, op, decided_at(26, Some(23)))?;
         into.push(split(alloc, waits, 0)?)?;
     }
     Ok(())
@@ -98,10 +98,10 @@ pub(crate) fn splits_by_giving_up(alloc: Global, into: &mut Vec<Trial>) -> Resul
 pub(crate) fn splits_along_links(alloc: Global, into: &mut Vec<Trial>) -> Result<(), AllocError> {
     for op in EACH {
         let mut tried = Script::of(alloc, 1);
-        tried.try_returns(23, op, told(26, Some(23)))?;
+        tried.try_returns(23, op, decided_at(26, Some(23)))?;
         into.push(split(alloc, tried, 0)?)?;
         let mut waits = Script::of(alloc, 1);
-        waits.returns(23, op, told(26, Some(23)))?;
+        waits.returns(23, op, decided_at(26, Some(23)))?;
         into.push(split(alloc, waits, 0)?)?;
     }
     Ok(())
@@ -111,9 +111,9 @@ pub(crate) fn splits_along_links(alloc: Global, into: &mut Vec<Trial>) -> Result
 pub(crate) fn splits_by_coupling(alloc: Global, into: &mut Vec<Trial>) -> Result<(), AllocError> {
     for op in NO_FILL {
         let mut splits = Script::of(alloc, 1);
-        splits.returns(24, Op::Put(24), told(25, None))?;
+        splits.returns(24, Op::Put(24), decided_at(25, None))?;
         let mut waits = Script::of(alloc, 1);
-        waits.returns(23, op, told(24, Some(23)))?;
+        waits.returns(23, op, decided_at(24, Some(23)))?;
         let points = vec![in alloc; (1, Given(0)), (0, Begin), (0, Taken(0)), (1, Given(0))]?;
         into.push(meet(alloc, 64, 24, vec![in alloc; splits, waits]?, points, 0)?)?;
     }
@@ -125,13 +125,13 @@ pub(crate) fn splits_by_coupling(alloc: Global, into: &mut Vec<Trial>) -> Result
 /// of node 2, when it is stopped until all that is done.
 fn merged(alloc: Global, again: bool, meant: Script, put_off: u64) -> Result<Trial, AllocError> {
     let mut merges = Script::of(alloc, 1);
-    merges.returns(0, Op::Del, told(17, Some(0)))?;
+    merges.returns(0, Op::Del, decided_at(17, Some(0)))?;
     if again {
-        merges.returns(17, Op::Put(17), told(18, None))?;
+        merges.returns(17, Op::Put(17), decided_at(18, None))?;
     } else {
-        merges.returns(17, Op::Get, told(18, None))?;
+        merges.returns(17, Op::Get, decided_at(18, None))?;
     }
-    merges.returns(1, Op::Get, told(19, Some(1)))?;
+    merges.returns(1, Op::Get, decided_at(19, Some(1)))?;
     let points = vec![in alloc; (1, Given(0)), (0, Begin), (0, Decided(19)), (1, Given(0))]?;
     meet(
         alloc,
@@ -149,10 +149,10 @@ pub(crate) fn merges_by_giving_up(alloc: Global, into: &mut Vec<Trial>) -> Resul
         for op in EACH {
             let mut tried = Script::of(alloc, 1);
             tried.try_returns(8, op, later(Later::Moved { node: 2 }))?;
-            tried.try_returns(8, Op::Get, told(20, Some(8)))?;
+            tried.try_returns(8, Op::Get, decided_at(20, Some(8)))?;
             into.push(merged(alloc, again, tried, 1)?)?;
             let mut waits = Script::of(alloc, 1);
-            waits.returns(8, op, told(20, Some(8)))?;
+            waits.returns(8, op, decided_at(20, Some(8)))?;
             into.push(merged(alloc, again, waits, 0)?)?;
         }
     }
@@ -163,13 +163,13 @@ pub(crate) fn merges_by_giving_up(alloc: Global, into: &mut Vec<Trial>) -> Resul
 /// while caller 1 searches from node 2 for key 23.
 fn far(alloc: Global, op: Op, points: Vec<(u32, Point)>) -> Result<Trial, AllocError> {
     let mut splits = Script::of(alloc, 1);
-    splits.returns(24, Op::Put(24), told(26, None))?;
-    splits.returns(0, Op::Get, told(27, None))?;
+    splits.returns(24, Op::Put(24), decided_at(26, None))?;
+    splits.returns(0, Op::Get, decided_at(27, None))?;
     let mut tried = Script::of(alloc, 1);
     tried.try_returns(23, op, later(Later::Far))?;
     let mut merges = Script::of(alloc, 1);
-    merges.returns(0, Op::Del, told(24, Some(0)))?;
-    merges.returns(1, Op::Get, told(25, Some(1)))?;
+    merges.returns(0, Op::Del, decided_at(24, Some(0)))?;
+    merges.returns(1, Op::Get, decided_at(25, Some(1)))?;
     meet(
         alloc,
         5,

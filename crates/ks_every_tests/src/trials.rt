@@ -9,7 +9,7 @@ use ks_shape::{Numbered, PutLater};
 use std::alloc::{AllocError, Global};
 
 /// The answer of a call that was decided.
-pub(crate) fn told(number: u64, found: Option<u128>) -> Answer {
+pub(crate) fn decided_at(number: u64, found: Option<u128>) -> Answer {
     Ok(Numbered { number, found })
 }
 
@@ -105,25 +105,26 @@ pub(crate) fn full(
     over.returns(fits, Op::Add(7), full_at(number.wrapping_add(1)))?;
     over.try_returns(fits, Op::Put(7), full_at(number.wrapping_add(2)))?;
     over.try_returns(fits, Op::Add(7), full_at(number.wrapping_add(3)))?;
-    over.returns(fits, Op::Get, told(number.wrapping_add(4), None))?;
-    over.returns(0, Op::Put(9), told(number.wrapping_add(5), Some(0)))?;
-    over.try_returns(0, Op::Add(8), told(number.wrapping_add(6), Some(9)))?;
+    over.returns(fits, Op::Get, decided_at(number.wrapping_add(4), None))?;
+    over.returns(0, Op::Put(8), decided_at(number.wrapping_add(5), Some(0)))?;
+    over.try_returns(0, Op::Put(9), decided_at(number.wrapping_add(6), Some(8)))?;
+    over.try_returns(0, Op::Add(8), decided_at(number.wrapping_add(7), Some(9)))?;
     over.returns(
         0,
         Op::Swap(9, u128::MAX),
-        told(number.wrapping_add(7), Some(9)),
+        decided_at(number.wrapping_add(8), Some(9)),
     )?;
     over.try_returns(
         0,
         Op::Swap(9, 1),
-        told(number.wrapping_add(8), Some(u128::MAX)),
+        decided_at(number.wrapping_add(9), Some(u128::MAX)),
     )?;
     over.try_returns(
         0,
         Op::Swap(u128::MAX, 0),
-        told(number.wrapping_add(9), Some(u128::MAX)),
+        decided_at(number.wrapping_add(10), Some(u128::MAX)),
     )?;
-    over.try_returns(0, Op::Get, told(number.wrapping_add(10), Some(0)))?;
+    over.try_returns(0, Op::Get, decided_at(number.wrapping_add(11), Some(0)))?;
     over.empty(fits)?;
     let mut last = Script::of(alloc, stride);
     last.fill(fits)?;

@@ -2,6 +2,8 @@
 use Rattle.std.specs.Prelude.{ℕ, zero, suc, ◌==◌, ◌+◌, ◌*◌, ◌/◌, ◌%◌, ◌^◌, nat_lt, List, [], ◌∷◌, if◌then◌else◌}
 use Rattle.ks_history.specs.declared.Op.{Op}
 use Rattle.ks_history.specs.declared.Op.TheVariants.{Get, Put, Del}
+use Rattle.ks_lines.specs.declared.Line.{Line}
+use Rattle.ks_lines.specs.declared.Line.TheVariants.{Call}
 
 -- the state after a draw
 abbrev pub draw : ℕ → ℕ
@@ -27,10 +29,10 @@ call_made callers c x = op_of (drawn (draw x) % 4) (key_of callers c (drawn (dra
 abbrev pub after_call : ℕ → ℕ
 after_call x = if nat_lt (drawn (draw x) % 4) 2 then draw (draw (draw x)) else draw (draw x)
 
--- n calls of caller c, made from the state x
-abbrev pub calls_made : ℕ → ℕ → ℕ → ℕ → List Op
+-- n lines of caller c, each a call, made from the state x
+abbrev pub calls_made : ℕ → ℕ → ℕ → ℕ → List Line
 calls_made callers c zero x = []
-calls_made callers c (suc n) x = call_made callers c x ∷ calls_made callers c n (after_call x)
+calls_made callers c (suc n) x = Call (call_made callers c x) ∷ calls_made callers c n (after_call x)
 
 -- the state after n calls
 abbrev pub after_calls : ℕ → ℕ → ℕ
@@ -38,10 +40,10 @@ after_calls zero x = x
 after_calls (suc n) x = after_calls n (after_call x)
 
 -- the scripts of the last k callers of that number, the first of them c, each of n calls, made from the state x
-abbrev pub callers_made : ℕ → ℕ → ℕ → ℕ → ℕ → List (List Op)
+abbrev pub callers_made : ℕ → ℕ → ℕ → ℕ → ℕ → List (List Line)
 callers_made callers n c zero x = []
 callers_made callers n c (suc k) x = calls_made callers c n x ∷ callers_made callers n (c + 1) k (after_calls n x)
 
 -- the script of that number of callers with n calls each, made from the first state
-abbrev pub made : ℕ → ℕ → ℕ → List (List Op)
+abbrev pub made : ℕ → ℕ → ℕ → List (List Line)
 made callers n first = callers_made callers n 0 callers first

@@ -10,6 +10,7 @@ ghost use Rattle.std.specs.Prelude.{◌≡◌, IfOk, OnOk};
 ghost use Rattle.ks_generator.specs.Made.{draw, drawn, call_made, after_call, calls_made, after_calls, made};
 
 use ks_history::Op;
+use ks_lines::Line;
 use ks_script::{Calls, Script};
 use std::alloc::{AllocError, Global};
 pub use summing::{Kind, Size, summary};
@@ -41,7 +42,7 @@ fn call(state: &mut u64, callers: u32, caller: u32) -> Op
     Op::Del(key)
 }
 
-/// Makes the calls of a caller.
+/// Makes the lines of a caller, each of which is a call.
 fn calls(
     alloc: Global,
     state: &mut u64,
@@ -49,14 +50,14 @@ fn calls(
     caller: u32,
     count: u32,
 ) -> Result<Calls, AllocError>
-    ensures calls { IfOk result (λ ops. ops ≡ calls_made callers caller count state.old) }
+    ensures calls { IfOk result (λ lines. lines ≡ calls_made callers caller count state.old) }
     ensures state { OnOk result (state.new ≡ after_calls count state.old) }
 {
-    let mut ops = Calls::with_capacity(alloc, count as usize)?;
+    let mut lines = Calls::with_capacity(alloc, count as usize)?;
     for done in 0..count {
-        ops.push(call(state, callers, caller))?;
+        lines.push(Line::Call(call(state, callers, caller)))?;
     }
-    Ok(ops)
+    Ok(lines)
 }
 
 /// The script of `callers` callers with `calls` calls each, made from the first number.
@@ -80,6 +81,7 @@ pub fn made_script(
 mod tests {
     use super::*;
     use ks_history::Reply;
+    use ks_lines::Said;
     use ks_script::{Printed, Replies};
     use std::test::Fail;
 
@@ -89,14 +91,14 @@ mod tests {
         assert_eq!(rt; script.callers.len(), 1);
         assert!(rt;
             script.callers[0].len() == 2
-                && script.callers[0].get(0) == Op::Del(8)
-                && script.callers[0].get(1) == Op::Put(116, 823830125)
+                && script.callers[0].get(0) == Line::Call(Op::Del(8))
+                && script.callers[0].get(1) == Line::Call(Op::Put(116, 823830125))
         );
-        let mut lines = Replies::new(rt.alloc());
-        lines.push(0, Reply::Nothing)?;
-        lines.push(1, Reply::Nothing)?;
+        let mut said = Replies::new(rt.alloc());
+        said.push(Said::Call(0, Reply::Nothing))?;
+        said.push(Said::Call(1, Reply::Nothing))?;
         let printed = Printed {
-            callers: vec![in rt.alloc(); lines]?,
+            callers: vec![in rt.alloc(); said]?,
             pairs: vec![in rt.alloc(); (116, 823830125)]?,
         };
         let text = summary(rt.alloc(), Size::of(&script), &printed)?;

@@ -3,9 +3,10 @@
 ghost use Rattle.std.specs.Prelude.{◌≡◌, ◌≤◌, ◌<◌, ◌%◌, ◌^◌, List, length, ◌++◌, true, false, count_by, IfOk, OnOk};
 ghost use Rattle.std.specs.Fmt.{decimal};
 ghost use Rattle.ks_script.specs.Script.{calls_in};
-ghost use Rattle.ks_history.specs.declared.Op.{Op};
+ghost use Rattle.ks_lines.specs.declared.Line.{Line};
+ghost use Rattle.ks_script.specs.PackedReplies.{said_at};
 ghost use Rattle.ks_generator.specs.Size.{IsSize};
-ghost use Rattle.ks_generator.specs.Summary.{is_of, replies_of, sum_of, summary_text, lines_of_summary};
+ghost use Rattle.ks_generator.specs.Summary.{is_some_of, reply_in, replies_of, sum_of, summary_text, lines_of_summary};
 ghost use Rattle.ks_generator.specs.declared.summing.Kind.TheVariants as kinds;
 
 use itoa::Buffer;
@@ -29,33 +30,46 @@ struct Tally {
     full: u128,
 }
 
-// 1 for a reply of the kind, and 0 for another.
+// 1 for a reply of the kind, and 0 for another, and for none.
 #[inline(always)]
-fn counted(reply: &Reply, kind: Kind) -> usize
-    ensures same { is_of kind reply.now ≡ true → result ≡ 1 }
-    ensures other { is_of kind reply.now ≡ false → result ≡ 0 }
+fn counted(reply: &Option<Reply>, kind: Kind) -> usize
+    ensures same { is_some_of kind reply.now ≡ true → result ≡ 1 }
+    ensures other { is_some_of kind reply.now ≡ false → result ≡ 0 }
     ensures few { result ≤ 1 }
 {
     match (reply, kind) {
-        (Reply::Value(_), Kind::Found) => 1,
-        (Reply::Nothing, Kind::Missing) => 1,
-        (Reply::Full, Kind::NoRoom) => 1,
+        (Some(Reply::Value(_)), Kind::Found) => 1,
+        (Some(Reply::Nothing), Kind::Missing) => 1,
+        (Some(Reply::Full), Kind::NoRoom) => 1,
         _ => 0,
     }
 }
 
-/// The replies in the lines of one caller.
-fn replies_in(lines: &Replies) -> Tally
-    ensures found { result.found ≡ count_by (λ x. is_of kinds.Found x.1) lines.now }
-    ensures none { result.none ≡ count_by (λ x. is_of kinds.Missing x.1) lines.now }
-    ensures full { result.full ≡ count_by (λ x. is_of kinds.NoRoom x.1) lines.now }
+// The reply to the line at a place, if it is a call.
+#[inline(always)]
+fn reply_at(said: &Replies, at: usize) -> Option<Reply>
+    requires { at < length said.now }
+    ensures { result ≡ reply_in (said_at said.now at) }
+{
+    if said.scan_at(at).is_some() {
+        return None;
+    }
+    let (_, reply) = said.call_at(at);
+    Some(reply)
+}
+
+/// The replies to the lines of one caller.
+fn replies_in(said: &Replies) -> Tally
+    ensures found { result.found ≡ count_by (λ s. is_some_of kinds.Found (reply_in s)) said.now }
+    ensures none { result.none ≡ count_by (λ s. is_some_of kinds.Missing (reply_in s)) said.now }
+    ensures full { result.full ≡ count_by (λ s. is_some_of kinds.NoRoom (reply_in s)) said.now }
     ensures few { (result.found < 2 ^ 64) × ((result.none < 2 ^ 64) × (result.full < 2 ^ 64)) }
 {
     let mut found: usize = 0;
     let mut none: usize = 0;
     let mut full: usize = 0;
-    for at in 0..lines.len() {
-        let (_, reply) = lines.get(at);
+    for at in 0..said.len() {
+        let reply = reply_at(said, at);
         found += counted(&reply, Kind::Found);
         none += counted(&reply, Kind::Missing);
         full += counted(&reply, Kind::NoRoom);
@@ -76,8 +90,8 @@ fn replies(callers: &[Replies]) -> Tally
     let mut found = 0;
     let mut none = 0;
     let mut full = 0;
-    for lines in callers {
-        let more = replies_in(lines);
+    for said in callers {
+        let more = replies_in(said);
         found += more.found;
         none += more.none;
         full += more.full;
@@ -90,8 +104,8 @@ fn calls(callers: &[Calls]) -> u128
     ensures { result ≡ calls_in callers.now }
 {
     let mut total = 0;
-    for ops in callers {
-        total += ops.len() as u128;
+    for lines in callers {
+        total += lines.len() as u128;
     }
     total
 }
@@ -166,23 +180,23 @@ impl Size {
 
 /// The text of the summary of a run, of a script of this size.
 pub fn summary(alloc: Global, size: Size, printed: &Printed) -> Result<Vec<u8>, AllocError>
-    ensures { (script : List (List Op)) → IsSize size script →
+    ensures { (script : List (List Line)) → IsSize size script →
         IfOk result (λ text. text.items ≡ summary_text script printed.now) }
 {
     let summary = count(size, &printed.callers, &printed.pairs);
     text(alloc, &summary)
 }
 
-fn count(size: Size, lines: &[Replies], pairs: &[(u64, u128)]) -> Counts
+fn count(size: Size, said: &[Replies], pairs: &[(u64, u128)]) -> Counts
     ensures callers { result.callers ≡ size.callers }
     ensures calls { result.calls ≡ size.calls }
-    ensures found { result.found ≡ replies_of kinds.Found lines.now }
-    ensures none { result.none ≡ replies_of kinds.Missing lines.now }
-    ensures full { result.full ≡ replies_of kinds.NoRoom lines.now }
+    ensures found { result.found ≡ replies_of kinds.Found said.now }
+    ensures none { result.none ≡ replies_of kinds.Missing said.now }
+    ensures full { result.full ≡ replies_of kinds.NoRoom said.now }
     ensures pairs { result.pairs ≡ length pairs.now }
     ensures sum { result.sum ≡ sum_of pairs.now % 2 ^ 64 }
 {
-    let told = replies(lines);
+    let told = replies(said);
     Counts {
         callers: size.callers,
         calls: size.calls,

@@ -1,8 +1,10 @@
 //! What a guide guesses after notes, and how fine its blocks become.
 ghost use Rattle.std.specs.Prelude.{◌≤◌};
 
+use crate::fits_threads;
 use crate::guide::Guide;
 use std::test::Fail;
+use std::thread::join_mut;
 
 /// Notes `count` leaves of `places` places each, one after another from 0 on, with their numbers for nodes.
 fn note_row(guide: &mut Guide, places: u64, count: u32)
@@ -118,5 +120,23 @@ fn a_full_table_of_branches_forgets_one_beside_the_new(rt: HostRuntime) -> Resul
     let mut none = Guide::start(rt.alloc(), 16, 0)?;
     none.note_branch(0, 99, 1);
     assert!(rt; none.guess(50).is_none());
+    Ok(())
+}
+
+/// A guide notes on another thread what it then guesses here.
+#[test]
+fn a_guide_may_go_to_another_thread(rt: HostRuntime) -> Result<(), Fail> {
+    let mut guide = Guide::start(rt.alloc(), 16, 0)?;
+    fits_threads(&guide);
+    let (known, ()) = join_mut(
+        &rt,
+        &mut || {
+            guide.note(12, 8, 15, 3);
+            guide.guess(12)
+        },
+        &mut || (),
+    );
+    assert_eq!(rt; known, Some(3));
+    assert_eq!(rt; guide.guess(12), Some(3));
     Ok(())
 }

@@ -2,7 +2,7 @@
 ghost use Rattle.std.specs.Prelude.{◌<◌};
 
 use crate::starting::{blanks, readers_of};
-use crate::{HintReader, HintWriter, Hints};
+use crate::{HintReader, HintWriter, Hints, fits_threads};
 use std::alloc::{AllocError, Global};
 use std::sync::Wait;
 use std::test::Fail;
@@ -144,6 +144,7 @@ fn never_falls(reader: &mut HintReader, count: u32) -> bool {
 #[test]
 fn hints_never_fall_beside_rising_posts(rt: HostRuntime) -> Result<(), Fail> {
     let (mut writer, mut reader) = start_one(&rt, rt.alloc())?;
+    fits_threads(&writer, &reader);
     let (rises, posted) = join_mut(
         &rt,
         &mut || never_falls(&mut reader, 50_000),

@@ -21,17 +21,15 @@ use Rattle.ks_history.specs.Map.{IsAnswer, map_after, Legal}
 use Rattle.ks_history.specs.Laws.Stays.{cond_here, cond_else}
 use Rattle.ks_history.specs.Served.{CalledBelow, Served, IsListing, at_place}
 use Rattle.ks_script.specs.Script.{calls_in}
-use Rattle.ks_script.specs.Run.{Run}
 use Rattle.ks_judge.specs.declared.judging.Judged.{Judged}
 use Rattle.ks_judge.specs.declared.judging.Judged.TheVariants as judged
 use Rattle.ks_judge.specs.Verdict.{IsJudged}
 use Rattle.ks_judge.specs.Judgment.{WrongAt, at_call, at_map, Lines, IsRight, IsLegalRun, carriers, calls_below, answered_at, line_at}
 use Rattle.ks_judge.proofs.Tables.{lines_by, ops_by, rows, rows_are, row_at, pushed, zero_plus}
-use Rattle.ks_judge.specs.Keys.{HasKey, AreKeys}
-use Rattle.ks_judge.proofs.Placed.{placed, IsPlaced, of_all, ops_back, are_placed, have_keys, placed_back, after_agree, legal_back, listing_back}
+use Rattle.ks_judge.proofs.Placed.{HasKey, placed, IsPlaced, of_all, ops_back, are_placed, have_keys, placed_back, after_agree, legal_back, listing_back}
 use Rattle.ks_judge.proofs.Stand.{Known, Stands, known_first, known_more, no_call}
 
-small : (n : ℕ) → n ≤ 1048576 → n % 2 ^ 64 ≡ n
+small : (n : ℕ) → n ≤ 1114112 → n % 2 ^ 64 ≡ n
 small n h = omega arith
 
 -- the rows after a call
@@ -45,7 +43,7 @@ module _ (key : ℕ → ℕ) (h : List Event) (d i : ℕ) (op : Op) (reply : Rep
       (λ e. ap (map f) (cond_else c d (calls_by c h ++ record { number = number_after h; call = record { op = op; reply = reply } } ∷ []) (calls_by c h) e)
       ∙ sym (cond_else c d (map f (calls_by c h) ++ f (record { number = number_after h; call = record { op = op; reply = reply } }) ∷ []) (map f (calls_by c h)) e)))
 
-  lines_more : length (calls_of h) ≤ 1048576 → lines_by (Call d i op reply ∷ h) ≡ pushed (lines_by h) d (length (map (placed key) (calls_of h)), reply)
+  lines_more : length (calls_of h) ≤ 1114112 → lines_by (Call d i op reply ∷ h) ≡ pushed (lines_by h) d (length (map (placed key) (calls_of h)), reply)
   lines_more few = mapped (λ x. (x.number, x.call.reply)) ∙ ap (λ n. pushed (lines_by h) d (n, reply)) (small (length (calls_of h)) few ∙ sym (length-map (calls_of h) (placed key)))
 
   ops_more : ops_by key (Call d i op reply ∷ h) ≡ pushed (ops_by key h) d (at_place key op)
@@ -57,7 +55,7 @@ module _ (key : ℕ → ℕ) (h : List Event) (d i : ℕ) (op : Op) (reply : Rep
 one_more : (calls : List Answered) (a : Answered) → length (calls ++ a ∷ []) ≡ length calls + 1
 one_more calls a = length-append calls (a ∷ [])
 
-known_call : (key : ℕ → ℕ) (m : ℕ) (h : List Event) (d j : ℕ) (op : Op) (reply : Reply) → d < m → length (calls_of h) ≤ 1048576 → Known m (lines_by h) (ops_by key h) (map (placed key) (calls_of h)) →
+known_call : (key : ℕ → ℕ) (m : ℕ) (h : List Event) (d j : ℕ) (op : Op) (reply : Reply) → d < m → length (calls_of h) ≤ 1114112 → Known m (lines_by h) (ops_by key h) (map (placed key) (calls_of h)) →
     Known m (lines_by (Call d j op reply ∷ h)) (ops_by key (Call d j op reply ∷ h)) (map (placed key) (calls_of (Call d j op reply ∷ h)))
 known_call key m h d j op reply inside less known =
     let calls = map (placed key) (calls_of h) in
@@ -66,10 +64,10 @@ known_call key m h d j op reply inside less known =
     (subst (λ O. Known m (pushed (lines_by h) d (length calls, reply)) O (map (placed key) (calls_of (Call d j op reply ∷ h)))) (sym (ops_more key h d j op reply))
     (subst (λ cs. Known m (pushed (lines_by h) d (length calls, reply)) (pushed (ops_by key h) d (at_place key op)) cs) (sym (calls_more key h d j op reply)) k))
 
-fewer : (calls : List Answered) (a : Answered) → length (calls ++ a ∷ []) ≤ 1048576 → length calls ≤ 1048576
+fewer : (calls : List Answered) (a : Answered) → length (calls ++ a ∷ []) ≤ 1114112 → length calls ≤ 1114112
 fewer calls a few = let long = one_more calls a in omega (arith, long)
 
-pub known_of : (key : ℕ → ℕ) (m : ℕ) (h : List Event) → All (CalledBelow m) h → length (calls_of h) ≤ 1048576 → Known m (lines_by h) (ops_by key h) (map (placed key) (calls_of h))
+pub known_of : (key : ℕ → ℕ) (m : ℕ) (h : List Event) → All (CalledBelow m) h → length (calls_of h) ≤ 1114112 → Known m (lines_by h) (ops_by key h) (map (placed key) (calls_of h))
 known_of key m [] others few = known_first m
 known_of key m (Take d j ∷ h) others few = known_of key m h (All-tail (CalledBelow m) (Take d j) h others) few
 known_of key m (Give d j ∷ h) others few = known_of key m h (All-tail (CalledBelow m) (Give d j) h others) few
@@ -99,9 +97,9 @@ module _ (O : ℕ → List Op) (d : ℕ) (x : Op) where
       (λ e. let first : length (pushed O d x c) ≡ length (O c) = ap length (cond_else c d (O c ++ x ∷ []) (O c) e) in
       omega (arith, first, total_push (suc c) k (omega arith) (omega arith)))
 
-total_none : (c k : ℕ) → calls_in (rows (λ b. []) c k) ≡ 0
+total_none : (c k : ℕ) → calls_in {X = Op} (rows (λ b. []) c k) ≡ 0
 total_none c zero = refl
-total_none c (suc k) = zero_plus (calls_in (rows (λ b. []) (suc c) k)) ∙ total_none (suc c) k
+total_none c (suc k) = zero_plus (calls_in {X = Op} (rows (λ b. []) (suc c) k)) ∙ total_none (suc c) k
 
 total_call : (key : ℕ → ℕ) (m : ℕ) (h : List Event) (d j : ℕ) (op : Op) (reply : Reply) → d < m → calls_in (rows (ops_by key h) 0 m) ≡ length (calls_of h) →
     calls_in (rows (ops_by key (Call d j op reply ∷ h)) 0 m) ≡ length (calls_of (Call d j op reply ∷ h))
@@ -166,27 +164,30 @@ module _ (m : ℕ) (L : ℕ → List (ℕ × Reply)) (O : ℕ → List Op) (call
 -- the keys of the operations at places
 
 module _ (place key : ℕ → ℕ) (back : (k : ℕ) → IsPlace k → key (place k) ≡ k) where
-  keyed : (h : List Event) (c : ℕ) (ops : List Op) → AllByRecursion HasKey ops → map (λ x. x.call.op) (calls_by c h) ≡ map (at_place place) ops → ops_by key h c ≡ ops
+  abbrev pub AreKeyed : List (List Op) → Type 0
+  AreKeyed script = AllByRecursion (AllByRecursion (HasKey place)) script
+
+  keyed : (h : List Event) (c : ℕ) (ops : List Op) → AllByRecursion (HasKey place) ops → map (λ x. x.call.op) (calls_by c h) ≡ map (at_place place) ops → ops_by key h c ≡ ops
   keyed h c ops are is = sym (map-map (at_place key) (λ x. x.call.op) (calls_by c h)) ∙ ap (map (at_place key)) is ∙ ops_back place key back ops are
 
-  ops_at : (script : List (List Op)) (c : ℕ) → c < length script → AreKeys script → (ops : List Op) × (slice_get script c ≡ Some ops) × AllByRecursion HasKey ops
+  ops_at : (script : List (List Op)) (c : ℕ) → c < length script → AreKeyed script → (ops : List Op) × (slice_get script c ≡ Some ops) × AllByRecursion (HasKey place) ops
   ops_at [] c lt are = absurd (omega arith)
   ops_at (ops ∷ script) zero lt are = (ops, refl, are.0)
   ops_at (ops ∷ script) (suc c) lt are = ops_at script c (omega arith) are.1
 
-  keys_at : (script : List (List Op)) (c : ℕ) (ops : List Op) → AreKeys script → slice_get script c ≡ Some ops → AllByRecursion HasKey ops
+  keys_at : (script : List (List Op)) (c : ℕ) (ops : List Op) → AreKeyed script → slice_get script c ≡ Some ops → AllByRecursion (HasKey place) ops
   keys_at [] c ops are e = absurd cc
-  keys_at (x ∷ script) zero ops are e = let same : x ≡ ops = cc in subst (AllByRecursion HasKey) same are.0
+  keys_at (x ∷ script) zero ops are e = let same : x ≡ ops = cc in subst (AllByRecursion (HasKey place)) same are.0
   keys_at (x ∷ script) (suc c) ops are e = keys_at script c ops are.1 e
 
-  pub agrees : (script : List (List Op)) (lines : Lines) (pairs : List (ℕ × ℕ)) (h : List Event) → calls_in script ≤ 1048576 → AreKeys script → Served place script lines pairs h → IsLegalRun script lines pairs
+  pub agrees : (script : List (List Op)) (lines : Lines) (pairs : List (ℕ × ℕ)) (h : List Event) → calls_in script ≤ 1114112 → AreKeyed script → Served place script lines pairs h → IsLegalRun script lines pairs
   agrees script lines pairs h few are served =
       let m = length script in
       let rooted : (c : ℕ) → c < m → AllByRecursion (IsPlaced place key back) (map (λ x. x.call.op) (calls_by c h)) =
       λ c lt. let o = ops_at script c lt are in subst (AllByRecursion (IsPlaced place key back)) (sym (served.asked c o.0 o.1)) (are_placed place key back o.0 o.2) in
       let all : AllByRecursion (λ a. IsPlaced place key back a.op) (calls_of h) = of_all (IsPlaced place key back) m h served.others rooted in
       let calls = map (placed key) (calls_of h) in
-      let keys : AllByRecursion (λ a. HasKey a.op) calls = have_keys place key back (calls_of h) all in
+      let keys : AllByRecursion (λ a. HasKey place a.op) calls = have_keys place key back (calls_of h) all in
       let whole_back : map (placed place) calls ≡ calls_of h = placed_back place key back (calls_of h) all in
       let legal : Legal calls = legal_back place key back calls keys (subst Legal (sym whole_back) served.legal) in
       let final : IsListing (map_after calls) pairs =
@@ -212,6 +213,6 @@ pub no_wrong : (script : List (List Op)) (lines : Lines) (pairs : List (ℕ × �
 no_wrong script lines pairs n legal (at_call {n = k} lt wrong) = wrong (legal.numbers k lt)
 no_wrong script lines pairs n legal (at_map wrong) = wrong legal.map
 
-pub judged_legal : (script : List (List Op)) (run : Run) (j : Judged) → IsLegalRun script run.callers run.pairs → IsJudged script run j → j ≡ judged.Legal (calls_in script)
-judged_legal script run (judged.Legal calls) legal is = ap (λ n. judged.Legal n) is.0
-judged_legal script run (judged.Wrong n) legal is = absurd (no_wrong script run.callers run.pairs n legal is.wrong)
+pub judged_legal : (script : List (List Op)) (lines : Lines) (pairs : List (ℕ × ℕ)) (j : Judged) → IsLegalRun script lines pairs → IsJudged script lines pairs j → j ≡ judged.Legal (calls_in script)
+judged_legal script lines pairs (judged.Legal calls) legal is = ap (λ n. judged.Legal n) is.0
+judged_legal script lines pairs (judged.Wrong n) legal is = absurd (no_wrong script lines pairs n legal is.wrong)

@@ -2,8 +2,14 @@ pub mod Notes
 pub mod Numbered
 pub mod Listing
 pub mod Replays
+pub mod Flat
+pub mod Cursor
+pub mod Scans
+pub mod Parted
 pub mod Turns
+pub mod Reading
 pub mod Tables
 pub mod Stand
 pub mod Placed
+pub mod Keyed
 pub mod Agrees

@@ -143,7 +143,7 @@ none_decided (x ∷ es) r keys e = (
 )
 
 -- a map that has a value at a key is not the one of no pairs
-not_listed : (m : Map) (k v : ℕ) → IsPlace k → m k ≡ Some v → IsListing m [] → ⊥
+pub not_listed : (m : Map) (k v : ℕ) → IsPlace k → m k ≡ Some v → IsListing m [] → ⊥
 not_listed m k v place is listing = nothing (k, v) ((listing.exact k v).0 (place, is))
 
 -- the map f has at keys below the length of a list what is there, and at others what the map m has

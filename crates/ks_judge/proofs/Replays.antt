@@ -1,16 +1,15 @@
 -- Numbers that are right, one after another, and what they make of a run.
-use Rattle.std.proofs.Common.{ℕ, ◌≡◌, ◌==◌, ◌<◌, ◌+◌, ◌⊎◌, inl, inr, cond, List, [], ◌∷◌, ◌++◌, get_or, Some, None, sym, ◌∙◌, ap, subst, arith, ◌≤◌}
+use Rattle.std.proofs.Common.{ℕ, ◌≡◌, ◌==◌, ◌<◌, ◌+◌, ◌⊎◌, inl, inr, cond, List, [], ◌∷◌, ◌++◌, Some, None, sym, ◌∙◌, ap, subst, arith, ◌≤◌}
 use Rattle.std.proofs.lemmas.List.Sums.{fold-append}
 use Rattle.ks_history.specs.declared.Op.{Op}
 use Rattle.ks_history.specs.declared.Op.TheVariants.{Get, Put, Del, Add, Swap, Part, Move}
 use Rattle.ks_history.specs.declared.Reply.{Reply}
-use Rattle.ks_history.specs.declared.Reply.TheVariants.{Nothing}
 use Rattle.ks_history.specs.declared.Answered.{Answered}
 use Rattle.ks_history.specs.Write.{Map, Write, keeps, sets, removes, moves, map_with, written}
 use Rattle.ks_history.specs.Map.{told, moved, IsAnswer, map_then, map_after}
 use Rattle.ks_history.specs.Served.{IsListing}
 use Rattle.ks_script.specs.Script.{calls_in}
-use Rattle.ks_judge.specs.Judgment.{Lines, line_at, op_at, answered_at, IsRight, IsLegalRun, at_call, at_map, IsLeastWrong, carriers, calls_below}
+use Rattle.ks_judge.specs.Judgment.{Lines, line_at, answered_at, IsRight, IsLegalRun, at_call, at_map, IsLeastWrong, carriers, calls_below}
 use Rattle.ks_judge.proofs.Numbered.{below_more}
 use Rattle.ks_judge.proofs.Listing.{listing_along}
 
@@ -45,15 +44,6 @@ RightBelow script lines n = (k : ℕ) → k < n → IsRight script lines k
 -- no line before line j of caller c has a number greater than n
 abbrev pub IsInOrder : Lines → ℕ → ℕ → ℕ → Type 0
 IsInOrder lines c j n = (i : ℕ) → i < j → (line_at lines c i).0 ≤ n
-
--- the call at a place, as the program reads it
-pub call_read : (script : List (List Op)) (lines : Lines) (c j : ℕ) (ops : List Op) (ls : List (ℕ × Reply)) (op : Op) (line : ℕ × Reply) →
-    get_or script c [] ≡ ops → get_or lines c [] ≡ ls → op ≡ get_or ops j (Get 0) → line ≡ get_or ls j (0, Nothing) →
-    answered_at script lines (c, j) ≡ record { op = op; reply = line.1 }
-call_read script lines c j ops ls op line is_ops is_ls is_op is_line =
-    let at_op : op ≡ op_at script c j = is_op ∙ ap (λ (xs : List Op). get_or xs j (Get 0)) (sym is_ops) in
-    let at_line : line ≡ line_at lines c j = is_line ∙ ap (λ (xs : List (ℕ × Reply)). get_or xs j (0, Nothing)) (sym is_ls) in
-    ap (λ (o : Op). record { op = o; reply = (line_at lines c j).1 }) (sym at_op) ∙ ap (λ (l : ℕ × Reply). record { op = op; reply = l.1 }) (sym at_line)
 
 module _ (script : List (List Op)) (lines : Lines) where
   -- the only line of a number, and its call

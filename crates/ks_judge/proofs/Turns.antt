@@ -4,18 +4,17 @@ use mathlib.Core.Logic.{dite}
 use native.Mathlib.Decide.{ℕ_discrete}
 use Rattle.std.proofs.lemmas.Bool.{false≢true}
 use Rattle.std.proofs.lemmas.Bool.Decides.{nat_tests}
-use Rattle.std.proofs.lemmas.List.{get_or-set_same, get_or-set_other, length-set, get_or-replicate, length-replicate, get_or_default, get_or_read}
+use Rattle.std.proofs.lemmas.List.{get_or-set_same, get_or-set_other, length-set, get_or-replicate, length-replicate}
 use Rattle.ks_history.specs.declared.Op.{Op}
-use Rattle.ks_history.specs.declared.Op.TheVariants.{Get}
 use Rattle.ks_history.specs.declared.Reply.{Reply}
 use Rattle.ks_history.specs.declared.Reply.TheVariants.{Nothing}
 use Rattle.ks_judge.specs.declared.slots.Slot.{Slot}
 use Rattle.ks_judge.specs.declared.slots.Slot.TheVariants.{One}
-use Rattle.ks_judge.specs.Judgment.{Lines, line_at, IsRight, carriers, carriers_from, carriers_in}
-use Rattle.ks_judge.specs.Shape.{SameShape}
+use Rattle.ks_history.specs.declared.Answered.{Answered}
+use Rattle.ks_judge.specs.Judgment.{Lines, line_at, answered_at, IsRight, carriers, carriers_from, carriers_in}
 use Rattle.ks_judge.specs.Slots.{Stands, Carries, TellsSlot}
-use Rattle.ks_judge.proofs.Numbered.{same_length, same_count, one_tells}
-use Rattle.ks_judge.proofs.Replays.{IsInOrder, RightBelow, IsCallOf, call_read}
+use Rattle.ks_judge.proofs.Numbered.{one_tells}
+use Rattle.ks_judge.proofs.Replays.{IsInOrder, RightBelow, IsCallOf}
 
 -- z is one of the list
 abbrev Has : List (ℕ × ℕ) → ℕ × ℕ → Type 0
@@ -176,61 +175,32 @@ turns_more lines n made c there turns only is = record { count = length-set made
             let z : ◌≡◌ {A = ℕ × ℕ} (c, p) (d, j) = head_same (c, p) (d, j) (sym only ∙ ap (carriers lines) (sym e) ∙ carried) in
             subst (λ (z : ℕ × ℕ). z.1 < get_or (set made c (p + 1)) z.0 0) z (omega (arith, here))
 
--- the line of number n that the program is to read: the next of its caller, at place p of ls
-pub record IsNext (lines : Lines) (n c p : ℕ) (ls : List (ℕ × Reply)) (made : List ℕ) : Type 0 where
+-- the line of number n that the program is to read: the next of its caller
+pub record IsNext (lines : Lines) (n c : ℕ) (made : List ℕ) : Type 0 where
   pub line : ℕ
   pub only : carriers lines n ≡ (c, line) ∷ []
   pub carried : Carries lines c line n
-  pub place : p ≡ get_or made c 0
-  pub stands : Stands lines c p
-  pub is_ls : get_or lines c [] ≡ ls
-  pub within : p < length ls
+  pub stands : Stands lines c (get_or made c 0)
 
--- as the program finds it
-pub next_found : (lines : Lines) (n c p : ℕ) (ls : List (ℕ × Reply)) (made : List ℕ) (slot : Slot) → Turns lines n made → slot ≡ One c → TellsSlot lines n slot (carriers lines n) → p ≡ get_or made c p → ls ≡ get_or lines c ls → IsNext lines n c p ls made
-next_found lines n c p ls made slot turns is_one tells is_place is_ls =
+-- as its slot says
+pub next_found : (lines : Lines) (n c : ℕ) (made : List ℕ) (slot : Slot) → Turns lines n made → slot ≡ One c → TellsSlot lines n slot (carriers lines n) → IsNext lines n c made
+next_found lines n c made slot turns is_one tells =
     let t = one_tells lines n slot c (carriers lines n) is_one tells in
-    let there : c < length lines = t.2.0.0 in
-    let place : p ≡ get_or made c 0 = is_place ∙ get_or_default made c p 0 (omega (arith, turns.count, there)) in
-    let stands : Stands lines c p = subst (λ (k : ℕ). Stands lines c k) (sym place) (has_next lines n made c t.0 turns t.2) in
-    let same : get_or lines c [] ≡ ls = sym (get_or_read lines c ls there is_ls []) in
-    record { line = t.0; only = t.1; carried = t.2; place = place; stands = stands; is_ls = same; within = subst (λ (xs : List (ℕ × Reply)). p < length xs) same stands.1 }
+    record { line = t.0; only = t.1; carried = t.2; stands = has_next lines n made c t.0 turns t.2 }
 
-module _ (lines : Lines) (n c p : ℕ) (ls : List (ℕ × Reply)) (made : List ℕ) (line : ℕ × Reply) (next : IsNext lines n c p ls made) (is_line : line ≡ get_or ls p (0, Nothing)) where
-  next_is : line.0 ≡ (line_at lines c p).0
-  next_is = ap (λ (x : ℕ × Reply). x.0) (is_line ∙ ap (λ (xs : List (ℕ × Reply)). get_or xs p (0, Nothing)) (sym next.is_ls))
-
+module _ (script : List (List Op)) (lines : Lines) (n c : ℕ) (made : List ℕ) (turns : Turns lines n made) (next : IsNext lines n c made) where
   -- where it carries another number n is wrong
-  pub next_wrong : (script : List (List Op)) → Turns lines n made → RightBelow script lines n → (line.0 ≡ n → ⊥) → IsRight script lines n → ⊥
-  next_wrong script turns before other =
-      out_of_turn script lines n made c next.line turns before next.only next.carried
-      (λ is. other (next_is ∙ ap (λ (k : ℕ). (line_at lines c k).0) next.place ∙ is))
+  pub next_wrong : RightBelow script lines n → ((line_at lines c (get_or made c 0)).0 ≡ n → ⊥) → IsRight script lines n → ⊥
+  next_wrong before other = out_of_turn script lines n made c next.line turns before next.only next.carried other
 
   -- and else one number more is read
-  pub next_turns : Turns lines n made → line.0 ≡ n → Turns lines (n + 1) (set made c (p + 1))
-  next_turns turns carries =
-      let is : (line_at lines c (get_or made c 0)).0 ≡ n = ap (λ (k : ℕ). (line_at lines c k).0) (sym next.place) ∙ sym next_is ∙ carries in
+  pub next_turns : (line_at lines c (get_or made c 0)).0 ≡ n → Turns lines (n + 1) (set made c (get_or made c 0 + 1))
+  next_turns is =
       let it = in_turn lines n made c next.line turns next.only next.carried is in
-      subst (λ (k : ℕ). Turns lines (n + 1) (set made c (k + 1))) (sym next.place) (turns_more lines n made c next.carried.0.0 turns it.0 is)
+      turns_more lines n made c next.carried.0.0 turns it.0 is
 
--- the call of that line is there
-pub next_has_call : (script : List (List Op)) (lines : Lines) (n c p : ℕ) (ls : List (ℕ × Reply)) (made : List ℕ) (ops : List Op) → SameShape script lines → IsNext lines n c p ls made → ops ≡ get_or script c ops →
-    (get_or script c [] ≡ ops) × (p < length ops)
-next_has_call script lines n c p ls made ops shape next is =
-    let there : c < length script = subst (λ (k : ℕ). c < k) (same_count script lines shape) next.stands.0 in
-    let same : get_or script c [] ≡ ops = sym (get_or_read script c ops there is []) in
-    (same, subst (λ (k : ℕ). p < k) (same_length script lines shape c ∙ ap length same) next.stands.1)
-
--- and it is the call of n
-pub next_call : (script : List (List Op)) (lines : Lines) (n c p : ℕ) (ls : List (ℕ × Reply)) (made : List ℕ) (ops : List Op) (op : Op) (line : ℕ × Reply) →
-    SameShape script lines → Turns lines n made → IsNext lines n c p ls made → ops ≡ get_or script c ops → op ≡ get_or ops p (Get 0) → line ≡ get_or ls p (0, Nothing) → line.0 ≡ n → IsCallOf script lines n (record { op = op; reply = line.1 })
-next_call script lines n c p ls made ops op line shape turns next is_ops is_op is_line carries =
-    let is : (line_at lines c (get_or made c 0)).0 ≡ n = ap (λ (k : ℕ). (line_at lines c k).0) (sym next.place) ∙ sym (next_is lines n c p ls made line next is_line) ∙ carries in
-    let it = in_turn lines n made c next.line turns next.only next.carried is in
-    record {
-      caller = c;
-      place = p;
-      only = it.0 ∙ ap (λ (k : ℕ). (c, k) ∷ []) (sym next.place);
-      ordered = subst (λ (k : ℕ). IsInOrder lines c k n) (sym next.place) it.1;
-      call = call_read script lines c p ops ls op line (next_has_call script lines n c p ls made ops shape next is_ops).0 next.is_ls is_op is_line;
-    }
+  -- and it is that of the call of n
+  pub next_call : (a : Answered) → answered_at script lines (c, get_or made c 0) ≡ a → (line_at lines c (get_or made c 0)).0 ≡ n → IsCallOf script lines n a
+  next_call a call is =
+      let it = in_turn lines n made c next.line turns next.only next.carried is in
+      record { caller = c; place = get_or made c 0; only = it.0; ordered = it.1; call = call }

@@ -1,6 +1,8 @@
 pub mod Judgment
-pub mod Shape
+pub mod Flat
+pub mod Places
 pub mod Slots
 pub mod Verdict
 pub mod Keys
 pub mod Table
+pub mod Laws

@@ -7,8 +7,10 @@
 
 mod accord;
 mod judging;
+mod ordered;
 mod replay;
 mod slots;
+mod store;
 mod table;
 
 pub use accord::served_is_legal;

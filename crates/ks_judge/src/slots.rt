@@ -1,10 +1,14 @@
 //! For each number the caller one of whose lines carries it, found in one pass over all lines.
 
-ghost use Rattle.std.specs.Prelude.{ℕ, ◌≡◌, ◌<◌, ◌≤◌, ◌+◌, ◌^◌, ◌++◌, List, length, IfOk};
+ghost use Rattle.std.specs.Prelude.{ℕ, ◌≡◌, ◌<◌, ◌≤◌, ◌+◌, ◌^◌, [], ◌++◌, List, length, slice_index_or, IfOk};
 ghost use Rattle.ks_history.specs.declared.Reply.{Reply};
-ghost use Rattle.ks_judge.specs.Judgment.{carriers};
+ghost use Rattle.ks_lines.specs.declared.Scanned.{Scanned};
+ghost use Rattle.ks_lines.specs.declared.Said.TheVariants.{Scan};
+ghost use Rattle.ks_judge.specs.Judgment.{Lines, carriers};
+ghost use Rattle.ks_judge.specs.Flat.{replies_of, lines_said};
 ghost use Rattle.ks_judge.specs.Slots.{Carries, Notes, slot_in, carriers_to, if_carries, noted_slot};
 
+use ks_lines::Part;
 use ks_script::Replies;
 use std::alloc::{AllocError, Global};
 
@@ -53,7 +57,7 @@ fn noted(slot: PackedSlot, caller: u32) -> PackedSlot
 #[inline(always)]
 fn note(slots: &mut [PackedSlot], number: u64, caller: u32)
     requires { caller < 4294967294 }
-    ensures { (lines : List (List (ℕ × Reply))) (j : ℕ) (P : ℕ → List (ℕ × ℕ)) → Carries lines caller j number →
+    ensures { (lines : Lines) (j : ℕ) (P : ℕ → List (ℕ × ℕ)) → Carries lines caller j number →
         Notes lines slots.old P → Notes lines slots.new (λ n. P n ++ if_carries number n (caller, j)) }
 {
     if number < slots.len() as u64 {
@@ -62,16 +66,32 @@ fn note(slots: &mut [PackedSlot], number: u64, caller: u32)
     }
 }
 
+/// Notes the parts of a scan of the caller.
+fn note_parts(slots: &mut [PackedSlot], parts: &[Part], caller: u32)
+    requires { caller < 4294967294 }
+    ensures { (lines : Lines) (front back : List (ℕ × Reply)) (stop : Scanned) → caller < length lines →
+        slice_index_or lines caller [] ≡ front ++ (replies_of (Scan parts.now stop) ++ back) →
+        Notes lines slots.old (carriers_to lines caller (length front)) →
+        Notes lines slots.new (carriers_to lines caller (length front + length parts.now)) }
+{
+    'parts: for at in 0..parts.len() {
+        note(slots, parts[at].number, caller);
+    }
+}
+
 /// Notes the lines of one caller.
 fn note_caller(slots: &mut [PackedSlot], callers: &[Replies], caller: u32)
     requires which { caller < length callers.now }
     requires small { caller < 4294967294 }
-    requires noted { Notes callers.now slots.old (carriers_to callers.now caller 0) }
-    ensures { Notes callers.now slots.new (carriers_to callers.now (caller + 1) 0) }
+    requires noted { Notes (lines_said callers.now) slots.old (carriers_to (lines_said callers.now) caller 0) }
+    ensures { Notes (lines_said callers.now) slots.new (carriers_to (lines_said callers.now) (caller + 1) 0) }
 {
-    let lines = &callers[caller as usize];
-    for at in 0..lines.len() {
-        note(slots, lines.number_at(at), caller);
+    let said = &callers[caller as usize];
+    for at in 0..said.len() {
+        match said.scan_at(at) {
+            Some((parts, _)) => note_parts(slots, parts.as_slice(), caller),
+            None => note(slots, said.number_at(at), caller),
+        }
     }
 }
 
@@ -83,7 +103,8 @@ pub fn slots(
     count: usize,
 ) -> Result<Vec<PackedSlot>, AllocError>
     ensures count { IfOk result (λ v. length v.items ≡ count) }
-    ensures noted { IfOk result (λ v. Notes callers.now v.items (carriers callers.now)) }
+    ensures noted { IfOk result
+        (λ v. Notes (lines_said callers.now) v.items (carriers (lines_said callers.now))) }
 {
     let mut slots = vec![in alloc; PackedSlot { code: 0 }; count]?;
     for caller in 0..callers.len() {

@@ -6,6 +6,8 @@ ghost use Rattle.ks_keysets.specs.Record.{IsPlace};
 ghost use Rattle.ks_history.specs.Write.{sets, removes, map_with};
 ghost use Rattle.ks_history.specs.Served.{IsListing};
 
+use crate::store::Store;
+use ks_keysets::Few;
 use std::alloc::{AllocError, Global};
 use std::collections::HashMap;
 
@@ -71,24 +73,26 @@ impl Table {
         }
         None
     }
+}
 
-    /// What the key has.
+impl Store for Table {
+    ghost use Rattle.std.specs.Prelude.{false};
+    ghost use Rattle.ks_judge.specs.Table.{found};
+
+    ghost has = { found };
+
+    ghost lists = { false };
+
     #[inline(always)]
-    pub fn get(&self, key: u64) -> Option<u128>
-        ensures { result ≡ found self.now key }
-    {
+    fn get(&self, key: u64) -> Option<u128> {
         match self.place_of(key) {
             Some(at) => self.low[at],
             None => self.high.get(&key).copied(),
         }
     }
 
-    /// Sets the value of the key, and returns what it had.
     #[inline(always)]
-    pub fn insert(&mut self, key: u64, value: u128) -> Result<Option<u128>, AllocError>
-        ensures had { IfOk result (λ had. had ≡ found self.old key) }
-        ensures map { OnOk result ((p : ℕ) → found self.new p ≡ map_with (found self.old) (sets key value) p) }
-    {
+    fn insert(&mut self, key: u64, value: u128) -> Result<Option<u128>, AllocError> {
         let Some(at) = self.place_of(key) else {
             return Ok(self.high.insert(key, value)?);
         };
@@ -97,12 +101,8 @@ impl Table {
         Ok(had)
     }
 
-    /// Leaves the key nothing, and returns what it had.
     #[inline(always)]
-    pub fn remove(&mut self, key: u64) -> Option<u128>
-        ensures had { result ≡ found self.old key }
-        ensures map { (p : ℕ) → found self.new p ≡ map_with (found self.old) (removes key) p }
-    {
+    fn remove(&mut self, key: u64) -> Option<u128> {
         let Some(at) = self.place_of(key) else {
             return self.high.remove(&key);
         };
@@ -111,10 +111,11 @@ impl Table {
         had
     }
 
-    /// Whether no key has anything.
-    pub fn has_nothing(self, alloc: Global) -> Result<bool, AllocError>
-        ensures { IfOk result (λ is. IsTrue is ↔ IsListing (found self) []) }
-    {
+    fn lists_span(&self, _low: u64, _last: u64, _pairs: &Few) -> bool {
+        false
+    }
+
+    fn has_nothing(self, alloc: Global) -> Result<bool, AllocError> {
         let Table { low, high } = self;
         if !are_none(&low) {
             return Ok(false);

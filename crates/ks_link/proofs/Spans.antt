@@ -17,7 +17,7 @@ use Rattle.ks_flow.specs.Link.{Link}
 use Rattle.ks_node.specs.Body.{Body, frame_of, last_of}
 use Rattle.ks_arena.specs.Sound.{Sort, blank_of}
 use Rattle.ks_shape.specs.Parts.{DonePart}
-use Rattle.ks_shape.specs.declared.parts.Part.{Part}
+use Rattle.ks_lines.specs.declared.parts.Part.{Part}
 use Rattle.ks_link.proofs.Places.{past_range}
 
 -- the only node of a list

@@ -1,12 +1,15 @@
 //! Calls on nodes, each after a test at run time of what it requires.
 
 ghost use Rattle.std.specs.Prelude.{◌≢◌, ◌≡◌, IsTrue, Some, false};
-ghost use Rattle.ks_node.specs.Body.{is_branch, first_node, IsBlank, all_places};
-ghost use Rattle.ks_node.specs.Room.{in_place};
+ghost use Rattle.ks_node.specs.Body.{begins, is_branch, first_node, IsBlank, all_places};
+ghost use Rattle.ks_node.specs.Room.{in_place, is_full};
 
 use ks_asked::{cut_of, is_here, lie_in};
 use ks_keysets::Span;
-use ks_node::{Linked, Next, Node, Ranged, Unlinked, node_law};
+use ks_node::{
+    Growing, Linked, Listed, Next, Node, Ranged, Unlinked, adopt_law, growing_law, listed_law,
+    node_law,
+};
 use std::alloc::Global;
 use std::process::Abort;
 
@@ -117,6 +120,30 @@ pub fn adopt<N: Ranged>(rt: &impl Abort, node: &mut N, cut: u64, id: u32) {
     assert!(rt; lie_in(node, &below));
     node_law(node);
     node.adopt(cut, id);
+}
+
+/// Whether a branch does not adopt a cut in its range, where the branches of the type adopt: then it is full, or an edge starts
+/// at the cut.
+pub fn refuses<N: Listed>(rt: &impl Abort, node: &N, cut: u64) -> bool
+    ensures { IsTrue result → is_full N.layout (N.body node.now) ≡ false →
+        IsTrue (begins cut (N.body node.now).starts) }
+{
+    let range = node.range();
+    assert!(rt; range.low < cut && cut <= range.last);
+    assert!(rt; node.is_branch());
+    listed_law::<N>();
+    node_law(node);
+    adopt_law(node, cut);
+    !node.can_adopt(cut)
+}
+
+/// A node with no edge, of a type whose nodes then grow.
+pub fn blank_that_grows<N: Growing>(rt: &impl Abort, alloc: Global) -> N {
+    let node = blank::<N>(rt, alloc);
+    growing_law::<N>();
+    let grows = node.grows();
+    prove!(grows);
+    node
 }
 
 /// Takes in what the node to the right has.

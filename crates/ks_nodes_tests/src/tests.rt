@@ -9,7 +9,7 @@ use ks_bst::TNode;
 use ks_hash::HNode;
 use ks_linked::WithLink;
 use ks_list::ListNode;
-use ks_node::{Linked, Listed, Node, Ranged, Unlinked, WithRange};
+use ks_node::{Growing, Linked, Listed, Node, Ranged, Unlinked, WithRange};
 use std::alloc::Global;
 use std::process::Abort;
 
@@ -21,6 +21,12 @@ fn keeps_a_pair<N: Node>(rt: &impl Abort, alloc: Global) {
     assert_eq!(rt; asked::put_first(rt, &mut node, 3, 30), None);
     assert_eq!(rt; node.get(3), Some(30));
     assert_eq!(rt; node.get(4), None);
+}
+
+/// A blank node grows, before it has a pair.
+fn grows_when_blank<N: Growing>(rt: &impl Abort, alloc: Global) {
+    let node = asked::blank_that_grows::<N>(rt, alloc);
+    assert!(rt; node.grows() && !node.is_full());
 }
 
 /// A leaf grows, its halves split to the right, and the branch over them takes in the new nodes.
@@ -63,14 +69,16 @@ fn merges<N: Unlinked + Ranged>(rt: &impl Abort, alloc: Global, length: u64, ste
     root.collapse(rt, &mut left);
 }
 
-/// A full branch grows, and its halves join again.
-fn branches_merge<N: Unlinked + Ranged>(rt: &impl Abort, alloc: Global) {
+/// A branch adopts each cut in its range at which no edge starts, until it is full. Then it grows, and its halves join again.
+fn branches_merge<N: Unlinked + Listed>(rt: &impl Abort, alloc: Global) {
     let mut root = Trial::<N>::blank(rt, alloc, 1);
     root.fill(rt, 0, 64, 4);
     let _ = root.grow(rt, alloc, 32, [1, 2]);
+    assert!(rt; asked::refuses(rt, &root.node, 32) && !asked::refuses(rt, &root.node, 33));
     root.adopt(rt, 48, 4);
     root.adopt(rt, 16, 3);
     root.adopt_dozen(rt);
+    assert!(rt; root.node.is_full() && asked::refuses(rt, &root.node, 33));
     let (mut left, mut right) = root.grow(rt, alloc, 32, [5, 6]);
     left.absorb(rt, &mut right);
     root.forget(rt, 6);
@@ -148,6 +156,12 @@ fn blank_nodes_keep_a_pair(rt: HostRuntime) {
     keeps_a_pair::<HNode>(&rt, rt.alloc());
     keeps_a_pair::<TNode>(&rt, rt.alloc());
     keeps_a_pair::<WithLink<WithRange<BNode>>>(&rt, rt.alloc());
+}
+
+#[test]
+fn blank_nodes_grow(rt: HostRuntime) {
+    grows_when_blank::<BNode>(&rt, rt.alloc());
+    grows_when_blank::<HNode>(&rt, rt.alloc());
 }
 
 #[test]

@@ -3,22 +3,29 @@
 //! There is a function for each pairing, in a crate of their own, so that their proofs are checked side by side.
 #![tactic(auto)]
 
-ghost use Rattle.std.specs.Prelude.{◌≤◌, map, length, IfOk};
-ghost use Rattle.ks_history.specs.Asked.{AreAsked};
+mod moves;
+mod neither;
+mod scans;
+
+ghost use Rattle.std.specs.Prelude.{◌≤◌, map, length, IfOk, true, false};
+ghost use Rattle.ks_lines.specs.Asked.{AreServedLines};
 ghost use Rattle.ks_keysets.specs.Layout.{list_layout, bplus_layout, hash_layout, bst_layout};
 ghost use Rattle.ks_places.specs.Golden.{golden_place};
 ghost use Rattle.ks_pairings.specs.ByPairing.{IsServedBy};
 
+use crate::moves::Moves;
+use crate::neither::Neither;
+use crate::scans::{Scans, ScansAndMoves};
 use ks_aid::Admits;
 use ks_boxed::Boxed;
 use ks_bplus::BNode;
 use ks_bst::TNode;
 use ks_coupling::Coupling;
-use ks_dictionary::{Told, serve_callers};
+use ks_dictionary::{Aiding, AtOneKey, Told, serve_callers};
 use ks_gate::Gate;
 use ks_giveup::GiveUp;
 use ks_hash::HNode;
-use ks_history::Op;
+use ks_lines::Line;
 use ks_link::LinkMove;
 use ks_linked::WithLink;
 use ks_list::ListNode;
@@ -32,18 +39,21 @@ pub fn list_coupling<R: Threads + Wait + Sync, G: Gate + Admits + Sync>(
     rt: &R,
     alloc: Global,
     nodes: u32,
-    callers: Vec<Vec<Op>>,
+    callers: Vec<Vec<Line>>,
     workers: u32,
+    aiding: Aiding,
     gate: &G,
 ) -> Result<Told, AllocError>
     requires nodes { (4 ≤ nodes) × (nodes ≤ 1048576) }
     requires callers { length callers.items ≤ 1024 }
-    requires asked { AreAsked (map (λ v. v.items) callers.items) }
+    requires served { AreServedLines false false (map (λ v. v.items) callers.items) }
     requires workers { (1 ≤ workers) × (workers ≤ 64) }
     ensures { IfOk result (λ told. IsServedBy list_layout (λ k. k) nodes (map (λ v. v.items) callers.items)
         (map (λ v. v.items) told.lines.items) told.pairs.items told.trace) }
 {
-    serve_callers::<ListNode, Coupling, R, G>(rt, alloc, nodes, callers, workers, gate)
+    serve_callers::<ListNode, Coupling, AtOneKey, R, G>(
+        rt, alloc, nodes, callers, workers, aiding, gate, &AtOneKey,
+    )
 }
 
 /// Serves all callers over a B+ tree, by lock coupling.
@@ -51,18 +61,21 @@ pub fn bplus_coupling<R: Threads + Wait + Sync, G: Gate + Admits + Sync>(
     rt: &R,
     alloc: Global,
     nodes: u32,
-    callers: Vec<Vec<Op>>,
+    callers: Vec<Vec<Line>>,
     workers: u32,
+    aiding: Aiding,
     gate: &G,
 ) -> Result<Told, AllocError>
     requires nodes { (4 ≤ nodes) × (nodes ≤ 1048576) }
     requires callers { length callers.items ≤ 1024 }
-    requires asked { AreAsked (map (λ v. v.items) callers.items) }
+    requires served { AreServedLines false false (map (λ v. v.items) callers.items) }
     requires workers { (1 ≤ workers) × (workers ≤ 64) }
     ensures { IfOk result (λ told. IsServedBy bplus_layout (λ k. k) nodes (map (λ v. v.items) callers.items)
         (map (λ v. v.items) told.lines.items) told.pairs.items told.trace) }
 {
-    serve_callers::<Boxed<BNode>, Coupling, R, G>(rt, alloc, nodes, callers, workers, gate)
+    serve_callers::<Boxed<BNode>, Coupling, AtOneKey, R, G>(
+        rt, alloc, nodes, callers, workers, aiding, gate, &AtOneKey,
+    )
 }
 
 /// Serves all callers over a hash table, by lock coupling.
@@ -70,18 +83,21 @@ pub fn hash_coupling<R: Threads + Wait + Sync, G: Gate + Admits + Sync>(
     rt: &R,
     alloc: Global,
     nodes: u32,
-    callers: Vec<Vec<Op>>,
+    callers: Vec<Vec<Line>>,
     workers: u32,
+    aiding: Aiding,
     gate: &G,
 ) -> Result<Told, AllocError>
     requires nodes { (4 ≤ nodes) × (nodes ≤ 1048576) }
     requires callers { length callers.items ≤ 1024 }
-    requires asked { AreAsked (map (λ v. v.items) callers.items) }
+    requires served { AreServedLines false false (map (λ v. v.items) callers.items) }
     requires workers { (1 ≤ workers) × (workers ≤ 64) }
     ensures { IfOk result (λ told. IsServedBy hash_layout golden_place nodes (map (λ v. v.items) callers.items)
         (map (λ v. v.items) told.lines.items) told.pairs.items told.trace) }
 {
-    serve_callers::<Boxed<HNode>, Coupling, R, G>(rt, alloc, nodes, callers, workers, gate)
+    serve_callers::<Boxed<HNode>, Coupling, AtOneKey, R, G>(
+        rt, alloc, nodes, callers, workers, aiding, gate, &AtOneKey,
+    )
 }
 
 /// Serves all callers over a binary search tree, by lock coupling.
@@ -89,18 +105,21 @@ pub fn bst_coupling<R: Threads + Wait + Sync, G: Gate + Admits + Sync>(
     rt: &R,
     alloc: Global,
     nodes: u32,
-    callers: Vec<Vec<Op>>,
+    callers: Vec<Vec<Line>>,
     workers: u32,
+    aiding: Aiding,
     gate: &G,
 ) -> Result<Told, AllocError>
     requires nodes { (4 ≤ nodes) × (nodes ≤ 1048576) }
     requires callers { length callers.items ≤ 1024 }
-    requires asked { AreAsked (map (λ v. v.items) callers.items) }
+    requires served { AreServedLines false false (map (λ v. v.items) callers.items) }
     requires workers { (1 ≤ workers) × (workers ≤ 64) }
     ensures { IfOk result (λ told. IsServedBy bst_layout (λ k. k) nodes (map (λ v. v.items) callers.items)
         (map (λ v. v.items) told.lines.items) told.pairs.items told.trace) }
 {
-    serve_callers::<Boxed<TNode>, Coupling, R, G>(rt, alloc, nodes, callers, workers, gate)
+    serve_callers::<Boxed<TNode>, Coupling, AtOneKey, R, G>(
+        rt, alloc, nodes, callers, workers, aiding, gate, &AtOneKey,
+    )
 }
 
 /// Serves all callers over a sorted list, by giving up.
@@ -108,19 +127,20 @@ pub fn list_give_up<R: Threads + Wait + Sync, G: Gate + Admits + Sync>(
     rt: &R,
     alloc: Global,
     nodes: u32,
-    callers: Vec<Vec<Op>>,
+    callers: Vec<Vec<Line>>,
     workers: u32,
+    aiding: Aiding,
     gate: &G,
 ) -> Result<Told, AllocError>
     requires nodes { (4 ≤ nodes) × (nodes ≤ 1048576) }
     requires callers { length callers.items ≤ 1024 }
-    requires asked { AreAsked (map (λ v. v.items) callers.items) }
+    requires served { AreServedLines false true (map (λ v. v.items) callers.items) }
     requires workers { (1 ≤ workers) × (workers ≤ 64) }
     ensures { IfOk result (λ told. IsServedBy list_layout (λ k. k) nodes (map (λ v. v.items) callers.items)
         (map (λ v. v.items) told.lines.items) told.pairs.items told.trace) }
 {
-    serve_callers::<Boxed<WithRange<ListNode>>, GiveUp, R, G>(
-        rt, alloc, nodes, callers, workers, gate,
+    serve_callers::<Boxed<WithRange<ListNode>>, GiveUp, Moves, R, G>(
+        rt, alloc, nodes, callers, workers, aiding, gate, &Moves,
     )
 }
 
@@ -129,18 +149,28 @@ pub fn bplus_give_up<R: Threads + Wait + Sync, G: Gate + Admits + Sync>(
     rt: &R,
     alloc: Global,
     nodes: u32,
-    callers: Vec<Vec<Op>>,
+    callers: Vec<Vec<Line>>,
     workers: u32,
+    aiding: Aiding,
     gate: &G,
 ) -> Result<Told, AllocError>
     requires nodes { (4 ≤ nodes) × (nodes ≤ 1048576) }
     requires callers { length callers.items ≤ 1024 }
-    requires asked { AreAsked (map (λ v. v.items) callers.items) }
+    requires served { AreServedLines true true (map (λ v. v.items) callers.items) }
     requires workers { (1 ≤ workers) × (workers ≤ 64) }
     ensures { IfOk result (λ told. IsServedBy bplus_layout (λ k. k) nodes (map (λ v. v.items) callers.items)
         (map (λ v. v.items) told.lines.items) told.pairs.items told.trace) }
 {
-    serve_callers::<Boxed<WithRange<BNode>>, GiveUp, R, G>(rt, alloc, nodes, callers, workers, gate)
+    serve_callers::<Boxed<WithRange<BNode>>, GiveUp, ScansAndMoves, R, G>(
+        rt,
+        alloc,
+        nodes,
+        callers,
+        workers,
+        aiding,
+        gate,
+        &ScansAndMoves,
+    )
 }
 
 /// Serves all callers over a hash table, by giving up.
@@ -148,18 +178,21 @@ pub fn hash_give_up<R: Threads + Wait + Sync, G: Gate + Admits + Sync>(
     rt: &R,
     alloc: Global,
     nodes: u32,
-    callers: Vec<Vec<Op>>,
+    callers: Vec<Vec<Line>>,
     workers: u32,
+    aiding: Aiding,
     gate: &G,
 ) -> Result<Told, AllocError>
     requires nodes { (4 ≤ nodes) × (nodes ≤ 1048576) }
     requires callers { length callers.items ≤ 1024 }
-    requires asked { AreAsked (map (λ v. v.items) callers.items) }
+    requires served { AreServedLines false true (map (λ v. v.items) callers.items) }
     requires workers { (1 ≤ workers) × (workers ≤ 64) }
     ensures { IfOk result (λ told. IsServedBy hash_layout golden_place nodes (map (λ v. v.items) callers.items)
         (map (λ v. v.items) told.lines.items) told.pairs.items told.trace) }
 {
-    serve_callers::<Boxed<WithRange<HNode>>, GiveUp, R, G>(rt, alloc, nodes, callers, workers, gate)
+    serve_callers::<Boxed<WithRange<HNode>>, GiveUp, Moves, R, G>(
+        rt, alloc, nodes, callers, workers, aiding, gate, &Moves,
+    )
 }
 
 /// Serves all callers over a binary search tree, by giving up.
@@ -167,18 +200,21 @@ pub fn bst_give_up<R: Threads + Wait + Sync, G: Gate + Admits + Sync>(
     rt: &R,
     alloc: Global,
     nodes: u32,
-    callers: Vec<Vec<Op>>,
+    callers: Vec<Vec<Line>>,
     workers: u32,
+    aiding: Aiding,
     gate: &G,
 ) -> Result<Told, AllocError>
     requires nodes { (4 ≤ nodes) × (nodes ≤ 1048576) }
     requires callers { length callers.items ≤ 1024 }
-    requires asked { AreAsked (map (λ v. v.items) callers.items) }
+    requires served { AreServedLines false true (map (λ v. v.items) callers.items) }
     requires workers { (1 ≤ workers) × (workers ≤ 64) }
     ensures { IfOk result (λ told. IsServedBy bst_layout (λ k. k) nodes (map (λ v. v.items) callers.items)
         (map (λ v. v.items) told.lines.items) told.pairs.items told.trace) }
 {
-    serve_callers::<Boxed<WithRange<TNode>>, GiveUp, R, G>(rt, alloc, nodes, callers, workers, gate)
+    serve_callers::<Boxed<WithRange<TNode>>, GiveUp, Moves, R, G>(
+        rt, alloc, nodes, callers, workers, aiding, gate, &Moves,
+    )
 }
 
 /// Serves all callers over a B+ tree, along links.
@@ -186,19 +222,20 @@ pub fn bplus_link<R: Threads + Wait + Sync, G: Gate + Admits + Sync>(
     rt: &R,
     alloc: Global,
     nodes: u32,
-    callers: Vec<Vec<Op>>,
+    callers: Vec<Vec<Line>>,
     workers: u32,
+    aiding: Aiding,
     gate: &G,
 ) -> Result<Told, AllocError>
     requires nodes { (4 ≤ nodes) × (nodes ≤ 1048576) }
     requires callers { length callers.items ≤ 1024 }
-    requires asked { AreAsked (map (λ v. v.items) callers.items) }
+    requires served { AreServedLines true false (map (λ v. v.items) callers.items) }
     requires workers { (1 ≤ workers) × (workers ≤ 64) }
     ensures { IfOk result (λ told. IsServedBy bplus_layout (λ k. k) nodes (map (λ v. v.items) callers.items)
         (map (λ v. v.items) told.lines.items) told.pairs.items told.trace) }
 {
-    serve_callers::<Boxed<WithLink<BNode>>, LinkMove, R, G>(
-        rt, alloc, nodes, callers, workers, gate,
+    serve_callers::<Boxed<WithLink<BNode>>, LinkMove, Scans, R, G>(
+        rt, alloc, nodes, callers, workers, aiding, gate, &Scans,
     )
 }
 
@@ -207,18 +244,19 @@ pub fn hash_link<R: Threads + Wait + Sync, G: Gate + Admits + Sync>(
     rt: &R,
     alloc: Global,
     nodes: u32,
-    callers: Vec<Vec<Op>>,
+    callers: Vec<Vec<Line>>,
     workers: u32,
+    aiding: Aiding,
     gate: &G,
 ) -> Result<Told, AllocError>
     requires nodes { (4 ≤ nodes) × (nodes ≤ 1048576) }
     requires callers { length callers.items ≤ 1024 }
-    requires asked { AreAsked (map (λ v. v.items) callers.items) }
+    requires served { AreServedLines false false (map (λ v. v.items) callers.items) }
     requires workers { (1 ≤ workers) × (workers ≤ 64) }
     ensures { IfOk result (λ told. IsServedBy hash_layout golden_place nodes (map (λ v. v.items) callers.items)
         (map (λ v. v.items) told.lines.items) told.pairs.items told.trace) }
 {
-    serve_callers::<Boxed<WithLink<HNode>>, LinkMove, R, G>(
-        rt, alloc, nodes, callers, workers, gate,
+    serve_callers::<Boxed<WithLink<HNode>>, LinkMove, Neither, R, G>(
+        rt, alloc, nodes, callers, workers, aiding, gate, &Neither,
     )
 }

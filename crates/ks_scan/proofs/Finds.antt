@@ -1,7 +1,7 @@
 -- What is found in a row of parts with one more.
 use Rattle.std.proofs.Common.{ℕ, zero, suc, ◌≡◌, List, [], ◌∷◌, ◌++◌, length, slice_index_or, Option, Some, None, refl, sym, ap, ◌∙◌, subst, arith}
 use Rattle.ks_keysets.specs.declared.Pair.{Pair}
-use Rattle.ks_shape.specs.declared.parts.Part.{Part}
+use Rattle.ks_lines.specs.declared.parts.Part.{Part}
 use Rattle.ks_scan.specs.Ends.{IsFirstOf, first_of, found_or, last_at, last_found, last_of}
 use Rattle.ks_scan.specs.declared.ends.Found.{Found}
 

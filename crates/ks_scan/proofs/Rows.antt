@@ -4,8 +4,9 @@ use Rattle.ks_keysets.specs.Layout.{Layout}
 use Rattle.ks_history.specs.declared.Event.{Event}
 use Rattle.ks_history.specs.Done.{Template}
 use Rattle.ks_shape.specs.Parts.{DonePart}
-use Rattle.ks_shape.specs.declared.parts.Part.{Part}
-use Rattle.ks_scan.specs.Scan.{DoneParts, PartsAscend, end_of}
+use Rattle.ks_lines.specs.declared.parts.Part.{Part}
+use Rattle.ks_scan.specs.Scan.{DoneParts}
+use Rattle.ks_lines.specs.Scan.{PartsAscend, end_of}
 
 -- where the next part begins
 abbrev pub next_from : ℕ → List Part → ℕ

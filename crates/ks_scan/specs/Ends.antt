@@ -5,8 +5,9 @@ use Rattle.ks_keysets.specs.declared.Pair.{Pair}
 use Rattle.ks_history.specs.Done.{Template}
 use Rattle.ks_arena.specs.declared.held.Pass.{Pass}
 use Rattle.ks_shape.specs.Idle.{Site}
-use Rattle.ks_shape.specs.declared.parts.Part.{Part}
-use Rattle.ks_scan.specs.Scan.{IsDoneScan, end_of}
+use Rattle.ks_lines.specs.declared.parts.Part.{Part}
+use Rattle.ks_scan.specs.Scan.{IsDoneScan}
+use Rattle.ks_lines.specs.Scan.{end_of}
 use Rattle.ks_scan.specs.declared.ends.Found.{Found}
 
 -- the first of these pairs, if there is one, with the number of the part that lists them

@@ -1,5 +1,5 @@
 -- Scans as rows of parts.
-use Rattle.std.specs.Prelude.{ℕ, suc, ◌≡◌, ◌<◌, ◌≤◌, List, [], ◌∷◌, length, Option, Some, None}
+use Rattle.std.specs.Prelude.{ℕ, suc, ◌≡◌, List, [], ◌∷◌}
 use Rattle.ks_keysets.specs.Layout.{Layout}
 use Rattle.ks_history.specs.declared.Event.{Event}
 use Rattle.ks_history.specs.Done.{Template}
@@ -7,9 +7,7 @@ use Rattle.ks_arena.specs.declared.held.Pass.{Pass}
 use Rattle.ks_arena.specs.Clauses.{seen_of}
 use Rattle.ks_shape.specs.Idle.{Site}
 use Rattle.ks_shape.specs.Parts.{DonePart}
-use Rattle.ks_shape.specs.declared.parts.Part.{Part}
-use Rattle.ks_scan.specs.declared.Scanned.{Scanned}
-use Rattle.ks_scan.specs.declared.Scanned.TheVariants.{Whole, Until}
+use Rattle.ks_lines.specs.declared.parts.Part.{Part}
 
 -- the parts were made one after another by c between s0 and s1, each from the place after the one before it, and nothing else
 abbrev pub DoneParts : Layout → Template → ℕ → ℕ → ℕ → ℕ → List Event → List Part → List Event → Type 0
@@ -19,26 +17,3 @@ DoneParts layout template n c low last s0 (part ∷ parts) s1 = (s : List Event)
 -- the same between two passes
 abbrev pub IsDoneScan : {N D : Type 0} → Layout → Template → Site → ℕ → ℕ → Pass N D → Pass N D → List Part → Type 0
 IsDoneScan layout technique a low last p q parts = DoneParts layout technique a.nodes p.caller low last (seen_of p) parts (seen_of q)
-
--- the parts begin at low, each after the one before it, and none goes past last
-abbrev pub PartsAscend : ℕ → ℕ → List Part → Type 0
-PartsAscend low last [] = Unit {0}
-PartsAscend low last (part ∷ parts) = (low ≤ part.last) × (part.last ≤ last) × PartsAscend (suc part.last) last parts
-
--- the place at which the parts stop, if there is one
-abbrev pub end_of : List Part → Option ℕ
-end_of [] = None
-end_of (part ∷ []) = Some part.last
-end_of (part ∷ other ∷ parts) = end_of (other ∷ parts)
-
--- the scan is whole if its parts stop at last; else it has as many parts as it may, and goes on after the place at which they
--- stop, which is below last
-abbrev pub StopsAt : ℕ → ℕ → List Part → Scanned → Type 0
-StopsAt last most parts Whole = end_of parts ≡ Some last
-StopsAt last most parts (Until next) = (length parts ≡ most) × (p : ℕ) × (end_of parts ≡ Some p) × (p < last) × (next ≡ suc p)
-
--- the parts are a scan from low to last of at most `most` parts, which stopped there
-pub record IsScanOf (low last most : ℕ) (parts : List Part) (stop : Scanned) : Type 0 where
-  pub ascend : PartsAscend low last parts
-  pub few : length parts ≤ most
-  pub stops : StopsAt last most parts stop

@@ -8,23 +8,16 @@ ghost use Rattle.std.specs.Prelude.{◌≡◌, ◌≤◌, [], vec_capacity};
 ghost use Rattle.ks_arena.specs.Of.{SameCaller};
 ghost use Rattle.ks_shape.specs.Does.{OnlySearches};
 ghost use Rattle.ks_shape.specs.Idle.{IsIdle};
-ghost use Rattle.ks_scan.specs.Scan.{IsScanOf, IsDoneScan};
+ghost use Rattle.ks_scan.specs.Scan.{IsDoneScan};
+ghost use Rattle.ks_lines.specs.Scan.{IsScanOf};
 
 pub use ends::{Found, first_in, last_in};
 use ks_arena::Pass;
 use ks_gate::Gate;
+pub use ks_lines::Scanned;
 use ks_node::Node;
 use ks_shape::{Part, Scanning, Shelf};
 use std::sync::Wait;
-
-/// Where a scan stopped.
-#[derive(Clone, Copy, Debug, PartialEq, Eq)]
-pub enum Scanned {
-    /// At its last place.
-    Whole,
-    /// After as many parts as it may have: the scan goes on at this place.
-    Until { next: u64 },
-}
 
 /// Lists the pairs from `low` to `last`, both included, in at most `most` parts, which it pushes into `into`, an empty list
 /// with room for them: so it needs no memory. It stops at `last`, or after `most` parts.

@@ -5,27 +5,33 @@ pub use Rattle.std.proofs.lemmas.Bool.Decides.{eqb_tells, Decides-eqb}
 pub use Rattle.std.proofs.lemmas.List.{take-append-drop, length-take-le, get_or_append_left, get_or-take, take_more, length-take, length-drop, length-map, take-take, map_push, replicate_more, take-replicate, length-replicate, drop_at, map-append, append_cancel_left, get_or_default, take_all, nil_from_length}
 pub use Rattle.std.specs.Char.{is_ascii_digit, digit_value}
 pub use Rattle.std.specs.Fmt.{decimal}
-pub use Rattle.std.specs.List.{onto_first, prefix_len, AllByRecursion}
+pub use Rattle.std.specs.List.{onto_first, prefix_len, sum_by, AllByRecursion}
 pub use Rattle.std.specs.Str.{all_ascii_digits}
 pub use Rattle.std.specs.Str.Parse.{digits_value, AllDigits, digits_value_after}
-pub use Rattle.ks_history.specs.declared.Op.{Op}
 pub use Rattle.ks_history.specs.declared.Op.TheVariants.{Get, Put, Del, Add, Swap, Part, Move}
 pub use Rattle.ks_history.specs.declared.Reply.{Reply}
 pub use Rattle.ks_history.specs.declared.Reply.TheVariants.{Nothing, Value, Full, Listed, Kept}
+pub use Rattle.ks_lines.specs.declared.Line.{Line}
+pub use Rattle.ks_lines.specs.declared.Line.TheVariants.{Call, Scan}
+pub use Rattle.ks_keysets.specs.declared.Pair.{Pair}
+pub use Rattle.ks_lines.specs.declared.Said.{Said}
+pub use Rattle.ks_lines.specs.declared.Scanned.{Scanned}
+pub use Rattle.ks_lines.specs.declared.Scanned.TheVariants.{Whole, Until}
 pub use Rattle.ks_script.specs.Ahead.{Lacks}
-pub use Rattle.ks_script.specs.Checked.{IsRunOf, SpellsChecked, AreChecked, CheckedOf, IsReply, IsAnswered, AscendFrom}
+pub use Rattle.ks_script.specs.Checked.{IsRunOf, SpellsChecked, AreChecked, CheckedOf, IsReply, IsAnswered, IsPair, IsPart, IsStop, IsSaid, AscendFrom}
 pub use Rattle.ks_script.specs.CheckedTexts.{CheckedIn, FirstBadOfChecked}
-pub use Rattle.ks_script.specs.Left.{Apart, TextLeft, CallsLeft, Told, CallersRead, none_read, some_read, Stops, ScriptLeft, HasBegun}
+pub use Rattle.ks_script.specs.Left.{Apart, TextLeft, CallsLeft, Told, CallersRead, none_read, some_read, Stops, ScriptLeft, HasBegun, NoVersion, IsLineWithin}
 pub use Rattle.ks_script.specs.Lined.{EndsLine, Lined, NotLined}
 pub use Rattle.ks_script.specs.Lines.{lines_of, FirstBad, Begins, text_of, ended}
 pub use Rattle.ks_script.specs.Numeral.{NoDigit, ReadOn}
 pub use Rattle.ks_script.specs.Reading.{Answers, Gives}
 pub use Rattle.ks_script.specs.Reads.{Lines, NotFirst, Leads, Reads, RefusedBehind, NoneFirst}
-pub use Rattle.ks_script.specs.Run.{pair_line, Run, run_lines, reply_word, reply_line, callers_from, map_lines, run_text}
-pub use Rattle.ks_script.specs.RunLeft.{SpellsRun, AreRun, Replies, next_key, IsPairFrom, AnswersLeft, RepliesLeft, PairsLeft, NothingLeft}
-pub use Rattle.ks_script.specs.Script.{IsCall, call_line, IsScript, script_lines, SpellsScript, AreScript, calls_in}
+pub use Rattle.ks_script.specs.Run.{pair_line, Run, run_lines, reply_word, reply_line, pair_words, part_line, stop_line, said_lines, callers_from, map_lines, run_text}
+pub use Rattle.ks_script.specs.SaidLeft.{CanBeSaidOf, IsSaidOf, IsReplyOf, next_end, IsPartFrom, BeginsSaid, FirstUnsaid, UnsaidBehind}
+pub use Rattle.ks_script.specs.RunLeft.{SpellsRun, AreRun, Replies, next_key, IsPairFrom, AnswersLeft, RepliesLeft, RepliesRead, RepliesStop, RepliesStopBehind, PairsLeft, NothingLeft}
+pub use Rattle.ks_script.specs.Script.{IsLineOf, line_text, IsScript, script_lines, SpellsScript, AreScript, calls_in, parts_of, parts_in}
 pub use Rattle.ks_script.specs.Version.{version_line, value_limit, callers_limit}
 pub use Rattle.ks_script.specs.declared.fault.TextFault.{TextFault}
 pub use Rattle.ks_script.specs.declared.fault.TextFault.TheVariants.{Refused, Memory}
 pub use Rattle.ks_script.specs.declared.version.Version.{Version}
-pub use Rattle.ks_script.specs.declared.version.Version.TheVariants.{First, Second}
+pub use Rattle.ks_script.specs.declared.version.Version.TheVariants.{First, Second, Third, Fourth}

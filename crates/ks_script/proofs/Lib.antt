@@ -12,10 +12,13 @@ pub mod CallLines
 pub mod Leading
 pub mod Steps
 pub mod ScriptRead
+pub mod Both
+pub mod Saids
 pub mod RunSteps
 pub mod RunRead
 pub mod CheckedRead
 pub mod Spelled
 pub mod Rows
 pub mod Packing
+pub mod Unserved
 pub mod Padding

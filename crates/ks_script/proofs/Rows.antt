@@ -1,5 +1,6 @@
 -- Replies: how their words differ.
-use Rattle.ks_script.proofs.Common.{ℕ, ◌≡◌, ◌^◌, ◌<◌, ◌⊎◌, false, cond, eqb, List, [], ◌∷◌, ◌++◌, length, codes, refl, sym, ap, subst, ◌∙◌, arith, inl, inr, length-append, get_or_append_left, append_cancel_left, decimal, is_ascii_digit, Reply, Nothing, Value, Full, reply_word, IsReply, NoDigit, EndsLine, NotLined}
+use Rattle.ks_script.proofs.Common.{ℕ, ◌≡◌, ◌^◌, ◌<◌, ◌⊎◌, false, cond, eqb, List, [], ◌∷◌, ◌++◌, length, codes, refl, sym, ap, subst, ◌∙◌, arith, inl, inr, length-append, get_or_append_left, append_cancel_left, decimal, is_ascii_digit, Reply, Nothing, Value, Full, Kept, drop, append_assoc, reply_word, reply_line, IsReply, IsAnswered, NoDigit, EndsLine, NotLined}
+use Rattle.ks_script.proofs.Numerals.{wide}
 use Rattle.ks_script.proofs.Exact.{no_number}
 use Rattle.ks_script.proofs.Lined.{number_told, end_free}
 use Rattle.ks_script.proofs.CallLines.{first, stands}
@@ -9,7 +10,7 @@ some_spaced a b = omega (arith, length-append (a ++ codes " ") b, length-append 
 
 -- a reply is a value, or it has a word, whose first byte is no digit and only that of its word
 abbrev pub word_of : ℕ → Reply
-word_of byte = cond (eqb byte 110) Nothing Full
+word_of byte = cond (eqb byte 110) Nothing (cond (eqb byte 102) Full Kept)
 
 abbrev pub HasWord : Reply → Type 0
 HasWord r = (is_ascii_digit (first (reply_word r)) ≡ false) × (0 < length (reply_word r)) × (word_of (first (reply_word r)) ≡ r) × (stands 10 (reply_word r) ≡ false)
@@ -25,6 +26,7 @@ Starts r rest = HasWord r ⊎ ((v : ℕ) × (v < 2 ^ 128) × (r ≡ Value v) × 
 pub by_word : (r : Reply) (rest : List ℕ) → IsReply r → Follows r rest → Starts r rest
 by_word Nothing rest h free = inl (refl, omega arith, refl, refl)
 by_word Full rest h free = inl (refl, omega arith, refl, refl)
+by_word Kept rest h free = inl (refl, omega arith, refl, refl)
 by_word (Value v) rest h free = inr (v, h, refl, free)
 by_word other rest h free = absurd h
 
@@ -58,3 +60,9 @@ pub not_told : (said : Reply) (bytes rest : List ℕ) → IsReply said → Follo
 not_told said bytes rest good free e bad r is tail ends f =
     let same : r ≡ said = one_word r said tail rest is good (follows r tail (end_free tail ends)) free (sym f ∙ e) in
     bad (subst EndsLine (append_cancel_left (reply_word said) tail rest (ap (λ (s : Reply). reply_word s ++ tail) (sym same) ∙ (sym f ∙ e))) ends)
+
+-- a line spells one reply
+pub one_reply : (x y : ℕ × Reply) → IsAnswered x → IsAnswered y → reply_line x ≡ reply_line y → x ≡ y
+one_reply x y h k e =
+    let g = number_told x.0 y.0 (codes " " ++ reply_word x.1) (codes " " ++ reply_word y.1) (wide x.0 h.0) (wide y.0 k.0) refl refl (sym (append_assoc (decimal x.0) (codes " ") (reply_word x.1)) ∙ (e ∙ append_assoc (decimal y.0) (codes " ") (reply_word y.1))) in
+    ap (λ (n : ℕ). (n, x.1)) g.0 ∙ ap (λ (r : Reply). (y.0, r)) (one_word x.1 y.1 [] [] h.1 k.1 (follows x.1 [] tt) (follows y.1 [] tt) (ap (λ (word : List ℕ). drop 1 word ++ []) g.1))

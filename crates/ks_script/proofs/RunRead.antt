@@ -1,92 +1,162 @@
 -- Runs that were read line by line: where a text stops to be one.
-use Rattle.ks_script.proofs.Common.{ℕ, zero, suc, ◌≡◌, ◌+◌, ◌-◌, ◌<◌, List, [], ◌∷◌, ◌++◌, length, map, codes, refl, sym, ap, subst, ◌∙◌, append-nil, arith, length-append, Err, map-append, replicate, length-replicate, AllByRecursion, Op, Reply, Nothing, TextFault, Refused, Memory, lines_of, FirstBad, Run, reply_line, pair_line, callers_from, map_lines, IsAnswered, AscendFrom, IsRunOf, Lines, NotFirst, NoneFirst, Reads, Replies, next_key, IsPairFrom, SpellsRun, AreRun, AnswersLeft, RepliesLeft, PairsLeft, NothingLeft, Answers}
-use Rattle.ks_script.proofs.Leading.{refused_at}
+use Rattle.ks_script.proofs.Common.{ℕ, ◌≡◌, ◌+◌, ◌-◌, ◌<◌, List, [], ◌∷◌, ◌++◌, length, map, take, codes, refl, sym, ap, subst, ◌∙◌, append_assoc, append-nil, arith, inl, inr, length-append, Err, AllByRecursion, Line, Call, Scan, Said, Whole, Nothing, TextFault, Refused, Memory, lines_of, FirstBad, Run, pair_line, said_lines, callers_from, map_lines, IsSaid, AscendFrom, IsRunOf, Lines, NotFirst, NoneFirst, Reads, CanBeSaidOf, IsSaidOf, BeginsSaid, Replies, RepliesStop, next_key, IsPairFrom, SpellsRun, AreRun, AnswersLeft, RepliesLeft, PairsLeft, NothingLeft, Answers}
+use Rattle.std.specs.List.{flat_map}
+use Rattle.ks_lines.specs.declared.Said.TheVariants as said
+use Rattle.ks_lines.specs.Lines.{MayAnswer, AllBoth, AreAnswered}
+use Rattle.ks_script.proofs.Leading.{refused_at, behind_bad}
 use Rattle.ks_script.proofs.Lined.{no_lines}
-use Rattle.ks_script.proofs.Steps.{reads_none, reads_as, all_append}
-use Rattle.ks_script.proofs.RunSteps.{head_line, head, sizes, GoodReplies, none_more, more_left, none_left, each_left, left_ascend}
+use Rattle.ks_script.proofs.Steps.{reads_none, reads_as, reads_on, all_append}
+use Rattle.ks_script.proofs.Both.{both_length, both_append}
+use Rattle.ks_script.proofs.Saids.{head}
+use Rattle.ks_script.proofs.RunSteps.{head_line, GoodReplies, next_left, left_ascend}
 
 -- at first all is left
-pub none_read : (script : List (List Op)) (run : Run) (bytes : List ℕ) → Reads (SpellsRun script run) (AnswersLeft script 0 [] run) bytes bytes 0
+pub none_read : (script : List (List Line)) (run : Run) (bytes : List ℕ) → Reads (SpellsRun script run) (AnswersLeft script 0 [] run) bytes bytes 0
 none_read script run bytes =
     reads_as (SpellsRun script run) (SpellsRun script run) (SpellsRun script run) (AnswersLeft script 0 [] run) bytes bytes 0 (λ ls h. h) (λ ls h. h)
     (λ ls h. record { is = h.is; others = run.callers; callers_are = refl; lines_are = h.lines_are })
     (λ ls h. record { is = h.is; lines_are = h.lines_are ∙ ap (λ (cs : List Replies). callers_from 0 cs ++ map_lines run.pairs) (sym h.callers_are) })
     (reads_none (SpellsRun script run) bytes)
 
--- some run has these callers first
-abbrev blank : ℕ → Replies
-blank k = replicate k (0, Nothing)
+-- something that may be said of a line
+abbrev pub AreOpen : List (List Line) → Type 0
+AreOpen script = AllByRecursion (AllByRecursion CanBeSaidOf) script
 
-good_blank : (k : ℕ) → AllByRecursion IsAnswered (blank k)
-good_blank zero = tt
-good_blank (suc k) = ((omega arith, tt), good_blank k)
+abbrev blank : Line → Said
+blank (Call op) = said.Call 0 Nothing
+blank (Scan low last most) = said.Scan (record { number = 0; last = last; pairs = [] } ∷ []) Whole
 
-abbrev pub blanks : List (List Op) → List Replies
+fit_blank : (line : Line) → CanBeSaidOf line → IsSaidOf line (blank line)
+fit_blank (Call op) can = (tt, (omega arith, tt))
+fit_blank (Scan low last most) can = (record { ascend = (can.0, omega arith, tt); few = can.2; stops = refl }, (((omega arith, can.1, omega arith, tt), tt), tt))
+
+fit_lines : (lines : List Line) → AllByRecursion CanBeSaidOf lines → AllBoth MayAnswer lines (map blank lines)
+fit_lines [] can = tt
+fit_lines (l ∷ lines) can = ((fit_blank l can.0).0, fit_lines lines can.1)
+
+good_lines : (lines : List Line) → AllByRecursion CanBeSaidOf lines → AllByRecursion IsSaid (map blank lines)
+good_lines [] can = tt
+good_lines (l ∷ lines) can = ((fit_blank l can.0).1, good_lines lines can.1)
+
+-- and of those of callers
+abbrev pub blanks : List (List Line) → List Replies
 blanks [] = []
-blanks (ops ∷ s) = blank (length ops) ∷ blanks s
+blanks (lines ∷ s) = map blank lines ∷ blanks s
 
-good_blanks : (s : List (List Op)) → GoodReplies (blanks s)
-good_blanks [] = tt
-good_blanks (ops ∷ s) = (good_blank (length ops), good_blanks s)
+fit_blanks : (s : List (List Line)) → AreOpen s → AreAnswered s (blanks s)
+fit_blanks [] can = tt
+fit_blanks (lines ∷ s) can = (fit_lines lines can.0, fit_blanks s can.1)
 
-sizes-blanks : (s : List (List Op)) → sizes (blanks s) ≡ sizes s
-sizes-blanks [] = refl
-sizes-blanks (ops ∷ s) = ap (λ (n : ℕ). n ∷ sizes (blanks s)) (length-replicate (length ops) (0, Nothing)) ∙ ap (λ (ns : List ℕ). length ops ∷ ns) (sizes-blanks s)
+good_blanks : (s : List (List Line)) → AreOpen s → GoodReplies (blanks s)
+good_blanks [] can = tt
+good_blanks (lines ∷ s) can = (good_lines lines can.0, good_blanks s can.1)
 
 -- lines with some behind them are not none
 some_behind : (a b : Lines) → 0 < length b → [] ≡ a ++ b → ⊥
 some_behind a b some e = omega (arith, ap (λ (ls : Lines). length ls) e, length-append a b)
 
-pub whole_run : (script : List (List Op)) → IsRunOf script (record { callers = blanks script; pairs = [] })
-whole_run script = record { shape = sizes-blanks script; each = good_blanks script; ascend = tt }
+pub whole_run : (script : List (List Line)) → AreOpen script → IsRunOf script (record { callers = blanks script; pairs = [] })
+whole_run script can = record { answered = fit_blanks script can; each = good_blanks script can; ascend = tt }
 
--- the run with these callers, and others of the sizes that are due
-filled : (before after : List (List Op)) (callers others : List Replies) → sizes callers ≡ sizes before → sizes others ≡ sizes after → GoodReplies callers → GoodReplies others → IsRunOf (before ++ after) (record { callers = callers ++ others; pairs = [] })
-filled before after callers others shape left good more = record {
-  shape = map-append (λ (ls : Replies). length ls) callers others ∙ (ap (λ (ns : List ℕ). ns ++ sizes others) shape ∙ (ap (λ (ns : List ℕ). sizes before ++ ns) left ∙ sym (map-append (λ (ops : List Op). length ops) before after)));
-  each = all_append (AllByRecursion IsAnswered) callers others good more;
+-- a run of callers and others
+filled : (before after : List (List Line)) (callers others : List Replies) → AreAnswered before callers → AreAnswered after others → GoodReplies callers → GoodReplies others → IsRunOf (before ++ after) (record { callers = callers ++ others; pairs = [] })
+filled before after callers others fit left good more = record {
+  answered = both_append (AllBoth MayAnswer) before after callers others fit left;
+  each = all_append (AllByRecursion IsSaid) callers others good more;
   ascend = tt;
 }
 
-module _ (script before : List (List Op)) (ops : List Op) (after : List (List Op)) (cut : script ≡ before ++ ops ∷ after) (n : ℕ) (callers : List Replies) (shape : sizes callers ≡ sizes before) (good : GoodReplies callers) (bytes rest : List ℕ) (k : ℕ) where
+-- as many callers as the script has
+none_more : (script : List (List Line)) (callers others : List Replies) → AreAnswered script callers → AreAnswered script (callers ++ others) → length others ≡ 0
+none_more script callers others fit all =
+    omega (arith, both_length (AllBoth MayAnswer) script callers fit, both_length (AllBoth MayAnswer) script (callers ++ others) all, length-append callers others)
+
+module _ (script before : List (List Line)) (lines : List Line) (after : List (List Line)) (cut : script ≡ before ++ lines ∷ after) (n : ℕ) (callers : List Replies) (fit : AreAnswered before callers) (good : GoodReplies callers) (can : AreOpen after) (bytes rest : List ℕ) (k : ℕ) where
   -- no line of the next caller
-  pub no_caller : ((run : Run) → Reads (SpellsRun script run) (AnswersLeft script n callers run) bytes rest k) → NotFirst (head_line n) (lines_of rest) → FirstBad (AreRun script) (lines_of bytes) (k + 1)
-  no_caller reads odd =
-      let some : Run = record { callers = callers ++ blanks (ops ∷ after); pairs = [] } in
-      refused_at {X = Run} (SpellsRun script) (λ run ls. AnswersLeft script n callers run ls) bytes rest k reads some (callers_from n (blanks (ops ∷ after)) ++ map_lines [])
-      (record { is = subst (λ (s : List (List Op)). IsRunOf s some) (sym cut) (filled before (ops ∷ after) callers (blanks (ops ∷ after)) shape (sizes-blanks (ops ∷ after)) good (good_blanks (ops ∷ after))); others = blanks (ops ∷ after); callers_are = refl; lines_are = refl })
+  pub no_caller : AllByRecursion CanBeSaidOf lines → ((run : Run) → Reads (SpellsRun script run) (AnswersLeft script n callers run) bytes rest k) → NotFirst (head_line n) (lines_of rest) → FirstBad (AreRun script) (lines_of bytes) (k + 1)
+  no_caller opened reads odd =
+      let some : Run = record { callers = callers ++ blanks (lines ∷ after); pairs = [] } in
+      refused_at {X = Run} (SpellsRun script) (λ run ls. AnswersLeft script n callers run ls) bytes rest k reads some (callers_from n (blanks (lines ∷ after)) ++ map_lines [])
+      (record { is = subst (λ (s : List (List Line)). IsRunOf s some) (sym cut) (filled before (lines ∷ after) callers (blanks (lines ∷ after)) fit (fit_blanks (lines ∷ after) (opened, can)) good (good_blanks (lines ∷ after) (opened, can))); others = blanks (lines ∷ after); callers_are = refl; lines_are = refl })
       (λ run l ls more e h. stuck run l ls more (subst (NotFirst (head_line n)) e odd) h.is h.others h.callers_are h.lines_are)
       (λ e run h. some_behind (callers_from n h.others) (map_lines run.pairs) (omega arith) h.lines_are)
     where
       stuck : (run : Run) (l : List ℕ) (ls more : Lines) → NotFirst (head_line n) (l ∷ ls) → IsRunOf script run → (others : List Replies) → run.callers ≡ callers ++ others → l ∷ more ≡ callers_from n others ++ map_lines run.pairs → ⊥
-      stuck run l ls more odd is [] c e = more_left callers before ops after (ap sizes (sym c) ∙ (is.shape ∙ ap sizes cut)) shape
+      stuck run l ls more odd is [] c e =
+          omega (arith, both_length (AllBoth MayAnswer) before callers fit, both_length (AllBoth MayAnswer) script run.callers is.answered, ap (λ (cs : List Replies). length cs) c, ap (λ (s : List (List Line)). length s) cut, length-append callers [], length-append before (lines ∷ after))
       stuck run l ls more odd is (o ∷ others) c e = odd (ap head e)
 
-  -- too few replies
-  pub no_reply : (rs : Replies) → AllByRecursion IsAnswered rs → length rs < length ops → ((run : Run) → Reads (SpellsRun script run) (RepliesLeft script n callers rs run) bytes rest k) → NoneFirst IsAnswered reply_line (lines_of rest) → FirstBad (AreRun script) (lines_of bytes) (k + 1)
-  no_reply rs each few reads odd =
-      let left : Replies = blank (length ops - length rs) in
-      let some : Run = record { callers = callers ++ (rs ++ left) ∷ blanks after; pairs = [] } in
-      let full : length (rs ++ left) ≡ length ops = omega (arith, length-append rs left, length-replicate {A = ℕ × Reply} (length ops - length rs) (0, Nothing)) in
-      refused_at {X = Run} (SpellsRun script) (λ run ls. RepliesLeft script n callers rs run ls) bytes rest k reads some (map reply_line left ++ (callers_from (n + 1) (blanks after) ++ map_lines []))
-      (record {
-        is = subst (λ (s : List (List Op)). IsRunOf s some) (sym cut)
-            (filled before (ops ∷ after) callers ((rs ++ left) ∷ blanks after) shape (ap (λ (m : ℕ). m ∷ sizes (blanks after)) full ∙ ap (λ (ns : List ℕ). length ops ∷ ns) (sizes-blanks after)) good (all_append IsAnswered rs left each (good_blank (length ops - length rs)), good_blanks after));
-        more = left;
-        others = blanks after;
-        callers_are = refl;
-        lines_are = refl;
-      })
-      (λ run l ls more e h. stuck run l ls more (subst (NoneFirst IsAnswered reply_line) e odd) h.is h.more h.others h.callers_are h.lines_are)
-      (λ e run h. some_behind (map reply_line h.more) (callers_from (n + 1) h.others ++ map_lines run.pairs) (omega (arith, length-append (callers_from (n + 1) h.others) (map_lines run.pairs))) h.lines_are)
+  -- nothing goes on that may be said of a line
+  pub no_reply : (j : ℕ) → RepliesStop lines rest j → AllByRecursion CanBeSaidOf lines → ((run : Run) → Reads (SpellsRun script run) (RepliesLeft script n callers [] run) bytes rest k) → FirstBad (AreRun script) (lines_of bytes) (k + j)
+  no_reply j stop opened reads =
+      subst (FirstBad (AreRun script) (lines_of bytes)) (let sum : k + stop.count + stop.more ≡ k + j = omega (arith, stop.sum) in sum)
+      (behind_bad {X = Run} (SpellsRun script) (λ run ls. RepliesLeft script n callers stop.replies run ls) bytes stop.rest (k + stop.count) stop.more
+      (λ run. reads_on (SpellsRun script run) (RepliesLeft script n callers [] run) (RepliesLeft script n callers stop.replies run) bytes rest stop.rest k stop.count (k + stop.count) (reads run) (stop.reads script before after n callers run cut shape) refl)
+      (record { callers = []; pairs = [] }) bad)
     where
-      stuck : (run : Run) (l : List ℕ) (ls more : Lines) → NoneFirst IsAnswered reply_line (l ∷ ls) → IsRunOf script run → (left : Replies) (others : List Replies) → run.callers ≡ callers ++ (rs ++ left) ∷ others → l ∷ more ≡ map reply_line left ++ (callers_from (n + 1) others ++ map_lines run.pairs) → ⊥
-      stuck run l ls more odd is [] others c e = omega (arith, none_left script run before ops after callers rs [] others cut shape is c)
-      stuck run l ls more odd is (r ∷ left) others c e = odd r (each_left script run callers rs (r ∷ left) others is c).0 (ap head e)
+      shape : length callers ≡ length before
+      shape = sym (both_length (AllBoth MayAnswer) before callers fit)
 
-module _ (script : List (List Op)) (callers : List Replies) (shape : sizes callers ≡ sizes script) (good : GoodReplies callers) (bytes : List ℕ) where
+      many : length stop.replies ≡ length stop.before
+      many = sym (both_length MayAnswer stop.before stop.replies stop.fit)
+
+      whole : script ≡ before ++ (stop.before ++ stop.line ∷ stop.after) ∷ after
+      whole = cut ∙ ap (λ (ls : List Line). before ++ ls ∷ after) stop.lines_are
+
+      last_open : AllByRecursion CanBeSaidOf stop.after
+      last_open = (open_right stop.before (stop.line ∷ stop.after) (subst (AllByRecursion CanBeSaidOf) stop.lines_are opened)).1
+        where
+          open_right : (a b : List Line) → AllByRecursion CanBeSaidOf (a ++ b) → AllByRecursion CanBeSaidOf b
+          open_right [] b h = h
+          open_right (x ∷ a) b h = open_right a b h.1
+
+      -- a text that goes on with replies begins with one to the line
+      begun : (ls : Lines) → (run : Run) × RepliesLeft script n callers stop.replies run ls → BeginsSaid stop.line ls
+      begun ls h =
+          let g = h.1 in
+          let m = next_left script h.0 before stop.before stop.line stop.after after callers stop.replies g.more g.others whole shape many g.is g.callers_are in
+          let behind : Lines = callers_from (n + 1) g.others ++ map_lines h.0.pairs in
+          (m.0, flat_map said_lines m.1 ++ behind, m.3, g.lines_are ∙ (ap (λ (xs : Replies). flat_map said_lines xs ++ behind) m.2 ∙ append_assoc (said_lines m.0) (flat_map said_lines m.1) behind))
+
+      -- and what may be said of the line is in some run
+      goes_on : (front : Lines) (x : Said) (more : Lines) → IsSaidOf stop.line x → front ++ more ≡ said_lines x → (ls : Lines) × ((run : Run) × RepliesLeft script n callers stop.replies run (front ++ ls))
+      goes_on front x more is e =
+          let left : Replies = map blank stop.after in
+          let behind : Lines = callers_from (n + 1) (blanks after) ++ map_lines [] in
+          let some : Run = record { callers = callers ++ (stop.replies ++ x ∷ left) ∷ blanks after; pairs = [] } in
+          let fits = both_append MayAnswer stop.before (stop.line ∷ stop.after) stop.replies (x ∷ left) stop.fit (is.0, fit_lines stop.after last_open) in (
+            more ++ (flat_map said_lines left ++ behind),
+            (
+              some,
+              record {
+                is = subst (λ (s : List (List Line)). IsRunOf s some) (sym whole)
+                    (filled before ((stop.before ++ stop.line ∷ stop.after) ∷ after) callers ((stop.replies ++ x ∷ left) ∷ blanks after) fit (fits, fit_blanks after can) good
+                    (all_append IsSaid stop.replies (x ∷ left) stop.each (is.1, good_lines stop.after last_open), good_blanks after can));
+                more = x ∷ left;
+                others = blanks after;
+                callers_are = refl;
+                lines_are = sym (append_assoc front more (flat_map said_lines left ++ behind)) ∙ (ap (λ (ls : Lines). ls ++ (flat_map said_lines left ++ behind)) e ∙ sym (append_assoc (said_lines x) (flat_map said_lines left) behind));
+              },
+            ),
+          )
+
+      bad : FirstBad (λ ls. (run : Run) × RepliesLeft script n callers stop.replies run ls) (lines_of stop.rest) stop.more
+      bad =
+          let u = stop.unsaid in
+          let some = u.before in
+          record {
+            place = u.place;
+            before = goes_on (take (stop.more - 1) (lines_of stop.rest)) some.0 some.1 some.2 some.3;
+            refused =
+                elim u.refused [
+                  | inl there ↦ inl (there.0, (λ h. there.1 (h.0, begun (take stop.more (lines_of stop.rest) ++ h.0) h.1)))
+                  | inr end ↦ inr (end.0, (λ h. end.1 (begun (lines_of stop.rest) h)))
+                ];
+          }
+
+module _ (script : List (List Line)) (callers : List Replies) (fit : AreAnswered script callers) (good : GoodReplies callers) (bytes : List ℕ) where
   is_run : (ps : List (ℕ × ℕ)) → AscendFrom 0 ps → IsRunOf script (record { callers = callers; pairs = ps })
-  is_run ps ascend = record { shape = shape; each = good; ascend = ascend }
+  is_run ps ascend = record { answered = fit; each = good; ascend = ascend }
 
   -- no `map`
   pub no_map : (n : ℕ) (rest : List ℕ) (k : ℕ) → ((run : Run) → Reads (SpellsRun script run) (AnswersLeft script n callers run) bytes rest k) → NotFirst (codes "map") (lines_of rest) → FirstBad (AreRun script) (lines_of bytes) (k + 1)
@@ -98,7 +168,7 @@ module _ (script : List (List Op)) (callers : List Replies) (shape : sizes calle
     where
       stuck : (run : Run) (l : List ℕ) (ls more : Lines) → NotFirst (codes "map") (l ∷ ls) → IsRunOf script run → (others : List Replies) → run.callers ≡ callers ++ others → l ∷ more ≡ callers_from n others ++ map_lines run.pairs → ⊥
       stuck run l ls more odd is [] c e = odd (ap head e)
-      stuck run l ls more odd is (o ∷ others) c e = omega (arith, ap (λ (cs : List Replies). length cs) (none_more callers (o ∷ others) script (ap sizes (sym c) ∙ is.shape) shape))
+      stuck run l ls more odd is (o ∷ others) c e = omega (arith, none_more script callers (o ∷ others) fit (subst (AreAnswered script) c is.answered))
 
   -- no `end`
   pub no_end : (ps : List (ℕ × ℕ)) (rest : List ℕ) (k : ℕ) → AscendFrom 0 ps → ((run : Run) → Reads (SpellsRun script run) (PairsLeft script callers ps run) bytes rest k) → NoneFirst (IsPairFrom (next_key 0 ps)) pair_line (lines_of rest) → NotFirst (codes "end") (lines_of rest) → FirstBad (AreRun script) (lines_of bytes) (k + 1)
@@ -127,7 +197,7 @@ module _ (script : List (List Op)) (callers : List Replies) (shape : sizes calle
       let read : Run = record { callers = callers; pairs = ps } in
       subst (SpellsRun script read) (sym (r.lines_are ∙ ap (λ (x : List ℕ). r.front ++ lines_of x) end)) (r.leads.into [] (record { is = is_run ps ascend; run_is = refl; lines_are = refl }))
 
-pub no_other : (script : List (List Op)) (read run : Run) (bytes rest : List ℕ) (k : ℕ) → Reads (SpellsRun script run) (NothingLeft script read run) bytes rest k → rest ≡ [] → SpellsRun script run (lines_of bytes) → run ≡ read
+pub no_other : (script : List (List Line)) (read run : Run) (bytes rest : List ℕ) (k : ℕ) → Reads (SpellsRun script run) (NothingLeft script read run) bytes rest k → rest ≡ [] → SpellsRun script run (lines_of bytes) → run ≡ read
 no_other script read run bytes rest k r end h = (r.leads.only [] (subst (SpellsRun script run) (r.lines_are ∙ ap (λ (x : List ℕ). r.front ++ lines_of x) end) h)).run_is
 
 -- a fault of a part

@@ -1,54 +1,24 @@
 -- Lines of a run that are read one after another.
-use Rattle.ks_script.proofs.Common.{ℕ, ◌≡◌, ◌+◌, ◌^◌, ◌<◌, List, [], ◌∷◌, ◌++◌, length, map, drop, get_or, codes, append-nil, refl, sym, ap, subst, ◌∙◌, append_assoc, arith, length-append, length-map, decimal, AllByRecursion, Op, Reply, Run, reply_word, reply_line, pair_line, callers_from, map_lines, IsAnswered, AscendFrom, IsRunOf, NoDigit, Lines, Leads, Reads, Replies, next_key, IsPairFrom, AnswersLeft, RepliesLeft, PairsLeft, NothingLeft}
+use Rattle.ks_script.proofs.Common.{ℕ, ◌≡◌, ◌+◌, ◌^◌, ◌<◌, List, [], ◌∷◌, ◌++◌, length, map, drop, get_or, codes, append-nil, refl, sym, ap, subst, ◌∙◌, append_assoc, arith, length-append, decimal, AllByRecursion, Line, Said, Run, pair_line, said_lines, callers_from, map_lines, IsSaid, AscendFrom, IsRunOf, Lines, Leads, Reads, IsSaidOf, Replies, next_key, IsPairFrom, AnswersLeft, RepliesLeft, PairsLeft, NothingLeft}
+use Rattle.std.specs.List.{flat_map}
+use Rattle.ks_lines.specs.Lines.{MayAnswer, AllBoth, AreAnswered}
 use Rattle.ks_script.proofs.Numerals.{wide}
-use Rattle.ks_script.proofs.Lined.{number_told}
 use Rattle.ks_script.proofs.CallLines.{one_pair}
-use Rattle.ks_script.proofs.Rows.{follows, one_word}
 use Rattle.ks_script.proofs.Exact.{no_number}
 use Rattle.ks_script.proofs.Texts.{one_caller}
 use Rattle.ks_script.proofs.Steps.{all_right, reads_as}
+use Rattle.ks_script.proofs.Both.{both_length, both_right}
+use Rattle.ks_script.proofs.Saids.{head, one_said}
 
 abbrev pub head_line : ℕ → List ℕ
 head_line n = codes "caller " ++ decimal n
 
-abbrev pub sizes : {X : Type 0} → List (List X) → List ℕ
-sizes xs = map (λ ys. length ys) xs
-
 abbrev pub GoodReplies : List Replies → Type 0
-GoodReplies cs = AllByRecursion (AllByRecursion IsAnswered) cs
-
-abbrev pub head : Lines → List ℕ
-head ls = get_or ls 0 []
-
--- a line spells one reply
-one_reply : (x y : ℕ × Reply) → IsAnswered x → IsAnswered y → reply_line x ≡ reply_line y → x ≡ y
-one_reply x y h k e =
-    let g = number_told x.0 y.0 (codes " " ++ reply_word x.1) (codes " " ++ reply_word y.1) (wide x.0 h.0) (wide y.0 k.0) refl refl (sym (append_assoc (decimal x.0) (codes " ") (reply_word x.1)) ∙ (e ∙ append_assoc (decimal y.0) (codes " ") (reply_word y.1))) in
-    ap (λ (n : ℕ). (n, x.1)) g.0 ∙ ap (λ (r : Reply). (y.0, r)) (one_word x.1 y.1 [] [] h.1 k.1 (follows x.1 [] tt) (follows y.1 [] tt) (ap (λ (word : List ℕ). drop 1 word ++ []) g.1))
+GoodReplies cs = AllByRecursion (AllByRecursion IsSaid) cs
 
 -- a pair is not `end`
 pub end_apart : (x : ℕ × ℕ) → x.0 < 2 ^ 64 → codes "end" ≡ pair_line x → ⊥
 end_apart x h e = no_number x.0 (codes "end") (codes " " ++ decimal x.1) (wide x.0 h) refl (e ∙ append_assoc (decimal x.0) (codes " ") (decimal x.1))
-
--- a reply is no line that begins with another byte than a digit
-reply_apart : (x : ℕ × Reply) (line : List ℕ) → x.0 < 2 ^ 64 → NoDigit line → reply_line x ≡ line → ⊥
-reply_apart x line h free e = no_number x.0 line (codes " " ++ reply_word x.1) (wide x.0 h) free (sym e ∙ append_assoc (decimal x.0) (codes " ") (reply_word x.1))
-
--- lists of as many lists
-pub same_size : {X Y : Type 0} (a : List (List X)) (x : List X) (c : List (List X)) (b : List (List Y)) (y : List Y) (d : List (List Y)) → sizes (a ++ x ∷ c) ≡ sizes (b ++ y ∷ d) → sizes a ≡ sizes b → length x ≡ length y
-same_size [] x c [] y d e f = ap (λ (ns : List ℕ). get_or ns 0 0) e
-same_size [] x c (z ∷ b) y d e f = absurd (omega (arith, ap (λ (ns : List ℕ). length ns) f))
-same_size (w ∷ a) x c [] y d e f = absurd (omega (arith, ap (λ (ns : List ℕ). length ns) f))
-same_size (w ∷ a) x c (z ∷ b) y d e f = same_size a x c b y d (ap (λ (ns : List ℕ). drop 1 ns) e) (ap (λ (ns : List ℕ). drop 1 ns) f)
-
-pub none_more : {X Y : Type 0} (a c : List (List X)) (b : List (List Y)) → sizes (a ++ c) ≡ sizes b → sizes a ≡ sizes b → c ≡ []
-none_more a [] b e f = refl
-none_more a (x ∷ c) b e f =
-    absurd (omega (arith, ap (λ (ns : List ℕ). length ns) e, ap (λ (ns : List ℕ). length ns) f, length-map (a ++ x ∷ c) (λ ys. length ys), length-map b (λ ys. length ys), length-map a (λ ys. length ys), length-append a (x ∷ c)))
-
-pub more_left : {X Y : Type 0} (a : List (List X)) (b : List (List Y)) (y : List Y) (d : List (List Y)) → sizes (a ++ []) ≡ sizes (b ++ y ∷ d) → sizes a ≡ sizes b → ⊥
-more_left a b y d e f =
-    omega (arith, ap (λ (ns : List ℕ). length ns) e, ap (λ (ns : List ℕ). length ns) f, length-map (a ++ []) (λ ys. length ys), length-map (b ++ y ∷ d) (λ ys. length ys), length-map a (λ ys. length ys), length-map b (λ ys. length ys), length-append a [], length-append b (y ∷ d))
 
 -- pairs that ascend
 pub ascend_right : (n : ℕ) (ps more : List (ℕ × ℕ)) → AscendFrom n (ps ++ more) → AscendFrom (next_key n ps) more
@@ -63,7 +33,7 @@ pub next_key_push : (n : ℕ) (ps : List (ℕ × ℕ)) (x : ℕ × ℕ) → next
 next_key_push n [] x = refl
 next_key_push n (p ∷ ps) x = next_key_push (p.0 + 1) ps x
 
-module _ (script : List (List Op)) (run : Run) where
+module _ (script : List (List Line)) (run : Run) where
   -- `caller`, with the number of the next one
   opened : (n : ℕ) (callers others : List Replies) (ls : Lines) → IsRunOf script run → run.callers ≡ callers ++ others → head_line n ∷ ls ≡ callers_from n others ++ map_lines run.pairs → RepliesLeft script n callers [] run ls
   opened n callers [] ls is c e = absurd (omega (arith, ap (λ (ls : Lines). get_or (get_or ls 0 []) 0 0) e))
@@ -86,46 +56,58 @@ module _ (script : List (List Op)) (run : Run) where
     only = λ ls h. opened n callers h.others ls h.is h.callers_are h.lines_are;
   }
 
-  -- a reply
-  pub each_left : (callers : List Replies) (rs more : Replies) (others : List Replies) → IsRunOf script run → run.callers ≡ callers ++ (rs ++ more) ∷ others → AllByRecursion IsAnswered more
-  each_left callers rs more others is c = all_right IsAnswered rs more (all_right (AllByRecursion IsAnswered) callers ((rs ++ more) ∷ others) (subst GoodReplies c is.each)).0
+  -- what is said of the lines of a caller
+  pub each_left : (callers : List Replies) (rs more : Replies) (others : List Replies) → IsRunOf script run → run.callers ≡ callers ++ (rs ++ more) ∷ others → AllByRecursion IsSaid more
+  each_left callers rs more others is c = all_right IsSaid rs more (all_right (AllByRecursion IsSaid) callers ((rs ++ more) ∷ others) (subst GoodReplies c is.each)).0
 
-  replied : (n : ℕ) (callers : List Replies) (rs : Replies) (x : ℕ × Reply) (more : Replies) (others : List Replies) (ls : Lines) → IsAnswered x → IsRunOf script run → run.callers ≡ callers ++ (rs ++ more) ∷ others → reply_line x ∷ ls ≡ map reply_line more ++ (callers_from (n + 1) others ++ map_lines run.pairs) → RepliesLeft script n callers (rs ++ x ∷ []) run ls
-  replied n callers rs x [] [] ls good is c e = absurd (reply_apart x (codes "map") good.0 refl (ap head e))
-  replied n callers rs x [] (o ∷ others) ls good is c e = absurd (reply_apart x (head_line (n + 1)) good.0 refl (ap head e))
-  replied n callers rs x (m ∷ more) others ls good is c e =
-      let same : m ≡ x = one_reply m x (each_left callers rs (m ∷ more) others is c).0 good (sym (ap head e)) in
-      record {
-        is = is;
-        more = more;
-        others = others;
-        callers_are = c ∙ ap (λ (xs : Replies). callers ++ xs ∷ others) (ap (λ (z : ℕ × Reply). rs ++ z ∷ more) same ∙ sym (append_assoc rs (x ∷ []) more));
-        lines_are = ap (λ (ls : Lines). drop 1 ls) e;
-      }
+  pub fit_left : (before : List (List Line)) (lines : List Line) (after : List (List Line)) (callers : List Replies) (rs more : Replies) (others : List Replies) → script ≡ before ++ lines ∷ after → length callers ≡ length before → IsRunOf script run → run.callers ≡ callers ++ (rs ++ more) ∷ others → AllBoth MayAnswer lines (rs ++ more)
+  fit_left before lines after callers rs more others cut shape is c =
+      (both_right (AllBoth MayAnswer) before (lines ∷ after) callers ((rs ++ more) ∷ others) (sym shape)
+      (subst (λ (s : List (List Line)). AreAnswered s (callers ++ (rs ++ more) ∷ others)) cut (subst (AreAnswered script) c is.answered))).0
 
-  pub reply_step : (n : ℕ) (callers : List Replies) (rs : Replies) (x : ℕ × Reply) → IsAnswered x → Leads (RepliesLeft script n callers rs run) (RepliesLeft script n callers (rs ++ x ∷ []) run) (reply_line x ∷ [])
-  reply_step n callers rs x good = record {
+  -- of the next one something is said
+  pub next_left : (before : List (List Line)) (first : List Line) (line : Line) (last : List Line) (after : List (List Line)) (callers : List Replies) (rs more : Replies) (others : List Replies) → script ≡ before ++ (first ++ line ∷ last) ∷ after → length callers ≡ length before → length rs ≡ length first → IsRunOf script run → run.callers ≡ callers ++ (rs ++ more) ∷ others →
+      (x : Said) × (xs : Replies) × (more ≡ x ∷ xs) × IsSaidOf line x
+  next_left before first line last after callers rs [] others cut shape many is c =
+      absurd (omega (arith, both_length MayAnswer (first ++ line ∷ last) (rs ++ []) (fit_left before (first ++ line ∷ last) after callers rs [] others cut shape is c), length-append first (line ∷ last), length-append rs []))
+  next_left before first line last after callers rs (m ∷ more) others cut shape many is c = (
+    m,
+    more,
+    refl,
+    ((both_right MayAnswer first (line ∷ last) rs (m ∷ more) (sym many) (fit_left before (first ++ line ∷ last) after callers rs (m ∷ more) others cut shape is c)).0, (each_left callers rs (m ∷ more) others is c).0),
+  )
+
+  abbrev behind : ℕ → List Replies → Lines
+  behind n others = callers_from (n + 1) others ++ map_lines run.pairs
+
+  pub said_step : (before : List (List Line)) (first : List Line) (line : Line) (last : List Line) (after : List (List Line)) (n : ℕ) (callers : List Replies) (rs : Replies) (x : Said) → script ≡ before ++ (first ++ line ∷ last) ∷ after → length callers ≡ length before → length rs ≡ length first → IsSaidOf line x → Leads (RepliesLeft script n callers rs run) (RepliesLeft script n callers (rs ++ x ∷ []) run) (said_lines x)
+  said_step before first line last after n callers rs x cut shape many good = record {
     into = λ ls h. record {
       is = h.is;
       more = x ∷ h.more;
       others = h.others;
       callers_are = h.callers_are ∙ ap (λ (xs : Replies). callers ++ xs ∷ h.others) (append_assoc rs (x ∷ []) h.more);
-      lines_are = ap (λ (ls : Lines). reply_line x ∷ ls) h.lines_are;
+      lines_are = ap (λ (ls : Lines). said_lines x ++ ls) h.lines_are ∙ sym (append_assoc (said_lines x) (flat_map said_lines h.more) (behind n h.others));
     };
-    only = λ ls h. replied n callers rs x h.more h.others ls good h.is h.callers_are h.lines_are;
+    only = λ ls h.
+        let m = next_left before first line last after callers rs h.more h.others cut shape many h.is h.callers_are in
+        let g = one_said line x m.0 ls (flat_map said_lines m.1 ++ behind n h.others) good m.3 (h.lines_are ∙ (ap (λ (xs : Replies). flat_map said_lines xs ++ behind n h.others) m.2 ∙ append_assoc (said_lines m.0) (flat_map said_lines m.1) (behind n h.others))) in
+        record {
+          is = h.is;
+          more = m.1;
+          others = h.others;
+          callers_are = h.callers_are ∙ ap (λ (xs : Replies). callers ++ xs ∷ h.others) (ap (λ (xs : Replies). rs ++ xs) m.2 ∙ (ap (λ (z : Said). rs ++ z ∷ m.1) (sym g.0) ∙ sym (append_assoc rs (x ∷ []) m.1)));
+          lines_are = g.1;
+        };
   }
 
-  -- a caller has all of its replies
-  pub none_left : (before : List (List Op)) (ops : List Op) (after : List (List Op)) (callers : List Replies) (rs more : Replies) (others : List Replies) → script ≡ before ++ ops ∷ after → sizes callers ≡ sizes before → IsRunOf script run → run.callers ≡ callers ++ (rs ++ more) ∷ others → length rs + length more ≡ length ops
-  none_left before ops after callers rs more others cut shape is c =
-      omega (arith, length-append rs more, same_size callers (rs ++ more) others before ops after (ap sizes (sym c) ∙ (is.shape ∙ ap sizes cut)) shape)
-
-  closed_to : (before : List (List Op)) (ops : List Op) (after : List (List Op)) (n : ℕ) (callers : List Replies) (rs : Replies) (ls : Lines) → script ≡ before ++ ops ∷ after → sizes callers ≡ sizes before → length rs ≡ length ops → RepliesLeft script n callers rs run ls → AnswersLeft script (n + 1) (callers ++ rs ∷ []) run ls
-  closed_to before ops after n callers rs ls cut shape full h = by_more h.more h.others h.callers_are h.lines_are
+  -- of all lines of a caller something is said
+  closed_to : (before : List (List Line)) (lines : List Line) (after : List (List Line)) (n : ℕ) (callers : List Replies) (rs : Replies) (ls : Lines) → script ≡ before ++ lines ∷ after → length callers ≡ length before → length rs ≡ length lines → RepliesLeft script n callers rs run ls → AnswersLeft script (n + 1) (callers ++ rs ∷ []) run ls
+  closed_to before lines after n callers rs ls cut shape full h = by_more h.more h.others h.callers_are h.lines_are
     where
-      by_more : (more : Replies) (others : List Replies) → run.callers ≡ callers ++ (rs ++ more) ∷ others → ls ≡ map reply_line more ++ (callers_from (n + 1) others ++ map_lines run.pairs) → AnswersLeft script (n + 1) (callers ++ rs ∷ []) run ls
+      by_more : (more : Replies) (others : List Replies) → run.callers ≡ callers ++ (rs ++ more) ∷ others → ls ≡ flat_map said_lines more ++ (callers_from (n + 1) others ++ map_lines run.pairs) → AnswersLeft script (n + 1) (callers ++ rs ∷ []) run ls
       by_more [] others c e = record { is = h.is; others = others; callers_are = c ∙ (ap (λ (xs : Replies). callers ++ xs ∷ others) (append-nil rs) ∙ sym (append_assoc callers (rs ∷ []) others)); lines_are = e }
-      by_more (m ∷ more) others c e = absurd (omega (arith, none_left before ops after callers rs (m ∷ more) others cut shape h.is c))
+      by_more (m ∷ more) others c e = absurd (omega (arith, both_length MayAnswer lines (rs ++ m ∷ more) (fit_left before lines after callers rs (m ∷ more) others cut shape h.is c), length-append rs (m ∷ more)))
 
   closed_from : (n : ℕ) (callers : List Replies) (rs : Replies) (ls : Lines) → AnswersLeft script (n + 1) (callers ++ rs ∷ []) run ls → RepliesLeft script n callers rs run ls
   closed_from n callers rs ls h = record {
@@ -136,10 +118,10 @@ module _ (script : List (List Op)) (run : Run) where
     lines_are = h.lines_are;
   }
 
-  pub closed : (before : List (List Op)) (ops : List Op) (after : List (List Op)) (n : ℕ) (callers : List Replies) (rs : Replies) (bytes rest : List ℕ) (k : ℕ) (G : Lines → Type 0) → script ≡ before ++ ops ∷ after → sizes callers ≡ sizes before → length rs ≡ length ops → Reads G (RepliesLeft script n callers rs run) bytes rest k → Reads G (AnswersLeft script (n + 1) (callers ++ rs ∷ []) run) bytes rest k
-  closed before ops after n callers rs bytes rest k G cut shape full r =
+  pub closed : (before : List (List Line)) (lines : List Line) (after : List (List Line)) (n : ℕ) (callers : List Replies) (rs : Replies) (bytes rest : List ℕ) (k : ℕ) (G : Lines → Type 0) → script ≡ before ++ lines ∷ after → length callers ≡ length before → length rs ≡ length lines → Reads G (RepliesLeft script n callers rs run) bytes rest k → Reads G (AnswersLeft script (n + 1) (callers ++ rs ∷ []) run) bytes rest k
+  closed before lines after n callers rs bytes rest k G cut shape full r =
       reads_as G (RepliesLeft script n callers rs run) G (AnswersLeft script (n + 1) (callers ++ rs ∷ []) run) bytes rest k (λ ls h. h) (λ ls h. h)
-      (λ ls h. closed_to before ops after n callers rs ls cut shape full h) (λ ls h. closed_from n callers rs ls h) r
+      (λ ls h. closed_to before lines after n callers rs ls cut shape full h) (λ ls h. closed_from n callers rs ls h) r
 
   -- `map`
   mapped : (n : ℕ) (callers others : List Replies) (ls : Lines) → IsRunOf script run → run.callers ≡ callers ++ others → codes "map" ∷ ls ≡ callers_from n others ++ map_lines run.pairs → PairsLeft script callers [] run ls

@@ -1,10 +1,16 @@
 -- Texts and their lines, there and back.
-use Rattle.ks_script.proofs.Common.{ℕ, ◌≡◌, ◌⊎◌, ◌+◌, ◌^◌, ◌<◌, ◌≤◌, false, eqb, List, [], ◌∷◌, ◌++◌, length, map, refl, sym, ap, subst, ◌∙◌, append_assoc, arith, codes, inl, inr, length-append, length-map, false≢true, eq-eqb, or_parts, decimal, AllByRecursion, onto_first, Op, Reply, Version, First, Second, lines_of, text_of, Lacks, version_line, callers_limit, IsCall, IsScript, call_line, script_lines, Run, reply_word, reply_line, pair_line, callers_from, map_lines, run_lines, IsReply, IsAnswered, AscendFrom, IsRunOf, CheckedIn}
+use Rattle.ks_script.proofs.Common.{ℕ, ◌≡◌, ◌⊎◌, ◌+◌, ◌^◌, ◌<◌, ◌≤◌, false, eqb, List, [], ◌∷◌, ◌++◌, length, map, refl, sym, ap, subst, ◌∙◌, append_assoc, arith, codes, inl, inr, length-append, false≢true, eq-eqb, or_parts, decimal, AllByRecursion, onto_first, Line, Reply, Version, First, Second, Third, Fourth, lines_of, text_of, Lacks, version_line, callers_limit, IsLineOf, IsScript, line_text, script_lines, Run, Said, Scanned, Pair, reply_word, reply_line, pair_line, pair_words, part_line, stop_line, said_lines, callers_from, map_lines, run_lines, IsReply, IsAnswered, IsPair, IsPart, IsStop, IsSaid, AscendFrom, IsRunOf, CheckedIn}
+use Rattle.std.specs.List.{flat_map}
+use Rattle.ks_lines.specs.Lines.{AllBoth, MayAnswer}
+use Rattle.ks_lines.specs.declared.parts.Part.{Part}
+use Rattle.ks_lines.specs.declared.Said.TheVariants as said
+use Rattle.ks_lines.specs.declared.Scanned.TheVariants as stopped
 use Rattle.ks_script.proofs.Numerals.{wide}
 use Rattle.ks_script.proofs.Cuts.{lines_cases, lines_first, decimal_lacks}
-use Rattle.ks_script.proofs.CallLines.{first, stands, AreSmall, numbers, kind, spelled}
+use Rattle.ks_script.proofs.CallLines.{stands, AreSmall, numbers, kind, spelled}
 use Rattle.ks_script.proofs.Rows.{by_word, follows}
 use Rattle.ks_script.proofs.Steps.{all_append}
+use Rattle.ks_script.proofs.Both.{both_length}
 
 pub lacks_by : (c : ℕ) (bytes : List ℕ) → stands c bytes ≡ false → Lacks c bytes
 lacks_by c [] h = tt
@@ -31,6 +37,9 @@ value n h = decimal_lacks 10 refl n h
 spaced : (a b : List ℕ) → Lacks 10 a → Lacks 10 b → Lacks 10 (a ++ codes " " ++ b)
 spaced a b h k = lacks_append 10 (a ++ codes " ") b (lacks_append 10 a (codes " ") h (lacks_by 10 (codes " ") refl)) k
 
+pub plain_numbered : (front : List ℕ) (n : ℕ) → Lacks 10 front → n < 2 ^ 64 → Lacks 10 (front ++ decimal n)
+plain_numbered front n h k = lacks_append 10 front (decimal n) h (number n k)
+
 pub plain_caller : (n : ℕ) → n < 2 ^ 64 → Lacks 10 (codes "caller " ++ decimal n)
 plain_caller n h = lacks_append 10 (codes "caller ") (decimal n) (lacks_by 10 (codes "caller ") refl) (number n h)
 
@@ -38,18 +47,20 @@ plain_numbers : (ns : List ℕ) → AreSmall ns → Lacks 10 (numbers ns)
 plain_numbers [] h = tt
 plain_numbers (n ∷ ns) h = ((λ e. omega (arith, e)), lacks_append 10 (decimal n) (numbers ns) (value n h.0) (plain_numbers ns h.1))
 
-pub plain_call : (version : Version) (op : Op) → IsCall version op → Lacks 10 (call_line op)
-plain_call version op h =
-    let s = spelled version op h in
-    subst (Lacks 10) (sym s.line) (lacks_append 10 (kind (first (call_line op))).0 (numbers s.ns) (lacks_by 10 (kind (first (call_line op))).0 s.plain) (plain_numbers s.ns s.small))
+pub plain_line : (version : Version) (l : Line) → IsLineOf version l → Lacks 10 (line_text l)
+plain_line version l h =
+    let s = spelled version l h in
+    subst (Lacks 10) (sym s.line) (lacks_append 10 (kind (line_text l)).0 (numbers s.ns) (lacks_by 10 (kind (line_text l)).0 s.plain) (plain_numbers s.ns s.small))
 
-pub plain_script : (version : Version) (s : List (List Op)) → AllByRecursion (AllByRecursion (IsCall version)) s → Plain (script_lines s)
+pub plain_script : (version : Version) (s : List (List Line)) → AllByRecursion (AllByRecursion (IsLineOf version)) s → Plain (script_lines s)
 plain_script version [] h = tt
-plain_script version (ops ∷ s) h = (lacks_by 10 (codes "caller") refl, all_append (Lacks 10) (map call_line ops) (script_lines s) (plain_each (IsCall version) call_line (plain_call version) ops h.0) (plain_script version s h.1))
+plain_script version (ls ∷ s) h = (lacks_by 10 (codes "caller") refl, all_append (Lacks 10) (map line_text ls) (script_lines s) (plain_each (IsLineOf version) line_text (plain_line version) ls h.0) (plain_script version s h.1))
 
 pub plain_version : (version : Version) → Plain (version_line version)
 plain_version First = tt
 plain_version Second = (lacks_by 10 (codes "script 2") refl, tt)
+plain_version Third = (lacks_by 10 (codes "script 3") refl, tt)
+plain_version Fourth = (lacks_by 10 (codes "script 4") refl, tt)
 
 plain_word : (r : Reply) → IsReply r → Lacks 10 (reply_word r)
 plain_word r h =
@@ -64,15 +75,34 @@ plain_reply x h = spaced (decimal x.0) (reply_word x.1) (number x.0 h.0) (plain_
 pub plain_pair : (x : ℕ × ℕ) → x.0 < 2 ^ 64 → x.1 < 2 ^ 128 → Lacks 10 (pair_line x)
 plain_pair x k v = spaced (decimal x.0) (decimal x.1) (number x.0 k) (value x.1 v)
 
+plain_words : (ps : List Pair) → AllByRecursion IsPair ps → Lacks 10 (pair_words ps)
+plain_words [] h = tt
+plain_words (p ∷ ps) h = ((λ e. omega (arith, e)), lacks_append 10 (pair_line (p.place, p.value)) (pair_words ps) (plain_pair (p.place, p.value) h.0.0 h.0.1) (plain_words ps h.1))
+
+pub plain_part : (part : Part) → IsPart part → Lacks 10 (part_line part)
+plain_part part h = lacks_append 10 (pair_line (part.number, part.last)) (pair_words part.pairs) (plain_pair (part.number, part.last) h.0 (wide part.last h.1)) (plain_words part.pairs h.3)
+
+plain_stop : (stop : Scanned) → IsStop stop → Lacks 10 (stop_line stop)
+plain_stop stopped.Whole h = lacks_by 10 (codes "whole") refl
+plain_stop (stopped.Until next) h = plain_numbered (codes "until ") next (lacks_by 10 (codes "until ") refl) h
+
+plain_said : (x : Said) → IsSaid x → Plain (said_lines x)
+plain_said (said.Call n reply) h = (plain_reply (n, reply) h, tt)
+plain_said (said.Scan parts stop) h = all_append (Lacks 10) (map part_line parts) (stop_line stop ∷ []) (plain_each IsPart part_line plain_part parts h.0) (plain_stop stop h.1, tt)
+
+plain_saids : (xs : List Said) → AllByRecursion IsSaid xs → Plain (flat_map said_lines xs)
+plain_saids [] h = tt
+plain_saids (x ∷ xs) h = all_append (Lacks 10) (said_lines x) (flat_map said_lines xs) (plain_said x h.0) (plain_saids xs h.1)
+
 pub plain_pairs : (n : ℕ) (ps : List (ℕ × ℕ)) → AscendFrom n ps → Plain (map pair_line ps)
 plain_pairs n [] h = tt
 plain_pairs n (p ∷ ps) h = (plain_pair p h.1 h.2, plain_pairs (p.0 + 1) ps h.3)
 
-pub plain_callers : (n : ℕ) (cs : List (List (ℕ × Reply))) → n + length cs ≤ 1024 → AllByRecursion (AllByRecursion IsAnswered) cs → Plain (callers_from n cs)
+pub plain_callers : (n : ℕ) (cs : List (List Said)) → n + length cs ≤ 1024 → AllByRecursion (AllByRecursion IsSaid) cs → Plain (callers_from n cs)
 plain_callers n [] few h = tt
 plain_callers n (c ∷ cs) few h = (
   plain_caller n (omega arith),
-  all_append (Lacks 10) (map reply_line c) (callers_from (n + 1) cs) (plain_each IsAnswered reply_line plain_reply c h.0) (plain_callers (n + 1) cs (omega arith) h.1),
+  all_append (Lacks 10) (flat_map said_lines c) (callers_from (n + 1) cs) (plain_saids c h.0) (plain_callers (n + 1) cs (omega arith) h.1),
 )
 
 pub plain_map : (ps : List (ℕ × ℕ)) → AscendFrom 0 ps → Plain (map_lines ps)
@@ -86,16 +116,18 @@ lines_again (l ∷ ls) h = ap lines_of (append_assoc l (10 ∷ []) (text_of ls))
 pub few_callers : (version : Version) (n : ℕ) → n ≤ callers_limit version → n ≤ 1024
 few_callers First n h = omega arith
 few_callers Second n h = h
+few_callers Third n h = h
+few_callers Fourth n h = h
 
-pub plain_whole : (version : Version) (s : List (List Op)) (run : Run) → IsScript version s → IsRunOf s run → Plain (version_line version ++ (script_lines s ++ codes "run" ∷ run_lines run))
+pub plain_whole : (version : Version) (s : List (List Line)) (run : Run) → IsScript version s → IsRunOf s run → Plain (version_line version ++ (script_lines s ++ codes "run" ∷ run_lines run))
 plain_whole version s run is of =
-    let many : length run.callers ≡ length s = sym (length-map run.callers (λ (ls : List (ℕ × Reply)). length ls)) ∙ (ap (λ (ns : List ℕ). length ns) of.shape ∙ length-map s (λ (ops : List Op). length ops)) in
+    let many : length s ≡ length run.callers = both_length (AllBoth MayAnswer) s run.callers of.answered in
     let few : 0 + length run.callers ≤ 1024 = (let m = few_callers version (length s) is.callers in omega arith) in
     all_append (Lacks 10) (version_line version) (script_lines s ++ codes "run" ∷ run_lines run) (plain_version version)
     (all_append (Lacks 10) (script_lines s) (codes "run" ∷ run_lines run) (plain_script version s is.each)
     (lacks_by 10 (codes "run") refl, all_append (Lacks 10) (callers_from 0 run.callers) (map_lines run.pairs) (plain_callers 0 run.callers few of.each) (plain_map run.pairs of.ascend)))
 
-pub written_read : (version : Version) (s : List (List Op)) (run : Run) → IsScript version s → IsRunOf s run → CheckedIn version (text_of (version_line version ++ (script_lines s ++ codes "run" ∷ run_lines run))) s run
+pub written_read : (version : Version) (s : List (List Line)) (run : Run) → IsScript version s → IsRunOf s run → CheckedIn version (text_of (version_line version ++ (script_lines s ++ codes "run" ∷ run_lines run))) s run
 written_read version s run is of = record {
   is_script = is;
   is_run = of;

@@ -1,2 +1,3 @@
 -- Laws: no clause of a call uses them; proofs of the crates above cite them.
 pub mod Asked
+pub mod Printable

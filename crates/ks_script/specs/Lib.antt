@@ -5,6 +5,8 @@ pub mod Ahead
 pub mod Version
 pub mod Script
 pub mod ScriptTexts
+pub mod Unfit
+pub mod Unserved
 pub mod Run
 pub mod Plain
 pub mod Reading
@@ -20,6 +22,7 @@ pub mod Numeral
 pub mod Reads
 pub mod Left
 pub mod Lined
+pub mod SaidLeft
 pub mod RunLeft
 pub mod Pieces
 pub mod Laws

@@ -1,24 +1,25 @@
--- What the small calls of a caller represent.
+-- What the small calls of a caller represent, which are its lines.
 use Rattle.std.specs.Prelude.{◌≡◌, ◌<◌, length, slice_index_or, ⊤}
-use Rattle.ks_history.specs.declared.Op.{Op}
 use Rattle.ks_history.specs.declared.Op.TheVariants as op
+use Rattle.ks_lines.specs.declared.Line.{Line}
+use Rattle.ks_lines.specs.declared.Line.TheVariants.{Call}
 use Rattle.ks_script.specs.declared.packed_calls.LongCalls.{LongCalls}
 use Rattle.ks_script.specs.declared.packed_calls.SmallCall.{SmallCall}
 use Rattle.ks_script.specs.declared.packed_calls.SmallCall.TheVariants.{Get, Put, Del, LongGet, LongPut, LongDel, WidePut, Other}
 use Rattle.ks_script.specs.Parts.{joined}
 
--- the call that a small one represents, beside the longer ones
-abbrev pub call_in : LongCalls → SmallCall → Op
-call_in long (Get key) = op.Get key
-call_in long (Put high low value) = op.Put (joined high low) value
-call_in long (Del key) = op.Del key
-call_in long (LongGet at) = op.Get (slice_index_or long.pairs.items at (0, 0)).0
-call_in long (LongPut at) = op.Put (slice_index_or long.pairs.items at (0, 0)).0 (slice_index_or long.pairs.items at (0, 0)).1
-call_in long (LongDel at) = op.Del (slice_index_or long.pairs.items at (0, 0)).0
-call_in long (WidePut at) = op.Put (slice_index_or long.wides.items at (0, 0)).0 (slice_index_or long.wides.items at (0, 0)).1
-call_in long (Other at) = slice_index_or long.others.items at (op.Get 0)
+-- the line that a small call represents, beside the longer ones
+abbrev pub call_in : LongCalls → SmallCall → Line
+call_in long (Get key) = Call (op.Get key)
+call_in long (Put high low value) = Call (op.Put (joined high low) value)
+call_in long (Del key) = Call (op.Del key)
+call_in long (LongGet at) = Call (op.Get (slice_index_or long.pairs.items at (0, 0)).0)
+call_in long (LongPut at) = Call (op.Put (slice_index_or long.pairs.items at (0, 0)).0 (slice_index_or long.pairs.items at (0, 0)).1)
+call_in long (LongDel at) = Call (op.Del (slice_index_or long.pairs.items at (0, 0)).0)
+call_in long (WidePut at) = Call (op.Put (slice_index_or long.wides.items at (0, 0)).0 (slice_index_or long.wides.items at (0, 0)).1)
+call_in long (Other at) = slice_index_or long.others.items at (Call (op.Get 0))
 
--- where it names a place, a call is there
+-- where it names a place, a line is there
 abbrev pub IsCallIn : LongCalls → SmallCall → Type 0
 IsCallIn long (Get key) = ⊤
 IsCallIn long (Put high low value) = ⊤
@@ -29,6 +30,6 @@ IsCallIn long (LongDel at) = at < length long.pairs.items
 IsCallIn long (WidePut at) = at < length long.wides.items
 IsCallIn long (Other at) = at < length long.others.items
 
--- what represented a call still does
+-- what represented a line still does
 abbrev pub KeepsCalls : LongCalls → LongCalls → Type 0
 KeepsCalls old new = (s : SmallCall) → IsCallIn old s → IsCallIn new s × (call_in new s ≡ call_in old s)

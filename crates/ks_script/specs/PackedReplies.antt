@@ -1,31 +1,31 @@
--- What the small replies to a caller represent.
-use Rattle.std.specs.Prelude.{ℕ, ◌≡◌, ◌<◌, length, slice_index_or, ⊤}
-use Rattle.ks_history.specs.declared.Reply.{Reply}
+-- What the small entries of a caller represent.
+use Rattle.std.specs.Prelude.{ℕ, ◌≡◌, ◌<◌, List, length, slice_index_or, ⊤}
 use Rattle.ks_history.specs.declared.Reply.TheVariants as reply
-use Rattle.ks_script.specs.declared.packed_replies.LongReplies.{LongReplies}
+use Rattle.ks_lines.specs.declared.Said.{Said}
+use Rattle.ks_lines.specs.declared.Said.TheVariants as said
 use Rattle.ks_script.specs.declared.packed_replies.SmallReply.{SmallReply}
-use Rattle.ks_script.specs.declared.packed_replies.SmallReply.TheVariants.{Nothing, Value, Full, LongValue, WideValue, Other}
+use Rattle.ks_script.specs.declared.packed_replies.SmallReply.TheVariants.{Nothing, Value, Full, Other}
 use Rattle.ks_script.specs.Parts.{joined}
-use Rattle.ks_script.specs.Plain.{IsPlain}
+use Rattle.ks_script.specs.Plain.{IsPrintable}
 
--- the number and the reply that a small one represents, beside what the longer ones say
-abbrev pub reply_in : LongReplies → SmallReply → ℕ × Reply
-reply_in long (Nothing number) = (number, reply.Nothing)
-reply_in long (Value high low value) = (joined high low, reply.Value value)
-reply_in long (Full number) = (number, reply.Full)
-reply_in long (LongValue high low at) = (joined high low, reply.Value (slice_index_or long.values.items at 0))
-reply_in long (WideValue high low at) = (joined high low, reply.Value (slice_index_or long.wides.items at 0))
-reply_in long (Other at) = slice_index_or long.others.items at (0, reply.Nothing)
+-- what is said at a place; the number 0 and no value past the end
+abbrev pub said_at : List Said → ℕ → Said
+said_at all at = slice_index_or all at (said.Call 0 reply.Nothing)
 
--- where it names a place, a value is there, or a plain reply
-abbrev pub IsReplyIn : LongReplies → SmallReply → Type 0
-IsReplyIn long (Nothing number) = ⊤
-IsReplyIn long (Value high low value) = ⊤
-IsReplyIn long (Full number) = ⊤
-IsReplyIn long (LongValue high low at) = at < length long.values.items
-IsReplyIn long (WideValue high low at) = at < length long.wides.items
-IsReplyIn long (Other at) = (at < length long.others.items) × IsPlain (slice_index_or long.others.items at (0, reply.Nothing)).1
+-- what a small entry represents, beside the others
+abbrev pub said_in : List Said → SmallReply → Said
+said_in others (Nothing number) = said.Call number reply.Nothing
+said_in others (Value high low value) = said.Call (joined high low) (reply.Value value)
+said_in others (Full number) = said.Call number reply.Full
+said_in others (Other at) = said_at others at
 
--- what represented a reply still does
-abbrev pub KeepsReplies : LongReplies → LongReplies → Type 0
-KeepsReplies old new = (s : SmallReply) → IsReplyIn old s → IsReplyIn new s × (reply_in new s ≡ reply_in old s)
+-- where it names a place, something that can be printed is there
+abbrev pub IsSaidIn : List Said → SmallReply → Type 0
+IsSaidIn others (Nothing number) = ⊤
+IsSaidIn others (Value high low value) = ⊤
+IsSaidIn others (Full number) = ⊤
+IsSaidIn others (Other at) = (at < length others) × IsPrintable (said_at others at)
+
+-- what an entry represented it still does
+abbrev pub KeepsReplies : List Said → List Said → Type 0
+KeepsReplies old new = (s : SmallReply) → IsSaidIn old s → IsSaidIn new s × (said_in new s ≡ said_in old s)

@@ -1,7 +1,7 @@
 //! What is checked: a script, and a printed run of it, in one text.
 
 ghost use Rattle.std.specs.Prelude.{ℕ, ◌≡◌, Ok, Err, List, IfOk};
-ghost use Rattle.ks_history.specs.declared.Op.{Op};
+ghost use Rattle.ks_lines.specs.declared.Line.{Line};
 ghost use Rattle.ks_script.specs.Run.{Run};
 ghost use Rattle.ks_script.specs.Checked.{CheckedOf};
 ghost use Rattle.ks_script.specs.CheckedTexts.{FirstBadOfChecked};
@@ -18,7 +18,7 @@ use std::alloc::Global;
 pub fn read_checked(alloc: Global, bytes: &[u8]) -> Result<(Script, Printed), TextFault>
     ensures answer { Answers result (λ x. CheckedOf bytes.now x.0 x.1) (FirstBadOfChecked bytes.now) }
     // What is such a text is read, and a line that does not fit is refused, unless memory runs out.
-    ensures checked { (script : List (List Op)) (run : Run) → CheckedOf bytes.now script run →
+    ensures checked { (script : List (List Line)) (run : Run) → CheckedOf bytes.now script run →
         Gives result (Ok (script, run)) }
     ensures refused { (n : ℕ) → FirstBadOfChecked bytes.now n → Gives result (Err (TextFault.Refused n)) }
 {
@@ -27,7 +27,7 @@ pub fn read_checked(alloc: Global, bytes: &[u8]) -> Result<(Script, Printed), Te
 
 fn read_both(alloc: Global, bytes: &[u8]) -> Result<(Script, Printed), TextFault>
     ensures answer { Answers result (λ x. CheckedOf bytes.now x.0 x.1) (FirstBadOfChecked bytes.now) }
-    ensures only { IfOk result (λ x. (script : List (List Op)) (run : Run) → CheckedOf bytes.now script run →
+    ensures only { IfOk result (λ x. (script : List (List Line)) (run : Run) → CheckedOf bytes.now script run →
         (script ≡ x.0) × (run ≡ x.1)) }
 {
     let front = callers(alloc, bytes)?;

@@ -25,8 +25,11 @@ mod pieces;
 mod printed;
 mod reader;
 mod runs;
+mod scan_lines;
+mod scan_pieces;
 mod script;
 mod source;
+mod unfit;
 mod version;
 
 pub use checked::read_checked;

@@ -1,13 +1,15 @@
-//! The calls of one caller in little room: 8 bytes for a Get or a Del of a key below 2^32, and for a Put of a key below
+//! The lines of one caller in little room: 8 bytes for a Get or a Del of a key below 2^32, and for a Put of a key below
 //! 2^24 and a value below 2^32; of others 8 bytes say where they are in a list of their kind.
 
 ghost use Rattle.std.specs.Prelude.{ℕ, ◌≡◌, ◌<◌, List, [], ◌∷◌, ◌++◌, length, slice_index_or, IfOk, IfSome, OnOk, OnErr};
 ghost use Rattle.ks_history.specs.declared.Op.TheVariants.{Get};
+ghost use Rattle.ks_lines.specs.declared.Line.TheVariants.{Call};
 ghost use Rattle.ks_script.specs.PackedCalls.{call_in, IsCallIn, KeepsCalls};
 
 use crate::appending::appended_at;
 use crate::parts::{joined, parts};
 use ks_history::Op;
+use ks_lines::Line;
 use std::alloc::{AllocError, Global};
 use std::marker::Model;
 
@@ -24,18 +26,18 @@ pub enum SmallCall {
     Other { at: u32 },
 }
 
-/// The longer calls of one caller, by kinds.
+/// The longer lines of one caller, by kinds.
 #[derive(Drop)]
 pub struct LongCalls {
     /// The key and the value of a Put; the key of a Get or a Del.
     pairs: Vec<(u64, u64)>,
     /// The key and the value of a Put of a value from 2^64 on.
     wides: Vec<(u64, u128)>,
-    /// Calls of all other kinds.
-    others: Vec<Op>,
+    /// Lines of all other kinds.
+    others: Vec<Line>,
 }
 
-/// The calls of one caller, in their order.
+/// The lines of one caller, each of which asks for a call or for a scan, in their order.
 #[derive(Drop)]
 pub struct Calls {
     small: Vec<SmallCall>,
@@ -44,10 +46,10 @@ pub struct Calls {
 
 impl Model for Calls {
     ghost use Rattle.std.specs.Prelude.{List, map, All};
-    ghost use Rattle.ks_history.specs.declared.Op.{Op};
+    ghost use Rattle.ks_lines.specs.declared.Line.{Line};
     ghost use Rattle.ks_script.specs.PackedCalls.{call_in, IsCallIn};
 
-    ghost Value = { List Op };
+    ghost Value = { List Line };
 
     ghost view = { λ c. map (call_in c.long) c.small.items };
 
@@ -56,15 +58,15 @@ impl Model for Calls {
 
 // The small call that is this one, if it is short.
 #[inline(always)]
-fn small_of(op: Op) -> Option<SmallCall>
-    ensures stands { IfSome result (λ s. (long : LongCalls) → call_in long s ≡ op) }
+fn small_of(line: Line) -> Option<SmallCall>
+    ensures stands { IfSome result (λ s. (long : LongCalls) → call_in long s ≡ line) }
     ensures fits { IfSome result (λ s. (long : LongCalls) → IsCallIn long s) }
 {
-    match op {
-        Op::Get(key) => Some(SmallCall::Get {
+    match line {
+        Line::Call(Op::Get(key)) => Some(SmallCall::Get {
             key: u32::try_from(key).ok()?,
         }),
-        Op::Put(key, value) => {
+        Line::Call(Op::Put(key, value)) => {
             let (high, low) = parts(key)?;
             Some(SmallCall::Put {
                 high,
@@ -72,10 +74,10 @@ fn small_of(op: Op) -> Option<SmallCall>
                 value: u32::try_from(value).ok()?,
             })
         }
-        Op::Del(key) => Some(SmallCall::Del {
+        Line::Call(Op::Del(key)) => Some(SmallCall::Del {
             key: u32::try_from(key).ok()?,
         }),
-        Op::Add(..) | Op::Swap(..) | Op::Part(..) | Op::Move(..) => None,
+        Line::Call(_) | Line::Scan(..) => None,
     }
 }
 
@@ -92,20 +94,20 @@ impl LongCalls {
 
     // The small call that represents this one, which is kept if it is longer.
     #[inline(always)]
-    fn small_for(&mut self, op: Op) -> Result<SmallCall, AllocError>
-        ensures stands { IfOk result (λ s. call_in self.new s ≡ op) }
+    fn small_for(&mut self, line: Line) -> Result<SmallCall, AllocError>
+        ensures stands { IfOk result (λ s. call_in self.new s ≡ line) }
         ensures fits { IfOk result (IsCallIn self.new) }
         ensures others { KeepsCalls self.old self.new }
     {
-        if let Some(small) = small_of(op) {
+        if let Some(small) = small_of(line) {
             return Ok(small);
         }
-        match op {
-            Op::Get(key) => {
+        match line {
+            Line::Call(Op::Get(key)) => {
                 let at = appended_at(&mut self.pairs, (key, 0))?;
                 Ok(SmallCall::LongGet { at })
             }
-            Op::Put(key, value) => match u64::try_from(value) {
+            Line::Call(Op::Put(key, value)) => match u64::try_from(value) {
                 Ok(value) => {
                     let at = appended_at(&mut self.pairs, (key, value))?;
                     Ok(SmallCall::LongPut { at })
@@ -115,12 +117,12 @@ impl LongCalls {
                     Ok(SmallCall::WidePut { at })
                 }
             },
-            Op::Del(key) => {
+            Line::Call(Op::Del(key)) => {
                 let at = appended_at(&mut self.pairs, (key, 0))?;
                 Ok(SmallCall::LongDel { at })
             }
-            Op::Add(..) | Op::Swap(..) | Op::Part(..) | Op::Move(..) => {
-                let at = appended_at(&mut self.others, op)?;
+            Line::Call(_) | Line::Scan(..) => {
+                let at = appended_at(&mut self.others, line)?;
                 Ok(SmallCall::Other { at })
             }
         }
@@ -137,7 +139,7 @@ impl Calls {
         }
     }
 
-    /// With room for `count` calls.
+    /// With room for `count` lines.
     pub fn with_capacity(alloc: Global, count: usize) -> Result<Calls, AllocError>
         ensures { IfOk result (λ calls. calls ≡ []) }
     {
@@ -147,13 +149,13 @@ impl Calls {
         })
     }
 
-    /// Puts a call behind the others. If memory runs out all stays as it was.
+    /// Puts a line behind the others. If memory runs out all stays as it was.
     #[inline(always)]
-    pub fn push(&mut self, op: Op) -> Result<(), AllocError>
-        ensures ok { OnOk result (self.new ≡ self.old ++ op ∷ []) }
+    pub fn push(&mut self, line: Line) -> Result<(), AllocError>
+        ensures ok { OnOk result (self.new ≡ self.old ++ line ∷ []) }
         ensures err { OnErr result (self.new ≡ self.old) }
     {
-        let small = self.long.small_for(op)?;
+        let small = self.long.small_for(line)?;
         self.small.push(small)?;
         Ok(())
     }
@@ -165,24 +167,24 @@ impl Calls {
         self.small.len()
     }
 
-    /// These calls, each by itself.
-    pub fn to_ops(&self, alloc: Global) -> Result<Vec<Op>, AllocError>
-        ensures { IfOk result (λ ops. ops.items ≡ self.now) }
+    /// These lines, each by itself.
+    pub fn to_lines(&self, alloc: Global) -> Result<Vec<Line>, AllocError>
+        ensures { IfOk result (λ lines. lines.items ≡ self.now) }
     {
-        let mut ops = Vec::with_capacity(alloc, self.len())?;
+        let mut lines = Vec::with_capacity(alloc, self.len())?;
         for at in 0..self.len() {
-            ops.push_reserved(self.get(at));
+            lines.push_reserved(self.get(at));
         }
-        Ok(ops)
+        Ok(lines)
     }
 
-    /// The call at a place.
+    /// The line at a place.
     #[inline(always)]
-    pub fn get(&self, at: usize) -> Op
+    pub fn get(&self, at: usize) -> Line
         requires { at < length self.now }
-        ensures { result ≡ slice_index_or self.now at (Get 0) }
+        ensures { result ≡ slice_index_or self.now at (Call (Get 0)) }
     {
-        match self.small[at] {
+        let op = match self.small[at] {
             SmallCall::Get { key } => Op::Get(u64::from(key)),
             SmallCall::Put { high, low, value } => Op::Put(joined(high, low), u128::from(value)),
             SmallCall::Del { key } => Op::Del(u64::from(key)),
@@ -196,7 +198,8 @@ impl Calls {
                 let (key, value) = self.long.wides[at as usize];
                 Op::Put(key, value)
             }
-            SmallCall::Other { at } => self.long.others[at as usize],
-        }
+            SmallCall::Other { at } => return self.long.others[at as usize],
+        };
+        Line::Call(op)
     }
 }

@@ -1,142 +1,105 @@
-//! The replies to one caller in little room: 8 bytes for one without a value of a number below 2^32, and for one of a
-//! number below 2^24 with a value below 2^32; others take 8 bytes beside a longer value, or beside the reply itself.
+//! What is said to one caller in little room: 8 bytes for a reply without a value of a number below 2^32, and for one of a
+//! number below 2^24 with a value below 2^32. All else is kept whole, beside 8 bytes that say where.
 
-ghost use Rattle.std.specs.Prelude.{ℕ, ◌≡◌, ◌^◌, ◌<◌, [], ◌∷◌, ◌++◌, length, slice_index_or, All, IfOk, IfSome, OnOk, OnErr};
-ghost use Rattle.ks_history.specs.declared.Reply.TheVariants.{Nothing, Value};
-ghost use Rattle.ks_script.specs.Parts.{joined};
-ghost use Rattle.ks_script.specs.PackedReplies.{reply_in, IsReplyIn, KeepsReplies};
-ghost use Rattle.ks_script.specs.Plain.{IsPlain};
+ghost use Rattle.std.specs.Prelude.{ℕ, ◌≡◌, ◌^◌, ◌<◌, List, [], ◌∷◌, ◌++◌, length, All, IfOk, IfSome, IfNone, OnOk, OnErr};
+ghost use Rattle.ks_lines.specs.declared.Said.{Said};
+ghost use Rattle.ks_lines.specs.declared.Said.TheVariants.{Call, Scan};
+ghost use Rattle.ks_script.specs.PackedReplies.{said_at, said_in, IsSaidIn, KeepsReplies};
+ghost use Rattle.ks_script.specs.Plain.{IsPlain, IsPrintable, IsOfCall, number_of};
 
 use crate::appending::appended_at;
 use crate::parts::{joined, parts};
 use ks_history::Reply;
+use ks_lines::{Parts, Said, Scanned};
 use std::alloc::{AllocError, Global};
 use std::marker::Model;
 
-/// A short reply, or the number of one and the place of its longer value, or the place of one of another kind.
+/// A short reply, or the place of what is said else.
 #[derive(Clone, Copy, Debug, PartialEq, Eq)]
 pub enum SmallReply {
     Nothing { number: u32 },
     Value { high: u8, low: u16, value: u32 },
     Full { number: u32 },
-    LongValue { high: u8, low: u16, at: u32 },
-    WideValue { high: u8, low: u16, at: u32 },
     Other { at: u32 },
 }
 
-/// What the longer replies to one caller say, by kinds.
-#[derive(Drop)]
-pub struct LongReplies {
-    /// Values below 2^64.
-    values: Vec<u64>,
-    /// Values from 2^64 on.
-    wides: Vec<u128>,
-    /// Replies of all other kinds.
-    others: Vec<(u64, Reply)>,
-}
-
-/// The replies to one caller, in the order of its calls: the number of the call and the reply each.
+/// What is said to one caller, in the order of its lines: the number and the reply of a call, or the parts of a scan.
 #[derive(Drop)]
 pub struct Replies {
     small: Vec<SmallReply>,
-    long: LongReplies,
+    others: Vec<Said>,
 }
 
 impl Model for Replies {
-    ghost use Rattle.std.specs.Prelude.{ℕ, List, map, All};
-    ghost use Rattle.ks_history.specs.declared.Reply.{Reply};
-    ghost use Rattle.ks_script.specs.PackedReplies.{reply_in, IsReplyIn};
+    ghost use Rattle.std.specs.Prelude.{List, map, All};
+    ghost use Rattle.ks_lines.specs.declared.Said.{Said};
+    ghost use Rattle.ks_script.specs.PackedReplies.{said_in, IsSaidIn};
 
-    ghost Value = { List (ℕ × Reply) };
+    ghost Value = { List Said };
 
-    ghost view = { λ l. map (reply_in l.long) l.small.items };
+    ghost view = { λ r. map (said_in r.others.items) r.small.items };
 
-    ghost invariant = { λ l. All (IsReplyIn l.long) l.small.items };
+    ghost invariant = { λ r. All (IsSaidIn r.others.items) r.small.items };
 }
 
-// The plain reply, made anew.
+// The number and the plain reply of a call, made anew.
 #[inline(always)]
-fn again(reply: &Reply) -> Reply
-    requires { IsPlain reply.now }
-    ensures { result ≡ reply.now }
+fn again(said: &Said) -> (u64, Reply)
+    requires plain { IsPrintable said.now }
+    requires call { IsOfCall said.now }
+    ensures said { said.now ≡ Call result.0 result.1 }
+    ensures plain { IsPlain result.1 }
 {
-    match reply {
-        Reply::Nothing => Reply::Nothing,
-        Reply::Value(value) => Reply::Value(*value),
-        Reply::Full => Reply::Full,
-        Reply::Listed(_) | Reply::Kept => unreachable!(),
+    match said {
+        Said::Call(number, Reply::Nothing) => (*number, Reply::Nothing),
+        Said::Call(number, Reply::Value(value)) => (*number, Reply::Value(*value)),
+        Said::Call(number, Reply::Full) => (*number, Reply::Full),
+        Said::Call(number, Reply::Kept) => (*number, Reply::Kept),
+        Said::Call(_, Reply::Listed(_)) | Said::Scan(..) => unreachable!(),
     }
 }
 
-impl LongReplies {
-    fn new(alloc: Global) -> LongReplies {
-        LongReplies {
-            values: Vec::new(alloc),
-            wides: Vec::new(alloc),
-            others: Vec::new(alloc),
+// The small entry that is this one, if it is short.
+#[inline(always)]
+fn small_of(said: &Said) -> Option<SmallReply>
+    ensures stands { IfSome result (λ s. (others : List Said) → said_in others s ≡ said.now) }
+    ensures fits { IfSome result (λ s. (others : List Said) → IsSaidIn others s) }
+{
+    let Said::Call(number, reply) = said else {
+        return None;
+    };
+    match reply {
+        Reply::Nothing => Some(SmallReply::Nothing {
+            number: u32::try_from(*number).ok()?,
+        }),
+        Reply::Value(value) => {
+            let (high, low) = parts(*number)?;
+            Some(SmallReply::Value {
+                high,
+                low,
+                value: u32::try_from(*value).ok()?,
+            })
         }
+        Reply::Full => Some(SmallReply::Full {
+            number: u32::try_from(*number).ok()?,
+        }),
+        Reply::Listed(_) | Reply::Kept => None,
     }
+}
 
-    // Keeps a value that is not short, and returns the small line of it.
-    #[inline(always)]
-    fn keep_value(&mut self, high: u8, low: u16, value: u128) -> Result<SmallReply, AllocError>
-        ensures stands { IfOk result (λ s. reply_in self.new s ≡ (joined high low, Value value)) }
-        ensures fits { IfOk result (IsReplyIn self.new) }
-        ensures others { KeepsReplies self.old self.new }
-    {
-        match u64::try_from(value) {
-            Ok(value) => {
-                let at = appended_at(&mut self.values, value)?;
-                Ok(SmallReply::LongValue { high, low, at })
-            }
-            Err(_) => {
-                let at = appended_at(&mut self.wides, value)?;
-                Ok(SmallReply::WideValue { high, low, at })
-            }
-        }
+// The small entry that represents this one, which is kept among the others if it is not short.
+#[inline(always)]
+fn small_for(others: &mut Vec<Said>, said: Said) -> Result<SmallReply, AllocError>
+    requires { IsPrintable said }
+    ensures stands { IfOk result (λ s. said_in others.new.items s ≡ said) }
+    ensures fits { IfOk result (IsSaidIn others.new.items) }
+    ensures others { KeepsReplies others.old.items others.new.items }
+{
+    if let Some(small) = small_of(&said) {
+        return Ok(small);
     }
-
-    // The small line of one that is neither a miss of a small number nor a value of one that has parts.
-    #[inline(never)]
-    fn keep_other(&mut self, number: u64, reply: Reply) -> Result<SmallReply, AllocError>
-        requires { IsPlain reply }
-        ensures stands { IfOk result (λ s. reply_in self.new s ≡ (number, reply)) }
-        ensures fits { IfOk result (IsReplyIn self.new) }
-        ensures others { KeepsReplies self.old self.new }
-    {
-        if let (Reply::Full, Ok(number)) = (&reply, u32::try_from(number)) {
-            return Ok(SmallReply::Full { number });
-        }
-        let at = appended_at(&mut self.others, (number, reply))?;
-        Ok(SmallReply::Other { at })
-    }
-
-    // The small line that represents this one, which is kept if it is longer.
-    #[inline(always)]
-    fn small_for(&mut self, number: u64, reply: Reply) -> Result<SmallReply, AllocError>
-        requires { IsPlain reply }
-        ensures stands { IfOk result (λ s. reply_in self.new s ≡ (number, reply)) }
-        ensures fits { IfOk result (IsReplyIn self.new) }
-        ensures others { KeepsReplies self.old self.new }
-    {
-        match reply {
-            Reply::Nothing => {
-                if let Ok(number) = u32::try_from(number) {
-                    return Ok(SmallReply::Nothing { number });
-                }
-            }
-            Reply::Value(value) => {
-                if let Some((high, low)) = parts(number) {
-                    return match u32::try_from(value) {
-                        Ok(value) => Ok(SmallReply::Value { high, low, value }),
-                        Err(_) => self.keep_value(high, low, value),
-                    };
-                }
-            }
-            Reply::Full | Reply::Listed(_) | Reply::Kept => {}
-        }
-        self.keep_other(number, reply)
-    }
+    let at = appended_at(others, said)?;
+    Ok(SmallReply::Other { at })
 }
 
 impl Replies {
@@ -145,41 +108,41 @@ impl Replies {
     {
         Replies {
             small: Vec::new(alloc),
-            long: LongReplies::new(alloc),
+            others: Vec::new(alloc),
         }
     }
 
-    /// With room for `count` lines.
+    /// With room for `count` entries.
     pub fn with_capacity(alloc: Global, count: usize) -> Result<Replies, AllocError>
-        ensures { IfOk result (λ lines. lines ≡ []) }
+        ensures { IfOk result (λ replies. replies ≡ []) }
     {
         Ok(Replies {
             small: Vec::with_capacity(alloc, count)?,
-            long: LongReplies::new(alloc),
+            others: Vec::new(alloc),
         })
     }
 
-    /// These lines, whose replies are plain, packed. Each reply is moved, so that none is left to be dropped.
-    pub fn from_lines(alloc: Global, lines: Vec<(u64, Reply)>) -> Result<Replies, AllocError>
-        requires { All (λ line. IsPlain line.1) lines.items }
-        ensures { IfOk result (λ packed. packed ≡ lines.items) }
+    /// What is said, packed. Each entry is moved, so that none is left to be dropped.
+    pub fn from_said(alloc: Global, said: Vec<Said>) -> Result<Replies, AllocError>
+        requires { All IsPrintable said.items }
+        ensures { IfOk result (λ packed. packed ≡ said.items) }
     {
-        let mut small = Vec::with_capacity(alloc, lines.len())?;
-        let mut long = LongReplies::new(alloc);
-        for (number, reply) in lines {
-            small.push_reserved(long.small_for(number, reply)?);
+        let mut small = Vec::with_capacity(alloc, said.len())?;
+        let mut others = Vec::new(alloc);
+        for entry in said {
+            small.push_reserved(small_for(&mut others, entry)?);
         }
-        Ok(Replies { small, long })
+        Ok(Replies { small, others })
     }
 
-    /// Puts a line with a plain reply behind the others. If memory runs out all stays as it was.
+    /// Puts an entry behind the others. If memory runs out all stays as it was.
     #[inline(always)]
-    pub fn push(&mut self, number: u64, reply: Reply) -> Result<(), AllocError>
-        requires { IsPlain reply }
-        ensures ok { OnOk result (self.new ≡ self.old ++ (number, reply) ∷ []) }
+    pub fn push(&mut self, said: Said) -> Result<(), AllocError>
+        requires { IsPrintable said }
+        ensures ok { OnOk result (self.new ≡ self.old ++ said ∷ []) }
         ensures err { OnErr result (self.new ≡ self.old) }
     {
-        let small = self.long.small_for(number, reply)?;
+        let small = small_for(&mut self.others, said)?;
         self.small.push(small)?;
         Ok(())
     }
@@ -191,26 +154,45 @@ impl Replies {
         self.small.len()
     }
 
-    /// The number of the line at a place.
+    /// The parts of a scan and where it stopped, if the entry at a place is of a scan.
     #[inline(always)]
-    pub fn number_at(&self, at: usize) -> u64
+    pub fn scan_at(&self, at: usize) -> Option<(&Parts, Scanned)>
         requires { at < length self.now }
-        ensures { result ≡ (slice_index_or self.now at (0, Nothing)).0 }
+        ensures some { IfSome result (λ x. said_at self.now at ≡ Scan x.0.now x.1) }
+        ensures none { IfNone result (IsOfCall (said_at self.now at)) }
     {
-        match self.small[at] {
-            SmallReply::Nothing { number } | SmallReply::Full { number } => u64::from(number),
-            SmallReply::Value { high, low, .. }
-            | SmallReply::LongValue { high, low, .. }
-            | SmallReply::WideValue { high, low, .. } => joined(high, low),
-            SmallReply::Other { at } => self.long.others[at as usize].0,
+        let SmallReply::Other { at } = self.small[at] else {
+            return None;
+        };
+        match &self.others[at as usize] {
+            Said::Scan(parts, stop) => Some((parts, *stop)),
+            Said::Call(..) => None,
         }
     }
 
-    /// The line at a place.
+    /// The number of the call at a place.
     #[inline(always)]
-    pub fn get(&self, at: usize) -> (u64, Reply)
-        requires { at < length self.now }
-        ensures line { result ≡ slice_index_or self.now at (0, Nothing) }
+    pub fn number_at(&self, at: usize) -> u64
+        requires within { at < length self.now }
+        requires call { IsOfCall (said_at self.now at) }
+        ensures { result ≡ number_of (said_at self.now at) }
+    {
+        match self.small[at] {
+            SmallReply::Nothing { number } | SmallReply::Full { number } => u64::from(number),
+            SmallReply::Value { high, low, .. } => joined(high, low),
+            SmallReply::Other { at } => match &self.others[at as usize] {
+                Said::Call(number, _) => *number,
+                Said::Scan(..) => unreachable!(),
+            },
+        }
+    }
+
+    /// The number and the reply of the call at a place.
+    #[inline(always)]
+    pub fn call_at(&self, at: usize) -> (u64, Reply)
+        requires within { at < length self.now }
+        requires call { IsOfCall (said_at self.now at) }
+        ensures said { said_at self.now at ≡ Call result.0 result.1 }
         ensures plain { IsPlain result.1 }
         ensures few { length self.now < 2 ^ 64 }
     {
@@ -220,20 +202,7 @@ impl Replies {
                 (joined(high, low), Reply::Value(u128::from(value)))
             }
             SmallReply::Full { number } => (u64::from(number), Reply::Full),
-            SmallReply::LongValue { high, low, at } => {
-                let value = self.long.values[at as usize];
-                (joined(high, low), Reply::Value(u128::from(value)))
-            }
-            SmallReply::WideValue { high, low, at } => {
-                (
-                    joined(high, low),
-                    Reply::Value(self.long.wides[at as usize]),
-                )
-            }
-            SmallReply::Other { at } => {
-                let line = &self.long.others[at as usize];
-                (line.0, again(&line.1))
-            }
+            SmallReply::Other { at } => again(&self.others[at as usize]),
         }
     }
 }

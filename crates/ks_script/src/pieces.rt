@@ -1,16 +1,19 @@
 //! Writing in pieces: bytes wait in a piece until it is full, and then it goes to the sink.
 
-ghost use Rattle.std.specs.Prelude.{ℕ, ◌≡◌, ◌≢◌, ◌+◌, ◌≤◌, ◌<◌, [], false, Option, List, ◌∷◌, ◌++◌, OnOk, OnErr, codes, map, length};
+ghost use Rattle.std.specs.Prelude.{ℕ, ◌≡◌, ◌≢◌, ◌+◌, ◌≤◌, ◌<◌, [], false, Option, List, ◌∷◌, ◌++◌, OnOk, OnErr, codes, length};
 ghost use Rattle.std.specs.Fmt.{decimal};
+ghost use Rattle.std.specs.List.{flat_map};
 ghost use Rattle.arrayvec.specs.ArrayVec.{array_vec_len};
 ghost use Rattle.ks_script.specs.Lines.{ended, text_of};
 ghost use Rattle.ks_history.specs.declared.Reply.TheVariants.{Value};
-ghost use Rattle.ks_script.specs.Run.{reply_line, reply_word, pair_line, callers_from, map_lines};
+ghost use Rattle.ks_script.specs.Run.{reply_line, reply_word, pair_line, said_lines, callers_from, map_lines};
+ghost use Rattle.ks_script.specs.PackedReplies.{said_at};
 ghost use Rattle.ks_script.specs.Plain.{IsPlain};
 ghost use Rattle.ks_script.specs.Outside.{Rose, Grew, GrewByFront};
 ghost use Rattle.ks_script.specs.Pieces.{Holds, Puts};
 
 use crate::ending::Ending;
+use crate::scan_pieces::put_scan;
 use crate::{Failed, Replies, Sink};
 use arrayvec::ArrayVec;
 use itoa::Buffer;
@@ -165,7 +168,8 @@ fn word_of(reply: &Reply) -> &'static [u8]
     match reply {
         Reply::Nothing => b" none\n",
         Reply::Full => b" full\n",
-        Reply::Value(_) | Reply::Listed(_) | Reply::Kept => unreachable!(),
+        Reply::Kept => b" kept\n",
+        Reply::Value(_) | Reply::Listed(_) => unreachable!(),
     }
 }
 
@@ -185,17 +189,29 @@ fn put_reply<K: Sink>(out: &mut K, piece: &mut Piece, line: &(u64, Reply))
     put(out, piece, text.bytes());
 }
 
+// The lines of what is said to a caller at a place.
+fn put_said<K: Sink>(out: &mut K, piece: &mut Piece, said: &Replies, at: usize)
+    requires { at < length said.now }
+    ensures { Puts (K.taken out.old) (K.faults out.old) piece.old (text_of (said_lines (said_at said.now at)))
+        (K.taken out.new) (K.faults out.new) piece.new }
+{
+    match said.scan_at(at) {
+        Some((parts, stop)) => put_scan(out, piece, parts.as_slice(), stop),
+        None => put_reply(out, piece, &said.call_at(at)),
+    }
+}
+
 // The lines of a caller.
-fn put_caller<K: Sink>(out: &mut K, piece: &mut Piece, number: u64, calls: &Replies)
+fn put_caller<K: Sink>(out: &mut K, piece: &mut Piece, number: u64, said: &Replies)
     ensures { Puts (K.taken out.old) (K.faults out.old) piece.old
-        (text_of ((codes "caller " ++ decimal number) ∷ map reply_line calls.now))
+        (text_of ((codes "caller " ++ decimal number) ∷ flat_map said_lines said.now))
         (K.taken out.new) (K.faults out.new) piece.new }
 {
     put(out, piece, b"caller ");
     put_number(out, piece, number);
     put(out, piece, b"\n");
-    for at in 0..calls.len() {
-        put_reply(out, piece, &calls.get(at));
+    for at in 0..said.len() {
+        put_said(out, piece, said, at);
     }
 }
 
@@ -204,8 +220,8 @@ pub fn put_callers<K: Sink>(out: &mut K, piece: &mut Piece, callers: &[Replies])
     ensures { Puts (K.taken out.old) (K.faults out.old) piece.old (text_of (callers_from 0 callers.now))
         (K.taken out.new) (K.faults out.new) piece.new }
 {
-    for (number, calls) in callers.iter().enumerate() {
-        put_caller(out, piece, number as u64, calls);
+    for (number, said) in callers.iter().enumerate() {
+        put_caller(out, piece, number as u64, said);
     }
 }
 

@@ -1,48 +1,68 @@
-//! The script at the front of a text: callers with their calls, as far as the lines go.
+//! The script at the front of a text: callers with their lines, as far as these go.
 
 ghost use Rattle.std.specs.Prelude.{ℕ, ◌≡◌, ◌≤◌, ◌<◌, ◌+◌, List, [], length, IfOk};
-ghost use Rattle.std.specs.List.{AllByRecursion};
-ghost use Rattle.ks_history.specs.declared.Op.{Op};
+ghost use Rattle.std.specs.List.{sum_by, AllByRecursion};
+ghost use Rattle.ks_lines.specs.declared.Line.{Line};
 ghost use Rattle.ks_script.specs.Lines.{lines_of};
-ghost use Rattle.ks_script.specs.Script.{IsCall, IsScript, call_line};
+ghost use Rattle.ks_script.specs.Script.{IsLineOf, IsScript, line_text, parts_of};
 ghost use Rattle.ks_script.specs.Reads.{NoneFirst, Reads};
-ghost use Rattle.ks_script.specs.Left.{HasBegun, CallsLeft, TextLeft, Told, CallersRead, Stops};
+ghost use Rattle.ks_script.specs.Left.{HasBegun, CallsLeft, TextLeft, Told, CallersRead, IsLineWithin, Stops};
 ghost use Rattle.ks_script.specs.declared.version.Version.{Version};
 
 use crate::Calls;
-use crate::lines::{call, word_line};
+use crate::lines::{first_line, word_line};
 use crate::version::Version;
+use ks_lines::Line;
 use std::alloc::{AllocError, Global};
 
-/// The calls at the front, as many as there is room for, and the bytes after them.
+// How many parts the line asks for.
+#[inline(always)]
+fn asked_parts(line: Line) -> u32
+    ensures { result ≡ parts_of line }
+{
+    match line {
+        Line::Call(_) => 0,
+        Line::Scan(_, _, most) => most,
+    }
+}
+
+/// The lines at the front, as many as there is room for, which ask for no more parts than these; the bytes after them,
+/// and how many parts are left.
 pub fn calls(
     alloc: Global,
     version: Version,
     bytes: &[u8],
     room: usize,
-) -> Result<(Calls, &[u8]), AllocError>
-    ensures each { IfOk result (λ x. AllByRecursion (IsCall version) x.0) }
+    parts: u32,
+) -> Result<(Calls, &[u8], u32), AllocError>
+    ensures each { IfOk result (λ x. AllByRecursion (IsLineOf version) x.0) }
     ensures within { IfOk result (λ x. length x.0 ≤ room) }
-    ensures reads { IfOk result (λ x. (callers script : List (List Op)) (behind : List (List ℕ)) →
+    ensures parts { IfOk result (λ x. x.2 + sum_by parts_of x.0 ≡ parts) }
+    ensures reads { IfOk result (λ x. (callers script : List (List Line)) (behind : List (List ℕ)) →
         Reads (CallsLeft version callers [] script behind) (CallsLeft version callers x.0 script behind)
         bytes.now x.1.now (length x.0)) }
-    ensures stops { IfOk result (λ x. length x.0 < room → NoneFirst (IsCall version) call_line (lines_of x.1.now)) }
+    ensures stops { IfOk result (λ x. length x.0 < room →
+        NoneFirst (IsLineWithin version x.2) line_text (lines_of x.1.now)) }
     ensures shorter { IfOk result (λ x. length x.1.now ≤ length bytes.now) }
 {
     let mut calls = Calls::new(alloc);
     let mut rest = bytes;
+    let mut left = parts;
     'calls: while calls.len() < room {
-        let Some((op, more)) = call(version, rest) else {
-            return Ok((calls, rest));
+        let Some((asked, more)) = first_line(version, left, rest) else {
+            return Ok((calls, rest, left));
         };
-        calls.push(op)?;
+        calls.push(asked)?;
         rest = more;
+        left -= asked_parts(asked);
     }
-    Ok((calls, rest))
+    Ok((calls, rest, left))
 }
 
-// How many calls a script may have.
+// How many calls a script may have, and how many parts they may ask for.
 const MOST_CALLS: usize = 1_048_576;
+
+const MOST_PARTS: u32 = 65_536;
 
 /// The script at the front of a text: its version, its callers, how many lines it takes, and the bytes after it.
 #[derive(Drop)]
@@ -55,15 +75,21 @@ pub struct Front<'a> {
 
 // The version that the first line says, how many lines do so, and the bytes after them.
 fn version_of(bytes: &[u8]) -> (Version, usize, &[u8])
-    ensures reads { (w : Version) (script : List (List Op)) (behind : List (List ℕ)) →
+    ensures reads { (w : Version) (script : List (List Line)) (behind : List (List ℕ)) →
         Reads (TextLeft w script behind) (Told result.0 w script behind) bytes.now result.2.now result.1 }
     ensures begun { HasBegun result.0 (lines_of result.2.now) }
     ensures few { result.1 ≤ 1 }
 {
-    match word_line(bytes, b"script 2") {
-        Some(rest) => (Version::Second, 1, rest),
-        None => (Version::First, 0, bytes),
+    if let Some(rest) = word_line(bytes, b"script 2") {
+        return (Version::Second, 1, rest);
     }
+    if let Some(rest) = word_line(bytes, b"script 3") {
+        return (Version::Third, 1, rest);
+    }
+    if let Some(rest) = word_line(bytes, b"script 4") {
+        return (Version::Fourth, 1, rest);
+    }
+    (Version::First, 0, bytes)
 }
 
 /// The script at the front, as far as the lines go.
@@ -77,15 +103,17 @@ pub fn callers(alloc: Global, bytes: &[u8]) -> Result<Front<'_>, AllocError>
     let most = version.most_callers();
     let mut callers = Vec::new(alloc);
     let mut count = 0;
+    let mut parts = MOST_PARTS;
     let mut rest = body;
     'callers: while callers.len() < most {
         let Some(more) = word_line(rest, b"caller") else {
             return Ok(ended(version, told, callers, count, rest));
         };
-        let (ops, left) = calls(alloc, version, more, MOST_CALLS - count)?;
-        count += ops.len();
-        callers.push(ops)?;
-        rest = left;
+        let (lines, behind, left) = calls(alloc, version, more, MOST_CALLS - count, parts)?;
+        count += lines.len();
+        callers.push(lines)?;
+        rest = behind;
+        parts = left;
     }
     Ok(ended(version, told, callers, count, rest))
 }

@@ -1,54 +1,94 @@
 //! A printed run of a script, read off the front of a text.
 
-ghost use Rattle.std.specs.Prelude.{ℕ, ◌≡◌, ◌≤◌, ◌<◌, ◌+◌, ◌^◌, List, [], length, map, IfOk, Err};
+ghost use Rattle.std.specs.Prelude.{ℕ, ◌≡◌, ◌≤◌, ◌<◌, ◌+◌, ◌^◌, List, [], ◌++◌, length, IfOk, Err};
 ghost use Rattle.std.specs.List.{AllByRecursion};
-ghost use Rattle.ks_history.specs.declared.Op.{Op};
-ghost use Rattle.ks_history.specs.declared.Reply.{Reply};
+ghost use Rattle.ks_lines.specs.declared.Line.{Line};
+ghost use Rattle.ks_lines.specs.declared.Said.{Said};
+ghost use Rattle.ks_lines.specs.Lines.{AllBoth, MayAnswer, AreAnswered};
 ghost use Rattle.ks_script.specs.Lines.{lines_of};
-ghost use Rattle.ks_script.specs.Run.{Run, reply_line, pair_line};
-ghost use Rattle.ks_script.specs.Checked.{IsAnswered, AscendFrom};
+ghost use Rattle.ks_script.specs.Run.{Run, said_lines, pair_line};
+ghost use Rattle.ks_script.specs.Checked.{IsSaid, AscendFrom};
 ghost use Rattle.ks_script.specs.Reading.{Answers};
 ghost use Rattle.ks_script.specs.Reads.{NoneFirst, Reads, RefusedBehind};
-ghost use Rattle.ks_script.specs.RunLeft.{SpellsRun, AreRun, AnswersLeft, RepliesLeft, PairsLeft, IsPairFrom, next_key};
+ghost use Rattle.ks_script.specs.SaidLeft.{CanBeSaidOf, IsSaidOf, UnsaidBehind};
+ghost use Rattle.ks_script.specs.RunLeft.{SpellsRun, AreRun, AnswersLeft, RepliesRead, RepliesStopBehind, PairsLeft, IsPairFrom, next_key};
 
-use crate::lines::{caller, pair, reply, word_line};
+use crate::lines::{numbered_line, pair, reply, word_line};
+use crate::scan_lines::scan_said;
 use crate::{Calls, Printed, Replies, TextFault};
+use ks_lines::{Line, Said};
 use std::alloc::{AllocError, Global};
 
-// The replies at the front, as many as are wanted, and the bytes after them.
-fn replies(alloc: Global, bytes: &[u8], wanted: usize) -> Result<(Replies, &[u8]), AllocError>
-    ensures each { IfOk result (λ x. AllByRecursion IsAnswered x.0) }
-    ensures within { IfOk result (λ x. length x.0 ≤ wanted) }
-    ensures reads { IfOk result
-        (λ x. (script : List (List Op)) (n : ℕ) (callers : List (List (ℕ × Reply))) (run : Run) →
-        Reads (RepliesLeft script n callers [] run) (RepliesLeft script n callers x.0 run)
-        bytes.now x.1.now (length x.0)) }
-    ensures stops { IfOk result (λ x. length x.0 < wanted → NoneFirst IsAnswered reply_line (lines_of x.1.now)) }
-    ensures shorter { IfOk result (λ x. length x.1.now + length x.0 ≤ length bytes.now) }
+// What is said of the line at the front, the bytes after it, and how many lines it takes; or the first line with which
+// nothing goes on that may be said of it. `before` lines are before the first.
+#[inline(always)]
+fn said<'a>(
+    alloc: Global,
+    line: Line,
+    bytes: &'a [u8],
+    before: u64,
+) -> Result<(Said, &'a [u8], u64), TextFault>
+    requires line { CanBeSaidOf line }
+    requires few { before + length bytes.now + 1 < 2 ^ 64 }
+    ensures said { IfOk result (λ x. IsSaidOf line x.0) }
+    ensures read { IfOk result
+        (λ x. (lines_of bytes.now ≡ said_lines x.0 ++ lines_of x.1.now) × (x.2 ≡ length (said_lines x.0))) }
+    ensures shorter { IfOk result (λ x. length x.1.now + x.2 ≤ length bytes.now) }
+    ensures refused { (n : ℕ) → result ≡ Err (TextFault.Refused n) →
+        UnsaidBehind before line (lines_of bytes.now) n }
 {
-    let mut lines = Replies::with_capacity(alloc, wanted)?;
-    let mut rest = bytes;
-    'replies: while lines.len() < wanted {
-        let Some((line, more)) = reply(rest) else {
-            return Ok((lines, rest));
-        };
-        lines.push(line.0, line.1)?;
-        rest = more;
+    match line {
+        Line::Call(op) => match reply(op, bytes) {
+            Some((told, rest)) => Ok((Said::Call(told.0, told.1), rest, 1)),
+            None => Err(TextFault::Refused { line: before + 1 }),
+        },
+        Line::Scan(low, last, most) => scan_said(alloc, low, last, most, bytes, before),
     }
-    Ok((lines, rest))
 }
 
-// The replies to the callers of the script, one for each call, the bytes after them, and how many lines they take.
-// `before` lines are before the first.
+// What is said to a caller of its lines at the front, the bytes after it, and how many lines it takes. `before` lines are
+// before the first.
+fn replies<'a>(
+    alloc: Global,
+    lines: &Calls,
+    bytes: &'a [u8],
+    before: u64,
+) -> Result<(Replies, &'a [u8], u64), TextFault>
+    requires lines { AllByRecursion CanBeSaidOf lines.now }
+    requires few { before + length bytes.now + 1 < 2 ^ 64 }
+    ensures fit { IfOk result (λ x. AllBoth MayAnswer lines.now x.0) }
+    ensures each { IfOk result (λ x. AllByRecursion IsSaid x.0) }
+    ensures reads { IfOk result (λ x. RepliesRead lines.now x.0 bytes.now x.1.now x.2) }
+    ensures shorter { IfOk result (λ x. length x.1.now + x.2 ≤ length bytes.now) }
+    ensures refused { (n : ℕ) → result ≡ Err (TextFault.Refused n) → RepliesStopBehind before lines.now bytes.now n }
+{
+    let mut replies = Replies::with_capacity(alloc, lines.len())?;
+    let mut count = 0;
+    let mut rest = bytes;
+    'replies: for at in 0..lines.len() {
+        let (said, more, read) = match said(alloc, lines.get(at), rest, before + count) {
+            Ok(said) => said,
+            Err(fault) => return Err(fault),
+        };
+        replies.push(said)?;
+        count += read;
+        rest = more;
+    }
+    Ok((replies, rest, count))
+}
+
+// What is said to the callers of the script, the bytes after it, and how many lines it takes. `before` lines are before
+// the first.
 fn answers<'a>(
     alloc: Global,
     script: &[Calls],
     bytes: &'a [u8],
     before: u64,
 ) -> Result<(Vec<Replies>, &'a [u8], u64), TextFault>
-    requires { before + length bytes.now + 1 < 2 ^ 64 }
-    ensures each { IfOk result (λ x. AllByRecursion (AllByRecursion IsAnswered) x.0.items) }
-    ensures shape { IfOk result (λ x. map (λ ls. length ls) x.0.items ≡ map (λ ops. length ops) script.now) }
+    requires script { AllByRecursion (AllByRecursion CanBeSaidOf) script.now }
+    requires few { before + length bytes.now + 1 < 2 ^ 64 }
+    ensures each { IfOk result (λ x. AllByRecursion (AllByRecursion IsSaid) x.0.items) }
+    ensures fit { IfOk result (λ x. AreAnswered script.now x.0.items) }
     ensures reads { IfOk result
         (λ x. (run : Run) → Reads (SpellsRun script.now run)
         (AnswersLeft script.now (length script.now) x.0.items run) bytes.now x.1.now x.2) }
@@ -59,21 +99,18 @@ fn answers<'a>(
     let mut callers = Vec::new(alloc);
     let mut count = 0;
     let mut rest = bytes;
-    'callers: for (number, ops) in script.iter().enumerate() {
-        let Some(more) = caller(rest, number as u64) else {
+    'callers: for (number, lines) in script.iter().enumerate() {
+        let Some(more) = numbered_line(rest, b"caller ", number as u64) else {
             return Err(TextFault::Refused {
                 line: before + (count + 1),
             });
         };
-        let (lines, left) = replies(alloc, more, ops.len())?;
-        let read = count + 1 + lines.len() as u64;
-        if lines.len() < ops.len() {
-            return Err(TextFault::Refused {
-                line: before + (read + 1),
-            });
-        }
-        callers.push(lines)?;
-        count = read;
+        let (said, left, read) = match replies(alloc, lines, more, before + (count + 1)) {
+            Ok(replies) => replies,
+            Err(fault) => return Err(fault),
+        };
+        callers.push(said)?;
+        count = count + 1 + read;
         rest = left;
     }
     Ok((callers, rest, count))
@@ -83,7 +120,7 @@ fn answers<'a>(
 fn pairs(alloc: Global, bytes: &[u8]) -> Result<(Vec<(u64, u128)>, &[u8]), AllocError>
     ensures ascend { IfOk result (λ x. AscendFrom 0 x.0.items) }
     ensures reads { IfOk result
-        (λ x. (script : List (List Op)) (callers : List (List (ℕ × Reply))) (run : Run) →
+        (λ x. (script : List (List Line)) (callers : List (List Said)) (run : Run) →
         Reads (PairsLeft script callers [] run) (PairsLeft script callers x.0.items run)
         bytes.now x.1.now (length x.0.items)) }
     ensures stops { IfOk result
@@ -109,7 +146,8 @@ fn pairs(alloc: Global, bytes: &[u8]) -> Result<(Vec<(u64, u128)>, &[u8]), Alloc
 /// The run of the script that the bytes are the text of, or the first line that does not fit. `before` lines are before
 /// the first.
 pub fn run(alloc: Global, script: &[Calls], bytes: &[u8], before: u64) -> Result<Printed, TextFault>
-    requires { before + length bytes.now + 1 < 2 ^ 64 }
+    requires script { AllByRecursion (AllByRecursion CanBeSaidOf) script.now }
+    requires few { before + length bytes.now + 1 < 2 ^ 64 }
     ensures answer { Answers result (λ run. SpellsRun script.now run (lines_of bytes.now))
         (RefusedBehind before (AreRun script.now) (lines_of bytes.now)) }
     ensures only { IfOk result (λ run. (other : Run) → SpellsRun script.now other (lines_of bytes.now) → other ≡ run) }

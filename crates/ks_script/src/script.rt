@@ -1,7 +1,7 @@
-//! Scripts: for each caller the calls that it makes, in order.
+//! Scripts: for each caller the lines that say what it asks for, in order.
 
 ghost use Rattle.std.specs.Prelude.{ℕ, Ok, Err, List};
-ghost use Rattle.ks_history.specs.declared.Op.{Op};
+ghost use Rattle.ks_lines.specs.declared.Line.{Line};
 ghost use Rattle.ks_script.specs.Script.{ScriptOf};
 ghost use Rattle.ks_script.specs.ScriptTexts.{FirstBadOfScript};
 ghost use Rattle.ks_script.specs.Reading.{Answers, Gives};
@@ -11,7 +11,7 @@ use crate::{Calls, TextFault};
 use std::alloc::Global;
 use std::marker::Model;
 
-/// For each caller its calls. The number of an operation is a key.
+/// For each caller its lines. The numbers of places in them are keys.
 #[derive(Drop)]
 pub struct Script {
     pub callers: Vec<Calls>,
@@ -19,18 +19,18 @@ pub struct Script {
 
 impl Model for Script {
     ghost use Rattle.std.specs.Prelude.{List};
-    ghost use Rattle.ks_history.specs.declared.Op.{Op};
+    ghost use Rattle.ks_lines.specs.declared.Line.{Line};
 
-    ghost Value = { List (List Op) };
+    ghost Value = { List (List Line) };
 
     ghost view = { λ s. s.callers.items };
 }
 
-/// The script, of either version, that the bytes are the text of, or the first line that does not fit.
+/// The script, of whichever version, that the bytes are the text of, or the first line that does not fit.
 pub fn read_script(alloc: Global, bytes: &[u8]) -> Result<Script, TextFault>
     ensures answer { Answers result (ScriptOf bytes.now) (FirstBadOfScript bytes.now) }
     // What is a script is read, and a line that does not fit is refused, unless memory runs out.
-    ensures script { (script : List (List Op)) → ScriptOf bytes.now script → Gives result (Ok script) }
+    ensures script { (script : List (List Line)) → ScriptOf bytes.now script → Gives result (Ok script) }
     ensures refused { (n : ℕ) → FirstBadOfScript bytes.now n → Gives result (Err (TextFault.Refused n)) }
 {
     let front = callers(alloc, bytes)?;

@@ -1,16 +1,19 @@
 use super::*;
 use ks_history::{Op, Reply};
+use ks_lines::{Line, Said};
 use std::alloc::{AllocError, Global};
 use std::process::Abort;
 use std::test::*;
+
+mod scans;
 
 const RUN: &[u8] = b"caller 0\n0 none\n1 50\nmap\n5 50\nend\n";
 
 // The run that RUN is the text of.
 fn small_run(alloc: Global) -> Result<Printed, Fail> {
     let mut calls = Replies::new(alloc);
-    calls.push(0, Reply::Nothing)?;
-    calls.push(1, Reply::Value(50))?;
+    calls.push(Said::Call(0, Reply::Nothing))?;
+    calls.push(Said::Call(1, Reply::Value(50)))?;
     let mut callers = Vec::new(alloc);
     callers.push(calls)?;
     let mut pairs = Vec::new(alloc);
@@ -21,7 +24,7 @@ fn small_run(alloc: Global) -> Result<Printed, Fail> {
 // Whether these are the calls.
 fn has_calls(calls: &Calls, ops: &[Op]) -> bool {
     for (at, op) in ops.iter().enumerate() {
-        if at >= calls.len() || calls.get(at) != *op {
+        if at >= calls.len() || calls.get(at) != Line::Call(*op) {
             return false;
         }
     }
@@ -184,13 +187,103 @@ fn lines_of_another_version_are_refused(rt: HostRuntime) {
     is_refused(&rt, alloc, b"script 2\ncaller\nadd 1 2 3\n", 3);
 }
 
-// The line, and `callers` lines `caller` after it.
-fn callers_after(alloc: Global, line: &[u8], callers: u64) -> Result<Vec<u8>, AllocError> {
-    let mut text = Vec::from_slice(alloc, line)?;
-    for _ in 0..callers {
-        text.extend_from_slice(b"caller\n")?;
+#[test]
+fn scans_and_moves_are_read(rt: HostRuntime) -> Result<(), Fail> {
+    let text =
+        b"script 4\ncaller\nscan 5 18446744073709551615 64\nscan 5 5 1\nmove 18446744073709551615 1\nget 1";
+    let script = read_script(rt.alloc(), text).ok().ok_or("it is a script")?;
+    let asked = [
+        Line::Scan(5, 18446744073709551615, 64),
+        Line::Scan(5, 5, 1),
+        Line::Call(Op::Move(18446744073709551615, 1)),
+        Line::Call(Op::Get(1)),
+    ];
+    assert_eq!(rt; script.callers.len(), 1);
+    for calls in &script.callers {
+        assert_eq!(rt; calls.len(), 4);
+        for (at, line) in asked.iter().enumerate() {
+            if at < calls.len() {
+                assert_eq!(rt; calls.get(at), *line);
+            }
+        }
+    }
+    for text in [
+        b"script 3\ncaller\nadd 1 18446744073709551616\ndel 1\n",
+        b"script 4\ncaller\nadd 1 18446744073709551616\ndel 1\n",
+    ] {
+        assert!(rt; read_script(rt.alloc(), text.as_slice()).is_ok());
+    }
+    Ok(())
+}
+
+#[test]
+fn scans_and_moves_that_are_none_are_refused(rt: HostRuntime) {
+    let alloc = rt.alloc();
+    is_refused(&rt, alloc, b"caller\nscan 1 2 3\n", 2);
+    is_refused(&rt, alloc, b"script 2\ncaller\nscan 1 2 3\n", 3);
+    is_refused(&rt, alloc, b"script 3\ncaller\nscan 5 4 1\n", 3);
+    is_refused(&rt, alloc, b"script 3\ncaller\nscan 4 5 0\n", 3);
+    is_refused(&rt, alloc, b"script 3\ncaller\nscan 4 5 65\n", 3);
+    is_refused(&rt, alloc, b"script 3\ncaller\nscan 4 5\n", 3);
+    is_refused(
+        &rt,
+        alloc,
+        b"script 3\ncaller\nscan 4 18446744073709551616 1\n",
+        3,
+    );
+    is_refused(&rt, alloc, b"script 3\ncaller\nmove 1 2\n", 3);
+    is_refused(&rt, alloc, b"script 4\ncaller\nmove 1 1\n", 3);
+    is_refused(&rt, alloc, b"script 4\ncaller\nmove 1\n", 3);
+    is_refused(&rt, alloc, b"script 4\ncaller\nmove 1 2 3\n", 3);
+    is_refused(&rt, alloc, b"script 4\ncaller\nmove 01 2\n", 3);
+    is_refused(
+        &rt,
+        alloc,
+        b"script 4\ncaller\nmove 1 18446744073709551616\n",
+        3,
+    );
+    is_refused(&rt, alloc, b"script 3\nscript 4\n", 2);
+}
+
+// The first lines, and then a line, n times.
+fn repeated(alloc: Global, first: &[u8], line: &[u8], count: u64) -> Result<Vec<u8>, AllocError> {
+    let mut text = Vec::from_slice(alloc, first)?;
+    for _ in 0..count {
+        text.extend_from_slice(line)?;
     }
     Ok(text)
+}
+
+// The line, and `callers` lines `caller` after it.
+fn callers_after(alloc: Global, line: &[u8], callers: u64) -> Result<Vec<u8>, AllocError> {
+    repeated(alloc, line, b"caller\n", callers)
+}
+
+#[test]
+fn a_script_asks_for_so_many_parts(rt: HostRuntime) -> Result<(), Fail> {
+    let alloc = rt.alloc();
+    let mut text = repeated(alloc, b"script 3\ncaller\n", b"scan 0 0 64\n", 1023)?;
+    text.extend_from_slice(b"caller\nscan 0 9 63\nscan 0 9 1\nget 1\n")?;
+    assert!(rt; read_script(alloc, &text).is_ok());
+    text.extend_from_slice(b"scan 0 9 1\n")?;
+    is_refused(&rt, alloc, &text, 1030);
+    Ok(())
+}
+
+#[test]
+fn the_first_line_that_is_not_served_is_named(rt: HostRuntime) -> Result<(), Fail> {
+    let text =
+        b"script 4\ncaller\nget 1\ncaller\ncaller\nput 1 2\nmove 1 2\nscan 0 1 1\nmove 1 2\n";
+    match read_script(rt.alloc(), text) {
+        Ok(script) => {
+            assert_eq!(rt; script.unfit_line(false, false), Some(7));
+            assert_eq!(rt; script.unfit_line(true, false), Some(7));
+            assert_eq!(rt; script.unfit_line(false, true), Some(8));
+            assert_eq!(rt; script.unfit_line(true, true), None);
+            Ok(())
+        }
+        Err(_) => Err("it is a script".into()),
+    }
 }
 
 #[test]
@@ -258,7 +351,10 @@ fn replies_full_and_wide_are_read(rt: HostRuntime) -> Result<(), Fail> {
         assert_eq!(rt; lines.len(), 2);
         for (at, reply) in replies.iter().enumerate() {
             if at < lines.len() {
-                assert!(rt; lines.get(at) == *reply);
+                match lines.scan_at(at) {
+                    Some(_) => return Err("it is of a call".into()),
+                    None => assert!(rt; lines.call_at(at) == *reply),
+                }
             }
         }
     }
@@ -339,34 +435,36 @@ fn a_write_that_fails_leaves_the_front(rt: HostRuntime) -> Result<(), Fail> {
 #[test]
 fn packed_calls_and_lines_are_read_again(rt: HostRuntime) -> Result<(), Fail> {
     let great = u128::MAX;
-    let ops = [
-        Op::Get(1),
-        Op::Put(2, 3),
-        Op::Put(2, great),
-        Op::Del(4),
-        Op::Add(5, 6),
-        Op::Swap(7, 8, great),
+    let asked = [
+        Line::Call(Op::Get(1)),
+        Line::Call(Op::Put(2, 3)),
+        Line::Call(Op::Put(2, great)),
+        Line::Call(Op::Del(4)),
+        Line::Call(Op::Add(5, 6)),
+        Line::Call(Op::Swap(7, 8, great)),
+        Line::Call(Op::Move(1, u64::MAX)),
+        Line::Scan(0, u64::MAX, 64),
     ];
     let mut calls = Calls::new(rt.alloc());
-    for op in ops {
-        calls.push(op)?;
+    for line in asked {
+        calls.push(line)?;
     }
-    for (at, op) in ops.iter().enumerate() {
+    for (at, line) in asked.iter().enumerate() {
         if at < calls.len() {
-            assert_eq!(rt; calls.get(at), *op);
+            assert_eq!(rt; calls.get(at), *line);
         }
     }
     let mut lines = Replies::with_capacity(rt.alloc(), 4)?;
-    lines.push(0, Reply::Full)?;
-    lines.push(u64::MAX, Reply::Nothing)?;
-    lines.push(1, Reply::Value(great))?;
-    lines.push(2, Reply::Value(9))?;
-    assert!(rt; lines.get(0) == (0, Reply::Full));
-    assert!(rt; lines.get(1) == (u64::MAX, Reply::Nothing));
-    assert!(rt; lines.get(2) == (1, Reply::Value(great)));
-    assert!(rt; lines.get(3) == (2, Reply::Value(9)));
+    lines.push(Said::Call(0, Reply::Full))?;
+    lines.push(Said::Call(u64::MAX, Reply::Nothing))?;
+    lines.push(Said::Call(1, Reply::Value(great)))?;
+    lines.push(Said::Call(2, Reply::Value(9)))?;
+    assert!(rt; lines.call_at(0) == (0, Reply::Full));
+    assert!(rt; lines.call_at(1) == (u64::MAX, Reply::Nothing));
+    assert!(rt; lines.call_at(2) == (1, Reply::Value(great)));
+    assert!(rt; lines.call_at(3) == (2, Reply::Value(9)));
     assert_eq!(rt; lines.number_at(1), u64::MAX);
-    assert_eq!(rt; calls.len(), 6);
+    assert_eq!(rt; calls.len(), 8);
     Ok(())
 }
 

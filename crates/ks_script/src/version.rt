@@ -1,7 +1,7 @@
 //! The versions of scripts: what each may say.
 
 ghost use Rattle.std.specs.Prelude.{◌≡◌, ◌<◌, ◌↔◌, IsTrue};
-ghost use Rattle.ks_script.specs.Version.{callers_limit, value_limit, AddsAndSwaps};
+ghost use Rattle.ks_script.specs.Version.{callers_limit, value_limit, AddsAndSwaps, Scans, Moves};
 
 /// A version of scripts. The first line says it, unless it is the first version.
 #[derive(Clone, Copy, Debug, PartialEq, Eq)]
@@ -10,6 +10,10 @@ pub enum Version {
     First,
     /// `add` and `swap` besides, and values of 128 bits.
     Second,
+    /// `scan` besides.
+    Third,
+    /// `move` besides.
+    Fourth,
 }
 
 impl Version {
@@ -19,7 +23,7 @@ impl Version {
     {
         match self {
             Version::First => 64,
-            Version::Second => 1024,
+            Version::Second | Version::Third | Version::Fourth => 1024,
         }
     }
 
@@ -29,7 +33,7 @@ impl Version {
     {
         match self {
             Version::First => value <= u64::MAX as u128,
-            Version::Second => true,
+            Version::Second | Version::Third | Version::Fourth => true,
         }
     }
 
@@ -39,7 +43,27 @@ impl Version {
     {
         match self {
             Version::First => false,
-            Version::Second => true,
+            Version::Second | Version::Third | Version::Fourth => true,
+        }
+    }
+
+    /// Whether a script may have ordered scans.
+    pub fn scans(self) -> bool
+        ensures { IsTrue result ↔ Scans self }
+    {
+        match self {
+            Version::First | Version::Second => false,
+            Version::Third | Version::Fourth => true,
+        }
+    }
+
+    /// Whether a script may have moves of a value.
+    pub fn moves(self) -> bool
+        ensures { IsTrue result ↔ Moves self }
+    {
+        match self {
+            Version::First | Version::Second | Version::Third => false,
+            Version::Fourth => true,
         }
     }
 }

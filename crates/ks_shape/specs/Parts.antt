@@ -16,7 +16,7 @@ use Rattle.ks_arena.specs.declared.arena.Arena.{Arena}
 use Rattle.ks_arena.specs.declared.held.Pass.{Pass}
 use Rattle.ks_arena.specs.Clauses.{seen_of}
 use Rattle.ks_shape.specs.Idle.{Site}
-use Rattle.ks_shape.specs.declared.parts.Part.{Part}
+use Rattle.ks_lines.specs.declared.parts.Part.{Part}
 
 -- the call of c between s0 and s1 is one part of a scan from low to last: it listed the pairs from low to the part's last
 -- place. That is last, or the node at which it was decided did not have the next place in its keyset then

@@ -13,17 +13,9 @@ use ks_arena::{Arena, Decision, Held, Pass};
 use ks_flow::Discipline;
 use ks_gate::Gate;
 use ks_keysets::Few;
+pub use ks_lines::Part;
 use ks_node::Listed as Lists;
 use std::marker::Brand;
-
-/// One part of an ordered scan: its number in the one history of all calls, modulo 2^64; the last place that it covers;
-/// and the pairs from its first place to that one, in ascending order.
-#[derive(Debug, PartialEq, Eq, Drop)]
-pub struct Part {
-    pub number: u64,
-    pub last: u64,
-    pub pairs: Few,
-}
 
 /// Decides a part where the search for each of its places has ended: it lists the pairs of these places.
 pub fn part_here<N: Lists, D: Discipline, G: Gate>(

@@ -54,12 +54,19 @@ fn told(judged: Judged) -> u64 {
     }
 }
 
+/// Reads a script and a run of it, and judges the run; none where there is no such run.
+fn judged(alloc: Global, text: &[u8]) -> Option<Judged> {
+    let Ok((script, printed)) = read_checked(alloc, text) else {
+        return None;
+    };
+    judge(alloc, &script, &printed).ok()
+}
+
 /// Reads a script and a run of it and judges the run, `times` times; none where there is no such run.
 fn check(alloc: Global, text: &[u8], times: u64) -> Option<Counter> {
     let mut counter = Counter::new();
     for _ in 0..times {
-        let (script, printed) = read_checked(alloc, text).ok()?;
-        let judged = judge(alloc, &script, &printed).ok()?;
+        let judged = judged(alloc, text)?;
         counter.sum = counter.sum.wrapping_add(told(judged));
         counter.bytes = counter.bytes.wrapping_add(text.len() as u64);
     }

@@ -2,9 +2,11 @@ ghost use Rattle.std.specs.Prelude.{◌≡◌, length, IfOk};
 ghost use Rattle.ks_tickets.specs.Clauses.{EachAs};
 
 use crate::desk::Tickets;
+use crate::fits_threads;
 use crate::ticketed::Ticketed;
 use std::alloc::{AllocError, Global};
 use std::test::Fail;
+use std::thread::{Threads, join};
 
 /// A job that counts how often it ran.
 #[derive(Drop)]
@@ -31,6 +33,24 @@ fn ran(job: Count) -> Count
     }
 }
 
+/// Runs a job on another thread.
+fn ran_elsewhere<R: Threads + Sync>(rt: &R, job: Count) -> Count
+    requires { job.runs ≡ 0 }
+    ensures ticket { result.ticket ≡ job.ticket }
+    ensures runs { result.runs ≡ 1 }
+{
+    let (done, ()) = join(
+        rt,
+        move || -> Count
+            requires { job.runs ≡ 0 }
+            ensures ticket { result.ticket ≡ job.ticket }
+            ensures runs { result.runs ≡ 1 }
+        { ran(job) },
+        || (),
+    );
+    done
+}
+
 fn counts(alloc: Global, number: u32) -> Result<Vec<Count>, AllocError>
     ensures long { IfOk result (λ v. length v.items ≡ number) }
     ensures waits { IfOk result (λ v. EachAs (λ (job : Count) t. (job.ticket ≡ t) × (job.runs ≡ 0)) v.items) }
@@ -51,7 +71,8 @@ fn one_desk_draws_two_jobs_in_order(rt: HostRuntime) -> Result<(), Fail> {
     let Some((first, job)) = tickets.draw(desk) else {
         panic!(rt; "no first job")
     };
-    tickets.finish(desk, first, ran(job));
+    fits_threads(&tickets, desk, &job);
+    tickets.finish(desk, first, ran_elsewhere(&rt, job));
     let Some((second, job)) = tickets.draw(desk) else {
         panic!(rt; "no second job")
     };

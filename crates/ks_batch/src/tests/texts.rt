@@ -50,7 +50,7 @@ const REFUSALS: [(&str, &[u8], &[u8], u8); 14] = [
 ];
 
 pub const USAGE: &[u8] =
-    b"usage: run NODES TEMPLATE ARENA [WORKERS], make NODES TEMPLATE ARENA CALLERS CALLS FIRST, or check\n";
+    b"usage: run NODES TEMPLATE ARENA [WORKERS], hinted NODES TEMPLATE ARENA WORKERS, make NODES TEMPLATE ARENA CALLERS CALLS FIRST, or check\n";
 
 /// What is checked, and what is said of it, with the status.
 const CHECKS: [(&[u8], &[u8], &[u8], u8); 4] = [

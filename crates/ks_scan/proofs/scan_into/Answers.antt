@@ -3,8 +3,9 @@ use Rattle.ks_arena.specs.Clauses.{seen_of}
 use Rattle.ks_shape.specs.Does.{DoesOnly, MaySearch}
 use Rattle.ks_shape.specs.Laws.Does.{does_both, does_none}
 use Rattle.ks_shape.specs.Parts.{DonePart}
-use Rattle.ks_shape.specs.declared.parts.Part.{Part}
-use Rattle.ks_scan.specs.Scan.{DoneParts, PartsAscend, end_of}
+use Rattle.ks_lines.specs.declared.parts.Part.{Part}
+use Rattle.ks_scan.specs.Scan.{DoneParts}
+use Rattle.ks_lines.specs.Scan.{PartsAscend, end_of}
 use Rattle.ks_scan.proofs.Rows.{next_from, next_more, end_more, done_more, ascend_more, end_before}
 use Rattle.ks_scan.proofs.scan_into.Goals as goal
 use Rattle.ks_scan.proofs.scan_into.Given.{Over}

@@ -3,7 +3,8 @@ use Rattle.std.specs.Prelude.{vec_capacity}
 use Rattle.ks_arena.specs.Clauses.{seen_of}
 use Rattle.ks_shape.specs.Does.{DoesOnly, MaySearch}
 use Rattle.ks_shape.specs.Idle.{IsIdle}
-use Rattle.ks_scan.specs.Scan.{DoneParts, PartsAscend}
+use Rattle.ks_scan.specs.Scan.{DoneParts}
+use Rattle.ks_lines.specs.Scan.{PartsAscend}
 use Rattle.ks_scan.proofs.Rows.{next_from}
 use Rattle.ks_scan.proofs.scan_into.Given as goal
 

@@ -3,6 +3,7 @@
 use super::PIECE;
 use crate::{Failed, Printed, Replies, Sink, write_run};
 use ks_history::Reply;
+use ks_lines::Said;
 use std::alloc::Global;
 use std::test::Fail;
 
@@ -30,7 +31,7 @@ impl Sink for Sizes {
 fn run_of(alloc: Global, calls: u64) -> Result<Printed, Fail> {
     let mut lines = Replies::new(alloc);
     for number in 0..calls {
-        lines.push(number, Reply::Value(u128::MAX))?;
+        lines.push(Said::Call(number, Reply::Value(u128::MAX)))?;
     }
     let mut callers = Vec::new(alloc);
     callers.push(lines)?;

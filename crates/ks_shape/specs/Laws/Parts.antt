@@ -11,7 +11,7 @@ use Rattle.ks_history.specs.Own.{decided_at}
 use Rattle.ks_history.specs.Passes.{Has}
 use Rattle.ks_history.specs.Trace.{graph_after}
 use Rattle.ks_shape.specs.Parts.{DonePart}
-use Rattle.ks_shape.specs.declared.parts.Part.{Part}
+use Rattle.ks_lines.specs.declared.parts.Part.{Part}
 
 the_one : {n i : ℕ} → Has (n ∷ []) i → n ≡ i
 the_one has = elim has [ inl e ↦ e | inr none ↦ absurd none ]

@@ -1,5 +1,5 @@
 use Rattle.ks_batch.specs.declared.words.Text.TheVariants.{Script}
-use Rattle.ks_batch.proofs.Loading.{load_cause, read_to_end, few_read, asked_read}
+use Rattle.ks_batch.proofs.Loading.{load_cause, read_to_end, few_read, script_read}
 use Rattle.ks_batch.proofs.input.load.Goals as goal
 
 pub returns-clause-cause : goal.returns-clause-cause
@@ -11,5 +11,5 @@ returns-clause-callers g c = few_read c.deref.result.now c.script.result c.scrip
 pub returns-clause-line : goal.returns-clause-line
 returns-clause-line g c = read_to_end c.script.result (g.S.Source.left c.args.source.now) _ c.in_ok-bytes.ensures.end
 
-pub returns-clause-asked : goal.returns-clause-asked
-returns-clause-asked g c = asked_read c.deref.result.now c.script.result c.script.ensures.accepted
+pub returns-clause-is : goal.returns-clause-is
+returns-clause-is g c = script_read c.deref.result.now c.script.result c.script.ensures.accepted

@@ -1,4 +1,5 @@
 use Rattle.ks_batch.specs.declared.words.Text.TheVariants.{Checked}
+use Rattle.ks_batch.proofs.Counts.{few_checked, answered_checked}
 use Rattle.ks_batch.proofs.Loading.{load_cause, read_to_end}
 use Rattle.ks_batch.proofs.input.load_checked.Goals as goal
 
@@ -7,3 +8,9 @@ returns-clause-cause g c = load_cause Checked (g.S.Source.left c.args.source.now
 
 pub returns-clause-line : goal.returns-clause-line
 returns-clause-line g c = read_to_end c.checked.result (g.S.Source.left c.args.source.now) _ c.in_ok-bytes.ensures.end
+
+pub returns-clause-few : goal.returns-clause-few
+returns-clause-few g c = few_checked c.deref.result.now c.checked.result c.checked.ensures.accepted
+
+pub returns-clause-answered : goal.returns-clause-answered
+returns-clause-answered g c = answered_checked c.deref.result.now c.checked.result c.checked.ensures.accepted

@@ -1,13 +1,14 @@
-use Rattle.std.proofs.Common.{ℕ, ◌≡◌, ◌⊎◌, map, string_bytes, arith}
+use Rattle.std.proofs.Common.{ℕ, ◌≡◌, ◌⊎◌, List, map, string_bytes, arith}
 use Rattle.std.specs.Prelude.{IfSome}
 use Rattle.ks_history.specs.Due.{FullsDue}
 use Rattle.ks_arena.specs.Named.{AllNamedBelow}
+use Rattle.ks_lines.specs.declared.Line.{Line}
 use Rattle.ks_script.specs.Outside.{Rose, Grew, GrewByFront}
 use Rattle.ks_batch.specs.Pairings.{row_of}
-use Rattle.ks_batch.specs.Serve.{RefusedAt, Prints}
+use Rattle.ks_batch.specs.Serve.{RefusedAt, UnfitAt, Prints, Accepts}
 use Rattle.ks_batch.specs.declared.words.Text.TheVariants.{Script, Checked}
-use Rattle.ks_batch.proofs.Due.{script_outcome, check_outcome, due_refusal, due_answer, due_done, due_judged}
-use Rattle.ks_batch.proofs.Askings.{not_both, asks_command, only, make_asks, asks_make, make_command, of_run, served_run, served_make, check_serves_none, serve_command, not_six}
+use Rattle.ks_batch.proofs.Due.{script_outcome, check_outcome, due_refusal, due_answer, due_done, due_unfit, due_judged}
+use Rattle.ks_batch.proofs.Askings.{not_both, asks_command, only, make_asks, asks_make, make_command, of_run, served_run, served_make, check_serves_none, serve_command, not_six, not_seven}
 use Rattle.ks_batch.proofs.serving.serve.Goals as goal
 use Rattle.ks_batch.proofs.serving.serve.Goals.{in-Some-Run, in-Some-Make, in-Some-Check, in-None}
 
@@ -23,7 +24,7 @@ returns-clause-ran g c asks =
 pub returns-clause-not_ran : goal.returns-clause-not_ran
 returns-clause-not_ran g c asks =
     elim c.match-command.branch [
-      | in-Some-Run w ↦ absurd (not_both (map string_bytes c.args.words.now) (_, _, (_, rw w.in-Some-Run.field-0-is at w.in-Some-Run.ensures.some)) asks)
+      | in-Some-Run w ↦ absurd (not_both (map string_bytes c.args.words.now) (_, _, (_, _, rw w.in-Some-Run.field-0-is at w.in-Some-Run.ensures.some)) asks)
       | in-Some-Make w ↦ absurd (make_asks (map string_bytes c.args.words.now) _ _ _ Checked (rw w.in-Some-Make.field-0-is at w.in-Some-Make.ensures.some) asks)
       | in-Some-Check w ↦ rw w.outcome-is w.check_run-outcome.ensures.run
       | in-None w ↦ absurd (w.in-None.ensures.none (asks_command (map string_bytes c.args.words.now) Checked asks))
@@ -34,7 +35,7 @@ returns-clause-due g c p n asks =
     elim c.match-command.branch [
       | in-Some-Run w ↦
           let r = w.serve_script-outcome.result in
-          rw w.outcome-is (served_run (λ q m. IfSome r.run (λ run. FullsDue (row_of q).layout m run)) (map string_bytes c.args.words.now) _ p _ n (_, rw w.in-Some-Run.field-0-is at w.in-Some-Run.ensures.some) asks w.serve_script-outcome.ensures.due)
+          rw w.outcome-is (served_run (λ q m. IfSome r.run (λ run. FullsDue (row_of q).layout m run)) (map string_bytes c.args.words.now) _ p _ n (_, _, rw w.in-Some-Run.field-0-is at w.in-Some-Run.ensures.some) asks w.serve_script-outcome.ensures.due)
       | in-Some-Make w ↦
           let r = w.make_run-outcome.result in
           rw w.outcome-is (served_make (λ q m. IfSome r.run (λ run. FullsDue (row_of q).layout m run)) (map string_bytes c.args.words.now) _ p _ n _ (rw w.in-Some-Make.field-0-is at w.in-Some-Make.ensures.some) asks w.make_run-outcome.ensures.due)
@@ -47,7 +48,7 @@ returns-clause-named g c p n asks =
     elim c.match-command.branch [
       | in-Some-Run w ↦
           let r = w.serve_script-outcome.result in
-          rw w.outcome-is (served_run (λ q m. IfSome r.run (λ run. AllNamedBelow m run)) (map string_bytes c.args.words.now) _ p _ n (_, rw w.in-Some-Run.field-0-is at w.in-Some-Run.ensures.some) asks w.serve_script-outcome.ensures.named)
+          rw w.outcome-is (served_run (λ q m. IfSome r.run (λ run. AllNamedBelow m run)) (map string_bytes c.args.words.now) _ p _ n (_, _, rw w.in-Some-Run.field-0-is at w.in-Some-Run.ensures.some) asks w.serve_script-outcome.ensures.named)
       | in-Some-Make w ↦
           let r = w.make_run-outcome.result in
           rw w.outcome-is (served_make (λ q m. IfSome r.run (λ run. AllNamedBelow m run)) (map string_bytes c.args.words.now) _ p _ n _ (rw w.in-Some-Make.field-0-is at w.in-Some-Make.ensures.some) asks w.make_run-outcome.ensures.named)
@@ -62,7 +63,7 @@ returns-clause-done g c p n spells =
           let r = w.serve_script-outcome.result in
           rw (w.outcome-is, w.out-is)
           (of_run (λ q. r.status ≡ 0 → IfSome (g.S.Source.left c.args.source.now) (λ bytes. IfSome r.run (λ run. Prints (row_of q).place bytes run (λ t. Grew (g.K.Sink.taken c.args.out.now) (g.K.Sink.taken w.serve_script-outcome.new.out) t))))
-          (map string_bytes c.args.words.now) _ p _ n (_, rw w.in-Some-Run.field-0-is at w.in-Some-Run.ensures.some) spells w.serve_script-outcome.ensures.done)
+          (map string_bytes c.args.words.now) _ p _ n (_, _, rw w.in-Some-Run.field-0-is at w.in-Some-Run.ensures.some) spells w.serve_script-outcome.ensures.done)
       | in-Some-Make w ↦ absurd (make_asks (map string_bytes c.args.words.now) _ _ _ Script (rw w.in-Some-Make.field-0-is at w.in-Some-Make.ensures.some) (p, n, spells))
       | in-Some-Check w ↦ absurd (not_both (map string_bytes c.args.words.now) (p, n, spells) (rw w.in-Some-Check.field-0-is at w.in-Some-Check.ensures.some))
       | in-None w ↦ absurd (w.in-None.ensures.none (asks_command (map string_bytes c.args.words.now) Script (p, n, spells)))
@@ -84,7 +85,7 @@ returns-clause-cut g c p n spells =
           let r = w.serve_script-outcome.result in
           rw (w.outcome-is, w.out-is)
           (of_run (λ q. r.status ≡ 4 → IfSome (g.S.Source.left c.args.source.now) (λ bytes. IfSome r.run (λ run. Prints (row_of q).place bytes run (λ t. GrewByFront (g.K.Sink.taken c.args.out.now) (g.K.Sink.taken w.serve_script-outcome.new.out) t))))
-          (map string_bytes c.args.words.now) _ p _ n (_, rw w.in-Some-Run.field-0-is at w.in-Some-Run.ensures.some) spells w.serve_script-outcome.ensures.cut)
+          (map string_bytes c.args.words.now) _ p _ n (_, _, rw w.in-Some-Run.field-0-is at w.in-Some-Run.ensures.some) spells w.serve_script-outcome.ensures.cut)
       | in-Some-Make w ↦ absurd (make_asks (map string_bytes c.args.words.now) _ _ _ Script (rw w.in-Some-Make.field-0-is at w.in-Some-Make.ensures.some) (p, n, spells))
       | in-Some-Check w ↦ absurd (not_both (map string_bytes c.args.words.now) (p, n, spells) (rw w.in-Some-Check.field-0-is at w.in-Some-Check.ensures.some))
       | in-None w ↦ absurd (w.in-None.ensures.none (asks_command (map string_bytes c.args.words.now) Script (p, n, spells)))
@@ -93,34 +94,64 @@ returns-clause-cut g c p n spells =
 pub returns-clause-checked : goal.returns-clause-checked
 returns-clause-checked g c asks =
     elim c.match-command.branch [
-      | in-Some-Run w ↦ absurd (not_both (map string_bytes c.args.words.now) (_, _, (_, rw w.in-Some-Run.field-0-is at w.in-Some-Run.ensures.some)) asks)
+      | in-Some-Run w ↦ absurd (not_both (map string_bytes c.args.words.now) (_, _, (_, _, rw w.in-Some-Run.field-0-is at w.in-Some-Run.ensures.some)) asks)
       | in-Some-Make w ↦ absurd (make_asks (map string_bytes c.args.words.now) _ _ _ Checked (rw w.in-Some-Make.field-0-is at w.in-Some-Make.ensures.some) asks)
       | in-Some-Check w ↦ rw (w.outcome-is, w.out-is) w.check_run-outcome.ensures.checked
       | in-None w ↦ absurd (w.in-None.ensures.none (asks_command (map string_bytes c.args.words.now) Checked asks))
     ]
 
 pub returns-clause-done_due : goal.returns-clause-done_due
-returns-clause-done_due g c asks =
+returns-clause-done_due g c p n asks =
     elim c.match-command.branch [
-      | in-Some-Run w ↦ let e = w.serve_script-outcome.ensures in rw (w.outcome-is, w.source-is, w.out-is) (λ calm out_calm. due_done (g.S.Source.left c.args.source.now) _ e.status.1 (due_answer Script (g.S.Source.left c.args.source.now) _ _ _ _ (script_outcome _ (g.S.Source.left c.args.source.now) _ _ _ _ _ _ _ e.status e.ran e.done e.cut e.refused e.source e.output) calm out_calm))
-      | in-Some-Make w ↦ absurd (make_asks (map string_bytes c.args.words.now) _ _ _ Script (rw w.in-Some-Make.field-0-is at w.in-Some-Make.ensures.some) asks)
-      | in-Some-Check w ↦ absurd (not_both (map string_bytes c.args.words.now) asks (rw w.in-Some-Check.field-0-is at w.in-Some-Check.ensures.some))
-      | in-None w ↦ absurd (w.in-None.ensures.none (asks_command (map string_bytes c.args.words.now) Script asks))
+      | in-Some-Run w ↦
+          let e = w.serve_script-outcome.ensures in
+          let r = w.serve_script-outcome.result in
+          rw (w.outcome-is, w.source-is, w.out-is)
+          (of_run (λ q. (Rose (g.S.Source.faults c.args.source.now) (g.S.Source.faults w.serve_script-outcome.new.source) → ⊥) → (Rose (g.K.Sink.faults c.args.out.now) (g.K.Sink.faults w.serve_script-outcome.new.out) → ⊥) → IfSome (g.S.Source.left c.args.source.now) (λ bytes. (script : List (List Line)) → Accepts bytes script → ((m : ℕ) → UnfitAt q bytes m → ⊥) → (r.status ≡ 0) ⊎ (r.status ≡ 5)))
+          (map string_bytes c.args.words.now) _ p _ n (_, _, rw w.in-Some-Run.field-0-is at w.in-Some-Run.ensures.some) asks
+          (λ calm out_calm. due_done _ (g.S.Source.left c.args.source.now) _ e.status.1 (due_answer Script (g.S.Source.left c.args.source.now) _ _ _ _ _ (script_outcome _ _ (g.S.Source.left c.args.source.now) _ _ _ _ _ _ _ e.status e.ran e.done e.cut e.refused e.unfit e.source e.output) calm out_calm)))
+      | in-Some-Make w ↦ absurd (make_asks (map string_bytes c.args.words.now) _ _ _ Script (rw w.in-Some-Make.field-0-is at w.in-Some-Make.ensures.some) (p, n, asks))
+      | in-Some-Check w ↦ absurd (not_both (map string_bytes c.args.words.now) (p, n, asks) (rw w.in-Some-Check.field-0-is at w.in-Some-Check.ensures.some))
+      | in-None w ↦ absurd (w.in-None.ensures.none (asks_command (map string_bytes c.args.words.now) Script (p, n, asks)))
+    ]
+
+pub returns-clause-unfit_due : goal.returns-clause-unfit_due
+returns-clause-unfit_due g c p n asks =
+    elim c.match-command.branch [
+      | in-Some-Run w ↦
+          let e = w.serve_script-outcome.ensures in
+          let r = w.serve_script-outcome.result in
+          rw (w.outcome-is, w.source-is)
+          (of_run (λ q. (Rose (g.S.Source.faults c.args.source.now) (g.S.Source.faults w.serve_script-outcome.new.source) → ⊥) → IfSome (g.S.Source.left c.args.source.now) (λ bytes. (m : ℕ) → UnfitAt q bytes m → ((r.status ≡ 7) × (r.line ≡ m)) ⊎ (r.status ≡ 5)))
+          (map string_bytes c.args.words.now) _ p _ n (_, _, rw w.in-Some-Run.field-0-is at w.in-Some-Run.ensures.some) asks
+          (due_unfit _ (g.S.Source.left c.args.source.now) _ _ _ _ (script_outcome _ _ (g.S.Source.left c.args.source.now) _ _ _ _ _ _ _ e.status e.ran e.done e.cut e.refused e.unfit e.source e.output) e.status.1 e.fit e.once))
+      | in-Some-Make w ↦ absurd (make_asks (map string_bytes c.args.words.now) _ _ _ Script (rw w.in-Some-Make.field-0-is at w.in-Some-Make.ensures.some) (p, n, asks))
+      | in-Some-Check w ↦ absurd (not_both (map string_bytes c.args.words.now) (p, n, asks) (rw w.in-Some-Check.field-0-is at w.in-Some-Check.ensures.some))
+      | in-None w ↦ absurd (w.in-None.ensures.none (asks_command (map string_bytes c.args.words.now) Script (p, n, asks)))
+    ]
+
+pub returns-clause-unfit : goal.returns-clause-unfit
+returns-clause-unfit g c =
+    elim c.match-command.branch [
+      | in-Some-Run w ↦ rw w.outcome-is (λ is. (_, _, (_, _, rw w.in-Some-Run.field-0-is at w.in-Some-Run.ensures.some), w.serve_script-outcome.ensures.unfit is))
+      | in-Some-Make w ↦ rw w.outcome-is (λ is. absurd (not_seven w.make_run-outcome.ensures.status is))
+      | in-Some-Check w ↦ rw w.outcome-is (λ is. let le = w.check_run-outcome.ensures.status.1 in absurd (omega (arith, le, is)))
+      | in-None w ↦ rw w.outcome-is (λ is. let e = w.without_run-outcome.ensures.0 in absurd (omega (arith, e, is)))
     ]
 
 pub returns-clause-judged_due : goal.returns-clause-judged_due
 returns-clause-judged_due g c asks =
     elim c.match-command.branch [
-      | in-Some-Run w ↦ absurd (not_both (map string_bytes c.args.words.now) (_, _, (_, rw w.in-Some-Run.field-0-is at w.in-Some-Run.ensures.some)) asks)
+      | in-Some-Run w ↦ absurd (not_both (map string_bytes c.args.words.now) (_, _, (_, _, rw w.in-Some-Run.field-0-is at w.in-Some-Run.ensures.some)) asks)
       | in-Some-Make w ↦ absurd (make_asks (map string_bytes c.args.words.now) _ _ _ Checked (rw w.in-Some-Make.field-0-is at w.in-Some-Make.ensures.some) asks)
-      | in-Some-Check w ↦ let e = w.check_run-outcome.ensures in rw (w.outcome-is, w.source-is, w.out-is) (λ calm out_calm. due_judged (g.S.Source.left c.args.source.now) _ (due_answer Checked (g.S.Source.left c.args.source.now) _ _ _ _ (check_outcome (g.S.Source.left c.args.source.now) _ _ _ _ _ _ _ e.status e.checked e.refused e.source e.output) calm out_calm))
+      | in-Some-Check w ↦ let e = w.check_run-outcome.ensures in rw (w.outcome-is, w.source-is, w.out-is) (λ calm out_calm. due_judged (g.S.Source.left c.args.source.now) _ (due_answer Checked (g.S.Source.left c.args.source.now) _ _ _ _ _ (check_outcome (g.S.Source.left c.args.source.now) _ _ _ _ _ _ _ e.status e.checked e.refused e.source e.output) calm out_calm))
       | in-None w ↦ absurd (w.in-None.ensures.none (asks_command (map string_bytes c.args.words.now) Checked asks))
     ]
 
 pub returns-clause-judgment : goal.returns-clause-judgment
 returns-clause-judgment g c =
     elim c.match-command.branch [
-      | in-Some-Run w ↦ rw w.outcome-is (λ is. let le = w.serve_script-outcome.ensures.status.1 in absurd (omega (arith, le, is)))
+      | in-Some-Run w ↦ rw w.outcome-is (λ is. absurd (w.serve_script-outcome.ensures.status.1 is))
       | in-Some-Make w ↦ rw w.outcome-is (λ is. absurd (not_six w.make_run-outcome.ensures.status is))
       | in-Some-Check w ↦ λ is. rw w.in-Some-Check.field-0-is at w.in-Some-Check.ensures.some
       | in-None w ↦ rw w.outcome-is (λ is. let e = w.without_run-outcome.ensures.0 in absurd (omega (arith, e, is)))
@@ -131,7 +162,7 @@ returns-clause-refused g c t asks =
     elim c.match-command.branch [
       | in-Some-Run w ↦
           let r = w.serve_script-outcome.result in
-          rw w.outcome-is (only (λ u. r.status ≡ 2 → IfSome (g.S.Source.left c.args.source.now) (λ bytes. RefusedAt u bytes r.line)) (map string_bytes c.args.words.now) Script t (_, _, (_, rw w.in-Some-Run.field-0-is at w.in-Some-Run.ensures.some)) asks w.serve_script-outcome.ensures.refused)
+          rw w.outcome-is (only (λ u. r.status ≡ 2 → IfSome (g.S.Source.left c.args.source.now) (λ bytes. RefusedAt u bytes r.line)) (map string_bytes c.args.words.now) Script t (_, _, (_, _, rw w.in-Some-Run.field-0-is at w.in-Some-Run.ensures.some)) asks w.serve_script-outcome.ensures.refused)
       | in-Some-Make w ↦ absurd (make_asks (map string_bytes c.args.words.now) _ _ _ t (rw w.in-Some-Make.field-0-is at w.in-Some-Make.ensures.some) asks)
       | in-Some-Check w ↦
           let r = w.check_run-outcome.result in
@@ -145,21 +176,21 @@ returns-clause-refusal_due g c t asks =
       | in-Some-Run w ↦
           let e = w.serve_script-outcome.ensures in
           let r = w.serve_script-outcome.result in
-          rw (w.outcome-is, w.source-is) (only (λ u. (Rose (g.S.Source.faults c.args.source.now) (g.S.Source.faults w.serve_script-outcome.new.source) → ⊥) → IfSome (g.S.Source.left c.args.source.now) (λ bytes. (n : ℕ) → RefusedAt u bytes n → ((r.status ≡ 2) × (r.line ≡ n)) ⊎ (r.status ≡ 5))) (map string_bytes c.args.words.now) Script t (_, _, (_, rw w.in-Some-Run.field-0-is at w.in-Some-Run.ensures.some)) asks
-          (due_refusal Script (g.S.Source.left c.args.source.now) _ _ _ _ (script_outcome _ (g.S.Source.left c.args.source.now) _ _ _ _ _ _ _ e.status e.ran e.done e.cut e.refused e.source e.output)))
+          rw (w.outcome-is, w.source-is) (only (λ u. (Rose (g.S.Source.faults c.args.source.now) (g.S.Source.faults w.serve_script-outcome.new.source) → ⊥) → IfSome (g.S.Source.left c.args.source.now) (λ bytes. (n : ℕ) → RefusedAt u bytes n → ((r.status ≡ 2) × (r.line ≡ n)) ⊎ (r.status ≡ 5))) (map string_bytes c.args.words.now) Script t (_, _, (_, _, rw w.in-Some-Run.field-0-is at w.in-Some-Run.ensures.some)) asks
+          (due_refusal Script (g.S.Source.left c.args.source.now) _ _ _ _ _ (script_outcome _ _ (g.S.Source.left c.args.source.now) _ _ _ _ _ _ _ e.status e.ran e.done e.cut e.refused e.unfit e.source e.output)))
       | in-Some-Make w ↦ absurd (make_asks (map string_bytes c.args.words.now) _ _ _ t (rw w.in-Some-Make.field-0-is at w.in-Some-Make.ensures.some) asks)
       | in-Some-Check w ↦
           let e = w.check_run-outcome.ensures in
           let r = w.check_run-outcome.result in
           rw (w.outcome-is, w.source-is) (only (λ u. (Rose (g.S.Source.faults c.args.source.now) (g.S.Source.faults w.check_run-outcome.new.source) → ⊥) → IfSome (g.S.Source.left c.args.source.now) (λ bytes. (n : ℕ) → RefusedAt u bytes n → ((r.status ≡ 2) × (r.line ≡ n)) ⊎ (r.status ≡ 5))) (map string_bytes c.args.words.now) Checked t (rw w.in-Some-Check.field-0-is at w.in-Some-Check.ensures.some) asks
-          (due_refusal Checked (g.S.Source.left c.args.source.now) _ _ _ _ (check_outcome (g.S.Source.left c.args.source.now) _ _ _ _ _ _ _ e.status e.checked e.refused e.source e.output)))
+          (due_refusal Checked (g.S.Source.left c.args.source.now) _ _ _ _ _ (check_outcome (g.S.Source.left c.args.source.now) _ _ _ _ _ _ _ e.status e.checked e.refused e.source e.output)))
       | in-None w ↦ absurd (w.in-None.ensures.none (asks_command (map string_bytes c.args.words.now) t asks))
     ]
 
 pub returns-clause-made : goal.returns-clause-made
 returns-clause-made g c is_make =
     elim c.match-command.branch [
-      | in-Some-Run w ↦ absurd (asks_make (map string_bytes c.args.words.now) Script (_, _, (_, rw w.in-Some-Run.field-0-is at w.in-Some-Run.ensures.some)) is_make)
+      | in-Some-Run w ↦ absurd (asks_make (map string_bytes c.args.words.now) Script (_, _, (_, _, rw w.in-Some-Run.field-0-is at w.in-Some-Run.ensures.some)) is_make)
       | in-Some-Make w ↦
           let e = w.make_run-outcome.ensures in
           rw (w.outcome-is, w.out-is) record { pairing = _; arena = _; draft = _; spells = rw w.in-Some-Make.field-0-is at w.in-Some-Make.ensures.some; known = e.status; ran = e.ran; done = e.done; cut = e.cut }

@@ -1,36 +1,38 @@
 use Rattle.std.proofs.Common.{◌≡◌, ◌∙◌, List, map, length, All, sym, ap, subst, ⊎_elim, arith}
 use Rattle.std.proofs.lemmas.List.{length-map}
-use Rattle.ks_history.specs.declared.Op.{Op}
 use Rattle.ks_history.specs.Callers.{CallersBelow}
-use Rattle.ks_history.specs.Asked.{AreAsked}
+use Rattle.ks_lines.specs.declared.Line.{Line}
+use Rattle.ks_lines.specs.declared.Said.{Said}
+use Rattle.ks_lines.specs.Lines.{AreAnswered, ops_in, replies_in}
+use Rattle.ks_lines.specs.Asked.{AreServedLines}
 use Rattle.ks_arena.specs.Sound.{sort_of}
 use Rattle.ks_shape.specs.Idle.{Site}
-use Rattle.ks_tickets.specs.Clauses.{EachAs, HaveEndedAt, IsFreeAt}
+use Rattle.ks_tickets.specs.Clauses.{EachAs}
 use Rattle.ks_dictionary.specs.Crew.{site_with}
 use Rattle.ks_dictionary.specs.declared.job.Job.{Job}
+use Rattle.ks_dictionary.specs.Called.{HaveCalled}
 use Rattle.ks_dictionary.specs.Ended.{history}
 use Rattle.ks_dictionary.specs.Of.{site_of}
-use Rattle.ks_dictionary.specs.Work.{FinishedAs, WaitsAs}
-use Rattle.ks_dictionary.proofs.Joined.{all_wait, as_about, at_arena, is_crew, have_called, map_both, written}
-use Rattle.ks_dictionary.proofs.Staffed.{all_staffed, staff_ended}
+use Rattle.ks_dictionary.specs.Work.{FinishedAs, HasRoom, WaitsAs}
+use Rattle.ks_dictionary.proofs.Joined.{all_wait, are_answered, as_about, at_arena, is_crew, have_called, map_both}
 use Rattle.ks_dictionary.proofs.serving.serve_jobs.Goals as goal
 use Rattle.ks_dictionary.proofs.serving.serve_jobs.Given.{Over}
-use Rattle.ks_dictionary.proofs.serving.serve_jobs.Goals.{In_ok-jobs}
+use Rattle.ks_dictionary.proofs.serving.serve_jobs.Goals.{In_ok-jobs, In_ok-passes}
 
 abbrev site : (g : Over) → In_ok-jobs g → Site
 site g c = site_of c.args.dictionary
 
 -- there is a job for each script
 many : (g : Over) (c : In_ok-jobs g) → length c.in_ok-jobs.jobs.items ≡ length c.args.scripts.items
-many g c = sym (length-map c.in_ok-jobs.jobs.items (λ j. j.ops)) ∙ ap length c.in_ok-jobs.ensures.scripts
+many g c = sym (length-map c.in_ok-jobs.jobs.items (λ j. j.script)) ∙ ap length c.in_ok-jobs.ensures.scripts
 
-scripts_are : (g : Over) (c : In_ok-jobs g) → map (λ j. j.ops.items) c.in_ok-jobs.jobs.items ≡ g.W.About.scripts
-scripts_are g c = sym (map_both (λ v. v.items) (λ j. j.ops) c.in_ok-jobs.jobs.items) ∙ ap (map (λ v. v.items)) c.in_ok-jobs.ensures.scripts ∙ sym c.requires.scripts
+scripts_are : (g : Over) (c : In_ok-jobs g) → map (λ j. j.script.items) c.in_ok-jobs.jobs.items ≡ g.W.About.scripts
+scripts_are g c = sym (map_both (λ v. v.items) (λ j. j.script) c.in_ok-jobs.jobs.items) ∙ ap (map (λ v. v.items)) c.in_ok-jobs.ensures.scripts ∙ sym c.requires.scripts
 
-scripts_of_jobs : (g : Over) (c : In_ok-jobs g) → map (λ v. v.items) c.args.scripts.items ≡ map (λ j. j.ops.items) c.in_ok-jobs.jobs.items
-scripts_of_jobs g c = sym (ap (map (λ v. v.items)) c.in_ok-jobs.ensures.scripts) ∙ map_both (λ v. v.items) (λ j. j.ops) c.in_ok-jobs.jobs.items
+scripts_of_jobs : (g : Over) (c : In_ok-jobs g) → map (λ v. v.items) c.args.scripts.items ≡ map (λ j. j.script.items) c.in_ok-jobs.jobs.items
+scripts_of_jobs g c = sym (ap (map (λ v. v.items)) c.in_ok-jobs.ensures.scripts) ∙ map_both (λ v. v.items) (λ j. j.script) c.in_ok-jobs.jobs.items
 
-abbrev asked : (g : Over) → In_ok-jobs g → List (List Op)
+abbrev asked : (g : Over) → In_ok-jobs g → List (List Line)
 asked g c = map (λ v. v.items) c.args.scripts.items
 
 -- what holds of jobs about the run holds of them about the arena
@@ -39,7 +41,7 @@ jobs_done : {N D W : Type 0} (g : Over) (c : In_ok-jobs g) (js : List (Job N D W
     → EachAs (FinishedAs (site g c) (asked g c) g.N.Places.Placing.place_of) js
 jobs_done g c js done =
     let a = c.args.dictionary.arena in
-    subst (λ (xs : List (List Op)). EachAs (FinishedAs (site g c) xs g.N.Places.Placing.place_of) js) c.requires.scripts
+    subst (λ (xs : List (List Line)). EachAs (FinishedAs (site g c) xs g.N.Places.Placing.place_of) js) c.requires.scripts
     (at_arena (sort_of g.N.Node.layout g.N.Node.ranged) g.T.Rule.Discipline.begins g.T.Rule.Discipline.step a.table.shared.table_id a.callers a.nodes
     g.W.About.table g.W.About.callers g.W.About.nodes c.requires.about (λ s. EachAs (FinishedAs s g.W.About.scripts g.N.Places.Placing.place_of) js) done)
 
@@ -63,22 +65,19 @@ start-requires-clause-jobs g c =
     let a = c.args.dictionary.arena in
     as_about (sort_of g.N.Node.layout g.N.Node.ranged) g.T.Rule.Discipline.begins g.T.Rule.Discipline.step a.table.shared.table_id a.callers a.nodes
     g.W.About.table g.W.About.callers g.W.About.nodes c.requires.about (λ s. EachAs (WaitsAs s g.W.About.scripts) c.in_ok-jobs.jobs.items)
-    (subst (λ (xs : List (List Op)). EachAs (WaitsAs (site g d) xs) c.in_ok-jobs.jobs.items) (scripts_are g d)
-    (all_wait (site g d) c.in_ok-jobs.jobs.items (rw c.in_ok-jobs.ensures.passes c.requires.crew) c.in_ok-jobs.ensures.room (subst AreAsked (scripts_of_jobs g d) c.requires.asked)))
+    (subst (λ (xs : List (List Line)). EachAs (WaitsAs (site g d) xs) c.in_ok-jobs.jobs.items) (scripts_are g d)
+    (all_wait (site g d) _ _ c.in_ok-jobs.jobs.items (rw c.in_ok-jobs.ensures.passes c.requires.crew)
+    (subst (λ b. All (HasRoom b) c.in_ok-jobs.jobs.items) c.serves_scans.ensures c.in_ok-jobs.ensures.room)
+    (subst (AreServedLines _ _) (scripts_of_jobs g d) c.requires.served)))
 
-pub work-requires-clause-free : goal.work-requires-clause-free
-work-requires-clause-free g c κs within =
-    let t = c.in_ok-tickets.tickets.table.shared.table_id in
-    subst (All (λ w. IsFreeAt t w.desk)) (sym c.as_mut_slice.ensures.value) (all_staffed t c.in_ok-workers.workers.items c.in_ok-tickets.desks.items c.in_ok-workers.ensures c.in_ok-tickets.ensures.desks)
+pub serve_at-requires-clause-served : goal.serve_at-requires-clause-served
+serve_at-requires-clause-served g c κs within = subst (AreServedLines _ _) (sym c.requires.scripts) c.requires.served
 
-pub close-requires-clause-desks : goal.close-requires-clause-desks
-close-requires-clause-desks g c =
-    let t = c.in_ok-tickets.tickets.table.shared.table_id in
-    let ws = c.in_ok-workers.workers in
-    let value = c.as_mut_slice.ensures.value in
-    let count : length c.work.new.workers ≡ length ws.items = rw value at c.work.ensures.count in
-    subst (HaveEndedAt t) (sym (c.in_ok-ended.ensures ∙ ap (map (λ w. w.desk)) (written ws.len ws.items c.work.new.workers ws.ok.0 count)))
-    (staff_ended t ws.items c.work.new.workers c.in_ok-tickets.desks.items c.in_ok-workers.ensures c.in_ok-tickets.ensures.desks count (rw value at c.work.ensures.ended) (rw value at c.work.ensures.same))
+pub serve_at-requires-clause-count : goal.serve_at-requires-clause-count
+serve_at-requires-clause-count g c κs within =
+    let n = many g (goal.at.serve_at-requires-clause-count g c).In_ok-jobs in let m = c.in_ok-jobs.jobs.ok.0 in let l = c.len-2.ensures in let some = c.requires.some in let w = c.requires.workers in let le = c.workers_for-desks.ensures.least.1 in
+    let count = c.in_ok-tickets.ensures.count in
+    (⊎_elim (λ e. omega arith) (λ e. omega arith) c.workers_for-desks.ensures.one, omega arith)
 
 pub close-requires-clause-room : goal.close-requires-clause-room
 close-requires-clause-room g c = let a = c.in_ok-tickets.ensures.jobs in let b = c.in_ok-into.ensures.capacity in let d = c.len.ensures in let e = c.in_ok-jobs.jobs.ok.0 in omega arith
@@ -91,12 +90,26 @@ close-requires-2-after_bounds g c κs within =
     rw c.in_ok-passes.ensures.passes
     (is_crew (site g d) g.N.Places.Placing.place_of (asked g d) js (all_callers g d js long) (as_asked g d js long) (jobs_done g d js c.close.ensures.jobs))
 
+-- what is said of the scripts is what is in the jobs
+said_of : (g : Over) (c : In_ok-passes g) → map (λ v. v.items) c.in_ok-passes.lines.items ≡ map (λ j. j.said.items) c.close.result.items
+said_of g c = ap (map (λ v. v.items)) c.in_ok-passes.ensures.lines ∙ map_both (λ v. v.items) (λ j. j.said) c.close.result.items
+
+pub returns-clause-answered : goal.returns-clause-answered
+returns-clause-answered g c =
+    let d = (goal.at.returns-clause-answered g c).In_ok-jobs in
+    let js = c.close.result.items in
+    let long : length js ≡ length c.in_ok-jobs.jobs.items = c.close.ensures.count ∙ c.in_ok-tickets.ensures.jobs in
+    subst (AreAnswered (asked g d)) (sym (said_of g (goal.at.returns-clause-answered g c).In_ok-passes))
+    (are_answered (site g d) g.N.Places.Placing.place_of (asked g d) js (all_callers g d js long) (as_asked g d js long) (jobs_done g d js c.close.ensures.jobs)
+    (history c.close-2.result) (rw c.in_ok-passes.ensures.passes at c.close-2.ensures.seen) c.close-2.ensures.callers)
+
 pub returns-clause-called : goal.returns-clause-called
 returns-clause-called g c =
     let d = (goal.at.returns-clause-called g c).In_ok-jobs in
     let js = c.close.result.items in
     let long : length js ≡ length c.in_ok-jobs.jobs.items = c.close.ensures.count ∙ c.in_ok-tickets.ensures.jobs in
-    rw (ap (map (λ v. v.items)) c.in_ok-passes.ensures.lines ∙ map_both (λ v. v.items) (λ j. j.lines) js)
+    subst (λ (said : List (List Said)). HaveCalled g.N.Places.Placing.place_of (ops_in (asked g d) said) (replies_in (asked g d) said) (history c.close-2.result))
+    (sym (said_of g (goal.at.returns-clause-called g c).In_ok-passes))
     (have_called (site g d) g.N.Places.Placing.place_of (asked g d) js (all_callers g d js long) (as_asked g d js long) (jobs_done g d js c.close.ensures.jobs)
     (history c.close-2.result) (rw c.in_ok-passes.ensures.passes at c.close-2.ensures.seen) c.close-2.ensures.callers)
 

@@ -1,15 +1,14 @@
 use Rattle.std.proofs.Common.{ℕ, ◌≡◌, ◌≤◌, ◌+◌, ◌∷◌, List, drop, get_or, sym, ◌∙◌, subst, arith}
-use Rattle.ks_judge.specs.Table.{found}
 use Rattle.std.proofs.lemmas.Bool.{false≢true}
 use Rattle.std.proofs.lemmas.List.{drop_more}
 use Rattle.ks_judge.proofs.Listing.{Lists, lists_head, lists_tail, lists_more}
 use Rattle.ks_judge.proofs.judging.is_listing.Goals as goal
 
 pub returns-then-from-least : goal.returns-then-from-least
-returns-then-from-least c =
+returns-then-from-least g c =
     let i = c.loop-pair.pair-index in
     let pairs = c.args.pairs.now in
-    let m = found c.loop-pair.rest in
+    let m = g.M.Store.has c.loop-pair.rest in
     let x : ℕ × ℕ = get_or pairs i (0, 0) in (
       λ t. absurd (false≢true t),
       λ listing.
@@ -19,10 +18,10 @@ returns-then-from-least c =
     )
 
 pub returns-then-not-takes : goal.returns-then-not-takes
-returns-then-not-takes c =
+returns-then-not-takes g c =
     let i = c.loop-pair.pair-index in
     let pairs = c.args.pairs.now in
-    let m = found c.loop-pair.rest in
+    let m = g.M.Store.has c.loop-pair.rest in
     let x : ℕ × ℕ = get_or pairs i (0, 0) in (
       λ t. absurd (false≢true t),
       λ listing.
@@ -32,12 +31,12 @@ returns-then-not-takes c =
     )
 
 pub loop-pair-preserved : goal.loop-pair-preserved
-loop-pair-preserved c =
+loop-pair-preserved g c =
     let i = c.loop-pair.pair-index in
     let pairs = c.args.pairs.now in
     let least = c.loop-pair.least in
-    let m = found c.loop-pair.rest in
-    let k = found c.takes.new.map in
+    let m = g.M.Store.has c.loop-pair.rest in
+    let k = g.M.Store.has c.takes.new.map in
     let x : ℕ × ℕ = get_or pairs i (0, 0) in
     let rest : List (ℕ × ℕ) = drop (i + 1) pairs in
     let cut : drop i pairs ≡ x ∷ rest = drop_more pairs i (0, 0) c.loop-pair-test.true in

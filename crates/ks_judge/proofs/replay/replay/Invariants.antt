@@ -1,11 +1,11 @@
-use Rattle.ks_judge.specs.Table.{found}
 use Rattle.ks_judge.proofs.Replays.{After, RightBelow}
-use Rattle.ks_judge.proofs.Turns.{Turns}
+use Rattle.ks_judge.proofs.Reading.{Stand}
+use Rattle.ks_lines.specs.Lines.{ops_in, replies_in}
 use Rattle.ks_judge.proofs.replay.replay.Given as goal
 
 abbrev pub invariant-loop-number : goal.invariant-loop-number
-invariant-loop-number l = record {
-  right : RightBelow l.callers l.lines l.number;
-  after : After l.callers l.lines l.number (found l.map);
-  turns : Turns l.lines l.number l.places.items;
+invariant-loop-number g l = record {
+  right : RightBelow (ops_in l.callers l.said) (replies_in l.callers l.said) l.number;
+  after : After (ops_in l.callers l.said) (replies_in l.callers l.said) l.number (g.M.Store.has l.map);
+  stand : Stand l.callers l.said l.number l.places.items;
 }

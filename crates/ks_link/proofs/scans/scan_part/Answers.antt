@@ -7,7 +7,7 @@ use Rattle.ks_arena.specs.Sound.{Sort, sort_of}
 use Rattle.ks_arena.specs.Clauses.{seen_of}
 use Rattle.ks_shape.specs.Does.{MaySearch}
 use Rattle.ks_shape.specs.Laws.Does.{does_on}
-use Rattle.ks_shape.specs.declared.parts.Part.{Part}
+use Rattle.ks_lines.specs.declared.parts.Part.{Part}
 use Rattle.ks_link.proofs.Spans.{part_done}
 use Rattle.ks_link.proofs.scans.scan_part.Goals as goal
 

@@ -2,7 +2,7 @@ use Rattle.std.proofs.Common.{◌≡◌, ◌≤◌, ◌-◌, List}
 use Rattle.ks_arena.specs.Clauses.{seen_of}
 use Rattle.ks_shape.specs.Does.{DoesOnly, MaySearch}
 use Rattle.ks_shape.specs.Idle.{IsIdle}
-use Rattle.ks_shape.specs.declared.parts.Part.{Part}
+use Rattle.ks_lines.specs.declared.parts.Part.{Part}
 use Rattle.ks_scan.specs.Scan.{DoneParts}
 use Rattle.ks_scan.proofs.Rows.{next_from}
 use Rattle.ks_scan.specs.Ends.{last_found}

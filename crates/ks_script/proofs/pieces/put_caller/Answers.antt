@@ -1,5 +1,9 @@
-use Rattle.ks_script.proofs.Common.{ℕ, ◌≤◌, ◌<◌, ◌+◌, List, [], ◌∷◌, ◌++◌, length, take, map, codes, sym, ap, ◌∙◌, append-nil, arith, decimal, get_or_default, take_all, Reply, Nothing, text_of, ended, reply_line}
-use Rattle.ks_script.proofs.Texts.{lines_more}
+use Rattle.ks_script.proofs.Common.{ℕ, ◌≤◌, ◌<◌, ◌+◌, List, [], ◌∷◌, ◌++◌, length, take, codes, sym, ap, append-nil, arith, decimal, get_or_default, take_all, Said, text_of, ended, said_lines}
+use Rattle.ks_history.specs.declared.Reply.TheVariants.{Nothing}
+use Rattle.ks_lines.specs.declared.Said.TheVariants.{Call}
+use Rattle.std.specs.List.{flat_map}
+use Rattle.ks_script.specs.PackedReplies.{said_at}
+use Rattle.ks_script.proofs.Texts.{said_more}
 use Rattle.ks_script.proofs.Putting.{puts_on, puts_as}
 use Rattle.ks_script.proofs.pieces.put_caller.Goals as goal
 
@@ -14,17 +18,17 @@ loop-at-init g c =
 pub loop-at-preserved : goal.loop-at-preserved
 loop-at-preserved g c =
     let i : ℕ = c.loop-at.at in
-    let calls = c.args.calls.now in
-    let x = c.get.result in
-    let lt : i < length calls = omega (arith, c.len-at-end.ensures) in
-    puts_as _ _ _ _ _ _ (text_of (head c.args.number ∷ map reply_line (take i calls)) ++ ended (reply_line x)) (text_of (head c.args.number ∷ map reply_line (take (i + 1) calls)))
-    (lines_more (ended (head c.args.number)) reply_line calls i x lt (c.get.ensures.line ∙ get_or_default calls i (0, Nothing) x lt))
-    (puts_on _ _ _ _ _ _ _ _ _ (text_of (head c.args.number ∷ map reply_line (take i calls))) (ended (reply_line x)) c.loop-at.invariant c.put_reply.ensures)
+    let all = c.args.said.now in
+    let x = said_at all i in
+    let lt : i < length all = omega (arith, c.len-at-end.ensures) in
+    puts_as _ _ _ _ _ _ (text_of (head c.args.number ∷ flat_map said_lines (take i all)) ++ text_of (said_lines x)) (text_of (head c.args.number ∷ flat_map said_lines (take (i + 1) all)))
+    (said_more (head c.args.number) all i x lt (get_or_default all i (Call 0 Nothing) x lt))
+    (puts_on _ _ _ _ _ _ _ _ _ (text_of (head c.args.number ∷ flat_map said_lines (take i all))) (text_of (said_lines x)) c.loop-at.invariant c.put_said.ensures)
 
 pub returns : goal.returns
 returns g c =
     let i : ℕ = c.loop-at.at in
-    let calls = c.args.calls.now in
-    let le : length calls ≤ i = omega (arith, c.len-at-end.ensures) in
-    puts_as _ _ _ _ _ _ (text_of (head c.args.number ∷ map reply_line (take i calls))) (text_of (head c.args.number ∷ map reply_line calls))
-    (ap (λ (xs : List (ℕ × Reply)). text_of (head c.args.number ∷ map reply_line xs)) (take_all i calls le)) c.loop-at.invariant
+    let all = c.args.said.now in
+    let le : length all ≤ i = omega (arith, c.len-at-end.ensures) in
+    puts_as _ _ _ _ _ _ (text_of (head c.args.number ∷ flat_map said_lines (take i all))) (text_of (head c.args.number ∷ flat_map said_lines all))
+    (ap (λ (xs : List Said). text_of (head c.args.number ∷ flat_map said_lines xs)) (take_all i all le)) c.loop-at.invariant

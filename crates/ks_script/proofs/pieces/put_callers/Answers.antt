@@ -1,4 +1,4 @@
-use Rattle.ks_script.proofs.Common.{ℕ, ◌+◌, List, ◌++◌, take, ap, arith, take_all, Reply, text_of, callers_from}
+use Rattle.ks_script.proofs.Common.{ℕ, ◌+◌, List, ◌++◌, take, ap, arith, take_all, Said, text_of, callers_from}
 use Rattle.ks_script.proofs.Texts.{one_caller, callers_taken}
 use Rattle.ks_script.proofs.Putting.{puts_none, puts_on, puts_as}
 use Rattle.ks_script.proofs.pieces.put_callers.Goals as goal
@@ -18,4 +18,4 @@ pub returns : goal.returns
 returns g c =
     let i : ℕ = c.loop-number.number in
     let callers = c.args.callers.now in
-    puts_as _ _ _ _ _ _ (text_of (callers_from 0 (take i callers))) (text_of (callers_from 0 callers)) (ap (λ (cs : List (List (ℕ × Reply))). text_of (callers_from 0 cs)) (take_all i callers (omega arith))) c.loop-number.invariant
+    puts_as _ _ _ _ _ _ (text_of (callers_from 0 (take i callers))) (text_of (callers_from 0 callers)) (ap (λ (cs : List (List Said)). text_of (callers_from 0 cs)) (take_all i callers (omega arith))) c.loop-number.invariant

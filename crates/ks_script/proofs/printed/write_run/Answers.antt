@@ -1,10 +1,10 @@
-use Rattle.ks_script.proofs.Common.{ℕ, ◌≡◌, List, [], ◌++◌, sym, ap, ◌∙◌, Reply, text_of, Run, callers_from, map_lines, run_text}
+use Rattle.ks_script.proofs.Common.{ℕ, ◌≡◌, List, [], ◌++◌, sym, ap, ◌∙◌, Said, text_of, Run, callers_from, map_lines, run_text}
 use Rattle.ks_script.proofs.Texts.{text_append}
 use Rattle.ks_script.proofs.Putting.{holds_none, puts_on, puts_as}
 use Rattle.ks_script.proofs.printed.write_run.Goals as goal
 
 -- the text of a run is that of its callers and that of its map
-whole : (run : Run) (callers ds : List (List (ℕ × Reply))) (pairs es : List (ℕ × ℕ)) → record { callers = callers; pairs = pairs } ≡ run → ds ≡ callers → es ≡ pairs → text_of (callers_from 0 ds) ++ text_of (map_lines es) ≡ run_text run
+whole : (run : Run) (callers ds : List (List Said)) (pairs es : List (ℕ × ℕ)) → record { callers = callers; pairs = pairs } ≡ run → ds ≡ callers → es ≡ pairs → text_of (callers_from 0 ds) ++ text_of (map_lines es) ≡ run_text run
 whole run callers ds pairs es view d e =
     ap (λ xs. text_of (callers_from 0 xs) ++ text_of (map_lines es)) d
     ∙ (ap (λ ys. text_of (callers_from 0 callers) ++ text_of (map_lines ys)) e

@@ -1,4 +1,4 @@
-use Rattle.ks_script.proofs.Common.{◌≡◌, ◌+◌, ◌<◌, length, lines_of, IsCall, IsScript, call_line, calls_in, NoneFirst, HasBegun, CallersRead}
+use Rattle.ks_script.proofs.Common.{◌≡◌, ◌+◌, ◌-◌, ◌<◌, length, lines_of, IsScript, line_text, calls_in, parts_in, NoneFirst, HasBegun, CallersRead, IsLineWithin}
 use Rattle.ks_script.proofs.reader.callers.Given as goal
 
 abbrev pub invariant-callers : goal.invariant-callers
@@ -6,8 +6,9 @@ invariant-callers l = record {
   is : IsScript l.version l.callers.items;
   reads : CallersRead l.version l.callers.items l.bytes l.rest (l.told + length l.callers.items + l.count);
   calls : l.count ≡ calls_in l.callers.items;
+  parts : l.parts ≡ 65536 - parts_in l.callers.items;
   begun : length l.callers.items ≡ 0 → HasBegun l.version (lines_of l.rest);
-  call : 0 < length l.callers.items → calls_in l.callers.items < 1048576 → NoneFirst (IsCall l.version) call_line (lines_of l.rest);
+  line : 0 < length l.callers.items → calls_in l.callers.items < 1048576 → NoneFirst (IsLineWithin l.version (65536 - parts_in l.callers.items)) line_text (lines_of l.rest);
 }
 
 abbrev pub decreases-callers : goal.decreases-callers

@@ -1,4 +1,4 @@
-use Rattle.ks_script.proofs.Common.{ℕ, ◌+◌, List, length, sym, ap, Ok, Err, Result, nil_from_length, Op, TextFault, Refused, lines_of, AreScript}
+use Rattle.ks_script.proofs.Common.{ℕ, ◌+◌, List, length, sym, ap, Ok, Err, Result, nil_from_length, Line, TextFault, Refused, lines_of, AreScript}
 use Rattle.ks_script.proofs.Cuts.{is_empty_true, is_empty_false}
 use Rattle.ks_script.proofs.Leading.{bad_no_text, one_bad}
 use Rattle.ks_script.proofs.ScriptRead.{spelled, one_read, stopped}
@@ -14,7 +14,7 @@ returns c =
     let whole = spelled version all bytes f.front.rest.now f.front.lines f.ensures.reads f.ensures.is end in
     record {
       answer = (version, whole);
-      script = λ script h. ap (λ (s : List (List Op)). let r : Result (List (List Op)) TextFault = Ok s in r) (sym (one_read version all bytes f.front.rest.now f.front.lines h.0 script f.ensures.reads end h.1));
+      script = λ script h. ap (λ (s : List (List Line)). let r : Result (List (List Line)) TextFault = Ok s in r) (sym (one_read version all bytes f.front.rest.now f.front.lines h.0 script f.ensures.reads end h.1));
       refused = λ n h. absurd (bad_no_text AreScript (lines_of bytes) n h (version, all, whole));
     }
 
@@ -26,5 +26,5 @@ returns-then-not-is_empty c =
     record {
       answer = bad;
       script = λ script h. absurd (bad_no_text AreScript (lines_of bytes) (f.front.lines + 1) bad (h.0, script, h.1));
-      refused = λ n h. ap (λ (k : ℕ). let r : Result (List (List Op)) TextFault = Err (Refused k) in r) (one_bad AreScript (lines_of bytes) (f.front.lines + 1) n bad h);
+      refused = λ n h. ap (λ (k : ℕ). let r : Result (List (List Line)) TextFault = Err (Refused k) in r) (one_bad AreScript (lines_of bytes) (f.front.lines + 1) n bad h);
     }

@@ -19,4 +19,4 @@ invariant_of-self-2 c =
 
 pub returns-clause-ok : goal.returns-clause-ok
 returns-clause-ok c =
-    one_more (call_in c.small_for.new.self) (call_in c.self.inside.long) (IsCallIn c.self.inside.long) c.self.inside.small.items _ _ c.args.self.now c.args.op (λ s fits. (c.small_for.ensures.others s fits).1) c.self.invariant c.self.view_is c.in_ok-push.ensures.items c.in_ok-small.ensures.stands
+    one_more (call_in c.small_for.new.self) (call_in c.self.inside.long) (IsCallIn c.self.inside.long) c.self.inside.small.items _ _ c.args.self.now c.args.line (λ s fits. (c.small_for.ensures.others s fits).1) c.self.invariant c.self.view_is c.in_ok-push.ensures.items c.in_ok-small.ensures.stands

@@ -1,0 +1,4 @@
+pub mod Scan
+pub mod Lines
+pub mod Asked
+pub mod ServedLines

@@ -1,0 +1,10 @@
+use Rattle.std.specs.Prelude.{All}
+use Rattle.ks_lines.specs.Lines.{IsServedLine}
+use Rattle.ks_script.proofs.Common.{◌≡◌, ◌+◌, length, take, script_lines}
+use Rattle.ks_script.proofs.script.Script.unfit_line.Given as goal
+
+abbrev pub invariant-loop-calls : goal.invariant-loop-calls
+invariant-loop-calls l = record {
+  before : l.before ≡ 1 + length (script_lines (take l.calls-index l.self));
+  served : All (All (IsServedLine l.scans l.moves)) (take l.calls-index l.self);
+}
