@@ -1,5 +1,5 @@
 //! What readers find after posts, also beside them and if memory runs out.
-ghost use Rattle.std.specs.Prelude.{◌<◌};
+ghost use Rattle.std.specs.Prelude.{◌≡◌, ◌<◌, length, IfOk};
 
 use crate::starting::{blanks, readers_of};
 use crate::{HintReader, HintWriter, Hints, fits_threads};
@@ -101,23 +101,47 @@ fn a_reader_without_a_place_has_no_hints(rt: HostRuntime) -> Result<(), Fail> {
     Ok(())
 }
 
-#[test]
-fn a_refused_post_leaves_the_list(rt: HostRuntime) -> Result<(), Fail> {
-    let (mut writer, mut reader) = start_one(&rt, rt.alloc())?;
-    let mut done = [false; 40];
-    for n in 0..40u32 {
-        done[n as usize] = writer.post(&rt, n as u64, n + 1).is_ok();
+/// A writer with three readers. If memory runs out, it is started once more.
+fn start_again(alloc: Global) -> Result<(HintWriter, Vec<HintReader>), AllocError>
+    ensures { IfOk result (λ made. length made.1.items ≡ 3) }
+{
+    match Hints::start(alloc, 3) {
+        Ok(made) => Ok(made),
+        Err(_) => Hints::start(alloc, 3),
     }
+}
+
+/// Posts the lows from 0 to 7, each with the node after it. A post for which memory runs out is made once more. Returns
+/// whether the reader finds each post at once, and after a refused post what it found before.
+fn post_again<R: Wait>(rt: &R, writer: &mut HintWriter, reader: &mut HintReader) -> bool {
     let mut newest = None;
-    let mut same = true;
-    for n in 0..40u32 {
-        if done[n as usize] {
-            newest = Some(n + 1);
+    let mut same = reader.hint(9) == None;
+    for n in 0..8u32 {
+        if writer.post(rt, n as u64, n + 1).is_err() {
+            same = same && reader.hint(9) == newest;
+            same = same && writer.post(rt, n as u64, n + 1).is_ok();
         }
-        same = same && reader.hint(n as u64) == newest;
+        newest = Some(n + 1);
+        same = same && reader.hint(9) == newest;
+    }
+    same
+}
+
+// By `rt try --test --fail-alloc N` each request for memory is refused in turn: the test passes whichever it is.
+#[test]
+fn a_refused_request_leaves_what_was_posted(rt: HostRuntime) -> Result<(), Fail> {
+    let (mut writer, mut readers) = start_again(rt.alloc())?;
+    let mut same = true;
+    let mut last = None;
+    if let Some(mut reader) = readers.pop() {
+        same = post_again(&rt, &mut writer, &mut reader);
+    }
+    if let Some(mut other) = readers.pop() {
+        last = other.hint(6);
     }
     writer.end(&rt);
     assert!(rt; same);
+    assert_eq!(rt; last, Some(7));
     Ok(())
 }
 
