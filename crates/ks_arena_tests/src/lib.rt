@@ -147,4 +147,6 @@ mod claims;
 #[cfg(test)]
 mod ended;
 #[cfg(test)]
+mod meeting;
+#[cfg(test)]
 mod tests;

@@ -1,6 +1,7 @@
 ghost use Rattle.std.specs.Prelude.{◌≡◌, [], ◌∷◌, IfOk, false};
 ghost use Rattle.ks_arena.specs.Of.{IsEmptyPassOf, callers_of, nodes_of, caller_of};
 
+use crate::meeting::both_meet;
 use crate::{GetOutcome, Met, PutOutcome, both, both_get, both_put, meet, put_at_root};
 use ks_arena::{Arena, Pass};
 use ks_flow::Tree;
@@ -13,7 +14,7 @@ type Lists = Arena<ListNode, Tree>;
 type Caller = Pass<ListNode, Tree>;
 
 /// An arena of four list nodes, and the passes of callers 0 and 1.
-fn two_callers(alloc: Global) -> Result<(Lists, Caller, Caller), AllocError>
+pub(crate) fn two_callers(alloc: Global) -> Result<(Lists, Caller, Caller), AllocError>
     ensures nodes { IfOk result (λ x. (nodes_of x.0 ≡ 4) × (callers_of x.0 ≡ 2)) }
     ensures one { IfOk result (λ x. IsEmptyPassOf x.0 x.1 × (caller_of x.1 ≡ 0)) }
     ensures two { IfOk result (λ x. IsEmptyPassOf x.0 x.2 × (caller_of x.2 ≡ 1)) }
@@ -72,9 +73,12 @@ fn callers_claim_what_others_gave(rt: HostRuntime) -> Result<(), Fail> {
     Ok(())
 }
 
+/// One thread finds node 0 busy while the other holds it, and then both pass through it.
 #[test]
-fn two_threads_pass_through_one_node(rt: HostRuntime) -> Result<(), Fail> {
+fn two_threads_meet_at_one_node(rt: HostRuntime) -> Result<(), Fail> {
     let (arena, one, two) = two_callers(rt.alloc())?;
+    let (one, two, met) = both_meet(&rt, &arena, one, two);
+    assert!(rt; met == Some(Met::Busy(0)));
     let (one, two) = both(&rt, &arena, one, two);
     let all = crew(rt.alloc(), one, two)?;
     let run = arena.close(all);

@@ -1,10 +1,10 @@
 use Rattle.std.proofs.Common.{ℕ, ◌<◌, sym, ap, subst}
 use Rattle.ks_history.specs.Own.{hand}
 use Rattle.ks_arena_tests.proofs.Ends.{there}
-use Rattle.ks_arena_tests.proofs.ended.an_arena_that_ends_at_once_has_an_empty_root.Goals as goal
+use Rattle.ks_arena_tests.proofs.ended.ended_at_once.Goals as goal
 
-pub close-run-requires-after_bounds : goal.close-run-requires-after_bounds
-close-run-requires-after_bounds g c κs =
+pub close-requires-after_bounds : goal.close-requires-after_bounds
+close-requires-after_bounds g c κs within =
     let start = c.in_ok-arena.ensures in
     let new = start.2 in
     let passes = c.in_ok-arena.passes.items in
