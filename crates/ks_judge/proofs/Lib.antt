@@ -13,3 +13,4 @@ pub mod Stand
 pub mod Placed
 pub mod Keyed
 pub mod Agrees
+pub mod Traced

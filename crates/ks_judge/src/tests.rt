@@ -1,3 +1,5 @@
+mod served;
+
 use crate::{Judged, judge};
 use ks_script::read_checked;
 use std::alloc::{AllocError, Global};
