@@ -13,4 +13,6 @@ mod scans;
 #[cfg(test)]
 mod tests;
 #[cfg(test)]
+mod threads;
+#[cfg(test)]
 mod upkeep;
