@@ -18,26 +18,73 @@ use std::sync::Wait;
 use std::sync::atomic::AtomicU64;
 use std::sync::atomic::Ordering::SeqCst;
 use std::test::Fail;
-use std::thread::Threads;
+use std::thread::{Threads, yield_now};
 
-/// Counts how often the root is taken, and says whether calls may begin elsewhere.
+/// Looks that no caller needs, if the first one comes at all.
+const LONG: u64 = 20_000_000;
+
+/// Counts how often the root is taken by the first caller and by others, which it stops until the first has put all its keys.
+/// It says whether calls may begin elsewhere.
 #[derive(Drop)]
 struct Roots {
-    taken: AtomicU64,
+    by_first: AtomicU64,
+    by_others: AtomicU64,
+    /// How many calls of the first caller were decided.
+    decided: AtomicU64,
+    /// 1 once a caller has waited in vain.
+    failures: AtomicU64,
     admits: bool,
 }
 
 impl Roots {
-    /// How often it was taken.
-    fn taken(&self) -> u64 {
-        self.taken.load(SeqCst)
+    /// How often the first caller took it, and how often others did; nothing if one of them has waited in vain.
+    fn taken(&self) -> Option<(u64, u64)> {
+        if self.failures.load(SeqCst) > 0 {
+            return None;
+        }
+        Some((self.by_first.load(SeqCst), self.by_others.load(SeqCst)))
+    }
+
+    fn first_at(&self, point: Point) {
+        match point {
+            Point::Taken(0) => {
+                self.by_first.fetch_add(1, SeqCst);
+            }
+            Point::Decided(_) => {
+                self.decided.fetch_add(1, SeqCst);
+            }
+            _ => {}
+        }
+    }
+
+    /// Waits until the first caller has put all its keys.
+    fn wait(&self) {
+        for _ in 0..LONG {
+            if self.decided.load(SeqCst) >= KEYS {
+                return;
+            }
+            yield_now();
+        }
+        self.failures.store(1, SeqCst);
+    }
+
+    fn other_at(&self, point: Point) {
+        match point {
+            Point::Begin => self.wait(),
+            Point::Taken(0) => {
+                self.by_others.fetch_add(1, SeqCst);
+            }
+            _ => {}
+        }
     }
 }
 
 impl Gate for Roots {
-    fn at(&self, _caller: u32, point: Point) {
-        if point == Point::Taken(0) {
-            self.taken.fetch_add(1, SeqCst);
+    fn at(&self, caller: u32, point: Point) {
+        if caller == 0 {
+            self.first_at(point);
+        } else {
+            self.other_at(point);
         }
     }
 }
@@ -51,7 +98,10 @@ impl Admits for Roots {
 /// A gate that has counted nothing.
 fn none_taken(admits: bool) -> Roots {
     Roots {
-        taken: AtomicU64::new(0),
+        by_first: AtomicU64::new(0),
+        by_others: AtomicU64::new(0),
+        decided: AtomicU64::new(0),
+        failures: AtomicU64::new(0),
         admits,
     }
 }
@@ -128,7 +178,8 @@ fn all_right(lines: &[Vec<Said>]) -> bool {
     true
 }
 
-/// Serves callers by giving up, and returns how often the root was taken; nothing if a reply is wrong.
+/// Serves callers by giving up, and returns how often the first took the root, and how often the others did; nothing if a reply
+/// is wrong, or if one has waited in vain.
 fn taken_by_giving_up<R: Threads + Wait + Sync>(
     rt: &R,
     alloc: Global,
@@ -136,7 +187,7 @@ fn taken_by_giving_up<R: Threads + Wait + Sync>(
     workers: u32,
     aiding: Aiding,
     admits: bool,
-) -> Result<Option<u64>, AllocError>
+) -> Result<Option<(u64, u64)>, AllocError>
     requires { (callers ≤ 4) × ((1 ≤ workers) × (workers ≤ 64)) }
 {
     let gate = none_taken(admits);
@@ -147,14 +198,14 @@ fn taken_by_giving_up<R: Threads + Wait + Sync>(
     if !all_right(told.lines.as_slice()) {
         return Ok(None);
     }
-    Ok(Some(gate.taken()))
+    Ok(gate.taken())
 }
 
-/// Serves one caller along links with hints, and returns how often the root was taken; nothing if a reply is wrong.
+/// Serves one caller along links with hints, and returns as much.
 fn taken_along_links<R: Threads + Wait + Sync>(
     rt: &R,
     alloc: Global,
-) -> Result<Option<u64>, AllocError> {
+) -> Result<Option<(u64, u64)>, AllocError> {
     let gate = none_taken(true);
     let scripts = scripts(alloc, 1)?;
     let told = serve_callers::<WithLink<BNode>, LinkMove, AtOneKey, R, Roots>(
@@ -170,16 +221,16 @@ fn taken_along_links<R: Threads + Wait + Sync>(
     if !all_right(told.lines.as_slice()) {
         return Ok(None);
     }
-    Ok(Some(gate.taken()))
+    Ok(gate.taken())
 }
 
 #[test]
 fn the_root_is_seldom_taken_with_hints(rt: HostRuntime) -> Result<(), Fail> {
-    let Some(taken) = taken_by_giving_up(&rt, rt.alloc(), 1, 1, Aiding::Hints, true)? else {
+    let Some((taken, _)) = taken_by_giving_up(&rt, rt.alloc(), 1, 1, Aiding::Hints, true)? else {
         panic!(rt; "a wrong reply by giving up")
     };
     assert!(rt; taken < 200);
-    let Some(taken) = taken_along_links(&rt, rt.alloc())? else {
+    let Some((taken, _)) = taken_along_links(&rt, rt.alloc())? else {
         panic!(rt; "a wrong reply along links")
     };
     assert!(rt; taken < 200);
@@ -188,7 +239,7 @@ fn the_root_is_seldom_taken_with_hints(rt: HostRuntime) -> Result<(), Fail> {
 
 #[test]
 fn the_root_is_seldom_taken_with_guides(rt: HostRuntime) -> Result<(), Fail> {
-    let Some(taken) = taken_by_giving_up(&rt, rt.alloc(), 1, 1, Aiding::Guides, true)? else {
+    let Some((taken, _)) = taken_by_giving_up(&rt, rt.alloc(), 1, 1, Aiding::Guides, true)? else {
         panic!(rt; "a wrong reply")
     };
     assert!(rt; taken < 200);
@@ -197,15 +248,20 @@ fn the_root_is_seldom_taken_with_guides(rt: HostRuntime) -> Result<(), Fail> {
 
 #[test]
 fn a_gate_that_admits_no_aid_gets_none(rt: HostRuntime) -> Result<(), Fail> {
-    let Some(taken) = taken_by_giving_up(&rt, rt.alloc(), 1, 1, Aiding::Hints, false)? else {
+    let Some((taken, _)) = taken_by_giving_up(&rt, rt.alloc(), 1, 1, Aiding::Hints, false)? else {
         panic!(rt; "a wrong reply")
     };
     assert!(rt; taken >= KEYS + GETS);
     Ok(())
 }
 
+/// If none of the others read a hint, each of their calls would take the root.
 #[test]
 fn four_callers_read_the_hints_of_the_first(rt: HostRuntime) -> Result<(), Fail> {
-    assert!(rt; taken_by_giving_up(&rt, rt.alloc(), 4, 3, Aiding::Hints, true)?.is_some());
+    let taken = taken_by_giving_up(&rt, rt.alloc(), 4, 3, Aiding::Hints, true)?;
+    let Some((_, by_others)) = taken else {
+        panic!(rt; "a wrong reply, or the first caller did not come")
+    };
+    assert!(rt; by_others < 3 * (KEYS + GETS));
     Ok(())
 }
