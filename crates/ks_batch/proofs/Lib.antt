@@ -7,3 +7,4 @@ pub mod Instances
 pub mod Plain
 pub mod Counts
 pub mod Fit
+pub mod Ended

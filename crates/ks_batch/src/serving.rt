@@ -9,6 +9,7 @@ ghost use Rattle.ks_history.specs.Callers.{CallersBelow};
 ghost use Rattle.ks_arena.specs.Named.{AllNamedBelow};
 ghost use Rattle.ks_script.specs.Outside.{Rose, Grew, GrewByFront};
 ghost use Rattle.ks_script.specs.Plain.{IsPrintable};
+ghost use Rattle.ks_script.specs.Run.{run_text};
 ghost use Rattle.ks_batch.specs.declared.words.Text.TheVariants as text;
 ghost use Rattle.ks_batch.specs.declared.pairings.Pairing.{Pairing};
 ghost use Rattle.ks_batch.specs.Pairings.{row_of};
@@ -196,6 +197,30 @@ fn unread(stop: Stop) -> Outcome
     }
 }
 
+/// Writes a run that was served, and returns what the program ends with.
+fn write_ready<K: Sink>(out: &mut K, ready: Ready) -> Outcome
+    ensures run { result.run ≡ Some ready.trace }
+    ensures status { (result.status ≡ DONE) ⊎ (result.status ≡ OUTPUT_FAILED) }
+    ensures line { result.line ≡ 0 }
+    ensures number { result.number ≡ 0 }
+    ensures done { result.status ≡ DONE →
+        Grew (K.taken out.old) (K.taken out.new) (run_text ready.printed) }
+    ensures cut { result.status ≡ OUTPUT_FAILED →
+        GrewByFront (K.taken out.old) (K.taken out.new) (run_text ready.printed) }
+    ensures output { result.status ≡ OUTPUT_FAILED → Rose (K.faults out.old) (K.faults out.new) }
+{
+    let status = match write_run(out, &ready.printed) {
+        Ok(()) => DONE,
+        Err(_) => OUTPUT_FAILED,
+    };
+    Outcome {
+        status,
+        line: 0,
+        number: 0,
+        run: Some(ready.trace),
+    }
+}
+
 /// The commands `run` and `hinted`: serves the script on the source and writes the replies to its calls.
 fn serve_script<R: Threads + Wait + Sync, S: Source, K: Sink, G: Gate + Admits + Sync>(
     rt: &R,
@@ -237,18 +262,7 @@ fn serve_script<R: Threads + Wait + Sync, S: Source, K: Sink, G: Gate + Admits +
     ensures output { result.status ≡ OUTPUT_FAILED → Rose (K.faults out.old) (K.faults out.new) }
 {
     match prepare(rt, alloc, pairing, arena, workers, aiding, source, gate) {
-        Ok(ready) => {
-            let status = match write_run(out, &ready.printed) {
-                Ok(()) => DONE,
-                Err(_) => OUTPUT_FAILED,
-            };
-            Outcome {
-                status,
-                line: 0,
-                number: 0,
-                run: Some(ready.trace),
-            }
-        }
+        Ok(ready) => write_ready(out, ready),
         Err(Halt::Unfit { line }) => Outcome::without_run(UNFIT, line),
         Err(Halt::Unread(stop)) => unread(stop),
     }
