@@ -146,6 +146,16 @@ pub serve_command : (words : List (List ℕ)) (p : Pairing) (n : ℕ) → AskToS
 serve_command words p n (inl s) = (Run p n s.0 s.1, s.2)
 serve_command words p n (inr s) = (Make p n s.0, s.1)
 
+pub not_one : {n : ℕ} → (n ≡ 0) ⊎ ((n ≡ 4) ⊎ (n ≡ 5)) → n ≡ 1 → ⊥
+not_one (inl e) is = omega (arith, e, is)
+not_one (inr (inl e)) is = omega (arith, e, is)
+not_one (inr (inr e)) is = omega (arith, e, is)
+
+pub not_three : {n : ℕ} → (n ≡ 0) ⊎ ((n ≡ 4) ⊎ (n ≡ 5)) → n ≡ 3 → ⊥
+not_three (inl e) is = omega (arith, e, is)
+not_three (inr (inl e)) is = omega (arith, e, is)
+not_three (inr (inr e)) is = omega (arith, e, is)
+
 pub not_six : {n : ℕ} → (n ≡ 0) ⊎ ((n ≡ 4) ⊎ (n ≡ 5)) → n ≡ 6 → ⊥
 not_six (inl e) is = omega (arith, e, is)
 not_six (inr (inl e)) is = omega (arith, e, is)
@@ -155,3 +165,8 @@ pub not_seven : {n : ℕ} → (n ≡ 0) ⊎ ((n ≡ 4) ⊎ (n ≡ 5)) → n ≡ 
 not_seven (inl e) is = omega (arith, e, is)
 not_seven (inr (inl e)) is = omega (arith, e, is)
 not_seven (inr (inr e)) is = omega (arith, e, is)
+
+pub at_most_seven : {n : ℕ} → (n ≡ 0) ⊎ ((n ≡ 4) ⊎ (n ≡ 5)) → n ≤ 7
+at_most_seven (inl e) = omega (arith, e)
+at_most_seven (inr (inl e)) = omega (arith, e)
+at_most_seven (inr (inr e)) = omega (arith, e)

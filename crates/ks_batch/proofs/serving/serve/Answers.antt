@@ -1,6 +1,7 @@
-use Rattle.std.proofs.Common.{ℕ, ◌≡◌, ◌⊎◌, List, map, string_bytes, arith}
+use Rattle.std.proofs.Common.{ℕ, ◌≡◌, ◌⊎◌, inl, inr, List, map, string_bytes, refl, arith}
 use Rattle.std.specs.Prelude.{IfSome}
 use Rattle.ks_history.specs.Due.{FullsDue}
+use Rattle.ks_history.specs.Lawful.{Lawful, GoodThroughout}
 use Rattle.ks_arena.specs.Named.{AllNamedBelow}
 use Rattle.ks_lines.specs.declared.Line.{Line}
 use Rattle.ks_script.specs.Outside.{Rose, Grew, GrewByFront}
@@ -8,7 +9,8 @@ use Rattle.ks_batch.specs.Pairings.{row_of}
 use Rattle.ks_batch.specs.Serve.{RefusedAt, UnfitAt, Prints, Accepts}
 use Rattle.ks_batch.specs.declared.words.Text.TheVariants.{Script, Checked}
 use Rattle.ks_batch.proofs.Due.{script_outcome, check_outcome, due_refusal, due_answer, due_done, due_unfit, due_judged}
-use Rattle.ks_batch.proofs.Askings.{not_both, asks_command, only, make_asks, asks_make, make_command, of_run, served_run, served_make, check_serves_none, serve_command, not_six, not_seven}
+use Rattle.ks_batch.proofs.Askings.{not_both, asks_command, only, make_asks, asks_make, make_command, of_run, served_run, served_make, check_serves_none, serve_command, not_one, not_three, not_six, not_seven, at_most_seven}
+use Rattle.ks_batch.proofs.Ended.{of_none}
 use Rattle.ks_batch.proofs.serving.serve.Goals as goal
 use Rattle.ks_batch.proofs.serving.serve.Goals.{in-Some-Run, in-Some-Make, in-Some-Check, in-None}
 
@@ -197,3 +199,108 @@ returns-clause-made g c is_make =
       | in-Some-Check w ↦ absurd (asks_make (map string_bytes c.args.words.now) Checked (rw w.in-Some-Check.field-0-is at w.in-Some-Check.ensures.some) is_make)
       | in-None w ↦ absurd (w.in-None.ensures.none (make_command (map string_bytes c.args.words.now) is_make))
     ]
+
+pub returns-clause-lawful : goal.returns-clause-lawful
+returns-clause-lawful g c =
+    elim c.match-command.branch [
+      | in-Some-Run w ↦ rw w.outcome-is w.serve_script-outcome.ensures.lawful
+      | in-Some-Make w ↦ rw w.outcome-is w.make_run-outcome.ensures.lawful
+      | in-Some-Check w ↦ rw w.outcome-is (of_none Lawful w.check_run-outcome.result.run w.check_run-outcome.ensures.run)
+      | in-None w ↦ rw w.outcome-is (of_none Lawful w.without_run-outcome.result.run w.without_run-outcome.ensures.3)
+    ]
+
+pub returns-clause-good : goal.returns-clause-good
+returns-clause-good g c =
+    elim c.match-command.branch [
+      | in-Some-Run w ↦ rw w.outcome-is w.serve_script-outcome.ensures.good
+      | in-Some-Make w ↦ rw w.outcome-is w.make_run-outcome.ensures.good
+      | in-Some-Check w ↦ rw w.outcome-is (of_none GoodThroughout w.check_run-outcome.result.run w.check_run-outcome.ensures.run)
+      | in-None w ↦ rw w.outcome-is (of_none GoodThroughout w.without_run-outcome.result.run w.without_run-outcome.ensures.3)
+    ]
+
+pub returns-clause-none : goal.returns-clause-none
+returns-clause-none g c =
+    elim c.match-command.branch [
+      | in-Some-Run w ↦ rw w.outcome-is (λ is. absurd (w.serve_script-outcome.ensures.status.0 is))
+      | in-Some-Make w ↦ rw w.outcome-is (λ is. absurd (not_one w.make_run-outcome.ensures.status is))
+      | in-Some-Check w ↦ rw w.outcome-is (λ _. w.check_run-outcome.ensures.run)
+      | in-None w ↦ rw w.outcome-is (λ _. w.without_run-outcome.ensures.3)
+    ]
+
+pub returns-clause-untouched : goal.returns-clause-untouched
+returns-clause-untouched g c =
+    elim c.match-command.branch [
+      | in-Some-Run w ↦ rw (w.outcome-is, w.out-is) (λ done cut _. w.serve_script-outcome.ensures.untouched done cut)
+      | in-Some-Make w ↦ rw (w.outcome-is, w.out-is) (λ done cut _. w.make_run-outcome.ensures.untouched done cut)
+      | in-Some-Check w ↦ rw (w.outcome-is, w.out-is) w.check_run-outcome.ensures.untouched
+      | in-None w ↦ rw w.out-is (λ _ _ _. refl)
+    ]
+
+pub returns-clause-unread : goal.returns-clause-unread
+returns-clause-unread g c =
+    elim c.match-command.branch [
+      | in-Some-Run w ↦ rw (w.outcome-is, w.source-is) (λ either. elim either [ inl is ↦ absurd (w.serve_script-outcome.ensures.status.0 is) | inr make ↦ absurd (asks_make (map string_bytes c.args.words.now) Script (_, _, (_, _, rw w.in-Some-Run.field-0-is at w.in-Some-Run.ensures.some)) make) ])
+      | in-Some-Make w ↦ rw w.source-is (λ _. refl)
+      | in-Some-Check w ↦ rw (w.outcome-is, w.source-is) (λ either. elim either [ inl is ↦ absurd (w.check_run-outcome.ensures.status.0 is) | inr make ↦ absurd (asks_make (map string_bytes c.args.words.now) Checked (rw w.in-Some-Check.field-0-is at w.in-Some-Check.ensures.some) make) ])
+      | in-None w ↦ rw w.source-is (λ _. refl)
+    ]
+
+pub returns-clause-status : goal.returns-clause-status
+returns-clause-status g c =
+    elim c.match-command.branch [
+      | in-Some-Run w ↦ rw w.outcome-is w.serve_script-outcome.ensures.status.2
+      | in-Some-Make w ↦ rw w.outcome-is (at_most_seven w.make_run-outcome.ensures.status)
+      | in-Some-Check w ↦ rw w.outcome-is (let le = w.check_run-outcome.ensures.status.1 in omega (arith, le))
+      | in-None w ↦ rw w.outcome-is (let e = w.without_run-outcome.ensures.0 in omega (arith, e))
+    ]
+
+pub returns-clause-usage : goal.returns-clause-usage
+returns-clause-usage g c =
+    elim c.match-command.branch [
+      | in-Some-Run w ↦ rw w.outcome-is (λ is. absurd (w.serve_script-outcome.ensures.status.0 is), λ not. absurd (not (_, rw w.in-Some-Run.field-0-is at w.in-Some-Run.ensures.some)))
+      | in-Some-Make w ↦ rw w.outcome-is (λ is. absurd (not_one w.make_run-outcome.ensures.status is), λ not. absurd (not (_, rw w.in-Some-Make.field-0-is at w.in-Some-Make.ensures.some)))
+      | in-Some-Check w ↦ rw w.outcome-is (λ is. absurd (w.check_run-outcome.ensures.status.0 is), λ not. absurd (not (_, rw w.in-Some-Check.field-0-is at w.in-Some-Check.ensures.some)))
+      | in-None w ↦ rw w.outcome-is (λ _. w.in-None.ensures.none, λ _. w.without_run-outcome.ensures.0)
+    ]
+
+pub returns-clause-source : goal.returns-clause-source
+returns-clause-source g c =
+    elim c.match-command.branch [
+      | in-Some-Run w ↦ rw (w.outcome-is, w.source-is) w.serve_script-outcome.ensures.source
+      | in-Some-Make w ↦ rw w.outcome-is (λ is. absurd (not_three w.make_run-outcome.ensures.status is))
+      | in-Some-Check w ↦ rw (w.outcome-is, w.source-is) w.check_run-outcome.ensures.source
+      | in-None w ↦ rw w.outcome-is (λ is. let e = w.without_run-outcome.ensures.0 in absurd (omega (arith, e, is)))
+    ]
+
+pub returns-clause-output : goal.returns-clause-output
+returns-clause-output g c =
+    elim c.match-command.branch [
+      | in-Some-Run w ↦ rw (w.outcome-is, w.out-is) w.serve_script-outcome.ensures.output
+      | in-Some-Make w ↦ rw (w.outcome-is, w.out-is) w.make_run-outcome.ensures.output
+      | in-Some-Check w ↦ rw (w.outcome-is, w.out-is) w.check_run-outcome.ensures.output
+      | in-None w ↦ rw w.outcome-is (λ is. let e = w.without_run-outcome.ensures.0 in absurd (omega (arith, e, is)))
+    ]
+
+pub returns-clause-line : goal.returns-clause-line
+returns-clause-line g c =
+    elim c.match-command.branch [
+      | in-Some-Run w ↦ rw w.outcome-is w.serve_script-outcome.ensures.line
+      | in-Some-Make w ↦ rw w.outcome-is (λ _ _. w.make_run-outcome.ensures.line)
+      | in-Some-Check w ↦ rw w.outcome-is (λ refused _. w.check_run-outcome.ensures.line refused)
+      | in-None w ↦ rw w.outcome-is (λ _ _. w.without_run-outcome.ensures.1)
+    ]
+
+pub returns-clause-number : goal.returns-clause-number
+returns-clause-number g c =
+    elim c.match-command.branch [
+      | in-Some-Run w ↦ rw w.outcome-is (λ _. w.serve_script-outcome.ensures.number)
+      | in-Some-Make w ↦ rw w.outcome-is (λ _. w.make_run-outcome.ensures.number)
+      | in-Some-Check w ↦ rw w.outcome-is w.check_run-outcome.ensures.number
+      | in-None w ↦ rw w.outcome-is (λ _. w.without_run-outcome.ensures.2)
+    ]
+
+pub returns-clause-said : goal.returns-clause-said
+returns-clause-said g c = c.tell.ensures.whole
+
+pub returns-clause-said_front : goal.returns-clause-said_front
+returns-clause-said_front g c = c.tell.ensures.front
