@@ -146,11 +146,6 @@ pub serve_command : (words : List (List ℕ)) (p : Pairing) (n : ℕ) → AskToS
 serve_command words p n (inl s) = (Run p n s.0 s.1, s.2)
 serve_command words p n (inr s) = (Make p n s.0, s.1)
 
-pub not_one : {n : ℕ} → (n ≡ 0) ⊎ ((n ≡ 4) ⊎ (n ≡ 5)) → n ≡ 1 → ⊥
-not_one (inl e) is = omega (arith, e, is)
-not_one (inr (inl e)) is = omega (arith, e, is)
-not_one (inr (inr e)) is = omega (arith, e, is)
-
 pub not_three : {n : ℕ} → (n ≡ 0) ⊎ ((n ≡ 4) ⊎ (n ≡ 5)) → n ≡ 3 → ⊥
 not_three (inl e) is = omega (arith, e, is)
 not_three (inr (inl e)) is = omega (arith, e, is)

@@ -9,7 +9,7 @@ use Rattle.ks_batch.specs.Pairings.{row_of}
 use Rattle.ks_batch.specs.Serve.{RefusedAt, UnfitAt, Prints, Accepts}
 use Rattle.ks_batch.specs.declared.words.Text.TheVariants.{Script, Checked}
 use Rattle.ks_batch.proofs.Due.{script_outcome, check_outcome, due_refusal, due_answer, due_done, due_unfit, due_judged}
-use Rattle.ks_batch.proofs.Askings.{not_both, asks_command, only, make_asks, asks_make, make_command, of_run, served_run, served_make, check_serves_none, serve_command, not_one, not_three, not_six, not_seven, at_most_seven}
+use Rattle.ks_batch.proofs.Askings.{not_both, asks_command, only, make_asks, asks_make, make_command, of_run, served_run, served_make, check_serves_none, serve_command, not_three, not_six, not_seven, at_most_seven}
 use Rattle.ks_batch.proofs.Ended.{of_none}
 use Rattle.ks_batch.proofs.serving.serve.Goals as goal
 use Rattle.ks_batch.proofs.serving.serve.Goals.{in-Some-Run, in-Some-Make, in-Some-Check, in-None}
@@ -218,15 +218,6 @@ returns-clause-good g c =
       | in-None w ↦ rw w.outcome-is (of_none GoodThroughout w.without_run-outcome.result.run w.without_run-outcome.ensures.3)
     ]
 
-pub returns-clause-none : goal.returns-clause-none
-returns-clause-none g c =
-    elim c.match-command.branch [
-      | in-Some-Run w ↦ rw w.outcome-is (λ is. absurd (w.serve_script-outcome.ensures.status.0 is))
-      | in-Some-Make w ↦ rw w.outcome-is (λ is. absurd (not_one w.make_run-outcome.ensures.status is))
-      | in-Some-Check w ↦ rw w.outcome-is (λ _. w.check_run-outcome.ensures.run)
-      | in-None w ↦ rw w.outcome-is (λ _. w.without_run-outcome.ensures.3)
-    ]
-
 pub returns-clause-untouched : goal.returns-clause-untouched
 returns-clause-untouched g c =
     elim c.match-command.branch [
@@ -252,15 +243,6 @@ returns-clause-status g c =
       | in-Some-Make w ↦ rw w.outcome-is (at_most_seven w.make_run-outcome.ensures.status)
       | in-Some-Check w ↦ rw w.outcome-is (let le = w.check_run-outcome.ensures.status.1 in omega (arith, le))
       | in-None w ↦ rw w.outcome-is (let e = w.without_run-outcome.ensures.0 in omega (arith, e))
-    ]
-
-pub returns-clause-usage : goal.returns-clause-usage
-returns-clause-usage g c =
-    elim c.match-command.branch [
-      | in-Some-Run w ↦ rw w.outcome-is (λ is. absurd (w.serve_script-outcome.ensures.status.0 is), λ not. absurd (not (_, rw w.in-Some-Run.field-0-is at w.in-Some-Run.ensures.some)))
-      | in-Some-Make w ↦ rw w.outcome-is (λ is. absurd (not_one w.make_run-outcome.ensures.status is), λ not. absurd (not (_, rw w.in-Some-Make.field-0-is at w.in-Some-Make.ensures.some)))
-      | in-Some-Check w ↦ rw w.outcome-is (λ is. absurd (w.check_run-outcome.ensures.status.0 is), λ not. absurd (not (_, rw w.in-Some-Check.field-0-is at w.in-Some-Check.ensures.some)))
-      | in-None w ↦ rw w.outcome-is (λ _. w.in-None.ensures.none, λ _. w.without_run-outcome.ensures.0)
     ]
 
 pub returns-clause-source : goal.returns-clause-source
