@@ -68,13 +68,15 @@ def versions(pairing, last):
     return [it for it in range(1, last + 1) if it == 1 or words_of(pairing, it) != words_of(pairing, it - 1)]
 
 
-def churn(draw, keys, many, _words):
-    """Puts of a run of keys and dels of the same, again and again: nodes are split, merged and used again."""
+def churn(draw, keys, many, words):
+    """Puts of a run of keys and dels of the same, again and again: nodes are split, merged and used again. Beside them scans from
+    the first key of a run on, where the pairing serves these."""
     made = []
     while len(made) < many:
         first, run = draw.randrange(keys), draw.randrange(1, 100)
         for word in ("put", "del") if draw.random() < 0.8 else ("put", "get"):
             made += [(word, (first + at) % keys) for at in range(run)]
+            made += [("scan", first)] if "scan" in words else []
     return made[:many]
 
 
@@ -96,15 +98,17 @@ def mixed(draw, keys, many, words):
 
 
 def swing(draw, keys, many, words):
-    """Few values are moved to and fro between two ranges of keys, beside puts and dels round them. Where nothing moves, they are
-    put and deleted."""
-    some = ("put", "del", *("move",) * 4) if "move" in words else ("put", "del")
-    ends = min(8, keys // 2)
+    """Few values are moved to and fro between two ranges of keys, beside puts and dels of runs of keys round both: so nodes of one
+    range are merged away, and used again on the other side of it. Where nothing moves, there are only these runs."""
+    ends, few = (keys // 3, keys - keys // 3), min(8, keys // 8)
     made = []
-    for _ in range(many):
-        low, high = draw.randrange(ends), keys - 1 - draw.randrange(ends)
-        made.append((draw.choice(some), *draw.sample((low, high), 2)))
-    return made
+    while len(made) < many:
+        if "move" in words and draw.random() < 0.5:
+            made += [("move", *draw.sample([end + draw.randrange(few) for end in ends], 2)) for _ in range(20)]
+        else:
+            first, run = draw.choice(ends) + draw.randrange(-20, 20), draw.randrange(1, 20)
+            made += [(word, (first + at) % keys) for word in ("put", "del") for at in range(run)]
+    return made[:many]
 
 
 KINDS = (churn, fill, hot, mixed, swing)

@@ -38,12 +38,14 @@ def has_full():
     return os.access("/dev/full", os.W_OK)
 
 
-def program():
-    """The built program: the one that is named, else the one that the gate built, else the one that ./ks builds."""
-    if len(sys.argv) > 1:
-        if not os.access(sys.argv[1], os.X_OK):
-            sys.exit(f"{os.path.basename(sys.argv[0])}: {sys.argv[1]} is no program")
-        return os.path.abspath(sys.argv[1])
+def program(words=None):
+    """The built program: the one that these words name, of the command line if none are given, else the one that the gate built,
+    else the one that ./ks builds."""
+    words = sys.argv[1:] if words is None else words
+    if words:
+        if not os.access(words[0], os.X_OK):
+            sys.exit(f"{os.path.basename(sys.argv[0])}: {words[0]} is no program")
+        return os.path.abspath(words[0])
     built = f"{TOP}/crates/ks_main/out/ks_main"
     if not os.access(built, os.X_OK):
         built_by = subprocess.run([f"{TOP}/ks", "run", "list", "coupling", "4"], stdin=subprocess.DEVNULL, stdout=subprocess.DEVNULL)
