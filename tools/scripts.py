@@ -98,16 +98,16 @@ def mixed(draw, keys, many, words):
 
 
 def swing(draw, keys, many, words):
-    """Few values are moved to and fro between two ranges of keys, beside puts and dels of runs of keys round both: so nodes of one
-    range are merged away, and used again on the other side of it. Where nothing moves, there are only these runs."""
-    ends, few = (keys // 3, keys - keys // 3), min(8, keys // 8)
+    """Few values are moved to and fro between some ranges of keys, beside puts and dels of runs of keys round these: so a node of one
+    range is merged away, and used again beside another. Where nothing moves, there are only these runs."""
+    lows = range(0, keys, keys // 5)
     made = []
     while len(made) < many:
         if "move" in words and draw.random() < 0.5:
-            made += [("move", *draw.sample([end + draw.randrange(few) for end in ends], 2)) for _ in range(20)]
+            made += [("move", *(low + draw.randrange(4) for low in draw.sample(lows, 2))) for _ in range(10)]
         else:
-            first, run = draw.choice(ends) + draw.randrange(-20, 20), draw.randrange(1, 20)
-            made += [(word, (first + at) % keys) for word in ("put", "del") for at in range(run)]
+            word, first = draw.choice(("put", "del")), draw.choice(lows) + draw.randrange(-10, 10)
+            made += [(word, (first + at) % keys) for at in range(draw.randrange(1, 20))]
     return made[:many]
 
 
