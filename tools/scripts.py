@@ -153,10 +153,11 @@ def drawn(draw, kind, pairing, version, keys, stride, callers, calls):
 
 
 def task(draw, pairing, kind, version, callers, calls):
-    """A task of this kind: so many calls in all, over an arena that they fill, or that they fill half, or a wide one."""
-    keys = draw.choice((40, 400, 4000))
+    """A task of this kind: so many calls in all, over an arena that they fill, or that they fill half, or a wide one. Where values
+    are moved to and fro the arenas are small, so that a node that was merged away is soon used again."""
+    keys = draw.choice((40, 400, 4000) if kind is not swing else (40, 400))
     nodes = int(keys / ROOM[pairing.split()[0]])
-    arena = max(4, draw.choice((nodes // 2, nodes, 2 * nodes, 65536)))
+    arena = max(4, draw.choice((nodes // 2, nodes, 2 * nodes, 65536) if kind is not swing else (10, 12, 24, 64)))
     scripts = drawn(draw, kind, pairing, version, keys, draw.choice(STRIDES), callers, calls // callers)
     workers = draw.choice((2, 4, 16, 64))
     return Task(kind.__name__, ("run", *pairing.split(), f"{arena}", f"{workers}"), text_of(scripts, version))
