@@ -1,9 +1,11 @@
-//! Gets from hints, right and wrong: at which node each is decided, and which branch it passed last.
+//! Gets from hints, right and wrong: at which node each is decided, and which branch it passed last; and a put that is
+//! refused as full.
 ghost use Rattle.ks_shape.specs.Idle.{IsIdle};
 
 use ks_arena::Pass;
 use ks_bplus::BNode;
 use ks_flow::{Link, Tree};
+use ks_gate::NoGate;
 use ks_giveup::GiveUp;
 use ks_link::LinkMove;
 use ks_linked::WithLink;
@@ -77,6 +79,24 @@ fn gets_from<T: Hinting<N, A>, N: Node, A: Shelf, R: Wait>(
     right
 }
 
+/// Whether a put from the hint is refused as full, with this number.
+fn is_full_from<T: Hinting<N, A>, N: Node, A: Shelf, R: Wait>(
+    rt: &R,
+    arena: &A,
+    pass: &mut Pass<N, T::Rule>,
+    hint: u32,
+    place: u64,
+    number: u64,
+) -> bool
+    requires pass { IsIdle (A.site arena.now) pass.old }
+    ensures pass { IsIdle (A.site arena.now) pass.new }
+{
+    match T::put_from(rt, arena, pass, &NoGate, Some(hint), place, 1) {
+        Ok(_) => false,
+        Err(full) => full.number == number,
+    }
+}
+
 #[test]
 fn a_search_by_giving_up_begins_at_its_hint_or_at_the_root(rt: HostRuntime) -> Result<(), Fail> {
     let (arena, mut pass) = one_caller::<WithRange<BNode>, Tree>(rt.alloc(), 64)?;
@@ -104,6 +124,14 @@ fn a_hinted_node_has_been_merged_away_and_used_again(rt: HostRuntime) -> Result<
     assert!(rt; each::<GiveUp, _, _, _>(&rt, &arena, &mut pass, Run::puts(100, 1, 1).from(19)));
     let again = [from_root(Some(2), 8, 1, 0), near(2, 9, 2, 9)];
     assert!(rt; gets_from::<GiveUp, _, _, _>(&rt, &arena, &mut pass, 20, &again));
+    Ok(())
+}
+
+#[test]
+fn a_put_at_a_full_hinted_node_is_full_if_no_other_is_free(rt: HostRuntime) -> Result<(), Fail> {
+    let (arena, mut pass) = one_caller::<WithRange<BNode>, Tree>(rt.alloc(), 4)?;
+    assert!(rt; each::<GiveUp, _, _, _>(&rt, &arena, &mut pass, Run::puts(0, 32, 1)));
+    assert!(rt; is_full_from::<GiveUp, _, _, _>(&rt, &arena, &mut pass, 3, 32, 32));
     Ok(())
 }
 
