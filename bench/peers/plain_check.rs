@@ -435,18 +435,25 @@ trait Map {
     fn is(&self, pairs: &[(u64, u128)]) -> bool;
 }
 
+/// The calls at one key, which both maps of the standard library name alike.
+macro_rules! one_key_calls {
+    () => {
+        fn value(&self, key: u64) -> Option<u128> {
+            self.get(&key).copied()
+        }
+
+        fn set(&mut self, key: u64, value: u128) -> Option<u128> {
+            self.insert(key, value)
+        }
+
+        fn unset(&mut self, key: u64) -> Option<u128> {
+            self.remove(&key)
+        }
+    };
+}
+
 impl Map for HashMap<u64, u128> {
-    fn value(&self, key: u64) -> Option<u128> {
-        self.get(&key).copied()
-    }
-
-    fn set(&mut self, key: u64, value: u128) -> Option<u128> {
-        self.insert(key, value)
-    }
-
-    fn unset(&mut self, key: u64) -> Option<u128> {
-        self.remove(&key)
-    }
+    one_key_calls!();
 
     fn lists(&self, _: &Part) -> bool {
         unreachable!("a run without scans")
@@ -458,17 +465,7 @@ impl Map for HashMap<u64, u128> {
 }
 
 impl Map for BTreeMap<u64, u128> {
-    fn value(&self, key: u64) -> Option<u128> {
-        self.get(&key).copied()
-    }
-
-    fn set(&mut self, key: u64, value: u128) -> Option<u128> {
-        self.insert(key, value)
-    }
-
-    fn unset(&mut self, key: u64) -> Option<u128> {
-        self.remove(&key)
-    }
+    one_key_calls!();
 
     fn lists(&self, part: &Part) -> bool {
         self.range(part.low..=part.last).map(|(key, value)| (*key, *value)).eq(part.pairs.iter().copied())
