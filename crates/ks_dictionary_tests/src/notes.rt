@@ -6,7 +6,6 @@ use ks_arena::{Note, Pass};
 use ks_coupling::Coupling;
 use ks_dictionary::Dictionary;
 use ks_flow::Tree;
-use ks_gate::NoGate;
 use ks_list::ListNode;
 use std::sync::Wait;
 use std::test::Fail;
@@ -24,7 +23,7 @@ fn put_and_note<R: Wait>(rt: &R, dictionary: &Lists, mut pass: Caller, key: u64)
     ensures pass { IsIdlePassOf dictionary.now result.0 }
     ensures note { IsNoteFrom dictionary.now result.1 }
 {
-    let _put = dictionary.put(rt, &mut pass, &NoGate, key, u128::from(key) * 10);
+    let _put = dictionary.put(rt, &mut pass, key, u128::from(key) * 10);
     let note = dictionary.note(&mut pass);
     (pass, note)
 }
@@ -41,7 +40,7 @@ fn learn_and_get<R: Wait>(
     requires note { IsNoteFrom dictionary.now note }
 {
     dictionary.learn(&mut pass, note);
-    dictionary.get(rt, &mut pass, &NoGate, key).found
+    dictionary.get(rt, &mut pass, key).found
 }
 
 /// Both callers put and note at once.

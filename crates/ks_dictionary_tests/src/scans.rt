@@ -6,7 +6,6 @@ use crate::crews::two_callers;
 use ks_arena::{Arena, Pass};
 use ks_bplus::BNode;
 use ks_dictionary::Dictionary;
-use ks_gate::NoGate;
 use ks_giveup::GiveUp;
 use ks_link::LinkMove;
 use ks_linked::WithLink;
@@ -27,9 +26,9 @@ fn fill<N: Node, T: Ruled + Template<N, Arena<N, <T as Ruled>::Rule>>, R: Wait>(
     ensures { IsIdlePassOf map.now pass.new }
 {
     for tenth in 0..21u64 {
-        let _answer = map.put(rt, pass, &NoGate, tenth * 10, 7);
+        let _answer = map.put(rt, pass, tenth * 10, 7);
     }
-    let _deleted = map.del(rt, pass, &NoGate, 80);
+    let _deleted = map.del(rt, pass, 80);
 }
 
 /// A dictionary with these keys, and the pass of a caller.
@@ -63,9 +62,9 @@ fn scans_leaves<N: Node, T: Ruled + Scanning<N, Arena<N, <T as Ruled>::Rule>>, R
     ensures { IsIdlePassOf map.now pass.new }
 {
     let mut whole = Vec::with_capacity(alloc, 4)?;
-    let end = map.scan_into(rt, pass, &NoGate, 0, 300, 4, &mut whole);
+    let end = map.scan_into(rt, pass, 0, 300, 4, &mut whole);
     let mut cut = Vec::with_capacity(alloc, 1)?;
-    let stop = map.scan_into(rt, pass, &NoGate, 0, 300, 1, &mut cut);
+    let stop = map.scan_into(rt, pass, 0, 300, 1, &mut cut);
     Ok(
         whole.len() == 2
             && whole[0].pairs.len() == 8
@@ -83,11 +82,11 @@ fn finds_ends<N: Node, T: Ruled + Scanning<N, Arena<N, <T as Ruled>::Rule>>, R: 
 ) -> bool
     requires { IsIdlePassOf map.now pass.old }
 {
-    let first = map.first_in(rt, pass, &NoGate, 71, 300);
-    let last = map.last_in(rt, pass, &NoGate, 0, 85);
-    let end = map.last_in(rt, pass, &NoGate, 0, u64::MAX);
-    let none = map.first_in(rt, pass, &NoGate, 71, 85);
-    let none_last = map.last_in(rt, pass, &NoGate, 201, u64::MAX);
+    let first = map.first_in(rt, pass, 71, 300);
+    let last = map.last_in(rt, pass, 0, 85);
+    let end = map.last_in(rt, pass, 0, u64::MAX);
+    let none = map.first_in(rt, pass, 71, 85);
+    let none_last = map.last_in(rt, pass, 201, u64::MAX);
     key_of(first) == Some(90)
         && key_of(last) == Some(70)
         && key_of(end) == Some(200)

@@ -9,7 +9,6 @@ use ks_bplus::BNode;
 use ks_coupling::Coupling;
 use ks_dictionary::Dictionary;
 use ks_flow::{Link, Tree};
-use ks_gate::NoGate;
 use ks_giveup::GiveUp;
 use ks_link::LinkMove;
 use ks_linked::WithLink;
@@ -30,7 +29,7 @@ fn del_by_coupling<R: Wait>(
     ensures tidy { result.found ≢ None → WasAlone pass.old pass.new →
         IsTidyIn (site_of map.now) pass.new (place_in map.now key) }
 {
-    map.del(rt, pass, &NoGate, key)
+    map.del(rt, pass, key)
 }
 
 /// Deletes a key by giving up.
@@ -45,7 +44,7 @@ fn del_by_giving_up<R: Wait>(
     ensures tidy { result.found ≢ None → WasAlone pass.old pass.new →
         IsTidyIn (site_of map.now) pass.new (place_in map.now key) }
 {
-    map.del(rt, pass, &NoGate, key)
+    map.del(rt, pass, key)
 }
 
 /// Sets the value of a key along links.
@@ -61,7 +60,7 @@ fn put_along_links<R: Wait>(
     ensures led { WasAlone pass.old pass.new → HasTwoFree (site_of map.now) pass.new →
         AreNewLed (site_of map.now) pass.old pass.new }
 {
-    map.put(rt, pass, &NoGate, key, value)
+    map.put(rt, pass, key, value)
 }
 
 #[test]

@@ -28,6 +28,11 @@ impl InOrder {
         }
     }
 
+    /// Whether nobody is to stop.
+    pub(crate) fn is_open(&self) -> bool {
+        self.points.is_empty()
+    }
+
     /// Whether all points were passed, and no stop has ended by its limit.
     pub(crate) fn is_passed(&self) -> bool {
         self.failures.load(SeqCst) == 0 && self.passed.load(SeqCst) == self.points.len() as u64

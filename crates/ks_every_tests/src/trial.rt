@@ -9,7 +9,6 @@ use crate::order::InOrder;
 use crate::scripts::{Script, Step, key_at};
 use ks_arena::{Arena, Pass};
 use ks_dictionary::Dictionary;
-use ks_gate::{Gate, NoGate};
 use ks_keysets::{Graph, NodeState};
 use ks_node::Node;
 use ks_shape::{Compacting, Ruled, Template};
@@ -95,6 +94,15 @@ impl Trial {
         }
     }
 
+    /// The gate, if a caller is to stop at it.
+    fn gate(&self) -> Option<&InOrder> {
+        if self.gate.is_open() {
+            None
+        } else {
+            Some(&self.gate)
+        }
+    }
+
     /// The steps of a script.
     fn steps_of(&self, script: usize) -> &[Step] {
         match self.scripts.get(script) {
@@ -132,12 +140,12 @@ impl Trial {
     }
 }
 
-/// Makes the calls of a script.
-fn play<N: Node, T: Ruled + Template<N, Arena<N, <T as Ruled>::Rule>>, R: Wait, G: Gate>(
+/// Makes the calls of a script, at the gate if there is one.
+fn play<N: Node, T: Ruled + Template<N, Arena<N, <T as Ruled>::Rule>>, R: Wait>(
     rt: &R,
     map: &Dictionary<N, T>,
     trial: &Trial,
-    gate: &G,
+    gate: Option<&InOrder>,
     script: usize,
     pass: &mut Pass<N, T::Rule>,
 )
@@ -165,7 +173,7 @@ fn play_first<N: Node, T: Ruled + Template<N, Arena<N, <T as Ruled>::Rule>>, R: 
     requires passes { AreOrderedPassesOf map.now passes.old }
     ensures { AreOrderedPassesOf map.now passes.new }
 {
-    play(rt, map, trial, &NoGate, script, &mut passes[0]);
+    play(rt, map, trial, None, script, &mut passes[0]);
 }
 
 /// Makes the calls of all callers at once.
@@ -189,7 +197,7 @@ where
             requires { IsIdlePassOf map.now pass.old }
             ensures pass { IsIdlePassOf map.entry.now pass.new }
             ensures caller { SameCaller pass.old pass.new }
-        { play(rt, map, trial, &trial.gate, at.saturating_add(1), pass) },
+        { play(rt, map, trial, trial.gate(), at.saturating_add(1), pass) },
     );
 }
 
@@ -223,7 +231,7 @@ fn compact_whole<N: Node, T: Ruled + Compacting<N, Arena<N, <T as Ruled>::Rule>>
 {
     let mut all = 0u32;
     for _ in rt.forever() {
-        let freed = map.compact(rt, pass, &NoGate);
+        let freed = map.compact(rt, pass);
         if freed == 0 {
             return all;
         }
