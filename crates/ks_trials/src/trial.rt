@@ -32,7 +32,7 @@ pub(crate) struct Due {
 
 /// The first script is made by caller 0, then one by each caller at once, and then the last by caller 0.
 #[derive(Drop)]
-pub(crate) struct Trial {
+pub struct Trial {
     pub(crate) nodes: u32,
     pub(crate) stride: u64,
     pub(crate) keys: usize,
@@ -308,7 +308,7 @@ where
 }
 
 /// Runs trials of a technique that compacts. Returns how many of them went right before one that did not.
-pub(crate) fn right_under_trees<
+pub fn right_under_trees<
     N: Node + Send,
     T: Ruled + Compacting<N, Arena<N, <T as Ruled>::Rule>>,
     R: Threads + Wait + Sync,
@@ -325,7 +325,7 @@ where
 }
 
 /// Runs trials of a technique that merges no nodes. Returns how many of them went right before one that did not.
-pub(crate) fn right_along_links<
+pub fn right_along_links<
     N: Node + Send,
     T: Ruled + Template<N, Arena<N, <T as Ruled>::Rule>>,
     R: Threads + Wait + Sync,

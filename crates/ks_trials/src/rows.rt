@@ -25,13 +25,13 @@ fn lists(alloc: Global) -> Result<Vec<Trial>, AllocError> {
     Ok(all)
 }
 
-pub(crate) fn lists_by_coupling(alloc: Global) -> Result<Vec<Trial>, AllocError> {
+pub fn lists_by_coupling(alloc: Global) -> Result<Vec<Trial>, AllocError> {
     let mut all = lists(alloc)?;
     meets::far_by_coupling(alloc, &mut all)?;
     Ok(all)
 }
 
-pub(crate) fn lists_by_giving_up(alloc: Global) -> Result<Vec<Trial>, AllocError> {
+pub fn lists_by_giving_up(alloc: Global) -> Result<Vec<Trial>, AllocError> {
     let mut all = lists(alloc)?;
     meets::far_by_giving_up(alloc, &mut all)?;
     Ok(all)
@@ -59,7 +59,7 @@ fn thin_tree(alloc: Global) -> Result<Trial, AllocError> {
     )
 }
 
-pub(crate) fn trees_by_coupling(alloc: Global) -> Result<Vec<Trial>, AllocError> {
+pub fn trees_by_coupling(alloc: Global) -> Result<Vec<Trial>, AllocError> {
     let mut all = trees(alloc, ROOT)?;
     all.push(thin_tree(alloc)?)?;
     all.push(meets::busy(alloc, Point::Given(0))?)?;
@@ -67,7 +67,7 @@ pub(crate) fn trees_by_coupling(alloc: Global) -> Result<Vec<Trial>, AllocError>
     Ok(all)
 }
 
-pub(crate) fn trees_by_giving_up(alloc: Global) -> Result<Vec<Trial>, AllocError> {
+pub fn trees_by_giving_up(alloc: Global) -> Result<Vec<Trial>, AllocError> {
     let mut all = trees(alloc, ROOT)?;
     all.push(thin_tree(alloc)?)?;
     all.push(meets::busy(alloc, Point::Taken(1))?)?;
@@ -76,7 +76,7 @@ pub(crate) fn trees_by_giving_up(alloc: Global) -> Result<Vec<Trial>, AllocError
     Ok(all)
 }
 
-pub(crate) fn trees_along_links(alloc: Global) -> Result<Vec<Trial>, AllocError> {
+pub fn trees_along_links(alloc: Global) -> Result<Vec<Trial>, AllocError> {
     let mut all = trees(alloc, None)?;
     all.push(meets::busy(alloc, Point::Taken(1))?)?;
     meets::splits_along_links(alloc, &mut all)?;
@@ -94,16 +94,16 @@ fn tables(alloc: Global, live: Option<u64>) -> Result<Vec<Trial>, AllocError> {
     Ok(all)
 }
 
-pub(crate) fn tables_under_trees(alloc: Global) -> Result<Vec<Trial>, AllocError> {
+pub fn tables_under_trees(alloc: Global) -> Result<Vec<Trial>, AllocError> {
     tables(alloc, ROOT)
 }
 
-pub(crate) fn tables_along_links(alloc: Global) -> Result<Vec<Trial>, AllocError> {
+pub fn tables_along_links(alloc: Global) -> Result<Vec<Trial>, AllocError> {
     tables(alloc, None)
 }
 
 /// Of four nodes of a binary tree one is the root over two leaves of at most two pairs, and a full leaf needs two more.
-pub(crate) fn binary_trees(alloc: Global) -> Result<Vec<Trial>, AllocError> {
+pub fn binary_trees(alloc: Global) -> Result<Vec<Trial>, AllocError> {
     let mut all = Vec::new(alloc);
     all.push(wide(alloc, 700, 300, STRIDE, ROOT)?)?;
     all.push(full(alloc, 4, 3, 1, ROOT)?)?;
