@@ -1,9 +1,9 @@
 //! A pass that is dropped keeps nobody, and a dictionary that is not closed can be dropped.
 ghost use Rattle.ks_dictionary.specs.Of.{IsIdlePassOf};
 
-use crate::crews::two_callers;
 use ks_arena::{Arena, Pass};
 use ks_coupling::Coupling;
+use ks_crews::two_callers;
 use ks_dictionary::Dictionary;
 use ks_list::ListNode;
 use ks_node::Node;
