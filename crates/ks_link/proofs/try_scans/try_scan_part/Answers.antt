@@ -18,10 +18,10 @@ use Rattle.ks_link.proofs.Spans.{part_done}
 use Rattle.ks_link.proofs.try_scans.try_scan_part.Goals as goal
 
 pub span_law-requires-clause-way : goal.span_law-requires-clause-way
-span_law-requires-clause-way g c κs within = subst (λ (z : ℕ). IsOnWay (sort_of g.N.Node.layout g.N.Node.ranged) g.N.Node.body z c.args.low (seen_of c.try_find.new.pass) c.in-Ok.held) (sym c.try_find.ensures.caller) c.in-Ok.ensures.found.0
+span_law-requires-clause-way g c = subst (λ (z : ℕ). IsOnWay (sort_of g.N.Node.layout g.N.Node.ranged) g.N.Node.body z c.args.low (seen_of c.try_find.new.pass) c.in-Ok.held) (sym c.try_find.ensures.caller) c.in-Ok.ensures.found.0
 
 pub span_law-requires-clause-ends : goal.span_law-requires-clause-ends
-span_law-requires-clause-ends g c κs within = subst (λ (z : ℕ). IsEnd (sort_of g.N.Node.layout g.N.Node.ranged) g.N.Node.body z c.args.low (seen_of c.try_find.new.pass) c.in-Ok.held) (sym c.try_find.ensures.caller) c.in-Ok.ensures.found.1
+span_law-requires-clause-ends g c = subst (λ (z : ℕ). IsEnd (sort_of g.N.Node.layout g.N.Node.ranged) g.N.Node.body z c.args.low (seen_of c.try_find.new.pass) c.in-Ok.held) (sym c.try_find.ensures.caller) c.in-Ok.ensures.found.1
 
 pub returns-in-Ok-clause-leaves : goal.returns-in-Ok-clause-leaves
 returns-in-Ok-clause-leaves g c = does_on MaySearch c.args.pass.now.caller c.try_find.new.pass.caller (seen_of c.args.pass.now) (seen_of c.try_find.new.pass) (seen_of c.part_here.new.pass) c.try_find.ensures.caller c.try_find.ensures.leaves c.part_here.ensures.leaves
