@@ -4,6 +4,8 @@
 #[cfg(test)]
 mod below;
 #[cfg(test)]
+mod chain;
+#[cfg(test)]
 mod runs;
 #[cfg(test)]
 mod tests;

@@ -1,4 +1,5 @@
 use crate::below::{compacted_below, merged_below};
+use crate::chain::{chain_of, chained, compacted_chain};
 use crate::runs::{compact_once, del_each, end_one, put_each, start_one};
 use ks_bplus::BNode;
 use ks_bst::TNode;
@@ -86,5 +87,54 @@ fn a_compaction_takes_a_child_over_below_the_root(rt: HostRuntime) -> Result<(),
     )?;
     assert!(rt; is_right && first == 2 && second == 0);
     assert!(rt; live_nodes(&closed.graph(rt.alloc())?) == 3);
+    Ok(())
+}
+
+/// Forty keys that came in sorted order make 38 branches in a row and 39 leaves. None of the leaves fits beside another: a
+/// compaction makes no node free.
+#[test]
+fn keys_in_sorted_order_make_a_chain(rt: HostRuntime) -> Result<(), Fail> {
+    let alloc = rt.alloc();
+    let (is_right, closed) = chained::<TNode, Coupling, HostRuntime>(&rt, alloc, false)?;
+    let graph = closed.graph(alloc)?;
+    assert!(rt; is_right && chain_of(&graph) == 38 && live_nodes(&graph) == 77);
+    let (rounds, freed, closed) = compacted_chain::<TNode, Coupling, HostRuntime>(
+        &rt, alloc, false,
+    )?;
+    let graph = closed.graph(alloc)?;
+    assert!(rt; rounds == 0 && freed == 0);
+    assert!(rt; chain_of(&graph) == 38 && live_nodes(&graph) == 77);
+    assert!(rt; closed.pairs(alloc)?.len() == 40);
+    Ok(())
+}
+
+/// When all keys but two are deleted, 37 of the branches are still there, for a leaf beside a branch is not merged. Each
+/// compaction merges the last two leaves, and their branch takes over: the root in the end.
+#[test]
+fn a_chain_is_compacted_branch_by_branch(rt: HostRuntime) -> Result<(), Fail> {
+    let alloc = rt.alloc();
+    let (is_right, closed) = chained::<TNode, Coupling, HostRuntime>(&rt, alloc, true)?;
+    let graph = closed.graph(alloc)?;
+    assert!(rt; is_right && chain_of(&graph) == 37 && live_nodes(&graph) == 75);
+    let (rounds, freed, closed) = compacted_chain::<TNode, Coupling, HostRuntime>(
+        &rt, alloc, true,
+    )?;
+    assert!(rt; rounds == 37 && freed == 74);
+    assert!(rt; is_root_alone(&closed.graph(alloc)?, 2));
+    let pairs = closed.pairs(alloc)?;
+    assert!(rt; pairs.as_slice() == [(5, 5), (30, 30)].as_slice());
+    Ok(())
+}
+
+#[test]
+fn a_chain_is_compacted_branch_by_branch_by_giving_up(rt: HostRuntime) -> Result<(), Fail> {
+    let alloc = rt.alloc();
+    let (rounds, freed, closed) = compacted_chain::<WithRange<TNode>, GiveUp, HostRuntime>(
+        &rt, alloc, true,
+    )?;
+    assert!(rt; rounds == 37 && freed == 74);
+    assert!(rt; is_root_alone(&closed.graph(alloc)?, 2));
+    let pairs = closed.pairs(alloc)?;
+    assert!(rt; pairs.as_slice() == [(5, 5), (30, 30)].as_slice());
     Ok(())
 }

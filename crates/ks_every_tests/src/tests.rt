@@ -1,3 +1,4 @@
+use ks_boxed::Boxed;
 use ks_bplus::BNode;
 use ks_bst::TNode;
 use ks_coupling::Coupling;
@@ -80,8 +81,8 @@ fn tables_by_giving_up(rt: HostRuntime) -> Result<(), Fail> {
 
 #[test]
 fn binary_trees_by_giving_up(rt: HostRuntime) -> Result<(), Fail> {
-    let trials = rows::binary_trees(rt.alloc())?;
-    let right = right_under_trees::<WithRange<TNode>, GiveUp, HostRuntime>(
+    let trials = rows::binary_trees_by_giving_up(rt.alloc())?;
+    let right = right_under_trees::<Boxed<WithRange<TNode>>, GiveUp, HostRuntime>(
         &rt,
         rt.alloc(),
         &trials,

@@ -21,18 +21,16 @@ fn later(cause: Later) -> Answer {
     Err(PutLater::Later(cause))
 }
 
-/// A trial over the keys below `keys`, in which callers are stopped in this order; as many calls are put off.
-fn meet(
+/// A trial that begins with a script, in which callers are stopped in this order; as many calls are put off.
+fn meet_after(
     alloc: Global,
     nodes: u32,
-    keys: usize,
+    first: Script,
     parts: Vec<Script>,
     points: Vec<(u32, Point)>,
     put_off: u64,
 ) -> Result<Trial, AllocError> {
     let mut scripts = Vec::new(alloc);
-    let mut first = Script::of(alloc, 1);
-    first.fill(keys)?;
     scripts.push(first)?;
     for part in parts {
         scripts.push(part)?;
@@ -45,6 +43,20 @@ fn meet(
         ..WHOLE
     };
     gated(alloc, nodes, KEYS, 1, scripts, points, due)
+}
+
+/// Such a trial over the keys below `keys`.
+fn meet(
+    alloc: Global,
+    nodes: u32,
+    keys: usize,
+    parts: Vec<Script>,
+    points: Vec<(u32, Point)>,
+    put_off: u64,
+) -> Result<Trial, AllocError> {
+    let mut first = Script::of(alloc, 1);
+    first.fill(keys)?;
+    meet_after(alloc, nodes, first, parts, points, put_off)
 }
 
 /// Caller 0 is stopped at the point at which it holds node 1 and nothing else, until caller 1 has tried a call of each kind at
@@ -155,6 +167,50 @@ pub(crate) fn merges_by_giving_up(alloc: Global, into: &mut Vec<Trial>) -> Resul
             waits.returns(8, op, decided_at(20, Some(8)))?;
             into.push(merged(alloc, again, waits, 0)?)?;
         }
+    }
+    Ok(())
+}
+
+/// Puts some keys of a binary tree of five nodes, and deletes others, so that beside a leaf with key 10 node 1 is a fork over
+/// leaves with keys 0 and 1; the latter is node 4. The del of key 0 merges the leaves, node 1 takes that over, and is merged
+/// into the root, which takes over all. Caller 1 makes one call of key 1. It has released node 1, and has the number of node
+/// 4, when it is stopped until all that is done.
+fn merged_below(alloc: Global, meant: Script, put_off: u64) -> Result<Trial, AllocError> {
+    let mut merges = Script::of(alloc, 1);
+    merges.returns(0, Op::Del, decided_at(7, Some(7)))?;
+    merges.returns(10, Op::Get, decided_at(8, Some(7)))?;
+    let points = vec![in alloc; (1, Given(1)), (0, Begin), (0, Decided(8)), (1, Given(1))]?;
+    let mut first = Script::of(alloc, 1);
+    for key in [0, 10, 20, 1, 2] {
+        first.call(key, Op::Put(7))?;
+    }
+    for key in [20, 2] {
+        first.call(key, Op::Del)?;
+    }
+    meet_after(
+        alloc,
+        5,
+        first,
+        vec![in alloc; merges, meant]?,
+        points,
+        put_off,
+    )
+}
+
+/// By giving up: the node below the root is free when the call comes to it. A try is put off, of each kind, and a call that
+/// waits restarts.
+pub(crate) fn merges_below_by_giving_up(
+    alloc: Global,
+    into: &mut Vec<Trial>,
+) -> Result<(), AllocError> {
+    for op in EACH {
+        let mut tried = Script::of(alloc, 1);
+        tried.try_returns(1, op, later(Later::Moved { node: 4 }))?;
+        tried.try_returns(1, Op::Get, decided_at(9, Some(7)))?;
+        into.push(merged_below(alloc, tried, 1)?)?;
+        let mut waits = Script::of(alloc, 1);
+        waits.returns(1, op, decided_at(9, Some(7)))?;
+        into.push(merged_below(alloc, waits, 0)?)?;
     }
     Ok(())
 }

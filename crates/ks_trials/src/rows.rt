@@ -112,3 +112,9 @@ pub fn binary_trees(alloc: Global) -> Result<Vec<Trial>, AllocError> {
     crowds(alloc, &mut all, 40, STRIDE, ROOT)?;
     Ok(all)
 }
+
+pub fn binary_trees_by_giving_up(alloc: Global) -> Result<Vec<Trial>, AllocError> {
+    let mut all = binary_trees(alloc)?;
+    meets::merges_below_by_giving_up(alloc, &mut all)?;
+    Ok(all)
+}
