@@ -47,7 +47,9 @@ impl Made {
     /// Makes the change on a plain map, or looks whether the part is of it.
     fn on(self, plain: &mut Plain) {
         match self {
-            Made::Inserted(_, key, value) => drop(plain.insert(key, value)),
+            Made::Inserted(_, key, value) => {
+                plain.insert(key, value);
+            }
             Made::Removed(number, key, found) => assert_eq!(plain.remove(&key), found, "{number}"),
             Made::Listed(part) => assert!(part.pairs().eq(pairs_of(plain, part.keys())), "{part:?}"),
         }
@@ -139,7 +141,7 @@ fn a_part_that_is_put_off_may_be_asked_for_again() -> Result<(), OpenError> {
         let dictionary = Dictionary::open_as(structure, 64, 2)?;
         let (mut caller, mut other) = (dictionary.caller().expect("two"), dictionary.caller().expect("two"));
         thread::scope(|scope| {
-            scope.spawn(move || (0..20_000).for_each(|key| drop(other.insert(key % 50, key.into()))));
+            scope.spawn(move || assert!((0..20_000).all(|key| other.insert(key % 50, key.into()).is_ok())));
             for _ in 0..2_000 {
                 let (mut parts, mut next) = (caller.parts(..).expect("it has scans"), Some(0));
                 while let Some(low) = next {
