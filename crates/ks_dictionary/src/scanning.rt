@@ -1,9 +1,11 @@
 //! Ordered scans of a dictionary whose keys are their places.
-ghost use Rattle.std.specs.Prelude.{◌≡◌, ◌≤◌, ◌<◌, ◌^◌, ℕ, [], vec_capacity};
+ghost use Rattle.std.specs.Prelude.{◌≡◌, ◌≤◌, ◌<◌, ◌^◌, ℕ, [], length, vec_capacity};
+ghost use Rattle.ks_history.specs.Trace.{calls_of};
+ghost use Rattle.ks_arena.specs.Clauses.{seen_of};
 ghost use Rattle.ks_arena.specs.Of.{SameCaller};
 ghost use Rattle.ks_shape.specs.Does.{OnlySearches};
 ghost use Rattle.ks_scan.specs.Ends.{HasFoundFirst, HasFoundLast};
-ghost use Rattle.ks_scan.specs.Scan.{IsDoneScan};
+ghost use Rattle.ks_scan.specs.Scan.{IsDoneScan, NumbersAscend};
 ghost use Rattle.ks_lines.specs.Scan.{IsScanOf};
 ghost use Rattle.ks_dictionary.specs.Of.{IsIdlePassOf, site_of};
 
@@ -20,8 +22,8 @@ impl<N: Node, T: Ruled + Scanning<N, Arena<N, <T as Ruled>::Rule>>> Dictionary<N
     /// parts.
     ///
     /// Each part is one call of the history, with a number of its own: it has just the pairs that the map has then from
-    /// its first key to its last. Calls of other callers may come between two parts, so the whole is no picture of one
-    /// moment.
+    /// its first key to its last. The numbers of the parts ascend, unless 2^64 calls were made. Calls of other callers may
+    /// come between two parts, so the whole is no picture of one moment.
     pub fn scan_into<R: Runtime>(
         &self,
         rt: &R,
@@ -42,6 +44,8 @@ impl<N: Node, T: Ruled + Scanning<N, Arena<N, <T as Ruled>::Rule>>> Dictionary<N
         ensures done { IsDoneScan N.layout T.technique (site_of self.now) low last
             pass.old pass.new into.new.items }
         ensures scan { IsScanOf low last most into.new.items result }
+        ensures ascend { length (calls_of (seen_of pass.new)) < 2 ^ 64 →
+            NumbersAscend into.new.items }
         ensures capacity { vec_capacity into.new ≡ vec_capacity into.old }
         ensures keys { (k : ℕ) → k < 2 ^ 64 → N.Places.place_of k ≡ k }
     {
