@@ -12,7 +12,7 @@ use std::sync::Wait;
 use std::test::Fail;
 
 /// Puts the keys below `many`, each as its own value. Returns whether these are the first calls, and no key had a value.
-fn puts_below<N: Node, T: Ruled + Template<N, Arena<N, <T as Ruled>::Rule>>, R: Wait>(
+pub(crate) fn puts_below<N: Node, T: Ruled + Template<N, Arena<N, <T as Ruled>::Rule>>, R: Wait>(
     rt: &R,
     map: &Dictionary<N, T>,
     pass: &mut Pass<N, T::Rule>,

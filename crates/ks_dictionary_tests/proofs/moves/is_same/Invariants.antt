@@ -1,0 +1,5 @@
+use Rattle.ks_dictionary.specs.Of.{IsIdlePassOf}
+use Rattle.ks_dictionary_tests.proofs.moves.is_same.Given as goal
+
+abbrev pub invariant-loop-key : goal.invariant-loop-key
+invariant-loop-key g l = IsIdlePassOf l.map l.pass
