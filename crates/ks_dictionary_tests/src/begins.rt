@@ -102,7 +102,17 @@ fn a_move_begins_once(rt: HostRuntime) -> Result<(), Fail> {
     let (map, mut one, _) = two_callers::<WithRange<BNode>, GiveUp>(rt.alloc(), 64)?;
     assert!(rt; puts_below(&rt, &map, &mut one, 17));
     let gate = Counting::of(Stand::of(0, 0, Point::Begin, 1, 0, LONG));
-    assert!(rt; moves(&Gated { rt: &rt, gate: &gate }, &map, one, 17));
+    assert!(rt;
+        moves(
+            &Gated {
+                rt: &rt,
+                gate: &gate
+            },
+            &map,
+            one,
+            17
+        )
+    );
     assert!(rt; gate.has_counted(2));
     Ok(())
 }

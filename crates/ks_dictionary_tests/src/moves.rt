@@ -96,9 +96,7 @@ fn make<N: Ranged + Unlinked, R: Wait>(
         Call::Get(key) => Answer::Found(map.get(rt, pass, key).found),
         Call::Put(key, value) => of_fill(map.put(rt, pass, key, value)),
         Call::Add(key, value) => of_fill(map.add(rt, pass, key, value)),
-        Call::Swap(key, old, new) => {
-            Answer::Found(map.swap(rt, pass, key, old, new).found)
-        }
+        Call::Swap(key, old, new) => { Answer::Found(map.swap(rt, pass, key, old, new).found) }
         Call::Del(key) => Answer::Found(map.del(rt, pass, key).found),
         Call::Move(from, to) => {
             if from == to {
