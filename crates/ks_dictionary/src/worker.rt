@@ -11,7 +11,7 @@ use std::alloc::{AllocError, Global};
 const LEAVES: usize = 1024;
 
 /// How many branches it has room for.
-const BRANCHES: usize = 1024;
+const BRANCHES: usize = 4096;
 
 /// What one worker draws callers with, and what it asks where their calls may begin. It keeps both from caller to caller.
 #[derive(Drop)]
