@@ -118,7 +118,7 @@ fn compact<N: Ranged + Unlinked, R: Wait>(
     ensures { IsIdlePassOf map.now pass.new }
 {
     for _ in rt.forever() {
-        if map.compact(rt, pass, &NoGate) == 0 {
+        if map.compact(rt, pass) == 0 {
             return;
         }
     }
