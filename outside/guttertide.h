@@ -23,7 +23,8 @@
  *     one would point to what the other has freed. It may be moved while no call uses it, if the old place is forgotten.
  *   - One handle is in one call at a time. It may go from thread to thread if that is ordered (by a lock, a thread's start
  *     or join, or a sequentially consistent atomic). Different handles may be in calls at the same time.
- *   - An answer is no part of a handle, and no other thread uses it during the call.
+ *   - An answer, a part and the pairs of a scan are no parts of a handle or of each other, and no other thread uses them
+ *     during the call. There are as many pairs as the call is told.
  *   - The program's malloc, realloc and free are of one allocator, as C has them. No call is made from a signal handler,
  *     nor in a child that was forked while there were several threads.
  *
@@ -53,32 +54,52 @@ typedef struct ks_wide {
 
 /* What a call returns beside its code, in the fields that the code names. */
 typedef struct ks_answer {
-    uint64_t number;    /* of the call in the one history of all calls, from 0; with KS_NOTHING, KS_VALUE, KS_FULL */
+    uint64_t number;    /* of the call in the one history of all calls, from 0; with KS_NOTHING, KS_VALUE, KS_FULL, KS_MORE */
     ks_wide value;      /* that the key had before the call; with KS_VALUE */
     uint32_t node;      /* that another caller held, or changed; with KS_BUSY, KS_MOVED */
     uint32_t holder;    /* the caller that held the node: the index of its handle at ks_open; with KS_BUSY */
 } ks_answer;
 
-/* The codes. With the first three the call is one of the history; with all others it did nothing. */
+/* A key and its value, as a scan lists them. */
+typedef struct ks_pair {
+    uint64_t key;
+    ks_wide value;
+} ks_pair;
+
+/* What a part of a scan returns beside its code and its pairs. */
+typedef struct ks_part {
+    ks_answer answer;   /* as of other calls; its value is not written */
+    uint64_t next;      /* the key at which the next part begins; with KS_MORE */
+    size_t count;       /* how many pairs are listed; with KS_NOTHING, KS_MORE */
+} ks_part;
+
+/* How many pairs a part of a scan may have. */
+#define KS_PART 16
+
+/* The codes. With the first three, and KS_MORE, the call is one of the history; with all others it did nothing. */
 enum {
-    KS_NOTHING = 0,     /* done: the key had no value; of ks_open and ks_close: done */
+    KS_NOTHING = 0,     /* done: the key had no value; a part of a scan ends at its last key; of ks_open and ks_close: done */
     KS_VALUE = 1,       /* done: the key had a value */
     KS_FULL = 2,        /* done: a put or an add found no room and no free node; the map is as before */
     KS_BUSY = 3,        /* another caller held a node on the search path: make the call again */
     KS_MOVED = 4,       /* another caller changed a node on the search path: make the call again */
     KS_FAR = 5,         /* as many nodes were taken as there are, while others changed some: make the call again */
+    KS_MORE = 6,        /* done: the part of a scan ends below the last key */
     KS_CLOSED = 16,     /* the handle is not open */
     KS_BAD_SIZE = 17,   /* not 4 to 1048576 nodes, or not 1 to 1024 callers */
     KS_NO_MEMORY = 18,  /* memory ran out */
     KS_IN_USE = 19,     /* a handle given to ks_open is open */
     KS_NULL = 20,       /* a pointer is null */
-    KS_NO_STRUCTURE = 21 /* no structure has this word */
+    KS_NO_STRUCTURE = 21, /* no structure has this word */
+    KS_BAD_SPAN = 22,   /* the first key of a scan is above its last */
+    KS_NO_ROOM = 23,    /* there is room for fewer than KS_PART pairs */
+    KS_NO_SCANS = 24    /* the structure has no scans */
 };
 
 /* The structures, and which codes put off a call. */
 enum ks_structure {
-    KS_BLINK_TREE = 0,      /* a B-link tree: searches never restart, nodes are never merged; KS_BUSY */
-    KS_GIVE_UP_TREE = 1,    /* a B+ tree by giving up: searches restart, nodes are merged; KS_BUSY, KS_MOVED, KS_FAR */
+    KS_BLINK_TREE = 0,      /* a B-link tree: searches never restart, nodes are never merged; scans; KS_BUSY */
+    KS_GIVE_UP_TREE = 1,    /* a B+ tree by giving up: searches restart, nodes are merged; scans; KS_BUSY, KS_MOVED, KS_FAR */
     KS_B_TREE = 2,          /* a B+ tree by lock coupling: searches hold two nodes, nodes are merged; KS_BUSY, KS_FAR */
     KS_LINK_HASH_TABLE = 3  /* a hash table along links, for some hundred keys: nodes are never merged; KS_BUSY */
 };
@@ -90,6 +111,7 @@ uint32_t ks_c_add(ks_caller *caller, uint64_t key, uint64_t low, uint64_t high, 
 uint32_t ks_c_swap(ks_caller *caller, uint64_t key, uint64_t old_low, uint64_t old_high, uint64_t new_low,
                    uint64_t new_high, ks_answer *answer);
 uint32_t ks_c_del(ks_caller *caller, uint64_t key, ks_answer *answer);
+uint32_t ks_c_scan(ks_caller *caller, uint64_t low, uint64_t last, ks_pair *pairs, size_t room, ks_part *part);
 uint32_t ks_c_close(ks_caller *caller);
 
 /* The value low, with 0 above it. */
@@ -140,6 +162,28 @@ static inline uint32_t ks_swap(ks_caller *caller, uint64_t key, ks_wide before, 
 /* Deletes a key; the answer has the value that it had. */
 static inline uint32_t ks_del(ks_caller *caller, uint64_t key, ks_answer *answer) {
     return caller && answer ? ks_c_del(caller, key, answer) : (uint32_t)KS_NULL;
+}
+
+/* Lists the pairs of the keys from `low` on, at most to `last`, both included, in ascending order: one part of a scan, which is
+ * one call of the history. It lists just the pairs that the map has at its number, from `low` to its end: with KS_NOTHING that
+ * is `last`, and with KS_MORE the key before part->next, at which the next part begins. So a scan is a row of parts, each at a
+ * moment of its own:
+ *
+ *     ks_pair pairs[KS_PART];
+ *     ks_part part;
+ *     uint32_t code;
+ *     do {
+ *         while (ks_is_later(code = ks_scan(&caller, low, last, pairs, KS_PART, &part))) continue;
+ *         if (code != KS_NOTHING && code != KS_MORE) break;
+ *         for (size_t n = 0; n < part.count; n++) use(&pairs[n]);
+ *         if (code == KS_MORE) low = part.next;
+ *     } while (code == KS_MORE);
+ *
+ * `room` is how many pairs there is room for: at least KS_PART, which no part exceeds. Pairs past the listed ones stay as they
+ * are, and with other codes all do. Returns KS_NOTHING, KS_MORE, KS_NULL, KS_BAD_SPAN, KS_NO_ROOM, KS_CLOSED, KS_NO_SCANS, or a
+ * code with which it is put off. */
+static inline uint32_t ks_scan(ks_caller *caller, uint64_t low, uint64_t last, ks_pair *pairs, size_t room, ks_part *part) {
+    return caller && pairs && part ? ks_c_scan(caller, low, last, pairs, room, part) : (uint32_t)KS_NULL;
 }
 
 /* Closes a handle. The dictionary's memory is freed with its last one. Returns KS_NOTHING, KS_CLOSED or KS_NULL. */

@@ -16,8 +16,5 @@ mod words;
 
 pub use input::Stop;
 pub use pairings::Pairing;
-pub use serving::{Outcome, serve};
+pub use serving::{Made, Outcome, make, serve};
 pub use words::{Asked, Draft, Text, command};
-
-#[cfg(test)]
-mod tests;

@@ -62,7 +62,8 @@ fn tell_found(found: Option<u128>, out: &mut Answer) -> u32
     }
 }
 
-fn tell_later(later: Later, out: &mut Answer) -> u32
+/// Writes why a call was put off to `out`, and returns its code.
+pub fn tell_later(later: Later, out: &mut Answer) -> u32
     ensures { TellsLater later result out.new }
 {
     match later {

@@ -1,8 +1,11 @@
 //! A caller that C keeps, of a dictionary of one of the structures that C may choose.
-ghost use Rattle.std.specs.Prelude.{◌≡◌};
+ghost use Rattle.std.specs.Prelude.{◌≡◌, ◌≤◌, length};
 ghost use Rattle.ks_c.specs.Calls.{Called, IsReady};
+ghost use Rattle.ks_c.specs.Scans.{Scanned};
 
 use crate::answers::Answer;
+use crate::listing::{Entry, Listing, NO_SCANS};
+use crate::scans::{scan_along_links, scan_by_giving_up};
 use crate::tries::{Call, CallerOf, along_links, by_coupling, by_giving_up};
 use ks_boxed::Boxed;
 use ks_bplus::BNode;
@@ -87,6 +90,21 @@ impl Caller {
             Caller::GiveUpTree(caller) => by_giving_up(caller, key, call, out),
             Caller::BTree(caller) => by_coupling(caller, key, call, out),
             Caller::LinkHashTable(caller) => along_links(caller, key, call, out),
+        }
+    }
+
+    /// Lists a part of a scan, writes its result to `entries` and `out`, and returns its code.
+    pub fn scan(&mut self, low: u64, last: u64, entries: &mut [Entry], out: &mut Listing) -> u32
+        requires ready { IsReady self.old }
+        requires span { low ≤ last }
+        requires room { 16 ≤ length entries.old }
+        ensures { Scanned low last self.old self.new entries.old entries.new result out.new }
+    {
+        match self {
+            Caller::BLinkTree(caller) => scan_along_links(caller, low, last, entries, out),
+            Caller::GiveUpTree(caller) => scan_by_giving_up(caller, low, last, entries, out),
+            Caller::BTree(_) => NO_SCANS,
+            Caller::LinkHashTable(_) => NO_SCANS,
         }
     }
 }

@@ -6,8 +6,9 @@
 //! functions and says what a caller must keep.
 #![tactic(auto)]
 
-ghost use Rattle.std.specs.Prelude.{◌≡◌};
+ghost use Rattle.std.specs.Prelude.{◌≡◌, ◌<◌, ◌≤◌, length};
 ghost use Rattle.ks_c.specs.Calls.{HasCalled, IsHandle};
+ghost use Rattle.ks_c.specs.Scans.{HasScanned, HasStayed};
 ghost use Rattle.ks_c.specs.Tells.{whole};
 ghost use Rattle.ks_c.specs.declared.tries.Call.TheVariants.{Add, Del, Get, Put, Swap};
 
@@ -15,13 +16,17 @@ mod answers;
 mod caller;
 mod handle;
 mod life;
+mod listing;
 mod loose;
+mod scans;
 mod tries;
 
 pub use answers::Answer;
 use answers::{CLOSED, value_of};
 pub use caller::Caller;
 pub use handle::{Handle, Opaque};
+use listing::{BAD_SPAN, NO_ROOM};
+pub use listing::{Entry, Listing};
 use std::alloc::Global;
 use std::mem;
 use tries::Call;
@@ -113,4 +118,56 @@ pub extern "C" fn ks_c_del(alloc: Global, caller: &mut Handle, key: u64, out: &m
     ensures { HasCalled Del key caller.old.inside caller.new.inside result out.new }
 {
     call(alloc, caller, key, Call::Del, out)
+}
+
+/// Lists a part of a scan through a handle, writes its result to `entries` and `out`, and returns its code.
+fn scan(
+    alloc: Global,
+    caller: &mut Handle,
+    low: u64,
+    last: u64,
+    entries: &mut [Entry],
+    out: &mut Listing,
+) -> u32
+    requires handle { IsHandle caller.old.inside }
+    requires span { low ≤ last }
+    requires room { 16 ≤ length entries.old }
+    ensures { HasScanned low last caller.old.inside caller.new.inside entries.old entries.new result out.new }
+{
+    match mem::replace(caller, Handle::none()).into_box(alloc) {
+        None => CLOSED,
+        Some(mut inside) => {
+            let code = inside.scan(low, last, entries, out);
+            *caller = Handle::of(inside);
+            code
+        }
+    }
+}
+
+/// Lists the pairs of the keys from `low` on, at most to `last`, both included, in ascending order, at one moment: one part of
+/// a scan. Each part fits into 16 entries, and fewer are refused.
+#[unsafe(no_mangle)]
+pub extern "C" fn ks_c_scan(
+    alloc: Global,
+    caller: &mut Handle,
+    low: u64,
+    last: u64,
+    entries: &mut [Entry],
+    out: &mut Listing,
+) -> u32
+    requires { IsHandle caller.old.inside }
+    ensures span { last < low → (result ≡ BAD_SPAN) ×
+        HasStayed caller.old.inside caller.new.inside entries.old entries.new }
+    ensures room { low ≤ last → length entries.old < 16 → (result ≡ NO_ROOM) ×
+        HasStayed caller.old.inside caller.new.inside entries.old entries.new }
+    ensures scanned { low ≤ last → 16 ≤ length entries.old →
+        HasScanned low last caller.old.inside caller.new.inside entries.old entries.new result out.new }
+{
+    if last < low {
+        return BAD_SPAN;
+    }
+    if entries.len() < 16 {
+        return NO_ROOM;
+    }
+    scan(alloc, caller, low, last, entries, out)
 }

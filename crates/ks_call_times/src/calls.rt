@@ -6,7 +6,6 @@ ghost use Rattle.ks_dictionary.specs.Of.{AreOrderedPassesOf, IsIdlePassOf};
 use crate::times::nanoseconds;
 use ks_arena::{Arena, Pass};
 use ks_dictionary::Dictionary;
-use ks_gate::NoGate;
 use ks_generator::made_script;
 use ks_history::Op;
 use ks_lines::Line;
@@ -251,12 +250,12 @@ fn call<N: Node, T: Ruled + Template<N, Arena<N, <T as Ruled>::Rule>>, R: Wait>(
     ensures same { SameCaller pass.old pass.new }
 {
     match op {
-        Op::Get(key) => dictionary.get(rt, pass, &NoGate, key).found,
-        Op::Put(key, value) => match dictionary.put(rt, pass, &NoGate, key, value) {
+        Op::Get(key) => dictionary.get(rt, pass, key).found,
+        Op::Put(key, value) => match dictionary.put(rt, pass, key, value) {
             Ok(told) => told.found,
             Err(_) => None,
         },
-        Op::Del(key) => dictionary.del(rt, pass, &NoGate, key).found,
+        Op::Del(key) => dictionary.del(rt, pass, key).found,
         // (none is drawn)
         Op::Add(..) | Op::Swap(..) | Op::Part(..) | Op::Move(..) => None,
     }

@@ -6,7 +6,6 @@ ghost use Rattle.ks_compact_tests.specs.Only.{IsOnly};
 
 use ks_arena::{Arena, Pass};
 use ks_dictionary::{Closed, Dictionary};
-use ks_gate::NoGate;
 use ks_node::Node;
 use ks_shape::{Compacting, Ruled, Template};
 use std::alloc::{AllocError, Global};
@@ -42,7 +41,7 @@ pub(crate) fn put_each<N: Node, T: Ruled + Template<N, Arena<N, <T as Ruled>::Ru
     let mut right = true;
     for count in 0..many {
         let key = count.wrapping_mul(stride).wrapping_add(first);
-        right = match dictionary.put(rt, pass, &NoGate, key, u128::from(key)) {
+        right = match dictionary.put(rt, pass, key, u128::from(key)) {
             Ok(told) => right && told.found.is_none(),
             Err(_) => false,
         };
@@ -65,7 +64,7 @@ pub(crate) fn del_each<N: Node, T: Ruled + Template<N, Arena<N, <T as Ruled>::Ru
     let mut right = true;
     for count in 0..many {
         let key = count.wrapping_mul(stride).wrapping_add(first);
-        let told = dictionary.del(rt, pass, &NoGate, key);
+        let told = dictionary.del(rt, pass, key);
         right = right && told.found == Some(u128::from(key));
     }
     right
@@ -80,7 +79,7 @@ pub(crate) fn compact_once<
     requires { IsOnly dictionary.now pass.old }
     ensures { IsOnly dictionary.now pass.new }
 {
-    dictionary.compact(rt, pass, &NoGate)
+    dictionary.compact(rt, pass)
 }
 
 /// The one pass in a vector.

@@ -30,14 +30,14 @@ ghost use Rattle.ks_dictionary.specs.Of.{
 };
 
 use crate::closed::Closed;
+use crate::runtime::Runtime;
 use ks_arena::laws::reuse_law;
 use ks_arena::{Arena, Note, Pass};
-use ks_gate::Gate;
+use ks_gate::NoGate;
 use ks_node::Node;
 use ks_places::Placing;
 use ks_shape::{Full, Later, Numbered, PutLater, Ruled, Shelf, Template, tries_law};
 use std::alloc::{AllocError, Global};
-use std::sync::Wait;
 
 /// A map from keys to values that many callers use at once, each with a pass of its own.
 ///
@@ -95,13 +95,7 @@ impl<N: Node, T: Ruled + Template<N, Arena<N, <T as Ruled>::Rule>>> Dictionary<N
     }
 
     /// Returns the value of a key.
-    pub fn get<R: Wait, G: Gate>(
-        &self,
-        rt: &R,
-        pass: &mut Pass<N, T::Rule>,
-        gate: &G,
-        key: u64,
-    ) -> Numbered
+    pub fn get<R: Runtime>(&self, rt: &R, pass: &mut Pass<N, T::Rule>, key: u64) -> Numbered
         requires pass { IsIdlePassOf self.now pass.old }
         ensures pass { IsIdlePassOf self.now pass.new }
         ensures caller { SameCaller pass.old pass.new }
@@ -110,6 +104,7 @@ impl<N: Node, T: Ruled + Template<N, Arena<N, <T as Ruled>::Rule>>> Dictionary<N
             pass.old pass.new (told result.found) result.number }
         ensures reuse { ReusesSafely T.Rule.lasts (seen_of pass.old) (seen_of pass.new) }
     {
+        let (rt, gate) = rt.parts();
         reuse_law::<T::Rule>();
         T::get(rt, &self.arena, pass, gate, N::Places::place(key))
     }
@@ -125,11 +120,10 @@ impl<N: Node, T: Ruled + Template<N, Arena<N, <T as Ruled>::Rule>>> Dictionary<N
     /// Along links the edge to a node that was split off is added once the call has been decided. It is there in the
     /// end if no other caller did anything meanwhile and two nodes are free then, over B+ nodes: their branches adopt
     /// any edge while they are not full, and their halves have room.
-    pub fn put<R: Wait, G: Gate>(
+    pub fn put<R: Runtime>(
         &self,
         rt: &R,
         pass: &mut Pass<N, T::Rule>,
-        gate: &G,
         key: u64,
         value: u128,
     ) -> Result<Numbered, Full>
@@ -144,6 +138,7 @@ impl<N: Node, T: Ruled + Template<N, Arena<N, <T as Ruled>::Rule>>> Dictionary<N
             WasAlone pass.old pass.new → HasTwoFree (site_of self.now) pass.new →
             AreNewLed (site_of self.now) pass.old pass.new }
     {
+        let (rt, gate) = rt.parts();
         reuse_law::<T::Rule>();
         T::put(rt, &self.arena, pass, gate, N::Places::place(key), value)
     }
@@ -153,11 +148,10 @@ impl<N: Node, T: Ruled + Template<N, Arena<N, <T as Ruled>::Rule>>> Dictionary<N
     /// # Errors
     ///
     /// `Full` comes, and leaves the map, as for `put`; edges are there as after `put`.
-    pub fn add<R: Wait, G: Gate>(
+    pub fn add<R: Runtime>(
         &self,
         rt: &R,
         pass: &mut Pass<N, T::Rule>,
-        gate: &G,
         key: u64,
         value: u128,
     ) -> Result<Numbered, Full>
@@ -172,17 +166,17 @@ impl<N: Node, T: Ruled + Template<N, Arena<N, <T as Ruled>::Rule>>> Dictionary<N
             WasAlone pass.old pass.new → HasTwoFree (site_of self.now) pass.new →
             AreNewLed (site_of self.now) pass.old pass.new }
     {
+        let (rt, gate) = rt.parts();
         reuse_law::<T::Rule>();
         T::add(rt, &self.arena, pass, gate, N::Places::place(key), value)
     }
 
     /// Sets the value of a key from `old` to `new`, and returns the one that it had: it was set if and only if that is
     /// `old`.
-    pub fn swap<R: Wait, G: Gate>(
+    pub fn swap<R: Runtime>(
         &self,
         rt: &R,
         pass: &mut Pass<N, T::Rule>,
-        gate: &G,
         key: u64,
         old: u128,
         new: u128,
@@ -195,6 +189,7 @@ impl<N: Node, T: Ruled + Template<N, Arena<N, <T as Ruled>::Rule>>> Dictionary<N
             pass.old pass.new (told result.found) result.number }
         ensures reuse { ReusesSafely T.Rule.lasts (seen_of pass.old) (seen_of pass.new) }
     {
+        let (rt, gate) = rt.parts();
         reuse_law::<T::Rule>();
         T::swap(rt, &self.arena, pass, gate, N::Places::place(key), old, new)
     }
@@ -202,13 +197,7 @@ impl<N: Node, T: Ruled + Template<N, Arena<N, <T as Ruled>::Rule>>> Dictionary<N
     /// Deletes a key, and returns the value that it had. If it had one, and no other caller did anything meanwhile, the
     /// node whose keyset has the key's place is then not low, or fits with no right neighbour: by lock coupling and by
     /// giving up, as no nodes are merged along links.
-    pub fn del<R: Wait, G: Gate>(
-        &self,
-        rt: &R,
-        pass: &mut Pass<N, T::Rule>,
-        gate: &G,
-        key: u64,
-    ) -> Numbered
+    pub fn del<R: Runtime>(&self, rt: &R, pass: &mut Pass<N, T::Rule>, key: u64) -> Numbered
         requires pass { IsIdlePassOf self.now pass.old }
         ensures pass { IsIdlePassOf self.now pass.new }
         ensures caller { SameCaller pass.old pass.new }
@@ -219,6 +208,7 @@ impl<N: Node, T: Ruled + Template<N, Arena<N, <T as Ruled>::Rule>>> Dictionary<N
         ensures tidy { LeavesTidy T.technique → result.found ≢ None →
             WasAlone pass.old pass.new → IsTidyIn (site_of self.now) pass.new (N.Places.place_of key) }
     {
+        let (rt, gate) = rt.parts();
         reuse_law::<T::Rule>();
         T::del(rt, &self.arena, pass, gate, N::Places::place(key))
     }
@@ -232,12 +222,7 @@ impl<N: Node, T: Ruled + Template<N, Arena<N, <T as Ruled>::Rule>>> Dictionary<N
     /// nodes as the dictionary has while another caller changed some, and never along links. Then the call is none of
     /// the history: it changed nothing in the map, and has no number. None of these comes if no other caller does
     /// anything during the call, or holds a node when it begins.
-    pub fn try_get<G: Gate>(
-        &self,
-        pass: &mut Pass<N, T::Rule>,
-        gate: &G,
-        key: u64,
-    ) -> Result<Numbered, Later>
+    pub fn try_get(&self, pass: &mut Pass<N, T::Rule>, key: u64) -> Result<Numbered, Later>
         requires pass { IsIdlePassOf self.now pass.old }
         ensures pass { IsIdlePassOf self.now pass.new }
         ensures caller { SameCaller pass.old pass.new }
@@ -249,7 +234,7 @@ impl<N: Node, T: Ruled + Template<N, Arena<N, <T as Ruled>::Rule>>> Dictionary<N
     {
         reuse_law::<T::Rule>();
         tries_law();
-        T::try_get(&self.arena, pass, gate, N::Places::place(key))
+        T::try_get(&self.arena, pass, &NoGate, N::Places::place(key))
     }
 
     /// Sets the value of a key, and returns the one that it had; it does not wait. Splits that it made stay, also if it
@@ -258,10 +243,9 @@ impl<N: Node, T: Ruled + Template<N, Arena<N, <T as Ruled>::Rule>>> Dictionary<N
     /// # Errors
     ///
     /// `Full` as for `put`, with the number of the call; else it is put off, as `try_get`.
-    pub fn try_put<G: Gate>(
+    pub fn try_put(
         &self,
         pass: &mut Pass<N, T::Rule>,
-        gate: &G,
         key: u64,
         value: u128,
     ) -> Result<Numbered, PutLater>
@@ -276,7 +260,7 @@ impl<N: Node, T: Ruled + Template<N, Arena<N, <T as Ruled>::Rule>>> Dictionary<N
     {
         reuse_law::<T::Rule>();
         tries_law();
-        T::try_put(&self.arena, pass, gate, N::Places::place(key), value)
+        T::try_put(&self.arena, pass, &NoGate, N::Places::place(key), value)
     }
 
     /// Sets the value of a key that has none, and returns the one that it had, which then stays; it does not wait.
@@ -284,10 +268,9 @@ impl<N: Node, T: Ruled + Template<N, Arena<N, <T as Ruled>::Rule>>> Dictionary<N
     /// # Errors
     ///
     /// As for `try_put`.
-    pub fn try_add<G: Gate>(
+    pub fn try_add(
         &self,
         pass: &mut Pass<N, T::Rule>,
-        gate: &G,
         key: u64,
         value: u128,
     ) -> Result<Numbered, PutLater>
@@ -302,7 +285,7 @@ impl<N: Node, T: Ruled + Template<N, Arena<N, <T as Ruled>::Rule>>> Dictionary<N
     {
         reuse_law::<T::Rule>();
         tries_law();
-        T::try_add(&self.arena, pass, gate, N::Places::place(key), value)
+        T::try_add(&self.arena, pass, &NoGate, N::Places::place(key), value)
     }
 
     /// Sets the value of a key from `old` to `new`, as `swap`, and does not wait.
@@ -310,10 +293,9 @@ impl<N: Node, T: Ruled + Template<N, Arena<N, <T as Ruled>::Rule>>> Dictionary<N
     /// # Errors
     ///
     /// As for `try_get`.
-    pub fn try_swap<G: Gate>(
+    pub fn try_swap(
         &self,
         pass: &mut Pass<N, T::Rule>,
-        gate: &G,
         key: u64,
         old: u128,
         new: u128,
@@ -330,7 +312,7 @@ impl<N: Node, T: Ruled + Template<N, Arena<N, <T as Ruled>::Rule>>> Dictionary<N
     {
         reuse_law::<T::Rule>();
         tries_law();
-        T::try_swap(&self.arena, pass, gate, N::Places::place(key), old, new)
+        T::try_swap(&self.arena, pass, &NoGate, N::Places::place(key), old, new)
     }
 
     /// Deletes a key, and returns the value that it had; it does not wait. Once the call is decided, a node that
@@ -339,12 +321,7 @@ impl<N: Node, T: Ruled + Template<N, Arena<N, <T as Ruled>::Rule>>> Dictionary<N
     /// # Errors
     ///
     /// As for `try_get`.
-    pub fn try_del<G: Gate>(
-        &self,
-        pass: &mut Pass<N, T::Rule>,
-        gate: &G,
-        key: u64,
-    ) -> Result<Numbered, Later>
+    pub fn try_del(&self, pass: &mut Pass<N, T::Rule>, key: u64) -> Result<Numbered, Later>
         requires pass { IsIdlePassOf self.now pass.old }
         ensures pass { IsIdlePassOf self.now pass.new }
         ensures caller { SameCaller pass.old pass.new }
@@ -356,11 +333,18 @@ impl<N: Node, T: Ruled + Template<N, Arena<N, <T as Ruled>::Rule>>> Dictionary<N
     {
         reuse_law::<T::Rule>();
         tries_law();
-        T::try_del(&self.arena, pass, gate, N::Places::place(key))
+        T::try_del(&self.arena, pass, &NoGate, N::Places::place(key))
     }
 }
 
 impl<N: Node, T: Ruled> Dictionary<N, T> {
+    /// The arena. A call by the technique itself may be made on it, as by a test of a call that does not wait, with a gate.
+    pub fn arena(&self) -> &Arena<N, T::Rule>
+        ensures { result.now ≡ self.now.arena }
+    {
+        &self.arena
+    }
+
     /// A note of what the pass has seen, for another caller to learn. It makes no event.
     pub fn note(&self, pass: &mut Pass<N, T::Rule>) -> Note<N, T::Rule>
         requires { IsIdlePassOf self.now pass.old }

@@ -14,14 +14,13 @@ ghost use Rattle.ks_dictionary.specs.Guided.{BeginsNear, HasNoted};
 ghost use Rattle.ks_dictionary.specs.Of.{HasCalledIn, IsIdlePassOf, site_of};
 
 use crate::dictionary::Dictionary;
+use crate::runtime::Runtime;
 use ks_arena::laws::reuse_law;
 use ks_arena::{Arena, Pass};
-use ks_gate::Gate;
 use ks_guide::Guide;
 use ks_node::Node;
 use ks_places::Placing;
 use ks_shape::{Above, Full, Hinting, Numbered, NumberedAt, Ruled};
-use std::sync::Wait;
 
 /// Notes the branch that a search passed, if it passed one.
 fn note_above(guide: &mut Guide, above: Option<Above>) {
@@ -52,11 +51,10 @@ fn noted(guide: &mut Guide, place: u64, at: NumberedAt) -> Numbered
 /// guesses that serve for nothing.
 impl<N: Node, T: Ruled + Hinting<N, Arena<N, <T as Ruled>::Rule>>> Dictionary<N, T> {
     /// Returns the value of a key, as `get`.
-    pub fn get_near<R: Wait, G: Gate>(
+    pub fn get_near<R: Runtime>(
         &self,
         rt: &R,
         pass: &mut Pass<N, T::Rule>,
-        gate: &G,
         guide: &mut Guide,
         key: u64,
     ) -> Numbered
@@ -71,6 +69,7 @@ impl<N: Node, T: Ruled + Hinting<N, Arena<N, <T as Ruled>::Rule>>> Dictionary<N,
         ensures noted { HasNoted N.layout T.technique (site_of self.now) (Get (N.Places.place_of key))
             pass.old pass.new result guide.new (N.Places.place_of key) }
     {
+        let (rt, gate) = rt.parts();
         reuse_law::<T::Rule>();
         let place = N::Places::place(key);
         let hint = guide.guess(place);
@@ -83,11 +82,10 @@ impl<N: Node, T: Ruled + Hinting<N, Arena<N, <T as Ruled>::Rule>>> Dictionary<N,
     /// # Errors
     ///
     /// `Full` as for `put`. The guide then has no new leaf.
-    pub fn put_near<R: Wait, G: Gate>(
+    pub fn put_near<R: Runtime>(
         &self,
         rt: &R,
         pass: &mut Pass<N, T::Rule>,
-        gate: &G,
         guide: &mut Guide,
         key: u64,
         value: u128,
@@ -106,6 +104,7 @@ impl<N: Node, T: Ruled + Hinting<N, Arena<N, <T as Ruled>::Rule>>> Dictionary<N,
         ensures noted { IfOk result (λ answer. HasNoted N.layout T.technique (site_of self.now)
             (Put (N.Places.place_of key) value) pass.old pass.new answer guide.new (N.Places.place_of key)) }
     {
+        let (rt, gate) = rt.parts();
         reuse_law::<T::Rule>();
         let place = N::Places::place(key);
         let hint = guide.guess(place);
@@ -120,11 +119,10 @@ impl<N: Node, T: Ruled + Hinting<N, Arena<N, <T as Ruled>::Rule>>> Dictionary<N,
     /// # Errors
     ///
     /// `Full` as for `put_near`.
-    pub fn add_near<R: Wait, G: Gate>(
+    pub fn add_near<R: Runtime>(
         &self,
         rt: &R,
         pass: &mut Pass<N, T::Rule>,
-        gate: &G,
         guide: &mut Guide,
         key: u64,
         value: u128,
@@ -143,6 +141,7 @@ impl<N: Node, T: Ruled + Hinting<N, Arena<N, <T as Ruled>::Rule>>> Dictionary<N,
         ensures noted { IfOk result (λ answer. HasNoted N.layout T.technique (site_of self.now)
             (Add (N.Places.place_of key) value) pass.old pass.new answer guide.new (N.Places.place_of key)) }
     {
+        let (rt, gate) = rt.parts();
         reuse_law::<T::Rule>();
         let place = N::Places::place(key);
         let hint = guide.guess(place);
@@ -153,11 +152,10 @@ impl<N: Node, T: Ruled + Hinting<N, Arena<N, <T as Ruled>::Rule>>> Dictionary<N,
     }
 
     /// Sets the value of a key from `old` to `new`, and returns the one that it had, as `swap`.
-    pub fn swap_near<R: Wait, G: Gate>(
+    pub fn swap_near<R: Runtime>(
         &self,
         rt: &R,
         pass: &mut Pass<N, T::Rule>,
-        gate: &G,
         guide: &mut Guide,
         key: u64,
         old: u128,
@@ -174,6 +172,7 @@ impl<N: Node, T: Ruled + Hinting<N, Arena<N, <T as Ruled>::Rule>>> Dictionary<N,
         ensures noted { HasNoted N.layout T.technique (site_of self.now) (Swap (N.Places.place_of key) old new)
             pass.old pass.new result guide.new (N.Places.place_of key) }
     {
+        let (rt, gate) = rt.parts();
         reuse_law::<T::Rule>();
         let place = N::Places::place(key);
         let hint = guide.guess(place);
@@ -182,11 +181,10 @@ impl<N: Node, T: Ruled + Hinting<N, Arena<N, <T as Ruled>::Rule>>> Dictionary<N,
     }
 
     /// Deletes a key, and returns the value that it had, as `del`.
-    pub fn del_near<R: Wait, G: Gate>(
+    pub fn del_near<R: Runtime>(
         &self,
         rt: &R,
         pass: &mut Pass<N, T::Rule>,
-        gate: &G,
         guide: &mut Guide,
         key: u64,
     ) -> Numbered
@@ -203,6 +201,7 @@ impl<N: Node, T: Ruled + Hinting<N, Arena<N, <T as Ruled>::Rule>>> Dictionary<N,
         ensures noted { HasNoted N.layout T.technique (site_of self.now) (Del (N.Places.place_of key))
             pass.old pass.new result guide.new (N.Places.place_of key) }
     {
+        let (rt, gate) = rt.parts();
         reuse_law::<T::Rule>();
         let place = N::Places::place(key);
         let hint = guide.guess(place);

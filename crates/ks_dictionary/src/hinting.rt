@@ -12,24 +12,22 @@ ghost use Rattle.ks_shape.specs.Upkeep.{AreNewLed, HasTwoFree, IsTidyIn, LeadsNe
 ghost use Rattle.ks_dictionary.specs.Of.{HasCalledIn, IsIdlePassOf, nodes_of, site_of};
 
 use crate::dictionary::Dictionary;
+use crate::runtime::Runtime;
 use ks_arena::laws::reuse_law;
 use ks_arena::{Arena, Pass};
-use ks_gate::Gate;
 use ks_node::Node;
 use ks_places::Placing;
 use ks_shape::{Full, Hinting, NumberedAt, Ruled};
-use std::sync::Wait;
 
 /// Calls from a hint: each does what the call without one does, and begins at the hinted node. Any hint is right: if the
 /// search for the key's place may not continue from that node, the call searches from the root. A hint that is no node of
 /// the dictionary is none. The result says also where the call was decided: the node, and its range in places.
 impl<N: Node, T: Ruled + Hinting<N, Arena<N, <T as Ruled>::Rule>>> Dictionary<N, T> {
     /// Returns the value of a key, as `get`.
-    pub fn get_from<R: Wait, G: Gate>(
+    pub fn get_from<R: Runtime>(
         &self,
         rt: &R,
         pass: &mut Pass<N, T::Rule>,
-        gate: &G,
         hint: Option<u32>,
         key: u64,
     ) -> NumberedAt
@@ -47,6 +45,7 @@ impl<N: Node, T: Ruled + Hinting<N, Arena<N, <T as Ruled>::Rule>>> Dictionary<N,
             (HasPassed (site_of self.now).sort (N.Places.place_of key) pass.old pass.new) }
         ensures first { BeginsAtHint (nodes_of self.now) hint pass.old pass.new }
     {
+        let (rt, gate) = rt.parts();
         reuse_law::<T::Rule>();
         T::get_from(rt, &self.arena, pass, gate, hint, N::Places::place(key))
     }
@@ -56,11 +55,10 @@ impl<N: Node, T: Ruled + Hinting<N, Arena<N, <T as Ruled>::Rule>>> Dictionary<N,
     /// # Errors
     ///
     /// `Full` as for `put`.
-    pub fn put_from<R: Wait, G: Gate>(
+    pub fn put_from<R: Runtime>(
         &self,
         rt: &R,
         pass: &mut Pass<N, T::Rule>,
-        gate: &G,
         hint: Option<u32>,
         key: u64,
         value: u128,
@@ -82,6 +80,7 @@ impl<N: Node, T: Ruled + Hinting<N, Arena<N, <T as Ruled>::Rule>>> Dictionary<N,
             (HasPassed (site_of self.now).sort (N.Places.place_of key) pass.old pass.new)) }
         ensures first { BeginsAtHint (nodes_of self.now) hint pass.old pass.new }
     {
+        let (rt, gate) = rt.parts();
         reuse_law::<T::Rule>();
         T::put_from(
             rt,
@@ -99,11 +98,10 @@ impl<N: Node, T: Ruled + Hinting<N, Arena<N, <T as Ruled>::Rule>>> Dictionary<N,
     /// # Errors
     ///
     /// `Full` as for `put_from`.
-    pub fn add_from<R: Wait, G: Gate>(
+    pub fn add_from<R: Runtime>(
         &self,
         rt: &R,
         pass: &mut Pass<N, T::Rule>,
-        gate: &G,
         hint: Option<u32>,
         key: u64,
         value: u128,
@@ -125,6 +123,7 @@ impl<N: Node, T: Ruled + Hinting<N, Arena<N, <T as Ruled>::Rule>>> Dictionary<N,
             (HasPassed (site_of self.now).sort (N.Places.place_of key) pass.old pass.new)) }
         ensures first { BeginsAtHint (nodes_of self.now) hint pass.old pass.new }
     {
+        let (rt, gate) = rt.parts();
         reuse_law::<T::Rule>();
         T::add_from(
             rt,
@@ -138,11 +137,10 @@ impl<N: Node, T: Ruled + Hinting<N, Arena<N, <T as Ruled>::Rule>>> Dictionary<N,
     }
 
     /// Sets the value of a key from `old` to `new`, and returns the one that it had, as `swap`.
-    pub fn swap_from<R: Wait, G: Gate>(
+    pub fn swap_from<R: Runtime>(
         &self,
         rt: &R,
         pass: &mut Pass<N, T::Rule>,
-        gate: &G,
         hint: Option<u32>,
         key: u64,
         old: u128,
@@ -162,6 +160,7 @@ impl<N: Node, T: Ruled + Hinting<N, Arena<N, <T as Ruled>::Rule>>> Dictionary<N,
             (HasPassed (site_of self.now).sort (N.Places.place_of key) pass.old pass.new) }
         ensures first { BeginsAtHint (nodes_of self.now) hint pass.old pass.new }
     {
+        let (rt, gate) = rt.parts();
         reuse_law::<T::Rule>();
         T::swap_from(
             rt,
@@ -176,11 +175,10 @@ impl<N: Node, T: Ruled + Hinting<N, Arena<N, <T as Ruled>::Rule>>> Dictionary<N,
     }
 
     /// Deletes a key, and returns the value that it had, as `del`.
-    pub fn del_from<R: Wait, G: Gate>(
+    pub fn del_from<R: Runtime>(
         &self,
         rt: &R,
         pass: &mut Pass<N, T::Rule>,
-        gate: &G,
         hint: Option<u32>,
         key: u64,
     ) -> NumberedAt
@@ -200,6 +198,7 @@ impl<N: Node, T: Ruled + Hinting<N, Arena<N, <T as Ruled>::Rule>>> Dictionary<N,
             (HasPassed (site_of self.now).sort (N.Places.place_of key) pass.old pass.new) }
         ensures first { BeginsAtHint (nodes_of self.now) hint pass.old pass.new }
     {
+        let (rt, gate) = rt.parts();
         reuse_law::<T::Rule>();
         T::del_from(rt, &self.arena, pass, gate, hint, N::Places::place(key))
     }

@@ -9,13 +9,12 @@ ghost use Rattle.ks_shape.specs.Does.{OnlyFills};
 ghost use Rattle.ks_dictionary.specs.Of.{HasCalledIn, IsIdlePassOf};
 
 use crate::dictionary::Dictionary;
+use crate::runtime::Runtime;
 use ks_arena::laws::reuse_law;
 use ks_arena::{Arena, Pass};
-use ks_gate::Gate;
 use ks_node::Node;
 use ks_places::Placing;
 use ks_shape::{MoveLeft, Moving, Numbered, Ruled};
-use std::sync::Wait;
 
 impl<N: Node, T: Ruled + Moving<N, Arena<N, <T as Ruled>::Rule>>> Dictionary<N, T> {
     /// Moves the value of a key to another one, which has none, and returns it; a key that has no value remains so, and
@@ -26,11 +25,10 @@ impl<N: Node, T: Ruled + Moving<N, Arena<N, <T as Ruled>::Rule>>> Dictionary<N, 
     /// `Kept` if both keys have a value: both remain. `Full` comes only if `from` has a value, `to` has none, they are in two
     /// nodes, that of `to` has no room, and each node was not free at some moment of the call. Then the map is as before the
     /// call, which has its number in the history; splits that it made before stay.
-    pub fn move_value<R: Wait, G: Gate>(
+    pub fn move_value<R: Runtime>(
         &self,
         rt: &R,
         pass: &mut Pass<N, T::Rule>,
-        gate: &G,
         from: u64,
         to: u64,
     ) -> Result<Numbered, MoveLeft>
@@ -43,6 +41,7 @@ impl<N: Node, T: Ruled + Moving<N, Arena<N, <T as Ruled>::Rule>>> Dictionary<N, 
             pass.old pass.new (move_reply result) (move_number result) }
         ensures reuse { ReusesSafely T.Rule.lasts (seen_of pass.old) (seen_of pass.new) }
     {
+        let (rt, gate) = rt.parts();
         reuse_law::<T::Rule>();
         let source = N::Places::place(from);
         let target = N::Places::place(to);

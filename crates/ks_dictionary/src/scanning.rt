@@ -1,19 +1,20 @@
 //! Ordered scans of a dictionary whose keys are their places.
-ghost use Rattle.std.specs.Prelude.{◌≡◌, ◌≤◌, ◌<◌, ◌^◌, ℕ, [], vec_capacity};
+ghost use Rattle.std.specs.Prelude.{◌≡◌, ◌≤◌, ◌<◌, ◌^◌, ℕ, [], length, vec_capacity};
+ghost use Rattle.ks_history.specs.Trace.{calls_of};
+ghost use Rattle.ks_arena.specs.Clauses.{seen_of};
 ghost use Rattle.ks_arena.specs.Of.{SameCaller};
 ghost use Rattle.ks_shape.specs.Does.{OnlySearches};
 ghost use Rattle.ks_scan.specs.Ends.{HasFoundFirst, HasFoundLast};
-ghost use Rattle.ks_scan.specs.Scan.{IsDoneScan};
+ghost use Rattle.ks_scan.specs.Scan.{IsDoneScan, NumbersAscend};
 ghost use Rattle.ks_lines.specs.Scan.{IsScanOf};
 ghost use Rattle.ks_dictionary.specs.Of.{IsIdlePassOf, site_of};
 
 use crate::dictionary::Dictionary;
+use crate::runtime::Runtime;
 use ks_arena::{Arena, Pass};
-use ks_gate::Gate;
 use ks_node::Node;
 use ks_scan::{Found, Scanned, first_in, last_in, scan_into};
 use ks_shape::{Part, Ruled, Scanning, scanning_law};
-use std::sync::Wait;
 
 impl<N: Node, T: Ruled + Scanning<N, Arena<N, <T as Ruled>::Rule>>> Dictionary<N, T> {
     /// Lists the pairs of the keys from `low` to `last`, both included, in ascending order, in at most `most` parts, which
@@ -21,13 +22,12 @@ impl<N: Node, T: Ruled + Scanning<N, Arena<N, <T as Ruled>::Rule>>> Dictionary<N
     /// parts.
     ///
     /// Each part is one call of the history, with a number of its own: it has just the pairs that the map has then from
-    /// its first key to its last. Calls of other callers may come between two parts, so the whole is no picture of one
-    /// moment.
-    pub fn scan_into<R: Wait, G: Gate>(
+    /// its first key to its last. The numbers of the parts ascend, unless 2^64 calls were made. Calls of other callers may
+    /// come between two parts, so the whole is no picture of one moment.
+    pub fn scan_into<R: Runtime>(
         &self,
         rt: &R,
         pass: &mut Pass<N, T::Rule>,
-        gate: &G,
         low: u64,
         last: u64,
         most: usize,
@@ -44,11 +44,14 @@ impl<N: Node, T: Ruled + Scanning<N, Arena<N, <T as Ruled>::Rule>>> Dictionary<N
         ensures done { IsDoneScan N.layout T.technique (site_of self.now) low last
             pass.old pass.new into.new.items }
         ensures scan { IsScanOf low last most into.new.items result }
+        ensures ascend { length (calls_of (seen_of pass.new)) < 2 ^ 64 →
+            NumbersAscend into.new.items }
         ensures capacity { vec_capacity into.new ≡ vec_capacity into.old }
         ensures keys { (k : ℕ) → k < 2 ^ 64 → N.Places.place_of k ≡ k }
     {
+        let (rt, gate) = rt.parts();
         scanning_law::<N, Arena<N, <T as Ruled>::Rule>, T>();
-        scan_into::<N, Arena<N, <T as Ruled>::Rule>, T, R, G>(
+        scan_into::<N, Arena<N, <T as Ruled>::Rule>, T, _, _>(
             rt,
             &self.arena,
             pass,
@@ -66,11 +69,10 @@ impl<N: Node, T: Ruled + Scanning<N, Arena<N, <T as Ruled>::Rule>>> Dictionary<N
     ///
     /// Each part is one call of the history. That at which the pair was found had no key from its first one to the pair's,
     /// and each part before it had no key at all, each at its own moment. It needs no memory.
-    pub fn first_in<R: Wait, G: Gate>(
+    pub fn first_in<R: Runtime>(
         &self,
         rt: &R,
         pass: &mut Pass<N, T::Rule>,
-        gate: &G,
         low: u64,
         last: u64,
     ) -> Option<Found>
@@ -83,8 +85,9 @@ impl<N: Node, T: Ruled + Scanning<N, Arena<N, <T as Ruled>::Rule>>> Dictionary<N
             pass.old pass.new result }
         ensures keys { (k : ℕ) → k < 2 ^ 64 → N.Places.place_of k ≡ k }
     {
+        let (rt, gate) = rt.parts();
         scanning_law::<N, Arena<N, <T as Ruled>::Rule>, T>();
-        first_in::<N, Arena<N, <T as Ruled>::Rule>, T, R, G>(rt, &self.arena, pass, gate, low, last)
+        first_in::<N, Arena<N, <T as Ruled>::Rule>, T, _, _>(rt, &self.arena, pass, gate, low, last)
     }
 
     /// Returns the greatest key from `low` to `last`, both included, that a row of calls finds, with its value: it lists the
@@ -93,11 +96,10 @@ impl<N: Node, T: Ruled + Scanning<N, Arena<N, <T as Ruled>::Rule>>> Dictionary<N
     ///
     /// Each part is one call of the history. That at which the pair was found had no key after the pair's, and each part
     /// after it had no key at all, each at its own moment. It needs no memory.
-    pub fn last_in<R: Wait, G: Gate>(
+    pub fn last_in<R: Runtime>(
         &self,
         rt: &R,
         pass: &mut Pass<N, T::Rule>,
-        gate: &G,
         low: u64,
         last: u64,
     ) -> Option<Found>
@@ -110,7 +112,8 @@ impl<N: Node, T: Ruled + Scanning<N, Arena<N, <T as Ruled>::Rule>>> Dictionary<N
             pass.old pass.new result }
         ensures keys { (k : ℕ) → k < 2 ^ 64 → N.Places.place_of k ≡ k }
     {
+        let (rt, gate) = rt.parts();
         scanning_law::<N, Arena<N, <T as Ruled>::Rule>, T>();
-        last_in::<N, Arena<N, <T as Ruled>::Rule>, T, R, G>(rt, &self.arena, pass, gate, low, last)
+        last_in::<N, Arena<N, <T as Ruled>::Rule>, T, _, _>(rt, &self.arena, pass, gate, low, last)
     }
 }

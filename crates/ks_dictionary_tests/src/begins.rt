@@ -1,11 +1,11 @@
 //! What a gate is notified of by a move of a value: of one beginning, also where the move restarts.
 ghost use Rattle.ks_dictionary.specs.Of.{IsIdlePassOf};
 
-use crate::crews::{LONG, two_callers};
 use crate::dropped::puts_below;
 use ks_arena::Pass;
 use ks_bplus::BNode;
-use ks_dictionary::Dictionary;
+use ks_crews::{LONG, two_callers};
+use ks_dictionary::{Dictionary, Gated, Runtime};
 use ks_flow::Tree;
 use ks_gate::{Gate, Point, Stand};
 use ks_giveup::GiveUp;
@@ -57,19 +57,19 @@ impl Gate for Counting {
 }
 
 /// Moves the value of key 3 to key 100. Returns whether it has this number, and the value is 3.
-fn moves<R: Wait>(rt: &R, map: &Leaves, mut pass: Caller, gate: &Counting, number: u64) -> bool
+fn moves<R: Runtime>(rt: &R, map: &Leaves, mut pass: Caller, number: u64) -> bool
     requires { IsIdlePassOf map.now pass }
 {
-    let moved = map.move_value(rt, &mut pass, gate, 3, 100);
+    let moved = map.move_value(rt, &mut pass, 3, 100);
     matches!(moved, Ok(Numbered { number: n, found: Some(3) }) if n == number)
 }
 
 /// Deletes key 0, and gets key 1.
-fn deletes<R: Wait>(rt: &R, map: &Leaves, mut pass: Caller, gate: &Counting) -> bool
+fn deletes<R: Runtime>(rt: &R, map: &Leaves, mut pass: Caller) -> bool
     requires { IsIdlePassOf map.now pass }
 {
-    let deleted = map.del(rt, &mut pass, gate, 0);
-    let got = map.get(rt, &mut pass, gate, 1);
+    let deleted = map.del(rt, &mut pass, 0);
+    let got = map.get(rt, &mut pass, 1);
     deleted.found == Some(0) && got.found == Some(1)
 }
 
@@ -89,10 +89,10 @@ fn both<R: Threads + Wait + Sync>(
         rt,
         move || -> bool
             requires { IsIdlePassOf map.now one }
-        { moves(rt, map, one, gate, number) },
+        { moves(&Gated { rt, gate }, map, one, number) },
         move || -> bool
             requires { IsIdlePassOf map.now two }
-        { deletes(rt, map, two, gate) },
+        { deletes(&Gated { rt, gate }, map, two) },
     )
 }
 
@@ -102,7 +102,17 @@ fn a_move_begins_once(rt: HostRuntime) -> Result<(), Fail> {
     let (map, mut one, _) = two_callers::<WithRange<BNode>, GiveUp>(rt.alloc(), 64)?;
     assert!(rt; puts_below(&rt, &map, &mut one, 17));
     let gate = Counting::of(Stand::of(0, 0, Point::Begin, 1, 0, LONG));
-    assert!(rt; moves(&rt, &map, one, &gate, 17));
+    assert!(rt;
+        moves(
+            &Gated {
+                rt: &rt,
+                gate: &gate
+            },
+            &map,
+            one,
+            17
+        )
+    );
     assert!(rt; gate.has_counted(2));
     Ok(())
 }

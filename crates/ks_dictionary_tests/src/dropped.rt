@@ -1,11 +1,10 @@
 //! A pass that is dropped keeps nobody, and a dictionary that is not closed can be dropped.
 ghost use Rattle.ks_dictionary.specs.Of.{IsIdlePassOf};
 
-use crate::crews::two_callers;
 use ks_arena::{Arena, Pass};
 use ks_coupling::Coupling;
+use ks_crews::two_callers;
 use ks_dictionary::Dictionary;
-use ks_gate::NoGate;
 use ks_list::ListNode;
 use ks_node::Node;
 use ks_shape::{Ruled, Template};
@@ -24,7 +23,7 @@ pub(crate) fn puts_below<N: Node, T: Ruled + Template<N, Arena<N, <T as Ruled>::
 {
     let mut right = true;
     for key in 0..many {
-        right = match map.put(rt, pass, &NoGate, key, u128::from(key)) {
+        right = match map.put(rt, pass, key, u128::from(key)) {
             Ok(put) => right && put.number == key && put.found.is_none(),
             Err(_) => false,
         };
@@ -38,7 +37,7 @@ fn a_pass_that_is_dropped_keeps_nobody(rt: HostRuntime) -> Result<(), Fail> {
     let (map, mut one, two) = two_callers::<ListNode, Coupling>(rt.alloc(), 4)?;
     assert!(rt; puts_below(&rt, &map, &mut one, 9));
     drop(two);
-    let got = map.get(&rt, &mut one, &NoGate, 8);
+    let got = map.get(&rt, &mut one, 8);
     assert!(rt; got.number == 9 && got.found == Some(8));
     drop(one);
     drop(map);

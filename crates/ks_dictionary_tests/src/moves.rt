@@ -7,7 +7,6 @@ use ks_bplus::BNode;
 use ks_bst::TNode;
 use ks_dictionary::Dictionary;
 use ks_flow::Tree;
-use ks_gate::NoGate;
 use ks_giveup::GiveUp;
 use ks_hash::HNode;
 use ks_list::ListNode;
@@ -94,18 +93,16 @@ fn make<N: Ranged + Unlinked, R: Wait>(
     ensures { IsIdlePassOf map.now pass.new }
 {
     match call {
-        Call::Get(key) => Answer::Found(map.get(rt, pass, &NoGate, key).found),
-        Call::Put(key, value) => of_fill(map.put(rt, pass, &NoGate, key, value)),
-        Call::Add(key, value) => of_fill(map.add(rt, pass, &NoGate, key, value)),
-        Call::Swap(key, old, new) => {
-            Answer::Found(map.swap(rt, pass, &NoGate, key, old, new).found)
-        }
-        Call::Del(key) => Answer::Found(map.del(rt, pass, &NoGate, key).found),
+        Call::Get(key) => Answer::Found(map.get(rt, pass, key).found),
+        Call::Put(key, value) => of_fill(map.put(rt, pass, key, value)),
+        Call::Add(key, value) => of_fill(map.add(rt, pass, key, value)),
+        Call::Swap(key, old, new) => { Answer::Found(map.swap(rt, pass, key, old, new).found) }
+        Call::Del(key) => Answer::Found(map.del(rt, pass, key).found),
         Call::Move(from, to) => {
             if from == to {
-                Answer::Found(map.get(rt, pass, &NoGate, from).found)
+                Answer::Found(map.get(rt, pass, from).found)
             } else {
-                of_move(map.move_value(rt, pass, &NoGate, from, to))
+                of_move(map.move_value(rt, pass, from, to))
             }
         }
     }

@@ -1,5 +1,3 @@
-use crate::rows;
-use crate::trial::{right_along_links, right_under_trees};
 use ks_boxed::Boxed;
 use ks_bplus::BNode;
 use ks_bst::TNode;
@@ -10,6 +8,7 @@ use ks_link::LinkMove;
 use ks_linked::WithLink;
 use ks_list::ListNode;
 use ks_node::WithRange;
+use ks_trials::{right_along_links, right_under_trees, rows};
 use std::test::Fail;
 
 #[test]

@@ -12,7 +12,7 @@ ghost use Rattle.guttertide.specs.Words.{
   seen_of,
 };
 
-use guttertide::{BNode, Boxed, Closed, Coupling, Dictionary, Full, NoGate, PassOf, kept_law};
+use guttertide::{BNode, Boxed, Closed, Coupling, Dictionary, Full, PassOf, kept_law};
 use std::alloc::{AllocError, Global};
 use std::sync::Wait;
 use std::sync::atomic::AtomicU64;
@@ -113,7 +113,7 @@ fn work<R: Wait>(rt: &R, catalogue: &Catalogue, counts: &Counts, caller: &mut Ca
         attend(rt, catalogue, counts, caller, number);
     }
     if caller.caller() == 5 {
-        catalogue.compact(rt, caller, &NoGate);
+        catalogue.compact(rt, caller);
     }
 }
 
@@ -127,21 +127,21 @@ fn attend<R: Wait>(rt: &R, catalogue: &Catalogue, counts: &Counts, caller: &mut 
     let who = caller.caller();
     if who < 3 {
         // A clerk registers its own entry, which is kept if it is the first.
-        let added = catalogue.add(rt, caller, &NoGate, number, who as u128);
+        let added = catalogue.add(rt, caller, number, who as u128);
         if matches!(added, Ok(told) if told.found.is_none()) {
             counts.registered.fetch_add(1, SeqCst);
         }
     } else if who < 5 {
         // A reader looks twice: an entry that was found stays.
-        let once = catalogue.get(rt, caller, &NoGate, number).found;
-        let again = catalogue.get(rt, caller, &NoGate, number).found;
+        let once = catalogue.get(rt, caller, number).found;
+        let again = catalogue.get(rt, caller, number).found;
         if once.is_some() && again != once {
             counts.changed.fetch_add(1, SeqCst);
         }
     } else {
         // The keeper takes old stock in, and out again.
-        let _full = catalogue.put(rt, caller, &NoGate, NUMBERS + number, 0);
-        let taken = catalogue.del(rt, caller, &NoGate, NUMBERS + number).found;
+        let _full = catalogue.put(rt, caller, NUMBERS + number, 0);
+        let taken = catalogue.del(rt, caller, NUMBERS + number).found;
         if taken.is_some() {
             counts.withdrawn.fetch_add(1, SeqCst);
         }
@@ -187,10 +187,10 @@ pub fn tell<R: Wait>(
     ensures finds { IfOk result (λ found.
         FindsPut (place_in catalogue.now number) entry found (calls_of (seen_of reader.new))) }
 {
-    let _before = catalogue.put(rt, clerk, &NoGate, number, entry)?;
+    let _before = catalogue.put(rt, clerk, number, entry)?;
     let note = catalogue.note(clerk);
     catalogue.learn(reader, note);
-    let got = catalogue.get(rt, reader, &NoGate, number);
+    let got = catalogue.get(rt, reader, number);
     kept_law();
     catalogue.seen_law(reader);
     Ok(got.found)

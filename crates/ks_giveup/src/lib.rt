@@ -19,6 +19,7 @@ mod technique;
 mod tries;
 mod try_descent;
 mod try_puts;
+mod try_scans;
 
 pub use calls::{add, del, get, put, swap};
 pub use merging::compact;
@@ -27,3 +28,4 @@ pub use scans::scan_part;
 pub use technique::GiveUp;
 pub use tries::{try_del, try_get, try_swap};
 pub use try_puts::{try_add, try_put};
+pub use try_scans::try_scan_part;

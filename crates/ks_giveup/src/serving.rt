@@ -16,6 +16,7 @@ use ks_shape::{Fill, Full, Numbered};
 use std::sync::Wait;
 
 /// Puts or adds a value at a place, beginning where the aid says.
+#[inline(always)]
 fn fill_aided<N: Ranged + Unlinked, R: Wait, G: Gate, H: Aid>(
     rt: &R,
     arena: &Arena<N, Tree>,

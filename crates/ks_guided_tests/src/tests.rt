@@ -4,7 +4,7 @@ ghost use Rattle.ks_dictionary.specs.Of.{IsIdlePassOf};
 use ks_arena::{Arena, Pass};
 use ks_boxed::Boxed;
 use ks_bplus::BNode;
-use ks_dictionary::Dictionary;
+use ks_dictionary::{Dictionary, Gated};
 use ks_gate::{Gate, Point};
 use ks_giveup::GiveUp;
 use ks_guide::Guide;
@@ -79,14 +79,15 @@ fn agrees<N: Node, T: Ruled + Hinting<N, Arena<N, <T as Ruled>::Rule>>, R: Wait>
     requires { IsIdlePassOf map.now pass.old }
     ensures { IsIdlePassOf map.now pass.new }
 {
+    let rt = Gated { rt, gate };
     let key = (draw >> 40) % 2048;
     let value = draw as u128;
     let before = had(plain, key);
     match (draw >> 33) % 8 {
-        0 | 1 => map.get_near(rt, pass, gate, guide, key).found == before,
+        0 | 1 => map.get_near(&rt, pass, guide, key).found == before,
         2 | 3 => {
             set(plain, key, Some(value));
-            match map.put_near(rt, pass, gate, guide, key, value) {
+            match map.put_near(&rt, pass, guide, key, value) {
                 Ok(told) => told.found == before,
                 Err(_) => false,
             }
@@ -95,7 +96,7 @@ fn agrees<N: Node, T: Ruled + Hinting<N, Arena<N, <T as Ruled>::Rule>>, R: Wait>
             if before.is_none() {
                 set(plain, key, Some(value));
             }
-            match map.add_near(rt, pass, gate, guide, key, value) {
+            match map.add_near(&rt, pass, guide, key, value) {
                 Ok(told) => told.found == before,
                 Err(_) => false,
             }
@@ -105,11 +106,11 @@ fn agrees<N: Node, T: Ruled + Hinting<N, Arena<N, <T as Ruled>::Rule>>, R: Wait>
             if before.is_some() {
                 set(plain, key, Some(value));
             }
-            map.swap_near(rt, pass, gate, guide, key, old, value).found == before
+            map.swap_near(&rt, pass, guide, key, old, value).found == before
         }
         _ => {
             set(plain, key, None);
-            map.del_near(rt, pass, gate, guide, key).found == before
+            map.del_near(&rt, pass, guide, key).found == before
         }
     }
 }

@@ -22,6 +22,7 @@ mod tries;
 mod try_attaches;
 mod try_descent;
 mod try_puts;
+mod try_scans;
 
 pub use calls::{del, get, swap};
 pub use puts::{add, put};
@@ -29,3 +30,4 @@ pub use scans::scan_part;
 pub use template::LinkMove;
 pub use tries::{try_del, try_get, try_swap};
 pub use try_puts::{try_add, try_put};
+pub use try_scans::try_scan_part;

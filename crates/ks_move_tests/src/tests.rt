@@ -6,7 +6,6 @@ use ks_arena::{Arena, Pass};
 use ks_boxed::Boxed;
 use ks_bplus::BNode;
 use ks_dictionary::Dictionary;
-use ks_gate::NoGate;
 use ks_giveup::GiveUp;
 use ks_node::{Node, WithRange};
 use ks_shape::{MoveLeft, Moving, Numbered, Ruled, Template};
@@ -38,7 +37,7 @@ fn fill<N: Node, T: Ruled + Template<N, Arena<N, <T as Ruled>::Rule>>, R: Wait>(
 {
     for n in 0..many {
         let key = n.wrapping_mul(step);
-        let _answer = map.put(rt, pass, &NoGate, key, key as u128);
+        let _answer = map.put(rt, pass, key, key as u128);
     }
 }
 
@@ -51,8 +50,8 @@ fn moves_between<N: Node, T: Ruled + Moving<N, Arena<N, <T as Ruled>::Rule>>, R:
     requires { IsIdlePassOf map.now pass.old }
     ensures { IsIdlePassOf map.now pass.new }
 {
-    let down = map.move_value(rt, pass, &NoGate, 20, 3);
-    let up = map.move_value(rt, pass, &NoGate, 3, 21);
+    let down = map.move_value(rt, pass, 20, 3);
+    let up = map.move_value(rt, pass, 3, 21);
     down == found(17, Some(20)) && up == found(18, Some(20))
 }
 
@@ -64,9 +63,9 @@ fn moves_within<N: Node, T: Ruled + Moving<N, Arena<N, <T as Ruled>::Rule>>, R: 
 ) -> bool
     requires { IsIdlePassOf map.now pass.old }
 {
-    let first = map.move_value(rt, pass, &NoGate, 2, 5);
-    let again = map.move_value(rt, pass, &NoGate, 2, 7);
-    let both = map.move_value(rt, pass, &NoGate, 4, 5);
+    let first = map.move_value(rt, pass, 2, 5);
+    let again = map.move_value(rt, pass, 2, 7);
+    let both = map.move_value(rt, pass, 4, 5);
     first == found(19, Some(2))
         && again == found(20, None)
         && both == Err(MoveLeft::Kept { number: 21 })
@@ -81,9 +80,9 @@ fn moves_when_full<N: Node, T: Ruled + Moving<N, Arena<N, <T as Ruled>::Rule>>, 
 ) -> bool
     requires { IsIdlePassOf map.now pass.old }
 {
-    let full = map.move_value(rt, pass, &NoGate, 0, 32);
-    let within = map.move_value(rt, pass, &NoGate, 16, 32);
-    let both = map.move_value(rt, pass, &NoGate, 0, 8);
+    let full = map.move_value(rt, pass, 0, 32);
+    let within = map.move_value(rt, pass, 16, 32);
+    let both = map.move_value(rt, pass, 0, 8);
     full == Err(MoveLeft::Full { number: 32 })
         && within == found(33, Some(16))
         && both == Err(MoveLeft::Kept { number: 34 })
@@ -110,7 +109,7 @@ fn a_move_to_a_full_leaf_is_full_while_no_node_is_free(rt: HostRuntime) -> Resul
 fn a_move_makes_room_while_a_node_is_free(rt: HostRuntime) -> Result<(), Fail> {
     let (map, mut passes) = Leaves::start(rt.alloc(), 64, 1)?;
     fill(&rt, &map, &mut passes[0], 32, 1);
-    let moved = map.move_value(&rt, &mut passes[0], &NoGate, 0, 32);
+    let moved = map.move_value(&rt, &mut passes[0], 0, 32);
     assert!(rt; moved == found(32, Some(0)));
     Ok(())
 }

@@ -3,6 +3,7 @@ use Rattle.std.specs.Prelude.{ℕ, suc, ◌≡◌, List, [], ◌∷◌}
 use Rattle.ks_keysets.specs.Layout.{Layout}
 use Rattle.ks_history.specs.declared.Event.{Event}
 use Rattle.ks_history.specs.Done.{Template}
+use Rattle.ks_node.specs.Keyed.{Ascends}
 use Rattle.ks_arena.specs.declared.held.Pass.{Pass}
 use Rattle.ks_arena.specs.Clauses.{seen_of}
 use Rattle.ks_shape.specs.Idle.{Site}
@@ -17,3 +18,7 @@ DoneParts layout template n c low last s0 (part ∷ parts) s1 = (s : List Event)
 -- the same between two passes
 abbrev pub IsDoneScan : {N D : Type 0} → Layout → Template → Site → ℕ → ℕ → Pass N D → Pass N D → List Part → Type 0
 IsDoneScan layout technique a low last p q parts = DoneParts layout technique a.nodes p.caller low last (seen_of p) parts (seen_of q)
+
+-- each part's number is less than those of all later ones
+abbrev pub NumbersAscend : List Part → Type 0
+NumbersAscend parts = Ascends (λ part. part.number) parts

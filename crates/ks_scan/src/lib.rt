@@ -4,11 +4,13 @@
 
 mod ends;
 
-ghost use Rattle.std.specs.Prelude.{◌≡◌, ◌≤◌, [], vec_capacity};
+ghost use Rattle.std.specs.Prelude.{◌≡◌, ◌≤◌, ◌<◌, ◌^◌, [], length, vec_capacity};
+ghost use Rattle.ks_history.specs.Trace.{calls_of};
+ghost use Rattle.ks_arena.specs.Clauses.{seen_of};
 ghost use Rattle.ks_arena.specs.Of.{SameCaller};
 ghost use Rattle.ks_shape.specs.Does.{OnlySearches};
 ghost use Rattle.ks_shape.specs.Idle.{IsIdle};
-ghost use Rattle.ks_scan.specs.Scan.{IsDoneScan};
+ghost use Rattle.ks_scan.specs.Scan.{IsDoneScan, NumbersAscend};
 ghost use Rattle.ks_lines.specs.Scan.{IsScanOf};
 
 pub use ends::{Found, first_in, last_in};
@@ -20,7 +22,8 @@ use ks_shape::{Part, Scanning, Shelf};
 use std::sync::Wait;
 
 /// Lists the pairs from `low` to `last`, both included, in at most `most` parts, which it pushes into `into`, an empty list
-/// with room for them: so it needs no memory. It stops at `last`, or after `most` parts.
+/// with room for them: so it needs no memory. It stops at `last`, or after `most` parts. The numbers of the parts ascend,
+/// unless 2^64 calls were made.
 pub fn scan_into<N: Node, A: Shelf, T: Scanning<N, A>, R: Wait, G: Gate>(
     rt: &R,
     arena: &A,
@@ -41,6 +44,7 @@ pub fn scan_into<N: Node, A: Shelf, T: Scanning<N, A>, R: Wait, G: Gate>(
     ensures leaves { OnlySearches pass.old pass.new }
     ensures done { IsDoneScan N.layout T.technique (A.site arena.now) low last pass.old pass.new into.new.items }
     ensures scan { IsScanOf low last most into.new.items result }
+    ensures ascend { length (calls_of (seen_of pass.new)) < 2 ^ 64 → NumbersAscend into.new.items }
     ensures capacity { vec_capacity into.new ≡ vec_capacity into.old }
 {
     let mut from = low;

@@ -6,7 +6,6 @@ ghost use Rattle.ks_dictionary.specs.Of.{AreOrderedPassesOf, IsIdlePassOf};
 use crate::workers::{Load, STRIDE, Seen, Sums, low_half};
 use ks_arena::{Arena, Pass};
 use ks_dictionary::Dictionary;
-use ks_gate::NoGate;
 use ks_node::Node;
 use ks_shape::{Moving, Ruled, Template};
 use std::io;
@@ -75,7 +74,7 @@ fn put<N: Node, T: Ruled + Template<N, Arena<N, <T as Ruled>::Rule>>, R: Wait>(
     ensures idle { IsIdlePassOf map.now pass.new }
     ensures same { SameCaller pass.old pass.new }
 {
-    match map.put(rt, pass, &NoGate, key, key as u128 * 2) {
+    match map.put(rt, pass, key, key as u128 * 2) {
         Ok(put) => put.found,
         Err(_) => None,
     }
@@ -151,7 +150,7 @@ fn moved<N: Node, T: Ruled + Moving<N, Arena<N, <T as Ruled>::Rule>>, R: Wait>(
     if from == to {
         return None;
     }
-    match map.move_value(rt, pass, &NoGate, from, to) {
+    match map.move_value(rt, pass, from, to) {
         Ok(moved) => moved.found,
         Err(_) => None,
     }

@@ -5,7 +5,6 @@ ghost use Rattle.ks_dictionary.specs.Of.{AreOrderedPassesOf, IsIdlePassOf};
 
 use ks_arena::{Arena, Pass};
 use ks_dictionary::Dictionary;
-use ks_gate::NoGate;
 use ks_node::Node;
 use ks_shape::{Part, Ruled, Scanning, Template};
 use std::alloc::Global;
@@ -166,7 +165,7 @@ fn fill<N: Node, T: Ruled + Template<N, Arena<N, <T as Ruled>::Rule>>, R: Wait>(
     let mut pairs = 0u64;
     for at in 0..keys {
         let key = (at.wrapping_mul(STRIDE) & keys.wrapping_sub(1)).wrapping_mul(load.gap);
-        if at % workers == worker && map.put(rt, pass, &NoGate, key, key as u128 * 2).is_ok() {
+        if at % workers == worker && map.put(rt, pass, key, key as u128 * 2).is_ok() {
             pairs = pairs.saturating_add(1);
         }
     }
@@ -250,7 +249,7 @@ fn scan<N: Node, T: Ruled + Scanning<N, Arena<N, <T as Ruled>::Rule>>, R: Wait>(
 {
     parts.clear();
     let last = low.saturating_add(SPAN - 1);
-    let _ = map.scan_into(rt, pass, &NoGate, low, last, PARTS, parts);
+    let _ = map.scan_into(rt, pass, low, last, PARTS, parts);
 }
 
 /// How many pairs the parts have.
@@ -343,7 +342,7 @@ fn get_span<N: Node, T: Ruled + Template<N, Arena<N, <T as Ruled>::Rule>>, R: Wa
     let mut pairs = 0u64;
     let mut sum = 0u64;
     for at in 0..SPAN {
-        if let Some(value) = map.get(rt, pass, &NoGate, low.saturating_add(at)).found {
+        if let Some(value) = map.get(rt, pass, low.saturating_add(at)).found {
             pairs = pairs.saturating_add(1);
             sum = sum.wrapping_add(low_half(value));
         }

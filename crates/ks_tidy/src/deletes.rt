@@ -117,6 +117,7 @@ pub fn del_on<N: Unlinked, R: Wait, G: Gate>(
 
 /// Deletes what is at a place, at the only held node, where the search for the place ends, and releases it. If it
 /// removed a pair and the node is low, it searches for the place again, and merges on the path and at its end.
+#[inline(always)]
 pub fn del_alone<N: Unlinked, R: Wait, G: Gate>(
     rt: &R,
     arena: &Arena<N, Tree>,

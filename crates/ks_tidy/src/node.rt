@@ -26,6 +26,7 @@ pub struct Tidied<N> {
 /// Merges at the node of a path until nothing is left to merge there: while the node is low, or, if the work is
 /// thorough, while anything fits. The node of the path, which may be the root, then has what the node had; if that took
 /// over its child below the root, the path is without its parent, and what is right of the node is not tested.
+#[inline(always)]
 pub fn tidy_node<N: Unlinked, R: Wait, G: Gate>(
     rt: &R,
     arena: &Arena<N, Tree>,

@@ -109,3 +109,15 @@ impl From<Later> for TryInsertError {
         TryInsertError::Later(later)
     }
 }
+
+/// The structure has no scans: see [`Structure::has_scans`](crate::Structure::has_scans).
+#[derive(Clone, Copy, Debug, PartialEq, Eq)]
+pub struct NoScans;
+
+impl fmt::Display for NoScans {
+    fn fmt(&self, f: &mut fmt::Formatter<'_>) -> fmt::Result {
+        f.write_str("a dictionary of this structure has no scans")
+    }
+}
+
+impl Error for NoScans {}

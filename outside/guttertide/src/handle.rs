@@ -7,14 +7,15 @@
 //! - A handle is in one call at a time: a call, and the drop, has it by `&mut`.
 //! - It passes from thread to thread in an order: whatever way safe code sends a value, all that the sender did with it
 //!   happens before what the receiver does, as by a lock.
-//! - An answer is no part of a handle, and no other thread has it during the call: a call has it by `&mut`.
+//! - An answer, a part and the pairs of a scan are no parts of a handle or of each other, and no other thread has them
+//!   during the call: a call has each by a `&mut` of its own. The number of pairs is that of an array of them.
 //! - No pointer is null, and each is aligned: they are made from references.
 //! - The number of handles is that of a slice of them.
 //! - `malloc`, `realloc` and `free` are of one allocator; no call is made from a signal handler, nor in a child
 //!   that was forked while there were several threads: what would break this is unsafe code of the program.
 #![allow(unsafe_code)]
 
-use crate::raw::{self, ks_answer, ks_caller};
+use crate::raw::{self, KS_PART, ks_answer, ks_caller, ks_pair, ks_part};
 
 /// One call, with its key and its values.
 #[derive(Clone, Copy)]
@@ -62,6 +63,15 @@ impl Handle {
                 Call::Remove { key } => raw::ks_c_del(at, key, answer),
             }
         }
+    }
+}
+
+impl Handle {
+    /// Lists a part of a scan once. The code is the library's.
+    pub(crate) fn scan(&mut self, low: u64, last: u64, pairs: &mut [ks_pair; KS_PART], part: &mut ks_part) -> u32 {
+        // SAFETY: nobody else has the handle, the pairs or the part during the call. The handle is one that the library
+        // wrote, or null, and the array has this number of pairs.
+        unsafe { raw::ks_c_scan(&mut self.0, low, last, pairs.as_mut_ptr(), pairs.len(), part) }
     }
 }
 

@@ -7,7 +7,8 @@
 //! in Rust, which is tested. Tested, and not proved, is also that a call comes after each call of another caller that
 //! returned before it began.
 //!
-//! There is no iteration: the library lists the keys of a span by calls that wait, and this crate has none of them.
+//! The keys of a span are listed in order by a [scan](Caller::scan), part by part: each part is one call of the history, and so
+//! the map at one moment from its first key to its last.
 //!
 //! A thread makes its calls through a [`Caller`] of its own.
 //!
@@ -50,9 +51,11 @@
 mod errors;
 mod handle;
 pub mod raw;
+mod scans;
 
-pub use errors::{Full, Later, OpenError, TryInsertError};
+pub use errors::{Full, Later, NoScans, OpenError, TryInsertError};
 use handle::{Call, Handle};
+pub use scans::{Part, Parts, Scan};
 use std::hint;
 use std::mem;
 use std::ops::RangeInclusive;
@@ -66,7 +69,7 @@ pub const NODES: RangeInclusive<u32> = 4..=1_048_576;
 /// How many callers a dictionary may have.
 pub const CALLERS: RangeInclusive<usize> = 1..=1024;
 
-/// What a dictionary is made of. All have the same calls.
+/// What a dictionary is made of. All have the same calls, but not all have scans.
 ///
 /// ```
 /// use guttertide::{Dictionary, Structure};
@@ -97,6 +100,18 @@ impl Structure {
     /// All structures.
     pub const ALL: [Structure; 4] =
         [Structure::BLinkTree, Structure::GiveUpTree, Structure::BTree, Structure::LinkHashTable];
+
+    /// Whether a dictionary of this structure has scans.
+    ///
+    /// ```
+    /// use guttertide::Structure;
+    ///
+    /// assert!(Structure::BLinkTree.has_scans() && Structure::GiveUpTree.has_scans());
+    /// assert!(!Structure::BTree.has_scans() && !Structure::LinkHashTable.has_scans());
+    /// ```
+    pub fn has_scans(self) -> bool {
+        matches!(self, Structure::BLinkTree | Structure::GiveUpTree)
+    }
 
     /// The word of the library.
     fn word(self) -> u32 {
@@ -159,7 +174,9 @@ impl Dictionary {
         }
         let mut handles: Vec<Handle> = (0..callers).map(|_| Handle::closed()).collect();
         match Handle::open(structure.word(), nodes, &mut handles) {
-            raw::KS_NOTHING => Ok(Dictionary { free: Arc::new(FreeHandles(Mutex::new(handles))) }),
+            raw::KS_NOTHING => {
+                Ok(Dictionary { free: Arc::new(FreeHandles { structure, handles: Mutex::new(handles) }) })
+            }
             raw::KS_BAD_SIZE => Err(OpenError::Nodes(nodes)),
             raw::KS_NO_MEMORY => Err(OpenError::OutOfMemory),
             code => unexpected(code),
@@ -184,13 +201,16 @@ impl Dictionary {
     }
 }
 
-/// The handles of one dictionary that no caller has.
+/// The handles of one dictionary, of this structure, that no caller has.
 #[derive(Debug)]
-struct FreeHandles(Mutex<Vec<Handle>>);
+struct FreeHandles {
+    structure: Structure,
+    handles: Mutex<Vec<Handle>>,
+}
 
 impl FreeHandles {
     fn lock(&self) -> MutexGuard<'_, Vec<Handle>> {
-        self.0.lock().unwrap_or_else(PoisonError::into_inner)
+        self.handles.lock().unwrap_or_else(PoisonError::into_inner)
     }
 }
 
@@ -392,14 +412,7 @@ impl Caller {
 
     /// Makes a call until no other caller is in the way.
     fn wait(&mut self, call: Call) -> Reply {
-        let mut failed = 0;
-        loop {
-            match self.attempt(call) {
-                Ok(reply) => return reply,
-                Err(_) => pause(failed),
-            }
-            failed += 1;
-        }
+        until_done(|| self.attempt(call))
     }
 
     /// Makes a call once.
@@ -409,10 +422,7 @@ impl Caller {
             raw::KS_NOTHING => Ok(None),
             raw::KS_VALUE => Ok(Some(whole(answer.value))),
             raw::KS_FULL => Err(Full),
-            raw::KS_BUSY => return Err(Later::Busy { node: answer.node, holder: answer.holder }),
-            raw::KS_MOVED => return Err(Later::Moved { node: answer.node }),
-            raw::KS_FAR => return Err(Later::Far),
-            code => unexpected(code),
+            code => return Err(later(code, &answer)),
         };
         self.number = Some(answer.number);
         Ok(reply)
@@ -424,6 +434,28 @@ impl Drop for Caller {
     fn drop(&mut self) {
         let handle = mem::replace(&mut self.handle, Handle::closed());
         self.free.lock().push(handle);
+    }
+}
+
+/// Tries until it is not put off.
+fn until_done<T>(mut attempt: impl FnMut() -> Result<T, Later>) -> T {
+    let mut failed = 0;
+    loop {
+        match attempt() {
+            Ok(done) => return done,
+            Err(_) => pause(failed),
+        }
+        failed += 1;
+    }
+}
+
+/// Why a call was put off, by its code.
+fn later(code: u32, answer: &raw::ks_answer) -> Later {
+    match code {
+        raw::KS_BUSY => Later::Busy { node: answer.node, holder: answer.holder },
+        raw::KS_MOVED => Later::Moved { node: answer.node },
+        raw::KS_FAR => Later::Far,
+        code => unexpected(code),
     }
 }
 

@@ -1,6 +1,6 @@
 //! The declarations of `src/raw.rs` are those of `guttertide.h`.
 
-use guttertide::raw::{ks_answer, ks_caller, ks_wide};
+use guttertide::raw::{KS_PART, ks_answer, ks_caller, ks_pair, ks_part, ks_wide};
 use std::mem::{offset_of, size_of};
 
 const HEADER: &str = include_str!("../../guttertide.h");
@@ -31,8 +31,8 @@ fn on_one_line(text: &str) -> String {
 fn functions() {
     let raw = on_one_line(RAW);
     let wanted: Vec<String> = HEADER.split(';').filter_map(|declared| in_rust(&on_one_line(declared))).collect();
-    assert_eq!(wanted.len(), 7);
-    assert_eq!(raw.matches("pub fn ").count(), 7);
+    assert_eq!(wanted.len(), 8);
+    assert_eq!(raw.matches("pub fn ").count(), 8);
     for declaration in wanted {
         assert!(raw.contains(&declaration), "{declaration}");
     }
@@ -42,8 +42,8 @@ fn functions() {
 fn codes() {
     let codes: Vec<&str> = HEADER.lines().filter_map(|line| line.trim().strip_prefix("KS_")).collect();
     let codes: Vec<(&str, &str)> = codes.iter().filter_map(|line| line.split_once(" = ")).collect();
-    assert_eq!(codes.len(), 16);
-    assert_eq!(RAW.matches(": u32 = ").count(), 16);
+    assert_eq!(codes.len(), 20);
+    assert_eq!(RAW.matches(": u32 = ").count(), 20);
     for (name, rest) in codes {
         let code = rest.split([',', ' ']).next().expect("a code has a number");
         assert!(RAW.contains(&format!("pub const KS_{name}: u32 = {code};")), "KS_{name} = {code}");
@@ -56,4 +56,8 @@ fn types() {
     assert_eq!((size_of::<ks_wide>(), offset_of!(ks_wide, low), offset_of!(ks_wide, high)), (16, 0, 8));
     assert_eq!((size_of::<ks_answer>(), offset_of!(ks_answer, number), offset_of!(ks_answer, value)), (32, 0, 8));
     assert_eq!((offset_of!(ks_answer, node), offset_of!(ks_answer, holder)), (24, 28));
+    assert_eq!((size_of::<ks_pair>(), offset_of!(ks_pair, key), offset_of!(ks_pair, value)), (24, 0, 8));
+    assert_eq!((offset_of!(ks_part, answer), offset_of!(ks_part, next), offset_of!(ks_part, count)), (0, 32, 40));
+    assert_eq!(size_of::<ks_part>(), 40 + size_of::<usize>());
+    assert!(HEADER.contains(&format!("#define KS_PART {KS_PART}\n")));
 }

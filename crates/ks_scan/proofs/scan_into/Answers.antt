@@ -6,6 +6,7 @@ use Rattle.ks_shape.specs.Parts.{DonePart}
 use Rattle.ks_lines.specs.declared.parts.Part.{Part}
 use Rattle.ks_scan.specs.Scan.{DoneParts}
 use Rattle.ks_lines.specs.Scan.{PartsAscend, end_of}
+use Rattle.ks_scan.proofs.Numbers.{numbers_ascend}
 use Rattle.ks_scan.proofs.Rows.{next_from, next_more, end_more, done_more, ascend_more, end_before}
 use Rattle.ks_scan.proofs.scan_into.Goals as goal
 use Rattle.ks_scan.proofs.scan_into.Given.{Over}
@@ -66,6 +67,9 @@ returns-then-end-last-clause-scan g c = let d = (goal.at.returns-then-end-last-c
   stops = ap end_of c.push_reserved.ensures.items ∙ end_more c.loop.into.items c.scan_part-part.result ∙ ap (λ (p : ℕ). Some p) c.if-end-last.true;
 }
 
+pub returns-then-end-last-clause-ascend : goal.returns-then-end-last-clause-ascend
+returns-then-end-last-clause-ascend g c = numbers_ascend _ _ _ _ _ _ _ _ _ (done g (goal.at.returns-then-end-last-clause-ascend g c).After-push_reserved)
+
 pub loop-preserved : goal.loop-preserved
 loop-preserved g c = let d = (goal.at.loop-preserved g c).After-push_reserved in let m = more g d in record {
   pass = c.scan_part-part.ensures.pass;
@@ -87,3 +91,6 @@ returns-clause-scan g c = let i = c.loop.invariant in let f = c.loop-test.false 
       few = omega (arith, most);
       stops = (most, e.0, e.1, (let t = i.to in let n = i.from in omega (arith, t, n, e.2)), (let n = i.from in n ∙ e.2));
     }
+
+pub returns-clause-ascend : goal.returns-clause-ascend
+returns-clause-ascend g c = numbers_ascend _ _ _ _ _ _ _ _ _ c.loop.invariant.done

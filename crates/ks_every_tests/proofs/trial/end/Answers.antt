@@ -1,4 +1,0 @@
-use Rattle.ks_every_tests.proofs.trial.end.Goals as goal
-
-pub close-closed-requires-after_bounds : goal.close-closed-requires-after_bounds
-close-closed-requires-after_bounds g c κs within = c.passes_law.ensures.ordered c.args.passes.items c.requires
