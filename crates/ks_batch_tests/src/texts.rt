@@ -21,7 +21,7 @@ const RUNS: [(&[u8], &[u8]); 6] = [
 ];
 
 /// Words, inputs, and what is said of them, with the status.
-const REFUSALS: [(&str, &[u8], &[u8], u8); 14] = [
+const REFUSALS: [(&str, &[u8], &[u8], u8); 17] = [
     (
         RUN,
         b"caller\nput 1 18446744073709551616\n",
@@ -36,6 +36,9 @@ const REFUSALS: [(&str, &[u8], &[u8], u8); 14] = [
     ("make bplus coupling 1048577 1 2 0", b"", USAGE, 1),
     ("make bplus coupling 64 65 2 0", b"", USAGE, 1),
     ("run list link 64", b"caller\n", USAGE, 1),
+    ("run bst link 64", b"caller\n", USAGE, 1),
+    ("hinted bst link 64 1", b"caller\n", USAGE, 1),
+    ("make bst link 64 1 2 0", b"", USAGE, 1),
     ("check now", b"caller\n", USAGE, 1),
     ("run bplus coupling 4 0", b"caller\n", USAGE, 1),
     ("run bplus coupling 4 65", b"caller\n", USAGE, 1),

@@ -222,6 +222,27 @@ fn a_move_makes_room(rt: HostRuntime) -> Result<(), Fail> {
     Ok(())
 }
 
+/// Nine keys of a list of four nodes: the root keeps four of them, and the last one moves within the node behind it, and then
+/// to a key of the root, which has a value.
+#[test]
+fn a_value_moves_within_a_list_node_and_to_no_key_of_another(rt: HostRuntime) -> Result<(), Fail> {
+    let alloc = rt.alloc();
+    let mut input = moved(alloc, 8, b"move 8 20\nmove 20 3\n")?;
+    let mut wanted = Vec::from_slice(alloc, b"caller 0\n")?;
+    put_nones(&mut wanted, 0, 8)?;
+    wanted.extend_from_slice(b"9 8\n10 kept\nmap\n")?;
+    put_pairs(&mut wanted, b"", 0, 7)?;
+    wanted.extend_from_slice(b"20 8\nend\n")?;
+    let ended = run(&rt, alloc, "run list giveup 4", &input)?;
+    assert_eq!(rt; ended.status, 0);
+    assert!(rt; ended.out.as_slice() == wanted.as_slice());
+    input.extend_from_slice(b"run\n")?;
+    input.extend_from_slice(&wanted)?;
+    let ended = run(&rt, alloc, "check", &input)?;
+    assert!(rt; ended.out.as_slice() == b"legal 11\n".as_slice());
+    Ok(())
+}
+
 /// Caller 0 is stopped in its move with the number of the leaf to which the value goes, while caller 1 deletes a key, so that
 /// the leaf is merged away and the root takes over all. The number is that of a free node: the move restarts.
 #[test]

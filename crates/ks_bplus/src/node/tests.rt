@@ -1,10 +1,10 @@
-ghost use Rattle.std.specs.Prelude.{◌≡◌, IsTrue, false};
+ghost use Rattle.std.specs.Prelude.{◌≡◌, ◌≤◌, IsTrue, All, false};
 ghost use Rattle.ks_node.specs.Body.{blank_body};
 ghost use Rattle.ks_bplus.specs.Parts.{body_of};
 
 use super::BNode;
-use ks_keysets::{Few, Pair};
-use ks_node::{Next, Node, Ordered, Unlinked};
+use ks_keysets::{Few, Pair, Span};
+use ks_node::{Next, Node, Ordered, Unlinked, node_law};
 use std::alloc::Global;
 use std::process::Abort;
 
@@ -65,6 +65,41 @@ fn target(node: &BNode, place: u64) -> u32 {
     }
 }
 
+/// Whether all pairs lie in a span.
+fn lie_in(node: &BNode, span: &Span) -> bool
+    ensures { IsTrue result → All (λ x. (span.now.low ≤ x.place) × (x.place ≤ span.now.last))
+        (body_of node.now.low node.now.parts).pairs }
+{
+    for n in 0..node.pairs_held() {
+        let place = node.pair_at(n).place;
+        if place < span.low || span.last < place {
+            return false;
+        }
+    }
+    true
+}
+
+/// Takes in what the leaf to the right has.
+fn absorb(rt: &impl Abort, node: &mut BNode, right: &mut BNode) {
+    let low = right.low;
+    assert!(rt; node.low <= low && 0 < low);
+    let left_span = Span {
+        low: 0,
+        last: low - 1,
+    };
+    let right_span = Span {
+        low,
+        last: u64::MAX,
+    };
+    assert!(rt; lie_in(node, &left_span));
+    assert!(rt; lie_in(right, &right_span));
+    assert!(rt; !node.is_branch() && !right.is_branch());
+    assert!(rt; node.fits(right));
+    node_law(node);
+    node_law(right);
+    node.absorb(right);
+}
+
 #[test]
 fn a_blank_node_holds_what_is_put(rt: HostRuntime) {
     let mut node = blank(&rt, rt.alloc());
@@ -84,6 +119,9 @@ fn a_leaf_splits_and_absorbs(rt: HostRuntime) {
     node.split_to(&mut right, 8);
     has(&rt, &node, 0, 8);
     has(&rt, &right, 8, 16);
+    absorb(&rt, &mut node, &mut right);
+    has(&rt, &node, 0, 16);
+    has(&rt, &right, 0, 0);
 }
 
 #[test]
