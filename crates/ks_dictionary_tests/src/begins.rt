@@ -38,7 +38,7 @@ impl Counting {
         }
     }
 
-    /// Whether a call of caller 0 began once, and took the root so many times, and no stop failed.
+    /// Whether a call of caller 0 began once, and took the root `roots` times, and no stop failed.
     fn has_counted(&self, roots: u64) -> bool {
         self.begins.load(SeqCst) == 1 && self.roots.load(SeqCst) == roots && !self.stand.failed()
     }
