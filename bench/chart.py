@@ -15,6 +15,7 @@ BELOW = 44
 STEP = PLOT / (len(COLUMNS) - 1)
 PAIRINGS = {"coupling": "#228833", "giveup": "#4477aa", "link": "#aa3377"}
 DASHES = {"bplus": "", "hash": "7 3", "bst": "2 3"}
+NO_GUIDE = "1 4"
 PEER = "#888888"
 MUTEX = "#000000"
 
@@ -51,7 +52,7 @@ def line_of(contest, entrant, scale):
     times = [(LEFT + STEP * place, contest.nanoseconds(entrant, column)) for place, column in enumerate(COLUMNS)]
     points = [(x, scale.at(time)) for x, time in times if time]
     path = " ".join(f"{x:.1f},{y:.1f}" for x, y in points)
-    dashes = DASHES.get(entrant.layout, "")
+    dashes = DASHES.get(entrant.layout, "") if entrant.has_guides else NO_GUIDE
     drawn = [f'<polyline points="{path}" fill="none" stroke="{colour}" stroke-width="1.6" stroke-dasharray="{dashes}"/>']
     return drawn + [f'<circle cx="{x:.1f}" cy="{y:.1f}" r="2.4" fill="{colour}"/>' for x, y in points]
 
@@ -101,4 +102,4 @@ def draw(contest, title):
 
 
 def title_of(machine):
-    return f"Nanoseconds a call, 64 callers by workers ({machine})"
+    return f"Nanoseconds a call, 64 callers of 256 keys each, by workers ({machine})"

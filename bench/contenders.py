@@ -38,6 +38,7 @@ path = "{source}"
 
 LAYOUTS = ("list", "bplus", "hash", "bst")
 TEMPLATES = ("coupling", "giveup", "link")
+GUIDED = ("giveup", "link")
 NODES_FOR_EACH_CALLER = 1024
 NODES_FOR_SCRIPTS = 262144
 NODES_FOR_GENERATED = 65536
@@ -53,6 +54,7 @@ class Contender:
     template: str = ""
     is_numbered: bool = True
     wants_nodes: bool = False
+    has_guides: bool = True
 
     @property
     def is_worker(self):
@@ -121,22 +123,28 @@ def build_scan_times():
     build_beside(SCAN_TIMES, ["link", "10", "1", "0"])
 
 
-def is_admitted(layout, template):
+def is_admitted(layout, template, program=PROGRAM):
     """Whether the program serves this pairing: it is asked with an empty script."""
-    return subprocess.run([PROGRAM, "run", layout, template, "4"], stdin=subprocess.DEVNULL,
+    return subprocess.run([program, "run", layout, template, "4"], stdin=subprocess.DEVNULL,
                           stdout=subprocess.DEVNULL, stderr=subprocess.DEVNULL).returncode == 0
 
 
-def pairings():
+def pairings(program=PROGRAM):
     """The pairings that the program admits, with a line for each that it does not."""
     admitted = []
     for layout in LAYOUTS:
         for template in TEMPLATES:
-            if is_admitted(layout, template):
-                admitted.append(Contender(f"{layout} {template}", (PROGRAM,), layout, template))
+            if is_admitted(layout, template, program):
+                admitted.append(Contender(f"{layout} {template}", (program,), layout, template))
             else:
                 print(f"skipped: {layout} {template}, which the program does not admit")
     return admitted
+
+
+def unguided(program):
+    """The pairings over B+ nodes that have guides, by a build of the program in which no worker has one."""
+    return [Contender(f"bplus {template}, no guide", (program,), "bplus", template, has_guides=False)
+            for template in GUIDED]
 
 
 def is_built(what, compiler):
