@@ -2,7 +2,7 @@ pub mod Asking
 pub mod Askings
 pub mod Loading
 pub mod Due
-pub mod Made
+pub mod Drafted
 pub mod Instances
 pub mod Plain
 pub mod Counts

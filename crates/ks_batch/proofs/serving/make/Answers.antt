@@ -3,7 +3,7 @@ use Rattle.ks_history.specs.Callers.{CallersBelow}
 use Rattle.ks_lines.specs.Asked.{AreServedLines}
 use Rattle.ks_generator.specs.Laws.Asked.{made_served}
 use Rattle.ks_batch.specs.Pairings.{row_of}
-use Rattle.ks_batch.proofs.Made.{many_callers, few_callers}
+use Rattle.ks_batch.proofs.Drafted.{many_callers, few_callers}
 use Rattle.ks_batch.proofs.serving.make.Goals as goal
 
 pub serve_packed-requires-clause-callers : goal.serve_packed-requires-clause-callers
