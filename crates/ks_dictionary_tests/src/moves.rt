@@ -2,16 +2,15 @@
 ghost use Rattle.ks_dictionary.specs.Of.{IsIdlePassOf};
 
 use crate::plain::{Answer, Call, Draws, Plain};
-use ks_arena::Pass;
+use ks_arena::{Arena, Pass};
 use ks_bplus::BNode;
 use ks_bst::TNode;
 use ks_dictionary::Dictionary;
-use ks_flow::Tree;
 use ks_giveup::GiveUp;
 use ks_hash::HNode;
 use ks_list::ListNode;
-use ks_node::{Ranged, Unlinked, WithRange};
-use ks_shape::{Full, MoveLeft, Numbered};
+use ks_node::{Node, WithRange};
+use ks_shape::{Compacting, Full, MoveLeft, Moving, Numbered, Ruled, Template};
 use std::alloc::{AllocError, Global};
 use std::sync::Wait;
 use std::test::Fail;
@@ -83,12 +82,14 @@ fn of_move(moved: Result<Numbered, MoveLeft>) -> Answer {
 }
 
 /// Makes a call. A move to the same key is made as a get.
-fn make<N: Ranged + Unlinked, R: Wait>(
-    rt: &R,
-    map: &Dictionary<N, GiveUp>,
-    pass: &mut Pass<N, Tree>,
-    call: Call,
-) -> Answer
+fn make<
+    N: Node,
+    T: Ruled
+        + Template<N, Arena<N, <T as Ruled>::Rule>>
+        + Moving<N, Arena<N, <T as Ruled>::Rule>>
+        + Compacting<N, Arena<N, <T as Ruled>::Rule>>,
+    R: Wait,
+>(rt: &R, map: &Dictionary<N, T>, pass: &mut Pass<N, T::Rule>, call: Call) -> Answer
     requires { IsIdlePassOf map.now pass.old }
     ensures { IsIdlePassOf map.now pass.new }
 {
@@ -109,11 +110,14 @@ fn make<N: Ranged + Unlinked, R: Wait>(
 }
 
 /// Compacts until no node is made free.
-fn compact<N: Ranged + Unlinked, R: Wait>(
-    rt: &R,
-    map: &Dictionary<N, GiveUp>,
-    pass: &mut Pass<N, Tree>,
-)
+fn compact<
+    N: Node,
+    T: Ruled
+        + Template<N, Arena<N, <T as Ruled>::Rule>>
+        + Moving<N, Arena<N, <T as Ruled>::Rule>>
+        + Compacting<N, Arena<N, <T as Ruled>::Rule>>,
+    R: Wait,
+>(rt: &R, map: &Dictionary<N, T>, pass: &mut Pass<N, T::Rule>)
     requires { IsIdlePassOf map.now pass.old }
     ensures { IsIdlePassOf map.now pass.new }
 {
@@ -125,11 +129,14 @@ fn compact<N: Ranged + Unlinked, R: Wait>(
 }
 
 /// Puts ascending keys until there is no room for the next. Returns for how many there was.
-fn fill<N: Ranged + Unlinked, R: Wait>(
-    rt: &R,
-    map: &Dictionary<N, GiveUp>,
-    pass: &mut Pass<N, Tree>,
-) -> u64
+fn fill<
+    N: Node,
+    T: Ruled
+        + Template<N, Arena<N, <T as Ruled>::Rule>>
+        + Moving<N, Arena<N, <T as Ruled>::Rule>>
+        + Compacting<N, Arena<N, <T as Ruled>::Rule>>,
+    R: Wait,
+>(rt: &R, map: &Dictionary<N, T>, pass: &mut Pass<N, T::Rule>) -> u64
     requires { IsIdlePassOf map.now pass.old }
     ensures { IsIdlePassOf map.now pass.new }
 {
@@ -142,12 +149,14 @@ fn fill<N: Ranged + Unlinked, R: Wait>(
 }
 
 /// Deletes the keys below `many`, and compacts.
-fn empty<N: Ranged + Unlinked, R: Wait>(
-    rt: &R,
-    map: &Dictionary<N, GiveUp>,
-    pass: &mut Pass<N, Tree>,
-    many: u64,
-)
+fn empty<
+    N: Node,
+    T: Ruled
+        + Template<N, Arena<N, <T as Ruled>::Rule>>
+        + Moving<N, Arena<N, <T as Ruled>::Rule>>
+        + Compacting<N, Arena<N, <T as Ruled>::Rule>>,
+    R: Wait,
+>(rt: &R, map: &Dictionary<N, T>, pass: &mut Pass<N, T::Rule>, many: u64)
     requires { IsIdlePassOf map.now pass.old }
     ensures { IsIdlePassOf map.now pass.new }
 {
@@ -159,10 +168,17 @@ fn empty<N: Ranged + Unlinked, R: Wait>(
 
 /// Makes drawn calls over keys below `keys`, and counts the moves. Returns whether each call returned what the plain map does;
 /// it may only be full where it brings a key.
-fn play<N: Ranged + Unlinked, R: Wait>(
+fn play<
+    N: Node,
+    T: Ruled
+        + Template<N, Arena<N, <T as Ruled>::Rule>>
+        + Moving<N, Arena<N, <T as Ruled>::Rule>>
+        + Compacting<N, Arena<N, <T as Ruled>::Rule>>,
+    R: Wait,
+>(
     rt: &R,
-    map: &Dictionary<N, GiveUp>,
-    pass: &mut Pass<N, Tree>,
+    map: &Dictionary<N, T>,
+    pass: &mut Pass<N, T::Rule>,
     plain: &mut Plain,
     keys: u64,
     moves: &mut Moves,
@@ -183,13 +199,14 @@ fn play<N: Ranged + Unlinked, R: Wait>(
 }
 
 /// Whether each key below `keys` has the value that it has in the plain map.
-fn is_same<N: Ranged + Unlinked, R: Wait>(
-    rt: &R,
-    map: &Dictionary<N, GiveUp>,
-    pass: &mut Pass<N, Tree>,
-    plain: &Plain,
-    keys: u64,
-) -> bool
+fn is_same<
+    N: Node,
+    T: Ruled
+        + Template<N, Arena<N, <T as Ruled>::Rule>>
+        + Moving<N, Arena<N, <T as Ruled>::Rule>>
+        + Compacting<N, Arena<N, <T as Ruled>::Rule>>,
+    R: Wait,
+>(rt: &R, map: &Dictionary<N, T>, pass: &mut Pass<N, T::Rule>, plain: &Plain, keys: u64) -> bool
     requires { IsIdlePassOf map.now pass.old }
     ensures { IsIdlePassOf map.now pass.new }
 {
@@ -203,10 +220,17 @@ fn is_same<N: Ranged + Unlinked, R: Wait>(
 
 /// Whether drawn calls return what they do of a plain map, and leave what they leave there; then all nodes are free again once
 /// all keys are deleted: there is room for as many keys as there was before.
-fn goes_right<N: Ranged + Unlinked, R: Wait>(
+fn goes_right<
+    N: Node,
+    T: Ruled
+        + Template<N, Arena<N, <T as Ruled>::Rule>>
+        + Moving<N, Arena<N, <T as Ruled>::Rule>>
+        + Compacting<N, Arena<N, <T as Ruled>::Rule>>,
+    R: Wait,
+>(
     rt: &R,
-    map: &Dictionary<N, GiveUp>,
-    pass: &mut Pass<N, Tree>,
+    map: &Dictionary<N, T>,
+    pass: &mut Pass<N, T::Rule>,
     alloc: Global,
     keys: u64,
     moves: &mut Moves,
@@ -224,14 +248,18 @@ fn goes_right<N: Ranged + Unlinked, R: Wait>(
 }
 
 /// Whether all trials go right, and what moves did in them.
-fn all_go_right<N: Ranged + Unlinked, R: Wait>(
-    rt: &R,
-    alloc: Global,
-) -> Result<(bool, Moves), AllocError> {
+fn all_go_right<
+    N: Node,
+    T: Ruled
+        + Template<N, Arena<N, <T as Ruled>::Rule>>
+        + Moving<N, Arena<N, <T as Ruled>::Rule>>
+        + Compacting<N, Arena<N, <T as Ruled>::Rule>>,
+    R: Wait,
+>(rt: &R, alloc: Global) -> Result<(bool, Moves), AllocError> {
     let mut moves = Moves::none();
     for (nodes, keys) in TRIALS {
         let nodes = nodes.clamp(4, 64);
-        let (map, mut passes) = Dictionary::<N, GiveUp>::start(alloc, nodes, 1)?;
+        let (map, mut passes) = Dictionary::<N, T>::start(alloc, nodes, 1)?;
         if !goes_right(rt, &map, &mut passes[0], alloc, keys, &mut moves)? {
             return Ok((false, moves));
         }
@@ -241,7 +269,10 @@ fn all_go_right<N: Ranged + Unlinked, R: Wait>(
 
 #[test]
 fn drawn_moves_over_lists(rt: HostRuntime) -> Result<(), Fail> {
-    let (is_right, moves) = all_go_right::<WithRange<ListNode>, HostRuntime>(&rt, rt.alloc())?;
+    let (is_right, moves) = all_go_right::<WithRange<ListNode>, GiveUp, HostRuntime>(
+        &rt,
+        rt.alloc(),
+    )?;
     assert!(rt; is_right);
     assert!(rt; moves.has_each());
     Ok(())
@@ -249,7 +280,7 @@ fn drawn_moves_over_lists(rt: HostRuntime) -> Result<(), Fail> {
 
 #[test]
 fn drawn_moves_over_trees(rt: HostRuntime) -> Result<(), Fail> {
-    let (is_right, moves) = all_go_right::<WithRange<BNode>, HostRuntime>(&rt, rt.alloc())?;
+    let (is_right, moves) = all_go_right::<WithRange<BNode>, GiveUp, HostRuntime>(&rt, rt.alloc())?;
     assert!(rt; is_right);
     assert!(rt; moves.has_each());
     Ok(())
@@ -257,7 +288,7 @@ fn drawn_moves_over_trees(rt: HostRuntime) -> Result<(), Fail> {
 
 #[test]
 fn drawn_moves_over_tables(rt: HostRuntime) -> Result<(), Fail> {
-    let (is_right, moves) = all_go_right::<WithRange<HNode>, HostRuntime>(&rt, rt.alloc())?;
+    let (is_right, moves) = all_go_right::<WithRange<HNode>, GiveUp, HostRuntime>(&rt, rt.alloc())?;
     assert!(rt; is_right);
     assert!(rt; moves.has_each());
     Ok(())
@@ -265,7 +296,7 @@ fn drawn_moves_over_tables(rt: HostRuntime) -> Result<(), Fail> {
 
 #[test]
 fn drawn_moves_over_binary_trees(rt: HostRuntime) -> Result<(), Fail> {
-    let (is_right, moves) = all_go_right::<WithRange<TNode>, HostRuntime>(&rt, rt.alloc())?;
+    let (is_right, moves) = all_go_right::<WithRange<TNode>, GiveUp, HostRuntime>(&rt, rt.alloc())?;
     assert!(rt; is_right);
     assert!(rt; moves.has_each());
     Ok(())
