@@ -1,4 +1,3 @@
-use ks_boxed::Boxed;
 use ks_bplus::BNode;
 use ks_bst::TNode;
 use ks_coupling::Coupling;
@@ -82,7 +81,7 @@ fn tables_by_giving_up(rt: HostRuntime) -> Result<(), Fail> {
 #[test]
 fn binary_trees_by_giving_up(rt: HostRuntime) -> Result<(), Fail> {
     let trials = rows::binary_trees_by_giving_up(rt.alloc())?;
-    let right = right_under_trees::<Boxed<WithRange<TNode>>, GiveUp, HostRuntime>(
+    let right = right_under_trees::<WithRange<TNode>, GiveUp, HostRuntime>(
         &rt,
         rt.alloc(),
         &trials,

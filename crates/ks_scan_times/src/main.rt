@@ -1,15 +1,13 @@
-//! The time of ordered scans and of gets of a large tree, for `bench/scans`, and of moves and puts, for `bench/moves`.
+//! The time of ordered scans and of gets of a large tree, for `bench/scans`.
 //!
 //! The words are a technique (`giveup` or `link`, over B+ nodes), how many keys the tree has, as a power of two, 10 to 20,
 //! a number of workers, 1 to 64, and how many scans each of them makes. The workers put all keys, in an order that jumps
 //! about. Then each scans spans of 1,000 keys that it draws, and then each gets the keys of the same spans, one by one.
 //! What is printed is how many pairs there are, how many were listed and how many were got, and the sums of their values;
-//! then the nanoseconds that all scans and all gets took. With `moves` in place of a technique there is a key without a
-//! value beside each: each worker puts the values of 1,000 keys anew for each scan, and then moves as many values between
-//! leaves, by giving up. A fifth word, `untimed`, leaves the times out: what is then printed is the same each time.
+//! then the nanoseconds that all scans and all gets took. A fifth word, `untimed`, leaves the times out: what is then
+//! printed is the same each time.
 #![tactic(auto)]
 
-mod moves;
 mod workers;
 
 ghost use Rattle.std.specs.Prelude.{◌≤◌};
@@ -21,7 +19,6 @@ use ks_giveup::GiveUp;
 use ks_link::LinkMove;
 use ks_linked::WithLink;
 use ks_node::WithRange;
-use moves::{move_all, put_all};
 use std::alloc::Global;
 use std::sync::Wait;
 use std::thread::Threads;
@@ -29,20 +26,13 @@ use std::time::Clock;
 use std::{env, io};
 use workers::{Load, Seen, fill_all, get_all, scan_all};
 
-/// What was measured: how many keys were put, and what the scans and the gets saw, or the puts and the moves.
+/// What was measured: how many keys were put, and what the scans and the gets saw.
 #[derive(Drop)]
 struct Measured {
     pairs: u64,
-    first: Seen,
-    second: Seen,
+    scans: Seen,
+    gets: Seen,
 }
-
-/// What the two were, and what they did to the pairs that they saw.
-type Names = [&'static str; 4];
-
-const SCANS: Names = ["scans", "listed", "gets", "got"];
-
-const MOVES: Names = ["puts", "put", "moves", "moved"];
 
 /// Measures scans and gets by giving up.
 fn by_giving_up<R: Threads + Wait + Clock + Sync>(
@@ -59,13 +49,9 @@ fn by_giving_up<R: Threads + Wait + Clock + Sync>(
         load.workers,
     )?;
     let pairs = fill_all(rt, &map, load, passes.as_mut_slice());
-    let first = scan_all(rt, &map, load, alloc, passes.as_mut_slice())?;
-    let second = get_all(rt, &map, load, passes.as_mut_slice())?;
-    Ok(Measured {
-        pairs,
-        first,
-        second,
-    })
+    let scans = scan_all(rt, &map, load, alloc, passes.as_mut_slice())?;
+    let gets = get_all(rt, &map, load, passes.as_mut_slice())?;
+    Ok(Measured { pairs, scans, gets })
 }
 
 /// Measures scans and gets along links.
@@ -83,71 +69,39 @@ fn along_links<R: Threads + Wait + Clock + Sync>(
         load.workers,
     )?;
     let pairs = fill_all(rt, &map, load, passes.as_mut_slice());
-    let first = scan_all(rt, &map, load, alloc, passes.as_mut_slice())?;
-    let second = get_all(rt, &map, load, passes.as_mut_slice())?;
-    Ok(Measured {
-        pairs,
-        first,
-        second,
-    })
+    let scans = scan_all(rt, &map, load, alloc, passes.as_mut_slice())?;
+    let gets = get_all(rt, &map, load, passes.as_mut_slice())?;
+    Ok(Measured { pairs, scans, gets })
 }
 
-/// Measures puts and moves by giving up.
-fn of_moves<R: Threads + Wait + Clock + Sync>(
-    rt: &R,
-    alloc: Global,
-    load: Load,
-) -> io::Result<Measured>
-    requires workers { (1 ≤ load.workers) × (load.workers ≤ 64) }
-    requires bits { load.bits ≤ 20 }
-{
-    let (map, mut passes) = Dictionary::<Boxed<WithRange<BNode>>, GiveUp>::start(
-        alloc,
-        load.nodes(),
-        load.workers,
-    )?;
-    let pairs = fill_all(rt, &map, load, passes.as_mut_slice());
-    let first = put_all(rt, &map, load, passes.as_mut_slice())?;
-    let second = move_all(rt, &map, load, passes.as_mut_slice())?;
-    Ok(Measured {
-        pairs,
-        first,
-        second,
-    })
-}
-
-/// Measures what the word names; `None` if it names nothing.
+/// Measures by the technique; `None` if none of this name scans.
 fn measure_by<R: Threads + Wait + Clock + Sync>(
     rt: &R,
     alloc: Global,
-    what: &str,
+    technique: &str,
     load: Load,
 ) -> io::Result<Option<Measured>>
     requires workers { (1 ≤ load.workers) × (load.workers ≤ 64) }
     requires bits { load.bits ≤ 20 }
 {
-    let measured = match what {
+    let measured = match technique {
         "giveup" => by_giving_up(rt, alloc, load)?,
         "link" => along_links(rt, alloc, load)?,
-        "moves" => of_moves(rt, alloc, load)?,
         _ => return Ok(None),
     };
     Ok(Some(measured))
 }
 
 /// Prints what was measured.
-fn print(rt: &HostRuntime, measured: &Measured, names: Names, is_timed: bool) -> io::Result<()> {
-    let first = &measured.first;
-    let second = &measured.second;
+fn print(rt: &HostRuntime, measured: &Measured, is_timed: bool) -> io::Result<()> {
+    let scans = &measured.scans;
+    let gets = &measured.gets;
     println!(rt;
-        "pairs {} {} {} sum {} {} {} sum {}",
-        measured.pairs, names[1], first.pairs, first.sum, names[3], second.pairs, second.sum
+        "pairs {} listed {} sum {} got {} sum {}",
+        measured.pairs, scans.pairs, scans.sum, gets.pairs, gets.sum
     )?;
     if is_timed {
-        println!(rt;
-            "{} {} {} {}",
-            names[0], first.nanoseconds, names[2], second.nanoseconds
-        )?;
+        println!(rt; "scans {} gets {}", scans.nanoseconds, gets.nanoseconds)?;
     }
     Ok(())
 }
@@ -161,20 +115,17 @@ fn main(rt: HostRuntime) -> anyhow::Result<()> {
     let words = env::args(&rt)?.skip(1).collect::<Vec<String>>(rt.alloc())?;
     let is_timed = words.len() == 4;
     if is_timed || words.len() == 5 && words[4].as_str() == "untimed" {
-        let is_moves = words[0].as_str() == "moves";
         let load = Load {
             bits: number(words[1].as_str()),
             workers: number(words[2].as_str()),
             scans: number(words[3].as_str()),
-            gap: if is_moves { 2 } else { 1 },
         };
         if load.is_admitted() {
             if let Some(measured) = measure_by(&rt, rt.alloc(), words[0].as_str(), load)? {
-                let names = if is_moves { MOVES } else { SCANS };
-                print(&rt, &measured, names, is_timed)?;
+                print(&rt, &measured, is_timed)?;
                 return Ok(());
             }
         }
     }
-    anyhow::bail!("usage: ks_scan_times TECHNIQUE|moves BITS WORKERS SCANS [untimed]")
+    anyhow::bail!("usage: ks_scan_times TECHNIQUE BITS WORKERS SCANS [untimed]")
 }

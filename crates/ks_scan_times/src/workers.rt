@@ -22,7 +22,7 @@ const SPAN: u64 = 1000;
 const PARTS: usize = 512;
 
 /// An odd number, whose multiples modulo a power of two are all numbers below that.
-pub(crate) const STRIDE: u64 = 2654435761;
+const STRIDE: u64 = 2654435761;
 
 /// What is to be measured.
 #[derive(Clone, Copy, Debug)]
@@ -30,10 +30,8 @@ pub struct Load {
     /// How many keys the tree has, as a power of two.
     pub bits: u32,
     pub workers: u32,
-    /// How many scans each worker makes, or how many times 1,000 puts and moves.
+    /// How many scans each worker makes.
     pub scans: u32,
-    /// How far each key is from the next: the keys between have no value.
-    pub gap: u64,
 }
 
 impl Load {
@@ -46,7 +44,7 @@ impl Load {
     }
 
     /// How many keys the tree has.
-    pub(crate) fn keys(&self) -> u64 {
+    fn keys(&self) -> u64 {
         1u64.wrapping_shl(self.bits)
     }
 
@@ -56,11 +54,6 @@ impl Load {
         ensures { (4 ≤ result) × (result ≤ 1048576) }
     {
         1u32.wrapping_shl(self.bits).clamp(16, 4194304) / 4
-    }
-
-    /// How many puts and moves each worker makes.
-    pub(crate) fn calls(&self) -> u64 {
-        u64::from(self.scans).saturating_mul(SPAN)
     }
 
     /// Where the next span begins, drawn from the state.
@@ -79,13 +72,13 @@ pub struct Seen {
 
 /// What all workers have seen.
 #[derive(Drop)]
-pub(crate) struct Sums {
+struct Sums {
     pairs: AtomicU64,
     sum: AtomicU64,
 }
 
 impl Sums {
-    pub(crate) fn new() -> Sums {
+    fn new() -> Sums {
         Sums {
             pairs: AtomicU64::new(0),
             sum: AtomicU64::new(0),
@@ -93,13 +86,13 @@ impl Sums {
     }
 
     /// Adds what one worker has seen.
-    pub(crate) fn add(&self, pairs: u64, sum: u64) {
+    fn add(&self, pairs: u64, sum: u64) {
         self.pairs.fetch_add(pairs, SeqCst);
         self.sum.fetch_add(sum, SeqCst);
     }
 
     /// What was seen since the instant.
-    pub(crate) fn since<R: Clock>(&self, rt: &R, begun: Instant) -> io::Result<Seen> {
+    fn since<R: Clock>(&self, rt: &R, begun: Instant) -> io::Result<Seen> {
         let nanoseconds = u64::try_from(begun.elapsed(rt)?.as_nanos()).unwrap_or(u64::MAX);
         Ok(Seen {
             pairs: self.pairs.load(SeqCst),
@@ -164,7 +157,7 @@ fn fill<N: Node, T: Ruled + Template<N, Arena<N, <T as Ruled>::Rule>>, R: Wait>(
     let worker = pass.caller() as u64;
     let mut pairs = 0u64;
     for at in 0..keys {
-        let key = (at.wrapping_mul(STRIDE) & keys.wrapping_sub(1)).wrapping_mul(load.gap);
+        let key = at.wrapping_mul(STRIDE) & keys.wrapping_sub(1);
         if at % workers == worker && map.put(rt, pass, key, key as u128 * 2).is_ok() {
             pairs = pairs.saturating_add(1);
         }
@@ -262,7 +255,7 @@ fn pairs_in(parts: &[Part]) -> u64 {
 }
 
 /// A value as a number of 64 bits: all that are put here are.
-pub(crate) fn low_half(value: u128) -> u64 {
+fn low_half(value: u128) -> u64 {
     u64::try_from(value).unwrap_or(u64::MAX)
 }
 
