@@ -1,5 +1,5 @@
 -- What an edit leaves of spots that ascend, and what a search finds among them.
-use Rattle.std.proofs.Common.{ℕ, zero, suc, ◌≡◌, ◌<◌, ◌≤◌, ◌+◌, ◌⊎◌, inl, inr, List, [], ◌∷◌, length, get_or, set, Option, Some, None, cond, true, ◌&&◌, refl, ◌∙◌, ap, arith}
+use Rattle.std.proofs.Common.{ℕ, zero, suc, ◌≡◌, ◌<◌, ◌≤◌, ◌+◌, ◌⊎◌, inl, inr, List, [], ◌∷◌, length, get_or, set, Some, None, cond, true, ◌&&◌, refl, ◌∙◌, ap, arith}
 use Rattle.std.specs.Prelude.{nat_le}
 use Rattle.std.specs.List.{remove}
 use Rattle.std.proofs.lemmas.Bool.{cases_lt, cases_eq, le-leb, lt-leb}
@@ -96,3 +96,14 @@ guess_placed new xs at p placed low last =
     guess_at p xs at new begun placed.is
     ∙ ap (λ b. cond (b && nat_le p new.last) (Some new.node) None) (le-leb _ _ low)
     ∙ ap (λ b. cond (true && b) (Some new.node) None) (le-leb _ _ last)
+
+-- a spot that is the last of those that begin by its last place
+pub guess_noted : (new : Spot) (xs : List Spot) (at p : ℕ) → Ascend xs → IsBegun new.last xs (suc at) → ((d : Spot) → get_or xs at d ≡ new) →
+    new.low ≤ p → p ≤ new.last → guess_among p xs ≡ Some new.node
+guess_noted new xs at p up begun is low last =
+    guess_placed new xs at p (record {
+      within = omega (arith, begun.within);
+      is = is;
+      before = λ i d h. omega (arith, up i at d (omega arith) (omega (arith, begun.within)), ap (λ (s : Spot). s.low) (is d));
+      after = λ i d h l. begun.after i d (omega arith) l;
+    }) low last

@@ -1,7 +1,6 @@
 -- Sets of spots, found by a hash.
 use Rattle.std.specs.Prelude.{ℕ, ◌*◌, ◌/◌, ◌%◌, ◌^◌, length, slice_index_or, Option}
 use Rattle.ks_guide.specs.declared.leaves.Leaves.{Leaves}
-use Rattle.ks_guide.specs.declared.spot.Spot.{Spot}
 use Rattle.ks_guide.specs.declared.spot.Two.{Two}
 use Rattle.ks_guide.specs.Spots.{guess_in}
 

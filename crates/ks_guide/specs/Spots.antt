@@ -1,5 +1,5 @@
 -- What the spans of a guide say of a place.
-use Rattle.std.specs.Prelude.{ℕ, Bool, ◌≤◌, ◌≡◌, ◌&&◌, ◌||◌, not, nat_le, nat_lt, Option, Some, None, cond}
+use Rattle.std.specs.Prelude.{ℕ, Bool, ◌≤◌, ◌&&◌, ◌||◌, not, nat_le, nat_lt, Option, Some, None, cond}
 use Rattle.ks_guide.specs.declared.spot.Spot.{Spot}
 use Rattle.ks_guide.specs.declared.spot.Two.{Two}
 

@@ -53,7 +53,11 @@ impl Branches {
         if self.most == 0 {
             return;
         }
-        let (from, to) = gap(self.spots.as_slice(), new);
+        let to = begun(self.spots.as_slice(), new.last);
+        if to > 0 && self.spots[to - 1] == new {
+            return;
+        }
+        let from = begun_before(self.spots.as_slice(), new, to);
         if from < to {
             put_over(&mut self.spots, new, from, to);
         } else if self.spots.len() < self.most {
@@ -85,17 +89,17 @@ fn begun(spots: &[Spot], place: u64) -> usize
     begun
 }
 
-/// The indices between which the spots begin in the span of a new one.
-fn gap(spots: &[Spot], new: Spot) -> (usize, usize)
+/// How many spots begin before a new one; those from there to `to` begin in its span.
+fn begun_before(spots: &[Spot], new: Spot, to: usize) -> usize
     requires ascend { Ascend spots.now }
     requires upright { new.low ≤ new.last }
-    ensures { IsGap new spots.now result.0 result.1 }
+    requires to { IsBegun new.last spots.now to }
+    ensures { IsGap new spots.now result to }
 {
-    let to = begun(spots, new.last);
     if new.low == 0 {
-        return (0, to);
+        return 0;
     }
-    (begun(spots, new.low - 1), to)
+    begun(spots, new.low - 1)
 }
 
 /// Puts a new spot in place of those that begin in its span.

@@ -75,13 +75,13 @@ impl Leaves {
         self.sets[at] = self.sets[at].noted(place, spot);
     }
 
-    /// Makes blocks finer, if a block is as long as a span from 0 to `width`, or coarser after many notes of wide spans.
+    /// Makes blocks finer, if a block has at least four times the places of a span from 0 to `width`, or coarser after many
+    /// notes of wide spans.
     fn fit(&mut self, width: u64) {
-        let blocks = width >> self.shift;
-        if blocks == 0 && self.shift > 0 {
+        if self.shift > 2 && width >> (self.shift - 2) == 0 {
             self.shift -= 1;
             self.wide = 0;
-        } else if blocks >= MANY_BLOCKS && self.shift < 63 {
+        } else if width >> self.shift >= MANY_BLOCKS && self.shift < 63 {
             self.wide = self.wide.wrapping_add(1) % PATIENCE;
             if self.wide == 0 {
                 self.shift += 1;

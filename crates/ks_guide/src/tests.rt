@@ -68,15 +68,15 @@ fn of_two_spans_the_one_that_begins_later_is_guessed(rt: HostRuntime) -> Result<
 }
 
 #[test]
-fn blocks_become_as_fine_as_dense_leaves(rt: HostRuntime) -> Result<(), Fail> {
+fn blocks_become_nearly_as_fine_as_dense_leaves(rt: HostRuntime) -> Result<(), Fail> {
     let mut guide = Guide::start(rt.alloc(), 256, 0)?;
     note_row(&mut guide, 16, 200);
-    assert_eq!(rt; guide.leaves.shift, 3);
+    assert_eq!(rt; guide.leaves.shift, 5);
     note_row(&mut guide, 16, 200);
     assert!(rt; known_in_row(&guide, 16, 200) >= 190);
     // and coarser, after many notes of wide leaves
     note_row(&mut guide, 1048576, 4096);
-    assert_eq!(rt; guide.leaves.shift, 4);
+    assert_eq!(rt; guide.leaves.shift, 6);
     Ok(())
 }
 
@@ -85,7 +85,7 @@ fn blocks_stay_coarse_over_leaves_that_are_spread(rt: HostRuntime) -> Result<(),
     let mut guide = Guide::start(rt.alloc(), 64, 0)?;
     note_row(&mut guide, 576460752303423488, 32);
     note_row(&mut guide, 576460752303423488, 32);
-    assert_eq!(rt; guide.leaves.shift, 58);
+    assert_eq!(rt; guide.leaves.shift, 60);
     assert!(rt; known_in_row(&guide, 576460752303423488, 32) >= 30);
     Ok(())
 }

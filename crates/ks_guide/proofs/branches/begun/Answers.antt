@@ -1,4 +1,4 @@
-use Rattle.std.proofs.Common.{ℕ, ◌≤◌, ◌<◌, ◌+◌, ◌/◌, length, get_or, arith, ap}
+use Rattle.std.proofs.Common.{◌≤◌, ◌<◌, ◌+◌, ◌/◌, length, get_or, arith, ap}
 use Rattle.std.proofs.lemmas.List.{get_or_default}
 use Rattle.ks_guide.specs.declared.spot.Spot.{Spot}
 use Rattle.ks_guide.proofs.branches.begun.Goals as goal

@@ -1,4 +1,4 @@
-use Rattle.std.proofs.Common.{ℕ, suc, ◌≡◌, ◌<◌, ◌-◌, List, length, get_or, Some, None, cond, arith, sym, subst, ap, ◌∙◌}
+use Rattle.std.proofs.Common.{ℕ, suc, ◌≡◌, ◌-◌, List, Some, None, cond, arith, sym, subst, ap, ◌∙◌}
 use Rattle.std.proofs.lemmas.List.{get_or_default}
 use Rattle.ks_guide.specs.declared.spot.Spot.{Spot}
 use Rattle.ks_guide.specs.Branches.{IsBegun}
