@@ -1,5 +1,5 @@
 -- What claims leave of what a caller holds, and when they were refused.
-use Rattle.std.proofs.Common.{◌≡◌, ◌≢◌, ℕ, ◌≤◌, ◌<◌, List, ◌∷◌, length, sym, refl, ap, ◌∙◌, subst, inl, inr, ⊎_elim, arith}
+use Rattle.std.proofs.Common.{◌≡◌, ◌≢◌, ℕ, ◌≤◌, ◌<◌, List, ◌∷◌, ◌++◌, length, sym, refl, ap, ◌∙◌, subst, inl, inr, ⊎_elim, arith}
 use Rattle.ks_keysets.specs.declared.Change.{Change}
 use Rattle.ks_keysets.specs.declared.Frame.{Frame}
 use Rattle.ks_keysets.specs.declared.NodeState.{NodeState}
@@ -13,7 +13,7 @@ use Rattle.ks_history.specs.Passes.{Has, GrowsByOthers, GrowsWith}
 use Rattle.ks_history.specs.Stays.{StaysHeld}
 use Rattle.ks_history.specs.Laws.Stays.{cond_here}
 use Rattle.ks_history.specs.Laws.Hand.{is_hand, held_in_hand}
-use Rattle.ks_history.specs.Laws.Begins.{begins_self, by_others_keeps, by_others_turn, claim_hand}
+use Rattle.ks_history.specs.Laws.Begins.{begins_more, begins_self, by_others_keeps, by_others_turn, claim_hand, with_others}
 use Rattle.ks_history.specs.Done.{Template}
 use Rattle.ks_history.specs.Due.{HoldsLive, MayGrow, NoneFree}
 use Rattle.ks_history.specs.Laws.Dues.{none_free_by, none_free_but, none_free_later, none_free_earlier, may_grow_along, between_by_others}
@@ -27,6 +27,8 @@ use Rattle.ks_arena.specs.Clauses.{HasLooked, HasClaimed, WasTaken, Kept, KeptBu
 use Rattle.ks_shape.specs.Beside.{KeepsBeside}
 use Rattle.ks_shape.specs.Laws.Beside.{StaysBeside, beside_others, beside_with}
 use Rattle.ks_shape.specs.Claims.{HoldsForClaim, GotOne}
+use Rattle.ks_shape.specs.Does.{HoldsToSplit}
+use Rattle.ks_shape.specs.Laws.Does.{splits_kept}
 
 -- after a node was claimed
 module _ {N : Type 0} (sort : Sort) (shows : N → Body) (c : ℕ) (h k : List Event) (x : Hand N) (got : HasClaimed sort shows c h k x) where
@@ -43,6 +45,15 @@ module _ {N : Type 0} (sort : Sort) (shows : N → Body) (c : ℕ) (h k : List E
         laws.on (graph_after h) (graph_after got.moment) (graph_after k) i
         (beside_with beside sort begins asks n laws c (Claim c x.node) h got.moment tt got.grows so i before mid)
         (beside_others beside sort begins asks n laws c got.moment k got.since sound i mid after)
+
+-- what is to be split is so just before an event of the caller
+module _ (sort : Sort) (begins : Frame → Type 0) (asks : (ℕ → NodeState) → (ℕ → Frame) → List Change → Type 0) (n c : ℕ) (laws : StaysBeside SameKeyset sort begins asks n) where
+  pub splits_before : (e : Event) (place : ℕ) (h k : List Event) (so : GrowsWith c e h k) → Sound sort begins asks n k → HoldsToSplit sort place h c → HoldsToSplit sort place (so.rest ++ h) c
+  splits_before e place h k so sound x =
+      let later : List Event = so.rest ++ h in
+      let all : Sound sort begins asks n (e ∷ later) = subst (Sound sort begins asks n) so.is sound in
+      let turns = laws.turns later (laws.older later (e ∷ later) (begins_more e later) all) in
+      splits_kept sort place c h later x (by_others_keeps c x.node h later (with_others c e h k so) turns x.holds)
 
 -- after no node was found free
 module _ (sort : Sort) (begins : Frame → Type 0) (asks : (ℕ → NodeState) → (ℕ → Frame) → List Change → Type 0) (n c nodes : ℕ) (laws : StaysBeside SameKeyset sort begins asks n) (h k : List Event) (looked : HasLooked c h k) (taken : (j : ℕ) → j < nodes → WasTaken h k j) (sound : Sound sort begins asks n k) where

@@ -10,7 +10,7 @@ use Rattle.ks_keysets.specs.Keyset.{IsLive}
 use Rattle.ks_keysets.specs.Layout.{Layout}
 use Rattle.ks_history.specs.declared.Event.{Event}
 use Rattle.ks_history.specs.declared.Event.TheVariants.{Take, Give, Claim, Shape, Call, Twin}
-use Rattle.ks_history.specs.Trace.{◌⊑◌, caller_of, graph_after}
+use Rattle.ks_history.specs.Trace.{◌⊑◌, caller_of, graph_after, held, turn_after}
 use Rattle.ks_history.specs.Frames.{frame_after}
 use Rattle.ks_node.specs.Body.{Body, frame_of, is_branch, only_child_of, value_at}
 use Rattle.ks_node.specs.Edges.{record_of}
@@ -49,6 +49,14 @@ pub record HasBody (sort : Sort) (h : List Event) (i : ℕ) (b : Body) : Type 0 
 abbrev pub MustSplit : Layout → ℕ → Body → Type 0
 MustSplit layout place b = IsTrue (is_full layout b) × (is_branch b ≡ false → value_at b.pairs place ≡ None)
 
+-- after h the caller c holds a node that is to be split for the place
+pub record HoldsToSplit (sort : Sort) (place : ℕ) (h : List Event) (c : ℕ) : Type 0 where
+  pub node : ℕ
+  pub body : Body
+  pub holds : turn_after h node ≡ held c
+  pub has : HasBody sort h node body
+  pub must : MustSplit sort.layout place body
+
 -- a Shape after h that makes room for the place: a node that is to be split is split, and itself leads to its right half, or
 -- its parent does; or it grows; or, under links, it is split to the right, or grows; or a branch gets an edge to a node that
 -- was split off
@@ -70,11 +78,12 @@ abbrev pub LivedBefore : List Event → List Change → Type 0
 LivedBefore h [] = Unit {0}
 LivedBefore h (x ∷ xs) = ((node : Record) (frame : Frame) → x.state ≡ BecomesLive node frame → IsLive (graph_after h) x.node) × LivedBefore h xs
 
--- what a put or an add at the place does: it searches and decides, claims nodes, and makes room
+-- what a put or an add at the place does: it searches and decides, claims nodes while it holds one that is to be split, and
+-- makes room
 abbrev pub MayFill : Sort → ℕ → List Event → Event → Type 0
 MayFill sort place h (Take c i) = Unit {0}
 MayFill sort place h (Give c i) = Unit {0}
-MayFill sort place h (Claim c i) = Unit {0}
+MayFill sort place h (Claim c i) = HoldsToSplit sort place h c
 MayFill sort place h (Shape c changes) = MakesRoom sort place h changes
 MayFill sort place h (Call c i op reply) = Unit {0}
 MayFill sort place h (Twin c i j op reply) = Unit {0}
@@ -100,8 +109,12 @@ module _ {N D : Type 0} where
   abbrev pub OnlySearches : Pass N D → Pass N D → Type 0
   OnlySearches p q = DoesOnly MaySearch p.caller (seen_of p) (seen_of q)
 
-  -- from p to q the caller takes, releases and claims nodes, decides, and makes room for the place: it splits only full nodes,
-  -- one that is no branch only if that lacks the place, and merges none
+  -- the caller holds a node that is to be split for the place
+  abbrev pub HasToSplit : Layout → Bool → ℕ → Pass N D → Type 0
+  HasToSplit layout ranged place p = HoldsToSplit (sort_of layout ranged) place (seen_of p) p.caller
+
+  -- from p to q the caller takes and releases nodes, decides, and makes room for the place: it splits only full nodes, one that
+  -- is no branch only if that lacks the place, claims nodes only while it holds such a node, and merges none
   abbrev pub OnlyFills : Layout → Bool → ℕ → Pass N D → Pass N D → Type 0
   OnlyFills layout ranged place p q = DoesOnly (MayFill (sort_of layout ranged) place) p.caller (seen_of p) (seen_of q)
 

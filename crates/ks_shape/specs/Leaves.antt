@@ -1,5 +1,5 @@
 -- What a call leaves that is no call of the history and may hold three nodes.
-use Rattle.std.proofs.Common.{ℕ, ◌≤◌, List, []}
+use Rattle.std.proofs.Common.{ℕ, ◌≤◌, List}
 use Rattle.ks_history.specs.declared.Event.{Event}
 use Rattle.ks_history.specs.declared.Op.{Op}
 use Rattle.ks_history.specs.Done.{Template, Left, most_held}

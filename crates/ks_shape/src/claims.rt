@@ -5,7 +5,7 @@ ghost use Rattle.ks_arena.specs.Clauses.{hand_of};
 ghost use Rattle.ks_arena.specs.Of.{IsPassOf, RestStays, SameCaller};
 ghost use Rattle.ks_shape.specs.Quiet.{KeepsQuiet};
 ghost use Rattle.ks_shape.specs.Of.{IsStretch, MakesNoneLive, KeepsAside, HasClaimedOne, HasClaimedTwo};
-ghost use Rattle.ks_shape.specs.Does.{OnlyFills};
+ghost use Rattle.ks_shape.specs.Does.{HasToSplit, OnlyFills};
 
 use ks_arena::{Arena, Held, Pass};
 use ks_flow::Discipline;
@@ -23,7 +23,8 @@ pub fn claim_one<N: Node, D: Discipline, G: Gate>(
     requires few { length (hand_of pass.old) ≤ 2 }
     ensures pass { IsPassOf arena.now pass.new }
     ensures caller { SameCaller pass.old pass.new }
-    ensures fills { (place : ℕ) → OnlyFills N.layout N.ranged place pass.old pass.new }
+    ensures fills { (place : ℕ) → HasToSplit N.layout N.ranged place pass.old →
+        OnlyFills N.layout N.ranged place pass.old pass.new }
     ensures claimed { HasClaimedOne arena.now pass.old pass.new result }
     ensures stretch { IsStretch pass.old pass.new }
     ensures makes { MakesNoneLive pass.old pass.new }
@@ -52,7 +53,8 @@ pub fn claim_two<N: Node, D: Discipline, G: Gate>(
     requires few { length (hand_of pass.old) ≤ 1 }
     ensures pass { IsPassOf arena.now pass.new }
     ensures caller { SameCaller pass.old pass.new }
-    ensures fills { (place : ℕ) → OnlyFills N.layout N.ranged place pass.old pass.new }
+    ensures fills { (place : ℕ) → HasToSplit N.layout N.ranged place pass.old →
+        OnlyFills N.layout N.ranged place pass.old pass.new }
     ensures claimed { HasClaimedTwo arena.now pass.old pass.new result }
     ensures stretch { IsStretch pass.old pass.new }
     ensures makes { MakesNoneLive pass.old pass.new }

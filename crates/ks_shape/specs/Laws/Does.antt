@@ -1,15 +1,20 @@
 -- What the events of a caller are between two moments: how such stretches add up, and which events are one.
-use Rattle.std.proofs.Common.{◌≡◌, ℕ, List, [], ◌∷◌, ◌++◌, sym, subst, append_assoc}
+use Rattle.std.proofs.Common.{◌≡◌, ℕ, List, [], ◌∷◌, ◌++◌, true, sym, subst, append_assoc, ◌∙◌}
 use Rattle.ks_history.specs.declared.Event.{Event}
 use Rattle.ks_history.specs.declared.Event.TheVariants.{Take, Give, Claim, Shape, Call, Twin}
 use Rattle.ks_history.specs.declared.Op.{Op}
 use Rattle.ks_history.specs.declared.Reply.{Reply}
-use Rattle.ks_history.specs.Trace.{caller_of}
+use Rattle.ks_history.specs.Trace.{held, turn_after}
 use Rattle.ks_history.specs.Callers.{NoneBy}
 use Rattle.ks_history.specs.Passes.{GrowsByOthers, GrowsWith}
+use Rattle.ks_history.specs.Stays.{StaysHeld}
 use Rattle.ks_history.specs.Laws.Begins.{begins_self, begins_both}
-use Rattle.ks_arena.specs.Sound.{Sort}
-use Rattle.ks_shape.specs.Does.{EachOwn, DoesOnly, MaySearch, MayFill, MayDel}
+use Rattle.ks_node.specs.Body.{Body}
+use Rattle.ks_arena.specs.declared.held.Held.{Held as Hand}
+use Rattle.ks_arena.specs.Sound.{Sort, blank_of}
+use Rattle.ks_arena.specs.Clauses.{Matches}
+use Rattle.ks_shape.specs.Laws.Single.{shown}
+use Rattle.ks_shape.specs.Does.{EachOwn, DoesOnly, HoldsToSplit, MaySearch, MayFill, MayDel, MustSplit}
 
 module _ (may : List Event → Event → Type 0) where
   own_others : (c : ℕ) (s es : List Event) → NoneBy c es → EachOwn may c s es
@@ -52,7 +57,7 @@ does_as may wide so c h k does = record { grows = does.grows; each = own_as may 
 search_fills : (sort : Sort) (place : ℕ) (h : List Event) (e : Event) → MaySearch h e → MayFill sort place h e
 search_fills sort place h (Take c i) so = tt
 search_fills sort place h (Give c i) so = tt
-search_fills sort place h (Claim c i) so = tt
+search_fills sort place h (Claim c i) so = absurd so
 search_fills sort place h (Shape c changes) so = absurd so
 search_fills sort place h (Call c i op reply) so = tt
 search_fills sort place h (Twin c i j op reply) so = tt
@@ -100,3 +105,24 @@ searches_give c i h k so = does_with MaySearch c (Give c i) h k so tt
 
 pub searches_call : (c i : ℕ) (op : Op) (reply : Reply) (h k : List Event) → GrowsWith c (Call c i op reply) h k → DoesOnly MaySearch c h k
 searches_call c i op reply h k so = does_with MaySearch c (Call c i op reply) h k so tt
+
+-- a node that is held and is to be split stays so while it is held
+
+pub splits_kept : (sort : Sort) (place c : ℕ) (h k : List Event) (x : HoldsToSplit sort place h c) → StaysHeld c x.node h k → HoldsToSplit sort place k c
+splits_kept sort place c h k x stays = record {
+  node = x.node;
+  body = x.body;
+  holds = stays.turn;
+  has = record { state = stays.state ∙ x.has.state; frame = stays.frame (blank_of sort) ∙ x.has.frame };
+  must = x.must;
+}
+
+module _ {N : Type 0} (sort : Sort) (shows : N → Body) (place c : ℕ) (h : List Event) (x : Hand N) where
+  pub holds_to_split : turn_after h x.node ≡ held c → x.live ≡ true → Matches sort shows h x → MustSplit sort.layout place (shows x.body) → HoldsToSplit sort place h c
+  holds_to_split mine live matches must = let is = shown sort shows h x live matches in record {
+    node = x.node;
+    body = shows x.body;
+    holds = mine;
+    has = record { state = is.0; frame = is.1 };
+    must = must;
+  }

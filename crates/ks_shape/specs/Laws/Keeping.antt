@@ -5,7 +5,7 @@ use Rattle.ks_keysets.specs.Keyset.{InInset}
 use Rattle.ks_history.specs.declared.Event.{Event}
 use Rattle.ks_history.specs.declared.Event.TheVariants.{Give}
 use Rattle.ks_history.specs.Own.{hand, drop_one}
-use Rattle.ks_history.specs.Trace.{held, graph_after}
+use Rattle.ks_history.specs.Trace.{graph_after}
 use Rattle.ks_history.specs.Passes.{Has, GrowsWith}
 use Rattle.ks_history.specs.Laws.Stays.{cond_here, cond_else}
 use Rattle.ks_history.specs.Hand.{AreOnce}

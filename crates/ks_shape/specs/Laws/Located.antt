@@ -12,7 +12,7 @@ use Rattle.ks_history.specs.Laws.Alone.{alone_still}
 use Rattle.ks_history.specs.Laws.Begins.{begins_both}
 use Rattle.ks_history.specs.Map.{told}
 use Rattle.ks_history.specs.Passes.{GrowsByOthers}
-use Rattle.ks_history.specs.Trace.{◌⊑◌, Turn, free, idle, turn_after}
+use Rattle.ks_history.specs.Trace.{◌⊑◌, free, idle, turn_after}
 use Rattle.ks_history.specs.Underway.{Underway}
 use Rattle.ks_node.specs.Body.{Body, first_of, frame_of, last_of}
 use Rattle.ks_arena.specs.declared.held.Held.{Held as Hand}

@@ -7,7 +7,6 @@ use Rattle.ks_history.specs.declared.Event.{Event}
 use Rattle.ks_history.specs.declared.Op.TheVariants.{Part as lists}
 use Rattle.ks_history.specs.declared.Reply.TheVariants.{Listed}
 use Rattle.ks_history.specs.Done.{Template, DoneAt}
-use Rattle.ks_history.specs.Own.{decided_at}
 use Rattle.ks_history.specs.Passes.{Has}
 use Rattle.ks_history.specs.Trace.{graph_after}
 use Rattle.ks_shape.specs.Parts.{DonePart}

@@ -33,8 +33,8 @@ use Rattle.ks_link.specs.Leads.{LedBut, waits_if}
 use Rattle.ks_link.proofs.Leading.{led_then}
 use Rattle.ks_link.proofs.Rooms.{none_of}
 use Rattle.ks_link.proofs.Parting.{live_in, spare_no_root, stands_now}
-use Rattle.ks_shape.specs.Does.{MayFill}
-use Rattle.ks_shape.specs.Laws.Does.{does_on}
+use Rattle.ks_shape.specs.Does.{HoldsToSplit, MayFill, MustSplit}
+use Rattle.ks_shape.specs.Laws.Does.{does_on, holds_to_split}
 use Rattle.ks_link.proofs.parts.part.Given.{Over}
 use Rattle.ks_link.proofs.parts.part.Goals as goal
 use Rattle.ks_link.proofs.parts.part.Goals.{After-node_law}
@@ -48,6 +48,10 @@ live_before g c = let sort = sort_of g.N.Node.layout g.N.Node.ranged in let h = 
 held_before : (g : Over) (c : After-node_law g) → turn_after (seen_of c.args.pass.now) c.args.held.node ≡ held c.args.pass.now.caller
 held_before g c = let sort = sort_of g.N.Node.layout g.N.Node.ranged in let n : ℕ = c.args.arena.now.table.shared.table_id.slots in let h = seen_of c.args.pass.now in let me : ℕ = c.args.pass.now.caller in
     (is_hand h me (lawful_in_turn h (c.sound_law.ensures.lawful sort n h c.requires.pass.sound))).held c.args.held.node (subst (λ (z : List ℕ). Has z c.args.held.node) (sym c.requires.way.alone) (inl refl))
+
+-- the node is held and is to be split
+splits : (g : Over) (c : After-node_law g) (at : ℕ) → MustSplit g.N.Node.layout at (g.N.Node.body c.args.held.body) → HoldsToSplit (sort_of g.N.Node.layout g.N.Node.ranged) at (seen_of c.args.pass.now) c.args.pass.now.caller
+splits g c at must = holds_to_split (sort_of g.N.Node.layout g.N.Node.ranged) g.N.Node.body at c.args.pass.now.caller (seen_of c.args.pass.now) c.args.held (held_before g c) c.requires.way.live c.requires.way.matches must
 
 -- the caller still holds the node, and no other
 still_alone : (g : Over) (c : After-node_law g) (k : List Event) → hand c.args.pass.now.caller k ≡ hand_of c.args.pass.now → Matches (sort_of g.N.Node.layout g.N.Node.ranged) g.N.Node.body k c.args.held → IsAlone (sort_of g.N.Node.layout g.N.Node.ranged) g.N.Node.body c.args.pass.now.caller k c.args.held
@@ -154,13 +158,13 @@ returns-in-Some-claim_one-clause-narrower g c = c.split.ensures.narrower
 -- the kinds of its events
 
 pub returns-in-None-clause-fills : goal.returns-in-None-clause-fills
-returns-in-None-clause-fills g c = λ at must. c.claim_two.ensures.fills at
+returns-in-None-clause-fills g c = λ at must. c.claim_two.ensures.fills at (splits g (goal.at.returns-in-None-clause-fills g c).After-node_law at must)
 
 pub returns-in-None-claim_one-clause-fills : goal.returns-in-None-claim_one-clause-fills
-returns-in-None-claim_one-clause-fills g c = λ at must. c.claim_one.ensures.fills at
+returns-in-None-claim_one-clause-fills g c = λ at must. c.claim_one.ensures.fills at (splits g (goal.at.returns-in-None-claim_one-clause-fills g c).After-node_law at must)
 
 pub returns-in-Some-clause-fills : goal.returns-in-Some-clause-fills
-returns-in-Some-clause-fills g c = λ at must. does_on (MayFill (sort_of g.N.Node.layout g.N.Node.ranged) at) c.args.pass.now.caller c.claim_two.new.pass.caller (seen_of c.args.pass.now) (seen_of c.claim_two.new.pass) (seen_of c.grow.new.pass) c.claim_two.ensures.caller (c.claim_two.ensures.fills at) (c.grow.ensures.fills at must)
+returns-in-Some-clause-fills g c = λ at must. does_on (MayFill (sort_of g.N.Node.layout g.N.Node.ranged) at) c.args.pass.now.caller c.claim_two.new.pass.caller (seen_of c.args.pass.now) (seen_of c.claim_two.new.pass) (seen_of c.grow.new.pass) c.claim_two.ensures.caller (c.claim_two.ensures.fills at (splits g (goal.at.returns-in-Some-clause-fills g c).After-node_law at must)) (c.grow.ensures.fills at must)
 
 pub returns-in-Some-claim_one-clause-fills : goal.returns-in-Some-claim_one-clause-fills
-returns-in-Some-claim_one-clause-fills g c = λ at must. does_on (MayFill (sort_of g.N.Node.layout g.N.Node.ranged) at) c.args.pass.now.caller c.claim_one.new.pass.caller (seen_of c.args.pass.now) (seen_of c.claim_one.new.pass) (seen_of c.split.new.pass) c.claim_one.ensures.caller (c.claim_one.ensures.fills at) (c.split.ensures.fills at must)
+returns-in-Some-claim_one-clause-fills g c = λ at must. does_on (MayFill (sort_of g.N.Node.layout g.N.Node.ranged) at) c.args.pass.now.caller c.claim_one.new.pass.caller (seen_of c.args.pass.now) (seen_of c.claim_one.new.pass) (seen_of c.split.new.pass) c.claim_one.ensures.caller (c.claim_one.ensures.fills at (splits g (goal.at.returns-in-Some-claim_one-clause-fills g c).After-node_law at must)) (c.split.ensures.fills at must)

@@ -8,7 +8,7 @@ use Rattle.ks_arena.specs.Clauses.{seen_of}
 use Rattle.ks_shape.specs.Laws.Beside.{StaysBeside, beside_others, stays_beside, keyset_beside}
 use Rattle.ks_shape.specs.Laws.Makes.{makes_both, makes_others, makes_with}
 use Rattle.ks_shape.specs.Laws.Quiet.{quiet_others, quiet_claim, quiet_both}
-use Rattle.ks_shape.proofs.Claiming.{claimed_stretch, claimed_beside, refused}
+use Rattle.ks_shape.proofs.Claiming.{claimed_stretch, claimed_beside, refused, splits_before}
 use Rattle.ks_shape.specs.Does.{MayFill}
 use Rattle.ks_shape.specs.Laws.Does.{does_both, does_others, does_with}
 use Rattle.ks_shape.proofs.claims.claim_one.Given.{Over}
@@ -62,8 +62,10 @@ returns-clause-quiet g c = let me : ℕ = c.args.pass.now.caller in let h = seen
     quiet_both me h got.moment k (quiet_claim me c.in-Some.claimed.node h got.moment got.grows) (quiet_others me got.moment k got.since)
 
 pub returns-in_default-clause-fills : goal.returns-in_default-clause-fills
-returns-in_default-clause-fills g c = λ place. let told = rw c.in_default.is at c.claim.ensures.claimed in does_others (MayFill (sort_of g.N.Node.layout g.N.Node.ranged) place) c.args.pass.now.caller (seen_of c.args.pass.now) (seen_of c.claim.new.pass) told.0.grows
+returns-in_default-clause-fills g c = λ place splits. let told = rw c.in_default.is at c.claim.ensures.claimed in does_others (MayFill (sort_of g.N.Node.layout g.N.Node.ranged) place) c.args.pass.now.caller (seen_of c.args.pass.now) (seen_of c.claim.new.pass) told.0.grows
 
 pub returns-clause-fills : goal.returns-clause-fills
-returns-clause-fills g c = λ place. let me : ℕ = c.args.pass.now.caller in let h = seen_of c.args.pass.now in let k = seen_of c.claim.new.pass in let got = c.in-Some.ensures.claimed.0 in let may = MayFill (sort_of g.N.Node.layout g.N.Node.ranged) place in
-    does_both may me h got.moment k (does_with may me (Claim me c.in-Some.claimed.node) h got.moment got.grows tt) (does_others may me got.moment k got.since)
+returns-clause-fills g c = λ place splits. let at = (goal.at.returns-clause-fills g c).After-claim in let me : ℕ = c.args.pass.now.caller in let h = seen_of c.args.pass.now in let k = seen_of c.claim.new.pass in let got = c.in-Some.ensures.claimed.0 in let sort = sort_of g.N.Node.layout g.N.Node.ranged in let n : ℕ = c.args.arena.now.table.shared.table_id.slots in let e = Claim me c.in-Some.claimed.node in let may = MayFill sort place in
+    let so = (keysets g at).older got.moment k (by_others_begins me got.moment k got.since) c.claim.ensures.pass.sound in
+    let before = splits_before sort g.D.Discipline.begins g.D.Discipline.step n me (keysets g at) e place h got.moment got.grows so splits in
+    does_both may me h got.moment k (does_with may me e h got.moment got.grows before) (does_others may me got.moment k got.since)

@@ -19,11 +19,11 @@ use Rattle.ks_shape.specs.Makes.{MakesNone}
 use Rattle.ks_shape.specs.Laws.Makes.{makes_both, makes_with}
 use Rattle.ks_shape.specs.Laws.Quiet.{quiet_give, quiet_both, quiet_on}
 use Rattle.ks_shape.proofs.Claiming.{still_for_claim, back_hand, back_stretch, back_refused, back_kept}
-use Rattle.ks_shape.specs.Does.{MayFill}
-use Rattle.ks_shape.specs.Laws.Does.{does_both, does_on, does_with}
+use Rattle.ks_shape.specs.Does.{HoldsToSplit, MayFill}
+use Rattle.ks_shape.specs.Laws.Does.{does_both, does_on, does_with, splits_kept}
 use Rattle.ks_shape.proofs.claims.claim_two.Given.{Over}
 use Rattle.ks_shape.proofs.claims.claim_two.Goals as goal
-use Rattle.ks_shape.proofs.claims.claim_two.Goals.{After-walks_law, After-give}
+use Rattle.ks_shape.proofs.claims.claim_two.Goals.{After-walks_law, After-claim_one, After-give}
 
 besides : (g : Over) (c : After-walks_law g) → StaysBeside g.D.Discipline.beside (sort_of g.N.Node.layout g.N.Node.ranged) g.D.Discipline.begins g.D.Discipline.step c.args.arena.now.table.shared.table_id.slots
 besides g c = stays_beside (sort_of g.N.Node.layout g.N.Node.ranged) c.laws.ensures c.walks_law.ensures.opening c.args.arena.now.table.shared.table_id.slots
@@ -138,10 +138,15 @@ pub returns-in-None-clause-quiet : goal.returns-in-None-clause-quiet
 returns-in-None-clause-quiet g c = let gv = (goal.at.returns-in-None-clause-quiet g c).After-give in let me : ℕ = c.args.pass.now.caller in let h = seen_of c.args.pass.now in let h₁ = seen_of c.claim_one.new.pass in let h₂ = seen_of c.claim_one-2.new.pass in let one = c.claim_one.ensures in
     quiet_both me h h₂ (seen_of c.give.new.pass) (quiet_on me c.claim_one.new.pass.caller h h₁ h₂ one.caller one.quiet c.claim_one-2.ensures.quiet) (quiet_give me c.in-Some.left.node h₂ (seen_of c.give.new.pass) (gave g gv))
 
+-- the node that is to be split stays so as another is claimed
+still_splits : (g : Over) (c : After-claim_one g) (place : ℕ) → HoldsToSplit (sort_of g.N.Node.layout g.N.Node.ranged) place (seen_of c.args.pass.now) c.args.pass.now.caller → HoldsToSplit (sort_of g.N.Node.layout g.N.Node.ranged) place (seen_of c.claim_one.new.pass) c.claim_one.new.pass.caller
+still_splits g c place splits = let sort = sort_of g.N.Node.layout g.N.Node.ranged in let me : ℕ = c.args.pass.now.caller in let h = seen_of c.args.pass.now in let k = seen_of c.claim_one.new.pass in
+    subst (λ (z : ℕ). HoldsToSplit sort place k z) (sym c.claim_one.ensures.caller) (splits_kept sort place me h k splits (c.claim_one.ensures.rest.kept splits.node splits.holds))
+
 pub returns-in-Some-claim_one-clause-fills : goal.returns-in-Some-claim_one-clause-fills
-returns-in-Some-claim_one-clause-fills g c = λ place. let e = c.claim_one.ensures in
-    does_on (MayFill (sort_of g.N.Node.layout g.N.Node.ranged) place) c.args.pass.now.caller c.claim_one.new.pass.caller (seen_of c.args.pass.now) (seen_of c.claim_one.new.pass) (seen_of c.claim_one-2.new.pass) e.caller (e.fills place) (c.claim_one-2.ensures.fills place)
+returns-in-Some-claim_one-clause-fills g c = λ place splits. let e = c.claim_one.ensures in
+    does_on (MayFill (sort_of g.N.Node.layout g.N.Node.ranged) place) c.args.pass.now.caller c.claim_one.new.pass.caller (seen_of c.args.pass.now) (seen_of c.claim_one.new.pass) (seen_of c.claim_one-2.new.pass) e.caller (e.fills place splits) (c.claim_one-2.ensures.fills place (still_splits g (goal.at.returns-in-Some-claim_one-clause-fills g c).After-claim_one place splits))
 
 pub returns-in-None-clause-fills : goal.returns-in-None-clause-fills
-returns-in-None-clause-fills g c = λ place. let at = (goal.at.returns-in-None-clause-fills g c).After-give in let e = c.claim_one.ensures in let may = MayFill (sort_of g.N.Node.layout g.N.Node.ranged) place in let me : ℕ = c.args.pass.now.caller in let h = seen_of c.args.pass.now in let h₁ = seen_of c.claim_one.new.pass in let h₂ = seen_of c.claim_one-2.new.pass in let h₃ = seen_of c.give.new.pass in
-    does_both may me h h₂ h₃ (does_on may me c.claim_one.new.pass.caller h h₁ h₂ e.caller (e.fills place) (c.claim_one-2.ensures.fills place)) (does_with may me (Give me c.in-Some.left.node) h₂ h₃ (gave g at) tt)
+returns-in-None-clause-fills g c = λ place splits. let at = (goal.at.returns-in-None-clause-fills g c).After-give in let e = c.claim_one.ensures in let may = MayFill (sort_of g.N.Node.layout g.N.Node.ranged) place in let me : ℕ = c.args.pass.now.caller in let h = seen_of c.args.pass.now in let h₁ = seen_of c.claim_one.new.pass in let h₂ = seen_of c.claim_one-2.new.pass in let h₃ = seen_of c.give.new.pass in
+    does_both may me h h₂ h₃ (does_on may me c.claim_one.new.pass.caller h h₁ h₂ e.caller (e.fills place splits) (c.claim_one-2.ensures.fills place (still_splits g (goal.at.returns-in-None-clause-fills g c).After-claim_one place splits))) (does_with may me (Give me c.in-Some.left.node) h₂ h₃ (gave g at) tt)

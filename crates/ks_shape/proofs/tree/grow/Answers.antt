@@ -17,12 +17,11 @@ use Rattle.ks_bodies.specs.Shapes as shapes
 use Rattle.ks_bodies.specs.Shapes.{CanPart}
 use Rattle.ks_bodies.specs.Stands.{IsPlain}
 use Rattle.ks_arena.specs.Sound.{sort_of, blank_of, Sound}
-use Rattle.ks_arena.specs.Clauses.{seen_of, hand_of, change_of}
+use Rattle.ks_arena.specs.Clauses.{seen_of, hand_of}
 use Rattle.ks_shape.proofs.Standing.{plain, stands, no_record, stays, no_directory, changed_to, changed_three}
 use Rattle.ks_shape.proofs.Leaving.{had}
 use Rattle.ks_shape.specs.Laws.Does.{does_with}
 use Rattle.ks_shape.specs.Does.{MayFill}
-use Rattle.ks_arena.specs.declared.held.Held.{Held as Hand}
 use Rattle.ks_shape.specs.Does.MakesRoom.{by_growth}
 use Rattle.ks_shape.proofs.tree.grow.Given.{Over}
 use Rattle.ks_shape.proofs.tree.grow.Goals as goal
