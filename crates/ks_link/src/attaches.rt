@@ -201,6 +201,7 @@ fn attach_one<N: Linked, R: Wait, G: Gate>(
 }
 
 /// Attaches what was split off, and what is split off by that, and so on.
+#[inline(never)]
 fn attach_on<N: Linked, R: Wait, G: Gate>(
     rt: &R,
     arena: &Arena<N, Link>,
@@ -228,6 +229,7 @@ fn attach_on<N: Linked, R: Wait, G: Gate>(
 }
 
 /// Attaches all that waits, the oldest first.
+#[inline(always)]
 pub(crate) fn attach_all<N: Linked, R: Wait, G: Gate>(
     rt: &R,
     arena: &Arena<N, Link>,

@@ -112,6 +112,7 @@ pub(crate) fn swap_near<N: Linked, R: Wait, G: Gate>(
 
 /// Puts or adds a value at the place where its search has ended, as `fill_from`. Returns also the node, its range, and
 /// `above`, the last branch that the search passed.
+#[inline(always)]
 fn fill_here<N: Linked, G: Gate>(
     arena: &Arena<N, Link>,
     pass: &mut Pass<N, Link>,

@@ -63,6 +63,7 @@ fn begin_at<N: Linked, R: Wait, G: Gate>(
 
 /// Releases the node, and takes the one to which the search goes on. The last branch that it passed is this node, if it is
 /// a branch with the place in its range, else as before.
+#[inline(always)]
 fn go_by<N: Linked, R: Wait, G: Gate>(
     rt: &R,
     arena: &Arena<N, Link>,
@@ -94,6 +95,7 @@ fn go_by<N: Linked, R: Wait, G: Gate>(
 
 /// Goes on from the held node to the one at which the search for the place ends, and moves right `rights` times at most.
 /// `None`: it was to move right once more, and released its node.
+#[inline(never)]
 fn walk<N: Linked, R: Wait, G: Gate>(
     rt: &R,
     arena: &Arena<N, Link>,
@@ -138,6 +140,7 @@ fn walk<N: Linked, R: Wait, G: Gate>(
 }
 
 /// Goes on from the held node, if there is one, as `walk`.
+#[inline(always)]
 fn walk_from<N: Linked, R: Wait, G: Gate>(
     rt: &R,
     arena: &Arena<N, Link>,
@@ -164,6 +167,7 @@ fn walk_from<N: Linked, R: Wait, G: Gate>(
 }
 
 /// Takes the node at which the search for a place ends, and holds no other. It begins at the hinted node, if there is one.
+#[inline(always)]
 pub(crate) fn find_near<N: Linked, R: Wait, G: Gate>(
     rt: &R,
     arena: &Arena<N, Link>,

@@ -151,6 +151,7 @@ fn ended<N: Ranged>(found: &Result<Held<N>, Held<N>>) -> (u32, Span)
 
 /// Decides a put or an add at the end of a search for room, as `fill_at`. Returns also the node, its range, and `above`,
 /// the last branch that the search passed.
+#[inline(always)]
 pub fn fill_located<N: Ranged, D: Discipline, G: Gate>(
     arena: &Arena<N, D>,
     pass: &mut Pass<N, D>,
