@@ -11,6 +11,7 @@ use Rattle.ks_arena.specs.Clauses.{seen_of}
 use Rattle.ks_arena.specs.Of.{caller_of, nodes_of}
 use Rattle.ks_lines.specs.declared.parts.Part.{Part}
 use Rattle.ks_shape.specs.declared.answers.Later.{Later}
+use Rattle.ks_shape.specs.Does.{OnlySearches}
 use Rattle.ks_shape.specs.Parts.{DonePartOf}
 use Rattle.ks_shape.specs.Tries.{IsPutOff}
 use Rattle.ks_c.specs.declared.listing.Entry.{Entry}
@@ -41,4 +42,5 @@ module _ {N D P : Type 0} {n : NodeGhosts N P} {q : PlacingGhosts P} {d : Discip
     pub answer : Result Part Later
     pub done : IfOk answer (λ part. DonePartOf (arc_value before.arena) technique low last before.pass after.pass part)
     pub put_off : IfErr answer (λ later. IsPutOff technique (nodes_of (arc_value before.arena)) (caller_of before.pass) (lists low last) (seen_of before.pass) (seen_of after.pass) later)
+    pub leaves : OnlySearches before.pass after.pass
     pub tells : TellsPart last answer entries filled code out

@@ -7,6 +7,7 @@ use Rattle.ks_flow.specs.declared.discipline.Discipline.{Ghosts as DisciplineGho
 use Rattle.ks_history.specs.Done.{Template}
 use Rattle.ks_history.specs.declared.Op.{Op}
 use Rattle.ks_history.specs.declared.Reply.{Reply}
+use Rattle.ks_arena.specs.declared.arena.Arena.{Arena}
 use Rattle.ks_arena.specs.declared.held.Note.{Note}
 use Rattle.ks_arena.specs.declared.held.Pass.{Pass}
 use Rattle.ks_arena.specs.Sound.{sort_of}
@@ -29,6 +30,10 @@ module _ {N T P D : Type 0} {n : NodeGhosts N P} {q : PlacingGhosts P} {d : Disc
     callers = m.arena.callers;
     nodes = m.arena.nodes;
   }
+
+  -- the arena itself, on which a call by the technique may be made
+  abbrev pub arena_of : Dictionary N T P D n q d → Arena N D P n q d
+  arena_of m = m.arena
 
   -- how many nodes the dictionary has, and how many callers
   abbrev pub nodes_of : Dictionary N T P D n q d → ℕ

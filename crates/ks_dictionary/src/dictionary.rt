@@ -24,6 +24,7 @@ ghost use Rattle.ks_dictionary.specs.Of.{
   HasTriedPutIn,
   IsIdlePassOf,
   IsNoteFrom,
+  arena_of,
   callers_of,
   nodes_of,
   site_of,
@@ -340,7 +341,7 @@ impl<N: Node, T: Ruled + Template<N, Arena<N, <T as Ruled>::Rule>>> Dictionary<N
 impl<N: Node, T: Ruled> Dictionary<N, T> {
     /// The arena. A call by the technique itself may be made on it, as by a test of a call that does not wait, with a gate.
     pub fn arena(&self) -> &Arena<N, T::Rule>
-        ensures { result.now ≡ self.now.arena }
+        ensures { result.now ≡ arena_of self.now }
     {
         &self.arena
     }
