@@ -20,6 +20,7 @@ use ks_tidy::{Tidied, come_down, del_on};
 use std::sync::Wait;
 
 /// Returns the value at a place, and the number of the call. It holds two nodes at most.
+#[inline(never)]
 pub fn get<N: Unlinked, R: Wait, G: Gate>(
     rt: &R,
     arena: &Arena<N, Tree>,

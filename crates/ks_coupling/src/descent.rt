@@ -15,6 +15,7 @@ use ks_shape::{let_go, step_down, take_root, tree_end_law};
 use std::sync::Wait;
 
 /// Takes the child to which the search goes on, and releases the node.
+#[inline(always)]
 fn go_on<N: Unlinked, R: Wait, G: Gate>(
     rt: &R,
     arena: &Arena<N, Tree>,
@@ -38,6 +39,7 @@ fn go_on<N: Unlinked, R: Wait, G: Gate>(
 }
 
 /// Takes the node at which the search for a place ends, and holds no other.
+#[inline(always)]
 pub(crate) fn find<N: Unlinked, R: Wait, G: Gate>(
     rt: &R,
     arena: &Arena<N, Tree>,

@@ -27,6 +27,7 @@ pub enum Step<N> {
 
 /// Merges a node whose parent is not held, as the root, with the node to which it leads itself, if there is one and they
 /// fit.
+#[inline(never)]
 fn merge_root<N: Unlinked, R: Wait, G: Gate>(
     rt: &R,
     arena: &Arena<N, Tree>,
@@ -99,6 +100,7 @@ fn merge_next<N: Unlinked, R: Wait, G: Gate>(
 }
 
 /// Merges a node below its parent with its right neighbour, if there is one and they fit.
+#[inline(never)]
 fn merge_child<N: Unlinked, R: Wait, G: Gate>(
     rt: &R,
     arena: &Arena<N, Tree>,
@@ -133,6 +135,7 @@ fn merge_child<N: Unlinked, R: Wait, G: Gate>(
 }
 
 /// Merges a node whose parent is not held with the node to which it leads itself, if it is low or the work is thorough.
+#[inline(always)]
 fn tidy_root<N: Unlinked, R: Wait, G: Gate>(
     rt: &R,
     arena: &Arena<N, Tree>,
@@ -179,6 +182,7 @@ pub(crate) fn has_sole<N: Node>(parent: &Held<N>) -> bool
 
 /// Lets the root, or any parent that grows in place, take over its only child; else merges the child with its right
 /// neighbour, if it is low or the work is thorough.
+#[inline(always)]
 fn tidy_child<N: Unlinked, R: Wait, G: Gate>(
     rt: &R,
     arena: &Arena<N, Tree>,
@@ -222,6 +226,7 @@ fn tidy_child<N: Unlinked, R: Wait, G: Gate>(
 /// Makes one node free, if it can: the root, or any parent that grows in place, takes over the node of the path, if that
 /// is its only child; else the node absorbs its right neighbour, if both fit and the node is low. Thorough work does not
 /// ask whether it is low. A node whose parent is not held absorbs only a neighbour to which it leads itself.
+#[inline(always)]
 pub fn tidy_once<N: Unlinked, R: Wait, G: Gate>(
     rt: &R,
     arena: &Arena<N, Tree>,
