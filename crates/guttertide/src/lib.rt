@@ -23,8 +23,8 @@ pub use ks_list::ListNode;
 pub use ks_node::{Node, WithRange};
 pub use ks_scan::{Found, Scanned};
 pub use ks_shape::{
-    Compacting, Full, Hinting, Later, MoveLeft, Moving, Numbered, Part, PutLater, Ruled, Scanning,
-    Template,
+    Above, Compacting, Full, Hinting, Later, MoveLeft, Moving, Numbered, NumberedAt, Part,
+    PutLater, Ruled, Scanning, Template,
 };
 
 /// A pass of a dictionary over nodes of type `N`, by the technique `T`.
