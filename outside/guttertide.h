@@ -2,8 +2,9 @@
  *
  * A dictionary is of one of four structures (ks_structure), over a fixed number of nodes, and a fixed number of callers
  * call it at once. Its calls are proved: all calls of all callers form one history of one map, in which each call has its
- * number. No call waits for another caller, and only ks_open takes memory. A call that another caller is in the way of
- * returns KS_BUSY, KS_MOVED or KS_FAR (ks_is_later) and has done nothing; it may be made again.
+ * number. No call waits for another caller, and only ks_open and ks_open_as take memory. A call that another caller is in the
+ * way of is put off: it returns KS_BUSY, KS_MOVED or KS_FAR (ks_is_later), is not in the history and leaves the map as it was;
+ * nodes that it split stay split. It may be made again.
  *
  *     ks_caller callers[2] = {KS_NO_CALLER, KS_NO_CALLER};
  *     if (ks_open(1024, callers, 2) != KS_NOTHING) return 1;
@@ -15,16 +16,16 @@
  * The script `install` beside this file copies it under a prefix, with the libraries that a program is linked with and a
  * file for pkg-config.
  *
- * Call the functions whose names have no ks_c_. They test what can be tested: for a null pointer, a handle that is not open,
- * and a wrong number of nodes or callers they return a code and do nothing. What they cannot test, the caller ensures; each
- * function is unsafe in this much:
+ * Call the functions whose names have no ks_c_. They test what can be tested: if a pointer is null, a handle is not open (or
+ * already open, for ks_open), or a number is out of its range, they return a code and do nothing. The program ensures what
+ * they cannot test:
  *
- *   - A handle begins as KS_NO_CALLER (all bytes 0), and only these functions write it. It is not copied: of two copies
- *     one would point to what the other has freed. It may be moved while no call uses it, if the old place is forgotten.
+ *   - A handle begins as KS_NO_CALLER (all bytes 0), and only these functions write it. It is not copied: once one copy is
+ *     closed, the other points to freed memory. It may be moved while no call uses it, if the old place is not used again.
  *   - One handle is in one call at a time. It may go from thread to thread if that is ordered (by a lock, a thread's start
  *     or join, or a sequentially consistent atomic). Different handles may be in calls at the same time.
- *   - An answer, a part and the pairs of a scan are no parts of a handle or of each other, and no other thread uses them
- *     during the call. There are as many pairs as the call is told.
+ *   - An answer, a part and the pairs of a scan do not overlap a handle or each other, and no other thread uses them during
+ *     the call. There are as many handles as `count` says, and as many pairs as `room` says.
  *   - The program's malloc, realloc and free are of one allocator, as C has them. No call is made from a signal handler,
  *     nor in a child that was forked while there were several threads.
  *
@@ -68,7 +69,7 @@ typedef struct ks_pair {
 
 /* What a part of a scan returns beside its code and its pairs. */
 typedef struct ks_part {
-    ks_answer answer;   /* as of other calls; its value is not written */
+    ks_answer answer;   /* as of other calls, without a value */
     uint64_t next;      /* the key at which the next part begins; with KS_MORE */
     size_t count;       /* how many pairs are listed; with KS_NOTHING, KS_MORE */
 } ks_part;
@@ -76,15 +77,15 @@ typedef struct ks_part {
 /* How many pairs a part of a scan may have. */
 #define KS_PART 16
 
-/* The codes. With the first three, and KS_MORE, the call is one of the history; with all others it did nothing. */
+/* The codes. With the first three, and KS_MORE, a call is in the history; with all others the map is as before. */
 enum {
-    KS_NOTHING = 0,     /* done: the key had no value; a part of a scan ends at its last key; of ks_open and ks_close: done */
+    KS_NOTHING = 0,     /* done: the key had no value; the part ends at the scan's last key; of ks_open and ks_close: done */
     KS_VALUE = 1,       /* done: the key had a value */
-    KS_FULL = 2,        /* done: a put or an add found no room and no free node; the map is as before */
+    KS_FULL = 2,        /* done: a put or an add found no room for its key, and found no node free; the map is as before */
     KS_BUSY = 3,        /* another caller held a node on the search path: make the call again */
-    KS_MOVED = 4,       /* another caller changed a node on the search path: make the call again */
-    KS_FAR = 5,         /* as many nodes were taken as there are, while others changed some: make the call again */
-    KS_MORE = 6,        /* done: the part of a scan ends below the last key */
+    KS_MOVED = 4,       /* no search could later reach a node of its path, which another caller changed: make the call again */
+    KS_FAR = 5,         /* as many nodes were taken as there are, while another caller changed some: make the call again */
+    KS_MORE = 6,        /* done: the part ends below the scan's last key */
     KS_CLOSED = 16,     /* the handle is not open */
     KS_BAD_SIZE = 17,   /* not 4 to 1048576 nodes, or not 1 to 1024 callers */
     KS_NO_MEMORY = 18,  /* memory ran out */
@@ -96,12 +97,12 @@ enum {
     KS_NO_SCANS = 24    /* the structure has no scans */
 };
 
-/* The structures, and which codes put off a call. */
+/* The structures, and which codes put off a call. A del merges nodes until it needs one that another caller holds. */
 enum ks_structure {
-    KS_BLINK_TREE = 0,      /* a B-link tree: searches never restart, nodes are never merged; scans; KS_BUSY */
-    KS_GIVE_UP_TREE = 1,    /* a B+ tree by giving up: searches restart, nodes are merged; scans; KS_BUSY, KS_MOVED, KS_FAR */
-    KS_B_TREE = 2,          /* a B+ tree by lock coupling: searches hold two nodes, nodes are merged; KS_BUSY, KS_FAR */
-    KS_LINK_HASH_TABLE = 3  /* a hash table along links, for some hundred keys: nodes are never merged; KS_BUSY */
+    KS_BLINK_TREE = 0,      /* B-link tree: searches never restart, nodes are never merged; scans; KS_BUSY */
+    KS_GIVE_UP_TREE = 1,    /* B+ tree by giving up: searches may restart, nodes are merged; scans; KS_BUSY, KS_MOVED, KS_FAR */
+    KS_B_TREE = 2,          /* B+ tree by lock coupling: searches hold up to two nodes, nodes are merged; KS_BUSY, KS_FAR */
+    KS_LINK_HASH_TABLE = 3  /* hash table along links, for some hundred keys: nodes are never merged; KS_BUSY */
 };
 
 uint32_t ks_c_open(uint32_t structure, uint32_t nodes, ks_caller *callers, size_t count);
@@ -125,9 +126,10 @@ static inline int ks_is_later(uint32_t code) {
     return code == KS_BUSY || code == KS_MOVED || code == KS_FAR;
 }
 
-/* Opens an empty dictionary of a structure, with `nodes` nodes, and a handle for each of its `count` callers. A node of a
- * tree has at most 16 pairs, one of a hash table 8. Returns KS_NOTHING, KS_NULL, KS_NO_STRUCTURE, KS_BAD_SIZE, KS_IN_USE or
- * KS_NO_MEMORY; with all but the first the handles stay as they are. */
+/* Opens an empty dictionary of a structure, with `nodes` nodes, and a handle for each of its `count` callers. A leaf of a
+ * tree has at most 16 pairs, a bucket of a hash table 8. Take an eighth of the number of keys for leaves, a quarter for
+ * buckets, if keys are spread, and half as much again for inner nodes. Returns KS_NOTHING, KS_NULL, KS_NO_STRUCTURE,
+ * KS_BAD_SIZE, KS_IN_USE or KS_NO_MEMORY; with all but the first the handles stay as they are. */
 static inline uint32_t ks_open_as(enum ks_structure structure, uint32_t nodes, ks_caller *callers, size_t count) {
     return callers ? ks_c_open((uint32_t)structure, nodes, callers, count) : (uint32_t)KS_NULL;
 }
@@ -137,8 +139,8 @@ static inline uint32_t ks_open(uint32_t nodes, ks_caller *callers, size_t count)
     return ks_open_as(KS_BLINK_TREE, nodes, callers, count);
 }
 
-/* Finds the value of a key. Returns KS_NOTHING, KS_VALUE, KS_CLOSED, KS_NULL, or a code with which it is put off, as do the
- * next four. */
+/* Finds the value of a key. Like the next four it returns KS_NOTHING, KS_VALUE, KS_CLOSED, KS_NULL, or a code with which it is
+ * put off. */
 static inline uint32_t ks_get(ks_caller *caller, uint64_t key, ks_answer *answer) {
     return caller && answer ? ks_c_get(caller, key, answer) : (uint32_t)KS_NULL;
 }
@@ -164,10 +166,9 @@ static inline uint32_t ks_del(ks_caller *caller, uint64_t key, ks_answer *answer
     return caller && answer ? ks_c_del(caller, key, answer) : (uint32_t)KS_NULL;
 }
 
-/* Lists the pairs of the keys from `low` on, at most to `last`, both included, in ascending order: one part of a scan, which is
- * one call of the history. It lists just the pairs that the map has at its number, from `low` to its end: with KS_NOTHING that
- * is `last`, and with KS_MORE the key before part->next, at which the next part begins. So a scan is a row of parts, each at a
- * moment of its own:
+/* Lists one part of a scan of the keys from `low` to `last`, both included, in ascending order. Each part is one call of the
+ * history: it lists just the pairs that the map has at its number, from `low` to the end of the part. With KS_NOTHING that is
+ * `last`; with KS_MORE it is the key before part->next, at which the next part begins:
  *
  *     ks_pair pairs[KS_PART];
  *     ks_part part;
@@ -180,7 +181,7 @@ static inline uint32_t ks_del(ks_caller *caller, uint64_t key, ks_answer *answer
  *     } while (code == KS_MORE);
  *
  * `room` is how many pairs there is room for: at least KS_PART, which no part exceeds. Pairs past the listed ones stay as they
- * are, and with other codes all do. Returns KS_NOTHING, KS_MORE, KS_NULL, KS_BAD_SPAN, KS_NO_ROOM, KS_CLOSED, KS_NO_SCANS, or a
+ * are; with other codes all do. Returns KS_NOTHING, KS_MORE, KS_NULL, KS_BAD_SPAN, KS_NO_ROOM, KS_CLOSED, KS_NO_SCANS, or a
  * code with which it is put off. */
 static inline uint32_t ks_scan(ks_caller *caller, uint64_t low, uint64_t last, ks_pair *pairs, size_t room, ks_part *part) {
     return caller && pairs && part ? ks_c_scan(caller, low, last, pairs, room, part) : (uint32_t)KS_NULL;

@@ -58,7 +58,7 @@ impl Random {
         (self.0 >> 33) % limit
     }
 
-    /// Values of up to 80 bits, so that both halves tell.
+    /// Returns a value of up to 80 bits, which each half determines.
     fn value(&mut self) -> u128 {
         u128::from(self.below(4)) * ((1 << 78) + 1)
     }

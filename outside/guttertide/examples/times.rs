@@ -1,5 +1,6 @@
-//! What a call takes, with 1 to 8 threads, of each structure of trees and of a `BTreeMap` under one lock: 100,000 keys, of
-//! which half are there; of ten calls eight are gets, one is an insert and one a removal. Run it with --release.
+//! Prints the time from call to call, with 1 to 8 threads, of each structure that is a tree and of a `BTreeMap` under one lock.
+//! Of 100,000 keys half have a value at first; of ten calls eight are gets, one is an insert and one a removal. Run it with
+//! --release.
 
 use guttertide::{Dictionary, OpenError, Structure};
 use std::collections::BTreeMap;

@@ -11,7 +11,7 @@ pub enum OpenError {
     Nodes(u32),
     /// No dictionary has this number of callers: see [`CALLERS`].
     Callers(usize),
-    /// The system gave too little memory.
+    /// Memory ran out.
     OutOfMemory,
 }
 
@@ -31,9 +31,9 @@ impl fmt::Display for OpenError {
 
 impl Error for OpenError {}
 
-/// There was no room for a new key and no free node: the map is as it was before.
+/// There was no room for a new key, and no node was found free.
 ///
-/// The call counts in the history all the same, and has its [number](crate::Caller::number).
+/// The call leaves the map as it was. It is in the history all the same, and has its [number](crate::Caller::number).
 #[derive(Clone, Copy, Debug, PartialEq, Eq)]
 pub struct Full;
 
@@ -45,20 +45,23 @@ impl fmt::Display for Full {
 
 impl Error for Full {}
 
-/// Why a call was put off: another caller was in the way. The call did nothing, has no number, and may be made again.
+/// Why a call was put off: another caller was in the way.
+///
+/// The call is not in the history, has no number, and leaves the map as it was; nodes that it split stay split. It may be
+/// made again.
 #[derive(Clone, Copy, Debug, PartialEq, Eq)]
 pub enum Later {
     /// Another caller held a node on the search path.
     Busy {
-        /// The number of the node, less than that of the nodes.
+        /// The index of the node, below the number of nodes.
         node: u32,
-        /// The number of the caller that held it, less than that of the callers.
+        /// The index of the caller that held it, below the number of callers.
         holder: u32,
     },
-    /// Another caller changed a node on the search path, so that the key's place is no longer in it. Only a
-    /// [`GiveUpTree`](crate::Structure::GiveUpTree) reports it.
+    /// Another caller split or merged a node that was on the search path, and that later no search for the key could reach.
+    /// Only a [`GiveUpTree`](crate::Structure::GiveUpTree) reports it.
     Moved {
-        /// The number of the node.
+        /// The index of the node.
         node: u32,
     },
     /// The call took as many nodes as the dictionary has, while another caller changed some. Only a
@@ -81,7 +84,7 @@ impl Error for Later {}
 /// Why an insert or an add that does not wait set nothing.
 #[derive(Clone, Copy, Debug, PartialEq, Eq)]
 pub enum TryInsertError {
-    /// The call was made, and there was no room for a new key.
+    /// The call was made, and found neither room for a new key nor a free node.
     Full(Full),
     /// The call was not made, and may be made again.
     Later(Later),

@@ -1,14 +1,14 @@
-//! A handle of the library behind a safe type, and with it all unsafe code of this crate but the declarations.
+//! A handle of the library behind a safe type, with all unsafe code of this crate except the declarations.
 //!
-//! What `guttertide.h` asks of its caller, and what keeps it here:
+//! What `guttertide.h` asks of a program, and what ensures it here:
 //!
 //! - A handle begins as null, only the library writes it, and nobody copies it: `Handle` is not `Clone`, and its field
-//!   is private to this file. To move one forgets the old place.
+//!   is private to this file. A move leaves the old place unused.
 //! - A handle is in one call at a time: a call, and the drop, has it by `&mut`.
-//! - It passes from thread to thread in an order: whatever way safe code sends a value, all that the sender did with it
-//!   happens before what the receiver does, as by a lock.
-//! - An answer, a part and the pairs of a scan are no parts of a handle or of each other, and no other thread has them
-//!   during the call: a call has each by a `&mut` of its own. The number of pairs is that of an array of them.
+//! - It passes from thread to thread in an order: however safe code sends a value, all that the sender did with it happens
+//!   before what the receiver does, as by a lock.
+//! - An answer, a part and the pairs of a scan do not overlap a handle or each other, and no other thread has them during
+//!   the call: a call has each by a `&mut` of its own. The number of pairs is that of an array of them.
 //! - No pointer is null, and each is aligned: they are made from references.
 //! - The number of handles is that of a slice of them.
 //! - `malloc`, `realloc` and `free` are of one allocator; no call is made from a signal handler, nor in a child
@@ -27,7 +27,7 @@ pub(crate) enum Call {
     Remove { key: u64 },
 }
 
-/// One caller of a dictionary, or none. To drop it closes it.
+/// One caller of a dictionary, or none. Dropping it closes it.
 #[repr(transparent)]
 #[derive(Debug)]
 pub(crate) struct Handle(ks_caller);
@@ -36,19 +36,19 @@ pub(crate) struct Handle(ks_caller);
 unsafe impl Send for Handle {}
 
 impl Handle {
-    /// A handle behind which there is no caller.
+    /// Returns a handle that is not open.
     pub(crate) const fn closed() -> Handle {
         Handle(raw::KS_NO_CALLER)
     }
 
-    /// Opens a dictionary of this structure and number of nodes, whose callers these handles get. The code is the
-    /// library's.
+    /// Opens a dictionary of this structure and number of nodes, with a caller for each of these handles. Returns the
+    /// library's code.
     pub(crate) fn open(structure: u32, nodes: u32, handles: &mut [Handle]) -> u32 {
         // SAFETY: `Handle` is a `ks_caller` in memory, and the slice has this number of them, which nobody else has.
         unsafe { raw::ks_c_open(structure, nodes, handles.as_mut_ptr().cast::<ks_caller>(), handles.len()) }
     }
 
-    /// Makes a call once. The code is the library's.
+    /// Makes a call once. Returns the library's code.
     pub(crate) fn call(&mut self, call: Call, answer: &mut ks_answer) -> u32 {
         let at = &mut self.0;
         // SAFETY: nobody else has the handle or the answer during the call. It is one that the library wrote, or null.
@@ -67,7 +67,7 @@ impl Handle {
 }
 
 impl Handle {
-    /// Lists a part of a scan once. The code is the library's.
+    /// Lists a part of a scan once. Returns the library's code.
     pub(crate) fn scan(&mut self, low: u64, last: u64, pairs: &mut [ks_pair; KS_PART], part: &mut ks_part) -> u32 {
         // SAFETY: nobody else has the handle, the pairs or the part during the call. The handle is one that the library
         // wrote, or null, and the array has this number of pairs.

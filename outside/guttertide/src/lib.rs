@@ -2,13 +2,12 @@
 //!
 //! It is a B-link tree, or another [`Structure`], over a fixed number of nodes. The library behind it is proved: all calls
 //! of all callers are one history of one map, in which each call occurs once, each caller's in their order, and each
-//! replies with the value that its key had just before it. No caller ever holds the whole map, and no call takes
-//! memory but [`Dictionary::open`] and [`Dictionary::open_as`]. What is proved is the library; this crate is a front of it
-//! in Rust, which is tested. Tested, and not proved, is also that a call comes after each call of another caller that
-//! returned before it began.
+//! replies with the value that its key had just before it. A call holds at most three nodes at a time, and no call takes
+//! memory but [`Dictionary::open`] and [`Dictionary::open_as`]. This crate, a front of the library in Rust, is tested, and not
+//! proved. So is order in time: a call comes after each call of another caller that returned before it began.
 //!
-//! The keys of a span are listed in order by a [scan](Caller::scan), part by part: each part is one call of the history, and so
-//! the map at one moment from its first key to its last.
+//! If the structure [has scans](Structure::has_scans), a [scan](Caller::scan) lists the pairs of a span of keys in order,
+//! part by part. Each part is one call of the history, and so the map at one moment from its first key to its last.
 //!
 //! A thread makes its calls through a [`Caller`] of its own.
 //!
@@ -37,16 +36,16 @@
 //!
 //! # Waiting
 //!
-//! A call that is put off, since another caller was in the way, has done nothing, and is made again: at first almost at
-//! once, and if it has failed seven times after sleeps of 50 microseconds, since a caller that holds a node that long may
-//! itself wait for a processor. The calls that begin with `try_` do not wait: they report why they were put off
-//! ([`Later`]).
+//! A call that another caller is in the way of is put off: it is not in the history, and leaves the map as it was. It is
+//! made again: after each of its first seven failures almost at once, and after each later one when the thread has slept for
+//! 50 microseconds, since a caller that holds a node that long may itself wait for a processor. The calls that begin with
+//! `try_` are made once and do not wait: they report why they were put off ([`Later`]).
 //!
 //! # Unsafe code
 //!
-//! What the library asks of its users (`guttertide.h` of the repository says it) cannot be broken by safe code over this crate.
-//! Unsafe code of a program must leave `malloc` and `free` as they are, and make no call from a signal handler, nor in
-//! a child that it forked while there were several threads.
+//! Safe code over this crate cannot break what the library asks of its users (`guttertide.h` of the repository says it).
+//! Unsafe code of a program must keep `malloc`, `realloc` and `free` of one allocator, and make no call from a signal
+//! handler, nor in a child that it forked while there were several threads.
 
 mod errors;
 mod handle;
@@ -63,13 +62,13 @@ use std::sync::{Arc, Mutex, MutexGuard, PoisonError};
 use std::thread;
 use std::time::Duration;
 
-/// How many nodes a dictionary may have.
+/// The numbers of nodes that a dictionary may have.
 pub const NODES: RangeInclusive<u32> = 4..=1_048_576;
 
-/// How many callers a dictionary may have.
+/// The numbers of callers that a dictionary may have.
 pub const CALLERS: RangeInclusive<usize> = 1..=1024;
 
-/// What a dictionary is made of. All have the same calls, but not all have scans.
+/// The structure of a dictionary. All have the same calls, except that only two have scans.
 ///
 /// ```
 /// use guttertide::{Dictionary, Structure};
@@ -88,11 +87,12 @@ pub enum Structure {
     #[default]
     BLinkTree,
     /// A B+ tree by giving up: searches hold one node at a time, and restart if another caller moved their key away.
-    /// Nodes are merged as keys are removed.
+    /// Nodes are merged as keys are removed, unless another caller holds them.
     GiveUpTree,
-    /// A B+ tree by lock coupling: a search holds a node until it holds the next. Nodes are merged as keys are removed.
+    /// A B+ tree by lock coupling: a search holds a node until it holds the next. Nodes are merged as keys are removed,
+    /// unless another caller holds them.
     BTree,
-    /// A hash table along links, for some hundred keys: with more its searches get longer. A node has at most 8 keys.
+    /// A hash table along links, for some hundred keys: with more its searches get longer. Nodes are never merged.
     LinkHashTable,
 }
 
@@ -101,7 +101,7 @@ impl Structure {
     pub const ALL: [Structure; 4] =
         [Structure::BLinkTree, Structure::GiveUpTree, Structure::BTree, Structure::LinkHashTable];
 
-    /// Whether a dictionary of this structure has scans.
+    /// Returns whether a dictionary of this structure has scans.
     ///
     /// ```
     /// use guttertide::Structure;
@@ -126,7 +126,7 @@ impl Structure {
 
 /// A dictionary, which hands out its callers.
 ///
-/// Its memory is given back when it and all its callers are dropped.
+/// Its memory is freed when it and all its callers are dropped.
 #[derive(Debug)]
 pub struct Dictionary {
     free: Arc<FreeHandles>,
@@ -135,13 +135,16 @@ pub struct Dictionary {
 impl Dictionary {
     /// Opens an empty B-link tree of `nodes` nodes ([`NODES`]), for at most `callers` callers at a time ([`CALLERS`]).
     ///
-    /// All memory that it will use is taken now, some 600 bytes a node. A node holds at most 16 keys, and after inserts
-    /// in any order at least 8, so a fifth of the number of keys is enough nodes. A node that has been used stays in
-    /// use, though its keys are removed.
+    /// It takes all memory that the tree will use, some 660 bytes a node (`docs/COSTS.md` of the repository, "A start"). A leaf
+    /// holds at most 16 pairs, and after inserts in any order at least 8, unless it is the only one. So take an eighth of the
+    /// number of keys for the leaves, and half as much again for inner nodes. A node that has been used stays in use, though
+    /// its keys are removed.
     ///
     /// # Errors
     ///
-    /// If one of the numbers is out of its range, or memory runs out.
+    /// [`OpenError`] if one of the numbers is out of its range, or memory runs out.
+    ///
+    /// # Examples
     ///
     /// ```
     /// use guttertide::{Dictionary, OpenError};
@@ -156,11 +159,14 @@ impl Dictionary {
 
     /// Opens an empty dictionary of a structure, as [`open`](Dictionary::open).
     ///
-    /// Of a tree a fifth of the number of keys is enough nodes; of a hash table a third, if keys are spread.
+    /// For a hash table take a quarter of the number of keys for the buckets in place of the leaves. A bucket holds at most 8
+    /// pairs, and on average at least half as many if keys are spread.
     ///
     /// # Errors
     ///
     /// As of [`open`](Dictionary::open).
+    ///
+    /// # Examples
     ///
     /// ```
     /// use guttertide::{Dictionary, Structure};
@@ -183,7 +189,7 @@ impl Dictionary {
         }
     }
 
-    /// Hands out a caller, or `None` where all are out. One that is dropped may be handed out again.
+    /// Hands out a caller, or returns `None` if all are out. One that is dropped may be handed out again.
     ///
     /// A caller may outlive the `Dictionary`.
     ///
@@ -214,11 +220,11 @@ impl FreeHandles {
     }
 }
 
-/// One caller of a dictionary: it may go to another thread, and makes one call at a time.
+/// One caller of a dictionary, which makes one call at a time.
 ///
-/// Each call replies with the value that its key had just before it, and `None` is that it had none.
+/// Each call at a key replies with the value that the key had just before it, or `None` if it had none.
 ///
-/// A caller is sent to a thread, and not shared between two:
+/// A caller may be sent to another thread, and is not shared between two:
 ///
 /// ```compile_fail,E0277
 /// # let dictionary = guttertide::Dictionary::open(64, 2).unwrap();
@@ -242,11 +248,11 @@ pub struct Caller {
     free: Arc<FreeHandles>,
 }
 
-/// What a call that was made replies with.
+/// The reply of a call that was made.
 type Reply = Result<Option<u128>, Full>;
 
 impl Caller {
-    /// The value of a key.
+    /// Returns the value of a key.
     ///
     /// ```
     /// # let dictionary = guttertide::Dictionary::open(64, 1).unwrap();
@@ -264,7 +270,9 @@ impl Caller {
     ///
     /// # Errors
     ///
-    /// [`Full`] where the key is new and no node is free for it.
+    /// [`Full`] if the key has no value, there is no room for it, and no node was found free.
+    ///
+    /// # Examples
     ///
     /// ```
     /// # let dictionary = guttertide::Dictionary::open(64, 1).unwrap();
@@ -281,7 +289,9 @@ impl Caller {
     ///
     /// # Errors
     ///
-    /// [`Full`] where the key is new and no node is free for it.
+    /// As of [`insert`](Caller::insert).
+    ///
+    /// # Examples
     ///
     /// ```
     /// # let dictionary = guttertide::Dictionary::open(64, 1).unwrap();
@@ -295,8 +305,9 @@ impl Caller {
         self.wait(Call::Add { key, value })
     }
 
-    /// Sets the value of a key to `new` if and only if it is `old`. The reply is the value that the key had: it was
-    /// replaced if and only if that is `Some(old)`.
+    /// Sets the value of a key to `new` if and only if it is `old`.
+    ///
+    /// The reply is the value that the key had: it was replaced if and only if that is `Some(old)`.
     ///
     /// ```
     /// # let dictionary = guttertide::Dictionary::open(64, 1).unwrap();
@@ -332,6 +343,8 @@ impl Caller {
     ///
     /// [`Later`] if another caller was in the way.
     ///
+    /// # Examples
+    ///
     /// ```
     /// # let dictionary = guttertide::Dictionary::open(64, 1).unwrap();
     /// # let mut caller = dictionary.caller().unwrap();
@@ -349,8 +362,10 @@ impl Caller {
     ///
     /// # Errors
     ///
-    /// [`TryInsertError::Later`] if another caller was in the way, and [`TryInsertError::Full`] if the call was made, the
-    /// key is new and no node is free for it.
+    /// [`TryInsertError::Later`] if another caller was in the way, and [`TryInsertError::Full`] as of
+    /// [`insert`](Caller::insert).
+    ///
+    /// # Examples
     ///
     /// ```
     /// use guttertide::TryInsertError;
@@ -394,9 +409,10 @@ impl Caller {
         self.attempt(Call::Remove { key }).map(never_full)
     }
 
-    /// The number of the last call that was made through this value, or `None` before the first: how many calls are
-    /// before it in the one history of all callers of the dictionary. A call that is [`Full`] has a number, one that is
-    /// put off ([`Later`]) has none.
+    /// Returns the number of the last call that was made through this value, or `None` before the first.
+    ///
+    /// It is how many calls are before that one in the history of all callers of the dictionary. A call that is [`Full`] has
+    /// a number; one that is put off ([`Later`]) has none.
     ///
     /// ```
     /// # let dictionary = guttertide::Dictionary::open(64, 2).unwrap();
@@ -429,7 +445,7 @@ impl Caller {
     }
 }
 
-/// Gives the handle back to the dictionary.
+/// Returns the handle to the dictionary.
 impl Drop for Caller {
     fn drop(&mut self) {
         let handle = mem::replace(&mut self.handle, Handle::closed());
@@ -437,7 +453,7 @@ impl Drop for Caller {
     }
 }
 
-/// Tries until it is not put off.
+/// Makes a call until it is not put off.
 fn until_done<T>(mut attempt: impl FnMut() -> Result<T, Later>) -> T {
     let mut failed = 0;
     loop {
@@ -459,7 +475,7 @@ fn later(code: u32, answer: &raw::ks_answer) -> Later {
     }
 }
 
-/// Passes some time, the more the more often a call has failed.
+/// Spins, longer after each failure, and from the eighth on sleeps for 50 microseconds.
 fn pause(failed: u64) {
     match failed {
         0..7 => (0..1 << failed).for_each(|_| hint::spin_loop()),
@@ -476,7 +492,7 @@ fn never_full(reply: Reply) -> Option<u128> {
     reply.unwrap_or_else(|Full| unexpected(raw::KS_FULL))
 }
 
-/// Ends a call for which the library returned a code that it never returns for such a call.
+/// Panics, since the library returned a code that it never returns for such a call.
 fn unexpected(code: u32) -> ! {
     panic!("the library returned the code {code}, which guttertide.h does not have for this call")
 }

@@ -1,11 +1,12 @@
-//! What the header `guttertide.h` declares: its types, its codes and the functions of the library. The header says what each
-//! function does and what its caller must keep.
+//! What the header `guttertide.h` declares: its types, its codes and the functions of the library.
+//!
+//! The header says what each function does and what a program must ensure.
 
 #![allow(non_camel_case_types, missing_docs)]
 
 use std::ffi::c_void;
 
-/// A handle: one caller of a dictionary, or none where the pointer is null.
+/// A handle: one caller of a dictionary, or none if the pointer is null.
 #[repr(C)]
 #[derive(Debug)]
 pub struct ks_caller {

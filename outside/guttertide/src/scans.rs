@@ -15,17 +15,17 @@ pub struct Part {
 }
 
 impl Part {
-    /// The number of the call: how many calls are before it in the one history of all callers.
+    /// Returns the [number](Caller::number) of the call.
     pub fn number(&self) -> u64 {
         self.number
     }
 
-    /// The keys that the part covers, with and without a value.
+    /// Returns the span of keys that the part covers, with and without a value.
     pub fn keys(&self) -> RangeInclusive<u64> {
         self.low..=self.last
     }
 
-    /// The pairs, at most 16, in ascending order of their keys.
+    /// Returns the pairs, at most 16, in ascending order of their keys.
     pub fn pairs(&self) -> impl DoubleEndedIterator<Item = (u64, u128)> + ExactSizeIterator + '_ {
         self.pairs[..self.count].iter().map(pair_of)
     }
@@ -40,10 +40,10 @@ fn pair_of(pair: &ks_pair) -> (u64, u128) {
     (pair.key, whole(pair.value))
 }
 
-/// The parts of a scan, in ascending order: each begins right after the keys that the one before it covers.
+/// The parts of a scan, in ascending order, which [`Caller::parts`] returns.
 ///
-/// Each part is one call. Other callers' calls may come between two parts, so all of them together are no picture of one
-/// moment. [`Caller::parts`] makes one.
+/// Each part begins right after the keys that the one before it covers. Calls of other callers may come between two parts, so
+/// the whole scan is no snapshot.
 #[derive(Debug)]
 pub struct Parts<'a> {
     caller: &'a mut Caller,
@@ -52,11 +52,13 @@ pub struct Parts<'a> {
 }
 
 impl Parts<'_> {
-    /// The next part, or `None` after the last, without waiting.
+    /// Returns the next part without waiting, or `None` after the last.
     ///
     /// # Errors
     ///
     /// [`Later`] if another caller was in the way: the part may be asked for again.
+    ///
+    /// # Examples
     ///
     /// ```
     /// # let dictionary = guttertide::Dictionary::open(64, 1).unwrap();
@@ -86,7 +88,7 @@ impl Iterator for Parts<'_> {
     }
 }
 
-/// The pairs of a scan, in ascending order of their keys. [`Caller::scan`] makes one.
+/// The pairs of a scan, in ascending order of their keys, which [`Caller::scan`] returns.
 #[derive(Debug)]
 pub struct Scan<'a> {
     parts: Parts<'a>,
@@ -111,15 +113,16 @@ impl Iterator for Scan<'_> {
 
 /// Scans. A B-link tree and a tree by giving up have them: see [`Structure::has_scans`](crate::Structure::has_scans).
 impl Caller {
-    /// The pairs of a span of keys, in ascending order.
+    /// Returns the pairs of a span of keys, in ascending order.
     ///
-    /// It lists part by part, as [`parts`](Caller::parts) does, when a pair is asked for. Each part is the map at one moment;
-    /// other callers' calls may come between two parts. So a key that has a value all the while is listed, with a value that
-    /// it had meanwhile; one that has none all the while is not.
+    /// It lists the next of the [`parts`](Caller::parts) when a pair of it is asked for. So a key that has a value all the
+    /// while is listed, with a value that it had meanwhile; one that has none all the while is not.
     ///
     /// # Errors
     ///
-    /// If the structure has no scans.
+    /// [`NoScans`] if the structure has no scans.
+    ///
+    /// # Examples
     ///
     /// ```
     /// let dictionary = guttertide::Dictionary::open(64, 1)?;
@@ -136,14 +139,16 @@ impl Caller {
         Ok(Scan { parts: self.parts(keys)?, part: None, at: 0 })
     }
 
-    /// The parts of a scan of a span of keys, in ascending order.
+    /// Returns the parts of a scan of a span of keys, in ascending order.
     ///
-    /// Each part is one call of the history, with a [number](Part::number) of its own, and has just the pairs that the map has
+    /// Each part is one call of the history, with a [number](Part::number) of its own. It has just the pairs that the map has
     /// then at the [keys](Part::keys) that it covers.
     ///
     /// # Errors
     ///
-    /// If the structure has no scans.
+    /// [`NoScans`] if the structure has no scans.
+    ///
+    /// # Examples
     ///
     /// ```
     /// # let dictionary = guttertide::Dictionary::open(64, 1)?;
@@ -163,11 +168,13 @@ impl Caller {
         }
     }
 
-    /// The pair of the least key of a span that a scan of it lists, or `None` if it lists none.
+    /// Returns the first pair that a scan of a span lists, or `None` if it lists none.
     ///
     /// # Errors
     ///
-    /// If the structure has no scans.
+    /// [`NoScans`] if the structure has no scans.
+    ///
+    /// # Examples
     ///
     /// ```
     /// # let dictionary = guttertide::Dictionary::open(64, 1)?;
@@ -182,12 +189,15 @@ impl Caller {
         Ok(self.scan(keys)?.next())
     }
 
-    /// The pair of the greatest key of a span that a scan of it lists, or `None` if it lists none. It lists the whole span,
-    /// from the least key on.
+    /// Returns the last pair that a scan of a span lists, or `None` if it lists none.
+    ///
+    /// It lists the whole span, from the least key on.
     ///
     /// # Errors
     ///
-    /// If the structure has no scans.
+    /// [`NoScans`] if the structure has no scans.
+    ///
+    /// # Examples
     ///
     /// ```
     /// # let dictionary = guttertide::Dictionary::open(64, 1)?;
@@ -202,11 +212,13 @@ impl Caller {
         Ok(self.scan(keys)?.last())
     }
 
-    /// The pair of the least key above a key that a scan lists, or `None` if it lists none.
+    /// Returns the first pair that a scan of the keys above a key lists, or `None` if it lists none.
     ///
     /// # Errors
     ///
-    /// If the structure has no scans.
+    /// [`NoScans`] if the structure has no scans.
+    ///
+    /// # Examples
     ///
     /// ```
     /// # let dictionary = guttertide::Dictionary::open(64, 1)?;

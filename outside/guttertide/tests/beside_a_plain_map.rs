@@ -85,7 +85,7 @@ fn calls(seed: u64, keys: u64) -> impl Iterator<Item = Call> {
         state = state.wrapping_mul(6364136223846793005).wrapping_add(1442695040888963407);
         (state >> 33) % below
     };
-    // Both halves of a value tell which it is, and few values make replacing likely.
+    // Each half of a value says which it is, and few values make replacing likely.
     let value = |drawn: u64| u128::from(drawn) * ((1 << 100) + 1);
     std::iter::repeat_with(move || {
         let key = draw(keys);
@@ -136,7 +136,7 @@ fn replay(threads: Vec<Vec<Made>>) -> (Plain, usize) {
     (plain, full)
 }
 
-/// Asks for each key whether it is in the dictionary as in the plain map.
+/// Checks that each key has the same in the dictionary as in the plain map.
 fn assert_same(dictionary: &Dictionary, plain: &Plain, keys: u64) {
     let mut caller = dictionary.caller().expect("the callers have come back");
     for key in 0..keys {

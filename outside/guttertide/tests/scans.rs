@@ -18,7 +18,7 @@ impl Random {
         (self.0 >> 33) % limit
     }
 
-    /// A value of which both halves tell.
+    /// Returns a value that each half determines.
     fn value(&mut self) -> u128 {
         u128::from(self.below(1000)) * ((1 << 100) + 1)
     }
@@ -44,7 +44,7 @@ impl Made {
         }
     }
 
-    /// Makes the change on a plain map, or looks whether the part is of it.
+    /// Makes the change on a plain map, or checks that the part is of it.
     fn on(self, plain: &mut Plain) {
         match self {
             Made::Inserted(_, key, value) => {
