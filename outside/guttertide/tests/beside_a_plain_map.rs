@@ -230,12 +230,12 @@ fn a_full_dictionary_stays_as_it_is() -> Result<(), OpenError> {
 }
 
 #[test]
-fn a_fifth_of_the_keys_is_enough_nodes() -> Result<(), OpenError> {
+fn an_eighth_of_the_keys_and_half_as_much_again_are_enough_nodes() -> Result<(), OpenError> {
     const KEYS: u64 = 10_000;
     // The factor is odd, and so 16384 different keys come in an order that goes up and down.
     let orders: [fn(u64) -> u64; 3] = [|at| at, |at| KEYS - at, |at| at * 6361 % 16384];
     for order in orders {
-        let dictionary = Dictionary::open(2000, 1)?;
+        let dictionary = Dictionary::open((KEYS / 8 + KEYS / 16) as u32, 1)?;
         let mut caller = dictionary.caller().expect("it has one");
         assert!((0..KEYS).all(|at| caller.insert(order(at), at.into()) == Ok(None)));
         assert!((0..KEYS).all(|at| caller.get(order(at)) == Some(at.into())));
