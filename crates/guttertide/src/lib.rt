@@ -1,8 +1,11 @@
 //! The library under one name: what a program over a dictionary uses, from the crates in which it is defined.
 //!
 //! A dictionary is a `Dictionary<N, T>` over nodes of type `N`, by a technique `T`. Each pairing of the two has a name
-//! here, and so has a pass of each. All have the same calls with the same clauses, so a program changes its structure
-//! by changing the name. `specs/Words.antt` passes on the words of these clauses.
+//! here, and so has a pass of each. All have the five calls and their `try_` forms, with the same clauses: a program that
+//! makes no others changes its structure by changing the name. `specs/Words.antt` passes on the words of these clauses.
+//!
+//! The other calls depend on the pairing: `compact` is there by lock coupling and by giving up, calls with a guide and from
+//! a hint by giving up and along links, ordered scans for `GiveUpTree` and `BLinkTree`, and moves by giving up.
 #![tactic(auto)]
 
 pub use ks_arena::{Arena, Note, Pass};
@@ -36,8 +39,8 @@ pub type BTree = Dictionary<Boxed<BNode>, Coupling>;
 /// A pass of a `BTree`.
 pub type BTreePass = PassOf<Boxed<BNode>, Coupling>;
 
-/// A B+ tree whose searches hold one node at a time, and restart if another caller moved their key away: take it for
-/// many callers, if nodes are to be merged as keys are deleted.
+/// A B+ tree whose searches hold one node at a time, and restart if the next node is free or its range lacks their key: take
+/// it for many callers, if nodes are to be merged as keys are deleted.
 pub type GiveUpTree = Dictionary<Boxed<WithRange<BNode>>, GiveUp>;
 
 /// A pass of a `GiveUpTree`.
@@ -77,14 +80,14 @@ pub type SortedList = Dictionary<ListNode, Coupling>;
 pub type SortedListPass = PassOf<ListNode, Coupling>;
 
 /// A sorted list whose searches hold one node at a time, and restart as those of a `GiveUpTree`: take it for few keys, if
-/// no caller is to hold a node while it waits for the next.
+/// no search is to hold a node while it waits for the next. Calls that split or merge nodes do.
 pub type GiveUpList = Dictionary<Boxed<WithRange<ListNode>>, GiveUp>;
 
 /// A pass of a `GiveUpList`.
 pub type GiveUpListPass = PassOf<Boxed<WithRange<ListNode>>, GiveUp>;
 
-/// A binary search tree by lock coupling, each node of which has two pairs or two children: take a `BTree` instead, which
-/// is faster and smaller. This one shows that a tree of another shape has the same contracts.
+/// A binary search tree by lock coupling, each node of which has at most two pairs or two children: take a `BTree` instead,
+/// which is faster and smaller. This one shows that a tree of another shape has the same contracts.
 pub type BinaryTree = Dictionary<Boxed<TNode>, Coupling>;
 
 /// A pass of a `BinaryTree`.

@@ -39,7 +39,7 @@ RefusedAt text bytes (suc n) = (length bytes ≤ limit_of text) × FirstBadOf te
 abbrev pub IsReadWith : ℕ → ℕ → Type 0
 IsReadWith status line = (status ≢ SOURCE_FAILED) × (status ≢ NO_MEMORY) × (status ≡ REFUSED → line ≢ 0)
 
--- the bytes are the text of this script
+-- the bytes are the text of this script, and not too many
 pub record Accepts (bytes : List ℕ) (script : List (List Line)) : Type 0 where
   pub within : length bytes ≤ limit_of Script
   pub reads : ScriptOf bytes script
@@ -69,7 +69,7 @@ pub record Prints (place : ℕ → ℕ) (bytes : List ℕ) (h : List Event) (Too
 abbrev pub PrintsRun : (ℕ → ℕ) → Option (List ℕ) → Option (List Event) → (List ℕ → Type 0) → Type 0
 PrintsRun place left run Took = IfSome left (λ bytes. IfSome run (λ h. Prints place bytes h Took))
 
--- the bytes are the text of this script and this run
+-- the bytes are the text of this script and this run, and not too many
 pub record AcceptsChecked (bytes : List ℕ) (script : List (List Line)) (run : Run) : Type 0 where
   pub within : length bytes ≤ limit_of Checked
   pub reads : CheckedOf bytes script run

@@ -10,7 +10,8 @@ use Rattle.ks_batch.specs.declared.words.Text.TheVariants.{Script}
 use Rattle.ks_batch.specs.declared.status.TheConstants.{REFUSED, SOURCE_FAILED, NO_MEMORY}
 use Rattle.ks_batch.specs.Serve.{RefusedAt, UnfitAt, FirstBadOf}
 
--- the cause of a stop: the bytes, if they are known, or that the source's count of faults rose
+-- the cause of a stop: a line at which the bytes, if they are known, are refused; or that the source's count of faults rose;
+-- if memory ran out nothing is said
 abbrev pub IsCause : Stop → Text → Option (List ℕ) → Type 0 → Type 0
 IsCause (Refused n) text left rose = IfSome left (λ bytes. RefusedAt text bytes n)
 IsCause Source text left rose = rose
@@ -28,18 +29,19 @@ ReadToEnd (Refused n) left after = n ≢ 0 → IfSome left (λ _. after ≡ Some
 ReadToEnd Source left after = Unit {0}
 ReadToEnd Memory left after = Unit {0}
 
--- the status and the line with which the program ends
+-- the status and the line with which the program ends after the stop
 abbrev pub IsUnread : Stop → ℕ → ℕ → Type 0
 IsUnread (Refused n) status line = (status ≡ REFUSED) × (line ≡ n)
 IsUnread Source status line = (status ≡ SOURCE_FAILED) × (line ≡ 0)
 IsUnread Memory status line = (status ≡ NO_MEMORY) × (line ≡ 0)
 
--- why a script is not served: it is not read, for this cause, or the pairing does not serve its line n
+-- why a script is not served: for the cause of a stop, or since the bytes, if they are known, have line n as the first that
+-- the pairing does not serve
 abbrev pub IsHaltCause : Pairing → Halt → Option (List ℕ) → Type 0 → Type 0
 IsHaltCause pairing (Unread stop) left rose = IsCause stop Script left rose
 IsHaltCause pairing (Unfit n) left rose = IfSome left (λ bytes. UnfitAt pairing bytes n)
 
--- a line that is not served is the only such, if the bytes are known
+-- if a line is not served and the bytes are known, no other line is the first such
 abbrev pub IsOneHalt : Pairing → Halt → Option (List ℕ) → Type 0
 IsOneHalt pairing (Unread stop) left = Unit {0}
 IsOneHalt pairing (Unfit n) left = IfSome left (λ bytes. (m : ℕ) → UnfitAt pairing bytes m → n ≡ m)

@@ -23,8 +23,8 @@ run_words pairing arena = codes "run" ∷ (row_of pairing).nodes ∷ (row_of pai
 abbrev pub hinted_words : Pairing → ℕ → List (List ℕ)
 hinted_words pairing arena = codes "hinted" ∷ (row_of pairing).nodes ∷ (row_of pairing).template ∷ decimal arena ∷ []
 
--- the words are those of the command: to serve a script has the number of workers for its last word, or, if they are 64, no
--- such word; with hints it always has one
+-- the words are those of the command; in that to serve a script the last one is the number of workers, and only if they are
+-- 64 and there are no hints it may be missing
 abbrev pub AreWords : List (List ℕ) → Asked → Type 0
 AreWords words (Run pairing arena workers Guides) =
     (words ≡ run_words pairing arena ++ decimal workers ∷ []) ⊎ ((words ≡ run_words pairing arena) × (workers ≡ 64))
@@ -52,8 +52,8 @@ pub record Spells (words : List (List ℕ)) (asked : Asked) : Type 0 where
   pub is : AreWords words asked
   pub limits : InLimits asked
 
--- the words ask to serve a script by the pairing, over an arena of this number of nodes, by however many workers, with hints
--- or without
+-- the words ask to serve a script by the pairing, over an arena of this number of nodes, with any number of workers, with
+-- hints or without
 abbrev pub AsksToRun : List (List ℕ) → Pairing → ℕ → Type 0
 AsksToRun words pairing arena = (workers : ℕ) × (aiding : Aiding) × Spells words (Run pairing arena workers aiding)
 
@@ -66,7 +66,7 @@ abbrev pub Asks : List (List ℕ) → Text → Type 0
 Asks words Script = (pairing : Pairing) × (arena : ℕ) × AsksToRun words pairing arena
 Asks words Checked = Spells words Check
 
--- the words are a command to make a script
+-- the words are a command to make a script and serve it
 abbrev pub IsMake : List (List ℕ) → Type 0
 IsMake words = (pairing : Pairing) × (arena : ℕ) × (draft : Draft) × Spells words (Make pairing arena draft)
 

@@ -16,18 +16,18 @@ use ks_script::{
 };
 use std::alloc::Global;
 
-/// Why an input is not used.
+/// Why an input is not used: what functions that read it return as an error.
 #[derive(Clone, Copy, Debug, PartialEq, Eq)]
 pub enum Stop {
     /// The input is refused at this line, or, at line 0, for its length.
     Refused { line: u64 },
     /// The source failed.
     Source,
-    /// Memory ran out.
+    /// Memory ran out, in reading or later.
     Memory,
 }
 
-/// How many bytes the text may have.
+/// How many bytes the text may have at most.
 fn limit(text: Text) -> u64
     ensures { result ≡ limit_of text }
 {
@@ -37,7 +37,11 @@ fn limit(text: Text) -> u64
     }
 }
 
-/// All bytes of the source, as many as the text may have.
+/// Reads all bytes of the source.
+///
+/// # Errors
+///
+/// `Refused` with line 0 if they are more than the text may have. `Source` if the source failed. `Memory` if memory ran out.
 fn input<S: Source>(alloc: Global, source: &mut S, text: Text) -> Result<Vec<u8>, Stop>
     ensures ok { IfOk result (λ read. IfSome (S.left source.old) (λ bytes. read.items ≡ bytes)) }
     ensures within { IfOk result (λ read. length read.items ≤ limit_of text) }
@@ -55,6 +59,10 @@ fn input<S: Source>(alloc: Global, source: &mut S, text: Text) -> Result<Vec<u8>
 }
 
 /// The script that the bytes spell.
+///
+/// # Errors
+///
+/// `Refused` with the first line that does not fit. `Memory` if memory ran out.
 fn script(alloc: Global, bytes: &[u8]) -> Result<Script, Stop>
     ensures accepted { IfOk result (λ script. ScriptOf bytes.now script) }
     ensures refused { IfErr result (λ stop. IsRefusal stop text.Script bytes.now) }
@@ -67,6 +75,10 @@ fn script(alloc: Global, bytes: &[u8]) -> Result<Script, Stop>
 }
 
 /// The script and the run that the bytes spell.
+///
+/// # Errors
+///
+/// `Refused` with the first line that does not fit. `Memory` if memory ran out.
 fn checked(alloc: Global, bytes: &[u8]) -> Result<(Script, Printed), Stop>
     ensures accepted { IfOk result (λ x. CheckedOf bytes.now x.0 x.1) }
     ensures refused { IfErr result (λ stop. IsRefusal stop text.Checked bytes.now) }
@@ -78,7 +90,12 @@ fn checked(alloc: Global, bytes: &[u8]) -> Result<(Script, Printed), Stop>
     }
 }
 
-/// Reads a script from the source.
+/// Reads a script, of any version, from the source, to the end of the source.
+///
+/// # Errors
+///
+/// `Refused` with the first line that does not fit: then the source was read to its end. `Refused` with line 0 if there are
+/// more bytes than a script may have. `Source` if the source failed. `Memory` if memory ran out.
 pub fn load<S: Source>(alloc: Global, source: &mut S) -> Result<Script, Stop>
     ensures ok { IfOk result (λ script. IfSome (S.left source.old) (λ bytes. Accepts bytes script)) }
     ensures is { IfOk result (λ script. (version : Version) × IsScript version script) }
@@ -92,7 +109,12 @@ pub fn load<S: Source>(alloc: Global, source: &mut S) -> Result<Script, Stop>
     script(alloc, &bytes)
 }
 
-/// Reads a script and a run of it from the source.
+/// Reads a script and a run of it from the source, to the end of the source. Each line of the script has an answer in the
+/// run.
+///
+/// # Errors
+///
+/// As for `load`.
 pub fn load_checked<S: Source>(alloc: Global, source: &mut S) -> Result<(Script, Printed), Stop>
     ensures ok { IfOk result (λ x. IfSome (S.left source.old) (λ bytes. AcceptsChecked bytes x.0 x.1)) }
     ensures answered { IfOk result (λ x. AreAnswered x.0 x.1.callers) }

@@ -11,7 +11,11 @@ use ks_judge::{Judged, judge};
 use ks_script::Source;
 use std::alloc::Global;
 
-/// The judgment of the script and the run on the source.
+/// Reads a script and a run of it from the source, and judges the run.
+///
+/// # Errors
+///
+/// As for `load_checked`, and `Memory` if memory runs out while the run is judged.
 pub fn judged<S: Source>(alloc: Global, source: &mut S) -> Result<Judged, Stop>
     ensures ok { IfOk result (λ judged. IfSome (S.left source.old) (λ bytes. Judges bytes judged)) }
     ensures end { OnOk result (IfSome (S.left source.old) (λ _. S.left source.new ≡ Some [])) }

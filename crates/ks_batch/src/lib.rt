@@ -1,8 +1,8 @@
 //! The program without its ends: words and bytes come in, bytes go out.
 //!
-//! `serve` reads a script to its end, serves all its callers at once over a dictionary that begins empty, and writes
-//! the reply of each call. Its contract says that what is written is a legal history of a map, which has each caller's
-//! calls in their order.
+//! `serve` does what the words ask for. To serve a script it reads the script to its end, makes the calls of its callers
+//! over a dictionary that begins empty, and writes each call's number and reply, and then the map. Its contract says that
+//! the calls, in the order of their numbers, are a legal history of a map, which has each caller's calls in their order.
 #![tactic(auto)]
 
 mod input;

@@ -10,7 +10,12 @@ use ks_script::{Failed, Sink, send, send_line};
 const USAGE: &[u8] =
     b"usage: run NODES TEMPLATE ARENA [WORKERS], hinted NODES TEMPLATE ARENA WORKERS, make NODES TEMPLATE ARENA CALLERS CALLS FIRST, or check\n";
 
-/// Says what the status is, with the line, in one piece.
+/// Writes the text of the status, with the line if it has one. The text is offered to the error output in one piece. Statuses
+/// 0 and 6 have no text.
+///
+/// # Errors
+///
+/// `Failed` if the error output failed: it has taken first bytes of the text.
 fn say<E: Sink>(err: &mut E, status: u8, line: u64) -> Result<(), Failed>
     ensures ok { OnOk result (Grew (E.taken err.old) (E.taken err.new) (status_text status line)) }
     ensures front { OnErr result (GrewByFront (E.taken err.old) (E.taken err.new) (status_text status line)) }
@@ -33,7 +38,8 @@ fn say<E: Sink>(err: &mut E, status: u8, line: u64) -> Result<(), Failed>
     }
 }
 
-/// Says what the status is, with the line, as far as the error output takes it.
+/// Writes the text of the status, with the line if it has one. If the error output fails, it has taken first bytes of the
+/// text.
 pub fn tell<E: Sink>(err: &mut E, status: u8, line: u64)
     ensures whole { ¬ Rose (E.faults err.old) (E.faults err.new) →
         Grew (E.taken err.old) (E.taken err.new) (status_text status line) }

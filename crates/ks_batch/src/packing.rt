@@ -1,5 +1,5 @@
-//! Lines of scripts, and what is said of them, between the texts, which hold them packed, and the dictionary, which holds each
-//! by itself.
+//! Lines of scripts, and what is said of them: a `Script` and a `Printed` hold them packed, and a dictionary takes and returns
+//! each by itself.
 
 ghost use Rattle.std.specs.Prelude.{◌≡◌, length, map, All, IfOk};
 ghost use Rattle.ks_script.specs.Plain.{IsPrintable};
@@ -8,7 +8,11 @@ use ks_lines::{Line, Said};
 use ks_script::{Calls, Replies, Script};
 use std::alloc::{AllocError, Global};
 
-/// The lines of each caller of a script.
+/// The lines of each caller of a script, each line by itself.
+///
+/// # Errors
+///
+/// Only lack of memory.
 pub fn unpacked(alloc: Global, script: &Script) -> Result<Vec<Vec<Line>>, AllocError>
     ensures lines { IfOk result (λ callers. map (λ v. v.items) callers.items ≡ script.now) }
     ensures count { IfOk result (λ callers. length callers.items ≡ length script.now) }
@@ -27,7 +31,11 @@ fn each_caller(alloc: Global, script: &[Calls]) -> Result<Vec<Vec<Line>>, AllocE
     Ok(callers)
 }
 
-/// What is said to each caller, packed.
+/// What is said to each caller, packed. The reply to a call must be one that can be printed, so no list of pairs.
+///
+/// # Errors
+///
+/// Only lack of memory.
 pub fn packed(alloc: Global, callers: Vec<Vec<Said>>) -> Result<Vec<Replies>, AllocError>
     requires { All (λ said. All IsPrintable said.items) callers.items }
     ensures { IfOk result (λ packed. packed.items ≡ map (λ v. v.items) callers.items) }

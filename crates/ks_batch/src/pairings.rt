@@ -99,8 +99,12 @@ impl Pairing {
     }
 }
 
-/// Serves all callers with `workers` workers, whose calls are aided so, over an empty dictionary of the pairing with `nodes`
-/// nodes.
+/// Serves all callers over an empty dictionary of the pairing with `nodes` nodes. There are `workers` workers, or one for each
+/// caller if there are fewer callers. `aiding` chooses what calls at one key ask where they may begin.
+///
+/// # Errors
+///
+/// Only lack of memory.
 pub fn serve_by<R: Threads + Wait + Sync, G: Gate + Admits + Sync>(
     rt: &R,
     alloc: Global,

@@ -1,4 +1,4 @@
-//! What the program does: it serves a script, or judges a printed run, from bytes to bytes.
+//! What the program does: it serves a script that it reads or makes, or judges a printed run, from bytes to bytes.
 
 ghost use Rattle.std.specs.Prelude.{◌≡◌, ◌≢◌, ◌≤◌, ◌⊎◌, ◌↔◌, ℕ, length, map, All, Some, [], IfOk, OnOk, OnErr, IfErr, IfSome, IsSome, IsNone};
 ghost use Rattle.ks_history.specs.Due.{FullsDue};
@@ -50,9 +50,9 @@ pub struct Outcome {
     /// The line at which the input is refused, or the first one that the pairing does not serve, counted from 1; 0 if the
     /// input is too long, and with any other status.
     pub line: u64,
-    /// The least wrong number of a checked run; 0 with any other status.
+    /// The least wrong number of a checked run, with status 6; 0 with any other status.
     pub number: u64,
-    /// The trace, if callers were served.
+    /// The trace, if a script was served, even one of no caller.
     pub run: Option<RunTrace>,
 }
 
@@ -93,6 +93,10 @@ fn to_print(alloc: Global, told: Told) -> Result<Ready, AllocError>
 }
 
 /// Serves a script by the pairing, over `arena` nodes, with `workers` workers.
+///
+/// # Errors
+///
+/// Only lack of memory.
 fn serve_packed<R: Threads + Wait + Sync, G: Gate + Admits + Sync>(
     rt: &R,
     alloc: Global,
@@ -123,13 +127,17 @@ fn serve_packed<R: Threads + Wait + Sync, G: Gate + Admits + Sync>(
 
 /// Why a script is not served.
 enum Halt {
-    /// It is not read.
+    /// It was not read, for this cause. `Memory` is also the cause if memory ran out while it was served.
     Unread(Stop),
     /// The pairing does not serve this line.
     Unfit { line: u64 },
 }
 
-/// Reads a script that the pairing serves.
+/// Reads a script, and refuses one that the pairing does not serve.
+///
+/// # Errors
+///
+/// `Unread` as for `load`; `Unfit` with the first line that the pairing does not serve.
 fn load_served<S: Source>(alloc: Global, pairing: Pairing, source: &mut S) -> Result<Script, Halt>
     ensures ok { IfOk result (λ script. IfSome (S.left source.old) (λ bytes. Accepts bytes script)) }
     ensures callers { IfOk result (λ script. length script ≤ 1024) }
@@ -152,6 +160,10 @@ fn load_served<S: Source>(alloc: Global, pairing: Pairing, source: &mut S) -> Re
 }
 
 /// Reads a script and serves it by the pairing, over `arena` nodes, with `workers` workers.
+///
+/// # Errors
+///
+/// As for `load_served`, and `Unread` with `Memory` if memory runs out while the script is served.
 fn prepare<R: Threads + Wait + Sync, S: Source, G: Gate + Admits + Sync>(
     rt: &R,
     alloc: Global,
@@ -184,7 +196,7 @@ fn prepare<R: Threads + Wait + Sync, S: Source, G: Gate + Admits + Sync>(
     }
 }
 
-/// What the program ends with if it does not use its input.
+/// What the program ends with after this stop.
 fn unread(stop: Stop) -> Outcome
     ensures unread { IsUnread stop result.status result.line }
     ensures number { result.number ≡ 0 }
@@ -221,7 +233,7 @@ fn write_ready<K: Sink>(out: &mut K, ready: Ready) -> Outcome
     }
 }
 
-/// The commands `run` and `hinted`: serves the script on the source and writes the replies to its calls.
+/// The commands `run` and `hinted`: serves the script on the source and writes its run.
 fn serve_script<R: Threads + Wait + Sync, S: Source, K: Sink, G: Gate + Admits + Sync>(
     rt: &R,
     alloc: Global,
@@ -268,7 +280,11 @@ fn serve_script<R: Threads + Wait + Sync, S: Source, K: Sink, G: Gate + Admits +
     }
 }
 
-/// Writes the line that states the judgment, in one piece.
+/// Writes the line that states the judgment. It is offered to the output in one piece.
+///
+/// # Errors
+///
+/// `Failed` if the output failed: it has taken first bytes of the line.
 fn say_judged<K: Sink>(out: &mut K, judged: Judged) -> Result<(), Failed>
     ensures ok { OnOk result (Grew (K.taken out.old) (K.taken out.new) (judged_line judged)) }
     ensures front { OnErr result (GrewByFront (K.taken out.old) (K.taken out.new) (judged_line judged)) }
@@ -313,7 +329,11 @@ fn check_run<S: Source, K: Sink>(alloc: Global, source: &mut S, out: &mut K) -> 
     }
 }
 
-/// Makes a script, serves it by the pairing over `arena` nodes with `workers` workers, and sums it up. Writes nothing.
+/// Makes a script, serves it by the pairing over `arena` nodes with `workers` workers, and sums up its run. Writes nothing.
+///
+/// # Errors
+///
+/// Only lack of memory.
 pub fn make<R: Threads + Wait + Sync, G: Gate + Admits + Sync>(
     rt: &R,
     alloc: Global,
@@ -351,14 +371,15 @@ pub fn make<R: Threads + Wait + Sync, G: Gate + Admits + Sync>(
     })
 }
 
-/// A made script that is served, and its summary.
+/// What serving a made script leaves: the text of the summary of its run, and the trace.
 #[derive(Drop)]
 pub struct Made {
     pub text: Vec<u8>,
     pub trace: RunTrace,
 }
 
-/// The command `make`: serves a script that is made, with as many workers as there can be, and writes the summary.
+/// The command `make`: serves a script that is made, with `MOST_WORKERS` workers or one for each caller if there are fewer
+/// callers, and writes the summary of its run.
 fn make_run<R: Threads + Wait + Sync, K: Sink, G: Gate + Admits + Sync>(
     rt: &R,
     alloc: Global,
@@ -404,11 +425,19 @@ fn make_run<R: Threads + Wait + Sync, K: Sink, G: Gate + Admits + Sync>(
 
 /// The whole program: does what the words ask for, and says on `err` what was wrong.
 ///
-/// The headline: for every pairing, script and gate, and in whatever order the steps of the callers come, the calls
-/// that are printed are, in the order of their numbers, one legal history of a finite map, each call once, those of
-/// each caller in its order; at every moment the keysets of the live nodes are disjoint and cover all keys; and `full`
-/// is the reply only if that call found every node not free. Splits, merges and the use of a node again are steps like
-/// all others. It holds if the call returns, memory does not run out, and source and sink do not fail.
+/// The headline, for every pairing, every script that it serves and every gate, in whatever order the steps of the callers
+/// come:
+///
+/// - The calls that are printed are, in the order of their numbers, one legal history of a map that begins empty. Each call
+///   occurs once, and those of each caller occur in its order.
+/// - At every moment the keysets of the live nodes are disjoint and cover all places.
+/// - `full` is the reply only if the call found its node full (a move that of its second key) and, since its caller's
+///   previous call, each node was at some moment not free.
+///
+/// Splits, merges and the reuse of nodes are steps like all others. All this holds if the call returns and memory does not run
+/// out. What is read and printed is stated only of a source and sinks that report their bytes. If the source fails, the input
+/// is refused, or the pairing does not serve a line of it, nothing is served. If the output fails, what was printed is a
+/// beginning of what was due.
 pub fn serve<R: Threads + Wait + Sync, S: Source, K: Sink, E: Sink, G: Gate + Admits + Sync>(
     rt: &R,
     alloc: Global,
@@ -441,11 +470,12 @@ pub fn serve<R: Threads + Wait + Sync, S: Source, K: Sink, E: Sink, G: Gate + Ad
         MakesOutcome (bytes_of words.now) (K.taken out.old) (K.taken out.new) result.status result.run }
     ensures untouched { UntouchedWith result.status (K.taken out.old) (K.taken out.new) }
 
-    // What is read: the whole text, unless it is too long, the source fails or memory runs out; nothing without one.
+    // What is read: the whole text, unless it is too long, the source fails or memory runs out; nothing if the words ask for
+    // no text.
     ensures end { ReadWith (bytes_of words.now) result.status result.line (S.left source.old) (S.left source.new) }
     ensures unread { UnreadWith (bytes_of words.now) result.status (S.left source.old) (S.left source.new) }
 
-    // When each status comes. There is no other.
+    // When each status comes, except 5, lack of memory. There is none above 7.
     ensures status { result.status ≤ UNFIT }
     ensures usage { (result.status ≡ NO_COMMAND) ↔ ¬ IsCommand (bytes_of words.now) }
     ensures refused { RefusedWith (bytes_of words.now) result.status result.line (S.left source.old) }
@@ -464,7 +494,7 @@ pub fn serve<R: Threads + Wait + Sync, S: Source, K: Sink, E: Sink, G: Gate + Ad
     ensures line { result.status ≢ REFUSED → result.status ≢ UNFIT → result.line ≡ 0 }
     ensures number { result.status ≢ WRONG → result.number ≡ 0 }
 
-    // What is said on the error output: the text of the status, whole if it did not fail.
+    // What is said on the error output: the text of the status, whole if the error output did not fail, else first bytes.
     ensures said { ¬ Rose (E.faults err.old) (E.faults err.new) →
         Grew (E.taken err.old) (E.taken err.new) (status_text result.status result.line) }
     ensures said_front { GrewByFront (E.taken err.old) (E.taken err.new) (status_text result.status result.line) }

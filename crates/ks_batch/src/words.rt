@@ -10,14 +10,14 @@ use crate::pairings::Pairing;
 use itoa::Buffer;
 use ks_dictionary::Aiding;
 
-/// How many workers there are at most, and how many if the words do not say it.
+/// How many workers there are at most, and how many if the words do not say how many.
 pub const MOST_WORKERS: u32 = 64;
 
 /// What the words ask for.
 #[derive(Clone, Copy, Debug, PartialEq, Eq)]
 pub enum Asked {
-    /// To serve the script on the source, by a pairing with an arena of `arena` nodes, with `workers` workers, whose calls
-    /// are aided so.
+    /// To serve the script on the source, by a pairing with an arena of `arena` nodes. There are `workers` workers, or one for
+    /// each caller if there are fewer callers. `aiding` is `Guides` for `run`, and `Hints` for `hinted`.
     Run {
         pairing: Pairing,
         arena: u32,
@@ -34,7 +34,8 @@ pub enum Asked {
     Check,
 }
 
-/// How a script is made: the number of callers, the number of calls of each, and the first of the drawn numbers.
+/// How a script is made: the number of callers, the number of calls of each, and the state from which the first number is
+/// drawn.
 #[derive(Clone, Copy, Debug, PartialEq, Eq)]
 pub struct Draft {
     pub callers: u32,
@@ -93,7 +94,7 @@ fn named(nodes: &String, template: &String) -> Option<Pairing>
     }
 }
 
-/// The pairing and the number of nodes with these words.
+/// The pairing and the number of nodes with these words, if the number is from 4 to 1048576.
 fn arena_named(nodes: &String, template: &String, arena: &String) -> Option<(Pairing, u32)>
     ensures some { IfSome result (λ named.
         NamesArena (string_bytes nodes.now) (string_bytes template.now) (string_bytes arena.now) named.0 named.1) }
@@ -181,7 +182,7 @@ fn hinted_words(
     })
 }
 
-/// The command to make a script, if the words after the first are those of one.
+/// The command to make a script and serve it, if the words after the first are those of one.
 fn make_words(
     nodes: &String,
     template: &String,

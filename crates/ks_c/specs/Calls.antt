@@ -17,7 +17,7 @@ IsReady (GiveUpTree c) = IsReadyOver c
 IsReady (BTree c) = IsReadyOver c
 IsReady (LinkHashTable c) = IsReadyOver c
 
--- the caller made the call at the key, by the technique of its structure and at the place that this has for the key; it
+-- the caller tried the call at the key, by the technique of its structure and at the place that this has for the key; it
 -- still is one of the same dictionary; and C gets its result
 abbrev pub Called : Call → ℕ → Caller → Caller → ℕ → Answer → Type 0
 Called call key (BLinkTree c) after code out = (e : _) × (after ≡ BLinkTree e) × Makes link_move call key c e code out
@@ -30,7 +30,7 @@ abbrev pub IsHandle : Option Caller → Type 0
 IsHandle None = Unit {0}
 IsHandle (Some c) = IsReady c
 
--- the code is 16 for a closed handle; an open one stays open, and its caller made the call
+-- the code is 16 for a closed handle; an open one stays open, and its caller tried the call
 abbrev pub HasCalled : Call → ℕ → Option Caller → Option Caller → ℕ → Answer → Type 0
 HasCalled call key None after code out = (code ≡ 16) × (after ≡ None)
 HasCalled call key (Some before) after code out = (c : Caller) × (after ≡ Some c) × Called call key before c code out

@@ -56,7 +56,7 @@ module _ {N D P : Type 0} {n : NodeGhosts N P} {q : PlacingGhosts P} {d : Discip
     pub tried : TriedPutOf (arc_value before.arena) technique op before.pass after.pass answer
     pub tells : TellsPut answer code out
 
-  -- it made the call at the place
+  -- it tried the call at the place
   abbrev pub Makes : Template → Call → ℕ → CallerOf N D P n q d → CallerOf N D P n q d → ℕ → Answer → Type 0
   Makes technique Get place before after code out = Made technique (OpGet place) before after code out
   Makes technique (Put value) place before after code out = MadePut technique (OpPut place value) before after code out

@@ -4,21 +4,21 @@ ghost use Rattle.ks_c.specs.Tells.{Tells, TellsFound, TellsLater, TellsPut, whol
 
 use ks_shape::{Later, Numbered, PutLater};
 
-/// The key had no value.
+/// Done: the key had no value, or the part ended at the last key of the scan. Of `ks_c_open` and `ks_c_close`: done.
 pub const NOTHING: u32 = 0;
-/// The key had a value.
+/// Done: the key had a value.
 pub const VALUE: u32 = 1;
-/// No room for the key, and no free node.
+/// No room for the key, and no node was found free.
 pub const FULL: u32 = 2;
-/// Another caller holds a node on the search path.
+/// Another caller held a node on the search path.
 pub const BUSY: u32 = 3;
-/// A node on the search path no longer is on it, since another caller changed it.
+/// No search for the key can reach a node any more that was on its path, and another caller changed it during the call.
 pub const MOVED: u32 = 4;
 /// As many nodes were taken as there are, while another caller changed some.
 pub const FAR: u32 = 5;
 /// The handle is not open.
 pub const CLOSED: u32 = 16;
-/// No such number of nodes or callers.
+/// Not 4 to 1048576 nodes, or not 1 to 1024 callers.
 pub const BAD_SIZE: u32 = 17;
 /// Memory ran out.
 pub const NO_MEMORY: u32 = 18;
@@ -27,16 +27,16 @@ pub const IN_USE: u32 = 19;
 /// No structure has this word.
 pub const NO_STRUCTURE: u32 = 21;
 
-/// What a call returns beside its code.
+/// What a call returns beside its code. The code says which fields have a meaning.
 #[repr(C)]
 #[derive(Drop)]
 pub struct Answer {
-    /// The number of the call in the one history of all calls.
+    /// The number of the call in the one history of all calls, modulo 2^64; with `NOTHING`, `VALUE`, `FULL` and `MORE`.
     pub number: u64,
-    /// The two halves of the value that the key had.
+    /// The two halves of the value that the key had; with `VALUE`.
     pub low: u64,
     pub high: u64,
-    /// The node that another caller held, and that caller; or the node that another caller changed.
+    /// With `BUSY` the node that another caller held, and that caller. With `MOVED` the node that another caller changed.
     pub node: u32,
     pub holder: u32,
 }

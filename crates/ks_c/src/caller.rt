@@ -93,7 +93,8 @@ impl Caller {
         }
     }
 
-    /// Lists a part of a scan, writes its result to `entries` and `out`, and returns its code.
+    /// Lists a part of a scan, writes its result to `entries` and `out`, and returns its code: `NO_SCANS` if the structure has
+    /// no scans.
     pub fn scan(&mut self, low: u64, last: u64, entries: &mut [Entry], out: &mut Listing) -> u32
         requires ready { IsReady self.old }
         requires span { low ≤ last }

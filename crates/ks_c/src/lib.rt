@@ -32,7 +32,7 @@ use std::mem;
 use tries::Call;
 pub use tries::CallerOf;
 
-/// Makes a call through a handle, writes its result to `out`, and returns its code.
+/// Makes a call through a handle, writes its result to `out`, and returns its code: `CLOSED` if the handle is not open.
 fn call(alloc: Global, caller: &mut Handle, key: u64, call: Call, out: &mut Answer) -> u32
     requires { IsHandle caller.old.inside }
     ensures { HasCalled call key caller.old.inside caller.new.inside result out.new }
@@ -47,7 +47,11 @@ fn call(alloc: Global, caller: &mut Handle, key: u64, call: Call, out: &mut Answ
     }
 }
 
-/// Returns the value of a key.
+/// Finds the value of a key. Like the next four it returns a code:
+///
+/// - `NOTHING` or `VALUE`: the call is in the history. `out` has its number and, with `VALUE`, the value that the key had.
+/// - `BUSY`, `MOVED` or `FAR`: the call was put off, and is not in the history.
+/// - `CLOSED`: the handle is not open, and stays so.
 #[unsafe(no_mangle)]
 pub extern "C" fn ks_c_get(alloc: Global, caller: &mut Handle, key: u64, out: &mut Answer) -> u32
     requires { IsHandle caller.old.inside }
@@ -56,7 +60,8 @@ pub extern "C" fn ks_c_get(alloc: Global, caller: &mut Handle, key: u64, out: &m
     call(alloc, caller, key, Call::Get, out)
 }
 
-/// Sets the value of a key, and returns the one before.
+/// Sets the value of a key. `out` has the one before. Also returns `FULL`: then `out` has the number of the call, and the map
+/// is as before.
 #[unsafe(no_mangle)]
 pub extern "C" fn ks_c_put(
     alloc: Global,
@@ -73,7 +78,7 @@ pub extern "C" fn ks_c_put(
     call(alloc, caller, key, Call::Put { value }, out)
 }
 
-/// Sets the value of a key that has none, and returns the one that it had.
+/// Sets the value of a key that has none. If the key has one, that stays, and is in `out`. Also returns `FULL`, as `ks_c_put`.
 #[unsafe(no_mangle)]
 pub extern "C" fn ks_c_add(
     alloc: Global,
@@ -90,7 +95,7 @@ pub extern "C" fn ks_c_add(
     call(alloc, caller, key, Call::Add { value }, out)
 }
 
-/// Sets the value of a key from one to another, and returns the one before.
+/// Sets the value of a key to the new one if and only if it is the old one. `out` has the value that the key had.
 #[unsafe(no_mangle)]
 pub extern "C" fn ks_c_swap(
     alloc: Global,
@@ -111,7 +116,7 @@ pub extern "C" fn ks_c_swap(
     call(alloc, caller, key, Call::Swap { old, new }, out)
 }
 
-/// Deletes a key, and returns the value that it had.
+/// Deletes a key. `out` has the value that it had.
 #[unsafe(no_mangle)]
 pub extern "C" fn ks_c_del(alloc: Global, caller: &mut Handle, key: u64, out: &mut Answer) -> u32
     requires { IsHandle caller.old.inside }
@@ -120,7 +125,8 @@ pub extern "C" fn ks_c_del(alloc: Global, caller: &mut Handle, key: u64, out: &m
     call(alloc, caller, key, Call::Del, out)
 }
 
-/// Lists a part of a scan through a handle, writes its result to `entries` and `out`, and returns its code.
+/// Lists a part of a scan through a handle, writes its result to `entries` and `out`, and returns its code: `CLOSED` if the
+/// handle is not open.
 fn scan(
     alloc: Global,
     caller: &mut Handle,
@@ -144,8 +150,18 @@ fn scan(
     }
 }
 
-/// Lists the pairs of the keys from `low` on, at most to `last`, both included, in ascending order, at one moment: one part of
-/// a scan. Each part fits into 16 entries, and fewer are refused.
+/// Makes one part of a scan of the keys from `low` to `last`, both included. The part begins at `low`, and lists in the first
+/// entries just the pairs that the map has at its number, ascending. Entries that it does not need stay. Returns a code:
+///
+/// - `NOTHING`: the part ends at `last`.
+/// - `MORE`: the part ends below `last`. `out` has the key at which the next part begins.
+/// - `BUSY`, `MOVED` or `FAR`: the part was put off, and is not in the history.
+/// - `BAD_SPAN`: `low` is above `last`.
+/// - `NO_ROOM`: there are fewer than 16 entries, into which each part fits.
+/// - `CLOSED`: the handle is not open.
+/// - `NO_SCANS`: the structure has no scans.
+///
+/// With all codes but the first two all entries stay.
 #[unsafe(no_mangle)]
 pub extern "C" fn ks_c_scan(
     alloc: Global,

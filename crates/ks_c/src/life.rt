@@ -125,7 +125,7 @@ fn start_linked<N: Linked>(
     start(alloc, nodes, callers)
 }
 
-/// The callers of a new dictionary of trees.
+/// The callers of a new dictionary without links.
 fn start_unlinked<N: Unlinked>(
     alloc: Global,
     nodes: u32,
@@ -213,7 +213,13 @@ fn hand_out(handles: &mut [Handle], boxes: Vec<Box<Caller>>)
 }
 
 /// Opens an empty dictionary of the structure that a word chooses, and of `nodes` nodes, and a handle for each of its
-/// callers, who are numbered as their handles.
+/// callers, which are numbered as their handles, and returns `NOTHING`. Else all handles stay as they are, and the code is
+/// the first of these that fits:
+///
+/// - `NO_STRUCTURE`: no structure has the word.
+/// - `BAD_SIZE`: not 4 to 1048576 nodes, or not 1 to 1024 callers.
+/// - `IN_USE`: one of the handles is open.
+/// - `NO_MEMORY`: memory ran out.
 #[unsafe(no_mangle)]
 pub extern "C" fn ks_c_open(
     alloc: Global,
@@ -249,7 +255,8 @@ pub extern "C" fn ks_c_open(
     }
 }
 
-/// Closes a handle. The memory of a dictionary is freed with the last of its handles.
+/// Closes a handle, and returns `NOTHING`, or `CLOSED` if it was not open. The memory of a dictionary is freed with the last
+/// of its handles.
 #[unsafe(no_mangle)]
 pub extern "C" fn ks_c_close(alloc: Global, caller: &mut Handle) -> u32
     ensures closed { caller.new.inside ≡ None }

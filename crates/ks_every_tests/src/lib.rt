@@ -1,4 +1,4 @@
-//! Tests of every pairing of a node type and a technique: each call, beside a plain map.
+//! Tests of every pairing of a node type and a technique: the five calls and their `try_` forms, beside a plain map.
 #![tactic(auto)]
 
 #[cfg(test)]

@@ -20,7 +20,7 @@ use std::sync::atomic::Ordering::SeqCst;
 use std::thread::{Threads, for_each_mut};
 
 /// What the catalogue is made of: the type of its nodes, and the technique by which callers come from one to the next.
-/// Two other words make another structure of the same catalogue, as HNode in place of BNode a hash table.
+/// Other words for these two make another structure of the same catalogue: `HNode` in place of `BNode` a hash table.
 pub type Nodes = Boxed<BNode>;
 
 pub type Technique = Coupling;
@@ -46,7 +46,8 @@ pub struct Counts {
 }
 
 /// Keeps a catalogue from its start to its end: all callers work at once, and then the first clerk sends the first
-/// reader a note. Returns what the reader found, what is in the catalogue at last, and all that happened.
+/// reader a note. Returns what the reader found, or `Full` if the clerk's entry found no room; what is in the catalogue at
+/// last; and all that happened.
 ///
 /// # Errors
 ///
@@ -166,8 +167,8 @@ fn tell_one<R: Wait>(
     tell(rt, catalogue, &mut clerks[0], &mut readers[0], 0, 100)
 }
 
-/// One caller sets an entry and sends another a note of it, which then looks the number up: it finds this entry, unless a
-/// later call changed it.
+/// The clerk sets an entry and sends the reader a note. The reader then looks the number up: it finds this entry, unless a
+/// call between the put and the get changed it.
 ///
 /// # Errors
 ///

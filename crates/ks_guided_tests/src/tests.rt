@@ -66,7 +66,7 @@ fn next(draw: u64) -> u64 {
         .wrapping_add(1442695040888963407)
 }
 
-/// Makes a drawn call of a key below `keys`, with a guide and in the plain map; returns whether both returned the same.
+/// Makes a drawn call at a key below 2048, with a guide and in the plain map. Returns whether both returned the same.
 fn agrees<N: Node, T: Ruled + Hinting<N, Arena<N, <T as Ruled>::Rule>>, R: Wait>(
     rt: &R,
     map: &Dictionary<N, T>,

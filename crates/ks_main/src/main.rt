@@ -39,6 +39,10 @@ fn after_name(alloc: Global, args: env::Args) -> Result<Vec<String>, AllocError>
 }
 
 /// The words after the program's name. No clause can say which words the system returns.
+///
+/// # Errors
+///
+/// `Memory` if memory ran out; `NoText` with any other error of the system.
 fn words(rt: &HostRuntime) -> Result<Vec<String>, NoWords> {
     let args = match env::args(rt) {
         Ok(args) => args,
@@ -58,7 +62,7 @@ fn exit_code(outcome: &Outcome) -> ExitCode
     ExitCode::from(outcome.status)
 }
 
-/// Serves the words, and returns what the process ends with.
+/// Does what the words ask for, with a gate that stops no caller, and returns what the process ends with.
 fn run<R: Threads + Wait + Sync, S: Source, K: Sink, E: Sink>(
     rt: &R,
     alloc: Global,
@@ -76,7 +80,9 @@ fn run<R: Threads + Wait + Sync, S: Source, K: Sink, E: Sink>(
     exit_code(&outcome)
 }
 
-/// Serves the words if they are text; if they are not, they are no command.
+/// Does what the words ask for, and returns what the process ends with. If one of them is no text, they are no command, and the
+/// status is 1. If there was no memory for them, the status is 5, and nothing is said on the error output. In both cases
+/// nothing is read, and nothing is printed on the output.
 fn answer<R: Threads + Wait + Sync, S: Source, K: Sink, E: Sink>(
     rt: &R,
     alloc: Global,

@@ -1,8 +1,8 @@
 //! The standard streams as a source and as sinks.
 //!
-//! No proof can say what the system does with bytes, so over the streams of a process these ensure nothing. Over a
-//! stream of std whose bytes are known they ensure just those, and so each error has to be reported as a fault: one
-//! that was taken for the end, or for bytes that were written, would contradict what the stream still has.
+//! No proof can say what the system does with bytes, so over the streams of a process nothing is ensured of which bytes come
+//! and go. Over a stream of std whose bytes are known these are the source's and the sink's. So each error has to be reported
+//! as a fault: one that was taken for the end, or for bytes that were written, would contradict what the stream still has.
 
 ghost use Rattle.std.specs.Prelude.{ℕ, ◌≡◌};
 
@@ -41,7 +41,7 @@ impl<R: Read + Drop> Source for StdSource<R> {
     }
 }
 
-/// Writes to a stream, and counts its faults. A write that takes nothing is one.
+/// Writes to a stream, and counts its faults. A write that takes nothing of a piece that is not empty is one.
 #[derive(Drop)]
 pub struct StdSink<W: Write + Drop> {
     stream: W,

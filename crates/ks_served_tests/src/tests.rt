@@ -20,11 +20,11 @@ use std::sync::atomic::Ordering::SeqCst;
 use std::test::Fail;
 use std::thread::{Threads, yield_now};
 
-/// Looks that no caller needs, if the first one comes at all.
+/// How often a caller looks before it has waited in vain: more often than these tests need.
 const LONG: u64 = 20_000_000;
 
-/// Counts how often the root is taken by the first caller and by others, which it stops until the first has put all its keys.
-/// It says whether calls may begin elsewhere.
+/// Counts how often the root is taken by the first caller and by others. It stops the others until the first has put all its
+/// keys. It says whether calls may begin elsewhere than at the root.
 #[derive(Drop)]
 struct Roots {
     by_first: AtomicU64,
@@ -201,7 +201,7 @@ fn taken_by_giving_up<R: Threads + Wait + Sync>(
     Ok(gate.taken())
 }
 
-/// Serves one caller along links with hints, and returns as much.
+/// Serves one caller along links with hints, and returns the same.
 fn taken_along_links<R: Threads + Wait + Sync>(
     rt: &R,
     alloc: Global,

@@ -26,7 +26,7 @@ pub(crate) struct Board {
     /// At each number 1 more than the call that has it, with its reply; 0 where no call has it.
     slots: Vec<AtomicU64>,
     put_off: AtomicU64,
-    /// How many calls returned what they must not, or a number that is too large, or that another call has.
+    /// How many times a call returned what it must not, a value or a number that is too large, or a number that another has.
     wrong: AtomicU64,
 }
 

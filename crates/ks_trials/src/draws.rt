@@ -22,7 +22,7 @@ impl Draws {
         }
     }
 
-    /// The next draw, below `many` where `many` is not 0.
+    /// The next draw, below `many`, or 0 if `many` is 0.
     pub(crate) fn below(&mut self, many: u64) -> u64 {
         self.seed = self.seed.wrapping_add(0x9E37_79B9_7F4A_7C15);
         let draw = mixed(self.seed);

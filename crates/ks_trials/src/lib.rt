@@ -1,4 +1,5 @@
-//! Trials of every pairing of a node type and a technique: each call, beside a plain map. For tests.
+//! Trials of every pairing of a node type and a technique: the five calls and their `try_` forms, beside a plain map. For
+//! tests.
 //!
 //! A trial is data: which calls each caller makes, and in which order callers pass points of them. What the calls returned is
 //! judged by their numbers. So a test of a pairing has the trials of one of `rows`, and costs one call of one generic function

@@ -10,7 +10,7 @@ use std::alloc::{AllocError, Global};
 /// One call of each kind.
 const EACH: [Op; 5] = [Op::Get, Op::Put(3), Op::Add(3), Op::Swap(3, 4), Op::Del];
 
-/// Those that put nothing.
+/// Those that are no put and no add.
 const NO_FILL: [Op; 3] = [Op::Get, Op::Swap(3, 4), Op::Del];
 
 /// How many keys there are at most.
@@ -60,7 +60,7 @@ fn meet(
 }
 
 /// Caller 0 is stopped at the point at which it holds node 1 and nothing else, until caller 1 has tried a call of each kind at
-/// a key there, and got one of node 2: so a get that has come to its leaf does not hold the root.
+/// a key there, and has found a key of node 2: so a get that has come to its leaf does not hold the root.
 pub(crate) fn busy(alloc: Global, at: Point) -> Result<Trial, AllocError> {
     let mut held = Script::of(alloc, 1);
     held.returns(0, Op::Get, decided_at(18, Some(0)))?;
@@ -73,8 +73,8 @@ pub(crate) fn busy(alloc: Global, at: Point) -> Result<Trial, AllocError> {
     meet(alloc, 64, 17, vec![in alloc; held, tried]?, points, 5)
 }
 
-/// The keys below 24 are in nodes 1 and 2, and caller 0 splits node 2, which is full, by putting the next key. Caller 1 makes
-/// one call of the last key of that node. It has released the root, and is stopped until caller 0 has split.
+/// The keys below 24 are in nodes 1 and 2, and caller 0 splits node 2, which is full, by putting the next key. The first call
+/// of caller 1 is at the last key of that node. It has released the root, and is stopped until caller 0 has split.
 fn split(alloc: Global, meant: Script, put_off: u64) -> Result<Trial, AllocError> {
     let mut splits = Script::of(alloc, 1);
     splits.returns(24, Op::Put(24), decided_at(24, None))?;
@@ -90,7 +90,7 @@ fn split(alloc: Global, meant: Script, put_off: u64) -> Result<Trial, AllocError
     )
 }
 
-/// By giving up a try is put off, of each kind, and a call that waits restarts.
+/// By giving up a try of each kind is put off, and a call of each kind that waits is decided after the split.
 pub(crate) fn splits_by_giving_up(alloc: Global, into: &mut Vec<Trial>) -> Result<(), AllocError> {
     for op in EACH {
         let mut tried = Script::of(alloc, 1);
@@ -106,7 +106,7 @@ pub(crate) fn splits_by_giving_up(alloc: Global, into: &mut Vec<Trial>) -> Resul
     Ok(())
 }
 
-/// Along links each moves right.
+/// Along links each moves right: it is decided after the split, and no try is put off.
 pub(crate) fn splits_along_links(alloc: Global, into: &mut Vec<Trial>) -> Result<(), AllocError> {
     for op in EACH {
         let mut tried = Script::of(alloc, 1);
@@ -133,8 +133,8 @@ pub(crate) fn splits_by_coupling(alloc: Global, into: &mut Vec<Trial>) -> Result
 }
 
 /// The keys below 17 are in nodes 1 and 2. The del of key 0 merges them, and the root takes over all; with `again` a put lets
-/// the root grow again, and node 2 has other keys. Caller 1 makes one call of key 8. It has released the root, and the number
-/// of node 2, when it is stopped until all that is done.
+/// the root grow again, and node 2 has other keys. The first call of caller 1 is at key 8. It has released the root, and has
+/// the number of node 2, when it is stopped until all that is done.
 fn merged(alloc: Global, again: bool, meant: Script, put_off: u64) -> Result<Trial, AllocError> {
     let mut merges = Script::of(alloc, 1);
     merges.returns(0, Op::Del, decided_at(17, Some(0)))?;
@@ -171,10 +171,10 @@ pub(crate) fn merges_by_giving_up(alloc: Global, into: &mut Vec<Trial>) -> Resul
     Ok(())
 }
 
-/// Puts some keys of a binary tree of five nodes, and deletes others, so that beside a leaf with key 10 node 1 is a fork over
-/// leaves with keys 0 and 1; the latter is node 4. The del of key 0 merges the leaves, node 1 takes that over, and is merged
-/// into the root, which takes over all. Caller 1 makes one call of key 1. It has released node 1, and has the number of node
-/// 4, when it is stopped until all that is done.
+/// Puts five keys in a binary tree of five nodes, and deletes two of them, so that beside a leaf with key 10 node 1 is a fork
+/// over leaves with keys 0 and 1; the latter is node 4. The del of key 0 merges the leaves, node 1 takes that over, and is
+/// merged into the root, which takes over all. The first call of caller 1 is at key 1. It has released node 1, and has the
+/// number of node 4, when it is stopped until all that is done.
 fn merged_below(alloc: Global, meant: Script, put_off: u64) -> Result<Trial, AllocError> {
     let mut merges = Script::of(alloc, 1);
     merges.returns(0, Op::Del, decided_at(7, Some(7)))?;
@@ -197,8 +197,8 @@ fn merged_below(alloc: Global, meant: Script, put_off: u64) -> Result<Trial, All
     )
 }
 
-/// By giving up: the node below the root is free when the call comes to it. A try is put off, of each kind, and a call that
-/// waits restarts.
+/// By giving up: the node below the root is free when the call comes to it. A try of each kind is put off, and a call of each
+/// kind that waits is decided after the merge.
 pub(crate) fn merges_below_by_giving_up(
     alloc: Global,
     into: &mut Vec<Trial>,

@@ -4,13 +4,13 @@ use std::sync::atomic::AtomicU64;
 use std::sync::atomic::Ordering::SeqCst;
 use std::thread::yield_now;
 
-/// Looks that no gate of these tests needs, if the other callers come at all.
+/// How often a stopped caller looks before the gate has failed: more often than any of these tests needs.
 const LONG: u64 = 50_000_000;
 
 /// A gate that has callers pass points of their calls in the order of a list. A caller that comes to the point that is its
-/// next in the list is stopped there until all before it are passed, and again where the one after that is the same point: so
-/// a point that is named twice keeps the caller from its first turn to its second. At other points nobody is stopped. A stop
-/// takes a limited number of looks; where it ends by the limit, the gate has failed and the caller goes on.
+/// next in the list is stopped there until all before it are passed. If its next after that is the same point, it is stopped
+/// again: so a point that is named twice keeps the caller from its first turn to its second. At other points no caller is
+/// stopped. A stop takes a limited number of looks; if it ends by the limit, the gate has failed and the caller goes on.
 #[derive(Drop)]
 pub(crate) struct InOrder {
     points: Vec<(u32, Point)>,

@@ -5,13 +5,13 @@ use crate::trials::{crowds, full, thinned, wide};
 use ks_gate::Point;
 use std::alloc::{AllocError, Global};
 
-/// Multiples of it come in no order.
+/// Its multiples modulo 2^64 are in no order.
 const STRIDE: u64 = 0x9E37_79B9_7F4A_7C15;
 
 /// Hash nodes have its multiples at places 0, 1, 2 and so on.
 const SIDE_BY_SIDE: u64 = 0xF1DE_83E1_9937_733D;
 
-/// Under trees all nodes but the root are free once all keys are gone.
+/// Under trees all nodes except the root are free once all keys are gone and the nodes are compacted.
 const ROOT: Option<u64> = Some(1);
 
 /// Four nodes of a list have room for 20 pairs, where keys come in their order: full ones are left with four.

@@ -11,7 +11,7 @@ pub(crate) struct Step {
     pub(crate) answer: Option<Answer>,
 }
 
-/// The key at `at`, where each key is `stride` above the one before it, and the first is 0.
+/// The key at `at`. The first key is 0, and each other one is `stride` above the one before it, modulo 2^64.
 pub(crate) fn key_at(stride: u64, at: usize) -> u64 {
     (at as u64).wrapping_mul(stride)
 }
@@ -70,7 +70,7 @@ impl Script {
         self.push(at, op, false, Some(answer))
     }
 
-    /// Fills the keys below `many`, each with its index as its value, in each way in turn: by puts, by adds, waiting and not.
+    /// Fills the first `many` keys, each with its index as its value, in each way in turn: by puts, by adds, waiting and not.
     pub(crate) fn fill(&mut self, many: usize) -> Result<(), AllocError> {
         for at in 0..many {
             let value = at as u128;
@@ -84,7 +84,7 @@ impl Script {
         Ok(())
     }
 
-    /// Deletes the keys below `many`, every second one without waiting.
+    /// Deletes the first `many` keys, every second one without waiting.
     pub(crate) fn empty(&mut self, many: usize) -> Result<(), AllocError> {
         for at in 0..many {
             self.push(at, Op::Del, at % 2 == 0, None)?;
@@ -92,7 +92,7 @@ impl Script {
         Ok(())
     }
 
-    /// As many drawn calls over `keys` keys, every second one without waiting; with `grows` most of them put or add.
+    /// `many` drawn calls at the first `keys` keys, every second one without waiting; with `grows` most of them put or add.
     pub(crate) fn draw(
         &mut self,
         number: u64,

@@ -49,7 +49,7 @@ struct Left {
     freed: u32,
 }
 
-/// Whether as many are there as are due.
+/// Whether as many are there as are due, if a number is due.
 fn is_due(due: Option<u64>, many: u64) -> bool {
     match due {
         Some(due) => due == many,
@@ -315,7 +315,12 @@ where
     trial.went_right(alloc, &left)
 }
 
-/// Runs trials of a technique that compacts. Returns how many of them went right before one that did not.
+/// Runs trials of a technique that compacts. Returns how many of them went right before the first that did not: all, if
+/// there is none.
+///
+/// # Errors
+///
+/// Only lack of memory.
 pub fn right_under_trees<
     N: Node + Send,
     T: Ruled + Compacting<N, Arena<N, <T as Ruled>::Rule>>,
@@ -332,7 +337,12 @@ where
     Ok(trials.len())
 }
 
-/// Runs trials of a technique that merges no nodes. Returns how many of them went right before one that did not.
+/// Runs trials of a technique that merges no nodes. Returns how many of them went right before the first that did not: all, if
+/// there is none.
+///
+/// # Errors
+///
+/// Only lack of memory.
 pub fn right_along_links<
     N: Node + Send,
     T: Ruled + Template<N, Arena<N, <T as Ruled>::Rule>>,

@@ -18,7 +18,7 @@ fn full_at(number: u64) -> Answer {
     Err(PutLater::Full { number })
 }
 
-/// No call is full or put off, and whatever else.
+/// No call is full or put off. How many nodes are live or were made free is not tested.
 pub(crate) const WHOLE: Due = Due {
     fulls: Some(0),
     put_off: Some(0),
@@ -26,7 +26,7 @@ pub(crate) const WHOLE: Due = Due {
     freed: None,
 };
 
-/// Whatever it is.
+/// Nothing is due.
 const ANY: Due = Due {
     fulls: None,
     put_off: None,
@@ -59,8 +59,8 @@ pub(crate) fn gated(
     })
 }
 
-/// Two levels of branches, and more in a binary tree: keys come, calls of all kinds are made, all keys go, so that nodes are
-/// merged, and they come and go again.
+/// The keys are put, calls of all kinds are made, and all keys are deleted, so that nodes are merged if the technique merges.
+/// Then the keys are put and deleted again. No call is full or put off.
 pub(crate) fn wide(
     alloc: Global,
     nodes: u32,
@@ -88,8 +88,8 @@ pub(crate) fn wide(
     )
 }
 
-/// The first `fits` keys fill all nodes: the next is full, in each way of putting it, and all other calls are made. Then the
-/// keys go, and come again.
+/// After the first `fits` keys there is no room for the next: it is full, in each way of putting it. Calls of all other kinds
+/// are made. Then the keys are deleted and put again, and the next is full again.
 pub(crate) fn full(
     alloc: Global,
     nodes: u32,

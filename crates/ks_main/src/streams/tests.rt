@@ -1,4 +1,4 @@
-//! The adapters over streams that fail.
+//! The adapters over streams that fail, and over one that does not.
 
 use super::{StdSink, StdSource};
 use ks_script::{ReadFault, Source, read_all, send};
@@ -6,7 +6,7 @@ use std::io;
 use std::io::{Cursor, Read, Write};
 use std::test::Fail;
 
-/// Returns one byte a read, and fails once, before the byte with this number.
+/// Returns one byte a read. Fails once, after `failing` bytes, if that is a number.
 #[derive(Drop)]
 struct FailingReader {
     bytes: &'static [u8],
@@ -36,7 +36,7 @@ enum Then {
     TakesNothing,
 }
 
-/// Takes one byte a write, `takes` in all.
+/// Takes one byte a write, as long as `takes` is not 0, and then does what `then` says.
 #[derive(Drop)]
 struct FailingWriter {
     takes: usize,
