@@ -41,17 +41,17 @@ pub type BTreePass = PassOf<Boxed<BNode>, Coupling>;
 
 /// A B+ tree whose searches hold one node at a time, and restart if the next node is free or its range lacks their key: take
 /// it for many callers, if nodes are to be merged as keys are deleted.
-pub type GiveUpTree = Dictionary<Boxed<WithRange<BNode>>, GiveUp>;
+pub type GiveUpTree = Dictionary<WithRange<BNode>, GiveUp>;
 
 /// A pass of a `GiveUpTree`.
-pub type GiveUpTreePass = PassOf<Boxed<WithRange<BNode>>, GiveUp>;
+pub type GiveUpTreePass = PassOf<WithRange<BNode>, GiveUp>;
 
 /// A B-link tree, whose searches hold one node at a time and never restart, and whose nodes are never merged: take it
 /// for many callers, if few keys are deleted.
-pub type BLinkTree = Dictionary<Boxed<WithLink<BNode>>, LinkMove>;
+pub type BLinkTree = Dictionary<WithLink<BNode>, LinkMove>;
 
 /// A pass of a `BLinkTree`.
-pub type BLinkTreePass = PassOf<Boxed<WithLink<BNode>>, LinkMove>;
+pub type BLinkTreePass = PassOf<WithLink<BNode>, LinkMove>;
 
 /// A hash table by lock coupling: take it for some hundred keys, since with more its searches get longer.
 pub type HashTable = Dictionary<Boxed<HNode>, Coupling>;
@@ -61,17 +61,17 @@ pub type HashTablePass = PassOf<Boxed<HNode>, Coupling>;
 
 /// A hash table whose searches hold one node at a time, and restart as those of a `GiveUpTree`: take it for many callers
 /// of some hundred keys.
-pub type GiveUpHashTable = Dictionary<Boxed<WithRange<HNode>>, GiveUp>;
+pub type GiveUpHashTable = Dictionary<WithRange<HNode>, GiveUp>;
 
 /// A pass of a `GiveUpHashTable`.
-pub type GiveUpHashTablePass = PassOf<Boxed<WithRange<HNode>>, GiveUp>;
+pub type GiveUpHashTablePass = PassOf<WithRange<HNode>, GiveUp>;
 
 /// A hash table whose searches move right along links, as those of a `BLinkTree`, and whose buckets are never merged: take
 /// it for many callers of some hundred keys, few of which are deleted.
-pub type LinkHashTable = Dictionary<Boxed<WithLink<HNode>>, LinkMove>;
+pub type LinkHashTable = Dictionary<WithLink<HNode>, LinkMove>;
 
 /// A pass of a `LinkHashTable`.
-pub type LinkHashTablePass = PassOf<Boxed<WithLink<HNode>>, LinkMove>;
+pub type LinkHashTablePass = PassOf<WithLink<HNode>, LinkMove>;
 
 /// A sorted list of nodes by lock coupling, which has the least code: take it for few keys.
 pub type SortedList = Dictionary<ListNode, Coupling>;
@@ -81,10 +81,10 @@ pub type SortedListPass = PassOf<ListNode, Coupling>;
 
 /// A sorted list whose searches hold one node at a time, and restart as those of a `GiveUpTree`: take it for few keys, if
 /// no search is to hold a node while it waits for the next. Calls that split or merge nodes do.
-pub type GiveUpList = Dictionary<Boxed<WithRange<ListNode>>, GiveUp>;
+pub type GiveUpList = Dictionary<WithRange<ListNode>, GiveUp>;
 
 /// A pass of a `GiveUpList`.
-pub type GiveUpListPass = PassOf<Boxed<WithRange<ListNode>>, GiveUp>;
+pub type GiveUpListPass = PassOf<WithRange<ListNode>, GiveUp>;
 
 /// A binary search tree by lock coupling, each node of which has at most two pairs or two children: take a `BTree` instead,
 /// which is faster and smaller. This one shows that a tree of another shape has the same contracts.
@@ -95,7 +95,7 @@ pub type BinaryTreePass = PassOf<Boxed<TNode>, Coupling>;
 
 /// A binary search tree whose searches hold one node at a time, and restart as those of a `GiveUpTree`: take a `GiveUpTree`
 /// instead, for the same reason.
-pub type GiveUpBinaryTree = Dictionary<Boxed<WithRange<TNode>>, GiveUp>;
+pub type GiveUpBinaryTree = Dictionary<WithRange<TNode>, GiveUp>;
 
 /// A pass of a `GiveUpBinaryTree`.
-pub type GiveUpBinaryTreePass = PassOf<Boxed<WithRange<TNode>>, GiveUp>;
+pub type GiveUpBinaryTreePass = PassOf<WithRange<TNode>, GiveUp>;

@@ -1,9 +1,7 @@
 //! `Boxed`, all of whose calls are those of the node inside.
 
-ghost use Rattle.std.specs.Prelude.{◌≡◌};
-
-use ks_keysets::{Edge, Few, Pair, Span};
-use ks_node::{Growing, Linked, Listed, Next, Node, Ordered, Ranged, Unlinked};
+use ks_keysets::{Edge, Pair, Span};
+use ks_node::{Next, Node, Unlinked};
 use std::alloc::{AllocError, Global};
 
 /// A node behind a box of its own, so that a body moves by one word. All calls are the inner node's.
@@ -192,75 +190,5 @@ impl<N: Unlinked> Unlinked for Boxed<N> {
 
     fn collapse(&mut self, child: &mut Self) {
         self.node.collapse(&mut child.node);
-    }
-}
-
-impl<N: Growing> Growing for Boxed<N> {
-    ghost grows_where = { λ s. N.grows_where s.node.value };
-
-    ghost at_root = { N.at_root };
-
-    ghost few_edges = { λ s. N.few_edges s.node.value };
-}
-
-impl<N: Ordered> Ordered for Boxed<N> {
-    ghost plain = { N.plain };
-
-    ghost adopts = { N.adopts };
-
-    fn pairs_in(&self, low: u64, last: u64, into: &mut Few) {
-        self.node.pairs_in(low, last, into);
-    }
-}
-
-impl<N: Ranged> Ranged for Boxed<N> {
-    ghost is_ranged = { N.is_ranged };
-
-    fn range(&self) -> Span {
-        self.node.range()
-    }
-}
-
-impl<N: Listed> Listed for Boxed<N> {
-    ghost plain = { N.plain };
-
-    ghost adopts = { N.adopts };
-
-    fn list(&self, low: u64, last: u64, into: &mut Few) {
-        self.node.list(low, last, into);
-    }
-}
-
-impl<N: Linked> Linked for Boxed<N> {
-    ghost link_where = { λ s. N.link_where s.node.value };
-
-    ghost by_range = { N.by_range };
-
-    ghost grows_where = { λ s. N.grows_where s.node.value };
-
-    ghost at_root = { N.at_root };
-
-    fn level(&self) -> u32 {
-        self.node.level()
-    }
-
-    fn link(&self) -> Option<u32> {
-        self.node.link()
-    }
-
-    fn split_link(&mut self, right: &mut Self, right_id: u32, cut: u64) {
-        self.node.split_link(&mut right.node, right_id, cut);
-    }
-
-    fn grow_link(
-        &mut self,
-        left: &mut Self,
-        right: &mut Self,
-        left_id: u32,
-        right_id: u32,
-        cut: u64,
-    ) {
-        self.node
-            .grow_link(&mut left.node, &mut right.node, left_id, right_id, cut);
     }
 }

@@ -1,7 +1,7 @@
 //! Nodes behind one allocation.
 //!
 //! A caller that takes a node moves its body from the arena into its hand, and moves it back when it releases the node.
-//! A body with a range, a level and a link is several words beside the pairs and edges; behind one box it is one.
+//! A body has some fifty words; behind one box it is one. (`WithRange` and `WithLink` have such a box themselves.)
 #![tactic(auto)]
 
 mod boxed;

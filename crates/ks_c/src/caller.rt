@@ -18,13 +18,13 @@ use ks_node::WithRange;
 #[derive(Drop)]
 pub enum Caller {
     /// A B-link tree.
-    BLinkTree(CallerOf<Boxed<WithLink<BNode>>, Link>),
+    BLinkTree(CallerOf<WithLink<BNode>, Link>),
     /// A B+ tree by giving up.
-    GiveUpTree(CallerOf<Boxed<WithRange<BNode>>, Tree>),
+    GiveUpTree(CallerOf<WithRange<BNode>, Tree>),
     /// A B+ tree by lock coupling.
     BTree(CallerOf<Boxed<BNode>, Tree>),
     /// A hash table along links.
-    LinkHashTable(CallerOf<Boxed<WithLink<HNode>>, Link>),
+    LinkHashTable(CallerOf<WithLink<HNode>, Link>),
 }
 
 /// A caller over some nodes, as C keeps it.
@@ -39,7 +39,7 @@ pub trait Kept: Drop {
         ensures { result ≡ kept self };
 }
 
-impl Kept for CallerOf<Boxed<WithLink<BNode>>, Link> {
+impl Kept for CallerOf<WithLink<BNode>, Link> {
     ghost use Rattle.ks_c.specs.declared.caller.Caller.TheVariants.{BLinkTree};
 
     ghost kept = { λ c. BLinkTree c };
@@ -49,7 +49,7 @@ impl Kept for CallerOf<Boxed<WithLink<BNode>>, Link> {
     }
 }
 
-impl Kept for CallerOf<Boxed<WithRange<BNode>>, Tree> {
+impl Kept for CallerOf<WithRange<BNode>, Tree> {
     ghost use Rattle.ks_c.specs.declared.caller.Caller.TheVariants.{GiveUpTree};
 
     ghost kept = { λ c. GiveUpTree c };
@@ -69,7 +69,7 @@ impl Kept for CallerOf<Boxed<BNode>, Tree> {
     }
 }
 
-impl Kept for CallerOf<Boxed<WithLink<HNode>>, Link> {
+impl Kept for CallerOf<WithLink<HNode>, Link> {
     ghost use Rattle.ks_c.specs.declared.caller.Caller.TheVariants.{LinkHashTable};
 
     ghost kept = { λ c. LinkHashTable c };

@@ -47,8 +47,8 @@ fn measure_by<R: Threads + Wait + Clock + Sync>(
 {
     let measured = match technique {
         "coupling" => measure::<Boxed<BNode>, Coupling, R>(rt, alloc, callers, calls)?,
-        "giveup" => measure::<Boxed<WithRange<BNode>>, GiveUp, R>(rt, alloc, callers, calls)?,
-        "link" => measure::<Boxed<WithLink<BNode>>, LinkMove, R>(rt, alloc, callers, calls)?,
+        "giveup" => measure::<WithRange<BNode>, GiveUp, R>(rt, alloc, callers, calls)?,
+        "link" => measure::<WithLink<BNode>, LinkMove, R>(rt, alloc, callers, calls)?,
         _ => return Ok(None),
     };
     Ok(Some(measured))

@@ -2,7 +2,6 @@
 ghost use Rattle.ks_dictionary.specs.Of.{IsIdlePassOf};
 
 use ks_arena::{Arena, Pass};
-use ks_boxed::Boxed;
 use ks_bplus::BNode;
 use ks_dictionary::{Dictionary, Gated};
 use ks_gate::{Gate, Point};
@@ -145,7 +144,7 @@ fn guided_calls_by_giving_up_return_what_a_map_returns(rt: HostRuntime) -> Resul
     let gate = none_taken();
     let mut plain: Vec<Option<u128>> = vec![in alloc; None; 2048]?;
     let mut guide = Guide::start(alloc, 1024, 64)?;
-    let (map, mut passes) = Dictionary::<Boxed<WithRange<BNode>>, GiveUp>::start(alloc, 1024, 1)?;
+    let (map, mut passes) = Dictionary::<WithRange<BNode>, GiveUp>::start(alloc, 1024, 1)?;
     let plain = plain.as_mut_slice();
     let wrong = count_wrong(&rt, &map, &mut passes[0], &gate, &mut guide, plain, 20000);
     assert_eq!(rt; wrong, 0);
@@ -162,7 +161,7 @@ fn guided_calls_along_links_return_what_a_map_returns(rt: HostRuntime) -> Result
     let gate = none_taken();
     let mut plain: Vec<Option<u128>> = vec![in alloc; None; 2048]?;
     let mut guide = Guide::start(alloc, 1024, 64)?;
-    let (map, mut passes) = Dictionary::<Boxed<WithLink<BNode>>, LinkMove>::start(alloc, 1024, 1)?;
+    let (map, mut passes) = Dictionary::<WithLink<BNode>, LinkMove>::start(alloc, 1024, 1)?;
     let plain = plain.as_mut_slice();
     let wrong = count_wrong(&rt, &map, &mut passes[0], &gate, &mut guide, plain, 20000);
     assert_eq!(rt; wrong, 0);

@@ -14,16 +14,23 @@ use ks_keysets::{Edge, Few, Pair, Span};
 use ks_node::{Growing, Linked, Listed, Next, Node, Ordered, Ranged, cut_edge};
 use std::alloc::{AllocError, Global};
 
-/// A node, the places that may be looked for in it, its level, and the node right of it on that level.
+/// A node, the places that may be looked for in it, its level, and the node right of it on that level, behind one
+/// allocation: so it moves by one word.
 #[derive(Drop)]
 pub struct WithLink<N: Growing> {
+    inner: Box<Inside<N>>,
+    ghost framed: { Framed inner.value.range (N.body inner.value.node) } by { Prim.hlevel props },
+    ghost same_range: { ForSome (N.body inner.value.node).range (λ r. r ≡ inner.value.range) },
+    ghost link_where: { is_some inner.value.link ≡ nat_lt inner.value.range.last top },
+}
+
+/// The node, its range, its level and its link.
+#[derive(Drop)]
+struct Inside<N: Growing> {
     node: N,
     range: Span,
     level: u32,
     link: Option<u32>,
-    ghost framed: { Framed range (N.body node) } by { Prim.hlevel props },
-    ghost same_range: { ForSome (N.body node).range (λ r. r ≡ range) },
-    ghost link_where: { is_some link ≡ nat_lt range.last top },
 }
 
 impl<N: Growing> Node for WithLink<N> {
@@ -38,7 +45,7 @@ impl<N: Growing> Node for WithLink<N> {
 
     ghost ROOM = { N.ROOM };
 
-    ghost body = { λ w. linked w.range w.level w.link (N.body w.node) };
+    ghost body = { λ w. linked w.inner.value.range w.inner.value.level w.inner.value.link (N.body w.inner.value.node) };
 
     ghost ranged = { true };
 
@@ -62,16 +69,16 @@ impl<N: Growing> Node for WithLink<N> {
 
     ghost span_at = { N.span_at };
 
-    ghost sound = { λ s. N.sound s.node };
+    ghost sound = { λ s. N.sound s.inner.value.node };
 
-    ghost framed = { λ s r is. framed_linked (N.body s.node) s.range s.level s.link s.framed is };
+    ghost framed = { λ s r is. framed_linked (N.body s.inner.value.node) s.inner.value.range s.inner.value.level s.inner.value.link s.framed is };
 
-    ghost held = { λ s. N.held s.node };
+    ghost held = { λ s. N.held s.inner.value.node };
 
     ghost has_range = { λ s. refl };
 
-    ghost adopting = { λ promised s. branches_linked (N.body s.node) s.range s.level s.link s.same_range N.can_adopt_at
-        N.layout (N.adopting promised s.node) };
+    ghost adopting = { λ promised s. branches_linked (N.body s.inner.value.node) s.inner.value.range s.inner.value.level s.inner.value.link s.same_range N.can_adopt_at
+        N.layout (N.adopting promised s.inner.value.node) };
 
     ghost room_is = { N.room_is };
 
@@ -80,79 +87,85 @@ impl<N: Growing> Node for WithLink<N> {
     ghost becomes_branch = { N.becomes_branch };
 
     fn blank(alloc: Global) -> Result<Self, AllocError> {
-        Ok(WithLink {
-            node: N::blank(alloc)?,
+        let node = N::blank(alloc)?;
+        let inside = Inside {
+            node,
             range: Span {
                 low: 0,
                 last: u64::MAX,
             },
             level: 0,
             link: None,
+        };
+        Ok(WithLink {
+            inner: Box::new(alloc, inside)?,
         })
     }
 
     fn next(&self, place: u64) -> Next {
-        if place > self.range.last {
-            match self.link {
+        if place > self.inner.range.last {
+            match self.inner.link {
                 Some(right) => Next::Go(right),
                 None => Next::Here,
             }
-        } else if self.range.low <= place {
-            self.node.next(place)
+        } else if self.inner.range.low <= place {
+            self.inner.node.next(place)
         } else {
             Next::Here
         }
     }
 
     fn get(&self, place: u64) -> Option<u128> {
-        self.node.get(place)
+        self.inner.node.get(place)
     }
 
     fn put(&mut self, place: u64, value: u128) -> Option<u128> {
-        self.node.put(place, value)
+        self.inner.node.put(place, value)
     }
 
     fn del(&mut self, place: u64) -> Option<u128> {
-        self.node.del(place)
+        self.inner.node.del(place)
     }
 
     fn is_full(&self) -> bool {
-        self.node.is_full()
+        self.inner.node.is_full()
     }
 
     fn is_low(&self) -> bool {
-        self.node.is_low()
+        self.inner.node.is_low()
     }
 
     fn is_branch(&self) -> bool {
-        self.node.is_branch()
+        self.inner.node.is_branch()
     }
 
     fn pairs_held(&self) -> u32 {
-        self.node.pairs_held()
+        self.inner.node.pairs_held()
     }
 
     fn pair_at(&self, n: u32) -> Pair {
-        self.node.pair_at(n)
+        self.inner.node.pair_at(n)
     }
 
     fn edges_held(&self) -> u32 {
-        let own = self.node.edges_held();
-        match self.link {
+        let inside = &*self.inner;
+        let own = inside.node.edges_held();
+        match inside.link {
             Some(_) => own + 1,
             None => own,
         }
     }
 
     fn edge_at(&self, n: u32) -> Edge {
-        let own = self.node.edges_held();
+        let inside = &*self.inner;
+        let own = inside.node.edges_held();
         if n < own {
-            return cut_edge(self.node.edge_at(n), &self.range, n + 1 == own);
+            return cut_edge(inside.node.edge_at(n), &inside.range, n + 1 == own);
         }
-        match self.link {
+        match inside.link {
             Some(right) => Edge {
                 span: Span {
-                    low: self.range.last + 1,
+                    low: inside.range.last + 1,
                     last: u64::MAX,
                 },
                 node: right,
@@ -162,7 +175,7 @@ impl<N: Growing> Node for WithLink<N> {
     }
 
     fn grows(&self) -> bool {
-        self.node.grows()
+        self.inner.node.grows()
     }
 
     fn grows_in_place() -> bool {
@@ -170,35 +183,36 @@ impl<N: Growing> Node for WithLink<N> {
     }
 
     fn only_child(&self) -> Option<u32> {
-        self.node.only_child()
+        self.inner.node.only_child()
     }
 
     fn chained(&self) -> Option<u32> {
-        self.node.chained()
+        self.inner.node.chained()
     }
 
     fn span_for(&self, place: u64) -> Option<Span> {
-        self.node.span_for(place)
+        self.inner.node.span_for(place)
     }
 
     fn cut(&self, span: Option<Span>) -> u64 {
-        self.node.cut(Some(self.range))
+        let inside = &*self.inner;
+        inside.node.cut(Some(inside.range))
     }
 
     fn can_adopt(&self, cut: u64) -> bool {
-        self.node.is_branch() && cut != self.range.low && self.node.can_adopt(cut)
+        self.inner.node.is_branch() && cut != self.inner.range.low && self.inner.node.can_adopt(cut)
     }
 
     fn adopt(&mut self, cut: u64, id: u32) {
-        self.node.adopt(cut, id);
+        self.inner.node.adopt(cut, id);
     }
 
     fn right_of(&self, place: u64) -> Option<u32> {
-        self.node.right_of(place)
+        self.inner.node.right_of(place)
     }
 
     fn fits(&self, right: &Self) -> bool {
-        self.node.fits(&right.node)
+        self.inner.node.fits(&right.inner.node)
     }
 }
 
@@ -208,7 +222,7 @@ impl<N: Growing> Ranged for WithLink<N> {
     ghost is_ranged = { refl };
 
     fn range(&self) -> Span {
-        self.range
+        self.inner.range
     }
 }
 
@@ -216,23 +230,25 @@ impl<N: Growing> Linked for WithLink<N> {
     ghost use Rattle.std.specs.Prelude.{refl};
 
     fn level(&self) -> u32 {
-        self.level
+        self.inner.level
     }
 
     fn link(&self) -> Option<u32> {
-        self.link
+        self.inner.link
     }
 
     fn split_link(&mut self, right: &mut Self, right_id: u32, cut: u64) {
-        self.node.split_to(&mut right.node, cut);
+        let left = &mut *self.inner;
+        let right = &mut *right.inner;
+        left.node.split_to(&mut right.node, cut);
         right.range = Span {
             low: cut,
-            last: self.range.last,
+            last: left.range.last,
         };
-        right.level = self.level;
-        right.link = self.link;
-        self.range.last = cut - 1;
-        self.link = Some(right_id);
+        right.level = left.level;
+        right.link = left.link;
+        left.range.last = cut - 1;
+        left.link = Some(right_id);
     }
 
     fn grow_link(
@@ -243,28 +259,32 @@ impl<N: Growing> Linked for WithLink<N> {
         right_id: u32,
         cut: u64,
     ) {
-        self.node
+        let parent = &mut *self.inner;
+        let left = &mut *left.inner;
+        let right = &mut *right.inner;
+        parent
+            .node
             .grow(&mut left.node, &mut right.node, left_id, right_id, cut);
         left.range = Span {
-            low: self.range.low,
+            low: parent.range.low,
             last: cut - 1,
         };
-        left.level = self.level;
+        left.level = parent.level;
         left.link = Some(right_id);
         right.range = Span {
             low: cut,
-            last: self.range.last,
+            last: parent.range.last,
         };
-        right.level = self.level;
+        right.level = parent.level;
         right.link = None;
-        self.level += 1;
+        parent.level += 1;
     }
 
     ghost link_where = { λ s. s.link_where };
 
     ghost by_range = { refl };
 
-    ghost grows_where = { λ s. N.grows_where s.node };
+    ghost grows_where = { λ s. N.grows_where s.inner.value.node };
 
     ghost at_root = { N.at_root };
 }
@@ -275,6 +295,6 @@ impl<N: Growing + Ordered> Listed for WithLink<N> {
     ghost adopts = { N.adopts };
 
     fn list(&self, low: u64, last: u64, into: &mut Few) {
-        self.node.pairs_in(low, last, into);
+        self.inner.node.pairs_in(low, last, into);
     }
 }

@@ -3,7 +3,6 @@
 ghost use Rattle.ks_dictionary.specs.Of.{IsIdlePassOf};
 
 use ks_arena::{Arena, Pass};
-use ks_boxed::Boxed;
 use ks_bplus::BNode;
 use ks_dictionary::Dictionary;
 use ks_giveup::GiveUp;
@@ -13,8 +12,6 @@ use std::sync::Wait;
 use std::test::Fail;
 
 type Leaves = Dictionary<WithRange<BNode>, GiveUp>;
-
-type BoxedLeaves = Dictionary<Boxed<WithRange<BNode>>, GiveUp>;
 
 /// What a move returns.
 type Moved = Result<Numbered, MoveLeft>;
@@ -90,7 +87,7 @@ fn moves_when_full<N: Node, T: Ruled + Moving<N, Arena<N, <T as Ruled>::Rule>>, 
 
 #[test]
 fn a_value_moves_between_two_leaves_and_within_one(rt: HostRuntime) -> Result<(), Fail> {
-    let (map, mut passes) = BoxedLeaves::start(rt.alloc(), 64, 1)?;
+    let (map, mut passes) = Leaves::start(rt.alloc(), 64, 1)?;
     fill(&rt, &map, &mut passes[0], 17, 2);
     assert!(rt; moves_between(&rt, &map, &mut passes[0]));
     assert!(rt; moves_within(&rt, &map, &mut passes[0]));

@@ -12,13 +12,19 @@ use crate::unlinked::{Growing, Unlinked};
 use ks_keysets::{Edge, Few, Pair, Span};
 use std::alloc::{AllocError, Global};
 
-/// A node and the places that may be searched for in it.
+/// A node and the places that may be searched for in it, behind one allocation: so it moves by one word.
 #[derive(Drop)]
 pub struct WithRange<N: Unlinked> {
+    inner: Box<Inside<N>>,
+    ghost framed: { Framed inner.value.range (N.body inner.value.node) } by { Prim.hlevel props },
+    ghost same_range: { ForSome (N.body inner.value.node).range (λ r. r ≡ inner.value.range) },
+}
+
+/// The node and its range.
+#[derive(Drop)]
+struct Inside<N: Unlinked> {
     node: N,
     range: Span,
-    ghost framed: { Framed range (N.body node) } by { Prim.hlevel props },
-    ghost same_range: { ForSome (N.body node).range (λ r. r ≡ range) },
 }
 
 ghost use Rattle.std.specs.Prelude.{◌≡◌};
@@ -46,7 +52,7 @@ impl<N: Unlinked> Node for WithRange<N> {
 
     ghost ROOM = { N.ROOM };
 
-    ghost body = { λ w. with_range w.range (N.body w.node) };
+    ghost body = { λ w. with_range w.inner.value.range (N.body w.inner.value.node) };
 
     ghost ranged = { true };
 
@@ -70,16 +76,16 @@ impl<N: Unlinked> Node for WithRange<N> {
 
     ghost span_at = { N.span_at };
 
-    ghost sound = { λ s. N.sound s.node };
+    ghost sound = { λ s. N.sound s.inner.value.node };
 
     ghost framed = { λ s r is. framed_with s.framed is };
 
-    ghost held = { λ s. N.held s.node };
+    ghost held = { λ s. N.held s.inner.value.node };
 
     ghost has_range = { λ s. refl };
 
-    ghost adopting = { λ promised s. branches_inside (N.body s.node) s.range s.same_range N.can_adopt_at N.layout
-        (N.adopting promised s.node) };
+    ghost adopting = { λ promised s. branches_inside (N.body s.inner.value.node) s.inner.value.range s.same_range N.can_adopt_at N.layout
+        (N.adopting promised s.inner.value.node) };
 
     ghost room_is = { N.room_is };
 
@@ -88,63 +94,65 @@ impl<N: Unlinked> Node for WithRange<N> {
     ghost becomes_branch = { N.becomes_branch };
 
     fn blank(alloc: Global) -> Result<Self, AllocError> {
+        let node = N::blank(alloc)?;
+        let inside = Inside { node, range: ALL };
         Ok(WithRange {
-            node: N::blank(alloc)?,
-            range: ALL,
+            inner: Box::new(alloc, inside)?,
         })
     }
 
     fn next(&self, place: u64) -> Next {
-        if self.range.low <= place && place <= self.range.last {
-            self.node.next(place)
+        if self.inner.range.low <= place && place <= self.inner.range.last {
+            self.inner.node.next(place)
         } else {
             Next::Here
         }
     }
 
     fn get(&self, place: u64) -> Option<u128> {
-        self.node.get(place)
+        self.inner.node.get(place)
     }
 
     fn put(&mut self, place: u64, value: u128) -> Option<u128> {
-        self.node.put(place, value)
+        self.inner.node.put(place, value)
     }
 
     fn del(&mut self, place: u64) -> Option<u128> {
-        self.node.del(place)
+        self.inner.node.del(place)
     }
 
     fn is_full(&self) -> bool {
-        self.node.is_full()
+        self.inner.node.is_full()
     }
 
     fn is_low(&self) -> bool {
-        self.node.is_low()
+        self.inner.node.is_low()
     }
 
     fn is_branch(&self) -> bool {
-        self.node.is_branch()
+        self.inner.node.is_branch()
     }
 
     fn pairs_held(&self) -> u32 {
-        self.node.pairs_held()
+        self.inner.node.pairs_held()
     }
 
     fn pair_at(&self, n: u32) -> Pair {
-        self.node.pair_at(n)
+        self.inner.node.pair_at(n)
     }
 
     fn edges_held(&self) -> u32 {
-        self.node.edges_held()
+        self.inner.node.edges_held()
     }
 
     fn edge_at(&self, n: u32) -> Edge {
-        let held = self.node.edges_held();
-        cut_edge(self.node.edge_at(n), &self.range, n + 1 == held)
+        let inside = &*self.inner;
+        let held = inside.node.edges_held();
+        cut_edge(inside.node.edge_at(n), &inside.range, n + 1 == held)
     }
 
     fn grows(&self) -> bool {
-        self.node.grows()
+        self.inner.node.grows()
     }
 
     fn grows_in_place() -> bool {
@@ -152,35 +160,36 @@ impl<N: Unlinked> Node for WithRange<N> {
     }
 
     fn only_child(&self) -> Option<u32> {
-        self.node.only_child()
+        self.inner.node.only_child()
     }
 
     fn chained(&self) -> Option<u32> {
-        self.node.chained()
+        self.inner.node.chained()
     }
 
     fn span_for(&self, place: u64) -> Option<Span> {
-        self.node.span_for(place)
+        self.inner.node.span_for(place)
     }
 
     fn cut(&self, span: Option<Span>) -> u64 {
-        self.node.cut(span)
+        self.inner.node.cut(span)
     }
 
     fn can_adopt(&self, cut: u64) -> bool {
-        !(self.node.is_branch() && cut == self.range.low) && self.node.can_adopt(cut)
+        !(self.inner.node.is_branch() && cut == self.inner.range.low)
+            && self.inner.node.can_adopt(cut)
     }
 
     fn adopt(&mut self, cut: u64, id: u32) {
-        self.node.adopt(cut, id);
+        self.inner.node.adopt(cut, id);
     }
 
     fn right_of(&self, place: u64) -> Option<u32> {
-        self.node.right_of(place)
+        self.inner.node.right_of(place)
     }
 
     fn fits(&self, right: &Self) -> bool {
-        self.node.fits(&right.node)
+        self.inner.node.fits(&right.inner.node)
     }
 }
 
@@ -189,70 +198,80 @@ impl<N: Unlinked> Unlinked for WithRange<N> {
     ghost use Rattle.std.proofs.Common.{inl, inr};
     ghost use Rattle.ks_node.specs.Laws.Wrapped.{adopts_inner, adopts_its_cut};
 
-    ghost no_link = { λ s. N.no_link s.node };
+    ghost no_link = { λ s. N.no_link s.inner.value.node };
 
-    ghost no_level = { λ s. N.no_level s.node };
+    ghost no_level = { λ s. N.no_level s.inner.value.node };
 
     ghost by_span = { refl };
 
     ghost none_starts = { λ c cut can. N.none_starts c cut (adopts_inner N.can_adopt_at c cut can) };
 
     ghost sort = { λ e. elim (N.sort e) [
-      | inl adopts ↦ inl (λ s. adopts_its_cut (N.body s.node) s.range s.same_range N.can_adopt_at N.cut_at N.layout (adopts s.node))
-      | inr grows ↦ inr (λ s. grows.0 s.node, grows.1, grows.2)
+      | inl adopts ↦ inl (λ s. adopts_its_cut (N.body s.inner.value.node) s.inner.value.range s.same_range N.can_adopt_at N.cut_at N.layout (adopts s.inner.value.node))
+      | inr grows ↦ inr (λ s. grows.0 s.inner.value.node, grows.1, grows.2)
     ] };
 
-    ghost stands = { λ t. (λ s. record { can = ((N.stands t).0 s.node).can; bare = ((N.stands t).0 s.node).bare }, (N.stands t).1) };
+    ghost stands = { λ t. (λ s. record { can = ((N.stands t).0 s.inner.value.node).can; bare = ((N.stands t).0 s.inner.value.node).bare }, (N.stands t).1) };
 
     fn split_to(&mut self, right: &mut Self, cut: u64) {
-        self.node.split_to(&mut right.node, cut);
+        let left = &mut *self.inner;
+        let right = &mut *right.inner;
+        left.node.split_to(&mut right.node, cut);
         right.range = Span {
             low: cut,
-            last: self.range.last,
+            last: left.range.last,
         };
-        self.range.last = cut - 1;
+        left.range.last = cut - 1;
     }
 
     fn reach(&mut self, right: &Self) {
-        self.node.reach(&right.node);
-        self.range.last = right.range.last;
+        let left = &mut *self.inner;
+        let right = &*right.inner;
+        left.node.reach(&right.node);
+        left.range.last = right.range.last;
     }
 
     fn grow(&mut self, left: &mut Self, right: &mut Self, left_id: u32, right_id: u32, cut: u64) {
-        self.node
+        let parent = &mut *self.inner;
+        let left = &mut *left.inner;
+        let right = &mut *right.inner;
+        parent
+            .node
             .grow(&mut left.node, &mut right.node, left_id, right_id, cut);
         left.range = Span {
-            low: self.range.low,
+            low: parent.range.low,
             last: cut - 1,
         };
         right.range = Span {
             low: cut,
-            last: self.range.last,
+            last: parent.range.last,
         };
     }
 
     fn absorb(&mut self, right: &mut Self) {
-        self.node.absorb(&mut right.node);
-        self.range.last = right.range.last;
+        let left = &mut *self.inner;
+        let right = &mut *right.inner;
+        left.node.absorb(&mut right.node);
+        left.range.last = right.range.last;
         right.range = ALL;
     }
 
     fn forget(&mut self, id: u32) {
-        self.node.forget(id);
+        self.inner.node.forget(id);
     }
 
     fn collapse(&mut self, child: &mut Self) {
-        self.node.collapse(&mut child.node);
-        child.range = ALL;
+        self.inner.node.collapse(&mut child.inner.node);
+        child.inner.range = ALL;
     }
 }
 
 impl<N: Growing> Growing for WithRange<N> {
-    ghost grows_where = { λ s. N.grows_where s.node };
+    ghost grows_where = { λ s. N.grows_where s.inner.value.node };
 
     ghost at_root = { N.at_root };
 
-    ghost few_edges = { λ s. N.few_edges s.node };
+    ghost few_edges = { λ s. N.few_edges s.inner.value.node };
 }
 
 impl<N: Unlinked> Ranged for WithRange<N> {
@@ -261,7 +280,7 @@ impl<N: Unlinked> Ranged for WithRange<N> {
     ghost is_ranged = { refl };
 
     fn range(&self) -> Span {
-        self.range
+        self.inner.range
     }
 }
 
@@ -271,6 +290,6 @@ impl<N: Ordered> Listed for WithRange<N> {
     ghost adopts = { N.adopts };
 
     fn list(&self, low: u64, last: u64, into: &mut Few) {
-        self.node.pairs_in(low, last, into);
+        self.inner.node.pairs_in(low, last, into);
     }
 }

@@ -155,6 +155,7 @@ fn blank_nodes_keep_a_pair(rt: HostRuntime) {
     keeps_a_pair::<BNode>(&rt, rt.alloc());
     keeps_a_pair::<HNode>(&rt, rt.alloc());
     keeps_a_pair::<TNode>(&rt, rt.alloc());
+    keeps_a_pair::<Boxed<BNode>>(&rt, rt.alloc());
     keeps_a_pair::<WithLink<WithRange<BNode>>>(&rt, rt.alloc());
 }
 
@@ -194,7 +195,7 @@ fn nodes_with_a_range_chain_and_merge(rt: HostRuntime) {
 
 #[test]
 fn nodes_list_the_pairs_of_spans(rt: HostRuntime) {
-    lists_few::<Boxed<WithLink<BNode>>>(&rt, rt.alloc());
-    lists_when_grown::<Boxed<WithRange<BNode>>>(&rt, rt.alloc());
-    lists_when_grown_linked::<Boxed<WithLink<BNode>>>(&rt, rt.alloc());
+    lists_few::<WithLink<BNode>>(&rt, rt.alloc());
+    lists_when_grown::<WithRange<BNode>>(&rt, rt.alloc());
+    lists_when_grown_linked::<WithLink<BNode>>(&rt, rt.alloc());
 }

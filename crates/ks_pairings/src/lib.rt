@@ -4,7 +4,6 @@
 #![tactic(auto)]
 
 mod moves;
-mod neither;
 mod scans;
 
 ghost use Rattle.std.specs.Prelude.{◌≤◌, map, length, IfOk, true, false};
@@ -14,7 +13,6 @@ ghost use Rattle.ks_places.specs.Golden.{golden_place};
 ghost use Rattle.ks_pairings.specs.ByPairing.{IsServedBy};
 
 use crate::moves::Moves;
-use crate::neither::Neither;
 use crate::scans::{Scans, ScansAndMoves};
 use ks_aid::Admits;
 use ks_boxed::Boxed;
@@ -139,7 +137,7 @@ pub fn list_give_up<R: Threads + Wait + Sync, G: Gate + Admits + Sync>(
     ensures { IfOk result (λ told. IsServedBy list_layout (λ k. k) nodes (map (λ v. v.items) callers.items)
         (map (λ v. v.items) told.lines.items) told.pairs.items told.trace) }
 {
-    serve_callers::<Boxed<WithRange<ListNode>>, GiveUp, Moves, R, G>(
+    serve_callers::<WithRange<ListNode>, GiveUp, Moves, R, G>(
         rt, alloc, nodes, callers, workers, aiding, gate, &Moves,
     )
 }
@@ -161,7 +159,7 @@ pub fn bplus_give_up<R: Threads + Wait + Sync, G: Gate + Admits + Sync>(
     ensures { IfOk result (λ told. IsServedBy bplus_layout (λ k. k) nodes (map (λ v. v.items) callers.items)
         (map (λ v. v.items) told.lines.items) told.pairs.items told.trace) }
 {
-    serve_callers::<Boxed<WithRange<BNode>>, GiveUp, ScansAndMoves, R, G>(
+    serve_callers::<WithRange<BNode>, GiveUp, ScansAndMoves, R, G>(
         rt,
         alloc,
         nodes,
@@ -190,7 +188,7 @@ pub fn hash_give_up<R: Threads + Wait + Sync, G: Gate + Admits + Sync>(
     ensures { IfOk result (λ told. IsServedBy hash_layout golden_place nodes (map (λ v. v.items) callers.items)
         (map (λ v. v.items) told.lines.items) told.pairs.items told.trace) }
 {
-    serve_callers::<Boxed<WithRange<HNode>>, GiveUp, Moves, R, G>(
+    serve_callers::<WithRange<HNode>, GiveUp, Moves, R, G>(
         rt, alloc, nodes, callers, workers, aiding, gate, &Moves,
     )
 }
@@ -212,7 +210,7 @@ pub fn bst_give_up<R: Threads + Wait + Sync, G: Gate + Admits + Sync>(
     ensures { IfOk result (λ told. IsServedBy bst_layout (λ k. k) nodes (map (λ v. v.items) callers.items)
         (map (λ v. v.items) told.lines.items) told.pairs.items told.trace) }
 {
-    serve_callers::<Boxed<WithRange<TNode>>, GiveUp, Moves, R, G>(
+    serve_callers::<WithRange<TNode>, GiveUp, Moves, R, G>(
         rt, alloc, nodes, callers, workers, aiding, gate, &Moves,
     )
 }
@@ -234,7 +232,7 @@ pub fn bplus_link<R: Threads + Wait + Sync, G: Gate + Admits + Sync>(
     ensures { IfOk result (λ told. IsServedBy bplus_layout (λ k. k) nodes (map (λ v. v.items) callers.items)
         (map (λ v. v.items) told.lines.items) told.pairs.items told.trace) }
 {
-    serve_callers::<Boxed<WithLink<BNode>>, LinkMove, Scans, R, G>(
+    serve_callers::<WithLink<BNode>, LinkMove, Scans, R, G>(
         rt, alloc, nodes, callers, workers, aiding, gate, &Scans,
     )
 }
@@ -256,7 +254,7 @@ pub fn hash_link<R: Threads + Wait + Sync, G: Gate + Admits + Sync>(
     ensures { IfOk result (λ told. IsServedBy hash_layout golden_place nodes (map (λ v. v.items) callers.items)
         (map (λ v. v.items) told.lines.items) told.pairs.items told.trace) }
 {
-    serve_callers::<Boxed<WithLink<HNode>>, LinkMove, Neither, R, G>(
-        rt, alloc, nodes, callers, workers, aiding, gate, &Neither,
+    serve_callers::<WithLink<HNode>, LinkMove, AtOneKey, R, G>(
+        rt, alloc, nodes, callers, workers, aiding, gate, &AtOneKey,
     )
 }

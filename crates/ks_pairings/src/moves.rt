@@ -5,7 +5,6 @@
 ghost use Rattle.std.specs.Prelude.{◌≡◌, true, false};
 
 use ks_arena::{Arena, Pass};
-use ks_boxed::Boxed;
 use ks_bst::TNode;
 use ks_dictionary::Reaching;
 use ks_flow::Tree;
@@ -19,13 +18,13 @@ use ks_shape::{MoveLeft, Moving, Numbered};
 use std::sync::Wait;
 
 /// A node of a sorted list by giving up.
-type ListRange = Boxed<WithRange<ListNode>>;
+type ListRange = WithRange<ListNode>;
 
 /// A node of a hash table by giving up.
-type HashRange = Boxed<WithRange<HNode>>;
+type HashRange = WithRange<HNode>;
 
 /// A node of a binary search tree by giving up.
-type BstRange = Boxed<WithRange<TNode>>;
+type BstRange = WithRange<TNode>;
 
 /// Moves by giving up, and no scans.
 pub struct Moves;

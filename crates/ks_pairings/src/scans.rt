@@ -2,7 +2,6 @@
 ghost use Rattle.std.specs.Prelude.{◌≡◌, true, false};
 
 use ks_arena::{Arena, Pass};
-use ks_boxed::Boxed;
 use ks_bplus::BNode;
 use ks_dictionary::Reaching;
 use ks_flow::{Link, Tree};
@@ -17,10 +16,10 @@ use ks_shape::{MoveLeft, Moving, Numbered, scanning_law};
 use std::sync::Wait;
 
 /// A node of a B+ tree by giving up.
-type BplusRange = Boxed<WithRange<BNode>>;
+type BplusRange = WithRange<BNode>;
 
 /// A node of a B+ tree along links.
-type BplusLink = Boxed<WithLink<BNode>>;
+type BplusLink = WithLink<BNode>;
 
 /// Scans and moves, by giving up.
 pub struct ScansAndMoves;

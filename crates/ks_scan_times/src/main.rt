@@ -12,7 +12,6 @@ mod workers;
 
 ghost use Rattle.std.specs.Prelude.{◌≤◌};
 
-use ks_boxed::Boxed;
 use ks_bplus::BNode;
 use ks_dictionary::Dictionary;
 use ks_giveup::GiveUp;
@@ -43,7 +42,7 @@ fn by_giving_up<R: Threads + Wait + Clock + Sync>(
     requires workers { (1 ≤ load.workers) × (load.workers ≤ 64) }
     requires bits { load.bits ≤ 20 }
 {
-    let (map, mut passes) = Dictionary::<Boxed<WithRange<BNode>>, GiveUp>::start(
+    let (map, mut passes) = Dictionary::<WithRange<BNode>, GiveUp>::start(
         alloc,
         load.nodes(),
         load.workers,
@@ -63,7 +62,7 @@ fn along_links<R: Threads + Wait + Clock + Sync>(
     requires workers { (1 ≤ load.workers) × (load.workers ≤ 64) }
     requires bits { load.bits ≤ 20 }
 {
-    let (map, mut passes) = Dictionary::<Boxed<WithLink<BNode>>, LinkMove>::start(
+    let (map, mut passes) = Dictionary::<WithLink<BNode>, LinkMove>::start(
         alloc,
         load.nodes(),
         load.workers,

@@ -9,11 +9,11 @@ invariant_of-left g c =
     let me = c.args.self.now in
     let low_is = me.framed.low_is in
     let above = c.requires.cut.0.0 in
-    let within = c.requires.cut.0.1 me.range refl in
+    let within = c.requires.cut.0.1 me.inner.value.range refl in
     let ends = me.framed.ends in
     record {
-      framed = rw c.grow.ensures.left (framed_left me.framed c.args.cut (omega arith) within);
-      same_range = rw c.grow.ensures.left (same_ends _ me.range _ me.same_range);
+      framed = rw c.grow.ensures.left (rw c.deref_mut-parent.ensures.value (framed_left me.framed c.args.cut (omega arith) within));
+      same_range = rw c.grow.ensures.left (rw c.deref_mut-parent.ensures.value (same_ends _ me.inner.value.range _ me.same_range));
       link_where = sym (lt-ltb _ _ (omega arith));
     }
 
@@ -24,7 +24,7 @@ invariant_of-right g c =
     let above = c.requires.cut.0.0 in
     let ends = c.requires.ends in
     record {
-      framed = rw c.grow.ensures.right (framed_right me.framed c.args.cut (g.met.N.Node.sound me.node).starts_ascend (omega arith) (c.requires.cut.0.1 _ refl));
-      same_range = rw c.grow.ensures.right (same_begins _ me.range c.args.cut me.same_range);
-      link_where = sym (le-ltb _ _ (omega arith));
+      framed = rw c.grow.ensures.right (rw c.deref_mut-parent.ensures.value (framed_right me.framed c.args.cut (g.met.N.Node.sound me.inner.value.node).starts_ascend (omega arith) (c.requires.cut.0.1 _ refl)));
+      same_range = rw c.grow.ensures.right (rw c.deref_mut-parent.ensures.value (same_begins _ me.inner.value.range c.args.cut me.same_range));
+      link_where = rw c.deref_mut-parent.ensures.value (sym (le-ltb _ _ (omega arith)));
     }

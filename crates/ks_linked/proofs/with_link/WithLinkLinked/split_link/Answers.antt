@@ -10,9 +10,9 @@ invariant_of-right g c =
     let low_is = me.framed.low_is in
     let above = c.requires.cut.0.0 in
     record {
-      framed = rw c.split_to.ensures.right (framed_right me.framed c.args.cut (g.met.N.Node.sound me.node).starts_ascend (omega arith) (c.requires.cut.0.1 _ refl));
-      same_range = rw c.split_to.ensures.right (same_begins _ me.range c.args.cut me.same_range);
-      link_where = me.link_where;
+      framed = rw c.split_to.ensures.right (rw c.deref_mut-left.ensures.value (framed_right me.framed c.args.cut (g.met.N.Node.sound me.inner.value.node).starts_ascend (omega arith) (c.requires.cut.0.1 _ refl)));
+      same_range = rw c.split_to.ensures.right (rw c.deref_mut-left.ensures.value (same_begins _ me.inner.value.range c.args.cut me.same_range));
+      link_where = rw c.deref_mut-left.ensures.value me.link_where;
     }
 
 pub invariant_of-self : goal.invariant_of-self
@@ -20,10 +20,10 @@ invariant_of-self g c =
     let me = c.args.self.now in
     let low_is = me.framed.low_is in
     let above = c.requires.cut.0.0 in
-    let within = c.requires.cut.0.1 me.range refl in
+    let within = c.requires.cut.0.1 me.inner.value.range refl in
     let ends = me.framed.ends in
     record {
-      framed = rw c.split_to.ensures.left (framed_left me.framed c.args.cut (omega arith) within);
-      same_range = rw c.split_to.ensures.left (same_ends _ me.range _ me.same_range);
+      framed = rw c.split_to.ensures.left (rw c.deref_mut-left.ensures.value (framed_left me.framed c.args.cut (omega arith) within));
+      same_range = rw c.split_to.ensures.left (rw c.deref_mut-left.ensures.value (same_ends _ me.inner.value.range _ me.same_range));
       link_where = sym (lt-ltb _ _ (omega arith));
     }

@@ -7,7 +7,7 @@ invariant_of-self g c =
     let me = c.args.self.now in
     let low_is = me.framed.low_is in
     record {
-      framed = rw c.adopt.ensures (framed_adopted me.framed c.args.cut c.args.id (g.met.N.Node.sound me.node).branch_covers (omega (arith, c.requires.cut.0)) (c.requires.cut.1 _ refl));
-      same_range = rw c.adopt.ensures me.same_range;
-      link_where = me.link_where;
+      framed = rw c.adopt.ensures (rw c.deref_mut.ensures.value (framed_adopted me.framed c.args.cut c.args.id (g.met.N.Node.sound me.inner.value.node).branch_covers (omega (arith, c.requires.cut.0)) (c.requires.cut.1 _ refl)));
+      same_range = rw c.adopt.ensures (rw c.deref_mut.ensures.value me.same_range);
+      link_where = rw c.deref_mut.ensures.value me.link_where;
     }
