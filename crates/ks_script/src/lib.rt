@@ -45,6 +45,3 @@ pub use printed::{Printed, write_run};
 pub use script::{Script, read_script};
 pub use source::read_all;
 pub use version::Version;
-
-#[cfg(test)]
-mod tests;

@@ -26,6 +26,8 @@ pub enum SmallCall {
     Other { at: u32 },
 }
 
+const _: () = prove!(size_of::<SmallCall>() == 8);
+
 /// The longer lines of one caller, by kinds.
 #[derive(Drop)]
 pub struct LongCalls {

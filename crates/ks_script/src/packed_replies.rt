@@ -23,6 +23,8 @@ pub enum SmallReply {
     Other { at: u32 },
 }
 
+const _: () = prove!(size_of::<SmallReply>() == 8);
+
 /// What is said to one caller, in the order of its lines: the number and the reply of a call, or the parts of a scan.
 #[derive(Drop)]
 pub struct Replies {

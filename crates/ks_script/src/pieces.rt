@@ -236,6 +236,3 @@ pub fn put_map<K: Sink>(out: &mut K, piece: &mut Piece, pairs: &[(u64, u128)])
     }
     put(out, piece, b"end\n");
 }
-
-#[cfg(test)]
-mod tests;

@@ -1,6 +1,8 @@
-use super::*;
+//! What is read and written, what is refused, and which line is named.
+
 use ks_history::{Op, Reply};
 use ks_lines::{Line, Said};
+use ks_script::*;
 use std::alloc::{AllocError, Global};
 use std::process::Abort;
 use std::test::*;
@@ -466,10 +468,4 @@ fn packed_calls_and_lines_are_read_again(rt: HostRuntime) -> Result<(), Fail> {
     assert_eq!(rt; lines.number_at(1), u64::MAX);
     assert_eq!(rt; calls.len(), 8);
     Ok(())
-}
-
-#[test]
-fn small_calls_and_lines_take_little_room(rt: HostRuntime) {
-    assert_eq!(rt; size_of::<crate::packed_calls::SmallCall>(), 8);
-    assert_eq!(rt; size_of::<crate::packed_replies::SmallReply>(), 8);
 }

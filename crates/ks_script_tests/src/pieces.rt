@@ -1,11 +1,13 @@
 //! How the bytes of a run are offered.
 
-use super::PIECE;
-use crate::{Failed, Printed, Replies, Sink, write_run};
 use ks_history::Reply;
 use ks_lines::Said;
+use ks_script::{Failed, Printed, Replies, Sink, write_run};
 use std::alloc::Global;
 use std::test::Fail;
+
+// How many bytes are offered at a time.
+const PIECE: usize = 4096;
 
 /// Takes all bytes, and keeps how many pieces of the full size came, and the size of each other one.
 #[derive(Drop)]
