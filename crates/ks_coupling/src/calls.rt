@@ -38,12 +38,13 @@ pub fn get<N: Unlinked, R: Wait, G: Gate>(
     get_here(arena, pass, gate, place, held)
 }
 
-/// Puts a value at a place; returns the value that was there, and the number of the call. It splits full nodes on the
-/// search path and at its end, and holds three nodes at most.
+/// Puts a value at a place; returns the value that was there, and the number of the call. It splits full branches on
+/// the search path, and the node at its end if that is full and the place has no value. It holds three nodes at most.
 ///
 /// # Errors
 ///
-/// `Full` if the node has no room, the place has no value, and no node was found free.
+/// `Full` if the node has no room, the place has no value, and no node was found free: the call has its number, and
+/// splits that it made before stay.
 pub fn put<N: Unlinked, R: Wait, G: Gate>(
     rt: &R,
     arena: &Arena<N, Tree>,
@@ -62,8 +63,8 @@ pub fn put<N: Unlinked, R: Wait, G: Gate>(
     pair_fill(rt, arena, pass, gate, place, Fill::Put(value))
 }
 
-/// Puts a value at a place that has none; returns the value that was there, and the number of the call. It searches as
-/// `put` does.
+/// Puts a value at a place that has none; returns the value that was there, which then stays, and the number of the
+/// call. It searches as `put` does.
 ///
 /// # Errors
 ///
@@ -108,9 +109,9 @@ pub fn swap<N: Unlinked, R: Wait, G: Gate>(
 }
 
 /// Deletes what is at a place; returns the value that was there, and the number of the call. It may merge low branches
-/// on the search path; if it removed a pair, it merges the node at its end while that is low, and in a type that grows in
-/// place it searches again until a search makes no node free. It claims no node and splits none. It holds three nodes at
-/// most.
+/// on the search path, also if it removes nothing; if it removed a pair, it merges the node at its end while that is
+/// low and fits with its right neighbour, and in a type that grows in place it searches again until a search makes no
+/// node free. It claims no node and splits none. It holds three nodes at most.
 pub fn del<N: Unlinked, R: Wait, G: Gate>(
     rt: &R,
     arena: &Arena<N, Tree>,

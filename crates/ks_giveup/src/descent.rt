@@ -1,4 +1,5 @@
-//! The descent from the root to the node where a search ends; it restarts if a node's range lacks the place.
+//! The descent from the root to the node where a search ends; it restarts if a node is free or its range lacks the
+//! place.
 ghost use Rattle.std.specs.Prelude.{◌≡◌};
 ghost use Rattle.ks_history.specs.declared.Event.TheVariants.{Give};
 ghost use Rattle.ks_history.specs.Done.{give_up};
@@ -81,7 +82,8 @@ pub(crate) fn leave<N: Ranged + Unlinked, G: Gate>(
     give_last(arena, pass, gate, held);
 }
 
-/// Takes the node at which the search for a place ends, and holds no other. It does not notify the gate that a call begins.
+/// Takes the node at which the search for a place ends, and holds no other. It does not notify the gate that a call
+/// begins.
 pub(crate) fn find<N: Ranged + Unlinked, R: Wait, G: Gate>(
     rt: &R,
     arena: &Arena<N, Tree>,

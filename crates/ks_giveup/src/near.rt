@@ -1,4 +1,4 @@
-//! The search that begins at a hinted node, and from the root if that is free or its range lacks the place.
+//! The search that begins at a hinted node; it restarts at the root if a node is free or its range lacks the place.
 ghost use Rattle.std.specs.Prelude.{◌≡◌, IfSome};
 ghost use Rattle.ks_history.specs.Done.{give_up};
 ghost use Rattle.ks_node.specs.declared.start.Next.TheVariants.{Go};
@@ -24,8 +24,8 @@ pub(crate) struct Reached<N> {
     pub above: Option<Above>,
 }
 
-/// Releases the node, whose edge leads to the one to which the search goes on. Returns the last branch that it passed: this
-/// node, if it is a branch, else `above`.
+/// Releases the node, whose edge leads to the one to which the search goes on. Returns the last branch that it passed:
+/// this node, if it is a branch, else `above`.
 #[inline(always)]
 fn pass_by<N: Ranged + Unlinked, G: Gate>(
     arena: &Arena<N, Tree>,
@@ -51,7 +51,8 @@ fn pass_by<N: Ranged + Unlinked, G: Gate>(
     branch
 }
 
-/// Takes the node at which the search for a place ends, and holds no other. It begins at the hinted node, if there is one.
+/// Takes the node at which the search for a place ends, and holds no other. It begins at the hinted node, if there is
+/// one and it is idle, and no other caller acts meanwhile.
 pub(crate) fn find_near<N: Ranged + Unlinked, R: Wait, G: Gate>(
     rt: &R,
     arena: &Arena<N, Tree>,

@@ -9,7 +9,7 @@ use ks_node::{Ranged, Unlinked};
 use ks_shape::{Full, Later, Numbered, PutLater, Ruled, Template};
 use std::sync::Wait;
 
-/// Giving up, over nodes that have a range.
+/// Giving up, over nodes that have a range and no links.
 pub struct GiveUp;
 
 impl Ruled for GiveUp {
