@@ -16,7 +16,6 @@ mod tries;
 mod try_descent;
 mod try_puts;
 
-pub use calls::{add, del, get, put, swap};
 pub use merging::compact;
 pub use technique::Coupling;
 pub use tries::{try_del, try_get, try_swap};
