@@ -14,10 +14,12 @@ use ks_node::Node;
 use ks_shape::{Full, Numbered, Ruled, Shelf};
 use std::sync::Wait;
 
-/// The calls of `Template` as workers make them: each does what the call there with the same name does, waits as that does,
-/// and may begin where the caller's aid says. A technique whose calls all begin at the root asks no aid.
+/// The calls of `Template` as workers make them: each, `get_aided` for `get` and so on, occurs in the history as that
+/// call does, waits as that does, and may begin where the caller's aid says. Its clauses do not say which nodes it
+/// leaves as they are. A technique whose calls all begin at the root asks no aid.
 ///
-/// It is beside `Template` and `Hinting`, and neither is its supertrait: workers are generic over this trait and no other.
+/// It is beside `Template` and `Hinting`, and neither is its supertrait: workers ask the calls of this trait and no
+/// others.
 pub trait Serving<N: Node, A: Shelf>: Ruled {
     /// The frame of a blank node is as the rule requires. It computes nothing.
     fn fits()
@@ -61,7 +63,7 @@ pub trait Serving<N: Node, A: Shelf>: Ruled {
         ensures done { IsDone N.layout Self.technique (A.site arena.now) (Put place value)
             pass.old pass.new (reply_in result) (number_in result) };
 
-    /// Sets the value at a place that has none, and returns the one that was there before.
+    /// Sets the value at a place that has none, and returns the one that was there before, which then stays.
     ///
     /// # Errors
     ///

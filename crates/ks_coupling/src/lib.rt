@@ -1,8 +1,8 @@
 //! Lock coupling: the next node is taken before the present one is released.
 //!
-//! A search holds the root, and then from node to node two at most. What it holds is on the search path of its place:
-//! the place is in the inset of the node, whatever others do, since only a Shape changes insets and none names a node
-//! that its caller does not hold.
+//! A search holds the root, and then from node to node two at most; puts and dels hold three at most. What a search
+//! holds is on the search path of its place: the place is in the inset of the node, whatever others do, since a Shape
+//! changes only the insets of nodes that it names, and names none that its caller does not hold.
 //!
 //! The technique is that of Bayer and Schkolnick ("Concurrency of Operations on B-Trees", 1977).
 #![tactic(auto)]
@@ -16,7 +16,6 @@ mod tries;
 mod try_descent;
 mod try_puts;
 
-pub use calls::{add, del, get, put, swap};
 pub use merging::compact;
 pub use technique::Coupling;
 pub use tries::{try_del, try_get, try_swap};

@@ -13,7 +13,9 @@ use ks_shape::Compacting;
 use ks_tidy::pair_compact;
 use std::sync::Wait;
 
-/// Merges what fits, node after node; returns how many nodes it made free, modulo 2^32. It holds three nodes at most.
+/// Merges nodes that fit, node after node; returns how many it made free, modulo 2^32. It holds three nodes at most,
+/// and is no call of the history. If no other caller did anything meanwhile and it made none free, no live node fits
+/// with its right neighbour, and the root is no branch over one child.
 pub fn compact<N: Unlinked, R: Wait, G: Gate>(
     rt: &R,
     arena: &Arena<N, Tree>,

@@ -1,12 +1,11 @@
 //! The calls of workers by lock coupling: each begins at the root, and asks no aid.
-use crate::calls;
 use crate::technique::Coupling;
 use ks_aid::{Aid, Serving};
 use ks_arena::{Arena, Pass};
 use ks_flow::Tree;
 use ks_gate::Gate;
 use ks_node::Unlinked;
-use ks_shape::{Full, Numbered};
+use ks_shape::{Full, Numbered, Template};
 use std::sync::Wait;
 
 impl<N: Unlinked> Serving<N, Arena<N, Tree>> for Coupling {
@@ -24,7 +23,7 @@ impl<N: Unlinked> Serving<N, Arena<N, Tree>> for Coupling {
         _aid: &mut H,
         place: u64,
     ) -> Numbered {
-        calls::get(rt, arena, pass, gate, place)
+        Coupling::get(rt, arena, pass, gate, place)
     }
 
     fn put_aided<R: Wait, G: Gate, H: Aid>(
@@ -36,7 +35,7 @@ impl<N: Unlinked> Serving<N, Arena<N, Tree>> for Coupling {
         place: u64,
         value: u128,
     ) -> Result<Numbered, Full> {
-        calls::put(rt, arena, pass, gate, place, value)
+        Coupling::put(rt, arena, pass, gate, place, value)
     }
 
     fn add_aided<R: Wait, G: Gate, H: Aid>(
@@ -48,7 +47,7 @@ impl<N: Unlinked> Serving<N, Arena<N, Tree>> for Coupling {
         place: u64,
         value: u128,
     ) -> Result<Numbered, Full> {
-        calls::add(rt, arena, pass, gate, place, value)
+        Coupling::add(rt, arena, pass, gate, place, value)
     }
 
     fn swap_aided<R: Wait, G: Gate, H: Aid>(
@@ -61,7 +60,7 @@ impl<N: Unlinked> Serving<N, Arena<N, Tree>> for Coupling {
         old: u128,
         new: u128,
     ) -> Numbered {
-        calls::swap(rt, arena, pass, gate, place, old, new)
+        Coupling::swap(rt, arena, pass, gate, place, old, new)
     }
 
     fn del_aided<R: Wait, G: Gate, H: Aid>(
@@ -72,6 +71,6 @@ impl<N: Unlinked> Serving<N, Arena<N, Tree>> for Coupling {
         _aid: &mut H,
         place: u64,
     ) -> Numbered {
-        calls::del(rt, arena, pass, gate, place)
+        Coupling::del(rt, arena, pass, gate, place)
     }
 }

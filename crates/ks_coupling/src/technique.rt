@@ -1,13 +1,8 @@
 //! Lock coupling as a technique of dictionaries.
 ghost use Rattle.ks_history.specs.Done.{coupling};
 
-use crate::{calls, tries};
-use ks_arena::{Arena, Pass};
 use ks_flow::Tree;
-use ks_gate::Gate;
-use ks_node::Unlinked;
-use ks_shape::{Full, Later, Numbered, PutLater, Ruled, Template};
-use std::sync::Wait;
+use ks_shape::Ruled;
 
 /// Lock coupling, over any nodes without links.
 pub struct Coupling;
@@ -16,111 +11,4 @@ impl Ruled for Coupling {
     type Rule = Tree;
 
     ghost technique = { coupling };
-}
-
-impl<N: Unlinked> Template<N, Arena<N, Tree>> for Coupling {
-    fn fits() {}
-
-    fn get<R: Wait, G: Gate>(
-        rt: &R,
-        arena: &Arena<N, Tree>,
-        pass: &mut Pass<N, Tree>,
-        gate: &G,
-        place: u64,
-    ) -> Numbered {
-        calls::get(rt, arena, pass, gate, place)
-    }
-
-    fn put<R: Wait, G: Gate>(
-        rt: &R,
-        arena: &Arena<N, Tree>,
-        pass: &mut Pass<N, Tree>,
-        gate: &G,
-        place: u64,
-        value: u128,
-    ) -> Result<Numbered, Full> {
-        calls::put(rt, arena, pass, gate, place, value)
-    }
-
-    fn add<R: Wait, G: Gate>(
-        rt: &R,
-        arena: &Arena<N, Tree>,
-        pass: &mut Pass<N, Tree>,
-        gate: &G,
-        place: u64,
-        value: u128,
-    ) -> Result<Numbered, Full> {
-        calls::add(rt, arena, pass, gate, place, value)
-    }
-
-    fn swap<R: Wait, G: Gate>(
-        rt: &R,
-        arena: &Arena<N, Tree>,
-        pass: &mut Pass<N, Tree>,
-        gate: &G,
-        place: u64,
-        old: u128,
-        new: u128,
-    ) -> Numbered {
-        calls::swap(rt, arena, pass, gate, place, old, new)
-    }
-
-    fn del<R: Wait, G: Gate>(
-        rt: &R,
-        arena: &Arena<N, Tree>,
-        pass: &mut Pass<N, Tree>,
-        gate: &G,
-        place: u64,
-    ) -> Numbered {
-        calls::del(rt, arena, pass, gate, place)
-    }
-
-    fn try_get<G: Gate>(
-        arena: &Arena<N, Tree>,
-        pass: &mut Pass<N, Tree>,
-        gate: &G,
-        place: u64,
-    ) -> Result<Numbered, Later> {
-        tries::try_get(arena, pass, gate, place)
-    }
-
-    fn try_put<G: Gate>(
-        arena: &Arena<N, Tree>,
-        pass: &mut Pass<N, Tree>,
-        gate: &G,
-        place: u64,
-        value: u128,
-    ) -> Result<Numbered, PutLater> {
-        crate::try_put(arena, pass, gate, place, value)
-    }
-
-    fn try_add<G: Gate>(
-        arena: &Arena<N, Tree>,
-        pass: &mut Pass<N, Tree>,
-        gate: &G,
-        place: u64,
-        value: u128,
-    ) -> Result<Numbered, PutLater> {
-        crate::try_add(arena, pass, gate, place, value)
-    }
-
-    fn try_swap<G: Gate>(
-        arena: &Arena<N, Tree>,
-        pass: &mut Pass<N, Tree>,
-        gate: &G,
-        place: u64,
-        old: u128,
-        new: u128,
-    ) -> Result<Numbered, Later> {
-        tries::try_swap(arena, pass, gate, place, old, new)
-    }
-
-    fn try_del<G: Gate>(
-        arena: &Arena<N, Tree>,
-        pass: &mut Pass<N, Tree>,
-        gate: &G,
-        place: u64,
-    ) -> Result<Numbered, Later> {
-        tries::try_del(arena, pass, gate, place)
-    }
 }

@@ -65,8 +65,9 @@ pub fn try_swap<N: Unlinked, G: Gate>(
 }
 
 /// Deletes what is at a place; returns the value that was there, and the number of the call. It waits for no node. If
-/// it removed a pair and the node is low, it searches for the place again and merges, as `del` does, until it needs a
-/// node that another caller holds. It holds three nodes at most.
+/// it removed a pair and the node is low, it searches for the place again and merges: a right neighbour that another
+/// caller holds is left as it is, and a node on the search path that another holds ends the merging. It holds three
+/// nodes at most.
 ///
 /// # Errors
 ///

@@ -32,8 +32,8 @@ fn try_fill<N: Unlinked, G: Gate>(
     try_pair_fill(arena, pass, gate, place, fill)
 }
 
-/// Sets the value at a place; returns the value that was there, and the number of the call. It splits full nodes on the
-/// search path and at its end, holds three nodes at most, and waits for none.
+/// Sets the value at a place; returns the value that was there, and the number of the call. It splits full nodes as
+/// `put` does, holds three nodes at most, and waits for none.
 ///
 /// # Errors
 ///

@@ -8,8 +8,16 @@ use Rattle.ks_history.specs.declared.Event.TheVariants.{Take, Give, Claim, Shape
 use Rattle.ks_history.specs.Trace.{graph_after}
 use Rattle.ks_history.specs.Callers.{NoneBy}
 use Rattle.ks_history.specs.Done.{HoldsAbove}
+use Rattle.ks_node.specs.declared.node.Node.{Ghosts as NodeGhosts}
+use Rattle.ks_node.below.ks_places.specs.declared.Placing.{Ghosts as PlacingGhosts}
+use Rattle.ks_node.specs.declared.start.Next.TheVariants.{Go}
+use Rattle.ks_node.specs.Body.{next_at}
+use Rattle.ks_flow.specs.declared.discipline.Discipline.{Ghosts as DisciplineGhosts}
+use Rattle.ks_arena.specs.declared.arena.Arena.{Arena}
 use Rattle.ks_arena.specs.declared.held.Pass.{Pass}
+use Rattle.ks_arena.specs.declared.held.Held.{Held as Hand}
 use Rattle.ks_arena.specs.Clauses.{seen_of}
+use Rattle.ks_shape.specs.Of.{IsOnWayOf}
 
 -- the last event of c released a node of which an edge then carried the place to node i
 pub record IsHinted (c place i : ℕ) (h : List Event) : Type 0 where
@@ -49,3 +57,8 @@ module _ {N D : Type 0} where
   -- before carries the place, or one to which a node that it holds has an edge
   abbrev pub GoesTowards : ℕ → Pass N D → Pass N D → Type 0
   GoesTowards place p q = Goes p.caller place (seen_of p) (seen_of q)
+
+module _ {N D P : Type 0} {n : NodeGhosts N P} {q : PlacingGhosts P} {d : DisciplineGhosts D} where
+  -- caller c, which searches for the place, holds only this node on its search path, whose edge leads on to the child
+  abbrev pub GoesOnTo : Arena N D P n q d → ℕ → ℕ → Pass N D → Hand N → ℕ → Type 0
+  GoesOnTo a c place p x child = IsOnWayOf a c place p x × (next_at (n.body x.body) place ≡ Go child)

@@ -42,11 +42,12 @@ pub fn get<N: Ranged + Unlinked, R: Wait, G: Gate>(
 }
 
 /// Puts a value at a place; returns the value that was there, and the number of the call. It searches as `get` does; if
-/// the node has no room it goes on by lock coupling, from the root.
+/// the node has no room it goes on by lock coupling, from the root, splits full nodes, and holds three nodes at most.
 ///
 /// # Errors
 ///
-/// `Full` if the node has no room, the place has no value, and no node was found free.
+/// `Full` if the node has no room, the place has no value, and no node was found free: the call has its number, and
+/// splits that it made before stay.
 pub fn put<N: Ranged + Unlinked, R: Wait, G: Gate>(
     rt: &R,
     arena: &Arena<N, Tree>,
@@ -68,8 +69,8 @@ pub fn put<N: Ranged + Unlinked, R: Wait, G: Gate>(
     }
 }
 
-/// Puts a value at a place that has none; returns the value that was there, and the number of the call. It searches as
-/// `put` does.
+/// Puts a value at a place that has none; returns the value that was there, which then stays, and the number of the
+/// call. It searches as `put` does.
 ///
 /// # Errors
 ///
@@ -120,7 +121,7 @@ pub fn swap<N: Ranged + Unlinked, R: Wait, G: Gate>(
 
 /// Deletes what is at a place; returns the value that was there, and the number of the call. It searches as `get` does.
 /// If it removed a pair and left the node low, it releases the node and goes on by lock coupling, from the root, to
-/// merge on the search path and at that node.
+/// merge on the search path and at its end, and holds three nodes at most.
 pub fn del<N: Ranged + Unlinked, R: Wait, G: Gate>(
     rt: &R,
     arena: &Arena<N, Tree>,

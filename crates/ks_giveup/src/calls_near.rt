@@ -26,8 +26,8 @@ use ks_shape::{
 use ks_tidy::del_alone;
 use std::sync::Wait;
 
-/// Returns the value at a place, the number of the call, and where it was decided. It begins at the hint, and holds one
-/// node at a time.
+/// Returns the value at a place, the number of the call, and where it was decided. It begins at the hinted node as
+/// `find_near` does, and holds one node at a time.
 #[inline(always)]
 pub(crate) fn get_near<N: Ranged + Unlinked, R: Wait, G: Gate>(
     rt: &R,
@@ -51,8 +51,9 @@ pub(crate) fn get_near<N: Ranged + Unlinked, R: Wait, G: Gate>(
     get_located(arena, pass, gate, place, held, above)
 }
 
-/// Puts or adds a value at a place; returns the value that was there, the number of the call, and where it was decided. It
-/// begins at the hint; if the node where its search ends has no room, it continues by lock coupling, from the root.
+/// Puts or adds a value at a place; returns the value that was there, the number of the call, and where it was decided.
+/// It searches as `get_near` does; if the node where its search ends has no room, it continues by lock coupling, from
+/// the root.
 #[inline(always)]
 pub(crate) fn fill_near<N: Ranged + Unlinked, R: Wait, G: Gate>(
     rt: &R,
@@ -83,8 +84,8 @@ pub(crate) fn fill_near<N: Ranged + Unlinked, R: Wait, G: Gate>(
     pair_fill_at(rt, arena, pass, gate, place, fill, above)
 }
 
-/// Puts `new` at a place if the value there is `old`; returns the value that was there, the number of the call, and where it
-/// was decided. It searches as `get_near` does.
+/// Puts `new` at a place if the value there is `old`; returns the value that was there, the number of the call, and
+/// where it was decided. It searches as `get_near` does.
 #[inline(always)]
 pub(crate) fn swap_near<N: Ranged + Unlinked, R: Wait, G: Gate>(
     rt: &R,
@@ -112,8 +113,8 @@ pub(crate) fn swap_near<N: Ranged + Unlinked, R: Wait, G: Gate>(
 }
 
 /// Deletes what is at a place; returns the value that was there, the number of the call, and where it was decided. It
-/// searches as `get_near` does. If it removed a pair and left the node low, it continues by lock coupling, from the root,
-/// to merge on the search path and at that node.
+/// searches as `get_near` does. If it removed a pair and left the node low, it continues by lock coupling, from the
+/// root, to merge on the search path and at its end.
 #[inline(always)]
 pub(crate) fn del_near<N: Ranged + Unlinked, R: Wait, G: Gate>(
     rt: &R,

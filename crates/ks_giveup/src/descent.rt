@@ -1,16 +1,14 @@
-//! The descent from the root to the node where a search ends; it restarts if a node's range lacks the place.
-ghost use Rattle.std.specs.Prelude.{◌≡◌};
+//! The descent from the root to the node where a search ends; it restarts if a node is free or its range lacks the
+//! place.
 ghost use Rattle.ks_history.specs.declared.Event.TheVariants.{Give};
 ghost use Rattle.ks_history.specs.Done.{give_up};
-ghost use Rattle.ks_node.specs.declared.start.Next.TheVariants.{Go};
-ghost use Rattle.ks_node.specs.Body.{next_at};
 ghost use Rattle.ks_arena.specs.Sound.{sort_of};
 ghost use Rattle.ks_arena.specs.Clauses.{seen_of};
 ghost use Rattle.ks_giveup.specs.Descent.{Came, CameToRoom};
-ghost use Rattle.ks_giveup.specs.Goes.{GoesTowards, MayVisitNext};
+ghost use Rattle.ks_giveup.specs.Goes.{GoesOnTo, GoesTowards, MayVisitNext};
 ghost use Rattle.ks_arena.specs.Of.{Adds, IsPassOf, IsEmptyPassOf, IsNodeOf, SameCaller, caller_of};
 ghost use Rattle.ks_shape.specs.Hinted.{BeginsAt};
-ghost use Rattle.ks_shape.specs.Of.{IsUnderway, StaysUnderway, IsOnWayOf, SearchEndsAt};
+ghost use Rattle.ks_shape.specs.Of.{IsUnderway, StaysUnderway, SearchEndsAt};
 ghost use Rattle.ks_shape.specs.Does.{OnlySearches};
 
 use ks_arena::laws::sound_law;
@@ -65,8 +63,7 @@ pub(crate) fn leave<N: Ranged + Unlinked, G: Gate>(
     child: u32,
 )
     requires pass { IsPassOf arena.now pass.old }
-    requires way { IsOnWayOf arena.now (caller_of pass.old) place pass.old held }
-    requires goes { next_at (N.body held.body) place ≡ Go child }
+    requires way { GoesOnTo arena.now (caller_of pass.old) place pass.old held child }
     ensures pass { IsEmptyPassOf arena.now pass.new }
     ensures caller { SameCaller pass.old pass.new }
     ensures leaves { OnlySearches pass.old pass.new }
@@ -81,7 +78,8 @@ pub(crate) fn leave<N: Ranged + Unlinked, G: Gate>(
     give_last(arena, pass, gate, held);
 }
 
-/// Takes the node at which the search for a place ends, and holds no other. It does not notify the gate that a call begins.
+/// Takes the node at which the search for a place ends, and holds no other. It does not notify the gate that a call
+/// begins.
 pub(crate) fn find<N: Ranged + Unlinked, R: Wait, G: Gate>(
     rt: &R,
     arena: &Arena<N, Tree>,

@@ -1,4 +1,5 @@
-//! Giving up: one node is held at a time, and a search restarts if it comes to a node whose range lacks its place.
+//! Giving up: a search holds one node at a time, and restarts at the root if it comes to a node that is free or whose
+//! range lacks its place. A put that needs room, a del that merges and a move hold three nodes at most.
 //!
 //! The range of a node says which places may be looked for in it. Between the release of one node and the take of the
 //! next, others may split the next, merge it away or use it again; what is taken is a live node or none, and if its

@@ -21,8 +21,8 @@ use ks_shape::{MoveLeft, Moving, Numbered, give_last};
 use std::sync::Wait;
 use std::thread::yield_now;
 
-/// Takes the nodes at which the searches for two places end, or `None`, if the one for the higher place is no longer to be
-/// had once the one for the lower place is held.
+/// Takes the nodes at which the searches for two places end, or `None`, if the one for the higher place is no longer to
+/// be had once the one for the lower place is held.
 fn find_pair<N: Ranged + Unlinked, R: Wait, G: Gate>(
     rt: &R,
     arena: &Arena<N, Tree>,
@@ -49,8 +49,8 @@ fn find_pair<N: Ranged + Unlinked, R: Wait, G: Gate>(
     take_other(arena, pass, gate, low, high, held, other)
 }
 
-/// Takes the nodes of both places, the one of the higher place first: so callers that move in opposite directions take
-/// nodes in one order.
+/// Takes the nodes of both places: searches for the higher place first, and has the node of the lower one when it tries
+/// to take the other beside it. So callers that move in opposite directions take nodes in one order.
 fn find_both<N: Ranged + Unlinked, R: Wait, G: Gate>(
     rt: &R,
     arena: &Arena<N, Tree>,
@@ -75,15 +75,16 @@ fn find_both<N: Ranged + Unlinked, R: Wait, G: Gate>(
     }
 }
 
-/// Moves the value at `from` to `to`, another place; returns it, and the number of the call. It searches for the higher place
-/// as `get` does, then for the lower one, and while it holds that node it tries to take the other again: it never waits
-/// with a node held. If it cannot have both, it releases all and restarts. If `to` needs room, it releases all, makes room by
-/// lock coupling, from the root, and restarts.
+/// Moves the value at `from` to `to`, another place; returns it, and the number of the call. It searches for the higher
+/// place as `get` does, then for the lower one, and while it holds that node it tries to take the other again, without
+/// waiting. If it cannot have both, it releases all and restarts. If `to` needs room, it releases all, makes room by
+/// lock coupling, from the root, where it may wait with a node held, and restarts. Splits that it made stay, also if it
+/// then moves nothing.
 ///
 /// # Errors
 ///
-/// `Kept` if both places have a value. `Full` if `from` has a value, `to` has none, they are in two nodes, that of `to` has no
-/// room, and no node was found free: the call has its number, and splits that it made before stay.
+/// `Kept` if both places have a value. `Full` if `from` has a value, `to` has none, they are in two nodes, that of `to`
+/// has no room, and no node was found free. The call has its number.
 pub fn move_value<N: Ranged + Unlinked, R: Wait, G: Gate>(
     rt: &R,
     arena: &Arena<N, Tree>,

@@ -1,14 +1,13 @@
-//! The search that begins at a hinted node, and from the root if that is free or its range lacks the place.
-ghost use Rattle.std.specs.Prelude.{◌≡◌, IfSome};
+//! The search that begins at a hinted node; it restarts at the root if a node is free or its range lacks the place.
+ghost use Rattle.std.specs.Prelude.{IfSome};
 ghost use Rattle.ks_history.specs.Done.{give_up};
-ghost use Rattle.ks_node.specs.declared.start.Next.TheVariants.{Go};
-ghost use Rattle.ks_node.specs.Body.{next_at};
 ghost use Rattle.ks_arena.specs.Sound.{sort_of};
 ghost use Rattle.ks_arena.specs.Of.{IsPassOf, IsEmptyPassOf, IsNodeOf, SameCaller, caller_of};
 ghost use Rattle.ks_shape.specs.Does.{OnlySearches};
 ghost use Rattle.ks_shape.specs.Hinted.{BeginsAtHint, HasPassed};
 ghost use Rattle.ks_shape.specs.Located.{PassesOn};
-ghost use Rattle.ks_shape.specs.Of.{IsUnderway, StaysUnderway, IsOnWayOf, SearchEndsAt};
+ghost use Rattle.ks_shape.specs.Of.{IsUnderway, StaysUnderway, SearchEndsAt};
+ghost use Rattle.ks_giveup.specs.Goes.{GoesOnTo};
 
 use crate::descent::{leave, visit};
 use ks_arena::{Arena, Held, Pass};
@@ -24,8 +23,8 @@ pub(crate) struct Reached<N> {
     pub above: Option<Above>,
 }
 
-/// Releases the node, whose edge leads to the one to which the search goes on. Returns the last branch that it passed: this
-/// node, if it is a branch, else `above`.
+/// Releases the node, whose edge leads to the one to which the search goes on. Returns the last branch that it passed:
+/// this node, if it is a branch, else `above`.
 #[inline(always)]
 fn pass_by<N: Ranged + Unlinked, G: Gate>(
     arena: &Arena<N, Tree>,
@@ -37,8 +36,7 @@ fn pass_by<N: Ranged + Unlinked, G: Gate>(
     above: Option<Above>,
 ) -> Option<Above>
     requires pass { IsPassOf arena.now pass.old }
-    requires way { IsOnWayOf arena.now (caller_of pass.old) place pass.old held }
-    requires goes { next_at (N.body held.body) place ≡ Go child }
+    requires way { GoesOnTo arena.now (caller_of pass.old) place pass.old held child }
     ensures pass { IsEmptyPassOf arena.now pass.new }
     ensures caller { SameCaller pass.old pass.new }
     ensures leaves { OnlySearches pass.old pass.new }
@@ -51,7 +49,8 @@ fn pass_by<N: Ranged + Unlinked, G: Gate>(
     branch
 }
 
-/// Takes the node at which the search for a place ends, and holds no other. It begins at the hinted node, if there is one.
+/// Takes the node at which the search for a place ends, and holds no other. It begins at the hinted node, if there is
+/// one and it is idle, and no other caller acts meanwhile.
 pub(crate) fn find_near<N: Ranged + Unlinked, R: Wait, G: Gate>(
     rt: &R,
     arena: &Arena<N, Tree>,

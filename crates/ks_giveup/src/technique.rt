@@ -1,7 +1,7 @@
 //! Giving up as a technique of dictionaries.
 ghost use Rattle.ks_history.specs.Done.{give_up};
 
-use crate::{calls, tries};
+use crate::{calls, tries, try_puts};
 use ks_arena::{Arena, Pass};
 use ks_flow::Tree;
 use ks_gate::Gate;
@@ -9,7 +9,7 @@ use ks_node::{Ranged, Unlinked};
 use ks_shape::{Full, Later, Numbered, PutLater, Ruled, Template};
 use std::sync::Wait;
 
-/// Giving up, over nodes that have a range.
+/// Giving up, over nodes that have a range and no links.
 pub struct GiveUp;
 
 impl Ruled for GiveUp {
@@ -91,7 +91,7 @@ impl<N: Ranged + Unlinked> Template<N, Arena<N, Tree>> for GiveUp {
         place: u64,
         value: u128,
     ) -> Result<Numbered, PutLater> {
-        crate::try_put(arena, pass, gate, place, value)
+        try_puts::try_put(arena, pass, gate, place, value)
     }
 
     fn try_add<G: Gate>(
@@ -101,7 +101,7 @@ impl<N: Ranged + Unlinked> Template<N, Arena<N, Tree>> for GiveUp {
         place: u64,
         value: u128,
     ) -> Result<Numbered, PutLater> {
-        crate::try_add(arena, pass, gate, place, value)
+        try_puts::try_add(arena, pass, gate, place, value)
     }
 
     fn try_swap<G: Gate>(

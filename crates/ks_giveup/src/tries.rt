@@ -19,9 +19,9 @@ use ks_tidy::try_del_alone;
 ///
 /// # Errors
 ///
-/// `Busy` if another caller holds the next node on the search path; `Moved` if that node no longer is on the path,
-/// since another caller changed it; `Far` if as many nodes were taken as there are, while another caller changed some.
-/// Then the call is none of the history and left nothing behind.
+/// `Busy` if another caller holds the next node on the search path; `Moved` if that node, which was on the path, later
+/// lacked the place in its inset, and a Shape of another caller named it during the call; `Far` if as many nodes were
+/// taken as there are, while another caller changed some. Then the call is none of the history and left nothing behind.
 pub fn try_get<N: Ranged + Unlinked, G: Gate>(
     arena: &Arena<N, Tree>,
     pass: &mut Pass<N, Tree>,
@@ -70,7 +70,8 @@ pub fn try_swap<N: Ranged + Unlinked, G: Gate>(
 
 /// Deletes what is at a place; returns the value that was there, and the number of the call. It holds one node at a
 /// time, and waits for none. If it removed a pair and the node is low, it searches for the place again, holds three
-/// nodes at most, and merges, as `del` does, until it needs a node that another caller holds.
+/// nodes at most, and merges: a right neighbour that another caller holds is left as it is, and a node on the search
+/// path that another holds ends the merging.
 ///
 /// # Errors
 ///

@@ -44,14 +44,14 @@ fn try_fill<N: Ranged + Unlinked, G: Gate>(
 }
 
 /// Sets the value at a place; returns the value that was there, and the number of the call. It holds one node at a
-/// time, and waits for none; if the node has no room it goes on by lock coupling, from the root, and splits full nodes.
+/// time, and waits for none; if the node has no room it goes on by lock coupling, from the root, splits full nodes, and
+/// holds three nodes at most.
 ///
 /// # Errors
 ///
 /// `Full` if the node has no room, the place has no value, and no node was found free: the call has its number, and
-/// splits that it made before stay. `Busy` if another caller holds the next node on the search path; `Moved` if a node
-/// that was on the path is so no longer, as another caller changed it; `Far` if as many nodes were taken as there are,
-/// while another caller changed some. Then the call is none of the history; splits that it made stay.
+/// splits that it made before stay. Else it is put off as `try_get` is: the call is none of the history; splits that it
+/// made stay.
 pub fn try_put<N: Ranged + Unlinked, G: Gate>(
     arena: &Arena<N, Tree>,
     pass: &mut Pass<N, Tree>,

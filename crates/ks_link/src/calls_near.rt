@@ -32,8 +32,8 @@ use ks_shape::{
 };
 use std::sync::Wait;
 
-/// Returns the value at a place, the number of the call, and where it was decided. It begins at the hint, and holds one
-/// node at a time.
+/// Returns the value at a place, the number of the call, and where it was decided. It begins at the hinted node as
+/// `find_near` does, and holds one node at a time.
 #[inline(always)]
 pub(crate) fn get_near<N: Linked, R: Wait, G: Gate>(
     rt: &R,
@@ -82,8 +82,8 @@ pub(crate) fn del_near<N: Linked, R: Wait, G: Gate>(
     del_located(arena, pass, gate, place, held, above)
 }
 
-/// Sets the value at a place to `new` if it is `old`; returns the value that was there, the number of the call, and where it
-/// was decided. It searches as `get_near` does.
+/// Sets the value at a place to `new` if it is `old`; returns the value that was there, the number of the call, and
+/// where it was decided. It searches as `get_near` does.
 #[inline(always)]
 pub(crate) fn swap_near<N: Linked, R: Wait, G: Gate>(
     rt: &R,
@@ -144,8 +144,9 @@ fn fill_here<N: Linked, G: Gate>(
     fill_located(arena, pass, gate, place, fill, found, above)
 }
 
-/// Puts or adds a value at a place; returns the value that was there, the number of the call, and where it was decided. It
-/// begins at the hint. What was split off in the search is attached after the call has been decided.
+/// Puts or adds a value at a place; returns the value that was there, the number of the call, and where it was decided.
+/// It searches as `get_near` does. What was split off in the search is attached after the call has been decided, if it
+/// can be.
 #[inline(always)]
 pub(crate) fn fill_near<N: Linked, R: Wait, G: Gate>(
     rt: &R,

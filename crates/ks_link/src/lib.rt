@@ -1,8 +1,9 @@
-//! Links: one node is held at a time, and a place past the range of a node is looked for in the node right of it.
+//! Links: a search holds one node at a time, and a place past the range of a node is looked for in the node right of
+//! it. A put or an add that splits holds three nodes at most.
 //!
 //! Between the release of one node and the take of the next, others may split any node. The next node is still live,
-//! and begins where it did, since under links no node is made free and none changes its low. So the place is not below
-//! it; if it was moved to the right meanwhile, the search follows.
+//! and begins where it did, since under links no live node is made free and none changes its low. So the place is not
+//! below it; if it was moved to the right meanwhile, the search follows.
 //!
 //! The technique is that of Lehman and Yao ("Efficient Locking for Concurrent Operations on B-Trees", 1981).
 #![tactic(auto)]

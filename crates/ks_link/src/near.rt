@@ -1,4 +1,5 @@
-//! The search that begins at a hinted node: from there it moves right twice at most, then it searches from the root.
+//! The search that begins at a hinted node: if that is free or begins above the place, or the search is to move right a
+//! third time, it restarts at the root.
 ghost use Rattle.std.specs.Prelude.{◌≡◌, IfSome};
 ghost use Rattle.ks_history.specs.Done.{link_move};
 ghost use Rattle.ks_node.specs.declared.start.Next.TheVariants.{Go};
@@ -61,8 +62,8 @@ fn begin_at<N: Linked, R: Wait, G: Gate>(
     None
 }
 
-/// Releases the node, and takes the one to which the search goes on. The last branch that it passed is this node, if it is
-/// a branch with the place in its range, else as before.
+/// Releases the node, and takes the one to which the search goes on. The last branch that it passed is this node, if it
+/// is a branch with the place in its range, else as before.
 #[inline(always)]
 fn go_by<N: Linked, R: Wait, G: Gate>(
     rt: &R,
@@ -93,8 +94,8 @@ fn go_by<N: Linked, R: Wait, G: Gate>(
     }
 }
 
-/// Goes on from the held node to the one at which the search for the place ends, and moves right `rights` times at most.
-/// `None`: it was to move right once more, and released its node.
+/// Goes on from the held node to the one at which the search for the place ends, and moves right `rights` times at
+/// most. `None`: it was to move right once more, and released its node.
 #[inline(never)]
 fn walk<N: Linked, R: Wait, G: Gate>(
     rt: &R,
@@ -166,7 +167,8 @@ fn walk_from<N: Linked, R: Wait, G: Gate>(
     walk(rt, arena, pass, gate, place, held, rights)
 }
 
-/// Takes the node at which the search for a place ends, and holds no other. It begins at the hinted node, if there is one.
+/// Takes the node at which the search for a place ends, and holds no other. It begins at the hinted node, if there is
+/// one and it is idle, and no other caller acts meanwhile.
 #[inline(always)]
 pub(crate) fn find_near<N: Linked, R: Wait, G: Gate>(
     rt: &R,

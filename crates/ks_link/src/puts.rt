@@ -53,7 +53,8 @@ pub(crate) fn fill_from<N: Linked, G: Gate>(
     fill_at(arena, pass, gate, place, fill, found)
 }
 
-/// Puts or adds a value at a place. What was split off in the search is attached after the call has been decided.
+/// Puts or adds a value at a place. What was split off in the search is attached after the call has been decided, if it
+/// can be.
 fn fill<N: Linked, R: Wait, G: Gate>(
     rt: &R,
     arena: &Arena<N, Link>,
@@ -79,13 +80,16 @@ fn fill<N: Linked, R: Wait, G: Gate>(
     answer
 }
 
-/// Sets the value at a place; returns the value that was there, and the number of the call. A full node is split
-/// before, if a node is free. Then what was split off in the search is attached to the level above it, if it can be.
+/// Sets the value at a place; returns the value that was there, and the number of the call. If the place has none, a
+/// full node is split before, if a node is free. Then what was split off in the search is attached to the level above
+/// it, if it can be. It can if no other caller acts meanwhile and two nodes are free in the end, over nodes whose
+/// branches adopt any edge while they are not full, and whose halves have room.
 ///
 /// # Errors
 ///
-/// `Full` comes only if the place has no value, its node is full, and each node was not free at some moment of the
-/// call. Then the map is as before; what was split off before stays so, and is attached.
+/// `Full` comes only if the place has no value, its node is full, and each node was not free at some moment since the
+/// caller's previous call. Then the map is as before, and the call has its number; what was split off before stays so,
+/// and is attached, if it can be.
 pub fn put<N: Linked, R: Wait, G: Gate>(
     rt: &R,
     arena: &Arena<N, Link>,

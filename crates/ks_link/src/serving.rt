@@ -1,4 +1,4 @@
-//! The calls of workers: each begins where the worker's aid says.
+//! The calls of workers: each may begin where the worker's aid says.
 ghost use Rattle.ks_history.specs.Done.{link_move};
 ghost use Rattle.ks_arena.specs.Of.{IsEmptyPassOf, SameCaller};
 ghost use Rattle.ks_shape.specs.Answers.{number_in, reply_in};

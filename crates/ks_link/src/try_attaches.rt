@@ -95,8 +95,8 @@ fn try_attach_one<N: Linked, G: Gate>(
     new
 }
 
-/// Attaches what was split off, and what is split off by that, and so on. Each is a level higher, and no level reaches the
-/// number of nodes, so it ends.
+/// Attaches what was split off, and what is split off by that, and so on. Each is a level higher, and no level reaches
+/// the number of nodes, so it ends.
 fn try_attach_on<N: Linked, G: Gate>(
     arena: &Arena<N, Link>,
     pass: &mut Pass<N, Link>,
@@ -120,7 +120,7 @@ fn try_attach_on<N: Linked, G: Gate>(
     }
 }
 
-/// Attaches all that waits, the oldest first, until a busy node ends it.
+/// Attaches all that waits, the oldest first, each unless a busy node on its search path leaves it without an edge.
 pub(crate) fn try_attach_all<N: Linked, G: Gate>(
     arena: &Arena<N, Link>,
     pass: &mut Pass<N, Link>,

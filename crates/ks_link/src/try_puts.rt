@@ -43,10 +43,10 @@ fn try_fill<N: Linked, G: Gate>(
     }
 }
 
-/// Sets the value at a place; returns the value that was there, and the number of the call. It does not wait. A full
-/// node is split before, if a node is free. What was split off is attached after the call has been decided; if a node
-/// on the search path to its parent is busy, it is left without an edge for good, and stays reached by its left
-/// neighbour's link.
+/// Sets the value at a place; returns the value that was there, and the number of the call. It does not wait. If the
+/// place has none, a full node is split before, if a node is free. What was split off is attached after the call has
+/// been decided, if it can be; if a node on the search path to its parent is busy, it is left without an edge for good,
+/// and stays reached by its left neighbour's link.
 ///
 /// # Errors
 ///

@@ -21,14 +21,14 @@ use Rattle.ks_giveup.proofs.descent.leave.Goals.{After-node_law}
 
 -- the edge to the child
 leads : (g : Over) (c : After-node_law g) → LeadsTo (record_of (g.N.Node.body c.args.held.body)) c.args.place c.args.child
-leads g c = next_leads (g.N.Node.body c.args.held.body) c.args.place c.args.child c.node_law.ensures.sound (omega (arith, c.ranges.place)) c.requires.goes
+leads g c = next_leads (g.N.Node.body c.args.held.body) c.args.place c.args.child c.node_law.ensures.sound (omega (arith, c.ranges.place)) c.requires.way.1
 
 pub returns-clause-near : goal.returns-clause-near
-returns-clause-near g c = let at = (goal.at.returns-clause-near g c).After-node_law in let sort = sort_of g.N.Node.layout g.N.Node.ranged in let n : ℕ = c.args.arena.now.table.shared.table_id.slots in let h = seen_of c.args.pass.now in let way = c.requires.way in let sound = c.requires.pass.sound in let body = g.N.Node.body c.args.held.body in
+returns-clause-near g c = let at = (goal.at.returns-clause-near g c).After-node_law in let sort = sort_of g.N.Node.layout g.N.Node.ranged in let n : ℕ = c.args.arena.now.table.shared.table_id.slots in let h = seen_of c.args.pass.now in let way = c.requires.way.0 in let sound = c.requires.pass.sound in let body = g.N.Node.body c.args.held.body in
     let near : c.args.child < n = is_near sort BeginsTree TreeStep n h c.args.child (omega arith) sound (led_live (graph_after h) c.args.held.node c.args.place c.args.child (record_of body) (good_now (c.sound_law.ensures.good sort n h sound)) (record_is sort g.N.Node.body h c.args.held way.live way.matches) (leads g at)) in omega arith
 
 pub returns-clause-next : goal.returns-clause-next
-returns-clause-next g c = let at = (goal.at.returns-clause-next g c).After-node_law in let sort = sort_of g.N.Node.layout g.N.Node.ranged in let n : ℕ = c.args.arena.now.table.shared.table_id.slots in let me : ℕ = c.args.pass.now.caller in let h = seen_of c.args.pass.now in let h₁ = seen_of c.give_last.new.pass in let way = c.requires.way in let law = c.sound_law.ensures in let i : ℕ = c.args.held.node in
+returns-clause-next g c = let at = (goal.at.returns-clause-next g c).After-node_law in let sort = sort_of g.N.Node.layout g.N.Node.ranged in let n : ℕ = c.args.arena.now.table.shared.table_id.slots in let me : ℕ = c.args.pass.now.caller in let h = seen_of c.args.pass.now in let h₁ = seen_of c.give_last.new.pass in let way = c.requires.way.0 in let law = c.sound_law.ensures in let i : ℕ = c.args.held.node in
     let mine : turn_after h i ≡ held me = (is_hand h me (lawful_in_turn h (law.lawful sort n h c.requires.pass.sound))).held i (subst (λ (z : List ℕ). Has z i) (sym way.alone) (inl refl)) in
     subst (λ (z : ℕ). MayVisit z c.args.place c.args.child h₁) (sym c.give_last.ensures.caller)
     (inr (hints me c.args.place c.args.child i h h₁ (record_of (g.N.Node.body c.args.held.body)) (lawful_in_turn h₁ (law.lawful sort n h₁ c.give_last.ensures.pass.0.sound)) mine (record_is sort g.N.Node.body h c.args.held way.live way.matches) (leads g at) c.give_last.ensures.gave))

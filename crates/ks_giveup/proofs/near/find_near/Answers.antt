@@ -1,18 +1,13 @@
-use Rattle.std.proofs.Common.{◌≡◌, ◌∙◌, ℕ, List, [], refl, sym, subst, arith}
-use Rattle.ks_history.specs.Own.{hand}
+use Rattle.std.proofs.Common.{◌≡◌, ◌∙◌, ℕ, subst, arith}
 use Rattle.ks_history.specs.Done.{give_up}
 use Rattle.ks_history.specs.Underway.{Underway}
-use Rattle.ks_history.specs.Laws.Begins.{begins_both}
 use Rattle.ks_history.specs.Laws.Underway.{underway_first}
-use Rattle.ks_history.specs.Trace.{◌⊑◌}
-use Rattle.ks_arena.specs.declared.held.Held.{Held as Hand}
 use Rattle.ks_arena.specs.Sound.{sort_of}
 use Rattle.ks_arena.specs.Clauses.{seen_of}
 use Rattle.ks_giveup.specs.Descent.{Came}
 use Rattle.ks_shape.specs.Does.{DoesOnly, MaySearch}
 use Rattle.ks_shape.specs.Laws.Does.{does_both}
 use Rattle.ks_shape.specs.Laws.Located.{hint_begins, hint_on, was_above_on}
-use Rattle.ks_shape.specs.OnWay.{IsOnWay}
 use Rattle.ks_giveup.proofs.near.find_near.Goals as goal
 
 pub visit-here-requires-clause-node : goal.visit-here-requires-clause-node
