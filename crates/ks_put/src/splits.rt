@@ -1,4 +1,4 @@
-//! The splits of a full node: where its cut goes.
+//! The splits of a full node: it grows, its parent adopts the cut, or it leads to its right half itself.
 ghost use Rattle.std.specs.Prelude.{◌≡◌, IsTrue, Some, None, false};
 ghost use Rattle.ks_node.specs.Body.{begins, is_branch};
 ghost use Rattle.ks_node.specs.Room.{is_full, in_place};
@@ -147,8 +147,8 @@ pub(crate) fn split_alone<N: Unlinked, G: Gate>(
     Part::Split(keep_right_alone(arena, pass, gate, place, path, right))
 }
 
-/// Splits a full node that needs no parent: it grows, or leads to its right half itself. One of the two is possible if all
-/// nodes grow if it is a branch.
+/// Splits a full node that needs no parent: it grows, or leads to its right half itself. One of the two is possible if
+/// it is no branch, or all nodes grow and branches adopt.
 pub(crate) fn split_top<N: Unlinked, G: Gate>(
     arena: &Arena<N, Tree>,
     pass: &mut Pass<N, Tree>,
@@ -185,8 +185,8 @@ pub(crate) fn split_top<N: Unlinked, G: Gate>(
     split_alone(arena, pass, gate, place, cut, path)
 }
 
-/// Splits the full node under its parent, or by itself, where no node of the type grows in place. One of the two is possible
-/// if all nodes grow if it is a branch, and the parent is not full if all nodes grow.
+/// Splits the full node under its parent, or by itself, where no node of the type grows in place. If all nodes grow and
+/// branches adopt, one of the two is possible unless the parent is full; if not, unless the node is a branch.
 pub(crate) fn split_child<N: Unlinked, G: Gate>(
     arena: &Arena<N, Tree>,
     pass: &mut Pass<N, Tree>,
@@ -230,8 +230,9 @@ pub(crate) fn split_child<N: Unlinked, G: Gate>(
     split_alone(arena, pass, gate, place, cut, path)
 }
 
-/// Splits the full node of a path, if there is a way and a claim succeeds, and releases the half without the place. Where a
-/// node grows in place, its parent is released before.
+/// Splits the full node of a path, if there is a way and a claim succeeds, and releases the half without the place,
+/// unless that leads to its full right half itself and becomes the parent of it. Where nodes grow in place, the parent is
+/// released before.
 fn split_whole<N: Unlinked, G: Gate>(
     arena: &Arena<N, Tree>,
     pass: &mut Pass<N, Tree>,

@@ -1,5 +1,5 @@
 //! The non-blocking search for room for a place. It is put off if it finds a node busy, or if it took as many nodes as
-//! there are; its own splits do not lengthen the search path.
+//! there are; the halves that it splits off do not count as taken.
 ghost use Rattle.std.specs.Prelude.{◌≡◌, ◌<◌, false};
 ghost use Rattle.ks_node.specs.declared.start.Next.TheVariants.{Go};
 ghost use Rattle.ks_node.specs.Body.{next_at};
@@ -28,7 +28,8 @@ pub(crate) struct Step<N> {
     refused: bool,
 }
 
-/// Releases the parent, and takes the child, unless another caller holds it, or as many nodes were taken as there are.
+/// Releases the parent, and takes the child, unless another caller holds it, or as many nodes were taken as there are:
+/// then nothing remains held.
 fn try_down<N: Unlinked, G: Gate>(
     arena: &Arena<N, Tree>,
     pass: &mut Pass<N, Tree>,

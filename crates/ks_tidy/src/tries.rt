@@ -1,4 +1,4 @@
-//! Non-blocking merging: it goes on until it needs a node that another caller holds.
+//! Non-blocking merging: it leaves a right neighbour that another caller holds, and ends at such a node on the path.
 ghost use Rattle.std.specs.Prelude.{◌≡◌};
 ghost use Rattle.ks_history.specs.declared.Op.TheVariants.{Del};
 ghost use Rattle.ks_history.specs.Map.{told};
@@ -25,8 +25,7 @@ struct Tried<N> {
     freed: u32,
 }
 
-/// Merges at the node of a path while it is low, by tries: at most as often as the arena has nodes. The node of the
-/// path then has what the node had.
+/// Merges at the node of a path while it is low, by tries: at most as often as the arena has nodes.
 fn try_tidy_node<N: Unlinked, G: Gate>(
     arena: &Arena<N, Tree>,
     pass: &mut Pass<N, Tree>,
@@ -110,10 +109,10 @@ fn try_go_down<N: Unlinked, G: Gate>(
     }
 }
 
-/// Merges for a place, as `pair_tidy` does, but without waiting: a right neighbour that another caller holds is left as
-/// it is, and a node on the path that another holds ends it. It takes at most as many nodes as the arena has. Returns
-/// how many nodes it made free, modulo 2^32. It makes no call of the history, and does not notify the gate that one
-/// begins.
+/// Merges for a place, as one descent of `pair_tidy` does, but without waiting: a right neighbour that another caller
+/// holds is left as it is, and a node on the path that another holds ends it. On the path it takes at most as many nodes
+/// as the arena has. Returns how many nodes it made free, modulo 2^32. It makes no call of the history, and does not
+/// notify the gate that one begins.
 pub fn try_pair_tidy<N: Unlinked, G: Gate>(
     arena: &Arena<N, Tree>,
     pass: &mut Pass<N, Tree>,
@@ -153,8 +152,7 @@ pub fn try_pair_tidy<N: Unlinked, G: Gate>(
     freed
 }
 
-/// Deletes what is at a place, as `del_alone` does, but without waiting: the merging after the call ends at a node that
-/// another caller holds.
+/// Deletes what is at a place, as `del_alone` does, but without waiting: after the call it merges as `try_pair_tidy`.
 pub fn try_del_alone<N: Unlinked, G: Gate>(
     arena: &Arena<N, Tree>,
     pass: &mut Pass<N, Tree>,
