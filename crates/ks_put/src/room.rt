@@ -6,7 +6,7 @@ ghost use Rattle.ks_arena.specs.Of.{IsPassOf, IsEmptyPassOf, SameCaller, caller_
 ghost use Rattle.ks_shape.specs.Of.{IsStretch, NoneWasFree, SearchEndsAt};
 ghost use Rattle.ks_shape.specs.Paths.{IsOnPathOf};
 ghost use Rattle.ks_put.specs.Of.{AllGrow, CameToRoom};
-ghost use Rattle.ks_put.specs.Parts.{HasRoomAbove};
+ghost use Rattle.ks_put.specs.Parts.{IsEased};
 ghost use Rattle.ks_shape.specs.Does.{OnlyFills, OnlySearches};
 
 use crate::halves::{Part, settle};
@@ -66,8 +66,8 @@ fn go_on<N: Unlinked, R: Wait, G: Gate>(
     ensures path { IsOnPathOf arena.now (caller_of pass.old) place pass.new result.0 }
     ensures stretch { IsStretch pass.old pass.new }
     ensures refused { IsTrue result.1 → NoneWasFree arena.now place pass.old pass.new }
-    ensures eased { result.1 ≡ false → (AllGrow arena.now → HasRoomAbove N.layout N.body path.parent) →
-        AllGrow arena.now → HasRoomAbove N.layout N.body result.0.parent }
+    ensures eased { result.1 ≡ false → (AllGrow arena.now → IsEased N.layout N.body path) →
+        AllGrow arena.now → IsEased N.layout N.body result.0 }
 {
     unlinked_law::<N>();
     node_law(&path.node.body);
