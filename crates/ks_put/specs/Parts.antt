@@ -57,7 +57,7 @@ abbrev pub HasRoomAbove : {N : Type 0} → Layout → (N → Body) → Option (H
 HasRoomAbove layout shows None = Unit {0}
 HasRoomAbove layout shows (Some y) = is_full layout (shows y.body) ≡ false
 
--- so it is if the node of the path is full
+-- if the node of the path is full, its parent, if there is one, is not
 abbrev pub IsEased : {N : Type 0} → Layout → (N → Body) → Path N → Type 0
 IsEased layout shows x = IsTrue (is_full layout (shows x.node.body)) → HasRoomAbove layout shows x.parent
 

@@ -16,7 +16,7 @@ use ks_node::{Ranged, Unlinked};
 use ks_shape::{Above, Fill, Full, Numbered, NumberedAt, fill_at, fill_located};
 use std::sync::Wait;
 
-/// Puts or adds a value at a place. Returns the number of the call, and the value that was there; or the number alone, if
+/// Puts or adds a value at a place. Returns the number of the call, and the value that was there; or only the number, if
 /// the node is full and none was found free; splits that were made before stay. It ends a call by any technique, and does
 /// not notify the gate that one begins.
 pub fn pair_fill<N: Unlinked, R: Wait, G: Gate>(
