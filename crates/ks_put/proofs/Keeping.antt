@@ -25,6 +25,8 @@ use Rattle.ks_arena.specs.Sound.{Sort, Sound}
 use Rattle.ks_arena.specs.Clauses.{Matches, StillMatch, StillMatchBut, Kept}
 use Rattle.ks_shape.specs.declared.path.Path.{Path}
 use Rattle.ks_shape.specs.OnPath.{IsUnder, IsOnPath, numbers}
+use Rattle.ks_shape.specs.Does.{HoldsToSplit, MustSplit}
+use Rattle.ks_shape.specs.Laws.Does.{holds_to_split}
 use Rattle.ks_put.specs.Parts.{IsPart}
 use Rattle.ks_shape.specs.Laws.Keeping.{inside}
 use Rattle.ks_shape.specs.Laws.Search.{Laws}
@@ -46,6 +48,10 @@ module _ {N : Type 0} (sort : Sort) (shows : N → Body) (n c : ℕ) (laws : Law
   -- c holds a node of its path
   pub path_turn : (p : ℕ) (h : List Event) (x : Path N) → Sound sort BeginsTree TreeStep n h → IsOnPath sort shows c p h x → turn_after h x.node.node ≡ held c
   path_turn p h x sound path = (is_hand h c (laws.turns h sound)).held x.node.node (subst (λ (l : List ℕ). Has l x.node.node) (sym path.hands) (inl refl))
+
+  -- so it holds one that is to be split, if that node is
+  pub path_splits : (p : ℕ) (h : List Event) (x : Path N) → Sound sort BeginsTree TreeStep n h → IsOnPath sort shows c p h x → MustSplit sort.layout p (shows x.node.body) → HoldsToSplit sort p h c
+  path_splits p h x sound path must = holds_to_split sort shows p c h x.node (path_turn p h x sound path) path.live path.matches must
 
   under_with : (p : ℕ) (x : Hand N) (h k : List Event) (o : Option (Hand N)) → ((y : Hand N) → o ≡ Some y → Matches sort shows h y → Matches sort shows k y) → IsUnder sort shows p x h o → IsUnder sort shows p x k o
   under_with p x h k None keep so = so

@@ -35,17 +35,17 @@ use Rattle.ks_put.specs.declared.try_room.Step.{Step}
 use Rattle.ks_put.specs.Parts.{HasRoomAbove}
 use Rattle.ks_put.specs.Tries.{WentDown, WasRefused, IsEasedBut, IsEasedStep, IsNearer}
 
-pub refused_before : {N : Type 0} (x : Hand N) (depth : ℕ) (refused : Bool) (None_free : Type 0) (result : Result (Step N) Later) → WentDown x depth refused result → WasRefused refused None_free result
-refused_before x depth refused None_free (Ok step) went = λ t. inl (subst (λ (b : Bool). IsTrue b) went.2 t)
-refused_before x depth refused None_free (Err later) went = tt
+pub refused_not : {N : Type 0} (x : Hand N) (depth : ℕ) (None_free : Type 0) (result : Result (Step N) Later) → WentDown x depth false result → WasRefused None_free result
+refused_not x depth None_free (Ok step) went = λ t. absurd (let q : true ≡ false = sym t ∙ went.2 in let z : ⊥ = cc in z)
+refused_not x depth None_free (Err later) went = tt
 
-pub refused_now : {N : Type 0} (x : Hand N) (depth : ℕ) (refused : Bool) (None_free : Type 0) (result : Result (Step N) Later) → None_free → WentDown x depth true result → WasRefused refused None_free result
-refused_now x depth refused None_free (Ok step) none went = λ t. inr none
-refused_now x depth refused None_free (Err later) none went = tt
+pub refused_now : {N : Type 0} (None_free : Type 0) (result : Result (Step N) Later) → None_free → WasRefused None_free result
+refused_now None_free (Ok step) none = λ t. none
+refused_now None_free (Err later) none = tt
 
 module _ {N : Type 0} (layout : Layout) (shows : N → Body) where
-  pub eased_down : (x : Hand N) (depth : ℕ) (refused : Bool) (Grow : Type 0) (result : Result (Step N) Later) → WentDown x depth refused result → IsEasedBut layout shows Grow refused (Some x) → IsEasedStep layout shows Grow result
-  eased_down x depth refused Grow (Ok step) went room = λ r grow. subst (λ (o : Option (Hand N)). HasRoomAbove layout shows o) (sym went.0) (room (sym went.2 ∙ r) grow)
+  pub eased_down : (x : Hand N) (depth : ℕ) (refused : Bool) (Grow : Type 0) (result : Result (Step N) Later) → WentDown x depth refused result → (refused ≡ false → Grow → HasRoomAbove layout shows (Some x)) → IsEasedStep layout shows Grow result
+  eased_down x depth refused Grow (Ok step) went room = λ r grow full. subst (λ (o : Option (Hand N)). HasRoomAbove layout shows o) (sym went.0) (room (sym went.2 ∙ r) grow)
   eased_down x depth refused Grow (Err later) went room = tt
 
   -- the parent of a search that went down has room, if the node that it left has
@@ -91,5 +91,5 @@ module _ {N D : Type 0} (sort : Sort) (shows : N → Body) (Grow : Type 0) (Fit 
       × (IsTrue r → NoneFree sort.layout nodes p.caller place s (seen_of p))
       × ((start : List Event) → TookSince p.caller start s 0 1 → IsDownPath nodes p.caller start (seen_of p) (suc d) 2 d x)
       × (d < nodes)
-      × IsEasedBut sort.layout shows Grow r x.parent
+      × IsEasedBut sort.layout shows Grow r x
       × DoesOnly (MayFill sort place) p.caller s (seen_of p)

@@ -46,21 +46,20 @@ IsShut (Shut x) = Unit {0}
 abbrev pub GrowAll : {N : Type 0} → (Content → Bool) → (N → Body) → Bool → Bool → Type 0
 GrowAll grows shows adopt halves = ((s : _) → IsTrue (grows (content_of (shows s)))) × IsTrue adopt × IsTrue halves
 
--- the half that is kept is not full; and it is held without a parent
+-- the half that is kept is not full
 abbrev pub IsRoomy : {N : Type 0} → Layout → (N → Body) → Part N → Type 0
 IsRoomy layout shows (Split x) = is_full layout (shows x.node.body) ≡ false
 IsRoomy layout shows (Refused x) = Unit {0}
 IsRoomy layout shows (Shut x) = Unit {0}
 
-abbrev pub IsEased : {N : Type 0} → Layout → (N → Body) → Part N → Type 0
-IsEased layout shows (Split x) = (is_full layout (shows x.node.body) ≡ false) × (x.parent ≡ None)
-IsEased layout shows (Refused x) = Unit {0}
-IsEased layout shows (Shut x) = Unit {0}
-
 -- the parent, if there is one, is not full
 abbrev pub HasRoomAbove : {N : Type 0} → Layout → (N → Body) → Option (Hand N) → Type 0
 HasRoomAbove layout shows None = Unit {0}
 HasRoomAbove layout shows (Some y) = is_full layout (shows y.body) ≡ false
+
+-- if the node of the path is full, its parent, if there is one, is not
+abbrev pub IsEased : {N : Type 0} → Layout → (N → Body) → Path N → Type 0
+IsEased layout shows x = IsTrue (is_full layout (shows x.node.body)) → HasRoomAbove layout shows x.parent
 
 module _ {N : Type 0} (sort : Sort) (shows : N → Body) where
   -- the place is in the inset of the node, and the other node leads to it

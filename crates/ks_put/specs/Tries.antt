@@ -1,5 +1,5 @@
 -- The results of a non-blocking search for room.
-use Rattle.std.specs.Prelude.{ℕ, ◌≡◌, ◌<◌, ◌⊎◌, suc, Bool, false, IsTrue, List, [], Option, Some, Result, Ok, Err}
+use Rattle.std.specs.Prelude.{ℕ, ◌≡◌, ◌<◌, ◌⊎◌, suc, Bool, false, IsTrue, List, [], Some, Result, Ok, Err}
 use Rattle.ks_keysets.specs.Layout.{Layout}
 use Rattle.ks_node.specs.declared.node.Node.{Ghosts as NodeGhosts}
 use Rattle.ks_node.below.ks_places.specs.declared.Placing.{Ghosts as PlacingGhosts}
@@ -27,7 +27,7 @@ use Rattle.ks_put.specs.declared.try_room.Step.{Step}
 use Rattle.ks_put.specs.Deeper.{IsDownPath}
 use Rattle.ks_put.specs.Narrows.{cuts_left}
 use Rattle.ks_shape.specs.OnPath.{IsOnPath}
-use Rattle.ks_put.specs.Parts.{HasRoomAbove}
+use Rattle.ks_put.specs.Parts.{IsEased}
 
 module _ {N : Type 0} (sort : Sort) (shows : N → Body) where
   -- c, which searches for the place, is on the path of the step; or it holds nothing
@@ -51,7 +51,7 @@ abbrev pub RoomOrCause : {N : Type 0} → ℕ → ℕ → ℕ → List Event →
 RoomOrCause n c place s0 h (Ok found) = Unit {0}
 RoomOrCause n c place s0 h (Err later) = IsCauseAt coupling n c place s0 h later
 
--- the step went down from the node x, at this depth, and no claim was refused in it; or the search was put off
+-- the step went down from the node x, at this depth, and says whether a claim was refused; or the search was put off
 abbrev pub WentDown : {N : Type 0} → Hand N → ℕ → Bool → Result (Step N) Later → Type 0
 WentDown x depth refused (Ok step) = (step.path.parent ≡ Some x) × (step.depth ≡ suc depth) × (step.refused ≡ refused)
 WentDown x depth refused (Err later) = Unit {0}
@@ -61,18 +61,18 @@ abbrev pub IsNear : {N : Type 0} → ℕ → Result (Step N) Later → Type 0
 IsNear n (Ok step) = step.depth < n
 IsNear n (Err later) = Unit {0}
 
--- if a claim was refused before the step, it was before this one or within it
-abbrev pub WasRefused : {N : Type 0} → Bool → Type 0 → Result (Step N) Later → Type 0
-WasRefused refused None_free (Ok step) = IsTrue step.refused → IsTrue refused ⊎ None_free
-WasRefused refused None_free (Err later) = Unit {0}
+-- if a claim was refused in the step, no node was free
+abbrev pub WasRefused : {N : Type 0} → Type 0 → Result (Step N) Later → Type 0
+WasRefused None_free (Ok step) = IsTrue step.refused → None_free
+WasRefused None_free (Err later) = Unit {0}
 
 module _ {N : Type 0} (layout : Layout) (shows : N → Body) where
-  -- unless a claim was refused, the parent has room, if all nodes grow
-  abbrev pub IsEasedBut : Type 0 → Bool → Option (Hand N) → Type 0
-  IsEasedBut Grow refused parent = refused ≡ false → Grow → HasRoomAbove layout shows parent
+  -- unless a claim was refused, the parent of the path's node has room, if all nodes grow and the node is full
+  abbrev pub IsEasedBut : Type 0 → Bool → Path N → Type 0
+  IsEasedBut Grow refused path = refused ≡ false → Grow → IsEased layout shows path
 
   abbrev pub IsEasedStep : Type 0 → Result (Step N) Later → Type 0
-  IsEasedStep Grow (Ok step) = IsEasedBut Grow step.refused step.path.parent
+  IsEasedStep Grow (Ok step) = IsEasedBut Grow step.refused step.path
   IsEasedStep Grow (Err later) = Unit {0}
 
   -- the step goes down; or it splits the node, and so narrows the search

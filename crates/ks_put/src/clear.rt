@@ -14,7 +14,7 @@ use ks_shape::give_last;
 use std::sync::Wait;
 
 /// Makes room for a place, as a put does that searches by pairs, and releases all nodes. Returns whether the node where the
-/// search for the place ended has the place, or room for it; others may use that room before the caller does. If not, no
+/// search for the place ended had the place, or room for it; others may use that room before the caller does. If not, no
 /// node was found free. It does not notify the gate that a call begins.
 pub fn clear_room<N: Unlinked, R: Wait, G: Gate>(
     rt: &R,

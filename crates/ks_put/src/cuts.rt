@@ -15,8 +15,8 @@ use ks_keysets::Span;
 use ks_node::{Unlinked, node_law, unlinked_law};
 use ks_shape::search_law;
 
-/// The cut of a full node that needs no parent to be split. If all nodes grow if it is a branch, it grows, or is no branch
-/// and can adopt it.
+/// The cut of a full node that needs no parent to be split. If it is no branch, or all nodes grow and branches adopt, it
+/// grows, or is no branch and can adopt the cut.
 pub(crate) fn cut_whole<N: Unlinked>(
     arena: &Arena<N, Tree>,
     pass: &Pass<N, Tree>,
@@ -48,8 +48,9 @@ pub(crate) fn cut_whole<N: Unlinked>(
     node.body.cut(span)
 }
 
-/// The cut of a full node below its parent, which leads to it at the place, where no node of the type grows in place. If all
-/// grow if the node is a branch, and the parent is not full if all grow, the node, no branch, or the parent can adopt it.
+/// The cut of a full node below its parent, which leads to it at the place, where no node of the type grows in place. If
+/// all nodes grow and branches adopt, the node, if no branch, or the parent can adopt the cut unless the parent is full; if
+/// not, unless the node is a branch.
 pub(crate) fn cut_below<N: Unlinked>(
     arena: &Arena<N, Tree>,
     pass: &Pass<N, Tree>,

@@ -16,8 +16,9 @@ use ks_node::{Ranged, Unlinked};
 use ks_shape::{Above, Fill, Full, Numbered, NumberedAt, fill_at, fill_located};
 use std::sync::Wait;
 
-/// Puts or adds a value at a place. Returns the number of the call, and the value that was there; or that the node is
-/// full and none was found free. It ends a call by any template, and does not notify the gate that one begins.
+/// Puts or adds a value at a place. Returns the number of the call, and the value that was there; or only the number, if
+/// the node is full and none was found free; splits that were made before stay. It ends a call by any technique, and does
+/// not notify the gate that one begins.
 pub fn pair_fill<N: Unlinked, R: Wait, G: Gate>(
     rt: &R,
     arena: &Arena<N, Tree>,
@@ -36,8 +37,8 @@ pub fn pair_fill<N: Unlinked, R: Wait, G: Gate>(
     fill_at(arena, pass, gate, place, fill, found)
 }
 
-/// Puts or adds a value at a place, as `pair_fill`. Returns also at which node, and with which range, the call was decided,
-/// and `above`, the last branch that the search passed.
+/// Puts or adds a value at a place, as `pair_fill`. Unless the node is full, returns also at which node, and with which
+/// range, the call was decided, and `above` as it was given.
 pub fn pair_fill_at<N: Ranged + Unlinked, R: Wait, G: Gate>(
     rt: &R,
     arena: &Arena<N, Tree>,

@@ -1,4 +1,4 @@
-//! Puts and adds by pairs: the search keeps the parent of its node, so that a full node can be split under it.
+//! Puts and adds by pairs: the search holds the parent of a full node too, so that the node can be split under it.
 #![tactic(auto)]
 
 mod clear;

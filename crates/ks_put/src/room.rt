@@ -1,4 +1,4 @@
-//! The search for room for a place, which keeps the parent of its node, so that a full node can be split under it.
+//! The search for room for a place, which holds the parent of a full node too, so that the node can be split under it.
 ghost use Rattle.std.specs.Prelude.{◌≡◌, ◌⊎◌, IsTrue, None, Some, false};
 ghost use Rattle.ks_node.specs.declared.start.Next.TheVariants.{Go, Here};
 ghost use Rattle.ks_node.specs.Body.{next_at};
@@ -6,7 +6,7 @@ ghost use Rattle.ks_arena.specs.Of.{IsPassOf, IsEmptyPassOf, SameCaller, caller_
 ghost use Rattle.ks_shape.specs.Of.{IsStretch, NoneWasFree, SearchEndsAt};
 ghost use Rattle.ks_shape.specs.Paths.{IsOnPathOf};
 ghost use Rattle.ks_put.specs.Of.{AllGrow, CameToRoom};
-ghost use Rattle.ks_put.specs.Parts.{HasRoomAbove};
+ghost use Rattle.ks_put.specs.Parts.{IsEased};
 ghost use Rattle.ks_shape.specs.Does.{OnlyFills, OnlySearches};
 
 use crate::halves::{Part, settle};
@@ -18,8 +18,8 @@ use ks_node::{Next, Unlinked, node_law, unlinked_law};
 use ks_shape::{Path, enter, has_room, let_go, search_law, step_down, tree_end_law};
 use std::sync::Wait;
 
-/// Releases the parent, and takes the child; keeps the node as its parent only if the child is full and needs one. So
-/// the root is held only until that is known.
+/// Releases the parent, and takes the child; keeps the node as its parent only if the child is full. Otherwise the root
+/// too is released once that is known.
 #[inline(always)]
 fn down<N: Unlinked, R: Wait, G: Gate>(
     rt: &R,
@@ -46,7 +46,7 @@ fn down<N: Unlinked, R: Wait, G: Gate>(
 }
 
 /// Goes on to the child. A full branch is split before, if there is a way and a claim is not refused: then the search
-/// looks again. Returns whether no node was free.
+/// looks again. Returns whether a claim was refused, since no node was found free.
 #[inline(always)]
 fn go_on<N: Unlinked, R: Wait, G: Gate>(
     rt: &R,
@@ -66,8 +66,8 @@ fn go_on<N: Unlinked, R: Wait, G: Gate>(
     ensures path { IsOnPathOf arena.now (caller_of pass.old) place pass.new result.0 }
     ensures stretch { IsStretch pass.old pass.new }
     ensures refused { IsTrue result.1 → NoneWasFree arena.now place pass.old pass.new }
-    ensures eased { result.1 ≡ false → (AllGrow arena.now → HasRoomAbove N.layout N.body path.parent) →
-        AllGrow arena.now → HasRoomAbove N.layout N.body result.0.parent }
+    ensures eased { result.1 ≡ false → (AllGrow arena.now → IsEased N.layout N.body path) →
+        AllGrow arena.now → IsEased N.layout N.body result.0 }
 {
     unlinked_law::<N>();
     node_law(&path.node.body);
@@ -109,8 +109,9 @@ pub(crate) fn come_to_end<N: Unlinked, G: Gate>(
 }
 
 /// Takes the node at which the search for a place ends, and holds no other: it has the place, or room for it. `Err`: it
-/// is full, lacks the place, and no node was found free. Full nodes are split on the search path and at its end. It
-/// does not notify the gate that a call begins.
+/// is full, lacks the place, and no node was found free. It splits full branches on the search path, and at its end a
+/// full node that lacks the place, where there is a way and a claim succeeds. It does not notify the gate that a call
+/// begins.
 pub fn make_room<N: Unlinked, R: Wait, G: Gate>(
     rt: &R,
     arena: &Arena<N, Tree>,

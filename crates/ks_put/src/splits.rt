@@ -1,10 +1,10 @@
-//! The splits of a full node: where its cut goes.
+//! The splits of a full node: it grows, its parent adopts the cut, or it leads to its right half itself.
 ghost use Rattle.std.specs.Prelude.{◌≡◌, IsTrue, Some, None, false};
 ghost use Rattle.ks_node.specs.Body.{begins, is_branch};
 ghost use Rattle.ks_node.specs.Room.{is_full, in_place};
 ghost use Rattle.ks_node.specs.Effect.{split_left};
 ghost use Rattle.ks_node.specs.Asks.{CanSplitAt, HalvesHaveRoom};
-ghost use Rattle.ks_put.specs.Parts.{CanAt, Grows, HasRoomAbove, IsEased, IsRoomy, IsShut};
+ghost use Rattle.ks_put.specs.Parts.{CanAt, Grows, HasRoomAbove, IsRoomy, IsShut};
 ghost use Rattle.ks_arena.specs.Of.{IsInside, IsPassOf, SameCaller, caller_of};
 ghost use Rattle.ks_shape.specs.Of.{IsStretch};
 ghost use Rattle.ks_put.specs.Narrows.{IsNarrower};
@@ -13,7 +13,7 @@ ghost use Rattle.ks_put.specs.Of.{AllGrow, TriedToSplit, PartsDown};
 ghost use Rattle.ks_shape.specs.Does.{MustSplit, OnlyFills};
 
 use crate::cuts::{cut_below, cut_whole};
-use crate::halves::{Part, keep_half, keep_right, keep_right_alone, settle};
+use crate::halves::{Part, keep_half, keep_right, keep_right_alone};
 use ks_arena::{Arena, Held, Pass};
 use ks_flow::Tree;
 use ks_flow::laws::tree_facts_law;
@@ -147,8 +147,8 @@ pub(crate) fn split_alone<N: Unlinked, G: Gate>(
     Part::Split(keep_right_alone(arena, pass, gate, place, path, right))
 }
 
-/// Splits a full node that needs no parent: it grows, or leads to its right half itself. One of the two is possible if all
-/// nodes grow if it is a branch.
+/// Splits a full node that needs no parent: it grows, or leads to its right half itself. One of the two is possible if
+/// it is no branch, or all nodes grow and branches adopt.
 pub(crate) fn split_top<N: Unlinked, G: Gate>(
     arena: &Arena<N, Tree>,
     pass: &mut Pass<N, Tree>,
@@ -185,8 +185,8 @@ pub(crate) fn split_top<N: Unlinked, G: Gate>(
     split_alone(arena, pass, gate, place, cut, path)
 }
 
-/// Splits the full node under its parent, or by itself, where no node of the type grows in place. One of the two is possible
-/// if all nodes grow if it is a branch, and the parent is not full if all nodes grow.
+/// Splits the full node under its parent, or by itself, where no node of the type grows in place. If all nodes grow and
+/// branches adopt, one of the two is possible unless the parent is full; if not, unless the node is a branch.
 pub(crate) fn split_child<N: Unlinked, G: Gate>(
     arena: &Arena<N, Tree>,
     pass: &mut Pass<N, Tree>,
@@ -230,9 +230,11 @@ pub(crate) fn split_child<N: Unlinked, G: Gate>(
     split_alone(arena, pass, gate, place, cut, path)
 }
 
-/// Splits the full node of a path, if there is a way and a claim succeeds, and releases the half without the place. Where a
-/// node grows in place, its parent is released before.
-fn split_whole<N: Unlinked, G: Gate>(
+/// Splits the full node of a path, if there is a way and a claim succeeds, and releases the half without the place,
+/// unless that leads to its full right half itself and becomes the parent of it. Where nodes grow in place, the parent is
+/// released before; else the next step of the search releases it, once the kept half is not full.
+#[inline(never)]
+pub(crate) fn split<N: Unlinked, G: Gate>(
     arena: &Arena<N, Tree>,
     pass: &mut Pass<N, Tree>,
     gate: &G,
@@ -265,37 +267,5 @@ fn split_whole<N: Unlinked, G: Gate>(
     match parent {
         None => split_top(arena, pass, gate, place, node),
         Some(parent) => split_child(arena, pass, gate, place, parent, node),
-    }
-}
-
-/// Splits the full node of a path, if there is a way and a claim succeeds. Releases the half without the place, and the
-/// parent once the kept half is not full; a node that leads to its full right half itself stays as the parent of it.
-#[inline(never)]
-pub(crate) fn split<N: Unlinked, G: Gate>(
-    arena: &Arena<N, Tree>,
-    pass: &mut Pass<N, Tree>,
-    gate: &G,
-    place: u64,
-    path: Path<N>,
-) -> Part<N>
-    requires pass { IsPassOf arena.now pass.old }
-    requires path { IsOnPathOf arena.now (caller_of pass.old) place pass.old path }
-    requires full { IsTrue (is_full N.layout (N.body path.node.body)) }
-    ensures pass { IsPassOf arena.now pass.new }
-    ensures caller { SameCaller pass.old pass.new }
-    ensures fills { MustSplit N.layout place (N.body path.node.body) →
-        OnlyFills N.layout N.ranged place pass.old pass.new }
-    ensures part { TriedToSplit arena.now place pass.old pass.new path result }
-    ensures open { (IsTrue (is_branch (N.body path.node.body)) → AllGrow arena.now) →
-        (AllGrow arena.now → HasRoomAbove N.layout N.body path.parent) → ¬ IsShut result }
-    ensures stretch { IsStretch pass.old pass.new }
-    ensures down { PartsDown arena.now pass.old pass.new path result }
-    ensures halves { IsTrue N.halves_have_room → IsEased N.layout N.body result }
-    ensures narrows { IsNarrower N.layout N.body place path result }
-{
-    match split_whole(arena, pass, gate, place, path) {
-        Part::Split(half) => Part::Split(settle(arena, pass, gate, place, half)),
-        Part::Refused(whole) => Part::Refused(whole),
-        Part::Shut(whole) => Part::Shut(whole),
     }
 }

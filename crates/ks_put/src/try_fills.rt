@@ -13,13 +13,14 @@ use ks_node::Unlinked;
 use ks_shape::{Fill, Numbered, PutLater, fill_at, not_put_off};
 
 /// Puts or adds a value at a place without waiting. Returns the number of the call, and the value that was there. It
-/// ends a call by coupling or by giving up, and does not notify the gate that one begins.
+/// ends a call by coupling or by giving up that took the root at most once before, and does not notify the gate that one
+/// begins.
 ///
 /// # Errors
 ///
-/// `Full` if the node is full and none was found free; splits that were made before stay. `Busy` if another caller
-/// holds the next node on the search path; `Far` if as many nodes were taken as there are, while another caller changed
-/// some. Then the call is none of the history, and splits stay.
+/// `Full`, with the number of the call, if the node is full and none was found free. `Busy` if another caller holds the
+/// next node on the search path; `Far` if as many nodes were taken as there are, while another caller changed some: then
+/// the call is none of the history. Splits that were made before stay in each case.
 pub fn try_pair_fill<N: Unlinked, G: Gate>(
     arena: &Arena<N, Tree>,
     pass: &mut Pass<N, Tree>,

@@ -1,5 +1,5 @@
 //! The non-blocking search for room for a place. It is put off if it finds a node busy, or if it took as many nodes as
-//! there are; its own splits do not lengthen the search path.
+//! there are; the halves that it splits off do not count as taken.
 ghost use Rattle.std.specs.Prelude.{◌≡◌, ◌<◌, false};
 ghost use Rattle.ks_node.specs.declared.start.Next.TheVariants.{Go};
 ghost use Rattle.ks_node.specs.Body.{next_at};
@@ -7,7 +7,8 @@ ghost use Rattle.ks_arena.specs.Of.{IsPassOf, IsEmptyPassOf, SameCaller, caller_
 ghost use Rattle.ks_shape.specs.Of.{IsStretch, NoneWasFree};
 ghost use Rattle.ks_shape.specs.Paths.{IsOnPathOf};
 ghost use Rattle.ks_put.specs.Of.{AllGrow};
-ghost use Rattle.ks_put.specs.Tries.{IsEasedBut, IsEasedStep, IsNear, IsNearer, OnOrCause, StepsOrNone, TriesRoom, TriesRoomSince, WasRefused, WentDown};
+ghost use Rattle.ks_put.specs.Parts.{IsEased};
+ghost use Rattle.ks_put.specs.Tries.{IsEasedStep, IsNear, IsNearer, OnOrCause, StepsOrNone, TriesRoom, TriesRoomSince, WasRefused, WentDown};
 ghost use Rattle.ks_shape.specs.Does.{OnlyFills, OnlySearches};
 
 use crate::halves::Part;
@@ -21,14 +22,15 @@ use ks_shape::{
     Later, Path, child_law, give_last, has_room, let_go, search_law, try_enter, try_step_down,
 };
 
-/// Where a search is after a step: its path, how many nodes below the root, and whether a claim was refused.
+/// Where a search is after a step: its path, how many nodes below the root, and whether a claim was refused in the step.
 pub(crate) struct Step<N> {
     path: Path<N>,
     depth: u32,
     refused: bool,
 }
 
-/// Releases the parent, and takes the child, unless another caller holds it, or as many nodes were taken as there are.
+/// Releases the parent, and takes the child, unless another caller holds it, or as many nodes were taken as there are:
+/// then nothing remains held.
 fn try_down<N: Unlinked, G: Gate>(
     arena: &Arena<N, Tree>,
     pass: &mut Pass<N, Tree>,
@@ -80,7 +82,6 @@ fn try_go_on<N: Unlinked, G: Gate>(
     path: Path<N>,
     child: u32,
     depth: u32,
-    refused: bool,
 ) -> Result<Step<N>, Later>
     requires pass { IsPassOf arena.now pass.old }
     requires path { IsOnPathOf arena.now (caller_of pass.old) place pass.old path }
@@ -90,8 +91,8 @@ fn try_go_on<N: Unlinked, G: Gate>(
     ensures caller { SameCaller pass.old pass.new }
     ensures fills { OnlyFills N.layout N.ranged place pass.old pass.new }
     ensures path { StepsOrNone arena.now (caller_of pass.old) place pass.new result }
-    ensures refused { WasRefused refused (NoneWasFree arena.now place pass.old pass.new) result }
-    ensures eased { IsEasedBut N.layout N.body (AllGrow arena.now) refused path.parent →
+    ensures refused { WasRefused (NoneWasFree arena.now place pass.old pass.new) result }
+    ensures eased { (AllGrow arena.now → IsEased N.layout N.body path) →
         IsEasedStep N.layout N.body (AllGrow arena.now) result }
     ensures nearer { IsNearer N.layout N.body place depth path result }
     ensures near { IsNear arena.now.nodes result }
@@ -101,19 +102,19 @@ fn try_go_on<N: Unlinked, G: Gate>(
     unlinked_law::<N>();
     node_law(&path.node.body);
     if !path.node.body.is_branch() {
-        return try_down(arena, pass, gate, place, path, child, depth, refused);
+        return try_down(arena, pass, gate, place, path, child, depth, false);
     }
     if !path.node.body.is_full() {
-        return try_down(arena, pass, gate, place, path, child, depth, refused);
+        return try_down(arena, pass, gate, place, path, child, depth, false);
     }
     match split(arena, pass, gate, place, path) {
         Part::Split(half) => Ok(Step {
             path: half,
             depth,
-            refused,
+            refused: false,
         }),
         Part::Refused(whole) => try_down(arena, pass, gate, place, whole, child, depth, true),
-        Part::Shut(whole) => try_down(arena, pass, gate, place, whole, child, depth, refused),
+        Part::Shut(whole) => try_down(arena, pass, gate, place, whole, child, depth, false),
     }
 }
 
@@ -144,7 +145,7 @@ pub(crate) fn try_make_room<N: Unlinked, G: Gate>(
     loop {
         match path.node.body.next(place) {
             Next::Go(child) => {
-                match try_go_on(arena, pass, gate, place, path, child, depth, refused) {
+                match try_go_on(arena, pass, gate, place, path, child, depth) {
                     Ok(
                         Step {
                             path: next,
@@ -154,7 +155,7 @@ pub(crate) fn try_make_room<N: Unlinked, G: Gate>(
                     ) => {
                         path = next;
                         depth = deeper;
-                        refused = was;
+                        refused = refused || was;
                     }
                     Err(later) => return Err(later),
                 }

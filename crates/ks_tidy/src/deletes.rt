@@ -80,9 +80,10 @@ fn del_told<W: Decision, N: Unlinked>(
     arena.decide_as::<W>(pass, held)
 }
 
-/// Deletes what is at a place, at the node of a path where the search for the place ends, and releases all. If it
-/// removed a pair, it merges the node before, while it is low. If another search has to
-/// follow, as the caller says `again` or the merging finds, it searches for the place again, as `pair_tidy` does.
+/// Deletes what is at a place, at the node of a path where the search for the place ends, and releases all. If it removed
+/// a pair, it first merges at the node, while that is low; and if nodes grow in place, and another search has to follow, as
+/// the caller says `again` or the merging finds, it goes on as `pair_tidy`. If it removed one and no other caller acted, the
+/// node whose keyset holds the place is then not low, or fits with no right neighbour.
 pub fn del_on<N: Unlinked, R: Wait, G: Gate>(
     rt: &R,
     arena: &Arena<N, Tree>,
@@ -116,7 +117,8 @@ pub fn del_on<N: Unlinked, R: Wait, G: Gate>(
 }
 
 /// Deletes what is at a place, at the only held node, where the search for the place ends, and releases it. If it
-/// removed a pair and the node is low, it searches for the place again, and merges on the path and at its end.
+/// removed a pair and the node is low, it merges as `pair_tidy`. If it removed one and no other caller acted, the node
+/// whose keyset holds the place is then not low, or fits with no right neighbour.
 #[inline(always)]
 pub fn del_alone<N: Unlinked, R: Wait, G: Gate>(
     rt: &R,

@@ -117,9 +117,9 @@ fn tidy_branch<N: Unlinked, R: Wait, G: Gate>(
     }
 }
 
-/// Comes to the node at which the search for a place ends, and holds its parent too; it merges low branches on the
-/// path. If it made none free, it holds the parent unless the node is the root. It does not notify the gate that a call
-/// begins.
+/// Comes to the node at which the search for a place ends; it merges low branches on the path, and lets the root, or
+/// any branch that grows in place, take over its only child. It holds the parent of the node too, unless the node is the
+/// root, or `again` is true. It does not notify the gate that a call begins.
 pub fn come_down<N: Unlinked, R: Wait, G: Gate>(
     rt: &R,
     arena: &Arena<N, Tree>,
@@ -158,8 +158,9 @@ pub fn come_down<N: Unlinked, R: Wait, G: Gate>(
     unreachable!()
 }
 
-/// Merges at the node whose keyset holds the place, and releases all. Returns how many nodes it made free. If the type
-/// grows in place and it made one free, the node may still fit with its right neighbour.
+/// Merges at the node of a path, whose keyset holds the place, and releases all. If no other caller acted, the node whose
+/// keyset then holds the place is not low, or fits with no right neighbour; if nodes grow in place, only if the node had
+/// its parent held or was the root, and no other descent has to follow.
 pub fn tidy_end<N: Unlinked, R: Wait, G: Gate>(
     rt: &R,
     arena: &Arena<N, Tree>,
@@ -230,7 +231,8 @@ fn sweep<N: Unlinked, R: Wait, G: Gate>(
 
 /// Merges for a place: low branches on the path to the node whose keyset holds it, and that node, if it is low. If the
 /// type grows in place, it descends again until a descent makes no node free. Returns how many nodes it made free, modulo
-/// 2^32. It makes no call of the history, and does not notify the gate that one begins.
+/// 2^32. If no other caller acted, the node whose keyset holds the place is then not low, or fits with no right neighbour.
+/// It makes no call of the history, and does not notify the gate that one begins.
 pub fn pair_tidy<N: Unlinked, R: Wait, G: Gate>(
     rt: &R,
     arena: &Arena<N, Tree>,
@@ -257,8 +259,8 @@ pub fn pair_tidy<N: Unlinked, R: Wait, G: Gate>(
     unreachable!()
 }
 
-/// Merges at the node whose keyset holds the place, after a search which another has to follow or not, and releases all.
-/// If one has to follow that search or this merging, it descends again until a descent makes no node free.
+/// Merges at the node of a path, whose keyset holds the place, after a search which another has to follow or not, and
+/// releases all. If nodes grow in place, and another has to follow that search or this merging, it goes on as `pair_tidy`.
 pub(crate) fn tidy_on<N: Unlinked, R: Wait, G: Gate>(
     rt: &R,
     arena: &Arena<N, Tree>,

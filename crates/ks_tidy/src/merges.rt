@@ -1,7 +1,7 @@
-//! The three ways to make a node free: by its parent, by its left neighbour that leads to it, and by one beside it.
+//! The ways to make a node free: a branch takes over its only child, or a node absorbs its right neighbour.
 ghost use Rattle.std.specs.Prelude.{◌≡◌, Some, None, true, IsTrue};
 ghost use Rattle.ks_node.specs.Room.{is_low};
-ghost use Rattle.ks_node.specs.Body.{chained_of, only_child_of, right_child};
+ghost use Rattle.ks_node.specs.Body.{chained_of, only_child_of};
 ghost use Rattle.ks_tidy.specs.Pair.{TakesOver, path_in};
 ghost use Rattle.ks_arena.specs.Of.{IsPassOf, SameCaller, caller_of};
 ghost use Rattle.ks_shape.specs.Of.{HasPlaces, IsStretch};
@@ -13,9 +13,10 @@ use crate::neighbours::{chained_law, next_law};
 use crate::step::Step;
 use crate::takes::take_led;
 use ks_arena::{Arena, Held, Pass};
+use ks_bodies::alone_law;
 use ks_flow::Tree;
 use ks_gate::{Gate, Point};
-use ks_node::Unlinked;
+use ks_node::{Unlinked, node_law, unlinked_law};
 use ks_shape::{Path, collapse, search_law};
 use std::sync::Wait;
 
@@ -55,19 +56,20 @@ pub(crate) fn take_over<N: Unlinked, G: Gate>(
     }
 }
 
-/// The node of a path absorbs the node to which it leads itself, if both fit. That one is released, or freed.
-pub(crate) fn merge_own<N: Unlinked, R: Wait, G: Gate>(
+/// Merges the node of a path with its right neighbour, if there is one and they fit: with the node to which it leads
+/// itself, or else with the one to which its parent, if that is held, leads next. That one is released, as free if it was
+/// absorbed.
+#[inline(never)]
+pub(crate) fn merge<N: Unlinked, R: Wait, G: Gate>(
     rt: &R,
     arena: &Arena<N, Tree>,
     pass: &mut Pass<N, Tree>,
     gate: &G,
     place: u64,
     path: Path<N>,
-    target: u32,
 ) -> Step<N>
     requires pass { IsPassOf arena.now pass.old }
     requires pair { IsPairOf arena.now (caller_of pass.old) place pass.old path }
-    requires chained { chained_of (N.body path.node.body) ≡ Some target }
     requires no_sole { HasNoSole arena.now path.parent }
     ensures pass { IsPassOf arena.now pass.new }
     ensures caller { SameCaller pass.old pass.new }
@@ -78,14 +80,31 @@ pub(crate) fn merge_own<N: Unlinked, R: Wait, G: Gate>(
     ensures step { HasTried arena.now true pass.old pass.new path result }
 {
     search_law();
-    chained_law(arena, pass, place, &path, target);
-    let next = take_led(rt, arena, pass, gate, &path.node, target);
-    join_own(arena, pass, gate, place, path, next)
+    let right = path.node.body.chained();
+    match right {
+        Some(target) => {
+            chained_law(arena, pass, place, &path, target);
+            let next = take_led(rt, arena, pass, gate, &path.node, target);
+            join_own(arena, pass, gate, place, path, next)
+        }
+        None => {
+            let Path { parent, node } = path;
+            match parent {
+                Some(parent) => merge_next(rt, arena, pass, gate, place, parent, node),
+                None => {
+                    alone_law();
+                    unlinked_law::<N>();
+                    node_law(&node.body);
+                    Step::Rests(Path { parent: None, node })
+                }
+            }
+        }
+    }
 }
 
-/// The node below a branch absorbs the node to which the branch leads next, if both fit. That one is released, or
-/// the branch forgets it and it is freed.
-pub(crate) fn merge_beside<N: Unlinked, R: Wait, G: Gate>(
+/// Merges a node that leads to no node itself with the one to which its parent leads next, if there is one and they
+/// fit: that one is released, and if it was absorbed, its parent forgets it and it is released as free.
+fn merge_next<N: Unlinked, R: Wait, G: Gate>(
     rt: &R,
     arena: &Arena<N, Tree>,
     pass: &mut Pass<N, Tree>,
@@ -93,13 +112,11 @@ pub(crate) fn merge_beside<N: Unlinked, R: Wait, G: Gate>(
     place: u64,
     parent: Held<N>,
     node: Held<N>,
-    target: u32,
 ) -> Step<N>
     requires pass { IsPassOf arena.now pass.old }
     requires pair { IsPairOf arena.now (caller_of pass.old) place pass.old
         (record { parent = Some parent; node = node }) }
     requires unchained { chained_of (N.body node.body) ≡ None }
-    requires beside { right_child (N.body parent.body) place ≡ Some target }
     requires no_sole { HasNoSole arena.now (Some parent) }
     ensures pass { IsPassOf arena.now pass.new }
     ensures caller { SameCaller pass.old pass.new }
@@ -110,7 +127,21 @@ pub(crate) fn merge_beside<N: Unlinked, R: Wait, G: Gate>(
     ensures step { HasTried arena.now true pass.old pass.new (record { parent = Some parent; node = node }) result }
 {
     search_law();
-    next_law(arena, pass, place, &parent, &node, target);
-    let right = take_led(rt, arena, pass, gate, &parent, target);
-    join_beside(arena, pass, gate, place, parent, node, right)
+    match parent.body.right_of(place) {
+        Some(target) => {
+            next_law(arena, pass, place, &parent, &node, target);
+            let right = take_led(rt, arena, pass, gate, &parent, target);
+            join_beside(arena, pass, gate, place, parent, node, right)
+        }
+        None => {
+            alone_law();
+            unlinked_law::<N>();
+            node_law(&parent.body);
+            node_law(&node.body);
+            Step::Rests(Path {
+                parent: Some(parent),
+                node,
+            })
+        }
+    }
 }

@@ -1,4 +1,4 @@
-//! Non-blocking merging: it goes on until it needs a node that another caller holds.
+//! Non-blocking merging: it leaves a right neighbour that another caller holds, and ends at such a node on the path.
 ghost use Rattle.std.specs.Prelude.{◌≡◌};
 ghost use Rattle.ks_history.specs.declared.Op.TheVariants.{Del};
 ghost use Rattle.ks_history.specs.Map.{told};
@@ -16,7 +16,7 @@ use crate::try_step::try_tidy_once;
 use ks_arena::{Arena, Held, Pass};
 use ks_flow::Tree;
 use ks_gate::{Gate, Point};
-use ks_node::{Next, Unlinked};
+use ks_node::{Next, Node, Unlinked};
 use ks_shape::{Numbered, Path, let_go, search_law, try_enter, try_step_down};
 
 /// Where a search is after tries to merge, and how many nodes they made free, modulo 2^32.
@@ -25,39 +25,19 @@ struct Tried<N> {
     freed: u32,
 }
 
-/// Merges at the node of a path while it is low, by tries: at most as often as the arena has nodes. The node of the
-/// path then has what the node had.
-fn try_tidy_node<N: Unlinked, G: Gate>(
-    arena: &Arena<N, Tree>,
-    pass: &mut Pass<N, Tree>,
-    gate: &G,
-    place: u64,
-    path: Path<N>,
-) -> Tried<N>
-    requires pass { IsPassOf arena.now pass.old }
-    requires pair { IsPairOf arena.now (caller_of pass.old) place pass.old path }
-    ensures pass { IsPassOf arena.now pass.new }
-    ensures caller { SameCaller pass.old pass.new }
-    ensures dels { OnlyDels N.layout N.ranged pass.old pass.new }
-    ensures pair { IsPairOf arena.now (caller_of pass.old) place pass.new result.path }
-    ensures stretch { IsStretch pass.old pass.new }
-    ensures counts { CountsFree result.freed pass.old pass.new }
-{
-    let mut path = path;
-    let mut freed: u32 = 0;
-    for _tries in 0..arena.nodes() {
-        match try_tidy_once(arena, pass, gate, place, path) {
-            Step::Freed(next) => {
-                path = next;
-                freed = freed.wrapping_add(1);
-            }
-            Step::Rests(rest) => return Tried { path: rest, freed },
-        }
+/// Whether a search merges at a node: it is a branch, or the search ends there.
+fn merges_at<N: Node>(node: &Held<N>, place: u64) -> bool {
+    if node.body.is_branch() {
+        return true;
     }
-    Tried { path, freed }
+    match node.body.next(place) {
+        Next::Here => true,
+        Next::Go(_) => false,
+    }
 }
 
-/// Merges at the node of a path, if it is a branch, or the search ends there.
+/// Merges at the node of a path, if it is a branch, or the search ends there: while it is low, by tries, at most as often
+/// as the arena has nodes.
 fn try_tidy_at<N: Unlinked, G: Gate>(
     arena: &Arena<N, Tree>,
     pass: &mut Pass<N, Tree>,
@@ -74,13 +54,21 @@ fn try_tidy_at<N: Unlinked, G: Gate>(
     ensures stretch { IsStretch pass.old pass.new }
     ensures counts { CountsFree result.freed pass.old pass.new }
 {
-    if path.node.body.is_branch() {
-        return try_tidy_node(arena, pass, gate, place, path);
+    if !merges_at(&path.node, place) {
+        return Tried { path, freed: 0 };
     }
-    match path.node.body.next(place) {
-        Next::Here => try_tidy_node(arena, pass, gate, place, path),
-        Next::Go(_) => Tried { path, freed: 0 },
+    let mut path = path;
+    let mut freed: u32 = 0;
+    for _tries in 0..arena.nodes() {
+        match try_tidy_once(arena, pass, gate, place, path) {
+            Step::Freed(next) => {
+                path = next;
+                freed = freed.wrapping_add(1);
+            }
+            Step::Rests(rest) => return Tried { path: rest, freed },
+        }
     }
+    Tried { path, freed }
 }
 
 /// Releases the parent, if there is one, and takes the child to which the search goes on; the node becomes its parent.
@@ -110,10 +98,10 @@ fn try_go_down<N: Unlinked, G: Gate>(
     }
 }
 
-/// Merges for a place, as `pair_tidy` does, but without waiting: a right neighbour that another caller holds is left as
-/// it is, and a node on the path that another holds ends it. It takes at most as many nodes as the arena has. Returns
-/// how many nodes it made free, modulo 2^32. It makes no call of the history, and does not notify the gate that one
-/// begins.
+/// Merges for a place, as one descent of `pair_tidy` does, but without waiting: a right neighbour that another caller
+/// holds is left as it is, and a node on the path that another holds ends it. On the path it takes at most as many nodes
+/// as the arena has. Returns how many nodes it made free, modulo 2^32. It makes no call of the history, and does not
+/// notify the gate that one begins.
 pub fn try_pair_tidy<N: Unlinked, G: Gate>(
     arena: &Arena<N, Tree>,
     pass: &mut Pass<N, Tree>,
@@ -153,8 +141,7 @@ pub fn try_pair_tidy<N: Unlinked, G: Gate>(
     freed
 }
 
-/// Deletes what is at a place, as `del_alone` does, but without waiting: the merging after the call ends at a node that
-/// another caller holds.
+/// Deletes what is at a place, as `del_alone` does, but without waiting: after the call it merges as `try_pair_tidy`.
 pub fn try_del_alone<N: Unlinked, G: Gate>(
     arena: &Arena<N, Tree>,
     pass: &mut Pass<N, Tree>,

@@ -25,11 +25,7 @@ returns-then-place-cut-clause-path g c = let at = (goal.at.returns-then-place-cu
     half_kept sort shows n me (laws g at) h k i c.requires.pass.sound e.pass.sound e.gave e.rest.still c.args.place c.args.left c.args.parent hands (has l (inr (inl refl))) (has p (inr (inr (inl refl)))) (λ same. all.0 (inl same)) (λ same. all.0 (inr (inl same))) c.requires.left c.requires.parent (c.requires.below c.if-place-cut.true)
 
 pub returns-then-place-cut-clause-stretch : goal.returns-then-place-cut-clause-stretch
-returns-then-place-cut-clause-stretch g c = let at = (goal.at.returns-then-place-cut-clause-stretch g c).After-search_law in let sort = sort_of g.N.Node.layout g.N.Node.ranged in let shows = g.N.Node.body in let n : ℕ = c.args.arena.now.table.shared.table_id.slots in let me : ℕ = c.args.pass.now.caller in let h = seen_of c.args.pass.now in let k = seen_of c.give.new.pass in let i : ℕ = c.args.right.node in let e = c.give.ensures in
-    let gone : hand me k ≡ drop_one i (hand me h) = subst (λ (z : ℕ). hand z k ≡ drop_one i (hand me h)) e.caller e.hand in
-    let r : ℕ = c.args.right.node in let l : ℕ = c.args.left.node in let p : ℕ = c.args.parent.node in let all = once sort shows n me (laws g at) h k i c.requires.pass.sound e.pass.sound e.gave e.rest.still (r ∷ l ∷ p ∷ []) c.requires.hands in
-    let hands : hand me k ≡ l ∷ p ∷ [] = gone ∙ ap (drop_one r) c.requires.hands ∙ drop_first r (l ∷ p ∷ []) in
-    stretches_give me i h k (omega (arith, ap length c.requires.hands)) e.gave
+returns-then-place-cut-clause-stretch g c = stretches_give c.args.pass.now.caller c.args.right.node (seen_of c.args.pass.now) (seen_of c.give.new.pass) (omega (arith, ap length c.requires.hands)) c.give.ensures.gave
 
 pub returns-else-place-cut-clause-path : goal.returns-else-place-cut-clause-path
 returns-else-place-cut-clause-path g c = let at = (goal.at.returns-else-place-cut-clause-path g c).After-search_law in let sort = sort_of g.N.Node.layout g.N.Node.ranged in let shows = g.N.Node.body in let n : ℕ = c.args.arena.now.table.shared.table_id.slots in let me : ℕ = c.args.pass.now.caller in let h = seen_of c.args.pass.now in let k = seen_of c.give-else-place-cut.new.pass in let i : ℕ = c.args.left.node in let e = c.give-else-place-cut.ensures in
@@ -40,11 +36,7 @@ returns-else-place-cut-clause-path g c = let at = (goal.at.returns-else-place-cu
     half_kept sort shows n me (laws g at) h k i c.requires.pass.sound e.pass.sound e.gave e.rest.still c.args.place c.args.right c.args.parent hands (has r (inl refl)) (has p (inr (inr (inl refl)))) (λ same. all.0 (inl (sym same))) (λ same. all.1.0 (inl same)) c.requires.right c.requires.parent (c.requires.from (omega (arith, c.if-place-cut.false)))
 
 pub returns-else-place-cut-clause-stretch : goal.returns-else-place-cut-clause-stretch
-returns-else-place-cut-clause-stretch g c = let at = (goal.at.returns-else-place-cut-clause-stretch g c).After-search_law in let sort = sort_of g.N.Node.layout g.N.Node.ranged in let shows = g.N.Node.body in let n : ℕ = c.args.arena.now.table.shared.table_id.slots in let me : ℕ = c.args.pass.now.caller in let h = seen_of c.args.pass.now in let k = seen_of c.give-else-place-cut.new.pass in let i : ℕ = c.args.left.node in let e = c.give-else-place-cut.ensures in
-    let gone : hand me k ≡ drop_one i (hand me h) = subst (λ (z : ℕ). hand z k ≡ drop_one i (hand me h)) e.caller e.hand in
-    let r : ℕ = c.args.right.node in let l : ℕ = c.args.left.node in let p : ℕ = c.args.parent.node in let all = once sort shows n me (laws g at) h k i c.requires.pass.sound e.pass.sound e.gave e.rest.still (r ∷ l ∷ p ∷ []) c.requires.hands in
-    let hands : hand me k ≡ r ∷ p ∷ [] = gone ∙ ap (drop_one l) c.requires.hands ∙ drop_later r l (l ∷ p ∷ []) (λ same. all.0 (inl (sym same))) ∙ ap (λ (z : List ℕ). r ∷ z) (drop_first l (p ∷ [])) in
-    stretches_give me i h k (omega (arith, ap length c.requires.hands)) e.gave
+returns-else-place-cut-clause-stretch g c = stretches_give c.args.pass.now.caller c.args.left.node (seen_of c.args.pass.now) (seen_of c.give-else-place-cut.new.pass) (omega (arith, ap length c.requires.hands)) c.give-else-place-cut.ensures.gave
 
 pub returns-then-place-cut-clause-quiet : goal.returns-then-place-cut-clause-quiet
 returns-then-place-cut-clause-quiet g c = quiet_give c.args.pass.now.caller c.args.right.node (seen_of c.args.pass.now) (seen_of c.give.new.pass) c.give.ensures.gave

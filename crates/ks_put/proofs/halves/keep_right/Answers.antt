@@ -35,13 +35,7 @@ returns-clause-path g c = let at = (goal.at.returns-clause-path g c).After-searc
     half_kept sort shows n me (laws g at) h k i c.requires.pass.sound e.pass.sound e.gave e.rest.still c.args.place c.args.right c.args.path.node hands (subst (λ (z : List ℕ). Has z r) (sym three) (inl refl)) (subst (λ (z : List ℕ). Has z x) (sym three) (inr (inl refl))) (λ same. all.0 (inr (inl (sym same)))) (λ same. all.1.0 (inl (sym same))) c.requires.right c.requires.node c.requires.part
 
 pub returns-clause-stretch : goal.returns-clause-stretch
-returns-clause-stretch g c = let at = (goal.at.returns-clause-stretch g c).After-search_law in let sort = sort_of g.N.Node.layout g.N.Node.ranged in let shows = g.N.Node.body in let n : ℕ = c.args.arena.now.table.shared.table_id.slots in let me : ℕ = c.args.pass.now.caller in let h = seen_of c.args.pass.now in let k = seen_of c.give.new.pass in let i : ℕ = c.in-Some.parent.node in let e = c.give.ensures in
-    let gone : hand me k ≡ drop_one i (hand me h) = subst (λ (z : ℕ). hand z k ≡ drop_one i (hand me h)) e.caller e.hand in
-    let r : ℕ = c.args.right.node in let x : ℕ = c.args.path.node.node in
-    let three : hand me h ≡ r ∷ x ∷ i ∷ [] = subst (λ (o : Option (Hand g.row.N.Denot)). hand me h ≡ r ∷ x ∷ numbers o) c.in-Some.is c.requires.hands in
-    let all = once sort shows n me (laws g at) h k i c.requires.pass.sound e.pass.sound e.gave e.rest.still (r ∷ x ∷ i ∷ []) three in
-    let hands : hand me k ≡ r ∷ x ∷ [] = gone ∙ ap (drop_one i) three ∙ drop_later r i (x ∷ i ∷ []) (λ same. all.0 (inr (inl (sym same)))) ∙ ap (λ (z : List ℕ). r ∷ z) (drop_later x i (i ∷ []) (λ same. all.1.0 (inl (sym same))) ∙ ap (λ (z : List ℕ). x ∷ z) (drop_first i [])) in
-    stretches_give me i h k (omega (arith, ap length three)) e.gave
+returns-clause-stretch g c = stretches_give c.args.pass.now.caller c.in-Some.parent.node (seen_of c.args.pass.now) (seen_of c.give.new.pass) (few c.args.path.parent (hand_of c.args.pass.now) c.args.right.node c.args.path.node.node c.requires.hands) c.give.ensures.gave
 
 pub returns-in_default-clause-path : goal.returns-in_default-clause-path
 returns-in_default-clause-path g c = record {

@@ -65,7 +65,7 @@ keep_alone-node-requires-clause-inside g c = let at = goal.at.keep_alone-node-re
     c.requires.inside
 
 pub returns-clause-path : goal.returns-clause-path
-returns-clause-path g c = let e = c.keep_alone-node.ensures in let me : ℕ = c.args.pass.now.caller in let k = seen_of c.keep_alone-node.new.pass in let x = c.keep_alone-node.result in
+returns-clause-path g c = let e = c.keep_alone-node.ensures in let k = seen_of c.keep_alone-node.new.pass in let x = c.keep_alone-node.result in
     let way = subst (λ (z : ℕ). IsOnWay (sort_of g.N.Node.layout g.N.Node.ranged) g.N.Node.body z c.args.place k x) c.give.ensures.caller e.way in record {
       hands = way.alone;
       live = way.live;

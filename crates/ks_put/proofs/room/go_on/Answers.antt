@@ -1,13 +1,11 @@
-use Rattle.std.proofs.Common.{ℕ, refl, ◌≡◌, ◌∙◌, true, false, sym, subst, arith}
-use Rattle.std.specs.Prelude.{Option, Some}
+use Rattle.std.proofs.Common.{ℕ, refl, ◌≡◌, ◌∙◌, true, false, sym, arith}
+use Rattle.std.specs.Prelude.{Some}
 use Rattle.ks_node.specs.Body.{Body}
 use Rattle.ks_node.specs.Laws.Spans.{length_edges}
 use Rattle.ks_node.specs.Laws.Ways.{next_leads}
-use Rattle.ks_arena.specs.declared.held.Held.{Held as Hand}
 use Rattle.ks_arena.specs.Clauses.{seen_of}
 use Rattle.ks_shape.specs.Stretches.{Stretches}
 use Rattle.ks_shape.specs.Laws.Stretches.{stretches_as, stretches_both}
-use Rattle.ks_put.specs.Parts.{HasRoomAbove}
 use Rattle.ks_put.proofs.Going.{on_was}
 use Rattle.ks_put.proofs.Trying.{no_leaf, room_above}
 use Rattle.ks_arena.specs.Sound.{sort_of}
@@ -53,13 +51,13 @@ returns-then-not-is_branch-clause-eased g c = λ none eased grow. let b : Body =
     ((c.unlinked_law.ensures.adopting grow.1 c.args.path.node.body).bare (sym c.is_branch.ensures ∙ c.if-not-is_branch.true)))
 
 pub returns-then-not-is_full-clause-eased : goal.returns-then-not-is_full-clause-eased
-returns-then-not-is_full-clause-eased g c = λ none eased grow. room_above g.N.Node.layout g.N.Node.body c.down-then-not-is_full.result.parent (Some c.args.path.node) c.down-then-not-is_full.ensures.above (sym c.is_full.ensures ∙ c.if-not-is_full.true)
+returns-then-not-is_full-clause-eased g c = λ none eased grow full. room_above g.N.Node.layout g.N.Node.body c.down-then-not-is_full.result.parent (Some c.args.path.node) c.down-then-not-is_full.ensures.above (sym c.is_full.ensures ∙ c.if-not-is_full.true)
 
 pub returns-in-Split-clause-eased : goal.returns-in-Split-clause-eased
-returns-in-Split-clause-eased g c = λ none eased grow. subst (λ (o : Option (Hand g.row.N.Denot)). HasRoomAbove g.N.Node.layout g.N.Node.body o) (sym (c.in-Split.ensures.halves grow.2).1) tt
+returns-in-Split-clause-eased g c = λ none eased grow full. absurd (let q : true ≡ false = sym full ∙ c.in-Split.ensures.halves grow.2 in let z : ⊥ = cc in z)
 
 pub returns-in-Refused-clause-eased : goal.returns-in-Refused-clause-eased
 returns-in-Refused-clause-eased g c = λ none eased grow. absurd (let z : ⊥ = cc in z)
 
 pub returns-in-Shut-clause-eased : goal.returns-in-Shut-clause-eased
-returns-in-Shut-clause-eased g c = λ none eased grow. absurd (c.in-Shut.ensures.open (λ branch. grow) (λ all. eased all) tt)
+returns-in-Shut-clause-eased g c = λ none eased grow. absurd (c.in-Shut.ensures.open (λ branch. grow) (λ all. eased all (sym c.is_full.ensures ∙ c.if-not-is_full.false)) tt)

@@ -26,7 +26,7 @@ loop-preserved-else-refused g c = let layout : Layout = g.N.Node.layout in let n
 
 pub loop-preserved : goal.loop-preserved
 loop-preserved g c = let layout : Layout = g.N.Node.layout in let n : ℕ = c.args.arena.now.nodes in let a : ℕ = c.loop.pass.caller in let s = seen_of c.args.pass.now in let h = seen_of c.loop.pass in let inv = c.loop.invariant in let e = c.split.ensures in let b : ℕ = c.split.new.pass.caller in let k = seen_of c.split.new.pass in
-    (e.pass, e.caller ∙ inv.1, subst (λ (z : ℕ). IsOnPath (sort_of g.N.Node.layout g.N.Node.ranged) g.N.Node.body z c.args.place k c.in-Split.half) (sym e.caller) c.in-Split.ensures.part, stretches_on a b s h k e.caller inv.3 e.stretch, (λ t. on_was layout n c.args.place a b s h k e.caller e.stretch (inv.4 t)), fills_on (sort_of g.N.Node.layout g.N.Node.ranged) c.args.place a b s h k e.caller inv.5 (e.fills (let none = c.has_room.ensures.none c.if-has_room.false in (none.1, λ leaf. none.0))), λ r grow. subst (λ (o : Option (Hand g.row.N.Denot)). HasRoomAbove g.N.Node.layout g.N.Node.body o) (sym (c.in-Split.ensures.halves grow.2).1) tt)
+    (e.pass, e.caller ∙ inv.1, subst (λ (z : ℕ). IsOnPath (sort_of g.N.Node.layout g.N.Node.ranged) g.N.Node.body z c.args.place k c.in-Split.half) (sym e.caller) c.in-Split.ensures.part, stretches_on a b s h k e.caller inv.3 e.stretch, (λ t. on_was layout n c.args.place a b s h k e.caller e.stretch (inv.4 t)), fills_on (sort_of g.N.Node.layout g.N.Node.ranged) c.args.place a b s h k e.caller inv.5 (e.fills (let none = c.has_room.ensures.none c.if-has_room.false in (none.1, λ leaf. none.0))), λ r grow full. absurd (not_both (sym full ∙ c.in-Split.ensures.halves grow.2)))
 
 -- what the search returns
 
@@ -61,7 +61,7 @@ returns-in-Shut-clause-stretch g c = let me : ℕ = c.args.pass.now.caller in le
 pub unreachable-requires : goal.unreachable-requires
 unreachable-requires g c = let sort = sort_of g.N.Node.layout g.N.Node.ranged in let slots : ℕ = c.args.arena.now.table.shared.table_id.slots in let h = seen_of c.loop.pass in let inv = c.loop.invariant in
     let leaf = path_leaf sort g.N.Node.body c.loop.pass.caller c.args.place h c.loop.path inv.2 ((c.search_law.ensures sort slots).facts h inv.0.sound) (omega (arith, c.ranges.place)) c.node_law.ensures.sound (sym c.next-in-loop.ensures ∙ c.in-Here.is) in
-    c.in-Shut.ensures.open (λ branch. absurd (let q : true ≡ false = sym branch ∙ leaf in let z : ⊥ = cc in z)) (λ grow. inv.6 c.if-not-refused.true grow) tt
+    c.in-Shut.ensures.open (λ branch. absurd (let q : true ≡ false = sym branch ∙ leaf in let z : ⊥ = cc in z)) (λ grow. inv.6 c.if-not-refused.true grow (c.has_room.ensures.none c.if-has_room.false).1) tt
 
 -- a node with no room is full
 
@@ -78,7 +78,7 @@ loop-init g c = let e = c.enter-path.ensures in let s = seen_of c.args.pass.now 
   stretches_as c.enter-path.new.pass.caller c.args.pass.now.caller s k (sym e.caller) e.stretch,
   (λ told. absurd (let z : ⊥ = cc in z)),
   subst (λ (z : ℕ). DoesOnly (MayFill (sort_of g.N.Node.layout g.N.Node.ranged) c.args.place) z s k) (sym e.caller) (searched_fills (sort_of g.N.Node.layout g.N.Node.ranged) c.args.place c.args.pass.now.caller s k e.leaves),
-  (λ r grow. subst (λ (o : Option (Hand g.row.N.Denot)). HasRoomAbove g.N.Node.layout g.N.Node.body o) (sym e.root.0) tt),
+  (λ r grow full. subst (λ (o : Option (Hand g.row.N.Denot)). HasRoomAbove g.N.Node.layout g.N.Node.body o) (sym e.root.0) tt),
 )
 
 pub returns-then-has_room-clause-fills : goal.returns-then-has_room-clause-fills

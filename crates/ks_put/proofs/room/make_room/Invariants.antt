@@ -19,4 +19,4 @@ invariant-loop g l =
     × Stretches l.pass.caller (seen_of l.fn.pass) (seen_of l.pass)
     × (IsTrue l.refused → NoneFree g.N.Node.layout l.arena.nodes l.pass.caller l.place (seen_of l.fn.pass) (seen_of l.pass))
     × DoesOnly (MayFill (sort_of g.N.Node.layout g.N.Node.ranged) l.place) l.pass.caller (seen_of l.fn.pass) (seen_of l.pass)
-    × IsEasedBut g.N.Node.layout g.N.Node.body (GrowAll g.N.Node.grows_at g.N.Node.body g.N.Node.branches_adopt g.N.Node.halves_have_room) l.refused l.path.parent
+    × IsEasedBut g.N.Node.layout g.N.Node.body (GrowAll g.N.Node.grows_at g.N.Node.body g.N.Node.branches_adopt g.N.Node.halves_have_room) l.refused l.path

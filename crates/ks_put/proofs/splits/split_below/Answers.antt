@@ -17,7 +17,7 @@ use Rattle.ks_shape.specs.OnPath.{numbers}
 use Rattle.ks_shape.specs.Laws.Stretches.{stretches_as, stretches_both, stretches_shape}
 use Rattle.ks_put.specs.Parts.{IsPart}
 use Rattle.ks_shape.specs.Laws.Search.{Laws}
-use Rattle.ks_put.proofs.Keeping.{path_turn, path_stays, path_live}
+use Rattle.ks_put.proofs.Keeping.{path_splits, path_turn, path_stays, path_live}
 use Rattle.ks_history.specs.declared.Event.TheVariants.{Shape}
 use Rattle.ks_history.specs.Passes.{Has, GrowsWith}
 use Rattle.ks_history.specs.Laws.Descent.{HeldUnder, the_node, claimed, target}
@@ -30,8 +30,8 @@ use Rattle.ks_put.specs.Deeper.{StandsDown}
 use Rattle.ks_put.proofs.Deepening.{down_quiet, down_shaped, free_none, stands_quiet, under_held}
 use Rattle.ks_put.specs.Narrows.{end_at, end_under}
 use Rattle.ks_put.proofs.Narrowing.{end_below, half_narrower, under_above}
-use Rattle.ks_shape.specs.Does.{HoldsToSplit, MayFill, MustSplit}
-use Rattle.ks_shape.specs.Laws.Does.{does_on, fills_search, holds_to_split}
+use Rattle.ks_shape.specs.Does.{MayFill}
+use Rattle.ks_shape.specs.Laws.Does.{does_on, fills_search}
 use Rattle.ks_put.proofs.splits.split_below.Given.{Over}
 use Rattle.ks_put.proofs.splits.split_below.Goals as goal
 use Rattle.ks_put.proofs.splits.split_below.Goals.{After-search_law, After-claim_one, After-split_under}
@@ -42,10 +42,6 @@ laws g c = c.search_law.ensures (sort_of g.N.Node.layout g.N.Node.ranged) c.args
 -- c holds the node
 mine : (g : Over) (c : After-search_law g) → turn_after (seen_of c.args.pass.now) c.args.node.node ≡ held c.args.pass.now.caller
 mine g c = path_turn (sort_of g.N.Node.layout g.N.Node.ranged) g.N.Node.body c.args.arena.now.table.shared.table_id.slots c.args.pass.now.caller (laws g c) c.args.place (seen_of c.args.pass.now) (record { parent = Some c.args.parent; node = c.args.node }) c.requires.pass.sound c.requires.path
-
--- it is held and is to be split
-splits : (g : Over) (c : After-search_law g) → MustSplit g.N.Node.layout c.args.place (g.N.Node.body c.args.node.body) → HoldsToSplit (sort_of g.N.Node.layout g.N.Node.ranged) c.args.place (seen_of c.args.pass.now) c.args.pass.now.caller
-splits g c must = holds_to_split (sort_of g.N.Node.layout g.N.Node.ranged) g.N.Node.body c.args.place c.args.pass.now.caller (seen_of c.args.pass.now) c.args.node (mine g c) c.requires.path.live c.requires.path.matches must
 
 -- what is in its inset stays there as nodes are claimed
 inset : (g : Over) (c : After-claim_one g) (p : ℕ) → InInset (graph_after (seen_of c.args.pass.now)) c.args.node.node p → turn_after (seen_of c.args.pass.now) c.args.node.node ≡ held c.args.pass.now.caller → InInset (graph_after (seen_of c.claim_one.new.pass)) c.args.node.node p
@@ -128,8 +124,8 @@ returns-clause-narrows g c = let at = goal.at.returns-clause-narrows g c in let 
 -- the kinds of its events
 
 pub returns-in_default-clause-fills : goal.returns-in_default-clause-fills
-returns-in_default-clause-fills g c = λ must. c.claim_one.ensures.fills c.args.place (splits g (goal.at.returns-in_default-clause-fills g c).After-search_law must)
+returns-in_default-clause-fills g c = λ must. c.claim_one.ensures.fills c.args.place (path_splits (sort_of g.N.Node.layout g.N.Node.ranged) g.N.Node.body c.args.arena.now.table.shared.table_id.slots c.args.pass.now.caller (laws g (goal.at.returns-in_default-clause-fills g c).After-search_law) c.args.place (seen_of c.args.pass.now) (record { parent = Some c.args.parent; node = c.args.node }) c.requires.pass.sound c.requires.path must)
 
 pub returns-clause-fills : goal.returns-clause-fills
 returns-clause-fills g c = λ must. let me : ℕ = c.args.pass.now.caller in let h = seen_of c.args.pass.now in let h₁ = seen_of c.claim_one.new.pass in let h₂ = seen_of c.split_under.new.pass in let h₃ = seen_of c.keep_half.new.pass in let one = c.claim_one.ensures.caller in let two = c.split_under.ensures.caller in let may = MayFill (sort_of g.N.Node.layout g.N.Node.ranged) c.args.place in
-    fills_search (sort_of g.N.Node.layout g.N.Node.ranged) c.args.place me c.split_under.new.pass.caller h h₂ h₃ (two ∙ one) (does_on may me c.claim_one.new.pass.caller h h₁ h₂ one (c.claim_one.ensures.fills c.args.place (splits g (goal.at.returns-clause-fills g c).After-search_law must)) (c.split_under.ensures.fills c.args.place must)) c.keep_half.ensures.leaves
+    fills_search (sort_of g.N.Node.layout g.N.Node.ranged) c.args.place me c.split_under.new.pass.caller h h₂ h₃ (two ∙ one) (does_on may me c.claim_one.new.pass.caller h h₁ h₂ one (c.claim_one.ensures.fills c.args.place (path_splits (sort_of g.N.Node.layout g.N.Node.ranged) g.N.Node.body c.args.arena.now.table.shared.table_id.slots c.args.pass.now.caller (laws g (goal.at.returns-clause-fills g c).After-search_law) c.args.place (seen_of c.args.pass.now) (record { parent = Some c.args.parent; node = c.args.node }) c.requires.pass.sound c.requires.path must)) (c.split_under.ensures.fills c.args.place must)) c.keep_half.ensures.leaves

@@ -1,4 +1,4 @@
-use Rattle.std.proofs.Common.{◌≡◌, ◌∙◌, ℕ, suc, true, false, [], refl, sym, subst, inl, inr, arith}
+use Rattle.std.proofs.Common.{◌≡◌, ◌∙◌, ℕ, suc, true, false, [], refl, sym, subst, arith}
 use Rattle.std.specs.Prelude.{Option}
 use Rattle.ks_keysets.specs.Layout.{Layout}
 use Rattle.ks_history.specs.declared.Event.TheVariants.{Take}
@@ -25,6 +25,9 @@ use Rattle.ks_shape.specs.Does.{DoesOnly, MayFill}
 use Rattle.ks_shape.specs.Laws.Does.{fills_on, fills_search, searched_fills}
 use Rattle.ks_put.proofs.try_room.try_make_room.Goals as goal
 
+not_both : true ≡ false → ⊥
+not_both e = cc
+
 pub loop-child-init : goal.loop-child-init
 loop-child-init g c = let sort = sort_of g.N.Node.layout g.N.Node.ranged in let n : ℕ = c.args.arena.now.nodes in let me : ℕ = c.args.pass.now.caller in let s = seen_of c.args.pass.now in let b : ℕ = c.try_enter.new.pass.caller in let k = seen_of c.try_enter.new.pass in let e = c.try_enter.ensures in let x = c.in-Ok.root in let o = c.in-Ok.ensures in (
   e.pass,
@@ -35,26 +38,43 @@ loop-child-init g c = let sort = sort_of g.N.Node.layout g.N.Node.ranged in let 
   (λ start took. subst (λ (y : Option (Hand g.row.N.Denot)). StandsDown n b start k 1 2 0 x.node y) (sym o.root) (subst (λ (i : ℕ). IsDown n b start k 1 2 0 i) (sym o.took.0)
       (down_root n b start s k 1 (subst (λ (z : ℕ). GrowsWith z (Take z 0) s k) (sym e.caller) o.took.1) took))),
   omega arith,
-  (λ r grow. subst (λ (y : Option (Hand g.row.N.Denot)). HasRoomAbove g.N.Node.layout g.N.Node.body y) (sym o.root) tt),
+  (λ r grow full. subst (λ (y : Option (Hand g.row.N.Denot)). HasRoomAbove g.N.Node.layout g.N.Node.body y) (sym o.root) tt),
   subst (λ (z : ℕ). DoesOnly (MayFill (sort_of g.N.Node.layout g.N.Node.ranged) c.args.place) z s k) (sym e.caller) (searched_fills (sort_of g.N.Node.layout g.N.Node.ranged) c.args.place me s k e.leaves),
 )
 
-pub loop-child-preserved-in-Ok-try_go_on : goal.loop-child-preserved-in-Ok-try_go_on
-loop-child-preserved-in-Ok-try_go_on g c = let layout : Layout = g.N.Node.layout in let n : ℕ = c.args.arena.now.nodes in let place : ℕ = c.args.place in let a : ℕ = c.loop-child.pass.caller in let s = seen_of c.args.pass.now in let h = seen_of c.loop-child.pass in let inv = c.loop-child.invariant in
+pub loop-child-preserved-then-refused : goal.loop-child-preserved-then-refused
+loop-child-preserved-then-refused g c = let layout : Layout = g.N.Node.layout in let n : ℕ = c.args.arena.now.nodes in let place : ℕ = c.args.place in let a : ℕ = c.loop-child.pass.caller in let s = seen_of c.args.pass.now in let h = seen_of c.loop-child.pass in let inv = c.loop-child.invariant in
     let e = c.in-Ok-try_go_on.ensures in let b : ℕ = c.try_go_on.new.pass.caller in let k = seen_of c.try_go_on.new.pass in let y = c.in-Ok-try_go_on.field-0.path in let deeper : ℕ = c.in-Ok-try_go_on.field-0.depth in (
       e.pass,
       e.caller ∙ inv.1,
       subst (λ (z : ℕ). IsOnPath (sort_of layout g.N.Node.ranged) g.N.Node.body z place k y) (sym e.caller) e.path,
       stretches_on a b s h k e.caller inv.3 e.stretch,
-      (λ told. elim (e.refused told) [ inl old ↦ on_was layout n place a b s h k e.caller e.stretch (inv.4 old) | inr new ↦ new_was layout n place a b s h k e.caller inv.3 new ]),
+      (λ told. on_was layout n place a b s h k e.caller e.stretch (inv.4 c.if-refused.true)),
       (λ start took. subst (λ (z : ℕ). IsDownPath n z start k (suc deeper) 2 deeper y) (sym e.caller) (e.down start (inv.5 start (subst (λ (z : ℕ). TookSince z start s 0 1) e.caller took)))),
       e.near,
-      e.eased inv.7,
+      (λ r grow. absurd (not_both (sym c.if-refused.true ∙ r))),
       fills_on (sort_of g.N.Node.layout g.N.Node.ranged) place a b s h k e.caller inv.8 e.fills,
     )
 
-pub loop-child-smaller-in-Ok-try_go_on : goal.loop-child-smaller-in-Ok-try_go_on
-loop-child-smaller-in-Ok-try_go_on g c = less_on g.N.Node.layout g.N.Node.body c.args.place c.args.arena.now.nodes c.loop-child.depth c.loop-child.path c.in-Ok-try_go_on.field-0.depth c.in-Ok-try_go_on.field-0.path c.loop-child.invariant.6 c.in-Ok-try_go_on.ensures.nearer
+pub loop-child-preserved-else-refused : goal.loop-child-preserved-else-refused
+loop-child-preserved-else-refused g c = let layout : Layout = g.N.Node.layout in let n : ℕ = c.args.arena.now.nodes in let place : ℕ = c.args.place in let a : ℕ = c.loop-child.pass.caller in let s = seen_of c.args.pass.now in let h = seen_of c.loop-child.pass in let inv = c.loop-child.invariant in
+    let e = c.in-Ok-try_go_on.ensures in let b : ℕ = c.try_go_on.new.pass.caller in let k = seen_of c.try_go_on.new.pass in let y = c.in-Ok-try_go_on.field-0.path in let deeper : ℕ = c.in-Ok-try_go_on.field-0.depth in (
+      e.pass,
+      e.caller ∙ inv.1,
+      subst (λ (z : ℕ). IsOnPath (sort_of layout g.N.Node.ranged) g.N.Node.body z place k y) (sym e.caller) e.path,
+      stretches_on a b s h k e.caller inv.3 e.stretch,
+      (λ told. new_was layout n place a b s h k e.caller inv.3 (e.refused told)),
+      (λ start took. subst (λ (z : ℕ). IsDownPath n z start k (suc deeper) 2 deeper y) (sym e.caller) (e.down start (inv.5 start (subst (λ (z : ℕ). TookSince z start s 0 1) e.caller took)))),
+      e.near,
+      e.eased (λ all. inv.7 c.if-refused.false all),
+      fills_on (sort_of g.N.Node.layout g.N.Node.ranged) place a b s h k e.caller inv.8 e.fills,
+    )
+
+pub loop-child-smaller-then-refused : goal.loop-child-smaller-then-refused
+loop-child-smaller-then-refused g c = less_on g.N.Node.layout g.N.Node.body c.args.place c.args.arena.now.nodes c.loop-child.depth c.loop-child.path c.in-Ok-try_go_on.field-0.depth c.in-Ok-try_go_on.field-0.path c.loop-child.invariant.6 c.in-Ok-try_go_on.ensures.nearer
+
+pub loop-child-smaller-else-refused : goal.loop-child-smaller-else-refused
+loop-child-smaller-else-refused g c = less_on g.N.Node.layout g.N.Node.body c.args.place c.args.arena.now.nodes c.loop-child.depth c.loop-child.path c.in-Ok-try_go_on.field-0.depth c.in-Ok-try_go_on.field-0.path c.loop-child.invariant.6 c.in-Ok-try_go_on.ensures.nearer
 
 pub loop-child-preserved : goal.loop-child-preserved
 loop-child-preserved g c = let layout : Layout = g.N.Node.layout in let n : ℕ = c.args.arena.now.nodes in let place : ℕ = c.args.place in let a : ℕ = c.loop-child.pass.caller in let s = seen_of c.args.pass.now in let h = seen_of c.loop-child.pass in let inv = c.loop-child.invariant in
@@ -66,7 +86,7 @@ loop-child-preserved g c = let layout : Layout = g.N.Node.layout in let n : ℕ 
       (λ told. on_was layout n place a b s h k e.caller e.stretch (inv.4 told)),
       (λ start took. subst (λ (z : ℕ). IsDownPath n z start k (suc depth) 2 depth y) (sym e.caller) (c.in-Split.ensures.down start (suc depth) 2 depth (inv.5 start (subst (λ (z : ℕ). TookSince z start s 0 1) e.caller took)))),
       inv.6,
-      (λ r grow. subst (λ (o : Option (Hand g.row.N.Denot)). HasRoomAbove layout g.N.Node.body o) (sym (c.in-Split.ensures.halves grow.2).1) tt),
+      (λ r grow full. absurd (not_both (sym full ∙ c.in-Split.ensures.halves grow.2))),
       fills_on (sort_of g.N.Node.layout g.N.Node.ranged) place a b s h k e.caller inv.8 (e.fills (let none = c.has_room.ensures.none c.if-has_room.false in (none.1, λ leaf. none.0))),
     )
 
@@ -128,7 +148,7 @@ split-requires-clause-full g c = (c.has_room.ensures.none c.if-has_room.false).1
 pub unreachable-requires : goal.unreachable-requires
 unreachable-requires g c = let sort = sort_of g.N.Node.layout g.N.Node.ranged in let slots : ℕ = c.args.arena.now.table.shared.table_id.slots in let h = seen_of c.loop-child.pass in let inv = c.loop-child.invariant in
     let leaf = path_leaf sort g.N.Node.body c.loop-child.pass.caller c.args.place h c.loop-child.path inv.2 ((c.search_law.ensures sort slots).facts h inv.0.sound) (omega (arith, c.ranges.place)) c.node_law.ensures.sound (sym c.next.ensures ∙ c.in-Here.is) in
-    c.in-Shut.ensures.open (λ branch. absurd (let q : true ≡ false = sym branch ∙ leaf in let z : ⊥ = cc in z)) (λ grow. inv.7 c.if-not-refused.true grow) tt
+    c.in-Shut.ensures.open (λ branch. absurd (let q : true ≡ false = sym branch ∙ leaf in let z : ⊥ = cc in z)) (λ grow. inv.7 c.if-not-refused.true grow (c.has_room.ensures.none c.if-has_room.false).1) tt
 
 -- the kinds of its events
 

@@ -11,10 +11,10 @@ use Rattle.ks_shape.specs.Laws.Does.{does_none}
 use Rattle.ks_tidy.proofs.step.tidy_root.Goals as goal
 
 pub returns-then-thorough-clause-step : goal.returns-then-thorough-clause-step
-returns-then-thorough-clause-step g c = did_as (sort_of g.N.Node.layout g.N.Node.ranged) g.N.Node.body c.args.pass.now.caller (seen_of c.args.pass.now) (seen_of c.merge_root.new.pass) c.args.thorough (record { parent = None; node = c.args.root }) c.merge_root.result c.merge_root.ensures.step
+returns-then-thorough-clause-step g c = did_as (sort_of g.N.Node.layout g.N.Node.ranged) g.N.Node.body c.args.pass.now.caller (seen_of c.args.pass.now) (seen_of c.merge.new.pass) c.args.thorough (record { parent = None; node = c.args.root }) c.merge.result c.merge.ensures.step
 
 pub returns-then-is_low-clause-step : goal.returns-then-is_low-clause-step
-returns-then-is_low-clause-step g c = did_as (sort_of g.N.Node.layout g.N.Node.ranged) g.N.Node.body c.args.pass.now.caller (seen_of c.args.pass.now) (seen_of c.merge_root-then-is_low.new.pass) c.args.thorough (record { parent = None; node = c.args.root }) c.merge_root-then-is_low.result c.merge_root-then-is_low.ensures.step
+returns-then-is_low-clause-step g c = did_as (sort_of g.N.Node.layout g.N.Node.ranged) g.N.Node.body c.args.pass.now.caller (seen_of c.args.pass.now) (seen_of c.merge-then-is_low.new.pass) c.args.thorough (record { parent = None; node = c.args.root }) c.merge-then-is_low.result c.merge-then-is_low.ensures.step
 
 pub returns-clause-places : goal.returns-clause-places
 returns-clause-places g c = places_here (graph_after (seen_of c.args.pass.now)) c.args.root.node
@@ -37,7 +37,7 @@ pub returns-then-thorough-clause-dels : goal.returns-then-thorough-clause-dels
 returns-then-thorough-clause-dels g c = λ off. absurd (let q : true ≡ false = sym c.if-thorough.true ∙ off in let z : ⊥ = cc in z)
 
 pub returns-then-is_low-clause-dels : goal.returns-then-is_low-clause-dels
-returns-then-is_low-clause-dels g c = λ off. c.merge_root-then-is_low.ensures.dels (sym c.is_low.ensures ∙ c.if-is_low.true)
+returns-then-is_low-clause-dels g c = λ off. c.merge-then-is_low.ensures.dels (sym c.is_low.ensures ∙ c.if-is_low.true)
 
 pub returns-clause-dels : goal.returns-clause-dels
 returns-clause-dels g c = λ off. does_none (MayDel (sort_of g.N.Node.layout g.N.Node.ranged)) c.args.pass.now.caller (seen_of c.args.pass.now)

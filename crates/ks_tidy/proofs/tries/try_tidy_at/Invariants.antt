@@ -6,7 +6,7 @@ use Rattle.ks_shape.specs.Stretches.{Stretches}
 use Rattle.ks_shape.specs.Frees.{Counts}
 use Rattle.ks_tidy.specs.Pair.{IsPair}
 use Rattle.ks_shape.specs.Does.{DoesOnly, MayDel}
-use Rattle.ks_tidy.proofs.tries.try_tidy_node.Given as goal
+use Rattle.ks_tidy.proofs.tries.try_tidy_at.Given as goal
 
 abbrev pub invariant-loop-tries : goal.invariant-loop-tries
 invariant-loop-tries g l =
