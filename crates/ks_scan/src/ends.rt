@@ -56,8 +56,9 @@ fn or_before(found: Option<Found>, before: Option<Found>) -> Option<Found>
     }
 }
 
-/// Returns the pair of the least place from `low` to `last`, both included, that a row of parts finds: it scans from `low`
-/// until a part has a pair, and returns its first one, or `None` if no part up to `last` has one.
+/// Returns the first pair that a row of parts finds from `low` to `last`, both included: it scans from `low` until a
+/// part has a pair, and returns its first one, or `None` if no part up to `last` has one. Each part is of a moment of
+/// its own, so the place need not be the least one with a value at any one moment.
 pub fn first_in<N: Node, A: Shelf, T: Scanning<N, A>, R: Wait, G: Gate>(
     rt: &R,
     arena: &A,
@@ -86,8 +87,9 @@ pub fn first_in<N: Node, A: Shelf, T: Scanning<N, A>, R: Wait, G: Gate>(
     }
 }
 
-/// Returns the pair of the greatest place from `low` to `last`, both included, that a row of parts finds: it scans the
-/// whole span, and returns the last pair of the last part that has one.
+/// Returns the last pair that a row of parts finds from `low` to `last`, both included: it scans the whole span, and
+/// returns the last pair of the last part that has one, or `None` if none has. Each part is of a moment of its own, so
+/// the place need not be the greatest one with a value at any one moment.
 pub fn last_in<N: Node, A: Shelf, T: Scanning<N, A>, R: Wait, G: Gate>(
     rt: &R,
     arena: &A,

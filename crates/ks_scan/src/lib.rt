@@ -1,5 +1,5 @@
-//! Whole scans: the pairs of a span of places, as a row of parts. Each part is a call of its own, decided at one node, and
-//! begins where the one before it stopped. So a scan is no picture of one moment.
+//! Whole scans: the pairs of a span of places, as a row of parts. Each part is a call of its own, decided at one node,
+//! and begins at the place after the one where the part before it stopped. So a scan is no picture of one moment.
 #![tactic(auto)]
 
 mod ends;

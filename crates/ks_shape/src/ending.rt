@@ -17,8 +17,8 @@ use ks_history::Op;
 use ks_node::Node;
 use std::marker::Brand;
 
-/// Decides a call at the one held node, and releases the node. Returns the number of the call, modulo 2^64. A Full is due
-/// if no node was free since the call began.
+/// Decides a call at the one held node, and releases the node. Returns the number of the call, modulo 2^64. A Full is
+/// due if each node was at some moment not free since the call began.
 #[inline(always)]
 fn decide_here<W: Decision, N: Node, D: Discipline, G: Gate>(
     arena: &Arena<N, D>,
@@ -120,8 +120,8 @@ fn found_told<W: Decision, N: Node, D: Discipline, G: Gate>(
     conclude_as::<W, N, D, G>(arena, pass, gate, held)
 }
 
-/// Decides as full, at the one held node, a call that finds no room there, and releases the node. Returns the number of the
-/// call. The call is done if no node was free since it began.
+/// Decides as full, at the one held node, a call that finds no room there, and releases the node. Returns the number of
+/// the call, modulo 2^64. The call is done if each node was at some moment not free since it began.
 pub fn refuse<N: Node, D: Discipline, G: Gate>(
     arena: &Arena<N, D>,
     pass: &mut Pass<N, D>,
