@@ -1,8 +1,7 @@
 //! The first and the last pair of a span of places, by rows of parts.
 ghost use Rattle.std.specs.Prelude.{◌≡◌, ◌≤◌};
-ghost use Rattle.ks_arena.specs.Of.{SameCaller};
-ghost use Rattle.ks_shape.specs.Does.{OnlySearches};
 ghost use Rattle.ks_shape.specs.Idle.{IsIdle};
+ghost use Rattle.ks_scan.specs.Scan.{HasSearched};
 ghost use Rattle.ks_scan.specs.Ends.{HasFoundFirst, HasFoundLast, first_of, found_or, last_of};
 
 use ks_arena::Pass;
@@ -69,9 +68,7 @@ pub fn first_in<N: Node, A: Shelf, T: Scanning<N, A>, R: Wait, G: Gate>(
 ) -> Option<Found>
     requires pass { IsIdle (A.site arena.now) pass.old }
     requires span { low ≤ last }
-    ensures pass { IsIdle (A.site arena.now) pass.new }
-    ensures caller { SameCaller pass.old pass.new }
-    ensures leaves { OnlySearches pass.old pass.new }
+    ensures searched { HasSearched (A.site arena.now) pass.old pass.new }
     ensures done { HasFoundFirst N.layout T.technique (A.site arena.now) low last pass.old pass.new result }
 {
     let mut from = low;
@@ -100,9 +97,7 @@ pub fn last_in<N: Node, A: Shelf, T: Scanning<N, A>, R: Wait, G: Gate>(
 ) -> Option<Found>
     requires pass { IsIdle (A.site arena.now) pass.old }
     requires span { low ≤ last }
-    ensures pass { IsIdle (A.site arena.now) pass.new }
-    ensures caller { SameCaller pass.old pass.new }
-    ensures leaves { OnlySearches pass.old pass.new }
+    ensures searched { HasSearched (A.site arena.now) pass.old pass.new }
     ensures done { HasFoundLast N.layout T.technique (A.site arena.now) low last pass.old pass.new result }
 {
     let mut from = low;
