@@ -124,9 +124,9 @@ impl<N: Node, D: Discipline> Arena<N, D> {
         node_law(&held.body);
     }
 
-    /// If a Get may be decided, a Put or an Add may be refused if the body is full and has no pair at the place, and no node
-    /// was free for it since some moment after which the caller has made no call. The node stays full for the place while
-    /// others act.
+    /// If a Get may be decided, a Put or an Add may be refused if the body is that of no branch, is full and has no
+    /// pair at the place, and each node was at some moment not free since a moment after which the caller has made no
+    /// call. The node stays full for the place while others act.
     pub fn full_law(&self, pass: &Pass<N, D>, held: &Held<N>, place: u64, value: u128)
         requires pass { IsPassOf self.now pass.now }
         requires holds { Holds pass.now held.now.node }

@@ -8,7 +8,7 @@ pub(crate) const CALLS: usize = 0;
 /// The word that counts the shapes.
 pub(crate) const SHAPES: usize = 1;
 
-/// The node at which each call begins.
+/// The root, at which a call without a hint begins.
 pub(crate) const ROOT: u32 = 0;
 
 /// The word of the turn of a node.

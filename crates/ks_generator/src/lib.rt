@@ -1,4 +1,4 @@
-//! Scripts that are made, from a first number: callers share no key, so that their replies do not depend on each other.
+//! Scripts that are made, from a first state: callers share no key, so that their replies do not depend on each other.
 //!
 //! Numbers are drawn one after another by a linear congruence. Each call draws its kind, then its key, and a put draws
 //! its value.
@@ -60,7 +60,8 @@ fn calls(
     Ok(lines)
 }
 
-/// The script of `callers` callers with `calls` calls each, made from the first number.
+/// The script of `callers` callers with `calls` calls each, made one after another; `first` is the state before the
+/// first draw. It fails only if memory runs out.
 pub fn made_script(
     alloc: Global,
     callers: u32,

@@ -14,7 +14,8 @@ use ks_history::Reply;
 use ks_script::{Calls, Printed, Replies, Script};
 use std::alloc::{AllocError, Global};
 
-/// A kind of reply: a value, nothing, or that no node was free. Clauses count replies by it.
+/// A kind of reply: a value, nothing, or that no free node was found. Clauses count replies by it; those of parts, and
+/// that a move kept both values, are of no kind.
 #[derive(Clone, Copy, Debug, PartialEq, Eq)]
 pub enum Kind {
     Found,
@@ -168,6 +169,7 @@ pub struct Size {
 }
 
 impl Size {
+    /// The size of the script.
     pub fn of(script: &Script) -> Size
         ensures { IsSize result script.now }
     {

@@ -9,7 +9,7 @@ use std::alloc::{AllocError, Global};
 pub struct Branches {
     spots: Vec<Spot>,
     most: usize,
-    /// Whether the spot before a new one goes, in a full table, or the one behind it.
+    /// Which neighbour of a new spot went last in a full table: the one before it, or the one behind. They take turns.
     before: bool,
     ghost ascend: { Ascend spots.items },
     ghost room: { most ≤ vec_capacity spots },

@@ -16,8 +16,8 @@ pub struct Guide {
 }
 
 impl Guide {
-    /// A guide that has no place, with `sets` sets of two leaves, 48 bytes each, and room for `branches` branches, 24 bytes
-    /// each.
+    /// A guide that has no place, with `sets` sets of two leaves, at least one, 48 bytes each, and room for `branches`
+    /// branches, 24 bytes each.
     ///
     /// A caller that uses some thousand leaves takes as many sets; branches lead to the others, at one node more a call, and
     /// there are some ten times fewer of them.
@@ -36,7 +36,7 @@ impl Guide {
         })
     }
 
-    /// The node at which a call of this place may begin: a leaf that was noted, or else a branch.
+    /// The node at which a call of this place may begin: a leaf that was noted, or else a branch, or else `None`.
     #[inline(always)]
     pub fn guess(&self, place: u64) -> Option<u32>
         ensures { result ≡ guessed self.now place }

@@ -59,8 +59,8 @@ impl Two {
         self.first == spot && !self.second.holds(place)
     }
 
-    /// The two spots after a note at the place: the new spot, and the first one before, unless that was of the same node or
-    /// leads the place elsewhere.
+    /// The two spots after a note at the place: the new spot, and the first one before, or the second if the first was
+    /// of the same node, unless that leads the place elsewhere.
     pub fn noted(&self, place: u64, spot: Spot) -> Two
         requires { Holds place spot }
         ensures { guess_in place result ≡ Some spot.node }

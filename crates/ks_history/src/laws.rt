@@ -60,8 +60,9 @@ pub fn alone_law()
     ensures far { (n c : ℕ) (s0 s1 : List Event) → ActsAlone c s0 s1 → ¬ FarDue n c s0 s1 }
 {}
 
-/// If each Shape leaves the insets of the nodes that it does not name, a place stays in the inset of a node that none names;
-/// so if it was there and no longer is, and no Shape of the caller named the node, Moved is due. The same holds of keysets.
+/// If each Shape leaves the insets of the nodes that it does not name, a place stays in the inset of a node that none
+/// names; and so with keysets. So if a node was on the search path of a place in its inset, later its inset lacks the
+/// place, and no Shape of the caller named it meanwhile, Moved is due.
 pub fn moved_law()
     ensures inset { (i p : ℕ) (rest h : List Event) → NoneShapes i rest → Lawful (rest ++ h) →
         AreBeside InInset (rest ++ h) → InInset (graph_after h) i p → InInset (graph_after (rest ++ h)) i p }
@@ -73,8 +74,8 @@ pub fn moved_law()
         MovedDue c op s0 s1 i }
 {}
 
-/// Far is due if a caller took as many nodes as there are, the root twice at most, each a step deeper than the one before
-/// unless another made a Shape, and would go down to one more.
+/// Far is due if a caller took at least as many nodes as there are, the root twice at most, each a step deeper than the
+/// one before unless another made a Shape, and would go down to one more.
 pub fn far_law()
     ensures { (n c : ℕ) (gone : List ℕ) (s0 h : List Event) (taken roots steps i j : ℕ) (r : Record) →
         TookSince c s0 h taken roots → roots ≤ 2 → n ≤ taken → IsDeep n c gone s0 h steps i → taken ≤ suc steps →
@@ -83,7 +84,8 @@ pub fn far_law()
         Any (λ e. e.node ≡ j) r.edges → IsLive (graph_after h) j → FarDue n c s0 h }
 {}
 
-/// The events Take and Give leave all live nodes with their records and frames, and while one caller acts it sees only those.
+/// The events Take and Give leave all live nodes with their records and frames; and while only one caller acts, and
+/// only takes and releases nodes, there are no other events.
 pub fn turns_law()
     ensures none { (h : List Event) → OnlyTurns h h }
     ensures looks { (c : ℕ) (h k m : List Event) → h ⊑ k → OnlyTurns h k → GrowsByOthers c k m → ActsAlone c h m →

@@ -20,7 +20,8 @@ pub use replay::{Verdict, legal, map_after};
 pub use replies::{reply_of, reply_of_move};
 pub use span::lists_span;
 
-/// What a caller asks of the map. In a trace the first number is a place, in scripts and printed runs it is a key.
+/// What a caller asks of the map. In a trace the first number is a place, and so is the second of a Part and a Move; in
+/// scripts and printed runs they are keys.
 #[derive(Clone, Copy, Debug, PartialEq, Eq)]
 pub enum Op {
     Get(u64),
@@ -37,8 +38,8 @@ pub enum Op {
     Move(u64, u64),
 }
 
-/// The reply to a call: the value that was there before, if any, or that no node was free. A part has the pairs that it
-/// lists, and a move that finds a value at both places replies that it kept both. It is 32 bytes.
+/// The reply to a call: the value that was there before, if any, or that it found no room and no free node. A part has
+/// the pairs that it lists, and a move that finds a value at both places replies that it kept both. It is 32 bytes.
 #[derive(Debug, PartialEq, Eq, Drop)]
 pub enum Reply {
     Nothing,
@@ -63,6 +64,7 @@ pub enum Event {
     Claim(u32, u32),
     Shape(u32, [Change; 0]),
     Call(u32, u32, Op, Reply),
-    /// A call at two nodes: what it takes out is at the first one, what it puts in at the second one.
+    /// A call at two nodes, which may be the same: what it takes out is at the first one, what it puts in at the second
+    /// one.
     Twin(u32, u32, u32, Op, Reply),
 }

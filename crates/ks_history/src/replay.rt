@@ -70,7 +70,7 @@ fn make(map: &mut BTreeMap<u64, u128>, call: &Answered) -> Result<(), AllocError
     Ok(())
 }
 
-/// Whether the reply is the map's.
+/// Whether the reply is the map's, or a Full where the operation may have it.
 fn is_answer(map: &BTreeMap<u64, u128>, call: &Answered) -> bool
     ensures { IsTrue result ↔ IsAnswer (get nat_cmp map.now) call.now.op call.now.reply }
 {

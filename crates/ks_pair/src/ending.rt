@@ -91,8 +91,8 @@ fn decide_within<W: Decision, N: Node, D: Discipline, G: Gate>(
     number
 }
 
-/// Decides a move at the two held nodes at once, and releases them. Returns the number of the call, modulo 2^64. A Full is
-/// due if no node was free for the second place since the call began.
+/// Decides a move at the two held nodes at once, and releases them. Returns the number of the call, modulo 2^64. A Full
+/// is due if each node was at some moment not free since the call began.
 pub(crate) fn conclude_between<N: Node, D: Discipline, G: Gate>(
     arena: &Arena<N, D>,
     pass: &mut Pass<N, D>,

@@ -1,7 +1,8 @@
 //! A move of a value between two places, at the one node or the two nodes that its caller holds.
 //!
-//! No function here can wait: a caller that holds a node never waits for another one. So movers cannot deadlock, with one
-//! another or with callers that go down a tree.
+//! No function here can wait: a caller that holds the node of one place only tries to take that of the other. So two
+//! moves cannot wait for the nodes of one another. Room is not made here, but by lock coupling, which waits with a node
+//! held.
 #![tactic(auto)]
 
 mod between;

@@ -17,7 +17,7 @@ use ks_shape::{MoveLeft, Numbered};
 pub enum Step {
     /// It was decided.
     Done(Result<Numbered, MoveLeft>),
-    /// Its second place needs room, and none was refused yet: it was not decided.
+    /// Its second place needs room, which was not refused yet: it was not decided, and its nodes were released.
     NoRoom,
 }
 

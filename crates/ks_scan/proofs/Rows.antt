@@ -1,11 +1,17 @@
--- A row of parts with one more.
-use Rattle.std.proofs.Common.{ℕ, suc, ◌≡◌, ◌≤◌, ◌<◌, List, [], ◌∷◌, ◌++◌, length, Some, refl, sym, subst, arith}
+-- A row of parts with one more, and what was only a search and still is.
+use Rattle.std.proofs.Common.{ℕ, suc, ◌≡◌, ◌≤◌, ◌<◌, List, [], ◌∷◌, ◌++◌, length, Some, refl, sym, ◌∙◌, subst, arith}
 use Rattle.ks_keysets.specs.Layout.{Layout}
 use Rattle.ks_history.specs.declared.Event.{Event}
 use Rattle.ks_history.specs.Done.{Template}
+use Rattle.ks_arena.specs.declared.held.Pass.{Pass}
+use Rattle.ks_arena.specs.Clauses.{seen_of}
+use Rattle.ks_arena.specs.Of.{SameCaller}
+use Rattle.ks_shape.specs.Does.{DoesOnly, MaySearch, OnlySearches}
+use Rattle.ks_shape.specs.Idle.{IsIdle, Site}
+use Rattle.ks_shape.specs.Laws.Does.{does_both, does_none}
 use Rattle.ks_shape.specs.Parts.{DonePart}
 use Rattle.ks_lines.specs.declared.parts.Part.{Part}
-use Rattle.ks_scan.specs.Scan.{DoneParts}
+use Rattle.ks_scan.specs.Scan.{DoneParts, HasSearched}
 use Rattle.ks_lines.specs.Scan.{PartsAscend, end_of}
 
 -- where the next part begins
@@ -36,3 +42,14 @@ pub end_before : (low : ℕ) (parts : List Part) → 0 < length parts → (p : �
 end_before low [] some = absurd (omega (arith, some))
 end_before low (x ∷ []) some = (x.last, refl, refl)
 end_before low (x ∷ y ∷ parts) some = end_before (suc x.last) (y ∷ parts) (omega arith)
+
+module _ {N D : Type 0} (a : Site) where
+  pub searched_none : (p : Pass N D) → IsIdle a p → HasSearched a p p
+  searched_none p idle = record { pass = idle; caller = refl; leaves = does_none MaySearch p.caller (seen_of p) }
+
+  pub searched_more : (p q r : Pass N D) → HasSearched a p q → IsIdle a r → SameCaller q r → OnlySearches q r → HasSearched a p r
+  searched_more p q r so idle same leaves = record {
+    pass = idle;
+    caller = same ∙ so.caller;
+    leaves = does_both MaySearch p.caller (seen_of p) (seen_of q) (seen_of r) so.leaves (subst (λ (z : ℕ). DoesOnly MaySearch z (seen_of q) (seen_of r)) so.caller leaves);
+  }

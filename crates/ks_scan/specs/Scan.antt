@@ -6,9 +6,17 @@ use Rattle.ks_history.specs.Done.{Template}
 use Rattle.ks_node.specs.Keyed.{Ascends}
 use Rattle.ks_arena.specs.declared.held.Pass.{Pass}
 use Rattle.ks_arena.specs.Clauses.{seen_of}
-use Rattle.ks_shape.specs.Idle.{Site}
+use Rattle.ks_arena.specs.Of.{SameCaller}
+use Rattle.ks_shape.specs.Does.{OnlySearches}
+use Rattle.ks_shape.specs.Idle.{IsIdle, Site}
 use Rattle.ks_shape.specs.Parts.{DonePart}
 use Rattle.ks_lines.specs.declared.parts.Part.{Part}
+
+-- from p to q the caller only took and released nodes and decided, and at q its pass holds no node
+pub record HasSearched {N D : Type 0} (a : Site) (p q : Pass N D) : Type 0 where
+  pub pass : IsIdle a q
+  pub caller : SameCaller p q
+  pub leaves : OnlySearches p q
 
 -- the parts were made one after another by c between s0 and s1, each from the place after the one before it, and nothing else
 abbrev pub DoneParts : Layout → Template → ℕ → ℕ → ℕ → ℕ → List Event → List Part → List Event → Type 0

@@ -1,8 +1,7 @@
 //! The first and the last pair of a span of places, by rows of parts.
 ghost use Rattle.std.specs.Prelude.{◌≡◌, ◌≤◌};
-ghost use Rattle.ks_arena.specs.Of.{SameCaller};
-ghost use Rattle.ks_shape.specs.Does.{OnlySearches};
 ghost use Rattle.ks_shape.specs.Idle.{IsIdle};
+ghost use Rattle.ks_scan.specs.Scan.{HasSearched};
 ghost use Rattle.ks_scan.specs.Ends.{HasFoundFirst, HasFoundLast, first_of, found_or, last_of};
 
 use ks_arena::Pass;
@@ -56,8 +55,9 @@ fn or_before(found: Option<Found>, before: Option<Found>) -> Option<Found>
     }
 }
 
-/// Returns the pair of the least place from `low` to `last`, both included, that a row of parts finds: it scans from `low`
-/// until a part has a pair, and returns its first one, or `None` if no part up to `last` has one.
+/// Returns the first pair that a row of parts finds from `low` to `last`, both included: it scans from `low` until a
+/// part has a pair, and returns its first one, or `None` if no part up to `last` has one. Each part is of a moment of
+/// its own, so the place need not be the least one with a value at any one moment.
 pub fn first_in<N: Node, A: Shelf, T: Scanning<N, A>, R: Wait, G: Gate>(
     rt: &R,
     arena: &A,
@@ -68,9 +68,7 @@ pub fn first_in<N: Node, A: Shelf, T: Scanning<N, A>, R: Wait, G: Gate>(
 ) -> Option<Found>
     requires pass { IsIdle (A.site arena.now) pass.old }
     requires span { low ≤ last }
-    ensures pass { IsIdle (A.site arena.now) pass.new }
-    ensures caller { SameCaller pass.old pass.new }
-    ensures leaves { OnlySearches pass.old pass.new }
+    ensures searched { HasSearched (A.site arena.now) pass.old pass.new }
     ensures done { HasFoundFirst N.layout T.technique (A.site arena.now) low last pass.old pass.new result }
 {
     let mut from = low;
@@ -86,8 +84,9 @@ pub fn first_in<N: Node, A: Shelf, T: Scanning<N, A>, R: Wait, G: Gate>(
     }
 }
 
-/// Returns the pair of the greatest place from `low` to `last`, both included, that a row of parts finds: it scans the
-/// whole span, and returns the last pair of the last part that has one.
+/// Returns the last pair that a row of parts finds from `low` to `last`, both included: it scans the whole span, and
+/// returns the last pair of the last part that has one, or `None` if none has. Each part is of a moment of its own, so
+/// the place need not be the greatest one with a value at any one moment.
 pub fn last_in<N: Node, A: Shelf, T: Scanning<N, A>, R: Wait, G: Gate>(
     rt: &R,
     arena: &A,
@@ -98,9 +97,7 @@ pub fn last_in<N: Node, A: Shelf, T: Scanning<N, A>, R: Wait, G: Gate>(
 ) -> Option<Found>
     requires pass { IsIdle (A.site arena.now) pass.old }
     requires span { low ≤ last }
-    ensures pass { IsIdle (A.site arena.now) pass.new }
-    ensures caller { SameCaller pass.old pass.new }
-    ensures leaves { OnlySearches pass.old pass.new }
+    ensures searched { HasSearched (A.site arena.now) pass.old pass.new }
     ensures done { HasFoundLast N.layout T.technique (A.site arena.now) low last pass.old pass.new result }
 {
     let mut from = low;

@@ -1,5 +1,5 @@
-//! Whole scans: the pairs of a span of places, as a row of parts. Each part is a call of its own, decided at one node, and
-//! begins where the one before it stopped. So a scan is no picture of one moment.
+//! Whole scans: the pairs of a span of places, as a row of parts. Each part is a call of its own, decided at one node,
+//! and begins at the place after the one where the part before it stopped. So a scan is no picture of one moment.
 #![tactic(auto)]
 
 mod ends;
@@ -7,10 +7,8 @@ mod ends;
 ghost use Rattle.std.specs.Prelude.{◌≡◌, ◌≤◌, ◌<◌, ◌^◌, [], length, vec_capacity};
 ghost use Rattle.ks_history.specs.Trace.{calls_of};
 ghost use Rattle.ks_arena.specs.Clauses.{seen_of};
-ghost use Rattle.ks_arena.specs.Of.{SameCaller};
-ghost use Rattle.ks_shape.specs.Does.{OnlySearches};
 ghost use Rattle.ks_shape.specs.Idle.{IsIdle};
-ghost use Rattle.ks_scan.specs.Scan.{IsDoneScan, NumbersAscend};
+ghost use Rattle.ks_scan.specs.Scan.{HasSearched, IsDoneScan, NumbersAscend};
 ghost use Rattle.ks_lines.specs.Scan.{IsScanOf};
 
 pub use ends::{Found, first_in, last_in};
@@ -39,9 +37,7 @@ pub fn scan_into<N: Node, A: Shelf, T: Scanning<N, A>, R: Wait, G: Gate>(
     requires some { 1 ≤ most }
     requires blank { into.old.items ≡ [] }
     requires room { most ≤ vec_capacity into.old }
-    ensures pass { IsIdle (A.site arena.now) pass.new }
-    ensures caller { SameCaller pass.old pass.new }
-    ensures leaves { OnlySearches pass.old pass.new }
+    ensures searched { HasSearched (A.site arena.now) pass.old pass.new }
     ensures done { IsDoneScan N.layout T.technique (A.site arena.now) low last pass.old pass.new into.new.items }
     ensures scan { IsScanOf low last most into.new.items result }
     ensures ascend { length (calls_of (seen_of pass.new)) < 2 ^ 64 → NumbersAscend into.new.items }

@@ -27,7 +27,7 @@ use Rattle.ks_arena.specs.declared.held.Pass.{Pass}
 use Rattle.ks_arena.specs.declared.held.Held.{Held as Hand}
 use Rattle.ks_arena.specs.Sound.{sort_of, blank_of}
 use Rattle.ks_arena.specs.Clauses.{hand_of, seen_of}
-use Rattle.ks_arena.specs.Of.{IsInside}
+use Rattle.ks_arena.specs.Of.{IsEmptyPassOf, IsInside, SameCaller, SeesOn}
 use Rattle.ks_shape.specs.Beside.{KeepsBeside}
 use Rattle.ks_shape.specs.Claims.{DidClaimOne, DidClaimTwo}
 use Rattle.ks_shape.specs.Hinted.{DoneWhere}
@@ -129,6 +129,14 @@ module _ {N D P : Type 0} {n : NodeGhosts N P} {q : PlacingGhosts P} {d : Discip
   -- the same for a put or an add, which may also be done with the reply Full
   abbrev pub TriedPutOf : Arena N D P n q d → Template → Op → Pass N D → Pass N D → Result Numbered PutLater → Type 0
   TriedPutOf a template op p p' answer = TriedPut n.layout template a.nodes p.caller op (seen_of p) (seen_of p') answer
+
+  -- a call that was under way at p is over at p': the pass of its caller has seen what it had at p, and holds no node; and if no
+  -- other caller acted between, no node was made live
+  pub record IsOver (a : Arena N D P n q d) (p p' : Pass N D) : Type 0 where
+    pub pass : IsEmptyPassOf a p'
+    pub caller : SameCaller p p'
+    pub begins : SeesOn p p'
+    pub makes : MakesNoneLive p p'
 
   -- a call that is under way at p, of any technique and begun at any moment, is done at p'
   abbrev pub FinishesAny : Arena N D P n q d → Op → Pass N D → Pass N D → Reply → ℕ → Type 0

@@ -19,7 +19,7 @@ pub struct NumberedAt {
     pub low: u64,
     /// The last place of that range, which is part of it.
     pub last: u64,
-    /// The last branch that the search passed, if it passed one.
+    /// The last branch with the place in its range that the search passed, if it passed one.
     pub above: Option<Above>,
 }
 
@@ -40,15 +40,18 @@ pub struct Full {
     pub number: u64,
 }
 
-/// Why a non-blocking call was put off. It made no call of the history and changed nothing in the map, holds no node, and
-/// has no number.
+/// Why a non-blocking call was put off: what happened since the caller's previous call. It made no call of the history
+/// and changed nothing in the map, holds no node, and has no number.
 #[derive(Clone, Copy, Debug, PartialEq, Eq)]
 pub enum Later {
-    /// The holder, another caller, held the node, which is on the search path of the place.
+    /// At some moment the node was on the search path of the place, and at some moment the holder, another caller, held
+    /// it.
     Busy { node: u32, holder: u32 },
-    /// Another caller changed the node, which was on the search path of the place and no longer is. Only giving up reports it.
+    /// The node was on the search path of the place, later its inset lacked the place, and a Shape of another caller
+    /// named it. Only giving up reports it.
     Moved { node: u32 },
-    /// The call took as many nodes as there are, while another caller changed some. It is never reported along links.
+    /// The call took at least as many nodes as there are, the root at most twice, and another caller made a Shape. It
+    /// is never reported along links.
     Far,
 }
 
@@ -66,8 +69,8 @@ pub enum PutLater {
 /// number modulo 2^64.
 #[derive(Clone, Copy, Debug, PartialEq, Eq)]
 pub enum MoveLeft {
-    /// The second place has a value, too.
+    /// The second place had a value, too.
     Kept { number: u64 },
-    /// The second place has none, its node had no room for it, and no free node was found.
+    /// The second place had none, in another node, which had no room for it, and no free node was found.
     Full { number: u64 },
 }

@@ -13,7 +13,7 @@ use ks_flow::laws::tree_facts_law;
 use ks_node::{Unlinked, node_law};
 
 /// The node to which a search goes on from the one node that it holds is another live node of the arena, not the root,
-/// and has the place in its inset; it is never found free.
+/// and has the place in its inset; it is not found free as long as only others act.
 pub fn child_law<N: Unlinked>(
     arena: &Arena<N, Tree>,
     pass: &Pass<N, Tree>,

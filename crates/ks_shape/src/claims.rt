@@ -1,4 +1,4 @@
-//! Claims of one node and of two. If a claim is refused, no node was free.
+//! Claims of one node and of two. If a claim is refused, each node was at some moment not free.
 ghost use Rattle.std.specs.Prelude.{◌≡◌, ℕ, ◌≤◌, length};
 ghost use Rattle.ks_flow.specs.Discipline.{SameKeyset};
 ghost use Rattle.ks_arena.specs.Clauses.{hand_of};
@@ -13,7 +13,8 @@ use ks_flow::laws::walks_law;
 use ks_gate::{Gate, Point};
 use ks_node::Node;
 
-/// Claims a node. `None`: each was at some moment not free.
+/// Claims a node. `None`: each was at some moment not free, if each node that the caller holds is live, except one that
+/// it claimed for one that may grow.
 pub fn claim_one<N: Node, D: Discipline, G: Gate>(
     arena: &Arena<N, D>,
     pass: &mut Pass<N, D>,
@@ -42,8 +43,8 @@ pub fn claim_one<N: Node, D: Discipline, G: Gate>(
     Some(claimed)
 }
 
-/// Claims a node and then another, for a node that grows. If there is no second one, the first is released. `None`: each
-/// was at some moment not free.
+/// Claims a node and then another, for a node that grows. If there is no second one, the first is released. `None`:
+/// each was at some moment not free, if each node that the caller held before is live, and one of these may grow.
 pub fn claim_two<N: Node, D: Discipline, G: Gate>(
     arena: &Arena<N, D>,
     pass: &mut Pass<N, D>,

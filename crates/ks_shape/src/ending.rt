@@ -5,7 +5,7 @@ ghost use Rattle.ks_history.specs.declared.Reply.TheVariants.{Full as full_reply
 ghost use Rattle.ks_history.specs.Map.{told};
 ghost use Rattle.ks_arena.specs.Clauses.{hand_of};
 ghost use Rattle.ks_arena.specs.Of.{IsPassOf, IsEmptyPassOf, IsReadyAt, SeesOn, SameCaller};
-ghost use Rattle.ks_shape.specs.Of.{MakesNoneLive, FinishesAny, FinishesAt, FinishesFull, FinishesIfDue};
+ghost use Rattle.ks_shape.specs.Of.{IsOver, MakesNoneLive, FinishesAny, FinishesAt, FinishesFull, FinishesIfDue};
 ghost use Rattle.ks_shape.specs.Does.{OnlySearches};
 
 use crate::answers::Full;
@@ -17,8 +17,8 @@ use ks_history::Op;
 use ks_node::Node;
 use std::marker::Brand;
 
-/// Decides a call at the one held node, and releases the node. Returns the number of the call, modulo 2^64. A Full is due
-/// if no node was free since the call began.
+/// Decides a call at the one held node, and releases the node. Returns the number of the call, modulo 2^64. A Full is
+/// due if each node was at some moment not free since the call began.
 #[inline(always)]
 fn decide_here<W: Decision, N: Node, D: Discipline, G: Gate>(
     arena: &Arena<N, D>,
@@ -58,11 +58,8 @@ pub fn conclude_as<W: Decision, N: Node, D: Discipline, G: Gate>(
     requires alone { hand_of pass.old ≡ held.node ∷ [] }
     requires ready { IsReadyAt arena.now pass.old held W.op W.reply }
     requires some { W.reply ≢ full_reply }
-    ensures pass { IsEmptyPassOf arena.now pass.new }
-    ensures caller { SameCaller pass.old pass.new }
+    ensures over { IsOver arena.now pass.old pass.new }
     ensures leaves { OnlySearches pass.old pass.new }
-    ensures begins { SeesOn pass.old pass.new }
-    ensures makes { MakesNoneLive pass.old pass.new }
     ensures done { FinishesAny arena.now W.op pass.old pass.new W.reply result }
     ensures at { FinishesAt arena.now held W.op pass.old pass.new W.reply result }
 {
@@ -83,11 +80,8 @@ pub fn conclude_found<N: Node, D: Discipline, G: Gate>(
     requires pass { IsPassOf arena.now pass.old }
     requires alone { hand_of pass.old ≡ held.node ∷ [] }
     requires ready { IsReadyAt arena.now pass.old held op (told found) }
-    ensures pass { IsEmptyPassOf arena.now pass.new }
-    ensures caller { SameCaller pass.old pass.new }
+    ensures over { IsOver arena.now pass.old pass.new }
     ensures leaves { OnlySearches pass.old pass.new }
-    ensures begins { SeesOn pass.old pass.new }
-    ensures makes { MakesNoneLive pass.old pass.new }
     ensures done { FinishesAny arena.now op pass.old pass.new (told found) result }
     ensures at { FinishesAt arena.now held op pass.old pass.new (told found) result }
 {
@@ -109,19 +103,16 @@ fn found_told<W: Decision, N: Node, D: Discipline, G: Gate>(
     requires pass { IsPassOf arena.now pass.old }
     requires alone { hand_of pass.old ≡ held.node ∷ [] }
     requires ready { IsReadyAt arena.now pass.old held W.op W.reply }
-    ensures pass { IsEmptyPassOf arena.now pass.new }
-    ensures caller { SameCaller pass.old pass.new }
+    ensures over { IsOver arena.now pass.old pass.new }
     ensures leaves { OnlySearches pass.old pass.new }
-    ensures begins { SeesOn pass.old pass.new }
-    ensures makes { MakesNoneLive pass.old pass.new }
     ensures done { FinishesAny arena.now W.op pass.old pass.new W.reply result }
     ensures at { FinishesAt arena.now held W.op pass.old pass.new W.reply result }
 {
     conclude_as::<W, N, D, G>(arena, pass, gate, held)
 }
 
-/// Decides as full, at the one held node, a call that finds no room there, and releases the node. Returns the number of the
-/// call. The call is done if no node was free since it began.
+/// Decides as full, at the one held node, a call that finds no room there, and releases the node. Returns the number of
+/// the call, modulo 2^64. The call is done if each node was at some moment not free since it began.
 pub fn refuse<N: Node, D: Discipline, G: Gate>(
     arena: &Arena<N, D>,
     pass: &mut Pass<N, D>,
@@ -132,11 +123,8 @@ pub fn refuse<N: Node, D: Discipline, G: Gate>(
     requires pass { IsPassOf arena.now pass.old }
     requires alone { hand_of pass.old ≡ held.node ∷ [] }
     requires ready { IsReadyAt arena.now pass.old held op full_reply }
-    ensures pass { IsEmptyPassOf arena.now pass.new }
-    ensures caller { SameCaller pass.old pass.new }
+    ensures over { IsOver arena.now pass.old pass.new }
     ensures leaves { OnlySearches pass.old pass.new }
-    ensures begins { SeesOn pass.old pass.new }
-    ensures makes { MakesNoneLive pass.old pass.new }
     ensures done { FinishesFull arena.now held op pass.old pass.new result.number }
 {
     Full {
@@ -158,11 +146,8 @@ fn full_told<W: Decision, N: Node, D: Discipline, G: Gate>(
     requires pass { IsPassOf arena.now pass.old }
     requires alone { hand_of pass.old ≡ held.node ∷ [] }
     requires ready { IsReadyAt arena.now pass.old held W.op W.reply }
-    ensures pass { IsEmptyPassOf arena.now pass.new }
-    ensures caller { SameCaller pass.old pass.new }
+    ensures over { IsOver arena.now pass.old pass.new }
     ensures leaves { OnlySearches pass.old pass.new }
-    ensures begins { SeesOn pass.old pass.new }
-    ensures makes { MakesNoneLive pass.old pass.new }
     ensures done { FinishesIfDue arena.now held W.op pass.old pass.new W.reply result }
 {
     decide_here::<W, N, D, G>(arena, pass, gate, held)

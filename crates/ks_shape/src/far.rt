@@ -14,8 +14,8 @@ use ks_flow::Tree;
 use ks_gate::Gate;
 use ks_node::Unlinked;
 
-/// Releases the one held node, from which the search would go on to a child. If as many nodes were taken as there are,
-/// each a child of the one before, then another caller has changed some.
+/// Releases the one held node, from which the search would go on to a child. If at least as many nodes were taken as
+/// there are, each a child of the one before, then another caller has made a Shape meanwhile.
 pub fn turn_back<N: Unlinked, G: Gate>(
     arena: &Arena<N, Tree>,
     pass: &mut Pass<N, Tree>,

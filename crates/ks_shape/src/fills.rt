@@ -1,8 +1,8 @@
 //! A put and an add as one operation with a value: at the end of the search for its place, it is decided once for both.
 ghost use Rattle.std.specs.Prelude.{◌≡◌};
-ghost use Rattle.ks_arena.specs.Of.{IsPassOf, IsEmptyPassOf, SeesOn, SameCaller};
+ghost use Rattle.ks_arena.specs.Of.{IsPassOf};
 ghost use Rattle.ks_shape.specs.Fills.{filling, not_later, EndsForRoomOf, FinishesFill, FinishesFillAt};
-ghost use Rattle.ks_shape.specs.Of.{MakesNoneLive};
+ghost use Rattle.ks_shape.specs.Of.{IsOver};
 ghost use Rattle.ks_shape.specs.Does.{OnlySearches};
 
 use crate::answers::{Full, Numbered, PutLater};
@@ -34,11 +34,8 @@ pub fn fill_at<N: Node, D: Discipline, G: Gate>(
 ) -> Result<Numbered, Full>
     requires pass { IsPassOf arena.now pass.old }
     requires found { EndsForRoomOf arena.now place pass.old found }
-    ensures pass { IsEmptyPassOf arena.now pass.new }
-    ensures caller { SameCaller pass.old pass.new }
+    ensures over { IsOver arena.now pass.old pass.new }
     ensures leaves { OnlySearches pass.old pass.new }
-    ensures begins { SeesOn pass.old pass.new }
-    ensures makes { MakesNoneLive pass.old pass.new }
     ensures done { FinishesFill arena.now (filling place fill) place found pass.old pass.new result }
     ensures at { FinishesFillAt arena.now (filling place fill) found pass.old pass.new result }
 {

@@ -4,9 +4,9 @@ ghost use Rattle.ks_history.specs.declared.Op.TheVariants.{Add, Del, Get, Put, S
 ghost use Rattle.ks_history.specs.Map.{told};
 ghost use Rattle.ks_node.specs.declared.start.Next.TheVariants.{Here};
 ghost use Rattle.ks_node.specs.Body.{next_at};
-ghost use Rattle.ks_arena.specs.Of.{IsPassOf, IsEmptyPassOf, WasRefusedAt, SeesOn, SameCaller, caller_of};
+ghost use Rattle.ks_arena.specs.Of.{IsPassOf, WasRefusedAt, caller_of};
 ghost use Rattle.ks_shape.specs.SearchEnd.{Fills, LacksPlace, TakesPlace};
-ghost use Rattle.ks_shape.specs.Of.{IsOnWayOf, MakesNoneLive, FinishesAny, FinishesAt, FinishesCrowded, SearchEndsAt, HasRoomAt, IsCrowdedAt};
+ghost use Rattle.ks_shape.specs.Of.{IsOver, IsOnWayOf, FinishesAny, FinishesAt, FinishesCrowded, SearchEndsAt, HasRoomAt, IsCrowdedAt};
 ghost use Rattle.ks_shape.specs.Does.{OnlySearches};
 
 use crate::answers::{Full, Numbered};
@@ -52,11 +52,8 @@ pub fn get_here<N: Node, D: Discipline, G: Gate>(
 ) -> Numbered
     requires pass { IsPassOf arena.now pass.old }
     requires ends { SearchEndsAt arena.now place pass.old held }
-    ensures pass { IsEmptyPassOf arena.now pass.new }
-    ensures caller { SameCaller pass.old pass.new }
+    ensures over { IsOver arena.now pass.old pass.new }
     ensures leaves { OnlySearches pass.old pass.new }
-    ensures begins { SeesOn pass.old pass.new }
-    ensures makes { MakesNoneLive pass.old pass.new }
     ensures done { FinishesAny arena.now (Get place) pass.old pass.new (told result.found) result.number }
     ensures at { FinishesAt arena.now held (Get place) pass.old pass.new (told result.found) result.number }
 {
@@ -77,11 +74,8 @@ pub fn put_here<N: Node, D: Discipline, G: Gate>(
 ) -> Numbered
     requires pass { IsPassOf arena.now pass.old }
     requires room { HasRoomAt arena.now place pass.old held }
-    ensures pass { IsEmptyPassOf arena.now pass.new }
-    ensures caller { SameCaller pass.old pass.new }
+    ensures over { IsOver arena.now pass.old pass.new }
     ensures leaves { OnlySearches pass.old pass.new }
-    ensures begins { SeesOn pass.old pass.new }
-    ensures makes { MakesNoneLive pass.old pass.new }
     ensures done { FinishesAny arena.now (Put place value) pass.old pass.new (told result.found) result.number }
     ensures at { FinishesAt arena.now held (Put place value) pass.old pass.new (told result.found) result.number }
 {
@@ -106,11 +100,8 @@ pub fn add_here<N: Node, D: Discipline, G: Gate>(
 ) -> Numbered
     requires pass { IsPassOf arena.now pass.old }
     requires room { HasRoomAt arena.now place pass.old held }
-    ensures pass { IsEmptyPassOf arena.now pass.new }
-    ensures caller { SameCaller pass.old pass.new }
+    ensures over { IsOver arena.now pass.old pass.new }
     ensures leaves { OnlySearches pass.old pass.new }
-    ensures begins { SeesOn pass.old pass.new }
-    ensures makes { MakesNoneLive pass.old pass.new }
     ensures done { FinishesAny arena.now (Add place value) pass.old pass.new (told result.found) result.number }
     ensures at { FinishesAt arena.now held (Add place value) pass.old pass.new (told result.found) result.number }
 {
@@ -145,11 +136,8 @@ pub fn swap_here<N: Node, D: Discipline, G: Gate>(
 ) -> Numbered
     requires pass { IsPassOf arena.now pass.old }
     requires ends { SearchEndsAt arena.now place pass.old held }
-    ensures pass { IsEmptyPassOf arena.now pass.new }
-    ensures caller { SameCaller pass.old pass.new }
+    ensures over { IsOver arena.now pass.old pass.new }
     ensures leaves { OnlySearches pass.old pass.new }
-    ensures begins { SeesOn pass.old pass.new }
-    ensures makes { MakesNoneLive pass.old pass.new }
     ensures done { FinishesAny arena.now (Swap place old new) pass.old pass.new (told result.found) result.number }
     ensures at { FinishesAt arena.now held (Swap place old new) pass.old pass.new (told result.found) result.number }
 {
@@ -189,11 +177,8 @@ pub fn del_here<N: Node, D: Discipline, G: Gate>(
 ) -> Numbered
     requires pass { IsPassOf arena.now pass.old }
     requires ends { SearchEndsAt arena.now place pass.old held }
-    ensures pass { IsEmptyPassOf arena.now pass.new }
-    ensures caller { SameCaller pass.old pass.new }
+    ensures over { IsOver arena.now pass.old pass.new }
     ensures leaves { OnlySearches pass.old pass.new }
-    ensures begins { SeesOn pass.old pass.new }
-    ensures makes { MakesNoneLive pass.old pass.new }
     ensures done { FinishesAny arena.now (Del place) pass.old pass.new (told result.found) result.number }
     ensures at { FinishesAt arena.now held (Del place) pass.old pass.new (told result.found) result.number }
 {
@@ -220,11 +205,8 @@ pub fn refuse_here<N: Node, D: Discipline, G: Gate>(
     requires crowded { IsCrowdedAt arena.now place pass.old held }
     requires refused { WasRefusedAt arena.now pass.old place }
     requires fills { Fills place value op }
-    ensures pass { IsEmptyPassOf arena.now pass.new }
-    ensures caller { SameCaller pass.old pass.new }
+    ensures over { IsOver arena.now pass.old pass.new }
     ensures leaves { OnlySearches pass.old pass.new }
-    ensures begins { SeesOn pass.old pass.new }
-    ensures makes { MakesNoneLive pass.old pass.new }
     ensures done { FinishesCrowded arena.now op place pass.old pass.new result.number }
 {
     node_law(&held.body);

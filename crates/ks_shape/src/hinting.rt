@@ -31,14 +31,15 @@ pub fn start_of(hint: Option<u32>, nodes: u32) -> u32
     0
 }
 
-/// A technique whose calls may begin at a hint: a node at which the caller expects its search to end or to pass. Any hint
-/// is right: the call takes the hinted node first, and continues from there if the search for its place may. Else, or
-/// without a hint, it searches from the root. A hint that is no node of the arena is none.
+/// A technique whose calls may begin at a hint: a node at which the caller expects its search to end or to pass. Any
+/// hint is right. If the hinted node is live and no caller holds it, and no other caller acts, the call takes it first
+/// (`first`). It continues from there if the search for its place may; else, or without a hint, it searches from the
+/// root. A hint that is no node of the arena is none.
 ///
 /// Each call does what the call of `Template` with the same name does, and waits as that does. Its result says also at
-/// which node it was decided, which range this node had then, and the last branch that its search passed, if it passed
-/// one: these are hints for later calls. The branch was live, and had the place in that range, at some moment of the
-/// call; it need not have led to the node.
+/// which node it was decided, which range this node had then, and the last branch with the place in its range that its
+/// search passed, if it passed one: these are hints for later calls. The branch was live, and had that range, at some
+/// moment since the caller's previous call; it need not have led to the node.
 pub trait Hinting<N: Node, A: Shelf>: Ruled {
     /// Returns the value at a place, as `get`.
     fn get_from<R: Wait, G: Gate>(

@@ -1,5 +1,5 @@
-//! The shapes of maintenance, each some calls of held nodes and then one Shape; and what the calls of all templates share:
-//! their results, and how they end.
+//! The traits of techniques, and what their calls share: their results, the steps of their searches, and how they end.
+//! And the shapes of maintenance, each some calls of held nodes and then one Shape.
 #![tactic(auto)]
 
 mod answers;

@@ -100,7 +100,7 @@ pub fn grow_right<N: Linked>(
 }
 
 /// The node, a branch, leads from the cut on to `id` as well. As far as the pass has seen, that one is live, one level
-/// below it, and begins at the cut: it was split off there, and until now only its left neighbour's link leads to it.
+/// below it, and begins at the cut, as a node does that was split off there.
 pub fn attach<N: Linked>(
     arena: &Arena<N, Link>,
     pass: &mut Pass<N, Link>,

@@ -4,14 +4,14 @@ ghost use Rattle.ks_history.specs.declared.Event.{Event as Happening};
 ghost use Rattle.ks_history.specs.declared.Op.TheVariants.{Del, Get, Swap};
 ghost use Rattle.ks_history.specs.Map.{told};
 ghost use Rattle.ks_arena.specs.Clauses.{Matches};
-ghost use Rattle.ks_arena.specs.Of.{IsPassOf, IsEmptyPassOf, SeesOn, SameCaller};
+ghost use Rattle.ks_arena.specs.Of.{IsPassOf};
 ghost use Rattle.ks_arena.specs.Sound.{sort_of};
 ghost use Rattle.ks_shape.specs.Does.{OnlySearches};
 ghost use Rattle.ks_history.specs.Trace.{◌⊑◌};
 ghost use Rattle.ks_shape.specs.Fills.{EndsForRoomOf, FinishesFill, ended_at, filling};
 ghost use Rattle.ks_shape.specs.Hinted.{IsAbove, IsWhere, WasAbove, above_in};
 ghost use Rattle.ks_shape.specs.Located.{FinishesFillWhere, has_place as has_in, passed_in, plain_of};
-ghost use Rattle.ks_shape.specs.Of.{MakesNoneLive, FinishesAny, FinishesWhere, SearchEndsAt};
+ghost use Rattle.ks_shape.specs.Of.{IsOver, FinishesAny, FinishesWhere, SearchEndsAt};
 
 use crate::answers::{Above, Full, NumberedAt};
 use crate::fills::{Fill, fill_at};
@@ -78,11 +78,8 @@ pub fn get_located<N: Ranged, D: Discipline, G: Gate>(
 ) -> NumberedAt
     requires pass { IsPassOf arena.now pass.old }
     requires ends { SearchEndsAt arena.now place pass.old held }
-    ensures pass { IsEmptyPassOf arena.now pass.new }
-    ensures caller { SameCaller pass.old pass.new }
+    ensures over { IsOver arena.now pass.old pass.new }
     ensures leaves { OnlySearches pass.old pass.new }
-    ensures begins { SeesOn pass.old pass.new }
-    ensures makes { MakesNoneLive pass.old pass.new }
     ensures done { FinishesAny arena.now (Get place) pass.old pass.new (told result.found) result.number }
     ensures at { FinishesWhere arena.now (Get place) pass.old pass.new result }
     ensures within { (result.low ≤ place) × (place ≤ result.last) }
@@ -115,11 +112,8 @@ pub fn swap_located<N: Ranged, D: Discipline, G: Gate>(
 ) -> NumberedAt
     requires pass { IsPassOf arena.now pass.old }
     requires ends { SearchEndsAt arena.now place pass.old held }
-    ensures pass { IsEmptyPassOf arena.now pass.new }
-    ensures caller { SameCaller pass.old pass.new }
+    ensures over { IsOver arena.now pass.old pass.new }
     ensures leaves { OnlySearches pass.old pass.new }
-    ensures begins { SeesOn pass.old pass.new }
-    ensures makes { MakesNoneLive pass.old pass.new }
     ensures done { FinishesAny arena.now (Swap place old new) pass.old pass.new (told result.found) result.number }
     ensures at { FinishesWhere arena.now (Swap place old new) pass.old pass.new result }
     ensures within { (result.low ≤ place) × (place ≤ result.last) }
@@ -163,11 +157,8 @@ pub fn fill_located<N: Ranged, D: Discipline, G: Gate>(
 ) -> Result<NumberedAt, Full>
     requires pass { IsPassOf arena.now pass.old }
     requires found { EndsForRoomOf arena.now place pass.old found }
-    ensures pass { IsEmptyPassOf arena.now pass.new }
-    ensures caller { SameCaller pass.old pass.new }
+    ensures over { IsOver arena.now pass.old pass.new }
     ensures leaves { OnlySearches pass.old pass.new }
-    ensures begins { SeesOn pass.old pass.new }
-    ensures makes { MakesNoneLive pass.old pass.new }
     ensures done { FinishesFill arena.now (filling place fill) place found pass.old pass.new (plain_of result) }
     ensures at { FinishesFillWhere arena.now (filling place fill) pass.old pass.new result }
     ensures within { IfOk result (IsWhere place) }
@@ -199,11 +190,8 @@ pub fn del_located<N: Ranged, D: Discipline, G: Gate>(
 ) -> NumberedAt
     requires pass { IsPassOf arena.now pass.old }
     requires ends { SearchEndsAt arena.now place pass.old held }
-    ensures pass { IsEmptyPassOf arena.now pass.new }
-    ensures caller { SameCaller pass.old pass.new }
+    ensures over { IsOver arena.now pass.old pass.new }
     ensures leaves { OnlySearches pass.old pass.new }
-    ensures begins { SeesOn pass.old pass.new }
-    ensures makes { MakesNoneLive pass.old pass.new }
     ensures done { FinishesAny arena.now (Del place) pass.old pass.new (told result.found) result.number }
     ensures at { FinishesWhere arena.now (Del place) pass.old pass.new result }
     ensures within { (result.low ≤ place) × (place ≤ result.last) }

@@ -16,13 +16,14 @@ use std::sync::Wait;
 /// A technique with moves. A move is one call: it is decided at the nodes of both places at once, and no other call sees the
 /// value at both of them, or at neither.
 pub trait Moving<N: Node, A: Shelf>: Ruled {
-    /// Moves the value at `from` to `to`, another place, and returns it. If there is none, nothing changes.
+    /// Moves the value at `from` to `to`, another place, and returns it. If there is none, the map is as before the
+    /// call. Splits that the call made before it was decided remain, whatever it returns.
     ///
     /// # Errors
     ///
-    /// `Kept` if both places have a value: both remain. `Full` is returned only if `from` has a value, `to` has none, they are
-    /// in two nodes, that of `to` has no room, and each node was not free at some moment of the call. Then the map is as
-    /// before the call; splits that it made before remain.
+    /// `Kept` if both places have a value: both remain. `Full` is returned only if `from` has a value, `to` has none,
+    /// they are in two nodes, that of `to` has no room, and each node was at some moment not free since the caller's
+    /// previous call. Then the map is as before the call.
     fn move_value<R: Wait, G: Gate>(
         rt: &R,
         arena: &A,

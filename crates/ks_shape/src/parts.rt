@@ -4,8 +4,8 @@ ghost use Rattle.std.specs.Prelude.{◌≡◌, ℕ, ◌≤◌, ◌∷◌, []};
 ghost use Rattle.ks_history.specs.declared.Op.TheVariants.{Part as lists};
 ghost use Rattle.ks_history.specs.declared.Reply.TheVariants.{Listed};
 ghost use Rattle.ks_arena.specs.Clauses.{hand_of};
-ghost use Rattle.ks_arena.specs.Of.{IsPassOf, IsEmptyPassOf, IsReadyAt, SeesOn, SameCaller};
-ghost use Rattle.ks_shape.specs.Of.{MakesNoneLive, FinishesAny, FinishesAt, SearchEndsAt};
+ghost use Rattle.ks_arena.specs.Of.{IsPassOf, IsReadyAt};
+ghost use Rattle.ks_shape.specs.Of.{IsOver, FinishesAny, FinishesAt, SearchEndsAt};
 ghost use Rattle.ks_shape.specs.Does.{OnlySearches};
 
 use crate::ending::conclude_as;
@@ -29,11 +29,8 @@ pub fn part_here<N: Lists, D: Discipline, G: Gate>(
     requires pass { IsPassOf arena.now pass.old }
     requires span { low ≤ last }
     requires ends { (p : ℕ) → low ≤ p → p ≤ last → SearchEndsAt arena.now p pass.old held }
-    ensures pass { IsEmptyPassOf arena.now pass.new }
-    ensures caller { SameCaller pass.old pass.new }
+    ensures over { IsOver arena.now pass.old pass.new }
     ensures leaves { OnlySearches pass.old pass.new }
-    ensures begins { SeesOn pass.old pass.new }
-    ensures makes { MakesNoneLive pass.old pass.new }
     ensures last { result.last ≡ last }
     ensures done { FinishesAny arena.now (lists low last) pass.old pass.new (Listed result.pairs) result.number }
     ensures at { FinishesAt arena.now held (lists low last) pass.old pass.new (Listed result.pairs) result.number }
@@ -65,11 +62,8 @@ fn conclude_part<W: Decision, N: Lists, D: Discipline, G: Gate>(
     requires pass { IsPassOf arena.now pass.old }
     requires alone { hand_of pass.old ≡ held.node ∷ [] }
     requires ready { IsReadyAt arena.now pass.old held W.op W.reply }
-    ensures pass { IsEmptyPassOf arena.now pass.new }
-    ensures caller { SameCaller pass.old pass.new }
+    ensures over { IsOver arena.now pass.old pass.new }
     ensures leaves { OnlySearches pass.old pass.new }
-    ensures begins { SeesOn pass.old pass.new }
-    ensures makes { MakesNoneLive pass.old pass.new }
     ensures done { FinishesAny arena.now W.op pass.old pass.new W.reply result }
     ensures at { FinishesAt arena.now held W.op pass.old pass.new W.reply result }
 {

@@ -77,9 +77,9 @@ pub trait Template<N: Node, A: Shelf>: Ruled {
     ///
     /// # Errors
     ///
-    /// `Full` is returned only if the place has no value, its node has no room, and each node was not free at some moment
-    /// of the call. Then the map is as before the call, which has its number in the history; splits that it made before
-    /// remain.
+    /// `Full` is returned only if the place has no value, its node has no room, and each node was at some moment not
+    /// free since the caller's previous call. Then the map is as before the call, which has its number in the history;
+    /// splits that it made before remain.
     ///
     /// Along links the edge to a node that was split off is added after the call has been decided. It is there in the end
     /// if no other caller did anything meanwhile and two nodes are free then, over nodes whose branches adopt any edge
@@ -166,10 +166,8 @@ pub trait Template<N: Node, A: Shelf>: Ruled {
     ///
     /// # Errors
     ///
-    /// `Busy` names a node on the search path of the place, and the other caller that held it; `Moved` a node that was on
-    /// the path until another caller changed it: only giving up reports it; `Far` is reported only if the call took as many
-    /// nodes as there are while another caller changed some, and never along links. Then the call is not in the history: it
-    /// changed nothing in the map, and has no number.
+    /// `Busy`, `Moved` or `Far`, if what `Later` says of it has happened: `Moved` only by giving up, `Far` never
+    /// along links. Then the call is not in the history: it changed nothing in the map, and has no number.
     fn try_get<G: Gate>(
         arena: &A,
         pass: &mut Pass<N, Self::Rule>,
@@ -243,8 +241,8 @@ pub trait Template<N: Node, A: Shelf>: Ruled {
         ensures tried { HasTried N.layout Self.technique (A.site arena.now) (Swap place old new)
             pass.old pass.new result };
 
-    /// Deletes the value at a place, and returns it. It does not wait. Once the call is decided, a node that another caller
-    /// holds ends its merging, and nothing else.
+    /// Deletes the value at a place, and returns it. It does not wait. The merging after the call is decided ends at a
+    /// node on the search path that another caller holds; a right neighbour that another holds is left as it is.
     ///
     /// # Errors
     ///

@@ -1,22 +1,18 @@
 use Rattle.std.proofs.Common.{◌≡◌, ◌+◌, ◌∷◌, [], ℕ, List, length, length-append, Some, refl, sym, ap, ◌∙◌, subst, arith}
 use Rattle.ks_arena.specs.Clauses.{seen_of}
-use Rattle.ks_shape.specs.Does.{DoesOnly, MaySearch}
-use Rattle.ks_shape.specs.Laws.Does.{does_both, does_none}
 use Rattle.ks_shape.specs.Parts.{DonePart}
 use Rattle.ks_lines.specs.declared.parts.Part.{Part}
-use Rattle.ks_scan.specs.Scan.{DoneParts}
+use Rattle.ks_scan.specs.Scan.{DoneParts, HasSearched}
 use Rattle.ks_lines.specs.Scan.{PartsAscend, end_of}
 use Rattle.ks_scan.proofs.Numbers.{numbers_ascend}
-use Rattle.ks_scan.proofs.Rows.{next_from, next_more, end_more, done_more, ascend_more, end_before}
+use Rattle.ks_scan.proofs.Rows.{next_from, next_more, end_more, done_more, ascend_more, end_before, searched_none, searched_more}
 use Rattle.ks_scan.proofs.scan_into.Goals as goal
 use Rattle.ks_scan.proofs.scan_into.Given.{Over}
 use Rattle.ks_scan.proofs.scan_into.Goals.{After-push_reserved}
 
 pub loop-init : goal.loop-init
 loop-init g c = record {
-  pass = c.requires.pass;
-  caller = refl;
-  leaves = does_none MaySearch c.args.pass.now.caller (seen_of c.args.pass.now);
+  searched = searched_none (g.A.Shelf.site c.args.arena.now) c.args.pass.now c.requires.pass;
   long = ap (λ (parts : List Part). length parts) c.requires.blank;
   capacity = refl;
   done = subst (λ (parts : List Part). DoneParts g.N.Node.layout g.T.Ruled.technique (g.A.Shelf.site c.args.arena.now).nodes c.args.pass.now.caller c.args.low c.args.last (seen_of c.args.pass.now) parts (seen_of c.args.pass.now)) (sym c.requires.blank) refl;
@@ -30,15 +26,13 @@ push_reserved-requires g c = let i = c.loop.invariant in let r = c.requires.room
 
 -- what the row is with the new part
 
-leaves : (g : Over) (c : After-push_reserved g) → DoesOnly MaySearch c.args.pass.now.caller (seen_of c.args.pass.now) (seen_of c.scan_part-part.new.pass)
-leaves g c = let i = c.loop.invariant in
-    does_both MaySearch c.args.pass.now.caller (seen_of c.args.pass.now) (seen_of c.loop.pass) (seen_of c.scan_part-part.new.pass) i.leaves
-    (subst (λ (z : ℕ). DoesOnly MaySearch z (seen_of c.loop.pass) (seen_of c.scan_part-part.new.pass)) i.caller c.scan_part-part.ensures.leaves)
+searched : (g : Over) (c : After-push_reserved g) → HasSearched (g.A.Shelf.site c.args.arena.now) c.args.pass.now c.scan_part-part.new.pass
+searched g c = let e = c.scan_part-part.ensures in searched_more (g.A.Shelf.site c.args.arena.now) c.args.pass.now c.loop.pass c.scan_part-part.new.pass c.loop.invariant.searched e.pass e.caller e.leaves
 
 more : (g : Over) (c : After-push_reserved g) → DonePart g.N.Node.layout g.T.Ruled.technique (g.A.Shelf.site c.args.arena.now).nodes c.args.pass.now.caller (next_from c.args.low c.loop.into.items) c.args.last (seen_of c.loop.pass) (seen_of c.scan_part-part.new.pass) c.scan_part-part.result
 more g c = let i = c.loop.invariant in
     subst (λ (z : ℕ). DonePart g.N.Node.layout g.T.Ruled.technique (g.A.Shelf.site c.args.arena.now).nodes c.args.pass.now.caller z c.args.last (seen_of c.loop.pass) (seen_of c.scan_part-part.new.pass) c.scan_part-part.result) i.from
-    (subst (λ (z : ℕ). DonePart g.N.Node.layout g.T.Ruled.technique (g.A.Shelf.site c.args.arena.now).nodes z c.loop.from c.args.last (seen_of c.loop.pass) (seen_of c.scan_part-part.new.pass) c.scan_part-part.result) i.caller c.scan_part-part.ensures.done)
+    (subst (λ (z : ℕ). DonePart g.N.Node.layout g.T.Ruled.technique (g.A.Shelf.site c.args.arena.now).nodes z c.loop.from c.args.last (seen_of c.loop.pass) (seen_of c.scan_part-part.new.pass) c.scan_part-part.result) i.searched.caller c.scan_part-part.ensures.done)
 
 done : (g : Over) (c : After-push_reserved g) → DoneParts g.N.Node.layout g.T.Ruled.technique (g.A.Shelf.site c.args.arena.now).nodes c.args.pass.now.caller c.args.low c.args.last (seen_of c.args.pass.now) c.push_reserved.new.self.items (seen_of c.scan_part-part.new.pass)
 done g c = subst (λ (parts : List Part). DoneParts g.N.Node.layout g.T.Ruled.technique (g.A.Shelf.site c.args.arena.now).nodes c.args.pass.now.caller c.args.low c.args.last (seen_of c.args.pass.now) parts (seen_of c.scan_part-part.new.pass)) (sym c.push_reserved.ensures.items)
@@ -51,11 +45,8 @@ ascend g c = let m = more g c in
 long : (g : Over) (c : After-push_reserved g) → length c.push_reserved.new.self.items ≡ c.loop.counter + 1
 long g c = ap (λ (parts : List Part). length parts) c.push_reserved.ensures.items ∙ length-append c.loop.into.items (c.scan_part-part.result ∷ []) ∙ ap (λ (n : ℕ). n + 1) c.loop.invariant.long
 
-pub returns-then-end-last-clause-caller : goal.returns-then-end-last-clause-caller
-returns-then-end-last-clause-caller g c = c.scan_part-part.ensures.caller ∙ c.loop.invariant.caller
-
-pub returns-then-end-last-clause-leaves : goal.returns-then-end-last-clause-leaves
-returns-then-end-last-clause-leaves g c = leaves g (goal.at.returns-then-end-last-clause-leaves g c).After-push_reserved
+pub returns-then-end-last-clause-searched : goal.returns-then-end-last-clause-searched
+returns-then-end-last-clause-searched g c = searched g (goal.at.returns-then-end-last-clause-searched g c).After-push_reserved
 
 pub returns-then-end-last-clause-done : goal.returns-then-end-last-clause-done
 returns-then-end-last-clause-done g c = done g (goal.at.returns-then-end-last-clause-done g c).After-push_reserved
@@ -72,9 +63,7 @@ returns-then-end-last-clause-ascend g c = numbers_ascend _ _ _ _ _ _ _ _ _ (done
 
 pub loop-preserved : goal.loop-preserved
 loop-preserved g c = let d = (goal.at.loop-preserved g c).After-push_reserved in let m = more g d in record {
-  pass = c.scan_part-part.ensures.pass;
-  caller = c.scan_part-part.ensures.caller ∙ c.loop.invariant.caller;
-  leaves = leaves g d;
+  searched = searched g d;
   long = long g d;
   capacity = c.push_reserved.ensures.capacity ∙ c.loop.invariant.capacity;
   done = done g d;

@@ -1,18 +1,14 @@
 use Rattle.std.proofs.Common.{◌≡◌, ◌≤◌, length}
 use Rattle.std.specs.Prelude.{vec_capacity}
 use Rattle.ks_arena.specs.Clauses.{seen_of}
-use Rattle.ks_shape.specs.Does.{DoesOnly, MaySearch}
-use Rattle.ks_shape.specs.Idle.{IsIdle}
-use Rattle.ks_scan.specs.Scan.{DoneParts}
+use Rattle.ks_scan.specs.Scan.{DoneParts, HasSearched}
 use Rattle.ks_lines.specs.Scan.{PartsAscend}
 use Rattle.ks_scan.proofs.Rows.{next_from}
 use Rattle.ks_scan.proofs.scan_into.Given as goal
 
 abbrev pub invariant-loop : goal.invariant-loop
 invariant-loop g l = record {
-  pass : IsIdle (g.A.Shelf.site l.arena) l.pass;
-  caller : l.pass.caller ≡ l.fn.pass.caller;
-  leaves : DoesOnly MaySearch l.fn.pass.caller (seen_of l.fn.pass) (seen_of l.pass);
+  searched : HasSearched (g.A.Shelf.site l.arena) l.fn.pass l.pass;
   long : length l.into.items ≡ l.counter;
   capacity : vec_capacity l.into ≡ vec_capacity l.fn.into;
   done : DoneParts g.N.Node.layout g.T.Ruled.technique (g.A.Shelf.site l.arena).nodes l.fn.pass.caller l.low l.last (seen_of l.fn.pass) l.into.items (seen_of l.pass);

@@ -40,10 +40,10 @@ returns-then-has_room-clause-at g c = let e = c.find_near-held.ensures in
 
 pub returns-then-has_room-clause-above : goal.returns-then-has_room-clause-above
 returns-then-has_room-clause-above g c = let sort = sort_of g.N.Node.layout g.N.Node.ranged in let e = c.find_near-held.ensures in let s = seen_of c.args.pass.now in let k = seen_of c.find_near-held.new.pass in let l = seen_of c.fill_located.new.pass in
-    ok_map c.fill_located.result (λ answer is. subst (λ (z : Option Above). IfSome z (WasAbove sort c.args.place s l)) (sym is) (was_above_on sort c.args.place s k l c.fill_located.ensures.begins c.find_near-held.result.above e.above)) c.fill_located.ensures.above
+    ok_map c.fill_located.result (λ answer is. subst (λ (z : Option Above). IfSome z (WasAbove sort c.args.place s l)) (sym is) (was_above_on sort c.args.place s k l c.fill_located.ensures.over.begins c.find_near-held.result.above e.above)) c.fill_located.ensures.above
 
 pub returns-then-has_room-clause-first : goal.returns-then-has_room-clause-first
-returns-then-has_room-clause-first g c = let e = c.find_near-held.ensures in hint_on c.args.arena.now.nodes c.args.pass.now.caller (seen_of c.args.pass.now) (seen_of c.find_near-held.new.pass) (seen_of c.fill_located.new.pass) e.leaves.grows c.fill_located.ensures.begins c.args.hint e.first
+returns-then-has_room-clause-first g c = let e = c.find_near-held.ensures in hint_on c.args.arena.now.nodes c.args.pass.now.caller (seen_of c.args.pass.now) (seen_of c.find_near-held.new.pass) (seen_of c.fill_located.new.pass) e.leaves.grows c.fill_located.ensures.over.begins c.args.hint e.first
 
 -- or it continues from the root
 

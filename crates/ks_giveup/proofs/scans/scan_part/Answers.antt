@@ -48,7 +48,7 @@ returns-clause-done g c = let s = seen_of c.args.pass.now in let l = seen_of c.p
     let end : ℕ = c.part_here.result.last in
     let slots = c.args.arena.now.table.shared.table_id.slots in
     let k = at.done.before ++ s in
-    let facts = c.sound_law.ensures.facts sort slots k (c.sound_law.ensures.begins sort slots k l (before_it at) c.part_here.ensures.pass.0.sound) in
+    let facts = c.sound_law.ensures.facts sort slots k (c.sound_law.ensures.begins sort slots k l (before_it at) c.part_here.ensures.over.pass.0.sound) in
     let is : end ≡ min c.args.last reach = c.part_here.ensures.last ∙ c.min-end.ensures in
     part_done g.N.Node.layout give_up c.args.arena.now.nodes c.args.pass.now.caller c.args.low c.args.last s l c.part_here.result c.find-held.result.node (blank_of sort) (frame_of (g.N.Node.body c.find-held.result.body)) at
     (omega (arith, c.requires.span, is, reached g (goal.at.returns-clause-done g c).After-range-range))

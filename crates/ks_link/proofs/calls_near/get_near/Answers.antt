@@ -19,7 +19,7 @@ returns-clause-at g c = let e = c.find_near-held.ensures in finishes_on c.get_lo
 
 pub returns-clause-above : goal.returns-clause-above
 returns-clause-above g c = let sort = sort_of g.N.Node.layout g.N.Node.ranged in let e = c.find_near-held.ensures in let s = seen_of c.args.pass.now in let k = seen_of c.find_near-held.new.pass in let l = seen_of c.get_located.new.pass in
-    rw c.get_located.ensures.above (was_above_on sort c.args.place s k l c.get_located.ensures.begins c.find_near-held.result.above e.above)
+    rw c.get_located.ensures.above (was_above_on sort c.args.place s k l c.get_located.ensures.over.begins c.find_near-held.result.above e.above)
 
 pub returns-clause-first : goal.returns-clause-first
-returns-clause-first g c = let e = c.find_near-held.ensures in hint_on c.args.arena.now.nodes c.args.pass.now.caller (seen_of c.args.pass.now) (seen_of c.find_near-held.new.pass) (seen_of c.get_located.new.pass) e.leaves.grows c.get_located.ensures.begins c.args.hint e.first
+returns-clause-first g c = let e = c.find_near-held.ensures in hint_on c.args.arena.now.nodes c.args.pass.now.caller (seen_of c.args.pass.now) (seen_of c.find_near-held.new.pass) (seen_of c.get_located.new.pass) e.leaves.grows c.get_located.ensures.over.begins c.args.hint e.first

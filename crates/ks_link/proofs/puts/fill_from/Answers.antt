@@ -36,18 +36,18 @@ returns-clause-done g c = λ start before. let sort = sort_of g.N.Node.layout g.
     subst (λ (z : ℕ). Underway link_move z op start k → FullIsDue g.N.Node.layout n z place start k found → Done g.N.Node.layout link_move n z op start l (reply_in c.fill_at.result) (number_in c.fill_at.result)) e (c.fill_at.ensures.done link_move start) under due
 
 pub returns-clause-begins : goal.returns-clause-begins
-returns-clause-begins g c = begins_both (seen_of c.args.pass.now) (seen_of c.room_at-found.new.pass) (seen_of c.fill_at.new.pass) (stretch_begins link_move c.args.pass.now.caller (seen_of c.args.pass.now) (seen_of c.room_at-found.new.pass) c.room_at-found.ensures.stretch) c.fill_at.ensures.begins
+returns-clause-begins g c = begins_both (seen_of c.args.pass.now) (seen_of c.room_at-found.new.pass) (seen_of c.fill_at.new.pass) (stretch_begins link_move c.args.pass.now.caller (seen_of c.args.pass.now) (seen_of c.room_at-found.new.pass) c.room_at-found.ensures.stretch) c.fill_at.ensures.over.begins
 
 pub returns-clause-waiting : goal.returns-clause-waiting
 returns-clause-waiting g c = let sort = sort_of g.N.Node.layout g.N.Node.ranged in let n : ℕ = c.args.arena.now.table.shared.table_id.slots in let k = seen_of c.room_at-found.new.pass in let l = seen_of c.fill_at.new.pass in
-    all_later sort k l c.room_at-found.new.waiting.items (c.sound_law.ensures.lasts sort n k l c.fill_at.ensures.begins c.fill_at.ensures.pass.0.sound) c.room_at-found.ensures.waiting
+    all_later sort k l c.room_at-found.new.waiting.items (c.sound_law.ensures.lasts sort n k l c.fill_at.ensures.over.begins c.fill_at.ensures.over.pass.0.sound) c.room_at-found.ensures.waiting
 
 pub returns-clause-led : goal.returns-clause-led
 returns-clause-led g c = λ promise alone. let sort = sort_of g.N.Node.layout g.N.Node.ranged in let n : ℕ = c.args.arena.now.table.shared.table_id.slots in let me : ℕ = c.args.pass.now.caller in
-    let h = seen_of c.args.pass.now in let k = seen_of c.room_at-found.new.pass in let l = seen_of c.fill_at.new.pass in let room = c.room_at-found.ensures in let on = c.fill_at.ensures.begins in
+    let h = seen_of c.args.pass.now in let k = seen_of c.room_at-found.new.pass in let l = seen_of c.fill_at.new.pass in let room = c.room_at-found.ensures in let on = c.fill_at.ensures.over.begins in
     let till : h ⊑ k = stretch_begins link_move me h k room.stretch in
-    led_none sort c.room_at-found.new.waiting.items h k l (c.sound_law.ensures.lasts sort n k l on c.fill_at.ensures.pass.0.sound) (room.led promise (alone_first me h k l till on alone))
-    (subst (λ (z : ℕ). MakesNone z k l) room.caller c.fill_at.ensures.makes (alone_then me h k l till on alone))
+    led_none sort c.room_at-found.new.waiting.items h k l (c.sound_law.ensures.lasts sort n k l on c.fill_at.ensures.over.pass.0.sound) (room.led promise (alone_first me h k l till on alone))
+    (subst (λ (z : ℕ). MakesNone z k l) room.caller c.fill_at.ensures.over.makes (alone_then me h k l till on alone))
 
 pub returns-clause-fills : goal.returns-clause-fills
 returns-clause-fills g c = let e = c.room_at-found.ensures in fills_search (sort_of g.N.Node.layout g.N.Node.ranged) c.args.place c.args.pass.now.caller c.room_at-found.new.pass.caller (seen_of c.args.pass.now) (seen_of c.room_at-found.new.pass) (seen_of c.fill_at.new.pass) e.caller e.fills c.fill_at.ensures.leaves

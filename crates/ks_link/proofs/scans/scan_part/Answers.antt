@@ -31,4 +31,4 @@ returns-clause-done g c =
     let from : c.args.low ≤ part.last = grind (arith, common_steps, here.last, found.ends.within.1, last) in
     let upto : part.last ≤ c.args.last = grind (arith, common_steps, here.last) in
     part_done sort g.N.Node.layout c.args.arena.now.nodes c.args.pass.now.caller c.find-held.new.pass.caller c.args.low c.args.last c.find-held.result.node b (seen_of c.args.pass.now) (seen_of c.find-held.new.pass) s1 part found.caller here.last here.at found.under from upto stops
-    (λ k begins. c.sound_law.ensures.facts sort n k (c.sound_law.ensures.begins sort n k s1 begins here.pass.0.sound))
+    (λ k begins. c.sound_law.ensures.facts sort n k (c.sound_law.ensures.begins sort n k s1 begins here.over.pass.0.sound))

@@ -43,7 +43,7 @@ returns-in-Ok-clause-done g c =
     let from : c.args.low ≤ part.last = grind (arith, common_steps, here.last, e.found.1.within.1, last) in
     let upto : part.last ≤ c.args.last = grind (arith, common_steps, here.last) in
     part_done sort g.N.Node.layout c.args.arena.now.nodes c.args.pass.now.caller c.try_find.new.pass.caller c.args.low c.args.last c.in-Ok.held.node b (seen_of c.args.pass.now) (seen_of c.try_find.new.pass) s1 part e.caller here.last here.at e.under from upto stops
-    (λ k begins. c.sound_law.ensures.facts sort n k (c.sound_law.ensures.begins sort n k s1 begins here.pass.0.sound))
+    (λ k begins. c.sound_law.ensures.facts sort n k (c.sound_law.ensures.begins sort n k s1 begins here.over.pass.0.sound))
 
 pub returns-in-Err-clause-put_off : goal.returns-in-Err-clause-put_off
 returns-in-Err-clause-put_off g c = let op : Op = lists c.args.low c.args.last in let e = c.in-Err.ensures in

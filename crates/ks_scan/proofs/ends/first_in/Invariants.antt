@@ -1,18 +1,14 @@
 use Rattle.std.proofs.Common.{◌≡◌, ◌≤◌, ◌-◌, List}
 use Rattle.ks_arena.specs.Clauses.{seen_of}
-use Rattle.ks_shape.specs.Does.{DoesOnly, MaySearch}
-use Rattle.ks_shape.specs.Idle.{IsIdle}
 use Rattle.ks_lines.specs.declared.parts.Part.{Part}
-use Rattle.ks_scan.specs.Scan.{DoneParts}
+use Rattle.ks_scan.specs.Scan.{DoneParts, HasSearched}
 use Rattle.ks_scan.proofs.Rows.{next_from}
 use Rattle.ks_scan.proofs.Finds.{HaveNone}
 use Rattle.ks_scan.proofs.ends.first_in.Given as goal
 
 abbrev pub invariant-loop-found : goal.invariant-loop-found
 invariant-loop-found g l = record {
-  pass : IsIdle (g.A.Shelf.site l.arena) l.pass;
-  caller : l.pass.caller ≡ l.fn.pass.caller;
-  leaves : DoesOnly MaySearch l.fn.pass.caller (seen_of l.fn.pass) (seen_of l.pass);
+  searched : HasSearched (g.A.Shelf.site l.arena) l.fn.pass l.pass;
   row : (parts : List Part) × DoneParts g.N.Node.layout g.T.Ruled.technique (g.A.Shelf.site l.arena).nodes l.fn.pass.caller l.low l.last (seen_of l.fn.pass) parts (seen_of l.pass) × HaveNone parts × (l.from ≡ next_from l.low parts);
   to : l.from ≤ l.last;
 }

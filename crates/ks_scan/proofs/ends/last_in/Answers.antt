@@ -1,12 +1,10 @@
 use Rattle.std.proofs.Common.{◌≡◌, ◌++◌, ◌∷◌, [], ℕ, Option, Some, refl, sym, ap, ◌∙◌, subst, arith}
 use Rattle.ks_arena.specs.Clauses.{seen_of}
-use Rattle.ks_shape.specs.Does.{DoesOnly, MaySearch}
-use Rattle.ks_shape.specs.Laws.Does.{does_both, does_none}
 use Rattle.ks_shape.specs.Parts.{DonePart}
-use Rattle.ks_scan.specs.Scan.{DoneParts}
+use Rattle.ks_scan.specs.Scan.{DoneParts, HasSearched}
 use Rattle.ks_scan.specs.declared.ends.Found.{Found}
 use Rattle.ks_scan.specs.Ends.{found_or, last_found, last_of}
-use Rattle.ks_scan.proofs.Rows.{next_from, next_more, end_more, done_more}
+use Rattle.ks_scan.proofs.Rows.{next_from, next_more, end_more, done_more, searched_none, searched_more}
 use Rattle.ks_scan.proofs.Finds.{last_more}
 use Rattle.ks_scan.proofs.ends.last_in.Goals as goal
 use Rattle.ks_scan.proofs.ends.last_in.Given.{Over}
@@ -14,30 +12,26 @@ use Rattle.ks_scan.proofs.ends.last_in.Goals.{After-last_of, After-or_before-fou
 
 pub loop-part-init : goal.loop-part-init
 loop-part-init g c = record {
-  pass = c.requires.pass;
-  caller = refl;
-  leaves = does_none MaySearch c.args.pass.now.caller (seen_of c.args.pass.now);
+  searched = searched_none (g.A.Shelf.site c.args.arena.now) c.args.pass.now c.requires.pass;
   row = ([], refl, refl, refl);
   to = c.requires.span;
 }
 
 pub scan_part-part-requires-clause-pass : goal.scan_part-part-requires-clause-pass
-scan_part-part-requires-clause-pass g c = c.loop-part.invariant.pass
+scan_part-part-requires-clause-pass g c = c.loop-part.invariant.searched.pass
 
 pub scan_part-part-requires-clause-span : goal.scan_part-part-requires-clause-span
 scan_part-part-requires-clause-span g c = c.loop-part.invariant.to
 
 -- what the row is with the new part
 
-leaves : (g : Over) (c : After-last_of g) → DoesOnly MaySearch c.args.pass.now.caller (seen_of c.args.pass.now) (seen_of c.scan_part-part.new.pass)
-leaves g c = let i = c.loop-part.invariant in
-    does_both MaySearch c.args.pass.now.caller (seen_of c.args.pass.now) (seen_of c.loop-part.pass) (seen_of c.scan_part-part.new.pass) i.leaves
-    (subst (λ (z : ℕ). DoesOnly MaySearch z (seen_of c.loop-part.pass) (seen_of c.scan_part-part.new.pass)) i.caller c.scan_part-part.ensures.leaves)
+searched : (g : Over) (c : After-last_of g) → HasSearched (g.A.Shelf.site c.args.arena.now) c.args.pass.now c.scan_part-part.new.pass
+searched g c = let e = c.scan_part-part.ensures in searched_more (g.A.Shelf.site c.args.arena.now) c.args.pass.now c.loop-part.pass c.scan_part-part.new.pass c.loop-part.invariant.searched e.pass e.caller e.leaves
 
 more : (g : Over) (c : After-last_of g) → DonePart g.N.Node.layout g.T.Ruled.technique (g.A.Shelf.site c.args.arena.now).nodes c.args.pass.now.caller (next_from c.args.low c.loop-part.invariant.row.0) c.args.last (seen_of c.loop-part.pass) (seen_of c.scan_part-part.new.pass) c.scan_part-part.result
 more g c = let i = c.loop-part.invariant in
     subst (λ (z : ℕ). DonePart g.N.Node.layout g.T.Ruled.technique (g.A.Shelf.site c.args.arena.now).nodes c.args.pass.now.caller z c.args.last (seen_of c.loop-part.pass) (seen_of c.scan_part-part.new.pass) c.scan_part-part.result) i.row.3
-    (subst (λ (z : ℕ). DonePart g.N.Node.layout g.T.Ruled.technique (g.A.Shelf.site c.args.arena.now).nodes z c.loop-part.from c.args.last (seen_of c.loop-part.pass) (seen_of c.scan_part-part.new.pass) c.scan_part-part.result) i.caller c.scan_part-part.ensures.done)
+    (subst (λ (z : ℕ). DonePart g.N.Node.layout g.T.Ruled.technique (g.A.Shelf.site c.args.arena.now).nodes z c.loop-part.from c.args.last (seen_of c.loop-part.pass) (seen_of c.scan_part-part.new.pass) c.scan_part-part.result) i.searched.caller c.scan_part-part.ensures.done)
 
 done : (g : Over) (c : After-last_of g) → DoneParts g.N.Node.layout g.T.Ruled.technique (g.A.Shelf.site c.args.arena.now).nodes c.args.pass.now.caller c.args.low c.args.last (seen_of c.args.pass.now) (c.loop-part.invariant.row.0 ++ c.scan_part-part.result ∷ []) (seen_of c.scan_part-part.new.pass)
 done g c = done_more g.N.Node.layout g.T.Ruled.technique (g.A.Shelf.site c.args.arena.now).nodes c.args.pass.now.caller c.args.low c.args.last (seen_of c.args.pass.now) c.loop-part.invariant.row.0 (seen_of c.loop-part.pass) (seen_of c.scan_part-part.new.pass) c.scan_part-part.result c.loop-part.invariant.row.1 (more g c)
@@ -45,11 +39,8 @@ done g c = done_more g.N.Node.layout g.T.Ruled.technique (g.A.Shelf.site c.args.
 found : (g : Over) (c : After-or_before-found g) → c.or_before-found.result ≡ last_found (c.loop-part.invariant.row.0 ++ c.scan_part-part.result ∷ [])
 found g c = c.or_before-found.ensures ∙ ap (λ (f : Option Found). found_or f c.loop-part.found) c.last_of.ensures ∙ ap (found_or (last_of c.scan_part-part.result)) c.loop-part.invariant.row.2 ∙ sym (last_more c.loop-part.invariant.row.0 c.scan_part-part.result)
 
-pub returns-then-part-last-clause-caller : goal.returns-then-part-last-clause-caller
-returns-then-part-last-clause-caller g c = c.scan_part-part.ensures.caller ∙ c.loop-part.invariant.caller
-
-pub returns-then-part-last-clause-leaves : goal.returns-then-part-last-clause-leaves
-returns-then-part-last-clause-leaves g c = leaves g (goal.at.returns-then-part-last-clause-leaves g c).After-last_of
+pub returns-then-part-last-clause-searched : goal.returns-then-part-last-clause-searched
+returns-then-part-last-clause-searched g c = searched g (goal.at.returns-then-part-last-clause-searched g c).After-last_of
 
 pub returns-then-part-last-clause-done : goal.returns-then-part-last-clause-done
 returns-then-part-last-clause-done g c = let d = (goal.at.returns-then-part-last-clause-done g c).After-last_of in record {
@@ -64,9 +55,7 @@ loop-part-smaller g c = let m = more g (goal.at.loop-part-smaller g c).After-las
 
 pub loop-part-preserved : goal.loop-part-preserved
 loop-part-preserved g c = let d = (goal.at.loop-part-preserved g c).After-last_of in let m = more g d in let i = c.loop-part.invariant in record {
-  pass = c.scan_part-part.ensures.pass;
-  caller = c.scan_part-part.ensures.caller ∙ i.caller;
-  leaves = leaves g d;
+  searched = searched g d;
   row = (i.row.0 ++ c.scan_part-part.result ∷ [], done g d, found g (goal.at.loop-part-preserved g c).After-or_before-found, (let e = next_more c.args.low i.row.0 c.scan_part-part.result in omega (arith, e)));
   to = let t = m.span.1 in let f = c.if-part-last.false in omega (arith, t, f);
 }
