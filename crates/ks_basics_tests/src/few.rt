@@ -1,6 +1,6 @@
 ghost use Rattle.std.specs.Prelude.{◌≡◌};
 
-use crate::{Few, Pair};
+use ks_keysets::{Few, Pair};
 use std::process::Abort;
 
 /// The pair of a place with twice the place as its value.

@@ -1,6 +1,6 @@
 //! Worked histories.
 
-use crate::*;
+use ks_history::{Answered, BoxedFew, Op, Reply, Verdict, legal, lists_span, map_after};
 use ks_keysets::{Few, Pair};
 use std::alloc::AllocError;
 use std::collections::BTreeMap;

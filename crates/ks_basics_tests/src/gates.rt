@@ -1,4 +1,4 @@
-use crate::{Gate, Meet, NoGate, Point, Stand};
+use ks_gate::{Gate, Meet, NoGate, Point, Stand};
 use std::sync::atomic::AtomicU64;
 use std::sync::atomic::Ordering::SeqCst;
 use std::thread::{Threads, join};

@@ -1,7 +1,7 @@
 //! What no clause says: a worked row, and where the memory goes.
 ghost use Rattle.std.specs.Prelude.{◌≡◌};
 
-use crate::{Block, Memory, Source};
+use ks_block::{Block, Memory, Source};
 use std::alloc::{AllocError, Global};
 use std::cell::Cell;
 use std::test::Fail;

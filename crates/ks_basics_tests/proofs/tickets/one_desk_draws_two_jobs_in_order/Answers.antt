@@ -1,7 +1,7 @@
 use Rattle.std.proofs.Common.{rules, arith, ◌∙◌}
 use Rattle.atomic_table.proofs.Lists.{at_index}
-use Rattle.ks_tickets.proofs.Desks.{one_ended}
-use Rattle.ks_tickets.proofs.tests.one_desk_draws_two_jobs_in_order.Goals as goal
+use Rattle.ks_basics_tests.proofs.Jobs.{one_ended}
+use Rattle.ks_basics_tests.proofs.tickets.one_desk_draws_two_jobs_in_order.Goals as goal
 
 pub draw-requires : goal.draw-requires
 draw-requires g c = c.in_ok-tickets.ensures.desks.each 0 c.index_mut-desk.result.now (at_index c.in_ok-tickets.desks.items 0 c.index_mut-desk.result.now (let n = c.in_ok-tickets.ensures.count in omega arith) (search rules))

@@ -1,9 +1,7 @@
 ghost use Rattle.std.specs.Prelude.{◌≡◌, length, IfOk};
 ghost use Rattle.ks_tickets.specs.Clauses.{EachAs};
 
-use crate::desk::Tickets;
-use crate::fits_threads;
-use crate::ticketed::Ticketed;
+use ks_tickets::{Ticketed, Tickets, fits_threads};
 use std::alloc::{AllocError, Global};
 use std::test::Fail;
 use std::thread::{Threads, join};

@@ -2,7 +2,9 @@
 //! definitions. Many of those are not good: edges lead to nodes that are not live or that the graph does not have,
 //! nodes are not reached, walks go round, the root is free.
 
-use crate::*;
+use ks_keysets::{
+    Edge, Graph, NodeRecord, NodeState, Pair, Span, edges_apart, keyset_spans, walk_end,
+};
 use std::alloc::{AllocError, Global};
 
 const PLACES: [u64; 7] = [0, 7, 8, 11, 15, 16, u64::MAX];
