@@ -9,8 +9,6 @@
 mod block;
 mod cells;
 mod memory;
-#[cfg(test)]
-mod tests;
 
 pub use block::Block;
 pub use memory::{Memory, Pair, Source};

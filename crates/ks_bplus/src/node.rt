@@ -248,6 +248,3 @@ impl Ordered for BNode {
         self.parts.list(low, last, into);
     }
 }
-
-#[cfg(test)]
-mod tests;

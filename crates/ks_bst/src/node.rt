@@ -227,6 +227,3 @@ impl Unlinked for TNode {
         child.low = 0;
     }
 }
-
-#[cfg(test)]
-mod tests;

@@ -38,6 +38,3 @@ pub struct NoGate;
 impl Gate for NoGate {
     fn at(&self, _caller: u32, _point: Point) {}
 }
-
-#[cfg(test)]
-mod tests;

@@ -10,8 +10,6 @@ mod laws;
 mod replay;
 mod replies;
 mod span;
-#[cfg(test)]
-mod tests;
 
 pub use boxed::BoxedFew;
 use ks_keysets::Change;

@@ -109,6 +109,3 @@ impl PartialEq for Few {
 impl Eq for Few {
     ghost laws = { Prim.search (comparing, rules) };
 }
-
-#[cfg(test)]
-mod tests;

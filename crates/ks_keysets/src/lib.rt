@@ -9,8 +9,6 @@
 mod few;
 mod laws;
 mod readers;
-#[cfg(test)]
-mod tests;
 
 pub use few::Few;
 pub use laws::{found_law, keyset_law};

@@ -8,6 +8,3 @@ mod node;
 mod pairs;
 
 pub use node::ListNode;
-
-#[cfg(test)]
-mod tests;

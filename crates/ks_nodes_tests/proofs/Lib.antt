@@ -1,1 +1,2 @@
 pub mod FirstEdge
+pub mod Whole

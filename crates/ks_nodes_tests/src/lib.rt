@@ -8,6 +8,8 @@
 #[cfg(test)]
 mod asked;
 #[cfg(test)]
+mod bare;
+#[cfg(test)]
 mod listing;
 #[cfg(test)]
 mod plain;
@@ -15,3 +17,5 @@ mod plain;
 mod tests;
 #[cfg(test)]
 mod trial;
+#[cfg(test)]
+mod worked;

@@ -150,9 +150,19 @@ fn lists_when_grown_linked<N: Linked + Listed>(rt: &impl Abort, alloc: Global) {
 
 // (those with only a range or only a link begin blank, and are filled, in the tests below)
 #[test]
-fn blank_nodes_keep_a_pair(rt: HostRuntime) {
+fn blank_list_nodes_keep_a_pair(rt: HostRuntime) {
     keeps_a_pair::<ListNode>(&rt, rt.alloc());
+    keeps_a_pair::<WithRange<ListNode>>(&rt, rt.alloc());
+    keeps_a_pair::<WithRange<WithRange<ListNode>>>(&rt, rt.alloc());
+}
+
+#[test]
+fn a_blank_b_plus_node_keeps_a_pair(rt: HostRuntime) {
     keeps_a_pair::<BNode>(&rt, rt.alloc());
+}
+
+#[test]
+fn other_blank_nodes_keep_a_pair(rt: HostRuntime) {
     keeps_a_pair::<HNode>(&rt, rt.alloc());
     keeps_a_pair::<TNode>(&rt, rt.alloc());
     keeps_a_pair::<Boxed<BNode>>(&rt, rt.alloc());

@@ -1,5 +1,5 @@
 -- The desks of a table, as they are made and as they come together again.
-use Rattle.std.proofs.Common.{zero, suc, ◌≡◌, ◌≢◌, ℕ, ◌+◌, ◌-◌, ◌<◌, List, [], ◌∷◌, ◌++◌, length, length-append, get_or, set, sym, refl, ap, ◌∙◌, subst, ⊎_elim, arith}
+use Rattle.std.proofs.Common.{zero, suc, ◌≡◌, ◌≢◌, ℕ, ◌+◌, ◌-◌, ◌<◌, List, [], ◌∷◌, ◌++◌, length, length-append, sym, refl, ap, ◌∙◌, subst, ⊎_elim, arith}
 use Rattle.std.specs.Prelude.{Option}
 use Rattle.std.specs.List.{insert}
 use mathlib.Core.Option.{some, some-injective, some-ne-none}
@@ -132,12 +132,3 @@ module _ {J : Type 0} where
   pub all_in : (t : TableId) (ds : List (Desk J)) (base : Seat (Option J) View) → Joining t ds base → length ds ≡ 0 → base.me.0.parts ≡ 64
   all_in t [] base so none_left = let a = so.all in omega arith
   all_in t (d ∷ ds) base so none_left = absurd (omega arith)
-
-  -- the one desk of a table has ended, with the parts that it had
-  pub one_ended : (t : TableId) (xs : List (Desk J)) (a b : Desk J) → AreFreeAt t xs → length xs ≡ 1 → b ≡ get_or xs 0 b → HasEndedAt t a → parts_of a ≡ parts_of b → HaveEndedAt t (set xs 0 a)
-  one_ended t [] a b free one is ended parts = absurd (omega arith)
-  one_ended t (x ∷ []) a b free one is ended parts = record {
-    each = λ i d e. each_more (HasEndedAt t) [] a (λ j y f. absurd (some-ne-none y (sym f))) ended i d e;
-    all = let p = free.all in let q : parts_of b ≡ parts_of x = ap parts_of is in omega arith;
-  }
-  one_ended t (x ∷ y ∷ xs) a b free one is ended parts = absurd (omega arith)

@@ -11,8 +11,6 @@ mod desk;
 mod fit;
 mod plays;
 mod rule;
-#[cfg(test)]
-mod tests;
 mod ticketed;
 mod tickets;
 mod view;
