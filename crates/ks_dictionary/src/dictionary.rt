@@ -42,8 +42,11 @@ use std::alloc::{AllocError, Global};
 
 /// A map from keys to values that many callers use at once, each with a pass of its own.
 ///
-/// All calls are in one history: each once, each caller's in its order, and each after all that its pass had seen when
-/// it began. A call returns what the map held just before it in that history.
+/// All calls that are not put off are in one history: each once, each caller's in its order, and each after all that
+/// its pass had seen when it began. A call returns what the map held just before it in that history.
+///
+/// The time of a call, as its promises read it, begins with the last moment that its pass had seen before: the end of
+/// its caller's previous call, or what it has learnt since.
 #[derive(Drop)]
 pub struct Dictionary<N: Node, T: Ruled> {
     pub(crate) arena: Arena<N, T::Rule>,
@@ -114,13 +117,13 @@ impl<N: Node, T: Ruled + Template<N, Arena<N, <T as Ruled>::Rule>>> Dictionary<N
     ///
     /// # Errors
     ///
-    /// `Full` comes only if the key has no value, its node has no room, and each node was not free at some moment of
-    /// the call. Then the map is as before the call, which has its number in the history; splits that it made before
-    /// stay.
+    /// `Full` comes only if the key has no value, its node is full, and each node was not free at some moment in the
+    /// time of the call. Then the map is as before the call, which has its number in the history; splits that it made
+    /// before stay.
     ///
     /// Along links the edge to a node that was split off is added once the call has been decided. It is there in the
-    /// end if no other caller did anything meanwhile and two nodes are free then, over B+ nodes: their branches adopt
-    /// any edge while they are not full, and their halves have room.
+    /// end if no other caller did anything in the time of the call and two nodes are free then, over B+ nodes: their
+    /// branches adopt any edge while they are not full, and their halves have room.
     pub fn put<R: Runtime>(
         &self,
         rt: &R,
@@ -195,9 +198,9 @@ impl<N: Node, T: Ruled + Template<N, Arena<N, <T as Ruled>::Rule>>> Dictionary<N
         T::swap(rt, &self.arena, pass, gate, N::Places::place(key), old, new)
     }
 
-    /// Deletes a key, and returns the value that it had. If it had one, and no other caller did anything meanwhile, the
-    /// node whose keyset has the key's place is then not low, or fits with no right neighbour: by lock coupling and by
-    /// giving up, as no nodes are merged along links.
+    /// Deletes a key, and returns the value that it had. If it had one, and no other caller did anything in the time of
+    /// the call, the node whose keyset has the key's place is then not low, or fits with no right neighbour: by lock
+    /// coupling and by giving up, as no nodes are merged along links.
     pub fn del<R: Runtime>(&self, rt: &R, pass: &mut Pass<N, T::Rule>, key: u64) -> Numbered
         requires pass { IsIdlePassOf self.now pass.old }
         ensures pass { IsIdlePassOf self.now pass.new }
@@ -218,11 +221,12 @@ impl<N: Node, T: Ruled + Template<N, Arena<N, <T as Ruled>::Rule>>> Dictionary<N
     ///
     /// # Errors
     ///
-    /// `Busy` names a node on the search path of the key, and the other caller that held it; `Moved` a node that was on
-    /// it, until another caller changed it, and comes only by giving up; `Far` comes only if the call took as many
-    /// nodes as the dictionary has while another caller changed some, and never along links. Then the call is none of
-    /// the history: it changed nothing in the map, and has no number. None of these comes if no other caller does
-    /// anything during the call, or holds a node when it begins.
+    /// `Busy` names a node that was on the search path of the key, and the other caller that held it, each at some
+    /// moment in the time of the call; `Moved` a node that was on that path, whose inset later lacked the key's place,
+    /// and which another caller's Shape named, and comes only by giving up; `Far` comes only if the call took as many
+    /// nodes as the dictionary has while another caller made a Shape, and never along links. Then the call is none of
+    /// the history: it changed nothing in the map, and has no number. None of these comes if no other caller held a
+    /// node when the time of the call began, nor did anything in it.
     pub fn try_get(&self, pass: &mut Pass<N, T::Rule>, key: u64) -> Result<Numbered, Later>
         requires pass { IsIdlePassOf self.now pass.old }
         ensures pass { IsIdlePassOf self.now pass.new }
@@ -316,8 +320,8 @@ impl<N: Node, T: Ruled + Template<N, Arena<N, <T as Ruled>::Rule>>> Dictionary<N
         T::try_swap(&self.arena, pass, &NoGate, N::Places::place(key), old, new)
     }
 
-    /// Deletes a key, and returns the value that it had; it does not wait. Once the call is decided, a node that
-    /// another caller holds ends its merging, and no more.
+    /// Deletes a key, and returns the value that it had; it does not wait. Once the call is decided, its merging leaves
+    /// a right neighbour that another caller holds, and ends at a node on the search path that another holds.
     ///
     /// # Errors
     ///

@@ -45,10 +45,11 @@ fn noted(guide: &mut Guide, place: u64, at: NumberedAt) -> Numbered
     }
 }
 
-/// Calls with a guide: each does what the call without does, and begins at the node that the guide guesses for the key's
-/// place. If the node no longer has the place, it is taken in vain, and the call searches from the root. The guide then
-/// has the node at which the call was decided. A guide may be used for any dictionary: one that noted calls of another has
-/// guesses that serve for nothing.
+/// Calls with a guide: each does what the call without does. It first takes the node that the guide guesses for the
+/// key's place, if that is neither free nor held and no other caller does anything in the time of the call. If the
+/// search for the place may not continue there, the node is taken in vain, and the call searches from the root. The
+/// guide then guesses for the place the node at which the call was decided. A guide may be used for any dictionary: one
+/// that noted calls of another has guesses that serve for nothing.
 impl<N: Node, T: Ruled + Hinting<N, Arena<N, <T as Ruled>::Rule>>> Dictionary<N, T> {
     /// Returns the value of a key, as `get`.
     pub fn get_near<R: Runtime>(
@@ -81,7 +82,7 @@ impl<N: Node, T: Ruled + Hinting<N, Arena<N, <T as Ruled>::Rule>>> Dictionary<N,
     ///
     /// # Errors
     ///
-    /// `Full` as for `put`. The guide then has no new leaf.
+    /// `Full` as for `put`. The guide then stays as it was.
     pub fn put_near<R: Runtime>(
         &self,
         rt: &R,

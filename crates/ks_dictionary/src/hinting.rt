@@ -19,9 +19,11 @@ use ks_node::Node;
 use ks_places::Placing;
 use ks_shape::{Full, Hinting, NumberedAt, Ruled};
 
-/// Calls from a hint: each does what the call without one does, and begins at the hinted node. Any hint is right: if the
-/// search for the key's place may not continue from that node, the call searches from the root. A hint that is no node of
-/// the dictionary is none. The result says also where the call was decided: the node, and its range in places.
+/// Calls from a hint: each does what the call without one does. It first takes the hinted node, if that is neither free
+/// nor held and no other caller does anything in the time of the call. Any hint is right: if the search for the key's
+/// place may not continue from that node, the call searches from the root. A hint that is no node of the dictionary is
+/// none. The result says also where the call was decided: the node, and its range in places; and the last branch that
+/// its search passed, if it passed one.
 impl<N: Node, T: Ruled + Hinting<N, Arena<N, <T as Ruled>::Rule>>> Dictionary<N, T> {
     /// Returns the value of a key, as `get`.
     pub fn get_from<R: Runtime>(

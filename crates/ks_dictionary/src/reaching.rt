@@ -55,7 +55,7 @@ pub trait Reaching<N: Node, A: Shelf, T: Ruled> {
         ensures scan { IsScanOf low last most into.new.items result }
         ensures keys { (k : ℕ) → k < 2 ^ 64 → N.Places.place_of k ≡ k };
 
-    /// Moves the value at `from` to `to`, another place, and returns it. If there is none, nothing changes.
+    /// Moves the value at `from` to `to`, another place, and returns it. If there is none, the map stays as it was.
     ///
     /// # Errors
     ///

@@ -370,8 +370,8 @@ pub(crate) fn work_at<
     }
 }
 
-/// Serves the callers of all tickets, by all workers at once, each at its desk and with its guide. A worker serves a caller
-/// whole before it draws the next.
+/// Serves the callers of all tickets, by all workers at once, each at its desk and with its guide, if it has one. A
+/// worker serves a caller whole before it draws the next.
 pub fn work<
     N: Node + Send,
     T: Ruled + Serving<N, Arena<N, <T as Ruled>::Rule>>,
