@@ -13,8 +13,9 @@ ghost use Rattle.ks_arena.specs.Of.{HeldAlone, WasAlone, SameCaller, caller_of};
 ghost use Rattle.ks_shape.specs.Answers.{number_in, reply_in};
 ghost use Rattle.ks_shape.specs.Does.{OnlyDels, OnlyFills, OnlySearches};
 ghost use Rattle.ks_shape.specs.Tries.{IsDoneIn, MayTell, PutMayTell};
-ghost use Rattle.ks_shape.specs.Upkeep.{AreNewLed, HasTwoFree, IsTidyIn, LeadsNew, LeavesTidy};
+ghost use Rattle.ks_shape.specs.Upkeep.{IsTidyIn, LeavesTidy};
 ghost use Rattle.ks_dictionary.specs.Ended.{HasEndedWith, history};
+ghost use Rattle.ks_dictionary.specs.Led.{HasLedNew};
 ghost use Rattle.ks_dictionary.specs.Of.{
   AreAllPassesOf,
   AreNewPassesOf,
@@ -138,9 +139,7 @@ impl<N: Node, T: Ruled + Template<N, Arena<N, <T as Ruled>::Rule>>> Dictionary<N
         ensures done { HasCalledIn self.now T.technique (Put (N.Places.place_of key) value)
             pass.old pass.new (reply_in result) (number_in result) }
         ensures reuse { ReusesSafely T.Rule.lasts (seen_of pass.old) (seen_of pass.new) }
-        ensures led { LeadsNew T.technique → IsTrue N.branches_adopt → IsTrue N.halves_have_room →
-            WasAlone pass.old pass.new → HasTwoFree (site_of self.now) pass.new →
-            AreNewLed (site_of self.now) pass.old pass.new }
+        ensures led { HasLedNew self.now T.technique pass.old pass.new }
     {
         let (rt, gate) = rt.parts();
         reuse_law::<T::Rule>();
@@ -166,9 +165,7 @@ impl<N: Node, T: Ruled + Template<N, Arena<N, <T as Ruled>::Rule>>> Dictionary<N
         ensures done { HasCalledIn self.now T.technique (Add (N.Places.place_of key) value)
             pass.old pass.new (reply_in result) (number_in result) }
         ensures reuse { ReusesSafely T.Rule.lasts (seen_of pass.old) (seen_of pass.new) }
-        ensures led { LeadsNew T.technique → IsTrue N.branches_adopt → IsTrue N.halves_have_room →
-            WasAlone pass.old pass.new → HasTwoFree (site_of self.now) pass.new →
-            AreNewLed (site_of self.now) pass.old pass.new }
+        ensures led { HasLedNew self.now T.technique pass.old pass.new }
     {
         let (rt, gate) = rt.parts();
         reuse_law::<T::Rule>();

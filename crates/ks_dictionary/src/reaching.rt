@@ -82,9 +82,24 @@ pub trait Reaching<N: Node, A: Shelf, T: Ruled> {
 pub struct AtOneKey;
 
 impl<N: Node, A: Shelf, T: Ruled> Reaching<N, A, T> for AtOneKey {
-    ghost scans = { false };
-
     ghost moves = { false };
+
+    // No caller may call it.
+    fn move_value<R: Wait, G: Gate>(
+        &self,
+        _rt: &R,
+        _arena: &A,
+        pass: &mut Pass<N, T::Rule>,
+        _gate: &G,
+        _from: u64,
+        _to: u64,
+    ) -> Result<Numbered, MoveLeft>
+        ensures { pass.new ≡ pass.old }
+    {
+        Err(MoveLeft::Full { number: 0 })
+    }
+
+    ghost scans = { false };
 
     fn serves_scans(&self) -> bool {
         false
@@ -106,20 +121,5 @@ impl<N: Node, A: Shelf, T: Ruled> Reaching<N, A, T> for AtOneKey {
         ensures into { into.new ≡ into.old }
     {
         Scanned::Whole
-    }
-
-    // Nor this.
-    fn move_value<R: Wait, G: Gate>(
-        &self,
-        _rt: &R,
-        _arena: &A,
-        pass: &mut Pass<N, T::Rule>,
-        _gate: &G,
-        _from: u64,
-        _to: u64,
-    ) -> Result<Numbered, MoveLeft>
-        ensures { pass.new ≡ pass.old }
-    {
-        Err(MoveLeft::Full { number: 0 })
     }
 }
