@@ -5,6 +5,7 @@ pub mod Ended
 pub mod Guided
 pub mod Kept
 pub mod Laws
+pub mod Led
 pub mod Of
 pub mod Rooms
 pub mod Work

@@ -6,6 +6,7 @@
 pub enum Aiding {
     /// Each worker has a guide of its own, in which it notes where its calls were decided.
     Guides,
-    /// All workers read one list of hints. Where the calls of the first caller were decided is posted to it, and nothing else.
+    /// All workers read one list of hints. Where the calls of the first caller at one key were decided is posted to it,
+    /// and nothing else.
     Hints,
 }

@@ -13,8 +13,9 @@ ghost use Rattle.ks_arena.specs.Of.{HeldAlone, WasAlone, SameCaller, caller_of};
 ghost use Rattle.ks_shape.specs.Answers.{number_in, reply_in};
 ghost use Rattle.ks_shape.specs.Does.{OnlyDels, OnlyFills, OnlySearches};
 ghost use Rattle.ks_shape.specs.Tries.{IsDoneIn, MayTell, PutMayTell};
-ghost use Rattle.ks_shape.specs.Upkeep.{AreNewLed, HasTwoFree, IsTidyIn, LeadsNew, LeavesTidy};
+ghost use Rattle.ks_shape.specs.Upkeep.{IsTidyIn, LeavesTidy};
 ghost use Rattle.ks_dictionary.specs.Ended.{HasEndedWith, history};
+ghost use Rattle.ks_dictionary.specs.Led.{HasLedNew};
 ghost use Rattle.ks_dictionary.specs.Of.{
   AreAllPassesOf,
   AreNewPassesOf,
@@ -42,8 +43,11 @@ use std::alloc::{AllocError, Global};
 
 /// A map from keys to values that many callers use at once, each with a pass of its own.
 ///
-/// All calls are in one history: each once, each caller's in its order, and each after all that its pass had seen when
-/// it began. A call returns what the map held just before it in that history.
+/// All calls that are not put off are in one history: each once, each caller's in its order, and each after all that
+/// its pass had seen when it began. A call returns what the map held just before it in that history.
+///
+/// The time of a call, as its promises read it, begins with the last moment that its pass had seen before: the end of
+/// its caller's previous call, or what it has learnt since.
 #[derive(Drop)]
 pub struct Dictionary<N: Node, T: Ruled> {
     pub(crate) arena: Arena<N, T::Rule>,
@@ -114,13 +118,13 @@ impl<N: Node, T: Ruled + Template<N, Arena<N, <T as Ruled>::Rule>>> Dictionary<N
     ///
     /// # Errors
     ///
-    /// `Full` comes only if the key has no value, its node has no room, and each node was not free at some moment of
-    /// the call. Then the map is as before the call, which has its number in the history; splits that it made before
-    /// stay.
+    /// `Full` comes only if the key has no value, its node is full, and each node was not free at some moment in the
+    /// time of the call. Then the map is as before the call, which has its number in the history; splits that it made
+    /// before stay.
     ///
     /// Along links the edge to a node that was split off is added once the call has been decided. It is there in the
-    /// end if no other caller did anything meanwhile and two nodes are free then, over B+ nodes: their branches adopt
-    /// any edge while they are not full, and their halves have room.
+    /// end if no other caller did anything in the time of the call and two nodes are free then, over B+ nodes: their
+    /// branches adopt any edge while they are not full, and their halves have room.
     pub fn put<R: Runtime>(
         &self,
         rt: &R,
@@ -135,9 +139,7 @@ impl<N: Node, T: Ruled + Template<N, Arena<N, <T as Ruled>::Rule>>> Dictionary<N
         ensures done { HasCalledIn self.now T.technique (Put (N.Places.place_of key) value)
             pass.old pass.new (reply_in result) (number_in result) }
         ensures reuse { ReusesSafely T.Rule.lasts (seen_of pass.old) (seen_of pass.new) }
-        ensures led { LeadsNew T.technique → IsTrue N.branches_adopt → IsTrue N.halves_have_room →
-            WasAlone pass.old pass.new → HasTwoFree (site_of self.now) pass.new →
-            AreNewLed (site_of self.now) pass.old pass.new }
+        ensures led { HasLedNew self.now T.technique pass.old pass.new }
     {
         let (rt, gate) = rt.parts();
         reuse_law::<T::Rule>();
@@ -163,9 +165,7 @@ impl<N: Node, T: Ruled + Template<N, Arena<N, <T as Ruled>::Rule>>> Dictionary<N
         ensures done { HasCalledIn self.now T.technique (Add (N.Places.place_of key) value)
             pass.old pass.new (reply_in result) (number_in result) }
         ensures reuse { ReusesSafely T.Rule.lasts (seen_of pass.old) (seen_of pass.new) }
-        ensures led { LeadsNew T.technique → IsTrue N.branches_adopt → IsTrue N.halves_have_room →
-            WasAlone pass.old pass.new → HasTwoFree (site_of self.now) pass.new →
-            AreNewLed (site_of self.now) pass.old pass.new }
+        ensures led { HasLedNew self.now T.technique pass.old pass.new }
     {
         let (rt, gate) = rt.parts();
         reuse_law::<T::Rule>();
@@ -195,9 +195,9 @@ impl<N: Node, T: Ruled + Template<N, Arena<N, <T as Ruled>::Rule>>> Dictionary<N
         T::swap(rt, &self.arena, pass, gate, N::Places::place(key), old, new)
     }
 
-    /// Deletes a key, and returns the value that it had. If it had one, and no other caller did anything meanwhile, the
-    /// node whose keyset has the key's place is then not low, or fits with no right neighbour: by lock coupling and by
-    /// giving up, as no nodes are merged along links.
+    /// Deletes a key, and returns the value that it had. If it had one, and no other caller did anything in the time of
+    /// the call, the node whose keyset has the key's place is then not low, or fits with no right neighbour: by lock
+    /// coupling and by giving up, as no nodes are merged along links.
     pub fn del<R: Runtime>(&self, rt: &R, pass: &mut Pass<N, T::Rule>, key: u64) -> Numbered
         requires pass { IsIdlePassOf self.now pass.old }
         ensures pass { IsIdlePassOf self.now pass.new }
@@ -218,11 +218,12 @@ impl<N: Node, T: Ruled + Template<N, Arena<N, <T as Ruled>::Rule>>> Dictionary<N
     ///
     /// # Errors
     ///
-    /// `Busy` names a node on the search path of the key, and the other caller that held it; `Moved` a node that was on
-    /// it, until another caller changed it, and comes only by giving up; `Far` comes only if the call took as many
-    /// nodes as the dictionary has while another caller changed some, and never along links. Then the call is none of
-    /// the history: it changed nothing in the map, and has no number. None of these comes if no other caller does
-    /// anything during the call, or holds a node when it begins.
+    /// `Busy` names a node that was on the search path of the key, and the other caller that held it, each at some
+    /// moment in the time of the call; `Moved` a node that was on that path, whose inset later lacked the key's place,
+    /// and which another caller's Shape named, and comes only by giving up; `Far` comes only if the call took as many
+    /// nodes as the dictionary has while another caller made a Shape, and never along links. Then the call is none of
+    /// the history: it changed nothing in the map, and has no number. None of these comes if no other caller held a
+    /// node when the time of the call began, nor did anything in it.
     pub fn try_get(&self, pass: &mut Pass<N, T::Rule>, key: u64) -> Result<Numbered, Later>
         requires pass { IsIdlePassOf self.now pass.old }
         ensures pass { IsIdlePassOf self.now pass.new }
@@ -316,8 +317,8 @@ impl<N: Node, T: Ruled + Template<N, Arena<N, <T as Ruled>::Rule>>> Dictionary<N
         T::try_swap(&self.arena, pass, &NoGate, N::Places::place(key), old, new)
     }
 
-    /// Deletes a key, and returns the value that it had; it does not wait. Once the call is decided, a node that
-    /// another caller holds ends its merging, and no more.
+    /// Deletes a key, and returns the value that it had; it does not wait. Once the call is decided, its merging leaves
+    /// a right neighbour that another caller holds, and ends at a node on the search path that another holds.
     ///
     /// # Errors
     ///

@@ -1,5 +1,5 @@
 //! Calls that begin where a guide expects them to be decided.
-ghost use Rattle.std.specs.Prelude.{◌≡◌, ◌≢◌, IfOk, IsTrue, None, Some};
+ghost use Rattle.std.specs.Prelude.{◌≡◌, ◌≢◌, IfOk, None, Some};
 ghost use Rattle.ks_history.specs.declared.Op.TheVariants.{Add, Del, Get, Put, Swap};
 ghost use Rattle.ks_history.specs.Map.{told};
 ghost use Rattle.ks_guide.specs.Guides.{guessed};
@@ -9,8 +9,9 @@ ghost use Rattle.ks_arena.specs.Of.{WasAlone, SameCaller};
 ghost use Rattle.ks_shape.specs.Answers.{number_in, reply_in};
 ghost use Rattle.ks_shape.specs.Does.{OnlyDels, OnlyFills, OnlySearches};
 ghost use Rattle.ks_shape.specs.Hinted.{IsWhere};
-ghost use Rattle.ks_shape.specs.Upkeep.{AreNewLed, HasTwoFree, IsTidyIn, LeadsNew, LeavesTidy};
+ghost use Rattle.ks_shape.specs.Upkeep.{IsTidyIn, LeavesTidy};
 ghost use Rattle.ks_dictionary.specs.Guided.{BeginsNear, HasNoted};
+ghost use Rattle.ks_dictionary.specs.Led.{HasLedNew};
 ghost use Rattle.ks_dictionary.specs.Of.{HasCalledIn, IsIdlePassOf, site_of};
 
 use crate::dictionary::Dictionary;
@@ -45,10 +46,11 @@ fn noted(guide: &mut Guide, place: u64, at: NumberedAt) -> Numbered
     }
 }
 
-/// Calls with a guide: each does what the call without does, and begins at the node that the guide guesses for the key's
-/// place. If the node no longer has the place, it is taken in vain, and the call searches from the root. The guide then
-/// has the node at which the call was decided. A guide may be used for any dictionary: one that noted calls of another has
-/// guesses that serve for nothing.
+/// Calls with a guide: each does what the call without does. It first takes the node that the guide guesses for the
+/// key's place, if that is neither free nor held and no other caller does anything in the time of the call. If the
+/// search for the place may not continue there, the node is taken in vain, and the call searches from the root. The
+/// guide then guesses for the place the node at which the call was decided. A guide may be used for any dictionary: one
+/// that noted calls of another has guesses that serve for nothing.
 impl<N: Node, T: Ruled + Hinting<N, Arena<N, <T as Ruled>::Rule>>> Dictionary<N, T> {
     /// Returns the value of a key, as `get`.
     pub fn get_near<R: Runtime>(
@@ -81,7 +83,7 @@ impl<N: Node, T: Ruled + Hinting<N, Arena<N, <T as Ruled>::Rule>>> Dictionary<N,
     ///
     /// # Errors
     ///
-    /// `Full` as for `put`. The guide then has no new leaf.
+    /// `Full` as for `put`. The guide then stays as it was.
     pub fn put_near<R: Runtime>(
         &self,
         rt: &R,
@@ -97,9 +99,7 @@ impl<N: Node, T: Ruled + Hinting<N, Arena<N, <T as Ruled>::Rule>>> Dictionary<N,
         ensures done { HasCalledIn self.now T.technique (Put (N.Places.place_of key) value)
             pass.old pass.new (reply_in result) (number_in result) }
         ensures reuse { ReusesSafely T.Rule.lasts (seen_of pass.old) (seen_of pass.new) }
-        ensures led { LeadsNew T.technique → IsTrue N.branches_adopt → IsTrue N.halves_have_room →
-            WasAlone pass.old pass.new → HasTwoFree (site_of self.now) pass.new →
-            AreNewLed (site_of self.now) pass.old pass.new }
+        ensures led { HasLedNew self.now T.technique pass.old pass.new }
         ensures first { BeginsNear (site_of self.now) guide.old (N.Places.place_of key) pass.old pass.new }
         ensures noted { IfOk result (λ answer. HasNoted N.layout T.technique (site_of self.now)
             (Put (N.Places.place_of key) value) pass.old pass.new answer guide.new (N.Places.place_of key)) }
@@ -134,9 +134,7 @@ impl<N: Node, T: Ruled + Hinting<N, Arena<N, <T as Ruled>::Rule>>> Dictionary<N,
         ensures done { HasCalledIn self.now T.technique (Add (N.Places.place_of key) value)
             pass.old pass.new (reply_in result) (number_in result) }
         ensures reuse { ReusesSafely T.Rule.lasts (seen_of pass.old) (seen_of pass.new) }
-        ensures led { LeadsNew T.technique → IsTrue N.branches_adopt → IsTrue N.halves_have_room →
-            WasAlone pass.old pass.new → HasTwoFree (site_of self.now) pass.new →
-            AreNewLed (site_of self.now) pass.old pass.new }
+        ensures led { HasLedNew self.now T.technique pass.old pass.new }
         ensures first { BeginsNear (site_of self.now) guide.old (N.Places.place_of key) pass.old pass.new }
         ensures noted { IfOk result (λ answer. HasNoted N.layout T.technique (site_of self.now)
             (Add (N.Places.place_of key) value) pass.old pass.new answer guide.new (N.Places.place_of key)) }

@@ -15,7 +15,7 @@ use crate::job::Job;
 use crate::reaching::Reaching;
 use crate::reader::{Poster, Reader};
 use crate::worker::Worker;
-use crate::workers::{serve_drawn, work_at};
+use crate::workers::work_at;
 use ks_aid::Serving;
 use ks_arena::Arena;
 use ks_gate::Gate;
@@ -55,17 +55,7 @@ fn serve_first<
     ensures same { IsSameDesk desk.old desk.new }
 {
     let mut poster = Poster { reader, writer };
-    serve_drawn(
-        rt,
-        dictionary,
-        gate,
-        tickets,
-        desk,
-        &mut poster,
-        reach,
-        ticket,
-        job,
-    );
+    dictionary.serve_drawn(rt, gate, tickets, desk, &mut poster, reach, ticket, job);
 }
 
 /// Serves the caller that was drawn, with the writer, and then draws others and serves each without it, until none is left.

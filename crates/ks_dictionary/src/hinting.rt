@@ -1,5 +1,5 @@
 //! Calls by key that begin at a hint, and say where they were decided.
-ghost use Rattle.std.specs.Prelude.{◌≡◌, ◌≢◌, IfOk, IfSome, IsTrue, None};
+ghost use Rattle.std.specs.Prelude.{◌≡◌, ◌≢◌, IfOk, IfSome, None};
 ghost use Rattle.ks_history.specs.declared.Op.TheVariants.{Add, Del, Get, Put, Swap};
 ghost use Rattle.ks_history.specs.Map.{told};
 ghost use Rattle.ks_arena.specs.Reuse.{ReusesSafely};
@@ -8,7 +8,8 @@ ghost use Rattle.ks_arena.specs.Of.{WasAlone, SameCaller};
 ghost use Rattle.ks_shape.specs.Answers.{number_at, reply_at};
 ghost use Rattle.ks_shape.specs.Does.{OnlyDels, OnlyFills, OnlySearches};
 ghost use Rattle.ks_shape.specs.Hinted.{BeginsAtHint, HasPassed, IsDoneWhere, IsWhere};
-ghost use Rattle.ks_shape.specs.Upkeep.{AreNewLed, HasTwoFree, IsTidyIn, LeadsNew, LeavesTidy};
+ghost use Rattle.ks_shape.specs.Upkeep.{IsTidyIn, LeavesTidy};
+ghost use Rattle.ks_dictionary.specs.Led.{HasLedNew};
 ghost use Rattle.ks_dictionary.specs.Of.{HasCalledIn, IsIdlePassOf, nodes_of, site_of};
 
 use crate::dictionary::Dictionary;
@@ -19,9 +20,11 @@ use ks_node::Node;
 use ks_places::Placing;
 use ks_shape::{Full, Hinting, NumberedAt, Ruled};
 
-/// Calls from a hint: each does what the call without one does, and begins at the hinted node. Any hint is right: if the
-/// search for the key's place may not continue from that node, the call searches from the root. A hint that is no node of
-/// the dictionary is none. The result says also where the call was decided: the node, and its range in places.
+/// Calls from a hint: each does what the call without one does. It first takes the hinted node, if that is neither free
+/// nor held and no other caller does anything in the time of the call. Any hint is right: if the search for the key's
+/// place may not continue from that node, the call searches from the root. A hint that is no node of the dictionary is
+/// none. The result says also where the call was decided: the node, and its range in places; and the last branch that
+/// its search passed, if it passed one.
 impl<N: Node, T: Ruled + Hinting<N, Arena<N, <T as Ruled>::Rule>>> Dictionary<N, T> {
     /// Returns the value of a key, as `get`.
     pub fn get_from<R: Runtime>(
@@ -70,9 +73,7 @@ impl<N: Node, T: Ruled + Hinting<N, Arena<N, <T as Ruled>::Rule>>> Dictionary<N,
         ensures done { HasCalledIn self.now T.technique (Put (N.Places.place_of key) value)
             pass.old pass.new (reply_at result) (number_at result) }
         ensures reuse { ReusesSafely T.Rule.lasts (seen_of pass.old) (seen_of pass.new) }
-        ensures led { LeadsNew T.technique → IsTrue N.branches_adopt → IsTrue N.halves_have_room →
-            WasAlone pass.old pass.new → HasTwoFree (site_of self.now) pass.new →
-            AreNewLed (site_of self.now) pass.old pass.new }
+        ensures led { HasLedNew self.now T.technique pass.old pass.new }
         ensures at { IfOk result (IsDoneWhere N.layout T.technique (site_of self.now)
             (Put (N.Places.place_of key) value) pass.old pass.new) }
         ensures within { IfOk result (IsWhere (N.Places.place_of key)) }
@@ -113,9 +114,7 @@ impl<N: Node, T: Ruled + Hinting<N, Arena<N, <T as Ruled>::Rule>>> Dictionary<N,
         ensures done { HasCalledIn self.now T.technique (Add (N.Places.place_of key) value)
             pass.old pass.new (reply_at result) (number_at result) }
         ensures reuse { ReusesSafely T.Rule.lasts (seen_of pass.old) (seen_of pass.new) }
-        ensures led { LeadsNew T.technique → IsTrue N.branches_adopt → IsTrue N.halves_have_room →
-            WasAlone pass.old pass.new → HasTwoFree (site_of self.now) pass.new →
-            AreNewLed (site_of self.now) pass.old pass.new }
+        ensures led { HasLedNew self.now T.technique pass.old pass.new }
         ensures at { IfOk result (IsDoneWhere N.layout T.technique (site_of self.now)
             (Add (N.Places.place_of key) value) pass.old pass.new) }
         ensures within { IfOk result (IsWhere (N.Places.place_of key)) }

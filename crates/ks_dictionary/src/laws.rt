@@ -50,7 +50,8 @@ impl<N: Node> Closed<N> {
         keyset_theorem();
     }
 
-    /// In a dictionary that has ended an add found nothing at most once at a place, until a call removed what it added.
+    /// In a dictionary that has ended an add found nothing at most once at a place, until a call removed the value
+    /// there, or moved it to another place.
     pub fn once_law(&self)
         requires { HasEnded (sort_of N.layout N.ranged) N.body self.now }
         ensures { AddedOnce (calls_of (history self.now)) }
@@ -69,7 +70,8 @@ pub fn kept_law()
         FindsPut p v found (calls_of l) }
 {}
 
-/// In a legal history of a map an add finds nothing at most once at a place, until a call removes what it added.
+/// In a legal history of a map an add finds nothing at most once at a place, until a call removes the value there, or
+/// moves it to another place.
 pub fn once_law()
     ensures { (calls : List Answered) → Legal calls → AddedOnce calls }
 {}

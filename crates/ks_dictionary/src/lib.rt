@@ -1,10 +1,12 @@
 //! Dictionaries that many callers use at once: keys for places, numbered calls, and the work of all callers.
 //!
 //! A `Dictionary` is an arena of nodes and a technique by which callers come from node to node. Its calls take keys;
-//! each occurs once, with its number, in one history of a map. `serve_callers` runs a script for each of many callers,
-//! by workers that draw whole callers, and returns the replies to each and the map at the end.
+//! each, unless it is put off, occurs once, with its number, in one history of a map; so does each part of a scan.
+//! `serve_callers` runs a script for each of many callers, by workers that draw whole callers, and returns the replies
+//! to each and the map at the end.
 //!
-//! The calls of a dictionary, and `work`, which runs the callers, take no allocator and report no lack of memory.
+//! The calls of a dictionary that has started, and `work`, which runs the callers, take no allocator and report no lack
+//! of memory.
 #![tactic(auto)]
 
 mod about;

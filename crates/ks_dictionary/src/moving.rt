@@ -17,14 +17,15 @@ use ks_places::Placing;
 use ks_shape::{MoveLeft, Moving, Numbered, Ruled};
 
 impl<N: Node, T: Ruled + Moving<N, Arena<N, <T as Ruled>::Rule>>> Dictionary<N, T> {
-    /// Moves the value of a key to another one, which has none, and returns it; a key that has no value remains so, and
-    /// nothing changes. It is one call of the history: no other call sees the value under both keys, or under neither.
+    /// Moves the value of a key to another one, which has none, and returns it; if the key has no value, the map stays
+    /// as it was. It is one call of the history: no other call sees the value under both keys, or under neither. Splits
+    /// that it made stay in any case.
     ///
     /// # Errors
     ///
-    /// `Kept` if both keys have a value: both remain. `Full` comes only if `from` has a value, `to` has none, they are in two
-    /// nodes, that of `to` has no room, and each node was not free at some moment of the call. Then the map is as before the
-    /// call, which has its number in the history; splits that it made before stay.
+    /// `Kept` if both keys have a value: both remain. `Full` comes only if `from` has a value, `to` has none, they are
+    /// in two nodes, that of `to` is full, and each node was not free at some moment in the time of the call. Then the
+    /// map is as before the call. Either has its number in the history.
     pub fn move_value<R: Runtime>(
         &self,
         rt: &R,

@@ -55,7 +55,7 @@ pub trait Reaching<N: Node, A: Shelf, T: Ruled> {
         ensures scan { IsScanOf low last most into.new.items result }
         ensures keys { (k : ℕ) → k < 2 ^ 64 → N.Places.place_of k ≡ k };
 
-    /// Moves the value at `from` to `to`, another place, and returns it. If there is none, nothing changes.
+    /// Moves the value at `from` to `to`, another place, and returns it. If there is none, the map stays as it was.
     ///
     /// # Errors
     ///
@@ -82,9 +82,24 @@ pub trait Reaching<N: Node, A: Shelf, T: Ruled> {
 pub struct AtOneKey;
 
 impl<N: Node, A: Shelf, T: Ruled> Reaching<N, A, T> for AtOneKey {
-    ghost scans = { false };
-
     ghost moves = { false };
+
+    // No caller may call it.
+    fn move_value<R: Wait, G: Gate>(
+        &self,
+        _rt: &R,
+        _arena: &A,
+        pass: &mut Pass<N, T::Rule>,
+        _gate: &G,
+        _from: u64,
+        _to: u64,
+    ) -> Result<Numbered, MoveLeft>
+        ensures { pass.new ≡ pass.old }
+    {
+        Err(MoveLeft::Full { number: 0 })
+    }
+
+    ghost scans = { false };
 
     fn serves_scans(&self) -> bool {
         false
@@ -106,20 +121,5 @@ impl<N: Node, A: Shelf, T: Ruled> Reaching<N, A, T> for AtOneKey {
         ensures into { into.new ≡ into.old }
     {
         Scanned::Whole
-    }
-
-    // Nor this.
-    fn move_value<R: Wait, G: Gate>(
-        &self,
-        _rt: &R,
-        _arena: &A,
-        pass: &mut Pass<N, T::Rule>,
-        _gate: &G,
-        _from: u64,
-        _to: u64,
-    ) -> Result<Numbered, MoveLeft>
-        ensures { pass.new ≡ pass.old }
-    {
-        Err(MoveLeft::Full { number: 0 })
     }
 }

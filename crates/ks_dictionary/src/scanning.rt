@@ -67,8 +67,9 @@ impl<N: Node, T: Ruled + Scanning<N, Arena<N, <T as Ruled>::Rule>>> Dictionary<N
     /// after part from `low` on, as `scan_into` does, until one has a pair, and returns that part's first one. It returns
     /// `None` if no part up to `last` has a pair.
     ///
-    /// Each part is one call of the history. That at which the pair was found had no key from its first one to the pair's,
-    /// and each part before it had no key at all, each at its own moment. It needs no memory.
+    /// Each part is one call of the history. That at which the pair was found had no key from its first one to the
+    /// pair's, and each part before it had no key at all, each at its own moment: so the key need not have been the
+    /// least one at any moment. It needs no memory.
     pub fn first_in<R: Runtime>(
         &self,
         rt: &R,
@@ -94,8 +95,9 @@ impl<N: Node, T: Ruled + Scanning<N, Arena<N, <T as Ruled>::Rule>>> Dictionary<N
     /// whole span part after part, as `scan_into` does, and returns the last pair of the last part that has one, or `None`
     /// if none has.
     ///
-    /// Each part is one call of the history. That at which the pair was found had no key after the pair's, and each part
-    /// after it had no key at all, each at its own moment. It needs no memory.
+    /// Each part is one call of the history. That at which the pair was found had no key after the pair's, and each
+    /// part after it had no key at all, each at its own moment: so the key need not have been the greatest one at any
+    /// moment. It needs no memory.
     pub fn last_in<R: Runtime>(
         &self,
         rt: &R,

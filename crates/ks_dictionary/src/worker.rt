@@ -63,10 +63,10 @@ pub(crate) fn readers_at<J>(
 {
     let mut workers = Vec::with_capacity(alloc, desks.len())?;
     for (desk, hints) in desks.into_iter().zip(readers) {
-        workers.push(Worker {
+        workers.push_reserved(Worker {
             desk,
             aid: Reader { hints },
-        })?;
+        });
     }
     Ok(workers)
 }
@@ -85,7 +85,7 @@ pub(crate) fn desks_of<J, H: Drop>(
     let mut desks = Vec::with_capacity(alloc, workers.len())?;
     for worker in workers {
         let Worker { desk, aid: _ } = worker;
-        desks.push(desk)?;
+        desks.push_reserved(desk);
     }
     Ok(desks)
 }

@@ -6,11 +6,11 @@ use Rattle.ks_arena.specs.Clauses.{seen_of}
 use Rattle.ks_dictionary.specs.Of.{IsIdlePassOf}
 use Rattle.ks_dictionary.specs.Rooms.{HaveRooms}
 use Rattle.ks_dictionary.specs.Work.{call_at}
-use Rattle.ks_dictionary.proofs.workers.call_each.Given as goal
+use Rattle.ks_dictionary.proofs.dictionary.Dictionary.call_each.Given as goal
 
 abbrev pub invariant-loop-at : goal.invariant-loop-at
 invariant-loop-at g l = record {
-  pass : IsIdlePassOf l.dictionary l.pass;
+  pass : IsIdlePassOf l.self l.pass;
   caller : l.pass.caller ≡ l.fn.pass.caller;
   long : length l.said.items ≡ l.at;
   room : length l.script ≤ vec_capacity l.said;

@@ -5,7 +5,7 @@ use Rattle.ks_lines.specs.Lines.{part_calls}
 use Rattle.ks_arena.specs.Clauses.{seen_of}
 use Rattle.ks_dictionary.specs.Work.{call_at}
 use Rattle.ks_dictionary.proofs.Calling.{scan_calls}
-use Rattle.ks_dictionary.proofs.workers.scan.Goals as goal
+use Rattle.ks_dictionary.proofs.dictionary.Dictionary.scan.Goals as goal
 
 pub returns-clause-calls : goal.returns-clause-calls
 returns-clause-calls g c =

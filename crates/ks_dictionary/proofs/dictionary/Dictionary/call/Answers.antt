@@ -4,7 +4,7 @@ use Rattle.ks_history.specs.Served.{at_place}
 use Rattle.ks_lines.specs.Lines.{IsReplyTo}
 use Rattle.ks_dictionary.proofs.Calling.{one_call}
 use Rattle.ks_dictionary.proofs.Replies.{fill_replies, found_replies, move_replies}
-use Rattle.ks_dictionary.proofs.workers.call.Goals as goal
+use Rattle.ks_dictionary.proofs.dictionary.Dictionary.call.Goals as goal
 
 pub returns-in-Get-clause-calls : goal.returns-in-Get-clause-calls
 returns-in-Get-clause-calls g c = one_call _ _ _ _ _ _ _ _ _ _ _ _ c.get_aided.ensures.done (ap (at_place g.N.Places.Placing.place_of) c.in-Get.is ∙ ap Get (sym c.place.ensures)) c.line_of.ensures.reply c.line_of.ensures.number

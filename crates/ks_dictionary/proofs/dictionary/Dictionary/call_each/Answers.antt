@@ -1,7 +1,7 @@
 use Rattle.std.proofs.Common.{◌≤◌, ◌+◌, [], ◌∷◌, ℕ, length, sym, ap, subst, ◌∙◌, arith, length-append}
 use Rattle.ks_arena.specs.Clauses.{seen_of}
 use Rattle.ks_dictionary.proofs.Spread.{answered_next, as_asked, as_told, called_all, called_next, rooms_next}
-use Rattle.ks_dictionary.proofs.workers.call_each.Goals as goal
+use Rattle.ks_dictionary.proofs.dictionary.Dictionary.call_each.Goals as goal
 
 pub loop-at-preserved : goal.loop-at-preserved
 loop-at-preserved g c =
