@@ -4,6 +4,7 @@
 pub use Rattle.ks_dictionary.specs.Of.{AreAllPassesOf, AreNewPassesOf, AreOrderedPassesOf, HasCalledIn, HasTriedIn, HasTriedPutIn, IsIdlePassOf, IsNoteFrom, arena_of, callers_of, nodes_of, place_in, site_of}
 pub use Rattle.ks_dictionary.specs.Crew.{AreReplaced}
 pub use Rattle.ks_dictionary.specs.Guided.{BeginsNear, HasNoted}
+pub use Rattle.ks_dictionary.specs.Led.{HasLedNew}
 pub use Rattle.ks_shape.specs.Hinted.{BeginsAtHint, HasPassed, IsDoneWhere, IsWhere}
 pub use Rattle.ks_guide.specs.Guides.{guessed, guessed_leaf, most_branches}
 pub use Rattle.ks_arena.specs.Of.{HeldAlone, SameCaller, WasAlone, caller_of}
