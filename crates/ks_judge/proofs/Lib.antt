@@ -13,4 +13,3 @@ pub mod Stand
 pub mod Placed
 pub mod Keyed
 pub mod Agrees
-pub mod Traced

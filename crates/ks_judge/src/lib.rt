@@ -15,6 +15,3 @@ mod table;
 
 pub use accord::served_is_legal;
 pub use judging::{Judged, judge};
-
-#[cfg(test)]
-mod tests;

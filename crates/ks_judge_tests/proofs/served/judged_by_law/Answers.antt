@@ -2,8 +2,8 @@ use Rattle.std.proofs.Common.{◌≡◌, ◌∙◌, ap}
 use Rattle.std.proofs.lemmas.Result.{IfOk-weaker}
 use Rattle.ks_judge.specs.Verdict.{IsJudgedRun}
 use Rattle.ks_judge.specs.declared.judging.Judged.TheVariants as verdict
-use Rattle.ks_judge.proofs.Traced.{asks_of, traced}
-use Rattle.ks_judge.proofs.tests.served.judged_by_law.Goals as goal
+use Rattle.ks_judge_tests.proofs.Traced.{asks_of, traced}
+use Rattle.ks_judge_tests.proofs.served.judged_by_law.Goals as goal
 
 pub returns : goal.returns
 returns c =

@@ -6,8 +6,8 @@ ghost use Rattle.ks_lines.specs.declared.Line.TheVariants as line;
 ghost use Rattle.ks_lines.specs.declared.Said.TheVariants as said;
 ghost use Rattle.ks_judge.specs.declared.judging.Judged.TheVariants as verdict;
 
-use crate::{Judged, judge, served_is_legal};
 use ks_history::{Op, Reply};
+use ks_judge::{Judged, judge, served_is_legal};
 use ks_lines::{Line, Said};
 use ks_places::Golden;
 use ks_script::{Calls, Printed, Replies, Script};

@@ -1,6 +1,6 @@
-mod served;
+//! Worked texts of scripts and runs.
 
-use crate::{Judged, judge};
+use ks_judge::{Judged, judge};
 use ks_script::read_checked;
 use std::alloc::{AllocError, Global};
 use std::test::Fail;
