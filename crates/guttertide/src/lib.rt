@@ -26,7 +26,7 @@ pub use ks_list::ListNode;
 pub use ks_node::{Node, WithRange};
 pub use ks_scan::{Found, Scanned};
 pub use ks_shape::{
-    Above, Compacting, Full, Hinting, Later, MoveLeft, Moving, Numbered, NumberedAt, Part,
+    Above, Compacting, Fill, Full, Hinting, Later, MoveLeft, Moving, Numbered, NumberedAt, Part,
     PutLater, Ruled, Scanning, Template,
 };
 

@@ -21,7 +21,7 @@ use ks_arena::{Arena, Pass};
 use ks_guide::Guide;
 use ks_node::Node;
 use ks_places::Placing;
-use ks_shape::{Above, Full, Hinting, Numbered, NumberedAt, Ruled};
+use ks_shape::{Above, Fill, Full, Hinting, Numbered, NumberedAt, Ruled};
 
 /// Notes the branch that a search passed, if it passed one.
 fn note_above(guide: &mut Guide, above: Option<Above>) {
@@ -108,7 +108,7 @@ impl<N: Node, T: Ruled + Hinting<N, Arena<N, <T as Ruled>::Rule>>> Dictionary<N,
         reuse_law::<T::Rule>();
         let place = N::Places::place(key);
         let hint = guide.guess(place);
-        match T::put_from(rt, &self.arena, pass, gate, hint, place, value) {
+        match T::fill_from(rt, &self.arena, pass, gate, hint, place, Fill::Put(value)) {
             Ok(at) => Ok(noted(guide, place, at)),
             Err(full) => Err(full),
         }
@@ -143,7 +143,7 @@ impl<N: Node, T: Ruled + Hinting<N, Arena<N, <T as Ruled>::Rule>>> Dictionary<N,
         reuse_law::<T::Rule>();
         let place = N::Places::place(key);
         let hint = guide.guess(place);
-        match T::add_from(rt, &self.arena, pass, gate, hint, place, value) {
+        match T::fill_from(rt, &self.arena, pass, gate, hint, place, Fill::Add(value)) {
             Ok(at) => Ok(noted(guide, place, at)),
             Err(full) => Err(full),
         }

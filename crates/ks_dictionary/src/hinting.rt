@@ -18,7 +18,7 @@ use ks_arena::laws::reuse_law;
 use ks_arena::{Arena, Pass};
 use ks_node::Node;
 use ks_places::Placing;
-use ks_shape::{Full, Hinting, NumberedAt, Ruled};
+use ks_shape::{Fill, Full, Hinting, NumberedAt, Ruled};
 
 /// Calls from a hint: each does what the call without one does. It first takes the hinted node, if that is neither free
 /// nor held and no other caller does anything in the time of the call. Any hint is right: if the search for the key's
@@ -83,15 +83,8 @@ impl<N: Node, T: Ruled + Hinting<N, Arena<N, <T as Ruled>::Rule>>> Dictionary<N,
     {
         let (rt, gate) = rt.parts();
         reuse_law::<T::Rule>();
-        T::put_from(
-            rt,
-            &self.arena,
-            pass,
-            gate,
-            hint,
-            N::Places::place(key),
-            value,
-        )
+        let place = N::Places::place(key);
+        T::fill_from(rt, &self.arena, pass, gate, hint, place, Fill::Put(value))
     }
 
     /// Sets the value of a key that has none, and returns the one that it had, as `add`.
@@ -124,15 +117,8 @@ impl<N: Node, T: Ruled + Hinting<N, Arena<N, <T as Ruled>::Rule>>> Dictionary<N,
     {
         let (rt, gate) = rt.parts();
         reuse_law::<T::Rule>();
-        T::add_from(
-            rt,
-            &self.arena,
-            pass,
-            gate,
-            hint,
-            N::Places::place(key),
-            value,
-        )
+        let place = N::Places::place(key);
+        T::fill_from(rt, &self.arena, pass, gate, hint, place, Fill::Add(value))
     }
 
     /// Sets the value of a key from `old` to `new`, and returns the one that it had, as `swap`.

@@ -161,28 +161,16 @@ impl<N: Ranged + Unlinked> Hinting<N, Arena<N, Tree>> for GiveUp {
         get_near(rt, arena, pass, gate, hint, place)
     }
 
-    fn put_from<R: Wait, G: Gate>(
+    fn fill_from<R: Wait, G: Gate>(
         rt: &R,
         arena: &Arena<N, Tree>,
         pass: &mut Pass<N, Tree>,
         gate: &G,
         hint: Option<u32>,
         place: u64,
-        value: u128,
+        fill: Fill,
     ) -> Result<NumberedAt, Full> {
-        fill_near(rt, arena, pass, gate, hint, place, Fill::Put(value))
-    }
-
-    fn add_from<R: Wait, G: Gate>(
-        rt: &R,
-        arena: &Arena<N, Tree>,
-        pass: &mut Pass<N, Tree>,
-        gate: &G,
-        hint: Option<u32>,
-        place: u64,
-        value: u128,
-    ) -> Result<NumberedAt, Full> {
-        fill_near(rt, arena, pass, gate, hint, place, Fill::Add(value))
+        fill_near(rt, arena, pass, gate, hint, place, fill)
     }
 
     fn swap_from<R: Wait, G: Gate>(

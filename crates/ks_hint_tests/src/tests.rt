@@ -11,7 +11,7 @@ use ks_link::LinkMove;
 use ks_linked::WithLink;
 use ks_node::{Node, WithRange};
 use ks_runs::{Run, each, every_hint, get_from, one_caller};
-use ks_shape::{Above, Hinting, Shelf};
+use ks_shape::{Above, Fill, Hinting, Shelf};
 use std::sync::Wait;
 use std::test::Fail;
 
@@ -91,7 +91,7 @@ fn is_full_from<T: Hinting<N, A>, N: Node, A: Shelf, R: Wait>(
     requires pass { IsIdle (A.site arena.now) pass.old }
     ensures pass { IsIdle (A.site arena.now) pass.new }
 {
-    match T::put_from(rt, arena, pass, &NoGate, Some(hint), place, 1) {
+    match T::fill_from(rt, arena, pass, &NoGate, Some(hint), place, Fill::Put(1)) {
         Ok(_) => false,
         Err(full) => full.number == number,
     }
