@@ -86,6 +86,7 @@ impl<N: Growing> Node for WithLink<N> {
 
     ghost becomes_branch = { N.becomes_branch };
 
+    // What the range and the link change.
     fn blank(alloc: Global) -> Result<Self, AllocError> {
         let node = N::blank(alloc)?;
         let inside = Inside {
@@ -115,38 +116,6 @@ impl<N: Growing> Node for WithLink<N> {
         }
     }
 
-    fn get(&self, place: u64) -> Option<u128> {
-        self.inner.node.get(place)
-    }
-
-    fn put(&mut self, place: u64, value: u128) -> Option<u128> {
-        self.inner.node.put(place, value)
-    }
-
-    fn del(&mut self, place: u64) -> Option<u128> {
-        self.inner.node.del(place)
-    }
-
-    fn is_full(&self) -> bool {
-        self.inner.node.is_full()
-    }
-
-    fn is_low(&self) -> bool {
-        self.inner.node.is_low()
-    }
-
-    fn is_branch(&self) -> bool {
-        self.inner.node.is_branch()
-    }
-
-    fn pairs_held(&self) -> u32 {
-        self.inner.node.pairs_held()
-    }
-
-    fn pair_at(&self, n: u32) -> Pair {
-        self.inner.node.pair_at(n)
-    }
-
     fn edges_held(&self) -> u32 {
         let inside = &*self.inner;
         let own = inside.node.edges_held();
@@ -174,6 +143,49 @@ impl<N: Growing> Node for WithLink<N> {
         }
     }
 
+    fn cut(&self, span: Option<Span>) -> u64 {
+        let inside = &*self.inner;
+        inside.node.cut(Some(inside.range))
+    }
+
+    fn can_adopt(&self, cut: u64) -> bool {
+        self.inner.node.is_branch() && cut != self.inner.range.low && self.inner.node.can_adopt(cut)
+    }
+
+    // The pairs are those of the node inside.
+    fn get(&self, place: u64) -> Option<u128> {
+        self.inner.node.get(place)
+    }
+
+    fn put(&mut self, place: u64, value: u128) -> Option<u128> {
+        self.inner.node.put(place, value)
+    }
+
+    fn del(&mut self, place: u64) -> Option<u128> {
+        self.inner.node.del(place)
+    }
+
+    fn pairs_held(&self) -> u32 {
+        self.inner.node.pairs_held()
+    }
+
+    fn pair_at(&self, n: u32) -> Pair {
+        self.inner.node.pair_at(n)
+    }
+
+    // All else is as the node inside says.
+    fn is_full(&self) -> bool {
+        self.inner.node.is_full()
+    }
+
+    fn is_low(&self) -> bool {
+        self.inner.node.is_low()
+    }
+
+    fn is_branch(&self) -> bool {
+        self.inner.node.is_branch()
+    }
+
     fn grows(&self) -> bool {
         self.inner.node.grows()
     }
@@ -192,15 +204,6 @@ impl<N: Growing> Node for WithLink<N> {
 
     fn span_for(&self, place: u64) -> Option<Span> {
         self.inner.node.span_for(place)
-    }
-
-    fn cut(&self, span: Option<Span>) -> u64 {
-        let inside = &*self.inner;
-        inside.node.cut(Some(inside.range))
-    }
-
-    fn can_adopt(&self, cut: u64) -> bool {
-        self.inner.node.is_branch() && cut != self.inner.range.low && self.inner.node.can_adopt(cut)
     }
 
     fn adopt(&mut self, cut: u64, id: u32) {
