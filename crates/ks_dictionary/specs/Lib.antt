@@ -1,4 +1,4 @@
-pub mod Beside
+pub mod Beginning
 pub mod Called
 pub mod Crew
 pub mod Ended

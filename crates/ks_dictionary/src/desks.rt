@@ -7,163 +7,116 @@ ghost use Rattle.ks_tickets.specs.Clauses.{AreFree, HaveEnded};
 
 use crate::about::About;
 use crate::aiding::Aiding;
-use crate::dictionary::Dictionary;
-use crate::hinted::work_hinted;
+use crate::hinted::lead;
 use crate::job::Job;
 use crate::reaching::Reaching;
+use crate::service::Service;
 use crate::worker::{desks_of, readers_at, workers_at};
-use crate::workers::work;
 use ks_aid::{Admits, Serving};
 use ks_arena::Arena;
 use ks_gate::Gate;
 use ks_hints::{HintReader, HintWriter, Hints};
 use ks_node::Node;
 use ks_shape::Ruled;
-use ks_tickets::{Desk, Tickets};
+use ks_tickets::Desk;
 use std::alloc::{AllocError, Global};
 use std::sync::Wait;
 use std::thread::Threads;
 
-/// Serves all callers by workers of which each has a guide, if they are to have one.
-fn serve_guided<
+impl<
     N: Node + Send,
     T: Ruled + Serving<N, Arena<N, <T as Ruled>::Rule>>,
     S: Reaching<N, Arena<N, <T as Ruled>::Rule>, T> + Sync,
-    R: Threads + Wait + Sync,
-    G: Gate + Sync,
-    W: About + Send + Sync,
->(
-    rt: &R,
-    alloc: Global,
-    dictionary: &Dictionary<N, T>,
-    gate: &G,
-    reach: &S,
-    tickets: &Tickets<Job<N, T::Rule, W>>,
-    desks: Vec<Desk<Job<N, T::Rule, W>>>,
-    guided: bool,
-) -> Result<Vec<Desk<Job<N, T::Rule, W>>>, AllocError>
-where
-    N::Places: Send + Sync,
-    requires about { AreAbout (site_of dictionary.now) W.table W.callers W.nodes }
-    requires served { AreServedLines S.scans S.moves W.scripts }
-    requires free { AreFree tickets.now desks.items }
-    requires some { 0 < length desks.items }
-    ensures { IfOk result (λ ended. HaveEnded tickets.now ended.items) }
-{
-    let mut workers = workers_at(alloc, desks, guided)?;
-    work(rt, dictionary, gate, reach, tickets, workers.as_mut_slice());
-    desks_of(alloc, workers)
-}
-
-/// Serves all callers by workers with these readers, one of which has the writer while it serves the first caller.
-fn serve_lent<
-    N: Node + Send,
-    T: Ruled + Serving<N, Arena<N, <T as Ruled>::Rule>>,
-    S: Reaching<N, Arena<N, <T as Ruled>::Rule>, T> + Sync,
-    R: Threads + Wait + Sync,
-    G: Gate + Sync,
-    W: About + Send + Sync,
->(
-    rt: &R,
-    alloc: Global,
-    dictionary: &Dictionary<N, T>,
-    gate: &G,
-    reach: &S,
-    tickets: &Tickets<Job<N, T::Rule, W>>,
-    desks: Vec<Desk<Job<N, T::Rule, W>>>,
-    readers: Vec<HintReader>,
-    writer: &mut HintWriter,
-) -> Result<Vec<Desk<Job<N, T::Rule, W>>>, AllocError>
-where
-    N::Places: Send + Sync,
-    requires about { AreAbout (site_of dictionary.now) W.table W.callers W.nodes }
-    requires served { AreServedLines S.scans S.moves W.scripts }
-    requires free { AreFree tickets.now desks.items }
-    requires some { 0 < length desks.items }
-    requires readers { length readers.items ≡ length desks.items }
-    ensures { IfOk result (λ ended. HaveEnded tickets.now ended.items) }
-{
-    let workers = readers_at(alloc, desks, readers)?;
-    let workers = work_hinted(rt, dictionary, gate, reach, tickets, writer, workers);
-    desks_of(alloc, workers)
-}
-
-/// Serves all callers by workers that read one list of hints. The writer ends in any case.
-fn serve_hinted<
-    N: Node + Send,
-    T: Ruled + Serving<N, Arena<N, <T as Ruled>::Rule>>,
-    S: Reaching<N, Arena<N, <T as Ruled>::Rule>, T> + Sync,
-    R: Threads + Wait + Sync,
-    G: Gate + Sync,
-    W: About + Send + Sync,
->(
-    rt: &R,
-    alloc: Global,
-    dictionary: &Dictionary<N, T>,
-    gate: &G,
-    reach: &S,
-    tickets: &Tickets<Job<N, T::Rule, W>>,
-    desks: Vec<Desk<Job<N, T::Rule, W>>>,
-) -> Result<Vec<Desk<Job<N, T::Rule, W>>>, AllocError>
-where
-    N::Places: Send + Sync,
-    requires about { AreAbout (site_of dictionary.now) W.table W.callers W.nodes }
-    requires served { AreServedLines S.scans S.moves W.scripts }
-    requires free { AreFree tickets.now desks.items }
-    requires count { (0 < length desks.items) × (length desks.items ≤ 64) }
-    ensures { IfOk result (λ ended. HaveEnded tickets.now ended.items) }
-{
-    let (mut writer, readers) = Hints::start(alloc, desks.len() as u32)?;
-    let ended = serve_lent(
-        rt,
-        alloc,
-        dictionary,
-        gate,
-        reach,
-        tickets,
-        desks,
-        readers,
-        &mut writer,
-    );
-    writer.end(rt);
-    ended
-}
-
-/// Serves all callers by a worker at each desk, and returns the desks. Calls are aided as asked if their technique asks for
-/// it and the gate admits it.
-///
-/// # Errors
-///
-/// Only lack of memory.
-pub(crate) fn serve_at<
-    N: Node + Send,
-    T: Ruled + Serving<N, Arena<N, <T as Ruled>::Rule>>,
-    S: Reaching<N, Arena<N, <T as Ruled>::Rule>, T> + Sync,
-    R: Threads + Wait + Sync,
     G: Gate + Admits + Sync,
     W: About + Send + Sync,
->(
-    rt: &R,
-    alloc: Global,
-    dictionary: &Dictionary<N, T>,
-    gate: &G,
-    reach: &S,
-    tickets: &Tickets<Job<N, T::Rule, W>>,
-    desks: Vec<Desk<Job<N, T::Rule, W>>>,
-    aiding: Aiding,
-) -> Result<Vec<Desk<Job<N, T::Rule, W>>>, AllocError>
+> Service<'_, N, T, S, G, W>
 where
     N::Places: Send + Sync,
-    requires about { AreAbout (site_of dictionary.now) W.table W.callers W.nodes }
-    requires served { AreServedLines S.scans S.moves W.scripts }
-    requires free { AreFree tickets.now desks.items }
-    requires count { (0 < length desks.items) × (length desks.items ≤ 64) }
-    ensures { IfOk result (λ ended. HaveEnded tickets.now ended.items) }
 {
-    let aided = T::asks() && gate.admits_aid();
-    if aided && aiding == Aiding::Hints {
-        serve_hinted(rt, alloc, dictionary, gate, reach, tickets, desks)
-    } else {
-        serve_guided(rt, alloc, dictionary, gate, reach, tickets, desks, aided)
+    /// Serves all callers by workers of which each has a guide, if they are to have one.
+    fn serve_guided<R: Threads + Wait + Sync>(
+        &self,
+        rt: &R,
+        alloc: Global,
+        desks: Vec<Desk<Job<N, T::Rule, W>>>,
+        guided: bool,
+    ) -> Result<Vec<Desk<Job<N, T::Rule, W>>>, AllocError>
+        requires about { AreAbout (site_of self.now.dictionary.now) W.table W.callers W.nodes }
+        requires served { AreServedLines S.scans S.moves W.scripts }
+        requires free { AreFree self.now.tickets.now desks.items }
+        requires some { 0 < length desks.items }
+        ensures { IfOk result (λ ended. HaveEnded self.now.tickets.now ended.items) }
+    {
+        let mut workers = workers_at(alloc, desks, guided)?;
+        self.work(rt, workers.as_mut_slice());
+        desks_of(alloc, workers)
+    }
+
+    /// Serves all callers by workers with these readers, one of which has the writer while it serves the first caller.
+    fn serve_lent<R: Threads + Wait + Sync>(
+        &self,
+        rt: &R,
+        alloc: Global,
+        desks: Vec<Desk<Job<N, T::Rule, W>>>,
+        readers: Vec<HintReader>,
+        writer: &mut HintWriter,
+    ) -> Result<Vec<Desk<Job<N, T::Rule, W>>>, AllocError>
+        requires about { AreAbout (site_of self.now.dictionary.now) W.table W.callers W.nodes }
+        requires served { AreServedLines S.scans S.moves W.scripts }
+        requires free { AreFree self.now.tickets.now desks.items }
+        requires some { 0 < length desks.items }
+        requires readers { length readers.items ≡ length desks.items }
+        ensures { IfOk result (λ ended. HaveEnded self.now.tickets.now ended.items) }
+    {
+        let workers = readers_at(alloc, desks, readers)?;
+        let mut workers = lead(self.tickets, workers, writer);
+        self.work(rt, workers.as_mut_slice());
+        desks_of(alloc, workers)
+    }
+
+    /// Serves all callers by workers that read one list of hints. The writer ends in any case.
+    fn serve_hinted<R: Threads + Wait + Sync>(
+        &self,
+        rt: &R,
+        alloc: Global,
+        desks: Vec<Desk<Job<N, T::Rule, W>>>,
+    ) -> Result<Vec<Desk<Job<N, T::Rule, W>>>, AllocError>
+        requires about { AreAbout (site_of self.now.dictionary.now) W.table W.callers W.nodes }
+        requires served { AreServedLines S.scans S.moves W.scripts }
+        requires free { AreFree self.now.tickets.now desks.items }
+        requires count { (0 < length desks.items) × (length desks.items ≤ 64) }
+        ensures { IfOk result (λ ended. HaveEnded self.now.tickets.now ended.items) }
+    {
+        let (mut writer, readers) = Hints::start(alloc, desks.len() as u32)?;
+        let ended = self.serve_lent(rt, alloc, desks, readers, &mut writer);
+        writer.end(rt);
+        ended
+    }
+
+    /// Serves all callers by a worker at each desk, and returns the desks. Calls are aided as asked if their technique asks
+    /// for it and the gate admits it.
+    ///
+    /// # Errors
+    ///
+    /// Only lack of memory.
+    pub(crate) fn serve_at<R: Threads + Wait + Sync>(
+        &self,
+        rt: &R,
+        alloc: Global,
+        desks: Vec<Desk<Job<N, T::Rule, W>>>,
+        aiding: Aiding,
+    ) -> Result<Vec<Desk<Job<N, T::Rule, W>>>, AllocError>
+        requires about { AreAbout (site_of self.now.dictionary.now) W.table W.callers W.nodes }
+        requires served { AreServedLines S.scans S.moves W.scripts }
+        requires free { AreFree self.now.tickets.now desks.items }
+        requires count { (0 < length desks.items) × (length desks.items ≤ 64) }
+        ensures { IfOk result (λ ended. HaveEnded self.now.tickets.now ended.items) }
+    {
+        let aided = T::asks() && self.gate.admits_aid();
+        if aided && aiding == Aiding::Hints {
+            self.serve_hinted(rt, alloc, desks)
+        } else {
+            self.serve_guided(rt, alloc, desks, aided)
+        }
     }
 }

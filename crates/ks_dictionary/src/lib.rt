@@ -5,18 +5,16 @@
 //! `serve_callers` runs a script for each of many callers, by workers that draw whole callers, and returns the replies
 //! to each and the map at the end.
 //!
-//! The calls of a dictionary that has started, and `work`, which runs the callers, take no allocator and report no lack
-//! of memory.
+//! The calls of a dictionary that has started, and `Service::work`, which runs the callers, take no allocator and report no
+//! lack of memory.
 #![tactic(auto)]
 
 mod about;
 mod aiding;
-mod beside;
 mod closed;
 mod desks;
 mod dictionary;
 mod fit;
-mod front;
 mod guided;
 mod hinted;
 mod hinting;
@@ -24,11 +22,14 @@ mod job;
 mod laws;
 mod merging;
 mod moving;
+mod placed;
 mod reaching;
 mod reader;
 mod rooms;
 mod runtime;
 mod scanning;
+mod scripts;
+mod service;
 mod serving;
 mod worker;
 mod workers;
@@ -42,6 +43,6 @@ pub use job::Job;
 pub use laws::{kept_law, once_law};
 pub use reaching::{AtOneKey, Reaching};
 pub use runtime::{Gated, Runtime};
+pub use service::Service;
 pub use serving::{Told, serve_callers};
-pub use worker::Worker;
-pub use workers::work;
+pub use worker::{Beginning, Worker};

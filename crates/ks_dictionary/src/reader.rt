@@ -19,16 +19,16 @@ impl Aid for Reader {
     fn note<R: Wait>(&mut self, _rt: &R, _place: u64, _at: NumberedAt) {}
 }
 
-/// A reader with the writer of its hints: where a call was decided is posted.
+/// An aid with the writer of hints: where a call was decided is posted, and the aid does not note it.
 #[derive(Drop)]
-pub(crate) struct Poster<'a> {
-    pub(crate) reader: &'a mut Reader,
-    pub(crate) writer: &'a mut HintWriter,
+pub(crate) struct Poster<'a, 'b, H> {
+    pub(crate) aid: &'a mut H,
+    pub(crate) writer: &'b mut HintWriter,
 }
 
-impl Aid for Poster<'_> {
+impl<H: Aid> Aid for Poster<'_, '_, H> {
     fn hint(&mut self, place: u64) -> Option<u32> {
-        self.reader.hint(place)
+        self.aid.hint(place)
     }
 
     // A post for which memory runs out is dropped.

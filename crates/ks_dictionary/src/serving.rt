@@ -16,11 +16,11 @@ ghost use Rattle.ks_dictionary.specs.Work.{AreAbout, HasRoom};
 use crate::about::About;
 use crate::aiding::Aiding;
 use crate::closed::Closed;
-use crate::desks::serve_at;
 use crate::dictionary::Dictionary;
 use crate::job::Job;
 use crate::reaching::Reaching;
 use crate::rooms::rooms_if;
+use crate::service::Service;
 use ks_aid::{Admits, Serving};
 use ks_arena::{Arena, Pass, RunTrace};
 use ks_gate::Gate;
@@ -147,7 +147,13 @@ where
     let into = Vec::with_capacity(alloc, jobs.len())?;
     let desks = workers_for(jobs.len(), workers);
     let (tickets, desks) = Tickets::start(alloc, jobs, desks)?;
-    let ended = serve_at(rt, alloc, &dictionary, gate, reach, &tickets, desks, aiding)?;
+    let service = Service {
+        dictionary: &dictionary,
+        gate,
+        reach,
+        tickets: &tickets,
+    };
+    let ended = service.serve_at(rt, alloc, desks, aiding)?;
     let (passes, lines) = apart(alloc, tickets.close(ended, into))?;
     Ok((dictionary.close(passes), lines))
 }
@@ -167,6 +173,15 @@ fn serve_nobody<N: Node, T: Ruled + Serving<N, Arena<N, <T as Ruled>::Rule>>>(
     Ok(dictionary.close(passes))
 }
 
+/// What is to be served: how many nodes the dictionary has, the script of each caller, how many workers there are at most, and
+/// what aids them.
+struct Request {
+    nodes: u32,
+    scripts: Vec<Vec<Line>>,
+    workers: u32,
+    aiding: Aiding,
+}
+
 /// Serves all callers over a dictionary that begins empty, and ends it.
 fn serve_all<
     N: Node + Send,
@@ -177,26 +192,29 @@ fn serve_all<
 >(
     rt: &R,
     alloc: Global,
-    nodes: u32,
-    scripts: Vec<Vec<Line>>,
-    workers: u32,
-    aiding: Aiding,
+    request: Request,
     gate: &G,
     reach: &S,
 ) -> Result<(Closed<N>, Vec<Vec<Said>>), AllocError>
 where
     N::Places: Send + Sync,
-    requires nodes { (4 ≤ nodes) × (nodes ≤ 1048576) }
-    requires callers { length scripts.items ≤ 1024 }
-    requires served { AreServedLines S.scans S.moves (map (λ v. v.items) scripts.items) }
-    requires workers { (1 ≤ workers) × (workers ≤ 64) }
-    ensures ended { IfOk result (λ r. HasEndedWith (sort_of N.layout N.ranged) N.body nodes r.0) }
-    ensures answered { IfOk result (λ r. AreAnswered (map (λ v. v.items) scripts.items) (map (λ v. v.items) r.1.items)) }
+    requires nodes { (4 ≤ request.nodes) × (request.nodes ≤ 1048576) }
+    requires callers { length request.scripts.items ≤ 1024 }
+    requires served { AreServedLines S.scans S.moves (map (λ v. v.items) request.scripts.items) }
+    requires workers { (1 ≤ request.workers) × (request.workers ≤ 64) }
+    ensures ended { IfOk result (λ r. HasEndedWith (sort_of N.layout N.ranged) N.body request.nodes r.0) }
+    ensures answered { IfOk result (λ r. AreAnswered (map (λ v. v.items) request.scripts.items) (map (λ v. v.items) r.1.items)) }
     ensures called { IfOk result (λ r. HaveCalled N.Places.place_of
-        (ops_in (map (λ v. v.items) scripts.items) (map (λ v. v.items) r.1.items))
-        (replies_in (map (λ v. v.items) scripts.items) (map (λ v. v.items) r.1.items)) (history r.0)) }
-    ensures callers { IfOk result (λ r. CallersBelow (length scripts.items) (history r.0)) }
+        (ops_in (map (λ v. v.items) request.scripts.items) (map (λ v. v.items) r.1.items))
+        (replies_in (map (λ v. v.items) request.scripts.items) (map (λ v. v.items) r.1.items)) (history r.0)) }
+    ensures callers { IfOk result (λ r. CallersBelow (length request.scripts.items) (history r.0)) }
 {
+    let Request {
+        nodes,
+        scripts,
+        workers,
+        aiding,
+    } = request;
     if scripts.is_empty() {
         let closed = serve_nobody::<N, T>(alloc, nodes)?;
         return Ok((closed, Vec::new(alloc)));
@@ -252,9 +270,13 @@ where
     ensures named { IfOk result (λ told. AllNamedBelow nodes (told.trace)) }
     ensures callers { IfOk result (λ told. CallersBelow (length scripts.items) (told.trace)) }
 {
-    let (ended, lines) = serve_all::<N, T, S, R, G>(
-        rt, alloc, nodes, scripts, workers, aiding, gate, reach,
-    )?;
+    let request = Request {
+        nodes,
+        scripts,
+        workers,
+        aiding,
+    };
+    let (ended, lines) = serve_all::<N, T, S, R, G>(rt, alloc, request, gate, reach)?;
     keyset_theorem();
     let pairs = ended.pairs(alloc)?;
     Ok(Told {

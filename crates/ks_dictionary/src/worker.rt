@@ -1,9 +1,10 @@
 //! A worker: its desk, and what it knows of where calls may begin.
-ghost use Rattle.std.specs.Prelude.{◌≡◌, map, length, IfOk};
+ghost use Rattle.std.specs.Prelude.{◌≡◌, map, length, All, IfOk};
+ghost use Rattle.ks_dictionary.specs.Beginning.{IsDrawing};
 
 use crate::reader::Reader;
 use ks_guide::Guide;
-use ks_hints::HintReader;
+use ks_hints::{HintReader, HintWriter};
 use ks_tickets::Desk;
 use std::alloc::{AllocError, Global};
 
@@ -13,11 +14,27 @@ const LEAVES: usize = 1024;
 /// How many branches it has room for.
 const BRANCHES: usize = 4096;
 
+/// How a worker begins.
+#[derive(Drop)]
+pub enum Beginning<'a, J> {
+    /// It draws a caller.
+    Draws,
+    /// It serves the caller that was drawn at its desk, and posts with the writer where its calls were decided.
+    Leads {
+        ticket: u32,
+        job: J,
+        writer: &'a mut HintWriter,
+    },
+    /// It ends, since each caller was drawn before.
+    Ends,
+}
+
 /// What one worker draws callers with, and what it asks where their calls may begin. It keeps both from caller to caller.
 #[derive(Drop)]
-pub struct Worker<J, H> {
+pub struct Worker<'a, J, H> {
     pub(crate) desk: Desk<J>,
     pub(crate) aid: H,
+    pub(crate) begins: Beginning<'a, J>,
 }
 
 /// The guide of a worker, if it is to have one.
@@ -33,17 +50,22 @@ fn guide_if(alloc: Global, guided: bool) -> Result<Option<Guide>, AllocError> {
 /// # Errors
 ///
 /// Only lack of memory.
-pub(crate) fn workers_at<J>(
+pub(crate) fn workers_at<'a, J: Drop>(
     alloc: Global,
     desks: Vec<Desk<J>>,
     guided: bool,
-) -> Result<Vec<Worker<J, Option<Guide>>>, AllocError>
-    ensures { IfOk result (λ workers. map (λ worker. worker.desk) workers.items ≡ desks.items) }
+) -> Result<Vec<Worker<'a, J, Option<Guide>>>, AllocError>
+    ensures desks { IfOk result (λ workers. map (λ worker. worker.desk) workers.items ≡ desks.items) }
+    ensures draws { IfOk result (λ workers. All IsDrawing workers.items) }
 {
     let mut workers = Vec::with_capacity(alloc, desks.len())?;
     for desk in desks {
         let aid = guide_if(alloc, guided)?;
-        workers.push(Worker { desk, aid })?;
+        workers.push(Worker {
+            desk,
+            aid,
+            begins: Beginning::Draws,
+        })?;
     }
     Ok(workers)
 }
@@ -53,19 +75,21 @@ pub(crate) fn workers_at<J>(
 /// # Errors
 ///
 /// Only lack of memory.
-pub(crate) fn readers_at<J>(
+pub(crate) fn readers_at<'a, J: Drop>(
     alloc: Global,
     desks: Vec<Desk<J>>,
     readers: Vec<HintReader>,
-) -> Result<Vec<Worker<J, Reader>>, AllocError>
+) -> Result<Vec<Worker<'a, J, Reader>>, AllocError>
     requires { length readers.items ≡ length desks.items }
-    ensures { IfOk result (λ workers. map (λ worker. worker.desk) workers.items ≡ desks.items) }
+    ensures desks { IfOk result (λ workers. map (λ worker. worker.desk) workers.items ≡ desks.items) }
+    ensures draws { IfOk result (λ workers. All IsDrawing workers.items) }
 {
     let mut workers = Vec::with_capacity(alloc, desks.len())?;
     for (desk, hints) in desks.into_iter().zip(readers) {
         workers.push_reserved(Worker {
             desk,
             aid: Reader { hints },
+            begins: Beginning::Draws,
         });
     }
     Ok(workers)
@@ -76,15 +100,19 @@ pub(crate) fn readers_at<J>(
 /// # Errors
 ///
 /// Only lack of memory.
-pub(crate) fn desks_of<J, H: Drop>(
+pub(crate) fn desks_of<J: Drop, H: Drop>(
     alloc: Global,
-    workers: Vec<Worker<J, H>>,
+    workers: Vec<Worker<'_, J, H>>,
 ) -> Result<Vec<Desk<J>>, AllocError>
-    ensures { IfOk result (λ desks. desks.items ≡ map (λ worker. worker.desk) workers.items) }
+    ensures { IfOk result (λ desks. desks.items ≡ map (λ worker. worker.desk) workers.entry.items) }
 {
     let mut desks = Vec::with_capacity(alloc, workers.len())?;
     for worker in workers {
-        let Worker { desk, aid: _ } = worker;
+        let Worker {
+            desk,
+            aid: _,
+            begins: _begins,
+        } = worker;
         desks.push_reserved(desk);
     }
     Ok(desks)

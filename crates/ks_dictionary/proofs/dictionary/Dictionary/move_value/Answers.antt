@@ -1,4 +1,4 @@
-use Rattle.std.proofs.Common.{ℕ, ◌≡◌, ◌<◌, ◌^◌, ◌∙◌, ap, sym, arith}
+use Rattle.std.proofs.Common.{ℕ, ◌<◌, ◌^◌, ◌∙◌, ap, sym, arith}
 use Rattle.ks_dictionary.proofs.dictionary.Dictionary.move_value.Goals as goal
 
 pub move_value-requires-clause-apart : goal.move_value-requires-clause-apart

@@ -1,9 +1,9 @@
 use Rattle.std.proofs.Common.{◌-◌}
 use Rattle.ks_tickets.specs.Clauses.{IsFree, IsSameDesk, draws_known, jobs_of}
-use Rattle.ks_dictionary.proofs.workers.work_at.Given as goal
+use Rattle.ks_dictionary.proofs.service.Service.work_at.Given as goal
 
 abbrev pub invariant-loop-ticket : goal.invariant-loop-ticket
-invariant-loop-ticket g l = IsFree l.tickets l.desk × IsSameDesk l.fn.desk l.desk
+invariant-loop-ticket g l = IsFree l.self.tickets.now l.desk × IsSameDesk l.fn.desk l.desk
 
 abbrev pub decreases-loop-ticket : goal.decreases-loop-ticket
-decreases-loop-ticket g l = jobs_of l.tickets - draws_known l.desk
+decreases-loop-ticket g l = jobs_of l.self.tickets.now - draws_known l.desk
