@@ -14,7 +14,7 @@ use ks_dictionary::{Aiding, Told};
 use ks_gate::Gate;
 use ks_lines::Line;
 use ks_pairings::{
-    bplus_coupling, bplus_give_up, bplus_link, bst_coupling, bst_give_up, hash_coupling,
+    Task, bplus_coupling, bplus_give_up, bplus_link, bst_coupling, bst_give_up, hash_coupling,
     hash_give_up, hash_link, list_coupling, list_give_up,
 };
 use std::alloc::{AllocError, Global};
@@ -128,16 +128,25 @@ pub fn serve_by<R: Threads + Wait + Sync, G: Gate + Admits + Sync>(
     ensures named { IfOk result (λ told. AllNamedBelow nodes told.trace) }
     ensures callers { IfOk result (λ told. CallersBelow (length callers.items) told.trace) }
 {
+    let task = Task {
+        rt,
+        alloc,
+        nodes,
+        callers,
+        workers,
+        aiding,
+        gate,
+    };
     match pairing {
-        Pairing::ListCoupling => list_coupling(rt, alloc, nodes, callers, workers, aiding, gate),
-        Pairing::BplusCoupling => bplus_coupling(rt, alloc, nodes, callers, workers, aiding, gate),
-        Pairing::HashCoupling => hash_coupling(rt, alloc, nodes, callers, workers, aiding, gate),
-        Pairing::BstCoupling => bst_coupling(rt, alloc, nodes, callers, workers, aiding, gate),
-        Pairing::ListGiveUp => list_give_up(rt, alloc, nodes, callers, workers, aiding, gate),
-        Pairing::BplusGiveUp => bplus_give_up(rt, alloc, nodes, callers, workers, aiding, gate),
-        Pairing::HashGiveUp => hash_give_up(rt, alloc, nodes, callers, workers, aiding, gate),
-        Pairing::BstGiveUp => bst_give_up(rt, alloc, nodes, callers, workers, aiding, gate),
-        Pairing::BplusLink => bplus_link(rt, alloc, nodes, callers, workers, aiding, gate),
-        Pairing::HashLink => hash_link(rt, alloc, nodes, callers, workers, aiding, gate),
+        Pairing::ListCoupling => list_coupling(task),
+        Pairing::BplusCoupling => bplus_coupling(task),
+        Pairing::HashCoupling => hash_coupling(task),
+        Pairing::BstCoupling => bst_coupling(task),
+        Pairing::ListGiveUp => list_give_up(task),
+        Pairing::BplusGiveUp => bplus_give_up(task),
+        Pairing::HashGiveUp => hash_give_up(task),
+        Pairing::BstGiveUp => bst_give_up(task),
+        Pairing::BplusLink => bplus_link(task),
+        Pairing::HashLink => hash_link(task),
     }
 }

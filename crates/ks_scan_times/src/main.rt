@@ -12,18 +12,20 @@ mod workers;
 
 ghost use Rattle.std.specs.Prelude.{◌≤◌};
 
+use ks_arena::Arena;
 use ks_bplus::BNode;
 use ks_dictionary::Dictionary;
 use ks_giveup::GiveUp;
 use ks_link::LinkMove;
 use ks_linked::WithLink;
-use ks_node::WithRange;
+use ks_node::{Node, WithRange};
+use ks_shape::{Ruled, Scanning, Template};
 use std::alloc::Global;
 use std::sync::Wait;
 use std::thread::Threads;
 use std::time::Clock;
 use std::{env, io};
-use workers::{Load, Seen, fill_all, get_all, scan_all};
+use workers::{Load, Round, Seen, run_all};
 
 /// What was measured: how many keys were put, and what the scans and the gets saw.
 #[derive(Drop)]
@@ -33,44 +35,28 @@ struct Measured {
     gets: Seen,
 }
 
-/// Measures scans and gets by giving up.
-fn by_giving_up<R: Threads + Wait + Clock + Sync>(
-    rt: &R,
-    alloc: Global,
-    load: Load,
-) -> io::Result<Measured>
+/// Fills a tree, and measures scans and gets of it.
+fn measure<
+    N: Node + Send,
+    T: Ruled
+        + Template<N, Arena<N, <T as Ruled>::Rule>>
+        + Scanning<N, Arena<N, <T as Ruled>::Rule>>,
+    R: Threads + Wait + Clock + Sync,
+>(rt: &R, alloc: Global, load: Load) -> io::Result<Measured>
+where
+    N::Places: Send + Sync,
     requires workers { (1 ≤ load.workers) × (load.workers ≤ 64) }
     requires bits { load.bits ≤ 20 }
 {
-    let (map, mut passes) = Dictionary::<WithRange<BNode>, GiveUp>::start(
-        alloc,
-        load.nodes(),
-        load.workers,
-    )?;
-    let pairs = fill_all(rt, &map, load, passes.as_mut_slice());
-    let scans = scan_all(rt, &map, load, alloc, passes.as_mut_slice())?;
-    let gets = get_all(rt, &map, load, passes.as_mut_slice())?;
-    Ok(Measured { pairs, scans, gets })
-}
-
-/// Measures scans and gets along links.
-fn along_links<R: Threads + Wait + Clock + Sync>(
-    rt: &R,
-    alloc: Global,
-    load: Load,
-) -> io::Result<Measured>
-    requires workers { (1 ≤ load.workers) × (load.workers ≤ 64) }
-    requires bits { load.bits ≤ 20 }
-{
-    let (map, mut passes) = Dictionary::<WithLink<BNode>, LinkMove>::start(
-        alloc,
-        load.nodes(),
-        load.workers,
-    )?;
-    let pairs = fill_all(rt, &map, load, passes.as_mut_slice());
-    let scans = scan_all(rt, &map, load, alloc, passes.as_mut_slice())?;
-    let gets = get_all(rt, &map, load, passes.as_mut_slice())?;
-    Ok(Measured { pairs, scans, gets })
+    let (map, mut passes) = Dictionary::<N, T>::start(alloc, load.nodes(), load.workers)?;
+    let puts = run_all(rt, &map, load, alloc, passes.as_mut_slice(), Round::Puts)?;
+    let scans = run_all(rt, &map, load, alloc, passes.as_mut_slice(), Round::Scans)?;
+    let gets = run_all(rt, &map, load, alloc, passes.as_mut_slice(), Round::Gets)?;
+    Ok(Measured {
+        pairs: puts.pairs,
+        scans,
+        gets,
+    })
 }
 
 /// Measures by the technique; `None` if none of this name scans.
@@ -84,8 +70,8 @@ fn measure_by<R: Threads + Wait + Clock + Sync>(
     requires bits { load.bits ≤ 20 }
 {
     let measured = match technique {
-        "giveup" => by_giving_up(rt, alloc, load)?,
-        "link" => along_links(rt, alloc, load)?,
+        "giveup" => measure::<WithRange<BNode>, GiveUp, R>(rt, alloc, load)?,
+        "link" => measure::<WithLink<BNode>, LinkMove, R>(rt, alloc, load)?,
         _ => return Ok(None),
     };
     Ok(Some(measured))

@@ -62,6 +62,17 @@ impl Load {
     }
 }
 
+/// What all workers do before the next round begins.
+#[derive(Clone, Copy, Debug)]
+pub enum Round {
+    /// They put all keys, each worker its share of them.
+    Puts,
+    /// Each makes as many scans as the load says.
+    Scans,
+    /// Each gets the keys of the spans that it scans, one by one.
+    Gets,
+}
+
 /// What was seen: how many pairs, the sum of their values modulo 2^64, and the nanoseconds that it took.
 #[derive(Clone, Copy, Debug)]
 pub struct Seen {
@@ -114,18 +125,32 @@ fn first(caller: u32) -> u64 {
     next(caller as u64)
 }
 
-/// Puts all keys, each with twice the key for its value: each worker its share of them. Returns how many were put.
-pub fn fill_all<
+/// Makes a round with all workers, and sums up what they have seen.
+///
+/// # Errors
+///
+/// Lack of a clock.
+pub fn run_all<
     N: Node + Send,
-    T: Ruled + Template<N, Arena<N, <T as Ruled>::Rule>>,
-    R: Threads + Wait + Sync,
->(rt: &R, map: &Dictionary<N, T>, load: Load, passes: &mut [Pass<N, T::Rule>]) -> u64
+    T: Ruled
+        + Template<N, Arena<N, <T as Ruled>::Rule>>
+        + Scanning<N, Arena<N, <T as Ruled>::Rule>>,
+    R: Threads + Wait + Clock + Sync,
+>(
+    rt: &R,
+    map: &Dictionary<N, T>,
+    load: Load,
+    alloc: Global,
+    passes: &mut [Pass<N, T::Rule>],
+    round: Round,
+) -> io::Result<Seen>
 where
     N::Places: Send + Sync,
     requires some { 1 ≤ load.workers }
     requires passes { AreOrderedPassesOf map.now passes.old }
     ensures { AreOrderedPassesOf map.now passes.new }
 {
+    let begun = Instant::now(rt)?;
     let sums = Sums::new();
     for_each_mut(
         rt,
@@ -135,12 +160,39 @@ where
             requires { IsIdlePassOf map.now pass.old }
             ensures idle { IsIdlePassOf map.entry.now pass.new }
             ensures same { SameCaller pass.old pass.new }
-        { fill(rt, map, load, pass, &sums) },
+        { run(rt, map, load, alloc, pass, round, &sums) },
     );
-    sums.pairs.load(SeqCst)
+    sums.since(rt, begun)
 }
 
-/// Puts the share of one worker.
+/// Makes a round with one worker.
+fn run<
+    N: Node,
+    T: Ruled
+        + Template<N, Arena<N, <T as Ruled>::Rule>>
+        + Scanning<N, Arena<N, <T as Ruled>::Rule>>,
+    R: Wait,
+>(
+    rt: &R,
+    map: &Dictionary<N, T>,
+    load: Load,
+    alloc: Global,
+    pass: &mut Pass<N, T::Rule>,
+    round: Round,
+    sums: &Sums,
+)
+    requires { IsIdlePassOf map.now pass.old }
+    ensures idle { IsIdlePassOf map.now pass.new }
+    ensures same { SameCaller pass.old pass.new }
+{
+    match round {
+        Round::Puts => fill(rt, map, load, pass, sums),
+        Round::Scans => scan_each(rt, map, load, alloc, pass, sums),
+        Round::Gets => get_each(rt, map, load, pass, sums),
+    }
+}
+
+/// Puts the share of one worker, each key with twice the key for its value.
 fn fill<N: Node, T: Ruled + Template<N, Arena<N, <T as Ruled>::Rule>>, R: Wait>(
     rt: &R,
     map: &Dictionary<N, T>,
@@ -163,43 +215,6 @@ fn fill<N: Node, T: Ruled + Template<N, Arena<N, <T as Ruled>::Rule>>, R: Wait>(
         }
     }
     sums.add(pairs, 0);
-}
-
-/// Scans as many spans with each worker as the load says, and sums up what was listed.
-///
-/// # Errors
-///
-/// Lack of a clock.
-pub fn scan_all<
-    N: Node + Send,
-    T: Ruled + Scanning<N, Arena<N, <T as Ruled>::Rule>>,
-    R: Threads + Wait + Clock + Sync,
->(
-    rt: &R,
-    map: &Dictionary<N, T>,
-    load: Load,
-    alloc: Global,
-    passes: &mut [Pass<N, T::Rule>],
-) -> io::Result<Seen>
-where
-    N::Places: Send + Sync,
-    requires some { 1 ≤ load.workers }
-    requires passes { AreOrderedPassesOf map.now passes.old }
-    ensures { AreOrderedPassesOf map.now passes.new }
-{
-    let begun = Instant::now(rt)?;
-    let sums = Sums::new();
-    for_each_mut(
-        rt,
-        passes,
-        load.workers as usize,
-        &|_: usize, pass: &mut Pass<N, T::Rule>|
-            requires { IsIdlePassOf map.now pass.old }
-            ensures idle { IsIdlePassOf map.entry.now pass.new }
-            ensures same { SameCaller pass.old pass.new }
-        { scan_each(rt, map, load, alloc, pass, &sums) },
-    );
-    sums.since(rt, begun)
 }
 
 /// Makes the scans of one worker. Without memory for their parts it makes none.
@@ -268,37 +283,6 @@ fn sum_of(parts: &[Part]) -> u64 {
         }
     }
     sum
-}
-
-/// Gets the keys of the spans that the workers scan, one by one.
-///
-/// # Errors
-///
-/// Lack of a clock.
-pub fn get_all<
-    N: Node + Send,
-    T: Ruled + Template<N, Arena<N, <T as Ruled>::Rule>>,
-    R: Threads + Wait + Clock + Sync,
->(rt: &R, map: &Dictionary<N, T>, load: Load, passes: &mut [Pass<N, T::Rule>]) -> io::Result<Seen>
-where
-    N::Places: Send + Sync,
-    requires some { 1 ≤ load.workers }
-    requires passes { AreOrderedPassesOf map.now passes.old }
-    ensures { AreOrderedPassesOf map.now passes.new }
-{
-    let begun = Instant::now(rt)?;
-    let sums = Sums::new();
-    for_each_mut(
-        rt,
-        passes,
-        load.workers as usize,
-        &|_: usize, pass: &mut Pass<N, T::Rule>|
-            requires { IsIdlePassOf map.now pass.old }
-            ensures idle { IsIdlePassOf map.entry.now pass.new }
-            ensures same { SameCaller pass.old pass.new }
-        { get_each(rt, map, load, pass, &sums) },
-    );
-    sums.since(rt, begun)
 }
 
 /// Makes the gets of one worker.
