@@ -1,47 +1,65 @@
 //! Inputs past their limits, and ends that fail.
 
-use ks_gate::NoGate;
-use ks_script::{MemSink, MemSource};
-use ks_whole_runs::{FIRST, RUN, run, run_on};
-use std::test::Fail;
+use crate::faulty::{End, Faulty, SOUND, fail_each};
+use ks_whole_runs::Piece::{Bytes, Times};
+use ks_whole_runs::{FIRST, RUN, Row, SERVED, Wrong, run_each};
+
+static CALLERS: [Row; 1] = [Row {
+    words: &[RUN],
+    input: &[Times(65, b"caller\n")],
+    status: 2,
+    err: b"line 65 refused\n",
+    ..SERVED
+}];
 
 #[test]
-fn refuses_the_caller_past_the_limit(rt: HostRuntime) -> Result<(), Fail> {
-    let mut input = Vec::new(rt.alloc());
-    for _ in 0..65 {
-        input.extend_from_slice(b"caller\n")?;
-    }
-    let ended = run(&rt, rt.alloc(), RUN, &input)?;
-    assert_eq!(rt; ended.status, 2);
-    assert!(rt; ended.err.as_slice() == b"line 65 refused\n".as_slice());
-    Ok(())
+fn refuses_the_caller_past_the_limit(rt: HostRuntime) -> Result<(), Wrong> {
+    run_each(&rt, rt.alloc(), &CALLERS)
 }
 
+static LONG: [Row; 1] = [Row {
+    words: &[RUN],
+    input: &[Times(16777217, b"a")],
+    status: 2,
+    err: b"too many bytes\n",
+    ..SERVED
+}];
+
 #[test]
-fn refuses_the_byte_past_the_limit(rt: HostRuntime) -> Result<(), Fail> {
-    let input = vec![in rt.alloc(); b'a'; 16777217]?;
-    let ended = run(&rt, rt.alloc(), RUN, &input)?;
-    assert_eq!(rt; ended.status, 2);
-    assert!(rt; ended.err.as_slice() == b"too many bytes\n".as_slice());
-    Ok(())
+fn refuses_the_byte_past_the_limit(rt: HostRuntime) -> Result<(), Wrong> {
+    run_each(&rt, rt.alloc(), &LONG)
 }
 
-#[test]
-fn tells_that_an_end_failed(rt: HostRuntime) -> Result<(), Fail> {
-    let bytes = Vec::from_slice(rt.alloc(), FIRST)?;
-    let source = MemSource::new(bytes, 4096, Vec::new(rt.alloc()));
-    let out = MemSink::new(rt.alloc(), 4096, 5, vec![in rt.alloc(); 2]?)?;
-    let ended = run_on(&rt, rt.alloc(), RUN, source, out, &NoGate)?;
-    assert_eq!(rt; ended.status, 4);
-    assert!(rt; ended.out.as_slice() == b"caller 0\n0".as_slice());
-    assert!(rt; ended.err.as_slice() == b"write fault\n".as_slice());
+/// A run whose third write fails.
+pub const WRITE_FAULT: Faulty = Faulty {
+    words: RUN,
+    input: &[Bytes(FIRST)],
+    source: SOUND,
+    sink: End { most: 5, fails: 2 },
+    status: 4,
+    out: b"caller 0\n0",
+    err: b"write fault\n",
+    has_run: true,
+};
 
-    let bytes = Vec::from_slice(rt.alloc(), FIRST)?;
-    let source = MemSource::new(bytes, 4096, vec![in rt.alloc(); 0]?);
-    let out = MemSink::new(rt.alloc(), 4096, 4096, Vec::new(rt.alloc()))?;
-    let ended = run_on(&rt, rt.alloc(), RUN, source, out, &NoGate)?;
-    assert_eq!(rt; ended.status, 3);
-    assert!(rt; ended.out.is_empty());
-    assert!(rt; ended.err.as_slice() == b"read fault\n".as_slice());
-    Ok(())
+/// A run whose first read fails.
+pub const READ_FAULT: Faulty = Faulty {
+    words: RUN,
+    input: &[Bytes(FIRST)],
+    source: End {
+        most: 4096,
+        fails: 0,
+    },
+    sink: SOUND,
+    status: 3,
+    out: b"",
+    err: b"read fault\n",
+    has_run: false,
+};
+
+static FAULTS: [Faulty; 2] = [WRITE_FAULT, READ_FAULT];
+
+#[test]
+fn tells_that_an_end_failed(rt: HostRuntime) -> Result<(), Wrong> {
+    fail_each(&rt, rt.alloc(), &FAULTS)
 }

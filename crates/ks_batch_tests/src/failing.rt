@@ -1,19 +1,25 @@
 //! Ends that fail at each of their calls in turn, and ends that pass a byte at a time.
 
-ghost use Rattle.std.specs.Prelude.{◌<◌};
-
-use ks_gate::NoGate;
-use ks_script::{MemSink, MemSource};
-use ks_whole_runs::{Ended, FIRST, FIRST_RUN, RUN, USAGE, put_nones, run_at, run_ends};
-use std::alloc::{AllocError, Global};
+use crate::faulty::{End, Faulty, NEVER, SOUND, fail_each, run_by};
+use ks_whole_runs::Piece::{Bytes, Nones, Times};
+use ks_whole_runs::{
+    Ends, FIRST, FIRST_RUN, Piece, RUN, Row, SERVED, USAGE, Wanted, Wrong, run_each, text_of,
+};
+use std::alloc::Global;
 use std::sync::Wait;
-use std::test::Fail;
 use std::thread::Threads;
 
-/// The number of a read or a write that no run reaches.
-const NEVER: u64 = u64::MAX;
+/// A script, what is printed of it, and how many reads and writes that takes.
+struct Counted {
+    script: &'static [Piece],
+    printed: &'static [Piece],
+    /// How many bytes a read and a write pass at most.
+    most: usize,
+    reads: u64,
+    writes: u64,
+}
 
-/// Serves the script with ends that pass at most `most` bytes at a time. The read and write with these numbers fail.
+/// Serves the script with ends that pass at most `most` bytes at a time. The read and the write with these numbers fail.
 fn serve_failing<R: Threads + Wait + Sync>(
     rt: &R,
     alloc: Global,
@@ -21,120 +27,163 @@ fn serve_failing<R: Threads + Wait + Sync>(
     most: usize,
     read: u64,
     write: u64,
-) -> Result<Ended, AllocError>
-    requires { 0 < most }
-{
-    let bytes = Vec::from_slice(alloc, script)?;
-    let source = MemSource::new(bytes, most, vec![in alloc; read]?);
-    let out = MemSink::new(alloc, 65536, most, vec![in alloc; write]?)?;
-    let err = MemSink::new(alloc, 4096, 4096, Vec::new(alloc))?;
-    run_ends(rt, alloc, RUN, source, out, err, &NoGate)
+    wanted: Wanted,
+) -> Result<(), Wrong> {
+    let source = End { most, fails: read };
+    let sink = End { most, fails: write };
+    let ended = run_by(rt, alloc, RUN, script, source, sink, SOUND)?;
+    if ended.is(wanted) {
+        Ok(())
+    } else {
+        Err(Wrong::run(alloc, RUN, script, &ended))
+    }
 }
 
-/// Whether each read below `reads` ends with nothing printed if only it fails, and there is no read with that number.
-fn each_read_fails<R: Threads + Wait + Sync>(
+/// Each read ends the run with nothing printed if only it fails, and there are no more reads.
+fn fail_each_read<R: Threads + Wait + Sync>(
     rt: &R,
     alloc: Global,
     script: &[u8],
     printed: &[u8],
     most: usize,
     reads: u64,
-) -> Result<bool, AllocError>
-    requires { 0 < most }
-{
+) -> Result<(), Wrong> {
     for read in 0..reads {
-        let ended = serve_failing(rt, alloc, script, most, read, NEVER)?;
-        let said = ended.err.as_slice() == b"read fault\n".as_slice();
-        if ended.status != 3 || !ended.out.is_empty() || !said {
-            return Ok(false);
-        }
+        let wanted = Wanted {
+            status: 3,
+            out: b"",
+            err: b"read fault\n",
+        };
+        serve_failing(rt, alloc, script, most, read, NEVER, wanted)?;
     }
-    let ended = serve_failing(rt, alloc, script, most, reads, NEVER)?;
-    Ok(ended.status == 0 && ended.out.as_slice() == printed && ended.err.is_empty())
+    let wanted = Wanted {
+        status: 0,
+        out: printed,
+        err: b"",
+    };
+    serve_failing(rt, alloc, script, most, reads, NEVER, wanted)
 }
 
-/// Whether each write below `writes` leaves just what was taken before it if only it fails, and there is no write with
-/// that number.
-fn each_write_fails<R: Threads + Wait + Sync>(
+/// Each write leaves just what was taken before it if only it fails, and there are no more writes.
+fn fail_each_write<R: Threads + Wait + Sync>(
     rt: &R,
     alloc: Global,
     script: &[u8],
     printed: &[u8],
     most: usize,
     writes: u64,
-) -> Result<bool, AllocError>
-    requires { 0 < most }
-{
+) -> Result<(), Wrong> {
     for write in 0..writes {
-        let ended = serve_failing(rt, alloc, script, most, NEVER, write)?;
         let taken = (write as usize).saturating_mul(most).min(printed.len());
-        let said = ended.err.as_slice() == b"write fault\n".as_slice();
-        if ended.status != 4 || ended.out.as_slice() != &printed[..taken] || !said {
-            return Ok(false);
-        }
+        let wanted = Wanted {
+            status: 4,
+            out: &printed[..taken],
+            err: b"write fault\n",
+        };
+        serve_failing(rt, alloc, script, most, NEVER, write, wanted)?;
     }
-    let ended = serve_failing(rt, alloc, script, most, NEVER, writes)?;
-    Ok(ended.status == 0 && ended.out.as_slice() == printed && ended.err.is_empty())
+    let wanted = Wanted {
+        status: 0,
+        out: printed,
+        err: b"",
+    };
+    serve_failing(rt, alloc, script, most, NEVER, writes, wanted)
 }
 
-#[test]
-fn each_read_and_each_write_of_a_short_run_fails(rt: HostRuntime) -> Result<(), Fail> {
-    let alloc = rt.alloc();
-    assert!(rt; each_read_fails(&rt, alloc, FIRST, FIRST_RUN, 4096, 2)?);
-    assert!(rt; each_write_fails(&rt, alloc, FIRST, FIRST_RUN, 4096, 1)?);
-    Ok(())
+/// Serves the script, and each of its reads and writes fails in turn.
+fn fail_each_call<R: Threads + Wait + Sync>(
+    rt: &R,
+    alloc: Global,
+    row: &Counted,
+) -> Result<(), Wrong> {
+    let script = text_of(alloc, row.script)?;
+    let printed = text_of(alloc, row.printed)?;
+    fail_each_read(rt, alloc, &script, &printed, row.most, row.reads)?;
+    fail_each_write(rt, alloc, &script, &printed, row.most, row.writes)
 }
 
+static SHORT: Counted = Counted {
+    script: &[Bytes(FIRST)],
+    printed: &[Bytes(FIRST_RUN)],
+    most: 4096,
+    reads: 2,
+    writes: 1,
+};
+
 #[test]
-fn each_read_and_each_write_of_a_single_byte_fails(rt: HostRuntime) -> Result<(), Fail> {
-    let alloc = rt.alloc();
-    assert!(rt; each_read_fails(&rt, alloc, FIRST, FIRST_RUN, 1, 23)?);
-    assert!(rt; each_write_fails(&rt, alloc, FIRST, FIRST_RUN, 1, 34)?);
-    Ok(())
+fn each_read_and_each_write_of_a_short_run_fails(rt: HostRuntime) -> Result<(), Wrong> {
+    fail_each_call(&rt, rt.alloc(), &SHORT)
 }
 
-/// 2,000 gets are read in three pieces, and the replies to them are written in five.
+static SINGLE_BYTES: Counted = Counted {
+    script: &[Bytes(FIRST)],
+    printed: &[Bytes(FIRST_RUN)],
+    most: 1,
+    reads: 23,
+    writes: 34,
+};
+
 #[test]
-fn each_read_and_each_write_of_a_run_in_pieces_fails(rt: HostRuntime) -> Result<(), Fail> {
-    let alloc = rt.alloc();
-    let mut script = Vec::from_slice(alloc, b"caller\n")?;
-    for _ in 0..2000 {
-        script.extend_from_slice(b"get 0\n")?;
-    }
-    let mut printed = Vec::from_slice(alloc, b"caller 0\n")?;
-    put_nones(&mut printed, 0, 1999)?;
-    printed.extend_from_slice(b"map\nend\n")?;
-    assert!(rt; each_read_fails(&rt, alloc, &script, &printed, 4096, 4)?);
-    assert!(rt; each_write_fails(&rt, alloc, &script, &printed, 4096, 5)?);
-    let bytewise = serve_failing(&rt, alloc, &script, 1, NEVER, NEVER)?;
-    assert!(rt; bytewise.status == 0 && bytewise.out.as_slice() == printed.as_slice());
-    Ok(())
+fn each_read_and_each_write_of_a_single_byte_fails(rt: HostRuntime) -> Result<(), Wrong> {
+    fail_each_call(&rt, rt.alloc(), &SINGLE_BYTES)
+}
+
+/// 2,000 gets, and what is printed of them.
+const GETS: &[Piece] = &[Bytes(b"caller\n"), Times(2000, b"get 0\n")];
+
+const GETS_RUN: &[Piece] = &[Bytes(b"caller 0\n"), Nones(0, 1999), Bytes(b"map\nend\n")];
+
+/// They are read in three pieces, and the replies to them are written in five.
+static PIECES: Counted = Counted {
+    script: GETS,
+    printed: GETS_RUN,
+    most: 4096,
+    reads: 4,
+    writes: 5,
+};
+
+/// They are served alike by a byte at a time.
+static BYTEWISE: [Row; 1] = [Row {
+    words: &[RUN],
+    ends: Ends::Bytewise,
+    input: GETS,
+    out: GETS_RUN,
+    ..SERVED
+}];
+
+#[test]
+fn each_read_and_each_write_of_a_run_in_pieces_fails(rt: HostRuntime) -> Result<(), Wrong> {
+    fail_each_call(&rt, rt.alloc(), &PIECES)?;
+    run_each(&rt, rt.alloc(), &BYTEWISE)
 }
 
 /// A command of each kind, an input and what is printed.
-const COMMANDS: [(&str, &[u8], &[u8]); 3] = [
-    (RUN, FIRST, FIRST_RUN),
-    (
-        "check",
-        b"caller\nput 5 50\nget 5\nrun\ncaller 0\n0 none\n1 50\nmap\n5 50\nend\n",
-        b"legal 2\n",
-    ),
-    (
-        "make bplus coupling 64 1 2 0",
-        b"",
-        b"callers 1\ncalls 2\nfound 0\nnone 2\nfull 0\npairs 1\nsum 95564294500\n",
-    ),
+static COMMANDS: [Row; 3] = [
+    Row {
+        words: &[RUN],
+        ends: Ends::Bytewise,
+        input: &[Bytes(FIRST)],
+        out: &[Bytes(FIRST_RUN)],
+        ..SERVED
+    },
+    Row {
+        words: &["check"],
+        ends: Ends::Bytewise,
+        input: &[Bytes(b"caller\nput 5 50\nget 5\nrun\ncaller 0\n0 none\n1 50\nmap\n5 50\nend\n")],
+        out: &[Bytes(b"legal 2\n")],
+        ..SERVED
+    },
+    Row {
+        words: &["make bplus coupling 64 1 2 0"],
+        ends: Ends::Bytewise,
+        out: &[Bytes(b"callers 1\ncalls 2\nfound 0\nnone 2\nfull 0\npairs 1\nsum 95564294500\n")],
+        ..SERVED
+    },
 ];
 
 #[test]
-fn a_byte_at_a_time_changes_no_output(rt: HostRuntime) -> Result<(), Fail> {
-    for (words, input, printed) in COMMANDS {
-        let ended = run_at(&rt, rt.alloc(), words, input, 1, &NoGate)?;
-        assert_eq!(rt; ended.status, 0);
-        assert!(rt; ended.out.as_slice() == printed);
-        assert!(rt; ended.err.is_empty());
-    }
-    Ok(())
+fn a_byte_at_a_time_changes_no_output(rt: HostRuntime) -> Result<(), Wrong> {
+    run_each(&rt, rt.alloc(), &COMMANDS)
 }
 
 /// Words and inputs, what is said of them on the error output, and the status. Nothing is printed.
@@ -144,32 +193,56 @@ const SAID: [(&str, &[u8], &[u8], u8); 3] = [
     ("check", b"caller\n", b"line 2 refused\n", 2),
 ];
 
-/// Runs the program with an error output that takes at most `most` bytes at a time. The write with this number fails.
-fn say_failing<R: Threads + Wait + Sync>(
+/// Runs the program on each row, with an error output that fails after each number of single bytes that is less than all.
+fn cut_each<R: Threads + Wait + Sync>(
     rt: &R,
     alloc: Global,
-    words: &str,
-    input: &[u8],
-    most: usize,
-    write: u64,
-) -> Result<Ended, AllocError>
-    requires { 0 < most }
-{
-    let bytes = Vec::from_slice(alloc, input)?;
-    let source = MemSource::new(bytes, 4096, Vec::new(alloc));
-    let out = MemSink::new(alloc, 4096, 4096, Vec::new(alloc))?;
-    let err = MemSink::new(alloc, 4096, most, vec![in alloc; write]?)?;
-    run_ends(rt, alloc, words, source, out, err, &NoGate)
+    rows: &[(&str, &[u8], &[u8], u8)],
+) -> Result<(), Wrong> {
+    for &(words, input, said, status) in rows {
+        for taken in 0..said.len() {
+            let err = End {
+                most: 1,
+                fails: taken as u64,
+            };
+            let ended = run_by(rt, alloc, words, input, SOUND, SOUND, err)?;
+            let wanted = Wanted {
+                status,
+                out: b"",
+                err: &said[..taken],
+            };
+            if !ended.is(wanted) {
+                return Err(Wrong::run(alloc, words, input, &ended));
+            }
+        }
+    }
+    Ok(())
 }
 
 #[test]
-fn a_failing_error_output_changes_no_status(rt: HostRuntime) -> Result<(), Fail> {
-    for (words, input, said, status) in SAID {
-        for taken in 0..said.len() {
-            let ended = say_failing(&rt, rt.alloc(), words, input, 1, taken as u64)?;
-            assert_eq!(rt; ended.status, status);
-            assert!(rt; ended.out.is_empty());
-            assert!(rt; ended.err.as_slice() == &said[..taken]);
+fn a_failing_error_output_changes_no_status(rt: HostRuntime) -> Result<(), Wrong> {
+    cut_each(&rt, rt.alloc(), &SAID)
+}
+
+/// Runs the program on each row, with an error output whose second write fails.
+fn say_each_at_once<R: Threads + Wait + Sync>(
+    rt: &R,
+    alloc: Global,
+    rows: &[(&str, &[u8], &[u8], u8)],
+) -> Result<(), Wrong> {
+    for &(words, input, said, status) in rows {
+        let err = End {
+            most: 4096,
+            fails: 1,
+        };
+        let ended = run_by(rt, alloc, words, input, SOUND, SOUND, err)?;
+        let wanted = Wanted {
+            status,
+            out: b"",
+            err: said,
+        };
+        if !ended.is(wanted) {
+            return Err(Wrong::run(alloc, words, input, &ended));
         }
     }
     Ok(())
@@ -177,25 +250,27 @@ fn a_failing_error_output_changes_no_status(rt: HostRuntime) -> Result<(), Fail>
 
 /// What is said is offered in one piece: a second write is never made.
 #[test]
-fn what_is_said_goes_out_whole(rt: HostRuntime) -> Result<(), Fail> {
-    for (words, input, said, status) in SAID {
-        let ended = say_failing(&rt, rt.alloc(), words, input, 4096, 1)?;
-        assert_eq!(rt; ended.status, status);
-        assert!(rt; ended.err.as_slice() == said);
-    }
-    Ok(())
+fn what_is_said_goes_out_whole(rt: HostRuntime) -> Result<(), Wrong> {
+    say_each_at_once(&rt, rt.alloc(), &SAID)
 }
+
+/// A check with an output whose second write fails.
+static JUDGMENT: [Faulty; 1] = [Faulty {
+    words: "check",
+    input: &[Bytes(b"run\nmap\nend\n")],
+    source: SOUND,
+    sink: End {
+        most: 4096,
+        fails: 1,
+    },
+    status: 0,
+    out: b"legal 0\n",
+    err: b"",
+    has_run: false,
+}];
 
 /// So is a judgment.
 #[test]
-fn a_judgment_goes_out_whole(rt: HostRuntime) -> Result<(), Fail> {
-    let alloc = rt.alloc();
-    let bytes = Vec::from_slice(alloc, b"run\nmap\nend\n")?;
-    let source = MemSource::new(bytes, 4096, Vec::new(alloc));
-    let out = MemSink::new(alloc, 4096, 4096, vec![in alloc; 1]?)?;
-    let err = MemSink::new(alloc, 4096, 4096, Vec::new(alloc))?;
-    let ended = run_ends(&rt, alloc, "check", source, out, err, &NoGate)?;
-    assert_eq!(rt; ended.status, 0);
-    assert!(rt; ended.out.as_slice() == b"legal 0\n".as_slice());
-    Ok(())
+fn a_judgment_goes_out_whole(rt: HostRuntime) -> Result<(), Wrong> {
+    fail_each(&rt, rt.alloc(), &JUDGMENT)
 }

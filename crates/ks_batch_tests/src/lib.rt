@@ -7,6 +7,8 @@ mod ends;
 #[cfg(test)]
 mod failing;
 #[cfg(test)]
+mod faulty;
+#[cfg(test)]
 mod hostile;
 #[cfg(test)]
 mod outcomes;

@@ -1,9 +1,12 @@
 //! What `serve` returns beside the status: the line, the number, and the trace of a run.
 
-use ks_gate::NoGate;
-use ks_script::{MemSink, MemSource};
-use ks_whole_runs::{FIRST, RUN, run, run_on};
-use std::test::Fail;
+use crate::ends::{READ_FAULT, WRITE_FAULT};
+use crate::faulty::{Faulty, SOUND, fail_each};
+use ks_whole_runs::Piece::Times;
+use ks_whole_runs::{Ends, FIRST, RUN, Wrong, run};
+use std::alloc::Global;
+use std::sync::Wait;
+use std::thread::Threads;
 
 /// Words, inputs, and what each leaves: the status, the line, the number, and whether there is a trace.
 const OUTCOMES: [(&str, &[u8], u8, u64, u64, bool); 11] = [
@@ -48,6 +51,27 @@ const OUTCOMES: [(&str, &[u8], u8, u64, u64, bool); 11] = [
     ("check now", FIRST, 1, 0, 0, false),
 ];
 
+/// Runs the program on each of the words and inputs.
+fn end_each<R: Threads + Wait + Sync>(
+    rt: &R,
+    alloc: Global,
+    rows: &[(&str, &[u8], u8, u64, u64, bool)],
+) -> Result<(), Wrong> {
+    for &(words, input, status, line, number, has_run) in rows {
+        let ended = run(rt, alloc, words, input, Ends::Whole)?;
+        let is_named = ended.line == line && ended.number == number;
+        if ended.status != status || !is_named || ended.has_run != has_run {
+            return Err(Wrong::run(alloc, words, input, &ended));
+        }
+    }
+    Ok(())
+}
+
+#[test]
+fn each_outcome_has_its_line_and_its_number(rt: HostRuntime) -> Result<(), Wrong> {
+    end_each(&rt, rt.alloc(), &OUTCOMES)
+}
+
 /// How many lines before the map begin with a digit.
 fn numbered(text: &[u8]) -> usize {
     let mut count = 0usize;
@@ -64,44 +88,50 @@ fn numbered(text: &[u8]) -> usize {
     count
 }
 
-#[test]
-fn each_outcome_has_its_line_and_its_number(rt: HostRuntime) -> Result<(), Fail> {
-    for (words, input, status, line, number, has_run) in OUTCOMES {
-        let ended = run(&rt, rt.alloc(), words, input)?;
-        assert_eq!(rt; ended.status, status);
-        assert_eq!(rt; ended.line, line);
-        assert_eq!(rt; ended.number, number);
-        assert_eq!(rt; ended.has_run, has_run);
+/// Five calls of three callers, and words that serve them.
+const FIVE_CALLS: &[u8] = b"caller\nput 1 1\nget 1\ncaller\ncaller\ndel 1\nput 1 1\nget 2\n";
+
+const SERVING: [&str; 3] = [RUN, "run bplus giveup 4 1", "run hash link 4 2"];
+
+/// Serves the five calls by each of the words: there is a trace, and a line for each call.
+fn number_each<R: Threads + Wait + Sync>(
+    rt: &R,
+    alloc: Global,
+    words: &[&str],
+) -> Result<(), Wrong> {
+    for words in words {
+        let ended = run(rt, alloc, words, FIVE_CALLS, Ends::Whole)?;
+        if !ended.has_run || ended.status != 0 || numbered(&ended.out) != 5 {
+            return Err(Wrong::run(alloc, words, FIVE_CALLS, &ended));
+        }
     }
     Ok(())
 }
 
 /// Each call of a run that left a trace is printed on a line of its own.
 #[test]
-fn a_run_with_a_trace_has_all_its_calls(rt: HostRuntime) -> Result<(), Fail> {
-    let input: &[u8] = b"caller\nput 1 1\nget 1\ncaller\ncaller\ndel 1\nput 1 1\nget 2\n";
-    for words in [RUN, "run bplus giveup 4 1", "run hash link 4 2"] {
-        let ended = run(&rt, rt.alloc(), words, input)?;
-        assert!(rt; ended.has_run && ended.status == 0);
-        assert_eq!(rt; numbered(&ended.out), 5);
-    }
-    Ok(())
+fn a_run_with_a_trace_has_all_its_calls(rt: HostRuntime) -> Result<(), Wrong> {
+    number_each(&rt, rt.alloc(), &SERVING)
 }
+
+/// An output and an input that fail, and an input of too many bytes.
+static TRACES: [Faulty; 3] = [
+    WRITE_FAULT,
+    READ_FAULT,
+    Faulty {
+        words: RUN,
+        input: &[Times(16777217, b"a")],
+        source: SOUND,
+        sink: SOUND,
+        status: 2,
+        out: b"",
+        err: b"too many bytes\n",
+        has_run: false,
+    },
+];
 
 /// A run whose text could not be written was served all the same, and of one that was not read there is no trace.
 #[test]
-fn an_end_that_fails_leaves_a_trace_if_callers_were_served(rt: HostRuntime) -> Result<(), Fail> {
-    let alloc = rt.alloc();
-    let source = MemSource::new(Vec::from_slice(alloc, FIRST)?, 4096, Vec::new(alloc));
-    let out = MemSink::new(alloc, 4096, 5, vec![in alloc; 2]?)?;
-    let ended = run_on(&rt, alloc, RUN, source, out, &NoGate)?;
-    assert!(rt; ended.status == 4 && ended.has_run && ended.line == 0);
-    let source = MemSource::new(Vec::from_slice(alloc, FIRST)?, 4096, vec![in alloc; 0]?);
-    let out = MemSink::new(alloc, 4096, 4096, Vec::new(alloc))?;
-    let ended = run_on(&rt, alloc, RUN, source, out, &NoGate)?;
-    assert!(rt; ended.status == 3 && !ended.has_run && ended.line == 0);
-    let input = vec![in alloc; b'a'; 16777217]?;
-    let ended = run(&rt, alloc, RUN, &input)?;
-    assert!(rt; ended.status == 2 && !ended.has_run && ended.line == 0);
-    Ok(())
+fn an_end_that_fails_leaves_a_trace_if_callers_were_served(rt: HostRuntime) -> Result<(), Wrong> {
+    fail_each(&rt, rt.alloc(), &TRACES)
 }

@@ -1,8 +1,6 @@
 //! What is printed and what is said, for each kind of text.
 
-use ks_gate::NoGate;
-use ks_whole_runs::{FIRST, FIRST_RUN, RUN, USAGE, run, run_at};
-use std::test::Fail;
+use ks_whole_runs::{Ends, FIRST, FIRST_RUN, RUN, USAGE, Wrong, check_each, say_each, serve_each};
 
 /// Scripts and the texts of their runs.
 const RUNS: [(&[u8], &[u8]); 6] = [
@@ -47,69 +45,54 @@ const REFUSALS: [(&str, &[u8], &[u8], u8); 17] = [
 ];
 
 /// What is checked, and what is said of it, with the status.
-const CHECKS: [(&[u8], &[u8], &[u8], u8); 4] = [
+const CHECKS: [(&[u8], &[u8], u8); 4] = [
     (
         b"caller\nput 5 50\nget 5\nrun\ncaller 0\n0 none\n1 50\nmap\n5 50\nend\n",
         b"legal 2\n",
-        b"",
         0,
     ),
     (
         b"caller\nput 5 50\nget 5\nrun\ncaller 0\n0 50\n1 none\nmap\n5 50\nend\n",
         b"wrong 0\n",
-        b"",
         6,
     ),
     (
         b"caller\nput 5 50\nget 5\nrun\ncaller 0\n0 none\n1 50\nmap\nend\n",
         b"wrong 2\n",
-        b"",
         6,
     ),
-    (b"caller\n", b"", b"line 2 refused\n", 2),
+    (b"caller\n", b"line 2 refused\n", 2),
 ];
 
 #[test]
-fn judges_a_printed_run(rt: HostRuntime) -> Result<(), Fail> {
-    for (input, text, said, status) in CHECKS {
-        let ended = run(&rt, rt.alloc(), "check", input)?;
-        assert_eq!(rt; ended.status, status);
-        assert!(rt; ended.out.as_slice() == text);
-        assert!(rt; ended.err.as_slice() == said);
-    }
-    Ok(())
+fn judges_a_printed_run(rt: HostRuntime) -> Result<(), Wrong> {
+    check_each(&rt, rt.alloc(), b"", &CHECKS)
 }
 
 #[test]
-fn tells_what_each_call_is_answered(rt: HostRuntime) -> Result<(), Fail> {
-    for (input, text) in RUNS {
-        let whole = run(&rt, rt.alloc(), RUN, input)?;
-        assert_eq!(rt; whole.status, 0);
-        assert!(rt; whole.out.as_slice() == text);
-        let bytewise = run_at(&rt, rt.alloc(), RUN, input, 1, &NoGate)?;
-        assert!(rt; bytewise.out.as_slice() == text);
-    }
-    Ok(())
+fn tells_what_each_call_is_answered(rt: HostRuntime) -> Result<(), Wrong> {
+    serve_each(&rt, rt.alloc(), &[RUN], Ends::Whole, &RUNS)?;
+    serve_each(&rt, rt.alloc(), &[RUN], Ends::Bytewise, &RUNS)
+}
+
+/// What is printed of the script that is made.
+const SUMS: [(&[u8], &[u8]); 1] = [(
+    b"",
+    b"callers 1\ncalls 2\nfound 0\nnone 2\nfull 0\npairs 1\nsum 95564294500\n",
+)];
+
+#[test]
+fn sums_up_a_made_script(rt: HostRuntime) -> Result<(), Wrong> {
+    serve_each(
+        &rt,
+        rt.alloc(),
+        &["make bplus coupling 64 1 2 0"],
+        Ends::Whole,
+        &SUMS,
+    )
 }
 
 #[test]
-fn sums_up_a_made_script(rt: HostRuntime) -> Result<(), Fail> {
-    let ended = run(&rt, rt.alloc(), "make bplus coupling 64 1 2 0", b"")?;
-    assert_eq!(rt; ended.status, 0);
-    assert!(rt;
-        ended.out.as_slice()
-            == b"callers 1\ncalls 2\nfound 0\nnone 2\nfull 0\npairs 1\nsum 95564294500\n".as_slice()
-    );
-    Ok(())
-}
-
-#[test]
-fn says_why_nothing_is_served(rt: HostRuntime) -> Result<(), Fail> {
-    for (words, input, text, status) in REFUSALS {
-        let ended = run(&rt, rt.alloc(), words, input)?;
-        assert_eq!(rt; ended.status, status);
-        assert!(rt; ended.err.as_slice() == text);
-        assert!(rt; ended.out.is_empty());
-    }
-    Ok(())
+fn says_why_nothing_is_served(rt: HostRuntime) -> Result<(), Wrong> {
+    say_each(&rt, rt.alloc(), &REFUSALS)
 }

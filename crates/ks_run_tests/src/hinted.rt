@@ -1,7 +1,7 @@
 //! Scripts served by calls that begin at hints.
 
-use ks_whole_runs::{USAGE, put_nones, put_pairs, run};
-use std::test::Fail;
+use ks_whole_runs::Piece::{Bytes, Nones, Pairs, Puts};
+use ks_whole_runs::{Row, SERVED, USAGE, Wrong, run_each};
 
 /// The pairings whose calls can begin at hints, over 64 nodes, with one worker.
 const HINTED: [&str; 6] = [
@@ -24,72 +24,82 @@ const OTHERS: [&str; 7] = [
     "hinted list link 64 1",
 ];
 
-#[test]
-fn one_caller_is_served_alike_with_hints(rt: HostRuntime) -> Result<(), Fail> {
-    let alloc = rt.alloc();
-    let mut input = Vec::from_slice(alloc, b"caller\n")?;
-    put_pairs(&mut input, b"put ", 0, 16)?;
-    input.extend_from_slice(b"get 16\n")?;
-    let mut wanted = Vec::from_slice(alloc, b"caller 0\n")?;
-    put_nones(&mut wanted, 0, 16)?;
-    wanted.extend_from_slice(b"17 16\nmap\n")?;
-    put_pairs(&mut wanted, b"", 0, 16)?;
-    wanted.extend_from_slice(b"end\n")?;
-    for words in HINTED {
-        let ended = run(&rt, alloc, words, &input)?;
-        assert_eq!(rt; ended.status, 0);
-        assert!(rt; ended.out.as_slice() == wanted.as_slice());
-    }
-    Ok(())
-}
+/// Puts of one caller, and a get of the last key.
+static ALIKE: [Row; 1] = [Row {
+    words: &HINTED,
+    input: &[Bytes(b"caller\n"), Puts(0, 16), Bytes(b"get 16\n")],
+    out: &[
+        Bytes(b"caller 0\n"),
+        Nones(0, 16),
+        Bytes(b"17 16\nmap\n"),
+        Pairs(0, 16),
+        Bytes(b"end\n"),
+    ],
+    ..SERVED
+}];
 
 #[test]
-fn words_that_ask_for_no_hints_are_no_command(rt: HostRuntime) -> Result<(), Fail> {
-    for words in OTHERS {
-        let ended = run(&rt, rt.alloc(), words, b"caller\n")?;
-        assert_eq!(rt; ended.status, 1);
-        assert!(rt; ended.out.is_empty());
-        assert!(rt; ended.err.as_slice() == USAGE);
-    }
-    Ok(())
+fn one_caller_is_served_alike_with_hints(rt: HostRuntime) -> Result<(), Wrong> {
+    run_each(&rt, rt.alloc(), &ALIKE)
+}
+
+static REFUSED: [Row; 1] = [Row {
+    words: &OTHERS,
+    input: &[Bytes(b"caller\n")],
+    status: 1,
+    err: USAGE,
+    ..SERVED
+}];
+
+#[test]
+fn words_that_ask_for_no_hints_are_no_command(rt: HostRuntime) -> Result<(), Wrong> {
+    run_each(&rt, rt.alloc(), &REFUSED)
 }
 
 /// Two callers with two workers, and with one: each run is judged legal.
-#[test]
-fn runs_with_hints_are_legal(rt: HostRuntime) -> Result<(), Fail> {
-    let alloc = rt.alloc();
-    let script: &[u8] = b"caller\nput 7 70\ncaller\nget 7\n";
-    for words in [
+static LEGAL: [Row; 1] = [Row {
+    words: &[
         "hinted bplus link 64 2",
         "hinted bplus giveup 64 2",
         "hinted bst giveup 64 1",
-    ] {
-        let ended = run(&rt, alloc, words, script)?;
-        assert_eq!(rt; ended.status, 0);
-        let mut checked = Vec::from_slice(alloc, script)?;
-        checked.extend_from_slice(b"run\n")?;
-        checked.extend_from_slice(&ended.out)?;
-        let judged = run(&rt, alloc, "check", &checked)?;
-        assert!(rt; judged.out.as_slice() == b"legal 2\n".as_slice());
-    }
-    Ok(())
+    ],
+    input: &[Bytes(b"caller\nput 7 70\ncaller\nget 7\n")],
+    prints_any: true,
+    judged: Some(b"legal 2\n"),
+    ..SERVED
+}];
+
+#[test]
+fn runs_with_hints_are_legal(rt: HostRuntime) -> Result<(), Wrong> {
+    run_each(&rt, rt.alloc(), &LEGAL)
 }
 
+/// A call of each kind at one key, a scan and a move.
+const EACH_KIND: &[u8] = b"script 4\ncaller\nadd 1 10\nswap 1 10 11\nmove 1 2\nscan 0 9 1\ndel 2\n";
+
 /// Adds, swaps, scans and moves go along with calls that begin at hints; a script of no caller has no calls.
+static VERSIONS: [Row; 3] = [
+    Row {
+        words: &["hinted bplus giveup 4 1"],
+        input: &[Bytes(EACH_KIND)],
+        out: &[Bytes(b"caller 0\n0 none\n1 10\n2 11\n3 9 2 11\nwhole\n4 11\nmap\nend\n")],
+        ..SERVED
+    },
+    Row {
+        words: &["hinted bplus link 4 1"],
+        input: &[Bytes(EACH_KIND)],
+        status: 7,
+        err: b"line 5 unfit\n",
+        ..SERVED
+    },
+    Row {
+        words: &["hinted bplus link 4 64"],
+        out: &[Bytes(b"map\nend\n")],
+        ..SERVED
+    },
+];
+
 #[test]
-fn scripts_of_each_version_are_served_with_hints(rt: HostRuntime) -> Result<(), Fail> {
-    let alloc = rt.alloc();
-    let script: &[u8] = b"script 4\ncaller\nadd 1 10\nswap 1 10 11\nmove 1 2\nscan 0 9 1\ndel 2\n";
-    let ended = run(&rt, alloc, "hinted bplus giveup 4 1", script)?;
-    assert_eq!(rt; ended.status, 0);
-    assert!(rt;
-        ended.out.as_slice()
-            == b"caller 0\n0 none\n1 10\n2 11\n3 9 2 11\nwhole\n4 11\nmap\nend\n".as_slice()
-    );
-    let ended = run(&rt, alloc, "hinted bplus link 4 1", script)?;
-    assert!(rt; ended.err.as_slice() == b"line 5 unfit\n".as_slice());
-    let ended = run(&rt, alloc, "hinted bplus link 4 64", b"")?;
-    assert_eq!(rt; ended.status, 0);
-    assert!(rt; ended.out.as_slice() == b"map\nend\n".as_slice());
-    Ok(())
+fn scripts_of_each_version_are_served_with_hints(rt: HostRuntime) -> Result<(), Wrong> {
+    run_each(&rt, rt.alloc(), &VERSIONS)
 }

@@ -1,54 +1,100 @@
 //! Fewer workers than callers.
 
-use ks_batch::{Draft, Pairing, make};
-use ks_gate::{Meet, NoGate, Point};
-use ks_whole_runs::{run, run_at};
+ghost use Rattle.std.specs.Prelude.{◌<◌, ◌≤◌};
+
+use ks_batch::{Draft, Made, Pairing, make};
+use ks_gate::{NoGate, Point};
+use ks_whole_runs::Piece::Bytes;
+use ks_whole_runs::{Ends, Row, SERVED, Stop, Wrong, run, run_each};
+use std::alloc::{AllocError, Global};
+use std::sync::Wait;
 use std::test::Fail;
+use std::thread::Threads;
 
 const TWO: &[u8] = b"caller\nput 7 70\ncaller\nget 7\n";
 
 const IN_ORDER: &[u8] = b"caller 0\n0 none\ncaller 1\n1 70\nmap\n7 70\nend\n";
 
+static ONE_WORKER: [Row; 1] = [Row {
+    words: &["run bplus coupling 4 1"],
+    input: &[Bytes(TWO)],
+    out: &[Bytes(IN_ORDER)],
+    ..SERVED
+}];
+
 #[test]
-fn one_worker_serves_the_callers_in_their_order(rt: HostRuntime) -> Result<(), Fail> {
-    let ended = run(&rt, rt.alloc(), "run bplus coupling 4 1", TWO)?;
-    assert_eq!(rt; ended.status, 0);
-    assert!(rt; ended.out.as_slice() == IN_ORDER);
-    Ok(())
+fn one_worker_serves_the_callers_in_their_order(rt: HostRuntime) -> Result<(), Wrong> {
+    run_each(&rt, rt.alloc(), &ONE_WORKER)
 }
 
 /// Caller 0 waits in vain for caller 1, which its worker draws only later.
+static IN_VAIN: [Row; 1] = [Row {
+    words: &["run bplus coupling 4 1"],
+    stop: Stop::Meet {
+        after: 0,
+        at: Point::Begin,
+        turns: 1000,
+    },
+    input: &[Bytes(TWO)],
+    out: &[Bytes(IN_ORDER)],
+    times_out: true,
+    ..SERVED
+}];
+
 #[test]
-fn one_worker_serves_a_caller_whole(rt: HostRuntime) -> Result<(), Fail> {
-    let gate = Meet::of(0, 0, Point::Begin, 1, 1000);
-    let ended = run_at(&rt, rt.alloc(), "run bplus coupling 4 1", TWO, 4096, &gate)?;
-    assert_eq!(rt; ended.status, 0);
-    assert!(rt; ended.out.as_slice() == IN_ORDER);
-    assert!(rt; gate.failed());
-    Ok(())
+fn one_worker_serves_a_caller_whole(rt: HostRuntime) -> Result<(), Wrong> {
+    run_each(&rt, rt.alloc(), &IN_VAIN)
 }
 
-/// The callers of a made script share no key, so how many workers serve them makes no difference.
-#[test]
-fn a_made_script_is_summed_up_alike_by_any_number_of_workers(rt: HostRuntime) -> Result<(), Fail> {
-    let ended = run(&rt, rt.alloc(), "make bplus coupling 4096 64 16 7", b"")?;
-    assert_eq!(rt; ended.status, 0);
+/// Makes a script and serves it with as many workers.
+fn made_by<R: Threads + Wait + Sync>(
+    rt: &R,
+    alloc: Global,
+    workers: u32,
+) -> Result<Made, AllocError>
+    requires { (1 ≤ workers) × (workers ≤ 64) }
+{
     let draft = Draft {
         callers: 64,
         calls: 16,
         first: 7,
     };
-    for workers in [1u32, 2, 4, 64] {
-        let made = make(
-            &rt,
-            rt.alloc(),
-            Pairing::BplusCoupling,
-            4096,
-            draft,
-            workers,
-            &NoGate,
-        )?;
-        assert!(rt; made.text.as_slice() == ended.out.as_slice());
+    make(
+        rt,
+        alloc,
+        Pairing::BplusCoupling,
+        4096,
+        draft,
+        workers,
+        &NoGate,
+    )
+}
+
+/// The first of the numbers of workers with which the text that sums up a run is another than that of the command `make`.
+fn first_other<R: Threads + Wait + Sync>(
+    rt: &R,
+    alloc: Global,
+    workers: &[u32],
+) -> Result<Option<u32>, AllocError> {
+    let words = "make bplus coupling 4096 64 16 7";
+    let ended = run(rt, alloc, words, b"", Ends::Whole)?;
+    for workers in workers {
+        let workers = *workers;
+        if workers < 1 || workers > 64 || ended.status != 0 {
+            return Ok(Some(workers));
+        }
+        let made = made_by(rt, alloc, workers)?;
+        if made.text.as_slice() != ended.out.as_slice() {
+            return Ok(Some(workers));
+        }
     }
+    Ok(None)
+}
+
+/// The callers of a made script share no key, so how many workers serve them makes no difference.
+#[test]
+fn a_made_script_is_summed_up_alike_by_any_number_of_workers(rt: HostRuntime) -> Result<(), Fail> {
+    let other = first_other(&rt, rt.alloc(), &[1, 2, 4, 64])?;
+    assert_eq!(rt; other, None);
     Ok(())
 }

@@ -1,9 +1,10 @@
 //! Scripts of the fourth version: moves of a value from one key to another.
 
-use ks_gate::{Point, Stand};
-use ks_whole_runs::{RUN, put_nones, put_pairs, run, run_at};
-use std::alloc::{AllocError, Global};
-use std::test::Fail;
+use ks_gate::Point;
+use ks_whole_runs::Piece::{Bytes, Nones, Pairs, Puts};
+use ks_whole_runs::{
+    Ends, RUN, Row, SERVED, Stop, Wrong, check_each, refuse_each, run_each, serve_each,
+};
 
 /// The pairings that move, over 64 nodes.
 const MOVING: [&str; 4] = [
@@ -117,171 +118,206 @@ const CHECKS: [(&[u8], &[u8], u8); 10] = [
     ),
 ];
 
+/// Two scans and a move between them.
+const SCANS_AND_MOVE: &[u8] = b"script 4\ncaller\nscan 0 1 1\nmove 1 2\nscan 0 1 1\n";
+
 #[test]
-fn moves_are_served(rt: HostRuntime) -> Result<(), Fail> {
-    for (input, text) in RUNS {
-        for words in MOVING {
-            let ended = run(&rt, rt.alloc(), words, input)?;
-            assert_eq!(rt; ended.status, 0);
-            assert!(rt; ended.out.as_slice() == text);
-        }
-    }
-    let ended = run(&rt, rt.alloc(), "run bplus giveup 4", RUNS[0].0)?;
-    assert!(rt; ended.out.as_slice() == RUNS[0].1);
-    Ok(())
+fn moves_are_served(rt: HostRuntime) -> Result<(), Wrong> {
+    serve_each(&rt, rt.alloc(), &MOVING, Ends::Whole, &RUNS)?;
+    serve_each(
+        &rt,
+        rt.alloc(),
+        &["run bplus giveup 4"],
+        Ends::Whole,
+        &[RUNS[0]],
+    )
 }
 
 #[test]
-fn lines_that_are_no_move_are_refused(rt: HostRuntime) -> Result<(), Fail> {
-    for (input, text) in REFUSALS {
-        let ended = run(&rt, rt.alloc(), MOVING[1], input)?;
-        assert_eq!(rt; ended.status, 2);
-        assert!(rt; ended.err.as_slice() == text);
-        assert!(rt; ended.out.is_empty());
-    }
-    Ok(())
+fn lines_that_are_no_move_are_refused(rt: HostRuntime) -> Result<(), Wrong> {
+    refuse_each(&rt, rt.alloc(), MOVING[1], &REFUSALS)
 }
 
 #[test]
-fn runs_with_moves_are_judged(rt: HostRuntime) -> Result<(), Fail> {
-    for (input, text, status) in CHECKS {
-        let ended = run(&rt, rt.alloc(), "check", input)?;
-        assert_eq!(rt; ended.status, status);
-        assert!(rt; ended.said() == text);
-    }
-    Ok(())
+fn runs_with_moves_are_judged(rt: HostRuntime) -> Result<(), Wrong> {
+    check_each(&rt, rt.alloc(), b"", &CHECKS)
 }
+
+/// Scripts with a move, by pairings that do not move, and by one that does. The first line of either kind is named that the
+/// pairing does not serve.
+static UNFIT: [Row; 5] = [
+    Row {
+        words: &OTHERS,
+        input: &[Bytes(b"script 4\ncaller\nmove 1 2\n")],
+        status: 7,
+        err: b"line 3 unfit\n",
+        ..SERVED
+    },
+    Row {
+        words: &["run bplus link 4"],
+        input: &[Bytes(SCANS_AND_MOVE)],
+        status: 7,
+        err: b"line 4 unfit\n",
+        ..SERVED
+    },
+    Row {
+        words: &["run bst giveup 4"],
+        input: &[Bytes(SCANS_AND_MOVE)],
+        status: 7,
+        err: b"line 3 unfit\n",
+        ..SERVED
+    },
+    Row {
+        words: &[RUN],
+        input: &[Bytes(SCANS_AND_MOVE)],
+        status: 7,
+        err: b"line 3 unfit\n",
+        ..SERVED
+    },
+    Row {
+        words: &["run bplus giveup 4"],
+        input: &[Bytes(SCANS_AND_MOVE)],
+        out: &[Bytes(b"caller 0\n0 1\nwhole\n1 none\n2 1\nwhole\nmap\nend\n")],
+        ..SERVED
+    },
+];
 
 #[test]
-fn a_move_is_unfit_for_other_pairings(rt: HostRuntime) -> Result<(), Fail> {
-    for words in OTHERS {
-        let ended = run(&rt, rt.alloc(), words, b"script 4\ncaller\nmove 1 2\n")?;
-        assert_eq!(rt; ended.status, 7);
-        assert!(rt; ended.out.is_empty());
-        assert!(rt; ended.err.as_slice() == b"line 3 unfit\n".as_slice());
-    }
-    // the first line of either kind is named that the pairing does not serve
-    let input: &[u8] = b"script 4\ncaller\nscan 0 1 1\nmove 1 2\nscan 0 1 1\n";
-    let ended = run(&rt, rt.alloc(), "run bplus link 4", input)?;
-    assert!(rt; ended.err.as_slice() == b"line 4 unfit\n".as_slice());
-    let ended = run(&rt, rt.alloc(), "run bst giveup 4", input)?;
-    assert!(rt; ended.err.as_slice() == b"line 3 unfit\n".as_slice());
-    let ended = run(&rt, rt.alloc(), RUN, input)?;
-    assert!(rt; ended.err.as_slice() == b"line 3 unfit\n".as_slice());
-    let ended = run(&rt, rt.alloc(), "run bplus giveup 4", input)?;
-    assert_eq!(rt; ended.status, 0);
-    assert!(rt;
-        ended.out.as_slice() == b"caller 0\n0 1\nwhole\n1 none\n2 1\nwhole\nmap\nend\n".as_slice()
-    );
-    Ok(())
-}
-
-/// Puts of the keys from 0 to `last`, each as its own value, and some lines more.
-fn moved(alloc: Global, last: u64, lines: &[u8]) -> Result<Vec<u8>, AllocError> {
-    let mut input = Vec::from_slice(alloc, b"script 4\ncaller\n")?;
-    put_pairs(&mut input, b"put ", 0, last)?;
-    input.extend_from_slice(lines)?;
-    Ok(input)
+fn a_move_is_unfit_for_other_pairings(rt: HostRuntime) -> Result<(), Wrong> {
+    run_each(&rt, rt.alloc(), &UNFIT)
 }
 
 /// Four nodes have room for 32 keys, and then a move into another leaf is full, but not one within a leaf, nor one to a key
 /// that has a value.
+static FULL: [Row; 1] = [Row {
+    words: &["run bplus giveup 4"],
+    input: &[
+        Bytes(b"script 4\ncaller\n"),
+        Puts(0, 32),
+        Bytes(b"move 0 32\nmove 16 32\nmove 0 8\n"),
+    ],
+    out: &[
+        Bytes(b"caller 0\n"),
+        Nones(0, 31),
+        Bytes(b"32 full\n33 full\n34 16\n35 kept\nmap\n"),
+        Pairs(0, 15),
+        Pairs(17, 31),
+        Bytes(b"32 16\nend\n"),
+    ],
+    judged: Some(b"legal 36\n"),
+    ..SERVED
+}];
+
 #[test]
-fn a_move_finds_no_node_free(rt: HostRuntime) -> Result<(), Fail> {
-    let alloc = rt.alloc();
-    let mut input = moved(alloc, 32, b"move 0 32\nmove 16 32\nmove 0 8\n")?;
-    let mut wanted = Vec::from_slice(alloc, b"caller 0\n")?;
-    put_nones(&mut wanted, 0, 31)?;
-    wanted.extend_from_slice(b"32 full\n33 full\n34 16\n35 kept\nmap\n")?;
-    put_pairs(&mut wanted, b"", 0, 15)?;
-    put_pairs(&mut wanted, b"", 17, 31)?;
-    wanted.extend_from_slice(b"32 16\nend\n")?;
-    let ended = run(&rt, alloc, "run bplus giveup 4", &input)?;
-    assert_eq!(rt; ended.status, 0);
-    assert!(rt; ended.out.as_slice() == wanted.as_slice());
-    input.extend_from_slice(b"run\n")?;
-    input.extend_from_slice(&wanted)?;
-    let ended = run(&rt, alloc, "check", &input)?;
-    assert!(rt; ended.out.as_slice() == b"legal 36\n".as_slice());
-    Ok(())
+fn a_move_finds_no_node_free(rt: HostRuntime) -> Result<(), Wrong> {
+    run_each(&rt, rt.alloc(), &FULL)
 }
 
 /// Room is made for a value in another leaf, which splits.
+static SPLIT: [Row; 1] = [Row {
+    words: &["run bplus giveup 64"],
+    input: &[
+        Bytes(b"script 4\ncaller\n"),
+        Puts(0, 31),
+        Bytes(b"move 0 32\nmove 31 0\n"),
+    ],
+    out: &[
+        Bytes(b"caller 0\n"),
+        Nones(0, 31),
+        Bytes(b"32 0\n33 31\nmap\n0 31\n"),
+        Pairs(1, 30),
+        Bytes(b"32 0\nend\n"),
+    ],
+    ..SERVED
+}];
+
 #[test]
-fn a_move_makes_room(rt: HostRuntime) -> Result<(), Fail> {
-    let alloc = rt.alloc();
-    let input = moved(alloc, 31, b"move 0 32\nmove 31 0\n")?;
-    let mut wanted = Vec::from_slice(alloc, b"caller 0\n")?;
-    put_nones(&mut wanted, 0, 31)?;
-    wanted.extend_from_slice(b"32 0\n33 31\nmap\n0 31\n")?;
-    put_pairs(&mut wanted, b"", 1, 30)?;
-    wanted.extend_from_slice(b"32 0\nend\n")?;
-    let ended = run(&rt, alloc, "run bplus giveup 64", &input)?;
-    assert_eq!(rt; ended.status, 0);
-    assert!(rt; ended.out.as_slice() == wanted.as_slice());
-    Ok(())
+fn a_move_makes_room(rt: HostRuntime) -> Result<(), Wrong> {
+    run_each(&rt, rt.alloc(), &SPLIT)
 }
 
 /// Nine keys of a list of four nodes: the root keeps four of them, and the last one moves within the node behind it, and then
 /// to a key of the root, which has a value.
+static WITHIN: [Row; 1] = [Row {
+    words: &["run list giveup 4"],
+    input: &[
+        Bytes(b"script 4\ncaller\n"),
+        Puts(0, 8),
+        Bytes(b"move 8 20\nmove 20 3\n"),
+    ],
+    out: &[
+        Bytes(b"caller 0\n"),
+        Nones(0, 8),
+        Bytes(b"9 8\n10 kept\nmap\n"),
+        Pairs(0, 7),
+        Bytes(b"20 8\nend\n"),
+    ],
+    judged: Some(b"legal 11\n"),
+    ..SERVED
+}];
+
 #[test]
-fn a_value_moves_within_a_list_node_and_to_no_key_of_another(rt: HostRuntime) -> Result<(), Fail> {
-    let alloc = rt.alloc();
-    let mut input = moved(alloc, 8, b"move 8 20\nmove 20 3\n")?;
-    let mut wanted = Vec::from_slice(alloc, b"caller 0\n")?;
-    put_nones(&mut wanted, 0, 8)?;
-    wanted.extend_from_slice(b"9 8\n10 kept\nmap\n")?;
-    put_pairs(&mut wanted, b"", 0, 7)?;
-    wanted.extend_from_slice(b"20 8\nend\n")?;
-    let ended = run(&rt, alloc, "run list giveup 4", &input)?;
-    assert_eq!(rt; ended.status, 0);
-    assert!(rt; ended.out.as_slice() == wanted.as_slice());
-    input.extend_from_slice(b"run\n")?;
-    input.extend_from_slice(&wanted)?;
-    let ended = run(&rt, alloc, "check", &input)?;
-    assert!(rt; ended.out.as_slice() == b"legal 11\n".as_slice());
-    Ok(())
+fn a_value_moves_within_a_list_node_and_to_no_key_of_another(rt: HostRuntime) -> Result<(), Wrong> {
+    run_each(&rt, rt.alloc(), &WITHIN)
 }
 
 /// Caller 0 is stopped in its move with the number of the leaf to which the value goes, while caller 1 deletes a key, so that
 /// the leaf is merged away and the root takes over all. The number is that of a free node: the move restarts.
+static MERGED: [Row; 1] = [Row {
+    words: &["run bplus giveup 64"],
+    stop: Stop::Stand {
+        after: 18,
+        at: Point::Given(2),
+        calls: 2,
+        turns: 50_000_000,
+    },
+    input: &[
+        Bytes(b"script 4\ncaller\n"),
+        Puts(0, 16),
+        Bytes(b"get 0\nmove 3 100\ncaller\ndel 0\nget 1\n"),
+    ],
+    out: &[
+        Bytes(b"caller 0\n"),
+        Nones(0, 16),
+        Bytes(b"17 0\n20 3\ncaller 1\n18 0\n19 1\nmap\n"),
+        Pairs(1, 2),
+        Pairs(4, 16),
+        Bytes(b"100 3\nend\n"),
+    ],
+    ..SERVED
+}];
+
 #[test]
-fn a_move_ends_right_past_a_merge(rt: HostRuntime) -> Result<(), Fail> {
-    let alloc = rt.alloc();
-    let gate = Stand::of(0, 18, Point::Given(2), 1, 2, 50_000_000);
-    let input = moved(alloc, 16, b"get 0\nmove 3 100\ncaller\ndel 0\nget 1\n")?;
-    let mut wanted = Vec::from_slice(alloc, b"caller 0\n")?;
-    put_nones(&mut wanted, 0, 16)?;
-    wanted.extend_from_slice(b"17 0\n20 3\ncaller 1\n18 0\n19 1\nmap\n")?;
-    put_pairs(&mut wanted, b"", 1, 2)?;
-    put_pairs(&mut wanted, b"", 4, 16)?;
-    wanted.extend_from_slice(b"100 3\nend\n")?;
-    let ended = run_at(&rt, alloc, "run bplus giveup 64", &input, 4096, &gate)?;
-    assert_eq!(rt; ended.status, 0);
-    assert!(rt; ended.out.as_slice() == wanted.as_slice());
-    assert!(rt; !gate.failed());
-    Ok(())
+fn a_move_ends_right_past_a_merge(rt: HostRuntime) -> Result<(), Wrong> {
+    run_each(&rt, rt.alloc(), &MERGED)
 }
 
 /// Meanwhile caller 1 lets the root grow again, so that the node has other keys: the move restarts.
+static USED_AGAIN: [Row; 1] = [Row {
+    words: &["run bplus giveup 64"],
+    stop: Stop::Stand {
+        after: 18,
+        at: Point::Given(2),
+        calls: 3,
+        turns: 50_000_000,
+    },
+    input: &[
+        Bytes(b"script 4\ncaller\n"),
+        Puts(0, 16),
+        Bytes(b"get 0\nmove 3 100\ncaller\ndel 0\nput 50 50\nget 1\n"),
+    ],
+    out: &[
+        Bytes(b"caller 0\n"),
+        Nones(0, 16),
+        Bytes(b"17 0\n21 3\ncaller 1\n18 0\n19 none\n20 1\nmap\n"),
+        Pairs(1, 2),
+        Pairs(4, 16),
+        Bytes(b"50 50\n100 3\nend\n"),
+    ],
+    ..SERVED
+}];
+
 #[test]
-fn a_move_ends_right_past_a_node_used_again(rt: HostRuntime) -> Result<(), Fail> {
-    let alloc = rt.alloc();
-    let gate = Stand::of(0, 18, Point::Given(2), 1, 3, 50_000_000);
-    let input = moved(
-        alloc,
-        16,
-        b"get 0\nmove 3 100\ncaller\ndel 0\nput 50 50\nget 1\n",
-    )?;
-    let mut wanted = Vec::from_slice(alloc, b"caller 0\n")?;
-    put_nones(&mut wanted, 0, 16)?;
-    wanted.extend_from_slice(b"17 0\n21 3\ncaller 1\n18 0\n19 none\n20 1\nmap\n")?;
-    put_pairs(&mut wanted, b"", 1, 2)?;
-    put_pairs(&mut wanted, b"", 4, 16)?;
-    wanted.extend_from_slice(b"50 50\n100 3\nend\n")?;
-    let ended = run_at(&rt, alloc, "run bplus giveup 64", &input, 4096, &gate)?;
-    assert_eq!(rt; ended.status, 0);
-    assert!(rt; ended.out.as_slice() == wanted.as_slice());
-    assert!(rt; !gate.failed());
-    Ok(())
+fn a_move_ends_right_past_a_node_used_again(rt: HostRuntime) -> Result<(), Wrong> {
+    run_each(&rt, rt.alloc(), &USED_AGAIN)
 }

@@ -1,9 +1,10 @@
 //! Scripts of the third version: scans in parts, each of which is a call.
 
-use ks_gate::{NoGate, Point, Stand};
-use ks_whole_runs::{RUN, put_nones, put_pairs, run, run_at};
-use std::alloc::{AllocError, Global};
-use std::test::Fail;
+use ks_gate::Point;
+use ks_whole_runs::Piece::{Bytes, Nones, Pairs, Puts, Times};
+use ks_whole_runs::{
+    Ends, RUN, Row, SERVED, Stop, Wrong, check_each, refuse_each, run_each, serve_each,
+};
 
 /// Over B+ nodes both techniques that scan, with four nodes and with 64.
 const FOUR: [&str; 2] = ["run bplus giveup 4", "run bplus link 4"];
@@ -109,154 +110,217 @@ const CHECKS: [(&[u8], &[u8], u8); 16] = [
     (b"1 none\n", b"line 9 refused\n", 2),
 ];
 
-/// Puts of the keys from 0 to 16, each as its own value, and then the lines of a scan.
-fn scanned(alloc: Global, scan: &[u8]) -> Result<Vec<u8>, AllocError> {
-    let mut input = Vec::from_slice(alloc, b"script 3\ncaller\n")?;
-    put_pairs(&mut input, b"put ", 0, 16)?;
-    input.extend_from_slice(scan)?;
-    Ok(input)
-}
-
-/// What is printed of these puts and these lines of the scan.
-fn printed(alloc: Global, scan: &[u8]) -> Result<Vec<u8>, AllocError> {
-    let mut text = Vec::from_slice(alloc, b"caller 0\n")?;
-    put_nones(&mut text, 0, 16)?;
-    text.extend_from_slice(scan)?;
-    text.extend_from_slice(b"map\n")?;
-    put_pairs(&mut text, b"", 0, 16)?;
-    text.extend_from_slice(b"end\n")?;
-    Ok(text)
-}
-
-/// The script, the line `run`, and what was printed of it.
-fn to_check(alloc: Global, script: &[u8], printed: &[u8]) -> Result<Vec<u8>, AllocError> {
-    let mut text = Vec::from_slice(alloc, script)?;
-    text.extend_from_slice(b"run\n")?;
-    text.extend_from_slice(printed)?;
-    Ok(text)
-}
-
 /// The two leaves of 17 keys: the first has the places to 7.
 const LEAVES: &[u8] =
     b"17 7 0 0 1 1 2 2 3 3 4 4 5 5 6 6 7 7\n18 20 8 8 9 9 10 10 11 11 12 12 13 13 14 14 15 15 16 16\nwhole\n";
 
 const FIRST_LEAF: &[u8] = b"17 7 0 0 1 1 2 2 3 3 4 4 5 5 6 6 7 7\nuntil 8\n";
 
-/// A scan and its lines, and what its run is judged to be.
-const OF_LEAVES: [(&[u8], &[u8], &[u8]); 4] = [
-    (b"scan 0 20 64\n", LEAVES, b"legal 19\n"),
-    // a scan of just as many parts as there are leaves is whole
-    (b"scan 0 20 2\n", LEAVES, b"legal 19\n"),
-    (b"scan 0 20 1\n", FIRST_LEAF, b"legal 18\n"),
-    (
-        b"scan 0 7 1\n",
-        b"17 7 0 0 1 1 2 2 3 3 4 4 5 5 6 6 7 7\nwhole\n",
-        b"legal 18\n",
-    ),
+/// Scans of 17 keys, and what their runs are judged to be. A scan of just as many parts as there are leaves is whole.
+static OF_LEAVES: [Row; 4] = [
+    Row {
+        words: &MANY,
+        input: &[
+            Bytes(b"script 3\ncaller\n"),
+            Puts(0, 16),
+            Bytes(b"scan 0 20 64\n"),
+        ],
+        out: &[
+            Bytes(b"caller 0\n"),
+            Nones(0, 16),
+            Bytes(LEAVES),
+            Bytes(b"map\n"),
+            Pairs(0, 16),
+            Bytes(b"end\n"),
+        ],
+        judged: Some(b"legal 19\n"),
+        ..SERVED
+    },
+    Row {
+        words: &MANY,
+        input: &[
+            Bytes(b"script 3\ncaller\n"),
+            Puts(0, 16),
+            Bytes(b"scan 0 20 2\n"),
+        ],
+        out: &[
+            Bytes(b"caller 0\n"),
+            Nones(0, 16),
+            Bytes(LEAVES),
+            Bytes(b"map\n"),
+            Pairs(0, 16),
+            Bytes(b"end\n"),
+        ],
+        judged: Some(b"legal 19\n"),
+        ..SERVED
+    },
+    Row {
+        words: &MANY,
+        input: &[
+            Bytes(b"script 3\ncaller\n"),
+            Puts(0, 16),
+            Bytes(b"scan 0 20 1\n"),
+        ],
+        out: &[
+            Bytes(b"caller 0\n"),
+            Nones(0, 16),
+            Bytes(FIRST_LEAF),
+            Bytes(b"map\n"),
+            Pairs(0, 16),
+            Bytes(b"end\n"),
+        ],
+        judged: Some(b"legal 18\n"),
+        ..SERVED
+    },
+    Row {
+        words: &MANY,
+        input: &[
+            Bytes(b"script 3\ncaller\n"),
+            Puts(0, 16),
+            Bytes(b"scan 0 7 1\n"),
+        ],
+        out: &[
+            Bytes(b"caller 0\n"),
+            Nones(0, 16),
+            Bytes(b"17 7 0 0 1 1 2 2 3 3 4 4 5 5 6 6 7 7\nwhole\n"),
+            Bytes(b"map\n"),
+            Pairs(0, 16),
+            Bytes(b"end\n"),
+        ],
+        judged: Some(b"legal 18\n"),
+        ..SERVED
+    },
 ];
 
 #[test]
-fn a_scan_has_a_part_for_each_leaf(rt: HostRuntime) -> Result<(), Fail> {
-    let alloc = rt.alloc();
-    for (scan, lines, judged) in OF_LEAVES {
-        let input = scanned(alloc, scan)?;
-        let wanted = printed(alloc, lines)?;
-        for words in MANY {
-            let ended = run(&rt, alloc, words, &input)?;
-            assert_eq!(rt; ended.status, 0);
-            assert!(rt; ended.out.as_slice() == wanted.as_slice());
-        }
-        let ended = run(&rt, alloc, "check", &to_check(alloc, &input, &wanted)?)?;
-        assert!(rt; ended.out.as_slice() == judged);
-    }
-    Ok(())
+fn a_scan_has_a_part_for_each_leaf(rt: HostRuntime) -> Result<(), Wrong> {
+    run_each(&rt, rt.alloc(), &OF_LEAVES)
+}
+
+/// A scan, and the check of its run.
+static BYTEWISE: [Row; 2] = [
+    Row {
+        words: &["run bplus link 64"],
+        ends: Ends::Bytewise,
+        input: &[
+            Bytes(b"script 3\ncaller\n"),
+            Puts(0, 16),
+            Bytes(b"scan 0 20 64\n"),
+        ],
+        out: &[
+            Bytes(b"caller 0\n"),
+            Nones(0, 16),
+            Bytes(LEAVES),
+            Bytes(b"map\n"),
+            Pairs(0, 16),
+            Bytes(b"end\n"),
+        ],
+        ..SERVED
+    },
+    Row {
+        words: &["check"],
+        ends: Ends::Bytewise,
+        input: &[
+            Bytes(b"script 3\ncaller\n"),
+            Puts(0, 16),
+            Bytes(b"scan 0 20 64\n"),
+            Bytes(b"run\n"),
+            Bytes(b"caller 0\n"),
+            Nones(0, 16),
+            Bytes(LEAVES),
+            Bytes(b"map\n"),
+            Pairs(0, 16),
+            Bytes(b"end\n"),
+        ],
+        out: &[Bytes(b"legal 19\n")],
+        ..SERVED
+    },
+];
+
+#[test]
+fn a_byte_at_a_time_changes_no_scan(rt: HostRuntime) -> Result<(), Wrong> {
+    run_each(&rt, rt.alloc(), &BYTEWISE)
 }
 
 #[test]
-fn a_byte_at_a_time_changes_no_scan(rt: HostRuntime) -> Result<(), Fail> {
-    let alloc = rt.alloc();
-    let input = scanned(alloc, b"scan 0 20 64\n")?;
-    let wanted = printed(alloc, LEAVES)?;
-    let ended = run_at(&rt, alloc, "run bplus link 64", &input, 1, &NoGate)?;
-    assert!(rt; ended.out.as_slice() == wanted.as_slice());
-    let text = to_check(alloc, &input, &wanted)?;
-    let ended = run_at(&rt, alloc, "check", &text, 1, &NoGate)?;
-    assert!(rt; ended.out.as_slice() == b"legal 19\n".as_slice());
-    Ok(())
+fn scans_are_served(rt: HostRuntime) -> Result<(), Wrong> {
+    serve_each(&rt, rt.alloc(), &FOUR, Ends::Whole, &RUNS)
+}
+
+/// The run of an empty scan.
+const EMPTY: [(&[u8], &[u8], u8); 1] = [(
+    b"script 3\ncaller\nscan 5 5 1\nrun\ncaller 0\n0 5\nwhole\nmap\nend\n",
+    b"legal 1\n",
+    0,
+)];
+
+#[test]
+fn an_empty_scan_is_judged(rt: HostRuntime) -> Result<(), Wrong> {
+    check_each(&rt, rt.alloc(), b"", &EMPTY)
 }
 
 #[test]
-fn scans_are_served(rt: HostRuntime) -> Result<(), Fail> {
-    for (input, text) in RUNS {
-        for words in FOUR {
-            let ended = run(&rt, rt.alloc(), words, input)?;
-            assert_eq!(rt; ended.status, 0);
-            assert!(rt; ended.out.as_slice() == text);
-        }
-    }
-    Ok(())
+fn lines_that_are_no_scan_are_refused(rt: HostRuntime) -> Result<(), Wrong> {
+    refuse_each(&rt, rt.alloc(), FOUR[0], &REFUSALS)
 }
 
 #[test]
-fn an_empty_scan_is_judged(rt: HostRuntime) -> Result<(), Fail> {
-    let input: &[u8] = b"script 3\ncaller\nscan 5 5 1\nrun\ncaller 0\n0 5\nwhole\nmap\nend\n";
-    let ended = run(&rt, rt.alloc(), "check", input)?;
-    assert_eq!(rt; ended.status, 0);
-    assert!(rt; ended.out.as_slice() == b"legal 1\n".as_slice());
-    Ok(())
+fn runs_with_scans_are_judged(rt: HostRuntime) -> Result<(), Wrong> {
+    check_each(&rt, rt.alloc(), TWO_SCANS, &CHECKS)
 }
 
-#[test]
-fn lines_that_are_no_scan_are_refused(rt: HostRuntime) -> Result<(), Fail> {
-    for (input, text) in REFUSALS {
-        let ended = run(&rt, rt.alloc(), FOUR[0], input)?;
-        assert_eq!(rt; ended.status, 2);
-        assert!(rt; ended.err.as_slice() == text);
-        assert!(rt; ended.out.is_empty());
-    }
-    Ok(())
-}
+/// A part of 17 pairs.
+static LONG_PART: [Row; 1] = [Row {
+    words: &["check"],
+    input: &[
+        Bytes(b"script 3\ncaller\n"),
+        Puts(0, 16),
+        Bytes(b"scan 0 20 64\n"),
+        Bytes(b"run\n"),
+        Bytes(b"caller 0\n"),
+        Nones(0, 16),
+        Bytes(
+            b"17 20 0 0 1 1 2 2 3 3 4 4 5 5 6 6 7 7 8 8 9 9 10 10 11 11 12 12 13 13 14 14 15 15 16 16\nwhole\n",
+        ),
+        Bytes(b"map\n"),
+        Pairs(0, 16),
+        Bytes(b"end\n"),
+    ],
+    status: 2,
+    err: b"line 40 refused\n",
+    ..SERVED
+}];
 
 #[test]
-fn runs_with_scans_are_judged(rt: HostRuntime) -> Result<(), Fail> {
-    for (lines, text, status) in CHECKS {
-        let mut input = Vec::from_slice(rt.alloc(), TWO_SCANS)?;
-        input.extend_from_slice(lines)?;
-        let ended = run(&rt, rt.alloc(), "check", &input)?;
-        assert_eq!(rt; ended.status, status);
-        assert!(rt; ended.said() == text);
-    }
-    Ok(())
+fn a_part_has_at_most_sixteen_pairs(rt: HostRuntime) -> Result<(), Wrong> {
+    run_each(&rt, rt.alloc(), &LONG_PART)
 }
 
-/// A part of 17 pairs is refused.
-#[test]
-fn a_part_has_at_most_sixteen_pairs(rt: HostRuntime) -> Result<(), Fail> {
-    let alloc = rt.alloc();
-    let input = scanned(alloc, b"scan 0 20 64\n")?;
-    let lines: &[u8] =
-        b"17 20 0 0 1 1 2 2 3 3 4 4 5 5 6 6 7 7 8 8 9 9 10 10 11 11 12 12 13 13 14 14 15 15 16 16\nwhole\n";
-    let text = to_check(alloc, &input, &printed(alloc, lines)?)?;
-    let ended = run(&rt, alloc, "check", &text)?;
-    assert_eq!(rt; ended.status, 2);
-    assert!(rt; ended.err.as_slice() == b"line 40 refused\n".as_slice());
-    Ok(())
-}
+/// As many parts as a script may have, and one more.
+static PARTS: [Row; 2] = [
+    Row {
+        words: &["run bplus giveup 4"],
+        input: &[Bytes(b"script 3\ncaller\n"), Times(1024, b"scan 7 7 64\n")],
+        prints_any: true,
+        ..SERVED
+    },
+    Row {
+        words: &["run bplus giveup 4"],
+        input: &[
+            Bytes(b"script 3\ncaller\n"),
+            Times(1024, b"scan 7 7 64\n"),
+            Bytes(b"get 7\nscan 7 7 1\n"),
+        ],
+        status: 2,
+        err: b"line 1028 refused\n",
+        ..SERVED
+    },
+];
 
 /// The parts of all scans of a script are 65,536 at most.
 #[test]
-fn a_script_has_so_many_parts_at_most(rt: HostRuntime) -> Result<(), Fail> {
-    let mut input = Vec::from_slice(rt.alloc(), b"script 3\ncaller\n")?;
-    for _ in 0..1024 {
-        input.extend_from_slice(b"scan 7 7 64\n")?;
-    }
-    let ended = run(&rt, rt.alloc(), FOUR[0], &input)?;
-    assert_eq!(rt; ended.status, 0);
-    input.extend_from_slice(b"get 7\nscan 7 7 1\n")?;
-    let ended = run(&rt, rt.alloc(), FOUR[0], &input)?;
-    assert_eq!(rt; ended.status, 2);
-    assert!(rt; ended.err.as_slice() == b"line 1028 refused\n".as_slice());
-    Ok(())
+fn a_script_has_so_many_parts_at_most(rt: HostRuntime) -> Result<(), Wrong> {
+    run_each(&rt, rt.alloc(), &PARTS)
 }
 
 /// The pairings that do not scan.
@@ -271,88 +335,116 @@ const OTHERS: [&str; 8] = [
     "run bst giveup 4",
 ];
 
-#[test]
-fn a_scan_is_unfit_for_other_pairings(rt: HostRuntime) -> Result<(), Fail> {
-    for words in OTHERS {
-        let ended = run(&rt, rt.alloc(), words, b"script 3\ncaller\nscan 5 5 1\n")?;
-        assert_eq!(rt; ended.status, 7);
-        assert!(rt; ended.out.is_empty());
-        assert!(rt; ended.err.as_slice() == b"line 3 unfit\n".as_slice());
-        let ended = run(
-            &rt,
-            rt.alloc(),
-            words,
-            b"script 3\ncaller\nput 1 1\nget 1\ncaller\nscan 5 5 1\nscan 5 5 1\n",
-        )?;
-        assert!(rt; ended.err.as_slice() == b"line 6 unfit\n".as_slice());
-    }
-    Ok(())
-}
+/// Scripts that they do not serve: the first scan is named.
+static UNFIT: [Row; 2] = [
+    Row {
+        words: &OTHERS,
+        input: &[Bytes(b"script 3\ncaller\nscan 5 5 1\n")],
+        status: 7,
+        err: b"line 3 unfit\n",
+        ..SERVED
+    },
+    Row {
+        words: &OTHERS,
+        input: &[Bytes(b"script 3\ncaller\nput 1 1\nget 1\ncaller\nscan 5 5 1\nscan 5 5 1\n")],
+        status: 7,
+        err: b"line 6 unfit\n",
+        ..SERVED
+    },
+];
 
 #[test]
-fn a_script_of_the_third_version_without_scans_fits_all(rt: HostRuntime) -> Result<(), Fail> {
-    for words in OTHERS {
-        let ended = run(&rt, rt.alloc(), words, b"script 3\ncaller\nadd 5 1\n")?;
-        assert_eq!(rt; ended.status, 0);
-        assert!(rt; ended.out.as_slice() == b"caller 0\n0 none\nmap\n5 1\nend\n".as_slice());
-    }
-    // (a line that is refused comes first, wherever it is)
-    let ended = run(&rt, rt.alloc(), RUN, b"script 3\ncaller\nscan 5 5 1\nput\n")?;
-    assert_eq!(rt; ended.status, 2);
-    assert!(rt; ended.err.as_slice() == b"line 4 refused\n".as_slice());
-    Ok(())
+fn a_scan_is_unfit_for_other_pairings(rt: HostRuntime) -> Result<(), Wrong> {
+    run_each(&rt, rt.alloc(), &UNFIT)
+}
+
+/// A script that they serve; and a line that is refused comes first, wherever it is.
+static FIT: [Row; 2] = [
+    Row {
+        words: &OTHERS,
+        input: &[Bytes(b"script 3\ncaller\nadd 5 1\n")],
+        out: &[Bytes(b"caller 0\n0 none\nmap\n5 1\nend\n")],
+        ..SERVED
+    },
+    Row {
+        words: &[RUN],
+        input: &[Bytes(b"script 3\ncaller\nscan 5 5 1\nput\n")],
+        status: 2,
+        err: b"line 4 refused\n",
+        ..SERVED
+    },
+];
+
+#[test]
+fn a_script_of_the_third_version_without_scans_fits_all(rt: HostRuntime) -> Result<(), Wrong> {
+    run_each(&rt, rt.alloc(), &FIT)
 }
 
 /// Caller 0 scans from key 16, and is stopped with the number of the leaf while caller 1 splits it at that key: it comes to
 /// the left half, and goes on to the right one, by the link or from the root.
+static SPLIT: [Row; 1] = [Row {
+    words: &MANY,
+    stop: Stop::Stand {
+        after: 24,
+        at: Point::Given(0),
+        calls: 1,
+        turns: 50_000_000,
+    },
+    input: &[
+        Bytes(b"script 3\ncaller\n"),
+        Puts(0, 23),
+        Bytes(b"scan 16 30 4\ncaller\nput 24 24\n"),
+    ],
+    out: &[
+        Bytes(b"caller 0\n"),
+        Nones(0, 23),
+        Bytes(
+            b"25 30 16 16 17 17 18 18 19 19 20 20 21 21 22 22 23 23 24 24\nwhole\ncaller 1\n24 none\nmap\n",
+        ),
+        Pairs(0, 24),
+        Bytes(b"end\n"),
+    ],
+    ..SERVED
+}];
+
 #[test]
-fn a_scan_goes_on_past_a_split(rt: HostRuntime) -> Result<(), Fail> {
-    let alloc = rt.alloc();
-    let mut input = Vec::from_slice(alloc, b"script 3\ncaller\n")?;
-    put_pairs(&mut input, b"put ", 0, 23)?;
-    input.extend_from_slice(b"scan 16 30 4\ncaller\nput 24 24\n")?;
-    let mut wanted = Vec::from_slice(alloc, b"caller 0\n")?;
-    put_nones(&mut wanted, 0, 23)?;
-    wanted.extend_from_slice(
-        b"25 30 16 16 17 17 18 18 19 19 20 20 21 21 22 22 23 23 24 24\nwhole\ncaller 1\n24 none\nmap\n",
-    )?;
-    put_pairs(&mut wanted, b"", 0, 24)?;
-    wanted.extend_from_slice(b"end\n")?;
-    for words in MANY {
-        let gate = Stand::of(0, 24, Point::Given(0), 1, 1, 50_000_000);
-        let ended = run_at(&rt, alloc, words, &input, 4096, &gate)?;
-        assert_eq!(rt; ended.status, 0);
-        assert!(rt; ended.out.as_slice() == wanted.as_slice());
-        assert!(rt; !gate.failed());
-    }
-    Ok(())
+fn a_scan_goes_on_past_a_split(rt: HostRuntime) -> Result<(), Wrong> {
+    run_each(&rt, rt.alloc(), &SPLIT)
 }
 
 /// Caller 0 is stopped between two parts, while caller 1 sets a value in a leaf that was listed and puts a key into one that
 /// was not: a scan shows no one moment of the whole, and each part its own.
-#[test]
-fn each_part_is_of_its_own_moment(rt: HostRuntime) -> Result<(), Fail> {
-    let alloc = rt.alloc();
-    let mut input = scanned(alloc, b"scan 0 20 4\n")?;
-    input.extend_from_slice(b"caller\nput 3 99\nput 20 20\n")?;
-    let mut wanted = Vec::from_slice(alloc, b"caller 0\n")?;
-    put_nones(&mut wanted, 0, 16)?;
-    wanted.extend_from_slice(
-        b"17 7 0 0 1 1 2 2 3 3 4 4 5 5 6 6 7 7\n20 20 8 8 9 9 10 10 11 11 12 12 13 13 14 14 15 15 16 16 20 20\nwhole\n\
+static MOMENTS: [Row; 1] = [Row {
+    words: &MANY,
+    stop: Stop::Stand {
+        after: 18,
+        at: Point::Given(0),
+        calls: 2,
+        turns: 50_000_000,
+    },
+    input: &[
+        Bytes(b"script 3\ncaller\n"),
+        Puts(0, 16),
+        Bytes(b"scan 0 20 4\n"),
+        Bytes(b"caller\nput 3 99\nput 20 20\n"),
+    ],
+    out: &[
+        Bytes(b"caller 0\n"),
+        Nones(0, 16),
+        Bytes(
+            b"17 7 0 0 1 1 2 2 3 3 4 4 5 5 6 6 7 7\n20 20 8 8 9 9 10 10 11 11 12 12 13 13 14 14 15 15 16 16 20 20\nwhole\n\
         caller 1\n18 3\n19 none\nmap\n",
-    )?;
-    put_pairs(&mut wanted, b"", 0, 2)?;
-    wanted.extend_from_slice(b"3 99\n")?;
-    put_pairs(&mut wanted, b"", 4, 16)?;
-    wanted.extend_from_slice(b"20 20\nend\n")?;
-    for words in MANY {
-        let gate = Stand::of(0, 18, Point::Given(0), 1, 2, 50_000_000);
-        let ended = run_at(&rt, alloc, words, &input, 4096, &gate)?;
-        assert_eq!(rt; ended.status, 0);
-        assert!(rt; ended.out.as_slice() == wanted.as_slice());
-        assert!(rt; !gate.failed());
-    }
-    let ended = run(&rt, alloc, "check", &to_check(alloc, &input, &wanted)?)?;
-    assert!(rt; ended.out.as_slice() == b"legal 21\n".as_slice());
-    Ok(())
+        ),
+        Pairs(0, 2),
+        Bytes(b"3 99\n"),
+        Pairs(4, 16),
+        Bytes(b"20 20\nend\n"),
+    ],
+    judged: Some(b"legal 21\n"),
+    ..SERVED
+}];
+
+#[test]
+fn each_part_is_of_its_own_moment(rt: HostRuntime) -> Result<(), Wrong> {
+    run_each(&rt, rt.alloc(), &MOMENTS)
 }

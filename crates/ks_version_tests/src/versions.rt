@@ -1,8 +1,9 @@
 //! Scripts of the second version: adds, swaps, wide values, more callers; and the greatest arenas.
 
-use ks_whole_runs::{FIRST, RUN, put_nones, put_pairs, run};
-use std::alloc::{AllocError, Global};
-use std::test::Fail;
+use ks_whole_runs::Piece::{Adds, Bytes, Nones, Pairs, Times};
+use ks_whole_runs::{
+    Ends, FIRST, RUN, Row, SERVED, Wrong, check_each, refuse_each, run_each, serve_each,
+};
 
 /// Scripts of the second version, and the texts of their runs.
 const RUNS: [(&[u8], &[u8]); 3] = [
@@ -58,76 +59,76 @@ const CHECKS: [(&[u8], &[u8], u8); 5] = [
 ];
 
 #[test]
-fn adds_and_swaps_are_served(rt: HostRuntime) -> Result<(), Fail> {
-    for (input, text) in RUNS {
-        let ended = run(&rt, rt.alloc(), RUN, input)?;
-        assert_eq!(rt; ended.status, 0);
-        assert!(rt; ended.out.as_slice() == text);
-    }
-    Ok(())
+fn adds_and_swaps_are_served(rt: HostRuntime) -> Result<(), Wrong> {
+    serve_each(&rt, rt.alloc(), &[RUN], Ends::Whole, &RUNS)
 }
 
 #[test]
-fn lines_of_another_version_are_refused(rt: HostRuntime) -> Result<(), Fail> {
-    for (input, text) in REFUSALS {
-        let ended = run(&rt, rt.alloc(), RUN, input)?;
-        assert_eq!(rt; ended.status, 2);
-        assert!(rt; ended.err.as_slice() == text);
-        assert!(rt; ended.out.is_empty());
-    }
-    Ok(())
+fn lines_of_another_version_are_refused(rt: HostRuntime) -> Result<(), Wrong> {
+    refuse_each(&rt, rt.alloc(), RUN, &REFUSALS)
 }
 
 #[test]
-fn runs_of_the_second_version_are_judged(rt: HostRuntime) -> Result<(), Fail> {
-    for (input, text, status) in CHECKS {
-        let ended = run(&rt, rt.alloc(), "check", input)?;
-        assert_eq!(rt; ended.status, status);
-        assert!(rt; ended.out.as_slice() == text);
-    }
-    Ok(())
+fn runs_of_the_second_version_are_judged(rt: HostRuntime) -> Result<(), Wrong> {
+    check_each(&rt, rt.alloc(), b"", &CHECKS)
 }
 
-/// A script of the second version, with `callers` callers that each ask for a key.
-fn asking(alloc: Global, callers: u64) -> Result<Vec<u8>, AllocError> {
-    let mut text = Vec::from_slice(alloc, b"script 2\n")?;
-    for _ in 0..callers {
-        text.extend_from_slice(b"caller\nget 7\n")?;
-    }
-    Ok(text)
-}
+/// Callers that each ask for a key.
+static ASKING: [Row; 2] = [
+    Row {
+        words: &[RUN],
+        input: &[Bytes(b"script 2\n"), Times(65, b"caller\nget 7\n")],
+        prints_any: true,
+        ..SERVED
+    },
+    Row {
+        words: &[RUN],
+        input: &[Bytes(b"script 2\n"), Times(1025, b"caller\nget 7\n")],
+        status: 2,
+        err: b"line 2050 refused\n",
+        ..SERVED
+    },
+];
 
 #[test]
-fn a_script_of_the_second_version_has_more_callers(rt: HostRuntime) -> Result<(), Fail> {
-    let ended = run(&rt, rt.alloc(), RUN, &asking(rt.alloc(), 65)?)?;
-    assert_eq!(rt; ended.status, 0);
-    let ended = run(&rt, rt.alloc(), RUN, &asking(rt.alloc(), 1025)?)?;
-    assert_eq!(rt; ended.status, 2);
-    assert!(rt; ended.err.as_slice() == b"line 2050 refused\n".as_slice());
-    Ok(())
+fn a_script_of_the_second_version_has_more_callers(rt: HostRuntime) -> Result<(), Wrong> {
+    run_each(&rt, rt.alloc(), &ASKING)
 }
+
+/// Adds of more keys than four nodes have room for, and then of one that is present.
+static FULL: [Row; 1] = [Row {
+    words: &["run list coupling 4"],
+    input: &[
+        Bytes(b"script 2\ncaller\n"),
+        Adds(0, 20),
+        Bytes(b"add 3 99\n"),
+    ],
+    out: &[
+        Bytes(b"caller 0\n"),
+        Nones(0, 19),
+        Bytes(b"20 full\n21 3\nmap\n"),
+        Pairs(0, 19),
+        Bytes(b"end\n"),
+    ],
+    ..SERVED
+}];
 
 /// An add finds no node free as a put does. At a key that is present it returns the value there, and leaves it.
 #[test]
-fn adds_fill_a_list(rt: HostRuntime) -> Result<(), Fail> {
-    let mut input = Vec::from_slice(rt.alloc(), b"script 2\ncaller\n")?;
-    put_pairs(&mut input, b"add ", 0, 20)?;
-    input.extend_from_slice(b"add 3 99\n")?;
-    let mut wanted = Vec::from_slice(rt.alloc(), b"caller 0\n")?;
-    put_nones(&mut wanted, 0, 19)?;
-    wanted.extend_from_slice(b"20 full\n21 3\nmap\n")?;
-    put_pairs(&mut wanted, b"", 0, 19)?;
-    wanted.extend_from_slice(b"end\n")?;
-    let ended = run(&rt, rt.alloc(), "run list coupling 4", &input)?;
-    assert_eq!(rt; ended.status, 0);
-    assert!(rt; ended.out.as_slice() == wanted.as_slice());
-    Ok(())
+fn adds_fill_a_list(rt: HostRuntime) -> Result<(), Wrong> {
+    run_each(&rt, rt.alloc(), &FULL)
 }
 
+/// What is printed of `FIRST`.
+const ONE_PAIR: [(&[u8], &[u8]); 1] = [(FIRST, b"caller 0\n0 none\n1 50\nmap\n5 50\nend\n")];
+
 #[test]
-fn an_arena_may_have_more_nodes_than_16_bits_count(rt: HostRuntime) -> Result<(), Fail> {
-    let ended = run(&rt, rt.alloc(), "run bplus coupling 65537", FIRST)?;
-    assert_eq!(rt; ended.status, 0);
-    assert!(rt; ended.out.as_slice() == b"caller 0\n0 none\n1 50\nmap\n5 50\nend\n".as_slice());
-    Ok(())
+fn an_arena_may_have_more_nodes_than_16_bits_count(rt: HostRuntime) -> Result<(), Wrong> {
+    serve_each(
+        &rt,
+        rt.alloc(),
+        &["run bplus coupling 65537"],
+        Ends::Whole,
+        &ONE_PAIR,
+    )
 }

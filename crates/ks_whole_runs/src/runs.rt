@@ -22,13 +22,22 @@ pub struct Ended {
     pub err: Vec<u8>,
 }
 
-impl Ended {
-    /// What it says of its input: on the error output if that is refused, else on the output.
-    pub fn said(&self) -> &[u8] {
-        if self.status == 2 {
-            self.err.as_slice()
-        } else {
-            self.out.as_slice()
+/// How many bytes the ends of a run return and take at a time.
+#[derive(Clone, Copy)]
+pub enum Ends {
+    /// 4,096 bytes.
+    Whole,
+    /// One byte.
+    Bytewise,
+}
+
+impl Ends {
+    fn most(self) -> usize
+        ensures { 0 < result }
+    {
+        match self {
+            Ends::Whole => 4096,
+            Ends::Bytewise => 1,
         }
     }
 }
@@ -63,33 +72,20 @@ pub fn run_ends<R: Threads + Wait + Sync, G: Gate + Admits + Sync>(
     })
 }
 
-/// Runs the program on these ends, with an error output that takes all.
-pub fn run_on<R: Threads + Wait + Sync, G: Gate + Admits + Sync>(
-    rt: &R,
-    alloc: Global,
-    words: &str,
-    source: MemSource,
-    out: MemSink,
-    gate: &G,
-) -> Result<Ended, AllocError> {
-    let err = MemSink::new(alloc, 4096, 4096, Vec::new(alloc))?;
-    run_ends(rt, alloc, words, source, out, err, gate)
-}
-
-/// Runs the program with ends that return and take at most `most` bytes at a time.
-pub fn run_at<R: Threads + Wait + Sync, G: Gate + Admits + Sync>(
+/// Runs the program with the gate for its callers. The error output takes all at once.
+pub(crate) fn run_at<R: Threads + Wait + Sync, G: Gate + Admits + Sync>(
     rt: &R,
     alloc: Global,
     words: &str,
     input: &[u8],
-    most: usize,
+    ends: Ends,
     gate: &G,
-) -> Result<Ended, AllocError>
-    requires { 0 < most }
-{
+) -> Result<Ended, AllocError> {
+    let most = ends.most();
     let source = MemSource::new(Vec::from_slice(alloc, input)?, most, Vec::new(alloc));
     let out = MemSink::new(alloc, 65536, most, Vec::new(alloc))?;
-    run_on(rt, alloc, words, source, out, gate)
+    let err = MemSink::new(alloc, 4096, 4096, Vec::new(alloc))?;
+    run_ends(rt, alloc, words, source, out, err, gate)
 }
 
 /// Runs the program with a gate that stops no caller.
@@ -98,6 +94,7 @@ pub fn run<R: Threads + Wait + Sync>(
     alloc: Global,
     words: &str,
     input: &[u8],
+    ends: Ends,
 ) -> Result<Ended, AllocError> {
-    run_at(rt, alloc, words, input, 4096, &NoGate)
+    run_at(rt, alloc, words, input, ends, &NoGate)
 }
