@@ -1,6 +1,5 @@
 -- Two lists, each entry of the one beside that of the other.
-use Rattle.ks_script.proofs.Common.{suc, ◌≡◌, List, [], ◌∷◌, ◌++◌, length, ap, arith}
-use Rattle.ks_lines.specs.Lines.{AllBoth}
+use Rattle.ks_script.proofs.Common.{suc, ◌≡◌, List, [], ◌∷◌, ◌++◌, length, ap, arith, AllBoth}
 
 pub both_length : {X Y : Type 0} (Of : X → Y → Type 0) (xs : List X) (ys : List Y) → AllBoth Of xs ys → length xs ≡ length ys
 both_length Of [] [] h = omega arith
@@ -16,10 +15,3 @@ both_append Of (x ∷ a) b (y ∷ c) d h k = (h.0, both_append Of a b c d h.1 k)
 
 pub both_push : {X Y : Type 0} (Of : X → Y → Type 0) (a : List X) (x : X) (c : List Y) (y : Y) → AllBoth Of a c → Of x y → AllBoth Of (a ++ x ∷ []) (c ++ y ∷ [])
 both_push Of a x c y h k = both_append Of a (x ∷ []) c (y ∷ []) h (k, tt)
-
--- behind as many entries
-pub both_right : {X Y : Type 0} (Of : X → Y → Type 0) (a b : List X) (c d : List Y) → length a ≡ length c → AllBoth Of (a ++ b) (c ++ d) → AllBoth Of b d
-both_right Of [] b [] d e h = h
-both_right Of [] b (y ∷ c) d e h = absurd (omega (arith, e))
-both_right Of (x ∷ a) b [] d e h = absurd (omega (arith, e))
-both_right Of (x ∷ a) b (y ∷ c) d e h = both_right Of a b c d (omega (arith, e)) h.1

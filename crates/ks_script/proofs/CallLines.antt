@@ -1,14 +1,12 @@
 -- Lines as texts: a word, and numbers behind it. A text is read back to its line, so that no two kinds are compared.
-use Rattle.ks_script.proofs.Common.{ℕ, ◌≡◌, cond, eqb, List, length, drop, get_or, sym, ap, ◌∙◌, arith, Line, Call, Scan, Get, Put, Del, Add, Swap, Part, Move, Version, IsLineOf, line_text, pair_line, ◌^◌, ◌<◌, Bool, false, ◌||◌, [], ◌∷◌, ◌++◌, refl, append_assoc, append-nil, append_cancel_left, codes, decimal, AllByRecursion, First, Second, Third, Fourth, value_limit, NoDigit, EndsLine}
+use Rattle.ks_script.proofs.Common.{ℕ, ◌≡◌, cond, eqb, List, length, drop, get_or, sym, ap, ◌∙◌, arith, Line, Call, Scan, Get, Put, Del, Add, Swap, Part, Move, Version, IsLineOf, line_text, pair_line, ◌^◌, ◌<◌, Bool, false, ◌||◌, [], ◌∷◌, ◌++◌, refl, append_assoc, append-nil, append_cancel_left, codes, decimal, AllByRecursion, First, value_limit, NoDigit, EndsLine}
 use Rattle.ks_script.proofs.Numerals.{wide}
 use Rattle.ks_script.proofs.Lined.{number_told, end_free}
 
 -- the values of a version have 128 bits
 pub value_small : (version : Version) (v : ℕ) → v < value_limit version → v < 2 ^ 128
 value_small First v h = wide v h
-value_small Second v h = h
-value_small Third v h = h
-value_small Fourth v h = h
+value_small other v h = h
 
 abbrev pub AreSmall : List ℕ → Type 0
 AreSmall ns = AllByRecursion (λ (n : ℕ). n < 2 ^ 128) ns

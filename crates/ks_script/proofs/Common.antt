@@ -20,18 +20,25 @@ pub use Rattle.ks_lines.specs.declared.Scanned.TheVariants.{Whole, Until}
 pub use Rattle.ks_script.specs.Ahead.{Lacks}
 pub use Rattle.ks_script.specs.Checked.{IsRunOf, SpellsChecked, AreChecked, CheckedOf, IsReply, IsAnswered, IsPair, IsPart, IsStop, IsSaid, AscendFrom}
 pub use Rattle.ks_script.specs.CheckedTexts.{CheckedIn, FirstBadOfChecked}
-pub use Rattle.ks_script.specs.Left.{Apart, TextLeft, CallsLeft, Told, CallersRead, none_read, some_read, Stops, ScriptLeft, HasBegun, NoVersion, IsLineWithin}
+pub use Rattle.ks_script.specs.Left.{Stops, HasBegun, NoVersion, IsLineWithin}
 pub use Rattle.ks_script.specs.Lined.{EndsLine, Lined, NotLined}
 pub use Rattle.ks_script.specs.Lines.{lines_of, FirstBad, Begins, text_of, ended}
 pub use Rattle.ks_script.specs.Numeral.{NoDigit, ReadOn}
 pub use Rattle.ks_script.specs.Reading.{Answers, Gives}
-pub use Rattle.ks_script.specs.Reads.{Lines, NotFirst, Leads, Reads, RefusedBehind, NoneFirst}
+pub use Rattle.ks_script.specs.Reads.{Lines, NotFirst, Reads, RefusedBehind, NoneFirst}
 pub use Rattle.ks_script.specs.Run.{pair_line, Run, run_lines, reply_word, reply_line, pair_words, part_line, stop_line, said_lines, callers_from, map_lines, run_text}
 pub use Rattle.ks_script.specs.SaidLeft.{CanBeSaidOf, IsSaidOf, IsReplyOf, next_end, IsPartFrom, BeginsSaid, FirstUnsaid, UnsaidBehind}
-pub use Rattle.ks_script.specs.RunLeft.{SpellsRun, AreRun, Replies, next_key, IsPairFrom, AnswersLeft, RepliesLeft, RepliesRead, RepliesStop, RepliesStopBehind, PairsLeft, NothingLeft}
+pub use Rattle.ks_script.specs.RunLeft.{SpellsRun, AreRun, Replies, next_key, IsPairFrom, RepliesStop, RepliesStopBehind}
 pub use Rattle.ks_script.specs.Script.{IsLineOf, line_text, IsScript, script_lines, SpellsScript, AreScript, calls_in, parts_of, parts_in}
 pub use Rattle.ks_script.specs.Version.{version_line, value_limit, callers_limit}
 pub use Rattle.ks_script.specs.declared.fault.TextFault.{TextFault}
 pub use Rattle.ks_script.specs.declared.fault.TextFault.TheVariants.{Refused, Memory}
 pub use Rattle.ks_script.specs.declared.version.Version.{Version}
 pub use Rattle.ks_script.specs.declared.version.Version.TheVariants.{First, Second, Third, Fourth}
+pub use Rattle.std.specs.Prelude.{All, IfOk, IsTrue}
+pub use Rattle.std.specs.List.{flat_map}
+pub use Rattle.std.proofs.lemmas.Grind.{flat_map-append}
+pub use Rattle.std.proofs.lemmas.List.Elements.{All-append, All-cons, All-head, All-map, All-nil, All-push, All-same, All-tail, All-weaker}
+pub use Rattle.ks_lines.specs.Lines.{AllBoth, AreAnswered, IsServedLine, MayAnswer}
+pub use Rattle.ks_script.specs.Script.{caller_lines, ScriptOf}
+pub use Rattle.ks_script.specs.Unfit.{IsUnfit, IsUnfitAt}

@@ -1,102 +1,61 @@
--- Grammars whose texts begin with certain lines, what may come after these, and the first line that does not fit.
-use Rattle.ks_script.proofs.Common.{ℕ, zero, suc, ◌≡◌, ◌+◌, ◌-◌, ◌<◌, ◌≤◌, List, [], ◌∷◌, ◌++◌, length, take, drop, refl, sym, ap, subst, ◌∙◌, append_assoc, arith, inl, inr, length-append, take-append-drop, take-take, cases_lt, lines_of, Begins, FirstBad, Lines, Leads, Reads}
+-- The first line of a text that does not fit a grammar, and lists that are read back from their lines.
+use Rattle.ks_script.proofs.Common.{ℕ, suc, ◌≡◌, ◌+◌, ◌-◌, ◌<◌, ◌≤◌, ◌⊎◌, List, [], ◌∷◌, ◌++◌, length, map, take, drop, refl, sym, ap, subst, ◌∙◌, append_assoc, append-nil, arith, inl, inr, length-append, take-append-drop, take-take, cases_lt, AllByRecursion, lines_of, Begins, FirstBad, Lines, NotFirst, NoneFirst, Reads}
 
-pub leads_none : (G : Lines → Type 0) → Leads G G []
-leads_none G = record { into = λ ls h. h; only = λ ls h. h }
+pub reads_none : (bytes : List ℕ) → Reads [] bytes bytes 0
+reads_none bytes = record { lines_are = refl; counted = refl }
 
-pub leads_on : (G H K : Lines → Type 0) (f g : Lines) → Leads G H f → Leads H K g → Leads G K (f ++ g)
-leads_on G H K f g a b = record {
-  into = λ ls h. subst G (sym (append_assoc f g ls)) (a.into (g ++ ls) (b.into ls h));
-  only = λ ls h. b.only ls (a.only (g ++ ls) (subst G (append_assoc f g ls) h));
+pub reads_on : (f g : Lines) (a b c : List ℕ) (m n k : ℕ) → Reads f a b m → Reads g b c n → k ≡ m + n → Reads (f ++ g) a c k
+reads_on f g a b c m n k r s sum = record {
+  lines_are = r.lines_are ∙ (ap (λ (ls : Lines). f ++ ls) s.lines_are ∙ sym (append_assoc f g (lines_of c)));
+  counted = omega (arith, length-append f g, r.counted, s.counted, sum);
 }
+
+pub reads_line : (f : Lines) (l : List ℕ) (a b c : List ℕ) (m k : ℕ) → Reads f a b m → lines_of b ≡ l ∷ lines_of c → k ≡ m + 1 → Reads (f ++ l ∷ []) a c k
+reads_line f l a b c m k r e sum = reads_on f (l ∷ []) a b c m 1 k r (record { lines_are = e; counted = refl }) sum
+
+pub reads_all : (f : Lines) (a b : List ℕ) (n : ℕ) → Reads f a b n → b ≡ [] → lines_of a ≡ f
+reads_all f a b n r end = r.lines_are ∙ (ap (λ (x : List ℕ). f ++ lines_of x) end ∙ append-nil f)
 
 take_past : (f g : Lines) (n : ℕ) → take (length f + n) (f ++ g) ≡ f ++ take n g
 take_past [] g n = ap (λ k. take k g) (omega arith)
 take_past (l ∷ f) g n = ap (λ k. take k (l ∷ (f ++ g))) (let e : suc (length f) + n ≡ suc (length f + n) = omega arith in e) ∙ ap (λ ls. l ∷ ls) (take_past f g n)
 
--- the first bad line after the front is the first bad one of all
-pub leads_bad : (G H : Lines → Type 0) (lines front back : Lines) (n : ℕ) → Leads G H front → lines ≡ front ++ back → FirstBad H back n → FirstBad G lines (length front + n)
-leads_bad G H lines front back n a e bad =
-    let some = bad.place in
-    let before : take (length front + n - 1) lines ≡ front ++ take (n - 1) back = ap (λ ls. take (length front + n - 1) ls) e ∙ (ap (λ k. take k (front ++ back)) (let s : length front + n - 1 ≡ length front + (n - 1) = omega arith in s) ∙ take_past front back (n - 1)) in
-    let through : take (length front + n) lines ≡ front ++ take n back = ap (λ ls. take (length front + n) ls) e ∙ take_past front back n in
+-- behind some lines of a text of G only lines of H come: where line k of the others fits H no more, it is the first bad one
+pub bad_behind : (G H : Lines → Type 0) (lines front back : Lines) (n k : ℕ) → lines ≡ front ++ back → n ≡ length front + k → 0 < k → Begins G (front ++ take (k - 1) back) → ((ls : Lines) → G (front ++ ls) → H ls) → ((k ≤ length back) × (Begins H (take k back) → ⊥)) ⊎ ((k ≡ length back + 1) × (H back → ⊥)) → FirstBad G lines n
+bad_behind G H lines front back n k e sum some begun only refused =
+    let before : take (n - 1) lines ≡ front ++ take (k - 1) back = ap (λ ls. take (n - 1) ls) e ∙ (ap (λ m. take m (front ++ back)) (let s : n - 1 ≡ length front + (k - 1) = omega arith in s) ∙ take_past front back (k - 1)) in
+    let through : take n lines ≡ front ++ take k back = ap (λ ls. take n ls) e ∙ (ap (λ m. take m (front ++ back)) sum ∙ take_past front back k) in
     let all : length lines ≡ length front + length back = ap length e ∙ length-append front back in
     record {
       place = omega arith;
-      before = (
-        bad.before.0,
-        subst G (sym (append_assoc front (take (n - 1) back) bad.before.0) ∙ ap (λ ls. ls ++ bad.before.0) (sym before)) (a.into (take (n - 1) back ++ bad.before.0) bad.before.1),
-      );
+      before = subst (Begins G) (sym before) begun;
       refused =
-          elim bad.refused [
+          elim refused [
             | inl there ↦
                 (let le = there.0 in
-                inl (
-                  omega arith,
-                  (λ h. there.1 (h.0, a.only (take n back ++ h.0) (subst G (ap (λ ls. ls ++ h.0) through ∙ append_assoc front (take n back) h.0) h.1))),
-                ))
-            | inr end ↦
-                (let last = end.0 in
-                inr (omega arith, (λ h. end.1 (a.only back (subst G e h)))))
+                inl (omega arith, (λ h. there.1 (h.0, only (take k back ++ h.0) (subst G (ap (λ ls. ls ++ h.0) through ∙ append_assoc front (take k back) h.0) h.1)))))
+            | inr end ↦ (let last = end.0 in inr (omega arith, (λ h. end.1 (only back (subst G e h)))))
           ];
     }
 
--- the first line of all is bad
-pub bad_first : (G : Lines → Type 0) (lines : Lines) → Begins G [] → ((l : List ℕ) (ls more : Lines) → lines ≡ l ∷ ls → G (l ∷ more) → ⊥) → (lines ≡ [] → G [] → ⊥) → FirstBad G lines 1
-bad_first G [] b first missing = record { place = omega arith; before = b; refused = inr (refl, missing refl) }
-bad_first G (l ∷ ls) b first missing = record {
-  place = omega arith;
-  before = b;
-  refused = inl (omega arith, (λ h. first l ls h.0 refl h.1));
-}
+-- what depends on the first of some lines, or that there is none
+pub first_same : (P : Lines → Type 0) → ((l : List ℕ) (ls more : Lines) → P (l ∷ ls) → P (l ∷ more)) → (a b : Lines) → take 1 a ≡ take 1 b → P b → P a
+first_same P on [] [] e h = h
+first_same P on [] (m ∷ b) e h = absurd (let no_way : ⊥ = cc in no_way)
+first_same P on (l ∷ a) [] e h = absurd (let no_way : ⊥ = cc in no_way)
+first_same P on (l ∷ a) (m ∷ b) e h = let same : m ≡ l = cc in on l b a (subst (λ (k : List ℕ). P (k ∷ b)) same h)
 
--- the same of some text
-pub leads_some : {X : Type 0} (G H : X → Lines → Type 0) (front : Lines) → ((x : X) → Leads (G x) (H x) front) → Leads (λ ls. (x : X) × G x ls) (λ ls. (x : X) × H x ls) front
-leads_some G H front leads = record {
-  into = λ ls h. (h.0, (leads h.0).into ls h.1);
-  only = λ ls h. (h.0, (leads h.0).only ls h.1);
-}
+pub not_first_same : (word : List ℕ) (a b : Lines) → take 1 a ≡ take 1 b → NotFirst word b → NotFirst word a
+not_first_same word a b e h = first_same (NotFirst word) (λ l ls more h. h) a b e h
 
--- the lines that were read are the first ones
-pub leads_taken : (G H : Lines → Type 0) (bytes rest : List ℕ) (n : ℕ) → Reads G H bytes rest n → Leads G H (take n (lines_of bytes)) × (lines_of bytes ≡ take n (lines_of bytes) ++ lines_of rest) × (length (take n (lines_of bytes)) ≡ n)
-leads_taken G H bytes rest n r =
-    let same : r.front ≡ take n (lines_of bytes) = sym (ap (take n) r.lines_are ∙ front_of r.front (lines_of rest) n r.counted) in (
-      subst (Leads G H) same r.leads,
-      r.lines_are ∙ ap (λ ls. ls ++ lines_of rest) same,
-      ap (λ (ls : Lines). length ls) (sym same) ∙ r.counted,
-    )
+-- where no text goes on with the first of the other lines, or with none if there are none, it is the first bad one
+pub refused_at : (G : Lines → Type 0) (lines front back : Lines) (n : ℕ) → lines ≡ front ++ back → n ≡ length front → Begins G front → ((ls : Lines) → take 1 ls ≡ take 1 back → G (front ++ ls) → ⊥) → FirstBad G lines (n + 1)
+refused_at G lines front back n e sum begun odd =
+    bad_behind G (λ (ls : Lines). G (front ++ ls)) lines front back (n + 1) 1 e (omega (arith, sum)) (omega arith) (subst (Begins G) (sym (append-nil front)) begun) (λ ls h. h) (by_back back odd)
   where
-    front_of : (a b : Lines) (n : ℕ) → length a ≡ n → take n (a ++ b) ≡ a
-    front_of [] b zero e = refl
-    front_of [] b (suc n) e = absurd (omega arith)
-    front_of (x ∷ a) b zero e = absurd (omega arith)
-    front_of (x ∷ a) b (suc n) e = ap (λ ls. x ∷ ls) (front_of a b n (omega arith))
-
--- the same first bad line in the same texts
-pub bad_same : (G K : Lines → Type 0) (lines : Lines) (n : ℕ) → ((ls : Lines) → G ls → K ls) → ((ls : Lines) → K ls → G ls) → FirstBad G lines n → FirstBad K lines n
-bad_same G K lines n to from bad = record {
-  place = bad.place;
-  before = (bad.before.0, to (take (n - 1) lines ++ bad.before.0) bad.before.1);
-  refused =
-      elim bad.refused [
-        | inl there ↦ inl (there.0, (λ h. there.1 (h.0, from (take n lines ++ h.0) h.1)))
-        | inr end ↦ inr (end.0, (λ h. end.1 (from lines h)))
-      ];
-}
-
--- what is first bad behind the lines that were read is first bad in all
-pub behind_bad : {X : Type 0} (G H : X → Lines → Type 0) (bytes rest : List ℕ) (n k : ℕ) → ((x : X) → Reads (G x) (H x) bytes rest n) → X → FirstBad (λ ls. (x : X) × H x ls) (lines_of rest) k → FirstBad (λ ls. (x : X) × G x ls) (lines_of bytes) (n + k)
-behind_bad {X = X} G H bytes rest n k reads x bad =
-    let front : Lines = take n (lines_of bytes) in
-    let parts = leads_taken (G x) (H x) bytes rest n (reads x) in
-    let leads = leads_some {X = X} G H front (λ y. (leads_taken (G y) (H y) bytes rest n (reads y)).0) in
-    subst (FirstBad (λ ls. (y : X) × G y ls) (lines_of bytes)) (let e : length front + k ≡ n + k = omega (arith, parts.2) in e)
-    (leads_bad (λ ls. (y : X) × G y ls) (λ ls. (y : X) × H y ls) (lines_of bytes) front (lines_of rest) k leads parts.1 bad)
-
--- where the first line of the rest cannot come next, and some lines can, it is the first bad one
-pub refused_at : {X : Type 0} (G H : X → Lines → Type 0) (bytes rest : List ℕ) (n : ℕ) → ((x : X) → Reads (G x) (H x) bytes rest n) → (x : X) (some : Lines) → H x some → ((x : X) (l : List ℕ) (ls more : Lines) → lines_of rest ≡ l ∷ ls → H x (l ∷ more) → ⊥) → (lines_of rest ≡ [] → (x : X) → H x [] → ⊥) → FirstBad (λ ls. (x : X) × G x ls) (lines_of bytes) (n + 1)
-refused_at {X = X} G H bytes rest n reads x some may stuck missing =
-    behind_bad {X = X} G H bytes rest n 1 reads x (bad_first (λ ls. (y : X) × H y ls) (lines_of rest) (some, (x, may)) (λ l ls more e h. stuck h.0 l ls more e h.1) (λ e h. missing e h.0 h.1))
+    by_back : (ls : Lines) → ((more : Lines) → take 1 more ≡ take 1 ls → G (front ++ more) → ⊥) → ((1 ≤ length ls) × (Begins (λ (x : Lines). G (front ++ x)) (take 1 ls) → ⊥)) ⊎ ((1 ≡ length ls + 1) × (G (front ++ ls) → ⊥))
+    by_back [] odd = inr (refl, (λ h. odd [] refl h))
+    by_back (l ∷ ls) odd = inl (omega arith, (λ h. odd (l ∷ h.0) refl h.1))
 
 -- what is a text has no line that does not fit
 pub bad_no_text : (IsText : List (List ℕ) → Type 0) (lines : List (List ℕ)) (n : ℕ) → FirstBad IsText lines n → IsText lines → ⊥
@@ -128,3 +87,14 @@ one_bad IsText lines m n p q =
         | inr ge ↦ omega arith
       ])
     ]
+
+-- where lines begin with those of some things, and are those of others up to a line of none, the others begin with the first
+pub told_apart : {X : Type 0} (Is : X → Type 0) (line : X → List ℕ) → ((a b : X) → Is a → Is b → line a ≡ line b → a ≡ b) → (xs ys : List X) (u t : Lines) → AllByRecursion Is xs → AllByRecursion Is ys → NoneFirst Is line t → map line xs ++ u ≡ map line ys ++ t →
+    (more : List X) × (ys ≡ xs ++ more) × (u ≡ map line more ++ t)
+told_apart Is line one [] ys u t h k none e = (ys, refl, e)
+told_apart Is line one (x ∷ xs) [] u t h k none e = absurd (subst (NoneFirst Is line) (sym e) none x h.0 refl)
+told_apart {X = X} Is line one (x ∷ xs) (y ∷ ys) u t h k none e =
+    let same : line x ≡ line y = cc in
+    let tails : map line xs ++ u ≡ map line ys ++ t = cc in
+    let on = told_apart Is line one xs ys u t h.1 k.1 none tails in
+    (on.0, ap (λ (z : X). z ∷ ys) (sym (one x y h.0 k.0 same)) ∙ ap (λ (zs : List X). x ∷ zs) on.1, on.2)

@@ -14,7 +14,6 @@ pub mod Steps
 pub mod ScriptRead
 pub mod Both
 pub mod Saids
-pub mod RunSteps
 pub mod RunRead
 pub mod CheckedRead
 pub mod Spelled

@@ -1,5 +1,5 @@
 -- Lines that bytes begin with.
-use Rattle.ks_script.proofs.Common.{ℕ, ◌≡◌, ◌^◌, ◌<◌, ◌≤◌, true, List, [], ◌∷◌, ◌++◌, length, drop, refl, sym, ap, subst, ◌∙◌, append_assoc, append-nil, arith, codes, length-append, inl, inr, false≢true, and_parts, is_ascii_digit, all_ascii_digits, decimal, onto_first, lines_of, Lacks, NoDigit, EndsLine, Lined, NotLined, Lines, NotFirst, NoneFirst}
+use Rattle.ks_script.proofs.Common.{ℕ, ◌≡◌, ◌^◌, ◌<◌, ◌≤◌, true, List, [], ◌∷◌, ◌++◌, length, take, drop, refl, sym, ap, subst, ◌∙◌, append_assoc, append-nil, arith, codes, length-append, inl, inr, false≢true, and_parts, is_ascii_digit, all_ascii_digits, decimal, onto_first, lines_of, Lacks, NoDigit, EndsLine, Lined, NotLined, Lines, NotFirst, NoneFirst}
 use Rattle.ks_script.proofs.Numerals.{digits_of_number, one_number}
 use Rattle.ks_script.proofs.Cuts.{lines_cases, lines_first, lines_last}
 use Rattle.ks_script.proofs.Exact.{goes_on}
@@ -55,6 +55,14 @@ no_lines (b ∷ bytes) e = elim (lines_cases b bytes) [ inl same ↦ absurd (ome
     onto : (ls : Lines) → onto_first b ls ≡ [] → ⊥
     onto [] e = omega (arith, ap length e)
     onto (l ∷ ls) e = omega (arith, ap length e)
+
+-- where bytes come, lines that begin as theirs are some
+pub no_more : (rest : List ℕ) → 0 < length rest → (ls : Lines) → ls ≡ [] → take 1 ls ≡ take 1 (lines_of rest) → ⊥
+no_more rest some ls none same = missing (lines_of rest) refl (sym (ap (λ (x : Lines). take 1 x) none) ∙ same)
+  where
+    missing : (back : Lines) → lines_of rest ≡ back → take 1 [] ≡ take 1 back → ⊥
+    missing [] e f = omega (arith, ap (λ (x : List ℕ). length x) (no_lines rest e))
+    missing (l ∷ back) e f = let no_way : ⊥ = cc in no_way
 
 -- bytes whose first line has this text
 pub cut_first : (bytes l : List ℕ) (ls : Lines) → lines_of bytes ≡ l ∷ ls → (tail : List ℕ) × EndsLine tail × (bytes ≡ l ++ tail)

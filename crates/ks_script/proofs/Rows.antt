@@ -1,5 +1,5 @@
 -- Replies: how their words differ.
-use Rattle.ks_script.proofs.Common.{ℕ, ◌≡◌, ◌^◌, ◌<◌, ◌⊎◌, false, cond, eqb, List, [], ◌∷◌, ◌++◌, length, codes, refl, sym, ap, subst, ◌∙◌, arith, inl, inr, length-append, get_or_append_left, append_cancel_left, decimal, is_ascii_digit, Reply, Nothing, Value, Full, Kept, drop, append_assoc, reply_word, reply_line, IsReply, IsAnswered, NoDigit, EndsLine, NotLined}
+use Rattle.ks_script.proofs.Common.{ℕ, ◌≡◌, ◌^◌, ◌<◌, ◌⊎◌, false, cond, eqb, List, [], ◌∷◌, ◌++◌, length, codes, refl, sym, ap, subst, ◌∙◌, arith, inl, inr, length-append, get_or_append_left, append_cancel_left, decimal, is_ascii_digit, Reply, Nothing, Value, Full, Listed, Kept, drop, append_assoc, reply_word, reply_line, IsReply, IsAnswered, NoDigit, EndsLine, NotLined}
 use Rattle.ks_script.proofs.Numerals.{wide}
 use Rattle.ks_script.proofs.Exact.{no_number}
 use Rattle.ks_script.proofs.Lined.{number_told, end_free}
@@ -24,11 +24,9 @@ abbrev pub Starts : Reply → List ℕ → Type 0
 Starts r rest = HasWord r ⊎ ((v : ℕ) × (v < 2 ^ 128) × (r ≡ Value v) × NoDigit rest)
 
 pub by_word : (r : Reply) (rest : List ℕ) → IsReply r → Follows r rest → Starts r rest
-by_word Nothing rest h free = inl (refl, omega arith, refl, refl)
-by_word Full rest h free = inl (refl, omega arith, refl, refl)
-by_word Kept rest h free = inl (refl, omega arith, refl, refl)
 by_word (Value v) rest h free = inr (v, h, refl, free)
-by_word other rest h free = absurd h
+by_word (Listed pairs) rest h free = absurd h
+by_word other rest h free = inl (refl, omega arith, refl, refl)
 
 pub follows : (r : Reply) (rest : List ℕ) → NoDigit rest → Follows r rest
 follows (Value v) rest free = free

@@ -1,5 +1,6 @@
 -- What may be said of a line of a script, as lines: how it is read back, and where nothing goes on.
-use Rattle.ks_script.proofs.Common.{ℕ, suc, ◌≡◌, ◌+◌, ◌-◌, ◌^◌, ◌<◌, ◌≤◌, List, [], ◌∷◌, ◌++◌, length, map, take, drop, get_or, codes, refl, sym, ap, subst, ◌∙◌, append_assoc, append-nil, arith, inl, inr, length-append, length-map, Option, Some, ◌⊎◌, decimal, AllByRecursion, Reply, Nothing, Value, Full, Listed, Kept, Version, IsLineOf, IsScript, Begins, Line, Call, Scan, Said, Scanned, Whole, Until, Pair, reply_line, pair_line, pair_words, part_line, stop_line, said_lines, IsPair, IsPart, IsStop, IsSaid, NoDigit, EndsLine, NotLined, Lines, NotFirst, NoneFirst, CanBeSaidOf, IsSaidOf, IsReplyOf, next_end, IsPartFrom, BeginsSaid, FirstUnsaid}
+use Rattle.ks_script.proofs.Common.{ℕ, suc, ◌≡◌, ◌+◌, ◌-◌, ◌^◌, ◌<◌, ◌≤◌, List, [], ◌∷◌, ◌++◌, length, map, take, drop, get_or, codes, refl, sym, ap, subst, ◌∙◌, append_assoc, append-nil, arith, inl, inr, length-append, length-map, map_push, Option, Some, ◌⊎◌, decimal, AllByRecursion, Reply, Nothing, Listed, Version, IsLineOf, IsScript, Begins, Line, Call, Scan, Said, Scanned, Whole, Until, Pair, reply_line, pair_line, pair_words, part_line, stop_line, said_lines, IsPair, IsPart, IsStop, IsSaid, NoDigit, EndsLine, NotLined, Lines, NotFirst, NoneFirst, CanBeSaidOf, IsSaidOf, IsReplyOf, next_end, IsPartFrom, BeginsSaid, FirstUnsaid}
+use Rattle.std.proofs.Math.Seq.{take-append_seam}
 use Rattle.ks_history.specs.declared.Op.{Op}
 use Rattle.ks_lines.specs.declared.parts.Part.{Part}
 use Rattle.ks_lines.specs.declared.Said.TheVariants as said
@@ -25,7 +26,7 @@ pair_first : (p : Pair) (ps : List Pair) (tail : List ℕ) → pair_words (p ∷
 pair_first p ps tail = simp append_assoc
 
 same_pair : (x y : Pair) → x.place ≡ y.place → x.value ≡ y.value → x ≡ y
-same_pair x y e f = ap (λ (n : ℕ). let p : Pair = record { place = n; value = x.value } in p) e ∙ ap (λ (v : ℕ). let p : Pair = record { place = y.place; value = v } in p) f
+same_pair x y e f = λ i. record { place = e i; value = f i }
 
 -- bytes that begin as these pairs, and are some pairs up to the end of a line
 pub words_told : (ps qs : List Pair) (rest tail : List ℕ) → AllByRecursion IsPair ps → AllByRecursion IsPair qs → NoDigit rest → EndsLine tail → pair_words ps ++ rest ≡ pair_words qs ++ tail → (more : List Pair) × (qs ≡ ps ++ more) × (rest ≡ pair_words more ++ tail)
@@ -71,9 +72,7 @@ one_part p q h k e =
     let f = number_told p.number q.number (codes " " ++ (decimal p.last ++ (pair_words p.pairs ++ []))) (codes " " ++ (decimal q.last ++ (pair_words q.pairs ++ []))) (wide p.number h.0) (wide q.number k.0) refl refl (sym (part_first p []) ∙ (ap (λ (x : List ℕ). x ++ []) e ∙ part_first q [])) in
     let g = number_told p.last q.last (pair_words p.pairs ++ []) (pair_words q.pairs ++ []) (wide p.last h.1) (wide q.last k.1) (free_words p.pairs [] tt) (free_words q.pairs [] tt) (ap (λ (x : List ℕ). drop 1 x) f.1) in
     let pairs = one_pairs p.pairs q.pairs h.3 k.3 (sym (append-nil (pair_words p.pairs)) ∙ (g.1 ∙ append-nil (pair_words q.pairs))) in
-    ap (λ (n : ℕ). let x : Part = record { number = n; last = p.last; pairs = p.pairs } in x) f.0
-    ∙ (ap (λ (n : ℕ). let x : Part = record { number = q.number; last = n; pairs = p.pairs } in x) g.0
-    ∙ ap (λ (ps : List Pair). let x : Part = record { number = q.number; last = q.last; pairs = ps } in x) pairs)
+    λ i. record { number = f.0 i; last = g.0 i; pairs = pairs i }
 
 -- a part is no line that begins with another byte than a digit
 pub part_apart : (part : Part) (line : List ℕ) → part.number < 2 ^ 64 → NoDigit line → part_line part ≡ line → ⊥
@@ -148,11 +147,8 @@ end_is low (p ∷ q ∷ ps) e h = end_is (suc p.last) (q ∷ ps) e h
 -- the end of some parts
 pub some_end : (low : ℕ) (ps : List Part) → 0 < length ps → (e : ℕ) × (end_of ps ≡ Some e) × (next_end low ps ≡ suc e)
 some_end low [] some = absurd (omega arith)
-some_end low (p ∷ ps) some = let e = by_more p ps in (e.0, e.1, end_is low (p ∷ ps) e.0 e.1)
-  where
-    by_more : (p : Part) (ps : List Part) → (e : ℕ) × (end_of (p ∷ ps) ≡ Some e)
-    by_more p [] = (p.last, refl)
-    by_more p (q ∷ ps) = by_more q ps
+some_end low (p ∷ []) some = (p.last, refl, refl)
+some_end low (p ∷ q ∷ ps) some = some_end (suc p.last) (q ∷ ps) (omega arith)
 
 some_same : (m n : ℕ) (o : Option ℕ) → o ≡ Some m → o ≡ Some n → m ≡ n
 some_same m n o e f = let both : Some m ≡ Some n = sym e ∙ f in let same : m ≡ n = cc in same
@@ -173,9 +169,34 @@ none_of : {X : Type 0} (Is : X → Type 0) (line : X → List ℕ) (ls : Lines) 
 none_of Is line [] none = tt
 none_of Is line (l ∷ ls) none = λ x is e. none x is
 
-no_first : (line : List ℕ) (ls : Lines) → ⊥ → NotFirst line ls
-no_first line [] h = tt
-no_first line (l ∷ ls) h = λ e. h
+-- the first of the lines is that of the rest
+abbrev Heads : Lines → Lines → Type 0
+Heads rest ls = (m : List ℕ) (more : Lines) → ls ≡ m ∷ more → (others : Lines) × (rest ≡ m ∷ others)
+
+-- behind some lines nothing goes on that may be said of the line
+unsaid : (line : Line) (front rest lines : Lines) (k : ℕ) → lines ≡ front ++ rest → k ≡ length front + 1 → (said : Said) × (more : Lines) × IsSaidOf line said × (front ++ more ≡ said_lines said) →
+    ((x : Said) (ls behind : Lines) → IsSaidOf line x → Heads rest ls → front ++ ls ≡ said_lines x ++ behind → ⊥) → FirstUnsaid line lines k
+unsaid line front rest lines k e k_is goes odd = record {
+  place = omega arith;
+  before = (goes.0, goes.1, goes.2, ap (λ (ls : Lines). ls ++ goes.1) (taken front rest (k - 1) e (omega arith)) ∙ goes.3);
+  refused = by_rest rest e odd;
+}
+  where
+    taken : (xs ys : Lines) (n : ℕ) → lines ≡ xs ++ ys → n ≡ length xs → take n lines ≡ xs
+    taken xs ys n f is = (λ i. take (is i) (f i)) ∙ take-append_seam xs ys
+
+    by_rest : (back : Lines) → lines ≡ front ++ back → ((x : Said) (ls behind : Lines) → IsSaidOf line x → Heads back ls → front ++ ls ≡ said_lines x ++ behind → ⊥) →
+        ((k ≤ length lines) × (Begins (BeginsSaid line) (take k lines) → ⊥)) ⊎ ((k ≡ length lines + 1) × (BeginsSaid line lines → ⊥))
+    by_rest [] f none = inr (
+      omega (arith, ap (λ (ls : Lines). length ls) f, length-append front []),
+      (λ h. none h.0 [] h.1 h.2 (λ m more g. absurd (omega (arith, ap (λ (ls : Lines). length ls) g))) (sym f ∙ h.3)),
+    )
+    by_rest (l ∷ ls) f none =
+        let here : take k lines ≡ front ++ l ∷ [] = taken (front ++ l ∷ []) ls k (f ∙ sym (append_assoc front (l ∷ []) ls)) (omega (arith, length-append front (l ∷ []))) in
+        inl (
+          omega (arith, ap (λ (ls : Lines). length ls) f, length-append front (l ∷ ls)),
+          (λ h. none h.1.0 (l ∷ h.0) h.1.1 h.1.2 (λ m more g. (ls, ap (λ (x : List ℕ). x ∷ ls) (ap head g))) (sym (append_assoc front (l ∷ []) h.0) ∙ (ap (λ (x : Lines). x ++ h.0) (sym here) ∙ h.1.3))),
+        )
 
 module _ (low last most : ℕ) (can : CanBeSaidOf (Scan low last most)) (ps : List Part) (each : AllByRecursion IsPart ps) (ascend : PartsAscend low last ps) where
   abbrev Goes : Type 0
@@ -194,77 +215,37 @@ module _ (low last most : ℕ) (can : CanBeSaidOf (Scan low last most)) (ps : Li
         said.Scan (ps ++ part ∷ []) Whole,
         part_line part ∷ codes "whole" ∷ [],
         (scan, (all_append IsPart ps (part ∷ []) each (small, tt), tt)),
-        sym (ap (λ (ls : Lines). ls ++ codes "whole" ∷ []) (map_end ps part) ∙ append_assoc (map part_line ps) (part_line part ∷ []) (codes "whole" ∷ [])),
+        sym (ap (λ (ls : Lines). ls ++ codes "whole" ∷ []) (map_push part_line ps part) ∙ append_assoc (map part_line ps) (part_line part ∷ []) (codes "whole" ∷ [])),
       )
-    where
-      map_end : (xs : List Part) (x : Part) → map part_line (xs ++ x ∷ []) ≡ map part_line xs ++ part_line x ∷ []
-      map_end [] x = refl
-      map_end (y ∷ xs) x = ap (λ (ls : Lines). part_line y ∷ ls) (map_end xs x)
 
   -- the scan stops
   pub stop_goes : (stop : Scanned) → length ps ≤ most → StopsAt last most ps stop → IsStop stop → Goes
   stop_goes stop few stops small = (said.Scan ps stop, stop_line stop ∷ [], (record { ascend = ascend; few = few; stops = stops }, (each, small)), refl)
 
   -- and nothing goes on
-  pub scan_unsaid : (lines rest : Lines) (k : ℕ) → lines ≡ map part_line ps ++ rest → k ≡ length ps + 1 → Goes → (length ps < most → NoneFirst (IsPartFrom (next_end low ps) last) part_line rest) → ((stop : Scanned) → StopsAt last most ps stop → NotFirst (stop_line stop) rest) → FirstUnsaid (Scan low last most) lines k
-  scan_unsaid lines rest k lines_are k_is goes no_part no_stop = record {
-    place = omega arith;
-    before = (goes.0, goes.1, goes.2, ap (λ (ls : Lines). ls ++ goes.1) (taken_front rest lines_are) ∙ goes.3);
-    refused = by_rest rest lines_are no_part no_stop;
-  }
+  scan_unsaid : (lines rest : Lines) (k : ℕ) → lines ≡ map part_line ps ++ rest → k ≡ length ps + 1 → Goes → (length ps < most → NoneFirst (IsPartFrom (next_end low ps) last) part_line rest) → ((stop : Scanned) → StopsAt last most ps stop → NotFirst (stop_line stop) rest) → FirstUnsaid (Scan low last most) lines k
+  scan_unsaid lines rest k lines_are k_is goes no_part no_end = unsaid (Scan low last most) (map part_line ps) rest lines k lines_are (omega (arith, length-map ps part_line)) goes odd
     where
-      many : length (map part_line ps) ≡ length ps
-      many = length-map ps part_line
-
-      take_front : (front back : Lines) → take (length front) (front ++ back) ≡ front
-      take_front [] back = refl
-      take_front (l ∷ front) back = ap (λ (ls : Lines). l ∷ ls) (take_front front back)
-
-      taken_front : (back : Lines) → lines ≡ map part_line ps ++ back → take (k - 1) lines ≡ map part_line ps
-      taken_front back e = ap (λ (n : ℕ). take n lines) (let s : k - 1 ≡ length (map part_line ps) = omega (arith, many) in s) ∙ (ap (take (length (map part_line ps))) e ∙ take_front (map part_line ps) back)
-
-      taken_line : (l : List ℕ) (ls : Lines) → lines ≡ map part_line ps ++ l ∷ ls → take k lines ≡ map part_line ps ++ l ∷ []
-      taken_line l ls e =
-          ap (λ (n : ℕ). take n lines) (let s : k ≡ length (map part_line ps ++ l ∷ []) = omega (arith, many, length-append (map part_line ps) (l ∷ [])) in s)
-          ∙ (ap (take (length (map part_line ps ++ l ∷ []))) (e ∙ sym (append_assoc (map part_line ps) (l ∷ []) ls)) ∙ take_front (map part_line ps ++ l ∷ []) ls)
-
-      -- what is said has these parts, and goes on with the lines
-      goes_on : (ls : Lines) (x : Said) (behind : Lines) → IsSaidOf (Scan low last most) x → map part_line ps ++ ls ≡ said_lines x ++ behind →
-          (more : List Part) × (stop : Scanned) × IsScanOf low last most (ps ++ more) stop × AllByRecursion IsPart more × (ls ≡ map part_line more ++ stop_line stop ∷ behind)
-      goes_on ls (said.Call n r) behind is e = absurd is.0
-      goes_on ls (said.Scan qs stop) behind is e =
-          let on = parts_told ps qs stop ls behind each is.1.0 (e ∙ append_assoc (map part_line qs) (stop_line stop ∷ []) behind) in
-          (on.0, stop, subst (λ (xs : List Part). IsScanOf low last most xs stop) on.1 is.0, all_right IsPart ps on.0 (subst (AllByRecursion IsPart) on.1 is.1.0), on.2)
-
-      nothing : (l : List ℕ) (ls more : Lines) → (length ps < most → NoneFirst (IsPartFrom (next_end low ps) last) part_line (l ∷ ls)) → ((stop : Scanned) → StopsAt last most ps stop → NotFirst (stop_line stop) (l ∷ ls)) →
-          (parts : List Part) (stop : Scanned) (behind : Lines) → IsScanOf low last most (ps ++ parts) stop → AllByRecursion IsPart parts → l ∷ more ≡ map part_line parts ++ stop_line stop ∷ behind → ⊥
-      nothing l ls more part end [] stop behind scan good e = end stop (subst (λ (xs : List Part). StopsAt last most xs stop) (append-nil ps) scan.stops) (ap head e)
-      nothing l ls more part end (p ∷ parts) stop behind scan good e =
+      by_more : (more : List Part) (stop : Scanned) (ls behind : Lines) → IsScanOf low last most (ps ++ more) stop → AllByRecursion IsPart more → Heads rest ls → ls ≡ map part_line more ++ stop_line stop ∷ behind → ⊥
+      by_more [] stop ls behind scan good same e =
+          let f = same (stop_line stop) behind e in
+          subst (NotFirst (stop_line stop)) f.1 (no_end stop (subst (λ (xs : List Part). StopsAt last most xs stop) (append-nil ps) scan.stops)) refl
+      by_more (p ∷ more) stop ls behind scan good same e =
+          let f = same (part_line p) (map part_line more ++ stop_line stop ∷ behind) e in
           let limit = scan.few in
-          let fits = ascend_right low last ps (p ∷ parts) scan.ascend in
-          part (omega (arith, length-append ps (p ∷ parts))) p (fits.0, fits.1, good.0) (ap head e)
+          let fits = ascend_right low last ps (p ∷ more) scan.ascend in
+          subst (NoneFirst (IsPartFrom (next_end low ps) last) part_line) f.1 (no_part (omega (arith, length-append ps (p ∷ more)))) p (fits.0, fits.1, good.0) refl
 
-      some_more : (parts : List Part) (stop : Scanned) (behind : Lines) → [] ≡ map part_line parts ++ stop_line stop ∷ behind → ⊥
-      some_more parts stop behind e = omega (arith, ap (λ (ls : Lines). length ls) e, length-append (map part_line parts) (stop_line stop ∷ behind))
-
-      by_rest : (back : Lines) → lines ≡ map part_line ps ++ back → (length ps < most → NoneFirst (IsPartFrom (next_end low ps) last) part_line back) → ((stop : Scanned) → StopsAt last most ps stop → NotFirst (stop_line stop) back) →
-          ((k ≤ length lines) × (Begins (BeginsSaid (Scan low last most)) (take k lines) → ⊥)) ⊎ ((k ≡ length lines + 1) × (BeginsSaid (Scan low last most) lines → ⊥))
-      by_rest [] e part end = inr (
-        omega (arith, many, ap (λ (ls : Lines). length ls) e, length-append (map part_line ps) []),
-        (λ h. let on = goes_on [] h.0 h.1 h.2 (sym e ∙ h.3) in some_more on.0 on.1 h.1 on.4),
-      )
-      by_rest (l ∷ ls) e part end = inl (
-        omega (arith, many, ap (λ (ls : Lines). length ls) e, length-append (map part_line ps) (l ∷ ls)),
-        (λ h.
-            let s = h.1 in
-            let on = goes_on (l ∷ h.0) s.0 s.1 s.2 (sym (append_assoc (map part_line ps) (l ∷ []) h.0) ∙ (ap (λ (x : Lines). x ++ h.0) (sym (taken_line l ls e)) ∙ s.3)) in
-            nothing l ls h.0 part end on.0 on.1 s.1 on.2 on.3 on.4),
-      )
+      odd : (x : Said) (ls behind : Lines) → IsSaidOf (Scan low last most) x → Heads rest ls → map part_line ps ++ ls ≡ said_lines x ++ behind → ⊥
+      odd (said.Call n r) ls behind is same e = is.0
+      odd (said.Scan qs stop) ls behind is same e =
+          let on = parts_told ps qs stop ls behind each is.1.0 (e ∙ append_assoc (map part_line qs) (stop_line stop ∷ []) behind) in
+          by_more on.0 stop ls behind (subst (λ (xs : List Part). IsScanOf low last most xs stop) on.1 is.0) (all_right IsPart ps on.0 (subst (AllByRecursion IsPart) on.1 is.1.0)) same on.2
 
   -- where a part must follow, and where the scan must stop
   pub part_unsaid : (lines rest : Lines) (k : ℕ) → lines ≡ map part_line ps ++ rest → k ≡ length ps + 1 → length ps < most → next_end low ps ≤ last → NoneFirst (IsPartFrom (next_end low ps) last) part_line rest → FirstUnsaid (Scan low last most) lines k
   part_unsaid lines rest k lines_are k_is few next none =
-      scan_unsaid lines rest k lines_are k_is (part_goes few next) (λ _. none) (λ stop stops. no_first (stop_line stop) rest (no_stop low last most ps stop few next stops))
+      scan_unsaid lines rest k lines_are k_is (part_goes few next) (λ _. none) (λ stop stops. absurd (no_stop low last most ps stop few next stops))
 
   pub stop_unsaid : (lines rest : Lines) (k : ℕ) (stop : Scanned) → lines ≡ map part_line ps ++ rest → k ≡ length ps + 1 → length ps ≤ most → StopsAt last most ps stop → IsStop stop → NotFirst (stop_line stop) rest → FirstUnsaid (Scan low last most) lines k
   stop_unsaid lines rest k stop lines_are k_is few stops small odd =
@@ -274,45 +255,25 @@ module _ (low last most : ℕ) (can : CanBeSaidOf (Scan low last most)) (ps : Li
 
 -- no reply
 pub call_unsaid : (op : Op) (lines : Lines) → NoneFirst (IsReplyOf op) reply_line lines → FirstUnsaid (Call op) lines 1
-call_unsaid op lines none = record {
-  place = omega arith;
-  before = (said.Call 0 Nothing, reply_line (0, Nothing) ∷ [], (tt, (omega arith, tt)), refl);
-  refused = by_lines lines none;
-}
+call_unsaid op lines none = unsaid (Call op) [] lines lines 1 refl refl (said.Call 0 Nothing, reply_line (0, Nothing) ∷ [], (tt, (omega arith, tt)), refl) odd
   where
-    nothing : (l : List ℕ) (ls more : Lines) → NoneFirst (IsReplyOf op) reply_line (l ∷ ls) → (x : Said) (behind : Lines) → IsSaidOf (Call op) x → l ∷ more ≡ said_lines x ++ behind → ⊥
-    nothing l ls more odd (said.Call n r) behind is e = odd (n, r) (is.1, is.0) (ap head e)
-    nothing l ls more odd (said.Scan ps stop) behind is e = is.0
-
-    missing : (x : Said) (behind : Lines) → IsSaidOf (Call op) x → [] ≡ said_lines x ++ behind → ⊥
-    missing (said.Call n r) behind is e = omega (arith, ap (λ (ls : Lines). length ls) e)
-    missing (said.Scan ps stop) behind is e = is.0
-
-    by_lines : (ls : Lines) → NoneFirst (IsReplyOf op) reply_line ls → ((1 ≤ length ls) × (Begins (BeginsSaid (Call op)) (take 1 ls) → ⊥)) ⊎ ((1 ≡ length ls + 1) × (BeginsSaid (Call op) ls → ⊥))
-    by_lines [] odd = inr (refl, (λ h. missing h.0 h.1 h.2 h.3))
-    by_lines (l ∷ ls) odd = inl (omega arith, (λ h. nothing l ls h.0 odd h.1.0 h.1.1 h.1.2 h.1.3))
+    odd : (x : Said) (ls behind : Lines) → IsSaidOf (Call op) x → Heads lines ls → ls ≡ said_lines x ++ behind → ⊥
+    odd (said.Call n r) ls behind is same e = let f = same (reply_line (n, r)) behind e in subst (NoneFirst (IsReplyOf op) reply_line) f.1 none (n, r) (is.1, is.0) refl
+    odd (said.Scan ps stop) ls behind is same e = is.0
 
 -- something can be printed
 pub printable : (x : Said) → IsSaid x → IsPrintable x
-printable (said.Call n Nothing) h = tt
-printable (said.Call n (Value v)) h = tt
-printable (said.Call n Full) h = tt
 printable (said.Call n (Listed pairs)) h = h.1
-printable (said.Call n Kept) h = tt
-printable (said.Scan parts stop) h = tt
+printable other h = tt
 
 -- something may be said of each line of a script
 pub can_be_said : (version : Version) (line : Line) → IsLineOf version line → CanBeSaidOf line
 can_be_said version (Call op) is = tt
 can_be_said version (Scan low last most) is = (is.1, is.2, is.3)
 
-pub open_script : (version : Version) (script : List (List Line)) → IsScript version script → AllByRecursion (AllByRecursion CanBeSaidOf) script
-open_script version script is = all_open script is.each
-  where
-    opened : (ls : List Line) → AllByRecursion (IsLineOf version) ls → AllByRecursion CanBeSaidOf ls
-    opened [] h = tt
-    opened (l ∷ ls) h = (can_be_said version l h.0, opened ls h.1)
+all_weaker : {X : Type 0} (P Q : X → Type 0) → ((x : X) → P x → Q x) → (xs : List X) → AllByRecursion P xs → AllByRecursion Q xs
+all_weaker P Q weaker [] h = tt
+all_weaker P Q weaker (x ∷ xs) h = (weaker x h.0, all_weaker P Q weaker xs h.1)
 
-    all_open : (s : List (List Line)) → AllByRecursion (AllByRecursion (IsLineOf version)) s → AllByRecursion (AllByRecursion CanBeSaidOf) s
-    all_open [] h = tt
-    all_open (ls ∷ s) h = (opened ls h.0, all_open s h.1)
+pub open_script : (version : Version) (script : List (List Line)) → IsScript version script → AllByRecursion (AllByRecursion CanBeSaidOf) script
+open_script version script is = all_weaker (AllByRecursion (IsLineOf version)) (AllByRecursion CanBeSaidOf) (all_weaker (IsLineOf version) CanBeSaidOf (can_be_said version)) script is.each

@@ -1,143 +1,130 @@
--- Scripts that were read line by line: what a text says, and where it stops to be one.
-use Rattle.ks_script.proofs.Common.{ℕ, ◌≡◌, ◌+◌, ◌<◌, ◌≤◌, List, [], ◌∷◌, ◌++◌, length, map, get_or, codes, refl, sym, ap, subst, ◌∙◌, append-nil, arith, inl, inr, length-append, AllByRecursion, Line, Version, First, Second, Third, Fourth, lines_of, FirstBad, version_line, callers_limit, parts_of, parts_in, IsLineOf, IsScript, SpellsScript, AreScript, line_text, script_lines, calls_in, Lines, NotFirst, NoneFirst, Apart, TextLeft, ScriptLeft, CallsLeft, Told, CallersRead, none_read, some_read, Stops}
+-- Scripts as lines: how they are read back, and where a text stops to be one.
+use Rattle.ks_script.proofs.Common.{ℕ, ◌≡◌, ◌+◌, ◌-◌, ◌<◌, ◌≤◌, List, [], ◌∷◌, ◌++◌, length, map, take, drop, get_or, codes, refl, sym, ap, subst, ◌∙◌, append_assoc, append-nil, arith, length-append, sum_by, AllByRecursion, Line, Version, First, Second, Third, Fourth, lines_of, FirstBad, version_line, parts_of, parts_in, IsLineOf, IsLineWithin, IsScript, SpellsScript, AreScript, line_text, script_lines, calls_in, Lines, NotFirst, NoneFirst, NoVersion, HasBegun, Reads, Stops, flat_map-append, caller_lines}
 use Rattle.std.proofs.lemmas.List.Sums.{sum_by-append, sum_by-cons}
-use Rattle.ks_script.proofs.Leading.{bad_same, refused_at}
-use Rattle.ks_script.proofs.Steps.{all_good, calls_append, parts_append, spoken, unsaid}
-use Rattle.ks_script.proofs.Lined.{no_lines}
+use Rattle.ks_script.proofs.Leading.{reads_on, reads_all, first_same, refused_at, told_apart}
+use Rattle.ks_script.proofs.CallLines.{first, spelled, one_line}
+use Rattle.ks_script.proofs.Lined.{no_more}
+use Rattle.ks_script.proofs.Steps.{all_right}
 
--- nothing is behind a script
+abbrev pub EachOf : Version → List (List Line) → Type 0
+EachOf v script = AllByRecursion (AllByRecursion (IsLineOf v)) script
+
+-- one caller more was read
+pub next_read : (v : Version) (bytes rest more left : List ℕ) (all : List (List Line)) (ops : List Line) (n k : ℕ) → Reads (version_line v ++ script_lines all) bytes rest n → lines_of rest ≡ codes "caller" ∷ lines_of more → Reads (map line_text ops) more left (length ops) → k ≡ n + 1 + length ops → Reads (version_line v ++ script_lines (all ++ ops ∷ [])) bytes left k
+next_read v bytes rest more left all ops n k read line calls sum =
+    subst (λ (front : Lines). Reads front bytes left k)
+    (append_assoc (version_line v) (script_lines all) (caller_lines ops) ∙ ap (λ (ls : Lines). version_line v ++ ls) (sym (flat_map-append caller_lines all (ops ∷ []) ∙ ap (λ (ls : Lines). script_lines all ++ ls) (append-nil (caller_lines ops)))))
+    (reads_on (version_line v ++ script_lines all) (caller_lines ops) bytes rest left n (1 + length ops) k read (reads_on (codes "caller" ∷ []) (map line_text ops) rest more left 1 (length ops) (1 + length ops) (record { lines_are = line; counted = refl }) calls refl) (omega arith))
+
+-- lines that go on with nothing of a script
+pub record Apart (version : Version) (behind : Lines) : Type 0 where
+  pub no_version : NoVersion behind
+  pub no_caller : NotFirst (codes "caller") behind
+  pub no_line : NoneFirst (IsLineOf version) line_text behind
+
 pub alone : (version : Version) → Apart version []
 alone version = record { no_version = (tt, tt, tt); no_caller = tt; no_line = tt }
 
-from_text : (w : Version) (s : List (List Line)) (ls : Lines) → SpellsScript w s ls → TextLeft w s [] ls
-from_text w s ls h = record { is = h.is; apart = alone w; lines_are = h.lines_are ∙ ap (λ (k : Lines). version_line w ++ k) (sym (append-nil (script_lines s))) }
+-- how a script goes on behind callers of it, the last of which may have more lines: with what is behind it, with a caller,
+-- or with a line
+pub data Next (v : Version) (all s : List (List Line)) (behind ls : Lines) : Type 0 where
+  at_end : s ≡ all → ls ≡ behind → Next v all s behind ls
+  at_caller : length all < length s → (more : Lines) → ls ≡ codes "caller" ∷ more → Next v all s behind ls
+  at_line : 0 < length all → calls_in all < calls_in s → (l : Line) → IsLineOf v l → parts_in all + parts_of l ≤ parts_in s → (more : Lines) → ls ≡ line_text l ∷ more → Next v all s behind ls
 
-to_text : (w : Version) (s : List (List Line)) (ls : Lines) → TextLeft w s [] ls → SpellsScript w s ls
-to_text w s ls h = record { is = h.is; lines_are = h.lines_are ∙ ap (λ (k : Lines). version_line w ++ k) (append-nil (script_lines s)) }
+module _ (v : Version) (behind : Lines) (apart : Apart v behind) where
+  no_line : (s : List (List Line)) → NoneFirst (IsLineOf v) line_text (script_lines s ++ behind)
+  no_line [] = apart.no_line
+  no_line (o ∷ s) = λ l is e. (spelled v l is).apart.0 (sym (ap first e))
 
--- what is left of the script that was read: what is behind it
-pub left_told : (v : Version) (behind : Lines) → Apart v behind → IsScript v [] → Told v v [] behind behind
-left_told First behind apart is = record { is = is; apart = apart; lines_are = refl }
-left_told Second behind apart is = (refl, record { is = is; apart = apart; lines_are = refl })
-left_told Third behind apart is = (refl, record { is = is; apart = apart; lines_are = refl })
-left_told Fourth behind apart is = (refl, record { is = is; apart = apart; lines_are = refl })
+  one_more : (ops : List Line) (all s : List (List Line)) (ls : Lines) → Next v all s behind ls → Next v (ops ∷ all) (ops ∷ s) behind ls
+  one_more ops all s ls (at_end e f) = at_end (ap (λ (xs : List (List Line)). ops ∷ xs) e) f
+  one_more ops all s ls (at_caller fewer more e) = at_caller (omega arith) more e
+  one_more ops all s ls (at_line some fewer l is within more e) = at_line (omega arith) (omega arith) l is (omega arith) more e
 
-pub left_calls : (v : Version) (behind : Lines) → Apart v behind → (all callers : List (List Line)) (ops : List Line) → all ≡ callers ++ ops ∷ [] → IsScript v all → CallsLeft v callers ops all behind behind
-left_calls v behind apart all callers ops e is = record { is = is; apart = apart; more = []; others = []; script_is = e ∙ ap (λ (xs : List Line). callers ++ xs ∷ []) (sym (append-nil ops)); lines_are = refl }
+  next : (all s : List (List Line)) (ls : Lines) → EachOf v all → EachOf v s → script_lines all ++ ls ≡ script_lines s ++ behind → Next v all s behind ls
+  next [] [] ls h k e = at_end refl e
+  next [] (o ∷ s) ls h k e = at_caller (omega arith) (map line_text o ++ (script_lines s ++ behind)) (e ∙ append_assoc (caller_lines o) (script_lines s) behind)
+  next (ops ∷ all) [] ls h k e = absurd (subst (NotFirst (codes "caller")) (sym e) apart.no_caller refl)
+  next (ops ∷ all) (o ∷ s) ls h k e =
+      let on = told_apart (IsLineOf v) line_text (one_line v) ops o (script_lines all ++ ls) (script_lines s ++ behind) h.0 k.0 (no_line s) (ap (λ (ls : Lines). drop 1 ls) (sym (append_assoc (caller_lines ops) (script_lines all) ls) ∙ (e ∙ append_assoc (caller_lines o) (script_lines s) behind))) in
+      by_more on.0 on.1 on.2 (λ f. next all s ls h.1 k.1 f)
+    where
+      by_line : (rest : List (List Line)) (l : Line) (more : List Line) → o ≡ ops ++ l ∷ more → IsLineOf v l → script_lines rest ++ ls ≡ line_text l ∷ (map line_text more ++ (script_lines s ++ behind)) → Next v (ops ∷ rest) (o ∷ s) behind ls
+      by_line [] l more f is g = at_line (omega arith) (omega (arith, ap (λ (xs : List Line). length xs) f, length-append ops (l ∷ more))) l is (omega (arith, ap (λ (xs : List Line). sum_by parts_of xs) f, sum_by-append parts_of ops (l ∷ more), sum_by-cons parts_of l more)) (map line_text more ++ (script_lines s ++ behind)) g
+      by_line (x ∷ rest) l more f is g = absurd ((spelled v l is).apart.0 (sym (ap (λ (ls : Lines). first (get_or ls 0 [])) g)))
 
--- the same of a text whose version no line says
-as_script : (w : Version) (s : List (List Line)) (behind ls : Lines) → w ≡ First → TextLeft w s behind ls → ScriptLeft First s behind ls
-as_script w s behind ls e h = let own = subst (λ (u : Version). TextLeft u s behind ls) e h in record { is = own.is; apart = own.apart; lines_are = own.lines_are }
+      by_more : (more : List Line) → o ≡ ops ++ more → script_lines all ++ ls ≡ map line_text more ++ (script_lines s ++ behind) → (script_lines all ++ ls ≡ script_lines s ++ behind → Next v all s behind ls) → Next v (ops ∷ all) (o ∷ s) behind ls
+      by_more [] f g on = subst (λ (x : List Line). Next v (ops ∷ all) (x ∷ s) behind ls) (sym (f ∙ append-nil ops)) (one_more ops all s ls (on g))
+      by_more (l ∷ more) f g on = by_line all l more f (all_right (IsLineOf v) ops (l ∷ more) (subst (AllByRecursion (IsLineOf v)) f k.0)).0 g
 
-said_first : (w : Version) (s : List (List Line)) (behind ls : Lines) (word : List ℕ) → version_line w ≡ word ∷ [] → TextLeft w s behind ls → ls ≡ word ∷ (script_lines s ++ behind)
-said_first w s behind ls word e h = h.lines_are ∙ ap (λ (front : Lines). front ++ (script_lines s ++ behind)) e
+-- a line says each version but the first
+opened : (s : List (List Line)) (ls : Lines) → (length s ≡ 0 → NoVersion ls) → NoVersion (script_lines s ++ ls)
+opened [] ls h = h refl
+opened (o ∷ s) ls h = (λ e. omega (arith, ap first e), λ e. omega (arith, ap first e), λ e. omega (arith, ap first e))
 
--- lines that go on with nothing of a script are behind the one that was read
-script_end : (v : Version) (s : List (List Line)) (behind ls : Lines) → ScriptLeft v s behind ls → NotFirst (codes "caller") ls → (s ≡ []) × (ls ≡ behind)
-script_end v [] behind ls h no_caller = (refl, h.lines_are)
-script_end v (o ∷ s) behind ls h no_caller = absurd (subst (NotFirst (codes "caller")) h.lines_are no_caller refl)
+begun : (v : Version) (all : List (List Line)) (ls : Lines) → (length all ≡ 0 → HasBegun v ls) → HasBegun v (script_lines all ++ ls)
+begun First all ls h = opened all ls h
+begun other all ls h = tt
 
-told_script : (v w : Version) (s : List (List Line)) (behind ls : Lines) → (w ≡ v) × ScriptLeft v s behind ls → Apart v ls → (w ≡ v) × (s ≡ []) × (ls ≡ behind)
-told_script v w s behind ls h apart = let end = script_end v s behind ls h.1 apart.no_caller in (h.0, end.0, end.1)
+pub none_said : (v : Version) (ls : Lines) → NoVersion ls → HasBegun v ls
+none_said First ls h = h
+none_said other ls h = tt
 
-pub told_end : (v w : Version) (s : List (List Line)) (behind ls : Lines) → Told v w s behind ls → Apart v ls → (w ≡ v) × (s ≡ []) × (ls ≡ behind)
-told_end First w s behind ls h apart =
-    elim (spoken w) [
-      | inl none ↦ told_script First w s behind ls (none, as_script w s behind ls none h) apart
-      | inr word ↦ absurd (subst (NotFirst word.0) (said_first w s behind ls word.0 word.1 h) (unsaid w word.0 ls word.1 apart.no_version) refl)
-    ]
-told_end Second w s behind ls h apart = told_script Second w s behind ls h apart
-told_end Third w s behind ls h apart = told_script Third w s behind ls h apart
-told_end Fourth w s behind ls h apart = told_script Fourth w s behind ls h apart
+begun_same : (v : Version) (l : List ℕ) (ls more : Lines) → HasBegun v (l ∷ ls) → HasBegun v (l ∷ more)
+begun_same First l ls more h = h
+begun_same other l ls more h = tt
 
-pub calls_end : (v : Version) (callers : List (List Line)) (ops : List Line) (s : List (List Line)) (behind ls : Lines) → CallsLeft v callers ops s behind ls → Apart v ls → (s ≡ callers ++ ops ∷ []) × (ls ≡ behind)
-calls_end v callers ops s behind ls h apart = by_more h.more h.others h.script_is h.lines_are
+one_version : (v w : Version) (a b : Lines) → HasBegun v a → NoVersion b → version_line v ++ a ≡ version_line w ++ b → (w ≡ v) × (a ≡ b)
+one_version First First a b h k e = (refl, e)
+one_version Second Second a b h k e = (refl, ap (λ (ls : Lines). drop 1 ls) e)
+one_version Third Third a b h k e = (refl, ap (λ (ls : Lines). drop 1 ls) e)
+one_version Fourth Fourth a b h k e = (refl, ap (λ (ls : Lines). drop 1 ls) e)
+one_version First Second a b h k e = absurd (subst (NotFirst (codes "script 2")) e h.0 refl)
+one_version First Third a b h k e = absurd (subst (NotFirst (codes "script 3")) e h.1 refl)
+one_version First Fourth a b h k e = absurd (subst (NotFirst (codes "script 4")) e h.2 refl)
+one_version Second First a b h k e = absurd (subst (NotFirst (codes "script 2")) (sym e) k.0 refl)
+one_version Third First a b h k e = absurd (subst (NotFirst (codes "script 3")) (sym e) k.1 refl)
+one_version Fourth First a b h k e = absurd (subst (NotFirst (codes "script 4")) (sym e) k.2 refl)
+one_version v w a b h k e = absurd (omega (arith, ap (λ (ls : Lines). get_or (get_or ls 0 []) 7 0) e))
+
+-- a text of a script that begins with the lines of these callers
+pub script_next : (v : Version) (all : List (List Line)) (w : Version) (s : List (List Line)) (behind ls : Lines) → IsScript v all → IsScript w s → ((u : Version) → Apart u behind) → (length all ≡ 0 → HasBegun v ls) → (version_line v ++ script_lines all) ++ ls ≡ version_line w ++ (script_lines s ++ behind) → (w ≡ v) × Next v all s behind ls
+script_next v all w s behind ls is good apart fresh e =
+    let one = one_version v w (script_lines all ++ ls) (script_lines s ++ behind) (begun v all ls fresh) (opened s behind (λ _. (apart v).no_version)) (sym (append_assoc (version_line v) (script_lines all) ls) ∙ e) in
+    (one.0, next v behind (apart v) all s ls is.each (subst (λ (u : Version). IsScript u s) one.0 good).each one.1)
+
+-- if they stop, it goes on with what is behind the script
+pub stuck : (v : Version) (all : List (List Line)) (w : Version) (s : List (List Line)) (behind ls : Lines) → IsScript v all → IsScript w s → ((u : Version) → Apart u behind) → Stops v all ls → (version_line v ++ script_lines all) ++ ls ≡ version_line w ++ (script_lines s ++ behind) → (s ≡ all) × (ls ≡ behind)
+stuck v all w s behind ls is good apart stops e =
+    let on = script_next v all w s behind ls is good apart stops.begun e in
+    by_next (subst (λ (u : Version). IsScript u s) on.0 good) on.1
   where
-    by_more : (more : List Line) (others : List (List Line)) → s ≡ callers ++ (ops ++ more) ∷ others → ls ≡ map line_text more ++ (script_lines others ++ behind) → (s ≡ callers ++ ops ∷ []) × (ls ≡ behind)
-    by_more [] [] e f = (e ∙ ap (λ (xs : List Line). callers ++ xs ∷ []) (append-nil ops), f)
-    by_more [] (o ∷ others) e f = absurd (subst (NotFirst (codes "caller")) f apart.no_caller refl)
-    by_more (m ∷ more) others e f = absurd (subst (NoneFirst (IsLineOf v) line_text) f apart.no_line m (all_good v callers ops (m ∷ more) others s h.is e).0 refl)
+    by_next : IsScript v s → Next v all s behind ls → (s ≡ all) × (ls ≡ behind)
+    by_next good (at_end e f) = (e, f)
+    by_next good (at_caller fewer more e) = absurd (subst (NotFirst (codes "caller")) e (stops.caller (let most = good.callers in omega arith)) refl)
+    by_next good (at_line some fewer l line within more e) =
+        absurd (subst (NoneFirst (IsLineWithin v (65536 - parts_in all)) line_text) e (stops.line some (let most = good.calls in omega arith)) l (line, (let most = good.parts in omega arith)) refl)
 
--- where all lines were read, they are those of the script that was read
-pub spelled : (v : Version) (all : List (List Line)) (bytes rest : List ℕ) (n : ℕ) → CallersRead v all bytes rest n → IsScript v all → rest ≡ [] → SpellsScript v all (lines_of bytes)
-spelled v all bytes rest n (none_read none r) is end =
-    let reads = r v [] [] in
-    subst (λ (xs : List (List Line)). SpellsScript v xs (lines_of bytes)) (sym none)
-    (subst (SpellsScript v []) (sym (reads.lines_are ∙ ap (λ (x : List ℕ). reads.front ++ lines_of x) end)) (to_text v [] (reads.front ++ []) (reads.leads.into [] (left_told v [] (alone v) (subst (IsScript v) none is)))))
-spelled v all bytes rest n (some_read callers ops all_are r) is end =
-    let reads = r v all [] in
-    subst (SpellsScript v all) (sym (reads.lines_are ∙ ap (λ (x : List ℕ). reads.front ++ lines_of x) end)) (to_text v all (reads.front ++ []) (reads.leads.into [] (refl, left_calls v [] (alone v) all callers ops all_are is)))
+pub stops_none : (v : Version) (all : List (List Line)) → Stops v all []
+stops_none v all = record { begun = λ _. none_said v [] (tt, tt, tt); caller = λ _. tt; line = λ _ _. tt }
 
--- and those of no other
-pub one_read : (v : Version) (all : List (List Line)) (bytes rest : List ℕ) (n : ℕ) (w : Version) (s : List (List Line)) → CallersRead v all bytes rest n → rest ≡ [] → SpellsScript w s (lines_of bytes) → s ≡ all
-one_read v all bytes rest n w s (none_read none r) end h =
-    let reads = r w s [] in
-    (told_end v w s [] [] (reads.leads.only [] (from_text w s (reads.front ++ []) (subst (SpellsScript w s) (reads.lines_are ∙ ap (λ (x : List ℕ). reads.front ++ lines_of x) end) h))) (alone v)).1 ∙ sym none
-one_read v all bytes rest n w s (some_read callers ops all_are r) end h =
-    let reads = r w s [] in
-    (calls_end v callers ops s [] [] (reads.leads.only [] (from_text w s (reads.front ++ []) (subst (SpellsScript w s) (reads.lines_are ∙ ap (λ (x : List ℕ). reads.front ++ lines_of x) end) h))).1 (alone v)).0 ∙ sym all_are
+pub stops_same : (v : Version) (all : List (List Line)) (a b : Lines) → take 1 a ≡ take 1 b → Stops v all b → Stops v all a
+stops_same v all a b e h = first_same (Stops v all) (λ l ls more s. record { begun = λ none. begun_same v l ls more (s.begun none); caller = s.caller; line = s.line }) a b e h
 
-head_of : (l : List ℕ) (ls : Lines) (k : Lines) → l ∷ ls ≡ k → l ≡ get_or k 0 []
-head_of l ls k e = ap (λ (x : Lines). get_or x 0 []) e
+-- all lines were read, or where nothing may follow, the first line of the rest is the first bad one
+module _ (v : Version) (all : List (List Line)) (bytes rest : List ℕ) (n : ℕ) (read : Reads (version_line v ++ script_lines all) bytes rest n) (is : IsScript v all) where
+  nothing_more : (w : Version) (s : List (List Line)) (ls : Lines) → Stops v all ls → SpellsScript w s ((version_line v ++ script_lines all) ++ ls) → (s ≡ all) × (ls ≡ [])
+  nothing_more w s ls stops h = stuck v all w s [] ls is h.is alone stops (h.lines_are ∙ ap (λ (ls : Lines). version_line w ++ ls) (sym (append-nil (script_lines s))))
 
-no_line : (l : List ℕ) (ls : Lines) → l ∷ ls ≡ [] → ⊥
-no_line l ls e = omega (arith, ap (λ (x : Lines). length x) e)
+  pub whole_script : rest ≡ [] → SpellsScript v all (lines_of bytes)
+  whole_script end = record { is = is; lines_are = reads_all (version_line v ++ script_lines all) bytes rest n read end }
 
--- lines that stop do not go on with more of a script, nor with what is behind it
-some_callers : (v : Version) → 0 < callers_limit v
-some_callers First = omega arith
-some_callers Second = omega arith
-some_callers Third = omega arith
-some_callers Fourth = omega arith
+  pub one_read : rest ≡ [] → (w : Version) (s : List (List Line)) → SpellsScript w s (lines_of bytes) → s ≡ all
+  one_read end w s h = (nothing_more w s [] (stops_none v all) (subst (SpellsScript w s) (reads_all (version_line v ++ script_lines all) bytes rest n read end ∙ sym (append-nil (version_line v ++ script_lines all))) h)).0
 
-stuck_script : (v : Version) (s : List (List Line)) (behind : Lines) (l : List ℕ) (ls more : Lines) → (l ∷ more ≡ behind → ⊥) → Stops v [] (l ∷ ls) → ScriptLeft v s behind (l ∷ more) → ⊥
-stuck_script v [] behind l ls more none stops h = none h.lines_are
-stuck_script v (o ∷ s) behind l ls more none stops h = stops.caller (some_callers v) (head_of l more (script_lines (o ∷ s) ++ behind) h.lines_are)
-
-pub stuck_told : (v w : Version) (s : List (List Line)) (behind : Lines) (l : List ℕ) (ls more : Lines) → (l ∷ more ≡ behind → ⊥) → Stops v [] (l ∷ ls) → Told v w s behind (l ∷ more) → ⊥
-stuck_told First w s behind l ls more none stops h =
-    elim (spoken w) [
-      | inl e ↦ stuck_script First s behind l ls more none stops (as_script w s behind (l ∷ more) e h)
-      | inr word ↦ unsaid w word.0 (l ∷ ls) word.1 (stops.begun refl) (head_of l more (word.0 ∷ (script_lines s ++ behind)) (said_first w s behind (l ∷ more) word.0 word.1 h))
-    ]
-stuck_told Second w s behind l ls more none stops h = stuck_script Second s behind l ls more none stops h.1
-stuck_told Third w s behind l ls more none stops h = stuck_script Third s behind l ls more none stops h.1
-stuck_told Fourth w s behind l ls more none stops h = stuck_script Fourth s behind l ls more none stops h.1
-
-stuck_more : (v : Version) (all callers : List (List Line)) (ops : List Line) (s : List (List Line)) (behind : Lines) (l : List ℕ) (ls rest : Lines) → (l ∷ rest ≡ behind → ⊥) → all ≡ callers ++ ops ∷ [] → Stops v all (l ∷ ls) → IsScript v s → (more : List Line) (others : List (List Line)) → s ≡ callers ++ (ops ++ more) ∷ others → AllByRecursion (IsLineOf v) more → l ∷ rest ≡ map line_text more ++ (script_lines others ++ behind) → ⊥
-stuck_more v all callers ops s behind l ls rest none all_are stops is [] [] e each h = none h
-stuck_more v all callers ops s behind l ls rest none all_are stops is [] (o ∷ others) e each h =
-    let limit = is.callers in
-    let many : length all < length s = omega (arith, ap (λ (xs : List (List Line)). length xs) all_are, ap (λ (xs : List (List Line)). length xs) e, length-append callers (ops ∷ []), length-append callers ((ops ++ []) ∷ o ∷ others)) in
-    stops.caller (omega arith) (head_of l rest (script_lines (o ∷ others) ++ behind) h)
-stuck_more v all callers ops s behind l ls rest none all_are stops is (m ∷ more) others e each h =
-    let limit = is.calls in
-    let most = is.parts in
-    let fewer : calls_in all < calls_in s = omega (arith, ap calls_in all_are, ap calls_in e, calls_append callers (ops ∷ []), calls_append callers ((ops ++ m ∷ more) ∷ others), length-append ops (m ∷ more)) in
-    let within : parts_in all + parts_of m ≤ parts_in s = omega (arith, ap parts_in all_are, ap parts_in e, parts_append callers (ops ∷ []), parts_append callers ((ops ++ m ∷ more) ∷ others), sum_by-append parts_of ops (m ∷ more), sum_by-cons parts_of m more) in
-    stops.line (omega (arith, ap (λ (xs : List (List Line)). length xs) all_are, length-append callers (ops ∷ []))) (omega arith) m (each.0, omega arith) (head_of l rest (map line_text (m ∷ more) ++ (script_lines others ++ behind)) h)
-
-pub stuck_calls : (v : Version) (all callers : List (List Line)) (ops : List Line) (s : List (List Line)) (behind : Lines) (l : List ℕ) (ls more : Lines) → (l ∷ more ≡ behind → ⊥) → all ≡ callers ++ ops ∷ [] → Stops v all (l ∷ ls) → CallsLeft v callers ops s behind (l ∷ more) → ⊥
-stuck_calls v all callers ops s behind l ls more none all_are stops h =
-    stuck_more v all callers ops s behind l ls more none all_are stops h.is h.more h.others h.script_is (all_good v callers ops h.more h.others s h.is h.script_is) h.lines_are
-
-abbrev Versioned : Type 0
-Versioned = Version × List (List Line)
-
--- where nothing may follow, the first line of the rest is the first bad one
-pub stopped : (v : Version) (all : List (List Line)) (bytes rest : List ℕ) (n : ℕ) → CallersRead v all bytes rest n → IsScript v all → Stops v all (lines_of rest) → 0 < length rest → FirstBad AreScript (lines_of bytes) (n + 1)
-stopped v all bytes rest n read is stops some =
-    bad_same (λ ls. (x : Versioned) × TextLeft x.0 x.1 [] ls) AreScript (lines_of bytes) (n + 1) (λ ls h. (h.0.0, h.0.1, to_text h.0.0 h.0.1 ls h.1)) (λ ls h. ((h.0, h.1), from_text h.0 h.1 ls h.2)) (bad read)
-  where
-    missing : lines_of rest ≡ [] → ⊥
-    missing e = omega (arith, ap (λ (x : List ℕ). length x) (no_lines rest e))
-
-    bad : CallersRead v all bytes rest n → FirstBad (λ ls. (x : Versioned) × TextLeft x.0 x.1 [] ls) (lines_of bytes) (n + 1)
-    bad (none_read none r) =
-        refused_at {X = Versioned} (λ x ls. TextLeft x.0 x.1 [] ls) (λ x ls. Told v x.0 x.1 [] ls) bytes rest n (λ x. r x.0 x.1 []) (v, []) [] (left_told v [] (alone v) (subst (IsScript v) none is))
-        (λ x l ls more e h. stuck_told v x.0 x.1 [] l ls more (no_line l more) (subst (Stops v []) e (subst (λ (xs : List (List Line)). Stops v xs (lines_of rest)) none stops)) h)
-        (λ e x h. missing e)
-    bad (some_read callers ops all_are r) =
-        refused_at {X = Versioned} (λ x ls. TextLeft x.0 x.1 [] ls) (λ x ls. (x.0 ≡ v) × CallsLeft v callers ops x.1 [] ls) bytes rest n (λ x. r x.0 x.1 []) (v, all) [] (refl, left_calls v [] (alone v) all callers ops all_are is)
-        (λ x l ls more e h. stuck_calls v all callers ops x.1 [] l ls more (no_line l more) all_are (subst (Stops v all) e stops) h.1)
-        (λ e x h. missing e)
+  pub stopped : Stops v all (lines_of rest) → 0 < length rest → FirstBad AreScript (lines_of bytes) (n + 1)
+  stopped stops some =
+      refused_at AreScript (lines_of bytes) (version_line v ++ script_lines all) (lines_of rest) n read.lines_are read.counted ([], (v, all, record { is = is; lines_are = append-nil (version_line v ++ script_lines all) }))
+      (λ ls same h.
+      no_more rest some ls (nothing_more h.0 h.1 ls (stops_same v all ls (lines_of rest) same stops) h.2).1 same)

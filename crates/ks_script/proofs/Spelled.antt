@@ -1,6 +1,7 @@
 -- Texts and their lines, there and back.
 use Rattle.ks_script.proofs.Common.{ℕ, ◌≡◌, ◌⊎◌, ◌+◌, ◌^◌, ◌<◌, ◌≤◌, false, eqb, List, [], ◌∷◌, ◌++◌, length, map, refl, sym, ap, subst, ◌∙◌, append_assoc, arith, codes, inl, inr, length-append, false≢true, eq-eqb, or_parts, decimal, AllByRecursion, onto_first, Line, Reply, Version, First, Second, Third, Fourth, lines_of, text_of, Lacks, version_line, callers_limit, IsLineOf, IsScript, line_text, script_lines, Run, Said, Scanned, Pair, reply_word, reply_line, pair_line, pair_words, part_line, stop_line, said_lines, callers_from, map_lines, run_lines, IsReply, IsAnswered, IsPair, IsPart, IsStop, IsSaid, AscendFrom, IsRunOf, CheckedIn}
 use Rattle.std.specs.List.{flat_map}
+use Rattle.ks_script.specs.Script.{caller_lines}
 use Rattle.ks_lines.specs.Lines.{AllBoth, MayAnswer}
 use Rattle.ks_lines.specs.declared.parts.Part.{Part}
 use Rattle.ks_lines.specs.declared.Said.TheVariants as said
@@ -28,20 +29,21 @@ plain_each : {X : Type 0} (Is : X → Type 0) (line : X → List ℕ) → ((x : 
 plain_each Is line plain [] h = tt
 plain_each Is line plain (x ∷ xs) h = (plain x h.0, plain_each Is line plain xs h.1)
 
-number : (n : ℕ) → n < 2 ^ 64 → Lacks 10 (decimal n)
-number n h = decimal_lacks 10 refl n (wide n h)
+plain_flat : {X : Type 0} (Is : X → Type 0) (lines : X → List (List ℕ)) → ((x : X) → Is x → Plain (lines x)) → (xs : List X) → AllByRecursion Is xs → Plain (flat_map lines xs)
+plain_flat Is lines plain [] h = tt
+plain_flat Is lines plain (x ∷ xs) h = all_append (Lacks 10) (lines x) (flat_map lines xs) (plain x h.0) (plain_flat Is lines plain xs h.1)
 
 value : (n : ℕ) → n < 2 ^ 128 → Lacks 10 (decimal n)
 value n h = decimal_lacks 10 refl n h
+
+number : (n : ℕ) → n < 2 ^ 64 → Lacks 10 (decimal n)
+number n h = value n (wide n h)
 
 spaced : (a b : List ℕ) → Lacks 10 a → Lacks 10 b → Lacks 10 (a ++ codes " " ++ b)
 spaced a b h k = lacks_append 10 (a ++ codes " ") b (lacks_append 10 a (codes " ") h (lacks_by 10 (codes " ") refl)) k
 
 pub plain_numbered : (front : List ℕ) (n : ℕ) → Lacks 10 front → n < 2 ^ 64 → Lacks 10 (front ++ decimal n)
 plain_numbered front n h k = lacks_append 10 front (decimal n) h (number n k)
-
-pub plain_caller : (n : ℕ) → n < 2 ^ 64 → Lacks 10 (codes "caller " ++ decimal n)
-plain_caller n h = lacks_append 10 (codes "caller ") (decimal n) (lacks_by 10 (codes "caller ") refl) (number n h)
 
 plain_numbers : (ns : List ℕ) → AreSmall ns → Lacks 10 (numbers ns)
 plain_numbers [] h = tt
@@ -52,11 +54,10 @@ plain_line version l h =
     let s = spelled version l h in
     subst (Lacks 10) (sym s.line) (lacks_append 10 (kind (line_text l)).0 (numbers s.ns) (lacks_by 10 (kind (line_text l)).0 s.plain) (plain_numbers s.ns s.small))
 
-pub plain_script : (version : Version) (s : List (List Line)) → AllByRecursion (AllByRecursion (IsLineOf version)) s → Plain (script_lines s)
-plain_script version [] h = tt
-plain_script version (ls ∷ s) h = (lacks_by 10 (codes "caller") refl, all_append (Lacks 10) (map line_text ls) (script_lines s) (plain_each (IsLineOf version) line_text (plain_line version) ls h.0) (plain_script version s h.1))
+plain_caller : (version : Version) (ls : List Line) → AllByRecursion (IsLineOf version) ls → Plain (caller_lines ls)
+plain_caller version ls h = (lacks_by 10 (codes "caller") refl, plain_each (IsLineOf version) line_text (plain_line version) ls h)
 
-pub plain_version : (version : Version) → Plain (version_line version)
+plain_version : (version : Version) → Plain (version_line version)
 plain_version First = tt
 plain_version Second = (lacks_by 10 (codes "script 2") refl, tt)
 plain_version Third = (lacks_by 10 (codes "script 3") refl, tt)
@@ -90,10 +91,6 @@ plain_said : (x : Said) → IsSaid x → Plain (said_lines x)
 plain_said (said.Call n reply) h = (plain_reply (n, reply) h, tt)
 plain_said (said.Scan parts stop) h = all_append (Lacks 10) (map part_line parts) (stop_line stop ∷ []) (plain_each IsPart part_line plain_part parts h.0) (plain_stop stop h.1, tt)
 
-plain_saids : (xs : List Said) → AllByRecursion IsSaid xs → Plain (flat_map said_lines xs)
-plain_saids [] h = tt
-plain_saids (x ∷ xs) h = all_append (Lacks 10) (said_lines x) (flat_map said_lines xs) (plain_said x h.0) (plain_saids xs h.1)
-
 pub plain_pairs : (n : ℕ) (ps : List (ℕ × ℕ)) → AscendFrom n ps → Plain (map pair_line ps)
 plain_pairs n [] h = tt
 plain_pairs n (p ∷ ps) h = (plain_pair p h.1 h.2, plain_pairs (p.0 + 1) ps h.3)
@@ -101,8 +98,8 @@ plain_pairs n (p ∷ ps) h = (plain_pair p h.1 h.2, plain_pairs (p.0 + 1) ps h.3
 pub plain_callers : (n : ℕ) (cs : List (List Said)) → n + length cs ≤ 1024 → AllByRecursion (AllByRecursion IsSaid) cs → Plain (callers_from n cs)
 plain_callers n [] few h = tt
 plain_callers n (c ∷ cs) few h = (
-  plain_caller n (omega arith),
-  all_append (Lacks 10) (flat_map said_lines c) (callers_from (n + 1) cs) (plain_saids c h.0) (plain_callers (n + 1) cs (omega arith) h.1),
+  plain_numbered (codes "caller ") n (lacks_by 10 (codes "caller ") refl) (omega arith),
+  all_append (Lacks 10) (flat_map said_lines c) (callers_from (n + 1) cs) (plain_flat IsSaid said_lines plain_said c h.0) (plain_callers (n + 1) cs (omega arith) h.1),
 )
 
 pub plain_map : (ps : List (ℕ × ℕ)) → AscendFrom 0 ps → Plain (map_lines ps)
@@ -115,23 +112,19 @@ lines_again (l ∷ ls) h = ap lines_of (append_assoc l (10 ∷ []) (text_of ls))
 
 pub few_callers : (version : Version) (n : ℕ) → n ≤ callers_limit version → n ≤ 1024
 few_callers First n h = omega arith
-few_callers Second n h = h
-few_callers Third n h = h
-few_callers Fourth n h = h
-
-pub plain_whole : (version : Version) (s : List (List Line)) (run : Run) → IsScript version s → IsRunOf s run → Plain (version_line version ++ (script_lines s ++ codes "run" ∷ run_lines run))
-plain_whole version s run is of =
-    let many : length s ≡ length run.callers = both_length (AllBoth MayAnswer) s run.callers of.answered in
-    let few : 0 + length run.callers ≤ 1024 = (let m = few_callers version (length s) is.callers in omega arith) in
-    all_append (Lacks 10) (version_line version) (script_lines s ++ codes "run" ∷ run_lines run) (plain_version version)
-    (all_append (Lacks 10) (script_lines s) (codes "run" ∷ run_lines run) (plain_script version s is.each)
-    (lacks_by 10 (codes "run") refl, all_append (Lacks 10) (callers_from 0 run.callers) (map_lines run.pairs) (plain_callers 0 run.callers few of.each) (plain_map run.pairs of.ascend)))
+few_callers other n h = h
 
 pub written_read : (version : Version) (s : List (List Line)) (run : Run) → IsScript version s → IsRunOf s run → CheckedIn version (text_of (version_line version ++ (script_lines s ++ codes "run" ∷ run_lines run))) s run
 written_read version s run is of = record {
   is_script = is;
   is_run = of;
-  lines_are = lines_again (version_line version ++ (script_lines s ++ codes "run" ∷ run_lines run)) (plain_whole version s run is of);
+  lines_are =
+      let many : length s ≡ length run.callers = both_length (AllBoth MayAnswer) s run.callers of.answered in
+      let few : 0 + length run.callers ≤ 1024 = (let m = few_callers version (length s) is.callers in omega arith) in
+      lines_again (version_line version ++ (script_lines s ++ codes "run" ∷ run_lines run))
+      (all_append (Lacks 10) (version_line version) (script_lines s ++ codes "run" ∷ run_lines run) (plain_version version)
+      (all_append (Lacks 10) (script_lines s) (codes "run" ∷ run_lines run) (plain_flat (AllByRecursion (IsLineOf version)) caller_lines (plain_caller version) s is.each)
+      (lacks_by 10 (codes "run") refl, all_append (Lacks 10) (callers_from 0 run.callers) (map_lines run.pairs) (plain_callers 0 run.callers few of.each) (plain_map run.pairs of.ascend))));
 }
 
 -- the text of the lines of a text is that text, with a byte 10 at its end

@@ -1,18 +1,16 @@
 -- Lines that a pairing does not serve, and the first of them in a text.
-use Rattle.ks_script.proofs.Common.{ℕ, suc, ◌≡◌, ◌+◌, ◌<◌, ◌≤◌, Bool, List, [], ◌∷◌, ◌++◌, length, map, take, drop, get_or, codes, refl, sym, ap, subst, ◌∙◌, append_assoc, arith, length-append, length-map, map-append, take-append-drop, Line, Call, Scan, Get, Put, Del, Add, Swap, Part, Move, Version, First, Second, Third, Fourth, lines_of, version_line, IsLineOf, IsScript, SpellsScript, line_text, script_lines, calls_in, Lines}
-use Rattle.std.specs.Prelude.{IsTrue, All}
-use Rattle.std.proofs.lemmas.Grind.{flat_map-append}
-use Rattle.std.proofs.lemmas.List.Elements.{All-append, All-cons, All-head, All-map, All-nil, All-tail, All-weaker}
-use Rattle.ks_lines.specs.Lines.{IsServedLine}
+use Rattle.ks_script.proofs.Common.{ℕ, suc, ◌≡◌, ◌+◌, ◌<◌, ◌≤◌, Bool, List, [], ◌∷◌, ◌++◌, length, map, take, drop, get_or, codes, refl, sym, ap, subst, ◌∙◌, append_assoc, arith, length-append, length-map, map-append, take-append-drop, AllByRecursion, Line, Call, Scan, Move, Version, First, lines_of, version_line, IsLineOf, IsScript, SpellsScript, line_text, script_lines, calls_in, Lines, IsTrue, All, flat_map-append, All-append, All-cons, All-head, All-map, All-nil, All-tail, All-weaker, IsServedLine, caller_lines, ScriptOf, IsUnfit, IsUnfitAt}
 use Rattle.ks_lines.specs.Asked.{IsLine, AreServedLines}
-use Rattle.ks_script.specs.Script.{caller_lines, ScriptOf}
-use Rattle.ks_script.specs.Unfit.{IsUnfit, IsUnfitAt}
 use Rattle.ks_script.specs.Unserved.{FirstUnserved}
 use Rattle.ks_script.specs.Laws.Asked.{script_asked}
 use Rattle.ks_script.specs.Version.{Scans, Moves}
 use Rattle.ks_script.proofs.Spelled.{few_callers}
-use Rattle.ks_script.proofs.Steps.{all_good}
+use Rattle.ks_script.proofs.Steps.{all_right}
 use Rattle.ks_script.proofs.Texts.{cut_at, taken_with}
+
+all_at : {X : Type 0} (P : X → Type 0) (a : List X) (x : X) (b : List X) → All P (a ++ x ∷ b) → P x
+all_at P [] x b h = All-head P x b h
+all_at P (y ∷ a) x b h = all_at P a x b (All-tail P y (a ++ x ∷ b) h)
 
 -- how many lines a script has
 all_lines : (s : List (List Line)) → length (script_lines s) ≡ length s + calls_in s
@@ -32,15 +30,11 @@ more_lines s i ls lt e =
 -- a version that scans, or moves, has a line that says it
 says_scans : (v : Version) → Scans v → length (version_line v) ≡ 1
 says_scans First h = absurd h
-says_scans Second h = refl
-says_scans Third h = refl
-says_scans Fourth h = refl
+says_scans other h = refl
 
 says_moves : (v : Version) → Moves v → length (version_line v) ≡ 1
 says_moves First h = absurd h
-says_moves Second h = refl
-says_moves Third h = refl
-says_moves Fourth h = refl
+says_moves other h = refl
 
 -- the parts of a text that has such a line
 cut_text : (version before caller earlier later others : Lines) (text : List ℕ) → version ++ (before ++ ((caller ++ (earlier ++ text ∷ later)) ++ others)) ≡ (version ++ (before ++ (caller ++ earlier))) ++ text ∷ (later ++ others)
@@ -54,40 +48,25 @@ module _ (scans moves : Bool) where
   abbrev Fit : List ℕ → Type 0
   Fit text = (get_or text 3 0 ≡ 110 → IsTrue scans) × (get_or text 3 0 ≡ 101 → IsTrue moves)
 
-  other : (text : List ℕ) (n : ℕ) → get_or text 3 0 ≡ n → (n ≡ 110 → ⊥) → (n ≡ 101 → ⊥) → Fit text
-  other text n e h k = (λ f. absurd (h (sym e ∙ f)), λ f. absurd (k (sym e ∙ f)))
-
   fit_line : (l : Line) → Served l → Fit (line_text l)
-  fit_line (Call (Get k)) h = other (line_text (Call (Get k))) 32 refl (λ e. omega (arith, e)) (λ e. omega (arith, e))
-  fit_line (Call (Put k v)) h = other (line_text (Call (Put k v))) 32 refl (λ e. omega (arith, e)) (λ e. omega (arith, e))
-  fit_line (Call (Del k)) h = other (line_text (Call (Del k))) 32 refl (λ e. omega (arith, e)) (λ e. omega (arith, e))
-  fit_line (Call (Add k v)) h = other (line_text (Call (Add k v))) 32 refl (λ e. omega (arith, e)) (λ e. omega (arith, e))
-  fit_line (Call (Swap k v w)) h = other (line_text (Call (Swap k v w))) 112 refl (λ e. omega (arith, e)) (λ e. omega (arith, e))
-  fit_line (Call (Part low last)) h = other [] 0 refl (λ e. omega (arith, e)) (λ e. omega (arith, e))
   fit_line (Call (Move from to)) h = (λ e. absurd (omega (arith, e)), λ e. h)
   fit_line (Scan low last most) h = (λ e. h, λ e. absurd (omega (arith, e)))
+  fit_line other h = (λ e. absurd (omega (arith, e)), λ e. absurd (omega (arith, e)))
 
   not_fit : (l : Line) → Fit (line_text l) → (Served l → ⊥) → ⊥
-  not_fit (Call (Get k)) fit un = un tt
-  not_fit (Call (Put k v)) fit un = un tt
-  not_fit (Call (Del k)) fit un = un tt
-  not_fit (Call (Add k v)) fit un = un tt
-  not_fit (Call (Swap k v w)) fit un = un tt
-  not_fit (Call (Part low last)) fit un = un tt
   not_fit (Call (Move from to)) fit un = un (fit.1 refl)
   not_fit (Scan low last most) fit un = un (fit.0 refl)
+  not_fit other fit un = un tt
 
   fits : (text : List ℕ) → Fit text → IsUnfit scans moves text → ⊥
   fits text fit is = not_fit is.0 (subst Fit is.1 fit) is.2
 
   fit_version : (v : Version) → All Fit (version_line v)
   fit_version First = All-nil Fit
-  fit_version Second = All-cons Fit (codes "script 2") [] (other (codes "script 2") 105 refl (λ e. omega (arith, e)) (λ e. omega (arith, e))) (All-nil Fit)
-  fit_version Third = All-cons Fit (codes "script 3") [] (other (codes "script 3") 105 refl (λ e. omega (arith, e)) (λ e. omega (arith, e))) (All-nil Fit)
-  fit_version Fourth = All-cons Fit (codes "script 4") [] (other (codes "script 4") 105 refl (λ e. omega (arith, e)) (λ e. omega (arith, e))) (All-nil Fit)
+  fit_version other = All-cons Fit (get_or (version_line other) 0 []) [] (λ e. absurd (omega (arith, e)), λ e. absurd (omega (arith, e))) (All-nil Fit)
 
   fit_caller : (ls : List Line) → All Served ls → All Fit (caller_lines ls)
-  fit_caller ls h = All-cons Fit (codes "caller") (map line_text ls) (other (codes "caller") 108 refl (λ e. omega (arith, e)) (λ e. omega (arith, e))) (All-map Fit line_text ls (All-weaker Served (λ l. Fit (line_text l)) fit_line ls h))
+  fit_caller ls h = All-cons Fit (codes "caller") (map line_text ls) (λ e. absurd (omega (arith, e)), λ e. absurd (omega (arith, e))) (All-map Fit line_text ls (All-weaker Served (λ l. Fit (line_text l)) fit_line ls h))
 
   fit_script : (s : List (List Line)) → All (All Served) s → All Fit (script_lines s)
   fit_script [] h = All-nil Fit
@@ -95,14 +74,9 @@ module _ (scans moves : Bool) where
 
   -- the line of a script that is not served says its version
   unserved_says : (v : Version) (l : Line) → IsLineOf v l → (Served l → ⊥) → length (version_line v) ≡ 1
-  unserved_says v (Call (Get k)) is un = absurd (un tt)
-  unserved_says v (Call (Put k w)) is un = absurd (un tt)
-  unserved_says v (Call (Del k)) is un = absurd (un tt)
-  unserved_says v (Call (Add k w)) is un = absurd (un tt)
-  unserved_says v (Call (Swap k w x)) is un = absurd (un tt)
-  unserved_says v (Call (Part low last)) is un = absurd is
   unserved_says v (Call (Move from to)) is un = says_moves v is.0
   unserved_says v (Scan low last most) is un = says_scans v is.0
+  unserved_says v other is un = absurd (un tt)
 
   pub in_lines : (ls : List Line) (at : ℕ) → FirstUnserved scans moves ls at → at < length ls
   in_lines ls at u = omega (arith, u.place, ap (λ (x : List Line). length x) u.lines_are, length-append u.earlier (u.line ∷ u.later))
@@ -113,7 +87,7 @@ module _ (scans moves : Bool) where
       let before : List (List Line) = take i s in
       let others : List (List Line) = drop (i + 1) s in
       let whole : s ≡ before ++ (u.earlier ++ u.line ∷ u.later) ∷ others = cut_at s i ls lt e ∙ ap (λ (x : List Line). before ++ x ∷ others) u.lines_are in
-      let says = unserved_says v u.line (all_good v before u.earlier (u.line ∷ u.later) others s h.is whole).0 u.unserved in
+      let says = unserved_says v u.line (all_right (IsLineOf v) u.earlier (u.line ∷ u.later) (all_right (AllByRecursion (IsLineOf v)) before ((u.earlier ++ u.line ∷ u.later) ∷ others) (subst (AllByRecursion (AllByRecursion (IsLineOf v))) whole h.is.each)).0).0 u.unserved in
       let caller : Lines = caller_lines u.earlier in
       let earlier : Lines = version_line v ++ (script_lines before ++ caller) in
       record {
@@ -133,12 +107,7 @@ module _ (scans moves : Bool) where
   -- and then not all are served
   pub not_served : (s : List (List Line)) (i : ℕ) (ls : List Line) (at : ℕ) → i < length s → ls ≡ get_or s i ls → FirstUnserved scans moves ls at → AreServedLines scans moves s → ⊥
   not_served s i ls at lt e u h =
-      let all : All (λ l. IsLine l × Served l) ls = subst (All (λ l. IsLine l × Served l)) (sym e) (h i ls lt) in
-      u.unserved (at_line u.earlier u.line u.later (subst (All (λ l. IsLine l × Served l)) u.lines_are all))
-    where
-      at_line : (earlier : List Line) (l : Line) (later : List Line) → All (λ l. IsLine l × Served l) (earlier ++ l ∷ later) → Served l
-      at_line [] l later h = (All-head (λ l. IsLine l × Served l) l later h).1
-      at_line (x ∷ earlier) l later h = at_line earlier l later (All-tail (λ l. IsLine l × Served l) x (earlier ++ l ∷ later) h)
+      u.unserved (all_at (λ l. IsLine l × Served l) u.earlier u.line u.later (subst (All (λ l. IsLine l × Served l)) (sym e ∙ u.lines_are) (h i ls lt))).1
 
   abbrev Unfit : List ℕ → Type 0
   Unfit t = IsUnfit scans moves t → ⊥
@@ -156,11 +125,7 @@ module _ (scans moves : Bool) where
   -- where all are served, it has none
   pub none_unfit : (s : List (List Line)) (bytes : List ℕ) (n : ℕ) → ScriptOf bytes s → All (All Served) s → IsUnfitAt scans moves bytes n → ⊥
   none_unfit s bytes n h served u =
-      fits u.text (at_text u.earlier u.text u.later (subst (All Fit) (sym h.1.lines_are ∙ u.lines_are) (All-append Fit (version_line h.0) (script_lines s) (fit_version h.0) (fit_script s served)))) u.unfit
-    where
-      at_text : (earlier : Lines) (t : List ℕ) (later : Lines) → All Fit (earlier ++ t ∷ later) → Fit t
-      at_text [] t later h = All-head Fit t later h
-      at_text (x ∷ earlier) t later h = at_text earlier t later (All-tail Fit x (earlier ++ t ∷ later) h)
+      fits u.text (all_at Fit u.earlier u.text u.later (subst (All Fit) (sym h.1.lines_are ∙ u.lines_are) (All-append Fit (version_line h.0) (script_lines s) (fit_version h.0) (fit_script s served)))) u.unfit
 
   -- each line of a script may be there
   pub all_served : (v : Version) (s : List (List Line)) → IsScript v s → All (All Served) s → AreServedLines scans moves s

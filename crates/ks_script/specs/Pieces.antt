@@ -1,5 +1,5 @@
 -- What was put into a piece, and what of it the sink took.
-use Rattle.std.specs.Prelude.{ℕ, ◌≡◌, ◌≤◌, true, false, List, ◌++◌, Option}
+use Rattle.std.specs.Prelude.{ℕ, ◌≡◌, ◌≤◌, true, false, List, ◌++◌, Option, Result, OnOk, OnErr}
 use Rattle.ks_script.specs.declared.pieces.Piece.{Piece}
 use Rattle.ks_script.specs.Outside.{Rose, Grew, GrewByFront}
 
@@ -11,6 +11,12 @@ pub record Holds (start : Option (List ℕ)) (faults : ℕ) (text : List ℕ) (t
   pub count : faults ≤ later
 
 -- behind any text that was put before, this one was put
-abbrev pub Puts : Option (List ℕ) → ℕ → Piece → List ℕ → Option (List ℕ) → ℕ → Piece → Type 0
-Puts taken count piece text later more after = (start : Option (List ℕ)) (faults : ℕ) (before : List ℕ) →
-    Holds start faults before taken count piece → Holds start faults (before ++ text) later more after
+pub record Puts {S : Type 0} (taken : S → Option (List ℕ)) (faults : S → ℕ) (old : S) (before : Piece) (text : List ℕ) (new : S) (after : Piece) : Type 0 where
+  pub on : (start : Option (List ℕ)) (count : ℕ) (done : List ℕ) → Holds start count done (taken old) (faults old) before → Holds start count (done ++ text) (taken new) (faults new) after
+
+-- a text that was put from some start on is taken, or its first bytes are and the sink has failed
+pub record Takes {T E : Type 0} (start : Option (List ℕ)) (faults : ℕ) (text : List ℕ) (taken : Option (List ℕ)) (later : ℕ) (result : Result T E) : Type 0 where
+  pub ok : OnOk result (Grew start taken text)
+  pub front : OnErr result (GrewByFront start taken text)
+  pub cause : OnErr result (Rose faults later)
+  pub count : faults ≤ later

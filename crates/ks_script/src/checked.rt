@@ -35,13 +35,7 @@ fn read_both(alloc: Global, bytes: &[u8]) -> Result<(Script, Printed), TextFault
     let Some(text) = word_line(front.rest, b"run") else {
         return Err(TextFault::Refused { line: lines });
     };
-    match run(alloc, &front.callers, text, lines) {
-        Ok(printed) => Ok((
-            Script {
-                callers: front.callers,
-            },
-            printed,
-        )),
-        Err(fault) => Err(fault),
-    }
+    let printed = run(alloc, &front.callers, text, lines)?;
+    let callers = front.callers;
+    Ok((Script { callers }, printed))
 }

@@ -22,6 +22,7 @@ pub fn one_spelling()
 {}
 
 /// The text of a script in a version, `run` and the text of a run of it are read back as these two.
+#[tactic(auto, using(crate::proofs::Spelled::written_read))]
 pub fn written_is_read()
     ensures { (version : Version) (script : List (List Line)) (run : Run) → IsScript version script → IsRunOf script run →
         CheckedIn version (text_of (version_line version ++ (script_lines script ++ codes "run" ∷ run_lines run)))

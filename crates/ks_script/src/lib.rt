@@ -6,7 +6,6 @@
 //! fail, and count it.
 #![tactic(auto)]
 
-mod appending;
 mod checked;
 mod eight;
 mod ending;
@@ -18,15 +17,14 @@ mod lines;
 mod memory;
 mod numeral;
 mod outside;
+mod packed;
 mod packed_calls;
 mod packed_replies;
-mod parts;
 mod pieces;
 mod printed;
 mod reader;
 mod runs;
 mod scan_lines;
-mod scan_pieces;
 mod script;
 mod source;
 mod unfit;

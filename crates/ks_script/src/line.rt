@@ -4,7 +4,7 @@ ghost use Rattle.std.specs.Prelude.{◌≤◌, ◌++◌, OnOk, OnErr};
 ghost use Rattle.std.specs.Fmt.{decimal};
 ghost use Rattle.ks_script.specs.Outside.{Rose, Grew, GrewByFront};
 
-use crate::pieces::{Piece, finish, put, put_number};
+use crate::pieces::{Piece, finish, put, put_one};
 use crate::{Failed, Sink};
 
 /// Offers the word, the number and the end in one piece, if they fit one, so that where the sink takes it whole no text of
@@ -18,7 +18,7 @@ pub fn send_line<K: Sink>(out: &mut K, word: &[u8], number: u64, end: &[u8]) -> 
 {
     let mut line = Piece::new();
     put(out, &mut line, word);
-    put_number(out, &mut line, number);
+    put_one(out, &mut line, number, b"");
     put(out, &mut line, end);
     finish(out, line)
 }

@@ -1,6 +1,6 @@
 //! The lines of a text, each read off its front: what the first one spells, or that it spells no such thing.
 
-ghost use Rattle.std.specs.Prelude.{◌≢◌, ℕ, ◌≡◌, ◌<◌, ◌^◌, ◌∷◌, ◌++◌, length, codes, IfSome, IfNone, IsTrue, ◌↔◌};
+ghost use Rattle.std.specs.Prelude.{◌≢◌, ℕ, ◌≡◌, ◌≤◌, ◌<◌, ◌^◌, ◌∷◌, ◌++◌, length, codes, IfSome, IfNone, IsTrue, ◌↔◌};
 ghost use Rattle.std.specs.Fmt.{decimal};
 ghost use Rattle.ks_script.specs.Lines.{lines_of};
 ghost use Rattle.ks_script.specs.Ahead.{Lacks};
@@ -19,6 +19,7 @@ ghost use Rattle.ks_script.specs.Checked.{IsReply, IsAnswered};
 ghost use Rattle.ks_script.specs.SaidLeft.{IsReplyOf};
 ghost use Rattle.ks_script.specs.RunLeft.{IsPairFrom};
 
+use crate::ending::Ending;
 use crate::lexer::{line_end, number, spaced, value, word};
 use crate::version::Version;
 use ks_history::{Op, Reply};
@@ -256,19 +257,18 @@ pub fn word_line<'a>(bytes: &'a [u8], line: &[u8]) -> Option<&'a [u8]>
     Some(rest)
 }
 
-/// What follows the line that has this front, and then the number.
+/// What follows the line that has this front, of 44 bytes at most, and then the number.
 pub fn numbered_line<'a>(bytes: &'a [u8], front: &[u8], of: u64) -> Option<&'a [u8]>
     requires plain { Lacks 10 front.now }
     requires some { 0 < length front.now }
+    requires few { length front.now ≤ 44 }
     ensures some { IfSome result
         (λ rest. lines_of bytes.now ≡ (front.now ++ decimal of) ∷ lines_of rest.now) }
     ensures none { IfNone result (NotFirst (front.now ++ decimal of) (lines_of bytes.now)) }
     ensures shorter { IfSome result (λ rest. length rest.now < length bytes.now) }
 {
-    let digits = word(bytes, front)?;
-    let (number, rest) = key(digits)?;
-    if number != of {
-        return None;
-    }
-    Some(rest)
+    let mut line = Ending::new();
+    line.number(of);
+    line.word(front);
+    word_line(bytes, line.bytes())
 }

@@ -8,79 +8,6 @@ use crate::{Failed, Sink, Source};
 use std::alloc::{AllocError, Global};
 use std::marker::Model;
 
-/// Bytes in memory, of which each read moves at most a certain number. The reads whose numbers, counted from 0, are
-/// listed as failing fail.
-#[derive(Drop)]
-pub struct MemSource {
-    bytes: Vec<u8>,
-    at: usize,
-    most: usize,
-    failing: Vec<u64>,
-    calls: u64,
-    faults: u64,
-}
-
-impl Model for MemSource {
-    ghost use Rattle.std.specs.Prelude.{◌≤◌, ◌<◌, drop, length};
-    ghost use Rattle.ks_script.specs.Memory.{End};
-
-    ghost Value = { End };
-
-    ghost view = { λ s. record {
-      bytes = drop s.at s.bytes.items;
-      room = 0;
-      most = s.most;
-      failing = s.failing.items;
-      calls = s.calls;
-      faults = s.faults;
-    } };
-
-    ghost invariant = { λ s. (s.at ≤ length s.bytes.items) × (0 < s.most) };
-}
-
-impl MemSource {
-    pub fn new(bytes: Vec<u8>, most: usize, failing: Vec<u64>) -> MemSource
-        requires { 0 < most }
-        ensures { result ≡ new_end bytes.items 0 most failing.items }
-    {
-        MemSource {
-            bytes,
-            at: 0,
-            most,
-            failing,
-            calls: 0,
-            faults: 0,
-        }
-    }
-}
-
-impl Source for MemSource {
-    ghost left = { λ s. Some s.bytes };
-
-    ghost faults = { λ s. s.faults };
-
-    fn read(&mut self, into: &mut [u8]) -> Result<usize, Failed>
-        ensures bound { IfOk result (λ n. n ≤ length into.new) }
-        ensures bytes { Reads (Some self.old.bytes) (Some self.new.bytes) into.new result }
-        ensures count { self.old.faults ≤ self.new.faults }
-        ensures cause { OnErr result (Rose self.old.faults self.new.faults) }
-
-        // It fails at the calls that are listed and at no others, and each call counts.
-        ensures fails { IsErr result ↔ Contains self.old.failing self.old.calls }
-        ensures kept { Counts self.old self.new }
-    {
-        let fails = self.failing.contains(&self.calls);
-        self.calls = self.calls.saturating_add(1);
-        if fails {
-            self.faults = self.faults.saturating_add(1);
-            return Err(Failed);
-        }
-        let count = give(&self.bytes[self.at..], self.most, into);
-        self.at += count;
-        Ok(count)
-    }
-}
-
 /// Bytes in memory, of which each read moves at most a certain number. No read fails.
 #[derive(Drop)]
 pub struct CleanSource {
@@ -120,10 +47,76 @@ impl Source for CleanSource {
         ensures count { 0 ≤ 0 }
         ensures cause { OnErr result (Rose 0 0) }
         ensures clean { IsOk result }
+        ensures most { self.new.most ≡ self.old.most }
     {
-        let count = give(&self.bytes[self.at..], self.most, into);
+        let bytes = &self.bytes[self.at..];
+        let count = bytes.len().min(self.most).min(into.len());
+        into[..count].copy_from_slice(&bytes[..count]);
         self.at += count;
         Ok(count)
+    }
+}
+
+/// A clean source, of which the reads whose numbers, counted from 0, are listed as failing fail.
+#[derive(Drop)]
+pub struct MemSource {
+    source: CleanSource,
+    failing: Vec<u64>,
+    calls: u64,
+    faults: u64,
+}
+
+impl Model for MemSource {
+    ghost use Rattle.ks_script.specs.Memory.{End};
+
+    ghost Value = { End };
+
+    ghost view = { λ s. record {
+      bytes = s.source.bytes;
+      room = 0;
+      most = s.source.most;
+      failing = s.failing.items;
+      calls = s.calls;
+      faults = s.faults;
+    } };
+}
+
+impl MemSource {
+    pub fn new(bytes: Vec<u8>, most: usize, failing: Vec<u64>) -> MemSource
+        requires { 0 < most }
+        ensures { result ≡ new_end bytes.items 0 most failing.items }
+    {
+        MemSource {
+            source: CleanSource::new(bytes, most),
+            failing,
+            calls: 0,
+            faults: 0,
+        }
+    }
+}
+
+impl Source for MemSource {
+    ghost left = { λ s. Some s.bytes };
+
+    ghost faults = { λ s. s.faults };
+
+    fn read(&mut self, into: &mut [u8]) -> Result<usize, Failed>
+        ensures bound { IfOk result (λ n. n ≤ length into.new) }
+        ensures bytes { Reads (Some self.old.bytes) (Some self.new.bytes) into.new result }
+        ensures count { self.old.faults ≤ self.new.faults }
+        ensures cause { OnErr result (Rose self.old.faults self.new.faults) }
+
+        // It fails at the calls that are listed and at no others, and each call counts.
+        ensures fails { IsErr result ↔ Contains self.old.failing self.old.calls }
+        ensures kept { Counts self.old self.new }
+    {
+        let fails = self.failing.contains(&self.calls);
+        self.calls = self.calls.saturating_add(1);
+        if fails {
+            self.faults = self.faults.saturating_add(1);
+            return Err(Failed);
+        }
+        self.source.read(into)
     }
 }
 
@@ -240,17 +233,4 @@ impl Sink for CleanSink {
     {
         Ok(piece.len())
     }
-}
-
-// Copies as many bytes as fit, `most` at most, to the start of the buffer.
-fn give(bytes: &[u8], most: usize, into: &mut [u8]) -> usize
-    requires { 0 < most }
-    ensures there { result ≤ length bytes.now }
-    ensures fits { result ≤ length into.new }
-    ensures start { take result into.new ≡ take result bytes.now }
-    ensures ends { 0 < length into.new → result ≡ 0 → bytes.now ≡ [] }
-{
-    let count = bytes.len().min(most).min(into.len());
-    into[..count].copy_from_slice(&bytes[..count]);
-    count
 }

@@ -6,8 +6,7 @@ ghost use Rattle.ks_history.specs.declared.Op.TheVariants.{Get};
 ghost use Rattle.ks_lines.specs.declared.Line.TheVariants.{Call};
 ghost use Rattle.ks_script.specs.PackedCalls.{call_in, IsCallIn, KeepsCalls};
 
-use crate::appending::appended_at;
-use crate::parts::{joined, parts};
+use crate::packed::{joined, kept_at, parts};
 use ks_history::Op;
 use ks_lines::Line;
 use std::alloc::{AllocError, Global};
@@ -16,14 +15,15 @@ use std::marker::Model;
 /// A short call, or the place of a longer one in the list of its kind.
 #[derive(Clone, Copy, Debug, PartialEq, Eq)]
 pub enum SmallCall {
-    Get { key: u32 },
-    Put { high: u8, low: u16, value: u32 },
-    Del { key: u32 },
-    LongGet { at: u32 },
-    LongPut { at: u32 },
-    LongDel { at: u32 },
-    WidePut { at: u32 },
-    Other { at: u32 },
+    Get(u32),
+    /// The upper 8 and the lower 16 bits of the key, and the value.
+    Put(u8, u16, u32),
+    Del(u32),
+    LongGet(u32),
+    LongPut(u32),
+    LongDel(u32),
+    WidePut(u32),
+    Other(u32),
 }
 
 const _: () = prove!(size_of::<SmallCall>() == 8);
@@ -65,34 +65,18 @@ fn small_of(line: Line) -> Option<SmallCall>
     ensures fits { IfSome result (λ s. (long : LongCalls) → IsCallIn long s) }
 {
     match line {
-        Line::Call(Op::Get(key)) => Some(SmallCall::Get {
-            key: u32::try_from(key).ok()?,
-        }),
+        Line::Call(Op::Get(key)) => Some(SmallCall::Get(u32::try_from(key).ok()?)),
         Line::Call(Op::Put(key, value)) => {
             let (high, low) = parts(key)?;
-            Some(SmallCall::Put {
-                high,
-                low,
-                value: u32::try_from(value).ok()?,
-            })
+            Some(SmallCall::Put(high, low, u32::try_from(value).ok()?))
         }
-        Line::Call(Op::Del(key)) => Some(SmallCall::Del {
-            key: u32::try_from(key).ok()?,
-        }),
+        Line::Call(Op::Del(key)) => Some(SmallCall::Del(u32::try_from(key).ok()?)),
         Line::Call(_) | Line::Scan(..) => None,
     }
 }
 
 impl LongCalls {
     ghost use Rattle.ks_script.specs.declared.packed_calls.LongCalls.{LongCalls};
-
-    fn new(alloc: Global) -> LongCalls {
-        LongCalls {
-            pairs: Vec::new(alloc),
-            wides: Vec::new(alloc),
-            others: Vec::new(alloc),
-        }
-    }
 
     // The small call that represents this one, which is kept if it is longer.
     #[inline(always)]
@@ -105,28 +89,16 @@ impl LongCalls {
             return Ok(small);
         }
         match line {
-            Line::Call(Op::Get(key)) => {
-                let at = appended_at(&mut self.pairs, (key, 0))?;
-                Ok(SmallCall::LongGet { at })
-            }
+            Line::Call(Op::Get(key)) => Ok(SmallCall::LongGet(kept_at(&mut self.pairs, (key, 0))?)),
             Line::Call(Op::Put(key, value)) => match u64::try_from(value) {
-                Ok(value) => {
-                    let at = appended_at(&mut self.pairs, (key, value))?;
-                    Ok(SmallCall::LongPut { at })
-                }
-                Err(_) => {
-                    let at = appended_at(&mut self.wides, (key, value))?;
-                    Ok(SmallCall::WidePut { at })
-                }
+                Ok(value) => Ok(SmallCall::LongPut(kept_at(&mut self.pairs, (key, value))?)),
+                Err(_) => Ok(SmallCall::WidePut(kept_at(&mut self.wides, (key, value))?)),
             },
-            Line::Call(Op::Del(key)) => {
-                let at = appended_at(&mut self.pairs, (key, 0))?;
-                Ok(SmallCall::LongDel { at })
-            }
-            Line::Call(_) | Line::Scan(..) => {
-                let at = appended_at(&mut self.others, line)?;
-                Ok(SmallCall::Other { at })
-            }
+            Line::Call(Op::Del(key)) => Ok(SmallCall::LongDel(kept_at(&mut self.pairs, (key, 0))?)),
+            Line::Call(_) | Line::Scan(..) => Ok(SmallCall::Other(kept_at(
+                &mut self.others,
+                line,
+            )?)),
         }
     }
 }
@@ -137,7 +109,11 @@ impl Calls {
     {
         Calls {
             small: Vec::new(alloc),
-            long: LongCalls::new(alloc),
+            long: LongCalls {
+                pairs: Vec::new(alloc),
+                wides: Vec::new(alloc),
+                others: Vec::new(alloc),
+            },
         }
     }
 
@@ -145,10 +121,9 @@ impl Calls {
     pub fn with_capacity(alloc: Global, count: usize) -> Result<Calls, AllocError>
         ensures { IfOk result (λ calls. calls ≡ []) }
     {
-        Ok(Calls {
-            small: Vec::with_capacity(alloc, count)?,
-            long: LongCalls::new(alloc),
-        })
+        let mut calls = Calls::new(alloc);
+        calls.small.reserve_exact(count)?;
+        Ok(calls)
     }
 
     /// Puts a line behind the others. If memory runs out all stays as it was.
@@ -175,7 +150,7 @@ impl Calls {
     {
         let mut lines = Vec::with_capacity(alloc, self.len())?;
         for at in 0..self.len() {
-            lines.push_reserved(self.get(at));
+            lines.push(self.get(at))?;
         }
         Ok(lines)
     }
@@ -187,20 +162,20 @@ impl Calls {
         ensures { result ≡ slice_index_or self.now at (Call (Get 0)) }
     {
         let op = match self.small[at] {
-            SmallCall::Get { key } => Op::Get(u64::from(key)),
-            SmallCall::Put { high, low, value } => Op::Put(joined(high, low), u128::from(value)),
-            SmallCall::Del { key } => Op::Del(u64::from(key)),
-            SmallCall::LongGet { at } => Op::Get(self.long.pairs[at as usize].0),
-            SmallCall::LongPut { at } => {
+            SmallCall::Get(key) => Op::Get(u64::from(key)),
+            SmallCall::Put(high, low, value) => Op::Put(joined(high, low), u128::from(value)),
+            SmallCall::Del(key) => Op::Del(u64::from(key)),
+            SmallCall::LongGet(at) => Op::Get(self.long.pairs[at as usize].0),
+            SmallCall::LongPut(at) => {
                 let (key, value) = self.long.pairs[at as usize];
                 Op::Put(key, u128::from(value))
             }
-            SmallCall::LongDel { at } => Op::Del(self.long.pairs[at as usize].0),
-            SmallCall::WidePut { at } => {
+            SmallCall::LongDel(at) => Op::Del(self.long.pairs[at as usize].0),
+            SmallCall::WidePut(at) => {
                 let (key, value) = self.long.wides[at as usize];
                 Op::Put(key, value)
             }
-            SmallCall::Other { at } => return self.long.others[at as usize],
+            SmallCall::Other(at) => return self.long.others[at as usize],
         };
         Line::Call(op)
     }

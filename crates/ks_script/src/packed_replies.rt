@@ -7,8 +7,7 @@ ghost use Rattle.ks_lines.specs.declared.Said.TheVariants.{Call, Scan};
 ghost use Rattle.ks_script.specs.PackedReplies.{said_at, said_in, IsSaidIn, KeepsReplies};
 ghost use Rattle.ks_script.specs.Plain.{IsPlain, IsPrintable, IsOfCall, number_of};
 
-use crate::appending::appended_at;
-use crate::parts::{joined, parts};
+use crate::packed::{joined, kept_at, parts};
 use ks_history::Reply;
 use ks_lines::{Parts, Said, Scanned};
 use std::alloc::{AllocError, Global};
@@ -17,10 +16,11 @@ use std::marker::Model;
 /// A short reply, or the place of what is said else.
 #[derive(Clone, Copy, Debug, PartialEq, Eq)]
 pub enum SmallReply {
-    Nothing { number: u32 },
-    Value { high: u8, low: u16, value: u32 },
-    Full { number: u32 },
-    Other { at: u32 },
+    Nothing(u32),
+    /// The upper 8 and the lower 16 bits of the number, and the value.
+    Value(u8, u16, u32),
+    Full(u32),
+    Other(u32),
 }
 
 const _: () = prove!(size_of::<SmallReply>() == 8);
@@ -67,25 +67,16 @@ fn small_of(said: &Said) -> Option<SmallReply>
     ensures stands { IfSome result (λ s. (others : List Said) → said_in others s ≡ said.now) }
     ensures fits { IfSome result (λ s. (others : List Said) → IsSaidIn others s) }
 {
-    let Said::Call(number, reply) = said else {
-        return None;
-    };
-    match reply {
-        Reply::Nothing => Some(SmallReply::Nothing {
-            number: u32::try_from(*number).ok()?,
-        }),
-        Reply::Value(value) => {
+    match said {
+        Said::Call(number, Reply::Nothing) => Some(SmallReply::Nothing(u32::try_from(
+            *number,
+        ).ok()?)),
+        Said::Call(number, Reply::Value(value)) => {
             let (high, low) = parts(*number)?;
-            Some(SmallReply::Value {
-                high,
-                low,
-                value: u32::try_from(*value).ok()?,
-            })
+            Some(SmallReply::Value(high, low, u32::try_from(*value).ok()?))
         }
-        Reply::Full => Some(SmallReply::Full {
-            number: u32::try_from(*number).ok()?,
-        }),
-        Reply::Listed(_) | Reply::Kept => None,
+        Said::Call(number, Reply::Full) => Some(SmallReply::Full(u32::try_from(*number).ok()?)),
+        Said::Call(_, Reply::Listed(_) | Reply::Kept) | Said::Scan(..) => None,
     }
 }
 
@@ -100,8 +91,7 @@ fn small_for(others: &mut Vec<Said>, said: Said) -> Result<SmallReply, AllocErro
     if let Some(small) = small_of(&said) {
         return Ok(small);
     }
-    let at = appended_at(others, said)?;
-    Ok(SmallReply::Other { at })
+    Ok(SmallReply::Other(kept_at(others, said)?))
 }
 
 impl Replies {
@@ -118,10 +108,9 @@ impl Replies {
     pub fn with_capacity(alloc: Global, count: usize) -> Result<Replies, AllocError>
         ensures { IfOk result (λ replies. replies ≡ []) }
     {
-        Ok(Replies {
-            small: Vec::with_capacity(alloc, count)?,
-            others: Vec::new(alloc),
-        })
+        let mut replies = Replies::new(alloc);
+        replies.small.reserve_exact(count)?;
+        Ok(replies)
     }
 
     /// What is said, packed. Each entry is moved, so that none is left to be dropped.
@@ -129,12 +118,11 @@ impl Replies {
         requires { All IsPrintable said.items }
         ensures { IfOk result (λ packed. packed ≡ said.items) }
     {
-        let mut small = Vec::with_capacity(alloc, said.len())?;
-        let mut others = Vec::new(alloc);
+        let mut packed = Replies::with_capacity(alloc, said.len())?;
         for entry in said {
-            small.push_reserved(small_for(&mut others, entry)?);
+            packed.push(entry)?;
         }
-        Ok(Replies { small, others })
+        Ok(packed)
     }
 
     /// Puts an entry behind the others. If memory runs out all stays as it was.
@@ -163,7 +151,7 @@ impl Replies {
         ensures some { IfSome result (λ x. said_at self.now at ≡ Scan x.0.now x.1) }
         ensures none { IfNone result (IsOfCall (said_at self.now at)) }
     {
-        let SmallReply::Other { at } = self.small[at] else {
+        let SmallReply::Other(at) = self.small[at] else {
             return None;
         };
         match &self.others[at as usize] {
@@ -180,9 +168,9 @@ impl Replies {
         ensures { result ≡ number_of (said_at self.now at) }
     {
         match self.small[at] {
-            SmallReply::Nothing { number } | SmallReply::Full { number } => u64::from(number),
-            SmallReply::Value { high, low, .. } => joined(high, low),
-            SmallReply::Other { at } => match &self.others[at as usize] {
+            SmallReply::Nothing(number) | SmallReply::Full(number) => u64::from(number),
+            SmallReply::Value(high, low, _) => joined(high, low),
+            SmallReply::Other(at) => match &self.others[at as usize] {
                 Said::Call(number, _) => *number,
                 Said::Scan(..) => unreachable!(),
             },
@@ -199,12 +187,12 @@ impl Replies {
         ensures few { length self.now < 2 ^ 64 }
     {
         match self.small[at] {
-            SmallReply::Nothing { number } => (u64::from(number), Reply::Nothing),
-            SmallReply::Value { high, low, value } => {
+            SmallReply::Nothing(number) => (u64::from(number), Reply::Nothing),
+            SmallReply::Value(high, low, value) => {
                 (joined(high, low), Reply::Value(u128::from(value)))
             }
-            SmallReply::Full { number } => (u64::from(number), Reply::Full),
-            SmallReply::Other { at } => again(&self.others[at as usize]),
+            SmallReply::Full(number) => (u64::from(number), Reply::Full),
+            SmallReply::Other(at) => again(&self.others[at as usize]),
         }
     }
 }

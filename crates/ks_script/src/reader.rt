@@ -1,13 +1,12 @@
 //! The script at the front of a text: callers with their lines, as far as these go.
 
-ghost use Rattle.std.specs.Prelude.{ℕ, ◌≡◌, ◌≤◌, ◌<◌, ◌+◌, List, [], length, IfOk};
+ghost use Rattle.std.specs.Prelude.{◌≡◌, ◌≤◌, ◌<◌, ◌+◌, ◌++◌, length, map, IfOk};
 ghost use Rattle.std.specs.List.{sum_by, AllByRecursion};
-ghost use Rattle.ks_lines.specs.declared.Line.{Line};
 ghost use Rattle.ks_script.specs.Lines.{lines_of};
-ghost use Rattle.ks_script.specs.Script.{IsLineOf, IsScript, line_text, parts_of};
+ghost use Rattle.ks_script.specs.Script.{IsLineOf, IsScript, line_text, script_lines, parts_of};
 ghost use Rattle.ks_script.specs.Reads.{NoneFirst, Reads};
-ghost use Rattle.ks_script.specs.Left.{HasBegun, CallsLeft, TextLeft, Told, CallersRead, IsLineWithin, Stops};
-ghost use Rattle.ks_script.specs.declared.version.Version.{Version};
+ghost use Rattle.ks_script.specs.Left.{HasBegun, IsLineWithin, Stops};
+ghost use Rattle.ks_script.specs.Version.{version_line};
 
 use crate::Calls;
 use crate::lines::{first_line, word_line};
@@ -38,9 +37,7 @@ pub fn calls(
     ensures each { IfOk result (λ x. AllByRecursion (IsLineOf version) x.0) }
     ensures within { IfOk result (λ x. length x.0 ≤ room) }
     ensures parts { IfOk result (λ x. x.2 + sum_by parts_of x.0 ≡ parts) }
-    ensures reads { IfOk result (λ x. (callers script : List (List Line)) (behind : List (List ℕ)) →
-        Reads (CallsLeft version callers [] script behind) (CallsLeft version callers x.0 script behind)
-        bytes.now x.1.now (length x.0)) }
+    ensures reads { IfOk result (λ x. Reads (map line_text x.0) bytes.now x.1.now (length x.0)) }
     ensures stops { IfOk result (λ x. length x.0 < room →
         NoneFirst (IsLineWithin version x.2) line_text (lines_of x.1.now)) }
     ensures shorter { IfOk result (λ x. length x.1.now ≤ length bytes.now) }
@@ -75,8 +72,7 @@ pub struct Front<'a> {
 
 // The version that the first line says, how many lines do so, and the bytes after them.
 fn version_of(bytes: &[u8]) -> (Version, usize, &[u8])
-    ensures reads { (w : Version) (script : List (List Line)) (behind : List (List ℕ)) →
-        Reads (TextLeft w script behind) (Told result.0 w script behind) bytes.now result.2.now result.1 }
+    ensures reads { Reads (version_line result.0) bytes.now result.2.now result.1 }
     ensures begun { HasBegun result.0 (lines_of result.2.now) }
     ensures few { result.1 ≤ 1 }
 {
@@ -95,7 +91,8 @@ fn version_of(bytes: &[u8]) -> (Version, usize, &[u8])
 /// The script at the front, as far as the lines go.
 pub fn callers(alloc: Global, bytes: &[u8]) -> Result<Front<'_>, AllocError>
     ensures is { IfOk result (λ f. IsScript f.version f.callers.items) }
-    ensures reads { IfOk result (λ f. CallersRead f.version f.callers.items bytes.now f.rest.now f.lines) }
+    ensures reads { IfOk result
+        (λ f. Reads (version_line f.version ++ script_lines f.callers.items) bytes.now f.rest.now f.lines) }
     ensures stops { IfOk result (λ f. Stops f.version f.callers.items (lines_of f.rest.now)) }
     ensures few { IfOk result (λ f. f.lines ≤ 1 + 1024 + 1048576) }
 {

@@ -1,17 +1,15 @@
 //! A printed run of a script, read off the front of a text.
 
-ghost use Rattle.std.specs.Prelude.{ℕ, ◌≡◌, ◌≤◌, ◌<◌, ◌+◌, ◌^◌, List, [], ◌++◌, length, IfOk, Err};
-ghost use Rattle.std.specs.List.{AllByRecursion};
-ghost use Rattle.ks_lines.specs.declared.Line.{Line};
-ghost use Rattle.ks_lines.specs.declared.Said.{Said};
+ghost use Rattle.std.specs.Prelude.{ℕ, ◌≡◌, ◌≤◌, ◌<◌, ◌+◌, ◌^◌, length, map, IfOk, Err};
+ghost use Rattle.std.specs.List.{flat_map, AllByRecursion};
 ghost use Rattle.ks_lines.specs.Lines.{AllBoth, MayAnswer, AreAnswered};
 ghost use Rattle.ks_script.specs.Lines.{lines_of};
-ghost use Rattle.ks_script.specs.Run.{Run, said_lines, pair_line};
+ghost use Rattle.ks_script.specs.Run.{Run, said_lines, callers_from, pair_line};
 ghost use Rattle.ks_script.specs.Checked.{IsSaid, AscendFrom};
 ghost use Rattle.ks_script.specs.Reading.{Answers};
 ghost use Rattle.ks_script.specs.Reads.{NoneFirst, Reads, RefusedBehind};
 ghost use Rattle.ks_script.specs.SaidLeft.{CanBeSaidOf, IsSaidOf, UnsaidBehind};
-ghost use Rattle.ks_script.specs.RunLeft.{SpellsRun, AreRun, AnswersLeft, RepliesRead, RepliesStopBehind, PairsLeft, IsPairFrom, next_key};
+ghost use Rattle.ks_script.specs.RunLeft.{SpellsRun, AreRun, RepliesStopBehind, IsPairFrom, next_key};
 
 use crate::lines::{numbered_line, pair, reply, word_line};
 use crate::scan_lines::scan_said;
@@ -31,8 +29,7 @@ fn said<'a>(
     requires line { CanBeSaidOf line }
     requires few { before + length bytes.now + 1 < 2 ^ 64 }
     ensures said { IfOk result (λ x. IsSaidOf line x.0) }
-    ensures read { IfOk result
-        (λ x. (lines_of bytes.now ≡ said_lines x.0 ++ lines_of x.1.now) × (x.2 ≡ length (said_lines x.0))) }
+    ensures reads { IfOk result (λ x. Reads (said_lines x.0) bytes.now x.1.now x.2) }
     ensures shorter { IfOk result (λ x. length x.1.now + x.2 ≤ length bytes.now) }
     ensures refused { (n : ℕ) → result ≡ Err (TextFault.Refused n) →
         UnsaidBehind before line (lines_of bytes.now) n }
@@ -58,7 +55,7 @@ fn replies<'a>(
     requires few { before + length bytes.now + 1 < 2 ^ 64 }
     ensures fit { IfOk result (λ x. AllBoth MayAnswer lines.now x.0) }
     ensures each { IfOk result (λ x. AllByRecursion IsSaid x.0) }
-    ensures reads { IfOk result (λ x. RepliesRead lines.now x.0 bytes.now x.1.now x.2) }
+    ensures reads { IfOk result (λ x. Reads (flat_map said_lines x.0) bytes.now x.1.now x.2) }
     ensures shorter { IfOk result (λ x. length x.1.now + x.2 ≤ length bytes.now) }
     ensures refused { (n : ℕ) → result ≡ Err (TextFault.Refused n) → RepliesStopBehind before lines.now bytes.now n }
 {
@@ -66,10 +63,7 @@ fn replies<'a>(
     let mut count = 0;
     let mut rest = bytes;
     'replies: for at in 0..lines.len() {
-        let (said, more, read) = match said(alloc, lines.get(at), rest, before + count) {
-            Ok(said) => said,
-            Err(fault) => return Err(fault),
-        };
+        let (said, more, read) = said(alloc, lines.get(at), rest, before + count)?;
         replies.push(said)?;
         count += read;
         rest = more;
@@ -89,9 +83,7 @@ fn answers<'a>(
     requires few { before + length bytes.now + 1 < 2 ^ 64 }
     ensures each { IfOk result (λ x. AllByRecursion (AllByRecursion IsSaid) x.0.items) }
     ensures fit { IfOk result (λ x. AreAnswered script.now x.0.items) }
-    ensures reads { IfOk result
-        (λ x. (run : Run) → Reads (SpellsRun script.now run)
-        (AnswersLeft script.now (length script.now) x.0.items run) bytes.now x.1.now x.2) }
+    ensures reads { IfOk result (λ x. Reads (callers_from 0 x.0.items) bytes.now x.1.now x.2) }
     ensures shorter { IfOk result (λ x. length x.1.now + x.2 ≤ length bytes.now) }
     ensures refused { (n : ℕ) → result ≡ Err (TextFault.Refused n) →
         RefusedBehind before (AreRun script.now) (lines_of bytes.now) n }
@@ -100,15 +92,11 @@ fn answers<'a>(
     let mut count = 0;
     let mut rest = bytes;
     'callers: for (number, lines) in script.iter().enumerate() {
+        let line = before + (count + 1);
         let Some(more) = numbered_line(rest, b"caller ", number as u64) else {
-            return Err(TextFault::Refused {
-                line: before + (count + 1),
-            });
+            return Err(TextFault::Refused { line });
         };
-        let (said, left, read) = match replies(alloc, lines, more, before + (count + 1)) {
-            Ok(replies) => replies,
-            Err(fault) => return Err(fault),
-        };
+        let (said, left, read) = replies(alloc, lines, more, line)?;
         callers.push(said)?;
         count = count + 1 + read;
         rest = left;
@@ -119,10 +107,7 @@ fn answers<'a>(
 // The pairs at the front, as long as each key is greater than the one before, and the bytes after them.
 fn pairs(alloc: Global, bytes: &[u8]) -> Result<(Vec<(u64, u128)>, &[u8]), AllocError>
     ensures ascend { IfOk result (λ x. AscendFrom 0 x.0.items) }
-    ensures reads { IfOk result
-        (λ x. (script : List (List Line)) (callers : List (List Said)) (run : Run) →
-        Reads (PairsLeft script callers [] run) (PairsLeft script callers x.0.items run)
-        bytes.now x.1.now (length x.0.items)) }
+    ensures reads { IfOk result (λ x. Reads (map pair_line x.0.items) bytes.now x.1.now (length x.0.items)) }
     ensures stops { IfOk result
         (λ x. NoneFirst (IsPairFrom (next_key 0 x.0.items)) pair_line (lines_of x.1.now)) }
     ensures shorter { IfOk result (λ x. length x.1.now + length x.0.items ≤ length bytes.now) }
@@ -152,26 +137,18 @@ pub fn run(alloc: Global, script: &[Calls], bytes: &[u8], before: u64) -> Result
         (RefusedBehind before (AreRun script.now) (lines_of bytes.now)) }
     ensures only { IfOk result (λ run. (other : Run) → SpellsRun script.now other (lines_of bytes.now) → other ≡ run) }
 {
-    let (callers, rest, count) = match answers(alloc, script, bytes, before) {
-        Ok(answers) => answers,
-        Err(fault) => return Err(fault),
-    };
+    let (callers, rest, count) = answers(alloc, script, bytes, before)?;
+    let line = before + (count + 1);
     let Some(text) = word_line(rest, b"map") else {
-        return Err(TextFault::Refused {
-            line: before + (count + 1),
-        });
+        return Err(TextFault::Refused { line });
     };
     let (pairs, left) = pairs(alloc, text)?;
-    let count = count + 1 + pairs.len() as u64;
+    let line = line + pairs.len() as u64 + 1;
     let Some(end) = word_line(left, b"end") else {
-        return Err(TextFault::Refused {
-            line: before + (count + 1),
-        });
+        return Err(TextFault::Refused { line });
     };
     if !end.is_empty() {
-        return Err(TextFault::Refused {
-            line: before + (count + 2),
-        });
+        return Err(TextFault::Refused { line: line + 1 });
     }
     Ok(Printed { callers, pairs })
 }

@@ -11,7 +11,7 @@ ghost use Rattle.ks_script.specs.Numeral.{NoDigit};
 ghost use Rattle.ks_script.specs.Lined.{Lined, NotLined};
 ghost use Rattle.ks_script.specs.Run.{pair_line, pair_words, part_line, stop_line, said_lines};
 ghost use Rattle.ks_script.specs.Checked.{IsPair, IsPart, IsStop};
-ghost use Rattle.ks_script.specs.Reads.{NotFirst, NoneFirst};
+ghost use Rattle.ks_script.specs.Reads.{NotFirst, NoneFirst, Reads};
 ghost use Rattle.ks_script.specs.SaidLeft.{CanBeSaidOf, IsSaidOf, IsPartFrom, next_end, UnsaidBehind};
 
 use crate::TextFault;
@@ -148,23 +148,19 @@ pub fn scan_said<'a>(
     requires scan { CanBeSaidOf (Scan low last most) }
     requires few { before + length bytes.now + 1 < 2 ^ 64 }
     ensures said { IfOk result (λ x. IsSaidOf (Scan low last most) x.0) }
-    ensures read { IfOk result
-        (λ x. (lines_of bytes.now ≡ said_lines x.0 ++ lines_of x.1.now) × (x.2 ≡ length (said_lines x.0))) }
+    ensures reads { IfOk result (λ x. Reads (said_lines x.0) bytes.now x.1.now x.2) }
     ensures shorter { IfOk result (λ x. length x.1.now + x.2 ≤ length bytes.now) }
     ensures refused { (n : ℕ) → result ≡ Err (TextFault.Refused n) →
         UnsaidBehind before (Scan low last most) (lines_of bytes.now) n }
 {
     let (parts, stop, rest) = parts(alloc, low, last, most, bytes)?;
     let count = parts.len() as u64 + 1;
+    let line = before + count;
     let Some(stop) = stop else {
-        return Err(TextFault::Refused {
-            line: before + count,
-        });
+        return Err(TextFault::Refused { line });
     };
     let Some(rest) = stopped(rest, stop) else {
-        return Err(TextFault::Refused {
-            line: before + count,
-        });
+        return Err(TextFault::Refused { line });
     };
     Ok((Said::Scan(Parts::of(parts), stop), rest, count))
 }

@@ -41,29 +41,20 @@ impl Version {
     pub fn adds_and_swaps(self) -> bool
         ensures { IsTrue result ↔ AddsAndSwaps self }
     {
-        match self {
-            Version::First => false,
-            Version::Second | Version::Third | Version::Fourth => true,
-        }
+        !matches!(self, Version::First)
     }
 
     /// Whether a script may have ordered scans.
     pub fn scans(self) -> bool
         ensures { IsTrue result ↔ Scans self }
     {
-        match self {
-            Version::First | Version::Second => false,
-            Version::Third | Version::Fourth => true,
-        }
+        matches!(self, Version::Third | Version::Fourth)
     }
 
     /// Whether a script may have moves of a value.
     pub fn moves(self) -> bool
         ensures { IsTrue result ↔ Moves self }
     {
-        match self {
-            Version::First | Version::Second | Version::Third => false,
-            Version::Fourth => true,
-        }
+        matches!(self, Version::Fourth)
     }
 }

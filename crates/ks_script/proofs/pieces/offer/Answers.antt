@@ -1,13 +1,11 @@
-use Rattle.ks_script.proofs.Common.{refl, subst}
-use Rattle.ks_script.specs.Outside.{Grew, GrewByFront}
-use Rattle.ks_script.proofs.Putting.{offer_none, offer_all, offer_failed}
+use Rattle.ks_script.proofs.Common.{ap, ◌∙◌}
+use Rattle.ks_script.specs.declared.pieces.Piece.{Piece}
+use Rattle.ks_script.proofs.Putting.{offer_none, offered}
 use Rattle.ks_script.proofs.pieces.offer.Goals as goal
+use Rattle.ks_script.proofs.pieces.offer.Goals.{then-not-piece, else-not-piece}
 
-pub returns-then-failed-clause-puts : goal.returns-then-failed-clause-puts
-returns-then-failed-clause-puts g c = offer_none _ _ _ _ c.if-failed.true refl
-
-pub returns-in-Ok-clause-puts : goal.returns-in-Ok-clause-puts
-returns-in-Ok-clause-puts g c = offer_all _ _ _ _ _ _ c.if-failed.false refl c.clear-in-Ok.ensures (subst (Grew (g.K.Sink.taken c.args.out.now) (g.K.Sink.taken c.send.new.out)) c.as_slice.ensures.value c.in-Ok.ensures.ok) c.send.ensures.count
-
-pub returns-in-Err-clause-puts : goal.returns-in-Err-clause-puts
-returns-in-Err-clause-puts g c = offer_failed _ _ _ _ _ _ c.if-failed.false refl (subst (GrewByFront (g.K.Sink.taken c.args.out.now) (g.K.Sink.taken c.send.new.out)) c.as_slice.ensures.value c.in-Err.ensures.front) c.in-Err.ensures.cause c.send.ensures.count
+pub returns-clause-puts : goal.returns-clause-puts
+returns-clause-puts g c = elim c.if-not-piece.branch [
+  | then-not-piece w ↦ rw w.out-is (offered w.send.result w.if-not-piece.true (ap (λ (p : Piece). p.failed) w.piece-is ∙ w.is_err-piece.ensures.value) c.clear.ensures w.as_slice.ensures.value w.send.ensures.ok w.send.ensures.front w.send.ensures.cause w.send.ensures.count)
+  | else-not-piece w ↦ rw w.out-is (offer_none w.if-not-piece.false (ap (λ (p : Piece). p.failed) w.piece-is ∙ w.if-not-piece.false))
+]

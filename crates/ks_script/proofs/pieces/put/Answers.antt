@@ -2,4 +2,4 @@ use Rattle.ks_script.proofs.Putting.{puts_append}
 use Rattle.ks_script.proofs.pieces.put.Goals as goal
 
 pub returns : goal.returns
-returns g c = puts_append _ _ _ _ c.args.bytes.now c.append.ensures.bytes c.append.ensures.failed
+returns g c = puts_append c.append.ensures.bytes c.append.ensures.failed

@@ -1,10 +1,10 @@
-use Rattle.ks_script.proofs.Common.{◌≤◌, [], length}
-use Rattle.ks_script.proofs.Putting.{Passes}
+use Rattle.ks_script.proofs.Common.{ℕ, ◌≡◌, ◌≤◌, List, ◌++◌, length}
+use Rattle.ks_script.specs.Outside.{Grew}
 use Rattle.ks_script.proofs.pieces.send.Given as goal
 
 abbrev pub invariant-loop-rest : goal.invariant-loop-rest
 invariant-loop-rest g l = record {
-  passed : Passes (g.K.Sink.taken l.fn.out) [] l.bytes (g.K.Sink.taken l.out) l.rest;
+  sent : (front : List ℕ) × (l.bytes ≡ front ++ l.rest) × Grew (g.K.Sink.taken l.fn.out) (g.K.Sink.taken l.out) front;
   count : g.K.Sink.faults l.fn.out ≤ g.K.Sink.faults l.out;
 }
 

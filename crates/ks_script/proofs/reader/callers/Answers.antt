@@ -1,5 +1,6 @@
-use Rattle.ks_script.proofs.Common.{ℕ, ◌≡◌, ◌+◌, ◌-◌, List, [], ◌∷◌, ◌++◌, length, sym, subst, ap, ◌∙◌, arith, length-append, AllByRecursion, Line, Version, lines_of, IsLineOf, IsScript, line_text, calls_in, parts_of, parts_in, sum_by, NoneFirst, CallersRead, IsLineWithin}
-use Rattle.ks_script.proofs.Steps.{all_push, calls_append, parts_append, next_read}
+use Rattle.ks_script.proofs.Common.{ℕ, ◌≡◌, ◌+◌, ◌-◌, List, [], ◌∷◌, ◌++◌, length, sym, subst, ap, ◌∙◌, arith, length-append, AllByRecursion, Line, Version, lines_of, IsLineOf, IsScript, line_text, script_lines, calls_in, parts_of, parts_in, sum_by, version_line, NoneFirst, Reads, IsLineWithin}
+use Rattle.ks_script.proofs.Steps.{all_push, calls_append, parts_append}
+use Rattle.ks_script.proofs.ScriptRead.{next_read}
 use Rattle.ks_script.proofs.reader.callers.Goals as goal
 
 pub callers-preserved : goal.callers-preserved
@@ -26,7 +27,7 @@ callers-preserved c =
     } in
     record {
       is = subst (IsScript version) (sym pushed) grown;
-      reads = subst (λ (xs : List (List Line)). CallersRead version xs c.args.bytes.now c.in_ok-lines.behind.now (told + length xs + (c.callers.count + c.len-count.result))) (sym pushed)
+      reads = subst (λ (xs : List (List Line)). Reads (version_line version ++ script_lines xs) c.args.bytes.now c.in_ok-lines.behind.now (told + length xs + (c.callers.count + c.len-count.result))) (sym pushed)
           (next_read version c.args.bytes.now c.callers.rest.now c.in-Some.more.now c.in_ok-lines.behind.now all lines (told + length all + c.callers.count) (told + length (all ++ lines ∷ []) + (c.callers.count + c.len-count.result)) before.reads c.in-Some.ensures.some c.in_ok-lines.ensures.reads (omega arith));
       parts = left;
       calls = (let e : c.callers.count + c.len-count.result ≡ calls_in (all ++ lines ∷ []) = omega arith in e) ∙ ap calls_in (sym pushed);

@@ -1,4 +1,4 @@
-use Rattle.ks_script.proofs.Common.{ℕ, ◌≡◌, ◌+◌, ◌≤◌, List, [], length, sum_by, AllByRecursion, Line, IsLineOf, parts_of, Reads, CallsLeft}
+use Rattle.ks_script.proofs.Common.{◌≡◌, ◌+◌, ◌≤◌, length, map, sum_by, AllByRecursion, IsLineOf, line_text, parts_of, Reads}
 use Rattle.ks_script.proofs.reader.calls.Given as goal
 
 abbrev pub invariant-calls : goal.invariant-calls
@@ -6,7 +6,7 @@ invariant-calls l = record {
   each : AllByRecursion (IsLineOf l.version) l.calls;
   within : length l.calls ≤ l.room;
   parts : l.left + sum_by parts_of l.calls ≡ l.parts;
-  reads : (callers script : List (List Line)) (behind : List (List ℕ)) → Reads (CallsLeft l.version callers [] script behind) (CallsLeft l.version callers l.calls script behind) l.bytes l.rest (length l.calls);
+  reads : Reads (map line_text l.calls) l.bytes l.rest (length l.calls);
   shorter : length l.rest ≤ length l.bytes;
 }
 

@@ -1,7 +1,7 @@
-use Rattle.ks_script.proofs.Common.{ℕ, ◌≡◌, ◌≤◌, ◌<◌, ◌+◌, ◌^◌, List, [], ◌∷◌, ◌++◌, length, sym, subst, ap, ◌∙◌, arith, length-append, lines_of, pair_line, AscendFrom, Lines, NoneFirst, Leads, PairsLeft, IsPairFrom, next_key}
+use Rattle.ks_script.proofs.Common.{ℕ, ◌≡◌, ◌≤◌, ◌<◌, ◌+◌, ◌^◌, List, [], ◌∷◌, ◌++◌, length, map, map_push, sym, subst, ap, ◌∙◌, arith, length-append, lines_of, pair_line, AscendFrom, Lines, NoneFirst, Reads, IsPairFrom, next_key}
 use Rattle.ks_script.proofs.CallLines.{one_pair}
-use Rattle.ks_script.proofs.Steps.{reads_line}
-use Rattle.ks_script.proofs.RunSteps.{pair_step, ascend_push, next_key_push}
+use Rattle.ks_script.proofs.Leading.{reads_line}
+use Rattle.ks_script.proofs.RunRead.{ascend_push, next_key_push}
 use Rattle.ks_script.proofs.runs.pairs.Goals as goal
 
 abbrev Pairs : Type 0
@@ -40,10 +40,8 @@ pairs-preserved c =
     let fits : next_key 0 was ≤ c.in-Some.key = omega (arith, inv.least) in
     record {
       ascend = subst (AscendFrom 0) (sym pushed) (ascend_push 0 was x inv.ascend (fits, some.0.1, some.0.2));
-      reads = λ script callers run.
-          reads_line (PairsLeft script callers [] run) (PairsLeft script callers was run) (PairsLeft script callers c.push.new.self.items run) c.args.bytes.now c.pairs.rest.now c.in-Some.more.now (pair_line x) (length was) (length c.push.new.self.items)
-          (inv.reads script callers run) some.1
-          (subst (λ (xs : Pairs). Leads (PairsLeft script callers was run) (PairsLeft script callers xs run) (pair_line x ∷ [])) (sym pushed) (pair_step script run callers was x some.0)) count;
+      reads = subst (λ (front : Lines). Reads front c.args.bytes.now c.in-Some.more.now (length c.push.new.self.items)) (sym (ap (map pair_line) pushed ∙ map_push pair_line was x))
+          (reads_line (map pair_line was) (pair_line x) c.args.bytes.now c.pairs.rest.now c.in-Some.more.now (length was) (length c.push.new.self.items) inv.reads some.1 count);
       shorter = omega (arith, inv.shorter, c.in-Some.ensures.shorter, count);
       least = sym (ap (next_key 0) pushed ∙ next_key_push 0 was x);
       small = omega (arith, some.0.1);

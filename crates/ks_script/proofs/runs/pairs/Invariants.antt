@@ -1,10 +1,10 @@
-use Rattle.ks_script.proofs.Common.{◌≡◌, ◌≤◌, ◌+◌, ◌^◌, List, [], length, Line, Run, AscendFrom, Reads, Replies, PairsLeft, next_key}
+use Rattle.ks_script.proofs.Common.{◌≡◌, ◌≤◌, ◌+◌, ◌^◌, length, map, pair_line, AscendFrom, Reads, next_key}
 use Rattle.ks_script.proofs.runs.pairs.Given as goal
 
 abbrev pub invariant-pairs : goal.invariant-pairs
 invariant-pairs l = record {
   ascend : AscendFrom 0 l.pairs.items;
-  reads : (script : List (List Line)) (callers : List Replies) (run : Run) → Reads (PairsLeft script callers [] run) (PairsLeft script callers l.pairs.items run) l.bytes l.rest (length l.pairs.items);
+  reads : Reads (map pair_line l.pairs.items) l.bytes l.rest (length l.pairs.items);
   shorter : length l.rest + length l.pairs.items ≤ length l.bytes;
   least : l.least ≡ next_key 0 l.pairs.items;
   small : l.least ≤ 2 ^ 64;

@@ -1,11 +1,10 @@
-use Rattle.ks_script.proofs.Common.{◌≤◌, ◌+◌, length, take, AllByRecursion, IsSaid, RepliesRead}
-use Rattle.ks_lines.specs.Lines.{MayAnswer, AllBoth}
+use Rattle.ks_script.proofs.Common.{◌≤◌, ◌+◌, length, take, AllByRecursion, said_lines, IsSaid, Reads, flat_map, MayAnswer, AllBoth}
 use Rattle.ks_script.proofs.runs.replies.Given as goal
 
 abbrev pub invariant-replies : goal.invariant-replies
 invariant-replies l = record {
   fit : AllBoth MayAnswer (take l.at l.lines) l.replies;
   each : AllByRecursion IsSaid l.replies;
-  reads : RepliesRead l.lines l.replies l.bytes l.rest l.count;
+  reads : Reads (flat_map said_lines l.replies) l.bytes l.rest l.count;
   shorter : length l.rest + l.count ≤ length l.bytes;
 }

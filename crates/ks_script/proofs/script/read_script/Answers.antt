@@ -1,7 +1,7 @@
 use Rattle.ks_script.proofs.Common.{ℕ, ◌+◌, List, length, sym, ap, Ok, Err, Result, nil_from_length, Line, TextFault, Refused, lines_of, AreScript}
 use Rattle.ks_script.proofs.Cuts.{is_empty_true, is_empty_false}
 use Rattle.ks_script.proofs.Leading.{bad_no_text, one_bad}
-use Rattle.ks_script.proofs.ScriptRead.{spelled, one_read, stopped}
+use Rattle.ks_script.proofs.ScriptRead.{whole_script, one_read, stopped}
 use Rattle.ks_script.proofs.script.read_script.Goals as goal
 
 pub returns : goal.returns
@@ -11,10 +11,10 @@ returns c =
     let all = f.front.callers.items in
     let bytes = c.args.bytes.now in
     let end = nil_from_length f.front.rest.now (is_empty_true (length f.front.rest.now) c.is_empty.result c.is_empty.ensures c.if-not-is_empty.false) in
-    let whole = spelled version all bytes f.front.rest.now f.front.lines f.ensures.reads f.ensures.is end in
+    let whole = whole_script version all bytes f.front.rest.now f.front.lines f.ensures.reads f.ensures.is end in
     record {
       answer = (version, whole);
-      script = λ script h. ap (λ (s : List (List Line)). let r : Result (List (List Line)) TextFault = Ok s in r) (sym (one_read version all bytes f.front.rest.now f.front.lines h.0 script f.ensures.reads end h.1));
+      script = λ script h. ap (λ (s : List (List Line)). let r : Result (List (List Line)) TextFault = Ok s in r) (sym (one_read version all bytes f.front.rest.now f.front.lines f.ensures.reads f.ensures.is end h.0 script h.1));
       refused = λ n h. absurd (bad_no_text AreScript (lines_of bytes) n h (version, all, whole));
     }
 

@@ -1,8 +1,6 @@
-use Rattle.std.specs.Prelude.{All}
-use Rattle.std.proofs.lemmas.List.Elements.{All-push, All-same}
-use Rattle.ks_lines.specs.Lines.{IsServedLine}
-use Rattle.ks_script.proofs.Common.{ℕ, ◌+◌, ◌<◌, take, drop, refl, sym, subst, ◌∙◌, arith, length, length-take-le, get_or_default, take_all, false≢true, Call, Get}
-use Rattle.ks_script.proofs.Texts.{cut_at, taken_with}
+use Rattle.std.proofs.lemmas.List.Elements.{All-more}
+use Rattle.ks_script.proofs.Common.{ℕ, ◌+◌, ◌<◌, take, drop, refl, sym, subst, ◌∙◌, arith, length, length-take-le, get_or_default, take_all, false≢true, Call, Get, All, IsServedLine}
+use Rattle.ks_script.proofs.Texts.{cut_at}
 use Rattle.ks_script.proofs.unfit.unserved_at.Goals as goal
 
 pub returns-then-not-is_served-clause-some : goal.returns-then-not-is_served-clause-some
@@ -24,11 +22,8 @@ pub loop-at-preserved : goal.loop-at-preserved
 loop-at-preserved c =
     let ls = c.args.calls.now in
     let i : ℕ = c.loop-at.at in
-    let lt : i < length ls = subst (λ (n : ℕ). i < n) c.len-at-end.ensures c.loop-at-test.true in
-    let is : All (IsServedLine c.args.scans c.args.moves) (take (i + 1) ls) =
-    All-same (IsServedLine c.args.scans c.args.moves) _ _ (taken_with ls i c.get.result lt (c.get.ensures ∙ get_or_default ls i (Call (Get 0)) c.get.result lt))
-    (All-push (IsServedLine c.args.scans c.args.moves) (take i ls) c.get.result c.loop-at.invariant (c.if-not-is_served.ensures.0 refl)) in
-    is
+    let is = c.if-not-is_served.ensures.0 refl in
+    All-more (IsServedLine c.args.scans c.args.moves) ls i (Call (Get 0)) (subst (λ (n : ℕ). i < n) c.len-at-end.ensures c.loop-at-test.true) c.loop-at.invariant (subst (IsServedLine c.args.scans c.args.moves) c.get.ensures is)
 
 pub returns-clause-none : goal.returns-clause-none
 returns-clause-none c =

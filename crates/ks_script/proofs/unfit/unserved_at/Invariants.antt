@@ -1,6 +1,4 @@
-use Rattle.std.specs.Prelude.{All}
-use Rattle.ks_lines.specs.Lines.{IsServedLine}
-use Rattle.ks_script.proofs.Common.{take}
+use Rattle.ks_script.proofs.Common.{take, All, IsServedLine}
 use Rattle.ks_script.proofs.unfit.unserved_at.Given as goal
 
 abbrev pub invariant-loop-at : goal.invariant-loop-at

@@ -1,9 +1,4 @@
-use Rattle.std.specs.Prelude.{All}
-use Rattle.std.proofs.lemmas.List.Elements.{All-push, All-same}
-use Rattle.ks_lines.specs.Lines.{IsServedLine}
-use Rattle.ks_script.proofs.Common.{ℕ, ◌≡◌, ◌+◌, ◌<◌, ◌≤◌, List, take, get_or, ap, subst, ◌∙◌, arith, length, take_all, Line, Version, Option, Some, IsScript, script_lines}
-use Rattle.ks_script.specs.Script.{ScriptOf}
-use Rattle.ks_script.specs.Unfit.{IsUnfitAt}
+use Rattle.ks_script.proofs.Common.{ℕ, ◌≡◌, ◌+◌, ◌<◌, ◌≤◌, List, take, get_or, ap, subst, ◌∙◌, arith, length, take_all, Line, Version, Option, Some, IsScript, script_lines, All, All-push, All-same, IsServedLine, ScriptOf, IsUnfitAt}
 use Rattle.ks_script.proofs.Texts.{taken_with}
 use Rattle.ks_script.proofs.Unserved.{few_lines, first_lines, in_lines, more_lines, unfit_here, not_served, one_unfit, none_unfit, all_served}
 use Rattle.ks_script.proofs.script.Script.unfit_line.Goals as goal

@@ -1,6 +1,4 @@
-use Rattle.std.specs.Prelude.{All}
-use Rattle.ks_lines.specs.Lines.{IsServedLine}
-use Rattle.ks_script.proofs.Common.{◌≡◌, ◌+◌, length, take, script_lines}
+use Rattle.ks_script.proofs.Common.{◌≡◌, ◌+◌, length, take, script_lines, All, IsServedLine}
 use Rattle.ks_script.proofs.script.Script.unfit_line.Given as goal
 
 abbrev pub invariant-loop-calls : goal.invariant-loop-calls
