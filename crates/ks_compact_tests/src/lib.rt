@@ -2,9 +2,7 @@
 #![tactic(auto)]
 
 #[cfg(test)]
-mod below;
-#[cfg(test)]
-mod chain;
+mod graphs;
 #[cfg(test)]
 mod runs;
 #[cfg(test)]

@@ -1,140 +1,237 @@
-use crate::below::{compacted_below, merged_below};
-use crate::chain::{chain_of, chained, compacted_chain};
-use crate::runs::{compact_once, del_each, end_one, put_each, start_one};
+//! Trials of compaction: what one caller does over nodes of one type, by one technique, and what is left.
+
+use crate::graphs::{chain_of, is_root_alone, live_nodes};
+use crate::runs::{Left, Run, left_by};
+use ks_arena::Arena;
 use ks_bplus::BNode;
 use ks_bst::TNode;
 use ks_coupling::Coupling;
 use ks_giveup::GiveUp;
-use ks_keysets::{Graph, NodeState};
 use ks_list::ListNode;
-use ks_node::WithRange;
+use ks_node::{Node, WithRange};
+use ks_shape::{Compacting, Ruled};
+use std::alloc::{AllocError, Global};
+use std::process::Abort;
+use std::sync::Wait;
 use std::test::Fail;
 
-/// Whether node 0 is live with `pairs` pairs and no edge, and no other node is in use.
-fn is_root_alone(graph: &Graph, pairs: usize) -> bool {
-    graph.nodes.iter().enumerate().all(|(node, state)| match state {
-        NodeState::Live(record) => {
-            node == 0 && record.edges.is_empty() && record.pairs.len() == pairs
-        }
-        NodeState::Free => node != 0,
-        NodeState::Claimed(_) => false,
-    })
+/// What one caller does, and what must be left.
+struct Trial<'a> {
+    /// What the trial shows.
+    name: &'a str,
+    /// How many nodes the dictionary has.
+    nodes: u32,
+    runs: &'a [Run],
+    /// Whether the dictionary is compacted until no node is made free.
+    compacts: bool,
+    /// How many compactions make nodes free, and how many nodes these are.
+    rounds: u32,
+    freed: u32,
+    /// How many nodes are live. If there is one, it is the root, without an edge, and no other node is in use.
+    live: usize,
+    /// How many branches follow each other from the root on, each over a leaf and the next.
+    chain: usize,
+    /// The keys that are left, each with its own value: stretches of them, each by its first key and its end.
+    keys: &'a [(u64, u64)],
 }
 
-/// How many nodes are live.
-fn live_nodes(graph: &Graph) -> usize {
-    graph
-        .nodes
-        .iter()
-        .filter(|state| matches!(state, NodeState::Live(_)))
-        .count()
+/// Whether the pairs are those of these stretches of keys, each key with its own value.
+fn has_keys(pairs: &[(u64, u128)], keys: &[(u64, u64)]) -> bool {
+    let mut at = 0usize;
+    for (first, end) in keys {
+        for key in *first..*end {
+            if pairs.get(at) != Some(&(key, u128::from(key))) {
+                return false;
+            }
+            at = at.saturating_add(1);
+        }
+    }
+    at == pairs.len()
 }
+
+impl<'a> Trial<'a> {
+    /// Whether the nodes that are left are those that must be.
+    fn has_nodes(&self, left: &Left) -> bool {
+        live_nodes(&left.graph) == self.live
+            && chain_of(&left.graph) == self.chain
+            && (self.live != 1 || is_root_alone(&left.graph, left.pairs.len()))
+    }
+
+    /// Whether each call found what it should, and what must be left is left.
+    fn went_right(&self, left: &Left) -> bool {
+        left.found_all
+            && left.rounds == self.rounds
+            && left.freed == self.freed
+            && self.has_nodes(left)
+            && has_keys(left.pairs.as_slice(), self.keys)
+    }
+}
+
+/// Each trial goes right.
+fn go_right<N: Node, T: Ruled + Compacting<N, Arena<N, <T as Ruled>::Rule>>, R: Wait + Abort>(
+    rt: &R,
+    alloc: Global,
+    trials: &[Trial<'_>],
+) -> Result<(), AllocError> {
+    for trial in trials {
+        let nodes = trial.nodes.clamp(4, 1024);
+        let left = left_by::<N, T, R>(rt, alloc, nodes, trial.runs, trial.compacts)?;
+        assert!(rt; trial.went_right(&left), "{}", trial.name);
+    }
+    Ok(())
+}
+
+const OF_LISTS: [Trial<'static>; 1] = [Trial {
+    name: "half full list nodes are merged",
+    nodes: 4,
+    runs: &[Run::Put(0, 9, 1), Run::Del(8, 1, 1)],
+    compacts: true,
+    rounds: 1,
+    freed: 1,
+    live: 1,
+    chain: 0,
+    keys: &[(0, 8)],
+}];
 
 #[test]
 fn half_full_list_nodes_are_merged(rt: HostRuntime) -> Result<(), Fail> {
-    let (dictionary, mut pass) = start_one::<ListNode, Coupling>(rt.alloc(), 4)?;
-    assert!(rt; put_each(&rt, &dictionary, &mut pass, 0, 9, 1));
-    assert!(rt; del_each(&rt, &dictionary, &mut pass, 8, 1, 1));
-    assert!(rt; compact_once(&rt, &dictionary, &mut pass) == 1);
-    assert!(rt; compact_once(&rt, &dictionary, &mut pass) == 0);
-    let closed = end_one(rt.alloc(), dictionary, pass)?;
-    assert!(rt; is_root_alone(&closed.graph(rt.alloc())?, 8));
+    go_right::<ListNode, Coupling, HostRuntime>(&rt, rt.alloc(), &OF_LISTS)?;
     Ok(())
 }
+
+const OF_B_PLUS_TREES: [Trial<'static>; 1] = [Trial {
+    name: "a root over one leaf becomes the leaf",
+    nodes: 4,
+    runs: &[Run::Put(0, 17, 1), Run::Del(16, 1, 1)],
+    compacts: true,
+    rounds: 1,
+    freed: 2,
+    live: 1,
+    chain: 0,
+    keys: &[(0, 16)],
+}];
 
 #[test]
 fn a_root_over_one_leaf_becomes_the_leaf(rt: HostRuntime) -> Result<(), Fail> {
-    let (dictionary, mut pass) = start_one::<BNode, Coupling>(rt.alloc(), 4)?;
-    assert!(rt; put_each(&rt, &dictionary, &mut pass, 0, 17, 1));
-    assert!(rt; del_each(&rt, &dictionary, &mut pass, 16, 1, 1));
-    assert!(rt; compact_once(&rt, &dictionary, &mut pass) == 2);
-    let closed = end_one(rt.alloc(), dictionary, pass)?;
-    let pairs = closed.pairs(rt.alloc())?;
-    assert!(rt; pairs.len() == 16);
-    for (key, pair) in pairs.iter().enumerate() {
-        assert!(rt; pair.0 == key as u64 && pair.1 == key as u128);
-    }
-    assert!(rt; is_root_alone(&closed.graph(rt.alloc())?, 16));
+    go_right::<BNode, Coupling, HostRuntime>(&rt, rt.alloc(), &OF_B_PLUS_TREES)?;
     Ok(())
 }
 
+/// Puts 0, 10, 20, 1 and 2, and deletes 20 and 2. In leaves of two pairs, whose full ones become branches where they
+/// are, that leaves a leaf of one pair at the right below the root, and beside it a branch over two leaves of one pair.
+const THIN: [Run; 4] = [
+    Run::Put(0, 3, 10),
+    Run::Put(1, 2, 1),
+    Run::Del(20, 1, 1),
+    Run::Del(2, 1, 1),
+];
+
+/// Deletes 0 from the thin tree: its leaf absorbs the one beside it, the branch takes that over, and a second search
+/// merges the branch, now a leaf, with the leaf at the right.
+const MERGED_BELOW: Trial<'static> = Trial {
+    name: "a branch below the root takes its only child over",
+    nodes: 5,
+    runs: &[
+        Run::Put(0, 3, 10),
+        Run::Put(1, 2, 1),
+        Run::Del(20, 1, 1),
+        Run::Del(2, 1, 1),
+        Run::Del(0, 1, 1),
+    ],
+    compacts: false,
+    rounds: 0,
+    freed: 0,
+    live: 1,
+    chain: 0,
+    keys: &[(1, 2), (10, 11)],
+};
+
+/// Forty keys in sorted order.
+const SORTED: [Run; 1] = [Run::Put(0, 40, 1)];
+
+/// Forty keys in sorted order, of which all but 5 and 30 are deleted again, in their order.
+const THINNED: [Run; 4] = [
+    Run::Put(0, 40, 1),
+    Run::Del(0, 5, 1),
+    Run::Del(6, 24, 1),
+    Run::Del(31, 9, 1),
+];
+
+/// Each compaction merges the last two leaves, and their branch takes over: the root in the end.
+const CHAIN_COMPACTED: Trial<'static> = Trial {
+    name: "a chain is compacted branch by branch",
+    nodes: 80,
+    runs: &THINNED,
+    compacts: true,
+    rounds: 37,
+    freed: 74,
+    live: 1,
+    chain: 0,
+    keys: &[(5, 6), (30, 31)],
+};
+
+/// Binary trees: below the root, and chains of branches, each over a leaf and the next.
+const OF_BINARY_TREES: [Trial<'static>; 6] = [
+    MERGED_BELOW,
+    Trial {
+        name: "a compaction takes a child over below the root",
+        nodes: 5,
+        runs: &THIN,
+        compacts: true,
+        rounds: 1,
+        freed: 2,
+        live: 3,
+        chain: 1,
+        keys: &[(0, 2), (10, 11)],
+    },
+    Trial {
+        name: "forty keys in sorted order make 38 branches in a row and 39 leaves",
+        nodes: 80,
+        runs: &SORTED,
+        compacts: false,
+        rounds: 0,
+        freed: 0,
+        live: 77,
+        chain: 38,
+        keys: &[(0, 40)],
+    },
+    Trial {
+        name: "none of the leaves fits beside another: a compaction makes no node free",
+        nodes: 80,
+        runs: &SORTED,
+        compacts: true,
+        rounds: 0,
+        freed: 0,
+        live: 77,
+        chain: 38,
+        keys: &[(0, 40)],
+    },
+    Trial {
+        name: "37 of the branches remain without most keys: a leaf beside a branch is not merged",
+        nodes: 80,
+        runs: &THINNED,
+        compacts: false,
+        rounds: 0,
+        freed: 0,
+        live: 75,
+        chain: 37,
+        keys: &[(5, 6), (30, 31)],
+    },
+    CHAIN_COMPACTED,
+];
+
 #[test]
-fn a_branch_below_the_root_takes_its_only_child_over(rt: HostRuntime) -> Result<(), Fail> {
-    let (is_right, closed) = merged_below::<TNode, Coupling, HostRuntime>(&rt, rt.alloc())?;
-    assert!(rt; is_right);
-    assert!(rt; is_root_alone(&closed.graph(rt.alloc())?, 2));
+fn binary_trees_are_merged_below_the_root_and_in_chains(rt: HostRuntime) -> Result<(), Fail> {
+    go_right::<TNode, Coupling, HostRuntime>(&rt, rt.alloc(), &OF_BINARY_TREES)?;
     Ok(())
 }
 
+const BY_GIVING_UP: [Trial<'static>; 2] = [MERGED_BELOW, CHAIN_COMPACTED];
+
 #[test]
-fn a_branch_below_the_root_takes_its_only_child_over_by_giving_up(
+fn binary_trees_are_merged_below_the_root_and_in_chains_by_giving_up(
     rt: HostRuntime,
 ) -> Result<(), Fail> {
-    let (is_right, closed) = merged_below::<WithRange<TNode>, GiveUp, HostRuntime>(
-        &rt,
-        rt.alloc(),
-    )?;
-    assert!(rt; is_right);
-    assert!(rt; is_root_alone(&closed.graph(rt.alloc())?, 2));
-    Ok(())
-}
-
-#[test]
-fn a_compaction_takes_a_child_over_below_the_root(rt: HostRuntime) -> Result<(), Fail> {
-    let (is_right, first, second, closed) = compacted_below::<TNode, Coupling, HostRuntime>(
-        &rt,
-        rt.alloc(),
-    )?;
-    assert!(rt; is_right && first == 2 && second == 0);
-    assert!(rt; live_nodes(&closed.graph(rt.alloc())?) == 3);
-    Ok(())
-}
-
-/// Forty keys that came in sorted order make 38 branches in a row and 39 leaves. None of the leaves fits beside another: a
-/// compaction makes no node free.
-#[test]
-fn keys_in_sorted_order_make_a_chain(rt: HostRuntime) -> Result<(), Fail> {
-    let alloc = rt.alloc();
-    let (is_right, closed) = chained::<TNode, Coupling, HostRuntime>(&rt, alloc, false)?;
-    let graph = closed.graph(alloc)?;
-    assert!(rt; is_right && chain_of(&graph) == 38 && live_nodes(&graph) == 77);
-    let (rounds, freed, closed) = compacted_chain::<TNode, Coupling, HostRuntime>(
-        &rt, alloc, false,
-    )?;
-    let graph = closed.graph(alloc)?;
-    assert!(rt; rounds == 0 && freed == 0);
-    assert!(rt; chain_of(&graph) == 38 && live_nodes(&graph) == 77);
-    assert!(rt; closed.pairs(alloc)?.len() == 40);
-    Ok(())
-}
-
-/// When all keys but two are deleted, 37 of the branches are still there, for a leaf beside a branch is not merged. Each
-/// compaction merges the last two leaves, and their branch takes over: the root in the end.
-#[test]
-fn a_chain_is_compacted_branch_by_branch(rt: HostRuntime) -> Result<(), Fail> {
-    let alloc = rt.alloc();
-    let (is_right, closed) = chained::<TNode, Coupling, HostRuntime>(&rt, alloc, true)?;
-    let graph = closed.graph(alloc)?;
-    assert!(rt; is_right && chain_of(&graph) == 37 && live_nodes(&graph) == 75);
-    let (rounds, freed, closed) = compacted_chain::<TNode, Coupling, HostRuntime>(
-        &rt, alloc, true,
-    )?;
-    assert!(rt; rounds == 37 && freed == 74);
-    assert!(rt; is_root_alone(&closed.graph(alloc)?, 2));
-    let pairs = closed.pairs(alloc)?;
-    assert!(rt; pairs.as_slice() == [(5, 5), (30, 30)].as_slice());
-    Ok(())
-}
-
-#[test]
-fn a_chain_is_compacted_branch_by_branch_by_giving_up(rt: HostRuntime) -> Result<(), Fail> {
-    let alloc = rt.alloc();
-    let (rounds, freed, closed) = compacted_chain::<WithRange<TNode>, GiveUp, HostRuntime>(
-        &rt, alloc, true,
-    )?;
-    assert!(rt; rounds == 37 && freed == 74);
-    assert!(rt; is_root_alone(&closed.graph(alloc)?, 2));
-    let pairs = closed.pairs(alloc)?;
-    assert!(rt; pairs.as_slice() == [(5, 5), (30, 30)].as_slice());
+    go_right::<WithRange<TNode>, GiveUp, HostRuntime>(&rt, rt.alloc(), &BY_GIVING_UP)?;
     Ok(())
 }

@@ -1,32 +1,32 @@
 //! What a gate is notified of by a move of a value: of one beginning, also where the move restarts.
-ghost use Rattle.ks_dictionary.specs.Of.{IsIdlePassOf};
+ghost use Rattle.std.specs.Prelude.{◌<◌, length};
+ghost use Rattle.ks_arena.specs.Of.{SameCaller};
+ghost use Rattle.ks_dictionary.specs.Of.{AreOrderedPassesOf, IsIdlePassOf};
 
 use crate::dropped::puts_below;
-use ks_arena::Pass;
+use ks_arena::{Arena, Pass};
 use ks_bplus::BNode;
-use ks_crews::{LONG, two_callers};
+use ks_crews::LONG;
 use ks_dictionary::{Dictionary, Gated, Runtime};
-use ks_flow::Tree;
 use ks_gate::{Gate, Point, Stand};
 use ks_giveup::GiveUp;
-use ks_node::WithRange;
-use ks_shape::{MoveLeft, Numbered};
+use ks_node::{Node, WithRange};
+use ks_shape::{MoveLeft, Moving, Numbered, Ruled, Template};
+use std::alloc::{AllocError, Global};
 use std::sync::Wait;
 use std::sync::atomic::AtomicU64;
 use std::sync::atomic::Ordering::SeqCst;
 use std::test::Fail;
-use std::thread::{Threads, join};
+use std::thread::{Threads, for_each_mut};
 
-type Leaves = Dictionary<WithRange<BNode>, GiveUp>;
-
-type Caller = Pass<WithRange<BNode>, Tree>;
-
-/// A gate that may stop callers as another, and counts how often a call of caller 0 begins, and takes the root.
+/// A gate that may stop callers as another, and counts how often a call of caller 0 begins, and takes the root. Callers note
+/// here that their calls returned what they should.
 #[derive(Drop)]
 struct Counting {
     stand: Stand,
     begins: AtomicU64,
     roots: AtomicU64,
+    right: AtomicU64,
 }
 
 impl Counting {
@@ -35,12 +35,24 @@ impl Counting {
             stand,
             begins: AtomicU64::new(0),
             roots: AtomicU64::new(0),
+            right: AtomicU64::new(0),
         }
     }
 
-    /// Whether a call of caller 0 began once, and took the root `roots` times, and no stop failed.
-    fn has_counted(&self, roots: u64) -> bool {
-        self.begins.load(SeqCst) == 1 && self.roots.load(SeqCst) == roots && !self.stand.failed()
+    /// Counts a caller whose calls returned what they should.
+    fn note(&self, is_right: bool) {
+        if is_right {
+            self.right.fetch_add(1, SeqCst);
+        }
+    }
+
+    /// Whether a call of caller 0 began once, and took the root `roots` times, no stop failed, and the calls of this many
+    /// callers returned what they should.
+    fn has_counted(&self, roots: u64, callers: u64) -> bool {
+        self.begins.load(SeqCst) == 1
+            && self.roots.load(SeqCst) == roots
+            && self.right.load(SeqCst) == callers
+            && !self.stand.failed()
     }
 }
 
@@ -57,75 +69,130 @@ impl Gate for Counting {
 }
 
 /// Moves the value of key 3 to key 100. Returns whether it has this number, and the value is 3.
-fn moves<R: Runtime>(rt: &R, map: &Leaves, mut pass: Caller, number: u64) -> bool
-    requires { IsIdlePassOf map.now pass }
+fn moves<N: Node, T: Ruled + Moving<N, Arena<N, <T as Ruled>::Rule>>, R: Runtime>(
+    rt: &R,
+    map: &Dictionary<N, T>,
+    pass: &mut Pass<N, T::Rule>,
+    number: u64,
+) -> bool
+    requires { IsIdlePassOf map.now pass.old }
+    ensures pass { IsIdlePassOf map.now pass.new }
+    ensures caller { SameCaller pass.old pass.new }
 {
-    let moved = map.move_value(rt, &mut pass, 3, 100);
+    let moved = map.move_value(rt, pass, 3, 100);
     matches!(moved, Ok(Numbered { number: n, found: Some(3) }) if n == number)
 }
 
-/// Deletes key 0, and gets key 1.
-fn deletes<R: Runtime>(rt: &R, map: &Leaves, mut pass: Caller) -> bool
-    requires { IsIdlePassOf map.now pass }
+/// Deletes key 0, and gets key 1. Returns whether they have their own values.
+fn deletes<N: Node, T: Ruled + Template<N, Arena<N, <T as Ruled>::Rule>>, R: Runtime>(
+    rt: &R,
+    map: &Dictionary<N, T>,
+    pass: &mut Pass<N, T::Rule>,
+) -> bool
+    requires { IsIdlePassOf map.now pass.old }
+    ensures pass { IsIdlePassOf map.now pass.new }
+    ensures caller { SameCaller pass.old pass.new }
 {
-    let deleted = map.del(rt, &mut pass, 0);
-    let got = map.get(rt, &mut pass, 1);
+    let deleted = map.del(rt, pass, 0);
+    let got = map.get(rt, pass, 1);
     deleted.found == Some(0) && got.found == Some(1)
 }
 
-/// Both at once.
-fn both<R: Threads + Wait + Sync>(
-    rt: &R,
-    map: &Leaves,
-    one: Caller,
-    two: Caller,
-    gate: &Counting,
-    number: u64,
-) -> (bool, bool)
-    requires one { IsIdlePassOf map.now one }
-    requires two { IsIdlePassOf map.now two }
+/// Caller 0 moves, and another caller deletes. Returns whether the calls return what they should.
+fn acts<
+    N: Node,
+    T: Ruled + Template<N, Arena<N, <T as Ruled>::Rule>> + Moving<N, Arena<N, <T as Ruled>::Rule>>,
+    R: Runtime,
+>(rt: &R, map: &Dictionary<N, T>, at: usize, pass: &mut Pass<N, T::Rule>, number: u64) -> bool
+    requires { IsIdlePassOf map.now pass.old }
+    ensures pass { IsIdlePassOf map.now pass.new }
+    ensures caller { SameCaller pass.old pass.new }
 {
-    join(
-        rt,
-        move || -> bool
-            requires { IsIdlePassOf map.now one }
-        { moves(&Gated { rt, gate }, map, one, number) },
-        move || -> bool
-            requires { IsIdlePassOf map.now two }
-        { deletes(&Gated { rt, gate }, map, two) },
-    )
+    if at == 0 {
+        moves(rt, map, pass, number)
+    } else {
+        deletes(rt, map, pass)
+    }
 }
 
-/// The keys below 17 are in nodes 1 and 2. The move takes the root twice: once for each key.
-#[test]
-fn a_move_begins_once(rt: HostRuntime) -> Result<(), Fail> {
-    let (map, mut one, _) = two_callers::<WithRange<BNode>, GiveUp>(rt.alloc(), 64)?;
-    assert!(rt; puts_below(&rt, &map, &mut one, 17));
+/// Caller 0 puts the keys below 17, which are then in nodes 1 and 2.
+fn fills<N: Node, T: Ruled + Template<N, Arena<N, <T as Ruled>::Rule>>, R: Wait>(
+    rt: &R,
+    map: &Dictionary<N, T>,
+    passes: &mut [Pass<N, T::Rule>],
+) -> bool
+    requires some { 0 < length passes.old }
+    requires passes { AreOrderedPassesOf map.now passes.old }
+    ensures { AreOrderedPassesOf map.now passes.new }
+{
+    puts_below(rt, map, &mut passes[0], 17)
+}
+
+/// The keys below 17 are in nodes 1 and 2. Returns whether a move is right that takes the root twice: once for each key.
+fn begins_once<
+    N: Node,
+    T: Ruled + Template<N, Arena<N, <T as Ruled>::Rule>> + Moving<N, Arena<N, <T as Ruled>::Rule>>,
+    R: Wait,
+>(rt: &R, alloc: Global) -> Result<bool, AllocError> {
+    let (map, mut passes) = Dictionary::<N, T>::start(alloc, 64, 2)?;
+    let filled = puts_below(rt, &map, &mut passes[0], 17);
     let gate = Counting::of(Stand::of(0, 0, Point::Begin, 1, 0, LONG));
-    assert!(rt;
-        moves(
-            &Gated {
-                rt: &rt,
-                gate: &gate
-            },
-            &map,
-            one,
-            17
-        )
+    gate.note(moves(&Gated { rt, gate: &gate }, &map, &mut passes[0], 17));
+    Ok(filled && gate.has_counted(2, 1))
+}
+
+/// Both callers act at once: the move has this number.
+fn act_at_once<
+    N: Node + Send,
+    T: Ruled + Template<N, Arena<N, <T as Ruled>::Rule>> + Moving<N, Arena<N, <T as Ruled>::Rule>>,
+    R: Threads + Wait + Sync,
+>(rt: &R, map: &Dictionary<N, T>, passes: &mut [Pass<N, T::Rule>], gate: &Counting, number: u64)
+where
+    N::Places: Send + Sync,
+    requires some { 0 < length passes.old }
+    requires passes { AreOrderedPassesOf map.now passes.old }
+{
+    let threads = passes.len();
+    for_each_mut(
+        rt,
+        passes,
+        threads,
+        &|at: usize, pass: &mut Pass<N, T::Rule>|
+            requires { IsIdlePassOf map.now pass.old }
+            ensures pass { IsIdlePassOf map.entry.now pass.new }
+            ensures caller { SameCaller pass.old pass.new }
+        { gate.note(acts(&Gated { rt, gate }, map, at, pass, number)) },
     );
-    assert!(rt; gate.has_counted(2));
-    Ok(())
 }
 
 /// The move is stopped when it has released node 2, in which key 100 belongs. Caller 1 deletes a key: nodes 1 and 2 are
 /// merged, and the root takes over all. When the move has taken the root for key 3, node 2 is free: so it restarts, and takes
-/// the root once more, which has both.
+/// the root once more, which has both. Returns whether that is so.
+fn begins_once_when_it_restarts<
+    N: Node + Send,
+    T: Ruled + Template<N, Arena<N, <T as Ruled>::Rule>> + Moving<N, Arena<N, <T as Ruled>::Rule>>,
+    R: Threads + Wait + Sync,
+>(rt: &R, alloc: Global) -> Result<bool, AllocError>
+where
+    N::Places: Send + Sync,
+{
+    let (map, mut passes) = Dictionary::<N, T>::start(alloc, 64, 2)?;
+    let filled = fills(rt, &map, passes.as_mut_slice());
+    let gate = Counting::of(Stand::of(0, 0, Point::Given(2), 1, 2, LONG));
+    act_at_once(rt, &map, passes.as_mut_slice(), &gate, 19);
+    Ok(filled && gate.has_counted(3, 2))
+}
+
+#[test]
+fn a_move_begins_once(rt: HostRuntime) -> Result<(), Fail> {
+    assert!(rt; begins_once::<WithRange<BNode>, GiveUp, HostRuntime>(&rt, rt.alloc())?);
+    Ok(())
+}
+
 #[test]
 fn a_move_that_restarts_begins_once(rt: HostRuntime) -> Result<(), Fail> {
-    let (map, mut one, two) = two_callers::<WithRange<BNode>, GiveUp>(rt.alloc(), 64)?;
-    assert!(rt; puts_below(&rt, &map, &mut one, 17));
-    let gate = Counting::of(Stand::of(0, 0, Point::Given(2), 1, 2, LONG));
-    assert!(rt; both(&rt, &map, one, two, &gate, 19) == (true, true));
-    assert!(rt; gate.has_counted(3));
+    assert!(rt;
+        begins_once_when_it_restarts::<WithRange<BNode>, GiveUp, HostRuntime>(&rt, rt.alloc())?
+    );
     Ok(())
 }

@@ -12,6 +12,7 @@ use ks_list::ListNode;
 use ks_node::{Node, WithRange};
 use ks_shape::{Compacting, Full, MoveLeft, Moving, Numbered, Ruled, Template};
 use std::alloc::{AllocError, Global};
+use std::process::Abort;
 use std::sync::Wait;
 use std::test::Fail;
 
@@ -84,10 +85,7 @@ fn of_move(moved: Result<Numbered, MoveLeft>) -> Answer {
 /// Makes a call. A move to the same key is made as a get.
 fn make<
     N: Node,
-    T: Ruled
-        + Template<N, Arena<N, <T as Ruled>::Rule>>
-        + Moving<N, Arena<N, <T as Ruled>::Rule>>
-        + Compacting<N, Arena<N, <T as Ruled>::Rule>>,
+    T: Ruled + Template<N, Arena<N, <T as Ruled>::Rule>> + Moving<N, Arena<N, <T as Ruled>::Rule>>,
     R: Wait,
 >(rt: &R, map: &Dictionary<N, T>, pass: &mut Pass<N, T::Rule>, call: Call) -> Answer
     requires { IsIdlePassOf map.now pass.old }
@@ -110,14 +108,11 @@ fn make<
 }
 
 /// Compacts until no node is made free.
-fn compact<
-    N: Node,
-    T: Ruled
-        + Template<N, Arena<N, <T as Ruled>::Rule>>
-        + Moving<N, Arena<N, <T as Ruled>::Rule>>
-        + Compacting<N, Arena<N, <T as Ruled>::Rule>>,
-    R: Wait,
->(rt: &R, map: &Dictionary<N, T>, pass: &mut Pass<N, T::Rule>)
+fn compact<N: Node, T: Ruled + Compacting<N, Arena<N, <T as Ruled>::Rule>>, R: Wait>(
+    rt: &R,
+    map: &Dictionary<N, T>,
+    pass: &mut Pass<N, T::Rule>,
+)
     requires { IsIdlePassOf map.now pass.old }
     ensures { IsIdlePassOf map.now pass.new }
 {
@@ -131,10 +126,7 @@ fn compact<
 /// Puts ascending keys until there is no room for the next. Returns for how many there was.
 fn fill<
     N: Node,
-    T: Ruled
-        + Template<N, Arena<N, <T as Ruled>::Rule>>
-        + Moving<N, Arena<N, <T as Ruled>::Rule>>
-        + Compacting<N, Arena<N, <T as Ruled>::Rule>>,
+    T: Ruled + Template<N, Arena<N, <T as Ruled>::Rule>> + Moving<N, Arena<N, <T as Ruled>::Rule>>,
     R: Wait,
 >(rt: &R, map: &Dictionary<N, T>, pass: &mut Pass<N, T::Rule>) -> u64
     requires { IsIdlePassOf map.now pass.old }
@@ -152,9 +144,8 @@ fn fill<
 fn empty<
     N: Node,
     T: Ruled
-        + Template<N, Arena<N, <T as Ruled>::Rule>>
-        + Moving<N, Arena<N, <T as Ruled>::Rule>>
-        + Compacting<N, Arena<N, <T as Ruled>::Rule>>,
+        + Compacting<N, Arena<N, <T as Ruled>::Rule>>
+        + Moving<N, Arena<N, <T as Ruled>::Rule>>,
     R: Wait,
 >(rt: &R, map: &Dictionary<N, T>, pass: &mut Pass<N, T::Rule>, many: u64)
     requires { IsIdlePassOf map.now pass.old }
@@ -170,10 +161,7 @@ fn empty<
 /// it may only be full where it brings a key.
 fn play<
     N: Node,
-    T: Ruled
-        + Template<N, Arena<N, <T as Ruled>::Rule>>
-        + Moving<N, Arena<N, <T as Ruled>::Rule>>
-        + Compacting<N, Arena<N, <T as Ruled>::Rule>>,
+    T: Ruled + Template<N, Arena<N, <T as Ruled>::Rule>> + Moving<N, Arena<N, <T as Ruled>::Rule>>,
     R: Wait,
 >(
     rt: &R,
@@ -201,10 +189,7 @@ fn play<
 /// Whether each key below `keys` has the value that it has in the plain map.
 fn is_same<
     N: Node,
-    T: Ruled
-        + Template<N, Arena<N, <T as Ruled>::Rule>>
-        + Moving<N, Arena<N, <T as Ruled>::Rule>>
-        + Compacting<N, Arena<N, <T as Ruled>::Rule>>,
+    T: Ruled + Template<N, Arena<N, <T as Ruled>::Rule>> + Moving<N, Arena<N, <T as Ruled>::Rule>>,
     R: Wait,
 >(rt: &R, map: &Dictionary<N, T>, pass: &mut Pass<N, T::Rule>, plain: &Plain, keys: u64) -> bool
     requires { IsIdlePassOf map.now pass.old }
@@ -223,9 +208,8 @@ fn is_same<
 fn goes_right<
     N: Node,
     T: Ruled
-        + Template<N, Arena<N, <T as Ruled>::Rule>>
-        + Moving<N, Arena<N, <T as Ruled>::Rule>>
-        + Compacting<N, Arena<N, <T as Ruled>::Rule>>,
+        + Compacting<N, Arena<N, <T as Ruled>::Rule>>
+        + Moving<N, Arena<N, <T as Ruled>::Rule>>,
     R: Wait,
 >(
     rt: &R,
@@ -247,57 +231,44 @@ fn goes_right<
     Ok(agrees && same && fill(rt, map, pass) == room)
 }
 
-/// Whether all trials go right, and what moves did in them.
+/// All trials go right, and moves did in them what moves can do.
 fn all_go_right<
     N: Node,
     T: Ruled
-        + Template<N, Arena<N, <T as Ruled>::Rule>>
-        + Moving<N, Arena<N, <T as Ruled>::Rule>>
-        + Compacting<N, Arena<N, <T as Ruled>::Rule>>,
-    R: Wait,
->(rt: &R, alloc: Global) -> Result<(bool, Moves), AllocError> {
+        + Compacting<N, Arena<N, <T as Ruled>::Rule>>
+        + Moving<N, Arena<N, <T as Ruled>::Rule>>,
+    R: Wait + Abort,
+>(rt: &R, alloc: Global, trials: &[(u32, u64)]) -> Result<(), AllocError> {
     let mut moves = Moves::none();
-    for (nodes, keys) in TRIALS {
-        let nodes = nodes.clamp(4, 64);
-        let (map, mut passes) = Dictionary::<N, T>::start(alloc, nodes, 1)?;
-        if !goes_right(rt, &map, &mut passes[0], alloc, keys, &mut moves)? {
-            return Ok((false, moves));
-        }
+    for (nodes, keys) in trials {
+        let (map, mut passes) = Dictionary::<N, T>::start(alloc, (*nodes).clamp(4, 64), 1)?;
+        let is_right = goes_right(rt, &map, &mut passes[0], alloc, *keys, &mut moves)?;
+        assert!(rt; is_right, "{nodes} nodes, {keys} keys");
     }
-    Ok((true, moves))
+    assert!(rt; moves.has_each());
+    Ok(())
 }
 
 #[test]
 fn drawn_moves_over_lists(rt: HostRuntime) -> Result<(), Fail> {
-    let (is_right, moves) = all_go_right::<WithRange<ListNode>, GiveUp, HostRuntime>(
-        &rt,
-        rt.alloc(),
-    )?;
-    assert!(rt; is_right);
-    assert!(rt; moves.has_each());
+    all_go_right::<WithRange<ListNode>, GiveUp, HostRuntime>(&rt, rt.alloc(), &TRIALS)?;
     Ok(())
 }
 
 #[test]
 fn drawn_moves_over_trees(rt: HostRuntime) -> Result<(), Fail> {
-    let (is_right, moves) = all_go_right::<WithRange<BNode>, GiveUp, HostRuntime>(&rt, rt.alloc())?;
-    assert!(rt; is_right);
-    assert!(rt; moves.has_each());
+    all_go_right::<WithRange<BNode>, GiveUp, HostRuntime>(&rt, rt.alloc(), &TRIALS)?;
     Ok(())
 }
 
 #[test]
 fn drawn_moves_over_tables(rt: HostRuntime) -> Result<(), Fail> {
-    let (is_right, moves) = all_go_right::<WithRange<HNode>, GiveUp, HostRuntime>(&rt, rt.alloc())?;
-    assert!(rt; is_right);
-    assert!(rt; moves.has_each());
+    all_go_right::<WithRange<HNode>, GiveUp, HostRuntime>(&rt, rt.alloc(), &TRIALS)?;
     Ok(())
 }
 
 #[test]
 fn drawn_moves_over_binary_trees(rt: HostRuntime) -> Result<(), Fail> {
-    let (is_right, moves) = all_go_right::<WithRange<TNode>, GiveUp, HostRuntime>(&rt, rt.alloc())?;
-    assert!(rt; is_right);
-    assert!(rt; moves.has_each());
+    all_go_right::<WithRange<TNode>, GiveUp, HostRuntime>(&rt, rt.alloc(), &TRIALS)?;
     Ok(())
 }

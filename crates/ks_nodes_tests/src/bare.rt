@@ -32,7 +32,7 @@ pub fn filled<N: Node>(rt: &impl Abort, alloc: Global, first: u64, end: u64) -> 
     let mut node = blank::<N>(rt, alloc);
     for place in first..end {
         assert!(rt; !node.is_full());
-        assert_eq!(rt; node.put(place, place as u128), None);
+        assert!(rt; node.put(place, place as u128) == None);
     }
     node
 }

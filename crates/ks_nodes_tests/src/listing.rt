@@ -9,9 +9,13 @@ const ENDS: [u64; 9] = [0, 3, 4, 5, 31, 32, 60, 61, u64::MAX];
 
 /// The node lists of each span its pairs there, in order, and no other. Spans that run backwards are among them.
 pub fn lists<N: Listed>(rt: &impl Abort, node: &N) {
-    for low in ENDS {
-        for last in ENDS {
-            lists_span(rt, node, low, last);
+    lists_between(rt, node, &ENDS);
+}
+
+fn lists_between<N: Listed>(rt: &impl Abort, node: &N, ends: &[u64]) {
+    for low in ends {
+        for last in ends {
+            lists_span(rt, node, *low, *last);
         }
     }
 }
@@ -24,9 +28,9 @@ fn lists_span<N: Listed>(rt: &impl Abort, node: &N, low: u64, last: u64) {
         let pair = node.pair_at(n);
         if low <= pair.place && pair.place <= last {
             assert!(rt; listed < few.len());
-            assert_eq!(rt; few.pair(listed), pair);
+            assert!(rt; few.pair(listed) == pair, "from {low} to {last}");
             listed += 1;
         }
     }
-    assert_eq!(rt; listed, few.len());
+    assert!(rt; listed == few.len(), "from {low} to {last}");
 }

@@ -1,26 +1,32 @@
-ghost use Rattle.std.specs.Prelude.{◌<◌};
+//! What the nodes of each type do: one test for each type, of a function that is generic in it.
+
+ghost use Rattle.std.specs.Prelude.{◌<◌, ◌≡◌, false};
 
 use crate::asked;
 use crate::listing::lists;
 use crate::trial::Trial;
+use crate::worked::{
+    forgets_its_right_child, grows_forgets_and_collapses, grows_to_a_fork, is_full_with_two,
+    lists_spans, splits_and_absorbs, splits_and_adopts, splits_two,
+};
 use ks_boxed::Boxed;
 use ks_bplus::BNode;
 use ks_bst::TNode;
 use ks_hash::HNode;
 use ks_linked::WithLink;
 use ks_list::ListNode;
-use ks_node::{Growing, Linked, Listed, Node, Ranged, Unlinked, WithRange};
+use ks_node::{Growing, Linked, Listed, Node, Ordered, Ranged, Unlinked, WithRange};
 use std::alloc::Global;
 use std::process::Abort;
 
 /// The places of a smallest slice of a directory.
 const SLICE: u64 = 0x0400_0000_0000_0000;
 
+/// A blank node keeps a pair.
 fn keeps_a_pair<N: Node>(rt: &impl Abort, alloc: Global) {
     let mut node = asked::blank::<N>(rt, alloc);
-    assert_eq!(rt; asked::put_first(rt, &mut node, 3, 30), None);
-    assert_eq!(rt; node.get(3), Some(30));
-    assert_eq!(rt; node.get(4), None);
+    assert!(rt; asked::put_first(rt, &mut node, 3, 30) == None);
+    assert!(rt; node.get(3) == Some(30) && node.get(4) == None);
 }
 
 /// A blank node grows, before it has a pair.
@@ -43,7 +49,7 @@ fn goes_right<N: Linked>(rt: &impl Abort, alloc: Global, length: u64, step: usiz
     left.links_to(rt, &third, 3);
     third.links_to(rt, &right, 2);
     right.links_to(rt, &fourth, 4);
-    assert_eq!(rt; fourth.node.link(), None);
+    assert!(rt; fourth.node.link() == None);
     root.adopt(rt, 48, 4);
     root.adopt(rt, 16, 3);
     root.adopt_dozen(rt);
@@ -121,8 +127,8 @@ fn chains<N: Unlinked + Ranged>(rt: &impl Abort, alloc: Global, length: u64) {
 fn lists_few<N: Listed>(rt: &impl Abort, alloc: Global) {
     let mut node = asked::blank::<N>(rt, alloc);
     lists(rt, &node);
-    assert_eq!(rt; asked::put(rt, &mut node, 4, 40), None);
-    assert_eq!(rt; asked::put(rt, &mut node, u64::MAX, 7), None);
+    assert!(rt; asked::put(rt, &mut node, 4, 40) == None);
+    assert!(rt; asked::put(rt, &mut node, u64::MAX, 7) == None);
     lists(rt, &node);
 }
 
@@ -148,64 +154,136 @@ fn lists_when_grown_linked<N: Linked + Listed>(rt: &impl Abort, alloc: Global) {
     lists(rt, &right.node);
 }
 
-// (those with only a range or only a link begin blank, and are filled, in the tests below)
-#[test]
-fn blank_list_nodes_keep_a_pair(rt: HostRuntime) {
-    keeps_a_pair::<ListNode>(&rt, rt.alloc());
-    keeps_a_pair::<WithRange<ListNode>>(&rt, rt.alloc());
-    keeps_a_pair::<WithRange<WithRange<ListNode>>>(&rt, rt.alloc());
+/// What list nodes without a range do.
+fn does_as_a_list<N: Unlinked>(rt: &impl Abort, alloc: Global)
+    requires { N.ranged ≡ false }
+{
+    keeps_a_pair::<N>(rt, alloc);
+    splits_and_adopts::<N>(rt, alloc);
 }
 
-#[test]
-fn a_blank_b_plus_node_keeps_a_pair(rt: HostRuntime) {
-    keeps_a_pair::<BNode>(&rt, rt.alloc());
+/// What list nodes with a range do.
+fn does_as_a_list_with_a_range<N: Unlinked + Ranged>(rt: &impl Abort, alloc: Global) {
+    keeps_a_pair::<N>(rt, alloc);
+    chains::<N>(rt, alloc, 1);
 }
 
-#[test]
-fn other_blank_nodes_keep_a_pair(rt: HostRuntime) {
-    keeps_a_pair::<HNode>(&rt, rt.alloc());
-    keeps_a_pair::<TNode>(&rt, rt.alloc());
-    keeps_a_pair::<Boxed<BNode>>(&rt, rt.alloc());
-    keeps_a_pair::<WithLink<WithRange<BNode>>>(&rt, rt.alloc());
+/// What B+ nodes without a range do.
+fn does_as_a_b_plus_node<N: Growing + Ordered>(rt: &impl Abort, alloc: Global)
+    requires { N.ranged ≡ false }
+{
+    keeps_a_pair::<N>(rt, alloc);
+    grows_when_blank::<N>(rt, alloc);
+    splits_and_absorbs::<N>(rt, alloc);
+    lists_spans::<N>(rt, alloc);
+    grows_forgets_and_collapses::<N>(rt, alloc);
 }
 
-#[test]
-fn blank_nodes_grow(rt: HostRuntime) {
-    grows_when_blank::<BNode>(&rt, rt.alloc());
-    grows_when_blank::<HNode>(&rt, rt.alloc());
+/// What B+ nodes with a range do.
+fn does_as_a_b_plus_node_with_a_range<N: Unlinked + Listed>(rt: &impl Abort, alloc: Global) {
+    merges::<N>(rt, alloc, 1, 4);
+    branches_merge::<N>(rt, alloc);
+    lists_when_grown::<N>(rt, alloc);
 }
 
-#[test]
-fn linked_nodes_split_to_the_right_and_the_root_grows(rt: HostRuntime) {
-    let mut root = goes_right::<WithLink<BNode>>(&rt, rt.alloc(), 1, 4);
-    let _ = root.grow_link(&rt, rt.alloc(), 32, [5, 6]);
-    assert_eq!(rt; root.node.level(), 2);
-    let root = goes_right::<WithLink<HNode>>(&rt, rt.alloc(), SLICE, 8);
+/// What B+ nodes with a link do.
+fn does_as_a_b_plus_node_with_a_link<N: Linked + Listed>(rt: &impl Abort, alloc: Global) {
+    let mut root = goes_right::<N>(rt, alloc, 1, 4);
+    let _ = root.grow_link(rt, alloc, 32, [5, 6]);
+    assert!(rt; root.node.level() == 2);
+    lists_few::<N>(rt, alloc);
+    lists_when_grown_linked::<N>(rt, alloc);
+}
+
+/// What hash nodes without a range do.
+fn does_as_a_hash_node<N: Growing>(rt: &impl Abort, alloc: Global) {
+    keeps_a_pair::<N>(rt, alloc);
+    grows_when_blank::<N>(rt, alloc);
+}
+
+/// What hash nodes with a range do.
+fn does_as_a_hash_node_with_a_range<N: Unlinked + Ranged>(rt: &impl Abort, alloc: Global) {
+    merges::<N>(rt, alloc, SLICE, 8);
+    chains::<N>(rt, alloc, SLICE);
+}
+
+/// What hash nodes with a link do.
+fn does_as_a_hash_node_with_a_link<N: Linked>(rt: &impl Abort, alloc: Global) {
+    let root = goes_right::<N>(rt, alloc, SLICE, 8);
     assert!(rt; !root.node.is_full());
 }
 
-#[test]
-fn nodes_with_a_range_split_and_merge(rt: HostRuntime) {
-    merges::<WithRange<BNode>>(&rt, rt.alloc(), 1, 4);
-    merges::<WithRange<HNode>>(&rt, rt.alloc(), SLICE, 8);
-    branches_merge::<WithRange<BNode>>(&rt, rt.alloc());
+/// What nodes of binary trees without a range do.
+fn does_as_a_binary_tree<N: Unlinked>(rt: &impl Abort, alloc: Global)
+    requires { N.ranged ≡ false }
+{
+    keeps_a_pair::<N>(rt, alloc);
+    is_full_with_two::<N>(rt, alloc);
+    splits_two::<N>(rt, alloc);
+    grows_to_a_fork::<N>(rt, alloc);
+    forgets_its_right_child::<N>(rt, alloc);
+}
+
+/// What nodes of binary trees with a range do.
+fn does_as_a_binary_tree_with_a_range<N: Unlinked + Ranged>(rt: &impl Abort, alloc: Global) {
+    grows_below::<N>(rt, alloc, 1);
+    grows_below::<N>(rt, alloc, SLICE);
 }
 
 #[test]
-fn nodes_with_a_range_grow_below_the_root(rt: HostRuntime) {
-    grows_below::<WithRange<TNode>>(&rt, rt.alloc(), 1);
-    grows_below::<WithRange<TNode>>(&rt, rt.alloc(), SLICE);
+fn a_list_keeps_a_pair_splits_and_adopts(rt: HostRuntime) {
+    does_as_a_list::<ListNode>(&rt, rt.alloc());
 }
 
 #[test]
-fn nodes_with_a_range_chain_and_merge(rt: HostRuntime) {
-    chains::<WithRange<ListNode>>(&rt, rt.alloc(), 1);
-    chains::<WithRange<HNode>>(&rt, rt.alloc(), SLICE);
+fn a_list_with_a_range_keeps_a_pair_and_chains(rt: HostRuntime) {
+    does_as_a_list_with_a_range::<WithRange<ListNode>>(&rt, rt.alloc());
 }
 
 #[test]
-fn nodes_list_the_pairs_of_spans(rt: HostRuntime) {
-    lists_few::<WithLink<BNode>>(&rt, rt.alloc());
-    lists_when_grown::<WithRange<BNode>>(&rt, rt.alloc());
-    lists_when_grown_linked::<WithLink<BNode>>(&rt, rt.alloc());
+fn a_b_plus_node_keeps_a_pair_splits_absorbs_lists_and_collapses(rt: HostRuntime) {
+    does_as_a_b_plus_node::<BNode>(&rt, rt.alloc());
+}
+
+#[test]
+fn a_b_plus_node_with_a_range_splits_merges_and_lists(rt: HostRuntime) {
+    does_as_a_b_plus_node_with_a_range::<WithRange<BNode>>(&rt, rt.alloc());
+}
+
+#[test]
+fn a_b_plus_node_with_a_link_splits_to_the_right_grows_and_lists(rt: HostRuntime) {
+    does_as_a_b_plus_node_with_a_link::<WithLink<BNode>>(&rt, rt.alloc());
+}
+
+#[test]
+fn a_hash_node_keeps_a_pair_and_grows(rt: HostRuntime) {
+    does_as_a_hash_node::<HNode>(&rt, rt.alloc());
+}
+
+#[test]
+fn a_hash_node_with_a_range_splits_merges_and_chains(rt: HostRuntime) {
+    does_as_a_hash_node_with_a_range::<WithRange<HNode>>(&rt, rt.alloc());
+}
+
+#[test]
+fn a_hash_node_with_a_link_splits_to_the_right(rt: HostRuntime) {
+    does_as_a_hash_node_with_a_link::<WithLink<HNode>>(&rt, rt.alloc());
+}
+
+#[test]
+fn a_leaf_of_a_binary_tree_is_full_with_two_pairs_splits_and_grows(rt: HostRuntime) {
+    does_as_a_binary_tree::<TNode>(&rt, rt.alloc());
+}
+
+#[test]
+fn a_binary_tree_with_a_range_grows_below_the_root(rt: HostRuntime) {
+    does_as_a_binary_tree_with_a_range::<WithRange<TNode>>(&rt, rt.alloc());
+}
+
+// (those with only a range or only a link begin blank, and are filled, in the tests above)
+#[test]
+fn blank_nodes_in_other_wrappers_keep_a_pair(rt: HostRuntime) {
+    keeps_a_pair::<WithRange<WithRange<ListNode>>>(&rt, rt.alloc());
+    keeps_a_pair::<Boxed<BNode>>(&rt, rt.alloc());
+    keeps_a_pair::<WithLink<WithRange<BNode>>>(&rt, rt.alloc());
 }

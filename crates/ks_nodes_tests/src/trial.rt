@@ -45,11 +45,11 @@ fn has_pairs<N: Node>(rt: &impl Abort, node: &N, plain: &Plain) {
     for i in 0..COUNT {
         if let Some(pair) = plain.pair(i) {
             assert!(rt; held < node.pairs_held());
-            assert_eq!(rt; node.pair_at(held), pair);
+            assert!(rt; node.pair_at(held) == pair);
             held += 1;
         }
     }
-    assert_eq!(rt; held, node.pairs_held());
+    assert!(rt; held == node.pairs_held());
 }
 
 /// Compares the edges of the record.
@@ -58,11 +58,11 @@ fn has_edges<N: Node>(rt: &impl Abort, node: &N, plain: &Plain) {
     for i in 0..COUNT {
         if let Some(edge) = plain.edge(i) {
             assert!(rt; held < node.edges_held());
-            assert_eq!(rt; node.edge_at(held), edge);
+            assert!(rt; node.edge_at(held) == edge);
             held += 1;
         }
     }
-    assert_eq!(rt; held, node.edges_held());
+    assert!(rt; held == node.edges_held());
 }
 
 impl<N: Ranged> Trial<N> {
@@ -75,11 +75,10 @@ impl<N: Ranged> Trial<N> {
 
     /// Compares the range, the record, and what a search finds in each stretch.
     pub fn agrees(&self, rt: &impl Abort) {
-        assert_eq!(rt; self.node.range(), self.plain.range());
+        assert!(rt; self.node.range() == self.plain.range());
         for i in 0..COUNT {
-            assert_eq!(rt;
-                told(&self.node, self.plain.first(i)),
-                self.plain.told[i],
+            assert!(rt;
+                told(&self.node, self.plain.first(i)) == self.plain.told[i],
                 "stretch {i}"
             );
         }
@@ -94,7 +93,7 @@ impl<N: Ranged> Trial<N> {
         for i in 0..COUNT {
             if begin <= i && i < end && (i - begin) % step == 0 {
                 let place = self.plain.first(i);
-                assert_eq!(rt; asked::put(rt, &mut self.node, place, i as u128), None);
+                assert!(rt; asked::put(rt, &mut self.node, place, i as u128) == None);
                 self.plain.set(i, Told::Value(i as u128));
             }
         }
@@ -108,7 +107,7 @@ impl<N: Ranged> Trial<N> {
         for i in 0..COUNT {
             if begin <= i && i < end && (i - begin) % step == 0 {
                 let place = self.plain.first(i);
-                assert_eq!(rt; asked::del(rt, &mut self.node, place), Some(i as u128));
+                assert!(rt; asked::del(rt, &mut self.node, place) == Some(i as u128));
                 self.plain.set(i, Told::Nothing);
             }
         }
@@ -193,8 +192,8 @@ impl<N: Linked> Trial<N> {
     /// Compares level and link as well.
     pub fn agrees_linked(&self, rt: &impl Abort) {
         self.agrees(rt);
-        assert_eq!(rt; self.node.level(), self.plain.level);
-        assert_eq!(rt; self.node.link(), self.plain.link);
+        assert!(rt; self.node.level() == self.plain.level);
+        assert!(rt; self.node.link() == self.plain.link);
     }
 
     /// Splits at a stretch and links to the right node.
@@ -232,7 +231,7 @@ impl<N: Linked> Trial<N> {
 
     /// A search for what another node has is led to it, by the link.
     pub fn links_to(&self, rt: &impl Abort, right: &Trial<N>, id: u32) {
-        assert_eq!(rt; self.node.link(), Some(id));
-        assert_eq!(rt; told(&self.node, right.node.range().low), Told::Lead(id));
+        assert!(rt; self.node.link() == Some(id));
+        assert!(rt; told(&self.node, right.node.range().low) == Told::Lead(id));
     }
 }

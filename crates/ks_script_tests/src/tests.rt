@@ -9,81 +9,141 @@ use std::test::*;
 
 mod scans;
 
-const RUN: &[u8] = b"caller 0\n0 none\n1 50\nmap\n5 50\nend\n";
-
-// The run that RUN is the text of.
-fn small_run(alloc: Global) -> Result<Printed, Fail> {
-    let mut calls = Replies::new(alloc);
-    calls.push(Said::Call(0, Reply::Nothing))?;
-    calls.push(Said::Call(1, Reply::Value(50)))?;
-    let mut callers = Vec::new(alloc);
-    callers.push(calls)?;
-    let mut pairs = Vec::new(alloc);
-    pairs.push((5, 50))?;
-    Ok(Printed { callers, pairs })
+/// Whether a script is refused at this line.
+fn is_refused(alloc: Global, text: &[u8], line: u64) -> bool {
+    read_script(alloc, text).err() == Some(TextFault::Refused { line })
 }
 
-// Whether these are the calls.
-fn has_calls(calls: &Calls, ops: &[Op]) -> bool {
-    for (at, op) in ops.iter().enumerate() {
-        if at >= calls.len() || calls.get(at) != Line::Call(*op) {
+/// Whether a script with its run is refused at this line.
+fn is_refused_in_check(alloc: Global, text: &[u8], line: u64) -> bool {
+    read_checked(alloc, text).err() == Some(TextFault::Refused { line })
+}
+
+/// Each script is refused, at its line.
+fn are_refused(rt: &impl Abort, alloc: Global, rows: &[(&str, u64)]) {
+    for (text, line) in rows {
+        assert!(rt; is_refused(alloc, text.as_bytes(), *line), "{text:?}");
+    }
+}
+
+/// Each script with its run is refused, at its line.
+fn are_refused_in_check(rt: &impl Abort, alloc: Global, rows: &[(&str, u64)]) {
+    for (text, line) in rows {
+        assert!(rt;
+            is_refused_in_check(alloc, text.as_bytes(), *line),
+            "{text:?}"
+        );
+    }
+}
+
+/// Whether these are the lines.
+fn has_lines(calls: &Calls, lines: &[Line]) -> bool {
+    for (at, line) in lines.iter().enumerate() {
+        if at >= calls.len() || calls.get(at) != *line {
             return false;
         }
     }
-    calls.len() == ops.len()
+    calls.len() == lines.len()
 }
 
-fn is_refused(rt: &impl Abort, alloc: Global, text: &[u8], line: u64) {
-    let fault = read_script(alloc, text).err();
-    assert_eq!(rt; fault, Some(TextFault::Refused { line }));
-}
-
-fn is_refused_in_check(rt: &impl Abort, alloc: Global, text: &[u8], line: u64) {
-    let fault = read_checked(alloc, text).err();
-    assert_eq!(rt; fault, Some(TextFault::Refused { line }));
-}
-
-#[test]
-fn a_script_is_read_without_its_last_end(rt: HostRuntime) -> Result<(), Fail> {
-    let script = read_script(rt.alloc(), b"caller\nget 1")
-        .ok()
-        .ok_or("it is a script")?;
-    assert_eq!(rt; script.callers.len(), 1);
+/// Whether a script is read, as one caller with these lines.
+fn is_read(alloc: Global, text: &[u8], lines: &[Line]) -> bool {
+    let Ok(script) = read_script(alloc, text) else {
+        return false;
+    };
     for calls in &script.callers {
-        assert!(rt; has_calls(calls, [Op::Get(1)].as_slice()));
+        if !has_lines(calls, lines) {
+            return false;
+        }
     }
+    script.callers.len() == 1
+}
+
+/// Each script is read, as one caller with these lines.
+fn are_read(rt: &impl Abort, alloc: Global, rows: &[(&str, &[Line])]) {
+    for (text, lines) in rows {
+        assert!(rt; is_read(alloc, text.as_bytes(), lines), "{text:?}");
+    }
+}
+
+/// Whether each line is of a call, and these are their numbers and replies.
+fn has_replies(lines: &Replies, replies: &[(u64, Reply)]) -> bool {
+    for (at, reply) in replies.iter().enumerate() {
+        if at >= lines.len() {
+            return false;
+        }
+        match lines.scan_at(at) {
+            Some(_) => return false,
+            None => {
+                if lines.number_at(at) != reply.0 || lines.call_at(at) != *reply {
+                    return false;
+                }
+            }
+        }
+    }
+    lines.len() == replies.len()
+}
+
+/// A script of one caller and its run are read: these are the replies, and the pairs of the map.
+fn is_read_in_check(
+    rt: &impl Abort,
+    alloc: Global,
+    text: &str,
+    replies: &[(u64, Reply)],
+    pairs: &[(u64, u128)],
+) -> Result<(), Fail> {
+    let (script, printed) = read_checked(alloc, text.as_bytes())
+        .ok()
+        .ok_or("it is a script and a run")?;
+    assert_eq!(rt; script.callers.len(), 1);
+    assert_eq!(rt; printed.callers.len(), 1);
+    for lines in &printed.callers {
+        assert!(rt; has_replies(lines, replies));
+    }
+    assert_eq!(rt; printed.pairs.as_slice(), pairs);
     Ok(())
 }
 
+/// Scripts whose last line no byte 10 ends.
+const WITHOUT_END: [(&str, &[Line]); 1] = [("caller\nget 1", &[Line::Call(Op::Get(1))])];
+
+#[test]
+fn a_script_is_read_without_its_last_end(rt: HostRuntime) {
+    are_read(&rt, rt.alloc(), &WITHOUT_END);
+}
+
+/// Lines of no script, each with the number of the line.
+const NO_LINES: [(&str, u64); 10] = [
+    ("caller\nput  1 2\n", 2),
+    ("caller\nput 1\n", 2),
+    ("caller\nget 1 \n", 2),
+    ("caller\n\n", 2),
+    ("caller\nget -1\n", 2),
+    ("caller\nget 00\n", 2),
+    ("caller\nget 1\r\n", 2),
+    ("caller\nput 1 18446744073709551616\n", 2),
+    ("put 1 2\ncaller\n", 1),
+    ("CALLER\n", 1),
+];
+
 #[test]
 fn lines_that_are_none_are_refused(rt: HostRuntime) {
-    let alloc = rt.alloc();
-    is_refused(&rt, alloc, b"caller\nput  1 2\n", 2);
-    is_refused(&rt, alloc, b"caller\nput 1\n", 2);
-    is_refused(&rt, alloc, b"caller\nget 1 \n", 2);
-    is_refused(&rt, alloc, b"caller\n\n", 2);
-    is_refused(&rt, alloc, b"caller\nget -1\n", 2);
-    is_refused(&rt, alloc, b"caller\nget 00\n", 2);
-    is_refused(&rt, alloc, b"caller\nget 1\r\n", 2);
-    is_refused(&rt, alloc, b"caller\nput 1 18446744073709551616\n", 2);
-    is_refused(&rt, alloc, b"put 1 2\ncaller\n", 1);
-    is_refused(&rt, alloc, b"CALLER\n", 1);
+    are_refused(&rt, rt.alloc(), &NO_LINES);
 }
+
+/// A script of the second version.
+const SECOND: [(&str, &[Line]); 1] = [(
+    "script 2\ncaller\nadd 5 1\nswap 5 1 340282366920938463463374607431768211455\nput 1 18446744073709551616\n",
+    &[
+        Line::Call(Op::Add(5, 1)),
+        Line::Call(Op::Swap(5, 1, 340282366920938463463374607431768211455)),
+        Line::Call(Op::Put(1, 18446744073709551616)),
+    ],
+)];
 
 #[test]
 fn a_script_of_the_second_version_is_read(rt: HostRuntime) -> Result<(), Fail> {
-    let text =
-        b"script 2\ncaller\nadd 5 1\nswap 5 1 340282366920938463463374607431768211455\nput 1 18446744073709551616\n";
-    let script = read_script(rt.alloc(), text).ok().ok_or("it is a script")?;
-    assert_eq!(rt; script.callers.len(), 1);
-    let calls = [
-        Op::Add(5, 1),
-        Op::Swap(5, 1, 340282366920938463463374607431768211455),
-        Op::Put(1, 18446744073709551616),
-    ];
-    for ops in &script.callers {
-        assert!(rt; has_calls(ops, calls.as_slice()));
-    }
+    are_read(&rt, rt.alloc(), &SECOND);
     let empty = read_script(rt.alloc(), b"script 2")
         .ok()
         .ok_or("it is a script")?;
@@ -91,174 +151,146 @@ fn a_script_of_the_second_version_is_read(rt: HostRuntime) -> Result<(), Fail> {
     Ok(())
 }
 
-// Numbers of 1, 8, 9, 16, 17, 20, 32 and 39 digits, the greatest ones among them, and a last line that no byte 10 ends.
-#[test]
-fn numbers_of_all_lengths_are_read(rt: HostRuntime) -> Result<(), Fail> {
-    let text = b"script 2
+/// Numbers of 1, 8, 9, 16, 17, 20, 32 and 39 digits, the greatest ones among them, and a last line that no byte 10 ends.
+const NUMBERS: [(&str, &[Line]); 1] = [(
+    "script 2
 caller
 put 18446744073709551615 340282366920938463463374607431768211455
 put 9999999999999999 99999999999999999999999999999999
 add 12345678 123456789
 swap 0 10000000000000000 18446744073709551616
-del 18446744073709551615";
-    let script = read_script(rt.alloc(), text).ok().ok_or("it is a script")?;
-    let calls = [
-        Op::Put(
+del 18446744073709551615",
+    &[
+        Line::Call(Op::Put(
             18446744073709551615,
             340282366920938463463374607431768211455,
-        ),
-        Op::Put(9999999999999999, 99999999999999999999999999999999),
-        Op::Add(12345678, 123456789),
-        Op::Swap(0, 10000000000000000, 18446744073709551616),
-        Op::Del(18446744073709551615),
-    ];
-    assert_eq!(rt; script.callers.len(), 1);
-    for ops in &script.callers {
-        assert!(rt; has_calls(ops, calls.as_slice()));
-    }
-    Ok(())
+        )),
+        Line::Call(Op::Put(9999999999999999, 99999999999999999999999999999999)),
+        Line::Call(Op::Add(12345678, 123456789)),
+        Line::Call(Op::Swap(0, 10000000000000000, 18446744073709551616)),
+        Line::Call(Op::Del(18446744073709551615)),
+    ],
+)];
+
+#[test]
+fn numbers_of_all_lengths_are_read(rt: HostRuntime) {
+    are_read(&rt, rt.alloc(), &NUMBERS);
 }
 
-// Sixteen bytes follow each number, so that it is read by words.
+/// Numbers that are none or too great. Sixteen bytes follow each of them, so that it is read by words.
+const NO_NUMBERS: [(&str, u64); 8] = [
+    (
+        "caller\nget 18446744073709551616\ncaller\ncaller\ncaller\n",
+        2,
+    ),
+    ("caller\nget 00000000000000001\ncaller\ncaller\ncaller\n", 2),
+    ("caller\nput 1 00\ncaller\ncaller\ncaller\n", 2),
+    ("caller\nget 123:\ncaller\ncaller\ncaller\n", 2),
+    (
+        "caller\nput 1 18446744073709551616\ncaller\ncaller\ncaller\n",
+        2,
+    ),
+    ("caller\nswap 1 2 3\ncaller\ncaller\ncaller\n", 2),
+    (
+        "script 2\ncaller\nput 1 340282366920938463463374607431768211456\ncaller\ncaller\n",
+        3,
+    ),
+    (
+        "script 2\ncaller\nput 1 1000000000000000000000000000000000000000\ncaller\ncaller\n",
+        3,
+    ),
+];
+
 #[test]
 fn numbers_that_are_none_are_refused_before_other_lines(rt: HostRuntime) {
-    let alloc = rt.alloc();
-    is_refused(
-        &rt,
-        alloc,
-        b"caller\nget 18446744073709551616\ncaller\ncaller\ncaller\n",
-        2,
-    );
-    is_refused(
-        &rt,
-        alloc,
-        b"caller\nget 00000000000000001\ncaller\ncaller\ncaller\n",
-        2,
-    );
-    is_refused(&rt, alloc, b"caller\nput 1 00\ncaller\ncaller\ncaller\n", 2);
-    is_refused(&rt, alloc, b"caller\nget 123:\ncaller\ncaller\ncaller\n", 2);
-    is_refused(
-        &rt,
-        alloc,
-        b"caller\nput 1 18446744073709551616\ncaller\ncaller\ncaller\n",
-        2,
-    );
-    is_refused(
-        &rt,
-        alloc,
-        b"caller\nswap 1 2 3\ncaller\ncaller\ncaller\n",
-        2,
-    );
-    is_refused(
-        &rt,
-        alloc,
-        b"script 2\ncaller\nput 1 340282366920938463463374607431768211456\ncaller\ncaller\n",
-        3,
-    );
-    is_refused(
-        &rt,
-        alloc,
-        b"script 2\ncaller\nput 1 1000000000000000000000000000000000000000\ncaller\ncaller\n",
-        3,
-    );
+    are_refused(&rt, rt.alloc(), &NO_NUMBERS);
 }
+
+/// Lines that the version of the script does not have, and numbers that are too great for it.
+const OTHER_VERSION: [(&str, u64); 11] = [
+    ("caller\nadd 5 1\n", 2),
+    ("caller\nswap 5 1 2\n", 2),
+    ("caller\nscript 2\n", 2),
+    ("script 9\n", 1),
+    ("script 1\ncaller\n", 1),
+    ("script 2\nscript 2\n", 2),
+    ("script 2\nput 1 1\n", 2),
+    (
+        "script 2\ncaller\nput 1 340282366920938463463374607431768211456\n",
+        3,
+    ),
+    ("script 2\ncaller\nget 18446744073709551616\n", 3),
+    ("script 2\ncaller\nswap 1 2\n", 3),
+    ("script 2\ncaller\nadd 1 2 3\n", 3),
+];
 
 #[test]
 fn lines_of_another_version_are_refused(rt: HostRuntime) {
-    let alloc = rt.alloc();
-    is_refused(&rt, alloc, b"caller\nadd 5 1\n", 2);
-    is_refused(&rt, alloc, b"caller\nswap 5 1 2\n", 2);
-    is_refused(&rt, alloc, b"caller\nscript 2\n", 2);
-    is_refused(&rt, alloc, b"script 9\n", 1);
-    is_refused(&rt, alloc, b"script 1\ncaller\n", 1);
-    is_refused(&rt, alloc, b"script 2\nscript 2\n", 2);
-    is_refused(&rt, alloc, b"script 2\nput 1 1\n", 2);
-    is_refused(
-        &rt,
-        alloc,
-        b"script 2\ncaller\nput 1 340282366920938463463374607431768211456\n",
-        3,
-    );
-    is_refused(
-        &rt,
-        alloc,
-        b"script 2\ncaller\nget 18446744073709551616\n",
-        3,
-    );
-    is_refused(&rt, alloc, b"script 2\ncaller\nswap 1 2\n", 3);
-    is_refused(&rt, alloc, b"script 2\ncaller\nadd 1 2 3\n", 3);
+    are_refused(&rt, rt.alloc(), &OTHER_VERSION);
 }
 
+/// Scans and moves, and scripts of their versions without any.
+const SCANS_AND_MOVES: [(&str, &[Line]); 3] = [
+    (
+        "script 4\ncaller\nscan 5 18446744073709551615 64\nscan 5 5 1\nmove 18446744073709551615 1\nget 1",
+        &[
+            Line::Scan(5, 18446744073709551615, 64),
+            Line::Scan(5, 5, 1),
+            Line::Call(Op::Move(18446744073709551615, 1)),
+            Line::Call(Op::Get(1)),
+        ],
+    ),
+    (
+        "script 3\ncaller\nadd 1 18446744073709551616\ndel 1\n",
+        &[
+            Line::Call(Op::Add(1, 18446744073709551616)),
+            Line::Call(Op::Del(1)),
+        ],
+    ),
+    (
+        "script 4\ncaller\nadd 1 18446744073709551616\ndel 1\n",
+        &[
+            Line::Call(Op::Add(1, 18446744073709551616)),
+            Line::Call(Op::Del(1)),
+        ],
+    ),
+];
+
 #[test]
-fn scans_and_moves_are_read(rt: HostRuntime) -> Result<(), Fail> {
-    let text =
-        b"script 4\ncaller\nscan 5 18446744073709551615 64\nscan 5 5 1\nmove 18446744073709551615 1\nget 1";
-    let script = read_script(rt.alloc(), text).ok().ok_or("it is a script")?;
-    let asked = [
-        Line::Scan(5, 18446744073709551615, 64),
-        Line::Scan(5, 5, 1),
-        Line::Call(Op::Move(18446744073709551615, 1)),
-        Line::Call(Op::Get(1)),
-    ];
-    assert_eq!(rt; script.callers.len(), 1);
-    for calls in &script.callers {
-        assert_eq!(rt; calls.len(), 4);
-        for (at, line) in asked.iter().enumerate() {
-            if at < calls.len() {
-                assert_eq!(rt; calls.get(at), *line);
-            }
-        }
-    }
-    for text in [
-        b"script 3\ncaller\nadd 1 18446744073709551616\ndel 1\n",
-        b"script 4\ncaller\nadd 1 18446744073709551616\ndel 1\n",
-    ] {
-        assert!(rt; read_script(rt.alloc(), text.as_slice()).is_ok());
-    }
-    Ok(())
+fn scans_and_moves_are_read(rt: HostRuntime) {
+    are_read(&rt, rt.alloc(), &SCANS_AND_MOVES);
 }
+
+/// Scans and moves that are none, or none of the version.
+const NO_SCANS: [(&str, u64); 14] = [
+    ("caller\nscan 1 2 3\n", 2),
+    ("script 2\ncaller\nscan 1 2 3\n", 3),
+    ("script 3\ncaller\nscan 5 4 1\n", 3),
+    ("script 3\ncaller\nscan 4 5 0\n", 3),
+    ("script 3\ncaller\nscan 4 5 65\n", 3),
+    ("script 3\ncaller\nscan 4 5\n", 3),
+    ("script 3\ncaller\nscan 4 18446744073709551616 1\n", 3),
+    ("script 3\ncaller\nmove 1 2\n", 3),
+    ("script 4\ncaller\nmove 1 1\n", 3),
+    ("script 4\ncaller\nmove 1\n", 3),
+    ("script 4\ncaller\nmove 1 2 3\n", 3),
+    ("script 4\ncaller\nmove 01 2\n", 3),
+    ("script 4\ncaller\nmove 1 18446744073709551616\n", 3),
+    ("script 3\nscript 4\n", 2),
+];
 
 #[test]
 fn scans_and_moves_that_are_none_are_refused(rt: HostRuntime) {
-    let alloc = rt.alloc();
-    is_refused(&rt, alloc, b"caller\nscan 1 2 3\n", 2);
-    is_refused(&rt, alloc, b"script 2\ncaller\nscan 1 2 3\n", 3);
-    is_refused(&rt, alloc, b"script 3\ncaller\nscan 5 4 1\n", 3);
-    is_refused(&rt, alloc, b"script 3\ncaller\nscan 4 5 0\n", 3);
-    is_refused(&rt, alloc, b"script 3\ncaller\nscan 4 5 65\n", 3);
-    is_refused(&rt, alloc, b"script 3\ncaller\nscan 4 5\n", 3);
-    is_refused(
-        &rt,
-        alloc,
-        b"script 3\ncaller\nscan 4 18446744073709551616 1\n",
-        3,
-    );
-    is_refused(&rt, alloc, b"script 3\ncaller\nmove 1 2\n", 3);
-    is_refused(&rt, alloc, b"script 4\ncaller\nmove 1 1\n", 3);
-    is_refused(&rt, alloc, b"script 4\ncaller\nmove 1\n", 3);
-    is_refused(&rt, alloc, b"script 4\ncaller\nmove 1 2 3\n", 3);
-    is_refused(&rt, alloc, b"script 4\ncaller\nmove 01 2\n", 3);
-    is_refused(
-        &rt,
-        alloc,
-        b"script 4\ncaller\nmove 1 18446744073709551616\n",
-        3,
-    );
-    is_refused(&rt, alloc, b"script 3\nscript 4\n", 2);
+    are_refused(&rt, rt.alloc(), &NO_SCANS);
 }
 
-// The first lines, and then a line, n times.
+/// The first lines, and then a line, n times.
 fn repeated(alloc: Global, first: &[u8], line: &[u8], count: u64) -> Result<Vec<u8>, AllocError> {
     let mut text = Vec::from_slice(alloc, first)?;
     for _ in 0..count {
         text.extend_from_slice(line)?;
     }
     Ok(text)
-}
-
-// The line, and `callers` lines `caller` after it.
-fn callers_after(alloc: Global, line: &[u8], callers: u64) -> Result<Vec<u8>, AllocError> {
-    repeated(alloc, line, b"caller\n", callers)
 }
 
 #[test]
@@ -268,20 +300,36 @@ fn a_script_asks_for_so_many_parts(rt: HostRuntime) -> Result<(), Fail> {
     text.extend_from_slice(b"caller\nscan 0 9 63\nscan 0 9 1\nget 1\n")?;
     assert!(rt; read_script(alloc, &text).is_ok());
     text.extend_from_slice(b"scan 0 9 1\n")?;
-    is_refused(&rt, alloc, &text, 1030);
+    assert!(rt; is_refused(alloc, &text, 1030));
     Ok(())
 }
 
-#[test]
-fn the_first_line_that_is_not_served_is_named(rt: HostRuntime) -> Result<(), Fail> {
-    let text =
-        b"script 4\ncaller\nget 1\ncaller\ncaller\nput 1 2\nmove 1 2\nscan 0 1 1\nmove 1 2\n";
-    match read_script(rt.alloc(), text) {
+/// Whether scans and moves are served, and the first line of the script `UNFIT` that is not served then.
+const UNFIT_LINES: [(bool, bool, Option<u64>); 4] = [
+    (false, false, Some(7)),
+    (true, false, Some(7)),
+    (false, true, Some(8)),
+    (true, true, None),
+];
+
+const UNFIT: &[u8] =
+    b"script 4\ncaller\nget 1\ncaller\ncaller\nput 1 2\nmove 1 2\nscan 0 1 1\nmove 1 2\n";
+
+/// The script is read, and names these lines.
+fn names_unfit_lines(
+    rt: &impl Abort,
+    alloc: Global,
+    text: &[u8],
+    rows: &[(bool, bool, Option<u64>)],
+) -> Result<(), Fail> {
+    match read_script(alloc, text) {
         Ok(script) => {
-            assert_eq!(rt; script.unfit_line(false, false), Some(7));
-            assert_eq!(rt; script.unfit_line(true, false), Some(7));
-            assert_eq!(rt; script.unfit_line(false, true), Some(8));
-            assert_eq!(rt; script.unfit_line(true, true), None);
+            for (scans, moves, line) in rows {
+                assert!(rt;
+                    script.unfit_line(*scans, *moves) == *line,
+                    "scans {scans}, moves {moves}"
+                );
+            }
             Ok(())
         }
         Err(_) => Err("it is a script".into()),
@@ -289,105 +337,96 @@ fn the_first_line_that_is_not_served_is_named(rt: HostRuntime) -> Result<(), Fai
 }
 
 #[test]
-fn a_version_has_so_many_callers(rt: HostRuntime) -> Result<(), Fail> {
-    let alloc = rt.alloc();
-    assert!(rt; read_script(alloc, &callers_after(alloc, b"", 64)?).is_ok());
-    is_refused(&rt, alloc, &callers_after(alloc, b"", 65)?, 65);
-    assert!(rt; read_script(alloc, &callers_after(alloc, b"script 2\n", 1024)?).is_ok());
-    is_refused(
-        &rt,
-        alloc,
-        &callers_after(alloc, b"script 2\n", 1025)?,
-        1026,
-    );
+fn the_first_line_that_is_not_served_is_named(rt: HostRuntime) -> Result<(), Fail> {
+    names_unfit_lines(&rt, rt.alloc(), UNFIT, &UNFIT_LINES)
+}
+
+/// The first line of a version, how many callers a script of it has at most, and the line of the next one.
+const MOST_CALLERS: [(&str, u64, u64); 2] = [("", 64, 65), ("script 2\n", 1024, 1026)];
+
+/// As many callers are read, and with one more the script is refused at its line.
+fn have_most_callers(
+    rt: &impl Abort,
+    alloc: Global,
+    rows: &[(&str, u64, u64)],
+) -> Result<(), Fail> {
+    for (first, callers, line) in rows {
+        let mut text = repeated(alloc, first.as_bytes(), b"caller\n", *callers)?;
+        assert!(rt; read_script(alloc, &text).is_ok(), "{first:?}");
+        text.extend_from_slice(b"caller\n")?;
+        assert!(rt; is_refused(alloc, &text, *line), "{first:?}");
+    }
     Ok(())
 }
+
+#[test]
+fn a_version_has_so_many_callers(rt: HostRuntime) -> Result<(), Fail> {
+    have_most_callers(&rt, rt.alloc(), &MOST_CALLERS)
+}
+
+const REPLIES: [(u64, Reply); 2] = [(0, Reply::Nothing), (1, Reply::Value(50))];
 
 #[test]
 fn a_script_and_its_run_are_read(rt: HostRuntime) -> Result<(), Fail> {
-    let text = b"caller\nput 5 50\nget 5\nrun\ncaller 0\n0 none\n1 50\nmap\n5 50\nend\n";
-    let (script, printed) = read_checked(rt.alloc(), text)
-        .ok()
-        .ok_or("it is a script and a run")?;
-    assert_eq!(rt; script.callers.len(), 1);
-    assert_eq!(rt; printed.callers.len(), 1);
-    assert_eq!(rt; printed.pairs.as_slice(), [(5, 50)].as_slice());
-    Ok(())
+    is_read_in_check(
+        &rt,
+        rt.alloc(),
+        "caller\nput 5 50\nget 5\nrun\ncaller 0\n0 none\n1 50\nmap\n5 50\nend\n",
+        &REPLIES,
+        &[(5, 50)],
+    )
 }
+
+/// A script without its run, and a map with a value that is too great.
+const NO_WIDE_RUNS: [(&str, u64); 2] = [
+    ("script 2\n", 2),
+    (
+        "run\nmap\n1 340282366920938463463374607431768211456\nend\n",
+        3,
+    ),
+];
 
 #[test]
 fn a_script_of_the_second_version_and_its_run_are_read(rt: HostRuntime) -> Result<(), Fail> {
-    let text =
-        b"script 2\ncaller\nadd 5 340282366920938463463374607431768211455\nrun\ncaller 0\n0 none\nmap\n5 340282366920938463463374607431768211455\nend\n";
-    let (script, printed) = read_checked(rt.alloc(), text)
-        .ok()
-        .ok_or("it is a script and a run")?;
-    assert_eq!(rt; script.callers.len(), 1);
-    assert_eq!(rt;
-        printed.pairs.as_slice(),
-        [(5, 340282366920938463463374607431768211455)].as_slice()
-    );
-    is_refused_in_check(&rt, rt.alloc(), b"script 2\n", 2);
-    is_refused_in_check(
+    is_read_in_check(
         &rt,
         rt.alloc(),
-        b"run\nmap\n1 340282366920938463463374607431768211456\nend\n",
-        3,
-    );
+        "script 2\ncaller\nadd 5 340282366920938463463374607431768211455\nrun\ncaller 0\n0 none\nmap\n5 340282366920938463463374607431768211455\nend\n",
+        &[(0, Reply::Nothing)],
+        &[(5, 340282366920938463463374607431768211455)],
+    )?;
+    are_refused_in_check(&rt, rt.alloc(), &NO_WIDE_RUNS);
     Ok(())
 }
 
 #[test]
 fn replies_full_and_wide_are_read(rt: HostRuntime) -> Result<(), Fail> {
-    let text =
-        b"caller\nget 1\nget 2\nrun\ncaller 0\n0 full\n1 340282366920938463463374607431768211455\nmap\n18446744073709551615 340282366920938463463374607431768211455\nend\n";
-    let (_, printed) = read_checked(rt.alloc(), text)
-        .ok()
-        .ok_or("it is a script and a run")?;
-    let replies = [
-        (0, Reply::Full),
-        (1, Reply::Value(340282366920938463463374607431768211455)),
-    ];
-    assert_eq!(rt; printed.callers.len(), 1);
-    for lines in &printed.callers {
-        assert_eq!(rt; lines.len(), 2);
-        for (at, reply) in replies.iter().enumerate() {
-            if at < lines.len() {
-                match lines.scan_at(at) {
-                    Some(_) => return Err("it is of a call".into()),
-                    None => assert!(rt; lines.call_at(at) == *reply),
-                }
-            }
-        }
-    }
-    assert_eq!(rt;
-        printed.pairs.as_slice(),
-        [(
+    is_read_in_check(
+        &rt,
+        rt.alloc(),
+        "caller\nget 1\nget 2\nrun\ncaller 0\n0 full\n1 340282366920938463463374607431768211455\nmap\n18446744073709551615 340282366920938463463374607431768211455\nend\n",
+        &[
+            (0, Reply::Full),
+            (1, Reply::Value(340282366920938463463374607431768211455)),
+        ],
+        &[(
             18446744073709551615,
-            340282366920938463463374607431768211455
-        )]
-        .as_slice()
-    );
-    Ok(())
+            340282366920938463463374607431768211455,
+        )],
+    )
 }
+
+/// Runs that end too early or too late, or whose map names a key twice.
+const NO_RUNS: [(&str, u64); 4] = [
+    ("caller\n", 2),
+    ("caller\nget 1\nrun\ncaller 0\n0 none\nmap\n", 7),
+    ("caller\nget 1\nrun\ncaller 0\n0 none\nmap\nend\nx\n", 8),
+    ("run\nmap\n2 1\n2 1\nend\n", 4),
+];
 
 #[test]
 fn lines_that_are_missing_or_too_many_are_refused(rt: HostRuntime) {
-    let alloc = rt.alloc();
-    is_refused_in_check(&rt, alloc, b"caller\n", 2);
-    is_refused_in_check(
-        &rt,
-        alloc,
-        b"caller\nget 1\nrun\ncaller 0\n0 none\nmap\n",
-        7,
-    );
-    is_refused_in_check(
-        &rt,
-        alloc,
-        b"caller\nget 1\nrun\ncaller 0\n0 none\nmap\nend\nx\n",
-        8,
-    );
-    is_refused_in_check(&rt, alloc, b"run\nmap\n2 1\n2 1\nend\n", 4);
+    are_refused_in_check(&rt, rt.alloc(), &NO_RUNS);
 }
 
 #[test]
@@ -409,6 +448,20 @@ fn a_source_is_read_up_to_the_limit(rt: HostRuntime) -> Result<(), Fail> {
         Some(ReadFault::Failed)
     );
     Ok(())
+}
+
+/// The text of the run that `small_run` returns.
+const RUN: &[u8] = b"caller 0\n0 none\n1 50\nmap\n5 50\nend\n";
+
+fn small_run(alloc: Global) -> Result<Printed, Fail> {
+    let mut calls = Replies::new(alloc);
+    calls.push(Said::Call(0, Reply::Nothing))?;
+    calls.push(Said::Call(1, Reply::Value(50)))?;
+    let mut callers = Vec::new(alloc);
+    callers.push(calls)?;
+    let mut pairs = Vec::new(alloc);
+    pairs.push((5, 50))?;
+    Ok(Printed { callers, pairs })
 }
 
 #[test]
@@ -434,38 +487,42 @@ fn a_write_that_fails_leaves_the_front(rt: HostRuntime) -> Result<(), Fail> {
     Ok(())
 }
 
+const PACKED_LINES: [Line; 8] = [
+    Line::Call(Op::Get(1)),
+    Line::Call(Op::Put(2, 3)),
+    Line::Call(Op::Put(2, u128::MAX)),
+    Line::Call(Op::Del(4)),
+    Line::Call(Op::Add(5, 6)),
+    Line::Call(Op::Swap(7, 8, u128::MAX)),
+    Line::Call(Op::Move(1, u64::MAX)),
+    Line::Scan(0, u64::MAX, 64),
+];
+
+/// These lines, packed.
+fn packed(alloc: Global, lines: &[Line]) -> Result<Calls, AllocError> {
+    let mut calls = Calls::new(alloc);
+    for line in lines {
+        calls.push(*line)?;
+    }
+    Ok(calls)
+}
+
+const PACKED_REPLIES: [(u64, Reply); 4] = [
+    (0, Reply::Full),
+    (u64::MAX, Reply::Nothing),
+    (1, Reply::Value(u128::MAX)),
+    (2, Reply::Value(9)),
+];
+
 #[test]
 fn packed_calls_and_lines_are_read_again(rt: HostRuntime) -> Result<(), Fail> {
-    let great = u128::MAX;
-    let asked = [
-        Line::Call(Op::Get(1)),
-        Line::Call(Op::Put(2, 3)),
-        Line::Call(Op::Put(2, great)),
-        Line::Call(Op::Del(4)),
-        Line::Call(Op::Add(5, 6)),
-        Line::Call(Op::Swap(7, 8, great)),
-        Line::Call(Op::Move(1, u64::MAX)),
-        Line::Scan(0, u64::MAX, 64),
-    ];
-    let mut calls = Calls::new(rt.alloc());
-    for line in asked {
-        calls.push(line)?;
-    }
-    for (at, line) in asked.iter().enumerate() {
-        if at < calls.len() {
-            assert_eq!(rt; calls.get(at), *line);
-        }
-    }
+    let calls = packed(rt.alloc(), &PACKED_LINES)?;
+    assert!(rt; has_lines(&calls, &PACKED_LINES));
     let mut lines = Replies::with_capacity(rt.alloc(), 4)?;
     lines.push(Said::Call(0, Reply::Full))?;
     lines.push(Said::Call(u64::MAX, Reply::Nothing))?;
-    lines.push(Said::Call(1, Reply::Value(great)))?;
+    lines.push(Said::Call(1, Reply::Value(u128::MAX)))?;
     lines.push(Said::Call(2, Reply::Value(9)))?;
-    assert!(rt; lines.call_at(0) == (0, Reply::Full));
-    assert!(rt; lines.call_at(1) == (u64::MAX, Reply::Nothing));
-    assert!(rt; lines.call_at(2) == (1, Reply::Value(great)));
-    assert!(rt; lines.call_at(3) == (2, Reply::Value(9)));
-    assert_eq!(rt; lines.number_at(1), u64::MAX);
-    assert_eq!(rt; calls.len(), 8);
+    assert!(rt; has_replies(&lines, &PACKED_REPLIES));
     Ok(())
 }
