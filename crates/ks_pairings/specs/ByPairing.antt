@@ -15,8 +15,8 @@ module _ {R G : Type 0} where
   abbrev pub scripts_of : Task R G → List (List Line)
   scripts_of task = map (λ v. v.items) task.callers.items
 
-  -- over nodes of the layout, with these places for keys, the trace served the scripts, and what is said of their lines, and
-  -- the entries, report it
+  -- over the nodes of the task, of the layout, with these places for keys, the trace served the scripts of the task; what is
+  -- said of their lines, and the entries, report it
   pub record IsServedBy (layout : Layout) (place : ℕ → ℕ) (task : Task R G) (told : Told) : Type 0 where
     pub served : ServedLines place (scripts_of task) (map (λ v. v.items) told.lines.items) told.pairs.items told.trace
     pub lawful : Lawful told.trace

@@ -15,7 +15,7 @@ pub struct Task<'a, R, G> {
     pub callers: Vec<Vec<Line>>,
     /// How many workers there are; if there are fewer callers, there is one for each caller.
     pub workers: u32,
-    /// What calls at one key ask where they may begin.
+    /// What calls at one key ask for the node at which they begin.
     pub aiding: Aiding,
     pub gate: &'a G,
     ghost nodes_fit: { (4 ≤ nodes) × (nodes ≤ 1048576) },

@@ -51,35 +51,40 @@ fn a_caller_is_overtaken_in_its_call(rt: HostRuntime) -> Result<(), Wrong> {
     run_each(&rt, rt.alloc(), &WITHIN)
 }
 
-/// Caller 0 puts keys and looks for the last one. It is stopped when it has released the root and has the number of the node
-/// that has the key, which caller 1 splits meanwhile by putting the next key; and it finds it in the other half.
+/// Caller 0 puts 24 keys and looks for the last one. It is stopped when it has released the root and has the number of the
+/// node that has the key, which caller 1 splits meanwhile by putting the next key; and it finds it in the other half.
+const SPLIT_AFTER_24: Row = Row {
+    stop: Stop::Meet {
+        after: 24,
+        at: Point::Given(0),
+        turns: 50_000_000,
+    },
+    input: &[
+        Bytes(b"caller\n"),
+        Puts(0, 23),
+        Bytes(b"get 23\ncaller\n"),
+        Puts(24, 24),
+    ],
+    out: &[
+        Bytes(b"caller 0\n"),
+        Nones(0, 23),
+        Bytes(b"25 23\ncaller 1\n"),
+        Nones(24, 24),
+        Bytes(b"map\n"),
+        Pairs(0, 24),
+        Bytes(b"end\n"),
+    ],
+    ..SERVED
+};
+
+/// Callers 0 and 1 as in `SPLIT_AFTER_24`, with as many keys as leave the last node of each layout full.
 ///
 /// By giving up the search restarts if the node's range no longer holds the key; in a list it goes on, since the node
 /// still leads there, and in a binary tree too, where the full leaf became the parent of its halves.
 static SPLITS: [Row; 3] = [
     Row {
         words: &["run bplus giveup 64"],
-        stop: Stop::Meet {
-            after: 24,
-            at: Point::Given(0),
-            turns: 50_000_000,
-        },
-        input: &[
-            Bytes(b"caller\n"),
-            Puts(0, 23),
-            Bytes(b"get 23\ncaller\n"),
-            Puts(24, 24),
-        ],
-        out: &[
-            Bytes(b"caller 0\n"),
-            Nones(0, 23),
-            Bytes(b"25 23\ncaller 1\n"),
-            Nones(24, 24),
-            Bytes(b"map\n"),
-            Pairs(0, 24),
-            Bytes(b"end\n"),
-        ],
-        ..SERVED
+        ..SPLIT_AFTER_24
     },
     Row {
         words: &["run list giveup 64"],
@@ -139,27 +144,7 @@ fn a_search_that_gives_up_ends_right_past_a_split(rt: HostRuntime) -> Result<(),
 /// Along links the search moves to the right.
 static LINKED_SPLIT: [Row; 1] = [Row {
     words: &["run bplus link 64"],
-    stop: Stop::Meet {
-        after: 24,
-        at: Point::Given(0),
-        turns: 50_000_000,
-    },
-    input: &[
-        Bytes(b"caller\n"),
-        Puts(0, 23),
-        Bytes(b"get 23\ncaller\n"),
-        Puts(24, 24),
-    ],
-    out: &[
-        Bytes(b"caller 0\n"),
-        Nones(0, 23),
-        Bytes(b"25 23\ncaller 1\n"),
-        Nones(24, 24),
-        Bytes(b"map\n"),
-        Pairs(0, 24),
-        Bytes(b"end\n"),
-    ],
-    ..SERVED
+    ..SPLIT_AFTER_24
 }];
 
 #[test]

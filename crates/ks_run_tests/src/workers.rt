@@ -70,7 +70,7 @@ fn made_by<R: Threads + Wait + Sync>(
     )
 }
 
-/// The first of the numbers of workers with which the text that sums up a run is another than that of the command `make`.
+/// The first of the numbers of workers whose text that sums up a run differs from that of the command `make`.
 fn first_other<R: Threads + Wait + Sync>(
     rt: &R,
     alloc: Global,

@@ -116,43 +116,38 @@ const LEAVES: &[u8] =
 
 const FIRST_LEAF: &[u8] = b"17 7 0 0 1 1 2 2 3 3 4 4 5 5 6 6 7 7\nuntil 8\n";
 
+/// A scan of 17 keys that lists both leaves.
+const OF_BOTH_LEAVES: Row = Row {
+    words: &MANY,
+    out: &[
+        Bytes(b"caller 0\n"),
+        Nones(0, 16),
+        Bytes(LEAVES),
+        Bytes(b"map\n"),
+        Pairs(0, 16),
+        Bytes(b"end\n"),
+    ],
+    judged: Some(b"legal 19\n"),
+    ..SERVED
+};
+
 /// Scans of 17 keys, and what their runs are judged to be. A scan of just as many parts as there are leaves is whole.
 static OF_LEAVES: [Row; 4] = [
     Row {
-        words: &MANY,
         input: &[
             Bytes(b"script 3\ncaller\n"),
             Puts(0, 16),
             Bytes(b"scan 0 20 64\n"),
         ],
-        out: &[
-            Bytes(b"caller 0\n"),
-            Nones(0, 16),
-            Bytes(LEAVES),
-            Bytes(b"map\n"),
-            Pairs(0, 16),
-            Bytes(b"end\n"),
-        ],
-        judged: Some(b"legal 19\n"),
-        ..SERVED
+        ..OF_BOTH_LEAVES
     },
     Row {
-        words: &MANY,
         input: &[
             Bytes(b"script 3\ncaller\n"),
             Puts(0, 16),
             Bytes(b"scan 0 20 2\n"),
         ],
-        out: &[
-            Bytes(b"caller 0\n"),
-            Nones(0, 16),
-            Bytes(LEAVES),
-            Bytes(b"map\n"),
-            Pairs(0, 16),
-            Bytes(b"end\n"),
-        ],
-        judged: Some(b"legal 19\n"),
-        ..SERVED
+        ..OF_BOTH_LEAVES
     },
     Row {
         words: &MANY,
@@ -302,6 +297,7 @@ static PARTS: [Row; 2] = [
         words: &["run bplus giveup 4"],
         input: &[Bytes(b"script 3\ncaller\n"), Times(1024, b"scan 7 7 64\n")],
         prints_any: true,
+        judged: Some(b"legal 1024\n"),
         ..SERVED
     },
     Row {

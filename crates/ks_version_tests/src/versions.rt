@@ -79,6 +79,7 @@ static ASKING: [Row; 2] = [
         words: &[RUN],
         input: &[Bytes(b"script 2\n"), Times(65, b"caller\nget 7\n")],
         prints_any: true,
+        judged: Some(b"legal 65\n"),
         ..SERVED
     },
     Row {

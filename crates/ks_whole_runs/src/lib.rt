@@ -1,7 +1,8 @@
 //! Whole runs of the program, from words and bytes to bytes and a status: for tests.
 //!
-//! A test is data: a table that says what is run and what each run leaves. A function that is proved here plays the table,
-//! and its error names the first run that left something else. So a test costs one call, however long its table is.
+//! A test is data: a table that says what is run and what each run leaves. A function that is proved here runs each row of the
+//! table, and its error names the first run that left something else. So the proof of a test is that of one call, however long
+//! its table is.
 #![tactic(auto)]
 
 mod rows;

@@ -50,7 +50,7 @@ pub struct Row {
     pub judged: Option<&'static [u8]>,
 }
 
-/// A run that is served, and says nothing. It has no command, so a row that names no words fails.
+/// A run that is served, and says nothing. It has no command, so a row that does not set its words fails.
 pub const SERVED: Row = Row {
     words: &[""],
     input: &[],
@@ -68,13 +68,16 @@ pub const SERVED: Row = Row {
 ///
 /// # Errors
 ///
-/// The first run that leaves something else, or lack of memory.
+/// The first run that leaves something else, a row without words, or lack of memory.
 pub fn run_each<R: Threads + Wait + Sync>(
     rt: &R,
     alloc: Global,
     rows: &[Row],
 ) -> Result<(), Wrong> {
     for row in rows {
+        if row.words.is_empty() {
+            return Err(Wrong::Empty);
+        }
         let input = text_of(alloc, row.input)?;
         let out = text_of(alloc, row.out)?;
         for words in row.words {

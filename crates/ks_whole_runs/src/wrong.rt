@@ -16,6 +16,8 @@ pub struct Wanted<'a> {
 pub enum Wrong {
     /// Memory ran out.
     Memory,
+    /// A row has no words, so nothing was run.
+    Empty,
     /// The run of these words on this input left this, which is not what it was to leave. Of each text there are the first
     /// bytes.
     Run {

@@ -189,7 +189,7 @@ fn what_no_scan_says_is_refused(rt: HostRuntime) -> Result<(), Fail> {
     Ok(())
 }
 
-/// Lines in which no part and no stop is.
+/// Lines that are neither a part nor a stop.
 const NO_PARTS: [(&str, u64); 10] = [
     ("0 none\nwhole", 6),
     ("0\nwhole", 6),
