@@ -177,9 +177,10 @@ where
     N::Places: Send + Sync,
 {
     let (map, mut passes) = Dictionary::<N, T>::start(alloc, 64, 2)?;
-    let filled = fills(rt, &map, passes.as_mut_slice());
+    let crew = passes.as_mut_slice();
+    let filled = fills(rt, &map, crew);
     let gate = Counting::of(Stand::of(0, 0, Point::Given(2), 1, 2, LONG));
-    act_at_once(rt, &map, passes.as_mut_slice(), &gate, 19);
+    act_at_once(rt, &map, crew, &gate, 19);
     Ok(filled && gate.has_counted(3, 2))
 }
 
