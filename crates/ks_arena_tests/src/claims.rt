@@ -4,11 +4,12 @@ ghost use Rattle.ks_arena.specs.Clauses.{hand_of};
 ghost use Rattle.ks_arena.specs.Of.{IsPassOf, StayCurrent, callers_of, nodes_of, SameCaller, caller_of};
 
 use crate::claim_of_many;
+use crate::wrong::{Wrong, must};
 use ks_arena::{Arena, Pass};
 use ks_flow::{Discipline, Tree};
 use ks_list::ListNode;
 use ks_node::Node;
-use std::test::Fail;
+use std::alloc::Global;
 
 /// Claims the nodes from `next` on until none is left, and releases them. Returns whether they came in order, up to the
 /// last.
@@ -30,12 +31,17 @@ fn claim_from<N: Node, D: Discipline>(arena: &Arena<N, D>, pass: &mut Pass<N, D>
     in_order
 }
 
-#[test]
-fn one_caller_claims_each_of_200_nodes_in_order_in_few_steps(rt: HostRuntime) -> Result<(), Fail> {
-    let (arena, mut passes) = Arena::<ListNode, Tree>::start(rt.alloc(), 200, 1)?;
+/// One caller claims all nodes of an arena of 200.
+fn claim_all<N: Node>(alloc: Global) -> Result<(), Wrong> {
+    let (arena, mut passes) = Arena::<N, Tree>::start(alloc, 200, 1)?;
     let Some(mut pass) = passes.pop() else {
-        panic!(rt; "no pass")
+        return Err(Wrong::Not("there is a pass"));
     };
-    assert!(rt; claim_from(&arena, &mut pass, 1));
-    Ok(())
+    let in_order = claim_from(&arena, &mut pass, 1);
+    must(in_order, "the nodes are claimed in order, up to the last")
+}
+
+#[test]
+fn one_caller_claims_each_of_200_nodes_in_order_in_few_steps(rt: HostRuntime) -> Result<(), Wrong> {
+    claim_all::<ListNode>(rt.alloc())
 }

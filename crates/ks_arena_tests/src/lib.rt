@@ -150,3 +150,5 @@ mod ended;
 mod meeting;
 #[cfg(test)]
 mod tests;
+#[cfg(test)]
+mod wrong;

@@ -5,7 +5,7 @@ use Rattle.ks_arena_tests.proofs.Crews.{two_of, first_is, second_is}
 use Rattle.ks_arena_tests.proofs.tests.two_callers.Goals as goal
 
 pub returns-clause-one : goal.returns-clause-one
-returns-clause-one c =
+returns-clause-one g c =
     let start = c.in_ok-arena.ensures in
     let crew = start.2 in
     let last = c.pop.ensures.items ∙ ap (λ o. c.pop.new.self.items ++ option_to_list o) c.in-Some.is in
@@ -15,7 +15,7 @@ returns-clause-one c =
     ((new.pass, ap (hand c.in-Some-pop.one.caller) new.seen), new.caller)
 
 pub returns-clause-two : goal.returns-clause-two
-returns-clause-two c =
+returns-clause-two g c =
     let start = c.in_ok-arena.ensures in
     let crew = start.2 in
     let last = c.pop.ensures.items ∙ ap (λ o. c.pop.new.self.items ++ option_to_list o) c.in-Some.is in
