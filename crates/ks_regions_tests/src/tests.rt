@@ -210,26 +210,67 @@ fn all_pairs(alloc: Global) -> Result<Vec<Pair>, AllocError> {
     Ok(pairs)
 }
 
-#[test]
-fn random_shapes_keep_graphs_good(rt: HostRuntime) -> Result<(), AllocError> {
-    let alloc = rt.alloc();
+/// Why a test fails.
+#[derive(Debug, Drop)]
+enum Wrong {
+    /// Memory ran out.
+    Memory,
+    /// The shape of this number, of this graph, left a graph that is not good.
+    Graph { graph: u32, number: u64 },
+    /// The shape of this number, of this graph, changed the keyset of a node that it does not name.
+    Keyset { graph: u32, number: u64 },
+    /// The step of this number, which has to keep the graph good and the left child as it was, did not.
+    Step(u32),
+    /// The graph that is spoiled in this way is called good.
+    Unseen(u32),
+}
+
+impl From<AllocError> for Wrong {
+    fn from(_: AllocError) -> Wrong {
+        Wrong::Memory
+    }
+}
+
+/// Whether each node that is not named has the keyset that it had.
+fn others_stay(before: &[Vec<Span>], after: &[Vec<Span>], named: [u32; 3]) -> bool {
+    (0..9u32).all(|node| {
+        let stays = before.get(node as usize) == after.get(node as usize);
+        stays || named.contains(&node)
+    })
+}
+
+/// Tries the shape that the number picks. It returns whether there was one.
+fn try_shape(alloc: Global, tried: &mut Graph, graph: u32, number: u64) -> Result<bool, Wrong> {
+    let before = keysets(alloc, tried)?;
+    let named = shape(alloc, tried, number >> 20)?;
+    let after = keysets(alloc, tried)?;
+    if !is_good(tried) {
+        return Err(Wrong::Graph { graph, number });
+    }
+    if !others_stay(&before, &after, named) {
+        return Err(Wrong::Keyset { graph, number });
+    }
+    Ok(named[0] != named[1])
+}
+
+/// Tries this many shapes in each of this many graphs. It returns how many shapes there were.
+fn try_shapes(alloc: Global, graphs: u32, draws: u32) -> Result<u32, Wrong> {
     let mut number: u64 = 1;
     let mut shapes: u32 = 0;
-    for _graph in 0..40u32 {
-        let mut graph = opened(alloc, all_pairs(alloc)?)?;
-        for _shape in 0..12u32 {
+    for graph in 0..graphs {
+        let mut tried = opened(alloc, all_pairs(alloc)?)?;
+        for _shape in 0..draws {
             number = drawn(number);
-            let before = keysets(alloc, &graph)?;
-            let named = shape(alloc, &mut graph, number >> 20)?;
-            let after = keysets(alloc, &graph)?;
-            assert!(rt; is_good(&graph));
-            for node in 0..9u32 {
-                let stays = before.get(node as usize) == after.get(node as usize);
-                assert!(rt; stays || named.contains(&node));
-            }
-            shapes = shapes.saturating_add((named[0] != named[1]) as u32);
+            let made = try_shape(alloc, &mut tried, graph, number)?;
+            shapes = shapes.saturating_add(made as u32);
         }
     }
+    Ok(shapes)
+}
+
+#[test]
+fn random_shapes_keep_graphs_good(rt: HostRuntime) -> Result<(), Wrong> {
+    let shapes = try_shapes(rt.alloc(), 40, 12)?;
     assert!(rt; 200 < shapes);
     Ok(())
 }
@@ -248,12 +289,12 @@ fn wrong_part(alloc: Global, graph: &Graph, way: u32) -> Result<(u32, NodeState)
     let (_none, mut record) = parts(alloc, graph, 3, 0)?;
     let changed = match (way, record.pairs.pop()) {
         // a value that the node had not
-        (0, Some(pair)) => Some(Pair {
+        (6, Some(pair)) => Some(Pair {
             place: pair.place,
             value: pair.value ^ 1,
         }),
         // a pair that is not in the keyset
-        (1, Some(pair)) => Some(Pair {
+        (7, Some(pair)) => Some(Pair {
             place: 20,
             value: pair.value,
         }),
@@ -293,45 +334,61 @@ fn split(alloc: Global) -> Result<Graph, AllocError> {
     Ok(graph)
 }
 
-#[test]
-fn spoiled_shapes_are_seen(rt: HostRuntime) -> Result<(), AllocError> {
-    let alloc = rt.alloc();
-    assert!(rt; is_good(&split(alloc)?));
-    for way in 0..6u32 {
-        let mut graph = split(alloc)?;
-        set(&mut graph, 0, wrong_root(alloc, way)?);
-        assert!(rt; !is_good(&graph));
-    }
-    for way in 0..3u32 {
-        let mut graph = split(alloc)?;
-        let (node, state) = wrong_part(alloc, &graph, way)?;
-        set(&mut graph, node, state);
-        assert!(rt; !is_good(&graph));
-    }
-    for state in [NodeState::Free, NodeState::Claimed(0)] {
-        let mut graph = split(alloc)?;
-        set(&mut graph, 3, state);
-        assert!(rt; !is_good(&graph));
+/// The split, spoiled in one of eleven ways: the root, a part, or the state of node 3 is wrong.
+fn spoiled_split(alloc: Global, way: u32) -> Result<Graph, AllocError> {
+    let mut graph = split(alloc)?;
+    let (node, state) = match way {
+        0..=5 => (0, wrong_root(alloc, way)?),
+        6..=8 => wrong_part(alloc, &graph, way)?,
+        9 => (3, NodeState::Free),
+        _ => (3, NodeState::Claimed(0)),
+    };
+    set(&mut graph, node, state);
+    Ok(graph)
+}
+
+/// Each of the eleven ways to spoil the split is seen.
+fn see_spoiled_splits(alloc: Global) -> Result<(), Wrong> {
+    for way in 0..11u32 {
+        if is_good(&spoiled_split(alloc, way)?) {
+            return Err(Wrong::Unseen(way));
+        }
     }
     Ok(())
 }
 
 #[test]
-fn the_left_part_may_not_keep_all(rt: HostRuntime) -> Result<(), AllocError> {
-    let alloc = rt.alloc();
+fn spoiled_shapes_are_seen(rt: HostRuntime) -> Result<(), Wrong> {
+    assert!(rt; is_good(&split(rt.alloc())?));
+    see_spoiled_splits(rt.alloc())
+}
+
+/// A split whose left part keeps all.
+fn split_in_vain(alloc: Global) -> Result<Graph, AllocError> {
     let mut graph = opened(alloc, all_pairs(alloc)?)?;
     grow(alloc, &mut graph, 0, (1, 2), 16)?;
     let (_none, whole) = parts(alloc, &graph, 1, 0)?;
     split_under(alloc, &mut graph, 0, 1, 3, 8)?;
     set(&mut graph, 1, NodeState::Live(whole));
-    assert!(rt; !is_good(&graph));
+    Ok(graph)
+}
+
+#[test]
+fn the_left_part_may_not_keep_all(rt: HostRuntime) -> Result<(), AllocError> {
+    assert!(rt; !is_good(&split_in_vain(rt.alloc())?));
     Ok(())
+}
+
+/// The root has grown.
+fn branched(alloc: Global) -> Result<Graph, AllocError> {
+    let mut graph = opened(alloc, all_pairs(alloc)?)?;
+    grow(alloc, &mut graph, 0, (1, 2), 8)?;
+    Ok(graph)
 }
 
 /// The root has grown, and then its right child, at a place that has a value.
 fn grown(alloc: Global) -> Result<Graph, AllocError> {
-    let mut graph = opened(alloc, all_pairs(alloc)?)?;
-    grow(alloc, &mut graph, 0, (1, 2), 8)?;
+    let mut graph = branched(alloc)?;
     grow(alloc, &mut graph, 2, (3, 4), 15)?;
     Ok(graph)
 }
@@ -350,62 +407,103 @@ fn taken_over(alloc: Global) -> Result<Graph, AllocError> {
     Ok(graph)
 }
 
-#[test]
-fn a_node_below_the_root_grows_and_takes_its_child_over(rt: HostRuntime) -> Result<(), AllocError> {
-    let alloc = rt.alloc();
-    let mut before = opened(alloc, all_pairs(alloc)?)?;
-    grow(alloc, &mut before, 0, (1, 2), 8)?;
-    for graph in [grown(alloc)?, joined(alloc)?, taken_over(alloc)?] {
-        assert!(rt; is_good(&graph));
-        assert!(rt; keyset_of(alloc, &graph, 1)? == keyset_of(alloc, &before, 1)?);
+/// The graph after the step of this number.
+fn stepped(alloc: Global, step: u32) -> Result<Graph, AllocError> {
+    match step {
+        0 => grown(alloc),
+        1 => joined(alloc),
+        _ => taken_over(alloc),
     }
-    assert!(rt; keysets(alloc, &taken_over(alloc)?)? == keysets(alloc, &before)?);
+}
+
+/// Each of the three steps keeps the graph good, and the left child as it was.
+fn take_steps(alloc: Global) -> Result<(), Wrong> {
+    let before = branched(alloc)?;
+    let left = keyset_of(alloc, &before, 1)?;
+    for step in 0..3u32 {
+        let graph = stepped(alloc, step)?;
+        if !is_good(&graph) || keyset_of(alloc, &graph, 1)? != left {
+            return Err(Wrong::Step(step));
+        }
+    }
     Ok(())
 }
 
 #[test]
-fn spoiled_growths_below_the_root_are_seen(rt: HostRuntime) -> Result<(), AllocError> {
+fn a_node_below_the_root_grows_and_takes_its_child_over(rt: HostRuntime) -> Result<(), Wrong> {
     let alloc = rt.alloc();
-    // the right edge of the node that grew begins one late
-    let mut graph = grown(alloc)?;
-    set(
-        &mut graph,
-        2,
-        branch(alloc, &[(0, 14, 3), (16, u64::MAX, 4)])?,
-    );
-    assert!(rt; !is_good(&graph));
-    // the left half keeps the upper pairs
-    let mut graph = grown(alloc)?;
-    let (_none, whole) = parts(alloc, &joined(alloc)?, 3, 0)?;
-    set(&mut graph, 3, NodeState::Live(whole));
-    assert!(rt; !is_good(&graph));
-    // the node still leads to the child that it took over
-    let mut graph = taken_over(alloc)?;
-    set(&mut graph, 2, branch(alloc, &[(0, u64::MAX, 3)])?);
-    assert!(rt; !is_good(&graph));
-    // it has none of the pairs of that child
-    let mut graph = taken_over(alloc)?;
-    set(&mut graph, 2, NodeState::Live(empty(alloc)));
-    assert!(rt; !is_good(&graph));
+    take_steps(alloc)?;
+    assert!(rt; keysets(alloc, &taken_over(alloc)?)? == keysets(alloc, &branched(alloc)?)?);
+    Ok(())
+}
+
+/// What is wrong of which node after a growth below the root, or after the child was taken over.
+fn wrong_growth(alloc: Global, way: u32) -> Result<(u32, NodeState), AllocError> {
+    Ok(match way {
+        // the right edge of the node that grew begins one late
+        0 => (2, branch(alloc, &[(0, 14, 3), (16, u64::MAX, 4)])?),
+        // the left half keeps the upper pairs
+        1 => {
+            let (_none, whole) = parts(alloc, &joined(alloc)?, 3, 0)?;
+            (3, NodeState::Live(whole))
+        }
+        // the node still leads to the child that it took over
+        2 => (2, branch(alloc, &[(0, u64::MAX, 3)])?),
+        // it has none of the pairs of that child
+        _ => (2, NodeState::Live(empty(alloc))),
+    })
+}
+
+/// Each of the four ways to spoil a growth below the root is seen: two after it, and two after the child was taken over.
+fn see_spoiled_growths(alloc: Global) -> Result<(), Wrong> {
+    for way in 0..4u32 {
+        let step = if way < 2 { 0 } else { 2 };
+        let mut graph = stepped(alloc, step)?;
+        let (node, state) = wrong_growth(alloc, way)?;
+        set(&mut graph, node, state);
+        if is_good(&graph) {
+            return Err(Wrong::Unseen(way));
+        }
+    }
     Ok(())
 }
 
 #[test]
-fn an_own_edge_below_the_low_spoils_a_merge(rt: HostRuntime) -> Result<(), AllocError> {
-    let alloc = rt.alloc();
+fn spoiled_growths_below_the_root_are_seen(rt: HostRuntime) -> Result<(), Wrong> {
+    see_spoiled_growths(rt.alloc())
+}
+
+/// The right child of the root leads on by an edge of its own, which begins below its low.
+fn with_an_own_edge(alloc: Global) -> Result<Graph, AllocError> {
     let mut graph = opened(alloc, all_pairs(alloc)?)?;
     grow(alloc, &mut graph, 0, (1, 2), 16)?;
     split_own(alloc, &mut graph, 2, 4, 16)?;
     set(&mut graph, 2, branch(alloc, &[(5, u64::MAX, 4)])?);
-    assert!(rt; is_good(&graph));
-    let next = edge(16, u64::MAX, 2);
-    absorb_under(alloc, &mut graph, 0, 1, next)?;
-    assert!(rt; is_good(&graph));
-    let (_none, mut merged) = parts(alloc, &graph, 1, 0)?;
-    for old in &mut merged.edges {
+    Ok(graph)
+}
+
+/// The left child has taken over that right child.
+fn merged(alloc: Global) -> Result<Graph, AllocError> {
+    let mut graph = with_an_own_edge(alloc)?;
+    absorb_under(alloc, &mut graph, 0, 1, edge(16, u64::MAX, 2))?;
+    Ok(graph)
+}
+
+/// The left child has taken over that edge uncut, from below the low of the right child.
+fn merged_whole(alloc: Global) -> Result<Graph, AllocError> {
+    let mut graph = merged(alloc)?;
+    let (_none, mut record) = parts(alloc, &graph, 1, 0)?;
+    for old in &mut record.edges {
         *old = edge(5, old.span.last, old.node);
     }
-    set(&mut graph, 1, NodeState::Live(merged));
-    assert!(rt; !is_good(&graph));
+    set(&mut graph, 1, NodeState::Live(record));
+    Ok(graph)
+}
+
+#[test]
+fn an_own_edge_below_the_low_spoils_a_merge(rt: HostRuntime) -> Result<(), AllocError> {
+    assert!(rt; is_good(&with_an_own_edge(rt.alloc())?));
+    assert!(rt; is_good(&merged(rt.alloc())?));
+    assert!(rt; !is_good(&merged_whole(rt.alloc())?));
     Ok(())
 }
