@@ -1,139 +1,255 @@
 //! Worked histories.
 
+use crate::wrong::Wrong;
 use ks_history::{Answered, BoxedFew, Op, Reply, Verdict, legal, lists_span, map_after};
 use ks_keysets::{Few, Pair};
-use std::alloc::AllocError;
+use std::alloc::{AllocError, Global};
 use std::collections::BTreeMap;
 
-/// A call and its reply.
-fn call(op: Op, reply: Reply) -> Answered {
-    Answered { op, reply }
+/// A reply, of which a part's pairs are in a table.
+#[derive(Clone, Copy)]
+enum Told {
+    Nothing,
+    Value(u128),
+    Full,
+    Listed(&'static [(u64, u128)]),
+    Kept,
 }
 
-/// A value at a place.
-fn pair(place: u64, value: u128) -> Pair {
-    Pair { place, value }
+/// A history with its verdict.
+#[derive(Clone, Copy)]
+struct Worked {
+    calls: &'static [(Op, Told)],
+    verdict: Verdict,
+    /// The pairs of the map that the calls leave, if that is looked at.
+    left: Option<&'static [(u64, u128)]>,
 }
+
+/// The list of these pairs, of which there are sixteen at most.
+fn few_of(pairs: &[(u64, u128)]) -> Few {
+    let mut few = Few::new();
+    for &(place, value) in pairs {
+        if few.len() < 16 {
+            few.push(Pair { place, value });
+        }
+    }
+    few
+}
+
+fn reply_of(alloc: Global, told: Told) -> Result<Reply, AllocError> {
+    Ok(match told {
+        Told::Nothing => Reply::Nothing,
+        Told::Value(value) => Reply::Value(value),
+        Told::Full => Reply::Full,
+        Told::Listed(pairs) => Reply::Listed(BoxedFew::new(alloc, few_of(pairs))?),
+        Told::Kept => Reply::Kept,
+    })
+}
+
+fn calls_of(alloc: Global, rows: &[(Op, Told)]) -> Result<Vec<Answered>, AllocError> {
+    let mut calls = Vec::new(alloc);
+    for &(op, told) in rows {
+        let reply = reply_of(alloc, told)?;
+        calls.push(Answered { op, reply })?;
+    }
+    Ok(calls)
+}
+
+/// Whether the map has these pairs and no other.
+fn has_pairs(map: &BTreeMap<u64, u128>, pairs: &[(u64, u128)]) -> bool {
+    if map.len() != pairs.len() {
+        return false;
+    }
+    for (place, value) in pairs {
+        if map.get(place).copied() != Some(*value) {
+            return false;
+        }
+    }
+    true
+}
+
+/// Judges the history of a row.
+fn judge(alloc: Global, row: usize, worked: &Worked) -> Result<(), Wrong> {
+    let calls = calls_of(alloc, worked.calls)?;
+    let verdict = legal(alloc, &calls)?;
+    if verdict != worked.verdict {
+        return Err(Wrong::Verdict { row, verdict });
+    }
+    if let Some(pairs) = worked.left {
+        if !has_pairs(&map_after(alloc, &calls)?, pairs) {
+            return Err(Wrong::Row(row));
+        }
+    }
+    Ok(())
+}
+
+/// Judges the history of each row.
+fn judge_each(alloc: Global, rows: &[Worked]) -> Result<(), Wrong> {
+    for (row, worked) in rows.iter().enumerate() {
+        judge(alloc, row, worked)?;
+    }
+    Ok(())
+}
+
+static REPLAYED: [Worked; 2] = [
+    Worked {
+        calls: &[
+            (Op::Put(5, 50), Told::Nothing),
+            (Op::Put(6, 60), Told::Full),
+            (Op::Get(5), Told::Value(50)),
+        ],
+        verdict: Verdict::Legal,
+        left: Some(&[(5, 50)]),
+    },
+    Worked {
+        calls: &[],
+        verdict: Verdict::Legal,
+        left: None,
+    },
+];
 
 #[test]
-fn replays_a_history(rt: HostRuntime) -> Result<(), AllocError> {
-    let calls = [
-        call(Op::Put(5, 50), Reply::Nothing),
-        call(Op::Put(6, 60), Reply::Full),
-        call(Op::Get(5), Reply::Value(50)),
-    ];
-    let map = map_after(rt.alloc(), &calls)?;
-    assert_eq!(rt; map.len(), 1);
-    assert!(rt; map.get(&5).copied() == Some(50));
-    assert_eq!(rt; legal(rt.alloc(), &calls)?, Verdict::Legal);
-    assert_eq!(rt; legal(rt.alloc(), &[])?, Verdict::Legal);
+fn replays_a_history(rt: HostRuntime) -> Result<(), Wrong> {
+    judge_each(rt.alloc(), &REPLAYED)
+}
+
+static WRONG: [Worked; 2] = [
+    Worked {
+        calls: &[
+            (Op::Put(5, 50), Told::Nothing),
+            (Op::Get(5), Told::Nothing),
+            (Op::Get(5), Told::Full),
+        ],
+        verdict: Verdict::Wrong { number: 1 },
+        left: None,
+    },
+    Worked {
+        calls: &[(Op::Get(5), Told::Full)],
+        verdict: Verdict::Wrong { number: 0 },
+        left: None,
+    },
+];
+
+#[test]
+fn names_the_first_wrong_reply(rt: HostRuntime) -> Result<(), Wrong> {
+    judge_each(rt.alloc(), &WRONG)
+}
+
+static ADDED: [Worked; 1] = [Worked {
+    calls: &[
+        (Op::Add(5, 1), Told::Nothing),
+        (Op::Add(5, 2), Told::Value(1)),
+        (Op::Add(6, 2), Told::Full),
+        (Op::Swap(5, 1, 7), Told::Value(1)),
+        (Op::Swap(5, 1, 0), Told::Value(7)),
+        (Op::Swap(6, 1, 0), Told::Nothing),
+        (Op::Del(5), Told::Value(7)),
+        (Op::Get(5), Told::Nothing),
+    ],
+    verdict: Verdict::Legal,
+    left: Some(&[]),
+}];
+
+#[test]
+fn adds_where_nothing_stands_and_swaps_what_stands(rt: HostRuntime) -> Result<(), Wrong> {
+    judge_each(rt.alloc(), &ADDED)
+}
+
+/// Two places, pairs, and whether these are what the map has from the one place to the other.
+type Listing = (u64, u64, &'static [(u64, u128)], bool);
+
+static MAP: [(u64, u128); 3] = [(5, 50), (6, 60), (9, 90)];
+
+static LISTINGS: [Listing; 7] = [
+    (4, 8, &[(5, 50)], false),
+    (4, 8, &[(5, 50), (6, 60)], true),
+    (4, 8, &[(5, 50), (6, 60), (9, 90)], false),
+    (5, 9, &[(5, 50), (6, 60), (9, 90)], true),
+    (4, 8, &[(5, 50), (6, 61)], false),
+    (8, 4, &[], true),
+    (8, 4, &[(5, 50), (6, 60), (9, 90)], false),
+];
+
+/// The map of these pairs.
+fn map_of(alloc: Global, pairs: &[(u64, u128)]) -> Result<BTreeMap<u64, u128>, AllocError> {
+    let mut map = BTreeMap::new(alloc);
+    for &(place, value) in pairs {
+        map.insert(place, value)?;
+    }
+    Ok(map)
+}
+
+/// Lists the spans of each row in the map of these pairs.
+fn list_each(alloc: Global, pairs: &[(u64, u128)], rows: &[Listing]) -> Result<(), Wrong> {
+    let map = map_of(alloc, pairs)?;
+    for (row, &(low, last, pairs, listed)) in rows.iter().enumerate() {
+        if lists_span(&map, low, last, &few_of(pairs)) != listed {
+            return Err(Wrong::Row(row));
+        }
+    }
     Ok(())
 }
 
 #[test]
-fn names_the_first_wrong_reply(rt: HostRuntime) -> Result<(), AllocError> {
-    let lost = [
-        call(Op::Put(5, 50), Reply::Nothing),
-        call(Op::Get(5), Reply::Nothing),
-        call(Op::Get(5), Reply::Full),
-    ];
-    assert_eq!(rt; legal(rt.alloc(), &lost)?, Verdict::Wrong { number: 1 });
-    let full = [call(Op::Get(5), Reply::Full)];
-    assert_eq!(rt; legal(rt.alloc(), &full)?, Verdict::Wrong { number: 0 });
-    Ok(())
+fn lists_what_the_map_has_from_one_place_to_another(rt: HostRuntime) -> Result<(), Wrong> {
+    list_each(rt.alloc(), &MAP, &LISTINGS)
 }
 
+static MOVED: [Worked; 2] = [
+    Worked {
+        calls: &[
+            (Op::Put(5, 50), Told::Nothing),
+            (Op::Move(5, 6), Told::Value(50)),
+            (Op::Move(5, 7), Told::Nothing),
+            (Op::Put(7, 70), Told::Nothing),
+            (Op::Move(6, 7), Told::Kept),
+            (Op::Move(6, 6), Told::Kept),
+            (Op::Move(6, 8), Told::Full),
+        ],
+        verdict: Verdict::Legal,
+        left: Some(&[(6, 50), (7, 70)]),
+    },
+    Worked {
+        calls: &[
+            (Op::Put(5, 50), Told::Nothing),
+            (Op::Put(6, 60), Told::Nothing),
+            (Op::Move(5, 6), Told::Value(50)),
+        ],
+        verdict: Verdict::Wrong { number: 2 },
+        left: None,
+    },
+];
+
 #[test]
-fn adds_where_nothing_stands_and_swaps_what_stands(rt: HostRuntime) -> Result<(), AllocError> {
-    let calls = [
-        call(Op::Add(5, 1), Reply::Nothing),
-        call(Op::Add(5, 2), Reply::Value(1)),
-        call(Op::Add(6, 2), Reply::Full),
-        call(Op::Swap(5, 1, 7), Reply::Value(1)),
-        call(Op::Swap(5, 1, 0), Reply::Value(7)),
-        call(Op::Swap(6, 1, 0), Reply::Nothing),
-        call(Op::Del(5), Reply::Value(7)),
-        call(Op::Get(5), Reply::Nothing),
-    ];
-    assert_eq!(rt; legal(rt.alloc(), &calls)?, Verdict::Legal);
-    assert_eq!(rt; map_after(rt.alloc(), &calls)?.len(), 0);
-    Ok(())
+fn a_move_takes_out_and_puts_in_at_once(rt: HostRuntime) -> Result<(), Wrong> {
+    judge_each(rt.alloc(), &MOVED)
 }
 
-#[test]
-fn lists_what_the_map_has_from_one_place_to_another(rt: HostRuntime) -> Result<(), AllocError> {
-    let mut map = BTreeMap::new(rt.alloc());
-    map.insert(5, 50)?;
-    map.insert(6, 60)?;
-    map.insert(9, 90)?;
-    let mut pairs = Few::new();
-    pairs.push(pair(5, 50));
-    assert!(rt; !lists_span(&map, 4, 8, &pairs));
-    pairs.push(pair(6, 60));
-    assert!(rt; lists_span(&map, 4, 8, &pairs));
-    pairs.push(pair(9, 90));
-    assert!(rt; !lists_span(&map, 4, 8, &pairs));
-    assert!(rt; lists_span(&map, 5, 9, &pairs));
-
-    let mut wrong = Few::new();
-    wrong.push(pair(5, 50));
-    wrong.push(pair(6, 61));
-    assert!(rt; !lists_span(&map, 4, 8, &wrong));
-
-    assert!(rt; lists_span(&map, 8, 4, &Few::new()));
-    assert!(rt; !lists_span(&map, 8, 4, &pairs));
-    Ok(())
-}
+static PARTS: [Worked; 2] = [
+    Worked {
+        calls: &[
+            (Op::Put(5, 50), Told::Nothing),
+            (Op::Put(9, 90), Told::Nothing),
+            (Op::Part(0, 8), Told::Listed(&[(5, 50)])),
+            (Op::Part(0, 9), Told::Listed(&[])),
+        ],
+        verdict: Verdict::Wrong { number: 3 },
+        left: None,
+    },
+    Worked {
+        calls: &[(Op::Part(5, 5), Told::Nothing)],
+        verdict: Verdict::Wrong { number: 0 },
+        left: None,
+    },
+];
 
 #[test]
-fn a_move_takes_out_and_puts_in_at_once(rt: HostRuntime) -> Result<(), AllocError> {
-    let calls = [
-        call(Op::Put(5, 50), Reply::Nothing),
-        call(Op::Move(5, 6), Reply::Value(50)),
-        call(Op::Move(5, 7), Reply::Nothing),
-        call(Op::Put(7, 70), Reply::Nothing),
-        call(Op::Move(6, 7), Reply::Kept),
-        call(Op::Move(6, 6), Reply::Kept),
-        call(Op::Move(6, 8), Reply::Full),
-    ];
-    assert_eq!(rt; legal(rt.alloc(), &calls)?, Verdict::Legal);
-    let map = map_after(rt.alloc(), &calls)?;
-    assert_eq!(rt; map.len(), 2);
-    assert!(rt; map.get(&6).copied() == Some(50));
-    assert!(rt; map.get(&7).copied() == Some(70));
-    let over = [
-        call(Op::Put(5, 50), Reply::Nothing),
-        call(Op::Put(6, 60), Reply::Nothing),
-        call(Op::Move(5, 6), Reply::Value(50)),
-    ];
-    assert_eq!(rt; legal(rt.alloc(), &over)?, Verdict::Wrong { number: 2 });
-    Ok(())
-}
-
-#[test]
-fn a_part_has_the_pairs_of_its_places(rt: HostRuntime) -> Result<(), AllocError> {
-    let mut pairs = Few::new();
-    pairs.push(pair(5, 50));
-    let calls = [
-        call(Op::Put(5, 50), Reply::Nothing),
-        call(Op::Put(9, 90), Reply::Nothing),
-        call(
-            Op::Part(0, 8),
-            Reply::Listed(BoxedFew::new(rt.alloc(), pairs)?),
-        ),
-        call(
-            Op::Part(0, 9),
-            Reply::Listed(BoxedFew::new(rt.alloc(), Few::new())?),
-        ),
-    ];
-    assert_eq!(rt; legal(rt.alloc(), &calls)?, Verdict::Wrong { number: 3 });
-    let as_get = [call(Op::Part(5, 5), Reply::Nothing)];
-    assert_eq!(rt; legal(rt.alloc(), &as_get)?, Verdict::Wrong { number: 0 });
-    Ok(())
+fn a_part_has_the_pairs_of_its_places(rt: HostRuntime) -> Result<(), Wrong> {
+    judge_each(rt.alloc(), &PARTS)
 }
 
 #[test]
 fn a_reply_is_32_bytes(rt: HostRuntime) {
-    assert_eq!(rt; std::mem::size_of::<Reply>(), 32);
-    assert_eq!(rt; std::mem::size_of::<(u64, Reply)>(), 48);
+    assert!(rt; std::mem::size_of::<Reply>() == 32);
+    assert!(rt; std::mem::size_of::<(u64, Reply)>() == 48);
 }

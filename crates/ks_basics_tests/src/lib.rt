@@ -15,3 +15,5 @@ mod places;
 mod readers;
 #[cfg(test)]
 mod tickets;
+#[cfg(test)]
+mod wrong;

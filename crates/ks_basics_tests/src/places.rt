@@ -13,13 +13,13 @@ fn there_and_back<P: Placing>(k: u64) -> (u64, u64)
 
 #[test]
 fn golden_factors_are_the_known_ones(rt: HostRuntime) {
-    assert_eq!(rt; Golden::place(1), 11400714819323198485);
-    assert_eq!(rt; Golden::key_of(1), 17428512612931826493);
-    assert_eq!(rt; Golden::place(0), 0);
+    assert!(rt; Golden::place(1) == 11400714819323198485);
+    assert!(rt; Golden::key_of(1) == 17428512612931826493);
+    assert!(rt; Golden::place(0) == 0);
 }
 
 #[test]
 fn each_way_undoes_the_other(rt: HostRuntime) {
-    assert_eq!(rt; there_and_back::<Plain>(u64::MAX), (u64::MAX, u64::MAX));
-    assert_eq!(rt; there_and_back::<Golden>(u64::MAX), (u64::MAX, u64::MAX));
+    assert!(rt; there_and_back::<Plain>(u64::MAX) == (u64::MAX, u64::MAX));
+    assert!(rt; there_and_back::<Golden>(u64::MAX) == (u64::MAX, u64::MAX));
 }
