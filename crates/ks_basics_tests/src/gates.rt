@@ -207,16 +207,16 @@ fn no_gate_keeps_nobody(rt: HostRuntime) {
 
 /// Caller 0 makes 18 calls and caller 1 three: their last calls have these numbers, and the gate has failed neither before
 /// nor after.
-fn stands<R: Threads>(rt: &R, gate: &Stand, wanted: (u64, u64)) -> Result<(), Wrong> {
+fn stops_until<R: Threads>(rt: &R, gate: &Stand, wanted: (u64, u64)) -> Result<(), Wrong> {
     not_failed(gate)?;
     are_numbers(beside(rt, gate, 18, 3), wanted)?;
     not_failed(gate)
 }
 
 #[test]
-fn a_stander_stands_for_as_many_calls_as_it_was_told(rt: HostRuntime) -> Result<(), Wrong> {
+fn a_caller_is_stopped_until_another_has_made_as_many_calls(rt: HostRuntime) -> Result<(), Wrong> {
     let gate = Stand::of(0, 17, Point::Given(0), 1, 3, LONG);
-    stands(&rt, &gate, (20, 19))
+    stops_until(&rt, &gate, (20, 19))
 }
 
 static TOO_FEW: [Passed; 2] = [(1, Point::Decided(0), false), (0, Point::Taken(1), true)];

@@ -8,7 +8,7 @@ use std::collections::BTreeMap;
 
 /// A reply, of which a part's pairs are in a table.
 #[derive(Clone, Copy)]
-enum Told {
+enum Replied {
     Nothing,
     Value(u128),
     Full,
@@ -19,7 +19,7 @@ enum Told {
 /// A history with its verdict.
 #[derive(Clone, Copy)]
 struct Worked {
-    calls: &'static [(Op, Told)],
+    calls: &'static [(Op, Replied)],
     verdict: Verdict,
     /// The pairs of the map that the calls leave, if that is looked at.
     left: Option<&'static [(u64, u128)]>,
@@ -36,20 +36,20 @@ fn few_of(pairs: &[(u64, u128)]) -> Few {
     few
 }
 
-fn reply_of(alloc: Global, told: Told) -> Result<Reply, AllocError> {
-    Ok(match told {
-        Told::Nothing => Reply::Nothing,
-        Told::Value(value) => Reply::Value(value),
-        Told::Full => Reply::Full,
-        Told::Listed(pairs) => Reply::Listed(BoxedFew::new(alloc, few_of(pairs))?),
-        Told::Kept => Reply::Kept,
+fn reply_of(alloc: Global, replied: Replied) -> Result<Reply, AllocError> {
+    Ok(match replied {
+        Replied::Nothing => Reply::Nothing,
+        Replied::Value(value) => Reply::Value(value),
+        Replied::Full => Reply::Full,
+        Replied::Listed(pairs) => Reply::Listed(BoxedFew::new(alloc, few_of(pairs))?),
+        Replied::Kept => Reply::Kept,
     })
 }
 
-fn calls_of(alloc: Global, rows: &[(Op, Told)]) -> Result<Vec<Answered>, AllocError> {
+fn calls_of(alloc: Global, rows: &[(Op, Replied)]) -> Result<Vec<Answered>, AllocError> {
     let mut calls = Vec::new(alloc);
-    for &(op, told) in rows {
-        let reply = reply_of(alloc, told)?;
+    for &(op, replied) in rows {
+        let reply = reply_of(alloc, replied)?;
         calls.push(Answered { op, reply })?;
     }
     Ok(calls)
@@ -94,9 +94,9 @@ fn judge_each(alloc: Global, rows: &[Worked]) -> Result<(), Wrong> {
 static REPLAYED: [Worked; 2] = [
     Worked {
         calls: &[
-            (Op::Put(5, 50), Told::Nothing),
-            (Op::Put(6, 60), Told::Full),
-            (Op::Get(5), Told::Value(50)),
+            (Op::Put(5, 50), Replied::Nothing),
+            (Op::Put(6, 60), Replied::Full),
+            (Op::Get(5), Replied::Value(50)),
         ],
         verdict: Verdict::Legal,
         left: Some(&[(5, 50)]),
@@ -116,15 +116,15 @@ fn replays_a_history(rt: HostRuntime) -> Result<(), Wrong> {
 static WRONG: [Worked; 2] = [
     Worked {
         calls: &[
-            (Op::Put(5, 50), Told::Nothing),
-            (Op::Get(5), Told::Nothing),
-            (Op::Get(5), Told::Full),
+            (Op::Put(5, 50), Replied::Nothing),
+            (Op::Get(5), Replied::Nothing),
+            (Op::Get(5), Replied::Full),
         ],
         verdict: Verdict::Wrong { number: 1 },
         left: None,
     },
     Worked {
-        calls: &[(Op::Get(5), Told::Full)],
+        calls: &[(Op::Get(5), Replied::Full)],
         verdict: Verdict::Wrong { number: 0 },
         left: None,
     },
@@ -137,14 +137,14 @@ fn names_the_first_wrong_reply(rt: HostRuntime) -> Result<(), Wrong> {
 
 static ADDED: [Worked; 1] = [Worked {
     calls: &[
-        (Op::Add(5, 1), Told::Nothing),
-        (Op::Add(5, 2), Told::Value(1)),
-        (Op::Add(6, 2), Told::Full),
-        (Op::Swap(5, 1, 7), Told::Value(1)),
-        (Op::Swap(5, 1, 0), Told::Value(7)),
-        (Op::Swap(6, 1, 0), Told::Nothing),
-        (Op::Del(5), Told::Value(7)),
-        (Op::Get(5), Told::Nothing),
+        (Op::Add(5, 1), Replied::Nothing),
+        (Op::Add(5, 2), Replied::Value(1)),
+        (Op::Add(6, 2), Replied::Full),
+        (Op::Swap(5, 1, 7), Replied::Value(1)),
+        (Op::Swap(5, 1, 0), Replied::Value(7)),
+        (Op::Swap(6, 1, 0), Replied::Nothing),
+        (Op::Del(5), Replied::Value(7)),
+        (Op::Get(5), Replied::Nothing),
     ],
     verdict: Verdict::Legal,
     left: Some(&[]),
@@ -198,22 +198,22 @@ fn lists_what_the_map_has_from_one_place_to_another(rt: HostRuntime) -> Result<(
 static MOVED: [Worked; 2] = [
     Worked {
         calls: &[
-            (Op::Put(5, 50), Told::Nothing),
-            (Op::Move(5, 6), Told::Value(50)),
-            (Op::Move(5, 7), Told::Nothing),
-            (Op::Put(7, 70), Told::Nothing),
-            (Op::Move(6, 7), Told::Kept),
-            (Op::Move(6, 6), Told::Kept),
-            (Op::Move(6, 8), Told::Full),
+            (Op::Put(5, 50), Replied::Nothing),
+            (Op::Move(5, 6), Replied::Value(50)),
+            (Op::Move(5, 7), Replied::Nothing),
+            (Op::Put(7, 70), Replied::Nothing),
+            (Op::Move(6, 7), Replied::Kept),
+            (Op::Move(6, 6), Replied::Kept),
+            (Op::Move(6, 8), Replied::Full),
         ],
         verdict: Verdict::Legal,
         left: Some(&[(6, 50), (7, 70)]),
     },
     Worked {
         calls: &[
-            (Op::Put(5, 50), Told::Nothing),
-            (Op::Put(6, 60), Told::Nothing),
-            (Op::Move(5, 6), Told::Value(50)),
+            (Op::Put(5, 50), Replied::Nothing),
+            (Op::Put(6, 60), Replied::Nothing),
+            (Op::Move(5, 6), Replied::Value(50)),
         ],
         verdict: Verdict::Wrong { number: 2 },
         left: None,
@@ -228,16 +228,16 @@ fn a_move_takes_out_and_puts_in_at_once(rt: HostRuntime) -> Result<(), Wrong> {
 static PARTS: [Worked; 2] = [
     Worked {
         calls: &[
-            (Op::Put(5, 50), Told::Nothing),
-            (Op::Put(9, 90), Told::Nothing),
-            (Op::Part(0, 8), Told::Listed(&[(5, 50)])),
-            (Op::Part(0, 9), Told::Listed(&[])),
+            (Op::Put(5, 50), Replied::Nothing),
+            (Op::Put(9, 90), Replied::Nothing),
+            (Op::Part(0, 8), Replied::Listed(&[(5, 50)])),
+            (Op::Part(0, 9), Replied::Listed(&[])),
         ],
         verdict: Verdict::Wrong { number: 3 },
         left: None,
     },
     Worked {
-        calls: &[(Op::Part(5, 5), Told::Nothing)],
+        calls: &[(Op::Part(5, 5), Replied::Nothing)],
         verdict: Verdict::Wrong { number: 0 },
         left: None,
     },
