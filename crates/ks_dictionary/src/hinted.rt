@@ -3,37 +3,30 @@ ghost use Rattle.std.specs.Prelude.{◌≡◌, ℕ, ◌<◌, length, All, slice_
 ghost use Rattle.ks_dictionary.specs.Beginning.{BeginsAt, IsDrawing, IsReady};
 ghost use Rattle.ks_tickets.specs.Clauses.{IsFree, IsSameDesk};
 
+use crate::aids::Reader;
 use crate::worker::{Beginning, Worker};
 use ks_hints::HintWriter;
 use ks_tickets::{Desk, Ticketed, Tickets};
 
-/// Draws the caller that a worker at this desk serves with the writer.
-fn first_at<'a, J: Ticketed>(
-    tickets: &Tickets<J>,
-    desk: &mut Desk<J>,
-    writer: &'a mut HintWriter,
-) -> Beginning<'a, J>
+/// Draws the caller that a worker at this desk begins with.
+fn first_at<J: Ticketed>(tickets: &Tickets<J>, desk: &mut Desk<J>) -> Beginning<J>
     requires free { IsFree tickets.now desk.old }
     ensures begins { BeginsAt J.waits tickets.now result desk.new }
     ensures same { IsSameDesk desk.old desk.new }
 {
     match tickets.draw(desk) {
-        Some((ticket, job)) => Beginning::Leads {
-            ticket,
-            job,
-            writer,
-        },
+        Some((ticket, job)) => Beginning::Leads { ticket, job },
         None => Beginning::Ends,
     }
 }
 
 /// One of the workers, the last, draws its caller before the others begin, so that it has the first caller, and has the writer
 /// while it serves that caller, and no longer.
-pub(crate) fn lead<'a, J: Ticketed, H>(
+pub(crate) fn lead<'a, J: Ticketed>(
     tickets: &Tickets<J>,
-    mut workers: Vec<Worker<'a, J, H>>,
+    mut workers: Vec<Worker<J, Reader<'a>>>,
     writer: &'a mut HintWriter,
-) -> Vec<Worker<'a, J, H>>
+) -> Vec<Worker<J, Reader<'a>>>
     requires some { 0 < length workers.items }
     requires draws { All IsDrawing workers.items }
     requires free { All (λ worker. IsFree tickets.now worker.desk) workers.items }
@@ -47,7 +40,11 @@ pub(crate) fn lead<'a, J: Ticketed, H>(
         aid,
         begins: _begins,
     } = workers.pop().unwrap();
-    let begins = first_at(tickets, &mut desk, writer);
+    let begins = first_at(tickets, &mut desk);
+    let aid = Reader {
+        hints: aid.hints,
+        writer: Some(writer),
+    };
     workers.push_reserved(Worker { desk, aid, begins });
     workers
 }

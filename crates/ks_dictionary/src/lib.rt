@@ -5,12 +5,13 @@
 //! `serve_callers` runs a script for each of many callers, by workers that draw whole callers, and returns the replies
 //! to each and the map at the end.
 //!
-//! The calls of a dictionary that has started, and `Service::work`, which runs the callers, take no allocator and report no
-//! lack of memory.
+//! The calls of a dictionary that has started, and the workers that run the callers, take no allocator and report no lack of
+//! memory.
 #![tactic(auto)]
 
 mod about;
 mod aiding;
+mod aids;
 mod closed;
 mod desks;
 mod dictionary;
@@ -24,7 +25,6 @@ mod merging;
 mod moving;
 mod placed;
 mod reaching;
-mod reader;
 mod rooms;
 mod runtime;
 mod scanning;
@@ -43,6 +43,4 @@ pub use job::Job;
 pub use laws::{kept_law, once_law};
 pub use reaching::{AtOneKey, Reaching};
 pub use runtime::{Gated, Runtime};
-pub use service::Service;
 pub use serving::{Told, serve_callers};
-pub use worker::{Beginning, Worker};

@@ -9,7 +9,7 @@ use ks_tickets::Tickets;
 /// What the workers of one run share: the dictionary, the gate of its calls, what serves scans and moves, and the tickets of
 /// the callers.
 #[derive(Drop)]
-pub struct Service<'a, N: Node, T: Ruled, S, G, W: About> {
+pub(crate) struct Service<'a, N: Node, T: Ruled, S, G, W: About> {
     pub(crate) dictionary: &'a Dictionary<N, T>,
     pub(crate) gate: &'a G,
     pub(crate) reach: &'a S,

@@ -1,10 +1,10 @@
-//! A worker: its desk, and what it knows of where calls may begin.
+//! A worker: its desk, what aids its calls, and how it begins.
 ghost use Rattle.std.specs.Prelude.{◌≡◌, map, length, All, IfOk};
 ghost use Rattle.ks_dictionary.specs.Beginning.{IsDrawing};
 
-use crate::reader::Reader;
+use crate::aids::Reader;
 use ks_guide::Guide;
-use ks_hints::{HintReader, HintWriter};
+use ks_hints::HintReader;
 use ks_tickets::Desk;
 use std::alloc::{AllocError, Global};
 
@@ -16,25 +16,22 @@ const BRANCHES: usize = 4096;
 
 /// How a worker begins.
 #[derive(Drop)]
-pub enum Beginning<'a, J> {
+pub(crate) enum Beginning<J> {
     /// It draws a caller.
     Draws,
-    /// It serves the caller that was drawn at its desk, and posts with the writer where its calls were decided.
-    Leads {
-        ticket: u32,
-        job: J,
-        writer: &'a mut HintWriter,
-    },
+    /// It serves the caller that was drawn at its desk.
+    Leads { ticket: u32, job: J },
     /// It ends, since each caller was drawn before.
     Ends,
 }
 
-/// What one worker draws callers with, and what it asks where their calls may begin. It keeps both from caller to caller.
+/// One worker: the desk at which it draws callers, what it asks where their calls may begin, and how it begins. It keeps the
+/// desk and the aid from caller to caller.
 #[derive(Drop)]
-pub struct Worker<'a, J, H> {
+pub(crate) struct Worker<J, H> {
     pub(crate) desk: Desk<J>,
     pub(crate) aid: H,
-    pub(crate) begins: Beginning<'a, J>,
+    pub(crate) begins: Beginning<J>,
 }
 
 /// The guide of a worker, if it is to have one.
@@ -50,11 +47,11 @@ fn guide_if(alloc: Global, guided: bool) -> Result<Option<Guide>, AllocError> {
 /// # Errors
 ///
 /// Only lack of memory.
-pub(crate) fn workers_at<'a, J: Drop>(
+pub(crate) fn workers_at<J: Drop>(
     alloc: Global,
     desks: Vec<Desk<J>>,
     guided: bool,
-) -> Result<Vec<Worker<'a, J, Option<Guide>>>, AllocError>
+) -> Result<Vec<Worker<J, Option<Guide>>>, AllocError>
     ensures desks { IfOk result (λ workers. map (λ worker. worker.desk) workers.items ≡ desks.items) }
     ensures draws { IfOk result (λ workers. All IsDrawing workers.items) }
 {
@@ -70,7 +67,7 @@ pub(crate) fn workers_at<'a, J: Drop>(
     Ok(workers)
 }
 
-/// A worker at each desk, with one of the readers.
+/// A worker at each desk, with one of the readers. None has a writer.
 ///
 /// # Errors
 ///
@@ -79,7 +76,7 @@ pub(crate) fn readers_at<'a, J: Drop>(
     alloc: Global,
     desks: Vec<Desk<J>>,
     readers: Vec<HintReader>,
-) -> Result<Vec<Worker<'a, J, Reader>>, AllocError>
+) -> Result<Vec<Worker<J, Reader<'a>>>, AllocError>
     requires { length readers.items ≡ length desks.items }
     ensures desks { IfOk result (λ workers. map (λ worker. worker.desk) workers.items ≡ desks.items) }
     ensures draws { IfOk result (λ workers. All IsDrawing workers.items) }
@@ -88,7 +85,10 @@ pub(crate) fn readers_at<'a, J: Drop>(
     for (desk, hints) in desks.into_iter().zip(readers) {
         workers.push_reserved(Worker {
             desk,
-            aid: Reader { hints },
+            aid: Reader {
+                hints,
+                writer: None,
+            },
             begins: Beginning::Draws,
         });
     }
@@ -102,9 +102,9 @@ pub(crate) fn readers_at<'a, J: Drop>(
 /// Only lack of memory.
 pub(crate) fn desks_of<J: Drop, H: Drop>(
     alloc: Global,
-    workers: Vec<Worker<'_, J, H>>,
+    workers: Vec<Worker<J, H>>,
 ) -> Result<Vec<Desk<J>>, AllocError>
-    ensures { IfOk result (λ desks. desks.items ≡ map (λ worker. worker.desk) workers.entry.items) }
+    ensures { IfOk result (λ desks. desks.items ≡ map (λ worker. worker.desk) workers.items) }
 {
     let mut desks = Vec::with_capacity(alloc, workers.len())?;
     for worker in workers {

@@ -9,15 +9,14 @@ ghost use Rattle.ks_dictionary.specs.Work.{AreAbout, WaitsAs};
 ghost use Rattle.ks_tickets.specs.Clauses.{HasEnded, IsBusy, IsFree, IsSameDesk, draws_known};
 
 use crate::about::About;
+use crate::aids::WorkerAid;
 use crate::job::Job;
 use crate::reaching::Reaching;
-use crate::reader::Poster;
 use crate::service::Service;
 use crate::worker::{Beginning, Worker};
 use ks_aid::{Aid, Serving};
 use ks_arena::Arena;
 use ks_gate::Gate;
-use ks_hints::HintWriter;
 use ks_node::Node;
 use ks_shape::Ruled;
 use ks_tickets::Desk;
@@ -55,28 +54,6 @@ impl<
         self.tickets.finish(desk, ticket, job);
     }
 
-    /// Serves the caller that was drawn at the desk, posts where its calls were decided, and puts its job back.
-    fn serve_first<R: Wait, H: Aid>(
-        &self,
-        rt: &R,
-        desk: &mut Desk<Job<N, T::Rule, W>>,
-        aid: &mut H,
-        writer: &mut HintWriter,
-        ticket: u32,
-        job: Job<N, T::Rule, W>,
-    )
-        requires about { AreAbout (site_of self.now.dictionary.now) W.table W.callers W.nodes }
-        requires served { AreServedLines S.scans S.moves W.scripts }
-        requires busy { IsBusy self.now.tickets.now ticket desk.old }
-        requires waits { WaitsAs (site_with (sort_of N.layout N.ranged) T.Rule.begins T.Rule.step W.table W.callers W.nodes)
-            W.scripts job ticket }
-        ensures free { IsFree self.now.tickets.now desk.new }
-        ensures same { IsSameDesk desk.old desk.new }
-    {
-        let mut poster = Poster { aid, writer };
-        self.serve_drawn(rt, desk, &mut poster, ticket, job);
-    }
-
     /// Draws callers at the desk and serves each, until none is left.
     fn work_at<R: Wait, H: Aid>(&self, rt: &R, desk: &mut Desk<Job<N, T::Rule, W>>, aid: &mut H)
         requires about { AreAbout (site_of self.now.dictionary.now) W.table W.callers W.nodes }
@@ -90,9 +67,9 @@ impl<
         }
     }
 
-    /// Serves the caller that was drawn at the worker's desk, if one was, with the writer; then draws callers and serves
-    /// each without it, until none is left.
-    fn work_from<R: Wait, H: Aid>(&self, rt: &R, worker: &mut Worker<'_, Job<N, T::Rule, W>, H>)
+    /// Serves the caller that was drawn at the worker's desk, if one was; then draws callers and serves each, until none is
+    /// left.
+    fn work_from<R: Wait, H: WorkerAid>(&self, rt: &R, worker: &mut Worker<Job<N, T::Rule, W>, H>)
         requires about { AreAbout (site_of self.now.dictionary.now) W.table W.callers W.nodes }
         requires served { AreServedLines S.scans S.moves W.scripts }
         requires ready { IsReady
@@ -103,12 +80,9 @@ impl<
     {
         match mem::replace(&mut worker.begins, Beginning::Ends) {
             Beginning::Draws => self.work_at(rt, &mut worker.desk, &mut worker.aid),
-            Beginning::Leads {
-                ticket,
-                job,
-                writer,
-            } => {
-                self.serve_first(rt, &mut worker.desk, &mut worker.aid, writer, ticket, job);
+            Beginning::Leads { ticket, job } => {
+                self.serve_drawn(rt, &mut worker.desk, &mut worker.aid, ticket, job);
+                worker.aid.has_led();
                 self.work_at(rt, &mut worker.desk, &mut worker.aid);
             }
             Beginning::Ends => {}
@@ -128,10 +102,10 @@ where
 {
     /// Serves the callers of all tickets, by all workers at once, each at its desk and with its aid. A worker serves a
     /// caller whole before it draws the next.
-    pub fn work<R: Threads + Wait + Sync, H: Aid + Send>(
+    pub(crate) fn work<R: Threads + Wait + Sync, H: WorkerAid + Send>(
         &self,
         rt: &R,
-        workers: &mut [Worker<'_, Job<N, T::Rule, W>, H>],
+        workers: &mut [Worker<Job<N, T::Rule, W>, H>],
     )
         requires some { 0 < length workers.old }
         requires about { AreAbout (site_of self.now.dictionary.now) W.table W.callers W.nodes }
@@ -150,7 +124,7 @@ where
             rt,
             workers,
             threads,
-            &|_: usize, worker: &mut Worker<'_, Job<N, T::Rule, W>, H>|
+            &|_: usize, worker: &mut Worker<Job<N, T::Rule, W>, H>|
                 requires about { AreAbout (site_of self.now.dictionary.now) W.table W.callers W.nodes }
                 requires served { AreServedLines S.scans S.moves W.scripts }
                 requires ready { IsReady

@@ -51,6 +51,7 @@ fn pass_by<N: Ranged + Unlinked, G: Gate>(
 
 /// Takes the node at which the search for a place ends, and holds no other. It begins at the hinted node, if there is
 /// one and it is idle, and no other caller acts meanwhile.
+#[inline(always)]
 pub(crate) fn find_near<N: Ranged + Unlinked, R: Wait, G: Gate>(
     rt: &R,
     arena: &Arena<N, Tree>,

@@ -62,6 +62,7 @@ impl Leaves {
     }
 
     /// Notes that the place is in this span.
+    #[inline(always)]
     pub fn note(&mut self, place: u64, spot: Spot)
         requires { Holds place spot }
         ensures { guess_of self.new place ≡ Some spot.node }

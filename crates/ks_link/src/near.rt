@@ -32,6 +32,7 @@ pub(crate) struct Reached<N> {
 }
 
 /// Takes a node, and keeps it if it is live and begins at the place or below.
+#[inline(always)]
 fn begin_at<N: Linked, R: Wait, G: Gate>(
     rt: &R,
     arena: &Arena<N, Link>,

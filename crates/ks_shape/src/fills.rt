@@ -24,6 +24,7 @@ pub enum Fill {
 
 /// Decides a put or an add at the end of a search for room: at a node that has the place or room for it; or, `Err`, as full,
 /// at a full node that lacks the place, after no node was found free.
+#[inline(always)]
 pub fn fill_at<N: Node, D: Discipline, G: Gate>(
     arena: &Arena<N, D>,
     pass: &mut Pass<N, D>,

@@ -43,6 +43,7 @@ pub fn has_room<N: Node>(held: &Held<N>, place: u64) -> bool
 }
 
 /// Decides a get where the search for its place has ended.
+#[inline(always)]
 pub fn get_here<N: Node, D: Discipline, G: Gate>(
     arena: &Arena<N, D>,
     pass: &mut Pass<N, D>,
@@ -64,6 +65,7 @@ pub fn get_here<N: Node, D: Discipline, G: Gate>(
 }
 
 /// Decides a put where the search for its place has ended, at a node that has the place or room for it: the value is set.
+#[inline(always)]
 pub fn put_here<N: Node, D: Discipline, G: Gate>(
     arena: &Arena<N, D>,
     pass: &mut Pass<N, D>,
@@ -168,6 +170,7 @@ pub fn swap_here<N: Node, D: Discipline, G: Gate>(
 }
 
 /// Decides a del where the search for its place has ended: what is there is deleted.
+#[inline(always)]
 pub fn del_here<N: Node, D: Discipline, G: Gate>(
     arena: &Arena<N, D>,
     pass: &mut Pass<N, D>,

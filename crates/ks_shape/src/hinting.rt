@@ -39,10 +39,9 @@ pub fn start_of(hint: Option<u32>, nodes: u32) -> u32
 /// root. A hint that is no node of the arena is none.
 ///
 /// Each call does what the call of `Template` with the same name does (`fill_from` what `put` or `add` does), and waits as that
-/// does. Its result says also at
-/// which node it was decided, which range this node had then, and the last branch with the place in its range that its
-/// search passed, if it passed one: these are hints for later calls. The branch was live, and had that range, at some
-/// moment since the caller's previous call; it need not have led to the node.
+/// does. Its result says also at which node it was decided, which range this node had then, and the last branch with the
+/// place in its range that its search passed, if it passed one: these are hints for later calls. The branch was live, and
+/// had that range, at some moment since the caller's previous call; it need not have led to the node.
 pub trait Hinting<N: Node, A: Shelf>: Ruled {
     /// Returns the value at a place, as `get`.
     fn get_from<R: Wait, G: Gate>(
@@ -65,8 +64,8 @@ pub trait Hinting<N: Node, A: Shelf>: Ruled {
         ensures above { IfSome result.above (HasPassed (A.site arena.now).sort place pass.old pass.new) }
         ensures first { BeginsAtHint (A.site arena.now).nodes hint pass.old pass.new };
 
-    /// Sets the value at a place as `put`, or as `add` if it has none, and returns the one that was there before. If the
-    /// node where its search ends has no room, by giving up the call goes on from the root, by lock coupling.
+    /// Sets the value at a place, as `put` or as `add`, whichever `fill` says, and returns the one that was there before. If
+    /// the node where its search ends has no room, by giving up the call continues from the root, by lock coupling.
     ///
     /// # Errors
     ///

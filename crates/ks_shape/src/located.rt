@@ -68,6 +68,7 @@ pub fn passed<N: Ranged>(held: &Held<N>, place: u64, above: Option<Above>) -> Op
 
 /// Decides a get where the search for its place has ended. Returns also the node, its range, and `above`, the last
 /// branch that the search passed.
+#[inline(always)]
 pub fn get_located<N: Ranged, D: Discipline, G: Gate>(
     arena: &Arena<N, D>,
     pass: &mut Pass<N, D>,
@@ -180,6 +181,7 @@ pub fn fill_located<N: Ranged, D: Discipline, G: Gate>(
 
 /// Decides a del where the search for its place has ended: what is there is deleted. Returns also the node, its range,
 /// and `above`, the last branch that the search passed.
+#[inline(always)]
 pub fn del_located<N: Ranged, D: Discipline, G: Gate>(
     arena: &Arena<N, D>,
     pass: &mut Pass<N, D>,
