@@ -1,7 +1,7 @@
 -- Bytes that are cut at a byte, and digits.
-use Rattle.ks_script.proofs.Common.{ℕ, zero, suc, ◌≡◌, ◌+◌, ◌-◌, ◌*◌, ◌^◌, ◌<◌, ◌≤◌, ◌⊎◌, Bool, true, false, cond, eqb, List, [], ◌∷◌, ◌++◌, length, get_or, refl, sym, ap, ◌∙◌, arith, inl, inr, Option, Some, None, MatchOption, IfSome, IfNone, false≢true, eqb-true, and_parts, eqb_tells, decimal, is_ascii_digit, all_ascii_digits, onto_first, lines_of, Lacks}
+use Rattle.ks_script.proofs.Common.{ℕ, zero, suc, ◌≡◌, ◌^◌, ◌<◌, ◌⊎◌, Bool, true, false, cond, eqb, List, [], ◌∷◌, ◌++◌, length, get_or, refl, sym, ap, ◌∙◌, arith, inl, inr, Option, Some, None, MatchOption, IfSome, IfNone, false≢true, eqb-true, and_parts, eqb_tells, decimal, is_ascii_digit, all_ascii_digits, onto_first, lines_of, Lacks}
 use Rattle.std.proofs.lemmas.Fmt.{decimal_digit}
-use Rattle.ks_script.proofs.Numerals.{read_on, digits_of_number, no_zero_first, digits_spelled}
+use Rattle.ks_script.proofs.Numerals.{digits_of_number, no_zero_first}
 
 -- the lines of a text, by its first byte
 pub lines_cases : (b : ℕ) (bytes : List ℕ) → ((b ≡ 10) × (lines_of (b ∷ bytes) ≡ [] ∷ lines_of bytes)) ⊎ (lines_of (b ∷ bytes) ≡ onto_first b (lines_of bytes))
@@ -23,13 +23,6 @@ pub lines_last : (bytes : List ℕ) → 0 < length bytes → Lacks 10 bytes → 
 lines_last [] h l = absurd (omega arith)
 lines_last (b ∷ []) h l = lines_onto b [] l.0
 lines_last (b ∷ d ∷ line) h l = lines_onto b (d ∷ line) l.0 ∙ ap (onto_first b) (lines_last (d ∷ line) (omega arith) l.1)
-
-pub read_on_least : (n : ℕ) (ds : List ℕ) → n ≤ read_on n ds
-read_on_least n [] = omega arith
-read_on_least n (c ∷ cs) = omega (arith, read_on_least (10 * n + (c - 48)) cs)
-
-pub digits_some : (bytes : List ℕ) (n : ℕ) → 0 < length bytes → (get_or bytes 0 0 ≡ 48 → length bytes ≡ 1) → all_ascii_digits bytes ≡ true → read_on 0 bytes ≡ n → n < 2 ^ 128 → bytes ≡ decimal n
-digits_some bytes n h z p e l = sym (digits_spelled bytes p h z (omega (arith, e))) ∙ ap decimal e
 
 pub zero_first : (bytes : List ℕ) → get_or bytes 0 0 ≡ 48 → 1 < length bytes → (n : ℕ) → n < 2 ^ 128 → bytes ≡ decimal n → ⊥
 zero_first bytes z h zero l e = omega (arith, ap length (e ∙ decimal_digit 0 (omega arith)))

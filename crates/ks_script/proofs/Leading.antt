@@ -1,5 +1,6 @@
 -- The first line of a text that does not fit a grammar, and lists that are read back from their lines.
-use Rattle.ks_script.proofs.Common.{ℕ, suc, ◌≡◌, ◌+◌, ◌-◌, ◌<◌, ◌≤◌, ◌⊎◌, List, [], ◌∷◌, ◌++◌, length, map, take, drop, refl, sym, ap, subst, ◌∙◌, append_assoc, append-nil, arith, inl, inr, length-append, take-append-drop, take-take, cases_lt, AllByRecursion, lines_of, Begins, FirstBad, Lines, NotFirst, NoneFirst, Reads}
+use Rattle.ks_script.proofs.Common.{ℕ, ◌≡◌, ◌+◌, ◌-◌, ◌<◌, ◌≤◌, ◌⊎◌, List, [], ◌∷◌, ◌++◌, length, map, take, drop, refl, sym, ap, subst, ◌∙◌, append_assoc, append-nil, arith, inl, inr, length-append, take-append-drop, take-take, AllByRecursion, lines_of, Begins, FirstBad, Lines, NotFirst, NoneFirst, Reads}
+use Rattle.std.proofs.Math.Seq.{take-append-add}
 
 pub reads_none : (bytes : List ℕ) → Reads [] bytes bytes 0
 reads_none bytes = record { lines_are = refl; counted = refl }
@@ -16,15 +17,11 @@ reads_line f l a b c m k r e sum = reads_on f (l ∷ []) a b c m 1 k r (record {
 pub reads_all : (f : Lines) (a b : List ℕ) (n : ℕ) → Reads f a b n → b ≡ [] → lines_of a ≡ f
 reads_all f a b n r end = r.lines_are ∙ (ap (λ (x : List ℕ). f ++ lines_of x) end ∙ append-nil f)
 
-take_past : (f g : Lines) (n : ℕ) → take (length f + n) (f ++ g) ≡ f ++ take n g
-take_past [] g n = ap (λ k. take k g) (omega arith)
-take_past (l ∷ f) g n = ap (λ k. take k (l ∷ (f ++ g))) (let e : suc (length f) + n ≡ suc (length f + n) = omega arith in e) ∙ ap (λ ls. l ∷ ls) (take_past f g n)
-
 -- behind some lines of a text of G only lines of H come: where line k of the others fits H no more, it is the first bad one
 pub bad_behind : (G H : Lines → Type 0) (lines front back : Lines) (n k : ℕ) → lines ≡ front ++ back → n ≡ length front + k → 0 < k → Begins G (front ++ take (k - 1) back) → ((ls : Lines) → G (front ++ ls) → H ls) → ((k ≤ length back) × (Begins H (take k back) → ⊥)) ⊎ ((k ≡ length back + 1) × (H back → ⊥)) → FirstBad G lines n
 bad_behind G H lines front back n k e sum some begun only refused =
-    let before : take (n - 1) lines ≡ front ++ take (k - 1) back = ap (λ ls. take (n - 1) ls) e ∙ (ap (λ m. take m (front ++ back)) (let s : n - 1 ≡ length front + (k - 1) = omega arith in s) ∙ take_past front back (k - 1)) in
-    let through : take n lines ≡ front ++ take k back = ap (λ ls. take n ls) e ∙ (ap (λ m. take m (front ++ back)) sum ∙ take_past front back k) in
+    let before : take (n - 1) lines ≡ front ++ take (k - 1) back = ap (λ ls. take (n - 1) ls) e ∙ (ap (λ m. take m (front ++ back)) (let s : n - 1 ≡ length front + (k - 1) = omega arith in s) ∙ take-append-add front back (k - 1)) in
+    let through : take n lines ≡ front ++ take k back = ap (λ ls. take n ls) e ∙ (ap (λ m. take m (front ++ back)) sum ∙ take-append-add front back k) in
     let all : length lines ≡ length front + length back = ap length e ∙ length-append front back in
     record {
       place = omega arith;
@@ -79,14 +76,7 @@ bad_not_before IsText lines m n p q lt =
 
 -- there is one such line at most
 pub one_bad : (IsText : List (List ℕ) → Type 0) (lines : List (List ℕ)) (m n : ℕ) → FirstBad IsText lines m → FirstBad IsText lines n → m ≡ n
-one_bad IsText lines m n p q =
-    elim (cases_lt m n) [
-      | inl lt ↦ absurd (bad_not_before IsText lines m n p q lt)
-      | inr le ↦ (elim (cases_lt n m) [
-        | inl lt ↦ absurd (bad_not_before IsText lines n m q p lt)
-        | inr ge ↦ omega arith
-      ])
-    ]
+one_bad IsText lines m n p q = omega (arith, bad_not_before IsText lines m n p q, bad_not_before IsText lines n m q p)
 
 -- where lines begin with those of some things, and are those of others up to a line of none, the others begin with the first
 pub told_apart : {X : Type 0} (Is : X → Type 0) (line : X → List ℕ) → ((a b : X) → Is a → Is b → line a ≡ line b → a ≡ b) → (xs ys : List X) (u t : Lines) → AllByRecursion Is xs → AllByRecursion Is ys → NoneFirst Is line t → map line xs ++ u ≡ map line ys ++ t →

@@ -1,5 +1,5 @@
 -- Lines that bytes begin with.
-use Rattle.ks_script.proofs.Common.{ℕ, ◌≡◌, ◌^◌, ◌<◌, ◌≤◌, true, List, [], ◌∷◌, ◌++◌, length, take, drop, refl, sym, ap, subst, ◌∙◌, append_assoc, append-nil, arith, codes, length-append, inl, inr, false≢true, and_parts, is_ascii_digit, all_ascii_digits, decimal, onto_first, lines_of, Lacks, NoDigit, EndsLine, Lined, NotLined, Lines, NotFirst, NoneFirst}
+use Rattle.ks_script.proofs.Common.{ℕ, ◌≡◌, ◌^◌, ◌<◌, ◌≤◌, ◌⊎◌, true, List, [], ◌∷◌, ◌++◌, length, take, drop, refl, sym, ap, subst, ◌∙◌, append_assoc, append-nil, arith, codes, length-append, inl, inr, false≢true, and_parts, is_ascii_digit, all_ascii_digits, decimal, onto_first, lines_of, Lacks, NoDigit, EndsLine, Lined, NotLined, Lines, NotFirst, NoneFirst}
 use Rattle.ks_script.proofs.Numerals.{digits_of_number, one_number}
 use Rattle.ks_script.proofs.Cuts.{lines_cases, lines_first, lines_last}
 use Rattle.ks_script.proofs.Exact.{goes_on}
@@ -25,14 +25,6 @@ pub spaced_told : (m n : ℕ) (r a tail bytes : List ℕ) → m < 2 ^ 128 → n 
 spaced_told m n r a tail bytes hm hn free e f =
     number_told m n r (codes " " ++ (a ++ tail)) hm hn free refl (sym e ∙ (f ∙ simp append_assoc))
 
--- a value behind a space, where it is read
-pub value_told : (m n : ℕ) (r s bytes : List ℕ) → m < 2 ^ 128 → n < 2 ^ 128 → NoDigit r → NoDigit s → bytes ≡ codes " " ++ (decimal m ++ r) → bytes ≡ codes " " ++ (decimal n ++ s) → (m ≡ n) × (r ≡ s)
-value_told m n r s bytes hm hn fr fs e f = number_told m n r s hm hn fr fs (ap (λ (x : List ℕ). drop 1 x) (sym e ∙ f))
-
--- the first of three numbers
-pub three_first : (m k v w : ℕ) (r tail bytes : List ℕ) → m < 2 ^ 128 → k < 2 ^ 128 → NoDigit r → bytes ≡ decimal m ++ r → bytes ≡ (decimal k ++ codes " " ++ decimal v ++ codes " " ++ decimal w) ++ tail → r ≡ codes " " ++ (decimal v ++ (codes " " ++ (decimal w ++ tail)))
-three_first m k v w r tail bytes hm hk free e f = (number_told m k r (codes " " ++ (decimal v ++ (codes " " ++ (decimal w ++ tail)))) hm hk free refl (sym e ∙ (f ∙ simp append_assoc))).1
-
 -- the first line
 pub lined_first : (text bytes rest : List ℕ) → Lacks 10 text → 0 < length text → Lined text bytes rest → lines_of bytes ≡ text ∷ lines_of rest
 lined_first text bytes rest lacks some h = ap lines_of h.parts ∙ (by_tail h.tail h.ends ∙ ap (λ (x : List ℕ). text ∷ lines_of x) (sym h.rest_is))
@@ -48,55 +40,36 @@ lined_shorter text bytes rest some h = omega (arith, ap (λ (x : List ℕ). leng
     shorter [] = omega arith
     shorter (b ∷ tail) = omega arith
 
-pub no_lines : (bytes : List ℕ) → lines_of bytes ≡ [] → bytes ≡ []
-no_lines [] e = refl
-no_lines (b ∷ bytes) e = elim (lines_cases b bytes) [ inl same ↦ absurd (omega (arith, ap length (sym same.1 ∙ e))) | inr other ↦ absurd (onto (lines_of bytes) (sym other ∙ e)) ]
-  where
-    onto : (ls : Lines) → onto_first b ls ≡ [] → ⊥
-    onto [] e = omega (arith, ap length e)
-    onto (l ∷ ls) e = omega (arith, ap length e)
+-- the first line of bytes, if any come
+cut_lines : (bytes : List ℕ) → (bytes ≡ []) ⊎ ((text rest : List ℕ) × Lined text bytes rest × (lines_of bytes ≡ text ∷ lines_of rest))
+cut_lines [] = inl refl
+cut_lines (b ∷ bytes) =
+    elim (lines_cases b bytes) [
+      | inl same ↦ inr ([], bytes, record { tail = b ∷ bytes; parts = refl; ends = same.0; rest_is = refl }, same.1)
+      | inr other ↦ (elim (cut_lines bytes) [
+        | inl none ↦ inr (b ∷ [], [], record { tail = []; parts = ap (λ (x : List ℕ). b ∷ x) none; ends = tt; rest_is = refl }, other ∙ ap (λ (x : List ℕ). onto_first b (lines_of x)) none)
+        | inr cut ↦ inr (b ∷ cut.0, cut.1, record { tail = cut.2.tail; parts = ap (λ (x : List ℕ). b ∷ x) cut.2.parts; ends = cut.2.ends; rest_is = cut.2.rest_is }, other ∙ ap (onto_first b) cut.3)
+      ])
+    ]
 
 -- where bytes come, lines that begin as theirs are some
 pub no_more : (rest : List ℕ) → 0 < length rest → (ls : Lines) → ls ≡ [] → take 1 ls ≡ take 1 (lines_of rest) → ⊥
-no_more rest some ls none same = missing (lines_of rest) refl (sym (ap (λ (x : Lines). take 1 x) none) ∙ same)
-  where
-    missing : (back : Lines) → lines_of rest ≡ back → take 1 [] ≡ take 1 back → ⊥
-    missing [] e f = omega (arith, ap (λ (x : List ℕ). length x) (no_lines rest e))
-    missing (l ∷ back) e f = let no_way : ⊥ = cc in no_way
-
--- bytes whose first line has this text
-pub cut_first : (bytes l : List ℕ) (ls : Lines) → lines_of bytes ≡ l ∷ ls → (tail : List ℕ) × EndsLine tail × (bytes ≡ l ++ tail)
-cut_first [] l ls e = absurd (let no_line : ⊥ = cc in no_line)
-cut_first (b ∷ bytes) l ls e =
-    elim (lines_cases b bytes) [
-      | inl same ↦
-          (let here : [] ∷ lines_of bytes ≡ l ∷ ls = sym same.1 ∙ e in
-          let none : [] ≡ l = cc in
-          (b ∷ bytes, same.0, ap (λ (x : List ℕ). x ++ b ∷ bytes) none))
-      | inr other ↦ joined (lines_of bytes) (λ m ms f. cut_first bytes m ms f) refl (sym other ∙ e)
+no_more rest some ls none same =
+    elim (cut_lines rest) [
+      | inl end ↦ omega (arith, ap (λ (x : List ℕ). length x) end)
+      | inr cut ↦ omega (arith, ap (λ (x : Lines). length x) (sym (ap (λ (x : Lines). take 1 x) none) ∙ (same ∙ ap (λ (x : Lines). take 1 x) cut.3)))
     ]
-  where
-    joined : (ms : Lines) → ((m : List ℕ) (ns : Lines) → lines_of bytes ≡ m ∷ ns → (tail : List ℕ) × EndsLine tail × (bytes ≡ m ++ tail)) → lines_of bytes ≡ ms → onto_first b (lines_of bytes) ≡ l ∷ ls → (tail : List ℕ) × EndsLine tail × (b ∷ bytes ≡ l ++ tail)
-    joined [] cut f g =
-        let alone : (b ∷ []) ∷ [] ≡ l ∷ ls = sym (ap (onto_first b) f) ∙ g in
-        let is : b ∷ [] ≡ l = cc in
-        ([], tt, ap (λ (x : List ℕ). b ∷ x) (no_lines bytes f) ∙ (is ∙ sym (append-nil l)))
-    joined (m ∷ ms) cut f g =
-        let h = cut m ms f in
-        let first : (b ∷ m) ∷ ms ≡ l ∷ ls = sym (ap (onto_first b) f) ∙ g in
-        let is : b ∷ m ≡ l = cc in
-        (h.0, h.1, ap (λ (x : List ℕ). b ∷ x) h.2 ∙ ap (λ (x : List ℕ). x ++ h.0) is)
 
 pub none_first : {X : Type 0} (Is : X → Type 0) (line : X → List ℕ) (bytes : List ℕ) → ((x : X) → Is x → NotLined (line x) bytes) → NoneFirst Is line (lines_of bytes)
-none_first Is line bytes none = by_lines (lines_of bytes) refl
-  where
-    by_lines : (ls : Lines) → lines_of bytes ≡ ls → NoneFirst Is line ls
-    by_lines [] e = tt
-    by_lines (l ∷ ls) e = λ x is same. let h = cut_first bytes l ls e in none x is h.0 h.1 (h.2 ∙ ap (λ (k : List ℕ). k ++ h.0) same)
+none_first Is line bytes none =
+    elim (cut_lines bytes) [
+      | inl end ↦ rw end tt
+      | inr cut ↦ rw cut.3 (λ x is same. none x is cut.2.tail cut.2.ends (cut.2.parts ∙ ap (λ (k : List ℕ). k ++ cut.2.tail) same))
+    ]
 
 pub not_first : (word bytes : List ℕ) → NotLined word bytes → NotFirst word (lines_of bytes)
-not_first word bytes none = by_lines (lines_of bytes) refl
-  where
-    by_lines : (ls : Lines) → lines_of bytes ≡ ls → NotFirst word ls
-    by_lines [] e = tt
-    by_lines (l ∷ ls) e = λ same. let h = cut_first bytes l ls e in none h.0 h.1 (h.2 ∙ ap (λ (k : List ℕ). k ++ h.0) same)
+not_first word bytes none =
+    elim (cut_lines bytes) [
+      | inl end ↦ rw end tt
+      | inr cut ↦ rw cut.3 (λ same. none cut.2.tail cut.2.ends (cut.2.parts ∙ ap (λ (k : List ℕ). k ++ cut.2.tail) same))
+    ]

@@ -1,16 +1,15 @@
 -- What may be said of a line of a script, as lines: how it is read back, and where nothing goes on.
-use Rattle.ks_script.proofs.Common.{ℕ, suc, ◌≡◌, ◌+◌, ◌-◌, ◌^◌, ◌<◌, ◌≤◌, List, [], ◌∷◌, ◌++◌, length, map, take, drop, get_or, codes, refl, sym, ap, subst, ◌∙◌, append_assoc, append-nil, arith, inl, inr, length-append, length-map, map_push, Option, Some, ◌⊎◌, decimal, AllByRecursion, Reply, Nothing, Listed, Version, IsLineOf, IsScript, Begins, Line, Call, Scan, Said, Scanned, Whole, Until, Pair, reply_line, pair_line, pair_words, part_line, stop_line, said_lines, IsPair, IsPart, IsStop, IsSaid, NoDigit, EndsLine, NotLined, Lines, NotFirst, NoneFirst, CanBeSaidOf, IsSaidOf, IsReplyOf, next_end, IsPartFrom, BeginsSaid, FirstUnsaid}
-use Rattle.std.proofs.Math.Seq.{take-append_seam}
+use Rattle.ks_script.proofs.Common.{ℕ, suc, ◌≡◌, ◌+◌, ◌^◌, ◌<◌, ◌≤◌, List, [], ◌∷◌, ◌++◌, length, map, take, drop, get_or, codes, refl, sym, ap, subst, ◌∙◌, append_assoc, append-nil, arith, length-append, map-append, Some, decimal, AllByRecursion, Reply, Nothing, Version, IsLineOf, IsScript, Begins, Line, Call, Scan, Said, Scanned, Whole, Until, Pair, reply_line, pair_line, pair_words, part_line, stop_line, said_lines, IsPair, IsPart, IsStop, NoDigit, EndsLine, NotLined, Lines, NotFirst, NoneFirst, CanBeSaidOf, IsSaidOf, IsReplyOf, next_end, IsPartFrom, BeginsSaid, FirstBad, Reads, lines_of}
 use Rattle.ks_history.specs.declared.Op.{Op}
 use Rattle.ks_lines.specs.declared.parts.Part.{Part}
 use Rattle.ks_lines.specs.declared.Said.TheVariants as said
 use Rattle.ks_lines.specs.Scan.{PartsAscend, end_of, StopsAt, IsScanOf}
-use Rattle.ks_script.specs.Plain.{IsPrintable}
 use Rattle.ks_script.proofs.Numerals.{wide}
 use Rattle.ks_script.proofs.Lined.{number_told, end_free}
 use Rattle.ks_script.proofs.CallLines.{first}
 use Rattle.ks_script.proofs.Exact.{no_number}
 use Rattle.ks_script.proofs.Rows.{one_reply}
+use Rattle.ks_script.proofs.Leading.{reads_line, first_same, not_first_same, refused_at, told_apart}
 use Rattle.ks_script.proofs.Steps.{all_right, all_append}
 
 -- pairs of a part
@@ -82,13 +81,6 @@ pub stop_free : (stop : Scanned) → NoDigit (stop_line stop)
 stop_free Whole = refl
 stop_free (Until next) = refl
 
-pub one_stop : (a b : Scanned) → IsStop a → IsStop b → stop_line a ≡ stop_line b → a ≡ b
-one_stop Whole Whole h k e = refl
-one_stop Whole (Until n) h k e = absurd (omega (arith, ap first e))
-one_stop (Until m) Whole h k e = absurd (omega (arith, ap first e))
-one_stop (Until m) (Until n) h k e =
-    ap Until (number_told m n [] [] (wide m h) (wide n k) tt tt (append-nil (decimal m) ∙ (ap (λ (x : List ℕ). drop 6 x) e ∙ sym (append-nil (decimal n))))).0
-
 abbrev pub head : Lines → List ℕ
 head ls = get_or ls 0 []
 
@@ -97,29 +89,7 @@ rest_of e = ap (λ (ls : Lines). drop 1 ls) e
 
 -- lines that begin as these parts, and are some parts, where a scan stopped, and more
 pub parts_told : (ps qs : List Part) (stop : Scanned) (ls behind : Lines) → AllByRecursion IsPart ps → AllByRecursion IsPart qs → map part_line ps ++ ls ≡ map part_line qs ++ stop_line stop ∷ behind → (more : List Part) × (qs ≡ ps ++ more) × (ls ≡ map part_line more ++ stop_line stop ∷ behind)
-parts_told [] qs stop ls behind h k e = (qs, refl, e)
-parts_told (p ∷ ps) [] stop ls behind h k e = absurd (part_apart p (stop_line stop) h.0.0 (stop_free stop) (ap head e))
-parts_told (p ∷ ps) (q ∷ qs) stop ls behind h k e =
-    let on = parts_told ps qs stop ls behind h.1 k.1 (rest_of e) in
-    (on.0, ap (λ (x : Part). x ∷ qs) (sym (one_part p q h.0 k.0 (ap head e))) ∙ ap (λ (xs : List Part). p ∷ xs) on.1, on.2)
-
-scans_told : (ps qs : List Part) (s t : Scanned) (x y : Lines) → AllByRecursion IsPart ps → AllByRecursion IsPart qs → IsStop s → IsStop t → (map part_line ps ++ stop_line s ∷ []) ++ x ≡ (map part_line qs ++ stop_line t ∷ []) ++ y → (said.Scan ps s ≡ said.Scan qs t) × (x ≡ y)
-scans_told ps qs s t x y h k is it e =
-    let on = parts_told ps qs t (stop_line s ∷ x) y h k (sym (append_assoc (map part_line ps) (stop_line s ∷ []) x) ∙ (e ∙ append_assoc (map part_line qs) (stop_line t ∷ []) y)) in
-    none on.0 on.1 on.2
-  where
-    none : (more : List Part) → qs ≡ ps ++ more → stop_line s ∷ x ≡ map part_line more ++ stop_line t ∷ y → (said.Scan ps s ≡ said.Scan qs t) × (x ≡ y)
-    none [] f g = (ap (λ (z : Scanned). said.Scan ps z) (one_stop s t is it (ap head g)) ∙ ap (λ (zs : List Part). said.Scan zs t) (sym (f ∙ append-nil ps)), rest_of g)
-    none (m ∷ more) f g = absurd (part_apart m (stop_line s) (all_right IsPart ps (m ∷ more) (subst (AllByRecursion IsPart) f k)).0.0 (stop_free s) (sym (ap head g)))
-
--- lines begin with one thing that may be said of a line
-pub one_said : (line : Line) (a b : Said) (x y : Lines) → IsSaidOf line a → IsSaidOf line b → said_lines a ++ x ≡ said_lines b ++ y → (a ≡ b) × (x ≡ y)
-one_said (Call op) (said.Call m r) (said.Call n s) x y h k e = (ap (λ (z : ℕ × Reply). said.Call z.0 z.1) (one_reply (m, r) (n, s) h.1 k.1 (ap head e)), rest_of e)
-one_said (Call op) (said.Call m r) (said.Scan qs t) x y h k e = absurd k.0
-one_said (Call op) (said.Scan ps s) b x y h k e = absurd h.0
-one_said (Scan low last most) (said.Call m r) b x y h k e = absurd h.0
-one_said (Scan low last most) (said.Scan ps s) (said.Call n r) x y h k e = absurd k.0
-one_said (Scan low last most) (said.Scan ps s) (said.Scan qs t) x y h k e = scans_told ps qs s t x y h.1.0 k.1.0 h.1.1 k.1.1 e
+parts_told ps qs stop ls behind h k e = told_apart IsPart part_line one_part ps qs ls (stop_line stop ∷ behind) h k (λ p is f. part_apart p (stop_line stop) is.0 (stop_free stop) (sym f)) e
 
 -- parts that ascend
 pub ascend_right : (low last : ℕ) (ps qs : List Part) → PartsAscend low last (ps ++ qs) → PartsAscend (next_end low ps) last qs
@@ -150,15 +120,30 @@ some_end low [] some = absurd (omega arith)
 some_end low (p ∷ []) some = (p.last, refl, refl)
 some_end low (p ∷ q ∷ ps) some = some_end (suc p.last) (q ∷ ps) (omega arith)
 
-some_same : (m n : ℕ) (o : Option ℕ) → o ≡ Some m → o ≡ Some n → m ≡ n
-some_same m n o e f = let both : Some m ≡ Some n = sym e ∙ f in let same : m ≡ n = cc in same
-
 -- a scan stops at one place
 one_end : (last most : ℕ) (ps : List Part) (s t : Scanned) → StopsAt last most ps s → StopsAt last most ps t → s ≡ t
 one_end last most ps Whole Whole h k = refl
-one_end last most ps Whole (Until n) h k = let below = k.3 in absurd (omega (arith, some_same last k.1 (end_of ps) h k.2))
-one_end last most ps (Until m) Whole h k = let below = h.3 in absurd (omega (arith, some_same last h.1 (end_of ps) k h.2))
-one_end last most ps (Until m) (Until n) h k = ap Until (h.4 ∙ (ap suc (some_same h.1 k.1 (end_of ps) h.2 k.2) ∙ sym k.4))
+one_end last most ps Whole (Until n) h k = let below = k.3 in absurd (omega (arith, end_is 0 ps last h, end_is 0 ps k.1 k.2))
+one_end last most ps (Until m) Whole h k = let below = h.3 in absurd (omega (arith, end_is 0 ps last k, end_is 0 ps h.1 h.2))
+one_end last most ps (Until m) (Until n) h k = ap Until (h.4 ∙ (sym (end_is 0 ps h.1 h.2) ∙ (end_is 0 ps k.1 k.2 ∙ sym k.4)))
+
+scans_told : (low last most : ℕ) (ps qs : List Part) (s t : Scanned) (x y : Lines) → IsSaidOf (Scan low last most) (said.Scan ps s) → IsSaidOf (Scan low last most) (said.Scan qs t) → (map part_line ps ++ stop_line s ∷ []) ++ x ≡ (map part_line qs ++ stop_line t ∷ []) ++ y → (said.Scan ps s ≡ said.Scan qs t) × (x ≡ y)
+scans_told low last most ps qs s t x y h k e =
+    let on = parts_told ps qs t (stop_line s ∷ x) y h.1.0 k.1.0 (sym (append_assoc (map part_line ps) (stop_line s ∷ []) x) ∙ (e ∙ append_assoc (map part_line qs) (stop_line t ∷ []) y)) in
+    none on.0 on.1 on.2
+  where
+    none : (more : List Part) → qs ≡ ps ++ more → stop_line s ∷ x ≡ map part_line more ++ stop_line t ∷ y → (said.Scan ps s ≡ said.Scan qs t) × (x ≡ y)
+    none [] f g = let same = f ∙ append-nil ps in (ap (λ (z : Scanned). said.Scan ps z) (one_end last most ps s t h.0.stops (subst (λ (zs : List Part). StopsAt last most zs t) same k.0.stops)) ∙ ap (λ (zs : List Part). said.Scan zs t) (sym same), rest_of g)
+    none (m ∷ more) f g = absurd (part_apart m (stop_line s) (all_right IsPart ps (m ∷ more) (subst (AllByRecursion IsPart) f k.1.0)).0.0 (stop_free s) (sym (ap head g)))
+
+-- lines begin with one thing that may be said of a line
+pub one_said : (line : Line) (a b : Said) (x y : Lines) → IsSaidOf line a → IsSaidOf line b → said_lines a ++ x ≡ said_lines b ++ y → (a ≡ b) × (x ≡ y)
+one_said (Call op) (said.Call m r) (said.Call n s) x y h k e = (ap (λ (z : ℕ × Reply). said.Call z.0 z.1) (one_reply (m, r) (n, s) h.1 k.1 (ap head e)), rest_of e)
+one_said (Call op) (said.Call m r) (said.Scan qs t) x y h k e = absurd k.0
+one_said (Call op) (said.Scan ps s) b x y h k e = absurd h.0
+one_said (Scan low last most) (said.Call m r) b x y h k e = absurd h.0
+one_said (Scan low last most) (said.Scan ps s) (said.Call n r) x y h k e = absurd k.0
+one_said (Scan low last most) (said.Scan ps s) (said.Scan qs t) x y h k e = scans_told low last most ps qs s t x y h k e
 
 -- not where a part may follow
 no_stop : (low last most : ℕ) (ps : List Part) (stop : Scanned) → length ps < most → next_end low ps ≤ last → StopsAt last most ps stop → ⊥
@@ -169,102 +154,81 @@ none_of : {X : Type 0} (Is : X → Type 0) (line : X → List ℕ) (ls : Lines) 
 none_of Is line [] none = tt
 none_of Is line (l ∷ ls) none = λ x is e. none x is
 
--- the first of the lines is that of the rest
-abbrev Heads : Lines → Lines → Type 0
-Heads rest ls = (m : List ℕ) (more : Lines) → ls ≡ m ∷ more → (others : Lines) × (rest ≡ m ∷ others)
+-- parts of a scan that were read, behind which one may end with the key `next` first
+pub record PartsRead (low last most : ℕ) (ps : List Part) (next : ℕ) (bytes rest : List ℕ) : Type 0 where
+  pub each : AllByRecursion IsPart ps
+  pub ascend : PartsAscend low last ps
+  pub few : length ps ≤ most
+  pub from : next ≡ next_end low ps
+  pub read : Reads (map part_line ps) bytes rest (length ps)
 
--- behind some lines nothing goes on that may be said of the line
-unsaid : (line : Line) (front rest lines : Lines) (k : ℕ) → lines ≡ front ++ rest → k ≡ length front + 1 → (said : Said) × (more : Lines) × IsSaidOf line said × (front ++ more ≡ said_lines said) →
-    ((x : Said) (ls behind : Lines) → IsSaidOf line x → Heads rest ls → front ++ ls ≡ said_lines x ++ behind → ⊥) → FirstUnsaid line lines k
-unsaid line front rest lines k e k_is goes odd = record {
-  place = omega arith;
-  before = (goes.0, goes.1, goes.2, ap (λ (ls : Lines). ls ++ goes.1) (taken front rest (k - 1) e (omega arith)) ∙ goes.3);
-  refused = by_rest rest e odd;
-}
-  where
-    taken : (xs ys : Lines) (n : ℕ) → lines ≡ xs ++ ys → n ≡ length xs → take n lines ≡ xs
-    taken xs ys n f is = (λ i. take (is i) (f i)) ∙ take-append_seam xs ys
+module _ (low last most : ℕ) (ps : List Part) (next : ℕ) (bytes rest : List ℕ) (parts : PartsRead low last most ps next bytes rest) where
+  -- one part more
+  pub part_read : (qs : List Part) (p : Part) (more : List ℕ) → qs ≡ ps ++ p ∷ [] → length ps < most → IsPartFrom next last p → lines_of rest ≡ part_line p ∷ lines_of more → PartsRead low last most qs (p.last + 1) bytes more
+  part_read qs p more e few is line = subst (λ (xs : List Part). PartsRead low last most xs (p.last + 1) bytes more) (sym e) (record {
+    each = all_append IsPart ps (p ∷ []) parts.each (is.2, tt);
+    ascend = ascend_append low last ps (p ∷ []) parts.ascend (omega (arith, parts.from, is.0), is.1, tt);
+    few = omega (arith, length-append ps (p ∷ []));
+    from = omega (arith, next_push low ps p);
+    read = subst (λ (ls : Lines). Reads ls bytes more (length (ps ++ p ∷ []))) (sym (map-append part_line ps (p ∷ []))) (reads_line (map part_line ps) (part_line p) bytes rest more (length ps) (length (ps ++ p ∷ [])) parts.read line (length-append ps (p ∷ [])));
+  })
 
-    by_rest : (back : Lines) → lines ≡ front ++ back → ((x : Said) (ls behind : Lines) → IsSaidOf line x → Heads back ls → front ++ ls ≡ said_lines x ++ behind → ⊥) →
-        ((k ≤ length lines) × (Begins (BeginsSaid line) (take k lines) → ⊥)) ⊎ ((k ≡ length lines + 1) × (BeginsSaid line lines → ⊥))
-    by_rest [] f none = inr (
-      omega (arith, ap (λ (ls : Lines). length ls) f, length-append front []),
-      (λ h. none h.0 [] h.1 h.2 (λ m more g. absurd (omega (arith, ap (λ (ls : Lines). length ls) g))) (sym f ∙ h.3)),
-    )
-    by_rest (l ∷ ls) f none =
-        let here : take k lines ≡ front ++ l ∷ [] = taken (front ++ l ∷ []) ls k (f ∙ sym (append_assoc front (l ∷ []) ls)) (omega (arith, length-append front (l ∷ []))) in
-        inl (
-          omega (arith, ap (λ (ls : Lines). length ls) f, length-append front (l ∷ ls)),
-          (λ h. none h.1.0 (l ∷ h.0) h.1.1 h.1.2 (λ m more g. (ls, ap (λ (x : List ℕ). x ∷ ls) (ap head g))) (sym (append_assoc front (l ∷ []) h.0) ∙ (ap (λ (x : Lines). x ++ h.0) (sym here) ∙ h.1.3))),
-        )
+  -- the last one
+  pub last_read : (qs : List Part) (p : Part) (more : List ℕ) → qs ≡ ps ++ p ∷ [] → length ps < most → IsPartFrom next last p → lines_of rest ≡ part_line p ∷ lines_of more → p.last ≡ last → PartsRead low last most qs (p.last + 1) bytes more × StopsAt last most qs Whole
+  last_read qs p more e few is line end = (part_read qs p more e few is line, ap end_of e ∙ (end_push ps p ∙ ap Some end))
 
-module _ (low last most : ℕ) (can : CanBeSaidOf (Scan low last most)) (ps : List Part) (each : AllByRecursion IsPart ps) (ascend : PartsAscend low last ps) where
-  abbrev Goes : Type 0
-  Goes = (said : Said) × (more : Lines) × IsSaidOf (Scan low last most) said × (map part_line ps ++ more ≡ said_lines said)
+  -- where the scan stops
+  pub stops_there : (stop : Scanned) → StopsAt last most ps stop → IsStop stop → IsSaidOf (Scan low last most) (said.Scan ps stop)
+  stops_there stop stops small = (record { ascend = parts.ascend; few = parts.few; stops = stops }, (parts.each, small))
 
-  -- a part goes on, up to the last key
-  pub part_goes : length ps < most → next_end low ps ≤ last → Goes
-  part_goes few next =
-      let part : Part = record { number = 0; last = last; pairs = [] } in
-      let small : IsPart part = (omega arith, can.1, omega arith, tt) in
-      let scan : IsScanOf low last most (ps ++ part ∷ []) Whole = record {
-        ascend = ascend_append low last ps (part ∷ []) ascend (next, omega arith, tt);
-        few = omega (arith, length-append ps (part ∷ []));
-        stops = end_push ps part;
-      } in (
-        said.Scan (ps ++ part ∷ []) Whole,
-        part_line part ∷ codes "whole" ∷ [],
-        (scan, (all_append IsPart ps (part ∷ []) each (small, tt), tt)),
-        sym (ap (λ (ls : Lines). ls ++ codes "whole" ∷ []) (map_push part_line ps part) ∙ append_assoc (map part_line ps) (part_line part ∷ []) (codes "whole" ∷ [])),
-      )
+  pub until : most ≤ length ps → 1 ≤ most → next ≤ last → StopsAt last most ps (Until next)
+  until full some within = let e = some_end low ps (omega arith) in (omega (arith, parts.few), e.0, e.1, omega (arith, parts.from, e.2), parts.from ∙ e.2)
 
-  -- the scan stops
-  pub stop_goes : (stop : Scanned) → length ps ≤ most → StopsAt last most ps stop → IsStop stop → Goes
-  stop_goes stop few stops small = (said.Scan ps stop, stop_line stop ∷ [], (record { ascend = ascend; few = few; stops = stops }, (each, small)), refl)
-
-  -- and nothing goes on
-  scan_unsaid : (lines rest : Lines) (k : ℕ) → lines ≡ map part_line ps ++ rest → k ≡ length ps + 1 → Goes → (length ps < most → NoneFirst (IsPartFrom (next_end low ps) last) part_line rest) → ((stop : Scanned) → StopsAt last most ps stop → NotFirst (stop_line stop) rest) → FirstUnsaid (Scan low last most) lines k
-  scan_unsaid lines rest k lines_are k_is goes no_part no_end = unsaid (Scan low last most) (map part_line ps) rest lines k lines_are (omega (arith, length-map ps part_line)) goes odd
+  -- nothing goes on
+  scan_unsaid : Begins (BeginsSaid (Scan low last most)) (map part_line ps) → (length ps < most → NoneFirst (IsPartFrom next last) part_line (lines_of rest)) → ((stop : Scanned) → StopsAt last most ps stop → NotFirst (stop_line stop) (lines_of rest)) → FirstBad (BeginsSaid (Scan low last most)) (lines_of bytes) (length ps + 1)
+  scan_unsaid goes no_part no_end = refused_at (BeginsSaid (Scan low last most)) (lines_of bytes) (map part_line ps) (lines_of rest) (length ps) parts.read.lines_are parts.read.counted goes (λ ls same h. odd ls same h.0 h.1 h.2 h.3)
     where
-      by_more : (more : List Part) (stop : Scanned) (ls behind : Lines) → IsScanOf low last most (ps ++ more) stop → AllByRecursion IsPart more → Heads rest ls → ls ≡ map part_line more ++ stop_line stop ∷ behind → ⊥
-      by_more [] stop ls behind scan good same e =
-          let f = same (stop_line stop) behind e in
-          subst (NotFirst (stop_line stop)) f.1 (no_end stop (subst (λ (xs : List Part). StopsAt last most xs stop) (append-nil ps) scan.stops)) refl
+      by_more : (more : List Part) (stop : Scanned) (ls behind : Lines) → IsScanOf low last most (ps ++ more) stop → AllByRecursion IsPart more → take 1 ls ≡ take 1 (lines_of rest) → ls ≡ map part_line more ++ stop_line stop ∷ behind → ⊥
+      by_more [] stop ls behind scan good same e = subst (NotFirst (stop_line stop)) e (not_first_same (stop_line stop) ls (lines_of rest) same (no_end stop (subst (λ (xs : List Part). StopsAt last most xs stop) (append-nil ps) scan.stops))) refl
       by_more (p ∷ more) stop ls behind scan good same e =
-          let f = same (part_line p) (map part_line more ++ stop_line stop ∷ behind) e in
           let limit = scan.few in
           let fits = ascend_right low last ps (p ∷ more) scan.ascend in
-          subst (NoneFirst (IsPartFrom (next_end low ps) last) part_line) f.1 (no_part (omega (arith, length-append ps (p ∷ more)))) p (fits.0, fits.1, good.0) refl
+          subst (NoneFirst (IsPartFrom next last) part_line) e (first_same (NoneFirst (IsPartFrom next last) part_line) (λ l ls more h. h) ls (lines_of rest) same (no_part (omega (arith, length-append ps (p ∷ more))))) p (omega (arith, fits.0, parts.from), fits.1, good.0) refl
 
-      odd : (x : Said) (ls behind : Lines) → IsSaidOf (Scan low last most) x → Heads rest ls → map part_line ps ++ ls ≡ said_lines x ++ behind → ⊥
-      odd (said.Call n r) ls behind is same e = is.0
-      odd (said.Scan qs stop) ls behind is same e =
-          let on = parts_told ps qs stop ls behind each is.1.0 (e ∙ append_assoc (map part_line qs) (stop_line stop ∷ []) behind) in
+      odd : (ls : Lines) → take 1 ls ≡ take 1 (lines_of rest) → (x : Said) (behind : Lines) → IsSaidOf (Scan low last most) x → map part_line ps ++ ls ≡ said_lines x ++ behind → ⊥
+      odd ls same (said.Call n r) behind is e = is.0
+      odd ls same (said.Scan qs stop) behind is e =
+          let on = parts_told ps qs stop ls behind parts.each is.1.0 (e ∙ append_assoc (map part_line qs) (stop_line stop ∷ []) behind) in
           by_more on.0 stop ls behind (subst (λ (xs : List Part). IsScanOf low last most xs stop) on.1 is.0) (all_right IsPart ps on.0 (subst (AllByRecursion IsPart) on.1 is.1.0)) same on.2
 
-  -- where a part must follow, and where the scan must stop
-  pub part_unsaid : (lines rest : Lines) (k : ℕ) → lines ≡ map part_line ps ++ rest → k ≡ length ps + 1 → length ps < most → next_end low ps ≤ last → NoneFirst (IsPartFrom (next_end low ps) last) part_line rest → FirstUnsaid (Scan low last most) lines k
-  part_unsaid lines rest k lines_are k_is few next none =
-      scan_unsaid lines rest k lines_are k_is (part_goes few next) (λ _. none) (λ stop stops. absurd (no_stop low last most ps stop few next stops))
+  -- where a part must follow: one that ends with the last key goes on
+  pub part_unsaid : last < 2 ^ 64 → length ps < most → next ≤ last → NoneFirst (IsPartFrom next last) part_line (lines_of rest) → FirstBad (BeginsSaid (Scan low last most)) (lines_of bytes) (length ps + 1)
+  part_unsaid small few within none =
+      let part : Part = record { number = 0; last = last; pairs = [] } in
+      let is : IsPart part = (omega arith, small, omega arith, tt) in
+      let scan : IsScanOf low last most (ps ++ part ∷ []) Whole = record {
+        ascend = ascend_append low last ps (part ∷ []) parts.ascend (omega (arith, parts.from), omega arith, tt);
+        few = omega (arith, length-append ps (part ∷ []));
+        stops = end_push ps part;
+      } in
+      scan_unsaid (part_line part ∷ codes "whole" ∷ [], (said.Scan (ps ++ part ∷ []) Whole, [], (scan, (all_append IsPart ps (part ∷ []) parts.each (is, tt), tt)), simp (map-append, append_assoc, append-nil))) (λ _. none) (λ stop stops. absurd (no_stop low last most ps stop few (omega (arith, parts.from)) stops))
 
-  pub stop_unsaid : (lines rest : Lines) (k : ℕ) (stop : Scanned) → lines ≡ map part_line ps ++ rest → k ≡ length ps + 1 → length ps ≤ most → StopsAt last most ps stop → IsStop stop → NotFirst (stop_line stop) rest → FirstUnsaid (Scan low last most) lines k
-  stop_unsaid lines rest k stop lines_are k_is few stops small odd =
-      scan_unsaid lines rest k lines_are k_is (stop_goes stop few stops small)
-      (λ less. none_of (IsPartFrom (next_end low ps) last) part_line rest (λ p is. let from = is.0 in let upto = is.1 in no_stop low last most ps stop less (omega arith) stops))
-      (λ other is. subst (λ (s : Scanned). NotFirst (stop_line s) rest) (one_end last most ps stop other stops is) odd)
+  -- and where the scan must stop
+  pub stop_unsaid : (stop : Scanned) → StopsAt last most ps stop → IsStop stop → NotFirst (stop_line stop) (lines_of rest) → FirstBad (BeginsSaid (Scan low last most)) (lines_of bytes) (length ps + 1)
+  stop_unsaid stop stops small odd =
+      scan_unsaid (stop_line stop ∷ [], (said.Scan ps stop, [], stops_there stop stops small, sym (append-nil (map part_line ps ++ stop_line stop ∷ []))))
+      (λ less. none_of (IsPartFrom next last) part_line (lines_of rest) (λ p is. let from = is.0 in let upto = is.1 in no_stop low last most ps stop less (omega (arith, parts.from)) stops))
+      (λ other is. subst (λ (s : Scanned). NotFirst (stop_line s) (lines_of rest)) (one_end last most ps stop other stops is) odd)
 
 -- no reply
-pub call_unsaid : (op : Op) (lines : Lines) → NoneFirst (IsReplyOf op) reply_line lines → FirstUnsaid (Call op) lines 1
-call_unsaid op lines none = unsaid (Call op) [] lines lines 1 refl refl (said.Call 0 Nothing, reply_line (0, Nothing) ∷ [], (tt, (omega arith, tt)), refl) odd
+pub call_unsaid : (op : Op) (lines : Lines) → NoneFirst (IsReplyOf op) reply_line lines → FirstBad (BeginsSaid (Call op)) lines 1
+call_unsaid op lines none =
+    refused_at (BeginsSaid (Call op)) lines [] lines 0 refl refl (reply_line (0, Nothing) ∷ [], (said.Call 0 Nothing, [], (tt, (omega arith, tt)), refl))
+    (λ ls same h. odd ls (first_same (NoneFirst (IsReplyOf op) reply_line) (λ l ls more h. h) ls lines same none) h.0 h.1 h.2 h.3)
   where
-    odd : (x : Said) (ls behind : Lines) → IsSaidOf (Call op) x → Heads lines ls → ls ≡ said_lines x ++ behind → ⊥
-    odd (said.Call n r) ls behind is same e = let f = same (reply_line (n, r)) behind e in subst (NoneFirst (IsReplyOf op) reply_line) f.1 none (n, r) (is.1, is.0) refl
-    odd (said.Scan ps stop) ls behind is same e = is.0
-
--- something can be printed
-pub printable : (x : Said) → IsSaid x → IsPrintable x
-printable (said.Call n (Listed pairs)) h = h.1
-printable other h = tt
+    odd : (ls : Lines) → NoneFirst (IsReplyOf op) reply_line ls → (x : Said) (behind : Lines) → IsSaidOf (Call op) x → ls ≡ said_lines x ++ behind → ⊥
+    odd ls none (said.Call n r) behind is e = subst (NoneFirst (IsReplyOf op) reply_line) e none (n, r) (is.1, is.0) refl
+    odd ls none (said.Scan ps stop) behind is e = is.0
 
 -- something may be said of each line of a script
 pub can_be_said : (version : Version) (line : Line) → IsLineOf version line → CanBeSaidOf line

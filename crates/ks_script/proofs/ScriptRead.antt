@@ -2,7 +2,7 @@
 use Rattle.ks_script.proofs.Common.{ℕ, ◌≡◌, ◌+◌, ◌-◌, ◌<◌, ◌≤◌, List, [], ◌∷◌, ◌++◌, length, map, take, drop, get_or, codes, refl, sym, ap, subst, ◌∙◌, append_assoc, append-nil, arith, length-append, sum_by, AllByRecursion, Line, Version, First, Second, Third, Fourth, lines_of, FirstBad, version_line, parts_of, parts_in, IsLineOf, IsLineWithin, IsScript, SpellsScript, AreScript, line_text, script_lines, calls_in, Lines, NotFirst, NoneFirst, NoVersion, HasBegun, Reads, Stops, flat_map-append, caller_lines}
 use Rattle.std.proofs.lemmas.List.Sums.{sum_by-append, sum_by-cons}
 use Rattle.ks_script.proofs.Leading.{reads_on, reads_all, first_same, refused_at, told_apart}
-use Rattle.ks_script.proofs.CallLines.{first, spelled, one_line}
+use Rattle.ks_script.proofs.CallLines.{first, wide_line, spelled, one_line}
 use Rattle.ks_script.proofs.Lined.{no_more}
 use Rattle.ks_script.proofs.Steps.{all_right}
 
@@ -47,7 +47,7 @@ module _ (v : Version) (behind : Lines) (apart : Apart v behind) where
   next [] (o ∷ s) ls h k e = at_caller (omega arith) (map line_text o ++ (script_lines s ++ behind)) (e ∙ append_assoc (caller_lines o) (script_lines s) behind)
   next (ops ∷ all) [] ls h k e = absurd (subst (NotFirst (codes "caller")) (sym e) apart.no_caller refl)
   next (ops ∷ all) (o ∷ s) ls h k e =
-      let on = told_apart (IsLineOf v) line_text (one_line v) ops o (script_lines all ++ ls) (script_lines s ++ behind) h.0 k.0 (no_line s) (ap (λ (ls : Lines). drop 1 ls) (sym (append_assoc (caller_lines ops) (script_lines all) ls) ∙ (e ∙ append_assoc (caller_lines o) (script_lines s) behind))) in
+      let on = told_apart (IsLineOf v) line_text (λ a b h k e. (one_line a b [] [] (wide_line v a h) (wide_line v b k) tt tt (ap (λ (text : List ℕ). text ++ []) e)).0) ops o (script_lines all ++ ls) (script_lines s ++ behind) h.0 k.0 (no_line s) (ap (λ (ls : Lines). drop 1 ls) (sym (append_assoc (caller_lines ops) (script_lines all) ls) ∙ (e ∙ append_assoc (caller_lines o) (script_lines s) behind))) in
       by_more on.0 on.1 on.2 (λ f. next all s ls h.1 k.1 f)
     where
       by_line : (rest : List (List Line)) (l : Line) (more : List Line) → o ≡ ops ++ l ∷ more → IsLineOf v l → script_lines rest ++ ls ≡ line_text l ∷ (map line_text more ++ (script_lines s ++ behind)) → Next v (ops ∷ rest) (o ∷ s) behind ls

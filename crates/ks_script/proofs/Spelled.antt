@@ -1,5 +1,5 @@
 -- Texts and their lines, there and back.
-use Rattle.ks_script.proofs.Common.{ℕ, ◌≡◌, ◌⊎◌, ◌+◌, ◌^◌, ◌<◌, ◌≤◌, false, eqb, List, [], ◌∷◌, ◌++◌, length, map, refl, sym, ap, subst, ◌∙◌, append_assoc, arith, codes, inl, inr, length-append, false≢true, eq-eqb, or_parts, decimal, AllByRecursion, onto_first, Line, Reply, Version, First, Second, Third, Fourth, lines_of, text_of, Lacks, version_line, callers_limit, IsLineOf, IsScript, line_text, script_lines, Run, Said, Scanned, Pair, reply_word, reply_line, pair_line, pair_words, part_line, stop_line, said_lines, callers_from, map_lines, run_lines, IsReply, IsAnswered, IsPair, IsPart, IsStop, IsSaid, AscendFrom, IsRunOf, CheckedIn}
+use Rattle.ks_script.proofs.Common.{ℕ, ◌≡◌, ◌⊎◌, ◌+◌, ◌^◌, ◌<◌, ◌≤◌, false, eqb, List, [], ◌∷◌, ◌++◌, length, map, refl, sym, ap, subst, ◌∙◌, append_assoc, arith, codes, inl, inr, length-append, false≢true, eq-eqb, or_parts, decimal, AllByRecursion, onto_first, Line, Reply, Value, Listed, Version, First, lines_of, text_of, Lacks, version_line, callers_limit, IsLineOf, IsScript, line_text, script_lines, Run, Said, Scanned, Pair, reply_word, reply_line, pair_line, pair_words, part_line, stop_line, said_lines, callers_from, map_lines, run_lines, IsReply, IsAnswered, IsPair, IsPart, IsStop, IsSaid, AscendFrom, IsRunOf, CheckedIn, IsPairFrom, get_or}
 use Rattle.std.specs.List.{flat_map}
 use Rattle.ks_script.specs.Script.{caller_lines}
 use Rattle.ks_lines.specs.Lines.{AllBoth, MayAnswer}
@@ -9,7 +9,6 @@ use Rattle.ks_lines.specs.declared.Scanned.TheVariants as stopped
 use Rattle.ks_script.proofs.Numerals.{wide}
 use Rattle.ks_script.proofs.Cuts.{lines_cases, lines_first, decimal_lacks}
 use Rattle.ks_script.proofs.CallLines.{stands, AreSmall, numbers, kind, spelled}
-use Rattle.ks_script.proofs.Rows.{by_word, follows}
 use Rattle.ks_script.proofs.Steps.{all_append}
 use Rattle.ks_script.proofs.Both.{both_length}
 
@@ -59,16 +58,12 @@ plain_caller version ls h = (lacks_by 10 (codes "caller") refl, plain_each (IsLi
 
 plain_version : (version : Version) → Plain (version_line version)
 plain_version First = tt
-plain_version Second = (lacks_by 10 (codes "script 2") refl, tt)
-plain_version Third = (lacks_by 10 (codes "script 3") refl, tt)
-plain_version Fourth = (lacks_by 10 (codes "script 4") refl, tt)
+plain_version other = (lacks_by 10 (get_or (version_line other) 0 []) refl, tt)
 
 plain_word : (r : Reply) → IsReply r → Lacks 10 (reply_word r)
-plain_word r h =
-    elim (by_word r [] h (follows r [] tt)) [
-      | inl word ↦ lacks_by 10 (reply_word r) word.3
-      | inr said ↦ subst (λ (s : Reply). Lacks 10 (reply_word s)) (sym said.2) (value said.0 said.1)
-    ]
+plain_word (Value v) h = value v h
+plain_word (Listed pairs) h = absurd h
+plain_word other h = lacks_by 10 (reply_word other) refl
 
 pub plain_reply : (x : ℕ × Reply) → IsAnswered x → Lacks 10 (reply_line x)
 plain_reply x h = spaced (decimal x.0) (reply_word x.1) (number x.0 h.0) (plain_word x.1 h.1)
@@ -91,9 +86,9 @@ plain_said : (x : Said) → IsSaid x → Plain (said_lines x)
 plain_said (said.Call n reply) h = (plain_reply (n, reply) h, tt)
 plain_said (said.Scan parts stop) h = all_append (Lacks 10) (map part_line parts) (stop_line stop ∷ []) (plain_each IsPart part_line plain_part parts h.0) (plain_stop stop h.1, tt)
 
-pub plain_pairs : (n : ℕ) (ps : List (ℕ × ℕ)) → AscendFrom n ps → Plain (map pair_line ps)
-plain_pairs n [] h = tt
-plain_pairs n (p ∷ ps) h = (plain_pair p h.1 h.2, plain_pairs (p.0 + 1) ps h.3)
+pub each_pair : (n : ℕ) (ps : List (ℕ × ℕ)) → AscendFrom n ps → AllByRecursion (IsPairFrom 0) ps
+each_pair n [] h = tt
+each_pair n (p ∷ ps) h = ((omega arith, h.1, h.2), each_pair (p.0 + 1) ps h.3)
 
 pub plain_callers : (n : ℕ) (cs : List (List Said)) → n + length cs ≤ 1024 → AllByRecursion (AllByRecursion IsSaid) cs → Plain (callers_from n cs)
 plain_callers n [] few h = tt
@@ -103,7 +98,7 @@ plain_callers n (c ∷ cs) few h = (
 )
 
 pub plain_map : (ps : List (ℕ × ℕ)) → AscendFrom 0 ps → Plain (map_lines ps)
-plain_map ps h = (lacks_by 10 (codes "map") refl, all_append (Lacks 10) (map pair_line ps) (codes "end" ∷ []) (plain_pairs 0 ps h) (lacks_by 10 (codes "end") refl, tt))
+plain_map ps h = (lacks_by 10 (codes "map") refl, all_append (Lacks 10) (map pair_line ps) (codes "end" ∷ []) (plain_each (IsPairFrom 0) pair_line (λ x is. plain_pair x is.1 is.2) ps (each_pair 0 ps h)) (lacks_by 10 (codes "end") refl, tt))
 
 -- the lines of a text of lines
 pub lines_again : (ls : List (List ℕ)) → Plain ls → lines_of (text_of ls) ≡ ls

@@ -26,3 +26,4 @@ pub mod SaidLeft
 pub mod RunLeft
 pub mod Pieces
 pub mod Laws
+pub mod Words

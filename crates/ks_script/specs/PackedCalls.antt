@@ -5,7 +5,7 @@ use Rattle.ks_lines.specs.declared.Line.{Line}
 use Rattle.ks_lines.specs.declared.Line.TheVariants.{Call}
 use Rattle.ks_script.specs.declared.packed_calls.LongCalls.{LongCalls}
 use Rattle.ks_script.specs.declared.packed_calls.SmallCall.{SmallCall}
-use Rattle.ks_script.specs.declared.packed_calls.SmallCall.TheVariants.{Get, Put, Del, LongGet, LongPut, LongDel, WidePut, Other}
+use Rattle.ks_script.specs.declared.packed_calls.SmallCall.TheVariants.{Get, Put, Del, LongGet, LongPut, LongDel, Other}
 use Rattle.ks_script.specs.Parts.{joined}
 
 -- the line that a small call represents, beside the longer ones
@@ -16,7 +16,6 @@ call_in long (Del key) = Call (op.Del key)
 call_in long (LongGet at) = Call (op.Get (slice_index_or long.pairs.items at (0, 0)).0)
 call_in long (LongPut at) = Call (op.Put (slice_index_or long.pairs.items at (0, 0)).0 (slice_index_or long.pairs.items at (0, 0)).1)
 call_in long (LongDel at) = Call (op.Del (slice_index_or long.pairs.items at (0, 0)).0)
-call_in long (WidePut at) = Call (op.Put (slice_index_or long.wides.items at (0, 0)).0 (slice_index_or long.wides.items at (0, 0)).1)
 call_in long (Other at) = slice_index_or long.others.items at (Call (op.Get 0))
 
 -- where it names a place, a line is there
@@ -27,7 +26,6 @@ IsCallIn long (Del key) = ⊤
 IsCallIn long (LongGet at) = at < length long.pairs.items
 IsCallIn long (LongPut at) = at < length long.pairs.items
 IsCallIn long (LongDel at) = at < length long.pairs.items
-IsCallIn long (WidePut at) = at < length long.wides.items
 IsCallIn long (Other at) = at < length long.others.items
 
 -- what represented a line still does

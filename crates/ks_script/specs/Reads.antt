@@ -15,6 +15,10 @@ abbrev pub NoneFirst : {X : Type 0} → (X → Type 0) → (X → List ℕ) → 
 NoneFirst Is line [] = Unit {0}
 NoneFirst {X = X} Is line (l ∷ ls) = (x : X) → Is x → l ≡ line x → ⊥
 
+-- the lines begin with those of such a thing
+abbrev pub BeginsWith : {X : Type 0} → (X → Type 0) → (X → Lines) → Lines → Type 0
+BeginsWith {X = X} Is of ls = (x : X) × (behind : Lines) × Is x × (ls ≡ of x ++ behind)
+
 -- the first lines of the bytes, `count` of them, are these, and the others are those of the rest
 pub record Reads (front : Lines) (bytes rest : List ℕ) (count : ℕ) : Type 0 where
   pub lines_are : lines_of bytes ≡ front ++ lines_of rest

@@ -1,14 +1,13 @@
--- What of a run is left behind the lines that were read.
-use Rattle.std.specs.Prelude.{ℕ, ◌≡◌, ◌+◌, ◌^◌, ◌<◌, ◌≤◌, List, [], ◌∷◌, ◌++◌}
-use Rattle.std.specs.List.{flat_map, AllByRecursion}
+-- The lines of a run, and the first line with which no run goes on.
+use Rattle.std.specs.Prelude.{ℕ, ◌≡◌, ◌+◌, ◌^◌, ◌<◌, ◌≤◌, List, [], ◌∷◌}
+use Rattle.std.specs.List.{flat_map}
 use Rattle.ks_lines.specs.declared.Line.{Line}
 use Rattle.ks_lines.specs.declared.Said.{Said}
-use Rattle.ks_lines.specs.Lines.{MayAnswer, AllBoth}
-use Rattle.ks_script.specs.Lines.{lines_of}
+use Rattle.ks_lines.specs.Lines.{AllBoth}
 use Rattle.ks_script.specs.Run.{Run, said_lines, run_lines}
-use Rattle.ks_script.specs.Checked.{IsSaid, IsRunOf}
-use Rattle.ks_script.specs.Reads.{Lines, Reads}
-use Rattle.ks_script.specs.SaidLeft.{FirstUnsaid}
+use Rattle.ks_script.specs.Checked.{IsRunOf}
+use Rattle.ks_script.specs.Reads.{Lines, BeginsWith}
+use Rattle.ks_script.specs.SaidLeft.{IsSaidOf}
 
 abbrev pub Replies : Type 0
 Replies = List Said
@@ -31,22 +30,6 @@ pub record SpellsRun (script : List (List Line)) (run : Run) (ls : Lines) : Type
 abbrev pub AreRun : List (List Line) → Lines → Type 0
 AreRun script ls = (run : Run) × SpellsRun script run ls
 
--- line k of the bytes, counted from 1, is the first with which no replies to these lines go on
-pub record RepliesStop (lines : List Line) (bytes : List ℕ) (k : ℕ) : Type 0 where
-  pub before : List Line
-  pub line : Line
-  pub after : List Line
-  pub lines_are : lines ≡ before ++ line ∷ after
-  pub replies : Replies
-  pub fit : AllBoth MayAnswer before replies
-  pub each : AllByRecursion IsSaid replies
-  pub rest : List ℕ
-  pub count : ℕ
-  pub read : Reads (flat_map said_lines replies) bytes rest count
-  pub more : ℕ
-  pub sum : k ≡ count + more
-  pub unsaid : FirstUnsaid line (lines_of rest) more
-
--- the same behind this number of lines
-abbrev pub RepliesStopBehind : ℕ → List Line → List ℕ → ℕ → Type 0
-RepliesStopBehind first lines bytes n = (k : ℕ) × (n ≡ first + k) × RepliesStop lines bytes k
+-- the lines begin with replies to these
+abbrev pub BeginsReplies : List Line → Lines → Type 0
+BeginsReplies lines = BeginsWith (AllBoth IsSaidOf lines) (flat_map said_lines)

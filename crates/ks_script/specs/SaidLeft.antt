@@ -1,5 +1,5 @@
 -- What may be said of a line of a script, and lines that go on with nothing of it.
-use Rattle.std.specs.Prelude.{ℕ, suc, ◌≡◌, ◌+◌, ◌-◌, ◌^◌, ◌<◌, ◌≤◌, ◌⊎◌, List, [], ◌∷◌, ◌++◌, length, take}
+use Rattle.std.specs.Prelude.{ℕ, suc, ◌^◌, ◌<◌, ◌≤◌, List, [], ◌∷◌}
 use Rattle.ks_history.specs.declared.Op.{Op}
 use Rattle.ks_history.specs.declared.Reply.{Reply}
 use Rattle.ks_lines.specs.declared.parts.Part.{Part}
@@ -7,10 +7,9 @@ use Rattle.ks_lines.specs.declared.Line.{Line}
 use Rattle.ks_lines.specs.declared.Line.TheVariants.{Call, Scan}
 use Rattle.ks_lines.specs.declared.Said.{Said}
 use Rattle.ks_lines.specs.Lines.{IsReplyTo, MayAnswer}
-use Rattle.ks_script.specs.Lines.{Begins}
 use Rattle.ks_script.specs.Run.{said_lines}
 use Rattle.ks_script.specs.Checked.{IsAnswered, IsPart, IsSaid}
-use Rattle.ks_script.specs.Reads.{Lines}
+use Rattle.ks_script.specs.Reads.{Lines, BeginsWith}
 
 -- something may be said of the line: a scan goes up to a key of 64 bits, and has a part
 abbrev pub CanBeSaidOf : Line → Type 0
@@ -36,15 +35,4 @@ IsPartFrom next last part = (next ≤ part.last) × (part.last ≤ last) × IsPa
 
 -- the lines begin with what may be said of the line
 abbrev pub BeginsSaid : Line → Lines → Type 0
-BeginsSaid line ls = (said : Said) × (behind : Lines) × IsSaidOf line said × (ls ≡ said_lines said ++ behind)
-
--- line k, counted from 1, is the first with which nothing goes on that may be said of the line
-pub record FirstUnsaid (line : Line) (lines : Lines) (k : ℕ) : Type 0 where
-  pub place : 0 < k
-  pub before : (said : Said) × (more : Lines) × IsSaidOf line said × (take (k - 1) lines ++ more ≡ said_lines said)
-  pub refused : ((k ≤ length lines) × (Begins (BeginsSaid line) (take k lines) → ⊥))
-      ⊎ ((k ≡ length lines + 1) × (BeginsSaid line lines → ⊥))
-
--- the same behind this number of lines
-abbrev pub UnsaidBehind : ℕ → Line → Lines → ℕ → Type 0
-UnsaidBehind before line lines n = (k : ℕ) × (n ≡ before + k) × FirstUnsaid line lines k
+BeginsSaid line = BeginsWith (IsSaidOf line) said_lines

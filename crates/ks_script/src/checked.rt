@@ -1,11 +1,7 @@
 //! What is checked: a script, and a printed run of it, in one text.
 
-ghost use Rattle.std.specs.Prelude.{ℕ, ◌≡◌, Ok, Err, List, IfOk};
-ghost use Rattle.ks_lines.specs.declared.Line.{Line};
-ghost use Rattle.ks_script.specs.Run.{Run};
-ghost use Rattle.ks_script.specs.Checked.{CheckedOf};
-ghost use Rattle.ks_script.specs.CheckedTexts.{FirstBadOfChecked};
-ghost use Rattle.ks_script.specs.Reading.{Answers, Gives};
+ghost use Rattle.std.specs.Prelude.{ℕ, Ok, Err, List};
+ghost use Rattle.ks_script.specs.Words.{Line, Run, CheckedOf, FirstBadOfChecked, Answers, Gives};
 
 use crate::lines::word_line;
 use crate::reader::callers;
@@ -21,14 +17,6 @@ pub fn read_checked(alloc: Global, bytes: &[u8]) -> Result<(Script, Printed), Te
     ensures checked { (script : List (List Line)) (run : Run) → CheckedOf bytes.now script run →
         Gives result (Ok (script, run)) }
     ensures refused { (n : ℕ) → FirstBadOfChecked bytes.now n → Gives result (Err (TextFault.Refused n)) }
-{
-    read_both(alloc, bytes)
-}
-
-fn read_both(alloc: Global, bytes: &[u8]) -> Result<(Script, Printed), TextFault>
-    ensures answer { Answers result (λ x. CheckedOf bytes.now x.0 x.1) (FirstBadOfChecked bytes.now) }
-    ensures only { IfOk result (λ x. (script : List (List Line)) (run : Run) → CheckedOf bytes.now script run →
-        (script ≡ x.0) × (run ≡ x.1)) }
 {
     let front = callers(alloc, bytes)?;
     let lines = front.lines + 1;

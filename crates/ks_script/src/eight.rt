@@ -1,10 +1,7 @@
 //! Up to sixteen digits, found in one vector and read in two words.
 
 ghost use Rattle.std.specs.Prelude.{ℕ, ◌≡◌, ◌≤◌, ◌<◌, ◌+◌, true, false, length, take, slice_index};
-ghost use Rattle.std.specs.Char.{is_ascii_digit};
-ghost use Rattle.std.specs.Str.{all_ascii_digits};
-ghost use Rattle.std.specs.Str.Parse.{digits_value};
-ghost use Rattle.ks_script.specs.Eight.{word_of};
+ghost use Rattle.ks_script.specs.Words.{is_ascii_digit, all_ascii_digits, digits_value, word_of};
 
 use std::simd::prelude::*;
 
@@ -28,10 +25,7 @@ pub fn digits_in(bytes: &[u8]) -> usize
 {
     let worths = u8x16::from_slice(bytes) - u8x16::splat(b'0');
     let others = worths.simd_gt(u8x16::splat(9)).to_bitmask();
-    if others == 0 {
-        return 16;
-    }
-    others.trailing_zeros() as usize
+    others.trailing_zeros().min(16) as usize
 }
 
 // The first eight bytes as a word, the first of them lowest.

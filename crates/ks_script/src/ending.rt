@@ -102,10 +102,8 @@ impl Ending {
         requires room { 19 + length self.old ≤ 64 }
         ensures { self.new ≡ padded 19 number ++ self.old }
     {
-        let end = self.start;
-        let start = end - 19;
-        self.bytes[start..end].copy_from_slice(b"0000000000000000000");
-        write_digits(number, &mut self.bytes, end);
-        self.start = start;
+        let long = 19 + self.bytes().len();
+        self.digits(number);
+        self.word(&b"0000000000000000000"[..long - self.bytes().len()]);
     }
 }

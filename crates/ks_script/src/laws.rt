@@ -1,15 +1,7 @@
 //! Laws of the texts, each on a function that computes nothing.
 
 ghost use Rattle.std.specs.Prelude.{ℕ, ◌≡◌, ◌⊎◌, List, [], ◌∷◌, ◌++◌, codes};
-ghost use Rattle.ks_lines.specs.declared.Line.{Line};
-ghost use Rattle.ks_script.specs.declared.version.Version.{Version};
-ghost use Rattle.ks_script.specs.Lines.{lines_of, text_of};
-ghost use Rattle.ks_script.specs.Version.{version_line};
-ghost use Rattle.ks_script.specs.Script.{IsScript, script_lines};
-ghost use Rattle.ks_script.specs.ScriptTexts.{ScriptIn};
-ghost use Rattle.ks_script.specs.Run.{Run, run_lines};
-ghost use Rattle.ks_script.specs.Checked.{IsRunOf};
-ghost use Rattle.ks_script.specs.CheckedTexts.{CheckedIn};
+ghost use Rattle.ks_script.specs.Words.{Line, Version, lines_of, text_of, version_line, IsScript, script_lines, ScriptIn, Run, run_lines, IsRunOf, CheckedIn};
 
 /// A script has one spelling in each version, except for the byte 10 at the end of the last line, and so has a script
 /// with its run.

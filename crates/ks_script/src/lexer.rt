@@ -1,33 +1,9 @@
 //! What bytes begin with, exactly: the number, or that they begin with none.
 
 ghost use Rattle.std.specs.Prelude.{◌≢◌, ℕ, ◌≡◌, ◌≤◌, ◌<◌, ◌^◌, List, ◌++◌, drop, codes, IfSome, IfNone};
-ghost use Rattle.std.specs.Fmt.{decimal};
-ghost use Rattle.ks_script.specs.Numeral.{NoDigit, ReadOn};
-ghost use Rattle.ks_script.specs.Lined.{EndsLine};
+ghost use Rattle.ks_script.specs.Words.{decimal, NoDigit, EndsLine};
 
 use crate::numeral::{power, sixteen, spells};
-
-// What sixteen digits and up to thirty-two more spell, if it is below 2^128, and the bytes after them.
-#[inline(always)]
-fn value_on(front: u64, bytes: &[u8]) -> Option<(u128, &[u8])>
-    requires least { 1000000000000000 ≤ front }
-    requires small { front < 10000000000000000 }
-    ensures some { IfSome result (λ x. ReadOn front bytes.now x.0 x.1.now × NoDigit x.1.now) }
-    ensures fits { IfSome result (λ x. x.0 < 2 ^ 128) }
-    ensures none { IfNone result ((n : ℕ) (rest : List ℕ) → ReadOn front bytes.now n rest → NoDigit rest → 2 ^ 128 ≤ n) }
-{
-    let (middle, count) = sixteen(bytes);
-    let number = u128::from(front) * u128::from(power(count)) + u128::from(middle);
-    let rest = bytes.split_at(count).1;
-    if count < 16 {
-        return Some((number, rest));
-    }
-    let (back, more) = sixteen(rest);
-    let number = number
-        .checked_mul(u128::from(power(more)))?
-        .checked_add(u128::from(back))?;
-    Some((number, rest.split_at(more).1))
-}
 
 /// The number below 2^128 that the bytes begin with, and the bytes after it.
 #[inline(always)]
@@ -36,16 +12,21 @@ pub fn value(bytes: &[u8]) -> Option<(u128, &[u8])>
     ensures fits { IfSome result (λ x. x.0 < 2 ^ 128) }
     ensures none { IfNone result ((n : ℕ) (rest : List ℕ) → n < 2 ^ 128 → NoDigit rest → bytes.now ≢ decimal n ++ rest) }
 {
-    let (front, count) = sixteen(bytes);
+    let (front, mut count) = sixteen(bytes);
     if !spells(bytes, count) {
         return None;
     }
-    let rest = bytes.split_at(count).1;
-    if count == 16 {
-        let (number, rest) = value_on(front, rest)?;
-        return Some((number, rest));
+    let mut number = u128::from(front);
+    let mut rest = bytes.split_at(count).1;
+    while count == 16 {
+        let (back, more) = sixteen(rest);
+        number = number
+            .checked_mul(u128::from(power(more)))?
+            .checked_add(u128::from(back))?;
+        rest = rest.split_at(more).1;
+        count = more;
     }
-    Some((u128::from(front), rest))
+    Some((number, rest))
 }
 
 /// The number below 2^64 that the bytes begin with, and the bytes after it.

@@ -34,7 +34,7 @@ pub use checked::read_checked;
 pub use fault::{Failed, ReadFault, TextFault};
 pub use laws::{one_spelling, written_is_read};
 pub use line::send_line;
-pub use memory::{CleanSink, CleanSource, MemSink, MemSource};
+pub use memory::{MemSink, MemSource};
 pub use outside::{Sink, Source};
 pub use packed_calls::Calls;
 pub use packed_replies::Replies;

@@ -1,6 +1,6 @@
-//! Sources and sinks in memory: those that fail at chosen calls, for tests, and those that never fail.
+//! A source and a sink in memory, which fail at chosen calls, or never, for tests.
 
-ghost use Rattle.std.specs.Prelude.{ℕ, ◌≡◌, ◌≤◌, ◌<◌, ◌↔◌, Some, List, [], take, length, Contains, IfOk, OnErr, IsOk, IsErr};
+ghost use Rattle.std.specs.Prelude.{ℕ, ◌≡◌, ◌≤◌, ◌<◌, ◌↔◌, Some, List, [], length, Contains, IfOk, OnErr, IsErr};
 ghost use Rattle.ks_script.specs.Outside.{Rose, Reads, Writes};
 ghost use Rattle.ks_script.specs.Memory.{End, new_end, Counts, Refuses};
 
@@ -8,77 +8,34 @@ use crate::{Failed, Sink, Source};
 use std::alloc::{AllocError, Global};
 use std::marker::Model;
 
-/// Bytes in memory, of which each read moves at most a certain number. No read fails.
+/// Bytes in memory, of which each read moves at most a certain number. The reads whose numbers, counted from 0, are listed as
+/// failing fail.
 #[derive(Drop)]
-pub struct CleanSource {
+pub struct MemSource {
     bytes: Vec<u8>,
     at: usize,
     most: usize,
-}
-
-impl Model for CleanSource {
-    ghost use Rattle.std.specs.Prelude.{◌≤◌, ◌<◌, drop, length, []};
-    ghost use Rattle.ks_script.specs.Memory.{End, new_end};
-
-    ghost Value = { End };
-
-    ghost view = { λ s. new_end (drop s.at s.bytes.items) 0 s.most [] };
-
-    ghost invariant = { λ s. (s.at ≤ length s.bytes.items) × (0 < s.most) };
-}
-
-impl CleanSource {
-    pub fn new(bytes: Vec<u8>, most: usize) -> CleanSource
-        requires { 0 < most }
-        ensures { result ≡ new_end bytes.items 0 most [] }
-    {
-        CleanSource { bytes, at: 0, most }
-    }
-}
-
-impl Source for CleanSource {
-    ghost left = { λ s. Some s.bytes };
-
-    ghost faults = { λ _. 0 };
-
-    fn read(&mut self, into: &mut [u8]) -> Result<usize, Failed>
-        ensures bound { IfOk result (λ n. n ≤ length into.new) }
-        ensures bytes { Reads (Some self.old.bytes) (Some self.new.bytes) into.new result }
-        ensures count { 0 ≤ 0 }
-        ensures cause { OnErr result (Rose 0 0) }
-        ensures clean { IsOk result }
-        ensures most { self.new.most ≡ self.old.most }
-    {
-        let bytes = &self.bytes[self.at..];
-        let count = bytes.len().min(self.most).min(into.len());
-        into[..count].copy_from_slice(&bytes[..count]);
-        self.at += count;
-        Ok(count)
-    }
-}
-
-/// A clean source, of which the reads whose numbers, counted from 0, are listed as failing fail.
-#[derive(Drop)]
-pub struct MemSource {
-    source: CleanSource,
     failing: Vec<u64>,
     calls: u64,
     faults: u64,
 }
 
 impl Model for MemSource {
+    ghost use Rattle.std.specs.Prelude.{◌≤◌, ◌<◌, drop, length};
     ghost use Rattle.ks_script.specs.Memory.{End};
 
     ghost Value = { End };
 
     ghost view = { λ s. record {
-      bytes = s.source.bytes;
+      bytes = drop s.at s.bytes.items;
       room = 0;
-      most = s.source.most;
+      most = s.most;
       failing = s.failing.items;
       calls = s.calls;
       faults = s.faults;
     } };
+
+    ghost invariant = { λ s. (s.at ≤ length s.bytes.items) × (0 < s.most) };
 }
 
 impl MemSource {
@@ -87,7 +44,9 @@ impl MemSource {
         ensures { result ≡ new_end bytes.items 0 most failing.items }
     {
         MemSource {
-            source: CleanSource::new(bytes, most),
+            bytes,
+            at: 0,
+            most,
             failing,
             calls: 0,
             faults: 0,
@@ -116,7 +75,11 @@ impl Source for MemSource {
             self.faults = self.faults.saturating_add(1);
             return Err(Failed);
         }
-        self.source.read(into)
+        let bytes = &self.bytes[self.at..];
+        let count = bytes.len().min(self.most).min(into.len());
+        into[..count].copy_from_slice(&bytes[..count]);
+        self.at += count;
+        Ok(count)
     }
 }
 
@@ -212,25 +175,5 @@ impl Sink for MemSink {
             return Err(Failed);
         }
         Ok(count)
-    }
-}
-
-/// Takes all bytes, makes none known and never fails.
-#[derive(Clone, Copy, Debug, PartialEq, Eq)]
-pub struct CleanSink;
-
-impl Sink for CleanSink {
-    ghost faults = { λ _. 0 };
-
-    fn write(&mut self, piece: &[u8]) -> Result<usize, Failed>
-        ensures bound { IfOk result (λ n. n ≤ length piece.now) }
-        ensures some { 0 < length piece.now → IfOk result (λ n. 0 < n) }
-        ensures bytes { Unit {0} }
-        ensures count { 0 ≤ 0 }
-        ensures cause { OnErr result (Rose 0 0) }
-        ensures all { IfOk result (λ n. n ≡ length piece.now) }
-        ensures clean { IsOk result }
-    {
-        Ok(piece.len())
     }
 }

@@ -1,40 +1,22 @@
 //! Numbers that bytes begin with.
 
-ghost use Rattle.std.specs.Prelude.{ℕ, ◌≡◌, ◌≤◌, ◌<◌, ◌+◌, ◌*◌, ◌^◌, ◌⊎◌, true, false, length, take, drop, slice_index};
-ghost use Rattle.std.specs.Str.{all_ascii_digits};
-ghost use Rattle.std.specs.Str.Parse.{digits_value};
-ghost use Rattle.ks_script.specs.Numeral.{NoDigit};
+ghost use Rattle.std.specs.Prelude.{ℕ, ◌≡◌, ◌≤◌, ◌<◌, ◌^◌, ◌⊎◌, true, false, length, slice_index};
+ghost use Rattle.ks_script.specs.Words.{Sixteen};
 
 use crate::eight::{digits_in, eight};
 
-// The powers of ten up to the sixteenth.
-const POWERS: [u64; 17] = [
-    1,
-    10,
-    100,
-    1_000,
-    10_000,
-    100_000,
-    1_000_000,
-    10_000_000,
-    100_000_000,
-    1_000_000_000,
-    10_000_000_000,
-    100_000_000_000,
-    1_000_000_000_000,
-    10_000_000_000_000,
-    100_000_000_000_000,
-    1_000_000_000_000_000,
-    10_000_000_000_000_000,
+// The powers of ten up to the eighth.
+const POWERS: [u64; 9] = [
+    1, 10, 100, 1000, 10000, 100000, 1000000, 10000000, 100000000,
 ];
 
-// The power of ten.
+// The power of ten, as a product of two of them.
 #[inline(always)]
 pub(crate) fn power(of: usize) -> u64
     requires { of ≤ 16 }
     ensures { result ≡ 10 ^ of }
 {
-    POWERS[of]
+    POWERS[of / 2] * POWERS[of - of / 2]
 }
 
 // The number that the digits spell with which fewer than sixteen bytes begin, and how many they are.
@@ -42,11 +24,7 @@ pub(crate) fn power(of: usize) -> u64
 #[inline(never)]
 fn one_by_one(bytes: &[u8]) -> (u64, usize)
     requires { length bytes.now < 16 }
-    ensures within { result.1 ≤ length bytes.now }
-    ensures digits { all_ascii_digits (take result.1 bytes.now) ≡ true }
-    ensures value { digits_value 10 (take result.1 bytes.now) ≡ result.0 }
-    ensures small { result.0 < 10000000000000000 }
-    ensures stops { NoDigit (drop result.1 bytes.now) }
+    ensures { Sixteen bytes.now result.0 result.1 }
 {
     let mut number = 0;
     let mut count = 0;
@@ -65,12 +43,7 @@ fn one_by_one(bytes: &[u8]) -> (u64, usize)
 // ones.
 #[inline(always)]
 pub(crate) fn sixteen(bytes: &[u8]) -> (u64, usize)
-    ensures within { result.1 ≤ length bytes.now }
-    ensures most { result.1 ≤ 16 }
-    ensures digits { all_ascii_digits (take result.1 bytes.now) ≡ true }
-    ensures value { digits_value 10 (take result.1 bytes.now) ≡ result.0 }
-    ensures small { result.0 < 10000000000000000 }
-    ensures stops { result.1 < 16 → NoDigit (drop result.1 bytes.now) }
+    ensures { Sixteen bytes.now result.0 result.1 }
 {
     if bytes.len() < 16 {
         return one_by_one(bytes);

@@ -1,10 +1,8 @@
 //! The lines of one caller in little room: 8 bytes for a Get or a Del of a key below 2^32, and for a Put of a key below
-//! 2^24 and a value below 2^32; of others 8 bytes say where they are in a list of their kind.
+//! 2^24 and a value below 2^32; of others 8 bytes say where they are in a list.
 
 ghost use Rattle.std.specs.Prelude.{ℕ, ◌≡◌, ◌<◌, List, [], ◌∷◌, ◌++◌, length, slice_index_or, IfOk, IfSome, OnOk, OnErr};
-ghost use Rattle.ks_history.specs.declared.Op.TheVariants.{Get};
-ghost use Rattle.ks_lines.specs.declared.Line.TheVariants.{Call};
-ghost use Rattle.ks_script.specs.PackedCalls.{call_in, IsCallIn, KeepsCalls};
+ghost use Rattle.ks_script.specs.Words.{Get, Call, call_in, IsCallIn, KeepsCalls};
 
 use crate::packed::{joined, kept_at, parts};
 use ks_history::Op;
@@ -12,7 +10,7 @@ use ks_lines::Line;
 use std::alloc::{AllocError, Global};
 use std::marker::Model;
 
-/// A short call, or the place of a longer one in the list of its kind.
+/// A short call, or the place of a longer one in a list.
 #[derive(Clone, Copy, Debug, PartialEq, Eq)]
 pub enum SmallCall {
     Get(u32),
@@ -22,20 +20,17 @@ pub enum SmallCall {
     LongGet(u32),
     LongPut(u32),
     LongDel(u32),
-    WidePut(u32),
     Other(u32),
 }
 
 const _: () = prove!(size_of::<SmallCall>() == 8);
 
-/// The longer lines of one caller, by kinds.
+/// The longer lines of one caller.
 #[derive(Drop)]
 pub struct LongCalls {
-    /// The key and the value of a Put; the key of a Get or a Del.
+    /// The key and the value of a Put of a value below 2^64; the key of a Get or a Del.
     pairs: Vec<(u64, u64)>,
-    /// The key and the value of a Put of a value from 2^64 on.
-    wides: Vec<(u64, u128)>,
-    /// Lines of all other kinds.
+    /// All others.
     others: Vec<Line>,
 }
 
@@ -88,13 +83,13 @@ impl LongCalls {
         if let Some(small) = small_of(line) {
             return Ok(small);
         }
+        let pairs = &mut self.pairs;
         match line {
-            Line::Call(Op::Get(key)) => Ok(SmallCall::LongGet(kept_at(&mut self.pairs, (key, 0))?)),
-            Line::Call(Op::Put(key, value)) => match u64::try_from(value) {
-                Ok(value) => Ok(SmallCall::LongPut(kept_at(&mut self.pairs, (key, value))?)),
-                Err(_) => Ok(SmallCall::WidePut(kept_at(&mut self.wides, (key, value))?)),
-            },
-            Line::Call(Op::Del(key)) => Ok(SmallCall::LongDel(kept_at(&mut self.pairs, (key, 0))?)),
+            Line::Call(Op::Get(key)) => Ok(SmallCall::LongGet(kept_at(pairs, (key, 0))?)),
+            Line::Call(Op::Put(key, value)) if value <= u64::MAX as u128 => {
+                Ok(SmallCall::LongPut(kept_at(pairs, (key, value as u64))?))
+            }
+            Line::Call(Op::Del(key)) => Ok(SmallCall::LongDel(kept_at(pairs, (key, 0))?)),
             Line::Call(_) | Line::Scan(..) => Ok(SmallCall::Other(kept_at(
                 &mut self.others,
                 line,
@@ -111,7 +106,6 @@ impl Calls {
             small: Vec::new(alloc),
             long: LongCalls {
                 pairs: Vec::new(alloc),
-                wides: Vec::new(alloc),
                 others: Vec::new(alloc),
             },
         }
@@ -171,10 +165,6 @@ impl Calls {
                 Op::Put(key, u128::from(value))
             }
             SmallCall::LongDel(at) => Op::Del(self.long.pairs[at as usize].0),
-            SmallCall::WidePut(at) => {
-                let (key, value) = self.long.wides[at as usize];
-                Op::Put(key, value)
-            }
             SmallCall::Other(at) => return self.long.others[at as usize],
         };
         Line::Call(op)

@@ -2,10 +2,8 @@
 //! number below 2^24 with a value below 2^32. All else is kept whole, beside 8 bytes that say where.
 
 ghost use Rattle.std.specs.Prelude.{ℕ, ◌≡◌, ◌^◌, ◌<◌, List, [], ◌∷◌, ◌++◌, length, All, IfOk, IfSome, IfNone, OnOk, OnErr};
-ghost use Rattle.ks_lines.specs.declared.Said.{Said};
+ghost use Rattle.ks_script.specs.Words.{Said, said_at, said_in, IsSaidIn, KeepsReplies, IsPlain, IsPrintable, IsOfCall, number_of};
 ghost use Rattle.ks_lines.specs.declared.Said.TheVariants.{Call, Scan};
-ghost use Rattle.ks_script.specs.PackedReplies.{said_at, said_in, IsSaidIn, KeepsReplies};
-ghost use Rattle.ks_script.specs.Plain.{IsPlain, IsPrintable, IsOfCall, number_of};
 
 use crate::packed::{joined, kept_at, parts};
 use ks_history::Reply;

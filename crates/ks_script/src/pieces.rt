@@ -1,11 +1,7 @@
 //! Writing in pieces: bytes wait in a piece until it is full, and then it goes to the sink.
 
 ghost use Rattle.std.specs.Prelude.{ℕ, ◌≡◌, ◌+◌, ◌≤◌, [], false, Option, List, ◌++◌, OnOk, OnErr, length};
-ghost use Rattle.std.specs.Fmt.{decimal};
-ghost use Rattle.arrayvec.specs.ArrayVec.{array_vec_len};
-ghost use Rattle.ks_script.specs.Outside.{Rose, Grew, GrewByFront};
-ghost use Rattle.ks_script.specs.Pieces.{Holds, Puts, Takes};
-ghost use Rattle.ks_script.specs.Run.{pair_line};
+ghost use Rattle.ks_script.specs.Words.{decimal, array_vec_len, Rose, Grew, GrewByFront, Holds, Puts, Takes, pair_line};
 
 use crate::ending::Ending;
 use crate::{Failed, Sink};
@@ -86,6 +82,7 @@ fn put_over<K: Sink>(out: &mut K, piece: &mut Piece, bytes: &[u8])
 
 /// The bytes wait behind those that waited, and each piece that is full, with more bytes to come, is offered.
 #[inline(always)]
+#[tactic(auto, using(crate::proofs::Putting::puts_append))]
 pub fn put<K: Sink>(out: &mut K, piece: &mut Piece, bytes: &[u8])
     ensures { Puts K.taken K.faults out.old piece.old bytes.now out.new piece.new }
 {
@@ -96,7 +93,7 @@ pub fn put<K: Sink>(out: &mut K, piece: &mut Piece, bytes: &[u8])
     append(piece, bytes);
 }
 
-/// A number, and what ends its line.
+/// A number, and an end of 8 bytes at most.
 #[inline(always)]
 pub fn put_one<K: Sink>(out: &mut K, piece: &mut Piece, number: u64, end: &[u8])
     requires { length end.now ≤ 8 }

@@ -1,14 +1,7 @@
 //! Printed runs: the reply to each call, and the map at the end.
 
 ghost use Rattle.std.specs.Prelude.{◌≡◌, ◌≤◌, ◌<◌, [], ◌∷◌, ◌++◌, OnOk, OnErr, codes, length, map};
-ghost use Rattle.std.specs.Fmt.{decimal};
-ghost use Rattle.std.specs.List.{flat_map};
-ghost use Rattle.ks_script.specs.Lines.{ended, text_of};
-ghost use Rattle.ks_script.specs.Outside.{Rose, Grew, GrewByFront};
-ghost use Rattle.ks_script.specs.PackedReplies.{said_at};
-ghost use Rattle.ks_script.specs.Pieces.{Puts};
-ghost use Rattle.ks_script.specs.Plain.{IsPlain};
-ghost use Rattle.ks_script.specs.Run.{reply_line, part_line, stop_line, said_lines, callers_from, map_lines, run_text};
+ghost use Rattle.ks_script.specs.Words.{decimal, flat_map, ended, text_of, Rose, Grew, GrewByFront, said_at, Puts, IsPlain, reply_line, part_line, stop_line, said_lines, callers_from, map_lines, run_text};
 
 use crate::pieces::{Piece, finish, put, put_one, put_two};
 use crate::{Failed, Replies, Sink};
@@ -45,7 +38,7 @@ fn put_reply<K: Sink>(out: &mut K, piece: &mut Piece, line: &(u64, Reply))
     }
 }
 
-// The line of a part of a scan, in pieces of its own, since it may have 1,018 bytes.
+// The line of a part of a scan, pair by pair, since it may have 1,018 bytes, and an `Ending` has room for 64.
 fn put_part<K: Sink>(out: &mut K, piece: &mut Piece, part: &Part)
     ensures { Puts K.taken K.faults out.old piece.old (ended (part_line part.now)) out.new piece.new }
 {
@@ -57,19 +50,6 @@ fn put_part<K: Sink>(out: &mut K, piece: &mut Piece, part: &Part)
     put(out, piece, b"\n");
 }
 
-// The line that says where a scan stopped.
-fn put_stop<K: Sink>(out: &mut K, piece: &mut Piece, stop: Scanned)
-    ensures { Puts K.taken K.faults out.old piece.old (ended (stop_line stop)) out.new piece.new }
-{
-    match stop {
-        Scanned::Whole => put(out, piece, b"whole\n"),
-        Scanned::Until { next } => {
-            put(out, piece, b"until ");
-            put_one(out, piece, next, b"\n");
-        }
-    }
-}
-
 // The lines of a scan.
 fn put_scan<K: Sink>(out: &mut K, piece: &mut Piece, parts: &[Part], stop: Scanned)
     ensures { Puts K.taken K.faults out.old piece.old (text_of (map part_line parts.now ++ stop_line stop ∷ []))
@@ -78,7 +58,13 @@ fn put_scan<K: Sink>(out: &mut K, piece: &mut Piece, parts: &[Part], stop: Scann
     for part in parts {
         put_part(out, piece, part);
     }
-    put_stop(out, piece, stop);
+    match stop {
+        Scanned::Whole => put(out, piece, b"whole\n"),
+        Scanned::Until { next } => {
+            put(out, piece, b"until ");
+            put_one(out, piece, next, b"\n");
+        }
+    }
 }
 
 // The lines of what is said to a caller at a place.

@@ -1,12 +1,7 @@
 //! The script at the front of a text: callers with their lines, as far as these go.
 
 ghost use Rattle.std.specs.Prelude.{◌≡◌, ◌≤◌, ◌<◌, ◌+◌, ◌++◌, length, map, IfOk};
-ghost use Rattle.std.specs.List.{sum_by, AllByRecursion};
-ghost use Rattle.ks_script.specs.Lines.{lines_of};
-ghost use Rattle.ks_script.specs.Script.{IsLineOf, IsScript, line_text, script_lines, parts_of};
-ghost use Rattle.ks_script.specs.Reads.{NoneFirst, Reads};
-ghost use Rattle.ks_script.specs.Left.{HasBegun, IsLineWithin, Stops};
-ghost use Rattle.ks_script.specs.Version.{version_line};
+ghost use Rattle.ks_script.specs.Words.{sum_by, AllByRecursion, lines_of, IsLineOf, IsScript, line_text, script_lines, parts_of, NoneFirst, Reads, HasBegun, IsLineWithin, Stops, version_line};
 
 use crate::Calls;
 use crate::lines::{first_line, word_line};
@@ -71,7 +66,7 @@ pub struct Front<'a> {
 }
 
 // The version that the first line says, how many lines do so, and the bytes after them.
-fn version_of(bytes: &[u8]) -> (Version, usize, &[u8])
+fn version_of(bytes: &[u8]) -> (Version, u64, &[u8])
     ensures reads { Reads (version_line result.0) bytes.now result.2.now result.1 }
     ensures begun { HasBegun result.0 (lines_of result.2.now) }
     ensures few { result.1 ≤ 1 }
@@ -96,38 +91,25 @@ pub fn callers(alloc: Global, bytes: &[u8]) -> Result<Front<'_>, AllocError>
     ensures stops { IfOk result (λ f. Stops f.version f.callers.items (lines_of f.rest.now)) }
     ensures few { IfOk result (λ f. f.lines ≤ 1 + 1024 + 1048576) }
 {
-    let (version, told, body) = version_of(bytes);
-    let most = version.most_callers();
-    let mut callers = Vec::new(alloc);
-    let mut count = 0;
-    let mut parts = MOST_PARTS;
-    let mut rest = body;
-    'callers: while callers.len() < most {
-        let Some(more) = word_line(rest, b"caller") else {
-            return Ok(ended(version, told, callers, count, rest));
-        };
-        let (lines, behind, left) = calls(alloc, version, more, MOST_CALLS - count, parts)?;
-        count += lines.len();
-        callers.push(lines)?;
-        rest = behind;
-        parts = left;
-    }
-    Ok(ended(version, told, callers, count, rest))
-}
-
-// The lines that said the version, one for each caller, and one for each of their calls.
-fn ended(version: Version, told: usize, callers: Vec<Calls>, calls: usize, rest: &[u8]) -> Front<'_>
-    requires { told + length callers.items + calls ≤ 1 + 1024 + 1048576 }
-    ensures version { result.version ≡ version }
-    ensures callers { result.callers.items ≡ callers.items }
-    ensures lines { result.lines ≡ told + length callers.items + calls }
-    ensures rest { result.rest.now ≡ rest.now }
-{
-    let lines = (told + callers.len() + calls) as u64;
-    Front {
+    let (version, lines, rest) = version_of(bytes);
+    let mut front = Front {
         version,
-        callers,
+        callers: Vec::new(alloc),
         lines,
         rest,
+    };
+    let mut count = 0;
+    let mut parts = MOST_PARTS;
+    'callers: while front.callers.len() < front.version.most_callers() {
+        let Some(more) = word_line(front.rest, b"caller") else {
+            return Ok(front);
+        };
+        let (lines, behind, left) = calls(alloc, front.version, more, MOST_CALLS - count, parts)?;
+        count += lines.len();
+        front.lines += 1 + lines.len() as u64;
+        front.callers.push(lines)?;
+        front.rest = behind;
+        parts = left;
     }
+    Ok(front)
 }

@@ -1,15 +1,7 @@
 //! A printed run of a script, read off the front of a text.
 
 ghost use Rattle.std.specs.Prelude.{ℕ, ◌≡◌, ◌≤◌, ◌<◌, ◌+◌, ◌^◌, length, map, IfOk, Err};
-ghost use Rattle.std.specs.List.{flat_map, AllByRecursion};
-ghost use Rattle.ks_lines.specs.Lines.{AllBoth, MayAnswer, AreAnswered};
-ghost use Rattle.ks_script.specs.Lines.{lines_of};
-ghost use Rattle.ks_script.specs.Run.{Run, said_lines, callers_from, pair_line};
-ghost use Rattle.ks_script.specs.Checked.{IsSaid, AscendFrom};
-ghost use Rattle.ks_script.specs.Reading.{Answers};
-ghost use Rattle.ks_script.specs.Reads.{NoneFirst, Reads, RefusedBehind};
-ghost use Rattle.ks_script.specs.SaidLeft.{CanBeSaidOf, IsSaidOf, UnsaidBehind};
-ghost use Rattle.ks_script.specs.RunLeft.{SpellsRun, AreRun, RepliesStopBehind, IsPairFrom, next_key};
+ghost use Rattle.ks_script.specs.Words.{flat_map, AllByRecursion, AllBoth, lines_of, said_lines, callers_from, pair_line, AscendFrom, Answers, NoneFirst, Reads, RefusedBehind, CanBeSaidOf, IsSaidOf, BeginsSaid, SpellsRun, AreRun, BeginsReplies, IsPairFrom, next_key};
 
 use crate::lines::{numbered_line, pair, reply, word_line};
 use crate::scan_lines::scan_said;
@@ -32,7 +24,7 @@ fn said<'a>(
     ensures reads { IfOk result (λ x. Reads (said_lines x.0) bytes.now x.1.now x.2) }
     ensures shorter { IfOk result (λ x. length x.1.now + x.2 ≤ length bytes.now) }
     ensures refused { (n : ℕ) → result ≡ Err (TextFault.Refused n) →
-        UnsaidBehind before line (lines_of bytes.now) n }
+        RefusedBehind before (BeginsSaid line) (lines_of bytes.now) n }
 {
     match line {
         Line::Call(op) => match reply(op, bytes) {
@@ -53,11 +45,11 @@ fn replies<'a>(
 ) -> Result<(Replies, &'a [u8], u64), TextFault>
     requires lines { AllByRecursion CanBeSaidOf lines.now }
     requires few { before + length bytes.now + 1 < 2 ^ 64 }
-    ensures fit { IfOk result (λ x. AllBoth MayAnswer lines.now x.0) }
-    ensures each { IfOk result (λ x. AllByRecursion IsSaid x.0) }
+    ensures fit { IfOk result (λ x. AllBoth IsSaidOf lines.now x.0) }
     ensures reads { IfOk result (λ x. Reads (flat_map said_lines x.0) bytes.now x.1.now x.2) }
     ensures shorter { IfOk result (λ x. length x.1.now + x.2 ≤ length bytes.now) }
-    ensures refused { (n : ℕ) → result ≡ Err (TextFault.Refused n) → RepliesStopBehind before lines.now bytes.now n }
+    ensures refused { (n : ℕ) → result ≡ Err (TextFault.Refused n) →
+        RefusedBehind before (BeginsReplies lines.now) (lines_of bytes.now) n }
 {
     let mut replies = Replies::with_capacity(alloc, lines.len())?;
     let mut count = 0;
@@ -81,8 +73,7 @@ fn answers<'a>(
 ) -> Result<(Vec<Replies>, &'a [u8], u64), TextFault>
     requires script { AllByRecursion (AllByRecursion CanBeSaidOf) script.now }
     requires few { before + length bytes.now + 1 < 2 ^ 64 }
-    ensures each { IfOk result (λ x. AllByRecursion (AllByRecursion IsSaid) x.0.items) }
-    ensures fit { IfOk result (λ x. AreAnswered script.now x.0.items) }
+    ensures fit { IfOk result (λ x. AllBoth (AllBoth IsSaidOf) script.now x.0.items) }
     ensures reads { IfOk result (λ x. Reads (callers_from 0 x.0.items) bytes.now x.1.now x.2) }
     ensures shorter { IfOk result (λ x. length x.1.now + x.2 ≤ length bytes.now) }
     ensures refused { (n : ℕ) → result ≡ Err (TextFault.Refused n) →
@@ -133,9 +124,8 @@ fn pairs(alloc: Global, bytes: &[u8]) -> Result<(Vec<(u64, u128)>, &[u8]), Alloc
 pub fn run(alloc: Global, script: &[Calls], bytes: &[u8], before: u64) -> Result<Printed, TextFault>
     requires script { AllByRecursion (AllByRecursion CanBeSaidOf) script.now }
     requires few { before + length bytes.now + 1 < 2 ^ 64 }
-    ensures answer { Answers result (λ run. SpellsRun script.now run (lines_of bytes.now))
+    ensures { Answers result (λ run. SpellsRun script.now run (lines_of bytes.now))
         (RefusedBehind before (AreRun script.now) (lines_of bytes.now)) }
-    ensures only { IfOk result (λ run. (other : Run) → SpellsRun script.now other (lines_of bytes.now) → other ≡ run) }
 {
     let (callers, rest, count) = answers(alloc, script, bytes, before)?;
     let line = before + (count + 1);

@@ -1,25 +1,14 @@
 //! What is said of a scan, read off the front of a text: its parts, and where it stopped.
 
-ghost use Rattle.std.specs.Prelude.{ℕ, ◌≡◌, ◌≢◌, ◌≤◌, ◌<◌, ◌+◌, ◌^◌, List, [], ◌∷◌, ◌++◌, length, map, codes, IfOk, IfSome, IfNone, Err};
-ghost use Rattle.std.specs.List.{AllByRecursion};
-ghost use Rattle.ks_keysets.specs.declared.Pair.{Pair};
-ghost use Rattle.ks_lines.specs.declared.parts.Part.{Part};
-ghost use Rattle.ks_lines.specs.declared.Line.TheVariants.{Scan};
-ghost use Rattle.ks_lines.specs.Scan.{PartsAscend, StopsAt};
-ghost use Rattle.ks_script.specs.Lines.{lines_of};
-ghost use Rattle.ks_script.specs.Numeral.{NoDigit};
-ghost use Rattle.ks_script.specs.Lined.{Lined, NotLined};
-ghost use Rattle.ks_script.specs.Run.{pair_line, pair_words, part_line, stop_line, said_lines};
-ghost use Rattle.ks_script.specs.Checked.{IsPair, IsPart, IsStop};
-ghost use Rattle.ks_script.specs.Reads.{NotFirst, NoneFirst, Reads};
-ghost use Rattle.ks_script.specs.SaidLeft.{CanBeSaidOf, IsSaidOf, IsPartFrom, next_end, UnsaidBehind};
+ghost use Rattle.std.specs.Prelude.{ℕ, ◌≡◌, ◌≢◌, ◌≤◌, ◌<◌, ◌+◌, ◌^◌, List, ◌∷◌, ◌++◌, length, codes, IfOk, IfSome, IfNone, Err};
+ghost use Rattle.ks_script.specs.Words.{AllByRecursion, Pair, Part, Scan, lines_of, NoDigit, Lined, NotLined, pair_line, pair_words, part_line, said_lines, IsPair, IsPart, NoneFirst, Reads, RefusedBehind, CanBeSaidOf, IsSaidOf, IsPartFrom, BeginsSaid};
 
 use crate::TextFault;
 use crate::lexer::{line_end, number, spaced, word};
 use crate::lines::{numbered_line, word_line};
 use ks_keysets::{Few, Pair};
 use ks_lines::{Part, Parts, Said, Scanned};
-use std::alloc::{AllocError, Global};
+use std::alloc::Global;
 
 // A key and a value, each behind a space.
 #[inline(always)]
@@ -86,55 +75,6 @@ fn part(next: u64, last: u64, bytes: &[u8]) -> Option<(Part, &[u8])>
     Some((part, rest))
 }
 
-// What follows the line that says that a scan stopped there.
-fn stopped(bytes: &[u8], stop: Scanned) -> Option<&[u8]>
-    ensures some { IfSome result (λ rest. lines_of bytes.now ≡ stop_line stop ∷ lines_of rest.now) }
-    ensures none { IfNone result (NotFirst (stop_line stop) (lines_of bytes.now)) }
-    ensures shorter { IfSome result (λ rest. length rest.now < length bytes.now) }
-{
-    match stop {
-        Scanned::Whole => word_line(bytes, b"whole"),
-        Scanned::Until { next } => numbered_line(bytes, b"until ", next),
-    }
-}
-
-// The parts of the scan at the front, the bytes after them, and where the scan then stopped; or nowhere, if a part must
-// follow and does not.
-fn parts(
-    alloc: Global,
-    low: u64,
-    last: u64,
-    most: u32,
-    bytes: &[u8],
-) -> Result<(Vec<Part>, Option<Scanned>, &[u8]), AllocError>
-    requires { CanBeSaidOf (Scan low last most) }
-    ensures each { IfOk result (λ x. AllByRecursion IsPart x.0.items) }
-    ensures ascend { IfOk result (λ x. PartsAscend low last x.0.items) }
-    ensures few { IfOk result (λ x. length x.0.items ≤ most) }
-    ensures read { IfOk result (λ x. lines_of bytes.now ≡ map part_line x.0.items ++ lines_of x.2.now) }
-    ensures stop { IfOk result (λ x. IfSome x.1 (λ stop. StopsAt last most x.0.items stop × IsStop stop)) }
-    ensures none { IfOk result (λ x. IfNone x.1 ((length x.0.items < most) × (next_end low x.0.items ≤ last)
-        × NoneFirst (IsPartFrom (next_end low x.0.items) last) part_line (lines_of x.2.now))) }
-    ensures shorter { IfOk result (λ x. length x.2.now + length x.0.items ≤ length bytes.now) }
-{
-    let mut parts = Vec::new(alloc);
-    let mut next = low;
-    let mut rest = bytes;
-    'parts: while parts.len() < most as usize {
-        let Some((part, more)) = part(next, last, rest) else {
-            return Ok((parts, None, rest));
-        };
-        let end = part.last;
-        parts.push(part)?;
-        rest = more;
-        if end == last {
-            return Ok((parts, Some(Scanned::Whole), rest));
-        }
-        next = end + 1;
-    }
-    Ok((parts, Some(Scanned::Until { next }), rest))
-}
-
 /// What is said of the scan at the front, the bytes after it, and how many lines it takes; or the first line with which
 /// nothing goes on that may be said of it. `before` lines are before the first.
 pub fn scan_said<'a>(
@@ -151,16 +91,36 @@ pub fn scan_said<'a>(
     ensures reads { IfOk result (λ x. Reads (said_lines x.0) bytes.now x.1.now x.2) }
     ensures shorter { IfOk result (λ x. length x.1.now + x.2 ≤ length bytes.now) }
     ensures refused { (n : ℕ) → result ≡ Err (TextFault.Refused n) →
-        UnsaidBehind before (Scan low last most) (lines_of bytes.now) n }
+        RefusedBehind before (BeginsSaid (Scan low last most)) (lines_of bytes.now) n }
 {
-    let (parts, stop, rest) = parts(alloc, low, last, most, bytes)?;
+    let mut parts = Vec::new(alloc);
+    let mut next = low;
+    let mut rest = bytes;
+    'parts: while parts.len() < most as usize {
+        let Some((part, more)) = part(next, last, rest) else {
+            let line = before + parts.len() as u64 + 1;
+            return Err(TextFault::Refused { line });
+        };
+        let end = part.last;
+        parts.push(part)?;
+        if end == last {
+            let count = parts.len() as u64 + 1;
+            let Some(left) = word_line(more, b"whole") else {
+                return Err(TextFault::Refused {
+                    line: before + count,
+                });
+            };
+            return Ok((Said::Scan(Parts::of(parts), Scanned::Whole), left, count));
+        }
+        rest = more;
+        next = end + 1;
+    }
     let count = parts.len() as u64 + 1;
-    let line = before + count;
-    let Some(stop) = stop else {
-        return Err(TextFault::Refused { line });
+    let Some(left) = numbered_line(rest, b"until ", next) else {
+        return Err(TextFault::Refused {
+            line: before + count,
+        });
     };
-    let Some(rest) = stopped(rest, stop) else {
-        return Err(TextFault::Refused { line });
-    };
-    Ok((Said::Scan(Parts::of(parts), stop), rest, count))
+    let stop = Scanned::Until { next };
+    Ok((Said::Scan(Parts::of(parts), stop), left, count))
 }

@@ -1,10 +1,7 @@
 //! Scripts: for each caller the lines that say what it asks for, in order.
 
 ghost use Rattle.std.specs.Prelude.{ℕ, Ok, Err, List};
-ghost use Rattle.ks_lines.specs.declared.Line.{Line};
-ghost use Rattle.ks_script.specs.Script.{ScriptOf};
-ghost use Rattle.ks_script.specs.ScriptTexts.{FirstBadOfScript};
-ghost use Rattle.ks_script.specs.Reading.{Answers, Gives};
+ghost use Rattle.ks_script.specs.Words.{Line, ScriptOf, FirstBadOfScript, Answers, Gives};
 
 use crate::reader::callers;
 use crate::{Calls, TextFault};

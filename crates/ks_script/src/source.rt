@@ -1,27 +1,14 @@
 //! Reading a source to its end.
 
-ghost use Rattle.std.specs.Prelude.{ℕ, ◌≡◌, ◌+◌, ◌<◌, ◌≤◌, List, [], Some, length, vec_len, IfOk, IfSome, OnOk, OnErr, IsErrOf};
-ghost use Rattle.ks_script.specs.Outside.{Rose, Reads};
+ghost use Rattle.std.specs.Prelude.{ℕ, ◌≡◌, ◌+◌, ◌<◌, ◌≤◌, List, [], Some, length, vec_len, IfOk, IfSome, OnOk, IsErrOf};
+ghost use Rattle.ks_script.specs.Outside.{Rose};
 ghost use Rattle.ks_script.specs.Gone.{Gone};
 
-use crate::{Failed, ReadFault, Source};
+use crate::{ReadFault, Source};
 use std::alloc::Global;
 
 // How many bytes are asked for at a time.
 const ASKED: usize = 65_536;
-
-// Reads `most` bytes at most, to the front of the buffer.
-fn read_front<S: Source>(source: &mut S, buffer: &mut [u8], most: usize) -> Result<usize, Failed>
-    requires some { 0 < most }
-    requires fits { most ≤ length buffer.old }
-    ensures bound { IfOk result (λ n. n ≤ most) }
-    ensures room { length buffer.new ≡ length buffer.old }
-    ensures bytes { Reads (S.left source.old) (S.left source.new) buffer.new result }
-    ensures count { S.faults source.old ≤ S.faults source.new }
-    ensures cause { OnErr result (Rose (S.faults source.old) (S.faults source.new)) }
-{
-    source.read(&mut buffer[..most])
-}
 
 /// Reads to the end, and returns all the bytes. It asks for at most 65,536 bytes at a time, and stops once more
 /// than `limit` bytes came. After an error some first bytes are gone, at most one more than the limit.
@@ -40,7 +27,7 @@ pub fn read_all<S: Source>(alloc: Global, source: &mut S, limit: u64) -> Result<
     loop {
         let room = limit - bytes.len() as u64;
         let most = room.min(ASKED as u64 - 1) as usize + 1;
-        let Ok(count) = read_front(source, &mut buffer, most) else {
+        let Ok(count) = source.read(&mut buffer[..most]) else {
             return Err(ReadFault::Failed);
         };
         if count == 0 {

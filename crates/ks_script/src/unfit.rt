@@ -1,12 +1,7 @@
 //! The first line of a script that a pairing does not serve: not all of them scan, or move a value.
 
-ghost use Rattle.std.specs.Prelude.{ℕ, ◌≡◌, ◌↔◌, List, Some, IfNone, IfSome, IsTrue, All};
-ghost use Rattle.ks_lines.specs.Lines.{IsServedLine};
-ghost use Rattle.ks_lines.specs.Asked.{AreServedLines};
-ghost use Rattle.ks_script.specs.declared.version.Version.{Version};
-ghost use Rattle.ks_script.specs.Script.{IsScript, ScriptOf};
-ghost use Rattle.ks_script.specs.Unfit.{IsUnfitAt};
-ghost use Rattle.ks_script.specs.Unserved.{FirstUnserved};
+ghost use Rattle.std.specs.Prelude.{ℕ, ◌≡◌, ◌+◌, ◌≤◌, ◌↔◌, List, length, Some, IfNone, IfSome, IfOk, IfErr, IsTrue, All};
+ghost use Rattle.ks_script.specs.Words.{IsServedLine, AreServedLines, Version, IsScript, ScriptOf, IsUnfitAt, FirstUnserved};
 
 use crate::{Calls, Script};
 use ks_history::Op;
@@ -24,17 +19,19 @@ fn is_served(line: Line, scans: bool, moves: bool) -> bool
     }
 }
 
-// The place of the first line that it does not serve.
-fn unserved_at(calls: &Calls, scans: bool, moves: bool) -> Option<usize>
-    ensures some { IfSome result (FirstUnserved scans moves calls.now) }
-    ensures none { IfNone result (All (IsServedLine scans moves) calls.now) }
+// The number of the first line that it does not serve, or else that of the line behind; `caller` is that of `caller`.
+fn unserved_in(calls: &Calls, scans: bool, moves: bool, caller: u64) -> Result<u64, u64>
+    requires { caller + length calls.now ≤ 1049601 }
+    ensures served { IfOk result
+        (λ next. (next ≡ caller + (1 + length calls.now)) × All (IsServedLine scans moves) calls.now) }
+    ensures unserved { IfErr result (FirstUnserved scans moves calls.now caller) }
 {
     for at in 0..calls.len() {
         if !is_served(calls.get(at), scans, moves) {
-            return Some(at);
+            return Err(caller + 1 + at as u64);
         }
     }
-    None
+    Ok(caller + 1 + calls.len() as u64)
 }
 
 impl Script {
@@ -50,12 +47,12 @@ impl Script {
         ensures unserved { IfSome result (λ n. AreServedLines scans moves self.now → ⊥) }
     {
         // One line says the version, if there is any such line.
-        let mut before = 1;
+        let mut caller = 2;
         for calls in &self.callers {
-            if let Some(at) = unserved_at(calls, scans, moves) {
-                return Some(before + at as u64 + 2);
+            match unserved_in(calls, scans, moves, caller) {
+                Ok(next) => caller = next,
+                Err(line) => return Some(line),
             }
-            before += calls.len() as u64 + 1;
         }
         None
     }

@@ -437,7 +437,7 @@ fn a_source_is_read_up_to_the_limit(rt: HostRuntime) -> Result<(), Fail> {
         .ok()
         .ok_or("it has 3 bytes")?;
     assert_eq!(rt; bytes.as_slice(), b"abc".as_slice());
-    let mut source = CleanSource::new(b"abc".to_vec(alloc)?, 1);
+    let mut source = MemSource::new(b"abc".to_vec(alloc)?, 1, Vec::new(alloc));
     assert_eq!(rt;
         read_all(alloc, &mut source, 2).err(),
         Some(ReadFault::TooLong)
@@ -472,7 +472,6 @@ fn a_run_is_written_byte_by_byte(rt: HostRuntime) -> Result<(), Fail> {
     assert!(rt; write_run(&mut sink, &run).is_ok());
     assert_eq!(rt; sink.taken(), RUN);
     assert_eq!(rt; sink.faults(), 0);
-    assert!(rt; write_run(&mut CleanSink, &run).is_ok());
     Ok(())
 }
 

@@ -1,9 +1,6 @@
 use Rattle.ks_script.proofs.Common.{◌≡◌, ◌++◌, sym, take-append-drop}
-use Rattle.ks_script.proofs.Putting.{puts_append, owes_all, owes_more, owes_as}
+use Rattle.ks_script.proofs.Putting.{puts_append, owes_more, owes_as}
 use Rattle.ks_script.proofs.pieces.put_over.Goals as goal
-
-pub loop-rest-init : goal.loop-rest-init
-loop-rest-init g c = owes_all
 
 pub loop-rest-preserved : goal.loop-rest-preserved
 loop-rest-preserved g c =

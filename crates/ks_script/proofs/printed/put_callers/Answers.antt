@@ -1,10 +1,7 @@
 use Rattle.ks_script.proofs.Common.{ℕ, ◌+◌, drop, arith, text_of, callers_from}
 use Rattle.ks_script.proofs.Texts.{one_caller, text_append}
-use Rattle.ks_script.proofs.Putting.{puts_none, owes_all, owes_as, owes_more, owes_next, owes_last}
+use Rattle.ks_script.proofs.Putting.{puts_none, owes_as, owes_more, owes_next, owes_last}
 use Rattle.ks_script.proofs.printed.put_callers.Goals as goal
-
-pub loop-number-init : goal.loop-number-init
-loop-number-init g c = owes_all
 
 pub loop-number-preserved : goal.loop-number-preserved
 loop-number-preserved g c =

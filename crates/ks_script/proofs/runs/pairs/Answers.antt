@@ -7,11 +7,6 @@ use Rattle.ks_script.proofs.runs.pairs.Goals as goal
 abbrev Pairs : Type 0
 Pairs = List (ℕ × ℕ)
 
--- no pair, so none with a greater key
-no_greater : (bound : ℕ) (lines : Lines) → NoneFirst (IsPairFrom 0) pair_line lines → NoneFirst (IsPairFrom bound) pair_line lines
-no_greater bound [] h = tt
-no_greater bound (l ∷ lines) h = λ x is e. h x (omega arith, is.1, is.2) e
-
 -- a pair whose key is too small
 small_key : (bound : ℕ) (x : ℕ × ℕ) (lines more : Lines) → lines ≡ pair_line x ∷ more → x.0 < bound → x.0 < 2 ^ 64 → x.1 < 2 ^ 128 → NoneFirst (IsPairFrom bound) pair_line lines
 small_key bound x lines more e small k v =
@@ -19,9 +14,6 @@ small_key bound x lines more e small k v =
     let first : x.0 ≡ y.0 = ap (λ (p : ℕ × ℕ). p.0) (one_pair x y k v is.1 is.2 same) in
     let least = is.0 in
     omega arith)
-
-pub returns-in_default-clause-stops : goal.returns-in_default-clause-stops
-returns-in_default-clause-stops c = no_greater (next_key 0 c.pairs.pairs.items) (lines_of c.pairs.rest.now) c.in_default.ensures.none
 
 pub returns-then-key-least-clause-stops : goal.returns-then-key-least-clause-stops
 returns-then-key-least-clause-stops c =

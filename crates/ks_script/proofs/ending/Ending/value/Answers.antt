@@ -1,36 +1,23 @@
-use Rattle.ks_script.proofs.Common.{◌≡◌, ◌+◌, ◌/◌, ◌%◌, ◌^◌, ℕ, List, length, sym, ap, ◌∙◌, ◌++◌, append_assoc, arith, length-append, decimal}
-use Rattle.ks_script.specs.Digits.{padded}
-use Rattle.ks_script.proofs.Padding.{cut_nineteen, length_padded, length_value}
+use Rattle.ks_script.proofs.Common.{◌%◌, ◌^◌, ℕ, length, ap, append_assoc, arith, length-append}
+use Rattle.std.proofs.lemmas.Fmt.{length-decimal-le_wide}
+use Rattle.ks_script.proofs.Padding.{cut_nineteen, length_padded}
 use Rattle.ks_script.proofs.ending.Ending.value.Goals as goal
-
--- how long both parts are together does not change
-together : (a b c d : List ℕ) → a ++ b ≡ c ++ d → length a + length b ≡ length c + length d
-together a b c d e = sym (length-append a b) ∙ (ap (λ (x : List ℕ). length x) e ∙ length-append c d)
 
 pub nineteen-requires-clause-room : goal.nineteen-requires-clause-room
 nineteen-requires-clause-room c =
     let l = c.loop-left in
-    let low : ℕ = l.left % 10 ^ 19 in
-    let high : List ℕ = decimal (l.left / 10 ^ 19) in
-    let cut : length (decimal l.left) ≡ length high + length (padded 19 low) = ap (λ (x : List ℕ). length x) (cut_nineteen l.left (omega arith) l.auto.left-fits.fits) ∙ length-append high (padded 19 low) in
-    omega (arith, c.requires, cut, length_padded 19 low (omega arith) (omega arith) (omega arith), length_value c.args.value c.ranges.value.fits, together (decimal l.left) l.self (decimal c.args.value) c.args.self.now l.invariant)
+    let cut = cut_nineteen l.left (omega arith) l.auto.left-fits.fits in
+    let long = length_padded 19 (l.left % 10 ^ 19) (omega arith) (omega arith) (omega arith) in
+    omega (arith, length-append {A = ℕ}, ap length cut, ap length l.invariant, length-decimal-le_wide 39 c.args.value (omega arith) (omega arith) (omega arith))
 
 pub loop-left-preserved : goal.loop-left-preserved
 loop-left-preserved c =
     let l = c.loop-left in
-    let high : List ℕ = decimal (l.left / 10 ^ 19) in
-    let low : List ℕ = padded 19 (l.left % 10 ^ 19) in
-    ap (λ (x : List ℕ). high ++ x) c.nineteen.ensures
-    ∙ (sym (append_assoc high low l.self)
-    ∙ (ap (λ (x : List ℕ). x ++ l.self) (sym (cut_nineteen l.left (omega arith) l.auto.left-fits.fits)) ∙ l.invariant))
+    rw (c.nineteen.ensures, ← append_assoc, ← cut_nineteen l.left (omega arith) l.auto.left-fits.fits) l.invariant
 
 pub digits-requires : goal.digits-requires
-digits-requires c =
-    let l = c.loop-left in
-    omega (arith, c.requires, length_value c.args.value c.ranges.value.fits, together (decimal l.left) l.self (decimal c.args.value) c.args.self.now l.invariant)
+digits-requires c = omega (arith, simp length-append at (ap length c.loop-left.invariant), length-decimal-le_wide 39 c.args.value (omega arith) (omega arith) (omega arith))
 
 pub returns-clause-long : goal.returns-clause-long
 returns-clause-long c =
-    let l = c.loop-left in
-    let put : length c.digits.new.self ≡ length (decimal l.left) + length l.self = ap (λ (x : List ℕ). length x) c.digits.ensures ∙ length-append (decimal l.left) l.self in
-    omega (arith, length_value c.args.value c.ranges.value.fits, together (decimal l.left) l.self (decimal c.args.value) c.args.self.now l.invariant)
+    omega (arith, simp length-append at (ap length c.loop-left.invariant), simp length-append at (ap length c.digits.ensures), length-decimal-le_wide 39 c.args.value (omega arith) (omega arith) (omega arith))
