@@ -15,6 +15,11 @@ use ks_flow::Discipline;
 use ks_node::Node;
 use std::sync::Wait;
 
+/// How often a caller that waits for the root spins, each time twice as long, before it first checks whether the root is
+/// free: 63 pauses in all. So more callers sleep if there are many, few are ready to run at a time, and one that lost its
+/// processor during a call gets it back sooner.
+const SPINS_BEFORE_A_LOOK: u32 = 6;
+
 impl<N: Node, D: Discipline> Arena<N, D> {
     /// Takes the node; waits while another caller holds it. `None`: it is free.
     #[inline(always)]
@@ -70,14 +75,20 @@ impl<N: Node, D: Discipline> Arena<N, D> {
     }
 
     /// Waits until nobody has the node, at some moment. It looks at the node's turn less and less often, for each look takes
-    /// the cache line from the holder, and then yields the processor between looks. At the root it then sleeps, and starts
-    /// over: a caller that waits for the root holds no node, so nobody waits for one that sleeps.
+    /// the cache line from the holder, and then yields the processor between looks. At the root it spins before its first
+    /// look, and sleeps after its last, from which it starts over with a look: a caller that waits for the root holds no node,
+    /// so nobody waits for one that sleeps.
     #[cold]
     #[inline(never)]
     fn watch<R: Wait>(&self, rt: &R, steps: &mut Steps, node: u32)
         requires { node < self.now.nodes }
     {
         let backoff = Backoff::new();
+        if node == ROOT {
+            for _ in 0..SPINS_BEFORE_A_LOOK {
+                backoff.spin();
+            }
+        }
         for _ in rt.forever() {
             if self.is_given(steps, node) {
                 return;
