@@ -15,7 +15,7 @@ const AWAITED: u32 = 1;
 const ARRIVAL: u64 = 1 << 32;
 
 /// How many arrivals are counted before the next one wakes a sleeper.
-const ARRIVALS_BEFORE_A_RING: u64 = 64;
+const ARRIVALS_BEFORE_A_RING: u64 = 16;
 
 /// Microseconds after which a sleeper looks again, woken or not.
 const LONGEST_SLEEP: u64 = 1_000;
@@ -24,7 +24,7 @@ const LONGEST_SLEEP: u64 = 1_000;
 ///
 /// A caller that waits for the root sets the word (`await_ring`), looks at the turn once more, and sleeps while the word is
 /// set (`sleep`: the system compares it as it puts the caller to sleep). A caller that comes to the root, and would wait for
-/// it, reads the word first (`ring`). If it is set, the arrival is counted in it. After 64 of them the next one clears the
+/// it, reads the word first (`ring`). If it is set, the arrival is counted in it. After 16 of them the next one clears the
 /// word and wakes one sleeper, which sets the word again. A caller that is woken contends for the root with those that run,
 /// and a wake at each arrival would make all of them wait for one another. No sleeper depends on being woken: each looks
 /// again after a millisecond. No contract mentions it.
@@ -59,7 +59,7 @@ impl Bell {
         self.await_ring();
     }
 
-    /// Counts an arrival, if a caller may sleep. If 64 were counted before, it wakes one sleeper instead, and clears the word.
+    /// Counts an arrival, if a caller may sleep. If 16 were counted before, it wakes one sleeper instead, and clears the word.
     #[inline(always)]
     pub(crate) fn ring(&self) {
         if self.word.load(SeqCst) != QUIET {

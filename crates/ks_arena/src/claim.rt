@@ -16,9 +16,9 @@ use ks_node::Node;
 use std::sync::Wait;
 
 /// How often a caller that waits for the root spins, each time twice as long, before it first checks whether the root is
-/// free: 63 pauses in all. So more callers sleep if there are many, few are ready to run at a time, and one that lost its
+/// free: 31 pauses in all. So more callers sleep if there are many, few are ready to run at a time, and one that lost its
 /// processor during a call gets it back sooner.
-const SPINS_BEFORE_A_LOOK: u32 = 6;
+const SPINS_BEFORE_A_LOOK: u32 = 5;
 
 impl<N: Node, D: Discipline> Arena<N, D> {
     /// Takes the node; waits while another caller holds it. `None`: it is free.
