@@ -207,16 +207,16 @@ module _ {N : Type 0} (sort : Sort) (begins : Frame → Type 0) (asks : (ℕ →
       pub sounds : Sound sort begins asks n m.0.seen
       pub knows : Knows me.0 m.0
 
-    -- after a step by which c came to hold node i, whose slot is out and empty
-    pub gained : (i : ℕ) (e : Event) (me m : Seated N) → i < n → caller_of e ≡ c → ((h : List Event) → Gains e h c i) → Touches e i → hand c m.0.seen ≡ i ∷ hand c me.0.seen → me.0.callers ≡ c ∷ [] → ¬ (turn_after me.0.seen i ≡ held c)
-        → Carries n me.0.seen c me.1 → slots_in me.1 ≡ hand c me.0.seen → m.1 ≡ (i, None) ∷ me.1 → Makes (Sound sort begins asks n) e me.0 m.0 → Gained i e me m
-    gained i e me m near whose gains touches hands own fresh carries slots top so = let grows : GrowsWith c e me.0.seen m.0.seen = makes_grows (Sound sort begins asks n) e me.0 m.0 c own so in let h : List Event = grows.rest ++ me.0.seen in
+    -- after a step by which c came to hold node i, whose slot is out
+    pub gained : (i : ℕ) (o : Option N) (e : Event) (me m : Seated N) → i < n → caller_of e ≡ c → ((h : List Event) → Gains e h c i) → Touches e i → hand c m.0.seen ≡ i ∷ hand c me.0.seen → me.0.callers ≡ c ∷ [] → ¬ (turn_after me.0.seen i ≡ held c)
+        → Carries n me.0.seen c me.1 → slots_in me.1 ≡ hand c me.0.seen → m.1 ≡ (i, o) ∷ me.1 → Makes (Sound sort begins asks n) e me.0 m.0 → Gained i e me m
+    gained i o e me m near whose gains touches hands own fresh carries slots top so = let grows : GrowsWith c e me.0.seen m.0.seen = makes_grows (Sound sort begins asks n) e me.0 m.0 c own so in let h : List Event = grows.rest ++ me.0.seen in
         let others : GrowsByOthers c me.0.seen h = with_others c e me.0.seen m.0.seen grows in let are : AreInTurn h = (subst AreInTurn grows.is (are_in_turn sort begins asks n m.0.seen so.sound)).0 in let seen : e ∷ h ≡ m.0.seen = sym grows.is in record {
           follows = makes_follows (Sound sort begins asks n) e me.0 m.0 so;
           grows = grows;
           kept = λ j x. let ne : j ≢ i = λ y. fresh (subst (λ (z : ℕ). turn_after me.0.seen z ≡ held c) y x) in let t = touches h j ne in let k = by_others_keeps c j me.0.seen h others are x in
               subst (StaysHeld c j me.0.seen) seen (stays_then c e me.0.seen h j k (gains h j ∙ cond_else j i (held c) (turn_after h j) ne ∙ k.turn) t.0 t.1);
-          carries = subst (λ (z : List Event × List (ℕ × Option N)). Carries n z.0 c z.1) (λ k. (seen k, sym top k)) (carries_gain n e h c i me.1 (gains h) near (λ x. fresh (by_others_turn c i me.0.seen h others x)) (carries_others me.0.seen h me.1 others are carries));
+          carries = subst (λ (z : List Event × List (ℕ × Option N)). Carries n z.0 c z.1) (λ k. (seen k, sym top k)) (carries_gain n e h c i o me.1 (gains h) near (λ x. fresh (by_others_turn c i me.0.seen h others x)) (carries_others me.0.seen h me.1 others are carries));
           slots = ap slots_in top ∙ ap (λ (z : List ℕ). i ∷ z) slots ∙ sym hands;
           hand_is = hands;
           mine_is = with_mine c e me.0.seen m.0.seen whose grows;
@@ -236,23 +236,27 @@ module _ {N : Type 0} (sort : Sort) (begins : Frame → Type 0) (asks : (ℕ →
       pub near : i < n
       pub top : m.1 ≡ (i, Some b) ∷ drop_slot i me.1
       pub stays : StaysHeld c i me.0.seen m.0.seen
-      pub carries : Carries n m.0.seen c ((i, None) ∷ drop_slot i me.1)
+      pub carries : Carries n m.0.seen c m.1
       pub sounds : Sound sort begins asks n m.0.seen
       pub knows : Knows me.0 m.0
 
-    pub ready : (i : ℕ) (b : N) (me l m : Seated N) → me.0.callers ≡ c ∷ [] → turn_after me.0.seen i ≡ held c → Carries n me.0.seen c me.1 → Looks (Sound sort begins asks n) me.0 l.0 → l.1 ≡ (i, None) ∷ drop_slot i me.1
+    pub ready : (i : ℕ) (b : N) (me m : Seated N) → me.0.callers ≡ c ∷ [] → turn_after me.0.seen i ≡ held c → Carries n me.0.seen c me.1 → Looks (Sound sort begins asks n) me.0 m.0 → m.1 ≡ (i, Some b) ∷ drop_slot i me.1 → Ready i b me m
+    ready i b me m own holds carries so top = let grows : GrowsByOthers c me.0.seen m.0.seen = looks_grows (Sound sort begins asks n) me.0 m.0 c own so in let are : AreInTurn m.0.seen = are_in_turn sort begins asks n m.0.seen so.sound in let k = by_others_keeps c i me.0.seen m.0.seen grows are holds in record {
+      follows = looks_follows (Sound sort begins asks n) me.0 m.0 so;
+      grows = grows;
+      near = hand_near n me.0.seen c me.1 i carries.hands (carries.all i holds);
+      top = top;
+      stays = k;
+      carries = subst (Carries n m.0.seen c) (sym top) (carries_lift n m.0.seen c me.1 i (Some b) k.turn (carries_others me.0.seen m.0.seen me.1 grows are carries));
+      sounds = so.sound;
+      knows = so.known;
+    }
+
+    -- the body has been put into the slot since the look
+    pub ready_with : (i : ℕ) (b : N) (me l m : Seated N) (o : Option N) → me.0.callers ≡ c ∷ [] → turn_after me.0.seen i ≡ held c → Carries n me.0.seen c me.1 → Looks (Sound sort begins asks n) me.0 l.0 → l.1 ≡ (i, o) ∷ drop_slot i me.1
         → m ≡ (l.0, (i, Some b) ∷ rest l.1) → Ready i b me m
-    ready i b me l m own holds carries so top then = let grows : GrowsByOthers c me.0.seen l.0.seen = looks_grows (Sound sort begins asks n) me.0 l.0 c own so in let are : AreInTurn l.0.seen = are_in_turn sort begins asks n l.0.seen so.sound in let k = by_others_keeps c i me.0.seen l.0.seen grows are holds in
-        subst (Ready i b me) (sym (then ∙ ap (λ (z : List (ℕ × Option N)). (l.0, (i, Some b) ∷ rest z)) top)) record {
-          follows = looks_follows (Sound sort begins asks n) me.0 l.0 so;
-          grows = grows;
-          near = hand_near n me.0.seen c me.1 i carries.hands (carries.all i holds);
-          top = refl;
-          stays = k;
-          carries = carries_lift n l.0.seen c me.1 i k.turn (carries_others me.0.seen l.0.seen me.1 grows are carries);
-          sounds = so.sound;
-          knows = so.known;
-        }
+    ready_with i b me l m o own holds carries so top then =
+        subst (Ready i b me) (sym (then ∙ ap (λ (z : List (ℕ × Option N)). (l.0, (i, Some b) ∷ rest z)) top)) (ready i b me (l.0, (i, Some b) ∷ drop_slot i me.1) own holds carries so refl)
 
     pub record Given (i : ℕ) (me m : Seated N) : Type 0 where
       pub follows : Follows (marked Quiet me.0) m.0
@@ -274,7 +278,7 @@ module _ {N : Type 0} (sort : Sort) (begins : Frame → Type 0) (asks : (ℕ →
           grows = grows;
           kept = λ j ne x. let s = by_others_keeps c j me.0.seen h others are x in
               subst (StaysHeld c j me.0.seen) seen (stays_then c e me.0.seen h j s (cond_else j i (turn_given (graph_after h i)) (turn_after h j) ne ∙ s.turn) (cond_else j i (given (graph_after h i)) (graph_after h j) ne) (λ blank. refl));
-          carries = subst (λ (z : List Event × List (ℕ × Option N)). Carries n z.0 c z.1) (λ z. (sym later.is z, sym same z)) (carries_give n k c i None (drop_slot i me.1) (carries_others l.0.seen k ((i, None) ∷ drop_slot i me.1) there now so.carries));
+          carries = subst (λ (z : List Event × List (ℕ × Option N)). Carries n z.0 c z.1) (λ z. (sym later.is z, sym same z)) (carries_give n k c i (Some b) (drop_slot i me.1) (carries_others l.0.seen k ((i, Some b) ∷ drop_slot i me.1) there now (subst (Carries n l.0.seen c) so.top so.carries)));
           slots = ap slots_in same ∙ drop_in me.1 i ∙ ap (drop_one i) slots ∙ sym hands;
           hand_is = hands;
           mine_is = with_mine c e me.0.seen m.0.seen refl grows;

@@ -57,24 +57,24 @@ Gains e h c i = (j : ℕ) → turn_after (e ∷ h) j ≡ cond (eqb j i) (held c)
 module _ {N : Type 0} where
   hands_along : (n : ℕ) (h k : List Event) (c : ℕ) (xs : List (ℕ × Option N)) → ((i : ℕ) → turn_after h i ≡ held c → InHand xs i → turn_after k i ≡ held c) → HasSlots n h c xs → HasSlots n k c xs
   hands_along n h k c [] keep so = tt
-  hands_along n h k c (x ∷ xs) keep so = (so.0, so.1, keep x.0 so.2 (inl refl), so.3, hands_along n h k c xs (λ i e m. keep i e (inr m)) so.4)
+  hands_along n h k c (x ∷ xs) keep so = (so.0, keep x.0 so.1 (inl refl), so.2, hands_along n h k c xs (λ i e m. keep i e (inr m)) so.3)
 
   pub carries_along : (n : ℕ) (h k : List Event) (c : ℕ) (xs : List (ℕ × Option N)) → ((i : ℕ) → turn_after h i ≡ held c → turn_after k i ≡ held c) → ((i : ℕ) → turn_after k i ≡ held c → turn_after h i ≡ held c) → Carries n h c xs → Carries n k c xs
   carries_along n h k c xs keep back so = record { hands = hands_along n h k c xs (λ i e _. keep i e) so.hands; all = λ i e. so.all i (back i e) }
 
-  hand_held : (n : ℕ) (h : List Event) (c : ℕ) (xs : List (ℕ × Option N)) (i : ℕ) → HasSlots n h c xs → InHand xs i → turn_after h i ≡ held c
+  pub hand_held : (n : ℕ) (h : List Event) (c : ℕ) (xs : List (ℕ × Option N)) (i : ℕ) → HasSlots n h c xs → InHand xs i → turn_after h i ≡ held c
   hand_held n h c [] i so m = absurd m
-  hand_held n h c (x ∷ xs) i so (inl e) = ap (turn_after h) (sym e) ∙ so.2
-  hand_held n h c (x ∷ xs) i so (inr m) = hand_held n h c xs i so.4 m
+  hand_held n h c (x ∷ xs) i so (inl e) = ap (turn_after h) (sym e) ∙ so.1
+  hand_held n h c (x ∷ xs) i so (inr m) = hand_held n h c xs i so.3 m
 
   pub hand_near : (n : ℕ) (h : List Event) (c : ℕ) (xs : List (ℕ × Option N)) (i : ℕ) → HasSlots n h c xs → InHand xs i → i < n
   hand_near n h c [] i so m = absurd m
   hand_near n h c (x ∷ xs) i so (inl e) = subst (λ (z : ℕ). z < n) e so.0
-  hand_near n h c (x ∷ xs) i so (inr m) = hand_near n h c xs i so.4 m
+  hand_near n h c (x ∷ xs) i so (inr m) = hand_near n h c xs i so.3 m
 
-  pub carries_gain : (n : ℕ) (e : Event) (h : List Event) (c i : ℕ) (xs : List (ℕ × Option N)) → Gains e h c i → i < n → ¬ (turn_after h i ≡ held c) → Carries n h c xs → Carries n (e ∷ h) c ((i, None) ∷ xs)
-  carries_gain n ev h c i xs gains near fresh so = record {
-    hands = (near, refl, gains i ∙ cond_here i i (held c) (turn_after h i) refl, (λ m. fresh (hand_held n h c xs i so.hands m)), hands_along n h (ev ∷ h) c xs (λ j e _. gains j ∙ dite (ℕ_discrete j i) (λ y. cond_here j i (held c) (turn_after h j) y) (λ ne. cond_else j i (held c) (turn_after h j) ne ∙ e)) so.hands);
+  pub carries_gain : (n : ℕ) (e : Event) (h : List Event) (c i : ℕ) (o : Option N) (xs : List (ℕ × Option N)) → Gains e h c i → i < n → ¬ (turn_after h i ≡ held c) → Carries n h c xs → Carries n (e ∷ h) c ((i, o) ∷ xs)
+  carries_gain n ev h c i o xs gains near fresh so = record {
+    hands = (near, gains i ∙ cond_here i i (held c) (turn_after h i) refl, (λ m. fresh (hand_held n h c xs i so.hands m)), hands_along n h (ev ∷ h) c xs (λ j e _. gains j ∙ dite (ℕ_discrete j i) (λ y. cond_here j i (held c) (turn_after h j) y) (λ ne. cond_else j i (held c) (turn_after h j) ne ∙ e)) so.hands);
     all = λ j e. dite (ℕ_discrete j i) (λ y. inl (sym y)) (λ ne. inr (so.all j (sym (cond_else j i (held c) (turn_after h j) ne) ∙ sym (gains j) ∙ e)));
   }
 
@@ -84,21 +84,21 @@ module _ {N : Type 0} where
 
   pub carries_give : (n : ℕ) (h : List Event) (c i : ℕ) (x : Option N) (xs : List (ℕ × Option N)) → Carries n h c ((i, x) ∷ xs) → Carries n (Give c i ∷ h) c xs
   carries_give n h c i x xs so = let t : NodeState = graph_after h i in record {
-    hands = hands_along n h (Give c i ∷ h) c xs (λ j e m. cond_else j i (turn_given t) (turn_after h j) (λ y. so.hands.3 (subst (InHand xs) y m)) ∙ e) so.hands.4;
+    hands = hands_along n h (Give c i ∷ h) c xs (λ j e m. cond_else j i (turn_given t) (turn_after h j) (λ y. so.hands.2 (subst (InHand xs) y m)) ∙ e) so.hands.3;
     all = λ j e. dite (ℕ_discrete j i) (λ y. absurd (given_not_held c t (sym (cond_here j i (turn_given t) (turn_after h j) y) ∙ e))) (λ ne. other j i x xs ne (so.all j (sym (cond_else j i (turn_given t) (turn_after h j) ne) ∙ e)));
   }
 
   drop_not : (n : ℕ) (h : List Event) (c : ℕ) (xs : List (ℕ × Option N)) (i k : ℕ) → HasSlots n h c xs → ¬ InHand xs k → ¬ InHand (drop_slot i xs) k
   drop_not n h c [] i k so never = never
   drop_not n h c (x ∷ xs) i k so never = dite (ℕ_discrete x.0 i) (λ y. subst (λ (z : List (ℕ × Option N)). ¬ InHand z k) (sym (cond_here x.0 i xs (x ∷ drop_slot i xs) y)) (λ m. never (inr m)))
-      (λ ne. subst (λ (z : List (ℕ × Option N)). ¬ InHand z k) (sym (cond_else x.0 i xs (x ∷ drop_slot i xs) ne)) (λ m. ⊎_elim (λ e. never (inl e)) (drop_not n h c xs i k so.4 (λ z. never (inr z))) m))
+      (λ ne. subst (λ (z : List (ℕ × Option N)). ¬ InHand z k) (sym (cond_else x.0 i xs (x ∷ drop_slot i xs) ne)) (λ m. ⊎_elim (λ e. never (inl e)) (drop_not n h c xs i k so.3 (λ z. never (inr z))) m))
 
   drop_hands : (n : ℕ) (h : List Event) (c : ℕ) (xs : List (ℕ × Option N)) (i : ℕ) → HasSlots n h c xs → HasSlots n h c (drop_slot i xs) × (¬ InHand (drop_slot i xs) i)
   drop_hands n h c [] i so = (tt, λ m. m)
   drop_hands n h c (x ∷ xs) i so = dite (ℕ_discrete x.0 i)
-      (λ y. subst (λ (z : List (ℕ × Option N)). HasSlots n h c z × (¬ InHand z i)) (sym (cond_here x.0 i xs (x ∷ drop_slot i xs) y)) (so.4, λ m. so.3 (subst (InHand xs) (sym y) m)))
-      (λ ne. let ih = drop_hands n h c xs i so.4 in subst (λ (z : List (ℕ × Option N)). HasSlots n h c z × (¬ InHand z i)) (sym (cond_else x.0 i xs (x ∷ drop_slot i xs) ne))
-      ((so.0, so.1, so.2, drop_not n h c xs i x.0 so.4 so.3, ih.0), λ m. ⊎_elim ne ih.1 m))
+      (λ y. subst (λ (z : List (ℕ × Option N)). HasSlots n h c z × (¬ InHand z i)) (sym (cond_here x.0 i xs (x ∷ drop_slot i xs) y)) (so.3, λ m. so.2 (subst (InHand xs) (sym y) m)))
+      (λ ne. let ih = drop_hands n h c xs i so.3 in subst (λ (z : List (ℕ × Option N)). HasSlots n h c z × (¬ InHand z i)) (sym (cond_else x.0 i xs (x ∷ drop_slot i xs) ne))
+      ((so.0, so.1, drop_not n h c xs i x.0 so.3 so.2, ih.0), λ m. ⊎_elim ne ih.1 m))
 
   drop_all : (xs : List (ℕ × Option N)) (i k : ℕ) → k ≢ i → InHand xs k → InHand (drop_slot i xs) k
   drop_all [] i k ne m = m
@@ -106,9 +106,9 @@ module _ {N : Type 0} where
       (λ y. subst (λ (z : List (ℕ × Option N)). InHand z k) (sym (cond_here x.0 i xs (x ∷ drop_slot i xs) y)) (⊎_elim (λ e. absurd (ne (sym e ∙ y))) (λ z. z) m))
       (λ no_. subst (λ (z : List (ℕ × Option N)). InHand z k) (sym (cond_else x.0 i xs (x ∷ drop_slot i xs) no_)) (⊎_elim (λ e. inl e) (λ z. inr (drop_all xs i k ne z)) m))
 
-  pub carries_lift : (n : ℕ) (h : List Event) (c : ℕ) (xs : List (ℕ × Option N)) (i : ℕ) → turn_after h i ≡ held c → Carries n h c xs → Carries n h c ((i, None) ∷ drop_slot i xs)
-  carries_lift n h c xs i mine so = let d = drop_hands n h c xs i so.hands in record {
-    hands = (hand_near n h c xs i so.hands (so.all i mine), refl, mine, d.1, d.0);
+  pub carries_lift : (n : ℕ) (h : List Event) (c : ℕ) (xs : List (ℕ × Option N)) (i : ℕ) (o : Option N) → turn_after h i ≡ held c → Carries n h c xs → Carries n h c ((i, o) ∷ drop_slot i xs)
+  carries_lift n h c xs i o mine so = let d = drop_hands n h c xs i so.hands in record {
+    hands = (hand_near n h c xs i so.hands (so.all i mine), mine, d.1, d.0);
     all = λ k e. dite (ℕ_discrete k i) (λ y. inl (sym y)) (λ ne. inr (drop_all xs i k ne (so.all k e)));
   }
 

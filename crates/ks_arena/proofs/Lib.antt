@@ -7,6 +7,7 @@ pub mod Moves
 pub mod Hold
 pub mod After
 pub mod Rest
+pub mod Lies
 pub mod Taking
 pub mod Ready
 pub mod AtTwo

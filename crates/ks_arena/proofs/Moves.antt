@@ -1,6 +1,6 @@
 -- What each step of the arena requires, and what is known after it.
 use Rattle.std.proofs.Common.{◌≡◌, ◌≢◌, ℕ, ◌+◌, ◌*◌, ◌/◌, max, bit_and, bit_or, w64, ◌%◌, ◌^◌, ◌<◌, ◌⊎◌, eqb, List, [], ◌∷◌, ◌++◌, length, get_or, set, sym, refl, ap, ◌∙◌, subst, inl, inr, ⊎_elim, arith, length-set, get_or-set_other, get_or-set_same, length-append}
-use Rattle.std.specs.Prelude.{Option, Some, None, All}
+use Rattle.std.specs.Prelude.{Option, Some, All}
 use Rattle.std.proofs.lemmas.List.{set_comm, set-set}
 use Rattle.std.proofs.lemmas.List.Elements.{All-head, All-tail}
 use mathlib.Core.Option.{none, some, some-injective, some-ne-none}
@@ -40,7 +40,7 @@ use Rattle.ks_arena.specs.Rule.{Rests, Running, turn_word, Marks, SomeMarks, Fre
 use Rattle.ks_history.specs.Stays.{StaysHeld}
 use Rattle.ks_history.specs.Laws.Stays.{cond_here, cond_else, twice_else}
 use Rattle.ks_history.specs.Laws.Begins.{none_by, by_others_keeps}
-use Rattle.ks_arena.specs.Plays.{Seated, with_seen, marked, TellsFree, Looks, Makes, drop_slot, InHand, HasSlots, Shows, TookAt, took, ClaimedAt, claimed, gave, brought, bit_was_set, bit_was_cleared, scanned, decided, formed}
+use Rattle.ks_arena.specs.Plays.{Seated, with_seen, marked, TellsFree, Looks, Makes, slot_in, drop_slot, InHand, HasSlots, Shows, TookAt, took, ClaimedAt, claimed, gave, brought, bit_was_set, bit_was_cleared, scanned, decided, formed}
 use Rattle.ks_arena.proofs.Apart.{turn_back, free_back, count_inside, bit_inside}
 use Rattle.ks_arena.proofs.Words.{word_idle, word_free, word_below, held_below}
 use Rattle.ks_arena.specs.Laws.Beyond.{are_in_turn}
@@ -203,20 +203,20 @@ module _ {N : Type 0} (sort : Sort) (begins : Frame → Type 0) (asks : (ℕ →
   -- the slots that are held are out of the table
   abbrev Out : List (maybe.Option (Option N)) → List (ℕ × Option N) → Type 0
   Out hs [] = Unit {0}
-  Out hs (x ∷ xs) = (get_elem? hs x.0 ≡ some none) × (¬ InHand xs x.0) × (x.1 ≡ None) × Out hs xs
+  Out hs (x ∷ xs) = (get_elem? hs x.0 ≡ some none) × (¬ InHand xs x.0) × Out hs xs
 
   out_set : (hs : List (maybe.Option (Option N))) (k : ℕ) (a : maybe.Option (Option N)) (xs : List (ℕ × Option N)) → ¬ InHand xs k → Out hs xs → Out (set hs k a) xs
   out_set hs k a [] never out = tt
-  out_set hs k a (x ∷ xs) never out = (set_else hs k x.0 a (λ e. never (inl e)) ∙ out.0, out.1, out.2, out_set hs k a xs (λ h. never (inr h)) out.3)
+  out_set hs k a (x ∷ xs) never out = (set_else hs k x.0 a (λ e. never (inl e)) ∙ out.0, out.1, out_set hs k a xs (λ h. never (inr h)) out.2)
 
   -- puts back the slots above that of i, and then that one, and takes them again, with that of i on top
   lift : (xs : List (ℕ × Option N)) (i : ℕ) → InHand xs i → Act (Option N)
   lift [] i h = keeps
   lift (x ∷ xs) i (inl e) = keeps
-  lift (x ∷ xs) i (inr h) = chain gives (chain (lift xs i h) (chain gives (chain (takes x.0 x.1) (takes i None))))
+  lift (x ∷ xs) i (inr h) = chain gives (chain (lift xs i h) (chain gives (chain (takes x.0 x.1) (takes i (slot_in i xs)))))
 
   Lifts : List (maybe.Option (Option N)) → List (ℕ × Option N) → ℕ → Act (Option N) → Type 0
-  Lifts hs xs i a = Valid hs xs a × (homes_after hs xs a ≡ hs) × (carried_after xs a ≡ (i, None) ∷ drop_slot i xs)
+  Lifts hs xs i a = Valid hs xs a × (homes_after hs xs a ≡ hs) × (carried_after xs a ≡ (i, slot_in i xs) ∷ drop_slot i xs)
 
   set_back : (hs : List (maybe.Option (Option N))) (k i : ℕ) (a b : maybe.Option (Option N)) → k ≢ i → get_elem? hs k ≡ some none → get_elem? hs i ≡ some none → set (set (set (set hs k a) i b) k none) i none ≡ hs
   set_back hs k i a b ne outk outi = ap (λ (z : List (maybe.Option (Option N))). set z i none) (set_comm (set hs k a) i k b none (λ e. ne (sym e)) ∙ ap (λ (z : List (maybe.Option (Option N))). set z i b) (set-set hs k a none ∙ set_again hs k none outk)) ∙ set-set hs i b none ∙ set_again hs i none outi
@@ -224,36 +224,35 @@ module _ {N : Type 0} (sort : Sort) (begins : Frame → Type 0) (asks : (ℕ →
   out_in : (hs : List (maybe.Option (Option N))) (xs : List (ℕ × Option N)) (i : ℕ) → Out hs xs → InHand xs i → get_elem? hs i ≡ some none
   out_in hs [] i out h = absurd h
   out_in hs (x ∷ xs) i out (inl e) = ap (get_elem? hs) (sym e) ∙ out.0
-  out_in hs (x ∷ xs) i out (inr h) = out_in hs xs i out.3 h
+  out_in hs (x ∷ xs) i out (inr h) = out_in hs xs i out.2 h
 
-  abbrev Tail : ℕ → ℕ × Option N → Act (Option N)
-  Tail i x = chain gives (chain (takes x.0 x.1) (takes i None))
+  abbrev Tail : ℕ → ℕ × Option N → Option N → Act (Option N)
+  Tail i x o = chain gives (chain (takes x.0 x.1) (takes i o))
 
   lifts : (hs : List (maybe.Option (Option N))) (xs : List (ℕ × Option N)) (i : ℕ) (h : InHand xs i) → Out hs xs → Lifts hs xs i (lift xs i h)
   unfolding lift Lifts
   lifts hs [] i h out = absurd h
-  lifts hs (x ∷ xs) i (inl e) out = (tt, refl, (λ k. (e k, out.2 k) ∷ xs) ∙ ap (λ (z : List (ℕ × Option N)). (i, None) ∷ z) (sym (cond_here x.0 i xs (x ∷ drop_slot i xs) e)))
-  lifts hs (x ∷ xs) i (inr h) out = let k : ℕ = x.0 in let hs₁ : List (maybe.Option (Option N)) = set hs k (some x.1) in let a : Act (Option N) = lift xs i h in let so = lifts hs₁ xs i h (out_set hs k (some x.1) xs out.1 out.3) in
-      let ne : k ≢ i = InHand_not xs i k out.1 h in let outi : get_elem? hs i ≡ some none = out_in hs xs i out.3 h in let d : List (ℕ × Option N) = drop_slot i xs in
-      let F : List (maybe.Option (Option N)) × List (ℕ × Option N) → Type 0 = λ z. Valid z.0 z.1 (Tail i x) × (homes_after z.0 z.1 (Tail i x) ≡ hs) × (carried_after z.1 (Tail i x) ≡ (i, None) ∷ x ∷ d) in
+  lifts hs (x ∷ xs) i (inl e) out = (tt, refl, (λ k. (e k, sym (cond_here x.0 i x.1 (slot_in i xs) e) k) ∷ sym (cond_here x.0 i xs (x ∷ drop_slot i xs) e) k))
+  lifts hs (x ∷ xs) i (inr h) out = let k : ℕ = x.0 in let hs₁ : List (maybe.Option (Option N)) = set hs k (some x.1) in let a : Act (Option N) = lift xs i h in let o : Option N = slot_in i xs in let so = lifts hs₁ xs i h (out_set hs k (some x.1) xs out.1 out.2) in
+      let ne : k ≢ i = InHand_not xs i k out.1 h in let outi : get_elem? hs i ≡ some none = out_in hs xs i out.2 h in let d : List (ℕ × Option N) = drop_slot i xs in
+      let F : List (maybe.Option (Option N)) × List (ℕ × Option N) → Type 0 = λ z. Valid z.0 z.1 (Tail i x o) × (homes_after z.0 z.1 (Tail i x o) ≡ hs) × (carried_after z.1 (Tail i x o) ≡ (i, o) ∷ x ∷ d) in
       let near : k < length hs₁ = subst (λ (z : ℕ). k < z) (sym (length-set hs k (some x.1))) (inside hs k none out.0) in let neari : i < length hs₁ = subst (λ (z : ℕ). i < z) (sym (length-set hs k (some x.1))) (inside hs i none outi) in
-      let last : F (hs₁, (i, None) ∷ d) = (
-        (tt, (set_else hs₁ i k (some None) ne ∙ set_here hs k (some x.1) (inside hs k none out.0), set_else (set hs₁ i (some None)) k i none (λ e. ne (sym e)) ∙ set_here hs₁ i (some None) neari)),
-        set_back hs k i (some x.1) (some None) ne out.0 outi,
+      let last : F (hs₁, (i, o) ∷ d) = (
+        (tt, (set_else hs₁ i k (some o) ne ∙ set_here hs k (some x.1) (inside hs k none out.0), set_else (set hs₁ i (some o)) k i none (λ e. ne (sym e)) ∙ set_here hs₁ i (some o) neari)),
+        set_back hs k i (some x.1) (some o) ne out.0 outi,
         refl,
       ) in let all = subst F (λ j. (sym so.1 j, sym so.2 j)) last in (
         (tt, (so.0, all.0)),
         all.1,
-        all.2 ∙ ap (λ (z : List (ℕ × Option N)). (i, None) ∷ z) (sym (cond_else x.0 i xs (x ∷ drop_slot i xs) ne)),
+        all.2 ∙ (λ j. (i, sym (cond_else x.0 i x.1 o ne) j) ∷ sym (cond_else x.0 i xs (x ∷ drop_slot i xs) ne) j),
       )
 
   hands_out : (s : State (Option N) View) (r : Rule s) (id : ℕ) (v : View) (c n : ℕ) (xs : List (ℕ × Option N)) → length s.homes ≡ n → get_elem? s.views id ≡ some v → v.callers ≡ c ∷ [] → HasSlots n v.seen c xs → Out s.homes xs
   hands_out s r id v c n [] long at mine hands = tt
   hands_out s r id v c n (x ∷ xs) long at mine hands = (
-    subst (λ (z : Turn). Rests sort shows (graph_after r.trace x.0) (frame_after (blank_of sort) r.trace x.0) z (get_elem? s.homes x.0)) (own_now s r id v c x.0 at mine hands.2).turn (r.homes x.0 (subst (λ (z : ℕ). x.0 < z) (sym long) hands.0)),
-    hands.3,
-    hands.1,
-    hands_out s r id v c n xs long at mine hands.4,
+    subst (λ (z : Turn). Rests sort shows (graph_after r.trace x.0) (frame_after (blank_of sort) r.trace x.0) z (get_elem? s.homes x.0)) (own_now s r id v c x.0 at mine hands.1).turn (r.homes x.0 (subst (λ (z : ℕ). x.0 < z) (sym long) hands.0)),
+    hands.2,
+    hands_out s r id v c n xs long at mine hands.3,
   )
 
   brings_at : (n id : ℕ) (me : Seated N) (c i : ℕ) → me.0.callers ≡ c ∷ [] → me.0.absorbed ≡ [] → HasSlots n me.0.seen c me.1 → InHand me.1 i → Allows Rule n id me (turn_at i) (λ y. y) (brought sort begins asks shows (step n (turn_at i) 0 0 none) me)
@@ -263,7 +262,7 @@ module _ {N : Type 0} (sort : Sort) (begins : Frame → Type 0) (asks : (ℕ →
     lift me.1 i has,
     so.0,
     subst (λ (z : List (maybe.Option (Option N))). Rule record { words = set s.words (turn_at i) y; homes = z; views = set s.views id w }) (sym so.1) (looks sort begins asks shows s r id (turn_at i) me.0 at bare),
-    λ j at'. let p : i ≡ j = turn_back i j at' in (looks_all n s r id me.0 long at, subst (λ (z : ℕ). carried_after me.1 (lift me.1 i has) ≡ (z, None) ∷ drop_slot z me.1) p so.2),
+    λ j at'. let p : i ≡ j = turn_back i j at' in (looks_all n s r id me.0 long at, subst (λ (z : ℕ). carried_after me.1 (lift me.1 i has) ≡ (z, slot_in z me.1) ∷ drop_slot z me.1) p so.2),
   )
 
   pub brings_ok : (n id : ℕ) (me : Seated N) (c i z : ℕ) → z ≡ turn_at i → me.0.callers ≡ c ∷ [] → me.0.absorbed ≡ [] → HasSlots n me.0.seen c me.1 → InHand me.1 i → Allows Rule n id me z (λ y. y) (brought sort begins asks shows (step n z 0 0 none) me)

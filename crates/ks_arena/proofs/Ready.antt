@@ -5,7 +5,7 @@ use Rattle.ks_keysets.specs.declared.Frame.{Frame}
 use Rattle.ks_keysets.specs.declared.NodeState.{NodeState}
 use Rattle.ks_keysets.specs.declared.Change.{Change}
 use Rattle.ks_keysets.specs.Layout.{Layout}
-use Rattle.ks_keysets.specs.Keyset.{live_record, value_in, value_at, InKeyset, Good, opening}
+use Rattle.ks_keysets.specs.Keyset.{live_record, value_in, InKeyset, Good, opening}
 use Rattle.ks_history.specs.declared.Op.{Op}
 use Rattle.ks_history.specs.declared.Op.TheVariants.{Get, Put, Del, Add, Swap, Part, Move}
 use Rattle.ks_history.specs.declared.Reply.{Reply}

@@ -7,6 +7,7 @@ pub mod Plays
 pub mod Clauses
 pub mod Ended
 pub mod Of
+pub mod Visits
 pub mod AtTwo
 pub mod Words
 pub mod Laws

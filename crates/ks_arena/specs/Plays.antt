@@ -39,10 +39,15 @@ abbrev pub InHand : {S : Type 0} → List (ℕ × S) → ℕ → Type 0
 InHand [] i = ⊥
 InHand (x ∷ xs) i = (x.0 ≡ i) ⊎ InHand xs i
 
--- the held slots are those of nodes below n that c holds, each once, and empty
+-- what the slot of node i has, if it is held
+abbrev pub slot_in : {N : Type 0} → ℕ → List (ℕ × Option N) → Option N
+slot_in i [] = None
+slot_in i (x ∷ xs) = if x.0 == i then x.1 else slot_in i xs
+
+-- the held slots are those of nodes below n that c holds, each once
 abbrev pub HasSlots : {N : Type 0} → ℕ → List Event → ℕ → List (ℕ × Option N) → Type 0
 HasSlots n h c [] = Unit {0}
-HasSlots n h c (x ∷ xs) = (x.0 < n) × (x.1 ≡ None) × (turn_after h x.0 ≡ held c) × (¬ InHand xs x.0) × HasSlots n h c xs
+HasSlots n h c (x ∷ xs) = (x.0 < n) × (turn_after h x.0 ≡ held c) × (¬ InHand xs x.0) × HasSlots n h c xs
 
 -- and of all that it holds
 pub record Carries {N : Type 0} (n : ℕ) (h : List Event) (c : ℕ) (slots : List (ℕ × Option N)) : Type 0 where
@@ -107,7 +112,7 @@ module _ {N : Type 0} (sort : Sort) (begins : Frame → Type 0) (asks : (ℕ →
       → Makes (Sound sort begins asks st.slots) (Give c i) (marked Quiet m.0) m'.0 × (m'.1 ≡ others)
 
   abbrev pub brought : Step (Option N) → Seated N → ℕ → Seated N → Type 0
-  brought st m r m' = (i : ℕ) → st.word ≡ turn_at i → Looks (Sound sort begins asks st.slots) m.0 m'.0 × (m'.1 ≡ (i, None) ∷ drop_slot i m.1)
+  brought st m r m' = (i : ℕ) → st.word ≡ turn_at i → Looks (Sound sort begins asks st.slots) m.0 m'.0 × (m'.1 ≡ (i, slot_in i m.1) ∷ drop_slot i m.1)
 
   -- the bit of node i was set; the bit of the marked node was cleared
   abbrev pub bit_was_set : Step (Option N) → Seated N → Seated N → Type 0

@@ -6,6 +6,7 @@ ghost use prog.Atomic.{either};
 ghost use Rattle.ks_arena.specs.Spots.{words_for};
 
 mod life;
+mod visits;
 
 use crate::bell::Bell;
 use crate::kin::Kin;

@@ -10,6 +10,7 @@ ghost use Rattle.ks_node.specs.declared.start.Next.TheVariants.{Here};
 ghost use Rattle.ks_node.specs.Body.{is_branch, next_at, value_at};
 ghost use Rattle.ks_node.specs.Effect.{pairs_del, pairs_put, pairs_within};
 ghost use Rattle.ks_node.specs.Room.{is_full};
+ghost use Rattle.ks_arena.specs.declared.held.Held.{Held as Hand};
 ghost use Rattle.ks_arena.specs.Sound.{sort_of};
 ghost use Rattle.ks_arena.specs.Clauses.{Matches};
 ghost use Rattle.ks_arena.specs.Of.{Holds, IsInside, IsPassOf, IsLiveAndCurrent, IsReadyAt, IsReadyOnce, StaysFullFor, WasRefusedAt};
@@ -22,10 +23,9 @@ use ks_keysets::Few;
 use ks_node::{Node, node_law};
 
 /// The inset of the root has every place.
-pub fn root_law<N: Node>(root: &Held<N>, place: u64)
-    requires { root.now.node ≡ 0 }
-    ensures { (h : List Happening) → root.now.live ≡ true → Matches (sort_of N.layout N.ranged) N.body h root.now →
-        InInset (graph_after h) root.now.node place }
+pub fn root_law<N: Node>(place: u64)
+    ensures { (root : Hand N) (h : List Happening) → root.node ≡ 0 → root.live ≡ true →
+        Matches (sort_of N.layout N.ranged) N.body h root → InInset (graph_after h) root.node place }
 {}
 
 impl<N: Node, D: Discipline> Arena<N, D> {

@@ -1,12 +1,13 @@
 //! How callers claim free nodes, and how they wait for nodes that others hold.
-ghost use Rattle.std.specs.Prelude.{◌≡◌, ◌+◌, ◌<◌, ◌≤◌};
+ghost use Rattle.std.specs.Prelude.{◌≡◌, ◌+◌, ◌<◌, ◌≤◌, IfSome};
 ghost use Rattle.ks_arena.specs.Spots.{free_words};
 ghost use Rattle.ks_arena.specs.declared.view.Mark.TheVariants.{Claiming};
 ghost use Rattle.ks_arena.specs.Clauses.{claim_mark, try_steps, word_steps, steps_alone};
 ghost use Rattle.ks_arena.specs.Of.{Holds, Looks, Keeps, WasAlone, HeldAlone, nodes_of, callers_of, IsNodeOf, IsPassOf, IsMarkedPassOf, HasTakenFrom, HasClaimedFrom, HasClaimedIn, TriedToClaim, TellsFreeOf, RestStays, SameCaller, caller_of, steps_of};
+ghost use Rattle.ks_arena.specs.Visits.{held_if, LiesInSlot, SlotsStayBut};
 
 use crate::arena::{Arena, Steps};
-use crate::held::{Held, Pass};
+use crate::held::{Held, Pass, Visited};
 use crate::laws::sound_law;
 use crate::plays::{Claims, ClearsBit, Scans, Takes};
 use crate::spots::{ROOT, free_at, turn_at};
@@ -21,7 +22,7 @@ use std::sync::Wait;
 const SPINS_BEFORE_A_LOOK: u32 = 5;
 
 impl<N: Node, D: Discipline> Arena<N, D> {
-    /// Takes the node; waits while another caller holds it. `None`: it is free.
+    /// Takes the node, and its body; waits while another caller holds it. `None`: it is free.
     #[inline(always)]
     pub fn take<R: Wait>(&self, rt: &R, pass: &mut Pass<N, D>, node: u32) -> Option<Held<N>>
         requires pass { IsPassOf self.now pass.old }
@@ -31,6 +32,23 @@ impl<N: Node, D: Discipline> Arena<N, D> {
         ensures caller { SameCaller pass.old pass.new }
         ensures took { HasTakenFrom self.now node pass.old pass.new result }
         ensures rest { RestStays self.now pass.old pass.new }
+    {
+        let visited = self.visit(rt, pass, node)?;
+        Some(self.lift(pass, visited))
+    }
+
+    /// Takes the node, and leaves its body in its slot; waits while another caller holds it. `None`: it is free.
+    #[inline(always)]
+    pub fn visit<R: Wait>(&self, rt: &R, pass: &mut Pass<N, D>, node: u32) -> Option<Visited<N>>
+        requires pass { IsPassOf self.now pass.old }
+        requires node { IsNodeOf self.now node }
+        requires fresh { ¬ Holds pass.old node }
+        ensures pass { IsPassOf self.now pass.new }
+        ensures caller { SameCaller pass.old pass.new }
+        ensures took { HasTakenFrom self.now node pass.old pass.new (held_if result) }
+        ensures lies { IfSome result (λ visited. LiesInSlot pass.new visited) }
+        ensures rest { RestStays self.now pass.old pass.new }
+        ensures slots { SlotsStayBut node pass.old pass.new }
     {
         self.count_arrival(node);
         let at = node as usize;
@@ -44,12 +62,8 @@ impl<N: Node, D: Discipline> Arena<N, D> {
                 pass.caller as u64 + 2,
             );
             if found == 1 {
-                let body = self.exchange(&mut pass.seat, at, None).unwrap();
-                return Some(Held {
-                    node,
-                    live: true,
-                    body,
-                });
+                let body = self.body_in_slot(&mut pass.seat, at);
+                return Some(Visited { node, body });
             }
             if found == 0 {
                 return None;

@@ -5,6 +5,7 @@ use crate::arena::Steps;
 use crate::view::View;
 use atomic_table::Seat;
 use std::marker::PhantomData;
+use std::snapshot::Snapshot;
 
 /// What one caller makes its steps with.
 #[derive(Drop)]
@@ -38,6 +39,13 @@ pub struct Held<N> {
     pub body: N,
     pub node: u32,
     pub live: bool,
+}
+
+/// A live node that a caller holds, and whose body is left in its slot: a search that goes on reads it there.
+pub struct Visited<N> {
+    pub node: u32,
+    /// What the body is, only for proofs: it takes no bytes.
+    pub body: Snapshot<N>,
 }
 
 /// The result of a try to take a node.

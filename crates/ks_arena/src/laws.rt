@@ -12,11 +12,15 @@ ghost use Rattle.ks_history.specs.Passes.{GrowsByOthers};
 ghost use Rattle.ks_history.specs.Beside.{AreBeside};
 ghost use Rattle.ks_flow.specs.Link.{lives_below, LastsUnderLink};
 ghost use Rattle.ks_flow.specs.Discipline.{SameKeyset, BeginsTree, TreeStep, BeginsLink, LinkStep};
+ghost use Rattle.std.specs.Option.{ForSome};
+ghost use Rattle.ks_node.specs.Body.{content_of};
+ghost use Rattle.ks_node.specs.Sound.{Framed, Sound as IsInOrder};
 ghost use Rattle.ks_arena.specs.Reuse.{KeepsLive, ReusesSafely};
 ghost use Rattle.ks_arena.specs.Sound.{Sort, blank_of, Sound};
 
 use ks_flow::laws::{link_law, tree_facts_law, walks_law};
 use ks_flow::{Discipline, Link, Tree};
+use ks_node::Node;
 
 /// A sound trace is lawful and its graph is good throughout; at each beginning it has the facts of the discipline, and
 /// each Full was due. What lasts under the discipline lasts from each beginning on. While others act, a node that a
@@ -115,3 +119,9 @@ pub fn tree_beside_law()
     walks_law();
     tree_facts_law();
 }
+
+/// What each body of a node type is: its edges and pairs are in order, and a range, if it has one, begins at its first edge.
+pub fn bodies_law<N: Node>()
+    ensures sound { (body : N) → IsInOrder (content_of (N.body body)) }
+    ensures framed { (body : N) → ForSome (N.body body).range (λ range. Framed range (N.body body)) }
+{}

@@ -28,7 +28,7 @@ mod view;
 pub use arena::{Arena, Steps};
 pub use calls::root_law;
 pub use fit::fits_threads;
-pub use held::{Held, Note, Pass, Taken};
+pub use held::{Held, Note, Pass, Taken, Visited};
 pub use plays::Decision;
 pub use remains::Remains;
 pub use rule::Rule;

@@ -7,7 +7,7 @@ ghost use Rattle.ks_arena.specs.Clauses.{give_mark, give_steps, hand_of, mine_of
 ghost use Rattle.ks_arena.specs.Of.{Holds, Adds, HasDecided, HasShaped, Looks, KeepsBut, IsPassOf, IsMarkedPassOf, IsCurrent, TriedToTake, IsReadyAt, AreCurrent, MayBecome, nodes_of, IsNodeOf, RestStays, RestStaysBut, SameCaller, caller_of, steps_of};
 
 use crate::arena::Arena;
-use crate::held::{Held, Pass, Taken};
+use crate::held::{Held, Pass, Taken, Visited};
 use crate::plays::{Brings, Decides, Decision, Forms, Gives, Said, SetsBit, Takes};
 use crate::spots::{CALLS, SHAPES, free_at, turn_at};
 use ks_flow::Discipline;
@@ -45,12 +45,9 @@ impl<N: Node, D: Discipline> Arena<N, D> {
             pass.caller as u64 + 2,
         );
         if found == 1 {
-            let body = self.exchange(&mut pass.seat, at, None).unwrap();
-            Taken::Held(Held {
-                node,
-                body,
-                live: true,
-            })
+            let body = self.body_in_slot(&mut pass.seat, at);
+            let visited = Visited { node, body };
+            Taken::Held(self.lift(pass, visited))
         } else if found == 0 {
             Taken::Gone
         } else {
@@ -116,10 +113,7 @@ impl<N: Node, D: Discipline> Arena<N, D> {
         let at = node as usize;
         let turn = turn_at(at);
         self.load::<Brings<D>>(&mut pass.seat, &mut pass.steps, turn);
-        match self.exchange(&mut pass.seat, at, Some(body)) {
-            None => {}
-            Some(_) => unreachable!(),
-        }
+        self.exchange(&mut pass.seat, at, Some(body));
         let word = if live { 1 } else { 0 };
         self.store::<Gives<D>>(&mut pass.seat, &mut pass.steps, turn, word);
     }

@@ -44,7 +44,7 @@ pub fn get_at_root<N: Node, D: Discipline, R: Wait>(
     }
     let found = held.body.get(place);
     let reply = reply_of(found);
-    root_law(&held, place);
+    root_law::<N>(place);
     arena.get_law(pass, &held, place, found);
     let number = arena.decide(pass, &held, Op::Get(place), reply);
     arena.give(pass, held);

@@ -48,7 +48,7 @@ pub fn put_at_root<N: Node, D: Discipline, R: Wait>(
         unreachable!()
     };
     node_law(&held.body);
-    root_law(&held, place);
+    root_law::<N>(place);
     if let Next::Go(_) = held.body.next(place) {
         arena.give(pass, held);
         return PutOutcome::Elsewhere;

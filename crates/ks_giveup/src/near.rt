@@ -3,14 +3,15 @@ ghost use Rattle.std.specs.Prelude.{IfSome};
 ghost use Rattle.ks_history.specs.Done.{give_up};
 ghost use Rattle.ks_arena.specs.Sound.{sort_of};
 ghost use Rattle.ks_arena.specs.Of.{IsPassOf, IsEmptyPassOf, IsNodeOf, SameCaller, caller_of};
+ghost use Rattle.ks_arena.specs.Visits.{held_at, LiesInSlot};
 ghost use Rattle.ks_shape.specs.Does.{OnlySearches};
 ghost use Rattle.ks_shape.specs.Hinted.{BeginsAtHint, HasPassed};
 ghost use Rattle.ks_shape.specs.Located.{PassesOn};
 ghost use Rattle.ks_shape.specs.Of.{IsUnderway, StaysUnderway, SearchEndsAt};
 ghost use Rattle.ks_giveup.specs.Goes.{GoesOnTo};
 
-use crate::descent::{leave, visit};
-use ks_arena::{Arena, Held, Pass};
+use crate::descent::{leave_held, visit};
+use ks_arena::{Arena, Held, Pass, Visited};
 use ks_flow::Tree;
 use ks_gate::{Gate, Point};
 use ks_node::{Next, Ranged, Unlinked};
@@ -23,20 +24,21 @@ pub(crate) struct Reached<N> {
     pub above: Option<Above>,
 }
 
-/// Releases the node, whose edge leads to the one to which the search goes on. Returns the last branch that it passed:
-/// this node, if it is a branch, else `above`.
+/// Releases the visited node, whose edge leads to the one to which the search goes on. Returns the last branch that it
+/// passed: this node, if it is a branch, else `above`. It takes the body out, to see whether it is one.
 #[inline(always)]
 fn pass_by<N: Ranged + Unlinked, G: Gate>(
     arena: &Arena<N, Tree>,
     pass: &mut Pass<N, Tree>,
     gate: &G,
     place: u64,
-    held: Held<N>,
+    visited: Visited<N>,
     child: u32,
     above: Option<Above>,
 ) -> Option<Above>
     requires pass { IsPassOf arena.now pass.old }
-    requires way { GoesOnTo arena.now (caller_of pass.old) place pass.old held child }
+    requires lies { LiesInSlot pass.old visited }
+    requires way { GoesOnTo arena.now (caller_of pass.old) place pass.old (held_at visited) child }
     ensures pass { IsEmptyPassOf arena.now pass.new }
     ensures caller { SameCaller pass.old pass.new }
     ensures leaves { OnlySearches pass.old pass.new }
@@ -44,8 +46,9 @@ fn pass_by<N: Ranged + Unlinked, G: Gate>(
     ensures above { PassesOn (sort_of N.layout N.ranged) place pass.old pass.new above result }
     ensures under { StaysUnderway give_up pass.old pass.new }
 {
+    let held = arena.lift(pass, visited);
     let branch = passed(&held, place, above);
-    leave(arena, pass, gate, place, held, child);
+    leave_held(arena, pass, gate, place, held, child);
     branch
 }
 
@@ -75,17 +78,18 @@ pub(crate) fn find_near<N: Ranged + Unlinked, R: Wait, G: Gate>(
     let mut here = visit(rt, arena, pass, gate, place, start);
     let mut above = None;
     for _ in rt.forever() {
-        let Some(held) = here else {
+        let Some(visited) = here else {
             here = visit(rt, arena, pass, gate, place, 0);
             continue;
         };
-        match held.body.next(place) {
+        match arena.next(pass, &visited, place) {
             Next::Here => {
+                let held = arena.lift(pass, visited);
                 tree_end_law(arena, pass, &held, place);
                 return Reached { held, above };
             }
             Next::Go(child) => {
-                above = pass_by(arena, pass, gate, place, held, child, above);
+                above = pass_by(arena, pass, gate, place, visited, child, above);
                 here = visit(rt, arena, pass, gate, place, child);
             }
         }

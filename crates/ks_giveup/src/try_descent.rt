@@ -9,7 +9,7 @@ ghost use Rattle.ks_giveup.specs.Once.{TookRootOnce};
 ghost use Rattle.ks_giveup.specs.Tries.{ComesTo, IsWithin};
 ghost use Rattle.ks_shape.specs.Does.{OnlySearches};
 
-use crate::descent::leave;
+use crate::descent::leave_held;
 use ks_arena::laws::{sound_law, tree_beside_law};
 use ks_arena::{Arena, Held, Pass, Taken};
 use ks_flow::Tree;
@@ -91,7 +91,7 @@ pub(crate) fn try_find<N: Ranged + Unlinked, G: Gate>(
             }
             Next::Go(child) => {
                 child_law(arena, pass, place, &held, child);
-                leave(arena, pass, gate, place, held, child);
+                leave_held(arena, pass, gate, place, held, child);
                 node = child;
             }
         }

@@ -10,7 +10,7 @@ ghost use Rattle.ks_shape.specs.Of.{IsStretchBy, MakesNoneLive, IsLedTo};
 ghost use Rattle.ks_link.specs.Of.{HoldsAloneOf, HoldsHalfOf, IfAloneWithRoom, SearchIsAt, LeadsAllBut, LeadsEach, LeadsOne, WasSplitOff};
 ghost use Rattle.ks_shape.specs.Does.{OnlyFills, OnlySearches};
 
-use crate::descent::{enter, go_on};
+use crate::descent::take_next;
 use crate::parts::{Parted, Waiting, part};
 use ks_arena::laws::sound_law;
 use ks_arena::{Arena, Held, Pass};
@@ -18,7 +18,7 @@ use ks_bodies::link_leads_law;
 use ks_flow::Link;
 use ks_gate::{Gate, Point};
 use ks_node::{Linked, Next, linked_law, node_law};
-use ks_shape::attach;
+use ks_shape::{attach, take_root};
 use std::sync::Wait;
 
 /// Whether an edge from the cut on can be added to a branch.
@@ -66,7 +66,7 @@ fn go_nearer<N: Linked, R: Wait, G: Gate>(
     let Next::Go(next) = held.body.next(cut) else {
         unreachable!()
     };
-    go_on(rt, arena, pass, gate, cut, held, next)
+    take_next(rt, arena, pass, gate, cut, held, next)
 }
 
 /// Takes the node one level above what was split off whose range holds the cut, and holds no other.
@@ -89,7 +89,7 @@ fn find_above<N: Linked, R: Wait, G: Gate>(
     ensures makes { MakesNoneLive pass.old pass.new }
 {
     sound_law::<Link>();
-    let mut held = enter(rt, arena, pass, gate, to.cut);
+    let mut held = take_root(rt, arena, pass, gate, to.cut);
     for _ in rt.forever() {
         if held.body.level() == to.level + 1 && to.cut <= held.body.range().last {
             return held;

@@ -4,43 +4,82 @@ ghost use Rattle.ks_history.specs.Done.{link_move};
 ghost use Rattle.ks_node.specs.declared.start.Next.TheVariants.{Go, Here};
 ghost use Rattle.ks_node.specs.Body.{last_of, next_at};
 ghost use Rattle.ks_arena.specs.Of.{IsPassOf, IsEmptyPassOf, SameCaller, caller_of};
+ghost use Rattle.ks_arena.specs.Visits.{held_at, LiesInSlot};
 ghost use Rattle.ks_shape.specs.Of.{IsUnderway, StaysUnderway, MakesNoneLive, SearchEndsAt};
 ghost use Rattle.ks_link.specs.Of.{SearchIsAt};
 ghost use Rattle.ks_shape.specs.Does.{OnlySearches};
 
-use ks_arena::laws::{link_live_law, sound_law};
-use ks_arena::{Arena, Held, Pass};
+use ks_arena::laws::{bodies_law, link_live_law, sound_law};
+use ks_arena::{Arena, Held, Pass, Visited};
 use ks_flow::Link;
 use ks_gate::{Gate, Point};
 use ks_node::{Linked, Next, node_law};
-use ks_shape::{give_last, take_root};
+use ks_shape::{give_last, leave_last, visit_root};
 use std::sync::Wait;
 
-/// Takes the root.
+/// Takes the root, and leaves its body in its slot.
 #[inline(always)]
-pub(crate) fn enter<N: Linked, R: Wait, G: Gate>(
+fn enter<N: Linked, R: Wait, G: Gate>(
     rt: &R,
     arena: &Arena<N, Link>,
     pass: &mut Pass<N, Link>,
     gate: &G,
     place: u64,
-) -> Held<N>
+) -> Visited<N>
     requires pass { IsEmptyPassOf arena.now pass.old }
     ensures pass { IsPassOf arena.now pass.new }
     ensures caller { SameCaller pass.old pass.new }
     ensures leaves { OnlySearches pass.old pass.new }
-    ensures way { SearchIsAt arena.now (caller_of pass.old) place pass.new result }
+    ensures lies { LiesInSlot pass.new result }
+    ensures way { SearchIsAt arena.now (caller_of pass.old) place pass.new (held_at result) }
     ensures root { result.node ≡ 0 }
     ensures under { IsUnderway link_move pass.old pass.new }
     ensures makes { MakesNoneLive pass.old pass.new }
 {
     sound_law::<Link>();
-    take_root(rt, arena, pass, gate, place)
+    visit_root(rt, arena, pass, gate, place)
 }
 
-/// Releases the node, and takes the one to which the search goes on: a child, or the node right of it.
+/// Releases the node, and takes the one to which the search goes on, a child or the node right of it. The bodies of both stay
+/// in their slots.
 #[inline(always)]
-pub(crate) fn go_on<N: Linked, R: Wait, G: Gate>(
+fn go_on<N: Linked, R: Wait, G: Gate>(
+    rt: &R,
+    arena: &Arena<N, Link>,
+    pass: &mut Pass<N, Link>,
+    gate: &G,
+    place: u64,
+    visited: Visited<N>,
+    next: u32,
+) -> Visited<N>
+    requires pass { IsPassOf arena.now pass.old }
+    requires lies { LiesInSlot pass.old visited }
+    requires way { SearchIsAt arena.now (caller_of pass.old) place pass.old (held_at visited) }
+    requires goes { next_at (N.body visited.body.value) place ≡ Go next }
+    ensures pass { IsPassOf arena.now pass.new }
+    ensures caller { SameCaller pass.old pass.new }
+    ensures leaves { OnlySearches pass.old pass.new }
+    ensures node { result.node ≡ next }
+    ensures lies { LiesInSlot pass.new result }
+    ensures way { SearchIsAt arena.now (caller_of pass.old) place pass.new (held_at result) }
+    ensures under { StaysUnderway link_move pass.old pass.new }
+    ensures makes { MakesNoneLive pass.old pass.new }
+{
+    sound_law::<Link>();
+    link_live_law();
+    bodies_law::<N>();
+    leave_last(arena, pass, gate, visited);
+    let Some(taken) = arena.visit(rt, pass, next) else {
+        unreachable!()
+    };
+    gate.at(pass.caller(), Point::Taken(next));
+    taken
+}
+
+/// Releases the held node, and takes the one to which the search goes on, with its body: a child, or the node right of it.
+/// Searches that read more of a node than where they go on do so.
+#[inline(always)]
+pub(crate) fn take_next<N: Linked, R: Wait, G: Gate>(
     rt: &R,
     arena: &Arena<N, Link>,
     pass: &mut Pass<N, Link>,
@@ -105,7 +144,8 @@ pub(crate) fn span_law<N: Linked>(
     node_law(&held.body);
 }
 
-/// Takes the node at which the search for a place ends, and holds no other.
+/// Takes the node at which the search for a place ends, and holds no other. It reads the nodes that it passes in their slots,
+/// and takes out only the body of the last.
 pub(crate) fn find<N: Linked, R: Wait, G: Gate>(
     rt: &R,
     arena: &Arena<N, Link>,
@@ -123,14 +163,15 @@ pub(crate) fn find<N: Linked, R: Wait, G: Gate>(
     ensures makes { MakesNoneLive pass.old pass.new }
 {
     gate.at(pass.caller(), Point::Begin);
-    let mut held = enter(rt, arena, pass, gate, place);
+    let mut visited = enter(rt, arena, pass, gate, place);
     for _ in rt.forever() {
-        match held.body.next(place) {
+        match arena.next(pass, &visited, place) {
             Next::Here => {
+                let held = arena.lift(pass, visited);
                 end_law(arena, pass, &held, place);
                 return held;
             }
-            Next::Go(next) => held = go_on(rt, arena, pass, gate, place, held, next),
+            Next::Go(next) => visited = go_on(rt, arena, pass, gate, place, visited, next),
         }
     }
     unreachable!()

@@ -14,7 +14,7 @@ ghost use Rattle.ks_shape.specs.Of.{IsUnderway, StaysUnderway, MakesNoneLive, Se
 ghost use Rattle.ks_link.specs.Of.{SearchIsAt};
 ghost use Rattle.ks_link.specs.Near.{CameNear, HasWalked};
 
-use crate::descent::{end_law, go_on};
+use crate::descent::{end_law, take_next};
 use ks_arena::{Arena, Held, Pass};
 use ks_flow::Link;
 use ks_gate::{Gate, Point};
@@ -88,7 +88,7 @@ fn go_by<N: Linked, R: Wait, G: Gate>(
 {
     let Reached { held, above } = reached;
     let branch = passed(&held, place, above);
-    let below = go_on(rt, arena, pass, gate, place, held, next);
+    let below = take_next(rt, arena, pass, gate, place, held, next);
     Reached {
         held: below,
         above: branch,

@@ -26,4 +26,5 @@ pub mod Parts
 pub mod Paths
 pub mod TryPaths
 pub mod Upkeep
+pub mod Visits
 pub mod Laws

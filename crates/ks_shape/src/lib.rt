@@ -24,6 +24,7 @@ mod template;
 mod tree;
 mod tries;
 mod try_path;
+mod visits;
 
 pub use answers::{Above, Full, Later, MoveLeft, Numbered, NumberedAt, PutLater};
 pub use child::child_law;
@@ -49,3 +50,4 @@ pub use template::{Ruled, Shelf, Template};
 pub use tree::{absorb_own, absorb_under, collapse, grow, split_own, split_under};
 pub use tries::tries_law;
 pub use try_path::{try_enter, try_step_down};
+pub use visits::{leave_above, leave_last, lift_path, visit_below, visit_root};

@@ -36,7 +36,7 @@ pub fn take_root<N: Node, D: Discipline, R: Wait, G: Gate>(
     let Some(root) = arena.take(rt, pass, 0) else {
         unreachable!()
     };
-    root_law(&root, place);
+    root_law::<N>(place);
     gate.at(pass.caller(), Point::Taken(0));
     root
 }

@@ -40,7 +40,7 @@ pub fn try_enter<N: Unlinked, G: Gate>(
     root_stays_law::<Tree>();
     match arena.try_take(pass, 0) {
         Taken::Held(node) => {
-            root_law(&node, place);
+            root_law::<N>(place);
             gate.at(pass.caller(), Point::Taken(0));
             Ok(Path { parent: None, node })
         }

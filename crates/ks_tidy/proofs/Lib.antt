@@ -7,3 +7,4 @@ pub mod Fresh
 pub mod Steps
 pub mod Going
 pub mod Onward
+mod Passing

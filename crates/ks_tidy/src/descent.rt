@@ -11,13 +11,14 @@ ghost use Rattle.ks_tidy.specs.Of.{CountsFree, IsKeptAt, IsPairOf, IsTidyOf, Mak
 ghost use Rattle.ks_tidy.specs.Pair.{IsWhole};
 ghost use Rattle.ks_shape.specs.Does.{OnlyDels, OnlySearches};
 
+use crate::entry::descend;
 use crate::node::{Tidied, tidy_node};
 use ks_arena::{Arena, Pass};
 use ks_bodies::tidied_law;
 use ks_flow::{Tree, tidy_law};
 use ks_gate::{Gate, Point};
 use ks_node::{Next, Node, Unlinked, node_law, unlinked_law};
-use ks_shape::{Path, enter, let_go, search_law, step_down};
+use ks_shape::{Path, let_go, search_law, step_down};
 use std::sync::Wait;
 
 /// How many nodes were made free, modulo 2^32, and whether another descent has to follow.
@@ -138,7 +139,7 @@ pub fn come_down<N: Unlinked, R: Wait, G: Gate>(
     ensures again { MustComeAgain arena.now result.again pass.old pass.new }
     ensures whole { result.again ≡ false → IsWhole result.path }
 {
-    let mut path = enter(rt, arena, pass, gate, place);
+    let mut path = descend(rt, arena, pass, gate, place);
     let mut freed: u32 = 0;
     let mut again = false;
     for _ in rt.forever() {

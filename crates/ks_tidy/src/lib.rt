@@ -8,6 +8,7 @@
 mod compact;
 mod deletes;
 mod descent;
+mod entry;
 mod joins;
 mod merges;
 mod neighbours;

@@ -4,4 +4,4 @@ use Rattle.ks_arena.proofs.Calling.{root_inset}
 use Rattle.ks_arena.proofs.calls.root_law.Goals as goal
 
 pub returns : goal.returns
-returns g c = λ h live m. root_inset (sort_of g.N.Node.layout g.N.Node.ranged) g.N.Node.body h c.args.root.now c.args.place live m c.requires (omega (arith, c.ranges.place))
+returns g c = λ root h node live m. root_inset (sort_of g.N.Node.layout g.N.Node.ranged) g.N.Node.body h root c.args.place live m node (omega (arith, c.ranges.place))

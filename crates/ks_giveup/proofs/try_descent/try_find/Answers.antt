@@ -40,8 +40,8 @@ loop-steps-init g c = let sort = sort_of g.N.Node.layout g.N.Node.ranged in let 
     )
 
 pub loop-steps-preserved : goal.loop-steps-preserved
-loop-steps-preserved g c = let sort = sort_of g.N.Node.layout g.N.Node.ranged in let slots : ℕ = c.args.arena.now.table.shared.table_id.slots in let n : ℕ = c.args.arena.now.nodes in let s = seen_of c.args.pass.now in let h = seen_of c.loop-steps.pass in let k = seen_of c.try_visit.new.pass in let l = seen_of c.leave.new.pass in let steps : ℕ = c.loop-steps._steps in let node : ℕ = c.loop-steps.node in
-    let inv = c.loop-steps.invariant in let law = c.sound_law.ensures in let v = c.in-Ok.ensures in let x = c.in-Ok.held in let e = c.leave.ensures in let a : ℕ = c.loop-steps.pass.caller in let b : ℕ = c.try_visit.new.pass.caller in let child : ℕ = c.in-Go.child in
+loop-steps-preserved g c = let sort = sort_of g.N.Node.layout g.N.Node.ranged in let slots : ℕ = c.args.arena.now.table.shared.table_id.slots in let n : ℕ = c.args.arena.now.nodes in let s = seen_of c.args.pass.now in let h = seen_of c.loop-steps.pass in let k = seen_of c.try_visit.new.pass in let l = seen_of c.leave_held.new.pass in let steps : ℕ = c.loop-steps._steps in let node : ℕ = c.loop-steps.node in
+    let inv = c.loop-steps.invariant in let law = c.sound_law.ensures in let v = c.in-Ok.ensures in let x = c.in-Ok.held in let e = c.leave_held.ensures in let a : ℕ = c.loop-steps.pass.caller in let b : ℕ = c.try_visit.new.pass.caller in let child : ℕ = c.in-Go.child in
     let came = v.came s inv.6 in let next = c.child_law.ensures in let one : suc steps ≡ steps + 1 = omega arith in
     let down : IsDown n b s k (suc steps) 1 steps x.node = subst (λ (z : ℕ). IsDown n z s k (suc steps) 1 steps x.node) (sym v.caller) (taken_next n a s h k steps x.node node (lawful_in_turn k (law.lawful sort slots k v.pass.sound)) came.1 came.2 inv.7) in
     let left : IsNext n b s l (suc steps) child = left_next sort slots n b c.args.place s k l steps x.node child (lawful_in_turn l (law.lawful sort slots l e.pass.0.sound)) next e.gave down in (
@@ -52,9 +52,9 @@ loop-steps-preserved g c = let sort = sort_of g.N.Node.layout g.N.Node.ranged in
       (λ op. subst (λ (z : ℕ). Underway give_up z op s l) (sym e.caller) (e.under op s (subst (λ (z : ℕ). Underway give_up z op s k) (sym v.caller) (v.under op s (inv.4 op))))),
       e.next,
       subst (λ (z : ℕ). WasOnWay z c.args.place s l child) (sym e.caller) (led_on sort slots n b c.args.place s k l x.node child down.took.grows next e.gave),
-      subst (λ (z : ℕ). IsNext n c.leave.new.pass.caller s l z child) one (subst (λ (z : ℕ). IsNext n z s l (suc steps) child) (sym e.caller) left),
+      subst (λ (z : ℕ). IsNext n c.leave_held.new.pass.caller s l z child) one (subst (λ (z : ℕ). IsNext n z s l (suc steps) child) (sym e.caller) left),
       subst (λ (z : ℕ). Goes z c.args.place s l) (sym e.caller) (goes_both (subst (λ (z : ℕ). Goes z c.args.place s k) (sym v.caller) (goes_both inv.8 v.goes)) e.goes),
-      does_to MaySearch b c.leave.new.pass.caller s k l e.caller (does_to MaySearch a b s h k v.caller inv.9 v.leaves) e.leaves,
+      does_to MaySearch b c.leave_held.new.pass.caller s k l e.caller (does_to MaySearch a b s h k v.caller inv.9 v.leaves) e.leaves,
     )
 
 -- the node that it has taken is on the search path
@@ -65,8 +65,8 @@ tree_end_law-requires-clause-way g c = subst (λ (z : ℕ). IsOnWay (sort_of g.N
 pub child_law-requires-clause-way : goal.child_law-requires-clause-way
 child_law-requires-clause-way g c = subst (λ (z : ℕ). IsOnWay (sort_of g.N.Node.layout g.N.Node.ranged) g.N.Node.body z c.args.place (seen_of c.try_visit.new.pass) c.in-Ok.held) (sym c.in-Ok.ensures.caller) (c.in-Ok.ensures.came (seen_of c.args.pass.now) c.loop-steps.invariant.6).0
 
-pub leave-requires-clause-way : goal.leave-requires-clause-way
-leave-requires-clause-way g c = (
+pub leave_held-requires-clause-way : goal.leave_held-requires-clause-way
+leave_held-requires-clause-way g c = (
   subst (λ (z : ℕ). IsOnWay (sort_of g.N.Node.layout g.N.Node.ranged) g.N.Node.body z c.args.place (seen_of c.try_visit.new.pass) c.in-Ok.held) (sym c.in-Ok.ensures.caller) (c.in-Ok.ensures.came (seen_of c.args.pass.now) c.loop-steps.invariant.6).0,
   sym c.next.ensures ∙ c.in-Go.is,
 )

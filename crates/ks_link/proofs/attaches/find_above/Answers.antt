@@ -11,20 +11,23 @@ use Rattle.ks_history.specs.Done.{link_move}
 use Rattle.ks_history.specs.Stretch.{Stretch}
 use Rattle.ks_history.specs.Laws.Stretch.{stretch_both, stretch_begins}
 use Rattle.ks_link.proofs.Parting.{split_off_later}
+use Rattle.ks_link.proofs.Ways.{root_arrives}
 use Rattle.ks_shape.specs.Does.{DoesOnly, MaySearch}
 use Rattle.ks_shape.specs.Laws.Does.{does_to}
 use Rattle.ks_link.proofs.attaches.find_above.Goals as goal
 
 pub loop-init : goal.loop-init
-loop-init g c = let sort = sort_of g.N.Node.layout g.N.Node.ranged in let n : ℕ = c.args.arena.now.table.shared.table_id.slots in let shows = g.N.Node.body in let h = seen_of c.args.pass.now in let k = seen_of c.enter-held.new.pass in let e = c.enter-held.ensures in
-    let me : ℕ = c.args.pass.now.caller in let x = c.enter-held.result in
-    let stretch : Stretch link_move me h k = λ op three. e.under op in
+loop-init g c = let sort = sort_of g.N.Node.layout g.N.Node.ranged in let n : ℕ = c.args.arena.now.table.shared.table_id.slots in let shows = g.N.Node.body in let h = seen_of c.args.pass.now in let k = seen_of c.take_root-held.new.pass in let e = c.take_root-held.ensures in
+    let me : ℕ = c.args.pass.now.caller in let x = c.take_root-held.result in
+    let stretch : Stretch link_move me h k = e.stretch link_move in
     let off = split_off_later sort h k c.args.to (c.sound_law.ensures.lasts sort n h k (stretch_begins link_move me h k stretch) e.pass.sound) c.requires.off in
-    let high : (frame_after (blank_of sort) k c.args.to.node).level < (frame_after (blank_of sort) k 0).level = (c.sound_law.ensures.facts sort n k e.pass.sound).highest c.args.to.node off.live off.no_root in
-    let frame = (shown sort shows k x e.way.live e.way.matches).1 in (
+    let facts = c.sound_law.ensures.facts sort n k e.pass.sound in
+    let way = root_arrives sort shows me c.args.to.cut k x e.way e.root facts in
+    let high : (frame_after (blank_of sort) k c.args.to.node).level < (frame_after (blank_of sort) k 0).level = facts.highest c.args.to.node off.live off.no_root in
+    let frame = (shown sort shows k x way.live way.matches).1 in (
       e.pass,
       e.caller,
-      subst (λ (z : ℕ). IsOnWay sort shows z c.args.to.cut k x) (sym e.caller) e.way,
+      subst (λ (z : ℕ). IsOnWay sort shows z c.args.to.cut k x) (sym e.caller) way,
       omega (arith, high, off.level, ap (λ (f : Frame). f.level) frame, ap (λ (i : ℕ). (frame_after (blank_of sort) k i).level) e.root),
       subst (λ (z : ℕ). Stretch link_move z h k) (sym e.caller) stretch,
       subst (λ (z : ℕ). MakesNone z h k) (sym e.caller) e.makes,

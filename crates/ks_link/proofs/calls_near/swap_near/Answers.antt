@@ -1,12 +1,8 @@
-use Rattle.std.proofs.Common.{ℕ, List, subst}
-use Rattle.std.specs.Prelude.{Option, IfSome}
 use Rattle.ks_history.specs.declared.Op.TheVariants.{Swap}
 use Rattle.ks_history.specs.Done.{link_move}
 use Rattle.ks_arena.specs.Sound.{sort_of}
 use Rattle.ks_arena.specs.Clauses.{seen_of}
-use Rattle.ks_shape.specs.declared.answers.Above.{Above}
 use Rattle.ks_shape.specs.Does.{MaySearch}
-use Rattle.ks_shape.specs.Hinted.{WasAbove}
 use Rattle.ks_shape.specs.Laws.Does.{does_on}
 use Rattle.ks_shape.specs.Laws.Located.{finishes_on, hint_on, was_above_on}
 use Rattle.ks_link.proofs.calls_near.swap_near.Goals as goal

@@ -1,10 +1,13 @@
 use Rattle.std.proofs.Common.{◌≡◌}
+use Rattle.std.specs.Prelude.{Some}
 use Rattle.ks_flow.specs.Discipline.{BeginsLink, LinkStep}
 use Rattle.ks_history.specs.declared.Op.{Op}
 use Rattle.ks_history.specs.Done.{link_move}
 use Rattle.ks_history.specs.Underway.{Underway}
 use Rattle.ks_arena.specs.Sound.{sort_of}
 use Rattle.ks_arena.specs.Clauses.{IsPass, seen_of}
+use Rattle.ks_arena.specs.Plays.{slot_in}
+use Rattle.ks_arena.specs.Visits.{held_at}
 use Rattle.ks_shape.specs.Makes.{MakesNone}
 use Rattle.ks_link.specs.Descent.{IsOnWay}
 use Rattle.ks_shape.specs.Does.{DoesOnly, MaySearch}
@@ -14,7 +17,8 @@ abbrev pub invariant-loop : goal.invariant-loop
 invariant-loop g l =
     IsPass (sort_of g.N.Node.layout g.N.Node.ranged) BeginsLink LinkStep l.arena.table.shared.table_id l.arena.callers l.pass
     × (l.pass.caller ≡ l.fn.pass.caller)
-    × IsOnWay (sort_of g.N.Node.layout g.N.Node.ranged) g.N.Node.body l.pass.caller l.place (seen_of l.pass) l.held
+    × IsOnWay (sort_of g.N.Node.layout g.N.Node.ranged) g.N.Node.body l.pass.caller l.place (seen_of l.pass) (held_at l.visited)
+    × (slot_in l.visited.node l.pass.seat.me.1 ≡ Some l.visited.body.value)
     × ((op : Op) → Underway link_move l.pass.caller op (seen_of l.fn.pass) (seen_of l.pass))
     × MakesNone l.pass.caller (seen_of l.fn.pass) (seen_of l.pass)
     × DoesOnly MaySearch l.pass.caller (seen_of l.fn.pass) (seen_of l.pass)

@@ -1,4 +1,4 @@
-use Rattle.std.proofs.Common.{◌≡◌, ◌≤◌, ℕ, List, [], ◌∷◌, sym, ap, ◌∙◌, subst, arith}
+use Rattle.std.proofs.Common.{◌≡◌, ℕ, List, [], ◌∷◌, sym, ap, ◌∙◌, subst}
 use Rattle.ks_history.specs.declared.Event.TheVariants.{Give, Take}
 use Rattle.ks_history.specs.Own.{hand}
 use Rattle.ks_history.specs.Done.{link_move, first_taken}
@@ -15,7 +15,6 @@ use Rattle.ks_shape.specs.Laws.Located.{begins_gone}
 use Rattle.ks_shape.specs.Laws.Makes.{makes_both, makes_others, makes_with}
 use Rattle.ks_shape.specs.Laws.Single.{takes}
 use Rattle.ks_shape.specs.Makes.{MakesNone}
-use Rattle.ks_link.proofs.near.begin_at.Given.{Over}
 use Rattle.ks_link.proofs.near.begin_at.Goals as goal
 
 pub give_last-requires-clause-alone : goal.give_last-requires-clause-alone

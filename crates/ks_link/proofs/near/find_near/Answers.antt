@@ -1,5 +1,4 @@
-use Rattle.std.proofs.Common.{◌≡◌, ◌∙◌, ℕ, List, [], refl, sym, subst, arith}
-use Rattle.std.specs.Prelude.{Option, IfSome}
+use Rattle.std.proofs.Common.{◌≡◌, ◌∙◌, ℕ, [], sym, subst, arith}
 use Rattle.ks_history.specs.Own.{hand}
 use Rattle.ks_history.specs.Done.{link_move}
 use Rattle.ks_history.specs.Underway.{Underway}
@@ -12,7 +11,6 @@ use Rattle.ks_shape.specs.Laws.Located.{hint_begins, hint_on}
 use Rattle.ks_shape.specs.Laws.Makes.{makes_both}
 use Rattle.ks_shape.specs.Makes.{MakesNone}
 use Rattle.ks_shape.specs.SearchEnd.{IsEnd}
-use Rattle.ks_link.specs.Descent.{IsOnWay}
 use Rattle.ks_link.specs.Near.{CameNear, HasWalked}
 use Rattle.ks_link.proofs.Where.{was_above_since}
 use Rattle.ks_link.proofs.near.find_near.Given.{Over}

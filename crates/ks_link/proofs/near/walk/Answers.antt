@@ -1,6 +1,4 @@
-use Rattle.std.proofs.Common.{◌≡◌, ◌∙◌, ℕ, List, [], refl, sym, subst}
-use Rattle.ks_history.specs.declared.Event.{Event}
-use Rattle.ks_history.specs.Own.{hand}
+use Rattle.std.proofs.Common.{◌∙◌, ℕ, refl, sym, subst}
 use Rattle.ks_history.specs.Done.{link_move}
 use Rattle.ks_history.specs.Underway.{Underway}
 use Rattle.ks_arena.specs.Sound.{sort_of}

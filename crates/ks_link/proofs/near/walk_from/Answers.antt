@@ -1,10 +1,6 @@
-use Rattle.std.proofs.Common.{ℕ, subst}
-use Rattle.ks_history.specs.Own.{hand}
-use Rattle.ks_arena.specs.Sound.{sort_of}
 use Rattle.ks_arena.specs.Clauses.{seen_of}
 use Rattle.ks_shape.specs.Does.{MaySearch}
 use Rattle.ks_shape.specs.Laws.Does.{does_none}
-use Rattle.ks_link.specs.Near.{CameNear}
 use Rattle.ks_link.proofs.near.walk_from.Goals as goal
 
 pub returns-in_default-clause-walked : goal.returns-in_default-clause-walked

@@ -1,12 +1,9 @@
 use Rattle.std.proofs.Common.{◌∙◌, ℕ, true, false, sym, subst, ◌≡◌, refl, arith}
-use Rattle.std.specs.Prelude.{Option}
 use Rattle.ks_keysets.specs.Layout.{Layout}
 use Rattle.ks_arena.specs.Sound.{sort_of}
 use Rattle.ks_arena.specs.Clauses.{seen_of}
-use Rattle.ks_arena.specs.declared.held.Held.{Held as Hand}
 use Rattle.ks_shape.specs.Laws.Stretches.{stretches_as, stretches_both, stretches_on}
 use Rattle.ks_shape.specs.OnPath.{IsOnPath}
-use Rattle.ks_put.specs.Parts.{HasRoomAbove}
 use Rattle.ks_put.proofs.Going.{on_was, new_was, found_none, found_room}
 use Rattle.ks_put.proofs.Trying.{path_leaf}
 use Rattle.ks_shape.specs.Does.{MayFill, DoesOnly}
@@ -71,14 +68,14 @@ split-requires-clause-full g c = (c.has_room.ensures.none c.if-has_room.false).1
 -- the kinds of its events
 
 pub loop-init : goal.loop-init
-loop-init g c = let e = c.enter-path.ensures in let s = seen_of c.args.pass.now in let k = seen_of c.enter-path.new.pass in (
+loop-init g c = let e = c.come_to_full-path.ensures in let s = seen_of c.args.pass.now in let k = seen_of c.come_to_full-path.new.pass in (
   e.pass,
   e.caller,
-  subst (λ (z : ℕ). IsOnPath (sort_of g.N.Node.layout g.N.Node.ranged) g.N.Node.body z c.args.place k c.enter-path.result) (sym e.caller) e.path,
-  stretches_as c.enter-path.new.pass.caller c.args.pass.now.caller s k (sym e.caller) e.stretch,
+  subst (λ (z : ℕ). IsOnPath (sort_of g.N.Node.layout g.N.Node.ranged) g.N.Node.body z c.args.place k c.come_to_full-path.result) (sym e.caller) e.path,
+  stretches_as c.come_to_full-path.new.pass.caller c.args.pass.now.caller s k (sym e.caller) e.stretch,
   (λ told. absurd (let z : ⊥ = cc in z)),
   subst (λ (z : ℕ). DoesOnly (MayFill (sort_of g.N.Node.layout g.N.Node.ranged) c.args.place) z s k) (sym e.caller) (searched_fills (sort_of g.N.Node.layout g.N.Node.ranged) c.args.place c.args.pass.now.caller s k e.leaves),
-  (λ r grow full. subst (λ (o : Option (Hand g.row.N.Denot)). HasRoomAbove g.N.Node.layout g.N.Node.body o) (sym e.root.0) tt),
+  (λ r grow. e.eased),
 )
 
 pub returns-then-has_room-clause-fills : goal.returns-then-has_room-clause-fills

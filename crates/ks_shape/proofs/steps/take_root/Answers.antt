@@ -14,7 +14,7 @@ returns-clause-way g c = let took = c.in-Some.ensures.took in record {
   alone = took.hand ∙ ap (λ (z : List ℕ). 0 ∷ z) c.requires.pass.1 ∙ ap (λ (i : ℕ). i ∷ []) (sym took.node);
   live = took.live;
   matches = took.matches;
-  inside = c.root_law.ensures (seen_of c.take.new.pass) took.live took.matches;
+  inside = c.root_law.ensures c.in-Some.root (seen_of c.take.new.pass) took.node took.live took.matches;
 }
 
 pub returns-clause-under : goal.returns-clause-under

@@ -16,7 +16,7 @@ returns-in-Held-clause-path g c = let took = c.in-Held.ensures.took in record {
   hands = took.hand ∙ ap (λ (z : List ℕ). 0 ∷ z) c.requires.pass.1 ∙ ap (λ (i : ℕ). i ∷ []) (sym took.node);
   live = took.live;
   matches = took.matches;
-  inside = c.root_law.ensures (seen_of c.try_take.new.pass) took.live took.matches;
+  inside = c.root_law.ensures _ (seen_of c.try_take.new.pass) took.node took.live took.matches;
   under = inl took.node;
 }
 

@@ -8,8 +8,7 @@ use Rattle.ks_history.specs.Own.{hand}
 use Rattle.ks_history.specs.Laws.Underway.{underway_call}
 use Rattle.ks_arena.specs.declared.held.Held.{Held as Hand}
 use Rattle.ks_arena.specs.Sound.{blank_of, sort_of}
-use Rattle.ks_arena.specs.Clauses.{IsReady, hand_of, seen_of}
-use Rattle.ks_shape.specs.Laws.Search.{Laws}
+use Rattle.ks_arena.specs.Clauses.{IsReady, seen_of}
 use Rattle.ks_node.specs.Body.{frame_of}
 use Rattle.ks_shape.specs.Laws.Single.{shown}
 use Rattle.ks_tidy.specs.Laws.Deciding.{decided_there}

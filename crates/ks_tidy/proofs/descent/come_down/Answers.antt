@@ -5,7 +5,7 @@ use Rattle.ks_arena.specs.Clauses.{seen_of}
 use Rattle.ks_shape.specs.Stretches.{Stretches}
 use Rattle.ks_shape.specs.Laws.Stretches.{stretches_as, stretches_both}
 use Rattle.ks_shape.specs.Frees.{Counts}
-use Rattle.ks_shape.specs.Laws.Frees.{counts_as, counts_both, counts_of, counts_on, frees_as, frees_take}
+use Rattle.ks_shape.specs.Laws.Frees.{counts_as, counts_both, counts_of, counts_on, frees_as}
 use Rattle.ks_node.specs.Room.{in_place}
 use Rattle.ks_tidy.specs.Pair.{ComesAgain, IsPair, IsWhole}
 use Rattle.ks_tidy.proofs.Again.{again_as, again_both, again_none, again_on, neither}
@@ -16,8 +16,8 @@ use Rattle.ks_tidy.proofs.descent.come_down.Goals as goal
 use Rattle.ks_tidy.proofs.descent.come_down.Goals.{After-tidy_branch-tidied, After-either-again}
 
 pub loop-init : goal.loop-init
-loop-init g c = let me : ℕ = c.args.pass.now.caller in let h = seen_of c.args.pass.now in let k = seen_of c.enter-path.new.pass in let e = c.enter-path.ensures in
-    (e.pass, e.caller, record { path = e.path; rooted = λ none. inl e.root.1 }, e.stretch, counts_of me 0 h k (omega arith) (frees_take me 0 h k e.took), searched_dels (sort_of g.N.Node.layout g.N.Node.ranged) me h k e.leaves, again_none (in_place g.N.Node.layout) me h k (frees_take me 0 h k e.took), (λ none. e.root.1))
+loop-init g c = let me : ℕ = c.args.pass.now.caller in let h = seen_of c.args.pass.now in let k = seen_of c.descend-path.new.pass in let e = c.descend-path.ensures in
+    (e.pass, e.caller, e.pair, e.stretch, counts_of me 0 h k (omega arith) e.frees, searched_dels (sort_of g.N.Node.layout g.N.Node.ranged) me h k e.leaves, again_none (in_place g.N.Node.layout) me h k e.frees, e.whole)
 
 -- where the search is after it tidied
 now : (g : Over) (c : After-tidy_branch-tidied g) → c.tidy_branch-tidied.new.pass.caller ≡ c.args.pass.now.caller

@@ -48,7 +48,7 @@ ready g c = (marked (Claiming c.args.node) c.args.pass.now.seat.me.0, c.args.pas
 
 got : (g : Over) (c : After-unwrap-body g) → Gained (sort_of g.N.Node.layout g.N.Node.ranged) g.D.Discipline.begins g.D.Discipline.step c.args.self.now.table.shared.table_id.slots c.args.pass.now.caller c.args.node (Claim c.args.pass.now.caller c.args.node) (ready g c) (after g c)
 got g c = let told = (hit g c).0 c.if-found-eq0.true in let p = c.requires.pass in let n : ℕ = c.args.self.now.table.shared.table_id.slots in
-    gained (sort_of g.N.Node.layout g.N.Node.ranged) g.D.Discipline.begins g.D.Discipline.step n c.args.pass.now.caller c.args.node (Claim c.args.pass.now.caller c.args.node) (ready g c) (after g c) (omega arith) refl (λ h j. refl) (λ h j ne. (cond_else j c.args.node (Claimed c.args.pass.now.caller) (graph_after h j) ne, λ blank. refl))
+    gained (sort_of g.N.Node.layout g.N.Node.ranged) g.D.Discipline.begins g.D.Discipline.step n c.args.pass.now.caller c.args.node None (Claim c.args.pass.now.caller c.args.node) (ready g c) (after g c) (omega arith) refl (λ h j. refl) (λ h j ne. (cond_else j c.args.node (Claimed c.args.pass.now.caller) (graph_after h j) ne, λ blank. refl))
     (claim_hand _ _ _ _ (makes_grows (Sound (sort_of g.N.Node.layout g.N.Node.ranged) g.D.Discipline.begins g.D.Discipline.step n) _ (ready g c).0 c.compare_exchange-found.new.seat.me.0 c.args.pass.now.caller p.own told.0))
     p.own (claim_fresh (sort_of g.N.Node.layout g.N.Node.ranged) g.D.Discipline.begins g.D.Discipline.step n c.args.pass.now.caller c.args.node (ready g c) (after g c) p.own told.0) p.carries p.slots refl told.0
 
