@@ -17,9 +17,12 @@ use ks_node::Node;
 use std::sync::Wait;
 
 /// How often a caller that waits for the root spins, each time twice as long, before it first checks whether the root is
-/// free: 31 pauses in all. So more callers sleep if there are many, few are ready to run at a time, and one that lost its
-/// processor during a call gets it back sooner.
-const SPINS_BEFORE_A_LOOK: u32 = 5;
+/// free: all the spins of a `Backoff`, 127 pauses. From then on it yields its processor between checks: so callers that
+/// share a processor take turns on it after a few calls each, and no reply waits for another caller's whole time slice.
+const SPINS_BEFORE_A_LOOK: u32 = 7;
+
+/// How often a caller that waits for the root goes through the waits of a `Backoff` before it sleeps.
+const ROUNDS_BEFORE_A_SLEEP: u32 = 4;
 
 impl<N: Node, D: Discipline> Arena<N, D> {
     /// Takes the node, and its body; waits while another caller holds it. `None`: it is free.
@@ -90,8 +93,8 @@ impl<N: Node, D: Discipline> Arena<N, D> {
 
     /// Waits until nobody has the node, at some moment. It looks at the node's turn less and less often, for each look takes
     /// the cache line from the holder, and then yields the processor between looks. At the root it spins before its first
-    /// look, and sleeps after its last, from which it starts over with a look: a caller that waits for the root holds no node,
-    /// so nobody waits for one that sleeps.
+    /// look, and sleeps after some rounds of such waits, from which it starts over with a look: a caller that waits for the
+    /// root holds no node, so nobody waits for one that sleeps.
     #[cold]
     #[inline(never)]
     fn watch<R: Wait>(&self, rt: &R, steps: &mut Steps, node: u32)
@@ -103,15 +106,21 @@ impl<N: Node, D: Discipline> Arena<N, D> {
                 backoff.spin();
             }
         }
+        let mut rounds_left = ROUNDS_BEFORE_A_SLEEP;
         for _ in rt.forever() {
             if self.is_given(steps, node) {
                 return;
             }
-            if node == ROOT && backoff.is_completed() {
-                self.sleep(rt, steps);
-                backoff.reset();
-            } else {
+            if node != ROOT || !backoff.is_completed() {
                 backoff.snooze();
+            } else {
+                if rounds_left > 1 {
+                    rounds_left -= 1;
+                } else {
+                    self.sleep(rt, steps);
+                    rounds_left = ROUNDS_BEFORE_A_SLEEP;
+                }
+                backoff.reset();
             }
         }
     }
