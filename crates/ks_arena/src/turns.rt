@@ -113,6 +113,7 @@ impl<N: Node, D: Discipline> Arena<N, D> {
         let at = node as usize;
         let turn = turn_at(at);
         self.load::<Brings<D>>(&mut pass.seat, &mut pass.steps, turn);
+        // The slot has been empty since the body was taken out of it, so nothing is returned that would be dropped.
         self.exchange(&mut pass.seat, at, Some(body));
         let word = if live { 1 } else { 0 };
         self.store::<Gives<D>>(&mut pass.seat, &mut pass.steps, turn, word);

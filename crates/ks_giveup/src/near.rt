@@ -10,7 +10,7 @@ ghost use Rattle.ks_shape.specs.Located.{PassesOn};
 ghost use Rattle.ks_shape.specs.Of.{IsUnderway, StaysUnderway, SearchEndsAt};
 ghost use Rattle.ks_giveup.specs.Goes.{GoesOnTo};
 
-use crate::descent::{leave_held, visit};
+use crate::descent::{leave, visit};
 use ks_arena::{Arena, Held, Pass, Visited};
 use ks_flow::Tree;
 use ks_gate::{Gate, Point};
@@ -25,7 +25,7 @@ pub(crate) struct Reached<N> {
 }
 
 /// Releases the visited node, whose edge leads to the one to which the search goes on. Returns the last branch that it
-/// passed: this node, if it is a branch, else `above`. It takes the body out, to see whether it is one.
+/// passed: this node, if it is a branch, else `above`.
 #[inline(always)]
 fn pass_by<N: Ranged + Unlinked, G: Gate>(
     arena: &Arena<N, Tree>,
@@ -46,9 +46,8 @@ fn pass_by<N: Ranged + Unlinked, G: Gate>(
     ensures above { PassesOn (sort_of N.layout N.ranged) place pass.old pass.new above result }
     ensures under { StaysUnderway give_up pass.old pass.new }
 {
-    let held = arena.lift(pass, visited);
-    let branch = passed(&held, place, above);
-    leave_held(arena, pass, gate, place, held, child);
+    let branch = passed(arena, pass, &visited, place, above);
+    leave(arena, pass, gate, place, visited, child);
     branch
 }
 

@@ -43,7 +43,7 @@ fn enter<N: Linked, R: Wait, G: Gate>(
 /// Releases the node, and takes the one to which the search goes on, a child or the node right of it. The bodies of both stay
 /// in their slots.
 #[inline(always)]
-fn go_on<N: Linked, R: Wait, G: Gate>(
+pub(crate) fn go_on<N: Linked, R: Wait, G: Gate>(
     rt: &R,
     arena: &Arena<N, Link>,
     pass: &mut Pass<N, Link>,
@@ -77,7 +77,7 @@ fn go_on<N: Linked, R: Wait, G: Gate>(
 }
 
 /// Releases the held node, and takes the one to which the search goes on, with its body: a child, or the node right of it.
-/// Searches that read more of a node than where they go on do so.
+/// Only the search for a node that adopts an edge to a node split off does so.
 #[inline(always)]
 pub(crate) fn take_next<N: Linked, R: Wait, G: Gate>(
     rt: &R,

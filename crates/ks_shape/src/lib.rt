@@ -40,7 +40,7 @@ pub use hinting::{Hinting, start_of};
 pub use laws::search_law;
 pub use leaves::leaves_law;
 pub use link::{attach, grow_right, split_right};
-pub use located::{above_of, del_located, fill_located, get_located, passed, swap_located};
+pub use located::{del_located, fill_located, get_located, passed, swap_located};
 pub use moving::Moving;
 pub use parts::{Part, part_here};
 pub use path::{Path, enter, keep_alone, keep_left, let_go, step_down};

@@ -5,6 +5,7 @@ ghost use Rattle.ks_history.specs.declared.Op.TheVariants.{Del, Get, Swap};
 ghost use Rattle.ks_history.specs.Map.{told};
 ghost use Rattle.ks_arena.specs.Clauses.{Matches};
 ghost use Rattle.ks_arena.specs.Of.{IsPassOf};
+ghost use Rattle.ks_arena.specs.Visits.{held_at, IsLast, LiesInSlot};
 ghost use Rattle.ks_arena.specs.Sound.{sort_of};
 ghost use Rattle.ks_shape.specs.Does.{OnlySearches};
 ghost use Rattle.ks_history.specs.Trace.{◌⊑◌};
@@ -16,25 +17,33 @@ ghost use Rattle.ks_shape.specs.Of.{IsOver, FinishesAny, FinishesWhere, SearchEn
 use crate::answers::{Above, Full, NumberedAt};
 use crate::fills::{Fill, fill_at};
 use crate::here::{del_here, get_here, swap_here};
-use ks_arena::{Arena, Held, Pass};
+use ks_arena::{Arena, Held, Pass, Visited};
 use ks_flow::Discipline;
 use ks_gate::Gate;
 use ks_keysets::Span;
 use ks_node::Ranged;
 
-/// The held node and its range, for the search that goes on below it; `None` if it is no branch.
-pub fn above_of<N: Ranged>(held: &Held<N>) -> Option<Above>
-    ensures is { result ≡ above_in held.now.node (N.body held.now.body) }
-    ensures live { (h : List Happening) → held.now.live ≡ true →
-        Matches (sort_of N.layout N.ranged) N.body h held.now →
+/// The visited node and its range, for the search that goes on below it; `None` if it is no branch.
+#[inline(always)]
+fn above_of<N: Ranged, D: Discipline>(
+    arena: &Arena<N, D>,
+    pass: &mut Pass<N, D>,
+    visited: &Visited<N>,
+) -> Option<Above>
+    requires pass { IsPassOf arena.now pass.old }
+    requires last { IsLast pass.old visited.now.node }
+    requires lies { LiesInSlot pass.old visited.now }
+    ensures same { pass.new ≡ pass.old }
+    ensures is { result ≡ above_in visited.now.node (N.body visited.now.body.value) }
+    ensures live { (h : List Happening) → Matches (sort_of N.layout N.ranged) N.body h (held_at visited.now) →
         IfSome result (IsAbove (sort_of N.layout N.ranged) h) }
 {
-    if !held.body.is_branch() {
+    if !arena.is_branch(pass, visited) {
         return None;
     }
-    let range = held.body.range();
+    let range = arena.range(pass, visited);
     Some(Above {
-        node: held.node,
+        node: visited.node,
         low: range.low,
         last: range.last,
     })
@@ -48,16 +57,27 @@ fn has_place(branch: Above, place: u64) -> bool
     branch.low <= place && place <= branch.last
 }
 
-/// The last branch that a search for a place has passed once it goes on from the held node: this node, if it is a branch
+/// The last branch that a search for a place has passed once it goes on from the visited node: this node, if it is a branch
 /// with the place in its range, else `above`, the branch before.
-pub fn passed<N: Ranged>(held: &Held<N>, place: u64, above: Option<Above>) -> Option<Above>
-    ensures is { result ≡ passed_in place above (above_in held.now.node (N.body held.now.body)) }
-    ensures lasts { (s h : List Happening) → s ⊑ h → held.now.live ≡ true →
-        Matches (sort_of N.layout N.ranged) N.body h held.now →
+#[inline(always)]
+pub fn passed<N: Ranged, D: Discipline>(
+    arena: &Arena<N, D>,
+    pass: &mut Pass<N, D>,
+    visited: &Visited<N>,
+    place: u64,
+    above: Option<Above>,
+) -> Option<Above>
+    requires pass { IsPassOf arena.now pass.old }
+    requires last { IsLast pass.old visited.now.node }
+    requires lies { LiesInSlot pass.old visited.now }
+    ensures same { pass.new ≡ pass.old }
+    ensures is { result ≡ passed_in place above (above_in visited.now.node (N.body visited.now.body.value)) }
+    ensures lasts { (s h : List Happening) → s ⊑ h →
+        Matches (sort_of N.layout N.ranged) N.body h (held_at visited.now) →
         IfSome above (WasAbove (sort_of N.layout N.ranged) place s h) →
         IfSome result (WasAbove (sort_of N.layout N.ranged) place s h) }
 {
-    let Some(branch) = above_of(held) else {
+    let Some(branch) = above_of(arena, pass, visited) else {
         return above;
     };
     if has_place(branch, place) {

@@ -4,7 +4,7 @@ ghost use Rattle.std.specs.Prelude.{ℕ, ◌≡◌, ◌+◌, ◌∷◌, [], Some
 ghost use Rattle.atomic_table.specs.Table.{rest};
 ghost use Rattle.ks_history.specs.Own.{drop_one};
 ghost use Rattle.ks_history.specs.declared.Event.TheVariants.{Give};
-ghost use Rattle.ks_node.specs.Body.{next_at, only_child_of};
+ghost use Rattle.ks_node.specs.Body.{is_branch, next_at, only_child_of};
 ghost use Rattle.ks_node.specs.Room.{is_full, is_low};
 ghost use Rattle.ks_arena.specs.Clauses.{hand_of, mine_of, seen_of};
 ghost use Rattle.ks_arena.specs.Of.{Adds, IsPassOf, IsCurrent, RestStays, RestStaysBut, SameCaller, caller_of, steps_of};
@@ -87,6 +87,24 @@ impl<N: Node, D: Discipline> Arena<N, D> {
             .slot_mut(&self.table.shared, visited.node as usize)
         {
             Some(body) => body.is_low(),
+            None => unreachable!(),
+        }
+    }
+
+    /// Whether the node that was taken last is a branch.
+    #[inline(always)]
+    pub fn is_branch(&self, pass: &mut Pass<N, D>, visited: &Visited<N>) -> bool
+        requires pass { IsPassOf self.now pass.old }
+        requires last { IsLast pass.old visited.now.node }
+        requires lies { LiesInSlot pass.old visited.now }
+        ensures same { pass.new ≡ pass.old }
+        ensures branch { result ≡ is_branch (N.body visited.now.body.value) }
+    {
+        match pass
+            .seat
+            .slot_mut(&self.table.shared, visited.node as usize)
+        {
+            Some(body) => body.is_branch(),
             None => unreachable!(),
         }
     }

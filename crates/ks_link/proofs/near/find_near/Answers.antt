@@ -5,6 +5,7 @@ use Rattle.ks_history.specs.Underway.{Underway}
 use Rattle.ks_history.specs.Laws.Underway.{underway_first}
 use Rattle.ks_arena.specs.Sound.{sort_of}
 use Rattle.ks_arena.specs.Clauses.{seen_of}
+use Rattle.ks_arena.specs.Visits.{held_if}
 use Rattle.ks_shape.specs.Does.{DoesOnly, MaySearch}
 use Rattle.ks_shape.specs.Laws.Does.{does_both}
 use Rattle.ks_shape.specs.Laws.Located.{hint_begins, hint_on}
@@ -25,6 +26,7 @@ loop-init g c = let me : ℕ = c.args.pass.now.caller in let s = seen_of c.args.
   e.pass,
   e.caller,
   e.came,
+  e.lies,
   (λ op. e.under op s (underway_first link_move me op s c.requires.pass.1)),
   e.makes,
   e.leaves,
@@ -32,7 +34,7 @@ loop-init g c = let me : ℕ = c.args.pass.now.caller in let s = seen_of c.args.
 )
 
 pub walk_from-requires-clause-begun : goal.walk_from-requires-clause-begun
-walk_from-requires-clause-begun g c = subst (λ (z : ℕ). CameNear (sort_of g.N.Node.layout g.N.Node.ranged) g.N.Node.body z c.args.place (seen_of c.loop.pass) c.loop.begun) (sym c.loop.invariant.1) c.loop.invariant.2
+walk_from-requires-clause-begun g c = subst (λ (z : ℕ). CameNear (sort_of g.N.Node.layout g.N.Node.ranged) g.N.Node.body z c.args.place (seen_of c.loop.pass) (held_if c.loop.begun)) (sym c.loop.invariant.1) c.loop.invariant.2
 
 -- up to the end of the walk
 
@@ -46,13 +48,13 @@ on : (g : Over) (c : After-walk_from g) → DoesOnly MaySearch c.args.pass.now.c
 on g c = subst (λ (z : ℕ). DoesOnly MaySearch z (seen_of c.loop.pass) (seen_of c.walk_from.new.pass)) c.loop.invariant.1 c.walk_from.ensures.leaves
 
 under : (g : Over) (c : After-walk_from g) → (op : _) → Underway link_move c.args.pass.now.caller op (seen_of c.args.pass.now) (seen_of c.walk_from.new.pass)
-under g c = λ op. let s = seen_of c.args.pass.now in subst (λ (z : ℕ). Underway link_move z op s (seen_of c.loop.pass) → Underway link_move z op s (seen_of c.walk_from.new.pass)) c.loop.invariant.1 (c.walk_from.ensures.under op s) (c.loop.invariant.3 op)
+under g c = λ op. let s = seen_of c.args.pass.now in subst (λ (z : ℕ). Underway link_move z op s (seen_of c.loop.pass) → Underway link_move z op s (seen_of c.walk_from.new.pass)) c.loop.invariant.1 (c.walk_from.ensures.under op s) (c.loop.invariant.4 op)
 
 makes : (g : Over) (c : After-walk_from g) → MakesNone c.args.pass.now.caller (seen_of c.args.pass.now) (seen_of c.walk_from.new.pass)
-makes g c = let h = seen_of c.loop.pass in let k = seen_of c.walk_from.new.pass in makes_both c.args.pass.now.caller (seen_of c.args.pass.now) h k c.loop.invariant.5.grows (on g c).grows c.loop.invariant.4 (subst (λ (z : ℕ). MakesNone z h k) c.loop.invariant.1 c.walk_from.ensures.makes)
+makes g c = let h = seen_of c.loop.pass in let k = seen_of c.walk_from.new.pass in makes_both c.args.pass.now.caller (seen_of c.args.pass.now) h k c.loop.invariant.6.grows (on g c).grows c.loop.invariant.5 (subst (λ (z : ℕ). MakesNone z h k) c.loop.invariant.1 c.walk_from.ensures.makes)
 
 leaves : (g : Over) (c : After-walk_from g) → DoesOnly MaySearch c.args.pass.now.caller (seen_of c.args.pass.now) (seen_of c.walk_from.new.pass)
-leaves g c = does_both MaySearch c.args.pass.now.caller (seen_of c.args.pass.now) (seen_of c.loop.pass) (seen_of c.walk_from.new.pass) c.loop.invariant.5 (on g c)
+leaves g c = does_both MaySearch c.args.pass.now.caller (seen_of c.args.pass.now) (seen_of c.loop.pass) (seen_of c.walk_from.new.pass) c.loop.invariant.6 (on g c)
 
 -- it has ended
 
@@ -74,11 +76,11 @@ returns-in-Some-walk_from-clause-ends g c = let at = (goal.at.returns-in-Some-wa
 
 pub returns-in-Some-walk_from-clause-above : goal.returns-in-Some-walk_from-clause-above
 returns-in-Some-walk_from-clause-above g c = let at = (goal.at.returns-in-Some-walk_from-clause-above g c).After-walk_from in
-    was_above_since (sort_of g.N.Node.layout g.N.Node.ranged) c.args.place (seen_of c.args.pass.now) (seen_of c.loop.pass) (seen_of c.walk_from.new.pass) c.loop.invariant.5.grows c.in-Some-walk_from.reached.above (rw c.in-Some-walk_from.is at (walked g at)).2
+    was_above_since (sort_of g.N.Node.layout g.N.Node.ranged) c.args.place (seen_of c.args.pass.now) (seen_of c.loop.pass) (seen_of c.walk_from.new.pass) c.loop.invariant.6.grows c.in-Some-walk_from.reached.above (rw c.in-Some-walk_from.is at (walked g at)).2
 
 pub returns-in-Some-walk_from-clause-first : goal.returns-in-Some-walk_from-clause-first
 returns-in-Some-walk_from-clause-first g c = let at = (goal.at.returns-in-Some-walk_from-clause-first g c).After-walk_from in
-    hint_on c.args.arena.now.nodes c.args.pass.now.caller (seen_of c.args.pass.now) (seen_of c.loop.pass) (seen_of c.walk_from.new.pass) c.loop.invariant.5.grows (on g at).grows c.args.hint c.loop.invariant.6
+    hint_on c.args.arena.now.nodes c.args.pass.now.caller (seen_of c.args.pass.now) (seen_of c.loop.pass) (seen_of c.walk_from.new.pass) c.loop.invariant.6.grows (on g at).grows c.args.hint c.loop.invariant.7
 
 -- it begins at the root
 
@@ -93,9 +95,10 @@ loop-preserved g c = let at = (goal.at.loop-preserved g c).After-walk_from in le
     let both : DoesOnly MaySearch me h l = does_both MaySearch me h k l (on g at) more in (
       e.pass,
       e.caller ∙ own,
-      subst (λ (z : ℕ). CameNear sort g.N.Node.body z c.args.place l c.begin_at-begun-in-None-walk_from.result) own e.came,
+      subst (λ (z : ℕ). CameNear sort g.N.Node.body z c.args.place l (held_if c.begin_at-begun-in-None-walk_from.result)) own e.came,
+      e.lies,
       (λ op. subst (λ (z : ℕ). Underway link_move z op s k → Underway link_move z op s l) own (e.under op s) (under g at op)),
       makes_both me s k l (leaves g at).grows more.grows (makes g at) (subst (λ (z : ℕ). MakesNone z k l) own e.makes),
       does_both MaySearch me s k l (leaves g at) more,
-      hint_on c.args.arena.now.nodes me s h l inv.5.grows both.grows c.args.hint inv.6,
+      hint_on c.args.arena.now.nodes me s h l inv.6.grows both.grows c.args.hint inv.7,
     )

@@ -1,11 +1,13 @@
 use Rattle.std.proofs.Common.{◌≡◌}
-use Rattle.std.specs.Prelude.{IfSome}
+use Rattle.std.specs.Prelude.{IfSome, Some}
 use Rattle.ks_flow.specs.Discipline.{BeginsLink, LinkStep}
 use Rattle.ks_history.specs.declared.Op.{Op}
 use Rattle.ks_history.specs.Done.{link_move}
 use Rattle.ks_history.specs.Underway.{Underway}
 use Rattle.ks_arena.specs.Sound.{sort_of}
 use Rattle.ks_arena.specs.Clauses.{IsPass, seen_of}
+use Rattle.ks_arena.specs.Plays.{slot_in}
+use Rattle.ks_arena.specs.Visits.{held_if}
 use Rattle.ks_shape.specs.Does.{DoesOnly, MaySearch}
 use Rattle.ks_shape.specs.Hinted.{BeginsAt}
 use Rattle.ks_shape.specs.Makes.{MakesNone}
@@ -16,7 +18,8 @@ abbrev pub invariant-loop : goal.invariant-loop
 invariant-loop g l =
     IsPass (sort_of g.N.Node.layout g.N.Node.ranged) BeginsLink LinkStep l.arena.table.shared.table_id l.arena.callers l.pass
     × (l.pass.caller ≡ l.fn.pass.caller)
-    × CameNear (sort_of g.N.Node.layout g.N.Node.ranged) g.N.Node.body l.fn.pass.caller l.place (seen_of l.pass) l.begun
+    × CameNear (sort_of g.N.Node.layout g.N.Node.ranged) g.N.Node.body l.fn.pass.caller l.place (seen_of l.pass) (held_if l.begun)
+    × IfSome l.begun (λ visited. slot_in visited.node l.pass.seat.me.1 ≡ Some visited.body.value)
     × ((op : Op) → Underway link_move l.fn.pass.caller op (seen_of l.fn.pass) (seen_of l.pass))
     × MakesNone l.fn.pass.caller (seen_of l.fn.pass) (seen_of l.pass)
     × DoesOnly MaySearch l.fn.pass.caller (seen_of l.fn.pass) (seen_of l.pass)

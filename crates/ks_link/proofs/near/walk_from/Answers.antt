@@ -17,3 +17,6 @@ returns-in_default-clause-makes g c = λ alone i live. live
 
 pub walk-requires-clause-way : goal.walk-requires-clause-way
 walk-requires-clause-way g c = rw c.in-Some.is at c.requires.begun
+
+pub walk-requires-clause-lies : goal.walk-requires-clause-lies
+walk-requires-clause-lies g c = rw c.in-Some.is at c.requires.lies

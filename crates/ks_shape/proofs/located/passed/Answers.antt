@@ -14,10 +14,10 @@ returns-then-has_place-clause-is g c = let branch : Above = c.in-Some.branch in 
     sym (passes c.args.place c.args.above branch has) ∙ ap (λ (o : Option Above). passed_in c.args.place c.args.above o) (sym c.in-Some.is ∙ c.above_of.ensures.is)
 
 pub returns-then-has_place-clause-lasts : goal.returns-then-has_place-clause-lasts
-returns-then-has_place-clause-lasts g c = λ s h since live matches before. record {
+returns-then-has_place-clause-lasts g c = λ s h since matches before. record {
   moment = h;
   since = since;
   later = begins_self h;
-  is = c.in-Some.ensures.live h live matches;
+  is = c.in-Some.ensures.live h matches;
   within = c.has_place.ensures.within c.if-has_place.true;
 }
