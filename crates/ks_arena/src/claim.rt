@@ -17,8 +17,8 @@ use ks_node::Node;
 use std::sync::Wait;
 
 /// How often a caller that waits for the root spins, each time twice as long, before it first checks whether the root is
-/// free: all the spins of a `Backoff`, 127 pauses. From then on it yields its processor between checks: so callers that
-/// share a processor take turns on it after a few calls each, and no reply waits for another caller's whole time slice.
+/// free: all the spins of a `Backoff`, 127 pauses. From then on it yields its processor between checks. So callers that
+/// share a processor take turns on it after some dozens of calls each, and not after a whole time slice.
 const SPINS_BEFORE_A_LOOK: u32 = 7;
 
 /// How often a caller that waits for the root goes through the waits of a `Backoff` before it sleeps.
