@@ -5,7 +5,9 @@
 #![tactic(auto)]
 
 mod aid;
+mod replies;
 mod serving;
 
 pub use aid::{Admits, Aid, noting};
-pub use serving::Serving;
+pub use replies::{filled_reply, found_reply};
+pub use serving::{Asking, Serving};

@@ -1,21 +1,22 @@
 //! The calls of workers: each may begin where the worker's aid says.
+ghost use Rattle.std.specs.Prelude.{refl};
 ghost use Rattle.ks_history.specs.Done.{link_move};
 ghost use Rattle.ks_arena.specs.Of.{IsEmptyPassOf, SameCaller};
-ghost use Rattle.ks_shape.specs.Answers.{number_in, reply_in};
 ghost use Rattle.ks_shape.specs.Fills.{filling};
 ghost use Rattle.ks_shape.specs.Of.{DoneOf};
 
 use crate::calls_near::{del_near, fill_near, get_near, swap_near};
 use crate::template::LinkMove;
-use ks_aid::{Aid, Serving, noting};
+use ks_aid::{Aid, Asking, Serving, found_reply, noting};
 use ks_arena::{Arena, Pass};
 use ks_flow::Link;
 use ks_gate::Gate;
-use ks_node::{Linked, linked_law};
-use ks_shape::{Fill, Full, Numbered};
+use ks_history::{Op, Reply};
+use ks_node::Linked;
+use ks_shape::Fill;
 use std::sync::Wait;
 
-/// Puts or adds a value at a place, beginning where the aid says.
+/// Puts or adds a value at a place, beginning where the aid says, and returns the number and the reply.
 #[inline(always)]
 fn fill_aided<N: Linked, R: Wait, G: Gate, H: Aid>(
     rt: &R,
@@ -25,90 +26,59 @@ fn fill_aided<N: Linked, R: Wait, G: Gate, H: Aid>(
     aid: &mut H,
     place: u64,
     fill: Fill,
-) -> Result<Numbered, Full>
+) -> (u64, Reply)
     requires pass { IsEmptyPassOf arena.now pass.old }
     ensures pass { IsEmptyPassOf arena.now pass.new }
     ensures caller { SameCaller pass.old pass.new }
-    ensures done { DoneOf arena.now link_move (filling place fill) pass.old pass.new (reply_in result) (number_in result) }
+    ensures done { DoneOf arena.now link_move (filling place fill) pass.old pass.new result.1 result.0 }
 {
     let hint = aid.hint(place);
     match fill_near(rt, arena, pass, gate, hint, place, fill) {
-        Ok(at) => Ok(noting(rt, aid, place, at)),
-        Err(full) => Err(full),
+        Ok(at) => found_reply(noting(rt, aid, place, at)),
+        Err(full) => (full.number, Reply::Full),
+    }
+}
+
+impl Asking for LinkMove {
+    fn asks() -> bool {
+        true
     }
 }
 
 impl<N: Linked> Serving<N, Arena<N, Link>> for LinkMove {
-    fn fits() {
-        linked_law::<N>();
-    }
-
-    fn asks() -> bool {
-        true
-    }
-
-    fn get_aided<R: Wait, G: Gate, H: Aid>(
+    fn call_aided<R: Wait, G: Gate, H: Aid>(
         rt: &R,
         arena: &Arena<N, Link>,
         pass: &mut Pass<N, Link>,
         gate: &G,
         aid: &mut H,
-        place: u64,
-    ) -> Numbered {
-        let hint = aid.hint(place);
-        let at = get_near(rt, arena, pass, gate, hint, place);
-        noting(rt, aid, place, at)
+        op: Op,
+    ) -> (u64, Reply) {
+        match op {
+            Op::Get(place) => {
+                let hint = aid.hint(place);
+                let at = get_near(rt, arena, pass, gate, hint, place);
+                found_reply(noting(rt, aid, place, at))
+            }
+            Op::Put(place, value) => {
+                fill_aided(rt, arena, pass, gate, aid, place, Fill::Put(value))
+            }
+            Op::Del(place) => {
+                let hint = aid.hint(place);
+                let at = del_near(rt, arena, pass, gate, hint, place);
+                found_reply(noting(rt, aid, place, at))
+            }
+            Op::Add(place, value) => {
+                fill_aided(rt, arena, pass, gate, aid, place, Fill::Add(value))
+            }
+            Op::Swap(place, old, new) => {
+                let hint = aid.hint(place);
+                let at = swap_near(rt, arena, pass, gate, hint, place, old, new);
+                found_reply(noting(rt, aid, place, at))
+            }
+            Op::Part(_, _) | Op::Move(_, _) => unreachable!(),
+        }
     }
 
-    fn put_aided<R: Wait, G: Gate, H: Aid>(
-        rt: &R,
-        arena: &Arena<N, Link>,
-        pass: &mut Pass<N, Link>,
-        gate: &G,
-        aid: &mut H,
-        place: u64,
-        value: u128,
-    ) -> Result<Numbered, Full> {
-        fill_aided(rt, arena, pass, gate, aid, place, Fill::Put(value))
-    }
-
-    fn add_aided<R: Wait, G: Gate, H: Aid>(
-        rt: &R,
-        arena: &Arena<N, Link>,
-        pass: &mut Pass<N, Link>,
-        gate: &G,
-        aid: &mut H,
-        place: u64,
-        value: u128,
-    ) -> Result<Numbered, Full> {
-        fill_aided(rt, arena, pass, gate, aid, place, Fill::Add(value))
-    }
-
-    fn swap_aided<R: Wait, G: Gate, H: Aid>(
-        rt: &R,
-        arena: &Arena<N, Link>,
-        pass: &mut Pass<N, Link>,
-        gate: &G,
-        aid: &mut H,
-        place: u64,
-        old: u128,
-        new: u128,
-    ) -> Numbered {
-        let hint = aid.hint(place);
-        let at = swap_near(rt, arena, pass, gate, hint, place, old, new);
-        noting(rt, aid, place, at)
-    }
-
-    fn del_aided<R: Wait, G: Gate, H: Aid>(
-        rt: &R,
-        arena: &Arena<N, Link>,
-        pass: &mut Pass<N, Link>,
-        gate: &G,
-        aid: &mut H,
-        place: u64,
-    ) -> Numbered {
-        let hint = aid.hint(place);
-        let at = del_near(rt, arena, pass, gate, hint, place);
-        noting(rt, aid, place, at)
-    }
+    ghost fits = { record { low = refl; range = rw N.is_ranged refl; level = refl } };
 }
