@@ -1,5 +1,5 @@
 //! What workers ask of a technique: the calls of a script, each of which may begin where an aid says.
-ghost use Rattle.ks_aid.specs.OneKey.{IsAtOneKey};
+ghost use Rattle.ks_aid.specs.OneKey.{IsAtOneKey, IsReplyAtOneKey};
 ghost use Rattle.ks_arena.specs.Of.{SameCaller};
 ghost use Rattle.ks_arena.specs.Sound.{sort_of, blank_of};
 ghost use Rattle.ks_shape.specs.Idle.{IsDone, IsIdle};
@@ -31,7 +31,7 @@ pub trait Serving<N: Node, A: Shelf>: Ruled + Asking {
     ///
     /// # Errors
     ///
-    /// The reply is `Full` only to a put or an add, as for `put`.
+    /// The reply `Full` is only to a put or an add, and is due as for `put`.
     fn call_aided<R: Wait, G: Gate, H: Aid>(
         rt: &R,
         arena: &A,
@@ -44,6 +44,7 @@ pub trait Serving<N: Node, A: Shelf>: Ruled + Asking {
         requires key { IsAtOneKey op }
         ensures pass { IsIdle (A.site arena.now) pass.new }
         ensures caller { SameCaller pass.old pass.new }
+        ensures reply { IsReplyAtOneKey op result.1 }
         ensures done { IsDone N.layout Self.technique (A.site arena.now) op pass.old pass.new result.1 result.0 };
 
     /// The frame of a blank node is as the rule requires.

@@ -41,6 +41,6 @@ pub use dictionary::Dictionary;
 pub use fit::fits_threads;
 pub use job::Job;
 pub use laws::{kept_law, once_law};
-pub use reaching::{AtOneKey, Reaching};
+pub use reaching::{AtOneKey, Reach, Reaching};
 pub use runtime::{Gated, Runtime};
 pub use serving::{Told, serve_callers};

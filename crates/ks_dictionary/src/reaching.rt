@@ -14,11 +14,9 @@ use ks_node::Node;
 use ks_shape::{MoveLeft, Numbered, Ruled, Shelf};
 use std::sync::Wait;
 
-/// The calls that a pairing of nodes and a technique serves beside those at one key. Each pairing serves scans or not, and
-/// moves or not; what it does not serve, no caller may call.
-///
-/// Workers are generic over it, beside a technique. Its values have nothing in them: a closure that workers run captures one.
-pub trait Reaching<N: Node, A: Shelf, T: Ruled> {
+/// Which calls a pairing serves beside those at one key. It is no part of `Reaching`, since an impl of it has no type
+/// parameters.
+pub trait Reach {
     /// Whether it serves scans.
     ghost scans: { Bool };
 
@@ -28,7 +26,13 @@ pub trait Reaching<N: Node, A: Shelf, T: Ruled> {
     /// Whether it serves scans. It computes nothing else.
     fn serves_scans(&self) -> bool
         ensures { result ≡ scans };
+}
 
+/// The calls that a pairing of nodes and a technique serves beside those at one key. Each pairing serves scans or not, and
+/// moves or not; what it does not serve, no caller may call.
+///
+/// Workers are generic over it, beside a technique. Its values have nothing in them: a closure that workers run captures one.
+pub trait Reaching<N: Node, A: Shelf, T: Ruled>: Reach {
     /// Lists the pairs from `low` to `last`, both included, in at most `most` parts, which it pushes into `into`, an empty
     /// list with room for them. It stops at `last`, or after `most` parts. Keys are places where it may be called.
     fn scan_into<R: Wait, G: Gate>(
@@ -42,7 +46,7 @@ pub trait Reaching<N: Node, A: Shelf, T: Ruled> {
         most: usize,
         into: &mut Vec<Part>,
     ) -> Scanned
-        requires scans { IsTrue scans }
+        requires scans { IsTrue Self.scans }
         requires pass { IsIdle (A.site arena.now) pass.old }
         requires span { low ≤ last }
         requires some { 1 ≤ most }
@@ -69,7 +73,7 @@ pub trait Reaching<N: Node, A: Shelf, T: Ruled> {
         from: u64,
         to: u64,
     ) -> Result<Numbered, MoveLeft>
-        requires moves { IsTrue moves }
+        requires moves { IsTrue Self.moves }
         requires pass { IsIdle (A.site arena.now) pass.old }
         requires apart { from ≢ to }
         ensures pass { IsIdle (A.site arena.now) pass.new }
@@ -81,30 +85,17 @@ pub trait Reaching<N: Node, A: Shelf, T: Ruled> {
 /// Calls at one key, and none beside them: no scans, and no moves.
 pub struct AtOneKey;
 
-impl<N: Node, A: Shelf, T: Ruled> Reaching<N, A, T> for AtOneKey {
-    ghost moves = { false };
-
-    // No caller may call it.
-    fn move_value<R: Wait, G: Gate>(
-        &self,
-        _rt: &R,
-        _arena: &A,
-        pass: &mut Pass<N, T::Rule>,
-        _gate: &G,
-        _from: u64,
-        _to: u64,
-    ) -> Result<Numbered, MoveLeft>
-        ensures { pass.new ≡ pass.old }
-    {
-        Err(MoveLeft::Full { number: 0 })
-    }
-
+impl Reach for AtOneKey {
     ghost scans = { false };
+
+    ghost moves = { false };
 
     fn serves_scans(&self) -> bool {
         false
     }
+}
 
+impl<N: Node, A: Shelf, T: Ruled> Reaching<N, A, T> for AtOneKey {
     // No caller may call it.
     fn scan_into<R: Wait, G: Gate>(
         &self,
@@ -121,5 +112,20 @@ impl<N: Node, A: Shelf, T: Ruled> Reaching<N, A, T> for AtOneKey {
         ensures into { into.new ≡ into.old }
     {
         Scanned::Whole
+    }
+
+    // No caller may call it.
+    fn move_value<R: Wait, G: Gate>(
+        &self,
+        _rt: &R,
+        _arena: &A,
+        pass: &mut Pass<N, T::Rule>,
+        _gate: &G,
+        _from: u64,
+        _to: u64,
+    ) -> Result<Numbered, MoveLeft>
+        ensures { pass.new ≡ pass.old }
+    {
+        Err(MoveLeft::Full { number: 0 })
     }
 }

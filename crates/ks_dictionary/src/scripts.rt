@@ -1,7 +1,6 @@
 //! The work of one caller: the calls of its script. Its job has room for what is said of each line from the start, and for the
 //! parts of its scans, so no worker takes an allocator.
 ghost use Rattle.std.specs.Prelude.{◌≡◌, ◌≤◌, ◌++◌, ◌∷◌, [], map, length, All, IsTrue, vec_capacity};
-ghost use Rattle.ks_history.specs.Map.{told};
 ghost use Rattle.ks_history.specs.Trace.{calls_by};
 ghost use Rattle.ks_history.specs.Calls.{numbered};
 ghost use Rattle.ks_history.specs.Served.{at_place};
@@ -10,7 +9,7 @@ ghost use Rattle.ks_lines.specs.Lines.{AllBoth, IsReplyTo, IsServedLine, MayAnsw
 ghost use Rattle.ks_lines.specs.Asked.{IsLine, IsOwnLine};
 ghost use Rattle.ks_arena.specs.Clauses.{seen_of};
 ghost use Rattle.ks_arena.specs.Of.{SameCaller, caller_of};
-ghost use Rattle.ks_shape.specs.Answers.{move_number, move_reply, number_in, reply_in};
+ghost use Rattle.ks_shape.specs.Answers.{move_number, move_reply};
 ghost use Rattle.ks_dictionary.specs.Of.{IsIdlePassOf, site_of};
 ghost use Rattle.ks_dictionary.specs.Rooms.{HasRoomFor, HaveRooms, IsRoomFor, rooms_after};
 ghost use Rattle.ks_dictionary.specs.Work.{HasAnswered, HasAsked, HasRun, IsReadyJob, call_at, ops_of_lines, replies_of_lines};
@@ -19,40 +18,22 @@ use crate::dictionary::Dictionary;
 use crate::job::Job;
 use crate::placed::placed;
 use crate::reaching::Reaching;
-use ks_aid::{Aid, Serving};
+use ks_aid::{Aid, Serving, found_reply};
 use ks_arena::{Arena, Pass};
 use ks_gate::Gate;
-use ks_history::{Op, Reply, reply_of};
+use ks_history::{Op, Reply};
 use ks_lines::{Line, Part, Parts, Said};
 use ks_node::Node;
-use ks_shape::{Full, MoveLeft, Numbered, Ruled};
+use ks_shape::{MoveLeft, Numbered, Ruled};
 use std::sync::Wait;
 
-/// The number and the reply of a call that was decided.
-fn line_of(answer: Numbered) -> (u64, Reply)
-    ensures number { result.0 ≡ answer.number }
-    ensures reply { result.1 ≡ told answer.found }
-{
-    (answer.number, reply_of(answer.found))
-}
-
-fn line_in(answer: Result<Numbered, Full>) -> (u64, Reply)
-    ensures number { result.0 ≡ number_in answer }
-    ensures reply { result.1 ≡ reply_in answer }
-{
-    match answer {
-        Ok(answer) => line_of(answer),
-        Err(full) => (full.number, Reply::Full),
-    }
-}
-
-/// The number and the reply of a move.
-fn line_of_move(answer: Result<Numbered, MoveLeft>) -> (u64, Reply)
+/// Returns the number and the reply of a move, by its result.
+fn moved_reply(answer: Result<Numbered, MoveLeft>) -> (u64, Reply)
     ensures number { result.0 ≡ move_number answer }
     ensures reply { result.1 ≡ move_reply answer }
 {
     match answer {
-        Ok(answer) => line_of(answer),
+        Ok(answer) => found_reply(answer),
         Err(MoveLeft::Kept { number }) => (number, Reply::Kept),
         Err(MoveLeft::Full { number }) => (number, Reply::Full),
     }
@@ -81,19 +62,8 @@ impl<N: Node, T: Ruled + Serving<N, Arena<N, <T as Ruled>::Rule>>> Dictionary<N,
     {
         let arena = &self.arena;
         match placed::<N::Places>(op) {
-            Op::Get(place) => line_of(T::get_aided(rt, arena, pass, gate, aid, place)),
-            Op::Put(place, value) => line_in(T::put_aided(
-                rt, arena, pass, gate, aid, place, value,
-            )),
-            Op::Del(place) => line_of(T::del_aided(rt, arena, pass, gate, aid, place)),
-            Op::Add(place, value) => line_in(T::add_aided(
-                rt, arena, pass, gate, aid, place, value,
-            )),
-            Op::Swap(place, old, new) => {
-                line_of(T::swap_aided(rt, arena, pass, gate, aid, place, old, new))
-            }
-            Op::Move(from, to) => line_of_move(reach.move_value(rt, arena, pass, gate, from, to)),
-            Op::Part(_, _) => unreachable!(),
+            Op::Move(from, to) => moved_reply(reach.move_value(rt, arena, pass, gate, from, to)),
+            op => T::call_aided(rt, arena, pass, gate, aid, op),
         }
     }
 

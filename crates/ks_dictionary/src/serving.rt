@@ -168,7 +168,6 @@ fn serve_nobody<N: Node, T: Ruled + Serving<N, Arena<N, <T as Ruled>::Rule>>>(
     ensures called { IfOk result (λ closed. HaveCalled N.Places.place_of [] [] (history closed)) }
     ensures callers { IfOk result (λ closed. CallersBelow 0 (history closed)) }
 {
-    T::fits();
     let (dictionary, passes) = Dictionary::<N, T>::start_fit(alloc, nodes, 1)?;
     Ok(dictionary.close(passes))
 }
@@ -220,7 +219,6 @@ where
         return Ok((closed, Vec::new(alloc)));
     }
     let callers = scripts.len() as u32;
-    T::fits();
     let (dictionary, passes) = Dictionary::<N, T>::start_fit(alloc, nodes, callers)?;
     serve_jobs::<N, T, S, R, G, Brand>(
         rt, alloc, dictionary, gate, reach, passes, scripts, workers, aiding,

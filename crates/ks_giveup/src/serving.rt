@@ -1,6 +1,7 @@
 //! The calls of workers: each may begin where the worker's aid says.
 ghost use Rattle.std.proofs.Common.{rules};
 ghost use Rattle.ks_history.specs.Done.{give_up};
+ghost use Rattle.ks_aid.specs.OneKey.{IsFoundOrFull};
 ghost use Rattle.ks_arena.specs.Of.{IsEmptyPassOf, SameCaller};
 ghost use Rattle.ks_shape.specs.Fills.{filling};
 ghost use Rattle.ks_shape.specs.Of.{DoneOf};
@@ -30,6 +31,7 @@ fn fill_aided<N: Ranged + Unlinked, R: Wait, G: Gate, H: Aid>(
     requires pass { IsEmptyPassOf arena.now pass.old }
     ensures pass { IsEmptyPassOf arena.now pass.new }
     ensures caller { SameCaller pass.old pass.new }
+    ensures reply { IsFoundOrFull result.1 }
     ensures done { DoneOf arena.now give_up (filling place fill) pass.old pass.new result.1 result.0 }
 {
     let hint = aid.hint(place);

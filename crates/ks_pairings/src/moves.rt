@@ -2,7 +2,7 @@
 ghost use Rattle.std.specs.Prelude.{◌≡◌, true, false};
 
 use ks_arena::{Arena, Pass};
-use ks_dictionary::Reaching;
+use ks_dictionary::{Reach, Reaching};
 use ks_flow::Tree;
 use ks_gate::Gate;
 use ks_giveup::GiveUp;
@@ -14,7 +14,7 @@ use std::sync::Wait;
 /// Moves by giving up, and no scans.
 pub struct Moves;
 
-impl<N: Ranged + Unlinked> Reaching<N, Arena<N, Tree>, GiveUp> for Moves {
+impl Reach for Moves {
     ghost scans = { false };
 
     ghost moves = { true };
@@ -22,7 +22,9 @@ impl<N: Ranged + Unlinked> Reaching<N, Arena<N, Tree>, GiveUp> for Moves {
     fn serves_scans(&self) -> bool {
         false
     }
+}
 
+impl<N: Ranged + Unlinked> Reaching<N, Arena<N, Tree>, GiveUp> for Moves {
     // No caller may call it.
     fn scan_into<R: Wait, G: Gate>(
         &self,

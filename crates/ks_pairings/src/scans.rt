@@ -1,30 +1,22 @@
-//! Ordered scans of B+ trees, beside the calls at one key, and moves by giving up.
+//! Ordered scans of nodes that list, beside the calls at one key, and moves by giving up.
 ghost use Rattle.std.specs.Prelude.{◌≡◌, true, false};
 
 use ks_arena::{Arena, Pass};
-use ks_bplus::BNode;
-use ks_dictionary::Reaching;
+use ks_dictionary::{Reach, Reaching};
 use ks_flow::{Link, Tree};
 use ks_gate::Gate;
 use ks_giveup::GiveUp;
 use ks_lines::{Part, Scanned};
 use ks_link::LinkMove;
-use ks_linked::WithLink;
-use ks_node::WithRange;
+use ks_node::{Linked, Listed, Unlinked};
 use ks_scan::scan_into;
 use ks_shape::{MoveLeft, Moving, Numbered, scanning_law};
 use std::sync::Wait;
 
-/// A node of a B+ tree by giving up.
-type BplusRange = WithRange<BNode>;
-
-/// A node of a B+ tree along links.
-type BplusLink = WithLink<BNode>;
-
 /// Scans and moves, by giving up.
 pub struct ScansAndMoves;
 
-impl Reaching<BplusRange, Arena<BplusRange, Tree>, GiveUp> for ScansAndMoves {
+impl Reach for ScansAndMoves {
     ghost scans = { true };
 
     ghost moves = { true };
@@ -32,29 +24,29 @@ impl Reaching<BplusRange, Arena<BplusRange, Tree>, GiveUp> for ScansAndMoves {
     fn serves_scans(&self) -> bool {
         true
     }
+}
 
+impl<N: Listed + Unlinked> Reaching<N, Arena<N, Tree>, GiveUp> for ScansAndMoves {
     fn scan_into<R: Wait, G: Gate>(
         &self,
         rt: &R,
-        arena: &Arena<BplusRange, Tree>,
-        pass: &mut Pass<BplusRange, Tree>,
+        arena: &Arena<N, Tree>,
+        pass: &mut Pass<N, Tree>,
         gate: &G,
         low: u64,
         last: u64,
         most: usize,
         into: &mut Vec<Part>,
     ) -> Scanned {
-        scanning_law::<BplusRange, Arena<BplusRange, Tree>, GiveUp>();
-        scan_into::<BplusRange, Arena<BplusRange, Tree>, GiveUp, R, G>(
-            rt, arena, pass, gate, low, last, most, into,
-        )
+        scanning_law::<N, Arena<N, Tree>, GiveUp>();
+        scan_into::<N, Arena<N, Tree>, GiveUp, R, G>(rt, arena, pass, gate, low, last, most, into)
     }
 
     fn move_value<R: Wait, G: Gate>(
         &self,
         rt: &R,
-        arena: &Arena<BplusRange, Tree>,
-        pass: &mut Pass<BplusRange, Tree>,
+        arena: &Arena<N, Tree>,
+        pass: &mut Pass<N, Tree>,
         gate: &G,
         from: u64,
         to: u64,
@@ -66,7 +58,7 @@ impl Reaching<BplusRange, Arena<BplusRange, Tree>, GiveUp> for ScansAndMoves {
 /// Scans along links, and no moves.
 pub struct Scans;
 
-impl Reaching<BplusLink, Arena<BplusLink, Link>, LinkMove> for Scans {
+impl Reach for Scans {
     ghost scans = { true };
 
     ghost moves = { false };
@@ -74,30 +66,30 @@ impl Reaching<BplusLink, Arena<BplusLink, Link>, LinkMove> for Scans {
     fn serves_scans(&self) -> bool {
         true
     }
+}
 
+impl<N: Linked + Listed> Reaching<N, Arena<N, Link>, LinkMove> for Scans {
     fn scan_into<R: Wait, G: Gate>(
         &self,
         rt: &R,
-        arena: &Arena<BplusLink, Link>,
-        pass: &mut Pass<BplusLink, Link>,
+        arena: &Arena<N, Link>,
+        pass: &mut Pass<N, Link>,
         gate: &G,
         low: u64,
         last: u64,
         most: usize,
         into: &mut Vec<Part>,
     ) -> Scanned {
-        scanning_law::<BplusLink, Arena<BplusLink, Link>, LinkMove>();
-        scan_into::<BplusLink, Arena<BplusLink, Link>, LinkMove, R, G>(
-            rt, arena, pass, gate, low, last, most, into,
-        )
+        scanning_law::<N, Arena<N, Link>, LinkMove>();
+        scan_into::<N, Arena<N, Link>, LinkMove, R, G>(rt, arena, pass, gate, low, last, most, into)
     }
 
     // No caller may call it.
     fn move_value<R: Wait, G: Gate>(
         &self,
         _rt: &R,
-        _arena: &Arena<BplusLink, Link>,
-        pass: &mut Pass<BplusLink, Link>,
+        _arena: &Arena<N, Link>,
+        pass: &mut Pass<N, Link>,
         _gate: &G,
         _from: u64,
         _to: u64,
