@@ -1,17 +1,25 @@
-//! Ordered scans of nodes that list, beside the calls at one key, and moves by giving up.
+//! Ordered scans of B+ trees, beside the calls at one key, and moves by giving up.
 ghost use Rattle.std.specs.Prelude.{◌≡◌, true, false};
 
 use ks_arena::{Arena, Pass};
+use ks_bplus::BNode;
 use ks_dictionary::{Reach, Reaching};
 use ks_flow::{Link, Tree};
 use ks_gate::Gate;
 use ks_giveup::GiveUp;
 use ks_lines::{Part, Scanned};
 use ks_link::LinkMove;
-use ks_node::{Linked, Listed, Unlinked};
+use ks_linked::WithLink;
+use ks_node::WithRange;
 use ks_scan::scan_into;
-use ks_shape::{MoveLeft, Moving, Numbered, scanning_law};
+use ks_shape::{MoveLeft, Moving, Numbered};
 use std::sync::Wait;
+
+/// A node of a B+ tree by giving up.
+type BplusRange = WithRange<BNode>;
+
+/// A node of a B+ tree along links.
+type BplusLink = WithLink<BNode>;
 
 /// Scans and moves, by giving up.
 pub struct ScansAndMoves;
@@ -26,27 +34,28 @@ impl Reach for ScansAndMoves {
     }
 }
 
-impl<N: Listed + Unlinked> Reaching<N, Arena<N, Tree>, GiveUp> for ScansAndMoves {
+impl Reaching<BplusRange, Arena<BplusRange, Tree>, GiveUp> for ScansAndMoves {
     fn scan_into<R: Wait, G: Gate>(
         &self,
         rt: &R,
-        arena: &Arena<N, Tree>,
-        pass: &mut Pass<N, Tree>,
+        arena: &Arena<BplusRange, Tree>,
+        pass: &mut Pass<BplusRange, Tree>,
         gate: &G,
         low: u64,
         last: u64,
         most: usize,
         into: &mut Vec<Part>,
     ) -> Scanned {
-        scanning_law::<N, Arena<N, Tree>, GiveUp>();
-        scan_into::<N, Arena<N, Tree>, GiveUp, R, G>(rt, arena, pass, gate, low, last, most, into)
+        scan_into::<BplusRange, Arena<BplusRange, Tree>, GiveUp, R, G>(
+            rt, arena, pass, gate, low, last, most, into,
+        )
     }
 
     fn move_value<R: Wait, G: Gate>(
         &self,
         rt: &R,
-        arena: &Arena<N, Tree>,
-        pass: &mut Pass<N, Tree>,
+        arena: &Arena<BplusRange, Tree>,
+        pass: &mut Pass<BplusRange, Tree>,
         gate: &G,
         from: u64,
         to: u64,
@@ -68,28 +77,29 @@ impl Reach for Scans {
     }
 }
 
-impl<N: Linked + Listed> Reaching<N, Arena<N, Link>, LinkMove> for Scans {
+impl Reaching<BplusLink, Arena<BplusLink, Link>, LinkMove> for Scans {
     fn scan_into<R: Wait, G: Gate>(
         &self,
         rt: &R,
-        arena: &Arena<N, Link>,
-        pass: &mut Pass<N, Link>,
+        arena: &Arena<BplusLink, Link>,
+        pass: &mut Pass<BplusLink, Link>,
         gate: &G,
         low: u64,
         last: u64,
         most: usize,
         into: &mut Vec<Part>,
     ) -> Scanned {
-        scanning_law::<N, Arena<N, Link>, LinkMove>();
-        scan_into::<N, Arena<N, Link>, LinkMove, R, G>(rt, arena, pass, gate, low, last, most, into)
+        scan_into::<BplusLink, Arena<BplusLink, Link>, LinkMove, R, G>(
+            rt, arena, pass, gate, low, last, most, into,
+        )
     }
 
     // No caller may call it.
     fn move_value<R: Wait, G: Gate>(
         &self,
         _rt: &R,
-        _arena: &Arena<N, Link>,
-        pass: &mut Pass<N, Link>,
+        _arena: &Arena<BplusLink, Link>,
+        pass: &mut Pass<BplusLink, Link>,
         _gate: &G,
         _from: u64,
         _to: u64,
